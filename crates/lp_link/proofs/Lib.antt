@@ -24,3 +24,4 @@ mod NamedRecords
 mod ReachedRecords
 mod MovedCode
 mod LinkedCode
+mod Remaking

@@ -1,5 +1,5 @@
 -- What records denote that are put together copy by copy.
-use Rattle.std.proofs.Common.{◌≡◌, ◌∙◌, ◌+◌, ◌<◌, ◌≤◌, ℕ, zero, suc, List, [], ◌∷◌, ◌++◌, map, length, Option, Some, ap, refl, sym, arith, subst}
+use Rattle.std.proofs.Common.{◌≡◌, ◌∙◌, ◌+◌, ◌<◌, ◌≤◌, ℕ, suc, List, [], ◌∷◌, ◌++◌, length, Some, ap, refl, sym, arith, subst}
 use Rattle.lp_lemmas.specs.Each.{EachOf}
 use Rattle.lp_lemmas.proofs.Each.{each_append, each_map}
 use Rattle.lp_term.specs.Mapped.{Map}
@@ -8,7 +8,7 @@ use Rattle.lp_code.specs.declared.record.Record.{Record}
 use Rattle.lp_code.specs.Symbolic.{Tables}
 use Rattle.lp_code.specs.Rules.{names_in}
 use Rattle.lp_code.specs.Denote.{denote_from, denote}
-use Rattle.lp_link.specs.Linked.{Copy, map_of, records_of, tables_of_object, renumbered_clause, AreDenoted}
+use Rattle.lp_link.specs.Linked.{Copy, map_of, records_of, tables_of_object, AreDenoted}
 use Rattle.lp_link.specs.Put.{ArePut}
 use Rattle.lp_link.specs.Numbers.{renumbered}
 use Rattle.lp_link.specs.inner.Renumbering.{AllRecordsMoved}
@@ -58,7 +58,8 @@ module _ (u : Tables) where
       ap (λ l. denote_from u l (n + k) more) (sym (appended_records front own more)) ∙ put_denotes (front ++ own) (n + k) cs more fs long_now front_below put others in
       ap (λ l. denote_from u (front ++ l) n l) parts
       ∙ ap (λ j. denote_from u (front ++ (own ++ more)) j (own ++ more)) (let z : n ≡ n + 0 = omega arith in z)
-      ∙ denote_moved (renumbered 8 c.kinds) (renumbered 32 c.constants) n keeps (tables_of_object c.object) u tables front (records_of c) own more long below moved 0 (records_of c) own moved (omega arith) es fs denotes (n + k) (omega arith) behind
+      ∙ denote_moved (renumbered 8 c.kinds) (renumbered 32 c.constants) n keeps (tables_of_object c.object) u tables front (records_of c) own more
+      long below moved 0 (records_of c) own moved (omega arith) es fs denotes (n + k) (omega arith) behind
       ∙ ap Some (sym is)
 
   pub linked_denotes : (cs : List Copy) (rs : List Record) (ds : List Clause) → ArePut u 0 cs rs → AreDenoted 0 cs ds → denote u rs ≡ Some ds

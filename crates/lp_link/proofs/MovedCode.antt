@@ -3,7 +3,6 @@ use Rattle.std.proofs.Common.{◌≡◌, ◌∙◌, ◌+◌, ◌<◌, ◌≤◌,
 use Rattle.std.specs.Prelude.{option_map, option_and_then, if◌then◌else◌, nat_eq, ◌||◌, slice_get}
 use Rattle.std.proofs.lemmas.Bool.{ne_eqb}
 use Rattle.lp_lemmas.specs.Each.{EachOf}
-use Rattle.lp_lemmas.proofs.Each.{each_append}
 use Rattle.lp_lemmas.proofs.Booleans.{or_assoc}
 use Rattle.lp_lemmas.proofs.Lists.{get_append}
 use Rattle.lp_term.specs.Mapped.{Map}
@@ -11,10 +10,9 @@ use Rattle.lp_model.specs.Flat.{Clause}
 use Rattle.lp_code.specs.declared.instruction.Instr.{Instr}
 use Rattle.lp_code.specs.declared.record.Record.{Record}
 use Rattle.lp_code.specs.Symbolic.{Tables}
-use Rattle.lp_code.specs.States.{Captured, Home, member}
-use Rattle.lp_code.specs.Steps.{Later}
+use Rattle.lp_code.specs.States.{Captured, member}
 use Rattle.lp_code.specs.Rules.{names_of, names_in, named_before}
-use Rattle.lp_code.specs.Denote.{is_named, home_of, denoted, later_from, nothing_captured, denote_from, denote}
+use Rattle.lp_code.specs.Denote.{is_named, home_of, denoted, later_from, nothing_captured, denote_from}
 use Rattle.lp_link.specs.inner.Renumbering.{moving, moved_captured, AreMoved, AllMoved, IsMovedRecord, AllRecordsMoved, IsMovedHome, KeepsStandard}
 use Rattle.lp_link.proofs.MovedGoals.{same_home}
 use Rattle.lp_link.proofs.MovedOperands.{operands_same}
@@ -121,16 +119,20 @@ module _ (f g : ℕ → ℕ) (n : ℕ) (keeps : KeepsStandard f g) (t u : Tables
   pub later_moved : (k : ℕ) (ps ss : List Record) → AllRecordsMoved m n ps ss → k + length ps ≤ length rs → IsMovedLater f g n keeps (later_from t rs k ps) (later_from u whole (n + k) (ss ++ back))
   later_moved k [] [] a l j c d e = absurd (let z : None ≡ Some d = e in cc)
   later_moved k (p ∷ ps) (s ∷ ss) (x, a) l j c d e =
-      ap (λ w. if w then denoted (home_of u whole (n + k) s) (later_from u whole (suc (n + k)) (ss ++ back)) moved_back else later_from u whole (suc (n + k)) (ss ++ back) (n + j) moved_back) (same_moved n j k)
-      ∙ by (subst (λ i. IsMovedLater f g n keeps (later_from t rs (suc k) ps) (later_from u whole i (ss ++ back))) (let z : n + suc k ≡ suc (n + k) = omega arith in z) (later_moved (suc k) ps ss a (omega (arith, l)))) (nat_eq j k) e
+      ap (λ w. if w then denoted (home_of u whole (n + k) s) (later_from u whole (suc (n + k)) (ss ++ back)) moved_back else later_from u whole
+      (suc (n + k)) (ss ++ back) (n + j) moved_back) (same_moved n j k)
+      ∙ by (subst (λ i. IsMovedLater f g n keeps (later_from t rs (suc k) ps) (later_from u whole i (ss ++ back)))
+      (let z : n + suc k ≡ suc (n + k) = omega arith in z) (later_moved (suc k) ps ss a (omega (arith, l)))) (nat_eq j k) e
     where
-
       moved_back : Captured
       moved_back = moved_captured m c
 
-      by : IsMovedLater f g n keeps (later_from t rs (suc k) ps) (later_from u whole (suc (n + k)) (ss ++ back)) → (b : Bool) → (if b then denoted (home_of t rs k p) (later_from t rs (suc k) ps) c else later_from t rs (suc k) ps j c) ≡ Some d
-          → (if b then denoted (home_of u whole (n + k) s) (later_from u whole (suc (n + k)) (ss ++ back)) moved_back else later_from u whole (suc (n + k)) (ss ++ back) (n + j) moved_back) ≡ Some (moved_clause f g n keeps d)
-      by more true e = denoted_moved f g n keeps (home_of t rs k p) (home_of u whole (n + k) s) (home_moved k (omega (arith, l)) p s x) (later_from t rs (suc k) ps) (later_from u whole (suc (n + k)) (ss ++ back)) more c d e
+      by : IsMovedLater f g n keeps (later_from t rs (suc k) ps) (later_from u whole (suc (n + k)) (ss ++ back)) → (b : Bool) →
+          (if b then denoted (home_of t rs k p) (later_from t rs (suc k) ps) c else later_from t rs (suc k) ps j c) ≡ Some d
+          → (if b then denoted (home_of u whole (n + k) s) (later_from u whole (suc (n + k)) (ss ++ back)) moved_back else later_from u whole
+          (suc (n + k)) (ss ++ back) (n + j) moved_back) ≡ Some (moved_clause f g n keeps d)
+      by more true e = denoted_moved f g n keeps (home_of t rs k p) (home_of u whole (n + k) s) (home_moved k (omega (arith, l)) p s x)
+          (later_from t rs (suc k) ps) (later_from u whole (suc (n + k)) (ss ++ back)) more c d e
       by more false e = more j c d e
   later_moved k [] (s ∷ ss) a l j c d e = absurd a
   later_moved k (p ∷ ps) [] a l j c d e = absurd a
@@ -138,9 +140,12 @@ module _ (f g : ℕ → ℕ) (n : ℕ) (keeps : KeepsStandard f g) (t u : Tables
   -- the records from one on
   pub denote_moved : (k : ℕ) (ps ss : List Record) → AllRecordsMoved m n ps ss → k + length ps ≤ length rs → (own others : List Clause) → denote_from t rs k ps ≡ Some own
       → (j : ℕ) → j ≡ n + (k + length ps) → denote_from u whole j back ≡ Some others → denote_from u whole (n + k) (ss ++ back) ≡ Some (map (moved_clause f g n keeps) own ++ others)
-  denote_moved k [] [] a l own others e j at h = ap (λ i. denote_from u whole i back) (let z : n + k ≡ j = omega (arith, at) in z) ∙ h ∙ ap (option_map (λ ds. map (moved_clause f g n keeps) ds ++ others)) e
+  denote_moved k [] [] a l own others e j at h = ap (λ i. denote_from u whole i back) (let z : n + k ≡ j = omega (arith, at) in z) ∙ h ∙ ap
+      (option_map (λ ds. map (moved_clause f g n keeps) ds ++ others)) e
   denote_moved k (p ∷ ps) (s ∷ ss) (x, a) l own others e j at h =
-      ap (λ b. if b then option_and_then (λ c. option_map (λ cs. c ∷ cs) behind) mine else (if is_named (home_of u whole (n + k) s) then behind else None)) x.program ∙ by (λ es q. denote_moved (suc k) ps ss a (omega (arith, l)) es others q j (omega (arith, at)) h) p.program e
+      ap (λ b. if b then option_and_then (λ c. option_map (λ cs. c ∷ cs) behind) mine else
+      (if is_named (home_of u whole (n + k) s) then behind else None)) x.program ∙ by
+      (λ es q. denote_moved (suc k) ps ss a (omega (arith, l)) es others q j (omega (arith, at)) h) p.program e
     where
       behind : Option (List Clause)
       behind = denote_from u whole (suc (n + k)) (ss ++ back)
@@ -155,7 +160,8 @@ module _ (f g : ℕ → ℕ) (n : ℕ) (keeps : KeepsStandard f g) (t u : Tables
       rest go es q = ap (λ i. denote_from u whole i (ss ++ back)) (let z : suc (n + k) ≡ n + suc k = omega arith in z) ∙ go es q
 
       more : IsMovedLater f g n keeps (later_from t rs (suc k) ps) (later_from u whole (suc (n + k)) (ss ++ back))
-      more = subst (λ i. IsMovedLater f g n keeps (later_from t rs (suc k) ps) (later_from u whole i (ss ++ back))) (let z : n + suc k ≡ suc (n + k) = omega arith in z) (later_moved (suc k) ps ss a (omega (arith, l)))
+      more = subst (λ i. IsMovedLater f g n keeps (later_from t rs (suc k) ps) (later_from u whole i (ss ++ back)))
+          (let z : n + suc k ≡ suc (n + k) = omega arith in z) (later_moved (suc k) ps ss a (omega (arith, l)))
 
       home : IsMovedHome m n (home_of t rs k p) (home_of u whole (n + k) s)
       home = home_moved k (omega (arith, l)) p s x
@@ -165,11 +171,15 @@ module _ (f g : ℕ → ℕ) (n : ℕ) (keeps : KeepsStandard f g) (t u : Tables
       program go None q es r e = absurd (let z : None ≡ Some own = e in cc)
       program go (Some c) q None r e = absurd (let z : None ≡ Some own = e in cc)
       program go (Some c) q (Some es) r e =
-          ap (option_and_then (λ c. option_map (λ cs. c ∷ cs) behind)) (denoted_moved f g n keeps (home_of t rs k p) (home_of u whole (n + k) s) home (later_from t rs (suc k) ps) (later_from u whole (suc (n + k)) (ss ++ back)) more nothing_captured c q)
+          ap (option_and_then (λ c. option_map (λ cs. c ∷ cs) behind)) (denoted_moved f g n keeps (home_of t rs k p) (home_of u whole (n + k) s) home
+          (later_from t rs (suc k) ps) (later_from u whole (suc (n + k)) (ss ++ back)) more nothing_captured c q)
           ∙ ap (option_map (λ cs. moved_clause f g n keeps c ∷ cs)) (rest go es r) ∙ ap (option_map (λ ds. map (moved_clause f g n keeps) ds ++ others)) e
 
-      by : Goes → (b : Bool) → (if b then option_and_then (λ c. option_map (λ cs. c ∷ cs) (denote_from t rs (suc k) ps)) (denoted (home_of t rs k p) (later_from t rs (suc k) ps) nothing_captured) else (if is_named (home_of t rs k p) then denote_from t rs (suc k) ps else None)) ≡ Some own
-          → (if b then option_and_then (λ c. option_map (λ cs. c ∷ cs) behind) mine else (if is_named (home_of u whole (n + k) s) then behind else None)) ≡ Some (map (moved_clause f g n keeps) own ++ others)
+      by : Goes → (b : Bool) → (if b then option_and_then (λ c. option_map (λ cs. c ∷ cs) (denote_from t rs (suc k) ps))
+          (denoted (home_of t rs k p) (later_from t rs (suc k) ps) nothing_captured) else
+          (if is_named (home_of t rs k p) then denote_from t rs (suc k) ps else None)) ≡ Some own
+          → (if b then option_and_then (λ c. option_map (λ cs. c ∷ cs) behind) mine else
+          (if is_named (home_of u whole (n + k) s) then behind else None)) ≡ Some (map (moved_clause f g n keeps) own ++ others)
       by go true e = program go (denoted (home_of t rs k p) (later_from t rs (suc k) ps) nothing_captured) refl (denote_from t rs (suc k) ps) refl e
       by go false e = ap (λ b. if b then behind else None) (named_same f g n keeps (home_of t rs k p) (home_of u whole (n + k) s) home) ∙ assumed (is_named (home_of t rs k p)) e
         where

@@ -1,12 +1,12 @@
 -- What a moved instruction does to a moved state is what the instruction did, moved.
 use Rattle.std.proofs.Common.{◌≡◌, ◌∙◌, ◌+◌, ℕ, zero, suc, List, [], ◌∷◌, ◌++◌, map, length, Bool, true, false, Option, Some, None, ap, refl, sym}
-use Rattle.std.specs.Prelude.{option_map, option_and_then, if◌then◌else◌, not, unwrap_or}
+use Rattle.std.specs.Prelude.{option_map, option_and_then, if◌then◌else◌, unwrap_or}
 use Rattle.std.proofs.lemmas.Bool.{not-false}
 use Rattle.lp_calculus.specs.Types.{Ty, con, arrow, no_types, types, tys}
 use Rattle.lp_calculus.specs.Term.{Term, atom, apply, constant, integer, text}
 use Rattle.lp_calculus.specs.Typing.{o_type, int_type, string_type}
 use Rattle.lp_term.specs.Mapped.{Map, mapped, mapped_type}
-use Rattle.lp_model.specs.Flat.{Clause, Clauses, Cut, no_clauses, clauses, map_clause}
+use Rattle.lp_model.specs.Flat.{Clause, Clauses, Cut, clauses, map_clause}
 use Rattle.lp_code.specs.declared.instruction.Instr.{Instr}
 use Rattle.lp_code.specs.declared.instruction.Instr.TheVariants as on
 use Rattle.lp_code.specs.declared.record.Record.{Record}
@@ -14,14 +14,14 @@ use Rattle.lp_code.specs.declared.record.RecordHead.{RecordHead}
 use Rattle.lp_code.specs.declared.record.RecordHead.TheVariants.{Const, Register}
 use Rattle.lp_code.specs.Operands.{own_set}
 use Rattle.lp_code.specs.Symbolic.{Built, Registers, variable, type_in, types_in, term_in, terms_in, whole, plain_terms, argument_type, bound_index, abstraction_of, application_of}
-use Rattle.lp_code.specs.States.{Captured, State, Home, member, passing, with_goal, Ended, end_variables, Block, Block, under_sigma, under_all, under_assumption, under_not, left_side, depth}
+use Rattle.lp_code.specs.States.{Captured, State, Home, member, passing, Ended, end_variables, Block, Block, under_sigma, under_all, under_assumption, depth}
 use Rattle.lp_code.specs.Steps.{Later, constant_of, is_made, is_own_type, own_types, own_variables, own_type, built_of, head_built, argument_at, with_argument, with_atom, put_type, put_term, opens, leave, turn, clauses_of_records, captured_by, handed, sides, order, effect, passed, settled, after}
 use Rattle.lp_code.specs.Rules.{breaks_type, applies}
-use Rattle.lp_link.specs.inner.Renumbering.{moving, moved_built, moved_registers, moved_term, same_depth, moved_clauses, moved_block, moved_frame, moved_captured, moved_state, moved_head, IsMoved, AllMoved, IsMovedRecord, IsMovedHome, KeepsStandard, SameNumbers}
+use Rattle.lp_link.specs.inner.Renumbering.{moving, moved_built, moved_registers, moved_term, same_depth, moved_clauses, moved_block, moved_captured, moved_state, moved_head, IsMoved, AllMoved, IsMovedRecord, IsMovedHome, KeepsStandard}
 use Rattle.lp_link.proofs.MovedTerms.{apply_moved}
 use Rattle.lp_link.proofs.MovedStates.{type_in_moved, types_in_moved, term_in_moved, terms_in_moved, plain_moved, with_goal_moved, ended_moved, depth_moved, leave_moved, settled_moved}
 use Rattle.lp_link.proofs.MovedSteps.{tys_moved, constant_moved, index_moved, abstraction_moved, application_moved, put_type_moved, put_term_moved, argument_taken, type_taken, atom_said, side_turned, argument_at_moved, same_o}
-use Rattle.lp_link.proofs.MovedOperands.{type_made, SameOperands, operands_same}
+use Rattle.lp_link.proofs.MovedOperands.{type_made, operands_same}
 
 -- what the instructions of a record make
 module _ (m : Map) (n : ℕ) where
@@ -116,21 +116,24 @@ module _ (f g : ℕ → ℕ) (n : ℕ) (keeps : KeepsStandard f g) where
   abbrev pub IsMovedLater : Later → Later → Type 0
   IsMovedLater old new = (k : ℕ) (c : Captured) (d : Clause) → old k c ≡ Some d → new (n + k) (moved_captured m c) ≡ Some (moved_clause d)
 
-  clauses_moved : (old new : Later) → IsMovedLater old new → (c : Captured) (ns : List ℕ) (cs : Clauses) → clauses_of_records old ns c ≡ Some cs → clauses_of_records new (map (λ r. n + r) ns) (moved_captured m c) ≡ Some (moved_clauses m 0 cs)
+  clauses_moved : (old new : Later) → IsMovedLater old new → (c : Captured) (ns : List ℕ) (cs : Clauses) → clauses_of_records old ns c ≡ Some cs →
+      clauses_of_records new (map (λ r. n + r) ns) (moved_captured m c) ≡ Some (moved_clauses m 0 cs)
   clauses_moved old new go c [] cs e = ap (option_map (moved_clauses m 0)) e
   clauses_moved old new go c (k ∷ ns) cs e = first (λ ds. clauses_moved old new go c ns ds) (old k c) refl e
     where
       Goes : Type 0
       Goes = (ds : Clauses) → clauses_of_records old ns c ≡ Some ds → clauses_of_records new (map (λ r. n + r) ns) (moved_captured m c) ≡ Some (moved_clauses m 0 ds)
 
-      rest : Goes → (d : Clause) (o : Option Clauses) → clauses_of_records old ns c ≡ o → option_map (clauses d) o ≡ Some cs → option_map (clauses (moved_clause d)) (clauses_of_records new (map (λ r. n + r) ns) (moved_captured m c)) ≡ Some (moved_clauses m 0 cs)
+      rest : Goes → (d : Clause) (o : Option Clauses) → clauses_of_records old ns c ≡ o → option_map (clauses d) o ≡ Some cs → option_map
+          (clauses (moved_clause d)) (clauses_of_records new (map (λ r. n + r) ns) (moved_captured m c)) ≡ Some (moved_clauses m 0 cs)
       rest more d None h e = absurd (let z : None ≡ Some cs = e in cc)
       rest more d (Some ds) h e = ap (option_map (clauses (moved_clause d))) (more ds h) ∙ ap (option_map (moved_clauses m 0)) e
 
       first : Goes → (o : Option Clause) → old k c ≡ o → option_and_then (λ d. option_map (clauses d) (clauses_of_records old ns c)) o ≡ Some cs
           → option_and_then (λ d. option_map (clauses d) (clauses_of_records new (map (λ r. n + r) ns) (moved_captured m c))) (new (n + k) (moved_captured m c)) ≡ Some (moved_clauses m 0 cs)
       first more None h e = absurd (let z : None ≡ Some cs = e in cc)
-      first more (Some d) h e = ap (option_and_then (λ d. option_map (clauses d) (clauses_of_records new (map (λ r. n + r) ns) (moved_captured m c)))) (go k c d h) ∙ rest more d (clauses_of_records old ns c) refl e
+      first more (Some d) h e = ap (option_and_then (λ d. option_map (clauses d) (clauses_of_records new (map (λ r. n + r) ns) (moved_captured m c))))
+          (go k c d h) ∙ rest more d (clauses_of_records old ns c) refl e
 
   abbrev moved_names : List (ℕ × Captured) → List (ℕ × Captured)
   moved_names l = map (λ (a : ℕ × Captured). (n + a.0, moved_captured m a.1)) l
@@ -215,7 +218,8 @@ module _ (f g : ℕ → ℕ) (n : ℕ) (keeps : KeepsStandard f g) where
       captured_same : (ts us rs vs : List ℕ) → us ≡ ts → vs ≡ rs → captured_by (at_rest s) us vs ≡ moved_captured m (captured_by s ts rs)
       captured_same ts us rs vs e h = λ j. record { types = types_same ts us e j; terms = terms_same rs vs h j }
 
-      got_variable : (i d : ℕ) → Some (with_argument (put_term (at_rest s) d (whole (variable d new.number) (argument_at new (at_rest s) i))) (whole (variable d new.number) (argument_at new (at_rest s) i)))
+      got_variable : (i d : ℕ) → Some (with_argument (put_term (at_rest s) d (whole (variable d new.number) (argument_at new (at_rest s) i)))
+          (whole (variable d new.number) (argument_at new (at_rest s) i)))
           ≡ Some (at_rest (with_argument (put_term s d (whole (variable d old.number) (argument_at old s i))) (whole (variable d old.number) (argument_at old s i))))
       got_variable i d =
           let b = whole (variable d old.number) (argument_at old s i) in
@@ -223,7 +227,8 @@ module _ (f g : ℕ → ℕ) (n : ℕ) (keeps : KeepsStandard f g) where
           ∙ ap (λ t. Some (with_argument t (moved_built m b))) (put_term_moved f g n proposition s d b) ∙ ap Some (argument_taken f g n proposition (put_term s d b) b)
 
       opened : (block : Ty → Block) → ((T : Ty) → block (mapped_type m T) ≡ moved_block m (block T)) → (d t : ℕ)
-          → Some (put_term (opens (at_rest s) (block (type_in now t))) d (whole (variable d new.number) (type_in now t))) ≡ Some (at_rest (put_term (opens s (block (type_in s.now t))) d (whole (variable d old.number) (type_in s.now t))))
+          → Some (put_term (opens (at_rest s) (block (type_in now t))) d (whole (variable d new.number) (type_in now t))) ≡ Some
+          (at_rest (put_term (opens s (block (type_in s.now t))) d (whole (variable d old.number) (type_in s.now t))))
       opened block is d t =
           let b = whole (variable d old.number) (type_in s.now t) in
           (λ j. Some (put_term (opens (at_rest s) (block (type_same t j))) d (variable_same d (type_in s.now t) (type_in now t) (type_same t) j)))
@@ -232,7 +237,11 @@ module _ (f g : ℕ → ℕ) (n : ℕ) (keeps : KeepsStandard f g) where
       abbrev proceeding : Ended → Option State
       proceeding x = Some (record (at_rest s) { goals = x.goals; frames = x.frames })
 
-      ended : proceeding (end_variables new.number (at_rest s).goals (at_rest s).frames) ≡ Some (at_rest (record s { goals = (end_variables old.number s.goals s.frames).goals; frames = (end_variables old.number s.goals s.frames).frames }))
+      ended : proceeding (end_variables new.number (at_rest s).goals (at_rest s).frames) ≡ Some
+          (at_rest (record s {
+            goals = (end_variables old.number s.goals s.frames).goals;
+            frames = (end_variables old.number s.goals s.frames).frames;
+          }))
       ended = ap (λ h. proceeding (end_variables h (at_rest s).goals (at_rest s).frames)) along.number ∙ ap proceeding (ended_moved f g n proposition old.number s.goals s.frames)
 
       module _ (later later' : Later) (go : IsMovedLater later later') where
@@ -296,7 +305,8 @@ module _ (f g : ℕ → ℕ) (n : ℕ) (keeps : KeepsStandard f g) where
         effect_moved (on.PutApp d x rs) j q (us, e, y) b h =
             ap (effect new later' (at_rest s)) e
             ∙ (put d (application_of (term_in s.now x) (terms_in s.now rs.items)) (application_of (term_in now x) (terms_in now us.items))
-            ((λ j. application_of (term_same x j) (terms_same rs.items us.items y j)) ∙ application_moved f g n proposition (term_in s.now x) (terms_in s.now rs.items) (not-false (applies (term_in s.now x) (terms_in s.now rs.items)) b)))
+            ((λ j. application_of (term_same x j) (terms_same rs.items us.items y j)) ∙ application_moved f g n proposition (term_in s.now x)
+            (terms_in s.now rs.items) (not-false (applies (term_in s.now x) (terms_in s.now rs.items)) b)))
             ∙ ap (option_map at_rest) h
         effect_moved (on.GetType i t) j q e b h =
             ap (effect new later' (at_rest s)) e
@@ -327,7 +337,8 @@ module _ (f g : ℕ → ℕ) (n : ℕ) (keeps : KeepsStandard f g) where
             ∙ ap (option_map at_rest) h
         effect_moved (on.Call c ts rs) j q (us, vs, e, x, y) b h =
             ap (effect new later' (at_rest s)) e
-            ∙ (said (apply (atom (constant c (types_in s.now ts.items))) (plain_terms (terms_in s.now rs.items))) (apply (atom (constant (g c) (types_in now us.items))) (plain_terms (terms_in now vs.items)))
+            ∙ (said (apply (atom (constant c (types_in s.now ts.items))) (plain_terms (terms_in s.now rs.items)))
+            (apply (atom (constant (g c) (types_in now us.items))) (plain_terms (terms_in now vs.items)))
             (called c ts.items us.items rs.items vs.items x y))
             ∙ ap (option_map at_rest) h
         effect_moved (on.CallTerm r) j q e b h =

@@ -1,34 +1,30 @@
 -- A moved instruction breaks no rule where the instruction broke none, rule by rule.
-use Rattle.std.proofs.Common.{◌≡◌, ◌∙◌, ◌+◌, ◌-◌, ℕ, zero, suc, List, [], ◌∷◌, ◌++◌, map, length, Bool, true, false, Option, Some, None, ap, refl, sym, arith}
-use Rattle.std.specs.Prelude.{option_map, if◌then◌else◌, not, nat_eq, nat_lt, nat_le, ◌&&◌, ◌||◌, is_some, is_none, slice_get}
-use Rattle.std.specs.List.{list_any, list_all}
-use Rattle.std.proofs.lemmas.Bool.{not-false, ltb-true, ltb-false, lt-ltb, le-ltb, ne_eqb}
+use Rattle.std.proofs.Common.{◌≡◌, ◌∙◌, ◌+◌, ℕ, List, [], ◌∷◌, ◌++◌, map, length, Bool, true, false, Option, Some, None, ap, refl, sym, arith}
+use Rattle.std.specs.Prelude.{option_map, not, nat_eq, nat_lt, nat_le, ◌&&◌, ◌||◌, is_some, is_none, slice_get}
+use Rattle.std.specs.List.{list_any}
+use Rattle.std.proofs.lemmas.Bool.{not-false, ltb-true, ltb-false, lt-ltb, le-ltb}
 use Rattle.std.proofs.lemmas.List.{length-map}
 use Rattle.lp_lemmas.proofs.Booleans.{and_true_left, and_true_right, or_false_left, or_false_right, or_assoc}
-use Rattle.lp_calculus.specs.Types.{Ty, no_types, con}
-use Rattle.lp_calculus.specs.Term.{Term, Atom, index, atom, abs, app, constant, integer, text, eigen, logic, param}
-use Rattle.lp_calculus.specs.Typing.{Scheme, o_type, int_type, string_type}
+use Rattle.lp_calculus.specs.Types.{Ty}
+use Rattle.lp_calculus.specs.Typing.{o_type, int_type, string_type}
 use Rattle.lp_term.specs.Mapped.{Map, mapped, mapped_type}
 use Rattle.lp_code.specs.declared.instruction.Instr.{Instr}
 use Rattle.lp_code.specs.declared.instruction.Instr.TheVariants as on
 use Rattle.lp_code.specs.declared.record.Record.{Record}
 use Rattle.lp_code.specs.declared.record.RecordHead.{RecordHead}
 use Rattle.lp_code.specs.declared.record.RecordHead.TheVariants.{Const, Register}
-use Rattle.lp_code.specs.Length.{length_of}
-use Rattle.lp_code.specs.Operands.{types_read, terms_read, type_set, term_set}
-use Rattle.lp_code.specs.Symbolic.{Built, held, type_in, types_in, term_in, terms_in, whole, equal_types, applied_type, argument_type, result_type, agree_at, agree, joined, all_agree, is_closed, innermost}
-use Rattle.lp_code.specs.States.{Block, under_sigma, under_all, under_assumption, under_not, left_side, right_side, Frame, Captured, State, Home, member, innermost_block, depth}
-use Rattle.lp_code.specs.Steps.{constant_of, own_variables, head_built}
-use Rattle.lp_code.specs.Rules.{nesting_limit, breaks_register, breaks_unset, breaks_set, breaks_constant, breaks_type, breaks_index, breaks_term, breaks_order, breaks_head, breaks_block, breaks_clause, has_count, is_count, has_type, built_types, applies, is_argument, have_type, stands_alone, is_no_term, out_of_turn, has_none, scheme_count, count_of, head_count, is_variable_of, stands_in, is_new_variable, ends_with_jump, begins_behind, is_left_end, ends_block, side_is_passed, is_passed, is_too_deep, breaks_nesting, starts_with_as_many, is_assumed_record, named_before, are_fine_names}
-use Rattle.lp_link.specs.inner.Renumbering.{moving, moved_scheme, moved_loose, moved_built, moved_registers, moved_block, moved_frame, moved_captured, moved_state, moved_head, IsMoved, AllMoved, IsMovedRecord, IsMovedHome, KeepsStandard, AreMoved}
-use Rattle.lp_link.proofs.MovedTerms.{equal_moved, applied_moved, agree_at_moved, agree_moved, joined_moved, closed_moved, innermost_moved as innermost_loose_moved, result_moved}
+use Rattle.lp_code.specs.Symbolic.{Built, held, type_in, types_in, term_in, terms_in, equal_types, applied_type, argument_type, result_type, agree_at, is_closed, innermost}
+use Rattle.lp_code.specs.States.{Frame, Captured, State, Home, member, innermost_block}
+use Rattle.lp_code.specs.Steps.{constant_of, head_built}
+use Rattle.lp_code.specs.Rules.{nesting_limit, breaks_register, breaks_unset, breaks_set, breaks_constant, breaks_type, breaks_index, breaks_term, breaks_order, breaks_head, breaks_block, breaks_clause, has_count, is_count, has_type, built_types, applies, is_argument, have_type, out_of_turn, scheme_count, count_of, head_count, is_variable_of, stands_in, is_new_variable, is_left_end, ends_block, is_passed, is_too_deep, breaks_nesting, is_assumed_record, named_before, are_fine_names}
+use Rattle.lp_link.specs.inner.Renumbering.{moving, moved_built, moved_block, moved_frame, moved_captured, moved_state, moved_head, IsMoved, AllMoved, IsMovedHome, KeepsStandard}
+use Rattle.lp_link.proofs.MovedTerms.{equal_moved, closed_moved, result_moved}
 use Rattle.lp_link.proofs.MovedGoals.{same_home}
 use Rattle.lp_link.proofs.MovedStates.{held_moved, depth_moved, innermost_moved}
 use Rattle.lp_link.proofs.MovedSteps.{argument_left, same_o}
 use Rattle.lp_link.proofs.MovedOperands.{SameOperands, operands_same}
-use Rattle.lp_link.proofs.MovedEffects.{own_variables_same, head_moved, type_same, types_same, term_same, terms_same, constant_same, same_int, same_string}
-
-use Rattle.lp_link.proofs.MovedRules.{any_mapped, none_mapped, is_none_mapped, is_some_mapped, count_mapped, scheme_mapped, type_kept, built_types_moved, applied_kept, some_applied, all_agree_kept, applies_kept, loose_kept, no_term_above, no_term_moved, variable_kept, stands_kept, passed_kept, left_end_kept, all_ended, assumption_ended, denial_ended, begins_kept, nothing_kept, jump_behind, jump_kept}
+use Rattle.lp_link.proofs.MovedEffects.{own_variables_same, head_moved, type_same, term_same, terms_same, constant_same, same_int, same_string}
+use Rattle.lp_link.proofs.MovedRules.{any_mapped, none_mapped, is_none_mapped, is_some_mapped, count_mapped, scheme_mapped, type_kept, built_types_moved, applied_kept, applies_kept, loose_kept, no_term_moved, variable_kept, stands_kept, passed_kept, left_end_kept, all_ended, assumption_ended, denial_ended, begins_kept, nothing_kept, jump_kept}
 
 module _ (f g : ℕ → ℕ) (n : ℕ) (keeps : KeepsStandard f g) (old new : Home) (along : IsMovedHome (moving f g n) n old new) (s : State) where
   abbrev m : Map
@@ -57,7 +53,8 @@ module _ (f g : ℕ → ℕ) (n : ℕ) (keeps : KeepsStandard f g) (old new : Ho
     same = operands_same m n i j x
 
     pub register_kept : breaks_register new rest j ≡ breaks_register old s i
-    register_kept = λ z. list_any (λ t. nat_le (along.self.types z) t) (same.reads_types z ++ same.sets_type z) || list_any (λ r. nat_le (along.self.registers z) r) (same.reads_terms z ++ same.sets_term z)
+    register_kept = λ z. list_any (λ t. nat_le (along.self.types z) t) (same.reads_types z ++ same.sets_type z) || list_any
+        (λ r. nat_le (along.self.registers z) r) (same.reads_terms z ++ same.sets_term z)
 
     pub unset_kept : breaks_unset rest j ≡ breaks_unset s i
     unset_kept = λ z. list_any (λ t. type_unset t z) (same.reads_types z) || list_any (λ r. term_unset r z) (same.reads_terms z)
@@ -218,19 +215,37 @@ module _ (f g : ℕ → ℕ) (n : ℕ) (keeps : KeepsStandard f g) (old new : Ho
   type_rule_kept (on.PutInt d z) j e h = ap (breaks_type new rest) e
   type_rule_kept (on.PutStr d b) j (us, e, x) h = ap (breaks_type new rest) e
   type_rule_kept (on.PutIndex d i t) j e h = ap (breaks_type new rest) e
-  type_rule_kept (on.PutAbs d b t) j e h = ap (breaks_type new rest) e ∙ ap not ((λ z. agree_at (innermost (now_term b z).loose) (Some (now_type t z))) ∙ loose_kept m (term_in s.now b).loose (type_in s.now t) (not-false (agree_at (innermost (term_in s.now b).loose) (Some (type_in s.now t))) h))
-  type_rule_kept (on.PutApp d x rs) j (us, e, y) h = ap (breaks_type new rest) e ∙ ap not ((λ z. applies (now_term x z) (now_terms rs.items us.items y z)) ∙ applies_kept m (term_in s.now x) (terms_in s.now rs.items) (not-false (applies (term_in s.now x) (terms_in s.now rs.items)) h))
+  type_rule_kept (on.PutAbs d b t) j e h = ap (breaks_type new rest) e ∙ ap not ((λ z. agree_at (innermost (now_term b z).loose)
+      (Some (now_type t z))) ∙ loose_kept m (term_in s.now b).loose (type_in s.now t)
+      (not-false (agree_at (innermost (term_in s.now b).loose) (Some (type_in s.now t))) h))
+  type_rule_kept (on.PutApp d x rs) j (us, e, y) h = ap (breaks_type new rest) e ∙ ap not
+      ((λ z. applies (now_term x z) (now_terms rs.items us.items y z)) ∙ applies_kept m (term_in s.now x) (terms_in s.now rs.items)
+      (not-false (applies (term_in s.now x) (terms_in s.now rs.items)) h))
   type_rule_kept (on.GetType i t) j e h = ap (breaks_type new rest) e
-  type_rule_kept (on.GetVar i d) j e h = ap (breaks_type new rest) e ∙ (λ z. is_none (argument_type (now_head z).type i)) ∙ ap is_none (argument_left f g n proposition (head_built old s).type i) ∙ is_none_mapped (mapped_type m) (argument_type (head_built old s).type i) ∙ h
-  type_rule_kept (on.Get i r) j e h = ap (breaks_type new rest) e ∙ ap not (argument_kept i (term_in s.now r).type (term_in rest.now r).type (ap (λ (b : Built). b.type) (now_term r)) (not-false (is_argument old s i (term_in s.now r).type) h))
-  type_rule_kept (on.GetConst i c ts) j (us, e, x) h = ap (breaks_type new rest) e ∙ ap not (argument_kept i (constant_of old.tables c (types_in s.now ts.items)).type (constant_of new.tables (g c) (types_in rest.now us.items)).type (ap (λ (b : Built). b.type) (constant_same f g n keeps old new along s c ts.items us.items x)) (not-false (is_argument old s i (constant_of old.tables c (types_in s.now ts.items)).type) h))
+  type_rule_kept (on.GetVar i d) j e h = ap (breaks_type new rest) e ∙ (λ z. is_none (argument_type (now_head z).type i)) ∙ ap is_none
+      (argument_left f g n proposition (head_built old s).type i) ∙ is_none_mapped (mapped_type m) (argument_type (head_built old s).type i) ∙ h
+  type_rule_kept (on.Get i r) j e h = ap (breaks_type new rest) e ∙ ap not (argument_kept i (term_in s.now r).type (term_in rest.now r).type
+      (ap (λ (b : Built). b.type) (now_term r)) (not-false (is_argument old s i (term_in s.now r).type) h))
+  type_rule_kept (on.GetConst i c ts) j (us, e, x) h = ap (breaks_type new rest) e ∙ ap not
+      (argument_kept i (constant_of old.tables c (types_in s.now ts.items)).type (constant_of new.tables (g c) (types_in rest.now us.items)).type
+      (ap (λ (b : Built). b.type) (constant_same f g n keeps old new along s c ts.items us.items x))
+      (not-false (is_argument old s i (constant_of old.tables c (types_in s.now ts.items)).type) h))
   type_rule_kept (on.GetInt i z) j e h = ap (breaks_type new rest) e ∙ ap not (argument_kept i int_type int_type (sym (same_int f g n keeps)) (not-false (is_argument old s i int_type) h))
-  type_rule_kept (on.GetStr i b) j (us, e, x) h = ap (breaks_type new rest) e ∙ ap not (argument_kept i string_type string_type (sym (same_string f g n keeps)) (not-false (is_argument old s i string_type) h))
+  type_rule_kept (on.GetStr i b) j (us, e, x) h = ap (breaks_type new rest) e ∙ ap not
+      (argument_kept i string_type string_type (sym (same_string f g n keeps)) (not-false (is_argument old s i string_type) h))
   type_rule_kept on.Neck j e h = ap (breaks_type new rest) e
-  type_rule_kept (on.Call c ts rs) j (us, vs, e, x, y) h = ap (breaks_type new rest) e ∙ ap not ((λ z. has_type (applied_type (constant_same f g n keeps old new along s c ts.items us.items x z).type (built_types (now_terms rs.items vs.items y z))) (sym (same_o f g n proposition) z)) ∙ ap (λ l. has_type (applied_type (mapped_type m (constant_of old.tables c (types_in s.now ts.items)).type) l) (mapped_type m o_type)) (built_types_moved m (terms_in s.now rs.items)) ∙ applied_kept m (constant_of old.tables c (types_in s.now ts.items)).type (built_types (terms_in s.now rs.items)) o_type (not-false (has_type (applied_type (constant_of old.tables c (types_in s.now ts.items)).type (built_types (terms_in s.now rs.items))) o_type) h))
+  type_rule_kept (on.Call c ts rs) j (us, vs, e, x, y) h = ap (breaks_type new rest) e ∙ ap not
+      ((λ z. has_type (applied_type (constant_same f g n keeps old new along s c ts.items us.items x z).type
+      (built_types (now_terms rs.items vs.items y z))) (sym (same_o f g n proposition) z)) ∙ ap
+      (λ l. has_type (applied_type (mapped_type m (constant_of old.tables c (types_in s.now ts.items)).type) l) (mapped_type m o_type))
+      (built_types_moved m (terms_in s.now rs.items)) ∙ applied_kept m (constant_of old.tables c (types_in s.now ts.items)).type
+      (built_types (terms_in s.now rs.items)) o_type (not-false (has_type (applied_type (constant_of old.tables c (types_in s.now ts.items)).type
+      (built_types (terms_in s.now rs.items))) o_type) h))
   type_rule_kept (on.CallTerm r) j e h = ap (breaks_type new rest) e ∙ ap not (have_kept o_type o_type (sym (same_o f g n proposition)) (r ∷ []) (not-false (have_type s (r ∷ []) o_type) h))
-  type_rule_kept (on.Equal t l r) j e h = ap (breaks_type new rest) e ∙ ap not (have_kept (type_in s.now t) (type_in rest.now t) (now_type t) (l ∷ r ∷ []) (not-false (have_type s (l ∷ r ∷ []) (type_in s.now t)) h))
-  type_rule_kept (on.Is t l r) j e h = ap (breaks_type new rest) e ∙ ap not (have_kept (type_in s.now t) (type_in rest.now t) (now_type t) (l ∷ r ∷ []) (not-false (have_type s (l ∷ r ∷ []) (type_in s.now t)) h))
+  type_rule_kept (on.Equal t l r) j e h = ap (breaks_type new rest) e ∙ ap not (have_kept (type_in s.now t) (type_in rest.now t) (now_type t)
+      (l ∷ r ∷ []) (not-false (have_type s (l ∷ r ∷ []) (type_in s.now t)) h))
+  type_rule_kept (on.Is t l r) j e h = ap (breaks_type new rest) e ∙ ap not (have_kept (type_in s.now t) (type_in rest.now t) (now_type t)
+      (l ∷ r ∷ []) (not-false (have_type s (l ∷ r ∷ []) (type_in s.now t)) h))
   type_rule_kept (on.Less l r) j e h = ap (breaks_type new rest) e ∙ ap not (have_kept int_type int_type (sym (same_int f g n keeps)) (l ∷ r ∷ []) (not-false (have_type s (l ∷ r ∷ []) int_type) h))
   type_rule_kept (on.Greater l r) j e h = ap (breaks_type new rest) e ∙ ap not (have_kept int_type int_type (sym (same_int f g n keeps)) (l ∷ r ∷ []) (not-false (have_type s (l ∷ r ∷ []) int_type) h))
   type_rule_kept (on.AtMost l r) j e h = ap (breaks_type new rest) e ∙ ap not (have_kept int_type int_type (sym (same_int f g n keeps)) (l ∷ r ∷ []) (not-false (have_type s (l ∷ r ∷ []) int_type) h))
@@ -263,7 +278,8 @@ module _ (f g : ℕ → ℕ) (n : ℕ) (keeps : KeepsStandard f g) (old new : Ho
   new_variable_same r = (λ z. list_any (λ v. one v z) (own_variables_same m n old.self new.self along.self z))
     where
       stands : (v : ℕ) → list_any (λ (b : Built). stands_in v new.number b.term) rest.head_arguments ≡ list_any (λ (b : Built). stands_in v old.number b.term) s.head_arguments
-      stands v = any_mapped (λ (b : Built). stands_in v new.number b.term) (λ (b : Built). stands_in v old.number b.term) (moved_built m) (λ b. ap (λ h. stands_in v h (mapped m b.term)) along.number ∙ stands_kept f g n v old.number b.term) s.head_arguments
+      stands v = any_mapped (λ (b : Built). stands_in v new.number b.term) (λ (b : Built). stands_in v old.number b.term) (moved_built m)
+          (λ b. ap (λ h. stands_in v h (mapped m b.term)) along.number ∙ stands_kept f g n v old.number b.term) s.head_arguments
 
       one : (v : ℕ) → (is_variable_of (term_in rest.now r).term v new.number && not (list_any (λ (b : Built). stands_in v new.number b.term) rest.head_arguments))
           ≡ (is_variable_of (term_in s.now r).term v old.number && not (list_any (λ (b : Built). stands_in v old.number b.term) s.head_arguments))
@@ -282,15 +298,21 @@ module _ (f g : ℕ → ℕ) (n : ℕ) (keeps : KeepsStandard f g) (old new : Ho
       count : nat_eq (length rest.head_types) (head_count new) ≡ nat_eq (length s.head_types) (head_count old)
       count = λ z. nat_eq (length-map s.head_types (mapped_type m) z) (counts_same z)
 
-      both : (not (nat_eq (length s.head_types) (head_count old)) || not (equal_types U o_type)) ≡ false → (not (nat_eq (length rest.head_types) (head_count new)) || not (equal_types (result_type (head_built new rest).type (length rest.head_arguments)) o_type)) ≡ false
+      both : (not (nat_eq (length s.head_types) (head_count old)) || not (equal_types U o_type)) ≡ false →
+          (not (nat_eq (length rest.head_types) (head_count new)) || not (equal_types
+          (result_type (head_built new rest).type (length rest.head_arguments)) o_type)) ≡ false
       both h =
           (λ z. not (count z) || not (equal_types (result_same z) (sym (same_o f g n proposition) z)))
-          ∙ (λ z. or_false_left (not (nat_eq (length s.head_types) (head_count old))) (not (equal_types U o_type)) h z || not (equal_moved m U o_type (not-false (equal_types U o_type) (or_false_right (not (nat_eq (length s.head_types) (head_count old))) (not (equal_types U o_type)) h)) z))
+          ∙ (λ z. or_false_left (not (nat_eq (length s.head_types) (head_count old))) (not (equal_types U o_type)) h z || not
+          (equal_moved m U o_type (not-false (equal_types U o_type) (or_false_right (not (nat_eq (length s.head_types) (head_count old)))
+          (not (equal_types U o_type)) h)) z))
 
       by : (b : Bool) → is_some old.self.head ≡ b → (b && (not (nat_eq (length s.head_types) (head_count old)) || not (equal_types U o_type))) ≡ false
-          → (is_some new.self.head && (not (nat_eq (length rest.head_types) (head_count new)) || not (equal_types (result_type (head_built new rest).type (length rest.head_arguments)) o_type))) ≡ false
+          → (is_some new.self.head && (not (nat_eq (length rest.head_types) (head_count new)) || not
+          (equal_types (result_type (head_built new rest).type (length rest.head_arguments)) o_type))) ≡ false
       by true e h = λ z. (has_head ∙ e) z && both h z
-      by false e h = ap (λ b. b && (not (nat_eq (length rest.head_types) (head_count new)) || not (equal_types (result_type (head_built new rest).type (length rest.head_arguments)) o_type))) (has_head ∙ e)
+      by false e h = ap (λ b. b && (not (nat_eq (length rest.head_types) (head_count new)) || not
+          (equal_types (result_type (head_built new rest).type (length rest.head_arguments)) o_type))) (has_head ∙ e)
 
   pub head_kept : (i j : Instr) → IsMoved m n i j → breaks_head old s i ≡ false → breaks_head new rest j ≡ false
   head_kept (on.TyCon d k ts) j (us, e, x) h = ap (breaks_head new rest) e
@@ -371,7 +393,8 @@ module _ (f g : ℕ → ℕ) (n : ℕ) (keeps : KeepsStandard f g) (old new : Ho
     nesting_kept (on.Assume ns ts rs) j (ms, us, vs, e, w, x, y) = ap (breaks_nesting rest js) e ∙ deep_same
     nesting_kept on.EndAssume j e = ap (breaks_nesting rest js) e ∙ ap not (ap (ends_block on.EndAssume) around_same ∙ assumption_ended m (innermost_block s.frames))
     nesting_kept (on.Either k) j e = ap (breaks_nesting rest js) e ∙ (λ z. deep_same z || not (jump_kept m n k is js a z))
-    nesting_kept (on.Jump k) j e = ap (breaks_nesting rest js) e ∙ (λ z. not ((ap (is_left_end (s.place + 5)) around_same ∙ left_end_kept m (s.place + 5) (innermost_block s.frames)) z) || not (begins_kept m n k is js a z))
+    nesting_kept (on.Jump k) j e = ap (breaks_nesting rest js) e ∙ (λ z. not ((ap (is_left_end (s.place + 5)) around_same ∙ left_end_kept m
+        (s.place + 5) (innermost_block s.frames)) z) || not (begins_kept m n k is js a z))
     nesting_kept on.Proceed j e = ap (breaks_nesting rest js) e ∙ (λ z. (ap is_some around_same ∙ is_some_mapped (moved_block m) (innermost_block s.frames)) z || not (nothing_kept m n is js a z))
     nesting_kept on.Not j e = ap (breaks_nesting rest js) e ∙ deep_same
     nesting_kept on.EndNot j e = ap (breaks_nesting rest js) e ∙ ap not (ap (ends_block on.EndNot) around_same ∙ denial_ended m (innermost_block s.frames))
@@ -397,7 +420,8 @@ module _ (f g : ℕ → ℕ) (n : ℕ) (keeps : KeepsStandard f g) (old new : Ho
   same_number : (k l : ℕ) → nat_eq (n + k) (n + l) ≡ nat_eq k l
   same_number k l = (λ z. nat_eq (add_comm n k z) (add_comm n l z)) ∙ same_home f g n k l
 
-  assumed_same : (k : ℕ) (l : List (ℕ × Captured)) → member (n + k) (map (λ (a : ℕ × Captured). a.0) (map (λ (a : ℕ × Captured). (n + a.0, moved_captured m a.1)) l)) ≡ member k (map (λ (a : ℕ × Captured). a.0) l)
+  assumed_same : (k : ℕ) (l : List (ℕ × Captured)) → member (n + k) (map (λ (a : ℕ × Captured). a.0)
+      (map (λ (a : ℕ × Captured). (n + a.0, moved_captured m a.1)) l)) ≡ member k (map (λ (a : ℕ × Captured). a.0) l)
   assumed_same k [] = refl
   assumed_same k (a ∷ l) = λ z. same_number k a.0 z || assumed_same k l z
 
@@ -413,7 +437,8 @@ module _ (f g : ℕ → ℕ) (n : ℕ) (keeps : KeepsStandard f g) (old new : Ho
           let there = along.others k r h in
           ap (λ o. is_assumed_record o ts rs) there.1 ∙ (λ z. not (there.2.program z) && nat_eq (there.2.captured_types z) ts && nat_eq (there.2.captured z) rs) ∙ e
 
-  names_kept : (named names : List ℕ) → ((k : ℕ) → member (n + k) names ≡ member k named) → (ts rs : ℕ) (ns : List ℕ) → are_fine_names old named ts rs ns ≡ true → are_fine_names new names ts rs (map (λ r. n + r) ns) ≡ true
+  names_kept : (named names : List ℕ) → ((k : ℕ) → member (n + k) names ≡ member k named) → (ts rs : ℕ) (ns : List ℕ) → are_fine_names old named ts rs
+      ns ≡ true → are_fine_names new names ts rs (map (λ r. n + r) ns) ≡ true
   names_kept named names h ts rs [] e = refl
   names_kept named names h ts rs (k ∷ ns) e =
       let first = nat_lt old.number k in
@@ -464,7 +489,8 @@ module _ (f g : ℕ → ℕ) (n : ℕ) (keeps : KeepsStandard f g) (old new : Ho
       member_behind (n + k) (named_before new.number new.records) (map (λ (a : ℕ × Captured). a.0) rest.assumed)
       ∙ (λ z. along.named k z || assumed_same k s.assumed z) ∙ sym (member_behind k (named_before old.number old.records) (map (λ (a : ℕ × Captured). a.0) s.assumed)) in
       ap (breaks_clause new rest) e
-      ∙ ap not ((λ z. are_fine_names new before_now (length (x z)) (length (y z)) (w z)) ∙ names_kept before before_now named (length ts.items) (length rs.items) ns.items (not-false (are_fine_names old before (length ts.items) (length rs.items) ns.items) h))
+      ∙ ap not ((λ z. are_fine_names new before_now (length (x z)) (length (y z)) (w z)) ∙ names_kept before before_now named (length ts.items)
+      (length rs.items) ns.items (not-false (are_fine_names old before (length ts.items) (length rs.items) ns.items) h))
   clause_kept on.EndAssume j e h = ap (breaks_clause new rest) e
   clause_kept (on.Either k) j e h = ap (breaks_clause new rest) e
   clause_kept (on.Jump k) j e h = ap (breaks_clause new rest) e

@@ -91,11 +91,13 @@ module _ (f g : ℕ → ℕ) (n : ℕ) where
     terms_moved d [] = refl
     terms_moved d (t ∷ ts) = λ j. bind_moved rs home d t j ∷ terms_moved d ts j
 
-    written_moved : (d : ℕ) (w : Written) → map_written (mapped m) (mapped_type m) (map_written (bind_term rs home d) same_type w) ≡ map_written (bind_term rs (home + n) d) same_type (map_written (mapped m) (mapped_type m) w)
+    written_moved : (d : ℕ) (w : Written) → map_written (mapped m) (mapped_type m) (map_written (bind_term rs home d) same_type w) ≡ map_written
+        (bind_term rs (home + n) d) same_type (map_written (mapped m) (mapped_type m) w)
     written_moved d w = λ j. record { terms = terms_moved d w.terms j; types = types_moved w.types j }
 
     mutual
-      goal_bound : (d e : ℕ) (x : Goal) → map_goal same_depth (moved_term m) (mapped_type m) e (map_goal suc (bind_term rs home) same_type d x) ≡ map_goal suc (bind_term rs (home + n)) same_type d (map_goal same_depth (moved_term m) (mapped_type m) e x)
+      goal_bound : (d e : ℕ) (x : Goal) → map_goal same_depth (moved_term m) (mapped_type m) e (map_goal suc (bind_term rs home) same_type d x) ≡
+          map_goal suc (bind_term rs (home + n)) same_type d (map_goal same_depth (moved_term m) (mapped_type m) e x)
       goal_bound d e (Atomic t) = ap Atomic (bind_moved rs home d t)
       goal_bound d e Cut = refl
       goal_bound d e (Either gs hs) = λ j. Either (goals_bound d e gs j) (goals_bound d e hs j)
@@ -108,13 +110,16 @@ module _ (f g : ℕ → ℕ) (n : ℕ) where
       goals_bound d e no_goals = refl
       goals_bound d e (goals x gs) = λ j. goals (goal_bound d e x j) (goals_bound d e gs j)
 
-      clause_bound : (d e : ℕ) (c : Clause) → map_clause same_depth (moved_term m) (mapped_type m) e (map_clause suc (bind_term rs home) same_type d c) ≡ map_clause suc (bind_term rs (home + n)) same_type d (map_clause same_depth (moved_term m) (mapped_type m) e c)
+      clause_bound : (d e : ℕ) (c : Clause) → map_clause same_depth (moved_term m) (mapped_type m) e
+          (map_clause suc (bind_term rs home) same_type d c) ≡ map_clause suc (bind_term rs (home + n)) same_type d
+          (map_clause same_depth (moved_term m) (mapped_type m) e c)
       clause_bound d e (clause k vs h b) =
           let deep = under_all suc vs d in
           let inside = under_mapped same_depth same_type vs e in
           let outside = under_mapped suc (mapped_type m) vs d in
           λ j. clause k (types_moved vs j) ((bind_moved rs home deep h ∙ ap (λ x. bind_term rs (home + n) x (mapped m h)) (sym outside)) j)
-          ((ap (λ x. moved_goals m x (map_goals suc (bind_term rs home) same_type deep b)) inside ∙ goals_bound deep (under_all same_depth vs e) b ∙ ap (λ x. map_goals suc (bind_term rs (home + n)) same_type x (moved_goals m (under_all same_depth vs e) b)) (sym outside)) j)
+          ((ap (λ x. moved_goals m x (map_goals suc (bind_term rs home) same_type deep b)) inside ∙ goals_bound deep (under_all same_depth vs e) b ∙
+          ap (λ x. map_goals suc (bind_term rs (home + n)) same_type x (moved_goals m (under_all same_depth vs e) b)) (sym outside)) j)
 
       clauses_bound : (d e : ℕ) (cs : Clauses) → moved_clauses m e (map_clauses suc (bind_term rs home) same_type d cs) ≡ map_clauses suc (bind_term rs (home + n)) same_type d (moved_clauses m e cs)
       clauses_bound d e no_clauses = refl

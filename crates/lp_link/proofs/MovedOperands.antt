@@ -57,7 +57,17 @@ operands_same m n (on.PutIndex d i t) j e = same n (on.PutIndex d i t) j e refl
 operands_same m n (on.PutAbs d b t) j e = same n (on.PutAbs d b t) j e refl
 operands_same m n (on.PutApp d x rs) j (us, e, y) =
     subst (λ j. SameOperands n (on.PutApp d x rs) j) (sym e)
-    (record { reads_types = refl; reads_terms = ap (λ l. x ∷ l) y; sets_type = refl; sets_term = refl; makes = refl; makes_type = refl; alone = refl; long = ap (λ l. 6 + 2 * length l) y; names = refl })
+    (record {
+      reads_types = refl;
+      reads_terms = ap (λ l. x ∷ l) y;
+      sets_type = refl;
+      sets_term = refl;
+      makes = refl;
+      makes_type = refl;
+      alone = refl;
+      long = ap (λ l. 6 + 2 * length l) y;
+      names = refl;
+    })
 operands_same m n (on.GetType i t) j e = same n (on.GetType i t) j e refl
 operands_same m n (on.GetVar i d) j e = same n (on.GetVar i d) j e refl
 operands_same m n (on.Get i r) j e = same n (on.Get i r) j e refl
@@ -85,7 +95,18 @@ operands_same m n (on.All d t) j e = same n (on.All d t) j e refl
 operands_same m n on.EndAll j e = same n on.EndAll j e refl
 operands_same m n (on.Assume ns ts rs) j (ms, us, vs, e, w, x, y) =
     subst (λ j. SameOperands n (on.Assume ns ts rs) j) (sym e)
-    (record { reads_types = x; reads_terms = y; sets_type = refl; sets_term = refl; makes = refl; makes_type = refl; alone = refl; long = (λ j. 7 + 2 * length (x j) + 2 * length (y j) + 4 * length (w j)) ∙ ap (λ l. 7 + 2 * length ts.items + 2 * length rs.items + 4 * l) (length-map ns.items (λ r. n + r)); names = w })
+    (record {
+      reads_types = x;
+      reads_terms = y;
+      sets_type = refl;
+      sets_term = refl;
+      makes = refl;
+      makes_type = refl;
+      alone = refl;
+      long = (λ j. 7 + 2 * length (x j) + 2 * length (y j) + 4 * length (w j)) ∙ ap (λ l. 7 + 2 * length ts.items + 2 * length rs.items + 4 * l)
+          (length-map ns.items (λ r. n + r));
+      names = w;
+    })
 operands_same m n on.EndAssume j e = same n on.EndAssume j e refl
 operands_same m n (on.Either k) j e = same n (on.Either k) j e refl
 operands_same m n (on.Jump k) j e = same n (on.Jump k) j e refl

@@ -1,9 +1,9 @@
 -- What a record breaks as a whole it breaks nowhere where it is moved.
-use Rattle.std.proofs.Common.{◌≡◌, ◌∙◌, ◌+◌, ℕ, ℤ, zero, suc, List, [], ◌∷◌, map, Bool, true, false, Option, Some, None, ap, refl, sym, arith}
-use Rattle.std.specs.Prelude.{option_map, if◌then◌else◌, not, nat_eq, nat_lt, nat_le, ◌&&◌, ◌||◌, is_some, is_none, slice_get, int_le}
+use Rattle.std.proofs.Common.{◌≡◌, ◌∙◌, ◌+◌, ℕ, ℤ, zero, suc, List, [], ◌∷◌, Bool, true, false, Option, Some, None, ap, refl, sym, arith}
+use Rattle.std.specs.Prelude.{option_map, if◌then◌else◌, not, nat_eq, nat_lt, ◌&&◌, ◌||◌, is_some, is_none, slice_get, int_le}
 use Rattle.std.specs.Str.{bytes_eq}
-use Rattle.std.proofs.lemmas.Bool.{not-false, eqb-true, leb-true, leb-false, lt-ltb, le-ltb, ltb-true, ltb-false, le-leb, lt-leb}
-use Rattle.lp_lemmas.proofs.Booleans.{and_true_left, and_true_right, or_false_left, or_false_right}
+use Rattle.std.proofs.lemmas.Bool.{not-false, eqb-true, leb-true, le-ltb, ltb-false, le-leb}
+use Rattle.lp_lemmas.proofs.Booleans.{and_true_left, and_true_right}
 use Rattle.lp_lemmas.proofs.Numbers.{nat_eq_self}
 use Rattle.lp_calculus.specs.Types.{Ty, con, arrow, var, param as type_param}
 use Rattle.lp_calculus.specs.Term.{Term, Atom, index, atom, abs, app, constant, integer, text, eigen, logic, param}
@@ -26,7 +26,7 @@ use Rattle.lp_code.specs.Symbolic.{Built, term_in}
 use Rattle.lp_code.specs.States.{State, Home, member}
 use Rattle.lp_code.specs.Rules.{named_before}
 use Rattle.lp_code.specs.Denote.{is_named, has_neck, ends_with_proceed, is_set_by_all, sets_by_all, is_all_variable, heads, is_known_head, head_passes, key_is, with_key, keys_behind, first_key, has_right_key, broken_by_record}
-use Rattle.lp_link.specs.inner.Renumbering.{moving, moved_scheme, moved_built, moved_state, moved_head, moved_key, IsMoved, AllMoved, IsMovedRecord, IsMovedHome, KeepsStandard}
+use Rattle.lp_link.specs.inner.Renumbering.{moving, moved_scheme, moved_state, moved_head, moved_key, IsMoved, AllMoved, IsMovedHome, KeepsStandard}
 use Rattle.lp_link.proofs.MovedRules.{is_none_mapped, is_some_mapped}
 use Rattle.lp_link.proofs.MovedEffects.{term_same}
 
@@ -231,39 +231,66 @@ module _ (f g : ℕ → ℕ) (n : ℕ) where
 
   key_behind : (old new : Keys) → AreMovedKeys old new → (i j : Instr) (is js : List Instr) → IsMoved m n i j
       → ((old new : Keys) → AreMovedKeys old new → first_key new js ≡ option_map (moved_at g) (first_key old is)) → first_key new (j ∷ js) ≡ option_map (moved_at g) (first_key old (i ∷ is))
-  key_behind old new h (on.TyCon d k ts) j is js (us, e, x) go = ap (λ j. first_key new (j ∷ js)) e ∙ go (keys_behind old (on.TyCon d k ts)) (keys_behind new (on.TyCon d (m.kinds k) us)) (keys_moved old new h (on.TyCon d k ts) (on.TyCon d (m.kinds k) us) (us, refl, x))
-  key_behind old new h (on.TyArr d a b) j is js e go = ap (λ j. first_key new (j ∷ js)) e ∙ go (keys_behind old (on.TyArr d a b)) (keys_behind new (on.TyArr d a b)) (keys_moved old new h (on.TyArr d a b) (on.TyArr d a b) refl)
-  key_behind old new h (on.TyNew d) j is js e go = ap (λ j. first_key new (j ∷ js)) e ∙ go (keys_behind old (on.TyNew d)) (keys_behind new (on.TyNew d)) (keys_moved old new h (on.TyNew d) (on.TyNew d) refl)
-  key_behind old new h (on.New d t) j is js e go = ap (λ j. first_key new (j ∷ js)) e ∙ go (keys_behind old (on.New d t)) (keys_behind new (on.New d t)) (keys_moved old new h (on.New d t) (on.New d t) refl)
-  key_behind old new h (on.PutConst d c ts) j is js (us, e, x) go = ap (λ j. first_key new (j ∷ js)) e ∙ go (keys_behind old (on.PutConst d c ts)) (keys_behind new (on.PutConst d (m.constants c) us)) (keys_moved old new h (on.PutConst d c ts) (on.PutConst d (m.constants c) us) (us, refl, x))
-  key_behind old new h (on.PutInt d z) j is js e go = ap (λ j. first_key new (j ∷ js)) e ∙ go (keys_behind old (on.PutInt d z)) (keys_behind new (on.PutInt d z)) (keys_moved old new h (on.PutInt d z) (on.PutInt d z) refl)
-  key_behind old new h (on.PutStr d b) j is js (us, e, x) go = ap (λ j. first_key new (j ∷ js)) e ∙ go (keys_behind old (on.PutStr d b)) (keys_behind new (on.PutStr d us)) (keys_moved old new h (on.PutStr d b) (on.PutStr d us) (us, refl, x))
-  key_behind old new h (on.PutIndex d i t) j is js e go = ap (λ j. first_key new (j ∷ js)) e ∙ go (keys_behind old (on.PutIndex d i t)) (keys_behind new (on.PutIndex d i t)) (keys_moved old new h (on.PutIndex d i t) (on.PutIndex d i t) refl)
-  key_behind old new h (on.PutAbs d b t) j is js e go = ap (λ j. first_key new (j ∷ js)) e ∙ go (keys_behind old (on.PutAbs d b t)) (keys_behind new (on.PutAbs d b t)) (keys_moved old new h (on.PutAbs d b t) (on.PutAbs d b t) refl)
-  key_behind old new h (on.PutApp d x rs) j is js (us, e, y) go = ap (λ j. first_key new (j ∷ js)) e ∙ go (keys_behind old (on.PutApp d x rs)) (keys_behind new (on.PutApp d x us)) (keys_moved old new h (on.PutApp d x rs) (on.PutApp d x us) (us, refl, y))
-  key_behind old new h (on.GetType i t) j is js e go = ap (λ j. first_key new (j ∷ js)) e ∙ go (keys_behind old (on.GetType i t)) (keys_behind new (on.GetType i t)) (keys_moved old new h (on.GetType i t) (on.GetType i t) refl)
+  key_behind old new h (on.TyCon d k ts) j is js (us, e, x) go = ap (λ j. first_key new (j ∷ js)) e ∙ go (keys_behind old (on.TyCon d k ts))
+      (keys_behind new (on.TyCon d (m.kinds k) us)) (keys_moved old new h (on.TyCon d k ts) (on.TyCon d (m.kinds k) us) (us, refl, x))
+  key_behind old new h (on.TyArr d a b) j is js e go = ap (λ j. first_key new (j ∷ js)) e ∙ go (keys_behind old (on.TyArr d a b))
+      (keys_behind new (on.TyArr d a b)) (keys_moved old new h (on.TyArr d a b) (on.TyArr d a b) refl)
+  key_behind old new h (on.TyNew d) j is js e go = ap (λ j. first_key new (j ∷ js)) e ∙ go (keys_behind old (on.TyNew d))
+      (keys_behind new (on.TyNew d)) (keys_moved old new h (on.TyNew d) (on.TyNew d) refl)
+  key_behind old new h (on.New d t) j is js e go = ap (λ j. first_key new (j ∷ js)) e ∙ go (keys_behind old (on.New d t))
+      (keys_behind new (on.New d t)) (keys_moved old new h (on.New d t) (on.New d t) refl)
+  key_behind old new h (on.PutConst d c ts) j is js (us, e, x) go = ap (λ j. first_key new (j ∷ js)) e ∙ go (keys_behind old (on.PutConst d c ts))
+      (keys_behind new (on.PutConst d (m.constants c) us)) (keys_moved old new h (on.PutConst d c ts) (on.PutConst d (m.constants c) us)
+      (us, refl, x))
+  key_behind old new h (on.PutInt d z) j is js e go = ap (λ j. first_key new (j ∷ js)) e ∙ go (keys_behind old (on.PutInt d z))
+      (keys_behind new (on.PutInt d z)) (keys_moved old new h (on.PutInt d z) (on.PutInt d z) refl)
+  key_behind old new h (on.PutStr d b) j is js (us, e, x) go = ap (λ j. first_key new (j ∷ js)) e ∙ go (keys_behind old (on.PutStr d b))
+      (keys_behind new (on.PutStr d us)) (keys_moved old new h (on.PutStr d b) (on.PutStr d us) (us, refl, x))
+  key_behind old new h (on.PutIndex d i t) j is js e go = ap (λ j. first_key new (j ∷ js)) e ∙ go (keys_behind old (on.PutIndex d i t))
+      (keys_behind new (on.PutIndex d i t)) (keys_moved old new h (on.PutIndex d i t) (on.PutIndex d i t) refl)
+  key_behind old new h (on.PutAbs d b t) j is js e go = ap (λ j. first_key new (j ∷ js)) e ∙ go (keys_behind old (on.PutAbs d b t))
+      (keys_behind new (on.PutAbs d b t)) (keys_moved old new h (on.PutAbs d b t) (on.PutAbs d b t) refl)
+  key_behind old new h (on.PutApp d x rs) j is js (us, e, y) go = ap (λ j. first_key new (j ∷ js)) e ∙ go (keys_behind old (on.PutApp d x rs))
+      (keys_behind new (on.PutApp d x us)) (keys_moved old new h (on.PutApp d x rs) (on.PutApp d x us) (us, refl, y))
+  key_behind old new h (on.GetType i t) j is js e go = ap (λ j. first_key new (j ∷ js)) e ∙ go (keys_behind old (on.GetType i t))
+      (keys_behind new (on.GetType i t)) (keys_moved old new h (on.GetType i t) (on.GetType i t) refl)
   key_behind old new h (on.GetVar i d) j is js e go = ap (λ j. first_key new (j ∷ js)) e
   key_behind old new h (on.Get i r) j is js e go = ap (λ j. first_key new (j ∷ js)) e ∙ h r
   key_behind old new h (on.GetConst i c ts) j is js (us, e, x) go = ap (λ j. first_key new (j ∷ js)) e
   key_behind old new h (on.GetInt i z) j is js e go = ap (λ j. first_key new (j ∷ js)) e
   key_behind old new h (on.GetStr i b) j is js (us, e, x) go = ap (λ j. first_key new (j ∷ js)) e ∙ ap (λ l. Some (text l)) x
   key_behind old new h on.Neck j is js e go = ap (λ j. first_key new (j ∷ js)) e
-  key_behind old new h (on.Call c ts rs) j is js (us, vs, e, x, y) go = ap (λ j. first_key new (j ∷ js)) e ∙ go (keys_behind old (on.Call c ts rs)) (keys_behind new (on.Call (m.constants c) us vs)) (keys_moved old new h (on.Call c ts rs) (on.Call (m.constants c) us vs) (us, vs, refl, x, y))
-  key_behind old new h (on.CallTerm r) j is js e go = ap (λ j. first_key new (j ∷ js)) e ∙ go (keys_behind old (on.CallTerm r)) (keys_behind new (on.CallTerm r)) (keys_moved old new h (on.CallTerm r) (on.CallTerm r) refl)
-  key_behind old new h (on.Equal t l r) j is js e go = ap (λ j. first_key new (j ∷ js)) e ∙ go (keys_behind old (on.Equal t l r)) (keys_behind new (on.Equal t l r)) (keys_moved old new h (on.Equal t l r) (on.Equal t l r) refl)
-  key_behind old new h (on.Is t l r) j is js e go = ap (λ j. first_key new (j ∷ js)) e ∙ go (keys_behind old (on.Is t l r)) (keys_behind new (on.Is t l r)) (keys_moved old new h (on.Is t l r) (on.Is t l r) refl)
-  key_behind old new h (on.Less l r) j is js e go = ap (λ j. first_key new (j ∷ js)) e ∙ go (keys_behind old (on.Less l r)) (keys_behind new (on.Less l r)) (keys_moved old new h (on.Less l r) (on.Less l r) refl)
-  key_behind old new h (on.Greater l r) j is js e go = ap (λ j. first_key new (j ∷ js)) e ∙ go (keys_behind old (on.Greater l r)) (keys_behind new (on.Greater l r)) (keys_moved old new h (on.Greater l r) (on.Greater l r) refl)
-  key_behind old new h (on.AtMost l r) j is js e go = ap (λ j. first_key new (j ∷ js)) e ∙ go (keys_behind old (on.AtMost l r)) (keys_behind new (on.AtMost l r)) (keys_moved old new h (on.AtMost l r) (on.AtMost l r) refl)
-  key_behind old new h (on.AtLeast l r) j is js e go = ap (λ j. first_key new (j ∷ js)) e ∙ go (keys_behind old (on.AtLeast l r)) (keys_behind new (on.AtLeast l r)) (keys_moved old new h (on.AtLeast l r) (on.AtLeast l r) refl)
+  key_behind old new h (on.Call c ts rs) j is js (us, vs, e, x, y) go = ap (λ j. first_key new (j ∷ js)) e ∙ go (keys_behind old (on.Call c ts rs))
+      (keys_behind new (on.Call (m.constants c) us vs)) (keys_moved old new h (on.Call c ts rs) (on.Call (m.constants c) us vs) (us, vs, refl, x, y))
+  key_behind old new h (on.CallTerm r) j is js e go = ap (λ j. first_key new (j ∷ js)) e ∙ go (keys_behind old (on.CallTerm r))
+      (keys_behind new (on.CallTerm r)) (keys_moved old new h (on.CallTerm r) (on.CallTerm r) refl)
+  key_behind old new h (on.Equal t l r) j is js e go = ap (λ j. first_key new (j ∷ js)) e ∙ go (keys_behind old (on.Equal t l r))
+      (keys_behind new (on.Equal t l r)) (keys_moved old new h (on.Equal t l r) (on.Equal t l r) refl)
+  key_behind old new h (on.Is t l r) j is js e go = ap (λ j. first_key new (j ∷ js)) e ∙ go (keys_behind old (on.Is t l r))
+      (keys_behind new (on.Is t l r)) (keys_moved old new h (on.Is t l r) (on.Is t l r) refl)
+  key_behind old new h (on.Less l r) j is js e go = ap (λ j. first_key new (j ∷ js)) e ∙ go (keys_behind old (on.Less l r))
+      (keys_behind new (on.Less l r)) (keys_moved old new h (on.Less l r) (on.Less l r) refl)
+  key_behind old new h (on.Greater l r) j is js e go = ap (λ j. first_key new (j ∷ js)) e ∙ go (keys_behind old (on.Greater l r))
+      (keys_behind new (on.Greater l r)) (keys_moved old new h (on.Greater l r) (on.Greater l r) refl)
+  key_behind old new h (on.AtMost l r) j is js e go = ap (λ j. first_key new (j ∷ js)) e ∙ go (keys_behind old (on.AtMost l r))
+      (keys_behind new (on.AtMost l r)) (keys_moved old new h (on.AtMost l r) (on.AtMost l r) refl)
+  key_behind old new h (on.AtLeast l r) j is js e go = ap (λ j. first_key new (j ∷ js)) e ∙ go (keys_behind old (on.AtLeast l r))
+      (keys_behind new (on.AtLeast l r)) (keys_moved old new h (on.AtLeast l r) (on.AtLeast l r) refl)
   key_behind old new h on.Cut j is js e go = ap (λ j. first_key new (j ∷ js)) e ∙ go (keys_behind old on.Cut) (keys_behind new on.Cut) (keys_moved old new h on.Cut on.Cut refl)
-  key_behind old new h (on.Sigma d t) j is js e go = ap (λ j. first_key new (j ∷ js)) e ∙ go (keys_behind old (on.Sigma d t)) (keys_behind new (on.Sigma d t)) (keys_moved old new h (on.Sigma d t) (on.Sigma d t) refl)
-  key_behind old new h (on.All d t) j is js e go = ap (λ j. first_key new (j ∷ js)) e ∙ go (keys_behind old (on.All d t)) (keys_behind new (on.All d t)) (keys_moved old new h (on.All d t) (on.All d t) refl)
+  key_behind old new h (on.Sigma d t) j is js e go = ap (λ j. first_key new (j ∷ js)) e ∙ go (keys_behind old (on.Sigma d t))
+      (keys_behind new (on.Sigma d t)) (keys_moved old new h (on.Sigma d t) (on.Sigma d t) refl)
+  key_behind old new h (on.All d t) j is js e go = ap (λ j. first_key new (j ∷ js)) e ∙ go (keys_behind old (on.All d t))
+      (keys_behind new (on.All d t)) (keys_moved old new h (on.All d t) (on.All d t) refl)
   key_behind old new h on.EndAll j is js e go = ap (λ j. first_key new (j ∷ js)) e ∙ go (keys_behind old on.EndAll) (keys_behind new on.EndAll) (keys_moved old new h on.EndAll on.EndAll refl)
-  key_behind old new h (on.Assume ns ts rs) j is js (ms, us, vs, e, w, x, y) go = ap (λ j. first_key new (j ∷ js)) e ∙ go (keys_behind old (on.Assume ns ts rs)) (keys_behind new (on.Assume ms us vs)) (keys_moved old new h (on.Assume ns ts rs) (on.Assume ms us vs) (ms, us, vs, refl, w, x, y))
-  key_behind old new h on.EndAssume j is js e go = ap (λ j. first_key new (j ∷ js)) e ∙ go (keys_behind old on.EndAssume) (keys_behind new on.EndAssume) (keys_moved old new h on.EndAssume on.EndAssume refl)
-  key_behind old new h (on.Either k) j is js e go = ap (λ j. first_key new (j ∷ js)) e ∙ go (keys_behind old (on.Either k)) (keys_behind new (on.Either k)) (keys_moved old new h (on.Either k) (on.Either k) refl)
-  key_behind old new h (on.Jump k) j is js e go = ap (λ j. first_key new (j ∷ js)) e ∙ go (keys_behind old (on.Jump k)) (keys_behind new (on.Jump k)) (keys_moved old new h (on.Jump k) (on.Jump k) refl)
+  key_behind old new h (on.Assume ns ts rs) j is js (ms, us, vs, e, w, x, y) go = ap (λ j. first_key new (j ∷ js)) e ∙ go
+      (keys_behind old (on.Assume ns ts rs)) (keys_behind new (on.Assume ms us vs))
+      (keys_moved old new h (on.Assume ns ts rs) (on.Assume ms us vs) (ms, us, vs, refl, w, x, y))
+  key_behind old new h on.EndAssume j is js e go = ap (λ j. first_key new (j ∷ js)) e ∙ go (keys_behind old on.EndAssume)
+      (keys_behind new on.EndAssume) (keys_moved old new h on.EndAssume on.EndAssume refl)
+  key_behind old new h (on.Either k) j is js e go = ap (λ j. first_key new (j ∷ js)) e ∙ go (keys_behind old (on.Either k))
+      (keys_behind new (on.Either k)) (keys_moved old new h (on.Either k) (on.Either k) refl)
+  key_behind old new h (on.Jump k) j is js e go = ap (λ j. first_key new (j ∷ js)) e ∙ go (keys_behind old (on.Jump k)) (keys_behind new (on.Jump k))
+      (keys_moved old new h (on.Jump k) (on.Jump k) refl)
   key_behind old new h on.Proceed j is js e go = ap (λ j. first_key new (j ∷ js)) e ∙ go (keys_behind old on.Proceed) (keys_behind new on.Proceed) (keys_moved old new h on.Proceed on.Proceed refl)
   key_behind old new h on.Not j is js e go = ap (λ j. first_key new (j ∷ js)) e ∙ go (keys_behind old on.Not) (keys_behind new on.Not) (keys_moved old new h on.Not on.Not refl)
   key_behind old new h on.EndNot j is js e go = ap (λ j. first_key new (j ∷ js)) e ∙ go (keys_behind old on.EndNot) (keys_behind new on.EndNot) (keys_moved old new h on.EndNot on.EndNot refl)
@@ -403,7 +430,8 @@ module _ (f g : ℕ → ℕ) (n : ℕ) (keeps : KeepsStandard f g) (old new : Ho
       && (ap (λ (b : Built). is_all_variable new.records b.term) there ∙ variable_kept (term_in s.now r).term (and_true_right first second both)) z
       && (ap (λ (b : Built). ends_in_o b.type) there ∙ o_kept f g n (keeps.kinds 0 refl) (term_in s.now r).type (and_true_right (first && second) third e)) z
 
-  passes_kept : (t u : RecordHead → Bool) → ((p : RecordHead) → t p ≡ true → u (moved_head numbers p) ≡ true) → (o : Option RecordHead) → head_passes t o ≡ true → head_passes u (option_map (moved_head numbers) o) ≡ true
+  passes_kept : (t u : RecordHead → Bool) → ((p : RecordHead) → t p ≡ true → u (moved_head numbers p) ≡ true) → (o : Option RecordHead) → head_passes
+      t o ≡ true → head_passes u (option_map (moved_head numbers) o) ≡ true
   passes_kept t u h None e = refl
   passes_kept t u h (Some p) e = h p e
 
@@ -416,7 +444,8 @@ module _ (f g : ℕ → ℕ) (n : ℕ) (keeps : KeepsStandard f g) (old new : Ho
 
   right_key_kept : has_right_key old ≡ true → has_right_key new ≡ true
   right_key_kept e =
-      (λ z. (ap is_none along.self.head ∙ is_none_mapped (moved_head numbers) old.self.head) z || (if along.self.program z then key_is new.self.key (first_key (λ r. None) new.self.code.items) else key_is new.self.key None))
+      (λ z. (ap is_none along.self.head ∙ is_none_mapped (moved_head numbers) old.self.head) z ||
+      (if along.self.program z then key_is new.self.key (first_key (λ r. None) new.self.code.items) else key_is new.self.key None))
       ∙ by (is_none old.self.head) old.self.program e
     where
       by : (a p : Bool) → (a || (if p then key_is old.self.key (first_key (λ r. None) old.self.code.items) else key_is old.self.key None)) ≡ true
@@ -427,7 +456,8 @@ module _ (f g : ℕ → ℕ) (n : ℕ) (keeps : KeepsStandard f g) (old new : Ho
           ∙ key_kept f g n old.self.key new.self.key along.self.key (first_key (λ r. None) old.self.code.items) e
       by false false e = key_kept f g n old.self.key new.self.key along.self.key None e
 
-  clause_same : (if new.self.program then not (nat_eq (new.self.captured_types + new.self.captured) 0) else not (is_named new)) ≡ (if old.self.program then not (nat_eq (old.self.captured_types + old.self.captured) 0) else not (is_named old))
+  clause_same : (if new.self.program then not (nat_eq (new.self.captured_types + new.self.captured) 0) else not (is_named new)) ≡
+      (if old.self.program then not (nat_eq (old.self.captured_types + old.self.captured) 0) else not (is_named old))
   clause_same = λ z. if along.self.program z then not (nat_eq (along.self.captured_types z + along.self.captured z) 0) else not (named_same f g n keeps old new along z)
 
   pub whole_kept : (r : Rule) → broken_by_record old s r ≡ false → broken_by_record new rest r ≡ false

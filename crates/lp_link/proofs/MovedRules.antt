@@ -1,32 +1,23 @@
 -- A moved instruction breaks no rule where the instruction broke none.
-use Rattle.std.proofs.Common.{◌≡◌, ◌∙◌, ◌+◌, ◌-◌, ◌<◌, ℕ, zero, suc, List, [], ◌∷◌, ◌++◌, map, length, Bool, true, false, Option, Some, None, ap, refl, sym, arith}
-use Rattle.std.specs.Prelude.{option_map, if◌then◌else◌, not, nat_eq, nat_lt, nat_le, ◌&&◌, ◌||◌, is_some, is_none, slice_get}
-use Rattle.std.specs.List.{list_any, list_all}
-use Rattle.std.proofs.lemmas.Bool.{not-false, ltb-true, ltb-false, lt-ltb, le-ltb, ne_eqb}
-use Rattle.std.proofs.lemmas.List.{length-map}
-use Rattle.lp_lemmas.proofs.Booleans.{and_true_left, and_true_right, or_false_left, or_false_right, or_assoc}
-use Rattle.lp_calculus.specs.Types.{Ty, no_types, con}
-use Rattle.lp_calculus.specs.Term.{Term, Atom, index, atom, abs, app, constant, integer, text, eigen, logic, param}
-use Rattle.lp_calculus.specs.Typing.{Scheme, o_type, int_type, string_type}
+use Rattle.std.proofs.Common.{◌≡◌, ◌∙◌, ◌+◌, ◌-◌, ◌<◌, ℕ, List, [], ◌∷◌, map, Bool, true, false, Option, Some, None, ap, refl, sym, arith}
+use Rattle.std.specs.Prelude.{option_map, if◌then◌else◌, nat_eq, nat_lt, nat_le, ◌&&◌, ◌||◌, is_some, is_none}
+use Rattle.std.specs.List.{list_any}
+use Rattle.std.proofs.lemmas.Bool.{ltb-false, ne_eqb}
+use Rattle.lp_lemmas.proofs.Booleans.{and_true_left, and_true_right}
+use Rattle.lp_calculus.specs.Types.{Ty}
+use Rattle.lp_calculus.specs.Term.{Term, index, atom, abs, app, constant, integer, text, eigen, logic, param}
+use Rattle.lp_calculus.specs.Typing.{Scheme}
 use Rattle.lp_term.specs.Mapped.{Map, mapped, mapped_type}
 use Rattle.lp_code.specs.declared.instruction.Instr.{Instr}
 use Rattle.lp_code.specs.declared.instruction.Instr.TheVariants as on
-use Rattle.lp_code.specs.declared.record.Record.{Record}
-use Rattle.lp_code.specs.declared.record.RecordHead.{RecordHead}
-use Rattle.lp_code.specs.declared.record.RecordHead.TheVariants.{Const, Register}
 use Rattle.lp_code.specs.Length.{length_of}
-use Rattle.lp_code.specs.Operands.{types_read, terms_read, type_set, term_set}
-use Rattle.lp_code.specs.Symbolic.{Built, held, type_in, types_in, term_in, terms_in, whole, equal_types, applied_type, argument_type, result_type, agree_at, agree, joined, all_agree, is_closed, innermost}
-use Rattle.lp_code.specs.States.{Block, under_sigma, under_all, under_assumption, under_not, left_side, right_side, Frame, Captured, State, Home, member, innermost_block, depth}
-use Rattle.lp_code.specs.Steps.{constant_of, own_variables, head_built}
-use Rattle.lp_code.specs.Rules.{nesting_limit, breaks_register, breaks_unset, breaks_set, breaks_constant, breaks_type, breaks_index, breaks_term, breaks_order, breaks_head, breaks_block, breaks_clause, has_count, is_count, has_type, built_types, applies, is_argument, have_type, stands_alone, is_no_term, out_of_turn, has_none, scheme_count, count_of, head_count, is_variable_of, stands_in, is_new_variable, ends_with_jump, begins_behind, is_left_end, ends_block, side_is_passed, is_passed, is_too_deep, breaks_nesting, starts_with_as_many, is_assumed_record, named_before, are_fine_names}
-use Rattle.lp_link.specs.inner.Renumbering.{moving, moved_scheme, moved_loose, moved_built, moved_registers, moved_block, moved_frame, moved_captured, moved_state, moved_head, IsMoved, AllMoved, IsMovedRecord, IsMovedHome, KeepsStandard, AreMoved}
-use Rattle.lp_link.proofs.MovedTerms.{equal_moved, applied_moved, agree_at_moved, agree_moved, joined_moved, closed_moved, innermost_moved as innermost_loose_moved, result_moved}
+use Rattle.lp_code.specs.Symbolic.{Built, applied_type, agree_at, agree, joined, all_agree, innermost}
+use Rattle.lp_code.specs.States.{Block, under_sigma, under_all, under_assumption, under_not, left_side, right_side}
+use Rattle.lp_code.specs.Rules.{has_count, has_type, built_types, applies, is_no_term, has_none, scheme_count, is_variable_of, stands_in, ends_with_jump, begins_behind, is_left_end, ends_block, side_is_passed}
+use Rattle.lp_link.specs.inner.Renumbering.{moving, moved_scheme, moved_loose, moved_built, moved_block, IsMoved, AllMoved, KeepsStandard}
+use Rattle.lp_link.proofs.MovedTerms.{equal_moved, applied_moved, agree_at_moved, agree_moved, joined_moved, innermost_moved as innermost_loose_moved}
 use Rattle.lp_link.proofs.MovedGoals.{same_home}
-use Rattle.lp_link.proofs.MovedStates.{held_moved, depth_moved, innermost_moved}
-use Rattle.lp_link.proofs.MovedSteps.{argument_left, same_o}
-use Rattle.lp_link.proofs.MovedOperands.{SameOperands, operands_same}
-use Rattle.lp_link.proofs.MovedEffects.{own_variables_same, head_moved, type_same, types_same, term_same, terms_same, constant_same, same_int, same_string}
+use Rattle.lp_link.proofs.MovedOperands.{operands_same}
 
 pub any_mapped : {A B : Type 0} (p : B → Bool) (q : A → Bool) (h : A → B) → ((x : A) → p (h x) ≡ q x) → (xs : List A) → list_any p (map h xs) ≡ list_any q xs
 any_mapped p q h e [] = refl
@@ -86,7 +77,9 @@ module _ (m : Map) where
   applies_kept x [] e = absurd (let z : false ≡ true = e in cc)
   applies_kept x (b ∷ bs) e =
       (λ j. is_some (applied_type (mapped_type m x.type) (built_types_moved (b ∷ bs) j)) && all_agree (moved_loose m x.loose) (map (moved_built m) (b ∷ bs)))
-      ∙ (λ j. some_applied x.type (built_types (b ∷ bs)) (and_true_left (is_some (applied_type x.type (built_types (b ∷ bs)))) (all_agree x.loose (b ∷ bs)) e) j && all_agree_kept x.loose (b ∷ bs) (and_true_right (is_some (applied_type x.type (built_types (b ∷ bs)))) (all_agree x.loose (b ∷ bs)) e) j)
+      ∙ (λ j. some_applied x.type (built_types (b ∷ bs)) (and_true_left (is_some (applied_type x.type (built_types (b ∷ bs))))
+      (all_agree x.loose (b ∷ bs)) e) j && all_agree_kept x.loose (b ∷ bs) (and_true_right (is_some (applied_type x.type (built_types (b ∷ bs))))
+      (all_agree x.loose (b ∷ bs)) e) j)
 
   pub loose_kept : (l : List (Option Ty)) (T : Ty) → agree_at (innermost l) (Some T) ≡ true → agree_at (innermost (moved_loose m l)) (Some (mapped_type m T)) ≡ true
   loose_kept l T e = ap (λ o. agree_at o (Some (mapped_type m T))) (innermost_loose_moved m l) ∙ agree_at_moved m (innermost l) (Some T) e
@@ -197,36 +190,44 @@ module _ (m : Map) (n : ℕ) where
   pub jump_behind : (k : ℕ) (i j : Instr) (is js : List Instr) → IsMoved m n i j → ((l : ℕ) → ends_with_jump l js ≡ ends_with_jump l is) → ends_with_jump k (j ∷ js) ≡ ends_with_jump k (i ∷ is)
   jump_behind k (on.TyCon d q ts) j is js (us, e, x) go =
       let same = operands_same m n (on.TyCon d q ts) (on.TyCon d (m.kinds q) us) (us, refl, x) in
-      ap (λ j. ends_with_jump k (j ∷ js)) e ∙ (λ z. if nat_le k (same.long z) then false else ends_with_jump (k - same.long z) js) ∙ ap (λ w. if nat_le k (length_of (on.TyCon d q ts)) then false else w) (go (k - length_of (on.TyCon d q ts)))
+      ap (λ j. ends_with_jump k (j ∷ js)) e ∙ (λ z. if nat_le k (same.long z) then false else ends_with_jump (k - same.long z) js) ∙ ap
+      (λ w. if nat_le k (length_of (on.TyCon d q ts)) then false else w) (go (k - length_of (on.TyCon d q ts)))
   jump_behind k (on.TyArr d a b) j is js e go = ap (λ j. ends_with_jump k (j ∷ js)) e ∙ ap (λ w. if nat_le k (length_of (on.TyArr d a b)) then false else w) (go (k - length_of (on.TyArr d a b)))
   jump_behind k (on.TyNew d) j is js e go = ap (λ j. ends_with_jump k (j ∷ js)) e ∙ ap (λ w. if nat_le k (length_of (on.TyNew d)) then false else w) (go (k - length_of (on.TyNew d)))
   jump_behind k (on.New d t) j is js e go = ap (λ j. ends_with_jump k (j ∷ js)) e ∙ ap (λ w. if nat_le k (length_of (on.New d t)) then false else w) (go (k - length_of (on.New d t)))
   jump_behind k (on.PutConst d c ts) j is js (us, e, x) go =
       let same = operands_same m n (on.PutConst d c ts) (on.PutConst d (m.constants c) us) (us, refl, x) in
-      ap (λ j. ends_with_jump k (j ∷ js)) e ∙ (λ z. if nat_le k (same.long z) then false else ends_with_jump (k - same.long z) js) ∙ ap (λ w. if nat_le k (length_of (on.PutConst d c ts)) then false else w) (go (k - length_of (on.PutConst d c ts)))
+      ap (λ j. ends_with_jump k (j ∷ js)) e ∙ (λ z. if nat_le k (same.long z) then false else ends_with_jump (k - same.long z) js) ∙ ap
+      (λ w. if nat_le k (length_of (on.PutConst d c ts)) then false else w) (go (k - length_of (on.PutConst d c ts)))
   jump_behind k (on.PutInt d z) j is js e go = ap (λ j. ends_with_jump k (j ∷ js)) e ∙ ap (λ w. if nat_le k (length_of (on.PutInt d z)) then false else w) (go (k - length_of (on.PutInt d z)))
   jump_behind k (on.PutStr d b) j is js (us, e, x) go =
       let same = operands_same m n (on.PutStr d b) (on.PutStr d us) (us, refl, x) in
-      ap (λ j. ends_with_jump k (j ∷ js)) e ∙ (λ z. if nat_le k (same.long z) then false else ends_with_jump (k - same.long z) js) ∙ ap (λ w. if nat_le k (length_of (on.PutStr d b)) then false else w) (go (k - length_of (on.PutStr d b)))
-  jump_behind k (on.PutIndex d i t) j is js e go = ap (λ j. ends_with_jump k (j ∷ js)) e ∙ ap (λ w. if nat_le k (length_of (on.PutIndex d i t)) then false else w) (go (k - length_of (on.PutIndex d i t)))
+      ap (λ j. ends_with_jump k (j ∷ js)) e ∙ (λ z. if nat_le k (same.long z) then false else ends_with_jump (k - same.long z) js) ∙ ap
+      (λ w. if nat_le k (length_of (on.PutStr d b)) then false else w) (go (k - length_of (on.PutStr d b)))
+  jump_behind k (on.PutIndex d i t) j is js e go = ap (λ j. ends_with_jump k (j ∷ js)) e ∙ ap
+      (λ w. if nat_le k (length_of (on.PutIndex d i t)) then false else w) (go (k - length_of (on.PutIndex d i t)))
   jump_behind k (on.PutAbs d b t) j is js e go = ap (λ j. ends_with_jump k (j ∷ js)) e ∙ ap (λ w. if nat_le k (length_of (on.PutAbs d b t)) then false else w) (go (k - length_of (on.PutAbs d b t)))
   jump_behind k (on.PutApp d x rs) j is js (us, e, y) go =
       let same = operands_same m n (on.PutApp d x rs) (on.PutApp d x us) (us, refl, y) in
-      ap (λ j. ends_with_jump k (j ∷ js)) e ∙ (λ z. if nat_le k (same.long z) then false else ends_with_jump (k - same.long z) js) ∙ ap (λ w. if nat_le k (length_of (on.PutApp d x rs)) then false else w) (go (k - length_of (on.PutApp d x rs)))
+      ap (λ j. ends_with_jump k (j ∷ js)) e ∙ (λ z. if nat_le k (same.long z) then false else ends_with_jump (k - same.long z) js) ∙ ap
+      (λ w. if nat_le k (length_of (on.PutApp d x rs)) then false else w) (go (k - length_of (on.PutApp d x rs)))
   jump_behind k (on.GetType i t) j is js e go = ap (λ j. ends_with_jump k (j ∷ js)) e ∙ ap (λ w. if nat_le k (length_of (on.GetType i t)) then false else w) (go (k - length_of (on.GetType i t)))
   jump_behind k (on.GetVar i d) j is js e go = ap (λ j. ends_with_jump k (j ∷ js)) e ∙ ap (λ w. if nat_le k (length_of (on.GetVar i d)) then false else w) (go (k - length_of (on.GetVar i d)))
   jump_behind k (on.Get i r) j is js e go = ap (λ j. ends_with_jump k (j ∷ js)) e ∙ ap (λ w. if nat_le k (length_of (on.Get i r)) then false else w) (go (k - length_of (on.Get i r)))
   jump_behind k (on.GetConst i c ts) j is js (us, e, x) go =
       let same = operands_same m n (on.GetConst i c ts) (on.GetConst i (m.constants c) us) (us, refl, x) in
-      ap (λ j. ends_with_jump k (j ∷ js)) e ∙ (λ z. if nat_le k (same.long z) then false else ends_with_jump (k - same.long z) js) ∙ ap (λ w. if nat_le k (length_of (on.GetConst i c ts)) then false else w) (go (k - length_of (on.GetConst i c ts)))
+      ap (λ j. ends_with_jump k (j ∷ js)) e ∙ (λ z. if nat_le k (same.long z) then false else ends_with_jump (k - same.long z) js) ∙ ap
+      (λ w. if nat_le k (length_of (on.GetConst i c ts)) then false else w) (go (k - length_of (on.GetConst i c ts)))
   jump_behind k (on.GetInt i z) j is js e go = ap (λ j. ends_with_jump k (j ∷ js)) e ∙ ap (λ w. if nat_le k (length_of (on.GetInt i z)) then false else w) (go (k - length_of (on.GetInt i z)))
   jump_behind k (on.GetStr i b) j is js (us, e, x) go =
       let same = operands_same m n (on.GetStr i b) (on.GetStr i us) (us, refl, x) in
-      ap (λ j. ends_with_jump k (j ∷ js)) e ∙ (λ z. if nat_le k (same.long z) then false else ends_with_jump (k - same.long z) js) ∙ ap (λ w. if nat_le k (length_of (on.GetStr i b)) then false else w) (go (k - length_of (on.GetStr i b)))
+      ap (λ j. ends_with_jump k (j ∷ js)) e ∙ (λ z. if nat_le k (same.long z) then false else ends_with_jump (k - same.long z) js) ∙ ap
+      (λ w. if nat_le k (length_of (on.GetStr i b)) then false else w) (go (k - length_of (on.GetStr i b)))
   jump_behind k on.Neck j is js e go = ap (λ j. ends_with_jump k (j ∷ js)) e ∙ ap (λ w. if nat_le k (length_of on.Neck) then false else w) (go (k - length_of on.Neck))
   jump_behind k (on.Call c ts rs) j is js (us, vs, e, x, y) go =
       let same = operands_same m n (on.Call c ts rs) (on.Call (m.constants c) us vs) (us, vs, refl, x, y) in
-      ap (λ j. ends_with_jump k (j ∷ js)) e ∙ (λ z. if nat_le k (same.long z) then false else ends_with_jump (k - same.long z) js) ∙ ap (λ w. if nat_le k (length_of (on.Call c ts rs)) then false else w) (go (k - length_of (on.Call c ts rs)))
+      ap (λ j. ends_with_jump k (j ∷ js)) e ∙ (λ z. if nat_le k (same.long z) then false else ends_with_jump (k - same.long z) js) ∙ ap
+      (λ w. if nat_le k (length_of (on.Call c ts rs)) then false else w) (go (k - length_of (on.Call c ts rs)))
   jump_behind k (on.CallTerm r) j is js e go = ap (λ j. ends_with_jump k (j ∷ js)) e ∙ ap (λ w. if nat_le k (length_of (on.CallTerm r)) then false else w) (go (k - length_of (on.CallTerm r)))
   jump_behind k (on.Equal t l r) j is js e go = ap (λ j. ends_with_jump k (j ∷ js)) e ∙ ap (λ w. if nat_le k (length_of (on.Equal t l r)) then false else w) (go (k - length_of (on.Equal t l r)))
   jump_behind k (on.Is t l r) j is js e go = ap (λ j. ends_with_jump k (j ∷ js)) e ∙ ap (λ w. if nat_le k (length_of (on.Is t l r)) then false else w) (go (k - length_of (on.Is t l r)))
@@ -240,7 +241,8 @@ module _ (m : Map) (n : ℕ) where
   jump_behind k on.EndAll j is js e go = ap (λ j. ends_with_jump k (j ∷ js)) e ∙ ap (λ w. if nat_le k (length_of on.EndAll) then false else w) (go (k - length_of on.EndAll))
   jump_behind k (on.Assume ns ts rs) j is js (ms, us, vs, e, w, x, y) go =
       let same = operands_same m n (on.Assume ns ts rs) (on.Assume ms us vs) (ms, us, vs, refl, w, x, y) in
-      ap (λ j. ends_with_jump k (j ∷ js)) e ∙ (λ z. if nat_le k (same.long z) then false else ends_with_jump (k - same.long z) js) ∙ ap (λ w. if nat_le k (length_of (on.Assume ns ts rs)) then false else w) (go (k - length_of (on.Assume ns ts rs)))
+      ap (λ j. ends_with_jump k (j ∷ js)) e ∙ (λ z. if nat_le k (same.long z) then false else ends_with_jump (k - same.long z) js) ∙ ap
+      (λ w. if nat_le k (length_of (on.Assume ns ts rs)) then false else w) (go (k - length_of (on.Assume ns ts rs)))
   jump_behind k on.EndAssume j is js e go = ap (λ j. ends_with_jump k (j ∷ js)) e ∙ ap (λ w. if nat_le k (length_of on.EndAssume) then false else w) (go (k - length_of on.EndAssume))
   jump_behind k (on.Either q) j is js e go = ap (λ j. ends_with_jump k (j ∷ js)) e ∙ ap (λ w. if nat_le k (length_of (on.Either q)) then false else w) (go (k - length_of (on.Either q)))
   jump_behind k (on.Jump q) j is js e go = ap (λ j. ends_with_jump k (j ∷ js)) e ∙ ap (λ w. if nat_eq k 5 then true else (if nat_lt k 5 then false else w)) (go (k - 5))

@@ -1,22 +1,20 @@
 -- A moved record runs as the record did, and denotes its clause moved.
-use Rattle.std.proofs.Common.{◌≡◌, ◌∙◌, ◌+◌, ℕ, zero, suc, List, [], ◌∷◌, ◌++◌, map, length, replicate, Bool, true, false, Option, Some, None, ap, refl, sym}
+use Rattle.std.proofs.Common.{◌≡◌, ◌∙◌, ℕ, zero, suc, List, [], ◌∷◌, map, length, Bool, true, false, Option, Some, None, ap, refl, sym}
 use Rattle.std.specs.Prelude.{option_map, if◌then◌else◌, nat_eq, ◌||◌}
 use Rattle.lp_lemmas.proofs.Booleans.{or_false_left, or_false_right}
-use Rattle.lp_calculus.specs.Types.{Ty}
-use Rattle.lp_calculus.specs.Term.{Term, apply}
+use Rattle.lp_calculus.specs.Term.{apply}
 use Rattle.lp_term.specs.Mapped.{Map, mapped, mapped_type}
 use Rattle.lp_model.specs.Flat.{Clause, Goals, clause}
 use Rattle.lp_code.specs.declared.instruction.Instr.{Instr}
-use Rattle.lp_code.specs.declared.record.Record.{Record}
 use Rattle.lp_code.specs.declared.rule.Rule.{Rule}
 use Rattle.lp_code.specs.declared.rule.Rule.TheVariants as rule
-use Rattle.lp_code.specs.Symbolic.{Built, term_in, plain_terms}
+use Rattle.lp_code.specs.Symbolic.{plain_terms}
 use Rattle.lp_code.specs.States.{Captured, State, Home, bind_term, bind_goals}
 use Rattle.lp_code.specs.Written.{written_goals}
-use Rattle.lp_code.specs.Steps.{Later, own_types, own_variables, head_built, after}
+use Rattle.lp_code.specs.Steps.{Later, own_variables, head_built, after}
 use Rattle.lp_code.specs.Rules.{breaks_type}
-use Rattle.lp_code.specs.Denote.{broken_by_record, broken_by, rules, first_broken, broken_of, Ran, Done, Broken, Void, unless_broken, run_on, run_of, run, from_zero, started, first_state, variable_types, head_term, clause_of, clause_ran, denoted}
-use Rattle.lp_link.specs.inner.Renumbering.{moving, moved_built, moved_registers, moved_goals, moved_captured, moved_state, IsMoved, AllMoved, IsMovedRecord, IsMovedHome, KeepsStandard}
+use Rattle.lp_code.specs.Denote.{broken_by_record, broken_by, rules, first_broken, broken_of, Ran, Done, Broken, Void, unless_broken, run_on, run, from_zero, started, first_state, variable_types, head_term, clause_of, clause_ran, denoted}
+use Rattle.lp_link.specs.inner.Renumbering.{moving, moved_built, moved_goals, moved_captured, moved_state, IsMoved, AllMoved, IsMovedRecord, IsMovedHome, KeepsStandard}
 use Rattle.lp_link.proofs.MovedTerms.{apply_moved}
 use Rattle.lp_link.proofs.MovedGoals.{bind_moved, goals_bound}
 use Rattle.lp_link.proofs.MovedStates.{plain_moved}
@@ -100,7 +98,8 @@ module _ (f g : ℕ → ℕ) (n : ℕ) (keeps : KeepsStandard f g) (old new : Ho
           → (if b then first_broken (both new (at_rest s) js j) rules else first_broken (broken_by new (at_rest s) js j) rules) ≡ None
       by true e =
           first_kept (both old s is i) (both new (at_rest s) js j)
-          (λ r. either_kept (broken_by_record old s r) (broken_by old s is i r) (broken_by_record new (at_rest s) r) (broken_by new (at_rest s) js j r) (whole_kept f g n keeps old new along s r) (by_kept s is js a i j x r)) rules e
+          (λ r. either_kept (broken_by_record old s r) (broken_by old s is i r) (broken_by_record new (at_rest s) r)
+          (broken_by new (at_rest s) js j r) (whole_kept f g n keeps old new along s r) (by_kept s is js a i j x r)) rules e
       by false e = first_kept (broken_by old s is i) (broken_by new (at_rest s) js j) (by_kept s is js a i j x) rules e
 
   types_right : (s : State) (is : List Instr) (i : Instr) → broken_of rules old s (i ∷ is) ≡ None → breaks_type old s i ≡ false
@@ -128,7 +127,9 @@ module _ (f g : ℕ → ℕ) (n : ℕ) (keeps : KeepsStandard f g) (old new : Ho
         right : broken_of rules old s (i ∷ is) ≡ None
         right = (unless_done (broken_of rules old s (i ∷ is)) s.place (run_on (λ u. run old later u is) (after old later s i)) t e).0
 
-        by : ((u : State) → run old later u is ≡ Done t → run new later_now (at_rest u) js ≡ Done (at_rest t)) → (o : Option State) → after old later s i ≡ o → run_on (λ u. run old later u is) o ≡ Done t → run_on (λ u. run new later_now u js) (after new later_now (at_rest s) j) ≡ Done (at_rest t)
+        by : ((u : State) → run old later u is ≡ Done t → run new later_now (at_rest u) js ≡ Done (at_rest t)) → (o : Option State) → after old later
+            s i ≡ o → run_on (λ u. run old later u is) o ≡ Done t → run_on (λ u. run new later_now u js) (after new later_now (at_rest s) j) ≡ Done
+            (at_rest t)
         by more None h e = absurd (let z : Void ≡ Done t = e in cc)
         by more (Some u) h e =
             ap (run_on (λ u. run new later_now u js)) (after_moved f g n keeps old new along s later later_now go i j u x (types_right s is i right) h)

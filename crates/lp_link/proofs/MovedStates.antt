@@ -1,16 +1,15 @@
 -- A record at work with other numbers: registers, goals and blocks go along.
 use Rattle.std.proofs.Common.{◌≡◌, ◌∙◌, ◌+◌, ℕ, zero, suc, List, [], ◌∷◌, map, Bool, true, false, Option, Some, None, ap, refl, sym}
-use Rattle.std.specs.Prelude.{nat_eq, if◌then◌else◌, option_map, slice_get, slice_set, unwrap_or}
-use Rattle.std.specs.Option.{option_flatten}
+use Rattle.std.specs.Prelude.{if◌then◌else◌, option_map, slice_set, unwrap_or}
 use Rattle.lp_calculus.specs.Types.{Ty, no_types, con}
 use Rattle.lp_calculus.specs.Term.{index}
 use Rattle.lp_calculus.specs.Typing.{o_type}
 use Rattle.lp_term.specs.Mapped.{Map, mapped, mapped_type}
-use Rattle.lp_model.specs.Flat.{Goal, Goals, Exists, Forall, Either, Assume, Not, no_goals, goals, add_goals, map_goal, map_goals}
+use Rattle.lp_model.specs.Flat.{Goal, Goals, Exists, Forall, no_goals, goals, add_goals, map_goal}
 use Rattle.lp_code.specs.Symbolic.{Built, Registers, held, type_in, types_in, term_in, terms_in, set_type, set_term, plain_terms}
 use Rattle.lp_code.specs.States.{Block, under_sigma, under_all, under_assumption, under_not, left_side, right_side, Frame, State, bind_goals, one_goal, with_goal, Ended, end_variables, is_sigma, innermost_block, depth}
 use Rattle.lp_code.specs.Steps.{goal_of_block, leave_block, leave_from, leave, is_right_end, settled}
-use Rattle.lp_link.specs.inner.Renumbering.{moving, moved_loose, moved_built, moved_registers, moved_term, same_depth, moved_goals, moved_clauses, moved_block, moved_frame, moved_state}
+use Rattle.lp_link.specs.inner.Renumbering.{moving, moved_built, moved_registers, moved_term, same_depth, moved_goals, moved_block, moved_frame, moved_state}
 use Rattle.lp_link.proofs.MovedGoals.{goals_bound}
 
 -- what stands in registers
@@ -107,7 +106,8 @@ module _ (f g : ℕ → ℕ) (n : ℕ) (proposition : f 0 ≡ 0) where
   depth_moved [] = refl
   depth_moved (x ∷ fs) = by x.block (depth_moved fs)
     where
-      by : (b : Block) → depth (map (moved_frame m) fs) ≡ depth fs → (if is_sigma (moved_block m b) then depth (map (moved_frame m) fs) else suc (depth (map (moved_frame m) fs))) ≡ (if is_sigma b then depth fs else suc (depth fs))
+      by : (b : Block) → depth (map (moved_frame m) fs) ≡ depth fs → (if is_sigma (moved_block m b) then depth (map (moved_frame m) fs) else suc
+          (depth (map (moved_frame m) fs))) ≡ (if is_sigma b then depth fs else suc (depth fs))
       by (under_sigma r T) e = e
       by (under_all r T) e = ap (λ k. suc k) e
       by (under_assumption cs) e = ap (λ k. suc k) e
@@ -127,7 +127,8 @@ module _ (f g : ℕ → ℕ) (n : ℕ) (proposition : f 0 ≡ 0) where
   abbrev at_rest : State → State
   at_rest s = moved_state m n s
 
-  left_block : (s : State) (x : Frame) (fs : List Frame) (o : Option Goal) → leave_block (at_rest s) (moved_frame m x) (map (moved_frame m) fs) (option_map moved_goal o) ≡ at_rest (leave_block s x fs o)
+  left_block : (s : State) (x : Frame) (fs : List Frame) (o : Option Goal) → leave_block (at_rest s) (moved_frame m x) (map (moved_frame m) fs)
+      (option_map moved_goal o) ≡ at_rest (leave_block s x fs o)
   left_block s x fs None = refl
   left_block s x fs (Some y) = ap (λ gs. record (at_rest s) { now = moved_registers m x.registers; goals = gs; frames = map (moved_frame m) fs }) (with_goal_moved x.before y)
 
@@ -167,8 +168,10 @@ module _ (f g : ℕ → ℕ) (n : ℕ) (proposition : f 0 ≡ 0) where
   settled_moved home zero s = refl
   settled_moved home (suc k) s =
       ap (λ b. if b then settled (home + n) k (leave (home + n) (at_rest s)) else at_rest s) (ap (is_right_end s.place) (innermost_moved s.frames) ∙ right_end s.place (innermost_block s.frames))
-      ∙ ap (λ t. if is_right_end s.place (innermost_block s.frames) then settled (home + n) k t else at_rest s) (leave_moved home s) ∙ by (is_right_end s.place (innermost_block s.frames)) (settled_moved home k (leave home s))
+      ∙ ap (λ t. if is_right_end s.place (innermost_block s.frames) then settled (home + n) k t else at_rest s) (leave_moved home s) ∙ by
+      (is_right_end s.place (innermost_block s.frames)) (settled_moved home k (leave home s))
     where
-      by : (b : Bool) → settled (home + n) k (at_rest (leave home s)) ≡ at_rest (settled home k (leave home s)) → (if b then settled (home + n) k (at_rest (leave home s)) else at_rest s) ≡ at_rest (if b then settled home k (leave home s) else s)
+      by : (b : Bool) → settled (home + n) k (at_rest (leave home s)) ≡ at_rest (settled home k (leave home s)) →
+          (if b then settled (home + n) k (at_rest (leave home s)) else at_rest s) ≡ at_rest (if b then settled home k (leave home s) else s)
       by true e = e
       by false e = refl

@@ -1,18 +1,18 @@
 -- What instructions make and take, with other numbers.
-use Rattle.std.proofs.Common.{◌≡◌, ◌∙◌, ◌+◌, ℕ, zero, suc, List, [], ◌∷◌, ◌++◌, map, replicate, Bool, true, false, Option, Some, None, ap, refl, sym}
-use Rattle.std.specs.Prelude.{option_map, unwrap_or, is_some, ◌&&◌}
+use Rattle.std.proofs.Common.{◌≡◌, ◌∙◌, ◌+◌, ℕ, zero, suc, List, [], ◌∷◌, ◌++◌, map, replicate, true, false, Option, Some, None, ap, refl, sym}
+use Rattle.std.specs.Prelude.{option_map, unwrap_or, is_some}
 use Rattle.lp_lemmas.proofs.Booleans.{and_true_left}
-use Rattle.lp_calculus.specs.Types.{Ty, Tys, var, param, con, arrow, no_types, types, tys}
+use Rattle.lp_calculus.specs.Types.{Ty, var, param, con, arrow, no_types, types, tys}
 use Rattle.lp_calculus.specs.Term.{Term, abs, apply, atom, constant}
 use Rattle.lp_calculus.specs.Typing.{o_type, scheme_type}
 use Rattle.lp_term.specs.Mapped.{Map, mapped, mapped_type, mapped_types}
-use Rattle.lp_model.specs.Flat.{Goal, Goals, Atomic, no_goals}
-use Rattle.lp_code.specs.Symbolic.{Tables, Built, whole, plain_terms, joined, all_joined, applied_type, argument_type, outer, bound_index, abstraction_of, application_of}
+use Rattle.lp_model.specs.Flat.{Goals, Atomic}
+use Rattle.lp_code.specs.Symbolic.{Tables, Built, whole, plain_terms, joined, all_joined, applied_type, argument_type, bound_index, abstraction_of, application_of}
 use Rattle.lp_code.specs.Rules.{built_types, applies}
 use Rattle.lp_code.specs.Symbolic.{all_agree}
-use Rattle.lp_code.specs.States.{Block, Frame, State, with_goal, Ended, end_variables, right_side}
+use Rattle.lp_code.specs.States.{Block, Frame, State, Ended, end_variables}
 use Rattle.lp_code.specs.Steps.{constant_type, constant_of, with_argument, with_atom, put_type, put_term, opens, turn_from, turn}
-use Rattle.lp_link.specs.inner.Renumbering.{moving, moved_scheme, moved_loose, moved_built, moved_goals, moved_block, moved_frame, moved_state, AreMoved}
+use Rattle.lp_link.specs.inner.Renumbering.{moving, moved_loose, moved_built, moved_goals, moved_block, moved_frame, moved_state, AreMoved}
 use Rattle.lp_link.proofs.MovedTerms.{applied_moved, apply_moved, joined_moved, outer_moved, scheme_moved}
 use Rattle.lp_link.proofs.MovedStates.{set_type_moved, set_term_moved, plain_moved, with_goal_moved, ended_moved}
 
@@ -39,7 +39,8 @@ module _ (f g : ℕ → ℕ) (n : ℕ) (proposition : f 0 ≡ 0) where
   pub constant_moved : (t u : Tables) → AreMoved m t u → (c : ℕ) (Ts : List Ty) → constant_of u (g c) (map (mapped_type m) Ts) ≡ moved_built m (constant_of t c Ts)
   constant_moved t u a c Ts =
       let of : constant_type u (g c) (map (mapped_type m) Ts) ≡ mapped_type m (constant_type t c Ts) =
-      ap (λ o. unwrap_or (scheme_type (map (mapped_type m) Ts) o) o_type) (a.constants c) ∙ ap (λ o. unwrap_or o o_type) (scheme_moved m (λ i. refl) proposition Ts (t.constants c)) ∙ unwrapped (scheme_type Ts (t.constants c)) in
+      ap (λ o. unwrap_or (scheme_type (map (mapped_type m) Ts) o) o_type) (a.constants c) ∙ ap (λ o. unwrap_or o o_type)
+      (scheme_moved m (λ i. refl) proposition Ts (t.constants c)) ∙ unwrapped (scheme_type Ts (t.constants c)) in
       λ j. whole (atom (constant (g c) (map (mapped_type m) Ts))) (of j)
 
   -- a bound index, an abstraction, an application
@@ -61,7 +62,8 @@ module _ (f g : ℕ → ℕ) (n : ℕ) (proposition : f 0 ≡ 0) where
   all_moved ts [] = refl
   all_moved ts (b ∷ bs) = ap (λ l. all_joined l (map (moved_built m) bs)) (joined_moved m ts b.loose) ∙ all_moved (joined ts b.loose) bs
 
-  typed_moved : (T : Ty) (Us : List Ty) → is_some (applied_type T Us) ≡ true → unwrap_or (applied_type (mapped_type m T) (map (mapped_type m) Us)) o_type ≡ mapped_type m (unwrap_or (applied_type T Us) o_type)
+  typed_moved : (T : Ty) (Us : List Ty) → is_some (applied_type T Us) ≡ true → unwrap_or (applied_type (mapped_type m T) (map (mapped_type m) Us))
+      o_type ≡ mapped_type m (unwrap_or (applied_type T Us) o_type)
   typed_moved T Us e = by (applied_type T Us) refl e
     where
       by : (o : Option Ty) → applied_type T Us ≡ o → is_some o ≡ true → unwrap_or (applied_type (mapped_type m T) (map (mapped_type m) Us)) o_type ≡ mapped_type m (unwrap_or o o_type)

@@ -1,16 +1,16 @@
 -- Types and terms with kinds and constants renumbered: what the definition of code does with them goes along.
-use Rattle.std.proofs.Common.{◌≡◌, ◌∙◌, ℕ, zero, suc, List, [], ◌∷◌, map, length, Bool, true, false, Option, Some, None, ap, refl, sym, subst}
-use Rattle.std.specs.Prelude.{nat_eq, ◌&&◌, if◌then◌else◌, option_map, slice_index_or, unwrap_or}
+use Rattle.std.proofs.Common.{◌≡◌, ◌∙◌, ℕ, zero, suc, List, [], ◌∷◌, map, length, Bool, true, false, Option, Some, None, ap, refl, sym}
+use Rattle.std.specs.Prelude.{nat_eq, ◌&&◌, if◌then◌else◌, option_map}
 use Rattle.std.proofs.lemmas.Bool.{eqb-true}
 use Rattle.std.proofs.lemmas.List.{length-map}
 use Rattle.lp_lemmas.proofs.Booleans.{and_true_left, and_true_right}
 use Rattle.lp_lemmas.proofs.Numbers.{nat_eq_self}
 use Rattle.lp_calculus.specs.Types.{Ty, Tys, var, param, con, arrow, no_types, types, instance, instances}
 use Rattle.lp_calculus.specs.Term.{Term, app, apply}
-use Rattle.lp_calculus.specs.Typing.{Scheme, o_type, type_at, scheme_type}
+use Rattle.lp_calculus.specs.Typing.{Scheme, type_at, scheme_type}
 use Rattle.lp_term.specs.Mapped.{Map, mapped, mapped_type, mapped_types}
-use Rattle.lp_code.specs.Symbolic.{Built, equal_types, equal_lists, applied_type, argument_type, result_type, agree_at, agree, either_of, joined, is_closed, innermost, outer}
-use Rattle.lp_link.specs.inner.Renumbering.{moved_scheme, moved_loose, moved_built}
+use Rattle.lp_code.specs.Symbolic.{equal_types, equal_lists, applied_type, argument_type, result_type, agree_at, agree, either_of, joined, is_closed, innermost, outer}
+use Rattle.lp_link.specs.inner.Renumbering.{moved_scheme, moved_loose}
 
 -- types that are equal
 mutual
@@ -47,7 +47,8 @@ mutual
   equal_lists_true no_types no_types e = refl
   equal_lists_true no_types (types u us) e = absurd (cc)
   equal_lists_true (types t ts) no_types e = absurd (cc)
-  equal_lists_true (types t ts) (types u us) e = λ j. types (equal_true t u (and_true_left (equal_types t u) (equal_lists ts us) e) j) (equal_lists_true ts us (and_true_right (equal_types t u) (equal_lists ts us) e) j)
+  equal_lists_true (types t ts) (types u us) e = λ j. types (equal_true t u (and_true_left (equal_types t u) (equal_lists ts us) e) j)
+      (equal_lists_true ts us (and_true_right (equal_types t u) (equal_lists ts us) e) j)
 
 -- a map that leaves type variables as they are
 abbrev pub KeepsVariables : Map → Type 0
@@ -62,7 +63,8 @@ module _ (m : Map) where
   applied_moved T [] R e = ap (option_map (mapped_type m)) e
   applied_moved (arrow a b) (U ∷ Us) R e = by (equal_types a U) refl e (applied_moved b Us R)
     where
-      by : (t : Bool) → equal_types a U ≡ t → (if t then applied_type b Us else None) ≡ Some R → (applied_type b Us ≡ Some R → applied_type (mapped_type m b) (map (mapped_type m) Us) ≡ Some (mapped_type m R))
+      by : (t : Bool) → equal_types a U ≡ t → (if t then applied_type b Us else None) ≡ Some R →
+          (applied_type b Us ≡ Some R → applied_type (mapped_type m b) (map (mapped_type m) Us) ≡ Some (mapped_type m R))
           → (if equal_types (mapped_type m a) (mapped_type m U) then applied_type (mapped_type m b) (map (mapped_type m) Us) else None) ≡ Some (mapped_type m R)
       by true f e go = ap (λ t. if t then applied_type (mapped_type m b) (map (mapped_type m) Us) else None) (equal_moved a U f) ∙ go e
       by false f e go = absurd (cc)
@@ -146,6 +148,7 @@ module _ (m : Map) (keeps : KeepsVariables m) where
   scheme_moved z ts (Some s) =
       ap (λ n. if nat_eq n s.count then Some (instance (type_at (map (mapped_type m) ts)) (mapped_type m s.body)) else None) (length-map ts (mapped_type m)) ∙ by (nat_eq (length ts) s.count)
     where
-      by : (t : Bool) → (if t then Some (instance (type_at (map (mapped_type m) ts)) (mapped_type m s.body)) else None) ≡ option_map (mapped_type m) (if t then Some (instance (type_at ts) s.body) else None)
+      by : (t : Bool) → (if t then Some (instance (type_at (map (mapped_type m) ts)) (mapped_type m s.body)) else None) ≡ option_map (mapped_type m)
+          (if t then Some (instance (type_at ts) s.body) else None)
       by true = ap (λ T. Some T) (sym (instance_moved (type_at ts) (type_at (map (mapped_type m) ts)) (type_at_moved z ts) s.body))
       by false = refl

@@ -1,10 +1,9 @@
 -- What is written in goals stays, where kinds and constants get other numbers: indices and type variables are none of theirs.
-use Rattle.std.proofs.Common.{◌≡◌, ◌∙◌, ◌+◌, ◌-◌, ℕ, suc, List, [], ◌∷◌, ◌++◌, map, ap, refl, sym}
-use Rattle.std.specs.Prelude.{nat_lt, if◌then◌else◌, Bool, true, false}
+use Rattle.std.proofs.Common.{◌≡◌, ◌∙◌, ℕ, suc, List, [], ◌∷◌, ◌++◌, map, ap, refl, sym}
 use Rattle.lp_calculus.specs.Types.{Ty, Tys, var, param as type_param, con, arrow, no_types, types}
-use Rattle.lp_calculus.specs.Term.{Term, Atom, index, atom, abs, app, constant, integer, text, eigen, logic, param}
+use Rattle.lp_calculus.specs.Term.{Term, index, atom, abs, app, constant, integer, text, eigen, logic, param}
 use Rattle.lp_term.specs.Mapped.{Map, mapped, mapped_type, mapped_types}
-use Rattle.lp_model.specs.Flat.{Goal, Goals, Clause, Clauses, Written, Atomic, Cut, Either, Exists, Forall, Assume, Not, no_goals, goals, clause, no_clauses, clauses, under_all, map_goal, map_goals, map_clause, map_clauses, loose_in, type_variables, types_variables, of_each, type_variables_in, collect_goal, collect_goals, collect_clauses, written_by}
+use Rattle.lp_model.specs.Flat.{Goal, Goals, Clauses, Atomic, Cut, Either, Exists, Forall, Assume, Not, no_goals, goals, clause, no_clauses, clauses, under_all, map_goal, loose_in, type_variables, types_variables, of_each, type_variables_in, collect_goal, collect_goals, collect_clauses}
 use Rattle.lp_code.specs.Written.{written_goal, written_goals, written_clauses}
 use Rattle.lp_link.specs.inner.Renumbering.{moving, moved_term, same_depth, moved_goals, moved_clauses}
 
@@ -99,16 +98,22 @@ module _ (f g : ℕ → ℕ) (n : ℕ) where
         let told = written_clauses cs in
         λ j. Assume
         (record {
-          terms = (ap (λ l. map index (collect_clauses loose_in 0 l)) (clauses_written e cs) ∙ ap (map index) (clauses_collected loose_in loose_same 0 e told) ∙ sym (indices_stay (collect_clauses loose_in 0 told))) j;
-          types = (ap (λ l. map var (collect_clauses (λ d t. type_variables_in t) 0 l)) (clauses_written e cs) ∙ ap (map var) (clauses_collected (λ d t. type_variables_in t) (λ d. types_same) 0 e told) ∙ sym (vars_stay (collect_clauses (λ d t. type_variables_in t) 0 told))) j;
+          terms = (ap (λ l. map index (collect_clauses loose_in 0 l)) (clauses_written e cs) ∙ ap (map index)
+              (clauses_collected loose_in loose_same 0 e told) ∙ sym (indices_stay (collect_clauses loose_in 0 told))) j;
+          types = (ap (λ l. map var (collect_clauses (λ d t. type_variables_in t) 0 l)) (clauses_written e cs) ∙ ap (map var)
+              (clauses_collected (λ d t. type_variables_in t) (λ d. types_same) 0 e told) ∙ sym
+              (vars_stay (collect_clauses (λ d t. type_variables_in t) 0 told))) j;
         })
         (clauses_written e cs j) (goals_written e gs j)
     goal_written e (Not w gs) =
         let told = written_goals gs in
         λ j. Not
         (record {
-          terms = (ap (λ l. map index (collect_goals loose_in 0 l)) (goals_written e gs) ∙ ap (map index) (goals_collected loose_in loose_same 0 e told) ∙ sym (indices_stay (collect_goals loose_in 0 told))) j;
-          types = (ap (λ l. map var (collect_goals (λ d t. type_variables_in t) 0 l)) (goals_written e gs) ∙ ap (map var) (goals_collected (λ d t. type_variables_in t) (λ d. types_same) 0 e told) ∙ sym (vars_stay (collect_goals (λ d t. type_variables_in t) 0 told))) j;
+          terms = (ap (λ l. map index (collect_goals loose_in 0 l)) (goals_written e gs) ∙ ap (map index)
+              (goals_collected loose_in loose_same 0 e told) ∙ sym (indices_stay (collect_goals loose_in 0 told))) j;
+          types = (ap (λ l. map var (collect_goals (λ d t. type_variables_in t) 0 l)) (goals_written e gs) ∙ ap (map var)
+              (goals_collected (λ d t. type_variables_in t) (λ d. types_same) 0 e told) ∙ sym
+              (vars_stay (collect_goals (λ d t. type_variables_in t) 0 told))) j;
         })
         (goals_written e gs j)
 

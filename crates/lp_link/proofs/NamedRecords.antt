@@ -1,5 +1,5 @@
 -- Where records denote clauses, each of them is run, and names only records that are there.
-use Rattle.std.proofs.Common.{◌≡◌, ◌∙◌, ◌+◌, ◌<◌, ℕ, zero, suc, List, [], ◌∷◌, ◌++◌, map, length, Bool, true, false, Option, Some, None, ap, refl, sym, arith, subst}
+use Rattle.std.proofs.Common.{◌≡◌, ◌<◌, ℕ, zero, suc, List, [], ◌∷◌, ◌++◌, map, length, Bool, true, false, Option, Some, None, refl, arith}
 use Rattle.std.specs.Prelude.{option_map, option_and_then, if◌then◌else◌, not, nat_eq, nat_lt, ◌&&◌, ◌||◌, slice_get}
 use Rattle.std.proofs.lemmas.Bool.{not-false}
 use Rattle.lp_lemmas.proofs.Booleans.{and_true_left, and_true_right, or_false_right}
@@ -12,11 +12,10 @@ use Rattle.lp_code.specs.declared.instruction.Instr.TheVariants as on
 use Rattle.lp_code.specs.declared.record.Record.{Record}
 use Rattle.lp_code.specs.declared.rule.Rule.{Rule}
 use Rattle.lp_code.specs.declared.rule.Rule.TheVariants as rule
-use Rattle.lp_code.specs.Symbolic.{Tables}
 use Rattle.lp_code.specs.States.{Captured, State, Home, member}
 use Rattle.lp_code.specs.Steps.{Later, after, effect, captured_by, clauses_of_records}
 use Rattle.lp_code.specs.Rules.{breaks_clause, is_assumed_record, names_of, names_in, named_before, are_fine_names}
-use Rattle.lp_code.specs.Denote.{is_named, broken_by_record, broken_by, rules, first_broken, broken_of, Ran, Done, Broken, Void, unless_broken, run_on, run, first_state, clause_ran, home_of, denoted, later_from, nothing_captured, denote_from}
+use Rattle.lp_code.specs.Denote.{broken_by_record, broken_by, rules, first_broken, broken_of, Ran, Done, Broken, Void, run_on, run, first_state, clause_ran, denoted}
 use Rattle.lp_link.proofs.MovedRuns.{one_more, unless_done}
 
 -- the rule on clauses, which is the last but one
@@ -60,7 +59,8 @@ assumed_there rs k ts vs e = by (slice_get rs k) refl e
     by None h e = absurd (let z : false ≡ true = e in cc)
     by (Some r) h e = there rs k r h
 
-names_answered : (h : Home) (later : Later) (c : Captured) (named : List ℕ) (ts vs : ℕ) (ns : List ℕ) (cs : Clauses) → are_fine_names h named ts vs ns ≡ true → clauses_of_records later ns c ≡ Some cs → EachOf (IsAnswered h later) ns
+names_answered : (h : Home) (later : Later) (c : Captured) (named : List ℕ) (ts vs : ℕ) (ns : List ℕ) (cs : Clauses) → are_fine_names h named ts vs ns
+    ≡ true → clauses_of_records later ns c ≡ Some cs → EachOf (IsAnswered h later) ns
 names_answered h later c named ts vs [] cs e a = tt
 names_answered h later c named ts vs (k ∷ ns) cs e a =
     let first = nat_lt h.number k in
@@ -68,7 +68,8 @@ names_answered h later c named ts vs (k ∷ ns) cs e a =
     let third = not (member k named) in
     let last = are_fine_names h (k ∷ named) ts vs ns in
     let both = and_true_left (first && second) third (and_true_left ((first && second) && third) last e) in
-    by (λ ds. names_answered h later c (k ∷ named) ts vs ns ds (and_true_right ((first && second) && third) last e)) (assumed_there h.records k ts vs (and_true_right first second both)) (later k c) refl a
+    by (λ ds. names_answered h later c (k ∷ named) ts vs ns ds (and_true_right ((first && second) && third) last e))
+    (assumed_there h.records k ts vs (and_true_right first second both)) (later k c) refl a
   where
     Goes : Type 0
     Goes = (ds : Clauses) → clauses_of_records later ns c ≡ Some ds → EachOf (IsAnswered h later) ns
@@ -77,7 +78,8 @@ names_answered h later c named ts vs (k ∷ ns) cs e a =
     rest more d None q a = absurd (let z : None ≡ Some cs = a in cc)
     rest more d (Some ds) q a = more ds q
 
-    by : Goes → k < length h.records → (o : Option Clause) → later k c ≡ o → option_and_then (λ d. option_map (clauses d) (clauses_of_records later ns c)) o ≡ Some cs → EachOf (IsAnswered h later) (k ∷ ns)
+    by : Goes → k < length h.records → (o : Option Clause) → later k c ≡ o → option_and_then
+        (λ d. option_map (clauses d) (clauses_of_records later ns c)) o ≡ Some cs → EachOf (IsAnswered h later) (k ∷ ns)
     by more l None q a = absurd (let z : None ≡ Some cs = a in cc)
     by more l (Some d) q a = ((l, c, d, q), rest more d (clauses_of_records later ns c) refl a)
 
@@ -116,7 +118,8 @@ named_answered h later s (on.Assume ns ts rs) t b e =
     let named = named_before h.number h.records ++ map (λ (a : ℕ × Captured). a.0) s.assumed in
     let done = option_map_some (effect h later s (on.Assume ns ts rs)) _ t e in
     let told = option_map_some (clauses_of_records later ns.items (captured_by s ts.items rs.items)) _ done.0 done.1 in
-    names_answered h later (captured_by s ts.items rs.items) named (length ts.items) (length rs.items) ns.items told.0 (not-false (are_fine_names h named (length ts.items) (length rs.items) ns.items) b) told.1
+    names_answered h later (captured_by s ts.items rs.items) named (length ts.items) (length rs.items) ns.items told.0
+    (not-false (are_fine_names h named (length ts.items) (length rs.items) ns.items) b) told.1
 named_answered h later s on.EndAssume t b e = tt
 named_answered h later s (on.Either k) t b e = tt
 named_answered h later s (on.Jump k) t b e = tt
@@ -131,7 +134,8 @@ run_answered h later (i ∷ is) s t e =
     let done = unless_done (broken_of rules h s (i ∷ is)) s.place (run_on (λ u. run h later u is) (after h later s i)) t e in
     by (λ u. run_answered h later is u t) (clause_fine h s i is done.0) (after h later s i) refl done.1
   where
-    by : ((u : State) → run h later u is ≡ Done t → EachOf (IsAnswered h later) (names_in is)) → breaks_clause h s i ≡ false → (o : Option State) → after h later s i ≡ o → run_on (λ u. run h later u is) o ≡ Done t → EachOf (IsAnswered h later) (names_of i ++ names_in is)
+    by : ((u : State) → run h later u is ≡ Done t → EachOf (IsAnswered h later) (names_in is)) → breaks_clause h s i ≡ false → (o : Option State) →
+        after h later s i ≡ o → run_on (λ u. run h later u is) o ≡ Done t → EachOf (IsAnswered h later) (names_of i ++ names_in is)
     by more b None q a = absurd (let z : Void ≡ Done t = a in cc)
     by more b (Some u) q a = each_append (IsAnswered h later) (names_of i) (names_in is) (named_answered h later s i u b q) (more u a)
 

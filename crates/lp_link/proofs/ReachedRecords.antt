@@ -1,12 +1,11 @@
 -- Where records denote clauses, each is run: a program's for itself, an assumed one where it is named. So all names stay below their number.
-use Rattle.std.proofs.Common.{◌≡◌, ◌∙◌, ◌+◌, ◌<◌, ◌≤◌, ℕ, zero, suc, List, [], ◌∷◌, ◌++◌, map, length, Bool, true, false, Option, Some, None, ap, refl, sym, arith, subst, inl, inr}
+use Rattle.std.proofs.Common.{◌≡◌, ◌∙◌, ◌+◌, ◌<◌, ℕ, zero, suc, List, [], ◌∷◌, ◌++◌, length, Bool, true, false, Option, Some, None, ap, refl, sym, arith, subst, inl, inr}
 use Rattle.std.specs.Prelude.{◌⊎◌, option_map, option_and_then, if◌then◌else◌, nat_eq, ◌||◌, slice_get, drop}
-use Rattle.std.proofs.lemmas.Bool.{eqb-true, eqb-false, or_cases}
+use Rattle.std.proofs.lemmas.Bool.{eqb-true, or_cases}
 use Rattle.lp_lemmas.specs.Each.{EachOf}
 use Rattle.lp_lemmas.proofs.Booleans.{or_assoc}
 use Rattle.lp_lemmas.proofs.Each.{each_append}
 use Rattle.lp_model.specs.Flat.{Clause}
-use Rattle.lp_code.specs.declared.instruction.Instr.{Instr}
 use Rattle.lp_code.specs.declared.record.Record.{Record}
 use Rattle.lp_code.specs.Symbolic.{Tables}
 use Rattle.lp_code.specs.States.{Captured, Home, member}
@@ -41,7 +40,9 @@ module _ (t : Tables) (all : List Record) where
   later_reached k [] j c d e = absurd (let z : None ≡ Some d = e in cc)
   later_reached k (r ∷ rs) j c d e = by (later_reached (suc k) rs j c d) (nat_eq j k) refl e
     where
-      by : (behind (suc k) rs j c ≡ Some d → (i : ℕ) × (j ≡ suc k + i) × Reached j rs i) → (b : Bool) → nat_eq j k ≡ b → (if b then denoted (home_of t all k r) (behind (suc k) rs) c else behind (suc k) rs j c) ≡ Some d → (i : ℕ) × (j ≡ k + i) × Reached j (r ∷ rs) i
+      by : (behind (suc k) rs j c ≡ Some d → (i : ℕ) × (j ≡ suc k + i) × Reached j rs i) → (b : Bool) → nat_eq j k ≡ b →
+          (if b then denoted (home_of t all k r) (behind (suc k) rs) c else behind (suc k) rs j c) ≡ Some d → (i : ℕ) × (j ≡ k + i) × Reached j
+          (r ∷ rs) i
       by go true h e =
           let q = eqb-true j k h in
           (0, omega (arith, q), record { one = r; stands = refl; start = c; clause = d; denotes = subst (λ x. denoted (home_of t all x r) (behind (suc x) rs) c ≡ Some d) (sym q) e })
@@ -51,7 +52,8 @@ module _ (t : Tables) (all : List Record) where
           (suc more.0, omega (arith, q), one_further j r rs more.0 more.2)
 
   -- each record of a code that denotes: it is run for itself, or it is named
-  pub own_reached : (k : ℕ) (rs : List Record) (ds : List Clause) → denote_from t all k rs ≡ Some ds → (i : ℕ) (r : Record) → slice_get rs i ≡ Some r → (j : ℕ) → j ≡ k + i → Reached j rs i ⊎ (is_named (home_of t all j r) ≡ true)
+  pub own_reached : (k : ℕ) (rs : List Record) (ds : List Clause) → denote_from t all k rs ≡ Some ds → (i : ℕ) (r : Record) → slice_get rs i ≡ Some r
+      → (j : ℕ) → j ≡ k + i → Reached j rs i ⊎ (is_named (home_of t all j r) ≡ true)
   own_reached k [] ds e i r s j at = absurd (let z : None ≡ Some r = s in cc)
   own_reached k (q ∷ rs) ds e i r s j at = by (λ es h i s at. own_reached (suc k) rs es h i r s j at) q.program e
     where
@@ -65,16 +67,25 @@ module _ (t : Tables) (all : List Record) where
       same_record s = cc
 
       first : (c : Clause) → denoted (home_of t all k q) (behind (suc k) rs) nothing_captured ≡ Some c → j ≡ k → Reached j (q ∷ rs) 0
-      first c h at = record { one = q; stands = refl; start = nothing_captured; clause = c; denotes = subst (λ x. denoted (home_of t all x q) (behind (suc x) rs) nothing_captured ≡ Some c) (sym at) h }
+      first c h at = record {
+        one = q;
+        stands = refl;
+        start = nothing_captured;
+        clause = c;
+        denotes = subst
+            (λ x. denoted (home_of t all x q) (behind (suc x) rs) nothing_captured ≡ Some c) (sym at) h;
+      }
 
-      program : Goes → (i : ℕ) → slice_get (q ∷ rs) i ≡ Some r → j ≡ k + i → (o : Option Clause) → denoted (home_of t all k q) (behind (suc k) rs) nothing_captured ≡ o → (p : Option (List Clause)) → denote_from t all (suc k) rs ≡ p
+      program : Goes → (i : ℕ) → slice_get (q ∷ rs) i ≡ Some r → j ≡ k + i → (o : Option Clause) → denoted (home_of t all k q) (behind (suc k) rs)
+          nothing_captured ≡ o → (p : Option (List Clause)) → denote_from t all (suc k) rs ≡ p
           → option_and_then (λ c. option_map (λ cs. c ∷ cs) p) o ≡ Some ds → Reached j (q ∷ rs) i ⊎ (is_named (home_of t all j r) ≡ true)
       program go i s at None h p g e = absurd (let z : None ≡ Some ds = e in cc)
       program go i s at (Some c) h None g e = absurd (let z : None ≡ Some ds = e in cc)
       program go zero s at (Some c) h (Some es) g e = inl (first c h (omega (arith, at)))
       program go (suc i) s at (Some c) h (Some es) g e = rest go es g i s at
 
-      assumed : Goes → (i : ℕ) → slice_get (q ∷ rs) i ≡ Some r → j ≡ k + i → (b : Bool) → is_named (home_of t all k q) ≡ b → (if b then denote_from t all (suc k) rs else None) ≡ Some ds → Reached j (q ∷ rs) i ⊎ (is_named (home_of t all j r) ≡ true)
+      assumed : Goes → (i : ℕ) → slice_get (q ∷ rs) i ≡ Some r → j ≡ k + i → (b : Bool) → is_named (home_of t all k q) ≡ b →
+          (if b then denote_from t all (suc k) rs else None) ≡ Some ds → Reached j (q ∷ rs) i ⊎ (is_named (home_of t all j r) ≡ true)
       assumed go i s at false h e = absurd (let z : None ≡ Some ds = e in cc)
       assumed go zero s at true h e =
           let here : j ≡ k = omega (arith, at) in
@@ -82,7 +93,9 @@ module _ (t : Tables) (all : List Record) where
       assumed go (suc i) s at true h e = rest go ds e i s at
 
       by : Goes → (b : Bool)
-          → (if b then option_and_then (λ c. option_map (λ cs. c ∷ cs) (denote_from t all (suc k) rs)) (denoted (home_of t all k q) (behind (suc k) rs) nothing_captured) else (if is_named (home_of t all k q) then denote_from t all (suc k) rs else None)) ≡ Some ds
+          → (if b then option_and_then (λ c. option_map (λ cs. c ∷ cs) (denote_from t all (suc k) rs))
+          (denoted (home_of t all k q) (behind (suc k) rs) nothing_captured) else
+          (if is_named (home_of t all k q) then denote_from t all (suc k) rs else None)) ≡ Some ds
           → Reached j (q ∷ rs) i ⊎ (is_named (home_of t all j r) ≡ true)
       by go true e = program go i s at (denoted (home_of t all k q) (behind (suc k) rs) nothing_captured) refl (denote_from t all (suc k) rs) refl e
       by go false e = assumed go i s at (is_named (home_of t all k q)) refl e
@@ -155,7 +168,8 @@ module _ (t : Tables) (all : List Record) (ds : List Clause) (denotes : denote t
           let j = namer.0 in
           let q = namer.1 in
           let before = namer.2 in
-          let told = of_member (IsAnswered (home_of t all j q) (later_from t all (suc j) (drop (suc j) all))) (names_in q.code.items) (answered j (go j (omega (arith, l, before)) q namer.3) q namer.3) k namer.4 in
+          let told = of_member (IsAnswered (home_of t all j q) (later_from t all (suc j) (drop (suc j) all))) (names_in q.code.items)
+          (answered j (go j (omega (arith, l, before)) q namer.3) q namer.3) k namer.4 in
           let behind = later_reached t all (suc j) (drop (suc j) all) k told.1 told.2 told.3 in
           from_behind j k behind.0 behind.1 behind.2
 
@@ -168,7 +182,8 @@ module _ (t : Tables) (all : List Record) (ds : List Clause) (denotes : denote t
   names_below k (r ∷ rs) h =
       let s = h 0 r refl in
       each_append (λ n. n < length all) (names_in r.code.items) (all_names rs)
-      (below_of_answered (home_of t all (k + 0) r) (later_from t all (suc (k + 0)) (drop (suc (k + 0)) all)) (names_in r.code.items) (answered (k + 0) (reached (suc (k + 0)) (k + 0) (omega arith) r s) r s))
+      (below_of_answered (home_of t all (k + 0) r) (later_from t all (suc (k + 0)) (drop (suc (k + 0)) all)) (names_in r.code.items)
+      (answered (k + 0) (reached (suc (k + 0)) (k + 0) (omega arith) r s) r s))
       (names_below (suc k) rs (λ i q e. ap (slice_get all) (let z : suc k + i ≡ k + suc i = omega arith in z) ∙ h (suc i) q e))
 
   -- all names are below the number of records

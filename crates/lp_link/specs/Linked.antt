@@ -1,7 +1,7 @@
 -- What an image denotes that is linked from objects: the clauses of each copy, with kinds and constants numbered as in the image, in the order of copies.
 use Rattle.std.specs.Prelude.{◌≡◌, ℕ, suc, ◌+◌, ◌-◌, nat_lt, Bool, true, false, if◌then◌else◌, List, [], ◌∷◌, ◌++◌, map, length, get_or, slice_get, Option, None, Some, option_map, option_and_then}
-use Rattle.lp_calculus.specs.Types.{Ty, var}
-use Rattle.lp_calculus.specs.Term.{Term, atom, logic}
+use Rattle.lp_calculus.specs.Types.{var}
+use Rattle.lp_calculus.specs.Term.{atom, logic}
 use Rattle.lp_calculus.specs.Typing.{Scheme}
 use Rattle.lp_term.specs.Nodes.{type_tree}
 use Rattle.lp_term.specs.Mapped.{Map, mapped, mapped_type}

@@ -1,5 +1,5 @@
 -- Code at work with its kinds and constants renumbered, and its records moved up: what stands in registers, and instructions.
-use Rattle.std.specs.Prelude.{◌≡◌, ℕ, ◌+◌, nat_lt, Bool, true, false, List, [], ◌∷◌, map, Option, None, Some, option_map, slice_get, Vec}
+use Rattle.std.specs.Prelude.{◌≡◌, ℕ, ◌+◌, nat_lt, true, false, List, [], ◌∷◌, map, Option, Some, option_map, slice_get, Vec}
 use Rattle.std.specs.Global.{Global}
 use Rattle.lp_calculus.specs.Types.{Ty, var}
 use Rattle.lp_calculus.specs.Term.{Term, atom, logic}
@@ -12,7 +12,7 @@ use Rattle.lp_code.specs.declared.record.Record.{Record}
 use Rattle.lp_code.specs.declared.record.RecordHead.{RecordHead}
 use Rattle.lp_code.specs.declared.record.RecordHead.TheVariants.{Const, Register}
 use Rattle.lp_code.specs.Symbolic.{Tables, Built, Registers}
-use Rattle.lp_code.specs.Groups.{PlainKey, no_key, constant, integer, text, plain_key}
+use Rattle.lp_code.specs.Groups.{PlainKey, constant, plain_key}
 use Rattle.lp_code.specs.Rules.{named_before}
 use Rattle.lp_code.specs.States.{Block, under_sigma, under_all, under_assumption, under_not, left_side, right_side, Frame, Captured, State, Home, member}
 
