@@ -96,11 +96,13 @@ module _ (members : List Member) (uses : List (List ℕ)) (root : ℕ) where
     stack = ap (map (λ f. f.0)) f ∙ ap reverse (sym a);
   }
 
-  pub comparing_opens : (old new : List Frame) (around more : List ℕ) (m : ℕ) → IsOpened uses old m new → more ≡ around ++ m ∷ [] → IsComparing members uses root old around → IsComparing members uses root new more
+  pub comparing_opens : (old new : List Frame) (around more : List ℕ) (m : ℕ) → IsOpened uses old m new → more ≡ around ++ m ∷ [] → IsComparing
+      members uses root old around → IsComparing members uses root new more
   comparing_opens old new around more m o a c = record {
     done = c.done;
     same = c.same;
-    rest = λ all e. subst (λ l. RestOfEdges uses c.done l all) (sym o.after) (opened uses c.done o.at o.next m o.around all o.entry (subst (λ l. RestOfEdges uses c.done l all) o.before (c.rest all e)));
+    rest = λ all e. subst (λ l. RestOfEdges uses c.done l all) (sym o.after) (opened uses c.done o.at o.next m o.around all o.entry
+        (subst (λ l. RestOfEdges uses c.done l all) o.before (c.rest all e)));
     stack = ap (map (λ f. f.0)) o.after ∙ ap (λ l. m ∷ l) (sym (ap (map (λ f. f.0)) o.before) ∙ c.stack) ∙ sym (reverse-append around (m ∷ [])) ∙ ap reverse (sym a);
   }
 
@@ -123,7 +125,8 @@ module _ (members : List Member) (uses : List (List ℕ)) (root : ℕ) where
 
     -- the copy above is the last one that is open then
     pub last_is : (rest : List ℕ) (x : ℕ) (last : Option ℕ) → around ≡ rest ++ x ∷ [] → last ≡ slice_get rest (length rest - 1) → last ≡ Some g.0
-    last_is rest x last p is = is ∙ ap (λ l. slice_get l (length l - 1)) (sym (reverse-reverse rest) ∙ ap reverse (sym (still rest x p)) ∙ reverse-append (g.0 ∷ []) (map (λ f. f.0) fs)) ∙ at_end (reverse (map (λ f. f.0) fs)) g.0
+    last_is rest x last p is = is ∙ ap (λ l. slice_get l (length l - 1)) (sym (reverse-reverse rest) ∙ ap reverse (sym (still rest x p)) ∙
+        reverse-append (g.0 ∷ []) (map (λ f. f.0) fs)) ∙ at_end (reverse (map (λ f. f.0) fs)) g.0
       where
         place : (xs : List ℕ) (y : ℕ) → slice_get (xs ++ y ∷ []) (length xs) ≡ Some y
         place [] y = refl

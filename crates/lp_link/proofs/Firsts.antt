@@ -19,17 +19,21 @@ none_behind (y ∷ ys) zero x l e = omega (arith, l)
 none_behind (y ∷ ys) (suc j) x l e = none_behind ys j x (omega (arith, l)) e
 
 module _ (below above : Object) (i : ℕ) where
-  module _ (k : ObjectKind) (here : i < length below.kinds.items) (is : k ≡ get_or below.kinds.items i k) (fine : k.exported ≡ true → arity_of above.kinds.items k.name.items ≡ Some k.arity) (before : (j : ℕ) → j < i → IsOtherKind below above j → ⊥) where
-    fine_here : IsOtherKind below above i → ⊥
-    fine_here o = o.other (subst (λ x. arity_of above.kinds.items x.name.items ≡ Some x.arity) same (fine (ap (λ x. x.exported) same ∙ o.exported)))
-      where
-        same : k ≡ o.kind
-        same = the_same k o.kind (ap (λ x. Some x) is ∙ sym (slice_get-get_or below.kinds.items i k here) ∙ o.there)
+  module _ (k : ObjectKind) (here : i < length below.kinds.items) (is : k ≡ get_or below.kinds.items i k)
+      (fine : k.exported ≡ true → arity_of above.kinds.items k.name.items ≡ Some k.arity) (before : (j : ℕ) → j < i → IsOtherKind below above j → ⊥)
+    where
+      fine_here : IsOtherKind below above i → ⊥
+      fine_here o = o.other (subst (λ x. arity_of above.kinds.items x.name.items ≡ Some x.arity) same (fine (ap (λ x. x.exported) same ∙ o.exported)))
+        where
+          same : k ≡ o.kind
+          same = the_same k o.kind (ap (λ x. Some x) is ∙ sym (slice_get-get_or below.kinds.items i k here) ∙ o.there)
 
-    pub one_more_kind : (j : ℕ) → j < i + 1 → IsOtherKind below above j → ⊥
-    one_more_kind j h o = fine_here (subst (IsOtherKind below above) (below_or_at i j h (λ l. before j l o)) o)
+      pub one_more_kind : (j : ℕ) → j < i + 1 → IsOtherKind below above j → ⊥
+      one_more_kind j h o = fine_here (subst (IsOtherKind below above) (below_or_at i j h (λ l. before j l o)) o)
 
-  module _ (k : ObjectConstant) (here : i < length below.constants.items) (is : k ≡ get_or below.constants.items i k) (fine : k.exported ≡ true → IsOtherAbove below above k (constant_of above.constants.items k.name.items) → ⊥) (before : (j : ℕ) → j < i → IsOtherConstant below above j → ⊥) where
+  module _ (k : ObjectConstant) (here : i < length below.constants.items) (is : k ≡ get_or below.constants.items i k)
+      (fine : k.exported ≡ true → IsOtherAbove below above k (constant_of above.constants.items k.name.items) → ⊥)
+      (before : (j : ℕ) → j < i → IsOtherConstant below above j → ⊥) where
     fine_there : IsOtherConstant below above i → ⊥
     fine_there o = fine (ap (λ x. x.exported) same ∙ o.exported) (subst (λ x. IsOtherAbove below above x (constant_of above.constants.items x.name.items)) (sym same) o.other)
       where

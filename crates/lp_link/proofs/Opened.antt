@@ -17,7 +17,8 @@ use Rattle.lp_link.specs.inner.Pairs.{same_pair, AreSamePairs, IsOtherPair, IsOt
 use Rattle.lp_link.proofs.Compared.{goes_on, rest_same}
 
 pub pairs_equal : (p q : ℕ × ℕ) → pair_eq p q ≡ true → p ≡ q
-pairs_equal p q e = ap (λ i. (i, p.1)) (eqb-true p.0 q.0 (and_true_left (nat_eq p.0 q.0) (nat_eq p.1 q.1) e)) ∙ ap (λ j. (q.0, j)) (eqb-true p.1 q.1 (and_true_right (nat_eq p.0 q.0) (nat_eq p.1 q.1) e))
+pairs_equal p q e = ap (λ i. (i, p.1)) (eqb-true p.0 q.0 (and_true_left (nat_eq p.0 q.0) (nat_eq p.1 q.1) e)) ∙ ap (λ j. (q.0, j))
+    (eqb-true p.1 q.1 (and_true_right (nat_eq p.0 q.0) (nat_eq p.1 q.1) e))
 
 -- what is marked now was marked, or is the one that was put
 pub marked_before : (p q : ℕ × ℕ) (met now : ℕ × ℕ → Bool) → ((q : ℕ × ℕ) → now q ≡ (if pair_eq p q then true else met q)) → now q ≡ true → (p ≡ q) ⊎ (met q ≡ true)
@@ -90,13 +91,16 @@ module _ (K : ℕ → Option ℕ) (b a : Nodes) where
         ]
 
     -- the next pair is marked, and what comes of it is put
-    pub opened : (t u : TypeId) (now : ℕ × ℕ → Bool) (new : List Pair) → next ≡ Types t u → ((q : ℕ × ℕ) → now q ≡ (if pair_eq (t.0, u.0) q then true else met q)) → Compares K b a (type_tree b t.0) (type_tree a u.0) rest new true → IsOpen K b a whole now new
+    pub opened : (t u : TypeId) (now : ℕ × ℕ → Bool) (new : List Pair) → next ≡ Types t u →
+        ((q : ℕ × ℕ) → now q ≡ (if pair_eq (t.0, u.0) q then true else met q)) → Compares K b a (type_tree b t.0) (type_tree a u.0) rest new true →
+        IsOpen K b a whole now new
     opened t u now new is marks c = record {
       same = λ h. goes_on K b a whole old rest next off open_now.same t u is new true c refl h;
       even = subst (All IsEven) (sym c.1.behind) (All-append IsEven rest c.1.put rest_even c.1.even);
       other = λ h. other_still new front lead (open_now.other h);
       lighter = λ i j s h. elim (marked_before (t.0, u.0) (i, j) met now marks s) [
-        | inl e ↦ subst (λ k. AnyOf (IsOtherBelow K b a (3 * type_size (type_tree b k))) new) (ap (λ p. p.0) e) (subst (λ n. AnyOf (IsOtherBelow K b a n) new) weight (lead (ap (same_pair K b a) is ∙ other_met (i, j) e h)))
+        | inl e ↦ subst (λ k. AnyOf (IsOtherBelow K b a (3 * type_size (type_tree b k))) new) (ap (λ p. p.0) e)
+            (subst (λ n. AnyOf (IsOtherBelow K b a n) new) weight (lead (ap (same_pair K b a) is ∙ other_met (i, j) e h)))
         | inr m ↦ lighter_still new front lead (3 * type_size (type_tree b i)) (open_now.lighter i j m h)
       ];
     }

@@ -104,7 +104,8 @@ module _ (os : List Object) (members : List Member) (are : map (λ m. m.object.n
       part_is = h.is_other.part_is;
     }
 
-    pub compare_refused : (order : List ℕ) (e : LinkRefusal) → Copies (lists_in outs) (root ∷ []) order → length order ≤ 4096 → IsCompareRefusal members (lists_in outs) root e → IsLinkRefusal os root e
+    pub compare_refused : (order : List ℕ) (e : LinkRefusal) → Copies (lists_in outs) (root ∷ []) order → length order ≤ 4096 → IsCompareRefusal
+        members (lists_in outs) root e → IsLinkRefusal os root e
     compare_refused order (refusal.Differ n p) c few h = (few_copies order c few, let (edges, e) = root_edges order c in differs n p edges e (h edges (here edges e)))
     compare_refused order (refusal.Limit limit.Copies) c few h = copies_refused os outs root (refusal.Limit limit.Copies) is h
     compare_refused order (refusal.Limit limit.File) c few h = absurd h
@@ -126,7 +127,8 @@ module _ (os : List Object) (root : ℕ) (top : Object) (here : root < length os
       let g = get_or-map (λ o. length o.kinds.items - hidden_kinds o.kinds.items) os root top 0 here in
       e ∙ ap (λ o. 8 + (length o.kinds.items - hidden_kinds o.kinds.items)) is ∙ ap (λ n. 8 + n) (sym g)
 
-  constants_begin : (c : ℕ) → c ≡ 32 + (length top.constants.items - hidden_constants top.constants.items) → c ≡ 32 + get_or (map (λ o. length o.constants.items - hidden_constants o.constants.items) os) root 0
+  constants_begin : (c : ℕ) → c ≡ 32 + (length top.constants.items - hidden_constants top.constants.items) → c ≡ 32 + get_or
+      (map (λ o. length o.constants.items - hidden_constants o.constants.items) os) root 0
   constants_begin c e =
       let g = get_or-map (λ o. length o.constants.items - hidden_constants o.constants.items) os root top 0 here in
       e ∙ ap (λ o. 32 + (length o.constants.items - hidden_constants o.constants.items)) is ∙ ap (λ n. 32 + n) (sym g)
@@ -139,8 +141,10 @@ module _ (os : List Object) (root : ℕ) (top : Object) (here : root < length os
       by all (only all (subst (λ l. Copies l (root ∷ []) all) (sym of) copies)) passed
     where
       by : (all : List ℕ) → all ≡ order → (1048576 < total k ks order) ⊎ (1048576 < total c cs order) → (1048576 < kinds_end os root all) ⊎ (1048576 < constants_end os root all)
-      by all e (inl h) = inl (subst (λ l. 1048576 < kinds_end os root l) (sym e) (subst (λ n. 1048576 < total n (kind_counts os) order) (kinds_begin k begin) (subst (λ l. 1048576 < total k l order) kinds h)))
-      by all e (inr h) = inr (subst (λ l. 1048576 < constants_end os root l) (sym e) (subst (λ n. 1048576 < total n (constant_counts os) order) (constants_begin c first) (subst (λ l. 1048576 < total c l order) constants h)))
+      by all e (inl h) = inl (subst (λ l. 1048576 < kinds_end os root l) (sym e) (subst (λ n. 1048576 < total n (kind_counts os) order)
+          (kinds_begin k begin) (subst (λ l. 1048576 < total k l order) kinds h)))
+      by all e (inr h) = inr (subst (λ l. 1048576 < constants_end os root l) (sym e)
+          (subst (λ n. 1048576 < total n (constant_counts os) order) (constants_begin c first) (subst (λ l. 1048576 < total c l order) constants h)))
 
   -- they do not
   pub few_names : (outs : List (Vec ℕ Global)) (order : List ℕ) (k c : ℕ) (ks cs : List ℕ) → lists_in outs ≡ uses_of os → ((all : List ℕ) → Copies (lists_in outs) (root ∷ []) all → all ≡ order) →
@@ -149,13 +153,16 @@ module _ (os : List Object) (root : ℕ) (top : Object) (here : root < length os
   few_names outs order k c ks cs of only begin first kinds constants (few, fewer) = λ all copies.
       let e = only all (subst (λ l. Copies l (root ∷ []) all) (sym of) copies) in (
         subst (λ l. kinds_end os root l ≤ 1048576) (sym e) (subst (λ n. total n (kind_counts os) order ≤ 1048576) (kinds_begin k begin) (subst (λ l. total k l order ≤ 1048576) kinds few)),
-        subst (λ l. constants_end os root l ≤ 1048576) (sym e) (subst (λ n. total n (constant_counts os) order ≤ 1048576) (constants_begin c first) (subst (λ l. total c l order ≤ 1048576) constants fewer)),
+        subst (λ l. constants_end os root l ≤ 1048576) (sym e) (subst (λ n. total n (constant_counts os) order ≤ 1048576) (constants_begin c first)
+            (subst (λ l. total c l order ≤ 1048576) constants fewer)),
       )
 
 -- an order of copies is within a count for each object
-pub counts_within : (f : Object → ℕ) (os : List Object) (outs : List (Vec ℕ Global)) (order counts : List ℕ) → counts ≡ map f os → lists_in outs ≡ uses_of os → All (λ m. m < length outs) order → All (λ m. m < length counts) order
+pub counts_within : (f : Object → ℕ) (os : List Object) (outs : List (Vec ℕ Global)) (order counts : List ℕ) → counts ≡ map f os → lists_in outs ≡
+    uses_of os → All (λ m. m < length outs) order → All (λ m. m < length counts) order
 counts_within f os outs order counts e is all = subst (λ n. All (λ m. m < n) order) (uses_count os outs is ∙ sym (length-map os f) ∙ ap length (sym e)) all
 
 -- what holds of each object holds of that of each member
 pub of_members : (P : Object → Type 0) (os : List Object) (members : List Member) → map (λ m. m.object.now) members ≡ os → All P os → All (λ m. P m.object.now) members
-of_members P os members e all i d h = subst P (get_or-map (λ m. m.object.now) members i d d.object.now h) (subst (All P) (sym e) all i d.object.now (subst (λ n. i < n) (sym (length-map members (λ m. m.object.now))) h))
+of_members P os members e all i d h = subst P (get_or-map (λ m. m.object.now) members i d d.object.now h)
+    (subst (All P) (sym e) all i d.object.now (subst (λ n. i < n) (sym (length-map members (λ m. m.object.now))) h))

@@ -9,7 +9,8 @@ use Rattle.lp_copies.specs.Copies.{Copies, no_copy, copy}
 use Rattle.lp_copies.specs.Trees.{lists_in}
 
 -- one more copy
-pub sum_more : (g : ℕ → ℕ) (order : List ℕ) (i at all more whole : ℕ) → i < length order → at ≡ get_or order i at → more ≡ all + g at → all + sum_by g (drop i order) ≡ whole → more + sum_by g (drop (i + 1) order) ≡ whole
+pub sum_more : (g : ℕ → ℕ) (order : List ℕ) (i at all more whole : ℕ) → i < length order → at ≡ get_or order i at → more ≡ all + g at → all + sum_by g
+    (drop i order) ≡ whole → more + sum_by g (drop (i + 1) order) ≡ whole
 sum_more g order i at all more whole h is m e =
     let s = sum_by-drop_more g order i at h in
     let k : g (get_or order i at) ≡ g at = ap g (sym is) in
@@ -33,10 +34,12 @@ copies_within uses todo all w t (copy m rest below others x b o is) =
     (All-cons (λ k. k < length uses) m others h (copies_within uses rest others w (λ k d l. t (suc k) d (omega (arith, l))) o)))
 
 -- each copy is of a module
-pub order_within : (uses : List (List ℕ)) (root : ℕ) (order : List ℕ) → All (λ out. All (λ m. m < length uses) out) uses → root < length uses → Copies uses (root ∷ []) order → All (λ m. m < length uses) order
+pub order_within : (uses : List (List ℕ)) (root : ℕ) (order : List ℕ) → All (λ out. All (λ m. m < length uses) out) uses → root < length uses → Copies
+    uses (root ∷ []) order → All (λ m. m < length uses) order
 order_within uses root order w h c = copies_within uses (root ∷ []) order w (All-cons (λ m. m < length uses) root [] h (All-nil (λ m. m < length uses))) c
 
-pub order_inside : (outs : List (Vec ℕ Global)) (root : ℕ) (order : List ℕ) → All (λ out. All (λ m. m < length outs) out) (lists_in outs) → root < length outs → Copies (lists_in outs) (root ∷ []) order → All (λ m. m < length outs) order
+pub order_inside : (outs : List (Vec ℕ Global)) (root : ℕ) (order : List ℕ) → All (λ out. All (λ m. m < length outs) out) (lists_in outs) → root <
+    length outs → Copies (lists_in outs) (root ∷ []) order → All (λ m. m < length outs) order
 order_inside outs root order w h c =
     let l : length (lists_in outs) ≡ length outs = length-map outs (λ o. o.items) in
     subst (λ k. All (λ m. m < k) order) l (order_within (lists_in outs) root order (subst (λ k. All (λ out. All (λ m. m < k) out) (lists_in outs)) (sym l) w) (subst (λ k. root < k) (sym l) h) c)

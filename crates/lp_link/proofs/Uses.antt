@@ -11,8 +11,10 @@ use Rattle.lp_code.specs.declared.object.Object.{Object}
 use Rattle.lp_link.specs.Uses.{names_of, uses_of}
 
 -- one more object
-pub object_more : (os : List Object) (i : ℕ) (o : Object) (out : Vec ℕ Global) (old new : List (Vec ℕ Global)) → i < length os → o ≡ get_or os i o → out.items ≡ places_in (names_of os) (map (λ u. u.items) o.uses.items) → new ≡ old ++ out ∷ [] →
-    lists_in old ≡ map (λ o. places_in (names_of os) (map (λ u. u.items) o.uses.items)) (take i os) → lists_in new ≡ map (λ o. places_in (names_of os) (map (λ u. u.items) o.uses.items)) (take (i + 1) os)
+pub object_more : (os : List Object) (i : ℕ) (o : Object) (out : Vec ℕ Global) (old new : List (Vec ℕ Global)) → i < length os → o ≡ get_or os i o →
+    out.items ≡ places_in (names_of os) (map (λ u. u.items) o.uses.items) → new ≡ old ++ out ∷ [] →
+    lists_in old ≡ map (λ o. places_in (names_of os) (map (λ u. u.items) o.uses.items)) (take i os) → lists_in new ≡ map
+    (λ o. places_in (names_of os) (map (λ u. u.items) o.uses.items)) (take (i + 1) os)
 object_more os i o out old new h at is pushed e =
     ap lists_in pushed ∙ map-append (λ o. o.items) old (out ∷ []) ∙ ap (λ l. l ++ out.items ∷ []) e ∙
     ap (λ x. map f (take i os) ++ x ∷ []) (is ∙ ap f at) ∙ sym (map_more f os i o h)
@@ -20,7 +22,8 @@ object_more os i o out old new h at is pushed e =
     f : Object → List ℕ
     f o = places_in (names_of os) (map (λ u. u.items) o.uses.items)
 
-pub objects_done : (os : List Object) (i : ℕ) (uses : List (Vec ℕ Global)) → length os ≤ i → lists_in uses ≡ map (λ o. places_in (names_of os) (map (λ u. u.items) o.uses.items)) (take i os) → lists_in uses ≡ uses_of os
+pub objects_done : (os : List Object) (i : ℕ) (uses : List (Vec ℕ Global)) → length os ≤ i → lists_in uses ≡ map
+    (λ o. places_in (names_of os) (map (λ u. u.items) o.uses.items)) (take i os) → lists_in uses ≡ uses_of os
 objects_done os i uses h e = e ∙ ap (map (λ o. places_in (names_of os) (map (λ u. u.items) o.uses.items))) (take_all i os h)
 
 each_within : (names : List (List ℕ)) (n : ℕ) (os : List Object) → length names ≡ n → All (λ out. All (λ m. m < n) out) (map (λ o. places_in names (map (λ u. u.items) o.uses.items)) os)

@@ -22,7 +22,8 @@ one_more f old new x e = ap (sum_by f) e ∙ sum_by_push f old x
 pub two_more : {A : Type 0} (f : A → ℕ) (old mid new : List A) (x y : A) → mid ≡ old ++ x ∷ [] → new ≡ mid ++ y ∷ [] → sum_by f new ≡ sum_by f old + f x + f y
 two_more f old mid new x y m e = omega (arith, one_more f old mid x m, one_more f mid new y e)
 
-pub parts_work : (b : Nodes) (old new : List Pair) (ts us : Bor (List TypeId)) (k : ℕ) (t : Ty) → con k (tys (map (type_tree b) (map (λ t. t.0) ts.now))) ≡ t → new ≡ old ++ Parts ts us ∷ [] → pair_work b new + 1 ≤ pair_work b old + 3 * type_size t
+pub parts_work : (b : Nodes) (old new : List Pair) (ts us : Bor (List TypeId)) (k : ℕ) (t : Ty) → con k
+    (tys (map (type_tree b) (map (λ t. t.0) ts.now))) ≡ t → new ≡ old ++ Parts ts us ∷ [] → pair_work b new + 1 ≤ pair_work b old + 3 * type_size t
 parts_work b old new ts us k t e p =
     let w = one_more (pair_weighs b) old new (Parts ts us) p in
     let s : type_size t ≡ 1 + types_size (tys (map (λ t. type_tree b t.0) ts.now)) = ap type_size (sym e) ∙ ap (λ l. 1 + types_size (tys l)) (map_map (type_tree b) (λ t. t.0) ts.now) in

@@ -1,2 +1,4 @@
 pub mod Pairs
 pub mod Members
+pub mod Renumbering
+pub mod Parts

@@ -17,6 +17,9 @@ mod order;
 mod places;
 // Records with their numbers changed.
 mod records;
+// What linked records denote.
+mod laws;
 
 pub use fault::{LinkRefusal, Part};
+pub use laws::copies_denote;
 pub use linking::{check_copies, link};

@@ -18,7 +18,8 @@ returns-then-len-gt-MAX_CLAUSES-clause-refused c =
 pub loop-at-preserved : goal.loop-at-preserved
 loop-at-preserved c =
     let o = get_or c.args.objects.now c.loop-at.at c.index-objects-at.result in
-    all_at (λ o. length o.code.records.items ≤ 65535) c.args.objects.now c.loop-at.at c.index-objects-at.result c.loop-at-test.true (omega (arith, c.if-len-gt-MAX_CLAUSES.false, c.len.ensures, o.code.records.ok)) c.loop-at.invariant
+    all_at (λ o. length o.code.records.items ≤ 65535) c.args.objects.now c.loop-at.at c.index-objects-at.result c.loop-at-test.true
+    (omega (arith, c.if-len-gt-MAX_CLAUSES.false, c.len.ensures, o.code.records.ok)) c.loop-at.invariant
 
 pub returns-clause-few : goal.returns-clause-few
 returns-clause-few c = all_done (λ o. length o.code.records.items ≤ 65535) c.args.objects.now c.loop-at.at c.loop-at-test.false c.loop-at.invariant

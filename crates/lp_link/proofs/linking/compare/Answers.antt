@@ -11,7 +11,8 @@ pub copies-init : goal.copies-init
 copies-init c = (
   c.new-copying.ensures.copying,
   c.new-copying.ensures.root,
-  comparing_begins c.args.members.now (lists_in c.args.uses.now.items) c.args.root (frames_of c.new-copying.result) c.push.new.self.items c.new-copying.ensures.frames (c.in_ok-push.ensures.items ∙ ap (λ l. l ++ c.args.root ∷ []) c.new-around.ensures.items),
+  comparing_begins c.args.members.now (lists_in c.args.uses.now.items) c.args.root (frames_of c.new-copying.result) c.push.new.self.items
+      c.new-copying.ensures.frames (c.in_ok-push.ensures.items ∙ ap (λ l. l ++ c.args.root ∷ []) c.new-around.ensures.items),
   c.new-compared.ensures c.args.members.now,
 )
 
@@ -22,7 +23,8 @@ copies-preserved-in-Continue-branch-4 c =
     let move = subst (Moves uses (frames_of c.copies.copying) (frames_of c.go_on.new.self)) c.in-Entered.is c.in_ok-at.ensures.moves in (
       turn.0,
       turn.1 ∙ c.copies.invariant.1,
-      comparing_opens c.args.members.now uses c.args.root (frames_of c.copies.copying) (frames_of c.go_on.new.self) c.copies.around.items c.push-in-Entered.new.self.items c.in-Entered.at move c.in_ok-push-in-Entered.ensures.items c.copies.invariant.2,
+      comparing_opens c.args.members.now uses c.args.root (frames_of c.copies.copying) (frames_of c.go_on.new.self) c.copies.around.items
+          c.push-in-Entered.new.self.items c.in-Entered.at move c.in_ok-push-in-Entered.ensures.items c.copies.invariant.2,
       c.copies.invariant.3,
     )
 
@@ -34,11 +36,13 @@ returns-in_err-compare-in-Left-clause-refused c =
     let now = c.copies.invariant.2 in
     let n = some_open c.args.members.now uses c.args.root (frames_of c.copies.copying) c.in-Left.at (w.at, w.next) (reverse w.around.items) move c.copies.around.items now in
     let p = c.pop-copy.ensures.items ∙ ap (λ o. c.pop-copy.new.self.items ++ option_to_list o) (c.pop-copy.ensures.value 0 (omega (arith, n, c.copies.around.ok))) in
-    let last = last_is c.args.members.now uses c.args.root (frames_of c.copies.copying) c.in-Left.at (w.at, w.next) (reverse w.around.items) move c.copies.around.items now c.pop-copy.new.self.items _ c.copied.result p
+    let last = last_is c.args.members.now uses c.args.root (frames_of c.copies.copying) c.in-Left.at (w.at, w.next) (reverse w.around.items) move
+    c.copies.around.items now c.pop-copy.new.self.items _ c.copied.result p
     (c.copied.ensures ∙ c.last.ensures.value ∙ ap (λ l. slice_get l (length l - 1)) c.deref.ensures.value) in
     let above = some_same c.in-Some.above w.at (sym c.in-Some.is ∙ last) in
     passed_up c.from_residual-in_err-compare-in-Left.result c.in_err-compare-in-Left.field-0.0 (IsCompareRefusal c.args.members.now uses c.args.root) c.from_residual-in_err-compare-in-Left.ensures.1
-    (refused_first c.args.members.now uses c.args.root (frames_of c.copies.copying) c.in-Left.at (w.at, w.next) (reverse w.around.items) move c.copies.around.items now c.in_err-compare-in-Left.field-0.0
+    (refused_first c.args.members.now uses c.args.root (frames_of c.copies.copying) c.in-Left.at (w.at, w.next) (reverse w.around.items) move
+    c.copies.around.items now c.in_err-compare-in-Left.field-0.0
     (subst (λ a. IsOtherMember c.args.members.now c.in-Left.at a c.in_err-compare-in-Left.field-0.0) above c.in_err-compare-in-Left.ensures.refused))
 
 pub copies-preserved-in-Continue-branch-5 : goal.copies-preserved-in-Continue-branch-5
@@ -49,13 +53,15 @@ copies-preserved-in-Continue-branch-5 c =
     let now = c.copies.invariant.2 in
     let n = some_open c.args.members.now uses c.args.root (frames_of c.copies.copying) c.in-Left.at (w.at, w.next) (reverse w.around.items) move c.copies.around.items now in
     let p = c.pop-copy.ensures.items ∙ ap (λ o. c.pop-copy.new.self.items ++ option_to_list o) (c.pop-copy.ensures.value 0 (omega (arith, n, c.copies.around.ok))) in
-    let last = last_is c.args.members.now uses c.args.root (frames_of c.copies.copying) c.in-Left.at (w.at, w.next) (reverse w.around.items) move c.copies.around.items now c.pop-copy.new.self.items _ c.copied.result p
+    let last = last_is c.args.members.now uses c.args.root (frames_of c.copies.copying) c.in-Left.at (w.at, w.next) (reverse w.around.items) move
+    c.copies.around.items now c.pop-copy.new.self.items _ c.copied.result p
     (c.copied.ensures ∙ c.last.ensures.value ∙ ap (λ l. slice_get l (length l - 1)) c.deref.ensures.value) in
     let turn = subst (Turns uses c.copies.copying w) c.in-Left.is c.in_ok-at.ensures.turns in
     let above = some_same c.in-Some.above w.at (sym c.in-Some.is ∙ last) in (
       turn.0,
       turn.1 ∙ c.copies.invariant.1,
-      comparing_closes c.args.members.now uses c.args.root (frames_of c.copies.copying) c.in-Left.at (w.at, w.next) (reverse w.around.items) move c.copies.around.items now c.pop-copy.new.self.items _ p
+      comparing_closes c.args.members.now uses c.args.root (frames_of c.copies.copying) c.in-Left.at (w.at, w.next) (reverse w.around.items) move
+          c.copies.around.items now c.pop-copy.new.self.items _ p
           (subst (λ a. AreSameMembers c.args.members.now (c.in-Left.at, a)) above c.in_ok-compare-in-Left.ensures.same),
       c.in_ok-compare-in-Left.ensures.compared,
     )
@@ -68,7 +74,8 @@ copies-preserved c =
     let now = c.copies.invariant.2 in
     let n = some_open c.args.members.now uses c.args.root (frames_of c.copies.copying) c.in-Left.at (w.at, w.next) (reverse w.around.items) move c.copies.around.items now in
     let p = c.pop-copy.ensures.items ∙ ap (λ o. c.pop-copy.new.self.items ++ option_to_list o) (c.pop-copy.ensures.value 0 (omega (arith, n, c.copies.around.ok))) in
-    let last = last_is c.args.members.now uses c.args.root (frames_of c.copies.copying) c.in-Left.at (w.at, w.next) (reverse w.around.items) move c.copies.around.items now c.pop-copy.new.self.items _ c.copied.result p
+    let last = last_is c.args.members.now uses c.args.root (frames_of c.copies.copying) c.in-Left.at (w.at, w.next) (reverse w.around.items) move
+    c.copies.around.items now c.pop-copy.new.self.items _ c.copied.result p
     (c.copied.ensures ∙ c.last.ensures.value ∙ ap (λ l. slice_get l (length l - 1)) c.deref.ensures.value) in
     let turn = subst (Turns uses c.copies.copying w) c.in-Left.is c.in_ok-at.ensures.turns in
     absurd (some_is w.at (sym c.in_default.is ∙ last))
@@ -81,7 +88,8 @@ compare-requires-clause-above c =
     let now = c.copies.invariant.2 in
     let n = some_open c.args.members.now uses c.args.root (frames_of c.copies.copying) c.in-Left.at (w.at, w.next) (reverse w.around.items) move c.copies.around.items now in
     let p = c.pop-copy.ensures.items ∙ ap (λ o. c.pop-copy.new.self.items ++ option_to_list o) (c.pop-copy.ensures.value 0 (omega (arith, n, c.copies.around.ok))) in
-    let last = last_is c.args.members.now uses c.args.root (frames_of c.copies.copying) c.in-Left.at (w.at, w.next) (reverse w.around.items) move c.copies.around.items now c.pop-copy.new.self.items _ c.copied.result p
+    let last = last_is c.args.members.now uses c.args.root (frames_of c.copies.copying) c.in-Left.at (w.at, w.next) (reverse w.around.items) move
+    c.copies.around.items now c.pop-copy.new.self.items _ c.copied.result p
     (c.copied.ensures ∙ c.last.ensures.value ∙ ap (λ l. slice_get l (length l - 1)) c.deref.ensures.value) in
     let turn = subst (Turns uses c.copies.copying w) c.in-Left.is c.in_ok-at.ensures.turns in
     let above = some_same c.in-Some.above w.at (sym c.in-Some.is ∙ last) in

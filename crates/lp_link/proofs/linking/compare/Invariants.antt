@@ -7,7 +7,8 @@ use Rattle.lp_link.proofs.linking.compare.Given as goal
 
 abbrev pub invariant-copies : goal.invariant-copies
 invariant-copies l =
-    IsCopying (lists_in l.uses.items) l.copying × (l.copying.root ≡ l.root) × IsComparing l.members (lists_in l.uses.items) l.root (frames_of l.copying) l.around.items × AreCompared l.members (contains pair_eq l.compared.same)
+    IsCopying (lists_in l.uses.items) l.copying × (l.copying.root ≡ l.root) × IsComparing l.members (lists_in l.uses.items) l.root
+    (frames_of l.copying) l.around.items × AreCompared l.members (contains pair_eq l.compared.same)
 
 abbrev pub decreases-copies : goal.decreases-copies
 decreases-copies l = copy_load l.copying

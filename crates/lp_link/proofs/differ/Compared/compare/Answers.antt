@@ -24,10 +24,12 @@ pub returns-then-contains-clause-same : goal.returns-then-contains-clause-same
 returns-then-contains-clause-same c = c.requires.compared (c.args.below, c.args.above) (sym c.contains.ensures ∙ c.if-contains.true)
 
 pub returns-clause-same : goal.returns-clause-same
-returns-clause-same c = same_here c.args.members.now c.args.below c.args.above c.index-members-below.result c.index-members-above.result c.requires.below c.requires.above c.index-members-below.is c.index-members-above.is (c.in_ok-part.ensures.same c.in_default.is)
+returns-clause-same c = same_here c.args.members.now c.args.below c.args.above c.index-members-below.result c.index-members-above.result
+    c.requires.below c.requires.above c.index-members-below.is c.index-members-above.is (c.in_ok-part.ensures.same c.in_default.is)
 
 pub returns-clause-compared : goal.returns-clause-compared
 returns-clause-compared c =
     compared_more c.args.members.now (c.args.below, c.args.above) (contains pair_eq c.args.self.now.same) (contains pair_eq c.insert.new.self) c.requires.compared
-    (same_here c.args.members.now c.args.below c.args.above c.index-members-below.result c.index-members-above.result c.requires.below c.requires.above c.index-members-below.is c.index-members-above.is (c.in_ok-part.ensures.same c.in_default.is))
+    (same_here c.args.members.now c.args.below c.args.above c.index-members-below.result c.index-members-above.result c.requires.below
+    c.requires.above c.index-members-below.is c.index-members-above.is (c.in_ok-part.ensures.same c.in_default.is))
     c.in_ok-_new.ensures.updates.0
