@@ -2,7 +2,7 @@
 use Rattle.std.proofs.Common.{◌≡◌, ℕ, suc, ◌<◌, List, [], ◌∷◌, length, map, get_or, refl, sym, ap, subst, ◌∙◌, arith}
 use Rattle.std.specs.Prelude.{All}
 use Rattle.std.proofs.lemmas.List.Elements.{All-head, All-tail, All-cons}
-use Rattle.lp_calculus.specs.Types.{Ty, var}
+use Rattle.lp_calculus.specs.Types.{var}
 use Rattle.lp_syntax.specs.declared.text.SignatureText.{SignatureText}
 use Rattle.lp_term.specs.Node.{type_top}
 use Rattle.lp_term.specs.Nodes.{Nodes, type_tree, trees_after}
@@ -29,7 +29,7 @@ parameters_same (x ∷ es) (f ∷ fs) e =
     λ i. ((h i).0, (h i).1.0) ∷ parameters_same es fs t i
 
 module _ (b d : Nodes) (types : d.types ≡ b.types) where
-  tree_same : (i j : ℕ) → j ≡ i → type_tree d j ≡ type_tree b i
+  pub tree_same : (i j : ℕ) → j ≡ i → type_tree d j ≡ type_tree b i
   unfolding type_tree
   tree_same i j e = ap (λ ts. get_or (trees_after type_top (var 0) [] ts) j (var 0)) types ∙ ap (λ k. get_or (trees_after type_top (var 0) [] b.types) k (var 0)) e
 

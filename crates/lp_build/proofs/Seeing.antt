@@ -1,11 +1,10 @@
 -- The signatures that a module sees, one after the other, and the operators of those that are seen.
-use Rattle.std.proofs.Common.{◌≡◌, ℕ, ◌+◌, ◌<◌, List, [], ◌∷◌, ◌++◌, length, Option, Some, None, Bool, true, false, inl, inr, refl, sym, ap, subst, ◌∙◌, arith}
+use Rattle.std.proofs.Common.{◌≡◌, ℕ, List, [], ◌∷◌, ◌++◌, Option, Some, None, Bool, true, false, inl, inr, refl, sym, ap, subst, ◌∙◌}
 use Rattle.std.specs.Prelude.{◌⊎◌, Contains, nat_eq, not}
 use Rattle.std.specs.List.{list_any}
 use Rattle.std.specs.Option.{option_to_list}
 use Rattle.std.proofs.lemmas.List.Elements.{Contains-append_left, Contains-append_right, Contains-append_cases}
 use Rattle.indexmap.specs.IndexSet.{insert_key}
-use Rattle.lp_sig.specs.Refusals.{IsAt}
 use Rattle.lp_syntax.specs.Tokens.{Operators}
 use Rattle.lp_build.specs.Sights.{Sees, SeesFirst, sees_first, sees_more, signature_of, accum_sig_at, accumulate_at, InForce, standard_ones, seen_file, other_file}
 use Rattle.lp_build.specs.inner.Linked.{IsPutBack, IsSeenSoFar}

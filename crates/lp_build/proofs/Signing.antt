@@ -1,6 +1,6 @@
 -- Signatures by their names, one file after the other, and what words name.
 use Rattle.std.specs.Global.{Global}
-use Rattle.std.proofs.Common.{◌≡◌, ℕ, suc, ◌+◌, ◌<◌, ◌≤◌, List, [], ◌∷◌, ◌++◌, length, map, take, drop, get_or, Option, Some, None, Bool, true, false, refl, sym, ap, subst, ◌∙◌, true≢false, arith}
+use Rattle.std.proofs.Common.{◌≡◌, ℕ, suc, ◌+◌, ◌<◌, ◌≤◌, List, [], ◌∷◌, ◌++◌, length, map, take, drop, get_or, Option, Some, None, Bool, true, false, refl, sym, ap, ◌∙◌, true≢false, arith}
 use Rattle.std.specs.Prelude.{if◌then◌else◌, option_map, is_some, string_bytes, filter_map, nat_eq, Vec}
 use Rattle.std.specs.Option.{option_or}
 use Rattle.std.specs.Str.{bytes_eq}
@@ -13,11 +13,11 @@ use Rattle.lp_build.specs.inner.Linked.{lists_of}
 use Rattle.lp_build.specs.declared.sources.File.{File}
 use Rattle.lp_build.specs.declared.sources.Part.TheVariants as part
 
-or_none : (o : Option ℕ) → option_or o None ≡ o
+pub or_none : (o : Option ℕ) → option_or o None ≡ o
 or_none None = refl
 or_none (Some i) = refl
 
-later : (a : Option ℕ) (t : Bool) (n : ℕ) → option_map (λ i. suc i) (option_or a (if t then Some n else None)) ≡ option_or (option_map (λ i. suc i) a) (if t then Some (suc n) else None)
+pub later : (a : Option ℕ) (t : Bool) (n : ℕ) → option_map (λ i. suc i) (option_or a (if t then Some n else None)) ≡ option_or (option_map (λ i. suc i) a) (if t then Some (suc n) else None)
 later None true n = refl
 later None false n = refl
 later (Some a) t n = refl

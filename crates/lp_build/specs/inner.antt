@@ -1,1 +1,3 @@
 pub mod Linked
+pub mod Placed
+pub mod Wholes

@@ -2,6 +2,7 @@
 ghost use Rattle.std.specs.Prelude.{◌≡◌, ◌++◌, ◌∷◌, [], ◌<◌, ◌^◌, codes, IfOk, OnOk, IfErr, length};
 ghost use Rattle.std.specs.Prelude.{None};
 ghost use Rattle.lp_build.specs.Loads.{Outside, fault_of, IsOfLoading, IsOfWord, names_of, BeginsWith, Keeps, ending};
+ghost use Rattle.lp_build.specs.Reads.{AreRead};
 ghost use Rattle.lp_build.specs.Told.{HoldsTold};
 
 use crate::fault::BuildFault;
@@ -63,6 +64,7 @@ impl Loading {
     ) -> Result<usize, BuildFault>
         ensures outside { Outside F.read_faults F.misses F.overs F.write_faults F.held folder.old folder.new (fault_of result) }
         ensures refused { IfErr result (IsOfLoading (length self.new.sources.files.items)) }
+        ensures read { OnOk result (AreRead self.old.sources → AreRead self.new.sources) }
         ensures told { HoldsTold (F.held folder.old) self.old.known.items self.old.sources None → HoldsTold (F.held folder.old) self.new.known.items self.new.sources (fault_of result) }
         ensures names { OnOk result (names_of self.new.sources.files.items ≡ names_of self.old.sources.files.items ++ (name.now ++ ending part) ∷ []) }
     {
@@ -80,6 +82,7 @@ impl Loading {
     fn load_signature<F: Folder>(&mut self, folder: &mut F, name: &str) -> Result<(), BuildFault>
         ensures outside { Outside F.read_faults F.misses F.overs F.write_faults F.held folder.old folder.new (fault_of result) }
         ensures refused { IfErr result (IsOfLoading (length self.new.sources.files.items)) }
+        ensures read { OnOk result (AreRead self.old.sources → AreRead self.new.sources) }
         ensures told { HoldsTold (F.held folder.old) self.old.known.items self.old.sources None → HoldsTold (F.held folder.old) self.new.known.items self.new.sources (fault_of result) }
         ensures names { OnOk result (names_of self.new.sources.files.items ≡ names_of self.old.sources.files.items ++ (name.now ++ codes ".sig") ∷ []) }
     {
@@ -92,6 +95,7 @@ impl Loading {
     fn load_module<F: Folder>(&mut self, folder: &mut F, name: &str) -> Result<(), BuildFault>
         ensures outside { Outside F.read_faults F.misses F.overs F.write_faults F.held folder.old folder.new (fault_of result) }
         ensures refused { IfErr result (IsOfLoading (length self.new.sources.files.items)) }
+        ensures read { OnOk result (AreRead self.old.sources → AreRead self.new.sources) }
         ensures told { HoldsTold (F.held folder.old) self.old.known.items self.old.sources None → HoldsTold (F.held folder.old) self.new.known.items self.new.sources (fault_of result) }
         ensures keeps { OnOk result (Keeps (names_of self.old.sources.files.items) (names_of self.new.sources.files.items)) }
     {
@@ -133,6 +137,7 @@ impl Loading {
     fn want_signature<F: Folder>(&mut self, folder: &mut F, name: &str) -> Result<(), BuildFault>
         ensures outside { Outside F.read_faults F.misses F.overs F.write_faults F.held folder.old folder.new (fault_of result) }
         ensures refused { IfErr result (IsOfLoading (length self.new.sources.files.items)) }
+        ensures read { OnOk result (AreRead self.old.sources → AreRead self.new.sources) }
         ensures told { HoldsTold (F.held folder.old) self.old.known.items self.old.sources None → HoldsTold (F.held folder.old) self.new.known.items self.new.sources (fault_of result) }
         ensures keeps { OnOk result (Keeps (names_of self.old.sources.files.items) (names_of self.new.sources.files.items)) }
     {
@@ -146,6 +151,7 @@ impl Loading {
     fn want_module<F: Folder>(&mut self, folder: &mut F, name: &str) -> Result<(), BuildFault>
         ensures outside { Outside F.read_faults F.misses F.overs F.write_faults F.held folder.old folder.new (fault_of result) }
         ensures refused { IfErr result (IsOfLoading (length self.new.sources.files.items)) }
+        ensures read { OnOk result (AreRead self.old.sources → AreRead self.new.sources) }
         ensures told { HoldsTold (F.held folder.old) self.old.known.items self.old.sources None → HoldsTold (F.held folder.old) self.new.known.items self.new.sources (fault_of result) }
         ensures keeps { OnOk result (Keeps (names_of self.old.sources.files.items) (names_of self.new.sources.files.items)) }
     {
@@ -165,6 +171,7 @@ impl Loading {
     ) -> Result<(), BuildFault>
         ensures outside { Outside F.read_faults F.misses F.overs F.write_faults F.held folder.old folder.new (fault_of result) }
         ensures refused { IfErr result (IsOfLoading (length self.new.sources.files.items)) }
+        ensures read { OnOk result (AreRead self.old.sources → AreRead self.new.sources) }
         ensures told { HoldsTold (F.held folder.old) self.old.known.items self.old.sources None → HoldsTold (F.held folder.old) self.new.known.items self.new.sources (fault_of result) }
         ensures keeps { OnOk result (Keeps (names_of self.old.sources.files.items) (names_of self.new.sources.files.items)) }
     {
@@ -185,6 +192,7 @@ impl Loading {
     ) -> Result<(), BuildFault>
         ensures outside { Outside F.read_faults F.misses F.overs F.write_faults F.held folder.old folder.new (fault_of result) }
         ensures refused { IfErr result (IsOfLoading (length self.new.sources.files.items)) }
+        ensures read { OnOk result (AreRead self.old.sources → AreRead self.new.sources) }
         ensures told { HoldsTold (F.held folder.old) self.old.known.items self.old.sources None → HoldsTold (F.held folder.old) self.new.known.items self.new.sources (fault_of result) }
         ensures keeps { OnOk result (Keeps (names_of self.old.sources.files.items) (names_of self.new.sources.files.items)) }
     {
@@ -203,6 +211,7 @@ impl Loading {
     fn step<F: Folder>(&mut self, folder: &mut F, work: Work) -> Result<(), BuildFault>
         ensures outside { Outside F.read_faults F.misses F.overs F.write_faults F.held folder.old folder.new (fault_of result) }
         ensures refused { IfErr result (IsOfLoading (length self.new.sources.files.items)) }
+        ensures read { OnOk result (AreRead self.old.sources → AreRead self.new.sources) }
         ensures told { HoldsTold (F.held folder.old) self.old.known.items self.old.sources None → HoldsTold (F.held folder.old) self.new.known.items self.new.sources (fault_of result) }
         ensures keeps { OnOk result (Keeps (names_of self.old.sources.files.items) (names_of self.new.sources.files.items)) }
     {
@@ -217,6 +226,7 @@ impl Loading {
     fn begin<F: Folder>(&mut self, folder: &mut F, root: &str) -> Result<(), BuildFault>
         ensures outside { Outside F.read_faults F.misses F.overs F.write_faults F.held folder.old folder.new (fault_of result) }
         ensures refused { IfErr result (IsOfLoading (length self.new.sources.files.items)) }
+        ensures read { OnOk result (AreRead self.old.sources → AreRead self.new.sources) }
         ensures told { HoldsTold (F.held folder.old) self.old.known.items self.old.sources None → HoldsTold (F.held folder.old) self.new.known.items self.new.sources (fault_of result) }
         ensures names { OnOk result (names_of self.new.sources.files.items ≡ names_of self.old.sources.files.items ++ (root.now ++ codes ".sig") ∷ []) }
     {
@@ -231,6 +241,7 @@ impl Loading {
         requires { self.old.sources.files.items ≡ [] }
         ensures outside { Outside F.read_faults F.misses F.overs F.write_faults F.held folder.old folder.new (fault_of result) }
         ensures refused { IfErr result (IsOfLoading (length self.new.sources.files.items)) }
+        ensures read { OnOk result (AreRead self.old.sources → AreRead self.new.sources) }
         ensures told { HoldsTold (F.held folder.old) self.old.known.items self.old.sources None → HoldsTold (F.held folder.old) self.new.known.items self.new.sources (fault_of result) }
         ensures begins { OnOk result (BeginsWith (root.now ++ codes ".sig") (names_of self.new.sources.files.items)) }
     {

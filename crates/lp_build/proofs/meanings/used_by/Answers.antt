@@ -1,6 +1,6 @@
 use Rattle.std.proofs.Common.{[], ◌++◌, sym, subst}
 use Rattle.lp_build.specs.Meant.{AreSignaturesOf, no_signature}
-use Rattle.lp_build.specs.Sights.{accum_sig_at, accumulate_at}
+use Rattle.lp_build.specs.Sights.{accum_sig_at}
 use Rattle.lp_build.proofs.meanings.used_by.Goals as goal
 
 pub returns : goal.returns

@@ -3,8 +3,6 @@ use Rattle.std.proofs.lemmas.List.{take_all}
 use Rattle.lp_build.specs.Sights.{accum_sig_of, accumulate_of, named_by}
 use Rattle.lp_build.specs.inner.Linked.{HasSignatures}
 use Rattle.lp_build.proofs.Signing.{list_more}
-use Rattle.lp_build.proofs.Copied.{copy_declared}
-use Rattle.lp_build.proofs.Growing.{few_texts}
 use Rattle.lp_build.proofs.links.Links.of.Goals as goal
 
 pub loop-at-preserved : goal.loop-at-preserved

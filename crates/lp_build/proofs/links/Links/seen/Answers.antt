@@ -1,4 +1,4 @@
-use Rattle.std.proofs.Common.{◌∙◌, arith}
+use Rattle.std.proofs.Common.{arith}
 use Rattle.std.proofs.lemmas.List.{nil_from_length}
 use Rattle.lp_build.proofs.Seeing.{seen_start, seen_one, seen_all}
 use Rattle.lp_build.proofs.links.Links.seen.Goals as goal

@@ -1,4 +1,4 @@
-use Rattle.std.proofs.Common.{◌∙◌, ap, sym, ◌++◌}
+use Rattle.std.proofs.Common.{◌∙◌, ap, ◌++◌}
 use Rattle.lp_build.proofs.Seeing.{put_new, put_old}
 use Rattle.lp_build.proofs.links.Links.take.Goals as goal
 

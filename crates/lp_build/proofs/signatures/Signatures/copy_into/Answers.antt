@@ -1,4 +1,4 @@
-use Rattle.std.proofs.Common.{◌++◌, ◌∙◌, ap, sym, subst, arith, take, get_or}
+use Rattle.std.proofs.Common.{◌++◌, sym, subst, get_or}
 use Rattle.std.proofs.lemmas.List.{append-nil, take_all, get_or_default}
 use Rattle.lp_build.specs.Meant.{AreSignaturesOf}
 use Rattle.lp_build.proofs.Growing.{signature_next}

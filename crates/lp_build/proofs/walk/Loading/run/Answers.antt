@@ -7,6 +7,7 @@ pub loop-preserved : goal.loop-preserved
 loop-preserved g c = record {
   begins = c.in_ok-step-in-Some.ensures.keeps _ c.loop.invariant.begins;
   outside = outside_then _ _ _ _ _ _ _ _ _ c.loop.invariant.outside c.in_ok-step-in-Some.ensures.outside;
+  read = λ h. c.in_ok-step-in-Some.ensures.read (c.loop.invariant.read h);
   told = λ h. told_still _ _ _ _ _ c.loop.invariant.outside.same (c.in_ok-step-in-Some.ensures.told (told_still _ _ _ _ _ (sym c.loop.invariant.outside.same) (c.loop.invariant.told h)));
 }
 
@@ -20,3 +21,6 @@ returns-in-None-clause-told g c = c.loop.invariant.told
 
 pub returns-clause-told : goal.returns-clause-told
 returns-clause-told g c = λ h. told_memory _ _ _ (c.loop.invariant.told h)
+
+pub returns-in-None-clause-read : goal.returns-in-None-clause-read
+returns-in-None-clause-read g c = c.loop.invariant.read
