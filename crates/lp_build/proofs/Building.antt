@@ -19,12 +19,14 @@ use Rattle.lp_build.specs.declared.fault.BuildFault.{BuildFault}
 use Rattle.lp_build.specs.declared.sources.File.{File}
 use Rattle.lp_build.specs.declared.sources.Sources.{Sources}
 
-pub root_is : (files : List File) (w : Whole) (name : String Global) (bytes : List ℕ) (r : Option (Bor Signature)) → bytes ≡ string_bytes name → IsAt w.texts.modules.names.items 0 name → IfSome r (λ own. IsOwnSignature files w.texts.signatures bytes own.now) →
+pub root_is : (files : List File) (w : Whole) (name : String Global) (bytes : List ℕ) (r : Option (Bor Signature)) → bytes ≡ string_bytes name → IsAt
+    w.texts.modules.names.items 0 name → IfSome r (λ own. IsOwnSignature files w.texts.signatures bytes own.now) →
     IfSome r (λ own. IsRootSignature files w own.now)
 root_is files w name bytes None e at h = tt
 root_is files w name bytes (Some own) e at h = record { name = name; first = at; is = subst (λ n. IsOwnSignature files w.texts.signatures n own.now) e h }
 
-pub program_is : (modules : List Module) (own : Signature) (root : ℕ) (assembled : Assembled) (built : Built) → root + 1 ≡ length modules → IsProgram modules root assembled → IsSeenOf own assembled built → IsProgramOf modules own built
+pub program_is : (modules : List Module) (own : Signature) (root : ℕ) (assembled : Assembled) (built : Built) → root + 1 ≡ length modules → IsProgram
+    modules root assembled → IsSeenOf own assembled built → IsProgramOf modules own built
 program_is modules own root assembled built last h s = record {
   root = root;
   last = last;
@@ -33,7 +35,8 @@ program_is modules own root assembled built last h s = record {
   operators = s.operators;
 }
 
-pub built_is : (sources : Sources) (w : Whole) (modules : List Module) (own : Signature) (r : Result Built BuildFault) → IsWhole sources.files.items w → AreModulesOf sources.files.items w.texts.signatures w.texts.modules modules → IsRootSignature sources.files.items w own →
+pub built_is : (sources : Sources) (w : Whole) (modules : List Module) (own : Signature) (r : Result Built BuildFault) → IsWhole sources.files.items w
+    → AreModulesOf sources.files.items w.texts.signatures w.texts.modules modules → IsRootSignature sources.files.items w own →
     IfOk r (IsProgramOf modules own) → IfOk r (IsBuilt sources)
 built_is sources w modules own (Err e) whole are root h = tt
 built_is sources w modules own (Ok built) whole are root h = record {

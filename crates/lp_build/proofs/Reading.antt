@@ -25,14 +25,17 @@ none_read sources e = record {
   each = λ n f at. absurd (nothing_at n f (subst (λ l. IsAt l n f) e at));
 }
 
-pub one_read : (old new : Sources) (n : ℕ) (f : File) → n ≡ length old.files.items → n < MAX_MODULES → new.files.items ≡ old.files.items ++ f ∷ [] → string_bytes f.name ≡ string_bytes f.module ++ ending f.part → IsReadText n f.text → AreRead old → AreRead new
+pub one_read : (old new : Sources) (n : ℕ) (f : File) → n ≡ length old.files.items → n < MAX_MODULES → new.files.items ≡ old.files.items ++ f ∷ [] →
+    string_bytes f.name ≡ string_bytes f.module ++ ending f.part → IsReadText n f.text → AreRead old → AreRead new
 one_read old new n f at few e name text h = record {
   few = let l = ap length e ∙ length_push old.files.items f in omega (arith, l, at, few);
   each = λ k g there. each_more IsReadFile old.files.items f h.each (record { name = name; text = subst (λ x. IsReadText x f.text) at text }) k g (subst (λ l. IsAt l k g) e there);
 }
 
 -- a text with its tokens, and with what it says of other files
-pub text_read : (number : ℕ) (text : Text) (bytes : List ℕ) (tokens : List Token) → bytes ≡ text.bytes.items → tokens ≡ text.tokens.items → HasTokens bytes text.tokens.items → AreReferences (spot_at number bytes tokens) (lexemes bytes tokens) (length tokens) text.references → IsReadText number text
+pub text_read : (number : ℕ) (text : Text) (bytes : List ℕ) (tokens : List Token) → bytes ≡ text.bytes.items → tokens ≡ text.tokens.items → HasTokens
+    bytes text.tokens.items → AreReferences (spot_at number bytes tokens) (lexemes bytes tokens) (length tokens) text.references → IsReadText number
+    text
 text_read number text bytes tokens b t has refer = record {
   tokens = subst (λ x. HasTokens x text.tokens.items) b has;
   references = subst (λ x. AreReferences (spot_at number x text.tokens.items) (lexemes x text.tokens.items) (length text.tokens.items) text.references) b

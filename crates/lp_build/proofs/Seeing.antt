@@ -62,9 +62,12 @@ module _ (files : List File) (file : ℕ) (name : List ℕ) where
       begun k c = of_three k (Contains-append_cases (accum_sig_at files file ++ accumulate_at files file) (option_to_list (signature_of files name)) k c)
 
       begins : (k : ℕ) → SeesFirst files file name k → Contains (accum_sig_at files file ++ accumulate_at files file ++ option_to_list (signature_of files name)) k
-      begins k (inl e) = Contains-append_right (accum_sig_at files file ++ accumulate_at files file) (option_to_list (signature_of files name)) k (subst (λ o. Contains (option_to_list o) k) (sym e) (last_in [] k))
-      begins k (inr (inl c)) = Contains-append_left (accum_sig_at files file ++ accumulate_at files file) (option_to_list (signature_of files name)) k (Contains-append_left (accum_sig_at files file) (accumulate_at files file) k c)
-      begins k (inr (inr c)) = Contains-append_left (accum_sig_at files file ++ accumulate_at files file) (option_to_list (signature_of files name)) k (Contains-append_right (accum_sig_at files file) (accumulate_at files file) k c)
+      begins k (inl e) = Contains-append_right (accum_sig_at files file ++ accumulate_at files file) (option_to_list (signature_of files name)) k
+          (subst (λ o. Contains (option_to_list o) k) (sym e) (last_in [] k))
+      begins k (inr (inl c)) = Contains-append_left (accum_sig_at files file ++ accumulate_at files file) (option_to_list (signature_of files name)) k
+          (Contains-append_left (accum_sig_at files file) (accumulate_at files file) k c)
+      begins k (inr (inr c)) = Contains-append_left (accum_sig_at files file ++ accumulate_at files file) (option_to_list (signature_of files name)) k
+          (Contains-append_right (accum_sig_at files file) (accumulate_at files file) k c)
 
   -- where nothing is left, what was met is what is seen
   pub seen_all : (seen work : List ℕ) → work ≡ [] → IsSeenSoFar files file name seen work → (k : ℕ) → Sees files file name k → Contains seen k
@@ -80,7 +83,8 @@ module _ (files : List File) (file : ℕ) (name : List ℕ) where
       by (inr c) = absurd (nothing_in k (subst (λ l. Contains l k) e c))
 
   -- one more is met
-  pub seen_one : (seen seen' work rest work' : List ℕ) (n : ℕ) → work ≡ rest ++ n ∷ [] → seen' ≡ insert_key nat_eq seen n → IsPutBack files n seen rest work' → IsSeenSoFar files file name seen work → IsSeenSoFar files file name seen' work'
+  pub seen_one : (seen seen' work rest work' : List ℕ) (n : ℕ) → work ≡ rest ++ n ∷ [] → seen' ≡ insert_key nat_eq seen n → IsPutBack files n seen
+      rest work' → IsSeenSoFar files file name seen work → IsSeenSoFar files file name seen' work'
   seen_one seen seen' work rest work' n taken key put so = record {
     met = λ k h. is_met k (inserted_from seen n k (subst (λ l. Contains l k) key h));
     waiting = λ k h. is_waiting k (put.only k h);

@@ -51,7 +51,8 @@ module _ (told : Option Held) (name text : List ℕ) (a b : Option (List ℕ)) (
       written n = (line, subst (IsJudgement told name text line) (sym (kept n).0) j, (kept n).1)
 
   -- the verdict on the modules of the texts and the query
-  pub judges_texts : (ms : List Module) (bank : Nodes) (query : Typed) (line : List ℕ) (said : Status) → AreToldTexts told name text ms bank query → IsVerdictLine ms (tree bank query.formula.0) line said
+  pub judges_texts : (ms : List Module) (bank : Nodes) (query : Typed) (line : List ℕ) (said : Status) → AreToldTexts told name text ms bank query →
+      IsVerdictLine ms (tree bank query.formula.0) line said
       → (result ≢ variant.WriteFault → (result ≡ said) × Appends a b line) → Judges told name text a b result
   judges_texts ms bank query line said h t kept = judges_told line said (record { modules = ms; bank = bank; query = query; texts = h; verdict = t }) kept
 

@@ -11,7 +11,9 @@ loop-at-init c = λ names has. subst (λ l. AllZip (IsKindOf names) [] (map kind
 
 pub loop-at-preserved : goal.loop-at-preserved
 loop-at-preserved c = λ names has.
-    zip_more (IsKindOf names) kind_row c.kinds-entries.result.now c.loop-at.at c.index-entries-at.result c.in_ok-kind.kind c.loop-at.kinds.items c.push.new.self.items c.loop-at-test.true c.index-entries-at.is c.in_ok-push.ensures.items (c.in_ok-kind.ensures names has) (c.loop-at.invariant names has)
+    zip_more (IsKindOf names) kind_row c.kinds-entries.result.now c.loop-at.at c.index-entries-at.result c.in_ok-kind.kind c.loop-at.kinds.items
+    c.push.new.self.items c.loop-at-test.true c.index-entries-at.is c.in_ok-push.ensures.items (c.in_ok-kind.ensures names has)
+    (c.loop-at.invariant names has)
 
 pub returns : goal.returns
 returns c = λ names has.

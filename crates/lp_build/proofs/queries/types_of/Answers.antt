@@ -12,6 +12,7 @@ put_renumbered-requires c = subst (λ n. TypeBelow n (type_shape c.type_node.res
 pub loop-number-preserved : goal.loop-number-preserved
 loop-number-preserved c = record {
   count = c.in_ok-put_renumbered.ensures.count ∙ ap (λ n. n + 1) c.loop-number.invariant.count;
-  trees = tree_more (λ k. unwrap_or (get nat_eq c.args.numbers.now k) k) c.loop-number.types c.put_renumbered.new.bank c.args.bank.now c.loop-number.number (type_shape c.type_node.result) c.loop-number.invariant.count
+  trees = tree_more (λ k. unwrap_or (get nat_eq c.args.numbers.now k) k) c.loop-number.types c.put_renumbered.new.bank c.args.bank.now
+      c.loop-number.number (type_shape c.type_node.result) c.loop-number.invariant.count
       c.put_renumbered.ensures.kept c.in_ok-put_renumbered.ensures.tree c.type_node.ensures.older c.type_node.ensures.tree c.loop-number.invariant.trees;
 }

@@ -23,4 +23,5 @@ pub returns-in-Err-clause-placed : goal.returns-in-Err-clause-placed
 returns-in-Err-clause-placed g c = λ known. c.load_refused.ensures.placed _ (c.in-Err.ensures.fault known)
 
 pub returns-in-Ok-clause-program : goal.returns-in-Ok-clause-program
-returns-in-Ok-clause-program g c = λ known. loaded_is _ c.args.name.now c.in-Ok.sources c.build.result c.in-Ok.ensures.begins (c.in-Ok.ensures.files known) c.in-Ok.ensures.read (c.build.ensures.program c.in-Ok.ensures.read)
+returns-in-Ok-clause-program g c = λ known. loaded_is _ c.args.name.now c.in-Ok.sources c.build.result c.in-Ok.ensures.begins
+    (c.in-Ok.ensures.files known) c.in-Ok.ensures.read (c.build.ensures.program c.in-Ok.ensures.read)
