@@ -205,17 +205,17 @@ equation_stands h later s standard.Equal c t l r i d n a e =
     let eight = number_back c standard.Equal n in
     let fits = equation_fits h s c t l r (ap h.tables.constants eight ∙ d.at 8 (omega arith)) a in
     subst (λ i. StandsFor h later s i c (t ∷ []) (l ∷ r ∷ [])) is (read_by refl refl refl refl a.types_set a.terms_set refl fits a.closed refl
-        (ap (λ x. not x) a.behind_head) refl (λ rest. refl) refl (ap (λ m. Some (turned s
-        (with_goal s.goals (Atomic (apply (atom (constant m (type_in s.now t ∷ []))) ((term_in s.now l).term ∷ (term_in s.now r).term ∷ []))))
-        s.head_types s.head_arguments)) (sym eight)) (omega arith))
+    (ap (λ x. not x) a.behind_head) refl (λ rest. refl) refl (ap (λ m. Some (turned s
+    (with_goal s.goals (Atomic (apply (atom (constant m (type_in s.now t ∷ []))) ((term_in s.now l).term ∷ (term_in s.now r).term ∷ []))))
+    s.head_types s.head_arguments)) (sym eight)) (omega arith))
 equation_stands h later s standard.Is c t l r i d n a e =
     let is : on.Is t l r ≡ i = cc in
     let nine = number_back c standard.Is n in
     let fits = equation_fits h s c t l r (ap h.tables.constants nine ∙ d.at 9 (omega arith)) a in
     subst (λ i. StandsFor h later s i c (t ∷ []) (l ∷ r ∷ [])) is (read_by refl refl refl refl a.types_set a.terms_set refl fits a.closed refl
-        (ap (λ x. not x) a.behind_head) refl (λ rest. refl) refl (ap (λ m. Some (turned s
-        (with_goal s.goals (Atomic (apply (atom (constant m (type_in s.now t ∷ []))) ((term_in s.now l).term ∷ (term_in s.now r).term ∷ []))))
-        s.head_types s.head_arguments)) (sym nine)) (omega arith))
+    (ap (λ x. not x) a.behind_head) refl (λ rest. refl) refl (ap (λ m. Some (turned s
+    (with_goal s.goals (Atomic (apply (atom (constant m (type_in s.now t ∷ []))) ((term_in s.now l).term ∷ (term_in s.now r).term ∷ []))))
+    s.head_types s.head_arguments)) (sym nine)) (omega arith))
 equation_stands h later s _ c t l r i d n a e = absurd (cc)
 
 order_stands : (h : Home) (later : Later) (s : State) (k : Constant) (c l r : ℕ) (i : Instr) → IsStandard h.tables.constants → numbered c ≡ Some k → AreGoalParts h s c [] (l ∷ r ∷ []) →

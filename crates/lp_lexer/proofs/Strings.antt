@@ -103,10 +103,10 @@ told (b ∷ c ∷ bs) =
     cond_both (nat_eq b 34) _ _ P (quoted b (c ∷ bs)) (λ no.
     cond_both (nat_eq b 10) Open _ P (λ e. rw (no, e) refl) (λ line.
     cond_both (nat_eq b 92) _ _ P (λ e. cond_both (is_in Escaped c) _ (BadAt 0) P (λ f. subst (λ x. Told (x ∷ c ∷ bs) (further 2 (text_end bs)))
-        (sym (eqb-true b 92 e)) (grow_escape c bs (text_end bs) f (told bs))) (λ f. bad_here b (c ∷ bs) (slash_not_plain b e)
-        (and_right (nat_eq b 92) _ f) no line)) (λ slash. cond_both (is_in Inside b) _ (BadAt 0) P
-        (λ f. grow_plain b (c ∷ bs) (text_end (c ∷ bs)) (inside_plain b no slash f) (told (c ∷ bs)))
-        (λ f. bad_here b (c ∷ bs) (outside_not_plain b f) (and_left (nat_eq b 92) _ slash) no line))))
+    (sym (eqb-true b 92 e)) (grow_escape c bs (text_end bs) f (told bs))) (λ f. bad_here b (c ∷ bs) (slash_not_plain b e)
+    (and_right (nat_eq b 92) _ f) no line)) (λ slash. cond_both (is_in Inside b) _ (BadAt 0) P
+    (λ f. grow_plain b (c ∷ bs) (text_end (c ∷ bs)) (inside_plain b no slash f) (told (c ∷ bs)))
+    (λ f. bad_here b (c ∷ bs) (outside_not_plain b f) (and_left (nat_eq b 92) _ slash) no line))))
 
 -- what a string holds ends at the quote behind it
 pub ends_strung : (held q : List ℕ) → Strung held → text_end (held ++ 34 ∷ q) ≡ Closed (suc (length held))

@@ -105,9 +105,9 @@ mark_within b len p =
     let P = IsWithin len in
     let on : (k : _) → P (Found k 1) = λ k. (omega arith, omega arith) in
     cond_both (nat_eq b 40) _ _ P (λ _. on kind.Open) (λ _. cond_both (nat_eq b 41) _ _ P (λ _. on kind.Close)
-        (λ _. cond_both (nat_eq b 91) _ _ P (λ _. on kind.OpenList) (λ _. cond_both (nat_eq b 93) _ _ P (λ _. on kind.CloseList)
-        (λ _. cond_both (nat_eq b 124) _ _ P (λ _. on kind.Bar) (λ _. cond_both (nat_eq b 46) _ _ P (λ _. on kind.Dot)
-        (λ _. cond_both (nat_eq b 92) _ _ P (λ _. on kind.Backslash) (λ _. omega arith)))))))
+    (λ _. cond_both (nat_eq b 91) _ _ P (λ _. on kind.OpenList) (λ _. cond_both (nat_eq b 93) _ _ P (λ _. on kind.CloseList)
+    (λ _. cond_both (nat_eq b 124) _ _ P (λ _. on kind.Bar) (λ _. cond_both (nat_eq b 46) _ _ P (λ _. on kind.Dot)
+    (λ _. cond_both (nat_eq b 92) _ _ P (λ _. on kind.Backslash) (λ _. omega arith)))))))
 
 comment_front : (b : ℕ) (bs : List ℕ) → (nat_eq b 47 && nat_eq (slice_index (b ∷ bs) 1) 42) ≡ true → IsWithin (length (b ∷ bs)) (comment_at (comment_len 1 (drop 2 (b ∷ bs))))
 comment_front b [] h = absurd (true≢false (sym (and_parts _ _ h).1))

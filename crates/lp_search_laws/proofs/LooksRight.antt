@@ -73,6 +73,9 @@ pub plain_search_is_right : (d : Declared) → IsStandard d → (l : ℕ) (F : L
 plain_search_is_right d std l F P s x q gs t e n j m steps answers =
     let s' = typed_sentences d F s in
     search_is_right n d std P (program_typed d std F P s' x) q F (program_unnegated d F P s x) gs (query_unnegated d l q gs t e)
-        (start_typed d std l q gs t.typed e n steps answers).1 (λ i. (solves d (without_leaves d std) l q gs t.typed e F P s' x
-        ((λ S n y H f h. h), (λ S n y H f h. h)) i, proves_it d (without_leaves d std) l q gs t.typed e F P s' x
-        ((λ S n y H f h. h), (λ S n y H f h. h)) i)) j m steps answers
+    (start_typed d std l q gs t.typed e n steps answers).1 (λ i. (
+      solves d (without_leaves d std) l q gs t.typed e F P s' x
+          ((λ S n y H f h. h), (λ S n y H f h. h)) i,
+      proves_it d (without_leaves d std) l q gs t.typed e F P s' x
+          ((λ S n y H f h. h), (λ S n y H f h. h)) i,
+    )) j m steps answers

@@ -123,9 +123,9 @@ module _ (units : ℕ) where
   constant_more n m l P height e b t c (x ∷ y ∷ z ∷ ts) = candidates_more n m l P t e b height
   constant_more n m l P height e b t c (x ∷ y ∷ []) =
       shorter_if (nat_eq c 8) _ _ _ _ (equated_more n m l e.level x y b) (shorter_if (nat_eq c 9) _ _ _ _
-          (assigned_more n m l e.level x b (evaluate n y) (evaluate m y) (evaluate_more n m l y))
-          (shorter_if (nat_le 10 c && nat_le c 13) _ _ _ _ (compared_more c b (evaluate n x) (evaluate m x) (evaluate n y) (evaluate m y)
-          (evaluate_more n m l x) (evaluate_more n m l y)) (candidates_more n m l P t e b height)))
+      (assigned_more n m l e.level x b (evaluate n y) (evaluate m y) (evaluate_more n m l y))
+      (shorter_if (nat_le 10 c && nat_le c 13) _ _ _ _ (compared_more c b (evaluate n x) (evaluate m x) (evaluate n y) (evaluate m y)
+      (evaluate_more n m l x) (evaluate_more n m l y)) (candidates_more n m l P t e b height)))
 
   -- looks: the same, or the lack of steps, at once or behind the step of an atomic goal
 

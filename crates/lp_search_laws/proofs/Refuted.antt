@@ -70,24 +70,24 @@ module _ (P : List Clause) (start : Task) (n looks j rows k p : ℕ) (ns : List 
 module _ (d : Declared) (F : List ClauseFormula) (P : List Clause) (flat : AreFlattened d F P) (E : List Ty) (V : List Variable) (next_type : ℕ)
     (below : (x : ℕ) (v : Variable) → slice_get V x ≡ Some v → IsVariableBelow next_type v) (G : Term) (gs : Goals)
     (stands : StandsForGoal d E V next_type G gs) (Ds : List ClauseFormula) (css : List Clauses) (assumed : StandForClauses d E V next_type Ds css)
-    where
-  module _ (w : Written) (n looks j rows k p : ℕ) (ns : List Note) (is_final : Answer → Bool) (r : inner (look unit_limit looks P) j is_final (starts_within rows (denied_task (length V) next_type gs (newest_first css) w (length E)) n 1) ≡ Refuted k ns p) where
-    leaf : Failure
-    leaf = record { limit = bound n rows; looks = looks; moves = j; variables = V; next_type = next_type; goals = gs; assumed = css; written = w; program = P }
+  where
+    module _ (w : Written) (n looks j rows k p : ℕ) (ns : List Note) (is_final : Answer → Bool) (r : inner (look unit_limit looks P) j is_final (starts_within rows (denied_task (length V) next_type gs (newest_first css) w (length E)) n 1) ≡ Refuted k ns p) where
+      leaf : Failure
+      leaf = record { limit = bound n rows; looks = looks; moves = j; variables = V; next_type = next_type; goals = gs; assumed = css; written = w; program = P }
 
-    start : Task
-    start = denied_task (length V) next_type gs (newest_first css) w (length E)
+      start : Task
+      start = denied_task (length V) next_type gs (newest_first css) w (length E)
 
-    fails : IsFailure d (length F) E (F ++ Ds) G leaf
-    unfolding leaf start
-    fails = record {
-      variables = below;
-      goals = stands;
-      assumed = subst (λ Q. StandForClauses d E V next_type Q css) (sym (drop_all F Ds)) assumed;
-      program = subst (λ Q. AreFlattened d Q P) (sym (take_all F Ds)) flat;
-      ends = ends_within P start n looks j rows k p ns is_final r (bound n rows) (bound n rows) (units_within n rows) (steps_within n rows) (rows_within n rows);
-      gives_none = none_within P start n looks j rows k p ns is_final r (bound n rows) (bound n rows) (units_within n rows) (steps_within n rows) (rows_within n rows);
-    }
+      fails : IsFailure d (length F) E (F ++ Ds) G leaf
+      unfolding leaf start
+      fails = record {
+        variables = below;
+        goals = stands;
+        assumed = subst (λ Q. StandForClauses d E V next_type Q css) (sym (drop_all F Ds)) assumed;
+        program = subst (λ Q. AreFlattened d Q P) (sym (take_all F Ds)) flat;
+        ends = ends_within P start n looks j rows k p ns is_final r (bound n rows) (bound n rows) (units_within n rows) (steps_within n rows) (rows_within n rows);
+        gives_none = none_within P start n looks j rows k p ns is_final r (bound n rows) (bound n rows) (units_within n rows) (steps_within n rows) (rows_within n rows);
+      }
 
-    pub negation_proved : Provable d (length F) E (F ++ Ds) (not_of G)
-    negation_proved = record { proof = Fails leaf; holds = (G, refl, fails) }
+      pub negation_proved : Provable d (length F) E (F ++ Ds) (not_of G)
+      negation_proved = record { proof = Fails leaf; holds = (G, refl, fails) }

@@ -127,16 +127,27 @@ module _ {E : Type 0} (under : E → E) (term : E → Term → Term) (ty : Ty �
 
 -- a binding whose value has no loose index
 pub put_goes : (b : Binding) → shift 0 1 b.value ≡ b.value → Goes (λ (u : ℕ). u) (λ u t. put b t) same_type
-put_goes b shut = record { parts = λ e t u s. part_fill (at_variables (one b)) t u s; in_goals = λ e gs. goals_inside (put b) same_type
-    (put_inside b shut) e gs; in_clause = λ e c. clause_inside (put b) same_type (put_inside b shut) e c; origin = λ e. origin_filled (λ (u : ℕ). u)
-    (λ u t. put b t) same_type e (put_filled_goals b shut e); clause_origin = λ e. clause_origin_filled (λ (u : ℕ). u) (λ u t. put b t) same_type e
-    (put_filled_clauses b shut e) }
+put_goes b shut = record {
+  parts = λ e t u s. part_fill (at_variables (one b)) t u s;
+  in_goals = λ e gs. goals_inside (put b) same_type
+      (put_inside b shut) e gs;
+  in_clause = λ e c. clause_inside (put b) same_type (put_inside b shut) e c;
+  origin = λ e. origin_filled (λ (u : ℕ). u)
+      (λ u t. put b t) same_type e (put_filled_goals b shut e);
+  clause_origin = λ e. clause_origin_filled (λ (u : ℕ). u) (λ u t. put b t) same_type e
+      (put_filled_clauses b shut e);
+}
 
 pub type_goes : (θ : ℕ → Ty) → Goes (λ (u : ℕ). u) (λ u t. instance_term θ t) (instance θ)
-type_goes θ = record { parts = λ e t u s. part_instance θ t u s; in_goals = λ e gs. goals_inside (instance_term θ) (instance θ) (types_inside θ) e gs;
-    in_clause = λ e c. clause_inside (instance_term θ) (instance θ) (types_inside θ) e c; origin = λ e. origin_filled (λ (u : ℕ). u)
-    (λ u t. instance_term θ t) (instance θ) e (λ κ σ gs h. type_filled_goals θ e κ σ gs); clause_origin = λ e. clause_origin_filled (λ (u : ℕ). u)
-    (λ u t. instance_term θ t) (instance θ) e (λ κ σ cs h. type_filled_clauses θ e κ σ cs) }
+type_goes θ = record {
+  parts = λ e t u s. part_instance θ t u s;
+  in_goals = λ e gs. goals_inside (instance_term θ) (instance θ) (types_inside θ) e gs;
+  in_clause = λ e c. clause_inside (instance_term θ) (instance θ) (types_inside θ) e c;
+  origin = λ e. origin_filled (λ (u : ℕ). u)
+      (λ u t. instance_term θ t) (instance θ) e (λ κ σ gs h. type_filled_goals θ e κ σ gs);
+  clause_origin = λ e. clause_origin_filled (λ (u : ℕ). u)
+      (λ u t. instance_term θ t) (instance θ) e (λ κ σ cs h. type_filled_clauses θ e κ σ cs);
+}
 
 instantiate_goes : Goes lifted instantiate same_type
 instantiate_goes = record { parts = λ σ t u s. part_instantiate σ t u s; in_goals = λ σ gs. goals_instantiate σ gs; in_clause = λ σ c. clause_instantiate σ c; origin = λ γ. origin_filled lifted instantiate same_type γ (λ θ σ gs h. instantiate_filled_goals γ θ σ gs); clause_origin = λ γ. clause_origin_filled lifted instantiate same_type γ (λ θ σ cs h. instantiate_filled_clauses γ θ σ cs) }

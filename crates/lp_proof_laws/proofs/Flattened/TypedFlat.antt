@@ -190,9 +190,9 @@ mutual
       typed_map (AreGoals θ) (AreGoals θ) (flat_goal n d (true ∷ bs) (instance_term θ b) no_goals) (flat_goal n d (true ∷ bs) b no_goals) (λ z. goals (Forall (instance θ T) z) more) (λ z. goals (Forall T z) rest) (goal_typed θ n d (true ∷ bs) b no_goals no_goals refl) (λ x y q. goals_with (ap (Forall (instance θ T)) q) r)
   form_goal_typed θ (suc n) d bs t (connective.Exists T b) more rest r =
       typed_map (AreGoals θ) (AreGoals θ) (flat_goal n d (false ∷ bs) (instance_term θ b) (raise_goals 0 more))
-          (flat_goal n d (false ∷ bs) b (raise_goals 0 rest)) (λ z. goals (Exists (instance θ T) z) no_goals) (λ z. goals (Exists T z) no_goals)
-          (goal_typed θ n d (false ∷ bs) b (raise_goals 0 more) (raise_goals 0 rest) (raise_are θ more rest r))
-          (λ x y q. goals_with (ap (Exists (instance θ T)) q) refl)
+      (flat_goal n d (false ∷ bs) b (raise_goals 0 rest)) (λ z. goals (Exists (instance θ T) z) no_goals) (λ z. goals (Exists T z) no_goals)
+      (goal_typed θ n d (false ∷ bs) b (raise_goals 0 more) (raise_goals 0 rest) (raise_are θ more rest r))
+      (λ x y q. goals_with (ap (Exists (instance θ T)) q) refl)
   form_goal_typed θ (suc n) d bs t (connective.Not g) more rest r =
       typed_map (AreGoals θ) (AreGoals θ) (flat_goal n d bs (instance_term θ g) no_goals) (flat_goal n d bs g no_goals) (λ z. goals (denied z) more) (λ z. goals (denied z) rest) (goal_typed θ n d bs g no_goals no_goals refl) (λ x y q. goals_with (ap (Not nothing) q) r)
   form_goal_typed θ (suc n) d bs t connective.Atomic more rest r = only_typed (AreGoals θ) _ _ (goals (Atomic t) rest) (goals (Atomic (instance_term θ t)) more) (goal_test θ t) (ap (goals (Atomic (instance_term θ t))) r)
@@ -219,9 +219,9 @@ mutual
   form_clause_typed θ (suc n) d bs t connective.Atomic vars body =
       typed_then (λ u h. u ≡ instance_term θ h) (AreClauses θ) (only (is_clause_head d bs (head_of (instance_term θ t)) && are_positive (arguments (instance_term θ t))) (instance_term θ t)) (only (is_clause_head d bs (head_of t) && are_positive (arguments t)) t) _ _ (only_typed (λ u h. u ≡ instance_term θ h) _ _ t (instance_term θ t) (clause_test θ d bs t) refl) (λ u h p.
       typed_map (AreGoals θ) (AreClauses θ) (flat_list n d bs (map (instance_term θ) body)) (flat_list n d bs body)
-          (λ z. clauses (clause 0 (map (instance θ) vars) u z) no_clauses) (λ z. clauses (clause 0 vars h z) no_clauses) (list_typed θ n d bs body)
-          (λ x y q. subst (λ w. AreClauses θ (clauses (clause 0 (map (instance θ) vars) w x) no_clauses) (clauses (clause 0 vars h y) no_clauses))
-          (sym p) (one_clause θ vars h x y q)))
+      (λ z. clauses (clause 0 (map (instance θ) vars) u z) no_clauses) (λ z. clauses (clause 0 vars h z) no_clauses) (list_typed θ n d bs body)
+      (λ x y q. subst (λ w. AreClauses θ (clauses (clause 0 (map (instance θ) vars) w x) no_clauses) (clauses (clause 0 vars h y) no_clauses))
+      (sym p) (one_clause θ vars h x y q)))
   form_clause_typed θ (suc n) d bs t connective.True vars body = tt
   form_clause_typed θ (suc n) d bs t connective.Cut vars body = tt
   form_clause_typed θ (suc n) d bs t (connective.Or a b) vars body = tt

@@ -80,10 +80,10 @@ module _ {T A T0 A0 : Type 0} (f : T → T0) (g : A → A0) where
     view_step go go0 (suc n) k v u p lost rest (Cuts m ts) h =
         let e = oldest_map m rest in
         ap (λ j. Goes 1 (CutNote ∷ back (map f ts) (oldest m (map f rest))) (record
-            { steps = n; answers = suc k; given = v; rows = u; row = u; lost = lost || nat_lt m j; stack = map f ts ++ oldest m (map f rest) }))
-            (length-map rest f) ∙ goes_stack 1 _ _ n (suc k) v u u (lost || nat_lt m (length rest)) _ _
-            (ap (λ ns. CutNote ∷ ns) (ap (back (map f ts)) e ∙ back_map ts (oldest m rest)))
-            (ap (λ xs. map f ts ++ xs) e ∙ sym (map-append f ts (oldest m rest)))
+        { steps = n; answers = suc k; given = v; rows = u; row = u; lost = lost || nat_lt m j; stack = map f ts ++ oldest m (map f rest) }))
+        (length-map rest f) ∙ goes_stack 1 _ _ n (suc k) v u u (lost || nat_lt m (length rest)) _ _
+        (ap (λ ns. CutNote ∷ ns) (ap (back (map f ts)) e ∙ back_map ts (oldest m rest)))
+        (ap (λ xs. map f ts ++ xs) e ∙ sym (map-append f ts (oldest m rest)))
     view_step go go0 zero k v u p lost rest (Denies t x ts) h = refl
     view_step go go0 (suc n) k v u p lost rest (Denies t x ts) h = ap (move_denied n k v u lost (map f ts) (map f rest)) (h u n) ∙ denied_map n k v u lost ts rest (go x (starts_within u t n 1))
     view_step go go0 n k v u p lost rest (Halts e) h = refl

@@ -23,10 +23,17 @@ types_more (suc n) (suc m) h [] made u = below_same _
 types_more (suc n) (suc m) h (p ∷ ps) made u = go (type_rule p.left p.right).verdict (type_rule p.left p.right).units (λ qs b v. types_more n m (omega arith) qs b v)
   where
     go : (w : TypeVerdict) (k : ℕ) → ((qs : List TypePair) (b : List TypeBinding) (v : ℕ) → Below (solve_types n qs b v) (solve_types m qs b v)) →
-        Below {A = TypeOutcome} (elim w [ differ ↦ Some (no_types_solve (suc u + k)) | parts qs ↦ solve_types n (qs ++ ps) made (suc u + k) | bound b
-        ↦ solve_types n (map (put_in_pair b) ps) (made ++ b ∷ []) (suc u + k) ]) (elim w
-        [ differ ↦ Some (no_types_solve (suc u + k)) | parts qs ↦ solve_types m (qs ++ ps) made (suc u + k) | bound b ↦ solve_types m
-        (map (put_in_pair b) ps) (made ++ b ∷ []) (suc u + k) ])
+        Below {A = TypeOutcome} (elim w [
+          | differ ↦ Some (no_types_solve (suc u + k))
+          | parts qs ↦ solve_types n (qs ++ ps) made (suc u + k)
+          | bound b
+              ↦ solve_types n (map (put_in_pair b) ps) (made ++ b ∷ []) (suc u + k)
+        ]) (elim w [
+          | differ ↦ Some (no_types_solve (suc u + k))
+          | parts qs ↦ solve_types m (qs ++ ps) made (suc u + k)
+          | bound b ↦ solve_types m
+              (map (put_in_pair b) ps) (made ++ b ∷ []) (suc u + k)
+        ])
     go differ k ih = below_same _
     go (parts qs) k ih = ih (qs ++ ps) made (suc u + k)
     go (bound b) k ih = ih (map (put_in_pair b) ps) (made ++ b ∷ []) (suc u + k)
@@ -83,11 +90,24 @@ prune_more (suc n) zero h s next t = absurd (omega arith)
 prune_more (suc n) (suc m) h s next t = below_then (scan n s false s.pair t) (scan m s false s.pair t) _ _ (scan_more n m (omega arith) s false s.pair t) λ r. go r (λ p. prune_more n m (omega arith) s (suc next) (put (renewal s next p) t))
   where
     go : (r : Scanned) → ((p : Pattern) → Below (prune n s (suc next) (put (renewal s next p) t)) (prune m s (suc next) (put (renewal s next p) t))) →
-        Below {A = Pruned} (elim r [ broken u ↦ None | whole u true ps ↦ None | whole u false ps ↦ elim (first_misfit s ps)
-        [ None ↦ Some (record { bindings = []; next = next; term = t }) | Some p ↦ option_map (led_by (renewal s next p))
-        (prune n s (suc next) (put (renewal s next p) t)) ] ]) (elim r [ broken u ↦ None | whole u true ps ↦ None | whole u false ps ↦ elim
-        (first_misfit s ps) [ None ↦ Some (record { bindings = []; next = next; term = t }) | Some p ↦ option_map (led_by (renewal s next p))
-        (prune m s (suc next) (put (renewal s next p) t)) ] ])
+        Below {A = Pruned} (elim r [
+          | broken u ↦ None
+          | whole u true ps ↦ None
+          | whole u false ps ↦ elim (first_misfit s ps) [
+            | None ↦ Some (record { bindings = []; next = next; term = t })
+            | Some p ↦ option_map (led_by (renewal s next p))
+                (prune n s (suc next) (put (renewal s next p) t))
+          ]
+        ]) (elim r [
+          | broken u ↦ None
+          | whole u true ps ↦ None
+          | whole u false ps ↦ elim
+              (first_misfit s ps) [
+                | None ↦ Some (record { bindings = []; next = next; term = t })
+                | Some p ↦ option_map (led_by (renewal s next p))
+                    (prune m s (suc next) (put (renewal s next p) t))
+              ]
+        ])
     go (broken u) ih = below_same None
     go (whole u true ps) ih = below_same None
     go (whole u false ps) ih = below_misfit (first_misfit s ps) _ _ _ _ (below_same _) (λ p. below_map (prune n s (suc next) (put (renewal s next p) t)) (prune m s (suc next) (put (renewal s next p) t)) (led_by (renewal s next p)) (ih p))
@@ -98,11 +118,20 @@ below_pattern (Some b) x x' y y' p q = p b
 
 pub settle_look : (n m : ℕ) → n ≤ m → (k : ℕ) (v : Look) → ((u : Term) → Below (settle n (suc k) u) (settle m (suc k) u)) →
     ((g : Term) (ts : List Term) → Below (settle_all n k g ts) (settle_all m k g ts)) → Below {A = Term}
-    (elim v [ an_abs b ↦ option_map (abstraction (suc k)) (settle n (suc k) (substitute (atom (eigen (suc k))) b)) | rigid h ts ↦ settle_all n k h ts
-    | flexible y l ts ↦ option_and_then (λ o. elim o [ Some b ↦ Some (apply (atom (logic y l)) (eigens b)) | None ↦ settle_all n k (atom (logic y l))
-    ts ]) (pattern_of n l ts) ]) (elim v [ an_abs b ↦ option_map (abstraction (suc k)) (settle m (suc k) (substitute (atom (eigen (suc k))) b)) |
-    rigid h ts ↦ settle_all m k h ts | flexible y l ts ↦ option_and_then (λ o. elim o
-    [ Some b ↦ Some (apply (atom (logic y l)) (eigens b)) | None ↦ settle_all m k (atom (logic y l)) ts ]) (pattern_of m l ts) ])
+    (elim v [
+      | an_abs b ↦ option_map (abstraction (suc k)) (settle n (suc k) (substitute (atom (eigen (suc k))) b))
+      | rigid h ts ↦ settle_all n k h ts
+      | flexible y l ts ↦ option_and_then (λ o. elim o [
+        | Some b ↦ Some (apply (atom (logic y l)) (eigens b))
+        | None ↦ settle_all n k (atom (logic y l))
+            ts
+      ]) (pattern_of n l ts)
+    ]) (elim v [
+      | an_abs b ↦ option_map (abstraction (suc k)) (settle m (suc k) (substitute (atom (eigen (suc k))) b))
+      | rigid h ts ↦ settle_all m k h ts
+      | flexible y l ts ↦ option_and_then (λ o. elim o
+          [ Some b ↦ Some (apply (atom (logic y l)) (eigens b)) | None ↦ settle_all m k (atom (logic y l)) ts ]) (pattern_of m l ts)
+    ])
 settle_look n m l k (an_abs b) p q = below_map (settle n (suc k) (substitute (atom (eigen (suc k))) b)) (settle m (suc k) (substitute (atom (eigen (suc k))) b)) (abstraction (suc k)) (p (substitute (atom (eigen (suc k))) b))
 settle_look n m l k (rigid h ts) p q = q h ts
 settle_look n m l k (flexible y j ts) p q = below_then (pattern_of n j ts) (pattern_of m j ts) _ _ (pattern_more n m l j ts) (λ o. below_pattern o _ _ _ _ (λ b. below_same _) (q (atom (logic y j)) ts))
@@ -130,10 +159,18 @@ binding s u r t' = ruled u (binds (made_by s r.bindings t') r.next)
 solve_for_more : (n m : ℕ) → n ≤ m → (next : ℕ) (s : Side) (t : Term) (v : Look) → Below (solve_for n next s t v) (solve_for m next s t v)
 solve_for_more n m l next s t v = below_if (has_head s v) _ _ _ _ (below_same (Some (ruled 0 delays))) (below_then (scan n s false s.pair t) (scan m s false s.pair t) _ _ (scan_more n m l s false s.pair t) λ r. scanned r)
   where
-    scanned : (r : Scanned) → Below {A = Ruled} (elim r [ broken u ↦ Some (ruled u fails) | whole u true ps ↦ Some (ruled u delays) | whole u false ps
-        ↦ option_and_then (λ r. option_map (binding s u r) (settle n s.pair r.term)) (prune n s next t) ])
-        (elim r [ broken u ↦ Some (ruled u fails) | whole u true ps ↦ Some (ruled u delays) | whole u false ps ↦ option_and_then
-        (λ r. option_map (binding s u r) (settle m s.pair r.term)) (prune m s next t) ])
+    scanned : (r : Scanned) → Below {A = Ruled} (elim r [
+      | broken u ↦ Some (ruled u fails)
+      | whole u true ps ↦ Some (ruled u delays)
+      | whole u false ps
+          ↦ option_and_then (λ r. option_map (binding s u r) (settle n s.pair r.term)) (prune n s next t)
+    ])
+        (elim r [
+          | broken u ↦ Some (ruled u fails)
+          | whole u true ps ↦ Some (ruled u delays)
+          | whole u false ps ↦ option_and_then
+              (λ r. option_map (binding s u r) (settle m s.pair r.term)) (prune m s next t)
+        ])
     scanned (broken u) = below_same _
     scanned (whole u true ps) = below_same _
     scanned (whole u false ps) = below_then (prune n s next t) (prune m s next t) _ _ (prune_more n m l s next t) (λ r. below_map (settle n s.pair r.term) (settle m s.pair r.term) (binding s u r) (settle_more n m l s.pair r.term))
@@ -154,10 +191,16 @@ by_rule_5_more n m l next p v w = below_then (pattern_side n p v) (pattern_side 
 pub by_rule_4_more : (n m : ℕ) → n ≤ m → (next : ℕ) (p : Pair) (x l' : ℕ) (ts us : List Term) → Below (by_rule_4 n next p x l' ts us) (by_rule_4 m next p x l' ts us)
 by_rule_4_more n m l next p x l' ts us = below_then (pattern_of n l' ts) (pattern_of m l' ts) _ _ (pattern_more n m l l' ts) (λ a. below_then (pattern_of n l' us) (pattern_of m l' us) _ _ (pattern_more n m l l' us) (λ b. both a b))
   where
-    both : (a b : Option (List ℕ)) → Below {A = Ruled} (elim a [ None ↦ by_rule_5 n next p (flexible x l' ts) (flexible x l' us) | Some a ↦ elim b
-        [ None ↦ by_rule_5 n next p (flexible x l' ts) (flexible x l' us) | Some b ↦ Some (ruled 0 (joined next x l' a b)) ] ])
-        (elim a [ None ↦ by_rule_5 m next p (flexible x l' ts) (flexible x l' us) | Some a ↦ elim b
-        [ None ↦ by_rule_5 m next p (flexible x l' ts) (flexible x l' us) | Some b ↦ Some (ruled 0 (joined next x l' a b)) ] ])
+    both : (a b : Option (List ℕ)) → Below {A = Ruled} (elim a [
+      | None ↦ by_rule_5 n next p (flexible x l' ts) (flexible x l' us)
+      | Some a ↦ elim b
+          [ None ↦ by_rule_5 n next p (flexible x l' ts) (flexible x l' us) | Some b ↦ Some (ruled 0 (joined next x l' a b)) ]
+    ])
+        (elim a [
+          | None ↦ by_rule_5 m next p (flexible x l' ts) (flexible x l' us)
+          | Some a ↦ elim b
+              [ None ↦ by_rule_5 m next p (flexible x l' ts) (flexible x l' us) | Some b ↦ Some (ruled 0 (joined next x l' a b)) ]
+        ])
     both None b = by_rule_5_more n m l next p (flexible x l' ts) (flexible x l' us)
     both (Some a) None = by_rule_5_more n m l next p (flexible x l' ts) (flexible x l' us)
     both (Some a) (Some b) = below_same _

@@ -65,28 +65,43 @@ mutual
   scan_more zero m h s inside k t = below_none (scan m s inside k t)
   scan_more (suc n) zero h s inside k t = absurd (omega arith)
   scan_more (suc n) (suc m) h s inside k t = below_then (look n t) (look m t) _ _ (look_more n m (omega arith) t) λ v. elim v as
-      (λ v. Below {A = Scanned} (elim v [ an_abs b ↦ scan n s inside (suc k) (substitute (atom (eigen (suc k))) b) | rigid g ts ↦ elim
-      (allows_head s g || inside) [ true ↦ option_map (above (not (allows_head s g))) (scan_all n s inside k ts) | false ↦ Some (broken 1) ] |
-      flexible y l ts ↦ option_and_then (λ o. elim o [ Some b ↦ Some (scanned_pattern s inside y l b) | None ↦ option_map
-      (above (is_side s y l || nat_lt s.level l)) (scan_all n s true k ts) ]) (pattern_of n l ts) ])
-      (elim v [ an_abs b ↦ scan m s inside (suc k) (substitute (atom (eigen (suc k))) b) | rigid g ts ↦ elim (allows_head s g || inside)
-      [ true ↦ option_map (above (not (allows_head s g))) (scan_all m s inside k ts) | false ↦ Some (broken 1) ] | flexible y l ts ↦ option_and_then
-      (λ o. elim o [ Some b ↦ Some (scanned_pattern s inside y l b) | None ↦ option_map (above (is_side s y l || nat_lt s.level l))
-      (scan_all m s true k ts) ]) (pattern_of m l ts) ])) [
-    | an_abs b ↦ scan_more n m (omega arith) s inside (suc k) (substitute (atom (eigen (suc k))) b)
-    | rigid g ts ↦ elim (allows_head s g || inside) as (λ b. Below {A = Scanned} (elim b [ true ↦ option_map (above (not (allows_head s g))) (scan_all n s inside k ts) | false ↦ Some (broken 1) ]) (elim b [ true ↦ option_map (above (not (allows_head s g))) (scan_all m s inside k ts) | false ↦ Some (broken 1) ])) [
-      | true ↦ below_map (scan_all n s inside k ts) (scan_all m s inside k ts) (above (not (allows_head s g))) (scan_all_more n m (omega arith) s inside k ts)
-      | false ↦ below_same (Some (broken 1))
-    ]
-    | flexible y l ts ↦ below_then (pattern_of n l ts) (pattern_of m l ts) _ _ (pattern_more n m (omega arith) l ts) λ o. elim o as
-        (λ o. Below {A = Scanned} (elim o [ Some b ↦ Some (scanned_pattern s inside y l b) | None ↦ option_map
-        (above (is_side s y l || nat_lt s.level l)) (scan_all n s true k ts) ]) (elim o
-        [ Some b ↦ Some (scanned_pattern s inside y l b) | None ↦ option_map (above (is_side s y l || nat_lt s.level l)) (scan_all m s true k ts) ]))
-        [
-      | Some b ↦ below_same (Some (scanned_pattern s inside y l b))
-      | None ↦ below_map (scan_all n s true k ts) (scan_all m s true k ts) (above (is_side s y l || nat_lt s.level l)) (scan_all_more n m (omega arith) s true k ts)
-    ]
-  ]
+      (λ v. Below {A = Scanned} (elim v [
+        | an_abs b ↦ scan n s inside (suc k) (substitute (atom (eigen (suc k))) b)
+        | rigid g ts ↦ elim
+            (allows_head s g || inside) [ true ↦ option_map (above (not (allows_head s g))) (scan_all n s inside k ts) | false ↦ Some (broken 1) ]
+        | flexible y l ts ↦ option_and_then (λ o. elim o [
+          | Some b ↦ Some (scanned_pattern s inside y l b)
+          | None ↦ option_map
+              (above (is_side s y l || nat_lt s.level l)) (scan_all n s true k ts)
+        ]) (pattern_of n l ts)
+      ])
+      (elim v [
+        | an_abs b ↦ scan m s inside (suc k) (substitute (atom (eigen (suc k))) b)
+        | rigid g ts ↦ elim (allows_head s g || inside)
+            [ true ↦ option_map (above (not (allows_head s g))) (scan_all m s inside k ts) | false ↦ Some (broken 1) ]
+        | flexible y l ts ↦ option_and_then
+            (λ o. elim o [
+              | Some b ↦ Some (scanned_pattern s inside y l b)
+              | None ↦ option_map (above (is_side s y l || nat_lt s.level l))
+                  (scan_all m s true k ts)
+            ]) (pattern_of m l ts)
+      ])) [
+        | an_abs b ↦ scan_more n m (omega arith) s inside (suc k) (substitute (atom (eigen (suc k))) b)
+        | rigid g ts ↦ elim (allows_head s g || inside) as (λ b. Below {A = Scanned} (elim b [ true ↦ option_map (above (not (allows_head s g))) (scan_all n s inside k ts) | false ↦ Some (broken 1) ]) (elim b [ true ↦ option_map (above (not (allows_head s g))) (scan_all m s inside k ts) | false ↦ Some (broken 1) ])) [
+          | true ↦ below_map (scan_all n s inside k ts) (scan_all m s inside k ts) (above (not (allows_head s g))) (scan_all_more n m (omega arith) s inside k ts)
+          | false ↦ below_same (Some (broken 1))
+        ]
+        | flexible y l ts ↦ below_then (pattern_of n l ts) (pattern_of m l ts) _ _ (pattern_more n m (omega arith) l ts) λ o. elim o as
+            (λ o. Below {A = Scanned} (elim o [
+              | Some b ↦ Some (scanned_pattern s inside y l b)
+              | None ↦ option_map
+                  (above (is_side s y l || nat_lt s.level l)) (scan_all n s true k ts)
+            ]) (elim o
+            [ Some b ↦ Some (scanned_pattern s inside y l b) | None ↦ option_map (above (is_side s y l || nat_lt s.level l)) (scan_all m s true k ts) ])) [
+              | Some b ↦ below_same (Some (scanned_pattern s inside y l b))
+              | None ↦ below_map (scan_all n s true k ts) (scan_all m s true k ts) (above (is_side s y l || nat_lt s.level l)) (scan_all_more n m (omega arith) s true k ts)
+            ]
+      ]
 
   pub scan_all_more : (n m : ℕ) → n ≤ m → (s : Side) (inside : Bool) (k : ℕ) (ts : List Term) → Below (scan_all n s inside k ts) (scan_all m s inside k ts)
   scan_all_more zero m h s inside k ts = below_none (scan_all m s inside k ts)
@@ -96,6 +111,6 @@ mutual
       (scan_more n m (omega arith) s inside k t) λ r. elim r as (λ r. Below {A = Scanned}
       (elim r [ broken u ↦ Some (broken u) | whole u d ps ↦ option_map (beside u d ps) (scan_all n s inside k ts) ])
       (elim r [ broken u ↦ Some (broken u) | whole u d ps ↦ option_map (beside u d ps) (scan_all m s inside k ts) ])) [
-    | broken u ↦ below_same (Some (broken u))
-    | whole u d ps ↦ below_map (scan_all n s inside k ts) (scan_all m s inside k ts) (beside u d ps) (scan_all_more n m (omega arith) s inside k ts)
-  ]
+        | broken u ↦ below_same (Some (broken u))
+        | whole u d ps ↦ below_map (scan_all n s inside k ts) (scan_all m s inside k ts) (beside u d ps) (scan_all_more n m (omega arith) s inside k ts)
+      ]

@@ -23,9 +23,16 @@ unify_more (suc a) (suc b) n m h l limit s = below_then (turn n s) (turn m s) _ 
     limit_case false x y p = p
 
     go : (t : Turn) → ((u : unification.State) → Below (unify a n limit u) (unify b m limit u)) → Below {A = Unified}
-        (elim t [ UGoes s' ↦ elim (nat_lt limit s'.units) [ true ↦ Some Spent | false ↦ unify a n limit s' ] | Fails u ↦ Some (limited limit u Fail) |
-        Solved s' ↦ Some (Solution s') ]) (elim t [ UGoes s' ↦ elim (nat_lt limit s'.units) [ true ↦ Some Spent | false ↦ unify b m limit s' ] | Fails
-        u ↦ Some (limited limit u Fail) | Solved s' ↦ Some (Solution s') ])
+        (elim t [
+          | UGoes s' ↦ elim (nat_lt limit s'.units) [ true ↦ Some Spent | false ↦ unify a n limit s' ]
+          | Fails u ↦ Some (limited limit u Fail)
+          | Solved s' ↦ Some (Solution s')
+        ]) (elim t [
+          | UGoes s' ↦ elim (nat_lt limit s'.units) [ true ↦ Some Spent | false ↦ unify b m limit s' ]
+          | Fails
+              u ↦ Some (limited limit u Fail)
+          | Solved s' ↦ Some (Solution s')
+        ])
     go (UGoes s') ih = limit_case (nat_lt limit s'.units) _ _ (ih s')
     go (Fails u) ih = below_same _
     go (Solved s') ih = below_same _

@@ -47,9 +47,9 @@ pub returns-clause-stopped : goal.returns-clause-stopped
 returns-clause-stopped g c =
     ended_stopped (entries_of c.args.shown.now.glossary.now.entries.items) (names_in c.args.shown.now.names.items) (MayReport c.args.watched) c.args.answers c.args.answers (g.K.Sink.written c.args.out.now) (g.K.Sink.written c.answers.out) (g.K.Sink.written c.write_end-2.new.out)
     ending.Enough _ c.write_end-2.result (may_report c.args.watched _) (omega arith)
-        (subst (λ n. Wrote (entries_of c.args.shown.now.glossary.now.entries.items) (names_in c.args.shown.now.names.items) n
-        (g.K.Sink.written c.args.out.now) (g.K.Sink.written c.answers.out)) (let l = c.answers-test.false in let m = c.answers.auto.before-end in
-        omega (arith, l, m)) c.answers.invariant.1.1) c.write_end-2.ensures.cut (λ h. ap g.K.Sink.written (c.write_end-2.ensures.memory h))
+    (subst (λ n. Wrote (entries_of c.args.shown.now.glossary.now.entries.items) (names_in c.args.shown.now.names.items) n
+    (g.K.Sink.written c.args.out.now) (g.K.Sink.written c.answers.out)) (let l = c.answers-test.false in let m = c.answers.auto.before-end in
+    omega (arith, l, m)) c.answers.invariant.1.1) c.write_end-2.ensures.cut (λ h. ap g.K.Sink.written (c.write_end-2.ensures.memory h))
 
 pub returns-in-Over-clause-written : goal.returns-in-Over-clause-written
 returns-in-Over-clause-written g c =

@@ -51,9 +51,9 @@ pub returns-in_default-second-clause-decides : goal.returns-in_default-second-cl
 returns-in_default-second-clause-decides c = λ r s.
     let on = c.in_ok-first.ensures.kept in
     without_decides _ (tree c.args.bank.now c.args.left.0) (tree c.args.bank.now c.args.right.0) c.form_of.new.bank c.form_of-2.new.bank
-        (formed.Is c.in-Is.one) c.in_ok-second.second c.turn_without-in_default-second.result
-        (subst (IsFormed (tree c.args.bank.now c.args.left.0) c.form_of.new.bank) c.in-Is.is c.in_ok-first.ensures.formed)
-        (subst (λ x. IsFormed x c.form_of-2.new.bank c.in_ok-second.second) (on.same_terms c.args.right.0 s.0) c.in_ok-second.ensures.formed)
+    (formed.Is c.in-Is.one) c.in_ok-second.second c.turn_without-in_default-second.result
+    (subst (IsFormed (tree c.args.bank.now c.args.left.0) c.form_of.new.bank) c.in-Is.is c.in_ok-first.ensures.formed)
+    (subst (λ x. IsFormed x c.form_of-2.new.bank c.in_ok-second.second) (on.same_terms c.args.right.0 s.0) c.in_ok-second.ensures.formed)
     (λ e. absurd (cc)) (λ e. c.in_ok-second.ensures.open e (ready_later _ _ c.args.right on s).0 (ready_loose _ _ c.args.right on s)) (λ x y e f. c.in_default-second.not-Is y f) c.turn_without-in_default-second.ensures.on c.turn_without-in_default-second.ensures.no c.turn_without-in_default-second.ensures.deep
 
 pub returns-in_default-earlier-clause-decides : goal.returns-in_default-earlier-clause-decides

@@ -47,9 +47,9 @@ pub returns-in_default-right-clause-decides : goal.returns-in_default-right-clau
 returns-in_default-right-clause-decides c = λ r s.
     let on = c.in_ok-left.ensures.kept in
     without_decides _ (tree c.args.bank.now c.args.term.0) (tree c.args.bank.now c.args.expression.0) c.form_of.new.bank c.form_of-2.new.bank
-        (formed.Is c.in-Is.one) c.in_ok-right.right c.turn_without-in_default-right.result
-        (subst (IsFormed (tree c.args.bank.now c.args.term.0) c.form_of.new.bank) c.in-Is.is c.in_ok-left.ensures.formed)
-        (subst (λ x. IsFormed x c.form_of-2.new.bank c.in_ok-right.right) (on.same_terms c.args.expression.0 s.0) c.in_ok-right.ensures.formed)
+    (formed.Is c.in-Is.one) c.in_ok-right.right c.turn_without-in_default-right.result
+    (subst (IsFormed (tree c.args.bank.now c.args.term.0) c.form_of.new.bank) c.in-Is.is c.in_ok-left.ensures.formed)
+    (subst (λ x. IsFormed x c.form_of-2.new.bank c.in_ok-right.right) (on.same_terms c.args.expression.0 s.0) c.in_ok-right.ensures.formed)
     (λ e. absurd (cc)) (λ e. c.in_ok-right.ensures.open e (ready_later _ _ c.args.expression on s).0 (ready_loose _ _ c.args.expression on s)) (λ x y e f. c.in_default-right.not-Is y f) c.turn_without-in_default-right.ensures.on c.turn_without-in_default-right.ensures.no c.turn_without-in_default-right.ensures.deep
 
 pub returns-in_default-found-clause-decides : goal.returns-in_default-found-clause-decides

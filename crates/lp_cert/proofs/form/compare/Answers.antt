@@ -40,9 +40,9 @@ returns-in_default-second-clause-differ c = λ e r s k.
 pub returns-in_default-second-clause-deep : goal.returns-in_default-second-clause-deep
 returns-in_default-second-clause-deep c = λ e l m.
     one_is_large (tree c.args.bank.now c.args.left.0) (tree c.args.bank.now c.args.right.0) c.form_of.new.bank c.form_of-2.new.bank
-        (formed.Is c.in-Is.one) c.in_ok-second.second (subst (IsFormed (tree c.args.bank.now c.args.left.0) c.form_of.new.bank) c.in-Is.is
-        c.in_ok-first.ensures.formed) (subst (λ x. IsFormed x c.form_of-2.new.bank c.in_ok-second.second)
-        (c.in_ok-first.ensures.kept.same_terms c.args.right.0 m) c.in_ok-second.ensures.formed) (c.without_form-in_default-second.ensures.deep e)
+    (formed.Is c.in-Is.one) c.in_ok-second.second (subst (IsFormed (tree c.args.bank.now c.args.left.0) c.form_of.new.bank) c.in-Is.is
+    c.in_ok-first.ensures.formed) (subst (λ x. IsFormed x c.form_of-2.new.bank c.in_ok-second.second)
+    (c.in_ok-first.ensures.kept.same_terms c.args.right.0 m) c.in_ok-second.ensures.formed) (c.without_form-in_default-second.ensures.deep e)
 
 pub returns-clause-differ : goal.returns-clause-differ
 returns-clause-differ c =

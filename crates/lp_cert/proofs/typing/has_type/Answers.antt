@@ -15,28 +15,52 @@ returns-clause-typed c =
 
 pub returns-then-not-branch-clause-untyped : goal.returns-then-not-branch-clause-untyped
 returns-then-not-branch-clause-untyped c = λ e h l closed eigens constants b g d.
-    let q = (reached c.args.bank.now c.finish.new.bank (record { alloc = c.args.alloc; constants = c.args.constants; eigens = c.args.eigens;
-        context = c.new.result; stack = c.new-2.result; pairs = c.new-3.result; tasks = c.push.new.self; next = 0 }) c.finish.new.self c.args.term _
-        c.in_ok-finish.ensures.kept c.new.ensures.items c.new-2.ensures.items c.new-3.ensures.items
-        (c.in_ok-push.ensures.items ∙ ap (λ ts. ts ++ task.Visit c.args.term ∷ []) c.new-4.ensures.items) c.in_ok-finish.ensures.keeps h l eigens
-        constants b g (type_tree b c.args.of.0) d).0 in
+    let q = (reached c.args.bank.now c.finish.new.bank (record {
+      alloc = c.args.alloc;
+      constants = c.args.constants;
+      eigens = c.args.eigens;
+      context = c.new.result;
+      stack = c.new-2.result;
+      pairs = c.new-3.result;
+      tasks = c.push.new.self;
+      next = 0;
+    }) c.finish.new.self c.args.term _
+    c.in_ok-finish.ensures.kept c.new.ensures.items c.new-2.ensures.items c.new-3.ensures.items
+    (c.in_ok-push.ensures.items ∙ ap (λ ts. ts ++ task.Visit c.args.term ∷ []) c.new-4.ensures.items) c.in_ok-finish.ensures.keeps h l eigens
+    constants b g (type_tree b c.args.of.0) d).0 in
     let p = c.if-not-branch.true in
     absurd (cc)
 
 pub returns-in_default-clause-untyped : goal.returns-in_default-clause-untyped
 returns-in_default-clause-untyped c = λ e h l closed eigens constants b g d.
     nothing_found b c.finish.new.self (type_tree b c.args.of.0) (c.in_ok-finish.ensures.ended c.if-not-branch.false) (nothing c.finish.new.self.stack.items (omega (arith, c.in_default.ensures.cases.0, c.finish.new.self.stack.ok)))
-    (reached c.args.bank.now c.finish.new.bank (record { alloc = c.args.alloc; constants = c.args.constants; eigens = c.args.eigens;
-        context = c.new.result; stack = c.new-2.result; pairs = c.new-3.result; tasks = c.push.new.self; next = 0 }) c.finish.new.self c.args.term _
-        c.in_ok-finish.ensures.kept c.new.ensures.items c.new-2.ensures.items c.new-3.ensures.items
-        (c.in_ok-push.ensures.items ∙ ap (λ ts. ts ++ task.Visit c.args.term ∷ []) c.new-4.ensures.items) c.in_ok-finish.ensures.keeps h l eigens
-        constants b g (type_tree b c.args.of.0) d).1
+    (reached c.args.bank.now c.finish.new.bank (record {
+      alloc = c.args.alloc;
+      constants = c.args.constants;
+      eigens = c.args.eigens;
+      context = c.new.result;
+      stack = c.new-2.result;
+      pairs = c.new-3.result;
+      tasks = c.push.new.self;
+      next = 0;
+    }) c.finish.new.self c.args.term _
+    c.in_ok-finish.ensures.kept c.new.ensures.items c.new-2.ensures.items c.new-3.ensures.items
+    (c.in_ok-push.ensures.items ∙ ap (λ ts. ts ++ task.Visit c.args.term ∷ []) c.new-4.ensures.items) c.in_ok-finish.ensures.keeps h l eigens
+    constants b g (type_tree b c.args.of.0) d).1
 
 pub returns-clause-untyped : goal.returns-clause-untyped
 returns-clause-untyped c =
     let q = c.in_ok-equate.ensures.equated in
-    untyped_result c.args.bank.now c.finish.new.bank (record { alloc = c.args.alloc; constants = c.args.constants; eigens = c.args.eigens;
-        context = c.new.result; stack = c.new-2.result; pairs = c.new-3.result; tasks = c.push.new.self; next = 0 }) c.finish.new.self
-        c.equate.new.self c.as_slice.result.now c.pop.new.self.items c.args.term c.in-Some.found c.args.of _ c.have_solution.result
-        c.in_ok-finish.ensures.kept c.new.ensures.items c.new-2.ensures.items c.new-3.ensures.items
+    untyped_result c.args.bank.now c.finish.new.bank (record {
+      alloc = c.args.alloc;
+      constants = c.args.constants;
+      eigens = c.args.eigens;
+      context = c.new.result;
+      stack = c.new-2.result;
+      pairs = c.new-3.result;
+      tasks = c.push.new.self;
+      next = 0;
+    }) c.finish.new.self
+    c.equate.new.self c.as_slice.result.now c.pop.new.self.items c.args.term c.in-Some.found c.args.of _ c.have_solution.result
+    c.in_ok-finish.ensures.kept c.new.ensures.items c.new-2.ensures.items c.new-3.ensures.items
     (c.in_ok-push.ensures.items ∙ ap (λ ts. ts ++ task.Visit c.args.term ∷ []) c.new-4.ensures.items) c.in_ok-finish.ensures.keeps c.if-not-branch.false (c.in_ok-finish.ensures.ended c.if-not-branch.false) c.in-Some.ensures.items c.as_slice.ensures.value (record { next = q.next; solved = q.solved; below = q.below }) c.have_solution.ensures.none

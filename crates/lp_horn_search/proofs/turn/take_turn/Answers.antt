@@ -73,11 +73,11 @@ returns-in_ok-try_found-in-Some-clause-turn c =
     let rest : Branch = record { vars = b.vars; goals = c.pop-in-Some-Going.new.self; query = b.query } in
     let l : 0 < c.args.steps.now = omega arith in
     rw st (took _ c.pop.new.self.items _ b rest c.in-Some.goal c.args.steps.now gs refl refl l
-        (passes_on _ (c.args.steps.now - 1) (c.args.steps.now - 1) (c.args.steps.now - 1) _ _ _
-        (passes_here _ (c.args.steps.now - 1) _ _ (ap (λ ts. ts ++ stack_of (clauses_of c.args.rules.now) c.pop.new.self.items)
-        (found_tasks c.args.rules.now 0 c.first_candidate-first.result c.in-Some.goal rest
-        (found_first c.args.rules.now c.args.index.now c.in-Some.goal.name c.first_candidate-first.result c.requires.index
-        c.first_candidate-first.ensures)))) (c.in_ok-try_found-in-Some.ensures.passes (c.args.steps.now - 1))))
+    (passes_on _ (c.args.steps.now - 1) (c.args.steps.now - 1) (c.args.steps.now - 1) _ _ _
+    (passes_here _ (c.args.steps.now - 1) _ _ (ap (λ ts. ts ++ stack_of (clauses_of c.args.rules.now) c.pop.new.self.items)
+    (found_tasks c.args.rules.now 0 c.first_candidate-first.result c.in-Some.goal rest
+    (found_first c.args.rules.now c.args.index.now c.in-Some.goal.name c.first_candidate-first.result c.requires.index
+    c.first_candidate-first.ensures)))) (c.in_ok-try_found-in-Some.ensures.passes (c.args.steps.now - 1))))
 
 pub returns-in_ok-try_found-in-Some-clause-smaller : goal.returns-in_ok-try_found-in-Some-clause-smaller
 returns-in_ok-try_found-in-Some-clause-smaller c =
@@ -101,9 +101,9 @@ pub returns-in_ok-try_found-in-Some-Trying-clause-turn : goal.returns-in_ok-try_
 returns-in_ok-try_found-in-Some-Trying-clause-turn c =
     let st : c.args.stack.now.items ≡ c.pop.new.self.items ++ Trying c.in-Some-Trying.from c.in-Some-Trying.goal c.in-Some-Trying.rest ∷ [] = grind (arith, common_steps) in
     rw st (went_on _ c.pop.new.self.items _ _ _ _ c.args.steps.now (passes_on _ c.args.steps.now c.args.steps.now c.args.steps.now _ _ _
-        (passes_here _ c.args.steps.now _ _ (ap (λ ts. ts ++ stack_of (clauses_of c.args.rules.now) c.pop.new.self.items)
-        (found_tasks c.args.rules.now c.in-Some-Trying.from c.next_candidate-first.result c.in-Some-Trying.goal c.in-Some-Trying.rest
-        c.next_candidate-first.ensures))) (c.in_ok-try_found-in-Some-Trying.ensures.passes c.args.steps.now)))
+    (passes_here _ c.args.steps.now _ _ (ap (λ ts. ts ++ stack_of (clauses_of c.args.rules.now) c.pop.new.self.items)
+    (found_tasks c.args.rules.now c.in-Some-Trying.from c.next_candidate-first.result c.in-Some-Trying.goal c.in-Some-Trying.rest
+    c.next_candidate-first.ensures))) (c.in_ok-try_found-in-Some-Trying.ensures.passes c.args.steps.now)))
 
 pub returns-in_ok-try_found-in-Some-Trying-clause-smaller : goal.returns-in_ok-try_found-in-Some-Trying-clause-smaller
 returns-in_ok-try_found-in-Some-Trying-clause-smaller c =

@@ -61,9 +61,9 @@ returns-in-Some-2-clause-passes c =
     let rest = λ (cs : List Choice). stack_of (clauses_of rules) cs in
     let before = λ (n : ℕ). subst (λ (o : Option ℕ). Passes (clauses_of rules) n (tasks_left (clauses_of rules) c.args.first c.args.goal c.args.rest ++ rest c.candidates.stack.items) n (tasks_left (clauses_of rules) o c.args.goal c.args.rest ++ rest c.candidates.stack.items)) c.in-Some.is (c.candidates.invariant.passes n) in
     λ n. subst (λ (cs : List Choice). Passes (clauses_of rules) n (tasks_left (clauses_of rules) c.args.first c.args.goal c.args.rest ++ rest cs) n
-        (rest c.push_made.new.stack.items)) c.candidates.invariant.stack (passes_on _ n n n _ _ _ (before n)
-        (fitted rules c.args.goal.name 0 c.in-Some.at c.index-rules-at.result c.args.goal c.args.rest _ c.in-Some-2.bindings.items
-        c.candidates.stack.items _ n refl h s (rw c.in-Some-2.is at c.in_ok-bindings.ensures) f p))
+    (rest c.push_made.new.stack.items)) c.candidates.invariant.stack (passes_on _ n n n _ _ _ (before n)
+    (fitted rules c.args.goal.name 0 c.in-Some.at c.index-rules-at.result c.args.goal c.args.rest _ c.in-Some-2.bindings.items
+    c.candidates.stack.items _ n refl h s (rw c.in-Some-2.is at c.in_ok-bindings.ensures) f p))
 
 pub returns-in-Some-2-clause-smaller : goal.returns-in-Some-2-clause-smaller
 returns-in-Some-2-clause-smaller c =

@@ -20,7 +20,12 @@ pub loop-at-init : goal.loop-at-init
 loop-at-init c = (
   sum_begun (λ x. length x.hidden_constants.items) (λ x. length x.signature.constants.items - length x.hidden_constants.items) 32 c.args.root
       c.args.modules.now c.args.order.now.items c.index-modules-root.result c.exported-exported.result c.in_ok-all.all c.requires.root
-      c.index-modules-root.is (omega (arith, c.exported-exported.ensures, ap length c.constants.ensures, c.len.ensures,
-      c.index-modules-root.result.hidden_constants.ok)) c.in_ok-all.ensures.sum.0,
+      c.index-modules-root.is (omega (
+        arith,
+        c.exported-exported.ensures,
+        ap length c.constants.ensures,
+        c.len.ensures,
+        c.index-modules-root.result.hidden_constants.ok,
+      )) c.in_ok-all.ensures.sum.0,
   c.in_ok-all.ensures.sum.1,
 )

@@ -27,19 +27,19 @@ pub returns-in-Some-clause-judged : goal.returns-in-Some-clause-judged
 returns-in-Some-clause-judged c =
     if_ok c.solve_for.result _ _
     (λ done f r i g n p h. left_judged c.args.bank.now c.side_of.new.bank c.args.bindings.now r c.args.one.now c.args.other.now c.args.level n
-        c.args.next.now c.args.units.now p c.in_ok-left.ensures.kept c.requires.one c.requires.other h c.solve_for.new.units done c.in-Some.side
-        (transport (λ z. IsSideOf n (view c.args.bank.now r c.args.one.now) c.args.level z) c.in-Some.is (c.in_ok-left.ensures.side r i g n))
-        (f r (reading_kept c.args.bank.now c.side_of.new.bank c.args.bindings.now r c.in_ok-left.ensures.kept i) g))
+    c.args.next.now c.args.units.now p c.in_ok-left.ensures.kept c.requires.one c.requires.other h c.solve_for.new.units done c.in-Some.side
+    (transport (λ z. IsSideOf n (view c.args.bank.now r c.args.one.now) c.args.level z) c.in-Some.is (c.in_ok-left.ensures.side r i g n))
+    (f r (reading_kept c.args.bank.now c.side_of.new.bank c.args.bindings.now r c.in_ok-left.ensures.kept i) g))
     c.solve_for.ensures.judged
 
 pub returns-in-Some-clause-refused : goal.returns-in-Some-clause-refused
 returns-in-Some-clause-refused c =
     if_err c.solve_for.result _ _
     (λ e f r o levels n p h known. left_stopped c.args.bank.now c.side_of.new.bank c.args.bindings.now r c.args.one.now c.args.other.now c.args.level
-        n c.args.next.now c.args.units.now p c.in_ok-left.ensures.kept c.requires.one c.requires.other h o levels known e c.in-Some.side
-        (transport (λ z. IsSideOf n (view c.args.bank.now r c.args.one.now) c.args.level z) c.in-Some.is
-        (c.in_ok-left.ensures.side r o.reading o.shut n)) (f r (open_kept c.args.bank.now c.side_of.new.bank c.args.bindings.now c.args.next.now r
-        c.in_ok-left.ensures.kept o) levels))
+    n c.args.next.now c.args.units.now p c.in_ok-left.ensures.kept c.requires.one c.requires.other h o levels known e c.in-Some.side
+    (transport (λ z. IsSideOf n (view c.args.bank.now r c.args.one.now) c.args.level z) c.in-Some.is
+    (c.in_ok-left.ensures.side r o.reading o.shut n)) (f r (open_kept c.args.bank.now c.side_of.new.bank c.args.bindings.now c.args.next.now r
+    c.in_ok-left.ensures.kept o) levels))
     c.solve_for.ensures.refused
 
 pub side_of-requires-2 : goal.side_of-requires-2
@@ -54,18 +54,18 @@ returns-in_err-right-clause-refused c =
     (λ r o levels n p h known.
     right_out n c.args.next.now c.args.level c.args.units.now p (view c.args.bank.now r c.args.one.now) (view c.args.bank.now r c.args.other.now) c.in_err-right.field-0.0
     (no_side_before c.args.bank.now c.side_of.new.bank c.args.bindings.now r c.args.one.now c.args.other.now c.args.level n c.args.next.now
-        c.args.units.now p c.in_ok-left.ensures.kept c.requires.one c.requires.other h c.args.other.now c.in_err-right.field-0.0 c.requires.other
-        (c.in_err-right.ensures.refused r (reading_kept c.args.bank.now c.side_of.new.bank c.args.bindings.now r c.in_ok-left.ensures.kept o.reading)
-        o.shut n)) h.stands)
+    c.args.units.now p c.in_ok-left.ensures.kept c.requires.one c.requires.other h c.args.other.now c.in_err-right.field-0.0 c.requires.other
+    (c.in_err-right.ensures.refused r (reading_kept c.args.bank.now c.side_of.new.bank c.args.bindings.now r c.in_ok-left.ensures.kept o.reading)
+    o.shut n)) h.stands)
 
 pub returns-in_default-right-clause-judged : goal.returns-in_default-right-clause-judged
 returns-in_default-right-clause-judged c = λ r i g n p h.
     no_side n c.args.next.now c.args.level c.args.units.now p (view c.args.bank.now r c.args.one.now) (view c.args.bank.now r c.args.other.now) (transport (λ z. IsSideOf n (view c.args.bank.now r c.args.one.now) c.args.level z) c.in_default.is (c.in_ok-left.ensures.side r i g n))
     (side_before c.args.bank.now c.side_of.new.bank c.args.bindings.now r c.args.one.now c.args.other.now c.args.level n c.args.next.now
-        c.args.units.now p c.in_ok-left.ensures.kept c.requires.one c.requires.other h c.args.other.now None c.requires.other
-        (transport (λ z. IsSideOf n (view c.side_of.new.bank r c.args.other.now) c.args.level z) c.in_default-right.is
-        (c.in_ok-right.ensures.side r (reading_kept c.args.bank.now c.side_of.new.bank c.args.bindings.now r c.in_ok-left.ensures.kept i) g n)))
-        h.stands
+    c.args.units.now p c.in_ok-left.ensures.kept c.requires.one c.requires.other h c.args.other.now None c.requires.other
+    (transport (λ z. IsSideOf n (view c.side_of.new.bank r c.args.other.now) c.args.level z) c.in_default-right.is
+    (c.in_ok-right.ensures.side r (reading_kept c.args.bank.now c.side_of.new.bank c.args.bindings.now r c.in_ok-left.ensures.kept i) g n)))
+    h.stands
 
 pub solve_for-requires-2 : goal.solve_for-requires-2
 solve_for-requires-2 c = record { other = looked_stays c.args.bank.now c.side_of-2.new.bank c.args.bindings.now c.args.one.now (extends-trans c.args.bank.now c.side_of.new.bank c.side_of-2.new.bank c.in_ok-left.ensures.kept c.in_ok-right.ensures.kept) c.requires.one }
@@ -74,31 +74,31 @@ pub returns-clause-judged : goal.returns-clause-judged
 returns-clause-judged c =
     if_ok c.solve_for-2.result _ _
     (λ done f r i g n p h. right_judged c.args.bank.now c.side_of-2.new.bank c.args.bindings.now r c.args.one.now c.args.other.now c.args.level n
-        c.args.next.now c.args.units.now p (extends-trans c.args.bank.now c.side_of.new.bank c.side_of-2.new.bank c.in_ok-left.ensures.kept
-        c.in_ok-right.ensures.kept) c.requires.one c.requires.other h c.solve_for-2.new.units done c.in-Some-right.side
-        (transport (λ z. IsSideOf n (view c.args.bank.now r c.args.one.now) c.args.level z) c.in_default.is (c.in_ok-left.ensures.side r i g n))
+    c.args.next.now c.args.units.now p (extends-trans c.args.bank.now c.side_of.new.bank c.side_of-2.new.bank c.in_ok-left.ensures.kept
+    c.in_ok-right.ensures.kept) c.requires.one c.requires.other h c.solve_for-2.new.units done c.in-Some-right.side
+    (transport (λ z. IsSideOf n (view c.args.bank.now r c.args.one.now) c.args.level z) c.in_default.is (c.in_ok-left.ensures.side r i g n))
     (side_before c.args.bank.now c.side_of.new.bank c.args.bindings.now r c.args.one.now c.args.other.now c.args.level n c.args.next.now
-        c.args.units.now p c.in_ok-left.ensures.kept c.requires.one c.requires.other h c.args.other.now (Some c.in-Some-right.side) c.requires.other
-        (transport (λ z. IsSideOf n (view c.side_of.new.bank r c.args.other.now) c.args.level z) c.in-Some-right.is
-        (c.in_ok-right.ensures.side r (reading_kept c.args.bank.now c.side_of.new.bank c.args.bindings.now r c.in_ok-left.ensures.kept i) g n)))
-        (f r (reading_kept c.args.bank.now c.side_of-2.new.bank c.args.bindings.now r
-        (extends-trans c.args.bank.now c.side_of.new.bank c.side_of-2.new.bank c.in_ok-left.ensures.kept c.in_ok-right.ensures.kept) i) g))
+    c.args.units.now p c.in_ok-left.ensures.kept c.requires.one c.requires.other h c.args.other.now (Some c.in-Some-right.side) c.requires.other
+    (transport (λ z. IsSideOf n (view c.side_of.new.bank r c.args.other.now) c.args.level z) c.in-Some-right.is
+    (c.in_ok-right.ensures.side r (reading_kept c.args.bank.now c.side_of.new.bank c.args.bindings.now r c.in_ok-left.ensures.kept i) g n)))
+    (f r (reading_kept c.args.bank.now c.side_of-2.new.bank c.args.bindings.now r
+    (extends-trans c.args.bank.now c.side_of.new.bank c.side_of-2.new.bank c.in_ok-left.ensures.kept c.in_ok-right.ensures.kept) i) g))
     c.solve_for-2.ensures.judged
 
 pub returns-clause-refused : goal.returns-clause-refused
 returns-clause-refused c =
     if_err c.solve_for-2.result _ _
     (λ e f r o levels n p h known. right_stopped c.args.bank.now c.side_of-2.new.bank c.args.bindings.now r c.args.one.now c.args.other.now
-        c.args.level n c.args.next.now c.args.units.now p (extends-trans c.args.bank.now c.side_of.new.bank c.side_of-2.new.bank
-        c.in_ok-left.ensures.kept c.in_ok-right.ensures.kept) c.requires.one c.requires.other h o levels known e c.in-Some-right.side
-        (transport (λ z. IsSideOf n (view c.args.bank.now r c.args.one.now) c.args.level z) c.in_default.is
-        (c.in_ok-left.ensures.side r o.reading o.shut n))
+    c.args.level n c.args.next.now c.args.units.now p (extends-trans c.args.bank.now c.side_of.new.bank c.side_of-2.new.bank
+    c.in_ok-left.ensures.kept c.in_ok-right.ensures.kept) c.requires.one c.requires.other h o levels known e c.in-Some-right.side
+    (transport (λ z. IsSideOf n (view c.args.bank.now r c.args.one.now) c.args.level z) c.in_default.is
+    (c.in_ok-left.ensures.side r o.reading o.shut n))
     (side_before c.args.bank.now c.side_of.new.bank c.args.bindings.now r c.args.one.now c.args.other.now c.args.level n c.args.next.now
-        c.args.units.now p c.in_ok-left.ensures.kept c.requires.one c.requires.other h c.args.other.now (Some c.in-Some-right.side) c.requires.other
-        (transport (λ z. IsSideOf n (view c.side_of.new.bank r c.args.other.now) c.args.level z) c.in-Some-right.is
-        (c.in_ok-right.ensures.side r (reading_kept c.args.bank.now c.side_of.new.bank c.args.bindings.now r c.in_ok-left.ensures.kept o.reading)
-        o.shut n))) (f r (open_kept c.args.bank.now c.side_of-2.new.bank c.args.bindings.now c.args.next.now r
-        (extends-trans c.args.bank.now c.side_of.new.bank c.side_of-2.new.bank c.in_ok-left.ensures.kept c.in_ok-right.ensures.kept) o) levels))
+    c.args.units.now p c.in_ok-left.ensures.kept c.requires.one c.requires.other h c.args.other.now (Some c.in-Some-right.side) c.requires.other
+    (transport (λ z. IsSideOf n (view c.side_of.new.bank r c.args.other.now) c.args.level z) c.in-Some-right.is
+    (c.in_ok-right.ensures.side r (reading_kept c.args.bank.now c.side_of.new.bank c.args.bindings.now r c.in_ok-left.ensures.kept o.reading)
+    o.shut n))) (f r (open_kept c.args.bank.now c.side_of-2.new.bank c.args.bindings.now c.args.next.now r
+    (extends-trans c.args.bank.now c.side_of.new.bank c.side_of-2.new.bank c.in_ok-left.ensures.kept c.in_ok-right.ensures.kept) o) levels))
     c.solve_for-2.ensures.refused
 
 pub returns-in-Some-clause-done : goal.returns-in-Some-clause-done
@@ -106,10 +106,10 @@ returns-in-Some-clause-done c =
     if_ok c.solve_for.result _ _
     (λ done f r o levels n p h w.
     left_done c.args.bank.now c.side_of.new.bank c.args.bindings.now r c.args.one.now c.args.other.now c.args.level n c.args.next.now p
-        c.in_ok-left.ensures.kept c.requires.one c.requires.other h o levels w done c.solve_for.new.bank c.solve_for.new.bindings c.solve_for.new.next
-        c.in-Some.side (transport (λ z. IsSideOf n (view c.args.bank.now r c.args.one.now) c.args.level z) c.in-Some.is
-        (c.in_ok-left.ensures.side r o.reading o.shut n)) (f r (open_kept c.args.bank.now c.side_of.new.bank c.args.bindings.now c.args.next.now r
-        c.in_ok-left.ensures.kept o) levels))
+    c.in_ok-left.ensures.kept c.requires.one c.requires.other h o levels w done c.solve_for.new.bank c.solve_for.new.bindings c.solve_for.new.next
+    c.in-Some.side (transport (λ z. IsSideOf n (view c.args.bank.now r c.args.one.now) c.args.level z) c.in-Some.is
+    (c.in_ok-left.ensures.side r o.reading o.shut n)) (f r (open_kept c.args.bank.now c.side_of.new.bank c.args.bindings.now c.args.next.now r
+    c.in_ok-left.ensures.kept o) levels))
     c.solve_for.ensures.done
 
 pub returns-in_default-right-clause-done : goal.returns-in_default-right-clause-done

@@ -23,10 +23,10 @@ pub returns-then-not-is_named-clause-refused : goal.returns-then-not-is_named-cl
 returns-then-not-is_named-clause-refused c = λ r i g n.
     decompose_fails n c.args.level c.args.units.now (under c.args.bank.now r c.args.one.now.top) (under c.args.bank.now r c.args.other.now.top) (map (under c.args.bank.now r) c.args.one.now.arguments.items) (map (under c.args.bank.now r) c.args.other.now.arguments.items)
     (names_differ r (tree c.args.bank.now c.args.one.now.top.0) (tree c.args.bank.now c.args.other.now.top.0) c.have_same_name-is_named.result
-        (map (under c.args.bank.now r) c.args.one.now.arguments.items) (map (under c.args.bank.now r) c.args.other.now.arguments.items)
-        (rigid_top c.args.bank.now c.args.bindings.now c.args.one.now c.requires.one c.requires.rigid_one)
-        (rigid_top c.args.bank.now c.args.bindings.now c.args.other.now c.requires.other c.requires.rigid_other) c.have_same_name-is_named.ensures
-        c.if-not-is_named.true)
+    (map (under c.args.bank.now r) c.args.one.now.arguments.items) (map (under c.args.bank.now r) c.args.other.now.arguments.items)
+    (rigid_top c.args.bank.now c.args.bindings.now c.args.one.now c.requires.one c.requires.rigid_one)
+    (rigid_top c.args.bank.now c.args.bindings.now c.args.other.now c.requires.other c.requires.rigid_other) c.have_same_name-is_named.ensures
+    c.if-not-is_named.true)
 
 pub returns-in_err-solve_types-clause-refused : goal.returns-in_err-solve_types-clause-refused
 returns-in_err-solve_types-clause-refused c =
@@ -34,14 +34,14 @@ returns-in_err-solve_types-clause-refused c =
     (λ e. (r : Closing) → IsReading c.args.bank.now c.args.bindings.now r → IsShut r → (n : ℕ) → IsRuledOut n e c.args.units.now (decompose n c.args.level (under c.args.bank.now r c.args.one.now.top) (map (under c.args.bank.now r) c.args.one.now.arguments.items) (under c.args.bank.now r c.args.other.now.top) (map (under c.args.bank.now r) c.args.other.now.arguments.items)))
     c.from_residual-in_err-solve_types.ensures.1
     (λ r i g n. decompose_out c.args.bank.now r (tree c.args.bank.now c.args.one.now.top.0) (tree c.args.bank.now c.args.other.now.top.0)
-        c.have_same_name-is_named.result (map (under c.args.bank.now r) c.args.one.now.arguments.items)
-        (map (under c.args.bank.now r) c.args.other.now.arguments.items) c.args.level n c.args.units.now c.as_slice.result.now
-        (rigid_top c.args.bank.now c.args.bindings.now c.args.one.now c.requires.one c.requires.rigid_one)
-        (rigid_top c.args.bank.now c.args.bindings.now c.args.other.now c.requires.other c.requires.rigid_other) c.have_same_name-is_named.ensures
-        c.if-not-is_named.false (even c.args.bank.now r c.args.one.now.arguments.items c.args.other.now.arguments.items
-        (omega (arith, c.if-len.false, c.len.ensures, c.len-2.ensures, c.args.one.now.arguments.ok, c.args.other.now.arguments.ok)))
-        (ap (type_pairs_of c.args.bank.now r.types) c.as_slice.ensures.value ∙ c.in_ok-types.ensures.pairs r.types) c.in_err-solve_types.field-0.0
-        (λ o x. c.in_err-solve_types.ensures.refused r.types i.types n o
+    c.have_same_name-is_named.result (map (under c.args.bank.now r) c.args.one.now.arguments.items)
+    (map (under c.args.bank.now r) c.args.other.now.arguments.items) c.args.level n c.args.units.now c.as_slice.result.now
+    (rigid_top c.args.bank.now c.args.bindings.now c.args.one.now c.requires.one c.requires.rigid_one)
+    (rigid_top c.args.bank.now c.args.bindings.now c.args.other.now c.requires.other c.requires.rigid_other) c.have_same_name-is_named.ensures
+    c.if-not-is_named.false (even c.args.bank.now r c.args.one.now.arguments.items c.args.other.now.arguments.items
+    (omega (arith, c.if-len.false, c.len.ensures, c.len-2.ensures, c.args.one.now.arguments.ok, c.args.other.now.arguments.ok)))
+    (ap (type_pairs_of c.args.bank.now r.types) c.as_slice.ensures.value ∙ c.in_ok-types.ensures.pairs r.types) c.in_err-solve_types.field-0.0
+    (λ o x. c.in_err-solve_types.ensures.refused r.types i.types n o
     (x)))
 
 pub returns-clause-solved : goal.returns-clause-solved

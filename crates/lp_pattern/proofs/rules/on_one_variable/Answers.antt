@@ -51,10 +51,10 @@ returns-clause-judged c =
     (transport (λ o. IsComparedTo c.in_ok-is_same.is_same c.args.units.now c.are_same.new.units (compare_all n c.args.level (map (under c.args.bank.now r) o) (map (under c.args.bank.now r) c.args.other.now.arguments.items))) c.as_slice-ones.ensures.value
     (transport (λ o. IsComparedTo c.in_ok-is_same.is_same c.args.units.now c.are_same.new.units (compare_all n c.args.level (map (under c.args.bank.now r) c.as_slice-ones.result.now) (map (under c.args.bank.now r) o))) c.as_slice-others.ensures.value (c.in_ok-is_same.ensures.compared r i n)))
     (four_before c.args.bank.now c.are_same.new.bank c.args.bindings.now r c.args.one.now c.args.other.now c.args.level n c.args.next.now
-        c.are_same.new.units p c.in_ok-is_same.ensures.kept c.requires.one c.requires.other h w.0 w.1 w.2 w.3 c.on_others.new.units done
-        (f r (reading_kept c.args.bank.now c.are_same.new.bank c.args.bindings.now r c.in_ok-is_same.ensures.kept i) g n p
-        (pair_kept c.args.bank.now c.are_same.new.bank c.args.bindings.now r c.args.level c.args.one.now c.args.other.now p
-        c.in_ok-is_same.ensures.kept c.requires.one c.requires.other h) w.0 w.1 w.2 w.3)))
+    c.are_same.new.units p c.in_ok-is_same.ensures.kept c.requires.one c.requires.other h w.0 w.1 w.2 w.3 c.on_others.new.units done
+    (f r (reading_kept c.args.bank.now c.are_same.new.bank c.args.bindings.now r c.in_ok-is_same.ensures.kept i) g n p
+    (pair_kept c.args.bank.now c.are_same.new.bank c.args.bindings.now r c.args.level c.args.one.now c.args.other.now p
+    c.in_ok-is_same.ensures.kept c.requires.one c.requires.other h) w.0 w.1 w.2 w.3)))
     c.on_others.ensures.judged
 
 pub returns-clause-refused : goal.returns-clause-refused
@@ -66,10 +66,10 @@ returns-clause-refused c =
     (transport (λ o. IsComparedTo c.in_ok-is_same.is_same c.args.units.now c.are_same.new.units (compare_all n c.args.level (map (under c.args.bank.now r) o) (map (under c.args.bank.now r) c.args.other.now.arguments.items))) c.as_slice-ones.ensures.value
     (transport (λ o. IsComparedTo c.in_ok-is_same.is_same c.args.units.now c.are_same.new.units (compare_all n c.args.level (map (under c.args.bank.now r) c.as_slice-ones.result.now) (map (under c.args.bank.now r) o))) c.as_slice-others.ensures.value (c.in_ok-is_same.ensures.compared r o.reading n)))
     (four_out_before c.args.bank.now c.are_same.new.bank c.args.bindings.now r c.args.one.now c.args.other.now c.args.level n c.args.next.now
-        c.are_same.new.units p c.in_ok-is_same.ensures.kept c.requires.one c.requires.other h w.0 w.1 w.2 w.3 e
-        (f r (open_kept c.args.bank.now c.are_same.new.bank c.args.bindings.now c.args.next.now r c.in_ok-is_same.ensures.kept o) levels n p
-        (pair_kept c.args.bank.now c.are_same.new.bank c.args.bindings.now r c.args.level c.args.one.now c.args.other.now p
-        c.in_ok-is_same.ensures.kept c.requires.one c.requires.other h) known w.0 w.1 w.2 w.3)))
+    c.are_same.new.units p c.in_ok-is_same.ensures.kept c.requires.one c.requires.other h w.0 w.1 w.2 w.3 e
+    (f r (open_kept c.args.bank.now c.are_same.new.bank c.args.bindings.now c.args.next.now r c.in_ok-is_same.ensures.kept o) levels n p
+    (pair_kept c.args.bank.now c.are_same.new.bank c.args.bindings.now r c.args.level c.args.one.now c.args.other.now p
+    c.in_ok-is_same.ensures.kept c.requires.one c.requires.other h) known w.0 w.1 w.2 w.3)))
     c.on_others.ensures.refused
 
 pub returns-then-is_same-clause-done : goal.returns-then-is_same-clause-done

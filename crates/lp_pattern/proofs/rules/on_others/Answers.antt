@@ -33,10 +33,10 @@ returns-in_default-clause-judged c =
     (λ done f r i g n p h x l y z.
     open_judged c.args.bank.now c.side_of.new.bank c.args.bindings.now r c.args.one.now c.args.other.now c.args.level n c.args.next.now c.args.units.now p c.in_ok-left.ensures.kept c.requires.one c.requires.other h x l y z c.by_pattern.new.units done (transport (λ z. IsSideOf n (view c.args.bank.now r c.args.one.now) c.args.level z) c.in_default.is (c.in_ok-left.ensures.side r i g n))
     (five_before c.args.bank.now c.side_of.new.bank c.args.bindings.now r c.args.one.now c.args.other.now c.args.level n c.args.next.now
-        c.args.units.now p c.in_ok-left.ensures.kept c.requires.one c.requires.other h c.by_pattern.new.units done
-        (f r (reading_kept c.args.bank.now c.side_of.new.bank c.args.bindings.now r c.in_ok-left.ensures.kept i) g n p
-        (pair_kept c.args.bank.now c.side_of.new.bank c.args.bindings.now r c.args.level c.args.one.now c.args.other.now p c.in_ok-left.ensures.kept
-        c.requires.one c.requires.other h))))
+    c.args.units.now p c.in_ok-left.ensures.kept c.requires.one c.requires.other h c.by_pattern.new.units done
+    (f r (reading_kept c.args.bank.now c.side_of.new.bank c.args.bindings.now r c.in_ok-left.ensures.kept i) g n p
+    (pair_kept c.args.bank.now c.side_of.new.bank c.args.bindings.now r c.args.level c.args.one.now c.args.other.now p c.in_ok-left.ensures.kept
+    c.requires.one c.requires.other h))))
     c.by_pattern.ensures.judged
 
 pub returns-in_default-clause-refused : goal.returns-in_default-clause-refused
@@ -45,10 +45,10 @@ returns-in_default-clause-refused c =
     (λ e f r o levels n p h known x l y z.
     open_ruled c.args.bank.now c.side_of.new.bank c.args.bindings.now r c.args.one.now c.args.other.now c.args.level n c.args.next.now c.args.units.now p c.in_ok-left.ensures.kept c.requires.one c.requires.other h x l y z e (transport (λ z. IsSideOf n (view c.args.bank.now r c.args.one.now) c.args.level z) c.in_default.is (c.in_ok-left.ensures.side r o.reading o.shut n))
     (five_out_before c.args.bank.now c.side_of.new.bank c.args.bindings.now r c.args.one.now c.args.other.now c.args.level n c.args.next.now
-        c.args.units.now p c.in_ok-left.ensures.kept c.requires.one c.requires.other h e
-        (f r (open_kept c.args.bank.now c.side_of.new.bank c.args.bindings.now c.args.next.now r c.in_ok-left.ensures.kept o) levels n p
-        (pair_kept c.args.bank.now c.side_of.new.bank c.args.bindings.now r c.args.level c.args.one.now c.args.other.now p c.in_ok-left.ensures.kept
-        c.requires.one c.requires.other h) known)))
+    c.args.units.now p c.in_ok-left.ensures.kept c.requires.one c.requires.other h e
+    (f r (open_kept c.args.bank.now c.side_of.new.bank c.args.bindings.now c.args.next.now r c.in_ok-left.ensures.kept o) levels n p
+    (pair_kept c.args.bank.now c.side_of.new.bank c.args.bindings.now r c.args.level c.args.one.now c.args.other.now p c.in_ok-left.ensures.kept
+    c.requires.one c.requires.other h) known)))
     c.by_pattern.ensures.refused
 
 pub side_of-requires-2 : goal.side_of-requires-2
@@ -63,9 +63,9 @@ returns-in_err-right-clause-refused c =
     (λ r o levels n p h known x l y z.
     right_test_out c.args.bank.now c.side_of.new.bank c.args.bindings.now r c.args.one.now c.args.other.now c.args.level n c.args.next.now c.args.units.now p c.in_ok-left.ensures.kept c.requires.one c.requires.other h x l y z c.in_err-right.field-0.0
     (no_side_before c.args.bank.now c.side_of.new.bank c.args.bindings.now r c.args.one.now c.args.other.now c.args.level n c.args.next.now
-        c.args.units.now p c.in_ok-left.ensures.kept c.requires.one c.requires.other h c.args.other.now c.in_err-right.field-0.0 c.requires.other
-        (c.in_err-right.ensures.refused r (reading_kept c.args.bank.now c.side_of.new.bank c.args.bindings.now r c.in_ok-left.ensures.kept o.reading)
-        o.shut n)))
+    c.args.units.now p c.in_ok-left.ensures.kept c.requires.one c.requires.other h c.args.other.now c.in_err-right.field-0.0 c.requires.other
+    (c.in_err-right.ensures.refused r (reading_kept c.args.bank.now c.side_of.new.bank c.args.bindings.now r c.in_ok-left.ensures.kept o.reading)
+    o.shut n)))
 
 pub by_pattern-requires-in_default-right-clause-one : goal.by_pattern-requires-in_default-right-clause-one
 by_pattern-requires-in_default-right-clause-one c = looked_stays c.args.bank.now c.side_of-2.new.bank c.args.bindings.now c.args.one.now (extends-trans c.args.bank.now c.side_of.new.bank c.side_of-2.new.bank c.in_ok-left.ensures.kept c.in_ok-right.ensures.kept) c.requires.one
@@ -78,21 +78,21 @@ returns-in_default-right-clause-judged c =
     if_ok c.by_pattern-in_default-right.result _ _
     (λ done f r i g n p h x l y z.
     half_judged c.args.bank.now c.side_of-2.new.bank c.args.bindings.now r c.args.one.now c.args.other.now c.args.level n c.args.next.now
-        c.args.units.now p (extends-trans c.args.bank.now c.side_of.new.bank c.side_of-2.new.bank c.in_ok-left.ensures.kept
-        c.in_ok-right.ensures.kept) c.requires.one c.requires.other h x l y z c.by_pattern-in_default-right.new.units done c.in-Some.left
-        (transport (λ z. IsSideOf n (view c.args.bank.now r c.args.one.now) c.args.level z) c.in-Some.is (c.in_ok-left.ensures.side r i g n))
+    c.args.units.now p (extends-trans c.args.bank.now c.side_of.new.bank c.side_of-2.new.bank c.in_ok-left.ensures.kept
+    c.in_ok-right.ensures.kept) c.requires.one c.requires.other h x l y z c.by_pattern-in_default-right.new.units done c.in-Some.left
+    (transport (λ z. IsSideOf n (view c.args.bank.now r c.args.one.now) c.args.level z) c.in-Some.is (c.in_ok-left.ensures.side r i g n))
     (side_before c.args.bank.now c.side_of.new.bank c.args.bindings.now r c.args.one.now c.args.other.now c.args.level n c.args.next.now
-        c.args.units.now p c.in_ok-left.ensures.kept c.requires.one c.requires.other h c.args.other.now None c.requires.other
-        (transport (λ z. IsSideOf n (view c.side_of.new.bank r c.args.other.now) c.args.level z) c.in_default-right.is
-        (c.in_ok-right.ensures.side r (reading_kept c.args.bank.now c.side_of.new.bank c.args.bindings.now r c.in_ok-left.ensures.kept i) g n)))
+    c.args.units.now p c.in_ok-left.ensures.kept c.requires.one c.requires.other h c.args.other.now None c.requires.other
+    (transport (λ z. IsSideOf n (view c.side_of.new.bank r c.args.other.now) c.args.level z) c.in_default-right.is
+    (c.in_ok-right.ensures.side r (reading_kept c.args.bank.now c.side_of.new.bank c.args.bindings.now r c.in_ok-left.ensures.kept i) g n)))
     (five_before c.args.bank.now c.side_of-2.new.bank c.args.bindings.now r c.args.one.now c.args.other.now c.args.level n c.args.next.now
-        c.args.units.now p (extends-trans c.args.bank.now c.side_of.new.bank c.side_of-2.new.bank c.in_ok-left.ensures.kept
-        c.in_ok-right.ensures.kept) c.requires.one c.requires.other h c.by_pattern-in_default-right.new.units done
-        (f r (reading_kept c.args.bank.now c.side_of-2.new.bank c.args.bindings.now r
-        (extends-trans c.args.bank.now c.side_of.new.bank c.side_of-2.new.bank c.in_ok-left.ensures.kept c.in_ok-right.ensures.kept) i) g n p
-        (pair_kept c.args.bank.now c.side_of-2.new.bank c.args.bindings.now r c.args.level c.args.one.now c.args.other.now p
-        (extends-trans c.args.bank.now c.side_of.new.bank c.side_of-2.new.bank c.in_ok-left.ensures.kept c.in_ok-right.ensures.kept) c.requires.one
-        c.requires.other h))))
+    c.args.units.now p (extends-trans c.args.bank.now c.side_of.new.bank c.side_of-2.new.bank c.in_ok-left.ensures.kept
+    c.in_ok-right.ensures.kept) c.requires.one c.requires.other h c.by_pattern-in_default-right.new.units done
+    (f r (reading_kept c.args.bank.now c.side_of-2.new.bank c.args.bindings.now r
+    (extends-trans c.args.bank.now c.side_of.new.bank c.side_of-2.new.bank c.in_ok-left.ensures.kept c.in_ok-right.ensures.kept) i) g n p
+    (pair_kept c.args.bank.now c.side_of-2.new.bank c.args.bindings.now r c.args.level c.args.one.now c.args.other.now p
+    (extends-trans c.args.bank.now c.side_of.new.bank c.side_of-2.new.bank c.in_ok-left.ensures.kept c.in_ok-right.ensures.kept) c.requires.one
+    c.requires.other h))))
     c.by_pattern-in_default-right.ensures.judged
 
 pub returns-in_default-right-clause-refused : goal.returns-in_default-right-clause-refused
@@ -100,34 +100,34 @@ returns-in_default-right-clause-refused c =
     if_err c.by_pattern-in_default-right.result _ _
     (λ e f r o levels n p h known x l y z.
     half_ruled c.args.bank.now c.side_of-2.new.bank c.args.bindings.now r c.args.one.now c.args.other.now c.args.level n c.args.next.now
-        c.args.units.now p (extends-trans c.args.bank.now c.side_of.new.bank c.side_of-2.new.bank c.in_ok-left.ensures.kept
-        c.in_ok-right.ensures.kept) c.requires.one c.requires.other h x l y z e c.in-Some.left
-        (transport (λ z. IsSideOf n (view c.args.bank.now r c.args.one.now) c.args.level z) c.in-Some.is
-        (c.in_ok-left.ensures.side r o.reading o.shut n))
+    c.args.units.now p (extends-trans c.args.bank.now c.side_of.new.bank c.side_of-2.new.bank c.in_ok-left.ensures.kept
+    c.in_ok-right.ensures.kept) c.requires.one c.requires.other h x l y z e c.in-Some.left
+    (transport (λ z. IsSideOf n (view c.args.bank.now r c.args.one.now) c.args.level z) c.in-Some.is
+    (c.in_ok-left.ensures.side r o.reading o.shut n))
     (side_before c.args.bank.now c.side_of.new.bank c.args.bindings.now r c.args.one.now c.args.other.now c.args.level n c.args.next.now
-        c.args.units.now p c.in_ok-left.ensures.kept c.requires.one c.requires.other h c.args.other.now None c.requires.other
-        (transport (λ z. IsSideOf n (view c.side_of.new.bank r c.args.other.now) c.args.level z) c.in_default-right.is
-        (c.in_ok-right.ensures.side r (reading_kept c.args.bank.now c.side_of.new.bank c.args.bindings.now r c.in_ok-left.ensures.kept o.reading)
-        o.shut n)))
+    c.args.units.now p c.in_ok-left.ensures.kept c.requires.one c.requires.other h c.args.other.now None c.requires.other
+    (transport (λ z. IsSideOf n (view c.side_of.new.bank r c.args.other.now) c.args.level z) c.in_default-right.is
+    (c.in_ok-right.ensures.side r (reading_kept c.args.bank.now c.side_of.new.bank c.args.bindings.now r c.in_ok-left.ensures.kept o.reading)
+    o.shut n)))
     (five_out_before c.args.bank.now c.side_of-2.new.bank c.args.bindings.now r c.args.one.now c.args.other.now c.args.level n c.args.next.now
-        c.args.units.now p (extends-trans c.args.bank.now c.side_of.new.bank c.side_of-2.new.bank c.in_ok-left.ensures.kept
-        c.in_ok-right.ensures.kept) c.requires.one c.requires.other h e (f r (open_kept c.args.bank.now c.side_of-2.new.bank c.args.bindings.now
-        c.args.next.now r (extends-trans c.args.bank.now c.side_of.new.bank c.side_of-2.new.bank c.in_ok-left.ensures.kept c.in_ok-right.ensures.kept)
-        o) levels n p (pair_kept c.args.bank.now c.side_of-2.new.bank c.args.bindings.now r c.args.level c.args.one.now c.args.other.now p
-        (extends-trans c.args.bank.now c.side_of.new.bank c.side_of-2.new.bank c.in_ok-left.ensures.kept c.in_ok-right.ensures.kept) c.requires.one
-        c.requires.other h) known)))
+    c.args.units.now p (extends-trans c.args.bank.now c.side_of.new.bank c.side_of-2.new.bank c.in_ok-left.ensures.kept
+    c.in_ok-right.ensures.kept) c.requires.one c.requires.other h e (f r (open_kept c.args.bank.now c.side_of-2.new.bank c.args.bindings.now
+    c.args.next.now r (extends-trans c.args.bank.now c.side_of.new.bank c.side_of-2.new.bank c.in_ok-left.ensures.kept c.in_ok-right.ensures.kept)
+    o) levels n p (pair_kept c.args.bank.now c.side_of-2.new.bank c.args.bindings.now r c.args.level c.args.one.now c.args.other.now p
+    (extends-trans c.args.bank.now c.side_of.new.bank c.side_of-2.new.bank c.in_ok-left.ensures.kept c.in_ok-right.ensures.kept) c.requires.one
+    c.requires.other h) known)))
     c.by_pattern-in_default-right.ensures.refused
 
 pub returns-clause-judged : goal.returns-clause-judged
 returns-clause-judged c = λ r i g n p h x l y z.
     both_judged c.args.bank.now c.side_of-2.new.bank c.args.bindings.now r c.args.one.now c.args.other.now c.args.level n c.args.next.now
-        c.args.units.now p (extends-trans c.args.bank.now c.side_of.new.bank c.side_of-2.new.bank c.in_ok-left.ensures.kept
-        c.in_ok-right.ensures.kept) c.requires.one c.requires.other h x l y z c.in-Some.left c.in-Some-right.right
-        (transport (λ z. IsSideOf n (view c.args.bank.now r c.args.one.now) c.args.level z) c.in-Some.is (c.in_ok-left.ensures.side r i g n))
+    c.args.units.now p (extends-trans c.args.bank.now c.side_of.new.bank c.side_of-2.new.bank c.in_ok-left.ensures.kept
+    c.in_ok-right.ensures.kept) c.requires.one c.requires.other h x l y z c.in-Some.left c.in-Some-right.right
+    (transport (λ z. IsSideOf n (view c.args.bank.now r c.args.one.now) c.args.level z) c.in-Some.is (c.in_ok-left.ensures.side r i g n))
     (side_before c.args.bank.now c.side_of.new.bank c.args.bindings.now r c.args.one.now c.args.other.now c.args.level n c.args.next.now
-        c.args.units.now p c.in_ok-left.ensures.kept c.requires.one c.requires.other h c.args.other.now (Some c.in-Some-right.right) c.requires.other
-        (transport (λ z. IsSideOf n (view c.side_of.new.bank r c.args.other.now) c.args.level z) c.in-Some-right.is
-        (c.in_ok-right.ensures.side r (reading_kept c.args.bank.now c.side_of.new.bank c.args.bindings.now r c.in_ok-left.ensures.kept i) g n)))
+    c.args.units.now p c.in_ok-left.ensures.kept c.requires.one c.requires.other h c.args.other.now (Some c.in-Some-right.right) c.requires.other
+    (transport (λ z. IsSideOf n (view c.side_of.new.bank r c.args.other.now) c.args.level z) c.in-Some-right.is
+    (c.in_ok-right.ensures.side r (reading_kept c.args.bank.now c.side_of.new.bank c.args.bindings.now r c.in_ok-left.ensures.kept i) g n)))
 
 pub returns-in_default-clause-done : goal.returns-in_default-clause-done
 returns-in_default-clause-done c =

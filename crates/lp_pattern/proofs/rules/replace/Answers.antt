@@ -27,11 +27,11 @@ pub returns-then-are_rigid-clause-refused : goal.returns-then-are_rigid-clause-r
 returns-then-are_rigid-clause-refused c =
     if_err c.decompose.result _ _
     (λ e f r i g n x p h. out_below n c.args.units.now e (rule n x p) (decompose n c.args.level (under c.args.bank.now r c.args.one.now.top)
-        (map (under c.args.bank.now r) c.args.one.now.arguments.items) (under c.args.bank.now r c.args.other.now.top)
-        (map (under c.args.bank.now r) c.args.other.now.arguments.items)) (λ y q. rule_rigid c.args.bank.now c.args.bindings.now r c.args.one.now
-        c.args.other.now i c.requires.one c.requires.other n x c.args.level p h y q
-        (both_rigid c.args.one.now.head c.args.other.now.head (sym c.are_rigid.ensures ∙ c.if-are_rigid.true)).0
-        (both_rigid c.args.one.now.head c.args.other.now.head (sym c.are_rigid.ensures ∙ c.if-are_rigid.true)).1) (f r i g n))
+    (map (under c.args.bank.now r) c.args.one.now.arguments.items) (under c.args.bank.now r c.args.other.now.top)
+    (map (under c.args.bank.now r) c.args.other.now.arguments.items)) (λ y q. rule_rigid c.args.bank.now c.args.bindings.now r c.args.one.now
+    c.args.other.now i c.requires.one c.requires.other n x c.args.level p h y q
+    (both_rigid c.args.one.now.head c.args.other.now.head (sym c.are_rigid.ensures ∙ c.if-are_rigid.true)).0
+    (both_rigid c.args.one.now.head c.args.other.now.head (sym c.are_rigid.ensures ∙ c.if-are_rigid.true)).1) (f r i g n))
     c.decompose.ensures.refused
 
 pub returns-clause-replaced : goal.returns-clause-replaced
@@ -43,9 +43,9 @@ returns-then-are_rigid-clause-given c =
     (λ f g next r i lv n p h w y q.
     arguments_given c.args.bank.now c.decompose.new.bank c.args.bindings.now next r c.args.one.now c.args.other.now i c.requires.one c.requires.other c.args.level lv p h w c.decompose.ensures.kept c.args.todo.now.items c.decompose.new.todo.items c.decompose.new.bindings y.verdict c.decompose.ensures.terms g
     (f r i.reading i.shut i.still n y (rule_rigid c.args.bank.now c.args.bindings.now r c.args.one.now c.args.other.now i.reading c.requires.one
-        c.requires.other n next c.args.level p h y q (both_rigid c.args.one.now.head c.args.other.now.head
-        (sym c.are_rigid.ensures ∙ c.if-are_rigid.true)).0 (both_rigid c.args.one.now.head c.args.other.now.head
-        (sym c.are_rigid.ensures ∙ c.if-are_rigid.true)).1)))
+    c.requires.other n next c.args.level p h y q (both_rigid c.args.one.now.head c.args.other.now.head
+    (sym c.are_rigid.ensures ∙ c.if-are_rigid.true)).0 (both_rigid c.args.one.now.head c.args.other.now.head
+    (sym c.are_rigid.ensures ∙ c.if-are_rigid.true)).1)))
     c.decompose.ensures.given c.decompose.ensures.pushed
 
 pub returns-clause-given : goal.returns-clause-given

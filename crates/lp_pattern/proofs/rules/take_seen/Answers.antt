@@ -19,9 +19,9 @@ returns-then-is_done-clause-judged c = λ r i g n p h q e.
 pub returns-then-are_flexible-clause-judged : goal.returns-then-are_flexible-clause-judged
 returns-then-are_flexible-clause-judged c = λ r i g n p h q e.
     taken_delayed c.args.bank.now c.args.bindings.now r c.args.one.now c.args.other.now i c.requires.one c.requires.other n c.args.next.now
-        c.args.level p h q e c.args.units.now c.by_variables.new.units c.in_ok-is_done.is_done
-        (record { left = c.args.one.now.whole; right = c.args.other.now.whole; level = c.args.level })
-        (sym c.are_flexible.ensures ∙ c.if-are_flexible.true) c.if-is_done.false (c.in_ok-is_done.ensures.judged r i g n p h)
+    c.args.level p h q e c.args.units.now c.by_variables.new.units c.in_ok-is_done.is_done
+    (record { left = c.args.one.now.whole; right = c.args.other.now.whole; level = c.args.level })
+    (sym c.are_flexible.ensures ∙ c.if-are_flexible.true) c.if-is_done.false (c.in_ok-is_done.ensures.judged r i g n p h)
 
 pub returns-in_err-is_done-clause-refused : goal.returns-in_err-is_done-clause-refused
 returns-in_err-is_done-clause-refused c =

@@ -38,9 +38,9 @@ returns-in_default-clause-scanned c = λ r i h m n.
     open_goes c.args.bank.now c.args.bindings.now r c.args.side.now c.args.visit c.args.looked.now c.args.left.now.items c.requires.looked c.requires.visit c.pattern_of.new.bank m n c.args.units.now c.spend.new.units c.args.id c.args.level
     c.args.found.now c.note_open.new.found c.note_open.new.left.items c.in_ok-pattern.ensures.kept i c.requires.head
     (transport (λ l. IsPattern m c.args.level (map (read_at c.args.bank.now r c.args.visit.opened.level c.args.visit.opened.depth) l) None)
-        c.as_slice-arguments.ensures.value (transport (λ o. IsPattern m c.args.level
-        (map (read_at c.args.bank.now r c.args.visit.opened.level c.args.visit.opened.depth) c.as_slice-arguments.result.now) o) c.in_default.is
-        (c.in_ok-pattern.ensures.pattern r i h m))) c.in_ok-spend.ensures.spent c.in_ok-note_open.ensures.delayed c.in_ok-note_open.ensures.misfit q
+    c.as_slice-arguments.ensures.value (transport (λ o. IsPattern m c.args.level
+    (map (read_at c.args.bank.now r c.args.visit.opened.level c.args.visit.opened.depth) c.as_slice-arguments.result.now) o) c.in_default.is
+    (c.in_ok-pattern.ensures.pattern r i h m))) c.in_ok-spend.ensures.spent c.in_ok-note_open.ensures.delayed c.in_ok-note_open.ensures.misfit q
     (pushed_known (length c.args.bank.now.terms) c.args.side.now.pair c.args.visit true c.args.looked.now.arguments.items c.args.left.now.items c.note_open.new.left.items c.requires.visit.1 c.requires.looked.arguments c.requires.left q)
 
 pub returns-in_err-note_pattern-clause-stopped : goal.returns-in_err-note_pattern-clause-stopped
@@ -52,10 +52,10 @@ returns-in_err-note_pattern-clause-stopped c =
     (λ r i h m n.
     pattern_breaks c.args.bank.now c.args.bindings.now r c.args.side.now c.args.visit c.args.looked.now c.args.left.now.items c.requires.looked c.requires.visit m n c.args.units.now c.spend.new.units c.args.id c.args.level c.in-Some.pattern c.in_err-note_pattern.field-0.0 i c.requires.head
     (transport (λ l. IsPattern m c.args.level (map (read_at c.args.bank.now r c.args.visit.opened.level c.args.visit.opened.depth) l)
-        (Some c.in-Some.pattern)) c.as_slice-arguments.ensures.value (transport (λ o. IsPattern m c.args.level
-        (map (read_at c.args.bank.now r c.args.visit.opened.level c.args.visit.opened.depth) c.as_slice-arguments.result.now) o) c.in-Some.is
-        (c.in_ok-pattern.ensures.pattern r i h m))) c.in_ok-spend.ensures.spent c.in_err-note_pattern.ensures.failed.1
-        c.in_err-note_pattern.ensures.failed.0)
+    (Some c.in-Some.pattern)) c.as_slice-arguments.ensures.value (transport (λ o. IsPattern m c.args.level
+    (map (read_at c.args.bank.now r c.args.visit.opened.level c.args.visit.opened.depth) c.as_slice-arguments.result.now) o) c.in-Some.is
+    (c.in_ok-pattern.ensures.pattern r i h m))) c.in_ok-spend.ensures.spent c.in_err-note_pattern.ensures.failed.1
+    c.in_err-note_pattern.ensures.failed.0)
 
 pub returns-clause-left : goal.returns-clause-left
 returns-clause-left c = visits_kept c.args.bank.now c.pattern_of.new.bank c.args.side.now.pair c.args.left.now.items c.in_ok-pattern.ensures.kept c.requires.left
@@ -65,6 +65,6 @@ returns-clause-scanned c = λ r i h m n.
     pattern_goes c.args.bank.now c.args.bindings.now r c.args.side.now c.args.visit c.args.looked.now c.args.left.now.items c.requires.looked c.requires.visit c.pattern_of.new.bank m n c.args.units.now c.spend.new.units c.args.id c.args.level
     c.args.found.now c.note_pattern.new.found c.in-Some.pattern c.in_ok-pattern.ensures.kept i c.requires.head
     (transport (λ l. IsPattern m c.args.level (map (read_at c.args.bank.now r c.args.visit.opened.level c.args.visit.opened.depth) l)
-        (Some c.in-Some.pattern)) c.as_slice-arguments.ensures.value (transport (λ o. IsPattern m c.args.level
-        (map (read_at c.args.bank.now r c.args.visit.opened.level c.args.visit.opened.depth) c.as_slice-arguments.result.now) o) c.in-Some.is
-        (c.in_ok-pattern.ensures.pattern r i h m))) c.in_ok-spend.ensures.spent c.in_ok-note_pattern.ensures.noted c.requires.left
+    (Some c.in-Some.pattern)) c.as_slice-arguments.ensures.value (transport (λ o. IsPattern m c.args.level
+    (map (read_at c.args.bank.now r c.args.visit.opened.level c.args.visit.opened.depth) c.as_slice-arguments.result.now) o) c.in-Some.is
+    (c.in_ok-pattern.ensures.pattern r i h m))) c.in_ok-spend.ensures.spent c.in_ok-note_pattern.ensures.noted c.requires.left

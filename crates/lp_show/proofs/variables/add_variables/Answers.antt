@@ -78,9 +78,13 @@ terms-preserved-in-Abs c = record {
   within =
       subst (All (λ t. t.0 < length c.args.bank.now.terms)) (sym c.in_ok-push-in-Abs.ensures.items)
       (All-push (λ t. t.0 < length c.args.bank.now.terms) c.pop.new.self.items c.in-Abs.body
-          (within_rest c.args.bank.now c.terms.left.items c.pop.new.self.items c.in-Some.next c.in-Some.ensures.items c.terms.invariant.within)
-          (omega (arith, c.in-Abs.ensures.older, within_next c.args.bank.now c.terms.left.items c.pop.new.self.items c.in-Some.next
-          c.in-Some.ensures.items c.terms.invariant.within)));
+      (within_rest c.args.bank.now c.terms.left.items c.pop.new.self.items c.in-Some.next c.in-Some.ensures.items c.terms.invariant.within)
+      (omega (
+        arith,
+        c.in-Abs.ensures.older,
+        within_next c.args.bank.now c.terms.left.items c.pop.new.self.items c.in-Some.next
+            c.in-Some.ensures.items c.terms.invariant.within,
+      )));
 }
 
 pub terms-smaller-in-App : goal.terms-smaller-in-App

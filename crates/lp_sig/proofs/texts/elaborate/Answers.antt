@@ -49,9 +49,9 @@ returns-in_err-take-clause-refused c =
     (step_at_fault c.args.names.now c.args.sources.now c.args.texts.now c.args.root steps c.deref-step-items.result.now c.loop-step.step-index _ e c.deref-step-items.ensures.value
     (free_steps c.args.names.now c.args.sources.now c.args.texts.now c.args.root (map (λ out. out.items) c.in_ok-ways.ways.ways.items) steps c.as_slice.result.now c.in_ok-ways.ensures c.as_slice.ensures.value c.in_ok-steps.ensures c.in_ok-check_circles.ensures.none)
     c.loop-step-test.true c.loop-step.invariant.taken (c.in_err-take.ensures.refused
-        (seen_before c.args.names.now c.args.sources.now c.args.texts.now c.deref-step-items.result.now c.loop-step.step-index)
-        (constants_before c.args.names.now c.args.sources.now c.args.texts.now c.deref-step-items.result.now c.loop-step.step-index)
-        c.loop-step.invariant.seen c.loop-step.invariant.constants c.loop-step.invariant.typed))
+    (seen_before c.args.names.now c.args.sources.now c.args.texts.now c.deref-step-items.result.now c.loop-step.step-index)
+    (constants_before c.args.names.now c.args.sources.now c.args.texts.now c.deref-step-items.result.now c.loop-step.step-index)
+    c.loop-step.invariant.seen c.loop-step.invariant.constants c.loop-step.invariant.typed))
 
 pub returns-clause-accepted : goal.returns-clause-accepted
 returns-clause-accepted c = record {
@@ -69,12 +69,12 @@ returns-clause-accepted c = record {
       c.in_ok-signature.signature.constants.items) (all_constants c.args.names.now c.args.sources.now c.args.texts.now c.deref-step-items.result.now
       c.loop-step.step-index c.in_ok-steps.steps.items c.deref-step-items.ensures.value c.loop-step-test.false)
       (subst (λ z. AreConstants c.in_ok-signature.signature.bank z.said z.definitions
-          (constants_before c.args.names.now c.args.sources.now c.args.texts.now c.deref-step-items.result.now c.loop-step.step-index)
-          c.in_ok-signature.signature.constants.items) (all_seen c.args.names.now c.args.sources.now c.args.texts.now c.deref-step-items.result.now
-          c.loop-step.step-index c.in_ok-steps.steps.items c.deref-step-items.ensures.value c.loop-step-test.false)
-          (c.in_ok-signature.ensures.constants (seen_before c.args.names.now c.args.sources.now c.args.texts.now c.deref-step-items.result.now
-          c.loop-step.step-index) (constants_before c.args.names.now c.args.sources.now c.args.texts.now c.deref-step-items.result.now
-          c.loop-step.step-index) c.loop-step.invariant.constants).0);
+      (constants_before c.args.names.now c.args.sources.now c.args.texts.now c.deref-step-items.result.now c.loop-step.step-index)
+      c.in_ok-signature.signature.constants.items) (all_seen c.args.names.now c.args.sources.now c.args.texts.now c.deref-step-items.result.now
+      c.loop-step.step-index c.in_ok-steps.steps.items c.deref-step-items.ensures.value c.loop-step-test.false)
+      (c.in_ok-signature.ensures.constants (seen_before c.args.names.now c.args.sources.now c.args.texts.now c.deref-step-items.result.now
+      c.loop-step.step-index) (constants_before c.args.names.now c.args.sources.now c.args.texts.now c.deref-step-items.result.now
+      c.loop-step.step-index) c.loop-step.invariant.constants).0);
   numbers = subst HaveNumbers (all_constants c.args.names.now c.args.sources.now c.args.texts.now c.deref-step-items.result.now c.loop-step.step-index
       c.in_ok-steps.steps.items c.deref-step-items.ensures.value c.loop-step-test.false)
       (c.in_ok-signature.ensures.constants (seen_before c.args.names.now c.args.sources.now c.args.texts.now c.deref-step-items.result.now

@@ -26,9 +26,9 @@ returns-in_err-end-clause-fault c =
     let w = c.in_ok-words.ensures.within in
     let l = length_lexemes c.args.input.now.source.now c.args.input.now.tokens.now in
     passed_up c.from_residual-in_err-end.result c.in_err-end.field-0.0 (λ f. MemoryOr f
-        (StopsIn (spot_at c.args.input.now.file c.args.input.now.source.now c.args.input.now.tokens.now)
-        (lexemes c.args.input.now.source.now c.args.input.now.tokens.now) (AtName keyword.AccumSig) c.args.from f))
-        c.from_residual-in_err-end.ensures.1 (inr (list_dot_refused (spot_at c.args.input.now.file c.args.input.now.source.now
-        c.args.input.now.tokens.now) (lexemes c.args.input.now.source.now c.args.input.now.tokens.now) keyword.AccumSig c.args.from c.in_ok-words.at _
-        _ refl c.in_ok-words.ensures.listed.holds c.in_ok-words.ensures.no_comma c.in_err-end.ensures.none (omega (arith, w, l))
-        c.in_err-end.ensures.refused))
+    (StopsIn (spot_at c.args.input.now.file c.args.input.now.source.now c.args.input.now.tokens.now)
+    (lexemes c.args.input.now.source.now c.args.input.now.tokens.now) (AtName keyword.AccumSig) c.args.from f))
+    c.from_residual-in_err-end.ensures.1 (inr (list_dot_refused (spot_at c.args.input.now.file c.args.input.now.source.now
+    c.args.input.now.tokens.now) (lexemes c.args.input.now.source.now c.args.input.now.tokens.now) keyword.AccumSig c.args.from c.in_ok-words.at _
+    _ refl c.in_ok-words.ensures.listed.holds c.in_ok-words.ensures.no_comma c.in_err-end.ensures.none (omega (arith, w, l))
+    c.in_err-end.ensures.refused))

@@ -22,44 +22,52 @@ returns-clause-declared c = record {
 pub returns-in_err-names-clause-fault : goal.returns-in_err-names-clause-fault
 returns-in_err-names-clause-fault c =
     passed_up c.from_residual.result c.in_err-names.field-0.0 (λ f. MemoryOr f (IsTooDeep
-        (lexemes c.args.input.now.source.now c.args.input.now.tokens.now) keyword.Type c.args.from f ⊎ StopsIn
-        (spot_at c.args.input.now.file c.args.input.now.source.now c.args.input.now.tokens.now)
-        (lexemes c.args.input.now.source.now c.args.input.now.tokens.now) (AtName keyword.Type) c.args.from f)) c.from_residual.ensures.1
-        (memory_or _ inr (c.in_err-names.ensures.fault keyword.Type refl))
+    (lexemes c.args.input.now.source.now c.args.input.now.tokens.now) keyword.Type c.args.from f ⊎ StopsIn
+    (spot_at c.args.input.now.file c.args.input.now.source.now c.args.input.now.tokens.now)
+    (lexemes c.args.input.now.source.now c.args.input.now.tokens.now) (AtName keyword.Type) c.args.from f)) c.from_residual.ensures.1
+    (memory_or _ inr (c.in_err-names.ensures.fault keyword.Type refl))
 
 pub returns-in_err-text-clause-fault : goal.returns-in_err-text-clause-fault
 returns-in_err-text-clause-fault c =
     passed_up c.from_residual-in_err-text.result c.in_err-text.field-0.0 (λ f. MemoryOr f
-        (IsTooDeep (lexemes c.args.input.now.source.now c.args.input.now.tokens.now) keyword.Type c.args.from f ⊎ StopsIn
-        (spot_at c.args.input.now.file c.args.input.now.source.now c.args.input.now.tokens.now)
-        (lexemes c.args.input.now.source.now c.args.input.now.tokens.now) (AtName keyword.Type) c.args.from f)) c.from_residual-in_err-text.ensures.1
-        (memory_or _ (λ s. inr (type_refused (spot_at c.args.input.now.file c.args.input.now.source.now c.args.input.now.tokens.now)
-        (lexemes c.args.input.now.source.now c.args.input.now.tokens.now) keyword.Type c.args.from c.in_ok-names.at _ _ refl
-        c.in_ok-names.ensures.listed.holds c.in_ok-names.ensures.no_comma (not_last keyword.Type _ refl) s)) c.in_err-text.ensures.fault)
+    (IsTooDeep (lexemes c.args.input.now.source.now c.args.input.now.tokens.now) keyword.Type c.args.from f ⊎ StopsIn
+    (spot_at c.args.input.now.file c.args.input.now.source.now c.args.input.now.tokens.now)
+    (lexemes c.args.input.now.source.now c.args.input.now.tokens.now) (AtName keyword.Type) c.args.from f)) c.from_residual-in_err-text.ensures.1
+    (memory_or _ (λ s. inr (type_refused (spot_at c.args.input.now.file c.args.input.now.source.now c.args.input.now.tokens.now)
+    (lexemes c.args.input.now.source.now c.args.input.now.tokens.now) keyword.Type c.args.from c.in_ok-names.at _ _ refl
+    c.in_ok-names.ensures.listed.holds c.in_ok-names.ensures.no_comma (not_last keyword.Type _ refl) s)) c.in_err-text.ensures.fault)
 
 pub returns-in_err-end-clause-fault : goal.returns-in_err-end-clause-fault
 returns-in_err-end-clause-fault c =
     let w = c.in_ok-text.ensures.within in
     let l = length_lexemes c.args.input.now.source.now c.args.input.now.tokens.now in
     passed_up c.from_residual-in_err-end.result c.in_err-end.field-0.0 (λ f. MemoryOr f
-        (IsTooDeep (lexemes c.args.input.now.source.now c.args.input.now.tokens.now) keyword.Type c.args.from f ⊎ StopsIn
-        (spot_at c.args.input.now.file c.args.input.now.source.now c.args.input.now.tokens.now)
-        (lexemes c.args.input.now.source.now c.args.input.now.tokens.now) (AtName keyword.Type) c.args.from f)) c.from_residual-in_err-end.ensures.1
-        (inr (inr (type_refused (spot_at c.args.input.now.file c.args.input.now.source.now c.args.input.now.tokens.now)
-        (lexemes c.args.input.now.source.now c.args.input.now.tokens.now) keyword.Type c.args.from c.in_ok-names.at _ _ refl
-        c.in_ok-names.ensures.listed.holds c.in_ok-names.ensures.no_comma (not_last keyword.Type _ refl)
-        (type_ends_wrong (spot_at c.args.input.now.file c.args.input.now.source.now c.args.input.now.tokens.now)
-        (lexemes c.args.input.now.source.now c.args.input.now.tokens.now) c.in_ok-names.at c.in_ok-text.at _ c.in_ok-text.ensures.end
-        c.in_err-end.ensures.none (omega (arith, w, l)) c.in_err-end.ensures.refused))))
+    (IsTooDeep (lexemes c.args.input.now.source.now c.args.input.now.tokens.now) keyword.Type c.args.from f ⊎ StopsIn
+    (spot_at c.args.input.now.file c.args.input.now.source.now c.args.input.now.tokens.now)
+    (lexemes c.args.input.now.source.now c.args.input.now.tokens.now) (AtName keyword.Type) c.args.from f)) c.from_residual-in_err-end.ensures.1
+    (inr (inr (type_refused (spot_at c.args.input.now.file c.args.input.now.source.now c.args.input.now.tokens.now)
+    (lexemes c.args.input.now.source.now c.args.input.now.tokens.now) keyword.Type c.args.from c.in_ok-names.at _ _ refl
+    c.in_ok-names.ensures.listed.holds c.in_ok-names.ensures.no_comma (not_last keyword.Type _ refl)
+    (type_ends_wrong (spot_at c.args.input.now.file c.args.input.now.source.now c.args.input.now.tokens.now)
+    (lexemes c.args.input.now.source.now c.args.input.now.tokens.now) c.in_ok-names.at c.in_ok-text.at _ c.in_ok-text.ensures.end
+    c.in_err-end.ensures.none (omega (arith, w, l)) c.in_err-end.ensures.refused))))
 
 pub returns-in_err-ty-clause-fault : goal.returns-in_err-ty-clause-fault
 returns-in_err-ty-clause-fault c =
     passed_up c.from_residual-in_err-ty.result c.in_err-ty.field-0.0 (λ f. MemoryOr f
-        (IsTooDeep (lexemes c.args.input.now.source.now c.args.input.now.tokens.now) keyword.Type c.args.from f ⊎ StopsIn
-        (spot_at c.args.input.now.file c.args.input.now.source.now c.args.input.now.tokens.now)
-        (lexemes c.args.input.now.source.now c.args.input.now.tokens.now) (AtName keyword.Type) c.args.from f)) c.from_residual-in_err-ty.ensures.1
-        (inr (inl (c.in_err-ty.ensures.limit, (_, _, constants c.args.from c.in_ok-names.at c.in_ok-text.at _ c.in_ok-names.ensures.listed.numbers
-        c.in_ok-text.ensures.typed.tree c.in_ok-names.ensures.listed.holds c.in_ok-text.ensures.typed.type_is
-        (c.in_ok-end.ensures.dot, c.in_ok-end.ensures.further), counted_high _ _ 255
-        (c.in_ok-text.ensures.depth (spot_at c.args.input.now.file c.args.input.now.source.now c.args.input.now.tokens.now)
-        c.in_ok-text.ensures.typed.tree c.in_ok-text.ensures.typed.shows) c.in_err-ty.ensures.deep))))
+    (IsTooDeep (lexemes c.args.input.now.source.now c.args.input.now.tokens.now) keyword.Type c.args.from f ⊎ StopsIn
+    (spot_at c.args.input.now.file c.args.input.now.source.now c.args.input.now.tokens.now)
+    (lexemes c.args.input.now.source.now c.args.input.now.tokens.now) (AtName keyword.Type) c.args.from f)) c.from_residual-in_err-ty.ensures.1
+    (inr (inl (
+      c.in_err-ty.ensures.limit,
+      (
+        _,
+        _,
+        constants c.args.from c.in_ok-names.at c.in_ok-text.at _ c.in_ok-names.ensures.listed.numbers
+            c.in_ok-text.ensures.typed.tree c.in_ok-names.ensures.listed.holds c.in_ok-text.ensures.typed.type_is
+            (c.in_ok-end.ensures.dot, c.in_ok-end.ensures.further),
+        counted_high _ _ 255
+            (c.in_ok-text.ensures.depth (spot_at c.args.input.now.file c.args.input.now.source.now c.args.input.now.tokens.now)
+            c.in_ok-text.ensures.typed.tree c.in_ok-text.ensures.typed.shows) c.in_err-ty.ensures.deep,
+      ),
+    )))

@@ -33,21 +33,21 @@ returns-in_err-names-clause-fault c =
 pub returns-in_err-arguments-clause-fault : goal.returns-in_err-arguments-clause-fault
 returns-in_err-arguments-clause-fault c =
     passed_up c.from_residual-in_err-arguments.result c.in_err-arguments.field-0.0 (λ f. MemoryOr f
-        (StopsIn (spot_at c.args.input.now.file c.args.input.now.source.now c.args.input.now.tokens.now)
-        (lexemes c.args.input.now.source.now c.args.input.now.tokens.now) (AtName keyword.Localkind) c.args.from f))
-        c.from_residual-in_err-arguments.ensures.1 (inr (kind_refused (spot_at c.args.input.now.file c.args.input.now.source.now
-        c.args.input.now.tokens.now) (lexemes c.args.input.now.source.now c.args.input.now.tokens.now) keyword.Localkind c.args.from c.in_ok-names.at
-        _ _ refl c.in_ok-names.ensures.listed.holds c.in_ok-names.ensures.no_comma (λ y. c.if-is_dot.ensures.no refl)
-        c.in_err-arguments.ensures.fault))
+    (StopsIn (spot_at c.args.input.now.file c.args.input.now.source.now c.args.input.now.tokens.now)
+    (lexemes c.args.input.now.source.now c.args.input.now.tokens.now) (AtName keyword.Localkind) c.args.from f))
+    c.from_residual-in_err-arguments.ensures.1 (inr (kind_refused (spot_at c.args.input.now.file c.args.input.now.source.now
+    c.args.input.now.tokens.now) (lexemes c.args.input.now.source.now c.args.input.now.tokens.now) keyword.Localkind c.args.from c.in_ok-names.at
+    _ _ refl c.in_ok-names.ensures.listed.holds c.in_ok-names.ensures.no_comma (λ y. c.if-is_dot.ensures.no refl)
+    c.in_err-arguments.ensures.fault))
 
 pub returns-in_err-end-clause-fault : goal.returns-in_err-end-clause-fault
 returns-in_err-end-clause-fault c =
     let w = c.in_ok-arguments.ensures.within in
     let l = length_lexemes c.args.input.now.source.now c.args.input.now.tokens.now in
     passed_up c.from_residual-in_err-end.result c.in_err-end.field-0.0 (λ f. MemoryOr f
-        (StopsIn (spot_at c.args.input.now.file c.args.input.now.source.now c.args.input.now.tokens.now)
-        (lexemes c.args.input.now.source.now c.args.input.now.tokens.now) (AtName keyword.Localkind) c.args.from f))
-        c.from_residual-in_err-end.ensures.1 (inr (kind_dot_refused (spot_at c.args.input.now.file c.args.input.now.source.now
-        c.args.input.now.tokens.now) (lexemes c.args.input.now.source.now c.args.input.now.tokens.now) keyword.Localkind c.args.from c.in_ok-names.at
-        c.in_ok-arguments.at _ _ _ refl c.in_ok-names.ensures.listed.holds c.in_ok-arguments.ensures.kind c.in_ok-arguments.ensures.no_arrow
-        c.in_err-end.ensures.none (omega (arith, w, l)) c.in_err-end.ensures.refused))
+    (StopsIn (spot_at c.args.input.now.file c.args.input.now.source.now c.args.input.now.tokens.now)
+    (lexemes c.args.input.now.source.now c.args.input.now.tokens.now) (AtName keyword.Localkind) c.args.from f))
+    c.from_residual-in_err-end.ensures.1 (inr (kind_dot_refused (spot_at c.args.input.now.file c.args.input.now.source.now
+    c.args.input.now.tokens.now) (lexemes c.args.input.now.source.now c.args.input.now.tokens.now) keyword.Localkind c.args.from c.in_ok-names.at
+    c.in_ok-arguments.at _ _ _ refl c.in_ok-names.ensures.listed.holds c.in_ok-arguments.ensures.kind c.in_ok-arguments.ensures.no_arrow
+    c.in_err-end.ensures.none (omega (arith, w, l)) c.in_err-end.ensures.refused))

@@ -50,6 +50,6 @@ returns-then-not-is_close-clause-fault c =
     let w = v.within in
     let e = length_lexemes c.args.input.now.source.now c.args.input.now.tokens.now in
     inr (parameters_stop (spot_at c.args.input.now.file c.args.input.now.source.now c.args.input.now.tokens.now)
-        (lexemes c.args.input.now.source.now c.args.input.now.tokens.now) c.args.from c.over.at v.list.numbers _ c.requires.bracket
-        (c.if-not-is_lower.ensures.class refl) v.list.holds (c.over-test.ensures.no refl) (c.if-not-is_close.ensures.no refl) (omega (arith, w, e))
-        c.refusal-then-not-is_close.ensures)
+    (lexemes c.args.input.now.source.now c.args.input.now.tokens.now) c.args.from c.over.at v.list.numbers _ c.requires.bracket
+    (c.if-not-is_lower.ensures.class refl) v.list.holds (c.over-test.ensures.no refl) (c.if-not-is_close.ensures.no refl) (omega (arith, w, e))
+    c.refusal-then-not-is_close.ensures)

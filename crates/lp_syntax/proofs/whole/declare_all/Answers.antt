@@ -34,14 +34,17 @@ pub returns-in_err-declare_one-clause-fault : goal.returns-in_err-declare_one-cl
 returns-in_err-declare_one-clause-fault c =
     let h : slice_get c.args.names.now.items c.over.place ≡ Some c.in-Some.name.now = subst (λ l. slice_get l c.over.place ≡ Some c.in-Some.name.now) c.deref.ensures.value (slice_get-get_or c.deref.result.now c.over.place _ c.in-Some.ensures.lookup.3.0 ∙ ap Some (sym c.in-Some.ensures.lookup.1)) in
     passed_up c.from_residual.result c.in_err-declare_one.field-0.0 (λ f. MemoryOr f
-        (NameFault c.args.input.now.source.now c.args.names.now.items (c.args.fixity, c.args.number) (entry_of c.args.table.now) f))
-        c.from_residual.ensures.1 (name_refused c.args.input.now.source.now c.args.names.now.items c.over.place c.in-Some.name.now
-        (c.args.fixity, c.args.number) (entry_of c.args.table.now) (entry_of c.over.table) _ h c.over.invariant.declared
-        c.in_err-declare_one.ensures.fault)
+    (NameFault c.args.input.now.source.now c.args.names.now.items (c.args.fixity, c.args.number) (entry_of c.args.table.now) f))
+    c.from_residual.ensures.1 (name_refused c.args.input.now.source.now c.args.names.now.items c.over.place c.in-Some.name.now
+    (c.args.fixity, c.args.number) (entry_of c.args.table.now) (entry_of c.over.table) _ h c.over.invariant.declared
+    c.in_err-declare_one.ensures.fault)
 
 pub returns-in_err-declare_one-clause-left : goal.returns-in_err-declare_one-clause-left
 returns-in_err-declare_one-clause-left c =
     passed_up c.from_residual.result c.in_err-declare_one.field-0.0 (λ _. (n : ℕ) × DeclaresAll (c.args.fixity, c.args.number)
-        (entry_of c.args.table.now) (map (bytes_of c.args.input.now.source.now) (take n c.args.names.now.items)) (entry_of c.declare_one.new.table))
-        c.from_residual.ensures.1 (c.over.place, names_kept (c.args.fixity, c.args.number) (entry_of c.args.table.now) (entry_of c.over.table)
-        (entry_of c.declare_one.new.table) _ c.over.invariant.declared c.in_err-declare_one.ensures.kept)
+    (entry_of c.args.table.now) (map (bytes_of c.args.input.now.source.now) (take n c.args.names.now.items)) (entry_of c.declare_one.new.table))
+    c.from_residual.ensures.1 (
+      c.over.place,
+      names_kept (c.args.fixity, c.args.number) (entry_of c.args.table.now) (entry_of c.over.table)
+          (entry_of c.declare_one.new.table) _ c.over.invariant.declared c.in_err-declare_one.ensures.kept,
+    )

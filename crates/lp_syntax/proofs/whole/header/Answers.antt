@@ -28,7 +28,7 @@ returns-in_err-end-clause-fault c =
     let w = word_within c.args.input.now.source.now c.args.input.now.tokens.now 1 h in
     let l = length_lexemes c.args.input.now.source.now c.args.input.now.tokens.now in
     passed_up c.from_residual.result c.in_err-end.field-0.0 (λ f. StopsIn (spot_at c.args.input.now.file c.args.input.now.source.now
-        c.args.input.now.tokens.now) (lexemes c.args.input.now.source.now c.args.input.now.tokens.now) (AtHeader (title c.args.signature)) 0 f)
-        c.from_residual.ensures.1 (header_dot_stops (spot_at c.args.input.now.file c.args.input.now.source.now c.args.input.now.tokens.now)
-        (lexemes c.args.input.now.source.now c.args.input.now.tokens.now) (title c.args.signature) _ e h c.in_err-end.ensures.none
-        (omega (arith, w, l)) c.in_err-end.ensures.refused)
+    c.args.input.now.tokens.now) (lexemes c.args.input.now.source.now c.args.input.now.tokens.now) (AtHeader (title c.args.signature)) 0 f)
+    c.from_residual.ensures.1 (header_dot_stops (spot_at c.args.input.now.file c.args.input.now.source.now c.args.input.now.tokens.now)
+    (lexemes c.args.input.now.source.now c.args.input.now.tokens.now) (title c.args.signature) _ e h c.in_err-end.ensures.none
+    (omega (arith, w, l)) c.in_err-end.ensures.refused)

@@ -29,10 +29,10 @@ returns-in_err-line-clause-fault c =
     let l = length_lexemes c.args.source.now c.args.tokens.now in
     let v = c.over.invariant in
     passed_up c.from_residual-in_err-line.result c.in_err-line.field-0.0 (IsModuleRefusal (spot_at c.args.file c.args.source.now c.args.tokens.now)
-        (entry_of c.args.table.now) (lexemes c.args.source.now c.args.tokens.now)) c.from_residual-in_err-line.ensures.1
-        (sentence_refused (spot_at c.args.file c.args.source.now c.args.tokens.now) (entry_of c.args.table.now) (entry_of c.over.table)
-        (lexemes c.args.source.now c.args.tokens.now) c.over.at c.over.lines.items _ v.header v.read (omega (arith, w, l))
-        c.in_err-line.ensures.fault)
+    (entry_of c.args.table.now) (lexemes c.args.source.now c.args.tokens.now)) c.from_residual-in_err-line.ensures.1
+    (sentence_refused (spot_at c.args.file c.args.source.now c.args.tokens.now) (entry_of c.args.table.now) (entry_of c.over.table)
+    (lexemes c.args.source.now c.args.tokens.now) c.over.at c.over.lines.items _ v.header v.read (omega (arith, w, l))
+    c.in_err-line.ensures.fault)
 
 pub returns-in_err-follow_line-clause-fault : goal.returns-in_err-follow_line-clause-fault
 returns-in_err-follow_line-clause-fault c =
@@ -40,11 +40,11 @@ returns-in_err-follow_line-clause-fault c =
     let l = length_lexemes c.args.source.now c.args.tokens.now in
     let v = c.over.invariant in
     passed_up c.from_residual-in_err-follow_line.result c.in_err-follow_line.field-0.0
-        (IsModuleRefusal (spot_at c.args.file c.args.source.now c.args.tokens.now) (entry_of c.args.table.now)
-        (lexemes c.args.source.now c.args.tokens.now)) c.from_residual-in_err-follow_line.ensures.1
-        (operator_refused c.args.file c.args.source.now c.args.tokens.now (entry_of c.args.table.now) (entry_of c.over.table) c.over.at
-        c.in_ok-line.end c.over.lines.items c.in_ok-line.line _ v.header v.read (omega (arith, w, l)) c.in_ok-line.ensures.sentence
-        c.in_err-follow_line.ensures.fault)
+    (IsModuleRefusal (spot_at c.args.file c.args.source.now c.args.tokens.now) (entry_of c.args.table.now)
+    (lexemes c.args.source.now c.args.tokens.now)) c.from_residual-in_err-follow_line.ensures.1
+    (operator_refused c.args.file c.args.source.now c.args.tokens.now (entry_of c.args.table.now) (entry_of c.over.table) c.over.at
+    c.in_ok-line.end c.over.lines.items c.in_ok-line.line _ v.header v.read (omega (arith, w, l)) c.in_ok-line.ensures.sentence
+    c.in_err-follow_line.ensures.fault)
 
 pub over-preserved : goal.over-preserved
 over-preserved c =

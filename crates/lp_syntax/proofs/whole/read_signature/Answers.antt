@@ -23,9 +23,9 @@ returns-in_err-line-clause-fault c =
     let l = length_lexemes c.args.source.now c.args.tokens.now in
     let v = c.over.invariant in
     passed_up c.from_residual-in_err-line.result c.in_err-line.field-0.0 (IsSignatureRefusal (spot_at c.args.file c.args.source.now c.args.tokens.now)
-        (lexemes c.args.source.now c.args.tokens.now)) c.from_residual-in_err-line.ensures.1
-        (refused_line (spot_at c.args.file c.args.source.now c.args.tokens.now) (lexemes c.args.source.now c.args.tokens.now) c.over.at
-        c.over.lines.items _ v.header v.read (omega (arith, w, l)) c.in_err-line.ensures.fault)
+    (lexemes c.args.source.now c.args.tokens.now)) c.from_residual-in_err-line.ensures.1
+    (refused_line (spot_at c.args.file c.args.source.now c.args.tokens.now) (lexemes c.args.source.now c.args.tokens.now) c.over.at
+    c.over.lines.items _ v.header v.read (omega (arith, w, l)) c.in_err-line.ensures.fault)
 
 pub over-preserved : goal.over-preserved
 over-preserved c =

@@ -37,6 +37,14 @@ pub returns-in_err-term-clause-fault : goal.returns-in_err-term-clause-fault
 returns-in_err-term-clause-fault c = λ q. passed_up c.from_residual-in_err-term.result c.in_err-term.field-0.0
     (IsSentenceRefusal (spot_at c.args.input.now.file c.args.input.now.source.now c.args.input.now.tokens.now) (entry_of c.args.table.now)
     (lexemes c.args.input.now.source.now c.args.input.now.tokens.now) c.args.at) c.from_residual-in_err-term.ensures.1
-    (inr (inl (c.in_err-term.ensures.limit, (_, _, says c.in_ok-text.text.end c.in_ok-text.ensures.term.tree c.in_ok-text.ensures.term.term
-    c.in_ok-end.ensures.dot c.in_ok-end.ensures.further, term_deep (lexemes c.args.input.now.source.now c.args.input.now.tokens.now)
-    c.in_ok-text.ensures.term.tree c.in_ok-text.text.depth c.in_ok-text.ensures.term.depth c.in_err-term.ensures.deep))))
+    (inr (inl (
+      c.in_err-term.ensures.limit,
+      (
+        _,
+        _,
+        says c.in_ok-text.text.end c.in_ok-text.ensures.term.tree c.in_ok-text.ensures.term.term
+            c.in_ok-end.ensures.dot c.in_ok-end.ensures.further,
+        term_deep (lexemes c.args.input.now.source.now c.args.input.now.tokens.now)
+            c.in_ok-text.ensures.term.tree c.in_ok-text.text.depth c.in_ok-text.ensures.term.depth c.in_err-term.ensures.deep,
+      ),
+    )))

@@ -17,9 +17,9 @@ returns-then-not-branch-clause-follows c = λ k. take_differs c.args.bank.now c.
 pub returns-clause-follows : goal.returns-clause-follows
 returns-clause-follows c =
     take_follows c.args.bank.now c.args.self.now c.push_terms.new.self c.heads.new.self _ _ _ _ _ _ c.heads.result c.in_ok-one.ensures.tree
-        c.in_ok-other.ensures.tree c.in_ok-one.ensures.head c.in_ok-other.ensures.head
-        (subst (TermsFollow c.args.bank.now c.args.self.now c.push_terms.new.self _ _) c.if-not-branch.false
-        (c.in_ok-push_terms.ensures.follows c.args.bank.now)) c.in_ok-push_terms.ensures.types c.heads.ensures.follows
+    c.in_ok-other.ensures.tree c.in_ok-one.ensures.head c.in_ok-other.ensures.head
+    (subst (TermsFollow c.args.bank.now c.args.self.now c.push_terms.new.self _ _) c.if-not-branch.false
+    (c.in_ok-push_terms.ensures.follows c.args.bank.now)) c.in_ok-push_terms.ensures.types c.heads.ensures.follows
 
 pub returns-clause-plain : goal.returns-clause-plain
 returns-clause-plain c = take_plain c.args.bank.now _ _ _ _ _ _ c.heads.result c.in_ok-one.ensures.tree (c.in_ok-push_terms.ensures.plain c.args.bank.now) c.heads.ensures.plain

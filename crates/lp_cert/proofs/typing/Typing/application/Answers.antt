@@ -39,5 +39,5 @@ returns-clause-keeps c = λ now y h k.
     application_keeps now c.args.self.now _ c.args.head c.args.arguments.now y (extends_same now) i.constants i.eigens i.context i.stack i.pairs i.next
     (All_pushed (IsTaskIn now) c.push-2.new.self.items c.loop-at.self.tasks.items (task.Visit c.args.head) c.in_ok-push-3.ensures.items (i.tasks now y.tasks k) h)
     (λ b. step_pushed b c.push-2.new.self.items c.loop-at.self.tasks.items (task.Visit c.args.head) c.in_ok-push-3.ensures.items ∙ ap
-        (λ js. visiting (tree b c.args.head.0) ∷ js) (i.steps b ∙ ap (λ n. argument_steps (map (λ t. tree b t.0) (drop n c.args.arguments.now)) ++
-        steps_of b c.args.self.now.tasks.items) (let z : length c.args.arguments.now - c.loop-at.at ≡ 0 = omega (arith, c.loop-at-test.false) in z)))
+    (λ js. visiting (tree b c.args.head.0) ∷ js) (i.steps b ∙ ap (λ n. argument_steps (map (λ t. tree b t.0) (drop n c.args.arguments.now)) ++
+    steps_of b c.args.self.now.tasks.items) (let z : length c.args.arguments.now - c.loop-at.at ≡ 0 = omega (arith, c.loop-at-test.false) in z)))

@@ -21,10 +21,17 @@ loop-preserved c = record {
       (c.in_ok-take.ensures.keeps t.0 t.1).tidy c.if-not-branch.false;
   can = λ y b g T s.
       let t = taken_tidy c.loop.bank c.loop.self (record { alloc = c.loop.self.alloc; constants = c.loop.self.constants; eigens = c.loop.self.eigens; context = c.loop.self.context; stack = c.loop.self.stack; pairs = c.loop.self.pairs; tasks = c.pop.new.self; next = c.loop.self.next }) c.in-Some.task c.in-Some.ensures.items refl refl refl refl refl refl (c.loop.invariant.tidy y) in
-      ((c.in_ok-take.ensures.keeps t.0 t.1).can b g T (task_taken b c.loop.self (record
-          { alloc = c.loop.self.alloc; constants = c.loop.self.constants; eigens = c.loop.self.eigens; context = c.loop.self.context;
-          stack = c.loop.self.stack; pairs = c.loop.self.pairs; tasks = c.pop.new.self; next = c.loop.self.next }) c.in-Some.task T
-          c.in-Some.ensures.items refl refl refl refl refl (c.loop.invariant.can y b (extends-trans _ _ _ c.in_ok-take.ensures.kept g) T s))).1;
+      ((c.in_ok-take.ensures.keeps t.0 t.1).can b g T (task_taken b c.loop.self (record {
+        alloc = c.loop.self.alloc;
+        constants = c.loop.self.constants;
+        eigens = c.loop.self.eigens;
+        context = c.loop.self.context;
+        stack = c.loop.self.stack;
+        pairs = c.loop.self.pairs;
+        tasks = c.pop.new.self;
+        next = c.loop.self.next;
+      }) c.in-Some.task T
+      c.in-Some.ensures.items refl refl refl refl refl (c.loop.invariant.can y b (extends-trans _ _ _ c.in_ok-take.ensures.kept g) T s))).1;
 }
 
 pub returns-in_default-clause-derives : goal.returns-in_default-clause-derives
@@ -42,8 +49,16 @@ returns-then-not-branch-clause-keeps c = λ y.
     let t = taken_tidy c.loop.bank c.loop.self (record { alloc = c.loop.self.alloc; constants = c.loop.self.constants; eigens = c.loop.self.eigens; context = c.loop.self.context; stack = c.loop.self.stack; pairs = c.loop.self.pairs; tasks = c.pop.new.self; next = c.loop.self.next }) c.in-Some.task c.in-Some.ensures.items refl refl refl refl refl refl (c.loop.invariant.tidy y) in
     refused c.take.new.bank c.args.self.now c.take.new.self (λ b. []) (λ b g T s.
     let q = ((c.in_ok-take.ensures.keeps t.0 t.1).can b g T (task_taken b c.loop.self
-        (record { alloc = c.loop.self.alloc; constants = c.loop.self.constants; eigens = c.loop.self.eigens; context = c.loop.self.context;
-        stack = c.loop.self.stack; pairs = c.loop.self.pairs; tasks = c.pop.new.self; next = c.loop.self.next }) c.in-Some.task T
-        c.in-Some.ensures.items refl refl refl refl refl (c.loop.invariant.can y b (extends-trans _ _ _ c.in_ok-take.ensures.kept g) T s))).0 in
+    (record {
+      alloc = c.loop.self.alloc;
+      constants = c.loop.self.constants;
+      eigens = c.loop.self.eigens;
+      context = c.loop.self.context;
+      stack = c.loop.self.stack;
+      pairs = c.loop.self.pairs;
+      tasks = c.pop.new.self;
+      next = c.loop.self.next;
+    }) c.in-Some.task T
+    c.in-Some.ensures.items refl refl refl refl refl (c.loop.invariant.can y b (extends-trans _ _ _ c.in_ok-take.ensures.kept g) T s))).0 in
     let p = c.if-not-branch.true in
     absurd (cc))

@@ -72,10 +72,10 @@ returns-clause-types c =
     let far = extends-trans c.args.bank.now _ _ c.in_ok-are_values.ensures.kept c.in_ok-formula.ensures.kept in
     goal_has c.term_at.new.bank c.put_values.new.bank c.args.self.now.theory.constants.now c.args.types.now c.args.values.now (variable_types c.args.query.now) c.in_ok-formula.formula c.put_values.result _ c.put_values.ensures.kept (extends_same c.put_values.new.bank)
     c.in_ok-formula.ensures.within (c.in_ok-is_loose_below.ensures.below c.if-not-branch-3.false)
-        (λ e. (witnesses_on c.are_values.new.bank c.put_values.new.bank c.args.self.now.theory.constants.now c.args.types.now c.args.values.now
-        (variable_types c.args.query.now) (extends-trans _ _ _ c.in_ok-formula.ensures.kept c.put_values.ensures.kept)
-        (c.in_ok-are_values.ensures.values c.if-not-branch-2.false e (types_inside c.args.bank.now c.args.types.now closed))))
-        c.put_values.ensures.put
+    (λ e. (witnesses_on c.are_values.new.bank c.put_values.new.bank c.args.self.now.theory.constants.now c.args.types.now c.args.values.now
+    (variable_types c.args.query.now) (extends-trans _ _ _ c.in_ok-formula.ensures.kept c.put_values.ensures.kept)
+    (c.in_ok-are_values.ensures.values c.if-not-branch-2.false e (types_inside c.args.bank.now c.args.types.now closed))))
+    c.put_values.ensures.put
     (formula_has c.term_at.new.bank c.args.types.now c.args.query.now.formula c.in_ok-formula.formula
     (c.in_ok-formula.ensures.tree (inside_more c.args.bank.now c.are_values.new.bank c.args.types.now c.in_ok-are_values.ensures.kept (types_inside c.args.bank.now c.args.types.now closed)) (c.is_inside.ensures.inside c.if-not-is_inside.false) c.term_at.new.bank (extends_same c.term_at.new.bank))
     (closed_types_later c.args.bank.now c.term_at.new.bank c.args.types.now far (types_found c.args.bank.now c.args.types.now closed)))
@@ -85,7 +85,7 @@ returns-clause-tight c =
     let closed = sym c.in_ok-are_closed_types.ensures.closed ∙ c.if-not-branch.false in
     goal_tight c.term_at.new.bank c.put_values.new.bank c.args.self.now.theory.constants.now c.args.types.now c.args.values.now (variable_types c.args.query.now) c.in_ok-formula.formula c.put_values.result _ c.put_values.ensures.kept (extends_same c.put_values.new.bank)
     c.in_ok-formula.ensures.within (c.in_ok-is_loose_below.ensures.below c.if-not-branch-3.false)
-        (λ e. (witnesses_on c.are_values.new.bank c.put_values.new.bank c.args.self.now.theory.constants.now c.args.types.now c.args.values.now
-        (variable_types c.args.query.now) (extends-trans _ _ _ c.in_ok-formula.ensures.kept c.put_values.ensures.kept)
-        (c.in_ok-are_values.ensures.values c.if-not-branch-2.false e (types_inside c.args.bank.now c.args.types.now closed))))
-        c.put_values.ensures.put
+    (λ e. (witnesses_on c.are_values.new.bank c.put_values.new.bank c.args.self.now.theory.constants.now c.args.types.now c.args.values.now
+    (variable_types c.args.query.now) (extends-trans _ _ _ c.in_ok-formula.ensures.kept c.put_values.ensures.kept)
+    (c.in_ok-are_values.ensures.values c.if-not-branch-2.false e (types_inside c.args.bank.now c.args.types.now closed))))
+    c.put_values.ensures.put

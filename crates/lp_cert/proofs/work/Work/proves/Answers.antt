@@ -32,8 +32,8 @@ loop-node-preserved c = record {
       c.loop-node.node-index c.node-item.result c.loop-node.invariant.kept (omega (arith, c.loop-node-test.true)) c.node-item.is all))).1;
   runs = λ idle w g all b h.
       let s = on_stepped c.step.new.bank c.loop-node.self c.step.new.self (λ b. node_of b c.node-item.result) c.in_ok-turn.turn c.in-On.is
-          (c.in_ok-turn.ensures.stepped (c.loop-node.invariant.ready w g all) (node_inside c.args.bank.now c.loop-node.bank c.args.nodes.now
-          c.loop-node.node-index c.node-item.result c.loop-node.invariant.kept (omega (arith, c.loop-node-test.true)) c.node-item.is all)) in
+      (c.in_ok-turn.ensures.stepped (c.loop-node.invariant.ready w g all) (node_inside c.args.bank.now c.loop-node.bank c.args.nodes.now
+      c.loop-node.node-index c.node-item.result c.loop-node.invariant.kept (omega (arith, c.loop-node-test.true)) c.node-item.is all)) in
       run_on b c.loop-node.self c.step.new.self c.args.self.now.theory (tree b c.args.goal.0) c.args.nodes.now c.loop-node.node-index _ c.node-item.result (add-one c.loop-node.node-index) (omega (arith, c.loop-node-test.true)) c.node-item.is (c.loop-node.invariant.theory w g all)
       (c.loop-node.invariant.runs idle w g all b (extends-trans _ _ _ c.in_ok-turn.ensures.kept h)) (s.2 b h);
   goes = λ b g ns h.
@@ -53,8 +53,8 @@ returns-in-No-clause-refuted c = λ e idle w g all b h p.
 pub returns-in-Deep-clause-large : goal.returns-in-Deep-clause-large
 returns-in-Deep-clause-large c = λ e idle w g all b h.
     let s = deep_stepped c.step.new.bank c.loop-node.self c.step.new.self (λ b. node_of b c.node-item.result) c.in_ok-turn.turn c.in-Deep.is
-        (c.in_ok-turn.ensures.stepped (c.loop-node.invariant.ready w g all) (node_inside c.args.bank.now c.loop-node.bank c.args.nodes.now
-        c.loop-node.node-index c.node-item.result c.loop-node.invariant.kept (omega (arith, c.loop-node-test.true)) c.node-item.is all)) in
+    (c.in_ok-turn.ensures.stepped (c.loop-node.invariant.ready w g all) (node_inside c.args.bank.now c.loop-node.bank c.args.nodes.now
+    c.loop-node.node-index c.node-item.result c.loop-node.invariant.kept (omega (arith, c.loop-node-test.true)) c.node-item.is all)) in
     large_at b c.loop-node.self c.args.self.now.theory (tree b c.args.goal.0) c.args.nodes.now c.loop-node.node-index c.node-item.result (omega (arith, c.loop-node-test.true)) c.node-item.is (c.loop-node.invariant.theory w g all)
     (c.loop-node.invariant.runs idle w g all b (extends-trans _ _ _ c.in_ok-turn.ensures.kept h)) (s b h)
 

@@ -45,12 +45,17 @@ returns-clause-turned c = pushed_turned c.go_on.result _ _ c.go_on.ensures.pushe
     let t = binder_type c.args.bank.now c.args.goal c.in-Some.body c.in-Some.of _ (c.in-Some.ensures.later c.args.bank.now s) g c.in-Some.ensures.inside in
     let value = other_ready c.args.bank.now _ c.args.value _ long l (c.in_ok-is_witness.ensures.closed c.if-not-branch.false) in
     let made : (b : Nodes) → Extends c.put_applied.new.bank b → tree b c.in_ok-next.next.0 ≡ app (tree b c.in-Some.body.0)
-        (tree b c.args.value.0) = λ b h. applied_later _ _ b c.in-Some.body.0 c.args.value.0 c.in_ok-next.next.0 off h
-        (further _ _ c.in-Some.body on c.in-Some.ensures.inside) (c.in_ok-is_witness.ensures.inside c.if-not-branch.false) c.in_ok-next.ensures.within
-        c.in_ok-next.ensures.tree in
+    (tree b c.args.value.0) = λ b h. applied_later _ _ b c.in-Some.body.0 c.args.value.0 c.in_ok-next.next.0 off h
+    (further _ _ c.in-Some.body on c.in-Some.ensures.inside) (c.in_ok-is_witness.ensures.inside c.if-not-branch.false) c.in_ok-next.ensures.within
+    c.in_ok-next.ensures.tree in
     goes_to c.args.bank.now _ c.args.self.now c.is_witness.new.self c.go_on.new.self (λ b. proving (tree b c.args.goal.0)) (λ b. witness (tree b c.args.value.0)) long c.in_ok-is_witness.ensures.stays (task.Prove c.in_ok-next.next) p w
     (applied_ready _ c.in_ok-next.next c.in-Some.body c.args.value (made _ (extends_same _)) c.in_ok-next.ensures.within (ready_later _ _ c.in-Some.body long t.0) value)
-    (λ b h at. (type_tree b c.in-Some.of.0, tree b c.in-Some.body.0, c.in-Some.ensures.later b (extends-trans _ _ _ long h),
-        c.in_ok-is_witness.ensures.witness c.if-not-branch.false b (extends-trans _ _ _ off h), subst
-        (λ X. At b c.go_on.new.self (types_in b c.args.self.now.eigens.items) (terms_in b c.args.self.now.assumed.items)
-        (proving X ∷ jobs_of b c.args.self.now.tasks.items)) (made b h) at)))
+    (λ b h at. (
+      type_tree b c.in-Some.of.0,
+      tree b c.in-Some.body.0,
+      c.in-Some.ensures.later b (extends-trans _ _ _ long h),
+      c.in_ok-is_witness.ensures.witness c.if-not-branch.false b (extends-trans _ _ _ off h),
+      subst
+          (λ X. At b c.go_on.new.self (types_in b c.args.self.now.eigens.items) (terms_in b c.args.self.now.assumed.items)
+          (proving X ∷ jobs_of b c.args.self.now.tasks.items)) (made b h) at,
+    )))

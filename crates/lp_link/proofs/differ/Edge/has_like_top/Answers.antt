@@ -23,7 +23,7 @@ returns-in_ok-push-in-Some-parts_of-clause-work c =
 pub returns-in_ok-push-in-Some-parts_of-clause-compares : goal.returns-in_ok-push-in-Some-parts_of-clause-compares
 returns-in_ok-push-in-Some-parts_of-clause-compares c =
     equal_counts (kinds_at c.args.self.now) c.args.bank.now c.args.other.now c.in-Con.kind c.in-Some-parts_of.same c.in-Con.parts
-        c.in-Some-parts_of.those (type_tree c.args.bank.now c.args.types.0.0) (type_tree c.args.other.now c.args.types.1.0)
-        (type_node_tree c.args.other.now (type_shape c.type_node-there.result)) c.args.work.now.items c.push-in-Some-parts_of.new.self.items
-        (sym c.is_kind.ensures ∙ c.if-is_kind.true)
+    c.in-Some-parts_of.those (type_tree c.args.bank.now c.args.types.0.0) (type_tree c.args.other.now c.args.types.1.0)
+    (type_node_tree c.args.other.now (type_shape c.type_node-there.result)) c.args.work.now.items c.push-in-Some-parts_of.new.self.items
+    (sym c.is_kind.ensures ∙ c.if-is_kind.true)
     c.in-Con.ensures.tree c.type_node-there.ensures.tree c.in-Some-parts_of.ensures c.in_ok-push-in-Some-parts_of.ensures.items

@@ -39,16 +39,21 @@ pub returns-in_err-variables-clause-why : goal.returns-in_err-variables-clause-w
 returns-in_err-variables-clause-why c = λ z s.
     passed_up c.from_residual-in_err-variables.result c.in_err-variables.field-0.0 (IsAbbreviationFault c.args.source.now z c.args.name c.args.parameters.now c.args.raw.now) c.from_residual-in_err-variables.ensures.1
     (abbreviation_repeated c.args.source.now z c.args.name c.args.parameters.now c.args.raw.now c.in_err-variables.field-0.0
-        (record { meant = c.in_ok-place.ensures.meant z.said s.known; ends = never_back z (map (λ out. out.items) c.args.uses.now.ways.items)
-        c.args.source.now c.args.name c.args.raw.now c.in_ok-place.place c.as_slice.result.now s.uses (c.in_ok-place.ensures.place z.said s.known)
-        (c.as_slice.ensures.value ∙ c.in_ok-words.ensures z.said s.known) (c.in_ok-lead_to.ensures.none c.if-branch.false) })
-        c.in_err-variables.ensures.repeated)
+    (record {
+      meant = c.in_ok-place.ensures.meant z.said s.known;
+      ends = never_back z (map (λ out. out.items) c.args.uses.now.ways.items)
+          c.args.source.now c.args.name c.args.raw.now c.in_ok-place.place c.as_slice.result.now s.uses (c.in_ok-place.ensures.place z.said s.known)
+          (c.as_slice.ensures.value ∙ c.in_ok-words.ensures z.said s.known) (c.in_ok-lead_to.ensures.none c.if-branch.false);
+    })
+    c.in_err-variables.ensures.repeated)
 
 pub returns-then-parameters-gt-MAX_ARGUMENTS-clause-why : goal.returns-then-parameters-gt-MAX_ARGUMENTS-clause-why
-returns-then-parameters-gt-MAX_ARGUMENTS-clause-why c = λ z s. arguments refl (record
-    { meant = c.in_ok-place.ensures.meant z.said s.known; ends = never_back z (map (λ out. out.items) c.args.uses.now.ways.items) c.args.source.now
-    c.args.name c.args.raw.now c.in_ok-place.place c.as_slice.result.now s.uses (c.in_ok-place.ensures.place z.said s.known)
-    (c.as_slice.ensures.value ∙ c.in_ok-words.ensures z.said s.known) (c.in_ok-lead_to.ensures.none c.if-branch.false) })
+returns-then-parameters-gt-MAX_ARGUMENTS-clause-why c = λ z s. arguments refl (record {
+  meant = c.in_ok-place.ensures.meant z.said s.known;
+  ends = never_back z (map (λ out. out.items) c.args.uses.now.ways.items) c.args.source.now
+      c.args.name c.args.raw.now c.in_ok-place.place c.as_slice.result.now s.uses (c.in_ok-place.ensures.place z.said s.known)
+      (c.as_slice.ensures.value ∙ c.in_ok-words.ensures z.said s.known) (c.in_ok-lead_to.ensures.none c.if-branch.false);
+})
     c.in_ok-variables.ensures.taken c.if-parameters-gt-MAX_ARGUMENTS.true
 
 pub returns-in_err-body-clause-why : goal.returns-in_err-body-clause-why
@@ -56,10 +61,12 @@ returns-in_err-body-clause-why c = λ z s.
     let ps = c.args.parameters.now in
     passed_up c.from_residual-in_err-body.result c.in_err-body.field-0.0 (IsAbbreviationFault c.args.source.now z c.args.name ps c.args.raw.now) c.from_residual-in_err-body.ensures.1
     (abbreviation_word c.args.source.now z c.args.name ps c.args.raw.now c.in_err-body.field-0.0
-        (record { head = (c.in_ok-place.ensures.meant z.said s.known, c.in_ok-variables.ensures.taken, c.if-parameters-gt-MAX_ARGUMENTS.false);
-        ends = never_back z (map (λ out. out.items) c.args.uses.now.ways.items) c.args.source.now c.args.name c.args.raw.now c.in_ok-place.place
-        c.as_slice.result.now s.uses (c.in_ok-place.ensures.place z.said s.known) (c.as_slice.ensures.value ∙ c.in_ok-words.ensures z.said s.known)
-        (c.in_ok-lead_to.ensures.none c.if-branch.false) })
+    (record {
+      head = (c.in_ok-place.ensures.meant z.said s.known, c.in_ok-variables.ensures.taken, c.if-parameters-gt-MAX_ARGUMENTS.false);
+      ends = never_back z (map (λ out. out.items) c.args.uses.now.ways.items) c.args.source.now c.args.name c.args.raw.now c.in_ok-place.place
+          c.as_slice.result.now s.uses (c.in_ok-place.ensures.place z.said s.known) (c.as_slice.ensures.value ∙ c.in_ok-words.ensures z.said s.known)
+          (c.in_ok-lead_to.ensures.none c.if-branch.false);
+    })
     (c.in_err-body.ensures.first z.said (parameters_of c.args.source.now ps) s.known c.in_ok-variables.ensures.held))
 
 pub returns-then-has_other_body-clause-why : goal.returns-then-has_other_body-clause-why
@@ -67,21 +74,25 @@ returns-then-has_other_body-clause-why c = λ z s.
     let ps = c.args.parameters.now in
     let b = c.expand.new.self in
     let o = c.has_other_body.ensures.other c.if-has_other_body.true in
-    other refl (record { head = (c.in_ok-place.ensures.meant z.said s.known, c.in_ok-variables.ensures.taken, c.if-parameters-gt-MAX_ARGUMENTS.false);
-        ends = never_back z (map (λ out. out.items) c.args.uses.now.ways.items) c.args.source.now c.args.name c.args.raw.now c.in_ok-place.place
-        c.as_slice.result.now s.uses (c.in_ok-place.ensures.place z.said s.known) (c.as_slice.ensures.value ∙ c.in_ok-words.ensures z.said s.known)
-        (c.in_ok-lead_to.ensures.none c.if-branch.false) }) (c.in_ok-body.ensures.stand z.said (parameters_of c.args.source.now ps) s.known
-        c.in_ok-variables.ensures.held)
+    other refl (record {
+      head = (c.in_ok-place.ensures.meant z.said s.known, c.in_ok-variables.ensures.taken, c.if-parameters-gt-MAX_ARGUMENTS.false);
+      ends = never_back z (map (λ out. out.items) c.args.uses.now.ways.items) c.args.source.now c.args.name c.args.raw.now c.in_ok-place.place
+          c.as_slice.result.now s.uses (c.in_ok-place.ensures.place z.said s.known) (c.as_slice.ensures.value ∙ c.in_ok-words.ensures z.said s.known)
+          (c.in_ok-lead_to.ensures.none c.if-branch.false);
+    }) (c.in_ok-body.ensures.stand z.said (parameters_of c.args.source.now ps) s.known
+    c.in_ok-variables.ensures.held)
     (other_body b.types.bank b.bodies.items z.said z.definitions c.args.source.now c.args.name ps c.args.raw.now c.in_ok-place.place o.0 o.1 c.in_ok-body.body
     (bodies_stay c.args.self.now.types.bank b.types.bank c.args.self.now.bodies.items b.bodies.items z.said z.definitions c.expand.ensures.kept (ap (λ v. v.items) c.expand.ensures.bodies) s.holds) (c.in_ok-place.ensures.place z.said s.known) o.2 o.3
     (c.in_ok-body.ensures.body z.said z.definitions ps s.known s.holds c.in_ok-variables.ensures.numbered) o.4)
 
 pub returns-clause-stand : goal.returns-clause-stand
 returns-clause-stand c = λ z s. record {
-  straight = record { head = (c.in_ok-place.ensures.meant z.said s.known, c.in_ok-variables.ensures.taken, c.if-parameters-gt-MAX_ARGUMENTS.false);
-      ends = never_back z (map (λ out. out.items) c.args.uses.now.ways.items) c.args.source.now c.args.name c.args.raw.now c.in_ok-place.place
-      c.as_slice.result.now s.uses (c.in_ok-place.ensures.place z.said s.known) (c.as_slice.ensures.value ∙ c.in_ok-words.ensures z.said s.known)
-      (c.in_ok-lead_to.ensures.none c.if-branch.false) };
+  straight = record {
+    head = (c.in_ok-place.ensures.meant z.said s.known, c.in_ok-variables.ensures.taken, c.if-parameters-gt-MAX_ARGUMENTS.false);
+    ends = never_back z (map (λ out. out.items) c.args.uses.now.ways.items) c.args.source.now c.args.name c.args.raw.now c.in_ok-place.place
+        c.as_slice.result.now s.uses (c.in_ok-place.ensures.place z.said s.known) (c.as_slice.ensures.value ∙ c.in_ok-words.ensures z.said s.known)
+        (c.in_ok-lead_to.ensures.none c.if-branch.false);
+  };
   words = c.in_ok-body.ensures.stand z.said (parameters_of c.args.source.now c.args.parameters.now) s.known c.in_ok-variables.ensures.held;
 }
 

@@ -11,9 +11,9 @@ loop-place-preserved c =
       numbers = omega (arith, number);
       listed = λ b said defs rows noted.
           entry_listed b said defs rows c.args.self.now.constants.items i _ c.loop-place.entries.items c.push.new.self.items c.in_ok-entry.entry
-              (subst (λ xs. i < length xs) c.deref-constant-items.ensures.value c.loop-place-test.true)
-              (c.constant-item.is ∙ ap (λ xs. get_or xs i c.constant-item.result) c.deref-constant-items.ensures.value) noted
-              (c.loop-place.invariant.listed b said defs rows noted)
+          (subst (λ xs. i < length xs) c.deref-constant-items.ensures.value c.loop-place-test.true)
+          (c.constant-item.is ∙ ap (λ xs. get_or xs i c.constant-item.result) c.deref-constant-items.ensures.value) noted
+          (c.loop-place.invariant.listed b said defs rows noted)
           (λ row n. c.in_ok-entry.ensures.is b said defs row n) c.in_ok-push.ensures.items;
     }
 

@@ -9,11 +9,19 @@ use Rattle.lp_sig.proofs.Announcing.{nothing_announced, one_announced, all_annou
 use Rattle.lp_sig.proofs.making.Making.announce.Goals as goal
 
 pub loop-line-init : goal.loop-line-init
-loop-line-init c = record { names = λ said k. subst (Knows c.args.self.now.names) (sym (append-nil said)) k; operators = refl; constants = refl;
-    types = refl; uses = refl; stay = λ j h. h; announced = λ from said defs k b a. subst
-    (λ s. AreAnnounced from c.args.self.now.bodies.bodies.items s c.args.source.now (line_of_text c.args.text.now.lines.items))
-    (sym (append-nil said)) a; bodies = λ said defs k b. nothing_announced c.args.self.now.bodies.types.bank c.args.self.now.bodies.bodies.items said
-    defs c.args.source.now (line_of_text c.args.text.now.lines.items) b }
+loop-line-init c = record {
+  names = λ said k. subst (Knows c.args.self.now.names) (sym (append-nil said)) k;
+  operators = refl;
+  constants = refl;
+  types = refl;
+  uses = refl;
+  stay = λ j h. h;
+  announced = λ from said defs k b a. subst
+      (λ s. AreAnnounced from c.args.self.now.bodies.bodies.items s c.args.source.now (line_of_text c.args.text.now.lines.items))
+      (sym (append-nil said)) a;
+  bodies = λ said defs k b. nothing_announced c.args.self.now.bodies.types.bank c.args.self.now.bodies.bodies.items said
+      defs c.args.source.now (line_of_text c.args.text.now.lines.items) b;
+}
 
 pub loop-line-preserved : goal.loop-line-preserved
 loop-line-preserved c =

@@ -18,6 +18,6 @@ returns-clause-term c =
     (subst (λ ns. AreRaw (spot_at c.args.input.now.file c.args.input.now.source.now c.args.input.now.tokens.now) (lexemes c.args.input.now.source.now c.args.input.now.tokens.now) ns c.in_ok-nodes-in-Some.nodes.items) c.deref.ensures.value c.in_ok-nodes-in-Some.ensures)
     refl c.spot.ensures
     (λ t s. let v = c.deref-in-Some.ensures.value in c.in_ok-depth-in-Some.ensures (spot_at c.args.input.now.file c.args.input.now.source.now
-        c.args.input.now.tokens.now) (lexemes c.args.input.now.source.now c.args.input.now.tokens.now) t
-        (subst (λ l. Shows (spot_at c.args.input.now.file c.args.input.now.source.now c.args.input.now.tokens.now)
-        (lexemes c.args.input.now.source.now c.args.input.now.tokens.now) l c.in-Some.root t) (sym v) s))
+    c.args.input.now.tokens.now) (lexemes c.args.input.now.source.now c.args.input.now.tokens.now) t
+    (subst (λ l. Shows (spot_at c.args.input.now.file c.args.input.now.source.now c.args.input.now.tokens.now)
+    (lexemes c.args.input.now.source.now c.args.input.now.tokens.now) l c.in-Some.root t) (sym v) s))

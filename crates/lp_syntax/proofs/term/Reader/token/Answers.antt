@@ -26,10 +26,10 @@ returns-in-Stops-Unexpected-clause-fault c =
     inr
     (token_faults (spot_at c.args.input.now.file c.args.input.now.source.now c.args.input.now.tokens.now) (entry_of c.args.table.now) (lexemes c.args.input.now.source.now c.args.input.now.tokens.now) c.args.self.now c.args.doing c.args.at Unexpected _ c.requires.reading (omega (arith, e, l)) c.requires.plain c.requires.dot s
     (kind_unexpected (spot_at c.args.input.now.file c.args.input.now.source.now c.args.input.now.tokens.now) (entry_of c.args.table.now)
-        (lexemes c.args.input.now.source.now c.args.input.now.tokens.now) c.args.self.now.from c.args.at (state_of c.args.self.now c.args.doing) _
-        c.requires.reading.read s (refused_is (spot_at c.args.input.now.file c.args.input.now.source.now c.args.input.now.tokens.now)
-        (entry_of c.args.table.now) (lexemes c.args.input.now.source.now c.args.input.now.tokens.now) c.args.self.now c.args.doing c.args.at
-        c.innermost.result _ c.requires.reading c.refusal.ensures c.innermost.ensures)))
+    (lexemes c.args.input.now.source.now c.args.input.now.tokens.now) c.args.self.now.from c.args.at (state_of c.args.self.now c.args.doing) _
+    c.requires.reading.read s (refused_is (spot_at c.args.input.now.file c.args.input.now.source.now c.args.input.now.tokens.now)
+    (entry_of c.args.table.now) (lexemes c.args.input.now.source.now c.args.input.now.tokens.now) c.args.self.now c.args.doing c.args.at
+    c.innermost.result _ c.requires.reading c.refusal.ensures c.innermost.ensures)))
 
 pub returns-in-Stops-Ambiguous-clause-fault : goal.returns-in-Stops-Ambiguous-clause-fault
 returns-in-Stops-Ambiguous-clause-fault c =

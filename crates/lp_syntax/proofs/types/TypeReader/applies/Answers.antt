@@ -19,9 +19,9 @@ pub returns-in-Open-clause-held : goal.returns-in-Open-clause-held
 returns-in-Open-clause-held c =
     λ from h.
     turned_due (type_text (spot_at c.args.input.now.file c.args.input.now.source.now c.args.input.now.tokens.now)
-        (lexemes c.args.input.now.source.now c.args.input.now.tokens.now) from) c.args.self.now.nodes c.opens.new.self.nodes
-        c.args.self.now.waiting.items c.opens.new.self.waiting.items (Argument c.args.spot c.args.arguments) c.args.at c.opens.result
-        c.opens.ensures.nodes c.opens.ensures.pushed c.opens.ensures.goes
+    (lexemes c.args.input.now.source.now c.args.input.now.tokens.now) from) c.args.self.now.nodes c.opens.new.self.nodes
+    c.args.self.now.waiting.items c.opens.new.self.waiting.items (Argument c.args.spot c.args.arguments) c.args.at c.opens.result
+    c.opens.ensures.nodes c.opens.ensures.pushed c.opens.ensures.goes
     (opens_argument (type_text (spot_at c.args.input.now.file c.args.input.now.source.now c.args.input.now.tokens.now) (lexemes c.args.input.now.source.now c.args.input.now.tokens.now) from) c.args.self.now.nodes.items c.args.self.now.waiting.items c.opens.new.self.waiting.items c.args.at c.args.spot c.args.arguments h (sym c.class.ensures ∙ c.in-Open.is))
 
 pub returns-in_ok-node-in_default : goal.returns-in_ok-node-in_default
@@ -30,9 +30,9 @@ returns-in_ok-node-in_default c =
     record {
       moves = subst (λ m. IfOk c.has.result (λ r. turn_of c.has.new.self.waiting.items r ≡ m))
           (ap (λ v. type_has (waits_of v.items) (class_at (lexemes c.args.input.now.source.now c.args.input.now.tokens.now) c.args.at)) e.waiting ∙ ap
-              (type_has (waits_of c.args.self.now.waiting.items)) (sym c.class.ensures) ∙ applies_has (waits_of c.args.self.now.waiting.items)
-              c.class.result c.in_default.not-Lower c.in_default.not-Upper c.in_default.not-Open ∙ ap
-              (type_applies (waits_of c.args.self.now.waiting.items)) c.class.ensures)
+          (type_has (waits_of c.args.self.now.waiting.items)) (sym c.class.ensures) ∙ applies_has (waits_of c.args.self.now.waiting.items)
+          c.class.result c.in_default.not-Lower c.in_default.not-Upper c.in_default.not-Open ∙ ap
+          (type_applies (waits_of c.args.self.now.waiting.items)) c.class.ensures)
           c.has.ensures.moves;
       held = λ from h.
           c.has.ensures.held from

@@ -12,9 +12,9 @@ pub returns-in-Arrow-clause-held : goal.returns-in-Arrow-clause-held
 returns-in-Arrow-clause-held c =
     λ from h.
     turned_due (type_text (spot_at c.args.input.now.file c.args.input.now.source.now c.args.input.now.tokens.now)
-        (lexemes c.args.input.now.source.now c.args.input.now.tokens.now) from) c.args.self.now.nodes c.arrows.new.self.nodes
-        c.args.self.now.waiting.items c.arrows.new.self.waiting.items (Arrow c.args.node) c.args.at c.arrows.result c.arrows.ensures.nodes
-        c.arrows.ensures.pushed c.arrows.ensures.goes
+    (lexemes c.args.input.now.source.now c.args.input.now.tokens.now) from) c.args.self.now.nodes c.arrows.new.self.nodes
+    c.args.self.now.waiting.items c.arrows.new.self.waiting.items (Arrow c.args.node) c.args.at c.arrows.result c.arrows.ensures.nodes
+    c.arrows.ensures.pushed c.arrows.ensures.goes
     (takes_arrow (type_text (spot_at c.args.input.now.file c.args.input.now.source.now c.args.input.now.tokens.now) (lexemes c.args.input.now.source.now c.args.input.now.tokens.now) from) c.args.self.now.nodes.items c.args.self.now.waiting.items c.arrows.new.self.waiting.items c.args.at c.args.node h (sym c.class.ensures ∙ c.in-Arrow.is))
 
 pub returns-in-Close-clause-held : goal.returns-in-Close-clause-held

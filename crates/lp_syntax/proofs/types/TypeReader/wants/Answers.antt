@@ -14,9 +14,9 @@ returns-in_ok-node-in-Upper-clause-held c =
     λ from h.
     subst (λ v. IsBuilt (type_text (spot_at c.args.input.now.file c.args.input.now.source.now c.args.input.now.tokens.now) (lexemes c.args.input.now.source.now c.args.input.now.tokens.now) from) c.word.new.self.nodes.items v.items (c.args.at + 1) c.in_ok-node-in-Upper.node) (sym e.waiting)
     (begins_variable (type_text (spot_at c.args.input.now.file c.args.input.now.source.now c.args.input.now.tokens.now)
-        (lexemes c.args.input.now.source.now c.args.input.now.tokens.now) from) c.args.self.now.nodes.items c.word.new.self.nodes.items
-        c.args.self.now.waiting.items c.args.at c.in_ok-node-in-Upper.node c.spot-in-Upper.result c.new-in-Upper.result h
-        (sym c.class.ensures ∙ c.in-Upper.is) c.spot-in-Upper.ensures c.new-in-Upper.ensures.items e.kept e.node e.number e.below)
+    (lexemes c.args.input.now.source.now c.args.input.now.tokens.now) from) c.args.self.now.nodes.items c.word.new.self.nodes.items
+    c.args.self.now.waiting.items c.args.at c.in_ok-node-in-Upper.node c.spot-in-Upper.result c.new-in-Upper.result h
+    (sym c.class.ensures ∙ c.in-Upper.is) c.spot-in-Upper.ensures c.new-in-Upper.ensures.items e.kept e.node e.number e.below)
 
 pub returns-in-Open-clause-held : goal.returns-in-Open-clause-held
 returns-in-Open-clause-held c =

@@ -23,9 +23,9 @@ returns-in-Get-clause-made c = λ g.
 pub returns-in_ok-of-in-GetConst-clause-made : goal.returns-in_ok-of-in-GetConst-clause-made
 returns-in_ok-of-in-GetConst-clause-made c = λ g.
     got_constant_by c.args.types.now c.constant_type.new.types c.args.lists.now c.args.self.now c.args.instr.now c.in-GetConst.number
-        c.in-GetConst.constant c.in-GetConst.arguments c.as_slice.result.now c.in_ok-of-in-GetConst.of c.is_argument-in-GetConst.result
-        c.in-GetConst.is c.as_slice.ensures.value c.in_ok-of-in-GetConst.ensures.grow c.in_ok-of-in-GetConst.ensures.made
-        c.is_argument-in-GetConst.ensures
+    c.in-GetConst.constant c.in-GetConst.arguments c.as_slice.result.now c.in_ok-of-in-GetConst.of c.is_argument-in-GetConst.result
+    c.in-GetConst.is c.as_slice.ensures.value c.in_ok-of-in-GetConst.ensures.grow c.in_ok-of-in-GetConst.ensures.made
+    c.is_argument-in-GetConst.ensures
 
 pub returns-in-GetInt-clause-made : goal.returns-in-GetInt-clause-made
 returns-in-GetInt-clause-made c = λ g.

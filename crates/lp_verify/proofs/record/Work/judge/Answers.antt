@@ -32,9 +32,9 @@ returns-in-Some-2-clause-first c = λ small few h s k.
     let passed : ArePassed (told c.args.self.now c.typed.new.lists (was_named c.args.shared.now.named) c.args.whole t (breaks_head h s i) i) = (kept, not_ill (store c.typed.new.types c.typed.new.lists) t (term_made h s i) c.in_ok-typed.typed (sym c.is_ill-ill.ensures ∙ c.if-ill.false) made.1) in
     subst (λ l. IsFirst (told c.args.self.now l (was_named c.args.shared.now.named) c.args.whole t (breaks_head h s i) i) (Some c.in-Some-2.rule)) (sym c.broken_behind.ensures.lists)
     (subst (IsFirst (told c.args.self.now c.typed.new.lists (was_named c.args.shared.now.named) c.args.whole t (breaks_head h s i) i)) c.in-Some-2.is
-        (c.in_ok-rule.ensures.first small few (c.as_slice-3.ensures.value ∙ c.in_ok-terms.ensures) t h s
-        (knows_later (kept_in c.args.shared.now) (store c.typed.new.types c.typed.new.lists) c.args.self.now h s
-        (c.in_ok-typed.ensures.grow, c.in_ok-typed.ensures.types) made.0 k) passed))
+    (c.in_ok-rule.ensures.first small few (c.as_slice-3.ensures.value ∙ c.in_ok-terms.ensures) t h s
+    (knows_later (kept_in c.args.shared.now) (store c.typed.new.types c.typed.new.lists) c.args.self.now h s
+    (c.in_ok-typed.ensures.grow, c.in_ok-typed.ensures.types) made.0 k) passed))
 
 pub returns-clause-first : goal.returns-clause-first
 returns-clause-first c = λ small few h s k.
@@ -47,9 +47,9 @@ returns-clause-first c = λ small few h s k.
     let passed : ArePassed (told c.args.self.now c.typed.new.lists (was_named c.args.shared.now.named) c.args.whole t (breaks_head h s i) i) = (kept, not_ill (store c.typed.new.types c.typed.new.lists) t (term_made h s i) c.in_ok-typed.typed (sym c.is_ill-ill.ensures ∙ c.if-ill.false) made.1) in
     subst (λ l. IsFirst (told c.args.self.now l (was_named c.args.shared.now.named) c.args.whole t (breaks_head h s i) i) None) (sym c.broken_behind.ensures.lists)
     (subst (IsFirst (told c.args.self.now c.typed.new.lists (was_named c.args.shared.now.named) c.args.whole t (breaks_head h s i) i)) c.in-None.is
-        (c.in_ok-rule.ensures.first small few (c.as_slice-3.ensures.value ∙ c.in_ok-terms.ensures) t h s
-        (knows_later (kept_in c.args.shared.now) (store c.typed.new.types c.typed.new.lists) c.args.self.now h s
-        (c.in_ok-typed.ensures.grow, c.in_ok-typed.ensures.types) made.0 k) passed))
+    (c.in_ok-rule.ensures.first small few (c.as_slice-3.ensures.value ∙ c.in_ok-terms.ensures) t h s
+    (knows_later (kept_in c.args.shared.now) (store c.typed.new.types c.typed.new.lists) c.args.self.now h s
+    (c.in_ok-typed.ensures.grow, c.in_ok-typed.ensures.types) made.0 k) passed))
 
 pub returns-clause-made : goal.returns-clause-made
 returns-clause-made c = (

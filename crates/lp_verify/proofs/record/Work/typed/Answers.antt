@@ -11,9 +11,9 @@ use Rattle.lp_verify.proofs.record.Work.typed.Goals as goal
 pub returns-in_ok-call-in-Call-clause-made : goal.returns-in_ok-call-in-Call-clause-made
 returns-in_ok-call-in-Call-clause-made c =
     call_by c.args.types.now c.constant_type.new.types c.args.lists.now c.args.self.now c.args.instr.now c.in-Call.constant c.in-Call.arguments
-        c.in-Call.terms c.as_slice.result.now c.as_slice-in-Call.result.now c.in_ok-of-in-Call.of c.in_ok-call-in-Call.call c.in-Call.is
-        c.as_slice.ensures.value c.as_slice-in-Call.ensures.value c.in_ok-of-in-Call.ensures.grow c.in_ok-of-in-Call.ensures.made
-        c.in_ok-call-in-Call.ensures
+    c.in-Call.terms c.as_slice.result.now c.as_slice-in-Call.result.now c.in_ok-of-in-Call.of c.in_ok-call-in-Call.call c.in-Call.is
+    c.as_slice.ensures.value c.as_slice-in-Call.ensures.value c.in_ok-of-in-Call.ensures.grow c.in_ok-of-in-Call.ensures.made
+    c.in_ok-call-in-Call.ensures
 
 pub returns-in-CallTerm-clause-made : goal.returns-in-CallTerm-clause-made
 returns-in-CallTerm-clause-made c =
