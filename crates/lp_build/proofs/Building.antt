@@ -3,7 +3,6 @@ use Rattle.std.specs.Borrow.{Bor}
 use Rattle.std.specs.Global.{Global}
 use Rattle.std.proofs.Common.{◌≡◌, ℕ, ◌+◌, List, length, sym, subst, Option, Some, None}
 use Rattle.std.specs.Prelude.{Result, Ok, Err, IfOk, IfSome, String, string_bytes}
-use Rattle.lp_fixity.specs.Table.{entry_of}
 use Rattle.lp_sig.specs.Refusals.{IsAt}
 use Rattle.lp_sig.specs.declared.signature.Signature.{Signature}
 use Rattle.lp_module.specs.Program.{IsProgram}

@@ -8,3 +8,5 @@ pub mod Growing
 pub mod Reading
 pub mod Placing
 pub mod Building
+pub mod Awaiting
+pub mod Compiling

@@ -1,6 +1,6 @@
 -- Names of a program by their places, and kinds by their numbers there.
-use Rattle.std.proofs.Common.{◌≡◌, ℕ, suc, ◌+◌, ◌<◌, ◌≤◌, List, [], ◌∷◌, ◌++◌, length, map, take, get_or, Option, Some, None, Bool, true, false, inl, inr, refl, sym, ap, subst, ◌∙◌, true≢false, arith}
-use Rattle.std.specs.Prelude.{◌⊎◌, if◌then◌else◌, option_map, unwrap_or, nat_eq, ◌&&◌, fold, All, IfSome, filter}
+use Rattle.std.proofs.Common.{◌≡◌, ℕ, suc, ◌+◌, ◌<◌, ◌≤◌, List, [], ◌∷◌, ◌++◌, length, map, take, get_or, Option, Some, None, Bool, true, false, inl, inr, refl, sym, ap, subst, ◌∙◌, arith}
+use Rattle.std.specs.Prelude.{◌⊎◌, if◌then◌else◌, option_map, unwrap_or, nat_eq, ◌&&◌, All, IfSome, filter}
 use Rattle.std.specs.List.{AllZip}
 use Rattle.std.specs.Option.{option_or}
 use Rattle.std.specs.Str.{bytes_eq}
@@ -9,11 +9,11 @@ use Rattle.std.proofs.lemmas.Bool.{cases_lt}
 use Rattle.std.proofs.lemmas.List.{map-append, append-nil}
 use Rattle.std.proofs.lemmas.List.Elements.{All-head, All-tail, AllZip-push, filter-append}
 use Rattle.std.proofs.lemmas.List.Sums.{fold-append}
-use Rattle.lp_calculus.specs.Types.{Ty, var, con, arrow, types, tys}
+use Rattle.lp_calculus.specs.Types.{Ty, con, arrow, types, tys}
 use Rattle.lp_term.specs.Mapped.{mapped_type, mapped_types}
 use Rattle.lp_term.specs.Node.{TypeShape, var_node, param_node, con_node, arrow_node, type_top, TypeBelow}
 use Rattle.lp_term.specs.Nodes.{Nodes, Extends, type_tree, type_node_tree}
-use Rattle.lp_sig.specs.Rows.{Row, kind_row}
+use Rattle.lp_sig.specs.Rows.{kind_row}
 use Rattle.lp_sig.specs.declared.entries.KindEntry.{KindEntry}
 use Rattle.lp_module.specs.declared.copies.GlobalName.{GlobalName}
 use Rattle.lp_build.specs.Queried.{is_global_of, global_of, number_among, as_row, kind_numbers, with_kinds}

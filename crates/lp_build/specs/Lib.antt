@@ -7,4 +7,5 @@ pub mod Trees
 pub mod Meant
 pub mod Queried
 pub mod Programs
+pub mod Compiled
 pub mod inner

@@ -2,7 +2,7 @@
 ghost use Rattle.std.specs.Prelude.{◌≡◌, ◌++◌, ◌+◌, ◌∷◌, [], ◌<◌, codes, IfOk, OnOk, IfErr, length, string_bytes};
 ghost use Rattle.std.specs.Prelude.{IfSome, Option, None, true};
 ghost use Rattle.lp_base.specs.Held.{Held};
-ghost use Rattle.lp_build.specs.Loads.{Outside, fault_of, IsOfText, IsOfRead, IsOfLoading, names_of, ending};
+ghost use Rattle.lp_build.specs.Loads.{Outside, fault_of, IsOfText, IsOfRead, IsOfLoading, names_of, modules_among, of_module, ending};
 ghost use Rattle.lp_build.specs.Reads.{AreRead, IsReadText};
 ghost use Rattle.lp_build.specs.Told.{IsTold, AreKnown, IsFaultOf, IsFaultAt, HoldsTold};
 
@@ -122,6 +122,7 @@ pub(crate) fn load_file<F: Folder>(
     ensures refused { IfErr result (IsOfLoading (length sources.new.files.items)) }
     ensures read { OnOk result (AreRead sources.old → AreRead sources.new) }
     ensures names { OnOk result (names_of sources.new.files.items ≡ names_of sources.old.files.items ++ (stem.now ++ ending part) ∷ []) }
+    ensures modules { OnOk result (modules_among sources.new.files.items ≡ modules_among sources.old.files.items ++ of_module part stem.now) }
     ensures told { HoldsTold (F.held folder.old) known.old.items sources.old None → HoldsTold (F.held folder.old) known.new.items sources.new (fault_of result) }
 {
     let at = sources.files.len();

@@ -1,9 +1,12 @@
 // The order in which files are loaded.
-ghost use Rattle.std.specs.Prelude.{◌≡◌, ◌++◌, ◌∷◌, [], ◌<◌, ◌^◌, codes, IfOk, OnOk, IfErr, length};
-ghost use Rattle.std.specs.Prelude.{None};
-ghost use Rattle.lp_build.specs.Loads.{Outside, fault_of, IsOfLoading, IsOfWord, names_of, BeginsWith, Keeps, ending};
+ghost use Rattle.std.specs.Prelude.{◌≡◌, ◌++◌, ◌∷◌, [], ◌<◌, ◌^◌, ℕ, List, codes, IfOk, OnOk, IfErr, length};
+ghost use Rattle.std.specs.Prelude.{None, String, string_bytes};
+ghost use Rattle.std.specs.Global.{Global};
+ghost use Rattle.lp_build.specs.Loads.{Outside, fault_of, IsOfLoading, IsOfWord, names_of, modules_among, of_module, BeginsWith, Keeps, ending};
 ghost use Rattle.lp_build.specs.Reads.{AreRead};
 ghost use Rattle.lp_build.specs.Told.{HoldsTold};
+ghost use Rattle.lp_build.specs.declared.walk.Work.TheVariants as work;
+ghost use Rattle.lp_build.specs.inner.Waiting.{Awaits};
 
 use crate::fault::BuildFault;
 use crate::read::load_file;
@@ -40,6 +43,7 @@ impl Loading {
     pub(crate) fn new(alloc: Global, all: bool, known: Vec<(String, Vec<u8>)>) -> Loading
         ensures files { result.sources.files.items ≡ [] }
         ensures known { result.known ≡ known }
+        ensures work { result.work.items ≡ [] }
     {
         Loading {
             alloc,
@@ -67,6 +71,8 @@ impl Loading {
         ensures read { OnOk result (AreRead self.old.sources → AreRead self.new.sources) }
         ensures told { HoldsTold (F.held folder.old) self.old.known.items self.old.sources None → HoldsTold (F.held folder.old) self.new.known.items self.new.sources (fault_of result) }
         ensures names { OnOk result (names_of self.new.sources.files.items ≡ names_of self.old.sources.files.items ++ (name.now ++ ending part) ∷ []) }
+        ensures modules { OnOk result (modules_among self.new.sources.files.items ≡ modules_among self.old.sources.files.items ++ of_module part name.now) }
+        ensures work { self.new.work ≡ self.old.work }
     {
         load_file(
             self.alloc,
@@ -85,6 +91,8 @@ impl Loading {
         ensures read { OnOk result (AreRead self.old.sources → AreRead self.new.sources) }
         ensures told { HoldsTold (F.held folder.old) self.old.known.items self.old.sources None → HoldsTold (F.held folder.old) self.new.known.items self.new.sources (fault_of result) }
         ensures names { OnOk result (names_of self.new.sources.files.items ≡ names_of self.old.sources.files.items ++ (name.now ++ codes ".sig") ∷ []) }
+        ensures modules { OnOk result (modules_among self.new.sources.files.items ≡ modules_among self.old.sources.files.items) }
+        ensures awaits { (root : List ℕ) → OnOk result (Awaits root self.old.work.items (modules_among self.old.sources.files.items) → Awaits root self.new.work.items (modules_among self.new.sources.files.items)) }
     {
         let file = self.load(folder, name, Part::Signature)?;
         self.work.push(Work::Signatures(file, 0))?;
@@ -98,6 +106,7 @@ impl Loading {
         ensures read { OnOk result (AreRead self.old.sources → AreRead self.new.sources) }
         ensures told { HoldsTold (F.held folder.old) self.old.known.items self.old.sources None → HoldsTold (F.held folder.old) self.new.known.items self.new.sources (fault_of result) }
         ensures keeps { OnOk result (Keeps (names_of self.old.sources.files.items) (names_of self.new.sources.files.items)) }
+        ensures modules { OnOk result (modules_among self.new.sources.files.items ≡ modules_among self.old.sources.files.items ++ name.now ∷ []) }
     {
         let file = self.load(folder, name, Part::Module)?;
         self.work.push(Work::Accumulated(file, 0))?;
@@ -109,6 +118,7 @@ impl Loading {
     fn is_new_signature(&mut self, name: &str) -> Result<bool, Memory>
         ensures sources { self.new.sources ≡ self.old.sources }
         ensures known { self.new.known ≡ self.old.known }
+        ensures work { self.new.work ≡ self.old.work }
     {
         let key = Vec::from_slice(self.alloc, name.as_bytes())?;
         Ok(self.signatures.insert(key)?)
@@ -118,6 +128,7 @@ impl Loading {
     fn is_new_module(&mut self, name: &str) -> Result<bool, Memory>
         ensures sources { self.new.sources ≡ self.old.sources }
         ensures known { self.new.known ≡ self.old.known }
+        ensures work { self.new.work ≡ self.old.work }
     {
         let key = Vec::from_slice(self.alloc, name.as_bytes())?;
         Ok(self.modules.insert(key)?)
@@ -127,6 +138,7 @@ impl Loading {
     fn await_module(&mut self, name: &str) -> Result<(), Memory>
         ensures sources { self.new.sources ≡ self.old.sources }
         ensures known { self.new.known ≡ self.old.known }
+        ensures work { OnOk result ((m : String Global) × (string_bytes m ≡ name.now) × (self.new.work.items ≡ self.old.work.items ++ work.Module m ∷ [])) }
     {
         let module = String::from_str(self.alloc, name)?;
         self.work.push(Work::Module(module))?;
@@ -140,6 +152,8 @@ impl Loading {
         ensures read { OnOk result (AreRead self.old.sources → AreRead self.new.sources) }
         ensures told { HoldsTold (F.held folder.old) self.old.known.items self.old.sources None → HoldsTold (F.held folder.old) self.new.known.items self.new.sources (fault_of result) }
         ensures keeps { OnOk result (Keeps (names_of self.old.sources.files.items) (names_of self.new.sources.files.items)) }
+        ensures modules { OnOk result (modules_among self.new.sources.files.items ≡ modules_among self.old.sources.files.items) }
+        ensures awaits { (root : List ℕ) → OnOk result (Awaits root self.old.work.items (modules_among self.old.sources.files.items) → Awaits root self.new.work.items (modules_among self.new.sources.files.items)) }
     {
         if !self.is_new_signature(name)? {
             return Ok(());
@@ -154,6 +168,7 @@ impl Loading {
         ensures read { OnOk result (AreRead self.old.sources → AreRead self.new.sources) }
         ensures told { HoldsTold (F.held folder.old) self.old.known.items self.old.sources None → HoldsTold (F.held folder.old) self.new.known.items self.new.sources (fault_of result) }
         ensures keeps { OnOk result (Keeps (names_of self.old.sources.files.items) (names_of self.new.sources.files.items)) }
+        ensures modules { OnOk result (modules_among self.new.sources.files.items ≡ modules_among self.old.sources.files.items) }
     {
         if !self.is_new_module(name)? {
             return Ok(());
@@ -174,6 +189,8 @@ impl Loading {
         ensures read { OnOk result (AreRead self.old.sources → AreRead self.new.sources) }
         ensures told { HoldsTold (F.held folder.old) self.old.known.items self.old.sources None → HoldsTold (F.held folder.old) self.new.known.items self.new.sources (fault_of result) }
         ensures keeps { OnOk result (Keeps (names_of self.old.sources.files.items) (names_of self.new.sources.files.items)) }
+        ensures modules { OnOk result (modules_among self.new.sources.files.items ≡ modules_among self.old.sources.files.items) }
+        ensures awaits { (root : List ℕ) → OnOk result (Awaits root self.old.work.items (modules_among self.old.sources.files.items) → Awaits root self.new.work.items (modules_among self.new.sources.files.items)) }
     {
         let Some(name) = self.named(file, at)? else {
             return Ok(());
@@ -195,6 +212,7 @@ impl Loading {
         ensures read { OnOk result (AreRead self.old.sources → AreRead self.new.sources) }
         ensures told { HoldsTold (F.held folder.old) self.old.known.items self.old.sources None → HoldsTold (F.held folder.old) self.new.known.items self.new.sources (fault_of result) }
         ensures keeps { OnOk result (Keeps (names_of self.old.sources.files.items) (names_of self.new.sources.files.items)) }
+        ensures modules { OnOk result (modules_among self.new.sources.files.items ≡ modules_among self.old.sources.files.items) }
     {
         let Some(name) = self.accumulated(file, at)? else {
             return Ok(());
@@ -214,6 +232,7 @@ impl Loading {
         ensures read { OnOk result (AreRead self.old.sources → AreRead self.new.sources) }
         ensures told { HoldsTold (F.held folder.old) self.old.known.items self.old.sources None → HoldsTold (F.held folder.old) self.new.known.items self.new.sources (fault_of result) }
         ensures keeps { OnOk result (Keeps (names_of self.old.sources.files.items) (names_of self.new.sources.files.items)) }
+        ensures awaits { (root : List ℕ) → OnOk result (Awaits root (self.old.work.items ++ work ∷ []) (modules_among self.old.sources.files.items) → Awaits root self.new.work.items (modules_among self.new.sources.files.items)) }
     {
         match work {
             Work::Signatures(file, at) => self.next_signature(folder, file, at),
@@ -229,6 +248,7 @@ impl Loading {
         ensures read { OnOk result (AreRead self.old.sources → AreRead self.new.sources) }
         ensures told { HoldsTold (F.held folder.old) self.old.known.items self.old.sources None → HoldsTold (F.held folder.old) self.new.known.items self.new.sources (fault_of result) }
         ensures names { OnOk result (names_of self.new.sources.files.items ≡ names_of self.old.sources.files.items ++ (root.now ++ codes ".sig") ∷ []) }
+        ensures awaits { self.old.sources.files.items ≡ [] → self.old.work.items ≡ [] → OnOk result (Awaits root.now self.new.work.items (modules_among self.new.sources.files.items)) }
     {
         self.is_new_module(root)?;
         self.is_new_signature(root)?;
@@ -244,6 +264,7 @@ impl Loading {
         ensures read { OnOk result (AreRead self.old.sources → AreRead self.new.sources) }
         ensures told { HoldsTold (F.held folder.old) self.old.known.items self.old.sources None → HoldsTold (F.held folder.old) self.new.known.items self.new.sources (fault_of result) }
         ensures begins { OnOk result (BeginsWith (root.now ++ codes ".sig") (names_of self.new.sources.files.items)) }
+        ensures first { self.old.work.items ≡ [] → OnOk result (BeginsWith root.now (modules_among self.new.sources.files.items)) }
     {
         self.begin(folder, root)?;
         for _ in 0..u64::MAX {

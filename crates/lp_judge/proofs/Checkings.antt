@@ -51,8 +51,7 @@ checked_no_fault (Deep i) = λ e. cc
 pub told_no_fault : (n : ℕ) (v : CheckVerdict) (line : List ℕ) (said : Status) → IsChecked n v line said → said ≢ variant.WriteFault
 told_no_fault n v line said h e = checked_no_fault v (sym h.ends ∙ e)
 
-pub told_of_search : (n : ℕ) (v : CheckVerdict) (line : List ℕ) (said result : Status) → IsChecked n v line said →
-    (result ≢ variant.WriteFault → result ≡ said) → result ≢ variant.WriteFault → is_of_search result ≡ true
+pub told_of_search : (n : ℕ) (v : CheckVerdict) (line : List ℕ) (said result : Status) → IsChecked n v line said → (result ≢ variant.WriteFault → result ≡ said) → result ≢ variant.WriteFault → is_of_search result ≡ true
 told_of_search n v line said result h kept = said_of_search result said (ap is_of_search h.ends ∙ checked_is_of_search v) kept
 
 -- no file that is not read is refused as a source
@@ -119,8 +118,7 @@ pub judged_on : (bytes text : List ℕ) (before between after : Assembled) (q : 
     → IsQueryOf text before.program.bank q → Extends before.program.bank between.program.bank → Extends between.program.bank after.program.bank
     → IsSameProgram before between → IsSameProgram between after → All (IsCertificateInside between.program.bank) cs
     → AreCertificates (counts_in before) (map (certificate_of between.program.bank) cs) → bytes ≡ spelled_certificates (map (certificate_of between.program.bank) cs) → count ≡ length cs
-    → (IsQueryInside between.program.bank q → All (IsCertificateInside between.program.bank) cs → IsVerdictOn (ground_of after.program)
-    (query_of after.program.bank q) (map (certificate_of after.program.bank) cs) verdict)
+    → (IsQueryInside between.program.bank q → All (IsCertificateInside between.program.bank) cs → IsVerdictOn (ground_of after.program) (query_of after.program.bank q) (map (certificate_of after.program.bank) cs) verdict)
     → IsJudgedOn bytes text count verdict
 judged_on bytes text before between after q cs count verdict asked e f s t inside known spelled counted right =
     let later = query_stays text before.program.bank between.program.bank q e asked in
@@ -130,8 +128,7 @@ judged_on bytes text before between after q cs count verdict asked e f s t insid
       query = q;
       asked = query_stays text between.program.bank after.program.bank q f later;
       certificates = map (certificate_of after.program.bank) cs;
-      known = subst (λ z. AreCertificates z (map (certificate_of after.program.bank) cs)) (counts_stay before between s ∙ counts_stay between after t)
-          (subst (AreCertificates (counts_in before)) (sym same) known);
+      known = subst (λ z. AreCertificates z (map (certificate_of after.program.bank) cs)) (counts_stay before between s ∙ counts_stay between after t) (subst (AreCertificates (counts_in before)) (sym same) known);
       spelled = subst (λ z. bytes ≡ spelled_certificates z) (sym same) spelled;
       counted = counted ∙ sym (length-map cs (certificate_of after.program.bank));
       right = right (query_inside text between.program.bank q later) inside;

@@ -3,4 +3,3 @@ mod Questions
 mod Insides
 mod Checkings
 mod Provings
-pub mod Sourced

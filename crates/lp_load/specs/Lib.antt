@@ -1,4 +1,3 @@
 pub mod Placed
 pub mod Tells
 pub mod Asked
-pub mod Loaded

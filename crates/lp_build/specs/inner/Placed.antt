@@ -1,6 +1,5 @@
 -- What the tables of a program's names hold.
-use Rattle.std.specs.Prelude.{◌≡◌, ℕ, List, nat_eq, unwrap_or}
-use Rattle.indexmap.specs.IndexMap.{get}
+use Rattle.std.specs.Prelude.{◌≡◌, ℕ, List}
 use Rattle.lp_term.specs.Node.{TypeShape, var_node, param_node, con_node, arrow_node}
 use Rattle.lp_module.specs.declared.copies.GlobalName.{GlobalName}
 use Rattle.lp_build.specs.Queried.{global_of}

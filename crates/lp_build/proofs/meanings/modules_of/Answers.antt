@@ -1,4 +1,4 @@
-use Rattle.std.proofs.Common.{◌≡◌, [], ◌∷◌, length, subst, sym, arith, map, take}
+use Rattle.std.proofs.Common.{[], ◌∷◌, subst, sym, arith, map}
 use Rattle.std.specs.Prelude.{string_bytes}
 use Rattle.std.proofs.lemmas.List.{take_all}
 use Rattle.lp_module.specs.Order.{Visits}

@@ -1,4 +1,4 @@
-use Rattle.std.proofs.Common.{[], sym, ap, subst, map, take}
+use Rattle.std.proofs.Common.{[], sym, subst, map}
 use Rattle.std.specs.List.{AllZip}
 use Rattle.std.proofs.lemmas.List.{take_all}
 use Rattle.lp_sig.specs.Rows.{constant_row}

@@ -7,8 +7,7 @@ use Rattle.lp_load.proofs.Telling.{placed_told}
 use Rattle.lp_judge.proofs.proving.prove.Goals as goal
 
 pub returns-in-Ok-clause-ran : goal.returns-in-Ok-clause-ran
-returns-in-Ok-clause-ran g c = ran_behind c.finish.result c.in-Ok.ensures.looked c.finish.ensures.read_faults c.finish.ensures.misses
-    c.finish.ensures.overs c.finish.ensures.grows c.finish.ensures.of_search
+returns-in-Ok-clause-ran g c = ran_behind c.finish.result c.in-Ok.ensures.looked c.finish.ensures.read_faults c.finish.ensures.misses c.finish.ensures.overs c.finish.ensures.grows c.finish.ensures.of_search
 
 pub returns-in-Ok-clause-leaves : goal.returns-in-Ok-clause-leaves
 returns-in-Ok-clause-leaves g c =
