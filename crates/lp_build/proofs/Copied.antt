@@ -2,7 +2,7 @@
 use Rattle.std.proofs.Common.{◌≡◌, ℕ, suc, ◌<◌, List, [], ◌∷◌, length, map, get_or, refl, sym, ap, subst, ◌∙◌, arith}
 use Rattle.std.specs.Prelude.{All}
 use Rattle.std.proofs.lemmas.List.Elements.{All-head, All-tail, All-cons}
-use Rattle.lp_calculus.specs.Types.{Ty, var}
+use Rattle.lp_calculus.specs.Types.{var}
 use Rattle.lp_syntax.specs.declared.text.SignatureText.{SignatureText}
 use Rattle.lp_term.specs.Node.{type_top}
 use Rattle.lp_term.specs.Nodes.{Nodes, type_tree, trees_after}
@@ -29,22 +29,25 @@ parameters_same (x ∷ es) (f ∷ fs) e =
     λ i. ((h i).0, (h i).1.0) ∷ parameters_same es fs t i
 
 module _ (b d : Nodes) (types : d.types ≡ b.types) where
-  tree_same : (i j : ℕ) → j ≡ i → type_tree d j ≡ type_tree b i
+  pub tree_same : (i j : ℕ) → j ≡ i → type_tree d j ≡ type_tree b i
   unfolding type_tree
   tree_same i j e = ap (λ ts. get_or (trees_after type_top (var 0) [] ts) j (var 0)) types ∙ ap (λ k. get_or (trees_after type_top (var 0) [] b.types) k (var 0)) e
 
   below_same : (i j : ℕ) → j ≡ i → i < length b.types → j < length d.types
   below_same i j e h = let n = ap length types in omega (arith, e, n, h)
 
-  constant_same : (said : List (Row Said)) (defs : List (Row Definition)) (n : ℕ) (row : Row Written) (x y : ConstantEntry) → constant_row y ≡ constant_row x → IsConstant b said defs n row x → IsConstant d said defs n row y
+  constant_same : (said : List (Row Said)) (defs : List (Row Definition)) (n : ℕ) (row : Row Written) (x y : ConstantEntry) → constant_row y ≡
+      constant_row x → IsConstant b said defs n row x → IsConstant d said defs n row y
   constant_same said defs n row x y e h = record {
     name = ap (λ r. r.0) e ∙ h.name;
     number = ap (λ r. r.1.0) e ∙ h.number;
     inside = below_same x.scheme.0 y.scheme.0 (ap (λ r. r.1.2) e) h.inside;
-    scheme = subst (λ v. IsSchemeOf said defs row.1 v (type_tree d y.scheme.0)) (sym (ap (λ r. r.1.1) e)) (subst (λ t. IsSchemeOf said defs row.1 x.type_vars t) (sym (tree_same x.scheme.0 y.scheme.0 (ap (λ r. r.1.2) e))) h.scheme);
+    scheme = subst (λ v. IsSchemeOf said defs row.1 v (type_tree d y.scheme.0)) (sym (ap (λ r. r.1.1) e))
+        (subst (λ t. IsSchemeOf said defs row.1 x.type_vars t) (sym (tree_same x.scheme.0 y.scheme.0 (ap (λ r. r.1.2) e))) h.scheme);
   }
 
-  constants_same : (said : List (Row Said)) (defs : List (Row Definition)) (n : ℕ) (rows : List (Row Written)) (xs ys : List ConstantEntry) → map constant_row ys ≡ map constant_row xs → AreInStep (IsConstant b said defs) n rows xs → AreInStep (IsConstant d said defs) n rows ys
+  constants_same : (said : List (Row Said)) (defs : List (Row Definition)) (n : ℕ) (rows : List (Row Written)) (xs ys : List ConstantEntry) → map
+      constant_row ys ≡ map constant_row xs → AreInStep (IsConstant b said defs) n rows xs → AreInStep (IsConstant d said defs) n rows ys
   constants_same said defs n [] [] [] e h = h
   constants_same said defs n [] [] (y ∷ ys) e h = absurd (cc)
   constants_same said defs n [] (x ∷ xs) ys e h = absurd h
@@ -58,7 +61,8 @@ module _ (b d : Nodes) (types : d.types ≡ b.types) where
   body_same : (z : Seen) (x y : AbbreviationEntry) → abbreviation_row y ≡ abbreviation_row x → IsBody b z x → IsBody d z y
   body_same z x y e h = record {
     inside = below_same x.body.0 y.body.0 (ap (λ r. r.1.1) e) h.inside;
-    tree = subst (λ n. HasBody z.said z.definitions n (type_tree d y.body.0)) (sym (ap (λ r. r.0) e)) (subst (λ t. HasBody z.said z.definitions x.name.items t) (sym (tree_same x.body.0 y.body.0 (ap (λ r. r.1.1) e))) h.tree);
+    tree = subst (λ n. HasBody z.said z.definitions n (type_tree d y.body.0)) (sym (ap (λ r. r.0) e))
+        (subst (λ t. HasBody z.said z.definitions x.name.items t) (sym (tree_same x.body.0 y.body.0 (ap (λ r. r.1.1) e))) h.tree);
   }
 
   bodies_same : (z : Seen) (xs ys : List AbbreviationEntry) → map abbreviation_row ys ≡ map abbreviation_row xs → All (IsBody b z) xs → All (IsBody d z) ys

@@ -5,3 +5,8 @@ pub mod Signing
 pub mod Seeing
 pub mod Copied
 pub mod Growing
+pub mod Reading
+pub mod Placing
+pub mod Building
+pub mod Awaiting
+pub mod Compiling

@@ -1,11 +1,10 @@
 -- The signatures that a module sees, one after the other, and the operators of those that are seen.
-use Rattle.std.proofs.Common.{◌≡◌, ℕ, ◌+◌, ◌<◌, List, [], ◌∷◌, ◌++◌, length, Option, Some, None, Bool, true, false, inl, inr, refl, sym, ap, subst, ◌∙◌, arith}
+use Rattle.std.proofs.Common.{◌≡◌, ℕ, List, [], ◌∷◌, ◌++◌, Option, Some, None, Bool, true, false, inl, inr, refl, sym, ap, subst, ◌∙◌}
 use Rattle.std.specs.Prelude.{◌⊎◌, Contains, nat_eq, not}
 use Rattle.std.specs.List.{list_any}
 use Rattle.std.specs.Option.{option_to_list}
 use Rattle.std.proofs.lemmas.List.Elements.{Contains-append_left, Contains-append_right, Contains-append_cases}
 use Rattle.indexmap.specs.IndexSet.{insert_key}
-use Rattle.lp_sig.specs.Refusals.{IsAt}
 use Rattle.lp_syntax.specs.Tokens.{Operators}
 use Rattle.lp_build.specs.Sights.{Sees, SeesFirst, sees_first, sees_more, signature_of, accum_sig_at, accumulate_at, InForce, standard_ones, seen_file, other_file}
 use Rattle.lp_build.specs.inner.Linked.{IsPutBack, IsSeenSoFar}
@@ -63,9 +62,12 @@ module _ (files : List File) (file : ℕ) (name : List ℕ) where
       begun k c = of_three k (Contains-append_cases (accum_sig_at files file ++ accumulate_at files file) (option_to_list (signature_of files name)) k c)
 
       begins : (k : ℕ) → SeesFirst files file name k → Contains (accum_sig_at files file ++ accumulate_at files file ++ option_to_list (signature_of files name)) k
-      begins k (inl e) = Contains-append_right (accum_sig_at files file ++ accumulate_at files file) (option_to_list (signature_of files name)) k (subst (λ o. Contains (option_to_list o) k) (sym e) (last_in [] k))
-      begins k (inr (inl c)) = Contains-append_left (accum_sig_at files file ++ accumulate_at files file) (option_to_list (signature_of files name)) k (Contains-append_left (accum_sig_at files file) (accumulate_at files file) k c)
-      begins k (inr (inr c)) = Contains-append_left (accum_sig_at files file ++ accumulate_at files file) (option_to_list (signature_of files name)) k (Contains-append_right (accum_sig_at files file) (accumulate_at files file) k c)
+      begins k (inl e) = Contains-append_right (accum_sig_at files file ++ accumulate_at files file) (option_to_list (signature_of files name)) k
+          (subst (λ o. Contains (option_to_list o) k) (sym e) (last_in [] k))
+      begins k (inr (inl c)) = Contains-append_left (accum_sig_at files file ++ accumulate_at files file) (option_to_list (signature_of files name)) k
+          (Contains-append_left (accum_sig_at files file) (accumulate_at files file) k c)
+      begins k (inr (inr c)) = Contains-append_left (accum_sig_at files file ++ accumulate_at files file) (option_to_list (signature_of files name)) k
+          (Contains-append_right (accum_sig_at files file) (accumulate_at files file) k c)
 
   -- where nothing is left, what was met is what is seen
   pub seen_all : (seen work : List ℕ) → work ≡ [] → IsSeenSoFar files file name seen work → (k : ℕ) → Sees files file name k → Contains seen k
@@ -81,7 +83,8 @@ module _ (files : List File) (file : ℕ) (name : List ℕ) where
       by (inr c) = absurd (nothing_in k (subst (λ l. Contains l k) e c))
 
   -- one more is met
-  pub seen_one : (seen seen' work rest work' : List ℕ) (n : ℕ) → work ≡ rest ++ n ∷ [] → seen' ≡ insert_key nat_eq seen n → IsPutBack files n seen rest work' → IsSeenSoFar files file name seen work → IsSeenSoFar files file name seen' work'
+  pub seen_one : (seen seen' work rest work' : List ℕ) (n : ℕ) → work ≡ rest ++ n ∷ [] → seen' ≡ insert_key nat_eq seen n → IsPutBack files n seen
+      rest work' → IsSeenSoFar files file name seen work → IsSeenSoFar files file name seen' work'
   seen_one seen seen' work rest work' n taken key put so = record {
     met = λ k h. is_met k (inserted_from seen n k (subst (λ l. Contains l k) key h));
     waiting = λ k h. is_waiting k (put.only k h);

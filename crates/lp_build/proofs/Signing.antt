@@ -1,6 +1,6 @@
 -- Signatures by their names, one file after the other, and what words name.
 use Rattle.std.specs.Global.{Global}
-use Rattle.std.proofs.Common.{◌≡◌, ℕ, suc, ◌+◌, ◌<◌, ◌≤◌, List, [], ◌∷◌, ◌++◌, length, map, take, drop, get_or, Option, Some, None, Bool, true, false, refl, sym, ap, subst, ◌∙◌, true≢false, arith}
+use Rattle.std.proofs.Common.{◌≡◌, ℕ, suc, ◌+◌, ◌<◌, ◌≤◌, List, [], ◌∷◌, ◌++◌, length, map, take, drop, get_or, Option, Some, None, Bool, true, false, refl, sym, ap, ◌∙◌, true≢false, arith}
 use Rattle.std.specs.Prelude.{if◌then◌else◌, option_map, is_some, string_bytes, filter_map, nat_eq, Vec}
 use Rattle.std.specs.Option.{option_or}
 use Rattle.std.specs.Str.{bytes_eq}
@@ -13,22 +13,25 @@ use Rattle.lp_build.specs.inner.Linked.{lists_of}
 use Rattle.lp_build.specs.declared.sources.File.{File}
 use Rattle.lp_build.specs.declared.sources.Part.TheVariants as part
 
-or_none : (o : Option ℕ) → option_or o None ≡ o
+pub or_none : (o : Option ℕ) → option_or o None ≡ o
 or_none None = refl
 or_none (Some i) = refl
 
-later : (a : Option ℕ) (t : Bool) (n : ℕ) → option_map (λ i. suc i) (option_or a (if t then Some n else None)) ≡ option_or (option_map (λ i. suc i) a) (if t then Some (suc n) else None)
+pub later : (a : Option ℕ) (t : Bool) (n : ℕ) → option_map (λ i. suc i) (option_or a (if t then Some n else None)) ≡ option_or (option_map (λ i. suc i) a) (if t then Some (suc n) else None)
 later None true n = refl
 later None false n = refl
 later (Some a) t n = refl
 
 -- one more file
-signature_more : (name : List ℕ) (f : File) (fs : List File) → signature_of (fs ++ f ∷ []) name ≡ option_or (signature_of fs name) (if is_signature f.part (string_bytes f.module) name then Some (length fs) else None)
+signature_more : (name : List ℕ) (f : File) (fs : List File) → signature_of (fs ++ f ∷ []) name ≡ option_or (signature_of fs name)
+    (if is_signature f.part (string_bytes f.module) name then Some (length fs) else None)
 signature_more name f [] = refl
 signature_more name f (g ∷ fs) = by (signature_more name f fs) (is_signature g.part (string_bytes g.module) name)
   where
     by : signature_of (fs ++ f ∷ []) name ≡ option_or (signature_of fs name) (if is_signature f.part (string_bytes f.module) name then Some (length fs) else None) → (t : Bool) →
-        (if t then Some 0 else option_map (λ i. suc i) (signature_of (fs ++ f ∷ []) name)) ≡ option_or (if t then Some 0 else option_map (λ i. suc i) (signature_of fs name)) (if is_signature f.part (string_bytes f.module) name then Some (suc (length fs)) else None)
+        (if t then Some 0 else option_map (λ i. suc i) (signature_of (fs ++ f ∷ []) name)) ≡ option_or
+        (if t then Some 0 else option_map (λ i. suc i) (signature_of fs name)) (if is_signature f.part (string_bytes f.module) name then Some
+        (suc (length fs)) else None)
     by h true = refl
     by h false = ap (option_map (λ i. suc i)) h ∙ later (signature_of fs name) (is_signature f.part (string_bytes f.module) name) (length fs)
 
@@ -46,7 +49,8 @@ no_signature_more f fs name old p h =
     h ∙ sym (signature_more name f fs ∙ ap (λ q. option_or (signature_of fs name) (if is_signature q (string_bytes f.module) name then Some (length fs) else None)) p ∙ or_none (signature_of fs name))
 
 -- a name that is there keeps its number
-pub name_again : (at : List ℕ → Option ℕ) (name other : List ℕ) (number : ℕ) (o : Option ℕ) → o ≡ at name → is_some o ≡ true → at other ≡ option_or (at other) (if bytes_eq other name then Some number else None)
+pub name_again : (at : List ℕ → Option ℕ) (name other : List ℕ) (number : ℕ) (o : Option ℕ) → o ≡ at name → is_some o ≡ true → at other ≡ option_or
+    (at other) (if bytes_eq other name then Some number else None)
 name_again at name other number None is some = absurd (true≢false (sym some))
 name_again at name other number (Some i) is some = by (bytes_eq other name) refl
   where
@@ -55,7 +59,8 @@ name_again at name other number (Some i) is some = by (bytes_eq other name) refl
     by false e = sym (ap (λ t. option_or (at other) (if t then Some number else None)) e ∙ or_none (at other))
 
 -- a new name
-pub name_new : (at : List ℕ → Option ℕ) (name other : List ℕ) (number : ℕ) (o : Option ℕ) → o ≡ at name → is_some o ≡ false → (if bytes_eq other name then Some number else at other) ≡ option_or (at other) (if bytes_eq other name then Some number else None)
+pub name_new : (at : List ℕ → Option ℕ) (name other : List ℕ) (number : ℕ) (o : Option ℕ) → o ≡ at name → is_some o ≡ false →
+    (if bytes_eq other name then Some number else at other) ≡ option_or (at other) (if bytes_eq other name then Some number else None)
 name_new at name other number (Some i) is none = absurd (true≢false none)
 name_new at name other number None is none = by (bytes_eq other name) refl
   where
@@ -71,9 +76,11 @@ pub so_many : {X : Type 0} (xs : List X) (i : ℕ) → i < length xs → i ≡ l
 so_many xs i h = let le : i ≤ length xs = omega (arith, h) in sym (length-take-le i xs le)
 
 -- one more list behind those so far
-pub list_more : {X : Type 0} (f : X → List ℕ) (xs : List X) (i : ℕ) (x : X) (v : Vec ℕ Global) (old new : List (Vec ℕ Global)) → i < length xs → x ≡ get_or xs i x → v.items ≡ f x → new ≡ old ++ v ∷ [] → lists_of old ≡ map f (take i xs) → lists_of new ≡ map f (take (i + 1) xs)
+pub list_more : {X : Type 0} (f : X → List ℕ) (xs : List X) (i : ℕ) (x : X) (v : Vec ℕ Global) (old new : List (Vec ℕ Global)) → i < length xs → x ≡
+    get_or xs i x → v.items ≡ f x → new ≡ old ++ v ∷ [] → lists_of old ≡ map f (take i xs) → lists_of new ≡ map f (take (i + 1) xs)
 list_more f xs i x v old new h at is e so =
-    ap lists_of e ∙ map-append (λ l. l.items) old (v ∷ []) ∙ ap (λ l. l ++ v.items ∷ []) so ∙ ap (λ y. map f (take i xs) ++ y ∷ []) is ∙ sym (map-append f (take i xs) (x ∷ [])) ∙ ap (map f) (first_ones xs i x h at)
+    ap lists_of e ∙ map-append (λ l. l.items) old (v ∷ []) ∙ ap (λ l. l ++ v.items ∷ []) so ∙ ap (λ y. map f (take i xs) ++ y ∷ []) is ∙ sym
+    (map-append f (take i xs) (x ∷ [])) ∙ ap (map f) (first_ones xs i x h at)
 
 -- what one word adds
 abbrev pub with_one : Option ℕ → List ℕ → List ℕ
@@ -97,7 +104,8 @@ pub word_passed : {W : Type 0} (f : W → Option ℕ) (ws : List W) (i : ℕ) (w
     insert_all nat_eq ks (filter_map f (drop i ws)) ≡ all → insert_all nat_eq ks (filter_map f (drop (i + 1) ws)) ≡ all
 word_passed f ws i w o ks all h at is none so = word_more f ws i w o ks ks all h at is (sym (ap (λ p. with_one p ks) none)) so
 
-pub word_taken : {W : Type 0} (f : W → Option ℕ) (ws : List W) (i : ℕ) (w : W) (o : Option ℕ) (n : ℕ) (ks new all : List ℕ) → i < length ws → w ≡ get_or ws i w → o ≡ f w → o ≡ Some n → new ≡ insert_key nat_eq ks n →
+pub word_taken : {W : Type 0} (f : W → Option ℕ) (ws : List W) (i : ℕ) (w : W) (o : Option ℕ) (n : ℕ) (ks new all : List ℕ) → i < length ws → w ≡
+    get_or ws i w → o ≡ f w → o ≡ Some n → new ≡ insert_key nat_eq ks n →
     insert_all nat_eq ks (filter_map f (drop i ws)) ≡ all → insert_all nat_eq new (filter_map f (drop (i + 1) ws)) ≡ all
 word_taken f ws i w o n ks new all h at is some e so = word_more f ws i w o ks new all h at is (e ∙ sym (ap (λ p. with_one p ks) some)) so
 

@@ -27,15 +27,18 @@ pub told_memory : (told : Option Held) (known : List (String Global × Vec ℕ G
 told_memory told known sources h = record { waiting = h.waiting; loaded = h.loaded; fault = memory_named told sources.refused }
 
 -- what was taken out has the bytes that the folder tells
-pub taken_told : (told : Option Held) (known : List (String Global × Vec ℕ Global)) (i : ℕ) (x : String Global × Vec ℕ Global) (name : List ℕ) → AreKnown told known → i < length known → x ≡ get_or known i x → string_bytes x.0 ≡ name → IsTold told name x.1.items
+pub taken_told : (told : Option Held) (known : List (String Global × Vec ℕ Global)) (i : ℕ) (x : String Global × Vec ℕ Global) (name : List ℕ) →
+    AreKnown told known → i < length known → x ≡ get_or known i x → string_bytes x.0 ≡ name → IsTold told name x.1.items
 taken_told told known i x name h lt e n =
     subst (λ w. IsTold told w x.1.items) n (subst (λ y. IsTold told (string_bytes y.0) y.1.items) (sym e) (h i x lt))
 
 -- what the folder tells stays
-pub told_still : (told told' : Option Held) (known : List (String Global × Vec ℕ Global)) (sources : Sources) (e : Option BuildFault) → told' ≡ told → HoldsTold told' known sources e → HoldsTold told known sources e
+pub told_still : (told told' : Option Held) (known : List (String Global × Vec ℕ Global)) (sources : Sources) (e : Option BuildFault) → told' ≡ told →
+    HoldsTold told' known sources e → HoldsTold told known sources e
 told_still told told' known sources e same h = subst (λ t. HoldsTold t known sources e) same h
 
 -- a fault that is passed up
-pub told_passed : {T : Type 0} (told : Option Held) (known : List (String Global × Vec ℕ Global)) (sources : Sources) (r : Result T BuildFault) (e : BuildFault) → IsErrAnd r (λ y. y ≡ e) → HoldsTold told known sources (Some e) → HoldsTold told known sources (fault_of r)
+pub told_passed : {T : Type 0} (told : Option Held) (known : List (String Global × Vec ℕ Global)) (sources : Sources) (r : Result T BuildFault)
+    (e : BuildFault) → IsErrAnd r (λ y. y ≡ e) → HoldsTold told known sources (Some e) → HoldsTold told known sources (fault_of r)
 told_passed told known sources (Ok x) e is h = absurd is
 told_passed told known sources (Err y) e is h = subst (λ z. HoldsTold told known sources (Some z)) (sym is) h

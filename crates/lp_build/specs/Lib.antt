@@ -5,4 +5,7 @@ pub mod Reads
 pub mod Sights
 pub mod Trees
 pub mod Meant
+pub mod Queried
+pub mod Programs
+pub mod Compiled
 pub mod inner

@@ -1,5 +1,5 @@
 -- What the loading of files comes to.
-use Rattle.std.specs.Prelude.{◌≡◌, ℕ, ◌≤◌, List, [], ◌∷◌, map, codes, Option, Some, None, Result, Ok, Err, string_bytes}
+use Rattle.std.specs.Prelude.{◌≡◌, ℕ, ◌≤◌, List, [], ◌∷◌, ◌++◌, map, codes, Option, Some, None, Result, Ok, Err, string_bytes}
 use Rattle.lp_base.specs.declared.limits.TheConstants.{MAX_MODULES}
 use Rattle.lp_base.specs.Counts.{Counts}
 use Rattle.lp_base.specs.Held.{Held}
@@ -93,6 +93,16 @@ ending part.Module = codes ".mod"
 
 abbrev pub names_of : List File → List (List ℕ)
 names_of files = map (λ f. string_bytes f.name) files
+
+-- the name of a file's module, where the file is one
+abbrev pub of_module : Part → (name : List ℕ) → List (List ℕ)
+of_module part.Signature name = []
+of_module part.Module name = name ∷ []
+
+-- the names of the modules among these files, in order
+abbrev pub modules_among : List File → List (List ℕ)
+modules_among [] = []
+modules_among (f ∷ fs) = of_module f.part (string_bytes f.module) ++ modules_among fs
 
 -- the first of these names
 abbrev pub BeginsWith : List ℕ → List (List ℕ) → Type 0

@@ -1,5 +1,5 @@
 -- What was read of files: of each its tokens, and what it says of other files and of operators.
-use Rattle.std.specs.Prelude.{◌≡◌, ℕ, ◌++◌, ◌≤◌, List, length, string_bytes}
+use Rattle.std.specs.Prelude.{◌≡◌, ℕ, ◌++◌, ◌≤◌, length, string_bytes}
 use Rattle.lp_base.specs.declared.limits.TheConstants.{MAX_MODULES}
 use Rattle.lp_lexer.specs.Lexis.{HasTokens}
 use Rattle.lp_syntax.specs.Tokens.{lexemes, spot_at}

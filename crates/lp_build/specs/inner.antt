@@ -1,1 +1,4 @@
 pub mod Linked
+pub mod Placed
+pub mod Wholes
+pub mod Waiting

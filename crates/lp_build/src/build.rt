@@ -1,8 +1,11 @@
 // The program of the files.
-ghost use Rattle.std.specs.Prelude.{◌<◌, length, IfErr, IfOk};
+ghost use Rattle.std.specs.Prelude.{◌≡◌, ◌+◌, ◌<◌, List, length, IfErr, IfOk, IfSome};
 ghost use Rattle.lp_build.specs.Faults.{IsOfTexts};
-ghost use Rattle.lp_build.specs.Meant.{AreModules};
+ghost use Rattle.lp_build.specs.Meant.{AreModules, AreModulesOf};
+ghost use Rattle.lp_build.specs.Programs.{IsBuilt, IsProgramOf};
 ghost use Rattle.lp_build.specs.Reads.{AreRead};
+ghost use Rattle.lp_build.specs.declared.sources.File.{File};
+ghost use Rattle.lp_build.specs.inner.Wholes.{IsRootSignature, IsSeenOf, IsWhole};
 
 use crate::fault::BuildFault;
 use crate::links::Links;
@@ -11,8 +14,8 @@ use crate::objects::{check_names, code_of, names_of};
 use crate::queries::{query_signature, query_table};
 use crate::signatures::Signatures;
 use crate::sources::{Sources, as_number};
-use crate::texts::{Group, texts_of};
-use lp_base::{Limit, MAX_COPIES, Memory};
+use crate::texts::{Group, Texts, found_at, texts_of};
+use lp_base::{Limit, MAX_COPIES, MAX_MODULES, Memory};
 use lp_code::{Code, Image, Object};
 use lp_fixity::Table;
 use lp_link::{check_copies, link};
@@ -30,6 +33,88 @@ pub struct Built {
     pub table: Table,
 }
 
+// The texts of files, and what their signatures mean.
+#[derive(Drop)]
+struct Whole {
+    links: Links,
+    texts: Texts,
+    signatures: Signatures,
+}
+
+fn whole_of(alloc: Global, sources: &Sources) -> Result<Whole, BuildFault>
+    ensures refused { IfErr result IsOfTexts }
+    ensures whole { AreRead sources.now → IfOk result (IsWhole sources.now.files.items) }
+{
+    let links = Links::of(alloc, sources)?;
+    let texts = texts_of(alloc, sources, &links)?;
+    let signatures = Signatures::of(alloc, &texts.signatures)?;
+    Ok(Whole {
+        links,
+        texts,
+        signatures,
+    })
+}
+
+// The modules of texts, the accumulated ones first, the root last.
+fn modules_in(alloc: Global, whole: &Whole) -> Result<Vec<Module>, BuildFault>
+    ensures refused { IfErr result IsOfTexts }
+    ensures meanings { (files : List File) → IsWhole files whole.now → IfOk result (λ modules. AreModulesOf files whole.now.texts.signatures whole.now.texts.modules modules.items) }
+{
+    modules_of(alloc, &whole.links, &whole.signatures, &whole.texts.modules)
+}
+
+// The own signature of the first module.
+fn root_signature(whole: &Whole) -> Option<&Signature>
+    ensures { (files : List File) → IsWhole files whole.now → IfSome result (λ own. IsRootSignature files whole.now own.now) }
+{
+    let Some(root) = found_at(&whole.texts.modules.names, 0) else {
+        return None;
+    };
+    own_of(&whole.links, &whole.signatures, root.as_str())
+}
+
+// A program with what its queries see of the root's own signature.
+fn seen_of(alloc: Global, own: &Signature, assembled: Assembled) -> Result<Built, Memory>
+    ensures { IfOk result (IsSeenOf own.now assembled) }
+{
+    let kinds = assembled.kinds.as_slice();
+    let constants = assembled.constants.as_slice();
+    let signature = query_signature(alloc, own, kinds, constants)?;
+    let table = query_table(alloc, &signature)?;
+    Ok(Built {
+        assembled,
+        signature,
+        table,
+    })
+}
+
+// The number of the last module. There are no more modules than files.
+fn root_of(modules: &Vec<Module>) -> Option<u32>
+    ensures { IfSome result (λ root. root + 1 ≡ length modules.now.items) }
+{
+    let count = modules.len();
+    if count == 0 || count > MAX_MODULES {
+        return None;
+    }
+    Some((count - 1) as u32)
+}
+
+// The program of modules, the root last.
+fn program_of(alloc: Global, modules: &Vec<Module>, own: &Signature) -> Result<Built, BuildFault>
+    ensures refused { IfErr result IsOfTexts }
+    ensures program { IfOk result (IsProgramOf modules.now.items own.now) }
+{
+    let Some(root) = root_of(modules) else {
+        return Err(BuildFault::Memory);
+    };
+    let list = modules.as_slice();
+    let assembled = assemble(alloc, list, root)?;
+    match seen_of(alloc, own, assembled) {
+        Ok(built) => Ok(built),
+        Err(Memory) => Err(BuildFault::Memory),
+    }
+}
+
 /// The program of the files: syntax, signatures, modules, and the program of all. The files are those that `gather` gave with `all`.
 ///
 /// # Errors
@@ -37,28 +122,14 @@ pub struct Built {
 /// accumulate, then the first fault of a module, accumulated ones first; then the limits of the program.
 pub fn build_program(alloc: Global, sources: &Sources) -> Result<Built, BuildFault>
     ensures refused { IfErr result IsOfTexts }
+    ensures program { AreRead sources.now → IfOk result (IsBuilt sources.now) }
 {
-    let links = Links::of(alloc, sources)?;
-    let texts = texts_of(alloc, sources, &links)?;
-    let signatures = Signatures::of(alloc, &texts.signatures)?;
-    let modules = modules_of(alloc, &links, &signatures, &texts.modules)?;
-    let Some(root) = texts.modules.names.first() else {
+    let whole = whole_of(alloc, sources)?;
+    let modules = modules_in(alloc, &whole)?;
+    let Some(own) = root_signature(&whole) else {
         return Err(BuildFault::Memory);
     };
-    let Some(own) = own_of(&links, &signatures, root.as_str()) else {
-        return Err(BuildFault::Memory);
-    };
-    let Some(last) = modules.len().checked_sub(1) else {
-        return Err(BuildFault::Memory);
-    };
-    let assembled = assemble(alloc, &modules, as_number(last))?;
-    let signature = query_signature(alloc, own, &assembled.kinds, &assembled.constants)?;
-    let table = query_table(alloc, &signature)?;
-    Ok(Built {
-        assembled,
-        signature,
-        table,
-    })
+    program_of(alloc, &modules, own)
 }
 
 // The place in a group at which the text of a file stands.
@@ -71,6 +142,17 @@ fn place_of(group: &Group<ModuleText>, module: u32) -> Option<usize> {
         place = place.saturating_add(1);
     }
     None
+}
+
+// What the module means whose text is a file of this number.
+fn module_in(alloc: Global, whole: &Whole, number: u32) -> Result<Module, BuildFault>
+    ensures { IfErr result IsOfTexts }
+{
+    let group = &whole.texts.modules;
+    let Some(place) = place_of(group, number) else {
+        return Err(BuildFault::Memory);
+    };
+    module_at(alloc, &whole.links, &whole.signatures, group, place)
 }
 
 // The object of a module, within its limits.
@@ -94,14 +176,8 @@ fn object_of(alloc: Global, module: &mut Module) -> Result<Object, BuildFault>
 pub fn build_object(alloc: Global, sources: &Sources, module: u32) -> Result<Object, BuildFault>
     ensures refused { IfErr result IsOfTexts }
 {
-    let links = Links::of(alloc, sources)?;
-    let texts = texts_of(alloc, sources, &links)?;
-    let signatures = Signatures::of(alloc, &texts.signatures)?;
-    let group = &texts.modules;
-    let Some(place) = place_of(group, module) else {
-        return Err(BuildFault::Memory);
-    };
-    let mut module = module_at(alloc, &links, &signatures, group, place)?;
+    let whole = whole_of(alloc, sources)?;
+    let mut module = module_in(alloc, &whole, module)?;
     object_of(alloc, &mut module)
 }
 
@@ -204,10 +280,8 @@ pub fn modules(alloc: Global, sources: &Sources) -> Result<Vec<Module>, BuildFau
     ensures refused { IfErr result IsOfTexts }
     ensures meanings { AreRead sources.now → IfOk result (λ modules. AreModules sources.now modules.items) }
 {
-    let links = Links::of(alloc, sources)?;
-    let texts = texts_of(alloc, sources, &links)?;
-    let signatures = Signatures::of(alloc, &texts.signatures)?;
-    modules_of(alloc, &links, &signatures, &texts.modules)
+    let whole = whole_of(alloc, sources)?;
+    modules_in(alloc, &whole)
 }
 
 /// The image of the files, which are those that `gather` gave with `all`. The root is the last module.

@@ -15,7 +15,7 @@ use std::alloc::Global;
 
 // The numbers of the signatures, by the names of their modules; of two of one name that of the first.
 #[derive(Drop)]
-struct Numbers {
+pub(crate) struct Numbers {
     alloc: Global,
     numbers: IndexMap<Vec<u8>, usize>,
 }
@@ -30,7 +30,7 @@ pub(crate) struct Links {
 }
 
 impl Numbers {
-    fn new(alloc: Global) -> Numbers
+    pub(crate) fn new(alloc: Global) -> Numbers
         ensures { HasSignatures result [] }
     {
         Numbers {
@@ -40,14 +40,14 @@ impl Numbers {
     }
 
     // The number of a name.
-    fn number(&self, name: &[u8]) -> Option<usize>
+    pub(crate) fn number(&self, name: &[u8]) -> Option<usize>
         ensures { result ≡ number_of self.now name.now }
     {
         self.numbers.get(name).copied()
     }
 
     // One more name; a name that is there keeps its number.
-    fn add_name(&mut self, name: &[u8], number: usize) -> Result<(), Memory>
+    pub(crate) fn add_name(&mut self, name: &[u8], number: usize) -> Result<(), Memory>
         ensures { OnOk result ((other : List ℕ) → number_of self.new other ≡ option_or (number_of self.old other) (if bytes_eq other name.now then Some number else None)) }
     {
         if self.number(name).is_some() {

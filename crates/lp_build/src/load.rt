@@ -1,6 +1,7 @@
 // The loading of files.
 ghost use Rattle.std.specs.Prelude.{◌++◌, codes, IfOk, IfErr, length};
-ghost use Rattle.lp_build.specs.Loads.{Outside, fault_beside, IsOfLoading, BeginsWith, names_of};
+ghost use Rattle.lp_build.specs.Loads.{Outside, fault_beside, IsOfLoading, BeginsWith, modules_among, names_of};
+ghost use Rattle.lp_build.specs.Reads.{AreRead};
 ghost use Rattle.lp_build.specs.Told.{AreKnown, AreLoaded, IsFaultIn};
 
 use crate::fault::BuildFault;
@@ -18,6 +19,8 @@ pub fn gather<F: Folder>(
     all: bool,
 ) -> Result<Sources, (Sources, BuildFault)>
     ensures begins { IfOk result (λ sources. BeginsWith (root.now ++ codes ".sig") (names_of sources.files.items)) }
+    ensures first { IfOk result (λ sources. BeginsWith root.now (modules_among sources.files.items)) }
+    ensures read { IfOk result AreRead }
     ensures refused { IfErr result (λ r. IsOfLoading (length r.0.files.items) r.1) }
     ensures outside { Outside F.read_faults F.misses F.overs F.write_faults F.held folder.old folder.new (fault_beside result) }
     ensures files { IfOk result (AreLoaded (F.held folder.old)) }
@@ -35,6 +38,8 @@ pub fn gather_with<F: Folder>(
     known: Vec<(String, Vec<u8>)>,
 ) -> Result<Sources, (Sources, BuildFault)>
     ensures begins { IfOk result (λ sources. BeginsWith (root.now ++ codes ".sig") (names_of sources.files.items)) }
+    ensures first { IfOk result (λ sources. BeginsWith root.now (modules_among sources.files.items)) }
+    ensures read { IfOk result AreRead }
     ensures refused { IfErr result (λ r. IsOfLoading (length r.0.files.items) r.1) }
     ensures outside { Outside F.read_faults F.misses F.overs F.write_faults F.held folder.old folder.new (fault_beside result) }
     ensures files { AreKnown (F.held folder.old) known.items → IfOk result (AreLoaded (F.held folder.old)) }

@@ -1,35 +1,92 @@
 // The objects of modules.
-ghost use Rattle.std.specs.Prelude.{IfErr};
+ghost use Rattle.std.specs.Prelude.{◌≡◌, length, map, IfErr, IfOk, OnOk, None, if◌then◌else◌};
+ghost use Rattle.lp_term.specs.Memo.{AreMade};
+ghost use Rattle.lp_term.specs.Nodes.{Extends, Nodes};
+ghost use Rattle.lp_term.specs.Same.{same_map};
+ghost use Rattle.lp_sig.specs.Rows.{fixity_row, found};
+ghost use Rattle.lp_build.specs.Compiled.{AreExported, ArePaired, HasNamesOf, IsObjectConstant, IsObjectKind};
 ghost use Rattle.lp_build.specs.Faults.{IsOfTexts};
 
 use crate::counts::check_clauses;
 use crate::fault::BuildFault;
 use lp_base::{END_OF_NUMBERS, Limit, Memory};
 use lp_code::{Code, Object, ObjectConstant, ObjectKind};
+use lp_fixity::Fixity;
 use lp_gen::generate;
 use lp_model::{Clause, Declared};
 use lp_module::Module;
 use lp_normal::normalise;
-use lp_sig::Signature;
+use lp_sig::{ConstantEntry, KindEntry, Signature};
 use lp_standard::{FIRST_CONSTANT, FIRST_KIND};
 use lp_term::{Bank, Changed, Same};
 use std::alloc::Global;
+
+// A kind of an object.
+fn object_kind(alloc: Global, entry: &KindEntry, exported: bool) -> Result<ObjectKind, Memory>
+    ensures kind { IfOk result (IsObjectKind entry.now) }
+    ensures exported { IfOk result (λ kind. kind.exported ≡ exported) }
+{
+    let name = Vec::from_slice(alloc, entry.name.as_slice())?;
+    Ok(ObjectKind {
+        exported,
+        name,
+        arity: entry.arity,
+    })
+}
 
 // The kinds of a module, of which the first ones are exported.
 fn kinds_of(
     alloc: Global,
     signature: &Signature,
     exported: usize,
-) -> Result<Vec<ObjectKind>, Memory> {
+) -> Result<Vec<ObjectKind>, Memory>
+    ensures kinds { IfOk result (λ kinds. ArePaired IsObjectKind signature.now.kinds.items (length signature.now.kinds.items) kinds.items) }
+    ensures exported { IfOk result (λ kinds. AreExported (λ k. k.exported) exported kinds.items) }
+{
+    let entries = signature.kinds();
     let mut kinds = Vec::new(alloc);
-    for entry in signature.kinds() {
-        kinds.push(ObjectKind {
-            exported: kinds.len() < exported,
-            name: Vec::from_slice(alloc, entry.name.as_slice())?,
-            arity: entry.arity,
-        })?;
+    for at in 0..entries.len() {
+        let kind = object_kind(alloc, &entries[at], at < exported)?;
+        kinds.push(kind)?;
     }
     Ok(kinds)
+}
+
+// The fixity of an exported constant.
+fn fixity_of(signature: &Signature, name: &[u8], exported: bool) -> Option<(Fixity, u8)>
+    ensures { result ≡ (if exported then found name.now (map fixity_row signature.now.fixities.items) else None) }
+{
+    if exported {
+        signature.fixity(name)
+    } else {
+        None
+    }
+}
+
+// A constant of an object; its type comes to stand in the bank.
+fn object_constant(
+    alloc: Global,
+    signature: &Signature,
+    entry: &ConstantEntry,
+    exported: bool,
+    changed: &mut Changed,
+    bank: &mut Bank,
+) -> Result<ObjectConstant, Memory>
+    ensures kept { Extends bank.old bank.new }
+    ensures constant { AreMade same_map signature.now.bank bank.old changed.old → IfOk result (λ constant. (later : Nodes) → Extends bank.new later → IsObjectConstant signature.now later entry.now constant) }
+    ensures exported { IfOk result (λ constant. constant.exported ≡ exported) }
+    ensures memo { AreMade same_map signature.now.bank bank.old changed.old → OnOk result (AreMade same_map signature.now.bank bank.new changed.new) }
+{
+    let name = Vec::from_slice(alloc, entry.name.as_slice())?;
+    let fixity = fixity_of(signature, entry.name.as_slice(), exported);
+    let scheme = changed.copy_type(alloc, &Same, signature.bank(), entry.scheme, bank)?;
+    Ok(ObjectConstant {
+        exported,
+        name,
+        type_vars: entry.type_vars,
+        scheme,
+        fixity,
+    })
 }
 
 // The constants of a module, of which the first ones are exported; their types come to stand in the bank.
@@ -38,23 +95,24 @@ fn constants_of(
     signature: &Signature,
     exported: usize,
     bank: &mut Bank,
-) -> Result<Vec<ObjectConstant>, Memory> {
+) -> Result<Vec<ObjectConstant>, Memory>
+    ensures constants { IfOk result (λ constants. ArePaired (IsObjectConstant signature.now bank.new) signature.now.constants.items (length signature.now.constants.items) constants.items) }
+    ensures exported { IfOk result (λ constants. AreExported (λ c. c.exported) exported constants.items) }
+{
+    let entries = signature.constants();
     let mut changed = Changed::new(alloc);
     let mut constants = Vec::new(alloc);
-    for entry in signature.constants() {
-        let exported = constants.len() < exported;
-        let scheme = changed.copy_type(alloc, &Same, signature.bank(), entry.scheme, bank)?;
-        constants.push(ObjectConstant {
-            exported,
-            name: Vec::from_slice(alloc, entry.name.as_slice())?,
-            type_vars: entry.type_vars,
-            scheme,
-            fixity: if exported {
-                signature.fixity(entry.name.as_slice())
-            } else {
-                None
-            },
-        })?;
+    for at in 0..entries.len() {
+        let is_exported = at < exported;
+        let constant = object_constant(
+            alloc,
+            signature,
+            &entries[at],
+            is_exported,
+            &mut changed,
+            bank,
+        )?;
+        constants.push(constant)?;
     }
     Ok(constants)
 }
@@ -112,8 +170,22 @@ pub(crate) fn code_of(alloc: Global, module: &mut Module) -> Result<Code, BuildF
     Ok(generate(alloc, &module.bank, declared.as_slice(), clauses.as_slice())?)
 }
 
+// Copies of names.
+fn copies_of(alloc: Global, names: &[Vec<u8>]) -> Result<Vec<Vec<u8>>, Memory>
+    ensures { IfOk result (λ copies. map (λ u. u.items) copies.items ≡ map (λ u. u.items) names.now) }
+{
+    let mut copies = Vec::new(alloc);
+    for name in names {
+        let copy = Vec::from_slice(alloc, name.as_slice())?;
+        copies.push(copy)?;
+    }
+    Ok(copies)
+}
+
 // The object of a module without its code.
-pub(crate) fn names_of(alloc: Global, module: &Module) -> Result<Object, Memory> {
+pub(crate) fn names_of(alloc: Global, module: &Module) -> Result<Object, Memory>
+    ensures { IfOk result (HasNamesOf «module».now) }
+{
     let signature = &module.signature;
     let exported_kinds = signature
         .kinds()
@@ -126,12 +198,10 @@ pub(crate) fn names_of(alloc: Global, module: &Module) -> Result<Object, Memory>
     let mut bank = Bank::new(alloc);
     let kinds = kinds_of(alloc, signature, exported_kinds)?;
     let constants = constants_of(alloc, signature, exported, &mut bank)?;
-    let mut uses = Vec::new(alloc);
-    for name in module.uses.iter() {
-        uses.push(Vec::from_slice(alloc, name.as_slice())?)?;
-    }
+    let uses = copies_of(alloc, module.uses.as_slice())?;
+    let name = Vec::from_slice(alloc, module.name.as_slice())?;
     Ok(Object {
-        name: Vec::from_slice(alloc, module.name.as_slice())?,
+        name,
         bank,
         kinds,
         constants,

@@ -2,7 +2,8 @@
 ghost use Rattle.std.specs.Prelude.{◌≡◌, ◌++◌, ◌+◌, ◌∷◌, [], ◌<◌, codes, IfOk, OnOk, IfErr, length, string_bytes};
 ghost use Rattle.std.specs.Prelude.{IfSome, Option, None, true};
 ghost use Rattle.lp_base.specs.Held.{Held};
-ghost use Rattle.lp_build.specs.Loads.{Outside, fault_of, IsOfText, IsOfRead, IsOfLoading, names_of, ending};
+ghost use Rattle.lp_build.specs.Loads.{Outside, fault_of, IsOfText, IsOfRead, IsOfLoading, names_of, modules_among, of_module, ending};
+ghost use Rattle.lp_build.specs.Reads.{AreRead, IsReadText};
 ghost use Rattle.lp_build.specs.Told.{IsTold, AreKnown, IsFaultOf, IsFaultAt, HoldsTold};
 
 use crate::fault::BuildFault;
@@ -56,14 +57,17 @@ fn read_bytes<F: Folder>(
 fn text_of(alloc: Global, bytes: Vec<u8>, number: u32) -> Result<Text, BuildFault>
     ensures refused { IfErr result (IsOfText number) }
     ensures same { IfOk result (λ text. text.bytes.items ≡ bytes.items) }
+    ensures read { IfOk result (IsReadText number) }
     ensures fault { IfErr result (IsFaultOf bytes.items) }
 {
-    let tokens = match tokens(alloc, &bytes) {
+    let text = bytes.as_slice();
+    let tokens = match tokens(alloc, text) {
         Ok(tokens) => tokens,
         Err(LexFault::Memory) => return Err(BuildFault::Memory),
         Err(fault) => return Err(BuildFault::Lex(number, fault)),
     };
-    let references = references(alloc, &bytes, &tokens, number)?;
+    let found = tokens.as_slice();
+    let references = references(alloc, text, found, number)?;
     Ok(Text {
         bytes,
         tokens,
@@ -82,6 +86,7 @@ fn read_text<F: Folder>(
     ensures outside { Outside F.read_faults F.misses F.overs F.write_faults F.held folder.old folder.new (fault_of result) }
     ensures refused { IfErr result (IsOfLoading number) }
     ensures known { (told : Option Held) → AreKnown told known.old.items → AreKnown told known.new.items }
+    ensures read { IfOk result (IsReadText number) }
     ensures told { AreKnown (F.held folder.old) known.old.items → IfOk result (λ text. IsTold (F.held folder.old) name.now text.bytes.items) }
     ensures fault { AreKnown (F.held folder.old) known.old.items → IfErr result (IsFaultAt (F.held folder.old) name.now) }
 {
@@ -115,7 +120,9 @@ pub(crate) fn load_file<F: Folder>(
 ) -> Result<usize, BuildFault>
     ensures outside { Outside F.read_faults F.misses F.overs F.write_faults F.held folder.old folder.new (fault_of result) }
     ensures refused { IfErr result (IsOfLoading (length sources.new.files.items)) }
+    ensures read { OnOk result (AreRead sources.old → AreRead sources.new) }
     ensures names { OnOk result (names_of sources.new.files.items ≡ names_of sources.old.files.items ++ (stem.now ++ ending part) ∷ []) }
+    ensures modules { OnOk result (modules_among sources.new.files.items ≡ modules_among sources.old.files.items ++ of_module part stem.now) }
     ensures told { HoldsTold (F.held folder.old) known.old.items sources.old None → HoldsTold (F.held folder.old) known.new.items sources.new (fault_of result) }
 {
     let at = sources.files.len();

@@ -1,8 +1,12 @@
 // The order in which files are loaded.
-ghost use Rattle.std.specs.Prelude.{◌≡◌, ◌++◌, ◌∷◌, [], ◌<◌, ◌^◌, codes, IfOk, OnOk, IfErr, length};
-ghost use Rattle.std.specs.Prelude.{None};
-ghost use Rattle.lp_build.specs.Loads.{Outside, fault_of, IsOfLoading, IsOfWord, names_of, BeginsWith, Keeps, ending};
+ghost use Rattle.std.specs.Prelude.{◌≡◌, ◌++◌, ◌∷◌, [], ◌<◌, ◌^◌, ℕ, List, codes, IfOk, OnOk, IfErr, length};
+ghost use Rattle.std.specs.Prelude.{None, String, string_bytes};
+ghost use Rattle.std.specs.Global.{Global};
+ghost use Rattle.lp_build.specs.Loads.{Outside, fault_of, IsOfLoading, IsOfWord, names_of, modules_among, of_module, BeginsWith, Keeps, ending};
+ghost use Rattle.lp_build.specs.Reads.{AreRead};
 ghost use Rattle.lp_build.specs.Told.{HoldsTold};
+ghost use Rattle.lp_build.specs.declared.walk.Work.TheVariants as work;
+ghost use Rattle.lp_build.specs.inner.Waiting.{Awaits};
 
 use crate::fault::BuildFault;
 use crate::read::load_file;
@@ -39,6 +43,7 @@ impl Loading {
     pub(crate) fn new(alloc: Global, all: bool, known: Vec<(String, Vec<u8>)>) -> Loading
         ensures files { result.sources.files.items ≡ [] }
         ensures known { result.known ≡ known }
+        ensures work { result.work.items ≡ [] }
     {
         Loading {
             alloc,
@@ -63,8 +68,11 @@ impl Loading {
     ) -> Result<usize, BuildFault>
         ensures outside { Outside F.read_faults F.misses F.overs F.write_faults F.held folder.old folder.new (fault_of result) }
         ensures refused { IfErr result (IsOfLoading (length self.new.sources.files.items)) }
+        ensures read { OnOk result (AreRead self.old.sources → AreRead self.new.sources) }
         ensures told { HoldsTold (F.held folder.old) self.old.known.items self.old.sources None → HoldsTold (F.held folder.old) self.new.known.items self.new.sources (fault_of result) }
         ensures names { OnOk result (names_of self.new.sources.files.items ≡ names_of self.old.sources.files.items ++ (name.now ++ ending part) ∷ []) }
+        ensures modules { OnOk result (modules_among self.new.sources.files.items ≡ modules_among self.old.sources.files.items ++ of_module part name.now) }
+        ensures work { self.new.work ≡ self.old.work }
     {
         load_file(
             self.alloc,
@@ -80,8 +88,11 @@ impl Loading {
     fn load_signature<F: Folder>(&mut self, folder: &mut F, name: &str) -> Result<(), BuildFault>
         ensures outside { Outside F.read_faults F.misses F.overs F.write_faults F.held folder.old folder.new (fault_of result) }
         ensures refused { IfErr result (IsOfLoading (length self.new.sources.files.items)) }
+        ensures read { OnOk result (AreRead self.old.sources → AreRead self.new.sources) }
         ensures told { HoldsTold (F.held folder.old) self.old.known.items self.old.sources None → HoldsTold (F.held folder.old) self.new.known.items self.new.sources (fault_of result) }
         ensures names { OnOk result (names_of self.new.sources.files.items ≡ names_of self.old.sources.files.items ++ (name.now ++ codes ".sig") ∷ []) }
+        ensures modules { OnOk result (modules_among self.new.sources.files.items ≡ modules_among self.old.sources.files.items) }
+        ensures awaits { (root : List ℕ) → OnOk result (Awaits root self.old.work.items (modules_among self.old.sources.files.items) → Awaits root self.new.work.items (modules_among self.new.sources.files.items)) }
     {
         let file = self.load(folder, name, Part::Signature)?;
         self.work.push(Work::Signatures(file, 0))?;
@@ -92,8 +103,10 @@ impl Loading {
     fn load_module<F: Folder>(&mut self, folder: &mut F, name: &str) -> Result<(), BuildFault>
         ensures outside { Outside F.read_faults F.misses F.overs F.write_faults F.held folder.old folder.new (fault_of result) }
         ensures refused { IfErr result (IsOfLoading (length self.new.sources.files.items)) }
+        ensures read { OnOk result (AreRead self.old.sources → AreRead self.new.sources) }
         ensures told { HoldsTold (F.held folder.old) self.old.known.items self.old.sources None → HoldsTold (F.held folder.old) self.new.known.items self.new.sources (fault_of result) }
         ensures keeps { OnOk result (Keeps (names_of self.old.sources.files.items) (names_of self.new.sources.files.items)) }
+        ensures modules { OnOk result (modules_among self.new.sources.files.items ≡ modules_among self.old.sources.files.items ++ name.now ∷ []) }
     {
         let file = self.load(folder, name, Part::Module)?;
         self.work.push(Work::Accumulated(file, 0))?;
@@ -105,6 +118,7 @@ impl Loading {
     fn is_new_signature(&mut self, name: &str) -> Result<bool, Memory>
         ensures sources { self.new.sources ≡ self.old.sources }
         ensures known { self.new.known ≡ self.old.known }
+        ensures work { self.new.work ≡ self.old.work }
     {
         let key = Vec::from_slice(self.alloc, name.as_bytes())?;
         Ok(self.signatures.insert(key)?)
@@ -114,6 +128,7 @@ impl Loading {
     fn is_new_module(&mut self, name: &str) -> Result<bool, Memory>
         ensures sources { self.new.sources ≡ self.old.sources }
         ensures known { self.new.known ≡ self.old.known }
+        ensures work { self.new.work ≡ self.old.work }
     {
         let key = Vec::from_slice(self.alloc, name.as_bytes())?;
         Ok(self.modules.insert(key)?)
@@ -123,6 +138,7 @@ impl Loading {
     fn await_module(&mut self, name: &str) -> Result<(), Memory>
         ensures sources { self.new.sources ≡ self.old.sources }
         ensures known { self.new.known ≡ self.old.known }
+        ensures work { OnOk result ((m : String Global) × (string_bytes m ≡ name.now) × (self.new.work.items ≡ self.old.work.items ++ work.Module m ∷ [])) }
     {
         let module = String::from_str(self.alloc, name)?;
         self.work.push(Work::Module(module))?;
@@ -133,8 +149,11 @@ impl Loading {
     fn want_signature<F: Folder>(&mut self, folder: &mut F, name: &str) -> Result<(), BuildFault>
         ensures outside { Outside F.read_faults F.misses F.overs F.write_faults F.held folder.old folder.new (fault_of result) }
         ensures refused { IfErr result (IsOfLoading (length self.new.sources.files.items)) }
+        ensures read { OnOk result (AreRead self.old.sources → AreRead self.new.sources) }
         ensures told { HoldsTold (F.held folder.old) self.old.known.items self.old.sources None → HoldsTold (F.held folder.old) self.new.known.items self.new.sources (fault_of result) }
         ensures keeps { OnOk result (Keeps (names_of self.old.sources.files.items) (names_of self.new.sources.files.items)) }
+        ensures modules { OnOk result (modules_among self.new.sources.files.items ≡ modules_among self.old.sources.files.items) }
+        ensures awaits { (root : List ℕ) → OnOk result (Awaits root self.old.work.items (modules_among self.old.sources.files.items) → Awaits root self.new.work.items (modules_among self.new.sources.files.items)) }
     {
         if !self.is_new_signature(name)? {
             return Ok(());
@@ -146,8 +165,10 @@ impl Loading {
     fn want_module<F: Folder>(&mut self, folder: &mut F, name: &str) -> Result<(), BuildFault>
         ensures outside { Outside F.read_faults F.misses F.overs F.write_faults F.held folder.old folder.new (fault_of result) }
         ensures refused { IfErr result (IsOfLoading (length self.new.sources.files.items)) }
+        ensures read { OnOk result (AreRead self.old.sources → AreRead self.new.sources) }
         ensures told { HoldsTold (F.held folder.old) self.old.known.items self.old.sources None → HoldsTold (F.held folder.old) self.new.known.items self.new.sources (fault_of result) }
         ensures keeps { OnOk result (Keeps (names_of self.old.sources.files.items) (names_of self.new.sources.files.items)) }
+        ensures modules { OnOk result (modules_among self.new.sources.files.items ≡ modules_among self.old.sources.files.items) }
     {
         if !self.is_new_module(name)? {
             return Ok(());
@@ -165,8 +186,11 @@ impl Loading {
     ) -> Result<(), BuildFault>
         ensures outside { Outside F.read_faults F.misses F.overs F.write_faults F.held folder.old folder.new (fault_of result) }
         ensures refused { IfErr result (IsOfLoading (length self.new.sources.files.items)) }
+        ensures read { OnOk result (AreRead self.old.sources → AreRead self.new.sources) }
         ensures told { HoldsTold (F.held folder.old) self.old.known.items self.old.sources None → HoldsTold (F.held folder.old) self.new.known.items self.new.sources (fault_of result) }
         ensures keeps { OnOk result (Keeps (names_of self.old.sources.files.items) (names_of self.new.sources.files.items)) }
+        ensures modules { OnOk result (modules_among self.new.sources.files.items ≡ modules_among self.old.sources.files.items) }
+        ensures awaits { (root : List ℕ) → OnOk result (Awaits root self.old.work.items (modules_among self.old.sources.files.items) → Awaits root self.new.work.items (modules_among self.new.sources.files.items)) }
     {
         let Some(name) = self.named(file, at)? else {
             return Ok(());
@@ -185,8 +209,10 @@ impl Loading {
     ) -> Result<(), BuildFault>
         ensures outside { Outside F.read_faults F.misses F.overs F.write_faults F.held folder.old folder.new (fault_of result) }
         ensures refused { IfErr result (IsOfLoading (length self.new.sources.files.items)) }
+        ensures read { OnOk result (AreRead self.old.sources → AreRead self.new.sources) }
         ensures told { HoldsTold (F.held folder.old) self.old.known.items self.old.sources None → HoldsTold (F.held folder.old) self.new.known.items self.new.sources (fault_of result) }
         ensures keeps { OnOk result (Keeps (names_of self.old.sources.files.items) (names_of self.new.sources.files.items)) }
+        ensures modules { OnOk result (modules_among self.new.sources.files.items ≡ modules_among self.old.sources.files.items) }
     {
         let Some(name) = self.accumulated(file, at)? else {
             return Ok(());
@@ -203,8 +229,10 @@ impl Loading {
     fn step<F: Folder>(&mut self, folder: &mut F, work: Work) -> Result<(), BuildFault>
         ensures outside { Outside F.read_faults F.misses F.overs F.write_faults F.held folder.old folder.new (fault_of result) }
         ensures refused { IfErr result (IsOfLoading (length self.new.sources.files.items)) }
+        ensures read { OnOk result (AreRead self.old.sources → AreRead self.new.sources) }
         ensures told { HoldsTold (F.held folder.old) self.old.known.items self.old.sources None → HoldsTold (F.held folder.old) self.new.known.items self.new.sources (fault_of result) }
         ensures keeps { OnOk result (Keeps (names_of self.old.sources.files.items) (names_of self.new.sources.files.items)) }
+        ensures awaits { (root : List ℕ) → OnOk result (Awaits root (self.old.work.items ++ work ∷ []) (modules_among self.old.sources.files.items) → Awaits root self.new.work.items (modules_among self.new.sources.files.items)) }
     {
         match work {
             Work::Signatures(file, at) => self.next_signature(folder, file, at),
@@ -217,8 +245,10 @@ impl Loading {
     fn begin<F: Folder>(&mut self, folder: &mut F, root: &str) -> Result<(), BuildFault>
         ensures outside { Outside F.read_faults F.misses F.overs F.write_faults F.held folder.old folder.new (fault_of result) }
         ensures refused { IfErr result (IsOfLoading (length self.new.sources.files.items)) }
+        ensures read { OnOk result (AreRead self.old.sources → AreRead self.new.sources) }
         ensures told { HoldsTold (F.held folder.old) self.old.known.items self.old.sources None → HoldsTold (F.held folder.old) self.new.known.items self.new.sources (fault_of result) }
         ensures names { OnOk result (names_of self.new.sources.files.items ≡ names_of self.old.sources.files.items ++ (root.now ++ codes ".sig") ∷ []) }
+        ensures awaits { self.old.sources.files.items ≡ [] → self.old.work.items ≡ [] → OnOk result (Awaits root.now self.new.work.items (modules_among self.new.sources.files.items)) }
     {
         self.is_new_module(root)?;
         self.is_new_signature(root)?;
@@ -231,8 +261,10 @@ impl Loading {
         requires { self.old.sources.files.items ≡ [] }
         ensures outside { Outside F.read_faults F.misses F.overs F.write_faults F.held folder.old folder.new (fault_of result) }
         ensures refused { IfErr result (IsOfLoading (length self.new.sources.files.items)) }
+        ensures read { OnOk result (AreRead self.old.sources → AreRead self.new.sources) }
         ensures told { HoldsTold (F.held folder.old) self.old.known.items self.old.sources None → HoldsTold (F.held folder.old) self.new.known.items self.new.sources (fault_of result) }
         ensures begins { OnOk result (BeginsWith (root.now ++ codes ".sig") (names_of self.new.sources.files.items)) }
+        ensures first { self.old.work.items ≡ [] → OnOk result (BeginsWith root.now (modules_among self.new.sources.files.items)) }
     {
         self.begin(folder, root)?;
         for _ in 0..u64::MAX {

@@ -21,5 +21,6 @@ returns-clause-meaning c = λ files g links declared. record {
   meaning =
       subst (λ x. IsMeaning x c.in-Some-found_at-2.text.now (string_bytes c.in-Some.name.now) c.in-Some-own_of.own.now c.in_ok-used.used.items c.in_ok-module.module) c.as_slice-bytes.ensures.value
       (subst (λ x. IsMeaning c.as_slice-bytes.result.now c.in-Some-found_at-2.text.now x c.in-Some-own_of.own.now c.in_ok-used.used.items c.in_ok-module.module) c.as_str-2.ensures.value
-      (subst (λ x. IsMeaning c.as_slice-bytes.result.now c.in-Some-found_at-2.text.now c.as_str-2.result.now c.in-Some-own_of.own.now x c.in_ok-module.module) c.as_slice-seen.ensures.value c.in_ok-module.ensures.meaning));
+      (subst (λ x. IsMeaning c.as_slice-bytes.result.now c.in-Some-found_at-2.text.now c.as_str-2.result.now c.in-Some-own_of.own.now x
+      c.in_ok-module.module) c.as_slice-seen.ensures.value c.in_ok-module.ensures.meaning));
 }

@@ -10,7 +10,8 @@ returns-then-is_named-clause-known g told =
     λ h.
     let same = ap length g.loop-at.invariant in
     let there : g.loop-at.at < length g.loop-at.known.items = omega (arith, g.loop-at-test.true, g.loop-at.auto.at-end, g.len-at-end.ensures, g.args.known.now.ok, same) in
-    subst (λ l. AreKnown told l) (sym g.swap_remove.ensures.items) (all_but_one (λ x. IsTold told (string_bytes x.0) x.1.items) g.loop-at.known.items g.loop-at.at g.swap_remove.result there (subst (λ l. AreKnown told l) (sym g.loop-at.invariant) h))
+    subst (λ l. AreKnown told l) (sym g.swap_remove.ensures.items) (all_but_one (λ x. IsTold told (string_bytes x.0) x.1.items) g.loop-at.known.items
+    g.loop-at.at g.swap_remove.result there (subst (λ l. AreKnown told l) (sym g.loop-at.invariant) h))
 
 pub returns-then-is_named-clause-taken : goal.returns-then-is_named-clause-taken
 returns-then-is_named-clause-taken g told =

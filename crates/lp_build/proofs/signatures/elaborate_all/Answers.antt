@@ -12,7 +12,9 @@ loop-root-preserved c = λ few none.
     let noted = c.in_ok-note.ensures.noted none in
     let lt : c.loop-root.root < 2 ^ 32 = omega (arith, few, c.loop-root-test.true, c.len-root-end.ensures, c.args.group.now.texts.ok) in
     made_more c.args.group.now c.loop-root.made.items c.note.new.made.items c.loop-root.root noted.1.0 (c.loop-root.invariant few noted.0) noted.1.2
-    (declared_at c.args.group.now c.loop-root.root c.as_number.result noted.1.0 c.as_slice-names.result.now c.as_slice-sources.result.now c.as_slice-texts.result.now (c.as_number.ensures.same lt) c.as_slice-names.ensures.value c.as_slice-sources.ensures.value c.as_slice-texts.ensures.value
+    (declared_at c.args.group.now c.loop-root.root c.as_number.result noted.1.0 c.as_slice-names.result.now c.as_slice-sources.result.now
+    c.as_slice-texts.result.now (c.as_number.ensures.same lt) c.as_slice-names.ensures.value c.as_slice-sources.ensures.value
+    c.as_slice-texts.ensures.value
     (ok_at c.elaborate-answer.result _ noted.1.0 noted.1.1 c.elaborate-answer.ensures.accepted))
 
 pub returns-in-None-clause-made : goal.returns-in-None-clause-made

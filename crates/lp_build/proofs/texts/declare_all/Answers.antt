@@ -14,9 +14,12 @@ pub loop-at-preserved : goal.loop-at-preserved
 loop-at-preserved c =
     let lines = c.args.file.now.text.references.fixities.items in
     declare_more (take c.loop-at.at lines) (take (c.loop-at.at + 1) lines) c.index-line.result.now (entry_of c.loop-at.table) (entry_of c.declare_one.new.table) c.loop-at.invariant
-    (subst (λ s. DeclaresOne (spelled s c.index-line.result.now.name) (c.index-line.result.now.fixity, c.index-line.result.now.number) (entry_of c.loop-at.table) (entry_of c.declare_one.new.table)) c.as_slice.ensures.value c.in_ok-declare_one.ensures.declared)
+    (subst (λ s. DeclaresOne (spelled s c.index-line.result.now.name) (c.index-line.result.now.fixity, c.index-line.result.now.number)
+    (entry_of c.loop-at.table) (entry_of c.declare_one.new.table)) c.as_slice.ensures.value c.in_ok-declare_one.ensures.declared)
     (sym (first_ones lines c.loop-at.at c.index-line.result.now (omega (arith, c.loop-at-test.true, c.len-at-end.ensures, c.args.file.now.text.references.fixities.ok)) c.index-line.ensures))
 
 pub returns-clause-declared : goal.returns-clause-declared
 returns-clause-declared c =
-    subst (λ l. DeclareAll c.args.file.now.text.bytes.items (entry_of c.args.table.now) l (entry_of c.loop-at.table)) (take_all c.loop-at.at c.args.file.now.text.references.fixities.items (omega (arith, c.loop-at-test.false, c.len-at-end.ensures, c.args.file.now.text.references.fixities.ok))) c.loop-at.invariant
+    subst (λ l. DeclareAll c.args.file.now.text.bytes.items (entry_of c.args.table.now) l (entry_of c.loop-at.table))
+    (take_all c.loop-at.at c.args.file.now.text.references.fixities.items (omega
+    (arith, c.loop-at-test.false, c.len-at-end.ensures, c.args.file.now.text.references.fixities.ok))) c.loop-at.invariant

@@ -9,7 +9,8 @@ pub loop-other-init : goal.loop-other-init
 loop-other-init c = λ h. standard_ones (entry_of c.args.table.now) h
 
 pub loop-other-preserved-then-not-contains : goal.loop-other-preserved-then-not-contains
-loop-other-preserved-then-not-contains c = λ h. other_file c.loop-other.other (c.loop-other.other + 1) (entry_of c.loop-other.table) (c.loop-other.invariant h) (there_found c.args.seen.now.keys c.loop-other.other (sym c.contains.ensures ∙ c.if-not-contains.true)) refl
+loop-other-preserved-then-not-contains c = λ h. other_file c.loop-other.other (c.loop-other.other + 1) (entry_of c.loop-other.table)
+    (c.loop-other.invariant h) (there_found c.args.seen.now.keys c.loop-other.other (sym c.contains.ensures ∙ c.if-not-contains.true)) refl
 
 pub loop-other-preserved : goal.loop-other-preserved
 loop-other-preserved c = λ h.

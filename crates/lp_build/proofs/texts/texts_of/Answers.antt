@@ -1,5 +1,4 @@
 use Rattle.std.proofs.Common.{◌≡◌, ◌<◌, length, sym, subst, arith}
-use Rattle.lp_base.specs.declared.limits.TheConstants.{MAX_MODULES}
 use Rattle.lp_build.specs.inner.Linked.{AreTextsSoFar}
 use Rattle.lp_build.proofs.texts.texts_of.Goals as goal
 

@@ -10,5 +10,6 @@ use Rattle.lp_build.proofs.links.Numbers.named.Given as goal
 abbrev pub invariant-loop-at : goal.invariant-loop-at
 invariant-loop-at l = record {
   found : l.found.items ≡ l.seen.keys;
-  numbers : (files : List File) → HasSignatures l.self files → insert_all nat_eq l.seen.keys (filter_map (λ w. signature_of files (spelled l.source w)) (drop l.at l.words.items)) ≡ named_by files l.source l.words.items;
+  numbers : (files : List File) → HasSignatures l.self files → insert_all nat_eq l.seen.keys
+      (filter_map (λ w. signature_of files (spelled l.source w)) (drop l.at l.words.items)) ≡ named_by files l.source l.words.items;
 }

@@ -1,4 +1,8 @@
-use Rattle.std.proofs.Common.{sym}
+use Rattle.std.proofs.Common.{sym, subst, arith}
+use Rattle.std.proofs.lemmas.List.{nil_from_length}
+use Rattle.lp_build.specs.Loads.{modules_among}
+use Rattle.lp_build.specs.inner.Waiting.{Awaits}
+use Rattle.lp_build.proofs.Awaiting.{awaits_ended}
 use Rattle.lp_build.proofs.Counting.{outside_then}
 use Rattle.lp_build.proofs.Telling.{told_memory, told_passed, told_still}
 use Rattle.lp_build.proofs.walk.Loading.run.Goals as goal
@@ -6,7 +10,9 @@ use Rattle.lp_build.proofs.walk.Loading.run.Goals as goal
 pub loop-preserved : goal.loop-preserved
 loop-preserved g c = record {
   begins = c.in_ok-step-in-Some.ensures.keeps _ c.loop.invariant.begins;
+  awaits = λ h. c.in_ok-step-in-Some.ensures.awaits c.args.root.now (subst (λ w. Awaits c.args.root.now w (modules_among c.loop.self.sources.files.items)) c.in-Some.ensures.items (c.loop.invariant.awaits h));
   outside = outside_then _ _ _ _ _ _ _ _ _ c.loop.invariant.outside c.in_ok-step-in-Some.ensures.outside;
+  read = λ h. c.in_ok-step-in-Some.ensures.read (c.loop.invariant.read h);
   told = λ h. told_still _ _ _ _ _ c.loop.invariant.outside.same (c.in_ok-step-in-Some.ensures.told (told_still _ _ _ _ _ (sym c.loop.invariant.outside.same) (c.loop.invariant.told h)));
 }
 
@@ -20,3 +26,10 @@ returns-in-None-clause-told g c = c.loop.invariant.told
 
 pub returns-clause-told : goal.returns-clause-told
 returns-clause-told g c = λ h. told_memory _ _ _ (c.loop.invariant.told h)
+
+pub returns-in-None-clause-read : goal.returns-in-None-clause-read
+returns-in-None-clause-read g c = c.loop.invariant.read
+
+pub returns-in-None-clause-first : goal.returns-in-None-clause-first
+returns-in-None-clause-first g c = λ h. awaits_ended c.args.root.now c.loop.self.work.items _
+    (nil_from_length c.loop.self.work.items (omega (arith, c.in-None.ensures.cases.0, c.loop.self.work.ok))) (c.loop.invariant.awaits h)

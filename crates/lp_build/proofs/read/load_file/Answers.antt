@@ -1,0 +1,17 @@
+use Rattle.std.proofs.Common.{◌≡◌, ◌∙◌, ◌++◌, length, ap, sym, arith}
+use Rattle.lp_build.specs.Loads.{ending, modules_among, of_module}
+use Rattle.lp_build.proofs.Awaiting.{modules_more}
+use Rattle.lp_build.proofs.Reading.{one_read}
+use Rattle.lp_build.proofs.read.load_file.Goals as goal
+
+pub returns-in_ok-push-in-Ok-clause-read : goal.returns-in_ok-push-in-Ok-clause-read
+returns-in_ok-push-in-Ok-clause-read g c =
+    λ h.
+    let count : c.len-at.result ≡ length c.args.sources.now.files.items = omega (arith, c.len-at.ensures, c.args.sources.now.files.ok) in
+    one_read c.args.sources.now _ c.len-at.result _ count (omega (arith, c.if-at-ge-MAX_MODULES.false)) c.in_ok-push-in-Ok.ensures.items
+    (c.in_ok-name.ensures ∙ ap (λ b. b ++ ending c.args.part) (sym c.in_ok-module.ensures.ok)) c.in-Ok.ensures.read h
+
+pub returns-in_ok-push-in-Ok-clause-modules : goal.returns-in_ok-push-in-Ok-clause-modules
+returns-in_ok-push-in-Ok-clause-modules g c =
+    ap modules_among c.in_ok-push-in-Ok.ensures.items ∙ modules_more c.args.sources.now.files.items _
+    ∙ ap (λ n. modules_among c.args.sources.now.files.items ++ of_module c.args.part n) c.in_ok-module.ensures.ok

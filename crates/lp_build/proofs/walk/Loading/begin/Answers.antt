@@ -1,0 +1,14 @@
+use Rattle.std.proofs.Common.{◌∙◌, ◌++◌, ◌∷◌, [], ap}
+use Rattle.std.proofs.lemmas.Result.{on_ok_weaker}
+use Rattle.lp_build.specs.Loads.{modules_among}
+use Rattle.lp_build.specs.declared.walk.Work.TheVariants as work
+use Rattle.lp_build.proofs.Awaiting.{awaits_begun}
+use Rattle.lp_build.proofs.walk.Loading.begin.Goals as goal
+
+pub returns-clause-awaits : goal.returns-clause-awaits
+returns-clause-awaits g c = λ files empty. on_ok_weaker c.load_signature.result
+    (λ k. k (awaits_begun c.args.root.now _ _ c.in_ok-await_module.ensures.work.0 c.in_ok-await_module.ensures.work.1
+    (c.in_ok-await_module.ensures.work.2 ∙ ap (λ v. v.items ++ work.Module c.in_ok-await_module.ensures.work.0 ∷ []) (c.is_new_signature.ensures.work ∙ c.is_new_module.ensures.work)
+    ∙ ap (λ v. v ++ work.Module c.in_ok-await_module.ensures.work.0 ∷ []) empty)
+    (ap (λ s. modules_among s.files.items) (c.await_module.ensures.sources ∙ c.is_new_signature.ensures.sources ∙ c.is_new_module.ensures.sources) ∙ ap modules_among files)))
+    (c.load_signature.ensures.awaits c.args.root.now)

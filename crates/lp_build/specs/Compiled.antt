@@ -1,0 +1,41 @@
+-- The object of a module: its names.
+use Rattle.std.specs.Prelude.{◌≡◌, ℕ, ◌-◌, List, length, map, nat_lt, Bool, None, if◌then◌else◌}
+use Rattle.lp_code.specs.declared.object.Object.{Object}
+use Rattle.lp_code.specs.declared.object.ObjectConstant.{ObjectConstant}
+use Rattle.lp_code.specs.declared.object.ObjectKind.{ObjectKind}
+use Rattle.lp_term.specs.Nodes.{Nodes, type_tree}
+use Rattle.lp_sig.specs.Refusals.{IsAt}
+use Rattle.lp_sig.specs.Rows.{fixity_row, found}
+use Rattle.lp_sig.specs.declared.entries.ConstantEntry.{ConstantEntry}
+use Rattle.lp_sig.specs.declared.entries.KindEntry.{KindEntry}
+use Rattle.lp_sig.specs.declared.signature.Signature.{Signature}
+use Rattle.lp_module.specs.declared.module.Module.{Module}
+
+pub record IsObjectKind (e : KindEntry) (k : ObjectKind) : Type 0 where
+  pub name : k.name.items ≡ e.name.items
+  pub arity : k.arity ≡ e.arity
+
+-- a constant with its type, in another bank, and the fixity that the signature gives it, where it is exported
+pub record IsObjectConstant (s : Signature) (b : Nodes) (e : ConstantEntry) (c : ObjectConstant) : Type 0 where
+  pub name : c.name.items ≡ e.name.items
+  pub variables : c.type_vars ≡ e.type_vars
+  pub scheme : type_tree b c.scheme.0 ≡ type_tree s.bank e.scheme.0
+  pub fixity : c.fixity ≡ (if c.exported then found e.name.items (map fixity_row s.fixities.items) else None)
+
+-- as many elements, each so to the one at its place among the first of a list
+pub record ArePaired {A B : Type 0} (P : A → B → Type 0) (xs : List A) (count : ℕ) (ys : List B) : Type 0 where
+  pub many : length ys ≡ count
+  pub each : (i : ℕ) (x : A) (y : B) → IsAt xs i x → IsAt ys i y → P x y
+
+-- the first so many are exported, and no others
+abbrev pub AreExported : {A : Type 0} → (is : A → Bool) → (count : ℕ) → List A → Type 0
+AreExported {A} is count xs = (i : ℕ) (x : A) → IsAt xs i x → is x ≡ nat_lt i count
+
+-- an object has the kinds and constants of a module's signature, of which the first ones are exported and the hidden ones not, and its list of modules
+pub record HasNamesOf (m : Module) (o : Object) : Type 0 where
+  pub name : o.name.items ≡ m.name.items
+  pub kinds : ArePaired IsObjectKind m.signature.kinds.items (length m.signature.kinds.items) o.kinds.items
+  pub exported_kinds : AreExported (λ k. k.exported) (length m.signature.kinds.items - length m.hidden_kinds.items) o.kinds.items
+  pub constants : ArePaired (IsObjectConstant m.signature o.bank) m.signature.constants.items (length m.signature.constants.items) o.constants.items
+  pub exported_constants : AreExported (λ c. c.exported) (length m.signature.constants.items - length m.hidden_constants.items) o.constants.items
+  pub uses : map (λ u. u.items) o.uses.items ≡ map (λ u. u.items) m.uses.items
