@@ -155,7 +155,8 @@ module _ {F : Type 0} {rf ms ov wf : F → ℕ} {held : F → Option Held} {a b 
   }
 
 -- what is told of a refusal
-pub placed_told : (told : Option Held) (query : List ℕ) (r : Refusal) (result : Status) (a b : Option (List ℕ)) → IfSource (IsPlaced told query) r → (result ≢ variant.WriteFault → (result ≡ status_of r) × Appends a b (line_of r)) → result ≡ variant.Source → WritesPlaced told query a b
+pub placed_told : (told : Option Held) (query : List ℕ) (r : Refusal) (result : Status) (a b : Option (List ℕ)) → IfSource (IsPlaced told query) r →
+    (result ≢ variant.WriteFault → (result ≡ status_of r) × Appends a b (line_of r)) → result ≡ variant.Source → WritesPlaced told query a b
 placed_told told query (Line said line) result a b h kept e =
     let n : result ≢ variant.WriteFault = λ f. cc in
     record { line = line.items; placed = h (sym (kept n).0 ∙ e); appended = (kept n).1 }
@@ -174,7 +175,9 @@ of_file told file text there (Line said line) h = λ e. record { file = file; te
 of_file told file text there Memory h = tt
 
 -- the name of the file at fault
-pub of_fault : (told : Option Held) (refused : Option (String Global)) (n : ℕ) (e : LexFault) (name : List ℕ) (r : Refusal) → IfSome refused (λ s. name ≡ string_bytes s) → IsFaultNamed told refused (build.Lex n e) → ((text : List ℕ) → HasFault text e → IfSource (IsOfText name text) r) → IfSource (IsOfFile told) r
+pub of_fault : (told : Option Held) (refused : Option (String Global)) (n : ℕ) (e : LexFault) (name : List ℕ) (r : Refusal) → IfSome refused
+    (λ s. name ≡ string_bytes s) → IsFaultNamed told refused (build.Lex n e) → ((text : List ℕ) → HasFault text e → IfSource (IsOfText name text) r) →
+    IfSource (IsOfFile told) r
 of_fault told None n e name r is h k = absurd h
 of_fault told (Some s) n e name r is h k = of_file told name h.0 (subst (λ w. IsTold told w h.0) (sym is) h.1.0) r (k h.0 h.1.1)
 

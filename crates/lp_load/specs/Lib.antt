@@ -1,3 +1,4 @@
 pub mod Placed
 pub mod Tells
 pub mod Asked
+pub mod Loaded

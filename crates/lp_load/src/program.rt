@@ -1,10 +1,13 @@
 // The program of a module's files.
-ghost use Rattle.std.specs.Prelude.{◌≡◌, List, ℕ, Option, IfErr};
+ghost use Rattle.std.specs.Prelude.{◌≡◌, List, ℕ, Option, IfErr, IfOk};
 ghost use Rattle.lp_base.specs.Held.{Held};
+ghost use Rattle.lp_term.specs.Nodes.{Extends};
+ghost use Rattle.lp_build.specs.Reads.{AreRead};
 ghost use Rattle.lp_build.specs.Told.{AreKnown, AreLoaded, IsFaultIn};
 ghost use Rattle.lp_lines.specs.Looked.{Looked, refusal_of};
 ghost use Rattle.lp_lines.specs.Placed.{IsCauseOf, IfSource};
 ghost use Rattle.lp_lines.specs.Refusals.{IsSourceRefusal, IsTextRefusal};
+ghost use Rattle.lp_load.specs.Loaded.{HasGrown, IsBuiltFrom, IsLoaded};
 ghost use Rattle.lp_load.specs.Placed.{IsOfFile};
 ghost use Rattle.lp_load.specs.Tells.{Tells};
 
@@ -14,7 +17,10 @@ use lp_lines::{
     Cause, Refusal, blamed, limited, not_read, not_there, of_declarations, of_module, of_syntax,
     past_limit, without_tokens,
 };
+use lp_model::ClauseFormula;
+use lp_module::Assembled;
 use lp_normal::{NormalRefusal, normalise};
+use lp_term::Bank;
 use std::alloc::Global;
 
 /// The refusal of a text of these files, which have tokens. A cause whose spot lies in none of them is want of memory.
@@ -63,22 +69,54 @@ pub fn load_refused(alloc: Global, sources: &Sources, fault: BuildFault) -> Refu
 }
 
 // Whether the clauses of each sentence are within their limit.
-fn within_clauses(alloc: Global, built: &mut Built) -> Result<(), NormalRefusal> {
-    let program = &mut built.assembled.program;
-    for formula in program.clauses.iter() {
-        let _clauses = normalise(alloc, &mut program.bank, *formula)?;
+fn within_clauses(
+    alloc: Global,
+    bank: &mut Bank,
+    clauses: &Vec<ClauseFormula>,
+) -> Result<(), NormalRefusal>
+    ensures { Extends bank.old bank.new }
+{
+    for at in 0..clauses.len() {
+        let _flat = normalise(alloc, bank, clauses[at])?;
     }
     Ok(())
+}
+
+// The program, where the clauses of each sentence are within their limit.
+fn checked(alloc: Global, built: Built) -> Result<Built, NormalRefusal>
+    ensures { IfOk result (HasGrown built) }
+{
+    let Built {
+        assembled,
+        signature,
+        table,
+    } = built;
+    let Assembled {
+        mut program,
+        kinds,
+        constants,
+    } = assembled;
+    within_clauses(alloc, &mut program.bank, &program.clauses)?;
+    Ok(Built {
+        assembled: Assembled {
+            program,
+            kinds,
+            constants,
+        },
+        signature,
+        table,
+    })
 }
 
 /// The program of files that were loaded. The refusal is the first one of the texts, and of the limits on their program.
 pub fn build(alloc: Global, sources: &Sources) -> Result<Built, Refusal>
     ensures refused { IfErr result IsTextRefusal }
     ensures placed { (told : Option Held) → AreLoaded told sources.now → IfErr result (IfSource (IsOfFile told)) }
+    ensures program { AreRead sources.now → IfOk result (IsBuiltFrom sources.now) }
 {
     match build_program(alloc, sources) {
-        Ok(mut built) => match within_clauses(alloc, &mut built) {
-            Ok(()) => Ok(built),
+        Ok(built) => match checked(alloc, built) {
+            Ok(whole) => Ok(whole),
             Err(NormalRefusal::Limit(passed)) => Err(limited(alloc, passed)),
             Err(NormalRefusal::Memory) => Err(Refusal::Memory),
         },
@@ -97,6 +135,7 @@ pub fn load<F: Folder>(
     ensures looked { Looked F.read_faults F.misses F.overs F.write_faults F.held folder.old folder.new (refusal_of result) }
     ensures refused { IfErr result IsSourceRefusal }
     ensures placed { AreKnown (F.held folder.old) known.items → IfErr result (IfSource (IsOfFile (F.held folder.old))) }
+    ensures program { AreKnown (F.held folder.old) known.items → IfOk result (IsLoaded (F.held folder.old) name.now) }
 {
     match gather_with(alloc, folder, name, true, known) {
         Ok(sources) => build(alloc, &sources),

@@ -78,6 +78,8 @@ fn type_of(alloc: Global, text: &[u8], built: &mut Built) -> Result<Typed, Cause
     ensures signature { built.new.signature ≡ built.old.signature }
     ensures constants { built.new.assembled.program.constants ≡ built.old.assembled.program.constants }
     ensures clauses { built.new.assembled.program.clauses ≡ built.old.assembled.program.clauses }
+    ensures kinds { built.new.assembled.kinds ≡ built.old.assembled.kinds }
+    ensures names { built.new.assembled.constants ≡ built.old.assembled.constants }
 {
     let raw = read(alloc, text, built)?;
     within_arguments(alloc, &raw)?;
@@ -103,6 +105,8 @@ pub fn ask(alloc: Global, text: &[u8], built: &mut Built) -> Result<Typed, Refus
     ensures signature { built.new.signature ≡ built.old.signature }
     ensures constants { built.new.assembled.program.constants ≡ built.old.assembled.program.constants }
     ensures clauses { built.new.assembled.program.clauses ≡ built.old.assembled.program.clauses }
+    ensures kinds { built.new.assembled.kinds ≡ built.old.assembled.kinds }
+    ensures names { built.new.assembled.constants ≡ built.old.assembled.constants }
 {
     match type_of(alloc, text, built) {
         Ok(typed) => Ok(typed),

@@ -1,5 +1,6 @@
 use Rattle.lp_lines.proofs.Looking.{looked_judged, text_judged}
 use Rattle.lp_lines.proofs.Refusing.{texts_are_source}
+use Rattle.lp_load.proofs.Programs.{loaded_is}
 use Rattle.lp_load.proofs.Telling.{looked_gathered, looked_ungathered, tells_source}
 use Rattle.lp_load.proofs.program.load.Goals as goal
 
@@ -20,3 +21,7 @@ returns-in-Err-clause-refused g c = tells_source c.in-Err.fault c.load_refused.r
 
 pub returns-in-Err-clause-placed : goal.returns-in-Err-clause-placed
 returns-in-Err-clause-placed g c = λ known. c.load_refused.ensures.placed _ (c.in-Err.ensures.fault known)
+
+pub returns-in-Ok-clause-program : goal.returns-in-Ok-clause-program
+returns-in-Ok-clause-program g c = λ known. loaded_is _ c.args.name.now c.in-Ok.sources c.build.result c.in-Ok.ensures.begins c.in-Ok.ensures.first
+    (c.in-Ok.ensures.files known) c.in-Ok.ensures.read (c.build.ensures.program c.in-Ok.ensures.read)

@@ -1,0 +1,43 @@
+-- The program of the texts of a module.
+use Rattle.std.proofs.Common.{ℕ, List, Option, ◌++◌, ◌∙◌}
+use Rattle.std.specs.Prelude.{codes, Result, Ok, Err, IfOk}
+use Rattle.lp_base.specs.Held.{Held}
+use Rattle.lp_term.proofs.Trees.{extends-trans}
+use Rattle.lp_build.specs.Loads.{BeginsWith, modules_among, names_of}
+use Rattle.lp_build.specs.Reads.{AreRead}
+use Rattle.lp_build.specs.Told.{AreLoaded}
+use Rattle.lp_build.specs.declared.build.Built.{Built}
+use Rattle.lp_build.specs.declared.sources.Sources.{Sources}
+use Rattle.lp_lines.specs.declared.refusal.Refusal.{Refusal}
+use Rattle.lp_load.specs.Loaded.{HasGrown, IsBuiltFrom, IsLoaded}
+
+pub loaded_is : (told : Option Held) (root : List ℕ) (sources : Sources) (r : Result Built Refusal) → BeginsWith (root ++ codes ".sig") (names_of sources.files.items)
+    → BeginsWith root (modules_among sources.files.items) → AreLoaded told sources → AreRead sources → IfOk r (IsBuiltFrom sources) → IfOk r (IsLoaded told root)
+loaded_is told root sources (Ok built) begins first files read h =
+    record { sources = sources; begins = begins; first = first; files = files; read = read; program = h }
+loaded_is told root sources (Err e) begins first files read h = tt
+
+grown_then : (a b c : Built) → HasGrown a b → HasGrown b c → HasGrown a c
+grown_then a b c g h = record {
+  bank = extends-trans a.assembled.program.bank b.assembled.program.bank c.assembled.program.bank g.bank h.bank;
+  constants = h.constants ∙ g.constants;
+  clauses = h.clauses ∙ g.clauses;
+  kinds = h.kinds ∙ g.kinds;
+  names = h.names ∙ g.names;
+  signature = h.signature ∙ g.signature;
+  table = h.table ∙ g.table;
+}
+
+-- a program that has grown is that of the same texts
+pub built_later : (sources : Sources) (a b : Built) → HasGrown a b → IsBuiltFrom sources a → IsBuiltFrom sources b
+built_later sources a b g h = record { first = h.first; is = h.is; grown = grown_then h.first a b h.grown g }
+
+pub loaded_later : (told : Option Held) (root : List ℕ) (a b : Built) → HasGrown a b → IsLoaded told root a → IsLoaded told root b
+loaded_later told root a b g h = record {
+  sources = h.sources;
+  begins = h.begins;
+  first = h.first;
+  files = h.files;
+  read = h.read;
+  program = built_later h.sources a b g h.program;
+}
