@@ -3,6 +3,8 @@ use Rattle.std.proofs.Common.{◌≡◌, ◌≢◌, ℕ, List, length, map, Opti
 use Rattle.std.specs.Global.{Global}
 use Rattle.std.specs.Prelude.{Vec, All, Result, Ok, Err, IfOk, IfErr}
 use Rattle.std.proofs.lemmas.List.{length-map}
+use Rattle.std.proofs.lemmas.List.Elements.{All-map}
+use Rattle.lp_base.specs.declared.memory.Memory.{Memory as CodeMemory}
 use Rattle.lp_base.specs.Held.{Held}
 use Rattle.lp_base.specs.declared.limit.Limit.{Limit}
 use Rattle.lp_base.specs.declared.status.Status.{Status}
@@ -13,7 +15,7 @@ use Rattle.lp_model.specs.declared.certificate.Certificate as code
 use Rattle.lp_module.specs.declared.copies.Assembled.{Assembled}
 use Rattle.lp_model.specs.declared.program.Typed.{Typed}
 use Rattle.lp_cert.specs.Arities.{counts_in}
-use Rattle.lp_cert.specs.Certified.{certificate_of, ground_of, query_of}
+use Rattle.lp_cert.specs.Certified.{Certifies, certificate_of, ground_of, query_of}
 use Rattle.lp_cert.specs.Inside.{IsQueryInside}
 use Rattle.lp_cert.specs.Spellable.{AreCertificates}
 use Rattle.lp_cert.specs.Spelling.{spelled_certificates}
@@ -29,12 +31,13 @@ use Rattle.lp_lines.specs.declared.refusal.Refusal.{Refusal}
 use Rattle.lp_lines.specs.declared.refusal.Refusal.TheVariants.{Line, Memory}
 use Rattle.lp_lines.proofs.Refusing.{never_done}
 use Rattle.lp_lines.proofs.Statuses.{not_otherwise, said_of_search}
-use Rattle.lp_judge.specs.Asked.{IsQueryOf}
+use Rattle.lp_judge.specs.Asked.{IsAskedFrom}
 use Rattle.lp_judge.specs.Checked.{Checks, IsCheckOf, IsChecked, IsJudgedOn, IsVerdictOn, WritesCheck, checked_status}
+use Rattle.lp_judge.specs.Proofs.{AreProofs}
 use Rattle.lp_judge.specs.Proved.{cert_file}
 use Rattle.lp_judge.specs.declared.checking.Checked.{Checked}
 use Rattle.lp_judge.proofs.Insides.{certificates_stay}
-use Rattle.lp_judge.proofs.Questions.{query_inside, query_stays}
+use Rattle.lp_judge.proofs.Questions.{asked_later, query_inside}
 use Rattle.lp_judge.proofs.Telling.{never_no}
 
 checked_is_of_search : (v : CheckVerdict) → is_of_search (checked_status v) ≡ true
@@ -51,7 +54,8 @@ checked_no_fault (Deep i) = λ e. cc
 pub told_no_fault : (n : ℕ) (v : CheckVerdict) (line : List ℕ) (said : Status) → IsChecked n v line said → said ≢ variant.WriteFault
 told_no_fault n v line said h e = checked_no_fault v (sym h.ends ∙ e)
 
-pub told_of_search : (n : ℕ) (v : CheckVerdict) (line : List ℕ) (said result : Status) → IsChecked n v line said → (result ≢ variant.WriteFault → result ≡ said) → result ≢ variant.WriteFault → is_of_search result ≡ true
+pub told_of_search : (n : ℕ) (v : CheckVerdict) (line : List ℕ) (said result : Status) → IsChecked n v line said →
+    (result ≢ variant.WriteFault → result ≡ said) → result ≢ variant.WriteFault → is_of_search result ≡ true
 told_of_search n v line said result h kept = said_of_search result said (ap is_of_search h.ends ∙ checked_is_of_search v) kept
 
 -- no file that is not read is refused as a source
@@ -99,7 +103,7 @@ found_there file most l told (Ok bytes) h = h.1
 found_there file most l told (Err e) h = tt
 
 pub check_of : (told : Option Held) (name text file bytes line : List ℕ) (said : Status) → file ≡ cert_file name → IsTold told file bytes
-    → ((count : ℕ) × (verdict : CheckVerdict) × IsJudgedOn bytes text count verdict × IsChecked count verdict line said) → IsCheckOf told name text line said
+    → ((count : ℕ) × (verdict : CheckVerdict) × IsJudgedOn told name text bytes count verdict × IsChecked count verdict line said) → IsCheckOf told name text line said
 check_of told name text file bytes line said e there h = record {
   bytes = bytes;
   there = subst (λ f. IsTold told f bytes) e there;
@@ -114,29 +118,45 @@ counts_stay : (old new : Assembled) → IsSameProgram old new → counts_in old 
 counts_stay old new s = let a = s.kinds in let b = s.constants in cc
 
 -- what was judged of bytes that were read in one bank, in a later one
-pub judged_on : (bytes text : List ℕ) (before between after : Assembled) (q : Typed) (cs : List code.Certificate) (count : ℕ) (verdict : CheckVerdict)
-    → IsQueryOf text before.program.bank q → Extends before.program.bank between.program.bank → Extends between.program.bank after.program.bank
+pub judged_on : (told : Option Held) (name text bytes : List ℕ) (before between after : Assembled) (q : Typed) (cs : List code.Certificate) (count : ℕ) (verdict : CheckVerdict)
+    → IsAskedFrom told name text before q → Extends before.program.bank between.program.bank → Extends between.program.bank after.program.bank
     → IsSameProgram before between → IsSameProgram between after → All (IsCertificateInside between.program.bank) cs
     → AreCertificates (counts_in before) (map (certificate_of between.program.bank) cs) → bytes ≡ spelled_certificates (map (certificate_of between.program.bank) cs) → count ≡ length cs
-    → (IsQueryInside between.program.bank q → All (IsCertificateInside between.program.bank) cs → IsVerdictOn (ground_of after.program) (query_of after.program.bank q) (map (certificate_of after.program.bank) cs) verdict)
-    → IsJudgedOn bytes text count verdict
-judged_on bytes text before between after q cs count verdict asked e f s t inside known spelled counted right =
-    let later = query_stays text before.program.bank between.program.bank q e asked in
+    → (IsQueryInside between.program.bank q → All (IsCertificateInside between.program.bank) cs → IsVerdictOn (ground_of after.program)
+    (query_of after.program.bank q) (map (certificate_of after.program.bank) cs) verdict)
+    → IsJudgedOn told name text bytes count verdict
+judged_on told name text bytes before between after q cs count verdict asked e f s t inside known spelled counted right =
+    let later = asked_later told name text before between q e s asked in
     let same = certificates_stay between.program.bank after.program.bank f cs inside in
     record {
       names = after;
       query = q;
-      asked = query_stays text between.program.bank after.program.bank q f later;
+      asked = asked_later told name text between after q f t later;
       certificates = map (certificate_of after.program.bank) cs;
-      known = subst (λ z. AreCertificates z (map (certificate_of after.program.bank) cs)) (counts_stay before between s ∙ counts_stay between after t) (subst (AreCertificates (counts_in before)) (sym same) known);
+      known = subst (λ z. AreCertificates z (map (certificate_of after.program.bank) cs)) (counts_stay before between s ∙ counts_stay between after t)
+          (subst (AreCertificates (counts_in before)) (sym same) known);
       spelled = subst (λ z. bytes ≡ spelled_certificates z) (sym same) spelled;
       counted = counted ∙ sym (length-map cs (certificate_of after.program.bank));
-      right = right (query_inside text between.program.bank q later) inside;
+      right = right (query_inside _ _ text between.program.bank q later.asked) inside;
     }
+
+-- the same of certificates that were accepted
+pub accepted_on : (told : Option Held) (name text bytes : List ℕ) (before between after : Assembled) (q : Typed) (cs : List code.Certificate) (r : Result CheckVerdict CodeMemory)
+    → IsAskedFrom told name text before q → Extends before.program.bank between.program.bank → Extends between.program.bank after.program.bank
+    → IsSameProgram before between → IsSameProgram between after → All (IsCertificateInside between.program.bank) cs
+    → AreCertificates (counts_in before) (map (certificate_of between.program.bank) cs) → bytes ≡ spelled_certificates (map (certificate_of between.program.bank) cs)
+    → IfOk r (λ v. v ≡ Accepted → All (λ c. Certifies (ground_of after.program) (query_of after.program.bank q) (certificate_of after.program.bank c)) cs)
+    → IfOk r (λ v. v ≡ Accepted → AreProofs told name text bytes)
+accepted_on told name text bytes before between after q cs (Ok v) asked e f s t inside known spelled h = λ a. (
+  length cs,
+  judged_on told name text bytes before between after q cs (length cs) Accepted asked e f s t inside known spelled refl
+      (λ _ _. All-map (Certifies (ground_of after.program) (query_of after.program.bank q)) (certificate_of after.program.bank) cs (h a)),
+)
+accepted_on told name text bytes before between after q cs (Err m) asked e f s t inside known spelled h = tt
 
 -- the same of what a call gave
 pub checks_of : (told : Option Held) (name text file slice bytes : List ℕ) (r : Result Checked Refusal) → file ≡ cert_file name → slice ≡ bytes → IsTold told file bytes
-    → IfOk r (λ x. (count : ℕ) × (verdict : CheckVerdict) × IsJudgedOn slice text count verdict × IsChecked count verdict x.line.items x.status)
+    → IfOk r (λ x. (count : ℕ) × (verdict : CheckVerdict) × IsJudgedOn told name text slice count verdict × IsChecked count verdict x.line.items x.status)
     → IfOk r (λ x. IsCheckOf told name text x.line.items x.status)
 checks_of told name text file slice bytes (Ok x) e s there h = check_of told name text file slice x.line.items x.status e (subst (IsTold told file) (sym s) there) h
 checks_of told name text file slice bytes (Err r) e s there h = tt

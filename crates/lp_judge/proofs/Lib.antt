@@ -3,3 +3,4 @@ mod Questions
 mod Insides
 mod Checkings
 mod Provings
+pub mod Sourced

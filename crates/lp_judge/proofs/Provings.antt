@@ -1,16 +1,19 @@
 -- How a run that proves answers ends.
-use Rattle.std.proofs.Common.{◌≡◌, ◌≢◌, ℕ, List, Option, subst}
-use Rattle.std.specs.Prelude.{Result, Ok, Err, IfErr}
-use Rattle.lp_base.specs.Held.{Held}
+use Rattle.std.proofs.Common.{◌≡◌, ◌≢◌, ℕ, List, Option, refl, sym, ap, ◌∙◌, subst, true, false, inl, inr}
+use Rattle.std.specs.Prelude.{Result, Ok, Err, IfErr, IfSome, Vec}
+use Rattle.std.specs.Global.{Global}
+use Rattle.lp_base.specs.Held.{Held, Puts}
 use Rattle.lp_base.specs.declared.status.Status.{Status}
 use Rattle.lp_base.specs.declared.status.Status.TheVariants as variant
 use Rattle.lp_model.specs.declared.ending.Ending.TheVariants as ending
 use Rattle.lp_lines.specs.Left.{LeavesWith}
 use Rattle.lp_lines.specs.Lines.{ending_status}
 use Rattle.lp_lines.specs.Placed.{IfSource}
+use Rattle.lp_lines.specs.Refusals.{IsRefusal, IsSourceRefusal, status_of}
 use Rattle.lp_lines.specs.declared.refusal.Refusal.{Refusal}
 use Rattle.lp_lines.specs.declared.refusal.Refusal.TheVariants.{Line, Memory}
-use Rattle.lp_judge.specs.Proved.{IsOutcome, IsReady}
+use Rattle.lp_judge.specs.Proofs.{IsCertified, WritesProofs, has_file}
+use Rattle.lp_judge.specs.Proved.{IsOutcome, IsReady, cert_file}
 use Rattle.lp_judge.specs.declared.proving.Outcome.{Outcome}
 use Rattle.lp_judge.specs.declared.proving.Outcome.TheVariants.{File}
 use Rattle.lp_judge.specs.declared.proving.Ready.{Ready}
@@ -31,3 +34,42 @@ ready_file name x r e h = subst (IsOutcome name) e h
 pub with_status : {F K : Type 0} (wf : F → ℕ) (held : F → Option Held) (faults : K → ℕ) (written : K → Option (List ℕ)) (a b : F) (o p : K) (file line : List ℕ) (done other result : Status)
     → done ≡ other → LeavesWith wf held faults written a b o p file line done result → LeavesWith wf held faults written a b o p file line other result
 with_status wf held faults written a b o p file line done other result e h = subst (λ s. LeavesWith wf held faults written a b o p file line s result) e h
+
+-- a run that writes a file is not refused
+file_not : (s t : Status) → has_file t ≡ false → has_file s ≡ true → s ≢ t
+file_not s t f h e = let a : true ≡ false = sym h ∙ ap has_file e ∙ f in absurd (cc)
+
+pub file_no_fault : (s : Status) → has_file s ≡ true → s ≢ variant.WriteFault
+unfolding has_file
+file_no_fault s h = file_not s variant.WriteFault refl h
+
+pub file_no_memory : (s : Status) → has_file s ≡ true → s ≢ variant.Memory
+unfolding has_file
+file_no_memory s h = file_not s variant.Memory refl h
+
+file_not_deep : (s : Status) → has_file s ≡ true → s ≢ ending_status ending.Deep
+unfolding has_file ending_status
+file_not_deep s h = file_not s variant.Deep refl h
+
+source_no_file : (said : Status) (line : Vec ℕ Global) → IsSourceRefusal (Line said line) → has_file said ≡ false
+unfolding has_file
+source_no_file said line h = elim h [ inl a ↦ ap has_file a | inr x ↦ elim x [ inl a ↦ ap has_file a | inr y ↦ elim y [ inl a ↦ ap has_file a | inr z ↦ ap has_file z.0 ] ] ]
+
+refused_no_file : (r : Refusal) → IsRefusal r → has_file (status_of r) ≡ false
+unfolding has_file
+refused_no_file (Line said line) h = elim h [ inl a ↦ ap has_file a | inr x ↦ source_no_file said line x ]
+refused_no_file Memory h = refl
+
+pub told_no_file : {X : Type 0} (r : Refusal) (result : Status) → IsRefusal r → (result ≢ variant.WriteFault → (result ≡ status_of r) × X) → has_file result ≡ true → ⊥
+told_no_file r result h kept f = file_not result (status_of r) (refused_no_file r h) f (kept (file_no_fault result f)).0
+
+pub deep_no_file : {X : Type 0} (said result : Status) → said ≡ ending_status ending.Deep → (result ≢ variant.WriteFault → (result ≡ said) × X) → has_file result ≡ true → ⊥
+deep_no_file said result e kept f = file_not_deep result f ((kept (file_no_fault result f)).0 ∙ e)
+
+pub proofs_stand : (told now : Option Held) (name text : List ℕ) (x : Outcome) (r : Ready) (file bytes : List ℕ) → x ≡ File r → IsCertified told name text x → file ≡ cert_file name → bytes ≡ r.bytes.items
+    → IfSome told (λ old. IfSome now (Puts file bytes old)) → WritesProofs told now name text
+proofs_stand told now name text x r file bytes e h f b p = record {
+  bytes = r.bytes.items;
+  proofs = subst (IsCertified told name text) e h;
+  stands = subst (λ w. IfSome told (λ old. IfSome now (Puts w r.bytes.items old))) f (subst (λ w. IfSome told (λ old. IfSome now (Puts file w old))) b p);
+}

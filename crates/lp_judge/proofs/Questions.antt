@@ -1,5 +1,6 @@
 -- The query of a text in a bank that grows, and where its numbers stand.
-use Rattle.std.proofs.Common.{◌≡◌, ℕ, suc, ◌+◌, List, ◌∷◌, map, length, sym, subst, ◌∙◌, arith}
+use Rattle.std.proofs.Common.{◌≡◌, ℕ, suc, ◌+◌, List, ◌∷◌, ◌++◌, map, length, Option, refl, sym, ap, subst, ◌∙◌, arith}
+use Rattle.std.specs.Prelude.{codes, Result, Ok, Err, IfOk}
 use Rattle.std.proofs.lemmas.List.{length-map, length-reverse}
 use Rattle.std.proofs.lemmas.Option.{slice_get_within}
 use Rattle.lp_calculus.specs.Types.{Ty}
@@ -10,18 +11,71 @@ use Rattle.lp_term.specs.Nodes.{Nodes, Extends, type_tree}
 use Rattle.lp_term.specs.Spine.{LooseBelow}
 use Rattle.lp_model.specs.declared.program.Typed.{Typed}
 use Rattle.lp_sig.specs.declared.signature.Signature.{Signature}
+use Rattle.lp_base.specs.Held.{Held}
+use Rattle.lp_module.specs.declared.copies.Assembled.{Assembled}
+use Rattle.lp_build.specs.Loads.{BeginsWith, modules_among, names_of}
+use Rattle.lp_build.specs.Reads.{AreRead}
+use Rattle.lp_build.specs.Told.{AreLoaded}
+use Rattle.lp_build.specs.declared.build.Built.{Built}
+use Rattle.lp_build.specs.declared.sources.Sources.{Sources}
+use Rattle.lp_lines.specs.declared.refusal.Refusal.{Refusal}
 use Rattle.lp_infer.specs.Typing.{Raw, raw_index, raw_constant, raw_integer, raw_text, raw_abs, raw_app, Elaborates}
 use Rattle.lp_infer.specs.Numbering.{typing_of}
 use Rattle.lp_cert.specs.Inside.{IsQueryInside}
+use Rattle.lp_cert.specs.Standing.{IsSameProgram}
 use Rattle.lp_load.specs.Asked.{IsAsked}
+use Rattle.lp_load.specs.Loaded.{HasGrown, IsBuiltFrom}
 use Rattle.lp_load.proofs.Asking.{asked_stays}
-use Rattle.lp_judge.specs.Asked.{IsQueryOf}
+use Rattle.lp_load.proofs.Programs.{built_later, loaded_later}
+use Rattle.lp_judge.specs.Asked.{IsAskedFrom, IsAskedOf}
+use Rattle.lp_judge.specs.declared.asking.Asked.{Asked}
 
-pub query_of_text : (operators : Table) (names : Signature) (text bytes : List ℕ) (b : Nodes) (q : Typed) → bytes ≡ text → IsAsked operators names bytes b q → IsQueryOf text b q
-query_of_text operators names text bytes b q e h = (operators, names, subst (λ t. IsAsked operators names t b q) e h)
+module _ (names later : Assembled) (grown : Extends names.program.bank later.program.bank) (same : IsSameProgram names later) where
+  named_later : (built : Built) → built.assembled ≡ names → HasGrown built (record { assembled = later; signature = built.signature; table = built.table })
+  named_later built e = record {
+    bank = subst (λ a. Extends a.program.bank later.program.bank) (sym e) grown;
+    constants = same.declared ∙ ap (λ a. a.program.constants) (sym e);
+    clauses = same.clauses ∙ ap (λ a. a.program.clauses) (sym e);
+    kinds = same.kinds ∙ ap (λ a. a.kinds) (sym e);
+    names = same.constants ∙ ap (λ a. a.constants) (sym e);
+    signature = refl;
+    table = refl;
+  }
 
-pub query_stays : (text : List ℕ) (a b : Nodes) (q : Typed) → Extends a b → IsQueryOf text a q → IsQueryOf text b q
-query_stays text a b q e h = (h.0, h.1, asked_stays a b e h.0 h.1 text q h.2)
+-- what was asked of a program stays so where its bank grows
+pub asked_later : (told : Option Held) (name text : List ℕ) (names later : Assembled) (q : Typed) → Extends names.program.bank later.program.bank → IsSameProgram names later
+    → IsAskedFrom told name text names q → IsAskedFrom told name text later q
+asked_later told name text names later q grown same h = record {
+  built = record { assembled = later; signature = h.built.signature; table = h.built.table };
+  program = loaded_later told name h.built _ (named_later names later grown same h.built h.same) h.program;
+  same = refl;
+  asked = asked_stays names.program.bank later.program.bank grown h.built.table h.built.signature text q h.asked;
+}
+
+-- what was asked of the program of files, which has grown since
+pub asked_of_files : (sources : Sources) (text bytes : List ℕ) (old new : Built) (q : Typed) → bytes ≡ text → IsBuiltFrom sources old → HasGrown old new
+    → IsAsked old.table old.signature bytes new.assembled.program.bank q → IsAskedOf sources text new.assembled q
+asked_of_files sources text bytes old new q e is grown h = record {
+  built = new;
+  program = built_later sources old new grown is;
+  same = refl;
+  asked =
+      subst (λ t. IsAsked t new.signature text new.assembled.program.bank q) (sym grown.table)
+      (subst (λ s. IsAsked old.table s text new.assembled.program.bank q) (sym grown.signature)
+      (subst (λ w. IsAsked old.table old.signature w new.assembled.program.bank q) e h));
+}
+
+-- what was asked of the files that the folder tells
+pub asked_from : (told : Option Held) (name text : List ℕ) (sources : Sources) (r : Result Asked Refusal) → BeginsWith (name ++ codes ".sig") (names_of sources.files.items)
+    → BeginsWith name (modules_among sources.files.items) → AreLoaded told sources → AreRead sources → IfOk r (λ a. IsAskedOf sources text a.names a.query)
+    → IfOk r (λ a. IsAskedFrom told name text a.names a.query)
+asked_from told name text sources (Ok a) begins first files read h = record {
+  built = h.built;
+  program = record { sources = sources; begins = begins; first = first; files = files; read = read; program = h.program };
+  same = h.same;
+  asked = h.asked;
+}
+asked_from told name text sources (Err e) begins first files read h = tt
 
 -- a term has no loose index but those whose types are given
 typed_loose : (R : Raw) (C : List Ty) (t : Term) (A : Ty) (n d : ℕ) → length C ≡ d + n → Elaborates C R t A → LooseBelow n d t
@@ -36,12 +90,12 @@ typed_loose (raw_app f u) C t A n d e (g, v, i, P, j, k) =
     subst (LooseBelow n d) (sym i) (typed_loose f C g _ n d e j, typed_loose u C v P n d e k)
 
 -- the query of a text stands in its bank
-pub query_inside : (text : List ℕ) (b : Nodes) (q : Typed) → IsQueryOf text b q → IsQueryInside b q
-query_inside text b q h = record {
-  vars = h.2.stands.types;
-  formula = h.2.stands.formula;
+pub query_inside : (operators : Table) (names : Signature) (text : List ℕ) (b : Nodes) (q : Typed) → IsAsked operators names text b q → IsQueryInside b q
+query_inside operators names text b q h = record {
+  vars = h.stands.types;
+  formula = h.stands.formula;
   indices =
-      let typing = h.2.typed.principal.typing in
+      let typing = h.typed.principal.typing in
       let long : length (typing_of b q).free ≡ length q.vars.items = length-reverse (map (λ v. type_tree b v.1.0) q.vars.items) ∙ length-map q.vars.items (λ v. type_tree b v.1.0) in
       typed_loose typing.looked_up (typing_of b q).free (typing_of b q).formula o_type (length q.vars.items) 0 (omega (arith, long)) typing.elaborates;
 }

@@ -3,6 +3,7 @@ use Rattle.std.proofs.Common.{◌≡◌, ◌≢◌, ℕ, ◌<◌, List, ◌∷�
 use Rattle.std.specs.Global.{Global}
 use Rattle.std.specs.Prelude.{Vec, codes}
 use Rattle.std.proofs.lemmas.List.{length-map}
+use Rattle.lp_base.specs.Held.{Held}
 use Rattle.lp_base.specs.Written.{Appends}
 use Rattle.lp_base.specs.declared.status.Status.{Status}
 use Rattle.lp_base.specs.declared.status.Status.TheVariants as variant
@@ -19,7 +20,7 @@ use Rattle.lp_lines.proofs.Refusing.{never_done}
 use Rattle.lp_lines.proofs.Statuses.{not_otherwise, said_of_search}
 use Rattle.lp_term.specs.Nodes.{Nodes, tree}
 use Rattle.lp_model.specs.declared.program.Typed.{Typed}
-use Rattle.lp_judge.specs.Asked.{IsQueryOf}
+use Rattle.lp_judge.specs.Asked.{AreToldTexts}
 use Rattle.lp_judge.specs.Judged.{names_of, verdict_line, verdict_status, IsJudgement, IsVerdictLine, Judges}
 
 -- no refusal says that something is not so
@@ -31,28 +32,29 @@ pub never_no : (r : Refusal) → IsRefusal r → status_of r ≢ variant.No
 never_no (Line said line) h = λ e. elim h [ inl a ↦ cc | inr x ↦ source_not_no said line x e ]
 never_no Memory h = λ e. cc
 
-module _ (text : List ℕ) (a b : Option (List ℕ)) (result : Status) where
+module _ (told : Option Held) (name text : List ℕ) (a b : Option (List ℕ)) (result : Status) where
   -- a run that ends with another status judges nothing
-  judges_not : (said : Status) → (result ≢ variant.WriteFault → result ≡ said) → said ≢ variant.Done → said ≢ variant.No → Judges text a b result
+  judges_not : (said : Status) → (result ≢ variant.WriteFault → result ≡ said) → said ≢ variant.Done → said ≢ variant.No → Judges told name text a b result
   judges_not said kept n m = record { yes = λ e. absurd (not_otherwise result said variant.Done kept (λ f. cc) n e); no = λ e. absurd (not_otherwise result said variant.No kept (λ f. cc) m e) }
 
-  pub judges_refused : (r : Refusal) → IsRefusal r → (result ≢ variant.WriteFault → (result ≡ status_of r) × Appends a b (line_of r)) → Judges text a b result
+  pub judges_refused : (r : Refusal) → IsRefusal r → (result ≢ variant.WriteFault → (result ≡ status_of r) × Appends a b (line_of r)) → Judges told name text a b result
   judges_refused r h kept = judges_not (status_of r) (λ n. (kept n).0) (never_done r h) (never_no r h)
 
-  pub judges_memory : (result ≢ variant.WriteFault → result ≡ variant.Memory) → Judges text a b result
+  pub judges_memory : (result ≢ variant.WriteFault → result ≡ variant.Memory) → Judges told name text a b result
   judges_memory kept = judges_not variant.Memory kept (λ e. cc) (λ e. cc)
 
   -- a judgement that was told
-  judges_told : (line : List ℕ) (said : Status) → IsJudgement text line said → (result ≢ variant.WriteFault → (result ≡ said) × Appends a b line) → Judges text a b result
-  judges_told line said j kept = record { yes = λ e. told (λ f. cc); no = λ e. told (λ f. cc) }
+  judges_told : (line : List ℕ) (said : Status) → IsJudgement told name text line said → (result ≢ variant.WriteFault → (result ≡ said) × Appends a b line) → Judges told name text a b result
+  judges_told line said j kept = record { yes = λ e. written (λ f. cc); no = λ e. written (λ f. cc) }
     where
-      told : result ≢ variant.WriteFault → (l : List ℕ) × IsJudgement text l result × Appends a b l
-      told n = (line, subst (IsJudgement text line) (sym (kept n).0) j, (kept n).1)
+      written : result ≢ variant.WriteFault → (l : List ℕ) × IsJudgement told name text l result × Appends a b l
+      written n = (line, subst (IsJudgement told name text line) (sym (kept n).0) j, (kept n).1)
 
-  -- the verdict on modules and the query of the text
-  pub judges_texts : (ms : List Module) (bank : Nodes) (query : Typed) (line : List ℕ) (said : Status) → IsQueryOf text bank query → IsVerdictLine ms (tree bank query.formula.0) line said
-      → (result ≢ variant.WriteFault → (result ≡ said) × Appends a b line) → Judges text a b result
-  judges_texts ms bank query line said h t kept = judges_told line said (record { modules = ms; bank = bank; query = query; asked = h; told = t }) kept
+  -- the verdict on the modules of the texts and the query
+  pub judges_texts : (ms : List Module) (bank : Nodes) (query : Typed) (line : List ℕ) (said : Status) → AreToldTexts told name text ms bank query →
+      IsVerdictLine ms (tree bank query.formula.0) line said
+      → (result ≢ variant.WriteFault → (result ≡ said) × Appends a b line) → Judges told name text a b result
+  judges_texts ms bank query line said h t kept = judges_told line said (record { modules = ms; bank = bank; query = query; texts = h; verdict = t }) kept
 
 verdict_of_search : (v : Verdict) → is_of_search (verdict_status v) ≡ true
 unfolding is_of_search

@@ -1,11 +1,45 @@
 -- The query of a text, as it was typed on a program.
-use Rattle.std.specs.Prelude.{ℕ, List}
-use Rattle.lp_fixity.specs.declared.table.Table.{Table}
+use Rattle.std.specs.Prelude.{◌≡◌, ◌++◌, ℕ, List, Option, codes}
+use Rattle.lp_base.specs.Held.{Held}
 use Rattle.lp_term.specs.Nodes.{Nodes}
 use Rattle.lp_model.specs.declared.program.Typed.{Typed}
-use Rattle.lp_sig.specs.declared.signature.Signature.{Signature}
+use Rattle.lp_module.specs.declared.copies.Assembled.{Assembled}
+use Rattle.lp_module.specs.declared.module.Module.{Module}
+use Rattle.lp_build.specs.Loads.{BeginsWith, modules_among, names_of}
+use Rattle.lp_build.specs.Meant.{AreModules}
+use Rattle.lp_build.specs.Reads.{AreRead}
+use Rattle.lp_build.specs.Told.{AreLoaded}
+use Rattle.lp_build.specs.declared.build.Built.{Built}
+use Rattle.lp_build.specs.declared.sources.Sources.{Sources}
 use Rattle.lp_load.specs.Asked.{IsAsked}
+use Rattle.lp_load.specs.Loaded.{IsBuiltFrom, IsLoaded}
 
--- it is what the text says under some operators and declared names
-abbrev pub IsQueryOf : (text : List ℕ) → Nodes → Typed → Type 0
-IsQueryOf text b q = (operators : Table) × (names : Signature) × IsAsked operators names text b q
+-- it is what the text says under the operators and the names of this program, which is that of the texts of files
+pub record IsAskedOf (sources : Sources) (text : List ℕ) (names : Assembled) (q : Typed) : Type 0 where
+  pub built : Built
+  pub program : IsBuiltFrom sources built
+  pub same : built.assembled ≡ names
+  pub asked : IsAsked built.table built.signature text names.program.bank q
+
+-- it is what the text says under the operators and the names of this program, which is that of the module of a name, as the folder tells its texts
+pub record IsAskedFrom (told : Option Held) (name text : List ℕ) (names : Assembled) (q : Typed) : Type 0 where
+  pub built : Built
+  pub program : IsLoaded told name built
+  pub same : built.assembled ≡ names
+  pub asked : IsAsked built.table built.signature text names.program.bank q
+
+-- these are the modules of the texts of files, and the query is what its text says under the operators and the names of their program
+pub record AreTextsOf (sources : Sources) (text : List ℕ) (modules : List Module) (b : Nodes) (q : Typed) : Type 0 where
+  pub are : AreModules sources modules
+  pub built : Built
+  pub program : IsBuiltFrom sources built
+  pub asked : IsAsked built.table built.signature text b q
+
+-- the files are those of the module of a name and of all that it needs, and have the bytes that the folder tells; the first module text is its own
+pub record AreToldTexts (told : Option Held) (name text : List ℕ) (modules : List Module) (b : Nodes) (q : Typed) : Type 0 where
+  pub sources : Sources
+  pub begins : BeginsWith (name ++ codes ".sig") (names_of sources.files.items)
+  pub first : BeginsWith name (modules_among sources.files.items)
+  pub files : AreLoaded told sources
+  pub read : AreRead sources
+  pub texts : AreTextsOf sources text modules b q

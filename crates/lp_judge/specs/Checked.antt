@@ -16,7 +16,7 @@ use Rattle.lp_cert.specs.Run.{NeedsLargeForm, StopsAt}
 use Rattle.lp_cert.specs.Spellable.{AreCertificates}
 use Rattle.lp_cert.specs.Spelling.{spelled_certificates}
 use Rattle.lp_build.specs.Told.{IsTold}
-use Rattle.lp_judge.specs.Asked.{IsQueryOf}
+use Rattle.lp_judge.specs.Asked.{IsAskedFrom}
 use Rattle.lp_judge.specs.Proved.{cert_file}
 
 abbrev pub checked_line : (count : ℕ) → CheckVerdict → List ℕ
@@ -41,24 +41,25 @@ IsVerdictOn g q cs Accepted = All (Certifies g q) cs
 IsVerdictOn g q cs (Rejected i) = StopsAt (Certifies g q) (λ c. Certifies g q c → ⊥) cs i
 IsVerdictOn g q cs (Deep i) = StopsAt (Certifies g q) (NeedsLargeForm g q) cs i
 
--- the bytes spell so many certificates over the kinds and constants of some program, and the verdict on them is right for the query of the text on it
-pub record IsJudgedOn (bytes text : List ℕ) (count : ℕ) (verdict : CheckVerdict) : Type 0 where
+-- the bytes spell so many certificates over the kinds and constants of the program of a module, as the folder tells its texts, and the verdict on them is
+-- right for the query of the text on it
+pub record IsJudgedOn (told : Option Held) (name text bytes : List ℕ) (count : ℕ) (verdict : CheckVerdict) : Type 0 where
   pub names : Assembled
   pub query : Typed
-  pub asked : IsQueryOf text names.program.bank query
+  pub asked : IsAskedFrom told name text names query
   pub certificates : List Certificate
   pub known : AreCertificates (counts_in names) certificates
   pub spelled : bytes ≡ spelled_certificates certificates
   pub counted : count ≡ length certificates
   pub right : IsVerdictOn (ground_of names.program) (query_of names.program.bank query) certificates verdict
 
--- the line and the status are those of the verdict on the certificates of a module, as the folder holds them
+-- the line and the status are those of the verdict on the certificates of a module, as the folder holds them, over its program
 pub record IsCheckOf (told : Option Held) (name text line : List ℕ) (said : Status) : Type 0 where
   pub bytes : List ℕ
   pub there : IsTold told (cert_file name) bytes
   pub count : ℕ
   pub verdict : CheckVerdict
-  pub judged : IsJudgedOn bytes text count verdict
+  pub judged : IsJudgedOn told name text bytes count verdict
   pub checked : IsChecked count verdict line said
 
 -- such a line is all that is written

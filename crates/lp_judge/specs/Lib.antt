@@ -2,3 +2,4 @@ pub mod Asked
 pub mod Judged
 pub mod Checked
 pub mod Proved
+pub mod Proofs

@@ -1,12 +1,13 @@
 // The program of source texts and a query on it, without negations.
 ghost use Rattle.std.specs.Prelude.{◌≡◌, Option, IfOk, IfErr};
 ghost use Rattle.lp_base.specs.Held.{Held};
+ghost use Rattle.lp_build.specs.Reads.{AreRead};
 ghost use Rattle.lp_build.specs.Told.{AreLoaded};
 ghost use Rattle.lp_lines.specs.Looked.{Looked, refusal_of};
 ghost use Rattle.lp_lines.specs.Placed.{IfSource};
 ghost use Rattle.lp_lines.specs.Refusals.{IsTextRefusal};
 ghost use Rattle.lp_load.specs.Placed.{IsPlaced};
-ghost use Rattle.lp_judge.specs.Asked.{IsQueryOf};
+ghost use Rattle.lp_judge.specs.Asked.{IsAskedFrom, IsAskedOf};
 
 use crate::unsupported::first_not;
 use lp_base::Folder;
@@ -28,7 +29,7 @@ pub(crate) struct Asked {
 fn asked_of(alloc: Global, sources: &Sources, query: &str) -> Result<Asked, Refusal>
     ensures refused { IfErr result IsTextRefusal }
     ensures placed { (told : Option Held) → AreLoaded told sources.now → IfErr result (IfSource (IsPlaced told query.now)) }
-    ensures asked { IfOk result (λ asked. IsQueryOf query.now asked.names.program.bank asked.query) }
+    ensures asked { AreRead sources.now → IfOk result (λ asked. IsAskedOf sources.now query.now asked.names asked.query) }
 {
     let mut built = match build(alloc, sources) {
         Ok(built) => built,
@@ -57,7 +58,7 @@ pub(crate) fn prepare_asked<F: Folder>(
 ) -> Result<Asked, Refusal>
     ensures looked { Looked F.read_faults F.misses F.overs F.write_faults F.held folder.old folder.new (refusal_of result) }
     ensures placed { IfErr result (IfSource (IsPlaced (F.held folder.old) query.now)) }
-    ensures asked { IfOk result (λ asked. IsQueryOf query.now asked.names.program.bank asked.query) }
+    ensures asked { IfOk result (λ asked. IsAskedFrom (F.held folder.old) name.now query.now asked.names asked.query) }
 {
     let known = Vec::new(alloc);
     match gather_with(alloc, folder, name, true, known) {

@@ -1,7 +1,8 @@
 // Whether certificates of a query's answers are proofs.
-ghost use Rattle.std.specs.Prelude.{◌≡◌, ◌≢◌, ◌++◌, ℕ, List, map, All, IfOk, IfErr, OnOk, codes, true};
+ghost use Rattle.std.specs.Prelude.{◌≡◌, ◌≢◌, ◌++◌, ℕ, List, Option, map, All, IfOk, IfErr, OnOk, codes, true};
 ghost use Rattle.std.specs.Fmt.{decimal};
 ghost use Rattle.lp_base.specs.Counts.{Counts};
+ghost use Rattle.lp_base.specs.Held.{Held};
 ghost use Rattle.lp_lines.specs.Ends.{Grows, KeepsFiles, Ran};
 ghost use Rattle.lp_lines.specs.Lines.{is_of_search};
 ghost use Rattle.lp_lines.specs.Looked.{Found, Looked, refusal_of};
@@ -17,7 +18,7 @@ ghost use Rattle.lp_cert.specs.Spellable.{AreCertificates};
 ghost use Rattle.lp_cert.specs.Spelling.{spelled_certificates};
 ghost use Rattle.lp_cert.specs.Standing.{IsCertificateInside, IsSameProgram};
 ghost use Rattle.lp_build.specs.Told.{IsTold};
-ghost use Rattle.lp_judge.specs.Asked.{IsQueryOf};
+ghost use Rattle.lp_judge.specs.Asked.{IsAskedFrom};
 ghost use Rattle.lp_judge.specs.Checked.{Checks, IsCheckOf, IsChecked, IsJudgedOn, IsVerdictOn};
 
 use crate::asking::{Asked, prepare_asked};
@@ -109,7 +110,11 @@ fn said_of_verdict(alloc: Global, count: u64, verdict: CheckVerdict) -> Result<C
 }
 
 // The certificates that the bytes spell, in the program's bank.
-fn read(alloc: Global, bytes: &[u8], names: &mut Assembled) -> Result<Vec<Certificate>, CertFault>
+pub(crate) fn read(
+    alloc: Global,
+    bytes: &[u8],
+    names: &mut Assembled,
+) -> Result<Vec<Certificate>, CertFault>
     ensures kept { Extends names.old.program.bank names.new.program.bank }
     ensures same { IsSameProgram names.old names.new }
     ensures inside { IfOk result (λ cs. All (IsCertificateInside names.new.program.bank) cs.items) }
@@ -141,7 +146,7 @@ fn judged(alloc: Global, file: &str, bytes: &[u8], asked: Asked) -> Result<Check
     ensures judged { IfErr result IsJudged }
     ensures nowhere { IfErr result (IfSource (λ line. ⊥)) }
     ensures checked { IfOk result (λ told. (count : ℕ) × (verdict : CheckVerdict) × IsChecked count verdict told.line.items told.status) }
-    ensures right { (text : List ℕ) → IsQueryOf text asked.names.program.bank asked.query → IfOk result (λ told. (count : ℕ) × (verdict : CheckVerdict) × IsJudgedOn bytes.now text count verdict × IsChecked count verdict told.line.items told.status) }
+    ensures right { (held : Option Held) (name text : List ℕ) → IsAskedFrom held name text asked.names asked.query → IfOk result (λ told. (count : ℕ) × (verdict : CheckVerdict) × IsJudgedOn held name text bytes.now count verdict × IsChecked count verdict told.line.items told.status) }
 {
     let Asked { mut names, query } = asked;
     let certificates = match read(alloc, bytes, &mut names) {
@@ -177,7 +182,7 @@ fn read_and_judged<F: Folder>(
     ensures looked { Looked F.read_faults F.misses F.overs F.write_faults F.held folder.old folder.new (refusal_of result) }
     ensures nowhere { IfErr result (IfSource (λ line. ⊥)) }
     ensures checked { IfOk result (λ told. (count : ℕ) × (verdict : CheckVerdict) × IsChecked count verdict told.line.items told.status) }
-    ensures right { (text : List ℕ) → IsQueryOf text asked.names.program.bank asked.query → IfOk result (λ told. IsCheckOf (F.held folder.old) name.now text told.line.items told.status) }
+    ensures right { (text : List ℕ) → IsAskedFrom (F.held folder.old) name.now text asked.names asked.query → IfOk result (λ told. IsCheckOf (F.held folder.old) name.now text told.line.items told.status) }
 {
     let file = match file_name(alloc, name, ".cert") {
         Ok(file) => file,
@@ -211,7 +216,7 @@ fn check_asked<F: Folder, K: Sink>(
     ensures ran { Ran F.read_faults F.misses F.overs K.written folder.old folder.new out.old out.new result }
     ensures keeps { KeepsFiles F.write_faults F.held K.faults folder.old folder.new out.old out.new result }
     ensures nowhere { result ≢ Status.Source }
-    ensures checks { (text : List ℕ) → IsQueryOf text asked.names.program.bank asked.query → Checks (F.held folder.old) name.now text (K.written out.old) (K.written out.new) result }
+    ensures checks { (text : List ℕ) → IsAskedFrom (F.held folder.old) name.now text asked.names asked.query → Checks (F.held folder.old) name.now text (K.written out.old) (K.written out.new) result }
 {
     match read_and_judged(alloc, name, asked, folder) {
         Ok(told) => say_checked(out, told),

@@ -1,12 +1,13 @@
 // Whether a program and a query are pattern text.
-ghost use Rattle.std.specs.Prelude.{◌≡◌, ◌≢◌, ◌<◌, ◌++◌, ℕ, List, IfOk, OnOk, length, get_or, codes, [], true};
+ghost use Rattle.std.specs.Prelude.{◌≡◌, ◌≢◌, ◌<◌, ◌++◌, ℕ, List, Option, IfOk, OnOk, length, get_or, codes, [], true};
 ghost use Rattle.std.specs.Fmt.{decimal};
 ghost use Rattle.lp_base.specs.Counts.{Counts};
+ghost use Rattle.lp_base.specs.Held.{Held};
 ghost use Rattle.lp_lines.specs.Ends.{Grows, KeepsFiles, Ran};
 ghost use Rattle.lp_lines.specs.Lines.{is_of_search};
 ghost use Rattle.lp_load.specs.Placed.{WritesPlaced};
 ghost use Rattle.lp_term.specs.Nodes.{tree};
-ghost use Rattle.lp_judge.specs.Asked.{IsQueryOf};
+ghost use Rattle.lp_judge.specs.Asked.{AreToldTexts};
 ghost use Rattle.lp_judge.specs.Judged.{names_of, IsVerdictLine, Judges};
 
 use crate::texts::{Texts, prepare};
@@ -103,7 +104,7 @@ fn judge<K: Sink>(alloc: Global, texts: Texts, out: &mut K) -> Status
     ensures grows { Grows (K.written out.old) (K.written out.new) }
     ensures of_search { result ≢ Status.WriteFault → is_of_search result ≡ true }
     ensures write_faults { Counts (result ≡ Status.WriteFault) (K.faults out.old) (K.faults out.new) }
-    ensures judges { (text : List ℕ) → IsQueryOf text texts.bank texts.query → Judges text (K.written out.old) (K.written out.new) result }
+    ensures judges { (told : Option Held) (name text : List ℕ) → AreToldTexts told name text texts.modules.items texts.bank texts.query → Judges told name text (K.written out.old) (K.written out.new) result }
 {
     match verdict_on(alloc, texts) {
         Ok(told) => refuse(out, told.line, told.status),
@@ -123,7 +124,7 @@ pub fn lambda<F: Folder, K: Sink>(
     ensures ran { Ran F.read_faults F.misses F.overs K.written folder.old folder.new out.old out.new result }
     ensures keeps { KeepsFiles F.write_faults F.held K.faults folder.old folder.new out.old out.new result }
     ensures placed { result ≡ Status.Source → WritesPlaced (F.held folder.old) query.now (K.written out.old) (K.written out.new) }
-    ensures judges { Judges query.now (K.written out.old) (K.written out.new) result }
+    ensures judges { Judges (F.held folder.old) name.now query.now (K.written out.old) (K.written out.new) result }
 {
     match prepare(alloc, name, query, folder) {
         Ok(texts) => judge(alloc, texts, out),

@@ -9,20 +9,21 @@ ghost use Rattle.lp_lines.specs.Looked.{Looked, refusal_of};
 ghost use Rattle.lp_lines.specs.Placed.{IfSource};
 ghost use Rattle.lp_lines.specs.Refusals.{IsJudged};
 ghost use Rattle.lp_load.specs.Placed.{IsPlaced, WritesPlaced};
+ghost use Rattle.lp_judge.specs.Asked.{IsAskedFrom};
+ghost use Rattle.lp_judge.specs.Proofs.{AreProofs, IsCertified, WritesProofs, has_file};
 ghost use Rattle.lp_judge.specs.Proved.{IsOutcome, IsReady, Proves, cert_file, proved_line};
 
 use crate::asking::{Asked, prepare_asked};
+use crate::checking::read;
 use crate::collecting::{Collected, Stopped, collect};
 use crate::copying::copy_of;
 use itoa::Buffer;
 use lp_base::{Folder, Limit, Memory, Sink, Status};
-use lp_cert::{CheckVerdict, check, read_cert};
+use lp_cert::{CheckVerdict, check};
 use lp_lines::{Refusal, Target, ending, file_name, limited, put, say, status, tell, write_fault};
 use lp_model::Ending;
 use lp_plain::Search;
-use lp_term::Bank;
 use std::alloc::Global;
-use std::mem::replace;
 
 /// What is to be proved: a query of a module, with the limits of its search.
 #[derive(Clone, Copy)]
@@ -95,18 +96,20 @@ fn target_of(alloc: Global, name: &str, collected: &Collected) -> Result<Target,
 }
 
 // The verdict on the certificates that the bytes spell.
-fn verdict(alloc: Global, asked: Asked, bytes: &[u8]) -> Result<CheckVerdict, Memory> {
+fn verdict(alloc: Global, asked: Asked, bytes: &[u8]) -> Result<CheckVerdict, Memory>
+    ensures { (held : Option Held) (name text : List ℕ) → IsAskedFrom held name text asked.names asked.query → IfOk result (λ v. v ≡ CheckVerdict.Accepted → AreProofs held name text bytes.now) }
+{
     let Asked { mut names, query } = asked;
-    let mut bank = replace(&mut names.program.bank, Bank::new(alloc));
-    let Ok(certificates) = read_cert(alloc, bytes, &names, &mut bank) else {
+    let Ok(certificates) = read(alloc, bytes, &mut names) else {
         return Err(Memory);
     };
-    names.program.bank = bank;
     check(alloc, &mut names, &query, certificates.as_slice())
 }
 
 // The file is made only where its certificates are accepted, as they are when the file is checked.
-fn judged(alloc: Global, asked: Asked, bytes: &[u8]) -> Result<(), Stopped> {
+fn judged(alloc: Global, asked: Asked, bytes: &[u8]) -> Result<(), Stopped>
+    ensures { (held : Option Held) (name text : List ℕ) → IsAskedFrom held name text asked.names asked.query → OnOk result (AreProofs held name text bytes.now) }
+{
     match verdict(alloc, asked, bytes)? {
         CheckVerdict::Accepted => Ok(()),
         CheckVerdict::Deep(_) => Err(Stopped::Deep),
@@ -115,7 +118,8 @@ fn judged(alloc: Global, asked: Asked, bytes: &[u8]) -> Result<(), Stopped> {
 }
 
 fn made(alloc: Global, asked: Asked, claim: Claim<'_>) -> Result<Ready, Stopped>
-    ensures { IfOk result (λ r. IsReady claim.entry.name.now r.ending r.target) }
+    ensures ready { IfOk result (λ r. IsReady claim.entry.name.now r.ending r.target) }
+    ensures proofs { (held : Option Held) (name text : List ℕ) → IsAskedFrom held name text asked.names asked.query → IfOk result (λ r. AreProofs held name text r.bytes.items) }
 {
     let search = start(alloc, &asked, claim)?;
     let collected = collect(alloc, search)?;
@@ -133,6 +137,7 @@ fn without_file(alloc: Global, stopped: Stopped) -> Result<Outcome, Refusal>
     ensures judged { IfErr result IsJudged }
     ensures nowhere { IfErr result (IfSource (λ line. ⊥)) }
     ensures outcome { (name : List ℕ) → IfOk result (IsOutcome name) }
+    ensures certified { (held : Option Held) (name text : List ℕ) → IfOk result (IsCertified held name text) }
 {
     match stopped {
         Stopped::Deep => Ok(Outcome::Deep),
@@ -145,6 +150,7 @@ fn outcome_of(alloc: Global, asked: Asked, claim: Claim<'_>) -> Result<Outcome, 
     ensures judged { IfErr result IsJudged }
     ensures nowhere { IfErr result (IfSource (λ line. ⊥)) }
     ensures outcome { IfOk result (IsOutcome claim.entry.name.now) }
+    ensures certified { (held : Option Held) (name text : List ℕ) → IsAskedFrom held name text asked.names asked.query → IfOk result (IsCertified held name text) }
 {
     match made(alloc, asked, claim) {
         Ok(file) => Ok(Outcome::File(file)),
@@ -157,6 +163,7 @@ fn prepare<F: Folder>(alloc: Global, claim: Claim<'_>, folder: &mut F) -> Result
     ensures looked { Looked F.read_faults F.misses F.overs F.write_faults F.held folder.old folder.new (refusal_of result) }
     ensures placed { IfErr result (IfSource (IsPlaced (F.held folder.old) claim.entry.query.now)) }
     ensures outcome { IfOk result (IsOutcome claim.entry.name.now) }
+    ensures certified { IfOk result (IsCertified (F.held folder.old) claim.entry.name.now claim.entry.query.now) }
 {
     match prepare_asked(alloc, claim.name, claim.query, folder) {
         Ok(asked) => outcome_of(alloc, asked, claim),
@@ -174,6 +181,7 @@ fn finish<F: Folder, K: Sink>(
     ensures grows { Grows (K.written out.old) (K.written out.new) }
     ensures of_search { result ≢ Status.WriteFault → is_of_search result ≡ true }
     ensures leaves { (name : List ℕ) → IsOutcome name outcome → Proves F.write_faults F.held K.faults K.written folder.old folder.new out.old out.new name result }
+    ensures certified { (name text : List ℕ) → IsOutcome name outcome → IsCertified (F.held folder.old) name text outcome → has_file result ≡ true → WritesProofs (F.held folder.old) (F.held folder.new) name text }
     ensures read_faults { F.read_faults folder.new ≡ F.read_faults folder.old }
     ensures misses { F.misses folder.new ≡ F.misses folder.old }
     ensures overs { F.overs folder.new ≡ F.overs folder.old }
@@ -203,6 +211,7 @@ pub fn prove<F: Folder, K: Sink>(
 ) -> Status
     ensures ran { Ran F.read_faults F.misses F.overs K.written folder.old folder.new out.old out.new result }
     ensures leaves { Proves F.write_faults F.held K.faults K.written folder.old folder.new out.old out.new claim.entry.name.now result }
+    ensures certified { has_file result ≡ true → WritesProofs (F.held folder.old) (F.held folder.new) claim.entry.name.now claim.entry.query.now }
     ensures placed { result ≡ Status.Source → WritesPlaced (F.held folder.old) claim.entry.query.now (K.written out.old) (K.written out.new) }
 {
     match prepare(alloc, claim, folder) {

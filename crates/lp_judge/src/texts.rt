@@ -1,12 +1,14 @@
 // The texts that are judged: the modules of a program, and a query on it.
 ghost use Rattle.std.specs.Prelude.{◌≡◌, Option, IfOk, IfErr};
 ghost use Rattle.lp_base.specs.Held.{Held};
+ghost use Rattle.lp_build.specs.Meant.{AreModules};
+ghost use Rattle.lp_build.specs.Reads.{AreRead};
 ghost use Rattle.lp_build.specs.Told.{AreLoaded};
 ghost use Rattle.lp_lines.specs.Looked.{Looked, refusal_of};
 ghost use Rattle.lp_lines.specs.Placed.{IfSource};
 ghost use Rattle.lp_lines.specs.Refusals.{IsTextRefusal};
 ghost use Rattle.lp_load.specs.Placed.{IsOfFile, IsPlaced};
-ghost use Rattle.lp_judge.specs.Asked.{IsQueryOf};
+ghost use Rattle.lp_judge.specs.Asked.{AreTextsOf, AreToldTexts};
 
 use lp_base::Folder;
 use lp_build::{Sources, gather_with, modules};
@@ -28,6 +30,7 @@ pub(crate) struct Texts {
 // What the modules mean. The program is built of them, so no text is refused here that was not refused before.
 fn modules_of(alloc: Global, sources: &Sources) -> Result<Vec<Module>, Refusal>
     ensures refused { IfErr result IsTextRefusal }
+    ensures meanings { AreRead sources.now → IfOk result (λ modules. AreModules sources.now modules.items) }
     ensures placed { (told : Option Held) → AreLoaded told sources.now → IfErr result (IfSource (IsOfFile told)) }
 {
     match modules(alloc, sources) {
@@ -40,7 +43,7 @@ fn modules_of(alloc: Global, sources: &Sources) -> Result<Vec<Module>, Refusal>
 fn texts_of(alloc: Global, sources: &Sources, query: &str) -> Result<Texts, Refusal>
     ensures refused { IfErr result IsTextRefusal }
     ensures placed { (told : Option Held) → AreLoaded told sources.now → IfErr result (IfSource (IsPlaced told query.now)) }
-    ensures asked { IfOk result (λ texts. IsQueryOf query.now texts.bank texts.query) }
+    ensures texts { AreRead sources.now → IfOk result (λ texts. AreTextsOf sources.now query.now texts.modules.items texts.bank texts.query) }
 {
     let mut built = match build(alloc, sources) {
         Ok(built) => built,
@@ -72,7 +75,7 @@ pub(crate) fn prepare<F: Folder>(
 ) -> Result<Texts, Refusal>
     ensures looked { Looked F.read_faults F.misses F.overs F.write_faults F.held folder.old folder.new (refusal_of result) }
     ensures placed { IfErr result (IfSource (IsPlaced (F.held folder.old) query.now)) }
-    ensures asked { IfOk result (λ texts. IsQueryOf query.now texts.bank texts.query) }
+    ensures texts { IfOk result (λ texts. AreToldTexts (F.held folder.old) name.now query.now texts.modules.items texts.bank texts.query) }
 {
     let known = Vec::new(alloc);
     match gather_with(alloc, folder, name, true, known) {

@@ -1,5 +1,6 @@
 // The writing of a file, and the line that tells of it.
-ghost use Rattle.std.specs.Prelude.{◌≡◌, ◌≢◌, ◌≤◌, ℕ, List, true};
+ghost use Rattle.std.specs.Prelude.{◌≡◌, ◌≢◌, ◌≤◌, ℕ, List, IfSome, string_bytes, true};
+ghost use Rattle.lp_base.specs.Held.{Puts};
 ghost use Rattle.lp_base.specs.Written.{Appends, AppendsPrefix};
 ghost use Rattle.lp_lines.specs.Ends.{Grows};
 ghost use Rattle.lp_lines.specs.Left.{IsTarget, LeavesWith};
@@ -33,7 +34,7 @@ fn tell_fault<K: Sink>(out: &mut K, line: &[u8]) -> Status
 }
 
 /// Writes a file, and its line with the status of the command. Where the folder fails the line of a write fault is written, and where memory is
-/// wanting for the write, that memory ran out.
+/// wanting for the write, that memory ran out. Where it ends otherwise the file has these bytes.
 pub fn put<F: Folder, K: Sink>(
     alloc: Global,
     target: &Target,
@@ -47,6 +48,7 @@ pub fn put<F: Folder, K: Sink>(
     ensures of_search { result ≢ Status.WriteFault → is_of_search result ≡ true }
     ensures leaves { (file line : List ℕ) → IsTarget file line target.now
         → LeavesWith F.write_faults F.held K.faults K.written folder.old folder.new out.old out.new file line status result }
+    ensures bytes { result ≢ Status.WriteFault → result ≢ Status.Memory → IfSome (F.held folder.old) (λ old. IfSome (F.held folder.new) (Puts (string_bytes target.now.file) bytes.now old)) }
     ensures read_faults { F.read_faults folder.new ≡ F.read_faults folder.old }
     ensures misses { F.misses folder.new ≡ F.misses folder.old }
     ensures overs { F.overs folder.new ≡ F.overs folder.old }

@@ -2,6 +2,7 @@ use Rattle.lp_lines.proofs.Refusing.{never_write_fault}
 use Rattle.lp_lines.proofs.Running.{keeps_then, keeps_told, ran_then, ran_told}
 use Rattle.lp_load.proofs.Telling.{placed_told}
 use Rattle.std.proofs.Common.{subst}
+use Rattle.lp_judge.specs.Asked.{IsAskedFrom}
 use Rattle.lp_judge.specs.Checked.{Checks}
 use Rattle.lp_judge.proofs.Checkings.{checks_refused}
 use Rattle.lp_judge.proofs.checking.check_certificates.Goals as goal
@@ -29,8 +30,9 @@ returns-in-Err-clause-placed g c = placed_told (g.F.Folder.held c.args.folder.no
 
 pub returns-in-Ok-clause-checks : goal.returns-in-Ok-clause-checks
 returns-in-Ok-clause-checks g c =
-    subst (λ held. Checks held c.args.name.now c.args.query.now (g.K.Sink.written c.args.out.now) (g.K.Sink.written c.check_asked.new.out) c.check_asked.result)
-    c.in-Ok.ensures.looked.same (c.check_asked.ensures.checks c.args.query.now c.in-Ok.ensures.asked)
+    subst (λ held. IsAskedFrom held c.args.name.now c.args.query.now c.in-Ok.asked.names c.in-Ok.asked.query
+    → Checks held c.args.name.now c.args.query.now (g.K.Sink.written c.args.out.now) (g.K.Sink.written c.check_asked.new.out) c.check_asked.result)
+    c.in-Ok.ensures.looked.same (c.check_asked.ensures.checks c.args.query.now) c.in-Ok.ensures.asked
 
 pub returns-in-Err-clause-checks : goal.returns-in-Err-clause-checks
 returns-in-Err-clause-checks g c =

@@ -8,11 +8,12 @@ use Rattle.lp_judge.proofs.Checkings.{judged_on}
 use Rattle.lp_judge.proofs.checking.judged.Goals as goal
 
 pub returns-in-Ok-said_of_verdict-clause-right : goal.returns-in-Ok-said_of_verdict-clause-right
-returns-in-Ok-said_of_verdict-clause-right c text = λ asked. (
+returns-in-Ok-said_of_verdict-clause-right c held name text = λ asked. (
   _,
   c.in-Ok-verdict_on.verdict,
-  judged_on _ text _ _ c.verdict_on.new.names c.args.asked.query c.in-Ok.certificates.items _ c.in-Ok-verdict_on.verdict asked
-      c.read.ensures.kept c.verdict_on.ensures.kept c.read.ensures.same c.verdict_on.ensures.same c.in-Ok.ensures.inside c.in-Ok.ensures.found.0 c.in-Ok.ensures.found.1 (omega (arith, c.len.ensures, c.in-Ok.certificates.ok))
+  judged_on held name text _ _ _ c.verdict_on.new.names c.args.asked.query c.in-Ok.certificates.items _ c.in-Ok-verdict_on.verdict asked
+      c.read.ensures.kept c.verdict_on.ensures.kept c.read.ensures.same c.verdict_on.ensures.same c.in-Ok.ensures.inside c.in-Ok.ensures.found.0
+      c.in-Ok.ensures.found.1 (omega (arith, c.len.ensures, c.in-Ok.certificates.ok))
       (let after = c.verdict_on.new.names.program in
       subst (λ cs. IsQueryInside c.read.new.names.program.bank c.args.asked.query → All (IsCertificateInside c.read.new.names.program.bank) cs
       → IsVerdictOn (ground_of after) (query_of after.bank c.args.asked.query) (map (certificate_of after.bank) cs) c.in-Ok-verdict_on.verdict)

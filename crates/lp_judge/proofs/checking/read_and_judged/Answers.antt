@@ -11,4 +11,4 @@ returns-in-Ok-bytes_of-clause-looked g c = looked_judged c.judged.result c.in-Ok
 
 pub returns-in-Ok-bytes_of-clause-right : goal.returns-in-Ok-bytes_of-clause-right
 returns-in-Ok-bytes_of-clause-right g c text = λ asked.
-    checks_of _ _ text _ _ _ c.judged.result (c.as_str.ensures.value ∙ c.in-Ok.ensures) c.as_slice.ensures.value c.in-Ok-bytes_of.ensures.there (c.judged.ensures.right text asked)
+    checks_of _ _ text _ _ _ c.judged.result (c.as_str.ensures.value ∙ c.in-Ok.ensures) c.as_slice.ensures.value c.in-Ok-bytes_of.ensures.there (c.judged.ensures.right (g.F.Folder.held c.args.folder.now) c.args.name.now text asked)

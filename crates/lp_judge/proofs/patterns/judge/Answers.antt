@@ -13,12 +13,12 @@ pub returns-in-Ok-clause-of_search : goal.returns-in-Ok-clause-of_search
 returns-in-Ok-clause-of_search g c = judgement_of_search _ _ c.in-Ok.told.line.items c.in-Ok.told.status c.in-Ok.ensures c.refuse.result (λ n. (c.refuse.ensures.said n).0)
 
 pub returns-in-Ok-clause-judges : goal.returns-in-Ok-clause-judges
-returns-in-Ok-clause-judges g c text = λ h.
-    judges_texts text _ _ c.refuse.result c.args.texts.modules.items c.args.texts.bank c.args.texts.query
+returns-in-Ok-clause-judges g c told name text = λ h.
+    judges_texts told name text _ _ c.refuse.result c.args.texts.modules.items c.args.texts.bank c.args.texts.query
     c.in-Ok.told.line.items c.in-Ok.told.status h c.in-Ok.ensures c.refuse.ensures.said
 
 pub returns-in-Err-clause-of_search : goal.returns-in-Err-clause-of_search
 returns-in-Err-clause-of_search g c = memory_of_search c.say_memory.result c.say_memory.ensures.said
 
 pub returns-in-Err-clause-judges : goal.returns-in-Err-clause-judges
-returns-in-Err-clause-judges g c text = λ h. judges_memory text _ _ c.say_memory.result c.say_memory.ensures.said
+returns-in-Err-clause-judges g c told name text = λ h. judges_memory told name text _ _ c.say_memory.result c.say_memory.ensures.said

@@ -27,7 +27,8 @@ pub returns-in-Err-clause-placed : goal.returns-in-Err-clause-placed
 returns-in-Err-clause-placed g c = placed_told (g.F.Folder.held c.args.folder.now) c.args.query.now c.in-Err.refusal c.tell.result _ _ c.in-Err.ensures.placed c.tell.ensures.said
 
 pub returns-in-Err-clause-judges : goal.returns-in-Err-clause-judges
-returns-in-Err-clause-judges g c = judges_refused c.args.query.now _ _ c.tell.result c.in-Err.refusal c.in-Err.ensures.looked.kind c.tell.ensures.said
+returns-in-Err-clause-judges g c = judges_refused (g.F.Folder.held c.args.folder.now) c.args.name.now c.args.query.now _ _ c.tell.result
+    c.in-Err.refusal c.in-Err.ensures.looked.kind c.tell.ensures.said
 
 pub returns-in-Ok-clause-judges : goal.returns-in-Ok-clause-judges
-returns-in-Ok-clause-judges g c = c.judge.ensures.judges c.args.query.now c.in-Ok.ensures.asked
+returns-in-Ok-clause-judges g c = c.judge.ensures.judges (g.F.Folder.held c.args.folder.now) c.args.name.now c.args.query.now c.in-Ok.ensures.texts

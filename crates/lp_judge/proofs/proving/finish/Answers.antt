@@ -4,7 +4,7 @@ use Rattle.lp_lines.specs.Lines.{is_of_search}
 use Rattle.lp_lines.proofs.Leaving.{leaves_untouched}
 use Rattle.lp_lines.proofs.Refusing.{line_grows}
 use Rattle.lp_lines.proofs.Statuses.{ending_is, said_of_search, search_not_fault}
-use Rattle.lp_judge.proofs.Provings.{deep_not_done, ready_file, with_status}
+use Rattle.lp_judge.proofs.Provings.{deep_no_file, deep_not_done, file_no_fault, file_no_memory, proofs_stand, ready_file, with_status}
 use Rattle.lp_judge.proofs.proving.finish.Goals as goal
 
 pub put-requires : goal.put-requires
@@ -27,3 +27,12 @@ returns-in-Deep-clause-of_search g c = said_of_search c.say.result c.status-in-D
 pub returns-in-Deep-clause-leaves : goal.returns-in-Deep-clause-leaves
 returns-in-Deep-clause-leaves g c = λ name o.
     (0, 0, ending.Deep, leaves_untouched c.say.result c.status-in-Deep.result (λ n. (c.say.ensures.said n).0) (λ e. deep_not_done (sym c.status-in-Deep.ensures ∙ e)) c.say.ensures.faults refl refl)
+
+pub returns-in-File-clause-certified : goal.returns-in-File-clause-certified
+returns-in-File-clause-certified g c name text = λ o h f.
+    let r = ready_file name c.args.outcome c.in-File.file c.in-File.is o in
+    proofs_stand _ _ name text c.args.outcome c.in-File.file _ _ c.in-File.is h r.2.file_is c.as_slice.ensures.value
+    (c.put.ensures.bytes (file_no_fault c.put.result f) (file_no_memory c.put.result f))
+
+pub returns-in-Deep-clause-certified : goal.returns-in-Deep-clause-certified
+returns-in-Deep-clause-certified g c name text = λ o h f. absurd (deep_no_file c.status-in-Deep.result c.say.result c.status-in-Deep.ensures c.say.ensures.said f)

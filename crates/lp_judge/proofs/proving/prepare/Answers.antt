@@ -7,3 +7,6 @@ returns-in-Ok-clause-looked g c = looked_judged c.outcome_of.result c.in-Ok.ensu
 
 pub returns-in-Ok-clause-placed : goal.returns-in-Ok-clause-placed
 returns-in-Ok-clause-placed g c = nowhere_placed _ c.outcome_of.result c.outcome_of.ensures.nowhere
+
+pub returns-in-Ok-clause-certified : goal.returns-in-Ok-clause-certified
+returns-in-Ok-clause-certified g c = c.outcome_of.ensures.certified _ _ _ c.in-Ok.ensures.asked

@@ -1,3 +1,6 @@
+use Rattle.std.proofs.Common.{subst}
+use Rattle.lp_judge.specs.Proofs.{IsCertified, WritesProofs}
+use Rattle.lp_judge.proofs.Provings.{told_no_file}
 use Rattle.lp_model.specs.declared.ending.Ending.TheVariants as ending
 use Rattle.lp_lines.proofs.Leaving.{leaves_then, leaves_told}
 use Rattle.lp_lines.proofs.Refusing.{never_write_fault}
@@ -7,7 +10,8 @@ use Rattle.lp_load.proofs.Telling.{placed_told}
 use Rattle.lp_judge.proofs.proving.prove.Goals as goal
 
 pub returns-in-Ok-clause-ran : goal.returns-in-Ok-clause-ran
-returns-in-Ok-clause-ran g c = ran_behind c.finish.result c.in-Ok.ensures.looked c.finish.ensures.read_faults c.finish.ensures.misses c.finish.ensures.overs c.finish.ensures.grows c.finish.ensures.of_search
+returns-in-Ok-clause-ran g c = ran_behind c.finish.result c.in-Ok.ensures.looked c.finish.ensures.read_faults c.finish.ensures.misses
+    c.finish.ensures.overs c.finish.ensures.grows c.finish.ensures.of_search
 
 pub returns-in-Ok-clause-leaves : goal.returns-in-Ok-clause-leaves
 returns-in-Ok-clause-leaves g c =
@@ -28,3 +32,13 @@ returns-in-Err-clause-leaves g c = (0, 0, ending.NoMore, leaves_told c.in-Err.re
 
 pub returns-in-Err-clause-placed : goal.returns-in-Err-clause-placed
 returns-in-Err-clause-placed g c = placed_told (g.F.Folder.held c.args.folder.now) c.args.claim.query.now c.in-Err.refusal c.tell.result _ _ c.in-Err.ensures.placed c.tell.ensures.said
+
+pub returns-in-Ok-clause-certified : goal.returns-in-Ok-clause-certified
+returns-in-Ok-clause-certified g c = λ f.
+    let name = c.args.claim.name.now in
+    let text = c.args.claim.query.now in
+    subst (λ held. IsCertified held name text c.in-Ok.outcome → WritesProofs held (g.F.Folder.held c.finish.new.folder) name text) c.in-Ok.ensures.looked.same
+    (λ h. c.finish.ensures.certified name text c.in-Ok.ensures.outcome h f) c.in-Ok.ensures.certified
+
+pub returns-in-Err-clause-certified : goal.returns-in-Err-clause-certified
+returns-in-Err-clause-certified g c = λ f. absurd (told_no_file c.in-Err.refusal c.tell.result c.in-Err.ensures.looked.kind c.tell.ensures.said f)

@@ -3,6 +3,7 @@ use Rattle.lp_build.specs.Told.{AreKnown}
 use Rattle.lp_lines.proofs.Looking.{looked_judged, text_judged}
 use Rattle.lp_lines.proofs.Placing.{source_weaker}
 use Rattle.lp_load.proofs.Telling.{looked_gathered, looked_ungathered, none_known}
+use Rattle.lp_judge.proofs.Sourced.{told_texts}
 use Rattle.lp_judge.proofs.texts.prepare.Goals as goal
 
 pub returns-in-Ok-clause-looked : goal.returns-in-Ok-clause-looked
@@ -20,3 +21,10 @@ pub returns-in-Err-clause-placed : goal.returns-in-Err-clause-placed
 returns-in-Err-clause-placed g c =
     let held = g.F.Folder.held c.args.folder.now in
     source_weaker _ _ (λ line h. inl h) c.load_refused.result (c.load_refused.ensures.placed held (c.in-Err.ensures.fault (subst (AreKnown held) (sym c.new-known.ensures.items) (none_known held))))
+
+pub returns-in-Ok-clause-texts : goal.returns-in-Ok-clause-texts
+returns-in-Ok-clause-texts g c =
+    let held = g.F.Folder.held c.args.folder.now in
+    told_texts held c.args.name.now c.args.query.now c.in-Ok.sources c.texts_of.result c.in-Ok.ensures.begins c.in-Ok.ensures.first
+    (c.in-Ok.ensures.files (subst (AreKnown held) (sym c.new-known.ensures.items) (none_known held))) c.in-Ok.ensures.read
+    (c.texts_of.ensures.texts c.in-Ok.ensures.read)

@@ -2,7 +2,7 @@ use Rattle.std.proofs.Common.{inl, inr, subst}
 use Rattle.std.specs.Prelude.{codes}
 use Rattle.lp_lines.specs.Placed.{IsOfText}
 use Rattle.lp_lines.proofs.Placing.{source_weaker}
-use Rattle.lp_judge.proofs.Questions.{query_of_text}
+use Rattle.lp_load.specs.Asked.{IsAsked}
 use Rattle.lp_judge.proofs.texts.texts_of.Goals as goal
 
 pub returns-in-Err-clause-placed : goal.returns-in-Err-clause-placed
@@ -14,5 +14,10 @@ returns-in-Err-ask-clause-placed c = λ told h. source_weaker _ _ (λ line k. in
 pub returns-in-Err-modules_of-clause-placed : goal.returns-in-Err-modules_of-clause-placed
 returns-in-Err-modules_of-clause-placed c = λ told h. source_weaker _ _ (λ line k. inl k) c.in-Err-modules_of.refusal (c.in-Err-modules_of.ensures.placed told h)
 
-pub returns-clause-asked : goal.returns-clause-asked
-returns-clause-asked c = query_of_text _ _ _ _ _ c.in-Ok-ask.typed c.as_bytes.ensures.value c.in-Ok-ask.ensures.asked
+pub returns-clause-texts : goal.returns-clause-texts
+returns-clause-texts c = λ read. record {
+  are = c.in-Ok-modules_of.ensures.meanings read;
+  built = c.in-Ok.built;
+  program = c.in-Ok.ensures.program read;
+  asked = subst (λ q. IsAsked c.in-Ok.built.table c.in-Ok.built.signature q c.ask.new.built.assembled.program.bank c.in-Ok-ask.typed) c.as_bytes.ensures.value c.in-Ok-ask.ensures.asked;
+}

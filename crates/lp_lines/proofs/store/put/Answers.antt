@@ -19,3 +19,12 @@ pub returns-in-Ok-clause-leaves : goal.returns-in-Ok-clause-leaves
 returns-in-Ok-clause-leaves g c =
     λ file line t. leaves_file file line c.args.target.now t c.args.status c.say.result c.args.bytes.now c.in-Ok.field-0 (rw c.as_str.ensures.value at c.in-Ok.ensures.told) c.in-Ok.ensures.write_faults
     (rw c.as_slice.ensures.value at c.say.ensures.said) (rw c.as_slice.ensures.value at c.say.ensures.prefix) c.say.ensures.faults
+
+pub returns-in-Ok-clause-bytes : goal.returns-in-Ok-clause-bytes
+returns-in-Ok-clause-bytes g c = λ n m. rw c.as_str.ensures.value at c.in-Ok.ensures.told
+
+pub returns-in-Err-Failed-clause-bytes : goal.returns-in-Err-Failed-clause-bytes
+returns-in-Err-Failed-clause-bytes g c = λ n m. absurd (n c.tell_fault.ensures.is_fault)
+
+pub returns-in-Err-Memory-clause-bytes : goal.returns-in-Err-Memory-clause-bytes
+returns-in-Err-Memory-clause-bytes g c = λ n m. absurd (m (c.say_memory.ensures.said n))

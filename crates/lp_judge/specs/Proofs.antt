@@ -1,0 +1,33 @@
+-- The certificates that a proving run leaves: instances of the query, with proofs of them from the program of the texts.
+use Rattle.std.specs.Prelude.{ℕ, List, Bool, true, false, Option, IfSome}
+use Rattle.lp_base.specs.Held.{Held, Puts}
+use Rattle.lp_base.specs.declared.status.Status.{Status}
+use Rattle.lp_base.specs.declared.status.Status.TheVariants as variant
+use Rattle.lp_cert.specs.declared.judging.CheckVerdict.TheVariants.{Accepted}
+use Rattle.lp_judge.specs.Checked.{IsJudgedOn}
+use Rattle.lp_judge.specs.Proved.{cert_file}
+use Rattle.lp_judge.specs.declared.proving.Outcome.{Outcome}
+use Rattle.lp_judge.specs.declared.proving.Outcome.TheVariants.{File, Deep}
+
+-- the bytes spell certificates, and each is an instance of the query of the text with a proof of it from the program of a module, as the folder tells its texts
+abbrev pub AreProofs : (told : Option Held) (name text bytes : List ℕ) → Type 0
+AreProofs told name text bytes = (count : ℕ) × IsJudgedOn told name text bytes count Accepted
+
+abbrev pub IsCertified : (told : Option Held) (name text : List ℕ) → Outcome → Type 0
+IsCertified told name text (File r) = AreProofs told name text r.bytes.items
+IsCertified told name text Deep = Unit {0}
+
+-- the statuses with which a run ends that writes a file
+unfoldable pub has_file : Status → Bool
+has_file variant.Done = true
+has_file variant.Steps = true
+has_file variant.Flexible = true
+has_file variant.Arithmetic = true
+has_file variant.OpenNot = true
+has_file _ = false
+
+-- such a file stands in the folder, and nothing else has changed there
+pub record WritesProofs (told now : Option Held) (name text : List ℕ) : Type 0 where
+  pub bytes : List ℕ
+  pub proofs : AreProofs told name text bytes
+  pub stands : IfSome told (λ old. IfSome now (Puts (cert_file name) bytes old))
