@@ -5,3 +5,4 @@ pub mod Costs
 pub mod Sights
 pub mod Roots
 pub mod States
+mod Turned

@@ -1,5 +1,5 @@
 //! Unification of pairs of types without a limit, in which shared nodes are taken once: it stays polynomial in the number of nodes.
-ghost use Rattle.std.specs.Prelude.{◌≡◌, ℕ, ◌<◌, length, List, [], ◌∷◌, ◌++◌, IfOk, OnOk, All, None, nat_eq, map, MatchOption, IfSome};
+ghost use Rattle.std.specs.Prelude.{◌≡◌, ℕ, ◌<◌, length, List, [], ◌∷◌, ◌++◌, IfOk, OnOk, All, None, nat_eq, map, reverse, MatchOption, IfSome};
 ghost use Rattle.indexmap.specs.IndexMap.{get};
 ghost use Rattle.lp_calculus.specs.Types.{Ty, instance, var};
 ghost use Rattle.lp_term.specs.Nodes.{type_tree};
@@ -117,6 +117,16 @@ fn take(
     }
 }
 
+// Puts pairs on the list of tasks, so that the first one is taken first.
+fn push_all(pairs: &[Pair], todo: &mut Vec<Task>) -> Result<(), Memory>
+    ensures { OnOk result (todo.new.items ≡ todo.old.items ++ map Task.Take (reverse pairs.now)) }
+{
+    for pair in pairs.iter().rev().copied() {
+        todo.push(Task::Take(pair))?;
+    }
+    Ok(())
+}
+
 /// The most general types for the type variables that make the two types of each pair one, where there are any. Of two
 /// variables the younger is bound.
 pub fn unify(alloc: Global, bank: &Bank, pairs: &[Pair]) -> Result<Option<Bindings>, Memory>
@@ -126,8 +136,9 @@ pub fn unify(alloc: Global, bank: &Bank, pairs: &[Pair]) -> Result<Option<Bindin
         (λ bindings. IsMostGeneral (read_pairs (type_tree bank.now) var pairs.now) (reads bank.now bindings.made))) }
     ensures kept { IfOk result (λ found. IfSome found (λ bindings. AreKept bank.now bindings.made)) }
 {
+    // From the first pair on: parts of a text come before the whole, and so chains of variables stay short.
     let mut todo = Vec::new(alloc);
-    push_takes(pairs, &mut todo)?;
+    push_all(pairs, &mut todo)?;
     let mut bindings = Bindings::new(alloc);
     let mut joined = Joined::new(alloc);
     'tasks: while let Some(task) = todo.pop() {

@@ -1,21 +1,24 @@
-use Rattle.std.proofs.Common.{◌≡◌, ◌∙◌, ◌++◌, ◌∷◌, [], ap, nat_eq, map, arith}
+use Rattle.std.proofs.Common.{◌≡◌, ◌∙◌, ◌++◌, ◌∷◌, [], ap, length, nat_eq, map, reverse, arith}
 use Rattle.std.proofs.lemmas.Grind.{common_steps}
 use Rattle.indexmap.specs.IndexMap.{get}
 use Rattle.lp_term.specs.Nodes.{type_tree}
 use Rattle.lp_type_unify.specs.declared.shared.Task.{Task}
-use Rattle.lp_type_unify.specs.Reading.{reads, read_pair}
+use Rattle.lp_lemmas.proofs.Elements.{All_reverse}
+use Rattle.lp_type_unify.specs.Reading.{reads, read_pair, IsPair}
 use Rattle.lp_type_unify.specs.Sharing.{read_tasks, joins}
 use Rattle.lp_type_unify.proofs.Roots.{read_take, read_join, joins_off, joins_kept}
 use Rattle.lp_type_unify.proofs.States.{start_state, start_runs, state_joined, runs_on, runs_same, runs_fail, runs_end, fewer_left, fewer_joins}
+use Rattle.lp_type_unify.proofs.Turned.{general_turned, unsolved_turned}
 use Rattle.lp_type_unify.proofs.shared.unify.Goals as goal
 
 pub tasks-init : goal.tasks-init
 tasks-init c =
     let τ = type_tree c.args.bank.now in
-    let todo : c.push_takes.new.todo.items ≡ map Task.Take c.args.pairs.now = c.in_ok-push_takes.ensures ∙ ap (λ l. l ++ map Task.Take c.args.pairs.now) c.new-todo.ensures.items in
+    let ps = reverse c.args.pairs.now in
+    let todo : c.push_all.new.todo.items ≡ map Task.Take ps = c.in_ok-push_all.ensures ∙ ap (λ l. l ++ map Task.Take ps) c.new-todo.ensures.items in
     record {
-      state = start_state c.args.bank.now c.new-bindings.result.made c.new-joined.result.older c.push_takes.new.todo.items c.args.pairs.now c.new-bindings.ensures c.new-joined.ensures todo c.requires;
-      reaches = start_runs c.args.bank.now c.new-bindings.result.made c.push_takes.new.todo.items c.args.pairs.now c.new-bindings.ensures todo;
+      state = start_state c.args.bank.now c.new-bindings.result.made c.new-joined.result.older c.push_all.new.todo.items ps c.new-bindings.ensures c.new-joined.ensures todo (All_reverse (IsPair (length c.args.bank.now.types)) c.args.pairs.now c.requires);
+      reaches = start_runs c.args.bank.now c.new-bindings.result.made c.push_all.new.todo.items ps c.new-bindings.ensures todo;
     }
 
 pub returns-then-not-branch-clause-solved : goal.returns-then-not-branch-clause-solved
@@ -24,8 +27,8 @@ returns-then-not-branch-clause-solved c =
     let θ = reads c.args.bank.now c.tasks.bindings.made in
     let all : c.tasks.todo.items ≡ c.pop.new.self.items ++ Task.Take c.in-Take.pair ∷ [] = c.in-Some.ensures.items ∙ ap (λ t. c.pop.new.self.items ++ t ∷ []) c.in-Take.is in
     let f = rw c.if-not-branch.true at c.in_ok-take-in-Take.ensures in
-    runs_fail _ (read_tasks τ θ c.tasks.todo.items) (read_pair τ θ c.in-Take.pair ∷ read_tasks τ θ c.pop.new.self.items) θ c.tasks.invariant.reaches
-    (read_take τ θ c.pop.new.self.items c.tasks.todo.items c.in-Take.pair all) f
+    unsolved_turned τ c.args.pairs.now (runs_fail _ (read_tasks τ θ c.tasks.todo.items) (read_pair τ θ c.in-Take.pair ∷ read_tasks τ θ c.pop.new.self.items) θ c.tasks.invariant.reaches
+    (read_take τ θ c.pop.new.self.items c.tasks.todo.items c.in-Take.pair all) f)
 
 pub tasks-smaller-else-not-branch : goal.tasks-smaller-else-not-branch
 tasks-smaller-else-not-branch c =
@@ -75,4 +78,4 @@ returns-clause-solved c =
     let τ = type_tree c.args.bank.now in
     let θ = reads c.args.bank.now c.tasks.bindings.made in
     let empty : c.tasks.todo.items ≡ [] = grind (arith, common_steps) in
-    runs_end _ (read_tasks τ θ c.tasks.todo.items) θ c.tasks.invariant.reaches (ap (read_tasks τ θ) empty)
+    general_turned τ c.args.pairs.now θ (runs_end _ (read_tasks τ θ c.tasks.todo.items) θ c.tasks.invariant.reaches (ap (read_tasks τ θ) empty))
