@@ -1,6 +1,7 @@
 pub mod Length
 pub mod Written
 pub mod Symbolic
+pub mod Naming
 pub mod Operands
 pub mod States
 pub mod Steps

@@ -25,3 +25,4 @@ mod ReachedRecords
 mod MovedCode
 mod LinkedCode
 mod Remaking
+mod Remade

@@ -8,7 +8,8 @@ use Rattle.lp_code.specs.declared.record.Record.{Record}
 use Rattle.lp_code.specs.Symbolic.{Tables}
 use Rattle.lp_code.specs.Rules.{names_in}
 use Rattle.lp_code.specs.Denote.{denote_from, denote}
-use Rattle.lp_link.specs.Linked.{Copy, map_of, records_of, tables_of_object, AreDenoted}
+use Rattle.lp_code.specs.Naming.{object_tables}
+use Rattle.lp_link.specs.Linked.{Copy, map_of, records_of, AreDenoted}
 use Rattle.lp_link.specs.Put.{ArePut}
 use Rattle.lp_link.specs.Numbers.{renumbered}
 use Rattle.lp_link.specs.inner.Renumbering.{AllRecordsMoved}
@@ -50,7 +51,7 @@ module _ (u : Tables) where
       let m = map_of n c in
       let many = as_many m n (records_of c) own moved in
       let own_below : EachOf (λ j. j < n + k) (all_names own) = subst (EachOf (λ j. j < n + k)) (sym (all_names_moved m n (records_of c) own moved))
-      (each_map (λ j. j < k) (λ j. j < n + k) (λ j. n + j) (λ j l. omega (arith, l)) (all_names (records_of c)) (all_below (tables_of_object c.object) (records_of c) es denotes)) in
+      (each_map (λ j. j < k) (λ j. j < n + k) (λ j. n + j) (λ j l. omega (arith, l)) (all_names (records_of c)) (all_below (object_tables c.object) (records_of c) es denotes)) in
       let front_below : EachOf (λ j. j < n + k) (all_names (front ++ own)) = subst (EachOf (λ j. j < n + k)) (sym (names_behind front own))
       (each_append (λ j. j < n + k) (all_names front) (all_names own) (weaker n (n + k) (omega arith) (all_names front) below) own_below) in
       let long_now : n + k ≡ length (front ++ own) = (let e = long_behind front own in omega (arith, e, long, many)) in
@@ -58,7 +59,7 @@ module _ (u : Tables) where
       ap (λ l. denote_from u l (n + k) more) (sym (appended_records front own more)) ∙ put_denotes (front ++ own) (n + k) cs more fs long_now front_below put others in
       ap (λ l. denote_from u (front ++ l) n l) parts
       ∙ ap (λ j. denote_from u (front ++ (own ++ more)) j (own ++ more)) (let z : n ≡ n + 0 = omega arith in z)
-      ∙ denote_moved (renumbered 8 c.kinds) (renumbered 32 c.constants) n keeps (tables_of_object c.object) u tables front (records_of c) own more
+      ∙ denote_moved (renumbered 8 c.kinds) (renumbered 32 c.constants) n keeps (object_tables c.object) u tables front (records_of c) own more
       long below moved 0 (records_of c) own moved (omega arith) es fs denotes (n + k) (omega arith) behind
       ∙ ap Some (sym is)
 

@@ -2,11 +2,7 @@
 use Rattle.std.specs.Prelude.{◌≡◌, ℕ, suc, ◌+◌, ◌-◌, nat_lt, Bool, true, false, if◌then◌else◌, List, [], ◌∷◌, ◌++◌, map, length, get_or, slice_get, Option, None, Some, option_map, option_and_then}
 use Rattle.lp_calculus.specs.Types.{var}
 use Rattle.lp_calculus.specs.Term.{atom, logic}
-use Rattle.lp_calculus.specs.Typing.{Scheme}
-use Rattle.lp_term.specs.Nodes.{type_tree}
 use Rattle.lp_term.specs.Mapped.{Map, mapped, mapped_type}
-use Rattle.lp_standard.specs.Kinds.{arity, numbered as standard_kind}
-use Rattle.lp_standard.specs.Schemes.{standard_schemes, entry}
 use Rattle.lp_model.specs.Flat.{Clause, map_clause}
 use Rattle.lp_code.specs.declared.object.Object.{Object}
 use Rattle.lp_code.specs.declared.object.ObjectKind.{ObjectKind}
@@ -15,29 +11,12 @@ use Rattle.lp_code.specs.declared.record.Record.{Record}
 use Rattle.lp_code.specs.declared.image.Image.{Image}
 use Rattle.lp_code.specs.declared.image.ImageKind.{ImageKind}
 use Rattle.lp_code.specs.declared.image.ImageConstant.{ImageConstant}
-use Rattle.lp_code.specs.Symbolic.{Tables}
+use Rattle.lp_code.specs.Naming.{object_tables, image_tables}
 use Rattle.lp_code.specs.Denote.{denote}
 use Rattle.lp_places.specs.Places.{first_place}
 use Rattle.lp_link.specs.Uses.{kind_names, constant_names, uses_of}
 use Rattle.lp_link.specs.Ends.{hidden_kinds, hidden_constants}
 use Rattle.lp_link.specs.Numbers.{renumbered}
-
--- the kinds and constants that code may name: those of the language, and the entries from 8 and from 32
-abbrev pub tables_of : (arities : List ℕ) → List Scheme → Tables
-tables_of ks cs = record {
-  kinds = λ k. if nat_lt k 8 then option_map arity (standard_kind k) else slice_get ks (k - 8);
-  constants = λ c. if nat_lt c 32 then entry standard_schemes c else slice_get cs (c - 32);
-}
-
-abbrev pub tables_of_object : Object → Tables
-tables_of_object o =
-    tables_of (map (λ (k : ObjectKind). k.arity) o.kinds.items)
-    (map (λ (c : ObjectConstant). record { count = c.type_vars; body = type_tree o.bank c.scheme.0 }) o.constants.items)
-
-abbrev pub tables_of_image : Image → Tables
-tables_of_image i =
-    tables_of (map (λ (k : ImageKind). k.arity) i.kinds.items)
-    (map (λ (c : ImageConstant). record { count = c.type_vars; body = type_tree i.bank c.scheme.0 }) i.constants.items)
 
 -- the numbers of a copy's kinds and constants in the image, by their places in the object
 pub record Copy : Type 0 where
@@ -104,9 +83,9 @@ records_of c = c.object.code.records.items
 -- the clauses of copies, one copy behind the other, where the objects denote some; n records stand before them
 abbrev pub AreDenoted : (n : ℕ) → List Copy → List Clause → Type 0
 AreDenoted n [] ds = ds ≡ []
-AreDenoted n (c ∷ cs) ds = (own : List Clause) × (rest : List Clause) × (denote (tables_of_object c.object) (records_of c) ≡ Some own) × AreDenoted (n + length (records_of c)) cs rest × (ds ≡ map (renumbered_clause n c) own ++ rest)
+AreDenoted n (c ∷ cs) ds = (own : List Clause) × (rest : List Clause) × (denote (object_tables c.object) (records_of c) ≡ Some own) × AreDenoted (n + length (records_of c)) cs rest × (ds ≡ map (renumbered_clause n c) own ++ rest)
 
 -- the image denotes the clauses of the copies, where the objects denote clauses
 abbrev pub IsLinked : List Object → (root : ℕ) → Image → Type 0
 IsLinked os root i =
-    (o : Object) (end : Ends) (copies : List Copy) (ds : List Clause) → slice_get os root ≡ Some o → Linked os None (root ∷ []) (first_ends o) copies end → AreDenoted 0 copies ds → denote (tables_of_image i) i.code.records.items ≡ Some ds
+    (o : Object) (end : Ends) (copies : List Copy) (ds : List Clause) → slice_get os root ≡ Some o → Linked os None (root ∷ []) (first_ends o) copies end → AreDenoted 0 copies ds → denote (image_tables i) i.code.records.items ≡ Some ds

@@ -2,7 +2,8 @@
 use Rattle.std.specs.Prelude.{◌≡◌, ℕ, ◌+◌, List, [], ◌∷◌, ◌++◌, length}
 use Rattle.lp_code.specs.declared.record.Record.{Record}
 use Rattle.lp_code.specs.Symbolic.{Tables}
-use Rattle.lp_link.specs.Linked.{Copy, map_of, records_of, tables_of_object}
+use Rattle.lp_code.specs.Naming.{object_tables}
+use Rattle.lp_link.specs.Linked.{Copy, map_of, records_of}
 use Rattle.lp_link.specs.Numbers.{renumbered}
 use Rattle.lp_link.specs.inner.Renumbering.{AreMoved, AllRecordsMoved, KeepsStandard}
 
@@ -11,4 +12,4 @@ abbrev pub ArePut : Tables → (n : ℕ) → List Copy → List Record → Type 
 ArePut u n [] rs = rs ≡ []
 ArePut u n (c ∷ cs) rs =
     (own : List Record) × (more : List Record) × (rs ≡ own ++ more) × KeepsStandard (renumbered 8 c.kinds) (renumbered 32 c.constants)
-    × AreMoved (map_of n c) (tables_of_object c.object) u × AllRecordsMoved (map_of n c) n (records_of c) own × ArePut u (n + length (records_of c)) cs more
+    × AreMoved (map_of n c) (object_tables c.object) u × AllRecordsMoved (map_of n c) n (records_of c) own × ArePut u (n + length (records_of c)) cs more

@@ -1,5 +1,6 @@
 // The image in the making.
 ghost use Rattle.std.specs.Prelude.{◌≡◌, ◌+◌, ◌<◌, ◌^◌, length, IfOk, OnOk};
+ghost use Rattle.lp_link.specs.inner.Parts.{map_in, map_by, AddsMoved};
 
 use crate::names::{Names, Open};
 use crate::places::Member;
@@ -40,7 +41,8 @@ fn add_records(
     of: &[Record],
     records: &mut Vec<Record>,
 ) -> Result<(), Memory>
-    ensures { OnOk result (length records.new.items ≡ length records.old.items + length of.now) }
+    ensures length { OnOk result (length records.new.items ≡ length records.old.items + length of.now) }
+    ensures moved { OnOk result (AddsMoved (map_in numbers.now) numbers.now.first of.now records.old.items records.new.items) }
 {
     for at in 0..of.len() {
         records.push(numbers.record(&of[at])?)?;
@@ -136,7 +138,8 @@ impl Making {
         open: &Open,
         records: &mut Vec<Record>,
     ) -> Result<(), Memory>
-        ensures { OnOk result (length records.new.items ≡ length records.old.items + length copy.now.object.now.code.records.items) }
+        ensures length { OnOk result (length records.new.items ≡ length records.old.items + length copy.now.object.now.code.records.items) }
+        ensures moved { OnOk result (AddsMoved (map_by open.now.names open.now.firsts.record) open.now.firsts.record copy.now.object.now.code.records.items records.old.items records.new.items) }
     {
         self.add_hidden(copy, &open.names)?;
         let numbers = Numbers {

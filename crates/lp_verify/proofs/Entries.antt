@@ -7,7 +7,8 @@ use Rattle.lp_code.specs.declared.image.ImageConstant.{ImageConstant}
 use Rattle.lp_code.specs.declared.object.Object.{Object}
 use Rattle.lp_code.specs.declared.object.ObjectConstant.{ObjectConstant}
 use Rattle.lp_verify.specs.declared.tables.Scheme as told_scheme
-use Rattle.lp_verify.specs.Scheme.{tables_of, scheme_in, schemes_in, image_arity, image_scheme, object_arity, object_scheme, image_tables, object_tables}
+use Rattle.lp_code.specs.Naming.{tables_of, scheme_in, image_arity, object_arity, image_tables, object_tables}
+use Rattle.lp_verify.specs.Scheme.{schemes_in, image_scheme, object_scheme}
 
 image_told : (b : Nodes) (cs : List ImageConstant) → schemes_in b (map image_scheme cs) ≡ map (λ (c : ImageConstant). scheme_in b c.type_vars c.scheme.0) cs
 image_told b cs = map_composed image_scheme (λ (s : told_scheme.Scheme). scheme_in b s.type_vars s.body.0) (λ (c : ImageConstant). scheme_in b c.type_vars c.scheme.0) (λ c. refl) cs

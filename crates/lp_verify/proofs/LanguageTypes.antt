@@ -8,7 +8,7 @@ use Rattle.lp_standard.specs.declared.shape.Shape.{Shape}
 use Rattle.lp_standard.specs.Schemes.{standard_schemes, entry, shape_variables, shape_type, shape_scheme}
 use Rattle.lp_term.specs.declared.node.TypeId.{TypeId}
 use Rattle.lp_term.specs.Nodes.{Nodes, Extends}
-use Rattle.lp_verify.specs.Scheme.{scheme_in}
+use Rattle.lp_code.specs.Naming.{scheme_in}
 use Rattle.lp_verify.specs.declared.tables.Scheme as kept
 use Rattle.lp_verify.specs.inner.Language.{IsPutIn, IsSchemeIn, IsSchemePut, AreSchemes}
 

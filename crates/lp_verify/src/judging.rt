@@ -1,7 +1,8 @@
 // Images and objects whose code denotes clauses.
 ghost use Rattle.std.specs.Prelude.{◌≡◌, ◌<◌, ◌^◌, length, IfOk};
 ghost use Rattle.lp_code.specs.Length.{AllFit};
-ghost use Rattle.lp_verify.specs.Scheme.{tables_in, image_tables, object_tables};
+ghost use Rattle.lp_code.specs.Naming.{image_tables, object_tables};
+ghost use Rattle.lp_verify.specs.Scheme.{tables_in};
 ghost use Rattle.lp_verify.specs.inner.Language.{HasLanguage};
 ghost use Rattle.lp_verify.specs.Judged.{AreShort, IsTold};
 

@@ -6,7 +6,8 @@ ghost use Rattle.lp_standard.specs.Kinds.{number};
 ghost use Rattle.lp_standard.specs.Schemes.{standard_schemes, entry, part_type, shape_type, shape_scheme};
 ghost use Rattle.lp_standard.specs.declared.shape.Shape.TheVariants.{Function};
 ghost use Rattle.lp_verify.specs.inner.Language.{IsPutIn, IsSchemePut, HasLanguage};
-ghost use Rattle.lp_verify.specs.Scheme.{scheme_in, tables_of, tables_in, schemes_in, image_tables, object_tables, image_arity, image_scheme, object_arity, object_scheme, type_vars_in, type_vars_of};
+ghost use Rattle.lp_code.specs.Naming.{scheme_in, tables_of, image_tables, object_tables, image_arity, object_arity};
+ghost use Rattle.lp_verify.specs.Scheme.{tables_in, schemes_in, image_scheme, object_scheme, type_vars_in, type_vars_of};
 
 use lp_base::Memory;
 use lp_code::{Image, ImageConstant, ImageKind, Object, ObjectConstant, ObjectKind};

@@ -7,7 +7,7 @@ ghost use Rattle.lp_term.specs.Nodes.{IsSound, type_tree};
 ghost use Rattle.lp_code.specs.Symbolic.{Tables};
 ghost use Rattle.lp_model.specs.Flatten.{ends_in_o};
 ghost use Rattle.lp_term.specs.Shapes.{type_shape};
-ghost use Rattle.lp_verify.specs.Scheme.{scheme_in};
+ghost use Rattle.lp_code.specs.Naming.{scheme_in};
 ghost use Rattle.lp_verify.specs.inner.FirstNumbers.{first_of, shape_of, key_at, AreFound, AreFirsts, SameBank, FirstsStay, IsType, AreTypes, TypesGrow, UsesAre, UsesStay, IsArrowAs, IsEndOf, HasBasics, IsTypeOfConstant, IsTypeOfDeclared};
 
 use crate::filling::Filling;

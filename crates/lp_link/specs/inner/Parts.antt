@@ -1,14 +1,15 @@
 -- The instructions by what they are for: to build types and terms, to match a head, to call a goal, to open and end blocks.
-use Rattle.std.specs.Prelude.{ℕ, ◌+◌, ◌-◌, ◌<◌, ◌^◌, min, Bool, true, false, List}
+use Rattle.std.specs.Prelude.{◌≡◌, ◌++◌, ℕ, ◌+◌, ◌-◌, ◌<◌, ◌^◌, min, Bool, true, false, List}
 use Rattle.lp_term.specs.Mapped.{Map}
 use Rattle.lp_code.specs.declared.instruction.Instr.{Instr}
 use Rattle.lp_code.specs.declared.instruction.Instr.TheVariants as on
 use Rattle.lp_code.specs.declared.record.Record.{Record}
 use Rattle.lp_code.specs.Rules.{names_of}
 use Rattle.lp_lemmas.specs.Each.{EachOf}
+use Rattle.lp_link.specs.declared.names.Names.{Names}
 use Rattle.lp_link.specs.declared.records.Numbers.{Numbers}
 use Rattle.lp_link.specs.Numbers.{renumbered}
-use Rattle.lp_link.specs.inner.Renumbering.{moving, IsMoved, IsMovedRecord}
+use Rattle.lp_link.specs.inner.Renumbering.{moving, IsMoved, IsMovedRecord, AllRecordsMoved}
 
 abbrev pub builds : Instr → Bool
 builds (on.TyCon d k ts) = true
@@ -46,8 +47,11 @@ calls on.Cut = true
 calls i = false
 
 -- what becomes of numbers
+abbrev pub map_by : Names → (first : ℕ) → Map
+map_by s n = moving (renumbered 8 s.kinds.items) (renumbered 32 s.constants.items) n
+
 abbrev pub map_in : Numbers → Map
-map_in s = moving (renumbered 8 s.names.now.kinds.items) (renumbered 32 s.names.now.constants.items) s.first
+map_in s = map_by s.names.now s.first
 
 -- a number of 32 bits, moved up
 abbrev pub raised_to : (first : ℕ) → ℕ → ℕ
@@ -66,3 +70,7 @@ AllHaveRoom n is = EachOf (HasRoom n) is
 
 abbrev pub BecomesMovedRecord : Numbers → Record → Record → Type 0
 BecomesMovedRecord s r q = AllHaveRoom s.first r.code.items → IsMovedRecord (map_in s) s.first r q
+
+-- records of a copy, put behind others with its numbers, n of which stand before them
+abbrev pub AddsMoved : Map → (first : ℕ) → List Record → (old new : List Record) → Type 0
+AddsMoved m n rs old new = (own : List Record) × (new ≡ old ++ own) × (EachOf (λ (r : Record). AllHaveRoom n r.code.items) rs → AllRecordsMoved m n rs own)

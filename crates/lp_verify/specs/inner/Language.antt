@@ -7,7 +7,7 @@ use Rattle.lp_term.specs.declared.node.TypeId.{TypeId}
 use Rattle.lp_term.specs.Nodes.{Nodes, Extends, type_tree}
 use Rattle.lp_verify.specs.declared.tables.Tables as kept
 use Rattle.lp_verify.specs.declared.tables.Scheme as kept_scheme
-use Rattle.lp_verify.specs.Scheme.{scheme_in}
+use Rattle.lp_code.specs.Naming.{scheme_in}
 
 -- a type was put
 abbrev pub IsPutIn : (old new : Nodes) → Ty → TypeId → Type 0

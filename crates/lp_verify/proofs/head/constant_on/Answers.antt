@@ -2,7 +2,7 @@ use Rattle.std.proofs.Common.{◌≡◌, ◌∙◌, Some, None, ap, sym, subst}
 use Rattle.std.specs.Prelude.{option_map, unwrap_or}
 use Rattle.lp_calculus.specs.Typing.{o_type, scheme_type}
 use Rattle.lp_code.specs.Symbolic.{Tables}
-use Rattle.lp_verify.specs.Scheme.{scheme_in}
+use Rattle.lp_code.specs.Naming.{scheme_in}
 use Rattle.lp_verify.specs.inner.FirstNumbers.{IsType}
 use Rattle.lp_verify.proofs.head.constant_on.Goals as goal
 

@@ -1,6 +1,7 @@
 use Rattle.std.proofs.Common.{◌∙◌, ap, refl, sym}
 use Rattle.std.specs.Prelude.{option_map}
-use Rattle.lp_verify.specs.Scheme.{scheme_in, tables_in}
+use Rattle.lp_code.specs.Naming.{scheme_in}
+use Rattle.lp_verify.specs.Scheme.{tables_in}
 use Rattle.lp_verify.proofs.HeadRules.{scheme_heads, none_heads}
 use Rattle.lp_verify.proofs.record.Work.heads_clauses.Goals as goal
 

@@ -1,6 +1,6 @@
 use Rattle.std.proofs.Common.{◌≡◌, ◌∙◌, Some, sym}
 use Rattle.std.specs.Prelude.{if◌then◌else◌}
-use Rattle.lp_verify.specs.Scheme.{scheme_in}
+use Rattle.lp_code.specs.Naming.{scheme_in}
 use Rattle.lp_verify.specs.declared.types.Types.{Types}
 use Rattle.lp_verify.specs.declared.types.Use.{Use}
 use Rattle.lp_verify.specs.inner.FirstNumbers.{type_used}

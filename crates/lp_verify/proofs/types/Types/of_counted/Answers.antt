@@ -1,6 +1,6 @@
 use Rattle.std.proofs.Common.{◌∙◌, sym}
 use Rattle.std.proofs.lemmas.Result.{IfOk-weaker}
-use Rattle.lp_verify.specs.Scheme.{scheme_in}
+use Rattle.lp_code.specs.Naming.{scheme_in}
 use Rattle.lp_verify.proofs.UsedConstants.{types_same, wrong_count, right_count}
 use Rattle.lp_verify.proofs.types.Types.of_counted.Goals as goal
 
