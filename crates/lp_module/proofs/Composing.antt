@@ -1,12 +1,11 @@
 -- How a program grows, copy by copy.
-use Rattle.std.proofs.Common.{◌≡◌, ℕ, zero, suc, ◌+◌, ◌-◌, ◌<◌, ◌≤◌, List, [], ◌∷◌, ◌++◌, length, map, drop, get_or, reverse, Option, Some, None, refl, sym, ap, subst, ◌∙◌, arith, append_assoc}
-use Rattle.std.specs.Prelude.{sum_by, slice_get, All}
+use Rattle.std.proofs.Common.{◌≡◌, ℕ, zero, suc, ◌+◌, ◌-◌, ◌<◌, List, [], ◌∷◌, ◌++◌, length, map, get_or, reverse, Some, refl, sym, ap, subst, ◌∙◌, arith}
+use Rattle.std.specs.Prelude.{sum_by, slice_get}
 use Rattle.std.proofs.lemmas.List.{map-append, length-append, length-map}
 use Rattle.std.proofs.lemmas.List.Sums.{sum_by-cons, sum_by_push}
 use Rattle.std.proofs.lemmas.List.Elements.{All-head, All-tail}
-use Rattle.lp_term.specs.Nodes.{Nodes, Extends, tree}
+use Rattle.lp_term.specs.Nodes.{Nodes, Extends}
 use Rattle.lp_term.proofs.Trees.{extends-trans}
-use Rattle.lp_model.specs.Flatten.{ClauseFormula}
 use Rattle.lp_model.specs.Readings.{formula_of}
 use Rattle.lp_model.specs.declared.program.ClauseFormula as code
 use Rattle.lp_model.specs.declared.program.Declared.{Declared}
@@ -14,8 +13,8 @@ use Rattle.lp_copies.specs.Copies.{Copies, RestOfCopies, IsOpened, IsClosed}
 use Rattle.lp_copies.specs.Trees.{IsCopying, frames_of}
 use Rattle.lp_copies.specs.declared.copying.Copying.{Copying}
 use Rattle.lp_module.specs.Copies.{uses_of}
-use Rattle.lp_module.specs.Making.{AreTyped, IsSoFar, IsMade, MakesNames}
-use Rattle.lp_module.specs.Program.{Copy, Next, first_of, behind, IsRoot, IsBelow, AreCopies, in_copy, clauses_in, clauses_of}
+use Rattle.lp_module.specs.Making.{AreTyped, IsSoFar, MakesNames}
+use Rattle.lp_module.specs.Program.{Copy, Next, first_of, IsRoot, IsBelow, AreCopies, in_copy, clauses_in, clauses_of}
 use Rattle.lp_module.specs.Sentences.{AreWithin}
 use Rattle.lp_module.specs.declared.copies.Making.{Making}
 use Rattle.lp_module.specs.declared.module.Module.{Module}

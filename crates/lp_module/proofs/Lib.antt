@@ -23,3 +23,4 @@ pub mod Placing
 pub mod Summing
 pub mod Stepping
 pub mod Adding
+pub mod NoLoose

@@ -1,12 +1,12 @@
 -- The numbers of a copy's names, place by place.
-use Rattle.std.proofs.Common.{◌≡◌, ℕ, zero, suc, ◌+◌, ◌-◌, ◌<◌, ◌≤◌, List, [], ◌∷◌, ◌++◌, length, drop, get_or, Bool, true, false, Option, Some, None, refl, sym, ap, subst, ◌∙◌, arith, inl, inr}
+use Rattle.std.proofs.Common.{◌≡◌, ℕ, suc, ◌+◌, ◌-◌, ◌<◌, ◌≤◌, List, [], ◌∷◌, ◌++◌, length, drop, get_or, Bool, true, false, Option, Some, None, refl, sym, ap, ◌∙◌, arith, inl, inr}
 use Rattle.std.specs.Prelude.{◌⊎◌, nat_eq, nat_lt, if◌then◌else◌, option_map, slice_get}
 use Rattle.std.proofs.lemmas.Bool.Decides.{nat_tests}
 use Rattle.std.proofs.lemmas.List.{drop_more, drop_all, get_or_append_left, length-append}
 use Rattle.std.proofs.lemmas.Option.{slice_get-get_or, slice_get_past, same_Some}
 use Rattle.std.proofs.Math.Seq.{get_or-append_seam}
 use Rattle.lp_lemmas.proofs.Numbers.{below_suc}
-use Rattle.lp_module.specs.Program.{place_in, hidden_or, one_if_none, exported_before, IsNumbered}
+use Rattle.lp_module.specs.Program.{place_in, hidden_or, IsNumbered}
 use Rattle.lp_module.specs.Renumbering.{kept_or, number_in}
 use Rattle.lp_module.specs.declared.numbers.Numbers.{Numbers}
 use Rattle.lp_module.specs.inner.Tables.{coded, ArePlaces, AreNumbers}

@@ -17,3 +17,4 @@ pub mod Form
 pub mod Schemes
 pub mod Clauses
 pub mod inner
+pub mod Closed

@@ -5,7 +5,6 @@ use Rattle.lp_calculus.specs.Types.{var}
 use Rattle.lp_calculus.specs.Term.{atom, logic}
 use Rattle.lp_copies.specs.declared.names.TheConstants.{END_OF_IMAGE_NUMBERS}
 use Rattle.lp_term.specs.Mapped.{Map, mapped}
-use Rattle.lp_term.specs.Nodes.{Nodes, tree}
 use Rattle.lp_model.specs.Flatten.{ClauseFormula}
 use Rattle.lp_model.specs.Readings.{formula_of}
 use Rattle.lp_sig.specs.Rows.{found, kind_row, number_row}

@@ -15,6 +15,8 @@ mod form;
 mod heads;
 // The parts of a formula in goal and in clause position.
 mod judge;
+// Laws over the definitions.
+mod laws;
 // What a module means.
 mod meaning;
 // What the terms of a formula are like.
@@ -41,6 +43,7 @@ mod words;
 pub use copies::{Assembled, GlobalName, assemble};
 pub use fault::ModuleFault;
 pub use form::query_form;
+pub use laws::{clauses_are_closed, program_is_closed};
 pub use meaning::elaborate;
 pub use module::Module;
 pub use sentences::has_many_arguments;

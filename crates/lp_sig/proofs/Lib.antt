@@ -54,3 +54,7 @@ pub mod OneScheme
 pub mod Agreeing
 pub mod FirstTypes
 pub mod TextTaken
+pub mod Worded
+pub mod Sayings
+pub mod OwnNames
+pub mod Apart

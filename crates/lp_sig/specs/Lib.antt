@@ -25,3 +25,5 @@ pub mod Declares
 pub mod UseOrder
 pub mod Standing
 pub mod Announced
+pub mod Modules
+pub mod Worded

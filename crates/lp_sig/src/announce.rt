@@ -13,6 +13,7 @@ ghost use Rattle.lp_sig.specs.Announced.{AreAnnounced};
 ghost use Rattle.lp_sig.specs.Rows.{Row};
 ghost use Rattle.lp_sig.specs.Said.{Said, an_abbreviation, each, said_by, said_in};
 ghost use Rattle.lp_sig.specs.Knowing.{Knows};
+ghost use Rattle.lp_sig.specs.Modules.{declarations};
 
 use crate::making::Making;
 use crate::pieces::spelled_at;
@@ -96,17 +97,30 @@ impl Making {
         Ok(())
     }
 
-    // The declarations of a module's text.
-    pub(crate) fn announce_module(
+    fn announce_sentence(
         &mut self,
         source: &[u8],
-        text: &ModuleText,
-    ) -> Result<(), Memory> {
-        for (line, sentence) in text.lines.as_slice().iter().enumerate() {
-            match sentence {
-                Sentence::Declares(declaration) => self.announce_line(source, declaration, line)?,
-                Sentence::Says(_) => {}
-            }
+        sentence: &Sentence,
+        line: usize,
+    ) -> Result<(), Memory>
+        ensures names { OnOk result ((said : List (Row Said)) → Knows self.old.names said → Knows self.new.names (said ++ said_in source.now (declarations (sentence.now ∷ [])))) }
+        ensures constants { self.new.constants ≡ self.old.constants }
+        ensures operators { self.new.operators ≡ self.old.operators }
+    {
+        match sentence {
+            Sentence::Declares(declaration) => self.announce_line(source, declaration, line),
+            Sentence::Says(_) => Ok(()),
+        }
+    }
+
+    // The declarations of a module's text.
+    pub(crate) fn announce_module(&mut self, source: &[u8], text: &ModuleText) -> Result<(), Memory>
+        ensures names { OnOk result ((said : List (Row Said)) → Knows self.old.names said → Knows self.new.names (said ++ said_in source.now (declarations text.now.lines.items))) }
+        ensures constants { self.new.constants ≡ self.old.constants }
+        ensures operators { self.new.operators ≡ self.old.operators }
+    {
+        for at in 0..text.lines.len() {
+            self.announce_sentence(source, &text.lines[at], at)?;
         }
         Ok(())
     }

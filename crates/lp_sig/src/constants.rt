@@ -1,17 +1,19 @@
 // The constants so far, each with the type of its first declaration.
-ghost use Rattle.std.specs.Prelude.{◌≡◌, ◌<◌, ◌≤◌, ◌+◌, ◌++◌, ◌⊎◌, ℕ, List, [], ◌∷◌, length, Some, None, true, is_some, IfErr, IfOk, IfSome, OnOk};
+ghost use Rattle.std.specs.Prelude.{◌≡◌, ◌<◌, ◌≤◌, ◌+◌, ◌++◌, ◌⊎◌, ℕ, List, [], ◌∷◌, length, map, Some, None, true, false, is_some, IfErr, IfOk, IfSome, OnOk};
 ghost use Rattle.lp_base.specs.declared.limit.Limit.TheVariants as limit;
 ghost use Rattle.lp_base.specs.declared.limits.TheConstants.{END_OF_NUMBERS};
 ghost use Rattle.lp_term.specs.Nodes.{Nodes, Extends, type_tree};
 ghost use Rattle.lp_sig.specs.declared.fault.SigFault.TheVariants as fault;
 ghost use Rattle.lp_sig.specs.Pieces.{spelled};
-ghost use Rattle.lp_sig.specs.Rows.{Row, found};
+ghost use Rattle.lp_sig.specs.Rows.{Row, found, number_row};
 ghost use Rattle.lp_sig.specs.Standard.{standard_constants};
 ghost use Rattle.lp_sig.specs.Said.{Said, each};
 ghost use Rattle.lp_sig.specs.Types.{Definition};
 ghost use Rattle.lp_sig.specs.Abbreviations.{Seen};
 ghost use Rattle.lp_sig.specs.Standing.{TypeStands};
 ghost use Rattle.lp_sig.specs.Constants.{Written, IsNoted, IsConstant, IsTyped, IfTyped, KnowsConstants, AreTyped, AreTypedIf, FirstStands, IsTakenConstant, AreTakenConstants, IsKnownAs, AreConstants, HaveNumbers, IsConstantFault, IsFirstConstant};
+ghost use Rattle.lp_sig.specs.Modules.{numbered_names};
+ghost use Rattle.lp_sig.specs.Worded.{HasWords, is_met_word, is_met, names_so_far};
 ghost use Rattle.lp_sig.specs.declared.constants.Known.TheVariants as known;
 
 use crate::entries::ConstantEntry;
@@ -84,6 +86,7 @@ fn check_number(declared: Option<DeclaredType>, place: usize) -> Result<(), SigF
 fn entry_of(alloc: Global, constant: &Constant, place: usize) -> Result<ConstantEntry, Memory>
     ensures is { IfOk result (λ e. (b : Nodes) (said : List (Row Said)) (defs : List (Row Definition)) (row : Row Written) → IsNoted b said defs (32 + place) row constant.now → IsConstant b said defs (32 + place) row e) }
     ensures number { IfOk result (λ e. 32 + place < END_OF_NUMBERS) }
+    ensures row { IfOk result (λ e. number_row e ≡ (constant.now.name.items, 32 + place)) }
 {
     let Some(declared) = constant.declared else {
         return Err(Memory);
@@ -104,6 +107,7 @@ impl Constants {
     pub(crate) fn new(alloc: Global) -> Constants
         ensures typed { AreTyped result }
         ensures known { (b : Nodes) (said : List (Row Said)) (defs : List (Row Definition)) → KnowsConstants b result said defs [] }
+        ensures words { HasWords result [] }
     {
         Constants {
             alloc,
@@ -116,6 +120,7 @@ impl Constants {
     pub(crate) fn entries(&self) -> Result<Vec<ConstantEntry>, Memory>
         ensures are { IfOk result (λ entries. (b : Nodes) (said : List (Row Said)) (defs : List (Row Definition)) (rows : List (Row Written)) → KnowsConstants b self.now said defs rows → AreConstants b said defs rows entries.items) }
         ensures numbers { IfOk result (λ entries. (b : Nodes) (said : List (Row Said)) (defs : List (Row Definition)) (rows : List (Row Written)) → KnowsConstants b self.now said defs rows → HaveNumbers rows) }
+        ensures rows { IfOk result (λ entries. map number_row entries.items ≡ numbered_names 32 (names_so_far self.now)) }
     {
         let mut entries = Vec::new(self.alloc);
         for (place, constant) in self.constants.iter().enumerate() {
@@ -135,6 +140,7 @@ impl Constants {
         ensures added { OnOk result ((b : Nodes) (said : List (Row Said)) (defs : List (Row Definition)) (rows : List (Row Written)) (w : Written) → KnowsConstants b self.old said defs rows → (found word.now standard_constants ≡ None) × (found word.now rows ≡ None) → IfTyped declared (IsTyped b said defs w) → KnowsConstants b self.new said defs (rows ++ (word.now, w) ∷ [])) }
         ensures typed { OnOk result ((from : ℕ) (z : Seen) (rows : List (Row Written)) (w : Written) → (found word.now standard_constants ≡ None) × (found word.now rows ≡ None) → AreTypedIf from z rows self.old → (TypeStands from z w.text w.raw → is_some declared ≡ true) → AreTypedIf from z (rows ++ (word.now, w) ∷ []) self.new) }
         ensures room { OnOk result (IfTyped declared (λ d. 32 + length self.old.constants.items < END_OF_NUMBERS)) }
+        ensures words { OnOk result ((words : List (List ℕ)) → is_met_word word.now words ≡ false → HasWords self.old words → HasWords self.new (words ++ word.now ∷ [])) }
     {
         let place = self.constants.len();
         check_number(declared, place)?;
@@ -144,11 +150,26 @@ impl Constants {
         Ok(())
     }
 
+    // A constant of a signature behind the others. Says whether there is a number for it.
+    pub(crate) fn put(&mut self, word: &[u8], declared: DeclaredType) -> Result<bool, Memory>
+        ensures { OnOk result ((words : List (List ℕ)) → is_met_word word.now words ≡ false → HasWords self.old words → HasWords self.new (words ++ word.now ∷ [])) }
+    {
+        let place = self.constants.len();
+        let name = Vec::from_slice(self.alloc, word)?;
+        self.constants.push(Constant {
+            name,
+            declared: Some(declared),
+        })?;
+        self.places.add(word, place)?;
+        Ok(constant_number(place).is_some())
+    }
+
     // The type with which a name was declared before.
     pub(crate) fn known_as(&self, types: &mut Types, word: &[u8]) -> Result<Known, Memory>
         ensures kept { Extends types.old.bank types.new.bank }
         ensures is { IfOk result (λ k. (said : List (Row Said)) (defs : List (Row Definition)) (rows : List (Row Written)) → KnowsConstants types.old.bank self.now said defs rows → IsKnownAs types.new.bank said defs rows word.now k) }
         ensures untyped { IfOk result (λ k. k ≡ known.Untyped → (from : ℕ) (z : Seen) (rows : List (Row Written)) → KnowsConstants types.old.bank self.now z.said z.definitions rows → AreTypedIf from z rows self.now → FirstStands from z rows word.now → ⊥) }
+        ensures met { IfOk result (λ k. (words : List (List ℕ)) → HasWords self.now words → is_met_word word.now words ≡ is_met k) }
     {
         if let Some(number) = standard_constant(word) {
             let known = standard_type(types, number)?;
@@ -179,6 +200,7 @@ impl Constants {
         ensures known { OnOk result ((said : List (Row Said)) (defs : List (Row Definition)) (rows : List (Row Written)) (w : Written) → KnowsConstants types.old.bank self.old said defs rows → IfTyped declared (IsTyped types.old.bank said defs w) → KnowsConstants types.new.bank self.new said defs (rows ++ (spelled source.now name, w) ∷ [])) }
         ensures typed { OnOk result ((from : ℕ) (z : Seen) (rows : List (Row Written)) (w : Written) → KnowsConstants types.old.bank self.old z.said z.definitions rows → AreTypedIf from z rows self.old → (TypeStands from z w.text w.raw → is_some declared ≡ true) → AreTypedIf from z (rows ++ (spelled source.now name, w) ∷ []) self.new) }
         ensures taken { OnOk result ((from : ℕ) (z : Seen) (rows : List (Row Written)) (w : Written) → KnowsConstants types.old.bank self.old z.said z.definitions rows → IfTyped declared (IsTyped types.old.bank z.said z.definitions w) → AreTypedIf from z rows self.old → (TypeStands from z w.text w.raw → is_some declared ≡ true) → IsTakenConstant from z rows (spelled source.now name, w)) }
+        ensures words { OnOk result ((words : List (List ℕ)) → HasWords self.old words → HasWords self.new (words ++ spelled source.now name ∷ [])) }
     {
         let word = spelled_at(source, name);
         match self.known_as(types, word)? {
@@ -208,6 +230,7 @@ impl Constants {
         ensures known { OnOk result ((said : List (Row Said)) (defs : List (Row Definition)) (rows : List (Row Written)) (w : Written) → KnowsConstants types.old.bank self.old said defs rows → IfTyped declared (IsTyped types.old.bank said defs w) → KnowsConstants types.new.bank self.new said defs (rows ++ each source.now w names.now)) }
         ensures typed { OnOk result ((from : ℕ) (z : Seen) (rows : List (Row Written)) (w : Written) → KnowsConstants types.old.bank self.old z.said z.definitions rows → IfTyped declared (IsTyped types.old.bank z.said z.definitions w) → AreTypedIf from z rows self.old → (TypeStands from z w.text w.raw → is_some declared ≡ true) → AreTypedIf from z (rows ++ each source.now w names.now) self.new) }
         ensures taken { OnOk result ((from : ℕ) (z : Seen) (rows : List (Row Written)) (w : Written) → KnowsConstants types.old.bank self.old z.said z.definitions rows → IfTyped declared (IsTyped types.old.bank z.said z.definitions w) → AreTypedIf from z rows self.old → (TypeStands from z w.text w.raw → is_some declared ≡ true) → AreTakenConstants from z rows (each source.now w names.now)) }
+        ensures words { OnOk result ((words : List (List ℕ)) → HasWords self.old words → HasWords self.new (words ++ map (λ s. spelled source.now s) names.now)) }
     {
         for name in names {
             self.declare(types, source, *name, declared)?;

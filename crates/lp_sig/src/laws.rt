@@ -1,8 +1,16 @@
-//! Laws of declared types, and their rules on a worked signature.
-ghost use Rattle.std.specs.Prelude.{◌≡◌, ℕ, List};
+//! Laws of declared types and names, and their rules on a worked signature.
+ghost use Rattle.std.specs.Prelude.{◌≡◌, ℕ, List, map, Vec, String};
+ghost use Rattle.std.specs.Global.{Global};
+ghost use Rattle.lp_standard.specs.declared.fixity.Fixity.{Fixity};
+ghost use Rattle.lp_syntax.specs.declared.text.Sentence.{Sentence};
+ghost use Rattle.lp_syntax.specs.declared.text.SignatureText.{SignatureText};
 ghost use Rattle.lp_calculus.specs.Types.{Ty};
 ghost use Rattle.lp_sig.specs.Abbreviations.{Text};
 ghost use Rattle.lp_sig.specs.Constants.{Written, IsSchemeOf};
+ghost use Rattle.lp_sig.specs.Rows.{Row, kind_row};
+ghost use Rattle.lp_sig.specs.Refusals.{IsAccepted};
+ghost use Rattle.lp_sig.specs.Modules.{HasSeen, IsApart, HasOwnFirst};
+ghost use Rattle.lp_sig.specs.declared.signature.Signature.{Signature};
 ghost use Rattle.lp_sig.specs.Laws.{all_said, all_definitions};
 ghost use Rattle.lp_sig.specs.Worked.{IsWorked};
 
@@ -14,4 +22,14 @@ pub fn a_type_has_one_scheme()
 /// `typeabbrev (pair A B) A -> list B.` has this body, and `pair int (list A)` is `int -> list (list A)` behind it.
 pub fn worked_signature()
     ensures { IsWorked }
+{}
+
+/// Of a signature that texts give no two kinds or abbreviations have one name, no two constants have, and none is standard.
+pub fn names_are_apart()
+    ensures { (names : List (String Global)) (sources : List (Vec ℕ Global)) (texts : List SignatureText) (root : ℕ) (fixities : List (Row (Fixity × ℕ))) (s : Signature) → IsAccepted names sources texts root (map kind_row s.kinds.items) fixities s.bank s.abbreviations.items s.constants.items → IsApart s }
+{}
+
+/// The names of a module's own signature come first in the signature of what it sees.
+pub fn own_names_come_first()
+    ensures { (own : Signature) (used : List Signature) (text : List ℕ) (lines : List Sentence) (s : Signature) → IsApart own → HasSeen own used text lines s → HasOwnFirst own s }
 {}

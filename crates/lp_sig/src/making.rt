@@ -1,6 +1,6 @@
 // The declarations so far.
 ghost use Rattle.std.specs.Prelude.{◌≡◌, ◌+◌, List, [], map, IfOk, Some};
-ghost use Rattle.lp_sig.specs.Rows.{kind_row};
+ghost use Rattle.lp_sig.specs.Rows.{kind_row, number_row};
 ghost use Rattle.lp_sig.specs.Said.{numbered};
 ghost use Rattle.lp_sig.specs.Knowing.{Knows, kinded_row, head_row, KnowsOperators};
 ghost use Rattle.lp_sig.specs.Abbreviations.{Seen};
@@ -8,6 +8,8 @@ ghost use Rattle.lp_sig.specs.Entries.{parameters_row, HaveBodies, AreAbbreviati
 ghost use Rattle.lp_sig.specs.Holding.{KnowsSeen};
 ghost use Rattle.lp_sig.specs.Constants.{Written, KnowsConstants, AreTyped, AreConstants, HaveNumbers};
 ghost use Rattle.lp_sig.specs.Rows.{Row};
+ghost use Rattle.lp_sig.specs.Modules.{numbered_names};
+ghost use Rattle.lp_sig.specs.Worded.{HasWords, names_so_far};
 
 use crate::bodies::Bodies;
 use crate::constants::Constants;
@@ -93,6 +95,7 @@ impl Making {
         ensures bodies { result.bodies.bodies.items ≡ [] }
         ensures constants { KnowsConstants result.bodies.types.bank result.constants [] [] [] }
         ensures typed { AreTyped result.constants }
+        ensures words { HasWords result.constants [] }
     {
         Making {
             alloc,
@@ -121,6 +124,8 @@ impl Making {
     pub(crate) fn finish(self) -> Result<Signature, Memory>
         ensures kinds { IfOk result (λ s. map kind_row s.kinds.items ≡ numbered 8 (map kinded_row self.names.kinds.items)) }
         ensures fixities { IfOk result (λ s. s.fixities ≡ self.operators.fixities) }
+        ensures heads { IfOk result (λ s. map parameters_row s.abbreviations.items ≡ map head_row self.names.heads.items) }
+        ensures words { IfOk result (λ s. map number_row s.constants.items ≡ numbered_names 32 (names_so_far self.constants)) }
         ensures abbreviations { IfOk result (λ s. (z : Seen) → KnowsSeen self z → AreAbbreviations s.bank z s.abbreviations.items) }
         ensures constants { IfOk result (λ s. (z : Seen) (rows : List (Row Written)) → KnowsConstants self.bodies.types.bank self.constants z.said z.definitions rows → AreConstants s.bank z.said z.definitions rows s.constants.items × HaveNumbers rows) }
     {

@@ -1,4 +1,8 @@
 // What the declarations of a module say, line by line.
+ghost use Rattle.std.specs.Prelude.{◌≡◌, ◌++◌, ℕ, List, [], ◌∷◌, map, OnOk};
+ghost use Rattle.lp_sig.specs.Pieces.{spelled};
+ghost use Rattle.lp_sig.specs.Modules.{constant_names_by, local_names};
+ghost use Rattle.lp_sig.specs.Worded.{HasWords};
 
 use crate::constants::DeclaredType;
 use crate::declare::{check_length, check_lengths, declare_constants};
@@ -212,12 +216,29 @@ impl<'a> ModuleLines<'a> {
         Ok(())
     }
 
+    // Local kinds, with a count of arguments or without.
+    fn local_kinds_of(
+        &self,
+        making: &Making,
+        names: &[Spot],
+        count: &Option<u32>,
+    ) -> Result<(), ModuleSigFault> {
+        match count {
+            Some(arity) => self.local_kinds(making, names, *arity),
+            None => self.known_kinds(names),
+        }
+    }
+
     fn constants(
         &self,
         making: &mut Making,
         names: &[Spot],
         raw: &RawType,
-    ) -> Result<(), ModuleSigFault> {
+    ) -> Result<(), ModuleSigFault>
+        ensures names { making.new.names ≡ making.old.names }
+        ensures operators { making.new.operators ≡ making.old.operators }
+        ensures words { OnOk result ((words : List (List ℕ)) → HasWords making.old.constants words → HasWords making.new.constants (words ++ map (λ s. spelled self.now.source.now s) names.now)) }
+    {
         let outcome = declare_constants(
             &making.names,
             &mut making.bodies,
@@ -248,7 +269,11 @@ impl<'a> ModuleLines<'a> {
         making: &mut Making,
         name: Spot,
         declared: Option<DeclaredType>,
-    ) -> Result<(), ModuleSigFault> {
+    ) -> Result<(), ModuleSigFault>
+        ensures names { making.new.names ≡ making.old.names }
+        ensures operators { making.new.operators ≡ making.old.operators }
+        ensures words { OnOk result ((words : List (List ℕ)) → HasWords making.old.constants words → HasWords making.new.constants (words ++ spelled self.now.source.now name ∷ [])) }
+    {
         if self.exports_constant(name) {
             return Err(ModuleSigFault::Exported(name));
         }
@@ -259,25 +284,41 @@ impl<'a> ModuleLines<'a> {
         Ok(())
     }
 
+    // Local constants of a type that has no fault.
+    fn locals_of(
+        &self,
+        making: &mut Making,
+        names: &[Spot],
+        declared: Option<DeclaredType>,
+    ) -> Result<(), ModuleSigFault>
+        ensures names { making.new.names ≡ making.old.names }
+        ensures operators { making.new.operators ≡ making.old.operators }
+        ensures words { OnOk result ((words : List (List ℕ)) → HasWords making.old.constants words → HasWords making.new.constants (words ++ map (λ s. spelled self.now.source.now s) names.now)) }
+    {
+        for name in names {
+            self.local(making, *name, declared)?;
+        }
+        Ok(())
+    }
+
     // Local constants of a type. That one is exported goes before a fault of the type.
     fn locals(
         &self,
         making: &mut Making,
         names: &[Spot],
         raw: &RawType,
-    ) -> Result<(), ModuleSigFault> {
+    ) -> Result<(), ModuleSigFault>
+        ensures names { making.new.names ≡ making.old.names }
+        ensures operators { making.new.operators ≡ making.old.operators }
+        ensures words { OnOk result ((words : List (List ℕ)) → HasWords making.old.constants words → HasWords making.new.constants (words ++ map (λ s. spelled self.now.source.now s) names.now)) }
+    {
         match making.bodies.scheme(&making.names, self.source, raw) {
             Err(fault) => {
                 self.check_locals(names)?;
                 check_lengths(self.source, names)?;
                 Err(ModuleSigFault::Sig(fault))
             }
-            Ok(declared) => {
-                for name in names {
-                    self.local(making, *name, declared)?;
-                }
-                Ok(())
-            }
+            Ok(declared) => self.locals_of(making, names, declared),
         }
     }
 
@@ -294,13 +335,34 @@ impl<'a> ModuleLines<'a> {
         Ok(())
     }
 
+    // Local constants, with a type or without.
+    fn locals_typed(
+        &self,
+        making: &mut Making,
+        names: &[Spot],
+        raw: &Option<RawType>,
+    ) -> Result<(), ModuleSigFault>
+        ensures names { making.new.names ≡ making.old.names }
+        ensures operators { making.new.operators ≡ making.old.operators }
+        ensures words { OnOk result ((words : List (List ℕ)) → HasWords making.old.constants words → HasWords making.new.constants (words ++ local_names self.now.source.now names.now raw.now)) }
+    {
+        match raw {
+            Some(raw) => self.locals(making, names, raw),
+            None => self.known_constants(names),
+        }
+    }
+
     fn abbreviation(
         &self,
         making: &mut Making,
         name: Spot,
         parameters: &[Spot],
         raw: &RawType,
-    ) -> Result<(), ModuleSigFault> {
+    ) -> Result<(), ModuleSigFault>
+        ensures names { making.new.names ≡ making.old.names }
+        ensures operators { making.new.operators ≡ making.old.operators }
+        ensures constants { making.new.constants ≡ making.old.constants }
+    {
         match making.declare_abbreviation(self.source, name, parameters, raw) {
             Ok(()) => Ok(()),
             Err(fault) => Err(self.kinds_blamed(fault)),
@@ -332,16 +394,18 @@ impl<'a> ModuleLines<'a> {
         &self,
         making: &mut Making,
         declaration: &Declaration,
-    ) -> Result<(), ModuleSigFault> {
+    ) -> Result<(), ModuleSigFault>
+        ensures names { making.new.names ≡ making.old.names }
+        ensures operators { making.new.operators ≡ making.old.operators }
+        ensures words { OnOk result ((words : List (List ℕ)) → HasWords making.old.constants words → HasWords making.new.constants (words ++ constant_names_by self.now.source.now declaration.now)) }
+    {
         match declaration {
             Declaration::Kinds(names, arity) => self.kinds(making, names.as_slice(), *arity),
-            Declaration::LocalKinds(names, Some(arity)) => {
-                self.local_kinds(making, names.as_slice(), *arity)
+            Declaration::LocalKinds(names, count) => {
+                self.local_kinds_of(making, names.as_slice(), count)
             }
-            Declaration::LocalKinds(names, None) => self.known_kinds(names.as_slice()),
             Declaration::Constants(names, raw) => self.constants(making, names.as_slice(), raw),
-            Declaration::Locals(names, Some(raw)) => self.locals(making, names.as_slice(), raw),
-            Declaration::Locals(names, None) => self.known_constants(names.as_slice()),
+            Declaration::Locals(names, raw) => self.locals_typed(making, names.as_slice(), raw),
             Declaration::Abbreviation(name, parameters, raw) => {
                 self.abbreviation(making, *name, parameters.as_slice(), raw)
             }

@@ -1,4 +1,11 @@
 // From a module's declarations to the signature of what it sees.
+ghost use Rattle.std.specs.Prelude.{◌≡◌, ◌++◌, ℕ, List, [], ◌∷◌, map, IfOk, OnOk};
+ghost use Rattle.lp_standard.specs.declared.fixity.Fixity.{Fixity as IsFixity};
+ghost use Rattle.lp_sig.specs.Rows.{Row, fixity_row};
+ghost use Rattle.lp_sig.specs.Said.{Said as IsSaid, said_in};
+ghost use Rattle.lp_sig.specs.Knowing.{Knows, KnowsOperators};
+ghost use Rattle.lp_sig.specs.Modules.{declarations, of_each, said_of, constants_of, constant_names_in, HasSeen};
+ghost use Rattle.lp_sig.specs.Worded.{HasWords};
 
 use crate::making::Making;
 use crate::module_fault::ModuleSigFault;
@@ -9,20 +16,38 @@ use lp_base::Memory;
 use lp_syntax::{ModuleText, Sentence};
 use std::alloc::Global;
 
-// Takes up the names that the text of a module sees of other signatures, and tells how these go with one another.
-fn see_all(making: &mut Making, own: &Signature, used: &[Signature]) -> Result<Vec<Sight>, Memory> {
-    making.see(own)?;
-    making.see_fixities(own)?;
+// Takes up the names of the signatures that the text names, and tells how these go with one another.
+fn see_used(making: &mut Making, used: &[Signature]) -> Result<Vec<Sight>, Memory>
+    ensures names { OnOk result ((said : List (Row IsSaid)) → Knows making.old.names said → Knows making.new.names (said ++ of_each said_of used.now)) }
+    ensures words { OnOk result ((words : List (List ℕ)) → HasWords making.old.constants words → HasWords making.new.constants (words ++ of_each constants_of used.now)) }
+    ensures operators { making.new.operators ≡ making.old.operators }
+{
     let mut sights = Vec::new(making.alloc);
-    for signature in used {
-        let sight = making.see(signature)?;
+    for at in 0..used.len() {
+        let sight = making.see(&used[at])?;
         sights.push(sight)?;
     }
     Ok(sights)
 }
 
+// The same behind those of the module's own signature, whose fixities are taken up too.
+fn see_all(making: &mut Making, own: &Signature, used: &[Signature]) -> Result<Vec<Sight>, Memory>
+    ensures names { OnOk result ((said : List (Row IsSaid)) → Knows making.old.names said → Knows making.new.names ((said ++ said_of own.now) ++ of_each said_of used.now)) }
+    ensures words { OnOk result ((words : List (List ℕ)) → HasWords making.old.constants words → HasWords making.new.constants ((words ++ constants_of own.now) ++ of_each constants_of used.now)) }
+    ensures operators { OnOk result ((said : List (Row (IsFixity × ℕ))) → KnowsOperators making.old.operators said → KnowsOperators making.new.operators (said ++ map fixity_row own.now.fixities.items)) }
+{
+    making.see(own)?;
+    making.see_fixities(own)?;
+    let sights = see_used(making, used)?;
+    Ok(sights)
+}
+
 // Takes up the kinds and abbreviations of the text, which may be used before they are declared.
-fn announce_all(making: &mut Making, source: &[u8], text: &ModuleText) -> Result<(), Memory> {
+fn announce_all(making: &mut Making, source: &[u8], text: &ModuleText) -> Result<(), Memory>
+    ensures names { OnOk result ((said : List (Row IsSaid)) → Knows making.old.names said → Knows making.new.names (said ++ said_in source.now (declarations text.now.lines.items))) }
+    ensures constants { making.new.constants ≡ making.old.constants }
+    ensures operators { making.new.operators ≡ making.old.operators }
+{
     let from = making.names.heads.len();
     making.announce_module(source, text)?;
     making
@@ -33,17 +58,33 @@ fn announce_all(making: &mut Making, source: &[u8], text: &ModuleText) -> Result
         .settle(&making.names, &making.uses, source, text, from)
 }
 
+fn declare_sentence(
+    making: &mut Making,
+    lines: &ModuleLines<'_>,
+    sentence: &Sentence,
+) -> Result<(), ModuleSigFault>
+    ensures names { making.new.names ≡ making.old.names }
+    ensures operators { making.new.operators ≡ making.old.operators }
+    ensures words { OnOk result ((words : List (List ℕ)) → HasWords making.old.constants words → HasWords making.new.constants (words ++ constant_names_in lines.now.source.now (declarations (sentence.now ∷ [])))) }
+{
+    match sentence {
+        Sentence::Declares(declaration) => lines.declare(making, declaration),
+        Sentence::Says(_) => Ok(()),
+    }
+}
+
 // Takes up the declarations of the text, in order.
 fn declare_all(
     making: &mut Making,
     lines: &ModuleLines<'_>,
-    sentences: &[Sentence],
-) -> Result<(), ModuleSigFault> {
-    for sentence in sentences {
-        match sentence {
-            Sentence::Declares(declaration) => lines.declare(making, declaration)?,
-            Sentence::Says(_) => {}
-        }
+    text: &ModuleText,
+) -> Result<(), ModuleSigFault>
+    ensures names { making.new.names ≡ making.old.names }
+    ensures operators { making.new.operators ≡ making.old.operators }
+    ensures words { OnOk result ((words : List (List ℕ)) → HasWords making.old.constants words → HasWords making.new.constants (words ++ constant_names_in lines.now.source.now (declarations text.now.lines.items))) }
+{
+    for at in 0..text.lines.len() {
+        declare_sentence(making, lines, &text.lines[at])?;
     }
     Ok(())
 }
@@ -61,7 +102,9 @@ pub fn module_signature(
     text: &ModuleText,
     own: &Signature,
     used: &[Signature],
-) -> Result<Signature, ModuleSigFault> {
+) -> Result<Signature, ModuleSigFault>
+    ensures seen { IfOk result (HasSeen own.now used.now source.now text.now.lines.items) }
+{
     let mut making = Making::new(alloc);
     let sights = see_all(&mut making, own, used)?;
     announce_all(&mut making, source, text)?;
@@ -72,7 +115,7 @@ pub fn module_signature(
         said: &said,
         sights: sights.as_slice(),
     };
-    declare_all(&mut making, &lines, text.lines.as_slice())?;
+    declare_all(&mut making, &lines, text)?;
     let signature = making.finish()?;
     Ok(signature)
 }

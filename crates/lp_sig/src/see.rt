@@ -1,14 +1,22 @@
 // What a text sees of other signatures. A name that is seen again otherwise keeps its first declaration.
+ghost use Rattle.std.specs.Prelude.{◌≡◌, ◌++◌, ℕ, List, [], ◌∷◌, map, false, OnOk};
+ghost use Rattle.lp_standard.specs.declared.fixity.Fixity.{Fixity as IsFixity};
+ghost use Rattle.lp_sig.specs.Rows.{Row, fixity_row};
+ghost use Rattle.lp_sig.specs.Said.{Said};
+ghost use Rattle.lp_sig.specs.Knowing.{Knows, KnowsOperators};
+ghost use Rattle.lp_sig.specs.Modules.{kind_said, abbreviation_said, said_of, constants_of};
+ghost use Rattle.lp_sig.specs.Worded.{HasWords, is_met_word};
 
-use crate::constants::{DeclaredType, Known};
-use crate::entries::{AbbreviationEntry, ConstantEntry, KindEntry};
-use crate::fault::SigFault;
+use crate::constants::{Constants, DeclaredType, Known};
+use crate::entries::{AbbreviationEntry, ConstantEntry, FixityEntry, KindEntry};
 use crate::making::Making;
-use crate::names::Meaning;
+use crate::names::{Meaning, Names};
+use crate::operators::Operators;
 use crate::signature::Signature;
 use crate::standard::FIRST_KIND;
+use crate::store::Types;
 use indexmap::IndexMap;
-use lp_base::{END_OF_NUMBERS, Limit, Memory};
+use lp_base::{END_OF_NUMBERS, Memory};
 use lp_term::{Bank, TypeId, TypeNode};
 use std::alloc::Global;
 
@@ -68,40 +76,52 @@ fn types_here(alloc: Global, made: &[TypeId], ids: &[TypeId]) -> Result<Vec<Type
     Ok(here)
 }
 
-impl Making {
-    // A kind that is seen, with its number here.
-    fn see_kind(&mut self, entry: &KindEntry) -> Result<(u32, Sight), Memory> {
-        let name = entry.name.as_slice();
-        self.names.announce_kind(name, entry.arity as u32)?;
-        match self.names.meaning(name) {
-            Some(Meaning::Kind(number, arity)) => {
-                let sight = Sight::if_alike(arity == entry.arity as u32);
+// The number of a kind whose name means an abbreviation here, which no kind has.
+const NO_KIND: u32 = u32::MAX;
+
+impl Names {
+    // A kind that was announced, with its number here.
+    fn kind_seen(&self, name: &[u8], arity: u32) -> (u32, Sight) {
+        match self.meaning(name) {
+            Some(Meaning::Kind(number, known)) => {
+                let sight = Sight::if_alike(known == arity);
                 if number >= END_OF_NUMBERS {
-                    return Ok((number, sight.and(Sight::TooMany)));
+                    return (number, sight.and(Sight::TooMany));
                 }
-                Ok((number, sight))
+                (number, sight)
             }
-            _ => {
-                let number = self.names.add_kind(name, entry.arity as u32)?;
-                Ok((number, Sight::Otherwise))
-            }
+            Some(Meaning::Abbreviation(_)) => (NO_KIND, Sight::Otherwise),
+            None => (NO_KIND, Sight::Otherwise),
         }
+    }
+
+    // A kind that is seen, with its number here.
+    fn see_kind(&mut self, entry: &KindEntry) -> Result<(u32, Sight), Memory>
+        ensures { OnOk result ((said : List (Row Said)) → Knows self.old said → Knows self.new (said ++ kind_said entry.now ∷ [])) }
+    {
+        self.announce_kind(entry.name.as_slice(), entry.arity as u32)?;
+        Ok(self.kind_seen(entry.name.as_slice(), entry.arity as u32))
     }
 
     fn see_kinds(
         &mut self,
         entries: &[KindEntry],
         kinds: &mut IndexMap<u32, u32>,
-    ) -> Result<Sight, Memory> {
+    ) -> Result<Sight, Memory>
+        ensures { OnOk result ((said : List (Row Said)) → Knows self.old said → Knows self.new (said ++ map kind_said entries.now)) }
+    {
         let mut all = Sight::Alike;
-        for entry in entries {
+        for at in 0..entries.len() {
+            let entry = &entries[at];
             let (number, sight) = self.see_kind(entry)?;
             kinds.insert(entry.number, number)?;
             all = all.and(sight);
         }
         Ok(all)
     }
+}
 
+impl Types {
     // A type that is seen, whose parts were made before.
     fn see_type(
         &mut self,
@@ -114,17 +134,17 @@ impl Making {
             return Err(Memory);
         }
         match bank.type_node(id) {
-            TypeNode::Var(number) => self.bodies.types.var(number),
+            TypeNode::Var(number) => self.var(number),
             TypeNode::Param(_) => Err(Memory),
             TypeNode::Con(kind, ids) => {
                 let number = kind_here(kinds, kind)?;
                 let parts = types_here(self.alloc, made, ids)?;
-                self.bodies.types.con(number, parts.as_slice())
+                self.con(number, parts.as_slice())
             }
             TypeNode::Arrow(from, to) => {
                 let left = type_here(made, from)?;
                 let right = type_here(made, to)?;
-                self.bodies.types.arrow(left, right)
+                self.arrow(left, right)
             }
         }
     }
@@ -142,22 +162,75 @@ impl Making {
         }
         Ok(made)
     }
+}
 
-    fn see_abbreviation(
+impl Constants {
+    fn see_new(&mut self, name: &[u8], type_vars: u8, scheme: TypeId) -> Result<Sight, Memory>
+        ensures { OnOk result ((words : List (List ℕ)) → is_met_word name.now words ≡ false → HasWords self.old words → HasWords self.new (words ++ name.now ∷ [])) }
+    {
+        if self.put(name, DeclaredType { type_vars, scheme })? {
+            return Ok(Sight::Alike);
+        }
+        Ok(Sight::TooMany)
+    }
+
+    fn see(
         &mut self,
-        entry: &AbbreviationEntry,
+        types: &mut Types,
+        entry: &ConstantEntry,
         made: &[TypeId],
-    ) -> Result<Sight, Memory> {
+    ) -> Result<Sight, Memory>
+        ensures { OnOk result ((words : List (List ℕ)) → HasWords self.old words → HasWords self.new (words ++ entry.now.name.items ∷ [])) }
+    {
         let name = entry.name.as_slice();
-        let parameters = entry.type_vars as usize;
-        let body = type_here(made, entry.body)?;
+        let scheme = type_here(made, entry.scheme)?;
+        match self.known_as(types, name)? {
+            Known::New => self.see_new(name, entry.type_vars, scheme),
+            Known::Untyped => Ok(Sight::Otherwise),
+            Known::Typed(known) => Ok(Sight::if_alike(known == scheme)),
+        }
+    }
+
+    fn see_all(
+        &mut self,
+        types: &mut Types,
+        entries: &[ConstantEntry],
+        made: &[TypeId],
+    ) -> Result<Sight, Memory>
+        ensures { OnOk result ((words : List (List ℕ)) → HasWords self.old words → HasWords self.new (words ++ map (λ e. e.name.items) entries.now)) }
+    {
+        let mut all = Sight::Alike;
+        for at in 0..entries.len() {
+            let sight = self.see(types, &entries[at], made)?;
+            all = all.and(sight);
+        }
+        Ok(all)
+    }
+}
+
+impl Operators {
+    // Takes up the fixities of a signature.
+    fn see(&mut self, entries: &[FixityEntry]) -> Result<(), Memory>
+        ensures { OnOk result ((said : List (Row (IsFixity × ℕ))) → KnowsOperators self.old said → KnowsOperators self.new (said ++ map fixity_row entries.now)) }
+    {
+        for at in 0..entries.len() {
+            let entry = &entries[at];
+            self.declare(entry.name.as_slice(), entry.fixity, entry.number)?;
+        }
+        Ok(())
+    }
+}
+
+impl Making {
+    // How an abbreviation that is known goes with this one.
+    fn sight_of_abbreviation(
+        &self,
+        name: &[u8],
+        parameters: usize,
+        body: TypeId,
+    ) -> Result<Sight, Memory> {
         match self.names.meaning(name) {
-            None => {
-                self.names.add_head(name, parameters)?;
-                self.uses.push(Vec::new(self.alloc))?;
-                self.bodies.add(Some(body), None)?;
-                Ok(Sight::Alike)
-            }
+            None => Err(Memory),
             Some(Meaning::Kind(_, _)) => Ok(Sight::Otherwise),
             Some(Meaning::Abbreviation(place)) => match self.names.heads.get(place) {
                 Some(known) => Ok(Sight::if_alike(
@@ -168,52 +241,67 @@ impl Making {
         }
     }
 
-    fn add_constant(
+    fn see_abbreviation(
         &mut self,
-        name: &[u8],
-        type_vars: u8,
-        scheme: TypeId,
-    ) -> Result<Sight, Memory> {
-        let declared = DeclaredType { type_vars, scheme };
-        match self.constants.add(name, Some(declared)) {
-            Ok(()) => Ok(Sight::Alike),
-            Err(SigFault::Limit(Limit::Names)) => Ok(Sight::TooMany),
-            Err(_) => Err(Memory),
+        entry: &AbbreviationEntry,
+        made: &[TypeId],
+    ) -> Result<Sight, Memory>
+        ensures names { OnOk result ((said : List (Row Said)) → Knows self.old.names said → Knows self.new.names (said ++ abbreviation_said entry.now ∷ [])) }
+        ensures constants { self.new.constants ≡ self.old.constants }
+        ensures operators { self.new.operators ≡ self.old.operators }
+    {
+        let parameters = entry.type_vars as usize;
+        let body = type_here(made, entry.body)?;
+        let fresh = self.names.announce_head(entry.name.as_slice(), parameters)?;
+        if fresh {
+            self.uses.push(Vec::new(self.alloc))?;
+            self.bodies.add(Some(body), None)?;
+            return Ok(Sight::Alike);
         }
+        self.sight_of_abbreviation(entry.name.as_slice(), parameters, body)
     }
 
-    fn see_constant(&mut self, entry: &ConstantEntry, made: &[TypeId]) -> Result<Sight, Memory> {
-        let name = entry.name.as_slice();
-        let scheme = type_here(made, entry.scheme)?;
-        match self.constants.known_as(&mut self.bodies.types, name)? {
-            Known::New => self.add_constant(name, entry.type_vars, scheme),
-            Known::Untyped => Ok(Sight::Otherwise),
-            Known::Typed(known) => Ok(Sight::if_alike(known == scheme)),
-        }
-    }
-
-    // Takes up the names of a signature.
-    pub(crate) fn see(&mut self, signature: &Signature) -> Result<Sight, Memory> {
-        let mut kinds = IndexMap::new(self.alloc);
-        let mut all = self.see_kinds(signature.kinds(), &mut kinds)?;
-        let made = self.see_types(signature.bank(), &kinds)?;
-        for entry in signature.abbreviations().iter() {
-            let sight = self.see_abbreviation(entry, made.as_slice())?;
-            all = all.and(sight);
-        }
-        for entry in signature.constants().iter() {
-            let sight = self.see_constant(entry, made.as_slice())?;
+    fn see_abbreviations(
+        &mut self,
+        entries: &[AbbreviationEntry],
+        made: &[TypeId],
+    ) -> Result<Sight, Memory>
+        ensures names { OnOk result ((said : List (Row Said)) → Knows self.old.names said → Knows self.new.names (said ++ map abbreviation_said entries.now)) }
+        ensures constants { self.new.constants ≡ self.old.constants }
+        ensures operators { self.new.operators ≡ self.old.operators }
+    {
+        let mut all = Sight::Alike;
+        for at in 0..entries.len() {
+            let sight = self.see_abbreviation(&entries[at], made)?;
             all = all.and(sight);
         }
         Ok(all)
     }
 
+    // Takes up the names of a signature.
+    pub(crate) fn see(&mut self, signature: &Signature) -> Result<Sight, Memory>
+        ensures names { OnOk result ((said : List (Row Said)) → Knows self.old.names said → Knows self.new.names (said ++ said_of signature.now)) }
+        ensures words { OnOk result ((words : List (List ℕ)) → HasWords self.old.constants words → HasWords self.new.constants (words ++ constants_of signature.now)) }
+        ensures operators { self.new.operators ≡ self.old.operators }
+    {
+        let mut numbers = IndexMap::new(self.alloc);
+        let of_kinds = self.names.see_kinds(signature.kinds(), &mut numbers)?;
+        let made = self.bodies.types.see_types(signature.bank(), &numbers)?;
+        let of_abbreviations = self.see_abbreviations(signature.abbreviations(), made.as_slice())?;
+        let of_constants = self.constants.see_all(
+            &mut self.bodies.types,
+            signature.constants(),
+            made.as_slice(),
+        )?;
+        Ok(of_kinds.and(of_abbreviations).and(of_constants))
+    }
+
     // Takes up the fixities of a signature.
-    pub(crate) fn see_fixities(&mut self, signature: &Signature) -> Result<(), Memory> {
-        for entry in signature.fixities().iter() {
-            self.operators
-                .declare(entry.name.as_slice(), entry.fixity, entry.number)?;
-        }
-        Ok(())
+    pub(crate) fn see_fixities(&mut self, signature: &Signature) -> Result<(), Memory>
+        ensures names { self.new.names ≡ self.old.names }
+        ensures constants { self.new.constants ≡ self.old.constants }
+        ensures operators { OnOk result ((said : List (Row (IsFixity × ℕ))) → KnowsOperators self.old.operators said → KnowsOperators self.new.operators (said ++ map fixity_row signature.now.fixities.items)) }
+    {
+        self.operators.see(signature.fixities())
     }
 }

@@ -1,5 +1,5 @@
 -- The numbers of a copy's names while they are made, place by place.
-use Rattle.std.specs.Prelude.{◌≡◌, ℕ, suc, ◌+◌, ◌-◌, ◌<◌, List, length, drop, get_or, Option, Some, None}
+use Rattle.std.specs.Prelude.{◌≡◌, ℕ, suc, ◌+◌, ◌<◌, List, length, drop, get_or, Option, Some, None}
 use Rattle.lp_module.specs.Program.{place_in, hidden_or}
 
 -- the place of a number, counted from 1, behind so many others; 0 where there is none

@@ -4,7 +4,7 @@ use Rattle.lp_copies.specs.Copies.{Copies}
 use Rattle.lp_copies.specs.declared.names.TheConstants.{END_OF_IMAGE_NUMBERS}
 use Rattle.lp_model.specs.Readings.{formula_of}
 use Rattle.lp_module.specs.Copies.{counts_of, total}
-use Rattle.lp_module.specs.inner.Assembling.{AreTotals, IsPlanned, in_all, own_kinds, own_constants}
+use Rattle.lp_module.specs.inner.Assembling.{AreTotals, in_all, own_kinds, own_constants}
 use Rattle.lp_module.proofs.Uses.{order_within, uses_count}
 use Rattle.lp_module.proofs.Totals.{copies_behind}
 use Rattle.lp_module.proofs.Composing.{clauses_count}

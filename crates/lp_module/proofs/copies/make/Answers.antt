@@ -1,4 +1,4 @@
-use Rattle.std.proofs.Common.{◌+◌, ◌∙◌, [], length, map, sym, ap, subst, arith}
+use Rattle.std.proofs.Common.{◌+◌, ◌∙◌, length, map, sym, ap, subst, arith}
 use Rattle.lp_lemmas.proofs.Results.{passed_up}
 use Rattle.lp_copies.specs.Copies.{IsTooMany as AreTooMany}
 use Rattle.lp_copies.specs.Trees.{lists_in, frames_of, Turns, Moves}

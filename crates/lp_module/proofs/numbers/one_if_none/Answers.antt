@@ -1,5 +1,3 @@
-use Rattle.lp_module.proofs.Summing.{total_set}
-use Rattle.lp_module.proofs.Stepping.{root_begun}
 use Rattle.lp_module.proofs.Placing.{one_none, one_some}
 use Rattle.lp_module.proofs.numbers.one_if_none.Goals as goal
 

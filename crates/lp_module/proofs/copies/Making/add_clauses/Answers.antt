@@ -1,5 +1,4 @@
 use Rattle.std.proofs.Common.{refl, arith}
-use Rattle.lp_term.specs.Nodes.{tree}
 use Rattle.lp_term.proofs.Trees.{extends_same, extends-trans}
 use Rattle.lp_model.specs.declared.program.ClauseFormula as code
 use Rattle.lp_module.specs.Program.{map_of}

@@ -1,57 +1,98 @@
-use Rattle.std.proofs.Common.{inr, refl}
+use Rattle.std.proofs.Common.{ap, inr, refl}
 use Rattle.std.proofs.lemmas.Result.{IfErr-weaker, on_ok_weaker}
 use Rattle.lp_sig.proofs.Declaring.{new_refused, new_known, new_typed, new_taken, untyped_known, untyped_typed, untyped_taken, typed_known, typed_again, typed_refused, typed_taken, missing_taken}
+use Rattle.lp_sig.specs.Pieces.{spelled}
+use Rattle.lp_sig.specs.Worded.{is_met}
+use Rattle.lp_sig.proofs.Worded.{word_new, word_again}
 use Rattle.lp_sig.proofs.constants.Constants.declare.Goals as goal
 
 pub returns-in-New-clause-why : goal.returns-in-New-clause-why
 returns-in-New-clause-why c = IfErr-weaker c.add.result _ _
-    (λ e f. new_refused c.args.types.now.bank c.known_as.new.types.bank c.args.self.now c.spelled_at-word.result.now _ c.in_ok-known_as.field-0 c.known_as.ensures.kept c.spelled_at-word.ensures c.in_ok-known_as.ensures.is c.args.declared c.args.name e c.in-New.is f) c.add.ensures.full
+    (λ e f. new_refused c.args.types.now.bank c.known_as.new.types.bank c.args.self.now c.spelled_at-word.result.now _ c.in_ok-known_as.field-0
+    c.known_as.ensures.kept c.spelled_at-word.ensures c.in_ok-known_as.ensures.is c.args.declared c.args.name e c.in-New.is f) c.add.ensures.full
 
 pub returns-in-New-clause-known : goal.returns-in-New-clause-known
-returns-in-New-clause-known c = on_ok_weaker c.add.result (λ h. new_known c.args.types.now.bank c.known_as.new.types.bank c.args.self.now c.spelled_at-word.result.now _ c.in_ok-known_as.field-0 c.known_as.ensures.kept c.spelled_at-word.ensures c.in_ok-known_as.ensures.is c.add.new.self c.args.declared c.in-New.is h) c.add.ensures.added
+returns-in-New-clause-known c = on_ok_weaker c.add.result (λ h. new_known c.args.types.now.bank c.known_as.new.types.bank c.args.self.now
+    c.spelled_at-word.result.now _ c.in_ok-known_as.field-0 c.known_as.ensures.kept c.spelled_at-word.ensures c.in_ok-known_as.ensures.is
+    c.add.new.self c.args.declared c.in-New.is h) c.add.ensures.added
 
 pub returns-in-New-clause-typed : goal.returns-in-New-clause-typed
-returns-in-New-clause-typed c = on_ok_weaker c.add.result (λ h. new_typed c.args.types.now.bank c.known_as.new.types.bank c.args.self.now c.spelled_at-word.result.now _ c.in_ok-known_as.field-0 c.known_as.ensures.kept c.spelled_at-word.ensures c.in_ok-known_as.ensures.is c.add.new.self c.args.declared c.in-New.is h) c.add.ensures.typed
+returns-in-New-clause-typed c = on_ok_weaker c.add.result (λ h. new_typed c.args.types.now.bank c.known_as.new.types.bank c.args.self.now
+    c.spelled_at-word.result.now _ c.in_ok-known_as.field-0 c.known_as.ensures.kept c.spelled_at-word.ensures c.in_ok-known_as.ensures.is
+    c.add.new.self c.args.declared c.in-New.is h) c.add.ensures.typed
 
 pub returns-in-New-clause-taken : goal.returns-in-New-clause-taken
-returns-in-New-clause-taken c = on_ok_weaker c.add.result (λ h from z rows w k t all some. new_taken c.args.types.now.bank c.known_as.new.types.bank c.args.self.now c.spelled_at-word.result.now _ c.in_ok-known_as.field-0 c.known_as.ensures.kept c.spelled_at-word.ensures c.in_ok-known_as.ensures.is c.args.declared c.in-New.is h from z rows w k t some) c.add.ensures.room
+returns-in-New-clause-taken c = on_ok_weaker c.add.result (λ h from z rows w k t all some. new_taken c.args.types.now.bank c.known_as.new.types.bank
+    c.args.self.now c.spelled_at-word.result.now _ c.in_ok-known_as.field-0 c.known_as.ensures.kept c.spelled_at-word.ensures
+    c.in_ok-known_as.ensures.is c.args.declared c.in-New.is h from z rows w k t some) c.add.ensures.room
 
 pub returns-in-Untyped-clause-known : goal.returns-in-Untyped-clause-known
 returns-in-Untyped-clause-known c = λ said defs rows w k t.
-    untyped_known c.args.types.now.bank c.known_as.new.types.bank c.args.self.now c.spelled_at-word.result.now _ c.in_ok-known_as.field-0 c.known_as.ensures.kept c.spelled_at-word.ensures c.in_ok-known_as.ensures.is c.in-Untyped.is said defs rows w k
+    untyped_known c.args.types.now.bank c.known_as.new.types.bank c.args.self.now c.spelled_at-word.result.now _ c.in_ok-known_as.field-0
+    c.known_as.ensures.kept c.spelled_at-word.ensures c.in_ok-known_as.ensures.is c.in-Untyped.is said defs rows w k
 
 pub returns-in-Untyped-clause-typed : goal.returns-in-Untyped-clause-typed
 returns-in-Untyped-clause-typed c = λ from z rows w k all some.
-    untyped_typed c.args.types.now.bank c.known_as.new.types.bank c.args.self.now c.spelled_at-word.result.now _ c.in_ok-known_as.field-0 c.known_as.ensures.kept c.spelled_at-word.ensures c.in_ok-known_as.ensures.is c.in-Untyped.is from z rows w k all
+    untyped_typed c.args.types.now.bank c.known_as.new.types.bank c.args.self.now c.spelled_at-word.result.now _ c.in_ok-known_as.field-0
+    c.known_as.ensures.kept c.spelled_at-word.ensures c.in_ok-known_as.ensures.is c.in-Untyped.is from z rows w k all
 
 pub returns-in-Untyped-clause-taken : goal.returns-in-Untyped-clause-taken
 returns-in-Untyped-clause-taken c = λ from z rows w k t all some.
-    untyped_taken c.args.types.now.bank c.known_as.new.types.bank c.args.self.now c.spelled_at-word.result.now _ c.in_ok-known_as.field-0 c.known_as.ensures.kept c.spelled_at-word.ensures c.in_ok-known_as.ensures.is c.in-Untyped.is c.in_ok-known_as.ensures.untyped from z rows w k all
+    untyped_taken c.args.types.now.bank c.known_as.new.types.bank c.args.self.now c.spelled_at-word.result.now _ c.in_ok-known_as.field-0
+    c.known_as.ensures.kept c.spelled_at-word.ensures c.in_ok-known_as.ensures.is c.in-Untyped.is c.in_ok-known_as.ensures.untyped from z rows w k
+    all
 
 pub returns-in_default-clause-known : goal.returns-in_default-clause-known
 returns-in_default-clause-known c = λ said defs rows w k t.
-    typed_known c.args.types.now.bank c.known_as.new.types.bank c.args.self.now c.spelled_at-word.result.now _ c.in_ok-known_as.field-0 c.known_as.ensures.kept c.spelled_at-word.ensures c.in_ok-known_as.ensures.is c.in-Typed.known c.in-Typed.is said defs rows w k
+    typed_known c.args.types.now.bank c.known_as.new.types.bank c.args.self.now c.spelled_at-word.result.now _ c.in_ok-known_as.field-0
+    c.known_as.ensures.kept c.spelled_at-word.ensures c.in_ok-known_as.ensures.is c.in-Typed.known c.in-Typed.is said defs rows w k
 
 pub returns-in_default-clause-typed : goal.returns-in_default-clause-typed
 returns-in_default-clause-typed c = λ from z rows w k all some.
-    typed_again c.args.types.now.bank c.known_as.new.types.bank c.args.self.now c.spelled_at-word.result.now _ c.in_ok-known_as.field-0 c.known_as.ensures.kept c.spelled_at-word.ensures c.in_ok-known_as.ensures.is c.in-Typed.known c.in-Typed.is from z rows w k all
+    typed_again c.args.types.now.bank c.known_as.new.types.bank c.args.self.now c.spelled_at-word.result.now _ c.in_ok-known_as.field-0
+    c.known_as.ensures.kept c.spelled_at-word.ensures c.in_ok-known_as.ensures.is c.in-Typed.known c.in-Typed.is from z rows w k all
 
 pub returns-in_default-clause-taken : goal.returns-in_default-clause-taken
 returns-in_default-clause-taken c = λ from z rows w k t all some.
-    missing_taken c.args.types.now.bank c.known_as.new.types.bank c.args.self.now c.spelled_at-word.result.now _ c.in_ok-known_as.field-0 c.known_as.ensures.kept c.spelled_at-word.ensures c.in_ok-known_as.ensures.is c.in-Typed.known c.in-Typed.is c.args.declared c.in_default.is from z rows w some
+    missing_taken c.args.types.now.bank c.known_as.new.types.bank c.args.self.now c.spelled_at-word.result.now _ c.in_ok-known_as.field-0
+    c.known_as.ensures.kept c.spelled_at-word.ensures c.in_ok-known_as.ensures.is c.in-Typed.known c.in-Typed.is c.args.declared c.in_default.is
+    from z rows w some
 
 pub returns-then-not-are_equal-clause-why : goal.returns-then-not-are_equal-clause-why
 returns-then-not-are_equal-clause-why c = inr
-    (typed_refused c.args.types.now.bank c.known_as.new.types.bank c.args.self.now c.spelled_at-word.result.now _ c.in_ok-known_as.field-0 c.known_as.ensures.kept c.spelled_at-word.ensures c.in_ok-known_as.ensures.is c.in-Typed.known c.in-Typed.is c.args.declared c.in-Some.new c.in-Some.is c.args.name (c.if-not-are_equal.ensures.distinct refl))
+    (typed_refused c.args.types.now.bank c.known_as.new.types.bank c.args.self.now c.spelled_at-word.result.now _ c.in_ok-known_as.field-0
+    c.known_as.ensures.kept c.spelled_at-word.ensures c.in_ok-known_as.ensures.is c.in-Typed.known c.in-Typed.is c.args.declared c.in-Some.new
+    c.in-Some.is c.args.name (c.if-not-are_equal.ensures.distinct refl))
 
 pub returns-else-not-are_equal-clause-known : goal.returns-else-not-are_equal-clause-known
 returns-else-not-are_equal-clause-known c = λ said defs rows w k t.
-    typed_known c.args.types.now.bank c.known_as.new.types.bank c.args.self.now c.spelled_at-word.result.now _ c.in_ok-known_as.field-0 c.known_as.ensures.kept c.spelled_at-word.ensures c.in_ok-known_as.ensures.is c.in-Typed.known c.in-Typed.is said defs rows w k
+    typed_known c.args.types.now.bank c.known_as.new.types.bank c.args.self.now c.spelled_at-word.result.now _ c.in_ok-known_as.field-0
+    c.known_as.ensures.kept c.spelled_at-word.ensures c.in_ok-known_as.ensures.is c.in-Typed.known c.in-Typed.is said defs rows w k
 
 pub returns-else-not-are_equal-clause-typed : goal.returns-else-not-are_equal-clause-typed
 returns-else-not-are_equal-clause-typed c = λ from z rows w k all some.
-    typed_again c.args.types.now.bank c.known_as.new.types.bank c.args.self.now c.spelled_at-word.result.now _ c.in_ok-known_as.field-0 c.known_as.ensures.kept c.spelled_at-word.ensures c.in_ok-known_as.ensures.is c.in-Typed.known c.in-Typed.is from z rows w k all
+    typed_again c.args.types.now.bank c.known_as.new.types.bank c.args.self.now c.spelled_at-word.result.now _ c.in_ok-known_as.field-0
+    c.known_as.ensures.kept c.spelled_at-word.ensures c.in_ok-known_as.ensures.is c.in-Typed.known c.in-Typed.is from z rows w k all
 
 pub returns-else-not-are_equal-clause-taken : goal.returns-else-not-are_equal-clause-taken
 returns-else-not-are_equal-clause-taken c = λ from z rows w k t all some.
-    typed_taken c.args.types.now.bank c.known_as.new.types.bank c.args.self.now c.spelled_at-word.result.now _ c.in_ok-known_as.field-0 c.known_as.ensures.kept c.spelled_at-word.ensures c.in_ok-known_as.ensures.is c.in-Typed.known c.in-Typed.is c.args.declared c.in-Some.new c.in-Some.is (c.if-not-are_equal.ensures.same refl) from z rows w k t
+    typed_taken c.args.types.now.bank c.known_as.new.types.bank c.args.self.now c.spelled_at-word.result.now _ c.in_ok-known_as.field-0
+    c.known_as.ensures.kept c.spelled_at-word.ensures c.in_ok-known_as.ensures.is c.in-Typed.known c.in-Typed.is c.args.declared c.in-Some.new
+    c.in-Some.is (c.if-not-are_equal.ensures.same refl) from z rows w k t
+
+pub returns-in-New-clause-words : goal.returns-in-New-clause-words
+returns-in-New-clause-words c = on_ok_weaker c.add.result (λ h. word_new c.spelled_at-word.result.now (spelled c.args.source.now c.args.name)
+    c.in_ok-known_as.field-0 c.spelled_at-word.ensures c.args.self.now c.in_ok-known_as.ensures.met c.add.new.self (ap is_met c.in-New.is) h)
+    c.add.ensures.words
+
+pub returns-in-Untyped-clause-words : goal.returns-in-Untyped-clause-words
+returns-in-Untyped-clause-words c = word_again c.spelled_at-word.result.now (spelled c.args.source.now c.args.name) c.in_ok-known_as.field-0
+    c.spelled_at-word.ensures c.args.self.now c.in_ok-known_as.ensures.met (ap is_met c.in-Untyped.is)
+
+pub returns-in_default-clause-words : goal.returns-in_default-clause-words
+returns-in_default-clause-words c = word_again c.spelled_at-word.result.now (spelled c.args.source.now c.args.name) c.in_ok-known_as.field-0
+    c.spelled_at-word.ensures c.args.self.now c.in_ok-known_as.ensures.met (ap is_met c.in-Typed.is)
+
+pub returns-else-not-are_equal-clause-words : goal.returns-else-not-are_equal-clause-words
+returns-else-not-are_equal-clause-words c = word_again c.spelled_at-word.result.now (spelled c.args.source.now c.args.name) c.in_ok-known_as.field-0
+    c.spelled_at-word.ensures c.args.self.now c.in_ok-known_as.ensures.met (ap is_met c.in-Typed.is)

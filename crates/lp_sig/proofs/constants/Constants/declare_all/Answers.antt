@@ -1,4 +1,4 @@
-use Rattle.std.proofs.Common.{◌++◌, sym, subst, take, append-nil, take_all, []}
+use Rattle.std.proofs.Common.{◌++◌, map, sym, subst, take, append-nil, take_all, []}
 use Rattle.lp_term.proofs.Within.{kept_then}
 use Rattle.lp_term.proofs.Trees.{extends_same}
 use Rattle.lp_lemmas.proofs.Results.{passed_up}
@@ -8,6 +8,9 @@ use Rattle.lp_sig.proofs.Spoken.{each_more}
 use Rattle.lp_sig.proofs.Constancy.{typed_kept}
 use Rattle.lp_sig.proofs.TakenConstants.{taken_one_more}
 use Rattle.lp_sig.proofs.Declaring.{name_refused}
+use Rattle.lp_sig.specs.Pieces.{spelled}
+use Rattle.lp_sig.specs.Worded.{HasWords}
+use Rattle.lp_sig.proofs.Worded.{mapped_more}
 use Rattle.lp_sig.proofs.constants.Constants.declare_all.Goals as goal
 
 pub loop-name-init : goal.loop-name-init
@@ -16,6 +19,7 @@ loop-name-init c = record {
   known = λ said defs rows w k t. subst (KnowsConstants c.args.types.now.bank c.args.self.now said defs) (sym (append-nil rows)) k;
   typed = λ from z rows w k t all some. subst (λ r. AreTypedIf from z r c.args.self.now) (sym (append-nil rows)) all;
   taken = λ from z rows w k t all some. tt;
+  words = λ words h. subst (HasWords c.args.self.now) (sym (append-nil words)) h;
 }
 
 pub loop-name-preserved : goal.loop-name-preserved
@@ -37,7 +41,11 @@ loop-name-preserved c =
       taken = λ from z rows w k t all some.
           subst (AreTakenConstants from z rows) (each_more text w names i _ [] c.loop-name-test.true)
           (taken_one_more from z rows (each text w (take i names)) _ (inv.taken from z rows w k t all some)
-          (c.in_ok-declare.ensures.taken from z (rows ++ each text w (take i names)) w (inv.known z.said z.definitions rows w k t) (λ d e. typed_kept b here z.said z.definitions w d inv.kept (t d e)) (inv.typed from z rows w k t all some) some));
+          (c.in_ok-declare.ensures.taken from z (rows ++ each text w (take i names)) w (inv.known z.said z.definitions rows w k t)
+          (λ d e. typed_kept b here z.said z.definitions w d inv.kept (t d e)) (inv.typed from z rows w k t all some) some));
+      words = λ words h.
+          subst (HasWords c.declare.new.self) (mapped_more (λ s. spelled text s) names i _ words c.loop-name-test.true)
+          (c.in_ok-declare.ensures.words (words ++ map (λ s. spelled text s) (take i names)) (inv.words words h));
     }
 
 pub returns-in_err-declare-clause-kept : goal.returns-in_err-declare-clause-kept
@@ -46,7 +54,8 @@ returns-in_err-declare-clause-kept c = kept_then c.args.types.now.bank c.loop-na
 pub returns-in_err-declare-clause-why : goal.returns-in_err-declare-clause-why
 returns-in_err-declare-clause-why c =
     passed_up c.from_residual.result c.in_err-declare.field-0.0 _ c.from_residual.ensures.1
-    (name_refused c.args.types.now.bank c.loop-name.types.bank c.args.self.now c.loop-name.self c.args.source.now c.args.names.now c.loop-name.name-index _ c.args.declared c.in_err-declare.field-0.0 c.loop-name-test.true c.loop-name.invariant.kept
+    (name_refused c.args.types.now.bank c.loop-name.types.bank c.args.self.now c.loop-name.self c.args.source.now c.args.names.now
+    c.loop-name.name-index _ c.args.declared c.in_err-declare.field-0.0 c.loop-name-test.true c.loop-name.invariant.kept
     c.loop-name.invariant.known c.loop-name.invariant.taken c.in_err-declare.ensures.why)
 
 pub returns-clause-kept : goal.returns-clause-kept
@@ -54,12 +63,20 @@ returns-clause-kept c = c.loop-name.invariant.kept
 
 pub returns-clause-known : goal.returns-clause-known
 returns-clause-known c = λ said defs rows w k t.
-    subst (λ names. KnowsConstants c.loop-name.types.bank c.loop-name.self said defs (rows ++ each c.args.source.now w names)) (take_all c.loop-name.name-index c.args.names.now c.loop-name-test.false) (c.loop-name.invariant.known said defs rows w k t)
+    subst (λ names. KnowsConstants c.loop-name.types.bank c.loop-name.self said defs (rows ++ each c.args.source.now w names))
+    (take_all c.loop-name.name-index c.args.names.now c.loop-name-test.false) (c.loop-name.invariant.known said defs rows w k t)
 
 pub returns-clause-typed : goal.returns-clause-typed
 returns-clause-typed c = λ from z rows w k t all some.
-    subst (λ names. AreTypedIf from z (rows ++ each c.args.source.now w names) c.loop-name.self) (take_all c.loop-name.name-index c.args.names.now c.loop-name-test.false) (c.loop-name.invariant.typed from z rows w k t all some)
+    subst (λ names. AreTypedIf from z (rows ++ each c.args.source.now w names) c.loop-name.self)
+    (take_all c.loop-name.name-index c.args.names.now c.loop-name-test.false) (c.loop-name.invariant.typed from z rows w k t all some)
 
 pub returns-clause-taken : goal.returns-clause-taken
 returns-clause-taken c = λ from z rows w k t all some.
-    subst (λ names. AreTakenConstants from z rows (each c.args.source.now w names)) (take_all c.loop-name.name-index c.args.names.now c.loop-name-test.false) (c.loop-name.invariant.taken from z rows w k t all some)
+    subst (λ names. AreTakenConstants from z rows (each c.args.source.now w names))
+    (take_all c.loop-name.name-index c.args.names.now c.loop-name-test.false) (c.loop-name.invariant.taken from z rows w k t all some)
+
+pub returns-clause-words : goal.returns-clause-words
+returns-clause-words c = λ words h.
+    subst (λ names. HasWords c.loop-name.self (words ++ map (λ s. spelled c.args.source.now s) names))
+    (take_all c.loop-name.name-index c.args.names.now c.loop-name-test.false) (c.loop-name.invariant.words words h)

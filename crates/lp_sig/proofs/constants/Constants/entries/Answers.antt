@@ -1,6 +1,8 @@
-use Rattle.std.proofs.Common.{◌<◌, ◌≤◌, length, subst, arith, get_or, ap, ◌∙◌}
+use Rattle.std.proofs.Common.{◌<◌, ◌≤◌, take_all, map, length, subst, arith, get_or, ap, ◌∙◌}
 use Rattle.lp_sig.specs.Constants.{declared_constants}
 use Rattle.lp_sig.proofs.Listing.{entry_listed, all_listed, numbers_for_all}
+use Rattle.lp_sig.specs.Modules.{numbered_names}
+use Rattle.lp_sig.proofs.Worded.{number_more}
 use Rattle.lp_sig.proofs.constants.Constants.entries.Goals as goal
 
 pub loop-place-preserved : goal.loop-place-preserved
@@ -15,11 +17,23 @@ loop-place-preserved c =
           (c.constant-item.is ∙ ap (λ xs. get_or xs i c.constant-item.result) c.deref-constant-items.ensures.value) noted
           (c.loop-place.invariant.listed b said defs rows noted)
           (λ row n. c.in_ok-entry.ensures.is b said defs row n) c.in_ok-push.ensures.items;
+      rows = number_more c.args.self.now.constants.items i _ c.loop-place.entries.items c.push.new.self.items c.in_ok-entry.entry
+          (subst (λ xs. i < length xs) c.deref-constant-items.ensures.value c.loop-place-test.true)
+          (c.constant-item.is ∙ ap (λ xs. get_or xs i c.constant-item.result) c.deref-constant-items.ensures.value) c.loop-place.invariant.rows c.in_ok-push.ensures.items c.in_ok-entry.ensures.row;
     }
 
 pub returns-clause-are : goal.returns-clause-are
 returns-clause-are c = λ b said defs rows k.
-    all_listed b said defs (declared_constants rows) c.args.self.now.constants.items c.loop-place.place c.loop-place.entries.items (subst (λ xs. length xs ≤ c.loop-place.place) c.deref-constant-items.ensures.value c.loop-place-test.false) k.are (c.loop-place.invariant.listed b said defs (declared_constants rows) k.are)
+    all_listed b said defs (declared_constants rows) c.args.self.now.constants.items c.loop-place.place c.loop-place.entries.items
+    (subst (λ xs. length xs ≤ c.loop-place.place) c.deref-constant-items.ensures.value c.loop-place-test.false) k.are
+    (c.loop-place.invariant.listed b said defs (declared_constants rows) k.are)
 
 pub returns-clause-numbers : goal.returns-clause-numbers
-returns-clause-numbers c = λ b said defs rows k. numbers_for_all b said defs c.args.self.now rows c.loop-place.place c.loop-place.invariant.numbers (subst (λ xs. length xs ≤ c.loop-place.place) c.deref-constant-items.ensures.value c.loop-place-test.false) k
+returns-clause-numbers c = λ b said defs rows k. numbers_for_all b said defs c.args.self.now rows c.loop-place.place c.loop-place.invariant.numbers
+    (subst (λ xs. length xs ≤ c.loop-place.place) c.deref-constant-items.ensures.value c.loop-place-test.false) k
+
+pub returns-clause-rows : goal.returns-clause-rows
+returns-clause-rows c =
+    c.loop-place.invariant.rows ∙
+    ap (λ xs. numbered_names 32 (map (λ k. k.name.items) xs)) (take_all c.loop-place.place c.args.self.now.constants.items
+    (subst (λ xs. length xs ≤ c.loop-place.place) c.deref-constant-items.ensures.value c.loop-place-test.false))

@@ -1,5 +1,6 @@
 use Rattle.std.proofs.Common.{◌≡◌, get_or, ap, ◌∙◌}
 use Rattle.lp_sig.proofs.Constancy.{known_standard, known_new, known_typed, known_untyped, never_untyped}
+use Rattle.lp_sig.proofs.Worded.{met_standard, met_new, met_declared}
 use Rattle.lp_sig.proofs.constants.Constants.known_as.Goals as goal
 
 pub returns-in-Some-clause-is : goal.returns-in-Some-clause-is
@@ -14,7 +15,8 @@ pub returns-in-Some-declared-clause-is : goal.returns-in-Some-declared-clause-is
 returns-in-Some-declared-clause-is c = λ said defs rows k.
     let x = c.in-Some-get.constant.now in
     let at : x ≡ get_or c.args.self.now.constants.items c.in-Some-of.place x = c.in-Some-get.ensures.lookup.1 ∙ ap (λ xs. get_or xs c.in-Some-of.place x) c.deref.ensures.value in
-    known_typed c.args.types.now.bank c.args.self.now said defs rows c.args.word.now k c.in_default.ensures c.in-Some-of.place x c.in-Some-declared.declared c.in-Some-of.ensures at c.in-Some-declared.is
+    known_typed c.args.types.now.bank c.args.self.now said defs rows c.args.word.now k c.in_default.ensures c.in-Some-of.place x
+    c.in-Some-declared.declared c.in-Some-of.ensures at c.in-Some-declared.is
 
 pub returns-in-None-clause-is : goal.returns-in-None-clause-is
 returns-in-None-clause-is c = λ said defs rows k.
@@ -27,3 +29,15 @@ returns-in-None-clause-untyped c = λ is from z rows k typed first.
     let x = c.in-Some-get.constant.now in
     let at : x ≡ get_or c.args.self.now.constants.items c.in-Some-of.place x = c.in-Some-get.ensures.lookup.1 ∙ ap (λ xs. get_or xs c.in-Some-of.place x) c.deref.ensures.value in
     never_untyped from z rows c.args.types.now.bank c.args.self.now c.args.word.now c.in-Some-of.place x k typed c.in_default.ensures c.in-Some-of.ensures at c.in-None.is first
+
+pub returns-in-Some-clause-met : goal.returns-in-Some-clause-met
+returns-in-Some-clause-met c = λ words h. met_standard c.args.word.now words c.in-Some.number c.in-Some.ensures
+
+pub returns-in_default-of-clause-met : goal.returns-in_default-of-clause-met
+returns-in_default-of-clause-met c = λ words h. met_new c.args.self.now c.args.word.now words c.in_default.ensures c.in_default-of.ensures h
+
+pub returns-in-Some-declared-clause-met : goal.returns-in-Some-declared-clause-met
+returns-in-Some-declared-clause-met c = λ words h. met_declared c.args.self.now c.args.word.now words c.in-Some-of.place c.in-Some-of.ensures h
+
+pub returns-in-None-clause-met : goal.returns-in-None-clause-met
+returns-in-None-clause-met c = λ words h. met_declared c.args.self.now c.args.word.now words c.in-Some-of.place c.in-Some-of.ensures h

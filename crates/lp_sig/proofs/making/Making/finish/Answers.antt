@@ -1,9 +1,12 @@
-use Rattle.std.proofs.Common.{◌≡◌, List, subst, sym, ◌∙◌}
+use Rattle.std.proofs.Common.{◌≡◌, map, ap, List, subst, sym, ◌∙◌}
 use Rattle.std.proofs.lemmas.Result.{IfOk-weaker}
-use Rattle.lp_sig.specs.Rows.{Row}
+use Rattle.lp_sig.specs.Rows.{Row, number_row}
 use Rattle.lp_sig.specs.Constants.{Written, KnowsConstants, AreConstants, HaveNumbers}
 use Rattle.lp_sig.specs.Abbreviations.{Seen}
-use Rattle.lp_sig.specs.Entries.{AreAbbreviations}
+use Rattle.lp_sig.specs.Entries.{parameters_row, AreAbbreviations}
+use Rattle.lp_sig.specs.Knowing.{head_row}
+use Rattle.lp_sig.specs.Modules.{numbered_names}
+use Rattle.lp_sig.specs.Worded.{names_so_far}
 use Rattle.lp_sig.specs.Holding.{KnowsSeen}
 use Rattle.lp_sig.proofs.Blame.{both_ok}
 use Rattle.lp_sig.proofs.AbbreviationEntries.{all_listed}
@@ -22,9 +25,23 @@ pub returns-clause-constants : goal.returns-clause-constants
 returns-clause-constants c =
     let entries = c.in_ok-constants.constants in
     let bank = c.args.self.bodies.types.bank in
-    IfOk-weaker c.of.result (λ s. (s.bank ≡ c.into_bank.result) × (s.constants ≡ entries)) (λ s. (z : Seen) (rows : List (Row Written)) → KnowsConstants bank c.args.self.constants z.said z.definitions rows → AreConstants s.bank z.said z.definitions rows s.constants.items × HaveNumbers rows)
+    IfOk-weaker c.of.result (λ s. (s.bank ≡ c.into_bank.result) × (s.constants ≡ entries))
+    (λ s. (z : Seen) (rows : List (Row Written)) → KnowsConstants bank c.args.self.constants z.said z.definitions rows → AreConstants s.bank
+    z.said z.definitions rows s.constants.items × HaveNumbers rows)
     (λ s f z rows k. (
-      subst (λ b. AreConstants b z.said z.definitions rows s.constants.items) (sym (f.0 ∙ c.into_bank.ensures)) (subst (λ v. AreConstants bank z.said z.definitions rows v.items) (sym f.1) (c.in_ok-constants.ensures.are bank z.said z.definitions rows k)),
+      subst (λ b. AreConstants b z.said z.definitions rows s.constants.items) (sym (f.0 ∙ c.into_bank.ensures))
+          (subst (λ v. AreConstants bank z.said z.definitions rows v.items) (sym f.1)
+          (c.in_ok-constants.ensures.are bank z.said z.definitions rows k)),
       c.in_ok-constants.ensures.numbers bank z.said z.definitions rows k,
     ))
     (both_ok c.of.result (λ s. s.bank ≡ c.into_bank.result) (λ s. s.constants ≡ entries) c.of.ensures.bank c.of.ensures.constants)
+
+pub returns-clause-heads : goal.returns-clause-heads
+returns-clause-heads c = IfOk-weaker c.of.result (λ s. s.abbreviations ≡ c.in_ok-abbreviations.abbreviations)
+    (λ s. map parameters_row s.abbreviations.items ≡ map head_row c.args.self.names.heads.items)
+    (λ s e. ap (λ v. map parameters_row v.items) e ∙ c.in_ok-abbreviations.ensures.rows) c.of.ensures.abbreviations
+
+pub returns-clause-words : goal.returns-clause-words
+returns-clause-words c = IfOk-weaker c.of.result (λ s. s.constants ≡ c.in_ok-constants.constants)
+    (λ s. map number_row s.constants.items ≡ numbered_names 32 (names_so_far c.args.self.constants))
+    (λ s e. ap (λ v. map number_row v.items) e ∙ c.in_ok-constants.ensures.rows) c.of.ensures.constants

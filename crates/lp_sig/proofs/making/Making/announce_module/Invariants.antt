@@ -1,0 +1,13 @@
+use Rattle.std.proofs.Common.{◌≡◌, List, take, ◌++◌}
+use Rattle.lp_sig.specs.Rows.{Row}
+use Rattle.lp_sig.specs.Said.{Said, said_in}
+use Rattle.lp_sig.specs.Knowing.{Knows}
+use Rattle.lp_sig.specs.Modules.{declarations}
+use Rattle.lp_sig.proofs.making.Making.announce_module.Given as goal
+
+abbrev pub invariant-loop-at : goal.invariant-loop-at
+invariant-loop-at l = record {
+  names : (said : List (Row Said)) → Knows l.fn.self.names said → Knows l.self.names (said ++ said_in l.source (declarations (take l.at l.text.lines.items)));
+  constants : l.self.constants ≡ l.fn.self.constants;
+  operators : l.self.operators ≡ l.fn.self.operators;
+}

@@ -1,0 +1,38 @@
+use Rattle.std.proofs.Common.{refl, sym, ap, subst, map}
+use Rattle.std.proofs.lemmas.Result.{on_ok_weaker}
+use Rattle.lp_lemmas.proofs.Results.{on_ok_always}
+use Rattle.lp_sig.specs.Pieces.{spelled}
+use Rattle.lp_sig.specs.Modules.{local_names}
+use Rattle.lp_sig.specs.Worded.{HasWords}
+use Rattle.lp_sig.proofs.Sayings.{no_words, its_words}
+use Rattle.lp_sig.proofs.module_lines.ModuleLines.declare.Goals as goal
+
+pub returns-in-Kinds-clause-words : goal.returns-in-Kinds-clause-words
+returns-in-Kinds-clause-words c = on_ok_always c.kinds.result _ (no_words c.args.making.now.constants c.args.self.now.source.now c.args.declaration.now _ c.in-Kinds.is refl)
+
+pub returns-in-LocalKinds-clause-words : goal.returns-in-LocalKinds-clause-words
+returns-in-LocalKinds-clause-words c = on_ok_always c.local_kinds_of.result _ (no_words c.args.making.now.constants c.args.self.now.source.now c.args.declaration.now _ c.in-LocalKinds.is refl)
+
+pub returns-in-Accumulate-clause-words : goal.returns-in-Accumulate-clause-words
+returns-in-Accumulate-clause-words c = on_ok_always c.accumulate.result _ (no_words c.args.making.now.constants c.args.self.now.source.now c.args.declaration.now _ c.in-Accumulate.is refl)
+
+pub returns-in-AccumSig-clause-words : goal.returns-in-AccumSig-clause-words
+returns-in-AccumSig-clause-words c = on_ok_always c.accum_sig.result _ (no_words c.args.making.now.constants c.args.self.now.source.now c.args.declaration.now _ c.in-AccumSig.is refl)
+
+pub returns-in-Abbreviation-clause-words : goal.returns-in-Abbreviation-clause-words
+returns-in-Abbreviation-clause-words c = on_ok_always c.abbreviation.result _ (λ words h. no_words c.abbreviation.new.making.constants
+    c.args.self.now.source.now c.args.declaration.now _ c.in-Abbreviation.is refl words
+    (subst (λ k. HasWords k words) (sym c.abbreviation.ensures.constants) h))
+
+pub returns-in-Fixities-clause-words : goal.returns-in-Fixities-clause-words
+returns-in-Fixities-clause-words c = no_words c.args.making.now.constants c.args.self.now.source.now c.args.declaration.now _ c.in-Fixities.is refl
+
+pub returns-in-Constants-clause-words : goal.returns-in-Constants-clause-words
+returns-in-Constants-clause-words c = on_ok_weaker c.constants.result (λ f words h. its_words c.constants.new.making.constants
+    c.args.self.now.source.now c.args.declaration.now _ _ c.in-Constants.is (ap (map (λ s. spelled c.args.self.now.source.now s))
+    c.as_slice-in-Constants.ensures.value) words (f words h)) c.constants.ensures.words
+
+pub returns-in-Locals-clause-words : goal.returns-in-Locals-clause-words
+returns-in-Locals-clause-words c = on_ok_weaker c.locals_typed.result (λ f words h. its_words c.locals_typed.new.making.constants
+    c.args.self.now.source.now c.args.declaration.now _ _ c.in-Locals.is (ap (λ ns. local_names c.args.self.now.source.now ns c.in-Locals.raw)
+    c.as_slice-in-Locals.ensures.value) words (f words h)) c.locals_typed.ensures.words
