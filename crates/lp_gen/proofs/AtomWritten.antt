@@ -41,6 +41,8 @@ use Rattle.lp_gen.specs.inner.TermSteps.{StandIn}
 use Rattle.lp_gen.specs.inner.TermLaw.{Standing, KnownAtoms, AllLoose, IsSeen, with_variables}
 use Rattle.lp_gen.specs.inner.Written.{Goes, AreAsked, IsWell, TermWritten, AreWell, wholes, ArgumentsWritten}
 use Rattle.lp_gen.specs.inner.Doing.{Does, Says, AtomWritten}
+use Rattle.lp_gen.proofs.CodeOwned.{none_owned, owns_then}
+use Rattle.lp_gen.proofs.StepsOwn.{no_types_more}
 use Rattle.lp_gen.proofs.Denoting.{or_none, settled_same, may_strict, room_front, room_behind, none_unset}
 use Rattle.lp_gen.proofs.TermPut.{hold_all_on, types_held, moved}
 use Rattle.lp_gen.proofs.StepPut.{all_set, all_at}
@@ -313,6 +315,8 @@ call_written K start types args new a b c Ts ts qs rs x y z = record {
   terms_grow = let i = x.registers_stay in let j = y.terms_grow in let k = z.registers_stay in omega (arith, i, j, k);
   calm = y.calm;
   some = let i = z.some in let j = sum_by-append length_of (x.more ++ y.more) z.more in omega (arith, i, j);
+  owns = owns_then a b b (x.more ++ y.more) z.more (owns_then a a b x.more y.more (λ start. none_owned a x.more x.plain.no_own) y.owns) (λ start. none_owned b z.more z.plain.no_own);
+  no_types = no_types_more (x.more ++ y.more) z.more (no_types_more x.more y.more x.plain.no_types y.no_types) z.plain.no_types;
   denotes = λ h later vars s σ Γ std asked st te low few body stands good room.
       let head = atom (constant c Ts) in
       let f = with_variables σ a 0 in
@@ -411,6 +415,8 @@ term_call_written K start term new a b r t y z other = record {
   terms_grow = let j = y.terms_grow in let k = z.registers_stay in omega (arith, j, k);
   calm = y.calm;
   some = let i = z.some in let j = sum_by-append length_of y.more z.more in omega (arith, i, j);
+  owns = owns_then a b b y.more z.more y.owns (λ start. none_owned b z.more z.plain.no_own);
+  no_types = no_types_more y.more z.more y.no_types z.plain.no_types;
   denotes = λ h later vars s σ Γ std asked st te low few body stands good room.
       let f = with_variables σ a 0 in
       let k = z.types_stay in

@@ -22,6 +22,9 @@ use Rattle.lp_gen.specs.inner.TermSteps.{made_variable}
 use Rattle.lp_gen.specs.inner.TermLaw.{Standing}
 use Rattle.lp_gen.specs.inner.Written.{Goes}
 use Rattle.lp_gen.specs.inner.Beginning.{VariableMade, VariablesMade, behind_head, NeckPut}
+use Rattle.lp_gen.proofs.OwnSet.{makes_both}
+use Rattle.lp_gen.proofs.CodeOwned.{none_owned, owns_then, one_owned}
+use Rattle.lp_gen.proofs.StepsOwn.{no_types_more}
 use Rattle.lp_gen.proofs.Denoting.{steps, settled_same, room_less, room_front, room_behind}
 use Rattle.lp_gen.proofs.Registers.{held_elsewhere}
 use Rattle.lp_gen.proofs.TermPut.{put_at, no_sides}
@@ -40,6 +43,8 @@ variable_made old kind new a l v t q code same_types same_registers = record {
   code_is = code ∙ ap (λ l. l ++ New v.register t ∷ []) q.code_is ∙ append_assoc old.code.items q.more (New v.register t ∷ []);
   types_grow = let i = q.types_grow in omega (arith, i, same_types);
   registers_stay = same_registers ∙ q.registers_stay;
+  own = makes_both q.more (New v.register t ∷ []) ∙ ap (λ l. l ++ v.register ∷ []) q.plain.no_own;
+  no_types = no_types_more q.more (New v.register t ∷ []) q.plain.no_types refl;
   denotes = λ h later vars s σ st te low few stands found unset room.
       let r = v.register in
       let one = New r t ∷ [] in
@@ -84,6 +89,8 @@ no_variables e a = record {
   code_is = append_nil_sym e.code.items;
   types_grow = omega arith;
   registers_stay = refl;
+  owns = λ start. none_owned a [] refl;
+  no_types = refl;
   denotes = λ h later vars s σ st te low few stands room. (
     s,
     record {
@@ -106,6 +113,8 @@ variable_then old mid new a b l v x p found unset = record {
   code_is = p.code_is ∙ ap (λ l. l ++ p.more) x.code_is ∙ append_assoc old.code.items x.more p.more;
   types_grow = let i = x.types_grow in let j = p.types_grow in omega (arith, i, j);
   registers_stay = p.registers_stay ∙ x.registers_stay;
+  owns = owns_then a b (set_level b l) x.more p.more x.owns (λ start. one_owned b l v p.more p.own start found unset);
+  no_types = no_types_more x.more p.more x.no_types p.no_types;
   denotes = λ h later vars s σ st te low few stands room.
       let j = p.types_grow in
       let stay = x.registers_stay in

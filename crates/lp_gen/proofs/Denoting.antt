@@ -126,7 +126,7 @@ member_more r d [] e l = or_none (nat_eq r d) false (ne_eqb r d (λ z. absurd (o
 member_more r d (x ∷ xs) e l = or_none (nat_eq r x) (member r (xs ++ d ∷ [])) (or_false_left (nat_eq r x) (member r xs) e) (member_more r d xs (or_false_right (nat_eq r x) (member r xs) e) l)
 
 -- an instruction that makes a type
-put_leads : (h : Home) (later : Later) (vars : ℕ) (s : State) (i : Instr) (d : ℕ) (T : Ty) → effect h later s i ≡ Some (put_type s d T) → type_set i ≡ d ∷ [] → term_set i ≡ [] →
+pub put_leads : (h : Home) (later : Later) (vars : ℕ) (s : State) (i : Instr) (d : ℕ) (T : Ty) → effect h later s i ≡ Some (put_type s d T) → type_set i ≡ d ∷ [] → term_set i ≡ [] →
     0 < length_of i → TypesStand h vars d s → d < h.self.types →
     HasRoom s (s.place + length_of i) → ((rest : List Instr) (r : Rule) → broken_by h s rest i r ≡ false) → (t : State) × Leads h later vars d (d + 1) s (i ∷ []) t × Hold t d T
 put_leads h later vars s i d T eff ts rs long st low room fine = (
@@ -259,7 +259,7 @@ one_of : (is : List Instr) (p : Piece) → pieces is ≡ p ∷ [] → (i : Instr
 one_of [] p e = absurd (cc)
 one_of (i ∷ is) p e = (i, ap (λ l. i ∷ l) (none_of is (cons_tail (piece i) p (pieces is) [] e)), cons_head (piece i) p (pieces is) [] e)
 
-con_of : (i : Instr) (d k : ℕ) (rs : List ℕ) → piece i ≡ type_con d k rs → (v : Vec ℕ Global) × (i ≡ on.TyCon d k v) × (v.items ≡ rs)
+pub con_of : (i : Instr) (d k : ℕ) (rs : List ℕ) → piece i ≡ type_con d k rs → (v : Vec ℕ Global) × (i ≡ on.TyCon d k v) × (v.items ≡ rs)
 con_of (on.TyCon c j v) d k rs e =
     let x : c ≡ d = cc in
     let y : j ≡ k = cc in
@@ -267,7 +267,7 @@ con_of (on.TyCon c j v) d k rs e =
     (v, (λ l. on.TyCon (x l) (y l) v), z)
 con_of _ d k rs e = absurd (cc)
 
-arrow_of : (i : Instr) (d a b : ℕ) → piece i ≡ type_arrow d a b → i ≡ on.TyArr d a b
+pub arrow_of : (i : Instr) (d a b : ℕ) → piece i ≡ type_arrow d a b → i ≡ on.TyArr d a b
 arrow_of (on.TyArr c x y) d a b e =
     let p : c ≡ d = cc in
     let q : x ≡ a = cc in

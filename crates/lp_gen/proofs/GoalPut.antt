@@ -26,6 +26,7 @@ use Rattle.lp_code.specs.Steps.{Later, constant_of, settled, passed, effect}
 use Rattle.lp_code.specs.Rules.{has_type, have_type, is_passed, breaks_constant, breaks_type, breaks_index, breaks_term, breaks_order, breaks_head, breaks_nesting, breaks_clause}
 use Rattle.lp_code.specs.Denote.{broken_by}
 use Rattle.lp_gen.specs.declared.emitter.Emitter.{Emitter}
+use Rattle.lp_gen.specs.inner.Owned.{IsPlain}
 use Rattle.lp_gen.specs.inner.Running.{TypesStand, TermsStand, HasRoom}
 use Rattle.lp_gen.specs.inner.Saying.{own_numbered, own_by, equation_by, order_by, turned, Turns, IsPartPut, AreGoalParts, CallPut}
 use Rattle.lp_gen.specs.inner.Saying.{IsGoalTerm, TermCallPut, IsNext, IsNextConstant, ConstantGot, IntegerGot, TextGot, IsNextTerm, TermGot, IsNextType, TypeGot}
@@ -77,23 +78,23 @@ any_within xs n (r ∷ rs) e u =
     (any_within xs n rs e (or_false_right (is_none (held xs r)) (list_any (λ r. is_none (held xs r)) rs) u))
 
 -- how an instruction reads its parts, and that it breaks no rule
-record Keeps (h : Home) (s : State) (i : Instr) (ts rs : List ℕ) : Type 0 where
-  types_read_is : types_read i ≡ ts
-  terms_read_is : terms_read i ≡ rs
-  types_set_is : type_set i ≡ []
-  terms_set_is : term_set i ≡ []
-  types_are : list_any (λ t. is_none (held s.now.types t)) ts ≡ false
-  terms_are : list_any (λ r. is_none (held s.now.terms r)) rs ≡ false
-  constant_is : breaks_constant h i ≡ false
-  type_is : breaks_type h s i ≡ false
-  index_is : breaks_index s i ≡ false
-  term_is : breaks_term i ≡ false
-  order_is : breaks_order s i ≡ false
-  head_is : breaks_head h s i ≡ false
-  nesting_is : (rest : List Instr) → breaks_nesting s rest i ≡ false
-  clause_is : breaks_clause h s i ≡ false
+pub record Keeps (h : Home) (s : State) (i : Instr) (ts rs : List ℕ) : Type 0 where
+  pub types_read_is : types_read i ≡ ts
+  pub terms_read_is : terms_read i ≡ rs
+  pub types_set_is : type_set i ≡ []
+  pub terms_set_is : term_set i ≡ []
+  pub types_are : list_any (λ t. is_none (held s.now.types t)) ts ≡ false
+  pub terms_are : list_any (λ r. is_none (held s.now.terms r)) rs ≡ false
+  pub constant_is : breaks_constant h i ≡ false
+  pub type_is : breaks_type h s i ≡ false
+  pub index_is : breaks_index s i ≡ false
+  pub term_is : breaks_term i ≡ false
+  pub order_is : breaks_order s i ≡ false
+  pub head_is : breaks_head h s i ≡ false
+  pub nesting_is : (rest : List Instr) → breaks_nesting s rest i ≡ false
+  pub clause_is : breaks_clause h s i ≡ false
 
-keeps_rules : (h : Home) (vars n k : ℕ) (s : State) (i : Instr) (ts rs : List ℕ) → TypesStand h vars n s → TermsStand h k s → Keeps h s i ts rs → HasRoom s s.place →
+pub keeps_rules : (h : Home) (vars n k : ℕ) (s : State) (i : Instr) (ts rs : List ℕ) → TypesStand h vars n s → TermsStand h k s → Keeps h s i ts rs → HasRoom s s.place →
     (rest : List Instr) (r : Rule) → broken_by h s rest i r ≡ false
 keeps_rules h vars n k s i ts rs st te b room rest rule.Register =
     (λ j. list_any (λ t. nat_le h.self.types t) (b.types_read_is j ++ b.types_set_is j) || list_any (λ r. nat_le h.self.registers r) (b.terms_read_is j ++ b.terms_set_is j))
@@ -277,16 +278,47 @@ numbered_stands : (h : Home) (later : Later) (s : State) (o : Option Constant) (
 numbered_stands h later s None c ts rs i d n a e = absurd (cc)
 numbered_stands h later s (Some k) c ts rs i d n a e = own_stands h later s k c ts rs i d n a e
 
+-- none of them makes a variable
+
+abbrev IsNonePlain : Option Instr → Type 0
+IsNonePlain None = Unit {0}
+IsNonePlain (Some i) = IsPlain (i ∷ [])
+
+equation_plain : (k : Constant) (t l r : ℕ) → IsNonePlain (equation_by k t l r)
+equation_plain standard.Equal t l r = record { no_own = refl; no_types = refl }
+equation_plain standard.Is t l r = record { no_own = refl; no_types = refl }
+equation_plain _ t l r = tt
+
+order_plain : (k : Constant) (l r : ℕ) → IsNonePlain (order_by k l r)
+order_plain standard.Less l r = record { no_own = refl; no_types = refl }
+order_plain standard.Greater l r = record { no_own = refl; no_types = refl }
+order_plain standard.AtMost l r = record { no_own = refl; no_types = refl }
+order_plain standard.AtLeast l r = record { no_own = refl; no_types = refl }
+order_plain _ l r = tt
+
+own_plain : (k : Constant) (ts rs : List ℕ) → IsNonePlain (own_by k ts rs)
+own_plain k ts [] = tt
+own_plain k ts (l ∷ []) = tt
+own_plain k [] (l ∷ r ∷ []) = order_plain k l r
+own_plain k (t ∷ []) (l ∷ r ∷ []) = equation_plain k t l r
+own_plain k (t ∷ u ∷ ts) (l ∷ r ∷ []) = tt
+own_plain k ts (l ∷ r ∷ x ∷ xs) = tt
+
+numbered_plain : (o : Option Constant) (ts rs : List ℕ) → IsNonePlain (own_numbered o ts rs)
+numbered_plain None ts rs = tt
+numbered_plain (Some k) ts rs = own_plain k ts rs
+
 part_put : (old new : Emitter) (i : Instr) (ts rs : List ℕ) (asks : Home → State → Type 0) (goals : State → Goals) (head_types : State → List Ty) (arguments : Home → State → List Built) →
-    new.code.items ≡ old.code.items ++ i ∷ [] → new.types ≡ old.types → new.registers ≡ old.registers →
+    new.code.items ≡ old.code.items ++ i ∷ [] → new.types ≡ old.types → new.registers ≡ old.registers → IsPlain (i ∷ []) →
     ((h : Home) (later : Later) (s : State) → IsStandard h.tables.constants → asks h s → Stands h later s i ts rs (goals s) (head_types s) (arguments h s)) →
     IsPartPut old new asks goals head_types arguments
-part_put old new i ts rs asks goals head_types arguments code same_types same_registers stands = record {
+part_put old new i ts rs asks goals head_types arguments code same_types same_registers plain stands = record {
   more = i ∷ [];
   code_is = code;
   some = let long = some_length i in let one : sum_by length_of (i ∷ []) ≡ 0 + length_of i = refl in omega (arith, one, long);
   types_stay = same_types;
   registers_stay = same_registers;
+  plain = plain;
   denotes = λ h later vars s d st te a room.
       let x = stands h later s d a in
       let one : sum_by length_of (i ∷ []) ≡ 0 + length_of i = refl in
@@ -296,25 +328,25 @@ part_put old new i ts rs asks goals head_types arguments code same_types same_re
       (keeps_rules h vars old.types old.registers s i ts rs st te x.reads here);
 }
 
-goal_put : (old new : Emitter) (i : Instr) (c : ℕ) (ts rs : List ℕ) → new.code.items ≡ old.code.items ++ i ∷ [] → new.types ≡ old.types → new.registers ≡ old.registers →
+goal_put : (old new : Emitter) (i : Instr) (c : ℕ) (ts rs : List ℕ) → new.code.items ≡ old.code.items ++ i ∷ [] → new.types ≡ old.types → new.registers ≡ old.registers → IsPlain (i ∷ []) →
     ((h : Home) (later : Later) (s : State) → IsStandard h.tables.constants → AreGoalParts h s c ts rs → StandsFor h later s i c ts rs) → CallPut old new c ts rs
-goal_put old new i c ts rs code same_types same_registers stands =
+goal_put old new i c ts rs code same_types same_registers plain stands =
     part_put old new i ts rs (λ h s. AreGoalParts h s c ts rs) (λ s. with_goal s.goals (Atomic (apply (atom (constant c (types_in s.now ts))) (plain_terms (terms_in s.now rs)))))
-    (λ s. s.head_types) (λ h s. s.head_arguments) code same_types same_registers stands
+    (λ s. s.head_types) (λ h s. s.head_arguments) code same_types same_registers plain stands
 
 pub own_put : (old new : Emitter) (i : Instr) (c : ℕ) (ts rs : List ℕ) → own_numbered (numbered c) ts rs ≡ Some i → new.code.items ≡ old.code.items ++ i ∷ [] → new.types ≡ old.types →
     new.registers ≡ old.registers → CallPut old new c ts rs
-own_put old new i c ts rs e code same_types same_registers = goal_put old new i c ts rs code same_types same_registers (λ h later s d a. numbered_stands h later s
+own_put old new i c ts rs e code same_types same_registers = goal_put old new i c ts rs code same_types same_registers (subst IsNonePlain e (numbered_plain (numbered c) ts rs)) (λ h later s d a. numbered_stands h later s
     (numbered c) c ts rs i d refl a e)
 
 pub call_put : (old new : Emitter) (c : ℕ) (v w : Vec ℕ Global) → new.code.items ≡ old.code.items ++ on.Call c v w ∷ [] → new.types ≡ old.types → new.registers ≡ old.registers →
     CallPut old new c v.items w.items
-call_put old new c v w code same_types same_registers = goal_put old new (on.Call c v w) c v.items w.items code same_types same_registers (λ h later s d a. plain_stands h later s c v w a)
+call_put old new c v w code same_types same_registers = goal_put old new (on.Call c v w) c v.items w.items code same_types same_registers (record { no_own = refl; no_types = refl }) (λ h later s d a. plain_stands h later s c v w a)
 
 pub term_call_put : (old new : Emitter) (r : ℕ) → new.code.items ≡ old.code.items ++ on.CallTerm r ∷ [] → new.types ≡ old.types → new.registers ≡ old.registers → TermCallPut old new r
 term_call_put old new r code same_types same_registers =
     part_put old new (on.CallTerm r) [] (r ∷ []) (λ h s. IsGoalTerm s r) (λ s. with_goal s.goals (Atomic (term_in s.now r).term)) (λ s. s.head_types)
-    (λ h s. s.head_arguments) code same_types same_registers (λ h later s d a. read_by refl refl refl refl refl a.terms_set refl (ap (λ x. not x) a.typed) a.closed refl (ap (λ x. not x) a.behind_head) refl (λ rest. refl) refl refl (omega arith))
+    (λ h s. s.head_arguments) code same_types same_registers (record { no_own = refl; no_types = refl }) (λ h later s d a. read_by refl refl refl refl refl a.terms_set refl (ap (λ x. not x) a.typed) a.closed refl (ap (λ x. not x) a.behind_head) refl (λ rest. refl) refl refl (omega arith))
 
 -- parts of the head
 
@@ -322,25 +354,25 @@ pub constant_got : (old new : Emitter) (i c : ℕ) (v : Vec ℕ Global) → new.
     ConstantGot old new i c v.items
 constant_got old new i c v code same_types same_registers =
     part_put old new (on.GetConst i c v) v.items [] (λ h s. IsNextConstant h s i c v.items) (λ s. s.goals) (λ s. s.head_types) (λ h s. s.head_arguments ++ constant_of h.tables c
-    (types_in s.now v.items) ∷ []) code same_types same_registers (λ h later s d a. read_by refl refl refl refl a.types_set refl (ap (λ x. not x) a.declared) (ap (λ x. not x) a.next.typed) refl a.in_terms a.next.in_turn refl (λ rest. refl) refl refl (omega arith))
+    (types_in s.now v.items) ∷ []) code same_types same_registers (record { no_own = refl; no_types = refl }) (λ h later s d a. read_by refl refl refl refl a.types_set refl (ap (λ x. not x) a.declared) (ap (λ x. not x) a.next.typed) refl a.in_terms a.next.in_turn refl (λ rest. refl) refl refl (omega arith))
 
 pub integer_got : (old new : Emitter) (i : ℕ) (z : ℤ) → new.code.items ≡ old.code.items ++ on.GetInt i z ∷ [] → new.types ≡ old.types → new.registers ≡ old.registers → IntegerGot old new i z
 integer_got old new i z code same_types same_registers =
     part_put old new (on.GetInt i z) [] [] (λ h s. IsNext h s i int_type) (λ s. s.goals) (λ s. s.head_types) (λ h s. s.head_arguments ++ whole (atom
-    (integer z)) int_type ∷ []) code same_types same_registers (λ h later s d a. read_by refl refl refl refl refl refl refl (ap (λ x. not x) a.typed) refl refl a.in_turn refl (λ rest. refl) refl refl (omega arith))
+    (integer z)) int_type ∷ []) code same_types same_registers (record { no_own = refl; no_types = refl }) (λ h later s d a. read_by refl refl refl refl refl refl refl (ap (λ x. not x) a.typed) refl refl a.in_turn refl (λ rest. refl) refl refl (omega arith))
 
 pub text_got : (old new : Emitter) (i : ℕ) (v : Vec ℕ Global) → new.code.items ≡ old.code.items ++ on.GetStr i v ∷ [] → new.types ≡ old.types → new.registers ≡ old.registers →
     TextGot old new i v.items
 text_got old new i v code same_types same_registers =
     part_put old new (on.GetStr i v) [] [] (λ h s. IsNext h s i string_type) (λ s. s.goals) (λ s. s.head_types) (λ h s. s.head_arguments ++ whole (atom
-    (text v.items)) string_type ∷ []) code same_types same_registers (λ h later s d a. read_by refl refl refl refl refl refl refl (ap (λ x. not x) a.typed) refl refl a.in_turn refl (λ rest. refl) refl refl (omega arith))
+    (text v.items)) string_type ∷ []) code same_types same_registers (record { no_own = refl; no_types = refl }) (λ h later s d a. read_by refl refl refl refl refl refl refl (ap (λ x. not x) a.typed) refl refl a.in_turn refl (λ rest. refl) refl refl (omega arith))
 
 pub term_got : (old new : Emitter) (i r : ℕ) → new.code.items ≡ old.code.items ++ on.Get i r ∷ [] → new.types ≡ old.types → new.registers ≡ old.registers → TermGot old new i r
 term_got old new i r code same_types same_registers =
     part_put old new (on.Get i r) [] (r ∷ []) (λ h s. IsNextTerm h s i r) (λ s. s.goals) (λ s. s.head_types)
-    (λ h s. s.head_arguments ++ term_in s.now r ∷ []) code same_types same_registers (λ h later s d a. read_by refl refl refl refl refl a.terms_set refl (ap (λ x. not x) a.next.typed) a.closed refl a.next.in_turn a.known (λ rest. refl) refl refl (omega arith))
+    (λ h s. s.head_arguments ++ term_in s.now r ∷ []) code same_types same_registers (record { no_own = refl; no_types = refl }) (λ h later s d a. read_by refl refl refl refl refl a.terms_set refl (ap (λ x. not x) a.next.typed) a.closed refl a.next.in_turn a.known (λ rest. refl) refl refl (omega arith))
 
 pub type_got : (old new : Emitter) (j t : ℕ) → new.code.items ≡ old.code.items ++ on.GetType j t ∷ [] → new.types ≡ old.types → new.registers ≡ old.registers → TypeGot old new j t
 type_got old new j t code same_types same_registers =
     part_put old new (on.GetType j t) (t ∷ []) [] (λ h s. IsNextType h s j t) (λ s. s.goals) (λ s. s.head_types ++ type_in s.now t ∷ [])
-    (λ h s. s.head_arguments) code same_types same_registers (λ h later s d a. read_by refl refl refl refl a.types_set refl refl refl refl refl a.in_turn a.asked (λ rest. refl) refl refl (omega arith))
+    (λ h s. s.head_arguments) code same_types same_registers (record { no_own = refl; no_types = refl }) (λ h later s d a. read_by refl refl refl refl a.types_set refl refl refl refl refl a.in_turn a.asked (λ rest. refl) refl refl (omega arith))

@@ -35,3 +35,22 @@ mod Arguments
 pub mod Fitting
 mod Records
 mod OwnMade
+mod Assumed
+mod GoalsGrow
+mod BodyParts
+mod StepsOwn
+mod StepsTaken
+mod BlocksTaken
+mod StepsWalked
+mod BodySteps
+mod BodyFacts
+mod AssumptionPut
+mod BodyCoded
+mod Patched
+mod BodyEnds
+mod Entered
+mod TypesBegun
+mod BodyRun
+mod OwnSet
+mod CodeOwned
+mod OwnMadeBy

@@ -9,6 +9,8 @@ use Rattle.lp_gen.specs.inner.TermLaw.{Standing, as_set}
 use Rattle.lp_gen.specs.inner.Written.{Goes}
 use Rattle.lp_gen.specs.inner.Bodies.{IsShort}
 use Rattle.lp_gen.specs.inner.Beginning.{VariableMade, VariablesMade, IsSetAt, SomeMade, PlaceMade, IsPassed, PlacesMade, OwnMade}
+use Rattle.lp_gen.proofs.CodeOwned.{owns_then}
+use Rattle.lp_gen.proofs.StepsOwn.{no_types_more}
 use Rattle.lp_gen.proofs.Denoting.{room_front}
 use Rattle.lp_gen.proofs.Registers.{by_same}
 use Rattle.lp_gen.proofs.AroundSet.{around_then, marked_length, marked_here, marked_there, set_own}
@@ -116,6 +118,8 @@ variables_then old mid new a b c x p = record {
   code_is = p.code_is ∙ ap (λ l. l ++ p.more) x.code_is ∙ append_assoc old.code.items x.more p.more;
   types_grow = let i = x.types_grow in let j = p.types_grow in omega (arith, i, j);
   registers_stay = p.registers_stay ∙ x.registers_stay;
+  owns = owns_then a b c x.more p.more x.owns p.owns;
+  no_types = no_types_more x.more p.more x.no_types p.no_types;
   denotes = λ h later vars s σ st te low few stands room.
       let j = p.types_grow in
       let stay = x.registers_stay in

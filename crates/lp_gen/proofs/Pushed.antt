@@ -6,13 +6,14 @@ use Rattle.lp_calculus.specs.Types.{Ty}
 use Rattle.lp_calculus.specs.Term.{Term}
 use Rattle.lp_code.specs.Symbolic.{Built, variable, held, whole}
 use Rattle.lp_code.specs.States.{State, Home, bind_term}
+use Rattle.lp_code.specs.Denote.{is_all_variable}
 use Rattle.lp_gen.specs.Sources.{IsKnownType}
 use Rattle.lp_gen.specs.inner.Running.{TypesStand, TermsStand}
 use Rattle.lp_gen.specs.inner.Listing.{Seen, Around, level_in, at_level}
 use Rattle.lp_gen.specs.inner.TermLaw.{IsSeen, AreSet}
 use Rattle.lp_gen.specs.inner.Bodies.{pushed, new_level, IsShort, with_level}
 use Rattle.lp_gen.specs.inner.GoalCode.{quantified}
-use Rattle.lp_gen.specs.inner.BodyLaw.{one_more, IsAround}
+use Rattle.lp_gen.specs.inner.BodyLaw.{one_more, AreBelow, AreAlls, AreOuter, IsAround}
 use Rattle.lp_gen.proofs.Binding.{level_first, level_next, level_lower, bind_another}
 
 some_same : (v w : Seen) → ◌≡◌ {A = Option Seen} (Some v) (Some w) → w ≡ v
@@ -92,11 +93,13 @@ seen_pushed k a Γ T Q short seen (suc i) q =
     (w.0, w.1, level_next a (quantified k T) i short ∙ w.2, at_old_level a (quantified k T) w.1 w.0 w.3, w.4)
 
 -- what stands around, below a quantifier
-pub around_pushed : (h : Home) (K : ℕ → List Ty → Ty) (vars n m k : ℕ) (σ : ℕ → Term) (Γ : List Ty) (a : Around) (Q : ℕ → Type 0) (s t : State) (T : Ty) → IsAround h K vars n k σ Γ a Q s →
+pub around_pushed : (h : Home) (K : ℕ → List Ty → Ty) (vars n m k q : ℕ) (σ : ℕ → Term) (Γ : List Ty) (B : List Bool) (a : Around) (Q : ℕ → Type 0) (s t : State) (T : Ty) (c : Bool) →
+    IsAround h K vars n k q σ Γ B a Q s →
     IsShort (pushed a (quantified k T)) → IsKnownType h.tables.kinds vars T → TypesStand h vars m t → TermsStand h (k + 1) t → k < h.self.registers → t.in_body ≡ true →
     ((r : ℕ) (b : Built) → r < k → held s.now.terms r ≡ Some b → held t.now.terms r ≡ Some b) → held t.now.terms k ≡ Some (whole (variable k h.number) T) →
-    IsAround h K vars m (k + 1) (with_level σ (new_level a) (variable k h.number)) (T ∷ Γ) (pushed a (quantified k T)) (one_more Q) t
-around_pushed h K vars n m k σ Γ a Q s t T x short known_T st te low body keep made = record {
+    AreBelow q h t.assumed → (c ≡ true → is_all_variable h.records (variable k h.number) ≡ true) →
+    IsAround h K vars m (k + 1) q (with_level σ (new_level a) (variable k h.number)) (T ∷ Γ) (c ∷ B) (pushed a (quantified k T)) (one_more Q) t
+around_pushed h K vars n m k q σ Γ B a Q s t T c x short known_T st te low body keep made below all = record {
   std = x.std;
   asked = x.asked;
   types_stand = st;
@@ -120,11 +123,31 @@ around_pushed h K vars n m k σ Γ a Q s t T x short known_T st te low body keep
   short = short;
   known = known_types;
   seen = seen_pushed k a Γ T Q x.short x.seen;
+  below = below;
+  alls = all_terms;
+  outer = outer_terms;
   free = free_terms;
 }
   where
     v : Seen
     v = quantified k T
+
+    outer_terms : AreOuter h (with_level σ (new_level a) (variable k h.number)) (pushed a (quantified k T))
+    outer_terms zero l e =
+        let z = some_levels (new_level a) l (sym (level_first a v x.short) ∙ e) in
+        (k, h.number, level_same σ (new_level a) l (variable k h.number) z, omega arith)
+    outer_terms (suc i) l e =
+        let old : level_in a i ≡ Some l = sym (level_next a v i x.short) ∙ e in
+        let w = x.outer i l old in
+        (w.0, w.1, level_other σ (new_level a) l (variable k h.number) (level_lower a i l x.short old) ∙ w.2, w.3)
+
+    all_terms : AreAlls h (with_level σ (new_level a) (variable k h.number)) (pushed a (quantified k T)) (c ∷ B)
+    all_terms zero l is e =
+        let z = some_levels (new_level a) l (sym (level_first a v x.short) ∙ e) in
+        ap (is_all_variable h.records) (level_same σ (new_level a) l (variable k h.number) z) ∙ all is
+    all_terms (suc i) l is e =
+        let old : level_in a i ≡ Some l = sym (level_next a v i x.short) ∙ e in
+        ap (is_all_variable h.records) (level_other σ (new_level a) l (variable k h.number) (level_lower a i l x.short old)) ∙ x.alls i l is old
 
     all_set : AreSet (pushed a v)
     all_set l w e = ⊎_elim (λ q. ap (λ (y : Seen). y.is_set) q.1) (λ q. x.set l w q.1) (at_pushed a v w l e)
@@ -145,9 +168,10 @@ around_pushed h K vars n m k σ Γ a Q s t T x short known_T st te low body keep
         ap (bind_term (r ∷ []) h.number d) here ∙ x.free i l r d (omega (arith, le)) old ∙ sym here
 
 -- the same behind more code
-pub around_kept : (h : Home) (K : ℕ → List Ty → Ty) (vars n m k l : ℕ) (σ : ℕ → Term) (Γ : List Ty) (a : Around) (Q : ℕ → Type 0) (s t : State) → IsAround h K vars n k σ Γ a Q s → TypesStand h vars m t →
-    TermsStand h l t → l ≤ h.self.registers → t.in_body ≡ true → k ≤ l → ((r : ℕ) (b : Built) → r < k → held s.now.terms r ≡ Some b → held t.now.terms r ≡ Some b) → IsAround h K vars m l σ Γ a Q t
-around_kept h K vars n m k l σ Γ a Q s t x st te low body le keep = record {
+pub around_kept : (h : Home) (K : ℕ → List Ty → Ty) (vars n m k l q r : ℕ) (σ : ℕ → Term) (Γ : List Ty) (B : List Bool) (a : Around) (Q : ℕ → Type 0) (s t : State) → IsAround h K vars n k q σ Γ B a Q s → TypesStand h vars m t →
+    TermsStand h l t → l ≤ h.self.registers → t.in_body ≡ true → k ≤ l → ((r : ℕ) (b : Built) → r < k → held s.now.terms r ≡ Some b → held t.now.terms r ≡ Some b) → AreBelow r h t.assumed →
+    IsAround h K vars m l r σ Γ B a Q t
+around_kept h K vars n m k l q r σ Γ B a Q s t x st te low body le keep below = record {
   std = x.std;
   asked = x.asked;
   types_stand = st;
@@ -166,5 +190,8 @@ around_kept h K vars n m k l σ Γ a Q s t x st te low body le keep = record {
   short = x.short;
   known = x.known;
   seen = x.seen;
+  below = below;
+  alls = x.alls;
+  outer = x.outer;
   free = λ i j r d z e. x.free i j r d (omega (arith, z, le)) e;
 }

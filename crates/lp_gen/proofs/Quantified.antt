@@ -62,12 +62,16 @@ cut_said h later vars n k s body st te room =
     (plain_rules h vars n k s on.Cut st te refl refl refl refl refl refl refl refl (ap not body) refl (λ rest. refl) refl here) in
     (w.0, turns_says h later vars n k s w.0 (on.Cut ∷ []) (with_goal s.goals Cut) w.1)
 
+-- what is said in a block, of which something is known
+abbrev pub Inner : Home → Later → (vars m o k p : ℕ) → State → List Instr → (Goals → List (ℕ × Captured) → Type 0) → Type 0
+Inner h later vars m o k p t js X = (gs : Goals) × (b : List (ℕ × Captured)) × X gs b × (u : State) × GoalsSaid h later vars m o k p t js gs b u
+
 -- goals that are denied
-pub not_said : (h : Home) (later : Later) (vars n o k p : ℕ) (s : State) (js : List Instr) (gs : Goals) (b : List (ℕ × Captured)) → s.in_body ≡ true → depth s.frames < nesting_limit → TypesStand h vars n s → TermsStand h k s →
+pub not_said : (h : Home) (later : Later) (vars n o k p : ℕ) (s : State) (js : List Instr) (X : Goals → List (ℕ × Captured) → Type 0) → s.in_body ≡ true → depth s.frames < nesting_limit → TypesStand h vars n s → TermsStand h k s →
     MayEnd s (s.place + sum_by length_of (on.Not ∷ [] ++ (js ++ on.EndNot ∷ []))) →
-    ((t : State) → Opened h later vars n n k k s (on.Not ∷ []) (frame_of s under_not) [] t → (u : State) × GoalsSaid h later vars n o k p t js gs b u) → n ≤ o →
-    (v : State) × Says h later vars n o k p s (on.Not ∷ [] ++ (js ++ on.EndNot ∷ [])) (with_goal s.goals (Not nothing_written gs)) ([] ++ b) v
-not_said h later vars n o k p s js gs b body shallow st te room inner le =
+    ((t : State) → Opened h later vars n n k k s (on.Not ∷ []) (frame_of s under_not) [] t → Inner h later vars n o k p t js X) → n ≤ o →
+    (gs : Goals) × (b : List (ℕ × Captured)) × X gs b × (v : State) × Says h later vars n o k p s (on.Not ∷ [] ++ (js ++ on.EndNot ∷ [])) (with_goal s.goals (Not nothing_written gs)) b v
+not_said h later vars n o k p s js X body shallow st te room inner le =
     let size = sum_by-append length_of (on.Not ∷ []) (js ++ on.EndNot ∷ []) in
     let more = sum_by-append length_of js (on.EndNot ∷ []) in
     let one : sum_by length_of (on.Not ∷ []) ≡ 1 = refl in
@@ -77,11 +81,14 @@ not_said h later vars n o k p s js gs b body shallow st te room inner le =
     let opened = opened_by h later vars n k s on.Not under_not [] (ap (λ l. Some (opened_state s under_not l)) (sym (append-nil s.assumed))) refl refl (omega arith)
     (plain_rules h vars n k s on.Not st te refl refl refl refl refl refl refl refl (ap not body) refl (λ rest. not_deep s shallow) refl here) body refl st te after in
     let w = inner opened.0 opened.1 in
-    let u = w.0 in
-    let y = w.1 in
-    block_ends h later vars n n o k k p s opened.0 u (frame_of s under_not) (on.Not ∷ []) js on.EndNot gs (Not nothing_written gs) [] b opened.1 y refl refl refl (λ q. refl) refl refl refl (omega arith) refl
+    let gs = w.0 in
+    let b = w.1 in
+    let u = w.3 in
+    let y = w.4 in
+    let z = block_ends h later vars n n o k k p s opened.0 u (frame_of s under_not) (on.Not ∷ []) js on.EndNot gs (Not nothing_written gs) [] b opened.1 y refl refl refl (λ q. refl) refl refl refl (omega arith) refl
     (λ strict innermost. plain_rules h vars o p u on.EndNot y.types_stand y.terms_stand refl refl refl refl refl refl refl refl refl refl (λ rest. ap (λ k. not (ends_block on.EndNot k)) innermost) refl strict)
-    body st te room
+    body st te room in
+    (gs, b, w.2, z.0, z.1)
 
 -- a variable is made, and a block opened under it
 variable_rules : (h : Home) (vars n : ℕ) (s : State) (i : Instr) (d q : ℕ) (T : Ty) → types_read i ≡ q ∷ [] → terms_read i ≡ [] → type_set i ≡ [] →
@@ -178,13 +185,14 @@ leads_says h later vars n m o k l s t v is js gs hs a x y e le = record {
 }
 
 -- goals below `pi`, behind the instructions that make its type
-pub all_said : (h : Home) (later : Later) (vars n m o k p q : ℕ) (s r : State) (is js : List Instr) (T : Ty) (gs : Goals) (b : List (ℕ × Captured)) → s.in_body ≡ true → depth s.frames < nesting_limit →
+pub all_said : (h : Home) (later : Later) (vars n m o k p q : ℕ) (s r : State) (is js : List Instr) (T : Ty) (X : Goals → List (ℕ × Captured) → Type 0) → s.in_body ≡ true → depth s.frames < nesting_limit →
     TermsStand h k s → k < h.self.registers → Leads h later vars n m s is r → Hold r q T → n ≤ m → m ≤ o →
     MayEnd s (s.place + sum_by length_of (is ++ (on.All k q ∷ [] ++ (js ++ on.EndAll ∷ [])))) →
     ((t : State) → Opened h later vars m m k (k + 1) r (on.All k q ∷ []) (frame_of r (under_all k T)) [] t → held t.now.terms k ≡ Some (whole (variable k h.number) T) →
-    (u : State) × GoalsSaid h later vars m o (k + 1) p t js gs b u) →
-    (v : State) × Says h later vars n o k p s (is ++ (on.All k q ∷ [] ++ (js ++ on.EndAll ∷ []))) (with_goal s.goals (Forall T (bind_goals (k ∷ []) h.number gs))) b v
-all_said h later vars n m o k p q s r is js T gs b body shallow te low x held_q le mo room inner =
+    Inner h later vars m o (k + 1) p t js X) →
+    (gs : Goals) × (b : List (ℕ × Captured)) × X gs b × (v : State)
+    × Says h later vars n o k p s (is ++ (on.All k q ∷ [] ++ (js ++ on.EndAll ∷ []))) (with_goal s.goals (Forall T (bind_goals (k ∷ []) h.number gs))) b v
+all_said h later vars n m o k p q s r is js T X body shallow te low x held_q le mo room inner =
     let tail = on.All k q ∷ [] ++ (js ++ on.EndAll ∷ []) in
     let size = sum_by-append length_of is tail in
     let place = x.place_is in
@@ -203,20 +211,22 @@ all_said h later vars n m o k p q s r is js T gs b body shallow te low x held_q 
     (ap (λ o. Some (variable_state r (under_all k (unwrap_or o o_type)) k (whole (variable k h.number) (unwrap_or o o_type)))) held_q) refl refl (omega arith)
     (variable_rules h vars m r (on.All k q) k q T refl refl refl refl refl refl refl refl (ap not body_r) refl (λ rest. not_deep r deep) refl x.stands te_r low held_q here) body_r (λ q. refl) x.stands te_r low after in
     let w = inner y.0 y.1 y.2 in
-    let u = w.0 in
-    let g = w.1 in
+    let gs = w.0 in
+    let b = w.1 in
+    let u = w.3 in
+    let g = w.4 in
     let z = block_ends h later vars m m o k (k + 1) p r y.0 u (frame_of r (under_all k T)) (on.All k q ∷ []) js on.EndAll gs (Forall T (bind_goals (k ∷ []) h.number gs)) [] b y.1 g refl refl refl (λ q. refl) refl refl refl
     (omega arith) refl (λ strict innermost. plain_rules h vars o p u on.EndAll g.types_stand g.terms_stand refl refl refl refl refl refl refl refl refl refl
     (λ rest. ap (λ k. not (ends_block on.EndAll k)) innermost) refl strict) body_r x.stands te_r room_r in
-    (z.0, leads_says h later vars n m o k p s r z.0 is tail _ (with_goal s.goals (Forall T (bind_goals (k ∷ []) h.number gs))) b x z.1 (ap (λ l. with_goal l (Forall T (bind_goals (k ∷ []) h.number gs))) x.same.goals) le)
+    (gs, b, w.2, z.0, leads_says h later vars n m o k p s r z.0 is tail _ (with_goal s.goals (Forall T (bind_goals (k ∷ []) h.number gs))) b x z.1 (ap (λ l. with_goal l (Forall T (bind_goals (k ∷ []) h.number gs))) x.same.goals) le)
 
 -- goals below `sigma`, which is open up to the end of the block around it
-pub sigma_said : (h : Home) (later : Later) (vars n m o k p q : ℕ) (s r : State) (is js : List Instr) (T : Ty) (gs : Goals) (b : List (ℕ × Captured)) → s.in_body ≡ true → TermsStand h k s → k < h.self.registers →
+pub sigma_said : (h : Home) (later : Later) (vars n m o k p q : ℕ) (s r : State) (is js : List Instr) (T : Ty) (X : Goals → List (ℕ × Captured) → Type 0) → s.in_body ≡ true → TermsStand h k s → k < h.self.registers →
     Leads h later vars n m s is r → Hold r q T → n ≤ m → m ≤ o → MayEnd s (s.place + sum_by length_of (is ++ (on.Sigma k q ∷ [] ++ js))) → 0 < sum_by length_of js →
     ((t : State) → Opened h later vars m m k (k + 1) r (on.Sigma k q ∷ []) (frame_of r (under_sigma k T)) [] t → held t.now.terms k ≡ Some (whole (variable k h.number) T) →
-    (u : State) × GoalsSaid h later vars m o (k + 1) p t js gs b u) →
-    (u : State) × GoalsSaid h later vars n o k p s (is ++ (on.Sigma k q ∷ [] ++ js)) (goals (Exists T (bind_goals (k ∷ []) h.number gs)) no_goals) b u
-sigma_said h later vars n m o k p q s r is js T gs b body te low x held_q le mo room some inner =
+    Inner h later vars m o (k + 1) p t js X) →
+    (gs : Goals) × (b : List (ℕ × Captured)) × X gs b × (u : State) × GoalsSaid h later vars n o k p s (is ++ (on.Sigma k q ∷ [] ++ js)) (goals (Exists T (bind_goals (k ∷ []) h.number gs)) no_goals) b u
+sigma_said h later vars n m o k p q s r is js T X body te low x held_q le mo room some inner =
     let tail = on.Sigma k q ∷ [] ++ js in
     let size = sum_by-append length_of is tail in
     let place = x.place_is in
@@ -232,11 +242,16 @@ sigma_said h later vars n m o k p q s r is js T gs b body te low x held_q le mo 
     (ap (λ o. Some (variable_state r (under_sigma k (unwrap_or o o_type)) k (whole (variable k h.number) (unwrap_or o o_type)))) held_q) refl refl (omega arith)
     (variable_rules h vars m r (on.Sigma k q) k q T refl refl refl refl refl refl refl refl (ap not body_r) refl (λ rest. refl) refl x.stands te_r low held_q here) body_r (λ q. refl) x.stands te_r low after in
     let w = inner y.0 y.1 y.2 in
-    let u = w.0 in
-    let g = w.1 in
+    let gs = w.0 in
+    let b = w.1 in
+    let u = w.3 in
+    let g = w.4 in
     let bound = Exists T (bind_goals (k ∷ []) h.number gs) in
     let i = y.1.place_is in
     let j = g.place_is in (
+      gs,
+      b,
+      w.2,
       u,
       record {
         runs = λ e rest. ap (run h later s) (append_assoc is tail (e ∷ rest)) ∙ x.runs (tail ++ e ∷ rest) ∙ y.1.runs (js ++ e ∷ rest) ∙ g.runs e rest

@@ -21,11 +21,13 @@ use Rattle.lp_gen.specs.declared.term_steps.TermStep.{TermStep}
 use Rattle.lp_gen.specs.declared.term_steps.TermStep.TheVariants as on
 use Rattle.lp_gen.specs.inner.Reading.{read}
 use Rattle.lp_gen.specs.inner.Works.{last_of, first_of}
+use Rattle.lp_gen.specs.inner.Owned.{makes, made_by}
 use Rattle.lp_gen.specs.inner.Running.{HasRoom, Moves, IsTermPut, built_at, AreParts, ApplicationPut, IsBody, AbstractionPut}
 use Rattle.lp_gen.specs.inner.Listing.{plain_step}
 use Rattle.lp_gen.specs.inner.TermSteps.{Stack, stack, last_built, before_last, step_built, IsFine, steps_built, AreFine, StandIn, StepsPut, TermOfSteps}
 use Rattle.lp_gen.proofs.Denoting.{or_none, room_less, room_front}
 use Rattle.lp_gen.proofs.TermPut.{then_moves}
+use Rattle.lp_gen.proofs.StepsOwn.{own_more, no_types_more}
 
 -- a stack that stands in registers
 
@@ -130,6 +132,8 @@ no_steps b e made none = subst (StepsPut b e e []) (sym none) (record {
   code_is = append_nil_sym e.code.items;
   types_grow = omega arith;
   terms_grow = omega arith;
+  own = refl;
+  no_types = refl;
   denotes = λ h later vars s st te low few fine room. (
     s,
     record {
@@ -154,13 +158,16 @@ Fits b n o asks built made front =
 
 step_then : (b : Nodes) (old mid new : Emitter) (os : List TermStep) (o : TermStep) (made front after : List ℕ) (r : ℕ) (asks : Home → ℕ → List (Option Built) → Type 0) (built : Home →
     List (Option Built) → Built) →
-    StepsPut b old mid os made → IsTermPut mid new r asks built → after ≡ front ++ r ∷ [] → ((n : ℕ) → All (λ r. r < n) made → All (λ r. r < n) front) →
+    StepsPut b old mid os made → IsTermPut mid new r asks built → after ≡ front ++ r ∷ [] → made_by (plain_step b o ∷ []) ≡ [] →
+    ((n : ℕ) → All (λ r. r < n) made → All (λ r. r < n) front) →
     Fits b old.registers o asks built made front → StepsPut b old new (os ++ o ∷ []) after
-step_then b old mid new os o made front after r asks built x p e low_front fits = record {
+step_then b old mid new os o made front after r asks built x p e leaf low_front fits = record {
   more = x.more ++ p.more;
   code_is = p.code_is ∙ ap (λ l. l ++ p.more) x.code_is ∙ append_assoc old.code.items x.more p.more;
   types_grow = let i = x.types_grow in let j = p.types_grow in omega (arith, i, j);
   terms_grow = let i = x.terms_grow in let j = p.terms_grow in omega (arith, i, j);
+  own = own_more b os o x.more p.more x.own (p.plain.no_own ∙ sym leaf);
+  no_types = no_types_more x.more p.more x.no_types p.plain.no_types;
   denotes = λ h later vars s st te low few fine room.
       let i = p.types_grow in
       let j = p.terms_grow in
@@ -186,12 +193,12 @@ step_then b old mid new os o made front after r asks built x p e low_front fits 
 -- a form that leaves the stack below it
 pub leaf_then : (b : Nodes) (old mid new : Emitter) (os : List TermStep) (o : TermStep) (made after : List ℕ) (r : ℕ) (asks : Home → ℕ → List (Option Built) → Type 0) (built : Home →
     List (Option Built) → Built) →
-    StepsPut b old mid os made → IsTermPut mid new r asks built → after ≡ made ++ r ∷ [] →
+    StepsPut b old mid os made → IsTermPut mid new r asks built → after ≡ made ++ r ∷ [] → made_by (plain_step b o ∷ []) ≡ [] →
     ((h : Home) (v : ℕ) (i : Bool) (z : Stack) (ys : List (Option Built)) → IsFine h v old.registers i (plain_step b o) z →
     asks h v ys × (step_built h (plain_step b o) z ≡ stack z.registers (z.made ++ built h ys ∷ []))) →
     StepsPut b old new (os ++ o ∷ []) after
-leaf_then b old mid new os o made after r asks built x p e fits =
-    step_then b old mid new os o made made after r asks built x p e (λ n a. a) (λ h v i z ys fine stand. let w = fits h v i z ys fine in (w.0, z.made, w.1, stand))
+leaf_then b old mid new os o made after r asks built x p e leaf fits =
+    step_then b old mid new os o made made after r asks built x p e leaf (λ n a. a) (λ h v i z ys fine stand. let w = fits h v i z ys fine in (w.0, z.made, w.1, stand))
 
 some_at : (o : Option Built) (d : Built) → is_none o ≡ false → o ≡ Some (unwrap_or o d)
 some_at None d e = absurd (true≢false e)
@@ -204,6 +211,8 @@ register_then b old mid os made after r x e = record {
   code_is = x.code_is;
   types_grow = x.types_grow;
   terms_grow = x.terms_grow;
+  own = ap makes (append_nil_sym x.more) ∙ own_more b os (on.Register r) x.more [] x.own refl;
+  no_types = x.no_types;
   denotes = λ h later vars s st te low few fine room.
       let start = stack s.now.terms [] in
       let z = steps_built h (map (plain_step b) os) start in
@@ -228,7 +237,7 @@ pub apply_then : (b : Nodes) (old mid new : Emitter) (os : List TermStep) (n : �
 apply_then b old mid new os n made rest heads front args after head r x ea er eh ef ed p e =
     let front_is : front ≡ first_of 1 (first_of n made) = ef ∙ ap (first_of 1) er in
     let head_is : head ≡ slice_index_or (last_of 1 (first_of n made)) 0 0 = ed ∙ ap (λ l. slice_index_or l 0 0) (eh ∙ ap (last_of 1) er) in
-    step_then b old mid new os (on.Apply n) made front after r (λ h v ys. AreParts ys head args) (λ h ys. application_of (built_at ys head) (map (built_at ys) args)) x p e
+    step_then b old mid new os (on.Apply n) made front after r (λ h v ys. AreParts ys head args) (λ h ys. application_of (built_at ys head) (map (built_at ys) args)) x p e refl
     (λ k a. subst (All (λ r. r < k)) (sym front_is) (all_first k (length (first_of n made) - 1) (first_of n made) (all_first k (length made - n) made a)))
     (λ h v i z ys fine stand.
     let bs = z.made in
@@ -253,7 +262,7 @@ pub abstract_then : (b : Nodes) (old mid new : Emitter) (os : List TermStep) (of
 abstract_then b old mid new os of made bodies front after body r x eb ef ed p e =
     let T = read b of in
     let body_is : body ≡ slice_index_or (last_of 1 made) 0 0 = ed ∙ ap (λ l. slice_index_or l 0 0) eb in
-    step_then b old mid new os (on.Abstract of) made front after r (λ h v ys. IsBody h v ys body T) (λ h ys. abstraction_of (built_at ys body) T) x p e
+    step_then b old mid new os (on.Abstract of) made front after r (λ h v ys. IsBody h v ys body T) (λ h ys. abstraction_of (built_at ys body) T) x p e refl
     (λ k a. subst (All (λ r. r < k)) (sym ef) (all_first k (length made - 1) made a))
     (λ h v i z ys fine stand.
     let bs = z.made in
@@ -272,6 +281,8 @@ term_of_steps b old new os made r x e = record {
   code_is = x.code_is;
   types_grow = x.types_grow;
   terms_grow = x.terms_grow;
+  own = x.own;
+  no_types = x.no_types;
   denotes = λ h later vars s xs built st te low few fine is room.
       let w = x.denotes h later vars s st te low few fine room in
       let stands : StandIn w.0.now.terms made (built ∷ []) = subst (λ (y : Stack). StandIn w.0.now.terms made y.made) is w.2 in

@@ -27,8 +27,10 @@ use Rattle.lp_code.specs.Denote.{broken_by, run}
 use Rattle.lp_gen.specs.declared.emitter.Emitter.{Emitter}
 use Rattle.lp_gen.specs.Sources.{IsKnownType}
 use Rattle.lp_gen.specs.inner.Running.{TypesStand, HasRoom, Leads, Hold, HoldAll, IsTypePut, AreTypesPut, TermsStand, Moves, HoldTerm}
+use Rattle.lp_gen.specs.inner.Owned.{IsPlain}
 use Rattle.lp_gen.specs.inner.Running.{IsTermPut, IsKnownConstant, ConstantPut, IntegerPut, TextPut, IndexPut, built_at, AreParts, ApplicationPut, IsBody, AbstractionPut}
 use Rattle.lp_gen.proofs.Registers.{fresh_set}
+use Rattle.lp_gen.proofs.OwnSet.{plain_none, plain_both}
 use Rattle.lp_gen.proofs.Denoting.{or_none, steps, settled_same, room_less, held_within, held_set, held_below, member_more, none_unset, then_leads, nothing_leads, room_front, room_behind}
 
 -- types one after the other
@@ -58,6 +60,7 @@ types_put_none e = record {
   code_is = append_nil_sym e.code.items;
   registers_stay = refl;
   types_grow = omega arith;
+  plain = plain_none;
   denotes = λ h later vars s st low k room. (s, nothing_leads h later vars e.types s [] st refl, tt, All-nil (λ r. r < e.types));
 }
 
@@ -67,6 +70,7 @@ types_put_more a b c rs Ts r T x y = record {
   code_is = y.code_is ∙ ap (λ l. l ++ y.more) x.code_is ∙ append_assoc a.code.items x.more y.more;
   registers_stay = y.registers_stay ∙ x.registers_stay;
   types_grow = let p = x.types_grow in let q = y.types_grow in omega (arith, p, q);
+  plain = plain_both x.more y.more x.plain y.plain;
   denotes = λ h later vars s st low k room.
       let grows = y.types_grow in
       let known = All_push_parts (IsKnownType h.tables.kinds vars) Ts T k in
@@ -315,6 +319,7 @@ record IsPushed (mid new : Emitter) (i : Instr) : Type 0 where
   code : new.code.items ≡ mid.code.items ++ i ∷ []
   types : new.types ≡ mid.types
   registers : new.registers ≡ mid.registers + 1
+  plain : IsPlain (i ∷ [])
 
 last_put : (old mid new : Emitter) (i : Instr) (rs : List ℕ) (Ts : List Ty) (asks : Home → ℕ → List (Option Built) → Type 0) (built : Home → List (Option Built) → Built) →
     AreTypesPut old mid rs Ts → IsPushed mid new i → ((h : Home) (vars : ℕ) (xs : List (Option Built)) → asks h vars xs → All (IsKnownType h.tables.kinds vars) Ts) →
@@ -326,6 +331,7 @@ last_put old mid new i rs Ts asks built x p known does = record {
   code_is = p.code ∙ ap (λ l. l ++ i ∷ []) x.code_is ∙ append_assoc old.code.items x.more (i ∷ []);
   types_grow = let q = x.types_grow in let e = p.types in omega (arith, q, e);
   terms_grow = let q = x.registers_stay in let e = p.registers in omega (arith, q, e);
+  plain = plain_both x.more (i ∷ []) x.plain p.plain;
   denotes = λ h later vars s st te low few k room.
       let types = p.types in
       let registers = p.registers in
@@ -355,7 +361,7 @@ pub constant_put : (old mid then_ new : Emitter) (c d : ℕ) (v : Vec ℕ Global
 constant_put old mid then_ new c d v Ts x r a b e f g j =
     subst (λ d. ConstantPut old new d c Ts) (sym r) (last_put old mid new (on.PutConst mid.registers c v) v.items Ts (λ h vars xs. IsKnownConstant h vars c Ts)
     (λ h xs. constant_of h.tables c Ts) x
-    (record { code = f ∙ ap (λ l. l ++ on.PutConst d c v ∷ []) a ∙ ap (λ d. mid.code.items ++ on.PutConst d c v ∷ []) r; types = g ∙ b; registers = j ∙ e }) (λ h vars xs k. k.known)
+    (record { code = f ∙ ap (λ l. l ++ on.PutConst d c v ∷ []) a ∙ ap (λ d. mid.code.items ++ on.PutConst d c v ∷ []) r; types = g ∙ b; registers = j ∙ e; plain = record { no_own = refl; no_types = refl } }) (λ h vars xs k. k.known)
     (λ h later vars s st te low held k wide here. put_moves h later vars mid.types s (on.PutConst mid.registers c v) mid.registers (constant_of h.tables c Ts) (ap (λ us. Some
     (put_term s mid.registers (constant_of h.tables c us))) (types_held s v.items Ts held).0) refl refl (omega arith) st te low wide
     (const_fine h vars mid.types s mid.registers c v Ts st te low held k here)))
@@ -369,6 +375,7 @@ integer_put old then_ new d z r a b e f g j =
       types = g ∙ b;
       registers = j
           ∙ e;
+      plain = record { no_own = refl; no_types = refl };
     }) (λ h vars xs k. All-nil (IsKnownType h.tables.kinds vars))
     (λ h later vars s st te low held k wide here. put_moves h later vars old.types s (on.PutInt old.registers z) old.registers (whole (atom (integer z)) int_type) refl refl refl
     (omega arith) st te low wide (int_fine h s old.registers z te low here)))
@@ -383,6 +390,7 @@ text_put old then_ new d v bytes is r a b e f g j =
       types = g ∙ b;
       registers = j
           ∙ e;
+      plain = record { no_own = refl; no_types = refl };
     }) (λ h vars xs k. All-nil (IsKnownType h.tables.kinds vars))
     (λ h later vars s st te low held k wide here. put_moves h later vars old.types s (on.PutStr old.registers v) old.registers (whole (atom (text bytes)) string_type) (ap (λ b. Some
     (put_term s old.registers (whole (atom (text b)) string_type))) is) refl refl (omega arith) st te low wide
@@ -399,6 +407,7 @@ index_put old mid then_ new d i q T x r a b e f g j =
       types = g ∙ b;
       registers = j
           ∙ e;
+      plain = record { no_own = refl; no_types = refl };
     }) (λ h vars xs k. All-cons (IsKnownType h.tables.kinds vars) T [] k (All-nil (IsKnownType h.tables.kinds vars)))
     (λ h later vars s st te low held k wide here. put_moves h later vars mid.types s (on.PutIndex mid.registers i q) mid.registers (bound_index i T) (ap (λ o. Some
     (put_term s mid.registers (bound_index i (unwrap_or o o_type)))) held.0) refl refl (omega arith) st te low wide
@@ -415,6 +424,7 @@ application_put old then_ new d f v r a b e c g j =
       types = g ∙ b;
       registers = j
           ∙ e;
+      plain = record { no_own = refl; no_types = refl };
     }) (λ h vars xs k. All-nil (IsKnownType h.tables.kinds vars))
     (λ h later vars s st te low held k wide here. put_moves h later vars old.types s (on.PutApp old.registers f v) old.registers (application_of (built_at s.now.terms f) (map
     (built_at s.now.terms) v.items)) refl refl refl (omega arith) st te low wide (app_fine h s old.registers f v te low k here)))
@@ -430,6 +440,7 @@ abstraction_put old mid then_ new d b q T x r a t e f g j =
       types = g ∙ t;
       registers = j
           ∙ e;
+      plain = record { no_own = refl; no_types = refl };
     }) (λ h vars xs k. All-cons (IsKnownType h.tables.kinds vars) T [] k.known (All-nil (IsKnownType h.tables.kinds vars)))
     (λ h later vars s st te low held k wide here. put_moves h later vars mid.types s (on.PutAbs mid.registers b q) mid.registers (abstraction_of (built_at s.now.terms b) T) (ap (λ o. Some
     (put_term s mid.registers (abstraction_of (built_at s.now.terms b) (unwrap_or o o_type)))) held.0) refl refl (omega arith) st te low wide

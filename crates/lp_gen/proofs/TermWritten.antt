@@ -25,6 +25,7 @@ use Rattle.lp_gen.specs.inner.Listing.{Step, make_constant, make_integer, make_t
 use Rattle.lp_gen.specs.inner.Tasks.{Adds}
 use Rattle.lp_gen.specs.inner.TermSteps.{Stack, stack, step_built, IsFine, steps_built, AreFine, StandIn, TermOfSteps}
 use Rattle.lp_gen.specs.inner.TermLaw.{SameSides, Asks, Standing, AreOf, IsBuilt, with_variables, SameAround, AreSet, Made}
+use Rattle.lp_gen.specs.inner.Owned.{makes, made_by, MakesOwn, StaysSet}
 use Rattle.lp_gen.specs.inner.Written.{Goes, IsWell, TermWritten, AreWell, left_by, wholes, ArgumentsWritten}
 use Rattle.lp_gen.proofs.Denoting.{room_less, room_front}
 use Rattle.lp_gen.proofs.TypeWorks.{map_length}
@@ -34,6 +35,9 @@ use Rattle.lp_gen.proofs.VariablePut.{stand_past}
 use Rattle.lp_gen.proofs.AroundSet.{around_same, around_then, all_seen, variables_same}
 use Rattle.lp_gen.proofs.TermListed.{listed_comes}
 use Rattle.lp_gen.proofs.Calm.{listed_calm}
+use Rattle.lp_gen.proofs.OwnMadeBy.{listed_owns}
+use Rattle.lp_gen.proofs.StepsOwn.{no_types_more}
+use Rattle.lp_gen.proofs.CodeOwned.{none_owned, owns_then}
 use Rattle.lp_gen.proofs.ConstantTypes.{known_constant}
 
 -- what holds stays
@@ -112,6 +116,16 @@ term_written K b old new before after steps r F t x adds = record {
   types_grow = x.types_grow;
   terms_grow = x.terms_grow;
   calm = λ set. adds.around ∙ listed_calm K [] (around_of b before) F t set;
+  owns = λ start.
+      let a = around_of b before in
+      let l = listed K [] a F t in
+      let o = listed_owns K [] a F t start in
+      record {
+        made = subst (λ z. MakesOwn a z (makes x.more)) (sym adds.around) (subst (MakesOwn a l.around) (sym (x.own ∙ ap made_by adds.steps)) o.makes);
+        same = subst (SameAround a) (sym adds.around) o.same;
+        stays = subst (StaysSet a) (sym adds.around) o.stays;
+      };
+  no_types = x.no_types;
   denotes = λ h later vars s σ Γ T asked st te low few stands well same room.
       let a = around_of b before in
       let l = listed K [] a F t in
@@ -152,6 +166,8 @@ no_arguments K e a F = record {
   types_grow = omega arith;
   terms_grow = omega arith;
   calm = λ set. refl;
+  owns = λ start. none_owned a [] refl;
+  no_types = refl;
   denotes = λ h later vars s σ Γ A R asked st te low few stands well asks room. (
     s,
     record {
@@ -193,6 +209,8 @@ argument_then K old mid new a b c rs after r F G ts t x p left e = record {
   types_grow = let i = x.types_grow in let j = p.types_grow in omega (arith, i, j);
   terms_grow = let i = x.terms_grow in let j = p.terms_grow in omega (arith, i, j);
   calm = λ set. p.calm (subst AreSet (sym (x.calm set)) set) ∙ x.calm set;
+  owns = owns_then a b c x.more p.more x.owns p.owns;
+  no_types = no_types_more x.more p.more x.no_types p.no_types;
   denotes = λ h later vars s σ Γ A R asked st te low few stands well asks room.
       let i = p.types_grow in
       let j = p.terms_grow in

@@ -9,6 +9,7 @@ use Rattle.lp_gen.specs.inner.Pieces.{piece, pieces, type_made}
 use Rattle.lp_gen.specs.inner.Running.{Hold, Leads, IsTypePut}
 use Rattle.lp_gen.specs.inner.Works.{Work, with_type, work_now, IsGrown}
 use Rattle.lp_gen.proofs.Denoting.{type_leads, type_grows}
+use Rattle.lp_gen.proofs.OwnSet.{type_plain}
 
 pub type_put : (old new : Emitter) (T : Ty) (made : List ℕ) (r : ℕ) → IsGrown old new → work_now new made ≡ with_type (work_now old []) (type_made old.types T) →
     r ≡ slice_index_or made 0 0 → IsTypePut old new r T
@@ -24,6 +25,7 @@ type_put old new T made r g e at =
       code_is = g.code_is;
       registers_stay = g.registers_stay;
       types_grow = let q = type_grows old.types T in omega (arith, q, next);
+      plain = type_plain g.more old.types T rest;
       denotes = λ h later vars s st low k room.
           let w = type_leads h later vars T old.types s g.more st (subst (λ n. n ≤ h.self.types) next low) k rest room in
           (w.0, subst (λ n. Leads h later vars old.types n s g.more w.0) (sym next) w.1, subst (λ q. Hold w.0 q T) (sym register) w.2, let q = w.3 in omega (arith, q, register, next));

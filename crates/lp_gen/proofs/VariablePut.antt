@@ -2,7 +2,7 @@
 use Rattle.std.proofs.Common.{◌≡◌, ◌∙◌, ◌<◌, ℕ, ◌+◌, List, [], ◌∷◌, ◌++◌, append_assoc, map, length, false, Option, Some, None, ap, refl, sym, subst, arith}
 use Rattle.std.specs.Prelude.{All, nat_le, is_none, sum_by, slice_set, unwrap_or}
 use Rattle.std.specs.List.{list_any}
-use Rattle.std.proofs.lemmas.List.{length-set}
+use Rattle.std.proofs.lemmas.List.{length-set, append-nil}
 use Rattle.std.proofs.lemmas.List.Elements.{All-head, All-tail}
 use Rattle.lp_calculus.specs.Types.{Ty, no_types, types}
 use Rattle.lp_calculus.specs.Typing.{o_type}
@@ -21,11 +21,14 @@ use Rattle.lp_gen.specs.declared.emitter.Emitter.{Emitter}
 use Rattle.lp_gen.specs.declared.term_steps.TermStep.{TermStep}
 use Rattle.lp_gen.specs.declared.term_steps.TermStep.TheVariants as on
 use Rattle.lp_gen.specs.inner.Listing.{Step, make_constant, make_integer, make_text, make_index, make_variable, from_register, apply_last, abstract_last, plain_step}
+use Rattle.lp_gen.specs.inner.Owned.{made_by}
 use Rattle.lp_gen.specs.inner.Running.{TypesStand, HasRoom, Hold, Moves, IsTypePut}
 use Rattle.lp_gen.specs.inner.TermSteps.{Stack, stack, made_variable, step_built, steps_built, StandIn, StepsPut}
 use Rattle.lp_gen.proofs.Denoting.{or_none, room_less, room_front, none_unset, held_set}
 use Rattle.lp_gen.proofs.Registers.{held_elsewhere, by_same}
 use Rattle.lp_gen.proofs.TermPut.{moved, then_moves, put_at, types_within, one_within, no_sides}
+use Rattle.lp_gen.proofs.OwnSet.{makes_both}
+use Rattle.lp_gen.proofs.StepsOwn.{own_more, no_types_more}
 use Rattle.lp_gen.proofs.StepPut.{built_more, fine_parts, room_on}
 
 pub new_fine : (h : Home) (vars n : ℕ) (s : State) (d q : ℕ) (T : Ty) → TypesStand h vars n s → member d s.terms_set ≡ false → s.in_body ≡ false → d < h.self.registers → Hold s q T → HasRoom s s.place →
@@ -87,6 +90,8 @@ new_then b old mid kind new os made r t of x q code same_types same_registers = 
       ∙ append_assoc old.code.items (x.more ++ q.more) (New r t ∷ []);
   types_grow = let i = x.types_grow in let j = q.types_grow in omega (arith, i, j, same_types);
   terms_grow = let i = x.terms_grow in let j = q.registers_stay in omega (arith, i, j, same_registers);
+  own = own_more b os (on.New r of) (x.more ++ q.more) (New r t ∷ []) (makes_both x.more q.more ∙ (λ i. x.own i ++ q.plain.no_own i) ∙ append-nil (made_by (map (plain_step b) os))) refl;
+  no_types = no_types_more (x.more ++ q.more) (New r t ∷ []) (no_types_more x.more q.more x.no_types q.plain.no_types) refl;
   denotes = λ h later vars s st te low few fine room.
       let T = type_tree b of.0 in
       let one = New r t ∷ [] in

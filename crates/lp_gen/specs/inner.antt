@@ -1,11 +1,15 @@
 pub mod Beginning
 pub mod Bodies
+pub mod BodyCode
 pub mod BodyLaw
 pub mod Doing
+pub mod Entering
 pub mod Fitting
 pub mod GoalCode
 pub mod Heading
 pub mod Listing
+pub mod OpenGoals
+pub mod Owned
 pub mod Pieces
 pub mod Reading
 pub mod Running

@@ -1,14 +1,25 @@
 // The goals of a record.
+ghost use Rattle.std.specs.Prelude.{◌≡◌, ℕ, [], ◌∷◌, ◌++◌, length, sum_by, IfOk, OnOk, IfSome, MatchOption};
+ghost use Rattle.lp_term.specs.Nodes.{Nodes, type_tree};
+ghost use Rattle.lp_model.specs.Flat.{Clauses};
+ghost use Rattle.lp_code.specs.Length.{length_of};
+ghost use Rattle.lp_gen.specs.inner.Listing.{around_of, constant_function};
+ghost use Rattle.lp_gen.specs.inner.OpenGoals.{cut_to};
+ghost use Rattle.lp_gen.specs.inner.OpenGoals as plain;
+ghost use Rattle.lp_gen.specs.inner.BodyCode.{VariableOpened, SomeOpened, AllOpened, BlockOpened, BlockEnded, Takes, IsTaken, StepsWritten, BodyWritten};
 
 use crate::atoms::put_atom;
-use crate::environment::Variable;
+use crate::emitter::Emitter;
+use crate::environment::{Environment, Variable};
 use crate::fault::GenRefusal;
 use crate::plan::Step;
-use crate::terms::Writer;
+use crate::record::{Starts, Tables, assumption};
 use crate::types::TypeView;
 use crate::variables::put_neck;
+use crate::written_types::put_type;
 use lp_code::Instr;
-use lp_term::TypeId;
+use lp_term::{Bank, TypeId};
+use std::alloc::Global;
 
 // An open block: how many variables the record had before it, and where its instruction stands.
 #[derive(Clone, Copy)]
@@ -21,114 +32,246 @@ struct Block {
 // The bytes of `EITHER`, and of `JUMP`.
 const JUMP_BYTES: u64 = 5;
 
-impl<'a> Writer<'a> {
-    // A new variable, in the next register; says the register of its type.
-    fn open_variable(&mut self, of: TypeId) -> Result<(u16, u16), GenRefusal> {
-        let kind = self.put_type(TypeView::Of(of, None))?;
-        let register = self.emitter.new_register()?;
-        self.environment.push(Variable {
-            register,
-            of,
-            is_set: true,
-        })?;
-        Ok((register, kind))
-    }
+// A new variable, in the next register; says that and the register of its type.
+fn open_variable(
+    alloc: Global,
+    bank: &Bank,
+    emitter: &mut Emitter,
+    environment: &mut Environment<'_>,
+    of: TypeId,
+) -> Result<(u16, u16), GenRefusal>
+    ensures { IfOk result (λ made. VariableOpened emitter.old emitter.new (around_of bank.now environment.old) (around_of bank.now environment.new) made.0 made.1 (type_tree bank.now of.0)) }
+{
+    let kind = put_type(alloc, bank, emitter, TypeView::Of(of, None))?;
+    let register = emitter.new_register()?;
+    environment.push(Variable {
+        register,
+        of,
+        is_set: true,
+    })?;
+    Ok((register, kind))
+}
 
-    // A block opens with the next instruction.
-    fn block(&self) -> Block {
-        Block {
-            variables: self.environment.own.len(),
-            at: self.emitter.code.len(),
-            from: self.emitter.place,
+// A block opens with the next instruction.
+fn block_here(emitter: &Emitter, environment: &Environment<'_>) -> Block
+    ensures variables { result.variables ≡ length environment.now.own.items }
+    ensures at { result.at ≡ length emitter.now.code.items }
+    ensures from { result.from ≡ sum_by length_of emitter.now.code.items }
+{
+    Block {
+        variables: environment.own.len(),
+        at: emitter.code.len(),
+        from: emitter.place,
+    }
+}
+
+// The innermost block ends; its variables are gone.
+fn leave(environment: &mut Environment<'_>, blocks: &mut Vec<Block>) -> Option<Block>
+    ensures last { MatchOption result (blocks.old.items ≡ []) (λ block. blocks.old.items ≡ blocks.new.items ++ block ∷ []) }
+    ensures left { IfSome result (λ block. (b : Nodes) → around_of b environment.new ≡ cut_to block.variables (around_of b environment.old)) }
+{
+    let block = blocks.pop()?;
+    environment.own.truncate(block.variables);
+    Some(block)
+}
+
+// A block opens with this instruction.
+fn open(
+    emitter: &mut Emitter,
+    environment: &Environment<'_>,
+    blocks: &mut Vec<Block>,
+    instr: Instr,
+) -> Result<(), GenRefusal>
+    ensures { OnOk result (BlockOpened emitter.old emitter.new environment.now blocks.old.items blocks.new.items instr) }
+{
+    let block = block_here(emitter, environment);
+    blocks.push(block)?;
+    emitter.emit(instr)?;
+    Ok(())
+}
+
+// A block ends with this instruction.
+fn end(
+    emitter: &mut Emitter,
+    environment: &mut Environment<'_>,
+    blocks: &mut Vec<Block>,
+    instr: Instr,
+) -> Result<(), GenRefusal>
+    ensures { OnOk result (BlockEnded emitter.old emitter.new environment.old environment.new blocks.old.items blocks.new.items instr) }
+{
+    let Some(_) = leave(environment, blocks) else {
+        return Ok(());
+    };
+    emitter.emit(instr)?;
+    Ok(())
+}
+
+// Goals below `sigma`.
+fn open_some(
+    alloc: Global,
+    bank: &Bank,
+    emitter: &mut Emitter,
+    environment: &mut Environment<'_>,
+    of: TypeId,
+) -> Result<(), GenRefusal>
+    ensures { OnOk result (SomeOpened emitter.old emitter.new (around_of bank.now environment.old) (around_of bank.now environment.new) (type_tree bank.now of.0)) }
+{
+    let made = open_variable(alloc, bank, emitter, environment, of)?;
+    emitter.emit(Instr::Sigma(made.0, made.1))?;
+    Ok(())
+}
+
+// Goals below `pi`.
+fn open_all(
+    alloc: Global,
+    bank: &Bank,
+    emitter: &mut Emitter,
+    environment: &mut Environment<'_>,
+    blocks: &mut Vec<Block>,
+    of: TypeId,
+) -> Result<(), GenRefusal>
+    ensures { OnOk result (AllOpened emitter.old emitter.new (around_of bank.now environment.old) (around_of bank.now environment.new) blocks.old.items blocks.new.items (type_tree bank.now of.0)) }
+{
+    let block = block_here(emitter, environment);
+    let made = open_variable(alloc, bank, emitter, environment, of)?;
+    blocks.push(block)?;
+    emitter.emit(Instr::All(made.0, made.1))?;
+    Ok(())
+}
+
+// The left side gives way to the right one.
+fn turn(
+    emitter: &mut Emitter,
+    environment: &mut Environment<'_>,
+    blocks: &mut Vec<Block>,
+) -> Result<(), GenRefusal>
+    ensures { OnOk result (Takes emitter.old emitter.new environment.old environment.new blocks.old.items blocks.new.items plain.turn) }
+{
+    let Some(left) = leave(environment, blocks) else {
+        return Ok(());
+    };
+    let right = block_here(emitter, environment);
+    emitter.emit(Instr::Jump(0))?;
+    let bytes = emitter.bytes_behind(left.from, JUMP_BYTES);
+    emitter.set_bytes(left.at, bytes);
+    blocks.push(right)?;
+    Ok(())
+}
+
+// The right side ends.
+fn end_either(emitter: &mut Emitter, environment: &mut Environment<'_>, blocks: &mut Vec<Block>)
+    ensures { Takes emitter.old emitter.new environment.old environment.new blocks.old.items blocks.new.items plain.end_either }
+{
+    let Some(right) = leave(environment, blocks) else {
+        return;
+    };
+    let bytes = emitter.bytes_behind(right.from, JUMP_BYTES);
+    emitter.set_bytes(right.at, bytes);
+}
+
+fn write_step(
+    alloc: Global,
+    tables: Tables<'_>,
+    emitter: &mut Emitter,
+    environment: &mut Environment<'_>,
+    starts: &mut Vec<Starts>,
+    blocks: &mut Vec<Block>,
+    step: Step,
+) -> Result<(), GenRefusal>
+    ensures { OnOk result ((cl : ℕ → Clauses) → IsTaken tables.entry cl (constant_function tables.entry.bank.now tables.entry.constants.now) emitter.old emitter.new environment.old environment.new blocks.old.items blocks.new.items step) }
+{
+    match step {
+        Step::Atom(term) => {
+            put_atom(alloc, tables, emitter, environment, term)?;
+            Ok(())
+        }
+        Step::Cut => {
+            emitter.emit(Instr::Cut)?;
+            Ok(())
+        }
+        Step::Either => {
+            open(emitter, environment, blocks, Instr::Either(0))?;
+            Ok(())
+        }
+        Step::Turn => {
+            turn(emitter, environment, blocks)?;
+            Ok(())
+        }
+        Step::EndEither => {
+            end_either(emitter, environment, blocks);
+            Ok(())
+        }
+        Step::Some(of) => {
+            open_some(alloc, tables.bank, emitter, environment, of)?;
+            Ok(())
+        }
+        Step::All(of) => {
+            open_all(alloc, tables.bank, emitter, environment, blocks, of)?;
+            Ok(())
+        }
+        Step::EndAll => {
+            end(emitter, environment, blocks, Instr::EndAll)?;
+            Ok(())
+        }
+        Step::Assume(number) => {
+            let instr = assumption(alloc, tables, environment, starts, number)?;
+            open(emitter, environment, blocks, instr)?;
+            Ok(())
+        }
+        Step::EndAssume => {
+            end(emitter, environment, blocks, Instr::EndAssume)?;
+            Ok(())
+        }
+        Step::Not => {
+            open(emitter, environment, blocks, Instr::Not)?;
+            Ok(())
+        }
+        Step::EndNot => {
+            end(emitter, environment, blocks, Instr::EndNot)?;
+            Ok(())
         }
     }
+}
 
-    // The block ends; its variables are gone.
-    fn leave(&mut self, blocks: &mut Vec<Block>) -> Option<Block> {
-        let block = blocks.pop()?;
-        self.environment.own.truncate(block.variables);
-        Some(block)
+// The code of steps.
+fn write_steps(
+    alloc: Global,
+    tables: Tables<'_>,
+    emitter: &mut Emitter,
+    environment: &mut Environment<'_>,
+    starts: &mut Vec<Starts>,
+    steps: &[Step],
+) -> Result<(), GenRefusal>
+    ensures { OnOk result (StepsWritten tables.entry (constant_function tables.entry.bank.now tables.entry.constants.now) emitter.old emitter.new environment.old environment.new steps.now) }
+{
+    let mut blocks = Vec::new(alloc);
+    for step in steps.iter().copied() {
+        write_step(
+            alloc,
+            tables,
+            emitter,
+            environment,
+            starts,
+            &mut blocks,
+            step,
+        )?;
     }
+    Ok(())
+}
 
-    // The left side gives way to the right one.
-    fn turn(&mut self, blocks: &mut Vec<Block>) -> Result<(), GenRefusal> {
-        let Some(left) = self.leave(blocks) else {
-            return Ok(());
-        };
-        let right = self.block();
-        self.emitter.emit(Instr::Jump(0))?;
-        let bytes = self.emitter.bytes_behind(left.from, JUMP_BYTES);
-        self.emitter.set_bytes(left.at, bytes);
-        blocks.push(right)?;
-        Ok(())
-    }
-
-    // The right side ends.
-    fn end_either(&mut self, blocks: &mut Vec<Block>) {
-        if let Some(right) = self.leave(blocks) {
-            let bytes = self.emitter.bytes_behind(right.from, JUMP_BYTES);
-            self.emitter.set_bytes(right.at, bytes);
-        }
-    }
-
-    fn end(&mut self, blocks: &mut Vec<Block>, instr: Instr) -> Result<(), GenRefusal> {
-        let _block = self.leave(blocks);
-        self.emitter.emit(instr)
-    }
-
-    fn open(&mut self, blocks: &mut Vec<Block>, instr: Instr) -> Result<(), GenRefusal> {
-        blocks.push(self.block())?;
-        self.emitter.emit(instr)
-    }
-
-    fn step(&mut self, blocks: &mut Vec<Block>, step: Step) -> Result<(), GenRefusal> {
-        match step {
-            Step::Atom(term) => put_atom(
-                self.alloc,
-                self.tables,
-                &mut self.emitter,
-                &mut self.environment,
-                term,
-            ),
-            Step::Cut => self.emitter.emit(Instr::Cut),
-            Step::Either => self.open(blocks, Instr::Either(0)),
-            Step::Turn => self.turn(blocks),
-            Step::EndEither => {
-                self.end_either(blocks);
-                Ok(())
-            }
-            Step::Some(of) => {
-                let (register, kind) = self.open_variable(of)?;
-                self.emitter.emit(Instr::Sigma(register, kind))
-            }
-            Step::All(of) => {
-                let variables = self.environment.own.len();
-                let (register, kind) = self.open_variable(of)?;
-                blocks.push(Block {
-                    variables,
-                    at: self.emitter.code.len(),
-                    from: self.emitter.place,
-                })?;
-                self.emitter.emit(Instr::All(register, kind))
-            }
-            Step::EndAll => self.end(blocks, Instr::EndAll),
-            Step::Assume(number) => {
-                let instr = self.assumption(number)?;
-                self.open(blocks, instr)
-            }
-            Step::EndAssume => self.end(blocks, Instr::EndAssume),
-            Step::Not => self.open(blocks, Instr::Not),
-            Step::EndNot => self.end(blocks, Instr::EndNot),
-        }
-    }
-
-    /// The code behind the head.
-    pub(crate) fn write_body(&mut self, steps: &[Step]) -> Result<(), GenRefusal> {
-        put_neck(&mut self.emitter)?;
-        let mut blocks = Vec::new(self.alloc);
-        for step in steps.iter().copied() {
-            self.step(&mut blocks, step)?;
-        }
-        self.emitter.emit(Instr::Proceed)
-    }
+/// The code behind the head.
+pub(crate) fn write_body(
+    alloc: Global,
+    tables: Tables<'_>,
+    emitter: &mut Emitter,
+    environment: &mut Environment<'_>,
+    starts: &mut Vec<Starts>,
+    steps: &[Step],
+) -> Result<(), GenRefusal>
+    ensures { OnOk result (BodyWritten tables.entry (constant_function tables.entry.bank.now tables.entry.constants.now) emitter.old emitter.new environment.old environment.new steps.now) }
+{
+    put_neck(emitter)?;
+    write_steps(alloc, tables, emitter, environment, starts, steps)?;
+    emitter.emit(Instr::Proceed)?;
+    Ok(())
 }

@@ -1,5 +1,7 @@
 // The code of a record in the making.
-ghost use Rattle.std.specs.Prelude.{◌≡◌, ◌≤◌, ◌+◌, [], ◌∷◌, ◌++◌, true, All, sum_by, OnOk, IfOk};
+ghost use Rattle.std.specs.Prelude.{◌≡◌, ℕ, ◌≤◌, ◌+◌, ◌-◌, List, [], ◌∷◌, ◌++◌, true, All, length as length_of_list, sum_by, OnOk, IfOk};
+ghost use Rattle.lp_code.specs.declared.instruction.Instr.{Instr};
+ghost use Rattle.lp_code.specs.declared.instruction.Instr.TheVariants as on;
 ghost use Rattle.lp_code.specs.Length.{length_of};
 ghost use Rattle.lp_gen.specs.inner.Fitting.{is_fitting};
 
@@ -116,7 +118,12 @@ impl Emitter {
     }
 
     /// Gives the instruction at a place, an `Either` or a `Jump`, its count of bytes.
-    pub(crate) fn set_bytes(&mut self, at: usize, bytes: u32) {
+    pub(crate) fn set_bytes(&mut self, at: usize, bytes: u32)
+        ensures either { (xs ys : List Instr) (n : ℕ) → self.old.code.items ≡ xs ++ on.Either n ∷ ys → at ≡ length_of_list xs → self.new.code.items ≡ xs ++ on.Either bytes ∷ ys }
+        ensures jump { (xs ys : List Instr) (n : ℕ) → self.old.code.items ≡ xs ++ on.Jump n ∷ ys → at ≡ length_of_list xs → self.new.code.items ≡ xs ++ on.Jump bytes ∷ ys }
+        ensures types { self.new.types ≡ self.old.types }
+        ensures registers { self.new.registers ≡ self.old.registers }
+    {
         if at < self.code.len() {
             let instr = match &self.code[at] {
                 Instr::Either(_) => Instr::Either(bytes),
@@ -128,7 +135,9 @@ impl Emitter {
     }
 
     /// The bytes behind an offset and so many more.
-    pub(crate) fn bytes_behind(&self, from: u64, more: u64) -> u32 {
+    pub(crate) fn bytes_behind(&self, from: u64, more: u64) -> u32
+        ensures { from + more ≤ sum_by length_of self.now.code.items → result ≡ sum_by length_of self.now.code.items - (from + more) }
+    {
         let bytes = self.place.saturating_sub(from.saturating_add(more));
         bytes.min(MAX_CODE_BYTES) as u32
     }

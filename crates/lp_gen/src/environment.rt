@@ -1,7 +1,8 @@
 // The variables of a record, by their levels: that of a variable is the number of variables around it.
-ghost use Rattle.std.specs.Prelude.{◌≡◌, ◌+◌, ◌-◌, ◌^◌, min, length, option_map};
+ghost use Rattle.std.specs.Prelude.{◌≡◌, ◌+◌, ◌-◌, ◌^◌, min, length, option_map, OnOk};
 ghost use Rattle.lp_term.specs.Nodes.{Nodes};
 ghost use Rattle.lp_gen.specs.inner.Listing.{seen, around_of, level_in, level_below, at_level, set_level};
+ghost use Rattle.lp_gen.specs.inner.Bodies.{pushed};
 
 use indexmap::IndexMap;
 use lp_base::Memory;
@@ -37,7 +38,9 @@ impl<'a> Environment<'a> {
         }
     }
 
-    pub(crate) fn push(&mut self, variable: Variable) -> Result<(), Memory> {
+    pub(crate) fn push(&mut self, variable: Variable) -> Result<(), Memory>
+        ensures { OnOk result ((b : Nodes) → around_of b self.new ≡ pushed (around_of b self.old) (seen b variable)) }
+    {
         self.own.push(variable)?;
         Ok(())
     }

@@ -9,6 +9,8 @@ mod body;
 mod calls;
 // The code of a record in the making.
 mod emitter;
+// The variables that a record begins with.
+mod entering;
 // Variables by index.
 mod environment;
 // The code of clauses and queries.
@@ -21,8 +23,6 @@ mod forms;
 mod got;
 // The head of a record.
 mod head;
-// What the code of goals says.
-mod laws;
 // The steps of a term.
 mod listing;
 // A clause with those that it assumes, each as a list of steps.
@@ -44,4 +44,3 @@ mod written_types;
 
 pub use codes::{generate, generate_query};
 pub use fault::GenRefusal;
-pub use laws::goals_are_said;

@@ -1,20 +1,26 @@
 // A record.
-ghost use Rattle.std.specs.Prelude.{◌≤◌, All, sum_by, IfOk};
+ghost use Rattle.std.specs.Prelude.{◌≡◌, ◌+◌, ◌<◌, ◌≤◌, ◌^◌, min, All, sum_by, IfOk};
+ghost use Rattle.lp_term.specs.Nodes.{Nodes};
 ghost use Rattle.lp_code.specs.Length.{Fits, length_of};
+ghost use Rattle.lp_code.specs.Denote.{from_zero};
+ghost use Rattle.lp_gen.specs.inner.Listing.{around_of};
+ghost use Rattle.lp_gen.specs.inner.GoalCode.{numbers, AreRegisters};
+ghost use Rattle.lp_gen.specs.inner.BodyCode.{levels_found, AssumptionMade};
 
+use crate::body::write_body;
 use crate::emitter::Emitter;
+use crate::entering::{enter_clause, enter_query, make_types};
 use crate::environment::{Environment, Variable};
 use crate::fault::GenRefusal;
 use crate::head::{get_head, key_of};
-use crate::plan::{Assumption, Origin, Part};
+use crate::plan::{Assumption, Origin, Part, Step};
 use crate::terms::Writer;
 use crate::variables::make_variables;
-use crate::written_types::register_of_type;
 use indexmap::IndexMap;
 use lp_base::{Limit, Memory};
 use lp_code::{Instr, Key, Record, RecordHead};
 use lp_model::Declared;
-use lp_term::{Bank, TypeId};
+use lp_term::Bank;
 use std::alloc::Global;
 
 /// What the records of a clause or query have in common: the bank, the declared constants, how many type variables there are, the assumptions, and the
@@ -32,7 +38,9 @@ pub(crate) struct Tables<'a> {
 pub(crate) type Starts = IndexMap<u64, Variable>;
 
 /// The number of a record.
-pub(crate) fn number_of(place: usize) -> u32 {
+pub(crate) fn number_of(place: usize) -> u32
+    ensures { result ≡ min place 4294967295 }
+{
     place.min(u32::MAX as usize) as u32
 }
 
@@ -44,7 +52,9 @@ fn count_of_registers(count: u64) -> Result<u16, GenRefusal> {
 }
 
 // The numbers of the records of an assumption.
-fn records_of(alloc: Global, first: u32, assumption: &Assumption) -> Result<Vec<u32>, Memory> {
+fn records_of(alloc: Global, first: u32, assumption: &Assumption) -> Result<Vec<u32>, Memory>
+    ensures { IfOk result (λ records. first + assumption.now.first + assumption.now.count < 2 ^ 32 → records.items ≡ numbers (first + assumption.now.first) assumption.now.count) }
+{
     let mut records = Vec::new(alloc);
     for at in 0..assumption.count {
         let place = number_of(assumption.first.saturating_add(at));
@@ -54,7 +64,9 @@ fn records_of(alloc: Global, first: u32, assumption: &Assumption) -> Result<Vec<
 }
 
 // The registers of all type variables.
-fn all_types(alloc: Global, type_vars: u16) -> Result<Vec<u16>, Memory> {
+fn all_types(alloc: Global, type_vars: u16) -> Result<Vec<u16>, Memory>
+    ensures { IfOk result (λ types. types.items ≡ from_zero type_vars) }
+{
     let mut types = Vec::new(alloc);
     for register in 0..type_vars {
         types.push(register)?;
@@ -62,68 +74,64 @@ fn all_types(alloc: Global, type_vars: u16) -> Result<Vec<u16>, Memory> {
     Ok(types)
 }
 
-impl<'a> Writer<'a> {
-    /// The instruction that opens an assumption. Its records start with the variables that stand in them.
-    pub(crate) fn assumption(&mut self, number: usize) -> Result<Instr, GenRefusal> {
-        let mut registers = Vec::new(self.alloc);
-        let mut starts = IndexMap::new(self.alloc);
-        let Some(assumption) = self.tables.assumptions.get(number) else {
-            return Ok(Instr::Cut);
+// The registers of the variables that stand in an assumption, and the variables with which its records start.
+fn captured_by(
+    alloc: Global,
+    environment: &Environment<'_>,
+    levels: &[u64],
+    starts: &mut Starts,
+) -> Result<Vec<u16>, GenRefusal>
+    ensures { IfOk result (λ registers. (b : Nodes) → AreRegisters (around_of b environment.now) (levels_found (around_of b environment.now) levels.now) registers.items) }
+{
+    let mut registers = Vec::new(alloc);
+    for level in levels.iter().copied() {
+        let Some(variable) = environment.at(level) else {
+            continue;
         };
-        for level in assumption.captured.iter().copied() {
-            if let Some(variable) = self.environment.at(level) {
-                let start = Variable {
-                    register: count_of_registers(registers.len() as u64)?,
-                    of: variable.of,
-                    is_set: true,
-                };
-                registers.push(variable.register)?;
-                starts.insert(level, start)?;
-            }
-        }
-        self.starts.push(starts)?;
-        let records = records_of(self.alloc, self.tables.first, assumption)?;
-        let types = all_types(self.alloc, self.tables.type_vars)?;
-        Ok(Instr::Assume(records, types, registers))
+        let start = Variable {
+            register: count_of_registers(registers.len() as u64)?,
+            of: variable.of,
+            is_set: true,
+        };
+        registers.push(variable.register)?;
+        starts.insert(level, start)?;
     }
+    Ok(registers)
+}
 
-    // The type variables of the record itself.
-    fn make_types(&mut self) -> Result<(), GenRefusal> {
-        for _ in 0..self.tables.type_vars {
-            let register = self.emitter.new_type()?;
-            self.emitter.emit(Instr::TyNew(register))?;
-        }
-        Ok(())
+/// The instruction that opens an assumption. Its records start with the variables that stand in them.
+pub(crate) fn assumption(
+    alloc: Global,
+    tables: Tables<'_>,
+    environment: &Environment<'_>,
+    all_starts: &mut Vec<Starts>,
+    number: usize,
+) -> Result<Instr, GenRefusal>
+    ensures { IfOk result (λ instr. AssumptionMade tables.entry environment.now number instr) }
+{
+    if number >= tables.assumptions.len() {
+        return Ok(Instr::Cut);
     }
+    let assumption = &tables.assumptions[number];
+    let mut starts = IndexMap::new(alloc);
+    let levels = assumption.captured.as_slice();
+    let registers = captured_by(alloc, environment, levels, &mut starts)?;
+    all_starts.push(starts)?;
+    let records = records_of(alloc, tables.first, assumption)?;
+    let types = all_types(alloc, tables.type_vars)?;
+    Ok(Instr::Assume(records, types, registers))
+}
 
-    // The variables of a clause have the next registers, index 0 the first of them.
-    fn enter_clause(&mut self, vars: &[TypeId]) -> Result<(), GenRefusal> {
-        let first = self.emitter.registers;
-        for _ in vars {
-            let _register = self.emitter.new_register()?;
-        }
-        for (at, of) in vars.iter().copied().enumerate().rev() {
-            let register = first.saturating_add(register_of_type(at as u64));
-            self.environment.push(Variable {
-                register,
-                of,
-                is_set: false,
-            })?;
-        }
-        Ok(())
-    }
-
-    // Those of a query, the outermost index the first of them.
-    fn enter_query(&mut self, vars: &[TypeId]) -> Result<(), GenRefusal> {
-        for of in vars.iter().copied() {
-            let register = self.emitter.new_register()?;
-            self.environment.push(Variable {
-                register,
-                of,
-                is_set: false,
-            })?;
-        }
-        Ok(())
+impl<'a> Writer<'a> {
+    fn write_body(&mut self, steps: &[Step]) -> Result<(), GenRefusal> {
+        write_body(
+            self.alloc,
+            self.tables,
+            &mut self.emitter,
+            &mut self.environment,
+            &mut self.starts,
+            steps,
+        )
     }
 
     fn make_variables(&mut self, is_clause: bool) -> Result<(), GenRefusal> {
@@ -140,7 +148,11 @@ impl<'a> Writer<'a> {
     fn write_head(&mut self, origin: Origin<'_>) -> Result<Option<RecordHead>, GenRefusal> {
         match origin {
             Origin::Clause(clause) => {
-                self.enter_clause(clause.vars.as_slice())?;
+                enter_clause(
+                    &mut self.emitter,
+                    &mut self.environment,
+                    clause.vars.as_slice(),
+                )?;
                 let head = get_head(
                     self.alloc,
                     self.tables,
@@ -156,7 +168,7 @@ impl<'a> Writer<'a> {
                 for (_, of) in query.vars.iter().copied() {
                     vars.push(of)?;
                 }
-                self.enter_query(vars.as_slice())?;
+                enter_query(&mut self.emitter, &mut self.environment, vars.as_slice())?;
                 self.make_variables(false)?;
                 Ok(None)
             }
@@ -186,7 +198,7 @@ pub(crate) fn record_of<'x>(
         starts: Vec::new(alloc),
     };
     if program {
-        writer.make_types()?;
+        make_types(&mut writer.emitter, tables.type_vars)?;
     }
     let head = writer.write_head(part.origin)?;
     writer.write_body(part.steps.as_slice())?;

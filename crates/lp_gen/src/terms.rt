@@ -12,7 +12,6 @@ use crate::listing::{list_steps, type_of_head};
 use crate::record::{Starts, Tables};
 use crate::term_steps::put_steps;
 use crate::types::TypeView;
-use crate::written_types::put_type;
 use lp_term::TermId;
 use std::alloc::Global;
 
@@ -62,11 +61,4 @@ pub(crate) fn put_arguments(
         function = left;
     }
     Ok(registers)
-}
-
-impl<'a> Writer<'a> {
-    /// The type in a register.
-    pub(crate) fn put_type(&mut self, of: TypeView) -> Result<u16, GenRefusal> {
-        put_type(self.alloc, self.tables.bank, &mut self.emitter, of)
-    }
 }

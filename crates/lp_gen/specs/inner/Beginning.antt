@@ -1,5 +1,5 @@
 -- The code between the head and the body: variables that do not stand in the head are made, and NECK.
-use Rattle.std.specs.Prelude.{◌≡◌, ℕ, ◌+◌, ◌<◌, ◌≤◌, Bool, true, false, List, ◌++◌, length, sum_by, Some, slice_get}
+use Rattle.std.specs.Prelude.{◌≡◌, ℕ, ◌+◌, ◌<◌, ◌≤◌, Bool, true, false, List, [], ◌∷◌, ◌++◌, length, sum_by, Some, slice_get}
 use Rattle.lp_calculus.specs.Term.{Term}
 use Rattle.lp_code.specs.declared.instruction.Instr.{Instr}
 use Rattle.lp_code.specs.declared.instruction.Instr.TheVariants.{Neck}
@@ -12,7 +12,8 @@ use Rattle.lp_gen.specs.declared.emitter.Emitter.{Emitter}
 use Rattle.lp_gen.specs.inner.Running.{TypesStand, TermsStand, HasRoom}
 use Rattle.lp_gen.specs.inner.Listing.{Seen, Around, at_level, set_level}
 use Rattle.lp_gen.specs.inner.TermLaw.{Standing, SameAround}
-use Rattle.lp_gen.specs.inner.Written.{Goes}
+use Rattle.lp_gen.specs.inner.Owned.{makes, makes_types, AreStarted}
+use Rattle.lp_gen.specs.inner.Written.{Goes, CodeOwns}
 use Rattle.lp_gen.specs.inner.Bodies.{IsShort}
 
 -- more code, which makes the variable of a level
@@ -21,6 +22,8 @@ pub record VariableMade (old new : Emitter) (a : Around) (l : ℕ) (v : Seen) : 
   pub code_is : new.code.items ≡ old.code.items ++ more
   pub types_grow : old.types ≤ new.types
   pub registers_stay : new.registers ≡ old.registers
+  pub own : makes more ≡ v.register ∷ []
+  pub no_types : makes_types more ≡ []
   pub denotes : (h : Home) (later : Later) (vars : ℕ) (s : State) (σ : ℕ → Term) → TypesStand h vars old.types s → TermsStand h old.registers s → new.types ≤ h.self.types →
       old.registers ≤ h.self.registers → Standing h vars old.registers s.in_body σ a s.now.terms → at_level a l ≡ Some v → v.is_set ≡ false → HasRoom s (s.place + sum_by length_of more) →
       (u : State) × Goes h later vars old.types new.types old.registers old.registers s more u × Standing h vars old.registers s.in_body σ (set_level a l) u.now.terms
@@ -31,6 +34,8 @@ pub record VariablesMade (old new : Emitter) (a a' : Around) : Type 0 where
   pub code_is : new.code.items ≡ old.code.items ++ more
   pub types_grow : old.types ≤ new.types
   pub registers_stay : new.registers ≡ old.registers
+  pub owns : AreStarted a → CodeOwns a a' more
+  pub no_types : makes_types more ≡ []
   pub denotes : (h : Home) (later : Later) (vars : ℕ) (s : State) (σ : ℕ → Term) → TypesStand h vars old.types s → TermsStand h old.registers s → new.types ≤ h.self.types →
       old.registers ≤ h.self.registers → Standing h vars old.registers s.in_body σ a s.now.terms → HasRoom s (s.place + sum_by length_of more) →
       (u : State) × Goes h later vars old.types new.types old.registers old.registers s more u × Standing h vars old.registers s.in_body σ a' u.now.terms × SameAround a a'

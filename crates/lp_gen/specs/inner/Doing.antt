@@ -22,7 +22,8 @@ use Rattle.lp_gen.specs.Sources.{types_by, IsKnownType}
 use Rattle.lp_gen.specs.inner.Running.{TypesStand, TermsStand, MayEnd}
 use Rattle.lp_gen.specs.inner.Listing.{Around}
 use Rattle.lp_gen.specs.inner.TermLaw.{Standing, KnownAtoms, AllLoose, IsSeen, with_variables, SameAround, AreSet}
-use Rattle.lp_gen.specs.inner.Written.{AreAsked}
+use Rattle.lp_gen.specs.inner.Owned.{makes_types, AreStarted}
+use Rattle.lp_gen.specs.inner.Written.{CodeOwns, AreAsked}
 
 -- instructions lead from one state to another with these goals and this head so far, in which what was set stays
 pub record Does (h : Home) (later : Later) (vars types types' terms terms' : ℕ) (s : State) (is : List Instr) (gs : Goals) (Ts : List Ty) (bs : List Built) (t : State) : Type 0 where
@@ -74,6 +75,8 @@ pub record AtomWritten (K : ℕ → List Ty → Ty) (old new : Emitter) (a a' : 
   -- where all variables are set, none is made
   pub calm : AreSet a → a' ≡ a
   pub some : 0 < sum_by length_of more
+  pub owns : AreStarted a → CodeOwns a a' more
+  pub no_types : makes_types more ≡ []
   pub denotes : (h : Home) (later : Later) (vars : ℕ) (s : State) (σ : ℕ → Term) (Γ : List Ty) → IsStandard h.tables.constants → AreAsked h K → TypesStand h vars old.types s →
       TermsStand h old.registers s → new.types ≤ h.self.types → new.registers ≤ h.self.registers → s.in_body ≡ true → Standing h vars old.registers s.in_body σ a s.now.terms →
       IsGoalAtom h vars Γ a t → MayEnd s (s.place + sum_by length_of more) →

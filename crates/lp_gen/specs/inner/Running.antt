@@ -14,6 +14,7 @@ use Rattle.lp_code.specs.Rules.{is_passed, has_count, is_no_term, applies}
 use Rattle.lp_code.specs.Denote.{run, broken_by_record}
 use Rattle.lp_gen.specs.declared.emitter.Emitter.{Emitter}
 use Rattle.lp_gen.specs.Sources.{IsKnownType}
+use Rattle.lp_gen.specs.inner.Owned.{IsPlain}
 
 -- the type variables of the clause stand in the first registers, and those from one on were never set; at the first byte the record as a whole breaks no rule
 pub record TypesStand (h : Home) (vars next : ℕ) (s : State) : Type 0 where
@@ -71,6 +72,7 @@ pub record IsTypePut (old new : Emitter) (register : ℕ) (T : Ty) : Type 0 wher
   pub code_is : new.code.items ≡ old.code.items ++ more
   pub registers_stay : new.registers ≡ old.registers
   pub types_grow : old.types ≤ new.types
+  pub plain : IsPlain more
   pub denotes : (h : Home) (later : Later) (vars : ℕ) (s : State) → TypesStand h vars old.types s → new.types ≤ h.self.types → IsKnownType h.tables.kinds vars T →
       HasRoom s (s.place + sum_by length_of more) → (t : State) × Leads h later vars old.types new.types s more t × Hold t register T × (register < new.types)
 
@@ -80,6 +82,7 @@ pub record AreTypesPut (old new : Emitter) (rs : List ℕ) (Ts : List Ty) : Type
   pub code_is : new.code.items ≡ old.code.items ++ more
   pub registers_stay : new.registers ≡ old.registers
   pub types_grow : old.types ≤ new.types
+  pub plain : IsPlain more
   pub denotes : (h : Home) (later : Later) (vars : ℕ) (s : State) → TypesStand h vars old.types s → new.types ≤ h.self.types → All (IsKnownType h.tables.kinds vars) Ts →
       HasRoom s (s.place + sum_by length_of more) →
       (t : State) × Leads h later vars old.types new.types s more t × HoldAll t rs (tys Ts) × All (λ r. r < new.types) rs
@@ -118,6 +121,7 @@ pub record IsTermPut (old new : Emitter) (register : ℕ) (asks : Home → (vars
   pub code_is : new.code.items ≡ old.code.items ++ more
   pub types_grow : old.types ≤ new.types
   pub terms_grow : old.registers ≤ new.registers
+  pub plain : IsPlain more
   pub denotes : (h : Home) (later : Later) (vars : ℕ) (s : State) → TypesStand h vars old.types s → TermsStand h old.registers s → new.types ≤ h.self.types →
       new.registers ≤ h.self.registers → asks h vars s.now.terms → HasRoom s (s.place + sum_by length_of more) →
       (t : State) × Moves h later vars old.types new.types old.registers new.registers s.now.terms s more t × HoldTerm t register (built h s.now.terms) × (register < new.registers)

@@ -17,6 +17,7 @@ use Rattle.lp_code.specs.Steps.{Later, constant_of, settled}
 use Rattle.lp_code.specs.Rules.{has_count, has_type, have_type, has_none, head_count, is_argument, is_new_variable, out_of_turn, built_types, is_no_term}
 use Rattle.lp_code.specs.Denote.{run}
 use Rattle.lp_gen.specs.declared.emitter.Emitter.{Emitter}
+use Rattle.lp_gen.specs.inner.Owned.{IsPlain}
 use Rattle.lp_gen.specs.inner.Running.{TypesStand, TermsStand, MayEnd}
 
 abbrev pub equation_by : Constant → (of left right : ℕ) → Option Instr
@@ -82,6 +83,7 @@ pub record IsPartPut (old new : Emitter) (asks : Home → State → Type 0) (goa
   pub some : 0 < sum_by length_of more
   pub types_stay : new.types ≡ old.types
   pub registers_stay : new.registers ≡ old.registers
+  pub plain : IsPlain more
   pub denotes : (h : Home) (later : Later) (vars : ℕ) (s : State) → IsStandard h.tables.constants → TypesStand h vars old.types s → TermsStand h old.registers s → asks h s →
       MayEnd s (s.place + sum_by length_of more) →
       (t : State) × Turns h later vars old.types old.registers s more (goals s) (head_types s) (arguments h s) t

@@ -14,6 +14,7 @@ use Rattle.lp_gen.specs.declared.emitter.Emitter.{Emitter}
 use Rattle.lp_gen.specs.declared.term_steps.TermStep.{TermStep}
 use Rattle.lp_gen.specs.Sources.{IsKnownType}
 use Rattle.lp_gen.specs.inner.Listing.{Step, make_constant, make_integer, make_text, make_index, make_variable, from_register, apply_last, abstract_last, plain_step}
+use Rattle.lp_gen.specs.inner.Owned.{makes, makes_types, made_by}
 use Rattle.lp_gen.specs.inner.Running.{TypesStand, TermsStand, HasRoom, Moves, IsKnownConstant, built_at}
 
 -- what stands in registers, and a stack of terms
@@ -82,6 +83,8 @@ pub record StepsPut (b : Nodes) (old new : Emitter) (steps : List TermStep) (mad
   pub code_is : new.code.items ≡ old.code.items ++ more
   pub types_grow : old.types ≤ new.types
   pub terms_grow : old.registers ≤ new.registers
+  pub own : makes more ≡ made_by (map (plain_step b) steps)
+  pub no_types : makes_types more ≡ []
   pub denotes : (h : Home) (later : Later) (vars : ℕ) (s : State) → TypesStand h vars old.types s → TermsStand h old.registers s → new.types ≤ h.self.types → new.registers ≤ h.self.registers →
       AreFine h vars old.registers s.in_body (map (plain_step b) steps) (stack s.now.terms []) → HasRoom s (s.place + sum_by length_of more) →
       (t : State) × Moves h later vars old.types new.types old.registers new.registers (steps_built h (map (plain_step b) steps) (stack s.now.terms [])).registers s more t
@@ -93,6 +96,8 @@ pub record TermOfSteps (b : Nodes) (old new : Emitter) (register : ℕ) (steps :
   pub code_is : new.code.items ≡ old.code.items ++ more
   pub types_grow : old.types ≤ new.types
   pub terms_grow : old.registers ≤ new.registers
+  pub own : makes more ≡ made_by (map (plain_step b) steps)
+  pub no_types : makes_types more ≡ []
   pub denotes : (h : Home) (later : Later) (vars : ℕ) (s : State) (xs : List (Option Built)) (built : Built) → TypesStand h vars old.types s → TermsStand h old.registers s → new.types ≤ h.self.types →
       new.registers ≤ h.self.registers → AreFine h vars old.registers s.in_body (map (plain_step b) steps) (stack s.now.terms []) →
       steps_built h (map (plain_step b) steps) (stack s.now.terms []) ≡ stack xs (built ∷ []) → HasRoom s (s.place + sum_by length_of more) →

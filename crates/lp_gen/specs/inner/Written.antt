@@ -17,6 +17,7 @@ use Rattle.lp_gen.specs.inner.Reading.{from_of, to_of}
 use Rattle.lp_gen.specs.inner.Running.{TypesStand, TermsStand, SameButRegisters, HasRoom}
 use Rattle.lp_gen.specs.inner.Listing.{Around}
 use Rattle.lp_gen.specs.inner.TermSteps.{StandIn}
+use Rattle.lp_gen.specs.inner.Owned.{makes, makes_types, AreStarted, MakesOwn, StaysSet}
 use Rattle.lp_gen.specs.inner.TermLaw.{SameSides, Asks, AsksConstants, Standing, KnownAtoms, AllLoose, IsSeen, with_variables, SameAround, AreSet, Made}
 
 -- instructions lead from one state to another, in which what was set stays
@@ -44,6 +45,12 @@ pub record IsWell (h : Home) (vars : ℕ) (Γ : List Ty) (a : Around) (t : Term)
   pub indices : (k : ℕ) (U : Ty) → slice_get Γ k ≡ Some U → IsKnownType h.tables.kinds vars U
   pub seen : AllLoose (IsSeen a Γ) 0 t
 
+-- code makes just the variables that are set behind it and were not before, and changes nothing else of them
+pub record CodeOwns (a a' : Around) (is : List Instr) : Type 0 where
+  pub made : MakesOwn a a' (makes is)
+  pub same : SameAround a a'
+  pub stays : StaysSet a a'
+
 -- more code, which makes the term in a register, and the variables in it that were not set
 pub record TermWritten (K : ℕ → List Ty → Ty) (old new : Emitter) (a a' : Around) (register : ℕ) (F : Ty) (t : Term) : Type 0 where
   pub more : List Instr
@@ -52,6 +59,8 @@ pub record TermWritten (K : ℕ → List Ty → Ty) (old new : Emitter) (a a' : 
   pub terms_grow : old.registers ≤ new.registers
   -- where all variables are set, none is made
   pub calm : AreSet a → a' ≡ a
+  pub owns : AreStarted a → CodeOwns a a' more
+  pub no_types : makes_types more ≡ []
   pub denotes : (h : Home) (later : Later) (vars : ℕ) (s : State) (σ : ℕ → Term) (Γ : List Ty) (T : Ty) → AreAsked h K → TypesStand h vars old.types s → TermsStand h old.registers s →
       new.types ≤ h.self.types → new.registers ≤ h.self.registers → Standing h vars old.registers s.in_body σ a s.now.terms → IsWell h vars Γ a t T → SameSides F T →
       HasRoom s (s.place + sum_by length_of more) →
@@ -79,6 +88,8 @@ pub record ArgumentsWritten (K : ℕ → List Ty → Ty) (old new : Emitter) (a 
   pub types_grow : old.types ≤ new.types
   pub terms_grow : old.registers ≤ new.registers
   pub calm : AreSet a → a' ≡ a
+  pub owns : AreStarted a → CodeOwns a a' more
+  pub no_types : makes_types more ≡ []
   pub denotes : (h : Home) (later : Later) (vars : ℕ) (s : State) (σ : ℕ → Term) (Γ : List Ty) (A R : Ty) → AreAsked h K → TypesStand h vars old.types s → TermsStand h old.registers s →
       new.types ≤ h.self.types → new.registers ≤ h.self.registers → Standing h vars old.registers s.in_body σ a s.now.terms → AreWell h vars Γ a A ts R → Asks F A →
       HasRoom s (s.place + sum_by length_of more) →

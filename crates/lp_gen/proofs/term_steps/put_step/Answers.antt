@@ -19,7 +19,7 @@ returns-in_ok-push-in-Constant c = λ start steps x.
     (leaf_then c.args.bank.now start c.args.emitter.now c.put_constant.new.emitter steps
     (on.Constant c.in-Constant.number c.in-Constant.types) c.args.made.now.items c.push.new.self.items c.in_ok-register-in-Constant.register
     (λ h v ys. IsKnownConstant h v c.in-Constant.number (map (λ t. type_tree c.args.bank.now t.0) c.in-Constant.types.now)) (λ h ys. constant_of h.tables c.in-Constant.number (map
-    (λ t. type_tree c.args.bank.now t.0) c.in-Constant.types.now)) x c.in_ok-register-in-Constant.ensures c.in_ok-push-in-Constant.ensures.items
+    (λ t. type_tree c.args.bank.now t.0) c.in-Constant.types.now)) x c.in_ok-register-in-Constant.ensures c.in_ok-push-in-Constant.ensures.items refl
     (λ h v i z ys fine. (fine, refl)))
 
 pub returns-in_ok-push-in-Integer : goal.returns-in_ok-push-in-Integer
@@ -29,7 +29,7 @@ returns-in_ok-push-in-Integer c = λ start steps x.
     (leaf_then c.args.bank.now start c.args.emitter.now c.put_integer.new.emitter steps
     (on.Integer c.in-Integer.value) c.args.made.now.items c.push-in-Integer.new.self.items c.in_ok-register-in-Integer.register
     (λ h v ys. Unit {0}) (λ h ys. whole (atom (integer c.in-Integer.value)) int_type) x (subst
-    (IntegerPut c.args.emitter.now c.put_integer.new.emitter c.in_ok-register-in-Integer.register) same c.in_ok-register-in-Integer.ensures) c.in_ok-push-in-Integer.ensures.items
+    (IntegerPut c.args.emitter.now c.put_integer.new.emitter c.in_ok-register-in-Integer.register) same c.in_ok-register-in-Integer.ensures) c.in_ok-push-in-Integer.ensures.items refl
     (λ h v i z ys fine. (tt, refl)))
 
 pub returns-in_ok-push-in-Text : goal.returns-in_ok-push-in-Text
@@ -37,7 +37,7 @@ returns-in_ok-push-in-Text c = λ start steps x.
     subst (λ o. StepsPut c.args.bank.now start c.put_text.new.emitter (steps ++ o ∷ []) c.push-in-Text.new.self.items) (sym c.in-Text.is)
     (leaf_then c.args.bank.now start c.args.emitter.now c.put_text.new.emitter steps
     (on.Text c.in-Text.bytes) c.args.made.now.items c.push-in-Text.new.self.items c.in_ok-register-in-Text.register
-    (λ h v ys. Unit {0}) (λ h ys. whole (atom (text c.in-Text.bytes.now)) string_type) x c.in_ok-register-in-Text.ensures c.in_ok-push-in-Text.ensures.items
+    (λ h v ys. Unit {0}) (λ h ys. whole (atom (text c.in-Text.bytes.now)) string_type) x c.in_ok-register-in-Text.ensures c.in_ok-push-in-Text.ensures.items refl
     (λ h v i z ys fine. (tt, refl)))
 
 pub returns-in_ok-push-in-Index : goal.returns-in_ok-push-in-Index
@@ -46,7 +46,7 @@ returns-in_ok-push-in-Index c = λ start steps x.
     (leaf_then c.args.bank.now start c.args.emitter.now c.put_index.new.emitter steps
     (on.Index c.in-Index.index c.in-Index.of) c.args.made.now.items c.push-in-Index.new.self.items c.in_ok-register-in-Index.register
     (λ h v ys. IsKnownType h.tables.kinds v (read c.args.bank.now c.in-Index.of)) (λ h ys. bound_index c.in-Index.index
-    (read c.args.bank.now c.in-Index.of)) x c.in_ok-register-in-Index.ensures c.in_ok-push-in-Index.ensures.items
+    (read c.args.bank.now c.in-Index.of)) x c.in_ok-register-in-Index.ensures c.in_ok-push-in-Index.ensures.items refl
     (λ h v i z ys fine. (fine, refl)))
 
 pub returns-in_ok-new_variable-in-New : goal.returns-in_ok-new_variable-in-New

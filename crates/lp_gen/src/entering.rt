@@ -1,0 +1,89 @@
+// The variables that a record begins with.
+ghost use Rattle.std.specs.Prelude.{◌≡◌, ◌+◌, OnOk, IfOk};
+ghost use Rattle.lp_gen.specs.inner.Entering.{ClauseEntered, QueryEntered, TypesMade};
+
+use crate::emitter::Emitter;
+use crate::environment::{Environment, Variable};
+use crate::fault::GenRefusal;
+use lp_base::Limit;
+use lp_code::Instr;
+use lp_term::TypeId;
+
+/// The type variables of the record itself.
+pub(crate) fn make_types(emitter: &mut Emitter, count: u16) -> Result<(), GenRefusal>
+    ensures { OnOk result (TypesMade emitter.old emitter.new count) }
+{
+    for _ in 0..count {
+        let register = emitter.new_type()?;
+        emitter.emit(Instr::TyNew(register))?;
+    }
+    Ok(())
+}
+
+// So many registers.
+fn take_registers(emitter: &mut Emitter, count: usize) -> Result<(), GenRefusal>
+    ensures code { OnOk result (emitter.new.code.items ≡ emitter.old.code.items) }
+    ensures types { OnOk result (emitter.new.types ≡ emitter.old.types) }
+    ensures registers { OnOk result (emitter.new.registers ≡ emitter.old.registers + count) }
+{
+    for _ in 0..count {
+        let _register = emitter.new_register()?;
+    }
+    Ok(())
+}
+
+// The register so many places behind one.
+fn register_behind(first: u16, place: usize) -> Result<u16, GenRefusal>
+    ensures { IfOk result (λ register. register ≡ first + place) }
+{
+    let Ok(offset) = u16::try_from(place) else {
+        return Err(GenRefusal::Limit(Limit::Registers));
+    };
+    match first.checked_add(offset) {
+        Some(register) => Ok(register),
+        None => Err(GenRefusal::Limit(Limit::Registers)),
+    }
+}
+
+/// The variables of a clause have the next registers, index 0 the first of them.
+pub(crate) fn enter_clause(
+    emitter: &mut Emitter,
+    environment: &mut Environment<'_>,
+    vars: &[TypeId],
+) -> Result<(), GenRefusal>
+    ensures { OnOk result (ClauseEntered emitter.old emitter.new environment.old environment.new vars.now) }
+{
+    let first = emitter.registers;
+    let count = vars.len();
+    take_registers(emitter, count)?;
+    for at in 0..count {
+        let place = count - 1 - at;
+        let of = vars[place];
+        let register = register_behind(first, place)?;
+        environment.push(Variable {
+            register,
+            of,
+            is_set: false,
+        })?;
+    }
+    Ok(())
+}
+
+/// Those of a query, the outermost index the first of them.
+pub(crate) fn enter_query(
+    emitter: &mut Emitter,
+    environment: &mut Environment<'_>,
+    vars: &[TypeId],
+) -> Result<(), GenRefusal>
+    ensures { OnOk result (QueryEntered emitter.old emitter.new environment.old environment.new vars.now) }
+{
+    for of in vars.iter().copied() {
+        let register = emitter.new_register()?;
+        environment.push(Variable {
+            register,
+            of,
+            is_set: false,
+        })?;
+    }
+    Ok(())
+}
