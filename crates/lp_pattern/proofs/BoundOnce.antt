@@ -76,24 +76,27 @@ pub record IsOneBinding (levels levels' : ℕ → ℕ) (next next' : ℕ) (c : C
   pub more : next ≤ next'
   pub within : Within (Known levels' next') 0 v
 
-known_put : (lv lv' : ℕ → ℕ) (n n' x l : ℕ) (v : Term) → ((y : ℕ) → y < n → lv' y ≡ lv y) → n ≤ n' → Within (Known lv' n') 0 v → (a : Atom) → Known lv n a → Within (Known lv' n') 0 (at_variables (one (record { id = x; level = l; value = v })) a)
-known_put lv lv' n n' x l v o m w (constant j us) h = tt
-known_put lv lv' n n' x l v o m w (integer z) h = tt
-known_put lv lv' n n' x l v o m w (text b) h = tt
-known_put lv lv' n n' x l v o m w (eigen k) h = tt
-known_put lv lv' n n' x l v o m w (logic y k) h = go (nat_eq y x && nat_eq k l)
+known_put : (lv lv' : ℕ → ℕ) (n n' x l d : ℕ) (v : Term) → ((y : ℕ) → y < n → lv' y ≡ lv y) → n ≤ n' → Within (Known lv' n') d v → (a : Atom) → Known lv n a → Within (Known lv' n') d (at_variables (one (record { id = x; level = l; value = v })) a)
+known_put lv lv' n n' x l d v o m w (constant j us) h = tt
+known_put lv lv' n n' x l d v o m w (integer z) h = tt
+known_put lv lv' n n' x l d v o m w (text b) h = tt
+known_put lv lv' n n' x l d v o m w (eigen k) h = tt
+known_put lv lv' n n' x l d v o m w (logic y k) h = go (nat_eq y x && nat_eq k l)
   where
-    go : (b : Bool) → Within (Known lv' n') 0 (if b then v else atom (logic y k))
+    go : (b : Bool) → Within (Known lv' n') d (if b then v else atom (logic y k))
     go true = w
     go false = let z = h.0 in (omega (arith, z, m), h.1 ∙ sym (o y h.0))
-known_put lv lv' n n' x l v o m w (param k t) h = tt
+known_put lv lv' n n' x l d v o m w (param k t) h = tt
 
 module _ (levels levels' : ℕ → ℕ) (next next' : ℕ) (c : Closing) (b d : Nodes) (s s' : Bindings) (x l : ℕ) (v : Term) (t : TermId) (h : IsOneBinding levels levels' next next' c b d s s' x l v t) where
   abbrev made : Binding
   made = record { id = x; level = l; value = v }
 
-  put_is : (u : Term) → Within (Known levels next) 0 u → close (at_number x v) u ≡ put made u
-  put_is u w = sym (put_valued x l v 0 u (within_more (Known levels next) (HasLevel x l) 0 0 (level_known levels next x l h.level) (omega arith) u w))
+  put_is : (n : ℕ) (u : Term) → Within (Known levels next) n u → close (at_number x v) u ≡ put made u
+  put_is n u w = sym (put_valued x l v n u (within_more (Known levels next) (HasLevel x l) n n (level_known levels next x l h.level) (omega arith) u w))
+
+  value_within : (n : ℕ) → Within (Known levels' next') n v
+  value_within n = within_more (Known levels' next') (Known levels' next') 0 n (λ a k. k) (omega arith) v h.within
 
   value_firm : (ts : List TypeBinding) → IsFirm ts c → put_types_in ts v ≡ v
   value_firm ts f = ap (put_types_in ts) (sym h.is) ∙ f (tree d t.0) ∙ h.is
@@ -102,8 +105,8 @@ module _ (levels levels' : ℕ → ℕ) (next next' : ℕ) (c : Closing) (b d : 
   once_put = record {
     older = h.older;
     more = h.more;
-    puts = λ u w. closed_valued x v c u ∙ put_is (closed c u) w;
-    knows = λ u w. within_fill (Known levels next) (Known levels' next') (at_variables (one made)) 0 (known_put levels levels' next next' x l v h.older h.more h.within) u w;
+    puts = λ n u w. closed_valued x v c u ∙ put_is n (closed c u) w;
+    knows = λ n u w. within_fill (Known levels next) (Known levels' next') (at_variables (one made)) n (known_put levels levels' next next' x l n v h.older h.more (value_within n)) u w;
     reaches = λ u r j w e. steps_fill (at_variables (one made)) j u r e;
     firm = λ ts f u.
         ap (put_types_in ts) (closed_valued x v c u) ∙ types_close (λ y m. nat_eq y x) ts v (closed c u) ∙ (λ i. close (at_number x (value_firm ts f i)) (f u i)) ∙ sym (closed_valued x v c u);
@@ -135,8 +138,8 @@ pub put_none : (levels : ℕ → ℕ) (next : ℕ) (c : Closing) (s : Bindings) 
 put_none levels next c s = record {
   older = λ x l. refl;
   more = omega arith;
-  puts = λ t w. refl;
-  knows = λ t w. w;
+  puts = λ n t w. refl;
+  knows = λ n t w. w;
   reaches = λ t u j w e. e;
   firm = λ ts f. f;
   values = λ ts f t. refl;
@@ -149,12 +152,12 @@ pub put_then : (lv lv' lv'' : ℕ → ℕ) (n n' n'' : ℕ) (c c' c'' : Closing)
 put_then lv lv' lv'' n n' n'' c c' c'' s s' s'' bs cs h k = record {
   older = λ x l. k.older x (let m = h.more in omega (arith, l, m)) ∙ h.older x l;
   more = let m = h.more in let j = k.more in omega (arith, m, j);
-  puts = λ t w.
-      let e = h.puts t w in
-      k.puts t (transport (Within (Known lv' n') 0) (sym e) (h.knows (closed c t) w)) ∙ ap (put_all cs) e ∙ sym (put_all_append bs cs (closed c t));
-  knows = λ t w. transport (Within (Known lv'' n'') 0) (sym (put_all_append bs cs t)) (k.knows (put_all bs t) (h.knows t w));
+  puts = λ i t w.
+      let e = h.puts i t w in
+      k.puts i t (transport (Within (Known lv' n') i) (sym e) (h.knows i (closed c t) w)) ∙ ap (put_all cs) e ∙ sym (put_all_append bs cs (closed c t));
+  knows = λ i t w. transport (Within (Known lv'' n'') i) (sym (put_all_append bs cs t)) (k.knows i (put_all bs t) (h.knows i t w));
   reaches = λ t u j w e.
-      ap (steps weak_step j) (put_all_append bs cs t) ∙ k.reaches (put_all bs t) (put_all bs u) j (h.knows t w) (h.reaches t u j w e) ∙ ap (λ x. Some x) (sym (put_all_append bs cs u));
+      ap (steps weak_step j) (put_all_append bs cs t) ∙ k.reaches (put_all bs t) (put_all bs u) j (h.knows 0 t w) (h.reaches t u j w e) ∙ ap (λ x. Some x) (sym (put_all_append bs cs u));
   firm = λ ts f. k.firm ts (h.firm ts f);
   values = λ ts f t.
       put_all_append bs cs (put_types_in ts t) ∙ ap (put_all cs) (h.values ts f t) ∙ k.values ts (h.firm ts f) (put_all bs t) ∙ ap (put_types_in ts) (sym (put_all_append bs cs t));

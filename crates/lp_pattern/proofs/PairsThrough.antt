@@ -63,9 +63,12 @@ within_typed_one lv n d b (atom (param k t)) w = tt
 within_typed_one lv n d b (abs t) w = within_typed_one lv n (suc d) b t w
 within_typed_one lv n d b (app t u) w = (within_typed_one lv n d b t w.0, within_typed_one lv n d b u w.1)
 
+pub within_typed_at : (lv : ℕ → ℕ) (n d : ℕ) (ts : List TypeBinding) (t : Term) → Within (Known lv n) d t → Within (Known lv n) d (put_types_in ts t)
+within_typed_at lv n d [] t w = w
+within_typed_at lv n d (b ∷ bs) t w = within_typed_at lv n d bs (put_type_in b t) (within_typed_one lv n d b t w)
+
 pub within_typed : (lv : ℕ → ℕ) (n : ℕ) (ts : List TypeBinding) (t : Term) → Within (Known lv n) 0 t → Within (Known lv n) 0 (put_types_in ts t)
-within_typed lv n [] t w = w
-within_typed lv n (b ∷ bs) t w = within_typed lv n bs (put_type_in b t) (within_typed_one lv n 0 b t w)
+within_typed lv n ts t w = within_typed_at lv n 0 ts t w
 
 -- what steps lead to has the variables of what they start at
 pub within_reached : (lv : ℕ → ℕ) (n j : ℕ) (t s : Term) → steps weak_step j t ≡ Some s → Within (Known lv n) 0 t → Within (Known lv n) 0 s

@@ -22,7 +22,7 @@ use Rattle.lp_pattern.specs.Turns.{IsBoundSince, ComesTo}
 use Rattle.lp_pattern.specs.Under.{under}
 use Rattle.lp_pattern.specs.Unifying.{IsRefusedAs}
 use Rattle.lp_pattern.proofs.Compares.{from_bind}
-use Rattle.lp_pattern.proofs.PairsThrough.{steps_typed, within_typed, types_on_sides, all_known, pairs_through}
+use Rattle.lp_pattern.proofs.PairsThrough.{steps_typed, within_typed, within_typed_at, types_on_sides, all_known, pairs_through}
 use Rattle.lp_pattern.proofs.RunTurns.{limited_within, limited_past, same_outcome}
 use Rattle.lp_pattern.proofs.Stacks.{under_kept, still_pairs}
 
@@ -112,8 +112,8 @@ module _ (n limit : ℕ) (types : List TypePair) (ps ds : List Pair) (next units
         within_delayed = still_pairs b d ws e there;
         known = typed_known ps known;
         known_delayed = typed_known ds known_delayed;
-        puts = λ t w. read.terms t;
-        knows = λ t w. within_typed lv next ts t w;
+        puts = λ k t w. read.terms t;
+        knows = λ k t w. within_typed_at lv next k ts t w;
         firm = read.firm [] (λ t. refl);
       };
       changed = refl;

@@ -20,7 +20,7 @@ use Rattle.lp_pattern.specs.Pruning.{Known}
 use Rattle.lp_pattern.specs.Turning.{IsKnownPair, AreKnownPairs, IsPairFor, ArePairsFor, IsKeptBehind, IsBoundBehind, IsTypedBehind, ArePushed}
 use Rattle.lp_pattern.specs.Turns.{Began, IsStateAt}
 use Rattle.lp_pattern.specs.Under.{under}
-use Rattle.lp_pattern.proofs.PairsThrough.{steps_typed, within_typed, types_on_sides, terms_on_sides, all_known, pairs_through, pairs_stay, pairs_behind, known_behind}
+use Rattle.lp_pattern.proofs.PairsThrough.{steps_typed, within_typed_at, types_on_sides, terms_on_sides, all_known, pairs_through, pairs_stay, pairs_behind, known_behind}
 use Rattle.lp_pattern.proofs.Stacks.{under_kept, still_pairs}
 
 -- bindings one after the other
@@ -67,11 +67,11 @@ module _ (limit : ℕ) (o : Began) (b d : Nodes) (s s' : Bindings) (next next' u
         transport (ArePairsFor d (with_types ts k.closing) qs) (sym (types_on_sides ts ps'))
         (pairs_through b d k.closing (with_types ts k.closing) k.levels next (put_types_in ts) (λ t' u' j w x. steps_typed ts j t' u' x) typed_at qs ps' l m r)
 
-    later : (t' : Term) → Within (Known k.levels next) 0 t' → Within (Known k.levels next') 0 (put_types_in ts t')
-    later t' w = transport (λ m. Within (Known k.levels m) 0 (put_types_in ts t')) (sym t.last) (within_typed k.levels next ts t' w)
+    later : (n : ℕ) (t' : Term) → Within (Known k.levels next) n t' → Within (Known k.levels next') n (put_types_in ts t')
+    later n t' w = transport (λ m. Within (Known k.levels m) n (put_types_in ts t')) (sym t.last) (within_typed_at k.levels next n ts t' w)
 
     typed_known : (ps' : List Pair) → AreKnownPairs k.levels next ps' → AreKnownPairs k.levels next' (type_pairs_in ts ps')
-    typed_known ps' m = transport (AreKnownPairs k.levels next') (sym (types_on_sides ts ps')) (all_known k.levels k.levels next next' (put_types_in ts) later ps' m)
+    typed_known ps' m = transport (AreKnownPairs k.levels next') (sym (types_on_sides ts ps')) (all_known k.levels k.levels next next' (put_types_in ts) (later 0) ps' m)
 
     pub given_state : IsStateAt limit o d s' next' left (reverse new) waiting (with_given ts ps)
     given_state = record {
@@ -92,8 +92,8 @@ module _ (limit : ℕ) (o : Began) (b d : Nodes) (s s' : Bindings) (next next' u
       within_delayed = still_pairs b d waiting e k.within_delayed;
       known = known_behind k.levels next' ps (type_pairs_in ts f.rest) a.known (typed_known f.rest f.known_others);
       known_delayed = typed_known st.delayed k.known_delayed;
-      puts = λ t' w. t.puts t' ∙ ap (put_types_in ts) (k.puts t' w) ∙ sym (puts_behind st.types ts (put_all st.bindings (closed o.closing t')));
-      knows = λ t' w. transport (Within (Known k.levels next') 0) (sym (puts_behind st.types ts (put_all st.bindings t'))) (later (put_types_in st.types (put_all st.bindings t')) (k.knows t' w));
+      puts = λ n t' w. t.puts t' ∙ ap (put_types_in ts) (k.puts n t' w) ∙ sym (puts_behind st.types ts (put_all st.bindings (closed o.closing t')));
+      knows = λ n t' w. transport (Within (Known k.levels next') n) (sym (puts_behind st.types ts (put_all st.bindings t'))) (later n (put_types_in st.types (put_all st.bindings t')) (k.knows n t' w));
       firm = t.firm st.types k.firm;
     }
 
@@ -112,7 +112,7 @@ module _ (limit : ℕ) (o : Began) (b d : Nodes) (s s' : Bindings) (next next' u
 
     bound_at : (t' : TermId) → t'.0 < length b.terms → Within (Known k.levels next) 0 (under b k.closing t') → under d t.closing t' ≡ put_all bs (under b k.closing t')
     bound_at t' l w =
-        t.puts (tree d t'.0) (transport (Within (Known k.levels next) 0) (sym (under_kept b d k.closing t' e l)) w) ∙ ap (put_all bs) (under_kept b d k.closing t' e l)
+        t.puts 0 (tree d t'.0) (transport (Within (Known k.levels next) 0) (sym (under_kept b d k.closing t' e l)) w) ∙ ap (put_all bs) (under_kept b d k.closing t' e l)
 
     bound_pairs : (qs : List Numbers) (ps' : List Pair) → All (IsPairOf (length b.terms)) qs → AreKnownPairs k.levels next ps' → ArePairsFor b k.closing qs ps' → ArePairsFor d t.closing qs (put_pairs bs ps')
     bound_pairs qs ps' l i r =
@@ -120,14 +120,14 @@ module _ (limit : ℕ) (o : Began) (b d : Nodes) (s s' : Bindings) (next next' u
         (pairs_through b d k.closing t.closing k.levels next (put_all bs) t.reaches bound_at qs ps' l i r)
 
     bound_known : (ps' : List Pair) → AreKnownPairs k.levels next ps' → AreKnownPairs t.levels' next' (put_pairs bs ps')
-    bound_known ps' i = transport (AreKnownPairs t.levels' next') (sym (terms_on_sides bs ps')) (all_known k.levels t.levels' next next' (put_all bs) t.knows ps' i)
+    bound_known ps' i = transport (AreKnownPairs t.levels' next') (sym (terms_on_sides bs ps')) (all_known k.levels t.levels' next next' (put_all bs) (t.knows 0) ps' i)
 
     -- the bindings behind those of before, and the types behind them
     in_turn : (t' : Term) → put_all bs (put_types_in st.types (put_all st.bindings t')) ≡ put_types_in st.types (put_all (st.bindings ++ bs) t')
     in_turn t' = t.values st.types k.firm (put_all st.bindings t') ∙ ap (put_types_in st.types) (sym (put_all_append st.bindings bs t'))
 
-    known_before : (t' : Term) → Within (Known o.levels o.next) 0 (closed o.closing t') → Within (Known k.levels next) 0 (closed k.closing t')
-    known_before t' w = transport (Within (Known k.levels next) 0) (sym (k.puts t' w)) (k.knows (closed o.closing t') w)
+    known_before : (n : ℕ) (t' : Term) → Within (Known o.levels o.next) n (closed o.closing t') → Within (Known k.levels next) n (closed k.closing t')
+    known_before n t' w = transport (Within (Known k.levels next) n) (sym (k.puts n t' w)) (k.knows n (closed o.closing t') w)
 
     pub bound_state : IsStateAt limit o d s' next' left (reverse new) waiting with_bound
     bound_state = record {
@@ -144,8 +144,8 @@ module _ (limit : ℕ) (o : Began) (b d : Nodes) (s s' : Bindings) (next next' u
       within_delayed = still_pairs b d waiting e k.within_delayed;
       known = bound_known f.rest f.known_others;
       known_delayed = bound_known st.delayed k.known_delayed;
-      puts = λ t' w. t.puts t' (known_before t' w) ∙ ap (put_all bs) (k.puts t' w) ∙ in_turn (closed o.closing t');
-      knows = λ t' w. transport (Within (Known t.levels' next') 0) (in_turn t') (t.knows (put_types_in st.types (put_all st.bindings t')) (k.knows t' w));
+      puts = λ n t' w. t.puts n t' (known_before n t' w) ∙ ap (put_all bs) (k.puts n t' w) ∙ in_turn (closed o.closing t');
+      knows = λ n t' w. transport (Within (Known t.levels' next') n) (in_turn t') (t.knows n (put_types_in st.types (put_all st.bindings t')) (k.knows n t' w));
       firm = t.firm st.types k.firm;
     }
 
@@ -173,6 +173,6 @@ module _ (limit : ℕ) (o : Began) (b d : Nodes) (s s' : Bindings) (next next' u
       known = at_last f.rest f.known_others;
       known_delayed = at_last (st.delayed ++ f.pair ∷ []) (known_behind k.levels next st.delayed (f.pair ∷ []) k.known_delayed (f.known, tt));
       puts = k.puts;
-      knows = λ t' w. transport (λ m. Within (Known k.levels m) 0 (put_types_in st.types (put_all st.bindings t'))) (sym t.last) (k.knows t' w);
+      knows = λ n t' w. transport (λ m. Within (Known k.levels m) n (put_types_in st.types (put_all st.bindings t'))) (sym t.last) (k.knows n t' w);
       firm = k.firm;
     }

@@ -150,7 +150,7 @@ typed_left θ d W b z (t ∷ ts) (q ∷ qs) (p ∷ ps) a h = let r = reached_at 
 module _ (d : Declared) (V : List Variable) (θ : ℕ → Ty) (ps ds : List Pair) (b : Nodes) (next : ℕ) (residual : List Numbers) (z : Closing) (s : State) (f : IsFound (level_of V) (length V) unbound b next residual z s) (m : Satisfies θ s.types)
     (n : ℕ) (stays : AreStuck n s.delayed) (known_pairs : AreKnownPairs (level_of V) (length V) ps) (known_delayed : AreKnownPairs (level_of V) (length V) ds) (l : HasSameClosings θ d V ps ds s) where
   value_at : (x k : ℕ) → Known (level_of V) (length V) (logic x k) → instance_term θ (z.terms x k) ≡ put_all (map (instance_binding θ) s.bindings) (atom (logic x k))
-  value_at x k h = ap (instance_term θ) (f.puts (atom (logic x k)) h) ∙ put_types_satisfied θ s.types m (put_all s.bindings (atom (logic x k))) ∙ sym (put_all_instance θ s.bindings (atom (logic x k)))
+  value_at x k h = ap (instance_term θ) (f.puts 0 (atom (logic x k)) h) ∙ put_types_satisfied θ s.types m (put_all s.bindings (atom (logic x k))) ∙ sym (put_all_instance θ s.bindings (atom (logic x k)))
 
   given_at : (c : Closing) (x k : ℕ) → x < length V → k ≡ level_of V x → (through_bindings (map (instance_binding θ) s.bindings) c).terms x k ≡ (through z θ c).terms x k
   given_at c x k h e = ap (closed c) (sym (value_at x k (h, e)))

@@ -25,8 +25,8 @@ IsFirm ts c = (t : Term) → put_types_in ts (closed c t) ≡ closed c t
 pub record IsPutBehind (levels levels' : ℕ → ℕ) (next next' : ℕ) (c c' : Closing) (s s' : Bindings) (bs : List Binding) : Type 0 where
   pub older : (x : ℕ) → x < next → levels' x ≡ levels x
   pub more : next ≤ next'
-  pub puts : (t : Term) → Within (Known levels next) 0 (closed c t) → closed c' t ≡ put_all bs (closed c t)
-  pub knows : (t : Term) → Within (Known levels next) 0 t → Within (Known levels' next') 0 (put_all bs t)
+  pub puts : (depth : ℕ) (t : Term) → Within (Known levels next) depth (closed c t) → closed c' t ≡ put_all bs (closed c t)
+  pub knows : (depth : ℕ) (t : Term) → Within (Known levels next) depth t → Within (Known levels' next') depth (put_all bs t)
   pub reaches : (t u : Term) → (j : ℕ) → Within (Known levels next) 0 t → steps weak_step j t ≡ Some u → steps weak_step j (put_all bs t) ≡ Some (put_all bs u)
   pub firm : (ts : List TypeBinding) → IsFirm ts c → IsFirm ts c'
   pub values : (ts : List TypeBinding) → IsFirm ts c → (t : Term) → put_all bs (put_types_in ts t) ≡ put_types_in ts (put_all bs t)

@@ -67,8 +67,8 @@ pub record IsBoundBehind (levels : ℕ → ℕ) (next : ℕ) (c : Closing) (s : 
   -- no variable of before has another level
   pub older : (x : ℕ) → x < next → levels' x ≡ levels x
   pub more : next ≤ next'
-  pub puts : (t : Term) → Within (Known levels next) 0 (closed c t) → closed closing t ≡ put_all bs (closed c t)
-  pub knows : (t : Term) → Within (Known levels next) 0 t → Within (Known levels' next') 0 (put_all bs t)
+  pub puts : (depth : ℕ) (t : Term) → Within (Known levels next) depth (closed c t) → closed closing t ≡ put_all bs (closed c t)
+  pub knows : (depth : ℕ) (t : Term) → Within (Known levels next) depth t → Within (Known levels' next') depth (put_all bs t)
   pub reaches : (t u : Term) → (j : ℕ) → Within (Known levels next) 0 t → steps weak_step j t ≡ Some u → steps weak_step j (put_all bs t) ≡ Some (put_all bs u)
   pub firm : (ts : List TypeBinding) → IsFirm ts c → IsFirm ts closing
   -- types that leave what is read as it is may be put in before or after

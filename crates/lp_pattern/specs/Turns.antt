@@ -33,8 +33,8 @@ pub record IsStateAt (limit : ℕ) (o : Began) (b : Nodes) (s : Bindings) (next 
   pub within_delayed : All (IsPairOf (length b.terms)) waiting
   pub known : AreKnownPairs levels next st.pairs
   pub known_delayed : AreKnownPairs levels next st.delayed
-  pub puts : (t : Term) → Within (Known o.levels o.next) 0 (closed o.closing t) → closed closing t ≡ put_types_in st.types (put_all st.bindings (closed o.closing t))
-  pub knows : (t : Term) → Within (Known o.levels o.next) 0 t → Within (Known levels next) 0 (put_types_in st.types (put_all st.bindings t))
+  pub puts : (depth : ℕ) (t : Term) → Within (Known o.levels o.next) depth (closed o.closing t) → closed closing t ≡ put_types_in st.types (put_all st.bindings (closed o.closing t))
+  pub knows : (depth : ℕ) (t : Term) → Within (Known o.levels o.next) depth t → Within (Known levels next) depth (put_types_in st.types (put_all st.bindings t))
   pub firm : IsFirm st.types closing
 
 -- such a state leads to this outcome, and says so of whether something was bound

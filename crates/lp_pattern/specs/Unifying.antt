@@ -38,16 +38,16 @@ pub record Reads (b : Nodes) (values : List (ℕ × TermId)) (type_values : List
   pub terms : (x : ℕ) → ValueIs b c x (lookup (nat_eq x) values)
   pub types : (x : ℕ) → TypeIs b c.types x (lookup (nat_eq x) type_values)
 
--- bindings and pairs left are those of the definition: each term of before is, with all bindings put in, what the definition's bindings and types make of
--- it, and steps at the top lead from the definition's pairs to those that are left
+-- bindings and pairs left are those of the definition: each term of before, of any number of loose indices, is, with all bindings put in, what the definition's
+-- bindings and types make of it, and steps at the top lead from the definition's pairs to those that are left
 pub record IsFound (levels : ℕ → ℕ) (next : ℕ) (c : Closing) (b : Nodes) (next' : ℕ) (residual : List Numbers) (closing : Closing) (s : State) : Type 0 where
-  pub puts : (t : Term) → Within (Known levels next) 0 (closed c t) → closed closing t ≡ put_types_in s.types (put_all s.bindings (closed c t))
+  pub puts : (depth : ℕ) (t : Term) → Within (Known levels next) depth (closed c t) → closed closing t ≡ put_types_in s.types (put_all s.bindings (closed c t))
   pub last : next' ≡ s.next
   pub left : ArePairsFor b closing residual s.delayed
   pub levels' : ℕ → ℕ
   pub older : (x : ℕ) → x < next → levels' x ≡ levels x
   pub known : AreKnownPairs levels' next' s.delayed
-  pub knows : (t : Term) → Within (Known levels next) 0 t → Within (Known levels' next') 0 (put_types_in s.types (put_all s.bindings t))
+  pub knows : (depth : ℕ) (t : Term) → Within (Known levels next) depth t → Within (Known levels' next') depth (put_types_in s.types (put_all s.bindings t))
 
 -- the bindings behind a run
 abbrev pub IsSolutionUnder : (levels : ℕ → ℕ) → (next : ℕ) → Closing → Nodes → Bindings → (next' : ℕ) → List Numbers → Unified → Type 0
