@@ -1,6 +1,5 @@
 -- A quantified goal that is known at run time, on its value: head reduction leads to the definition's goal.
 use Rattle.std.proofs.Common.{◌≡◌, ℕ, suc, ◌<◌, List, [], ◌∷◌, ◌++◌, length, refl, sym, ap, ◌∙◌, subst, Option, Some, add-one}
-use Rattle.lp_calculus.specs.Convert.{head_step, steps}
 use Rattle.lp_calculus.specs.Term.{Term, index, atom, abs, app, shift, substitute, eigen, logic}
 use Rattle.lp_calculus.specs.Types.{Ty}
 use Rattle.lp_calculus.proofs.Commutations.{substitute_shift}

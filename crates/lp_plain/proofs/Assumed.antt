@@ -1,11 +1,10 @@
 -- Assumptions that are put on: the trees find the clauses that were assumed, the newest first; what stood for numbers before stands for them still.
-use Rattle.std.proofs.Common.{◌≡◌, ℕ, zero, suc, ◌+◌, ◌<◌, ◌≤◌, List, [], ◌∷◌, ◌++◌, map, length, cond, inl, inr, refl, sym, ap, ◌∙◌, subst, arith, Bool, true, false, true≢false, Option, None, Some, nat_eq}
+use Rattle.std.proofs.Common.{◌≡◌, ℕ, zero, suc, ◌+◌, ◌<◌, ◌≤◌, List, [], ◌∷◌, ◌++◌, map, length, cond, inl, inr, refl, sym, ap, ◌∙◌, subst, arith, Bool, true, false, true≢false, Option, None, Some}
 use Rattle.std.specs.Prelude.{◌⊎◌, All, filter, slice_get}
 use Rattle.std.proofs.lemmas.Bool.Decides.{nat_tests}
 use Rattle.std.proofs.lemmas.List.{length-map, map-append}
 use Rattle.std.proofs.lemmas.List.Elements.{All-weaker}
-use Rattle.lp_lemmas.proofs.Elements.{All_pushed}
-use Rattle.lp_lemmas.proofs.Lists.{get_append, get_map, get_push}
+use Rattle.lp_lemmas.proofs.Lists.{get_append, get_map}
 use Rattle.lp_lemmas.proofs.Numbers.{nat_eq_self}
 use Rattle.lp_calculus.specs.Instance.{instance_term}
 use Rattle.lp_calculus.specs.Spine.{head_of}
@@ -28,14 +27,14 @@ use Rattle.lp_plain.specs.declared.machine.Machine.{Machine}
 use Rattle.lp_plain.specs.declared.openness.Standing.{Standing}
 use Rattle.lp_plain.specs.declared.table.Rule.{Rule}
 use Rattle.lp_plain.specs.declared.types.Renewal.{Renewal}
-use Rattle.lp_plain.specs.Assuming.{Lists, lists_of, clause_in, clauses_in, written_at, head_at, head_term, is_head, is_for, IsAssumed, AreAssumed, links, AreUnder, HasAssumed, HasWritten, no_standing, a_standing, IsNumberIn, IsPlaceAt, ArePlaced, IsLaterAround, AssumesMore, KeepsAssumed, IsOneMore, IsTreeOf}
+use Rattle.lp_plain.specs.Assuming.{Lists, lists_of, ListsGrow, clause_in, clauses_in, written_at, head_at, head_term, is_head, is_for, IsAssumed, AreAssumed, links, AreUnder, HasAssumed, HasWritten, no_standing, a_standing, IsNumberIn, IsPlaceAt, IsLaterAround, AssumesMore, KeepsAssumed, IsOneMore, IsTreeOf}
 use Rattle.lp_plain.specs.Candidates.{IsChain}
 use Rattle.lp_plain.specs.Entries.{Around, AreEntries, no_frame, a_frame, HasValues, KeepsGoals, placed}
 use Rattle.lp_plain.specs.Instances.{AreValues}
 use Rattle.lp_plain.specs.Keeping.{KeepsCourse}
 use Rattle.lp_plain.specs.Renewal.{renewing}
 use Rattle.lp_plain.specs.Scopes.{Blocks, blocks_of}
-use Rattle.lp_plain.specs.Tables.{Shown, shown, IsNumbered, IsHeadOf, IsRule, AreRules, Never}
+use Rattle.lp_plain.specs.Tables.{Shown, shown, IsNumbered, IsRule, AreRules, Never}
 use Rattle.lp_plain.specs.Within.{IsTableIn, StandsIn}
 use Rattle.lp_plain.proofs.Frames.{keeps_then}
 use Rattle.lp_plain.proofs.Growing.{all_taken, scope_later}
@@ -47,27 +46,18 @@ use Rattle.lp_plain.proofs.Within.{all_at, longer_list}
 
 -- numbers stand for the same while the lists grow
 
-pub record ListsGrow (k l : Lists) : Type 0 where
-  pub bank : Extends k.bank l.bank
-  pub table : l.table ≡ k.table
-  pub blocks : GoesOn k.blocks.blocks l.blocks.blocks
-  pub values : GoesOn k.blocks.values l.blocks.values
-  pub assumptions : GoesOn k.assumptions l.assumptions
-  pub newest : GoesOn k.newest l.newest
-  pub standings : GoesOn k.standings l.standings
-
 pub number_in_more : (a b : ℕ) (o : Option ℕ) → a ≤ b → IsNumberIn a o → IsNumberIn b o
 number_in_more a b None l h = tt
 number_in_more a b (Some i) l h = omega (arith, l, h)
 
 module _ (k l : Lists) (i : IsTableIn (length k.bank.terms) k.table) (v : AreValues k.bank k.blocks.values) (g : ListsGrow k l) where
-  values_on : (o : Option ℕ) (σ : ℕ → Term) → HasValues k.bank k.blocks o σ → HasValues l.bank l.blocks o σ
+  pub values_on : (o : Option ℕ) (σ : ℕ → Term) → HasValues k.bank k.blocks o σ → HasValues l.bank l.blocks o σ
   values_on o σ h = scope_later k.bank l.bank g.bank k.blocks l.blocks v g.blocks g.values o σ h
 
-  rule_on : (n : ℕ) (c : Clause) → IsRule k.bank Never (shown k.table) n c → IsRule l.bank Never (shown l.table) n c
+  pub rule_on : (n : ℕ) (c : Clause) → IsRule k.bank Never (shown k.table) n c → IsRule l.bank Never (shown l.table) n c
   rule_on n c h = subst (λ t. IsRule l.bank Never (shown t) n c) (sym g.table) (rule_later k.bank l.bank g.bank k.table i n c h)
 
-  assumed_on : (n : ℕ) (c : Clause) → IsAssumed k n c → IsAssumed l n c
+  pub assumed_on : (n : ℕ) (c : Clause) → IsAssumed k n c → IsAssumed l n c
   assumed_on n c h = record {
     assumption = h.assumption;
     written = h.written;
@@ -84,7 +74,7 @@ module _ (k l : Lists) (i : IsTableIn (length k.bank.terms) k.table) (v : AreVal
   all_on (n ∷ ns) [] h = absurd h
   all_on (n ∷ ns) (c ∷ cs) h = (assumed_on n c h.0, all_on ns cs h.1)
 
-  links_on : (o : Option ℕ) (ns : List ℕ) → IsChain (links k.assumptions) o ns → IsChain (links l.assumptions) o ns
+  pub links_on : (o : Option ℕ) (ns : List ℕ) → IsChain (links k.assumptions) o ns → IsChain (links l.assumptions) o ns
   links_on o ns h =
       subst (λ xs. IsChain (links xs) o ns) (sym g.assumptions.1)
       (subst (λ xs. IsChain xs o ns) (sym (map-append (λ (x : Assumption). x.older) k.assumptions g.assumptions.0)) (chain_longer (links k.assumptions) (links g.assumptions.0) o ns h))

@@ -1,5 +1,5 @@
 -- A goal that assumes clauses is taken apart as the definition takes it.
-use Rattle.std.proofs.Common.{◌≡◌, ℕ, ◌+◌, ◌<◌, ◌≤◌, List, [], ◌∷◌, ◌++◌, length, inl, inr, refl, sym, ap, ◌∙◌, subst, arith, Bool, true, false, Option, None, Some, nat_eq}
+use Rattle.std.proofs.Common.{◌≡◌, ℕ, ◌<◌, ◌≤◌, List, [], ◌∷◌, ◌++◌, length, inl, inr, refl, sym, ap, ◌∙◌, subst, arith, Bool, true, false, Option, None, Some, nat_eq}
 use Rattle.std.specs.Prelude.{◌⊎◌, All, slice_get, if◌then◌else◌}
 use Rattle.std.proofs.lemmas.Bool.Decides.{nat_tests}
 use Rattle.std.proofs.lemmas.List.{length-append}
@@ -20,15 +20,15 @@ use Rattle.lp_plain.specs.declared.machine.Machine.{Machine}
 use Rattle.lp_plain.specs.declared.openness.Standing.{Standing}
 use Rattle.lp_plain.specs.declared.table.Span.{Span}
 use Rattle.lp_plain.specs.Apart.{apart}
-use Rattle.lp_plain.specs.Assuming.{Lists, lists_of, ArePlaced, AssumesFor, AssumesMore, HasAssumed, HasFrameAt, HasWritten, IsLaterAround, IsNumberIn, IsPlaceAt, IsStood, IsTreeOf, KeepsAssumed, clauses_in, written_at}
-use Rattle.lp_plain.specs.Entries.{Around, GrowsGoals, IsBehind, IsBranchAt, IsListAt, IsOf, KeepsGoals, Reads, entry_at, in_scope, placed}
+use Rattle.lp_plain.specs.Assuming.{Lists, ListsGrow, lists_of, ArePlaced, AssumesFor, AssumesMore, GrowsOn, HasAssumed, HasFrameAt, HasWritten, IsLaterAround, IsNumberIn, IsPlaceAt, IsStood, IsTreeOf, KeepsAssumed, clauses_in, written_at}
+use Rattle.lp_plain.specs.Entries.{Around, GrowsGoals, IsBehind, IsListAt, IsOf, KeepsGoals, Reads, entry_at, in_scope, placed}
 use Rattle.lp_plain.specs.Keeping.{KeepsCourse}
 use Rattle.lp_plain.specs.Scopes.{blocks_of}
 use Rattle.lp_plain.specs.Tables.{AreClausesOf, IsNumbered, shown}
 use Rattle.lp_plain.specs.Within.{StandsIn}
-use Rattle.lp_plain.proofs.Assumed.{Assumes, ListsGrow, entries_on, has_on, lists_noted, more_grows, number_in_more, places_on, rules_none, stood}
+use Rattle.lp_plain.proofs.Assumed.{Assumes, entries_on, has_on, lists_noted, more_grows, number_in_more, places_on, rules_none, stood}
 use Rattle.lp_plain.proofs.Growing.{grows_kept, grows_then, of_later, reads_later}
-use Rattle.lp_plain.proofs.Opening.{bank_grows, same_stands}
+use Rattle.lp_plain.proofs.Opening.{bank_grows, bank_stands, same_stands}
 use Rattle.lp_plain.proofs.Within.{longer_list}
 
 -- one number stands for something else
@@ -76,7 +76,7 @@ later_around a trees standings before tree cs number w t l = record {
 
 -- lists that grow twice, and by a standing
 
-lists_then : (k l j : Lists) → ListsGrow k l → ListsGrow l j → ListsGrow k j
+pub lists_then : (k l j : Lists) → ListsGrow k l → ListsGrow l j → ListsGrow k j
 lists_then k l j g h = record {
   bank = extends-trans k.bank l.bank j.bank g.bank h.bank;
   table = h.table ∙ g.table;
@@ -98,6 +98,18 @@ stood_grows n o free p number s = record {
   standings = (record { free = free; values = p.values; older = p.standing } ∷ [], s.more);
 }
 
+pub stood_stands : (m n o : Machine) (free : ℕ) (p : Place) (number : ℕ) → AssumesMore m n → IsStood n o free p number → StandsIn m → StandsIn o
+stood_stands m n o free p number g s i = bank_stands n o (subst (λ b. Extends n.bank b) (sym s.bank) (extends_same n.bank)) s.table s.frames s.scopes (same_stands m n g.goals g.frames i)
+
+pub put_grows : (m n o q r : Machine) (free : ℕ) (p : Place) (number : ℕ) → AssumesMore m n → IsStood n o free p number → KeepsGoals o q → KeepsCourse
+    o q → KeepsAssumed o q → lists_of q ≡ lists_of r → r.frames ≡ q.frames → r.index ≡ q.index → r.denied ≡ q.denied → GrowsOn m r
+put_grows m n o q r free p number g s k course ka same ef ei ed = record {
+  lists = lists_then (lists_of m) (lists_of n) (lists_of r) (more_grows m n g) (subst (λ l. ListsGrow (lists_of n) l) (lists_noted o q k ka ∙ same) (stood_grows n o free p number s));
+  frames = (k.frames.0, ap (λ z. z.items) ef ∙ k.frames.1 ∙ ap (λ z. z.items ++ k.frames.0) (s.frames ∙ g.frames));
+  index = ei ∙ k.known.index ∙ s.index ∙ g.goals.known.index;
+  denied = ed ∙ course.denied ∙ s.course.denied ∙ g.course.denied;
+}
+
 -- the place of the goals that are to be proved under the assumptions
 abbrev inside : Place → (tree : Option ℕ) → (number : ℕ) → Place
 inside p tree number = record { values = p.values; assumed = tree; standing = Some number; level = p.level; mark = p.mark }
@@ -107,7 +119,7 @@ module _ (m n o q r : Machine) (p : Place) (rules : Span) (list free : ℕ) (beh
     (s : IsStood n o free p number) (k : KeepsGoals o q) (course : KeepsCourse o q) (ka : KeepsAssumed o q) (frame : HasFrameAt o r (inside p tree number))
     (reads : (a : Around) (gs : List Goal) (es : List Entry) → IsListAt o (inside p tree number) list gs → Reads o a behind es → Reads r a front
     (placed a (inside p tree number) gs ++ es)) (same : lists_of q ≡ lists_of r) (eg : r.branch.goals ≡ front)
-    (en : r.branch.next ≡ q.branch.next) (et : r.branch.next_type ≡ q.branch.next_type) (ec : r.choices ≡ q.choices) where
+    (en : r.branch.next ≡ q.branch.next) (et : r.branch.next_type ≡ q.branch.next_type) (ec : r.choices ≡ q.choices) (stands_on : StandsIn m → StandsIn r) where
   module _ (a : Around) (cs : Clauses) (hs : Goals) (σ : ℕ → Term) (b : Branch) (i : StandsIn m) (placed_all : ArePlaced m a)
       (h : IsPlaceAt (lists_of m) a p) (clauses_are : AreClausesOf m.bank m.table rules cs)
       (numbered : IsNumbered (shown m.table).frees free (λ f. collect_clauses f 0 cs)) (of : IsOf m p list hs σ) (w : IsBehind m a behind b) where
@@ -211,6 +223,7 @@ module _ (m n o q r : Machine) (p : Place) (rules : Span) (list free : ℕ) (beh
       now,
       later,
       placed_now,
+      stands_on i,
       (
         record {
           goals = subst (λ x. Reads r now x (entries (goal_list (in_scope σ p.values.types hs)) whole says p.level (a.mark p.mark) ++ b.goals)) (sym eg) reads_front;

@@ -7,7 +7,6 @@ use Rattle.std.proofs.lemmas.Option.{slice_get_within}
 use Rattle.lp_lemmas.proofs.Lists.{get_append, get_push}
 use Rattle.lp_calculus.specs.Term.{Term}
 use Rattle.lp_term.specs.Nodes.{Nodes}
-use Rattle.lp_term.specs.declared.node.TermId.{TermId}
 use Rattle.lp_model.specs.Branch.{Entry, Branch, Go}
 use Rattle.lp_model.specs.Search.{with_goals}
 use Rattle.lp_model.specs.Flat.{Goal, Goals, no_goals, goals, goal_list}

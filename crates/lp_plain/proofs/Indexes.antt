@@ -43,7 +43,7 @@ links_stay (r ∷ rs) zero (suc k) o h = refl
 links_stay (r ∷ rs) (suc i) zero o h = absurd (omega arith)
 links_stay (r ∷ rs) (suc i) (suc k) o h = let l : i < k = omega arith in links_stay rs i k o l
 
-filter_same : (p q : ℕ → Bool) (ks : List ℕ) → ((k : ℕ) → p k ≡ q k) → filter p ks ≡ filter q ks
+pub filter_same : (p q : ℕ → Bool) (ks : List ℕ) → ((k : ℕ) → p k ≡ q k) → filter p ks ≡ filter q ks
 filter_same p q [] e = refl
 filter_same p q (k ∷ ks) e = ap (λ t. cond t (k ∷ filter p ks) (filter p ks)) (e k) ∙ ap (λ z. cond (q k) (k ∷ z) z) (filter_same p q ks e)
 
@@ -74,7 +74,8 @@ none_linked b rules first k e = record {
 }
 
 -- a clause is linked before those behind it
-pub one_linked : (b : Nodes) (old new : List Rule) (first later : ℕ → Option ℕ) (k d : ℕ) → constant_at b (slice_get old k) ≡ Some d → k < length old → new ≡ set_next old k (first d) → ((c : ℕ) → later c ≡ cond (nat_eq d c) (Some k) (first c))
+pub one_linked : (b : Nodes) (old new : List Rule) (first later : ℕ → Option ℕ) (k d : ℕ) → constant_at b (slice_get old k) ≡ Some d → k < length old
+    → new ≡ set_next old k (first d) → ((c : ℕ) → later c ≡ cond (nat_eq d c) (Some k) (first c))
     → IsLinked b old new first later (k ∷ []) (suc k) k
 one_linked b old new first later k d e w n u = record {
   same = ap (map unlinked) n ∙ unlinked_set old k (first d);
@@ -91,17 +92,24 @@ one_linked b old new first later k d e w n u = record {
     same_filter c ks = filter_same (is_of b rules c) (is_of b old c) ks (λ i. ap (is_number c) (constants_stay b old k i (first d)))
 
     before : (ks : List ℕ) (c : ℕ) → AreFrom (suc k) ks → IsIndex b old first ks → IsChain (nexts rules) (first c) (filter (is_of b rules c) ks)
-    before ks c h x = subst (λ z. IsChain (nexts rules) (first c) z) (sym (same_filter c ks)) (chain_stays old k (first d) (first c) (filter (is_of b old c) ks) (from_filter (suc k) (is_of b old c) ks h) (x c))
+    before ks c h x = subst (λ z. IsChain (nexts rules) (first c) z) (sym (same_filter c ks))
+        (chain_stays old k (first d) (first c) (filter (is_of b old c) ks) (from_filter (suc k) (is_of b old c) ks h) (x c))
 
     linked : (ks : List ℕ) → AreFrom (suc k) ks → IsIndex b old first ks → (c : ℕ) → IsChain (nexts rules) (later c) (filter (is_of b rules c) (k ∷ ks))
     linked ks h x c =
-        subst (λ t. IsChain (nexts rules) (later c) (cond t (k ∷ filter (is_of b rules c) ks) (filter (is_of b rules c) ks))) (sym (ap (is_number c) (constants_stay b old k k (first d) ∙ e))) (go (nat_eq d c) refl)
+        subst (λ t. IsChain (nexts rules) (later c) (cond t (k ∷ filter (is_of b rules c) ks) (filter (is_of b rules c) ks)))
+        (sym (ap (is_number c) (constants_stay b old k k (first d) ∙ e))) (go (nat_eq d c) refl)
       where
         go : (t : Bool) → nat_eq d c ≡ t → IsChain (nexts rules) (later c) (cond (nat_eq d c) (k ∷ filter (is_of b rules c) ks) (filter (is_of b rules c) ks))
         go true q =
             let same : d ≡ c = eqb-true d c q in
-            subst (λ t. IsChain (nexts rules) (later c) (cond t (k ∷ filter (is_of b rules c) ks) (filter (is_of b rules c) ks))) (sym q)
-            (first d, u c ∙ ap (λ t. cond t (Some k) (first c)) q, link_set old k (first d) w, subst (λ z. IsChain (nexts rules) z (filter (is_of b rules c) ks)) (sym (ap first same)) (before ks c h x))
+            subst (λ t. IsChain (nexts rules) (later c) (cond t (k ∷ filter (is_of b rules c) ks) (filter (is_of b rules c) ks))) (sym q) (
+              first d,
+              u c ∙ ap (λ t. cond t (Some k) (first c)) q,
+              link_set old k (first d) w,
+              subst
+                  (λ z. IsChain (nexts rules) z (filter (is_of b rules c) ks)) (sym (ap first same)) (before ks c h x),
+            )
         go false q =
             subst (λ t. IsChain (nexts rules) (later c) (cond t (k ∷ filter (is_of b rules c) ks) (filter (is_of b rules c) ks))) (sym q)
             (subst (λ z. IsChain (nexts rules) z (filter (is_of b rules c) ks)) (sym (u c ∙ ap (λ t. cond t (Some k) (first c)) q)) (before ks c h x))
@@ -109,7 +117,8 @@ one_linked b old new first later k d e w n u = record {
 pub linked_none : (b : Nodes) (rules : List Rule) (first : ℕ → Option ℕ) (above low : ℕ) → low ≤ above → IsLinked b rules rules first first [] above low
 linked_none b rules first above low l = record { same = refl; chains = λ ks h x. (from_lower above low ks l h, x) }
 
-pub linked_then : (b : Nodes) (old mid new : List Rule) (first then_first later : ℕ → Option ℕ) (more front : List ℕ) (above mid_low low : ℕ) → IsLinked b old mid first then_first more above mid_low → IsLinked b mid new then_first later front mid_low low
+pub linked_then : (b : Nodes) (old mid new : List Rule) (first then_first later : ℕ → Option ℕ) (more front : List ℕ) (above mid_low low : ℕ) →
+    IsLinked b old mid first then_first more above mid_low → IsLinked b mid new then_first later front mid_low low
     → IsLinked b old new first later (front ++ more) above low
 linked_then b old mid new first then_first later more front above mid_low low f g = record {
   same = g.same ∙ f.same;
@@ -120,7 +129,8 @@ linked_then b old mid new first then_first later more front above mid_low low f 
 }
 
 -- one more clause of a span, from behind
-pub span_more : (b : Nodes) (old mid new : List Rule) (first then_first later : ℕ → Option ℕ) (to above left next : ℕ) → suc next ≡ left → left ≤ to → IsLinked b old mid first then_first (numbers_from (to - left) left) above left → IsLinked b mid new then_first later (next ∷ []) (suc next) next
+pub span_more : (b : Nodes) (old mid new : List Rule) (first then_first later : ℕ → Option ℕ) (to above left next : ℕ) → suc next ≡ left → left ≤ to →
+    IsLinked b old mid first then_first (numbers_from (to - left) left) above left → IsLinked b mid new then_first later (next ∷ []) (suc next) next
     → IsLinked b old new first later (numbers_from (to - next) next) above next
 span_more b old mid new first then_first later to above left next e l f g =
     let n : to - next ≡ suc (to - left) = omega (arith, e, l) in
@@ -141,12 +151,16 @@ drop_here [] i s e = absurd (cc)
 drop_here (x ∷ ss) zero s e = let f : x ≡ s = cc in ap (λ z. z ∷ ss) f
 drop_here (x ∷ ss) (suc i) s e = drop_here ss i s e
 
-pub spans_more : (b : Nodes) (old mid new : List Rule) (first then_first later : ℕ → Option ℕ) (ss : List Span) (s : Span) (above mid_low low left next : ℕ) → suc next ≡ left → slice_get ss next ≡ Some s → IsLinked b old mid first then_first (numbers (drop left ss)) above mid_low → IsLinked b mid new then_first later (numbers_in s) mid_low low
+pub spans_more : (b : Nodes) (old mid new : List Rule) (first then_first later : ℕ → Option ℕ) (ss : List Span) (s : Span)
+    (above mid_low low left next : ℕ) → suc next ≡ left → slice_get ss next ≡ Some s → IsLinked b old mid first then_first (numbers (drop left ss))
+    above mid_low → IsLinked b mid new then_first later (numbers_in s) mid_low low
     → IsLinked b old new first later (numbers (drop next ss)) above low
 spans_more b old mid new first then_first later ss s above mid_low low left next e h f g =
-    subst (λ z. IsLinked b old new first later z above low) (sym (ap numbers (drop_here ss next s h ∙ ap (λ z. s ∷ drop z ss) e))) (linked_then b old mid new first then_first later (numbers (drop left ss)) (numbers_in s) above mid_low low f g)
+    subst (λ z. IsLinked b old new first later z above low) (sym (ap numbers (drop_here ss next s h ∙ ap (λ z. s ∷ drop z ss) e)))
+    (linked_then b old mid new first then_first later (numbers (drop left ss)) (numbers_in s) above mid_low low f g)
 
-pub all_linked : (b : Nodes) (old new : List Rule) (first later : ℕ → Option ℕ) (ss : List Span) (above low left : ℕ) → left ≤ 0 → ((c : ℕ) → first c ≡ None) → IsLinked b old new first later (numbers (drop left ss)) above low → IsIndex b new later (numbers ss)
+pub all_linked : (b : Nodes) (old new : List Rule) (first later : ℕ → Option ℕ) (ss : List Span) (above low left : ℕ) → left ≤ 0 →
+    ((c : ℕ) → first c ≡ None) → IsLinked b old new first later (numbers (drop left ss)) above low → IsIndex b new later (numbers ss)
 all_linked b old new first later ss above low zero l n f =
     subst (λ z. IsIndex b new later z) (append-nil (numbers ss)) (f.chains [] tt n).1
 all_linked b old new first later ss above low (suc left) l n f = absurd (omega arith)
@@ -157,19 +171,34 @@ no_constant_of : (t : Term) → (kind t ≡ 1 → ⊥) → None ≡ constant_of 
 no_constant_of (atom (constant c ts)) h = absurd (h refl)
 no_constant_of _ h = refl
 
-pub constant_read : (b : Nodes) (rules : List Rule) (k : ℕ) (r : Rule) (found : Option ℕ) → slice_get rules k ≡ Some r → found ≡ constant_of (tree b r.head.0) → found ≡ constant_at b (slice_get rules k)
+pub constant_read : (b : Nodes) (rules : List Rule) (k : ℕ) (r : Rule) (found : Option ℕ) → slice_get rules k ≡ Some r → found ≡ constant_of
+    (tree b r.head.0) → found ≡ constant_at b (slice_get rules k)
 constant_read b rules k r found e h = h ∙ sym (ap (constant_at b) e)
 
-pub none_read : (b : Nodes) (rules : List Rule) (k n m : ℕ) (r : Rule) (x : TermNode) → slice_get rules k ≡ Some r → TermBelow n m (term_shape x) → node_tree b (term_shape x) ≡ tree b r.head.0 → (node_kind x ≡ 1 → ⊥) → None ≡ constant_at b (slice_get rules k)
+pub none_read : (b : Nodes) (rules : List Rule) (k n m : ℕ) (r : Rule) (x : TermNode) → slice_get rules k ≡ Some r → TermBelow n m (term_shape x) →
+    node_tree b (term_shape x) ≡ tree b r.head.0 → (node_kind x ≡ 1 → ⊥) → None ≡ constant_at b (slice_get rules k)
 none_read b rules k n m r x e l t h = constant_read b rules k r None e (no_constant_of (tree b r.head.0) (λ q. h (sym (kind_of b n m x l) ∙ ap kind t ∙ q)))
 
-pub set_is : (rules : List Rule) (i : ℕ) (r : Rule) (o : Option ℕ) → slice_get rules i ≡ Some r → slice_set rules i (record { type_vars = r.type_vars; head = r.head; slots = r.slots; pairs = r.pairs; key = r.key; body = r.body; next = o }) ≡ set_next rules i o
+pub set_is : (rules : List Rule) (i : ℕ) (r : Rule) (o : Option ℕ) → slice_get rules i ≡ Some r → slice_set rules i
+    (record { type_vars = r.type_vars; head = r.head; slots = r.slots; pairs = r.pairs; key = r.key; body = r.body; next = o }) ≡ set_next rules i o
 set_is [] i r o e = absurd (cc)
-set_is (x ∷ rules) zero r o e = let f : r ≡ x = cc in ap (λ (z : Rule). record { type_vars = z.type_vars; head = z.head; slots = z.slots; pairs = z.pairs; key = z.key; body = z.body; next = o } ∷ rules) f
+set_is (x ∷ rules) zero r o e = let f : r ≡ x = cc in ap (λ (z : Rule). record {
+  type_vars = z.type_vars;
+  head = z.head;
+  slots = z.slots;
+  pairs = z.pairs;
+  key = z.key;
+  body = z.body;
+  next = o;
+} ∷ rules) f
 set_is (x ∷ rules) (suc i) r o e = ap (λ z. x ∷ z) (set_is rules i r o e)
 
 pub linked_empty : (b : Nodes) (rules : List Rule) (later : ℕ → Option ℕ) (above low : ℕ) → low ≤ above → ((c : ℕ) → later c ≡ None) → IsLinked b rules rules (λ c. None) later [] above low
-linked_empty b rules later above low l e = record { same = refl; chains = λ ks h x. (from_lower above low ks l h, λ c. subst (λ z. IsChain (nexts rules) z (filter (is_of b rules c) ks)) (sym (e c)) (x c)) }
+linked_empty b rules later above low l e = record {
+  same = refl;
+  chains = λ ks h x.
+      (from_lower above low ks l h, λ c. subst (λ z. IsChain (nexts rules) z (filter (is_of b rules c) ks)) (sym (e c)) (x c));
+}
 
 pub no_spans : (ss : List Span) (n : ℕ) → length ss ≤ n → numbers (drop n ss) ≡ []
 no_spans [] zero h = refl
@@ -182,43 +211,60 @@ no_spans (s ∷ ss) (suc n) h = let l : length ss ≤ n = omega arith in no_span
 read_link : {X : Type 0} (g : X → Option ℕ) (xs : List X) (k : ℕ) (x : X) (next : Option ℕ) → slice_get xs k ≡ Some x → slice_get (map g xs) k ≡ Some next → g x ≡ next
 read_link g xs k x next e h = let q : Some (g x) ≡ Some next = sym (ap (option_map g) e) ∙ sym (slice_get-map g xs k) ∙ h in cc
 
-pub left_none : (b : Nodes) (rules : List Rule) (k : Option Key) (o : Option ℕ) (ks js : List ℕ) → o ≡ None → IsChain (nexts rules) o js → filter (passes b rules k) ks ≡ filter (passes b rules k) js → IsLeft b rules k None (filter (passes b rules k) ks)
+pub left_none : (b : Nodes) (rules : List Rule) (k : Option Key) (o : Option ℕ) (ks js : List ℕ) → o ≡ None → IsChain (nexts rules) o js → filter
+    (passes b rules k) ks ≡ filter (passes b rules k) js → IsLeft b rules k None (filter (passes b rules k) ks)
 left_none b rules k o ks js e c f = (js, subst (λ z. IsChain (nexts rules) z js) e c, f, tt)
 
-pub left_some : (b : Nodes) (rules : List Rule) (k : Option Key) (o : Option ℕ) (ks js : List ℕ) (i : ℕ) (r : Rule) → o ≡ Some i → slice_get rules i ≡ Some r → true ≡ meets b r.key k → IsChain (nexts rules) o js → filter (passes b rules k) ks ≡ filter (passes b rules k) js → IsLeft b rules k (Some i) (filter (passes b rules k) ks)
+pub left_some : (b : Nodes) (rules : List Rule) (k : Option Key) (o : Option ℕ) (ks js : List ℕ) (i : ℕ) (r : Rule) → o ≡ Some i → slice_get rules i ≡
+    Some r → true ≡ meets b r.key k → IsChain (nexts rules) o js → filter (passes b rules k) ks ≡ filter (passes b rules k) js → IsLeft b rules k
+    (Some i) (filter (passes b rules k) ks)
 left_some b rules k o ks js i r e s m c f = (js, subst (λ z. IsChain (nexts rules) z js) e c, f, ap (meets_at b k) s ∙ sym m)
 
-pub left_further : (b : Nodes) (rules : List Rule) (k : Option Key) (o : Option ℕ) (ks js : List ℕ) (i : ℕ) (r : Rule) → o ≡ Some i → slice_get rules i ≡ Some r → false ≡ meets b r.key k → IsChain (nexts rules) o js → filter (passes b rules k) ks ≡ filter (passes b rules k) js
+pub left_further : (b : Nodes) (rules : List Rule) (k : Option Key) (o : Option ℕ) (ks js : List ℕ) (i : ℕ) (r : Rule) → o ≡ Some i → slice_get rules
+    i ≡ Some r → false ≡ meets b r.key k → IsChain (nexts rules) o js → filter (passes b rules k) ks ≡ filter (passes b rules k) js
     → (rest : List ℕ) × IsChain (nexts rules) r.next rest × (filter (passes b rules k) ks ≡ filter (passes b rules k) rest)
 left_further b rules k o ks [] i r e s m c f = let a : None ≡ Some i = sym c ∙ e in absurd (cc)
 left_further b rules k o ks (j ∷ js) i r e s m c f =
     let a : Some j ≡ Some i = sym c.1 ∙ e in
     let same : j ≡ i = cc in
-    let here : slice_get rules j ≡ Some r = ap (slice_get rules) same ∙ s in
-    (js, subst (λ z. IsChain (nexts rules) z js) (sym (read_link (λ (x : Rule). x.next) rules j r c.0 here c.2)) c.3, f ∙ ap (λ t. cond t (j ∷ filter (passes b rules k) js) (filter (passes b rules k) js)) (ap (meets_at b k) here ∙ sym m))
+    let here : slice_get rules j ≡ Some r = ap (slice_get rules) same ∙ s in (
+      js,
+      subst (λ z. IsChain (nexts rules) z js) (sym (read_link (λ (x : Rule). x.next) rules j r c.0 here c.2)) c.3,
+      f ∙ ap
+          (λ t. cond t (j ∷ filter (passes b rules k) js) (filter (passes b rules k) js)) (ap (meets_at b k) here ∙ sym m),
+    )
 
 chain_none : (links : List (Option ℕ)) (ks : List ℕ) → IsChain links None ks → ks ≡ []
 chain_none links [] c = refl
 chain_none links (k ∷ ks) c = let a = c.1 in absurd (cc)
 
-pub program_some : (b : Nodes) (rules : List Rule) (older : List (Option ℕ)) (first found : Option ℕ) (k : Option Key) (i : ℕ) (ks : List ℕ) → found ≡ Some i → IsLeft b rules k found (filter (passes b rules k) ks) → AreLeft b rules older first k (Some (candidate.Program i)) (in_turn b rules k [] ks)
+pub program_some : (b : Nodes) (rules : List Rule) (older : List (Option ℕ)) (first found : Option ℕ) (k : Option Key) (i : ℕ) (ks : List ℕ) → found ≡
+    Some i → IsLeft b rules k found (filter (passes b rules k) ks) → AreLeft b rules older first k (Some (candidate.Program i))
+    (in_turn b rules k [] ks)
 program_some b rules older first found k i ks e l = (filter (passes b rules k) ks, subst (λ z. IsLeft b rules k z (filter (passes b rules k) ks)) e l, refl)
 
-pub program_none : (b : Nodes) (rules : List Rule) (older : List (Option ℕ)) (first found : Option ℕ) (k : Option Key) (ks : List ℕ) → found ≡ None → IsLeft b rules k found (filter (passes b rules k) ks) → AreLeft b rules older first k None (in_turn b rules k [] ks)
+pub program_none : (b : Nodes) (rules : List Rule) (older : List (Option ℕ)) (first found : Option ℕ) (k : Option Key) (ks : List ℕ) → found ≡ None →
+    IsLeft b rules k found (filter (passes b rules k) ks) → AreLeft b rules older first k None (in_turn b rules k [] ks)
 program_none b rules older first found k ks e l =
     let n : l.0 ≡ [] = chain_none (nexts rules) l.0 (subst (λ z. IsChain (nexts rules) z l.0) e l.1) in
     ap (map (λ i. candidate.Program i)) (l.2 ∙ ap (filter (passes b rules k)) n)
 
-pub assumed_some : (b : Nodes) (rules : List Rule) (older : List (Option ℕ)) (first o : Option ℕ) (k : Option Key) (i : ℕ) (ns ks : List ℕ) → o ≡ Some i → IsChain older o ns → IsChain (nexts rules) first ks → AreLeft b rules older first k (Some (candidate.Assumed i)) (in_turn b rules k ns ks)
+pub assumed_some : (b : Nodes) (rules : List Rule) (older : List (Option ℕ)) (first o : Option ℕ) (k : Option Key) (i : ℕ) (ns ks : List ℕ) → o ≡ Some
+    i → IsChain older o ns → IsChain (nexts rules) first ks → AreLeft b rules older first k (Some (candidate.Assumed i)) (in_turn b rules k ns ks)
 assumed_some b rules older first o k i ns ks e c d = (ns, ks, subst (λ z. IsChain older z ns) e c, d, refl)
 
-pub assumed_none : (b : Nodes) (rules : List Rule) (older : List (Option ℕ)) (first o : Option ℕ) (k : Option Key) (found : Option Candidate) (ns ks : List ℕ) → o ≡ None → IsChain older o ns → AreLeft b rules older first k found (in_turn b rules k [] ks) → AreLeft b rules older first k found (in_turn b rules k ns ks)
+pub assumed_none : (b : Nodes) (rules : List Rule) (older : List (Option ℕ)) (first o : Option ℕ) (k : Option Key) (found : Option Candidate)
+    (ns ks : List ℕ) → o ≡ None → IsChain older o ns → AreLeft b rules older first k found (in_turn b rules k [] ks) → AreLeft b rules older first k
+    found (in_turn b rules k ns ks)
 assumed_none b rules older first o k found ns ks e c l = subst (λ z. AreLeft b rules older first k found (in_turn b rules k z ks)) (sym (chain_none older ns (subst (λ z. IsChain older z ns) e c))) l
 
 -- the candidate behind an assumed clause
-behind_assumed : (b : Nodes) (rules : List Rule) (assumptions : List Assumption) (first : Option ℕ) (k : Option Key) (found : Option Candidate) (i : ℕ) (a : Assumption) (left : List Candidate) → slice_get assumptions i ≡ Some a
-    → ((ns ks : List ℕ) → IsChain (map (λ (x : Assumption). x.older) assumptions) a.older ns → IsChain (nexts rules) first ks → AreLeft b rules (map (λ (x : Assumption). x.older) assumptions) first k found (in_turn b rules k ns ks))
-    → AreLeft b rules (map (λ (x : Assumption). x.older) assumptions) first k (Some (candidate.Assumed i)) left → (rest : List Candidate) × (left ≡ candidate.Assumed i ∷ rest) × AreLeft b rules (map (λ (x : Assumption). x.older) assumptions) first k found rest
+behind_assumed : (b : Nodes) (rules : List Rule) (assumptions : List Assumption) (first : Option ℕ) (k : Option Key) (found : Option Candidate)
+    (i : ℕ) (a : Assumption) (left : List Candidate) → slice_get assumptions i ≡ Some a
+    → ((ns ks : List ℕ) → IsChain (map (λ (x : Assumption). x.older) assumptions) a.older ns → IsChain (nexts rules) first ks → AreLeft b rules
+    (map (λ (x : Assumption). x.older) assumptions) first k found (in_turn b rules k ns ks))
+    → AreLeft b rules (map (λ (x : Assumption). x.older) assumptions) first k (Some (candidate.Assumed i)) left → (rest : List Candidate) ×
+    (left ≡ candidate.Assumed i ∷ rest) × AreLeft b rules (map (λ (x : Assumption). x.older) assumptions) first k found rest
 behind_assumed b rules assumptions first k found i a left s f ([], ks, c, d, e) = absurd (cc)
 behind_assumed b rules assumptions first k found i a left s f (j ∷ ns, ks, c, d, e) =
     let q = c.1 in
@@ -228,7 +274,8 @@ behind_assumed b rules assumptions first k found i a left s f (j ∷ ns, ks, c, 
     (in_turn b rules k ns ks, e ∙ ap (λ z. candidate.Assumed z ∷ in_turn b rules k ns ks) same, f ns ks (subst (λ z. IsChain (map (λ (x : Assumption). x.older) assumptions) z ns) (sym next) c.3) d)
 
 -- the candidate behind a program clause
-behind_program : (b : Nodes) (rules : List Rule) (older : List (Option ℕ)) (first : Option ℕ) (k : Option Key) (found : Option Candidate) (i : ℕ) (r : Rule) (left : List Candidate) → slice_get rules i ≡ Some r
+behind_program : (b : Nodes) (rules : List Rule) (older : List (Option ℕ)) (first : Option ℕ) (k : Option Key) (found : Option Candidate) (i : ℕ)
+    (r : Rule) (left : List Candidate) → slice_get rules i ≡ Some r
     → ((ks : List ℕ) → IsChain (nexts rules) r.next ks → AreLeft b rules older first k found (in_turn b rules k [] ks))
     → AreLeft b rules older first k (Some (candidate.Program i)) left → (rest : List Candidate) × (left ≡ candidate.Program i ∷ rest) × AreLeft b rules older first k found rest
 behind_program b rules older first k found i r left s f (program, ([], c, d, p), e) = absurd (cc)
@@ -250,14 +297,18 @@ no_text_in _ u h = refl
 pub other_text : (b : Nodes) (i j n m : ℕ) (x : TermNode) → TermBelow n m (term_shape x) → node_tree b (term_shape x) ≡ tree b i → (node_kind x ≡ 3 → ⊥) → false ≡ same_texts b i j
 other_text b i j n m x w t h = no_text_in (tree b i) (tree b j) (λ q. h (sym (kind_of b n m x w) ∙ ap kind t ∙ q))
 
-pub after_assumed : (b : Nodes) (rules : List Rule) (assumptions : List Assumption) (first : Option ℕ) (k : Option Key) (found : Option Candidate) (which : Candidate) (i : ℕ) (a : Assumption) (left : List Candidate) → which ≡ candidate.Assumed i → slice_get assumptions i ≡ Some a
-    → ((ns ks : List ℕ) → IsChain (map (λ (x : Assumption). x.older) assumptions) a.older ns → IsChain (nexts rules) first ks → AreLeft b rules (map (λ (x : Assumption). x.older) assumptions) first k found (in_turn b rules k ns ks))
-    → AreLeft b rules (map (λ (x : Assumption). x.older) assumptions) first k (Some which) left → (rest : List Candidate) × (left ≡ which ∷ rest) × AreLeft b rules (map (λ (x : Assumption). x.older) assumptions) first k found rest
+pub after_assumed : (b : Nodes) (rules : List Rule) (assumptions : List Assumption) (first : Option ℕ) (k : Option Key) (found : Option Candidate)
+    (which : Candidate) (i : ℕ) (a : Assumption) (left : List Candidate) → which ≡ candidate.Assumed i → slice_get assumptions i ≡ Some a
+    → ((ns ks : List ℕ) → IsChain (map (λ (x : Assumption). x.older) assumptions) a.older ns → IsChain (nexts rules) first ks → AreLeft b rules
+    (map (λ (x : Assumption). x.older) assumptions) first k found (in_turn b rules k ns ks))
+    → AreLeft b rules (map (λ (x : Assumption). x.older) assumptions) first k (Some which) left → (rest : List Candidate) × (left ≡ which ∷ rest) ×
+    AreLeft b rules (map (λ (x : Assumption). x.older) assumptions) first k found rest
 after_assumed b rules assumptions first k found which i a left e s f l =
     let r = behind_assumed b rules assumptions first k found i a left s f (subst (λ z. AreLeft b rules (map (λ (x : Assumption). x.older) assumptions) first k (Some z) left) e l) in
     (r.0, r.1 ∙ ap (λ z. z ∷ r.0) (sym e), r.2)
 
-pub after_program : (b : Nodes) (rules : List Rule) (older : List (Option ℕ)) (first : Option ℕ) (k : Option Key) (found : Option Candidate) (which : Candidate) (i : ℕ) (r : Rule) (left : List Candidate) → which ≡ candidate.Program i → slice_get rules i ≡ Some r
+pub after_program : (b : Nodes) (rules : List Rule) (older : List (Option ℕ)) (first : Option ℕ) (k : Option Key) (found : Option Candidate)
+    (which : Candidate) (i : ℕ) (r : Rule) (left : List Candidate) → which ≡ candidate.Program i → slice_get rules i ≡ Some r
     → ((ks : List ℕ) → IsChain (nexts rules) r.next ks → AreLeft b rules older first k found (in_turn b rules k [] ks))
     → AreLeft b rules older first k (Some which) left → (rest : List Candidate) × (left ≡ which ∷ rest) × AreLeft b rules older first k found rest
 after_program b rules older first k found which i r left e s f l =

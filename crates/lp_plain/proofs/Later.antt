@@ -1,10 +1,10 @@
 -- What numbers mean in a bank, they mean in each later one, where they stand in the first.
-use Rattle.std.proofs.Common.{◌≡◌, ℕ, suc, ◌<◌, List, [], ◌∷◌, ◌++◌, map, length, inl, inr, refl, sym, ap, ◌∙◌, subst, arith, Option, None, Some}
-use Rattle.std.specs.Prelude.{All, slice_get}
+use Rattle.std.proofs.Common.{◌≡◌, ℕ, suc, ◌<◌, List, map, length, inl, inr, ap, ◌∙◌, subst, arith, Option, None, Some}
+use Rattle.std.specs.Prelude.{All}
 use Rattle.std.proofs.lemmas.List.Elements.{All-weaker}
 use Rattle.lp_lemmas.proofs.Lists.{map_agree_on}
 use Rattle.lp_calculus.specs.Term.{Term, Atom}
-use Rattle.lp_term.specs.Nodes.{Nodes, Extends, tree}
+use Rattle.lp_term.specs.Nodes.{Nodes, Extends}
 use Rattle.lp_model.specs.Flat.{Goal, Atomic, Cut, Either, Exists, Forall, Assume, Not, Goals, no_goals, goals, Clause, clause, Clauses, no_clauses, clauses}
 use Rattle.lp_plain.specs.declared.head.HeadPair.{HeadPair}
 use Rattle.lp_plain.specs.declared.head.Key.{Key}

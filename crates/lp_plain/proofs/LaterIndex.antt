@@ -1,10 +1,10 @@
 -- The clauses that the index finds, in a later bank and behind clauses that come to the table.
-use Rattle.std.proofs.Common.{◌≡◌, ℕ, zero, suc, ◌+◌, ◌-◌, ◌<◌, ◌≤◌, List, [], ◌∷◌, ◌++◌, map, length, cond, Option, None, Some, refl, sym, ap, ◌∙◌, subst, arith, Bool}
+use Rattle.std.proofs.Common.{◌≡◌, ℕ, zero, suc, ◌+◌, ◌-◌, ◌<◌, ◌≤◌, List, [], ◌∷◌, ◌++◌, length, cond, Option, refl, sym, ap, ◌∙◌, subst, arith}
 use Rattle.std.specs.Prelude.{All, filter, slice_get}
 use Rattle.std.proofs.lemmas.List.{map-append}
 use Rattle.std.proofs.lemmas.List.Elements.{All-nil, All-cons, All-head, All-tail, All-append}
 use Rattle.lp_lemmas.proofs.Lists.{get_append, get_below}
-use Rattle.lp_term.specs.Nodes.{Nodes, Extends, tree}
+use Rattle.lp_term.specs.Nodes.{Nodes, Extends}
 use Rattle.lp_pattern.specs.Growing.{GoesOn}
 use Rattle.lp_plain.specs.declared.table.Rule.{Rule}
 use Rattle.lp_plain.specs.declared.table.Span.{Span}

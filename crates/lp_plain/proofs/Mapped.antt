@@ -85,7 +85,7 @@ instantiate_subst σ (atom a) = refl
 instantiate_subst σ (abs b) = ap abs (instantiate_subst (lifted σ) b ∙ ap (λ τ. subst τ b) (fun_ext (lifted_up σ)))
 instantiate_subst σ (app t u) = let e = instantiate_subst σ t in let f = instantiate_subst σ u in cc
 
-lifted_past : (σ : ℕ → Term) (t : Term) → instantiate (lifted σ) (shift 0 1 t) ≡ shift 0 1 (instantiate σ t)
+pub lifted_past : (σ : ℕ → Term) (t : Term) → instantiate (lifted σ) (shift 0 1 t) ≡ shift 0 1 (instantiate σ t)
 lifted_past σ t =
     instantiate_subst (lifted σ) (shift 0 1 t) ∙ ap (λ f. subst f (shift 0 1 t)) (fun_ext (lifted_up σ)) ∙ ap (subst (up σ)) (shift_one t) ∙ sym (up_suc σ t) ∙ sym (shift_one (subst σ t)) ∙ ap (shift 0 1) (sym (instantiate_subst σ t))
 

@@ -1,5 +1,5 @@
 -- The clauses of a program are put into the table, formula by formula, while the bank grows.
-use Rattle.std.proofs.Common.{◌≡◌, ℕ, suc, ◌+◌, ◌<◌, ◌≤◌, List, [], ◌∷◌, ◌++◌, map, length, take, inl, inr, refl, sym, ap, ◌∙◌, subst, arith, add-one, Option, None, Some}
+use Rattle.std.proofs.Common.{◌≡◌, ℕ, suc, ◌<◌, ◌≤◌, List, [], ◌∷◌, ◌++◌, map, length, take, inl, inr, refl, sym, ap, ◌∙◌, subst, arith, Option, Some}
 use Rattle.std.specs.Prelude.{All, slice_get}
 use Rattle.std.proofs.lemmas.List.{map-append}
 use Rattle.std.proofs.lemmas.List.Elements.{All-cons, All-head, All-tail, All-weaker}
@@ -7,7 +7,7 @@ use Rattle.lp_lemmas.proofs.Elements.{All_empty, All_pushed}
 use Rattle.lp_lemmas.proofs.Lists.{get_map, get_from_map, take_suc}
 use Rattle.lp_calculus.specs.Typing.{Scheme}
 use Rattle.lp_calculus.specs.Term.{Term}
-use Rattle.lp_term.specs.Nodes.{Nodes, Extends, tree}
+use Rattle.lp_term.specs.Nodes.{Nodes, Extends}
 use Rattle.lp_term.proofs.Trees.{extends_same, extends-trans}
 use Rattle.lp_model.specs.declared.clause.Clause.{Clause as CodeClause}
 use Rattle.lp_model.specs.declared.program.ClauseFormula.{ClauseFormula}

@@ -1,12 +1,12 @@
 -- Back at an alternative its branch is at work.
 use Rattle.std.proofs.Common.{◌≡◌, ℕ, List, [], ◌∷◌, ◌++◌, length, take, refl, sym, ap, ◌∙◌, subst, arith, Option}
-use Rattle.lp_model.specs.Branch.{Entry, Branch}
+use Rattle.lp_model.specs.Branch.{Entry}
 use Rattle.lp_plain.specs.declared.choice.Choice.{Choice}
 use Rattle.lp_plain.specs.declared.choice.Untried.{Untried}
 use Rattle.lp_plain.specs.declared.machine.Machine.{Machine}
-use Rattle.lp_plain.specs.Entries.{Around, AreEntries, IsBranchAt, IsChoiceAt, KeepsGoals, Reads}
+use Rattle.lp_plain.specs.Entries.{Around, AreEntries, KeepsGoals, Reads}
 use Rattle.lp_plain.specs.Restoring.{IsTaken, GoesBack}
-use Rattle.lp_plain.specs.Scopes.{Blocks, blocks_of, blocks_at}
+use Rattle.lp_plain.specs.Scopes.{blocks_of, blocks_at}
 use Rattle.lp_plain.specs.Tables.{shown}
 use Rattle.lp_plain.proofs.Frames.{reads_on}
 
@@ -46,3 +46,7 @@ goes_back m n q c rest from u t k eg en et ec eq ed = record {
     next_type = et ∙ t.next_type ∙ i.next_type;
   };
 }
+
+pub no_push : {X : Type 0} (xs : List X) (x : X) → xs ++ x ∷ [] ≡ [] → ⊥
+no_push [] x e = cc
+no_push (y ∷ xs) x e = cc

@@ -1,15 +1,14 @@
 -- What a cut leaves of the tasks of alternatives.
-use Rattle.std.proofs.Common.{◌≡◌, ℕ, zero, suc, ◌+◌, ◌-◌, ◌<◌, ◌≤◌, List, [], ◌∷◌, ◌++◌, length, take, drop, refl, sym, ap, ◌∙◌, subst, arith, append-nil, append_assoc, min, nat_lt, Bool, true, false, Option}
+use Rattle.std.proofs.Common.{◌≡◌, ℕ, zero, suc, ◌+◌, ◌-◌, ◌<◌, ◌≤◌, List, [], ◌∷◌, ◌++◌, length, take, drop, refl, sym, ap, ◌∙◌, arith, append-nil, append_assoc, min, nat_lt, Bool, true, false}
 use Rattle.std.specs.Prelude.{All, ◌||◌}
 use Rattle.std.proofs.lemmas.Bool.Decides.{nat_tests}
 use Rattle.std.proofs.lemmas.List.{length-append}
 use Rattle.std.proofs.lemmas.List.Elements.{All-head, All-tail}
 use Rattle.lp_model.specs.Branch.{Task}
 use Rattle.lp_model.specs.Skeleton.{oldest}
-use Rattle.lp_plain.specs.declared.choice.Choice.{Choice}
 use Rattle.lp_plain.specs.declared.machine.Machine.{Machine}
 use Rattle.lp_plain.proofs.Growing.{all_taken}
-use Rattle.lp_plain.specs.Stacks.{stack_of, base_of, HaveTasks, up_to_mark, IsMarkOf, CutsTasks}
+use Rattle.lp_plain.specs.Stacks.{stack_of, base_of, HaveTasks, IsMarkOf, CutsTasks}
 
 dropped_front : {X : Type 0} (xs ys : List X) (n : ℕ) → n ≡ length xs → drop n (xs ++ ys) ≡ ys
 dropped_front [] ys zero e = refl

@@ -1,5 +1,5 @@
 -- The query's variables, their place, and the branch that a search begins with.
-use Rattle.std.proofs.Common.{◌≡◌, ℕ, zero, suc, ◌+◌, ◌-◌, ◌<◌, List, [], ◌∷◌, ◌++◌, map, reverse, length, refl, sym, ap, ◌∙◌, subst, arith, append-nil, inl, inr, Option, None, Some, nat_lt, Bool, true, false, if◌then◌else◌}
+use Rattle.std.proofs.Common.{◌≡◌, ℕ, zero, suc, ◌+◌, ◌-◌, ◌<◌, List, [], ◌∷◌, ◌++◌, map, reverse, length, refl, sym, ap, ◌∙◌, subst, arith, append-nil, inl, inr, None, Some, nat_lt, Bool, false, if◌then◌else◌}
 use Rattle.std.specs.Prelude.{◌⊎◌, All, slice_get, min, ◌^◌}
 use Rattle.std.proofs.lemmas.Bool.Decides.{nat_tests}
 use Rattle.std.proofs.lemmas.List.{map-append}
@@ -12,7 +12,7 @@ use Rattle.lp_term.specs.Nodes.{Nodes, Extends, tree}
 use Rattle.lp_term.specs.Spine.{LooseBelow}
 use Rattle.lp_term.specs.Within.{AreTermsOf, IsTermOf}
 use Rattle.lp_term.specs.declared.node.TermId.{TermId}
-use Rattle.lp_model.specs.Branch.{Entry, entries, nothing_written}
+use Rattle.lp_model.specs.Branch.{entries, nothing_written}
 use Rattle.lp_model.specs.Flat.{Goals, goal_list, instantiate_goals}
 use Rattle.lp_model.specs.Search.{vars_from}
 use Rattle.lp_plain.specs.declared.frame.Frame.{Frame}

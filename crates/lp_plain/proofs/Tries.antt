@@ -1,5 +1,5 @@
 -- What is left to try: all candidates of a call, those behind one of them, and those of an alternative to which the search goes back.
-use Rattle.std.proofs.Common.{◌≡◌, ℕ, List, [], ◌∷◌, ◌++◌, map, length, take, refl, sym, ap, ◌∙◌, subst, Option, None, Some, nat_eq}
+use Rattle.std.proofs.Common.{◌≡◌, ℕ, List, [], ◌∷◌, refl, sym, subst, Option, Some, nat_eq}
 use Rattle.std.specs.HashMap.{get}
 use Rattle.lp_calculus.specs.Term.{Atom, Term}
 use Rattle.lp_model.specs.Flat.{Clause, Clauses}
@@ -15,7 +15,6 @@ use Rattle.lp_plain.specs.Assuming.{Lists, HasAssumed, links, lists_of}
 use Rattle.lp_plain.specs.Candidates.{AreLeft, IsChain, first_for, in_turn, nexts, numbers}
 use Rattle.lp_plain.specs.Newest.{IsNewest}
 use Rattle.lp_plain.specs.Restoring.{IsTaken}
-use Rattle.lp_plain.specs.Scopes.{blocks_of, blocks_at}
 use Rattle.lp_plain.specs.Trying.{AreApplied, AreCandidates, AreOfProgram, AreTries, HasProgram, IsCallOf, IsTried, all_clauses, first_in, lists_at}
 use Rattle.lp_plain.proofs.Trying.{candidates_are, program_for}
 

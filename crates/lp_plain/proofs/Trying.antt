@@ -1,12 +1,12 @@
 -- The candidates that are found are the clauses that the definition tries, in its order.
-use Rattle.std.proofs.Common.{◌≡◌, ℕ, zero, suc, ◌-◌, ◌<◌, ◌≤◌, List, [], ◌∷◌, ◌++◌, map, length, cond, refl, sym, ap, ◌∙◌, subst, arith, Bool, true, false, Option, None, Some, nat_eq}
-use Rattle.std.specs.Prelude.{filter, slice_get, ◌&&◌}
+use Rattle.std.proofs.Common.{◌≡◌, ℕ, zero, suc, ◌-◌, List, [], ◌∷◌, ◌++◌, map, length, cond, refl, sym, ap, ◌∙◌, subst, arith, Bool, true, false, Option, None, Some, nat_eq}
+use Rattle.std.specs.Prelude.{filter, ◌&&◌}
 use Rattle.std.proofs.lemmas.Bool.Decides.{nat_tests}
 use Rattle.lp_lemmas.proofs.Numbers.{nat_eq_self}
 use Rattle.lp_calculus.specs.Spine.{head_of, arguments}
 use Rattle.lp_calculus.specs.Term.{Term, Atom, index, atom, abs, app, constant, integer, text, eigen, logic, param}
 use Rattle.lp_calculus.specs.Types.{Ty}
-use Rattle.lp_term.specs.Nodes.{Nodes, tree}
+use Rattle.lp_term.specs.Nodes.{Nodes}
 use Rattle.lp_model.specs.Flat.{Clause, clause, Clauses, no_clauses, clauses, clause_list}
 use Rattle.lp_model.specs.Same.{same_name}
 use Rattle.lp_model.specs.Search.{candidates, first_key, has_head, may_meet, passes as lets_pass}
@@ -18,7 +18,7 @@ use Rattle.lp_plain.specs.declared.head.Key.{Key}
 use Rattle.lp_plain.specs.declared.table.Rule.{Rule}
 use Rattle.lp_plain.specs.declared.table.Span.{Span}
 use Rattle.lp_plain.specs.declared.table.Table.{Table}
-use Rattle.lp_plain.specs.Assuming.{Lists, AreAssumed, head_at, head_term, is_for, is_head}
+use Rattle.lp_plain.specs.Assuming.{Lists, AreAssumed, head_term, is_for, is_head}
 use Rattle.lp_plain.specs.Candidates.{constant_at, constant_of, in_turn, is_number, is_of, is_text_of, meets, meets_at, numbers, numbers_from, numbers_in, passes}
 use Rattle.lp_plain.specs.Heads.{IsKey}
 use Rattle.lp_plain.specs.Starts.{AreProgramOf}

@@ -1,10 +1,10 @@
 -- Assumed clauses: for which clauses of the definition the numbers of assumptions stand, and what the trees find of them.
-use Rattle.std.specs.Prelude.{◌≡◌, ℕ, ◌<◌, ◌≤◌, ◌⊎◌, nat_eq, Bool, true, false, List, [], ◌∷◌, ◌++◌, map, filter, length, All, Option, None, Some, slice_get}
+use Rattle.std.specs.Prelude.{◌≡◌, ℕ, ◌<◌, ◌≤◌, ◌⊎◌, nat_eq, Bool, false, List, [], ◌∷◌, ◌++◌, map, filter, length, All, Option, None, Some, slice_get}
 use Rattle.lp_calculus.specs.Instance.{instance_term}
 use Rattle.lp_calculus.specs.Spine.{head_of}
 use Rattle.lp_calculus.specs.Term.{Term, atom, constant, eigen}
 use Rattle.lp_calculus.specs.Types.{instance}
-use Rattle.lp_term.specs.Nodes.{Nodes}
+use Rattle.lp_term.specs.Nodes.{Nodes, Extends}
 use Rattle.lp_model.specs.Branch.{Answer, Task, both_written, nothing_written}
 use Rattle.lp_model.specs.Flat.{Clause, clause, Clauses, Written, collect_clauses, instantiate_clauses, map_clause, map_written, same_type, type_clause, type_clauses, written_in_clauses}
 use Rattle.lp_model.specs.Index.{instantiate, lifted}
@@ -19,7 +19,6 @@ use Rattle.lp_plain.specs.declared.instance.Values.{Values}
 use Rattle.lp_plain.specs.declared.machine.Machine.{Machine}
 use Rattle.lp_plain.specs.declared.newest.Newest.{Newest}
 use Rattle.lp_plain.specs.declared.openness.Standing.{Standing}
-use Rattle.lp_plain.specs.declared.table.Span.{Span}
 use Rattle.lp_plain.specs.declared.table.Table.{Table}
 use Rattle.lp_plain.specs.declared.types.Renewal.{Renewal}
 use Rattle.lp_plain.specs.Candidates.{IsChain}
@@ -28,6 +27,7 @@ use Rattle.lp_plain.specs.Keeping.{KeepsCourse}
 use Rattle.lp_plain.specs.Newest.{IsNewest}
 use Rattle.lp_plain.specs.Renewal.{renewing}
 use Rattle.lp_plain.specs.Scopes.{Blocks, blocks_of}
+use Rattle.lp_plain.specs.Within.{StandsIn}
 use Rattle.lp_plain.specs.Tables.{IsNumbered, IsRule, Never, shown}
 
 -- a clause with these values for the variables around it and new numbers for the type variables around it; clauses so
@@ -70,6 +70,16 @@ pub record Lists : Type 0 where
 
 abbrev pub lists_of : Machine → Lists
 lists_of m = record { bank = m.bank; table = m.table; blocks = blocks_of m.scopes; assumptions = m.assumptions.items; newest = m.newest.items; standings = m.standings.items }
+
+-- lists to which more came
+pub record ListsGrow (k l : Lists) : Type 0 where
+  pub bank : Extends k.bank l.bank
+  pub table : l.table ≡ k.table
+  pub blocks : GoesOn k.blocks.blocks l.blocks.blocks
+  pub values : GoesOn k.blocks.values l.blocks.values
+  pub assumptions : GoesOn k.assumptions l.assumptions
+  pub newest : GoesOn k.newest l.newest
+  pub standings : GoesOn k.standings l.standings
 
 -- the assumption of this number stands for the clause
 pub record IsAssumed (l : Lists) (k : ℕ) (c : Clause) : Type 0 where
@@ -132,9 +142,9 @@ pub record IsLaterAround (trees standings : ℕ) (a d : Around) : Type 0 where
   pub written : (o : Option ℕ) → IsNumberIn standings o → d.written o ≡ a.written o
   pub mark : d.mark ≡ a.mark
 
--- a goal is taken apart, and new numbers stand for what it assumes
+-- a goal is taken apart, new numbers stand for what it assumes, and all that is kept stands in the bank
 abbrev pub AssumesFor : (old new : Machine) → Around → View Task Answer → Type 0
-AssumesFor old new a v = (d : Around) × IsLaterAround (length old.newest.items) (length old.standings.items) a d × ArePlaced new d × ArePartsOf old new d v
+AssumesFor old new a v = (d : Around) × IsLaterAround (length old.newest.items) (length old.standings.items) a d × ArePlaced new d × StandsIn new × ArePartsOf old new d v
 
 -- assumptions and trees are as they were
 pub record KeepsAssumed (old new : Machine) : Type 0 where
@@ -167,6 +177,7 @@ IsTreeOf old new from to before tree = ((tree ≡ before) × (to ≤ from)) ⊎ 
 -- a standing more, of this number
 pub record IsStood (old new : Machine) (free : ℕ) (p : Place) (number : ℕ) : Type 0 where
   pub bank : new.bank ≡ old.bank
+  pub index : new.index ≡ old.index
   pub table : new.table ≡ old.table
   pub scopes : new.scopes ≡ old.scopes
   pub frames : new.frames ≡ old.frames
@@ -174,6 +185,28 @@ pub record IsStood (old new : Machine) (free : ℕ) (p : Place) (number : ℕ) :
   pub assumed : KeepsAssumed old new
   pub counted : number ≡ length old.standings.items
   pub more : new.standings.items ≡ old.standings.items ++ record { free = free; values = p.values; older = p.standing } ∷ []
+
+-- a frame's goals have the assumptions of the place
+abbrev pub NamesAsIn : Place → Frame → Type 0
+NamesAsIn p f = (f.place.assumed ≡ p.assumed) × (f.place.standing ≡ p.standing)
+
+-- frames came with the assumptions of the place
+abbrev pub HasFramesAt : (old new : Machine) → Place → Type 0
+HasFramesAt old new p = (more : List Frame) × (new.frames.items ≡ old.frames.items ++ more) × All (NamesAsIn p) more
+
+-- goals are put in front that have the assumptions of the place, and nothing is lost
+pub record GrowsAt (old new : Machine) (p : Place) : Type 0 where
+  pub lists : ListsGrow (lists_of old) (lists_of new)
+  pub frames : HasFramesAt old new p
+  pub index : new.index ≡ old.index
+  pub denied : new.denied ≡ old.denied
+
+-- goals are put in front, and nothing is lost
+pub record GrowsOn (old new : Machine) : Type 0 where
+  pub lists : ListsGrow (lists_of old) (lists_of new)
+  pub frames : GoesOn old.frames.items new.frames.items
+  pub index : new.index ≡ old.index
+  pub denied : new.denied ≡ old.denied
 
 -- no frame more, or one of this place
 abbrev pub HasFrameAt : (old new : Machine) → Place → Type 0

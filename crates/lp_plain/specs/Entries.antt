@@ -130,16 +130,22 @@ pub record IsChoiceAt (m : Machine) (a : Around) (c : Choice) (b : Branch) : Typ
   pub next : c.next ≡ b.next
   pub next_type : c.next_type ≡ b.next_type
 
--- the branch at work has become these tasks: the first one is at work, a second one is the newest alternative
+-- the branch at work has become these tasks: the first one is at work, a second one is the newest alternative above those
+abbrev pub AreTasksAt : List Choice → Machine → Around → List Task → Type 0
+AreTasksAt cs new a (Go b ∷ []) = IsBranchAt new a b × (new.choices.items ≡ cs)
+AreTasksAt cs new a (Go b ∷ Go d ∷ []) = IsBranchAt new a b × ((c : Choice) × (new.choices.items ≡ cs ++ c ∷ []) × IsChoiceAt new a c d)
+AreTasksAt cs new a ts = ⊥
+
 abbrev pub AreTasks : (old new : Machine) → Around → List Task → Type 0
-AreTasks old new a (Go b ∷ []) = IsBranchAt new a b × (new.choices.items ≡ old.choices.items)
-AreTasks old new a (Go b ∷ Go d ∷ []) = IsBranchAt new a b × ((c : Choice) × (new.choices.items ≡ old.choices.items ++ c ∷ []) × IsChoiceAt new a c d)
-AreTasks old new a ts = ⊥
+AreTasks old new a ts = AreTasksAt old.choices.items new a ts
 
 -- so are those of a goal that is taken apart
+abbrev pub ArePartsAt : List Choice → Machine → Around → View Task Answer → Type 0
+ArePartsAt cs new a (Parts ts) = AreTasksAt cs new a ts
+ArePartsAt cs new a v = ⊥
+
 abbrev pub ArePartsOf : (old new : Machine) → Around → View Task Answer → Type 0
-ArePartsOf old new a (Parts ts) = AreTasks old new a ts
-ArePartsOf old new a v = ⊥
+ArePartsOf old new a v = ArePartsAt old.choices.items new a v
 
 -- a goal in a place
 abbrev pub entry_at : Around → Place → Goal → Entry

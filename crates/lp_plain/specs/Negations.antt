@@ -1,7 +1,10 @@
 -- The search of a negated goal inside of another one.
-use Rattle.std.specs.Prelude.{◌≡◌, ℕ, ◌+◌, ◌≤◌, false, length, Option, Some}
+use Rattle.std.specs.Prelude.{◌≡◌, ℕ, ◌+◌, ◌≤◌, false, [], ◌∷◌, length, Option, Some}
 use Rattle.lp_model.specs.declared.ending.Ending.TheVariants.{Steps, OpenNot, Deep}
+use Rattle.lp_model.specs.Branch.{Answer, Task, Go}
 use Rattle.lp_model.specs.Pair.{Closing}
+use Rattle.lp_model.specs.Search.{has_no_pairs}
+use Rattle.lp_model.specs.Skeleton.{View, Denies}
 use Rattle.lp_pattern.specs.Stripping.{IsShut}
 use Rattle.lp_pattern.specs.Under.{IsReading}
 use Rattle.lp_plain.specs.declared.choice.Denial.{Denial}
@@ -12,7 +15,9 @@ use Rattle.lp_plain.specs.declared.openness.Openness.TheVariants.{Closed, Open}
 use Rattle.lp_plain.specs.declared.openness.Standing.{Standing}
 use Rattle.lp_plain.specs.declared.outcome.Turn.{Turn}
 use Rattle.lp_plain.specs.declared.outcome.Turn.TheVariants.{On, Ended}
+use Rattle.lp_plain.specs.Entries.{Around, IsBranchAt}
 use Rattle.lp_plain.specs.Keeping.{HasOneMore}
+use Rattle.lp_plain.specs.Stacks.{HaveTasks, IsMarkOf}
 use Rattle.lp_plain.specs.Standings.{OfFree, OfStanding}
 
 -- what the search returns to behind a negated goal
@@ -37,3 +42,10 @@ Takes (Ended OpenNot) goals old new behind = AreFound old goals Open × (new.cou
 Takes (Ended Deep) goals old new behind = AreFound old goals Openness.Deep × (new.counts.steps ≡ old.counts.steps + 1)
 Takes (Ended Steps) goals old new behind = old.counts.limit ≤ old.counts.steps
 Takes turn goals old new behind = ⊥
+
+-- the view of a negated goal whose search begins: its task is at work, above no alternative of its own, in which a cut keeps none, and its answers are final
+-- where no pair is residual
+abbrev pub IsDenied : (new : Machine) → Around → View Task Answer → Type 0
+IsDenied new a (Denies (Go d) f (Go b ∷ [])) = IsBranchAt new a d × (new.branch.pairs.items ≡ []) × (d.pairs ≡ []) × (f ≡ has_no_pairs) × HaveTasks
+    new [] × IsMarkOf new [] (length new.choices.items) 0
+IsDenied new a v = ⊥

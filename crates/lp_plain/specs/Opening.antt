@@ -6,6 +6,7 @@ use Rattle.lp_term.specs.Spine.{LooseBelow}
 use Rattle.lp_term.specs.declared.node.TermId.{TermId}
 use Rattle.lp_plain.specs.declared.frame.Place.{Place}
 use Rattle.lp_plain.specs.declared.machine.Machine.{Machine}
+use Rattle.lp_plain.specs.Assuming.{KeepsAssumed}
 use Rattle.lp_plain.specs.Entries.{GrowsGoals, IsAt}
 use Rattle.lp_plain.specs.Scopes.{blocks_of}
 use Rattle.lp_plain.specs.Within.{StandsIn}
@@ -18,6 +19,11 @@ cons u σ (suc i) = σ i
 -- the term is the next logic variable, of this level
 pub record IsNewVariable (old new : Machine) (level : ℕ) (t : TermId) : Type 0 where
   pub grows : GrowsGoals old new
+  pub frames : new.frames ≡ old.frames
+  pub assumed : KeepsAssumed old new
+  pub standings : new.standings ≡ old.standings
+  pub index : new.index ≡ old.index
+  pub denied : new.denied ≡ old.denied
   pub choices : new.choices.items ≡ old.choices.items
   pub next : new.branch.next ≡ old.branch.next + 1
   pub next_type : new.branch.next_type ≡ old.branch.next_type
@@ -27,6 +33,11 @@ pub record IsNewVariable (old new : Machine) (level : ℕ) (t : TermId) : Type 0
 -- the place is one level up, and the term the eigenconstant of that level
 pub record IsRaised (old new : Machine) (place above : Place) (t : TermId) : Type 0 where
   pub grows : GrowsGoals old new
+  pub frames : new.frames ≡ old.frames
+  pub keeps : KeepsAssumed old new
+  pub standings : new.standings ≡ old.standings
+  pub index : new.index ≡ old.index
+  pub denied : new.denied ≡ old.denied
   pub choices : new.choices.items ≡ old.choices.items
   pub branch : new.branch ≡ old.branch
   pub within : t.0 < length new.bank.terms
@@ -41,6 +52,11 @@ pub record IsRaised (old new : Machine) (place above : Place) (t : TermId) : Typ
 pub record IsBoundBy (old new : Machine) (place inner : Place) (value : TermId) : Type 0 where
   pub bank : new.bank ≡ old.bank
   pub grows : GrowsGoals old new
+  pub frames : new.frames ≡ old.frames
+  pub keeps : KeepsAssumed old new
+  pub standings : new.standings ≡ old.standings
+  pub index : new.index ≡ old.index
+  pub denied : new.denied ≡ old.denied
   pub choices : new.choices.items ≡ old.choices.items
   pub branch : new.branch ≡ old.branch
   pub opened : (σ : ℕ → Term) → IsAt old.bank (blocks_of old.scopes) place σ → IsAt new.bank (blocks_of new.scopes) inner (cons (tree old.bank value.0) σ)

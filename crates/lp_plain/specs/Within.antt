@@ -1,7 +1,5 @@
 -- That the numbers of terms which a search keeps stand in its bank: those in the table, the values of variables, goals known at run time.
-use Rattle.std.specs.Prelude.{ℕ, ◌<◌, ◌≤◌, List, All, length, Option, None, Some}
-use Rattle.lp_term.specs.Nodes.{Nodes}
-use Rattle.lp_plain.specs.declared.frame.Frame.{Frame}
+use Rattle.std.specs.Prelude.{ℕ, ◌<◌, All, length, Option, None, Some}
 use Rattle.lp_plain.specs.declared.frame.Todo.{Todo}
 use Rattle.lp_plain.specs.declared.head.Key.{Key}
 use Rattle.lp_plain.specs.declared.machine.Machine.{Machine}
@@ -39,9 +37,9 @@ pub record IsTableIn (n : ℕ) (t : Table) : Type 0 where
   pub goals : All (IsFlatIn n) t.goals.items
   pub rules : All (IsRuleIn n) t.rules.items
 
--- a goal that is known at run time
+-- there are goals, or one that is known at run time
 abbrev pub IsTodoIn : ℕ → Todo → Type 0
-IsTodoIn n (Todo.Goals s) = Unit {0}
+IsTodoIn n (Todo.Goals s) = s.from < s.to
 IsTodoIn n (Todo.Term t) = t.0 < n
 
 -- the table, the values of variables and the goals of a search are of its bank

@@ -6,8 +6,9 @@ ghost use Rattle.lp_model.specs.Flat.{Assume, Clause, Clauses, Goal, Goals, clau
 ghost use Rattle.lp_model.specs.Search.{look_goal};
 ghost use Rattle.lp_plain.specs.declared.head.Head.{Head};
 ghost use Rattle.lp_plain.specs.declared.types.Renewal.{Renewal};
-ghost use Rattle.lp_plain.specs.Assuming.{ArePlaced, AssumesFor, AssumesMore, HasAssumed, IsOneMore, IsPlaceAt, IsStood, IsTreeOf, clause_in, clauses_in, head_at, lists_of, written_at};
+ghost use Rattle.lp_plain.specs.Assuming.{ArePlaced, AssumesFor, AssumesMore, GrowsOn, HasAssumed, IsOneMore, IsPlaceAt, IsStood, IsTreeOf, clause_in, clauses_in, head_at, lists_of, written_at};
 ghost use Rattle.lp_plain.specs.Entries.{Around, HasValues, IsBehind, IsOf, entry_at, in_scope};
+ghost use Rattle.lp_plain.specs.Marks.{PutsMarks};
 ghost use Rattle.lp_plain.specs.Scopes.{blocks_of};
 ghost use Rattle.lp_plain.specs.Tables.{AreClausesOf, IsNumbered, IsRule, Never, shown};
 ghost use Rattle.lp_plain.specs.Within.{StandsIn};
@@ -133,6 +134,10 @@ pub(crate) fn put_assume(
     behind: Option<usize>,
 ) -> Result<(), Memory>
     ensures counts { machine.new.counts ≡ machine.old.counts }
+    ensures stands { OnOk result (StandsIn machine.old → StandsIn machine.new) }
+    ensures grown { OnOk result (GrowsOn machine.old machine.new) }
+    ensures choices { OnOk result (machine.new.choices.items ≡ machine.old.choices.items) }
+    ensures marks { OnOk result (PutsMarks machine.old machine.new place behind machine.new.branch.goals) }
     ensures parts { OnOk result ((a : Around) (cs : Clauses) (hs : Goals) (σ : ℕ → Term) (b : Branch) → StandsIn machine.old → ArePlaced machine.old a → IsPlaceAt (lists_of machine.old) a place → AreClausesOf machine.old.bank machine.old.table rules cs →
         IsNumbered (shown machine.old.table).frees free (λ f. collect_clauses f 0 cs) → IsOf machine.old place goals hs σ → IsBehind machine.old a behind b → (u n height : ℕ) (P : List Clause) →
         let g : Goal = Assume (written_at σ place.values.types (written_in_clauses cs)) (clauses_in σ place.values.types cs) (in_scope σ place.values.types hs) in AssumesFor machine.old machine.new a (look_goal u n P height (entry_at a place g) b g)) }

@@ -1,8 +1,26 @@
 // One try of a clause for a goal.
-ghost use Rattle.std.specs.Prelude.{◌≡◌, ℕ, ◌+◌, length, IfOk};
-ghost use Rattle.lp_term.specs.Nodes.{Extends};
-ghost use Rattle.lp_plain.specs.Renewal.{Fits};
+ghost use Rattle.std.specs.Prelude.{◌≡◌, ℕ, ◌+◌, ◌<◌, ◌∷◌, ◌++◌, List, All, Some, map, length, drop, slice_get, IfOk, OnOk};
+ghost use Rattle.lp_calculus.specs.Types.{Ty};
+ghost use Rattle.lp_calculus.specs.Term.{Term, Atom, atom};
+ghost use Rattle.lp_calculus.specs.Instance.{instance_term};
+ghost use Rattle.lp_term.specs.Nodes.{Extends, Nodes, tree, type_tree};
+ghost use Rattle.lp_term.specs.declared.node.TermId.{TermId};
+ghost use Rattle.lp_model.specs.Rule.{type_pairs as definition_pairs};
+ghost use Rattle.lp_pattern.specs.Reading.{paired, type_pairs_of};
+ghost use Rattle.lp_plain.specs.declared.table.Rule.{Rule};
+ghost use Rattle.lp_model.specs.Branch.{Entry};
+ghost use Rattle.lp_model.specs.Flat.{Goal};
+ghost use Rattle.lp_plain.specs.Entries.{Around, IsListAt, KeepsGoals, Reads, placed};
+ghost use Rattle.lp_plain.specs.Heads.{pair_in};
+ghost use Rattle.lp_plain.specs.Instances.{AreValues, IsNoParameter};
+ghost use Rattle.lp_plain.specs.Meeting.{IsMet};
+ghost use Rattle.lp_plain.specs.Renewal.{Fits, renewing};
+ghost use Rattle.lp_plain.specs.Scopes.{IsScope};
 ghost use Rattle.lp_plain.specs.Slots.{AreIn, IsSlotted, AreSlotted};
+ghost use Rattle.lp_plain.specs.Attempted.{AreNewTypes, ArePaired, AreWrittenIn, IsClauseOf, IsOpened, IsPairAdded, becomes, types_of, with_first};
+ghost use Rattle.lp_plain.specs.Trials.{IsTriedAs};
+ghost use Rattle.lp_plain.specs.Unifying.{IsBoundIn};
+ghost use Rattle.lp_plain.specs.Written.{IsWritten};
 
 use crate::act::{Act, Try};
 use crate::candidates::Candidate;
@@ -12,15 +30,17 @@ use crate::head::HeadPair;
 use crate::instance::{Values, instance};
 use crate::machine::Machine;
 use crate::scope::Scopes;
-use crate::types::{Renewal, renewed};
+use crate::types::{Renewal, all_renewed};
 use crate::unified::{Unified, unify};
 use lp_base::Memory;
 use lp_model::Pair;
-use lp_term::{Bank, Spine, TermId, TermNode, TypeId, put_logic, spine_of};
+use lp_term::{Bank, TermId, TermNode, TypeId, put_logic, spine_of};
 use std::alloc::Global;
 
 // The number of the candidate's clause, and what stands around it. A program clause gets new type variables.
-fn clause_of(machine: &mut Machine, candidate: Candidate) -> Result<(usize, Values), Memory> {
+fn clause_of(machine: &mut Machine, candidate: Candidate) -> Result<(usize, Values), Memory>
+    ensures { IfOk result (IsClauseOf machine.old machine.new candidate) }
+{
     match candidate {
         Candidate::Assumed(number) => {
             let Some(assumption) = machine.assumptions.get(number) else {
@@ -37,7 +57,8 @@ fn clause_of(machine: &mut Machine, candidate: Candidate) -> Result<(usize, Valu
 
 // New numbers for the type variables of a program clause.
 fn new_types(machine: &mut Machine, rule: usize) -> Result<Renewal, Memory>
-    ensures { IfOk result (λ r. Fits r) }
+    ensures fits { IfOk result (λ r. Fits r) }
+    ensures new { IfOk result (AreNewTypes machine.old machine.new rule) }
 {
     let found = machine.table.rule(rule)?;
     let count = found.type_vars as u64;
@@ -102,7 +123,9 @@ fn open(
     args: &[TermId],
     level: u64,
     around: Values,
-) -> Result<Values, Memory> {
+) -> Result<Values, Memory>
+    ensures { IfOk result (λ inner. (r : Rule) → slice_get machine.old.table.rules.items rule ≡ Some r → IsOpened machine.old machine.new r args.now level around inner) }
+{
     let found = machine.table.rule(rule)?;
     let values = slot_values(
         machine.alloc,
@@ -123,27 +146,29 @@ fn open(
     })
 }
 
-// The type arguments of two constants, place by place.
+// The type arguments of a constant.
+fn type_args(alloc: Global, bank: &Bank, term: TermId) -> Result<Vec<TypeId>, Memory>
+    ensures within { IfOk result (λ types. All (λ t. t.0 < length bank.now.types) types.items) }
+    ensures types { IfOk result (λ types. map (λ t. type_tree bank.now t.0) types.items ≡ types_of (tree bank.now term.0)) }
+{
+    let TermNode::Const(_, args) = bank.term_node(term) else {
+        return Ok(Vec::new(alloc));
+    };
+    let types: Vec<TypeId> = Vec::from_slice(alloc, args)?;
+    Ok(types)
+}
+
+// The types, place by place.
 fn zipped_types(
     alloc: Global,
-    bank: &Bank,
-    goal: TermId,
-    clause: TermId,
-) -> Result<Vec<(TypeId, TypeId)>, Memory> {
+    lefts: &[TypeId],
+    rights: &[TypeId],
+) -> Result<Vec<(TypeId, TypeId)>, Memory>
+    ensures { IfOk result (λ pairs. pairs.items ≡ paired lefts.now rights.now) }
+{
     let mut pairs = Vec::new(alloc);
-    let TermNode::Const(_, lefts) = bank.term_node(goal) else {
-        return Ok(pairs);
-    };
-    let TermNode::Const(_, rights) = bank.term_node(clause) else {
-        return Ok(pairs);
-    };
-    let mut place = 0usize;
-    'arguments: for left in lefts.iter().copied() {
-        let Some(right) = rights.get(place) else {
-            return Ok(pairs);
-        };
-        pairs.push((left, *right))?;
-        place = place.saturating_add(1);
+    'places: for (left, right) in lefts.iter().zip(rights.iter()) {
+        pairs.push((*left, *right))?;
     }
     Ok(pairs)
 }
@@ -155,14 +180,43 @@ fn type_pairs(
     goal: TermId,
     clause: TermId,
     types: Renewal,
-) -> Result<Vec<(TypeId, TypeId)>, Memory> {
-    let old = zipped_types(alloc, bank, goal, clause)?;
-    let mut new = Vec::new(alloc);
-    'both: for pair in old.iter().copied() {
-        let right = renewed(alloc, bank, pair.1, types)?;
-        new.push((pair.0, right))?;
-    }
-    Ok(new)
+) -> Result<Vec<(TypeId, TypeId)>, Memory>
+    ensures kept { Extends bank.old bank.new }
+    ensures pairs { IfOk result (λ pairs. (d : Nodes) → Extends bank.new d → (θ : ℕ → Ty) → (a : Atom) → tree bank.old goal.0 ≡ atom a → IsNoParameter a →
+        type_pairs_of d θ pairs.items ≡ definition_pairs (instance_term θ (tree bank.old goal.0)) (instance_term θ (instance_term (renewing types) (tree bank.old clause.0)))) }
+{
+    let lefts = type_args(alloc, bank, goal)?;
+    let old = type_args(alloc, bank, clause)?;
+    let rights = all_renewed(alloc, bank, old.as_slice(), types)?;
+    let pairs = zipped_types(alloc, lefts.as_slice(), rights.as_slice())?;
+    Ok(pairs)
+}
+
+// Adds the pair of a head's argument with the goal's in its place, if the goal has one.
+fn add_pair(
+    alloc: Global,
+    bank: &mut Bank,
+    scopes: &Scopes,
+    head: HeadPair,
+    args: &[TermId],
+    values: Values,
+    level: u64,
+    pairs: &mut Vec<Pair>,
+) -> Result<(), Memory>
+    ensures kept { Extends bank.old bank.new }
+    ensures added { OnOk result ((nb nv : ℕ) → (vs : List TermId) → IsScope scopes.now nb nv values.scope vs → AreValues bank.old vs → (ar : ℕ → ℕ) → (k : ℕ) → IsWritten ar k (length vs) (tree bank.old head.term.0) →
+        IsPairAdded bank.new args.now level (becomes bank.old vs values.types) (pair_in bank.old head) pairs.old.items pairs.new.items) }
+{
+    let Some(arg) = args.get(head.place) else {
+        return Ok(());
+    };
+    let right = instance(alloc, bank, scopes, values, head.term)?;
+    pairs.push(Pair {
+        left: *arg,
+        right,
+        level,
+    })?;
+    Ok(())
 }
 
 // The arguments of the heads that are to be made one.
@@ -174,18 +228,23 @@ fn term_pairs(
     args: &[TermId],
     values: Values,
     level: u64,
-) -> Result<Vec<Pair>, Memory> {
+) -> Result<Vec<Pair>, Memory>
+    ensures kept { Extends bank.old bank.new }
+    ensures pairs { IfOk result (λ made. (nb nv : ℕ) → (vs : List TermId) → IsScope scopes.now nb nv values.scope vs → AreValues bank.old vs → (ar : ℕ → ℕ) → (k : ℕ) → AreWrittenIn bank.old ar k (length vs) heads.now.items →
+        ArePaired bank.new args.now level (becomes bank.old vs values.types) (map (pair_in bank.old) heads.now.items) made.items) }
+{
     let mut pairs = Vec::new(alloc);
-    'places: for head in heads {
-        let Some(arg) = args.get(head.place) else {
-            continue;
-        };
-        let right = instance(alloc, bank, scopes, values, head.term)?;
-        pairs.push(Pair {
-            left: *arg,
-            right,
+    'places: for number in 0..heads.len() {
+        add_pair(
+            alloc,
+            bank,
+            scopes,
+            heads[number],
+            args,
+            values,
             level,
-        })?;
+            &mut pairs,
+        )?;
     }
     Ok(pairs)
 }
@@ -198,7 +257,10 @@ fn meet(
     args: &[TermId],
     values: Values,
     level: u64,
-) -> Result<Unified, Memory> {
+) -> Result<Unified, Memory>
+    ensures bound { OnOk result (IsBoundIn machine.old machine.new) }
+    ensures met { IfOk result (λ unified. (r : Rule) → slice_get machine.old.table.rules.items rule ≡ Some r → IsMet machine.old machine.new r goal args.now values level unified) }
+{
     let alloc = machine.alloc;
     let found = machine.table.rule(rule)?;
     let types = type_pairs(alloc, &mut machine.bank, goal, found.head, values.types)?;
@@ -211,7 +273,8 @@ fn meet(
         values,
         level,
     )?;
-    unify(machine, types.as_slice(), pairs.as_slice())
+    let unified = unify(machine, types.as_slice(), pairs.as_slice())?;
+    Ok(unified)
 }
 
 // Puts the body of the clause in front of the goals behind the goal.
@@ -220,20 +283,48 @@ fn put_body(
     rule: usize,
     place: Place,
     behind: Option<usize>,
-) -> Result<(), Memory> {
+) -> Result<(), Memory>
+    ensures known { OnOk result (KeepsGoals machine.old machine.new) }
+    ensures next { OnOk result (machine.new.branch.next ≡ machine.old.branch.next) }
+    ensures pairs { OnOk result (machine.new.branch.pairs ≡ machine.old.branch.pairs) }
+    ensures body { OnOk result ((r : Rule) → slice_get machine.old.table.rules.items rule ≡ Some r → (a : Around) (gs : List Goal) (es : List Entry) → IsListAt machine.old place r.body gs → Reads machine.old a behind es →
+        Reads machine.new a machine.new.branch.goals (placed a place gs ++ es)) }
+{
     let found = machine.table.rule(rule)?;
     let body = found.body;
-    machine.branch.goals = machine.put_list(body, place, behind)?;
+    let goals = machine.put_list(body, place, behind)?;
+    machine.branch.goals = goals;
     Ok(())
 }
 
-// The head of a goal and its arguments. The first one was looked at already: it is not reduced anew for each clause.
-fn looked_at(machine: &Machine, call: &Call) -> Result<Spine, Memory> {
-    let mut spine = spine_of(machine.alloc, &machine.bank, call.goal)?;
-    if let (Some(form), Some(first)) = (call.first, spine.args.get_mut(0)) {
-        *first = form;
+// Puts the form in which the first argument was looked at in its place: it is not reduced anew for each clause.
+fn put_looked(first: Option<TermId>, args: &mut Vec<TermId>)
+    ensures { args.new.items ≡ with_first first args.old.items }
+{
+    let Some(form) = first else {
+        return;
+    };
+    if args.len() > 0 {
+        args[0] = form;
     }
-    Ok(spine)
+}
+
+// Unifies the goal of a call with the head of a candidate's clause. The clause's number, and its scope.
+fn try_head(
+    machine: &mut Machine,
+    call: &Call,
+    candidate: Candidate,
+) -> Result<(Unified, usize, Values), Memory>
+    ensures { IfOk result (λ tried. IsTriedAs machine.old machine.new call.now candidate tried.0) }
+{
+    let mut spine = spine_of(machine.alloc, &machine.bank, call.goal)?;
+    put_looked(call.first, &mut spine.args);
+    let args = spine.args.as_slice();
+    let level = call.place.level;
+    let clause = clause_of(machine, candidate)?;
+    let values = open(machine, clause.0, args, level, clause.1)?;
+    let unified = meet(machine, clause.0, spine.head, args, values, level)?;
+    Ok((unified, clause.0, values))
 }
 
 /// Tries a clause for the goal. Where it fits, its body is to be proved next; a cut in it keeps the oldest `mark`
@@ -243,26 +334,27 @@ pub(crate) fn attempt(
     call: &Call,
     candidate: Candidate,
     mark: usize,
-) -> Result<Unified, Memory> {
-    let Spine { head, args } = looked_at(machine, call)?;
-    let level = call.place.level;
-    let (rule, around) = clause_of(machine, candidate)?;
-    let values = open(machine, rule, args.as_slice(), level, around)?;
-    let unified = meet(machine, rule, head, args.as_slice(), values, level)?;
-    if unified == Unified::Fits {
-        machine.note(Act::Met(Try {
-            candidate,
-            scope: values.scope,
-            first_type: values.types.first,
-        }))?;
-        let place = Place {
-            values,
-            assumed: call.place.assumed,
-            standing: call.place.standing,
-            level,
-            mark,
-        };
-        put_body(machine, rule, place, call.behind)?;
+) -> Result<Unified, Memory>
+    ensures { IfOk result (IsTriedAs machine.old machine.new call.now candidate) }
+{
+    let tried = try_head(machine, call, candidate)?;
+    let unified = tried.0;
+    if unified != Unified::Fits {
+        return Ok(unified);
     }
+    let values = tried.2;
+    machine.note(Act::Met(Try {
+        candidate,
+        scope: values.scope,
+        first_type: values.types.first,
+    }))?;
+    let place = Place {
+        values,
+        assumed: call.place.assumed,
+        standing: call.place.standing,
+        level: call.place.level,
+        mark,
+    };
+    put_body(machine, tried.1, place, call.behind)?;
     Ok(unified)
 }

@@ -1,6 +1,6 @@
 // What a search works on: one bank and one list of bindings for all branches. An alternative holds what leads back to
 // its branch.
-ghost use Rattle.std.specs.Prelude.{◌≡◌, ℕ, ◌∷◌, ◌++◌, [], List, OnOk, IfOk, IfSome, length, nat_lt, take, slice_get, Option, Some};
+ghost use Rattle.std.specs.Prelude.{◌≡◌, ℕ, ◌∷◌, ◌++◌, [], List, OnOk, IfOk, IfSome, length, nat_lt, take, slice_get, Option, None, Some};
 ghost use Rattle.lp_calculus.specs.Term.{Atom, Term};
 ghost use Rattle.lp_plain.specs.declared.choice.Choice.{Choice};
 ghost use Rattle.lp_model.specs.Branch.{Entry};
@@ -10,6 +10,7 @@ ghost use Rattle.lp_plain.specs.Assuming.{HasAssumed, HasFrameAt, KeepsAssumed, 
 ghost use Rattle.lp_plain.specs.Cuts.{cut_off};
 ghost use Rattle.lp_plain.specs.Entries.{Around, AreTodo, IsListAt, HasAlternative, KeepsGoals, Reads, placed};
 ghost use Rattle.lp_plain.specs.Keeping.{HasOneMore, IsAround, KeepsCourse};
+ghost use Rattle.lp_plain.specs.Marks.{PutsMarks};
 ghost use Rattle.lp_plain.specs.Opening.{IsNewVariable};
 ghost use Rattle.lp_plain.specs.Restoring.{IsRestored, IsTaken};
 ghost use Rattle.lp_plain.specs.Scopes.{block_count, blocks_of, value_count};
@@ -84,6 +85,7 @@ impl Machine {
         ensures goals { OnOk result (KeepsGoals self.old self.new) }
         ensures assumed { OnOk result (KeepsAssumed self.old self.new) }
         ensures frame { OnOk result (HasFrameAt self.old self.new place) }
+        ensures marks { IfOk result (λ o. PutsMarks self.old self.new place behind o) }
         ensures stands { OnOk result (StandsIn self.old → StandsIn self.new) }
         ensures reads { IfOk result (λ o. (a : Around) (gs : List Goal) (es : List Entry) → IsListAt self.old place list gs → Reads self.old a behind es → Reads self.new a o (placed a place gs ++ es)) }
     {
@@ -105,6 +107,7 @@ impl Machine {
         ensures goals { OnOk result (KeepsGoals self.old self.new) }
         ensures assumed { OnOk result (KeepsAssumed self.old self.new) }
         ensures frame { OnOk result (HasFrameAt self.old self.new place) }
+        ensures marks { IfOk result (λ o. PutsMarks self.old self.new place behind o) }
         ensures stands { OnOk result (IsTodoIn (length self.old.bank.terms) todo → StandsIn self.old → StandsIn self.new) }
         ensures reads { IfOk result (λ o. (a : Around) (gs : List Goal) (es : List Entry) → AreTodo self.old.bank (shown self.old.table) (blocks_of self.old.scopes) place todo gs → Reads self.old a behind es → Reads self.new a o (placed a place gs ++ es)) }
     {
@@ -115,6 +118,16 @@ impl Machine {
             behind,
         })?;
         Ok(Some(number))
+    }
+
+    /// The frame of a number.
+    pub(crate) fn frame(&self, number: usize) -> Result<Frame, Memory>
+        ensures { IfOk result (λ frame. slice_get self.now.frames.items number ≡ Some frame) }
+    {
+        match self.frames.get(number) {
+            Some(frame) => Ok(*frame),
+            None => Err(Memory),
+        }
     }
 
     /// A new logic variable of a level.
@@ -207,6 +220,8 @@ impl Machine {
         ensures denied { self.new.denied ≡ self.old.denied }
         ensures branch { self.new.branch ≡ self.old.branch }
         ensures goals { KeepsGoals self.old self.new }
+        ensures frames { self.new.frames ≡ self.old.frames }
+        ensures assumed { KeepsAssumed self.old self.new }
         ensures alternative { OnOk result (HasAlternative self.old self.new untried) }
     {
         let pairs = Vec::from_slice(self.alloc, self.branch.pairs.as_slice())?;
@@ -241,7 +256,9 @@ impl Machine {
 
     /// Takes the newest alternative: goes back to its branch, and gives what was left to try.
     pub(crate) fn take_choice(&mut self) -> Result<Option<Untried>, Memory>
-        ensures { IfOk result (λ o. (c : Choice) (rest : List Choice) → self.old.choices.items ≡ rest ++ c ∷ [] → (o ≡ Some c.untried) × IsTaken self.old self.new c rest) }
+        ensures taken { IfOk result (λ o. (c : Choice) (rest : List Choice) → self.old.choices.items ≡ rest ++ c ∷ [] → (o ≡ Some c.untried) × IsTaken self.old self.new c rest) }
+        ensures none { IfOk result (λ o. self.old.choices.items ≡ [] → o ≡ None) }
+        ensures lost { OnOk result (self.new.counts.lost ≡ self.old.counts.lost) }
     {
         let Some(choice) = self.choices.pop() else {
             return Ok(None);

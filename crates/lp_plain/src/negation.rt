@@ -3,8 +3,14 @@ ghost use Rattle.std.specs.Prelude.{◌≡◌, ◌≢◌, ◌+◌, ◌≤◌, �
 ghost use Rattle.lp_model.specs.declared.ending.Ending.{Ending};
 ghost use Rattle.lp_plain.specs.declared.choice.Untried.{Untried};
 ghost use Rattle.lp_plain.specs.declared.outcome.Turn.{Turn};
+ghost use Rattle.lp_calculus.specs.Term.{Term};
+ghost use Rattle.lp_model.specs.Branch.{Branch};
+ghost use Rattle.lp_model.specs.Flat.{Goals, Written, Not as Denied};
+ghost use Rattle.lp_model.specs.Search.{look_not};
+ghost use Rattle.lp_plain.specs.Entries.{Around as Reading, GrowsGoals, IsBehind, IsOf, entry_at, in_scope};
 ghost use Rattle.lp_plain.specs.Keeping.{HasOneMore};
-ghost use Rattle.lp_plain.specs.Negations.{denial, AreFound, Takes};
+ghost use Rattle.lp_plain.specs.Negations.{denial, AreFound, IsDenied, Takes};
+ghost use Rattle.lp_plain.specs.Within.{StandsIn};
 
 use crate::choice::{Denial, Untried};
 use crate::frame::Place;
@@ -28,6 +34,8 @@ fn begin(
     ensures lost { OnOk result (machine.new.counts.lost ≡ false) }
     ensures steps { OnOk result (machine.new.counts.steps ≡ machine.old.counts.steps) }
     ensures pairs { OnOk result (machine.new.branch.pairs.items ≡ []) }
+    ensures inner { OnOk result ((a : Reading) (hs : Goals) (σ : ℕ → Term) (b : Branch) (w : Written) → IsOf machine.old place goals hs σ → machine.old.branch.next ≡ b.next → machine.old.branch.next_type ≡ b.next_type → a.mark (length machine.new.choices.items) ≡ 0 →
+        let gs : Goals = in_scope σ place.values.types hs in IsDenied machine.new a (look_not (entry_at a place (Denied w gs)) b gs (Some false))) }
 {
     let denial = Denial {
         behind,
@@ -40,7 +48,8 @@ fn begin(
     machine.counts.lost = false;
     machine.branch.pairs = Vec::new(machine.alloc);
     let mark = machine.choices.len();
-    machine.branch.goals = machine.put_list(goals, Place { mark, ..place }, None)?;
+    let first = machine.put_list(goals, Place { mark, ..place }, None)?;
+    machine.branch.goals = first;
     Ok(())
 }
 
@@ -49,6 +58,9 @@ fn openness_at(machine: &mut Machine, free: usize, place: Place) -> Result<Openn
     ensures counts { machine.new.counts ≡ machine.old.counts }
     ensures choices { machine.new.choices ≡ machine.old.choices }
     ensures denied { machine.new.denied ≡ machine.old.denied }
+    ensures branch { machine.new.branch ≡ machine.old.branch }
+    ensures grows { OnOk result (GrowsGoals machine.old machine.new) }
+    ensures stands { OnOk result (StandsIn machine.old → StandsIn machine.new) }
     ensures found { IfOk result (AreFound machine.old (record { free = free; values = place.values; older = place.standing })) }
 {
     let around = Around {
@@ -75,7 +87,9 @@ pub(crate) fn take_not<W: Watch>(
     place: Place,
     behind: Option<usize>,
 ) -> Result<Turn, Memory>
-    ensures { IfOk result (λ turn. Takes turn (record { free = free; values = place.values; older = place.standing }) machine.old machine.new behind) }
+    ensures takes { IfOk result (λ turn. Takes turn (record { free = free; values = place.values; older = place.standing }) machine.old machine.new behind) }
+    ensures inner { IfOk result (λ turn. turn ≡ Turn.On → (a : Reading) (hs : Goals) (σ : ℕ → Term) (b : Branch) (w : Written) → StandsIn machine.old → IsOf machine.old place goals hs σ → IsBehind machine.old a behind b → a.mark (length machine.new.choices.items) ≡ 0 →
+        let gs : Goals = in_scope σ place.values.types hs in IsDenied machine.new a (look_not (entry_at a place (Denied w gs)) b gs (Some false))) }
 {
     if !take_step(machine) {
         return Ok(Turn::Ended(Ending::Steps));

@@ -17,11 +17,13 @@ ghost use Rattle.lp_plain.specs.declared.outcome.Turn.{Turn};
 ghost use Rattle.lp_plain.specs.declared.table.Flat.{Flat};
 ghost use Rattle.lp_plain.specs.declared.table.Span.{Span};
 ghost use Rattle.lp_plain.specs.Apart.{IsApart};
-ghost use Rattle.lp_plain.specs.Assuming.{ArePlaced, AssumesFor, IsPlaceAt, clauses_in, lists_of, written_at};
+ghost use Rattle.lp_plain.specs.Assuming.{ArePlaced, AssumesFor, GrowsAt, IsPlaceAt, KeepsAssumed, clauses_in, lists_of, written_at};
 ghost use Rattle.lp_plain.specs.Entries.{Around, ArePartsOf, GoesOnWith, GrowsGoals, HeadsTo, IsBehind, IsOf, KeepsGoals, Reads, entry_at, in_scope, placed};
 ghost use Rattle.lp_plain.specs.Keeping.{KeepsCourse};
+ghost use Rattle.lp_plain.specs.Marks.{PutsAside, PutsMarks};
 ghost use Rattle.lp_plain.specs.Opening.{IsBoundBy, IsNewVariable, IsRaised};
 ghost use Rattle.lp_plain.specs.Tables.{AreClausesOf, IsNumbered, shown};
+ghost use Rattle.lp_plain.specs.Taking.{IsApartFlat, IsApartForm, KeepsNew, TakesApart, TakesKnown};
 ghost use Rattle.lp_plain.specs.Within.{StandsIn};
 
 use crate::act::Act;
@@ -73,6 +75,11 @@ fn put_either(
     behind: Option<usize>,
 ) -> Result<(), Memory>
     ensures counts { machine.new.counts ≡ machine.old.counts }
+    ensures grown { OnOk result (GrowsAt machine.old machine.new place) }
+    ensures stands { OnOk result (StandsIn machine.old → StandsIn machine.new) }
+    ensures kept { OnOk result ((a : Around) → StandsIn machine.old → ArePlaced machine.old a → IsPlaceAt (lists_of machine.old) a place → KeepsNew machine.old machine.new a) }
+    ensures marks { OnOk result (PutsMarks machine.old machine.new place behind machine.new.branch.goals) }
+    ensures aside { OnOk result (PutsAside machine.old machine.new place behind) }
     ensures parts { OnOk result ((a : Around) (hs ks : Goals) (σ : ℕ → Term) (b : Branch) → IsOf machine.old place left hs σ → IsOf machine.old place right ks σ → IsBehind machine.old a behind b →
         (u n height : ℕ) (P : List Clause) → let g : Goal = Either (in_scope σ place.values.types hs) (in_scope σ place.values.types ks) in ArePartsOf machine.old machine.new a (look_goal u n P height (entry_at a place g) b g)) }
 {
@@ -102,6 +109,10 @@ fn put_some(
     behind: Option<usize>,
 ) -> Result<(), Memory>
     ensures counts { machine.new.counts ≡ machine.old.counts }
+    ensures grown { OnOk result (GrowsAt machine.old machine.new place) }
+    ensures stands { OnOk result (StandsIn machine.old → StandsIn machine.new) }
+    ensures choices { OnOk result (machine.new.choices.items ≡ machine.old.choices.items) }
+    ensures marks { OnOk result (PutsMarks machine.old machine.new place behind machine.new.branch.goals) }
     ensures parts { OnOk result ((a : Around) (hs : Goals) (σ : ℕ → Term) (b : Branch) → StandsIn machine.old → IsOf machine.old place goals hs σ → IsBehind machine.old a behind b → (u n height : ℕ) (P : List Clause) (T : Ty) →
         let g : Goal = Exists T (in_scope (lifted σ) place.values.types hs) in ArePartsOf machine.old machine.new a (look_goal u n P height (entry_at a place g) b g)) }
 {
@@ -119,6 +130,10 @@ fn put_all(
     behind: Option<usize>,
 ) -> Result<(), Memory>
     ensures counts { machine.new.counts ≡ machine.old.counts }
+    ensures grown { OnOk result (GrowsAt machine.old machine.new place) }
+    ensures stands { OnOk result (StandsIn machine.old → StandsIn machine.new) }
+    ensures choices { OnOk result (machine.new.choices.items ≡ machine.old.choices.items) }
+    ensures marks { OnOk result (PutsMarks machine.old machine.new place behind machine.new.branch.goals) }
     ensures parts { OnOk result ((a : Around) (hs : Goals) (σ : ℕ → Term) (b : Branch) → StandsIn machine.old → IsOf machine.old place goals hs σ → IsBehind machine.old a behind b → (u n height : ℕ) (P : List Clause) (T : Ty) →
         let g : Goal = Forall T (in_scope (lifted σ) place.values.types hs) in ArePartsOf machine.old machine.new a (look_goal u n P height (entry_at a place g) b g)) }
 {
@@ -143,6 +158,9 @@ pub(crate) fn put_parts(
         (u n height : ℕ) (P : List Clause) (T : Ty) → let g : Goal = Exists T (in_scope (lifted σ) place.values.types hs) in ArePartsOf machine.old machine.new a (look_goal u n P height (entry_at a place g) b g)) }
     ensures all { IfOk result (λ turn. turn ≡ Turn.On → (l : ℕ) → goal ≡ Flat.All l → (a : Around) (hs : Goals) (σ : ℕ → Term) (b : Branch) → StandsIn machine.old → IsOf machine.old place l hs σ → IsBehind machine.old a behind b →
         (u n height : ℕ) (P : List Clause) (T : Ty) → let g : Goal = Forall T (in_scope (lifted σ) place.values.types hs) in ArePartsOf machine.old machine.new a (look_goal u n P height (entry_at a place g) b g)) }
+    ensures taken { IfOk result (λ turn. turn ≡ Turn.On → TakesApart machine.old machine.new place goal behind) }
+    ensures marks { IfOk result (λ turn. turn ≡ Turn.On → IsApartFlat goal → PutsMarks machine.old machine.new place behind machine.new.branch.goals) }
+    ensures aside { IfOk result (λ turn. turn ≡ Turn.On → IsApartFlat goal → PutsAside machine.old machine.new place behind) }
     ensures assume { IfOk result (λ turn. turn ≡ Turn.On → (s : Span) (l free : ℕ) → goal ≡ Flat.Assume s l free → (a : Around) (cs : Clauses) (hs : Goals) (σ : ℕ → Term) (b : Branch) → StandsIn machine.old → ArePlaced machine.old a → IsPlaceAt (lists_of machine.old) a place →
         AreClausesOf machine.old.bank machine.old.table s cs → IsNumbered (shown machine.old.table).frees free (λ f. collect_clauses f 0 cs) → IsOf machine.old place l hs σ → IsBehind machine.old a behind b → (u n height : ℕ) (P : List Clause) →
         let g : Goal = Assume (written_at σ place.values.types (written_in_clauses cs)) (clauses_in σ place.values.types cs) (in_scope σ place.values.types hs) in AssumesFor machine.old machine.new a (look_goal u n P height (entry_at a place g) b g)) }
@@ -182,6 +200,9 @@ fn put_and(
     behind: Option<usize>,
 ) -> Result<(), Memory>
     ensures counts { machine.new.counts ≡ machine.old.counts }
+    ensures grown { OnOk result (GrowsAt machine.old machine.new place) }
+    ensures choices { OnOk result (machine.new.choices.items ≡ machine.old.choices.items) }
+    ensures stands { OnOk result (left.0 < length machine.old.bank.terms → right.0 < length machine.old.bank.terms → StandsIn machine.old → StandsIn machine.new) }
     ensures parts { OnOk result ((a : Around) (b : Branch) → IsBehind machine.old a behind b → (u n height : ℕ) (P : List Clause) (t : Term) (g : Goal) →
         ArePartsOf machine.old machine.new a (look_form u n P height (entry_at a place g) b t (two_sided.And (tree machine.old.bank left.0) (tree machine.old.bank right.0)))) }
 {
@@ -199,6 +220,9 @@ fn put_or(
     behind: Option<usize>,
 ) -> Result<(), Memory>
     ensures counts { machine.new.counts ≡ machine.old.counts }
+    ensures grown { OnOk result (GrowsAt machine.old machine.new place) }
+    ensures stands { OnOk result (left.0 < length machine.old.bank.terms → right.0 < length machine.old.bank.terms → StandsIn machine.old → StandsIn machine.new) }
+    ensures kept { OnOk result ((a : Around) → StandsIn machine.old → ArePlaced machine.old a → IsPlaceAt (lists_of machine.old) a place → KeepsNew machine.old machine.new a) }
     ensures parts { OnOk result ((a : Around) (b : Branch) → IsBehind machine.old a behind b → (u n height : ℕ) (P : List Clause) (t : Term) (g : Goal) →
         ArePartsOf machine.old machine.new a (look_form u n P height (entry_at a place g) b t (two_sided.Or (tree machine.old.bank left.0) (tree machine.old.bank right.0)))) }
 {
@@ -214,6 +238,12 @@ fn put_or(
 fn applied(machine: &mut Machine, term: TermId, value: TermId) -> Result<TermId, Memory>
     ensures counts { machine.new.counts ≡ machine.old.counts }
     ensures grows { OnOk result (GrowsGoals machine.old machine.new) }
+    ensures frames { machine.new.frames ≡ machine.old.frames }
+    ensures assumed { KeepsAssumed machine.old machine.new }
+    ensures standings { machine.new.standings ≡ machine.old.standings }
+    ensures index { machine.new.index ≡ machine.old.index }
+    ensures stands { OnOk result (StandsIn machine.old → StandsIn machine.new) }
+    ensures within { IfOk result (λ t. t.0 < length machine.new.bank.terms) }
     ensures course { KeepsCourse machine.old machine.new }
     ensures tree { IfOk result (λ t. tree machine.new.bank t.0 ≡ app (tree machine.old.bank term.0) (tree machine.old.bank value.0)) }
 {
@@ -230,6 +260,9 @@ fn put_goal_of(
     behind: Option<usize>,
 ) -> Result<(), Memory>
     ensures counts { machine.new.counts ≡ machine.old.counts }
+    ensures grown { OnOk result (GrowsAt machine.old machine.new place) }
+    ensures choices { OnOk result (machine.new.choices.items ≡ machine.old.choices.items) }
+    ensures stands { OnOk result (StandsIn machine.old → StandsIn machine.new) }
     ensures front { OnOk result ((a : Around) (es : List Entry) (v : Term) → StandsIn machine.old → HeadsTo (app (tree machine.old.bank term.0) (tree machine.old.bank value.0)) v → Reads machine.old a behind es →
         GoesOnWith machine.old machine.new a (placed a place (Atomic v ∷ []) ++ es)) }
 {
@@ -247,6 +280,9 @@ fn put_for_all(
     behind: Option<usize>,
 ) -> Result<(), Memory>
     ensures counts { machine.new.counts ≡ machine.old.counts }
+    ensures grown { OnOk result (GrowsAt machine.old machine.new place) }
+    ensures choices { OnOk result (machine.new.choices.items ≡ machine.old.choices.items) }
+    ensures stands { OnOk result (StandsIn machine.old → StandsIn machine.new) }
     ensures parts { OnOk result ((a : Around) (b : Branch) → StandsIn machine.old → term.0 < length machine.old.bank.terms → IsBehind machine.old a behind b → (u n height : ℕ) (P : List Clause) (t : Term) (g : Goal) (T : Ty) →
         ArePartsOf machine.old machine.new a (look_form u n P height (entry_at a place g) b t (two_sided.ForAll T (body_of (tree machine.old.bank term.0))))) }
 {
@@ -263,6 +299,9 @@ fn put_exists(
     behind: Option<usize>,
 ) -> Result<(), Memory>
     ensures counts { machine.new.counts ≡ machine.old.counts }
+    ensures grown { OnOk result (GrowsAt machine.old machine.new place) }
+    ensures choices { OnOk result (machine.new.choices.items ≡ machine.old.choices.items) }
+    ensures stands { OnOk result (StandsIn machine.old → StandsIn machine.new) }
     ensures parts { OnOk result ((a : Around) (b : Branch) → StandsIn machine.old → term.0 < length machine.old.bank.terms → IsBehind machine.old a behind b → (u n height : ℕ) (P : List Clause) (t : Term) (g : Goal) (T : Ty) →
         ArePartsOf machine.old machine.new a (look_form u n P height (entry_at a place g) b t (two_sided.Exists T (body_of (tree machine.old.bank term.0))))) }
 {
@@ -275,6 +314,9 @@ fn put_exists(
 fn go_behind(machine: &mut Machine, behind: Option<usize>)
     ensures counts { machine.new.counts ≡ machine.old.counts }
     ensures known { KeepsGoals machine.old machine.new }
+    ensures frames { machine.new.frames ≡ machine.old.frames }
+    ensures assumed { KeepsAssumed machine.old machine.new }
+    ensures denied { machine.new.denied ≡ machine.old.denied }
     ensures goals { machine.new.branch.goals ≡ behind }
     ensures next { machine.new.branch.next ≡ machine.old.branch.next }
     ensures next_type { machine.new.branch.next_type ≡ machine.old.branch.next_type }
@@ -291,6 +333,7 @@ pub(crate) fn put_connective(
     behind: Option<usize>,
 ) -> Result<Turn, Memory>
     ensures counted { IfOk result (λ turn. IsApart turn machine.old.counts machine.new.counts) }
+    ensures taken { IfOk result (λ turn. turn ≡ Turn.On → IsApartForm connective → TakesKnown machine.old machine.new place connective behind) }
     ensures and { IfOk result (λ turn. turn ≡ Turn.On → (l r : TermId) → connective ≡ known.And l r → (a : Around) (b : Branch) → IsBehind machine.old a behind b → (u n height : ℕ) (P : List Clause) (t : Term) (g : Goal) →
         ArePartsOf machine.old machine.new a (look_form u n P height (entry_at a place g) b t (connective_in machine.old.bank connective))) }
     ensures or { IfOk result (λ turn. turn ≡ Turn.On → (l r : TermId) → connective ≡ known.Or l r → (a : Around) (b : Branch) → IsBehind machine.old a behind b → (u n height : ℕ) (P : List Clause) (t : Term) (g : Goal) →

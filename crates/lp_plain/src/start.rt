@@ -14,6 +14,8 @@ ghost use Rattle.lp_plain.specs.Assuming.{ArePlaced};
 ghost use Rattle.lp_plain.specs.Candidates.{IsIndex, numbers};
 ghost use Rattle.lp_plain.specs.Entries.{Around};
 ghost use Rattle.lp_plain.specs.Scopes.{IsScope, block_count, value_count};
+ghost use Rattle.lp_plain.specs.Searching.{IsStateOf};
+ghost use Rattle.lp_plain.specs.Marks.{IsMarked};
 ghost use Rattle.lp_plain.specs.Starts.{AreFlat, AreFormulasIn, AreProgramOf, IsAlone, IsOutermost, IsOutside};
 ghost use Rattle.lp_plain.specs.Tables.{IsListOf};
 ghost use Rattle.lp_plain.specs.Within.{IsTableIn, StandsIn};
@@ -181,6 +183,9 @@ pub(crate) fn begin(
     ensures program { IfOk result (λ s. AreFormulasIn program.bank program.clauses.items → (n : ℕ) (d : ℕ → Option Scheme) (css : List Clauses) → AreFlat n d program.bank program.clauses.items css → AreProgramOf s.machine.bank s.machine.table s.source.spans.items css) }
     ensures starts { IfOk result (λ s. query.formula.0 < length program.bank.terms → (n : ℕ) (d : ℕ → Option Scheme) (flat : Goals) → flatten_query n d (tree program.bank query.formula.0) ≡ Some flat → (a : Around) → IsOutermost a → (answers : ℕ) →
         IsAlone s.machine a (start query.type_vars (length query.vars.items) flat limit answers).stack) }
+    ensures state { IfOk result (λ s. query.formula.0 < length program.bank.terms → (n : ℕ) (d : ℕ → Option Scheme) (flat : Goals) → flatten_query n d (tree program.bank query.formula.0) ≡ Some flat → (a : Around) → IsOutermost a → (answers : ℕ) →
+        IsStateOf s.machine a (start query.type_vars (length query.vars.items) flat limit answers)) }
+    ensures marked { IfOk result (λ s. IsMarked s.machine) }
     ensures placed { IfOk result (λ s. (a : Around) → IsOutermost a → ArePlaced s.machine a) }
 {
     let Program {

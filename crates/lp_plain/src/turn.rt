@@ -1,10 +1,20 @@
 // The next goal of the branch at work, and the way back to an alternative.
-ghost use Rattle.std.specs.Prelude.{◌≡◌, ℕ, ◌∷◌, ◌++◌, [], List, Option, IfOk, OnOk};
+ghost use Rattle.std.specs.Prelude.{◌≡◌, ℕ, suc, Bool, ◌∷◌, ◌++◌, ◌<◌, ◌≤◌, [], List, drop, length, Option, IfOk, OnOk};
+ghost use Rattle.lp_model.specs.Branch.{Answer, Task};
+ghost use Rattle.lp_model.specs.Flat.{Clause, Goals};
+ghost use Rattle.lp_model.specs.Skeleton.{Inner, State};
 ghost use Rattle.lp_plain.specs.declared.choice.Choice.{Choice};
 ghost use Rattle.lp_plain.specs.declared.choice.Untried.{Untried};
 ghost use Rattle.lp_plain.specs.declared.outcome.Turn.{Turn};
-ghost use Rattle.lp_plain.specs.Entries.{KeepsGoals};
+ghost use Rattle.lp_plain.specs.Apart.{IsApart};
+ghost use Rattle.lp_plain.specs.Assuming.{KeepsAssumed};
+ghost use Rattle.lp_plain.specs.Entries.{Around, KeepsGoals};
+ghost use Rattle.lp_plain.specs.Marks.{AreMarked, IsMarked, Marks, PutsAside, PutsMarks, SetsAside};
 ghost use Rattle.lp_plain.specs.Restoring.{GoesBack};
+ghost use Rattle.lp_plain.specs.Searching.{EndsSo, GoesOnOrStops, IsBackOf, IsQuietMove, IsStateOf};
+ghost use Rattle.lp_plain.specs.Stacks.{base_of};
+ghost use Rattle.lp_plain.specs.Tables.{AreGoals, Never, shown};
+ghost use Rattle.lp_plain.specs.Taking.{FirstIsApart, IsApartFirst, IsApartFlat, TakesApart, TakesGoals};
 
 use crate::act::Act;
 use crate::atomic::{take_atom, take_cut, try_candidate};
@@ -28,15 +38,30 @@ fn take_flat<W: Watch>(
     goal: Flat,
     place: Place,
     behind: Option<usize>,
-) -> Result<Turn, Memory> {
+) -> Result<Turn, Memory>
+    ensures taken { IfOk result (λ turn. turn ≡ Turn.On → TakesApart machine.old machine.new place goal behind) }
+    ensures marks { IfOk result (λ turn. turn ≡ Turn.On → IsApartFlat goal → PutsMarks machine.old machine.new place behind machine.new.branch.goals) }
+    ensures aside { IfOk result (λ turn. turn ≡ Turn.On → IsApartFlat goal → PutsAside machine.old machine.new place behind) }
+    ensures counted { IfOk result (λ turn. IsApartFlat goal → IsApart turn machine.old.counts machine.new.counts) }
+{
     match goal {
         Flat::Atom(term) => {
             let atom = machine.instance(term, place)?;
-            take_term(machine, crowd, atom, place, behind)
+            let turn = take_term(machine, crowd, atom, place, behind)?;
+            Ok(turn)
         }
-        Flat::Cut => take_cut(machine, crowd, place, behind),
-        Flat::Not(goals, free) => take_not(machine, crowd, goals, free, place, behind),
-        _ => put_parts(machine, goal, place, behind),
+        Flat::Cut => {
+            let turn = take_cut(machine, crowd, place, behind)?;
+            Ok(turn)
+        }
+        Flat::Not(goals, free) => {
+            let turn = take_not(machine, crowd, goals, free, place, behind)?;
+            Ok(turn)
+        }
+        _ => {
+            let turn = put_parts(machine, goal, place, behind)?;
+            Ok(turn)
+        }
     }
 }
 
@@ -67,34 +92,53 @@ fn take_first<W: Watch>(
     goals: Span,
     place: Place,
     behind: Option<usize>,
-) -> Result<Turn, Memory> {
+) -> Result<Turn, Memory>
+    ensures taken { IfOk result (λ turn. turn ≡ Turn.On → TakesGoals machine.old machine.new place goals behind) }
+    ensures marks { IfOk result (λ turn. turn ≡ Turn.On → (hs : Goals) → goals.from < goals.to → AreGoals machine.old.bank Never (shown machine.old.table) goals.from goals.to hs → FirstIsApart hs → PutsMarks machine.old machine.new place behind machine.new.branch.goals) }
+    ensures aside { IfOk result (λ turn. turn ≡ Turn.On → (hs : Goals) → goals.from < goals.to → AreGoals machine.old.bank Never (shown machine.old.table) goals.from goals.to hs → FirstIsApart hs → PutsAside machine.old machine.new place behind) }
+    ensures counted { IfOk result (λ turn. (hs : Goals) → goals.from < goals.to → AreGoals machine.old.bank Never (shown machine.old.table) goals.from goals.to hs → FirstIsApart hs → IsApart turn machine.old.counts machine.new.counts) }
+{
     let goal = machine.table.goal(goals.from)?;
-    let second = goals.from.saturating_add(1);
+    let Some(second) = goals.from.checked_add(1) else {
+        return Err(Memory);
+    };
     if second >= goals.to {
-        return take_flat(machine, crowd, goal, place, behind);
+        let turn = take_flat(machine, crowd, goal, place, behind)?;
+        return Ok(turn);
     }
     let others = Span {
         from: second,
         to: goals.to,
     };
     let rest = machine.put_frame(Todo::Goals(others), place, behind)?;
-    take_flat(machine, crowd, goal, place, rest)
+    let turn = take_flat(machine, crowd, goal, place, rest)?;
+    Ok(turn)
 }
 
 /// Takes the first goal of the branch at work.
 pub(crate) fn take_goal<W: Watch>(
     machine: &mut Machine,
     crowd: &mut Crowd<'_, W>,
-) -> Result<Turn, Memory> {
+) -> Result<Turn, Memory>
+    ensures moves { IfOk result (λ turn. turn ≡ Turn.On → (a : Around) (s : State Task) (h : IsStateOf machine.old a s) → IsApartFirst h.at_work.goals → (k : ℕ) → s.answers ≡ suc k → (go : (Answer → Bool) → State Task → Inner) (u n : ℕ) (P : List Clause) → IsQuietMove machine.old machine.new a u n P go s) }
+    ensures stops { IfOk result (λ turn. (a : Around) (s : State Task) (h : IsStateOf machine.old a s) → IsApartFirst h.at_work.goals → GoesOnOrStops turn s) }
+    ensures marks { IfOk result (λ turn. turn ≡ Turn.On → (a : Around) (s : State Task) (h : IsStateOf machine.old a s) → IsApartFirst h.at_work.goals → (l u : ℕ) → Marks l u machine.old machine.old.branch.goals → Marks l u machine.new machine.new.branch.goals) }
+    ensures aside { IfOk result (λ turn. turn ≡ Turn.On → (a : Around) (s : State Task) (h : IsStateOf machine.old a s) → IsApartFirst h.at_work.goals → SetsAside machine.old machine.new) }
+    ensures marked { IfOk result (λ turn. turn ≡ Turn.On → (a : Around) (s : State Task) (h : IsStateOf machine.old a s) → IsApartFirst h.at_work.goals → IsMarked machine.old → IsMarked machine.new) }
+{
     let Some(number) = machine.branch.goals else {
         return Ok(end_branch(machine));
     };
-    let Some(frame) = machine.frames.get(number).copied() else {
-        return Err(Memory);
-    };
+    let frame = machine.frame(number)?;
     match frame.todo {
-        Todo::Goals(goals) => take_first(machine, crowd, goals, frame.place, frame.behind),
-        Todo::Term(term) => take_term(machine, crowd, term, frame.place, frame.behind),
+        Todo::Goals(goals) => {
+            let turn = take_first(machine, crowd, goals, frame.place, frame.behind)?;
+            Ok(turn)
+        }
+        Todo::Term(term) => {
+            let turn = take_term(machine, crowd, term, frame.place, frame.behind)?;
+            Ok(turn)
+        }
     }
 }
 
@@ -112,6 +156,8 @@ pub(crate) fn tell_back<W: Watch>(
 // Goes on with the right side of a `;`.
 fn go_right(machine: &mut Machine, goals: Option<usize>) -> Result<(), Memory>
     ensures known { OnOk result (KeepsGoals machine.old machine.new) }
+    ensures assumed { OnOk result (KeepsAssumed machine.old machine.new) }
+    ensures frames { OnOk result (machine.new.frames ≡ machine.old.frames) }
     ensures goals { OnOk result (machine.new.branch.goals ≡ goals) }
     ensures next { OnOk result (machine.new.branch.next ≡ machine.old.branch.next) }
     ensures next_type { OnOk result (machine.new.branch.next_type ≡ machine.old.branch.next_type) }
@@ -126,7 +172,10 @@ fn go_right(machine: &mut Machine, goals: Option<usize>) -> Result<(), Memory>
 
 /// Goes on with the newest alternative.
 pub(crate) fn go_back(machine: &mut Machine) -> Result<Turn, Memory>
-    ensures { IfOk result (λ turn. (c : Choice) (rest : List Choice) (from : Option ℕ) → machine.old.choices.items ≡ rest ++ c ∷ [] → c.untried ≡ Untried.Goals from → (turn ≡ Turn.On) × GoesBack machine.old machine.new c rest) }
+    ensures goes { IfOk result (λ turn. (c : Choice) (rest : List Choice) (from : Option ℕ) → machine.old.choices.items ≡ rest ++ c ∷ [] → c.untried ≡ Untried.Goals from → (turn ≡ Turn.On) × GoesBack machine.old machine.new c rest) }
+    ensures state { IfOk result (λ turn. (c : Choice) (rest : List Choice) (from : Option ℕ) → machine.old.choices.items ≡ rest ++ c ∷ [] → c.untried ≡ Untried.Goals from → base_of machine.old.denied ≤ length rest → (a : Around) (s : State Task) → IsBackOf machine.old a s → IsStateOf machine.new a s) }
+    ensures marked { IfOk result (λ turn. (c : Choice) (rest : List Choice) (from : Option ℕ) → machine.old.choices.items ≡ rest ++ c ∷ [] → c.untried ≡ Untried.Goals from → base_of machine.old.denied ≤ length rest → (a : Around) (s : State Task) → IsBackOf machine.old a s → AreMarked machine.old (base_of machine.old.denied) (base_of machine.old.denied) (drop (base_of machine.old.denied) machine.old.choices.items) → IsMarked machine.new) }
+    ensures ends { IfOk result (λ turn. machine.old.choices.items ≡ [] → (a : Around) (s : State Task) → IsBackOf machine.old a s → EndsSo turn machine.old.counts.lost s) }
 {
     let Some(untried) = machine.take_choice()? else {
         if machine.counts.lost {

@@ -1,5 +1,5 @@
 -- A program on the way into the table, formula by formula.
-use Rattle.std.specs.Prelude.{◌≡◌, ℕ, ◌≤◌, List, take, All, length, Option}
+use Rattle.std.specs.Prelude.{ℕ, ◌≤◌, List, take, All, length, Option}
 use Rattle.lp_calculus.specs.Typing.{Scheme}
 use Rattle.lp_term.specs.Nodes.{Nodes, Extends}
 use Rattle.lp_model.specs.declared.program.ClauseFormula.{ClauseFormula}

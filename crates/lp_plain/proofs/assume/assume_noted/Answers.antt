@@ -1,4 +1,3 @@
-use Rattle.std.proofs.Common.{[], ◌∷◌, refl}
 use Rattle.lp_plain.proofs.Assumed.{tree_noted, assumes_noted, more_noted}
 use Rattle.lp_plain.proofs.assume.assume_noted.Goals as goal
 

@@ -1,12 +1,38 @@
 use Rattle.std.proofs.Common.{refl}
-use Rattle.lp_plain.proofs.Assuming.{assumes_for}
+use Rattle.lp_plain.proofs.Assuming.{assumes_for, put_grows, stood_stands}
+use Rattle.std.proofs.Common.{sym, subst, ◌∙◌}
+use Rattle.lp_plain.specs.Marks.{HasMarks}
 use Rattle.lp_plain.proofs.assume.put_assume.Goals as goal
 
 pub returns-clause-parts : goal.returns-clause-parts
 returns-clause-parts c =
+    let m = c.args.machine.now in
+    let n = c.assume_noted.new.machine in
+    let o = c.stand.new.machine in
     let f = c.in_ok-front.ensures in
     let e = c.in_ok-assumed.ensures in
-    assumes_for c.args.machine.now c.assume_noted.new.machine c.stand.new.machine c.put_list.new.self _ c.args.place c.args.rules c.args.goals
-    c.args.free c.args.behind c.in_ok-front.front c.in_ok-assumed.assumed c.in_ok-number.number e.more e.tree e.assumed
-    c.in_ok-number.ensures.stood
-    f.goals f.course f.assumed f.frame f.reads refl refl refl refl refl
+    let s = c.in_ok-number.ensures.stood in
+    assumes_for m n o c.put_list.new.self _ c.args.place c.args.rules c.args.goals c.args.free c.args.behind c.in_ok-front.front c.in_ok-assumed.assumed
+    c.in_ok-number.number e.more e.tree e.assumed s f.goals f.course f.assumed f.frame f.reads refl refl refl refl refl
+    (λ i. let z = f.stands (stood_stands m n o c.args.free c.args.place c.in_ok-number.number e.more s i) in record { table = z.table; values = z.values; frames = z.frames })
+
+pub returns-clause-stands : goal.returns-clause-stands
+returns-clause-stands c = λ i.
+    let z = c.in_ok-front.ensures.stands (stood_stands c.args.machine.now c.assume_noted.new.machine c.stand.new.machine c.args.free c.args.place
+    c.in_ok-number.number c.in_ok-assumed.ensures.more c.in_ok-number.ensures.stood i) in
+    record { table = z.table; values = z.values; frames = z.frames }
+
+pub returns-clause-grown : goal.returns-clause-grown
+returns-clause-grown c =
+    let f = c.in_ok-front.ensures in
+    put_grows c.args.machine.now c.assume_noted.new.machine c.stand.new.machine c.put_list.new.self _ c.args.free c.args.place c.in_ok-number.number
+    c.in_ok-assumed.ensures.more c.in_ok-number.ensures.stood f.goals f.course f.assumed refl refl refl refl
+
+pub returns-clause-marks : goal.returns-clause-marks
+returns-clause-marks c = λ l u h k j.
+    let g = c.in_ok-assumed.ensures.more in
+    let s = c.in_ok-number.ensures.stood in
+    c.in_ok-front.ensures.marks l u (subst (λ z. HasMarks l u z.items c.args.behind) (sym (s.frames ∙ g.frames)) h) k j
+
+pub returns-clause-choices : goal.returns-clause-choices
+returns-clause-choices c = c.in_ok-front.ensures.course.choices ∙ c.in_ok-number.ensures.stood.course.choices ∙ c.in_ok-assumed.ensures.more.course.choices

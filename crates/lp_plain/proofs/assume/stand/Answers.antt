@@ -1,9 +1,10 @@
-use Rattle.std.proofs.Common.{length, refl, arith}
+use Rattle.std.proofs.Common.{refl, arith}
 use Rattle.lp_plain.proofs.assume.stand.Goals as goal
 
 pub returns-clause-stood : goal.returns-clause-stood
 returns-clause-stood c = record {
   bank = refl;
+  index = refl;
   table = refl;
   scopes = refl;
   frames = refl;

@@ -2,28 +2,40 @@ use Rattle.std.proofs.Common.{subst, ap, ◌∙◌}
 use Rattle.lp_plain.specs.Negations.{AreFound}
 use Rattle.lp_plain.specs.declared.openness.Openness.TheVariants.{Closed, Open, Deep}
 use Rattle.lp_plain.specs.declared.openness.Standing.{Standing}
+use Rattle.lp_plain.proofs.DeniedGoals.{inner_after}
 use Rattle.lp_plain.proofs.FoundGoals.{found_before, begins_after}
+use Rattle.lp_plain.proofs.Growing.{grows_kept, grows_then}
 use Rattle.lp_plain.proofs.negation.take_not.Goals as goal
 
-pub returns-in-Deep : goal.returns-in-Deep
-returns-in-Deep g c =
+pub returns-in-Deep-clause-takes : goal.returns-in-Deep-clause-takes
+returns-in-Deep-clause-takes g c =
     let goals : Standing = record { free = c.args.free; values = c.args.place.values; older = c.args.place.standing } in (
       found_before c.args.machine.now c.take_step.new.machine goals Deep c.take_step.ensures.known (subst (AreFound c.take_step.new.machine goals) c.in-Deep.is c.in_ok-openness_at.ensures.found),
       ap (λ k. k.steps) c.openness_at.ensures.counts ∙ c.take_step.ensures.taken c.if-not-take_step.false,
     )
 
-pub returns-in-Open : goal.returns-in-Open
-returns-in-Open g c =
+pub returns-in-Open-clause-takes : goal.returns-in-Open-clause-takes
+returns-in-Open-clause-takes g c =
     let goals : Standing = record { free = c.args.free; values = c.args.place.values; older = c.args.place.standing } in (
       found_before c.args.machine.now c.take_step.new.machine goals Open c.take_step.ensures.known (subst (AreFound c.take_step.new.machine goals) c.in-Open.is c.in_ok-openness_at.ensures.found),
       ap (λ k. k.steps) c.openness_at.ensures.counts ∙ c.take_step.ensures.taken c.if-not-take_step.false,
     )
 
-pub returns-in_ok-begin-in-Closed : goal.returns-in_ok-begin-in-Closed
-returns-in_ok-begin-in-Closed g c =
+pub returns-in_ok-begin-in-Closed-clause-takes : goal.returns-in_ok-begin-in-Closed-clause-takes
+returns-in_ok-begin-in-Closed-clause-takes g c =
     let goals : Standing = record { free = c.args.free; values = c.args.place.values; older = c.args.place.standing } in
     let e = c.in_ok-begin-in-Closed.ensures in (
       found_before c.args.machine.now c.take_step.new.machine goals Closed c.take_step.ensures.known (subst (AreFound c.take_step.new.machine goals) c.in-Closed.is c.in_ok-openness_at.ensures.found),
-      begins_after c.args.machine.now c.openness_at.new.machine c.begin.new.machine c.args.behind (c.openness_at.ensures.choices ∙ c.take_step.ensures.choices) (c.openness_at.ensures.denied ∙ c.take_step.ensures.denied)
-          (ap (λ k. k.lost) c.openness_at.ensures.counts ∙ c.take_step.ensures.lost) (ap (λ k. k.steps) c.openness_at.ensures.counts ∙ c.take_step.ensures.taken c.if-not-take_step.false) e.more e.inside e.lost e.steps,
+      begins_after c.args.machine.now c.openness_at.new.machine c.begin.new.machine c.args.behind
+          (c.openness_at.ensures.choices ∙ c.take_step.ensures.choices) (c.openness_at.ensures.denied ∙ c.take_step.ensures.denied)
+          (ap (λ k. k.lost) c.openness_at.ensures.counts ∙ c.take_step.ensures.lost)
+          (ap (λ k. k.steps) c.openness_at.ensures.counts ∙ c.take_step.ensures.taken c.if-not-take_step.false) e.more e.inside e.lost e.steps,
     )
+
+pub returns-in_ok-begin-in-Closed-clause-inner : goal.returns-in_ok-begin-in-Closed-clause-inner
+returns-in_ok-begin-in-Closed-clause-inner g c = λ on.
+    let m = c.args.machine.now in
+    let n = c.openness_at.new.machine in
+    inner_after m n c.begin.new.machine c.args.place c.args.goals c.args.behind (grows_then m c.take_step.new.machine n
+    (grows_kept m c.take_step.new.machine c.take_step.ensures.goals) c.in_ok-openness_at.ensures.grows)
+    (c.openness_at.ensures.branch ∙ c.take_step.ensures.branch) c.in_ok-begin-in-Closed.ensures.inner

@@ -11,6 +11,11 @@ returns-clause-bound c =
     record {
       bank = refl;
       grows = record { bank = extends_same m.bank; table = refl; frames = ([], sym (append-nil m.frames.items)); blocks = s.blocks; values = (_, s.values) };
+      frames = refl;
+      keeps = record { assumptions = refl; newest = refl };
+      standings = refl;
+      index = refl;
+      denied = refl;
       choices = refl;
       branch = refl;
       opened = λ σ h. (_, scope_whole c.open.new.self c.in_ok-scope.scope _ (s.opened h.0 (whole_scope m.scopes c.args.place.values.scope h.0 h.1)), values_more m.bank h.0 c.args.value σ h.2);

@@ -2,6 +2,8 @@ use Rattle.std.proofs.Common.{[], ◌∷◌, ◌++◌, ◌∙◌, refl, ap, Some
 use Rattle.lp_term.specs.Nodes.{tree}
 use Rattle.lp_model.specs.Flat.{Atomic}
 use Rattle.lp_plain.specs.Entries.{placed}
+use Rattle.lp_plain.proofs.Grown.{grown_frame, grown_then}
+use Rattle.std.proofs.Common.{◌<◌, length, subst, sym}
 use Rattle.lp_plain.proofs.parts.put_and.Goals as goal
 
 pub returns-clause-parts : goal.returns-clause-parts
@@ -19,3 +21,23 @@ returns-clause-parts c = λ a b r u n height P t g.
       },
       f.course.choices ∙ s.course.choices,
     )
+
+pub returns-clause-grown : goal.returns-clause-grown
+returns-clause-grown c =
+    let m = c.args.machine.now in
+    let p = c.args.place in
+    let one = c.put_frame.new.self in
+    let two = c.put_frame-2.new.self in
+    let k = c.in_ok-second.ensures in
+    let l = c.in_ok-first.ensures in
+    let g = grown_then m one two p (grown_frame m one p k.goals k.assumed k.frame k.course.denied) (grown_frame one two p l.goals l.assumed l.frame l.course.denied) in
+    record { lists = g.lists; frames = g.frames; index = g.index; denied = g.denied }
+
+pub returns-clause-choices : goal.returns-clause-choices
+returns-clause-choices c = c.in_ok-first.ensures.course.choices ∙ c.in_ok-second.ensures.course.choices
+
+pub returns-clause-stands : goal.returns-clause-stands
+returns-clause-stands c = λ l r i.
+    let s = c.in_ok-second.ensures in
+    let z = c.in_ok-first.ensures.stands (subst (λ b. c.args.left.0 < length b.terms) (sym s.goals.known.bank) l) (s.stands r i) in
+    record { table = z.table; values = z.values; frames = z.frames }

@@ -7,6 +7,10 @@ use Rattle.lp_model.specs.Search.{look_form}
 use Rattle.lp_plain.specs.Entries.{ArePartsOf, entry_at}
 use Rattle.lp_plain.proofs.AppliedGoals.{term_apart, true_apart}
 use Rattle.lp_plain.proofs.Taken.{and_apart, or_apart}
+use Rattle.std.proofs.Common.{◌<◌, ap, length}
+use Rattle.lp_plain.proofs.Grown.{grown_apart, grown_kept, grown_on, kept_apart, quietly, stands_apart}
+use Rattle.lp_plain.proofs.Opening.{same_stands}
+use Rattle.lp_plain.proofs.TakenApart.{known_taken, no_other, stands_known}
 use Rattle.lp_plain.proofs.parts.put_connective.Goals as goal
 
 pub returns-in_ok-put_and-in-And-clause-and : goal.returns-in_ok-put_and-in-And-clause-and
@@ -46,3 +50,64 @@ returns-in-True-clause-truth c = λ e i a b w u n height P t g.
     let s = c.go_behind.ensures in
     subst (λ z. ArePartsOf m q a (look_form u n P height (entry_at a c.args.place g) b t (connective_in m.bank z))) (sym c.in-True.is)
     (true_apart m c.take_apart.new.machine q c.args.behind (c.if-not-take_apart.ensures.apart refl) s.known s.goals s.next s.next_type s.choices a b w)
+
+pub returns-in_ok-put_and-in-And-clause-taken : goal.returns-in_ok-put_and-in-And-clause-taken
+returns-in_ok-put_and-in-And-clause-taken c = λ e af.
+    let m = c.args.machine.now in
+    let p = c.args.place in
+    let n = c.put_and.new.machine in
+    let k = c.take_apart.new.machine in
+    let x = c.if-not-take_apart.ensures.apart refl in
+    let f = c.in_ok-put_and-in-And.ensures in
+    known_taken m n p c.args.connective c.args.behind (λ a b i kc w. returns-in_ok-put_and-in-And-clause-and c e c.in-And.left c.in-And.right c.in-And.is a b w) (grown_apart m k n p x f.grown)
+    (λ kc. stands_known m k n (λ b. (c.in-And.left.0 < length b.terms) × (c.in-And.right.0 < length b.terms)) x (λ q. f.stands q.0 q.1) (subst (IsConnectiveIn m.bank) c.in-And.is kc))
+    (quietly m k n x (c.if-not-take_apart.ensures.taken refl) (grown_on k n p f.grown) f.counts) (kept_apart m k n p x (no_other k n p f.choices))
+
+pub returns-in_ok-put_or-in-Or-clause-taken : goal.returns-in_ok-put_or-in-Or-clause-taken
+returns-in_ok-put_or-in-Or-clause-taken c = λ e af.
+    let m = c.args.machine.now in
+    let p = c.args.place in
+    let n = c.put_or.new.machine in
+    let k = c.take_apart.new.machine in
+    let x = c.if-not-take_apart.ensures.apart refl in
+    let f = c.in_ok-put_or-in-Or.ensures in
+    known_taken m n p c.args.connective c.args.behind (λ a b i kc w. returns-in_ok-put_or-in-Or-clause-or c e c.in-Or.left c.in-Or.right c.in-Or.is a b w) (grown_apart m k n p x f.grown)
+    (λ kc. stands_known m k n (λ b. (c.in-Or.left.0 < length b.terms) × (c.in-Or.right.0 < length b.terms)) x (λ q. f.stands q.0 q.1) (subst (IsConnectiveIn m.bank) c.in-Or.is kc))
+    (quietly m k n x (c.if-not-take_apart.ensures.taken refl) (grown_on k n p f.grown) f.counts) (kept_apart m k n p x f.kept)
+
+pub returns-in_ok-put_for_all-in-ForAll-clause-taken : goal.returns-in_ok-put_for_all-in-ForAll-clause-taken
+returns-in_ok-put_for_all-in-ForAll-clause-taken c = λ e af.
+    let m = c.args.machine.now in
+    let p = c.args.place in
+    let n = c.put_for_all.new.machine in
+    let k = c.take_apart.new.machine in
+    let x = c.if-not-take_apart.ensures.apart refl in
+    let f = c.in_ok-put_for_all-in-ForAll.ensures in
+    known_taken m n p c.args.connective c.args.behind (λ a b i kc w. returns-in_ok-put_for_all-in-ForAll-clause-forall c e c.in-ForAll.field-0
+    c.in-ForAll.term c.in-ForAll.is a b i kc w) (grown_apart m k n p x f.grown) (λ kc. stands_apart m k n x f.stands)
+    (quietly m k n x (c.if-not-take_apart.ensures.taken refl) (grown_on k n p f.grown) f.counts) (kept_apart m k n p x (no_other k n p f.choices))
+
+pub returns-in_ok-put_exists-in-Exists-clause-taken : goal.returns-in_ok-put_exists-in-Exists-clause-taken
+returns-in_ok-put_exists-in-Exists-clause-taken c = λ e af.
+    let m = c.args.machine.now in
+    let p = c.args.place in
+    let n = c.put_exists.new.machine in
+    let k = c.take_apart.new.machine in
+    let x = c.if-not-take_apart.ensures.apart refl in
+    let f = c.in_ok-put_exists-in-Exists.ensures in
+    known_taken m n p c.args.connective c.args.behind (λ a b i kc w. returns-in_ok-put_exists-in-Exists-clause-exists c e c.in-Exists.field-0
+    c.in-Exists.term c.in-Exists.is a b i kc w) (grown_apart m k n p x f.grown) (λ kc. stands_apart m k n x f.stands)
+    (quietly m k n x (c.if-not-take_apart.ensures.taken refl) (grown_on k n p f.grown) f.counts) (kept_apart m k n p x (no_other k n p f.choices))
+
+pub returns-in-True-clause-taken : goal.returns-in-True-clause-taken
+returns-in-True-clause-taken c = λ e af.
+    let m = c.args.machine.now in
+    let p = c.args.place in
+    let n = c.go_behind.new.machine in
+    let k = c.take_apart.new.machine in
+    let x = c.if-not-take_apart.ensures.apart refl in
+    let f = c.go_behind.ensures in
+    let g = grown_kept k n p f.known f.frames f.assumed f.denied in
+    known_taken m n p c.args.connective c.args.behind (λ a b i kc w. returns-in-True-clause-truth c e c.in-True.is a b w) (grown_apart m k n p x g)
+    (λ kc. stands_apart m k n x (same_stands k n f.known f.frames))
+    (quietly m k n x (c.if-not-take_apart.ensures.taken refl) (grown_on k n p g) f.counts) (kept_apart m k n p x (no_other k n p (ap (λ v. v.items) f.choices)))

@@ -1,7 +1,25 @@
 use Rattle.lp_plain.proofs.AppliedGoals.{for_all_form}
+use Rattle.lp_plain.proofs.Grown.{grown_by, grown_still, grown_then}
+use Rattle.std.proofs.Common.{◌∙◌}
 use Rattle.lp_plain.proofs.parts.put_for_all.Goals as goal
 
 pub returns-clause-parts : goal.returns-clause-parts
 returns-clause-parts c = λ a b i l r.
     let v = c.in_ok-above.ensures in
     for_all_form c.args.machine.now c.raised.new.machine c.put_goal_of.new.machine c.args.place c.args.behind c.args.term _ a b v.stands i l r _ v.raised c.in_ok-put_goal_of.ensures.front
+
+pub returns-clause-grown : goal.returns-clause-grown
+returns-clause-grown c =
+    let m = c.args.machine.now in
+    let p = c.args.place in
+    let n = c.raised.new.machine in
+    let q = c.put_goal_of.new.machine in
+    let v = c.in_ok-above.ensures.raised in
+    let g = grown_then m n q p (grown_still m n p v.grows v.frames v.keeps v.standings v.index v.denied) (grown_by n q p _ v.assumed v.standing c.in_ok-put_goal_of.ensures.grown) in
+    record { lists = g.lists; frames = g.frames; index = g.index; denied = g.denied }
+
+pub returns-clause-choices : goal.returns-clause-choices
+returns-clause-choices c = c.in_ok-put_goal_of.ensures.choices ∙ c.in_ok-above.ensures.raised.choices
+
+pub returns-clause-stands : goal.returns-clause-stands
+returns-clause-stands c = λ i. c.in_ok-put_goal_of.ensures.stands (c.in_ok-above.ensures.stands i)

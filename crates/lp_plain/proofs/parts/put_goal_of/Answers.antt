@@ -2,6 +2,7 @@ use Rattle.std.proofs.Common.{[], ◌∷◌, ◌∙◌, refl, ap, subst, sym}
 use Rattle.lp_model.specs.Flat.{Atomic}
 use Rattle.lp_plain.specs.Entries.{HeadsTo}
 use Rattle.lp_plain.proofs.Growing.{reads_later}
+use Rattle.lp_plain.proofs.Grown.{grown_frame, grown_still, grown_then}
 use Rattle.lp_plain.proofs.parts.put_goal_of.Goals as goal
 
 pub returns-clause-front : goal.returns-clause-front
@@ -15,3 +16,23 @@ returns-clause-front c = λ a es v i h r.
       next_type = ap (λ b. b.next_type) (f.course.branch ∙ p.course.branch);
       choices = f.course.choices ∙ p.course.choices;
     }
+
+pub returns-clause-grown : goal.returns-clause-grown
+returns-clause-grown c =
+    let m = c.args.machine.now in
+    let p = c.args.place in
+    let n = c.applied.new.machine in
+    let q = c.put_frame.new.self in
+    let v = c.in_ok-goal.ensures in
+    let f = c.in_ok-front.ensures in
+    let g = grown_then m n q p (grown_still m n p v.grows v.frames v.assumed v.standings v.index v.course.denied) (grown_frame n q p f.goals f.assumed f.frame f.course.denied) in
+    record { lists = g.lists; frames = g.frames; index = g.index; denied = g.denied }
+
+pub returns-clause-choices : goal.returns-clause-choices
+returns-clause-choices c = c.in_ok-front.ensures.course.choices ∙ c.in_ok-goal.ensures.course.choices
+
+pub returns-clause-stands : goal.returns-clause-stands
+returns-clause-stands c = λ i.
+    let p = c.in_ok-goal.ensures in
+    let z = c.in_ok-front.ensures.stands p.within (p.stands i) in
+    record { table = z.table; values = z.values; frames = z.frames }

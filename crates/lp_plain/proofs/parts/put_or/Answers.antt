@@ -2,6 +2,13 @@ use Rattle.std.proofs.Common.{[], ◌∷◌, refl, ap, Some}
 use Rattle.lp_term.specs.Nodes.{tree}
 use Rattle.lp_model.specs.Flat.{Atomic}
 use Rattle.lp_plain.proofs.Frames.{reads_on, keeps_then, keeps_same, split}
+use Rattle.lp_plain.proofs.Grown.{grown_frame, grown_kept, grown_then}
+use Rattle.std.proofs.Common.{◌<◌, ◌∙◌, length, subst, sym}
+use Rattle.lp_plain.specs.Assuming.{KeepsAssumed}
+use Rattle.lp_plain.specs.Taking.{IsAbove, IsKept}
+use Rattle.lp_plain.proofs.Grown.{alternative_above, alternative_kept, grown_on, placed_on}
+use Rattle.lp_plain.proofs.Opening.{same_stands}
+use Rattle.lp_plain.proofs.Restored.{last_same}
 use Rattle.lp_plain.proofs.parts.put_or.Goals as goal
 
 pub returns-clause-parts : goal.returns-clause-parts
@@ -25,3 +32,64 @@ returns-clause-parts c = λ a b r u n height P t g.
       refl,
     ) (reads_on m three a c.args.behind b.goals all r.goals))
     (c.in_ok-other.ensures.reads a (Atomic (tree m.bank c.args.right.0) ∷ []) b.goals (tree m.bank c.args.right.0, (0, refl), refl) r.goals)
+
+pub returns-clause-grown : goal.returns-clause-grown
+returns-clause-grown c =
+    let m = c.args.machine.now in
+    let p = c.args.place in
+    let one = c.put_frame.new.self in
+    let two = c.put_choice.new.self in
+    let three = c.note.new.self in
+    let four = c.put_frame-2.new.self in
+    let k = c.in_ok-other.ensures in
+    let l = c.in_ok-put_choice.ensures in
+    let j = c.in_ok-note.ensures in
+    let i = c.in_ok-one.ensures in
+    let g = grown_then m two four p (grown_then m one two p (grown_frame m one p k.goals k.assumed k.frame k.course.denied)
+    (grown_kept one two p l.goals l.frames l.assumed l.denied)) (grown_then two three four p
+    (grown_kept two three p j.goals j.frames j.assumed j.course.denied) (grown_frame three four p i.goals i.assumed i.frame i.course.denied)) in
+    record { lists = g.lists; frames = g.frames; index = g.index; denied = g.denied }
+
+pub returns-clause-stands : goal.returns-clause-stands
+returns-clause-stands c = λ l r i.
+    let m = c.args.machine.now in
+    let one = c.put_frame.new.self in
+    let two = c.put_choice.new.self in
+    let three = c.note.new.self in
+    let o = c.in_ok-other.ensures in
+    let v = c.in_ok-put_choice.ensures in
+    let j = c.in_ok-note.ensures in
+    let bank = j.goals.known.bank ∙ v.goals.known.bank ∙ o.goals.known.bank in
+    let z = c.in_ok-one.ensures.stands (subst (λ b. c.args.left.0 < length b.terms) (sym bank) l) (same_stands two three j.goals j.frames (same_stands one two v.goals v.frames (o.stands r i))) in
+    record { table = z.table; values = z.values; frames = z.frames }
+
+pub returns-clause-kept : goal.returns-clause-kept
+returns-clause-kept c = λ a i pl h k e.
+    let m = c.args.machine.now in
+    let p = c.args.place in
+    let one = c.put_frame.new.self in
+    let two = c.put_choice.new.self in
+    let three = c.note.new.self in
+    let four = c.put_frame-2.new.self in
+    let o = c.in_ok-other.ensures in
+    let l = c.in_ok-put_choice.ensures in
+    let j = c.in_ok-note.ensures in
+    let f = c.in_ok-one.ensures in
+    let x = l.alternative in
+    let all = keeps_then one three four (keeps_then one two three l.goals j.goals) f.goals in
+    let ka : KeepsAssumed one four = record { assumptions = f.assumed.assumptions ∙ j.assumed.assumptions ∙ l.assumed.assumptions; newest = f.assumed.newest ∙ j.assumed.newest ∙ l.assumed.newest } in
+    let grown = grown_frame m one p o.goals o.assumed o.frame o.course.denied in
+    let q = alternative_kept one two four a _ x all ka (placed_on m one a p grown i pl h) in
+    let same = last_same one.choices.items m.choices.items x.choice k (sym (f.course.choices ∙ j.course.choices ∙ x.more) ∙ e) in
+    let r = subst (λ z. IsKept four a z) same.1 q in (
+      record {
+        frames = r.frames;
+        blocks = r.blocks;
+        values = r.values;
+        assumptions = r.assumptions;
+        newest = r.newest;
+        standings = r.standings;
+        placed = r.placed;
+      },
+      subst (IsAbove m) same.1 (alternative_above m one two _ x (grown_on m one p grown)),
+    )

@@ -5,6 +5,10 @@ use Rattle.lp_plain.specs.Tables.{AreClausesOf, IsNumbered, shown}
 use Rattle.lp_plain.proofs.Assuming.{assume_apart}
 use Rattle.lp_plain.proofs.Opening.{quantified_apart}
 use Rattle.lp_plain.proofs.Taken.{either_apart}
+use Rattle.lp_plain.proofs.Grown.{grown_apart, grown_on, kept_apart, quietly, stands_apart}
+use Rattle.lp_plain.specs.Taking.{IsApartFlat}
+use Rattle.lp_plain.proofs.Marked.{aside_apart, marks_apart, none_aside}
+use Rattle.lp_plain.proofs.TakenApart.{all_taken, assume_taken, either_taken, none_taken, some_taken}
 use Rattle.lp_plain.proofs.parts.put_parts.Goals as goal
 
 pub returns-in_ok-put_either-in-Either-clause-either : goal.returns-in_ok-put_either-in-Either-clause-either
@@ -49,3 +53,124 @@ returns-in_ok-put_assume-in-Assume-clause-assume c = λ e s l f i a cs hs σ b s
     assume_apart m c.take_apart.new.machine c.put_assume.new.machine p c.in-Assume.rules c.in-Assume.goals c.in-Assume.free c.args.behind
     (c.if-not-take_apart.ensures.apart refl) c.in_ok-put_assume-in-Assume.ensures.parts a cs hs σ b st pl h
     (subst (λ z. AreClausesOf m.bank m.table z cs) qs k) (subst (λ z. IsNumbered (shown m.table).frees z (λ f. collect_clauses f 0 cs)) qf nu) (subst (λ z. IsOf m p z hs σ) ql x) w u n height P
+
+pub returns-in_ok-put_either-in-Either-clause-taken : goal.returns-in_ok-put_either-in-Either-clause-taken
+returns-in_ok-put_either-in-Either-clause-taken c = λ e.
+    let m = c.args.machine.now in
+    let p = c.args.place in
+    let n = c.put_either.new.machine in
+    let f = c.in_ok-put_either-in-Either.ensures in
+    let k = c.take_apart.new.machine in
+    let h = c.if-not-take_apart.ensures.apart refl in
+    either_taken m n p c.args.goal c.args.behind c.in-Either.left c.in-Either.right c.in-Either.is
+    (either_apart m k n p c.in-Either.left c.in-Either.right c.args.behind h f.parts) (grown_apart m k n p h f.grown)
+    (stands_apart m k n h f.stands) (quietly m k n h (c.if-not-take_apart.ensures.taken refl) (grown_on k n p f.grown) f.counts)
+    (kept_apart m k n p h f.kept)
+
+pub returns-in_ok-put_some-in-Some-clause-taken : goal.returns-in_ok-put_some-in-Some-clause-taken
+returns-in_ok-put_some-in-Some-clause-taken c = λ e.
+    let m = c.args.machine.now in
+    let p = c.args.place in
+    let n = c.put_some.new.machine in
+    let f = c.in_ok-put_some-in-Some.ensures in
+    let k = c.take_apart.new.machine in
+    let h = c.if-not-take_apart.ensures.apart refl in
+    some_taken m n p c.args.goal c.args.behind c.in-Some.goals c.in-Some.is (quantified_apart Exists m k n p c.in-Some.goals c.args.behind h f.parts)
+    (grown_apart m k n p h f.grown) (stands_apart m k n h f.stands) (quietly m k n h (c.if-not-take_apart.ensures.taken refl)
+    (grown_on k n p f.grown) f.counts)
+
+pub returns-in_ok-put_all-in-All-clause-taken : goal.returns-in_ok-put_all-in-All-clause-taken
+returns-in_ok-put_all-in-All-clause-taken c = λ e.
+    let m = c.args.machine.now in
+    let p = c.args.place in
+    let n = c.put_all.new.machine in
+    let f = c.in_ok-put_all-in-All.ensures in
+    let k = c.take_apart.new.machine in
+    let h = c.if-not-take_apart.ensures.apart refl in
+    all_taken m n p c.args.goal c.args.behind c.in-All.goals c.in-All.is (quantified_apart Forall m k n p c.in-All.goals c.args.behind h f.parts)
+    (grown_apart m k n p h f.grown) (stands_apart m k n h f.stands) (quietly m k n h (c.if-not-take_apart.ensures.taken refl)
+    (grown_on k n p f.grown) f.counts)
+
+pub returns-in_ok-put_assume-in-Assume-clause-taken : goal.returns-in_ok-put_assume-in-Assume-clause-taken
+returns-in_ok-put_assume-in-Assume-clause-taken c = λ e.
+    let m = c.args.machine.now in
+    let p = c.args.place in
+    let n = c.put_assume.new.machine in
+    let k = c.take_apart.new.machine in
+    let h = c.if-not-take_apart.ensures.apart refl in
+    assume_taken m n p c.args.goal c.args.behind c.in-Assume.rules c.in-Assume.goals c.in-Assume.free c.in-Assume.is
+    (assume_apart m k n p c.in-Assume.rules c.in-Assume.goals c.in-Assume.free c.args.behind h c.in_ok-put_assume-in-Assume.ensures.parts)
+    (quietly m k n h (c.if-not-take_apart.ensures.taken refl) c.in_ok-put_assume-in-Assume.ensures.grown
+    c.in_ok-put_assume-in-Assume.ensures.counts)
+
+pub returns-in-Atom-clause-taken : goal.returns-in-Atom-clause-taken
+returns-in-Atom-clause-taken c = λ e. let y = c.in-Atom.is in none_taken c.args.machine.now _ c.args.place c.args.goal c.args.behind (λ l r z. cc) (λ l z. cc) (λ l z. cc) (λ s l f z. cc)
+
+pub returns-in-Cut-clause-taken : goal.returns-in-Cut-clause-taken
+returns-in-Cut-clause-taken c = λ e. let y = c.in-Cut.is in none_taken c.args.machine.now _ c.args.place c.args.goal c.args.behind (λ l r z. cc) (λ l z. cc) (λ l z. cc) (λ s l f z. cc)
+
+pub returns-in-Not-clause-taken : goal.returns-in-Not-clause-taken
+returns-in-Not-clause-taken c = λ e. let y = c.in-Not.is in none_taken c.args.machine.now _ c.args.place c.args.goal c.args.behind (λ l r z. cc) (λ l z. cc) (λ l z. cc) (λ s l f z. cc)
+
+pub returns-in_ok-put_either-in-Either-clause-marks : goal.returns-in_ok-put_either-in-Either-clause-marks
+returns-in_ok-put_either-in-Either-clause-marks c = λ e h.
+    let n = c.put_either.new.machine in
+    marks_apart c.args.machine.now c.take_apart.new.machine n c.args.place c.args.behind n.branch.goals (c.if-not-take_apart.ensures.apart refl) c.in_ok-put_either-in-Either.ensures.marks
+
+pub returns-in_ok-put_some-in-Some-clause-marks : goal.returns-in_ok-put_some-in-Some-clause-marks
+returns-in_ok-put_some-in-Some-clause-marks c = λ e h.
+    let n = c.put_some.new.machine in
+    marks_apart c.args.machine.now c.take_apart.new.machine n c.args.place c.args.behind n.branch.goals (c.if-not-take_apart.ensures.apart refl) c.in_ok-put_some-in-Some.ensures.marks
+
+pub returns-in_ok-put_all-in-All-clause-marks : goal.returns-in_ok-put_all-in-All-clause-marks
+returns-in_ok-put_all-in-All-clause-marks c = λ e h.
+    let n = c.put_all.new.machine in
+    marks_apart c.args.machine.now c.take_apart.new.machine n c.args.place c.args.behind n.branch.goals (c.if-not-take_apart.ensures.apart refl) c.in_ok-put_all-in-All.ensures.marks
+
+pub returns-in_ok-put_assume-in-Assume-clause-marks : goal.returns-in_ok-put_assume-in-Assume-clause-marks
+returns-in_ok-put_assume-in-Assume-clause-marks c = λ e h.
+    let n = c.put_assume.new.machine in
+    marks_apart c.args.machine.now c.take_apart.new.machine n c.args.place c.args.behind n.branch.goals (c.if-not-take_apart.ensures.apart refl) c.in_ok-put_assume-in-Assume.ensures.marks
+
+pub returns-in_ok-put_either-in-Either-clause-aside : goal.returns-in_ok-put_either-in-Either-clause-aside
+returns-in_ok-put_either-in-Either-clause-aside c = λ e h.
+    aside_apart c.args.machine.now c.take_apart.new.machine c.put_either.new.machine c.args.place c.args.behind (c.if-not-take_apart.ensures.apart refl) c.in_ok-put_either-in-Either.ensures.aside
+
+pub returns-in_ok-put_some-in-Some-clause-aside : goal.returns-in_ok-put_some-in-Some-clause-aside
+returns-in_ok-put_some-in-Some-clause-aside c = λ e h.
+    let m = c.args.machine.now in
+    let k = c.take_apart.new.machine in
+    let n = c.put_some.new.machine in
+    aside_apart m k n c.args.place c.args.behind (c.if-not-take_apart.ensures.apart refl) (none_aside k n c.args.place c.args.behind c.in_ok-put_some-in-Some.ensures.choices)
+
+pub returns-in_ok-put_all-in-All-clause-aside : goal.returns-in_ok-put_all-in-All-clause-aside
+returns-in_ok-put_all-in-All-clause-aside c = λ e h.
+    let m = c.args.machine.now in
+    let k = c.take_apart.new.machine in
+    let n = c.put_all.new.machine in
+    aside_apart m k n c.args.place c.args.behind (c.if-not-take_apart.ensures.apart refl) (none_aside k n c.args.place c.args.behind c.in_ok-put_all-in-All.ensures.choices)
+
+pub returns-in_ok-put_assume-in-Assume-clause-aside : goal.returns-in_ok-put_assume-in-Assume-clause-aside
+returns-in_ok-put_assume-in-Assume-clause-aside c = λ e h.
+    let m = c.args.machine.now in
+    let k = c.take_apart.new.machine in
+    let n = c.put_assume.new.machine in
+    aside_apart m k n c.args.place c.args.behind (c.if-not-take_apart.ensures.apart refl) (none_aside k n c.args.place c.args.behind c.in_ok-put_assume-in-Assume.ensures.choices)
+
+pub returns-in-Atom-clause-marks : goal.returns-in-Atom-clause-marks
+returns-in-Atom-clause-marks c = λ e h. absurd (subst IsApartFlat c.in-Atom.is h)
+
+pub returns-in-Atom-clause-aside : goal.returns-in-Atom-clause-aside
+returns-in-Atom-clause-aside c = λ e h. absurd (subst IsApartFlat c.in-Atom.is h)
+
+pub returns-in-Cut-clause-marks : goal.returns-in-Cut-clause-marks
+returns-in-Cut-clause-marks c = λ e h. absurd (subst IsApartFlat c.in-Cut.is h)
+
+pub returns-in-Cut-clause-aside : goal.returns-in-Cut-clause-aside
+returns-in-Cut-clause-aside c = λ e h. absurd (subst IsApartFlat c.in-Cut.is h)
+
+pub returns-in-Not-clause-marks : goal.returns-in-Not-clause-marks
+returns-in-Not-clause-marks c = λ e h. absurd (subst IsApartFlat c.in-Not.is h)
+
+pub returns-in-Not-clause-aside : goal.returns-in-Not-clause-aside
+returns-in-Not-clause-aside c = λ e h. absurd (subst IsApartFlat c.in-Not.is h)

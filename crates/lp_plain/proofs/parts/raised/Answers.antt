@@ -9,6 +9,11 @@ returns-clause-raised c =
     let e = c.in-Some.ensures.1 ∙ add-one c.args.place.level in
     record {
       grows = bank_grows c.args.machine.now _ p.kept refl refl refl;
+      frames = refl;
+      keeps = record { assumptions = refl; newest = refl };
+      standings = refl;
+      index = refl;
+      denied = refl;
       choices = refl;
       branch = refl;
       within = p.within;

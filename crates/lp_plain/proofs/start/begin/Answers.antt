@@ -17,6 +17,10 @@ use Rattle.lp_plain.proofs.Later.{list_later, rules_later, table_later}
 use Rattle.lp_plain.proofs.Programs.{program_on}
 use Rattle.lp_plain.proofs.Scoped.{scope_whole}
 use Rattle.lp_plain.proofs.Starts.{outermost_placed, outside_entries, query_values_are, variables_are_values}
+use Rattle.lp_model.specs.Search.{start}
+use Rattle.lp_plain.proofs.QuietMoves.{first_state}
+use Rattle.lp_plain.specs.Marks.{no_mark}
+use Rattle.lp_plain.proofs.Marking.{first_marked}
 use Rattle.lp_plain.proofs.start.begin.Goals as goal
 
 pub returns-clause-stands : goal.returns-clause-stands
@@ -98,3 +102,16 @@ returns-clause-index c =
 pub returns-clause-placed : goal.returns-clause-placed
 returns-clause-placed c = λ a i. outermost_placed (lists_of c.put_list.new.self) a c.in_ok-place.place c.new-frames.result.items
     c.put_list.new.self.frames.items c.new-frames.ensures.items c.in_ok-front.ensures.frame i c.in_ok-place.ensures.outside
+
+pub returns-clause-state : goal.returns-clause-state
+returns-clause-state c = λ l n k flat h a o answers.
+    let f = c.in_ok-front.ensures.course in
+    let alone = returns-clause-starts c l n k flat h a o answers in
+    first_state c.args.limit a _ (start c.args.query.type_vars (length c.args.query.vars.items) flat c.args.limit answers) _ alone.0 alone.1
+    (returns-clause-stands c) (returns-clause-placed c a o) f.denied f.counts refl refl refl refl refl
+
+pub returns-clause-marked : goal.returns-clause-marked
+returns-clause-marked c =
+    let f = c.in_ok-front.ensures in
+    let mk = c.in_ok-place.ensures.outside.mark in
+    first_marked _ (f.course.choices ∙ c.new-choices.ensures.items) f.course.denied (f.marks 0 0 (no_mark refl) (omega arith) (omega (arith, mk)))

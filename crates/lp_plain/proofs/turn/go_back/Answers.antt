@@ -1,25 +1,88 @@
-use Rattle.std.proofs.Common.{◌≡◌, ◌∙◌, Some, None, refl, sym, ap}
-use Rattle.lp_plain.specs.declared.choice.Untried.{Untried}
+use Rattle.std.proofs.Common.{◌≡◌, ◌∙◌, true, false, refl, sym, ap}
+use Rattle.lp_plain.proofs.Backwards.{back_marked, back_state, ends_so}
 use Rattle.lp_plain.proofs.Restored.{goes_back}
 use Rattle.lp_plain.proofs.turn.go_back.Goals as goal
 
-pub returns-in_ok-go_right-in-Goals : goal.returns-in_ok-go_right-in-Goals
-returns-in_ok-go_right-in-Goals c = λ k rest from e u.
-    let t = c.in_ok-untried.ensures k rest e in
+pub returns-in_ok-go_right-in-Goals-clause-goes : goal.returns-in_ok-go_right-in-Goals-clause-goes
+returns-in_ok-go_right-in-Goals-clause-goes c = λ k rest from e u.
+    let t = c.in_ok-untried.ensures.taken k rest e in
     let g = c.in_ok-go_right-in-Goals.ensures in
     let q : c.in-Goals.goals ≡ from = (let z = t.0 in let y = c.in-Goals.is in cc) in
     (refl, goes_back c.args.machine.now c.take_choice.new.self c.go_right.new.machine k rest from u t.1 g.known (g.goals ∙ q) g.next g.next_type g.choices g.counts g.denied)
 
-pub returns-in_ok-turn-in-Clauses : goal.returns-in_ok-turn-in-Clauses
-returns-in_ok-turn-in-Clauses c = λ k rest from e u.
-    let t = c.in_ok-untried.ensures k rest e in
+pub returns-in_ok-turn-in-Clauses-clause-goes : goal.returns-in_ok-turn-in-Clauses-clause-goes
+returns-in_ok-turn-in-Clauses-clause-goes c = λ k rest from e u.
+    let t = c.in_ok-untried.ensures.taken k rest e in
     let z = t.0 in
     let y = c.in-Clauses.is in
     absurd (cc)
 
-pub returns-in-Denied : goal.returns-in-Denied
-returns-in-Denied c = λ k rest from e u.
-    let t = c.in_ok-untried.ensures k rest e in
+pub returns-in-Denied-clause-goes : goal.returns-in-Denied-clause-goes
+returns-in-Denied-clause-goes c = λ k rest from e u.
+    let t = c.in_ok-untried.ensures.taken k rest e in
+    let z = t.0 in
+    let y = c.in-Denied.is in
+    absurd (cc)
+
+pub returns-in_ok-go_right-in-Goals-clause-state : goal.returns-in_ok-go_right-in-Goals-clause-state
+returns-in_ok-go_right-in-Goals-clause-state c = λ k rest from e u l a s h.
+    let m = c.args.machine.now in
+    let n = c.take_choice.new.self in
+    let q = c.go_right.new.machine in
+    let t = c.in_ok-untried.ensures.taken k rest e in
+    let g = c.in_ok-go_right-in-Goals.ensures in
+    let z = returns-in_ok-go_right-in-Goals-clause-goes c k rest from e u in
+    back_state m n q k rest from e u l t.1 z.1 g.known g.assumed g.frames g.denied a s h
+
+pub returns-in_ok-turn-in-Clauses-clause-state : goal.returns-in_ok-turn-in-Clauses-clause-state
+returns-in_ok-turn-in-Clauses-clause-state c = λ k rest from e u l a s h.
+    let t = c.in_ok-untried.ensures.taken k rest e in
+    let z = t.0 in
+    let y = c.in-Clauses.is in
+    absurd (cc)
+
+pub returns-in-Denied-clause-state : goal.returns-in-Denied-clause-state
+returns-in-Denied-clause-state c = λ k rest from e u l a s h.
+    let t = c.in_ok-untried.ensures.taken k rest e in
+    let z = t.0 in
+    let y = c.in-Denied.is in
+    absurd (cc)
+
+pub returns-in_ok-go_right-in-Goals-clause-ends : goal.returns-in_ok-go_right-in-Goals-clause-ends
+returns-in_ok-go_right-in-Goals-clause-ends c = λ e a s h. let y = c.in_ok-untried.ensures.none e in absurd (cc)
+
+pub returns-in_ok-turn-in-Clauses-clause-ends : goal.returns-in_ok-turn-in-Clauses-clause-ends
+returns-in_ok-turn-in-Clauses-clause-ends c = λ e a s h. let y = c.in_ok-untried.ensures.none e in absurd (cc)
+
+pub returns-in-Denied-clause-ends : goal.returns-in-Denied-clause-ends
+returns-in-Denied-clause-ends c = λ e a s h. let y = c.in_ok-untried.ensures.none e in absurd (cc)
+
+pub returns-then-machine-clause-ends : goal.returns-then-machine-clause-ends
+returns-then-machine-clause-ends c = λ e a s h. ends_so c.args.machine.now a s true e (sym c.in_ok-untried.ensures.lost ∙ c.if-machine.true) h
+
+pub returns-in_default-clause-ends : goal.returns-in_default-clause-ends
+returns-in_default-clause-ends c = λ e a s h. ends_so c.args.machine.now a s false e (sym c.in_ok-untried.ensures.lost ∙ c.if-machine.false) h
+
+pub returns-in_ok-go_right-in-Goals-clause-marked : goal.returns-in_ok-go_right-in-Goals-clause-marked
+returns-in_ok-go_right-in-Goals-clause-marked c = λ k rest from e u l a s h am.
+    let m = c.args.machine.now in
+    let q = c.go_right.new.machine in
+    let t = c.in_ok-untried.ensures.taken k rest e in
+    let g = c.in_ok-go_right-in-Goals.ensures in
+    let z = returns-in_ok-go_right-in-Goals-clause-goes c k rest from e u in
+    let w : c.in-Goals.goals ≡ from = (let z = t.0 in let y = c.in-Goals.is in cc) in
+    back_marked m q k rest from e u l (ap (λ v. v.items) g.frames ∙ t.1.frames) (g.goals ∙ w) z.1.choices z.1.denied a s h am
+
+pub returns-in_ok-turn-in-Clauses-clause-marked : goal.returns-in_ok-turn-in-Clauses-clause-marked
+returns-in_ok-turn-in-Clauses-clause-marked c = λ k rest from e u l a s h am.
+    let t = c.in_ok-untried.ensures.taken k rest e in
+    let z = t.0 in
+    let y = c.in-Clauses.is in
+    absurd (cc)
+
+pub returns-in-Denied-clause-marked : goal.returns-in-Denied-clause-marked
+returns-in-Denied-clause-marked c = λ k rest from e u l a s h am.
+    let t = c.in_ok-untried.ensures.taken k rest e in
     let z = t.0 in
     let y = c.in-Denied.is in
     absurd (cc)

@@ -10,3 +10,9 @@ returns-clause-next c = ap (λ b. b.next) c.in_ok-note.ensures.course.branch
 
 pub returns-clause-next_type : goal.returns-clause-next_type
 returns-clause-next_type c = ap (λ b. b.next_type) c.in_ok-note.ensures.course.branch
+
+pub returns-clause-assumed : goal.returns-clause-assumed
+returns-clause-assumed c = record { assumptions = c.in_ok-note.ensures.assumed.assumptions; newest = c.in_ok-note.ensures.assumed.newest }
+
+pub returns-clause-frames : goal.returns-clause-frames
+returns-clause-frames c = c.in_ok-note.ensures.frames

@@ -12,7 +12,7 @@ pub returns-then-span-clause-stands : goal.returns-then-span-clause-stands
 returns-then-span-clause-stands c = λ i. i
 
 pub returns-clause-stands : goal.returns-clause-stands
-returns-clause-stands c = λ i. c.in_ok-goals.ensures.stands tt i
+returns-clause-stands c = λ i. c.in_ok-goals.ensures.stands c.if-span.false i
 
 pub returns-then-span-clause-assumed : goal.returns-then-span-clause-assumed
 returns-then-span-clause-assumed c = record { assumptions = refl; newest = refl }
@@ -25,3 +25,9 @@ returns-then-span-clause-frame c = inl refl
 
 pub returns-clause-frame : goal.returns-clause-frame
 returns-clause-frame c = c.in_ok-goals.ensures.frame
+
+pub returns-then-span-clause-marks : goal.returns-then-span-clause-marks
+returns-then-span-clause-marks c = λ l u h k j. h
+
+pub returns-clause-marks : goal.returns-clause-marks
+returns-clause-marks c = c.in_ok-goals.ensures.marks

@@ -1,9 +1,9 @@
 use Rattle.std.proofs.Common.{◌∙◌, Some, ap, sym, take}
-use Rattle.lp_plain.proofs.Restored.{last_same}
+use Rattle.lp_plain.proofs.Restored.{last_same, no_push}
 use Rattle.lp_plain.proofs.machine.Machine.take_choice.Goals as goal
 
-pub returns : goal.returns
-returns c = λ k rest e.
+pub returns-clause-taken : goal.returns-clause-taken
+returns-clause-taken c = λ k rest e.
     let m = c.args.self.now in
     let r = c.in_ok-restore.ensures in
     let q = last_same c.pop.new.self.items rest c.in-Some.choice k (sym c.in-Some.ensures.items ∙ e) in (
@@ -28,3 +28,9 @@ returns c = λ k rest e.
         denied = r.denied;
       },
     )
+
+pub returns-clause-none : goal.returns-clause-none
+returns-clause-none c = λ e. absurd (no_push c.pop.new.self.items c.in-Some.choice (sym c.in-Some.ensures.items ∙ e))
+
+pub returns-clause-lost : goal.returns-clause-lost
+returns-clause-lost c = ap (λ z. z.lost) c.in_ok-restore.ensures.counts

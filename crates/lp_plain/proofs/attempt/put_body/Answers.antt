@@ -1,0 +1,10 @@
+use Rattle.std.proofs.Common.{subst}
+use Rattle.lp_plain.specs.Entries.{IsListAt}
+use Rattle.lp_plain.proofs.OwnValues.{one_read}
+use Rattle.lp_plain.proofs.attempt.put_body.Goals as goal
+
+pub returns-clause-body : goal.returns-clause-body
+returns-clause-body c = λ r e a gs es h b.
+    let m = c.args.machine.now in
+    let q = one_read m.table.rules.items c.args.rule r c.in_ok-found.found.now e c.in_ok-found.ensures in
+    c.in_ok-goals.ensures.reads a gs es (subst (λ x. IsListAt m c.args.place x.body gs) q h) b

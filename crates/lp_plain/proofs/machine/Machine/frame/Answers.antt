@@ -1,0 +1,5 @@
+use Rattle.lp_plain.proofs.ListReads.{read_at}
+use Rattle.lp_plain.proofs.machine.Machine.frame.Goals as goal
+
+pub returns-in-Some : goal.returns-in-Some
+returns-in-Some c = read_at c.args.self.now.frames.items c.deref.result.now c.args.number c.in-Some.frame.now _ c.deref.ensures.value c.in-Some.ensures.lookup.3.0 c.in-Some.ensures.lookup.1

@@ -1,0 +1,20 @@
+use Rattle.std.proofs.Common.{[], refl, sym, ap, ◌∙◌, Some, length}
+use Rattle.lp_model.specs.Flat.{goal_list}
+use Rattle.lp_plain.specs.Entries.{in_scope, no_frame}
+use Rattle.lp_plain.proofs.DeniedGoals.{inner_begun, one_longer}
+use Rattle.lp_plain.proofs.Frames.{list_at_on, list_of}
+use Rattle.lp_plain.proofs.negation.begin.Goals as goal
+
+pub returns-clause-inner : goal.returns-clause-inner
+returns-clause-inner c = λ a hs σ b w x n t z.
+    let m = c.args.machine.now in
+    let p = c.args.place in
+    let k = c.in_ok-put_choice.ensures in
+    let f = c.in_ok-first.ensures in
+    let count = one_longer m.choices.items c.put_choice.new.self.choices.items _ k.more in
+    inner_begun m _ p _ (length m.choices.items) a hs σ b w refl refl refl refl (c.len-mark.ensures ∙ c.put_choice.new.self.choices.ok.0 ∙ ap length (sym f.course.choices))
+    (f.reads a (goal_list (in_scope σ p.values.types hs)) []
+    (list_at_on m c.put_choice.new.self p c.args.goals (goal_list (in_scope σ p.values.types hs)) k.goals (list_of m p c.args.goals hs σ x)) (no_frame refl refl))
+    (ap (λ v. v.next) f.course.branch ∙ ap (λ v. v.next) k.branch) (ap (λ v. v.next_type) f.course.branch ∙ ap (λ v. v.next_type) k.branch)
+    (ap (λ v. v.pairs.items) f.course.branch ∙ c.new.ensures.items) (f.course.denied ∙ ap Some (c.len-number.ensures ∙ m.choices.ok.0))
+    (ap length f.course.choices ∙ count) n t z

@@ -1,0 +1,42 @@
+use Rattle.std.proofs.Common.{◌∙◌, [], ◌∷◌, ◌++◌, add-one, ap, arith, refl, subst, sym}
+use Rattle.lp_plain.specs.Apart.{IsApart}
+use Rattle.lp_plain.proofs.Counted.{counted_first}
+use Rattle.lp_plain.proofs.FirstGoals.{last_taken, more_taken}
+use Rattle.lp_plain.proofs.turn.take_first.Goals as goal
+
+pub returns-then-second-goals-clause-taken : goal.returns-then-second-goals-clause-taken
+returns-then-second-goals-clause-taken g c = λ e.
+    last_taken c.args.machine.now c.take_flat.new.machine c.args.place c.args.goals c.args.behind c.in_ok-goal.goal c.in_ok-goal.ensures
+    (omega (arith, c.if-second-goals.true, c.in-Some.ensures.1)) (c.in_ok-turn.ensures.taken e)
+
+pub returns-then-second-goals-clause-counted : goal.returns-then-second-goals-clause-counted
+returns-then-second-goals-clause-counted g c = λ hs l h f. c.in_ok-turn.ensures.counted (counted_first c.args.machine.now c.args.goals c.in_ok-goal.goal c.in_ok-goal.ensures hs l h f)
+
+pub returns-clause-taken : goal.returns-clause-taken
+returns-clause-taken g c = λ e.
+    let f = c.in_ok-rest.ensures in
+    more_taken c.args.machine.now c.put_frame.new.self c.take_flat-2.new.machine c.args.place c.args.goals
+    (record { from = c.in-Some.second; to = c.args.goals.to }) c.args.behind c.in_ok-rest.rest c.in_ok-goal.goal c.in_ok-goal.ensures
+    (c.in-Some.ensures.1 ∙ add-one c.args.goals.from) refl c.if-second-goals.false f.goals f.course f.assumed f.frame f.stands f.reads (c.in_ok-turn-2.ensures.taken e)
+
+pub returns-clause-counted : goal.returns-clause-counted
+returns-clause-counted g c = λ hs l h f.
+    subst (λ z. IsApart c.in_ok-turn-2.turn z c.take_flat-2.new.machine.counts) c.in_ok-rest.ensures.course.counts
+    (c.in_ok-turn-2.ensures.counted (counted_first c.args.machine.now c.args.goals c.in_ok-goal.goal c.in_ok-goal.ensures hs l h f))
+
+pub returns-then-second-goals-clause-marks : goal.returns-then-second-goals-clause-marks
+returns-then-second-goals-clause-marks g c = λ e hs l h f. c.in_ok-turn.ensures.marks e (counted_first c.args.machine.now c.args.goals c.in_ok-goal.goal c.in_ok-goal.ensures hs l h f)
+
+pub returns-clause-marks : goal.returns-clause-marks
+returns-clause-marks g c = λ e hs l h f least most k i j.
+    c.in_ok-turn-2.ensures.marks e (counted_first c.args.machine.now c.args.goals c.in_ok-goal.goal c.in_ok-goal.ensures hs l h f) least most
+    (c.in_ok-rest.ensures.marks least most k i j) i j
+
+pub returns-then-second-goals-clause-aside : goal.returns-then-second-goals-clause-aside
+returns-then-second-goals-clause-aside g c = λ e hs l h f.
+    c.in_ok-turn.ensures.aside e (counted_first c.args.machine.now c.args.goals c.in_ok-goal.goal c.in_ok-goal.ensures hs l h f)
+
+pub returns-clause-aside : goal.returns-clause-aside
+returns-clause-aside g c = λ e hs l h f d q from r least most k i j.
+    c.in_ok-turn-2.ensures.aside e (counted_first c.args.machine.now c.args.goals c.in_ok-goal.goal c.in_ok-goal.ensures hs l h f) d
+    (q ∙ ap (λ z. z ++ d ∷ []) (sym c.in_ok-rest.ensures.course.choices)) from r least most (c.in_ok-rest.ensures.marks least most k i j) i j

@@ -1,0 +1,81 @@
+use Rattle.std.proofs.Common.{subst}
+use Rattle.lp_plain.specs.Apart.{IsApart}
+use Rattle.lp_plain.specs.Entries.{Reads}
+use Rattle.lp_plain.proofs.Counted.{counted_branch, counted_state}
+use Rattle.lp_plain.specs.Marks.{PutsAside, PutsMarks}
+use Rattle.lp_plain.proofs.Marked.{branch_aside, branch_marked}
+use Rattle.lp_plain.proofs.Marking.{marked_turn}
+use Rattle.lp_plain.proofs.FirstGoals.{branch_taken, term_first, term_taken}
+use Rattle.lp_plain.proofs.QuietMoves.{quiet_move}
+use Rattle.lp_plain.proofs.turn.take_goal.Goals as goal
+
+pub returns-in_ok-turn-in-Goals-clause-moves : goal.returns-in_ok-turn-in-Goals-clause-moves
+returns-in_ok-turn-in-Goals-clause-moves g c = λ e a s h f k ea go u n P.
+    let m = c.args.machine.now in
+    quiet_move m c.take_first.new.machine a s h k ea go u n P
+    (branch_taken m c.take_first.new.machine c.in-Some.number c.in_ok-frame.frame c.in-Goals.goals c.in-Some.is c.in_ok-frame.ensures c.in-Goals.is (c.in_ok-turn-in-Goals.ensures.taken e)) f
+
+pub returns-in_ok-turn-in-Goals-clause-stops : goal.returns-in_ok-turn-in-Goals-clause-stops
+returns-in_ok-turn-in-Goals-clause-stops g c = λ a s h f.
+    let m = c.args.machine.now in
+    let n = c.take_first.new.machine in
+    let turn = c.in_ok-turn-in-Goals.turn in
+    counted_state m turn n.counts a s h f
+    (counted_branch m c.in-Some.number c.in_ok-frame.frame c.in-Goals.goals (IsApart turn m.counts n.counts) c.in-Some.is c.in_ok-frame.ensures
+    c.in-Goals.is c.in_ok-turn-in-Goals.ensures.counted a h.at_work h.search.stands h.search.branch f)
+
+pub returns-in_ok-turn-in-Term-clause-moves : goal.returns-in_ok-turn-in-Term-clause-moves
+returns-in_ok-turn-in-Term-clause-moves g c = λ e a s h f k ea go u n P.
+    let m = c.args.machine.now in
+    quiet_move m c.take_term.new.machine a s h k ea go u n P (term_taken m c.take_term.new.machine c.in-Some.number c.in_ok-frame.frame
+    c.in-Term.term c.in-Some.is c.in_ok-frame.ensures c.in-Term.is) f
+
+pub returns-in_ok-turn-in-Term-clause-stops : goal.returns-in_ok-turn-in-Term-clause-stops
+returns-in_ok-turn-in-Term-clause-stops g c = λ a s h f.
+    let m = c.args.machine.now in
+    absurd (term_first m a c.in-Some.number c.in_ok-frame.frame c.in_ok-frame.ensures c.in-Term.term h.at_work.goals c.in-Term.is
+    (subst (λ o. Reads m a o h.at_work.goals) c.in-Some.is h.search.branch.goals) f)
+
+pub returns-in_ok-turn-in-Goals-clause-marks : goal.returns-in_ok-turn-in-Goals-clause-marks
+returns-in_ok-turn-in-Goals-clause-marks g c = λ e a s h f.
+    let m = c.args.machine.now in
+    let n = c.take_first.new.machine in
+    let frame = c.in_ok-frame.frame in
+    branch_marked m n c.in-Some.number frame n.branch.goals c.in-Some.is c.in_ok-frame.ensures
+    (counted_branch m c.in-Some.number frame c.in-Goals.goals (PutsMarks m n frame.place frame.behind n.branch.goals) c.in-Some.is
+    c.in_ok-frame.ensures c.in-Goals.is (c.in_ok-turn-in-Goals.ensures.marks e) a h.at_work h.search.stands h.search.branch f)
+
+pub returns-in_ok-turn-in-Term-clause-marks : goal.returns-in_ok-turn-in-Term-clause-marks
+returns-in_ok-turn-in-Term-clause-marks g c = λ e a s h f l u k.
+    let m = c.args.machine.now in
+    absurd (term_first m a c.in-Some.number c.in_ok-frame.frame c.in_ok-frame.ensures c.in-Term.term h.at_work.goals c.in-Term.is
+    (subst (λ o. Reads m a o h.at_work.goals) c.in-Some.is h.search.branch.goals) f)
+
+pub returns-in_ok-turn-in-Goals-clause-aside : goal.returns-in_ok-turn-in-Goals-clause-aside
+returns-in_ok-turn-in-Goals-clause-aside g c = λ e a s h f.
+    let m = c.args.machine.now in
+    let n = c.take_first.new.machine in
+    let frame = c.in_ok-frame.frame in
+    branch_aside m n c.in-Some.number frame c.in-Some.is c.in_ok-frame.ensures
+    (counted_branch m c.in-Some.number frame c.in-Goals.goals (PutsAside m n frame.place frame.behind) c.in-Some.is c.in_ok-frame.ensures
+    c.in-Goals.is (c.in_ok-turn-in-Goals.ensures.aside e) a h.at_work h.search.stands h.search.branch f)
+
+pub returns-in_ok-turn-in-Term-clause-aside : goal.returns-in_ok-turn-in-Term-clause-aside
+returns-in_ok-turn-in-Term-clause-aside g c = λ e a s h f.
+    let m = c.args.machine.now in
+    absurd (term_first m a c.in-Some.number c.in_ok-frame.frame c.in_ok-frame.ensures c.in-Term.term h.at_work.goals c.in-Term.is
+    (subst (λ o. Reads m a o h.at_work.goals) c.in-Some.is h.search.branch.goals) f)
+
+pub returns-in_ok-turn-in-Goals-clause-marked : goal.returns-in_ok-turn-in-Goals-clause-marked
+returns-in_ok-turn-in-Goals-clause-marked g c = λ e a s h f im.
+    let m = c.args.machine.now in
+    let n = c.take_first.new.machine in
+    marked_turn m n a s h im
+    (branch_taken m n c.in-Some.number c.in_ok-frame.frame c.in-Goals.goals c.in-Some.is c.in_ok-frame.ensures c.in-Goals.is (c.in_ok-turn-in-Goals.ensures.taken e))
+    f (returns-in_ok-turn-in-Goals-clause-marks g c e a s h f) (returns-in_ok-turn-in-Goals-clause-aside g c e a s h f)
+
+pub returns-in_ok-turn-in-Term-clause-marked : goal.returns-in_ok-turn-in-Term-clause-marked
+returns-in_ok-turn-in-Term-clause-marked g c = λ e a s h f im.
+    let m = c.args.machine.now in
+    absurd (term_first m a c.in-Some.number c.in_ok-frame.frame c.in_ok-frame.ensures c.in-Term.term h.at_work.goals c.in-Term.is
+    (subst (λ o. Reads m a o h.at_work.goals) c.in-Some.is h.search.branch.goals) f)

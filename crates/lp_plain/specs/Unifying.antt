@@ -1,0 +1,34 @@
+-- What a unification in the branch at work comes to.
+use Rattle.std.specs.Prelude.{◌≡◌, ℕ, ◌≤◌}
+use Rattle.lp_term.specs.Nodes.{Extends}
+use Rattle.lp_model.specs.Pair.{Closing}
+use Rattle.lp_model.specs.Unify.{Unified as Outcome, Fail, Spent}
+use Rattle.lp_pattern.specs.Growing.{Grows}
+use Rattle.lp_pattern.specs.Unifying.{IsSolutionUnder}
+use Rattle.lp_plain.specs.declared.machine.Machine.{Machine}
+use Rattle.lp_plain.specs.declared.unified.Unified.{Unified}
+
+-- a unification changes the bank, the bindings, the number of the next logic variable and the residual pairs, and nothing else
+pub record IsBoundIn (old new : Machine) : Type 0 where
+  pub bank : Extends old.bank new.bank
+  pub bindings : Grows old.bindings new.bindings
+  pub more : old.branch.next ≤ new.branch.next
+  pub table : new.table ≡ old.table
+  pub index : new.index ≡ old.index
+  pub scopes : new.scopes ≡ old.scopes
+  pub frames : new.frames ≡ old.frames
+  pub assumptions : new.assumptions ≡ old.assumptions
+  pub newest : new.newest ≡ old.newest
+  pub standings : new.standings ≡ old.standings
+  pub choices : new.choices ≡ old.choices
+  pub denied : new.denied ≡ old.denied
+  pub counts : new.counts ≡ old.counts
+  pub goals : new.branch.goals ≡ old.branch.goals
+  pub next_type : new.branch.next_type ≡ old.branch.next_type
+
+-- a unification under these bindings, with this next number of a variable, comes to what the definition's comes to in n steps of each kind: a solution that the new
+-- bindings read, with its residual pairs; no solution; or its units pass the limit, and else a million steps are too few for it
+abbrev pub IsUnifiedAs : Unified → (levels : ℕ → ℕ) → (next : ℕ) → Closing → (new : Machine) → (n : ℕ) → Outcome → Type 0
+IsUnifiedAs Unified.Fits lv next c new n u = IsSolutionUnder lv next c new.bank new.bindings new.branch.next new.branch.pairs.items u
+IsUnifiedAs Unified.Fails lv next c new n u = u ≡ Fail
+IsUnifiedAs Unified.Deep lv next c new n u = n ≤ 1000000 → u ≡ Spent
