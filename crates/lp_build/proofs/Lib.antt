@@ -10,3 +10,4 @@ pub mod Placing
 pub mod Building
 pub mod Awaiting
 pub mod Compiling
+pub mod Closed

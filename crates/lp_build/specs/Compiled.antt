@@ -1,4 +1,4 @@
--- The object of a module: its names.
+-- The object of a module of a set of files: its names.
 use Rattle.std.specs.Prelude.{◌≡◌, ℕ, ◌-◌, List, length, map, nat_lt, Bool, None, if◌then◌else◌}
 use Rattle.lp_code.specs.declared.object.Object.{Object}
 use Rattle.lp_code.specs.declared.object.ObjectConstant.{ObjectConstant}
@@ -9,7 +9,14 @@ use Rattle.lp_sig.specs.Rows.{fixity_row, found}
 use Rattle.lp_sig.specs.declared.entries.ConstantEntry.{ConstantEntry}
 use Rattle.lp_sig.specs.declared.entries.KindEntry.{KindEntry}
 use Rattle.lp_sig.specs.declared.signature.Signature.{Signature}
+use Rattle.lp_syntax.specs.declared.text.ModuleText.{ModuleText}
+use Rattle.lp_syntax.specs.declared.text.SignatureText.{SignatureText}
 use Rattle.lp_module.specs.declared.module.Module.{Module}
+use Rattle.lp_build.specs.Meant.{IsModuleAt}
+use Rattle.lp_build.specs.Trees.{AreModuleTexts, AreSignatureTexts}
+use Rattle.lp_build.specs.declared.sources.File.{File}
+use Rattle.lp_build.specs.declared.sources.Sources.{Sources}
+use Rattle.lp_build.specs.declared.texts.Group.{Group}
 
 pub record IsObjectKind (e : KindEntry) (k : ObjectKind) : Type 0 where
   pub name : k.name.items ≡ e.name.items
@@ -39,3 +46,19 @@ pub record HasNamesOf (m : Module) (o : Object) : Type 0 where
   pub constants : ArePaired (IsObjectConstant m.signature o.bank) m.signature.constants.items (length m.signature.constants.items) o.constants.items
   pub exported_constants : AreExported (λ c. c.exported) (length m.signature.constants.items - length m.hidden_constants.items) o.constants.items
   pub uses : map (λ u. u.items) o.uses.items ≡ map (λ u. u.items) m.uses.items
+
+-- a module is what the text of the file of a number means
+pub record IsModuleOfFile (files : List File) (g : Group SignatureText) (t : Group ModuleText) (number : ℕ) (m : Module) : Type 0 where
+  pub place : ℕ
+  pub there : IsAt t.numbers.items place number
+  pub is : IsModuleAt files g t place m
+
+-- the object of the module whose text is the file of a number
+pub record IsCompiled (sources : Sources) (number : ℕ) (o : Object) : Type 0 where
+  pub signatures : Group SignatureText
+  pub texts : Group ModuleText
+  pub signature_texts : AreSignatureTexts sources.files.items (length sources.files.items) signatures
+  pub module_texts : AreModuleTexts sources.files.items (length sources.files.items) texts
+  pub meant : Module
+  pub is : IsModuleOfFile sources.files.items signatures texts number meant
+  pub names : HasNamesOf meant o

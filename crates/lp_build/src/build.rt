@@ -1,5 +1,8 @@
 // The program of the files.
-ghost use Rattle.std.specs.Prelude.{◌≡◌, ◌+◌, ◌<◌, List, length, IfErr, IfOk, IfSome};
+ghost use Rattle.std.specs.Prelude.{◌≡◌, ◌+◌, ◌<◌, ◌≤◌, ◌^◌, List, All, length, IfErr, IfOk, IfSome};
+ghost use Rattle.lp_base.specs.declared.limits.TheConstants.{MAX_MODULES};
+ghost use Rattle.lp_sig.specs.Refusals.{IsAt};
+ghost use Rattle.lp_build.specs.Compiled.{HasNamesOf, IsCompiled, IsModuleOfFile};
 ghost use Rattle.lp_build.specs.Faults.{IsOfTexts};
 ghost use Rattle.lp_build.specs.Meant.{AreModules, AreModulesOf};
 ghost use Rattle.lp_build.specs.Programs.{IsBuilt, IsProgramOf};
@@ -133,20 +136,21 @@ pub fn build_program(alloc: Global, sources: &Sources) -> Result<Built, BuildFau
 }
 
 // The place in a group at which the text of a file stands.
-fn place_of(group: &Group<ModuleText>, module: u32) -> Option<usize> {
-    let mut place: usize = 0;
-    for number in group.numbers.iter() {
-        if as_number(*number) == module {
+fn place_of(group: &Group<ModuleText>, module: u32) -> Option<usize>
+    ensures { All (λ n. n < 2 ^ 32) group.now.numbers.items → IfSome result (λ place. IsAt group.now.numbers.items place «module») }
+{
+    for place in 0..group.numbers.len() {
+        if as_number(group.numbers[place]) == module {
             return Some(place);
         }
-        place = place.saturating_add(1);
     }
     None
 }
 
 // What the module means whose text is a file of this number.
 fn module_in(alloc: Global, whole: &Whole, number: u32) -> Result<Module, BuildFault>
-    ensures { IfErr result IsOfTexts }
+    ensures refused { IfErr result IsOfTexts }
+    ensures meant { (files : List File) → length files ≤ MAX_MODULES → IsWhole files whole.now → IfOk result (IsModuleOfFile files whole.now.texts.signatures whole.now.texts.modules number) }
 {
     let group = &whole.texts.modules;
     let Some(place) = place_of(group, number) else {
@@ -157,7 +161,8 @@ fn module_in(alloc: Global, whole: &Whole, number: u32) -> Result<Module, BuildF
 
 // The object of a module, within its limits.
 fn object_of(alloc: Global, module: &mut Module) -> Result<Object, BuildFault>
-    ensures { IfErr result IsOfTexts }
+    ensures refused { IfErr result IsOfTexts }
+    ensures names { IfOk result (HasNamesOf «module».old) }
 {
     if module.uses.len() >= MAX_COPIES {
         return Err(BuildFault::Limit(Limit::Copies));
@@ -175,6 +180,7 @@ fn object_of(alloc: Global, module: &mut Module) -> Result<Object, BuildFault>
 /// of the module; then the limits of its object, `copies` first, of which the module itself and the words of its accumulate lists are counted.
 pub fn build_object(alloc: Global, sources: &Sources, module: u32) -> Result<Object, BuildFault>
     ensures refused { IfErr result IsOfTexts }
+    ensures compiled { AreRead sources.now → IfOk result (IsCompiled sources.now «module») }
 {
     let whole = whole_of(alloc, sources)?;
     let mut module = module_in(alloc, &whole, module)?;

@@ -1,6 +1,8 @@
 // Files as they were loaded.
-ghost use Rattle.std.specs.Prelude.{◌≡◌, ◌≤◌, ◌<◌, ◌^◌, Option, IfSome, string_bytes};
+ghost use Rattle.std.specs.Prelude.{◌≡◌, ◌≤◌, ◌<◌, ◌^◌, Option, IfSome, length, string_bytes, true};
+ghost use Rattle.lp_base.specs.declared.limits.TheConstants.{MAX_MODULES};
 ghost use Rattle.lp_base.specs.Held.{Held};
+ghost use Rattle.lp_build.specs.Named.{IsFileNamed};
 ghost use Rattle.lp_build.specs.Told.{IsTold, AreLoaded};
 
 use lp_lexer::Token;
@@ -45,6 +47,13 @@ pub(crate) fn as_number(place: usize) -> u32
     place.min(u32::MAX as usize) as u32
 }
 
+// Whether a file has this name.
+fn is_named(file: &File, name: &str) -> bool
+    ensures { result ≡ true → string_bytes file.now.name ≡ name.now }
+{
+    file.name.as_str() == name
+}
+
 impl Sources {
     /// The name of a loaded file, with its ending, and its bytes.
     pub fn file(&self, number: u32) -> Option<(&str, &[u8])>
@@ -57,12 +66,16 @@ impl Sources {
     }
 
     /// The number of the file of this name, with its ending.
-    pub fn number_of(&self, name: &str) -> Option<u32> {
-        let found = self
-            .files
-            .iter()
-            .position(|file| file.name.as_str() == name);
-        found.map(as_number)
+    pub fn number_of(&self, name: &str) -> Option<u32>
+        ensures { length self.now.files.items ≤ MAX_MODULES → IfSome result (λ number. IsFileNamed self.now.files.items number name.now) }
+    {
+        for at in 0..self.files.len() {
+            let file = &self.files[at];
+            if is_named(file, name) {
+                return Some(as_number(at));
+            }
+        }
+        None
     }
 
     /// The name of the file at fault, with its ending, after a refusal of loading.

@@ -1,1 +1,2 @@
 pub mod Target
+pub mod Made

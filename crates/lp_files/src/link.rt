@@ -1,5 +1,6 @@
 // The image of a module.
 ghost use Rattle.std.specs.Prelude.{◌<◌, length, IfErr, IfOk, OnOk};
+ghost use Rattle.lp_files.specs.Made.{IsImage};
 ghost use Rattle.lp_lines.specs.Looked.{Looked, refusal_of};
 ghost use Rattle.lp_lines.specs.Refusals.{IsJudged};
 
@@ -194,7 +195,8 @@ fn image_of(alloc: Global, objects: &[Object]) -> Result<Image, Refusal>
 
 fn linked_bytes(alloc: Global, objects: &[Object]) -> Result<Vec<u8>, Refusal>
     requires { 0 < length objects.now }
-    ensures { IfErr result IsJudged }
+    ensures judged { IfErr result IsJudged }
+    ensures image { IfOk result (λ bytes. IsImage bytes.items) }
 {
     let image = image_of(alloc, objects)?;
     image_bytes(alloc, &image)
@@ -202,7 +204,8 @@ fn linked_bytes(alloc: Global, objects: &[Object]) -> Result<Vec<u8>, Refusal>
 
 /// The bytes of the image of a module, from its object and those that it uses.
 pub fn linked<F: Folder>(alloc: Global, name: &str, folder: &mut F) -> Result<Vec<u8>, Refusal>
-    ensures { Looked F.read_faults F.misses F.overs F.write_faults F.held folder.old folder.new (refusal_of result) }
+    ensures image { IfOk result (λ bytes. IsImage bytes.items) }
+    ensures looked { Looked F.read_faults F.misses F.overs F.write_faults F.held folder.old folder.new (refusal_of result) }
 {
     let objects = objects_of(alloc, folder, name)?;
     linked_bytes(alloc, objects.as_slice())

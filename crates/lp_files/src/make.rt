@@ -1,5 +1,6 @@
 // What a command makes.
 ghost use Rattle.std.specs.Prelude.{◌≡◌, ◌++◌, IfOk};
+ghost use Rattle.lp_files.specs.Made.{IsMade};
 ghost use Rattle.lp_files.specs.Target.{done_line, ending_of};
 ghost use Rattle.lp_lines.specs.Left.{IsTarget};
 ghost use Rattle.lp_lines.specs.Looked.{Looked, refusal_of};
@@ -53,7 +54,8 @@ pub fn made<F: Folder>(
     name: &str,
     folder: &mut F,
 ) -> Result<Vec<u8>, Refusal>
-    ensures { Looked F.read_faults F.misses F.overs F.write_faults F.held folder.old folder.new (refusal_of result) }
+    ensures made { IfOk result (λ bytes. IsMade (F.held folder.old) command name.now bytes.items) }
+    ensures looked { Looked F.read_faults F.misses F.overs F.write_faults F.held folder.old folder.new (refusal_of result) }
 {
     match command {
         FileCommand::Compile => compiled(alloc, name, folder),

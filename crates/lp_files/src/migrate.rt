@@ -1,7 +1,10 @@
 // An image as it is written today.
-ghost use Rattle.std.specs.Prelude.{IfErr};
+ghost use Rattle.std.specs.Prelude.{◌≡◌, IfErr, IfOk};
+ghost use Rattle.lp_files.specs.Made.{IsMigrated};
 ghost use Rattle.lp_lines.specs.Looked.{Looked, refusal_of};
 ghost use Rattle.lp_lines.specs.Refusals.{IsJudged};
+ghost use Rattle.lp_object.specs.Files.{spelled_image};
+ghost use Rattle.lp_object.specs.Plain.{plain_image};
 
 use crate::lines::unwritten;
 use crate::open::open_image;
@@ -13,7 +16,8 @@ use std::alloc::Global;
 
 /// The bytes of an image.
 pub fn image_bytes(alloc: Global, image: &Image) -> Result<Vec<u8>, Refusal>
-    ensures { IfErr result IsJudged }
+    ensures judged { IfErr result IsJudged }
+    ensures spelled { IfOk result (λ bytes. bytes.items ≡ spelled_image (plain_image image.now)) }
 {
     match write_image(alloc, image) {
         Ok(bytes) => Ok(bytes),
@@ -23,7 +27,8 @@ pub fn image_bytes(alloc: Global, image: &Image) -> Result<Vec<u8>, Refusal>
 
 /// The bytes of a module's image, in the version that is written today.
 pub fn migrated<F: Folder>(alloc: Global, name: &str, folder: &mut F) -> Result<Vec<u8>, Refusal>
-    ensures { Looked F.read_faults F.misses F.overs F.write_faults F.held folder.old folder.new (refusal_of result) }
+    ensures same { IfOk result (λ bytes. IsMigrated (F.held folder.old) name.now bytes.items) }
+    ensures looked { Looked F.read_faults F.misses F.overs F.write_faults F.held folder.old folder.new (refusal_of result) }
 {
     let verified = open_image(alloc, folder, name)?;
     image_bytes(alloc, verified.image())

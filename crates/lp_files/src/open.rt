@@ -1,8 +1,12 @@
 // The reading of an object or image: its bytes, its format, its name and its code, in this order.
 ghost use Rattle.std.specs.Prelude.{IfErr, IfOk};
 ghost use Rattle.lp_code.specs.Length.{AllFit};
+ghost use Rattle.lp_build.specs.Told.{IsTold};
+ghost use Rattle.lp_files.specs.Made.{IsHeldImage};
 ghost use Rattle.lp_lines.specs.Looked.{Looked, refusal_of};
 ghost use Rattle.lp_lines.specs.Refusals.{IsJudged};
+ghost use Rattle.lp_object.specs.Plain.{plain_image};
+ghost use Rattle.lp_object.specs.Spellable.{SpellsImage};
 
 use crate::lines::{misread, rejected};
 use lp_base::{Folder, Limit, MAX_IMAGE_BYTES};
@@ -14,7 +18,8 @@ use std::alloc::Global;
 
 // The bytes of a file of this name.
 fn bytes_of<F: Folder>(alloc: Global, folder: &mut F, file: &str) -> Result<Vec<u8>, Refusal>
-    ensures { Looked F.read_faults F.misses F.overs F.write_faults F.held folder.old folder.new (refusal_of result) }
+    ensures there { IfOk result (λ bytes. IsTold (F.held folder.old) file.now bytes.items) }
+    ensures looked { Looked F.read_faults F.misses F.overs F.write_faults F.held folder.old folder.new (refusal_of result) }
 {
     read_file(alloc, folder, file, MAX_IMAGE_BYTES, Limit::Image)
 }
@@ -50,6 +55,7 @@ pub fn open_object<F: Folder>(alloc: Global, folder: &mut F, name: &str) -> Resu
 fn judged_image(alloc: Global, file: &str, name: &str, bytes: &[u8]) -> Result<Verified, Refusal>
     ensures judged { IfErr result IsJudged }
     ensures fit { IfOk result (λ verified. AllFit verified.image.code.records.items) }
+    ensures spelled { IfOk result (λ verified. SpellsImage (plain_image verified.image) bytes.now) }
 {
     let image = match read_image(alloc, bytes) {
         Ok(image) => image,
@@ -68,6 +74,7 @@ fn judged_image(alloc: Global, file: &str, name: &str, bytes: &[u8]) -> Result<V
 pub fn open_image<F: Folder>(alloc: Global, folder: &mut F, name: &str) -> Result<Verified, Refusal>
     ensures looked { Looked F.read_faults F.misses F.overs F.write_faults F.held folder.old folder.new (refusal_of result) }
     ensures fit { IfOk result (λ verified. AllFit verified.image.code.records.items) }
+    ensures held { IfOk result (λ verified. IsHeldImage (F.held folder.old) name.now (plain_image verified.image)) }
 {
     let file = file_name(alloc, name, ".lp")?;
     let bytes = bytes_of(alloc, folder, file.as_str())?;

@@ -1,5 +1,6 @@
 // The writing of an object or image, and the line that tells of it.
 ghost use Rattle.std.specs.Prelude.{◌≡◌, ◌++◌, IfOk};
+ghost use Rattle.lp_files.specs.Made.{IsMade, WritesMade};
 ghost use Rattle.lp_files.specs.Target.{done_line, ending_of};
 ghost use Rattle.lp_lines.specs.Ends.{Ran};
 ghost use Rattle.lp_lines.specs.Left.{IsTarget, Leaves};
@@ -26,6 +27,7 @@ fn make_ready<F: Folder>(
     folder: &mut F,
 ) -> Result<Ready, Refusal>
     ensures looked { Looked F.read_faults F.misses F.overs F.write_faults F.held folder.old folder.new (refusal_of result) }
+    ensures made { IfOk result (λ ready. IsMade (F.held folder.old) command name.now ready.bytes.items) }
     ensures target { IfOk result (λ ready. IsTarget (name.now ++ ending_of command) (done_line command (name.now ++ ending_of command)) ready.target) }
 {
     let target = target_of(alloc, command, name)?;
@@ -44,6 +46,7 @@ pub fn write_file<F: Folder, K: Sink>(
     ensures ran { Ran F.read_faults F.misses F.overs K.written folder.old folder.new out.old out.new result }
     ensures leaves { Leaves F.write_faults F.held K.faults K.written folder.old folder.new out.old out.new
         (name.now ++ ending_of command) (done_line command (name.now ++ ending_of command)) result }
+    ensures made { result ≡ Status.Done → WritesMade (F.held folder.old) (F.held folder.new) command name.now }
 {
     match make_ready(alloc, command, name, folder) {
         Ok(ready) => put(

@@ -4,7 +4,6 @@ use Rattle.std.specs.Global.{Global}
 use Rattle.std.specs.Prelude.{Vec, All, Result, Ok, Err, IfOk, IfErr}
 use Rattle.std.proofs.lemmas.List.{length-map}
 use Rattle.std.proofs.lemmas.List.Elements.{All-map}
-use Rattle.lp_base.specs.declared.memory.Memory.{Memory as CodeMemory}
 use Rattle.lp_base.specs.Held.{Held}
 use Rattle.lp_base.specs.declared.limit.Limit.{Limit}
 use Rattle.lp_base.specs.declared.status.Status.{Status}
@@ -16,10 +15,9 @@ use Rattle.lp_module.specs.declared.copies.Assembled.{Assembled}
 use Rattle.lp_model.specs.declared.program.Typed.{Typed}
 use Rattle.lp_cert.specs.Arities.{counts_in}
 use Rattle.lp_cert.specs.Certified.{Certifies, certificate_of, ground_of, query_of}
-use Rattle.lp_cert.specs.Inside.{IsQueryInside}
 use Rattle.lp_cert.specs.Spellable.{AreCertificates}
 use Rattle.lp_cert.specs.Spelling.{spelled_certificates}
-use Rattle.lp_cert.specs.Standing.{IsCertificateInside, IsSameProgram}
+use Rattle.lp_cert.specs.Standing.{AreNumbersInside, IsCertificateInside, IsSameProgram}
 use Rattle.lp_build.specs.Told.{IsTold}
 use Rattle.lp_cert.specs.declared.judging.CheckVerdict.{CheckVerdict}
 use Rattle.lp_cert.specs.declared.judging.CheckVerdict.TheVariants.{Accepted, Rejected, Deep}
@@ -33,9 +31,9 @@ use Rattle.lp_lines.proofs.Refusing.{never_done}
 use Rattle.lp_lines.proofs.Statuses.{not_otherwise, said_of_search}
 use Rattle.lp_judge.specs.Asked.{IsAskedFrom}
 use Rattle.lp_judge.specs.Checked.{Checks, IsCheckOf, IsChecked, IsJudgedOn, IsVerdictOn, WritesCheck, checked_status}
-use Rattle.lp_judge.specs.Proofs.{AreProofs}
 use Rattle.lp_judge.specs.Proved.{cert_file}
 use Rattle.lp_judge.specs.declared.checking.Checked.{Checked}
+use Rattle.lp_judge.proofs.Closed.{asked_stands}
 use Rattle.lp_judge.proofs.Insides.{certificates_stay}
 use Rattle.lp_judge.proofs.Questions.{asked_later, query_inside}
 use Rattle.lp_judge.proofs.Telling.{never_no}
@@ -122,7 +120,7 @@ pub judged_on : (told : Option Held) (name text bytes : List ℕ) (before betwee
     → IsAskedFrom told name text before q → Extends before.program.bank between.program.bank → Extends between.program.bank after.program.bank
     → IsSameProgram before between → IsSameProgram between after → All (IsCertificateInside between.program.bank) cs
     → AreCertificates (counts_in before) (map (certificate_of between.program.bank) cs) → bytes ≡ spelled_certificates (map (certificate_of between.program.bank) cs) → count ≡ length cs
-    → (IsQueryInside between.program.bank q → All (IsCertificateInside between.program.bank) cs → IsVerdictOn (ground_of after.program)
+    → (AreNumbersInside between.program q cs → IsVerdictOn (ground_of after.program)
     (query_of after.program.bank q) (map (certificate_of after.program.bank) cs) verdict)
     → IsJudgedOn told name text bytes count verdict
 judged_on told name text bytes before between after q cs count verdict asked e f s t inside known spelled counted right =
@@ -137,22 +135,21 @@ judged_on told name text bytes before between after q cs count verdict asked e f
           (subst (AreCertificates (counts_in before)) (sym same) known);
       spelled = subst (λ z. bytes ≡ spelled_certificates z) (sym same) spelled;
       counted = counted ∙ sym (length-map cs (certificate_of after.program.bank));
-      right = right (query_inside _ _ text between.program.bank q later.asked) inside;
+      right =
+          let stands = asked_stands told name text between q later in
+          right (record { constants = stands.0; clauses = stands.1; query = query_inside _ _ text between.program.bank q later.asked; certificates = inside });
     }
 
 -- the same of certificates that were accepted
-pub accepted_on : (told : Option Held) (name text bytes : List ℕ) (before between after : Assembled) (q : Typed) (cs : List code.Certificate) (r : Result CheckVerdict CodeMemory)
+pub accepted_on : (told : Option Held) (name text bytes : List ℕ) (before between after : Assembled) (q : Typed) (cs : List code.Certificate) (count : ℕ)
     → IsAskedFrom told name text before q → Extends before.program.bank between.program.bank → Extends between.program.bank after.program.bank
     → IsSameProgram before between → IsSameProgram between after → All (IsCertificateInside between.program.bank) cs
     → AreCertificates (counts_in before) (map (certificate_of between.program.bank) cs) → bytes ≡ spelled_certificates (map (certificate_of between.program.bank) cs)
-    → IfOk r (λ v. v ≡ Accepted → All (λ c. Certifies (ground_of after.program) (query_of after.program.bank q) (certificate_of after.program.bank c)) cs)
-    → IfOk r (λ v. v ≡ Accepted → AreProofs told name text bytes)
-accepted_on told name text bytes before between after q cs (Ok v) asked e f s t inside known spelled h = λ a. (
-  length cs,
-  judged_on told name text bytes before between after q cs (length cs) Accepted asked e f s t inside known spelled refl
-      (λ _ _. All-map (Certifies (ground_of after.program) (query_of after.program.bank q)) (certificate_of after.program.bank) cs (h a)),
-)
-accepted_on told name text bytes before between after q cs (Err m) asked e f s t inside known spelled h = tt
+    → count ≡ length cs → All (λ c. Certifies (ground_of after.program) (query_of after.program.bank q) (certificate_of after.program.bank c)) cs
+    → IsJudgedOn told name text bytes count Accepted
+accepted_on told name text bytes before between after q cs count asked e f s t inside known spelled counted h =
+    judged_on told name text bytes before between after q cs count Accepted asked e f s t inside known spelled counted
+    (λ _. All-map (Certifies (ground_of after.program) (query_of after.program.bank q)) (certificate_of after.program.bank) cs h)
 
 -- the same of what a call gave
 pub checks_of : (told : Option Held) (name text file slice bytes : List ℕ) (r : Result Checked Refusal) → file ≡ cert_file name → slice ≡ bytes → IsTold told file bytes

@@ -1,13 +1,12 @@
--- A test of one element after the other, and certificates in a bank that grows.
-use Rattle.std.proofs.Common.{◌≡◌, ℕ, suc, ◌+◌, ◌<◌, ◌≤◌, List, length, map, take, sym, ap, ◌∙◌, refl, subst, arith, Some, option_map}
-use Rattle.std.specs.Prelude.{All, slice_get, Result, Ok, Err, IfOk}
+-- Certificates in a bank that grows.
+use Rattle.std.proofs.Common.{◌≡◌, ℕ, ◌<◌, List, length, map, take, sym, ap, ◌∙◌, refl, subst, option_map}
+use Rattle.std.specs.Prelude.{All, Result, Ok, Err, IfOk}
 use Rattle.lp_base.specs.declared.memory.Memory.{Memory}
 use Rattle.std.proofs.lemmas.List.{take-map}
-use Rattle.std.proofs.lemmas.List.Elements.{All-push, All-map}
+use Rattle.std.proofs.lemmas.List.Elements.{All-map}
 use Rattle.std.proofs.lemmas.Option.{slice_get-map}
-use Rattle.lp_lemmas.proofs.Lists.{map_agree_on, take_suc}
+use Rattle.lp_lemmas.proofs.Lists.{map_agree_on}
 use Rattle.lp_term.specs.Nodes.{Nodes, Extends, tree, type_tree}
-use Rattle.lp_term.proofs.Knowing.{take_whole}
 use Rattle.lp_model.specs.Answers.{Query}
 use Rattle.lp_model.specs.declared.certificate.Certificate as code
 use Rattle.lp_model.specs.declared.certificate.ProofNode.{ProofNode}
@@ -19,15 +18,6 @@ use Rattle.lp_cert.specs.Written.{node_of, converted, witness, back_to, focus_co
 use Rattle.lp_cert.specs.declared.judging.CheckVerdict.{CheckVerdict}
 use Rattle.lp_cert.specs.declared.judging.CheckVerdict.TheVariants.{Accepted, Rejected, Deep}
 use Rattle.lp_judge.specs.Checked.{IsVerdictOn}
-
-module _ {A : Type 0} (P : A → Type 0) (xs : List A) where
-  pub inside_more : (i : ℕ) (x : A) → slice_get xs i ≡ Some x → All P (take i xs) → P x → All P (take (i + 1) xs)
-  inside_more i x g a h =
-      let n : i + 1 ≡ suc i = omega arith in
-      subst (λ k. All P (take k xs)) (sym n) (subst (All P) (sym (take_suc xs i x g)) (All-push P (take i xs) x a h))
-
-  pub inside_whole : (i : ℕ) → length xs ≤ i → All P (take i xs) → All P xs
-  inside_whole i l a = subst (All P) (take_whole xs i l) a
 
 module _ (a b : Nodes) (grown : Extends a b) where
   node_stays : (n : ProofNode) → IsNodeInside a n → node_of b n ≡ node_of a n

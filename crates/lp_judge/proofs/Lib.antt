@@ -1,6 +1,7 @@
 mod Telling
 mod Questions
 mod Insides
+mod Closed
 mod Checkings
 mod Provings
 pub mod Sourced

@@ -1,18 +1,19 @@
 -- How a run that proves answers ends.
 use Rattle.std.proofs.Common.{◌≡◌, ◌≢◌, ℕ, List, Option, refl, sym, ap, ◌∙◌, subst, true, false, inl, inr}
-use Rattle.std.specs.Prelude.{Result, Ok, Err, IfErr, IfSome, Vec}
+use Rattle.std.specs.Prelude.{string_bytes, Result, Ok, Err, IfErr, IfSome, Vec}
 use Rattle.std.specs.Global.{Global}
 use Rattle.lp_base.specs.Held.{Held, Puts}
 use Rattle.lp_base.specs.declared.status.Status.{Status}
 use Rattle.lp_base.specs.declared.status.Status.TheVariants as variant
 use Rattle.lp_model.specs.declared.ending.Ending.TheVariants as ending
-use Rattle.lp_lines.specs.Left.{LeavesWith}
+use Rattle.lp_lines.specs.Left.{IsTarget, Left, LeavesWith, fails, stands, untouched}
+use Rattle.lp_base.specs.Written.{Appends}
 use Rattle.lp_lines.specs.Lines.{ending_status}
 use Rattle.lp_lines.specs.Placed.{IfSource}
 use Rattle.lp_lines.specs.Refusals.{IsRefusal, IsSourceRefusal, status_of}
 use Rattle.lp_lines.specs.declared.refusal.Refusal.{Refusal}
 use Rattle.lp_lines.specs.declared.refusal.Refusal.TheVariants.{Line, Memory}
-use Rattle.lp_judge.specs.Proofs.{IsCertified, WritesProofs, has_file}
+use Rattle.lp_judge.specs.Proofs.{IsCounted, WritesCounted, IsCertified, WritesProofs, has_file}
 use Rattle.lp_judge.specs.Proved.{IsOutcome, IsReady, cert_file}
 use Rattle.lp_judge.specs.declared.proving.Outcome.{Outcome}
 use Rattle.lp_judge.specs.declared.proving.Outcome.TheVariants.{File}
@@ -73,3 +74,28 @@ proofs_stand told now name text x r file bytes e h f b p = record {
   proofs = subst (IsCertified told name text) e h;
   stands = subst (λ w. IfSome told (λ old. IfSome now (Puts w r.bytes.items old))) f (subst (λ w. IfSome told (λ old. IfSome now (Puts file w old))) b p);
 }
+
+pub done_has_file : {s : Status} → s ≡ variant.Done → has_file s ≡ true
+unfolding has_file
+done_has_file e = ap has_file e
+
+module _ {F K : Type 0} {wf : F → ℕ} {held : F → Option Held} {faults : K → ℕ} {written : K → Option (List ℕ)} {a b : F} {o p : K} where
+  line_left : {file line : List ℕ} {last result : Status} → Left wf held faults written a b o p file line last result → result ≡ variant.Done → Appends (written o) (written p) line
+  line_left (stands s) e = (s.said (λ f. cc)).1
+  line_left (fails f) e = let w = f.is_fault in absurd (cc)
+  line_left (untouched u) e = absurd (u.is_refused e)
+
+  pub counted_stands : (told now : Option Held) (name text : List ℕ) (x : Outcome) (r : Ready) (bytes : List ℕ) (last result : Status) → x ≡ File r → IsCounted told name text x → bytes ≡ r.bytes.items
+      → ((file line : List ℕ) → IsTarget file line r.target → LeavesWith wf held faults written a b o p file line last result)
+      → IfSome told (λ old. IfSome now (Puts (string_bytes r.target.file) bytes old)) → result ≡ variant.Done → WritesCounted told now name text (written o) (written p)
+  counted_stands told now name text x r bytes last result e h same leaves put done =
+      let c = subst (IsCounted told name text) e h in
+      record {
+        bytes = r.bytes.items;
+        count = c.count;
+        answers = c.answers;
+        last = r.ending;
+        proofs = c.proofs;
+        stands = subst (λ w. IfSome told (λ old. IfSome now (Puts w r.bytes.items old))) c.is.file_is (subst (λ w. IfSome told (λ old. IfSome now (Puts (string_bytes r.target.file) w old))) same put);
+        said = line_left (leaves _ _ c.is).left done;
+      }

@@ -1,14 +1,10 @@
 -- The query of a text in a bank that grows, and where its numbers stand.
-use Rattle.std.proofs.Common.{◌≡◌, ℕ, suc, ◌+◌, List, ◌∷◌, ◌++◌, map, length, Option, refl, sym, ap, subst, ◌∙◌, arith}
+use Rattle.std.proofs.Common.{◌≡◌, ℕ, List, ◌++◌, map, length, Option, refl, sym, ap, subst, ◌∙◌, arith}
 use Rattle.std.specs.Prelude.{codes, Result, Ok, Err, IfOk}
 use Rattle.std.proofs.lemmas.List.{length-map, length-reverse}
-use Rattle.std.proofs.lemmas.Option.{slice_get_within}
-use Rattle.lp_calculus.specs.Types.{Ty}
-use Rattle.lp_calculus.specs.Term.{Term}
 use Rattle.lp_calculus.specs.Typing.{o_type}
 use Rattle.lp_fixity.specs.declared.table.Table.{Table}
 use Rattle.lp_term.specs.Nodes.{Nodes, Extends, type_tree}
-use Rattle.lp_term.specs.Spine.{LooseBelow}
 use Rattle.lp_model.specs.declared.program.Typed.{Typed}
 use Rattle.lp_sig.specs.declared.signature.Signature.{Signature}
 use Rattle.lp_base.specs.Held.{Held}
@@ -19,8 +15,8 @@ use Rattle.lp_build.specs.Told.{AreLoaded}
 use Rattle.lp_build.specs.declared.build.Built.{Built}
 use Rattle.lp_build.specs.declared.sources.Sources.{Sources}
 use Rattle.lp_lines.specs.declared.refusal.Refusal.{Refusal}
-use Rattle.lp_infer.specs.Typing.{Raw, raw_index, raw_constant, raw_integer, raw_text, raw_abs, raw_app, Elaborates}
 use Rattle.lp_infer.specs.Numbering.{typing_of}
+use Rattle.lp_build.proofs.Closed.{typed_loose}
 use Rattle.lp_cert.specs.Inside.{IsQueryInside}
 use Rattle.lp_cert.specs.Standing.{IsSameProgram}
 use Rattle.lp_load.specs.Asked.{IsAsked}
@@ -76,18 +72,6 @@ asked_from told name text sources (Ok a) begins first files read h = record {
   asked = h.asked;
 }
 asked_from told name text sources (Err e) begins first files read h = tt
-
--- a term has no loose index but those whose types are given
-typed_loose : (R : Raw) (C : List Ty) (t : Term) (A : Ty) (n d : ℕ) → length C ≡ d + n → Elaborates C R t A → LooseBelow n d t
-typed_loose (raw_index i) C t A n d e h = let l = slice_get_within C i A h.1 in subst (LooseBelow n d) (sym h.0) (omega (arith, l, e))
-typed_loose (raw_constant c s) C t A n d e h = subst (LooseBelow n d) (sym h.1) tt
-typed_loose (raw_integer z) C t A n d e h = subst (LooseBelow n d) (sym h.0) tt
-typed_loose (raw_text s) C t A n d e h = subst (LooseBelow n d) (sym h.0) tt
-typed_loose (raw_abs given b) C t A n d e (s, i, P, R, j, g, k) =
-    let more : length (P ∷ C) ≡ suc d + n = omega (arith, e) in
-    subst (LooseBelow n d) (sym i) (typed_loose b (P ∷ C) s R n (suc d) more k)
-typed_loose (raw_app f u) C t A n d e (g, v, i, P, j, k) =
-    subst (LooseBelow n d) (sym i) (typed_loose f C g _ n d e j, typed_loose u C v P n d e k)
 
 -- the query of a text stands in its bank
 pub query_inside : (operators : Table) (names : Signature) (text : List ℕ) (b : Nodes) (q : Typed) → IsAsked operators names text b q → IsQueryInside b q

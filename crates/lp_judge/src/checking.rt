@@ -13,16 +13,14 @@ ghost use Rattle.lp_base.specs.Written.{Appends};
 ghost use Rattle.lp_term.specs.Nodes.{Extends};
 ghost use Rattle.lp_cert.specs.Arities.{counts_in};
 ghost use Rattle.lp_cert.specs.Certified.{certificate_of, ground_of, query_of};
-ghost use Rattle.lp_cert.specs.Inside.{IsQueryInside};
 ghost use Rattle.lp_cert.specs.Spellable.{AreCertificates};
 ghost use Rattle.lp_cert.specs.Spelling.{spelled_certificates};
-ghost use Rattle.lp_cert.specs.Standing.{IsCertificateInside, IsSameProgram};
+ghost use Rattle.lp_cert.specs.Standing.{AreNumbersInside, IsCertificateInside, IsSameProgram};
 ghost use Rattle.lp_build.specs.Told.{IsTold};
 ghost use Rattle.lp_judge.specs.Asked.{IsAskedFrom};
 ghost use Rattle.lp_judge.specs.Checked.{Checks, IsCheckOf, IsChecked, IsJudgedOn, IsVerdictOn};
 
 use crate::asking::{Asked, prepare_asked};
-use crate::standing::standing;
 use itoa::Buffer;
 use lp_base::{Folder, Limit, MAX_IMAGE_BYTES, Memory, Sink, Status};
 use lp_cert::{CertFault, CheckVerdict, check, read_cert};
@@ -135,9 +133,8 @@ fn verdict_on(
 ) -> Result<CheckVerdict, Memory>
     ensures kept { Extends names.old.program.bank names.new.program.bank }
     ensures same { IsSameProgram names.old names.new }
-    ensures right { IsQueryInside names.old.program.bank query.now → All (IsCertificateInside names.old.program.bank) certificates.now → IfOk result (IsVerdictOn (ground_of names.new.program) (query_of names.new.program.bank query.now) (map (certificate_of names.new.program.bank) certificates.now)) }
+    ensures right { AreNumbersInside names.old.program query.now certificates.now → IfOk result (IsVerdictOn (ground_of names.new.program) (query_of names.new.program.bank query.now) (map (certificate_of names.new.program.bank) certificates.now)) }
 {
-    standing(&names.program)?;
     check(alloc, names, query, certificates)
 }
 

@@ -41,12 +41,10 @@ impl<T: Drop> From<AllocFailed<T>> for Stopped {
     }
 }
 
-/// The certificates of a search's answers without residual pairs, in order, as the bytes of a file; how many they are, how many answers there are, and
-/// how the search ended.
+/// The certificates of a search's answers without residual pairs, in order, as the bytes of a file; how many answers there are, and how the search ended.
 #[derive(Drop)]
 pub(crate) struct Collected {
     pub(crate) bytes: Vec<u8>,
-    pub(crate) proved: u64,
     pub(crate) answers: u64,
     pub(crate) ending: Ending,
 }
@@ -124,7 +122,6 @@ impl Found {
     fn end(&self, ending: Ending) -> Result<Collected, Stopped> {
         Ok(Collected {
             bytes: spelled(self.alloc, self.certificates.as_slice(), &self.bank)?,
-            proved: self.certificates.len() as u64,
             answers: self.answers,
             ending,
         })

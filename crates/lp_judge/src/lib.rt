@@ -13,8 +13,6 @@ mod copying;
 mod patterns;
 // The certificates of a query's answers, written to a file.
 mod proving;
-// Whether the numbers of a program stand in its bank.
-mod standing;
 // The texts that are judged.
 mod texts;
 // Negations, of which no certificate speaks.

@@ -10,7 +10,8 @@ ghost use Rattle.lp_lines.specs.Placed.{IfSource};
 ghost use Rattle.lp_lines.specs.Refusals.{IsJudged};
 ghost use Rattle.lp_load.specs.Placed.{IsPlaced, WritesPlaced};
 ghost use Rattle.lp_judge.specs.Asked.{IsAskedFrom};
-ghost use Rattle.lp_judge.specs.Proofs.{AreProofs, IsCertified, WritesProofs, has_file};
+ghost use Rattle.lp_judge.specs.Checked.{IsJudgedOn};
+ghost use Rattle.lp_judge.specs.Proofs.{AreProofs, IsCertified, IsCounted, IsCountedFile, WritesCounted, WritesProofs, has_file};
 ghost use Rattle.lp_judge.specs.Proved.{IsOutcome, IsReady, Proves, cert_file, proved_line};
 
 use crate::asking::{Asked, prepare_asked};
@@ -74,11 +75,11 @@ fn push_count(text: &mut Vec<u8>, count: u64) -> Result<(), Memory>
 }
 
 // `proved P of A` and the last line of the search.
-fn lines_of(alloc: Global, collected: &Collected) -> Result<Vec<u8>, Memory>
-    ensures { IfOk result (λ text. text.items ≡ proved_line collected.now.proved collected.now.answers collected.now.ending) }
+fn lines_of(alloc: Global, proved: u64, collected: &Collected) -> Result<Vec<u8>, Memory>
+    ensures { IfOk result (λ text. text.items ≡ proved_line proved collected.now.answers collected.now.ending) }
 {
     let mut text = b"proved ".to_vec(alloc)?;
-    push_count(&mut text, collected.proved)?;
+    push_count(&mut text, proved)?;
     text.extend_from_slice(b" of ")?;
     push_count(&mut text, collected.answers)?;
     text.extend_from_slice(b"\n")?;
@@ -86,32 +87,40 @@ fn lines_of(alloc: Global, collected: &Collected) -> Result<Vec<u8>, Memory>
     Ok(text)
 }
 
-fn target_of(alloc: Global, name: &str, collected: &Collected) -> Result<Target, Memory>
-    ensures { IfOk result (IsTarget (cert_file name.now) (proved_line collected.now.proved collected.now.answers collected.now.ending)) }
+fn target_of(
+    alloc: Global,
+    name: &str,
+    proved: u64,
+    collected: &Collected,
+) -> Result<Target, Memory>
+    ensures { IfOk result (IsTarget (cert_file name.now) (proved_line proved collected.now.answers collected.now.ending)) }
 {
     let file = file_name(alloc, name, ".cert")?;
     let fault = write_fault(alloc, file.as_str())?;
-    let done = lines_of(alloc, collected)?;
+    let done = lines_of(alloc, proved, collected)?;
     Ok(Target { file, done, fault })
 }
 
-// The verdict on the certificates that the bytes spell.
-fn verdict(alloc: Global, asked: Asked, bytes: &[u8]) -> Result<CheckVerdict, Memory>
-    ensures { (held : Option Held) (name text : List ℕ) → IsAskedFrom held name text asked.names asked.query → IfOk result (λ v. v ≡ CheckVerdict.Accepted → AreProofs held name text bytes.now) }
+// The verdict on the certificates that the bytes spell, and how many these are.
+fn verdict(alloc: Global, asked: Asked, bytes: &[u8]) -> Result<(CheckVerdict, u64), Memory>
+    ensures { (held : Option Held) (name text : List ℕ) → IsAskedFrom held name text asked.names asked.query → IfOk result (λ v. v.0 ≡ CheckVerdict.Accepted → IsJudgedOn held name text bytes.now v.1 CheckVerdict.Accepted) }
 {
     let Asked { mut names, query } = asked;
     let Ok(certificates) = read(alloc, bytes, &mut names) else {
         return Err(Memory);
     };
-    check(alloc, &mut names, &query, certificates.as_slice())
+    let count = certificates.len() as u64;
+    let verdict = check(alloc, &mut names, &query, certificates.as_slice())?;
+    Ok((verdict, count))
 }
 
 // The file is made only where its certificates are accepted, as they are when the file is checked.
-fn judged(alloc: Global, asked: Asked, bytes: &[u8]) -> Result<(), Stopped>
-    ensures { (held : Option Held) (name text : List ℕ) → IsAskedFrom held name text asked.names asked.query → OnOk result (AreProofs held name text bytes.now) }
+fn judged(alloc: Global, asked: Asked, bytes: &[u8]) -> Result<u64, Stopped>
+    ensures { (held : Option Held) (name text : List ℕ) → IsAskedFrom held name text asked.names asked.query → IfOk result (λ count. IsJudgedOn held name text bytes.now count CheckVerdict.Accepted) }
 {
-    match verdict(alloc, asked, bytes)? {
-        CheckVerdict::Accepted => Ok(()),
+    let (verdict, count) = verdict(alloc, asked, bytes)?;
+    match verdict {
+        CheckVerdict::Accepted => Ok(count),
         CheckVerdict::Deep(_) => Err(Stopped::Deep),
         CheckVerdict::Rejected(_) => Err(Stopped::Memory),
     }
@@ -120,11 +129,12 @@ fn judged(alloc: Global, asked: Asked, bytes: &[u8]) -> Result<(), Stopped>
 fn made(alloc: Global, asked: Asked, claim: Claim<'_>) -> Result<Ready, Stopped>
     ensures ready { IfOk result (λ r. IsReady claim.entry.name.now r.ending r.target) }
     ensures proofs { (held : Option Held) (name text : List ℕ) → IsAskedFrom held name text asked.names asked.query → IfOk result (λ r. AreProofs held name text r.bytes.items) }
+    ensures counted { (held : Option Held) (text : List ℕ) → IsAskedFrom held claim.entry.name.now text asked.names asked.query → IfOk result (λ r. IsCountedFile held claim.entry.name.now text r.bytes.items r.ending r.target) }
 {
     let search = start(alloc, &asked, claim)?;
     let collected = collect(alloc, search)?;
-    judged(alloc, asked, collected.bytes.as_slice())?;
-    let target = target_of(alloc, claim.name, &collected)?;
+    let proved = judged(alloc, asked, collected.bytes.as_slice())?;
+    let target = target_of(alloc, claim.name, proved, &collected)?;
     Ok(Ready {
         target,
         bytes: collected.bytes,
@@ -138,6 +148,7 @@ fn without_file(alloc: Global, stopped: Stopped) -> Result<Outcome, Refusal>
     ensures nowhere { IfErr result (IfSource (λ line. ⊥)) }
     ensures outcome { (name : List ℕ) → IfOk result (IsOutcome name) }
     ensures certified { (held : Option Held) (name text : List ℕ) → IfOk result (IsCertified held name text) }
+    ensures counted { (held : Option Held) (name text : List ℕ) → IfOk result (IsCounted held name text) }
 {
     match stopped {
         Stopped::Deep => Ok(Outcome::Deep),
@@ -151,6 +162,7 @@ fn outcome_of(alloc: Global, asked: Asked, claim: Claim<'_>) -> Result<Outcome, 
     ensures nowhere { IfErr result (IfSource (λ line. ⊥)) }
     ensures outcome { IfOk result (IsOutcome claim.entry.name.now) }
     ensures certified { (held : Option Held) (name text : List ℕ) → IsAskedFrom held name text asked.names asked.query → IfOk result (IsCertified held name text) }
+    ensures counted { (held : Option Held) (text : List ℕ) → IsAskedFrom held claim.entry.name.now text asked.names asked.query → IfOk result (IsCounted held claim.entry.name.now text) }
 {
     match made(alloc, asked, claim) {
         Ok(file) => Ok(Outcome::File(file)),
@@ -164,6 +176,7 @@ fn prepare<F: Folder>(alloc: Global, claim: Claim<'_>, folder: &mut F) -> Result
     ensures placed { IfErr result (IfSource (IsPlaced (F.held folder.old) claim.entry.query.now)) }
     ensures outcome { IfOk result (IsOutcome claim.entry.name.now) }
     ensures certified { IfOk result (IsCertified (F.held folder.old) claim.entry.name.now claim.entry.query.now) }
+    ensures counted { IfOk result (IsCounted (F.held folder.old) claim.entry.name.now claim.entry.query.now) }
 {
     match prepare_asked(alloc, claim.name, claim.query, folder) {
         Ok(asked) => outcome_of(alloc, asked, claim),
@@ -182,6 +195,7 @@ fn finish<F: Folder, K: Sink>(
     ensures of_search { result ≢ Status.WriteFault → is_of_search result ≡ true }
     ensures leaves { (name : List ℕ) → IsOutcome name outcome → Proves F.write_faults F.held K.faults K.written folder.old folder.new out.old out.new name result }
     ensures certified { (name text : List ℕ) → IsOutcome name outcome → IsCertified (F.held folder.old) name text outcome → has_file result ≡ true → WritesProofs (F.held folder.old) (F.held folder.new) name text }
+    ensures counted { (name text : List ℕ) → IsCounted (F.held folder.old) name text outcome → result ≡ Status.Done → WritesCounted (F.held folder.old) (F.held folder.new) name text (K.written out.old) (K.written out.new) }
     ensures read_faults { F.read_faults folder.new ≡ F.read_faults folder.old }
     ensures misses { F.misses folder.new ≡ F.misses folder.old }
     ensures overs { F.overs folder.new ≡ F.overs folder.old }
@@ -212,6 +226,7 @@ pub fn prove<F: Folder, K: Sink>(
     ensures ran { Ran F.read_faults F.misses F.overs K.written folder.old folder.new out.old out.new result }
     ensures leaves { Proves F.write_faults F.held K.faults K.written folder.old folder.new out.old out.new claim.entry.name.now result }
     ensures certified { has_file result ≡ true → WritesProofs (F.held folder.old) (F.held folder.new) claim.entry.name.now claim.entry.query.now }
+    ensures counted { result ≡ Status.Done → WritesCounted (F.held folder.old) (F.held folder.new) claim.entry.name.now claim.entry.query.now (K.written out.old) (K.written out.new) }
     ensures placed { result ≡ Status.Source → WritesPlaced (F.held folder.old) claim.entry.query.now (K.written out.old) (K.written out.new) }
 {
     match prepare(alloc, claim, folder) {

@@ -1,5 +1,13 @@
 use Rattle.lp_lines.proofs.Looking.{looked_judged}
+use Rattle.std.proofs.Common.{◌∙◌}
+use Rattle.lp_files.proofs.Making.{image_held}
 use Rattle.lp_files.proofs.open.open_image.Goals as goal
 
 pub returns-clause-looked : goal.returns-clause-looked
-returns-clause-looked g c = looked_judged c.judged_image.result c.in_ok-bytes.ensures c.judged_image.ensures.judged
+returns-clause-looked g c = looked_judged c.judged_image.result c.in_ok-bytes.ensures.looked c.judged_image.ensures.judged
+
+pub returns-clause-held : goal.returns-clause-held
+returns-clause-held g c =
+    let held = g.F.Folder.held c.args.folder.now in
+    image_held held c.args.name.now c.as_str.result.now c.as_slice.result.now c.in_ok-bytes.bytes.items c.judged_image.result
+    (c.as_str.ensures.value ∙ c.in_ok-file.ensures) c.as_slice.ensures.value c.in_ok-bytes.ensures.there c.judged_image.ensures.spelled

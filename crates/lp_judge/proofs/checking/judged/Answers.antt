@@ -1,8 +1,6 @@
 use Rattle.std.proofs.Common.{arith, map, subst}
-use Rattle.std.specs.Prelude.{All}
 use Rattle.lp_cert.specs.Certified.{certificate_of, ground_of, query_of}
-use Rattle.lp_cert.specs.Inside.{IsQueryInside}
-use Rattle.lp_cert.specs.Standing.{IsCertificateInside}
+use Rattle.lp_cert.specs.Standing.{AreNumbersInside}
 use Rattle.lp_judge.specs.Checked.{IsVerdictOn}
 use Rattle.lp_judge.proofs.Checkings.{judged_on}
 use Rattle.lp_judge.proofs.checking.judged.Goals as goal
@@ -15,7 +13,7 @@ returns-in-Ok-said_of_verdict-clause-right c held name text = λ asked. (
       c.read.ensures.kept c.verdict_on.ensures.kept c.read.ensures.same c.verdict_on.ensures.same c.in-Ok.ensures.inside c.in-Ok.ensures.found.0
       c.in-Ok.ensures.found.1 (omega (arith, c.len.ensures, c.in-Ok.certificates.ok))
       (let after = c.verdict_on.new.names.program in
-      subst (λ cs. IsQueryInside c.read.new.names.program.bank c.args.asked.query → All (IsCertificateInside c.read.new.names.program.bank) cs
+      subst (λ cs. AreNumbersInside c.read.new.names.program c.args.asked.query cs
       → IsVerdictOn (ground_of after) (query_of after.bank c.args.asked.query) (map (certificate_of after.bank) cs) c.in-Ok-verdict_on.verdict)
       c.as_slice.ensures.value c.in-Ok-verdict_on.ensures.right),
   c.in-Ok-said_of_verdict.ensures,

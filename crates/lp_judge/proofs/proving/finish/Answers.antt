@@ -4,7 +4,7 @@ use Rattle.lp_lines.specs.Lines.{is_of_search}
 use Rattle.lp_lines.proofs.Leaving.{leaves_untouched}
 use Rattle.lp_lines.proofs.Refusing.{line_grows}
 use Rattle.lp_lines.proofs.Statuses.{ending_is, said_of_search, search_not_fault}
-use Rattle.lp_judge.proofs.Provings.{deep_no_file, deep_not_done, file_no_fault, file_no_memory, proofs_stand, ready_file, with_status}
+use Rattle.lp_judge.proofs.Provings.{counted_stands, deep_no_file, deep_not_done, done_has_file, file_no_fault, file_no_memory, proofs_stand, ready_file, with_status}
 use Rattle.lp_judge.proofs.proving.finish.Goals as goal
 
 pub put-requires : goal.put-requires
@@ -36,3 +36,11 @@ returns-in-File-clause-certified g c name text = λ o h f.
 
 pub returns-in-Deep-clause-certified : goal.returns-in-Deep-clause-certified
 returns-in-Deep-clause-certified g c name text = λ o h f. absurd (deep_no_file c.status-in-Deep.result c.say.result c.status-in-Deep.ensures c.say.ensures.said f)
+
+pub returns-in-File-clause-counted : goal.returns-in-File-clause-counted
+returns-in-File-clause-counted g c name text = λ h e.
+    counted_stands _ _ name text c.args.outcome c.in-File.file _ _ c.put.result c.in-File.is h c.as_slice.ensures.value c.put.ensures.leaves
+    (c.put.ensures.bytes (file_no_fault c.put.result (done_has_file e)) (file_no_memory c.put.result (done_has_file e))) e
+
+pub returns-in-Deep-clause-counted : goal.returns-in-Deep-clause-counted
+returns-in-Deep-clause-counted g c name text = λ h e. absurd (deep_no_file c.status-in-Deep.result c.say.result c.status-in-Deep.ensures c.say.ensures.said (done_has_file e))

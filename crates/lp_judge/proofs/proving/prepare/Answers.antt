@@ -10,3 +10,6 @@ returns-in-Ok-clause-placed g c = nowhere_placed _ c.outcome_of.result c.outcome
 
 pub returns-in-Ok-clause-certified : goal.returns-in-Ok-clause-certified
 returns-in-Ok-clause-certified g c = c.outcome_of.ensures.certified _ _ _ c.in-Ok.ensures.asked
+
+pub returns-in-Ok-clause-counted : goal.returns-in-Ok-clause-counted
+returns-in-Ok-clause-counted g c = c.outcome_of.ensures.counted _ _ c.in-Ok.ensures.asked

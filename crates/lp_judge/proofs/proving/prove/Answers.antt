@@ -1,6 +1,6 @@
 use Rattle.std.proofs.Common.{subst}
-use Rattle.lp_judge.specs.Proofs.{IsCertified, WritesProofs}
-use Rattle.lp_judge.proofs.Provings.{told_no_file}
+use Rattle.lp_judge.specs.Proofs.{IsCertified, IsCounted, WritesCounted, WritesProofs}
+use Rattle.lp_judge.proofs.Provings.{done_has_file, told_no_file}
 use Rattle.lp_model.specs.declared.ending.Ending.TheVariants as ending
 use Rattle.lp_lines.proofs.Leaving.{leaves_then, leaves_told}
 use Rattle.lp_lines.proofs.Refusing.{never_write_fault}
@@ -42,3 +42,13 @@ returns-in-Ok-clause-certified g c = λ f.
 
 pub returns-in-Err-clause-certified : goal.returns-in-Err-clause-certified
 returns-in-Err-clause-certified g c = λ f. absurd (told_no_file c.in-Err.refusal c.tell.result c.in-Err.ensures.looked.kind c.tell.ensures.said f)
+
+pub returns-in-Ok-clause-counted : goal.returns-in-Ok-clause-counted
+returns-in-Ok-clause-counted g c = λ e.
+    let name = c.args.claim.name.now in
+    let text = c.args.claim.query.now in
+    subst (λ held. IsCounted held name text c.in-Ok.outcome → WritesCounted held (g.F.Folder.held c.finish.new.folder) name text (g.K.Sink.written c.args.out.now) (g.K.Sink.written c.finish.new.out)) c.in-Ok.ensures.looked.same
+    (λ h. c.finish.ensures.counted name text h e) c.in-Ok.ensures.counted
+
+pub returns-in-Err-clause-counted : goal.returns-in-Err-clause-counted
+returns-in-Err-clause-counted g c = λ e. absurd (told_no_file c.in-Err.refusal c.tell.result c.in-Err.ensures.looked.kind c.tell.ensures.said (done_has_file e))

@@ -1,0 +1,56 @@
+-- The bytes of the file that a command makes.
+use Rattle.std.specs.Global.{Global}
+use Rattle.std.proofs.Common.{◌≡◌, ◌++◌, ℕ, List, Option, subst}
+use Rattle.std.specs.Prelude.{Vec, Result, Ok, Err, IfOk, IfSome, codes}
+use Rattle.lp_base.specs.Held.{Held, Puts}
+use Rattle.lp_base.specs.declared.limit.Limit.{Limit}
+use Rattle.lp_object.specs.Files.{spelled_image}
+use Rattle.lp_object.specs.Plain.{PlainImage, plain_image}
+use Rattle.lp_object.specs.Spellable.{SpellsImage}
+use Rattle.lp_verify.specs.declared.judging.Verified.{Verified}
+use Rattle.lp_build.specs.Loads.{BeginsWith, modules_among, names_of}
+use Rattle.lp_build.specs.Reads.{AreRead}
+use Rattle.lp_build.specs.Told.{AreLoaded, IsTold}
+use Rattle.lp_build.specs.declared.sources.Sources.{Sources}
+use Rattle.lp_lines.specs.Looked.{Found}
+use Rattle.lp_lines.specs.declared.refusal.Refusal.{Refusal}
+use Rattle.lp_words.specs.declared.asked.FileCommand.{FileCommand}
+use Rattle.lp_files.specs.Made.{IsHeldImage, IsImage, IsMade, IsMigrated, IsObjectMade, SpellsCompiled, WritesMade}
+use Rattle.lp_files.specs.Target.{ending_of}
+
+-- the bytes that stand under a name
+pub found_there : (file : List ℕ) (most : ℕ) (l : Limit) (told : Option Held) (r : Result (Vec ℕ Global) Refusal) → Found file most l told r → IfOk r (λ bytes. IsTold told file bytes.items)
+found_there file most l told (Ok bytes) h = h.1
+found_there file most l told (Err e) h = tt
+
+pub object_made : (told : Option Held) (name : List ℕ) (sources : Sources) (r : Result (Vec ℕ Global) Refusal) → BeginsWith (name ++ codes ".sig") (names_of sources.files.items)
+    → BeginsWith name (modules_among sources.files.items) → AreLoaded told sources → AreRead sources → IfOk r (λ bytes. SpellsCompiled sources name bytes.items)
+    → IfOk r (λ bytes. IsObjectMade told name bytes.items)
+object_made told name sources (Ok bytes) begins first files read h = record { sources = sources; begins = begins; first = first; files = files; read = read; spells = h }
+object_made told name sources (Err e) begins first files read h = tt
+
+pub migrated_is : (told : Option Held) (name : List ℕ) (image : PlainImage) (r : Result (Vec ℕ Global) Refusal) → IsHeldImage told name image
+    → IfOk r (λ bytes. bytes.items ≡ spelled_image image) → IfOk r (λ bytes. IsMigrated told name bytes.items)
+migrated_is told name image (Ok bytes) held h = (image, held, h)
+migrated_is told name image (Err e) held h = tt
+
+pub image_is : (image : PlainImage) (r : Result (Vec ℕ Global) Refusal) → IfOk r (λ bytes. bytes.items ≡ spelled_image image) → IfOk r (λ bytes. IsImage bytes.items)
+image_is image (Ok bytes) h = (image, h)
+image_is image (Err e) h = tt
+
+pub written_made : (told now : Option Held) (command : FileCommand) (name file bytes spelled : List ℕ) → IsMade told command name spelled → bytes ≡ spelled
+    → file ≡ name ++ ending_of command → IfSome told (λ old. IfSome now (Puts file bytes old)) → WritesMade told now command name
+written_made told now command name file bytes spelled made same f h = record {
+  bytes = spelled;
+  made = made;
+  stands = subst (λ w. IfSome told (λ old. IfSome now (Puts w spelled old))) f (subst (λ w. IfSome told (λ old. IfSome now (Puts file w old))) same h);
+}
+
+pub image_held : (told : Option Held) (name file slice bytes : List ℕ) (r : Result Verified Refusal) → file ≡ name ++ codes ".lp" → slice ≡ bytes → IsTold told file bytes
+    → IfOk r (λ v. SpellsImage (plain_image v.image) slice) → IfOk r (λ v. IsHeldImage told name (plain_image v.image))
+image_held told name file slice bytes (Ok v) f s there h = record {
+  bytes = bytes;
+  there = subst (λ w. IsTold told w bytes) f there;
+  spelled = subst (SpellsImage (plain_image v.image)) s h;
+}
+image_held told name file slice bytes (Err e) f s there h = tt

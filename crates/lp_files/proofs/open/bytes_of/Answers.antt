@@ -1,0 +1,5 @@
+use Rattle.lp_files.proofs.Making.{found_there}
+use Rattle.lp_files.proofs.open.bytes_of.Goals as goal
+
+pub returns-clause-there : goal.returns-clause-there
+returns-clause-there g c = found_there _ _ _ _ c.read_file.result c.read_file.ensures.found
