@@ -5,6 +5,11 @@ use Rattle.lp_base.specs.Held.{Held}
 use Rattle.lp_base.specs.declared.status.Status.{Status}
 use Rattle.lp_base.specs.declared.status.Status.TheVariants as variant
 use Rattle.lp_cli.specs.Does.{Does}
+use Rattle.lp_cli.specs.Fulfils.{Fulfils}
+use Rattle.lp_files.specs.Made.{WritesMade}
+use Rattle.lp_judge.specs.Checked.{Checks}
+use Rattle.lp_judge.specs.Judged.{Judges}
+use Rattle.lp_judge.specs.Proofs.{WritesProofs, has_file}
 use Rattle.lp_cli.specs.Ends.{IsAskedFault, of_plain, of_beyond, WritesAskedFault, BeginsAskedFault}
 use Rattle.lp_cli.specs.Order.{order_asked}
 use Rattle.lp_files.specs.Target.{done_line, ending_of}
@@ -65,10 +70,12 @@ module _ {F K : Type 0} {rf ms ov wf : F → ℕ} {held : F → Option Held} {fa
   does_beyond : (asked : Asked) (result : Status) → IsBeyond asked → Ran rf ms ov written a b o p result
       → (result ≡ variant.Source → (query : List ℕ) → query_on_texts asked ≡ Some query → WritesPlaced (held a) query (written o) (written p))
       → (writes_file asked ≡ false → KeepsFiles wf held faults a b o p result)
-      → ((command : FileCommand) (name : List ℕ) → asked ≡ files command name → Leaves wf held faults written a b o p (name ++ ending_of command) (done_line command (name ++ ending_of command)) result)
+      → ((command : FileCommand) (name : List ℕ) → asked ≡ files command name → Leaves wf held faults written a b o p (name ++ ending_of command)
+      (done_line command (name ++ ending_of command)) result)
       → ((name query : List ℕ) (options : Options) → asked ≡ prove name query options → Proves wf held faults written a b o p name result)
+      → Fulfils (held a) (held b) (written o) (written p) asked result
       → Does rf ms ov wf held faults written asked a b o p result
-  does_beyond asked result is r placed k l m = record {
+  does_beyond asked result is r placed k l m u = record {
     told = λ no other. for_each (held a) (λ h. beyond_writes (order_asked (Some asked) h) result (written o) (written p) (is h) r.grows);
     prefix = λ e. for_each (held a) (λ h. inl (beyond_begins (order_asked (Some asked) h) (written o) (written p) (is h) r.grows));
     fault = λ e. let w = r.fault e in record { text = w.0; fault = of_beyond (for_each (held a) is) w.1.0; appended = w.1.1 };
@@ -76,53 +83,64 @@ module _ {F K : Type 0} {rf ms ov wf : F → ℕ} {held : F → Option Held} {fa
     ran = r;
     keeps = k;
     leaves = l;
+    fulfils = u;
     certifies = m;
   }
 
   -- a generated query, queries on an image
   pub does_trial : (size : ℕ) (result : Status) → Ran rf ms ov written a b o p result → KeepsFiles wf held faults a b o p result → Does rf ms ov wf held faults written (trial size) a b o p result
-  does_trial size result r k = does_beyond (trial size) result (λ h. refl) r (λ e query is. absurd (cc)) (λ no. k) (λ command name is. absurd (cc)) (λ name query options is. absurd (cc))
+  does_trial size result r k = does_beyond (trial size) result (λ h. refl) r (λ e query is. absurd (cc)) (λ no. k) (λ command name is. absurd (cc)) (λ name query options is. absurd (cc)) tt
 
-  pub does_query : (name query : List ℕ) (options : Options) (result : Status) → Ran rf ms ov written a b o p result → KeepsFiles wf held faults a b o p result → Does rf ms ov wf held faults written (query_image name query options) a b o p result
+  pub does_query : (name query : List ℕ) (options : Options) (result : Status) → Ran rf ms ov written a b o p result → KeepsFiles wf held faults a b o
+      p result → Does rf ms ov wf held faults written (query_image name query options) a b o p result
   does_query name query options result r k =
-      does_beyond (query_image name query options) result (λ h. refl) r (λ e query' is. absurd (cc)) (λ no. k) (λ command name' is. absurd (cc)) (λ name' query' options' is. absurd (cc))
+      does_beyond (query_image name query options) result (λ h. refl) r (λ e query' is. absurd (cc)) (λ no. k) (λ command name' is. absurd (cc)) (λ name' query' options' is. absurd (cc)) tt
 
-  pub does_session : (name : List ℕ) (options : Options) (result : Status) → Ran rf ms ov written a b o p result → KeepsFiles wf held faults a b o p result → Does rf ms ov wf held faults written (session name options) a b o p result
+  pub does_session : (name : List ℕ) (options : Options) (result : Status) → Ran rf ms ov written a b o p result → KeepsFiles wf held faults a b o p
+      result → Does rf ms ov wf held faults written (session name options) a b o p result
   does_session name options result r k =
       does_beyond (session name options) result (λ h. refl) r (λ e query is. absurd (cc)) (λ no. k) (λ command name' is. absurd (cc)) (λ name' query options' is. absurd (cc))
 
   -- judgements
   pub does_lambda : (name query : List ℕ) (result : Status) → Ran rf ms ov written a b o p result → KeepsFiles wf held faults a b o p result
-      → (result ≡ variant.Source → WritesPlaced (held a) query (written o) (written p)) → Does rf ms ov wf held faults written (lambda name query) a b o p result
-  does_lambda name query result r k placed =
-      does_beyond (lambda name query) result (λ h. refl) r (placed_one (held a) (written o) (written p) query result placed) (λ no. k) (λ command name' is. absurd (cc)) (λ name' query' options is. absurd (cc))
+      → (result ≡ variant.Source → WritesPlaced (held a) query (written o) (written p)) → Judges (held a) name query (written o) (written p) result
+      → Does rf ms ov wf held faults written (lambda name query) a b o p result
+  does_lambda name query result r k placed u =
+      does_beyond (lambda name query) result (λ h. refl) r (placed_one (held a) (written o) (written p) query result placed) (λ no. k)
+      (λ command name' is. absurd (cc)) (λ name' query' options is. absurd (cc)) u
 
   pub does_check : (name query : List ℕ) (result : Status) → Ran rf ms ov written a b o p result → KeepsFiles wf held faults a b o p result
-      → (result ≡ variant.Source → WritesPlaced (held a) query (written o) (written p)) → Does rf ms ov wf held faults written (check name query) a b o p result
-  does_check name query result r k placed =
-      does_beyond (check name query) result (λ h. refl) r (placed_one (held a) (written o) (written p) query result placed) (λ no. k) (λ command name' is. absurd (cc)) (λ name' query' options is. absurd (cc))
+      → (result ≡ variant.Source → WritesPlaced (held a) query (written o) (written p)) → Checks (held a) name query (written o) (written p) result
+      → Does rf ms ov wf held faults written (check name query) a b o p result
+  does_check name query result r k placed u =
+      does_beyond (check name query) result (λ h. refl) r (placed_one (held a) (written o) (written p) query result placed) (λ no. k)
+      (λ command name' is. absurd (cc)) (λ name' query' options is. absurd (cc)) u
 
   -- certificates
   pub does_prove : (name query : List ℕ) (options : Options) (result : Status) → Ran rf ms ov written a b o p result
       → Proves wf held faults written a b o p name result
-      → (result ≡ variant.Source → WritesPlaced (held a) query (written o) (written p)) → Does rf ms ov wf held faults written (prove name query options) a b o p result
-  does_prove name query options result r l placed =
+      → (result ≡ variant.Source → WritesPlaced (held a) query (written o) (written p)) → (has_file result ≡ true → WritesProofs (held a) (held b) name query)
+      → Does rf ms ov wf held faults written (prove name query options) a b o p result
+  does_prove name query options result r l placed u =
       does_beyond (prove name query options) result (λ h. refl) r (placed_one (held a) (written o) (written p) query result placed) (λ no. absurd (cc)) (λ command name' is. absurd (cc))
-      (λ name' query' options' is. let n : name ≡ name' = cc in subst (λ x. Proves wf held faults written a b o p x result) n l)
+      (λ name' query' options' is. let n : name ≡ name' = cc in subst (λ x. Proves wf held faults written a b o p x result) n l) u
 
   -- a file of a module
   pub does_files : (command : FileCommand) (name : List ℕ) (result : Status) → Ran rf ms ov written a b o p result
-      → Leaves wf held faults written a b o p (name ++ ending_of command) (done_line command (name ++ ending_of command)) result → Does rf ms ov wf held faults written (files command name) a b o p result
-  does_files command name result r l =
-      does_beyond (files command name) result (λ h. refl) r (λ e query is. absurd (cc)) (λ no. absurd (cc)) (λ command' name' is. let c : command ≡ command' = cc in let n : name ≡ name' = cc in leaves_for c n l)
-      (λ name' query options is. absurd (cc))
+      → Leaves wf held faults written a b o p (name ++ ending_of command) (done_line command (name ++ ending_of command)) result → (result ≡ variant.Done → WritesMade (held a) (held b) command name)
+      → Does rf ms ov wf held faults written (files command name) a b o p result
+  does_files command name result r l u =
+      does_beyond (files command name) result (λ h. refl) r (λ e query is. absurd (cc)) (λ no. absurd (cc))
+      (λ command' name' is. let c : command ≡ command' = cc in let n : name ≡ name' = cc in leaves_for c n l)
+      (λ name' query options is. absurd (cc)) u
 
   -- a query with options
   pub does_within : (name query : List ℕ) (options : Options) (result : Status) → is_plain options ≡ false → Ran rf ms ov written a b o p result → KeepsFiles wf held faults a b o p result
       → (result ≡ variant.Source → WritesPlaced (held a) query (written o) (written p)) → Does rf ms ov wf held faults written (solve name query options) a b o p result
   does_within name query options result plain r k placed =
-      does_beyond (solve name query options) result (λ h. ap (λ (t : Bool). if t then order_of name query h else Beyond) plain) r (placed_one (held a) (written o) (written p) query result placed) (λ no. k)
-      (λ command name' is. absurd (cc)) (λ name' query' options' is. absurd (cc))
+      does_beyond (solve name query options) result (λ h. ap (λ (t : Bool). if t then order_of name query h else Beyond) plain) r
+      (placed_one (held a) (written o) (written p) query result placed) (λ no. k)
+      (λ command name' is. absurd (cc)) (λ name' query' options' is. absurd (cc)) tt
 
   -- a query without
   pub does_plain : (name query : List ℕ) (options : Options) (plain : is_plain options ≡ true) (result : Status)
@@ -142,6 +160,7 @@ module _ {F K : Type 0} {rf ms ov wf : F → ℕ} {held : F → Option Held} {fa
     ran = r;
     keeps = λ no. k;
     leaves = λ command name' is. absurd (cc);
+    fulfils = tt;
     certifies = λ name' query' options' is. absurd (cc);
   }
 

@@ -7,6 +7,9 @@ use Rattle.lp_base.specs.Written.{Appends, AppendsPrefix}
 use Rattle.lp_base.specs.declared.status.Status.{Status}
 use Rattle.lp_base.specs.declared.status.Status.TheVariants as variant
 use Rattle.lp_cli.specs.Does.{Does}
+use Rattle.lp_cli.specs.Fulfils.{Fulfils}
+use Rattle.lp_judge.specs.Proofs.{has_file}
+use Rattle.lp_lines.proofs.Statuses.{is_fault, not_otherwise}
 use Rattle.lp_cli.specs.Ends.{IsAskedFault, of_plain, of_beyond, BeginsAskedFault, WritesAskedFault, IsReadFault, own, beyond, BeginsReadFault, WritesReadFault}
 use Rattle.lp_cli.specs.Order.{order, order_asked}
 use Rattle.lp_files.specs.Target.{done_line, ending_of}
@@ -103,7 +106,8 @@ module _ (words : List (List ℕ)) (a : Asked) (is : asked words ≡ Some a) whe
   pub watched_asked : {X : Type 0} {old new : X} → (watches a ≡ true) ⊎ (new ≡ old) → IsWatched words ⊎ (new ≡ old)
   watched_asked h = elim h [ inl w ↦ inl (ap (λ x. option_map watches x) is ∙ ap Some w) | inr e ↦ inr e ]
 
-  module _ {F K : Type 0} {rf ms ov wf : F → ℕ} {held : F → Option Held} {faults : K → ℕ} {written : K → Option (List ℕ)} {f g : F} {o p : K} {result : Status} (d : Does rf ms ov wf held faults written a f g o p result) where
+  module _ {F K : Type 0} {rf ms ov wf : F → ℕ} {held : F → Option Held} {faults : K → ℕ} {written : K → Option (List ℕ)} {f g : F} {o p : K}
+      {result : Status} (d : Does rf ms ov wf held faults written a f g o p result) where
     pub told_asked : result ≢ variant.WriteFault → result ≢ variant.ReadFault → IfSome (held f) (λ h. Writes (order words h) result (written o) (written p))
     told_asked n other = for_told (held f) (λ h w. subst (λ x. Writes x result (written o) (written p)) (sym (order_some words a is h)) w) (d.told n other)
 
@@ -122,8 +126,46 @@ module _ (words : List (List ℕ)) (a : Asked) (is : asked words ≡ Some a) whe
     pub keeps_asked : WritesNone words → KeepsFiles wf held faults f g o p result
     keeps_asked none = d.keeps (not_true (writes_file a) (λ e. none (ap (λ x. option_map writes_file x) is ∙ ap Some e)))
 
-    pub leaves_asked : (command : FileCommand) (name : List ℕ) → asked words ≡ Some (files command name) → Leaves wf held faults written f g o p (name ++ ending_of command) (done_line command (name ++ ending_of command)) result
+    pub leaves_asked : (command : FileCommand) (name : List ℕ) → asked words ≡ Some (files command name) → Leaves wf held faults written f g o p
+        (name ++ ending_of command) (done_line command (name ++ ending_of command)) result
     leaves_asked command name h = d.leaves command name (some_is is h)
 
     pub certifies_asked : (name query : List ℕ) (options : Options) → asked words ≡ Some (prove name query options) → Proves wf held faults written f g o p name result
     certifies_asked name query options h = d.certifies name query options (some_is is h)
+
+    pub fulfils_asked : (x : Asked) → asked words ≡ Some x → Fulfils (held f) (held g) (written o) (written p) x result
+    fulfils_asked x h = subst (λ y. Fulfils (held f) (held g) (written o) (written p) y result) (some_is is h) d.fulfils
+
+-- a run that ends with none of the statuses of a command that was carried out
+module _ (told now : Option Held) (before after : Option (List ℕ)) (result : Status) (not_done : result ≢ variant.Done) (not_no : result ≢ variant.No)
+    (not_deep : result ≢ variant.Deep) (no_file : has_file result ≡ true → ⊥) where
+  pub fulfils_none : (x : Asked) → Fulfils told now before after x result
+  fulfils_none (lambda name query) = record { yes = λ e. absurd (not_done e); no = λ e. absurd (not_no e) }
+  fulfils_none (check name query) = record { accepted = λ e. absurd (not_done e); rejected = λ e. absurd (not_no e); deep = λ e. absurd (not_deep e) }
+  fulfils_none (prove name query options) = λ f. absurd (no_file f)
+  fulfils_none (files command name) = λ e. absurd (not_done e)
+  fulfils_none (solve name query options) = tt
+  fulfils_none (query_image name query options) = tt
+  fulfils_none (trial size) = tt
+  fulfils_none (session name options) = tt
+
+no_file_of : (said result : Status) → has_file said ≡ false → (result ≢ variant.WriteFault → result ≡ said) → has_file result ≡ true → ⊥
+unfolding has_file
+no_file_of said result no kept f = elim (is_fault result) [
+  | inl e ↦ let h : true ≡ false = sym f ∙ ap has_file e in cc
+  | inr n ↦ let h : true ≡ false = sym f ∙ ap has_file (kept n) ∙ no in cc
+]
+
+pub fulfils_usage : (told now : Option Held) (before after : Option (List ℕ)) (result : Status) →
+    (result ≢ variant.WriteFault → result ≡ variant.Usage) → (x : Asked) → Fulfils told now before after x result
+unfolding has_file
+fulfils_usage told now before after result kept x = fulfils_none told now before after result
+    (not_otherwise result variant.Usage variant.Done kept (λ f. cc) (λ f. cc)) (not_otherwise result variant.Usage variant.No kept (λ f. cc) (λ f. cc))
+    (not_otherwise result variant.Usage variant.Deep kept (λ f. cc) (λ f. cc)) (no_file_of variant.Usage result refl kept) x
+
+pub fulfils_memory : (told now : Option Held) (before after : Option (List ℕ)) (result : Status) →
+    (result ≢ variant.WriteFault → result ≡ variant.Memory) → (x : Asked) → Fulfils told now before after x result
+unfolding has_file
+fulfils_memory told now before after result kept x = fulfils_none told now before after result
+    (not_otherwise result variant.Memory variant.Done kept (λ f. cc) (λ f. cc)) (not_otherwise result variant.Memory variant.No kept (λ f. cc) (λ f. cc))
+    (not_otherwise result variant.Memory variant.Deep kept (λ f. cc) (λ f. cc)) (no_file_of variant.Memory result refl kept) x

@@ -4,6 +4,7 @@ use Rattle.lp_base.specs.Held.{Held}
 use Rattle.lp_base.specs.declared.status.Status.{Status}
 use Rattle.lp_base.specs.declared.status.Status.TheVariants as variant
 use Rattle.lp_cli.specs.Ends.{BeginsAskedFault, WritesAskedFault}
+use Rattle.lp_cli.specs.Fulfils.{Fulfils}
 use Rattle.lp_cli.specs.Order.{order_asked}
 use Rattle.lp_files.specs.Target.{done_line, ending_of}
 use Rattle.lp_lines.specs.Ends.{KeepsFiles, Ran}
@@ -27,4 +28,5 @@ pub record Does {F K : Type 0} (read_faults misses overs write_faults : F → �
   pub keeps : writes_file asked ≡ false → KeepsFiles write_faults held faults old new before after result
   pub leaves : (command : FileCommand) (name : List ℕ) → asked ≡ files command name
       → Leaves write_faults held faults written old new before after (name ++ ending_of command) (done_line command (name ++ ending_of command)) result
+  pub fulfils : Fulfils (held old) (held new) (written before) (written after) asked result
   pub certifies : (name query : List ℕ) (options : Options) → asked ≡ prove name query options → Proves write_faults held faults written old new before after name result

@@ -3,7 +3,7 @@ ghost use Rattle.std.specs.Prelude.{◌≡◌, ◌≢◌, ◌+◌, ◌^◌, ◌<
 ghost use Rattle.std.specs.Option.{option_and_then};
 ghost use Rattle.lp_base.specs.Counts.{HasRisen, Counts};
 ghost use Rattle.lp_base.specs.Written.{Appends};
-ghost use Rattle.lp_words.specs.Asked.{IsCommand, IsWatched, WritesNone, asked, asked_of, files as OnFiles, prove as Proving, query_on_texts, watches};
+ghost use Rattle.lp_words.specs.Asked.{Asked as Asking, IsCommand, IsWatched, WritesNone, asked, asked_of, files as OnFiles, prove as Proving, query_on_texts, watches};
 ghost use Rattle.lp_words.specs.declared.asked.FileCommand.{FileCommand};
 ghost use Rattle.lp_words.specs.declared.asked.Options.{Options};
 ghost use Rattle.lp_lines.specs.Ends.{Caused, CausedLong};
@@ -15,6 +15,7 @@ ghost use Rattle.lp_files.specs.Target.{done_line, ending_of};
 ghost use Rattle.lp_cli.specs.Order.{order};
 ghost use Rattle.lp_cli.specs.Ends.{WritesReadFault, BeginsReadFault};
 ghost use Rattle.lp_cli.specs.Does.{Does};
+ghost use Rattle.lp_cli.specs.Fulfils.{Fulfils};
 
 use lp_ask::{query, session};
 use lp_base::{Folder, Sink, Status};
@@ -139,6 +140,8 @@ pub fn run<F: Folder, K: Sink>(
     // A command that writes a file leaves all others as they are, and after a refusal this one too.
     ensures leaves { (command : FileCommand) (name : List ℕ) → asked (map string_bytes words.now) ≡ Some (OnFiles command name)
         → Leaves F.write_faults F.held K.faults K.written folder.old folder.new out.old out.new (name ++ ending_of command) (done_line command (name ++ ending_of command)) result }
+    // What a command says of texts, certificates and files is true of them.
+    ensures fulfils { (a : Asking) → asked (map string_bytes words.now) ≡ Some a → Fulfils (F.held folder.old) (F.held folder.new) (K.written out.old) (K.written out.new) a result }
     ensures certifies { (name query : List ℕ) (options : Options) → asked (map string_bytes words.now) ≡ Some (Proving name query options)
         → Proves F.write_faults F.held K.faults K.written folder.old folder.new out.old out.new name result }
 {

@@ -1,4 +1,5 @@
 use Rattle.std.proofs.Common.{◌∙◌, sym, ap, subst, inr, refl}
+use Rattle.lp_judge.specs.Proofs.{WritesProofs}
 use Rattle.lp_judge.specs.Proved.{Proves}
 use Rattle.lp_load.specs.Placed.{WritesPlaced}
 use Rattle.lp_words.specs.Asked.{asked_of}
@@ -9,41 +10,55 @@ pub returns-in-Trial-clause-does : goal.returns-in-Trial-clause-does
 returns-in-Trial-clause-does g c = becomes _ (asked_of c.args.asked) c.trial.result (ap asked_of c.in-Trial.is) (does_trial c.in-Trial.size c.trial.result c.trial.ensures.ran c.trial.ensures.keeps)
 
 pub returns-in-Query-clause-does : goal.returns-in-Query-clause-does
-returns-in-Query-clause-does g c = becomes _ (asked_of c.args.asked) c.query.result (ap asked_of c.in-Query.is) (does_query c.in-Query.name.now c.in-Query.text.now c.in-Query.options c.query.result c.query.ensures.ran c.query.ensures.keeps)
+returns-in-Query-clause-does g c = becomes _ (asked_of c.args.asked) c.query.result (ap asked_of c.in-Query.is)
+    (does_query c.in-Query.name.now c.in-Query.text.now c.in-Query.options c.query.result c.query.ensures.ran c.query.ensures.keeps)
 
 pub returns-in-Session-clause-does : goal.returns-in-Session-clause-does
-returns-in-Session-clause-does g c = becomes _ (asked_of c.args.asked) c.session.result (ap asked_of c.in-Session.is) (does_session c.in-Session.name.now c.in-Session.options c.session.result c.session.ensures.ran c.session.ensures.keeps)
+returns-in-Session-clause-does g c = becomes _ (asked_of c.args.asked) c.session.result (ap asked_of c.in-Session.is)
+    (does_session c.in-Session.name.now c.in-Session.options c.session.result c.session.ensures.ran c.session.ensures.keeps)
 
 pub returns-in-Lambda-clause-does : goal.returns-in-Lambda-clause-does
-returns-in-Lambda-clause-does g c = becomes _ (asked_of c.args.asked) c.lambda.result (ap asked_of c.in-Lambda.is) (does_lambda c.in-Lambda.name.now c.in-Lambda.text.now c.lambda.result c.lambda.ensures.ran c.lambda.ensures.keeps c.lambda.ensures.placed)
+returns-in-Lambda-clause-does g c = becomes _ (asked_of c.args.asked) c.lambda.result (ap asked_of c.in-Lambda.is)
+    (does_lambda c.in-Lambda.name.now c.in-Lambda.text.now c.lambda.result c.lambda.ensures.ran c.lambda.ensures.keeps c.lambda.ensures.placed
+    c.lambda.ensures.judges)
 
 pub returns-in-Check-clause-does : goal.returns-in-Check-clause-does
 returns-in-Check-clause-does g c =
     becomes _ (asked_of c.args.asked) c.check_certificates.result (ap asked_of c.in-Check.is)
-    (does_check c.in-Check.name.now c.in-Check.text.now c.check_certificates.result c.check_certificates.ensures.ran c.check_certificates.ensures.keeps c.check_certificates.ensures.placed)
+    (does_check c.in-Check.name.now c.in-Check.text.now c.check_certificates.result c.check_certificates.ensures.ran
+    c.check_certificates.ensures.keeps c.check_certificates.ensures.placed c.check_certificates.ensures.checks)
 
 pub returns-in-Prove-clause-does : goal.returns-in-Prove-clause-does
 returns-in-Prove-clause-does g c =
     becomes _ (asked_of c.args.asked) c.prove.result (ap asked_of c.in-Prove.is)
     (does_prove c.in-Prove.name.now c.in-Prove.text.now c.in-Prove.options c.prove.result c.prove.ensures.ran
-    (subst (λ n. Proves g.F.Folder.write_faults g.F.Folder.held g.K.Sink.faults g.K.Sink.written c.args.folder.now c.prove.new.folder c.args.out.now c.prove.new.out n c.prove.result) c.claim.ensures.name c.prove.ensures.leaves)
-    (λ e. subst (λ q. WritesPlaced (g.F.Folder.held c.args.folder.now) q (g.K.Sink.written c.args.out.now) (g.K.Sink.written c.prove.new.out)) c.claim.ensures.query (c.prove.ensures.placed e)))
+    (subst (λ n. Proves g.F.Folder.write_faults g.F.Folder.held g.K.Sink.faults g.K.Sink.written c.args.folder.now c.prove.new.folder c.args.out.now
+    c.prove.new.out n c.prove.result) c.claim.ensures.name c.prove.ensures.leaves)
+    (λ e. subst (λ q. WritesPlaced (g.F.Folder.held c.args.folder.now) q (g.K.Sink.written c.args.out.now) (g.K.Sink.written c.prove.new.out)) c.claim.ensures.query (c.prove.ensures.placed e))
+    (λ f. let told = g.F.Folder.held c.args.folder.now in let now = g.F.Folder.held c.prove.new.folder in
+    subst (λ n. WritesProofs told now n c.in-Prove.text.now) c.claim.ensures.name
+    (subst (λ q. WritesProofs told now c.claim.result.name.now q) c.claim.ensures.query (c.prove.ensures.certified f))))
 
 pub returns-in-Files-clause-does : goal.returns-in-Files-clause-does
 returns-in-Files-clause-does g c =
-    becomes _ (asked_of c.args.asked) c.write_file.result (ap asked_of c.in-Files.is) (does_files c.in-Files.command c.in-Files.name.now c.write_file.result c.write_file.ensures.ran c.write_file.ensures.leaves)
+    becomes _ (asked_of c.args.asked) c.write_file.result (ap asked_of c.in-Files.is)
+    (does_files c.in-Files.command c.in-Files.name.now c.write_file.result c.write_file.ensures.ran c.write_file.ensures.leaves
+    c.write_file.ensures.made)
 
 pub returns-then-are_none-clause-does : goal.returns-then-are_none-clause-does
 returns-then-are_none-clause-does g c =
     becomes _ (asked_of c.args.asked) c.solve_plain.result (ap asked_of c.in-Solve.is)
-    (does_plain c.in-Solve.name.now c.in-Solve.query.now c.in-Solve.options (sym c.are_none.ensures ∙ c.if-are_none.true) c.solve_plain.result c.solve_plain.ensures.told c.solve_plain.ensures.prefix c.solve_plain.ensures.read_fault
+    (does_plain c.in-Solve.name.now c.in-Solve.query.now c.in-Solve.options (sym c.are_none.ensures ∙ c.if-are_none.true) c.solve_plain.result
+    c.solve_plain.ensures.told c.solve_plain.ensures.prefix c.solve_plain.ensures.read_fault
     c.solve_plain.ensures.placed c.solve_plain.ensures.ran c.solve_plain.ensures.keeps)
 
 pub returns-else-are_none-clause-does : goal.returns-else-are_none-clause-does
 returns-else-are_none-clause-does g c =
     becomes _ (asked_of c.args.asked) c.solve_within.result (ap asked_of c.in-Solve.is)
-    (does_within c.in-Solve.name.now c.in-Solve.query.now c.in-Solve.options c.solve_within.result (sym c.are_none.ensures ∙ c.if-are_none.false) c.solve_within.ensures.ran c.solve_within.ensures.keeps
-    (λ e. subst (λ q. WritesPlaced (g.F.Folder.held c.args.folder.now) q (g.K.Sink.written c.args.out.now) (g.K.Sink.written c.solve_within.new.out)) c.question.ensures (c.solve_within.ensures.placed e)))
+    (does_within c.in-Solve.name.now c.in-Solve.query.now c.in-Solve.options c.solve_within.result (sym c.are_none.ensures ∙ c.if-are_none.false)
+    c.solve_within.ensures.ran c.solve_within.ensures.keeps
+    (λ e. subst (λ q. WritesPlaced (g.F.Folder.held c.args.folder.now) q (g.K.Sink.written c.args.out.now) (g.K.Sink.written c.solve_within.new.out))
+    c.question.ensures (c.solve_within.ensures.placed e)))
 
 pub returns-in-Query-clause-silent : goal.returns-in-Query-clause-silent
 returns-in-Query-clause-silent g c = watching_or _ (asked_of c.args.asked) _ _ (ap asked_of c.in-Query.is) c.query.ensures.silent

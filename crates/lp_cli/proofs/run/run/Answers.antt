@@ -5,7 +5,7 @@ use Rattle.lp_model.specs.declared.ending.Ending.TheVariants as ending
 use Rattle.lp_lines.proofs.Leaving.{leaves_untouched}
 use Rattle.lp_lines.proofs.Statuses.{is_fault, still, long_still, not_otherwise}
 use Rattle.lp_words.specs.Asked.{asked_of}
-use Rattle.lp_cli.proofs.Orders.{Wrote, usage_told, usage_began, wanting_told, wanting_began, told_asked, prefix_asked, fault_asked, placed_asked, keeps_asked, leaves_asked, certifies_asked, command_asked, watched_asked}
+use Rattle.lp_cli.proofs.Orders.{Wrote, usage_told, usage_began, wanting_told, wanting_began, told_asked, prefix_asked, fault_asked, placed_asked, keeps_asked, leaves_asked, certifies_asked, fulfils_asked, fulfils_memory, fulfils_usage, command_asked, watched_asked}
 use Rattle.lp_cli.proofs.run.run.Goals as goal
 
 -- words that are no command, and want of memory for them
@@ -14,12 +14,17 @@ returns-in-Err-Usage-clause-told g c =
     λ no other.
     let said = c.say.ensures.said no in
     subst (Wrote (g.F.Folder.held c.args.folder.now) (map string_bytes c.args.words.now) (g.K.Sink.written c.args.out.now) (g.K.Sink.written c.say.new.out)) (sym said.0)
-    (usage_told (g.F.Folder.held c.args.folder.now) (map string_bytes c.args.words.now) (g.K.Sink.written c.args.out.now) (g.K.Sink.written c.say.new.out) (c.in-Err-Usage.ensures.usage (ap Err c.in-Err-Usage.field-0-is)) (subst (Appends (g.K.Sink.written c.args.out.now) (g.K.Sink.written c.say.new.out)) (c.as_bytes.ensures.value ∙ c.usage.ensures) said.1))
+    (usage_told (g.F.Folder.held c.args.folder.now) (map string_bytes c.args.words.now) (g.K.Sink.written c.args.out.now)
+    (g.K.Sink.written c.say.new.out) (c.in-Err-Usage.ensures.usage (ap Err c.in-Err-Usage.field-0-is))
+    (subst (Appends (g.K.Sink.written c.args.out.now) (g.K.Sink.written c.say.new.out)) (c.as_bytes.ensures.value ∙ c.usage.ensures) said.1))
 
 pub returns-in-Err-Usage-clause-prefix : goal.returns-in-Err-Usage-clause-prefix
 returns-in-Err-Usage-clause-prefix g c =
     λ is.
-    usage_began (g.F.Folder.held c.args.folder.now) (map string_bytes c.args.words.now) (g.K.Sink.written c.args.out.now) (g.K.Sink.written c.say.new.out) (c.in-Err-Usage.ensures.usage (ap Err c.in-Err-Usage.field-0-is)) (subst (AppendsPrefix (g.K.Sink.written c.args.out.now) (g.K.Sink.written c.say.new.out)) (c.as_bytes.ensures.value ∙ c.usage.ensures) (c.say.ensures.prefix is))
+    usage_began (g.F.Folder.held c.args.folder.now) (map string_bytes c.args.words.now) (g.K.Sink.written c.args.out.now)
+    (g.K.Sink.written c.say.new.out) (c.in-Err-Usage.ensures.usage (ap Err c.in-Err-Usage.field-0-is))
+    (subst (AppendsPrefix (g.K.Sink.written c.args.out.now) (g.K.Sink.written c.say.new.out)) (c.as_bytes.ensures.value ∙ c.usage.ensures)
+    (c.say.ensures.prefix is))
 
 pub returns-in-Err-Usage-clause-read_fault : goal.returns-in-Err-Usage-clause-read_fault
 returns-in-Err-Usage-clause-read_fault g c =
@@ -50,12 +55,17 @@ returns-in-Err-Memory-clause-told g c =
     λ no other.
     let said = c.say-in-Err-Memory.ensures.said no in
     subst (Wrote (g.F.Folder.held c.args.folder.now) (map string_bytes c.args.words.now) (g.K.Sink.written c.args.out.now) (g.K.Sink.written c.say-in-Err-Memory.new.out)) (sym said.0)
-    (wanting_told (g.F.Folder.held c.args.folder.now) (map string_bytes c.args.words.now) (g.K.Sink.written c.args.out.now) (g.K.Sink.written c.say-in-Err-Memory.new.out) (subst (Appends (g.K.Sink.written c.args.out.now) (g.K.Sink.written c.say-in-Err-Memory.new.out)) (c.as_bytes-in-Err-Memory.ensures.value ∙ c.memory.ensures) said.1))
+    (wanting_told (g.F.Folder.held c.args.folder.now) (map string_bytes c.args.words.now) (g.K.Sink.written c.args.out.now)
+    (g.K.Sink.written c.say-in-Err-Memory.new.out) (subst (Appends (g.K.Sink.written c.args.out.now)
+    (g.K.Sink.written c.say-in-Err-Memory.new.out)) (c.as_bytes-in-Err-Memory.ensures.value ∙ c.memory.ensures) said.1))
 
 pub returns-in-Err-Memory-clause-prefix : goal.returns-in-Err-Memory-clause-prefix
 returns-in-Err-Memory-clause-prefix g c =
     λ is.
-    wanting_began (g.F.Folder.held c.args.folder.now) (map string_bytes c.args.words.now) (g.K.Sink.written c.args.out.now) (g.K.Sink.written c.say-in-Err-Memory.new.out) (subst (AppendsPrefix (g.K.Sink.written c.args.out.now) (g.K.Sink.written c.say-in-Err-Memory.new.out)) (c.as_bytes-in-Err-Memory.ensures.value ∙ c.memory.ensures) (c.say-in-Err-Memory.ensures.prefix is))
+    wanting_began (g.F.Folder.held c.args.folder.now) (map string_bytes c.args.words.now) (g.K.Sink.written c.args.out.now)
+    (g.K.Sink.written c.say-in-Err-Memory.new.out) (subst (AppendsPrefix (g.K.Sink.written c.args.out.now)
+    (g.K.Sink.written c.say-in-Err-Memory.new.out)) (c.as_bytes-in-Err-Memory.ensures.value ∙ c.memory.ensures)
+    (c.say-in-Err-Memory.ensures.prefix is))
 
 pub returns-in-Err-Memory-clause-read_fault : goal.returns-in-Err-Memory-clause-read_fault
 returns-in-Err-Memory-clause-read_fault g c =
@@ -175,4 +185,19 @@ returns-in-Err-Usage-clause-certifies g c =
 
 pub returns-in-Err-Memory-clause-certifies : goal.returns-in-Err-Memory-clause-certifies
 returns-in-Err-Memory-clause-certifies g c =
-    λ name query options is. (0, 0, ending.NoMore, leaves_untouched c.say-in-Err-Memory.result variant.Memory (λ n. (c.say-in-Err-Memory.ensures.said n).0) (λ e. cc) c.say-in-Err-Memory.ensures.faults refl refl)
+    λ name query options is. (
+      0,
+      0,
+      ending.NoMore,
+      leaves_untouched c.say-in-Err-Memory.result variant.Memory
+          (λ n. (c.say-in-Err-Memory.ensures.said n).0) (λ e. cc) c.say-in-Err-Memory.ensures.faults refl refl,
+    )
+
+pub returns-in-Ok-clause-fulfils : goal.returns-in-Ok-clause-fulfils
+returns-in-Ok-clause-fulfils g c = fulfils_asked (map string_bytes c.args.words.now) (asked_of c.in-Ok.asked) c.in-Ok.ensures.ok c.perform.ensures.does
+
+pub returns-in-Err-Usage-clause-fulfils : goal.returns-in-Err-Usage-clause-fulfils
+returns-in-Err-Usage-clause-fulfils g c = λ x is. fulfils_usage _ _ _ _ c.say.result (λ n. (c.say.ensures.said n).0) x
+
+pub returns-in-Err-Memory-clause-fulfils : goal.returns-in-Err-Memory-clause-fulfils
+returns-in-Err-Memory-clause-fulfils g c = λ x is. fulfils_memory _ _ _ _ c.say-in-Err-Memory.result (λ n. (c.say-in-Err-Memory.ensures.said n).0) x

@@ -1,0 +1,22 @@
+-- What a run of a command says or leaves that is true of the texts, the certificates and the files that it is asked for.
+use Rattle.std.specs.Prelude.{◌≡◌, List, ℕ, Option, true}
+use Rattle.lp_base.specs.Held.{Held}
+use Rattle.lp_base.specs.declared.status.Status.{Status}
+use Rattle.lp_base.specs.declared.status.Status.TheVariants as variant
+use Rattle.lp_files.specs.Made.{WritesMade}
+use Rattle.lp_judge.specs.Checked.{Checks}
+use Rattle.lp_judge.specs.Judged.{Judges}
+use Rattle.lp_judge.specs.Proofs.{WritesProofs, has_file}
+use Rattle.lp_words.specs.Asked.{Asked, check, files, lambda, prove, query_image, session, solve, trial}
+
+-- A verdict on the texts of a module and a query is right; so is one on certificates over the program of a module; where certificates are written, they are proofs from that program; and where a file
+-- of a module is written, its bytes are of the kind that is asked for. Of a search nothing is said here.
+abbrev pub Fulfils : (told now : Option Held) → (before after : Option (List ℕ)) → Asked → Status → Type 0
+Fulfils told now before after (lambda name query) result = Judges told name query before after result
+Fulfils told now before after (check name query) result = Checks told name query before after result
+Fulfils told now before after (prove name query options) result = has_file result ≡ true → WritesProofs told now name query
+Fulfils told now before after (files command name) result = result ≡ variant.Done → WritesMade told now command name
+Fulfils told now before after (solve name query options) result = Unit {0}
+Fulfils told now before after (query_image name query options) result = Unit {0}
+Fulfils told now before after (trial size) result = Unit {0}
+Fulfils told now before after (session name options) result = Unit {0}
