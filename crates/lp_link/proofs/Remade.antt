@@ -33,7 +33,10 @@ none_added m n rs old = ([], no_more old, λ e. tt)
 pub next_added : (s : Numbers) (rs old now new : List Record) (k : ℕ) (r q : Record) → k < length rs → r ≡ get_or rs k r → BecomesMovedRecord s r q → new ≡ now ++ q ∷ []
     → AddsMoved (map_in s) s.first (take k rs) old now → AddsMoved (map_in s) s.first (take (k + 1) rs) old new
 next_added s rs old now new k r q l e x is (own, behind, moved) =
-    let more : take (k + 1) rs ≡ take k rs ++ r ∷ [] = take_more rs k r l ∙ ap (λ h. take k rs ++ h ∷ []) (sym e) in
-    (own ++ q ∷ [], is ∙ ap (λ l. l ++ q ∷ []) behind ∙ appended old own (q ∷ []), λ room.
-    let both = each_front (λ (r : Record). AllHaveRoom s.first r.code.items) (take k rs) r (subst (EachOf (λ (r : Record). AllHaveRoom s.first r.code.items)) more room) in
-    subst (λ l. AllRecordsMoved (map_in s) s.first l (own ++ q ∷ [])) (sym more) (one_more (map_in s) s.first (take k rs) own r q (moved both.0) (x both.1)))
+    let more : take (k + 1) rs ≡ take k rs ++ r ∷ [] = take_more rs k r l ∙ ap (λ h. take k rs ++ h ∷ []) (sym e) in (
+      own ++ q ∷ [],
+      is ∙ ap (λ l. l ++ q ∷ []) behind ∙ appended old own (q ∷ []),
+      λ room.
+          let both = each_front (λ (r : Record). AllHaveRoom s.first r.code.items) (take k rs) r (subst (EachOf (λ (r : Record). AllHaveRoom s.first r.code.items)) more room) in
+          subst (λ l. AllRecordsMoved (map_in s) s.first l (own ++ q ∷ [])) (sym more) (one_more (map_in s) s.first (take k rs) own r q (moved both.0) (x both.1)),
+    )

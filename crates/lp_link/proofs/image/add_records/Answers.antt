@@ -8,10 +8,11 @@ pub loop-at-init : goal.loop-at-init
 loop-at-init c = (omega arith, none_added (map_in c.args.numbers.now) c.args.numbers.now.first c.args.of.now c.args.records.now.items)
 
 pub loop-at-preserved : goal.loop-at-preserved
-loop-at-preserved c =
-    (let l = length_push c.loop-at.records.items c.in_ok-record.field-0 in let e = ap length c.in_ok-push.ensures.items in let i = c.loop-at.invariant.0 in omega (arith, l, e, i),
-    next_added c.args.numbers.now c.args.of.now c.args.records.now.items c.loop-at.records.items c.push.new.self.items c.loop-at.at c.index-of-at.result c.in_ok-record.field-0
-    (omega (arith, c.loop-at-test.true)) c.index-of-at.is c.in_ok-record.ensures c.in_ok-push.ensures.items c.loop-at.invariant.1)
+loop-at-preserved c = (
+  let l = length_push c.loop-at.records.items c.in_ok-record.field-0 in let e = ap length c.in_ok-push.ensures.items in let i = c.loop-at.invariant.0 in omega (arith, l, e, i),
+  next_added c.args.numbers.now c.args.of.now c.args.records.now.items c.loop-at.records.items c.push.new.self.items c.loop-at.at c.index-of-at.result c.in_ok-record.field-0
+      (omega (arith, c.loop-at-test.true)) c.index-of-at.is c.in_ok-record.ensures c.in_ok-push.ensures.items c.loop-at.invariant.1,
+)
 
 pub returns-clause-moved : goal.returns-clause-moved
 returns-clause-moved c =
