@@ -12,7 +12,7 @@ use Rattle.lp_code.specs.Naming.{object_tables}
 use Rattle.lp_link.specs.Linked.{Copy, map_of, records_of, AreDenoted}
 use Rattle.lp_link.specs.Put.{ArePut}
 use Rattle.lp_link.specs.Numbers.{renumbered}
-use Rattle.lp_link.specs.inner.Renumbering.{AllRecordsMoved}
+use Rattle.lp_link.specs.Renumbering.{AllRecordsMoved}
 use Rattle.lp_link.proofs.ReachedRecords.{all_names, all_below}
 use Rattle.lp_link.proofs.MovedCode.{all_names_moved, denote_moved}
 

@@ -13,7 +13,8 @@ use Rattle.lp_code.specs.Symbolic.{Tables}
 use Rattle.lp_code.specs.States.{Captured, member}
 use Rattle.lp_code.specs.Rules.{names_of, names_in, named_before}
 use Rattle.lp_code.specs.Denote.{is_named, home_of, denoted, later_from, nothing_captured, denote_from}
-use Rattle.lp_link.specs.inner.Renumbering.{moving, moved_captured, AreMoved, AllMoved, IsMovedRecord, AllRecordsMoved, IsMovedHome, KeepsStandard}
+use Rattle.lp_link.specs.Renumbering.{moving, AreMoved, AllMoved, IsMovedRecord, AllRecordsMoved, KeepsStandard}
+use Rattle.lp_link.specs.inner.Renumbering.{moved_captured, IsMovedHome}
 use Rattle.lp_link.proofs.MovedGoals.{same_home}
 use Rattle.lp_link.proofs.MovedOperands.{operands_same}
 use Rattle.lp_link.proofs.MovedEffects.{moved_clause, IsMovedLater}

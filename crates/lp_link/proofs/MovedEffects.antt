@@ -17,7 +17,8 @@ use Rattle.lp_code.specs.Symbolic.{Built, Registers, variable, type_in, types_in
 use Rattle.lp_code.specs.States.{Captured, State, Home, member, passing, Ended, end_variables, Block, Block, under_sigma, under_all, under_assumption, depth}
 use Rattle.lp_code.specs.Steps.{Later, constant_of, is_made, is_own_type, own_types, own_variables, own_type, built_of, head_built, argument_at, with_argument, with_atom, put_type, put_term, opens, leave, turn, clauses_of_records, captured_by, handed, sides, order, effect, passed, settled, after}
 use Rattle.lp_code.specs.Rules.{breaks_type, applies}
-use Rattle.lp_link.specs.inner.Renumbering.{moving, moved_built, moved_registers, moved_term, same_depth, moved_clauses, moved_block, moved_captured, moved_state, moved_head, IsMoved, AllMoved, IsMovedRecord, IsMovedHome, KeepsStandard}
+use Rattle.lp_link.specs.Renumbering.{moving, moved_head, IsMoved, AllMoved, IsMovedRecord, KeepsStandard}
+use Rattle.lp_link.specs.inner.Renumbering.{moved_built, moved_registers, moved_term, same_depth, moved_clauses, moved_block, moved_captured, moved_state, IsMovedHome}
 use Rattle.lp_link.proofs.MovedTerms.{apply_moved}
 use Rattle.lp_link.proofs.MovedStates.{type_in_moved, types_in_moved, term_in_moved, terms_in_moved, plain_moved, with_goal_moved, ended_moved, depth_moved, leave_moved, settled_moved}
 use Rattle.lp_link.proofs.MovedSteps.{tys_moved, constant_moved, index_moved, abstraction_moved, application_moved, put_type_moved, put_term_moved, argument_taken, type_taken, atom_said, side_turned, argument_at_moved, same_o}

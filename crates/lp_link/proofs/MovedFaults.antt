@@ -17,7 +17,8 @@ use Rattle.lp_code.specs.Symbolic.{Built, held, type_in, types_in, term_in, term
 use Rattle.lp_code.specs.States.{Frame, Captured, State, Home, member, innermost_block}
 use Rattle.lp_code.specs.Steps.{constant_of, head_built}
 use Rattle.lp_code.specs.Rules.{nesting_limit, breaks_register, breaks_unset, breaks_set, breaks_constant, breaks_type, breaks_index, breaks_term, breaks_order, breaks_head, breaks_block, breaks_clause, has_count, is_count, has_type, built_types, applies, is_argument, have_type, out_of_turn, scheme_count, count_of, head_count, is_variable_of, stands_in, is_new_variable, is_left_end, ends_block, is_passed, is_too_deep, breaks_nesting, is_assumed_record, named_before, are_fine_names}
-use Rattle.lp_link.specs.inner.Renumbering.{moving, moved_built, moved_block, moved_frame, moved_captured, moved_state, moved_head, IsMoved, AllMoved, IsMovedHome, KeepsStandard}
+use Rattle.lp_link.specs.Renumbering.{moving, moved_head, IsMoved, AllMoved, KeepsStandard}
+use Rattle.lp_link.specs.inner.Renumbering.{moved_built, moved_block, moved_frame, moved_captured, moved_state, IsMovedHome}
 use Rattle.lp_link.proofs.MovedTerms.{equal_moved, closed_moved, result_moved}
 use Rattle.lp_link.proofs.MovedGoals.{same_home}
 use Rattle.lp_link.proofs.MovedStates.{held_moved, depth_moved, innermost_moved}

@@ -8,7 +8,8 @@ use Rattle.lp_calculus.specs.Fill.{fill, raise, at_variables}
 use Rattle.lp_term.specs.Mapped.{Map, mapped, mapped_atom, mapped_type}
 use Rattle.lp_model.specs.Flat.{Goal, Goals, Clause, Clauses, Written, Atomic, Cut, Either, Exists, Forall, Assume, Not, no_goals, goals, clause, no_clauses, clauses, under_all, map_goal, map_goals, map_clause, map_clauses, map_written, same_type}
 use Rattle.lp_code.specs.States.{placed, index_or, bound_at, bind_term}
-use Rattle.lp_link.specs.inner.Renumbering.{moving, moved_term, same_depth, moved_goals, moved_clauses}
+use Rattle.lp_link.specs.Renumbering.{moving}
+use Rattle.lp_link.specs.inner.Renumbering.{moved_term, same_depth, moved_goals, moved_clauses}
 
 module _ (f g : ℕ → ℕ) (n : ℕ) where
   abbrev m : Map

@@ -7,7 +7,7 @@ use Rattle.lp_code.specs.declared.instruction.Instr.TheVariants as on
 use Rattle.lp_code.specs.Length.{length_of}
 use Rattle.lp_code.specs.Operands.{types_read, terms_read, type_set, term_set, own_set}
 use Rattle.lp_code.specs.Rules.{stands_alone, names_of}
-use Rattle.lp_link.specs.inner.Renumbering.{IsMoved}
+use Rattle.lp_link.specs.Renumbering.{IsMoved}
 
 -- the type variable that an instruction makes
 abbrev pub type_made : Instr → List ℕ

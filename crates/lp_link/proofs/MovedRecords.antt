@@ -26,7 +26,8 @@ use Rattle.lp_code.specs.Symbolic.{Built, term_in}
 use Rattle.lp_code.specs.States.{State, Home, member}
 use Rattle.lp_code.specs.Rules.{named_before}
 use Rattle.lp_code.specs.Denote.{is_named, has_neck, ends_with_proceed, is_set_by_all, sets_by_all, is_all_variable, heads, is_known_head, head_passes, key_is, with_key, keys_behind, first_key, has_right_key, broken_by_record}
-use Rattle.lp_link.specs.inner.Renumbering.{moving, moved_scheme, moved_state, moved_head, moved_key, IsMoved, AllMoved, IsMovedHome, KeepsStandard}
+use Rattle.lp_link.specs.Renumbering.{moving, moved_scheme, moved_head, moved_key, IsMoved, AllMoved, KeepsStandard}
+use Rattle.lp_link.specs.inner.Renumbering.{moved_state, IsMovedHome}
 use Rattle.lp_link.proofs.MovedRules.{is_none_mapped, is_some_mapped}
 use Rattle.lp_link.proofs.MovedEffects.{term_same}
 

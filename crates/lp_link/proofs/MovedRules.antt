@@ -14,7 +14,8 @@ use Rattle.lp_code.specs.Length.{length_of}
 use Rattle.lp_code.specs.Symbolic.{Built, applied_type, agree_at, agree, joined, all_agree, innermost}
 use Rattle.lp_code.specs.States.{Block, under_sigma, under_all, under_assumption, under_not, left_side, right_side}
 use Rattle.lp_code.specs.Rules.{has_count, has_type, built_types, applies, is_no_term, has_none, scheme_count, is_variable_of, stands_in, ends_with_jump, begins_behind, is_left_end, ends_block, side_is_passed}
-use Rattle.lp_link.specs.inner.Renumbering.{moving, moved_scheme, moved_loose, moved_built, moved_block, IsMoved, AllMoved, KeepsStandard}
+use Rattle.lp_link.specs.Renumbering.{moving, moved_scheme, IsMoved, AllMoved, KeepsStandard}
+use Rattle.lp_link.specs.inner.Renumbering.{moved_loose, moved_built, moved_block}
 use Rattle.lp_link.proofs.MovedTerms.{equal_moved, applied_moved, agree_at_moved, agree_moved, joined_moved, innermost_moved as innermost_loose_moved}
 use Rattle.lp_link.proofs.MovedGoals.{same_home}
 use Rattle.lp_link.proofs.MovedOperands.{operands_same}

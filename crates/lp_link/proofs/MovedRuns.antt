@@ -14,7 +14,8 @@ use Rattle.lp_code.specs.Written.{written_goals}
 use Rattle.lp_code.specs.Steps.{Later, own_variables, head_built, after}
 use Rattle.lp_code.specs.Rules.{breaks_type}
 use Rattle.lp_code.specs.Denote.{broken_by_record, broken_by, rules, first_broken, broken_of, Ran, Done, Broken, Void, unless_broken, run_on, run, from_zero, started, first_state, variable_types, head_term, clause_of, clause_ran, denoted}
-use Rattle.lp_link.specs.inner.Renumbering.{moving, moved_built, moved_goals, moved_captured, moved_state, IsMoved, AllMoved, IsMovedRecord, IsMovedHome, KeepsStandard}
+use Rattle.lp_link.specs.Renumbering.{moving, IsMoved, AllMoved, IsMovedRecord, KeepsStandard}
+use Rattle.lp_link.specs.inner.Renumbering.{moved_built, moved_goals, moved_captured, moved_state, IsMovedHome}
 use Rattle.lp_link.proofs.MovedTerms.{apply_moved}
 use Rattle.lp_link.proofs.MovedGoals.{bind_moved, goals_bound}
 use Rattle.lp_link.proofs.MovedStates.{plain_moved}

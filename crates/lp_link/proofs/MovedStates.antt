@@ -9,7 +9,8 @@ use Rattle.lp_model.specs.Flat.{Goal, Goals, Exists, Forall, no_goals, goals, ad
 use Rattle.lp_code.specs.Symbolic.{Built, Registers, held, type_in, types_in, term_in, terms_in, set_type, set_term, plain_terms}
 use Rattle.lp_code.specs.States.{Block, under_sigma, under_all, under_assumption, under_not, left_side, right_side, Frame, State, bind_goals, one_goal, with_goal, Ended, end_variables, is_sigma, innermost_block, depth}
 use Rattle.lp_code.specs.Steps.{goal_of_block, leave_block, leave_from, leave, is_right_end, settled}
-use Rattle.lp_link.specs.inner.Renumbering.{moving, moved_built, moved_registers, moved_term, same_depth, moved_goals, moved_block, moved_frame, moved_state}
+use Rattle.lp_link.specs.Renumbering.{moving}
+use Rattle.lp_link.specs.inner.Renumbering.{moved_built, moved_registers, moved_term, same_depth, moved_goals, moved_block, moved_frame, moved_state}
 use Rattle.lp_link.proofs.MovedGoals.{goals_bound}
 
 -- what stands in registers

@@ -12,7 +12,8 @@ use Rattle.lp_code.specs.Rules.{built_types, applies}
 use Rattle.lp_code.specs.Symbolic.{all_agree}
 use Rattle.lp_code.specs.States.{Block, Frame, State, Ended, end_variables}
 use Rattle.lp_code.specs.Steps.{constant_type, constant_of, with_argument, with_atom, put_type, put_term, opens, turn_from, turn}
-use Rattle.lp_link.specs.inner.Renumbering.{moving, moved_loose, moved_built, moved_goals, moved_block, moved_frame, moved_state, AreMoved}
+use Rattle.lp_link.specs.Renumbering.{moving, AreMoved}
+use Rattle.lp_link.specs.inner.Renumbering.{moved_loose, moved_built, moved_goals, moved_block, moved_frame, moved_state}
 use Rattle.lp_link.proofs.MovedTerms.{applied_moved, apply_moved, joined_moved, outer_moved, scheme_moved}
 use Rattle.lp_link.proofs.MovedStates.{set_type_moved, set_term_moved, plain_moved, with_goal_moved, ended_moved}
 

@@ -10,7 +10,8 @@ use Rattle.lp_calculus.specs.Term.{Term, app, apply}
 use Rattle.lp_calculus.specs.Typing.{Scheme, type_at, scheme_type}
 use Rattle.lp_term.specs.Mapped.{Map, mapped, mapped_type, mapped_types}
 use Rattle.lp_code.specs.Symbolic.{equal_types, equal_lists, applied_type, argument_type, result_type, agree_at, agree, either_of, joined, is_closed, innermost, outer}
-use Rattle.lp_link.specs.inner.Renumbering.{moved_scheme, moved_loose}
+use Rattle.lp_link.specs.Renumbering.{moved_scheme}
+use Rattle.lp_link.specs.inner.Renumbering.{moved_loose}
 
 -- types that are equal
 mutual

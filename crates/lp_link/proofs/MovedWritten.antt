@@ -5,7 +5,8 @@ use Rattle.lp_calculus.specs.Term.{Term, index, atom, abs, app, constant, intege
 use Rattle.lp_term.specs.Mapped.{Map, mapped, mapped_type, mapped_types}
 use Rattle.lp_model.specs.Flat.{Goal, Goals, Clauses, Atomic, Cut, Either, Exists, Forall, Assume, Not, no_goals, goals, clause, no_clauses, clauses, under_all, map_goal, loose_in, type_variables, types_variables, of_each, type_variables_in, collect_goal, collect_goals, collect_clauses}
 use Rattle.lp_code.specs.Written.{written_goal, written_goals, written_clauses}
-use Rattle.lp_link.specs.inner.Renumbering.{moving, moved_term, same_depth, moved_goals, moved_clauses}
+use Rattle.lp_link.specs.Renumbering.{moving}
+use Rattle.lp_link.specs.inner.Renumbering.{moved_term, same_depth, moved_goals, moved_clauses}
 
 -- nothing is under a binder that is changed as what is not
 pub no_deeper : {A : Type 0} (xs : List A) (e : ℕ) → under_all same_depth xs e ≡ e

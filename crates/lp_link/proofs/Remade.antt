@@ -7,7 +7,7 @@ use Rattle.lp_term.specs.Mapped.{Map}
 use Rattle.lp_code.specs.declared.record.Record.{Record}
 use Rattle.lp_link.specs.declared.records.Numbers.{Numbers}
 use Rattle.lp_link.specs.inner.Parts.{map_in, AllHaveRoom, BecomesMovedRecord, AddsMoved}
-use Rattle.lp_link.specs.inner.Renumbering.{IsMovedRecord, AllRecordsMoved}
+use Rattle.lp_link.specs.Renumbering.{IsMovedRecord, AllRecordsMoved}
 
 each_front : (P : Record → Type 0) (xs : List Record) (x : Record) → EachOf P (xs ++ x ∷ []) → EachOf P xs × P x
 each_front P [] x e = (tt, e.0)

@@ -9,7 +9,7 @@ use Rattle.lp_code.specs.declared.instruction.Instr.{Instr}
 use Rattle.lp_code.specs.declared.instruction.Instr.TheVariants as on
 use Rattle.lp_link.specs.declared.records.Numbers.{Numbers}
 use Rattle.lp_link.specs.inner.Parts.{builds, matches, calls, raised_to, map_in, HasRoom, AllHaveRoom, BecomesMoved}
-use Rattle.lp_link.specs.inner.Renumbering.{IsMoved, AllMoved}
+use Rattle.lp_link.specs.Renumbering.{IsMoved, AllMoved}
 
 pub changed : (s : Numbers) (i k j : Instr) → i ≡ k → (HasRoom s.first k → IsMoved (map_in s) s.first k j) → BecomesMoved s i j
 changed s i k j e h = subst (λ i. BecomesMoved s i j) (sym e) h

@@ -5,6 +5,7 @@ pub mod Edges
 pub mod Refusals
 pub mod Sizes
 pub mod Numbers
+pub mod Renumbering
 pub mod Linked
 pub mod Put
 pub mod Told

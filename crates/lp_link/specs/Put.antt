@@ -5,7 +5,7 @@ use Rattle.lp_code.specs.Symbolic.{Tables}
 use Rattle.lp_code.specs.Naming.{object_tables}
 use Rattle.lp_link.specs.Linked.{Copy, map_of, records_of}
 use Rattle.lp_link.specs.Numbers.{renumbered}
-use Rattle.lp_link.specs.inner.Renumbering.{AreMoved, AllRecordsMoved, KeepsStandard}
+use Rattle.lp_link.specs.Renumbering.{AreMoved, AllRecordsMoved, KeepsStandard}
 
 -- each copy's records stand behind those of the copies before it, n of them before all, and over the tables each of its numbers means what it meant
 abbrev pub ArePut : Tables → (n : ℕ) → List Copy → List Record → Type 0

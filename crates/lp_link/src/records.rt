@@ -1,7 +1,7 @@
 // Records with their numbers changed.
 ghost use Rattle.std.specs.Prelude.{◌≡◌, false, map, option_map, IfOk, MatchOption};
 ghost use Rattle.lp_link.specs.inner.Parts.{builds, matches, calls, raised_to, map_in, BecomesMoved, BecomesMovedRecord};
-ghost use Rattle.lp_link.specs.inner.Renumbering.{moved_head, moved_key};
+ghost use Rattle.lp_link.specs.Renumbering.{moved_head, moved_key};
 ghost use Rattle.lp_code.specs.Groups.{plain_key};
 
 use crate::names::Names;

@@ -9,7 +9,7 @@ use Rattle.lp_lemmas.specs.Each.{EachOf}
 use Rattle.lp_link.specs.declared.names.Names.{Names}
 use Rattle.lp_link.specs.declared.records.Numbers.{Numbers}
 use Rattle.lp_link.specs.Numbers.{renumbered}
-use Rattle.lp_link.specs.inner.Renumbering.{moving, IsMoved, IsMovedRecord, AllRecordsMoved}
+use Rattle.lp_link.specs.Renumbering.{moving, IsMoved, IsMovedRecord, AllRecordsMoved}
 
 abbrev pub builds : Instr → Bool
 builds (on.TyCon d k ts) = true

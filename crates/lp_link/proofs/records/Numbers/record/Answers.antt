@@ -1,7 +1,7 @@
 use Rattle.std.proofs.Common.{arith, refl, subst}
 use Rattle.std.proofs.lemmas.List.{take_all}
 use Rattle.lp_link.specs.inner.Parts.{map_in}
-use Rattle.lp_link.specs.inner.Renumbering.{AllMoved}
+use Rattle.lp_link.specs.Renumbering.{AllMoved}
 use Rattle.lp_link.proofs.Remaking.{next_moved}
 use Rattle.lp_link.proofs.records.Numbers.record.Goals as goal
 

@@ -1,6 +1,6 @@
 use Rattle.std.proofs.Common.{take}
 use Rattle.lp_link.specs.inner.Parts.{AllHaveRoom, map_in}
-use Rattle.lp_link.specs.inner.Renumbering.{AllMoved}
+use Rattle.lp_link.specs.Renumbering.{AllMoved}
 use Rattle.lp_link.proofs.records.Numbers.record.Given as goal
 
 abbrev pub invariant-loop-at : goal.invariant-loop-at
