@@ -1,7 +1,7 @@
 -- What a term is when it is looked at: head-normal, with its head and its arguments.
 use Rattle.std.specs.Prelude.{ℕ, zero, suc, nat_lt, not, Bool, true, ◌&&◌, if◌then◌else◌, List, [], ◌∷◌, Option, Some, None, option_and_then, option_map}
-use Rattle.lp_calculus.specs.Term.{Term, index, atom, abs, app, logic}
-use Rattle.lp_calculus.specs.Convert.{head_step}
+use Rattle.lp_calculus.specs.Term.{Term, index, atom, abs, app, logic, substitute}
+use Rattle.lp_calculus.specs.Convert.{head_step, option_term}
 use Rattle.lp_model.specs.Patterns.{member}
 use Rattle.lp_model.specs.Eigens.{as_eigen}
 
@@ -30,6 +30,21 @@ head_normal (suc n) t = elim (head_step t) [ None ↦ Some t | Some s ↦ head_n
 
 abbrev pub look : ℕ → Term → Option Look
 look n t = option_map (λ s. looked s []) (head_normal n t)
+
+-- the step of leftmost head reduction that leaves an abstraction as it is
+abbrev pub weak_step : Term → Option Term
+weak_step (index i) = None
+weak_step (atom a) = None
+weak_step (abs b) = None
+weak_step (app (abs b) u) = Some (substitute u b)
+weak_step (app (index i) u) = None
+weak_step (app (atom a) u) = None
+weak_step (app (app t v) u) = option_term (λ s. app s u) (weak_step (app t v))
+
+-- the term that takes no such step, if fewer than n of them lead there
+abbrev pub top_normal : ℕ → Term → Option Term
+top_normal zero t = None
+top_normal (suc n) t = elim (weak_step t) [ None ↦ Some t | Some s ↦ top_normal n s ]
 
 abbrev pub as_eigens : ℕ → List Term → Option (Option (List ℕ))
 as_eigens n [] = Some (Some [])

@@ -3,7 +3,7 @@
 -- large n never shows. Each unification has u units.
 use Rattle.std.specs.Prelude.{◌≡◌, ℕ, zero, suc, ◌+◌, ◌-◌, nat_eq, nat_lt, Bool, true, false, not, ◌&&◌, ◌||◌, if◌then◌else◌, List, [], ◌∷◌, ◌++◌, map, length, filter, Option, Some, None, option_map}
 use Rattle.lp_calculus.specs.Types.{Ty, var}
-use Rattle.lp_calculus.specs.Term.{Term, index, atom, abs, app, substitute, Atom, constant, integer, text, eigen, logic, param}
+use Rattle.lp_calculus.specs.Term.{Term, index, atom, abs, app, substitute, apply, Atom, constant, integer, text, eigen, logic, param}
 use Rattle.lp_calculus.specs.Instance.{instance_term}
 use Rattle.lp_calculus.specs.Normal.{is_absent}
 use Rattle.std.specs.List.{list_any}
@@ -13,7 +13,7 @@ use Rattle.lp_model.specs.declared.ending.Fault.TheVariants.{NotClosed}
 use Rattle.lp_model.specs.Index.{instantiate}
 use Rattle.lp_calculus.specs.Spine.{head_of, arguments}
 use Rattle.lp_model.specs.Skeleton.{View, Gives, Opens, Parts, Takes, Cuts, Denies, Halts, Lacks, not_constant, named, eigenconstant, variable, State, Told, starts, run}
-use Rattle.lp_model.specs.Look.{head_normal, ◌>>=◌}
+use Rattle.lp_model.specs.Look.{head_normal, top_normal, ◌>>=◌}
 use Rattle.lp_model.specs.Eigens.{beta_normal}
 use Rattle.lp_model.specs.Same.{same_name}
 use Rattle.lp_model.specs.Pair.{Pair}
@@ -84,18 +84,23 @@ first_key (h ∷ hs) = key_of h
 abbrev pub has_head : Term → Clause → Bool
 has_head t (clause k vs h b) = same_name (head_of h) (head_of t)
 
--- a program clause is kept out where its first head argument and the goal's first argument, whose key is given, differ at their heads
-abbrev pub passes : Term → (key : Option Atom) → Clause → Bool
-passes t key (clause k vs h b) = same_name (head_of h) (head_of t) && may_meet (first_key (arguments h)) key
+-- a program clause is kept out where its first head argument and the goal's first argument differ at their heads
+abbrev pub passes : Term → Clause → Bool
+passes t (clause k vs h b) = same_name (head_of h) (head_of t) && may_meet (first_key (arguments h)) (first_key (arguments t))
 
 -- first the assumed clauses, the newest first, then the program's that pass the filter, in order
-abbrev pub candidates : (program assumed : List Clause) → Term → (key : Option Atom) → List Clause
-candidates P A t key = filter (has_head t) A ++ filter (passes t key) P
+abbrev pub candidates : (program assumed : List Clause) → Term → List Clause
+candidates P A t = filter (has_head t) A ++ filter (passes t) P
 
--- the key of the goal's first argument, head-normalised; the outer None: more than n steps are needed
-abbrev pub goal_key : ℕ → List Term → Option (Option Atom)
-goal_key n [] = Some None
-goal_key n (t ∷ ts) = option_map key_of (head_normal n t)
+-- a head on arguments, the first of them reduced at its top
+abbrev pub first_looked : ℕ → (head : Term) → (arguments : List Term) → Option Term
+first_looked n h [] = Some h
+first_looked n h (t ∷ ts) = option_map (λ s. apply h (s ∷ ts)) (top_normal n t)
+
+-- the goal that candidates are looked for and tried with: its first argument is reduced until the name at its head is seen, and an abstraction is left as it is;
+-- None: more than n steps are needed
+abbrev pub goal_looked : ℕ → Term → Option Term
+goal_looked n t = first_looked n (head_of t) (arguments t)
 
 -- trying a candidate
 
@@ -194,10 +199,10 @@ has_no_pairs a = nat_eq (length a.pairs) 0
 
 -- a goal known only at run time, by its head-normal form
 
--- each candidate as a task, where the key of the goal's first argument was found
-abbrev pub tries : (program : List Clause) → (goal : Term) → Entry → (rest : Branch) → (mark : ℕ) → Option (Option Atom) → List Task
-tries P t e b mark None = Lack ∷ []
-tries P t e b mark (Some key) = map (λ c. Try c t e b mark) (candidates P e.assumed t key)
+-- each candidate as a task, for the goal as it was looked at
+abbrev pub tries : (program : List Clause) → Entry → (rest : Branch) → (mark : ℕ) → (goal : Option Term) → List Task
+tries P e b mark None = Lack ∷ []
+tries P e b mark (Some t) = map (λ c. Try c t e b mark) (candidates P e.assumed t)
 
 -- the goals of the entry's place
 abbrev pub in_place : Entry → List Term → List Entry
@@ -210,12 +215,12 @@ at_next_level e t = record { goal = Atomic t; assumed = e.assumed; written = e.w
 -- the atom takes a step; b is the rest of the branch, its goals those behind the atom
 abbrev pub look_constant : (u n : ℕ) → List Clause → (height : ℕ) → Entry → Branch → Term → (constant : ℕ) → List Term → List Task
 look_constant u n P height e b t c (l ∷ r ∷ []) =
-    if nat_eq c number.Equal then equated u n e.level l r b else (if nat_eq c number.Is then assigned u n e.level l b (evaluate n r) else (if is_order c then compared c b (evaluate n l) (evaluate n r) else tries P t e b height (goal_key n (arguments t))))
-look_constant u n P height e b t c ts = tries P t e b height (goal_key n (arguments t))
+    if nat_eq c number.Equal then equated u n e.level l r b else (if nat_eq c number.Is then assigned u n e.level l b (evaluate n r) else (if is_order c then compared c b (evaluate n l) (evaluate n r) else tries P e b height (goal_looked n t)))
+look_constant u n P height e b t c ts = tries P e b height (goal_looked n t)
 
 abbrev pub look_atom : (u n : ℕ) → List Clause → (height : ℕ) → Entry → Branch → Term → (head : Term) → View Task Answer
 look_atom u n P height e b t (atom (constant c ts)) = Takes (named c) (look_constant u n P height e b t c (arguments t))
-look_atom u n P height e b t (atom (eigen k)) = Takes (eigenconstant k) (tries P t e b height (goal_key n (arguments t)))
+look_atom u n P height e b t (atom (eigen k)) = Takes (eigenconstant k) (tries P e b height (goal_looked n t))
 look_atom u n P height e b t (atom (logic x l)) = Takes variable (Stop Flexible ∷ [])
 -- no well-typed goal has another head
 look_atom u n P height e b t h = Takes variable []

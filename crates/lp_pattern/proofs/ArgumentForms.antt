@@ -16,12 +16,13 @@ use Rattle.lp_term.proofs.Walks.{map_map}
 use Rattle.lp_model.specs.Eigens.{beta_normal}
 use Rattle.lp_model.specs.Pair.{Closing, closed}
 use Rattle.lp_model.specs.Patterns.{member}
+use Rattle.lp_model.specs.Look.{weak_step}
 use Rattle.lp_pattern.specs.declared.bindings.Bindings.{Bindings}
 use Rattle.lp_pattern.specs.declared.look.Head.{Head}
 use Rattle.lp_pattern.specs.declared.look.Looked.{Looked}
 use Rattle.lp_pattern.specs.declared.patterns.Name.{Name}
 use Rattle.lp_pattern.specs.declared.patterns.Wanted.{Wanted}
-use Rattle.lp_pattern.specs.Seen.{weak_step, IsRigid, IsHead, IsLooked, IsReachedWithin, IsDeepWhere}
+use Rattle.lp_pattern.specs.Seen.{IsRigid, IsHead, IsLooked, IsReachedWithin, IsDeepWhere}
 use Rattle.lp_pattern.specs.Stripping.{IsShut, IsNoAbstraction, Strips, strip, HasForm, HasNoForm, Comes, is_name, name_term, wanted_at, IsNamed}
 use Rattle.lp_pattern.specs.Under.{ValueIs, IsReading, under}
 use Rattle.lp_pattern.proofs.Names.{kind, node_kind, kind_of}

@@ -11,7 +11,7 @@ use Rattle.lp_term.specs.Nodes.{Nodes, Extends, tree}
 use Rattle.lp_term.specs.declared.node.TermId.{TermId}
 use Rattle.lp_term.specs.declared.reduce.TermRefusal.{TermRefusal}
 use Rattle.lp_model.specs.Eigens.{beta_normal, eigen_of, as_eigen}
-use Rattle.lp_model.specs.Look.{as_eigens, only_if, pattern_of, are_distinct, are_above}
+use Rattle.lp_model.specs.Look.{as_eigens, only_if, pattern_of, are_distinct, are_above, weak_step}
 use Rattle.lp_model.specs.Pair.{Closing, closed}
 use Rattle.lp_pattern.specs.declared.bindings.Bindings.{Bindings}
 use Rattle.lp_pattern.specs.declared.look.Head.{Head}
@@ -19,7 +19,7 @@ use Rattle.lp_pattern.specs.declared.look.Looked.{Looked}
 use Rattle.lp_pattern.specs.declared.patterns.Arguments.{Arguments}
 use Rattle.lp_pattern.specs.declared.patterns.Name.{Name}
 use Rattle.lp_pattern.specs.declared.patterns.Wanted.{Wanted}
-use Rattle.lp_pattern.specs.Seen.{weak_step, IsRigid, IsHead, IsLooked, IsReachedWithin}
+use Rattle.lp_pattern.specs.Seen.{IsRigid, IsHead, IsLooked, IsReachedWithin}
 use Rattle.lp_pattern.specs.Stripping.{opens, IsNoAbstraction, stop, HasForm, HasNoForm, Comes, is_name, name_term, eigen_past, is_at, AllFormed, AllCome, IsNamed, IsTaken, read_at, IsAlone, IsEigen, HasNoEigen, IsPattern, HasNoPattern}
 use Rattle.lp_pattern.specs.Under.{IsReading, under}
 use Rattle.lp_unify_laws.proofs.MoreSteps.Scans.{Below, below_map}

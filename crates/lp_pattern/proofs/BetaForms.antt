@@ -5,8 +5,8 @@ use Rattle.lp_calculus.specs.Term.{Term, index, atom, abs, app, apply}
 use Rattle.lp_calculus.specs.Convert.{leftmost_step, option_term, or_else, steps}
 use Rattle.lp_calculus.proofs.Sigma.{subst}
 use Rattle.lp_model.specs.Eigens.{beta_normal}
+use Rattle.lp_model.specs.Look.{weak_step}
 use Rattle.lp_unify_laws.proofs.NormalForms.Applied.{app_step, neutral_stays}
-use Rattle.lp_pattern.specs.Seen.{weak_step}
 use Rattle.lp_unify_laws.proofs.MoreSteps.Scans.{Below, below_none, beta_normal_more}
 use Rattle.lp_pattern.proofs.Naming.{IsLeaf, AreLeaves, leftmost_named}
 

@@ -18,11 +18,11 @@ use Rattle.lp_model.specs.Pair.{Closing, closed, put_type_in, put_types_in}
 use Rattle.lp_model.specs.Patterns.{eigens, agreeing}
 use Rattle.lp_model.specs.Types.{TypeBinding, one_type}
 use Rattle.lp_calculus.proofs.Atoms.{put_all_append}
+use Rattle.lp_model.specs.Look.{weak_step}
 use Rattle.lp_pattern.specs.declared.bindings.Bindings.{Bindings}
 use Rattle.lp_pattern.specs.Behind.{at_number, with_value, HasLevel}
 use Rattle.lp_pattern.specs.Putting.{Known, IsFirm, IsPutBehind}
 use Rattle.lp_pattern.specs.Scanning.{Binds}
-use Rattle.lp_pattern.specs.Seen.{weak_step}
 use Rattle.lp_pattern.specs.Turning.{IsOpenReading, IsKeptBehind, IsBoundBehind}
 use Rattle.lp_pattern.specs.Under.{ValueIs, IsReading}
 use Rattle.lp_pattern.proofs.Passings.{steps_fill}

@@ -9,14 +9,13 @@ use Rattle.lp_calculus.specs.Fill.{Within}
 use Rattle.lp_calculus.specs.Normal.{IsHead}
 use Rattle.lp_calculus.proofs.Rigid.{EachReaches, reaches_more, head_reaches}
 use Rattle.lp_calculus.proofs.Steps.{converts_on, converts_sym, converts_step, converts_reduces, converts_app}
-use Rattle.lp_model.specs.Look.{rigid, flexible, looked, as_eigens, only_if, pattern_of, are_distinct, are_above}
+use Rattle.lp_model.specs.Look.{rigid, flexible, looked, as_eigens, only_if, pattern_of, are_distinct, are_above, weak_step, top_normal}
 use Rattle.lp_model.specs.Patterns.{eigens, member}
 use Rattle.lp_model.specs.Scan.{Side, is_side, allows, allow, allows_head, Pattern, pattern, fits, Scanned, broken, whole, above, beside, scanned_pattern}
 use Rattle.std.proofs.lemmas.Bool.{and_from}
 use Rattle.lp_pattern.specs.Cleaning.{MayStand, IsClean, IsFit}
 use Rattle.lp_pattern.specs.Scanning.{all_fit}
-use Rattle.lp_pattern.specs.Seen.{weak_step}
-use Rattle.lp_pattern.specs.TopLooks.{top_normal, top_look, scan_top, scan_seen, scan_tops}
+use Rattle.lp_pattern.specs.TopLooks.{top_look, scan_top, scan_seen, scan_tops}
 use Rattle.lp_pattern.proofs.BetaForms.{weak_leftmost}
 use Rattle.lp_pattern.proofs.Compares.{from_bind, from_map}
 use Rattle.lp_unify_laws.proofs.Looks.{leftmost_steps, as_eigens_is}

@@ -4,10 +4,9 @@ use Rattle.std.specs.Prelude.{option_map, option_and_then, ◌&&◌}
 use Rattle.lp_calculus.specs.Term.{Term, abs}
 use Rattle.lp_calculus.specs.Convert.{steps}
 use Rattle.lp_model.specs.Same.{same_name}
-use Rattle.lp_model.specs.Look.{Look, an_abs, rigid, flexible, head_normal, look}
+use Rattle.lp_model.specs.Look.{Look, an_abs, rigid, flexible, head_normal, look, weak_step}
 use Rattle.lp_model.specs.Pair.{Pair}
 use Rattle.lp_model.specs.Rule.{Compared, dearer, open_with, type_pairs, argument_pairs, compare_types, compare, compare_looks, compare_all}
-use Rattle.lp_pattern.specs.Seen.{weak_step}
 use Rattle.lp_pattern.specs.Comparing.{compare_pairs, IsComparedTo, IsRest}
 use Rattle.lp_pattern.proofs.Looking.{weak_look, steps_on, look_abs}
 use Rattle.lp_unify_laws.proofs.MoreSteps.Scans.{Below, below_none, below_same, below_then, look_more}

@@ -6,7 +6,7 @@ use Rattle.lp_calculus.specs.Convert.{steps}
 use Rattle.lp_calculus.specs.Fill.{Within, abstracted}
 use Rattle.lp_calculus.proofs.Steps.{within_reduces}
 use Rattle.lp_term.specs.Nodes.{Nodes, Extends, tree}
-use Rattle.lp_model.specs.Look.{flexible, are_distinct, are_above, only_if, as_eigens, pattern_of}
+use Rattle.lp_model.specs.Look.{flexible, are_distinct, are_above, only_if, as_eigens, pattern_of, weak_step}
 use Rattle.lp_model.specs.Pair.{Pair, Closing, closed}
 use Rattle.lp_model.specs.Patterns.{eigens, agreeing}
 use Rattle.lp_model.specs.Rule.{gives, Ruled, ruled, joined, pattern_side, side, solve_for, by_pattern, by_rule_5, by_rule_4, by_looks, compare_all, dear}
@@ -21,7 +21,7 @@ use Rattle.lp_pattern.specs.Putting.{Known}
 use Rattle.lp_pattern.specs.Reading.{side_of}
 use Rattle.lp_pattern.specs.Ruling.{view, view_of, IsSideOf, IsSeenPair}
 use Rattle.lp_pattern.specs.Scanning.{Binds}
-use Rattle.lp_pattern.specs.Seen.{weak_step, IsLooked}
+use Rattle.lp_pattern.specs.Seen.{IsLooked}
 use Rattle.lp_pattern.specs.Turning.{IsOpenReading, IsKnownPair, IsDoneAs}
 use Rattle.lp_pattern.specs.Under.{IsReading, under}
 use Rattle.lp_pattern.specs.Valuing.{IsKnownSide}

@@ -9,7 +9,7 @@ use Rattle.lp_term.specs.Nodes.{Nodes, Extends}
 use Rattle.lp_term.specs.declared.node.TermId.{TermId}
 use Rattle.lp_term.specs.declared.reduce.TermRefusal.{TermRefusal}
 use Rattle.lp_term.proofs.Frames.{some_of}
-use Rattle.lp_model.specs.Look.{Look, an_abs, rigid, flexible, looked, pattern_of}
+use Rattle.lp_model.specs.Look.{Look, an_abs, rigid, flexible, looked, pattern_of, weak_step}
 use Rattle.lp_model.specs.Pair.{Closing}
 use Rattle.lp_model.specs.Scan.{Side, Pruned, Scanned, whole, prune}
 use Rattle.lp_pattern.specs.declared.bindings.Bindings.{Bindings}
@@ -24,7 +24,7 @@ use Rattle.lp_pattern.specs.declared.settle.Task.{Task}
 use Rattle.lp_pattern.specs.Passing.{outer, Passed, outer_of, outers_of}
 use Rattle.lp_pattern.specs.Pruning.{Start, IsPruning, StopsPruning, visit_at}
 use Rattle.lp_pattern.specs.Refusing.{IsOfTerm, IsNoFailure, IsGivenUp, IsNothing}
-use Rattle.lp_pattern.specs.Seen.{weak_step, IsLooked, IsReachedWithin, IsDeepWhere}
+use Rattle.lp_pattern.specs.Seen.{IsLooked, IsReachedWithin, IsDeepWhere}
 use Rattle.lp_pattern.specs.Settling.{Settles, settles_abs, settles_rigid, settles_pattern, settles_open, Ends, IsLeft, StopsSettling}
 use Rattle.lp_pattern.specs.Stripping.{opens, IsShut, HasNoPattern, read_at}
 use Rattle.lp_pattern.specs.TopLooks.{top_look}

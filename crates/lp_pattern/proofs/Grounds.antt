@@ -12,7 +12,7 @@ use Rattle.lp_calculus.proofs.Sigma.{subst}
 use Rattle.lp_term.specs.Facts.{IsFixed, IsGround}
 use Rattle.lp_term.specs.Nodes.{Nodes, tree}
 use Rattle.lp_term.specs.declared.node.TermId.{TermId}
-use Rattle.lp_model.specs.Look.{Look, an_abs, rigid, flexible, looked}
+use Rattle.lp_model.specs.Look.{Look, an_abs, rigid, flexible, looked, weak_step, top_normal}
 use Rattle.lp_model.specs.Pair.{Closing, closed}
 use Rattle.lp_model.specs.Scan.{Side, allows_head, Scanned, broken, whole, above, beside}
 use Rattle.lp_pattern.specs.declared.bindings.Bindings.{Bindings}
@@ -20,10 +20,9 @@ use Rattle.lp_pattern.specs.declared.fault.PatternRefusal.TheVariants.{Deep}
 use Rattle.lp_pattern.specs.declared.patterns.Opened.{Opened}
 use Rattle.lp_pattern.specs.declared.scan.Scanned.{Scanned as Noted}
 use Rattle.lp_pattern.specs.declared.settle.Task.{Task}
-use Rattle.lp_pattern.specs.Seen.{weak_step}
 use Rattle.lp_pattern.specs.Settling.{Settles, settles_abs, settles_rigid, settles_pattern, settles_open, SettleAll, settle_none, settle_more, indexed_in, Ends, Moves}
 use Rattle.lp_pattern.specs.Stripping.{opens, read_at}
-use Rattle.lp_pattern.specs.TopLooks.{top_normal, top_look, scan_top, scan_tops, scan_seen}
+use Rattle.lp_pattern.specs.TopLooks.{top_look, scan_top, scan_tops, scan_seen}
 use Rattle.lp_pattern.specs.Under.{under}
 use Rattle.lp_pattern.specs.Visiting.{Part, scan_parts, Merged, IsRestOf, IsStopped, Exceeds}
 use Rattle.lp_pattern.proofs.Compares.{from_bind, from_map}

@@ -7,7 +7,7 @@ use Rattle.lp_calculus.specs.Convert.{steps}
 use Rattle.lp_term.specs.Nodes.{Nodes, Extends, tree}
 use Rattle.lp_term.specs.declared.node.TermId.{TermId}
 use Rattle.lp_term.specs.declared.reduce.TermRefusal.{TermRefusal}
-use Rattle.lp_model.specs.Look.{Look, an_abs, rigid, flexible, look, head_normal, pattern_of}
+use Rattle.lp_model.specs.Look.{Look, an_abs, rigid, flexible, look, head_normal, pattern_of, weak_step}
 use Rattle.lp_model.specs.Pair.{Pair, Closing}
 use Rattle.lp_model.specs.Scan as scan
 use Rattle.lp_model.specs.Scan.{Scanned, broken, whole, Pruned, prune, settle}
@@ -29,7 +29,7 @@ use Rattle.lp_pattern.specs.Comparing.{IsComparedTo, IsPassed, pair_under}
 use Rattle.lp_pattern.specs.Reading.{side_of}
 use Rattle.lp_pattern.specs.Refusing.{IsOfTerm}
 use Rattle.lp_pattern.specs.Ruling.{view_of, view, is_one_variable, is_flexible, IsSideOf, IsNoSide, IsSeenPair, IsVerdict, IsJudged, IsRuledOut, IsDone, IsTaken}
-use Rattle.lp_pattern.specs.Seen.{weak_step, IsHead, IsLooked, IsReachedWithin, seen}
+use Rattle.lp_pattern.specs.Seen.{IsHead, IsLooked, IsReachedWithin, seen}
 use Rattle.lp_pattern.specs.Stripping.{IsPattern, HasNoPattern, eigens_of, read_at}
 use Rattle.lp_pattern.specs.Under.{IsReading, under, below}
 use Rattle.lp_pattern.specs.Visiting.{IsScanned, IsStopped, Exceeds}

@@ -10,10 +10,10 @@ use Rattle.lp_calculus.proofs.Fills.{fill-substitute}
 use Rattle.lp_term.specs.Spine.{IsNoRedexHead}
 use Rattle.lp_term.proofs.Spines.{normal_head}
 use Rattle.lp_model.specs.Pair.{Closing, closed}
-use Rattle.lp_model.specs.Look.{an_abs, looked, head_normal, look}
+use Rattle.lp_model.specs.Look.{an_abs, looked, head_normal, look, weak_step}
+use Rattle.lp_unify_laws.proofs.Looks.{weak_head}
 use Rattle.lp_unify_laws.proofs.TypeInstances.{instance_substitute}
 use Rattle.lp_pattern.specs.Under.{below}
-use Rattle.lp_pattern.specs.Seen.{weak_step}
 
 -- closings of applications and of contractions
 pub closed_apply : (c : Closing) (ts : List Term) (h : Term) → closed c (apply h ts) ≡ apply (closed c h) (map (closed c) ts)
@@ -23,23 +23,10 @@ closed_apply c (t ∷ ts) h = closed_apply c ts (app h t)
 pub closed_substitute : (c : Closing) (u b : Term) → closed c (substitute u b) ≡ substitute (closed c u) (below c b)
 closed_substitute c u b = ap (fill (at_variables c.terms)) (instance_substitute c.types u b) ∙ fill-substitute (at_variables c.terms) (instance_term c.types u) (instance_term c.types b)
 
--- a step of a term is one of it on arguments, and a head step
+-- a step of a term is one of it on arguments
 pub weak_apply : (ts : List Term) (t u s : Term) → weak_step (app t u) ≡ Some s → weak_step (apply (app t u) ts) ≡ Some (apply s ts)
 weak_apply [] t u s e = e
 weak_apply (x ∷ ts) t u s e = weak_apply ts (app t u) x (app s x) (ap (option_term (λ y. app y x)) e)
-
-pub weak_head : (t s : Term) → weak_step t ≡ Some s → head_step t ≡ Some s
-weak_head (index i) s e = absurd (cc)
-weak_head (atom a) s e = absurd (cc)
-weak_head (abs b) s e = absurd (cc)
-weak_head (app (abs b) u) s e = e
-weak_head (app (index i) u) s e = absurd (cc)
-weak_head (app (atom a) u) s e = absurd (cc)
-weak_head (app (app t v) u) s e =
-    elim (weak_step (app t v)) as (λ o. weak_step (app t v) ≡ o → option_term (λ y. app y u) o ≡ Some s → head_step (app (app t v) u) ≡ Some s) [
-      | None ↦ λ p q. absurd (cc)
-      | Some r ↦ λ p q. ap (option_term (λ y. app y u)) (weak_head (app t v) r p) ∙ q
-    ] refl e
 
 pub closed_redex : (c : Closing) (b u : Term) (ts : List Term) → weak_step (closed c (apply (abs b) (u ∷ ts))) ≡ Some (closed c (apply (substitute u b) ts))
 closed_redex c b u ts =

@@ -5,7 +5,7 @@ use Rattle.lp_calculus.specs.Term.{Term, index, atom, abs, app, apply, eigen, su
 use Rattle.lp_calculus.specs.Convert.{head_step, leftmost_step, option_term, or_else, steps}
 use Rattle.lp_calculus.proofs.Sigma.{rename, up, subst, instead, subst-instead}
 use Rattle.lp_calculus.proofs.Plain.{substitute-subst}
-use Rattle.lp_pattern.specs.Seen.{weak_step}
+use Rattle.lp_model.specs.Look.{weak_step}
 
 abbrev pub IsLeaf : Term → Type 0
 IsLeaf (index i) = Unit {0}

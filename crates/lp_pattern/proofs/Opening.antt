@@ -12,15 +12,15 @@ use Rattle.lp_calculus.proofs.Plain.{substitute-subst}
 use Rattle.lp_term.specs.Nodes.{Nodes, Extends, tree}
 use Rattle.lp_term.specs.declared.node.TermId.{TermId}
 use Rattle.lp_model.specs.Pair.{Closing, closed}
-use Rattle.lp_model.specs.Look.{Look, an_abs, rigid, flexible, looked}
+use Rattle.lp_model.specs.Look.{Look, an_abs, rigid, flexible, looked, weak_step, top_normal}
 use Rattle.lp_term.proofs.Walks.{map_map}
 use Rattle.lp_pattern.specs.declared.bindings.Bindings.{Bindings}
 use Rattle.lp_pattern.specs.declared.look.Head.{Head}
 use Rattle.lp_pattern.specs.declared.look.Looked.{Looked}
 use Rattle.lp_pattern.specs.Under.{ValueIs, IsReading, under, below}
-use Rattle.lp_pattern.specs.Seen.{weak_step, IsRigid, IsHead, IsLooked}
+use Rattle.lp_pattern.specs.Seen.{IsRigid, IsHead, IsLooked}
 use Rattle.lp_pattern.specs.Stripping.{opens, IsShut, read_at}
-use Rattle.lp_pattern.specs.TopLooks.{top_normal, top_look}
+use Rattle.lp_pattern.specs.TopLooks.{top_look}
 use Rattle.std.proofs.lemmas.List.{append-nil}
 use Rattle.lp_pattern.proofs.Looking.{closed_apply, looked_apply}
 use Rattle.lp_pattern.proofs.Naming.{IsLeaf, AreLeaves, weak_named, steps_named, subst_apply, leaf_weak, leaf_weak_on}

@@ -15,6 +15,7 @@ use Rattle.lp_model.specs.Types.{TypeBinding}
 use Rattle.lp_model.specs.Pair.{Pair, Closing, closed, put_types_in}
 use Rattle.lp_model.specs.Rule.{Verdict, fails, gives, binds, delays, open_with, opened, argument_pairs}
 use Rattle.lp_model.specs.declared.answer.Pair.{Pair as Numbers}
+use Rattle.lp_model.specs.Look.{weak_step}
 use Rattle.lp_pattern.specs.declared.bindings.Bindings.{Bindings}
 use Rattle.lp_pattern.specs.declared.look.Looked.{Looked}
 use Rattle.lp_pattern.specs.declared.rules.Verdict.{Verdict as Taken}
@@ -23,7 +24,7 @@ use Rattle.lp_pattern.specs.Comparing.{pair_under, pairs_of, opened_pair}
 use Rattle.lp_pattern.specs.Growing.{IsPairOf}
 use Rattle.lp_pattern.specs.Putting.{Known}
 use Rattle.lp_pattern.specs.Ruling.{IsSeenPair}
-use Rattle.lp_pattern.specs.Seen.{weak_step, IsLooked, IsDeepWhere}
+use Rattle.lp_pattern.specs.Seen.{IsLooked, IsDeepWhere}
 use Rattle.lp_pattern.specs.Turning.{IsOpenReading, IsKnownPair, AreKnownPairs, IsPairFor, ArePairsFor, IsFirm, IsKeptBehind, IsTypedBehind, IsDoneAs, IsGivenAs, IsTakenAs}
 use Rattle.lp_pattern.specs.Under.{under}
 use Rattle.lp_pattern.proofs.Judging.{pair_kept}

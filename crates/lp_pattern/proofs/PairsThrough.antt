@@ -14,10 +14,10 @@ use Rattle.lp_model.specs.Types.{TypeBinding, one_type}
 use Rattle.lp_model.specs.Pair.{Pair, Closing, put_pair, put_type_in, put_types_in, type_pair}
 use Rattle.lp_model.specs.Unify.{put_pairs, type_pairs_in}
 use Rattle.lp_model.specs.declared.answer.Pair.{Pair as Numbers}
+use Rattle.lp_model.specs.Look.{weak_step}
 use Rattle.lp_unify_laws.proofs.TypeInstances.{instance_substitute}
 use Rattle.lp_pattern.specs.Growing.{IsPairOf}
 use Rattle.lp_pattern.specs.Pruning.{Known}
-use Rattle.lp_pattern.specs.Seen.{weak_step}
 use Rattle.lp_pattern.specs.Turning.{IsKnownPair, AreKnownPairs, IsReachedAs, IsPairFor, ArePairsFor}
 use Rattle.lp_pattern.specs.Under.{under}
 use Rattle.lp_pattern.proofs.PruneSteps.{weak_reduces}

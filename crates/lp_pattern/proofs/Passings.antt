@@ -10,7 +10,7 @@ use Rattle.lp_calculus.proofs.Fills.{fill-substitute, fill-subst, subst_closed}
 use Rattle.lp_calculus.proofs.Sigma.{subst}
 use Rattle.lp_term.specs.Nodes.{Nodes, Extends, tree}
 use Rattle.lp_term.proofs.Openings.{all_reverse}
-use Rattle.lp_model.specs.Look.{an_abs, rigid, looked}
+use Rattle.lp_model.specs.Look.{an_abs, rigid, looked, weak_step}
 use Rattle.lp_model.specs.Pair.{Closing, closed}
 use Rattle.lp_model.specs.Scan.{Side, Pattern, fits, Scanned, broken, whole, beside, first_misfit}
 use Rattle.lp_pattern.specs.declared.scan.Visit.{Visit}
@@ -18,7 +18,7 @@ use Rattle.lp_pattern.specs.Behind.{at_number, with_value}
 use Rattle.lp_pattern.specs.Cleaning.{MayStand}
 use Rattle.lp_pattern.specs.Passing.{outer, outers, Passed, pass_none, pass_steps, pass_abs, pass_rigid, pass_clean, put_part, outer_of, outers_of}
 use Rattle.lp_pattern.specs.Scanning.{all_fit}
-use Rattle.lp_pattern.specs.Seen.{weak_step, IsRigid}
+use Rattle.lp_pattern.specs.Seen.{IsRigid}
 use Rattle.lp_pattern.specs.Stripping.{opens}
 use Rattle.lp_pattern.specs.TopLooks.{scan_top}
 use Rattle.lp_pattern.specs.Visiting.{Part, scan_parts}

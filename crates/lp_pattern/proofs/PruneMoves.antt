@@ -12,7 +12,7 @@ use Rattle.lp_calculus.proofs.Sigma.{up, subst}
 use Rattle.lp_term.specs.Nodes.{Nodes, Extends, tree}
 use Rattle.lp_term.specs.declared.node.TermId.{TermId}
 use Rattle.lp_term.proofs.Openings.{all_reverse}
-use Rattle.lp_model.specs.Look.{flexible, pattern_of}
+use Rattle.lp_model.specs.Look.{flexible, pattern_of, weak_step}
 use Rattle.lp_model.specs.Pair.{Closing, closed}
 use Rattle.lp_model.specs.Scan.{Side, Pattern, pattern, fits, Pruned, prune, renewal}
 use Rattle.lp_lemmas.proofs.Elements.{All_popped}
@@ -28,7 +28,7 @@ use Rattle.lp_pattern.specs.Pruning.{Start, IsPruning, Prunes, visit_at}
 use Rattle.lp_pattern.specs.Putting.{Known}
 use Rattle.lp_pattern.specs.Turning.{IsOpenReading}
 use Rattle.lp_pattern.specs.Scanning.{Binds, visits, all_fit}
-use Rattle.lp_pattern.specs.Seen.{weak_step, IsRigid, IsHead, IsLooked, IsReachedWithin}
+use Rattle.lp_pattern.specs.Seen.{IsRigid, IsHead, IsLooked, IsReachedWithin}
 use Rattle.lp_pattern.specs.Stripping.{opens, IsShut, IsPattern, read_at}
 use Rattle.lp_pattern.specs.Under.{IsReading, under}
 use Rattle.lp_pattern.specs.Visiting.{Part, IsVisitOf}

@@ -15,7 +15,7 @@ use Rattle.lp_calculus.proofs.Steps.{within_reduces}
 use Rattle.lp_calculus.specs.Convert.{ReducesTo, done, then_step}
 use Rattle.lp_term.specs.Nodes.{Nodes}
 use Rattle.lp_term.specs.declared.node.TermId.{TermId}
-use Rattle.lp_model.specs.Look.{flexible, pattern_of}
+use Rattle.lp_model.specs.Look.{flexible, pattern_of, weak_step}
 use Rattle.lp_model.specs.Pair.{Closing, closed}
 use Rattle.lp_model.specs.Patterns.{eigens, chosen}
 use Rattle.lp_model.specs.Scan.{Side, Pattern, pattern, pattern_term, fits, allows, is_side, Scanned, broken, whole, above, scanned_pattern, scan, first_misfit, renewal, Pruned, led_by, prune}
@@ -25,7 +25,6 @@ use Rattle.lp_pattern.specs.Behind.{at_number, HasLevel}
 use Rattle.lp_pattern.specs.Passing.{outer, outers, Passed, pass_none, pass_steps, pass_abs, pass_rigid, pass_clean, outers_of}
 use Rattle.lp_pattern.specs.Pruning.{Start, IsPruning, IsPruned}
 use Rattle.lp_pattern.specs.Putting.{Known, IsPutBehind}
-use Rattle.lp_pattern.specs.Seen.{weak_step}
 use Rattle.lp_pattern.specs.TopLooks.{scan_top, scan_tops}
 use Rattle.lp_pattern.specs.Under.{under}
 use Rattle.lp_pattern.specs.Visiting.{Part, scan_parts}

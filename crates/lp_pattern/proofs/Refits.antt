@@ -10,16 +10,15 @@ use Rattle.lp_calculus.proofs.Fills.{within_fill, within_more}
 use Rattle.lp_calculus.proofs.Sigma.{subst, subst-index}
 use Rattle.lp_calculus.proofs.Steps.{converts_on, converts_reduces, converts_abs, converts_fill, within_reduces}
 use Rattle.lp_model.specs.Eigens.{eigen_of, as_eigen}
-use Rattle.lp_model.specs.Look.{Look, rigid, flexible, looked, as_eigens, pattern_of}
+use Rattle.lp_model.specs.Look.{Look, rigid, flexible, looked, as_eigens, pattern_of, weak_step, top_normal}
 use Rattle.lp_model.specs.Patterns.{eigens, member, chosen}
 use Rattle.lp_model.specs.Scan.{Side, is_side, allows, allow, allows_head, Pattern, pattern, pattern_term, fits, Scanned, broken, whole, above, beside, scanned_pattern, renewal}
 use Rattle.lp_lemmas.proofs.Booleans.{and_true_left, and_true_right}
 use Rattle.lp_pattern.specs.Behind.{at_number}
 use Rattle.lp_pattern.specs.Cleaning.{MayStand, IsClean, IsFit}
 use Rattle.lp_pattern.specs.Scanning.{all_fit}
-use Rattle.lp_pattern.specs.Seen.{weak_step}
 use Rattle.lp_pattern.specs.Stripping.{opens}
-use Rattle.lp_pattern.specs.TopLooks.{top_normal, top_look, scan_top, scan_seen, scan_tops}
+use Rattle.lp_pattern.specs.TopLooks.{top_look, scan_top, scan_seen, scan_tops}
 use Rattle.lp_pattern.proofs.Cleans.{top_reduces, top_ended, View, as_abs, as_head, view, looked_head, EachClean, clean_none, clean_more, clean_like, clean_apply, eigens_of_pattern, clean_fits}
 use Rattle.lp_pattern.proofs.Compares.{from_bind, from_map}
 use Rattle.lp_unify_laws.proofs.Looks.{beta_reduces, eta_normal_is}

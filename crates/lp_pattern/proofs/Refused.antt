@@ -6,15 +6,15 @@ use Rattle.lp_calculus.specs.Convert.{steps}
 use Rattle.lp_term.specs.declared.reduce.TermRefusal.{TermRefusal}
 use Rattle.lp_term.proofs.Frames.{some_of}
 use Rattle.lp_model.specs.Same.{same_name}
-use Rattle.lp_model.specs.Look.{Look, an_abs, rigid, flexible, looked, head_normal, look}
+use Rattle.lp_model.specs.Look.{Look, an_abs, rigid, flexible, looked, head_normal, look, weak_step}
 use Rattle.lp_model.specs.Pair.{Pair}
 use Rattle.lp_model.specs.Rule.{Compared, dearer, type_pairs, compare_types, compare, compare_looks, compare_all}
 use Rattle.lp_pattern.specs.declared.fault.PatternRefusal.{PatternRefusal}
 use Rattle.lp_pattern.specs.declared.fault.PatternRefusal.TheVariants.{Deep, Memory, Fails}
 use Rattle.lp_pattern.specs.Refusing.{IsOfTerm}
-use Rattle.lp_pattern.specs.Seen.{weak_step, IsDeepWhere}
+use Rattle.lp_pattern.specs.Seen.{IsDeepWhere}
 use Rattle.lp_pattern.specs.Comparing.{compare_pairs, IsPassed, IsRest, IsHeadPassed}
-use Rattle.lp_pattern.proofs.Looking.{weak_head}
+use Rattle.lp_unify_laws.proofs.Looks.{weak_head}
 use Rattle.lp_unify_laws.proofs.MoreSteps.Scans.{Below}
 use Rattle.lp_pattern.proofs.Compares.{from_bind, from_map, by_looks, First, goes_on, ends, first}
 

@@ -6,7 +6,7 @@ use Rattle.lp_calculus.specs.Fill.{Within}
 use Rattle.lp_calculus.proofs.Steps.{within_reduces}
 use Rattle.lp_term.specs.Nodes.{Nodes, Extends}
 use Rattle.std.specs.Prelude.{Option}
-use Rattle.lp_model.specs.Look.{Look}
+use Rattle.lp_model.specs.Look.{Look, weak_step}
 use Rattle.lp_model.specs.Pair.{Pair, Closing}
 use Rattle.lp_model.specs.Rule.{Ruled, ruled, binds, bound, has_head, pattern_side, solve_for, by_pattern, by_rule_5}
 use Rattle.lp_model.specs.Scan.{Scanned, broken, whole, Pruned, scan, prune, settle}
@@ -22,7 +22,7 @@ use Rattle.lp_pattern.specs.Putting.{Known}
 use Rattle.lp_pattern.specs.Reading.{side_of}
 use Rattle.lp_pattern.specs.Refusing.{IsNothing}
 use Rattle.lp_pattern.specs.Ruling.{view, IsSideOf, IsSeenPair, IsRuledOut}
-use Rattle.lp_pattern.specs.Seen.{weak_step, IsLooked}
+use Rattle.lp_pattern.specs.Seen.{IsLooked}
 use Rattle.lp_pattern.specs.Turning.{IsOpenReading, IsKnownPair}
 use Rattle.lp_pattern.specs.Under.{under}
 use Rattle.lp_pattern.specs.Valuing.{IsKnownSide, HasNoValue}

@@ -13,6 +13,7 @@ use Rattle.lp_term.specs.Shapes.{term_shape}
 use Rattle.lp_term.specs.declared.node.TermNode.{TermNode}
 use Rattle.lp_term.specs.Nodes.{Nodes, Extends, tree, node_tree}
 use Rattle.lp_lemmas.proofs.Lists.{map_reverse}
+use Rattle.lp_model.specs.Look.{weak_step, top_normal}
 use Rattle.lp_pattern.proofs.Names.{kind, node_kind, kind_of}
 use Rattle.lp_term.specs.declared.node.TermId.{TermId}
 use Rattle.lp_term.specs.declared.reduce.TermRefusal.{TermRefusal}
@@ -34,12 +35,12 @@ use Rattle.lp_pattern.specs.declared.side.Side.{Side}
 use Rattle.lp_pattern.specs.Reading.{side_of}
 use Rattle.lp_pattern.specs.Refusing.{IsOfTerm}
 use Rattle.lp_pattern.specs.Scanning.{Adds, IsBroken, all_fit, visits}
-use Rattle.lp_pattern.specs.Seen.{weak_step, IsRigid, IsHead, IsLooked, IsReachedWithin, IsDeepWhere}
+use Rattle.lp_pattern.specs.Seen.{IsRigid, IsHead, IsLooked, IsReachedWithin, IsDeepWhere}
 use Rattle.lp_pattern.specs.Stripping.{opens, IsShut, IsPattern, HasNoPattern, read_at}
 use Rattle.lp_pattern.specs.Under.{IsReading, under}
 use Rattle.lp_pattern.specs.Visiting.{Part, scan_parts, part_at, part_of, parts_of, IsVisitOf, IsRestOf, IsStopped, IsScanned, Merged}
 use Rattle.lp_unify_laws.proofs.MoreSteps.Scans.{Below, below_none, below_same, below_then, below_map}
-use Rattle.lp_pattern.specs.TopLooks.{top_normal, top_look, scan_top, scan_seen}
+use Rattle.lp_pattern.specs.TopLooks.{top_look, scan_top, scan_seen}
 use Rattle.lp_pattern.proofs.TopScans.{scan_of, top_is}
 use Rattle.lp_pattern.proofs.Naming.{weak_named, steps_named}
 use Rattle.lp_pattern.proofs.Opening.{opens_leaves, read_reached, read_kept, read_none, rigid_at, variable_at, abstraction_at, opened_once}

@@ -10,7 +10,7 @@ use Rattle.lp_calculus.proofs.Sigma.{up, subst}
 use Rattle.lp_term.specs.Nodes.{Nodes, Extends, tree}
 use Rattle.lp_term.specs.declared.node.TermId.{TermId}
 use Rattle.lp_term.proofs.Trees.{extends-trans}
-use Rattle.lp_model.specs.Look.{Look, an_abs, rigid, flexible, looked, pattern_of}
+use Rattle.lp_model.specs.Look.{Look, an_abs, rigid, flexible, looked, pattern_of, weak_step}
 use Rattle.lp_model.specs.Patterns.{eigens}
 use Rattle.lp_model.specs.Pair.{Closing, closed}
 use Rattle.lp_lemmas.proofs.Lists.{cons_head}
@@ -21,7 +21,7 @@ use Rattle.lp_pattern.specs.declared.patterns.Arguments.{Arguments}
 use Rattle.lp_pattern.specs.declared.patterns.Opened.{Opened}
 use Rattle.lp_pattern.specs.declared.settle.Application.{Application}
 use Rattle.lp_pattern.specs.declared.settle.Task.{Task}
-use Rattle.lp_pattern.specs.Seen.{weak_step, IsHead, IsLooked, IsReachedWithin}
+use Rattle.lp_pattern.specs.Seen.{IsHead, IsLooked, IsReachedWithin}
 use Rattle.lp_pattern.specs.Settling.{Settles, settles_abs, settles_rigid, settles_pattern, settles_open, SettleAll, settle_more, index_in, eigen_or, indexed_in, eigens_in, IsApplication, Ends, visit_tasks, IsHeadIn}
 use Rattle.lp_pattern.specs.Stripping.{opens, IsShut, IsPattern, read_at}
 use Rattle.lp_pattern.specs.TopLooks.{top_look}

@@ -7,11 +7,11 @@ use Rattle.lp_calculus.specs.Normal.{IsHead}
 use Rattle.lp_calculus.proofs.Fills.{within_fill, within_more}
 use Rattle.lp_calculus.proofs.Rigid.{EachReaches, reaches_none, reaches_more, head_reaches}
 use Rattle.lp_calculus.proofs.Steps.{converts_on, converts_sym, converts_step, converts_reduces, converts_app}
-use Rattle.lp_model.specs.Look.{Look, an_abs, rigid, flexible, looked}
+use Rattle.lp_model.specs.Look.{Look, an_abs, rigid, flexible, looked, top_normal}
 use Rattle.lp_model.specs.Patterns.{eigens}
 use Rattle.lp_model.specs.Scan.{settle}
 use Rattle.lp_pattern.specs.Settling.{Settles, settles_abs, settles_rigid, settles_pattern, settles_open, SettleAll, settle_none, settle_more}
-use Rattle.lp_pattern.specs.TopLooks.{top_normal, top_look}
+use Rattle.lp_pattern.specs.TopLooks.{top_look}
 use Rattle.lp_pattern.proofs.Cleans.{top_reduces, top_ended, View, as_abs, as_head, view, looked_head}
 use Rattle.lp_pattern.proofs.Compares.{from_map}
 use Rattle.lp_pattern.proofs.TopSettles.{settled_in}

@@ -9,7 +9,7 @@ use Rattle.lp_calculus.proofs.Fills.{fill_none, within_more, within_both}
 use Rattle.lp_term.specs.Nodes.{Nodes}
 use Rattle.lp_term.specs.declared.node.TermId.{TermId}
 use Rattle.lp_term.proofs.Trees.{extends_same}
-use Rattle.lp_model.specs.Look.{Look, look}
+use Rattle.lp_model.specs.Look.{Look, look, weak_step}
 use Rattle.lp_model.specs.Pair.{Closing}
 use Rattle.lp_model.specs.Rule.{binds, Ruled, ruled, bound, has_head, solve_for}
 use Rattle.lp_model.specs.Scan.{Side, is_side, fits, Pattern, Scanned, broken, whole, scan, first_misfit, renewal, Pruned, led_by, prune, settle}
@@ -19,7 +19,6 @@ use Rattle.lp_pattern.specs.Behind.{at_number, with_value}
 use Rattle.lp_pattern.specs.Cleaning.{MayStand, IsClean}
 use Rattle.lp_pattern.specs.Putting.{Known}
 use Rattle.lp_pattern.specs.Scanning.{all_fit}
-use Rattle.lp_pattern.specs.Seen.{weak_step}
 use Rattle.lp_pattern.specs.Turning.{IsBoundBehind, IsDoneAs}
 use Rattle.lp_pattern.specs.Valuing.{IsKnownSide, IsValued, Values}
 use Rattle.lp_pattern.specs.Visiting.{IsScanned}

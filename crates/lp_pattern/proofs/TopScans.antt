@@ -3,11 +3,10 @@ use Rattle.std.proofs.Common.{◌≡◌, ℕ, zero, suc, ◌<◌, ◌≤◌, Lis
 use Rattle.std.specs.Prelude.{option_map, option_and_then, not, nat_lt}
 use Rattle.lp_calculus.specs.Term.{Term, index, atom, abs, app, eigen, substitute}
 use Rattle.lp_calculus.specs.Convert.{head_step, option_term, steps}
-use Rattle.lp_model.specs.Look.{Look, an_abs, rigid, flexible, looked, head_normal, look, pattern_of}
+use Rattle.lp_model.specs.Look.{Look, an_abs, rigid, flexible, looked, head_normal, look, pattern_of, weak_step, top_normal}
 use Rattle.lp_model.specs.Scan.{Side, is_side, allows_head, Scanned, broken, whole, above, beside, scanned_pattern, scan, scan_all}
-use Rattle.lp_pattern.specs.Seen.{weak_step}
-use Rattle.lp_pattern.specs.TopLooks.{top_normal, top_look, scan_top, scan_seen, scan_tops}
-use Rattle.lp_pattern.proofs.Looking.{weak_head}
+use Rattle.lp_pattern.specs.TopLooks.{top_look, scan_top, scan_seen, scan_tops}
+use Rattle.lp_unify_laws.proofs.Looks.{weak_head}
 use Rattle.lp_unify_laws.proofs.MoreSteps.Scans.{Below, below_none, below_same, below_then, below_map, pattern_more}
 use Rattle.lp_pattern.proofs.Compares.{from_bind, from_map}
 use Rattle.lp_pattern.proofs.Naming.{opened_normal, opened_steps}

@@ -3,7 +3,7 @@ use Rattle.std.proofs.Common.{◌≡◌, ℕ, ◌≤◌, List, map, length, ◌�
 use Rattle.lp_calculus.specs.Term.{Term}
 use Rattle.lp_calculus.specs.Convert.{steps}
 use Rattle.lp_term.specs.Nodes.{Nodes, Extends}
-use Rattle.lp_model.specs.Look.{flexible}
+use Rattle.lp_model.specs.Look.{flexible, weak_step}
 use Rattle.lp_model.specs.Pair.{Pair, Closing}
 use Rattle.lp_model.specs.Rule.{solve_for, by_rule_5, by_rule_4, by_looks, compare_all}
 use Rattle.lp_unify_laws.proofs.TypedInstances.{length_map}
@@ -15,7 +15,7 @@ use Rattle.lp_pattern.specs.declared.side.Side.{Side}
 use Rattle.lp_pattern.specs.Comparing.{IsComparedTo, IsPassed}
 use Rattle.lp_pattern.specs.Reading.{side_of}
 use Rattle.lp_pattern.specs.Ruling.{view, IsSideOf, IsNoSide, IsSeenPair, IsJudged, IsRuledOut}
-use Rattle.lp_pattern.specs.Seen.{weak_step, IsLooked}
+use Rattle.lp_pattern.specs.Seen.{IsLooked}
 use Rattle.lp_pattern.specs.Under.{under}
 use Rattle.lp_unify_laws.proofs.MoreSteps.Scans.{Below}
 use Rattle.lp_pattern.proofs.Stacks.{under_kept, unders_kept}

@@ -5,7 +5,7 @@ use Rattle.lp_calculus.specs.Term.{Term, atom, eigen, substitute}
 use Rattle.lp_calculus.specs.Convert.{steps}
 use Rattle.lp_term.specs.declared.reduce.TermRefusal.{TermRefusal}
 use Rattle.lp_term.proofs.Frames.{some_of}
-use Rattle.lp_model.specs.Look.{Look, an_abs, rigid, flexible, looked, pattern_of}
+use Rattle.lp_model.specs.Look.{Look, an_abs, rigid, flexible, looked, pattern_of, weak_step, top_normal}
 use Rattle.lp_model.specs.Scan.{Side, is_side, allows_head, Pattern, Scanned, broken, whole, above, beside, fits, pattern, scanned_pattern}
 use Rattle.lp_lemmas.proofs.Booleans.{or_false_left}
 use Rattle.lp_pattern.specs.declared.fault.PatternRefusal.{PatternRefusal}
@@ -14,10 +14,10 @@ use Rattle.lp_pattern.specs.declared.fault.PatternRefusal.TheVariants as refusal
 use Rattle.lp_pattern.specs.declared.patterns.Arguments.{Arguments}
 use Rattle.lp_pattern.specs.declared.scan.Scanned.{Scanned as Noted}
 use Rattle.lp_pattern.specs.Refusing.{IsOfTerm}
-use Rattle.lp_pattern.specs.Seen.{weak_step, IsDeepWhere}
+use Rattle.lp_pattern.specs.Seen.{IsDeepWhere}
 use Rattle.lp_pattern.specs.Scanning.{all_fit, Adds, IsBroken}
 use Rattle.lp_pattern.specs.Stripping.{IsPattern, HasNoPattern, eigens_of}
-use Rattle.lp_pattern.specs.TopLooks.{top_normal, top_look, scan_top, scan_seen, scan_tops}
+use Rattle.lp_pattern.specs.TopLooks.{top_look, scan_top, scan_seen, scan_tops}
 use Rattle.lp_pattern.specs.Visiting.{Part, scan_parts, Merged, IsRestOf, IsScanned, Fails, Exceeds, IsStopped}
 use Rattle.lp_pattern.proofs.Compares.{from_bind, from_map}
 use Rattle.lp_pattern.proofs.TopScans.{top_is}

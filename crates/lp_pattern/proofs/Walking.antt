@@ -19,7 +19,7 @@ use Rattle.lp_term.proofs.Several.{steps_then}
 use Rattle.lp_term.proofs.Contract.{last_of}
 use Rattle.lp_term.proofs.Walks.{trees-push, trees_stay, map_map}
 use Rattle.lp_model.specs.Pair.{Closing, closed}
-use Rattle.lp_model.specs.Look.{rigid, look}
+use Rattle.lp_model.specs.Look.{rigid, look, weak_step}
 use Rattle.lp_lemmas.proofs.Options.{IsSome_from}
 use Rattle.lp_lemmas.proofs.Lists.{map_reverse}
 use Rattle.lp_pattern.specs.declared.bindings.Bindings.{Bindings}
@@ -27,7 +27,7 @@ use Rattle.lp_pattern.specs.declared.look.Head.{Head}
 use Rattle.lp_pattern.specs.declared.look.Looked.{Looked}
 use Rattle.lp_pattern.specs.declared.look.Spine.{Spine}
 use Rattle.lp_pattern.specs.Under.{ValueIs, TypeIs, AreTypes, IsReading, under, below}
-use Rattle.lp_pattern.specs.Seen.{IsRigid, IsHead, IsLooked, Stands, IsReachedWithin, IsDeepWhere, IsEndedHead, IsEnded, seen, Sees, weak_step, at_hand, Follows}
+use Rattle.lp_pattern.specs.Seen.{IsRigid, IsHead, IsLooked, Stands, IsReachedWithin, IsDeepWhere, IsEndedHead, IsEnded, seen, Sees, at_hand, Follows}
 use Rattle.lp_pattern.specs.Turning.{IsOpenReading}
 use Rattle.lp_pattern.proofs.Looking.{closed_apply, closed_redex, closed_value, one_step, look_later, look_abs, look_ended}
 

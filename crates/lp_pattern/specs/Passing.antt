@@ -6,10 +6,11 @@ use Rattle.lp_calculus.specs.Fill.{close}
 use Rattle.lp_term.specs.Nodes.{Nodes}
 use Rattle.lp_model.specs.Pair.{Closing}
 use Rattle.lp_model.specs.Scan.{Side}
+use Rattle.lp_model.specs.Look.{weak_step}
 use Rattle.lp_pattern.specs.declared.scan.Visit.{Visit}
 use Rattle.lp_pattern.specs.Behind.{at_number}
 use Rattle.lp_pattern.specs.Cleaning.{IsClean}
-use Rattle.lp_pattern.specs.Seen.{weak_step, IsRigid}
+use Rattle.lp_pattern.specs.Seen.{IsRigid}
 use Rattle.lp_pattern.specs.Stripping.{read_at}
 use Rattle.lp_pattern.specs.Visiting.{Part}
 

@@ -5,8 +5,8 @@ use Rattle.lp_calculus.specs.Convert.{steps}
 use Rattle.lp_calculus.specs.Fill.{Within, Binding, put_all}
 use Rattle.lp_model.specs.Types.{TypeBinding}
 use Rattle.lp_model.specs.Pair.{Closing, closed, put_types_in}
+use Rattle.lp_model.specs.Look.{weak_step}
 use Rattle.lp_pattern.specs.declared.bindings.Bindings.{Bindings}
-use Rattle.lp_pattern.specs.Seen.{weak_step}
 
 -- each variable has its level, and a number below the next one
 abbrev pub Known : (levels : ℕ → ℕ) → (next : ℕ) → Atom → Type 0

@@ -3,7 +3,7 @@ use Rattle.std.specs.Prelude.{◌≡◌, ℕ, ◌+◌, ◌<◌, ◌≤◌, ◌&&
 use Rattle.lp_calculus.specs.Convert.{steps}
 use Rattle.lp_term.specs.Nodes.{Nodes, tree}
 use Rattle.lp_term.specs.declared.node.TermId.{TermId}
-use Rattle.lp_model.specs.Look.{Look, an_abs, rigid, flexible}
+use Rattle.lp_model.specs.Look.{Look, an_abs, rigid, flexible, weak_step}
 use Rattle.lp_model.specs.Pair.{Pair, Closing}
 use Rattle.lp_model.specs.Scan as scan
 use Rattle.lp_model.specs.Rule.{Verdict, fails, gives, binds, delays, Ruled, pattern_side}
@@ -13,7 +13,6 @@ use Rattle.lp_pattern.specs.declared.look.Looked.{Looked}
 use Rattle.lp_pattern.specs.declared.rules.Verdict.{Verdict as Taken}
 use Rattle.lp_pattern.specs.declared.side.Side.{Side}
 use Rattle.lp_pattern.specs.Reading.{side_of}
-use Rattle.lp_pattern.specs.Seen.{weak_step}
 use Rattle.lp_pattern.specs.Under.{under, below}
 
 -- what was seen of a term

@@ -1,29 +1,19 @@
 -- What a look at a term under bindings comes to.
 use Rattle.std.specs.Prelude.{◌≡◌, ℕ, suc, ◌+◌, ◌<◌, ◌≤◌, nat_eq, length, List, [], map, All, Option, Some, None, IfSome, IsSome, option_map}
 use Rattle.indexmap.specs.IndexMap.{get}
-use Rattle.lp_calculus.specs.Term.{Term, index, atom, abs, app, apply, constant, integer, text, eigen, logic, param, substitute}
-use Rattle.lp_calculus.specs.Convert.{option_term, steps}
+use Rattle.lp_calculus.specs.Term.{Term, index, atom, abs, app, apply, constant, integer, text, eigen, logic, param}
+use Rattle.lp_calculus.specs.Convert.{steps}
 use Rattle.lp_term.specs.Nodes.{Nodes, tree}
 use Rattle.lp_term.specs.Walk.{trees}
 use Rattle.lp_term.specs.declared.node.TermId.{TermId}
 use Rattle.lp_term.specs.declared.reduce.TermRefusal.{TermRefusal}
 use Rattle.lp_model.specs.Pair.{Closing, closed}
-use Rattle.lp_model.specs.Look.{Look, an_abs, rigid, flexible, head_normal, look}
+use Rattle.lp_model.specs.Look.{Look, an_abs, rigid, flexible, head_normal, look, weak_step}
 use Rattle.lp_pattern.specs.declared.bindings.Bindings.{Bindings}
 use Rattle.lp_pattern.specs.declared.look.Head.{Head}
 use Rattle.lp_pattern.specs.declared.look.Looked.{Looked}
 use Rattle.lp_pattern.specs.declared.look.Spine.{Spine}
 use Rattle.lp_pattern.specs.Under.{under, below}
-
--- the step of leftmost head reduction that leaves an abstraction as it is
-abbrev pub weak_step : Term → Option Term
-weak_step (index i) = None
-weak_step (atom a) = None
-weak_step (abs b) = None
-weak_step (app (abs b) u) = Some (substitute u b)
-weak_step (app (index i) u) = None
-weak_step (app (atom a) u) = None
-weak_step (app (app t v) u) = option_term (λ s. app s u) (weak_step (app t v))
 
 abbrev pub IsRigid : Term → Type 0
 IsRigid (index i) = Unit {0}

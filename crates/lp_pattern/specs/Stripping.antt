@@ -8,14 +8,13 @@ use Rattle.lp_term.specs.Nodes.{Nodes, tree}
 use Rattle.lp_term.specs.declared.node.TermId.{TermId}
 use Rattle.lp_term.specs.declared.reduce.TermRefusal.{TermRefusal}
 use Rattle.lp_model.specs.Eigens.{beta_normal, eigen_of, as_eigen}
-use Rattle.lp_model.specs.Look.{pattern_of}
+use Rattle.lp_model.specs.Look.{pattern_of, weak_step}
 use Rattle.lp_model.specs.Pair.{Closing}
 use Rattle.lp_pattern.specs.declared.look.Head.{Head}
 use Rattle.lp_pattern.specs.declared.look.Looked.{Looked}
 use Rattle.lp_pattern.specs.declared.patterns.Arguments.{Arguments}
 use Rattle.lp_pattern.specs.declared.patterns.Name.{Name}
 use Rattle.lp_pattern.specs.declared.patterns.Wanted.{Wanted}
-use Rattle.lp_pattern.specs.Seen.{weak_step}
 use Rattle.lp_pattern.specs.Under.{under}
 
 -- what an index stands for below abstractions that were opened, of which the outermost is the eigenconstant of the level plus one

@@ -1,13 +1,8 @@
 -- Looks that leave an abstraction as it is, and the definition's scan by them. Each look takes fewer than `limit` steps.
 use Rattle.std.specs.Prelude.{ℕ, zero, suc, not, Bool, true, false, ◌||◌, List, [], ◌∷◌, Option, Some, None, option_map, nat_lt}
 use Rattle.lp_calculus.specs.Term.{Term, atom, eigen, substitute}
-use Rattle.lp_model.specs.Look.{◌>>=◌, Look, an_abs, rigid, flexible, looked, pattern_of}
+use Rattle.lp_model.specs.Look.{◌>>=◌, Look, an_abs, rigid, flexible, looked, pattern_of, top_normal}
 use Rattle.lp_model.specs.Scan.{Side, is_side, allows_head, Scanned, broken, whole, above, beside, scanned_pattern}
-use Rattle.lp_pattern.specs.Seen.{weak_step}
-
-abbrev pub top_normal : ℕ → Term → Option Term
-top_normal zero t = None
-top_normal (suc n) t = elim (weak_step t) [ None ↦ Some t | Some s ↦ top_normal n s ]
 
 abbrev pub top_look : ℕ → Term → Option Look
 top_look n t = option_map (λ s. looked s []) (top_normal n t)

@@ -10,6 +10,7 @@ use Rattle.lp_model.specs.Types.{TypeBinding}
 use Rattle.lp_model.specs.Pair.{Pair, Closing, closed, put_types_in}
 use Rattle.lp_model.specs.Rule.{Verdict, fails, gives, binds, delays}
 use Rattle.lp_model.specs.declared.answer.Pair.{Pair as Numbers}
+use Rattle.lp_model.specs.Look.{weak_step}
 use Rattle.lp_pattern.specs.declared.bindings.Bindings.{Bindings}
 use Rattle.lp_pattern.specs.declared.rules.Verdict.{Verdict as Taken}
 use Rattle.lp_pattern.specs.Behind.{with_types}
@@ -17,7 +18,6 @@ use Rattle.lp_pattern.specs.Filling.{IsStill}
 use Rattle.lp_pattern.specs.Growing.{IsPairOf}
 use Rattle.lp_pattern.specs.Putting.{Known}
 pub use Rattle.lp_pattern.specs.Putting.{IsFirm}
-use Rattle.lp_pattern.specs.Seen.{weak_step}
 use Rattle.lp_pattern.specs.Stripping.{IsShut}
 use Rattle.lp_pattern.specs.Under.{IsReading, under}
 

@@ -1,7 +1,7 @@
 -- What is left to try: all candidates of a call, those behind one of them, and those of an alternative to which the search goes back.
 use Rattle.std.proofs.Common.{◌≡◌, ℕ, List, [], ◌∷◌, refl, sym, subst, Option, Some, nat_eq}
 use Rattle.std.specs.HashMap.{get}
-use Rattle.lp_calculus.specs.Term.{Atom, Term}
+use Rattle.lp_calculus.specs.Term.{Term}
 use Rattle.lp_model.specs.Flat.{Clause, Clauses}
 use Rattle.lp_model.specs.Search.{candidates}
 use Rattle.lp_plain.specs.declared.candidates.Candidate.{Candidate}
@@ -30,15 +30,15 @@ IsFirst m call found = (older : List (Option ℕ)) (assumed : Option ℕ) (ns ks
     AreLeft m.bank m.table.rules.items older (first_in m call.head) call.key found (in_turn m.bank m.table.rules.items call.key ns ks)
 
 pub first_tries : (m : Machine) (call : Call) (found : Option Candidate) → IsFirst m call found → (ar : ℕ → ℕ) (css : List Clauses)
-    (before : List Clause) (t : Term) (key : Option Atom) → HasProgram m css → HasAssumed (lists_of m) call.place.assumed before →
-    IsCallOf ar m.bank call t key → AreOfProgram ar (all_clauses css) → AreApplied ar before → AreTries (lists_of m) (first_in m call.head) call.key found (candidates (all_clauses css) before t key)
-first_tries m call found f ar css before t key p a c wp wb =
+    (before : List Clause) (t : Term) → HasProgram m css → HasAssumed (lists_of m) call.place.assumed before →
+    IsCallOf ar m.bank call t → AreOfProgram ar (all_clauses css) → AreApplied ar before → AreTries (lists_of m) (first_in m call.head) call.key found (candidates (all_clauses css) before t)
+first_tries m call found f ar css before t p a c wp wb =
     let u = a call.head in
     let ks = program_for m.bank m.table.rules.items call.head (numbers p.spans) in
     record {
       left = in_turn m.bank m.table.rules.items call.key u.numbers ks;
       found_left = f (links m.assumptions.items) u.newest u.numbers ks u.found u.chain (program_chain m css p call.head);
-      clauses = candidates_are (lists_of m) ar call.head call.key t key p.spans css before u.numbers p.clauses c.head c.arity wp wb c.key_is u.clauses;
+      clauses = candidates_are (lists_of m) ar call.head call.key t p.spans css before u.numbers p.clauses c.head c.arity wp wb c.key_is u.clauses;
     }
 
 -- the one that is tried is the first of those that are left

@@ -178,40 +178,40 @@ no_eigen_head k (atom (param i t)) h = refl
 no_eigen_head k (abs b) h = refl
 no_eigen_head k (app t v) h = refl
 
-module _ (b : Nodes) (t : Shown) (ar : ℕ → ℕ) (goal : Term) (key : Option Key) (a : Option Atom) (known : IsKey b key a) (arity : HasArity ar (head_of goal)) where
+module _ (b : Nodes) (t : Shown) (ar : ℕ → ℕ) (goal : Term) (key : Option Key) (known : IsKey b key (first_key (arguments goal))) (arity : HasArity ar (head_of goal)) where
   tests_of : (c k : ℕ) (x : Clause) → head_term (head_of goal) ≡ Some (head.Constant c) → HasArity ar (head_in x) → IsRule b Never t k x → lets_pass
-      goal a x ≡ (is_of b t.rules c k && passes b t.rules key k)
+      goal x ≡ (is_of b t.rules c k && passes b t.rules key k)
   tests_of c k (clause n vs u body) e w r =
       let q : is_of b t.rules c k ≡ is_head (head.Constant c) (head_term (head_of u)) = ap (λ o. is_number c (constant_at b o)) r.1 ∙ ap
       (λ z. is_number c (constant_of z)) r.3.head ∙ constant_is_for c (head_of u) in
-      let p : passes b t.rules key k ≡ may_meet (first_key (arguments u)) a = ap (meets_at b key) r.1 ∙ meets_is b r.0.key key (first_key (arguments u)) a r.3.key known in
-      (λ i. heads_same ar (head_of u) (head_of goal) (head.Constant c) w arity e i && may_meet (first_key (arguments u)) a) ∙ (λ i. sym q i && sym p i)
+      let p : passes b t.rules key k ≡ may_meet (first_key (arguments u)) (first_key (arguments goal)) = ap (meets_at b key) r.1 ∙ meets_is b r.0.key key (first_key (arguments u)) (first_key (arguments goal)) r.3.key known in
+      (λ i. heads_same ar (head_of u) (head_of goal) (head.Constant c) w arity e i && may_meet (first_key (arguments u)) (first_key (arguments goal))) ∙ (λ i. sym q i && sym p i)
 
   program_passes : (c : ℕ) (ks : List ℕ) (cs : List Clause) → head_term (head_of goal) ≡ Some (head.Constant c) → AreOfProgram ar cs → RulesAt b t ks
-      cs → RulesAt b t (filter (passes b t.rules key) (filter (is_of b t.rules c) ks)) (filter (lets_pass goal a) cs)
+      cs → RulesAt b t (filter (passes b t.rules key) (filter (is_of b t.rules c) ks)) (filter (lets_pass goal) cs)
   program_passes c [] [] e w h = tt
   program_passes c [] (x ∷ cs) e w h = absurd h
   program_passes c (k ∷ ks) [] e w h = absurd h
   program_passes c (k ∷ ks) (x ∷ cs) e w h =
       subst (λ d. RulesAt b t (filter (passes b t.rules key) (filter (is_of b t.rules c) (k ∷ ks)))
-      (cond d (x ∷ filter (lets_pass goal a) cs) (filter (lets_pass goal a) cs))) (sym (tests_of c k x e w.0 h.0))
+      (cond d (x ∷ filter (lets_pass goal) cs) (filter (lets_pass goal) cs))) (sym (tests_of c k x e w.0 h.0))
       (go (is_of b t.rules c k) (passes b t.rules key k) refl (program_passes c ks cs e w.2 h.1))
     where
-      go : (q p : Bool) → passes b t.rules key k ≡ p → RulesAt b t (filter (passes b t.rules key) (filter (is_of b t.rules c) ks)) (filter (lets_pass goal a) cs) →
+      go : (q p : Bool) → passes b t.rules key k ≡ p → RulesAt b t (filter (passes b t.rules key) (filter (is_of b t.rules c) ks)) (filter (lets_pass goal) cs) →
           RulesAt b t (filter (passes b t.rules key) (cond q (k ∷ filter (is_of b t.rules c) ks) (filter (is_of b t.rules c) ks)))
-          (cond (q && p) (x ∷ filter (lets_pass goal a) cs) (filter (lets_pass goal a) cs))
+          (cond (q && p) (x ∷ filter (lets_pass goal) cs) (filter (lets_pass goal) cs))
       go false p f r = r
       go true true f r =
           subst (λ z. RulesAt b t (cond z (k ∷ filter (passes b t.rules key) (filter (is_of b t.rules c) ks))
-          (filter (passes b t.rules key) (filter (is_of b t.rules c) ks))) (x ∷ filter (lets_pass goal a) cs)) (sym f) (h.0, r)
+          (filter (passes b t.rules key) (filter (is_of b t.rules c) ks))) (x ∷ filter (lets_pass goal) cs)) (sym f) (h.0, r)
       go true false f r =
           subst (λ z. RulesAt b t (cond z (k ∷ filter (passes b t.rules key) (filter (is_of b t.rules c) ks))
-          (filter (passes b t.rules key) (filter (is_of b t.rules c) ks))) (filter (lets_pass goal a) cs)) (sym f) r
+          (filter (passes b t.rules key) (filter (is_of b t.rules c) ks))) (filter (lets_pass goal) cs)) (sym f) r
 
-  none_passes : (k : ℕ) (cs : List Clause) → head_of goal ≡ atom (eigen k) → AreOfProgram ar cs → filter (lets_pass goal a) cs ≡ []
+  none_passes : (k : ℕ) (cs : List Clause) → head_of goal ≡ atom (eigen k) → AreOfProgram ar cs → filter (lets_pass goal) cs ≡ []
   none_passes k [] e w = refl
   none_passes k (clause n vs u body ∷ cs) e w =
-      ap (λ z. cond (z && may_meet (first_key (arguments u)) a) (clause n vs u body ∷ filter (lets_pass goal a) cs) (filter (lets_pass goal a) cs))
+      ap (λ z. cond (z && may_meet (first_key (arguments u)) (first_key (arguments goal))) (clause n vs u body ∷ filter (lets_pass goal) cs) (filter (lets_pass goal) cs))
       (ap (same_name (head_of u)) e ∙ no_eigen_head k (head_of u) w.1) ∙ none_passes k cs e w.2
 
 program_candidates : (l : Lists) (ks : List ℕ) (cs : List Clause) → RulesAt l.bank (shown l.table) ks cs → AreCandidates l (map (λ i. candidate.Program i) ks) cs
@@ -236,20 +236,20 @@ eigen_of_head k (atom (param i t)) e = absurd (cc)
 eigen_of_head k (abs b) e = absurd (cc)
 eigen_of_head k (app t v) e = absurd (cc)
 
-pub candidates_are : (l : Lists) (ar : ℕ → ℕ) (h : Head) (key : Option Key) (goal : Term) (a : Option Atom) (ss : List Span) (css : List Clauses)
+pub candidates_are : (l : Lists) (ar : ℕ → ℕ) (h : Head) (key : Option Key) (goal : Term) (ss : List Span) (css : List Clauses)
     (before : List Clause) (ns : List ℕ) → AreProgramOf l.bank l.table ss css → head_term (head_of goal) ≡ Some h → HasArity ar (head_of goal) →
-    AreOfProgram ar (all_clauses css) → AreApplied ar before → IsKey l.bank key a → AreAssumed l ns (filter (is_for h) before) →
-    AreCandidates l (in_turn l.bank l.table.rules.items key ns (program_for l.bank l.table.rules.items h (numbers ss))) (candidates (all_clauses css) before goal a)
-candidates_are l ar h key goal a ss css before ns p e w wp wb k found =
+    AreOfProgram ar (all_clauses css) → AreApplied ar before → IsKey l.bank key (first_key (arguments goal)) → AreAssumed l ns (filter (is_for h) before) →
+    AreCandidates l (in_turn l.bank l.table.rules.items key ns (program_for l.bank l.table.rules.items h (numbers ss))) (candidates (all_clauses css) before goal)
+candidates_are l ar h key goal ss css before ns p e w wp wb k found =
     candidates_append l (map (λ i. candidate.Assumed i) ns) (map (λ i. candidate.Program i)
     (filter (passes l.bank l.table.rules.items key) (program_for l.bank l.table.rules.items h (numbers ss)))) (filter (has_head goal) before)
-    (filter (lets_pass goal a) (all_clauses css))
+    (filter (lets_pass goal) (all_clauses css))
     (assumed_candidates l ns (filter (has_head goal) before) (subst (AreAssumed l ns) (sym (filter_heads ar goal h before wb w e)) found)) (of_program h e)
   where
     of_program : (x : Head) → head_term (head_of goal) ≡ Some x → AreCandidates l (map (λ i. candidate.Program i)
         (filter (passes l.bank l.table.rules.items key) (program_for l.bank l.table.rules.items x (numbers ss))))
-        (filter (lets_pass goal a) (all_clauses css))
+        (filter (lets_pass goal) (all_clauses css))
     of_program (head.Constant c) q =
-        program_candidates l (filter (passes l.bank l.table.rules.items key) (filter (is_of l.bank l.table.rules.items c) (numbers ss))) (filter (lets_pass goal a) (all_clauses css))
-        (program_passes l.bank (shown l.table) ar goal key a k w c (numbers ss) (all_clauses css) q wp (program_at l.bank l.table ss css p))
-    of_program (head.Eigen n) q = subst (AreCandidates l []) (sym (none_passes l.bank (shown l.table) ar goal key a k w n (all_clauses css) (eigen_of_head n (head_of goal) q) wp)) tt
+        program_candidates l (filter (passes l.bank l.table.rules.items key) (filter (is_of l.bank l.table.rules.items c) (numbers ss))) (filter (lets_pass goal) (all_clauses css))
+        (program_passes l.bank (shown l.table) ar goal key k w c (numbers ss) (all_clauses css) q wp (program_at l.bank l.table ss css p))
+    of_program (head.Eigen n) q = subst (AreCandidates l []) (sym (none_passes l.bank (shown l.table) ar goal key k w n (all_clauses css) (eigen_of_head n (head_of goal) q) wp)) tt

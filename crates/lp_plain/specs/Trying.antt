@@ -1,11 +1,12 @@
 -- Candidates as the clauses of the definition that are tried for a goal.
 use Rattle.std.specs.Prelude.{◌≡◌, ℕ, List, [], ◌∷◌, ◌++◌, map, length, nat_eq, take, Option, Some}
 use Rattle.std.specs.HashMap.{get}
-use Rattle.lp_calculus.specs.Spine.{head_of}
-use Rattle.lp_calculus.specs.Term.{Term, Atom, index, atom, abs, app, constant, integer, text, eigen, logic, param}
+use Rattle.lp_calculus.specs.Spine.{arguments, head_of}
+use Rattle.lp_calculus.specs.Term.{Term, index, atom, abs, app, constant, integer, text, eigen, logic, param}
 use Rattle.lp_term.specs.Nodes.{Nodes}
 use Rattle.lp_model.specs.Branch.{Branch, Entry, Task, Try}
 use Rattle.lp_model.specs.Flat.{Clause, clause, Clauses, clause_list}
+use Rattle.lp_model.specs.Search.{first_key}
 use Rattle.lp_plain.specs.declared.candidates.Candidate.{Candidate}
 use Rattle.lp_plain.specs.declared.candidates.Candidate.TheVariants as candidate
 use Rattle.lp_plain.specs.declared.head.Head.{Head}
@@ -91,11 +92,11 @@ pub record HasProgram (m : Machine) (css : List Clauses) : Type 0 where
 abbrev pub first_in : Machine → Head → Option ℕ
 first_in m h = first_for (λ c. get nat_eq m.index c) h
 
--- the call is this goal, with this key of its first argument
-pub record IsCallOf (ar : ℕ → ℕ) (b : Nodes) (call : Call) (t : Term) (key : Option Atom) : Type 0 where
+-- the call is of this goal: its head, and the key of its first argument
+pub record IsCallOf (ar : ℕ → ℕ) (b : Nodes) (call : Call) (t : Term) : Type 0 where
   pub head : head_term (head_of t) ≡ Some call.head
   pub arity : HasArity ar (head_of t)
-  pub key_is : IsKey b call.key key
+  pub key_is : IsKey b call.key (first_key (arguments t))
 
 -- one clause is tried, and the others are left
 pub record IsTried (l : Lists) (first : Option ℕ) (key : Option Key) (candidate : Candidate) (found : Option Candidate) (cs : List Clause) : Type 0 where

@@ -1,7 +1,7 @@
 // What a search works on: one bank and one list of bindings for all branches. An alternative holds what leads back to
 // its branch.
 ghost use Rattle.std.specs.Prelude.{◌≡◌, ℕ, ◌∷◌, ◌++◌, [], List, OnOk, IfOk, IfSome, length, nat_lt, take, slice_get, Option, None, Some};
-ghost use Rattle.lp_calculus.specs.Term.{Atom, Term};
+ghost use Rattle.lp_calculus.specs.Term.{Term};
 ghost use Rattle.lp_plain.specs.declared.choice.Choice.{Choice};
 ghost use Rattle.lp_model.specs.Branch.{Entry};
 ghost use Rattle.lp_model.specs.Flat.{Clause, Clauses, Goal};
@@ -152,8 +152,8 @@ impl Machine {
 
     /// The first of the clauses that are tried for a call.
     pub(crate) fn first_candidate(&self, call: &Call) -> Result<Option<Candidate>, Memory>
-        ensures tries { IfOk result (λ found. (ar : ℕ → ℕ) (css : List Clauses) (before : List Clause) (t : Term) (key : Option Atom) → HasProgram self.now css → HasAssumed (lists_of self.now) call.now.place.assumed before → IsCallOf ar self.now.bank call.now t key →
-            AreOfProgram ar (all_clauses css) → AreApplied ar before → AreTries (lists_of self.now) (first_in self.now call.now.head) call.now.key found (candidates (all_clauses css) before t key)) }
+        ensures tries { IfOk result (λ found. (ar : ℕ → ℕ) (css : List Clauses) (before : List Clause) (t : Term) → HasProgram self.now css → HasAssumed (lists_of self.now) call.now.place.assumed before → IsCallOf ar self.now.bank call.now t →
+            AreOfProgram ar (all_clauses css) → AreApplied ar before → AreTries (lists_of self.now) (first_in self.now call.now.head) call.now.key found (candidates (all_clauses css) before t)) }
     {
         let found = first_candidate(
             &self.bank,

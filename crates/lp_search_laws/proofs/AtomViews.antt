@@ -21,7 +21,7 @@ use Rattle.lp_model.specs.Branch.{Entry, Branch, Task}
 use Rattle.lp_model.specs.Values.{evaluate}
 use Rattle.lp_model.specs.Answers.{Query, AnswerTyping, Closes, over}
 use Rattle.lp_model.specs.Proofs.{by_failure, Declared, IsFormula, IsAtomHead, RootedBy, trivially, both_sides, left_side, right_side, at_witness, for_all, under_assumption, equally, by_arithmetic, by_clause, Leaves, ProvableBy}
-use Rattle.lp_model.specs.Search.{with_goals, look_atom, look_constant, tries, goal_key, equated, assigned, compared}
+use Rattle.lp_model.specs.Search.{with_goals, look_atom, look_constant, tries, goal_looked, equated, assigned, compared}
 use Rattle.lp_proof_laws.proofs.Uniform.Forms.{apply_arguments}
 use Rattle.lp_proof_laws.proofs.Uniform.Roots.{rooted_by, head_apply}
 use Rattle.lp_search_laws.specs.Holds.{Holds}
@@ -150,7 +150,7 @@ module _ {L : Leaves} (n : ℕ) (d : Declared) (std : IsSetting L d) (P : List C
 
   -- what is owed for the atoms that are called
   module _ (height : ℕ)
-      (tried : IsAtomHead (head_of u) → Stands (tries P u e (with_goals b es) height (goal_key n (arguments u))))
+      (tried : IsAtomHead (head_of u) → Stands (tries P e (with_goals b es) height (goal_looked n u)))
       (equal : (T : Ty) (l w : Term) → u ≡ two 8 (T ∷ []) l w → Stands (equated unit_limit n e.level l w (with_goals b es)))
       (assign : (T : Ty) (l w : Term) → u ≡ two 9 (T ∷ []) l w → Stands (assigned unit_limit n e.level l (with_goals b es) (evaluate n w)))
       (compare : (c : ℕ) (l w : Term) → 10 ≤ c → c ≤ 13 → u ≡ two c [] l w → Stands (compared c (with_goals b es) (evaluate n l) (evaluate n w))) where
@@ -163,7 +163,7 @@ module _ {L : Leaves} (n : ℕ) (d : Declared) (std : IsSetting L d) (P : List C
         ifs : (p q' r' : Bool) (A B C D : List Task) → p ≡ false → q' ≡ false → r' ≡ false → (if p then A else (if q' then B else (if r' then C else D))) ≡ D
         ifs p q' r' A B C D e1 e2 e3 = ap (λ v. if v then A else (if q' then B else (if r' then C else D))) e1 ∙ ap (λ v. if v then B else (if r' then C else D)) e2 ∙ ap (λ v. if v then C else D) e3
 
-        go : (us : List Term) → look_constant unit_limit n P height e (with_goals b es) u c us ≡ tries P u e (with_goals b es) height (goal_key n (arguments u))
+        go : (us : List Term) → look_constant unit_limit n P height e (with_goals b es) u c us ≡ tries P e (with_goals b es) height (goal_looked n u)
         go [] = refl
         go (v ∷ []) = refl
         go (v ∷ w ∷ []) =

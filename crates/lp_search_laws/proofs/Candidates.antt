@@ -1,14 +1,14 @@
 -- An atom is provable exactly by the candidates: its proof begins with a clause, a clause that serves for it passes their tests, and a candidate that
 -- serves begins a proof.
 use Rattle.lp_proof_laws.proofs.Uniform.Settings.{IsSetting}
-use Rattle.std.proofs.Common.{◌≡◌, ℕ, zero, suc, ◌+◌, ◌≤◌, List, [], ◌∷◌, ◌++◌, map, length, ◌∙◌, refl, sym, ap, subst as transport, arith, inl, inr, Bool, true, false, Option, Some}
+use Rattle.std.proofs.Common.{◌≡◌, ℕ, zero, suc, ◌+◌, ◌≤◌, List, [], ◌∷◌, ◌++◌, map, length, ◌∙◌, refl, sym, ap, subst as transport, arith, inl, inr, Bool, true, false, Some}
 use Rattle.std.specs.Prelude.{◌⊎◌, cond, filter, slice_get}
 use Rattle.lp_calculus.specs.Types.{Ty}
-use Rattle.lp_calculus.specs.Term.{Term, Atom, index, atom, abs, app, apply}
+use Rattle.lp_calculus.specs.Term.{Term, index, atom, abs, app, apply}
 use Rattle.lp_calculus.specs.Spine.{head_of, arguments}
 use Rattle.lp_lemmas.specs.Each.{AnyOf, EachOf}
 use Rattle.lp_model.specs.Pair.{Closing, closed}
-use Rattle.lp_model.specs.Search.{candidates, goal_key, has_head, passes}
+use Rattle.lp_model.specs.Search.{candidates, has_head, passes}
 use Rattle.lp_model.specs.Flat.{Clause, clause}
 use Rattle.lp_model.specs.Flatten.{ClauseFormula}
 use Rattle.lp_model.specs.Proofs.{by_failure, Declared, IsFormula, IsAtomHead, Back, RootedBy, trivially, both_sides, left_side, right_side, at_witness, for_all, under_assumption, equally, by_arithmetic, by_clause, Leaves, ProvableBy}
@@ -129,35 +129,35 @@ focus_proves {L} d E R G i D h g r = record { proof = Back i r.types r.focus.foc
 serving_has_head : (L : Leaves) (d : Declared) (E : List Ty) (R : List ClauseFormula) (c : Closing) (t : Term) (x : Clause) → IsAssumedClause d E c x → IsAtomHead (head_of t) → Serves L d E R c x (closed c t) → has_head t x ≡ true
 serving_has_head L d E R c t (clause k vs h b) p i s = head_passes _ (with_own k s.types c) c h t p.head i s.applies.head
 
-serving_passes : (L : Leaves) (d : Declared) (E : List Ty) (R : List ClauseFormula) (c : Closing) (n : ℕ) (t : Term) (key : Option Atom) (x : Clause) → IsProgramClause d x → IsAtomHead (head_of t) → goal_key n (arguments t) ≡ Some key → Serves L d E R c x (closed c t) → passes t key x ≡ true
-serving_passes L d E R c n t key (clause k vs h b) p i e s =
-    and_true _ _ (head_passes _ (with_own k s.types c) c h t p.head i s.applies.head) (first_passes _ (with_own k s.types c) c n h t key p.head i e s.applies.head)
+serving_passes : (L : Leaves) (d : Declared) (E : List Ty) (R : List ClauseFormula) (c : Closing) (t : Term) (x : Clause) → IsProgramClause d x → IsAtomHead (head_of t) → Serves L d E R c x (closed c t) → passes t x ≡ true
+serving_passes L d E R c t (clause k vs h b) p i s =
+    and_true _ _ (head_passes _ (with_own k s.types c) c h t p.head i s.applies.head) (first_passes _ (with_own k s.types c) c h t p.head i s.applies.head)
 
-module _ {L : Leaves} (d : Declared) (std : IsSetting L d) (E : List Ty) (P A : List Clause) (c : Closing) (n : ℕ) (t : Term) (key : Option Atom) (ps : EachOf (IsProgramClause d) P) (as' : EachOf (IsAssumedClause d E c) A) (i : IsAtomHead (head_of t)) where
+module _ {L : Leaves} (d : Declared) (std : IsSetting L d) (E : List Ty) (P A : List Clause) (c : Closing) (t : Term) (ps : EachOf (IsProgramClause d) P) (as' : EachOf (IsAssumedClause d E c) A) (i : IsAtomHead (head_of t)) where
   abbrev R : List ClauseFormula
   R = clauses_at P A c
 
   abbrev G : Term
   G = closed c t
 
-  pub some_candidate : IsFormula d E (closed c t) → goal_key n (arguments t) ≡ Some key → Holds L d E (clauses_at P A c) c t → AnyOf (λ x. Serves L d E (clauses_at P A c) c x (closed c t)) (candidates P A t key)
-  some_candidate f e p =
+  pub some_candidate : IsFormula d E (closed c t) → Holds L d E (clauses_at P A c) c t → AnyOf (λ x. Serves L d E (clauses_at P A c) c x (closed c t)) (candidates P A t)
+  some_candidate f p =
       let b = atom_begins d std E R G (atom_closed c t i) f p in
       elim (get_split (map sentence_of P) (assumed_at c A) b.place b.clause b.is) [
         | inl g ↦
             let x = got_map sentence_of P b.place b.clause g in
             let q = each_at (IsProgramClause d) P x.place x.element ps x.is in
             let s = sentence_serves d std E R c G (atom_closed c t i) x.element q (transport (λ D. IsInFocus L d E R D G) (sym x.holds) b.focus) in
-            any_back (λ y. Serves L d E R c y G) (filter (has_head t) A) (filter (passes t key) P) (into_filter (λ y. Serves L d E R c y G) (passes t key) P x.place x.element x.is (serving_passes _ d E R c n t key x.element q i e s) s)
+            any_back (λ y. Serves L d E R c y G) (filter (has_head t) A) (filter (passes t) P) (into_filter (λ y. Serves L d E R c y G) (passes t) P x.place x.element x.is (serving_passes _ d E R c t x.element q i s) s)
         | inr g ↦
             let x = got_assumed c A g.0 b.clause g.2 in
             let q = each_at (IsAssumedClause d E c) A x.place x.clause as' x.is in
             let s = assumed_serves d std E R c G (atom_closed c t i) x.clause q (transport (λ D. IsInFocus L d E R D G) (sym x.made) b.focus) in
-            any_front (λ y. Serves L d E R c y G) (filter (has_head t) A) (filter (passes t key) P) (into_filter (λ y. Serves L d E R c y G) (has_head t) A x.place x.clause x.is (serving_has_head _ d E R c t x.clause q i s) s)
+            any_front (λ y. Serves L d E R c y G) (filter (has_head t) A) (filter (passes t) P) (into_filter (λ y. Serves L d E R c y G) (has_head t) A x.place x.clause x.is (serving_has_head _ d E R c t x.clause q i s) s)
       ]
 
-  pub candidate_proves : AnyOf (λ x. Serves L d E (clauses_at P A c) c x (closed c t)) (candidates P A t key) → Holds L d E (clauses_at P A c) c t
-  candidate_proves h = elim (any_split (λ x. Serves L d E R c x G) (filter (has_head t) A) (filter (passes t key) P) h) [
+  pub candidate_proves : AnyOf (λ x. Serves L d E (clauses_at P A c) c x (closed c t)) (candidates P A t) → Holds L d E (clauses_at P A c) c t
+  candidate_proves h = elim (any_split (λ x. Serves L d E R c x G) (filter (has_head t) A) (filter (passes t) P) h) [
     | inl r ↦
         let x = out_of_filter (λ y. Serves L d E R c y G) (has_head t) A r in
         let q = each_at (IsAssumedClause d E c) A x.place x.element as' x.is in
@@ -165,7 +165,7 @@ module _ {L : Leaves} (d : Declared) (std : IsSetting L d) (E : List Ty) (P A : 
         let g = get_back (map sentence_of P) (assumed_at c A) y.0 ∙ y.1 in
         focus_proves d E R G (length (map sentence_of P) + y.0) (assumed_as c x.element) (atom_closed c t i) g (serves_assumed d std E R c G (atom_closed c t i) x.element q x.holds)
     | inr r ↦
-        let x = out_of_filter (λ y. Serves L d E R c y G) (passes t key) P r in
+        let x = out_of_filter (λ y. Serves L d E R c y G) (passes t) P r in
         let q = each_at (IsProgramClause d) P x.place x.element ps x.is in
         let g = get_front (map sentence_of P) (assumed_at c A) x.place (sentence_of x.element) (get_map sentence_of P x.place x.element x.is) in
         focus_proves d E R G x.place (sentence_of x.element) (atom_closed c t i) g (serves_sentence d std E R c G (atom_closed c t i) x.element q x.holds)

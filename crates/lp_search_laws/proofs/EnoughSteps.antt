@@ -3,7 +3,7 @@ use Rattle.lp_lemmas.specs.Each.{EachOf}
 use Rattle.lp_lemmas.proofs.Each.{each_append}
 use Rattle.lp_search_laws.specs.Written.{StandsIn, StandsInOne, IsWrittenGoal, IsWrittenEntry}
 use Rattle.lp_search_laws.proofs.Stands.{part_typed}
-use Rattle.std.proofs.Common.{◌≡◌, ℕ, ◌+◌, ◌≤◌, List, [], ◌∷◌, map, length, Option, Some, None, ◌∙◌, refl, sym, ap, subst as transport, arith, inl, inr}
+use Rattle.std.proofs.Common.{◌≡◌, ℕ, ◌+◌, ◌≤◌, List, [], ◌∷◌, map, length, Option, Some, ◌∙◌, refl, sym, ap, subst as transport, arith, inl, inr}
 use Rattle.std.specs.Prelude.{option_map, ◌⊎◌, ◌||◌}
 use Rattle.lp_calculus.specs.Types.{Ty, arrow}
 use Rattle.lp_calculus.specs.Term.{Term, index, atom, abs, app, apply, constant, integer, text, eigen, logic, param}
@@ -24,15 +24,16 @@ use Rattle.lp_model.specs.Flat.{Goal, Atomic, Cut, Either, Exists, Forall, Assum
 use Rattle.lp_model.specs.Branch.{Entry, Branch, Task, Go, Try, Stop, Lack, both_written}
 use Rattle.lp_model.specs.Answers.{Query, Variable, over, IsScopedAtom, PairTyping, IsTypedPair}
 use Rattle.lp_model.specs.Proofs.{Declared}
-use Rattle.lp_model.specs.Search.{beta_normals, has_variable, has_type_variable, has_variables, goal_key, key_of}
+use Rattle.lp_model.specs.Search.{beta_normals, has_variable, has_type_variable, has_variables, first_looked}
 use Rattle.std.specs.List.{list_any}
 use Rattle.lp_model.specs.Look.{◌>>=◌}
 use Rattle.lp_unify_laws.specs.Solutions.{instance_typing}
 use Rattle.lp_unify_laws.proofs.TypedInstances.{typings_have_instances, pairs_have_instances}
-use Rattle.lp_unify_laws.proofs.Looks.{head_reduces}
+use Rattle.lp_unify_laws.proofs.Looks.{head_reduces, top_found}
 use Rattle.lp_proof_laws.proofs.Uniform.Forms.{apply_arguments}
+use Rattle.lp_search_laws.proofs.LookedGoals.{looked_more}
 use Rattle.lp_search_laws.proofs.MoreSteps.{normals_more, variables_more}
-use Rattle.lp_unify_laws.proofs.MoreSteps.Scans.{Below, below_map, below_same, head_normal_more, beta_normal_more}
+use Rattle.lp_unify_laws.proofs.MoreSteps.Scans.{Below, below_map, head_normal_more, beta_normal_more}
 use Rattle.lp_unify_laws.proofs.MoreSteps.Solving.{solve_more}
 use Rattle.lp_unify_laws.proofs.NormalForms.Typed.{typed_weighs}
 use Rattle.lp_unify_laws.proofs.Termination.Looks.{head_comes, normal_comes}
@@ -51,10 +52,6 @@ found_more o o' h f = (f.0, h f.0 f.1)
 
 pub evaluate_more : (n m : ℕ) → n ≤ m → (t : Term) → Below (evaluate n t) (evaluate m t)
 evaluate_more n m l t = below_map (beta_normal n t) (beta_normal m t) (λ s. value (eta_normal s)) (beta_normal_more n m l t)
-
-pub key_more : (n m : ℕ) → n ≤ m → (ts : List Term) → Below (goal_key n ts) (goal_key m ts)
-key_more n m l [] = below_same (goal_key n [])
-key_more n m l (t ∷ ts) = below_map (head_normal n t) (head_normal m t) key_of (head_normal_more n m l t)
 
 equate_more : (n m : ℕ) → n ≤ m → (level : ℕ) (b : Branch) (l r : Term) → CanEquate n level b l r → CanEquate m level b l r
 equate_more n m h v b l r f = found_more _ _ (solve_more n m h unit_limit [] (equation l r v) b.pairs b.next) f
@@ -81,7 +78,7 @@ head_more n m h v b (abs t) us f = tt
 head_more n m h v b (app t u) us f = tt
 
 atom_more : (n m : ℕ) → n ≤ m → (level : ℕ) (b : Branch) (u : Term) → AtomHasEnough n level b u → AtomHasEnough m level b u
-atom_more n m h v b u f = record { key = found_more _ _ (key_more n m h (arguments u)) f.key; head = head_more n m h v b (head_of u) (arguments u) f.head }
+atom_more n m h v b u f = record { looked = found_more _ _ (looked_more n m h u) f.looked; head = head_more n m h v b (head_of u) (arguments u) f.head }
 
 term_more : (n m : ℕ) → n ≤ m → (level : ℕ) (b : Branch) (t : Term) → TermHasEnough n level b t → TermHasEnough m level b t
 term_more n m h v b t f = record { form = f.form; comes = head_normal_more n m h t f.form f.comes; call = λ p. atom_more n m h v b f.form (f.call p) }
@@ -143,9 +140,12 @@ module _ (n : ℕ) (d : Declared) (std : IsStandard d) (q : Query) (y : BranchTy
           (m + g.0, (Is v, evaluate_more m (m + g.0) i r (Is v) e, λ w k. transport (λ z. CanEquate (m + g.0) level b l (term_of z)) (let s : v ≡ w = cc in s) (equate_more g.0 (m + g.0) j level b l (term_of v) g.1)))
 
   -- arguments of a typed call
-  arguments_typed : (A : Ty) (us : List Term) (T : Ty) → HaveTypes (atom_type (over d E y.answer.variables)) [] A us T → (m : ℕ) × IsFound (goal_key m us)
-  arguments_typed A [] T w = (0, (None, refl))
-  arguments_typed A (u ∷ us) T w = let r = head_comes (typed_weighs (atom_type (over d E y.answer.variables)) [] u w.0 w.3).1 in (r.steps, (key_of r.form, ap (option_map key_of) r.is))
+  arguments_typed : (h : Term) (A : Ty) (us : List Term) (T : Ty) → HaveTypes (atom_type (over d E y.answer.variables)) [] A us T → (m : ℕ) × IsFound (first_looked m h us)
+  arguments_typed h A [] T w = (0, (h, refl))
+  arguments_typed h A (u ∷ us) T w =
+      let r = head_comes (typed_weighs (atom_type (over d E y.answer.variables)) [] u w.0 w.3).1 in
+      let s = top_found r.steps u r.form r.is in
+      (r.steps, (apply h (s.0 ∷ us), ap (option_map (λ x. apply h (x ∷ us))) s.1))
 
   sides : (c : ℕ) (T : Ty) (ts : List Ty) (l r : Term) → scheme_type ts (d c) ≡ Some (arrow T (arrow T o_type)) → IsTyped d E y.answer.variables (two c ts l r) o_type → IsTyped d E y.answer.variables l T × IsTyped d E y.answer.variables r T
   sides c T ts l r s w =
@@ -221,12 +221,12 @@ module _ (n : ℕ) (d : Declared) (std : IsStandard d) (q : Query) (y : BranchTy
   atoms : (u : Term) → connective_of u ≡ connective.Atomic → IsTyped d E y.answer.variables u o_type → (m : ℕ) × AtomHasEnough m level b u
   atoms u p w =
       let g = typed_parts (atom_type (over d E y.answer.variables)) [] (head_of u) (arguments u) o_type (transport (λ v. Typed (over d E y.answer.variables) [] v o_type) (sym (apply_arguments u [])) w.typed) in
-      let k = arguments_typed g.0 (arguments u) o_type g.2 in
+      let k = arguments_typed (head_of u) g.0 (arguments u) o_type g.2 in
       let e = heads u (head_of u) refl p w in
       let m = k.0 + e.0 in
       let i : k.0 ≤ k.0 + e.0 = omega arith in
       let j : e.0 ≤ k.0 + e.0 = omega arith in
-      (m, record { key = found_more _ _ (key_more k.0 m i (arguments u)) k.1; head = head_more e.0 m j level b (head_of u) (arguments u) e.1 })
+      (m, record { looked = found_more _ _ (looked_more k.0 m i u) k.1; head = head_more e.0 m j level b (head_of u) (arguments u) e.1 })
 
   terms : (t : Term) → IsTyped d E y.answer.variables t o_type → (m : ℕ) × TermHasEnough m level b t
   terms t w =

@@ -2,7 +2,7 @@
 use Rattle.std.proofs.Common.{◌≡◌, ℕ, ◌+◌, List, [], ◌∷◌, ◌++◌, map, length, Option, Some, None, Bool, true, false, if◌then◌else◌, refl, sym, subst as transport, arith, nat_eq}
 use Rattle.std.specs.Prelude.{nat_le, ◌&&◌}
 use Rattle.std.proofs.lemmas.Bool.{eqb-true}
-use Rattle.lp_calculus.specs.Term.{Term, index, atom, abs, app, Atom, constant, integer, text, eigen, logic, param}
+use Rattle.lp_calculus.specs.Term.{Term, index, atom, abs, app, constant, integer, text, eigen, logic, param}
 use Rattle.lp_calculus.specs.Spine.{head_of, arguments}
 use Rattle.lp_standard.specs.Connectives.{Connective, connective_of}
 use Rattle.lp_standard.specs.Connectives as connective
@@ -15,7 +15,7 @@ use Rattle.lp_model.specs.Skeleton.{View, Gives, Opens, Parts, Takes, Cuts, Deni
 use Rattle.lp_model.specs.Faithful.{IsLack}
 use Rattle.lp_model.specs.Flat.{Goal, Atomic, Cut, Either, Exists, Forall, Assume, Not, Written, Goals, Clause, clause, goal_list, instantiate_goals, type_goals}
 use Rattle.lp_model.specs.Branch.{Entry, Branch, Answer, Task, Go, Try, Stop, Lack, both_written, entries}
-use Rattle.lp_model.specs.Search.{with_goals, tried, renewed, slotted, slots_of, pairs_of, follow, assigned, compared, tries, candidates, goal_key, look_constant, look_atom, look_form, look_normal, look_not, look_goal, look_branch, look, has_variables}
+use Rattle.lp_model.specs.Search.{with_goals, tried, renewed, slotted, slots_of, pairs_of, follow, assigned, compared, tries, candidates, goal_looked, look_constant, look_atom, look_form, look_normal, look_not, look_goal, look_branch, look, has_variables}
 use Rattle.lp_search_laws.specs.Enough.{IsFound, CanEquate, CanAssign, CallHasEnough, HeadHasEnough, AtomHasEnough, TermHasEnough, HasEnough}
 use Rattle.lp_search_laws.proofs.SameViews.{and_is, and_also, at_least, term_with}
 
@@ -54,10 +54,10 @@ unfolding Full
 tried_all [] t e b mark = refl
 tried_all (x ∷ c) t e b mark = tried_all c t e b mark
 
-all_tries : (P : List Clause) (t : Term) (e : Entry) (b : Branch) (mark : ℕ) (o : Option (Option Atom)) → IsFound o → Full (tries P t e b mark o)
+all_tries : (P : List Clause) (e : Entry) (b : Branch) (mark : ℕ) (o : Option Term) → IsFound o → Full (tries P e b mark o)
 unfolding Full
-all_tries P t e b mark None f = let e' = f.1 in absurd (cc)
-all_tries P t e b mark (Some k) f = tried_all (candidates P e.assumed t k) t e b mark
+all_tries P e b mark None f = let e' = f.1 in absurd (cc)
+all_tries P e b mark (Some t) f = tried_all (candidates P e.assumed t) t e b mark
 
 if_full : (p : Bool) (x y : List Task) → (p ≡ true → Full x) → (p ≡ false → Full y) → Full (if p then x else y)
 if_full true x y f g = f refl
@@ -83,23 +83,23 @@ module _ (n : ℕ) where
       go (Is w) h = followed b _ (h w refl)
 
   module _ (P : List Clause) (height : ℕ) (e : Entry) (b : Branch) (t : Term) where
-    constant_full : (c : ℕ) (us : List Term) → IsFound (goal_key n (arguments t)) → ((l r : Term) → us ≡ l ∷ r ∷ [] → CallHasEnough n e.level b c l r) → Full (look_constant unit_limit n P height e b t c us)
-    constant_full c [] k f = all_tries P t e b height _ k
-    constant_full c (x ∷ []) k f = all_tries P t e b height _ k
+    constant_full : (c : ℕ) (us : List Term) → IsFound (goal_looked n t) → ((l r : Term) → us ≡ l ∷ r ∷ [] → CallHasEnough n e.level b c l r) → Full (look_constant unit_limit n P height e b t c us)
+    constant_full c [] k f = all_tries P e b height _ k
+    constant_full c (x ∷ []) k f = all_tries P e b height _ k
     constant_full c (l ∷ r ∷ []) k f =
         let g = f l r refl in
         if_full (nat_eq c 8) _ _ (λ x. followed b _ (g.equality (eqb-true c 8 x)))
         (λ x. if_full (nat_eq c 9) _ _ (λ w. assigned_full e.level b l r (g.assignment (eqb-true c 9 w)))
-        (λ w. if_full (nat_le 10 c && nat_le c 13) _ _ (λ v. let o = g.orders (at_least 10 c (and_is _ _ v)) (at_least c 13 (and_also _ _ v)) in compared_full c b _ _ o.0 o.1) (λ v. all_tries P t e b height _ k)))
-    constant_full c (x ∷ y ∷ z ∷ us) k f = all_tries P t e b height _ k
+        (λ w. if_full (nat_le 10 c && nat_le c 13) _ _ (λ v. let o = g.orders (at_least 10 c (and_is _ _ v)) (at_least c 13 (and_also _ _ v)) in compared_full c b _ _ o.0 o.1) (λ v. all_tries P e b height _ k)))
+    constant_full c (x ∷ y ∷ z ∷ us) k f = all_tries P e b height _ k
 
     taken : (name : _) (ts : List Task) → Full ts → IsLack (strict (Takes name ts)) → ⊥
     unfolding Full
     taken name ts f h = transport (λ p. IsLack {Task = Task} {Answer = Answer} (if p then Lacks else Takes name ts)) f h
 
-    atom_full : (h : Term) → IsFound (goal_key n (arguments t)) → HeadHasEnough n e.level b h (arguments t) → IsLack (strict (look_atom unit_limit n P height e b t h)) → ⊥
+    atom_full : (h : Term) → IsFound (goal_looked n t) → HeadHasEnough n e.level b h (arguments t) → IsLack (strict (look_atom unit_limit n P height e b t h)) → ⊥
     atom_full (atom (constant c ts)) k f = taken _ _ (constant_full c (arguments t) k f)
-    atom_full (atom (eigen j)) k f = taken _ _ (all_tries P t e b height _ k)
+    atom_full (atom (eigen j)) k f = taken _ _ (all_tries P e b height _ k)
     atom_full (atom (logic x l)) k f = λ h. h
     atom_full (atom (integer z)) k f = λ h. h
     atom_full (atom (text s)) k f = λ h. h
@@ -117,7 +117,7 @@ module _ (n : ℕ) where
     form_full (connective.ForAll T s) h x = x
     form_full (connective.Exists T s) h x = x
     form_full (connective.Not g) h x = x
-    form_full connective.Atomic h x = let a = h refl in atom_full (head_of t) a.key a.head x
+    form_full connective.Atomic h x = let a = h refl in atom_full (head_of t) a.looked a.head x
 
   goal_full : (P : List Clause) (height : ℕ) (e : Entry) (b : Branch) (g : Goal) → e.goal ≡ g → ((t : Term) → e.goal ≡ Atomic t → TermHasEnough n e.level b t) → ((w : Written) (gs : Goals) → e.goal ≡ Not w gs → IsFound (has_variables n (both_written w e.written))) → IsLack (strict (look_goal unit_limit n P height e b g)) → ⊥
   goal_full P height e b (Atomic t) i f v x = let z = f t i in form_full P height e b z.form (connective_of z.form) z.call (transport (λ o. IsLack (strict (look_normal unit_limit n P height e b o))) z.comes x)

@@ -22,9 +22,10 @@ use Rattle.lp_standard.specs.Connectives.{Connective, connective_of}
 use Rattle.lp_standard.specs.Connectives as connective
 use Rattle.lp_model.specs.Flat.{Goal, Atomic, Cut, Either, Exists, Forall, Assume, Not, Goals, goal_list, clause_list, Clause, clause, instantiate_goals, type_goals}
 use Rattle.lp_model.specs.Branch.{Entry, Branch, Answer, Task, Go, Try, Stop, Lack, entries, both_written, put_entries, resume}
-use Rattle.lp_model.specs.Search.{with_goals, follow, equated, assigned, compared, candidates, has_head, passes, goal_key, has_variables, tries, slots_of, slotted, pairs_of, renewed, try_clause, in_place, look_constant, look_atom, look_form, look_normal, look_not, look_goal, look_branch, look}
+use Rattle.lp_model.specs.Search.{with_goals, follow, equated, assigned, compared, candidates, has_head, passes, goal_looked, has_variables, tries, slots_of, slotted, pairs_of, renewed, try_clause, in_place, look_constant, look_atom, look_form, look_normal, look_not, look_goal, look_branch, look}
 use Rattle.lp_unify_laws.proofs.Looks.{head_reduces}
 use Rattle.lp_search_laws.proofs.Families.{Family}
+use Rattle.lp_search_laws.proofs.LookedGoals.{goal_head, goal_reduces}
 use Rattle.lp_search_laws.proofs.KeptTasks.{IsGoalWith, AreGoalsWith, IsAssumedWith, IsKeptProgram, IsKeptEntry, IsKeptTried, IsKeptBranch, IsKeptTry, IsKeptTask, IsKeptForm, goals_mapped, clauses_each, all_put, all_typed, goals_entries, instantiated, opened_kept, arguments_kept, form_kept, slotted_kept, slots_kept, pairs_kept}
 use Rattle.lp_search_laws.proofs.RunsKeep.{GoodPair, good_more, head_pairs, solve_good}
 use Rattle.lp_search_laws.proofs.TryMatches.{none_renewed}
@@ -128,11 +129,11 @@ module _ (K : (ℕ → Type 0) → Term → Type 0) (family : Family K) (Q : ℕ
     named : (h : Term) → same_name (head_of h) (head_of t) ≡ true → IsHead (head_of h)
     named h e = head_named h a (ap (same_name (head_of h)) (sym is) ∙ e)
 
-    program_passes : (key : Option Atom) (cs : List Clause) → EachOf (IsKeptProgram K family) cs → EachOf (IsKeptTried K family Q next) (filter (passes t key) cs)
-    program_passes key [] h = tt
-    program_passes key (clause k vs x b ∷ cs) h = go (passes t key (clause k vs x b)) refl (program_passes key cs h.1)
+    program_passes : (cs : List Clause) → EachOf (IsKeptProgram K family) cs → EachOf (IsKeptTried K family Q next) (filter (passes t) cs)
+    program_passes [] h = tt
+    program_passes (clause k vs x b ∷ cs) h = go (passes t (clause k vs x b)) refl (program_passes cs h.1)
       where
-        go : (v : Bool) → passes t key (clause k vs x b) ≡ v → EachOf (IsKeptTried K family Q next) (filter (passes t key) cs) → EachOf (IsKeptTried K family Q next) (cond v (clause k vs x b ∷ filter (passes t key) cs) (filter (passes t key) cs))
+        go : (v : Bool) → passes t (clause k vs x b) ≡ v → EachOf (IsKeptTried K family Q next) (filter (passes t) cs) → EachOf (IsKeptTried K family Q next) (cond v (clause k vs x b ∷ filter (passes t) cs) (filter (passes t) cs))
         go true e w = (tried_program next fresh k vs x b h.0 (named x (and_true_left (same_name (head_of x) (head_of t)) _ e)), w)
         go false e w = w
 
@@ -145,25 +146,28 @@ module _ (K : (ℕ → Type 0) → Term → Type 0) (family : Family K) (Q : ℕ
         go false e w = w
 
   module _ (u n : ℕ) (P : List Clause) (program : EachOf (IsKeptProgram K family) P) where
-    keyed_tries : (t : Term) (a : Atom) → head_of t ≡ atom a → K Q t → (e : Entry) (b : Branch) (mark : ℕ) (o : Option (Option Atom)) → EachOf (IsAssumedWith (K Q)) e.assumed → IsKeptBranch K family Q Ts b → EachOf Kept (tries P t e b mark o)
-    keyed_tries t a is w e b mark None v h = (tt, tt)
-    keyed_tries t a is w e b mark (Some key) v h =
-        each_map (IsKeptTried K family Q b.next_type) Kept (λ c. Try c t e b mark) (λ c k. record { branch = h; term = w; head = transport IsHead (sym is) tt; clause = k; assumed = v }) (candidates P e.assumed t key)
-        (each_append (IsKeptTried K family Q b.next_type) (filter (has_head t) e.assumed) (filter (passes t key) P) (assumed_passes b.next_type h.fresh t a is e.assumed v) (program_passes b.next_type h.fresh t a is key P program))
+    all_tries : (t : Term) (a : Atom) → head_of t ≡ atom a → K Q t → (e : Entry) (b : Branch) (mark : ℕ) → EachOf (IsAssumedWith (K Q)) e.assumed → IsKeptBranch K family Q Ts b → EachOf Kept (tries P e b mark (Some t))
+    all_tries t a is w e b mark v h =
+        each_map (IsKeptTried K family Q b.next_type) Kept (λ c. Try c t e b mark) (λ c k. record { branch = h; term = w; head = transport IsHead (sym is) tt; clause = k; assumed = v }) (candidates P e.assumed t)
+        (each_append (IsKeptTried K family Q b.next_type) (filter (has_head t) e.assumed) (filter (passes t) P) (assumed_passes b.next_type h.fresh t a is e.assumed v) (program_passes b.next_type h.fresh t a is P program))
+
+    looked_tries : (t : Term) (a : Atom) → head_of t ≡ atom a → K Q t → (e : Entry) (b : Branch) (mark : ℕ) → EachOf (IsAssumedWith (K Q)) e.assumed → IsKeptBranch K family Q Ts b → (o : Option Term) → goal_looked n t ≡ o → EachOf Kept (tries P e b mark o)
+    looked_tries t a is w e b mark v h None k = (tt, tt)
+    looked_tries t a is w e b mark v h (Some g) k = all_tries g a (goal_head n t g k ∙ is) ((family.keeps Q).reduces (goal_reduces n t g k) w) e b mark v h
 
     module _ (height : ℕ) (e : Entry) (b : Branch) (v : EachOf (IsAssumedWith (K Q)) e.assumed) (h : IsKeptBranch K family Q Ts b) where
       constant_each : (t : Term) (c : ℕ) (ts : List Ty) → head_of t ≡ atom (constant c ts) → K Q t → (us : List Term) → EachOf (K Q) us → EachOf Kept (look_constant u n P height e b t c us)
-      constant_each t c ts is w [] k = keyed_tries t (constant c ts) is w e b height (goal_key n (arguments t)) v h
-      constant_each t c ts is w (x ∷ []) k = keyed_tries t (constant c ts) is w e b height (goal_key n (arguments t)) v h
-      constant_each t c ts is w (x ∷ y ∷ z ∷ us) k = keyed_tries t (constant c ts) is w e b height (goal_key n (arguments t)) v h
+      constant_each t c ts is w [] k = looked_tries t (constant c ts) is w e b height v h (goal_looked n t) refl
+      constant_each t c ts is w (x ∷ []) k = looked_tries t (constant c ts) is w e b height v h (goal_looked n t) refl
+      constant_each t c ts is w (x ∷ y ∷ z ∷ us) k = looked_tries t (constant c ts) is w e b height v h (goal_looked n t) refl
       constant_each t c ts is w (l ∷ r ∷ []) k =
           if_each (nat_eq c 8) _ _ (equated_each u n e.level l r b k.0 k.1.0 h)
           (if_each (nat_eq c 9) _ _ (assigned_each u n e.level l b (evaluate n r) k.0 h)
-          (if_each (nat_le 10 c && nat_le c 13) _ _ (compared_each c b (evaluate n l) (evaluate n r) h) (keyed_tries t (constant c ts) is w e b height (goal_key n (arguments t)) v h)))
+          (if_each (nat_le 10 c && nat_le c 13) _ _ (compared_each c b (evaluate n l) (evaluate n r) h) (looked_tries t (constant c ts) is w e b height v h (goal_looked n t) refl)))
 
       atom_view : (t : Term) → K Q t → (x : Term) → head_of t ≡ x → IsKeptView (look_atom u n P height e b t x)
       atom_view t w (atom (constant c ts)) is = constant_each t c ts is w (arguments t) (arguments_kept K family Q t (transport IsHead (sym is) tt) w).1
-      atom_view t w (atom (eigen j)) is = keyed_tries t (eigen j) is w e b height (goal_key n (arguments t)) v h
+      atom_view t w (atom (eigen j)) is = looked_tries t (eigen j) is w e b height v h (goal_looked n t) refl
       atom_view t w (atom (logic x l)) is = (tt, tt)
       atom_view t w (atom (integer z)) is = tt
       atom_view t w (atom (text s)) is = tt

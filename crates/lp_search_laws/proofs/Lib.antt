@@ -100,3 +100,4 @@ pub mod Exhausted
 pub mod Decided
 pub mod Moved
 pub mod FormulaAtoms
+pub mod LookedGoals

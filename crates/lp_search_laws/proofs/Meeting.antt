@@ -1,25 +1,22 @@
 -- A clause that serves for an atom passes the tests of candidates: where a head and an atom convert, their names are the same, and the first arguments
 -- convert, so that these have no two names at their heads either.
 use Rattle.std.proofs.Common.{◌≡◌, ℕ, suc, List, [], ◌∷◌, map, length, ◌∙◌, refl, sym, ap, subst as transport, arith, Bool, true, nat_eq, Option, Some, None}
-use Rattle.std.specs.Prelude.{◌&&◌, option_map}
+use Rattle.std.specs.Prelude.{◌&&◌}
 use Rattle.std.proofs.lemmas.Bool.Decides.{nat_tests, Decides-int_eq}
 use Rattle.lp_calculus.specs.Types.{Ty, instance}
 use Rattle.lp_calculus.specs.Term.{Term, Atom, index, atom, abs, app, apply, constant, integer, text, eigen, logic, param}
 use Rattle.lp_calculus.specs.Convert.{Converts, ConvertAll, convert_more}
 use Rattle.lp_calculus.specs.Instance.{instance_atom}
-use Rattle.lp_calculus.proofs.Steps.{converts_on, converts_reduces, converts_is}
+use Rattle.lp_calculus.proofs.Steps.{converts_on, converts_is}
 use Rattle.lp_calculus.proofs.Rigid.{heads_joint}
 use Rattle.lp_model.specs.Index.{instantiate}
 use Rattle.lp_calculus.specs.Spine.{head_of, arguments}
-use Rattle.lp_model.specs.Look.{head_normal}
 use Rattle.lp_model.specs.Same.{same_name, same_atom, same_numbers}
 use Rattle.lp_model.specs.Pair.{Closing, closed}
-use Rattle.lp_model.specs.Search.{key_of, may_meet, first_key, goal_key}
+use Rattle.lp_model.specs.Search.{key_of, may_meet, first_key}
 use Rattle.lp_model.specs.Proofs.{IsAtomHead}
 use Rattle.lp_proof_laws.proofs.Uniform.Forms.{apply_arguments}
-use Rattle.lp_unify_laws.proofs.Looks.{head_reduces}
 use Rattle.lp_unify_laws.proofs.Sames.{numbers_same}
-use Rattle.lp_search_laws.proofs.Closed.{closed_reduces}
 
 -- what no closing takes away
 abbrev IsName : Atom → Type 0
@@ -176,15 +173,10 @@ module _ (f : ℕ → Term) (c z : Closing) where
   first_first : {x y : Term} {xs ys : List Term} → ConvertAll (x ∷ xs) (y ∷ ys) → Converts x y
   first_first (convert_more p q) = p
 
-  firsts_meet : (n : ℕ) (hs ts : List Term) (key : Option Atom) → ConvertAll (map put hs) (map (closed z) ts) → goal_key n ts ≡ Some key → may_meet (first_key hs) key ≡ true
-  firsts_meet n [] ts key v e = refl
-  firsts_meet n (h ∷ hs) [] key v e = absurd (none_none v)
-  firsts_meet n (h ∷ hs) (s ∷ ss) key v e = elim (head_normal n s) as (λ o. head_normal n s ≡ o → option_map key_of o ≡ Some key → may_meet (key_of h) key ≡ true) [
-    | None ↦ λ p q. absurd (cc)
-    | Some r ↦ λ p q.
-        let g : key_of r ≡ key = cc in
-        keys_meet h r (converts_on (first_first v) (converts_reduces (closed_reduces z (head_reduces n s r p)))) (key_of h) refl key g
-  ] refl e
+  firsts_meet : (hs ts : List Term) → ConvertAll (map put hs) (map (closed z) ts) → may_meet (first_key hs) (first_key ts) ≡ true
+  firsts_meet [] ts v = refl
+  firsts_meet (h ∷ hs) [] v = absurd (none_none v)
+  firsts_meet (h ∷ hs) (s ∷ ss) v = keys_meet h s (first_first v) (key_of h) refl (key_of s) refl
 
   pub head_passes : (h t : Term) → IsAtomHead (head_of h) → IsAtomHead (head_of t) → Converts (instantiate f (closed c h)) (closed z t) → same_name (head_of h) (head_of t) ≡ true
   head_passes h t i j v =
@@ -193,8 +185,8 @@ module _ (f : ℕ → Term) (c z : Closing) where
       let m = meet h t x.0 y.0 x.1 y.1 v in
       ap (λ q. same_name q (head_of t)) x.1.is ∙ ap (same_name (atom x.0)) y.1.is ∙ (same_names c.types z.types x.0 y.0 x.1.name y.1.name m.names).0
 
-  pub first_passes : (n : ℕ) (h t : Term) (key : Option Atom) → IsAtomHead (head_of h) → IsAtomHead (head_of t) → goal_key n (arguments t) ≡ Some key → Converts (instantiate f (closed c h)) (closed z t) → may_meet (first_key (arguments h)) key ≡ true
-  first_passes n h t key i j e v =
+  pub first_passes : (h t : Term) → IsAtomHead (head_of h) → IsAtomHead (head_of t) → Converts (instantiate f (closed c h)) (closed z t) → may_meet (first_key (arguments h)) (first_key (arguments t)) ≡ true
+  first_passes h t i j v =
       let x = atom_name h i in
       let y = atom_name t j in
-      firsts_meet n (arguments h) (arguments t) key (meet h t x.0 y.0 x.1 y.1 v).arguments e
+      firsts_meet (arguments h) (arguments t) (meet h t x.0 y.0 x.1 y.1 v).arguments

@@ -2,7 +2,7 @@
 use Rattle.std.proofs.Common.{◌≡◌, ℕ, ◌+◌, ◌≤◌, List, [], ◌∷◌, ◌++◌, length, refl, sym, ap, ◌∙◌, subst, Bool, true, false, Option, Some, None, inl, inr}
 use Rattle.std.specs.Prelude.{◌⊎◌, ◌&&◌, ◌||◌, option_map, nat_eq, nat_le, if◌then◌else◌}
 use Rattle.lp_calculus.specs.Types.{Ty}
-use Rattle.lp_calculus.specs.Term.{Term, index, atom, abs, app, Atom, constant, integer, text, eigen, logic, param}
+use Rattle.lp_calculus.specs.Term.{Term, index, atom, abs, app, constant, integer, text, eigen, logic, param}
 use Rattle.lp_calculus.specs.Instance.{instance_term}
 use Rattle.lp_calculus.specs.Normal.{eta_normal}
 use Rattle.lp_model.specs.declared.ending.Ending.{Ending}
@@ -18,11 +18,12 @@ use Rattle.lp_standard.specs.Connectives as connective
 use Rattle.lp_model.specs.Flat.{Goal, Atomic, Cut, Either, Exists, Forall, Assume, Not, Written, Goals, Clause, clause, goal_list, instantiate_goals, type_goals}
 use Rattle.lp_model.specs.Values.{Outcome, Is, Faults, Number, Bytes, value, evaluate, term_of}
 use Rattle.lp_model.specs.Branch.{Entry, Branch, Answer, Task, Go, Try, Stop, Lack, entries, both_written}
-use Rattle.lp_model.specs.Search.{beta_normals, has_variable, has_type_variable, has_variables, look_not, with_goals, follow, equated, assigned, compared, key_of, goal_key, tries, slots_of, slotted, pairs_of, renewed, tried, try_clause, look_constant, look_atom, look_form, look_normal, look_goal, look_branch, look}
+use Rattle.lp_model.specs.Search.{beta_normals, has_variable, has_type_variable, has_variables, look_not, with_goals, follow, equated, assigned, compared, goal_looked, tries, slots_of, slotted, pairs_of, renewed, tried, try_clause, look_constant, look_atom, look_form, look_normal, look_goal, look_branch, look}
 use Rattle.lp_unify_laws.proofs.MoreSteps.Scans.{Below, below_same, below_map, head_normal_more, beta_normal_more}
 use Rattle.lp_unify_laws.proofs.MoreSteps.Solving.{solve_more}
 use Rattle.std.specs.List.{list_any}
 use Rattle.lp_lemmas.proofs.Options.{and_then_some, option_map_some}
+use Rattle.lp_search_laws.proofs.LookedGoals.{looked_more}
 use Rattle.lp_search_laws.proofs.Stack.MoreLooks.{Fewer, same_look, lacks, opens_dead, takes_dead, run_same}
 use Rattle.lp_search_laws.proofs.Stack.Ends.{stays_over}
 
@@ -83,17 +84,13 @@ module _ (units : ℕ) where
   compared_more c b (Some (Is (Number x))) o' None r' h k = inl refl
   compared_more c b (Some (Is (Number x))) o' (Some y) r' h k = inr (ap (compared c b (Some (Is (Number x)))) (sym (k y refl)) ∙ ap (λ z. compared c b z r') (sym (h (Is (Number x)) refl)))
 
-  key_more : (n m : ℕ) → n ≤ m → (ts : List Term) → Below (goal_key n ts) (goal_key m ts)
-  key_more n m l [] = below_same _
-  key_more n m l (t ∷ ts) = below_map (head_normal n t) (head_normal m t) key_of (head_normal_more n m l t)
-
-  tries_more : (P : List Clause) (t : Term) (e : Entry) (b : Branch) (mark : ℕ) (o o' : Option (Option Atom)) → Below o o' → Shorter (tries P t e b mark o) (tries P t e b mark o')
+  tries_more : (P : List Clause) (e : Entry) (b : Branch) (mark : ℕ) (o o' : Option Term) → Below o o' → Shorter (tries P e b mark o) (tries P e b mark o')
   unfolding Shorter
-  tries_more P t e b mark None o' h = inl refl
-  tries_more P t e b mark (Some k) o' h = inr (ap (tries P t e b mark) (sym (h k refl)))
+  tries_more P e b mark None o' h = inl refl
+  tries_more P e b mark (Some t) o' h = inr (ap (tries P e b mark) (sym (h t refl)))
 
-  candidates_more : (n m : ℕ) → n ≤ m → (P : List Clause) (t : Term) (e : Entry) (b : Branch) (mark : ℕ) → Shorter (tries P t e b mark (goal_key n (arguments t))) (tries P t e b mark (goal_key m (arguments t)))
-  candidates_more n m l P t e b mark = tries_more P t e b mark (goal_key n (arguments t)) (goal_key m (arguments t)) (key_more n m l (arguments t))
+  candidates_more : (n m : ℕ) → n ≤ m → (P : List Clause) (t : Term) (e : Entry) (b : Branch) (mark : ℕ) → Shorter (tries P e b mark (goal_looked n t)) (tries P e b mark (goal_looked m t))
+  candidates_more n m l P t e b mark = tries_more P e b mark (goal_looked n t) (goal_looked m t) (looked_more n m l t)
 
   tried_more : (n m : ℕ) → n ≤ m → (k : ℕ) (vs : List Ty) (h : Term) (body : Goals) (t : Term) (e : Entry) (b : Branch) (mark : ℕ) (σ : ℕ → Term) → Shorter (tried units n k vs h body t e b mark σ) (tried units m k vs h body t e b mark σ)
   tried_more n m l k vs h body t e b mark σ =

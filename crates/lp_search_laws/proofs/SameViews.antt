@@ -16,13 +16,14 @@ use Rattle.lp_model.specs.Branch.{Entry, Branch, Task, Go, Try, Stop, entries, L
 use Rattle.lp_model.specs.Rule.{type_pairs}
 use Rattle.lp_calculus.specs.Types.{Ty}
 use Rattle.lp_calculus.specs.Instance.{instance_term}
-use Rattle.lp_model.specs.Search.{with_goals, follow, equated, assigned, compared, tries, goal_key, look_constant, look_atom, look_form, look_normal, look_goal, look_branch, look, renewed, slotted, slots_of, pairs_of, has_variables, look_not}
+use Rattle.lp_model.specs.Search.{with_goals, follow, equated, assigned, compared, tries, goal_looked, look_constant, look_atom, look_form, look_normal, look_goal, look_branch, look, renewed, slotted, slots_of, pairs_of, has_variables, look_not}
 use Rattle.lp_unify_laws.proofs.MoreSteps.Scans.{Below, head_normal_more}
 use Rattle.lp_unify_laws.proofs.MoreSteps.Solving.{solve_more}
 use Rattle.lp_search_laws.specs.Holds.{equation}
+use Rattle.lp_search_laws.proofs.LookedGoals.{looked_more}
 use Rattle.lp_search_laws.proofs.MoreSteps.{variables_more}
 use Rattle.lp_search_laws.specs.Enough.{IsFound, CanEquate, CanAssign, CallHasEnough, HeadHasEnough, AtomHasEnough, TermHasEnough, HasEnough}
-use Rattle.lp_search_laws.proofs.EnoughSteps.{evaluate_more, key_more}
+use Rattle.lp_search_laws.proofs.EnoughSteps.{evaluate_more}
 
 found_same : {A : Type 0} (o o' : Option A) → Below o o' → IsFound o → o' ≡ o
 found_same o o' h f = h f.0 f.1 ∙ sym f.1
@@ -58,10 +59,10 @@ module _ (n m : ℕ) (more : n ≤ m) where
   compared_same c b l r f g = ap (λ o. compared c b o (evaluate m r)) (found_same _ _ (evaluate_more n m more l) f) ∙ ap (compared c b (evaluate n l)) (found_same _ _ (evaluate_more n m more r) g)
 
   module _ (P : List Clause) (height : ℕ) (e : Entry) (b : Branch) (t : Term) where
-    tries_same : IsFound (goal_key n (arguments t)) → tries P t e b height (goal_key m (arguments t)) ≡ tries P t e b height (goal_key n (arguments t))
-    tries_same f = ap (tries P t e b height) (found_same _ _ (key_more n m more (arguments t)) f)
+    tries_same : IsFound (goal_looked n t) → tries P e b height (goal_looked m t) ≡ tries P e b height (goal_looked n t)
+    tries_same f = ap (tries P e b height) (found_same _ _ (looked_more n m more t) f)
 
-    constant_same : (c : ℕ) (us : List Term) → IsFound (goal_key n (arguments t)) → ((l r : Term) → us ≡ l ∷ r ∷ [] → CallHasEnough n e.level b c l r) → look_constant unit_limit m P height e b t c us ≡ look_constant unit_limit n P height e b t c us
+    constant_same : (c : ℕ) (us : List Term) → IsFound (goal_looked n t) → ((l r : Term) → us ≡ l ∷ r ∷ [] → CallHasEnough n e.level b c l r) → look_constant unit_limit m P height e b t c us ≡ look_constant unit_limit n P height e b t c us
     constant_same c [] k f = tries_same k
     constant_same c (x ∷ []) k f = tries_same k
     constant_same c (l ∷ r ∷ []) k f =
@@ -71,7 +72,7 @@ module _ (n m : ℕ) (more : n ≤ m) where
         (λ w. if_same (nat_le 10 c && nat_le c 13) _ _ _ _ (λ v. let o = g.orders (at_least 10 c (and_is _ _ v)) (at_least c 13 (and_also _ _ v)) in compared_same c b l r o.0 o.1) (λ v. tries_same k)))
     constant_same c (x ∷ y ∷ z ∷ us) k f = tries_same k
 
-    atom_same : (h : Term) → IsFound (goal_key n (arguments t)) → HeadHasEnough n e.level b h (arguments t) → look_atom unit_limit m P height e b t h ≡ look_atom unit_limit n P height e b t h
+    atom_same : (h : Term) → IsFound (goal_looked n t) → HeadHasEnough n e.level b h (arguments t) → look_atom unit_limit m P height e b t h ≡ look_atom unit_limit n P height e b t h
     atom_same (atom (constant c ts)) k f = ap (Takes (named c)) (constant_same c (arguments t) k f)
     atom_same (atom (eigen j)) k f = ap (Takes (eigenconstant j)) (tries_same k)
     atom_same (atom (logic x l)) k f = refl
@@ -91,7 +92,7 @@ module _ (n m : ℕ) (more : n ≤ m) where
     form_same (connective.ForAll T s) h = refl
     form_same (connective.Exists T s) h = refl
     form_same (connective.Not g) h = refl
-    form_same connective.Atomic h = let a = h refl in atom_same (head_of t) a.key a.head
+    form_same connective.Atomic h = let a = h refl in atom_same (head_of t) a.looked a.head
 
   term_same : (P : List Clause) (height : ℕ) (e : Entry) (b : Branch) (t : Term) → TermHasEnough n e.level b t → look_normal unit_limit m P height e b (head_normal m t) ≡ look_normal unit_limit n P height e b (head_normal n t)
   term_same P height e b t f =
@@ -107,7 +108,7 @@ module _ (n m : ℕ) (more : n ≤ m) where
   goal_same P height e b (Not ws gs) i f v = let x = v ws gs i in ap (look_not e b gs) (variables_more n m more (both_written ws e.written) x.0 x.1 ∙ sym x.1)
 
   pub term_with : (level : ℕ) (b : Branch) (es : List Entry) (t : Term) → TermHasEnough n level b t → TermHasEnough n level (with_goals b es) t
-  term_with v b es t f = record { form = f.form; comes = f.comes; call = λ p. let a = f.call p in record { key = a.key; head = head_with v b es (head_of f.form) (arguments f.form) a.head } }
+  term_with v b es t f = record { form = f.form; comes = f.comes; call = λ p. let a = f.call p in record { looked = a.looked; head = head_with v b es (head_of f.form) (arguments f.form) a.head } }
     where
       call_with : (level : ℕ) (b : Branch) (es : List Entry) (c : ℕ) (l r : Term) → CallHasEnough n level b c l r → CallHasEnough n level (with_goals b es) c l r
       call_with v b es c l r f = record { equality = f.equality; assignment = f.assignment; orders = f.orders }

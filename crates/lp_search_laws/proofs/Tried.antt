@@ -8,6 +8,7 @@ use Rattle.lp_calculus.specs.Convert.{ReducesTo}
 use Rattle.lp_calculus.specs.Fill.{Within}
 use Rattle.lp_calculus.specs.Typing.{atom_type, o_type}
 use Rattle.lp_calculus.specs.Closed.{AllAtoms}
+use Rattle.lp_calculus.proofs.BetaEta.{many_on}
 use Rattle.lp_calculus.proofs.Steps.{within_reduces}
 use Rattle.lp_calculus.proofs.Subject.{typed_reduces}
 use Rattle.lp_calculus.specs.Spine.{head_of, arguments}
@@ -19,7 +20,7 @@ use Rattle.lp_model.specs.Flat.{Atomic, Clause, clause, formula_of_goal}
 use Rattle.lp_model.specs.Proofs.{Declared, IsFormula, IsAtomHead, Leaves}
 use Rattle.lp_model.specs.Answers.{Query, Variable, over, IsScopedAtom, Instance, AnswerTyping, Closes}
 use Rattle.lp_model.specs.Branch.{Entry, Branch}
-use Rattle.lp_model.specs.Search.{with_goals, tries, candidates, goal_key, has_head, passes, may_meet, first_key}
+use Rattle.lp_model.specs.Search.{with_goals, tries, candidates, goal_looked, has_head, passes, may_meet, first_key}
 use Rattle.lp_unify_laws.proofs.Looks.{head_reduces}
 use Rattle.lp_search_laws.specs.Holds.{Holds, IsTyped}
 use Rattle.lp_search_laws.specs.Clauses.{Serves, clauses_at}
@@ -29,6 +30,7 @@ use Rattle.lp_search_laws.specs.Views.{StandFor}
 use Rattle.lp_search_laws.proofs.Closed.{closed_reduces}
 use Rattle.lp_search_laws.proofs.Connectives.{reduces_on, reduces_back}
 use Rattle.lp_search_laws.proofs.Formed.{formula_at}
+use Rattle.lp_search_laws.proofs.LookedGoals.{goal_head, goal_reduces}
 use Rattle.lp_search_laws.proofs.Standing.{lacked}
 use Rattle.lp_search_laws.proofs.ClauseForms.{program_clauses, assumed_clauses}
 use Rattle.lp_search_laws.proofs.Candidates.{some_candidate, candidate_proves}
@@ -59,8 +61,8 @@ first_true : (a b : Bool) → (a && b) ≡ true → a ≡ true
 first_true true b e = refl
 first_true false b e = e
 
-passes_head : (u : Term) (key : Option Atom) (c : Clause) → passes u key c ≡ true → has_head u c ≡ true
-passes_head u key (clause k vs h b) e = first_true (same_name (head_of h) (head_of u)) (may_meet (first_key (arguments h)) key) e
+passes_head : (u : Term) (c : Clause) → passes u c ≡ true → has_head u c ≡ true
+passes_head u (clause k vs h b) e = first_true (same_name (head_of h) (head_of u)) (may_meet (first_key (arguments h)) (first_key (arguments u))) e
 
 -- each of a list, where it stands in another
 each_append : {X : Type 0} (Q : X → Type 0) (xs ys : List X) → EachOf Q xs → EachOf Q ys → EachOf Q (xs ++ ys)
@@ -79,11 +81,11 @@ record IsCandidate (P A : List Clause) (u : Term) (c : Clause) : Type 0 where
   named : has_head u c ≡ true
   stands : IsAmong c P ⊎ IsAmong c A
 
-each_candidate : (P A : List Clause) (u : Term) (key : Option Atom) → EachOf (IsCandidate P A u) (candidates P A u key)
-each_candidate P A u key =
-    each_append (IsCandidate P A u) (filter (has_head u) A) (filter (passes u key) P)
+each_candidate : (P A : List Clause) (u : Term) → EachOf (IsCandidate P A u) (candidates P A u)
+each_candidate P A u =
+    each_append (IsCandidate P A u) (filter (has_head u) A) (filter (passes u) P)
     (filtered (IsCandidate P A u) (has_head u) A (λ c i e. record { named = e; stands = inr i }))
-    (filtered (IsCandidate P A u) (passes u key) P (λ c i e. record { named = passes_head u key c e; stands = inl i }))
+    (filtered (IsCandidate P A u) (passes u) P (λ c i e. record { named = passes_head u c e; stands = inl i }))
 
 each_map : {X Y : Type 0} (Q : X → Type 0) (R : Y → Type 0) (f : X → Y) → ((x : X) → Q x → R (f x)) → (xs : List X) → EachOf Q xs → EachOf R (map f xs)
 each_map Q R f g [] h = tt
@@ -106,13 +108,10 @@ map_tasks : {X : Type 0} (f : X → TypedTask) (xs : List X) → map task_of (ma
 map_tasks f [] = refl
 map_tasks f (x ∷ xs) = ap (λ ts. task_of (f x) ∷ ts) (map_tasks f xs)
 
-module _ {L : Leaves} (n height : ℕ) (d : Declared) (std : IsSetting L d) (P : List Clause) (program : EachOf (IsProgramTyped d) P) (q : Query) (z : AnswerTyping) (b : Branch) (E : List Ty) (Es : List (List Ty)) (e : Entry) (es : List Entry) (t u : Term) (is : e.goal ≡ Atomic t) (normal : head_normal n t ≡ Some u) (at_atom : IsAtomHead (head_of u))
+module _ {L : Leaves} (n height : ℕ) (d : Declared) (std : IsSetting L d) (P : List Clause) (program : EachOf (IsProgramTyped d) P) (q : Query) (z : AnswerTyping) (b : Branch) (E : List Ty) (Es : List (List Ty)) (e : Entry) (es : List Entry) (t u : Term) (is : e.goal ≡ Atomic t) (reduces : ReducesTo t u) (at_atom : IsAtomHead (head_of u))
     (typed : IsTypedBranch n d q (record { answer = z; eigens = E ∷ Es }) (with_goals b (e ∷ es))) where
   abbrev typing : BranchTyping
   typing = record { answer = z; eigens = E ∷ Es }
-
-  reduces : ReducesTo t u
-  reduces = head_reduces n t u normal
 
   goal_typed : IsTyped d E z.variables t o_type
   goal_typed = transport (λ g. IsTyped d E z.variables (formula_of_goal g) o_type) is typed.entries.0.goal
@@ -120,7 +119,7 @@ module _ {L : Leaves} (n height : ℕ) (d : Declared) (std : IsSetting L d) (P :
   goal_plain : IsPlainTerm b.next_type t
   goal_plain = transport (λ g. IsGoal b.next_type [] g) is typed.goals.0.goal
 
-  -- the branch with the head-normal goal
+  -- the branch with the reduced goal
   branch_at : IsTypedBranch n d q typing (with_goals b (with_atom e u ∷ es))
   branch_at = record {
     answer = typed.answer;
@@ -135,7 +134,7 @@ module _ {L : Leaves} (n height : ℕ) (d : Declared) (std : IsSetting L d) (P :
   }
 
   -- the atom holds where some candidate serves
-  module _ (c : Closing) (closes : Closes d z.variables c) (key : Option Atom) (k : goal_key n (arguments u) ≡ Some key) where
+  module _ (c : Closing) (closes : Closes d z.variables c) where
     abbrev F : List Ty
     F = map (instance c.types) E
 
@@ -145,64 +144,69 @@ module _ {L : Leaves} (n height : ℕ) (d : Declared) (std : IsSetting L d) (P :
     normal_fine : IsFormula d F (closed c u)
     normal_fine = formula_at d z.variables c closes E u (typed_reduct d E z.variables t u o_type reduces goal_typed)
 
-    holds_some : Holds L d F (clauses_at P e.assumed c) c t → AnyOf (λ x. Serves L d F (clauses_at P e.assumed c) c x (closed c u)) (candidates P e.assumed u key)
+    holds_some : Holds L d F (clauses_at P e.assumed c) c t → AnyOf (λ x. Serves L d F (clauses_at P e.assumed c) c x (closed c u)) (candidates P e.assumed u)
     holds_some p =
-        some_candidate d std F P e.assumed c n u key (program_clauses d P program) (assumed_clauses d z.variables E c closes b.next_type e.assumed typed.entries.0.assumed typed.goals.0.assumed) at_atom normal_fine k
+        some_candidate d std F P e.assumed c u (program_clauses d P program) (assumed_clauses d z.variables E c closes b.next_type e.assumed typed.entries.0.assumed typed.goals.0.assumed) at_atom normal_fine
         (reduces_on d F (clauses_at P e.assumed c) fine (closed_reduces c reduces) p)
 
-    some_holds : AnyOf (λ x. Serves L d F (clauses_at P e.assumed c) c x (closed c u)) (candidates P e.assumed u key) → Holds L d F (clauses_at P e.assumed c) c t
+    some_holds : AnyOf (λ x. Serves L d F (clauses_at P e.assumed c) c x (closed c u)) (candidates P e.assumed u) → Holds L d F (clauses_at P e.assumed c) c t
     some_holds h =
         reduces_back d F (clauses_at P e.assumed c) fine (closed_reduces c reduces)
-        (candidate_proves d std F P e.assumed c n u key (program_clauses d P program) (assumed_clauses d z.variables E c closes b.next_type e.assumed typed.entries.0.assumed typed.goals.0.assumed) at_atom h)
+        (candidate_proves d std F P e.assumed c u (program_clauses d P program) (assumed_clauses d z.variables E c closes b.next_type e.assumed typed.entries.0.assumed typed.goals.0.assumed) at_atom h)
 
   abbrev try_of : Clause → TypedTask
   try_of c = trying typing c u e (with_goals b es) height
 
-  keeps_try : (key : Option Atom) → goal_key n (arguments u) ≡ Some key → (i : Instance) → SolvesBranch L d P q i typing (with_goals b (e ∷ es)) → AnyOf (Sol L d P q i) (map try_of (candidates P e.assumed u key))
-  keeps_try key k i s =
+  keeps_try : (i : Instance) → SolvesBranch L d P q i typing (with_goals b (e ∷ es)) → AnyOf (Sol L d P q i) (map try_of (candidates P e.assumed u))
+  keeps_try i s =
       let c = s.answer.closing in
       let p = transport (λ g. Holds L d (map (instance c.types) E) (clauses_at P e.assumed c) c (formula_of_goal g)) is s.proved.0 in
-      any_map (λ x. Serves L d (map (instance c.types) E) (clauses_at P e.assumed c) c x (closed c u)) (Sol L d P q i) try_of (λ x r. record { query = s.query; answer = s.answer; served = (r, s.proved.1) }) (candidates P e.assumed u key) (holds_some c s.answer.closes key k p)
+      any_map (λ x. Serves L d (map (instance c.types) E) (clauses_at P e.assumed c) c x (closed c u)) (Sol L d P q i) try_of (λ x r. record { query = s.query; answer = s.answer; served = (r, s.proved.1) }) (candidates P e.assumed u) (holds_some c s.answer.closes p)
 
-  gives_try : (key : Option Atom) → goal_key n (arguments u) ≡ Some key → (i : Instance) → AnyOf (Sol L d P q i) (map try_of (candidates P e.assumed u key)) → SolvesBranch L d P q i typing (with_goals b (e ∷ es))
-  gives_try key k i h =
-      any_back (Sol L d P q i) try_of (SolvesBranch L d P q i typing (with_goals b (e ∷ es))) (candidates P e.assumed u key) (λ x j s.
+  gives_try : (i : Instance) → AnyOf (Sol L d P q i) (map try_of (candidates P e.assumed u)) → SolvesBranch L d P q i typing (with_goals b (e ∷ es))
+  gives_try i h =
+      any_back (Sol L d P q i) try_of (SolvesBranch L d P q i typing (with_goals b (e ∷ es))) (candidates P e.assumed u) (λ x j s.
       let c = s.answer.closing in
-      let p = some_holds c s.answer.closes key k (any_at (λ w. Serves L d (map (instance c.types) E) (clauses_at P e.assumed c) c w (closed c u)) x (candidates P e.assumed u key) j s.served.0) in
+      let p = some_holds c s.answer.closes (any_at (λ w. Serves L d (map (instance c.types) E) (clauses_at P e.assumed c) c w (closed c u)) x (candidates P e.assumed u) j s.served.0) in
       record { query = s.query; answer = s.answer; proved = (transport (λ g. Holds L d (map (instance c.types) E) (clauses_at P e.assumed c) c (formula_of_goal g)) (sym is) p, s.served.1) }) h
 
   each_try : (cs : List Clause) → EachOf (IsTypedFrom n d (going typing (with_goals b (e ∷ es)))) (map try_of cs)
   each_try [] = tt
   each_try (c ∷ cs) = (refl, each_try cs)
 
-  pub atom_tried : (o : Option (Option Atom)) → goal_key n (arguments u) ≡ o → StandFor L n d P q (going typing (with_goals b (e ∷ es))) (tries P u e (with_goals b es) height o)
-  atom_tried None k = lacked n d P q (going typing (with_goals b (e ∷ es)))
-  atom_tried (Some key) k = record {
-    typed = map try_of (candidates P e.assumed u key);
-    is = map_tasks try_of (candidates P e.assumed u key);
-    ok = each_map (IsCandidate P e.assumed u) (IsOk n d P q) try_of (λ c h. record { branch = branch_at; atomic = at_atom; named = h.named; stands = h.stands }) (candidates P e.assumed u key) (each_candidate P e.assumed u key);
-    given = each_try (candidates P e.assumed u key);
-    keeps = keeps_try key k;
-    gives = gives_try key k;
+  pub atom_tried : StandFor L n d P q (going typing (with_goals b (e ∷ es))) (tries P e (with_goals b es) height (Some u))
+  atom_tried = record {
+    typed = map try_of (candidates P e.assumed u);
+    is = map_tasks try_of (candidates P e.assumed u);
+    ok = each_map (IsCandidate P e.assumed u) (IsOk n d P q) try_of (λ c h. record { branch = branch_at; atomic = at_atom; named = h.named; stands = h.stands }) (candidates P e.assumed u) (each_candidate P e.assumed u);
+    given = each_try (candidates P e.assumed u);
+    keeps = keeps_try;
+    gives = gives_try;
   }
 
 -- a branch by its first goal
 pub atoms_are_tried : {L : Leaves} (n height : ℕ) (d : Declared) → IsSetting L d → (P : List Clause) → EachOf (IsProgramTyped d) P → (q : Query)
     (y : BranchTyping) (b : Branch) (e : Entry) (es : List Entry) (t u : Term) → b.goals ≡ e ∷ es → e.goal ≡ Atomic t → head_normal n t ≡ Some u →
     IsAtomHead (head_of u) → IsTypedBranch n d q y b → StandFor L n d P q (going y b)
-    (tries P u e (with_goals b es) height (goal_key n (arguments u)))
+    (tries P e (with_goals b es) height (goal_looked n u))
 atoms_are_tried {L} n height d std P program q y b e es t u g is normal at_atom typed = go y.eigens refl
   where
     same_branch : b ≡ with_goals b (e ∷ es)
     same_branch = ap (with_goals b) g
 
-    go : (Fs : List (List Ty)) → y.eigens ≡ Fs → StandFor L n d P q (going y b) (tries P u e (with_goals b es) height (goal_key n (arguments u)))
+    go : (Fs : List (List Ty)) → y.eigens ≡ Fs → StandFor L n d P q (going y b) (tries P e (with_goals b es) height (goal_looked n u))
     go Fs f =
         let typings : y ≡ record { answer = y.answer; eigens = Fs } = ap (λ x. record { answer = y.answer; eigens = x }) f in
         let all : IsTypedBranch n d q (record { answer = y.answer; eigens = Fs }) (with_goals b (e ∷ es)) = transport (λ x. IsTypedBranch n d q x (with_goals b (e ∷ es))) typings (transport (IsTypedBranch n d q y) same_branch typed) in
-        transport (λ x. StandFor L n d P q (going y x) (tries P u e (with_goals b es) height (goal_key n (arguments u)))) (sym same_branch)
-        (transport (λ x. StandFor L n d P q (going x (with_goals b (e ∷ es))) (tries P u e (with_goals b es) height (goal_key n (arguments u)))) (sym typings) (first Fs all))
+        transport (λ x. StandFor L n d P q (going y x) (tries P e (with_goals b es) height (goal_looked n u))) (sym same_branch)
+        (transport (λ x. StandFor L n d P q (going x (with_goals b (e ∷ es))) (tries P e (with_goals b es) height (goal_looked n u))) (sym typings) (first Fs all))
       where
-        first : (Fs : List (List Ty)) → IsTypedBranch n d q (record { answer = y.answer; eigens = Fs }) (with_goals b (e ∷ es)) → StandFor L n d P q (going (record { answer = y.answer; eigens = Fs }) (with_goals b (e ∷ es))) (tries P u e (with_goals b es) height (goal_key n (arguments u)))
+        by_look : (E : List Ty) (Es : List (List Ty)) → IsTypedBranch n d q (record { answer = y.answer; eigens = E ∷ Es }) (with_goals b (e ∷ es)) → (o : Option Term) → goal_looked n u ≡ o →
+            StandFor L n d P q (going (record { answer = y.answer; eigens = E ∷ Es }) (with_goals b (e ∷ es))) (tries P e (with_goals b es) height o)
+        by_look E Es h None k = lacked n d P q (going (record { answer = y.answer; eigens = E ∷ Es }) (with_goals b (e ∷ es)))
+        by_look E Es h (Some g) k =
+            atom_tried n height d std P program q y.answer b E Es e es t g is (many_on (head_reduces n t u normal) (goal_reduces n u g k)) (transport IsAtomHead (sym (goal_head n u g k)) at_atom) h
+
+        first : (Fs : List (List Ty)) → IsTypedBranch n d q (record { answer = y.answer; eigens = Fs }) (with_goals b (e ∷ es)) → StandFor L n d P q (going (record { answer = y.answer; eigens = Fs }) (with_goals b (e ∷ es))) (tries P e (with_goals b es) height (goal_looked n u))
         first [] h = absurd h.entries
-        first (E ∷ Es) h = atom_tried n height d std P program q y.answer b E Es e es t u is normal at_atom h (goal_key n (arguments u)) refl
+        first (E ∷ Es) h = by_look E Es h (goal_looked n u) refl

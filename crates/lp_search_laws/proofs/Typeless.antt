@@ -1,7 +1,7 @@
 -- The types of a query are carried along, and nothing else: a search without them is in step with it.
 use Rattle.std.proofs.Common.{◌≡◌, ℕ, ◌+◌, List, [], ◌∷◌, ◌++◌, map, length, Option, Some, None, Bool, true, false, refl, ap}
 use Rattle.std.specs.Prelude.{nat_eq, nat_le, ◌&&◌, if◌then◌else◌}
-use Rattle.lp_calculus.specs.Term.{Term, index, atom, abs, app, Atom, constant, integer, text, eigen, logic, param}
+use Rattle.lp_calculus.specs.Term.{Term, index, atom, abs, app, constant, integer, text, eigen, logic, param}
 use Rattle.lp_calculus.specs.Spine.{head_of, arguments}
 use Rattle.lp_calculus.specs.Instance.{instance_term}
 use Rattle.lp_model.specs.Look.{head_normal}
@@ -13,7 +13,7 @@ use Rattle.lp_standard.specs.Connectives.{Connective, connective_of}
 use Rattle.lp_standard.specs.Connectives as connective
 use Rattle.lp_model.specs.Flat.{Goal, Atomic, Cut, Either, Exists, Forall, Assume, Not, Goals, goal_list, Clause, clause, instantiate_goals, type_goals}
 use Rattle.lp_model.specs.Branch.{Entry, Branch, Answer, Task, Go, Try, Stop, Lack, both_written, entries}
-use Rattle.lp_model.specs.Search.{with_goals, follow, assigned, compared, candidates, goal_key, has_variables, tries, slots_of, slotted, pairs_of, renewed, try_clause, look_constant, look_atom, look_form, look_normal, look_not, look_goal, look_branch, look}
+use Rattle.lp_model.specs.Search.{with_goals, follow, assigned, compared, candidates, goal_looked, has_variables, tries, slots_of, slotted, pairs_of, renewed, try_clause, look_constant, look_atom, look_form, look_normal, look_not, look_goal, look_branch, look}
 use Rattle.lp_search_laws.proofs.Stack.Alongside.{images, state_map, told_map, Agree, alongside}
 
 abbrev pub typeless : Branch → Branch
@@ -61,23 +61,23 @@ each_same [] t e b mark = refl
 each_same (c ∷ cs) t e b mark = ap (λ ts. Try c t e (typeless b) mark ∷ ts) (each_same cs t e b mark)
 
 module _ (u n : ℕ) (P : List Clause) where
-  tries_same : (t : Term) (e : Entry) (b : Branch) (mark : ℕ) (o : Option (Option Atom)) → tries P t e (typeless b) mark o ≡ map typeless_task (tries P t e b mark o)
-  tries_same t e b mark None = refl
-  tries_same t e b mark (Some key) = each_same (candidates P e.assumed t key) t e b mark
+  tries_same : (e : Entry) (b : Branch) (mark : ℕ) (o : Option Term) → tries P e (typeless b) mark o ≡ map typeless_task (tries P e b mark o)
+  tries_same e b mark None = refl
+  tries_same e b mark (Some t) = each_same (candidates P e.assumed t) t e b mark
 
   module _ (height : ℕ) (e : Entry) (b : Branch) where
     constant_same : (t : Term) (c : ℕ) (us : List Term) → look_constant u n P height e (typeless b) t c us ≡ map typeless_task (look_constant u n P height e b t c us)
-    constant_same t c [] = tries_same t e b height (goal_key n (arguments t))
-    constant_same t c (x ∷ []) = tries_same t e b height (goal_key n (arguments t))
-    constant_same t c (x ∷ y ∷ z ∷ us) = tries_same t e b height (goal_key n (arguments t))
+    constant_same t c [] = tries_same e b height (goal_looked n t)
+    constant_same t c (x ∷ []) = tries_same e b height (goal_looked n t)
+    constant_same t c (x ∷ y ∷ z ∷ us) = tries_same e b height (goal_looked n t)
     constant_same t c (l ∷ r ∷ []) =
         if_same (nat_eq c 8) _ _ _ _ (follow_same b _)
         (if_same (nat_eq c 9) _ _ _ _ (assigned_same u n e.level l b (evaluate n r))
-        (if_same (nat_le 10 c && nat_le c 13) _ _ _ _ (compared_same c b (evaluate n l) (evaluate n r)) (tries_same t e b height (goal_key n (arguments t)))))
+        (if_same (nat_le 10 c && nat_le c 13) _ _ _ _ (compared_same c b (evaluate n l) (evaluate n r)) (tries_same e b height (goal_looked n t))))
 
     atom_same : (t x : Term) → look_atom u n P height e (typeless b) t x ≡ typeless_view (look_atom u n P height e b t x)
     atom_same t (atom (constant c ts)) = ap (λ ts. Takes (named c) ts) (constant_same t c (arguments t))
-    atom_same t (atom (eigen j)) = ap (λ ts. Takes (eigenconstant j) ts) (tries_same t e b height (goal_key n (arguments t)))
+    atom_same t (atom (eigen j)) = ap (λ ts. Takes (eigenconstant j) ts) (tries_same e b height (goal_looked n t))
     atom_same t (atom (logic x l)) = refl
     atom_same t (atom (integer z)) = refl
     atom_same t (atom (text s)) = refl

@@ -2,7 +2,7 @@
 use Rattle.std.proofs.Common.{ℕ, zero, suc, ◌+◌, List, [], ◌∷◌, ◌++◌, map, length, Option, Some, None, Bool, true, false}
 use Rattle.std.specs.Prelude.{cond, filter, nat_eq, nat_le, ◌&&◌, if◌then◌else◌}
 use Rattle.lp_calculus.specs.Types.{Ty}
-use Rattle.lp_calculus.specs.Term.{Term, index, atom, abs, app, Atom, constant, integer, text, eigen, logic, param}
+use Rattle.lp_calculus.specs.Term.{Term, index, atom, abs, app, constant, integer, text, eigen, logic, param}
 use Rattle.lp_calculus.specs.Fill.{Binding}
 use Rattle.lp_calculus.specs.Instance.{instance_term}
 use Rattle.lp_calculus.specs.Spine.{head_of, arguments}
@@ -18,7 +18,7 @@ use Rattle.lp_standard.specs.Connectives.{Connective, connective_of}
 use Rattle.lp_standard.specs.Connectives as connective
 use Rattle.lp_model.specs.Flat.{Goal, Atomic, Cut, Either, Exists, Forall, Assume, Not, Written, under_all, map_goal, map_goals, map_clause, map_clauses, Goals, no_goals, goals, goal_list, clause_list, Clause, clause, Clauses, no_clauses, clauses, instantiate_goals, type_goals}
 use Rattle.lp_model.specs.Branch.{Entry, Branch, Answer, Task, Go, Try, Stop, Lack, entries, put_entry, put_entries, type_entry, type_entries, both_written}
-use Rattle.lp_model.specs.Search.{with_goals, follow, assigned, compared, candidates, goal_key, tries, slots_of, slotted, pairs_of, renewed, try_clause, in_place, look_constant, look_atom, look_form, look_normal, look_goal, look_branch, look}
+use Rattle.lp_model.specs.Search.{with_goals, follow, assigned, compared, candidates, goal_looked, tries, slots_of, slotted, pairs_of, renewed, try_clause, in_place, look_constant, look_atom, look_form, look_normal, look_goal, look_branch, look}
 use Rattle.lp_search_laws.specs.Unnegated.{IsUnnegatedGoal, AreUnnegatedGoals, IsUnnegatedClause, AreUnnegatedClauses}
 
 -- tasks without negated goals
@@ -140,21 +140,21 @@ tries_each [] t e b mark h a k = tt
 tries_each (c ∷ cs) t e b mark h a k = ((h.0, a, k), tries_each cs t e b mark h.1 a k)
 
 module _ (u n : ℕ) (P : List Clause) (program : EachOf IsUnnegatedClause P) where
-  keyed_tries : (t : Term) (e : Entry) (b : Branch) (mark : ℕ) (o : Option (Option Atom)) → EachOf IsUnnegatedClause e.assumed → EachOf IsUnnegatedEntry b.goals → EachOf IsUnnegatedTask (tries P t e b mark o)
-  keyed_tries t e b mark None a h = (tt, tt)
-  keyed_tries t e b mark (Some key) a h = tries_each (candidates P e.assumed t key) t e b mark (each_append IsUnnegatedClause _ _ (filtered _ e.assumed a) (filtered _ P program)) a h
+  all_tries : (e : Entry) (b : Branch) (mark : ℕ) (o : Option Term) → EachOf IsUnnegatedClause e.assumed → EachOf IsUnnegatedEntry b.goals → EachOf IsUnnegatedTask (tries P e b mark o)
+  all_tries e b mark None a h = (tt, tt)
+  all_tries e b mark (Some t) a h = tries_each (candidates P e.assumed t) t e b mark (each_append IsUnnegatedClause _ _ (filtered _ e.assumed a) (filtered _ P program)) a h
 
   module _ (height : ℕ) (e : Entry) (b : Branch) (a : EachOf IsUnnegatedClause e.assumed) (h : EachOf IsUnnegatedEntry b.goals) where
     constant_each : (t : Term) (c : ℕ) (ts : List Term) → EachOf IsUnnegatedTask (look_constant u n P height e b t c ts)
-    constant_each t c [] = keyed_tries t e b height (goal_key n (arguments t)) a h
-    constant_each t c (x ∷ []) = keyed_tries t e b height (goal_key n (arguments t)) a h
-    constant_each t c (x ∷ y ∷ z ∷ ts) = keyed_tries t e b height (goal_key n (arguments t)) a h
+    constant_each t c [] = all_tries e b height (goal_looked n t) a h
+    constant_each t c (x ∷ []) = all_tries e b height (goal_looked n t) a h
+    constant_each t c (x ∷ y ∷ z ∷ ts) = all_tries e b height (goal_looked n t) a h
     constant_each t c (l ∷ r ∷ []) =
-        if_each (nat_eq c 8) _ _ (followed b _ h) (if_each (nat_eq c 9) _ _ (assigned_each u n e.level l b (evaluate n r) h) (if_each (nat_le 10 c && nat_le c 13) _ _ (compared_each c b (evaluate n l) (evaluate n r) h) (keyed_tries t e b height (goal_key n (arguments t)) a h)))
+        if_each (nat_eq c 8) _ _ (followed b _ h) (if_each (nat_eq c 9) _ _ (assigned_each u n e.level l b (evaluate n r) h) (if_each (nat_le 10 c && nat_le c 13) _ _ (compared_each c b (evaluate n l) (evaluate n r) h) (all_tries e b height (goal_looked n t) a h)))
 
     atom_view : (t k : Term) → IsUnnegatedView (look_atom u n P height e b t k)
     atom_view t (atom (constant c ts)) = constant_each t c (arguments t)
-    atom_view t (atom (eigen j)) = keyed_tries t e b height (goal_key n (arguments t)) a h
+    atom_view t (atom (eigen j)) = all_tries e b height (goal_looked n t) a h
     atom_view t (atom (logic x l)) = (tt, tt)
     atom_view t (atom (integer z)) = tt
     atom_view t (atom (text s)) = tt

@@ -12,7 +12,7 @@ use Rattle.lp_model.specs.Unify.{solve, unit_limit}
 use Rattle.lp_model.specs.Values.{Value, Outcome, Is, evaluate, term_of}
 use Rattle.lp_model.specs.Flat.{Atomic, Not, Written, Goals, Clause, clause}
 use Rattle.lp_model.specs.Branch.{Entry, Branch, Task, Go, Try, Stop, Lack, both_written}
-use Rattle.lp_model.specs.Search.{has_variables, goal_key, slots_of, slotted, pairs_of, renewed}
+use Rattle.lp_model.specs.Search.{has_variables, goal_looked, slots_of, slotted, pairs_of, renewed}
 use Rattle.lp_search_laws.specs.Holds.{equation}
 
 abbrev pub IsFound : {A : Type 0} → Option A → Type 0
@@ -43,7 +43,7 @@ HeadHasEnough n level b (abs t) us = Unit {0}
 HeadHasEnough n level b (app t u) us = Unit {0}
 
 pub record AtomHasEnough (n level : ℕ) (b : Branch) (u : Term) : Type 0 where
-  pub key : IsFound (goal_key n (arguments u))
+  pub looked : IsFound (goal_looked n u)
   pub head : HeadHasEnough n level b (head_of u) (arguments u)
 
 -- the goal has a head-normal form, and where that is an atom, what is asked of it comes

@@ -1,16 +1,16 @@
 // An atom whose head is a declared constant or an eigenconstant is provable exactly by the candidates.
 
-ghost use Rattle.std.specs.Prelude.{◌≡◌, ℕ, List, ◌∷◌, Option, Some};
+ghost use Rattle.std.specs.Prelude.{◌≡◌, ℕ, List, ◌∷◌, Some};
 ghost use Rattle.lp_calculus.specs.Types.{Ty};
-ghost use Rattle.lp_calculus.specs.Term.{Term, Atom};
-ghost use Rattle.lp_calculus.specs.Spine.{head_of, arguments};
+ghost use Rattle.lp_calculus.specs.Term.{Term};
+ghost use Rattle.lp_calculus.specs.Spine.{head_of};
 ghost use Rattle.lp_lemmas.specs.Each.{AnyOf, EachOf};
 ghost use Rattle.lp_model.specs.Pair.{Closing, closed};
 ghost use Rattle.lp_model.specs.Proofs.{Declared, IsFormula, IsAtomHead, PlainlyFocusable, no_leaf};
 ghost use Rattle.lp_standard.specs.Schemes.{IsStandard};
 ghost use Rattle.lp_model.specs.Flat.{Goals, Atomic, Clause, clause, formula_of_clause};
 ghost use Rattle.lp_model.specs.Flatten.{ClauseFormula};
-ghost use Rattle.lp_model.specs.Search.{with_goals, candidates, goal_key, tries};
+ghost use Rattle.lp_model.specs.Search.{with_goals, candidates, goal_looked, tries};
 ghost use Rattle.lp_model.specs.Look.{head_normal};
 ghost use Rattle.lp_model.specs.Branch.{Entry, Branch};
 ghost use Rattle.lp_model.specs.Answers.{Query};
@@ -32,10 +32,10 @@ pub fn program_clauses_in_focus()
 
 /// An atom holds, from the clauses of the program and the assumed ones, exactly where some candidate for it serves.
 pub fn atoms_have_candidates()
-    ensures { (d : Declared) → IsStandard d → (E : List Ty) (P A : List Clause) (c : Closing) (n : ℕ) (t : Term) (key : Option Atom) → EachOf (IsProgramClause d) P → EachOf (IsAssumedClause d E c) A → IsAtomHead (head_of t) → IsFormula d E (closed c t) → goal_key n (arguments t) ≡ Some key → (Holds no_leaf d E (clauses_at P A c) c t → AnyOf (λ x. Serves no_leaf d E (clauses_at P A c) c x (closed c t)) (candidates P A t key)) × (AnyOf (λ x. Serves no_leaf d E (clauses_at P A c) c x (closed c t)) (candidates P A t key) → Holds no_leaf d E (clauses_at P A c) c t) }
+    ensures { (d : Declared) → IsStandard d → (E : List Ty) (P A : List Clause) (c : Closing) (t : Term) → EachOf (IsProgramClause d) P → EachOf (IsAssumedClause d E c) A → IsAtomHead (head_of t) → IsFormula d E (closed c t) → (Holds no_leaf d E (clauses_at P A c) c t → AnyOf (λ x. Serves no_leaf d E (clauses_at P A c) c x (closed c t)) (candidates P A t)) × (AnyOf (λ x. Serves no_leaf d E (clauses_at P A c) c x (closed c t)) (candidates P A t) → Holds no_leaf d E (clauses_at P A c) c t) }
 {}
 
 /// The tries that the search puts for an atom stand for its branch.
 pub fn atoms_are_tried()
-    ensures { (n height : ℕ) (d : Declared) → IsStandard d → (P : List Clause) → EachOf (IsProgramTyped d) P → (q : Query) (y : BranchTyping) (b : Branch) (e : Entry) (es : List Entry) (t u : Term) → b.goals ≡ e ∷ es → e.goal ≡ Atomic t → head_normal n t ≡ Some u → IsAtomHead (head_of u) → IsTypedBranch n d q y b → StandFor no_leaf n d P q (going y b) (tries P u e (with_goals b es) height (goal_key n (arguments u))) }
+    ensures { (n height : ℕ) (d : Declared) → IsStandard d → (P : List Clause) → EachOf (IsProgramTyped d) P → (q : Query) (y : BranchTyping) (b : Branch) (e : Entry) (es : List Entry) (t u : Term) → b.goals ≡ e ∷ es → e.goal ≡ Atomic t → head_normal n t ≡ Some u → IsAtomHead (head_of u) → IsTypedBranch n d q y b → StandFor no_leaf n d P q (going y b) (tries P e (with_goals b es) height (goal_looked n u)) }
 {}

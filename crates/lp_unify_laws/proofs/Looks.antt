@@ -1,5 +1,5 @@
 -- What a look at a term tells: the term converts to what was seen, and nothing new stands there.
-use Rattle.std.proofs.Common.{◌≡◌, ℕ, zero, suc, List, [], ◌∷◌, ◌∙◌, refl, sym, ap, subst as transport, arith, Bool, true, false, if◌then◌else◌, nat_eq, not, Some, None}
+use Rattle.std.proofs.Common.{◌≡◌, ℕ, zero, suc, List, [], ◌∷◌, ◌∙◌, refl, sym, ap, subst as transport, arith, Bool, true, false, if◌then◌else◌, nat_eq, not, Option, Some, None}
 use Rattle.std.proofs.lemmas.Bool.Decides.{nat_tests}
 use Rattle.std.specs.Prelude.{◌&&◌, option_map, option_and_then}
 use Rattle.lp_calculus.specs.Term.{Term, index, atom, abs, app, apply, shift, substitute, constant, integer, text, eigen, logic, param}
@@ -12,7 +12,7 @@ use Rattle.lp_calculus.proofs.Eta.{app_same}
 use Rattle.lp_model.specs.Patterns.{eigens}
 use Rattle.lp_model.specs.Eigens.{beta_normal, eigen_of, as_eigen}
 use Rattle.lp_calculus.specs.Normal.{is_absent, contracted, eta_normal}
-use Rattle.lp_model.specs.Look.{Look, an_abs, rigid, flexible, looked, head_normal, look, as_eigens, only_if, pattern_of, are_distinct, are_above}
+use Rattle.lp_model.specs.Look.{Look, an_abs, rigid, flexible, looked, head_normal, look, weak_step, top_normal, as_eigens, only_if, pattern_of, are_distinct, are_above}
 use Rattle.lp_calculus.proofs.Steps.{Step, converts_on, converts_is, converts_step, converts_abs, converts_app, converts_reduces}
 
 -- the strategies take steps
@@ -37,6 +37,34 @@ head_reduces (suc n) t s e = elim (head_step t) as (λ o. head_step t ≡ o → 
   | None ↦ λ p q. let r : t ≡ s = cc in transport (ReducesTo t) r (done t)
   | Some r ↦ λ p q. then_step (head_steps t r p) (head_reduces n r s q)
 ] refl e
+
+-- a step that leaves an abstraction as it is is one of them
+pub weak_head : (t s : Term) → weak_step t ≡ Some s → head_step t ≡ Some s
+weak_head (index i) s e = absurd (cc)
+weak_head (atom a) s e = absurd (cc)
+weak_head (abs b) s e = absurd (cc)
+weak_head (app (abs b) u) s e = e
+weak_head (app (index i) u) s e = absurd (cc)
+weak_head (app (atom a) u) s e = absurd (cc)
+weak_head (app (app t v) u) s e = elim (weak_step (app t v)) as (λ o. weak_step (app t v) ≡ o → option_term (λ y. app y u) o ≡ Some s → head_step (app (app t v) u) ≡ Some s) [
+  | None ↦ λ p q. absurd (cc)
+  | Some r ↦ λ p q. ap (option_term (λ y. app y u)) (weak_head (app t v) r p) ∙ q
+] refl e
+
+pub top_reduces : (n : ℕ) (t s : Term) → top_normal n t ≡ Some s → ReducesTo t s
+top_reduces zero t s e = absurd (cc)
+top_reduces (suc n) t s e = elim (weak_step t) as (λ o. weak_step t ≡ o → (elim o [ None ↦ Some t | Some r ↦ top_normal n r ]) ≡ Some s → ReducesTo t s) [
+  | None ↦ λ p q. let r : t ≡ s = cc in transport (ReducesTo t) r (done t)
+  | Some r ↦ λ p q. then_step (head_steps t r (weak_head t r p)) (top_reduces n r s q)
+] refl e
+
+-- where there is a head-normal form so many steps are enough
+pub top_found : (n : ℕ) (t v : Term) → head_normal n t ≡ Some v → (s : Term) × (top_normal n t ≡ Some s)
+top_found zero t v e = absurd (cc)
+top_found (suc n) t v e = elim (weak_step t) as (λ o. weak_step t ≡ o → (s : Term) × ((elim o [ None ↦ Some t | Some r ↦ top_normal n r ]) ≡ Some s)) [
+  | None ↦ λ p. (t, refl)
+  | Some r ↦ λ p. top_found n r v (sym (ap (λ (o : Option Term). elim o as (λ z. Option Term) [ None ↦ Some t | Some x ↦ head_normal n x ]) (weak_head t r p)) ∙ e)
+] refl
 
 -- a look as a term
 abbrev pub seen : Look → Term

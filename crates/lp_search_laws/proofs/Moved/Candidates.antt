@@ -4,23 +4,23 @@ use Rattle.std.specs.Prelude.{◌&&◌, filter, option_map}
 use Rattle.std.specs.List.{list_any}
 use Rattle.std.proofs.lemmas.List.{map-append}
 use Rattle.lp_calculus.specs.Types.{Ty}
-use Rattle.lp_calculus.specs.Term.{Term, Atom, index, atom, abs, app, constant, integer, text, eigen, logic, param}
+use Rattle.lp_calculus.specs.Term.{Term, Atom, index, atom, abs, app, apply, constant, integer, text, eigen, logic, param}
 use Rattle.lp_calculus.specs.Normal.{eta_normal}
 use Rattle.lp_calculus.specs.Spine.{head_of, arguments, arguments_and}
 use Rattle.lp_standard.specs.Numbers as number
 use Rattle.lp_standard.specs.Connectives.{Connective, connective_of, connective_at, connective_of_constant, body_of}
 use Rattle.lp_standard.specs.Connectives as connective
 use Rattle.lp_model.specs.declared.ending.Fault.TheVariants.{NotClosed}
-use Rattle.lp_model.specs.Look.{head_normal}
+use Rattle.lp_model.specs.Look.{top_normal}
 use Rattle.lp_model.specs.Eigens.{beta_normal}
 use Rattle.lp_model.specs.Same.{same_name}
 use Rattle.lp_model.specs.Index.{instantiate}
 use Rattle.lp_model.specs.Pair.{Pair}
 use Rattle.lp_model.specs.Flat.{Clause, clause, Written, same_type}
 use Rattle.lp_model.specs.Values.{Value, Number, Bytes, Faults, both, single, is_two_place, is_one_place, value, evaluate, term_of}
-use Rattle.lp_model.specs.Search.{key_of, may_meet, first_key, has_head, passes, candidates, goal_key, are_absent, is_new, Slot, slot_of, slots_of, slotted, pairs_of, has_type_variable, is_variable, has_variable, beta_normals, has_variables}
+use Rattle.lp_model.specs.Search.{key_of, may_meet, first_key, has_head, passes, candidates, first_looked, goal_looked, are_absent, is_new, Slot, slot_of, slots_of, slotted, pairs_of, has_type_variable, is_variable, has_variable, beta_normals, has_variables}
 use Rattle.lp_unify_laws.proofs.Instances.{map_map, map_same_as, bind_map}
-use Rattle.lp_search_laws.proofs.Moved.Terms.{Moving, moved, moved_atom, moved_all, moved_head_normal, moved_beta_normal, eta_moved, absent_moved}
+use Rattle.lp_search_laws.proofs.Moved.Terms.{Moving, moved, moved_atom, moved_all, moved_top_normal, moved_beta_normal, eta_moved, absent_moved}
 use Rattle.lp_search_laws.proofs.Moved.Heads.{name_moved}
 use Rattle.lp_search_laws.proofs.Moved.Rules.{moved_pair}
 use Rattle.lp_search_laws.proofs.Moved.Goals.{moved_shift, AreMoved, instantiate_moved, moved_clause, moved_written}
@@ -187,8 +187,11 @@ heads_same m h t = (λ i. same_name (head_of_moved m h i) (head_of_moved m t i))
 has_head_moved : (m : Moving) (t : Term) (c : Clause) → has_head (moved m t) (moved_clause m c) ≡ has_head t c
 has_head_moved m t (clause k vs h b) = heads_same m h t
 
-passes_moved : (m : Moving) (t : Term) (key : Option Atom) (c : Clause) → passes (moved m t) (option_map (moved_atom m) key) (moved_clause m c) ≡ passes t key c
-passes_moved m t key (clause k vs h b) = λ i. heads_same m h t i && ((λ j. may_meet ((ap first_key (arguments_moved m h) ∙ first_moved m (arguments h)) j) (option_map (moved_atom m) key)) ∙ meet_moved m (first_key (arguments h)) key) i
+firsts_same : (m : Moving) (t : Term) → first_key (arguments (moved m t)) ≡ option_map (moved_atom m) (first_key (arguments t))
+firsts_same m t = ap first_key (arguments_moved m t) ∙ first_moved m (arguments t)
+
+passes_moved : (m : Moving) (t : Term) (c : Clause) → passes (moved m t) (moved_clause m c) ≡ passes t c
+passes_moved m t (clause k vs h b) = λ i. heads_same m h t i && ((λ j. may_meet (firsts_same m h j) (firsts_same m t j)) ∙ meet_moved m (first_key (arguments h)) (first_key (arguments t))) i
 
 if_mapped : {A B : Type 0} (f : A → B) (b : Bool) (x : A) (xs : List A) → (if b then f x ∷ map f xs else map f xs) ≡ map f (if b then x ∷ xs else xs)
 if_mapped f true x xs = refl
@@ -198,14 +201,22 @@ filter_moved : {A : Type 0} (f : A → A) (p q : A → Bool) → ((a : A) → q 
 filter_moved f p q h [] = refl
 filter_moved f p q h (x ∷ xs) = (λ i. if h x i then f x ∷ filter_moved f p q h xs i else filter_moved f p q h xs i) ∙ if_mapped f (p x) x (filter p xs)
 
-pub candidates_moved : (m : Moving) (P A : List Clause) → map (moved_clause m) P ≡ P → (t : Term) (key : Option Atom) → candidates P (map (moved_clause m) A) (moved m t) (option_map (moved_atom m) key) ≡ map (moved_clause m) (candidates P A t key)
-candidates_moved m P A e t key =
-    (λ i. filter_moved (moved_clause m) (has_head t) (has_head (moved m t)) (has_head_moved m t) A i ++ ((λ j. filter (passes (moved m t) (option_map (moved_atom m) key)) (sym e j)) ∙ filter_moved (moved_clause m) (passes t key) (passes (moved m t) (option_map (moved_atom m) key)) (passes_moved m t key) P) i) ∙
-    sym (map-append (moved_clause m) (filter (has_head t) A) (filter (passes t key) P))
+pub candidates_moved : (m : Moving) (P A : List Clause) → map (moved_clause m) P ≡ P → (t : Term) → candidates P (map (moved_clause m) A) (moved m t) ≡ map (moved_clause m) (candidates P A t)
+candidates_moved m P A e t =
+    (λ i. filter_moved (moved_clause m) (has_head t) (has_head (moved m t)) (has_head_moved m t) A i ++ ((λ j. filter (passes (moved m t)) (sym e j)) ∙ filter_moved (moved_clause m) (passes t) (passes (moved m t)) (passes_moved m t) P) i) ∙
+    sym (map-append (moved_clause m) (filter (has_head t) A) (filter (passes t) P))
 
-pub goal_key_moved : (m : Moving) (n : ℕ) (ts : List Term) → goal_key n (moved_all m ts) ≡ option_map (option_map (moved_atom m)) (goal_key n ts)
-goal_key_moved m n [] = refl
-goal_key_moved m n (t ∷ ts) = map_map (moved m) key_of key_of (option_map (moved_atom m)) (head_normal n t) (head_normal n (moved m t)) (moved_head_normal m n t) (key_moved m)
+apply_moved : (m : Moving) (h : Term) (ts : List Term) → apply (moved m h) (moved_all m ts) ≡ moved m (apply h ts)
+apply_moved m h [] = refl
+apply_moved m h (t ∷ ts) = apply_moved m (app h t) ts
+
+first_looked_moved : (m : Moving) (n : ℕ) (h : Term) (ts : List Term) → first_looked n (moved m h) (moved_all m ts) ≡ option_map (moved m) (first_looked n h ts)
+first_looked_moved m n h [] = refl
+first_looked_moved m n h (t ∷ ts) =
+    map_map (moved m) (λ s. apply (moved m h) (s ∷ moved_all m ts)) (λ s. apply h (s ∷ ts)) (moved m) (top_normal n t) (top_normal n (moved m t)) (moved_top_normal m n t) (λ s. apply_moved m h (s ∷ ts))
+
+pub goal_looked_moved : (m : Moving) (n : ℕ) (t : Term) → goal_looked n (moved m t) ≡ option_map (moved m) (goal_looked n t)
+goal_looked_moved m n t = (λ i. first_looked n (head_of_moved m t i) (arguments_moved m t i)) ∙ first_looked_moved m n (head_of t) (arguments t)
 
 -- the slots of a clause's variables
 absent_all : (m : Moving) (k : ℕ) (ts : List Term) → are_absent k (moved_all m ts) ≡ are_absent k ts

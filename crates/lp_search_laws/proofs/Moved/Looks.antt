@@ -5,7 +5,7 @@ use Rattle.std.proofs.lemmas.List.{map-append, length-map}
 use Rattle.lp_lemmas.specs.Each.{EachOf}
 use Rattle.lp_lemmas.proofs.Each.{each_append, each_map}
 use Rattle.lp_calculus.specs.Types.{Ty}
-use Rattle.lp_calculus.specs.Term.{Term, Atom, index, atom, abs, app, substitute, constant, integer, text, eigen, logic, param}
+use Rattle.lp_calculus.specs.Term.{Term, index, atom, abs, app, substitute, constant, integer, text, eigen, logic, param}
 use Rattle.lp_calculus.specs.Fill.{Binding, put_all}
 use Rattle.lp_calculus.specs.Instance.{instance_term}
 use Rattle.lp_calculus.specs.Spine.{head_of, arguments}
@@ -23,14 +23,14 @@ use Rattle.lp_model.specs.Unify.{Unified, Fail, Solution, Spent, State, solve}
 use Rattle.lp_model.specs.Flat.{Goal, Atomic, Cut, Either, Exists, Forall, Assume, Not, Written, Goals, Clause, clause, Clauses, goal_list, clause_list, under_all, type_goals, instantiate_goals}
 use Rattle.lp_model.specs.Values.{Outcome, Is, Faults, Number, Bytes, evaluate, term_of, ordered}
 use Rattle.lp_model.specs.Branch.{Entry, Branch, Answer, Task, Go, Try, Stop, Lack, put_entry, put_entries, type_entry, type_entries, resume, entries, both_written}
-use Rattle.lp_model.specs.Search.{with_goals, follow, equated, assigned, compared, candidates, goal_key, renewed, slots_of, slotted, pairs_of, is_new, typed_try, try_clause, has_variables, has_no_pairs, tries, in_place, at_next_level, look_constant, look_atom, look_form, look_normal, opened, look_not, look_goal, look_branch, look}
-use Rattle.lp_search_laws.proofs.Moved.Terms.{Moving, moved, moved_atom, moved_all, moved_binding, moved_substitute, moved_head_normal, instance_moved}
+use Rattle.lp_model.specs.Search.{with_goals, follow, equated, assigned, compared, candidates, goal_looked, renewed, slots_of, slotted, pairs_of, is_new, typed_try, try_clause, has_variables, has_no_pairs, tries, in_place, at_next_level, look_constant, look_atom, look_form, look_normal, opened, look_not, look_goal, look_branch, look}
+use Rattle.lp_search_laws.proofs.Moved.Terms.{Moving, moved, moved_all, moved_binding, moved_substitute, moved_head_normal, instance_moved}
 use Rattle.lp_search_laws.proofs.Moved.Heads.{types_moved}
 use Rattle.lp_search_laws.proofs.Moved.Scans.{up_one}
 use Rattle.lp_search_laws.proofs.Moved.Rules.{moved_pair, put_types_moved}
 use Rattle.lp_search_laws.proofs.Moved.Solves.{AreAbove, moved_unified, IsAboveSolved, solve_moved, solve_above}
 use Rattle.lp_search_laws.proofs.Moved.Goals.{AreMoved, moved_goal, moved_goals, moved_clause, moved_written, moved_entry, moved_entries, moved_branch, moved_answer, moved_task, over_list, put_all_moved, entries_put, entries_typed, entries_moved, both_written_moved, clauses_listed, goals_listed, entries_listed, moved_clauses, goals_instantiated, goals_typed}
-use Rattle.lp_search_laws.proofs.Moved.Candidates.{head_of_moved, arguments_moved, moved_connective, connective_moved, evaluate_moved, moved_value, variables_moved, same_types, candidates_moved, goal_key_moved, terms_for, pairs_moved}
+use Rattle.lp_search_laws.proofs.Moved.Candidates.{head_of_moved, arguments_moved, moved_connective, connective_moved, evaluate_moved, moved_value, variables_moved, same_types, candidates_moved, goal_looked_moved, terms_for, pairs_moved}
 use Rattle.lp_search_laws.proofs.Moved.Runs.{image, Leaves}
 
 -- levels
@@ -131,15 +131,15 @@ compared_high k c b h (Some (Is (Number x))) (Some (Is (Number y))) = go (ordere
     go false = tt
 
 -- candidates
-tries_moved : (m : Moving) (P : List Clause) → map (moved_clause m) P ≡ P → (t : Term) (e : Entry) (b : Branch) (mark : ℕ) (o : Option (Option Atom)) → tries P (moved m t) (moved_entry m e) (moved_branch m b) mark (option_map (option_map (moved_atom m)) o) ≡ moved_tasks m (tries P t e b mark o)
-tries_moved m P p t e b mark None = refl
-tries_moved m P p t e b mark (Some key) =
-    ap (map (λ c. Try c (moved m t) (moved_entry m e) (moved_branch m b) mark)) (candidates_moved m P e.assumed p t key) ∙
-    over_list (λ c. Try c t e b mark) (λ c. Try c (moved m t) (moved_entry m e) (moved_branch m b) mark) (moved_task m) (moved_clause m) (λ c. refl) (candidates P e.assumed t key)
+tries_moved : (m : Moving) (P : List Clause) → map (moved_clause m) P ≡ P → (e : Entry) (b : Branch) (mark : ℕ) (o : Option Term) → tries P (moved_entry m e) (moved_branch m b) mark (option_map (moved m) o) ≡ moved_tasks m (tries P e b mark o)
+tries_moved m P p e b mark None = refl
+tries_moved m P p e b mark (Some t) =
+    ap (map (λ c. Try c (moved m t) (moved_entry m e) (moved_branch m b) mark)) (candidates_moved m P e.assumed p t) ∙
+    over_list (λ c. Try c t e b mark) (λ c. Try c (moved m t) (moved_entry m e) (moved_branch m b) mark) (moved_task m) (moved_clause m) (λ c. refl) (candidates P e.assumed t)
 
-tries_high : (k : ℕ) (P : List Clause) (t : Term) (e : Entry) (b : Branch) (mark : ℕ) → k ≤ e.level → IsHigh k b → (o : Option (Option Atom)) → AreHighTasks k (tries P t e b mark o)
-tries_high k P t e b mark l h None = (tt, tt)
-tries_high k P t e b mark l h (Some key) = go (candidates P e.assumed t key)
+tries_high : (k : ℕ) (P : List Clause) (e : Entry) (b : Branch) (mark : ℕ) → k ≤ e.level → IsHigh k b → (o : Option Term) → AreHighTasks k (tries P e b mark o)
+tries_high k P e b mark l h None = (tt, tt)
+tries_high k P e b mark l h (Some t) = go (candidates P e.assumed t)
   where
     go : (cs : List Clause) → AreHighTasks k (map (λ c. Try c t e b mark) cs)
     go [] = tt
@@ -178,8 +178,8 @@ high_entries n k q [] A w mark = tt
 high_entries n k q (g ∷ gs) A w mark = (q, high_entries n k q gs A w mark)
 
 module _ (m : Moving) (u n : ℕ) (P : List Clause) (p : map (moved_clause m) P ≡ P) (height : ℕ) (e : Entry) (b : Branch) (l : m.from ≤ e.level) (h : IsHigh m.from b) where
-  called : (t : Term) → tries P (moved m t) (moved_entry m e) (moved_branch m b) height (goal_key n (arguments (moved m t))) ≡ moved_tasks m (tries P t e b height (goal_key n (arguments t)))
-  called t = ap (tries P (moved m t) (moved_entry m e) (moved_branch m b) height) (ap (goal_key n) (arguments_moved m t) ∙ goal_key_moved m n (arguments t)) ∙ tries_moved m P p t e b height (goal_key n (arguments t))
+  called : (t : Term) → tries P (moved_entry m e) (moved_branch m b) height (goal_looked n (moved m t)) ≡ moved_tasks m (tries P e b height (goal_looked n t))
+  called t = ap (tries P (moved_entry m e) (moved_branch m b) height) (goal_looked_moved m n t) ∙ tries_moved m P p e b height (goal_looked n t)
 
   constant_moved : (t : Term) (c : ℕ) (us : List Term) → look_constant u n P height (moved_entry m e) (moved_branch m b) (moved m t) c (moved_all m us) ≡ moved_tasks m (look_constant u n P height e b t c us)
   constant_moved t c [] = called t
@@ -191,13 +191,13 @@ module _ (m : Moving) (u n : ℕ) (P : List Clause) (p : map (moved_clause m) P 
   constant_moved t c (x ∷ y ∷ z ∷ us) = called t
 
   constant_high : (t : Term) (c : ℕ) (us : List Term) → AreHighTasks m.from (look_constant u n P height e b t c us)
-  constant_high t c [] = tries_high m.from P t e b height l h (goal_key n (arguments t))
-  constant_high t c (x ∷ []) = tries_high m.from P t e b height l h (goal_key n (arguments t))
+  constant_high t c [] = tries_high m.from P e b height l h (goal_looked n t)
+  constant_high t c (x ∷ []) = tries_high m.from P e b height l h (goal_looked n t)
   constant_high t c (x ∷ y ∷ []) =
       if_high m.from (nat_eq c number.Equal) _ _ (equated_high m.from u n e.level x y b l h)
       (if_high m.from (nat_eq c number.Is) _ _ (assigned_high m.from u n e.level x b l h (evaluate n y))
-      (if_high m.from (is_order c) _ _ (compared_high m.from c b h (evaluate n x) (evaluate n y)) (tries_high m.from P t e b height l h (goal_key n (arguments t)))))
-  constant_high t c (x ∷ y ∷ z ∷ us) = tries_high m.from P t e b height l h (goal_key n (arguments t))
+      (if_high m.from (is_order c) _ _ (compared_high m.from c b h (evaluate n x) (evaluate n y)) (tries_high m.from P e b height l h (goal_looked n t))))
+  constant_high t c (x ∷ y ∷ z ∷ us) = tries_high m.from P e b height l h (goal_looked n t)
 
   abbrev Sees : View Task Answer → View Task Answer → Type 0
   Sees v w = v ≡ moved_view m w
@@ -218,7 +218,7 @@ module _ (m : Moving) (u n : ℕ) (P : List Clause) (p : map (moved_clause m) P 
 
   atom_stays : (t g : Term) → Stays (look_atom u n P height e b t g)
   atom_stays t (atom (constant c ts)) = constant_high t c (arguments t)
-  atom_stays t (atom (eigen k)) = tries_high m.from P t e b height l h (goal_key n (arguments t))
+  atom_stays t (atom (eigen k)) = tries_high m.from P e b height l h (goal_looked n t)
   atom_stays t (atom (logic x j)) = (tt, tt)
   atom_stays t (atom (integer z)) = tt
   atom_stays t (atom (text s)) = tt

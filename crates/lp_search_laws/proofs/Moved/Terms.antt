@@ -13,7 +13,7 @@ use Rattle.lp_unify_laws.proofs.TypeInstances.{term_map, or_map}
 use Rattle.lp_unify_laws.proofs.Instances.{map_map, bind_map}
 use Rattle.lp_model.specs.Patterns.{eigens, member}
 use Rattle.lp_model.specs.Eigens.{beta_normal, eigen_of, as_eigen}
-use Rattle.lp_model.specs.Look.{Look, an_abs, rigid, flexible, looked, head_normal, look, as_eigens, only_if, pattern_of, are_distinct, are_above}
+use Rattle.lp_model.specs.Look.{Look, an_abs, rigid, flexible, looked, head_normal, look, weak_step, top_normal, as_eigens, only_if, pattern_of, are_distinct, are_above}
 
 -- another eigenconstant for each, and another level; from a level on what comes next stays what comes next
 pub record Moving : Type 0 where
@@ -59,6 +59,15 @@ moved_head_step m (app (abs b) u) = ap (λ z. Some z) (sym (moved_substitute m u
 moved_head_step m (app (index i) u) = refl
 moved_head_step m (app (atom a) u) = refl
 moved_head_step m (app (app t v) u) = term_map (moved m) (λ s. app s (moved m u)) (moved m) (λ s. app s u) (head_step (app t v)) (head_step (moved m (app t v))) (moved_head_step m (app t v)) (λ s. refl)
+
+moved_weak_step : (m : Moving) (t : Term) → weak_step (moved m t) ≡ option_term (moved m) (weak_step t)
+moved_weak_step m (index i) = refl
+moved_weak_step m (atom a) = refl
+moved_weak_step m (abs b) = refl
+moved_weak_step m (app (abs b) u) = ap (λ z. Some z) (sym (moved_substitute m u b))
+moved_weak_step m (app (index i) u) = refl
+moved_weak_step m (app (atom a) u) = refl
+moved_weak_step m (app (app t v) u) = term_map (moved m) (λ s. app s (moved m u)) (moved m) (λ s. app s u) (weak_step (app t v)) (weak_step (moved m (app t v))) (moved_weak_step m (app t v)) (λ s. refl)
 
 pub moved_leftmost : (m : Moving) (t : Term) → leftmost_step (moved m t) ≡ option_term (moved m) (leftmost_step t)
 moved_leftmost m (index i) = refl
@@ -109,6 +118,10 @@ next_moved m f t h (Some s) o' e = ap (λ (z : Option Term). elim z as (λ y. Op
 pub moved_head_normal : (m : Moving) (n : ℕ) (t : Term) → head_normal n (moved m t) ≡ option_map (moved m) (head_normal n t)
 moved_head_normal m zero t = refl
 moved_head_normal m (suc n) t = next_moved m (head_normal n) t (moved_head_normal m n) (head_step t) (head_step (moved m t)) (moved_head_step m t)
+
+pub moved_top_normal : (m : Moving) (n : ℕ) (t : Term) → top_normal n (moved m t) ≡ option_map (moved m) (top_normal n t)
+moved_top_normal m zero t = refl
+moved_top_normal m (suc n) t = next_moved m (top_normal n) t (moved_top_normal m n) (weak_step t) (weak_step (moved m t)) (moved_weak_step m t)
 
 pub moved_beta_normal : (m : Moving) (n : ℕ) (t : Term) → beta_normal n (moved m t) ≡ option_map (moved m) (beta_normal n t)
 moved_beta_normal m zero t = refl

@@ -5,7 +5,7 @@ use Rattle.lp_calculus.specs.Term.{Term, atom, substitute, eigen}
 use Rattle.lp_calculus.specs.Convert.{head_step, leftmost_step}
 use Rattle.lp_calculus.specs.Normal.{eta_normal}
 use Rattle.lp_model.specs.Eigens.{beta_normal, as_eigen, eigen_of}
-use Rattle.lp_model.specs.Look.{an_abs, rigid, flexible, looked, head_normal, look, as_eigens, pattern_of}
+use Rattle.lp_model.specs.Look.{an_abs, rigid, flexible, looked, head_normal, look, weak_step, top_normal, as_eigens, pattern_of}
 use Rattle.lp_model.specs.Scan.{Side, is_side, allows_head, Scanned, broken, whole, above, beside, scanned_pattern, scan, scan_all}
 
 -- what the first gives, the second gives
@@ -34,6 +34,14 @@ head_normal_more (suc n) zero h t = absurd (omega arith)
 head_normal_more (suc n) (suc m) h t = elim (head_step t) as (λ o. Below (elim o [ None ↦ Some t | Some s ↦ head_normal n s ]) (elim o [ None ↦ Some t | Some s ↦ head_normal m s ])) [
   | None ↦ below_same (Some t)
   | Some s ↦ head_normal_more n m (omega arith) s
+]
+
+pub top_normal_more : (n m : ℕ) → n ≤ m → (t : Term) → Below (top_normal n t) (top_normal m t)
+top_normal_more zero m h t = below_none (top_normal m t)
+top_normal_more (suc n) zero h t = absurd (omega arith)
+top_normal_more (suc n) (suc m) h t = elim (weak_step t) as (λ o. Below (elim o [ None ↦ Some t | Some s ↦ top_normal n s ]) (elim o [ None ↦ Some t | Some s ↦ top_normal m s ])) [
+  | None ↦ below_same (Some t)
+  | Some s ↦ top_normal_more n m (omega arith) s
 ]
 
 pub beta_normal_more : (n m : ℕ) → n ≤ m → (t : Term) → Below (beta_normal n t) (beta_normal m t)

@@ -2,7 +2,7 @@ use Rattle.std.proofs.Common.{◌-◌, ◌<◌, suc, length, take, drop, refl, a
 use Rattle.lp_model.specs.Pair.{closed}
 use Rattle.lp_term.proofs.Several.{last_ones}
 use Rattle.lp_term.proofs.Contract.{each_left, each_steps}
-use Rattle.lp_pattern.specs.Seen.{weak_step}
+use Rattle.lp_model.specs.Look.{weak_step}
 use Rattle.lp_pattern.proofs.Looking.{closed_redex}
 use Rattle.lp_pattern.proofs.Walking.{too_deep, whole_alone}
 use Rattle.lp_pattern.proofs.look.contract.Goals as goal

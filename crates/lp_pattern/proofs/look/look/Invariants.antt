@@ -2,8 +2,9 @@ use Rattle.std.proofs.Common.{◌≡◌, ◌≤◌, ◌-◌, Some}
 use Rattle.lp_calculus.specs.Convert.{steps}
 use Rattle.lp_term.specs.Nodes.{Extends}
 use Rattle.lp_model.specs.Pair.{Closing, closed}
+use Rattle.lp_model.specs.Look.{weak_step}
 use Rattle.lp_pattern.specs.Under.{IsReading, under}
-use Rattle.lp_pattern.specs.Seen.{weak_step, at_hand, Stands}
+use Rattle.lp_pattern.specs.Seen.{at_hand, Stands}
 use Rattle.lp_pattern.proofs.look.look.Given as goal
 
 abbrev pub invariant-steps : goal.invariant-steps

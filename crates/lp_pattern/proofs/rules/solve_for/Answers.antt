@@ -7,10 +7,10 @@ use Rattle.lp_calculus.specs.Convert.{steps}
 use Rattle.lp_calculus.specs.Term.{Term}
 use Rattle.lp_model.specs.Pair.{Closing}
 use Rattle.lp_model.specs.Rule.{solve_for}
+use Rattle.lp_model.specs.Look.{weak_step}
 use Rattle.lp_pattern.proofs.Walking.{open_kept}
 use Rattle.lp_pattern.specs.Reading.{side_of}
 use Rattle.lp_pattern.specs.Ruling.{view, IsRuledOut}
-use Rattle.lp_pattern.specs.Seen.{weak_step}
 use Rattle.lp_pattern.specs.Turning.{IsOpenReading}
 use Rattle.lp_pattern.specs.Under.{under}
 use Rattle.lp_pattern.specs.Putting.{Known}
