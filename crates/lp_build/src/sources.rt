@@ -1,8 +1,8 @@
 // Files as they were loaded.
-ghost use Rattle.std.specs.Prelude.{◌≡◌, ◌≤◌, ◌<◌, ◌^◌, Option, IfSome, length, string_bytes, true};
+ghost use Rattle.std.specs.Prelude.{◌≡◌, ◌≤◌, ◌<◌, ◌^◌, Option, IfSome, MatchOption, length, string_bytes, true};
 ghost use Rattle.lp_base.specs.declared.limits.TheConstants.{MAX_MODULES};
 ghost use Rattle.lp_base.specs.Held.{Held};
-ghost use Rattle.lp_build.specs.Named.{IsFileNamed};
+ghost use Rattle.lp_build.specs.Named.{IsFileAt, IsFileNamed};
 ghost use Rattle.lp_build.specs.Told.{IsTold, AreLoaded};
 
 use lp_lexer::Token;
@@ -57,7 +57,8 @@ fn is_named(file: &File, name: &str) -> bool
 impl Sources {
     /// The name of a loaded file, with its ending, and its bytes.
     pub fn file(&self, number: u32) -> Option<(&str, &[u8])>
-        ensures { (told : Option Held) → AreLoaded told self.now → IfSome result (λ file. IsTold told file.0.now file.1.now) }
+        ensures told { (told : Option Held) → AreLoaded told self.now → IfSome result (λ file. IsTold told file.0.now file.1.now) }
+        ensures found { MatchOption result (length self.now.files.items ≤ number) (λ file. IsFileAt self.now.files.items number file.0.now file.1.now) }
     {
         match self.files.get(number as usize) {
             Some(found) => Some((found.name.as_str(), found.text.bytes.as_slice())),

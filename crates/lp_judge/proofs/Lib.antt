@@ -5,3 +5,4 @@ mod Closed
 mod Checkings
 mod Provings
 pub mod Sourced
+mod Negations

@@ -22,8 +22,9 @@ use Rattle.lp_cert.specs.Standing.{IsSameProgram}
 use Rattle.lp_load.specs.Asked.{IsAsked}
 use Rattle.lp_load.specs.Loaded.{HasGrown, IsBuiltFrom}
 use Rattle.lp_load.proofs.Asking.{asked_stays}
-use Rattle.lp_load.proofs.Programs.{built_later, loaded_later}
+use Rattle.lp_load.proofs.Programs.{built_later}
 use Rattle.lp_judge.specs.Asked.{IsAskedFrom, IsAskedOf}
+use Rattle.lp_judge.specs.Negated.{AreWithoutNot, texts_of}
 use Rattle.lp_judge.specs.declared.asking.Asked.{Asked}
 
 module _ (names later : Assembled) (grown : Extends names.program.bank later.program.bank) (same : IsSameProgram names later) where
@@ -43,15 +44,23 @@ pub asked_later : (told : Option Held) (name text : List ℕ) (names later : Ass
     → IsAskedFrom told name text names q → IsAskedFrom told name text later q
 asked_later told name text names later q grown same h = record {
   built = record { assembled = later; signature = h.built.signature; table = h.built.table };
-  program = loaded_later told name h.built _ (named_later names later grown same h.built h.same) h.program;
+  program = record {
+    sources = h.program.sources;
+    begins = h.program.begins;
+    first = h.program.first;
+    files = h.program.files;
+    read = h.program.read;
+    program = built_later h.program.sources h.built _ (named_later names later grown same h.built h.same) h.program.program;
+  };
   same = refl;
   asked = asked_stays names.program.bank later.program.bank grown h.built.table h.built.signature text q h.asked;
+  without = h.without;
 }
 
 -- what was asked of the program of files, which has grown since
 pub asked_of_files : (sources : Sources) (text bytes : List ℕ) (old new : Built) (q : Typed) → bytes ≡ text → IsBuiltFrom sources old → HasGrown old new
-    → IsAsked old.table old.signature bytes new.assembled.program.bank q → IsAskedOf sources text new.assembled q
-asked_of_files sources text bytes old new q e is grown h = record {
+    → IsAsked old.table old.signature bytes new.assembled.program.bank q → AreWithoutNot (texts_of sources.files.items text) → IsAskedOf sources text new.assembled q
+asked_of_files sources text bytes old new q e is grown h without = record {
   built = new;
   program = built_later sources old new grown is;
   same = refl;
@@ -59,6 +68,7 @@ asked_of_files sources text bytes old new q e is grown h = record {
       subst (λ t. IsAsked t new.signature text new.assembled.program.bank q) (sym grown.table)
       (subst (λ s. IsAsked old.table s text new.assembled.program.bank q) (sym grown.signature)
       (subst (λ w. IsAsked old.table old.signature w new.assembled.program.bank q) e h));
+  without = without;
 }
 
 -- what was asked of the files that the folder tells
@@ -70,6 +80,7 @@ asked_from told name text sources (Ok a) begins first files read h = record {
   program = record { sources = sources; begins = begins; first = first; files = files; read = read; program = h.program };
   same = h.same;
   asked = h.asked;
+  without = h.without;
 }
 asked_from told name text sources (Err e) begins first files read h = tt
 

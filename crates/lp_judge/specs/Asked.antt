@@ -13,20 +13,24 @@ use Rattle.lp_build.specs.declared.build.Built.{Built}
 use Rattle.lp_build.specs.declared.sources.Sources.{Sources}
 use Rattle.lp_load.specs.Asked.{IsAsked}
 use Rattle.lp_load.specs.Loaded.{IsBuiltFrom, IsLoaded}
+use Rattle.lp_judge.specs.Negated.{AreWithoutNot, texts_of}
 
--- it is what the text says under the operators and the names of this program, which is that of the texts of files
+-- it is what the text says under the operators and the names of this program, which is that of the texts of files; the word `not` stands in none of them
 pub record IsAskedOf (sources : Sources) (text : List ℕ) (names : Assembled) (q : Typed) : Type 0 where
   pub built : Built
   pub program : IsBuiltFrom sources built
   pub same : built.assembled ≡ names
   pub asked : IsAsked built.table built.signature text names.program.bank q
+  pub without : AreWithoutNot (texts_of sources.files.items text)
 
--- it is what the text says under the operators and the names of this program, which is that of the module of a name, as the folder tells its texts
+-- it is what the text says under the operators and the names of this program, which is that of the module of a name, as the folder tells its texts; the
+-- word `not` stands in none of them
 pub record IsAskedFrom (told : Option Held) (name text : List ℕ) (names : Assembled) (q : Typed) : Type 0 where
   pub built : Built
   pub program : IsLoaded told name built
   pub same : built.assembled ≡ names
   pub asked : IsAsked built.table built.signature text names.program.bank q
+  pub without : AreWithoutNot (texts_of program.sources.files.items text)
 
 -- these are the modules of the texts of files, and the query is what its text says under the operators and the names of their program
 pub record AreTextsOf (sources : Sources) (text : List ℕ) (modules : List Module) (b : Nodes) (q : Typed) : Type 0 where

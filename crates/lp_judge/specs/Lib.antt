@@ -1,5 +1,7 @@
+pub mod Negated
 pub mod Asked
 pub mod Judged
 pub mod Checked
 pub mod Proved
 pub mod Proofs
+mod inner

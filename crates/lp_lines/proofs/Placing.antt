@@ -2,7 +2,7 @@
 use Rattle.std.proofs.Common.{◌≡◌, ℕ, ◌+◌, ◌<◌, ◌≤◌, List, length, refl, sym, ap, ◌∙◌, subst, arith, inl, inr, Result, Ok, Err}
 use Rattle.std.specs.Global.{Global}
 use Rattle.std.specs.Result.{IsErrAnd}
-use Rattle.std.specs.Prelude.{Vec, true, false, ◌⊎◌, take, IfOk, IfErr}
+use Rattle.std.specs.Prelude.{Vec, Bool, true, false, ◌⊎◌, take, IfOk, IfErr}
 use Rattle.std.proofs.lemmas.Bool.{cases_lt}
 use Rattle.std.proofs.lemmas.List.{take_all}
 use Rattle.lp_base.specs.declared.place.Place.{Place}
@@ -10,7 +10,8 @@ use Rattle.lp_lexer.specs.declared.token.Token.{Token}
 use Rattle.lp_lexer.specs.declared.token.LexFault.{LexFault}
 use Rattle.lp_lexer.specs.declared.token.LexFault.TheVariants as fault
 use Rattle.lp_lexer.specs.Lexis.{Lexes, ends, skips, takes, bad, open_text, open_comment, big_number, HasFault, place_at, moved}
-use Rattle.lp_lines.specs.Placed.{IsOfText, IfSource, IsSaid, IsCauseOf, is_message, source_line}
+use Rattle.lp_lines.specs.Placed.{IsBlamed, IsOfText, IfSource, IsSaid, IsCauseOf, is_message, said_as, source_line}
+use Rattle.lp_lines.specs.declared.cause.Blame.{Blame}
 use Rattle.lp_lines.specs.declared.cause.Cause.{Cause}
 use Rattle.lp_lines.specs.declared.refusal.Refusal.{Refusal}
 use Rattle.lp_lines.specs.declared.refusal.Refusal.TheVariants.{Line, Memory}
@@ -59,7 +60,8 @@ pub great_number : (text : List ℕ) (p : Place) → HasFault text (fault.BigNum
 great_number text p h = has_place h.1
 
 -- a line that says a message of such a place
-pub line_of_place : {E : Type 0} (r : Result (Vec ℕ Global) E) (file text : List ℕ) (p : Place) (said : List ℕ) → IsPlaceOf text p → is_message false said ≡ true → IfOk r (λ line. line.items ≡ source_line file p said) → IfOk r (λ line. IsOfText file text line.items)
+pub line_of_place : {E : Type 0} (r : Result (Vec ℕ Global) E) (file text : List ℕ) (p : Place) (said : List ℕ) → IsPlaceOf text p → is_message false
+    said ≡ true → IfOk r (λ line. line.items ≡ source_line file p said) → IfOk r (λ line. IsOfText file text line.items)
 line_of_place (Err e) file text p said h m w = tt
 line_of_place (Ok line) file text p said h m w = record { from = h.0; within = h.1.0; said = said; message = inl m; wrote = w ∙ ap (λ q. source_line file q said) h.1.1 }
 
@@ -78,11 +80,30 @@ pub sources_weaker : {T : Type 0} (P Q : List ℕ → Type 0) → ((line : List 
 sources_weaker P Q f (Ok x) h = tt
 sources_weaker P Q f (Err r) h = source_weaker P Q f r h
 
--- a line that says a message of the place behind some bytes
-pub line_behind : {E : Type 0} (r : Result (Vec ℕ Global) E) (file text before : List ℕ) (from : ℕ) (said : List ℕ) (p : Place) → from ≤ length text → before ≡ take from text → p ≡ place_at before (length before) → IsSaid text from said → IfOk r (λ line. line.items ≡ source_line file p said) → IfOk r (λ line. IsOfText file text line.items)
-line_behind (Err e) file text before from said p within is place message w = tt
-line_behind (Ok line) file text before from said p within is place message w =
-    record { from = from; within = within; said = said; message = message; wrote = w ∙ ap (λ q. source_line file q said) (place ∙ place_behind text before from is) }
+-- the line of what is said of a text, whose place was read off the bytes before it
+pub blamed_behind : {E : Type 0} (r : Result (Vec ℕ Global) E) (file text before said : List ℕ) (b : Blame) (p : Place) → b.spot.from ≤ length text →
+    before ≡ take b.spot.from text → p ≡ place_at before (length before) →
+    said ≡ said_as b.is_named b.text.now text b.spot.from b.spot.to → IfOk r (λ line. line.items ≡ source_line file p said) → IfOk r (λ line. IsBlamed file text b line.items)
+blamed_behind (Err e) file text before said b p within is place says w = tt
+blamed_behind (Ok line) file text before said b p within is place says w =
+    record { within = within; wrote = w ∙ (ap (λ q. source_line file q said) (place ∙ place_behind text before b.spot.from is) ∙ ap (source_line file (place_at text b.spot.from)) says) }
+
+-- what is said is a message, behind which the name at the place may stand
+said_is : (is_named : Bool) (message text : List ℕ) (from to : ℕ) → is_message is_named message ≡ true → IsSaid text from (said_as is_named message text from to)
+said_is true message text from to m = inr (message, (to, (m, refl)))
+said_is false message text from to m = inl m
+
+-- so such a line tells of a byte of the text, or of its end
+pub blamed_of_text : {file text line : List ℕ} (b : Blame) → is_message b.is_named b.text.now ≡ true → IsBlamed file text b line → IsOfText file text line
+blamed_of_text {text = text} b m h =
+    record {
+      from = b.spot.from;
+      within = h.within;
+      said = said_as b.is_named b.text.now text b.spot.from b.spot.to;
+      message = said_is b.is_named
+          b.text.now text b.spot.from b.spot.to m;
+      wrote = h.wrote;
+    }
 
 -- a refusal that is no line of a text
 pub nowhere : (P : List ℕ → Type 0) (r : Refusal) → IfSource (λ line. ⊥) r → IfSource P r

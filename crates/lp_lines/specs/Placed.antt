@@ -5,6 +5,7 @@ use Rattle.std.specs.Str.{bytes_eq}
 use Rattle.lp_base.specs.declared.place.Place.{Place}
 use Rattle.lp_base.specs.declared.status.Status.TheVariants as variant
 use Rattle.lp_lexer.specs.Lexis.{HasFault, place_at}
+use Rattle.lp_lines.specs.declared.cause.Blame.{Blame}
 use Rattle.lp_lines.specs.declared.cause.Cause.{Cause}
 use Rattle.lp_lines.specs.declared.cause.Cause.TheVariants as cause
 use Rattle.lp_lines.specs.declared.refusal.Refusal.{Refusal}
@@ -41,6 +42,11 @@ IsSaid text from said =
     (is_message false said ≡ true)
     ⊎ ((message : List ℕ) × ((to : ℕ) × ((is_message true message ≡ true) × (said ≡ message ++ codes " " ++ piece_of text from to))))
 
+-- a message, behind it the name at the place where one is told
+abbrev pub said_as : (is_named : Bool) → (message text : List ℕ) → (from to : ℕ) → List ℕ
+said_as true message text from to = message ++ codes " " ++ piece_of text from to
+said_as false message text from to = message
+
 abbrev pub source_line : (file : List ℕ) → Place → (said : List ℕ) → List ℕ
 source_line file at said = codes "source: " ++ file ++ codes ":" ++ decimal at.line ++ codes ":" ++ decimal at.column ++ codes ": " ++ said ++ codes "\n"
 
@@ -51,6 +57,11 @@ pub record IsOfText (file text line : List ℕ) : Type 0 where
   pub said : List ℕ
   pub message : IsSaid text from said
   pub wrote : line ≡ source_line file (place_at text from) said
+
+-- the line of what is said of a text: the place is that of its first byte, in the text or at its end
+pub record IsBlamed (file text : List ℕ) (b : Blame) (line : List ℕ) : Type 0 where
+  pub within : b.spot.from ≤ length text
+  pub wrote : line ≡ source_line file (place_at text b.spot.from) (said_as b.is_named b.text.now text b.spot.from b.spot.to)
 
 -- a fault of tokens is one of this text; each message is one of those that are said
 abbrev pub IsCauseOf : (text : List ℕ) → Cause → Type 0
@@ -63,3 +74,8 @@ IsCauseOf text cause.Memory = Unit {0}
 abbrev pub IfSource : (List ℕ → Type 0) → Refusal → Type 0
 IfSource P (Line said line) = said ≡ variant.Source → P line.items
 IfSource P Memory = Unit {0}
+
+-- what is refused for a cause in a text says this cause
+abbrev pub SaysOf : (file text : List ℕ) → Cause → Refusal → Type 0
+SaysOf file text (cause.Text b) r = IfSource (IsBlamed file text b) r
+SaysOf file text _ r = Unit {0}

@@ -37,7 +37,8 @@ pub fn at(text: &'static str, spot: Spot) -> Cause
 /// A text that is said of a name.
 pub fn named(text: &'static str, spot: Spot) -> Cause
     requires { is_message true text.now ≡ true }
-    ensures { (said : List ℕ) → IsCauseOf said result }
+    ensures message { (said : List ℕ) → IsCauseOf said result }
+    ensures text { result ≡ Cause.Text (record { text = text.entry; spot = spot; is_named = true }) }
 {
     Cause::Text(Blame {
         text,

@@ -4,7 +4,7 @@ ghost use Rattle.std.specs.Fmt.{decimal};
 ghost use Rattle.lp_lexer.specs.Lexis.{HasFault};
 ghost use Rattle.lp_lines.specs.Lines.{limit_line};
 ghost use Rattle.lp_lines.specs.Ends.{IsOtherLimit};
-ghost use Rattle.lp_lines.specs.Placed.{IsCauseOf, IsOfText, IsSaid, IfSource, is_message, piece_of, source_line};
+ghost use Rattle.lp_lines.specs.Placed.{IsBlamed, IsCauseOf, IsOfText, IfSource, SaysOf, is_message, piece_of, said_as, source_line};
 ghost use Rattle.lp_lines.specs.Refusals.{IsTextRefusal};
 
 use crate::cause::{Blame, Cause};
@@ -68,8 +68,7 @@ fn message_of_name(alloc: Global, text: &[u8], blame: &Blame) -> Result<Vec<u8>,
 
 // What is said of a text.
 fn message(alloc: Global, text: &[u8], blame: &Blame) -> Result<Vec<u8>, Memory>
-    requires { is_message blame.now.is_named blame.now.text.now ≡ true }
-    ensures { IfOk result (λ said. IsSaid text.now blame.now.spot.from said.items) }
+    ensures { IfOk result (λ said. said.items ≡ said_as blame.now.is_named blame.now.text.now text.now blame.now.spot.from blame.now.spot.to) }
 {
     if blame.is_named {
         return message_of_name(alloc, text, blame);
@@ -79,8 +78,7 @@ fn message(alloc: Global, text: &[u8], blame: &Blame) -> Result<Vec<u8>, Memory>
 
 // The line of what is said of a text. The place is read off the text itself.
 fn blamed_line(alloc: Global, file: &str, text: &[u8], blame: &Blame) -> Result<Vec<u8>, Memory>
-    requires { is_message blame.now.is_named blame.now.text.now ≡ true }
-    ensures { IfOk result (λ line. IsOfText file.now text.now line.items) }
+    ensures { IfOk result (λ line. IsBlamed file.now text.now blame.now line.items) }
 {
     let Some(before) = text.get(..blame.spot.from) else {
         return Err(Memory);
@@ -94,6 +92,7 @@ pub fn blamed(alloc: Global, file: &str, text: &[u8], blame: &Blame) -> Refusal
     requires { is_message blame.now.is_named blame.now.text.now ≡ true }
     ensures refusal { IsTextRefusal result }
     ensures placed { IfSource (IsOfText file.now text.now) result }
+    ensures says { IfSource (IsBlamed file.now text.now blame.now) result }
 {
     match blamed_line(alloc, file, text, blame) {
         Ok(line) => Refusal::Line(Status::Source, line),
@@ -144,6 +143,7 @@ pub fn query_refused(alloc: Global, text: &[u8], cause: Cause) -> Refusal
     requires { IsCauseOf text.now cause }
     ensures refusal { IsTextRefusal result }
     ensures placed { IfSource (IsOfText (codes "query") text.now) result }
+    ensures says { SaysOf (codes "query") text.now cause result }
 {
     match cause {
         Cause::Tokens(fault) => without_tokens(alloc, "query", fault),

@@ -31,13 +31,3 @@ grown_then a b c g h = record {
 -- a program that has grown is that of the same texts
 pub built_later : (sources : Sources) (a b : Built) → HasGrown a b → IsBuiltFrom sources a → IsBuiltFrom sources b
 built_later sources a b g h = record { first = h.first; is = h.is; grown = grown_then h.first a b h.grown g }
-
-pub loaded_later : (told : Option Held) (root : List ℕ) (a b : Built) → HasGrown a b → IsLoaded told root a → IsLoaded told root b
-loaded_later told root a b g h = record {
-  sources = h.sources;
-  begins = h.begins;
-  first = h.first;
-  files = h.files;
-  read = h.read;
-  program = built_later h.sources a b g h.program;
-}

@@ -8,7 +8,7 @@ ghost use Rattle.lp_lines.specs.Looked.{Looked, refusal_of};
 ghost use Rattle.lp_lines.specs.Placed.{IsCauseOf, IfSource};
 ghost use Rattle.lp_lines.specs.Refusals.{IsSourceRefusal, IsTextRefusal};
 ghost use Rattle.lp_load.specs.Loaded.{HasGrown, IsBuiltFrom, IsLoaded};
-ghost use Rattle.lp_load.specs.Placed.{IsOfFile};
+ghost use Rattle.lp_load.specs.Placed.{IsOfFile, SaysOfFile};
 ghost use Rattle.lp_load.specs.Tells.{Tells};
 
 use lp_base::Folder;
@@ -28,6 +28,7 @@ pub fn text_refused(alloc: Global, sources: &Sources, cause: Cause) -> Refusal
     requires { (text : List ℕ) → IsCauseOf text cause }
     ensures refusal { IsTextRefusal result }
     ensures placed { (told : Option Held) → AreLoaded told sources.now → IfSource (IsOfFile told) result }
+    ensures says { SaysOfFile sources.now.files.items cause result }
 {
     match cause {
         Cause::Text(blame) => match sources.file(blame.spot.file) {

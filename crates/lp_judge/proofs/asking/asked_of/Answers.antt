@@ -22,4 +22,4 @@ returns-in-Ok-first_not-clause-asked c = λ read.
       names = c.ask.ensures.names;
       signature = c.ask.ensures.signature;
       table = c.ask.ensures.table;
-    }) c.in-Ok-ask.ensures.asked
+    }) c.in-Ok-ask.ensures.asked (c.in-Ok-first_not.ensures.none read)
