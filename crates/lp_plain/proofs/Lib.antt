@@ -66,3 +66,4 @@ pub mod GoalsUnder
 pub mod ProgramBodies
 pub mod KnownGoals
 pub mod ReadClauses
+pub mod TryRead
