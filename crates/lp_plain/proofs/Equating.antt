@@ -22,7 +22,7 @@ pub nothing_unified : (m : Machine) (c : Closing) → IsOpenReading m.bank m.bin
 nothing_unified m c r levels ds p k n u e = subst (IsUnifiedAs Unified.Fits levels m.branch.next c m n) (nothing_solved n ds m.branch.next u e) (
   c,
   r,
-  record { puts = λ t w. refl; last = refl; left = p; levels' = levels; older = λ x l. refl; known = k; knows = λ t w. w },
+  record { puts = λ d t w. refl; last = refl; left = p; levels' = levels; older = λ x l. refl; known = k; knows = λ d t w. w },
 )
 
 -- no equations and no pairs
