@@ -12,7 +12,7 @@ use Rattle.lp_pattern.specs.Putting.{Known}
 use Rattle.lp_plain.specs.Resuming.{AllTerms, AllOfGoal, AllOfGoals, AllOfClause, AllOfClauses, AllOfAssumed, AllOfEntries}
 use Rattle.lp_plain.specs.Written.{IsWritten}
 
-as_many : {A B : Type 0} (f : A → B) (xs : List A) → length (map f xs) ≡ length xs
+pub as_many : {A B : Type 0} (f : A → B) (xs : List A) → length (map f xs) ≡ length xs
 as_many f [] = refl
 as_many f (x ∷ xs) = ap suc (as_many f xs)
 

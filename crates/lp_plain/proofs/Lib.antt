@@ -67,3 +67,4 @@ pub mod ProgramBodies
 pub mod KnownGoals
 pub mod ReadClauses
 pub mod TryRead
+pub mod TryScopes

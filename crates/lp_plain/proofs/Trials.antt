@@ -73,7 +73,7 @@ head_closed z (atom (param k t)) h = absurd h
 head_closed z (abs b) h = absurd h
 head_closed z (app f a) h = head_closed z f h
 
-arguments_closed : (z : Closing) (x : Term) (more : List Term) → IsCallHead (head_of x) → arguments_and (closed z x) (map (closed z) more) ≡ map (closed z) (arguments_and x more)
+pub arguments_closed : (z : Closing) (x : Term) (more : List Term) → IsCallHead (head_of x) → arguments_and (closed z x) (map (closed z) more) ≡ map (closed z) (arguments_and x more)
 arguments_closed z (index i) more h = absurd h
 arguments_closed z (atom (constant c ts)) more h = refl
 arguments_closed z (atom (integer j)) more h = absurd h

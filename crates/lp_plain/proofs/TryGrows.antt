@@ -75,11 +75,11 @@ clause_more : (m n : Machine) (candidate : Candidate) (p : ℕ × Values) → Is
 clause_more m n (Candidate.Assumed i) p h = subst (IsMore m) (sym h.4) (types_more m m.branch.next_type (omega arith))
 clause_more m n (Candidate.Program i) p h = subst (IsMore m) (sym h.2.4) (types_more m (m.branch.next_type + h.2.0.type_vars) (omega arith))
 
-told_bank : (m n : Machine) (candidate : Candidate) (p : ℕ × Values) → IsClauseOf m n candidate p → n.bank ≡ m.bank
+pub told_bank : (m n : Machine) (candidate : Candidate) (p : ℕ × Values) → IsClauseOf m n candidate p → n.bank ≡ m.bank
 told_bank m n (Candidate.Assumed i) p h = ap (λ x. x.bank) h.4
 told_bank m n (Candidate.Program i) p h = ap (λ x. x.bank) h.2.4
 
-told_scopes : (m n : Machine) (candidate : Candidate) (p : ℕ × Values) → IsClauseOf m n candidate p → n.scopes ≡ m.scopes
+pub told_scopes : (m n : Machine) (candidate : Candidate) (p : ℕ × Values) → IsClauseOf m n candidate p → n.scopes ≡ m.scopes
 told_scopes m n (Candidate.Assumed i) p h = ap (λ x. x.scopes) h.4
 told_scopes m n (Candidate.Program i) p h = ap (λ x. x.scopes) h.2.4
 
@@ -124,7 +124,7 @@ more_stands m n g v i = record {
 }
 
 -- the goal's arguments, the first as it was looked at
-call_values : (m : Machine) (call : Call) (head : TermId) (olds args : List TermId) → args ≡ with_first call.first olds → IsNoApplication (tree m.bank head.0) → All (λ t. t.0 < length m.bank.terms) olds →
+pub call_values : (m : Machine) (call : Call) (head : TermId) (olds args : List TermId) → args ≡ with_first call.first olds → IsNoApplication (tree m.bank head.0) → All (λ t. t.0 < length m.bank.terms) olds →
     apply (tree m.bank head.0) (trees_of m.bank olds) ≡ tree m.bank call.goal.0 → IsGoalOf m call → AreValues m.bank args
 call_values m call head olds args fa alone inside spine G =
     goal_values m.bank (goal_of m call) args (subst (All (λ (t : TermId). t.0 < length m.bank.terms)) (sym fa) (first_within m.bank call.first olds inside G.first))

@@ -1,5 +1,5 @@
 -- A try leaves what the definition's leaves, as the bindings read it.
-use Rattle.std.proofs.Common.{◌≡◌, ℕ, suc, ◌+◌, ◌<◌, ◌≤◌, List, [], ◌∷◌, ◌++◌, map, length, refl, sym, ap, ◌∙◌, subst, arith, Bool, true, false, nat_eq, nat_lt, if◌then◌else◌, Some}
+use Rattle.std.proofs.Common.{◌≡◌, ℕ, zero, suc, ◌+◌, ◌<◌, ◌≤◌, List, [], ◌∷◌, ◌++◌, map, length, refl, sym, ap, ◌∙◌, subst, arith, Bool, true, false, nat_eq, nat_lt, if◌then◌else◌, Some}
 use Rattle.std.proofs.lemmas.Bool.{lt-ltb, le-ltb}
 use Rattle.lp_calculus.specs.Types.{Ty, var, instance}
 use Rattle.lp_calculus.specs.Term.{Term, Atom, index, atom, abs, app, constant, integer, text, eigen, logic, param}
@@ -122,7 +122,7 @@ placed_under : (z : Closing) (gs : List Goal) (A : List Clause) (w : Written) (l
 placed_under z [] A w l k = refl
 placed_under z (g ∷ gs) A w l k = ap (λ es. record { goal = goal_with (closed z) (instance z.types) g; assumed = map (clause_with (closed z) (instance z.types)) A; written = map_written (closed z) (instance z.types) w; level = l; mark = k } ∷ es) (placed_under z gs A w l k)
 
-list_under : (z : Closing) (gs : Goals) → map (goal_with (closed z) (instance z.types)) (goal_list gs) ≡ goal_list (map_goals (λ u. u) (λ u t. closed z t) (instance z.types) 0 gs)
+list_under : (z : Closing) (gs : Goals) → map (goal_with (closed z) (instance z.types)) (goal_list gs) ≡ goal_list (map_goals (λ u. u) (λ u t. closed z t) (instance z.types) zero gs)
 list_under z no_goals = refl
 list_under z (goals g gs) = ap (λ l. goal_with (closed z) (instance z.types) g ∷ l) (list_under z gs)
 
@@ -245,7 +245,7 @@ module _ (m n : Machine) (call : Call) (candidate : Candidate) (mark : ℕ) (u :
     abbrev raw : List Entry
     raw = entries (goal_list written_goals) (a.assumed call.place.assumed) (a.written call.place.standing) level (a.mark mark) ++ R.raw
 
-    goals_are : instantiate_goals (tried_values next level head goal) body ≡ map_goals (λ u. u) (λ u t. closed z t) (instance z.types) 0 written_goals
+    goals_are : instantiate_goals (tried_values next level head goal) body ≡ map_goals (λ u. u) (λ u t. closed z t) (instance z.types) zero written_goals
     goals_are =
         goals_lead z R.reading.shut θ (length vs + length T.outer) 0 0 0 0 τ ρ (tried_values next level head goal) ((puts fits vs h values σ T st G).2 z R.reading headed) T.body
         (goals_weaker (IsWritten T.arity T.types) IsLooseAt (λ d t k. within_loose (WrittenAtom T.arity T.types) d 0 d t (omega arith) k) (length vs + length T.outer) T.body w)
@@ -257,13 +257,16 @@ module _ (m n : Machine) (call : Call) (candidate : Candidate) (mark : ℕ) (u :
         (λ j. entries ((list_under z written_goals ∙ ap goal_list (sym goals_are)) j) (sym E.assumed j) (sym E.written j) level (a.mark mark) ++ b.goals) ∙
         ap (λ x. entries (goal_list (instantiate_goals (tried_values x level head goal) body)) e.assumed e.written level (a.mark mark) ++ b.goals) (sym R.next)
 
+    abbrev place_entry : Entry
+    place_entry = record { goal = Cut; assumed = a.assumed call.place.assumed; written = a.written call.place.standing; level = level; mark = a.mark mark }
+
     raw_known : AllOfEntries (λ d t. Within K d (closed z t)) raw
     raw_known =
         both_known (λ d t. Within K d (closed z t)) (entries (goal_list written_goals) (a.assumed call.place.assumed) (a.written call.place.standing) level (a.mark mark)) R.raw
-        (placed_known (λ d t. Within K d (closed z t)) (goal_list written_goals) (record { goal = Cut; assumed = a.assumed call.place.assumed; written = a.written call.place.standing; level = level; mark = a.mark mark })
+        (placed_known (λ d t. Within K d (closed z t)) (goal_list written_goals) place_entry
         (goals_in_list (λ d t. Within K d (closed z t)) written_goals (goals_off (Within K) (closed z) (instance z.types) 0 0 written_goals
         (subst (AllOfGoals (Within K) 0) goals_are (goals_put K (length vs) 0 (tried_values next level head goal) values_known body body_known))))
-        (entries_weaker (λ d t. Within (Known R.levels next) d (closed z t)) (λ d t. Within K d (closed z t)) (λ d t k. more d (closed z t) k) (_ ∷ []) ((tt, E.known_assumed, E.known_written), tt)))
+        (entries_weaker (λ d t. Within (Known R.levels next) d (closed z t)) (λ d t. Within K d (closed z t)) (λ d t k. more d (closed z t) k) (place_entry ∷ []) ((tt, E.known_assumed, E.known_written), tt)))
         (entries_weaker (λ d t. Within (Known R.levels next) d (closed z t)) (λ d t. Within K d (closed z t)) (λ d t k. more d (closed z t) k) R.raw R.known_goals)
 
     module _ (s : State) (sol : IsUnifiedAs Unified.Fits lv last z n 0 (Solution s)) where

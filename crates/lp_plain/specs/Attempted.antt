@@ -71,6 +71,7 @@ pub record IsOpened (old new : Machine) (r : Rule) (args : List TermId) (level :
 -- a scope may be opened in which values that stand in the bank are put, where these arguments do
 pub record OpensMore (old new : Machine) (args : List TermId) : Type 0 where
   pub more : IsMore old new
+  pub next_type : new.branch.next_type ≡ old.branch.next_type
   pub pairs : new.branch.pairs ≡ old.branch.pairs
   pub stands : AreValues old.bank args → AreValues old.bank old.scopes.values.items → AreValues new.bank new.scopes.values.items
 

@@ -1,10 +1,11 @@
 -- What a try leaves, beside the definition's: the tasks of its `Try`, of branches as the bindings read them.
-use Rattle.std.specs.Prelude.{◌≡◌, ℕ, ◌+◌, ◌<◌, ◌≤◌, List, [], ◌∷◌, ◌++◌, map, length, Option, Some}
+use Rattle.std.specs.Prelude.{◌≡◌, ℕ, zero, ◌+◌, ◌<◌, ◌≤◌, List, [], ◌∷◌, ◌++◌, map, length, Option, Some}
 use Rattle.lp_calculus.specs.Types.{Ty, var, instance}
 use Rattle.lp_calculus.specs.Term.{Term}
 use Rattle.lp_calculus.specs.Fill.{Within}
 use Rattle.lp_calculus.specs.Instance.{instance_term}
 use Rattle.lp_calculus.specs.Spine.{arguments, head_of}
+use Rattle.lp_term.specs.declared.node.TermId.{TermId}
 use Rattle.lp_model.specs.Branch.{Entry, Branch, Task, Go, Stop, entries, resume}
 use Rattle.lp_model.specs.Flat.{Written, Goal, Goals, Clause, clause, goal_list, instantiate_goals, map_goals, map_written, type_goals, under_all}
 use Rattle.lp_model.specs.Index.{lifted, instantiate}
@@ -24,8 +25,10 @@ use Rattle.lp_plain.specs.declared.unified.Unified.{Unified}
 use Rattle.lp_plain.specs.declared.instance.Values.{Values}
 use Rattle.lp_plain.specs.Assuming.{clause_in}
 use Rattle.lp_plain.specs.Entries.{Around, Reads, in_scope}
+use Rattle.lp_plain.specs.Instances.{values_of}
 use Rattle.lp_plain.specs.Renewal.{Fits, renewing}
 use Rattle.lp_plain.specs.Resuming.{AllTerms, AllOfAssumed, AllOfClause, AllOfGoals, TysOfGoals, AreKnownEntries, clause_with, entries_under}
+use Rattle.lp_plain.specs.Scopes.{Holds}
 use Rattle.lp_plain.specs.Trials.{IsGoalOf, IsHeadFor, IsTrialOf, goal_of, read_in, tried_pairs}
 use Rattle.lp_plain.specs.Unifying.{StandPairs}
 use Rattle.lp_plain.specs.Within.{StandsIn}
@@ -72,6 +75,15 @@ LeadTo z n τ ρ σ = (i : ℕ) → i < n → instantiate σ (closed z (τ i)) �
 abbrev pub tried_values : (next level : ℕ) → (head goal : Term) → ℕ → Term
 tried_values next level h t = slotted (slots_of [] (arguments h) (arguments t)) next level
 
+-- a candidate's clause and the scope of its variables in a try: their values are read as the definition's
+abbrev pub IsScopeFor : (old new : Machine) → Call → Candidate → (rule : ℕ) → Values → Type 0
+IsScopeFor m n call candidate rule inner =
+    (vs : List Ty) (h : Term) (values : Values) (σ : ℕ → Term) (T : IsTrialOf m candidate vs h values σ) → StandsIn m → IsGoalOf m call →
+    (rule ≡ T.rule) × (inner.types ≡ values.types) × (ws : List TermId) × Holds n.scopes.values.items n.scopes.blocks.items inner.scope ws ×
+    ((z : Closing) → IsOpenReading m.bank m.bindings m.branch.next z → IsHeadFor z (under_all lifted vs σ) (renewing values.types) (head_of h) →
+      LeadTo z (length vs + length T.outer) (under_all lifted vs σ) (values_of n.bank ws)
+      (tried_values m.branch.next call.place.level (read_in z (under_all lifted vs σ) (renewing values.types) h) (closed z (goal_of m call))))
+
 -- the goals of the clause stand in front of those behind the call, with values for its variables that are read as the definition's
 abbrev pub PutsGoals : (old new : Machine) → Call → Candidate → (mark : ℕ) → Type 0
 PutsGoals m n call candidate mark =
@@ -89,7 +101,7 @@ TakesTypes m n candidate =
 
 -- the goals of a clause as the bindings read them, with the values around it
 abbrev pub body_read : Closing → (ℕ → Term) → (ℕ → Ty) → Goals → Goals
-body_read z τ θ gs = map_goals (λ u. u) (λ u t. closed z t) (instance z.types) 0 (instantiate_goals τ (type_goals θ gs))
+body_read z τ θ gs = map_goals (λ u. u) (λ u t. closed z t) (instance z.types) zero (instantiate_goals τ (type_goals θ gs))
 
 -- the branch of a try before its unification: the clause's goals in front
 abbrev pub tried_branch : (level : ℕ) → (type_vars vars : ℕ) → (head goal : Term) → Goals → List Clause → Written → (mark : ℕ) → (rest : Branch) → Branch

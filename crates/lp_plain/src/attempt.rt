@@ -12,6 +12,7 @@ ghost use Rattle.lp_model.specs.Branch.{Entry};
 ghost use Rattle.lp_model.specs.Flat.{Goal};
 ghost use Rattle.lp_plain.specs.Assuming.{HasFrameAt, KeepsAssumed};
 ghost use Rattle.lp_plain.specs.Entries.{Around, IsListAt, KeepsGoals, Reads, placed};
+ghost use Rattle.lp_plain.specs.Followed.{IsScopeFor, IsTryOf, TakesTypes};
 ghost use Rattle.lp_plain.specs.Heads.{pair_in};
 ghost use Rattle.lp_plain.specs.Instances.{AreValues, IsNoParameter};
 ghost use Rattle.lp_plain.specs.Marks.{Marks, PutsMarks};
@@ -332,6 +333,8 @@ fn try_head(
     ensures more { OnOk result (IsMore machine.old machine.new) }
     ensures residual { OnOk result (StandPairs machine.old → StandPairs machine.new) }
     ensures stands { OnOk result (StandsIn machine.old → IsGoalOf machine.old call.now → StandsIn machine.new) }
+    ensures scope { IfOk result (λ tried. IsScopeFor machine.old machine.new call.now candidate tried.1 tried.2) }
+    ensures types { OnOk result (TakesTypes machine.old machine.new candidate) }
     ensures tried { IfOk result (λ tried. IsTriedAs machine.old machine.new call.now candidate tried.0) }
 {
     let mut spine = spine_of(machine.alloc, &machine.bank, call.goal)?;
@@ -355,6 +358,7 @@ pub(crate) fn attempt(
     ensures grows { OnOk result (GrowsByTry machine.old machine.new call.now) }
     ensures marks { IfOk result (λ u. u ≡ Unified.Fits → (least most : ℕ) → Marks least most machine.old call.now.behind → least ≤ mark → mark ≤ most → Marks least most machine.new machine.new.branch.goals) }
     ensures tried { IfOk result (IsTriedAs machine.old machine.new call.now candidate) }
+    ensures leaves { IfOk result (IsTryOf machine.old machine.new call.now candidate mark) }
 {
     let tried = try_head(machine, call, candidate)?;
     let unified = tried.0;

@@ -33,6 +33,7 @@ returns-clause-more c =
         denied = refl;
         counts = refl;
       };
+      next_type = refl;
       pairs = refl;
       stands = own_values_stand b d s z c.args.args.now c.as_slice.result.now m.branch.next c.args.level c.in_ok-found.found.now.slots.items c.args.around.scope
           c.in_ok-scope.scope E (ap length v ∙ c.in_ok-values.ensures.count)
