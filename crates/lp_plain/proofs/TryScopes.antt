@@ -66,8 +66,8 @@ module _ (m o : Machine) (k : ℕ) (call : Call) (r : Rule) (values inner : Valu
 
   pub scope_for : (n : Machine) → Extends o.bank n.bank → n.scopes ≡ o.scopes → (ws : List TermId) × Holds n.scopes.values.items n.scopes.blocks.items inner.scope ws ×
       ((z : Closing) → IsOpenReading m.bank m.bindings m.branch.next z → IsHeadFor z (under_all lifted vs σ) (renewing values.types) (head_of h) →
-        LeadTo z (length vs + length outer) (under_all lifted vs σ) (values_of n.bank ws)
-        (tried_values m.branch.next call.place.level (read_in z (under_all lifted vs σ) (renewing values.types) h) (closed z goal)))
+      LeadTo z (length vs + length outer) (under_all lifted vs σ) (values_of n.bank ws)
+      (tried_values m.branch.next call.place.level (read_in z (under_all lifted vs σ) (renewing values.types) h) (closed z goal)))
   scope_for n E s = (
     opened.0,
     subst (λ x. Holds x.values.items x.blocks.items inner.scope opened.0) (sym s) opened.2,
@@ -95,7 +95,7 @@ scope_is m mid o n call candidate p inner head olds args cl fa op bound alone in
     subst (λ v. IsOpened (with_types_to m S.next_type) o r args call.place.level v inner) S.values_are
     (subst (λ w. IsOpened w o r args call.place.level p.1 inner) S.mid_is (op r (ap (λ w. slice_get w.table.rules.items p.0) S.mid_is ∙ g))) in
     let f = scope_for m o S.next_type call r values inner args O (goal_of m call) (spine_arguments (tree m.bank head.0) (goal_of m call) (trees_of m.bank args) alone (goal_spine m call head olds args fa alone spine)) G.head
-        (call_values m call head olds args fa alone inside spine G) vs h σ T.is.3 T.outer T.scope T.at T.shut T.arity T.types T.written st.values n bound.bank bound.scopes in
+    (call_values m call head olds args fa alone inside spine G) vs h σ T.is.3 T.outer T.scope T.at T.shut T.arity T.types T.written st.values n bound.bank bound.scopes in
     (S.rule_is, O.types, f.0, f.1, f.2)
 
 -- its type variables
@@ -114,8 +114,8 @@ types_taken m mid n (Candidate.Program i) p cl e vs h values σ T own =
 -- the clause's goals come in front
 pub goals_put_in_front : (m n k o : Machine) (call : Call) (candidate : Candidate) (rule mark : ℕ) (inner : Values) → IsMore m n → IsScopeFor m n call candidate rule inner → KeepsGoals n k →
     ((r : Rule) → slice_get k.table.rules.items rule ≡ Some r → (a : Around) (gs : List Goal) (es : List Entry) →
-      IsListAt k (record { values = inner; assumed = call.place.assumed; standing = call.place.standing; level = call.place.level; mark = mark }) r.body gs → Reads k a call.behind es →
-      Reads o a o.branch.goals (placed a (record { values = inner; assumed = call.place.assumed; standing = call.place.standing; level = call.place.level; mark = mark }) gs ++ es)) →
+    IsListAt k (record { values = inner; assumed = call.place.assumed; standing = call.place.standing; level = call.place.level; mark = mark }) r.body gs → Reads k a call.behind es →
+    Reads o a o.branch.goals (placed a (record { values = inner; assumed = call.place.assumed; standing = call.place.standing; level = call.place.level; mark = mark }) gs ++ es)) →
     PutsGoals m o call candidate mark
 goals_put_in_front m n k o call candidate rule mark inner g scope noted body vs h values σ T st G =
     let s = scope vs h values σ T st G in
@@ -128,14 +128,17 @@ goals_put_in_front m n k o call candidate rule mark inner g scope noted body vs 
       frames = subst (λ v. GoesOn m.frames.items v.items) (sym g.frames) (goes_on_same m.frames.items);
       blocks = g.blocks;
       values = g.values;
-    }) (grows_kept n k noted) in
-    (
+    }) (grows_kept n k noted) in (
       values_of n.bank s.2,
       (λ a es h'.
-        subst (λ t. Reads o a o.branch.goals (placed a (record { values = inner; assumed = call.place.assumed; standing = call.place.standing; level = call.place.level; mark = mark }) (goal_list (in_scope (values_of n.bank s.2) t T.body)) ++ es)) s.1
-        (body r (ap (λ t. slice_get t.rules.items rule) table ∙ ap (slice_get m.table.rules.items) s.0 ∙ T.is.1) a (goal_list (in_scope (values_of n.bank s.2) inner.types T.body)) es
-        (T.body, values_of n.bank s.2, subst (λ t. IsListOf k.bank t r.body T.body) (sym table) (list_later m.bank k.bank E m.table st.table r.body T.body T.is.4),
-        (s.2, subst (λ x. Holds x.values.items x.blocks.items inner.scope s.2) (sym noted.known.scopes) s.3, subst (λ c. AreAt c s.2 (values_of n.bank s.2)) (sym noted.known.bank) (own_at n.bank s.2)), refl)
-        (reads_later m k st grows a call.behind es h'))),
+          subst (λ t. Reads o a o.branch.goals (placed a (record { values = inner; assumed = call.place.assumed; standing = call.place.standing; level = call.place.level; mark = mark }) (goal_list (in_scope (values_of n.bank s.2) t T.body)) ++ es)) s.1
+          (body r (ap (λ t. slice_get t.rules.items rule) table ∙ ap (slice_get m.table.rules.items) s.0 ∙ T.is.1) a (goal_list (in_scope (values_of n.bank s.2) inner.types T.body)) es (
+            T.body,
+            values_of n.bank s.2,
+            subst (λ t. IsListOf k.bank t r.body T.body) (sym table) (list_later m.bank k.bank E m.table st.table r.body T.body T.is.4),
+            (s.2, subst (λ x. Holds x.values.items x.blocks.items inner.scope s.2) (sym noted.known.scopes) s.3, subst (λ c. AreAt c s.2 (values_of n.bank s.2)) (sym noted.known.bank) (own_at n.bank s.2)),
+            refl,
+          )
+          (reads_later m k st grows a call.behind es h'))),
       s.4,
     )

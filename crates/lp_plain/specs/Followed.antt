@@ -1,5 +1,5 @@
--- What a try leaves, beside the definition's: the tasks of its `Try`, of branches as the bindings read them.
-use Rattle.std.specs.Prelude.{◌≡◌, ℕ, zero, ◌+◌, ◌<◌, ◌≤◌, List, [], ◌∷◌, ◌++◌, map, length, Option, Some}
+-- What a try leaves, beside the definition's: the tasks of its `Try`, of clauses, goals and branches as the bindings read them.
+use Rattle.std.specs.Prelude.{◌≡◌, ℕ, zero, ◌+◌, ◌<◌, ◌≤◌, nat_lt, if◌then◌else◌, List, [], ◌∷◌, ◌++◌, length, Option, Some}
 use Rattle.lp_calculus.specs.Types.{Ty, var, instance}
 use Rattle.lp_calculus.specs.Term.{Term}
 use Rattle.lp_calculus.specs.Fill.{Within}
@@ -7,7 +7,7 @@ use Rattle.lp_calculus.specs.Instance.{instance_term}
 use Rattle.lp_calculus.specs.Spine.{arguments, head_of}
 use Rattle.lp_term.specs.declared.node.TermId.{TermId}
 use Rattle.lp_model.specs.Branch.{Entry, Branch, Task, Go, Stop, entries, resume}
-use Rattle.lp_model.specs.Flat.{Written, Goal, Goals, Clause, clause, goal_list, instantiate_goals, map_goals, map_written, type_goals, under_all}
+use Rattle.lp_model.specs.Flat.{Written, Goals, Clause, clause, goal_list, instantiate_goals, map_goals, type_goals, under_all}
 use Rattle.lp_model.specs.Index.{lifted, instantiate}
 use Rattle.lp_model.specs.Pair.{Pair, Closing, closed}
 use Rattle.lp_model.specs.Rule.{type_pairs}
@@ -17,6 +17,7 @@ use Rattle.lp_model.specs.Unify.{State, Unified as Outcome, Solution, solve}
 use Rattle.lp_model.specs.declared.ending.Ending.TheVariants.{Deep}
 use Rattle.lp_pattern.specs.Putting.{Known}
 use Rattle.lp_pattern.specs.Turning.{IsOpenReading, AreKnownPairs, ArePairsFor}
+use Rattle.lp_pattern.specs.Unifying.{IsFound}
 use Rattle.lp_plain.specs.declared.candidates.Candidate.{Candidate}
 use Rattle.lp_plain.specs.declared.choice.Call.{Call}
 use Rattle.lp_plain.specs.declared.machine.Machine.{Machine}
@@ -27,30 +28,12 @@ use Rattle.lp_plain.specs.Assuming.{clause_in}
 use Rattle.lp_plain.specs.Entries.{Around, Reads, in_scope}
 use Rattle.lp_plain.specs.Instances.{values_of}
 use Rattle.lp_plain.specs.Renewal.{Fits, renewing}
-use Rattle.lp_plain.specs.Resuming.{AllTerms, AllOfAssumed, AllOfClause, AllOfGoals, TysOfGoals, AreKnownEntries, clause_with, entries_under}
+use Rattle.lp_plain.specs.Resuming.{AllOfClause, AllOfGoals, TysOfGoals, clause_with}
 use Rattle.lp_plain.specs.Scopes.{Holds}
 use Rattle.lp_plain.specs.Trials.{IsGoalOf, IsHeadFor, IsTrialOf, goal_of, read_in, tried_pairs}
 use Rattle.lp_plain.specs.Unifying.{StandPairs}
 use Rattle.lp_plain.specs.Within.{StandsIn}
 use Rattle.lp_plain.specs.Written.{IsTypeBelow, IsWritten}
-
--- the goals from a frame on, with all else of the branch at work, are this branch of the definition, as the bindings read them; so are the types and terms of
--- the query's variables. Each variable that is read has a level, and a number below the next one
-pub record IsReadAs (m : Machine) (a : Around) (z : Closing) (from : Option ℕ) (tys : List Ty) (vals : List Term) (b : Branch) : Type 0 where
-  pub reading : IsOpenReading m.bank m.bindings m.branch.next z
-  pub raw : List Entry
-  pub reads : Reads m a from raw
-  pub goals : b.goals ≡ entries_under z raw
-  pub next : b.next ≡ m.branch.next
-  pub next_type : b.next_type ≡ m.branch.next_type
-  pub types : b.types ≡ map (instance z.types) tys
-  pub values : b.values ≡ map (closed z) vals
-  pub pairs : ArePairsFor m.bank z m.branch.pairs.items b.pairs
-  pub stand : StandPairs m
-  pub levels : ℕ → ℕ
-  pub known_goals : AreKnownEntries levels m.branch.next z raw
-  pub known_values : AllTerms (λ d t. Within (Known levels m.branch.next) d (closed z t)) 0 vals
-  pub known_pairs : AreKnownPairs levels m.branch.next b.pairs
 
 -- a candidate's clause as the definition tries it: an assumed one with the terms around it, as the bindings read it
 abbrev pub clause_read : Closing → (ℕ → Term) → Renewal → Candidate → Clause → Clause
@@ -81,17 +64,17 @@ IsScopeFor m n call candidate rule inner =
     (vs : List Ty) (h : Term) (values : Values) (σ : ℕ → Term) (T : IsTrialOf m candidate vs h values σ) → StandsIn m → IsGoalOf m call →
     (rule ≡ T.rule) × (inner.types ≡ values.types) × (ws : List TermId) × Holds n.scopes.values.items n.scopes.blocks.items inner.scope ws ×
     ((z : Closing) → IsOpenReading m.bank m.bindings m.branch.next z → IsHeadFor z (under_all lifted vs σ) (renewing values.types) (head_of h) →
-      LeadTo z (length vs + length T.outer) (under_all lifted vs σ) (values_of n.bank ws)
-      (tried_values m.branch.next call.place.level (read_in z (under_all lifted vs σ) (renewing values.types) h) (closed z (goal_of m call))))
+    LeadTo z (length vs + length T.outer) (under_all lifted vs σ) (values_of n.bank ws)
+    (tried_values m.branch.next call.place.level (read_in z (under_all lifted vs σ) (renewing values.types) h) (closed z (goal_of m call))))
 
 -- the goals of the clause stand in front of those behind the call, with values for its variables that are read as the definition's
 abbrev pub PutsGoals : (old new : Machine) → Call → Candidate → (mark : ℕ) → Type 0
 PutsGoals m n call candidate mark =
     (vs : List Ty) (h : Term) (values : Values) (σ : ℕ → Term) (T : IsTrialOf m candidate vs h values σ) → StandsIn m → IsGoalOf m call → (ρ : ℕ → Term) ×
     ((a : Around) (es : List Entry) → Reads m a call.behind es →
-      Reads n a n.branch.goals (entries (goal_list (in_scope ρ values.types T.body)) (a.assumed call.place.assumed) (a.written call.place.standing) call.place.level (a.mark mark) ++ es)) ×
+    Reads n a n.branch.goals (entries (goal_list (in_scope ρ values.types T.body)) (a.assumed call.place.assumed) (a.written call.place.standing) call.place.level (a.mark mark) ++ es)) ×
     ((z : Closing) → IsOpenReading m.bank m.bindings m.branch.next z → IsHeadFor z (under_all lifted vs σ) (renewing values.types) (head_of h) →
-      LeadTo z (length vs + length T.outer) (under_all lifted vs σ) ρ (tried_values m.branch.next call.place.level (read_in z (under_all lifted vs σ) (renewing values.types) h) (closed z (goal_of m call))))
+    LeadTo z (length vs + length T.outer) (under_all lifted vs σ) ρ (tried_values m.branch.next call.place.level (read_in z (under_all lifted vs σ) (renewing values.types) h) (closed z (goal_of m call))))
 
 -- its type variables have new numbers
 abbrev pub TakesTypes : (old new : Machine) → Candidate → Type 0
@@ -118,34 +101,54 @@ tried_branch level k n h t body A w mark b = record {
 abbrev pub solved_try : (steps : ℕ) → (level vars : ℕ) → (head goal : Term) → Branch → Option Outcome
 solved_try i level n h t b = solve i 1000000 (type_pairs (head_of t) (head_of h)) (tried_pairs b.next level h t) b.pairs (b.next + n)
 
--- the definition's tasks where a try came to this: the branch goes on behind the bindings, and they bind the type variables so; or none is left; or the search
--- stops as too deep
-abbrev pub LeavesTasks : Unified → (steps : ℕ) → Machine → Around → Closing → List Ty → List Term → Branch → Outcome → List Task → Type 0
-LeavesTasks Unified.Fits i n a z tys vals b o ts =
-    (s : State) × (o ≡ Solution s) × (ts ≡ Go (resume b s) ∷ []) × (y : Closing) × IsReadAs n a y n.branch.goals tys vals (resume b s) × ((x : ℕ) → y.types x ≡ put_types s.types (z.types x))
-LeavesTasks Unified.Fails i n a z tys vals b o ts = ts ≡ []
-LeavesTasks Unified.Deep i n a z tys vals b o ts = i ≤ 1000000 → ts ≡ Stop Deep ∷ []
+-- the definition's branch has the numbers and the residual pairs of the branch at work, as the bindings read them. Each variable that is read there has a level, and
+-- a number below the next one; no type variable from the next one on is bound
+pub record IsBranchFor (m : Machine) (z : Closing) (levels : ℕ → ℕ) (b : Branch) : Type 0 where
+  pub reading : IsOpenReading m.bank m.bindings m.branch.next z
+  pub next : b.next ≡ m.branch.next
+  pub next_type : b.next_type ≡ m.branch.next_type
+  pub free : (x : ℕ) → m.branch.next_type ≤ x → z.types x ≡ var x
+  pub pairs : ArePairsFor m.bank z m.branch.pairs.items b.pairs
+  pub stand : StandPairs m
+  pub known : AreKnownPairs levels m.branch.next b.pairs
 
--- the entry of a call, as the bindings read what is assumed in its place and written there
-pub record IsEntryOf (m : Machine) (levels : ℕ → ℕ) (z : Closing) (a : Around) (call : Call) (e : Entry) : Type 0 where
-  pub assumed : e.assumed ≡ map (clause_with (closed z) (instance z.types)) (a.assumed call.place.assumed)
-  pub written : e.written ≡ map_written (closed z) (instance z.types) (a.written call.place.standing)
-  pub level : e.level ≡ call.place.level
-  pub known_assumed : AllOfAssumed (λ d t. Within (Known levels m.branch.next) d (closed z t)) (a.assumed call.place.assumed)
-  pub known_written : AllTerms (λ d t. Within (Known levels m.branch.next) d (closed z t)) 0 (a.written call.place.standing).terms
+-- the levels of variables, and those of new ones
+abbrev pub levels_with : (ℕ → ℕ) → (next level : ℕ) → ℕ → ℕ
+levels_with lv next level x = if nat_lt x next then lv x else level
 
--- a candidate is tried as the definition's `Try` of its clause: for the goal as it was looked at, in the call's place, in front of the goals behind it, all as the
--- bindings read it. The definition's unification has enough steps
+-- the branch at work goes on behind this solution: its reading is the old one with the solution put in, and in front of the goals behind the call stand goals that
+-- are read as the definition's were before
+pub record GoesOnAs (old new : Machine) (call : Call) (mark : ℕ) (z : Closing) (levels : ℕ → ℕ) (next type_vars : ℕ) (body : Goals) (s : State) : Type 0 where
+  pub closing : Closing
+  pub reading : IsOpenReading new.bank new.bindings new.branch.next closing
+  pub found : IsFound levels next z new.bank new.branch.next new.branch.pairs.items closing s
+  pub types : (x : ℕ) → closing.types x ≡ put_types s.types (z.types x)
+  pub next_type : new.branch.next_type ≡ old.branch.next_type + type_vars
+  pub raw : Goals
+  pub reads : (a : Around) (es : List Entry) → Reads old a call.behind es →
+      Reads new a new.branch.goals (entries (goal_list raw) (a.assumed call.place.assumed) (a.written call.place.standing) call.place.level (a.mark mark) ++ es)
+  pub goals : map_goals (λ u. u) (λ u t. closed z t) (instance z.types) zero raw ≡ body
+  pub known : AllOfGoals (λ d t. Within (Known levels next) d (closed z t)) 0 raw
+
+-- the definition's tasks where a try came to this: the branch goes on, or none is left, or the search stops as too deep
+abbrev pub LeavesTasks : Unified → (old new : Machine) → Call → (mark : ℕ) → (steps : ℕ) → Closing → (levels : ℕ → ℕ) → (next type_vars : ℕ) → (body : Goals) → Branch → Outcome → List Task → Type 0
+LeavesTasks Unified.Fits m n call k i z lv next j body b o ts = (s : State) × (o ≡ Solution s) × (ts ≡ Go (resume b s) ∷ []) × GoesOnAs m n call k z lv next j body s
+LeavesTasks Unified.Fails m n call k i z lv next j body b o ts = ts ≡ []
+LeavesTasks Unified.Deep m n call k i z lv next j body b o ts = i ≤ 1000000 → ts ≡ Stop Deep ∷ []
+
+-- a candidate is tried as the definition's `Try` of its clause: for the goal as it was looked at, at the call's level, in front of any goals, all as the bindings read
+-- it. The definition's unification has enough steps
 abbrev pub IsTryOf : (old new : Machine) → Call → Candidate → (mark : ℕ) → Unified → Type 0
 IsTryOf m n call candidate mark u =
     (vs : List Ty) (h : Term) (values : Values) (σ : ℕ → Term) (T : IsTrialOf m candidate vs h values σ) → HasOwnTypes candidate T.type_vars T.types →
     AllOfGoals (IsWritten T.arity T.types) (length vs + length T.outer) T.body → TysOfGoals (IsTypeBelow T.types) T.body → StandsIn m → IsGoalOf m call →
-    (a : Around) (z : Closing) (tys : List Ty) (vals : List Term) (b : Branch) (R : IsReadAs m a z call.behind tys vals b) →
-    ((x : ℕ) → m.branch.next_type ≤ x → z.types x ≡ var x) → IsHeadFor z (under_all lifted vs σ) (renewing values.types) (head_of h) →
-    Within (Known R.levels m.branch.next) 0 (closed z (goal_of m call)) →
-    AllOfClause (λ d t. Within (Known R.levels m.branch.next) d t) 0 (clause_read z σ values.types candidate (clause T.type_vars vs h T.body)) →
-    (e : Entry) → IsEntryOf m R.levels z a call e → (i : ℕ) (o : Outcome) →
-    let g : Term = closed z (goal_of m call) in let k : Term = read_in z (under_all lifted vs σ) (renewing values.types) h in
-    solved_try i call.place.level (length vs) k g b ≡ Some o →
-    LeavesTasks u i n a z tys vals (tried_branch call.place.level T.type_vars (length vs) k g (body_read z (under_all lifted vs σ) (renewing values.types) T.body) e.assumed e.written (a.mark mark) b) o
-      (try_clause 1000000 i (clause_read z σ values.types candidate (clause T.type_vars vs h T.body)) g e b (a.mark mark))
+    (z : Closing) (levels : ℕ → ℕ) (b : Branch) → IsBranchFor m z levels b → IsHeadFor z (under_all lifted vs σ) (renewing values.types) (head_of h) →
+    Within (Known levels m.branch.next) 0 (closed z (goal_of m call)) →
+    AllOfClause (λ d t. Within (Known levels m.branch.next) d t) 0 (clause_read z σ values.types candidate (clause T.type_vars vs h T.body)) →
+    (e : Entry) → e.level ≡ call.place.level → (k i : ℕ) (o : Outcome) →
+    let t : Term = closed z (goal_of m call) in let g : Term = read_in z (under_all lifted vs σ) (renewing values.types) h in
+    let body : Goals = body_read z (under_all lifted vs σ) (renewing values.types) T.body in
+    solved_try i call.place.level (length vs) g t b ≡ Some o →
+    LeavesTasks u m n call mark i z (levels_with levels m.branch.next call.place.level) (m.branch.next + length vs) T.type_vars (instantiate_goals (tried_values m.branch.next call.place.level g t) body)
+    (tried_branch call.place.level T.type_vars (length vs) g t body e.assumed e.written k b) o
+    (try_clause 1000000 i (clause_read z σ values.types candidate (clause T.type_vars vs h T.body)) t e b k)

@@ -1,4 +1,5 @@
-use Rattle.std.proofs.Common.{◌∙◌, ap, refl, subst, sym}
+use Rattle.std.proofs.Common.{rules, ◌≡◌, ◌∙◌, ap, refl, subst, sym}
+use Rattle.lp_plain.specs.declared.unified.Unified.{Unified}
 use Rattle.lp_plain.specs.Marks.{HasMarks}
 use Rattle.lp_plain.specs.Trials.{GrowsByTry, IsTriedAs}
 use Rattle.lp_plain.proofs.Opening.{same_stands}
@@ -45,4 +46,11 @@ returns-clause-leaves c =
     tries_read c.args.machine.now c.put_body.new.machine c.args.call.now c.args.candidate c.args.mark c.in_ok-tried.tried.0 (tried c)
     (λ e. goals_put_in_front c.args.machine.now c.try_head.new.machine c.note.new.self c.put_body.new.machine c.args.call.now c.args.candidate c.in_ok-tried.tried.1 c.args.mark c.in_ok-tried.tried.2 h.more h.scope n.goals k.body)
     (λ vs g values σ T own. let t = h.types vs g values σ T own in (t.0, k.next_type ∙ ap (λ b. b.next_type) n.course.branch ∙ t.1))
-    (grows c).residual
+
+not_fitting : (c : goal.Then-ne) → c.in_ok-tried.tried.0 ≡ Unified.Fits → ⊥
+not_fitting c = search rules
+
+pub returns-then-ne-clause-leaves : goal.returns-then-ne-clause-leaves
+returns-then-ne-clause-leaves c =
+    let h = c.in_ok-tried.ensures in
+    tries_read c.args.machine.now c.try_head.new.machine c.args.call.now c.args.candidate c.args.mark c.in_ok-tried.tried.0 h.tried (λ e. absurd (not_fitting c e)) h.types
