@@ -30,11 +30,11 @@ index_lifted i =
     let q : i + 1 ≡ suc i = omega arith in
     ap (λ b. if b then index i else index (i + 1)) e ∙ ap index q
 
-lifted_same : (d : ℕ) (σ : ℕ → Term) → ((i : ℕ) → i < d → σ i ≡ index i) → (i : ℕ) → i < suc d → lifted σ i ≡ index i
+pub lifted_same : (d : ℕ) (σ : ℕ → Term) → ((i : ℕ) → i < d → σ i ≡ index i) → (i : ℕ) → i < suc d → lifted σ i ≡ index i
 lifted_same d σ h zero l = refl
 lifted_same d σ h (suc i) l = ap (shift 0 1) (h i (omega (arith, l))) ∙ index_lifted i
 
-loose_same : (d : ℕ) (σ : ℕ → Term) → ((i : ℕ) → i < d → σ i ≡ index i) → (t : Term) → LooseBelow 0 d t → instantiate σ t ≡ t
+pub loose_same : (d : ℕ) (σ : ℕ → Term) → ((i : ℕ) → i < d → σ i ≡ index i) → (t : Term) → LooseBelow 0 d t → instantiate σ t ≡ t
 loose_same d σ h (index i) l = h i (omega (arith, l))
 loose_same d σ h (atom a) l = refl
 loose_same d σ h (abs b) l = ap abs (loose_same (suc d) (lifted σ) (lifted_same d σ h) b l)
@@ -83,7 +83,7 @@ index_raised : (d i : ℕ) (b : Bool) → nat_lt i d ≡ b → (z : Closing) →
 index_raised d i true e z = refl
 index_raised d i false e z = refl
 
-shifted_under : (z : Closing) → IsShut z → (d : ℕ) (t : Term) → closed z (shift d 1 t) ≡ shift d 1 (closed z t)
+pub shifted_under : (z : Closing) → IsShut z → (d : ℕ) (t : Term) → closed z (shift d 1 t) ≡ shift d 1 (closed z t)
 shifted_under z s d (index i) = index_raised d i (nat_lt i d) refl z
 shifted_under z s d (atom a) = sym (value_raised z s d (instance_atom z.types a))
 shifted_under z s d (abs b) = body_under z s (shift (suc d) 1 b) ∙ ap abs (shifted_under z s (suc d) b) ∙ ap (shift d 1) (sym (body_under z s b))

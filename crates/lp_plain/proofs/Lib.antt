@@ -59,3 +59,12 @@ pub mod Backwards
 pub mod Marked
 pub mod Counted
 pub mod Marking
+pub mod Resumed
+pub mod ProgramHeads
+pub mod TryGrows
+pub mod GoalsUnder
+pub mod ProgramBodies
+pub mod KnownGoals
+pub mod ReadClauses
+pub mod TryRead
+pub mod TryScopes

@@ -83,7 +83,7 @@ module _ (b d : Nodes) (s : Bindings) (z : Closing) (next level : ℕ) (r : IsOp
       slots_joined (length vs) k next level 0 [] [] hs (map read hs) [] goals l tt become refl ∙ ap (slot_term goals next level k) (sym (slots_are k l)) ∙
       sym (slot_read z next level k (new_read b s next z r (next + k) (omega arith) level) (trees_of b args) (get_or slots k None))
 
-  value_read : (i : ℕ) → i < length vs + length outer → instantiate own (closed z (under_all lifted vs σ i)) ≡ closed z (values_of d ws i)
+  pub value_read : (i : ℕ) → i < length vs + length outer → instantiate own (closed z (under_all lifted vs σ i)) ≡ closed z (values_of d ws i)
   value_read i l =
       let k = own_kept vs σ c in
       let w : values_of d ws i ≡ before (length vs) (own_values b args next level slots) σ i = at_read d ws (before (length vs) (own_values b args next level slots) σ) a i (omega (arith, l, count)) in

@@ -52,13 +52,13 @@ abbrev pub AllAre : (Term → Type 0) → List Term → Type 0
 AllAre Q [] = Unit {0}
 AllAre Q (t ∷ ts) = Q t × AllAre Q ts
 
-arguments_written : (P : Atom → Type 0) (d : ℕ) (h : Term) (more : List Term) → Within P d h → AllAre (Within P d) more → AllAre (Within P d) (arguments_and h more)
+pub arguments_written : (P : Atom → Type 0) (d : ℕ) (h : Term) (more : List Term) → Within P d h → AllAre (Within P d) more → AllAre (Within P d) (arguments_and h more)
 arguments_written P d (index i) more w a = a
 arguments_written P d (atom x) more w a = a
 arguments_written P d (abs b) more w a = a
 arguments_written P d (app f t) more w a = arguments_written P d f (t ∷ more) w.0 (w.1, a)
 
-within_loose : (P : Atom → Type 0) (n e m : ℕ) (t : Term) → m ≡ e + n → Within P m t → LooseBelow n e t
+pub within_loose : (P : Atom → Type 0) (n e m : ℕ) (t : Term) → m ≡ e + n → Within P m t → LooseBelow n e t
 within_loose P n e m (index i) q w = subst (λ k. i < k) q w
 within_loose P n e m (atom a) q w = tt
 within_loose P n e m (abs b) q w = within_loose P n (suc e) (suc m) b (omega (arith, q)) w

@@ -73,7 +73,7 @@ head_closed z (atom (param k t)) h = absurd h
 head_closed z (abs b) h = absurd h
 head_closed z (app f a) h = head_closed z f h
 
-arguments_closed : (z : Closing) (x : Term) (more : List Term) → IsCallHead (head_of x) → arguments_and (closed z x) (map (closed z) more) ≡ map (closed z) (arguments_and x more)
+pub arguments_closed : (z : Closing) (x : Term) (more : List Term) → IsCallHead (head_of x) → arguments_and (closed z x) (map (closed z) more) ≡ map (closed z) (arguments_and x more)
 arguments_closed z (index i) more h = absurd h
 arguments_closed z (atom (constant c ts)) more h = refl
 arguments_closed z (atom (integer j)) more h = absurd h
@@ -84,7 +84,7 @@ arguments_closed z (atom (param k t)) more h = absurd h
 arguments_closed z (abs b) more h = absurd h
 arguments_closed z (app f a) more h = arguments_closed z f (a ∷ more) h
 
-pairs_later : (b d : Nodes) (ps : List Numbers) → Extends b d → All (IsPairOf (length b.terms)) ps → All (IsPairOf (length d.terms)) ps
+pub pairs_later : (b d : Nodes) (ps : List Numbers) → Extends b d → All (IsPairOf (length b.terms)) ps → All (IsPairOf (length d.terms)) ps
 pairs_later b d ps E a = All-weaker (IsPairOf (length b.terms)) (IsPairOf (length d.terms))
     (λ p h. ((let m = E.more_terms in let l = h.0 in omega (arith, l, m)), (let m = E.more_terms in let l = h.1 in omega (arith, l, m)))) ps a
 
@@ -182,6 +182,14 @@ module _ (m o n : Machine) (k : ℕ) (call : Call) (r : Rule) (values inner : Va
       (subst (λ c. AreKnownPairs levels c met) (sym next_is) (subst (AreKnownPairs levels (m.branch.next + length vs)) pairs_same kn)) (subst (λ c. AreKnownPairs levels c ds) (sym next_is) kd) i x
       ((λ w. solve i 1000000 (sym types_same w) (sym pairs_same w) ds (next_is w)) ∙ e))
 
+-- the goal as it was looked at, by its head and its arguments
+pub goal_spine : (m : Machine) (call : Call) (head : TermId) (olds args : List TermId) → args ≡ with_first call.first olds → IsNoApplication (tree m.bank head.0) →
+    apply (tree m.bank head.0) (trees_of m.bank olds) ≡ tree m.bank call.goal.0 → apply (tree m.bank head.0) (trees_of m.bank args) ≡ goal_of m call
+goal_spine m call head olds args fa alone spine =
+    (λ w. apply (spine_head (tree m.bank head.0) (tree m.bank call.goal.0) (trees_of m.bank olds) alone spine w)
+    ((ap (trees_of m.bank) fa ∙ first_trees m.bank call.first olds ∙ ap (with_first_term (term_at m.bank call.first))
+    (spine_arguments (tree m.bank head.0) (tree m.bank call.goal.0) (trees_of m.bank olds) alone spine)) w))
+
 -- a clause that was told by its candidate
 pub tried_as : (m mid o n : Machine) (call : Call) (candidate : Candidate) (p : ℕ × Values) (inner : Values) (head : TermId) (olds args : List TermId)
     (u : Unified) → IsClauseOf m mid candidate p → args ≡ with_first call.first olds →
@@ -198,13 +206,9 @@ tried_as m mid o n call candidate p inner head olds args u cl fa op me alone the
     subst (λ v. IsOpened (with_types_to m S.next_type) o r args call.place.level v inner) S.values_are
     (subst (λ w. IsOpened w o r args call.place.level p.1 inner) S.mid_is (op r (ap (λ w. slice_get w.table.rules.items p.0) S.mid_is ∙ g))) in
     let M : IsMet o n r head args inner call.place.level u = me r (ap (λ t. slice_get t.rules.items p.0) O.table ∙ g) in
-    let looked : apply (tree m.bank head.0) (trees_of m.bank args) ≡ goal_of m call =
-    (λ w. apply (spine_head (tree m.bank head.0) (tree m.bank call.goal.0) (trees_of m.bank olds) alone spine w)
-    ((ap (trees_of m.bank) fa ∙ first_trees m.bank call.first olds ∙ ap (with_first_term (term_at m.bank call.first))
-    (spine_arguments (tree m.bank head.0) (tree m.bank call.goal.0) (trees_of m.bank olds) alone spine)) w)) in
     tried_here m o n S.next_type call r values inner head args u O M alone (there G.within)
     (subst (All (λ (t : TermId). t.0 < length m.bank.terms)) (sym fa) (first_within m.bank call.first olds inside G.first)) (goal_of m call)
-    looked G.shut G.head vs h σ T.is.3
+    (goal_spine m call head olds args fa alone spine) G.shut G.head vs h σ T.is.3
     (all_at (IsRuleIn (length m.bank.terms)) m.table.rules.items T.rule r T.is.1 st.table.rules) T.outer T.scope T.at T.shut T.arity T.types T.written
     st.values residual z y headed ds d levels kn kd i x e
 

@@ -20,6 +20,7 @@ use Rattle.lp_plain.specs.Heads.{trees_of, slot_term}
 use Rattle.lp_plain.specs.Instances.{AreValues, values_of}
 use Rattle.lp_plain.specs.Renewal.{Fits, renewing}
 use Rattle.lp_plain.specs.Scopes.{Holds}
+use Rattle.lp_plain.specs.Unifying.{IsMore}
 use Rattle.lp_plain.specs.Written.{IsWritten}
 
 -- the type variables up to this number are taken
@@ -65,6 +66,13 @@ pub record IsOpened (old new : Machine) (r : Rule) (args : List TermId) (level :
       old.scopes.values.items old.scopes.blocks.items around.scope us → AreAt old.bank us τ →
       (ws : List TermId) × (length ws ≡ length r.slots.items + length us) × Holds new.scopes.values.items new.scopes.blocks.items inner.scope ws ×
       AreAt new.bank ws (before (length r.slots.items) (own_values old.bank args old.branch.next level r.slots.items) τ)
+  pub stands : AreValues old.bank args → AreValues old.bank old.scopes.values.items → AreValues new.bank new.scopes.values.items
+
+-- a scope may be opened in which values that stand in the bank are put, where these arguments do
+pub record OpensMore (old new : Machine) (args : List TermId) : Type 0 where
+  pub more : IsMore old new
+  pub next_type : new.branch.next_type ≡ old.branch.next_type
+  pub pairs : new.branch.pairs ≡ old.branch.pairs
   pub stands : AreValues old.bank args → AreValues old.bank old.scopes.values.items → AreValues new.bank new.scopes.values.items
 
 -- the type arguments of a constant

@@ -1,5 +1,5 @@
 -- A clause that is tried for a goal, as the definition tries it: its head with the values around it, as the bindings read it.
-use Rattle.std.specs.Prelude.{◌≡◌, ℕ, ◌+◌, ◌<◌, List, [], ◌∷◌, length, All, Option, None, Some, slice_get}
+use Rattle.std.specs.Prelude.{◌≡◌, ℕ, ◌+◌, ◌<◌, ◌≤◌, List, [], ◌∷◌, length, All, Option, None, Some, slice_get}
 use Rattle.lp_calculus.specs.Types.{Ty}
 use Rattle.lp_calculus.specs.Term.{Term, index, atom, abs, app, apply, constant, integer, text, eigen, logic, param}
 use Rattle.lp_calculus.specs.Instance.{instance_term}
@@ -13,7 +13,7 @@ use Rattle.lp_model.specs.Pair.{Pair, Closing, closed}
 use Rattle.lp_model.specs.Rule.{type_pairs}
 use Rattle.lp_model.specs.Search.{pairs_of, slots_of, slotted}
 use Rattle.lp_model.specs.Unify.{Unified as Outcome, solve}
-use Rattle.lp_pattern.specs.Growing.{IsPairOf}
+use Rattle.lp_pattern.specs.Growing.{Grows, IsPairOf}
 use Rattle.lp_pattern.specs.Turning.{IsOpenReading, AreKnownPairs, ArePairsFor}
 use Rattle.lp_plain.specs.declared.candidates.Candidate.{Candidate}
 use Rattle.lp_plain.specs.declared.choice.Call.{Call}
@@ -21,11 +21,12 @@ use Rattle.lp_plain.specs.declared.frame.Assumption.{Assumption}
 use Rattle.lp_plain.specs.declared.instance.Values.{Values}
 use Rattle.lp_plain.specs.declared.machine.Machine.{Machine}
 use Rattle.lp_plain.specs.declared.unified.Unified.{Unified}
+use Rattle.lp_plain.specs.Assuming.{GrowsAt}
 use Rattle.lp_plain.specs.Entries.{AreAt}
 use Rattle.lp_plain.specs.Renewal.{renewing}
 use Rattle.lp_plain.specs.Scopes.{Holds}
 use Rattle.lp_plain.specs.Tables.{IsRule, Never, shown}
-use Rattle.lp_plain.specs.Unifying.{IsUnifiedAs}
+use Rattle.lp_plain.specs.Unifying.{IsUnifiedAs, StandPairs}
 use Rattle.lp_plain.specs.Within.{StandsIn}
 use Rattle.lp_plain.specs.Written.{IsWritten}
 
@@ -97,6 +98,17 @@ pub record IsGoalOf (m : Machine) (call : Call) : Type 0 where
   pub first : (u : TermId) → call.first ≡ Some u → u.0 < length m.bank.terms
   pub shut : LooseBelow 0 0 (goal_of m call)
   pub head : IsCallHead (head_of (goal_of m call))
+
+-- a try leaves the alternatives and what is counted; all else may grow, and the goals that it puts have the call's assumptions
+pub record GrowsByTry (old new : Machine) (call : Call) : Type 0 where
+  pub grows : GrowsAt old new call.place
+  pub bindings : Grows old.bindings new.bindings
+  pub choices : new.choices.items ≡ old.choices.items
+  pub counts : new.counts ≡ old.counts
+  pub next : old.branch.next ≤ new.branch.next
+  pub next_type : old.branch.next_type ≤ new.branch.next_type
+  pub residual : StandPairs old → StandPairs new
+  pub stands : StandsIn old → IsGoalOf old call → StandsIn new
 
 -- the pairs of a try, as the definition makes them
 abbrev pub tried_pairs : (next level : ℕ) → (head goal : Term) → List Pair

@@ -1,9 +1,9 @@
 -- What a unification in the branch at work comes to.
-use Rattle.std.specs.Prelude.{◌≡◌, ℕ, ◌≤◌}
+use Rattle.std.specs.Prelude.{◌≡◌, ℕ, ◌≤◌, All, length}
 use Rattle.lp_term.specs.Nodes.{Extends}
 use Rattle.lp_model.specs.Pair.{Closing}
 use Rattle.lp_model.specs.Unify.{Unified as Outcome, Fail, Spent}
-use Rattle.lp_pattern.specs.Growing.{Grows}
+use Rattle.lp_pattern.specs.Growing.{GoesOn, Grows, IsPairOf}
 use Rattle.lp_pattern.specs.Unifying.{IsSolutionUnder}
 use Rattle.lp_plain.specs.declared.machine.Machine.{Machine}
 use Rattle.lp_plain.specs.declared.unified.Unified.{Unified}
@@ -25,6 +25,28 @@ pub record IsBoundIn (old new : Machine) : Type 0 where
   pub counts : new.counts ≡ old.counts
   pub goals : new.branch.goals ≡ old.branch.goals
   pub next_type : new.branch.next_type ≡ old.branch.next_type
+
+-- bank, bindings, scopes and the next numbers may grow, the branch at work may change, and nothing else does
+pub record IsMore (old new : Machine) : Type 0 where
+  pub bank : Extends old.bank new.bank
+  pub bindings : Grows old.bindings new.bindings
+  pub blocks : GoesOn old.scopes.blocks.items new.scopes.blocks.items
+  pub values : GoesOn old.scopes.values.items new.scopes.values.items
+  pub next : old.branch.next ≤ new.branch.next
+  pub next_type : old.branch.next_type ≤ new.branch.next_type
+  pub table : new.table ≡ old.table
+  pub index : new.index ≡ old.index
+  pub frames : new.frames ≡ old.frames
+  pub assumptions : new.assumptions ≡ old.assumptions
+  pub newest : new.newest ≡ old.newest
+  pub standings : new.standings ≡ old.standings
+  pub choices : new.choices ≡ old.choices
+  pub denied : new.denied ≡ old.denied
+  pub counts : new.counts ≡ old.counts
+
+-- the residual pairs stand in the bank
+abbrev pub StandPairs : Machine → Type 0
+StandPairs m = All (IsPairOf (length m.bank.terms)) m.branch.pairs.items
 
 -- a unification under these bindings, with this next number of a variable, comes to what the definition's comes to in n steps of each kind: a solution that the new
 -- bindings read, with its residual pairs; no solution; or its units pass the limit, and else a million steps are too few for it

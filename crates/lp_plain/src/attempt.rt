@@ -1,5 +1,5 @@
 // One try of a clause for a goal.
-ghost use Rattle.std.specs.Prelude.{◌≡◌, ℕ, ◌+◌, ◌<◌, ◌∷◌, ◌++◌, List, All, Some, map, length, drop, slice_get, IfOk, OnOk};
+ghost use Rattle.std.specs.Prelude.{◌≡◌, ℕ, ◌+◌, ◌<◌, ◌≤◌, ◌∷◌, ◌++◌, List, All, Some, map, length, drop, slice_get, IfOk, OnOk};
 ghost use Rattle.lp_calculus.specs.Types.{Ty};
 ghost use Rattle.lp_calculus.specs.Term.{Term, Atom, atom};
 ghost use Rattle.lp_calculus.specs.Instance.{instance_term};
@@ -10,16 +10,21 @@ ghost use Rattle.lp_pattern.specs.Reading.{paired, type_pairs_of};
 ghost use Rattle.lp_plain.specs.declared.table.Rule.{Rule};
 ghost use Rattle.lp_model.specs.Branch.{Entry};
 ghost use Rattle.lp_model.specs.Flat.{Goal};
+ghost use Rattle.lp_plain.specs.Assuming.{HasFrameAt, KeepsAssumed};
 ghost use Rattle.lp_plain.specs.Entries.{Around, IsListAt, KeepsGoals, Reads, placed};
+ghost use Rattle.lp_plain.specs.Followed.{IsScopeFor, IsTryOf, TakesTypes};
 ghost use Rattle.lp_plain.specs.Heads.{pair_in};
 ghost use Rattle.lp_plain.specs.Instances.{AreValues, IsNoParameter};
+ghost use Rattle.lp_plain.specs.Marks.{Marks, PutsMarks};
 ghost use Rattle.lp_plain.specs.Meeting.{IsMet};
+ghost use Rattle.lp_plain.specs.declared.unified.Unified.{Unified};
 ghost use Rattle.lp_plain.specs.Renewal.{Fits, renewing};
 ghost use Rattle.lp_plain.specs.Scopes.{IsScope};
 ghost use Rattle.lp_plain.specs.Slots.{AreIn, IsSlotted, AreSlotted};
-ghost use Rattle.lp_plain.specs.Attempted.{AreNewTypes, ArePaired, AreWrittenIn, IsClauseOf, IsOpened, IsPairAdded, becomes, types_of, with_first};
-ghost use Rattle.lp_plain.specs.Trials.{IsTriedAs};
-ghost use Rattle.lp_plain.specs.Unifying.{IsBoundIn};
+ghost use Rattle.lp_plain.specs.Attempted.{AreNewTypes, ArePaired, AreWrittenIn, IsClauseOf, IsOpened, IsPairAdded, OpensMore, becomes, types_of, with_first};
+ghost use Rattle.lp_plain.specs.Trials.{GrowsByTry, IsGoalOf, IsTriedAs};
+ghost use Rattle.lp_plain.specs.Unifying.{IsBoundIn, IsMore, StandPairs};
+ghost use Rattle.lp_plain.specs.Within.{StandsIn};
 ghost use Rattle.lp_plain.specs.Written.{IsWritten};
 
 use crate::act::{Act, Try};
@@ -124,7 +129,8 @@ fn open(
     level: u64,
     around: Values,
 ) -> Result<Values, Memory>
-    ensures { IfOk result (λ inner. (r : Rule) → slice_get machine.old.table.rules.items rule ≡ Some r → IsOpened machine.old machine.new r args.now level around inner) }
+    ensures more { OnOk result (OpensMore machine.old machine.new args.now) }
+    ensures opened { IfOk result (λ inner. (r : Rule) → slice_get machine.old.table.rules.items rule ≡ Some r → IsOpened machine.old machine.new r args.now level around inner) }
 {
     let found = machine.table.rule(rule)?;
     let values = slot_values(
@@ -259,6 +265,7 @@ fn meet(
     level: u64,
 ) -> Result<Unified, Memory>
     ensures bound { OnOk result (IsBoundIn machine.old machine.new) }
+    ensures residual { OnOk result (StandPairs machine.old → StandPairs machine.new) }
     ensures met { IfOk result (λ unified. (r : Rule) → slice_get machine.old.table.rules.items rule ≡ Some r → IsMet machine.old machine.new r goal args.now values level unified) }
 {
     let alloc = machine.alloc;
@@ -285,6 +292,14 @@ fn put_body(
     behind: Option<usize>,
 ) -> Result<(), Memory>
     ensures known { OnOk result (KeepsGoals machine.old machine.new) }
+    ensures assumed { OnOk result (KeepsAssumed machine.old machine.new) }
+    ensures frame { OnOk result (HasFrameAt machine.old machine.new place) }
+    ensures marks { OnOk result (PutsMarks machine.old machine.new place behind machine.new.branch.goals) }
+    ensures stands { OnOk result (StandsIn machine.old → StandsIn machine.new) }
+    ensures choices { OnOk result (machine.new.choices.items ≡ machine.old.choices.items) }
+    ensures denied { OnOk result (machine.new.denied ≡ machine.old.denied) }
+    ensures counts { OnOk result (machine.new.counts ≡ machine.old.counts) }
+    ensures next_type { OnOk result (machine.new.branch.next_type ≡ machine.old.branch.next_type) }
     ensures next { OnOk result (machine.new.branch.next ≡ machine.old.branch.next) }
     ensures pairs { OnOk result (machine.new.branch.pairs ≡ machine.old.branch.pairs) }
     ensures body { OnOk result ((r : Rule) → slice_get machine.old.table.rules.items rule ≡ Some r → (a : Around) (gs : List Goal) (es : List Entry) → IsListAt machine.old place r.body gs → Reads machine.old a behind es →
@@ -315,7 +330,12 @@ fn try_head(
     call: &Call,
     candidate: Candidate,
 ) -> Result<(Unified, usize, Values), Memory>
-    ensures { IfOk result (λ tried. IsTriedAs machine.old machine.new call.now candidate tried.0) }
+    ensures more { OnOk result (IsMore machine.old machine.new) }
+    ensures residual { OnOk result (StandPairs machine.old → StandPairs machine.new) }
+    ensures stands { OnOk result (StandsIn machine.old → IsGoalOf machine.old call.now → StandsIn machine.new) }
+    ensures scope { IfOk result (λ tried. IsScopeFor machine.old machine.new call.now candidate tried.1 tried.2) }
+    ensures types { OnOk result (TakesTypes machine.old machine.new candidate) }
+    ensures tried { IfOk result (λ tried. IsTriedAs machine.old machine.new call.now candidate tried.0) }
 {
     let mut spine = spine_of(machine.alloc, &machine.bank, call.goal)?;
     put_looked(call.first, &mut spine.args);
@@ -335,7 +355,10 @@ pub(crate) fn attempt(
     candidate: Candidate,
     mark: usize,
 ) -> Result<Unified, Memory>
-    ensures { IfOk result (IsTriedAs machine.old machine.new call.now candidate) }
+    ensures grows { OnOk result (GrowsByTry machine.old machine.new call.now) }
+    ensures marks { IfOk result (λ u. u ≡ Unified.Fits → (least most : ℕ) → Marks least most machine.old call.now.behind → least ≤ mark → mark ≤ most → Marks least most machine.new machine.new.branch.goals) }
+    ensures tried { IfOk result (IsTriedAs machine.old machine.new call.now candidate) }
+    ensures leaves { IfOk result (IsTryOf machine.old machine.new call.now candidate mark) }
 {
     let tried = try_head(machine, call, candidate)?;
     let unified = tried.0;

@@ -1,10 +1,10 @@
 // Unification in the branch at work.
-ghost use Rattle.std.specs.Prelude.{◌≡◌, ℕ, List, Some, IfOk};
+ghost use Rattle.std.specs.Prelude.{◌≡◌, ℕ, List, Some, IfOk, OnOk};
 ghost use Rattle.lp_model.specs.Pair.{Closing, Pair as Equation};
 ghost use Rattle.lp_model.specs.Unify.{Unified as Outcome, solve};
 ghost use Rattle.lp_pattern.specs.Reading.{type_pairs_of};
 ghost use Rattle.lp_pattern.specs.Turning.{IsOpenReading, AreKnownPairs, ArePairsFor};
-ghost use Rattle.lp_plain.specs.Unifying.{IsBoundIn, IsUnifiedAs};
+ghost use Rattle.lp_plain.specs.Unifying.{IsBoundIn, IsUnifiedAs, StandPairs};
 
 use crate::machine::Machine;
 use lp_base::{Memory, RUN_LIMIT};
@@ -27,6 +27,7 @@ pub(crate) fn unify(
     pairs: &[Pair],
 ) -> Result<Unified, Memory>
     ensures bound { IsBoundIn machine.old machine.new }
+    ensures residual { OnOk result (StandPairs machine.old → StandPairs machine.new) }
     ensures unified { IfOk result (λ r. (c : Closing) → IsOpenReading machine.old.bank machine.old.bindings machine.old.branch.next c → (levels : ℕ → ℕ) → (ps ds : List Equation) → ArePairsFor machine.old.bank c pairs.now ps → ArePairsFor machine.old.bank c machine.old.branch.pairs.items ds →
         AreKnownPairs levels machine.old.branch.next ps → AreKnownPairs levels machine.old.branch.next ds → (n : ℕ) (u : Outcome) → solve n 1000000 (type_pairs_of machine.old.bank c.types types.now) ps ds machine.old.branch.next ≡ Some u → IsUnifiedAs r levels machine.old.branch.next c machine.new n u) }
 {

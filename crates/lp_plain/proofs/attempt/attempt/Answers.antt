@@ -1,11 +1,56 @@
-use Rattle.std.proofs.Common.{◌∙◌, ap}
+use Rattle.std.proofs.Common.{rules, ◌≡◌, ◌∙◌, ap, refl, subst, sym}
+use Rattle.lp_plain.specs.declared.unified.Unified.{Unified}
+use Rattle.lp_plain.specs.Marks.{HasMarks}
+use Rattle.lp_plain.specs.Trials.{GrowsByTry, IsTriedAs}
+use Rattle.lp_plain.proofs.Opening.{same_stands}
 use Rattle.lp_plain.proofs.Trials.{tried_kept}
+use Rattle.lp_plain.proofs.TryGrows.{head_alone, with_body}
+use Rattle.lp_plain.proofs.TryRead.{tries_read}
+use Rattle.lp_plain.proofs.TryScopes.{goals_put_in_front}
 use Rattle.lp_plain.proofs.attempt.attempt.Goals as goal
 
-pub returns : goal.returns
-returns c =
+tried : (c : goal.In_ok-put_body) → IsTriedAs c.args.machine.now c.put_body.new.machine c.args.call.now c.args.candidate c.in_ok-tried.tried.0
+tried c =
     let k = c.in_ok-put_body.ensures in
     let n = c.in_ok-note.ensures in
     tried_kept c.args.machine.now c.try_head.new.machine c.put_body.new.machine c.args.call.now c.args.candidate c.in_ok-tried.tried.0
     (k.known.known.bank ∙ n.goals.known.bank) (k.known.known.bindings ∙ n.goals.known.bindings)
-    (k.next ∙ ap (λ b. b.next) n.course.branch) (ap (λ v. v.items) k.pairs ∙ ap (λ b. b.pairs.items) n.course.branch) c.in_ok-tried.ensures
+    (k.next ∙ ap (λ b. b.next) n.course.branch) (ap (λ v. v.items) k.pairs ∙ ap (λ b. b.pairs.items) n.course.branch) c.in_ok-tried.ensures.tried
+
+grows : (c : goal.In_ok-put_body) → GrowsByTry c.args.machine.now c.put_body.new.machine c.args.call.now
+grows c =
+    let k = c.in_ok-put_body.ensures in
+    let n = c.in_ok-note.ensures in
+    let h = c.in_ok-tried.ensures in
+    with_body c.args.machine.now c.try_head.new.machine c.note.new.self c.put_body.new.machine c.args.call.now _ (head_alone c.args.machine.now c.try_head.new.machine c.args.call.now h.more h.residual h.stands)
+    n.course n.goals n.assumed n.frames refl refl k.known k.assumed k.frame k.choices k.denied k.counts k.next k.next_type k.pairs
+    (same_stands c.try_head.new.machine c.note.new.self n.goals n.frames) k.stands
+
+pub returns-clause-tried : goal.returns-clause-tried
+returns-clause-tried c = tried c
+
+pub returns-clause-grows : goal.returns-clause-grows
+returns-clause-grows c = grows c
+
+pub returns-clause-marks : goal.returns-clause-marks
+returns-clause-marks c = λ e l u h x y.
+    let n = c.in_ok-note.ensures in
+    let f = n.frames ∙ c.in_ok-tried.ensures.more.frames in
+    c.in_ok-put_body.ensures.marks l u (subst (λ v. HasMarks l u v.items c.args.call.now.behind) (sym f) h) x y
+
+pub returns-clause-leaves : goal.returns-clause-leaves
+returns-clause-leaves c =
+    let k = c.in_ok-put_body.ensures in
+    let n = c.in_ok-note.ensures in
+    let h = c.in_ok-tried.ensures in
+    tries_read c.args.machine.now c.put_body.new.machine c.args.call.now c.args.candidate c.args.mark c.in_ok-tried.tried.0 (tried c)
+    (λ e. goals_put_in_front c.args.machine.now c.try_head.new.machine c.note.new.self c.put_body.new.machine c.args.call.now c.args.candidate c.in_ok-tried.tried.1 c.args.mark c.in_ok-tried.tried.2 h.more h.scope n.goals k.body)
+    (λ vs g values σ T own. let t = h.types vs g values σ T own in (t.0, k.next_type ∙ ap (λ b. b.next_type) n.course.branch ∙ t.1))
+
+not_fitting : (c : goal.Then-ne) → c.in_ok-tried.tried.0 ≡ Unified.Fits → ⊥
+not_fitting c = search rules
+
+pub returns-then-ne-clause-leaves : goal.returns-then-ne-clause-leaves
+returns-then-ne-clause-leaves c =
+    let h = c.in_ok-tried.ensures in
+    tries_read c.args.machine.now c.try_head.new.machine c.args.call.now c.args.candidate c.args.mark c.in_ok-tried.tried.0 h.tried (λ e. absurd (not_fitting c e)) h.types

@@ -5,6 +5,7 @@ use Rattle.lp_plain.proofs.Growing.{values_later}
 use Rattle.lp_plain.proofs.Meeting.{for_rule, slices_met}
 use Rattle.lp_plain.proofs.OwnValues.{one_read}
 use Rattle.lp_plain.proofs.HeadPairs.{paired_from}
+use Rattle.lp_plain.proofs.Trials.{pairs_later}
 use Rattle.lp_plain.proofs.attempt.meet.Goals as goal
 
 pub returns-clause-bound : goal.returns-clause-bound
@@ -27,3 +28,9 @@ returns-clause-met c = λ r e.
     paired_from b k d c.args.args.now c.args.level vs c.args.values.types f.pairs.items ar n c.in_ok-pairs.pairs.items c.in_ok-types.ensures.kept v w
     (λ h. c.in_ok-pairs.ensures.pairs nb nv vs s (values_later b k c.in_ok-types.ensures.kept vs v) ar n h))
     c.in_ok-unified.ensures.unified)
+
+pub returns-clause-residual : goal.returns-clause-residual
+returns-clause-residual c = λ s.
+    let m = c.args.machine.now in
+    c.in_ok-unified.ensures.residual
+    (pairs_later m.bank c.term_pairs.new.bank m.branch.pairs.items (extends-trans m.bank c.type_pairs.new.bank c.term_pairs.new.bank c.in_ok-types.ensures.kept c.in_ok-pairs.ensures.kept) s)
