@@ -3,3 +3,4 @@ mod Loading
 pub mod Orders
 mod Progress
 mod Searched
+mod Texts

@@ -4,3 +4,5 @@ pub mod Ends
 pub mod Reading
 pub mod Pieces
 pub mod Prepared
+pub mod Schemes
+pub mod Sources

@@ -15,7 +15,12 @@ mod shown;
 mod solve;
 // A generated query, and the summary of its search.
 mod generated;
+// Laws over the definitions.
+mod laws;
 
 pub use generated::trial;
+pub use laws::{
+    formulas_flatten, programs_are_typed, queries_are_typed, searches_of_texts_are_right,
+};
 pub use prepare::Question;
 pub use solve::{solve_plain, solve_within};

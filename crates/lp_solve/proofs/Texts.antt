@@ -1,0 +1,11 @@
+pub mod Constants
+pub mod Elaborated
+pub mod Numbers
+pub mod Closing
+pub mod Program
+pub mod Query
+pub mod Grown
+pub mod Fits
+pub mod RaisedForms
+pub mod Raising
+pub mod Flattens
