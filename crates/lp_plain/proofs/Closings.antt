@@ -83,7 +83,7 @@ index_raised : (d i : ℕ) (b : Bool) → nat_lt i d ≡ b → (z : Closing) →
 index_raised d i true e z = refl
 index_raised d i false e z = refl
 
-shifted_under : (z : Closing) → IsShut z → (d : ℕ) (t : Term) → closed z (shift d 1 t) ≡ shift d 1 (closed z t)
+pub shifted_under : (z : Closing) → IsShut z → (d : ℕ) (t : Term) → closed z (shift d 1 t) ≡ shift d 1 (closed z t)
 shifted_under z s d (index i) = index_raised d i (nat_lt i d) refl z
 shifted_under z s d (atom a) = sym (value_raised z s d (instance_atom z.types a))
 shifted_under z s d (abs b) = body_under z s (shift (suc d) 1 b) ∙ ap abs (shifted_under z s (suc d) b) ∙ ap (shift d 1) (sym (body_under z s b))

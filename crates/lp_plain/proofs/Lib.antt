@@ -59,3 +59,16 @@ pub mod Backwards
 pub mod Marked
 pub mod Counted
 pub mod Marking
+pub mod Resumed
+pub mod Under
+pub mod OpenedUnder
+pub mod LooksUnder
+pub mod AboveUnder
+pub mod CutMoves
+pub mod Running
+pub mod PartMoves
+pub mod NoneBound
+pub mod AtGoals
+pub mod AtomFirst
+pub mod BackMoves
+pub mod FirstState

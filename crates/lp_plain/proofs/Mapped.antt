@@ -17,22 +17,22 @@ use Rattle.lp_plain.specs.Renewal.{renewing}
 use Rattle.lp_plain.proofs.Instances.{term_same}
 use Rattle.lp_plain.proofs.RenewedTypes.{instance_same}
 
-goals_same : {g h : Goal} {gs hs : Goals} → g ≡ h → gs ≡ hs → goals g gs ≡ goals h hs
+pub goals_same : {g h : Goal} {gs hs : Goals} → g ≡ h → gs ≡ hs → goals g gs ≡ goals h hs
 goals_same p q = cc
 
-clauses_same : {c d : Clause} {cs ds : Clauses} → c ≡ d → cs ≡ ds → clauses c cs ≡ clauses d ds
+pub clauses_same : {c d : Clause} {cs ds : Clauses} → c ≡ d → cs ≡ ds → clauses c cs ≡ clauses d ds
 clauses_same p q = cc
 
-either_same : {gs hs ks ls : Goals} → gs ≡ hs → ks ≡ ls → Either gs ks ≡ Either hs ls
+pub either_same : {gs hs ks ls : Goals} → gs ≡ hs → ks ≡ ls → Either gs ks ≡ Either hs ls
 either_same p q = cc
 
-assume_same : {v w : Written} {cs ds : Clauses} {gs hs : Goals} → v ≡ w → cs ≡ ds → gs ≡ hs → Assume v cs gs ≡ Assume w ds hs
+pub assume_same : {v w : Written} {cs ds : Clauses} {gs hs : Goals} → v ≡ w → cs ≡ ds → gs ≡ hs → Assume v cs gs ≡ Assume w ds hs
 assume_same o p q = cc
 
-not_same : {v w : Written} {gs hs : Goals} → v ≡ w → gs ≡ hs → Not v gs ≡ Not w hs
+pub not_same : {v w : Written} {gs hs : Goals} → v ≡ w → gs ≡ hs → Not v gs ≡ Not w hs
 not_same o p = cc
 
-clause_same : {vs ws : List Ty} {h i : Term} {gs hs : Goals} (n : ℕ) → vs ≡ ws → h ≡ i → gs ≡ hs → clause n vs h gs ≡ clause n ws i hs
+pub clause_same : {vs ws : List Ty} {h i : Term} {gs hs : Goals} (n : ℕ) → vs ≡ ws → h ≡ i → gs ≡ hs → clause n vs h gs ≡ clause n ws i hs
 clause_same n o p q = cc
 
 -- a change that changes nothing
@@ -49,7 +49,7 @@ module _ {E : Type 0} (under : E → E) (term : E → Term → Term) (ty : Ty �
   written_stays e w = let p = terms_stay e w.terms in let q = types_stay w.types in λ i. record { terms = p i; types = q i }
 
   mutual
-    goal_stays : (e : E) (g : Goal) → map_goal under term ty e g ≡ g
+    pub goal_stays : (e : E) (g : Goal) → map_goal under term ty e g ≡ g
     goal_stays e (Atomic t) = ap Atomic (same e t)
     goal_stays e Cut = refl
     goal_stays e (Either gs hs) = either_same (goals_stay e gs) (goals_stay e hs)
