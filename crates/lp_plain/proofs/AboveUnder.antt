@@ -170,14 +170,15 @@ stand_taken m a (suc j) [] below (ts ∷ tss) h = absurd h
 stand_taken m a (suc j) (c ∷ cs) below [] h = absurd h
 stand_taken m a (suc j) (c ∷ cs) below (ts ∷ tss) h = (h.0, stand_taken m a j cs (below + length ts) tss h.1)
 
+none_left : {X : Type 0} (i : ℕ) (xs : List X) → xs ≡ [] → take i xs ≡ []
+none_left zero xs e = refl
+none_left (suc i) [] e = refl
+none_left (suc i) (x ∷ xs) e = absurd (cc)
+
 pub drop_taken : {X : Type 0} (b k : ℕ) (xs : List X) → b ≤ k → drop b (take k xs) ≡ take (k - b) (drop b xs)
 drop_taken zero k xs l = ap (λ i. take i xs) (let e : k ≡ k - 0 = omega arith in e)
 drop_taken (suc b) zero xs l = absurd (omega (arith, l))
-drop_taken (suc b) (suc k) [] l = sym (taken_none (suc k - suc b))
-  where
-    taken_none : {X : Type 0} (i : ℕ) → take i [] ≡ []
-    taken_none zero = refl
-    taken_none (suc i) = refl
+drop_taken (suc b) (suc k) [] l = sym (none_left (suc k - suc b) [] refl)
 drop_taken (suc b) (suc k) (x ∷ xs) l = drop_taken b k xs (omega (arith, l)) ∙ ap (λ i. take i (drop b xs)) (let e : k - b ≡ suc k - suc b = omega arith in e)
 
 -- the oldest of the alternatives of a search that goes on
@@ -262,29 +263,29 @@ module _ (m n : Machine) (a d : Around) (st : StandsIn m) (sn : StandsIn n) (g :
   -- one more
   module _ (c : Choice) (ch : n.choices.items ≡ m.choices.items ++ c ∷ []) (rs ts : List Task) (sf : (k : ℕ) → StandsFor n d c k rs) (ab : IsAbove m c)
       (al : IsAlternative n (mark_in (base_of m.denied) (h.raws ++ rs ∷ [])) (base_of m.denied) (length m.choices.items) c rs ts) where
-    abbrev older : List Choice
-    older = drop (base_of m.denied) m.choices.items
+    abbrev aged : List Choice
+    aged = drop (base_of m.denied) m.choices.items
 
-    more_left : drop (base_of n.denied) n.choices.items ≡ older ++ c ∷ []
+    more_left : drop (base_of n.denied) n.choices.items ≡ aged ++ c ∷ []
     more_left = (λ i. drop (base_of (g.denied i)) (ch i)) ∙ drop_push (base_of m.denied) m.choices.items c h.done.base
 
-    more_are : AreAlternatives n (mark_in (base_of m.denied) (h.raws ++ rs ∷ [])) (base_of m.denied) (base_of m.denied) (older ++ c ∷ []) (h.raws ++ rs ∷ []) (h.others ++ ts ∷ [])
+    more_are : AreAlternatives n (mark_in (base_of m.denied) (h.raws ++ rs ∷ [])) (base_of m.denied) (base_of m.denied) (aged ++ c ∷ []) (h.raws ++ rs ∷ []) (h.others ++ ts ∷ [])
     more_are =
         let b = base_of m.denied in
         let f = mark_in b h.raws in
-        let k = counts_same m f b b older h.raws h.others h.are in
+        let k = counts_same m f b b aged h.raws h.others h.are in
         let e = k.0 in
-        alternatives_push n (mark_in b (h.raws ++ rs ∷ [])) b b older h.raws h.others c rs ts
-        (alternatives_marked n f (mark_in b (h.raws ++ rs ∷ [])) b b older h.raws h.others (λ i p q. marks_more b h.raws rs i (omega (arith, p, q, e)))
-        (alternatives_on m n g.lists.bank gb f b b older h.raws h.others h.are)) (subst (λ i. IsAlternative n (mark_in b (h.raws ++ rs ∷ [])) b i c rs ts) (sym (drop_length b m.choices.items h.done.base)) al)
+        alternatives_push n (mark_in b (h.raws ++ rs ∷ [])) b b aged h.raws h.others c rs ts
+        (alternatives_marked n f (mark_in b (h.raws ++ rs ∷ [])) b b aged h.raws h.others (λ i p q. marks_more b h.raws rs i (omega (arith, p, q, e)))
+        (alternatives_on m n g.lists.bank gb f b b aged h.raws h.others h.are)) (subst (λ i. IsAlternative n (mark_in b (h.raws ++ rs ∷ [])) b i c rs ts) (sym (drop_length b m.choices.items h.done.base)) al)
 
     pub more_done : IsDone n d (h.raws ++ rs ∷ [])
     more_done = record {
       stands = sn;
       base = (let e = ap base_of g.denied in let b = h.done.base in let k = ap length ch ∙ length-append m.choices.items (c ∷ []) in omega (arith, e, b, k));
       alternatives = subst (λ x. StandForAll n d x 0 (h.raws ++ rs ∷ [])) (sym more_left)
-          (stand_push n d older c 0 h.raws rs (all_stand_on m n a d st g lt older 0 h.raws h.done.alternatives) sf);
-      nested = subst AreNested (sym more_left) (nest_push m a older c 0 h.raws h.done.alternatives ab h.done.nested);
+          (stand_push n d aged c 0 h.raws rs (all_stand_on m n a d st g lt aged 0 h.raws h.done.alternatives) sf);
+      nested = subst AreNested (sym more_left) (nest_push m a aged c 0 h.raws h.done.alternatives ab h.done.nested);
     }
 
     pub more_all : AreAlternatives n (mark_in (base_of n.denied) (h.raws ++ rs ∷ [])) (base_of n.denied) (base_of n.denied) (drop (base_of n.denied) n.choices.items) (h.raws ++ rs ∷ []) (h.others ++ ts ∷ [])
@@ -292,5 +293,5 @@ module _ (m n : Machine) (a d : Around) (st : StandsIn m) (sn : StandsIn n) (g :
         subst (λ b. AreAlternatives n (mark_in b (h.raws ++ rs ∷ [])) b b (drop (base_of n.denied) n.choices.items) (h.raws ++ rs ∷ []) (h.others ++ ts ∷ [])) (sym (ap base_of g.denied))
         (subst (λ x. AreAlternatives n (mark_in (base_of m.denied) (h.raws ++ rs ∷ [])) (base_of m.denied) (base_of m.denied) x (h.raws ++ rs ∷ []) (h.others ++ ts ∷ [])) (sym more_left) more_are)
 
-    pub more_turn : AreBoundInTurn (older ++ c ∷ []) → AreBoundInTurn (drop (base_of n.denied) n.choices.items)
+    pub more_turn : AreBoundInTurn (aged ++ c ∷ []) → AreBoundInTurn (drop (base_of n.denied) n.choices.items)
     more_turn w = subst AreBoundInTurn (sym more_left) w
