@@ -38,7 +38,7 @@ use Rattle.lp_plain.proofs.Tries.{lists_back}
 use Rattle.lp_pattern.proofs.Keeps.{goes_on_same}
 use Rattle.lp_pattern.specs.Growing.{GoesOn}
 
-take_within : {X : Type 0} (i j : ℕ) (xs : List X) → i ≤ j → take i (take j xs) ≡ take i xs
+pub take_within : {X : Type 0} (i j : ℕ) (xs : List X) → i ≤ j → take i (take j xs) ≡ take i xs
 take_within zero j xs l = refl
 take_within (suc i) zero xs l = absurd (omega (arith, l))
 take_within (suc i) (suc j) [] l = refl
@@ -117,7 +117,7 @@ module _ (m n : Machine) (a : Around) (c : Choice) (rest : List Choice) (t : IsT
 
 -- all that are older are within what there was then
 
-abbrev AllWithin : Choice → List Choice → Type 0
+abbrev pub AllWithin : Choice → List Choice → Type 0
 AllWithin c [] = Unit {0}
 AllWithin c (x ∷ xs) = IsWithin x c × AllWithin c xs
 
@@ -144,12 +144,12 @@ within_then x y z g h =
       standings = omega (arith, gs, hs);
     }
 
-nested_last : (xs : List Choice) (c : Choice) → AreNested (xs ++ c ∷ []) → AllWithin c xs × AreNested xs
+pub nested_last : (xs : List Choice) (c : Choice) → AreNested (xs ++ c ∷ []) → AllWithin c xs × AreNested xs
 nested_last [] c n = (tt, tt)
 nested_last (x ∷ []) c n = ((n.0, tt), tt)
 nested_last (x ∷ y ∷ xs) c n = let r = nested_last (y ∷ xs) c n.1 in ((within_then x y c n.0 r.0.0, r.0), (n.0, r.1))
 
-all_back : (m n : Machine) (a : Around) (c : Choice) (rest : List Choice) → IsTaken m n c rest → IsKept m a c → (xs : List Choice) → AllWithin c xs →
+pub all_back : (m n : Machine) (a : Around) (c : Choice) (rest : List Choice) → IsTaken m n c rest → IsKept m a c → (xs : List Choice) → AllWithin c xs →
     (below : ℕ) (tss : List (List Task)) → StandForAll m a xs below tss → StandForAll n a xs below tss
 all_back m n a c rest t kc [] w below [] h = tt
 all_back m n a c rest t kc [] w below (ts ∷ tss) h = absurd h
@@ -175,18 +175,18 @@ split_last m a (x ∷ xs) c below (ts ∷ tss) h =
     record { older = ts ∷ r.older; newest = r.newest; under = r.under; whole = ap (λ l. ts ∷ l) r.whole; stand = (h.0, r.stand); last = r.last }
 
 -- an alternative with goals left is a side of a `;`
-record IsSide (m : Machine) (a : Around) (c : Choice) (ts : List Task) : Type 0 where
+pub record IsSide (m : Machine) (a : Around) (c : Choice) (ts : List Task) : Type 0 where
   pub side : Branch
   pub kept : IsKept m a c
   pub at : IsChoiceAt m a c side
   pub is : ts ≡ Go side ∷ []
 
-side_of : (m : Machine) (a : Around) (c : Choice) (n : ℕ) (from : Option ℕ) {ts : List Task} → c.untried ≡ Untried.Goals from → StandsFor m a c n ts → IsSide m a c ts
+pub side_of : (m : Machine) (a : Around) (c : Choice) (n : ℕ) (from : Option ℕ) {ts : List Task} → c.untried ≡ Untried.Goals from → StandsFor m a c n ts → IsSide m a c ts
 side_of m a c n from e (a_side b k h z) = record { side = b; kept = k; at = h; is = z }
 side_of m a c n from e (some_tries g y b x cs k h z) = absurd (let q = h.left in cc)
 
 -- all that is kept stands in the bank
-stands_then : (m n : Machine) (c : Choice) (rest : List Choice) → IsTaken m n c rest → StandsIn m → StandsIn n
+pub stands_then : (m n : Machine) (c : Choice) (rest : List Choice) → IsTaken m n c rest → StandsIn m → StandsIn n
 stands_then m n c rest t i = record {
   table = subst (λ b. IsTableIn (length b.terms) n.table) (sym t.bank) (subst (IsTableIn (length m.bank.terms)) (sym t.table) i.table);
   values = subst (λ b. AreValues b n.scopes.values.items) (sym t.bank)
@@ -195,7 +195,7 @@ stands_then m n c rest t i = record {
       (subst (All (λ (f : Frame). IsTodoIn (length m.bank.terms) f.todo)) (sym t.frames) (all_taken (λ (f : Frame). IsTodoIn (length m.bank.terms) f.todo) c.lengths.frames m.frames.items i.frames));
 }
 
-on_kept : (n q : Machine) → KeepsGoals n q → KeepsAssumed n q → q.denied ≡ n.denied → GrowsOn n q
+pub on_kept : (n q : Machine) → KeepsGoals n q → KeepsAssumed n q → q.denied ≡ n.denied → GrowsOn n q
 on_kept n q k ka d =
     let g = grows_kept n q k in
     record {
@@ -253,12 +253,12 @@ no_tasks m a [] below [] e h = refl
 no_tasks m a [] below (ts ∷ tss) e h = absurd h
 no_tasks m a (c ∷ cs) below tss e h = absurd (cc)
 
-drop_none : {X : Type 0} (n : ℕ) (xs : List X) → xs ≡ [] → drop n xs ≡ []
+pub drop_none : {X : Type 0} (n : ℕ) (xs : List X) → xs ≡ [] → drop n xs ≡ []
 drop_none zero xs e = e
 drop_none (suc n) [] e = refl
 drop_none (suc n) (x ∷ xs) e = absurd (cc)
 
-stops_so : (go : (Answer → Bool) → State Task → Inner) (see : ℕ → Task → View Task Answer) (n k g u p : ℕ) (b : Bool) → move_at go see n (suc k) g u p b [] ≡ Stops (last_ending b)
+pub stops_so : (go : (Answer → Bool) → State Task → Inner) (see : ℕ → Task → View Task Answer) (n k g u p : ℕ) (b : Bool) → move_at go see n (suc k) g u p b [] ≡ Stops (last_ending b)
 stops_so go see n k g u p true = refl
 stops_so go see n k g u p false = refl
 

@@ -27,7 +27,7 @@ use Rattle.lp_plain.specs.Within.{IsTodoIn, StandsIn}
 use Rattle.lp_plain.proofs.FirstGoals.{frame_of, kind_in}
 use Rattle.lp_plain.proofs.Within.{all_at}
 
-flat_kind : (b : Nodes) (t : Shown) (f : Flat) (g : Goal) → IsGoal b Never t f g → IsTakenApart g → IsApartFlat f
+pub flat_kind : (b : Nodes) (t : Shown) (f : Flat) (g : Goal) → IsGoal b Never t f g → IsTakenApart g → IsApartFlat f
 flat_kind b t f (Atomic x) h k = absurd k
 flat_kind b t f Cut h k = absurd k
 flat_kind b t f (Either gs hs) h k = subst IsApartFlat (sym h.2) tt
@@ -70,7 +70,7 @@ branch_parts u z height P b [] k = absurd k
 branch_parts u z height P b (e ∷ es) k = goal_parts u z height P e (with_goals b es) e.goal k
 
 module _ (go : (Answer → Bool) → State Task → Inner) (see : ℕ → Task → View Task Answer) where
-  at_limit : (n k g u : ℕ) (b : Bool) (t : Task) (rest ts : List Task) → see (length rest) t ≡ Parts ts → move_at go see n (suc k) g u 0 b (t ∷ rest) ≡ Stops Deep
+  pub at_limit : (n k g u : ℕ) (b : Bool) (t : Task) (rest ts : List Task) → see (length rest) t ≡ Parts ts → move_at go see n (suc k) g u 0 b (t ∷ rest) ≡ Stops Deep
   at_limit n k g u true t rest ts e = ap (move_view go n k g u 0 true rest) e
   at_limit n k g u false t rest ts e = ap (move_view go n k g u 0 false rest) e
 

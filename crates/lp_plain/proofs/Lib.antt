@@ -68,3 +68,15 @@ pub mod KnownGoals
 pub mod ReadClauses
 pub mod TryRead
 pub mod TryScopes
+pub mod Under
+pub mod OpenedUnder
+pub mod LooksUnder
+pub mod AboveUnder
+pub mod CutMoves
+pub mod Running
+pub mod PartMoves
+pub mod NoneBound
+pub mod AtGoals
+pub mod AtomFirst
+pub mod BackMoves
+pub mod FirstState

@@ -49,7 +49,7 @@ module _ {E : Type 0} (under : E → E) (term : E → Term → Term) (ty : Ty �
   written_stays e w = let p = terms_stay e w.terms in let q = types_stay w.types in λ i. record { terms = p i; types = q i }
 
   mutual
-    goal_stays : (e : E) (g : Goal) → map_goal under term ty e g ≡ g
+    pub goal_stays : (e : E) (g : Goal) → map_goal under term ty e g ≡ g
     goal_stays e (Atomic t) = ap Atomic (same e t)
     goal_stays e Cut = refl
     goal_stays e (Either gs hs) = either_same (goals_stay e gs) (goals_stay e hs)

@@ -90,8 +90,11 @@ branch_marked m n number f r g got k l u h =
     k l u z.2 z.0 z.1
 
 -- no alternative came
+pub none_pushed : {X : Type 0} (xs : List X) (x : X) → xs ≡ xs ++ x ∷ [] → ⊥
+none_pushed xs x e = let z = ap length e in let l = length-append xs (x ∷ []) in omega (arith, z, l)
+
 pub none_aside : (m n : Machine) (p : Place) (o : Option ℕ) → n.choices.items ≡ m.choices.items → PutsAside m n p o
-none_aside m n p o e c q = absurd (let z : length m.choices.items ≡ length (m.choices.items ++ c ∷ []) = ap length (sym e ∙ q) in let l = length-append m.choices.items (c ∷ []) in omega (arith, z, l))
+none_aside m n p o e c q = absurd (none_pushed m.choices.items c (sym e ∙ q))
 
 pub branch_aside : (m n : Machine) (number : ℕ) (f : Frame) → m.branch.goals ≡ Some number → slice_get m.frames.items number ≡ Some f → PutsAside m n f.place f.behind → SetsAside m n
 branch_aside m n number f g got k c e from q l u h =

@@ -21,7 +21,7 @@ pub stack_push : (tss : List (List Task)) (ts : List Task) → stack_of (tss ++ 
 stack_push [] ts = sym (append-nil ts)
 stack_push (us ∷ tss) ts = ap (λ l. l ++ us) (stack_push tss ts) ∙ append_assoc ts (stack_of tss) us
 
-stand_push : (m : Machine) (a : Around) (cs : List Choice) (c : Choice) (below : ℕ) (tss : List (List Task)) (ts : List Task) → StandForAll m a cs
+pub stand_push : (m : Machine) (a : Around) (cs : List Choice) (c : Choice) (below : ℕ) (tss : List (List Task)) (ts : List Task) → StandForAll m a cs
     below tss → ((n : ℕ) → StandsFor m a c n ts) → StandForAll m a (cs ++ c ∷ []) below (tss ++ ts ∷ [])
 stand_push m a [] c below [] ts h f = (f below, tt)
 stand_push m a [] c below (us ∷ tss) ts h f = absurd h
@@ -55,7 +55,7 @@ pub kept_of : (m : Machine) (a : Around) (c : Choice) (n : ℕ) {ts : List Task}
 kept_of m a c n (a_side b k h z) = k
 kept_of m a c n (some_tries t y b x cs k h z) = k
 
-nest_push : (m : Machine) (a : Around) (cs : List Choice) (c : Choice) (below : ℕ) (tss : List (List Task)) → StandForAll m a cs below tss → IsAbove m c → AreNested cs → AreNested (cs ++ c ∷ [])
+pub nest_push : (m : Machine) (a : Around) (cs : List Choice) (c : Choice) (below : ℕ) (tss : List (List Task)) → StandForAll m a cs below tss → IsAbove m c → AreNested cs → AreNested (cs ++ c ∷ [])
 nest_push m a [] c below tss h u n = tt
 nest_push m a (x ∷ cs) c below [] h u n = absurd h
 nest_push m a (x ∷ []) c below (ts ∷ tss) h u n = (within_new m a x c (kept_of m a x below h.0) u, tt)
@@ -69,14 +69,14 @@ drop_push (suc n) (y ∷ xs) x l = drop_push n xs x (omega (arith, l))
 -- the definition's move
 
 module _ (go : (Answer → Bool) → State Task → Inner) (see : ℕ → Task → View Task Answer) where
-  by_lost : (n k g u p : ℕ) (b : Bool) (t : Task) (rest : List Task) → move_at go see n (suc k) g u p b (t ∷ rest) ≡ move_view go n k g u p b rest (see (length rest) t)
+  pub by_lost : (n k g u p : ℕ) (b : Bool) (t : Task) (rest : List Task) → move_at go see n (suc k) g u p b (t ∷ rest) ≡ move_view go n k g u p b rest (see (length rest) t)
   by_lost n k g u p true t rest = refl
   by_lost n k g u p false t rest = refl
 
-  abbrev after_parts : State Task → (k p : ℕ) → List Task → State Task
+  abbrev pub after_parts : State Task → (k p : ℕ) → List Task → State Task
   after_parts s k p stack = record { steps = s.steps; answers = suc k; given = s.given; rows = s.rows; row = p; lost = s.lost; stack = stack }
 
-  parts_move : (s : State Task) (k p : ℕ) (t x : Task) (rest ts : List Task) → s.answers ≡ suc k → s.row ≡ suc p → s.stack ≡ t ∷ rest → see
+  pub parts_move : (s : State Task) (k p : ℕ) (t x : Task) (rest ts : List Task) → s.answers ≡ suc k → s.row ≡ suc p → s.stack ≡ t ∷ rest → see
       (length rest) t ≡ Parts (x ∷ ts) → move go see s ≡ Goes 0 [] (after_parts s k p ((x ∷ ts) ++ rest))
   parts_move s k p t x rest ts ea er es e =
       (λ i. move_at go see s.steps (ea i) s.given s.rows (er i) s.lost (es i)) ∙ by_lost s.steps k s.given s.rows (suc p) s.lost t rest ∙ ap

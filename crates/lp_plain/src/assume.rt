@@ -9,6 +9,7 @@ ghost use Rattle.lp_plain.specs.declared.types.Renewal.{Renewal};
 ghost use Rattle.lp_plain.specs.Assuming.{ArePlaced, AssumesFor, AssumesMore, GrowsOn, HasAssumed, IsOneMore, IsPlaceAt, IsStood, IsTreeOf, clause_in, clauses_in, head_at, lists_of, written_at};
 ghost use Rattle.lp_plain.specs.Entries.{Around, HasValues, IsBehind, IsOf, entry_at, in_scope};
 ghost use Rattle.lp_plain.specs.Marks.{PutsMarks};
+ghost use Rattle.lp_plain.specs.Moving.{BindsNone};
 ghost use Rattle.lp_plain.specs.Scopes.{blocks_of};
 ghost use Rattle.lp_plain.specs.Tables.{AreClausesOf, IsNumbered, IsRule, Never, shown};
 ghost use Rattle.lp_plain.specs.Within.{StandsIn};
@@ -113,6 +114,7 @@ fn assume_noted(machine: &mut Machine, rules: Span, place: Place) -> Result<Opti
 // Keeps what is written in assumed clauses. Its number.
 fn stand(machine: &mut Machine, free: usize, place: Place) -> Result<usize, Memory>
     ensures counts { machine.new.counts ≡ machine.old.counts }
+    ensures none { OnOk result (BindsNone machine.old machine.new) }
     ensures stood { IfOk result (λ number. IsStood machine.old machine.new free place number) }
 {
     let number = machine.standings.len();
@@ -134,6 +136,7 @@ pub(crate) fn put_assume(
     behind: Option<usize>,
 ) -> Result<(), Memory>
     ensures counts { machine.new.counts ≡ machine.old.counts }
+    ensures none { OnOk result (BindsNone machine.old machine.new) }
     ensures stands { OnOk result (StandsIn machine.old → StandsIn machine.new) }
     ensures grown { OnOk result (GrowsOn machine.old machine.new) }
     ensures choices { OnOk result (machine.new.choices.items ≡ machine.old.choices.items) }

@@ -1,8 +1,12 @@
 // Atomic goals: a step each.
 ghost use Rattle.std.specs.Prelude.{◌≡◌, ℕ, List, IfOk};
-ghost use Rattle.lp_model.specs.Branch.{Task};
+ghost use Rattle.lp_model.specs.Branch.{Branch, Task};
+ghost use Rattle.lp_model.specs.Skeleton.{State};
 ghost use Rattle.lp_plain.specs.declared.outcome.Turn.{Turn};
+ghost use Rattle.lp_plain.specs.declared.table.Flat.{Flat};
 ghost use Rattle.lp_plain.specs.Cuts.{CutsOff};
+ghost use Rattle.lp_plain.specs.Entries.{Around};
+ghost use Rattle.lp_plain.specs.Moving.{IsAtGoal, IsRunning, MovesTo};
 ghost use Rattle.lp_plain.specs.Stacks.{CutsTasks, HaveTasks, IsMarkOf};
 
 use crate::arithmetic::{Outcome, Value, evaluate, holds, term_of};
@@ -170,6 +174,7 @@ pub(crate) fn take_cut<W: Watch>(
     behind: Option<usize>,
 ) -> Result<Turn, Memory>
     ensures cuts { IfOk result (λ turn. CutsOff turn machine.old machine.new place.mark behind) }
+    ensures moved { IfOk result (λ turn. (a : Around) (raw : Branch) (s : State Task) → IsRunning machine.old a raw s → IsAtGoal machine.old a place Flat.Cut behind raw → MovesTo turn machine.new s) }
     ensures tasks { IfOk result (λ turn. turn ≡ Turn.On → (tss : List (List Task)) (keep : ℕ) → HaveTasks machine.old tss → IsMarkOf machine.old tss place.mark keep → CutsTasks machine.old machine.new place.mark keep tss) }
 {
     if !take_step(machine) {

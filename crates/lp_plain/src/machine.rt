@@ -11,6 +11,7 @@ ghost use Rattle.lp_plain.specs.Cuts.{cut_off};
 ghost use Rattle.lp_plain.specs.Entries.{Around, AreTodo, IsListAt, HasAlternative, KeepsGoals, Reads, placed};
 ghost use Rattle.lp_plain.specs.Keeping.{HasOneMore, IsAround, KeepsCourse};
 ghost use Rattle.lp_plain.specs.Marks.{PutsMarks};
+ghost use Rattle.lp_plain.specs.Moving.{BindsNone};
 ghost use Rattle.lp_plain.specs.Opening.{IsNewVariable};
 ghost use Rattle.lp_plain.specs.Restoring.{IsRestored, IsTaken};
 ghost use Rattle.lp_plain.specs.Scopes.{block_count, blocks_of, value_count};
@@ -134,6 +135,7 @@ impl Machine {
     pub(crate) fn new_variable(&mut self, level: u64) -> Result<TermId, Memory>
         ensures counts { self.new.counts ≡ self.old.counts }
         ensures variable { IfOk result (IsNewVariable self.old self.new level) }
+        ensures none { BindsNone self.old self.new }
         ensures stands { OnOk result (StandsIn self.old → StandsIn self.new) }
     {
         let id = self.branch.next;
@@ -301,6 +303,8 @@ impl Machine {
         ensures counts { self.new.counts ≡ cut_off self.old.counts (nat_lt mark (length self.old.choices.items)) }
         ensures branch { self.new.branch ≡ self.old.branch }
         ensures goals { KeepsGoals self.old self.new }
+        ensures frames { self.new.frames ≡ self.old.frames }
+        ensures assumed { KeepsAssumed self.old self.new }
     {
         if self.choices.len() > mark {
             self.counts.lost = true;

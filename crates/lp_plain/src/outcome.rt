@@ -1,6 +1,7 @@
 // How the search goes on, and what is counted on its way.
 ghost use Rattle.std.specs.Prelude.{◌≡◌, ◌+◌, ◌<◌, ◌≤◌, true, false};
 ghost use Rattle.lp_plain.specs.Apart.{apart, one_apart};
+ghost use Rattle.lp_plain.specs.Assuming.{KeepsAssumed};
 ghost use Rattle.lp_plain.specs.Cuts.{one_step};
 ghost use Rattle.lp_plain.specs.Entries.{KeepsGoals};
 ghost use Rattle.lp_plain.specs.Keeping.{KeepsKnown};
@@ -53,6 +54,9 @@ pub(crate) fn take_step(machine: &mut Machine) -> bool
     ensures counts { result ≡ true → machine.new.counts ≡ one_step machine.old.counts }
     ensures branch { machine.new.branch ≡ machine.old.branch }
     ensures goals { KeepsGoals machine.old machine.new }
+    ensures there { result ≡ true → machine.old.counts.steps < machine.old.counts.limit }
+    ensures frames { machine.new.frames ≡ machine.old.frames }
+    ensures assumed { KeepsAssumed machine.old machine.new }
 {
     if machine.counts.steps >= machine.counts.limit {
         return false;

@@ -21,6 +21,7 @@ ghost use Rattle.lp_plain.specs.Assuming.{ArePlaced, AssumesFor, GrowsAt, IsPlac
 ghost use Rattle.lp_plain.specs.Entries.{Around, ArePartsOf, GoesOnWith, GrowsGoals, HeadsTo, IsBehind, IsOf, KeepsGoals, Reads, entry_at, in_scope, placed};
 ghost use Rattle.lp_plain.specs.Keeping.{KeepsCourse};
 ghost use Rattle.lp_plain.specs.Marks.{PutsAside, PutsMarks};
+ghost use Rattle.lp_plain.specs.Moving.{BindsNone, PutsWith};
 ghost use Rattle.lp_plain.specs.Opening.{IsBoundBy, IsNewVariable, IsRaised};
 ghost use Rattle.lp_plain.specs.Tables.{AreClausesOf, IsNumbered, shown};
 ghost use Rattle.lp_plain.specs.Taking.{IsApartFlat, IsApartForm, KeepsNew, TakesApart, TakesKnown};
@@ -41,6 +42,7 @@ use lp_term::{TermId, put_applied, put_eigen};
 // The place inside the scope of one more variable.
 fn bound(machine: &mut Machine, place: Place, value: TermId) -> Result<Place, Memory>
     ensures counts { machine.new.counts ≡ machine.old.counts }
+    ensures none { BindsNone machine.old machine.new }
     ensures bound { IfOk result (λ inner. IsBoundBy machine.old machine.new place inner value) }
 {
     let one = [value];
@@ -57,6 +59,7 @@ fn bound(machine: &mut Machine, place: Place, value: TermId) -> Result<Place, Me
 // The place one level up, and the eigenconstant of that level.
 fn raised(machine: &mut Machine, place: Place) -> Result<(Place, TermId), Memory>
     ensures counts { machine.new.counts ≡ machine.old.counts }
+    ensures none { BindsNone machine.old machine.new }
     ensures raised { IfOk result (λ made. IsRaised machine.old machine.new place made.0 made.1) }
     ensures stands { OnOk result (StandsIn machine.old → StandsIn machine.new) }
 {
@@ -75,6 +78,8 @@ fn put_either(
     behind: Option<usize>,
 ) -> Result<(), Memory>
     ensures counts { machine.new.counts ≡ machine.old.counts }
+    ensures none { OnOk result (BindsNone machine.old machine.new) }
+    ensures aside_with { OnOk result (PutsWith machine.old machine.new) }
     ensures grown { OnOk result (GrowsAt machine.old machine.new place) }
     ensures stands { OnOk result (StandsIn machine.old → StandsIn machine.new) }
     ensures kept { OnOk result ((a : Around) → StandsIn machine.old → ArePlaced machine.old a → IsPlaceAt (lists_of machine.old) a place → KeepsNew machine.old machine.new a) }
@@ -94,6 +99,7 @@ fn put_either(
 // The new variable at which a `sigma` is opened.
 fn opened(machine: &mut Machine, level: u64) -> Result<TermId, Memory>
     ensures counts { machine.new.counts ≡ machine.old.counts }
+    ensures none { BindsNone machine.old machine.new }
     ensures variable { IfOk result (IsNewVariable machine.old machine.new level) }
     ensures stands { OnOk result (StandsIn machine.old → StandsIn machine.new) }
 {
@@ -109,6 +115,7 @@ fn put_some(
     behind: Option<usize>,
 ) -> Result<(), Memory>
     ensures counts { machine.new.counts ≡ machine.old.counts }
+    ensures none { OnOk result (BindsNone machine.old machine.new) }
     ensures grown { OnOk result (GrowsAt machine.old machine.new place) }
     ensures stands { OnOk result (StandsIn machine.old → StandsIn machine.new) }
     ensures choices { OnOk result (machine.new.choices.items ≡ machine.old.choices.items) }
@@ -130,6 +137,7 @@ fn put_all(
     behind: Option<usize>,
 ) -> Result<(), Memory>
     ensures counts { machine.new.counts ≡ machine.old.counts }
+    ensures none { OnOk result (BindsNone machine.old machine.new) }
     ensures grown { OnOk result (GrowsAt machine.old machine.new place) }
     ensures stands { OnOk result (StandsIn machine.old → StandsIn machine.new) }
     ensures choices { OnOk result (machine.new.choices.items ≡ machine.old.choices.items) }
@@ -159,6 +167,8 @@ pub(crate) fn put_parts(
     ensures all { IfOk result (λ turn. turn ≡ Turn.On → (l : ℕ) → goal ≡ Flat.All l → (a : Around) (hs : Goals) (σ : ℕ → Term) (b : Branch) → StandsIn machine.old → IsOf machine.old place l hs σ → IsBehind machine.old a behind b →
         (u n height : ℕ) (P : List Clause) (T : Ty) → let g : Goal = Forall T (in_scope (lifted σ) place.values.types hs) in ArePartsOf machine.old machine.new a (look_goal u n P height (entry_at a place g) b g)) }
     ensures taken { IfOk result (λ turn. turn ≡ Turn.On → TakesApart machine.old machine.new place goal behind) }
+    ensures none { IfOk result (λ turn. turn ≡ Turn.On → IsApartFlat goal → BindsNone machine.old machine.new) }
+    ensures aside_with { IfOk result (λ turn. turn ≡ Turn.On → IsApartFlat goal → PutsWith machine.old machine.new) }
     ensures marks { IfOk result (λ turn. turn ≡ Turn.On → IsApartFlat goal → PutsMarks machine.old machine.new place behind machine.new.branch.goals) }
     ensures aside { IfOk result (λ turn. turn ≡ Turn.On → IsApartFlat goal → PutsAside machine.old machine.new place behind) }
     ensures assume { IfOk result (λ turn. turn ≡ Turn.On → (s : Span) (l free : ℕ) → goal ≡ Flat.Assume s l free → (a : Around) (cs : Clauses) (hs : Goals) (σ : ℕ → Term) (b : Branch) → StandsIn machine.old → ArePlaced machine.old a → IsPlaceAt (lists_of machine.old) a place →

@@ -16,6 +16,7 @@ ghost use Rattle.lp_plain.specs.Entries.{Around};
 ghost use Rattle.lp_plain.specs.Scopes.{IsScope, block_count, value_count};
 ghost use Rattle.lp_plain.specs.Searching.{IsStateOf};
 ghost use Rattle.lp_plain.specs.Marks.{IsMarked};
+ghost use Rattle.lp_plain.specs.Moving.{IsState};
 ghost use Rattle.lp_plain.specs.Starts.{AreFlat, AreFormulasIn, AreProgramOf, IsAlone, IsOutermost, IsOutside};
 ghost use Rattle.lp_plain.specs.Tables.{IsListOf};
 ghost use Rattle.lp_plain.specs.Within.{IsTableIn, StandsIn};
@@ -185,6 +186,8 @@ pub(crate) fn begin(
         IsAlone s.machine a (start query.type_vars (length query.vars.items) flat limit answers).stack) }
     ensures state { IfOk result (λ s. query.formula.0 < length program.bank.terms → (n : ℕ) (d : ℕ → Option Scheme) (flat : Goals) → flatten_query n d (tree program.bank query.formula.0) ≡ Some flat → (a : Around) → IsOutermost a → (answers : ℕ) →
         IsStateOf s.machine a (start query.type_vars (length query.vars.items) flat limit answers)) }
+    ensures begun { IfOk result (λ s. query.formula.0 < length program.bank.terms → (n : ℕ) (d : ℕ → Option Scheme) (flat : Goals) → flatten_query n d (tree program.bank query.formula.0) ≡ Some flat → (answers : ℕ) →
+        IsState s.machine (start query.type_vars (length query.vars.items) flat limit answers)) }
     ensures marked { IfOk result (λ s. IsMarked s.machine) }
     ensures placed { IfOk result (λ s. (a : Around) → IsOutermost a → ArePlaced s.machine a) }
 {
@@ -206,13 +209,15 @@ pub(crate) fn begin(
     let place = query_place(alloc, &mut scopes, &variables)?;
     let choices = Vec::new(alloc);
     let frames = Vec::new(alloc);
+    let bindings = Bindings::new(alloc);
+    let pairs = Vec::new(alloc);
     let mut machine = Machine {
         alloc,
         bank,
         constants,
         table,
         index,
-        bindings: Bindings::new(alloc),
+        bindings,
         scopes,
         frames,
         assumptions: Vec::new(alloc),
@@ -225,7 +230,7 @@ pub(crate) fn begin(
             goals: None,
             next: count as u64,
             next_type: query.type_vars,
-            pairs: Vec::new(alloc),
+            pairs,
         },
         counts: Counts {
             limit,

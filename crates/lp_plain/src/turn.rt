@@ -1,6 +1,6 @@
 // The next goal of the branch at work, and the way back to an alternative.
 ghost use Rattle.std.specs.Prelude.{◌≡◌, ℕ, suc, Bool, ◌∷◌, ◌++◌, ◌<◌, ◌≤◌, [], List, drop, length, Option, IfOk, OnOk};
-ghost use Rattle.lp_model.specs.Branch.{Answer, Task};
+ghost use Rattle.lp_model.specs.Branch.{Answer, Branch, Task};
 ghost use Rattle.lp_model.specs.Flat.{Clause, Goals};
 ghost use Rattle.lp_model.specs.Skeleton.{Inner, State};
 ghost use Rattle.lp_plain.specs.declared.choice.Choice.{Choice};
@@ -10,6 +10,7 @@ ghost use Rattle.lp_plain.specs.Apart.{IsApart};
 ghost use Rattle.lp_plain.specs.Assuming.{KeepsAssumed};
 ghost use Rattle.lp_plain.specs.Entries.{Around, KeepsGoals};
 ghost use Rattle.lp_plain.specs.Marks.{AreMarked, IsMarked, Marks, PutsAside, PutsMarks, SetsAside};
+ghost use Rattle.lp_plain.specs.Moving.{IsBack, IsAtGoal, IsAtGoals, IsPlainFirst, IsRunning, IsState, MovesTo};
 ghost use Rattle.lp_plain.specs.Restoring.{GoesBack};
 ghost use Rattle.lp_plain.specs.Searching.{EndsSo, GoesOnOrStops, IsBackOf, IsQuietMove, IsStateOf};
 ghost use Rattle.lp_plain.specs.Stacks.{base_of};
@@ -43,6 +44,7 @@ fn take_flat<W: Watch>(
     ensures marks { IfOk result (λ turn. turn ≡ Turn.On → IsApartFlat goal → PutsMarks machine.old machine.new place behind machine.new.branch.goals) }
     ensures aside { IfOk result (λ turn. turn ≡ Turn.On → IsApartFlat goal → PutsAside machine.old machine.new place behind) }
     ensures counted { IfOk result (λ turn. IsApartFlat goal → IsApart turn machine.old.counts machine.new.counts) }
+    ensures moved { IfOk result (λ turn. (a : Around) (raw : Branch) (s : State Task) → IsRunning machine.old a raw s → IsAtGoal machine.old a place goal behind raw → IsPlainFirst raw.goals → MovesTo turn machine.new s) }
 {
     match goal {
         Flat::Atom(term) => {
@@ -97,6 +99,7 @@ fn take_first<W: Watch>(
     ensures marks { IfOk result (λ turn. turn ≡ Turn.On → (hs : Goals) → goals.from < goals.to → AreGoals machine.old.bank Never (shown machine.old.table) goals.from goals.to hs → FirstIsApart hs → PutsMarks machine.old machine.new place behind machine.new.branch.goals) }
     ensures aside { IfOk result (λ turn. turn ≡ Turn.On → (hs : Goals) → goals.from < goals.to → AreGoals machine.old.bank Never (shown machine.old.table) goals.from goals.to hs → FirstIsApart hs → PutsAside machine.old machine.new place behind) }
     ensures counted { IfOk result (λ turn. (hs : Goals) → goals.from < goals.to → AreGoals machine.old.bank Never (shown machine.old.table) goals.from goals.to hs → FirstIsApart hs → IsApart turn machine.old.counts machine.new.counts) }
+    ensures moved { IfOk result (λ turn. (a : Around) (raw : Branch) (s : State Task) → IsRunning machine.old a raw s → IsAtGoals machine.old a place goals behind raw → IsPlainFirst raw.goals → MovesTo turn machine.new s) }
 {
     let goal = machine.table.goal(goals.from)?;
     let Some(second) = goals.from.checked_add(1) else {
@@ -125,6 +128,7 @@ pub(crate) fn take_goal<W: Watch>(
     ensures marks { IfOk result (λ turn. turn ≡ Turn.On → (a : Around) (s : State Task) (h : IsStateOf machine.old a s) → IsApartFirst h.at_work.goals → (l u : ℕ) → Marks l u machine.old machine.old.branch.goals → Marks l u machine.new machine.new.branch.goals) }
     ensures aside { IfOk result (λ turn. turn ≡ Turn.On → (a : Around) (s : State Task) (h : IsStateOf machine.old a s) → IsApartFirst h.at_work.goals → SetsAside machine.old machine.new) }
     ensures marked { IfOk result (λ turn. turn ≡ Turn.On → (a : Around) (s : State Task) (h : IsStateOf machine.old a s) → IsApartFirst h.at_work.goals → IsMarked machine.old → IsMarked machine.new) }
+    ensures moved { IfOk result (λ turn. (s : State Task) (h : IsState machine.old s) → IsPlainFirst h.raw.goals → MovesTo turn machine.new s) }
 {
     let Some(number) = machine.branch.goals else {
         return Ok(end_branch(machine));
@@ -161,6 +165,7 @@ fn go_right(machine: &mut Machine, goals: Option<usize>) -> Result<(), Memory>
     ensures goals { OnOk result (machine.new.branch.goals ≡ goals) }
     ensures next { OnOk result (machine.new.branch.next ≡ machine.old.branch.next) }
     ensures next_type { OnOk result (machine.new.branch.next_type ≡ machine.old.branch.next_type) }
+    ensures pairs { OnOk result (machine.new.branch.pairs ≡ machine.old.branch.pairs) }
     ensures choices { OnOk result (machine.new.choices.items ≡ machine.old.choices.items) }
     ensures counts { OnOk result (machine.new.counts ≡ machine.old.counts) }
     ensures denied { OnOk result (machine.new.denied ≡ machine.old.denied) }
@@ -175,6 +180,8 @@ pub(crate) fn go_back(machine: &mut Machine) -> Result<Turn, Memory>
     ensures goes { IfOk result (λ turn. (c : Choice) (rest : List Choice) (from : Option ℕ) → machine.old.choices.items ≡ rest ++ c ∷ [] → c.untried ≡ Untried.Goals from → (turn ≡ Turn.On) × GoesBack machine.old machine.new c rest) }
     ensures state { IfOk result (λ turn. (c : Choice) (rest : List Choice) (from : Option ℕ) → machine.old.choices.items ≡ rest ++ c ∷ [] → c.untried ≡ Untried.Goals from → base_of machine.old.denied ≤ length rest → (a : Around) (s : State Task) → IsBackOf machine.old a s → IsStateOf machine.new a s) }
     ensures marked { IfOk result (λ turn. (c : Choice) (rest : List Choice) (from : Option ℕ) → machine.old.choices.items ≡ rest ++ c ∷ [] → c.untried ≡ Untried.Goals from → base_of machine.old.denied ≤ length rest → (a : Around) (s : State Task) → IsBackOf machine.old a s → AreMarked machine.old (base_of machine.old.denied) (base_of machine.old.denied) (drop (base_of machine.old.denied) machine.old.choices.items) → IsMarked machine.new) }
+    ensures resumed { IfOk result (λ turn. (c : Choice) (rest : List Choice) (from : Option ℕ) → machine.old.choices.items ≡ rest ++ c ∷ [] → c.untried ≡ Untried.Goals from → base_of machine.old.denied ≤ length rest → (s : State Task) → IsBack machine.old s → IsState machine.new s) }
+    ensures moved { IfOk result (λ turn. machine.old.choices.items ≡ [] → (s : State Task) → IsBack machine.old s → MovesTo turn machine.new s) }
     ensures ends { IfOk result (λ turn. machine.old.choices.items ≡ [] → (a : Around) (s : State Task) → IsBackOf machine.old a s → EndsSo turn machine.old.counts.lost s) }
 {
     let Some(untried) = machine.take_choice()? else {

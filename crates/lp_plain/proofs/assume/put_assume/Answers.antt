@@ -1,3 +1,4 @@
+use Rattle.lp_plain.proofs.NoneBound.{none_kept, none_then}
 use Rattle.std.proofs.Common.{refl}
 use Rattle.lp_plain.proofs.Assuming.{assumes_for, put_grows, stood_stands}
 use Rattle.std.proofs.Common.{sym, subst, ◌∙◌}
@@ -36,3 +37,14 @@ returns-clause-marks c = λ l u h k j.
 
 pub returns-clause-choices : goal.returns-clause-choices
 returns-clause-choices c = c.in_ok-front.ensures.course.choices ∙ c.in_ok-number.ensures.stood.course.choices ∙ c.in_ok-assumed.ensures.more.course.choices
+
+pub returns-clause-none : goal.returns-clause-none
+returns-clause-none c =
+    let m = c.args.machine.now in
+    let n = c.assume_noted.new.machine in
+    let o = c.stand.new.machine in
+    let q = c.put_list.new.self in
+    let e = c.in_ok-assumed.ensures.more in
+    let f = c.in_ok-front.ensures in
+    let x = none_then m n q (none_kept m n e.goals e.course) (none_then n o q c.in_ok-number.ensures.none (none_kept o q f.goals f.course)) in
+    record { bindings = x.bindings; pairs = x.pairs }

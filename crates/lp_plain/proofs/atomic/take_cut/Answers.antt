@@ -1,3 +1,5 @@
+use Rattle.lp_plain.specs.Moving.{KeepsSearch}
+use Rattle.lp_plain.proofs.CutMoves.{cut_moved, cut_stops}
 use Rattle.std.proofs.Common.{◌∙◌, refl, ap, take, length}
 use Rattle.std.specs.Prelude.{nat_lt}
 use Rattle.lp_plain.specs.Cuts.{one_step, cut_off}
@@ -29,3 +31,23 @@ returns-clause-tasks g c = λ e tss keep h i.
     let counts = c.cut.ensures.counts ∙ ap (λ z. cut_off z (nat_lt k (length c.take_step.new.machine.choices.items))) (s.counts refl) ∙ ap
     (λ z. cut_off (one_step m.counts) (nat_lt k (length z.items))) s.choices in
     cut_tasks m _ k keep tss (c.cut.ensures.denied ∙ s.denied) (c.cut.ensures.choices ∙ ap (λ z. take k z.items) s.choices) (ap (λ z. z.lost) counts) h i
+
+pub returns-clause-moved : goal.returns-clause-moved
+returns-clause-moved g c =
+    let m = c.args.machine.now in
+    let s = c.if-not-take_step.ensures in
+    let d = c.cut.ensures in
+    let k = keeps_then m c.take_step.new.machine c.cut.new.self s.goals d.goals in
+    let branch = d.branch ∙ s.branch in
+    let keeps : KeepsSearch m _ c.args.behind =
+    record {
+      goals = record { known = record { bank = k.known.bank; bindings = k.known.bindings; scopes = k.known.scopes; table = k.known.table; standings = k.known.standings; index = k.known.index }; frames = k.frames };
+      assumed = record { assumptions = d.assumed.assumptions ∙ s.assumed.assumptions; newest = d.assumed.newest ∙ s.assumed.newest };
+      frames = d.frames ∙ s.frames;
+      denied = d.denied ∙ s.denied;
+      front = refl;
+      next = ap (λ z. z.next) branch;
+      next_type = ap (λ z. z.next_type) branch;
+      pairs = ap (λ z. z.pairs) branch;
+    } in
+    cut_moved m _ c.args.place c.args.behind keeps (returns-clause-cuts g c) (s.there refl)

@@ -1,3 +1,4 @@
+use Rattle.lp_plain.proofs.NoneBound.{none_kept, none_then}
 use Rattle.std.proofs.Common.{◌∙◌, ap, refl}
 use Rattle.lp_plain.proofs.Opening.{all_opened}
 use Rattle.lp_plain.proofs.Grown.{grown_by, grown_frame, grown_still, grown_then}
@@ -46,3 +47,13 @@ returns-clause-marks c = λ l u h k j.
 
 pub returns-clause-choices : goal.returns-clause-choices
 returns-clause-choices c = c.in_ok-front.ensures.course.choices ∙ c.in_ok-inner.ensures.bound.choices ∙ c.in_ok-above.ensures.raised.choices
+
+pub returns-clause-none : goal.returns-clause-none
+returns-clause-none c =
+    let m = c.args.machine.now in
+    let n = c.raised.new.machine in
+    let o = c.bound.new.machine in
+    let q = c.put_list.new.self in
+    let f = c.in_ok-front.ensures in
+    let x = none_then m n q c.in_ok-above.ensures.none (none_then n o q c.in_ok-inner.ensures.none (none_kept o q f.goals f.course)) in
+    record { bindings = x.bindings; pairs = x.pairs }

@@ -1,3 +1,5 @@
+use Rattle.lp_plain.proofs.NoneBound.{none_kept, put_with}
+use Rattle.lp_plain.specs.Moving.{IsPutWith}
 use Rattle.std.proofs.Common.{refl, ap}
 use Rattle.lp_model.specs.Flat.{goal_list}
 use Rattle.lp_plain.specs.Entries.{in_scope}
@@ -114,3 +116,24 @@ returns-clause-aside c = λ k e from q l u h j i.
     let all = keeps_then one three four (keeps_then one two three v.goals n.goals) f.goals in
     let same = last_same one.choices.items m.choices.items x.choice k (sym (f.course.choices ∙ n.course.choices ∙ x.more) ∙ e) in
     marks_aside l u one two four k c.in_ok-other.other from x same.1 q all (o.marks l u h j i)
+
+pub returns-clause-none : goal.returns-clause-none
+returns-clause-none c =
+    let k = c.in_ok-other.ensures in
+    let l = c.in_ok-put_choice.ensures in
+    let j = c.in_ok-note.ensures in
+    let i = c.in_ok-one.ensures in
+    record {
+      bindings = i.goals.known.bindings ∙ j.goals.known.bindings ∙ l.goals.known.bindings ∙ k.goals.known.bindings;
+      pairs = ap (λ b. b.pairs) (i.course.branch ∙ j.course.branch ∙ l.branch ∙ k.course.branch);
+    }
+
+pub returns-clause-aside_with : goal.returns-clause-aside_with
+returns-clause-aside_with c = λ k e.
+    let m = c.args.machine.now in
+    let one = c.put_list.new.self in
+    let two = c.put_choice.new.self in
+    let o = c.in_ok-other.ensures in
+    let x = c.in_ok-put_choice.ensures.alternative in
+    let same = last_same one.choices.items m.choices.items x.choice k (sym (c.in_ok-one.ensures.course.choices ∙ c.in_ok-note.ensures.course.choices ∙ x.more) ∙ e) in
+    subst (IsPutWith m) same.1 (put_with m one two _ x (none_kept m one o.goals o.course))

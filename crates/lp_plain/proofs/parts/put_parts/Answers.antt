@@ -1,3 +1,4 @@
+use Rattle.lp_plain.proofs.NoneBound.{none_apart, none_with, with_apart}
 use Rattle.std.proofs.Common.{◌≡◌, refl, subst}
 use Rattle.lp_model.specs.Flat.{Exists, Forall, collect_clauses}
 use Rattle.lp_plain.specs.Entries.{IsOf}
@@ -174,3 +175,45 @@ returns-in-Not-clause-marks c = λ e h. absurd (subst IsApartFlat c.in-Not.is h)
 
 pub returns-in-Not-clause-aside : goal.returns-in-Not-clause-aside
 returns-in-Not-clause-aside c = λ e h. absurd (subst IsApartFlat c.in-Not.is h)
+
+pub returns-in_ok-put_either-in-Either-clause-none : goal.returns-in_ok-put_either-in-Either-clause-none
+returns-in_ok-put_either-in-Either-clause-none c = λ e h. none_apart c.args.machine.now c.take_apart.new.machine c.put_either.new.machine (c.if-not-take_apart.ensures.apart refl) c.in_ok-put_either-in-Either.ensures.none
+
+pub returns-in_ok-put_either-in-Either-clause-aside_with : goal.returns-in_ok-put_either-in-Either-clause-aside_with
+returns-in_ok-put_either-in-Either-clause-aside_with c = λ e h. with_apart c.args.machine.now c.take_apart.new.machine c.put_either.new.machine (c.if-not-take_apart.ensures.apart refl) c.in_ok-put_either-in-Either.ensures.aside_with
+
+pub returns-in_ok-put_some-in-Some-clause-none : goal.returns-in_ok-put_some-in-Some-clause-none
+returns-in_ok-put_some-in-Some-clause-none c = λ e h. none_apart c.args.machine.now c.take_apart.new.machine c.put_some.new.machine (c.if-not-take_apart.ensures.apart refl) c.in_ok-put_some-in-Some.ensures.none
+
+pub returns-in_ok-put_some-in-Some-clause-aside_with : goal.returns-in_ok-put_some-in-Some-clause-aside_with
+returns-in_ok-put_some-in-Some-clause-aside_with c = λ e h. with_apart c.args.machine.now c.take_apart.new.machine c.put_some.new.machine (c.if-not-take_apart.ensures.apart refl) (none_with c.take_apart.new.machine c.put_some.new.machine c.in_ok-put_some-in-Some.ensures.choices)
+
+pub returns-in_ok-put_all-in-All-clause-none : goal.returns-in_ok-put_all-in-All-clause-none
+returns-in_ok-put_all-in-All-clause-none c = λ e h. none_apart c.args.machine.now c.take_apart.new.machine c.put_all.new.machine (c.if-not-take_apart.ensures.apart refl) c.in_ok-put_all-in-All.ensures.none
+
+pub returns-in_ok-put_all-in-All-clause-aside_with : goal.returns-in_ok-put_all-in-All-clause-aside_with
+returns-in_ok-put_all-in-All-clause-aside_with c = λ e h. with_apart c.args.machine.now c.take_apart.new.machine c.put_all.new.machine (c.if-not-take_apart.ensures.apart refl) (none_with c.take_apart.new.machine c.put_all.new.machine c.in_ok-put_all-in-All.ensures.choices)
+
+pub returns-in_ok-put_assume-in-Assume-clause-none : goal.returns-in_ok-put_assume-in-Assume-clause-none
+returns-in_ok-put_assume-in-Assume-clause-none c = λ e h. none_apart c.args.machine.now c.take_apart.new.machine c.put_assume.new.machine (c.if-not-take_apart.ensures.apart refl) c.in_ok-put_assume-in-Assume.ensures.none
+
+pub returns-in_ok-put_assume-in-Assume-clause-aside_with : goal.returns-in_ok-put_assume-in-Assume-clause-aside_with
+returns-in_ok-put_assume-in-Assume-clause-aside_with c = λ e h. with_apart c.args.machine.now c.take_apart.new.machine c.put_assume.new.machine (c.if-not-take_apart.ensures.apart refl) (none_with c.take_apart.new.machine c.put_assume.new.machine c.in_ok-put_assume-in-Assume.ensures.choices)
+
+pub returns-in-Atom-clause-none : goal.returns-in-Atom-clause-none
+returns-in-Atom-clause-none c = λ e h. absurd (subst IsApartFlat c.in-Atom.is h)
+
+pub returns-in-Atom-clause-aside_with : goal.returns-in-Atom-clause-aside_with
+returns-in-Atom-clause-aside_with c = λ e h. absurd (subst IsApartFlat c.in-Atom.is h)
+
+pub returns-in-Cut-clause-none : goal.returns-in-Cut-clause-none
+returns-in-Cut-clause-none c = λ e h. absurd (subst IsApartFlat c.in-Cut.is h)
+
+pub returns-in-Cut-clause-aside_with : goal.returns-in-Cut-clause-aside_with
+returns-in-Cut-clause-aside_with c = λ e h. absurd (subst IsApartFlat c.in-Cut.is h)
+
+pub returns-in-Not-clause-none : goal.returns-in-Not-clause-none
+returns-in-Not-clause-none c = λ e h. absurd (subst IsApartFlat c.in-Not.is h)
+
+pub returns-in-Not-clause-aside_with : goal.returns-in-Not-clause-aside_with
+returns-in-Not-clause-aside_with c = λ e h. absurd (subst IsApartFlat c.in-Not.is h)

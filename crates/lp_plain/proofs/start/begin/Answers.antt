@@ -21,6 +21,7 @@ use Rattle.lp_model.specs.Search.{start}
 use Rattle.lp_plain.proofs.QuietMoves.{first_state}
 use Rattle.lp_plain.specs.Marks.{no_mark}
 use Rattle.lp_plain.proofs.Marking.{first_marked}
+use Rattle.lp_plain.proofs.FirstState.{begins_so, outermost}
 use Rattle.lp_plain.proofs.start.begin.Goals as goal
 
 pub returns-clause-stands : goal.returns-clause-stands
@@ -115,3 +116,12 @@ returns-clause-marked c =
     let f = c.in_ok-front.ensures in
     let mk = c.in_ok-place.ensures.outside.mark in
     first_marked _ (f.course.choices ∙ c.new-choices.ensures.items) f.course.denied (f.marks 0 0 (no_mark refl) (omega arith) (omega (arith, mk)))
+
+pub returns-clause-begun : goal.returns-clause-begun
+returns-clause-begun c = λ l n k flat h answers.
+    let f = c.in_ok-front.ensures in
+    let o = record { assumed = refl; written = refl; mark = refl } in
+    let alone = returns-clause-starts c l n k flat h outermost o answers in
+    begins_so c.args.limit _ (start c.args.query.type_vars (length c.args.query.vars.items) flat c.args.limit answers) _ _ alone.0 refl refl alone.1 (returns-clause-stands c) (returns-clause-placed c outermost o)
+    f.course.denied f.course.counts (ap (λ z. z.terms.entries) f.goals.known.bindings ∙ c.new-bindings.ensures.terms) (ap (λ z. z.types.entries) f.goals.known.bindings ∙ c.new-bindings.ensures.types)
+    (ap (λ z. z.pairs.items) f.course.branch ∙ c.new-pairs.ensures.items) refl refl refl refl refl

@@ -1,6 +1,7 @@
 use Rattle.std.proofs.Common.{◌≡◌, ◌∙◌, true, false, refl, sym, ap}
 use Rattle.lp_plain.proofs.Backwards.{back_marked, back_state, ends_so}
 use Rattle.lp_plain.proofs.Restored.{goes_back}
+use Rattle.lp_plain.proofs.BackMoves.{none_moved, side_state}
 use Rattle.lp_plain.proofs.turn.go_back.Goals as goal
 
 pub returns-in_ok-go_right-in-Goals-clause-goes : goal.returns-in_ok-go_right-in-Goals-clause-goes
@@ -86,3 +87,42 @@ returns-in-Denied-clause-marked c = λ k rest from e u l a s h am.
     let z = t.0 in
     let y = c.in-Denied.is in
     absurd (cc)
+
+pub returns-in_ok-go_right-in-Goals-clause-resumed : goal.returns-in_ok-go_right-in-Goals-clause-resumed
+returns-in_ok-go_right-in-Goals-clause-resumed c = λ k rest from e u l s h.
+    let m = c.args.machine.now in
+    let n = c.take_choice.new.self in
+    let q = c.go_right.new.machine in
+    let t = c.in_ok-untried.ensures.taken k rest e in
+    let g = c.in_ok-go_right-in-Goals.ensures in
+    let z = returns-in_ok-go_right-in-Goals-clause-goes c k rest from e u in
+    side_state m n q k rest from e u l t.1 z.1 g.known g.assumed g.frames g.pairs s h
+
+pub returns-in_ok-turn-in-Clauses-clause-resumed : goal.returns-in_ok-turn-in-Clauses-clause-resumed
+returns-in_ok-turn-in-Clauses-clause-resumed c = λ k rest from e u l s h.
+    let t = c.in_ok-untried.ensures.taken k rest e in
+    let z = t.0 in
+    let y = c.in-Clauses.is in
+    absurd (cc)
+
+pub returns-in-Denied-clause-resumed : goal.returns-in-Denied-clause-resumed
+returns-in-Denied-clause-resumed c = λ k rest from e u l s h.
+    let t = c.in_ok-untried.ensures.taken k rest e in
+    let z = t.0 in
+    let y = c.in-Denied.is in
+    absurd (cc)
+
+pub returns-in_ok-go_right-in-Goals-clause-moved : goal.returns-in_ok-go_right-in-Goals-clause-moved
+returns-in_ok-go_right-in-Goals-clause-moved c = λ e s h. let y = c.in_ok-untried.ensures.none e in absurd (cc)
+
+pub returns-in_ok-turn-in-Clauses-clause-moved : goal.returns-in_ok-turn-in-Clauses-clause-moved
+returns-in_ok-turn-in-Clauses-clause-moved c = λ e s h. let y = c.in_ok-untried.ensures.none e in absurd (cc)
+
+pub returns-in-Denied-clause-moved : goal.returns-in-Denied-clause-moved
+returns-in-Denied-clause-moved c = λ e s h. let y = c.in_ok-untried.ensures.none e in absurd (cc)
+
+pub returns-then-machine-clause-moved : goal.returns-then-machine-clause-moved
+returns-then-machine-clause-moved c = λ e s h. none_moved c.args.machine.now _ s true e (sym c.in_ok-untried.ensures.lost ∙ c.if-machine.true) h
+
+pub returns-in_default-clause-moved : goal.returns-in_default-clause-moved
+returns-in_default-clause-moved c = λ e s h. none_moved c.args.machine.now _ s false e (sym c.in_ok-untried.ensures.lost ∙ c.if-machine.false) h

@@ -1,3 +1,4 @@
+use Rattle.lp_plain.proofs.AtGoals.{at_last, at_more, running_framed}
 use Rattle.std.proofs.Common.{◌∙◌, [], ◌∷◌, ◌++◌, add-one, ap, arith, refl, subst, sym}
 use Rattle.lp_plain.specs.Apart.{IsApart}
 use Rattle.lp_plain.proofs.Counted.{counted_first}
@@ -40,3 +41,17 @@ pub returns-clause-aside : goal.returns-clause-aside
 returns-clause-aside g c = λ e hs l h f d q from r least most k i j.
     c.in_ok-turn-2.ensures.aside e (counted_first c.args.machine.now c.args.goals c.in_ok-goal.goal c.in_ok-goal.ensures hs l h f) d
     (q ∙ ap (λ z. z ++ d ∷ []) (sym c.in_ok-rest.ensures.course.choices)) from r least most (c.in_ok-rest.ensures.marks least most k i j) i j
+
+pub returns-then-second-goals-clause-moved : goal.returns-then-second-goals-clause-moved
+returns-then-second-goals-clause-moved g c = λ a raw s h at pf.
+    c.in_ok-turn.ensures.moved a raw s h (at_last c.args.machine.now a c.args.place c.args.goals c.args.behind raw c.in_ok-goal.goal c.in_ok-goal.ensures (omega (arith, c.if-second-goals.true, c.in-Some.ensures.1)) at) pf
+
+pub returns-clause-moved : goal.returns-clause-moved
+returns-clause-moved g c = λ a raw s h at pf.
+    let m = c.args.machine.now in
+    let q = c.put_frame.new.self in
+    let p = c.args.place in
+    let f = c.in_ok-rest.ensures in
+    c.in_ok-turn-2.ensures.moved a raw s (running_framed m q a p raw s f.goals f.course f.assumed f.frame (f.stands c.if-second-goals.false h.above.done.stands) at.place h)
+    (at_more m q a p c.args.goals (record { from = c.in-Some.second; to = c.args.goals.to }) c.args.behind c.in_ok-rest.rest raw c.in_ok-goal.goal c.in_ok-goal.ensures (c.in-Some.ensures.1 ∙ add-one c.args.goals.from) refl
+    f.goals f.assumed f.reads at) pf

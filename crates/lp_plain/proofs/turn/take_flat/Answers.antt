@@ -1,3 +1,6 @@
+use Rattle.lp_plain.proofs.PartMoves.{part_moves}
+use Rattle.lp_plain.proofs.AtomFirst.{atom_first, not_first}
+use Rattle.lp_plain.specs.Moving.{IsAtGoal}
 use Rattle.std.proofs.Common.{subst}
 use Rattle.lp_plain.specs.Taking.{IsApartFlat}
 use Rattle.lp_plain.proofs.TakenApart.{none_taken}
@@ -44,3 +47,19 @@ returns-in_ok-turn-in-Cut-clause-aside g c = λ e h. absurd (subst IsApartFlat c
 
 pub returns-in_ok-turn-in-Not-clause-aside : goal.returns-in_ok-turn-in-Not-clause-aside
 returns-in_ok-turn-in-Not-clause-aside g c = λ e h. absurd (subst IsApartFlat c.in-Not.is h)
+
+pub returns-in_ok-turn-in-Atom-clause-moved : goal.returns-in_ok-turn-in-Atom-clause-moved
+returns-in_ok-turn-in-Atom-clause-moved g c = λ a raw s h at pf. absurd (atom_first c.args.machine.now a c.args.place c.in-Atom.term c.args.behind raw (subst (λ f. IsAtGoal c.args.machine.now a c.args.place f c.args.behind raw) c.in-Atom.is at) pf)
+
+pub returns-in_ok-turn-in-Cut-clause-moved : goal.returns-in_ok-turn-in-Cut-clause-moved
+returns-in_ok-turn-in-Cut-clause-moved g c = λ a raw s h at pf. c.in_ok-turn-in-Cut.ensures.moved a raw s h (subst (λ f. IsAtGoal c.args.machine.now a c.args.place f c.args.behind raw) c.in-Cut.is at)
+
+pub returns-in_ok-turn-in-Not-clause-moved : goal.returns-in_ok-turn-in-Not-clause-moved
+returns-in_ok-turn-in-Not-clause-moved g c = λ a raw s h at pf.
+    absurd (not_first c.args.machine.now a c.args.place c.in-Not.goals c.in-Not.free c.args.behind raw (subst (λ f. IsAtGoal c.args.machine.now a c.args.place f c.args.behind raw) c.in-Not.is at) pf)
+
+pub returns-in_ok-turn-in_default-clause-moved : goal.returns-in_ok-turn-in_default-clause-moved
+returns-in_ok-turn-in_default-clause-moved g c = λ a raw s h at pf.
+    let e = c.in_ok-turn-in_default.ensures in
+    let n = c.put_parts.new.machine in
+    part_moves c.args.machine.now n c.args.place c.args.goal c.args.behind c.in_ok-turn-in_default.turn e.taken e.none e.aside_with c.in_default.not-Cut a raw s h at pf n.counts e.counted

@@ -1,3 +1,4 @@
+use Rattle.lp_plain.proofs.AtGoals.{at_frame, none_plain, term_plain}
 use Rattle.std.proofs.Common.{subst}
 use Rattle.lp_plain.specs.Apart.{IsApart}
 use Rattle.lp_plain.specs.Entries.{Reads}
@@ -79,3 +80,14 @@ returns-in_ok-turn-in-Term-clause-marked g c = λ e a s h f im.
     let m = c.args.machine.now in
     absurd (term_first m a c.in-Some.number c.in_ok-frame.frame c.in_ok-frame.ensures c.in-Term.term h.at_work.goals c.in-Term.is
     (subst (λ o. Reads m a o h.at_work.goals) c.in-Some.is h.search.branch.goals) f)
+
+pub returns-in_default-clause-moved : goal.returns-in_default-clause-moved
+returns-in_default-clause-moved g c = λ s h pf. absurd (none_plain c.args.machine.now s h c.in_default.is pf)
+
+pub returns-in_ok-turn-in-Goals-clause-moved : goal.returns-in_ok-turn-in-Goals-clause-moved
+returns-in_ok-turn-in-Goals-clause-moved g c = λ s h pf.
+    let m = c.args.machine.now in
+    c.in_ok-turn-in-Goals.ensures.moved h.around h.raw s h.running (at_frame m s h c.in-Some.number c.in_ok-frame.frame c.in-Some.is c.in_ok-frame.ensures c.in-Goals.goals c.in-Goals.is) pf
+
+pub returns-in_ok-turn-in-Term-clause-moved : goal.returns-in_ok-turn-in-Term-clause-moved
+returns-in_ok-turn-in-Term-clause-moved g c = λ s h pf. absurd (term_plain c.args.machine.now s h c.in-Some.number c.in_ok-frame.frame c.in-Some.is c.in_ok-frame.ensures c.in-Term.term c.in-Term.is pf)

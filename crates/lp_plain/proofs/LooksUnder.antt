@@ -1,0 +1,103 @@
+-- What the definition makes of a goal that is taken apart is the same as the bindings read it.
+use Rattle.std.proofs.Common.{◌≡◌, ℕ, zero, suc, ◌+◌, ◌≤◌, List, [], ◌∷◌, ◌++◌, map, refl, sym, ap, ◌∙◌, subst, arith, Bool, true, false, None}
+use Rattle.std.proofs.lemmas.List.{map-append}
+use Rattle.lp_calculus.specs.Types.{instance}
+use Rattle.lp_calculus.specs.Term.{atom, eigen, logic}
+use Rattle.lp_term.specs.Nodes.{Nodes}
+use Rattle.lp_model.specs.Branch.{Answer, Branch, Entry, Task, Go, both_written, entries}
+use Rattle.lp_model.specs.Flat.{Clause, Clauses, Goal, Goals, Atomic, Cut, Either, Exists, Forall, Assume, Not, Written, clause_list, goal_list, map_clauses, map_goals, map_written}
+use Rattle.lp_model.specs.Pair.{Closing, closed}
+use Rattle.lp_model.specs.Search.{look_goal, opened, with_goals}
+use Rattle.lp_model.specs.Skeleton.{View, Parts}
+use Rattle.lp_model.specs.declared.answer.Pair.{Pair as Numbers}
+use Rattle.lp_pattern.specs.Stripping.{IsShut}
+use Rattle.lp_plain.specs.Moving.{AreEntriesUnder, IsBranchUnder, IsEntryUnder, IsGoalUnder, IsPlaceUnder}
+use Rattle.lp_plain.specs.Resuming.{clause_with, goal_with}
+use Rattle.lp_plain.specs.Taking.{IsTakenApart}
+use Rattle.lp_plain.proofs.OpenedUnder.{listed_clauses, listed_goals, opened_under}
+use Rattle.lp_plain.proofs.Under.{entries_front}
+
+-- one task or two, as the bindings read them, where the next variable has this number
+pub data IsViewUnder (k : Nodes) (z : Closing) (f : ℕ → ℕ) (l u : ℕ) (left : List Numbers) (now : Branch) : (v w : View Task Answer) → Type 0 where
+  one_part : {v w : View Task Answer} (b d : Branch) → v ≡ Parts (Go b ∷ []) → w ≡ Parts (Go d ∷ []) → now.next ≤ b.next → IsBranchUnder k z f l u left b d → IsViewUnder k z f l u left now v w
+  two_parts : {v w : View Task Answer} (b d c e : Branch) → v ≡ Parts (Go b ∷ Go c ∷ []) → w ≡ Parts (Go d ∷ Go e ∷ []) → now.next ≡ b.next → now.next ≡ c.next → IsBranchUnder k z f l u left b d →
+      IsBranchUnder k z f l u left c e → IsViewUnder k z f l u left now v w
+
+both_under : (z : Closing) (v w : Written) → map_written (closed z) (instance z.types) (both_written v w) ≡ both_written (map_written (closed z) (instance z.types) v) (map_written (closed z) (instance z.types) w)
+both_under z v w = let p = map-append (closed z) v.terms w.terms in let q = map-append (instance z.types) v.types w.types in λ i. record { terms = p i; types = q i }
+
+module _ (k : Nodes) (z : Closing) (s : IsShut z) (f : ℕ → ℕ) (l u : ℕ) (left : List Numbers) (e d : Entry) (b c : Branch) (p : IsPlaceUnder z e d) (m : d.mark ≡ f e.mark) (lo : l ≤ e.mark) (hi : e.mark ≤ u)
+    (h : IsBranchUnder k z f l e.mark left b c) where
+  -- goals in the place of the entry, in front of the others
+  front : (level : ℕ) (gs hs : List Goal) (A B : List Clause) (v w : Written) → hs ≡ map (goal_with (closed z) (instance z.types)) gs → B ≡ map (clause_with (closed z) (instance z.types)) A →
+      w ≡ map_written (closed z) (instance z.types) v → AreEntriesUnder z f l u (entries gs A v level e.mark ++ b.goals) (entries hs B w level d.mark ++ c.goals)
+  front level gs hs A B v w q r t =
+      subst (λ x. AreEntriesUnder z f l u (entries gs A v level e.mark ++ b.goals) (entries x B w level d.mark ++ c.goals)) (sym q)
+      (subst (λ x. AreEntriesUnder z f l u (entries gs A v level e.mark ++ b.goals) (entries (map (goal_with (closed z) (instance z.types)) gs) B w level x ++ c.goals)) (sym m)
+      (entries_front z f l u e.mark level gs A B v w b.goals c.goals lo hi r t h.goals))
+
+  branch : (es ds : List Entry) → AreEntriesUnder z f l u es ds → IsBranchUnder k z f l u left (with_goals b es) (with_goals c ds)
+  branch es ds g = record { goals = g; next = h.next; next_type = h.next_type; types = h.types; values = h.values; pairs = h.pairs }
+
+  -- goals of the entry's place and level
+  here : (gs : Goals) → IsBranchUnder k z f l u left (with_goals b (entries (goal_list gs) e.assumed e.written e.level e.mark ++ b.goals))
+      (with_goals c (entries (goal_list (map_goals (λ x. x) (λ x t. closed z t) (instance z.types) zero gs)) d.assumed d.written d.level d.mark ++ c.goals))
+  here gs =
+      subst (λ n. IsBranchUnder k z f l u left (with_goals b (entries (goal_list gs) e.assumed e.written e.level e.mark ++ b.goals))
+      (with_goals c (entries (goal_list (map_goals (λ x. x) (λ x t. closed z t) (instance z.types) zero gs)) d.assumed d.written n d.mark ++ c.goals))) (sym p.level)
+      (branch _ _ (front e.level (goal_list gs) _ e.assumed d.assumed e.written d.written (listed_goals (λ x. x) (λ x t. closed z t) (instance z.types) zero gs) p.assumed p.written))
+
+  module _ (i j x y r t : ℕ) (P Q : List Clause) where
+    pub parts_under : ((n : ℕ) → closed z (atom (logic b.next n)) ≡ atom (logic b.next n)) → (g g' : Goal) → IsTakenApart g → IsGoalUnder z g g' → IsViewUnder k z f l u left b (look_goal i j P x e b g) (look_goal y r Q t d c g')
+    parts_under nv (Atomic a) g' k q = absurd k
+    parts_under nv Cut g' k q = absurd k
+    parts_under nv (Not w gs) g' k q = absurd k
+    parts_under nv (Either gs hs) g' w q = two_parts _ _ _ _ refl (ap (look_goal y r Q t d c) q) refl refl (here gs) (here hs)
+    parts_under nv (Exists T gs) g' w q = one_part _ _ refl (ap (look_goal y r Q t d c) q) (omega arith) (variable gs)
+      where
+        variable : (gs : Goals) → IsBranchUnder k z f l u left
+            (record { next = suc b.next; next_type = b.next_type; goals = entries (opened (atom (logic b.next e.level)) gs) e.assumed e.written e.level e.mark ++ b.goals; types = b.types; values = b.values; pairs = b.pairs })
+            (record {
+              next = suc c.next;
+              next_type = c.next_type;
+              goals = entries (opened (atom (logic c.next d.level)) (map_goals (λ x. x) (λ x t. closed z t) (instance z.types) zero gs)) d.assumed d.written d.level d.mark ++ c.goals;
+              types = c.types;
+              values = c.values;
+              pairs = c.pairs;
+            })
+        variable gs =
+            let hs = map_goals (λ x. x) (λ x t. closed z t) (instance z.types) zero gs in
+            record {
+              goals = subst (λ n. AreEntriesUnder z f l u (entries (opened (atom (logic b.next e.level)) gs) e.assumed e.written e.level e.mark ++ b.goals)
+                  (entries (opened (atom (logic n d.level)) hs) d.assumed d.written d.level d.mark ++ c.goals)) (sym h.next)
+                  (subst (λ n. AreEntriesUnder z f l u (entries (opened (atom (logic b.next e.level)) gs) e.assumed e.written e.level e.mark ++ b.goals)
+                  (entries (opened (atom (logic b.next n)) hs) d.assumed d.written n d.mark ++ c.goals)) (sym p.level)
+                  (front e.level (opened (atom (logic b.next e.level)) gs) _ e.assumed d.assumed e.written d.written (sym (opened_under z s (atom (logic b.next e.level)) (nv e.level) zero gs)) p.assumed p.written));
+              next = ap suc h.next;
+              next_type = h.next_type;
+              types = h.types;
+              values = h.values;
+              pairs = h.pairs;
+            }
+    parts_under nv (Forall T gs) g' w q = one_part _ _ refl (ap (look_goal y r Q t d c) q) (omega arith) (raised gs)
+      where
+        raised : (gs : Goals) → IsBranchUnder k z f l u left (with_goals b (entries (opened (atom (eigen (suc e.level))) gs) e.assumed e.written (suc e.level) e.mark ++ b.goals))
+            (with_goals c (entries (opened (atom (eigen (suc d.level))) (map_goals (λ x. x) (λ x t. closed z t) (instance z.types) zero gs)) d.assumed d.written (suc d.level) d.mark ++ c.goals))
+        raised gs =
+            let hs = map_goals (λ x. x) (λ x t. closed z t) (instance z.types) zero gs in
+            branch _ _ (subst (λ n. AreEntriesUnder z f l u (entries (opened (atom (eigen (suc e.level))) gs) e.assumed e.written (suc e.level) e.mark ++ b.goals)
+            (entries (opened (atom (eigen (suc n))) hs) d.assumed d.written (suc n) d.mark ++ c.goals)) (sym p.level)
+            (front (suc e.level) (opened (atom (eigen (suc e.level))) gs) _ e.assumed d.assumed e.written d.written (sym (opened_under z s (atom (eigen (suc e.level))) refl zero gs)) p.assumed p.written))
+    parts_under nv (Assume v cs gs) g' w q = one_part _ _ refl (ap (look_goal y r Q t d c) q) (omega arith) (assuming v cs gs)
+      where
+        assuming : (v : Written) (cs : Clauses) (gs : Goals) → IsBranchUnder k z f l u left (with_goals b (entries (goal_list gs) (clause_list cs ++ e.assumed) (both_written v e.written) e.level e.mark ++ b.goals))
+            (with_goals c (entries (goal_list (map_goals (λ x. x) (λ x t. closed z t) (instance z.types) zero gs)) (clause_list (map_clauses (λ x. x) (λ x t. closed z t) (instance z.types) zero cs) ++ d.assumed)
+            (both_written (map_written (closed z) (instance z.types) v) d.written) d.level d.mark ++ c.goals))
+        assuming v cs gs =
+            let C = clause_with (closed z) (instance z.types) in
+            let ds = clause_list (map_clauses (λ x. x) (λ x t. closed z t) (instance z.types) zero cs) in
+            branch _ _ (subst (λ n. AreEntriesUnder z f l u (entries (goal_list gs) (clause_list cs ++ e.assumed) (both_written v e.written) e.level e.mark ++ b.goals)
+            (entries (goal_list (map_goals (λ x. x) (λ x t. closed z t) (instance z.types) zero gs)) (ds ++ d.assumed) (both_written (map_written (closed z) (instance z.types) v) d.written) n d.mark ++ c.goals)) (sym p.level)
+            (front e.level (goal_list gs) _ (clause_list cs ++ e.assumed) (ds ++ d.assumed) (both_written v e.written) _ (listed_goals (λ x. x) (λ x t. closed z t) (instance z.types) zero gs)
+            (ap (λ x. x ++ d.assumed) (listed_clauses (λ x. x) (λ x t. closed z t) (instance z.types) zero cs) ∙ ap (λ x. map C (clause_list cs) ++ x) p.assumed ∙ sym (map-append C (clause_list cs) e.assumed))
+            (ap (both_written (map_written (closed z) (instance z.types) v)) p.written ∙ sym (both_under z v e.written))))

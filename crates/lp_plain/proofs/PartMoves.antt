@@ -1,0 +1,204 @@
+-- A flattened goal that is taken apart is one move of the definition, all bindings put in.
+use Rattle.std.proofs.Common.{◌≡◌, ℕ, suc, ◌+◌, ◌-◌, ◌<◌, ◌≤◌, List, [], ◌∷◌, ◌++◌, length, refl, sym, ap, ◌∙◌, subst, arith, Bool, Option}
+use Rattle.lp_calculus.specs.Term.{Term, atom, logic}
+use Rattle.lp_term.specs.Nodes.{Nodes}
+use Rattle.lp_model.specs.Branch.{Answer, Branch, Entry, Go, Task}
+use Rattle.lp_model.specs.Flat.{Clause, Goal, Atomic, Cut, Either, Exists, Forall, Assume, Not}
+use Rattle.lp_model.specs.Pair.{closed}
+use Rattle.lp_model.specs.Search.{look, look_branch, look_goal, with_goals}
+use Rattle.lp_model.specs.Skeleton.{Goes, Inner, Parts, State, Stops, View, move, move_at, row_limit}
+use Rattle.lp_model.specs.Unify.{unit_limit}
+use Rattle.lp_model.specs.declared.ending.Ending.TheVariants.{NoMore, NoMoreCut, Enough, Steps, Flexible, Arithmetic, OpenNot, Deep}
+use Rattle.lp_pattern.specs.Under.{ValueIs}
+use Rattle.lp_plain.specs.declared.frame.Place.{Place}
+use Rattle.lp_plain.specs.declared.machine.Counts.{Counts}
+use Rattle.lp_plain.specs.declared.machine.Machine.{Machine}
+use Rattle.lp_plain.specs.declared.outcome.Turn.{Turn}
+use Rattle.lp_plain.specs.declared.table.Flat.{Flat}
+use Rattle.lp_plain.specs.Apart.{IsApart}
+use Rattle.lp_plain.specs.Entries.{Around, ArePartsOf, entry_at}
+use Rattle.lp_plain.specs.Moving.{AreEntriesUnder, BindsNone, IsAtGoal, IsBranchUnder, IsCounted, IsMoved, IsPlain, IsPlainFirst, IsRunning, IsState, MovesTo, PutsWith, mark_in}
+use Rattle.lp_plain.specs.Stacks.{base_of}
+use Rattle.lp_plain.specs.Tables.{IsGoal, Never, Shown, shown}
+use Rattle.lp_plain.specs.Taking.{IsApartFlat, IsTakenApart, TakesApart, TakesOne, goal_in}
+use Rattle.lp_plain.proofs.Counted.{at_limit, flat_kind}
+use Rattle.lp_plain.proofs.CutMoves.{IsSplit, split_under}
+use Rattle.lp_plain.proofs.FirstGoals.{kind_in}
+use Rattle.lp_plain.proofs.LooksUnder.{IsViewUnder, one_part, two_parts, parts_under}
+use Rattle.lp_plain.proofs.QuietMoves.{after_parts, parts_move}
+use Rattle.lp_plain.proofs.Running.{running_more, running_still}
+
+-- what is neither atomic nor negated nor a cut
+apart_of : (σ : ℕ → Term) (p : Place) (g : Goal) → IsPlain (goal_in σ p.values.types g) → (g ≡ Cut → ⊥) → IsTakenApart (goal_in σ p.values.types g)
+apart_of σ p (Atomic t) k n = absurd k
+apart_of σ p Cut k n = absurd (n refl)
+apart_of σ p (Either gs hs) k n = tt
+apart_of σ p (Exists T gs) k n = tt
+apart_of σ p (Forall T gs) k n = tt
+apart_of σ p (Assume w cs gs) k n = tt
+apart_of σ p (Not w gs) k n = absurd k
+
+no_cut : (b : Nodes) (t : Shown) (flat : Flat) (g : Goal) → IsGoal b Never t flat g → (flat ≡ Flat.Cut → ⊥) → g ≡ Cut → ⊥
+no_cut b t flat (Atomic u) h k e = absurd (cc)
+no_cut b t flat Cut h k e = k h
+no_cut b t flat (Either gs hs) h k e = absurd (cc)
+no_cut b t flat (Exists T gs) h k e = absurd (cc)
+no_cut b t flat (Forall T gs) h k e = absurd (cc)
+no_cut b t flat (Assume w cs gs) h k e = absurd (cc)
+no_cut b t flat (Not w gs) h k e = absurd (cc)
+
+module _ (m n : Machine) (a : Around) (raw : Branch) (s : State Task) (h : IsRunning m a raw s) (e : Entry) (es : List Entry) (goals : raw.goals ≡ e ∷ es) (k : IsTakenApart e.goal)
+    (w : ℕ) (ea : s.answers ≡ suc w) (go : (Answer → Bool) → State Task → Inner) (enough : ℕ) (P : List Clause) where
+  abbrev base : ℕ
+  base = base_of m.denied
+
+  abbrev f : ℕ → ℕ
+  f = mark_in base h.above.raws
+
+  abbrev rest : Branch
+  rest = with_goals raw es
+
+  sp : IsSplit h.closing f base (length m.choices.items) e es h.at_work.goals
+  sp = split_under h.closing f base (length m.choices.items) e es h.at_work.goals (subst (λ x. AreEntriesUnder h.closing f base (length m.choices.items) x h.at_work.goals) goals h.under.goals)
+
+  abbrev behind : Branch
+  behind = with_goals h.at_work sp.rest
+
+  abbrev seen : View Task Answer
+  seen = look_goal unit_limit enough P (length h.rest) sp.first behind sp.first.goal
+
+  looked : look unit_limit enough P (length h.rest) (Go h.at_work) ≡ seen
+  looked = ap (look_branch unit_limit enough P (length h.rest) h.at_work) sp.whole
+
+  new_variable : (l : ℕ) → closed h.closing (atom (logic rest.next l)) ≡ atom (logic rest.next l)
+  new_variable l =
+      let x = h.next in
+      subst (λ o. ValueIs m.bank h.closing rest.next o) (h.reading.unbound rest.next (omega (arith, x))) (h.reading.reading.terms rest.next) l
+
+  views : IsViewUnder m.bank h.closing f base (length m.choices.items) m.branch.pairs.items rest (look_goal 0 0 [] 0 e rest e.goal) seen
+  views =
+      parts_under m.bank h.closing h.reading.shut f base (length m.choices.items) m.branch.pairs.items e sp.first rest behind sp.entry.place sp.entry.mark sp.entry.low sp.entry.high (record {
+        goals = sp.others;
+        next = h.under.next;
+        next_type = h.under.next_type;
+        types = h.under.types;
+        values = h.under.values;
+        pairs = h.under.pairs;
+      }) 0 0 0 unit_limit enough (length h.rest) [] P new_variable e.goal sp.first.goal k sp.entry.goal
+
+  module _ (t : TakesOne m n a (look_goal 0 0 [] 0 e rest e.goal)) (bn : BindsNone m n) (pw : PutsWith m n) where
+    abbrev left : ℕ
+    left = row_limit - n.counts.row
+
+    row_is : s.row ≡ suc left
+    row_is =
+        let r = h.counted.row in
+        let l = t.quiet.row in
+        let c : n.counts.row ≡ m.counts.row + 1 = ap (λ x. x.row) t.quiet.counts in
+        omega (arith, r, l, c)
+
+    counted : (stack : List Task) → IsCounted n (after_parts go (look unit_limit enough P) s w left stack)
+    counted stack = record {
+      steps = h.counted.steps ∙ ap (λ x. x.limit - x.steps) (sym t.quiet.counts);
+      rows = h.counted.rows;
+      row = refl;
+      lost = h.counted.lost ∙ ap (λ x. x.lost) (sym t.quiet.counts);
+    }
+
+    by_view : (v : View Task Answer) → v ≡ look_goal 0 0 [] 0 e rest e.goal → IsViewUnder m.bank h.closing f base (length m.choices.items) m.branch.pairs.items rest v seen →
+        IsMoved Turn.On n (move go (look unit_limit enough P) s) s
+    by_view v q (one_part b d x y l u) =
+        let parts = subst (ArePartsOf m n t.around) (sym q ∙ x) t.parts in
+        let br = parts.0 in
+        let bx = br.next in
+        let mx = h.next in (
+          0,
+          [],
+          after_parts go (look unit_limit enough P) s w left (Go d ∷ h.rest),
+          parts_move go (look unit_limit enough P) s w left (Go h.at_work) (Go d) h.rest [] ea row_is h.stack (looked ∙ y),
+          record {
+            around = t.around;
+            raw = b;
+            goals = br.goals;
+            running = running_still m n a t.around raw s h t.stands t.placed t.quiet.on t.later bn parts.1 b d (after_parts go (look unit_limit enough P) s w left (Go d ∷ h.rest)) u
+                (omega (arith, bx, mx, l)) br.next br.next_type refl (counted (Go d ∷ h.rest));
+          },
+          sym ea,
+          refl,
+        )
+    by_view v q (two_parts b d c c' x y p r u o) =
+        let parts = subst (ArePartsOf m n t.around) (sym q ∙ x) t.parts in
+        let br = parts.0 in
+        let ch = parts.1.1 in
+        let at = parts.1.2 in
+        let bx = br.next in
+        let mx = h.next in
+        let kp = t.kept parts.1.0 ch in (
+          0,
+          [],
+          after_parts go (look unit_limit enough P) s w left (Go d ∷ Go c' ∷ h.rest),
+          parts_move go (look unit_limit enough P) s w left (Go h.at_work) (Go d) h.rest (Go c' ∷ []) ea row_is h.stack (looked ∙ y),
+          record {
+            around = t.around;
+            raw = b;
+            goals = br.goals;
+            running = running_more m n a t.around raw s h t.stands t.placed t.quiet.on t.later bn parts.1.0 ch b d c c' kp.0 kp.1 at (pw parts.1.0 ch) u o (h.next ∙ r)
+                (after_parts go (look unit_limit enough P) s w left (Go d ∷ Go c' ∷ h.rest)) (omega (arith, bx, mx, p)) br.next br.next_type refl (counted (Go d ∷ Go c' ∷ h.rest));
+          },
+          sym ea,
+          refl,
+        )
+
+    pub apart_moves : IsMoved Turn.On n (move go (look unit_limit enough P) s) s
+    apart_moves = by_view (look_goal 0 0 [] 0 e rest e.goal) refl views
+
+  -- a million were taken apart
+  some_parts : {v : View Task Answer} → IsViewUnder m.bank h.closing f base (length m.choices.items) m.branch.pairs.items rest v seen → (ts : List Task) × (seen ≡ Parts ts)
+  some_parts (one_part b d x y l u) = (Go d ∷ [], y)
+  some_parts (two_parts b d c c' x y p r u o) = (Go d ∷ Go c' ∷ [], y)
+
+  pub apart_stops : 1000000 ≤ m.counts.row → IsMoved (Turn.Ended Deep) n (move go (look unit_limit enough P) s) s
+  apart_stops l =
+      let r = h.counted.row in
+      let zero_row : s.row ≡ 0 = omega (arith, r, l) in
+      let q = some_parts views in
+      (λ i. move_at go (look unit_limit enough P) s.steps (ea i) s.given s.rows (zero_row i) s.lost (h.stack i)) ∙
+      at_limit go (look unit_limit enough P) s.steps w s.given s.rows s.lost (Go h.at_work) h.rest q.0 (looked ∙ q.1)
+
+-- by what the goal is in the table
+module _ (m n : Machine) (p : Place) (flat : Flat) (o : Option ℕ) (turn : Turn) (taken : turn ≡ Turn.On → TakesApart m n p flat o) (none : turn ≡ Turn.On → IsApartFlat flat → BindsNone m n)
+    (aside : turn ≡ Turn.On → IsApartFlat flat → PutsWith m n) (nc : flat ≡ Flat.Cut → ⊥) (a : Around) (raw : Branch) (s : State Task) (h : IsRunning m a raw s) (at : IsAtGoal m a p flat o raw)
+    (pf : IsPlainFirst raw.goals) where
+  abbrev goal : Goal
+  goal = goal_in at.values p.values.types at.goal
+
+  plain : IsPlain goal
+  plain = subst IsPlainFirst at.goals pf
+
+  kind : IsTakenApart goal
+  kind = apart_of at.values p at.goal plain (no_cut m.bank (shown m.table) flat at.goal at.is nc)
+
+  flat_is : IsApartFlat flat
+  flat_is = flat_kind m.bank (shown m.table) flat at.goal at.is (kind_in at.values p.values.types at.goal kind)
+
+  goes_on : turn ≡ Turn.On → MovesTo Turn.On n s
+  goes_on e k ea go enough P =
+      apart_moves m n a raw s h (entry_at a p goal) at.rest at.goals kind k ea go enough P
+      (taken e a at.goal at.values (with_goals raw at.rest) h.above.done.stands h.placed at.place (kind_in at.values p.values.types at.goal kind) at.is at.at
+      (record { goals = at.reads; next = h.next; next_type = h.next_type }) 0 0 0 []) (none e flat_is) (aside e flat_is)
+
+  by_count : (x : Turn) → x ≡ turn → (new : Counts) → IsApart x m.counts new → MovesTo x n s
+  by_count Turn.On e new c = goes_on (sym e)
+  by_count Turn.Back e new c = absurd c
+  by_count Turn.Answered e new c = absurd c
+  by_count (Turn.Ended Deep) e new c = λ k ea go enough P. apart_stops m n a raw s h (entry_at a p goal) at.rest at.goals kind k ea go enough P c.0
+  by_count (Turn.Ended NoMore) e new c = absurd c
+  by_count (Turn.Ended NoMoreCut) e new c = absurd c
+  by_count (Turn.Ended Enough) e new c = absurd c
+  by_count (Turn.Ended Steps) e new c = absurd c
+  by_count (Turn.Ended Flexible) e new c = absurd c
+  by_count (Turn.Ended (Arithmetic x)) e new c = absurd c
+  by_count (Turn.Ended OpenNot) e new c = absurd c
+
+  pub part_moves : (new : Counts) → IsApart turn m.counts new → MovesTo turn n s
+  part_moves new c = by_count turn refl new c
