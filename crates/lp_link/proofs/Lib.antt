@@ -26,3 +26,14 @@ mod MovedCode
 mod LinkedCode
 mod Remaking
 mod Remade
+mod ToldNames
+mod AboveNames
+mod TabledCopies
+mod EnteredCopies
+mod FilledFirsts
+mod MadeCopies
+mod NumberedNames
+mod AddedTables
+mod Popped
+mod LinkedImage
+mod NumberPlaces

@@ -19,7 +19,7 @@ abbrev pub kind_above : (below above : List ObjectKind) → ℕ → Option ℕ
 kind_above below above k =
     if nat_lt k 8
     then Some k
-    else option_and_then (λ kind. if kind.exported then option_map (number_at 8) (first_place kind.name.items (kind_names above)) else None) (slice_get below (k - 8))
+    else option_and_then (λ kind. if kind.exported then option_map (λ i. 8 + i) (first_place kind.name.items (kind_names above)) else None) (slice_get below (k - 8))
 
 abbrev pub is_number : Option ℕ → ℕ → Bool
 is_number None l = false

@@ -1,5 +1,5 @@
 -- What an image denotes that is linked from objects: the clauses of each copy, with kinds and constants numbered as in the image, in the order of copies.
-use Rattle.std.specs.Prelude.{◌≡◌, ℕ, suc, ◌+◌, ◌-◌, nat_lt, Bool, true, false, if◌then◌else◌, List, [], ◌∷◌, ◌++◌, map, length, get_or, slice_get, Option, None, Some, option_map, option_and_then}
+use Rattle.std.specs.Prelude.{◌≡◌, ℕ, suc, ◌+◌, ◌-◌, Bool, true, false, List, [], ◌∷◌, ◌++◌, map, length, get_or, slice_get, Option, None, Some, option_and_then}
 use Rattle.lp_calculus.specs.Types.{var}
 use Rattle.lp_calculus.specs.Term.{atom, logic}
 use Rattle.lp_term.specs.Mapped.{Map, mapped, mapped_type}
@@ -9,8 +9,6 @@ use Rattle.lp_code.specs.declared.object.ObjectKind.{ObjectKind}
 use Rattle.lp_code.specs.declared.object.ObjectConstant.{ObjectConstant}
 use Rattle.lp_code.specs.declared.record.Record.{Record}
 use Rattle.lp_code.specs.declared.image.Image.{Image}
-use Rattle.lp_code.specs.declared.image.ImageKind.{ImageKind}
-use Rattle.lp_code.specs.declared.image.ImageConstant.{ImageConstant}
 use Rattle.lp_code.specs.Naming.{object_tables, image_tables}
 use Rattle.lp_code.specs.Denote.{denote}
 use Rattle.lp_places.specs.Places.{first_place}

@@ -1,5 +1,5 @@
 // Names that the copy above has otherwise.
-ghost use Rattle.std.specs.Prelude.{◌≡◌, ◌≢◌, ◌<◌, ◌≤◌, ◌+◌, ◌-◌, ◌*◌, ℕ, nat_lt, false, true, List, Option, Some, None, if◌then◌else◌, length, map, option_map, IfOk, IfErr, IfSome, OnOk};
+ghost use Rattle.std.specs.Prelude.{◌≡◌, ◌≢◌, ◌<◌, ◌≤◌, ◌+◌, ◌-◌, ◌*◌, ℕ, nat_eq, nat_lt, false, true, List, Option, Some, None, if◌then◌else◌, length, map, option_map, IfOk, IfErr, IfSome, OnOk};
 ghost use Rattle.lp_calculus.specs.Types.{var, tys};
 ghost use Rattle.lp_term.specs.Nodes.{type_tree, type_node_tree};
 ghost use Rattle.lp_term.specs.Shapes.{type_shape};
@@ -36,6 +36,16 @@ pub(crate) fn place_of(first: u32, number: u32) -> Option<usize>
         return None;
     }
     Some((number - first) as usize)
+}
+
+// Whether a number is that of a place.
+fn is_at(first: u32, place: usize, number: u32) -> bool
+    ensures { result ≡ nat_eq (first + place) number }
+{
+    let Some(at) = place_of(first, number) else {
+        return false;
+    };
+    at == place
 }
 
 // What is still to be compared, the next one last: of each, the one of the object first.
@@ -120,7 +130,7 @@ impl<'m, 'a> Edge<'m, 'a> {
         };
         match self.below.object.kinds.get(place) {
             Some(kind) if kind.exported => match self.above.kind(kind.name.as_slice()) {
-                Some(there) => number_at(FIRST_KIND, there) == above,
+                Some(there) => is_at(FIRST_KIND, there, above),
                 None => false,
             },
             _ => false,

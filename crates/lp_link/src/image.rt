@@ -1,13 +1,16 @@
 // The image in the making.
-ghost use Rattle.std.specs.Prelude.{◌≡◌, ◌+◌, ◌<◌, ◌^◌, length, IfOk, OnOk};
-ghost use Rattle.lp_link.specs.inner.Parts.{map_in, map_by, AddsMoved};
+ghost use Rattle.std.specs.Prelude.{◌≡◌, ◌+◌, ◌<◌, ◌^◌, [], ◌∷◌, length, map, IfOk, OnOk};
+ghost use Rattle.lp_code.specs.Naming.{object_arity, scheme_in, image_tables, tables_of};
+ghost use Rattle.lp_link.specs.Linked.{kinds_of, constants_of};
+ghost use Rattle.lp_link.specs.inner.Parts.{map_in, AddsMoved};
+ghost use Rattle.lp_link.specs.inner.Entering.{open_copy};
+ghost use Rattle.lp_link.specs.inner.Tabled.{hidden_of, exported_of, arities_of, moved_schemes, made_arities, made_schemes, AddsTables, IsLeft, counted};
 
-use crate::names::{Names, Open};
-use crate::places::Member;
+use crate::names::Open;
 use crate::records::Numbers;
 use indexmap::IndexMap;
 use lp_base::Memory;
-use lp_code::{Code, Image, ImageConstant, ImageKind, ObjectConstant, Record};
+use lp_code::{Code, Image, ImageConstant, ImageKind, ObjectConstant, ObjectKind, Record};
 use lp_term::{Bank, Changed, TypeId};
 use std::alloc::Global;
 
@@ -50,8 +53,18 @@ fn add_records(
     Ok(())
 }
 
+// How many there are, as it is written in 32 bits.
+fn count_of(records: &[Record]) -> u32
+    ensures { result ≡ counted (length records.now) }
+{
+    records.len().min(u32::MAX as usize) as u32
+}
+
 impl Making {
-    pub(crate) fn new(alloc: Global) -> Making {
+    pub(crate) fn new(alloc: Global) -> Making
+        ensures kinds { result.kinds.items ≡ [] }
+        ensures constants { result.constants.items ≡ [] }
+    {
         Making {
             alloc,
             bank: Bank::new(alloc),
@@ -62,12 +75,14 @@ impl Making {
         }
     }
 
-    fn add_kind(&mut self, name: &[u8], hidden: u16, arity: u8) -> Result<(), Memory> {
-        let name = Vec::from_slice(self.alloc, name)?;
+    fn add_kind(&mut self, kind: &ObjectKind, hidden: u16) -> Result<(), Memory>
+        ensures { OnOk result (AddsTables self.old self.new (object_arity kind.now ∷ []) []) }
+    {
+        let name = Vec::from_slice(self.alloc, kind.name.as_slice())?;
         self.kinds.push(ImageKind {
             name,
             hidden,
-            arity,
+            arity: kind.arity,
         })?;
         Ok(())
     }
@@ -77,7 +92,11 @@ impl Making {
         constant: &ObjectConstant,
         hidden: u16,
         scheme: TypeId,
-    ) -> Result<(), Memory> {
+    ) -> Result<(), Memory>
+        requires { scheme.0 < length self.old.bank.types }
+        ensures added { OnOk result (AddsTables self.old self.new [] (scheme_in self.old.bank constant.now.type_vars scheme.0 ∷ [])) }
+        ensures bank { self.new.bank ≡ self.old.bank }
+    {
         let name = Vec::from_slice(self.alloc, constant.name.as_slice())?;
         self.constants.push(ImageConstant {
             name,
@@ -89,65 +108,113 @@ impl Making {
         Ok(())
     }
 
-    /// The names that the root exports, which are global.
-    pub(crate) fn add_global(&mut self, root: &Member<'_>, names: &Names) -> Result<(), Memory> {
-        for kind in root.object.kinds.iter() {
-            if kind.exported {
-                self.add_kind(kind.name.as_slice(), 0, kind.arity)?;
+    // The exported kinds of the root, which are global.
+    fn add_global_kinds(&mut self, root: &Open<'_, '_>) -> Result<(), Memory>
+        ensures { OnOk result (AddsTables self.old self.new (exported_of (kinds_of root.now.member.now.object.now) (arities_of root.now.member.now.object.now)) []) }
+    {
+        let kinds = root.member.object.kinds.as_slice();
+        for at in 0..kinds.len() {
+            let kind = &kinds[at];
+            if !kind.exported {
+                continue;
             }
+            self.add_kind(kind, 0)?;
         }
-        let from = &root.object.bank;
+        Ok(())
+    }
+
+    // Its exported constants.
+    fn add_global_constants(&mut self, root: &Open<'_, '_>) -> Result<(), Memory>
+        ensures { OnOk result (AddsTables self.old self.new [] (exported_of (constants_of root.now.member.now.object.now) (moved_schemes (open_copy root.now)))) }
+    {
+        let constants = root.member.object.constants.as_slice();
+        let from = &root.member.object.bank;
         let mut types = Changed::new(self.alloc);
-        for constant in root.object.constants.iter() {
-            if constant.exported {
-                let scheme = constant.scheme;
-                let scheme = types.copy_type(self.alloc, names, from, scheme, &mut self.bank)?;
-                self.add_constant(constant, 0, scheme)?;
+        for at in 0..constants.len() {
+            let constant = &constants[at];
+            if !constant.exported {
+                continue;
             }
+            let of = constant.scheme;
+            let scheme = types.copy_type(self.alloc, &root.names, from, of, &mut self.bank)?;
+            self.add_constant(constant, 0, scheme)?;
+        }
+        Ok(())
+    }
+
+    /// The names that the root exports, which are global.
+    pub(crate) fn add_global(&mut self, root: &Open<'_, '_>) -> Result<(), Memory>
+        ensures { OnOk result (AddsTables self.old self.new (exported_of (kinds_of root.now.member.now.object.now) (arities_of root.now.member.now.object.now)) (exported_of (constants_of root.now.member.now.object.now) (moved_schemes (open_copy root.now)))) }
+    {
+        self.add_global_kinds(root)?;
+        self.add_global_constants(root)
+    }
+
+    // The hidden kinds of a copy.
+    fn add_hidden_kinds(&mut self, copy: &Open<'_, '_>) -> Result<(), Memory>
+        ensures { OnOk result (AddsTables self.old self.new (hidden_of (kinds_of copy.now.member.now.object.now) (arities_of copy.now.member.now.object.now)) []) }
+    {
+        let kinds = copy.member.object.kinds.as_slice();
+        for at in 0..kinds.len() {
+            let kind = &kinds[at];
+            if kind.exported {
+                continue;
+            }
+            let name = kind.name.as_slice();
+            let hidden = next_hidden(self.alloc, &mut self.hidden_kinds, name)?;
+            self.add_kind(kind, hidden)?;
+        }
+        Ok(())
+    }
+
+    // Its hidden constants.
+    fn add_hidden_constants(&mut self, copy: &Open<'_, '_>) -> Result<(), Memory>
+        ensures { OnOk result (AddsTables self.old self.new [] (hidden_of (constants_of copy.now.member.now.object.now) (moved_schemes (open_copy copy.now)))) }
+    {
+        let constants = copy.member.object.constants.as_slice();
+        let from = &copy.member.object.bank;
+        let mut types = Changed::new(self.alloc);
+        for at in 0..constants.len() {
+            let constant = &constants[at];
+            if constant.exported {
+                continue;
+            }
+            let name = constant.name.as_slice();
+            let hidden = next_hidden(self.alloc, &mut self.hidden_constants, name)?;
+            let of = constant.scheme;
+            let scheme = types.copy_type(self.alloc, &copy.names, from, of, &mut self.bank)?;
+            self.add_constant(constant, hidden, scheme)?;
         }
         Ok(())
     }
 
     // The hidden names of a copy.
-    fn add_hidden(&mut self, copy: &Member<'_>, names: &Names) -> Result<(), Memory> {
-        for kind in copy.object.kinds.iter() {
-            if !kind.exported {
-                let name = kind.name.as_slice();
-                let hidden = next_hidden(self.alloc, &mut self.hidden_kinds, name)?;
-                self.add_kind(name, hidden, kind.arity)?;
-            }
-        }
-        let from = &copy.object.bank;
-        let mut types = Changed::new(self.alloc);
-        for constant in copy.object.constants.iter() {
-            if !constant.exported {
-                let name = constant.name.as_slice();
-                let hidden = next_hidden(self.alloc, &mut self.hidden_constants, name)?;
-                let scheme = constant.scheme;
-                let scheme = types.copy_type(self.alloc, names, from, scheme, &mut self.bank)?;
-                self.add_constant(constant, hidden, scheme)?;
-            }
-        }
-        Ok(())
+    fn add_hidden(&mut self, copy: &Open<'_, '_>) -> Result<(), Memory>
+        ensures { OnOk result (AddsTables self.old self.new (hidden_of (kinds_of copy.now.member.now.object.now) (arities_of copy.now.member.now.object.now)) (hidden_of (constants_of copy.now.member.now.object.now) (moved_schemes (open_copy copy.now)))) }
+    {
+        self.add_hidden_kinds(copy)?;
+        self.add_hidden_constants(copy)
     }
 
     /// A copy, whose records come behind those of the ones below it.
     pub(crate) fn add_copy(
         &mut self,
-        copy: &Member<'_>,
-        open: &Open,
+        copy: &Open<'_, '_>,
         records: &mut Vec<Record>,
     ) -> Result<(), Memory>
-        ensures length { OnOk result (length records.new.items ≡ length records.old.items + length copy.now.object.now.code.records.items) }
-        ensures moved { OnOk result (AddsMoved (map_by open.now.names open.now.firsts.record) open.now.firsts.record copy.now.object.now.code.records.items records.old.items records.new.items) }
+        ensures { OnOk result (IsLeft self.old self.new records.old.items records.new.items (open_copy copy.now)) }
     {
-        self.add_hidden(copy, &open.names)?;
+        self.add_hidden(copy)?;
         let numbers = Numbers {
             alloc: self.alloc,
-            names: &open.names,
-            first: open.firsts.record,
+            names: &copy.names,
+            first: count_of(records.as_slice()),
         };
-        add_records(&numbers, copy.object.code.records.as_slice(), records)
+        add_records(
+            &numbers,
+            copy.member.object.code.records.as_slice(),
+            records,
+        )
     }
 
     /// The image with these records.
@@ -155,14 +222,16 @@ impl Making {
         requires few { length records.items < 2 ^ 32 }
         ensures name { IfOk result (λ image. image.name ≡ name) }
         ensures records { IfOk result (λ image. image.code.records ≡ records) }
+        ensures tables { IfOk result (λ image. image_tables image ≡ tables_of (made_arities self) (made_schemes self)) }
     {
-        Image::new(
+        let image = Image::new(
             self.alloc,
             name,
             self.bank,
             self.kinds,
             self.constants,
             Code { records },
-        )
+        )?;
+        Ok(image)
     }
 }

@@ -1,12 +1,17 @@
 // The copies of a root.
-ghost use Rattle.std.specs.Prelude.{◌≡◌, ◌⊎◌, ◌+◌, ◌-◌, ◌<◌, ◌≤◌, ◌^◌, length, All, IfOk, IfErr, OnOk};
+ghost use Rattle.std.specs.Prelude.{◌≡◌, ◌⊎◌, ◌+◌, ◌-◌, ◌<◌, ◌≤◌, ◌^◌, ℕ, min, List, [], ◌∷◌, map, length, reverse, set, get_or, slice_get, Some, All, IfOk, IfErr, OnOk};
 ghost use Rattle.lp_base.specs.declared.limit.Limit.TheVariants as limit;
 ghost use Rattle.lp_copies.specs.Trees.{lists_in};
 ghost use Rattle.lp_link.specs.declared.fault.LinkRefusal.TheVariants as refusal;
+ghost use Rattle.lp_link.specs.declared.names.Open.{Open as OpenCopy};
+ghost use Rattle.lp_code.specs.declared.object.Object.{Object as ObjectNow};
 ghost use Rattle.lp_link.specs.Ends.{hidden_kinds, hidden_constants, kind_counts, constant_counts, total};
 ghost use Rattle.lp_link.specs.Uses.{uses_of};
+ghost use Rattle.lp_link.specs.Linked.{Copy, Ends as NameEnds, first_ends, IsLinked};
 ghost use Rattle.lp_link.specs.Refusals.{CanBeLinked, HasFewCopies, HasManyCopies, HasManyRecords, IsLinkRefusal};
 ghost use Rattle.lp_link.specs.inner.Members.{AreAllCompared, IsCompareRefusal, IsCopiesRefusal};
+ghost use Rattle.lp_link.specs.inner.Entering.{AreFirst, AreFew, begun, ends_of, open_copy, IsShort, IsEntered, IsPlan};
+ghost use Rattle.lp_link.specs.inner.Tabled.{counted, IsBegun, IsLeft, IsMade};
 
 use crate::differ::Compared;
 use crate::fault::LinkRefusal;
@@ -20,12 +25,11 @@ use lp_copies::{Copying, END_OF_IMAGE_NUMBERS, Turn};
 use lp_standard::{FIRST_CONSTANT, FIRST_KIND};
 use std::alloc::Global;
 
-// How many names and records each object has.
+// How many hidden names each object has.
 #[derive(Drop)]
 struct Counts {
     hidden_kinds: Vec<usize>,
     hidden_constants: Vec<usize>,
-    records: Vec<usize>,
 }
 
 // Numbers below which those so far are.
@@ -33,7 +37,6 @@ struct Counts {
 struct Ends {
     kind: usize,
     constant: usize,
-    record: usize,
 }
 
 fn hidden_kinds(kinds: &[ObjectKind]) -> usize
@@ -78,12 +81,10 @@ fn check_records(objects: &[Object]) -> Result<(), LinkRefusal>
 fn counts_of(alloc: Global, objects: &[Object]) -> Result<Counts, Memory>
     ensures kinds { IfOk result (λ c. c.hidden_kinds.items ≡ kind_counts objects.now) }
     ensures constants { IfOk result (λ c. c.hidden_constants.items ≡ constant_counts objects.now) }
-    ensures records { IfOk result (λ c. length c.records.items ≡ length objects.now) }
 {
     let mut counts = Counts {
         hidden_kinds: Vec::new(alloc),
         hidden_constants: Vec::new(alloc),
-        records: Vec::new(alloc),
     };
     for at in 0..objects.len() {
         let object = &objects[at];
@@ -93,7 +94,6 @@ fn counts_of(alloc: Global, objects: &[Object]) -> Result<Counts, Memory>
         counts
             .hidden_constants
             .push(hidden_constants(object.constants.as_slice()))?;
-        counts.records.push(object.code.records.len())?;
     }
     Ok(counts)
 }
@@ -108,7 +108,6 @@ fn behind_root(root: &Object) -> Ends
     Ends {
         kind: FIRST_KIND as usize + (kinds.len() - hidden_kinds(kinds)),
         constant: FIRST_CONSTANT as usize + (constants.len() - hidden_constants(constants)),
-        record: 0,
     }
 }
 
@@ -161,36 +160,63 @@ fn compare(
 }
 
 // A number as it is written in 32 bits.
-fn written(number: usize) -> u32 {
+fn written(number: usize) -> u32
+    ensures { result ≡ counted number }
+{
     number.min(u32::MAX as usize) as u32
 }
 
-fn count_at(counts: &Vec<usize>, member: usize) -> usize {
-    counts.get(member).copied().unwrap_or(0)
-}
-
-impl Ends {
-    // A copy more; its own numbers are those from here on.
-    fn behind(&mut self, counts: &Counts, member: usize) -> Firsts {
-        let firsts = Firsts {
-            kind: written(self.kind),
-            constant: written(self.constant),
-            record: written(self.record),
-        };
-        self.kind = self
-            .kind
-            .saturating_add(count_at(&counts.hidden_kinds, member));
-        self.constant = self
-            .constant
-            .saturating_add(count_at(&counts.hidden_constants, member));
-        self.record = self
-            .record
-            .saturating_add(count_at(&counts.records, member));
-        firsts
+fn count_at(counts: &Vec<usize>, member: usize) -> usize
+    ensures { result ≡ get_or counts.now.items member 0 }
+{
+    match counts.get(member) {
+        None => 0,
+        Some(count) => *count,
     }
 }
 
-// The first numbers of each copy, by the order in which copies are entered.
+impl Ends {
+    // The numbers from here on.
+    fn numbers(self) -> Firsts
+        ensures kind { result.kind ≡ counted self.kind }
+        ensures constant { result.constant ≡ counted self.constant }
+    {
+        Firsts {
+            kind: written(self.kind),
+            constant: written(self.constant),
+        }
+    }
+
+    // Behind a copy.
+    fn behind(self, counts: &Counts, member: usize) -> Ends
+        ensures kind { result.kind ≡ min (self.kind + get_or counts.now.hidden_kinds.items member 0) 18446744073709551615 }
+        ensures constant { result.constant ≡ min (self.constant + get_or counts.now.hidden_constants.items member 0) 18446744073709551615 }
+    {
+        Ends {
+            kind: self
+                .kind
+                .saturating_add(count_at(&counts.hidden_kinds, member)),
+            constant: self
+                .constant
+                .saturating_add(count_at(&counts.hidden_constants, member)),
+        }
+    }
+}
+
+// Puts the first numbers of the innermost open copy at its place.
+fn fill(firsts: &mut Vec<Firsts>, inside: &mut Vec<usize>, own: Firsts)
+    ensures { (at : ℕ) (rest : List ℕ) → reverse inside.old.items ≡ at ∷ rest → at < length firsts.old.items → (reverse inside.new.items ≡ rest) × (firsts.new.items ≡ set firsts.old.items at own) }
+{
+    let Some(at) = inside.pop() else {
+        return;
+    };
+    if at >= firsts.len() {
+        return;
+    }
+    firsts[at] = own;
+}
+
+// The first numbers of each copy, in the order in which copies are entered; the first one last.
 fn firsts_of(
     alloc: Global,
     counts: &Counts,
@@ -200,7 +226,8 @@ fn firsts_of(
 ) -> Result<Vec<Firsts>, LinkRefusal>
     requires root { root < length uses.now.items }
     requires within { All (λ out. All (λ m. m < length uses.now.items) out) (lists_in uses.now.items) }
-    ensures { IfErr result (IsCopiesRefusal (lists_in uses.now.items) root) }
+    ensures firsts { IfOk result (λ fs. (all : List NameEnds) (end : NameEnds) → AreFirst (lists_in uses.now.items) counts.now.hidden_kinds.items counts.now.hidden_constants.items (root ∷ []) (begun begin) all end → AreFew end → map ends_of (reverse fs.items) ≡ all) }
+    ensures refused { IfErr result (IsCopiesRefusal (lists_in uses.now.items) root) }
 {
     let mut ends = begin;
     let mut firsts = Vec::new(alloc);
@@ -208,57 +235,61 @@ fn firsts_of(
     let unknown = Firsts {
         kind: 0,
         constant: 0,
-        record: 0,
     };
     inside.push(0)?;
     firsts.push(unknown)?;
     let mut copying = Copying::new(alloc, uses, root);
     'copies: loop {
-        let (left, ended) = match copying.go_on(uses)? {
+        match copying.go_on(uses)? {
             Turn::Entered(_) => {
                 inside.push(firsts.len())?;
                 firsts.push(unknown)?;
-                continue;
             }
-            Turn::Left(at) => (at, false),
-            Turn::Ended(at) => (at, true),
-        };
-        let own = ends.behind(counts, left);
-        if let Some(entry) = inside.pop()
-            && let Some(first) = firsts.get_mut(entry)
-        {
-            *first = own;
-        }
-        if ended {
-            return Ok(firsts);
+            Turn::Left(at) => {
+                fill(&mut firsts, &mut inside, ends.numbers());
+                ends = ends.behind(counts, at);
+            }
+            Turn::Ended(_) => {
+                fill(&mut firsts, &mut inside, ends.numbers());
+                firsts.reverse();
+                return Ok(firsts);
+            }
         }
     }
 }
 
-// Enters a copy: its names are known from those of the copy above, which is the last open one.
-fn enter(
+// The root is open, and the names that it exports are made.
+fn begin<'m, 'a>(
     alloc: Global,
-    members: &[Member<'_>],
-    at: usize,
+    member: &'m Member<'a>,
     firsts: Firsts,
-    around: &mut Vec<Open>,
-) -> Result<(), Memory> {
-    let Some(member) = members.get(at) else {
-        return Ok(());
-    };
-    let above = match around.last() {
-        Some(open) => match members.get(open.member) {
-            Some(outer) => Some((outer, &open.names)),
-            None => None,
-        },
-        None => None,
-    };
-    let names = Names::of(alloc, member, firsts, above)?;
-    around.push(Open {
-        member: at,
-        firsts,
-        names,
-    })?;
+) -> Result<(Making, Vec<Open<'m, 'a>>), Memory>
+    requires few { length member.now.object.now.code.records.items ≤ 65535 }
+    ensures begun { IfOk result (λ b. IsBegun member.now firsts b.0 b.1.items) }
+    ensures few { IfOk result (λ b. All IsShort b.1.items) }
+{
+    let names = Names::of(alloc, member, firsts, None)?;
+    let open = Open { member, names };
+    let mut making = Making::new(alloc);
+    making.add_global(&open)?;
+    let mut around = Vec::new(alloc);
+    around.push(open)?;
+    Ok((making, around))
+}
+
+// Enters a copy: its names are known from those of the copy above, which is the last open one.
+fn enter<'m, 'a>(
+    alloc: Global,
+    member: &'m Member<'a>,
+    firsts: Firsts,
+    around: &mut Vec<Open<'m, 'a>>,
+) -> Result<(), Memory>
+    requires few { length member.now.object.now.code.records.items ≤ 65535 }
+    ensures entered { OnOk result (IsEntered around.old.items around.new.items member.now firsts) }
+    ensures few { All IsShort around.old.items → OnOk result (All IsShort around.new.items) }
+{
+    let names = Names::of(alloc, member, firsts, around.as_slice().last())?;
+    around.push(Open { member, names })?;
     Ok(())
 }
 
@@ -266,18 +297,30 @@ fn enter(
 fn leave(
     making: &mut Making,
     records: &mut Vec<Record>,
-    members: &[Member<'_>],
-    around: &mut Vec<Open>,
+    around: &mut Vec<Open<'_, '_>>,
 ) -> Result<(), Memory>
-    requires { All (λ m. length m.object.now.code.records.items ≤ 65535) members.now }
-    ensures { OnOk result (length records.new.items ≤ length records.old.items + 65535) }
+    requires { All IsShort around.old.items }
+    ensures few { OnOk result (length records.new.items ≤ length records.old.items + 65535) }
+    ensures open { OnOk result (All IsShort around.new.items) }
+    ensures left { OnOk result ((o : OpenCopy) (rest : List OpenCopy) → reverse around.old.items ≡ o ∷ rest → (reverse around.new.items ≡ rest) × IsLeft making.old making.new records.old.items records.new.items (open_copy o)) }
 {
-    if let Some(open) = around.pop()
-        && open.member < members.len()
-    {
-        making.add_copy(&members[open.member], &open, records)?;
-    }
-    Ok(())
+    let Some(open) = around.pop() else {
+        return Ok(());
+    };
+    making.add_copy(&open, records)
+}
+
+// The numbers of the copy that is entered next, which are the last ones.
+fn next_firsts(firsts: &mut Vec<Firsts>) -> Firsts
+    ensures { (f : NameEnds) (more : List NameEnds) → map ends_of (reverse firsts.old.items) ≡ f ∷ more → (ends_of result ≡ f) × (map ends_of (reverse firsts.new.items) ≡ more) }
+{
+    let Some(next) = firsts.pop() else {
+        return Firsts {
+            kind: 0,
+            constant: 0,
+        };
+    };
+    next
 }
 
 // The tables of the image and its records, copy by copy.
@@ -285,38 +328,32 @@ fn make(
     alloc: Global,
     members: &[Member<'_>],
     uses: &Vec<Vec<usize>>,
-    firsts: &[Firsts],
+    firsts: Vec<Firsts>,
     root: usize,
 ) -> Result<(Making, Vec<Record>), LinkRefusal>
     requires root { root < length uses.now.items }
+    requires members { length members.now ≡ length uses.now.items }
     requires within { All (λ out. All (λ m. m < length uses.now.items) out) (lists_in uses.now.items) }
     requires few { All (λ m. length m.object.now.code.records.items ≤ 65535) members.now }
+    requires uses { lists_in uses.now.items ≡ uses_of (map (λ m. m.object.now) members.now) }
     ensures few { IfOk result (λ made. length made.1.items < 2 ^ 32) }
+    ensures made { IfOk result (λ made. (c : Copy) (below : List Copy) → IsPlan (map (λ m. m.object.now) members.now) root (map ends_of (reverse firsts.items)) c below → IsMade c below made.0 made.1.items) }
     ensures refused { IfErr result (IsCopiesRefusal (lists_in uses.now.items) root) }
 {
-    let mut making = Making::new(alloc);
+    let mut coming = firsts;
+    let first = next_firsts(&mut coming);
+    let (mut making, mut around) = begin(alloc, &members[root], first)?;
     let mut records = Vec::new(alloc);
-    let mut around = Vec::new(alloc);
-    let mut next = firsts.iter().copied();
-    if let Some(first) = next.next() {
-        enter(alloc, members, root, first, &mut around)?;
-    }
-    if let Some(member) = members.get(root)
-        && let Some(open) = around.last()
-    {
-        making.add_global(member, &open.names)?;
-    }
     let mut copying = Copying::new(alloc, uses, root);
     'copies: loop {
         match copying.go_on(uses)? {
             Turn::Entered(at) => {
-                if let Some(first) = next.next() {
-                    enter(alloc, members, at, first, &mut around)?;
-                }
+                let first = next_firsts(&mut coming);
+                enter(alloc, &members[at], first, &mut around)?;
             }
-            Turn::Left(_) => leave(&mut making, &mut records, members, &mut around)?,
+            Turn::Left(_) => leave(&mut making, &mut records, &mut around)?,
             Turn::Ended(_) => {
-                leave(&mut making, &mut records, members, &mut around)?;
+                leave(&mut making, &mut records, &mut around)?;
                 return Ok((making, records));
             }
         }
@@ -352,6 +389,8 @@ fn plan_of<'a>(alloc: Global, objects: &'a [Object], root: usize) -> Result<Plan
     ensures uses { IfOk result (λ p. lists_in p.uses.items ≡ uses_of objects.now) }
     ensures within { IfOk result (λ p. All (λ out. All (λ m. m < length p.uses.items) out) (lists_in p.uses.items)) }
     ensures few { IfOk result (λ p. All (λ m. length m.object.now.code.records.items ≤ 65535) p.members.items) }
+    ensures members { IfOk result (λ p. map (λ m. m.object.now) p.members.items ≡ objects.now) }
+    ensures firsts { IfOk result (λ p. (o : ObjectNow) (all : List NameEnds) (end : NameEnds) → slice_get objects.now root ≡ Some o → AreFirst (uses_of objects.now) (kind_counts objects.now) (constant_counts objects.now) (root ∷ []) (first_ends o) all end → AreFew end → map ends_of (reverse p.firsts.items) ≡ all) }
     ensures linked { OnOk result (CanBeLinked objects.now root) }
     ensures refused { IfErr result (IsLinkRefusal objects.now root) }
 {
@@ -382,6 +421,7 @@ pub fn link(alloc: Global, objects: &[Object], root: u32) -> Result<Image, LinkR
     requires root { root < length objects.now }
     ensures few { IfOk result (λ image. length image.code.records.items < 2 ^ 32) }
     ensures linked { OnOk result (CanBeLinked objects.now root) }
+    ensures denotes { IfOk result (IsLinked objects.now root) }
     ensures refused { IfErr result (IsLinkRefusal objects.now root) }
 {
     let Plan {
@@ -389,13 +429,7 @@ pub fn link(alloc: Global, objects: &[Object], root: u32) -> Result<Image, LinkR
         uses,
         firsts,
     } = plan_of(alloc, objects, root as usize)?;
-    let (making, records) = make(
-        alloc,
-        members.as_slice(),
-        &uses,
-        firsts.as_slice(),
-        root as usize,
-    )?;
+    let (making, records) = make(alloc, members.as_slice(), &uses, firsts, root as usize)?;
     let name = Vec::from_slice(alloc, objects[root as usize].name.as_slice())?;
     let image = making.finish(name, records)?;
     Ok(image)

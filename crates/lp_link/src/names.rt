@@ -1,6 +1,9 @@
 // The names of a copy.
-ghost use Rattle.std.specs.Prelude.{◌≡◌};
+ghost use Rattle.std.specs.Prelude.{◌≡◌, option_map, IfOk};
+ghost use Rattle.lp_link.specs.Linked.{kind_above, constant_above, kinds_of, constants_of};
 ghost use Rattle.lp_link.specs.Numbers.{renumbered};
+ghost use Rattle.lp_link.specs.inner.Entering.{open_copy};
+ghost use Rattle.lp_link.specs.inner.Naming.{next_number, next_global, next_hidden, AreNumbers};
 
 use crate::differ::place_of;
 use crate::places::Member;
@@ -9,12 +12,11 @@ use lp_standard::{FIRST_CONSTANT, FIRST_KIND};
 use lp_term::{Mapping, TermChange, TypeChange};
 use std::alloc::Global;
 
-/// The numbers of the first hidden kind and constant of a copy, and of its first record.
+/// The numbers of the first hidden kind and constant of a copy.
 #[derive(Clone, Copy)]
 pub(crate) struct Firsts {
     pub kind: u32,
     pub constant: u32,
-    pub record: u32,
 }
 
 /// The numbers that a copy's kinds and constants have in the image, by their places.
@@ -26,14 +28,17 @@ pub(crate) struct Names {
 
 /// A copy on the way from the root.
 #[derive(Drop)]
-pub(crate) struct Open {
-    pub member: usize,
-    pub firsts: Firsts,
+pub(crate) struct Open<'m, 'a> {
+    pub member: &'m Member<'a>,
     pub names: Names,
 }
 
 // The number of a name: hidden ones from `hidden` on, exported ones as the copy above has them, or at the root from `global` on.
-fn next(exported: bool, above: Option<u32>, global: &mut u32, hidden: &mut u32) -> u32 {
+fn next(exported: bool, above: Option<u32>, global: &mut u32, hidden: &mut u32) -> u32
+    ensures number { result ≡ next_number exported above global.old hidden.old }
+    ensures global { global.new ≡ next_global exported above global.old }
+    ensures hidden { hidden.new ≡ next_hidden exported hidden.old }
+{
     if !exported {
         let number = *hidden;
         *hidden = hidden.saturating_add(1);
@@ -54,9 +59,77 @@ fn number_of(first: u32, numbers: &Vec<u32>, number: u32) -> u32
     ensures { result ≡ renumbered first numbers.now.items number }
 {
     match place_of(first, number) {
-        Some(place) => numbers.get(place).copied().unwrap_or(number),
+        Some(place) => numbers.get(place).copied().unwrap_or(u32::MAX),
         None => number,
     }
+}
+
+// The number that the copy above has for a kind.
+fn kind_above(above: Option<&Open<'_, '_>>, name: &[u8]) -> Option<u32>
+    ensures { result ≡ kind_above (option_map (λ o. open_copy o.now) above.entry) name.now }
+{
+    match above {
+        None => None,
+        Some(open) => match open.member.kind(name) {
+            None => None,
+            Some(place) => open.names.kinds.get(place).copied(),
+        },
+    }
+}
+
+// The number that the copy above has for a constant.
+fn constant_above(above: Option<&Open<'_, '_>>, name: &[u8]) -> Option<u32>
+    ensures { result ≡ constant_above (option_map (λ o. open_copy o.now) above.entry) name.now }
+{
+    match above {
+        None => None,
+        Some(open) => match open.member.constant(name) {
+            None => None,
+            Some(place) => open.names.constants.get(place).copied(),
+        },
+    }
+}
+
+// The numbers of a copy's kinds, of which the hidden ones begin at a number.
+fn kind_numbers(
+    alloc: Global,
+    member: &Member<'_>,
+    first: u32,
+    above: Option<&Open<'_, '_>>,
+) -> Result<Vec<u32>, Memory>
+    ensures { IfOk result (λ ns. AreNumbers (kind_above (option_map (λ o. open_copy o.now) above.entry)) 8 first (kinds_of member.now.object.now) ns.items) }
+{
+    let kinds = member.object.kinds.as_slice();
+    let mut numbers = Vec::new(alloc);
+    let mut global = FIRST_KIND;
+    let mut hidden = first;
+    for at in 0..kinds.len() {
+        let kind = &kinds[at];
+        let there = kind_above(above, kind.name.as_slice());
+        numbers.push(next(kind.exported, there, &mut global, &mut hidden))?;
+    }
+    Ok(numbers)
+}
+
+// The numbers of a copy's constants.
+fn constant_numbers(
+    alloc: Global,
+    member: &Member<'_>,
+    first: u32,
+    above: Option<&Open<'_, '_>>,
+) -> Result<Vec<u32>, Memory>
+    ensures { IfOk result (λ ns. AreNumbers (constant_above (option_map (λ o. open_copy o.now) above.entry)) 32 first (constants_of member.now.object.now) ns.items) }
+{
+    let constants = member.object.constants.as_slice();
+    let mut numbers = Vec::new(alloc);
+    let mut global = FIRST_CONSTANT;
+    let mut hidden = first;
+    for at in 0..constants.len() {
+        let constant = &constants[at];
+        let there = constant_above(above, constant.name.as_slice());
+        numbers.push(next(constant.exported, there, &mut global, &mut hidden))?;
+    }
+    Ok(numbers)
 }
 
 impl Names {
@@ -65,26 +138,13 @@ impl Names {
         alloc: Global,
         member: &Member<'_>,
         firsts: Firsts,
-        above: Option<(&Member<'_>, &Names)>,
-    ) -> Result<Names, Memory> {
-        let mut kinds = Vec::new(alloc);
-        let (mut global, mut hidden) = (FIRST_KIND, firsts.kind);
-        for kind in member.object.kinds.iter() {
-            let there = above.and_then(|(outer, names)| {
-                let place = outer.kind(kind.name.as_slice())?;
-                names.kinds.get(place).copied()
-            });
-            kinds.push(next(kind.exported, there, &mut global, &mut hidden))?;
-        }
-        let mut constants = Vec::new(alloc);
-        let (mut global, mut hidden) = (FIRST_CONSTANT, firsts.constant);
-        for constant in member.object.constants.iter() {
-            let there = above.and_then(|(outer, names)| {
-                let place = outer.constant(constant.name.as_slice())?;
-                names.constants.get(place).copied()
-            });
-            constants.push(next(constant.exported, there, &mut global, &mut hidden))?;
-        }
+        above: Option<&Open<'_, '_>>,
+    ) -> Result<Names, Memory>
+        ensures kinds { IfOk result (λ n. AreNumbers (kind_above (option_map (λ o. open_copy o.now) above.entry)) 8 firsts.kind (kinds_of member.now.object.now) n.kinds.items) }
+        ensures constants { IfOk result (λ n. AreNumbers (constant_above (option_map (λ o. open_copy o.now) above.entry)) 32 firsts.constant (constants_of member.now.object.now) n.constants.items) }
+    {
+        let kinds = kind_numbers(alloc, member, firsts.kind, above)?;
+        let constants = constant_numbers(alloc, member, firsts.constant, above)?;
         Ok(Names { kinds, constants })
     }
 }

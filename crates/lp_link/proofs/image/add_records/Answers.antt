@@ -1,4 +1,4 @@
-use Rattle.std.proofs.Common.{◌≡◌, arith, ap, length, take, subst}
+use Rattle.std.proofs.Common.{arith, ap, length, subst}
 use Rattle.std.proofs.lemmas.List.{take_all, length_push}
 use Rattle.lp_link.specs.inner.Parts.{map_in, AddsMoved}
 use Rattle.lp_link.proofs.Remade.{none_added, next_added}

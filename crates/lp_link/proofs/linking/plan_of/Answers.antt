@@ -1,4 +1,4 @@
-use Rattle.std.proofs.Common.{◌<◌, ◌≤◌, ◌∙◌, length, sym, subst}
+use Rattle.std.proofs.Common.{◌<◌, ◌≤◌, ◌∙◌, length, map, reverse, sym, subst}
 use Rattle.std.specs.Prelude.{All}
 use Rattle.lp_lemmas.proofs.Results.{passed_up}
 use Rattle.lp_copies.specs.Trees.{lists_in}
@@ -8,6 +8,8 @@ use Rattle.lp_link.specs.inner.Members.{AreAllCompared, IsCompareRefusal}
 use Rattle.lp_link.proofs.Uses.{uses_count}
 use Rattle.lp_link.proofs.Sums.{order_inside}
 use Rattle.lp_link.proofs.Refusing.{compare_refused, all_same, few_copies, few_names, names_refused, counts_within, of_members}
+use Rattle.lp_link.specs.inner.Entering.{ends_of}
+use Rattle.lp_link.proofs.EnteredCopies.{begins_at, firsts_told}
 use Rattle.lp_link.proofs.linking.plan_of.Goals as goal
 
 pub returns-in_err-compare-clause-refused : goal.returns-in_err-compare-clause-refused
@@ -94,3 +96,12 @@ returns-clause-linked c =
 
 pub returns-clause-few : goal.returns-clause-few
 returns-clause-few c = of_members (λ o. length o.code.records.items ≤ 65535) c.args.objects.now c.in_ok-members.members.items c.in_ok-members.ensures c.in_ok-check_records.ensures.few
+
+pub returns-clause-firsts : goal.returns-clause-firsts
+returns-clause-firsts c = λ o all end at.
+    firsts_told c.args.objects.now (lists_in c.in_ok-uses.uses.items) c.in_ok-counts.counts.hidden_kinds.items
+    c.in_ok-counts.counts.hidden_constants.items c.args.root c.behind_root-begin.result o (map ends_of (reverse c.in_ok-firsts.firsts.items))
+    c.in_ok-uses.ensures.uses c.in_ok-counts.ensures.kinds c.in_ok-counts.ensures.constants
+    (begins_at c.args.objects.now c.args.root c.index-objects-root.result o c.behind_root-begin.result c.requires.root c.index-objects-root.is at
+    c.behind_root-begin.ensures.kind c.behind_root-begin.ensures.constant)
+    c.in_ok-firsts.ensures.firsts all end
