@@ -450,7 +450,7 @@ fn make(
 ///
 /// # Errors
 /// `Limit(Copies)` where there are more than 4,096 copies, else `Limit(Names)` where a kind's or a constant's number would not be below
-/// 65,535.
+/// 1,048,576.
 pub fn assemble(alloc: Global, modules: &[Module], root: u32) -> Result<Assembled, ModuleFault>
     ensures program { IfOk result (IsProgram modules.now root) }
     ensures clauses { IfOk result (λ a. AreWithin a.program.bank a.program.clauses.items) }

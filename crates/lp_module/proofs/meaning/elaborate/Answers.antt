@@ -30,6 +30,9 @@ returns-in_err-check_clauses-clause-refused c =
           (subst (λ l. (e ≡ fault.Memory) ⊎ IsFirstUnformed (declared_schemes names) b l e) c.as_slice-2.ensures.value c.in_err-check_clauses.ensures.refused),
     ))
 
+pub returns-in_err-clauses-clause-refused : goal.returns-in_err-clauses-clause-refused
+returns-in_err-clauses-clause-refused c = passed_up c.from_residual-in_err-clauses.result fault.Memory (IsRefusal c.args.source.now c.args.text.now c.args.expected.now) c.from_residual-in_err-clauses.ensures.1 (inr (c.in_ok-check_header.ensures.same, inl refl))
+
 pub returns-in_err-name-clause-refused : goal.returns-in_err-name-clause-refused
 returns-in_err-name-clause-refused c = passed_up c.from_residual-in_err-name.result fault.Memory (IsRefusal c.args.source.now c.args.text.now c.args.expected.now) c.from_residual-in_err-name.ensures.1 (inr (c.in_ok-check_header.ensures.same, inl refl))
 
