@@ -51,3 +51,6 @@ returns-clause-moved g c =
       pairs = ap (λ z. z.pairs) branch;
     } in
     cut_moved m _ c.args.place c.args.behind keeps (returns-clause-cuts g c) (s.there refl)
+
+pub returns-then-not-take_step-clause-moved : goal.returns-then-not-take_step-clause-moved
+returns-then-not-take_step-clause-moved g c = cut_stops c.args.machine.now c.args.machine.now c.args.place c.args.behind (c.if-not-take_step.ensures.spent refl).1

@@ -11,7 +11,7 @@ use Rattle.lp_model.specs.Flat.{goal_list}
 use Rattle.lp_model.specs.Search.{vars_from}
 use Rattle.lp_plain.specs.declared.frame.Frame.{Frame}
 use Rattle.lp_plain.specs.Entries.{Reads, in_scope, no_frame}
-use Rattle.lp_plain.specs.Starts.{AreProgramOf, query_values}
+use Rattle.lp_plain.specs.Starts.{IsOutermost, AreProgramOf, query_values}
 use Rattle.lp_plain.specs.Within.{IsTodoIn}
 use Rattle.lp_plain.proofs.Later.{list_later, rules_later, table_later}
 use Rattle.lp_plain.proofs.Programs.{program_on}
@@ -120,7 +120,7 @@ returns-clause-marked c =
 pub returns-clause-begun : goal.returns-clause-begun
 returns-clause-begun c = λ l n k flat h answers.
     let f = c.in_ok-front.ensures in
-    let o = record { assumed = refl; written = refl; mark = refl } in
+    let o : IsOutermost outermost = record { assumed = refl; written = refl; mark = refl } in
     let alone = returns-clause-starts c l n k flat h outermost o answers in
     begins_so c.args.limit _ (start c.args.query.type_vars (length c.args.query.vars.items) flat c.args.limit answers) _ _ alone.0 refl refl alone.1 (returns-clause-stands c) (returns-clause-placed c outermost o)
     f.course.denied f.course.counts (ap (λ z. z.terms.entries) f.goals.known.bindings ∙ c.new-bindings.ensures.terms) (ap (λ z. z.types.entries) f.goals.known.bindings ∙ c.new-bindings.ensures.types)

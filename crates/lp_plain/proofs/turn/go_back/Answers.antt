@@ -122,7 +122,7 @@ pub returns-in-Denied-clause-moved : goal.returns-in-Denied-clause-moved
 returns-in-Denied-clause-moved c = λ e s h. let y = c.in_ok-untried.ensures.none e in absurd (cc)
 
 pub returns-then-machine-clause-moved : goal.returns-then-machine-clause-moved
-returns-then-machine-clause-moved c = λ e s h. none_moved c.args.machine.now _ s true e (sym c.in_ok-untried.ensures.lost ∙ c.if-machine.true) h
+returns-then-machine-clause-moved c = λ e s h. none_moved c.args.machine.now c.args.machine.now s true e (sym c.in_ok-untried.ensures.lost ∙ c.if-machine.true) h
 
 pub returns-in_default-clause-moved : goal.returns-in_default-clause-moved
-returns-in_default-clause-moved c = λ e s h. none_moved c.args.machine.now _ s false e (sym c.in_ok-untried.ensures.lost ∙ c.if-machine.false) h
+returns-in_default-clause-moved c = λ e s h. none_moved c.args.machine.now c.args.machine.now s false e (sym c.in_ok-untried.ensures.lost ∙ c.if-machine.false) h
