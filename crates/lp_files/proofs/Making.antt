@@ -15,7 +15,7 @@ use Rattle.lp_build.specs.declared.sources.Sources.{Sources}
 use Rattle.lp_lines.specs.Looked.{Found}
 use Rattle.lp_lines.specs.declared.refusal.Refusal.{Refusal}
 use Rattle.lp_words.specs.declared.asked.FileCommand.{FileCommand}
-use Rattle.lp_files.specs.Made.{IsHeldImage, IsImage, IsMade, IsMigrated, IsObjectMade, SpellsCompiled, WritesMade}
+use Rattle.lp_files.specs.Made.{IsHeldImage, IsMade, IsMigrated, IsObjectMade, SpellsCompiled, WritesMade}
 use Rattle.lp_files.specs.Target.{ending_of}
 
 -- the bytes that stand under a name
@@ -33,10 +33,6 @@ pub migrated_is : (told : Option Held) (name : List ℕ) (image : PlainImage) (r
     → IfOk r (λ bytes. bytes.items ≡ spelled_image image) → IfOk r (λ bytes. IsMigrated told name bytes.items)
 migrated_is told name image (Ok bytes) held h = (image, held, h)
 migrated_is told name image (Err e) held h = tt
-
-pub image_is : (image : PlainImage) (r : Result (Vec ℕ Global) Refusal) → IfOk r (λ bytes. bytes.items ≡ spelled_image image) → IfOk r (λ bytes. IsImage bytes.items)
-image_is image (Ok bytes) h = (image, h)
-image_is image (Err e) h = tt
 
 pub written_made : (told now : Option Held) (command : FileCommand) (name file bytes spelled : List ℕ) → IsMade told command name spelled → bytes ≡ spelled
     → file ≡ name ++ ending_of command → IfSome told (λ old. IfSome now (Puts file bytes old)) → WritesMade told now command name

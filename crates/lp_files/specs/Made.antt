@@ -1,9 +1,14 @@
 -- The bytes of the file that a command makes.
-use Rattle.std.specs.Prelude.{◌≡◌, ◌++◌, ℕ, List, Option, IfSome, codes}
+use Rattle.std.specs.Prelude.{◌≡◌, ◌++◌, ◌∷◌, ℕ, true, List, Option, IfSome, All, is_some, codes}
 use Rattle.lp_base.specs.Held.{Held, Puts}
 use Rattle.lp_code.specs.declared.object.Object.{Object}
+use Rattle.lp_code.specs.declared.image.Image.{Image}
+use Rattle.lp_code.specs.Denote.{denote}
+use Rattle.lp_code.specs.Naming.{object_tables}
+use Rattle.lp_verify.specs.Judged.{AreShort}
+use Rattle.lp_link.specs.Linked.{IsLinked}
 use Rattle.lp_object.specs.Files.{spelled_image, spelled_object}
-use Rattle.lp_object.specs.Plain.{PlainImage, plain_object}
+use Rattle.lp_object.specs.Plain.{PlainImage, plain_image, plain_object}
 use Rattle.lp_object.specs.Spellable.{SpellsImage}
 use Rattle.lp_build.specs.Compiled.{IsCompiled}
 use Rattle.lp_build.specs.Loads.{BeginsWith, modules_among, names_of}
@@ -42,14 +47,35 @@ pub record IsHeldImage (told : Option Held) (name : List ℕ) (image : PlainImag
 abbrev pub IsMigrated : (told : Option Held) → (name bytes : List ℕ) → Type 0
 IsMigrated told name bytes = (image : PlainImage) × IsHeldImage told name image × (bytes ≡ spelled_image image)
 
--- bytes are the spelling of today of some image
-abbrev pub IsImage : (bytes : List ℕ) → Type 0
-IsImage bytes = (image : PlainImage) × (bytes ≡ spelled_image image)
+-- the bytes under the name of its file spell an object, whose records denote clauses where each has fewer than 2^32 bytes
+pub record IsHeldObject (told : Option Held) (o : Object) : Type 0 where
+  pub bytes : List ℕ
+  pub there : IsTold told (o.name.items ++ codes ".lpo") bytes
+  pub spelled : bytes ≡ spelled_object (plain_object o)
+  pub denotes : AreShort o.code.records.items → is_some (denote (object_tables o) o.code.records.items) ≡ true
+
+abbrev pub AreHeldObjects : (told : Option Held) → List Object → Type 0
+AreHeldObjects told os = All (IsHeldObject told) os
+
+-- the first object has this name
+abbrev pub BeginsNamed : (name : List ℕ) → List Object → Type 0
+BeginsNamed name os = (o : Object) × (more : List Object) × (os ≡ o ∷ more) × (o.name.items ≡ name)
+
+-- bytes are the spelling of today of an image that denotes the clauses of the copies of these objects, of which the first is the root
+abbrev pub SpellsLinked : List Object → (bytes : List ℕ) → Type 0
+SpellsLinked os bytes = (image : Image) × IsLinked os 0 image × (bytes ≡ spelled_image (plain_image image))
+
+-- so they are for objects that the folder holds, the first one of this name
+pub record IsImageLinked (told : Option Held) (name bytes : List ℕ) : Type 0 where
+  pub objects : List Object
+  pub first : BeginsNamed name objects
+  pub held : AreHeldObjects told objects
+  pub spells : SpellsLinked objects bytes
 
 -- what a command makes
 abbrev pub IsMade : (told : Option Held) → FileCommand → (name bytes : List ℕ) → Type 0
 IsMade told Compile name bytes = IsObjectMade told name bytes
-IsMade told Link name bytes = IsImage bytes
+IsMade told Link name bytes = IsImageLinked told name bytes
 IsMade told Migrate name bytes = IsMigrated told name bytes
 
 -- such bytes stand under the name of its file, and nothing else has changed in the folder

@@ -1,6 +1,8 @@
 // The image of a module.
-ghost use Rattle.std.specs.Prelude.{◌<◌, length, IfErr, IfOk, OnOk};
-ghost use Rattle.lp_files.specs.Made.{IsImage};
+ghost use Rattle.std.specs.Prelude.{◌≡◌, ◌<◌, ◌++◌, [], ◌∷◌, length, IfErr, IfOk, OnOk};
+ghost use Rattle.lp_link.specs.Linked.{IsLinked};
+ghost use Rattle.lp_files.specs.Made.{IsHeldObject, AreHeldObjects, BeginsNamed, SpellsLinked, IsImageLinked};
+ghost use Rattle.lp_files.specs.inner.Objects.{AreMore};
 ghost use Rattle.lp_lines.specs.Looked.{Looked, refusal_of};
 ghost use Rattle.lp_lines.specs.Refusals.{IsJudged};
 
@@ -41,7 +43,9 @@ fn misnamed(alloc: Global, user: &[u8]) -> Refusal
 }
 
 impl Reading {
-    fn new(alloc: Global) -> Reading {
+    fn new(alloc: Global) -> Reading
+        ensures { result.objects.items ≡ [] }
+    {
         Reading {
             alloc,
             objects: Vec::new(alloc),
@@ -50,7 +54,8 @@ impl Reading {
     }
 
     fn take(&mut self, object: Object) -> Result<(), Memory>
-        ensures { OnOk result (0 < length self.new.objects.items) }
+        ensures some { OnOk result (0 < length self.new.objects.items) }
+        ensures pushed { OnOk result (self.new.objects.items ≡ self.old.objects.items ++ object ∷ []) }
     {
         let name = object.name.clone()?;
         self.names.insert(name)?;
@@ -100,7 +105,8 @@ impl Reading {
         user: usize,
         name: &[u8],
     ) -> Result<Object, Refusal>
-        ensures { Looked F.read_faults F.misses F.overs F.write_faults F.held folder.old folder.new (refusal_of result) }
+        ensures held { IfOk result (IsHeldObject (F.held folder.old)) }
+        ensures looked { Looked F.read_faults F.misses F.overs F.write_faults F.held folder.old folder.new (refusal_of result) }
     {
         match str::from_utf8(name) {
             Ok(name) => open_object(self.alloc, folder, name),
@@ -112,6 +118,7 @@ impl Reading {
     fn read<F: Folder>(&mut self, folder: &mut F, user: usize, name: &[u8]) -> Result<(), Refusal>
         ensures looked { Looked F.read_faults F.misses F.overs F.write_faults F.held folder.old folder.new (refusal_of result) }
         ensures some { OnOk result (0 < length self.new.objects.items) }
+        ensures more { OnOk result (AreMore (F.held folder.old) self.old.objects.items self.new.objects.items) }
     {
         let object = self.open_used(folder, user, name)?;
         self.take(object)?;
@@ -123,6 +130,8 @@ impl Reading {
 fn objects_of<F: Folder>(alloc: Global, folder: &mut F, root: &str) -> Result<Vec<Object>, Refusal>
     ensures looked { Looked F.read_faults F.misses F.overs F.write_faults F.held folder.old folder.new (refusal_of result) }
     ensures root { IfOk result (λ objects. 0 < length objects.items) }
+    ensures first { IfOk result (λ objects. BeginsNamed root.now objects.items) }
+    ensures held { IfOk result (λ objects. AreHeldObjects (F.held folder.old) objects.items) }
 {
     let object = open_object(alloc, folder, root)?;
     let mut reading = Reading::new(alloc);
@@ -185,7 +194,8 @@ fn unlinked(alloc: Global, objects: &[Object], refusal: LinkRefusal) -> Refusal
 // The image of these objects, of which the first is the root.
 fn image_of(alloc: Global, objects: &[Object]) -> Result<Image, Refusal>
     requires { 0 < length objects.now }
-    ensures { IfErr result IsJudged }
+    ensures judged { IfErr result IsJudged }
+    ensures linked { IfOk result (IsLinked objects.now 0) }
 {
     match link(alloc, objects, 0) {
         Ok(image) => Ok(image),
@@ -196,7 +206,7 @@ fn image_of(alloc: Global, objects: &[Object]) -> Result<Image, Refusal>
 fn linked_bytes(alloc: Global, objects: &[Object]) -> Result<Vec<u8>, Refusal>
     requires { 0 < length objects.now }
     ensures judged { IfErr result IsJudged }
-    ensures image { IfOk result (λ bytes. IsImage bytes.items) }
+    ensures image { IfOk result (λ bytes. SpellsLinked objects.now bytes.items) }
 {
     let image = image_of(alloc, objects)?;
     image_bytes(alloc, &image)
@@ -204,7 +214,7 @@ fn linked_bytes(alloc: Global, objects: &[Object]) -> Result<Vec<u8>, Refusal>
 
 /// The bytes of the image of a module, from its object and those that it uses.
 pub fn linked<F: Folder>(alloc: Global, name: &str, folder: &mut F) -> Result<Vec<u8>, Refusal>
-    ensures image { IfOk result (λ bytes. IsImage bytes.items) }
+    ensures image { IfOk result (λ bytes. IsImageLinked (F.held folder.old) name.now bytes.items) }
     ensures looked { Looked F.read_faults F.misses F.overs F.write_faults F.held folder.old folder.new (refusal_of result) }
 {
     let objects = objects_of(alloc, folder, name)?;

@@ -1,11 +1,15 @@
 // The reading of an object or image: its bytes, its format, its name and its code, in this order.
-ghost use Rattle.std.specs.Prelude.{IfErr, IfOk};
+ghost use Rattle.std.specs.Prelude.{◌≡◌, true, is_some, IfErr, IfOk};
+ghost use Rattle.lp_code.specs.Denote.{denote};
+ghost use Rattle.lp_code.specs.Naming.{object_tables};
+ghost use Rattle.lp_verify.specs.Judged.{AreShort};
+ghost use Rattle.lp_object.specs.Files.{spelled_object};
 ghost use Rattle.lp_code.specs.Length.{AllFit};
 ghost use Rattle.lp_build.specs.Told.{IsTold};
-ghost use Rattle.lp_files.specs.Made.{IsHeldImage};
+ghost use Rattle.lp_files.specs.Made.{IsHeldImage, IsHeldObject};
 ghost use Rattle.lp_lines.specs.Looked.{Looked, refusal_of};
 ghost use Rattle.lp_lines.specs.Refusals.{IsJudged};
-ghost use Rattle.lp_object.specs.Plain.{plain_image};
+ghost use Rattle.lp_object.specs.Plain.{plain_image, plain_object};
 ghost use Rattle.lp_object.specs.Spellable.{SpellsImage};
 
 use crate::lines::{misread, rejected};
@@ -24,15 +28,24 @@ fn bytes_of<F: Folder>(alloc: Global, folder: &mut F, file: &str) -> Result<Vec<
     read_file(alloc, folder, file, MAX_IMAGE_BYTES, Limit::Image)
 }
 
+fn is_named(object: &Object, name: &str) -> bool
+    ensures { result ≡ true → object.now.name.items ≡ name.now }
+{
+    object.name.as_slice() == name.as_bytes()
+}
+
 // The object of the module of this name, which these bytes of its file spell.
 fn judged_object(alloc: Global, file: &str, name: &str, bytes: &[u8]) -> Result<Object, Refusal>
-    ensures { IfErr result IsJudged }
+    ensures judged { IfErr result IsJudged }
+    ensures named { IfOk result (λ object. object.name.items ≡ name.now) }
+    ensures spelled { IfOk result (λ object. bytes.now ≡ spelled_object (plain_object object)) }
+    ensures denotes { IfOk result (λ object. AreShort object.code.records.items → is_some (denote (object_tables object) object.code.records.items) ≡ true) }
 {
     let object = match read_object(alloc, bytes) {
         Ok(object) => object,
         Err(fault) => return Err(misread(alloc, file.as_bytes(), fault)),
     };
-    if object.name.as_slice() != name.as_bytes() {
+    if !is_named(&object, name) {
         return Err(said_of(alloc, file.as_bytes(), b"name differs"));
     }
     match verify_object(alloc, &object) {
@@ -44,7 +57,9 @@ fn judged_object(alloc: Global, file: &str, name: &str, bytes: &[u8]) -> Result<
 /// The object of a module, from its file `NAME.lpo`. The refusals, in their order: the file cannot be read, is not there or is too long; its bytes are
 /// none of an object; its name differs; its code denotes nothing.
 pub fn open_object<F: Folder>(alloc: Global, folder: &mut F, name: &str) -> Result<Object, Refusal>
-    ensures { Looked F.read_faults F.misses F.overs F.write_faults F.held folder.old folder.new (refusal_of result) }
+    ensures looked { Looked F.read_faults F.misses F.overs F.write_faults F.held folder.old folder.new (refusal_of result) }
+    ensures named { IfOk result (λ object. object.name.items ≡ name.now) }
+    ensures held { IfOk result (IsHeldObject (F.held folder.old)) }
 {
     let file = file_name(alloc, name, ".lpo")?;
     let bytes = bytes_of(alloc, folder, file.as_str())?;

@@ -1,5 +1,5 @@
-use Rattle.lp_files.proofs.Making.{image_is}
+use Rattle.lp_files.proofs.Linking.{spells_linked}
 use Rattle.lp_files.proofs.link.linked_bytes.Goals as goal
 
 pub returns-clause-image : goal.returns-clause-image
-returns-clause-image c = image_is _ c.image_bytes.result c.image_bytes.ensures.spelled
+returns-clause-image c = spells_linked c.args.objects.now c.in_ok-image.image c.image_bytes.result c.in_ok-image.ensures.linked c.image_bytes.ensures.spelled

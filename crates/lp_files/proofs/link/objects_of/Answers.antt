@@ -1,6 +1,7 @@
 use Rattle.std.proofs.Common.{Err}
 use Rattle.lp_lines.specs.declared.refusal.Refusal.{Refusal}
 use Rattle.lp_lines.proofs.Looking.{looked_then, looked_passed, looked_judged, text_is_judged}
+use Rattle.lp_files.proofs.Linking.{first_held, first_named, more_held, more_named}
 use Rattle.lp_files.proofs.link.objects_of.Goals as goal
 
 pub returns-in_err-read-clause-looked : goal.returns-in_err-read-clause-looked
@@ -9,3 +10,22 @@ returns-in_err-read-clause-looked g c =
 
 pub returns-in-Some-2-clause-looked : goal.returns-in-Some-2-clause-looked
 returns-in-Some-2-clause-looked g c = looked_judged {T = Refusal} (Err c.limited.result) c.loop-number.invariant.looked (text_is_judged c.limited.result c.limited.ensures.refusal)
+
+pub loop-number-init : goal.loop-number-init
+loop-number-init g c = record {
+  looked = c.in_ok-object.ensures.looked;
+  some = c.in_ok-take.ensures.some;
+  held = first_held (g.F.Folder.held c.args.folder.now) c.new-reading.result.objects.items c.take.new.self.objects.items c.in_ok-object.object
+      c.new-reading.ensures c.in_ok-take.ensures.pushed c.in_ok-object.ensures.held;
+  first = first_named c.args.root.now c.new-reading.result.objects.items c.take.new.self.objects.items c.in_ok-object.object c.new-reading.ensures
+      c.in_ok-take.ensures.pushed c.in_ok-object.ensures.named;
+}
+
+pub loop-number-preserved : goal.loop-number-preserved
+loop-number-preserved g c = record {
+  looked = looked_then c.loop-number.invariant.looked c.in_ok-read.ensures.looked;
+  some = c.in_ok-read.ensures.some;
+  held = more_held (g.F.Folder.held c.args.folder.now) (g.F.Folder.held c.loop-number.folder) c.loop-number.reading.objects.items
+      c.read.new.self.objects.items c.loop-number.invariant.looked.same c.in_ok-read.ensures.more c.loop-number.invariant.held;
+  first = more_named c.args.root.now (g.F.Folder.held c.loop-number.folder) c.loop-number.reading.objects.items c.read.new.self.objects.items c.in_ok-read.ensures.more c.loop-number.invariant.first;
+}

@@ -1,9 +1,12 @@
 use Rattle.std.specs.Prelude.{◌<◌, None, length}
 use Rattle.lp_lines.specs.Looked.{Looked}
+use Rattle.lp_files.specs.Made.{AreHeldObjects, BeginsNamed}
 use Rattle.lp_files.proofs.link.objects_of.Given as goal
 
 abbrev pub invariant-loop-number : goal.invariant-loop-number
 invariant-loop-number g l = record {
   looked : Looked g.F.Folder.read_faults g.F.Folder.misses g.F.Folder.overs g.F.Folder.write_faults g.F.Folder.held l.fn.folder l.folder None;
   some : 0 < length l.reading.objects.items;
+  held : AreHeldObjects (g.F.Folder.held l.fn.folder) l.reading.objects.items;
+  first : BeginsNamed l.root l.reading.objects.items;
 }

@@ -1,0 +1,68 @@
+-- The image that is linked from the objects of a folder.
+use Rattle.std.specs.Global.{Global}
+use Rattle.std.proofs.Common.{◌≡◌, ◌∙◌, ◌++◌, ◌∷◌, [], ◌&&◌, ℕ, Bool, true, false, List, Option, ap, refl, sym, subst}
+use Rattle.std.specs.Prelude.{Vec, Result, Ok, Err, IfOk, nat_eq, is_some, codes}
+use Rattle.std.specs.Cmp.Lexicographic.{pointwise}
+use Rattle.std.proofs.lemmas.Bool.{eqb-true}
+use Rattle.lp_lemmas.proofs.Elements.{All_pushed, All_empty}
+use Rattle.lp_base.specs.Held.{Held}
+use Rattle.lp_code.specs.declared.object.Object.{Object}
+use Rattle.lp_code.specs.declared.image.Image.{Image}
+use Rattle.lp_code.specs.Denote.{denote}
+use Rattle.lp_code.specs.Naming.{object_tables}
+use Rattle.lp_verify.specs.Judged.{AreShort}
+use Rattle.lp_object.specs.Files.{spelled_image, spelled_object}
+use Rattle.lp_object.specs.Plain.{plain_image, plain_object}
+use Rattle.lp_build.specs.Told.{IsTold}
+use Rattle.lp_link.specs.Linked.{IsLinked}
+use Rattle.lp_lines.specs.declared.refusal.Refusal.{Refusal}
+use Rattle.lp_files.specs.Made.{IsHeldObject, AreHeldObjects, BeginsNamed, SpellsLinked, IsImageLinked}
+use Rattle.lp_files.specs.inner.Objects.{AreMore}
+
+-- texts of the same bytes
+pub same_bytes : (xs ys : List ℕ) → pointwise nat_eq xs ys ≡ true → xs ≡ ys
+same_bytes [] [] e = refl
+same_bytes [] (y ∷ ys) e = absurd (let z : false ≡ true = e in cc)
+same_bytes (x ∷ xs) [] e = absurd (let z : false ≡ true = e in cc)
+same_bytes (x ∷ xs) (y ∷ ys) e = by (nat_eq x y) refl (same_bytes xs ys) e
+  where
+    by : (b : Bool) → nat_eq x y ≡ b → (pointwise nat_eq xs ys ≡ true → xs ≡ ys) → (b && pointwise nat_eq xs ys) ≡ true → x ∷ xs ≡ y ∷ ys
+    by true q go h = λ i. eqb-true x y q i ∷ go h i
+    by false q go h = absurd (let z : false ≡ true = h in cc)
+
+-- the object that a file holds
+pub object_held : (told : Option Held) (name file slice bytes : List ℕ) (r : Result Object Refusal) → file ≡ name ++ codes ".lpo" → slice ≡ bytes → IsTold told file bytes → IfOk r (λ o. o.name.items ≡ name)
+    → IfOk r (λ o. slice ≡ spelled_object (plain_object o)) → IfOk r (λ o. AreShort o.code.records.items → is_some (denote (object_tables o) o.code.records.items) ≡ true) → IfOk r (IsHeldObject told)
+object_held told name file slice bytes (Ok o) f s there named spelled denotes = record {
+  bytes = bytes;
+  there = subst (λ w. IsTold told w bytes) (f ∙ ap (λ n. n ++ codes ".lpo") (sym named)) there;
+  spelled = sym s ∙ spelled;
+  denotes = denotes;
+}
+object_held told name file slice bytes (Err e) f s there named spelled denotes = tt
+
+-- one more object
+pub more_held : (told now : Option Held) (old new : List Object) → now ≡ told → AreMore now old new → AreHeldObjects told old → AreHeldObjects told new
+more_held told now old new same (o, is, held) all = All_pushed (IsHeldObject told) new old o is all (subst (λ t. IsHeldObject t o) same held)
+
+pub more_named : (name : List ℕ) (told : Option Held) (old new : List Object) → AreMore told old new → BeginsNamed name old → BeginsNamed name new
+more_named name told old new (o, is, held) (first, more, begins, named) = (first, more ++ o ∷ [], is ∙ ap (λ l. l ++ o ∷ []) begins, named)
+
+-- the first object
+pub first_held : (told : Option Held) (old new : List Object) (o : Object) → old ≡ [] → new ≡ old ++ o ∷ [] → IsHeldObject told o → AreHeldObjects told new
+first_held told old new o none is held = All_pushed (IsHeldObject told) new old o is (All_empty (IsHeldObject told) old none) held
+
+pub first_named : (name : List ℕ) (old new : List Object) (o : Object) → old ≡ [] → new ≡ old ++ o ∷ [] → o.name.items ≡ name → BeginsNamed name new
+first_named name old new o none is named = (o, [], is ∙ ap (λ l. l ++ o ∷ []) none, named)
+
+-- the bytes of the image
+pub spells_linked : (os : List Object) (image : Image) (r : Result (Vec ℕ Global) Refusal) → IsLinked os 0 image → IfOk r
+    (λ bytes. bytes.items ≡ spelled_image (plain_image image)) → IfOk r (λ bytes. SpellsLinked os bytes.items)
+spells_linked os image (Ok bytes) linked h = (image, linked, h)
+spells_linked os image (Err e) linked h = tt
+
+pub image_linked : (told : Option Held) (name : List ℕ) (os slice : List Object) (r : Result (Vec ℕ Global) Refusal) → slice ≡ os → BeginsNamed name
+    os → AreHeldObjects told os → IfOk r (λ bytes. SpellsLinked slice bytes.items)
+    → IfOk r (λ bytes. IsImageLinked told name bytes.items)
+image_linked told name os slice (Ok bytes) same first held h = record { objects = os; first = first; held = held; spells = subst (λ l. SpellsLinked l bytes.items) same h }
+image_linked told name os slice (Err e) same first held h = tt
