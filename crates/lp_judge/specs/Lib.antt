@@ -4,4 +4,4 @@ pub mod Judged
 pub mod Checked
 pub mod Proved
 pub mod Proofs
-mod inner
+pub mod inner
