@@ -99,7 +99,7 @@ module _ {F K : Type 0} {rf ms ov wf : F → ℕ} {held : F → Option Held} {fa
   pub does_session : (name : List ℕ) (options : Options) (result : Status) → Ran rf ms ov written a b o p result → KeepsFiles wf held faults a b o p
       result → Does rf ms ov wf held faults written (session name options) a b o p result
   does_session name options result r k =
-      does_beyond (session name options) result (λ h. refl) r (λ e query is. absurd (cc)) (λ no. k) (λ command name' is. absurd (cc)) (λ name' query options' is. absurd (cc))
+      does_beyond (session name options) result (λ h. refl) r (λ e query is. absurd (cc)) (λ no. k) (λ command name' is. absurd (cc)) (λ name' query options' is. absurd (cc)) tt
 
   -- judgements
   pub does_lambda : (name query : List ℕ) (result : Status) → Ran rf ms ov written a b o p result → KeepsFiles wf held faults a b o p result

@@ -151,9 +151,9 @@ module _ (told now : Option Held) (before after : Option (List ℕ)) (result : S
 
 no_file_of : (said result : Status) → has_file said ≡ false → (result ≢ variant.WriteFault → result ≡ said) → has_file result ≡ true → ⊥
 unfolding has_file
-no_file_of said result no kept f = elim (is_fault result) [
+no_file_of said result none kept f = elim (is_fault result) [
   | inl e ↦ let h : true ≡ false = sym f ∙ ap has_file e in cc
-  | inr n ↦ let h : true ≡ false = sym f ∙ ap has_file (kept n) ∙ no in cc
+  | inr n ↦ let h : true ≡ false = sym f ∙ ap has_file (kept n) ∙ none in cc
 ]
 
 pub fulfils_usage : (told now : Option Held) (before after : Option (List ℕ)) (result : Status) →
