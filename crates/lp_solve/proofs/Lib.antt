@@ -3,4 +3,8 @@ mod Loading
 pub mod Orders
 mod Progress
 mod Searched
+mod Telling
+mod Refused
+mod Naming
+mod Beyond
 mod Texts

@@ -6,3 +6,6 @@ pub mod Pieces
 pub mod Prepared
 pub mod Schemes
 pub mod Sources
+pub mod Shown
+pub mod Events
+pub mod Solved

@@ -1,5 +1,5 @@
 -- The declared types of a program: those of its constants, and of the names that queries see.
-use Rattle.std.specs.Prelude.{◌≡◌, ℕ, List, map, Contains, Some, slice_get}
+use Rattle.std.specs.Prelude.{◌≡◌, List, Contains, Some, slice_get}
 use Rattle.lp_calculus.specs.Typing.{Scheme}
 use Rattle.lp_term.specs.Mapped.{mapped_type}
 use Rattle.lp_lemmas.specs.Each.{EachOf}

@@ -1,6 +1,5 @@
 -- The clauses of the program of texts, and a query on it, as plain formulas.
-use Rattle.std.specs.Prelude.{List, map, length, ℕ}
-use Rattle.lp_calculus.specs.Types.{Ty}
+use Rattle.std.specs.Prelude.{List, map}
 use Rattle.lp_term.specs.Nodes.{Nodes, tree, type_tree}
 use Rattle.lp_model.specs.Answers.{Query}
 use Rattle.lp_model.specs.Flatten.{ClauseFormula}

@@ -1,44 +1,67 @@
 // The search of a query of the whole language, and the writing of its answers.
-ghost use Rattle.std.specs.Prelude.{◌≡◌, ◌≢◌, length, true};
+ghost use Rattle.std.specs.Prelude.{◌≡◌, ◌≢◌, ◌++◌, ℕ, List, length, true, IfOk};
 ghost use Rattle.lp_base.specs.Counts.{Counts};
 ghost use Rattle.lp_build.specs.Told.{AreKnown};
-ghost use Rattle.lp_lines.specs.Ends.{Grows, KeepsFiles, Ran};
-ghost use Rattle.lp_lines.specs.Lines.{is_of_search};
+ghost use Rattle.lp_lines.specs.Ends.{KeepsFiles, Ran};
+ghost use Rattle.lp_lines.specs.Lines.{ending_line, is_of_search};
 ghost use Rattle.lp_load.specs.Placed.{WritesPlaced};
 ghost use Rattle.lp_plain.specs.Held.{variables_of};
+ghost use Rattle.lp_solve.specs.Events.{Ends, IsPiece, IsTold};
 ghost use Rattle.lp_solve.specs.Prepared.{IsPrepared};
+ghost use Rattle.lp_solve.specs.Shown.{constants_in, names_in};
+ghost use Rattle.lp_solve.specs.Solved.{BeginsLast, BeginsSearch, BeginsSolved, MayReport, WritesLast, WritesSearch, WritesSolved};
 
 use crate::piece::Piece;
 use crate::prepare::{Prepared, Question, prepare};
 use crate::shown::Shown;
 use lp_base::{Folder, Memory, Sink, Status};
-use lp_lines::{ending, refuse, say_memory, status, tell};
+use lp_lines::{Refusal, ending, refuse, status, tell};
 use lp_model::{Ending, Event};
 use lp_plain::Search;
 use lp_term::TermRefusal;
 use lp_watch::{Crowd, Watch};
 use std::alloc::Global;
 
-// What the search tells next, where so many answers were given.
+// The next event of a search.
+fn next_event<W: Watch>(search: &mut Search, crowd: &mut Crowd<'_, W>) -> Result<Event, Memory>
+    ensures { IfOk result (λ event. IsTold search.old event search.new) }
+{
+    search.next(crowd)
+}
+
+// What the search tells next, which is the answer of this number where it is one.
 fn next_piece<W: Watch>(
     alloc: Global,
     shown: &Shown,
     search: &mut Search,
     crowd: &mut Crowd<'_, W>,
-    before: u64,
+    number: u64,
 ) -> Result<Piece, Memory>
     requires { variables_of search.old ≡ length shown.now.names.items }
-    ensures { variables_of search.new ≡ variables_of search.old }
+    ensures { IfOk result (λ piece. IsPiece (constants_in shown.now) (names_in shown.now) number search.old piece search.new) }
 {
-    match search.next(crowd)? {
+    match next_event(search, crowd)? {
         Event::Ended(why) => Ok(Piece::Over(why)),
-        Event::Answer(mut answer) => {
-            match shown.answer(alloc, before.saturating_add(1), &mut answer) {
-                Ok(lines) => Ok(Piece::Answer(lines)),
-                Err(TermRefusal::Deep(_)) => Ok(Piece::Over(Ending::Deep)),
-                Err(TermRefusal::Memory) => Err(Memory),
-            }
-        }
+        Event::Answer(mut answer) => match shown.answer(alloc, number, &mut answer) {
+            Ok(lines) => Ok(Piece::Answer(lines)),
+            Err(TermRefusal::Deep(_)) => Ok(Piece::Over(Ending::Deep)),
+            Err(TermRefusal::Memory) => Err(Memory),
+        },
+    }
+}
+
+// The reports of those who watch.
+fn reports_of<W: Watch>(
+    alloc: Global,
+    watched: bool,
+    crowd: &Crowd<'_, W>,
+) -> Result<Vec<u8>, Memory>
+    ensures { IfOk result (λ text. MayReport watched text.items) }
+{
+    if watched {
+        crowd.reports()
+    } else {
+        Ok(Vec::new(alloc))
     }
 }
 
@@ -46,53 +69,78 @@ fn next_piece<W: Watch>(
 fn last_text<W: Watch>(
     alloc: Global,
     why: Ending,
+    watched: bool,
     crowd: &Crowd<'_, W>,
-) -> Result<Vec<u8>, Memory> {
+) -> Result<Vec<u8>, Memory>
+    ensures { IfOk result (λ text. (reports : List ℕ) × MayReport watched reports × (text.items ≡ ending_line why ++ reports)) }
+{
     let mut text = ending(why).as_bytes().to_vec(alloc)?;
-    text.extend_from_slice(&crowd.reports()?)?;
+    let reports = reports_of(alloc, watched, crowd)?;
+    text.extend_from_slice(&reports)?;
     Ok(text)
+}
+
+// Writes how a search ended.
+fn write_end<K: Sink, W: Watch>(
+    alloc: Global,
+    why: Ending,
+    watched: bool,
+    crowd: &Crowd<'_, W>,
+    out: &mut K,
+) -> Status
+    ensures writes { (ns : List (List ℕ)) (s : Search) → Ends ns s why → result ≢ Status.WriteFault → WritesLast ns watched s result (K.written out.old) (K.written out.new) }
+    ensures begins { (ns : List (List ℕ)) (s : Search) → Ends ns s why → result ≡ Status.WriteFault → BeginsLast ns watched s (K.written out.old) (K.written out.new) }
+    ensures of_search { result ≢ Status.WriteFault → is_of_search result ≡ true }
+    ensures write_faults { Counts (result ≡ Status.WriteFault) (K.faults out.old) (K.faults out.new) }
+{
+    match last_text(alloc, why, watched, crowd) {
+        Ok(text) => refuse(out, text, status(why)),
+        Err(Memory) => tell(out, Refusal::Memory),
+    }
 }
 
 // Writes each answer as it is found, and then the last line.
 fn write_answers<K: Sink, W: Watch>(
     alloc: Global,
     prepared: Prepared,
+    watched: bool,
     crowd: &mut Crowd<'_, W>,
     out: &mut K,
 ) -> Status
     requires { IsPrepared prepared }
-    ensures grows { Grows (K.written out.old) (K.written out.new) }
+    ensures writes { result ≢ Status.WriteFault → WritesSearch (constants_in prepared.shown) (names_in prepared.shown) watched prepared.search result (K.written out.old) (K.written out.new) }
+    ensures begins { result ≡ Status.WriteFault → BeginsSearch (constants_in prepared.shown) (names_in prepared.shown) watched prepared.search (K.written out.old) (K.written out.new) }
     ensures of_search { result ≢ Status.WriteFault → is_of_search result ≡ true }
     ensures write_faults { Counts (result ≡ Status.WriteFault) (K.faults out.old) (K.faults out.new) }
 {
     let mut search = prepared.search;
     for before in 0..u64::MAX {
-        match next_piece(alloc, &prepared.shown, &mut search, crowd, before) {
-            Err(Memory) => return say_memory(out),
-            Ok(Piece::Over(why)) => match last_text(alloc, why, crowd) {
-                Ok(text) => return refuse(out, text, status(why)),
-                Err(Memory) => return say_memory(out),
-            },
+        match next_piece(alloc, &prepared.shown, &mut search, crowd, before + 1) {
+            Err(Memory) => return tell(out, Refusal::Memory),
+            Ok(Piece::Over(why)) => return write_end(alloc, why, watched, crowd, out),
             Ok(Piece::Answer(lines)) => match out.put(&lines) {
                 Ok(()) => {}
                 Err(_) => return Status::WriteFault,
             },
         }
     }
-    say_memory(out)
+    tell(out, Refusal::Memory)
 }
 
 /// Loads a module, of which these files are known, searches for the answers of a query on it, and writes them, each as it is found. Behind the last
-/// line stand the reports of the watchers, who have each note of the search; one that is done is taken out of the list. Of a refusal its line is
-/// written.
+/// line stand the reports of the watchers, where they watch, who have each note of the search; one that is done is taken out of the list. Of a refusal
+/// its line is written.
 pub fn solve<F: Folder, K: Sink, W: Watch>(
     alloc: Global,
     question: Question<'_>,
     known: Vec<(String, Vec<u8>)>,
+    watched: bool,
     folder: &mut F,
     out: &mut K,
     watchers: &mut Vec<W>,
 ) -> Status
+    ensures writes { AreKnown (F.held folder.old) known.items → result ≢ Status.WriteFault → WritesSolved (F.held folder.old) question.entry.name.now question.entry.query.now watched result (K.written out.old) (K.written out.new) }
+    ensures begins { AreKnown (F.held folder.old) known.items → result ≡ Status.WriteFault → BeginsSolved (F.held folder.old) question.entry.name.now question.entry.query.now watched (K.written out.old) (K.written out.new) }
     ensures ran { Ran F.read_faults F.misses F.overs K.written folder.old folder.new out.old out.new result }
     ensures keeps { KeepsFiles F.write_faults F.held K.faults folder.old folder.new out.old out.new result }
     ensures placed { AreKnown (F.held folder.old) known.items → result ≡ Status.Source → WritesPlaced (F.held folder.old) question.entry.query.now (K.written out.old) (K.written out.new) }
@@ -100,7 +148,7 @@ pub fn solve<F: Folder, K: Sink, W: Watch>(
     match prepare(alloc, question, known, folder) {
         Ok(prepared) => {
             let mut crowd = Crowd::new(alloc, watchers);
-            write_answers(alloc, prepared, &mut crowd, out)
+            write_answers(alloc, prepared, watched, &mut crowd, out)
         }
         Err(refusal) => tell(out, refusal),
     }

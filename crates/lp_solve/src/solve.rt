@@ -1,10 +1,12 @@
 // The answers of a query without options.
-ghost use Rattle.std.specs.Prelude.{◌≡◌, ◌≢◌, ◌⊎◌, IfSome, false};
+ghost use Rattle.std.specs.Prelude.{◌≡◌, ◌≢◌, ◌⊎◌, IfSome, Some, false};
+ghost use Rattle.lp_base.specs.Held.{Held};
 ghost use Rattle.lp_build.specs.Told.{AreKnown};
 ghost use Rattle.lp_lines.specs.Ends.{KeepsFiles, Ran};
 ghost use Rattle.lp_load.specs.Placed.{WritesPlaced};
 ghost use Rattle.lp_solve.specs.Ends.{BeginsQueryFault, Writes, WritesPrefix, WritesQueryFault};
-ghost use Rattle.lp_solve.specs.Order.{order_of};
+ghost use Rattle.lp_solve.specs.Order.{Beyond, order_of};
+ghost use Rattle.lp_solve.specs.Solved.{BeginsSolved, WritesSolved};
 
 use crate::answers::solve;
 use crate::first::answer::answer;
@@ -18,7 +20,8 @@ use std::alloc::Global;
 
 // The question of a query without options.
 fn plain<'a>(name: &'a str, query: &'a str) -> Question<'a>
-    ensures { result.query.now ≡ query.now }
+    ensures query { result.query.now ≡ query.now }
+    ensures name { result.name.now ≡ name.now }
 {
     Question {
         name,
@@ -36,12 +39,14 @@ fn solve_known<F: Folder, K: Sink>(
     folder: &mut F,
     out: &mut K,
 ) -> Status
+    ensures writes { AreKnown (F.held folder.old) known.items → result ≢ Status.WriteFault → WritesSolved (F.held folder.old) question.entry.name.now question.entry.query.now false result (K.written out.old) (K.written out.new) }
+    ensures begins { AreKnown (F.held folder.old) known.items → result ≡ Status.WriteFault → BeginsSolved (F.held folder.old) question.entry.name.now question.entry.query.now false (K.written out.old) (K.written out.new) }
     ensures ran { Ran F.read_faults F.misses F.overs K.written folder.old folder.new out.old out.new result }
     ensures keeps { KeepsFiles F.write_faults F.held K.faults folder.old folder.new out.old out.new result }
     ensures placed { AreKnown (F.held folder.old) known.items → result ≡ Status.Source → WritesPlaced (F.held folder.old) question.entry.query.now (K.written out.old) (K.written out.new) }
 {
     let mut nobody: Vec<Counter> = Vec::new(alloc);
-    solve(alloc, question, known, folder, out, &mut nobody)
+    solve(alloc, question, known, false, folder, out, &mut nobody)
 }
 
 /// Answers a query with options, as one of the whole language, within its limits. The watchers have the notes of the search where `watch` says so, and
@@ -54,6 +59,8 @@ pub fn solve_within<F: Folder, K: Sink, W: Watch>(
     out: &mut K,
     watchers: &mut Vec<W>,
 ) -> Status
+    ensures writes { result ≢ Status.WriteFault → WritesSolved (F.held folder.old) question.entry.name.now question.entry.query.now watch result (K.written out.old) (K.written out.new) }
+    ensures begins { result ≡ Status.WriteFault → BeginsSolved (F.held folder.old) question.entry.name.now question.entry.query.now watch (K.written out.old) (K.written out.new) }
     ensures ran { Ran F.read_faults F.misses F.overs K.written folder.old folder.new out.old out.new result }
     ensures keeps { KeepsFiles F.write_faults F.held K.faults folder.old folder.new out.old out.new result }
     ensures placed { result ≡ Status.Source → WritesPlaced (F.held folder.old) question.entry.query.now (K.written out.old) (K.written out.new) }
@@ -61,7 +68,7 @@ pub fn solve_within<F: Folder, K: Sink, W: Watch>(
 {
     let unknown = Vec::new(alloc);
     if watch {
-        solve(alloc, question, unknown, folder, out, watchers)
+        solve(alloc, question, unknown, true, folder, out, watchers)
     } else {
         solve_known(alloc, question, unknown, folder, out)
     }
@@ -82,6 +89,8 @@ pub fn solve_plain<F: Folder, K: Sink>(
     ensures prefix { result ≡ Status.WriteFault
         → IfSome (F.held folder.old) (λ held. WritesPrefix (order_of name.now query.now held) (K.written out.old) (K.written out.new)
         ⊎ BeginsQueryFault (F.held folder.old) name.now query.now (K.written out.old) (K.written out.new)) }
+    ensures writes { (held : Held) → F.held folder.old ≡ Some held → order_of name.now query.now held ≡ Beyond → result ≢ Status.WriteFault → WritesSolved (F.held folder.old) name.now query.now false result (K.written out.old) (K.written out.new) }
+    ensures begins { (held : Held) → F.held folder.old ≡ Some held → order_of name.now query.now held ≡ Beyond → result ≡ Status.WriteFault → BeginsSolved (F.held folder.old) name.now query.now false (K.written out.old) (K.written out.new) }
     ensures read_fault { result ≡ Status.ReadFault → WritesQueryFault (F.held folder.old) name.now query.now (K.written out.old) (K.written out.new) }
     ensures placed { result ≡ Status.Source → WritesPlaced (F.held folder.old) query.now (K.written out.old) (K.written out.new) }
     ensures ran { Ran F.read_faults F.misses F.overs K.written folder.old folder.new out.old out.new result }

@@ -1,6 +1,6 @@
 -- A formula closed by `pi` over its variables.
-use Rattle.std.proofs.Common.{◌≡◌, ℕ, suc, ◌<◌, List, [], ◌∷◌, map, length, refl, sym, ap, ◌∙◌, subst, Some, arith}
-use Rattle.lp_calculus.specs.Types.{Ty, arrow, var, con, no_types}
+use Rattle.std.proofs.Common.{◌≡◌, ℕ, List, [], ◌∷◌, map, length, refl, ap, ◌∙◌, arith}
+use Rattle.lp_calculus.specs.Types.{Ty, arrow}
 use Rattle.lp_calculus.specs.Term.{Term, atom, abs, app, constant}
 use Rattle.lp_calculus.specs.Fill.{Within}
 use Rattle.lp_calculus.specs.Typing.{Typed, o_type, scheme_type}

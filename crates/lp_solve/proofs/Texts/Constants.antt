@@ -1,5 +1,5 @@
 -- The constants of a text that was read are standard ones, or those of the signature.
-use Rattle.std.proofs.Common.{◌≡◌, ℕ, suc, ◌<◌, ◌≤◌, List, [], ◌∷◌, ◌++◌, map, length, refl, sym, ap, ◌∙◌, subst, Option, Some, None, Bool, true, false, inl, inr, arith}
+use Rattle.std.proofs.Common.{◌≡◌, ℕ, ◌≤◌, List, [], ◌∷◌, ◌++◌, map, length, refl, sym, ap, ◌∙◌, subst, Option, Some, None, Bool, true, false, inl, inr, arith}
 use Rattle.std.specs.Prelude.{if◌then◌else◌, ◌⊎◌, ◌&&◌, nat_lt, Contains, find, option_map}
 use Rattle.std.specs.Str.{bytes_eq}
 use Rattle.std.proofs.lemmas.Bool.{ltb-true, ltb-false}
@@ -18,7 +18,7 @@ use Rattle.lp_sig.specs.Places.{first_place}
 use Rattle.lp_sig.specs.Rows.{Row, found, number_row}
 use Rattle.lp_sig.specs.Standard.{standard_constants}
 use Rattle.lp_infer.specs.Typing.{Raw, raw_index, raw_constant, raw_integer, raw_text, raw_abs, raw_app}
-use Rattle.lp_infer.specs.Texts.{Notes, is_blank, variable_index, string_bytes, entry_scheme, constant_scheme, Read, read_constant, read_number, read_variable, read_free, read_bound, read_name, read_leaf, Reads, leaf, application, abstraction}
+use Rattle.lp_infer.specs.Texts.{Notes, is_blank, variable_index, string_bytes, entry_scheme, Read, read_constant, read_number, read_variable, read_free, read_bound, read_name, read_leaf, Reads, leaf, application, abstraction}
 
 -- a constant with its declared type: a standard one, or one of the signature
 abbrev pub IsConstantOf : Signature → ℕ → Scheme → Type 0

@@ -1,14 +1,12 @@
 -- A formula that a text elaborates to is typed, with its kinds and constants renumbered.
-use Rattle.std.proofs.Common.{◌≡◌, ℕ, zero, suc, ◌<◌, ◌≤◌, List, [], ◌∷◌, map, length, refl, sym, ap, ◌∙◌, subst, Option, Some, None, arith}
-use Rattle.std.specs.Prelude.{nat_eq, if◌then◌else◌, slice_get}
+use Rattle.std.proofs.Common.{◌≡◌, ℕ, zero, suc, ◌<◌, List, [], ◌∷◌, map, length, refl, sym, ap, ◌∙◌, subst, Option, Some, None, arith}
+use Rattle.std.specs.Prelude.{if◌then◌else◌}
 use Rattle.std.proofs.lemmas.Bool.{eq-eqb}
 use Rattle.std.proofs.lemmas.List.{length-map}
-use Rattle.std.proofs.lemmas.Option.{slice_get_within}
 use Rattle.lp_lemmas.proofs.Lists.{get_map}
 use Rattle.lp_calculus.specs.Types.{Ty, Tys, var, param, con, arrow, no_types, types, instance, instances}
-use Rattle.lp_calculus.specs.Term.{Term, Atom, index, atom, abs, app, constant, integer, text, eigen, logic}
-use Rattle.lp_calculus.specs.Term as term
-use Rattle.lp_calculus.specs.Typing.{Scheme, Typed, scheme_type, o_type, int_type, string_type, type_at}
+use Rattle.lp_calculus.specs.Term.{Term, atom, constant, integer, text}
+use Rattle.lp_calculus.specs.Typing.{Scheme, Typed, scheme_type, type_at}
 use Rattle.lp_term.specs.Mapped.{Map, mapped_type, mapped_types, mapped}
 use Rattle.lp_model.specs.Proofs.{Declared, under}
 use Rattle.lp_infer.specs.Typing.{Raw, raw_index, raw_constant, raw_integer, raw_text, raw_abs, raw_app, Elaborates}

@@ -1,16 +1,16 @@
 -- A formula of which no part is amiss has the form of a goal or of a clause, by so many levels.
-use Rattle.std.proofs.Common.{◌≡◌, ℕ, zero, suc, ◌+◌, ◌<◌, ◌≤◌, List, [], ◌∷◌, ◌++◌, Bool, true, false, refl, sym, ap, ◌∙◌, subst, arith}
+use Rattle.std.proofs.Common.{◌≡◌, ℕ, zero, suc, ◌+◌, ◌<◌, ◌≤◌, List, [], ◌∷◌, Bool, true, false, refl, sym, ap, ◌∙◌, subst, arith}
 use Rattle.std.specs.Prelude.{◌&&◌, not, if◌then◌else◌, nat_eq, nat_lt, Contains, Option}
 use Rattle.lp_lemmas.proofs.Elements.{Contains_head, Contains_tail}
 use Rattle.lp_calculus.specs.Types.{Ty}
-use Rattle.lp_calculus.specs.Term.{Term, Atom, index, atom, abs, app, constant, integer, text, eigen, logic, param, shift, raised}
+use Rattle.lp_calculus.specs.Term.{Term, index, atom, abs, app, constant, integer, text, eigen, logic, param, shift, raised}
 use Rattle.lp_calculus.specs.Typing.{Scheme}
 use Rattle.lp_calculus.specs.Spine.{head_of, arguments, arguments_and}
 use Rattle.lp_standard.specs.Connectives.{Connective, connective_of, connective_at, connective_of_constant, body_of}
 use Rattle.lp_standard.specs.Connectives as connective
 use Rattle.lp_standard.specs.Positive.{is_positive}
 use Rattle.lp_model.specs.Flatten.{is_goal_head, is_clause_head}
-use Rattle.lp_module.specs.Form.{Part, HasNoPart, IsPart, itself, deeper, below, inside, in_goal, parts_by, parts_of, is_in_term, is_other, is_term_by, has_form_by}
+use Rattle.lp_module.specs.Form.{Part, HasNoPart, itself, deeper, below, inside, in_goal, parts_by, parts_of, is_in_term, is_other, is_term_by, has_form_by}
 
 abbrev pub headed : (ℕ → Option Scheme) → (goal : Bool) → List Bool → Term → Bool
 headed d g B h = if g then is_goal_head h else is_clause_head d B h

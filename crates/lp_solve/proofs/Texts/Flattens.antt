@@ -1,10 +1,10 @@
 -- A formula that has its form flattens.
-use Rattle.std.proofs.Common.{◌≡◌, ℕ, zero, suc, ◌+◌, ◌<◌, ◌≤◌, List, [], ◌∷◌, ◌++◌, map, Option, Some, None, Bool, true, false, refl, sym, ap, ◌∙◌, subst, arith}
+use Rattle.std.proofs.Common.{◌≡◌, ℕ, zero, suc, ◌+◌, ◌≤◌, List, [], ◌∷◌, ◌++◌, map, Option, Some, None, Bool, true, false, refl, sym, ap, ◌∙◌, subst, arith}
 use Rattle.std.specs.Prelude.{◌&&◌, not, option_map}
 use Rattle.std.proofs.lemmas.Option.{same_Some}
 use Rattle.lp_lemmas.proofs.Booleans.{and_true_left, and_true_right}
 use Rattle.lp_calculus.specs.Types.{Ty}
-use Rattle.lp_calculus.specs.Term.{Term, Atom, index, atom, abs, app, constant, integer, text, eigen, logic, param, shift}
+use Rattle.lp_calculus.specs.Term.{Term, index, atom, abs, app, constant, shift}
 use Rattle.lp_calculus.specs.Typing.{Scheme}
 use Rattle.lp_calculus.specs.Convert.{leftmost_step, option_term, steps}
 use Rattle.lp_calculus.specs.Spine.{head_of, arguments, arguments_and}
@@ -24,7 +24,7 @@ use Rattle.lp_sig.specs.declared.signature.Signature.{Signature}
 use Rattle.lp_module.specs.Clauses.{AreClauses, IsFormed}
 use Rattle.lp_module.specs.Schemes.{declared_schemes}
 use Rattle.lp_module.specs.Form.{whole}
-use Rattle.lp_solve.proofs.Texts.Fits.{IsGood, atoms, both, fits, fits_by, good_fits}
+use Rattle.lp_solve.proofs.Texts.Fits.{atoms, both, fits, fits_by, good_fits}
 use Rattle.lp_solve.proofs.Texts.Raising.{falses, fits_raised, fits_wider, none_wider, raise_first}
 
 -- what comes to a value with enough depth

@@ -1,10 +1,10 @@
 -- Type variables that are numbered by first place are below their count; renumbering kinds and constants keeps them.
-use Rattle.std.proofs.Common.{◌≡◌, ℕ, suc, ◌<◌, ◌≤◌, List, [], ◌∷◌, ◌++◌, map, length, refl, sym, ap, ◌∙◌, subst, Some, arith, inl, inr}
-use Rattle.std.specs.Prelude.{reverse, ◌⊎◌, slice_get}
+use Rattle.std.proofs.Common.{ℕ, suc, ◌<◌, ◌≤◌, List, [], ◌∷◌, ◌++◌, map, length, sym, subst, arith, inl, inr}
+use Rattle.std.specs.Prelude.{reverse}
 use Rattle.std.proofs.lemmas.Option.{slice_get_within}
 use mathlib.Core.List.{reverse-cons}
 use Rattle.lp_calculus.specs.Types.{Ty, Tys, var, param, con, arrow, no_types, types}
-use Rattle.lp_calculus.specs.Term.{Term, Atom, index, atom, abs, app, constant, integer, text}
+use Rattle.lp_calculus.specs.Term.{Term}
 use Rattle.lp_calculus.specs.Fill.{Within}
 use Rattle.lp_unify_laws.specs.TypesBelow.{IsTypeBelow, AreTysBelow, AreTypesBelow}
 use Rattle.lp_term.specs.Mapped.{Map, mapped_type, mapped_types, mapped}

@@ -1,5 +1,5 @@
 -- The clauses of the program of texts are typed sentences.
-use Rattle.std.proofs.Common.{◌≡◌, ℕ, zero, suc, ◌<◌, ◌≤◌, List, [], ◌∷◌, ◌++◌, map, length, get_or, refl, sym, ap, ◌∙◌, subst, Option, Some, None, Bool, true, inl, inr, arith}
+use Rattle.std.proofs.Common.{◌≡◌, ℕ, zero, suc, ◌<◌, List, [], ◌∷◌, ◌++◌, map, length, get_or, refl, sym, ap, ◌∙◌, subst, Option, Some, None, Bool, true, inl, inr, arith}
 use Rattle.std.specs.Prelude.{reverse, ◌⊎◌, ◌&&◌, nat_lt, slice_get, Contains}
 use Rattle.std.proofs.lemmas.Bool.{ltb-true}
 use Rattle.std.proofs.lemmas.List.{length-map}
@@ -8,10 +8,8 @@ use Rattle.lp_lemmas.specs.Each.{EachOf}
 use Rattle.lp_lemmas.proofs.Booleans.{and_true_left, and_true_right}
 use Rattle.lp_lemmas.proofs.Each.{each_append, each_map}
 use Rattle.lp_calculus.specs.Types.{Ty, Tys, var, param, con, arrow, no_types, types}
-use Rattle.lp_calculus.specs.Term.{Term, atom, logic}
 use Rattle.lp_calculus.specs.Fill.{Within}
 use Rattle.lp_calculus.specs.Typing.{Scheme, Typed, o_type}
-use Rattle.lp_unify_laws.specs.TypesBelow.{AreTypesBelow}
 use Rattle.lp_standard.specs.Schemes.{IsStandard, standard_schemes, entry}
 use Rattle.lp_syntax.specs.declared.text.RawTerm.{RawTerm}
 use Rattle.lp_term.specs.Mapped.{Map, mapped_type, mapped_types, mapped}
@@ -25,7 +23,7 @@ use Rattle.lp_search_laws.specs.Started.{IsQueryAtom, IsTypedSentence}
 use Rattle.lp_sig.specs.declared.entries.ConstantEntry.{ConstantEntry}
 use Rattle.lp_sig.specs.declared.signature.Signature.{Signature}
 use Rattle.lp_infer.specs.Typing.{Raw, raw_index, raw_constant, raw_integer, raw_text, raw_abs, raw_app, term_arguments}
-use Rattle.lp_infer.specs.Numbering.{all_variables, type_variables}
+use Rattle.lp_infer.specs.Numbering.{all_variables}
 use Rattle.lp_infer.specs.Texts.{entry_scheme}
 use Rattle.lp_module.specs.Clauses.{IsClause, AreClauses}
 use Rattle.lp_module.specs.Program.{Copy, Next, CopiesBelow, none_below, one_below, AreCopies, map_of, in_copy, clauses_in, clauses_of}
@@ -34,12 +32,12 @@ use Rattle.lp_build.specs.Meant.{IsModuleAt, AreModules, AreModulesAt, no_module
 use Rattle.lp_build.specs.declared.build.Built.{Built}
 use Rattle.lp_build.specs.declared.sources.Sources.{Sources}
 use Rattle.lp_load.specs.Loaded.{IsBuiltFrom}
-use Rattle.lp_solve.specs.Schemes.{scheme_in, DeclaresCopy}
+use Rattle.lp_solve.specs.Schemes.{DeclaresCopy}
 use Rattle.lp_solve.specs.Sources.{HasTypes, source_clauses}
 use Rattle.lp_solve.proofs.Texts.Closing.{closed_typed, closed_within, closed_moved}
-use Rattle.lp_solve.proofs.Texts.Constants.{IsConstantOf, HasConstants, constants_known}
+use Rattle.lp_solve.proofs.Texts.Constants.{HasConstants, constants_known}
 use Rattle.lp_solve.proofs.Texts.Elaborated.{IsPlain, moved, HaveMoved, elaborated_typed}
-use Rattle.lp_solve.proofs.Texts.Numbers.{AreBelow, numbered_below, all_below, front_types, back_types, turned_types, elaborated_within}
+use Rattle.lp_solve.proofs.Texts.Numbers.{numbered_below, all_below, front_types, back_types, turned_types, elaborated_within}
 
 -- the standard constants, whose types have kinds of the language
 

@@ -1,9 +1,9 @@
 -- A query that is asked on the program of texts is typed.
-use Rattle.std.proofs.Common.{◌≡◌, ℕ, ◌<◌, List, [], ◌∷◌, ◌++◌, map, length, refl, sym, ap, ◌∙◌, subst, Some, arith}
+use Rattle.std.proofs.Common.{◌≡◌, ℕ, List, [], ◌∷◌, ◌++◌, map, length, refl, sym, ap, ◌∙◌, subst, Some}
 use Rattle.std.specs.Prelude.{reverse, Contains}
-use Rattle.std.proofs.lemmas.List.{length-map, length-reverse}
+use Rattle.std.proofs.lemmas.List.{length-reverse}
 use Rattle.lp_calculus.specs.Types.{Ty, Tys, var, param, con, arrow, no_types, types}
-use Rattle.lp_calculus.specs.Term.{Term, Atom, index, atom, abs, app, constant, integer, text, eigen, logic}
+use Rattle.lp_calculus.specs.Term.{Term, index, atom, abs, app, constant, integer, text, eigen, logic}
 use Rattle.lp_calculus.specs.Term as term
 use Rattle.lp_calculus.specs.Fill.{Within}
 use Rattle.lp_calculus.specs.Typing.{Typed, o_type}
@@ -18,7 +18,7 @@ use Rattle.lp_search_laws.specs.Started.{IsQueryAtom, IsTypedQuery}
 use Rattle.lp_sig.specs.declared.entries.ConstantEntry.{ConstantEntry}
 use Rattle.lp_sig.specs.declared.signature.Signature.{Signature}
 use Rattle.lp_infer.specs.Typing.{term_arguments}
-use Rattle.lp_infer.specs.Numbering.{IsTyped, typing_of, all_variables}
+use Rattle.lp_infer.specs.Numbering.{IsTyped, all_variables}
 use Rattle.lp_infer.specs.Texts.{entry_scheme}
 use Rattle.lp_solve.specs.Schemes.{DeclaresSeen}
 use Rattle.lp_solve.specs.Sources.{query_of}

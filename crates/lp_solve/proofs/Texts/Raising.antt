@@ -1,9 +1,9 @@
 -- A formula that has its form has it below one more binder, and where more variables may head clauses.
-use Rattle.std.proofs.Common.{◌≡◌, ℕ, zero, suc, ◌+◌, ◌<◌, ◌≤◌, List, [], ◌∷◌, Bool, true, false, refl, sym, ap, ◌∙◌, subst, arith}
-use Rattle.std.specs.Prelude.{◌&&◌, not, if◌then◌else◌, slice_index_or, Option, nat_lt}
+use Rattle.std.proofs.Common.{◌≡◌, ℕ, zero, suc, List, [], ◌∷◌, Bool, true, false, refl, sym, ap, ◌∙◌, arith}
+use Rattle.std.specs.Prelude.{◌&&◌, not, slice_index_or, Option}
 use Rattle.std.proofs.lemmas.Bool.Decides.{nat_tests}
 use Rattle.lp_lemmas.proofs.Booleans.{and_true_left, and_true_right}
-use Rattle.lp_calculus.specs.Term.{Term, Atom, index, atom, abs, app, constant, integer, text, eigen, logic, param, shift}
+use Rattle.lp_calculus.specs.Term.{Term, index, atom, abs, app, constant, integer, text, eigen, logic, param, shift}
 use Rattle.lp_calculus.specs.Typing.{Scheme}
 use Rattle.lp_calculus.specs.Spine.{head_of}
 use Rattle.lp_calculus.proofs.Plain.{bump, shift-rename}

@@ -2,10 +2,30 @@ use Rattle.lp_lines.proofs.Refusing.{never_write_fault}
 use Rattle.lp_lines.proofs.Running.{keeps_behind, keeps_told, ran_searched, ran_told}
 use Rattle.lp_lines.proofs.Statuses.{not_source}
 use Rattle.lp_load.proofs.Telling.{placed_told}
+use Rattle.lp_solve.specs.Shown.{constants_in, names_in}
+use Rattle.lp_solve.proofs.Refused.{line_begun, line_written, search_begun, search_solved}
+use Rattle.lp_solve.proofs.Telling.{search_written}
 use Rattle.lp_solve.proofs.answers.solve.Goals as goal
 
+pub returns-in-Ok-clause-writes : goal.returns-in-Ok-clause-writes
+returns-in-Ok-clause-writes g c =
+    λ known. search_solved (g.F.Folder.held c.args.folder.now) c.args.question.name.now c.args.question.query.now c.args.watched
+    c.write_answers.result (g.K.Sink.written c.args.out.now) (g.K.Sink.written c.write_answers.new.out)
+    c.in-Ok.prepared (c.in-Ok.ensures.ready known) c.write_answers.ensures.writes
+
+pub returns-in-Ok-clause-begins : goal.returns-in-Ok-clause-begins
+returns-in-Ok-clause-begins g c =
+    λ known. search_begun (g.F.Folder.held c.args.folder.now) c.args.question.name.now c.args.question.query.now c.args.watched c.write_answers.result
+    (g.K.Sink.written c.args.out.now) (g.K.Sink.written c.write_answers.new.out)
+    c.in-Ok.prepared (c.in-Ok.ensures.ready known) c.write_answers.ensures.begins
+
 pub returns-in-Ok-clause-ran : goal.returns-in-Ok-clause-ran
-returns-in-Ok-clause-ran g c = ran_searched c.write_answers.result c.in-Ok.ensures.looked c.write_answers.ensures.grows c.write_answers.ensures.of_search
+returns-in-Ok-clause-ran g c =
+    ran_searched c.write_answers.result c.in-Ok.ensures.looked
+    (search_written (constants_in c.in-Ok.prepared.shown) (names_in c.in-Ok.prepared.shown) c.args.watched c.in-Ok.prepared.search
+    c.write_answers.result (g.K.Sink.written c.args.out.now) (g.K.Sink.written c.write_answers.new.out) c.write_answers.ensures.writes
+    c.write_answers.ensures.begins)
+    c.write_answers.ensures.of_search
 
 pub returns-in-Ok-clause-keeps : goal.returns-in-Ok-clause-keeps
 returns-in-Ok-clause-keeps g c = keeps_behind c.write_answers.result c.in-Ok.ensures.looked c.write_answers.ensures.write_faults
@@ -15,6 +35,18 @@ returns-in-Ok-clause-placed g c = λ known e. absurd (not_source c.write_answers
 
 pub tell-requires : goal.tell-requires
 tell-requires g c = never_write_fault c.in-Err.refusal c.in-Err.ensures.looked.kind
+
+pub returns-in-Err-clause-writes : goal.returns-in-Err-clause-writes
+returns-in-Err-clause-writes g c =
+    λ known. line_written (g.F.Folder.held c.args.folder.now) c.args.question.name.now c.args.question.query.now c.args.watched c.tell.result
+    (g.K.Sink.written c.args.out.now) (g.K.Sink.written c.tell.new.out)
+    c.in-Err.refusal (c.in-Err.ensures.first known) c.tell.ensures.said
+
+pub returns-in-Err-clause-begins : goal.returns-in-Err-clause-begins
+returns-in-Err-clause-begins g c =
+    λ known. line_begun (g.F.Folder.held c.args.folder.now) c.args.question.name.now c.args.question.query.now c.args.watched c.tell.result
+    (g.K.Sink.written c.args.out.now) (g.K.Sink.written c.tell.new.out)
+    c.in-Err.refusal (c.in-Err.ensures.first known) c.tell.ensures.prefix
 
 pub returns-in-Err-clause-ran : goal.returns-in-Err-clause-ran
 returns-in-Err-clause-ran g c = ran_told c.in-Err.refusal c.tell.result c.in-Err.ensures.looked c.tell.ensures.said c.tell.ensures.prefix

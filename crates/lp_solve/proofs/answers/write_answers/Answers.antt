@@ -1,82 +1,102 @@
-use Rattle.std.proofs.Common.{◌≡◌, ◌∙◌, refl, ap, subst, []}
+use Rattle.std.proofs.Common.{◌≡◌, ◌+◌, ◌∙◌, refl, subst, arith}
 use Rattle.lp_base.specs.Counts.{Counts}
+use Rattle.lp_base.specs.Written.{Appends, AppendsPrefix}
 use Rattle.lp_base.specs.declared.status.Status.TheVariants as variant
-use Rattle.lp_lines.specs.Lines.{is_of_search}
-use Rattle.lp_lines.proofs.Appending.{appends_nothing, grows_both, prefix_grows}
 use Rattle.lp_lines.proofs.Counting.{same_count}
-use Rattle.lp_lines.proofs.Refusing.{line_grows}
-use Rattle.lp_lines.proofs.Statuses.{ending_is, said_of_search, memory_of_search, search_not_fault}
+use Rattle.lp_lines.proofs.Statuses.{memory_of_search}
+use Rattle.lp_solve.specs.Events.{IsPiece}
+use Rattle.lp_solve.specs.Shown.{constants_in, names_in}
+use Rattle.lp_solve.proofs.Telling.{cut_in_answer, lacked, lacked_part, none_so_far, one_so_far, searched_part, searched_whole, told_variables}
 use Rattle.lp_solve.proofs.answers.write_answers.Goals as goal
 
 pub loop-before-init : goal.loop-before-init
-loop-before-init g c =
-    (([], appends_nothing (g.K.Sink.written c.args.out.now)), (refl, c.requires))
-
-pub returns-in-Err-clause-grows : goal.returns-in-Err-clause-grows
-returns-in-Err-clause-grows g c =
-    grows_both (g.K.Sink.written c.args.out.now) (g.K.Sink.written c.loop-before.out) (g.K.Sink.written c.say_memory.new.out) c.loop-before.invariant.0 c.say_memory.ensures.grows
-
-pub returns-in-Err-clause-of_search : goal.returns-in-Err-clause-of_search
-returns-in-Err-clause-of_search g c =
-    memory_of_search c.say_memory.result c.say_memory.ensures.said
-
-pub returns-in-Err-clause-write_faults : goal.returns-in-Err-clause-write_faults
-returns-in-Err-clause-write_faults g c =
-    subst (λ n. Counts (c.say_memory.result ≡ variant.WriteFault) n (g.K.Sink.faults c.say_memory.new.out)) c.loop-before.invariant.1.0 c.say_memory.ensures.write_faults
+loop-before-init g c = (refl, none_so_far (constants_in c.args.prepared.shown) (names_in c.args.prepared.shown) c.args.prepared.search (g.K.Sink.written c.args.out.now))
 
 pub next_piece-requires : goal.next_piece-requires
-next_piece-requires g c = c.loop-before.invariant.1.1
+next_piece-requires g c = let so_far = c.loop-before.invariant.1 in told_variables c.args.prepared.search c.loop-before.search so_far.answers so_far.told ∙ c.requires
 
-pub refuse-requires : goal.refuse-requires
-refuse-requires g c =
-    search_not_fault c.status.result (ap is_of_search c.status.ensures ∙ ending_is c.in-Ok-Over.why)
+pub tell-requires : goal.tell-requires
+tell-requires g c = λ e. cc
 
-pub returns-in-Ok-clause-grows : goal.returns-in-Ok-clause-grows
-returns-in-Ok-clause-grows g c =
-    grows_both (g.K.Sink.written c.args.out.now) (g.K.Sink.written c.loop-before.out) (g.K.Sink.written c.refuse.new.out) c.loop-before.invariant.0
-    (line_grows c.refuse.result c.status.result c.in-Ok.text.items (g.K.Sink.written c.loop-before.out) (g.K.Sink.written c.refuse.new.out) c.refuse.ensures.said c.refuse.ensures.prefix)
+pub tell-requires-2 : goal.tell-requires-2
+tell-requires-2 g c = λ e. cc
 
-pub returns-in-Ok-clause-of_search : goal.returns-in-Ok-clause-of_search
-returns-in-Ok-clause-of_search g c =
-    said_of_search c.refuse.result c.status.result (ap is_of_search c.status.ensures ∙ ending_is c.in-Ok-Over.why) (λ n. (c.refuse.ensures.said n).0)
+pub returns-in-Err-clause-writes : goal.returns-in-Err-clause-writes
+returns-in-Err-clause-writes g c =
+    λ no. searched_whole (constants_in c.args.prepared.shown) (names_in c.args.prepared.shown) c.args.prepared.search c.loop-before.search
+    c.loop-before.before (g.K.Sink.written c.args.out.now) (g.K.Sink.written c.loop-before.out) (g.K.Sink.written c.tell.new.out) c.args.watched
+    c.tell.result c.loop-before.invariant.1
+    (lacked (names_in c.args.prepared.shown) c.args.watched c.loop-before.search c.tell.result (g.K.Sink.written c.loop-before.out) (g.K.Sink.written c.tell.new.out) c.tell.ensures.said no)
 
-pub returns-in-Ok-clause-write_faults : goal.returns-in-Ok-clause-write_faults
-returns-in-Ok-clause-write_faults g c =
-    subst (λ n. Counts (c.refuse.result ≡ variant.WriteFault) n (g.K.Sink.faults c.refuse.new.out)) c.loop-before.invariant.1.0 c.refuse.ensures.faults
+pub returns-in-Err-clause-begins : goal.returns-in-Err-clause-begins
+returns-in-Err-clause-begins g c =
+    λ is. searched_part (constants_in c.args.prepared.shown) (names_in c.args.prepared.shown) c.args.prepared.search c.loop-before.search
+    c.loop-before.before (g.K.Sink.written c.args.out.now) (g.K.Sink.written c.loop-before.out) (g.K.Sink.written c.tell.new.out) c.args.watched
+    c.loop-before.invariant.1
+    (lacked_part (names_in c.args.prepared.shown) c.args.watched c.loop-before.search c.tell.result (g.K.Sink.written c.loop-before.out) (g.K.Sink.written c.tell.new.out) c.tell.ensures.prefix is)
 
-pub returns-in-Err-last_text-clause-grows : goal.returns-in-Err-last_text-clause-grows
-returns-in-Err-last_text-clause-grows g c =
-    grows_both (g.K.Sink.written c.args.out.now) (g.K.Sink.written c.loop-before.out) (g.K.Sink.written c.say_memory-in-Err-last_text.new.out) c.loop-before.invariant.0 c.say_memory-in-Err-last_text.ensures.grows
+pub returns-in-Err-clause-of_search : goal.returns-in-Err-clause-of_search
+returns-in-Err-clause-of_search g c = memory_of_search c.tell.result (λ n. (c.tell.ensures.said n).0)
 
-pub returns-in-Err-last_text-clause-of_search : goal.returns-in-Err-last_text-clause-of_search
-returns-in-Err-last_text-clause-of_search g c =
-    memory_of_search c.say_memory-in-Err-last_text.result c.say_memory-in-Err-last_text.ensures.said
+pub returns-in-Err-clause-write_faults : goal.returns-in-Err-clause-write_faults
+returns-in-Err-clause-write_faults g c = subst (λ n. Counts (c.tell.result ≡ variant.WriteFault) n (g.K.Sink.faults c.tell.new.out)) c.loop-before.invariant.0 c.tell.ensures.faults
 
-pub returns-in-Err-last_text-clause-write_faults : goal.returns-in-Err-last_text-clause-write_faults
-returns-in-Err-last_text-clause-write_faults g c =
-    subst (λ n. Counts (c.say_memory-in-Err-last_text.result ≡ variant.WriteFault) n (g.K.Sink.faults c.say_memory-in-Err-last_text.new.out)) c.loop-before.invariant.1.0 c.say_memory-in-Err-last_text.ensures.write_faults
+pub returns-in-Ok-Over-clause-writes : goal.returns-in-Ok-Over-clause-writes
+returns-in-Ok-Over-clause-writes g c =
+    λ no. searched_whole (constants_in c.args.prepared.shown) (names_in c.args.prepared.shown) c.args.prepared.search c.loop-before.search
+    c.loop-before.before (g.K.Sink.written c.args.out.now) (g.K.Sink.written c.loop-before.out) (g.K.Sink.written c.write_end.new.out)
+    c.args.watched c.write_end.result c.loop-before.invariant.1
+    (c.write_end.ensures.writes (names_in c.args.prepared.shown) c.loop-before.search
+    (subst (λ p. IsPiece (constants_in c.args.prepared.shown) (names_in c.args.prepared.shown) (c.loop-before.before + 1) c.loop-before.search p
+    c.next_piece.new.search) c.in-Ok-Over.field-0-is c.in-Ok-Over.ensures) no)
 
-pub returns-in-Err-put-clause-grows : goal.returns-in-Err-put-clause-grows
-returns-in-Err-put-clause-grows g c =
-    grows_both (g.K.Sink.written c.args.out.now) (g.K.Sink.written c.loop-before.out) (g.K.Sink.written c.put.new.self) c.loop-before.invariant.0 (prefix_grows (g.K.Sink.written c.loop-before.out) (g.K.Sink.written c.put.new.self) c.deref.result.now c.in-Err-put.ensures.prefix)
+pub returns-in-Ok-Over-clause-begins : goal.returns-in-Ok-Over-clause-begins
+returns-in-Ok-Over-clause-begins g c =
+    λ is. searched_part (constants_in c.args.prepared.shown) (names_in c.args.prepared.shown) c.args.prepared.search c.loop-before.search
+    c.loop-before.before (g.K.Sink.written c.args.out.now) (g.K.Sink.written c.loop-before.out) (g.K.Sink.written c.write_end.new.out)
+    c.args.watched c.loop-before.invariant.1
+    (c.write_end.ensures.begins (names_in c.args.prepared.shown) c.loop-before.search
+    (subst (λ p. IsPiece (constants_in c.args.prepared.shown) (names_in c.args.prepared.shown) (c.loop-before.before + 1) c.loop-before.search p
+    c.next_piece.new.search) c.in-Ok-Over.field-0-is c.in-Ok-Over.ensures) is)
+
+pub returns-in-Ok-Over-clause-write_faults : goal.returns-in-Ok-Over-clause-write_faults
+returns-in-Ok-Over-clause-write_faults g c = subst (λ n. Counts (c.write_end.result ≡ variant.WriteFault) n (g.K.Sink.faults c.write_end.new.out))
+    c.loop-before.invariant.0 c.write_end.ensures.write_faults
+
+pub returns-in-Err-put-clause-begins : goal.returns-in-Err-put-clause-begins
+returns-in-Err-put-clause-begins g c =
+    λ is. cut_in_answer (constants_in c.args.prepared.shown) (names_in c.args.prepared.shown) c.args.prepared.search c.loop-before.search
+    c.next_piece.new.search c.loop-before.before (c.loop-before.before + 1) (g.K.Sink.written c.args.out.now) (g.K.Sink.written c.loop-before.out)
+    (g.K.Sink.written c.put.new.self) _ c.in-Ok-Answer.lines c.args.watched c.loop-before.invariant.1 (omega arith) c.in-Ok-Answer.field-0-is
+    c.in-Ok-Answer.ensures
+    (subst (λ p. AppendsPrefix (g.K.Sink.written c.loop-before.out) (g.K.Sink.written c.put.new.self) p) c.deref.ensures.value c.in-Err-put.ensures.prefix)
 
 pub loop-before-preserved : goal.loop-before-preserved
 loop-before-preserved g c = (
-  grows_both (g.K.Sink.written c.args.out.now) (g.K.Sink.written c.loop-before.out) (g.K.Sink.written c.put.new.self) c.loop-before.invariant.0 (c.deref.result.now, c.in-Ok-put.ensures.appended),
-  (
-    same_count _ (g.K.Sink.faults c.loop-before.out) (g.K.Sink.faults c.put.new.self) c.in-Ok-put.ensures.faults (λ e. cc) ∙ c.loop-before.invariant.1.0,
-    c.next_piece.ensures ∙ c.loop-before.invariant.1.1,
-  ),
+  same_count _ (g.K.Sink.faults c.loop-before.out) (g.K.Sink.faults c.put.new.self) c.in-Ok.ensures.faults (λ e. cc) ∙ c.loop-before.invariant.0,
+  one_so_far (constants_in c.args.prepared.shown) (names_in c.args.prepared.shown) c.args.prepared.search c.loop-before.search c.next_piece.new.search c.loop-before.before (c.loop-before.before + 1)
+      (g.K.Sink.written c.args.out.now) (g.K.Sink.written c.loop-before.out) (g.K.Sink.written c.put.new.self) _ c.in-Ok-Answer.lines
+      c.loop-before.invariant.1 (omega arith) c.in-Ok-Answer.field-0-is c.in-Ok-Answer.ensures
+      (subst (λ p. Appends (g.K.Sink.written c.loop-before.out) (g.K.Sink.written c.put.new.self) p) c.deref.ensures.value c.in-Ok.ensures.appended),
 )
 
-pub returns-clause-grows : goal.returns-clause-grows
-returns-clause-grows g c =
-    grows_both (g.K.Sink.written c.args.out.now) (g.K.Sink.written c.loop-before.out) (g.K.Sink.written c.say_memory-2.new.out) c.loop-before.invariant.0 c.say_memory-2.ensures.grows
+pub returns-clause-writes : goal.returns-clause-writes
+returns-clause-writes g c =
+    λ no. searched_whole (constants_in c.args.prepared.shown) (names_in c.args.prepared.shown) c.args.prepared.search c.loop-before.search
+    c.loop-before.before (g.K.Sink.written c.args.out.now) (g.K.Sink.written c.loop-before.out) (g.K.Sink.written c.tell-2.new.out) c.args.watched
+    c.tell-2.result c.loop-before.invariant.1
+    (lacked (names_in c.args.prepared.shown) c.args.watched c.loop-before.search c.tell-2.result (g.K.Sink.written c.loop-before.out) (g.K.Sink.written c.tell-2.new.out) c.tell-2.ensures.said no)
+
+pub returns-clause-begins : goal.returns-clause-begins
+returns-clause-begins g c =
+    λ is. searched_part (constants_in c.args.prepared.shown) (names_in c.args.prepared.shown) c.args.prepared.search c.loop-before.search
+    c.loop-before.before (g.K.Sink.written c.args.out.now) (g.K.Sink.written c.loop-before.out) (g.K.Sink.written c.tell-2.new.out) c.args.watched
+    c.loop-before.invariant.1
+    (lacked_part (names_in c.args.prepared.shown) c.args.watched c.loop-before.search c.tell-2.result (g.K.Sink.written c.loop-before.out)
+    (g.K.Sink.written c.tell-2.new.out) c.tell-2.ensures.prefix is)
 
 pub returns-clause-of_search : goal.returns-clause-of_search
-returns-clause-of_search g c =
-    memory_of_search c.say_memory-2.result c.say_memory-2.ensures.said
+returns-clause-of_search g c = memory_of_search c.tell-2.result (λ n. (c.tell-2.ensures.said n).0)
 
 pub returns-clause-write_faults : goal.returns-clause-write_faults
-returns-clause-write_faults g c =
-    subst (λ n. Counts (c.say_memory-2.result ≡ variant.WriteFault) n (g.K.Sink.faults c.say_memory-2.new.out)) c.loop-before.invariant.1.0 c.say_memory-2.ensures.write_faults
+returns-clause-write_faults g c = subst (λ n. Counts (c.tell-2.result ≡ variant.WriteFault) n (g.K.Sink.faults c.tell-2.new.out)) c.loop-before.invariant.0 c.tell-2.ensures.faults

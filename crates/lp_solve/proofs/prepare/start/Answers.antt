@@ -1,9 +1,36 @@
+use Rattle.std.proofs.Common.{◌∙◌, subst}
 use Rattle.std.specs.Prelude.{codes}
 use Rattle.lp_lemmas.proofs.Results.{passed_up}
 use Rattle.lp_lines.specs.declared.refusal.Refusal.TheVariants.{Memory}
 use Rattle.lp_lines.specs.Placed.{IsOfText, IfSource}
 use Rattle.lp_lines.specs.Refusals.{IsTextRefusal}
+use Rattle.lp_load.specs.Asked.{IsAsked}
+use Rattle.lp_solve.specs.Shown.{IsShownWith}
+use Rattle.lp_solve.proofs.Refused.{named, shown_before}
 use Rattle.lp_solve.proofs.prepare.start.Goals as goal
+
+pub returns-clause-ready : goal.returns-clause-ready
+returns-clause-ready c =
+    λ told loaded.
+    let old = c.args.built in
+    let now = c.ask.new.built in
+    let typed = c.in-Ok.typed in
+    let same = c.as_bytes-text.ensures.value in
+    let query = c.args.question.query.now in
+    record {
+      built = old;
+      loaded = loaded;
+      bank = now.assembled.program.bank;
+      grown = c.in-Ok.ensures.kept;
+      typed = typed;
+      asked = subst (λ t. IsAsked old.table old.signature t now.assembled.program.bank typed) same c.in-Ok.ensures.asked;
+      begun = c.in_ok-search.ensures.query;
+      shown = shown_before query typed old now c.in_ok-shown.shown c.in-Ok.ensures.signature c.in-Ok.ensures.names
+          (subst (λ t. IsShownWith t typed now c.in_ok-shown.shown) same c.in_ok-shown.ensures);
+    }
+
+pub returns-clause-prepared : goal.returns-clause-prepared
+returns-clause-prepared c = c.in_ok-search.ensures.variables ∙ named _ _ _ _ c.in_ok-shown.ensures
 
 pub returns-in_err-shown-clause-refused : goal.returns-in_err-shown-clause-refused
 returns-in_err-shown-clause-refused c = passed_up c.from_residual.result Memory IsTextRefusal c.from_residual.ensures.1 tt

@@ -1,5 +1,6 @@
-use Rattle.std.proofs.Common.{◌≡◌, length}
+use Rattle.std.proofs.Common.{◌≡◌, map, take}
+use Rattle.lp_sig.specs.Pieces.{spelled}
 use Rattle.lp_solve.proofs.shown.names_of.Given as goal
 
-abbrev pub invariant-loop-spot : goal.invariant-loop-spot
-invariant-loop-spot l = length l.names.items ≡ l.spot-index
+abbrev pub invariant-names : goal.invariant-names
+invariant-names l = map (λ n. n.items) l.names.items ≡ map (spelled l.text) (map (λ v. v.0) (take l.at l.vars))

@@ -1,0 +1,57 @@
+-- The first refusal of a query, and a search that is ready, as the stages give them.
+use Rattle.std.proofs.Common.{◌≡◌, ◌≢◌, ℕ, List, Option, Bool, refl, ap, ◌∙◌, subst, sym, map, length}
+use Rattle.std.proofs.lemmas.List.{length-map}
+use Rattle.std.specs.Prelude.{IfErr, Result, Ok, Err, codes}
+use Rattle.lp_base.specs.Held.{Held}
+use Rattle.lp_base.specs.Written.{Appends, AppendsPrefix}
+use Rattle.lp_base.specs.declared.status.Status.{Status}
+use Rattle.lp_base.specs.declared.status.Status.TheVariants as variant
+use Rattle.lp_model.specs.declared.program.Typed.{Typed}
+use Rattle.lp_sig.specs.Pieces.{spelled}
+use Rattle.lp_build.specs.declared.build.Built.{Built}
+use Rattle.lp_lines.specs.Placed.{IsOfText, IfSource}
+use Rattle.lp_lines.specs.Refusals.{IsTextRefusal, line_of, status_of}
+use Rattle.lp_lines.specs.declared.refusal.Refusal.{Refusal}
+use Rattle.lp_load.specs.Loaded.{IsLoaded}
+use Rattle.lp_solve.specs.Solved.{BeginsSearch, BeginsSolved, IsReady, IsRefusal, WritesSearch, WritesSolved, a_line, a_search, of_query, refused, searched}
+use Rattle.lp_solve.specs.Shown.{IsShownWith, all_constants, constants_in, constants_shown, names_in}
+use Rattle.lp_solve.specs.declared.prepare.Prepared.{Prepared}
+use Rattle.lp_solve.specs.declared.shown.Shown.{Shown}
+
+pub refused_by_query : {T : Type 0} (told : Option Held) (name query : List ℕ) (built : Built) (r : Result T Refusal) → IsLoaded told name built → IfErr r IsTextRefusal → IfErr r (IfSource (IsOfText (codes "query") query)) → IfErr r (IsRefusal told name query)
+refused_by_query told name query built (Ok x) l h p = tt
+refused_by_query told name query built (Err r) l h p = of_query r built l h p
+
+-- the program's bank has grown, and nothing else of it was changed
+pub shown_before : (text : List ℕ) (q : Typed) (old new : Built) (shown : Shown) → new.signature ≡ old.signature → new.assembled.constants ≡
+    old.assembled.constants → IsShownWith text q new shown → IsShownWith text q old shown
+shown_before text q old new shown e f h = record {
+  names = h.names;
+  constants = h.constants ∙ ap (λ s. constants_shown s 32 new.assembled.constants.items) e ∙ ap (λ cs. constants_shown old.signature 32 cs.items) f;
+}
+
+-- each variable of a query has a name
+pub named : (text : List ℕ) (q : Typed) (built : Built) (shown : Shown) → IsShownWith text q built shown → length q.vars.items ≡ length shown.names.items
+named text q built shown h =
+    sym (length-map q.vars.items (λ v. v.0)) ∙ sym (length-map (map (λ v. v.0) q.vars.items) (spelled text)) ∙ sym (ap length h.names) ∙ length-map shown.names.items (λ n. n.items)
+
+module _ (told : Option Held) (name query : List ℕ) (watched : Bool) (status : Status) (a b : Option (List ℕ)) where
+  pub line_written : (r : Refusal) → IsRefusal told name query r → (status ≢ variant.WriteFault → (status ≡ status_of r) × Appends a b (line_of r)) →
+      status ≢ variant.WriteFault → WritesSolved told name query watched status a b
+  line_written r is h n = let k = h n in record { text = line_of r; is = refused r is k.0 refl; appended = k.1 }
+
+  pub line_begun : (r : Refusal) → IsRefusal told name query r → (status ≡ variant.WriteFault → AppendsPrefix a b (line_of r)) → status ≡ variant.WriteFault → BeginsSolved told name query watched a b
+  line_begun r is h e = a_line r is (h e)
+
+  pub search_solved : (p : Prepared) → IsReady told name query p → (status ≢ variant.WriteFault → WritesSearch (constants_in p.shown)
+      (names_in p.shown) watched p.search status a b) → status ≢ variant.WriteFault → WritesSolved told name query watched status a b
+  search_solved p ready h n =
+      let w = subst (λ ns. WritesSearch (all_constants ready.built) ns watched p.search status a b) ready.shown.names
+      (subst (λ es. WritesSearch es (names_in p.shown) watched p.search status a b) ready.shown.constants (h n)) in
+      record { text = w.text; is = searched p ready w.is; appended = w.appended }
+
+  pub search_begun : (p : Prepared) → IsReady told name query p → (status ≡ variant.WriteFault → BeginsSearch (constants_in p.shown)
+      (names_in p.shown) watched p.search a b) → status ≡ variant.WriteFault → BeginsSolved told name query watched a b
+  search_begun p ready h e =
+      a_search p ready (subst (λ ns. BeginsSearch (all_constants ready.built) ns watched p.search a b) ready.shown.names
+      (subst (λ es. BeginsSearch es (names_in p.shown) watched p.search a b) ready.shown.constants (h e)))

@@ -1,0 +1,136 @@
+-- What was written of a search so far, and at its end.
+use Rattle.std.proofs.Common.{◌≡◌, ◌≢◌, ℕ, suc, List, [], ◌∷◌, ◌++◌, length, Option, Some, Bool, refl, sym, ap, ◌∙◌, subst, inl, inr}
+use Rattle.std.specs.Prelude.{IfOk, OnOk, Result, Ok, Err, false, Vec, IfErr}
+use Rattle.std.specs.Global.{Global}
+use Rattle.lp_base.specs.Written.{Appends, AppendsPrefix}
+use Rattle.lp_base.specs.declared.memory.Memory.{Memory as Want}
+use Rattle.lp_base.specs.declared.status.Status.{Status}
+use Rattle.lp_base.specs.declared.status.Status.TheVariants as variant
+use Rattle.lp_lemmas.proofs.Lists.{length_push_suc}
+use Rattle.lp_calculus.specs.Term.{Term}
+use Rattle.lp_term.specs.declared.reduce.TermRefusal.{TermRefusal}
+use Rattle.lp_term.specs.declared.reduce.TermRefusal.TheVariants as refusal
+use Rattle.lp_show.specs.Forms.{IsFirstDeep}
+use Rattle.lp_model.specs.Shown.{Entry}
+use Rattle.lp_model.specs.Whole as whole
+use Rattle.lp_model.specs.declared.answer.Answer.{Answer}
+use Rattle.lp_model.specs.declared.answer.Event.{Event}
+use Rattle.lp_model.specs.declared.answer.Event.TheVariants as event
+use Rattle.lp_model.specs.declared.ending.Ending.{Ending}
+use Rattle.lp_plain.specs.Held.{ended, failed, query_of, variables_of}
+use Rattle.lp_plain.specs.declared.search.Search.{Search}
+use Rattle.lp_lines.specs.Ends.{Grows}
+use Rattle.lp_lines.specs.Lines.{ending_line, ending_status, memory_line}
+use Rattle.lp_lines.proofs.Appending.{appends_nothing, appends_both, prefix_behind, prefix_grows}
+use Rattle.lp_lines.proofs.Statuses.{is_fault}
+use Rattle.lp_solve.specs.Events.{AreLines, IfDeep, Ends, IsLines, IsPiece, IsTold, Tells, more_lines, no_answer, no_lines, one_answer}
+use Rattle.lp_solve.specs.Solved.{BeginsLast, BeginsSearch, MayReport, WritesLast, WritesSearch, an_ending, no_memory}
+use Rattle.lp_solve.specs.declared.piece.Piece.{Piece}
+use Rattle.lp_solve.specs.declared.piece.Piece.TheVariants as piece
+
+-- one event
+abbrev event_or : Event → Result Event Want → Event
+event_or d (Ok x) = x
+event_or d (Err e) = d
+
+pub told_by : (old new : Search) (r : Result Event Want) → variables_of new ≡ variables_of old → query_of new ≡ query_of old → IfOk r
+    (whole.IsTold (variables_of old)) → OnOk r (failed new ≡ false) → IfOk r (λ e. whole.Keeps e (ended new)) →
+    (failed old ≡ false → (e : Ending) → ended old ≡ Some e → r ≡ Ok (event.Ended e)) → IfOk r (λ e. IsTold old e new)
+told_by old new (Ok x) v q t f k s = record { variables = v; query = q; told = t; keeps = k; goes_on = f; stays = λ g e h. ap (event_or x) (s g e h) }
+told_by old new (Err e) v q t f k s = tt
+
+-- a refusal to show an answer
+pub deep_told : {T : Type 0} (ts : List Term) (r : Result T TermRefusal) → IfErr r (IsFirstDeep ts) → IfErr r (IfDeep ((k : ℕ) × IsFirstDeep ts (refusal.Deep k)))
+deep_told ts (Ok x) h = tt
+deep_told ts (Err (refusal.Deep k)) h = (k, h)
+deep_told ts (Err refusal.Memory) h = tt
+
+-- the search keeps the number of its variables
+pub told_variables : (first now : Search) (answers : List Answer) → Tells first answers now → variables_of now ≡ variables_of first
+told_variables first now answers no_answer = refl
+told_variables first now answers (one_answer before all s t a more is e) = is.variables ∙ told_variables first s before more
+
+module _ (es : List Entry) (ns : List (List ℕ)) (first : Search) where
+  -- the answers so far, with the search behind them
+  pub record SoFar (now : Search) (count : ℕ) (old new : Option (List ℕ)) : Type 0 where
+    pub answers : List Answer
+    pub lines : List ℕ
+    pub told : Tells first answers now
+    pub are : AreLines es ns answers lines
+    pub number : length answers ≡ count
+    pub appended : Appends old new lines
+
+  pub none_so_far : (o : Option (List ℕ)) → SoFar first 0 o o
+  none_so_far o = record { answers = []; lines = []; told = no_answer; are = no_lines; number = refl; appended = appends_nothing o }
+
+  pub one_so_far : (s t : Search) (k number : ℕ) (a b c : Option (List ℕ)) (p : Piece) (lines : Vec ℕ Global) → SoFar s k a b → number ≡ suc k → p ≡
+      piece.Answer lines → IsPiece es ns number s p t → Appends b c lines.items → SoFar t number a c
+  one_so_far s t k number a b c p lines h e is told more =
+      let x = subst (λ p. IsPiece es ns number s p t) is told in
+      let numbered : number ≡ suc (length h.answers) = e ∙ ap suc (sym h.number) in
+      record {
+        answers = h.answers ++ x.0 ∷ [];
+        lines = h.lines ++ lines.items;
+        told = one_answer h.answers _ s t x.0 h.told x.1 refl;
+        are = more_lines h.answers _ x.0 h.lines lines.items _ h.are (subst (λ n. IsLines es ns n x.0 lines.items) numbered x.2) refl refl;
+        number = length_push_suc h.answers x.0 ∙ sym numbered;
+        appended = appends_both a b c h.lines lines.items h.appended more;
+      }
+
+  -- the lines of an answer could not be written
+  pub cut_in_answer : (s t : Search) (k number : ℕ) (a b c : Option (List ℕ)) (p : Piece) (lines : Vec ℕ Global) (watched : Bool) → SoFar s k a b →
+      number ≡ suc k → p ≡ piece.Answer lines → IsPiece es ns number s p t → AppendsPrefix b c lines.items → BeginsSearch es ns watched first a c
+  cut_in_answer s t k number a b c p lines watched h e is told more =
+      let x = subst (λ p. IsPiece es ns number s p t) is told in
+      let numbered : number ≡ suc (length h.answers) = e ∙ ap suc (sym h.number) in
+      record {
+        text = h.lines ++ lines.items;
+        is = inl (record {
+          answers = h.answers ++ x.0 ∷ [];
+          now = t;
+          told = one_answer h.answers _ s t x.0 h.told x.1 refl;
+          lines = more_lines h.answers _ x.0 h.lines lines.items _ h.are (subst (λ n. IsLines es ns n x.0 lines.items) numbered x.2) refl refl;
+        });
+        appended = prefix_behind a b c h.lines lines.items h.appended more;
+      }
+
+  -- the last line
+  pub searched_whole : (s : Search) (k : ℕ) (a b c : Option (List ℕ)) (watched : Bool) (status : Status) → SoFar s k a b → WritesLast ns watched s
+      status b c → WritesSearch es ns watched first status a c
+  searched_whole s k a b c watched status h w = record {
+    text = h.lines ++ w.text;
+    is = record { lines = h.lines; last = w.text; answers = record { answers = h.answers; now = s; told = h.told; lines = h.are }; is_last = w.is; wrote = refl };
+    appended = appends_both a b c h.lines w.text h.appended w.appended;
+  }
+
+  pub searched_part : (s : Search) (k : ℕ) (a b c : Option (List ℕ)) (watched : Bool) → SoFar s k a b → BeginsLast ns watched s b c → BeginsSearch es ns watched first a c
+  searched_part s k a b c watched h w = record {
+    text = h.lines ++ w.text;
+    is = inr (w.status, record { lines = h.lines; last = w.text; answers = record { answers = h.answers; now = s; told = h.told; lines = h.are }; is_last = w.is; wrote = refl });
+    appended = prefix_behind a b c h.lines w.text h.appended w.appended;
+  }
+
+-- that memory ran out, as the last line
+module _ (ns : List (List ℕ)) (watched : Bool) (s : Search) (status : Status) (a b : Option (List ℕ)) where
+  pub lacked : (status ≢ variant.WriteFault → (status ≡ variant.Memory) × Appends a b memory_line) → status ≢ variant.WriteFault → WritesLast ns watched s status a b
+  lacked h n = let k = h n in record { text = memory_line; is = no_memory k.0 refl; appended = k.1 }
+
+  pub lacked_part : (status ≡ variant.WriteFault → AppendsPrefix a b memory_line) → status ≡ variant.WriteFault → BeginsLast ns watched s a b
+  lacked_part h e = record { status = variant.Memory; text = memory_line; is = no_memory refl refl; appended = h e }
+
+  -- and that of an ending
+  pub ended_whole : (e : Ending) (text : List ℕ) → Ends ns s e → (reports : List ℕ) × MayReport watched reports × (text ≡ ending_line e ++ reports) →
+      (status ≢ variant.WriteFault → (status ≡ ending_status e) × Appends a b text) →
+      status ≢ variant.WriteFault → WritesLast ns watched s status a b
+  ended_whole e text ends (reports, may, is) h n = let k = h n in record { text = text; is = an_ending e reports ends may k.0 is; appended = k.1 }
+
+  pub ended_part : (e : Ending) (text : List ℕ) → Ends ns s e → (reports : List ℕ) × MayReport watched reports × (text ≡ ending_line e ++ reports) →
+      (status ≡ variant.WriteFault → AppendsPrefix a b text) →
+      status ≡ variant.WriteFault → BeginsLast ns watched s a b
+  ended_part e text ends (reports, may, is) h f = record { status = ending_status e; text = text; is = an_ending e reports ends may refl is; appended = h f }
+
+-- something was written
+pub search_written : (es : List Entry) (ns : List (List ℕ)) (watched : Bool) (first : Search) (status : Status) (a b : Option (List ℕ)) →
+    (status ≢ variant.WriteFault → WritesSearch es ns watched first status a b) →
+    (status ≡ variant.WriteFault → BeginsSearch es ns watched first a b) → Grows a b
+search_written es ns watched first status a b w p = elim (is_fault status) [ inl f ↦ let q = p f in prefix_grows a b q.text q.appended | inr n ↦ let q = w n in (q.text, q.appended) ]
