@@ -30,7 +30,9 @@ any_solves b θ old x y made head argument to of g t e a s =
     )
 
 -- y is the typing without the two types that were taken off, x behind the equation
-pub arrow_moves : (b : Nodes) (θ : ℕ → Ty) (y x : Typing) (stacks mid made : List TypeId) (head argument from to : TypeId) (T : Ty) → stacks ≡ mid ++ argument ∷ [] → mid ≡ y.stack.items ++ head ∷ [] → Taken y x from argument → type_tree b head.0 ≡ arrow (type_tree b from.0) (type_tree b to.0) → made ≡ x.stack.items ++ to ∷ [] →
+pub arrow_moves : (b : Nodes) (θ : ℕ → Ty) (y x : Typing) (stacks mid made : List TypeId) (head argument from to : TypeId) (T : Ty) → stacks ≡ mid ++
+    argument ∷ [] → mid ≡ y.stack.items ++ head ∷ [] → Taken y x from argument → type_tree b head.0 ≡ arrow (type_tree b from.0) (type_tree b to.0) →
+    made ≡ x.stack.items ++ to ∷ [] →
     Solves b θ x.pairs.items → Comes (types_of b x) (filled_types b θ x.context.items) (filled_types b θ made) (steps_of b x.tasks.items) T → Solves b θ y.pairs.items × Comes (types_of b y) (filled_types b θ y.context.items) (filled_types b θ stacks) (applying ∷ steps_of b y.tasks.items) T
 arrow_moves b θ y x stacks mid made head argument from to T es em t eh ed s d =
     let q = t.solves b θ s in (

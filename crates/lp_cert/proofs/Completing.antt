@@ -106,7 +106,9 @@ arrow_parts : (A B C D : Ty) → arrow A B ≡ arrow C D → (A ≡ C) × (B ≡
 arrow_parts A B C D e = (cc, cc)
 
 -- a head that is a function: x is the typing behind the equation
-module _ (now : Nodes) (old x new : Typing) (mid stack : List TypeId) (head argument from to : TypeId) (y : IsTidy now old) (g : Extends now now) (es : old.stack.items ≡ mid ++ argument ∷ []) (em : mid ≡ stack ++ head ∷ []) (ec : new.constants ≡ old.constants) (ee : new.eigens ≡ old.eigens) (ex : new.context ≡ old.context)
+module _ (now : Nodes) (old x new : Typing) (mid stack : List TypeId) (head argument from to : TypeId) (y : IsTidy now old) (g : Extends now now)
+    (es : old.stack.items ≡ mid ++ argument ∷ []) (em : mid ≡ stack ++ head ∷ []) (ec : new.constants ≡ old.constants) (ee : new.eigens ≡ old.eigens)
+    (ex : new.context ≡ old.context)
     (et : new.tasks ≡ old.tasks) (en : new.next ≡ old.next) (ep : new.pairs ≡ x.pairs) (solved : (b : Nodes) (θ : ℕ → Ty) → Solves b θ old.pairs.items → instance θ (type_tree b from.0) ≡ instance θ (type_tree b argument.0) → Solves b θ x.pairs.items)
     (below : (b : Nodes) (n : ℕ) → All (IsPairBelow b n) old.pairs.items → IsTypeBelow b n from → IsTypeBelow b n argument → All (IsPairBelow b n) x.pairs.items) (made : new.stack.items ≡ stack ++ to ∷ []) (lf : from.0 < length now.types) (lt : to.0 < length now.types)
     (is : (b : Nodes) → Extends now b → type_tree b head.0 ≡ arrow (type_tree b from.0) (type_tree b to.0)) where
@@ -198,7 +200,9 @@ module _ (a m now : Nodes) (old x z new : Typing) (head argument to of : TypeId)
   any_keeps = record { tidy = any_tidy; can = any_can }
 
 -- p is the typing without the two types that were taken off
-pub applied_keeps : (now : Nodes) (old p new : Typing) (mid : List TypeId) (head argument : TypeId) (done : Bool) → old.stack.items ≡ mid ++ argument ∷ [] → mid ≡ p.stack.items ++ head ∷ [] → p.constants ≡ old.constants → p.eigens ≡ old.eigens → p.context ≡ old.context → p.pairs ≡ old.pairs → p.tasks ≡ old.tasks →
+pub applied_keeps : (now : Nodes) (old p new : Typing) (mid : List TypeId) (head argument : TypeId) (done : Bool) → old.stack.items ≡ mid ++ argument
+    ∷ [] → mid ≡ p.stack.items ++ head ∷ [] → p.constants ≡ old.constants → p.eigens ≡ old.eigens → p.context ≡ old.context → p.pairs ≡ old.pairs →
+    p.tasks ≡ old.tasks →
     (done ≡ true) × KeepsApplied now p new head argument → Keeps now old new (λ b. applying ∷ []) done
 applied_keeps now old p new mid head argument done es em ec ee ex ep et h = record {
   tidy = λ q. h.1.tidy;
@@ -211,7 +215,9 @@ applied_keeps now old p new mid head argument done es em ec ee ex ep et h = reco
       );
 }
 
-pub any_kept : (a now : Nodes) (old p new : Typing) (mid : List TypeId) (head argument : TypeId) (r : Result Bool Memory) → old.stack.items ≡ mid ++ argument ∷ [] → mid ≡ p.stack.items ++ head ∷ [] → p.constants ≡ old.constants → p.eigens ≡ old.eigens → p.context ≡ old.context → p.pairs ≡ old.pairs → p.tasks ≡ old.tasks → p.next ≡ old.next →
+pub any_kept : (a now : Nodes) (old p new : Typing) (mid : List TypeId) (head argument : TypeId) (r : Result Bool Memory) → old.stack.items ≡ mid ++
+    argument ∷ [] → mid ≡ p.stack.items ++ head ∷ [] → p.constants ≡ old.constants → p.eigens ≡ old.eigens → p.context ≡ old.context → p.pairs ≡
+    old.pairs → p.tasks ≡ old.tasks → p.next ≡ old.next →
     IfOk r (λ done. IsTidy a p → IsTypeBelow a p.next head → IsTypeBelow a p.next argument → (done ≡ true) × KeepsApplied now p new head argument) → IfOk r (λ done. IsTidy a old → Keeps now old new (λ b. applying ∷ []) done)
 any_kept a now old p new mid head argument (Err x) es em ec ee ex ep et en h = tt
 any_kept a now old p new mid head argument (Ok done) es em ec ee ex ep et en h = λ y.
@@ -249,7 +255,9 @@ typed_can b y term T ex es ep et h = record {
   derives = transport (λ j. Comes (types_of b y) (filled_types b var (sym ex j)) (filled_types b var (sym es j)) (steps_of b (sym et j)) T) (T, h, ([], refl));
 }
 
-pub first_tidy : (b : Nodes) (y : Typing) (term : TermId) → y.context.items ≡ [] → y.stack.items ≡ [] → y.pairs.items ≡ [] → y.tasks.items ≡ task.Visit term ∷ [] → AreClosed (types_in b y.eigens.now) → AreDeclaredInside (length b.types) y.constants.now → AllAtoms HasClosedTypes (tree b term.0) → term.0 < length b.terms → IsTidy b y
+pub first_tidy : (b : Nodes) (y : Typing) (term : TermId) → y.context.items ≡ [] → y.stack.items ≡ [] → y.pairs.items ≡ [] → y.tasks.items ≡
+    task.Visit term ∷ [] → AreClosed (types_in b y.eigens.now) → AreDeclaredInside (length b.types) y.constants.now → AllAtoms HasClosedTypes
+    (tree b term.0) → term.0 < length b.terms → IsTidy b y
 first_tidy b y term ex es ep et eigens constants h l = record {
   context = subst (All (IsTypeBelow b y.next)) (sym ex) (All-nil (IsTypeBelow b y.next));
   stack = subst (All (IsTypeBelow b y.next)) (sym es) (All-nil (IsTypeBelow b y.next));
@@ -275,7 +283,9 @@ no_solution now b θ ps g i s none =
     none θ (hold_reversed θ (reverse es) (subst (AllHold θ) (sym (reverse-reverse es)) (hold_here now b θ ps g i s)))
 
 -- the end: x is the typing when nothing was left to do, last the one with the equation of the type that was found with the one that was asked for
-pub untyped_at_end : (a now b : Nodes) (x last : Typing) (pairs : List Pair) (rest : List TypeId) (found of : TypeId) → Extends a now → Extends now b → x.tasks.items ≡ [] → x.stack.items ≡ rest ++ found ∷ [] → pairs ≡ last.pairs.items → IsClosedType (type_tree a of.0) → IsTidy now x → IsEquated x last found of →
+pub untyped_at_end : (a now b : Nodes) (x last : Typing) (pairs : List Pair) (rest : List TypeId) (found of : TypeId) → Extends a now → Extends now b
+    → x.tasks.items ≡ [] → x.stack.items ≡ rest ++ found ∷ [] → pairs ≡ last.pairs.items → IsClosedType (type_tree a of.0) → IsTidy now x → IsEquated
+    x last found of →
     (All (IsPair (length now.types)) pairs → HaveNoSolution (read_pairs (type_tree now) var pairs)) → Can b x [] (type_tree b of.0) → ⊥
 untyped_at_end a now b x last pairs rest found of g k et ex ep closed y eq none c =
     let θ = c.types in
@@ -298,7 +308,9 @@ nothing_found b x T et ex c =
     absurd (cc)
 
 -- x is the typing when nothing was left to do, new the same behind the look for one more task
-pub ended_keeps : (now : Nodes) (old x new : Typing) → x.tasks.items ≡ [] → new.tasks.items ≡ [] → new.constants ≡ x.constants → new.eigens ≡ x.eigens → new.context ≡ x.context → new.stack ≡ x.stack → new.pairs ≡ x.pairs → new.next ≡ x.next → IsTidy now x → ((b : Nodes) → Extends now b → (T : Ty) → Can b old [] T → Can b x [] T) →
+pub ended_keeps : (now : Nodes) (old x new : Typing) → x.tasks.items ≡ [] → new.tasks.items ≡ [] → new.constants ≡ x.constants → new.eigens ≡ x.eigens
+    → new.context ≡ x.context → new.stack ≡ x.stack → new.pairs ≡ x.pairs → new.next ≡ x.next → IsTidy now x →
+    ((b : Nodes) → Extends now b → (T : Ty) → Can b old [] T → Can b x [] T) →
     Keeps now old new (λ b. []) true
 ended_keeps now old x new et en ec ee ex es ep nx y h =
     let g = extends_same now in
@@ -316,7 +328,9 @@ ended_keeps now old x new et en ec ee ex es ep nx y h =
     }
 
 -- the beginning of a typing: y has the term to visit and nothing else
-module _ (a now : Nodes) (y x : Typing) (term : TermId) (done : Bool) (g : Extends a now) (ex : y.context.items ≡ []) (es : y.stack.items ≡ []) (ep : y.pairs.items ≡ []) (et : y.tasks.items ≡ task.Visit term ∷ []) (keeps : IsTidy a y → Keeps now y x (λ b. []) done) (h : AllAtoms HasClosedTypes (tree a term.0)) (l : term.0 < length a.terms)
+module _ (a now : Nodes) (y x : Typing) (term : TermId) (done : Bool) (g : Extends a now) (ex : y.context.items ≡ []) (es : y.stack.items ≡ [])
+    (ep : y.pairs.items ≡ []) (et : y.tasks.items ≡ task.Visit term ∷ []) (keeps : IsTidy a y → Keeps now y x (λ b. []) done)
+    (h : AllAtoms HasClosedTypes (tree a term.0)) (l : term.0 < length a.terms)
     (eigens : AreClosed (types_in a y.eigens.now)) (constants : AreDeclaredInside (length a.types) y.constants.now) where
   kept_on : Keeps now y x (λ b. []) done
   kept_on = keeps (first_tidy a y term ex es ep et eigens constants h l)

@@ -71,7 +71,9 @@ evaluated (Ok turn.No) a goal term expression e s k = λ g q. k (s g).0 (s g).1 
 ])
 evaluated (Ok turn.Deep) a goal term expression e s k = λ g. inl (e.0, tree a term.0, tree a expression.0, e.1, k (s g).0 (s g).1)
 
-pub compared : (r : Result Turn Memory) (a : Nodes) (goal left right : TermId) (c : ℕ) → ((T : Ty) (A B : Term) → tree a goal.0 ≡ two number.Is (T ∷ []) A B → ⊥) → number.Less ≤ c → c ≤ number.AtLeast → tree a goal.0 ≡ two c [] (tree a left.0) (tree a right.0) → (IsReady a goal → IsReady a left × IsReady a right) →
+pub compared : (r : Result Turn Memory) (a : Nodes) (goal left right : TermId) (c : ℕ) →
+    ((T : Ty) (A B : Term) → tree a goal.0 ≡ two number.Is (T ∷ []) A B → ⊥) → number.Less ≤ c → c ≤ number.AtLeast → tree a goal.0 ≡ two c []
+    (tree a left.0) (tree a right.0) → (IsReady a goal → IsReady a left × IsReady a right) →
     IfOk r (λ turn. IsReady a left → IsReady a right → Decides (AreOrdered c (tree a left.0) (tree a right.0)) (tree a left.0) (tree a right.0) turn) → IfOk r (λ turn. IsReady a goal → IsComputed (tree a goal.0) turn)
 compared (Err x) a goal left right c n l m e s k = tt
 compared (Ok turn.On) a goal left right c n l m e s k = λ g. let d = k (s g).0 (s g).1 in inr (c, tree a left.0, tree a right.0, d.0, d.1, l, m, e, d.2, d.3, d.4)

@@ -166,7 +166,9 @@ pub nothing_left : (b : Nodes) (θ : ℕ → Ty) (y : Typing) (T : Ty) (R : List
 nothing_left b θ y T R e k = subst (λ ts. Comes (types_of b y) (filled_types b θ y.context.items) (filled_types b θ y.stack.items) (steps_of b ts) T) (sym e) (R, k)
 
 -- the last argument that is not on the stack of tasks yet
-pub argument_next : (b : Nodes) (ids : List TermId) (all mid ts : List Task) (js : List Step) (i k n : ℕ) (t : TermId) → mid ≡ ts ++ task.Apply ∷ [] → all ≡ mid ++ task.Visit t ∷ [] → i < length ids → t ≡ get_or ids i t → k ≡ i → n ≡ i + 1 → steps_of b ts ≡ argument_steps (map (λ t. tree b t.0) (drop n ids)) ++ js →
+pub argument_next : (b : Nodes) (ids : List TermId) (all mid ts : List Task) (js : List Step) (i k n : ℕ) (t : TermId) → mid ≡ ts ++ task.Apply ∷ [] →
+    all ≡ mid ++ task.Visit t ∷ [] → i < length ids → t ≡ get_or ids i t → k ≡ i → n ≡ i + 1 → steps_of b ts ≡ argument_steps
+    (map (λ t. tree b t.0) (drop n ids)) ++ js →
     steps_of b all ≡ argument_steps (map (λ t. tree b t.0) (drop k ids)) ++ js
 argument_next b ids all mid ts js i k n t em ea l g ek en h =
     step_pushed b all mid (task.Visit t) ea ∙ ap (λ s. visiting (tree b t.0) ∷ s) (step_pushed b mid ts task.Apply em ∙ ap (λ s. applying ∷ s) h) ∙
@@ -204,7 +206,9 @@ pub step_inside : (now : Nodes) (old new : Typing) (r : Result Bool Memory) (j :
 step_inside now old new (Err x) j P p m = tt
 step_inside now old new (Ok y) j P p m = λ t. m t p
 
-pub step_pushes : (now : Nodes) (old new : Typing) (r : Result Bool Memory) (T : Nodes → Ty) (t : Nodes → Term) → ((b : Nodes) → Extends now b → (C : List Ty) → HasType (types_of b old) C (t b) (T b)) → IfOk r (λ yes. yes ≡ true → Pushes now old new T) → IfOk r (λ yes. yes ≡ true → Moves now old new (λ b. visiting (t b)))
+pub step_pushes : (now : Nodes) (old new : Typing) (r : Result Bool Memory) (T : Nodes → Ty) (t : Nodes → Term) →
+    ((b : Nodes) → Extends now b → (C : List Ty) → HasType (types_of b old) C (t b) (T b)) → IfOk r (λ yes. yes ≡ true → Pushes now old new T) → IfOk
+    r (λ yes. yes ≡ true → Moves now old new (λ b. visiting (t b)))
 step_pushes now old new (Err x) T t typed p = tt
 step_pushes now old new (Ok y) T t typed p = λ e. pushed_moves now old new T t (p e) typed
 
@@ -219,7 +223,9 @@ solves_here now b θ (p ∷ ps) g i h =
     (solves_here now b θ ps g (All-tail (IsPair (length now.types)) p ps i) h.1)
 
 -- the end: y is the typing at its beginning, x when nothing was left to do, with the type that was found on top of its stack, and the pairs with the last equation
-pub typed_at_end : (a now : Nodes) (y x : Typing) (last : Typing) (pairs : List Pair) (rest : List TypeId) (term : TermId) (found of : TypeId) (r : Result Bool Memory) → Extends a now → y.context.items ≡ [] → y.stack.items ≡ [] → y.tasks.items ≡ task.Visit term ∷ [] → x.stack.items ≡ rest ++ found ∷ [] → pairs ≡ last.pairs.items →
+pub typed_at_end : (a now : Nodes) (y x : Typing) (last : Typing) (pairs : List Pair) (rest : List TypeId) (term : TermId) (found of : TypeId)
+    (r : Result Bool Memory) → Extends a now → y.context.items ≡ [] → y.stack.items ≡ [] → y.tasks.items ≡ task.Visit term ∷ [] → x.stack.items ≡ rest
+    ++ found ∷ [] → pairs ≡ last.pairs.items →
     ((b : Nodes) → (θ : ℕ → Ty) → Solves b θ last.pairs.items → Solves b θ x.pairs.items × (instance θ (type_tree b found.0) ≡ instance θ (type_tree b of.0))) →
     ((b : Nodes) → Extends now b → (θ : ℕ → Ty) → (T : Ty) → (R : List Ty) → Solves b θ x.pairs.items → filled_types b θ x.stack.items ≡ T ∷ R → Derives b θ y T) →
     IfOk r (λ yes. yes ≡ true → All (IsPair (length now.types)) pairs) → IfOk r (λ yes. yes ≡ true → (θ : ℕ → Ty) × AllHold θ (read_pairs (type_tree now) var pairs)) →
@@ -244,7 +250,9 @@ twice_terms f [] = refl
 twice_terms f (x ∷ xs) = ap (λ l. f x.0 ∷ l) (twice_terms f xs)
 
 -- a constant at the top
-pub constant_step : (a now : Nodes) (old new : Typing) (r : Result Bool Memory) (term : TermId) (n : ℕ) (ids copy : List TypeId) → copy ≡ ids → Extends a now → term.0 < length a.terms → All (λ i. i < length a.types) (map (λ t. t.0) ids) → atom (constant n (map (type_tree a) (map (λ t. t.0) ids))) ≡ tree a term.0 →
+pub constant_step : (a now : Nodes) (old new : Typing) (r : Result Bool Memory) (term : TermId) (n : ℕ) (ids copy : List TypeId) → copy ≡ ids →
+    Extends a now → term.0 < length a.terms → All (λ i. i < length a.types) (map (λ t. t.0) ids) → atom
+    (constant n (map (type_tree a) (map (λ t. t.0) ids))) ≡ tree a term.0 →
     IfOk r (λ yes. yes ≡ true → AreInside (length a.types) copy → Moves now old new (λ b. visiting (atom (constant n (types_in b copy))))) → IfOk r (λ yes. yes ≡ true → Moves now old new (λ b. visiting (tree b term.0)))
 constant_step a now old new r term n ids copy e g l i t m =
     step_as now old new r (λ b. atom (constant n (types_in b copy))) (λ b. tree b term.0)

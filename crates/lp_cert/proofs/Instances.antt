@@ -69,7 +69,9 @@ values_differ now cs types vs ofs h = λ b g w.
     h (omega (arith, l, n, m, k))
 
 -- the value at a place is none for its variable; w is the work then, v as it was, and made the number of the type
-pub value_fails : (now : Nodes) (w v : Work) (types : List TypeId) (vs : List TermId) (ofs : List TypeId) (i : ℕ) (value : TermId) (of made : TypeId) → i < length vs → i < length ofs → value ≡ get_or vs i value → of ≡ get_or ofs i of → w.theory ≡ v.theory → w.eigens ≡ v.eigens → v.eigens.items ≡ [] →
+pub value_fails : (now : Nodes) (w v : Work) (types : List TypeId) (vs : List TermId) (ofs : List TypeId) (i : ℕ) (value : TermId) (of made : TypeId)
+    → i < length vs → i < length ofs → value ≡ get_or vs i value → of ≡ get_or ofs i of → w.theory ≡ v.theory → w.eigens ≡ v.eigens → v.eigens.items ≡
+    [] →
     ((b : Nodes) → Extends now b → type_tree b made.0 ≡ instance (type_at (types_in b types)) (type_tree b of.0)) → ((b : Nodes) → Extends now b → IsWitnessIn b w value made → ⊥) → HaveNoWitnesses now v.theory.constants.now types vs ofs
 value_fails now w v types vs ofs i value of made l k ev eo et ee none is never = λ b g h.
     let f : Ty → Ty = instance (type_at (types_in b types)) in
@@ -139,7 +141,9 @@ instance_loose n d θ (abs b) h = instance_loose n (suc d) θ b h
 instance_loose n d θ (app t u) h = (instance_loose n d θ t h.0, instance_loose n d θ u h.1)
 
 -- a loose index past the variables; a is the bank where it was seen, made the formula with the types
-pub loose_unnamed : (o a now : Nodes) (cs : List code.Declared) (q : Typed) (types : List TypeId) (vs : List TermId) (made : TermId) → Extends o a → IsQueryInside o q → tree a made.0 ≡ instance_term (type_at (types_in a types)) (tree a q.formula.0) → (LooseBelow (length vs) 0 (tree a made.0) → ⊥) → AreUnnamed now cs q types vs
+pub loose_unnamed : (o a now : Nodes) (cs : List code.Declared) (q : Typed) (types : List TypeId) (vs : List TermId) (made : TermId) → Extends o a →
+    IsQueryInside o q → tree a made.0 ≡ instance_term (type_at (types_in a types)) (tree a q.formula.0) →
+    (LooseBelow (length vs) 0 (tree a made.0) → ⊥) → AreUnnamed now cs q types vs
 loose_unnamed o a now cs q types vs made g i e h = λ b m ns n.
     let w = witnesses_long (declared_by b cs) (terms_in b vs) (map (instance (type_at (types_in b types))) (query_of b q).vars) n.values in
     let x = length-map vs (λ t. tree b t.0) in
@@ -179,7 +183,9 @@ value_tight (t ∷ ts) h zero l = closed_loose 0 0 t (All-head (IsClosedAt 0) t 
 value_tight (t ∷ ts) h (suc i) l = value_tight ts (All-tail (IsClosedAt 0) t ts h) i (omega (arith, l))
 
 -- the goal with the values: a is the bank where they were put, formula what they were put in
-module _ (a now : Nodes) (cs : List code.Declared) (types : List TypeId) (vs : List TermId) (ofs : List TypeId) (formula : TermId) (r : Result (Option TermId) Memory) (E : Type 0) (g : Extends a now) (same : Extends now now) (l : formula.0 < length a.terms) (tight : LooseBelow (length vs) 0 (tree a formula.0))
+module _ (a now : Nodes) (cs : List code.Declared) (types : List TypeId) (vs : List TermId) (ofs : List TypeId) (formula : TermId)
+    (r : Result (Option TermId) Memory) (E : Type 0) (g : Extends a now) (same : Extends now now) (l : formula.0 < length a.terms)
+    (tight : LooseBelow (length vs) 0 (tree a formula.0))
     (named : E → (b : Nodes) → Extends now b → AreWitnesses (declared_by b cs) (terms_in b vs) (map (instance (type_at (types_in b types))) (types_in b ofs)))
     (put : IfOk r (λ found. IfSome found (λ made. (b : Nodes) → Extends now b → LooseBelow (length vs) 0 (tree b formula.0) → tree b made.0 ≡ instantiate (λ k. at (terms_in b vs) (length (terms_in b vs) - suc k)) (tree b formula.0)))) where
   closed : E → All (IsClosedAt 0) (terms_in now vs)

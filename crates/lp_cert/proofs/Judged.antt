@@ -134,7 +134,9 @@ rest_at b w rest t u q e = ap (rest_of (types_in b w.eigens.items) (terms_in b w
 pub rest_eigen : (b : Nodes) (w : Work) (rest : List Task) (t : Task) (es : List TypeId) (n : ℕ) → t ≡ task.LeaveEigen → w.tasks.items ≡ rest ++ t ∷ [] → n ≡ length w.eigens.items → es ≡ take (n - 1) w.eigens.items → rest_in b w ≡ rest_of (types_in b es) (terms_in b w.assumed.items) (jobs_of b rest)
 rest_eigen b w rest t es n q e l f = rest_at b w rest t task.LeaveEigen q e ∙ ap (λ E. rest_of E (terms_in b w.assumed.items) (jobs_of b rest)) (sym (popped_rest (λ x. type_tree b x.0) w.eigens.items es n l f))
 
-pub rest_assumed : (b : Nodes) (w : Work) (rest : List Task) (t : Task) (later : List TermId) (n : ℕ) → t ≡ task.LeaveAssumed → w.tasks.items ≡ rest ++ t ∷ [] → n ≡ length w.assumed.items → later ≡ take (n - 1) w.assumed.items → rest_in b w ≡ rest_of (types_in b w.eigens.items) (terms_in b later) (jobs_of b rest)
+pub rest_assumed : (b : Nodes) (w : Work) (rest : List Task) (t : Task) (later : List TermId) (n : ℕ) → t ≡ task.LeaveAssumed → w.tasks.items ≡ rest
+    ++ t ∷ [] → n ≡ length w.assumed.items → later ≡ take (n - 1) w.assumed.items → rest_in b w ≡ rest_of (types_in b w.eigens.items)
+    (terms_in b later) (jobs_of b rest)
 rest_assumed b w rest t later n q e l f = rest_at b w rest t task.LeaveAssumed q e ∙ ap (λ As. rest_of (types_in b w.eigens.items) As (jobs_of b rest)) (sym (popped_rest (λ x. tree b x.0) w.assumed.items later n l f))
 
 -- the first ones of a list
@@ -155,14 +157,18 @@ pub all_popped : {A : Type 0} (P : A → Type 0) (all rest : List A) (n : ℕ) �
 all_popped P all rest n e h = subst (All P) (sym e) (all_first P (n - 1) all h)
 
 -- a node for the next task
-pub stepped_by : (r : Result Turn Memory) (a now : Nodes) (old mid new : Work) (t : Task) (goal : TermId) (n : ProofNode) → t ≡ task.Prove goal → (mid.theory ≡ old.theory) × ((b : Nodes) → rest_in b old ≡ rest_with b mid (job_of b t ∷ [])) → ((b : Nodes) → IsReadyWork b old → IsReadyWork b mid × IsTaskReady b t) →
+pub stepped_by : (r : Result Turn Memory) (a now : Nodes) (old mid new : Work) (t : Task) (goal : TermId) (n : ProofNode) → t ≡ task.Prove goal →
+    (mid.theory ≡ old.theory) × ((b : Nodes) → rest_in b old ≡ rest_with b mid (job_of b t ∷ [])) →
+    ((b : Nodes) → IsReadyWork b old → IsReadyWork b mid × IsTaskReady b t) →
     IfOk r (λ turn. IsReadyWork a mid → IsReady a goal → IsNodeInside a n → IsTurned now mid new (λ b. proving (tree b goal.0)) (λ b. node_of b n) turn) → IfOk r (λ turn. IsReadyWork a old → IsNodeInside a n → IsStepped now old new (λ b. node_of b n) turn)
 stepped_by (Err x) a now old mid new t goal n e s q k = tt
 stepped_by (Ok u) a now old mid new t goal n e s q k = λ w i.
     let r = q a w in
     step_turned now old mid new (task.Prove goal) (λ b. node_of b n) s.0 (λ b. s.1 b ∙ ap (λ x. rest_with b mid (job_of b x ∷ [])) e) u (k r.0 (subst (IsTaskReady a) e r.1) i)
 
-pub focused_by : (r : Result Turn Memory) (a now : Nodes) (old mid new : Work) (t : Task) (clause atom : TermId) (n : ProofNode) → t ≡ task.Focus clause atom → (mid.theory ≡ old.theory) × ((b : Nodes) → rest_in b old ≡ rest_with b mid (job_of b t ∷ [])) → ((b : Nodes) → IsReadyWork b old → IsReadyWork b mid × IsTaskReady b t) →
+pub focused_by : (r : Result Turn Memory) (a now : Nodes) (old mid new : Work) (t : Task) (clause atom : TermId) (n : ProofNode) → t ≡ task.Focus
+    clause atom → (mid.theory ≡ old.theory) × ((b : Nodes) → rest_in b old ≡ rest_with b mid (job_of b t ∷ [])) →
+    ((b : Nodes) → IsReadyWork b old → IsReadyWork b mid × IsTaskReady b t) →
     IfOk r (λ turn. IsReadyWork a mid → IsReady a clause → IsReady a atom → IsNodeInside a n → IsTurned now mid new (λ b. focusing (tree b clause.0) (tree b atom.0)) (λ b. node_of b n) turn) → IfOk r (λ turn. IsReadyWork a old → IsNodeInside a n → IsStepped now old new (λ b. node_of b n) turn)
 focused_by (Err x) a now old mid new t clause atom n e s q k = tt
 focused_by (Ok u) a now old mid new t clause atom n e s q k = λ w i.

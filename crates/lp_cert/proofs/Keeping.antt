@@ -146,7 +146,9 @@ applied_back τ C S h (u ∷ us) js T c =
     let d = applied_back τ C S (app h u) us js T c in
     (arrow d.1.0 d.0, d.1.1, (d.1.0, d.1.2, (d.1.0, d.0, S, refl, d.2)))
 
-pub application_keeps : (now : Nodes) (old new : Typing) (head : TermId) (ids : List TermId) → IsTidy now old → Extends now now → new.constants ≡ old.constants → new.eigens ≡ old.eigens → new.context ≡ old.context → new.stack ≡ old.stack → new.pairs ≡ old.pairs → new.next ≡ old.next → All (IsTaskIn now) new.tasks.items →
+pub application_keeps : (now : Nodes) (old new : Typing) (head : TermId) (ids : List TermId) → IsTidy now old → Extends now now → new.constants ≡
+    old.constants → new.eigens ≡ old.eigens → new.context ≡ old.context → new.stack ≡ old.stack → new.pairs ≡ old.pairs → new.next ≡ old.next → All
+    (IsTaskIn now) new.tasks.items →
     ((b : Nodes) → steps_of b new.tasks.items ≡ visiting (tree b head.0) ∷ argument_steps (map (λ t. tree b t.0) ids) ++ steps_of b old.tasks.items) → Keeps now old new (λ b. visiting (apply (tree b head.0) (map (λ t. tree b t.0) ids)) ∷ []) true
 application_keeps now old new head ids y g ec ee ex es ep en ts h =
     let more : old.next ≤ new.next = omega (arith, en) in

@@ -52,7 +52,12 @@ pub mark_within : (b : Nodes) (k : Known) (i : ℕ) → IsKnown b k → get_or k
 mark_within b k i h e = elim (below_or i (length k.types.items)) [ inl l ↦ (let f = h.few_types in omega (arith, f, l)) | inr l ↦ absurd (let p = get_or-past k.types.items false i l in cc) ]
 
 pub fact_is : (b : Nodes) (k : Known) (i : ℕ) → IsKnown b k → length k.terms.items ≡ length b.terms → AreFacts (get_or k.terms.items i no_facts) (tree b i)
-fact_is b k i h e = elim (below_or i (length k.terms.items)) [ inl l ↦ h.terms i l | inr l ↦ subst (λ f. AreFacts f (tree b i)) (sym (get_or-past k.terms.items no_facts i l)) (subst (AreFacts no_facts) (sym (tree-past b i (omega (arith, e, l)))) (record { loose_is = refl; eigen_is = refl; plain_is = refl; positive_is = refl })) ]
+fact_is b k i h e = elim (below_or i (length k.terms.items)) [
+  | inl l ↦ h.terms i l
+  | inr l ↦ subst (λ f. AreFacts f (tree b i))
+      (sym (get_or-past k.terms.items no_facts i l)) (subst (AreFacts no_facts) (sym (tree-past b i (omega (arith, e, l))))
+      (record { loose_is = refl; eigen_is = refl; plain_is = refl; positive_is = refl }))
+]
 
 -- the parts of a constructor
 pub parts_marked : (ts : List Ty) → are_closed_parts (tys ts) ≡ are_closed ts

@@ -203,7 +203,12 @@ ones_hold b θ (p ∷ ps) h =
     (ap (λ T. instance θ (instance var T)) (All-head (λ (p : Pair). type_tree b p.left.0 ≡ type_tree b p.right.0) p ps h), ones_hold b θ ps (All-tail (λ (p : Pair). type_tree b p.left.0 ≡ type_tree b p.right.0) p ps h))
 
 pairs_inside : (b : Nodes) (ps : List Pair) → AreClosedPairs b ps → All (IsPair (length b.types)) ps
-pairs_inside b ps h = All-weaker (λ (p : Pair). (is_closed_type (type_tree b p.left.0) ≡ true) × (is_closed_type (type_tree b p.right.0) ≡ true)) (IsPair (length b.types)) (λ p k. (closed_type_inside b p.left.0 (type_is_closed (type_tree b p.left.0) k.0), closed_type_inside b p.right.0 (type_is_closed (type_tree b p.right.0) k.1))) ps h
+pairs_inside b ps h = All-weaker (λ (p : Pair). (is_closed_type (type_tree b p.left.0) ≡ true) × (is_closed_type (type_tree b p.right.0) ≡ true))
+    (IsPair (length b.types)) (λ p k. (
+      closed_type_inside b p.left.0 (type_is_closed (type_tree b p.left.0) k.0),
+      closed_type_inside b p.right.0
+          (type_is_closed (type_tree b p.right.0) k.1),
+    )) ps h
 
 pub ones_solved : (b : Nodes) (ps : List Pair) → AreOne b ps → HaveNoSolution (read_pairs (type_tree b) var ps) → ⊥
 ones_solved b ps h n = n var (hold_reverse var (map (read_pair (type_tree b) var) ps) (ones_hold b var ps h))
@@ -266,7 +271,9 @@ never_deep (Err x) P h = tt
 never_deep (Ok c) P h = λ e. absurd (h e)
 
 -- a comparison that went to its end
-pub found_equal : (b : Nodes) (ps qs : List Pair) (n : ℕ) (r : Result Bool Memory) (A B : Type 0) → qs ≡ ps → AreClosedPairs b ps → (A → B → AreOne b ps) → IfOk r (λ y. y ≡ false → All (IsPair (length b.types)) qs → HaveNoSolution (read_pairs (type_tree b) var qs)) → IfOk r (λ y. y ≡ false → A → B → ⊥)
+pub found_equal : (b : Nodes) (ps qs : List Pair) (n : ℕ) (r : Result Bool Memory) (A B : Type 0) → qs ≡ ps → AreClosedPairs b ps →
+    (A → B → AreOne b ps) → IfOk r (λ y. y ≡ false → All (IsPair (length b.types)) qs → HaveNoSolution (read_pairs (type_tree b) var qs)) → IfOk r
+    (λ y. y ≡ false → A → B → ⊥)
 found_equal b ps qs n (Err x) A B e c f h = tt
 found_equal b ps qs n (Ok y) A B e c f h = λ q a k. ones_solved b ps (f a k) (subst (λ xs. HaveNoSolution (read_pairs (type_tree b) var xs)) e (h q (subst (All (IsPair (length b.types))) (sym e) (pairs_inside b ps c))))
 
@@ -276,7 +283,9 @@ differs_at b w v all ts x y r e n a p f =
     let k = All_push_parts (λ (p : TermId × TermId). AllAtoms HasClosedTypes (tree b p.0.0)) ts (x, y) (subst (ArePlain b) e p) in
     subst (Follows b w v (tree b x.0) (tree b y.0)) n (f k.1) q.1
 
-pub follows_at : (b : Nodes) (w v : Comparing) (all ts : List (TermId × TermId)) (x y : TermId) (r : Bool) → all ≡ ts ++ (x, y) ∷ [] → w.terms.items ≡ ts → r ≡ true → AreEqual b all → AreOne b w.types.items → ArePlain b all → (AllAtoms HasClosedTypes (tree b x.0) → Follows b w v (tree b x.0) (tree b y.0) r) → AreEqual b v.terms.items × AreOne b v.types.items
+pub follows_at : (b : Nodes) (w v : Comparing) (all ts : List (TermId × TermId)) (x y : TermId) (r : Bool) → all ≡ ts ++ (x, y) ∷ [] → w.terms.items ≡
+    ts → r ≡ true → AreEqual b all → AreOne b w.types.items → ArePlain b all → (AllAtoms HasClosedTypes (tree b x.0) → Follows b w v (tree b x.0)
+    (tree b y.0) r) → AreEqual b v.terms.items × AreOne b v.types.items
 follows_at b w v all ts x y r e s n a o p f =
     let q = All_push_parts (λ (p : TermId × TermId). tree b p.0.0 ≡ tree b p.1.0) ts (x, y) (subst (AreEqual b) e a) in
     let k = All_push_parts (λ (p : TermId × TermId). AllAtoms HasClosedTypes (tree b p.0.0)) ts (x, y) (subst (ArePlain b) e p) in

@@ -51,7 +51,9 @@ pub binder_type : (b : Nodes) (t on : TermId) (of : TypeId) (c : ℕ) → tree b
 binder_type b t on of c e r l = let q = on_one b t on c (type_tree b of.0 ∷ []) e r l in (q.0, q.1.0)
 
 -- a witness for the type that the goal says is one for the type that was read
-pub witness_read : (b : Nodes) (w : Work) (G s r : Term) (T : Ty) (c : ℕ) (t : TermId) (of : TypeId) → G ≡ app (atom (constant c (T ∷ []))) s → G ≡ app (atom (constant c (type_tree b of.0 ∷ []))) r → IsWitness (declared_by b w.theory.constants.now) (types_in b w.eigens.items) (tree b t.0) T → IsWitnessIn b w t of
+pub witness_read : (b : Nodes) (w : Work) (G s r : Term) (T : Ty) (c : ℕ) (t : TermId) (of : TypeId) → G ≡ app (atom (constant c (T ∷ []))) s → G ≡
+    app (atom (constant c (type_tree b of.0 ∷ []))) r → IsWitness (declared_by b w.theory.constants.now) (types_in b w.eigens.items) (tree b t.0) T →
+    IsWitnessIn b w t of
 witness_read b w G s r T c t of e f h = subst (λ U. IsWitness (declared_by b w.theory.constants.now) (types_in b w.eigens.items) (tree b t.0) U) (binder_once c T (type_tree b of.0) s r (sym e ∙ f)).0 h
 
 -- closed types that were found open

@@ -44,7 +44,9 @@ pub witness_negative : (a : Nodes) (w : Work) (term : TermId) (of : TypeId) → 
 witness_negative a w term of l e b g h = let p = positive_is (tree a term.0) (subst IsPositive (g.same_terms term.0 l) h.positive) in absurd (cc)
 
 -- it does not fit the type; v is the work then
-pub witness_untyped : (a now : Nodes) (w v : Work) (term : TermId) (of : TypeId) (r : Result Bool Memory) → v.theory ≡ w.theory → v.eigens ≡ w.eigens → IfOk r (λ done. done ≡ false → IsSettled a v → term.0 < length a.terms → of.0 < length a.types → (b : Nodes) → Extends now b → IsOf b v term of → ⊥) →
+pub witness_untyped : (a now : Nodes) (w v : Work) (term : TermId) (of : TypeId) (r : Result Bool Memory) → v.theory ≡ w.theory → v.eigens ≡ w.eigens
+    → IfOk r (λ done. done ≡ false → IsSettled a v → term.0 < length a.terms → of.0 < length a.types → (b : Nodes) → Extends now b → IsOf b v term of
+    → ⊥) →
     IfOk r (λ done. done ≡ false → IsSettled a w → term.0 < length a.terms → of.0 < length a.types → (b : Nodes) → Extends now b → IsWitnessIn b w term of → ⊥)
 witness_untyped a now w v term of (Err x) et ee h = tt
 witness_untyped a now w v term of (Ok done) et ee h = λ q s l m b g o.

@@ -110,15 +110,21 @@ certificate_inside a b cs i c g l e h =
     record { types = inside_more a b c.types.items g k.types; values = terms_later a b c.values.items g k.values; proof = nodes_later a b c.proof.items g k.proof }
 
 -- over the program of the work
-pub refused_by : (b : Nodes) (w : Work) (q : Typed) (c : Certificate) (cs : List Declared) (ds : List code.ClauseFormula) → w.theory.constants.now ≡ cs → w.theory.clauses.now ≡ ds → (Certifies (ground_over b w.theory.constants.now w.theory.clauses.now) (query_of b q) (certificate_of b c) → ⊥) → Certifies (ground_over b cs ds) (query_of b q) (certificate_of b c) → ⊥
+pub refused_by : (b : Nodes) (w : Work) (q : Typed) (c : Certificate) (cs : List Declared) (ds : List code.ClauseFormula) → w.theory.constants.now ≡
+    cs → w.theory.clauses.now ≡ ds → (Certifies (ground_over b w.theory.constants.now w.theory.clauses.now) (query_of b q) (certificate_of b c) → ⊥) →
+    Certifies (ground_over b cs ds) (query_of b q) (certificate_of b c) → ⊥
 refused_by b w q c cs ds e f h = transport (λ j. Certifies (ground_over b (e j) (f j)) (query_of b q) (certificate_of b c) → ⊥) h
 
-pub large_by : (b : Nodes) (w : Work) (q : Typed) (c : Certificate) (cs : List Declared) (ds : List code.ClauseFormula) → w.theory.constants.now ≡ cs → w.theory.clauses.now ≡ ds → NeedsLargeForm (ground_over b w.theory.constants.now w.theory.clauses.now) (query_of b q) (certificate_of b c) → NeedsLargeForm (ground_over b cs ds) (query_of b q) (certificate_of b c)
+pub large_by : (b : Nodes) (w : Work) (q : Typed) (c : Certificate) (cs : List Declared) (ds : List code.ClauseFormula) → w.theory.constants.now ≡ cs
+    → w.theory.clauses.now ≡ ds → NeedsLargeForm (ground_over b w.theory.constants.now w.theory.clauses.now) (query_of b q) (certificate_of b c) →
+    NeedsLargeForm (ground_over b cs ds) (query_of b q) (certificate_of b c)
 large_by b w q c cs ds e f h = transport (λ j. NeedsLargeForm (ground_over b (e j) (f j)) (query_of b q) (certificate_of b c)) h
 
 -- the verdict, in the bank at the end
 module _ (a b : Nodes) (cs : List Declared) (ds : List code.ClauseFormula) (q : Typed) (xs : List Certificate) (certifies : Certificate → Type 0) (is : (c : Certificate) → CertifiesIn b cs ds q c → certifies c) where
-  pub stops_now : (r : Result CheckVerdict Memory) (v : ℕ → CheckVerdict) (Q : Nodes → Certificate → Type 0) → IfOk r (λ x. (i : ℕ) → x ≡ v i → AreDeclaredInside (length a.types) cs → All (IsClauseInside a) ds → IsQueryInside a q → All (IsCertificateInside a) xs → StopsAt (CertifiesIn b cs ds q) (λ c. (d : Nodes) → Extends b d → Q d c) xs i) →
+  pub stops_now : (r : Result CheckVerdict Memory) (v : ℕ → CheckVerdict) (Q : Nodes → Certificate → Type 0) → IfOk r
+      (λ x. (i : ℕ) → x ≡ v i → AreDeclaredInside (length a.types) cs → All (IsClauseInside a) ds → IsQueryInside a q → All (IsCertificateInside a) xs
+      → StopsAt (CertifiesIn b cs ds q) (λ c. (d : Nodes) → Extends b d → Q d c) xs i) →
       (P : Program) → P.bank ≡ a → P.constants.items ≡ cs → P.clauses.items ≡ ds → IfOk r (λ x. (i : ℕ) → x ≡ v i → AreNumbersInside P q xs → StopsAt certifies (Q b) xs i)
   stops_now (Err x) v Q k P eb ec ed = tt
   stops_now (Ok x) v Q k P eb ec ed = λ i e n.

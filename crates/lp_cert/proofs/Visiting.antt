@@ -54,7 +54,9 @@ closed_get b [] i of e h = absurd (cc)
 closed_get b (x ∷ xs) zero of e h = subst (λ t. IsClosedType (type_tree b t.0)) (let z : x ≡ of = cc in z) h.0
 closed_get b (x ∷ xs) (suc i) of e h = closed_get b xs i of e h.1
 
-pub eigen_kept : (now : Nodes) (old new : Typing) (r : Result Bool Memory) (level place : ℕ) (of : TypeId) → level ≡ suc place → slice_get old.eigens.now place ≡ Some of → IfOk r (Held now old new of) → IfOk r (λ done. IsTidy now old → Keeps now old new (λ b. visiting (atom (eigen level)) ∷ []) done)
+pub eigen_kept : (now : Nodes) (old new : Typing) (r : Result Bool Memory) (level place : ℕ) (of : TypeId) → level ≡ suc place → slice_get
+    old.eigens.now place ≡ Some of → IfOk r (Held now old new of) → IfOk r (λ done. IsTidy now old → Keeps now old new
+    (λ b. visiting (atom (eigen level)) ∷ []) done)
 eigen_kept now old new (Err x) level place of e g h = tt
 eigen_kept now old new (Ok done) level place of e g h = λ y.
     let c = closed_get now old.eigens.now place of g y.eigens in
@@ -125,7 +127,9 @@ visit_application a old new (Ok done) term head ids l m e h = λ y k.
     let q = apply_atoms HasClosedTypes (tree a head.0) (map (λ t. tree a t.0) ids) (subst (AllAtoms HasClosedTypes) (sym (e a (extends_same a))) k.1) in
     keeps_as a old new done (λ b. apply (tree b head.0) (map (λ t. tree b t.0) ids)) (λ b. tree b term.0) e (h a y (l, q.0) (argument_tasks a ids m q.1))
 
-pub visit_constant : (a now : Nodes) (old new : Typing) (r : Result Bool Memory) (term : TermId) (n : ℕ) (ids copy : List TypeId) → copy ≡ ids → Extends a now → term.0 < length a.terms → All (λ i. i < length a.types) (map (λ t. t.0) ids) → atom (constant n (map (type_tree a) (map (λ t. t.0) ids))) ≡ tree a term.0 →
+pub visit_constant : (a now : Nodes) (old new : Typing) (r : Result Bool Memory) (term : TermId) (n : ℕ) (ids copy : List TypeId) → copy ≡ ids →
+    Extends a now → term.0 < length a.terms → All (λ i. i < length a.types) (map (λ t. t.0) ids) → atom
+    (constant n (map (type_tree a) (map (λ t. t.0) ids))) ≡ tree a term.0 →
     IfOk r (λ done. IsTidy a old → AreClosed (types_in a copy) → Keeps now old new (λ b. visiting (atom (constant n (types_in b copy))) ∷ []) done) → IfOk r (λ done. IsTidy a old → IsTaskIn a (task.Visit term) → Keeps now old new (λ b. visiting (tree b term.0) ∷ []) done)
 visit_constant a now old new r term n ids copy e g l i t h =
     visit_as a now old new r term (λ b. atom (constant n (types_in b copy))) (AreClosed (types_in a copy))

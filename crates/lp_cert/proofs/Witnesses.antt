@@ -37,7 +37,10 @@ pub witnesses_next : (b c : Nodes) (cs : List code.Declared) (types : List TypeI
     AreWitnessesIn b cs types (take i ts) (take i ofs) → ((d : Nodes) → Extends c d → IsWitness (declared_by d cs) [] (tree d t.0) (instance (type_at (types_in d types)) (type_tree d of.0))) → AreWitnessesIn c cs types (take n ts) (take n ofs)
 witnesses_next b c cs types ts ofs i n t of m g l k et eo a w = λ d h.
     let f : TypeId → Ty = λ o. instance (type_at (types_in d types)) (type_tree d o.0) in
-    transport (λ j. AreWitnesses (declared_by d cs) (sym (map_pushed (λ x. tree d x.0) (take i ts) (take n ts) t (taken_next ts i n t m l et)) j) ((ap (λ Ts. Ts ++ f of ∷ []) (twice_mapped (type_at (types_in d types)) d (take i ofs)) ∙ sym (map_pushed f (take i ofs) (take n ofs) of (taken_next ofs i n of m k eo)) ∙ sym (twice_mapped (type_at (types_in d types)) d (take n ofs))) j))
+    transport (λ j. AreWitnesses (declared_by d cs) (sym (map_pushed (λ x. tree d x.0) (take i ts) (take n ts) t (taken_next ts i n t m l et)) j)
+    ((ap (λ Ts. Ts ++ f of ∷ []) (twice_mapped (type_at (types_in d types)) d (take i ofs)) ∙ sym
+    (map_pushed f (take i ofs) (take n ofs) of (taken_next ofs i n of m k eo)) ∙ sym (twice_mapped (type_at (types_in d types)) d (take n ofs)))
+    j))
     (witnesses_push (declared_by d cs) (terms_in d (take i ts)) (map (instance (type_at (types_in d types))) (types_in d (take i ofs))) (tree d t.0) (f of) (a d (extends-trans b c d g h)) (w d h))
 
 pub witnesses_whole : (b : Nodes) (cs : List code.Declared) (types : List TypeId) (ts : List TermId) (ofs : List TypeId) (i : ℕ) → length ts ≤ i → length ofs ≤ i → AreWitnessesIn b cs types (take i ts) (take i ofs) → AreWitnessesIn b cs types ts ofs

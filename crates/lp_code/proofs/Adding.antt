@@ -70,7 +70,10 @@ adds_unkeyed n old u h = record { told_more = more; keys_more = grown }
     rest = map constant (keys_of old.constants.entries) ++ (map integer (keys_of old.integers.entries) ++ map text_key (keys_of old.texts.entries))
 
     above : AllByRecursion (λ k. key_cmp no_key k ≡ Less) rest
-    above = both (λ k. key_cmp no_key k ≡ Less) (map constant (keys_of old.constants.entries)) _ (every constant _ (λ d. refl) (keys_of old.constants.entries)) (both (λ k. key_cmp no_key k ≡ Less) (map integer (keys_of old.integers.entries)) _ (every integer _ (λ z. refl) (keys_of old.integers.entries)) (every text_key _ (λ s. refl) (keys_of old.texts.entries)))
+    above = both (λ k. key_cmp no_key k ≡ Less) (map constant (keys_of old.constants.entries)) _
+        (every constant _ (λ d. refl) (keys_of old.constants.entries)) (both (λ k. key_cmp no_key k ≡ Less)
+        (map integer (keys_of old.integers.entries)) _ (every integer _ (λ z. refl) (keys_of old.integers.entries))
+        (every text_key _ (λ s. refl) (keys_of old.texts.entries)))
 
     grown : own_key u.items ++ rest ≡ insert_key key_cmp (own_key old.unkeyed.items ++ rest) no_key
     grown = ap (λ ns. own_key ns ++ rest) h ∙ ap (λ ks. ks ++ rest) (head_first old.unkeyed.items n) ∙ sym (no_key_first old.unkeyed.items rest above)

@@ -22,7 +22,17 @@ by_both : {A B : Type 0} (P : Vec A Global → Vec B Global → Type 0) (xs : Li
     → ((v : Vec A Global) (ok : vec.ok-type A Global v.ptr v.len v.cap v.alloc xs) (small : vec.small-type A Global v.ptr v.len v.cap v.alloc xs ok)
     (w : Vec B Global) (okay : vec.ok-type B Global w.ptr w.len w.cap w.alloc (f (record { ptr = v.ptr; len = v.len; cap = v.cap; alloc = v.alloc; items = xs; ok = ok; small = small })))
     (little : vec.small-type B Global w.ptr w.len w.cap w.alloc (f (record { ptr = v.ptr; len = v.len; cap = v.cap; alloc = v.alloc; items = xs; ok = ok; small = small })) okay)
-    → P (record { ptr = v.ptr; len = v.len; cap = v.cap; alloc = v.alloc; items = xs; ok = ok; small = small }) (record { ptr = w.ptr; len = w.len; cap = w.cap; alloc = w.alloc; items = f (record { ptr = v.ptr; len = v.len; cap = v.cap; alloc = v.alloc; items = xs; ok = ok; small = small }); ok = okay; small = little }))
+    → P (record { ptr = v.ptr; len = v.len; cap = v.cap; alloc = v.alloc; items = xs; ok = ok; small = small })
+    (record {
+      ptr = w.ptr;
+      len = w.len;
+      cap = w.cap;
+      alloc = w.alloc;
+      items = f
+          (record { ptr = v.ptr; len = v.len; cap = v.cap; alloc = v.alloc; items = xs; ok = ok; small = small });
+      ok = okay;
+      small = little;
+    }))
     → (v : Vec A Global) → v.items ≡ xs → (w : Vec B Global) → w.items ≡ f v → P v w
 by_both {A} {B} P xs f h v d w e =
     by_items (λ n. (c : Vec B Global) → c.items ≡ f n → P n c) xs

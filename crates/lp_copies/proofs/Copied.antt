@@ -150,14 +150,18 @@ pub turn_entered : (uses : List (List ℕ)) (root root_then : ℕ) (left left_th
     (left_then ≡ left) × (to < length uses) × (map (λ f. f.0) ((at_then, next_then) ∷ reverse around_then) ≡ to ∷ map (λ f. f.0) ((at, next) ∷ reverse around))
 turn_entered uses root root_then left left_then entered entered_then around around_then at at_then next next_then to all few inside is c (er, el, ee, eo, ea, en) =
     moved_by (Moved uses root to left (map (λ f. f.0) ((at, next) ∷ reverse around)) to (2 * (4096 - entered) + length ((at, next) ∷ reverse around))) er el ee eo ea en
-    (subst (λ r. Copying uses root left (entered + 1) ((to, 0) ∷ r) × (root ≡ root) × (2 * (4096 - (entered + 1)) + length ((to, 0) ∷ r) < 2 * (4096 - entered) + length ((at, next) ∷ reverse around)) × (left ≡ left) × (to < length uses) × (map (λ f. f.0) ((to, 0) ∷ r) ≡ to ∷ map (λ f. f.0) ((at, next) ∷ reverse around)))
+    (subst (λ r. Copying uses root left (entered + 1) ((to, 0) ∷ r) × (root ≡ root) ×
+    (2 * (4096 - (entered + 1)) + length ((to, 0) ∷ r) < 2 * (4096 - entered) + length ((at, next) ∷ reverse around)) × (left ≡ left) ×
+    (to < length uses) × (map (λ f. f.0) ((to, 0) ∷ r) ≡ to ∷ map (λ f. f.0) ((at, next) ∷ reverse around)))
     (sym (reverse-append around ((at, next + 1) ∷ [])))
     (copy_opens uses root left entered at next to (reverse around) few inside is within c, refl, omega (arith, few), refl, within, refl))
   where
     within : to < length uses
     within = entry_within uses at next to all (innermost uses root left entered at next (reverse around) c) inside is
 
-pub turn_left : (uses : List (List ℕ)) (root : ℕ) (left left_then : List ℕ) (entered : ℕ) (around around_then : List Frame) (at next : ℕ) (f : Frame) → length (get_or uses at []) ≤ next → left_then ≡ left ++ at ∷ [] → around ≡ around_then ++ f ∷ [] → Copying uses root left entered ((at, next) ∷ reverse around) →
+pub turn_left : (uses : List (List ℕ)) (root : ℕ) (left left_then : List ℕ) (entered : ℕ) (around around_then : List Frame) (at next : ℕ) (f : Frame)
+    → length (get_or uses at []) ≤ next → left_then ≡ left ++ at ∷ [] → around ≡ around_then ++ f ∷ [] → Copying uses root left entered
+    ((at, next) ∷ reverse around) →
     Copying uses root left_then entered ((f.0, f.1) ∷ reverse around_then) × (root ≡ root) × (2 * (4096 - entered) + length ((f.0, f.1) ∷ reverse around_then) < 2 * (4096 - entered) + length ((at, next) ∷ reverse around)) ×
     (left_then ≡ left ++ at ∷ []) × (at < length uses) × (map (λ g. g.0) ((at, next) ∷ reverse around) ≡ at ∷ map (λ g. g.0) ((f.0, f.1) ∷ reverse around_then))
 turn_left uses root left left_then entered around around_then at next f past is popped c = (

@@ -246,22 +246,34 @@ order_stands h later s standard.Less c l r i d n a e =
     let is : on.Less l r ≡ i = cc in
     let number = number_back c standard.Less n in
     let fits = order_fits h s c l r (ap h.tables.constants number ∙ d.at 10 (omega arith)) a in
-    subst (λ i. StandsFor h later s i c [] (l ∷ r ∷ [])) is (read_by refl refl refl refl a.types_set a.terms_set refl fits a.closed refl (ap (λ x. not x) a.behind_head) refl (λ rest. refl) refl (ap (λ m. Some (turned s (with_goal s.goals (Atomic (apply (atom (constant m [])) ((term_in s.now l).term ∷ (term_in s.now r).term ∷ [])))) s.head_types s.head_arguments)) (sym number)) (omega arith))
+    subst (λ i. StandsFor h later s i c [] (l ∷ r ∷ [])) is (read_by refl refl refl refl a.types_set a.terms_set refl fits a.closed refl
+    (ap (λ x. not x) a.behind_head) refl (λ rest. refl) refl (ap (λ m. Some (turned s
+    (with_goal s.goals (Atomic (apply (atom (constant m [])) ((term_in s.now l).term ∷ (term_in s.now r).term ∷ [])))) s.head_types
+    s.head_arguments)) (sym number)) (omega arith))
 order_stands h later s standard.Greater c l r i d n a e =
     let is : on.Greater l r ≡ i = cc in
     let number = number_back c standard.Greater n in
     let fits = order_fits h s c l r (ap h.tables.constants number ∙ d.at 11 (omega arith)) a in
-    subst (λ i. StandsFor h later s i c [] (l ∷ r ∷ [])) is (read_by refl refl refl refl a.types_set a.terms_set refl fits a.closed refl (ap (λ x. not x) a.behind_head) refl (λ rest. refl) refl (ap (λ m. Some (turned s (with_goal s.goals (Atomic (apply (atom (constant m [])) ((term_in s.now l).term ∷ (term_in s.now r).term ∷ [])))) s.head_types s.head_arguments)) (sym number)) (omega arith))
+    subst (λ i. StandsFor h later s i c [] (l ∷ r ∷ [])) is (read_by refl refl refl refl a.types_set a.terms_set refl fits a.closed refl
+    (ap (λ x. not x) a.behind_head) refl (λ rest. refl) refl (ap (λ m. Some (turned s
+    (with_goal s.goals (Atomic (apply (atom (constant m [])) ((term_in s.now l).term ∷ (term_in s.now r).term ∷ [])))) s.head_types
+    s.head_arguments)) (sym number)) (omega arith))
 order_stands h later s standard.AtMost c l r i d n a e =
     let is : on.AtMost l r ≡ i = cc in
     let number = number_back c standard.AtMost n in
     let fits = order_fits h s c l r (ap h.tables.constants number ∙ d.at 12 (omega arith)) a in
-    subst (λ i. StandsFor h later s i c [] (l ∷ r ∷ [])) is (read_by refl refl refl refl a.types_set a.terms_set refl fits a.closed refl (ap (λ x. not x) a.behind_head) refl (λ rest. refl) refl (ap (λ m. Some (turned s (with_goal s.goals (Atomic (apply (atom (constant m [])) ((term_in s.now l).term ∷ (term_in s.now r).term ∷ [])))) s.head_types s.head_arguments)) (sym number)) (omega arith))
+    subst (λ i. StandsFor h later s i c [] (l ∷ r ∷ [])) is (read_by refl refl refl refl a.types_set a.terms_set refl fits a.closed refl
+    (ap (λ x. not x) a.behind_head) refl (λ rest. refl) refl (ap (λ m. Some (turned s
+    (with_goal s.goals (Atomic (apply (atom (constant m [])) ((term_in s.now l).term ∷ (term_in s.now r).term ∷ [])))) s.head_types
+    s.head_arguments)) (sym number)) (omega arith))
 order_stands h later s standard.AtLeast c l r i d n a e =
     let is : on.AtLeast l r ≡ i = cc in
     let number = number_back c standard.AtLeast n in
     let fits = order_fits h s c l r (ap h.tables.constants number ∙ d.at 13 (omega arith)) a in
-    subst (λ i. StandsFor h later s i c [] (l ∷ r ∷ [])) is (read_by refl refl refl refl a.types_set a.terms_set refl fits a.closed refl (ap (λ x. not x) a.behind_head) refl (λ rest. refl) refl (ap (λ m. Some (turned s (with_goal s.goals (Atomic (apply (atom (constant m [])) ((term_in s.now l).term ∷ (term_in s.now r).term ∷ [])))) s.head_types s.head_arguments)) (sym number)) (omega arith))
+    subst (λ i. StandsFor h later s i c [] (l ∷ r ∷ [])) is (read_by refl refl refl refl a.types_set a.terms_set refl fits a.closed refl
+    (ap (λ x. not x) a.behind_head) refl (λ rest. refl) refl (ap (λ m. Some (turned s
+    (with_goal s.goals (Atomic (apply (atom (constant m [])) ((term_in s.now l).term ∷ (term_in s.now r).term ∷ [])))) s.head_types
+    s.head_arguments)) (sym number)) (omega arith))
 order_stands h later s _ c l r i d n a e = absurd (cc)
 
 own_stands : (h : Home) (later : Later) (s : State) (k : Constant) (c : ℕ) (ts rs : List ℕ) (i : Instr) → IsStandard h.tables.constants → numbered c ≡ Some k → AreGoalParts h s c ts rs →
@@ -354,7 +366,9 @@ pub constant_got : (old new : Emitter) (i c : ℕ) (v : Vec ℕ Global) → new.
     ConstantGot old new i c v.items
 constant_got old new i c v code same_types same_registers =
     part_put old new (on.GetConst i c v) v.items [] (λ h s. IsNextConstant h s i c v.items) (λ s. s.goals) (λ s. s.head_types) (λ h s. s.head_arguments ++ constant_of h.tables c
-    (types_in s.now v.items) ∷ []) code same_types same_registers (record { no_own = refl; no_types = refl }) (λ h later s d a. read_by refl refl refl refl a.types_set refl (ap (λ x. not x) a.declared) (ap (λ x. not x) a.next.typed) refl a.in_terms a.next.in_turn refl (λ rest. refl) refl refl (omega arith))
+    (types_in s.now v.items) ∷ []) code same_types same_registers (record { no_own = refl; no_types = refl })
+    (λ h later s d a. read_by refl refl refl refl a.types_set refl (ap (λ x. not x) a.declared) (ap (λ x. not x) a.next.typed) refl a.in_terms
+    a.next.in_turn refl (λ rest. refl) refl refl (omega arith))
 
 pub integer_got : (old new : Emitter) (i : ℕ) (z : ℤ) → new.code.items ≡ old.code.items ++ on.GetInt i z ∷ [] → new.types ≡ old.types → new.registers ≡ old.registers → IntegerGot old new i z
 integer_got old new i z code same_types same_registers =
@@ -370,7 +384,9 @@ text_got old new i v code same_types same_registers =
 pub term_got : (old new : Emitter) (i r : ℕ) → new.code.items ≡ old.code.items ++ on.Get i r ∷ [] → new.types ≡ old.types → new.registers ≡ old.registers → TermGot old new i r
 term_got old new i r code same_types same_registers =
     part_put old new (on.Get i r) [] (r ∷ []) (λ h s. IsNextTerm h s i r) (λ s. s.goals) (λ s. s.head_types)
-    (λ h s. s.head_arguments ++ term_in s.now r ∷ []) code same_types same_registers (record { no_own = refl; no_types = refl }) (λ h later s d a. read_by refl refl refl refl refl a.terms_set refl (ap (λ x. not x) a.next.typed) a.closed refl a.next.in_turn a.known (λ rest. refl) refl refl (omega arith))
+    (λ h s. s.head_arguments ++ term_in s.now r ∷ []) code same_types same_registers (record { no_own = refl; no_types = refl })
+    (λ h later s d a. read_by refl refl refl refl refl a.terms_set refl (ap (λ x. not x) a.next.typed) a.closed refl a.next.in_turn a.known
+    (λ rest. refl) refl refl (omega arith))
 
 pub type_got : (old new : Emitter) (j t : ℕ) → new.code.items ≡ old.code.items ++ on.GetType j t ∷ [] → new.types ≡ old.types → new.registers ≡ old.registers → TypeGot old new j t
 type_got old new j t code same_types same_registers =

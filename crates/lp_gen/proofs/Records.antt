@@ -11,4 +11,6 @@ fit_more old new r e f all = subst AllFit (sym e) (All-append (λ (r : Record). 
 pub short_more : (old new : List Record) (r : Record) → new ≡ old ++ r ∷ [] → sum_by length_of r.code.items ≤ 4294967295 → All (λ r. sum_by length_of r.code.items < 2 ^ 32) old → All (λ r. sum_by length_of r.code.items < 2 ^ 32) new
 short_more old new r e s all =
     let short : sum_by length_of r.code.items < 2 ^ 32 = omega (arith, s) in
-    subst (All (λ (r : Record). sum_by length_of r.code.items < 2 ^ 32)) (sym e) (All-append (λ (r : Record). sum_by length_of r.code.items < 2 ^ 32) old (r ∷ []) all (All-cons (λ (r : Record). sum_by length_of r.code.items < 2 ^ 32) r [] short (All-nil (λ (r : Record). sum_by length_of r.code.items < 2 ^ 32))))
+    subst (All (λ (r : Record). sum_by length_of r.code.items < 2 ^ 32)) (sym e) (All-append (λ (r : Record). sum_by length_of r.code.items < 2 ^ 32)
+    old (r ∷ []) all (All-cons (λ (r : Record). sum_by length_of r.code.items < 2 ^ 32) r [] short
+    (All-nil (λ (r : Record). sum_by length_of r.code.items < 2 ^ 32))))

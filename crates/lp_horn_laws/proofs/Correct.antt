@@ -102,7 +102,9 @@ counted_task (Try c g b) = Try (counted c) g (counted_branch b)
 counted_look : (P : List Clause) (height : ℕ) (t : Task) → look by_number (map counted P) height (counted_task t) ≡ view_map counted_task counted_answer (look by_type P height t)
 counted_look P height (Go b) = go b.goals
   where
-    pass : (g : Term) (b' : Branch) (c : Clause) (R0 : List Horn) (R : List Clause) (t : Bool) → map (λ x. Try x g (counted_branch b')) R0 ≡ map counted_task (map (λ x. Try x g b') R) → map (λ x. Try x g (counted_branch b')) (cond t (counted c ∷ R0) R0) ≡ map counted_task (map (λ x. Try x g b') (cond t (c ∷ R) R))
+    pass : (g : Term) (b' : Branch) (c : Clause) (R0 : List Horn) (R : List Clause) (t : Bool) → map (λ x. Try x g (counted_branch b')) R0 ≡ map
+        counted_task (map (λ x. Try x g b') R) → map (λ x. Try x g (counted_branch b')) (cond t (counted c ∷ R0) R0) ≡ map counted_task
+        (map (λ x. Try x g b') (cond t (c ∷ R) R))
     pass g b' c R0 R true e = ap (λ xs. Try (counted c) g (counted_branch b') ∷ xs) e
     pass g b' c R0 R false e = e
 

@@ -55,7 +55,9 @@ stands_more old new ids id values v e s h f = record {
 }
 
 -- the values of a search's variables, put in the bank one by one
-pub stands_next : (old new : Nodes) (ids more : List TermId) (id : TermId) (values : List Value) (i : ℕ) (d : Value) → Extends old new → Stands old ids (map value_term (take i values)) → id.0 < length new.terms → tree new id.0 ≡ value_term (get_or values i d) → i < length values → more ≡ ids ++ id ∷ [] → Stands new more (map value_term (take (i + 1) values))
+pub stands_next : (old new : Nodes) (ids more : List TermId) (id : TermId) (values : List Value) (i : ℕ) (d : Value) → Extends old new → Stands old
+    ids (map value_term (take i values)) → id.0 < length new.terms → tree new id.0 ≡ value_term (get_or values i d) → i < length values → more ≡ ids
+    ++ id ∷ [] → Stands new more (map value_term (take (i + 1) values))
 stands_next old new ids more id values i d e s h f l m =
     let one = stands_more old new ids id (map value_term (take i values)) (value_term (get_or values i d)) e s h f in
     let two = subst (λ vs. Stands new (ids ++ id ∷ []) vs) (sym (map_more value_term values i d l)) one in

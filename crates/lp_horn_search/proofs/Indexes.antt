@@ -87,7 +87,9 @@ found_after rules index at r o x s e =
     let n : length index.nexts.items ≡ length rules = ap length x.1 ∙ length_nexts 0 rules in
     let p : at + 1 ≡ suc at = omega arith in
     let z : 0 + at ≡ at = omega arith in
-    let got = e ∙ ap (λ k. get_or index.nexts.items (k - 1 - at) None) n ∙ ap (λ xs. get_or xs (length rules - 1 - at) None) x.1 ∙ next_at 0 rules at r None l ∙ ap (λ k. first_from (suc k) (drop (suc at) rules) (get_or rules at r).head.name) z ∙ ap (λ (y : Rule). first_from (suc at) (drop (suc at) rules) y.head.name) (get_or_from_slice_get rules at r r s) in
+    let got = e ∙ ap (λ k. get_or index.nexts.items (k - 1 - at) None) n ∙ ap (λ xs. get_or xs (length rules - 1 - at) None) x.1 ∙ next_at 0 rules at
+    r None l ∙ ap (λ k. first_from (suc k) (drop (suc at) rules) (get_or rules at r).head.name) z ∙ ap
+    (λ (y : Rule). first_from (suc at) (drop (suc at) rules) y.head.name) (get_or_from_slice_get rules at r r s) in
     rw p (subst (λ q. IsFound rules r.head.name (suc at) q) (sym got) (first_found rules (drop (suc at) rules) (suc at) r.head.name refl))
 
 pub within_index : (rules : List Rule) (index : Index) (at : ℕ) → IsIndex rules index → at < length rules → at < length index.nexts.items

@@ -21,7 +21,9 @@ bank_stays b = record {
   same_terms = λ i h. refl;
 }
 
-pub next_answer : (P : List model.Horn) (n m a g : ℕ) (before after : List (TaskOf ℕ)) (v : Vec Value Global) → g ≤ a → g ≢ a → Tells P n before (Answered v) m after → (x : AnswerOf ℕ) × (x.values ≡ map value_term v.items) × Advances (look by_number P) (at_state n (a - g) g before) (Gave x) (at_state m (a - (g + 1)) (g + 1) after)
+pub next_answer : (P : List model.Horn) (n m a g : ℕ) (before after : List (TaskOf ℕ)) (v : Vec Value Global) → g ≤ a → g ≢ a → Tells P n before
+    (Answered v) m after → (x : AnswerOf ℕ) × (x.values ≡ map value_term v.items) × Advances (look by_number P) (at_state n (a - g) g before) (Gave x)
+    (at_state m (a - (g + 1)) (g + 1) after)
 unfolding Tells
 next_answer P n m a g before after v l h t =
     let e : a - g ≡ suc (a - g - 1) = omega arith in

@@ -52,7 +52,9 @@ constant_apply f [] = refl
 constant_apply f (a ∷ args) = constant_apply (app f a) args
 
 -- a goal of a body, for a branch
-pub instance_is : (bs : List fill.Binding) (i c : ℕ) (slots : List Slot) (values : List Value) (n : ℕ) → length slots ≤ n → map value_term values ≡ map (λ s. fill.put_all bs (renamed i (slot_term s))) (take n slots) → predicate c (map value_term values) ≡ fill.put_all bs (renamed i (predicate c (map slot_term slots)))
+pub instance_is : (bs : List fill.Binding) (i c : ℕ) (slots : List Slot) (values : List Value) (n : ℕ) → length slots ≤ n → map value_term values ≡
+    map (λ s. fill.put_all bs (renamed i (slot_term s))) (take n slots) → predicate c (map value_term values) ≡ fill.put_all bs
+    (renamed i (predicate c (map slot_term slots)))
 instance_is bs i c slots values n h e = ap (predicate c) (e ∙ whole_three (fill.put_all bs) (renamed i) slot_term slots n h) ∙ sym (put_all_predicate bs c (map (renamed i) (map slot_term slots))) ∙ ap (fill.put_all bs) (sym (renamed_predicate i c (map slot_term slots)))
 
 pub goal_is : (bs : List fill.Binding) (c : ℕ) (old new : List Term) → new ≡ map (fill.put_all bs) old → predicate c new ≡ fill.put_all bs (predicate c old)

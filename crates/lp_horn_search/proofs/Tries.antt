@@ -70,10 +70,14 @@ first_task : (rules : List Rule) (name from at : ℕ) (r : Rule) (g : Goal) (b :
 first_task rules name from at r g b e h s =
     let here = drop_more rules at r h.within ∙ ap (λ x. x ∷ drop (at + 1) rules) (get_or_from_slice_get rules at r r s) in
     let same : is_named g.name r ≡ true = eq-eqb r.head.name g.name (h.named r s ∙ sym e) in
-    tasks_are rules at g b ∙ ap (λ xs. map (try_of g b) (filter (is_named g.name) xs)) here ∙ ap (λ t. map (try_of g b) (cond t (r ∷ filter (is_named g.name) (drop (at + 1) rules)) (filter (is_named g.name) (drop (at + 1) rules)))) same ∙ ap (λ ts. try_of g b r ∷ ts) (sym (tasks_are rules (at + 1) g b))
+    tasks_are rules at g b ∙ ap (λ xs. map (try_of g b) (filter (is_named g.name) xs)) here ∙ ap
+    (λ t. map (try_of g b) (cond t (r ∷ filter (is_named g.name) (drop (at + 1) rules)) (filter (is_named g.name) (drop (at + 1) rules)))) same ∙
+    ap (λ ts. try_of g b r ∷ ts) (sym (tasks_are rules (at + 1) g b))
 
 -- the arguments that are unified
-resolves : (r : Rule) (g : Goal) (b : Branch) (o : Option (List fill.Binding)) → o ≡ unify (map value_term g.args.items) (map (renamed b.vars) (map slot_term r.head.args.items)) [] → resolve by_number (rule_clause r) (goal_term g) (branch_state b) ≡ resumed by_number (rule_clause r) (branch_state b) o
+resolves : (r : Rule) (g : Goal) (b : Branch) (o : Option (List fill.Binding)) → o ≡ unify (map value_term g.args.items)
+    (map (renamed b.vars) (map slot_term r.head.args.items)) [] → resolve by_number (rule_clause r) (goal_term g) (branch_state b) ≡ resumed by_number
+    (rule_clause r) (branch_state b) o
 unfolding goal_term pattern_term rule_clause branch_state
 resolves r g b o e =
     let left = arguments_predicate g.name (map value_term g.args.items) in

@@ -17,14 +17,18 @@ use Rattle.lp_horn_search.proofs.Moves.{passes_here, passes_on, taken, answered,
 use Rattle.lp_horn_search.proofs.Tries.{stack_push}
 
 -- a goal is taken, and its candidates are tried
-pub took : (P : List model.Horn) (cs new : List Choice) (b rest : Branch) (g : Goal) (n : ℕ) → b.goals.items ≡ rest.goals.items ++ g ∷ [] → rest.vars ≡ b.vars → rest.query ≡ b.query → 0 < n → Passes P (n - 1) (tasks_of P (Trying 0 g rest) ++ stack_of P cs) (n - 1) (stack_of P new) → Passes P n (stack_of P (cs ++ Going b ∷ [])) (n - 1) (stack_of P new)
+pub took : (P : List model.Horn) (cs new : List Choice) (b rest : Branch) (g : Goal) (n : ℕ) → b.goals.items ≡ rest.goals.items ++ g ∷ [] → rest.vars
+    ≡ b.vars → rest.query ≡ b.query → 0 < n → Passes P (n - 1) (tasks_of P (Trying 0 g rest) ++ stack_of P cs) (n - 1) (stack_of P new) → Passes P n
+    (stack_of P (cs ++ Going b ∷ [])) (n - 1) (stack_of P new)
 unfolding tasks_of
 took P cs new b rest g zero e f h l p = absurd (omega arith)
 took P cs new b rest g (suc n) e f h l p =
     let m : suc n - 1 ≡ n = omega arith in
     let s = stack_push P cs (Going b) ∙ ap (λ x. Go x ∷ stack_of P cs) (popped b rest g e f h) in
     let q = subst (λ x. Passes P x (tries P (goal_term g) (branch_state rest) ++ stack_of P cs) x (stack_of P new)) m p in
-    subst (λ x. Passes P (suc n) (stack_of P (cs ++ Going b ∷ [])) x (stack_of P new)) (sym m) (passes_on P (suc n) (suc n) n _ _ _ (passes_here P (suc n) _ _ s) (passes_on P (suc n) n n _ _ _ (taken P (goal_term g) (branch_state rest).goals (branch_state rest).vars (branch_state rest).query (stack_of P cs) n) q))
+    subst (λ x. Passes P (suc n) (stack_of P (cs ++ Going b ∷ [])) x (stack_of P new)) (sym m)
+    (passes_on P (suc n) (suc n) n _ _ _ (passes_here P (suc n) _ _ s) (passes_on P (suc n) n n _ _ _
+    (taken P (goal_term g) (branch_state rest).goals (branch_state rest).vars (branch_state rest).query (stack_of P cs) n) q))
 
 -- the candidates that were left are tried
 pub went_on : (P : List model.Horn) (cs new : List Choice) (i : ℕ) (g : Goal) (b : Branch) (n : ℕ) → Passes P n (tasks_of P (Trying i g b) ++ stack_of P cs) n (stack_of P new) → Passes P n (stack_of P (cs ++ Trying i g b ∷ [])) n (stack_of P new)
@@ -34,7 +38,9 @@ pub gave : (P : List model.Horn) (cs : List Choice) (b : Branch) (n : ℕ) → b
 unfolding Tells tasks_of
 gave P cs b n e = rw (stack_push P cs (Going b), finished b e) (answered P b.vars (map value_term b.query.items) (stack_of P cs) n)
 
-pub stays : (P : List model.Horn) (cs : List Choice) (b again rest : Branch) (g : Goal) (n : ℕ) → n ≡ 0 → b.goals.items ≡ rest.goals.items ++ g ∷ [] → rest.vars ≡ b.vars → rest.query ≡ b.query → again.goals.items ≡ rest.goals.items ++ g ∷ [] → rest.vars ≡ again.vars → rest.query ≡ again.query → Tells P n (stack_of P (cs ++ Going b ∷ [])) Stopped n (stack_of P (cs ++ Going again ∷ []))
+pub stays : (P : List model.Horn) (cs : List Choice) (b again rest : Branch) (g : Goal) (n : ℕ) → n ≡ 0 → b.goals.items ≡ rest.goals.items ++ g ∷ [] →
+    rest.vars ≡ b.vars → rest.query ≡ b.query → again.goals.items ≡ rest.goals.items ++ g ∷ [] → rest.vars ≡ again.vars → rest.query ≡ again.query →
+    Tells P n (stack_of P (cs ++ Going b ∷ [])) Stopped n (stack_of P (cs ++ Going again ∷ []))
 unfolding tasks_of
 stays P cs b again rest g n z e f h i j k = rw (z, stack_push P cs (Going b), stack_push P cs (Going again), popped b rest g e f h, popped again rest g i j k) (stopped P (goal_term g) (branch_state rest).goals (branch_state rest).vars (branch_state rest).query (stack_of P cs))
 
@@ -61,7 +67,9 @@ pub went_smaller : (c : ℕ) (cs new : List Choice) (i : ℕ) (g : Goal) (b : Br
 unfolding weight_of
 went_smaller c cs new i g b n h = let f = weight_push c cs (Trying i g b) in omega (arith, f)
 
-pub pushed_smaller : (rules : List Rule) (name from at : ℕ) (r : Rule) (bs : List Binding) (o : Option ℕ) (g : Goal) (b : Branch) (old new : List Choice) → at < length rules → from ≤ at → IsAt rules name (at + 1) o → Pushes r bs o g b old new → weight (length rules) new ≤ weight (length rules) old + 2 * (length rules - from)
+pub pushed_smaller : (rules : List Rule) (name from at : ℕ) (r : Rule) (bs : List Binding) (o : Option ℕ) (g : Goal) (b : Branch)
+    (old new : List Choice) → at < length rules → from ≤ at → IsAt rules name (at + 1) o → Pushes r bs o g b old new → weight (length rules) new ≤
+    weight (length rules) old + 2 * (length rules - from)
 unfolding weight_of
 pushed_smaller rules name from at r bs None g b old new l k h p =
     let e = ap (weight (length rules)) p.pushed ∙ weight_push (length rules) old (Going p.made) in

@@ -369,7 +369,9 @@ variables_made old mid new count ids other F same types context wanted pairs sta
     }
 
 -- the end
-pub end_made : (old mid new : Typing) (has goal : TypeId) (others : List TypeId) → old.stack.items ≡ others ++ has ∷ [] → Extends old.types mid.types → IsType mid.types goal o_type → mid.context ≡ old.context → mid.pairs ≡ old.pairs → mid.wanted ≡ old.wanted → mid.stack.items ≡ others → IsEquated has goal mid new →
+pub end_made : (old mid new : Typing) (has goal : TypeId) (others : List TypeId) → old.stack.items ≡ others ++ has ∷ [] → Extends old.types mid.types
+    → IsType mid.types goal o_type → mid.context ≡ old.context → mid.pairs ≡ old.pairs → mid.wanted ≡ old.wanted → mid.stack.items ≡ others →
+    IsEquated has goal mid new →
     IsEnded old new
 end_made old mid new has goal others s E is context pairs wanted stack Q =
     let F : Extends old.types new.types = subst (Extends old.types) (sym Q.types) E in

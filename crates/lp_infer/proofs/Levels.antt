@@ -47,7 +47,9 @@ entered name scope old new d l H = record {
       l other ∙ ap (λ n. if bytes_eq other name then Some n else level_in old other) H.depth ∙ ap (λ o. if bytes_eq other name then Some (length scope) else o) (H.levels other) ∙ sym (level_more name other scope);
 }
 
-pub left : (name : List ℕ) (scope : List (List ℕ)) (outside : Option ℕ) (old new : Scope) → new.depth ≡ old.depth - 1 → ((other : List ℕ) → level_in new other ≡ (if bytes_eq other name then outside else level_in old other)) → HasScope (name ∷ scope) old → outside ≡ level_of name scope → HasScope scope new
+pub left : (name : List ℕ) (scope : List (List ℕ)) (outside : Option ℕ) (old new : Scope) → new.depth ≡ old.depth - 1 →
+    ((other : List ℕ) → level_in new other ≡ (if bytes_eq other name then outside else level_in old other)) → HasScope (name ∷ scope) old → outside ≡
+    level_of name scope → HasScope scope new
 left name scope outside old new d l H o = record {
   depth = d ∙ (let e : old.depth - 1 ≡ length scope = omega (arith, H.depth) in e);
   levels = λ other. l other ∙ go other (bytes_eq other name) refl;

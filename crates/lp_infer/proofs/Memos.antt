@@ -191,7 +191,9 @@ module _ (A : ℕ → Ty) where
         sym (met_append (type_variables (A id.0)) (pending A ts) r.numbers.keys ∙ ap (λ N. met N (pending A ts)) (met_again (type_variables (A id.0)) r.numbers.keys (subst (λ T. AllMet r.numbers.keys (type_variables T)) same R.all)));
   }
 
-  pub taken_variable : (b c : Nodes) (old new : Reading) (id top : TypeId) (v : ℕ) (ts : List Task) → A top.0 ≡ A id.0 → A top.0 ≡ var v → new.numbers.keys ≡ insert_key nat_eq old.numbers.keys v → (A top.0 ≡ var v → IsReadMemo A b old → IsReadMemo A c new) → IsTaken A b c old new (task.Visit id ∷ ts) ts
+  pub taken_variable : (b c : Nodes) (old new : Reading) (id top : TypeId) (v : ℕ) (ts : List Task) → A top.0 ≡ A id.0 → A top.0 ≡ var v →
+      new.numbers.keys ≡ insert_key nat_eq old.numbers.keys v → (A top.0 ≡ var v → IsReadMemo A b old → IsReadMemo A c new) → IsTaken A b c old new
+      (task.Visit id ∷ ts) ts
   taken_variable b c old new id top v ts same is keys memo = record {
     memo = memo is;
     order = λ M. ap (λ N. met N (pending A ts)) keys ∙ ap (λ T. met old.numbers.keys (type_variables T ++ pending A ts)) (sym is ∙ same);

@@ -262,7 +262,9 @@ module _ (sig : Signature) (text : List ℕ) (nodes : List RawTypeNode) (old new
       if_is (begins_variable (spelled text s)) true (variable_type text κ s Ts) (kind_type sig (spelled text s) Ts (found (spelled text s) (standard_kinds ++ map kind_row sig.kinds.items))) None high (no_variable text κ s Ts (omega (arith, l, n, some))))
       A m
 
-  pub word_variable : map (known_at done) ps.items ≡ map (λ t. Some t) ts → slice_get nodes (length done) ≡ Some (Word s ps) → begins_variable (spelled text s) ≡ true → ts ≡ [] → (κ : Notes) (A : Ty) → A ≡ (if is_blank (spelled text s) then κ.blank s.from else κ.named (spelled text s)) → Means sig text κ nodes (length done) A
+  pub word_variable : map (known_at done) ps.items ≡ map (λ t. Some t) ts → slice_get nodes (length done) ≡ Some (Word s ps) → begins_variable
+      (spelled text s) ≡ true → ts ≡ [] → (κ : Notes) (A : Ty) → A ≡ (if is_blank (spelled text s) then κ.blank s.from else κ.named (spelled text s))
+      → Means sig text κ nodes (length done) A
   word_variable e at high none κ A is =
       let f : map (known_at done) ps.items ≡ [] = e ∙ ap (map (λ t. Some t)) none in
       word_means sig text nodes (length done) s ps κ [] A at (parts_below sig text nodes old done N ps.items ts e) (all_mean_none ps.items f)

@@ -188,7 +188,9 @@ module _ (sig : Signature) (text : List ℕ) (nodes : List RawNode) (root : ℕ)
         };
       })
     where
-      together : (κ : Notes) (count : ℕ) (given : Option Ty) → IsNoted sig text κ note given → (code : List Mark) (after : List Spot) → Runs sig text nodes κ count (spelled text s ∷ S.scope) old.variables.places.items (task.Visit b ∷ task.Leave s outside ∷ ts) code after → Runs sig text nodes κ count S.scope old.variables.places.items (task.Visit n ∷ ts) (opens given ∷ code) after
+      together : (κ : Notes) (count : ℕ) (given : Option Ty) → IsNoted sig text κ note given → (code : List Mark) (after : List Spot) → Runs sig text
+          nodes κ count (spelled text s ∷ S.scope) old.variables.places.items (task.Visit b ∷ task.Leave s outside ∷ ts) code after → Runs sig text
+          nodes κ count S.scope old.variables.places.items (task.Visit n ∷ ts) (opens given ∷ code) after
       together κ count given noted code after r =
           let t = r.5 in (
             raw_abs given r.0,

@@ -123,13 +123,17 @@ module _ (sig : Signature) (text : List ℕ) (nodes : List RawNode) where
   empty_parted scope n ts s o e none (inl u) = absurd (none s (subst (λ o. Below scope o s) e (opened scope n s u)))
   empty_parted scope n ts s o e none (inr p) = inr p
 
-  pub past_empty : (root : ℕ) (old new : Names) (n : ℕ) (ts : List Task) (o : Option RawNode) → slice_get nodes n ≡ o → ((scope : List (List ℕ)) (t : Spot) → Below scope o t → ⊥) → new.fault ≡ old.fault → new.bound ≡ old.bound → Scanned sig text nodes root old (Visit n ∷ ts) → Scanned sig text nodes root new ts
+  pub past_empty : (root : ℕ) (old new : Names) (n : ℕ) (ts : List Task) (o : Option RawNode) → slice_get nodes n ≡ o →
+      ((scope : List (List ℕ)) (t : Spot) → Below scope o t → ⊥) → new.fault ≡ old.fault → new.bound ≡ old.bound → Scanned sig text nodes root old
+      (Visit n ∷ ts) → Scanned sig text nodes root new ts
   past_empty root old new n ts o e none fault bound S =
       moved root old new (Visit n ∷ ts) ts S S.scope nothing (tracks_same S.scope old new bound S.tracks) S.are_open
       (finds_none nothing old.fault new.fault fault (λ s q. q)) (λ s q. absurd q) (λ s p. inr p) (λ s p. empty_parted S.scope n ts s o e (none S.scope) p)
 
   -- a name
-  name_parted : (scope : List (List ℕ)) (names : Names) (n : ℕ) (t : Spot) (ts : List Task) (s : Spot) → Tracks scope names → slice_get nodes n ≡ Some (Name t) → Undeclared sig text nodes scope n s ⊎ Pending sig text nodes scope ts s → ((s ≡ t) × (level_in names (spelled text s) ≡ None) × IsNoConstant sig (spelled text s)) ⊎ Pending sig text nodes scope ts s
+  name_parted : (scope : List (List ℕ)) (names : Names) (n : ℕ) (t : Spot) (ts : List Task) (s : Spot) → Tracks scope names → slice_get nodes n ≡ Some
+      (Name t) → Undeclared sig text nodes scope n s ⊎ Pending sig text nodes scope ts s →
+      ((s ≡ t) × (level_in names (spelled text s) ≡ None) × IsNoConstant sig (spelled text s)) ⊎ Pending sig text nodes scope ts s
   name_parted scope names n t ts s known e (inl u) = inl (found (subst (λ o. Below scope o s) e (opened scope n s u))) where
     found : Below scope (Some (Name t)) s → (s ≡ t) × (level_in names (spelled text s) ≡ None) × IsNoConstant sig (spelled text s)
     found b = (b.0, has_no_level (level_in names (spelled text s)) (known (spelled text s) ∙ ap (λ x. binds scope (spelled text x)) b.0 ∙ b.1), subst (λ x. IsNoConstant sig (spelled text x)) (sym b.0) b.2)
@@ -138,20 +142,26 @@ module _ (sig : Signature) (text : List ℕ) (nodes : List RawNode) where
   name_pending : (scope : List (List ℕ)) (names : Names) (n : ℕ) (t : Spot) (s : Spot) → Tracks scope names → slice_get nodes n ≡ Some (Name t) → (s ≡ t) × (level_in names (spelled text s) ≡ None) × IsNoConstant sig (spelled text s) → Undeclared sig text nodes scope n s
   name_pending scope names n t s known e q = at_name (e ∙ ap (λ x. Some (Name x)) (sym q.0)) (sym (known (spelled text s)) ∙ ap is_level q.1) q.2
 
-  pub past_name : (root : ℕ) (old new : Names) (n : ℕ) (t : Spot) (ts : List Task) → slice_get nodes n ≡ Some (Name t) → Finds (λ s. (s ≡ t) × (level_in old (spelled text s) ≡ None) × IsNoConstant sig (spelled text s)) old.fault new.fault → new.bound ≡ old.bound → Scanned sig text nodes root old (Visit n ∷ ts) → Scanned sig text nodes root new ts
+  pub past_name : (root : ℕ) (old new : Names) (n : ℕ) (t : Spot) (ts : List Task) → slice_get nodes n ≡ Some (Name t) → Finds
+      (λ s. (s ≡ t) × (level_in old (spelled text s) ≡ None) × IsNoConstant sig (spelled text s)) old.fault new.fault → new.bound ≡ old.bound →
+      Scanned sig text nodes root old (Visit n ∷ ts) → Scanned sig text nodes root new ts
   past_name root old new n t ts e found bound S =
       moved root old new (Visit n ∷ ts) ts S S.scope (λ s. (s ≡ t) × (level_in old (spelled text s) ≡ None) × IsNoConstant sig (spelled text s)) (tracks_same S.scope old new bound S.tracks) S.are_open found
       (λ s q. inl (name_pending S.scope old n t s S.tracks e q)) (λ s p. inr p) (λ s p. name_parted S.scope old n t ts s S.tracks e p)
 
   -- an application
-  application_parted : (scope : List (List ℕ)) (n f a : ℕ) (ts : List Task) (s : Spot) → slice_get nodes n ≡ Some (App f a) → Undeclared sig text nodes scope n s ⊎ Pending sig text nodes scope ts s → nothing s ⊎ (Undeclared sig text nodes scope f s ⊎ (Undeclared sig text nodes scope a s ⊎ Pending sig text nodes scope ts s))
+  application_parted : (scope : List (List ℕ)) (n f a : ℕ) (ts : List Task) (s : Spot) → slice_get nodes n ≡ Some (App f a) → Undeclared sig text
+      nodes scope n s ⊎ Pending sig text nodes scope ts s → nothing s ⊎ (Undeclared sig text nodes scope f s ⊎
+      (Undeclared sig text nodes scope a s ⊎ Pending sig text nodes scope ts s))
   application_parted scope n f a ts s e (inl u) = parts (subst (λ o. Below scope o s) e (opened scope n s u)) where
     parts : Undeclared sig text nodes scope f s ⊎ Undeclared sig text nodes scope a s → nothing s ⊎ (Undeclared sig text nodes scope f s ⊎ (Undeclared sig text nodes scope a s ⊎ Pending sig text nodes scope ts s))
     parts (inl u) = inr (inl u)
     parts (inr u) = inr (inr (inl u))
   application_parted scope n f a ts s e (inr p) = inr (inr (inr p))
 
-  application_pending : (scope : List (List ℕ)) (n f a : ℕ) (ts : List Task) (s : Spot) → slice_get nodes n ≡ Some (App f a) → Undeclared sig text nodes scope f s ⊎ (Undeclared sig text nodes scope a s ⊎ Pending sig text nodes scope ts s) → Undeclared sig text nodes scope n s ⊎ Pending sig text nodes scope ts s
+  application_pending : (scope : List (List ℕ)) (n f a : ℕ) (ts : List Task) (s : Spot) → slice_get nodes n ≡ Some (App f a) → Undeclared sig text
+      nodes scope f s ⊎ (Undeclared sig text nodes scope a s ⊎ Pending sig text nodes scope ts s) → Undeclared sig text nodes scope n s ⊎ Pending sig
+      text nodes scope ts s
   application_pending scope n f a ts s e (inl u) = inl (in_head e u)
   application_pending scope n f a ts s e (inr (inl u)) = inl (in_argument e u)
   application_pending scope n f a ts s e (inr (inr p)) = inr p
@@ -172,7 +182,9 @@ module _ (sig : Signature) (text : List ℕ) (nodes : List RawNode) where
     parts (inr u) = inr (inl u)
   abstraction_parted scope n x given b ts s e (inr p) = inr (inr p)
 
-  abstraction_pending : (scope : List (List ℕ)) (n : ℕ) (x : Spot) (given : Option RawType) (b : ℕ) (ts : List Task) (s : Spot) → slice_get nodes n ≡ Some (Abs x given b) → Undeclared sig text nodes (spelled text x ∷ scope) b s ⊎ Pending sig text nodes scope ts s → Undeclared sig text nodes scope n s ⊎ Pending sig text nodes scope ts s
+  abstraction_pending : (scope : List (List ℕ)) (n : ℕ) (x : Spot) (given : Option RawType) (b : ℕ) (ts : List Task) (s : Spot) → slice_get nodes n ≡
+      Some (Abs x given b) → Undeclared sig text nodes (spelled text x ∷ scope) b s ⊎ Pending sig text nodes scope ts s → Undeclared sig text nodes
+      scope n s ⊎ Pending sig text nodes scope ts s
   abstraction_pending scope n x given b ts s e (inl u) = inl (in_body e u)
   abstraction_pending scope n x given b ts s e (inr p) = inr p
 

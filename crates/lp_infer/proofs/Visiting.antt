@@ -99,7 +99,9 @@ module _ (sig : Signature) (text : List ℕ) (nodes : List RawNode) (κ : Notes)
     pub noted : IsNoted sig text κ note given
     pub reads_body : Reads sig text nodes κ count (spelled text s ∷ scope) before b body last
 
-  at_abs : (scope : List (List ℕ)) (before last : List Spot) (s t : Spot) (note other : Option RawType) (b d : ℕ) (given : Option Ty) (B : Raw) → Abs t other d ≡ Abs s note b → IsNoted sig text κ other given → Reads sig text nodes κ count (spelled text t ∷ scope) before d B last → OfAbstraction scope before s note b (raw_abs given B) last
+  at_abs : (scope : List (List ℕ)) (before last : List Spot) (s t : Spot) (note other : Option RawType) (b d : ℕ) (given : Option Ty) (B : Raw) → Abs
+      t other d ≡ Abs s note b → IsNoted sig text κ other given → Reads sig text nodes κ count (spelled text t ∷ scope) before d B last →
+      OfAbstraction scope before s note b (raw_abs given B) last
   at_abs scope before last s t note other b d given B e noted r =
       let a : t ≡ s = cc in
       let h : other ≡ note = cc in

@@ -141,8 +141,12 @@ read_leaf sig text count scope _ before = None
 -- are these before it and those after it, in the order of the text
 pub data Reads (sig : Signature) (text : List ℕ) (nodes : List RawNode) (κ : Notes) (count : ℕ) : List (List ℕ) → List Spot → ℕ → Raw → List Spot → Type 0 where
   leaf : (scope : List (List ℕ)) (before : List Spot) (n : ℕ) (node : RawNode) (R : Raw) (after : List Spot) → slice_get nodes n ≡ Some node → read_leaf sig text count scope node before ≡ Some (R, after) → Reads sig text nodes κ count scope before n R after
-  application : (scope : List (List ℕ)) (before : List Spot) (n f x : ℕ) (F X : Raw) (middle after : List Spot) → slice_get nodes n ≡ Some (App f x) → f < n → x < n → Reads sig text nodes κ count scope before f F middle → Reads sig text nodes κ count scope middle x X after → Reads sig text nodes κ count scope before n (raw_app F X) after
-  abstraction : (scope : List (List ℕ)) (before : List Spot) (n : ℕ) (s : Spot) (note : Option RawType) (b : ℕ) (given : Option Ty) (R : Raw) (after : List Spot) → slice_get nodes n ≡ Some (Abs s note b) → b < n → IsNoted sig text κ note given → Reads sig text nodes κ count (spelled text s ∷ scope) before b R after → Reads sig text nodes κ count scope before n (raw_abs given R) after
+  application : (scope : List (List ℕ)) (before : List Spot) (n f x : ℕ) (F X : Raw) (middle after : List Spot) → slice_get nodes n ≡ Some (App f x) →
+      f < n → x < n → Reads sig text nodes κ count scope before f F middle → Reads sig text nodes κ count scope middle x X after → Reads sig text
+      nodes κ count scope before n (raw_app F X) after
+  abstraction : (scope : List (List ℕ)) (before : List Spot) (n : ℕ) (s : Spot) (note : Option RawType) (b : ℕ) (given : Option Ty) (R : Raw)
+      (after : List Spot) → slice_get nodes n ≡ Some (Abs s note b) → b < n → IsNoted sig text κ note given → Reads sig text nodes κ count
+      (spelled text s ∷ scope) before b R after → Reads sig text nodes κ count scope before n (raw_abs given R) after
 
 -- the text
 

@@ -39,7 +39,9 @@ no_gap l b t e f g o (suc m) h w = elim (gap_leads b (take m t) w) [
 ]
 
 -- a name: its class, its kind and what its first byte begins
-pub name_stands : (c : Class) (j : TokenKind) (l : Lead) (b : ℕ) (t : List ℕ) → is_in Word b ≡ true → lead b ≡ l → ((k : TokenKind) (bs : List ℕ) → Shape l k bs → (k ≡ j) × (is_led c Word bs ≡ true)) → IsToken j (take (run Word (b ∷ t)) (b ∷ t)) → (j ≡ kind.Symbol → ⊥) → IsBounded j → HasNoGap (b ∷ t) → Stands (b ∷ t) (Found j (run Word (b ∷ t)))
+pub name_stands : (c : Class) (j : TokenKind) (l : Lead) (b : ℕ) (t : List ℕ) → is_in Word b ≡ true → lead b ≡ l →
+    ((k : TokenKind) (bs : List ℕ) → Shape l k bs → (k ≡ j) × (is_led c Word bs ≡ true)) → IsToken j (take (run Word (b ∷ t)) (b ∷ t)) →
+    (j ≡ kind.Symbol → ⊥) → IsBounded j → HasNoGap (b ∷ t) → Stands (b ∷ t) (Found j (run Word (b ∷ t)))
 name_stands c j l b t w e f form ns bounded gap = (
   record {
     begins = record { within = run_within Word (b ∷ t); form = form; apart = λ s. absurd (ns s) };

@@ -114,7 +114,10 @@ no_mark_gap : (b : ℕ) → (mark_lead b ≡ blank → ⊥) × (mark_lead b ≡ 
 no_mark_gap b =
     let P : Lead → Type 0 = λ l. (l ≡ blank → ⊥) × (l ≡ percent → ⊥) in
     let on : (j : TokenKind) → P (mark j) = λ j. ((λ s. absurd (cc)), (λ s. absurd (cc))) in
-    cond_both (nat_eq b 40) _ _ P (λ _. on _) (λ _. cond_both (nat_eq b 41) _ _ P (λ _. on _) (λ _. cond_both (nat_eq b 91) _ _ P (λ _. on _) (λ _. cond_both (nat_eq b 93) _ _ P (λ _. on _) (λ _. cond_both (nat_eq b 124) _ _ P (λ _. on _) (λ _. cond_both (nat_eq b 46) _ _ P (λ _. on _) (λ _. cond_both (nat_eq b 92) _ nothing P (λ _. on _) (λ _. ((λ s. absurd (cc)), (λ s. absurd (cc))))))))))
+    cond_both (nat_eq b 40) _ _ P (λ _. on _) (λ _. cond_both (nat_eq b 41) _ _ P (λ _. on _)
+    (λ _. cond_both (nat_eq b 91) _ _ P (λ _. on _) (λ _. cond_both (nat_eq b 93) _ _ P (λ _. on _)
+    (λ _. cond_both (nat_eq b 124) _ _ P (λ _. on _) (λ _. cond_both (nat_eq b 46) _ _ P (λ _. on _)
+    (λ _. cond_both (nat_eq b 92) _ nothing P (λ _. on _) (λ _. ((λ s. absurd (cc)), (λ s. absurd (cc))))))))))
 
 no_gap_at_mark : (b : ℕ) (t : List ℕ) → IsNone b → opens (b ∷ t) ≡ false → HasNoGap (b ∷ t)
 no_gap_at_mark b t n o = no_gap (mark_lead b) b t (lead_rest b n) (no_mark_gap b).0 (no_mark_gap b).1 o

@@ -30,7 +30,9 @@ within_rest text i h =
     let w : P (drop i text) = subst P (sym (drop-cons text i 0 h)) (front_within (get_or text i 0) (drop (suc i) text)) in
     subst (λ len. IsWithin len (front (drop i text))) (length-drop i text) w
 
-read_piece : (fuel : ℕ) (text : List ℕ) (i : ℕ) (p : Piece) → ((j : ℕ) → length text - j ≤ fuel → j ≤ length text → ReadsFrom text j (lexed_from fuel text j)) → length text - i ≤ suc fuel → i < length text → front (drop i text) ≡ p → IsWithin (length text - i) p → ReadsFrom text i (piece_read (λ j. lexed_from fuel text j) text i p)
+read_piece : (fuel : ℕ) (text : List ℕ) (i : ℕ) (p : Piece) → ((j : ℕ) → length text - j ≤ fuel → j ≤ length text → ReadsFrom text j
+    (lexed_from fuel text j)) → length text - i ≤ suc fuel → i < length text → front (drop i text) ≡ p → IsWithin (length text - i) p → ReadsFrom text
+    i (piece_read (λ j. lexed_from fuel text j) text i p)
 read_piece fuel text i (Skip n) r l h e (some, most) = skipped text i n _ h e (r (i + n) (omega arith) (omega arith))
 read_piece fuel text i (Found k n) r l h e (some, most) = taken text i n k _ h e (r (i + n) (omega arith) (omega arith))
 read_piece fuel text i (Bad n) r l h e w = ([], bad i n h e)

@@ -18,7 +18,9 @@ use Rattle.lp_lines.proofs.Refusing.{never_done}
 
 module _ {F K : Type 0} {wf : F → ℕ} {held : F → Option Held} {faults : K → ℕ} {written : K → Option (List ℕ)} {a b : F} {o p : K} where
   -- nothing was written, and a line was put that is not that of the command
-  pub leaves_untouched : {file line : List ℕ} {last : Status} (result said : Status) → (result ≢ variant.WriteFault → result ≡ said) → said ≢ variant.Done → Counts (result ≡ variant.WriteFault) (faults o) (faults p) → wf b ≡ wf a → held b ≡ held a → LeavesWith wf held faults written a b o p file line last result
+  pub leaves_untouched : {file line : List ℕ} {last : Status} (result said : Status) → (result ≢ variant.WriteFault → result ≡ said) → said ≢
+      variant.Done → Counts (result ≡ variant.WriteFault) (faults o) (faults p) → wf b ≡ wf a → held b ≡ held a → LeavesWith wf held faults written a
+      b o p file line last result
   leaves_untouched result said kept other c w h = record {
     left = untouched (record {
       is_refused = λ e. let n : result ≢ variant.WriteFault = λ f. cc in other (sym (kept n) ∙ e);
@@ -63,7 +65,9 @@ module _ {F K : Type 0} {wf : F → ℕ} {held : F → Option Held} {faults : K 
     }
 
   -- a refusal was told
-  pub leaves_told : {file line : List ℕ} {last : Status} {rf ms ov : F → ℕ} (r : Refusal) (result : Status) → Looked rf ms ov wf held a b (Some r) → (result ≢ variant.WriteFault → (result ≡ status_of r) × Appends (written o) (written p) (line_of r)) → Counts (result ≡ variant.WriteFault) (faults o) (faults p) → LeavesWith wf held faults written a b o p file line last result
+  pub leaves_told : {file line : List ℕ} {last : Status} {rf ms ov : F → ℕ} (r : Refusal) (result : Status) → Looked rf ms ov wf held a b (Some r) →
+      (result ≢ variant.WriteFault → (result ≡ status_of r) × Appends (written o) (written p) (line_of r)) → Counts (result ≡ variant.WriteFault)
+      (faults o) (faults p) → LeavesWith wf held faults written a b o p file line last result
   leaves_told r result h kept c = leaves_untouched result (status_of r) (λ n. (kept n).0) (never_done r h.kind) c h.unwritten h.same
 
 -- the same behind a reading that found nothing amiss

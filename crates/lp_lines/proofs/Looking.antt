@@ -156,7 +156,9 @@ unread_refusal file passed (read.TooLong m) (Line said line) u = inr (inr (inr (
 unread_refusal file passed read.Memory (Line said line) u = absurd (cc)
 
 -- what a file that was not read comes to
-pub found_unread : (T : Type 0) (file : List ℕ) (most : ℕ) (passed : Limit) (told : Option Held) (x : ReadErr) (r : Refusal) → IsUnread file passed x r → (x ≡ read.Missing → IfSome told (λ held. held file ≡ None)) → (IsTooLong {T = T} (Err x) → IfSome told (λ held. IsLonger (held file) most)) → Found file most passed told (Err r)
+pub found_unread : (T : Type 0) (file : List ℕ) (most : ℕ) (passed : Limit) (told : Option Held) (x : ReadErr) (r : Refusal) → IsUnread file passed x
+    r → (x ≡ read.Missing → IfSome told (λ held. held file ≡ None)) → (IsTooLong {T = T} (Err x) → IfSome told (λ held. IsLonger (held file) most)) →
+    Found file most passed told (Err r)
 found_unread T file most passed told x Memory u missing long = tt
 found_unread T file most passed told read.Failed (Line said line) u missing long = inl u
 found_unread T file most passed told read.Missing (Line said line) u missing long = inr (inl (u.0, (u.1, missing refl)))
@@ -227,7 +229,9 @@ module _ {F : Type 0} {rf ms ov wf : F → ℕ} {held : F → Option Held} where
   }
 
   -- a file was not read, and the refusal tells why
-  pub looked_unread : {T : Type 0} {a b : F} (file : List ℕ) (passed : Limit) (x : ReadErr) (r : Refusal) → IsUnread file passed x r → Counts (IsErrOf {T = T} (Err x) read.Failed) (rf a) (rf b) → Counts (IsErrOf {T = T} (Err x) read.Missing) (ms a) (ms b) → Counts (IsTooLong {T = T} (Err x)) (ov a) (ov b) → wf b ≡ wf a → held b ≡ held a → Looked rf ms ov wf held a b (Some r)
+  pub looked_unread : {T : Type 0} {a b : F} (file : List ℕ) (passed : Limit) (x : ReadErr) (r : Refusal) → IsUnread file passed x r → Counts
+      (IsErrOf {T = T} (Err x) read.Failed) (rf a) (rf b) → Counts (IsErrOf {T = T} (Err x) read.Missing) (ms a) (ms b) → Counts
+      (IsTooLong {T = T} (Err x)) (ov a) (ov b) → wf b ≡ wf a → held b ≡ held a → Looked rf ms ov wf held a b (Some r)
   looked_unread {T} {a} {b} file passed x r u c d l w h = record {
     kind = unread_refusal file passed x r u;
     read = cause_of_fault file passed (rf a) (rf b) x r u c;

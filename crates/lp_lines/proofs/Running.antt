@@ -16,7 +16,9 @@ use Rattle.lp_lines.proofs.Statuses.{not_limit, not_missing, not_read_fault, not
 
 module _ {F K : Type 0} {rf ms ov wf : F → ℕ} {held : F → Option Held} {written : K → Option (List ℕ)} {o p : K} where
   -- a refusal was told
-  pub ran_told : {a b : F} (r : Refusal) (result : Status) → Looked rf ms ov wf held a b (Some r) → (result ≢ variant.WriteFault → (result ≡ status_of r) × Appends (written o) (written p) (line_of r)) → (result ≡ variant.WriteFault → AppendsPrefix (written o) (written p) (line_of r)) → Ran rf ms ov written a b o p result
+  pub ran_told : {a b : F} (r : Refusal) (result : Status) → Looked rf ms ov wf held a b (Some r) →
+      (result ≢ variant.WriteFault → (result ≡ status_of r) × Appends (written o) (written p) (line_of r)) →
+      (result ≡ variant.WriteFault → AppendsPrefix (written o) (written p) (line_of r)) → Ran rf ms ov written a b o p result
   ran_told {a} {b} r result h kept part = record {
     grows = line_grows result (status_of r) (line_of r) (written o) (written p) kept part;
     fault = told_fault r result (written o) (written p) h.kind kept;

@@ -18,7 +18,9 @@ past_none ts n ms e =
     ap (past ts n) e ∙ (λ i. record { kinds = k i; constants = c i })
 
 -- one copy and those behind it
-past_more : (ts : List Hidden) (n : Next) (O : Module) (m : ℕ) (inside rest all : List ℕ) → all ≡ m ∷ rest → in_all (λ h. h.kinds) ts m ≡ length O.hidden_kinds.items + sum_by (in_all (λ h. h.kinds) ts) inside → in_all (λ h. h.constants) ts m ≡ length O.hidden_constants.items + sum_by (in_all (λ h. h.constants) ts) inside →
+past_more : (ts : List Hidden) (n : Next) (O : Module) (m : ℕ) (inside rest all : List ℕ) → all ≡ m ∷ rest → in_all (λ h. h.kinds) ts m ≡ length
+    O.hidden_kinds.items + sum_by (in_all (λ h. h.kinds) ts) inside → in_all (λ h. h.constants) ts m ≡ length O.hidden_constants.items + sum_by
+    (in_all (λ h. h.constants) ts) inside →
     past ts n all ≡ past ts (behind O (past ts n inside)) rest
 past_more ts n O m inside rest all e kinds constants =
     let a = sum_by-cons (in_all (λ h. h.kinds) ts) m rest in

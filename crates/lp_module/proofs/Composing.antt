@@ -48,7 +48,9 @@ own_at f (x ∷ xs) (suc k) m e = own_at f xs k m e
 
 module _ (modules : List Module) (root : ℕ) (ts : List Hidden) where
   -- the root is open
-  pub making_begun : (old new : Making) (around : List Open) (left : List ℕ) (top : Module) (from : Next) → slice_get modules root ≡ Some top → IsSoFar old → old.clauses.items ≡ [] → next_of old.next ≡ first_of top → MakesNames old new → left ≡ [] → Opens [] around top from → from ≡ past ts (first_of top) (get_or (uses_of modules) root []) →
+  pub making_begun : (old new : Making) (around : List Open) (left : List ℕ) (top : Module) (from : Next) → slice_get modules root ≡ Some top →
+      IsSoFar old → old.clauses.items ≡ [] → next_of old.next ≡ first_of top → MakesNames old new → left ≡ [] → Opens [] around top from → from ≡ past
+      ts (first_of top) (get_or (uses_of modules) root []) →
       IsMaking modules root ts ((root, 0) ∷ []) left new around
   making_begun old new around left top from at sofar none first names empty opens is = record {
     sofar = names.0 sofar;
@@ -75,7 +77,9 @@ module _ (modules : List Module) (root : ℕ) (ts : List Hidden) where
 
   -- one more copy is open
   module _ (old new : Making) (around more : List Open) (left : List ℕ) (m : ℕ) (member : Module) (from : Next) (names : MakesNames old new) (opens : Opens around more member from) (at : slice_get modules m ≡ Some member) (is : from ≡ past ts (next_of old.next) (get_or (uses_of modules) m []))
-      (kinds : in_all (λ h. h.kinds) ts m ≡ length member.hidden_kinds.items + sum_by (in_all (λ h. h.kinds) ts) (get_or (uses_of modules) m [])) (constants : in_all (λ h. h.constants) ts m ≡ length member.hidden_constants.items + sum_by (in_all (λ h. h.constants) ts) (get_or (uses_of modules) m [])) where
+      (kinds : in_all (λ h. h.kinds) ts m ≡ length member.hidden_kinds.items + sum_by (in_all (λ h. h.kinds) ts) (get_or (uses_of modules) m []))
+      (constants : in_all (λ h. h.constants) ts m ≡ length member.hidden_constants.items + sum_by (in_all (λ h. h.constants) ts)
+      (get_or (uses_of modules) m [])) where
     there : slice_get modules m ≡ Some opens.opened.module.now
     there = at ∙ ap (λ m. Some m) (sym opens.of)
 
@@ -93,7 +97,9 @@ module _ (modules : List Module) (root : ℕ) (ts : List Hidden) where
       clause_list = ap (map (formula_of new.bank)) names.1 ∙ formulas_later old.bank new.bank old.clauses.items names.2 i.sofar.0 ∙ i.clause_list;
       next = record { top = i.next.top; at = i.next.at; kinds = ap (λ n. n.kinds) names.3 ∙ i.next.kinds; constants = ap (λ n. n.constants) names.3 ∙ i.next.constants };
       open_ones = subst (λ n. AreOpen modules ts n fs' (reverse more)) (sym same) (subst (λ l. AreOpen modules ts (next_of old.next) l (reverse more)) (sym o.after) (opened_by (reverse around) refl (subst (λ l. AreOpen modules ts (next_of old.next) l (reverse around)) o.before i.open_ones)));
-      whole = λ all r. whole_by all (reverse around) refl (subst (λ l. AreOpen modules ts (next_of old.next) l (reverse around)) o.before i.open_ones) (subst (λ n. RestOf modules n i.done ((m, 0) ∷ (o.at, o.next + 1) ∷ o.around) (reverse more) all) same (subst (λ l. RestOf modules (next_of new.next) i.done l (reverse more) all) o.after r));
+      whole = λ all r. whole_by all (reverse around) refl (subst (λ l. AreOpen modules ts (next_of old.next) l (reverse around)) o.before i.open_ones)
+          (subst (λ n. RestOf modules n i.done ((m, 0) ∷ (o.at, o.next + 1) ∷ o.around) (reverse more) all) same
+          (subst (λ l. RestOf modules (next_of new.next) i.done l (reverse more) all) o.after r));
     }
       where
         same : next_of new.next ≡ next_of old.next
@@ -116,7 +122,9 @@ module _ (modules : List Module) (root : ℕ) (ts : List Hidden) where
             (subst (λ l. RestOf modules (next_of old.next) i.done ((m, 0) ∷ (o.at, o.next + 1) ∷ o.around) l all) (opens.inside ∙ ap (λ l. opens.opened ∷ l) e) r)
 
   -- a copy is left
-  pub making_left : (old new : Making) (around less : List Open) (left left' : List ℕ) (m : ℕ) (fs fs' : List (ℕ × ℕ)) → IsMaking modules root ts fs left old around → IsClosed (uses_of modules) fs m fs' → Leaves old new around less → left' ≡ left ++ m ∷ [] → IsMaking modules root ts fs' left' new less
+  pub making_left : (old new : Making) (around less : List Open) (left left' : List ℕ) (m : ℕ) (fs fs' : List (ℕ × ℕ)) → IsMaking modules root ts fs
+      left old around → IsClosed (uses_of modules) fs m fs' → Leaves old new around less → left' ≡ left ++ m ∷ [] → IsMaking modules root ts fs' left'
+      new less
   making_left old new around less left left' m fs fs' i o leaves is = record {
     sofar = leaves.made i.sofar;
     done = i.done ++ copy_of m leaves.left ∷ [];
@@ -181,7 +189,9 @@ pub plan_fits : (modules : List Module) (root : ℕ) (ts : List Hidden) (order :
     Fits (own_kinds modules) (in_all (λ h. h.kinds) ts) (first_of top).kinds c.left.items m (get_or (uses_of modules) m []) × Fits (own_constants modules) (in_all (λ h. h.constants) ts) (first_of top).constants c.left.items m (get_or (uses_of modules) m [])
 plan_fits modules root ts order top at plan c is of_root m fs e = (
   fits (uses_of modules) (own_kinds modules) (in_all (λ h. h.kinds) ts) (first_of top).kinds c.left.items m fs order rest plan.kinds (let z = own_at (λ m. length m.signature.kinds.items - length m.hidden_kinds.items) modules root top at in omega (arith, z, plan.kinds_fit)),
-  fits (uses_of modules) (own_constants modules) (in_all (λ h. h.constants) ts) (first_of top).constants c.left.items m fs order rest plan.constants (let z = own_at (λ m. length m.signature.constants.items - length m.hidden_constants.items) modules root top at in omega (arith, z, plan.constants_fit)),
+  fits (uses_of modules) (own_constants modules) (in_all (λ h. h.constants) ts) (first_of top).constants c.left.items m fs order rest plan.constants
+      (let z = own_at (λ m. length m.signature.constants.items - length m.hidden_constants.items) modules root top at in omega
+      (arith, z, plan.constants_fit)),
 )
   where
     rest : RestOfCopies (uses_of modules) c.left.items ((m, 0) ∷ fs) order

@@ -99,7 +99,9 @@ last_at (x ∷ xs) b = last_at xs b
 pub pushes_none : (b : Nodes) (s : Parts) → Pushes b s s []
 pushes_none b s = record { around = λ n bs a. a; tasks = []; more = sym (append-nil s.tasks.items); are = tt }
 
-pub pushes_one : (b : Nodes) (old new : Parts) (t : Task) (goal : Bool) (part : TermId) (p : Part) (l : Term) → PushesTask old new (record { goal = goal; formula = part; binder = t.binder; depth = t.depth + 1 }) → IsTask b old.binders.items t p → part.0 < length b.terms → tree b part.0 ≡ l → Pushes b old new (below p goal l ∷ [])
+pub pushes_one : (b : Nodes) (old new : Parts) (t : Task) (goal : Bool) (part : TermId) (p : Part) (l : Term) → PushesTask old new
+    (record { goal = goal; formula = part; binder = t.binder; depth = t.depth + 1 }) → IsTask b old.binders.items t p → part.0 < length b.terms → tree
+    b part.0 ≡ l → Pushes b old new (below p goal l ∷ [])
 pushes_one b old new t goal part p l put i h is = record {
   around = λ n bs a. subst (λ x. IsAround x.items n bs) (sym put.0) a;
   tasks = (record { goal = goal; formula = part; binder = t.binder; depth = t.depth + 1 }) ∷ [];
@@ -107,12 +109,16 @@ pushes_one b old new t goal part p l put i h is = record {
   are = (record { within = h; goal = refl; around = subst (λ x. IsAround x.items t.binder p.binders) (sym put.0) i.around; depth = ap (λ n. n + 1) i.depth; formula = is }, tt);
 }
 
-pub pushes_two : (b : Nodes) (old mid new : Parts) (t : Task) (goal : Bool) (left right : TermId) (p : Part) (l r : Term) → PushesTask old mid (record { goal = goal; formula = left; binder = t.binder; depth = t.depth + 1 }) → PushesTask mid new (record { goal = t.goal; formula = right; binder = t.binder; depth = t.depth + 1 }) →
+pub pushes_two : (b : Nodes) (old mid new : Parts) (t : Task) (goal : Bool) (left right : TermId) (p : Part) (l r : Term) → PushesTask old mid
+    (record { goal = goal; formula = left; binder = t.binder; depth = t.depth + 1 }) → PushesTask mid new
+    (record { goal = t.goal; formula = right; binder = t.binder; depth = t.depth + 1 }) →
     IsTask b old.binders.items t p → left.0 < length b.terms → right.0 < length b.terms → tree b left.0 ≡ l → tree b right.0 ≡ r → Pushes b old new (below p goal l ∷ below p p.goal r ∷ [])
 pushes_two b old mid new t goal left right p l r one two i h k is same_right = record {
   around = λ n bs a. subst (λ x. IsAround x.items n bs) (sym same) a;
   tasks = (record { goal = goal; formula = left; binder = t.binder; depth = t.depth + 1 }) ∷ (record { goal = t.goal; formula = right; binder = t.binder; depth = t.depth + 1 }) ∷ [];
-  more = two.1 ∙ ap (λ l. l ++ (record { goal = t.goal; formula = right; binder = t.binder; depth = t.depth + 1 }) ∷ []) one.1 ∙ append_assoc old.tasks.items ((record { goal = goal; formula = left; binder = t.binder; depth = t.depth + 1 }) ∷ []) ((record { goal = t.goal; formula = right; binder = t.binder; depth = t.depth + 1 }) ∷ []);
+  more = two.1 ∙ ap (λ l. l ++ (record { goal = t.goal; formula = right; binder = t.binder; depth = t.depth + 1 }) ∷ []) one.1 ∙ append_assoc
+      old.tasks.items ((record { goal = goal; formula = left; binder = t.binder; depth = t.depth + 1 }) ∷ [])
+      ((record { goal = t.goal; formula = right; binder = t.binder; depth = t.depth + 1 }) ∷ []);
   are = (
     record { within = h; goal = refl; around = around; depth = ap (λ n. n + 1) i.depth; formula = is },
     (record { within = k; goal = i.goal; around = around; depth = ap (λ n. n + 1) i.depth; formula = same_right }, tt),

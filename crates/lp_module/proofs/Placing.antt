@@ -36,7 +36,9 @@ pub places_started : (first many : ℕ) (list places : List ℕ) (n : ℕ) → p
 places_started first many list places n is e =
     subst (λ k. ArePlaces first many list k places) (sym e) (places_begun first many list places (ap length is ∙ length-replicate many 0) (λ i h. ap (λ l. get_or l i 0) is ∙ get_or-replicate many i 0 0 h))
 
-pub places_step : (first many : ℕ) (list : List ℕ) (end at place x : ℕ) (places new : List ℕ) → at < end → end ≡ length list → place ≡ end - 1 - at → x ≡ get_or list place 0 → length new ≡ length places → ((i : ℕ) → i < length places → get_or new i 0 ≡ (if nat_eq x (first + i) then place + 1 else get_or places i 0)) →
+pub places_step : (first many : ℕ) (list : List ℕ) (end at place x : ℕ) (places new : List ℕ) → at < end → end ≡ length list → place ≡ end - 1 - at →
+    x ≡ get_or list place 0 → length new ≡ length places → ((i : ℕ) → i < length places → get_or new i 0 ≡
+    (if nat_eq x (first + i) then place + 1 else get_or places i 0)) →
     ArePlaces first many list (end - at) places → ArePlaces first many list (end - (at + 1)) new
 places_step first many list end at place x places new h all is read same sets a =
     let s : end - at ≡ suc place = omega (arith, h, is) in
@@ -111,12 +113,17 @@ exported_few first hidden at h =
     omega (arith, h, o, s, t)
 
 -- a name in the copy above
-pub kind_found : (m above : Module) (kinds : ℕ → ℕ) (at : ℕ) (entries : List KindEntry) (entry : KindEntry) (name : List ℕ) (n : ℕ × ℕ) → entries ≡ m.signature.kinds.items → at < length m.signature.kinds.items → entry ≡ get_or entries at entry → name ≡ entry.name.items → found name (standard_kinds ++ map kind_row above.signature.kinds.items) ≡ Some n → kinds n.0 ≡ kind_in above kinds (kind_at m at)
+pub kind_found : (m above : Module) (kinds : ℕ → ℕ) (at : ℕ) (entries : List KindEntry) (entry : KindEntry) (name : List ℕ) (n : ℕ × ℕ) → entries ≡
+    m.signature.kinds.items → at < length m.signature.kinds.items → entry ≡ get_or entries at entry → name ≡ entry.name.items → found name
+    (standard_kinds ++ map kind_row above.signature.kinds.items) ≡ Some n → kinds n.0 ≡ kind_in above kinds (kind_at m at)
 kind_found m above kinds at entries entry name n all h is named f =
     let w : kind_at m at ≡ name = get_or-map (λ e. e.name.items) m.signature.kinds.items at entry [] h ∙ ap (λ e. e.name.items) (sym (is ∙ ap (λ l. get_or l at entry) all)) ∙ sym named in
     sym (ap (kind_in above kinds) w ∙ ap (λ o. or_none (option_map (λ r. kinds r.0) o)) f)
 
-pub constant_found : (m above : Module) (constants : ℕ → ℕ) (at : ℕ) (entries : List ConstantEntry) (entry : ConstantEntry) (name : List ℕ) (n : ℕ) → entries ≡ m.signature.constants.items → at < length m.signature.constants.items → entry ≡ get_or entries at entry → name ≡ entry.name.items → found name (standard_constants ++ map number_row above.signature.constants.items) ≡ Some n → constants n ≡ constant_in above constants (constant_at m at)
+pub constant_found : (m above : Module) (constants : ℕ → ℕ) (at : ℕ) (entries : List ConstantEntry) (entry : ConstantEntry) (name : List ℕ) (n : ℕ) →
+    entries ≡ m.signature.constants.items → at < length m.signature.constants.items → entry ≡ get_or entries at entry → name ≡ entry.name.items →
+    found name (standard_constants ++ map number_row above.signature.constants.items) ≡ Some n → constants n ≡ constant_in above constants
+    (constant_at m at)
 constant_found m above constants at entries entry name n all h is named f =
     let w : constant_at m at ≡ name = get_or-map (λ e. e.name.items) m.signature.constants.items at entry [] h ∙ ap (λ e. e.name.items) (sym (is ∙ ap (λ l. get_or l at entry) all)) ∙ sym named in
     sym (ap (constant_in above constants) w ∙ ap (λ o. or_none (option_map constants o)) f)

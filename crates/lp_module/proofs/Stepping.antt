@@ -59,8 +59,12 @@ module _ (modules : List Module) (root : ℕ) (ts : List Hidden) (uses : List (V
 
     pub root_fits : Fits (own_kinds modules) (in_all (λ h. h.kinds) ts) (first_of top).kinds [] root (get_or (uses_of modules) root []) × Fits (own_constants modules) (in_all (λ h. h.constants) ts) (first_of top).constants [] root (get_or (uses_of modules) root [])
     root_fits = (
-      fits (uses_of modules) (own_kinds modules) (in_all (λ h. h.kinds) ts) (first_of top).kinds [] root [] order root_rest plan.kinds (let z = own_at (λ m. length m.signature.kinds.items - length m.hidden_kinds.items) modules root top (module_at modules root top h is) in omega (arith, z, plan.kinds_fit)),
-      fits (uses_of modules) (own_constants modules) (in_all (λ h. h.constants) ts) (first_of top).constants [] root [] order root_rest plan.constants (let z = own_at (λ m. length m.signature.constants.items - length m.hidden_constants.items) modules root top (module_at modules root top h is) in omega (arith, z, plan.constants_fit)),
+      fits (uses_of modules) (own_kinds modules) (in_all (λ h. h.kinds) ts) (first_of top).kinds [] root [] order root_rest plan.kinds
+          (let z = own_at (λ m. length m.signature.kinds.items - length m.hidden_kinds.items) modules root top (module_at modules root top h is) in
+          omega (arith, z, plan.kinds_fit)),
+      fits (uses_of modules) (own_constants modules) (in_all (λ h. h.constants) ts) (first_of top).constants [] root [] order root_rest plan.constants
+          (let z = own_at (λ m. length m.signature.constants.items - length m.hidden_constants.items) modules root top
+          (module_at modules root top h is) in omega (arith, z, plan.constants_fit)),
     )
 
     pub root_names : (8 + length top.signature.kinds.items ≤ 1048576) × (32 + length top.signature.constants.items ≤ 1048576)
@@ -119,12 +123,16 @@ module _ (modules : List Module) (root : ℕ) (ts : List Hidden) (uses : List (V
         let n = making.next.constants in
         (omega (arith, s, s1, hk, a, k, plan.kinds_fit), omega (arith, t, t1, hc, b, n, plan.constants_fit))
 
-    pub left_within : (m : ℕ) → Turns (lists_in uses) c c' (Left m) → Moves (lists_in uses) (frames_of c) (frames_of c') (Left m) → (o : Open) (rest : List Open) → around ≡ rest ++ o ∷ [] → (old.next.kinds + length o.module.now.hidden_kinds.items ≤ 1048576) × (old.next.constants + length o.module.now.hidden_constants.items ≤ 1048576)
+    pub left_within : (m : ℕ) → Turns (lists_in uses) c c' (Left m) → Moves (lists_in uses) (frames_of c) (frames_of c') (Left m) → (o : Open)
+        (rest : List Open) → around ≡ rest ++ o ∷ [] → (old.next.kinds + length o.module.now.hidden_kinds.items ≤ 1048576) ×
+        (old.next.constants + length o.module.now.hidden_constants.items ≤ 1048576)
     left_within m turns moves =
         let (more, e) = rest_more (uses_of modules) c'.left.items (frames_of c') order ((subst (λ u. IsCopying u c') us turns.0).each order (subst (λ k. Copies (uses_of modules) (k ∷ []) order) (sym (turns.1 ∙ of_root)) plan.copies)) in
         leaves_within m moves.next (frames_of c') moves.before c'.left.items more turns.3 e
 
-    pub ended_within : (m : ℕ) → Turns (lists_in uses) c c' (Ended m) → Moves (lists_in uses) (frames_of c) (frames_of c') (Ended m) → (o : Open) (rest : List Open) → around ≡ rest ++ o ∷ [] → (old.next.kinds + length o.module.now.hidden_kinds.items ≤ 1048576) × (old.next.constants + length o.module.now.hidden_constants.items ≤ 1048576)
+    pub ended_within : (m : ℕ) → Turns (lists_in uses) c c' (Ended m) → Moves (lists_in uses) (frames_of c) (frames_of c') (Ended m) → (o : Open)
+        (rest : List Open) → around ≡ rest ++ o ∷ [] → (old.next.kinds + length o.module.now.hidden_kinds.items ≤ 1048576) ×
+        (old.next.constants + length o.module.now.hidden_constants.items ≤ 1048576)
     ended_within m turns moves =
         let same = turns.5 order (subst (λ u. Copies u (c.root ∷ []) order) (sym us) (subst (λ k. Copies (uses_of modules) (k ∷ []) order) (sym of_root) plan.copies)) in
         leaves_within m moves.next [] moves.before c'.left.items [] turns.2 (same ∙ sym (append-nil c'.left.items))
@@ -136,10 +144,14 @@ module _ (modules : List Module) (root : ℕ) (ts : List Hidden) (uses : List (V
       pub entered_within : m < length modules
       entered_within = let a = uses_count modules uses us in let b = rows_are uses in let w = turns.4 in omega (arith, w, a, b)
 
-      pub entered_bounds : Fits (own_kinds modules) (in_all (λ h. h.kinds) ts) (first_of making.next.top).kinds c'.left.items m (get_or (uses_of modules) m []) × Fits (own_constants modules) (in_all (λ h. h.constants) ts) (first_of making.next.top).constants c'.left.items m (get_or (uses_of modules) m [])
+      pub entered_bounds : Fits (own_kinds modules) (in_all (λ h. h.kinds) ts) (first_of making.next.top).kinds c'.left.items m
+          (get_or (uses_of modules) m []) × Fits (own_constants modules) (in_all (λ h. h.constants) ts) (first_of making.next.top).constants
+          c'.left.items m (get_or (uses_of modules) m [])
       entered_bounds = plan_fits modules root ts order making.next.top making.next.at plan c' (subst (λ u. IsCopying u c') us turns.0) (turns.1 ∙ of_root) m ((opened_here.at, opened_here.next + 1) ∷ opened_here.around) opened_here.after
 
-      module _ (member : Module) (out : Vec ℕ Global) (below : Hidden) (is : member ≡ get_or modules m member) (at : out ≡ get_or uses m out) (k : below.kinds ≡ counted (sum_by (in_all (λ h. h.kinds) ts) out.items)) (n : below.constants ≡ counted (sum_by (in_all (λ h. h.constants) ts) out.items)) where
+      module _ (member : Module) (out : Vec ℕ Global) (below : Hidden) (is : member ≡ get_or modules m member) (at : out ≡ get_or uses m out)
+          (k : below.kinds ≡ counted (sum_by (in_all (λ h. h.kinds) ts) out.items))
+          (n : below.constants ≡ counted (sum_by (in_all (λ h. h.constants) ts) out.items)) where
         inside : out.items ≡ get_or (uses_of modules) m []
         inside = row_is uses m out (omega (arith, entered_within, uses_count modules uses us)) at ∙ ap (λ u. get_or u m []) us
 

@@ -51,7 +51,9 @@ places_begun first many list places count none = record {
 }
 
 -- one more number of a table
-pub numbers_more : (first : ℕ) (hidden : List ℕ) (from : ℕ) (exported : ℕ → ℕ) (at n : ℕ) (numbers new : List ℕ) → new ≡ numbers ++ n ∷ [] → n ≡ hidden_or from (place_in hidden (first + at)) (exported at) → AreNumbers first hidden from exported at numbers → AreNumbers first hidden from exported (at + 1) new
+pub numbers_more : (first : ℕ) (hidden : List ℕ) (from : ℕ) (exported : ℕ → ℕ) (at n : ℕ) (numbers new : List ℕ) → new ≡ numbers ++ n ∷ [] → n ≡
+    hidden_or from (place_in hidden (first + at)) (exported at) → AreNumbers first hidden from exported at numbers → AreNumbers first hidden from
+    exported (at + 1) new
 numbers_more first hidden from exported at n numbers new pushed is a =
     let l : length new ≡ length numbers + 1 = ap length pushed ∙ length-append numbers (n ∷ []) in
     record {

@@ -126,7 +126,9 @@ module _ (uses : List (List ℕ)) (order : List ℕ) (at place : ℕ) (h : at < 
           by (inl j) = closed k j u i
           by (inr j) = inside u (subst (λ m. Contains (get_or uses m []) u) (sym (Contains_single place k j)) i)
 
-      pub totals_step : (own : ℕ → ℕ) (f : Hidden → ℕ) (old new : List Hidden) (total : Hidden) → SetsTotal old new place total → f total ≡ counted (own place + counted (sum_by (in_all f old) (get_or uses place []))) → AreTotals uses own (in_all f old) (take at order) → AreTotals uses own (in_all f new) (take (at + 1) order)
+      pub totals_step : (own : ℕ → ℕ) (f : Hidden → ℕ) (old new : List Hidden) (total : Hidden) → SetsTotal old new place total → f total ≡ counted
+          (own place + counted (sum_by (in_all f old) (get_or uses place []))) → AreTotals uses own (in_all f old) (take at order) → AreTotals uses
+          own (in_all f new) (take (at + 1) order)
       totals_step own f old new total sets e t k c =
           totals_more uses own (in_all f old) (in_all f new) (take at order) place (sets.there f ∙ e) (λ k n. sets.elsewhere f k n) inside closed t k (subst (λ l. Contains l k) now c)
 

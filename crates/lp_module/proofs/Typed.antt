@@ -234,7 +234,9 @@ pub all_more : {A : Type 0} (P : A → Type 0) (xs : List A) (i : ℕ) (x : A) �
 all_more P xs i x h at a p = subst (All P) (sym (take_more xs i x h ∙ ap (λ y. take i xs ++ y ∷ []) (sym at))) (All-push P (take i xs) x a p)
 
 -- the sentence that is judged is the first without the form
-pub first_unformed : (d : ℕ → Option Scheme) (b : Nodes) (ss : List TypedSentence) (i : ℕ) (s : TypedSentence) (e : ModuleFault) → i < length ss → s ≡ get_or ss i s → All (IsFormedIn d b) (take i ss) → IsFormFault d false s.typed.type_vars (tree b s.typed.formula.0) s.first e → IsFirstUnformed d b ss e
+pub first_unformed : (d : ℕ → Option Scheme) (b : Nodes) (ss : List TypedSentence) (i : ℕ) (s : TypedSentence) (e : ModuleFault) → i < length ss → s ≡
+    get_or ss i s → All (IsFormedIn d b) (take i ss) → IsFormFault d false s.typed.type_vars (tree b s.typed.formula.0) s.first e → IsFirstUnformed d
+    b ss e
 first_unformed d b ss i s e h at a f = (take i ss, s, drop (i + 1) ss, whole, a, f)
   where
     whole : ss ≡ take i ss ++ s ∷ drop (i + 1) ss
@@ -246,7 +248,9 @@ none_given (Ok x) P Q e = absurd e
 none_given (Err y) P Q e = tt
 
 -- the type of the variable that is closed next
-pub type_next : (b c : Nodes) (t : Typed) → Extends b c → Stands b t → (j : ℕ) (v : Spot × TypeId) → j < length t.vars.items → v ≡ get_or t.vars.items j v → (v.1.0 < length b.types) × (type_tree c v.1.0 ≡ type_tree b v.1.0) × (type_tree b v.1.0 ≡ get_or (map (λ v. type_tree b v.1.0) t.vars.items) j (type_tree b v.1.0))
+pub type_next : (b c : Nodes) (t : Typed) → Extends b c → Stands b t → (j : ℕ) (v : Spot × TypeId) → j < length t.vars.items → v ≡ get_or t.vars.items
+    j v → (v.1.0 < length b.types) × (type_tree c v.1.0 ≡ type_tree b v.1.0) × (type_tree b v.1.0 ≡ get_or (map (λ v. type_tree b v.1.0) t.vars.items)
+    j (type_tree b v.1.0))
 type_next b c t e s j v h at =
     let q : v.1.0 < length b.types = subst (λ x. x.1.0 < length b.types) (sym at) (s.types j v h) in (
       q,

@@ -237,7 +237,9 @@ pub ended : (outs : List (Vec Way Global)) (root : ℕ) (seen : List Bool) (orde
 ended outs root seen order order_then at next around out out_at past is none g =
     ends (ways_in outs) root seen order order_then at next (left_count outs at next out g.within out_at past) is (subst (λ r. Goes (ways_in outs) root seen order at next (reverse r)) none g)
 
-pub left : (outs : List (Vec Way Global)) (root : ℕ) (seen : List Bool) (order order_then : List ℕ) (at next : ℕ) (around around_then : List Frame) (f : Frame) (out : Vec Way Global) → out ≡ get_or outs at out → length out.items ≤ next → order_then ≡ order ++ at ∷ [] → around ≡ around_then ++ f ∷ [] →
+pub left : (outs : List (Vec Way Global)) (root : ℕ) (seen : List Bool) (order order_then : List ℕ) (at next : ℕ) (around around_then : List Frame)
+    (f : Frame) (out : Vec Way Global) → out ≡ get_or outs at out → length out.items ≤ next → order_then ≡ order ++ at ∷ [] → around ≡ around_then ++
+    f ∷ [] →
     Goes (ways_in outs) root seen order at next (reverse around) → Went (ways_in outs) root (load (ways_in outs) seen + open_load (ways_in outs) ((at, next) ∷ reverse around)) seen order_then f.0 f.1 around_then
 left outs root seen order order_then at next around around_then f out out_at past is popped g = (
   leaves (ways_in outs) root seen order order_then at next f (reverse around_then) (left_count outs at next out g.within out_at past) is (subst (Goes (ways_in outs) root seen order at next) outer g),

@@ -181,7 +181,9 @@ new_clauses b m t o a d w r i h = record {
   around = All-empty (IsLinkIn b) m.around.items r;
 }
 
-pub join_parts : (b : Nodes) (l m : ClauseList) (left right : TermId) → m.assumed ≡ l.assumed → m.done ≡ l.done → m.waiting.items ≡ (l.waiting.items ++ Part.Visit right ∷ []) ++ Part.Visit left ∷ [] → m.around ≡ l.around → IsClauseListIn b l → left.0 < length b.terms → right.0 < length b.terms → IsClauseListIn b m
+pub join_parts : (b : Nodes) (l m : ClauseList) (left right : TermId) → m.assumed ≡ l.assumed → m.done ≡ l.done → m.waiting.items ≡
+    (l.waiting.items ++ Part.Visit right ∷ []) ++ Part.Visit left ∷ [] → m.around ≡ l.around → IsClauseListIn b l → left.0 < length b.terms → right.0
+    < length b.terms → IsClauseListIn b m
 join_parts b l m left right a d w r i p q = record {
   assumed = subst (λ z. IfSome z (IsAssumedIn b)) (sym a) i.assumed;
   done = subst (λ z. AreClausesIn b z.items) (sym d) i.done;
@@ -189,7 +191,9 @@ join_parts b l m left right a d w r i p q = record {
   around = subst (λ z. All (IsLinkIn b) z.items) (sym r) i.around;
 }
 
-pub enter_part : (b : Nodes) (l m : ClauseList) (k : Link) (part : TermId) → m.assumed ≡ l.assumed → m.done ≡ l.done → m.waiting.items ≡ (l.waiting.items ++ Part.Leave ∷ []) ++ Part.Visit part ∷ [] → m.around.items ≡ l.around.items ++ k ∷ [] → IsClauseListIn b l → IsLinkIn b k → part.0 < length b.terms → IsClauseListIn b m
+pub enter_part : (b : Nodes) (l m : ClauseList) (k : Link) (part : TermId) → m.assumed ≡ l.assumed → m.done ≡ l.done → m.waiting.items ≡
+    (l.waiting.items ++ Part.Leave ∷ []) ++ Part.Visit part ∷ [] → m.around.items ≡ l.around.items ++ k ∷ [] → IsClauseListIn b l → IsLinkIn b k →
+    part.0 < length b.terms → IsClauseListIn b m
 enter_part b l m k part a d w r i p q = record {
   assumed = subst (λ z. IfSome z (IsAssumedIn b)) (sym a) i.assumed;
   done = subst (λ z. AreClausesIn b z.items) (sym d) i.done;

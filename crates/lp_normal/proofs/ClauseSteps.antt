@@ -51,7 +51,9 @@ with_clause_comes b l m c C out y a d w r k h = record {
 }
 
 -- a list of one formula
-pub one_part : (b : Nodes) (m : ClauseList) (t : TermId) (n : ℕ) (cs : Clauses) (out : Flat) → m.type_vars ≡ n → m.assumed ≡ None → m.done.items ≡ [] → m.waiting.items ≡ Part.Visit t ∷ [] → m.around.items ≡ [] → IsFlatClause (tree b t.0) [] [] cs → AssumedComesTo b None (with_type_vars n (add_clauses cs no_clauses)) out → ClausesComeTo b m no_clauses out
+pub one_part : (b : Nodes) (m : ClauseList) (t : TermId) (n : ℕ) (cs : Clauses) (out : Flat) → m.type_vars ≡ n → m.assumed ≡ None → m.done.items ≡ []
+    → m.waiting.items ≡ Part.Visit t ∷ [] → m.around.items ≡ [] → IsFlatClause (tree b t.0) [] [] cs → AssumedComesTo b None
+    (with_type_vars n (add_clauses cs no_clauses)) out → ClausesComeTo b m no_clauses out
 one_part b m t n cs out y a d w r p e = record {
   done = no_clauses;
   rest = add_clauses cs no_clauses;

@@ -102,12 +102,16 @@ module _ (b : Nodes) (fs gs : List Frame) (now : List Goal) (hs : Goals) (next w
       goes_on o m h.1 e (with_comes b o m (code.Either left v) (Either h.0 hs) h.1 mo d w n
       (λ later x. either_is later left v ∙ ap (λ z. Either z (goals_of later v.items)) (h.2 later x) ∙ ap (Either h.0) (ap (goals_of later) q ∙ r later x)) h.3) h.4
 
-  pub all_turns : (o m : GoalList) (T : TypeId) (v : Vec Goal Global) → v.items ≡ now → gs ≡ fs → T.0 < length b.types → m.opened ≡ o.opened → m.done.items ≡ o.done.items ++ code.All T v ∷ [] → m.waiting ≡ o.waiting → m.level ≡ o.level → Turns b (Frame.All o T) hs next → InnerComesTo b (Inner.Goals m) gs whole
+  pub all_turns : (o m : GoalList) (T : TypeId) (v : Vec Goal Global) → v.items ≡ now → gs ≡ fs → T.0 < length b.types → m.opened ≡ o.opened →
+      m.done.items ≡ o.done.items ++ code.All T v ∷ [] → m.waiting ≡ o.waiting → m.level ≡ o.level → Turns b (Frame.All o T) hs next → InnerComesTo b
+      (Inner.Goals m) gs whole
   all_turns o m T v q e i mo d w n h =
       goes_on o m h.0 e (with_comes b o m (code.All T v) (Forall (type_tree b T.0) hs) h.0 mo d w n
       (λ later x. all_is later T v ∙ ap (λ z. Forall z (goals_of later v.items)) (x.same_types T.0 i) ∙ ap (Forall (type_tree b T.0)) (ap (goals_of later) q ∙ r later x)) h.1) h.2
 
-  pub assume_turns : (o m : GoalList) (l : Vec Clause Global) (v : Vec Goal Global) → v.items ≡ now → gs ≡ fs → m.opened ≡ o.opened → m.done.items ≡ o.done.items ++ code.Assume l v ∷ [] → m.waiting ≡ o.waiting → m.level ≡ o.level → Turns b (Frame.Assume o l) hs next → InnerComesTo b (Inner.Goals m) gs whole
+  pub assume_turns : (o m : GoalList) (l : Vec Clause Global) (v : Vec Goal Global) → v.items ≡ now → gs ≡ fs → m.opened ≡ o.opened → m.done.items ≡
+      o.done.items ++ code.Assume l v ∷ [] → m.waiting ≡ o.waiting → m.level ≡ o.level → Turns b (Frame.Assume o l) hs next → InnerComesTo b
+      (Inner.Goals m) gs whole
   assume_turns o m l v q e mo d w n h =
       goes_on o m h.1 e (with_comes b o m (code.Assume l v) (assuming h.0 hs) h.1 mo d w n
       (λ later x. assume_is later l v ∙ ap (λ z. assuming z (goals_of later v.items)) (h.2 later x) ∙ ap (assuming h.0) (ap (goals_of later) q ∙ r later x)) h.3) h.4

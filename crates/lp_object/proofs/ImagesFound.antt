@@ -96,7 +96,9 @@ kinds_take w s ks t h e =
     let p = count_takes w 1048568 s a.0.0 a.0.1 h a.1 in
     let q = each_takes image_kind_at spelled_image_kind IsImageKind kind_takes a.0.0 [] a.0.1 ks t p.0.bytes a.2 in
     let c = counts_fit w (length q.0) a.0.0 1048568 q.3 p.1 p.2 in
-    let text : Takes s (spelled_number w (length q.0) ++ flat_map spelled_image_kind q.0) t = takes_then s (spelled_number w (length q.0)) a.0.1 (flat_map spelled_image_kind q.0) t (takes_as s (spelled_number w a.0.0) (spelled_number w (length q.0)) a.0.1 (ap (λ m. spelled_number w m) (sym q.3)) p.0) q.2 in
+    let text : Takes s (spelled_number w (length q.0) ++ flat_map spelled_image_kind q.0) t = takes_then s (spelled_number w (length q.0)) a.0.1
+    (flat_map spelled_image_kind q.0) t (takes_as s (spelled_number w a.0.0) (spelled_number w (length q.0)) a.0.1
+    (ap (λ m. spelled_number w m) (sym q.3)) p.0) q.2 in
     subst (λ ks. Takes s (spelled_number w (length ks) ++ flat_map spelled_image_kind ks) t × IsNumber w (length ks) × (length ks ≤ 1048568) × Each IsImageKind [] ks) (sym q.1) (text, c.0, c.1, q.4)
 
 constants_take : (w : Width) (arities : List ℕ) (s : Left) (ks : List PlainImageConstant) (t : Left) → IsBytes s.rest → image_constants_at w arities s ≡ Ok (ks, t)
@@ -107,7 +109,9 @@ constants_take w arities s ks t h e =
     let p = count_takes w 1048544 s a.0.0 a.0.1 h a.1 in
     let q = each_takes (image_constant_at w arities) (spelled_image_constant w) (IsImageConstant w arities) (constant_takes w arities) a.0.0 [] a.0.1 ks t p.0.bytes a.2 in
     let c = counts_fit w (length q.0) a.0.0 1048544 q.3 p.1 p.2 in
-    let text : Takes s (spelled_number w (length q.0) ++ flat_map (spelled_image_constant w) q.0) t = takes_then s (spelled_number w (length q.0)) a.0.1 (flat_map (spelled_image_constant w) q.0) t (takes_as s (spelled_number w a.0.0) (spelled_number w (length q.0)) a.0.1 (ap (λ m. spelled_number w m) (sym q.3)) p.0) q.2 in
+    let text : Takes s (spelled_number w (length q.0) ++ flat_map (spelled_image_constant w) q.0) t = takes_then s (spelled_number w (length q.0))
+    a.0.1 (flat_map (spelled_image_constant w) q.0) t (takes_as s (spelled_number w a.0.0) (spelled_number w (length q.0)) a.0.1
+    (ap (λ m. spelled_number w m) (sym q.3)) p.0) q.2 in
     subst (λ ks. Takes s (spelled_number w (length ks) ++ flat_map (spelled_image_constant w) ks) t × IsNumber w (length ks) × (length ks ≤ 1048544) × Each (IsImageConstant w arities) [] ks) (sym q.1) (text, c.0, c.1, q.4)
 
 -- the parts of an image, one behind the other

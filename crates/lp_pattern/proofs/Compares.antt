@@ -115,7 +115,9 @@ replaced_on n [] ps a s e h f =
     (s, f, refl, omega (arith, z))
 replaced_on n (q ∷ qs) ps a s e h f = go (first n q qs a e) (λ t j i. replaced_on n qs ps t s j i f)
   where
-    go : First n q qs a → ((t : Compared) → compare_pairs n qs ≡ Some t → t.same ≡ true → (r : Compared) × (compare_pairs n (qs ++ ps) ≡ Some r) × (r.same ≡ s.same) × (r.units ≡ t.units + s.units)) → (r : Compared) × (compare_pairs n (q ∷ (qs ++ ps)) ≡ Some r) × (r.same ≡ s.same) × (r.units ≡ a.units + s.units)
+    go : First n q qs a → ((t : Compared) → compare_pairs n qs ≡ Some t → t.same ≡ true → (r : Compared) × (compare_pairs n (qs ++ ps) ≡ Some r) ×
+        (r.same ≡ s.same) × (r.units ≡ t.units + s.units)) → (r : Compared) × (compare_pairs n (q ∷ (qs ++ ps)) ≡ Some r) × (r.same ≡ s.same) ×
+        (r.units ≡ a.units + s.units)
     go (goes_on c t g i j k) ih =
         let same : t.same ≡ true = sym (ap (λ x. x.same) k) ∙ h in
         let w = ih t j same in (

@@ -157,7 +157,12 @@ module _ (d : Declared) (V : List Variable) (θ : ℕ → Ty) (ps ds : List Pair
 
   typed_value : (x : ℕ) (v : Variable) → slice_get V x ≡ Some v → HasType (in_scope d v.scope l.typings.after) [] (instance_term θ (z.terms x (length v.scope))) v.type
   typed_value x v e = transport (λ t. HasType (in_scope d v.scope l.typings.after) [] t v.type) (sym (value_at x (length v.scope) (known_variable V x v e)))
-      (put_all_typed d v.scope l.typings.after (map (instance_binding θ) s.bindings) l.typings.bindings (atom (logic x (length v.scope))) v.type (record { typed = typed_there; scoped = λ w q. let r : v ≡ w = some_is v w (sym there ∙ q) in transport (λ u. IsPrefix u.scope v.scope) r (prefix_none v.scope) })).typed
+      (put_all_typed d v.scope l.typings.after (map (instance_binding θ) s.bindings) l.typings.bindings (atom (logic x (length v.scope))) v.type
+      (record {
+        typed = typed_there;
+        scoped = λ w q. let r : v ≡ w = some_is v w (sym there ∙ q) in transport (λ u. IsPrefix u.scope v.scope) r
+            (prefix_none v.scope);
+      })).typed
     where
       there : slice_get l.typings.after x ≡ Some v
       there = more_get V l.typings.after l.typings.more x v e
@@ -195,7 +200,9 @@ module _ (d : Declared) (V : List Variable) (θ : ℕ → Ty) (ps ds : List Pair
   }
 
 -- the same from what the code says of a run
-pub right_found : (d : Declared) (V : List Variable) (θ : ℕ → Ty) (first n limit : ℕ) (eqs : List TypePair) (ps ds : List Pair) (s : State) (b : Nodes) (next : ℕ) (found : Solved) → length V ≡ first → IsTypedInput θ d V eqs ps ds → solve n limit eqs ps ds first ≡ Some (Solution s) → AreStuck n ds → Satisfies θ s.types →
+pub right_found : (d : Declared) (V : List Variable) (θ : ℕ → Ty) (first n limit : ℕ) (eqs : List TypePair) (ps ds : List Pair) (s : State)
+    (b : Nodes) (next : ℕ) (found : Solved) → length V ≡ first → IsTypedInput θ d V eqs ps ds → solve n limit eqs ps ds first ≡ Some (Solution s) →
+    AreStuck n ds → Satisfies θ s.types →
     ((levels : ℕ → ℕ) → AreKnownPairs levels first ps → AreKnownPairs levels first ds → IsSolution levels first b next found (Solution s)) →
     (z : Closing) × Reads b found.bindings.items found.types.items z × HasSolutions n d V θ ps ds b next found.residual.items z
 right_found d V θ first n limit eqs ps ds s b next found count i e k m h =

@@ -29,7 +29,9 @@ unfolding or
 first_more name n [] = refl
 first_more name n (m ∷ ms) = by (first_more name n ms) (bytes_eq name m)
   where
-    by : first_place name (ms ++ n ∷ []) ≡ or (first_place name ms) (if bytes_eq name n then Some (length ms) else None) → (t : Bool) → (if t then Some 0 else option_map (λ i. suc i) (first_place name (ms ++ n ∷ []))) ≡ or (if t then Some 0 else option_map (λ i. suc i) (first_place name ms)) (if bytes_eq name n then Some (suc (length ms)) else None)
+    by : first_place name (ms ++ n ∷ []) ≡ or (first_place name ms) (if bytes_eq name n then Some (length ms) else None) → (t : Bool) →
+        (if t then Some 0 else option_map (λ i. suc i) (first_place name (ms ++ n ∷ []))) ≡ or
+        (if t then Some 0 else option_map (λ i. suc i) (first_place name ms)) (if bytes_eq name n then Some (suc (length ms)) else None)
     by h true = refl
     by h false = ap (option_map (λ i. suc i)) h ∙ later (first_place name ms) (bytes_eq name n) (length ms)
 

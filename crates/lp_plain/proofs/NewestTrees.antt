@@ -134,7 +134,9 @@ copied old now new head number o bits below root i b s g w n h d c l e r =
     let got : slice_get new root ≡ Some node = got_last now new node root e r in
     let on : GoesOn now new = (node ∷ [], e) in
     record {
-      found = further root node refl got (λ q. h (sym (head_stays s.node s.is_odd below) ∙ q)) (subst (λ x. Finds new head x (b / 2) (Some number)) (sym (ap (child_of node) (sym d) ∙ child_set s.node s.is_odd below)) (subst (λ x. Finds new head (Some below) x (Some number)) l (finds_on now new head on w.found)));
+      found = further root node refl got (λ q. h (sym (head_stays s.node s.is_odd below) ∙ q))
+          (subst (λ x. Finds new head x (b / 2) (Some number)) (sym (ap (child_of node) (sym d) ∙ child_set s.node s.is_odd below))
+          (subst (λ x. Finds new head (Some below) x (Some number)) l (finds_on now new head on w.found)));
       others = λ other x f k t. other_found got on other x f k t;
     }
   where

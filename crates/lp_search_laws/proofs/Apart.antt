@@ -27,7 +27,9 @@ pub record IsOneOf (L : Leaves) (d : Declared) (E : List Ty) (P : List ClauseFor
 one_behind : {L : Leaves} (d : Declared) (E : List Ty) (P : List ClauseFormula) (f : Term → Term) (c : Clause) (cs : Clauses) (A : Term) → IsOneOf L d E P f cs A → IsOneOf L d E P f (clauses c cs) A
 one_behind {L} d E P f c cs A o = record { place = suc o.place; clause = o.clause; is = o.is; focus = o.focus }
 
-pub split_focus : {L : Leaves} (d : Declared) → IsStandard d → (E : List Ty) (P : List ClauseFormula) (f : Term → Term) → KeepsBoth f → (A : Term) → IsAtomHead (head_of A) → (cs : Clauses) → IsFormula d E (f (formula_of_clauses cs)) → FocusableBy L d E P (f (formula_of_clauses cs)) A → IsOneOf L d E P f cs A
+pub split_focus : {L : Leaves} (d : Declared) → IsStandard d → (E : List Ty) (P : List ClauseFormula) (f : Term → Term) → KeepsBoth f → (A : Term) →
+    IsAtomHead (head_of A) → (cs : Clauses) → IsFormula d E (f (formula_of_clauses cs)) → FocusableBy L d E P (f (formula_of_clauses cs)) A → IsOneOf
+    L d E P f cs A
 split_focus {L} d std E P f k A h no_clauses i r = absurd (truth_focus d std E P A h (subst (IsFormula d E) k.truth i) (subst (λ z. FocusableBy L d E P z A) k.truth r))
 split_focus {L} d std E P f k A h (clauses c no_clauses) i r = record { place = 0; clause = c; is = refl; focus = r }
 split_focus {L} d std E P f k A h (clauses c (clauses e cs)) i r =
@@ -39,7 +41,9 @@ split_focus {L} d std E P f k A h (clauses c (clauses e cs)) i r =
       | inr b ↦ one_behind d E P f c (clauses e cs) A (split_focus d std E P f k A h (clauses e cs) ps.1 b)
     ]
 
-pub join_focus : {L : Leaves} (d : Declared) (E : List Ty) (P : List ClauseFormula) (f : Term → Term) → KeepsBoth f → (A : Term) (cs : Clauses) (j : ℕ) (c : Clause) → slice_get (clause_list cs) j ≡ Some c → FocusableBy L d E P (f (formula_of_clause c)) A → FocusableBy L d E P (f (formula_of_clauses cs)) A
+pub join_focus : {L : Leaves} (d : Declared) (E : List Ty) (P : List ClauseFormula) (f : Term → Term) → KeepsBoth f → (A : Term) (cs : Clauses)
+    (j : ℕ) (c : Clause) → slice_get (clause_list cs) j ≡ Some c → FocusableBy L d E P (f (formula_of_clause c)) A → FocusableBy L d E P
+    (f (formula_of_clauses cs)) A
 join_focus {L} d E P f k A no_clauses j c e r = absurd (cc)
 join_focus {L} d E P f k A (clauses b no_clauses) zero c e r = let g : b ≡ c = cc in subst (λ z. FocusableBy L d E P (f (formula_of_clause z)) A) (sym g) r
 join_focus {L} d E P f k A (clauses b no_clauses) (suc j) c e r = absurd (cc)

@@ -163,11 +163,21 @@ module _ {L : Leaves} (n : ℕ) (d : Declared) (std : IsSetting L d) (P : List C
 
     -- what stands for the equality stands for `is`
     equal_stands : (ts : List Task) → StandFor L n d P q (going typing branch_of) ts → StandFor L n d P q here ts
-    equal_stands ts s = record { typed = s.typed; is = s.is; ok = s.ok; given = each_so (IsTypedFrom n d (going typing branch_of)) (IsTypedFrom n d here) (same_start n d z E Es b (with_atom e equal) e es same_bound) s.typed s.given; keeps = λ i h. s.keeps i (to_equal i h); gives = λ i h. from_equal i (s.gives i h) }
+    equal_stands ts s = record {
+      typed = s.typed;
+      is = s.is;
+      ok = s.ok;
+      given = each_so (IsTypedFrom n d (going typing branch_of))
+          (IsTypedFrom n d here) (same_start n d z E Es b (with_atom e equal) e es same_bound) s.typed s.given;
+      keeps = λ i h. s.keeps i (to_equal i h);
+      gives = λ i h. from_equal i (s.gives i h);
+    }
 
   -- the equality's law, for each branch with it in front
   abbrev EqualitiesStand : Type 0
-  EqualitiesStand = (x : Entry) (T : Ty) (l r : Term) → x.goal ≡ Atomic (two 8 (T ∷ []) l r) → head_normal n (two 8 (T ∷ []) l r) ≡ Some (two 8 (T ∷ []) l r) → IsTypedBranch n d q typing (with_goals b (x ∷ es)) → StandFor L n d P q (going typing (with_goals b (x ∷ es))) (equated unit_limit n x.level l r (with_goals b es))
+  EqualitiesStand = (x : Entry) (T : Ty) (l r : Term) → x.goal ≡ Atomic (two 8 (T ∷ []) l r) → head_normal n (two 8 (T ∷ []) l r) ≡ Some
+      (two 8 (T ∷ []) l r) → IsTypedBranch n d q typing (with_goals b (x ∷ es)) → StandFor L n d P q (going typing (with_goals b (x ∷ es)))
+      (equated unit_limit n x.level l r (with_goals b es))
 
   pub assigned_stands : EqualitiesStand → (T : Ty) (l r : Term) → u ≡ two 9 (T ∷ []) l r → (o : Option Outcome) → evaluate n r ≡ o → StandFor L n d P q here (assigned unit_limit n e.level l (with_goals b es) o)
   assigned_stands h T l r shape None k = lacked n d P q here

@@ -203,7 +203,9 @@ module _ {L : Leaves} (n : ℕ) (d : Declared) (std : IsSetting L d) (P : List C
     by_head (atom (text s)) x = nothing_stands (λ c l p. let w = parts (atom (text s)) x in no_basic w.0 (λ B D y. let g = w.1 in absurd (cc)) (λ y. let g = w.1 in absurd (cc)) (arguments u) w.2)
     by_head (atom (param k T)) x = nothing_stands (parameter k T x)
     by_head (index j) x = nothing_stands (λ c l p. let w = parts (index j) x in (let g = w.1 in absurd (cc)))
-    by_head (abs y) x = nothing_stands (λ c l p. ended_abs y (arguments u) (transport (λ w. head_step w ≡ None) (sym (on_head (abs y) x)) (head_ended n t u r)) (transport (λ w. Typed (over d E z.variables) [] w o_type) (sym (on_head (abs y) x)) (form_typed n d std P q z b E Es e es h t u i r).typed))
+    by_head (abs y) x = nothing_stands (λ c l p. ended_abs y (arguments u) (transport (λ w. head_step w ≡ None) (sym (on_head (abs y) x))
+        (head_ended n t u r)) (transport (λ w. Typed (over d E z.variables) [] w o_type) (sym (on_head (abs y) x))
+        (form_typed n d std P q z b E Es e es h t u i r).typed))
     by_head (app f a) x = absurd (no_app u f a x)
 
     pub atom_view : IsRightView L n d P q (going (Typings n d P q z b E Es e es (E ∷ Es)) (with_goals b (e ∷ es))) (look_atom unit_limit n P height e (with_goals b es) u (head_of u))

@@ -110,7 +110,9 @@ module _ (d : Declared) (std : IsStandard d) where
   program_typed (D ∷ F) P s x =
       let y = flattened x.0 d D x.1 x.3 in
       let o : IsOver d D.type_vars [] y.form = record { typed = typed_reduces (atom_type (under d [])) [] y.leads o_type s.0.typed; within = within_reduces (IsQueryAtom D.type_vars) 0 y.leads s.0.within } in
-      let here = transport (λ z. EachOf (IsProgramTyped d) (clause_list z)) y.is (program_clauses D.type_vars y.plain (clauses_fine d std D.type_vars x.0 y.form y.plain [] y.flat o) (clauses_written IsSourceAtom (λ a h. h) d x.0 [] y.form y.plain y.flat (query_source D.type_vars 0 y.form o.within))) in
+      let here = transport (λ z. EachOf (IsProgramTyped d) (clause_list z)) y.is (program_clauses D.type_vars y.plain
+      (clauses_fine d std D.type_vars x.0 y.form y.plain [] y.flat o) (clauses_written IsSourceAtom (λ a h. h) d x.0 [] y.form y.plain y.flat
+      (query_source D.type_vars 0 y.form o.within))) in
       transport (EachOf (IsProgramTyped d)) (sym x.5) (each_append (IsProgramTyped d) (clause_list x.1) x.2 here (program_typed F x.2 s.1 x.4))
 
 -- the query's type variables and variables
@@ -201,7 +203,9 @@ module _ (d : Declared) (std : IsStandard d) (m : ℕ) (q : Query) (gs : Goals) 
 
   stand : MayStand d V q.type_vars (each_at [] (goal_list (instantiate_goals put_in gs))) (entries (goal_list (instantiate_goals put_in gs)) [] nothing_written 0 0)
   stand = goals_stand d std V q.type_vars [] [] nothing_written 0 0 (record { is_level = refl; below = tt; typed = tt; plain = tt }) (record { clauses = tt; terms = tt; origins = tt }) (instantiate_goals put_in gs) goals_typed_in (goals_put q.type_vars [] [] put_in may_put gs fine.form)
-      (instantiated_goals put_in gs (let b = and_then_some (beta_normal m q.formula) (λ s. flat_goal m d [] s no_goals) gs e in goals_written IsSourceAtom (λ a h. h) d m [] b.0 gs b.2 (query_source q.type_vars (length q.vars) b.0 (within_reduces (IsQueryAtom q.type_vars) (length q.vars) (beta_reduces m q.formula b.0 b.1) t.within))))
+      (instantiated_goals put_in gs (let b = and_then_some (beta_normal m q.formula) (λ s. flat_goal m d [] s no_goals) gs e in goals_written
+      IsSourceAtom (λ a h. h) d m [] b.0 gs b.2 (query_source q.type_vars (length q.vars) b.0
+      (within_reduces (IsQueryAtom q.type_vars) (length q.vars) (beta_reduces m q.formula b.0 b.1) t.within))))
 
   vars_stay : map (instance (type_at (types_from q.type_vars 0))) q.vars ≡ q.vars
   vars_stay = list_stays (type_at (types_from q.type_vars 0)) q.type_vars (λ i l. let a : 0 + i ≡ i = omega arith in from_at q.type_vars 0 i l ∙ ap var a) q.vars t.vars

@@ -47,7 +47,9 @@ module _ (n : ℕ) (P : List Clause) where
   empty_gives j (suc m) k g u p w a more e = cc
 
   -- a branch without goals gives an answer
-  proved_gives : (j m k g u p w : ℕ) (b : Branch) → b.goals ≡ [] → (run L j m (record { steps = w; answers = suc k; given = g; rows = u; row = p; lost = false; stack = Go b ∷ [] })).ending ≡ Some NoMore → (run L j m (record { steps = w; answers = suc k; given = g; rows = u; row = p; lost = false; stack = Go b ∷ [] })).answers ≡ [] → ⊥
+  proved_gives : (j m k g u p w : ℕ) (b : Branch) → b.goals ≡ [] → (run L j m (record
+      { steps = w; answers = suc k; given = g; rows = u; row = p; lost = false; stack = Go b ∷ [] })).ending ≡ Some NoMore →
+      (run L j m (record { steps = w; answers = suc k; given = g; rows = u; row = p; lost = false; stack = Go b ∷ [] })).answers ≡ [] → ⊥
   unfolding L
   proved_gives j zero k g u p w b i e f = cc
   proved_gives j (suc m) k g u p w b i e f = go b.goals i f
@@ -67,20 +69,26 @@ module _ (n : ℕ) (P : List Clause) where
       given_denied v (Broke c ns x) f a more i = absurd (cc)
       given_denied v (Lasts c ns) f a more i = absurd (cc)
 
-      given_view : (w : ℕ) (o : Option Bool) → ((v c p : ℕ) (ns : List Note) → inner L j has_no_pairs (starts first v 1) ≡ Refuted c ns p → X) → (a : Answer) (more : List Answer) → (told_after (run L j m) (move_view (inner L j) w k 0 row_limit row_limit false [] (look_not e b gs o))).answers ≡ a ∷ more → X
+      given_view : (w : ℕ) (o : Option Bool) → ((v c p : ℕ) (ns : List Note) → inner L j has_no_pairs (starts first v 1) ≡ Refuted c ns p → X) →
+          (a : Answer) (more : List Answer) → (told_after (run L j m) (move_view (inner L j) w k 0 row_limit row_limit false []
+          (look_not e b gs o))).answers ≡ a ∷ more → X
       given_view w None f a more i = absurd (cc)
       given_view zero (Some true) f a more i = absurd (cc)
       given_view (suc w) (Some true) f a more i = absurd (stopped_gives j m k 0 row_limit row_limit w a more i)
       given_view zero (Some false) f a more i = absurd (cc)
       given_view (suc w) (Some false) f a more i = given_denied w (inner L j has_no_pairs (starts first w 1)) (λ c p ns r. f w c p ns r) a more i
 
-      ended_denied : (v : ℕ) (r : Inner) → BreaksRightly r → ((c p : ℕ) (ns : List Note) → r ≡ Held c ns p → X) → (told_after (run L j m) (move_denied v k 0 row_limit false (Go b ∷ []) [] r)).ending ≡ Some NoMore → (told_after (run L j m) (move_denied v k 0 row_limit false (Go b ∷ []) [] r)).answers ≡ [] → X
+      ended_denied : (v : ℕ) (r : Inner) → BreaksRightly r → ((c p : ℕ) (ns : List Note) → r ≡ Held c ns p → X) →
+          (told_after (run L j m) (move_denied v k 0 row_limit false (Go b ∷ []) [] r)).ending ≡ Some NoMore →
+          (told_after (run L j m) (move_denied v k 0 row_limit false (Go b ∷ []) [] r)).answers ≡ [] → X
       ended_denied v (Refuted c ns p) h f i l = absurd (proved_gives j m k 0 row_limit p (v - c) b empty i l)
       ended_denied v (Held c ns p) h f i l = f c p ns refl
       ended_denied v (Broke c ns x) h f i l = let q : x ≡ NoMore = cc in absurd (h q)
       ended_denied v (Lasts c ns) h f i l = absurd (cc)
 
-      ended_view : (w : ℕ) (o : Option Bool) → ((v c p : ℕ) (ns : List Note) → inner L j has_no_pairs (starts first v 1) ≡ Held c ns p → X) → (told_after (run L j m) (move_view (inner L j) w k 0 row_limit row_limit false [] (look_not e b gs o))).ending ≡ Some NoMore → (told_after (run L j m) (move_view (inner L j) w k 0 row_limit row_limit false [] (look_not e b gs o))).answers ≡ [] → X
+      ended_view : (w : ℕ) (o : Option Bool) → ((v c p : ℕ) (ns : List Note) → inner L j has_no_pairs (starts first v 1) ≡ Held c ns p → X) →
+          (told_after (run L j m) (move_view (inner L j) w k 0 row_limit row_limit false [] (look_not e b gs o))).ending ≡ Some NoMore →
+          (told_after (run L j m) (move_view (inner L j) w k 0 row_limit row_limit false [] (look_not e b gs o))).answers ≡ [] → X
       ended_view w None f i l = absurd (cc)
       ended_view zero (Some true) f i l = absurd (cc)
       ended_view (suc w) (Some true) f i l = absurd (stopped_ends j m k 0 row_limit row_limit w i)
@@ -111,7 +119,9 @@ pub record IsRightOn (Pr : Instance → Type 0) (d : Declared) (q : Query) (t : 
   pub exhausts : t.ending ≡ Some NoMore → (i : Instance) → Pr i → AnyOf (λ a. IsInstance d a.typing a.answer i) typed
 
 module _ (d : Declared) (P : List Clause) (G : Term) (gs : Goals) (Pr : Instance → Type 0) (n j : ℕ) (right : (m steps : ℕ) → IsRightOn Pr d (record { type_vars = 0; vars = []; formula = G }) (run (look unit_limit n P) j m (start 0 0 gs steps 1))) where
-  first_sound : (a : Answer) (more : List Answer) (xs : List TypedAnswer) → map (λ x. x.answer) xs ≡ a ∷ more → has_no_pairs a ≡ true → EachOf (λ x. IsWellFormed d (record { type_vars = 0; vars = []; formula = G }) x.typing x.answer) xs → EachOf (λ x. (i : Instance) → IsClosedInstance d x.typing x.answer i → Pr i) xs → Pr no_values
+  first_sound : (a : Answer) (more : List Answer) (xs : List TypedAnswer) → map (λ x. x.answer) xs ≡ a ∷ more → has_no_pairs a ≡ true → EachOf
+      (λ x. IsWellFormed d (record { type_vars = 0; vars = []; formula = G }) x.typing x.answer) xs → EachOf
+      (λ x. (i : Instance) → IsClosedInstance d x.typing x.answer i → Pr i) xs → Pr no_values
   first_sound a more [] e f w s = absurd (cc)
   first_sound a more (x ∷ xs) e f w s = let r : x.answer ≡ a = cc in s.0 no_values (closed_instance d (record { type_vars = 0; vars = []; formula = G }) x refl refl w.0 (ap has_no_pairs r ∙ f))
 
@@ -155,11 +165,15 @@ module _ (d : Declared) (P : List Clause) (G : Term) (gs : Goals) (Pr : Instance
   ended (suc m) steps (suc k) e f = ended_view n P j m k steps e0 b0 (instantiate_goals σ gs) refl (Pr no_values) steps (has_variables n (both_written w0 nothing_written)) (λ v c p ns r. held v c p ns r) e f
 
 -- without negation in G and in the program
-module _ (d : Declared) (std : IsStandard d) (l : ℕ) (F : List ClauseFormula) (P : List Clause) (s : EachOf (IsPlainSentence d) F) (x : AreFlattened d F P) (G : Term) (gs : Goals) (t : IsPlainQuery d (record { type_vars = 0; vars = []; formula = G })) (flat : flatten_query l d G ≡ Some gs) (n j : ℕ) where
+module _ (d : Declared) (std : IsStandard d) (l : ℕ) (F : List ClauseFormula) (P : List Clause) (s : EachOf (IsPlainSentence d) F)
+    (x : AreFlattened d F P) (G : Term) (gs : Goals) (t : IsPlainQuery d (record { type_vars = 0; vars = []; formula = G }))
+    (flat : flatten_query l d G ≡ Some gs) (n j : ℕ) where
   pub plainly : (m steps : ℕ) → IsRightOn (IsProvable d F (record { type_vars = 0; vars = []; formula = G })) d (record { type_vars = 0; vars = []; formula = G }) (run (look unit_limit n P) j m (start 0 0 gs steps 1))
   plainly m steps = let r = search_is_right d std l F P s x (record { type_vars = 0; vars = []; formula = G }) gs t flat n j m steps 1 in record { typed = r.typed; is = r.is; well_formed = r.well_formed; sound = r.sound; exhausts = r.exhausts }
 
 -- with negations
-module _ (d : Declared) (std : IsStandard d) (l : ℕ) (F : List ClauseFormula) (P : List Clause) (s : EachOf (IsTypedSentence d) F) (x : AreFlattened d F P) (G : Term) (gs : Goals) (t : IsTypedQuery d (record { type_vars = 0; vars = []; formula = G })) (flat : flatten_query l d G ≡ Some gs) (n j : ℕ) where
+module _ (d : Declared) (std : IsStandard d) (l : ℕ) (F : List ClauseFormula) (P : List Clause) (s : EachOf (IsTypedSentence d) F)
+    (x : AreFlattened d F P) (G : Term) (gs : Goals) (t : IsTypedQuery d (record { type_vars = 0; vars = []; formula = G }))
+    (flat : flatten_query l d G ≡ Some gs) (n j : ℕ) where
   pub with_leaves : (m steps : ℕ) → IsRightOn (IsProvableBy (IsFailedSearch InAny d P) d F (record { type_vars = 0; vars = []; formula = G })) d (record { type_vars = 0; vars = []; formula = G }) (run (look unit_limit n P) j m (start 0 0 gs steps 1))
   with_leaves m steps = let r = right_by_failing d std l F P s x (record { type_vars = 0; vars = []; formula = G }) gs t flat n j m steps 1 in record { typed = r.typed; is = r.is; well_formed = r.well_formed; sound = r.sound; exhausts = r.exhausts }

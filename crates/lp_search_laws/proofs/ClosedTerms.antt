@@ -124,7 +124,9 @@ scoped_given d F W σ h C (text s) w A e = e
 scoped_given d F W σ h C (eigen k) w A e = e
 scoped_given d F W σ h C (param k T) w A e = e
 
-pub closed_typed : (d : Declared) (E : List Ty) (V : List Variable) (c : Closing) → Closes d V c → (C : List Ty) (t : Term) (T : Ty) → Typed (over d E V) C t T → Within (IsScopedAtom V E) (length C) t → Typed (under d (map (instance c.types) E)) (map (instance c.types) C) (closed c t) (instance c.types T)
+pub closed_typed : (d : Declared) (E : List Ty) (V : List Variable) (c : Closing) → Closes d V c → (C : List Ty) (t : Term) (T : Ty) → Typed
+    (over d E V) C t T → Within (IsScopedAtom V E) (length C) t → Typed (under d (map (instance c.types) E)) (map (instance c.types) C) (closed c t)
+    (instance c.types T)
 closed_typed d E V c h C t T w s =
     let F = map (instance c.types) E in
     let W = closed_variables c V in

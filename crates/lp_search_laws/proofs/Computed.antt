@@ -352,7 +352,9 @@ module _ {L : Leaves} (d : Declared) (std : IsSetting L d) (E : List Ty) (P : Li
       go (by_failure K e f m) = cc
       go (by_clause i D' ts e l n s r) = let q : 32 ≤ k = s in absurd (omega (q, h, arith))
 
-  pub comparisons : (c : Closing) (ts : List Ty) (k n : ℕ) (l r : Term) (x y : ℤ) → 10 ≤ k → k ≤ 13 → evaluate n l ≡ Some (Is (Number x)) → evaluate n r ≡ Some (Is (Number y)) → IsFormula d E (closed c (two k ts l r)) → (Holds L d E P c (two k ts l r) → ordered k x y ≡ true) × (ordered k x y ≡ true → Holds L d E P c (two k ts l r))
+  pub comparisons : (c : Closing) (ts : List Ty) (k n : ℕ) (l r : Term) (x y : ℤ) → 10 ≤ k → k ≤ 13 → evaluate n l ≡ Some (Is (Number x)) → evaluate n
+      r ≡ Some (Is (Number y)) → IsFormula d E (closed c (two k ts l r)) → (Holds L d E P c (two k ts l r) → ordered k x y ≡ true) ×
+      (ordered k x y ≡ true → Holds L d E P c (two k ts l r))
   comparisons c ts k n l r x y m h el er f =
       let hl = value_closed c l (Number x) (evaluated n l (Number x) el) in
       let hr = value_closed c r (Number y) (evaluated n r (Number y) er) in

@@ -25,13 +25,17 @@ reduces_on {L} d E P {t} {u} f r p = by_conversion d E P u t f (converts_reduces
 pub reduces_back : {L : Leaves} (d : Declared) (E : List Ty) (P : List ClauseFormula) {t u : Term} → IsFormula d E t → ReducesTo t u → ProvableBy L d E P u → ProvableBy L d E P t
 reduces_back {L} d E P {t} {u} f r p = by_conversion d E P t u (formula_reduces d E r f) (converts_sym (converts_reduces r)) p
 
-pub both_holds : {L : Leaves} (d : Declared) → IsSetting L d → (E : List Ty) (P : List ClauseFormula) (c : Closing) (a b : Term) → IsFormula d E (closed c (two 0 [] a b)) → (Holds L d E P c (two 0 [] a b) → Holds L d E P c a × Holds L d E P c b) × (Holds L d E P c a × Holds L d E P c b → Holds L d E P c (two 0 [] a b))
+pub both_holds : {L : Leaves} (d : Declared) → IsSetting L d → (E : List Ty) (P : List ClauseFormula) (c : Closing) (a b : Term) → IsFormula d E
+    (closed c (two 0 [] a b)) → (Holds L d E P c (two 0 [] a b) → Holds L d E P c a × Holds L d E P c b) ×
+    (Holds L d E P c a × Holds L d E P c b → Holds L d E P c (two 0 [] a b))
 both_holds {L} d std E P c a b f = (
   (λ p. both_root_by L d std.standard E P (closed c a) (closed c b) f (std.converting P) p),
   (λ p. record { proof = And p.0.proof p.1.proof; holds = (closed c a, closed c b, refl, p.0.holds, p.1.holds) }),
 )
 
-pub either_holds : {L : Leaves} (d : Declared) → IsSetting L d → (E : List Ty) (P : List ClauseFormula) (c : Closing) (a b : Term) → IsFormula d E (closed c (two 1 [] a b)) → (Holds L d E P c (two 1 [] a b) → Holds L d E P c a ⊎ Holds L d E P c b) × (Holds L d E P c a ⊎ Holds L d E P c b → Holds L d E P c (two 1 [] a b))
+pub either_holds : {L : Leaves} (d : Declared) → IsSetting L d → (E : List Ty) (P : List ClauseFormula) (c : Closing) (a b : Term) → IsFormula d E
+    (closed c (two 1 [] a b)) → (Holds L d E P c (two 1 [] a b) → Holds L d E P c a ⊎ Holds L d E P c b) ×
+    (Holds L d E P c a ⊎ Holds L d E P c b → Holds L d E P c (two 1 [] a b))
 either_holds {L} d std E P c a b f = ((λ p. either_root_by L d std.standard E P (closed c a) (closed c b) f (std.converting P) p), back)
   where
     back : Holds L d E P c a ⊎ Holds L d E P c b → Holds L d E P c (two 1 [] a b)
@@ -60,7 +64,9 @@ sigma_holds {L} d std E P c x l T a n f =
       (λ p. let z = reduces_back d E P (formulas.at_witness d E U (closed c a) p.0 q p.1) (r p.0) p.2 in record { proof = Witness p.0 z.proof; holds = (U, closed c a, refl, p.1, z.holds) }),
     )
 
-pub implied_holds : {L : Leaves} (d : Declared) → IsSetting L d → (E : List Ty) (P : List ClauseFormula) (c : Closing) (a b : Term) → IsFormula d E (closed c (two 2 [] a b)) → (Holds L d E P c (two 2 [] a b) → Holds L d E (P ++ assumed (closed c a) ∷ []) c b) × (Holds L d E (P ++ assumed (closed c a) ∷ []) c b → Holds L d E P c (two 2 [] a b))
+pub implied_holds : {L : Leaves} (d : Declared) → IsSetting L d → (E : List Ty) (P : List ClauseFormula) (c : Closing) (a b : Term) → IsFormula d E
+    (closed c (two 2 [] a b)) → (Holds L d E P c (two 2 [] a b) → Holds L d E (P ++ assumed (closed c a) ∷ []) c b) ×
+    (Holds L d E (P ++ assumed (closed c a) ∷ []) c b → Holds L d E P c (two 2 [] a b))
 implied_holds {L} d std E P c a b f = (
   (λ p. implied_root_by L d std.standard E P (closed c a) (closed c b) f (std.converting P) p),
   (λ p. record { proof = Assume p.proof; holds = (closed c a, closed c b, inl refl, p.holds) }),
@@ -89,7 +95,9 @@ equal_root {L} d std E P T a b f p = go (rooted_by L d std.standard E P (constan
     go (by_failure K e f h) = cc
     go (by_clause i D' ts e l k h r) = let m : 32 ≤ 8 = h in absurd (omega arith)
 
-pub equal_holds : {L : Leaves} (d : Declared) → IsSetting L d → (E : List Ty) (P : List ClauseFormula) (c : Closing) (T : Ty) (a b : Term) → IsFormula d E (closed c (two 8 (T ∷ []) a b)) → (Holds L d E P c (two 8 (T ∷ []) a b) → Converts (closed c a) (closed c b)) × (Converts (closed c a) (closed c b) → Holds L d E P c (two 8 (T ∷ []) a b))
+pub equal_holds : {L : Leaves} (d : Declared) → IsSetting L d → (E : List Ty) (P : List ClauseFormula) (c : Closing) (T : Ty) (a b : Term) → IsFormula
+    d E (closed c (two 8 (T ∷ []) a b)) → (Holds L d E P c (two 8 (T ∷ []) a b) → Converts (closed c a) (closed c b)) ×
+    (Converts (closed c a) (closed c b) → Holds L d E P c (two 8 (T ∷ []) a b))
 equal_holds {L} d std E P c T a b f = (
   (λ p. equal_root d std E P (instance c.types T) (closed c a) (closed c b) f p),
   (λ e. record { proof = Equal; holds = (instance c.types T, closed c a, closed c b, refl, e) }),

@@ -161,7 +161,9 @@ module _ (d : Declared) (std : IsStandard d) (P : List Clause) (program : EachOf
   below_same k = more_same d (failed_same InAny d P) (λ E f. (failed_run (length E) f).steps < k)
 
   -- a run of one typed task
-  module _ (L : Leaves) (same : KeepsSame InAny P L d) (n j : ℕ) (q : Query) (Few Fewer : ℕ → Type 0) (few : (x y : ℕ) → x ≤ y → Few y → Few x) (fewer : (x y : ℕ) → x ≤ y → Fewer y → Fewer x) (proves : Proves n d P q L j AnyTask AnyTask Few Fewer) (excludes : Excludes n d P q L j AnyTask AnyTask Few Fewer) where
+  module _ (L : Leaves) (same : KeepsSame InAny P L d) (n j : ℕ) (q : Query) (Few Fewer : ℕ → Type 0) (few : (x y : ℕ) → x ≤ y → Few y → Few x)
+      (fewer : (x y : ℕ) → x ≤ y → Fewer y → Fewer x) (proves : Proves n d P q L j AnyTask AnyTask Few Fewer)
+      (excludes : Excludes n d P q L j AnyTask AnyTask Few Fewer) where
     pub typed_run : (m rows steps answers : ℕ) (T : TypedTask) → IsOk n d P q T → RightRun n d P q L j AnyTask AnyTask Few Fewer false (T ∷ []) (run (look unit_limit n P) j m (starts_within rows (task_of T) steps answers))
     typed_run m rows steps answers T k =
         run_right n d P q L j AnyTask AnyTask Few Fewer (λ height U w. each_look n d (setting_of d same std) P program q height U w)
@@ -173,10 +175,14 @@ module _ (d : Declared) (std : IsStandard d) (P : List Clause) (program : EachOf
 
   -- the search of a negated goal that holds in c steps, and a failing search of t steps for its goals
   abbrev pub Clash : (c t : ℕ) → Type 0
-  Clash c t = (n j : ℕ) (V : List Variable) (m : ℕ) (E : List Ty) (gs : Goals) (A : List Clause) → IsHeldAt d P n j V m E gs A c → (z : Closing) → Closes d V z → (f : Failure) → IsFailedSearch InAny d P (map (instance z.types) E) (clauses_at P A z) (closed z (formula_of_goals gs)) f → (failed_run (length (map (instance z.types) E)) f).steps ≡ t → ⊥
+  Clash c t = (n j : ℕ) (V : List Variable) (m : ℕ) (E : List Ty) (gs : Goals) (A : List Clause) → IsHeldAt d P n j V m E gs A c → (z : Closing) →
+      Closes d V z → (f : Failure) → IsFailedSearch InAny d P (map (instance z.types) E) (clauses_at P A z) (closed z (formula_of_goals gs)) f →
+      (failed_run (length (map (instance z.types) E)) f).steps ≡ t → ⊥
 
   -- where its search is held
-  pub held_at : {L : Leaves} (n j : ℕ) (q : Query) (T : TypedTask) (u : Task) (g : Answer → Bool) (ts : List Task) (r : DeniesTyped L n d P q T u g ts) → (steps rows k p : ℕ) (ns : List Note) → inner (look unit_limit n P) j g (starts_within rows u steps 1) ≡ Held k ns p → IsHeldAt d P n j r.variables r.next_type r.eigens r.goals r.assumed k
+  pub held_at : {L : Leaves} (n j : ℕ) (q : Query) (T : TypedTask) (u : Task) (g : Answer → Bool) (ts : List Task)
+      (r : DeniesTyped L n d P q T u g ts) → (steps rows k p : ℕ) (ns : List Note) → inner (look unit_limit n P) j g (starts_within rows u steps 1) ≡
+      Held k ns p → IsHeldAt d P n j r.variables r.next_type r.eigens r.goals r.assumed k
   held_at n j q T u g ts r steps rows k p ns e =
       record {
         own = r.own;
@@ -207,7 +213,9 @@ module _ (d : Declared) (std : IsStandard d) (P : List Clause) (program : EachOf
       (y.leaf, (y.fails, omega (arith, s, l)))
 
   -- a search that holds makes its goals provable under each closing, with leaves of fewer steps
-  module _ (L : Leaves) (same : KeepsSame InAny P L d) (n j : ℕ) (Few : ℕ → Type 0) (few : (x y : ℕ) → x ≤ y → Few y → Few x) (V : List Variable) (m : ℕ) (E : List Ty) (gs : Goals) (A : List Clause) (c : ℕ) (h : IsHeldAt d P n j V m E gs A c) (proves : Proves n d P (typed_query m) L j AnyTask AnyTask Few (λ x. ⊥)) (enough : Few c) where
+  module _ (L : Leaves) (same : KeepsSame InAny P L d) (n j : ℕ) (Few : ℕ → Type 0) (few : (x y : ℕ) → x ≤ y → Few y → Few x) (V : List Variable)
+      (m : ℕ) (E : List Ty) (gs : Goals) (A : List Clause) (c : ℕ) (h : IsHeldAt d P n j V m E gs A c)
+      (proves : Proves n d P (typed_query m) L j AnyTask AnyTask Few (λ x. ⊥)) (enough : Few c) where
     abbrev first : TypedTask
     first = going (denied_typing V E gs) (carrying (length V) m gs A h.written (length E))
 
@@ -251,7 +259,9 @@ module _ (d : Declared) (std : IsStandard d) (P : List Clause) (program : EachOf
           answer = record { closing = c; closes = h.closes; solves = tt; types = refl; values = tt };
           proved = (goals_proved d (setting_of d same std) P f.variables c h.closes F A f.written (length F) 0 f.goals typed).0 p2;
         } in
-        let told : failed_run (length F) f ≡ run (look unit_limit f.looks P) f.moves f.moves (starts_within f.limit (Go (failing_branch (length F) f)) f.limit 1) = ap (λ Q. run (look unit_limit f.looks Q) f.moves f.moves (starts_within f.limit (Go (failing_branch (length F) f)) f.limit 1)) h.program in
+        let told : failed_run (length F) f ≡ run (look unit_limit f.looks P) f.moves f.moves
+        (starts_within f.limit (Go (failing_branch (length F) f)) f.limit 1) = ap
+        (λ Q. run (look unit_limit f.looks Q) f.moves f.moves (starts_within f.limit (Go (failing_branch (length F) f)) f.limit 1)) h.program in
         let level : length E ≡ length F = ap length (sym h.is_closed) ∙ length-map F (instance c.types) in
         let r = typed_run L same f.looks f.moves no_query (λ x. ⊥) Fewer (λ x z l e. e) fewer (λ T u g ts r m st rows k q ns e w. absurd w) (excludes f.looks f.moves) f.moves f.limit f.limit 1 (going (failing_typing F f) (failing_branch (length F) f)) h.begins in
         let ends = ap (λ (w : Told Answer). w.ending) (sym told) ∙ h.ends in

@@ -34,7 +34,9 @@ module _ (n : ℕ) (d : Declared) (std : IsStandard d) (P : List Clause) (progra
       let s = denied_stands n d (setting_of d same std) P q z b E Es e es h w gs is tested in
       proves_failing d std P program n j q (λ x. ⊥) T (denied_task b.next b.next_type gs e.assumed e.written e.level) has_no_pairs (Go (with_goals b es) ∷ []) s tt steps row_limit k p ns r tt c l
 
-  pub held : inner (look unit_limit n P) j has_no_pairs (starts (denied_task b.next b.next_type gs e.assumed e.written e.level) steps 1) ≡ Held k ns p → (c : Closing) → Closes d z.variables c → Holds (IsFailedSearch InAny d P) d (map (instance c.types) E) (clauses_at P e.assumed c) c (formula_of_goals gs) × (HasLeaf (IsFailedSearch InAny d P) P c E e.assumed gs → ⊥)
+  pub held : inner (look unit_limit n P) j has_no_pairs (starts (denied_task b.next b.next_type gs e.assumed e.written e.level) steps 1) ≡ Held k ns p
+      → (c : Closing) → Closes d z.variables c → Holds (IsFailedSearch InAny d P) d (map (instance c.types) E) (clauses_at P e.assumed c) c
+      (formula_of_goals gs) × (HasLeaf (IsFailedSearch InAny d P) P c E e.assumed gs → ⊥)
   unfolding denied_stands
   held r c l =
       let same = failed_same InAny d P in

@@ -316,7 +316,9 @@ module _ (n : ℕ) (d : Declared) (std : IsStandard d) (q : Query) (y : BranchTy
       let f = written_found r.0 (both_written v e.written) r.1 in
       (r.0, λ u gs j. let k : Not v hs ≡ Not u gs = sym i ∙ j in transport (λ z. IsFound (has_variables r.0 (both_written z e.written))) (let l : v ≡ u = cc in l) f)
 
-  by_denial : (Es : List (List Ty)) (gs : List Entry) → b.goals ≡ gs → AreTypedEntries d y.answer.variables Es gs → EachOf IsWrittenEntry gs → (m : ℕ) × ((e : Entry) (es : List Entry) (w : Written) (hs : Goals) → b.goals ≡ e ∷ es → e.goal ≡ Not w hs → IsFound (has_variables m (both_written w e.written)))
+  by_denial : (Es : List (List Ty)) (gs : List Entry) → b.goals ≡ gs → AreTypedEntries d y.answer.variables Es gs → EachOf IsWrittenEntry gs → (m : ℕ)
+      × ((e : Entry) (es : List Entry) (w : Written) (hs : Goals) → b.goals ≡ e ∷ es → e.goal ≡ Not w hs → IsFound
+      (has_variables m (both_written w e.written)))
   by_denial [] [] i t x = (0, λ e es w hs j k. absurd (let s = sym i ∙ j in cc))
   by_denial [] (e ∷ es) i t x = absurd t
   by_denial (E ∷ Es) [] i t x = absurd t

@@ -122,7 +122,9 @@ put_assumed (b ∷ bs) s e =
 type_assumed : (ts : List TypeBinding) (e : Entry) → formulas (type_one ts e).assumed ≡ map (put_types_in ts) (formulas e.assumed)
 type_assumed [] e = map_id (formulas e.assumed)
 type_assumed (b ∷ ts) e =
-    type_assumed ts (type_entry b e) ∙ ap (map (put_types_in ts)) (map_same_as formula_of_clause (type_clause (one_type b)) (λ k. put_type_in b (formula_of_clause k)) (clause_inside (instance_term (one_type b)) (instance (one_type b)) (types_inside (one_type b)) zero) e.assumed ∙ map_comp formula_of_clause (put_type_in b) e.assumed) ∙
+    type_assumed ts (type_entry b e) ∙ ap (map (put_types_in ts)) (map_same_as formula_of_clause (type_clause (one_type b))
+    (λ k. put_type_in b (formula_of_clause k)) (clause_inside (instance_term (one_type b)) (instance (one_type b)) (types_inside (one_type b))
+    zero) e.assumed ∙ map_comp formula_of_clause (put_type_in b) e.assumed) ∙
     map_both (put_types_in ts) (put_type_in b) (formulas e.assumed)
 
 pub assumed_behind : (bs : List Binding) (ts : List TypeBinding) → AreShut bs → (e : Entry) → formulas (type_one ts (put_one bs e)).assumed ≡ map (put_in bs ts) (formulas e.assumed)
@@ -132,7 +134,9 @@ assumed_behind bs ts s e = type_assumed ts (put_one bs e) ∙ ap (map (put_types
 pub typed_at : (d : Declared) (V : List Variable) (E : List Ty) (ts : List TypeBinding) (t : Term) → IsTyped d E V t o_type → IsTypedAt d E V ts t
 typed_at d V E ts t h = record { typed = side_instance (types_of ts) d E V t o_type h.typed; scoped = scoped_instance (types_of ts) E V 0 t h.scoped }
 
-pub typed_behind : (d : Declared) (V W : List Variable) (E : List Ty) (bs : List Binding) (ts : List TypeBinding) → IsMore (variables_of (types_of ts) V) W → AreTypedBindings d W (map (instance_binding (types_of ts)) bs) → (t : Term) → IsTypedAt d E V ts t → IsTyped d (map (instance (types_of ts)) E) W (put_in bs ts t) o_type
+pub typed_behind : (d : Declared) (V W : List Variable) (E : List Ty) (bs : List Binding) (ts : List TypeBinding) → IsMore
+    (variables_of (types_of ts) V) W → AreTypedBindings d W (map (instance_binding (types_of ts)) bs) → (t : Term) → IsTypedAt d E V ts t → IsTyped d
+    (map (instance (types_of ts)) E) W (put_in bs ts t) o_type
 typed_behind d V W E bs ts m b t h =
     let θ = types_of ts in
     let F = map (instance θ) E in
@@ -153,7 +157,9 @@ each_on : (P Q : Term → Type 0) (f : Term → Term) → ((t : Term) → P t �
 each_on P Q f g [] h = tt
 each_on P Q f g (u ∷ us) h = (g u h.0, each_on P Q f g us h.1)
 
-pub entry_behind : (d : Declared) (V W : List Variable) (E : List Ty) (bs : List Binding) (ts : List TypeBinding) → AreShut bs → IsMore (variables_of (types_of ts) V) W → AreTypedBindings d W (map (instance_binding (types_of ts)) bs) → (e : Entry) → IsEntryAt d V ts E e → IsTypedEntry d W (map (instance (types_of ts)) E) (type_one ts (put_one bs e))
+pub entry_behind : (d : Declared) (V W : List Variable) (E : List Ty) (bs : List Binding) (ts : List TypeBinding) → AreShut bs → IsMore
+    (variables_of (types_of ts) V) W → AreTypedBindings d W (map (instance_binding (types_of ts)) bs) → (e : Entry) → IsEntryAt d V ts E e →
+    IsTypedEntry d W (map (instance (types_of ts)) E) (type_one ts (put_one bs e))
 entry_behind d V W E bs ts s m b e h =
     let F = map (instance (types_of ts)) E in
     record {
@@ -164,7 +170,9 @@ entry_behind d V W E bs ts s m b e h =
           (each_on (λ t. IsTypedAt d E V ts t) (λ t. IsTyped d F W t o_type) (put_in bs ts) (typed_behind d V W E bs ts m b) (formulas e.assumed) (each_map (λ t. IsTypedAt d E V ts t) e.assumed h.assumed)));
     }
 
-pub entries_behind : (d : Declared) (V W : List Variable) (bs : List Binding) (ts : List TypeBinding) → AreShut bs → IsMore (variables_of (types_of ts) V) W → AreTypedBindings d W (map (instance_binding (types_of ts)) bs) → (Es : List (List Ty)) (es : List Entry) → AreEntriesAt d V ts Es es → AreTypedEntries d W (eigens_of (types_of ts) Es) (behind bs ts es)
+pub entries_behind : (d : Declared) (V W : List Variable) (bs : List Binding) (ts : List TypeBinding) → AreShut bs → IsMore
+    (variables_of (types_of ts) V) W → AreTypedBindings d W (map (instance_binding (types_of ts)) bs) → (Es : List (List Ty)) (es : List Entry) →
+    AreEntriesAt d V ts Es es → AreTypedEntries d W (eigens_of (types_of ts) Es) (behind bs ts es)
 entries_behind d V W bs ts s m b [] [] h = transport (AreTypedEntries d W []) (sym (behind_none bs ts)) tt
 entries_behind d V W bs ts s m b [] (e ∷ es) h = absurd h
 entries_behind d V W bs ts s m b (E ∷ Es) [] h = absurd h
@@ -239,7 +247,9 @@ abbrev pub each_assumed : (Term → Term) → List Term → List ClauseFormula
 each_assumed f [] = []
 each_assumed f (u ∷ us) = each_assumed f us ++ assumed (f u) ∷ []
 
-converted_before : {L : Leaves} (d : Declared) → ((P : List ClauseFormula) → Converting L d P) → (E : List Ty) (f g : Term → Term) (G : Term) (us : List Term) → EachOf (λ t. IsFormula d E (f t) × IsFormula d E (g t) × Converts (f t) (g t)) us → (P S : List ClauseFormula) → ProvableBy L d E (P ++ (each_assumed f us ++ S)) G → ProvableBy L d E (P ++ (each_assumed g us ++ S)) G
+converted_before : {L : Leaves} (d : Declared) → ((P : List ClauseFormula) → Converting L d P) → (E : List Ty) (f g : Term → Term) (G : Term)
+    (us : List Term) → EachOf (λ t. IsFormula d E (f t) × IsFormula d E (g t) × Converts (f t) (g t)) us → (P S : List ClauseFormula) → ProvableBy L d
+    E (P ++ (each_assumed f us ++ S)) G → ProvableBy L d E (P ++ (each_assumed g us ++ S)) G
 converted_before {L} d conv E f g G [] h P S p = p
 converted_before {L} d conv E f g G (u ∷ us) h P S p =
     let B = P ++ each_assumed g us in
@@ -249,7 +259,9 @@ converted_before {L} d conv E f g G (u ∷ us) h P S p =
     (transport (Focuses L d E (f u)) (sym (closed_instance (length E) (type_at ts) (g u) h.0.1.closed)) (converted_focus _ d E (f u) (g u) h.0.0 h.0.2))) (transport (λ Q. ProvableBy L d E Q G) (sym (append_assoc P (each_assumed g us) (assumed (f u) ∷ S))) o) in
     transport (λ X. ProvableBy L d E (P ++ X) G) (sym (append_assoc (each_assumed g us) (assumed (g u) ∷ []) S)) (transport (λ Q. ProvableBy L d E Q G) (append_assoc P (each_assumed g us) (assumed (g u) ∷ S)) q)
 
-pub converted_all : {L : Leaves} (d : Declared) → ((P : List ClauseFormula) → Converting L d P) → (E : List Ty) (f g : Term → Term) (G : Term) (us : List Term) → EachOf (λ t. IsFormula d E (f t) × IsFormula d E (g t) × Converts (f t) (g t)) us → (P : List ClauseFormula) → ProvableBy L d E (P ++ each_assumed f us) G → ProvableBy L d E (P ++ each_assumed g us) G
+pub converted_all : {L : Leaves} (d : Declared) → ((P : List ClauseFormula) → Converting L d P) → (E : List Ty) (f g : Term → Term) (G : Term)
+    (us : List Term) → EachOf (λ t. IsFormula d E (f t) × IsFormula d E (g t) × Converts (f t) (g t)) us → (P : List ClauseFormula) → ProvableBy L d E
+    (P ++ each_assumed f us) G → ProvableBy L d E (P ++ each_assumed g us) G
 converted_all {L} d conv E f g G us h P p =
     transport (λ X. ProvableBy L d E (P ++ X) G) (append-nil (each_assumed g us)) (converted_before d conv E f g G us h P [] (transport (λ X. ProvableBy L d E (P ++ X) G) (sym (append-nil (each_assumed f us))) p))
 
@@ -275,7 +287,9 @@ each_swap P Q R R' h [] w = tt
 each_swap P Q R R' h (u ∷ us) w = ((w.0.1, w.0.0, h u w.0.2), each_swap P Q R R' h us w.1)
 
 -- one entry holds where it held
-pub entry_leads : {L : Leaves} (d : Declared) → ((P : List ClauseFormula) → Converting L d P) → (V W : List Variable) (P : List Clause) (c z : Closing) (bs : List Binding) (ts : List TypeBinding) → LeadsThrough V c z bs ts → AreShut bs → Closes d V c → Closes d W z → (E : List Ty) (e : Entry) → IsEntryAt d V ts E e → IsTypedEntry d W (map (instance (types_of ts)) E) (type_one ts (put_one bs e)) →
+pub entry_leads : {L : Leaves} (d : Declared) → ((P : List ClauseFormula) → Converting L d P) → (V W : List Variable) (P : List Clause)
+    (c z : Closing) (bs : List Binding) (ts : List TypeBinding) → LeadsThrough V c z bs ts → AreShut bs → Closes d V c → Closes d W z → (E : List Ty)
+    (e : Entry) → IsEntryAt d V ts E e → IsTypedEntry d W (map (instance (types_of ts)) E) (type_one ts (put_one bs e)) →
     (EntryHolds L d P c E e → EntryHolds L d P z (map (instance (types_of ts)) E) (type_one ts (put_one bs e))) × (EntryHolds L d P z (map (instance (types_of ts)) E) (type_one ts (put_one bs e)) → EntryHolds L d P c E e)
 entry_leads {L} d conv V W P c z bs ts k s cl zl E e h h' =
     let D = map (instance (types_of ts)) E in

@@ -80,7 +80,9 @@ module _ {L : Leaves} (n : ℕ) (d : Declared) (std : IsSetting L d) (P : List C
       tt (record { left = plain.0.1; right = plain.1 }, tt)
       (going (Typings n d P q z b E Es e es (E ∷ Es)) (with_goals b (e ∷ es))) to_pair from_pair (λ y' b' x. inr x)
 
-pub equality_stands : {L : Leaves} (n : ℕ) (d : Declared) → IsSetting L d → (P : List Clause) (q : Query) (y : BranchTyping) (b : Branch) (e : Entry) (es : List Entry) (t u : Term) (T : Ty) (l r : Term) → b.goals ≡ e ∷ es → e.goal ≡ Atomic t → head_normal n t ≡ Some u → u ≡ two 8 (T ∷ []) l r → IsTypedBranch n d q y b →
+pub equality_stands : {L : Leaves} (n : ℕ) (d : Declared) → IsSetting L d → (P : List Clause) (q : Query) (y : BranchTyping) (b : Branch) (e : Entry)
+    (es : List Entry) (t u : Term) (T : Ty) (l r : Term) → b.goals ≡ e ∷ es → e.goal ≡ Atomic t → head_normal n t ≡ Some u → u ≡ two 8 (T ∷ []) l r →
+    IsTypedBranch n d q y b →
     StandFor L n d P q (going y b) (equated unit_limit n e.level l r (with_goals b es))
 equality_stands {L} n d std P q y b e es t u T l r g i c shape typed =
     by_first n d q (λ x v. StandFor L n d P q (going x v) (equated unit_limit n e.level l r (with_goals b es))) y b e es g (λ E Es w. equal_here n d std P q y.answer b E Es e es w t u i c T l r shape) typed

@@ -22,7 +22,9 @@ pub data Expression : Term → Value → Type 0 where
   of_two : (c : ℕ) (ts : List Ty) {a b : Term} {x y v : Value} → is_two_place c ≡ true → Expression a x → Expression b y → binary c x y ≡ Is v → Expression (app (app (atom (constant c ts)) a) b) v
   of_one : (c : ℕ) (ts : List Ty) {a : Term} {x v : Value} → is_one_place c ≡ true → Expression a x → unary c x ≡ Is v → Expression (app (atom (constant c ts)) a) v
 
-two_of : (c : ℕ) (ts : List Ty) (a b : Term) (v : Value) → ((x : Value) → value a ≡ Is x → Expression a x) → ((x : Value) → value b ≡ Is x → Expression b x) → (t : Bool) → is_two_place c ≡ t → (o p : Outcome) → value a ≡ o → value b ≡ p → (if t then both c o p else Faults NotClosed) ≡ Is v → Expression (app (app (atom (constant c ts)) a) b) v
+two_of : (c : ℕ) (ts : List Ty) (a b : Term) (v : Value) → ((x : Value) → value a ≡ Is x → Expression a x) →
+    ((x : Value) → value b ≡ Is x → Expression b x) → (t : Bool) → is_two_place c ≡ t → (o p : Outcome) → value a ≡ o → value b ≡ p →
+    (if t then both c o p else Faults NotClosed) ≡ Is v → Expression (app (app (atom (constant c ts)) a) b) v
 two_of c ts a b v f g false t o p h k e = absurd (cc)
 two_of c ts a b v f g true t (Faults w) p h k e = absurd (cc)
 two_of c ts a b v f g true t (Is x) (Faults w) h k e = absurd (cc)

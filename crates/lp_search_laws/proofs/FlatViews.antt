@@ -44,17 +44,23 @@ pub place_of : (d : Declared) (V : List Variable) (k : ℕ) (E : List Ty) (e : E
 place_of d V k E e t p = record { is_level = t.level; below = p.eigens; typed = t.assumed; plain = p.assumed }
 
 -- goals in a place
-pub list_stands : (d : Declared) (V : List Variable) (k : ℕ) (E : List Ty) (A : List Clause) (W : Written) (level mark : ℕ) → IsPlaceOf d V k E A level → IsWrittenPlace A W → (gs : List Goal) → EachOf (λ g. IsTyped d E V (formula_of_goal g) o_type) gs → EachOf (IsGoal k []) gs → EachOf IsWrittenGoal gs → MayStand d V k (each_at E gs) (entries gs A W level mark)
+pub list_stands : (d : Declared) (V : List Variable) (k : ℕ) (E : List Ty) (A : List Clause) (W : Written) (level mark : ℕ) → IsPlaceOf d V k E A
+    level → IsWrittenPlace A W → (gs : List Goal) → EachOf (λ g. IsTyped d E V (formula_of_goal g) o_type) gs → EachOf (IsGoal k []) gs → EachOf
+    IsWrittenGoal gs → MayStand d V k (each_at E gs) (entries gs A W level mark)
 list_stands d V k E A W l m p pw gs t h w = entries_stand d V k E A W l m gs
     (each_so (λ g. IsTyped d E V (formula_of_goal g) o_type) (λ g. IsTypedEntry d V E (record { goal = g; assumed = A; written = W; level = l; mark = m })) (λ g w. record { level = p.is_level; goal = w; assumed = p.typed }) gs t)
     (each_so (IsGoal k []) (λ g. IsPlainEntry k E (record { goal = g; assumed = A; written = W; level = l; mark = m })) (λ g w. record { eigens = p.below; goal = w; assumed = p.plain }) gs h)
     pw w
 
-pub goals_stand : (d : Declared) → IsStandard d → (V : List Variable) (k : ℕ) (E : List Ty) (A : List Clause) (W : Written) (level mark : ℕ) → IsPlaceOf d V k E A level → IsWrittenPlace A W → (gs : Goals) → IsTyped d E V (formula_of_goals gs) o_type → AreGoals k [] gs → AreWrittenGoals gs → MayStand d V k (each_at E (goal_list gs)) (entries (goal_list gs) A W level mark)
+pub goals_stand : (d : Declared) → IsStandard d → (V : List Variable) (k : ℕ) (E : List Ty) (A : List Clause) (W : Written) (level mark : ℕ) →
+    IsPlaceOf d V k E A level → IsWrittenPlace A W → (gs : Goals) → IsTyped d E V (formula_of_goals gs) o_type → AreGoals k [] gs → AreWrittenGoals gs
+    → MayStand d V k (each_at E (goal_list gs)) (entries (goal_list gs) A W level mark)
 goals_stand d std V k E A W l m p pw gs t h w = list_stands d V k E A W l m p pw (goal_list gs) (goals_typed d std E V gs t) (goals_each k [] gs h) (written_each gs w)
 
 pub goals_proved : {L : Leaves} (d : Declared) → IsSetting L d → (P : List Clause) (V : List Variable) (c : Closing) → Closes d V c → (E : List Ty) (A : List Clause) (W : Written) (level mark : ℕ) (gs : Goals) → IsTyped d E V (formula_of_goals gs) o_type →
-    (Holds L d (map (instance c.types) E) (clauses_at P A c) c (formula_of_goals gs) → AreProved L d P c (each_at E (goal_list gs)) (entries (goal_list gs) A W level mark)) × (AreProved L d P c (each_at E (goal_list gs)) (entries (goal_list gs) A W level mark) → Holds L d (map (instance c.types) E) (clauses_at P A c) c (formula_of_goals gs))
+    (Holds L d (map (instance c.types) E) (clauses_at P A c) c (formula_of_goals gs) → AreProved L d P c (each_at E (goal_list gs))
+    (entries (goal_list gs) A W level mark)) × (AreProved L d P c (each_at E (goal_list gs)) (entries (goal_list gs) A W level mark) → Holds L d
+    (map (instance c.types) E) (clauses_at P A c) c (formula_of_goals gs))
 goals_proved {L} d std P V c l E A W v m gs t =
     let r = goals_in_turn d std (map (instance c.types) E) (clauses_at P A c) c gs (formula_at d V c l E (formula_of_goals gs) t) in
     ((λ p. entries_hold _ d P c E A W v m (goal_list gs) (r.0 p)), (λ p. r.1 (hold_entries _ d P c E A W v m (goal_list gs) p)))
@@ -71,12 +77,16 @@ may_open k x u f p h e = record { plain = plain; heads = heads }
     heads zero g = transport (λ z. IsClauseHead [] (head_of z)) (sym (e zero)) (h g)
     heads (suc i) g = absurd (cc)
 
-pub opened_stand : (d : Declared) → IsStandard d → (V : List Variable) (k : ℕ) (E : List Ty) (A : List Clause) (W : Written) (level mark : ℕ) → IsPlaceOf d V k E A level → IsWrittenPlace A W → (x : Bool) (u : Term) (f : ℕ → Term) → ((i : ℕ) → f i ≡ instead u i) → IsPlainTerm k u → (x ≡ true → IsClauseHead [] (head_of u)) →
+pub opened_stand : (d : Declared) → IsStandard d → (V : List Variable) (k : ℕ) (E : List Ty) (A : List Clause) (W : Written) (level mark : ℕ) →
+    IsPlaceOf d V k E A level → IsWrittenPlace A W → (x : Bool) (u : Term) (f : ℕ → Term) → ((i : ℕ) → f i ≡ instead u i) → IsPlainTerm k u →
+    (x ≡ true → IsClauseHead [] (head_of u)) →
     (gs : Goals) → IsTyped d E V (substitute u (formula_of_goals gs)) o_type → AreGoals k (x ∷ []) gs → AreWrittenGoals gs → MayStand d V k (each_at E (goal_list (instantiate_goals f gs))) (entries (goal_list (instantiate_goals f gs)) A W level mark)
 opened_stand d std V k E A W l m p pw x u f e v h gs t a w =
     goals_stand d std V k E A W l m p pw (instantiate_goals f gs) (transport (λ z. IsTyped d E V z o_type) (sym (first_only u f e gs)) t) (goals_put k (x ∷ []) [] f (may_open k x u f v h e) gs a) (instantiated_goals f gs w)
 
-pub opened_proved : {L : Leaves} (d : Declared) → IsSetting L d → (P : List Clause) (V : List Variable) (c : Closing) → Closes d V c → (E : List Ty) (A : List Clause) (W : Written) (level mark : ℕ) (u : Term) (f : ℕ → Term) → ((i : ℕ) → f i ≡ instead u i) → (gs : Goals) → IsTyped d E V (substitute u (formula_of_goals gs)) o_type →
+pub opened_proved : {L : Leaves} (d : Declared) → IsSetting L d → (P : List Clause) (V : List Variable) (c : Closing) → Closes d V c → (E : List Ty)
+    (A : List Clause) (W : Written) (level mark : ℕ) (u : Term) (f : ℕ → Term) → ((i : ℕ) → f i ≡ instead u i) → (gs : Goals) → IsTyped d E V
+    (substitute u (formula_of_goals gs)) o_type →
     (Holds L d (map (instance c.types) E) (clauses_at P A c) c (substitute u (formula_of_goals gs)) → AreProved L d P c (each_at E (goal_list (instantiate_goals f gs))) (entries (goal_list (instantiate_goals f gs)) A W level mark)) ×
     (AreProved L d P c (each_at E (goal_list (instantiate_goals f gs))) (entries (goal_list (instantiate_goals f gs)) A W level mark) → Holds L d (map (instance c.types) E) (clauses_at P A c) c (substitute u (formula_of_goals gs)))
 opened_proved {L} d std P V c l E A W v m u f e gs t =

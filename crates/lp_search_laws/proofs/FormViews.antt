@@ -62,7 +62,9 @@ module _ {L : Leaves} (n : ℕ) (d : Declared) (std : IsSetting L d) (P : List C
       by_goal n d std P q z b E Es e es h (Atomic t) i c _ ((λ p. reduces_on d (map (instance c.types) E) (clauses_at P e.assumed c) f (closed_reduces c reduces) p), (λ p. reduces_back d (map (instance c.types) E) (clauses_at P e.assumed c) f (closed_reduces c reduces) p))
 
   -- and where the parts of the form do
-  by_parts : (f : Connective) → connective_of u ≡ f → IsTakenApart f → (c : Closing) → Closes d z.variables c → (EntryHolds L d P c E e → FormHolds L d (map (instance c.types) E) (clauses_at P e.assumed c) c b.next e.level f) × (FormHolds L d (map (instance c.types) E) (clauses_at P e.assumed c) c b.next e.level f → EntryHolds L d P c E e)
+  by_parts : (f : Connective) → connective_of u ≡ f → IsTakenApart f → (c : Closing) → Closes d z.variables c →
+      (EntryHolds L d P c E e → FormHolds L d (map (instance c.types) E) (clauses_at P e.assumed c) c b.next e.level f) ×
+      (FormHolds L d (map (instance c.types) E) (clauses_at P e.assumed c) c b.next e.level f → EntryHolds L d P c E e)
   by_parts f x a c l =
       let E' = map (instance c.types) E in
       let R = clauses_at P e.assumed c in

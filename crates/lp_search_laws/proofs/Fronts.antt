@@ -72,7 +72,9 @@ module _ (n : ℕ) (d : Declared) (P : List Clause) (q : Query) (z : AnswerTypin
   goes_on : {L : Leaves} (i : Instance) (Fs : List (List Ty)) (fs : List Entry) (s : Solved L i) → AreProved L d P s.answer.closing Fs fs → SolvesBranch L d P q i (Typings n d P q z b E Es e es (Fs ++ Es)) (with_goals b (fs ++ es))
   goes_on {L} i Fs fs s p = record { query = s.query; answer = s.answer; proved = proved_append _ d P s.answer.closing Fs Es fs es p s.proved.1 }
 
-  comes_back : {L : Leaves} (i : Instance) (Fs : List (List Ty)) (fs : List Entry) → AreTypedEntries d z.variables Fs fs → (s : SolvesBranch L d P q i (Typings n d P q z b E Es e es (Fs ++ Es)) (with_goals b (fs ++ es))) → ((c : Closing) → Closes d z.variables c → AreProved L d P c Fs fs → EntryHolds L d P c E e) → Solved L i
+  comes_back : {L : Leaves} (i : Instance) (Fs : List (List Ty)) (fs : List Entry) → AreTypedEntries d z.variables Fs fs →
+      (s : SolvesBranch L d P q i (Typings n d P q z b E Es e es (Fs ++ Es)) (with_goals b (fs ++ es))) →
+      ((c : Closing) → Closes d z.variables c → AreProved L d P c Fs fs → EntryHolds L d P c E e) → Solved L i
   comes_back {L} i Fs fs t s f =
       let r = proved_split _ d P s.answer.closing z.variables Fs Es fs es t s.proved in
       record { query = s.query; answer = s.answer; proved = (f s.answer.closing s.answer.closes r.0, r.1) }
@@ -123,6 +125,8 @@ hold_entries L d P c E A W l m [] h = tt
 hold_entries L d P c E A W l m (g ∷ gs) h = (h.0, hold_entries _ d P c E A W l m gs h.1)
 
 pub entries_stand : (d : Declared) (V : List Variable) (k : ℕ) (E : List Ty) (A : List Clause) (W : Written) (level mark : ℕ) (gs : List Goal) →
-    EachOf (λ g. IsTypedEntry d V E (record { goal = g; assumed = A; written = W; level = level; mark = mark })) gs → EachOf (λ g. IsPlainEntry k E (record { goal = g; assumed = A; written = W; level = level; mark = mark })) gs → IsWrittenPlace A W → EachOf IsWrittenGoal gs → MayStand d V k (each_at E gs) (entries gs A W level mark)
+    EachOf (λ g. IsTypedEntry d V E (record { goal = g; assumed = A; written = W; level = level; mark = mark })) gs → EachOf
+    (λ g. IsPlainEntry k E (record { goal = g; assumed = A; written = W; level = level; mark = mark })) gs → IsWrittenPlace A W → EachOf
+    IsWrittenGoal gs → MayStand d V k (each_at E gs) (entries gs A W level mark)
 entries_stand d V k E A W l m [] t p a w = record { typed = tt; plain = tt; written = tt }
 entries_stand d V k E A W l m (g ∷ gs) t p a w = let r = entries_stand d V k E A W l m gs t.1 p.1 a w.1 in record { typed = (t.0, r.typed); plain = (p.0, r.plain); written = (record { goal = w.0; place = a }, r.written) }

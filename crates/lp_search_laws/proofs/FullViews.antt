@@ -119,7 +119,9 @@ module _ (n : ℕ) where
     form_full (connective.Not g) h x = x
     form_full connective.Atomic h x = let a = h refl in atom_full (head_of t) a.looked a.head x
 
-  goal_full : (P : List Clause) (height : ℕ) (e : Entry) (b : Branch) (g : Goal) → e.goal ≡ g → ((t : Term) → e.goal ≡ Atomic t → TermHasEnough n e.level b t) → ((w : Written) (gs : Goals) → e.goal ≡ Not w gs → IsFound (has_variables n (both_written w e.written))) → IsLack (strict (look_goal unit_limit n P height e b g)) → ⊥
+  goal_full : (P : List Clause) (height : ℕ) (e : Entry) (b : Branch) (g : Goal) → e.goal ≡ g →
+      ((t : Term) → e.goal ≡ Atomic t → TermHasEnough n e.level b t) → ((w : Written) (gs : Goals) → e.goal ≡ Not w gs → IsFound
+      (has_variables n (both_written w e.written))) → IsLack (strict (look_goal unit_limit n P height e b g)) → ⊥
   goal_full P height e b (Atomic t) i f v x = let z = f t i in form_full P height e b z.form (connective_of z.form) z.call (transport (λ o. IsLack (strict (look_normal unit_limit n P height e b o))) z.comes x)
   goal_full P height e b Cut i f v x = x
   goal_full P height e b (Either l r) i f v x = x
@@ -143,7 +145,9 @@ module _ (n : ℕ) where
   followed_full b (Some Fail) f x = x
   followed_full b (Some (Solution s)) f x = x
 
-  tried_full : (k : ℕ) (vs : List Ty) (h : Term) (body : Goals) (t : Term) (e : Entry) (b : Branch) (mark : ℕ) (σ : ℕ → Term) → IsFound (solve n unit_limit (type_pairs (head_of t) (head_of h)) (pairs_of σ e.level [] (arguments h) (arguments t)) b.pairs (b.next + length vs)) → IsLack (strict (Opens (tried unit_limit n k vs h body t e b mark σ))) → ⊥
+  tried_full : (k : ℕ) (vs : List Ty) (h : Term) (body : Goals) (t : Term) (e : Entry) (b : Branch) (mark : ℕ) (σ : ℕ → Term) → IsFound
+      (solve n unit_limit (type_pairs (head_of t) (head_of h)) (pairs_of σ e.level [] (arguments h) (arguments t)) b.pairs (b.next + length vs)) →
+      IsLack (strict (Opens (tried unit_limit n k vs h body t e b mark σ))) → ⊥
   tried_full k vs h body t e b mark σ f = followed_full (record {
     next = b.next + length vs;
     next_type = b.next_type + k;

@@ -68,7 +68,9 @@ module _ {L : Leaves} (n : ℕ) (d : Declared) (std : IsSetting L d) (P : List C
   pub cut_stands : e.goal ≡ Cut → StandFor L n d P q (going (Typings n d P q z b E Es e es (E ∷ Es)) (with_goals b (e ∷ es))) (Go (with_goals b es) ∷ [])
   cut_stands i = stands_one n d P q z b E Es e es h [] [] (record { typed = tt; plain = tt; written = tt }) (put_nothing n e.goal E z.variables [] [] (ap (bound_by n) i) refl) (λ c l. by_goal Cut i c _ ((λ p. tt), (λ p. record { proof = True; holds = inr refl })))
 
-  pub either_stands : (l r : Goals) → e.goal ≡ Either l r → StandFor L n d P q (going (Typings n d P q z b E Es e es (E ∷ Es)) (with_goals b (e ∷ es))) (Go (with_goals b (entries (goal_list l) e.assumed e.written e.level e.mark ++ es)) ∷ Go (with_goals b (entries (goal_list r) e.assumed e.written e.level e.mark ++ es)) ∷ [])
+  pub either_stands : (l r : Goals) → e.goal ≡ Either l r → StandFor L n d P q (going (Typings n d P q z b E Es e es (E ∷ Es))
+      (with_goals b (e ∷ es))) (Go (with_goals b (entries (goal_list l) e.assumed e.written e.level e.mark ++ es)) ∷ Go
+      (with_goals b (entries (goal_list r) e.assumed e.written e.level e.mark ++ es)) ∷ [])
   either_stands l r i =
       let t = both_typed d E V 1 (formula_of_goals l) (formula_of_goals r) (connective d std.standard 1 (omega arith)) (typed_as (Either l r) i) in
       let w = plain_as (Either l r) i in
@@ -147,7 +149,9 @@ module _ {L : Leaves} (n : ℕ) (d : Declared) (std : IsSetting L d) (P : List C
         stuck = tt;
       }
 
-  unfoldable pub denied_stands : (ws : Written) (gs : Goals) → e.goal ≡ Not ws gs → has_variables n (both_written ws e.written) ≡ Some false → DeniesTyped L n d P q (going (Typings n d P q z b E Es e es (E ∷ Es)) (with_goals b (e ∷ es))) (Go (inner_branch gs)) has_no_pairs (Go (with_goals b es) ∷ [])
+  unfoldable pub denied_stands : (ws : Written) (gs : Goals) → e.goal ≡ Not ws gs → has_variables n (both_written ws e.written) ≡ Some false →
+      DeniesTyped L n d P q (going (Typings n d P q z b E Es e es (E ∷ Es)) (with_goals b (e ∷ es))) (Go (inner_branch gs)) has_no_pairs
+      (Go (with_goals b es) ∷ [])
   denied_stands ws gs i tested = record {
     variables = z.variables;
     eigens = E;
@@ -194,7 +198,9 @@ module _ {L : Leaves} (n : ℕ) (d : Declared) (std : IsSetting L d) (P : List C
     gives = λ i s. elim s [ inl x ↦ x | inr x ↦ absurd x ];
   }
 
-  pub assume_stands : (ws : Written) (cs : Clauses) (gs : Goals) → e.goal ≡ Assume ws cs gs → StandFor L n d P q (going (Typings n d P q z b E Es e es (E ∷ Es)) (with_goals b (e ∷ es))) (Go (with_goals b (entries (goal_list gs) (clause_list cs ++ e.assumed) (both_written ws e.written) e.level e.mark ++ es)) ∷ [])
+  pub assume_stands : (ws : Written) (cs : Clauses) (gs : Goals) → e.goal ≡ Assume ws cs gs → StandFor L n d P q
+      (going (Typings n d P q z b E Es e es (E ∷ Es)) (with_goals b (e ∷ es))) (Go (with_goals b
+      (entries (goal_list gs) (clause_list cs ++ e.assumed) (both_written ws e.written) e.level e.mark ++ es)) ∷ [])
   assume_stands ws cs gs i =
       let t = both_typed d E V 2 (formula_of_clauses cs) (formula_of_goals gs) (connective d std.standard 2 (omega arith)) (typed_as (Assume ws cs gs) i) in
       let w = plain_as (Assume ws cs gs) i in
@@ -220,7 +226,9 @@ module _ {L : Leaves} (n : ℕ) (d : Declared) (std : IsSetting L d) (P : List C
     pub new_typed : IsTyped d E (z.variables ++ record { type = T; scope = E } ∷ []) (atom (logic b.next e.level)) T
     new_typed = record {
       typed = transport (λ m. type_of (slice_get (z.variables ++ record { type = T; scope = E } ∷ []) b.next) m ≡ Some T) h.entries.0.level
-          (transport (λ m. type_of (slice_get (z.variables ++ record { type = T; scope = E } ∷ []) m) (length E) ≡ Some T) h.answer.variables (of_variable (z.variables ++ record { type = T; scope = E } ∷ []) (length z.variables) (record { type = T; scope = E }) (get_last z.variables (record { type = T; scope = E }))));
+          (transport (λ m. type_of (slice_get (z.variables ++ record { type = T; scope = E } ∷ []) m) (length E) ≡ Some T) h.answer.variables
+          (of_variable (z.variables ++ record { type = T; scope = E } ∷ []) (length z.variables) (record { type = T; scope = E })
+          (get_last z.variables (record { type = T; scope = E }))));
       scoped = λ v i.
           let g = transport (λ m. slice_get (z.variables ++ record { type = T; scope = E } ∷ []) m ≡ Some (record { type = T; scope = E })) h.answer.variables (get_last z.variables (record { type = T; scope = E })) in
           let s : ◌≡◌ {A = Variable} (record { type = T; scope = E }) v = cc in
@@ -231,7 +239,16 @@ module _ {L : Leaves} (n : ℕ) (d : Declared) (std : IsSetting L d) (P : List C
     new_place = record { is_level = place.is_level; below = place.below; typed = clauses_more d E z.variables (z.variables ++ record { type = T; scope = E } ∷ []) (record { more = record { type = T; scope = E } ∷ []; is = refl }) e.assumed place.typed; plain = place.plain }
 
   pub exists_stands : (T : Ty) (gs : Goals) (f : ℕ → Term) → ((i : ℕ) → f i ≡ instead (atom (logic b.next e.level)) i) → e.goal ≡ Exists T gs →
-      StandFor L n d P q (going (Typings n d P q z b E Es e es (E ∷ Es)) (with_goals b (e ∷ es))) (Go (record { next = suc b.next; next_type = b.next_type; goals = entries (goal_list (instantiate_goals f gs)) e.assumed e.written e.level e.mark ++ es; types = b.types; values = b.values; pairs = b.pairs }) ∷ [])
+      StandFor L n d P q (going (Typings n d P q z b E Es e es (E ∷ Es)) (with_goals b (e ∷ es)))
+      (Go (record {
+        next = suc b.next;
+        next_type = b.next_type;
+        goals = entries (goal_list (instantiate_goals f gs)) e.assumed e.written e.level
+            e.mark ++ es;
+        types = b.types;
+        values = b.values;
+        pairs = b.pairs;
+      }) ∷ [])
   exists_stands T gs f a i =
       let u = atom (logic b.next e.level) in
       let X = z.variables ++ record { type = T; scope = E } ∷ [] in
@@ -242,5 +259,7 @@ module _ {L : Leaves} (n : ℕ) (d : Declared) (std : IsSetting L d) (P : List C
       stands_new n d P q z b E Es e es h T w.0 (substitute u (formula_of_goals gs)) (each_at E (goal_list (instantiate_goals f gs))) (entries (goal_list (instantiate_goals f gs)) e.assumed e.written e.level e.mark)
       (opened_stand d std.standard X k E e.assumed e.written e.level e.mark (new_place T) written_place false u f a tt (λ x. absurd (cc)) gs t w.1 (written_as (Exists T gs) i))
       (put_variable n e.goal E z.variables (entries (goal_list (instantiate_goals f gs)) e.assumed e.written e.level e.mark) (each_at E (goal_list (instantiate_goals f gs))) T (ap (bound_by n) i) (entries_at E (goal_list (instantiate_goals f gs)) e.assumed e.written e.level e.mark))
-      (λ c l. by_goal (Exists T gs) i c _ (sigma_holds d std (map (instance c.types) E) (clauses_at P e.assumed c) c b.next e.level T (abs (formula_of_goals gs)) (unused_new d E V b.next e.level (sym h.answer.variables) (abs (formula_of_goals gs)) _ s.typed) (formula_at d V c l E _ (typed_as (Exists T gs) i))))
+      (λ c l. by_goal (Exists T gs) i c _ (sigma_holds d std (map (instance c.types) E) (clauses_at P e.assumed c) c b.next e.level T
+      (abs (formula_of_goals gs)) (unused_new d E V b.next e.level (sym h.answer.variables) (abs (formula_of_goals gs)) _ s.typed)
+      (formula_at d V c l E _ (typed_as (Exists T gs) i))))
       (λ c l. opened_proved d std P X c l E e.assumed e.written e.level e.mark u f a gs t)

@@ -31,7 +31,9 @@ no_types d std (t ∷ ts) e =
     let y : (if false then Some o_type else None) ≡ Some o_type = sym (ap (λ b. if b then Some o_type else None) q) ∙ z in
     absurd (cc)
 
-shaped : {L : Leaves} (d : Declared) → IsSetting L d → (E : List Ty) (P : List ClauseFormula) (c : Closing) (x l : ℕ) (t : Term) (f : Connective) → Shape f t → IsTakenApart f → IsUnused x l t → IsFormula d E (closed c t) → (Holds L d E P c t → FormHolds L d E P c x l f) × (FormHolds L d E P c x l f → Holds L d E P c t)
+shaped : {L : Leaves} (d : Declared) → IsSetting L d → (E : List Ty) (P : List ClauseFormula) (c : Closing) (x l : ℕ) (t : Term) (f : Connective) →
+    Shape f t → IsTakenApart f → IsUnused x l t → IsFormula d E (closed c t) → (Holds L d E P c t → FormHolds L d E P c x l f) ×
+    (FormHolds L d E P c x l f → Holds L d E P c t)
 shaped {L} d std E P c x l t connective.True s a n f = ((λ p. tt), (λ p. record { proof = True; holds = inl is }))
   where
     typed : scheme_type (map (instance c.types) s.0) (d 6) ≡ Some o_type
@@ -61,7 +63,9 @@ shaped {L} d std E P c x l t (connective.Implies u v) s a n f = absurd a
 shaped {L} d std E P c x l t (connective.Not g) s a n f = absurd a
 shaped {L} d std E P c x l t connective.Atomic s a n f = absurd a
 
-pub run_time_goals : {L : Leaves} (d : Declared) → IsSetting L d → (E : List Ty) (P : List ClauseFormula) (c : Closing) (x l n : ℕ) (t u : Term) → head_normal n t ≡ Some u → IsTakenApart (connective_of u) → IsUnused x l t → IsFormula d E (closed c t) → (Holds L d E P c t → FormHolds L d E P c x l (connective_of u)) × (FormHolds L d E P c x l (connective_of u) → Holds L d E P c t)
+pub run_time_goals : {L : Leaves} (d : Declared) → IsSetting L d → (E : List Ty) (P : List ClauseFormula) (c : Closing) (x l n : ℕ) (t u : Term) →
+    head_normal n t ≡ Some u → IsTakenApart (connective_of u) → IsUnused x l t → IsFormula d E (closed c t) →
+    (Holds L d E P c t → FormHolds L d E P c x l (connective_of u)) × (FormHolds L d E P c x l (connective_of u) → Holds L d E P c t)
 run_time_goals {L} d std E P c x l n t u e a m f =
     let r = head_reduces n t u e in
     let q = closed_reduces c r in
@@ -69,7 +73,9 @@ run_time_goals {L} d std E P c x l n t u e a m f =
     ((λ p. h.0 (reduces_on d E P f q p)), (λ p. reduces_back d E P f q (h.1 p)))
 
 -- flattened goals
-pub flat_goals : {L : Leaves} (d : Declared) → IsSetting L d → (E : List Ty) (P : List ClauseFormula) (c : Closing) (x l : ℕ) (g : Goal) → IsUnused x l (formula_of_goal g) → IsFormula d E (closed c (formula_of_goal g)) → (Holds L d E P c (formula_of_goal g) → GoalHolds L d E P c x l g) × (GoalHolds L d E P c x l g → Holds L d E P c (formula_of_goal g))
+pub flat_goals : {L : Leaves} (d : Declared) → IsSetting L d → (E : List Ty) (P : List ClauseFormula) (c : Closing) (x l : ℕ) (g : Goal) → IsUnused x
+    l (formula_of_goal g) → IsFormula d E (closed c (formula_of_goal g)) → (Holds L d E P c (formula_of_goal g) → GoalHolds L d E P c x l g) ×
+    (GoalHolds L d E P c x l g → Holds L d E P c (formula_of_goal g))
 flat_goals {L} d std E P c x l (Atomic t) m f = ((λ p. p), (λ p. p))
 flat_goals {L} d std E P c x l Cut m f = ((λ p. tt), (λ p. record { proof = True; holds = inr refl }))
 flat_goals {L} d std E P c x l (Either gs hs) m f = either_holds d std E P c (formula_of_goals gs) (formula_of_goals hs) f
@@ -79,7 +85,9 @@ flat_goals {L} d std E P c x l (Not ws gs) m f = ((λ p. p), (λ p. p))
 flat_goals {L} d std E P c x l (Assume ws cs gs) m f = implied_holds d std E P c (formula_of_clauses cs) (formula_of_goals gs) f
 
 -- goals one behind the other
-pub goals_in_turn : {L : Leaves} (d : Declared) → IsSetting L d → (E : List Ty) (P : List ClauseFormula) (c : Closing) (gs : Goals) → IsFormula d E (closed c (formula_of_goals gs)) → (Holds L d E P c (formula_of_goals gs) → EachOf (λ g. Holds L d E P c (formula_of_goal g)) (goal_list gs)) × (EachOf (λ g. Holds L d E P c (formula_of_goal g)) (goal_list gs) → Holds L d E P c (formula_of_goals gs))
+pub goals_in_turn : {L : Leaves} (d : Declared) → IsSetting L d → (E : List Ty) (P : List ClauseFormula) (c : Closing) (gs : Goals) → IsFormula d E
+    (closed c (formula_of_goals gs)) → (Holds L d E P c (formula_of_goals gs) → EachOf (λ g. Holds L d E P c (formula_of_goal g)) (goal_list gs)) ×
+    (EachOf (λ g. Holds L d E P c (formula_of_goal g)) (goal_list gs) → Holds L d E P c (formula_of_goals gs))
 goals_in_turn {L} d std E P c no_goals f = ((λ p. tt), (λ p. record { proof = True; holds = inl refl }))
 goals_in_turn {L} d std E P c (goals g no_goals) f = ((λ p. (p, tt)), (λ p. p.0))
 goals_in_turn {L} d std E P c (goals g (goals h gs)) f =

@@ -34,7 +34,9 @@ typed_query m = record { type_vars = m; vars = []; formula = truth }
 abbrev pub carrying : (next m : ℕ) → Goals → List Clause → Written → (level : ℕ) → Branch
 carrying next m gs A w l = record { next = next; next_type = m; goals = entries (goal_list gs) A w l 0; types = types_from m 0; values = []; pairs = [] }
 
-pub carrying_typed : (n : ℕ) (d : Declared) (V : List Variable) (m : ℕ) (E : List Ty) (gs : Goals) (A : List Clause) (w : Written) → IsTypedBranch n d no_query (denied_typing V E gs) (denied_branch (length V) m gs A w (length E)) → IsTypedBranch n d (typed_query m) (denied_typing V E gs) (carrying (length V) m gs A w (length E))
+pub carrying_typed : (n : ℕ) (d : Declared) (V : List Variable) (m : ℕ) (E : List Ty) (gs : Goals) (A : List Clause) (w : Written) → IsTypedBranch n d
+    no_query (denied_typing V E gs) (denied_branch (length V) m gs A w (length E)) → IsTypedBranch n d (typed_query m) (denied_typing V E gs)
+    (carrying (length V) m gs A w (length E))
 carrying_typed n d V m E gs A w h = record {
   answer = record { variables = h.answer.variables; types = from_count m 0; values = tt; pairs = h.answer.pairs };
   entries = h.entries;
@@ -80,7 +82,9 @@ pub record HeldRun (n j : ℕ) (P : List Clause) (next m : ℕ) (gs : Goals) (A 
   pub final : has_no_pairs first ≡ true
   pub taken : (run (look unit_limit n P) j j (starts_within rows (Go (carrying next m gs A w l)) steps 1)).steps ≡ c
 
-pub held_run : (n j : ℕ) (P : List Clause) (next m : ℕ) (gs : Goals) (A : List Clause) (w : Written) (l steps rows c row : ℕ) (ns : List Note) → inner (look unit_limit n P) j has_no_pairs (starts_within rows (denied_task next m gs A w l) steps 1) ≡ Held c ns row → HeldRun n j P next m gs A w l steps rows c
+pub held_run : (n j : ℕ) (P : List Clause) (next m : ℕ) (gs : Goals) (A : List Clause) (w : Written) (l steps rows c row : ℕ) (ns : List Note) → inner
+    (look unit_limit n P) j has_no_pairs (starts_within rows (denied_task next m gs A w l) steps 1) ≡ Held c ns row → HeldRun n j P next m gs A w l
+    steps rows c
 held_run n j P next m gs A w l steps rows c row ns e =
     let s = starts_within rows (denied_task next m gs A w l) steps 1 in
     let t = starts_within rows (Go (carrying next m gs A w l)) steps 1 in
@@ -106,7 +110,9 @@ view_fine Q Ts puts (Halts e) h = tt
 view_fine Q Ts puts Lacks h = tt
 
 -- its answers have the type variables still
-pub held_types : (n j : ℕ) (P : List Clause) → EachOf (IsKeptProgram ComesOver over_family) P → (next m : ℕ) (E : List Ty) (gs : Goals) (A : List Clause) (own w : Written) (l steps rows : ℕ) → IsOrigin own gs → IsWrittenPlace A w → has_variables n (both_written own w) ≡ Some false → ArePlainEntries m (map (λ g. E) (goal_list gs)) (entries (goal_list gs) A w l 0) →
+pub held_types : (n j : ℕ) (P : List Clause) → EachOf (IsKeptProgram ComesOver over_family) P → (next m : ℕ) (E : List Ty) (gs : Goals)
+    (A : List Clause) (own w : Written) (l steps rows : ℕ) → IsOrigin own gs → IsWrittenPlace A w → has_variables n (both_written own w) ≡ Some false
+    → ArePlainEntries m (map (λ g. E) (goal_list gs)) (entries (goal_list gs) A w l 0) →
     EachOf (λ a. a.types ≡ types_from m 0) (run (look unit_limit n P) j j (starts_within rows (Go (carrying next m gs A w l)) steps 1)).answers
 held_types n j P program next m E gs A own w l steps rows o place tested plain =
     let Q = λ (i : ℕ). m ≤ i in

@@ -80,7 +80,9 @@ terms_go_through d E V W c bs ps k t T h = goes d V W c bs ps k t (variables t (
     variables : (t : Term) → Within (IsAtomOf d E V) 0 t → Within (IsVariableOf V) 0 t
     variables t w = within_more (IsAtomOf d E V) (IsVariableOf V) 0 0 (variable_atom d E V) (omega arith) t w
 
-pub goals_go_through : {L : Leaves} (d : Declared) (E F : List Ty) (P : List ClauseFormula) (V W : List Variable) (c : Closing) (bs : List Binding) (ps : List Pair) → (k : KeptClosing d V W c bs ps) → (t : Term) (T : Ty) → IsTyped d E V t T → IsFormula d F (closed c t) → IsFormula d F (closed k.closing (put_all bs t)) →
+pub goals_go_through : {L : Leaves} (d : Declared) (E F : List Ty) (P : List ClauseFormula) (V W : List Variable) (c : Closing) (bs : List Binding)
+    (ps : List Pair) → (k : KeptClosing d V W c bs ps) → (t : Term) (T : Ty) → IsTyped d E V t T → IsFormula d F (closed c t) → IsFormula d F
+    (closed k.closing (put_all bs t)) →
     (Holds L d F P c t → Holds L d F P k.closing (put_all bs t)) × (Holds L d F P k.closing (put_all bs t) → Holds L d F P c t)
 goals_go_through {L} d E F P V W c bs ps k t T h f g =
     let e = terms_go_through d E V W c bs ps k t T h in

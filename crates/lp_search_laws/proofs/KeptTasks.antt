@@ -142,7 +142,9 @@ module _ (K : (ℕ → Type 0) → Term → Type 0) (family : Family K) where
     each_typed b v (e ∷ es) h = (
       record {
         goal = goal_mapped {E = ℕ} (λ u. u) (λ u t. instance_term (one_type b) t) (instance (one_type b)) (K Q) (K Q) (λ u. Unit {0}) (λ u w. tt) (λ u w t k. family.typed Q Q (one_type b) (one_over b v) t k) zero tt e.goal h.0.goal;
-        assumed = each_map (IsAssumedWith (K Q)) (IsAssumedWith (K Q)) _ (assumed_mapped {E = ℕ} (λ u. u) (λ u t. instance_term (one_type b) t) (instance (one_type b)) (K Q) (K Q) (λ u. Unit {0}) (λ u w. tt) (λ u w t k. family.typed Q Q (one_type b) (one_over b v) t k) zero tt) e.assumed h.0.assumed;
+        assumed = each_map (IsAssumedWith (K Q)) (IsAssumedWith (K Q)) _ (assumed_mapped {E = ℕ} (λ u. u) (λ u t. instance_term (one_type b) t)
+            (instance (one_type b)) (K Q) (K Q) (λ u. Unit {0}) (λ u w. tt) (λ u w t k. family.typed Q Q (one_type b) (one_over b v) t k) zero tt)
+            e.assumed h.0.assumed;
       },
       each_typed b v es h.1,
     )

@@ -51,6 +51,8 @@ module _ {L : Leaves} (n height : ℕ) (d : Declared) (std : IsSetting L d) (P :
   branch_view [] (e ∷ es) h f = absurd h.entries
   branch_view (E ∷ Es) (e ∷ es) h f = goal_view E Es e es h (f E Es e es refl refl h) e.goal refl
 
-pub goals_are_taken_apart : {L : Leaves} (n height : ℕ) (d : Declared) → IsSetting L d → (P : List Clause) (q : Query) (y : BranchTyping) (b : Branch) (e : Entry) (es : List Entry) → b.goals ≡ e ∷ es → (IsAtAtom n e → ⊥) → IsTypedBranch n d q y b → IsRightView L n d P q (going y b) (look unit_limit n P height (Go b))
+pub goals_are_taken_apart : {L : Leaves} (n height : ℕ) (d : Declared) → IsSetting L d → (P : List Clause) (q : Query) (y : BranchTyping) (b : Branch)
+    (e : Entry) (es : List Entry) → b.goals ≡ e ∷ es → (IsAtAtom n e → ⊥) → IsTypedBranch n d q y b → IsRightView L n d P q (going y b)
+    (look unit_limit n P height (Go b))
 goals_are_taken_apart {L} n height d std P q y b e es i f h =
     branch_view n height d std P q y.answer b y.eigens b.goals h (λ E Fs e' es' j k g t u x r p. absurd (f (let s : e' ≡ e = (let m = sym k in cc) in record { term = t; goal = ap (λ v. v.goal) (sym s) ∙ x; form = u; comes = r; plain = p })))

@@ -244,7 +244,9 @@ closes_front d V K z h = record { types = h.types; terms = λ x v e. h.terms x v
 pub within_values : (d : Declared) (E : List Ty) (V : List Variable) (vs : List Ty) (z : Closing) → Closes d V z → (u : Term) → Within (IsAtomOf d E V) (length vs) u → Within (IsClosedAtom (length (map (instance z.types) E))) (length (map (instance z.types) vs)) (closed z u)
 within_values d E V vs z cl u w = transport (λ n. Within (IsClosedAtom (length (map (instance z.types) E))) n (closed z u)) (sym (length_map (instance z.types) vs)) (closed_within d E V z cl (length vs) u w)
 
-pub gives_values : {L : Leaves} (d : Declared) (E : List Ty) (V : List Variable) (level : ℕ) → length E ≡ level → (P : List ClauseFormula) (vs : List Ty) (h b t : Term) → IsMatch d E V vs h b t → (z : Closing) → Closes d (V ++ new_variables E vs) z → Unifies z.types (type_pairs (head_of t) (head_of h)) →
+pub gives_values : {L : Leaves} (d : Declared) (E : List Ty) (V : List Variable) (level : ℕ) → length E ≡ level → (P : List ClauseFormula)
+    (vs : List Ty) (h b t : Term) → IsMatch d E V vs h b t → (z : Closing) → Closes d (V ++ new_variables E vs) z → Unifies z.types
+    (type_pairs (head_of t) (head_of h)) →
     SolvesAll z (pairs_of (σ_of V level h t) level [] (arguments h) (arguments t)) → ProvableBy L d (map (instance z.types) E) P (closed z (instantiate (σ_of V level h t) b)) →
     (ws : List Term) × AreWitnessesAt d (map (instance z.types) E) ws (map (instance z.types) vs) × Converts (instantiate (at ws) (closed z h)) (closed z t) × ProvableBy L d (map (instance z.types) E) P (instantiate (at ws) (closed z b))
 gives_values {L} d E V level l P vs h b t m z cl' u s p =
@@ -273,7 +275,9 @@ gives_values {L} d E V level l P vs h b t m z cl' u s p =
     let r = transport (ProvableBy L d F P) (closed_instantiate d E V z cl σ (length vs) b ab) p in
     (ws, given_witnesses d F φ Ts given, converts_on (by_values (closed z h) wh) conv, by_conversion d F P (instantiate (at ws) (closed z b)) (instantiate φ (closed z b)) f (converts_sym (by_values (closed z b) wb)) r)
 
-pub keeps_values : {L : Leaves} (d : Declared) (E : List Ty) (V : List Variable) (level : ℕ) (P : List ClauseFormula) (vs : List Ty) (h b t : Term) → IsMatch d E V vs h b t → (z : Closing) → Closes d V z → (ws : List Term) → ((k : ℕ) → z.terms (length V + k) level ≡ at ws k) → AreWitnessesAt d (map (instance z.types) E) ws (map (instance z.types) vs) →
+pub keeps_values : {L : Leaves} (d : Declared) (E : List Ty) (V : List Variable) (level : ℕ) (P : List ClauseFormula) (vs : List Ty) (h b t : Term) →
+    IsMatch d E V vs h b t → (z : Closing) → Closes d V z → (ws : List Term) → ((k : ℕ) → z.terms (length V + k) level ≡ at ws k) → AreWitnessesAt d
+    (map (instance z.types) E) ws (map (instance z.types) vs) →
     Converts (instantiate (at ws) (closed z h)) (closed z t) → ProvableBy L d (map (instance z.types) E) P (instantiate (at ws) (closed z b)) →
     Unifies z.types (type_pairs (head_of t) (head_of h)) × SolvesAll z (pairs_of (σ_of V level h t) level [] (arguments h) (arguments t)) × ProvableBy L d (map (instance z.types) E) P (closed z (instantiate (σ_of V level h t) b))
 keeps_values {L} d E V level P vs h b t m z cl ws new wit c p =
@@ -294,7 +298,9 @@ keeps_values {L} d E V level P vs h b t m z cl ws new wit c p =
     let Q = λ (x u : Term). Converts (closed z u) (instantiate (at ws) (closed z x)) in
     let w = each_of_all (λ x. instantiate (at ws) (closed z x)) (closed z) (arguments h) (arguments t) j.arguments in
     let values = slotted_is Q (λ k u. Converts (closed z u) (at ws k)) (length V) level (λ k. converts_is (new k)) (λ k u r. r) (slots_of [] (arguments h) (arguments t)) (slots_are Q [] (arguments h) (arguments t) w) in
-    let by_values = λ (x : Term) (r : Within (IsAtomOf d E V) (length vs) x). converts_on (converts_is (closed_instantiate d E V z cl σ (length vs) x r)) (instantiate_converts (IsClosedAtom (length F)) (length vs) φ (at ws) (λ i k. values i) (closed z x) (closed_within d E V z cl (length vs) x r)) in
+    let by_values = λ (x : Term) (r : Within (IsAtomOf d E V) (length vs) x). converts_on
+    (converts_is (closed_instantiate d E V z cl σ (length vs) x r)) (instantiate_converts (IsClosedAtom (length F)) (length vs) φ (at ws)
+    (λ i k. values i) (closed z x) (closed_within d E V z cl (length vs) x r)) in
     let f = instantiated_formula d F Ts (at ws) (witness_at d F ws Ts wit) (closed z b) (closed_typed d E V z cl vs b o_type m.body m.body_scoped) (within_values d E V vs z cl b ab) in (
       (heads_unify z (head_of h) (head_of t) m.heads).1 e,
       (pairs_are z σ (length V) level [] (arguments h) (arguments t) (λ k i. refl)).1
@@ -329,7 +335,9 @@ extended_closes d V E vs ws c cl w = record { types = cl.types; terms = λ x v e
         (transport (λ (y : Variable). IsWitness d (map (instance c.types) y.scope) (at ws r.0) (instance c.types y.type)) (sym g.2) p)
 
 -- in the words of Applies
-pub match_solved : {L : Leaves} (d : Declared) (E : List Ty) (V : List Variable) (P : List ClauseFormula) (level : ℕ) (vs : List Ty) (h : Term) (body : Goals) (t : Term) (c : Closing) → IsMatch d E V vs h (formula_of_goals body) t → Closes d V c → Applies L d (map (instance c.types) E) P c vs h body (closed c t) → (z : Closing) × GoesOn V c z × SolvesMatch L d E V P level vs h body t z
+pub match_solved : {L : Leaves} (d : Declared) (E : List Ty) (V : List Variable) (P : List ClauseFormula) (level : ℕ) (vs : List Ty) (h : Term)
+    (body : Goals) (t : Term) (c : Closing) → IsMatch d E V vs h (formula_of_goals body) t → Closes d V c → Applies L d (map (instance c.types) E) P c
+    vs h body (closed c t) → (z : Closing) × GoesOn V c z × SolvesMatch L d E V P level vs h body t z
 match_solved {L} d E V P level vs h body t c m cl a =
     let ws = a.values in
     let b = formula_of_goals body in
@@ -344,13 +352,17 @@ match_solved {L} d E V P level vs h body t c m cl a =
     let r = keeps_values d E V level P vs h b t m z (closes_front d V (new_variables E vs) z cl') ws (λ k. extended_new V ws c k level) a.witnesses conv p in
     (z, record { types = refl; terms = λ x l q. extended_old V ws c x l q }, record { closes = cl'; types = r.0; pairs = r.1; goals = r.2 })
 
-pub match_applies : {L : Leaves} (d : Declared) (E : List Ty) (V : List Variable) (P : List ClauseFormula) (level : ℕ) (vs : List Ty) (h : Term) (body : Goals) (t : Term) (z : Closing) → length E ≡ level → IsMatch d E V vs h (formula_of_goals body) t → SolvesMatch L d E V P level vs h body t z → Applies L d (map (instance z.types) E) P z vs h body (closed z t)
+pub match_applies : {L : Leaves} (d : Declared) (E : List Ty) (V : List Variable) (P : List ClauseFormula) (level : ℕ) (vs : List Ty) (h : Term)
+    (body : Goals) (t : Term) (z : Closing) → length E ≡ level → IsMatch d E V vs h (formula_of_goals body) t → SolvesMatch L d E V P level vs h body
+    t z → Applies L d (map (instance z.types) E) P z vs h body (closed z t)
 match_applies {L} d E V P level vs h body t z l m s =
     let r = gives_values d E V level l P vs h (formula_of_goals body) t m z s.closes s.types s.pairs s.goals in
     record { values = r.0; witnesses = r.1; head = r.2; goals = r.3 }
 
 -- the body is a formula, where the types of the heads are one
-pub body_formula : (d : Declared) (E : List Ty) (V : List Variable) (level : ℕ) → length E ≡ level → (vs : List Ty) (h b t : Term) → IsMatch d E V vs h b t → (z : Closing) → Closes d (V ++ new_variables E vs) z → Unifies z.types (type_pairs (head_of t) (head_of h)) → IsFormula d (map (instance z.types) E) (closed z (instantiate (tried_values V level h t) b))
+pub body_formula : (d : Declared) (E : List Ty) (V : List Variable) (level : ℕ) → length E ≡ level → (vs : List Ty) (h b t : Term) → IsMatch d E V vs
+    h b t → (z : Closing) → Closes d (V ++ new_variables E vs) z → Unifies z.types (type_pairs (head_of t) (head_of h)) → IsFormula d
+    (map (instance z.types) E) (closed z (instantiate (tried_values V level h t) b))
 body_formula d E V level l vs h b t m z cl' u =
     let cl = closes_front d V (new_variables E vs) z cl' in
     let σ = tried_values V level h t in

@@ -206,7 +206,9 @@ record IsOver (ρ : ℕ → Ty) (j : ℕ) (c : Clause) : Type 0 where
   types : (i : ℕ) → i < many → IsTypeBelow j (ρ i)
   clause : IsClause many [] c
 
-module _ (n : ℕ) (d : Declared) (std : IsStandard d) (P : List Clause) (program : EachOf (IsProgramTyped d) P) (q : Query) (y : BranchTyping) (k : ℕ) (vs : List Ty) (h : Term) (g : Goals) (t : Term) (e : Entry) (b : Branch) (w : IsTypedTry n d P q y (clause k vs h g) t e b) (E : List Ty) (Es : List (List Ty)) (is : y.eigens ≡ E ∷ Es) where
+module _ (n : ℕ) (d : Declared) (std : IsStandard d) (P : List Clause) (program : EachOf (IsProgramTyped d) P) (q : Query) (y : BranchTyping) (k : ℕ)
+    (vs : List Ty) (h : Term) (g : Goals) (t : Term) (e : Entry) (b : Branch) (w : IsTypedTry n d P q y (clause k vs h g) t e b) (E : List Ty)
+    (Es : List (List Ty)) (is : y.eigens ≡ E ∷ Es) where
   abbrev ρ : ℕ → Ty
   ρ = renewed k b.next_type
 

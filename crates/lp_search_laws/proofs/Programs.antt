@@ -124,7 +124,9 @@ module _ {L : Leaves} (d : Declared) (std : IsSetting L d) (n : ℕ) (D : Clause
         focus = transport (λ z. FocusableBy L d F Q (instance_term (type_at ts) z) A) (sym (formula_is o.clause)) o.focus;
       }
 
-  serving_sentence : (i : ℕ) (K : ClauseFormula) → slice_get (map sentence_of (clause_list cs)) i ≡ Some K → (ts : List Ty) → length ts ≡ K.type_vars → AreClosed ts → (F : List Ty) (Q : List ClauseFormula) (A : Term) → IsAtomHead (head_of A) → FocusableBy L d F Q (instance_term (type_at ts) K.formula) A → Served L d F Q (D ∷ []) A
+  serving_sentence : (i : ℕ) (K : ClauseFormula) → slice_get (map sentence_of (clause_list cs)) i ≡ Some K → (ts : List Ty) → length ts ≡ K.type_vars
+      → AreClosed ts → (F : List Ty) (Q : List ClauseFormula) (A : Term) → IsAtomHead (head_of A) → FocusableBy L d F Q
+      (instance_term (type_at ts) K.formula) A → Served L d F Q (D ∷ []) A
   serving_sentence i K e ts l k F Q A h r =
       let m = option_map_some (slice_get (clause_list cs) i) sentence_of K (sym (get_map sentence_of (clause_list cs) i) ∙ e) in
       let c = l ∙ ap (λ z. z.type_vars) (sym m.2) ∙ vars_of i m.0 m.1 in
@@ -169,7 +171,10 @@ module _ {L : Leaves} (d : Declared) (std : IsSetting L d) where
   pub kept_behind : (E : List Ty) (P R Q : List ClauseFormula) → AreKept L E P R → AreKept L E (P ++ Q) (R ++ Q)
   kept_behind E P R Q k S m y H f h = transport (λ X. L m X H f) (sym (append_assoc R Q S)) (k (Q ++ S) m y H f (transport (λ X. L m X H f) (append_assoc P Q S) h))
 
-  pub program_reads_back : (F : List ClauseFormula) (P : List Clause) → EachOf (IsSentence d) F → AreFlattened d F P → (E : List Ty) → AreKept L E F (map sentence_of P) × AreKept L E (map sentence_of P) F → (Q : List ClauseFormula) (G : Term) → (ProvableBy L d E (F ++ Q) G → ProvableBy L d E (map sentence_of P ++ Q) G) × (ProvableBy L d E (map sentence_of P ++ Q) G → ProvableBy L d E (F ++ Q) G)
+  pub program_reads_back : (F : List ClauseFormula) (P : List Clause) → EachOf (IsSentence d) F → AreFlattened d F P → (E : List Ty) → AreKept L E F
+      (map sentence_of P) × AreKept L E (map sentence_of P) F → (Q : List ClauseFormula) (G : Term) →
+      (ProvableBy L d E (F ++ Q) G → ProvableBy L d E (map sentence_of P ++ Q) G) ×
+      (ProvableBy L d E (map sentence_of P ++ Q) G → ProvableBy L d E (F ++ Q) G)
   program_reads_back F P s x E k Q G = (
     λ p. served d E (F ++ Q) (map sentence_of P ++ Q) G (serves_more d E F (map sentence_of P) Q (serves_eigens d [] E F (map sentence_of P) (program_serves F P s x))) (kept_behind E F (map sentence_of P) Q k.0) p,
     λ p. served d E (map sentence_of P ++ Q) (F ++ Q) G (serves_more d E (map sentence_of P) F Q (serves_eigens d [] E (map sentence_of P) F (sentences_serve F P s x))) (kept_behind E (map sentence_of P) F Q k.1) p,
@@ -192,7 +197,9 @@ module _ (d : Declared) (std : IsStandard d) where
   clauses_are_sentences [] P s x = transport (EachOf (λ c. IsSentence d (sentence_of c))) (sym x) tt
   clauses_are_sentences (D ∷ F) P s x =
       let y = flattened x.0 d D x.1 x.3 in
-      let here = transport (λ z. EachOf (λ c. IsSentence d (sentence_of c)) (clause_list z)) y.is (each_fine D.type_vars y.plain (λ ts l k. transport (λ z. IsFormula d [] (instance_term (type_at ts) z)) (ap formula_of_clauses (sym y.is) ∙ formulas_of D.type_vars y.plain) (clauses_fine d (without_leaves d std) x.0 D x.1 y s.0 ts l k))) in
+      let here = transport (λ z. EachOf (λ c. IsSentence d (sentence_of c)) (clause_list z)) y.is
+      (each_fine D.type_vars y.plain (λ ts l k. transport (λ z. IsFormula d [] (instance_term (type_at ts) z))
+      (ap formula_of_clauses (sym y.is) ∙ formulas_of D.type_vars y.plain) (clauses_fine d (without_leaves d std) x.0 D x.1 y s.0 ts l k))) in
       transport (EachOf (λ c. IsSentence d (sentence_of c))) (sym x.5) (each_append (λ c. IsSentence d (sentence_of c)) (clause_list x.1) x.2 here (clauses_are_sentences F x.2 s.1 x.4))
 
 -- assumptions
@@ -205,12 +212,16 @@ module _ {L : Leaves} (d : Declared) (std : IsSetting L d) where
     whole = assumed (closed c (formula_of_clauses cs))
 
     fine_at : (ts : List Ty) (F : List Ty) → Extends E F → IsFormula d F (instance_term (type_at ts) (closed c (formula_of_clauses cs)))
-    fine_at ts F x = transport (λ z. IsFormula d z (instance_term (type_at ts) (closed c (formula_of_clauses cs)))) (sym x.is) (formula_eigens d E x.rest (instance_term (type_at ts) (closed c (formula_of_clauses cs))) (transport (IsFormula d E) (sym (closed_instance (length E) (type_at ts) (closed c (formula_of_clauses cs)) f.closed)) f))
+    fine_at ts F x = transport (λ z. IsFormula d z (instance_term (type_at ts) (closed c (formula_of_clauses cs)))) (sym x.is)
+        (formula_eigens d E x.rest (instance_term (type_at ts) (closed c (formula_of_clauses cs)))
+        (transport (IsFormula d E) (sym (closed_instance (length E) (type_at ts) (closed c (formula_of_clauses cs)) f.closed)) f))
 
     pub parts_serve : Serves L d E (whole ∷ []) (assumed_at c (clause_list cs))
     parts_serve = record { at = go }
       where
-        go : (i : ℕ) (K : ClauseFormula) → slice_get (whole ∷ []) i ≡ Some K → (ts : List Ty) → length ts ≡ K.type_vars → AreClosed ts → (F : List Ty) → Extends E F → (Q : List ClauseFormula) (A : Term) → IsAtomHead (head_of A) → FocusableBy L d F Q (instance_term (type_at ts) K.formula) A → Served L d F Q (assumed_at c (clause_list cs)) A
+        go : (i : ℕ) (K : ClauseFormula) → slice_get (whole ∷ []) i ≡ Some K → (ts : List Ty) → length ts ≡ K.type_vars → AreClosed ts → (F : List Ty)
+            → Extends E F → (Q : List ClauseFormula) (A : Term) → IsAtomHead (head_of A) → FocusableBy L d F Q (instance_term (type_at ts) K.formula)
+            A → Served L d F Q (assumed_at c (clause_list cs)) A
         go zero K e ts l k F x Q A h r =
             let q : K ≡ whole = cc in
             let o = split_focus d std.standard F Q (λ t. instance_term (type_at ts) (closed c t)) (closing_keeps c (type_at ts)) A h cs (fine_at ts F x) (transport (λ w. FocusableBy L d F Q (instance_term (type_at ts) w.formula) A) q r) in

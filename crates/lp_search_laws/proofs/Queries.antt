@@ -294,7 +294,9 @@ module _ {L : Leaves} (d : Declared) (std : IsSetting L d) (n : ℕ) (q : Query)
       types = at_closed i.types k;
       terms = λ x v g.
           let m = option_map_some (slice_get q.vars x) outermost v (sym (get_map outermost q.vars x) ∙ g) in
-          transport (λ z. IsWitness d (map (instance (type_at i.types)) z.scope) (at i.values x) (instance (type_at i.types) z.type)) m.2 (witness_at d i.values (map (instance (type_at i.types)) q.vars) w x (instance (type_at i.types) m.0) (get_map (instance (type_at i.types)) q.vars x ∙ ap (option_map (instance (type_at i.types))) m.1));
+          transport (λ z. IsWitness d (map (instance (type_at i.types)) z.scope) (at i.values x) (instance (type_at i.types) z.type)) m.2
+          (witness_at d i.values (map (instance (type_at i.types)) q.vars) w x (instance (type_at i.types) m.0)
+          (get_map (instance (type_at i.types)) q.vars x ∙ ap (option_map (instance (type_at i.types))) m.1));
     }
 
     as_many : AreWitnesses d i.values (map (instance (type_at i.types)) q.vars) → length i.values ≡ count

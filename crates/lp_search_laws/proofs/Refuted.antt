@@ -51,7 +51,9 @@ rows_within n rows = go unit_limit
     go x = omega arith
 
 -- a search that is refuted fails within greater limits: on units, and on steps and goals in a row
-module _ (P : List Clause) (start : Task) (n looks j rows k p : ℕ) (ns : List Note) (is_final : Answer → Bool) (r : inner (look unit_limit looks P) j is_final (starts_within rows start n 1) ≡ Refuted k ns p) (units limit : ℕ) (more : unit_limit ≤ units) (longer : n ≤ limit) (wider : rows ≤ limit) where
+module _ (P : List Clause) (start : Task) (n looks j rows k p : ℕ) (ns : List Note) (is_final : Answer → Bool)
+    (r : inner (look unit_limit looks P) j is_final (starts_within rows start n 1) ≡ Refuted k ns p) (units limit : ℕ) (more : unit_limit ≤ units)
+    (longer : n ≤ limit) (wider : rows ≤ limit) where
   small : (run (look unit_limit looks P) j j (starts_within rows start n 1)).ending ≡ Some NoMore
   small = (refuted_fails (look unit_limit looks P) is_final j (starts_within rows start n 1) k p ns r).0
 

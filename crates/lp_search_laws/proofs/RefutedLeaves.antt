@@ -33,7 +33,9 @@ pub record IsLeafOf (o : Order) (d : Declared) (P : List Clause) (V : List Varia
 module _ (o : Order) (n : ℕ) (d : Declared) (P : List Clause) (V : List Variable) (E : List Ty) (next_type : ℕ) (gs : Goals) (w : Written) (typed : IsTyped d E V (formula_of_goals gs) o_type) where
   -- what a refuted search says, where these are its assumptions
   abbrev IsLeafAt : List Clause → Type 0
-  IsLeafAt A = IsTypedBranch n d no_query (denied_typing V E gs) (denied_branch (length V) next_type gs A w (length E)) → (steps j rows k p : ℕ) (ns : List Note) (is_final : Answer → Bool) → inner (look unit_limit n P) j is_final (starts_within rows (denied_task (length V) next_type gs A w (length E)) steps 1) ≡ Refuted k ns p →
+  IsLeafAt A = IsTypedBranch n d no_query (denied_typing V E gs) (denied_branch (length V) next_type gs A w (length E)) → (steps j rows k p : ℕ)
+      (ns : List Note) (is_final : Answer → Bool) → inner (look unit_limit n P) j is_final
+      (starts_within rows (denied_task (length V) next_type gs A w (length E)) steps 1) ≡ Refuted k ns p →
       (c : Closing) → Closes d V c → IsLeafOf o d P V E gs A k c
 
   refuted_leaf : (A : List Clause) → IsLeafAt A
@@ -44,7 +46,9 @@ module _ (o : Order) (n : ℕ) (d : Declared) (P : List Clause) (V : List Variab
   })
 
 -- of a negated goal of a typed task
-pub denied_leaf : {L : Leaves} (o : Order) (n : ℕ) (d : Declared) (P : List Clause) (q : Query) (j : ℕ) (T : TypedTask) (u : Task) (f : Answer → Bool) (ts : List Task) (r : DeniesTyped L n d P q T u f ts) → (steps rows k p : ℕ) (ns : List Note) → inner (look unit_limit n P) j f (starts_within rows u steps 1) ≡ Refuted k ns p →
+pub denied_leaf : {L : Leaves} (o : Order) (n : ℕ) (d : Declared) (P : List Clause) (q : Query) (j : ℕ) (T : TypedTask) (u : Task) (f : Answer → Bool)
+    (ts : List Task) (r : DeniesTyped L n d P q T u f ts) → (steps rows k p : ℕ) (ns : List Note) → inner (look unit_limit n P) j f
+    (starts_within rows u steps 1) ≡ Refuted k ns p →
     (c : Closing) → Closes d r.variables c → IsLeafOf o d P r.variables r.eigens r.goals r.assumed k c
 denied_leaf o n d P q j T u f ts r steps rows k p ns x c cl =
     refuted_leaf o n d P r.variables r.eigens r.next_type r.goals r.written r.typed r.assumed r.begins steps j rows k p ns f (transport (λ z. inner (look unit_limit n P) j f (starts_within rows z steps 1) ≡ Refuted k ns p) r.is x) c cl

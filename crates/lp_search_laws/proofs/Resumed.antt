@@ -184,7 +184,9 @@ solves_back : (c z : Closing) (f : Pair → Pair) (ps : List Pair) → EachOf (�
 solves_back c z f [] w h = tt
 solves_back c z f (p ∷ ps) w h = (converts_on (converts_is w.0.0) (converts_on h.0 (converts_is (sym w.0.1))), solves_back c z f ps w.1 h.1)
 
-each_pair_same : (k : ℕ) (c z : Closing) (θ : ℕ → Ty) → ((t : Term) → IsBelow k t → closed c t ≡ closed z (instance_term θ t)) → (ps : List Pair) → EachOf (IsPlainPair k) ps → EachOf (λ p. (closed c p.left ≡ closed z (instance_pair θ p).left) × (closed c p.right ≡ closed z (instance_pair θ p).right)) ps
+each_pair_same : (k : ℕ) (c z : Closing) (θ : ℕ → Ty) → ((t : Term) → IsBelow k t → closed c t ≡ closed z (instance_term θ t)) → (ps : List Pair) →
+    EachOf (IsPlainPair k) ps → EachOf (λ p. (closed c p.left ≡ closed z (instance_pair θ p).left) ×
+    (closed c p.right ≡ closed z (instance_pair θ p).right)) ps
 each_pair_same k c z θ f [] w = tt
 each_pair_same k c z θ f (p ∷ ps) w = ((f p.left (plain_below k p.left w.0.left), f p.right (plain_below k p.right w.0.right)), each_pair_same k c z θ f ps w.1)
 
@@ -241,10 +243,14 @@ record Left (n : ℕ) (d : Declared) (q : Query) (y : BranchTyping) (b : Branch)
   delayed : EachOf (IsPlainPair b.next_type) s.delayed
   unified : Unifies (types_of s.types) eqs
 
-input_at : (n : ℕ) (d : Declared) (q : Query) (y : BranchTyping) (b : Branch) (eqs : List TypePair) (ps : List Pair) → IsBranchWith n d q eqs y b → ((θ : ℕ → Ty) → Unifies θ eqs → HaveTypings d (variables_of θ y.answer.variables) (at_types θ ps)) → (θ : ℕ → Ty) → IsTypedInput θ d (variables_of θ y.answer.variables) eqs ps b.pairs
+input_at : (n : ℕ) (d : Declared) (q : Query) (y : BranchTyping) (b : Branch) (eqs : List TypePair) (ps : List Pair) → IsBranchWith n d q eqs y b →
+    ((θ : ℕ → Ty) → Unifies θ eqs → HaveTypings d (variables_of θ y.answer.variables) (at_types θ ps)) → (θ : ℕ → Ty) → IsTypedInput θ d
+    (variables_of θ y.answer.variables) eqs ps b.pairs
 input_at n d q y b eqs ps h f θ u = (f θ u, (map _ y.answer.pairs, pairs_have_instances θ d y.answer.variables y.answer.pairs b.pairs h.answer.pairs))
 
-solve_at : (n : ℕ) (d : Declared) (q : Query) (y : BranchTyping) (b : Branch) (eqs : List TypePair) (ps : List Pair) (o : Option Unified) → IsBranchWith n d q eqs y b → (θ : ℕ → Ty) → solve n unit_limit eqs ps b.pairs b.next ≡ o → solve n unit_limit eqs ps b.pairs (length (variables_of θ y.answer.variables)) ≡ o
+solve_at : (n : ℕ) (d : Declared) (q : Query) (y : BranchTyping) (b : Branch) (eqs : List TypePair) (ps : List Pair) (o : Option Unified) →
+    IsBranchWith n d q eqs y b → (θ : ℕ → Ty) → solve n unit_limit eqs ps b.pairs b.next ≡ o → solve n unit_limit eqs ps b.pairs
+    (length (variables_of θ y.answer.variables)) ≡ o
 solve_at n d q y b eqs ps o h θ e = transport (λ m. solve n unit_limit eqs ps b.pairs m ≡ o) (sym (length_map (instance_variable θ) y.answer.variables ∙ h.answer.variables)) e
 
 same_through : (n : ℕ) (d : Declared) (q : Query) (y : BranchTyping) (b : Branch) (eqs : List TypePair) (ps : List Pair) (s : State) → Left n d q y b eqs ps s → HasSameClosings (types_of s.types) d (variables_of (types_of s.types) y.answer.variables) ps b.pairs s
@@ -252,14 +258,18 @@ same_through n d q y b eqs ps s l =
     let θ = types_of s.types in
     closings_are_the_same d (variables_of θ y.answer.variables) n unit_limit eqs ps b.pairs s θ (input_at n d q y b eqs ps l.branch l.input θ) (solve_at n d q y b eqs ps (Some (Solution s)) l.branch θ l.solved) l.branch.stuck l.made.satisfied
 
-unifies_where : (n : ℕ) (d : Declared) (q : Query) (y : BranchTyping) (b : Branch) (eqs : List TypePair) (ps : List Pair) (s : State) → IsBranchWith n d q eqs y b → ((θ : ℕ → Ty) → Unifies θ eqs → HaveTypings d (variables_of θ y.answer.variables) (at_types θ ps)) → solve n unit_limit eqs ps b.pairs b.next ≡ Some (Solution s) → (θ : ℕ → Ty) → Satisfies θ s.types → Unifies θ eqs
+unifies_where : (n : ℕ) (d : Declared) (q : Query) (y : BranchTyping) (b : Branch) (eqs : List TypePair) (ps : List Pair) (s : State) → IsBranchWith n
+    d q eqs y b → ((θ : ℕ → Ty) → Unifies θ eqs → HaveTypings d (variables_of θ y.answer.variables) (at_types θ ps)) → solve n unit_limit eqs ps
+    b.pairs b.next ≡ Some (Solution s) → (θ : ℕ → Ty) → Satisfies θ s.types → Unifies θ eqs
 unifies_where n d q y b eqs ps s h f e θ m = (comes θ d (variables_of θ y.answer.variables) n unit_limit eqs ps b.pairs s (input_at n d q y b eqs ps h f θ) (solve_at n d q y b eqs ps (Some (Solution s)) h θ e)).unified m
 
 -- all that the two directions need of the variables that are left
 abbrev W_of : (n : ℕ) (d : Declared) (q : Query) (y : BranchTyping) (b : Branch) (eqs : List TypePair) (ps : List Pair) (s : State) → Left n d q y b eqs ps s → List Variable
 W_of n d q y b eqs ps s l = (same_through n d q y b eqs ps s l).typings.after
 
-lead_of : (d : Declared) (V : List Variable) (c z : Closing) (bs : List Binding) (ts : List TypeBinding) → z.types ≡ c.types → Satisfies z.types ts → ((x : ℕ) (v : Variable) → slice_get (variables_of (types_of ts) V) x ≡ Some v → Converts (c.terms x (length v.scope)) ((through_bindings (map (instance_binding (types_of ts)) bs) z).terms x (length v.scope))) → LeadsThrough V c z bs ts
+lead_of : (d : Declared) (V : List Variable) (c z : Closing) (bs : List Binding) (ts : List TypeBinding) → z.types ≡ c.types → Satisfies z.types ts →
+    ((x : ℕ) (v : Variable) → slice_get (variables_of (types_of ts) V) x ≡ Some v → Converts (c.terms x (length v.scope))
+    ((through_bindings (map (instance_binding (types_of ts)) bs) z).terms x (length v.scope))) → LeadsThrough V c z bs ts
 lead_of d V c z bs ts e s g = record {
   types = e;
   satisfied = s;
@@ -267,7 +277,9 @@ lead_of d V c z bs ts e s g = record {
       (transport (λ (w : Closing). Converts (c.terms x (length (map (instance (types_of ts)) v.scope))) (w.terms x (length (map (instance (types_of ts)) v.scope)))) (through_same z bs ts s) (g x (instance_variable (types_of ts) v) (get_at (types_of ts) V x v i)));
 }
 
-keeps : {L : Leaves} (n : ℕ) (d : Declared) → IsSetting L d → (P : List Clause) (q : Query) (i : Instance) (y : BranchTyping) (b : Branch) (eqs : List TypePair) (ps : List Pair) (s : State) → (l : Left n d q y b eqs ps s) → (r : HaveTypings d (variables_of (χ b.next_type s.types) (W_of n d q y b eqs ps s l)) s.delayed) → SolvesWith L d P q i y b eqs ps →
+keeps : {L : Leaves} (n : ℕ) (d : Declared) → IsSetting L d → (P : List Clause) (q : Query) (i : Instance) (y : BranchTyping) (b : Branch)
+    (eqs : List TypePair) (ps : List Pair) (s : State) → (l : Left n d q y b eqs ps s) →
+    (r : HaveTypings d (variables_of (χ b.next_type s.types) (W_of n d q y b eqs ps s l)) s.delayed) → SolvesWith L d P q i y b eqs ps →
     SolvesBranch L d P q i (typing_behind b.next_type s.types y (W_of n d q y b eqs ps s l) r.0) (resume b s)
 keeps {L} n d std P q i y b eqs ps s l r w =
     let k = b.next_type in
@@ -282,7 +294,9 @@ keeps {L} n d std P q i y b eqs ps s l r w =
     let cl = w.branch.answer.closes in
     let c' : Closing = record { types = cut_off k c.types; terms = c.terms } in
     let cl' = cut_closes d k V c l.branch.variables cl in
-    let ks = closings_are_kept d V n unit_limit eqs ps b.pairs s c (input_at n d q y b eqs ps l.branch l.input c.types) (transport (λ m. solve n unit_limit eqs ps b.pairs m ≡ Some (Solution s)) (sym l.branch.answer.variables) l.solved) (record { closes = cl; types = w.types; pairs = w.pairs; delayed = w.branch.answer.solves }) in
+    let ks = closings_are_kept d V n unit_limit eqs ps b.pairs s c (input_at n d q y b eqs ps l.branch l.input c.types)
+    (transport (λ m. solve n unit_limit eqs ps b.pairs m ≡ Some (Solution s)) (sym l.branch.answer.variables) l.solved)
+    (record { closes = cl; types = w.types; pairs = w.pairs; delayed = w.branch.answer.solves }) in
     let sat : Satisfies c.types ts = transport (λ x. Satisfies x ts) ks.types ks.solves.types in
     let agrees = λ (j : ℕ) (g : j < k). sym (cut_agrees k c.types j g) in
     let sat' : Satisfies c'.types ts = satisfies_agree k c.types c'.types agrees ts l.made.plain sat in
@@ -306,13 +320,17 @@ keeps {L} n d std P q i y b eqs ps s l r w =
         types = types_same k z.types c.types (put_types ts) (λ T g. ap (instance z.types) (put_types_is ts T) ∙ satisfied_instance z.types ts satz T ∙ ap (λ f. instance f T) kc.types ∙ agree_type k c'.types c.types (cut_agrees k c.types) T g) b.types l.branch.types ∙ w.branch.answer.types;
         values = transport (λ us. ConvertEach us i.values) (sym (map_map_terms (closed z) (put_in bs ts) b.values))
             (convert_first (closed c) (λ u. closed z (put_in bs ts u)) b.values i.values
-            (each_two (Within (IsVariableOf V) 0) (IsPlainTerm k) (λ u. Converts (closed z (put_in bs ts u)) (closed c u)) (λ u a p. converts_on (converts_sym (within_leads V c' z bs ts lead u a)) (converts_is (sym (same u (plain_below k u p))))) b.values (values_variables d V b.values _ l.branch.answer.values) l.branch.values)
+            (each_two (Within (IsVariableOf V) 0) (IsPlainTerm k) (λ u. Converts (closed z (put_in bs ts u)) (closed c u))
+            (λ u a p. converts_on (converts_sym (within_leads V c' z bs ts lead u a)) (converts_is (sym (same u (plain_below k u p))))) b.values
+            (values_variables d V b.values _ l.branch.answer.values) l.branch.values)
             w.branch.answer.values);
       };
       proved = proved;
     }
 
-through_closes : (d : Declared) (k : ℕ) (V W : List Variable) (z : Closing) (bs : List Binding) (ts : List TypeBinding) → Satisfies z.types ts → ArePlainBindings k bs → ArePlainTypes k ts → IsMore (variables_of (types_of ts) V) W → AreTypedBindings d W (map (instance_binding (types_of ts)) bs) → Closes d W z → Closes d V (through_bindings bs z)
+through_closes : (d : Declared) (k : ℕ) (V W : List Variable) (z : Closing) (bs : List Binding) (ts : List TypeBinding) → Satisfies z.types ts →
+    ArePlainBindings k bs → ArePlainTypes k ts → IsMore (variables_of (types_of ts) V) W → AreTypedBindings d W
+    (map (instance_binding (types_of ts)) bs) → Closes d W z → Closes d V (through_bindings bs z)
 through_closes d k V W z bs ts s pb pt mo tb h = record {
   types = h.types;
   terms = λ x v e.
@@ -324,7 +342,9 @@ through_closes d k V W z bs ts s pb pt mo tb h = record {
       (transport (λ y. IsWitness d (map (instance z.types) (map (instance (types_of ts)) v.scope)) y (instance z.types (instance (types_of ts) v.type))) (ap (close z.terms) (put_types_satisfied z.types ts s (put_all bs u))) w));
 }
 
-gives : {L : Leaves} (n : ℕ) (d : Declared) → IsSetting L d → (P : List Clause) (q : Query) (i : Instance) (y : BranchTyping) (b : Branch) (eqs : List TypePair) (ps : List Pair) (s : State) → (l : Left n d q y b eqs ps s) → (r : HaveTypings d (variables_of (χ b.next_type s.types) (W_of n d q y b eqs ps s l)) s.delayed) →
+gives : {L : Leaves} (n : ℕ) (d : Declared) → IsSetting L d → (P : List Clause) (q : Query) (i : Instance) (y : BranchTyping) (b : Branch)
+    (eqs : List TypePair) (ps : List Pair) (s : State) → (l : Left n d q y b eqs ps s) →
+    (r : HaveTypings d (variables_of (χ b.next_type s.types) (W_of n d q y b eqs ps s l)) s.delayed) →
     SolvesBranch L d P q i (typing_behind b.next_type s.types y (W_of n d q y b eqs ps s l) r.0) (resume b s) → SolvesWith L d P q i y b eqs ps
 gives {L} n d std P q i y b eqs ps s l r w =
     let k = b.next_type in
@@ -353,7 +373,9 @@ gives {L} n d std P q i y b eqs ps s l r w =
     let put_same = λ (t : Term) (g : IsBelow k t). ap (closed z) (put_types_in_is ts (put_all bs t)) ∙ sym (typed_same (put_all bs t) (put_all_below k bs l.bindings t g)) ∙ ap (closed z') (sym (put_types_in_is ts (put_all bs t))) in
     let ds : SolvesAll z' (at_types θ s.delayed) = solves_same (record { types = both_types z.types θ; terms = z.terms }) z' (instance_pair θ) s.delayed
     (each_pair_same k (record { types = both_types z.types θ; terms = z.terms }) z' θ (λ t g. ap (close z.terms) (sym (term_twice z.types θ t)) ∙ sym (typed_same t g)) s.delayed l.delayed)
-    (solves_back (record { types = both_types z.types θ; terms = z.terms }) z (instance_pair θ) s.delayed (each_pair_same k (record { types = both_types z.types θ; terms = z.terms }) z θ (λ t g. ap (close z.terms) (sym (term_twice z.types θ t))) s.delayed l.delayed) (transport (SolvesAll z) (sym l.settled) w.answer.solves)) in
+    (solves_back (record { types = both_types z.types θ; terms = z.terms }) z (instance_pair θ) s.delayed
+    (each_pair_same k (record { types = both_types z.types θ; terms = z.terms }) z θ (λ t g. ap (close z.terms) (sym (term_twice z.types θ t)))
+    s.delayed l.delayed) (transport (SolvesAll z) (sym l.settled) w.answer.solves)) in
     let added = h.adds_none z' zw ds in
     let c = through_bindings bs z' in
     let t = through_same z' bs ts satz in
@@ -364,7 +386,9 @@ gives {L} n d std P q i y b eqs ps s l r w =
     let tx = bindings_behind k ts l.made d W bs l.bindings h.typings.bindings in
     let shut = are_shut d X θ bs tx in
     let eigens = λ (E : List Ty) (g : AreTypesBelow k E). ap (map (instance z.types)) (sym (map_list k ts l.made E g)) ∙ map_twice (instance (χ k ts)) (instance z.types) (instance z'.types) (λ T. sym (at T)) (map (instance θ) E) in
-    let proved = (entries_lead d std.converting V X P c z' bs ts lead shut more tx cl zx y.eigens b.goals (l.branch.entries ts l.unified)).1 (same_proved _ d P z z' (eigens_of θ y.eigens) (behind bs ts b.goals) (behind_agree k z z' bs ts shut eigens put_same y.eigens b.goals l.branch.goals) w.proved) in
+    let proved = (entries_lead d std.converting V X P c z' bs ts lead shut more tx cl zx y.eigens b.goals (l.branch.entries ts l.unified)).1
+    (same_proved _ d P z z' (eigens_of θ y.eigens) (behind bs ts b.goals) (behind_agree k z z' bs ts shut eigens put_same y.eigens b.goals
+    l.branch.goals) w.proved) in
     record {
       branch = record {
         query = w.query;
@@ -374,7 +398,9 @@ gives {L} n d std P q i y b eqs ps s l r w =
           solves = solves_back c c (instance_pair θ) b.pairs (each_pair_same k c c θ same_at b.pairs l.branch.pairs) (transport (λ x. SolvesAll x (at_types θ b.pairs)) t added.1);
           types = sym (types_same k z.types z'.types (put_types ts) (λ T g. ap (instance z.types) (put_types_is ts T ∙ sym (χ_is k ts T g)) ∙ sym (at T)) b.types l.branch.types) ∙ w.answer.types;
           values = convert_first (λ u. closed z (put_in bs ts u)) (closed c) b.values i.values
-              (each_two (Within (IsVariableOf V) 0) (IsPlainTerm k) (λ u. Converts (closed c u) (closed z (put_in bs ts u))) (λ u a p. converts_on (within_leads V c z' bs ts lead u a) (converts_is (sym (put_same u (plain_below k u p))))) b.values (values_variables d V b.values _ l.branch.answer.values) l.branch.values)
+              (each_two (Within (IsVariableOf V) 0) (IsPlainTerm k) (λ u. Converts (closed c u) (closed z (put_in bs ts u)))
+              (λ u a p. converts_on (within_leads V c z' bs ts lead u a) (converts_is (sym (put_same u (plain_below k u p))))) b.values
+              (values_variables d V b.values _ l.branch.answer.values) l.branch.values)
               (transport (λ us. ConvertEach us i.values) (map_map_terms (closed z) (put_in bs ts) b.values) w.answer.values);
         };
         proved = proved;
@@ -404,7 +430,9 @@ pub follows : {L : Leaves} (n : ℕ) (d : Declared) → IsSetting L d → (P : L
     (eqs : List TypePair) (ps : List Pair) → IsBranchWith n d q eqs y b → ((θ : ℕ → Ty) → Unifies θ eqs → HaveTypings d
     (variables_of θ y.answer.variables) (at_types θ ps)) → EachOf (λ x. IsTypeBelow b.next_type x.left × IsTypeBelow b.next_type x.right) eqs → EachOf
     (IsPlainPair b.next_type) ps →
-    (T : TypedTask) → ((i : Instance) → Sol L d P q i T → SolvesWith L d P q i y b eqs ps) → ((i : Instance) → SolvesWith L d P q i y b eqs ps → Sol L d P q i T) → ((y' : BranchTyping) (b' : Branch) → IsLeftBehind n d y b y' b' → IsTypedFrom n d T (going y' b')) → StandFor L n d P q T (follow b (solve n unit_limit eqs ps b.pairs b.next))
+    (T : TypedTask) → ((i : Instance) → Sol L d P q i T → SolvesWith L d P q i y b eqs ps) →
+    ((i : Instance) → SolvesWith L d P q i y b eqs ps → Sol L d P q i T) → ((y' : BranchTyping) (b' : Branch) → IsLeftBehind n d y b y' b' →
+    IsTypedFrom n d T (going y' b')) → StandFor L n d P q T (follow b (solve n unit_limit eqs ps b.pairs b.next))
 follows {L} n d std P q y b eqs ps h input pe pp T on back tell = go (solve n unit_limit eqs ps b.pairs b.next) refl
   where
     solution : (s : State) → solve n unit_limit eqs ps b.pairs b.next ≡ Some (Solution s) → StandFor L n d P q T (follow b (Some (Solution s)))
@@ -458,7 +486,9 @@ follows {L} n d std P q y b eqs ps h input pe pp T on back tell = go (solve n un
       keeps = λ i w.
           let v = on i w in
           let c = v.branch.answer.closing in
-          absurd (closings_have_none d y.answer.variables n unit_limit eqs ps b.pairs c (input_at n d q y b eqs ps h input c.types) (transport (λ m. solve n unit_limit eqs ps b.pairs m ≡ Some Fail) (sym h.answer.variables) e) (record { closes = v.branch.answer.closes; types = v.types; pairs = v.pairs; delayed = v.branch.answer.solves }));
+          absurd (closings_have_none d y.answer.variables n unit_limit eqs ps b.pairs c (input_at n d q y b eqs ps h input c.types)
+          (transport (λ m. solve n unit_limit eqs ps b.pairs m ≡ Some Fail) (sym h.answer.variables) e)
+          (record { closes = v.branch.answer.closes; types = v.types; pairs = v.pairs; delayed = v.branch.answer.solves }));
       gives = λ i w. absurd w;
     }
     go (Some (Solution s)) e = solution s e

@@ -122,7 +122,9 @@ binding_instance κ d W b h = record {
   scoped = scoped_instance κ h.variable.scope W 0 b.value h.scoped;
 }
 
-pub bindings_behind : (k : ℕ) (ts : List TypeBinding) → AreMade k ts → (d : Declared) (W : List Variable) (bs : List Binding) → ArePlainBindings k bs → AreTypedBindings d W (map (instance_binding (types_of ts)) bs) → AreTypedBindings d (variables_of (χ k ts) W) (map (instance_binding (types_of ts)) bs)
+pub bindings_behind : (k : ℕ) (ts : List TypeBinding) → AreMade k ts → (d : Declared) (W : List Variable) (bs : List Binding) → ArePlainBindings k bs
+    → AreTypedBindings d W (map (instance_binding (types_of ts)) bs) → AreTypedBindings d (variables_of (χ k ts) W)
+    (map (instance_binding (types_of ts)) bs)
 bindings_behind k ts m d W [] p h = tt
 bindings_behind k ts m d W (b ∷ bs) p h = (
   transport (IsTypedBinding d (variables_of (χ k ts) W)) (λ i. record { id = b.id; level = b.level; value = χ_term k ts m b.value (plain_below k b.value p.0) i }) (binding_instance (χ k ts) d W (instance_binding (types_of ts) b) h.0),
@@ -141,7 +143,9 @@ pairs_behind k ts d W ps w e h =
     (map (instance_typing (χ k ts)) h.0, transport (AreTypedPairs d (variables_of (χ k ts) W) (map (instance_typing (χ k ts)) h.0)) f (pairs_have_instances (χ k ts) d W h.0 (at_types θ ps) h.1))
 
 -- terms
-pub term_behind : (d : Declared) (V W : List Variable) (E : List Ty) (bs : List Binding) (ts : List TypeBinding) → IsMore (variables_of (types_of ts) V) W → AreTypedBindings d W (map (instance_binding (types_of ts)) bs) → (t : Term) (T : Ty) → IsTyped d E V t T → IsTyped d (map (instance (types_of ts)) E) W (put_in bs ts t) (instance (types_of ts) T)
+pub term_behind : (d : Declared) (V W : List Variable) (E : List Ty) (bs : List Binding) (ts : List TypeBinding) → IsMore
+    (variables_of (types_of ts) V) W → AreTypedBindings d W (map (instance_binding (types_of ts)) bs) → (t : Term) (T : Ty) → IsTyped d E V t T →
+    IsTyped d (map (instance (types_of ts)) E) W (put_in bs ts t) (instance (types_of ts) T)
 term_behind d V W E bs ts m b t T h =
     let θ = types_of ts in
     let F = map (instance θ) E in
@@ -193,7 +197,9 @@ scoped_value d V t T w o = within_both (IsScopedAtom V []) (HasAtomType (in_scop
     one (text s) p q = tt
     one (param k U) p q = tt
 
-value_behind : (d : Declared) (V W : List Variable) (bs : List Binding) (ts : List TypeBinding) → IsMore (variables_of (types_of ts) V) W → AreTypedBindings d W (map (instance_binding (types_of ts)) bs) → (t : Term) (T : Ty) → IsTypedValue d V t T → IsPositive (put_in bs ts t) → IsTypedValue d W (put_in bs ts t) (instance (types_of ts) T)
+value_behind : (d : Declared) (V W : List Variable) (bs : List Binding) (ts : List TypeBinding) → IsMore (variables_of (types_of ts) V) W →
+    AreTypedBindings d W (map (instance_binding (types_of ts)) bs) → (t : Term) (T : Ty) → IsTypedValue d V t T → IsPositive (put_in bs ts t) →
+    IsTypedValue d W (put_in bs ts t) (instance (types_of ts) T)
 value_behind d V W bs ts m b t T h p =
     let r = term_behind d V W [] bs ts m b t T (record { typed = h.typed; scoped = value_scoped d V t T h.typed h.outermost }) in
     record { typed = r.typed; outermost = scoped_value d W (put_in bs ts t) (instance (types_of ts) T) r.typed r.scoped; positive = p }

@@ -27,12 +27,16 @@ none_denied (Denies t is_final ts) u = absurd u
 none_denied (Halts e) u = tt
 none_denied Lacks u = tt
 
-module _ (n : ℕ) (d : Declared) (P : List Clause) (program : EachOf IsUnnegatedClause P) (q : Query) (looks : (height : ℕ) (T : TypedTask) → IsOk n d P q T → IsRightView no_leaf n d P q T (look unit_limit n P height (task_of T))) (y : BranchTyping) (b : Branch) (h : IsTypedBranch n d q y b) (pure : IsUnnegatedTask (Go b)) (j m steps answers : ℕ) where
+module _ (n : ℕ) (d : Declared) (P : List Clause) (program : EachOf IsUnnegatedClause P) (q : Query)
+    (looks : (height : ℕ) (T : TypedTask) → IsOk n d P q T → IsRightView no_leaf n d P q T (look unit_limit n P height (task_of T)))
+    (y : BranchTyping) (b : Branch) (h : IsTypedBranch n d q y b) (pure : IsUnnegatedTask (Go b)) (j m steps answers : ℕ) where
   told : RightRun n d P q no_leaf j IsUnnegatedTask (λ t. ⊥) (λ k. Unit {0}) (λ k. Unit {0}) false (going y b ∷ []) (run (look unit_limit n P) j m (starts (Go b) steps answers))
   told = run_right n d P q no_leaf j IsUnnegatedTask (λ t. ⊥) (λ k. Unit {0}) (λ k. Unit {0}) looks (λ height T k u. none_denied (look unit_limit n P height (task_of T)) (unnegated_look unit_limit n P program height (task_of T) u)) (λ x z l f. f) (λ x z l f. f)
       (λ T u f ts r x st rows k p ns e o c cl. absurd x) (λ T u f ts r x st rows k p ns e o c cl z. x) m (starts (Go b) steps answers) (going y b ∷ []) refl ((h, pure), tt)
 
-  each_sound : (as' : List TypedAnswer) → EachOf (λ a. (i : Instance) → IsQueryInstance d q i → IsInstance d a.typing a.answer i → AnyOf (Sol no_leaf d P q i) (going y b ∷ [])) as' → EachOf (λ a. (i : Instance) → IsQueryInstance d q i → IsInstance d a.typing a.answer i → SolvesBranch no_leaf d P q i y b) as'
+  each_sound : (as' : List TypedAnswer) → EachOf (λ a. (i : Instance) → IsQueryInstance d q i → IsInstance d a.typing a.answer i → AnyOf
+      (Sol no_leaf d P q i) (going y b ∷ [])) as' → EachOf (λ a. (i : Instance) → IsQueryInstance d q i → IsInstance d a.typing a.answer i →
+      SolvesBranch no_leaf d P q i y b) as'
   each_sound [] s = tt
   each_sound (a ∷ as') s = (λ i x z. elim (s.0 i x z) [ inl w ↦ w | inr w ↦ absurd w ], each_sound as' s.1)
 

@@ -50,11 +50,15 @@ all_stay Kept Lacks h = tt
 module _ (n : ℕ) (d : Declared) (P : List Clause) (q : Query) (L : Leaves) (j : ℕ) (Kept Denied : Task → Type 0) (Few Fewer : ℕ → Type 0) where
   -- a search of a negated goal that is refuted in few steps is a leaf for its goals
   abbrev pub Proves : Type 0
-  Proves = (T : TypedTask) (u : Task) (f : Answer → Bool) (ts : List Task) (r : DeniesTyped L n d P q T u f ts) → Denied u → (steps rows k p : ℕ) (ns : List Note) → inner (look unit_limit n P) j f (starts_within rows u steps 1) ≡ Refuted k ns p → Few (suc k) → (c : Closing) → Closes d r.variables c → HasLeaf L P c r.eigens r.assumed r.goals
+  Proves = (T : TypedTask) (u : Task) (f : Answer → Bool) (ts : List Task) (r : DeniesTyped L n d P q T u f ts) → Denied u → (steps rows k p : ℕ)
+      (ns : List Note) → inner (look unit_limit n P) j f (starts_within rows u steps 1) ≡ Refuted k ns p → Few (suc k) → (c : Closing) → Closes d
+      r.variables c → HasLeaf L P c r.eigens r.assumed r.goals
 
   -- for the goals of one that is held there is no leaf
   abbrev pub Excludes : Type 0
-  Excludes = (T : TypedTask) (u : Task) (f : Answer → Bool) (ts : List Task) (r : DeniesTyped L n d P q T u f ts) → Denied u → (steps rows k p : ℕ) (ns : List Note) → inner (look unit_limit n P) j f (starts_within rows u steps 1) ≡ Held k ns p → Fewer (suc k) → (c : Closing) → Closes d r.variables c → HasLeaf L P c r.eigens r.assumed r.goals → ⊥
+  Excludes = (T : TypedTask) (u : Task) (f : Answer → Bool) (ts : List Task) (r : DeniesTyped L n d P q T u f ts) → Denied u → (steps rows k p : ℕ)
+      (ns : List Note) → inner (look unit_limit n P) j f (starts_within rows u steps 1) ≡ Held k ns p → Fewer (suc k) → (c : Closing) → Closes d
+      r.variables c → HasLeaf L P c r.eigens r.assumed r.goals → ⊥
 
   abbrev Solved : Instance → List TypedTask → Type 0
   Solved i Ts = AnyOf (Sol L d P q i) Ts
@@ -139,7 +143,9 @@ module _ (n : ℕ) (d : Declared) (P : List Clause) (q : Query) (L : Leaves) (j 
       }
 
       -- tasks in the place of one
-      opens : (lost : Bool) (T : TypedTask) (Us Rest : List TypedTask) (c : ℕ) (ns : List Note) (s : State Task) → RightRun lost (Us ++ Rest) (go s) → ((a : TypedAnswer) → IsGivenFromOne Us a → IsGivenFrom n d P T a) → ((i : Instance) → Solved i Us → Sol L d P q i T) → ((i : Instance) → Sol L d P q i T → Solved i Us) → RightRun lost (T ∷ Rest) (told_after go (Goes c ns s))
+      opens : (lost : Bool) (T : TypedTask) (Us Rest : List TypedTask) (c : ℕ) (ns : List Note) (s : State Task) → RightRun lost (Us ++ Rest) (go s) →
+          ((a : TypedAnswer) → IsGivenFromOne Us a → IsGivenFrom n d P T a) → ((i : Instance) → Solved i Us → Sol L d P q i T) →
+          ((i : Instance) → Sol L d P q i T → Solved i Us) → RightRun lost (T ∷ Rest) (told_after go (Goes c ns s))
       opens lost T Us Rest c ns s x v g k = goes lost lost (T ∷ Rest) (Us ++ Rest) c ns s x (λ l. l)
           (λ a h. elim (any_append (λ U. IsGivenFrom n d P U a) Us Rest h) [ inl y ↦ inl (v a y) | inr y ↦ inr y ])
           (λ f i h. elim (any_append (Sol L d P q i) Us Rest h) [ inl y ↦ inl (g i y) | inr y ↦ inr y ])
@@ -228,8 +234,12 @@ module _ (n : ℕ) (d : Declared) (P : List Clause) (q : Query) (L : Leaves) (j 
       at_right m zero g u p lost Ts oks = none_ended lost Ts _ refl (λ y. cc)
       at_right m (suc k) g u p true [] oks = none_ended true [] _ refl (λ y. cc)
       at_right m (suc k) g u p false [] oks = record { typed = []; is = refl; well_formed = tt; given = tt; sound = λ f. tt; exhausts = λ e f i h. h; never = λ l. cc }
-      at_right m (suc k) g u p true (T ∷ Rest) oks = view_right T Rest oks.1 true m k g u p (look unit_limit n P (length (map task_of Rest)) (task_of T)) (λ U a l h x. given_by_look (length (map task_of Rest)) T U a l h x) (looks (length (map task_of Rest)) T oks.0.0) (monos (length (map task_of Rest)) T oks.0.0 oks.0.1)
-      at_right m (suc k) g u p false (T ∷ Rest) oks = view_right T Rest oks.1 false m k g u p (look unit_limit n P (length (map task_of Rest)) (task_of T)) (λ U a l h x. given_by_look (length (map task_of Rest)) T U a l h x) (looks (length (map task_of Rest)) T oks.0.0) (monos (length (map task_of Rest)) T oks.0.0 oks.0.1)
+      at_right m (suc k) g u p true (T ∷ Rest) oks = view_right T Rest oks.1 true m k g u p
+          (look unit_limit n P (length (map task_of Rest)) (task_of T)) (λ U a l h x. given_by_look (length (map task_of Rest)) T U a l h x)
+          (looks (length (map task_of Rest)) T oks.0.0) (monos (length (map task_of Rest)) T oks.0.0 oks.0.1)
+      at_right m (suc k) g u p false (T ∷ Rest) oks = view_right T Rest oks.1 false m k g u p
+          (look unit_limit n P (length (map task_of Rest)) (task_of T)) (λ U a l h x. given_by_look (length (map task_of Rest)) T U a l h x)
+          (looks (length (map task_of Rest)) T oks.0.0) (monos (length (map task_of Rest)) T oks.0.0 oks.0.1)
 
     pub run_right : (m : ℕ) (s : State Task) (Ts : List TypedTask) → s.stack ≡ map task_of Ts → EachOf IsFine Ts → RightRun s.lost Ts (run (look unit_limit n P) j m s)
     run_right zero s Ts e oks = none_ended s.lost Ts _ refl (λ y. cc)

@@ -235,7 +235,12 @@ module _ (K : (ℕ → Type 0) → Term → Type 0) (family : Family K) where
         outcome : (o : TypeOutcome) → solve_types n (type_pairs h g) [] 0 ≡ Some o → GoodRuled Q (with_types level ts us o)
         outcome (none u) p = tt
         outcome (solved bs u) p =
-            let over : ArePairsOver (Left Q []) (type_pairs h g) = each_more (λ x. Over Q x.left × Over Q x.right) (λ x. Over (Left Q []) x.left × Over (Left Q []) x.right) (λ x o. (over_more Q (Left Q []) (λ i q. (q, tt)) x.left o.0, over_more Q (Left Q []) (λ i q. (q, tt)) x.right o.1)) (type_pairs h g) (head_pairs h g hh hg) in
+            let over : ArePairsOver (Left Q []) (type_pairs h g) = each_more (λ x. Over Q x.left × Over Q x.right)
+            (λ x. Over (Left Q []) x.left × Over (Left Q []) x.right) (λ x o. (
+              over_more Q (Left Q []) (λ i q. (q, tt)) x.left o.0,
+              over_more Q
+                  (Left Q []) (λ i q. (q, tt)) x.right o.1,
+            )) (type_pairs h g) (head_pairs h g hh hg) in
             let s = solve_over Q n (type_pairs h g) [] 0 bs u p over (solved_none Q) in
             let put_in = λ (xs : List Term) (k : EachOf (K Q) xs). each_map (K Q) (K (Left Q bs)) (put_types_in bs) (λ t k. put_types_good Q bs s t k) xs k in
             (s, pairs_of_arguments (Left Q bs) level (map (put_types_in bs) ts) (map (put_types_in bs) us) (put_in ts hts) (put_in us hus))

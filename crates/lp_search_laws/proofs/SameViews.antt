@@ -98,7 +98,9 @@ module _ (n m : ℕ) (more : n ≤ m) where
   term_same P height e b t f =
       ap (look_normal unit_limit m P height e b) (head_normal_more n m more t f.form f.comes) ∙ form_same P height e b f.form (connective_of f.form) f.call ∙ ap (look_normal unit_limit n P height e b) (sym f.comes)
 
-  goal_same : (P : List Clause) (height : ℕ) (e : Entry) (b : Branch) (g : Goal) → e.goal ≡ g → ((t : Term) → e.goal ≡ Atomic t → TermHasEnough n e.level b t) → ((w : Written) (gs : Goals) → e.goal ≡ Not w gs → IsFound (has_variables n (both_written w e.written))) → look_goal unit_limit m P height e b g ≡ look_goal unit_limit n P height e b g
+  goal_same : (P : List Clause) (height : ℕ) (e : Entry) (b : Branch) (g : Goal) → e.goal ≡ g →
+      ((t : Term) → e.goal ≡ Atomic t → TermHasEnough n e.level b t) → ((w : Written) (gs : Goals) → e.goal ≡ Not w gs → IsFound
+      (has_variables n (both_written w e.written))) → look_goal unit_limit m P height e b g ≡ look_goal unit_limit n P height e b g
   goal_same P height e b (Atomic t) i f v = term_same P height e b t (f t i)
   goal_same P height e b Cut i f v = refl
   goal_same P height e b (Either l r) i f v = refl
@@ -140,8 +142,12 @@ module _ (n m : ℕ) (more : n ≤ m) where
   }
 
   opens_same : (P : List Clause) (height k : ℕ) (vs : List Ty) (h : Term) (body : Goals) (t : Term) (e : Entry) (b : Branch) (mark : ℕ) →
-      solve m unit_limit (type_pairs (head_of t) (head_of (instance_term (renewed k b.next_type) h))) (pairs_of (slotted (slots_of [] (arguments (instance_term (renewed k b.next_type) h)) (arguments t)) b.next e.level) e.level [] (arguments (instance_term (renewed k b.next_type) h)) (arguments t)) b.pairs (b.next + length vs) ≡
-      solve n unit_limit (type_pairs (head_of t) (head_of (instance_term (renewed k b.next_type) h))) (pairs_of (slotted (slots_of [] (arguments (instance_term (renewed k b.next_type) h)) (arguments t)) b.next e.level) e.level [] (arguments (instance_term (renewed k b.next_type) h)) (arguments t)) b.pairs (b.next + length vs) →
+      solve m unit_limit (type_pairs (head_of t) (head_of (instance_term (renewed k b.next_type) h)))
+      (pairs_of (slotted (slots_of [] (arguments (instance_term (renewed k b.next_type) h)) (arguments t)) b.next e.level) e.level []
+      (arguments (instance_term (renewed k b.next_type) h)) (arguments t)) b.pairs (b.next + length vs) ≡
+      solve n unit_limit (type_pairs (head_of t) (head_of (instance_term (renewed k b.next_type) h)))
+      (pairs_of (slotted (slots_of [] (arguments (instance_term (renewed k b.next_type) h)) (arguments t)) b.next e.level) e.level []
+      (arguments (instance_term (renewed k b.next_type) h)) (arguments t)) b.pairs (b.next + length vs) →
       look unit_limit m P height (Try (clause k vs h body) t e b mark) ≡ look unit_limit n P height (Try (clause k vs h body) t e b mark)
   opens_same P height k vs h body t e b mark x =
       ap (λ o. Opens (follow (Goes k vs (type_goals (renewed k b.next_type) body) e b mark (slotted (slots_of [] (arguments (instance_term (renewed k b.next_type) h)) (arguments t)) b.next e.level)) o)) x

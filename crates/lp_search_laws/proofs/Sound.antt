@@ -25,7 +25,9 @@ use Rattle.lp_search_laws.proofs.RefutedLeaves.{denied_leaf}
 use Rattle.lp_search_laws.proofs.Runs.{all_stay, run_right}
 use Rattle.lp_search_laws.proofs.Stack.Ends.{leaves_any}
 
-module _ {o : Order} {L : Leaves} (d : Declared) (std : IsStandard d) (F : List ClauseFormula) (P : List Clause) (same : KeepsSame o P L d) (kept : AreKept L [] F (map sentence_of P) × AreKept L [] (map sentence_of P) F) (l : ℕ) (s : EachOf (IsTypedSentence d) F) (x : AreFlattened d F P) (q : Query) (gs : Goals) (t : IsTypedQuery d q) (e : flatten_query l d q.formula ≡ Some gs) where
+module _ {o : Order} {L : Leaves} (d : Declared) (std : IsStandard d) (F : List ClauseFormula) (P : List Clause) (same : KeepsSame o P L d)
+    (kept : AreKept L [] F (map sentence_of P) × AreKept L [] (map sentence_of P) F) (l : ℕ) (s : EachOf (IsTypedSentence d) F)
+    (x : AreFlattened d F P) (q : Query) (gs : Goals) (t : IsTypedQuery d q) (e : flatten_query l d q.formula ≡ Some gs) where
   abbrev pub first : TypedTask
   first = going (first_typing q gs) (first_branch q.type_vars (length q.vars) gs)
 
@@ -52,7 +54,9 @@ module _ (d : Declared) (std : IsStandard d) (l : ℕ) (F : List ClauseFormula) 
   again : (n : ℕ) (a : TypedAnswer) → IsGiven n d P q gs a → IsGiven n d P q gs (record { answer = a.answer; typing = a.typing })
   again n a h = record { typing = h.typing; branch = h.branch; reached = h.reached; done = h.done; answer = h.answer; is = h.is }
 
-  each_fine : (n : ℕ) (as' : List TypedAnswer) → EachOf (IsGiven n d P q gs) as' → EachOf (λ a. IsWellFormed d q a.typing a.answer) as' → EachOf (λ a. (i : Instance) → IsClosedInstance d a.typing a.answer i → IsProvableBy (IsFailedSearch (InOrder F) d P) d F q i) as' → EachOf (Fine n) (map (λ a. a.answer) as')
+  each_fine : (n : ℕ) (as' : List TypedAnswer) → EachOf (IsGiven n d P q gs) as' → EachOf (λ a. IsWellFormed d q a.typing a.answer) as' → EachOf
+      (λ a. (i : Instance) → IsClosedInstance d a.typing a.answer i → IsProvableBy (IsFailedSearch (InOrder F) d P) d F q i) as' → EachOf (Fine n)
+      (map (λ a. a.answer) as')
   each_fine n [] g w h = tt
   each_fine n (a ∷ as') g w h = ((a.typing, again n a g.0, w.0, h.0), each_fine n as' g.1 w.1 h.1)
 
@@ -61,6 +65,11 @@ module _ (d : Declared) (std : IsStandard d) (l : ℕ) (F : List ClauseFormula) 
       let first = going (first_typing q gs) (first_branch q.type_vars (length q.vars) gs) in
       let same = failed_same (InOrder F) d P in
       let setting = setting_of d same std in
-      let r = run_right n d P q (IsFailedSearch (InOrder F) d P) j (λ u. Unit {0}) (λ u. Unit {0}) (λ k. Unit {0}) (λ k. ⊥) (λ height T k. each_look n d setting P (program_typed d std F P s x) q height T k) (λ height T k m. all_stay (λ u. Unit {0}) (look unit_limit n P height (task_of T)) (leaves_any (look unit_limit n P height (task_of T)))) (λ y z k h. h) (λ y z k h. h)
-      (λ T u f ts r m st rows k p ns y o c cl. let z = denied_leaf (InOrder F) n d P q j T u f ts r st rows k p ns y c cl in (z.leaf, z.fails)) (λ T u f ts r m st rows k p ns y o c cl z. o) m (start q.type_vars (length q.vars) gs steps answers) (first ∷ []) refl (((start_typed d std l q gs t e n steps answers).1, tt), tt) in
+      let r = run_right n d P q (IsFailedSearch (InOrder F) d P) j (λ u. Unit {0}) (λ u. Unit {0}) (λ k. Unit {0}) (λ k. ⊥)
+      (λ height T k. each_look n d setting P (program_typed d std F P s x) q height T k)
+      (λ height T k m. all_stay (λ u. Unit {0}) (look unit_limit n P height (task_of T)) (leaves_any (look unit_limit n P height (task_of T))))
+      (λ y z k h. h) (λ y z k h. h)
+      (λ T u f ts r m st rows k p ns y o c cl. let z = denied_leaf (InOrder F) n d P q j T u f ts r st rows k p ns y c cl in (z.leaf, z.fails))
+      (λ T u f ts r m st rows k p ns y o c cl z. o) m (start q.type_vars (length q.vars) gs steps answers) (first ∷ []) refl
+      (((start_typed d std l q gs t e n steps answers).1, tt), tt) in
       transport (EachOf (Fine n)) r.is (each_fine n r.typed (each_given n d P q gs r.typed r.given) r.well_formed (each_proved d std F P same (program_in_order d F P same (each_sentence d F s) x) l s x q gs t e r.typed r.well_formed (r.sound tt)))

@@ -108,7 +108,9 @@ map_tasks : {X : Type 0} (f : X → TypedTask) (xs : List X) → map task_of (ma
 map_tasks f [] = refl
 map_tasks f (x ∷ xs) = ap (λ ts. task_of (f x) ∷ ts) (map_tasks f xs)
 
-module _ {L : Leaves} (n height : ℕ) (d : Declared) (std : IsSetting L d) (P : List Clause) (program : EachOf (IsProgramTyped d) P) (q : Query) (z : AnswerTyping) (b : Branch) (E : List Ty) (Es : List (List Ty)) (e : Entry) (es : List Entry) (t u : Term) (is : e.goal ≡ Atomic t) (reduces : ReducesTo t u) (at_atom : IsAtomHead (head_of u))
+module _ {L : Leaves} (n height : ℕ) (d : Declared) (std : IsSetting L d) (P : List Clause) (program : EachOf (IsProgramTyped d) P) (q : Query)
+    (z : AnswerTyping) (b : Branch) (E : List Ty) (Es : List (List Ty)) (e : Entry) (es : List Entry) (t u : Term) (is : e.goal ≡ Atomic t)
+    (reduces : ReducesTo t u) (at_atom : IsAtomHead (head_of u))
     (typed : IsTypedBranch n d q (record { answer = z; eigens = E ∷ Es }) (with_goals b (e ∷ es))) where
   abbrev typing : BranchTyping
   typing = record { answer = z; eigens = E ∷ Es }

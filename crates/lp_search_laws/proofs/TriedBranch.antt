@@ -78,7 +78,9 @@ goals_at d std E V ts (goals g (goals x gs)) h =
     let r = both_typed d (map (instance (types_of ts)) E) (map (instance_variable (types_of ts)) V) 0 (instance_term (types_of ts) (formula_of_goal g)) (instance_term (types_of ts) (formula_of_goals (goals x gs))) (connective d std 0 (omega arith)) h in
     (r.0, goals_at d std E V ts (goals x gs) r.1)
 
-new_entries : (d : Declared) (E : List Ty) (V : List Variable) (ts : List TypeBinding) (A : List Clause) (W : Written) (level mark : ℕ) → length E ≡ level → EachOf (λ k. IsTypedAt d E V ts (formula_of_clause k)) A → (gs : List Goal) → EachOf (λ g. IsTypedAt d E V ts (formula_of_goal g)) gs → AreEntriesAt d V ts (map (λ g. E) gs) (entries gs A W level mark)
+new_entries : (d : Declared) (E : List Ty) (V : List Variable) (ts : List TypeBinding) (A : List Clause) (W : Written) (level mark : ℕ) → length E ≡
+    level → EachOf (λ k. IsTypedAt d E V ts (formula_of_clause k)) A → (gs : List Goal) → EachOf (λ g. IsTypedAt d E V ts (formula_of_goal g)) gs →
+    AreEntriesAt d V ts (map (λ g. E) gs) (entries gs A W level mark)
 new_entries d E V ts A W level mark l a [] h = tt
 new_entries d E V ts A W level mark l a (g ∷ gs) h = (record { level = l; goal = h.0; assumed = a }, new_entries d E V ts A W level mark l a gs h.1)
 
@@ -90,7 +92,9 @@ each_append : {A : Type 0} (X : A → Type 0) (xs ys : List A) → EachOf X xs �
 each_append X [] ys h k = k
 each_append X (x ∷ xs) ys h k = (h.0, each_append X xs ys h.1 k)
 
-module _ (n : ℕ) (d : Declared) (std : IsStandard d) (P : List Clause) (program : EachOf (IsProgramTyped d) P) (q : Query) (y : BranchTyping) (k : ℕ) (vs : List Ty) (h : Term) (g : Goals) (t : Term) (e : Entry) (b : Branch) (mark : ℕ) (w : IsTypedTry n d P q y (clause k vs h g) t e b) (E : List Ty) (Es : List (List Ty)) (is : y.eigens ≡ E ∷ Es) where
+module _ (n : ℕ) (d : Declared) (std : IsStandard d) (P : List Clause) (program : EachOf (IsProgramTyped d) P) (q : Query) (y : BranchTyping) (k : ℕ)
+    (vs : List Ty) (h : Term) (g : Goals) (t : Term) (e : Entry) (b : Branch) (mark : ℕ) (w : IsTypedTry n d P q y (clause k vs h g) t e b)
+    (E : List Ty) (Es : List (List Ty)) (is : y.eigens ≡ E ∷ Es) where
   abbrev ρ : ℕ → Ty
   ρ = renewed k b.next_type
 

@@ -145,7 +145,9 @@ any_each Q x (y ∷ xs) i h = elim i [ inl e ↦ transport Q e h.0 | inr j ↦ a
 pub none_renewed : (k n : ℕ) → k ≡ 0 → (i : ℕ) → renewed k n i ≡ var i
 none_renewed k n e i = let q : nat_lt i k ≡ false = grind (arith, nat_tests, e) in ap (λ b. if b then var (n + i) else var i) q
 
-module _ (n : ℕ) (d : Declared) (std : IsStandard d) (P : List Clause) (program : EachOf (IsProgramTyped d) P) (q : Query) (y : BranchTyping) (k : ℕ) (vs : List Ty) (h : Term) (g : Goals) (t : Term) (e : Entry) (b : Branch) (w : IsTypedTry n d P q y (clause k vs h g) t e b) (E : List Ty) (Es : List (List Ty)) (is : y.eigens ≡ E ∷ Es) where
+module _ (n : ℕ) (d : Declared) (std : IsStandard d) (P : List Clause) (program : EachOf (IsProgramTyped d) P) (q : Query) (y : BranchTyping) (k : ℕ)
+    (vs : List Ty) (h : Term) (g : Goals) (t : Term) (e : Entry) (b : Branch) (w : IsTypedTry n d P q y (clause k vs h g) t e b) (E : List Ty)
+    (Es : List (List Ty)) (is : y.eigens ≡ E ∷ Es) where
   abbrev V : List Variable
   V = y.answer.variables
 
@@ -197,7 +199,9 @@ module _ (n : ℕ) (d : Declared) (std : IsStandard d) (P : List Clause) (progra
       let v = w.branch.answer.variables in
       omega (arith, x, z, u, v)
 
-  pub try_comes : (m : ℕ) × (u : Unified) × (solve m unit_limit (type_pairs (head_of t) (head_of (instance_term ρ h))) (pairs_of (slotted (slots_of [] (arguments (instance_term ρ h)) (arguments t)) b.next e.level) e.level [] (arguments (instance_term ρ h)) (arguments t)) b.pairs (b.next + length vs) ≡ Some u)
+  pub try_comes : (m : ℕ) × (u : Unified) × (solve m unit_limit (type_pairs (head_of t) (head_of (instance_term ρ h)))
+      (pairs_of (slotted (slots_of [] (arguments (instance_term ρ h)) (arguments t)) b.next e.level) e.level [] (arguments (instance_term ρ h))
+      (arguments t)) b.pairs (b.next + length vs) ≡ Some u)
   try_comes =
       let us = map (instance ρ) vs in
       let h' = instance_term ρ h in

@@ -98,7 +98,9 @@ same_clause M a o ρ vs h g B e f v p q =
       goals = ap (closed a) (goals_inside (instance_term ρ) (instance ρ) (types_inside ρ) zero g) ∙ term (formula_of_goals g) (goals_below M B g q);
     }
 
-pub applies_on : {L : Leaves} (d : Declared) (F : List Ty) (R : List ClauseFormula) (a o : Closing) (ρ : ℕ → Ty) (vs : List Ty) (h : Term) (g : Goals) (A A' : Term) → SameClause a o ρ vs h g → A ≡ A' → Applies L d F R o vs h g A → Applies L d F R a (map (instance ρ) vs) (instance_term ρ h) (type_goals ρ g) A'
+pub applies_on : {L : Leaves} (d : Declared) (F : List Ty) (R : List ClauseFormula) (a o : Closing) (ρ : ℕ → Ty) (vs : List Ty) (h : Term) (g : Goals)
+    (A A' : Term) → SameClause a o ρ vs h g → A ≡ A' → Applies L d F R o vs h g A → Applies L d F R a (map (instance ρ) vs) (instance_term ρ h)
+    (type_goals ρ g) A'
 applies_on {L} d F R a o ρ vs h g A A' s e w = record {
   values = w.values;
   witnesses = transport (AreWitnessesAt d F w.values) (sym s.vars) w.witnesses;

@@ -40,7 +40,9 @@ use Rattle.lp_search_laws.proofs.Resumed.{IsSame, AreSame, same_assumed, same_pr
 use Rattle.lp_search_laws.proofs.TryMatches.{any_each, try_matches}
 use Rattle.lp_search_laws.proofs.TrySolved.{with_types, with_old, with_new, with_closed, types_given, given_long, given_closed, given_type, MayHave, renewed_types, same_clause, applies_on, applies_back}
 
-split_entries : (L : Leaves) (d : Declared) (P : List Clause) (c : Closing) (E : List Ty) (Es : List (List Ty)) (A : List Clause) (W : Written) (level mark : ℕ) (gs : List Goal) (es : List Entry) → AreProved L d P c (each_at E gs ++ Es) (entries gs A W level mark ++ es) → AreProved L d P c (each_at E gs) (entries gs A W level mark) × AreProved L d P c Es es
+split_entries : (L : Leaves) (d : Declared) (P : List Clause) (c : Closing) (E : List Ty) (Es : List (List Ty)) (A : List Clause) (W : Written)
+    (level mark : ℕ) (gs : List Goal) (es : List Entry) → AreProved L d P c (each_at E gs ++ Es) (entries gs A W level mark ++ es) → AreProved L d P c
+    (each_at E gs) (entries gs A W level mark) × AreProved L d P c Es es
 split_entries L d P c E Es A W l m [] es h = (tt, h)
 split_entries L d P c E Es A W l m (g ∷ gs) es h = let r = split_entries _ d P c E Es A W l m gs es h.1 in ((h.0, r.0), r.1)
 
@@ -85,7 +87,9 @@ entries_same d j V c z a f (E ∷ Es) (e ∷ es) t p = (
   entries_same d j V c z a f Es es t.1 p.1,
 )
 
-module _ {L : Leaves} (n : ℕ) (d : Declared) (std : IsSetting L d) (P : List Clause) (program : EachOf (IsProgramTyped d) P) (q : Query) (y : BranchTyping) (k : ℕ) (vs : List Ty) (h : Term) (g : Goals) (t : Term) (e : Entry) (b : Branch) (mark : ℕ) (w : IsTypedTry n d P q y (clause k vs h g) t e b) (E : List Ty) (Es : List (List Ty)) (is : y.eigens ≡ E ∷ Es) where
+module _ {L : Leaves} (n : ℕ) (d : Declared) (std : IsSetting L d) (P : List Clause) (program : EachOf (IsProgramTyped d) P) (q : Query)
+    (y : BranchTyping) (k : ℕ) (vs : List Ty) (h : Term) (g : Goals) (t : Term) (e : Entry) (b : Branch) (mark : ℕ)
+    (w : IsTypedTry n d P q y (clause k vs h g) t e b) (E : List Ty) (Es : List (List Ty)) (is : y.eigens ≡ E ∷ Es) where
   abbrev V : List Variable
   V = y.answer.variables
 

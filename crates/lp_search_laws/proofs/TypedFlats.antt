@@ -295,7 +295,9 @@ module _ (d : Declared) (std : IsStandard d) (k : ℕ) where
     clause_fine zero B c vs body cs Γ e m o h = absurd (cc)
     clause_fine (suc n) B c vs body cs Γ e m o h = clause_form_fine n B c (connective_of c) (form_shape c) vs body cs Γ e m o h
 
-    clause_form_fine : (n : ℕ) (B : List Bool) (c : Term) (f : Connective) → Shape f c → (vs : List Ty) (body : List Term) (cs : Clauses) (Γ : List Ty) → flat_clause_form n d (falses vs ++ B) c f vs body ≡ Some cs → AreTypesBelow k vs → Over (vs ++ Γ) c → EachOf (Over (vs ++ Γ)) body → ClausesFine d k Γ B cs
+    clause_form_fine : (n : ℕ) (B : List Bool) (c : Term) (f : Connective) → Shape f c → (vs : List Ty) (body : List Term) (cs : Clauses)
+        (Γ : List Ty) → flat_clause_form n d (falses vs ++ B) c f vs body ≡ Some cs → AreTypesBelow k vs → Over (vs ++ Γ) c → EachOf (Over (vs ++ Γ))
+        body → ClausesFine d k Γ B cs
     clause_form_fine zero B c f s vs body cs Γ e m o h = absurd (cc)
     clause_form_fine (suc n) B c connective.True s vs body cs Γ e m o h = absurd (cc)
     clause_form_fine (suc n) B c connective.Cut s vs body cs Γ e m o h = absurd (cc)

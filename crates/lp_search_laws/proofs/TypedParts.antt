@@ -181,7 +181,9 @@ mutual
   pub clause_put : (k : ℕ) (B D : List Bool) (f : ℕ → Term) → MayPut k B D f → (c : Clause) → IsClause k B c → IsClause k D (map_clause lifted instantiate same_type f c)
   clause_put k B D f m (clause n vs h b) w =
       let l = put_below_all k vs B D f m in
-      transport (λ us. AreTypesBelow k us × IsClauseHead (map (λ v. false) us ++ D) (head_of (instantiate (under_all lifted vs f) h)) × IsPlainTerm k (instantiate (under_all lifted vs f) h) × AreGoals k (map (λ v. false) us ++ D) (map_goals lifted instantiate same_type (under_all lifted vs f) b)) (sym (same_types vs)) (
+      transport (λ us. AreTypesBelow k us × IsClauseHead (map (λ v. false) us ++ D) (head_of (instantiate (under_all lifted vs f) h)) × IsPlainTerm k
+      (instantiate (under_all lifted vs f) h) × AreGoals k (map (λ v. false) us ++ D)
+      (map_goals lifted instantiate same_type (under_all lifted vs f) b)) (sym (same_types vs)) (
         w.0,
         head_put k (map (λ v. false) vs ++ B) (map (λ v. false) vs ++ D) (under_all lifted vs f) l h w.1,
         term_put k (under_all lifted vs f) l.plain h w.2,

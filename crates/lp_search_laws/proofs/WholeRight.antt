@@ -104,7 +104,9 @@ filled_unnegated d q i t w =
 plainly : (d : Declared) (F : List ClauseFormula) (q : Query) → EachOf (IsPlainSentence d) F → IsPlainQuery d q → (i : Instance) → IsProvable d F q i → IsPlainlyProvable d F q i
 plainly d F q s t i p = record { types = p.types; types_closed = p.types_closed; values = p.values; proved = unnegated_plain d (length F) [] F (filled q i) (sentences d F s) (filled_unnegated d q i t p.values) p.proved }
 
-each_sound : (d : Declared) (F : List ClauseFormula) (q : Query) (xs : List TypedAnswer) → EachOf (λ a. IsWellFormed d q a.typing a.answer) xs → EachOf (λ a. (i : Instance) → IsQueryInstance d q i → IsInstance d a.typing a.answer i → IsPlainlyProvable d F q i) xs → EachOf (λ a. (i : Instance) → IsClosedInstance d a.typing a.answer i → IsProvable d F q i) xs
+each_sound : (d : Declared) (F : List ClauseFormula) (q : Query) (xs : List TypedAnswer) → EachOf (λ a. IsWellFormed d q a.typing a.answer) xs →
+    EachOf (λ a. (i : Instance) → IsQueryInstance d q i → IsInstance d a.typing a.answer i → IsPlainlyProvable d F q i) xs → EachOf
+    (λ a. (i : Instance) → IsClosedInstance d a.typing a.answer i → IsProvable d F q i) xs
 each_sound d F q [] w h = tt
 each_sound d F q (x ∷ xs) w h = (λ i c. proved d F q i (h.0 i (query_instance d q x.typing x.answer i w.0 c) (an_instance d x.typing x.answer i c)), each_sound d F q xs w.1 h.1)
 

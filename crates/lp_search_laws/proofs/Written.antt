@@ -50,7 +50,9 @@ pub record Goes {E : Type 0} (under : E → E) (term : E → Term → Term) (ty 
 
 -- what goes into filled goals and leaves their source as it is
 module _ {E : Type 0} (under : E → E) (term : E → Term → Term) (ty : Ty → Ty) (e : E) where
-  origin_filled : ((θ : ℕ → Ty) (σ : ℕ → Term) (gs : Goals) → AreTermsOf (λ t. AllAtoms IsSourceAtom t) gs → map_goals under term ty e (filled_goals θ σ gs) ≡ filled_goals (λ i. ty (θ i)) (λ i. term e (σ i)) gs) → (w : Written) (gs : Goals) → IsOrigin w gs → IsOrigin (map_written (term e) ty w) (map_goals under term ty e gs)
+  origin_filled : ((θ : ℕ → Ty) (σ : ℕ → Term) (gs : Goals) → AreTermsOf (λ t. AllAtoms IsSourceAtom t) gs → map_goals under term ty e
+      (filled_goals θ σ gs) ≡ filled_goals (λ i. ty (θ i)) (λ i. term e (σ i)) gs) → (w : Written) (gs : Goals) → IsOrigin w gs → IsOrigin
+      (map_written (term e) ty w) (map_goals under term ty e gs)
   origin_filled filled w gs o = record {
     types = λ i. ty (o.types i);
     terms = λ i. term e (o.terms i);
@@ -61,7 +63,9 @@ module _ {E : Type 0} (under : E → E) (term : E → Term → Term) (ty : Ty �
     types_written = ap (map ty) o.types_written ∙ both_mapped ty o.types (collect_goals (λ d t. type_variables_in t) 0 o.flat);
   }
 
-  clause_origin_filled : ((θ : ℕ → Ty) (σ : ℕ → Term) (cs : Clauses) → AreClausesOf (λ t. AllAtoms IsSourceAtom t) cs → map_clauses under term ty e (filled_clauses θ σ cs) ≡ filled_clauses (λ i. ty (θ i)) (λ i. term e (σ i)) cs) → (w : Written) (cs : Clauses) → IsClauseOrigin w cs → IsClauseOrigin (map_written (term e) ty w) (map_clauses under term ty e cs)
+  clause_origin_filled : ((θ : ℕ → Ty) (σ : ℕ → Term) (cs : Clauses) → AreClausesOf (λ t. AllAtoms IsSourceAtom t) cs → map_clauses under term ty e
+      (filled_clauses θ σ cs) ≡ filled_clauses (λ i. ty (θ i)) (λ i. term e (σ i)) cs) → (w : Written) (cs : Clauses) → IsClauseOrigin w cs →
+      IsClauseOrigin (map_written (term e) ty w) (map_clauses under term ty e cs)
   clause_origin_filled filled w cs o = record {
     types = λ i. ty (o.types i);
     terms = λ i. term e (o.terms i);
@@ -123,7 +127,13 @@ module _ {E : Type 0} (under : E → E) (term : E → Term → Term) (ty : Ty �
     clauses_mapped e (clauses c cs) h = (clause_mapped e c h.0, clauses_mapped e cs h.1)
 
   pub place_mapped : (e : E) (A : List Clause) (w : Written) → IsWrittenPlace A w → IsWrittenPlace (map (map_clause under term ty e) A) (map_written (term e) ty w)
-  place_mapped e A w h = record { clauses = each_map IsWrittenClause IsWrittenClause (map_clause under term ty e) (λ c k. clause_mapped e c k) A h.clauses; terms = ones_mapped e A w.terms h.terms; origins = each_map (λ c. HasOrigin c w) (λ c. HasOrigin c (map_written (term e) ty w)) (map_clause under term ty e) (λ c o. has_origin_mapped e w c o) A h.origins }
+  place_mapped e A w h = record {
+    clauses = each_map IsWrittenClause IsWrittenClause (map_clause under term ty e) (λ c k. clause_mapped e c k) A
+        h.clauses;
+    terms = ones_mapped e A w.terms h.terms;
+    origins = each_map (λ c. HasOrigin c w) (λ c. HasOrigin c (map_written (term e) ty w))
+        (map_clause under term ty e) (λ c o. has_origin_mapped e w c o) A h.origins;
+  }
 
 -- a binding whose value has no loose index
 pub put_goes : (b : Binding) → shift 0 1 b.value ≡ b.value → Goes (λ (u : ℕ). u) (λ u t. put b t) same_type
@@ -150,10 +160,25 @@ type_goes θ = record {
 }
 
 instantiate_goes : Goes lifted instantiate same_type
-instantiate_goes = record { parts = λ σ t u s. part_instantiate σ t u s; in_goals = λ σ gs. goals_instantiate σ gs; in_clause = λ σ c. clause_instantiate σ c; origin = λ γ. origin_filled lifted instantiate same_type γ (λ θ σ gs h. instantiate_filled_goals γ θ σ gs); clause_origin = λ γ. clause_origin_filled lifted instantiate same_type γ (λ θ σ cs h. instantiate_filled_clauses γ θ σ cs) }
+instantiate_goes = record {
+  parts = λ σ t u s. part_instantiate σ t u s;
+  in_goals = λ σ gs. goals_instantiate σ gs;
+  in_clause = λ σ c.
+      clause_instantiate σ c;
+  origin = λ γ. origin_filled lifted instantiate same_type γ (λ θ σ gs h. instantiate_filled_goals γ θ σ gs);
+  clause_origin = λ γ. clause_origin_filled lifted instantiate same_type γ (λ θ σ cs h. instantiate_filled_clauses γ θ σ cs);
+}
 
 raise_goes : Goes suc (λ d t. shift d 1 t) same_type
-raise_goes = record { parts = λ d t u s. part_shift d t u s; in_goals = λ d gs. goals_raise d gs; in_clause = λ d c. clause_raise d c; origin = λ d. origin_filled suc (λ d t. shift d 1 t) same_type d (λ θ σ gs h. raise_filled_goals d θ σ gs); clause_origin = λ d. clause_origin_filled suc (λ d t. shift d 1 t) same_type d (λ θ σ cs h. raise_filled_clauses d θ σ cs) }
+raise_goes = record {
+  parts = λ d t u s. part_shift d t u s;
+  in_goals = λ d gs. goals_raise d gs;
+  in_clause = λ d c. clause_raise d c;
+  origin = λ d.
+      origin_filled suc (λ d t. shift d 1 t) same_type d (λ θ σ gs h. raise_filled_goals d θ σ gs);
+  clause_origin = λ d. clause_origin_filled suc
+      (λ d t. shift d 1 t) same_type d (λ θ σ cs h. raise_filled_clauses d θ σ cs);
+}
 
 pub typed_goals : (θ : ℕ → Ty) (gs : Goals) → AreWrittenGoals gs → AreWrittenGoals (type_goals θ gs)
 typed_goals θ gs h = goals_mapped _ _ _ (type_goes θ) zero gs h
@@ -185,7 +210,19 @@ each_same P Q f (x ∷ xs) h = (f x h.0, each_same P Q f xs h.1)
 pub written_more : {A : List Clause} {w : Written} → IsWrittenPlace A w → (v : Written) (cs : Clauses) → EachOf (StandsInOne (clause_list cs)) v.terms → AreWrittenClauses cs → IsClauseOrigin v cs → IsWrittenPlace (clause_list cs ++ A) (both_written v w)
 written_more {A} {w} p v cs s k o = record {
   origins = each_append (λ c. HasOrigin c (both_written v w)) (clause_list cs) A
-      (each_same (λ c. AnyOf (λ x. x ≡ c) (clause_list cs)) (λ c. HasOrigin c (both_written v w)) (λ c i. record { group = cs; written = v; origin = o; among = i; terms_before = []; terms_behind = w.terms; terms = refl; types_before = []; types_behind = w.types; types = refl }) (clause_list cs) (each_among (clause_list cs)))
+      (each_same (λ c. AnyOf (λ x. x ≡ c) (clause_list cs)) (λ c. HasOrigin c (both_written v w))
+      (λ c i. record {
+        group = cs;
+        written = v;
+        origin = o;
+        among = i;
+        terms_before = [];
+        terms_behind = w.terms;
+        terms = refl;
+        types_before = [];
+        types_behind = w.types;
+        types = refl;
+      }) (clause_list cs) (each_among (clause_list cs)))
       (each_same (λ c. HasOrigin c w) (λ c. HasOrigin c (both_written v w)) (λ c h. more_behind c h) A p.origins);
   clauses = each_append IsWrittenClause (clause_list cs) A (clauses_each cs k) p.clauses;
   terms = each_append (StandsInOne (clause_list cs ++ A)) v.terms w.terms

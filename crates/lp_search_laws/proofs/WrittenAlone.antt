@@ -141,7 +141,10 @@ module _ (c z : Closing) (types : z.types ≡ c.types) where
       let l : loose_in 0 (fill F x) ≡ loose_in 0 t = loose_filled F named by_first 0 x v ∙ loose_instance θ 0 t in
       let p : closed c (filled_term θ σ t) ≡ instantiate (λ i. fill F (σ i)) (fill F x) = closed_fill c (filled_term θ σ t) ∙ source_filled F named by_first σ x v in
       let q : closed z (filled_term θ σ t) ≡ instantiate (λ i. fill G (σ i)) (fill F x) = closed_fill z (filled_term θ σ t) ∙ source_filled G named by_second σ x v ∙ ap (instantiate (λ i. fill G (σ i))) (same_filled G F (λ a s. by_second a s ∙ sym (by_first a s)) x v) in
-      let each = each_same (λ i. Agree (σ i)) (AtLoose 0 (λ i. fill F (σ i)) (λ i. fill G (σ i))) (λ i r. let e : i ≡ 0 + i = omega arith in transport (λ k. Converts (fill F (σ k)) (fill G (σ k))) e (transport (λ k. Converts k (fill G (σ i))) (closed_fill c (σ i)) (transport (Converts (closed c (σ i))) (closed_fill z (σ i)) r))) (loose_in 0 t) h in
+      let each = each_same (λ i. Agree (σ i)) (AtLoose 0 (λ i. fill F (σ i)) (λ i. fill G (σ i)))
+      (λ i r. let e : i ≡ 0 + i = omega arith in transport (λ k. Converts (fill F (σ k)) (fill G (σ k))) e
+      (transport (λ k. Converts k (fill G (σ i))) (closed_fill c (σ i)) (transport (Converts (closed c (σ i))) (closed_fill z (σ i)) r)))
+      (loose_in 0 t) h in
       let r = loose_alike 0 (λ i. fill F (σ i)) (λ i. fill G (σ i)) (λ k b. absurd (omega (arith, b))) (fill F x) (transport (EachOf (AtLoose 0 (λ i. fill F (σ i)) (λ i. fill G (σ i)))) (sym l) each) in
       converts_on (converts_is p) (converts_on r (converts_is (sym q)))
 
@@ -151,7 +154,9 @@ module _ (P : ℕ → Type 0) where
   all_loose [] d t = refl
   all_loose (v ∷ vs) d t = all_loose vs d (pi_of v (abs t))
 
-  loose_clause : (d n : ℕ) (vs : List Ty) (x : Term) (b : Goals) → (EachOf P (collect_goals loose_in (under_all suc vs d) b) → EachOf P (loose_in (under_all suc vs d) (formula_of_goals b))) → EachOf P (loose_in (under_all suc vs d) x ++ collect_goals loose_in (under_all suc vs d) b) → EachOf P (loose_in d (formula_of_clause (clause n vs x b)))
+  loose_clause : (d n : ℕ) (vs : List Ty) (x : Term) (b : Goals) → (EachOf P (collect_goals loose_in (under_all suc vs d) b) → EachOf P
+      (loose_in (under_all suc vs d) (formula_of_goals b))) → EachOf P (loose_in (under_all suc vs d) x ++ collect_goals loose_in (under_all suc vs d)
+      b) → EachOf P (loose_in d (formula_of_clause (clause n vs x b)))
   loose_clause d n vs x no_goals f h = transport (EachOf P) (sym (all_loose vs d x)) (each_parts P (loose_in (under_all suc vs d) x) [] h).0
   loose_clause d n vs x (goals g gs) f h =
       let e = under_all suc vs d in

@@ -94,7 +94,9 @@ mutual
   in_clauses d no_clauses = tt
   in_clauses d (clauses (clause n vs h b) no_clauses) = each_append (Here d (formula_of_clause (clause n vs h b))) (loose_in (under_all suc vs d) h ++ collect_goals loose_in (under_all suc vs d) b) [] (in_clause d n vs h b (in_goals (under_all suc vs d) b)) tt
   in_clauses d (clauses (clause n vs h b) (clauses e cs)) =
-      both 0 d (formula_of_clause (clause n vs h b)) (formula_of_clauses (clauses e cs)) (loose_in (under_all suc vs d) h ++ collect_goals loose_in (under_all suc vs d) b) (collect_clauses loose_in d (clauses e cs)) (in_clause d n vs h b (in_goals (under_all suc vs d) b)) (in_clauses d (clauses e cs))
+      both 0 d (formula_of_clause (clause n vs h b)) (formula_of_clauses (clauses e cs))
+      (loose_in (under_all suc vs d) h ++ collect_goals loose_in (under_all suc vs d) b) (collect_clauses loose_in d (clauses e cs))
+      (in_clause d n vs h b (in_goals (under_all suc vs d) b)) (in_clauses d (clauses e cs))
 
 in_each : (d : ℕ) (cs : Clauses) → EachOf (InOne d (clause_list cs)) (collect_clauses loose_in d cs)
 in_each d no_clauses = tt
@@ -102,7 +104,9 @@ in_each d (clauses (clause n vs h b) cs) =
     let c = clause n vs h b in
     let is = loose_in (under_all suc vs d) h ++ collect_goals loose_in (under_all suc vs d) b in
     let js = collect_clauses loose_in d cs in
-    each_append (InOne d (c ∷ clause_list cs)) is js (each_same (Here d (formula_of_clause c)) (InOne d (c ∷ clause_list cs)) (λ i x. inl x) is (in_clause d n vs h b (in_goals (under_all suc vs d) b))) (each_same (InOne d (clause_list cs)) (InOne d (c ∷ clause_list cs)) (λ i x. inr x) js (in_each d cs))
+    each_append (InOne d (c ∷ clause_list cs)) is js (each_same (Here d (formula_of_clause c)) (InOne d (c ∷ clause_list cs)) (λ i x. inl x) is
+    (in_clause d n vs h b (in_goals (under_all suc vs d) b))) (each_same (InOne d (clause_list cs)) (InOne d (c ∷ clause_list cs)) (λ i x. inr x)
+    js (in_each d cs))
 
 none_more : (i : ℕ) → 0 + i ≡ i
 none_more i = omega arith

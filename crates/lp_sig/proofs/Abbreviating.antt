@@ -207,7 +207,9 @@ module _ (uses : List (List Way)) (z : Seen) (n : List ℕ) (p : ℕ) (w : List 
 
   later_known : is_known n z.said ≡ true → later z.said ((n, an_abbreviation p) ∷ []) ≡ []
   unfolding later
-  later_known h = ap (λ t. names_in (abbreviations_among (if t then [] else (n, an_abbreviation p) ∷ []))) (⊎_elim (λ e. still_known n (names_in standard_kinds) z.said e) (λ e. said_known n (names_in standard_kinds) z.said e) (or_cases (is_among n (names_in standard_kinds)) (is_among n (names_in z.said)) h))
+  later_known h = ap (λ t. names_in (abbreviations_among (if t then [] else (n, an_abbreviation p) ∷ [])))
+      (⊎_elim (λ e. still_known n (names_in standard_kinds) z.said e) (λ e. said_known n (names_in standard_kinds) z.said e)
+      (or_cases (is_among n (names_in standard_kinds)) (is_among n (names_in z.said)) h))
 
   names_again : is_known n z.said ≡ true → abbreviation_names (z.said ++ (n, an_abbreviation p) ∷ []) ≡ abbreviation_names z.said
   names_again h = one_later [] (later_known h) ∙ append-nil (abbreviation_names z.said)
@@ -448,7 +450,9 @@ names_fresh said n p h =
     ap names_in (ap abbreviations_among (declared_new said (n, an_abbreviation p) h) ∙ heads_append (declared_names said) ((n, an_abbreviation p) ∷ [])) ∙ names_append (abbreviations_among (declared_names said)) ((n, p) ∷ [])
 
 -- names of one list that are among those of another, with one more of each
-pub told_more : {A B : Type 0} (xs : List (Row A)) (ys : List (Row B)) (n : List ℕ) (a : A) (b : B) → ((m : List ℕ) → is_among m (names_in xs) ≡ true → is_among m (names_in ys) ≡ true) → (m : List ℕ) → is_among m (names_in (xs ++ (n, a) ∷ [])) ≡ true → is_among m (names_in (ys ++ (n, b) ∷ [])) ≡ true
+pub told_more : {A B : Type 0} (xs : List (Row A)) (ys : List (Row B)) (n : List ℕ) (a : A) (b : B) →
+    ((m : List ℕ) → is_among m (names_in xs) ≡ true → is_among m (names_in ys) ≡ true) → (m : List ℕ) → is_among m (names_in (xs ++ (n, a) ∷ [])) ≡
+    true → is_among m (names_in (ys ++ (n, b) ∷ [])) ≡ true
 told_more xs ys n a b f m h =
     ap (is_among m) (names_append ys ((n, b) ∷ [])) ∙ among_append m (names_in ys) (n ∷ []) ∙
     ⊎_elim (λ e. or_left (is_among m (names_in ys)) (is_among m (n ∷ [])) (f m e)) (λ e. or_right (is_among m (names_in ys)) (is_among m (n ∷ [])) e)

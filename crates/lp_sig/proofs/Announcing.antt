@@ -41,7 +41,9 @@ place_front : (name : List ℕ) (ns ms : List (List ℕ)) (i : ℕ) → first_pl
 place_front name [] ms i e h = absurd (omega (arith, h))
 place_front name (n ∷ ns) ms i e h = by (λ j f l. place_front name ns ms j f l) (bytes_eq name n) (first_place name (ns ++ ms)) refl e
   where
-    by : ((j : ℕ) → first_place name (ns ++ ms) ≡ Some j → j < length ns → first_place name ns ≡ Some j) → (t : Bool) (o : Option ℕ) → first_place name (ns ++ ms) ≡ o → (if t then Some 0 else option_map (λ i. suc i) o) ≡ Some i → (if t then Some 0 else option_map (λ i. suc i) (first_place name ns)) ≡ Some i
+    by : ((j : ℕ) → first_place name (ns ++ ms) ≡ Some j → j < length ns → first_place name ns ≡ Some j) → (t : Bool) (o : Option ℕ) → first_place
+        name (ns ++ ms) ≡ o → (if t then Some 0 else option_map (λ i. suc i) o) ≡ Some i →
+        (if t then Some 0 else option_map (λ i. suc i) (first_place name ns)) ≡ Some i
     by f true o p e = e
     by f false None p e = absurd (cc)
     by f false (Some j) p e = let s : suc j ≡ i = same_Some (suc j) i e in ap (option_map (λ i. suc i)) (f j p (omega (arith, s, h))) ∙ e
@@ -70,7 +72,9 @@ found_new {A} n (r ∷ rs) a h = by (found_new n rs a) (bytes_eq n r.0) h
 
 -- no new abbreviation
 module _ (b : Nodes) (bodies : List Body) (said : List (Row Said)) (defs : List (Row Definition)) (text : List ℕ) (declared : ℕ → Option Declaration) (k : KnowsBodies b bodies said defs text declared) where
-  same_names : (more : List (Row Said)) (others : List (Row Definition)) → abbreviation_names (said ++ more) ≡ abbreviation_names said → ((n : List ℕ) → is_among n (names_in (defs ++ others)) ≡ true → is_among n (names_in (said ++ more)) ≡ true) → KnowsBodies b bodies (said ++ more) (defs ++ others) text declared
+  same_names : (more : List (Row Said)) (others : List (Row Definition)) → abbreviation_names (said ++ more) ≡ abbreviation_names said →
+      ((n : List ℕ) → is_among n (names_in (defs ++ others)) ≡ true → is_among n (names_in (said ++ more)) ≡ true) → KnowsBodies b bodies
+      (said ++ more) (defs ++ others) text declared
   same_names more others same told = record {
     holds = λ name place id at is. let h = k.holds name place id (ap (first_place name) (sym same) ∙ at) is in (h.0, body_stays said more defs others name (type_tree b id.0) h.1);
     lines = λ name place line s ps ty at is d. found_more name defs others (record { text = text; parameters = ps.items; body = ty }) (k.lines name place line s ps ty (ap (first_place name) (sym same) ∙ at) is d);
@@ -116,7 +120,9 @@ module _ (b : Nodes) (bodies : List Body) (said : List (Row Said)) (defs : List 
     holds_new : HoldsBodies b new (said ++ (n, an_abbreviation p) ∷ []) (defs ++ (n, definition) ∷ [])
     holds_new = λ name place id at is. by name place id at (last_some (map (λ b. b.body) bodies) None place id (ap (λ l. slice_index_or l place None) (sym (map-append (λ b. b.body) bodies (record { body = None; line = Some line } ∷ []))) ∙ ap (λ bs. body_of bs place) (sym one) ∙ is))
       where
-        by : (name : List ℕ) (place : ℕ) (id : TypeId) → first_place name (abbreviation_names (said ++ (n, an_abbreviation p) ∷ [])) ≡ Some place → ((get_or (map (λ b. b.body) bodies) place None ≡ Some id) × (place < length (map (λ b. b.body) bodies))) ⊎ ((place ≡ length (map (λ b. b.body) bodies)) × (None ≡ Some id)) →
+        by : (name : List ℕ) (place : ℕ) (id : TypeId) → first_place name (abbreviation_names (said ++ (n, an_abbreviation p) ∷ [])) ≡ Some place →
+            ((get_or (map (λ b. b.body) bodies) place None ≡ Some id) × (place < length (map (λ b. b.body) bodies))) ⊎
+            ((place ≡ length (map (λ b. b.body) bodies)) × (None ≡ Some id)) →
             IsTree b (HasBody (said ++ (n, an_abbreviation p) ∷ []) (defs ++ (n, definition) ∷ []) name) id
         by name place id at (inl q) =
             let l = q.1 in
@@ -182,7 +188,9 @@ line_there [] i d h is = absurd (omega (arith, h))
 line_there (x ∷ xs) zero d h is = ap (λ d. Some d) (sym is)
 line_there (x ∷ xs) (suc i) d h is = line_there xs i d (omega (arith, h)) is
 
-pub abbreviation_announced : (b : Nodes) (bodies : List Body) (said : List (Row Said)) (defs : List (Row Definition)) (text : List ℕ) (declared : ℕ → Option Declaration) (d : Declaration) (s : Spot) (ps : Vec Spot Global) (ty : RawType) (p : ℕ) → d ≡ declaration.Abbreviation s ps ty → p ≡ length ps.items →
+pub abbreviation_announced : (b : Nodes) (bodies : List Body) (said : List (Row Said)) (defs : List (Row Definition)) (text : List ℕ)
+    (declared : ℕ → Option Declaration) (d : Declaration) (s : Spot) (ps : Vec Spot Global) (ty : RawType) (p : ℕ) → d ≡ declaration.Abbreviation s ps
+    ty → p ≡ length ps.items →
     KnowsBodies b bodies (said ++ (spelled text s, an_abbreviation p) ∷ []) (defs ++ (spelled text s, record { text = text; parameters = ps.items; body = ty }) ∷ []) text declared → KnowsBodies b bodies (said ++ said_by text d) (defs ++ definitions_by text d) text declared
 abbreviation_announced b bodies said defs text declared d s ps ty p is same k =
     subst (λ d. KnowsBodies b bodies (said ++ said_by text d) (defs ++ definitions_by text d) text declared) (sym is)
@@ -210,7 +218,9 @@ module _ (from : ℕ) (bodies : List Body) (said more : List (Row Said)) (text :
       let a = all place f l in
       record { line = a.line; at_line = a.at_line; name = a.name; parameters = a.parameters; body = a.body; declares = a.declares; its_place = ap (first_place (spelled text a.name)) same ∙ a.its_place }
 
-  pub new_announced : (new : List Body) (s : Spot) (ps : Vec Spot Global) (ty : RawType) (line : ℕ) → new ≡ bodies ++ record { body = None; line = Some line } ∷ [] → declared line ≡ Some (declaration.Abbreviation s ps ty) → abbreviation_names (said ++ more) ≡ abbreviation_names said ++ spelled text s ∷ [] →
+  pub new_announced : (new : List Body) (s : Spot) (ps : Vec Spot Global) (ty : RawType) (line : ℕ) → new ≡ bodies ++ record
+      { body = None; line = Some line } ∷ [] → declared line ≡ Some (declaration.Abbreviation s ps ty) → abbreviation_names (said ++ more) ≡
+      abbreviation_names said ++ spelled text s ∷ [] →
       first_place (spelled text s) (abbreviation_names said ++ spelled text s ∷ []) ≡ Some (length (abbreviation_names said)) → length bodies ≡ length (abbreviation_names said) → AreAnnounced from new (said ++ more) text declared
   new_announced new s ps ty line one there names last count place f l = ⊎_elim (λ h. old h) (λ e. this e) (before_or_at (length bodies) place below)
     where

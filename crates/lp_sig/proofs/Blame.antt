@@ -29,7 +29,9 @@ both_ok (Ok x) P Q p q = (p, q)
 both_ok (Err e) P Q p q = tt
 
 -- a line at fault, where those before it pass no limit and have no fault
-pub line_at_fault : (text : List ℕ) (from : ℕ) (z : Seen) (rows : List (Row Written)) (lines ds : List Declaration) (i : ℕ) (d : Declaration) (e : SigFault) → ds ≡ lines → i < length ds → d ≡ get_or ds i d → AreWithin text (take i lines) → AreSound from text z (take i lines) → AreTakenConstants from z rows (constants_in text (take i lines)) →
+pub line_at_fault : (text : List ℕ) (from : ℕ) (z : Seen) (rows : List (Row Written)) (lines ds : List Declaration) (i : ℕ) (d : Declaration)
+    (e : SigFault) → ds ≡ lines → i < length ds → d ≡ get_or ds i d → AreWithin text (take i lines) → AreSound from text z (take i lines) →
+    AreTakenConstants from z rows (constants_in text (take i lines)) →
     IsSentenceFault from text z (rows ++ constants_in text (take i lines)) d e → IsFaultIn text from z rows lines e
 line_at_fault text from z rows lines ds i d e same h at before sound constants why = inr (record { k = i; line = d; at_line = subst (λ l. IsAt l i d) same (h, sym at); why = why; before = before; sound = sound; constants = constants })
 
@@ -52,7 +54,9 @@ pub within_all : (text : List ℕ) (lines ds : List Declaration) (i : ℕ) → d
 within_all text lines ds i same h all = subst (AreWithin text) (take_all i lines (subst (λ l. length l ≤ i) same h)) all
 
 pub text_taken : (sources : List (Vec ℕ Global)) (texts : List SignatureText) (z : Seen) (rows : List (Row Written)) (i : ℕ) (source : Vec ℕ Global) (text : SignatureText) (bytes : List ℕ) → bytes ≡ source.items → IsAt sources i source → IsAt texts i text →
-    AreWithin bytes text.lines.items → AreSound (seen_count z) bytes (seen_text z bytes text.lines.items) text.lines.items → AreTakenConstants (seen_count z) (seen_text z bytes text.lines.items) rows (constants_in bytes text.lines.items) → AllStand (seen_count z) (seen_text z bytes text.lines.items) → AreTaken sources texts z rows i
+    AreWithin bytes text.lines.items → AreSound (seen_count z) bytes (seen_text z bytes text.lines.items) text.lines.items → AreTakenConstants
+    (seen_count z) (seen_text z bytes text.lines.items) rows (constants_in bytes text.lines.items) → AllStand (seen_count z)
+    (seen_text z bytes text.lines.items) → AreTaken sources texts z rows i
 text_taken sources texts z rows i source text bytes same a b f g h s = record {
   source = source;
   text = text;
@@ -132,7 +136,9 @@ module _ (names : List (String Global)) (sources : List (Vec ℕ Global)) (texts
   circle root steps (fault.Header s) order h = absurd h
 
   -- one more step is taken
-  pub taken_more : (steps : List Step) (k : ℕ) (d : Step) → k < length steps → AreStepsTaken names sources texts steps k → IsStepTaken names sources texts (seen_before names sources texts steps k) (constants_before names sources texts steps k) (get_or steps k d) → AreStepsTaken names sources texts steps (k + 1)
+  pub taken_more : (steps : List Step) (k : ℕ) (d : Step) → k < length steps → AreStepsTaken names sources texts steps k → IsStepTaken names sources
+      texts (seen_before names sources texts steps k) (constants_before names sources texts steps k) (get_or steps k d) → AreStepsTaken names sources
+      texts steps (k + 1)
   taken_more steps k d h before this j s l at = by (nat_le k j) refl
     where
       by : (t : Bool) → nat_le k j ≡ t → IsStepTaken names sources texts (seen_before names sources texts steps j) (constants_before names sources texts steps j) s

@@ -140,7 +140,9 @@ module _ (P : ℕ → Row Written → Constant → Type 0) (named : (n : ℕ) (r
       same : (t : Bool) → bytes_eq name x.name.items ≡ t → bytes_eq name r.0 ≡ t
       same t f = ap (bytes_eq name) (sym (named n r x h.0)) ∙ f
 
-      by : ((i : ℕ) → first_place name (map (λ c. c.name.items) cs) ≡ Some i → c ≡ get_or cs i c → IsOfFirst name rs c) → (t : Bool) → bytes_eq name x.name.items ≡ t → (o : Option ℕ) → first_place name (map (λ c. c.name.items) cs) ≡ o → (i : ℕ) → (if t then Some 0 else option_map (λ i. suc i) o) ≡ Some i → c ≡ get_or (x ∷ cs) i c → IsOfFirst name (r ∷ rs) c
+      by : ((i : ℕ) → first_place name (map (λ c. c.name.items) cs) ≡ Some i → c ≡ get_or cs i c → IsOfFirst name rs c) → (t : Bool) → bytes_eq name
+          x.name.items ≡ t → (o : Option ℕ) → first_place name (map (λ c. c.name.items) cs) ≡ o → (i : ℕ) →
+          (if t then Some 0 else option_map (λ i. suc i) o) ≡ Some i → c ≡ get_or (x ∷ cs) i c → IsOfFirst name (r ∷ rs) c
       by deeper true f o g zero e is = (n, r, ap (λ b. cond b (Some r.1) (found name rs)) (same true f), subst (P n r) (sym is) h.0)
       by deeper true f o g (suc i) e is = absurd (cc)
       by deeper false f None g i e is = absurd (cc)
@@ -202,7 +204,9 @@ known_again b constants said defs rows r h k = record {
   places = k.places;
 }
 
-pub known_typed_again : (b : Nodes) (constants : Constants) (said : List (Row Said)) (defs : List (Row Definition)) (rows : List (Row Written)) (r : Row Written) (t : Ty) → HasType said defs rows r.0 t → KnowsConstants b constants said defs rows → KnowsConstants b constants said defs (rows ++ r ∷ [])
+pub known_typed_again : (b : Nodes) (constants : Constants) (said : List (Row Said)) (defs : List (Row Definition)) (rows : List (Row Written))
+    (r : Row Written) (t : Ty) → HasType said defs rows r.0 t → KnowsConstants b constants said defs rows → KnowsConstants b constants said defs
+    (rows ++ r ∷ [])
 known_typed_again b constants said defs rows r t h k = known_again b constants said defs rows r (typed_declared said defs rows r.0 t h) k
 
 pub has_more : (said : List (Row Said)) (defs : List (Row Definition)) (rows more : List (Row Written)) (name : List ℕ) (t : Ty) → HasType said defs rows name t → HasType said defs (rows ++ more) name t

@@ -55,8 +55,12 @@ module _ (from : ℕ) (text : List ℕ) (z : Seen) (rows : List (Row Written)) (
     refused_name e short sound few (inr r) = constants.bad_name short sound (r.2 from z rows (written_in text ty) known_now (it_typed r.0 r.1) (as_typed declared (λ d. d.type_vars ≤ 255) few r.0 r.1) given)
 
     pub declared_all : {T E : Type 0} (r : Result T E) (after : Constants) → (TypeStands from z text ty → is_some declared ≡ true) →
-        OnOk r ((from : ℕ) (z : Seen) (rows : List (Row Written)) (w : Written) → KnowsConstants now known z.said z.definitions rows → IfTyped declared (IsTyped now z.said z.definitions w) → AreTypedIf from z rows known → (TypeStands from z w.text w.raw → is_some declared ≡ true) → AreTypedIf from z (rows ++ each text w names) after) →
-        OnOk r ((from : ℕ) (z : Seen) (rows : List (Row Written)) (w : Written) → KnowsConstants now known z.said z.definitions rows → IfTyped declared (IsTyped now z.said z.definitions w) → AreTypedIf from z rows known → (TypeStands from z w.text w.raw → is_some declared ≡ true) → AreTakenConstants from z rows (each text w names)) →
+        OnOk r ((from : ℕ) (z : Seen) (rows : List (Row Written)) (w : Written) → KnowsConstants now known z.said z.definitions rows → IfTyped
+        declared (IsTyped now z.said z.definitions w) → AreTypedIf from z rows known → (TypeStands from z w.text w.raw → is_some declared ≡ true)
+        → AreTypedIf from z (rows ++ each text w names) after) →
+        OnOk r ((from : ℕ) (z : Seen) (rows : List (Row Written)) (w : Written) → KnowsConstants now known z.said z.definitions rows → IfTyped
+        declared (IsTyped now z.said z.definitions w) → AreTypedIf from z rows known → (TypeStands from z w.text w.raw → is_some declared ≡ true)
+        → AreTakenConstants from z rows (each text w names)) →
         IfOk r (λ done. AreTypedIf from z (rows ++ each text (written_in text ty) names) after × AreTakenConstants from z rows (each text (written_in text ty) names))
     declared_all (Err e) after some f g = tt
     declared_all (Ok x) after some f g = (f from z rows (written_in text ty) known_now it_typed given some, g from z rows (written_in text ty) known_now it_typed given some)

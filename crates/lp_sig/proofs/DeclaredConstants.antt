@@ -31,7 +31,9 @@ module _ (b : Nodes) (known : Constants) (said : List (Row Said)) (defs : List (
   pub nothing_declared : (l d : Declaration) → l ≡ d → constants_by text d ≡ [] → KnowsConstants b known said defs rows → KnowsConstants b known said defs (rows ++ constants_by text l)
   nothing_declared l d is none k = subst (KnowsConstants b known said defs) (sym (append-nil rows) ∙ ap (λ z. rows ++ z) (sym none) ∙ ap (λ l. rows ++ constants_by text l) (sym is)) k
 
-  pub its_constants : (l : Declaration) (names : Vec Spot Global) (slice : List Spot) (ty : RawType) → l ≡ declaration.Constants names ty → slice ≡ names.items → KnowsConstants b known said defs (rows ++ each text (written_in text ty) slice) → KnowsConstants b known said defs (rows ++ constants_by text l)
+  pub its_constants : (l : Declaration) (names : Vec Spot Global) (slice : List Spot) (ty : RawType) → l ≡ declaration.Constants names ty → slice ≡
+      names.items → KnowsConstants b known said defs (rows ++ each text (written_in text ty) slice) → KnowsConstants b known said defs
+      (rows ++ constants_by text l)
   its_constants l names slice ty is same k =
       subst (λ l. KnowsConstants b known said defs (rows ++ constants_by text l)) (sym is) (subst (λ s. KnowsConstants b known said defs (rows ++ each text (written_in text ty) s)) same k)
 
@@ -78,9 +80,13 @@ step_rows sources texts (Declare i) rows = text_rows sources texts i rows
 -- one more step, and all steps
 module _ (names : List (String Global)) (sources : List (Vec ℕ Global)) (texts : List SignatureText) (steps : List Step) (k : ℕ) where
   pub step_declares : (d : Step) → k < length steps → (old new : Making) → KnowsSeen old (seen_before names sources texts steps k) →
-      KnowsConstants old.bodies.types.bank old.constants (seen_before names sources texts steps k).said (seen_before names sources texts steps k).definitions (constants_before names sources texts steps k) → AreAllTyped old (seen_before names sources texts steps k) (constants_before names sources texts steps k) →
+      KnowsConstants old.bodies.types.bank old.constants (seen_before names sources texts steps k).said
+      (seen_before names sources texts steps k).definitions (constants_before names sources texts steps k) → AreAllTyped old
+      (seen_before names sources texts steps k) (constants_before names sources texts steps k) →
       Declares old new (of_step one_text sources texts (get_or steps k d)) →
-      KnowsConstants new.bodies.types.bank new.constants (seen_before names sources texts steps (k + 1)).said (seen_before names sources texts steps (k + 1)).definitions (constants_before names sources texts steps (k + 1)) × AreAllTyped new (seen_before names sources texts steps (k + 1)) (constants_before names sources texts steps (k + 1))
+      KnowsConstants new.bodies.types.bank new.constants (seen_before names sources texts steps (k + 1)).said
+      (seen_before names sources texts steps (k + 1)).definitions (constants_before names sources texts steps (k + 1)) × AreAllTyped new
+      (seen_before names sources texts steps (k + 1)) (constants_before names sources texts steps (k + 1))
   step_declares d h old new a c t f =
       let z = seen_before names sources texts steps k in
       let rows = constants_before names sources texts steps k in

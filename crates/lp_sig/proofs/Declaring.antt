@@ -52,7 +52,9 @@ module _ (b now : Nodes) (self : Constants) (word name : List ℕ) (k : Known) (
   )
 
   pub new_known : (made : Constants) (declared : Option DeclaredType) → k ≡ known.New →
-      ((b : Nodes) (said : List (Row Said)) (defs : List (Row Definition)) (rows : List (Row Written)) (w : Written) → KnowsConstants b self said defs rows → IsKnownAs b said defs rows word known.New → IfTyped declared (IsTyped b said defs w) → KnowsConstants b made said defs (rows ++ (word, w) ∷ [])) →
+      ((b : Nodes) (said : List (Row Said)) (defs : List (Row Definition)) (rows : List (Row Written)) (w : Written) → KnowsConstants b self said defs
+      rows → IsKnownAs b said defs rows word known.New → IfTyped declared (IsTyped b said defs w) → KnowsConstants b made said defs
+      (rows ++ (word, w) ∷ [])) →
       (said : List (Row Said)) (defs : List (Row Definition)) (rows : List (Row Written)) (w : Written) → KnowsConstants b self said defs rows → IfTyped declared (IsTyped b said defs w) → KnowsConstants now made said defs (rows ++ (name, w) ∷ [])
   new_known made declared is added said defs rows w h t =
       subst (λ n. KnowsConstants now made said defs (rows ++ (n, w) ∷ [])) same

@@ -30,7 +30,9 @@ unfolding or
 first_more name n [] = refl
 first_more name n (m ∷ ms) = by (first_more name n ms) (bytes_eq name m)
   where
-    by : first_place name (ms ++ n ∷ []) ≡ or (first_place name ms) (if bytes_eq name n then Some (length ms) else None) → (t : Bool) → (if t then Some 0 else option_map (λ i. suc i) (first_place name (ms ++ n ∷ []))) ≡ or (if t then Some 0 else option_map (λ i. suc i) (first_place name ms)) (if bytes_eq name n then Some (suc (length ms)) else None)
+    by : first_place name (ms ++ n ∷ []) ≡ or (first_place name ms) (if bytes_eq name n then Some (length ms) else None) → (t : Bool) →
+        (if t then Some 0 else option_map (λ i. suc i) (first_place name (ms ++ n ∷ []))) ≡ or
+        (if t then Some 0 else option_map (λ i. suc i) (first_place name ms)) (if bytes_eq name n then Some (suc (length ms)) else None)
     by h true = refl
     by h false = ap (option_map (λ i. suc i)) h ∙ later (first_place name ms) (bytes_eq name n) (length ms)
 
@@ -83,7 +85,9 @@ module _ {E : Type 0} (named : E → List ℕ) (name : List ℕ) where
           let r : suc j ≡ i = cc in
           h j (sym q) (subst (λ k. get_or (x ∷ xs) k e ≡ e) (sym r) at)
 
-      by : ((j : ℕ) → first_place name (map named xs) ≡ Some j → get_or xs j e ≡ e → find (λ e. bytes_eq name (named e)) xs ≡ Some e) → (t : Bool) → (if t then Some 0 else option_map (λ i. suc i) (first_place name (map named xs))) ≡ Some i → cond t (Some x) (find (λ e. bytes_eq name (named e)) xs) ≡ Some e
+      by : ((j : ℕ) → first_place name (map named xs) ≡ Some j → get_or xs j e ≡ e → find (λ e. bytes_eq name (named e)) xs ≡ Some e) → (t : Bool) →
+          (if t then Some 0 else option_map (λ i. suc i) (first_place name (map named xs))) ≡ Some i → cond t (Some x)
+          (find (λ e. bytes_eq name (named e)) xs) ≡ Some e
       by h true p =
           let r : 0 ≡ i = cc in
           ap (λ y. Some y) (subst (λ k. get_or (x ∷ xs) k e ≡ e) (sym r) at)

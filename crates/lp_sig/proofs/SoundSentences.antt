@@ -29,6 +29,8 @@ module _ (from : ℕ) (z : Seen) (rows : List (Row Written)) (text : List ℕ) w
   none_taken constants l d is none h =
       subst (HasItsConstants from z rows constants) (sym none ∙ ap (constants_by text) (sym is)) (subst (λ r. AreTypedIf from z r constants) (sym (append-nil rows)) h, tt)
 
-  pub its_taken : (constants : Constants) (l : Declaration) (names : Vec Spot Global) (slice : List Spot) (ty : RawType) → l ≡ declaration.Constants names ty → slice ≡ names.items → HasItsConstants from z rows constants (each text (written_in text ty) slice) → HasItsConstants from z rows constants (constants_by text l)
+  pub its_taken : (constants : Constants) (l : Declaration) (names : Vec Spot Global) (slice : List Spot) (ty : RawType) → l ≡ declaration.Constants
+      names ty → slice ≡ names.items → HasItsConstants from z rows constants (each text (written_in text ty) slice) → HasItsConstants from z rows
+      constants (constants_by text l)
   its_taken constants l names slice ty is same h =
       subst (λ l. HasItsConstants from z rows constants (constants_by text l)) (sym is) (subst (λ s. HasItsConstants from z rows constants (each text (written_in text ty) s)) same h)

@@ -190,7 +190,9 @@ parts_more f ys y ts new t e g is =
     map-append f ys (y ∷ []) ∙ ap (λ l. l ++ f y ∷ []) e ∙ ap (λ o. map (λ t. Some t) ts ++ o ∷ []) g ∙ sym (map-append (λ t. Some t) ts (t ∷ [])) ∙ ap (map (λ t. Some t)) (sym is)
 
 -- the type of the root, if it is done
-pub if_done : (b : Nodes) (said : List (Row Said)) (defs : List (Row Definition)) (text : List ℕ) (ν : ℕ → Spot → Option ℕ) (nodes : List RawTypeNode) (done slice : List (Option TypeId)) → AreDone b said defs text ν nodes done → (root : ℕ) (o : Option TypeId) → slice ≡ done → o ≡ type_done slice root →
+pub if_done : (b : Nodes) (said : List (Row Said)) (defs : List (Row Definition)) (text : List ℕ) (ν : ℕ → Spot → Option ℕ) (nodes : List RawTypeNode)
+    (done slice : List (Option TypeId)) → AreDone b said defs text ν nodes done → (root : ℕ) (o : Option TypeId) → slice ≡ done → o ≡ type_done slice
+    root →
     IfSome o (IsTree b (IsTypeOf said defs text ν nodes root))
 if_done b said defs text ν nodes done slice all root None same e = tt
 if_done b said defs text ν nodes done slice all root (Some id) same e = all root id (ap (λ l. type_done l root) (sym same) ∙ sym e)

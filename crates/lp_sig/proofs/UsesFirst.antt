@@ -106,7 +106,9 @@ module _ (ways : List (List Way)) (n from : ℕ) (G : ℕ → Type 0) where
   }
 
   -- a place behind all that it uses
-  itself_loaded : (P : ℕ → Type 0) (old new : List Bool) (i : ℕ) (inner steps : List Step) → i < n → get_or old i true ≡ false → steps ≡ Enter i ∷ (inner ++ Declare i ∷ []) → IsLoaded P (set old i true) new inner → (G i → (w : Way) → Contains (ways_out ways i) w → Behind P inner w.1) → IsLoaded P old new steps × Behind P steps i
+  itself_loaded : (P : ℕ → Type 0) (old new : List Bool) (i : ℕ) (inner steps : List Step) → i < n → get_or old i true ≡ false → steps ≡ Enter i ∷
+      (inner ++ Declare i ∷ []) → IsLoaded P (set old i true) new inner → (G i → (w : Way) → Contains (ways_out ways i) w → Behind P inner w.1) →
+      IsLoaded P old new steps × Behind P steps i
   itself_loaded P old new i inner steps l h s r each = (
     record {
       order = subst (UsesComeFirst ways G P) (sym s) (first_append ways G P inner (Declare i ∷ []) r.order (each, tt));

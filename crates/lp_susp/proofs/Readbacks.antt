@@ -83,7 +83,9 @@ some_of : (o : Option Term) → IsSome o → (x : Term) × (o ≡ Some x)
 some_of None h = absurd (cc)
 some_of (Some x) h = (x, refl)
 
-pub stopped_beta : (s : Contents) (b : Nodes) (fs : List Frame) (limit told left done : ℕ) (t x w : Term) (e : TermRefusal) → Reduced s s → All (FrameStands s b) fs → told ≡ limit → done + left ≡ limit → Counts leftmost_step done t w → Plugged s b fs x w → IsStopped told left x e → IsDeepBeta limit t e
+pub stopped_beta : (s : Contents) (b : Nodes) (fs : List Frame) (limit told left done : ℕ) (t x w : Term) (e : TermRefusal) → Reduced s s → All
+    (FrameStands s b) fs → told ≡ limit → done + left ≡ limit → Counts leftmost_step done t w → Plugged s b fs x w → IsStopped told left x e →
+    IsDeepBeta limit t e
 stopped_beta s b fs limit told left done t x w Memory same a g h c p k = tt
 stopped_beta s b fs limit told left done t x w (Deep n) same a g h c p k =
     let q = plug_works s b fs a same k.2 w p in

@@ -105,12 +105,16 @@ attach_level fs p l t o x e a h = go (fits_right (By o.fixity o.number) p.fixity
     go false true k i = absurd (takes_goes fs (operated p l t) o x (sym (attach_admitted fs (operated p l t) o (admits_level fs p o e k a)) ∙ i))
     go false false k i = cc
 
-above_level : (fs : List Frame) (p : Oper) (l : Option Tree) (f : Form) (t : Tree) (s : State) (o : Oper) (x : Fault) → Settled (Waits p l ∷ fs) false f t s → p.number ≡ o.number → admits fs (By p.fixity p.number) ≡ true → is_prefix o.fixity ≡ false → step s (Op o) ≡ Stops x → (b : Bool) → fits_left f o.fixity o.number ≡ b → (b ≡ false → x ≡ Ambiguous) → x ≡ Ambiguous
+above_level : (fs : List Frame) (p : Oper) (l : Option Tree) (f : Form) (t : Tree) (s : State) (o : Oper) (x : Fault) → Settled (Waits p l ∷ fs) false
+    f t s → p.number ≡ o.number → admits fs (By p.fixity p.number) ≡ true → is_prefix o.fixity ≡ false → step s (Op o) ≡ Stops x → (b : Bool) →
+    fits_left f o.fixity o.number ≡ b → (b ≡ false → x ≡ Ambiguous) → x ≡ Ambiguous
 above_level fs p l f t s o x d e a n k true i other = attach_level fs p l t o x e a (sym (step_operator (Waits p l ∷ fs) f t s o d n i) ∙ k)
 above_level fs p l f t s o x d e a n k false i other = other refl
 
 -- an operator behind an operand with one of its number before it fails, if it does, as ambiguous
-pub settled_level : (fs : List Frame) (p : Oper) (l : Option Tree) (f : Form) (t : Tree) (s : State) (o : Oper) (x : Fault) → Settled (Waits p l ∷ fs) false f t s → fits_right f p.fixity p.number ≡ true → p.number ≡ o.number → admits fs (By p.fixity p.number) ≡ true → is_prefix o.fixity ≡ false → step s (Op o) ≡ Stops x → x ≡ Ambiguous
+pub settled_level : (fs : List Frame) (p : Oper) (l : Option Tree) (f : Form) (t : Tree) (s : State) (o : Oper) (x : Fault) → Settled (Waits p l ∷ fs)
+    false f t s → fits_right f p.fixity p.number ≡ true → p.number ≡ o.number → admits fs (By p.fixity p.number) ≡ true → is_prefix o.fixity ≡ false →
+    step s (Op o) ≡ Stops x → x ≡ Ambiguous
 settled_level fs p l f t s o x (has_term _ fn y w) h e a n k =
     above_level fs p l f t s o x (has_term (Waits p l ∷ fs) fn y w) e a n k (fits_left Whole o.fixity o.number) refl (λ i. absurd (true≢false (sym (whole_left o.fixity o.number) ∙ i)))
 settled_level fs p l f t s o x (has_form _ q j _ post) h e a n k =
@@ -168,15 +172,23 @@ ambiguous_if all cs o x m n h =
 -- an ambiguous operator has such an operator before it
 attach_ambiguous : (all ks cs : List Sym) (fs : List Frame) (f : Form) (t : Tree) (o : Oper) → Stack all fs ks → Spans (Part false f) ks (Op o ∷ cs) t → admits fs f ≡ true → attach fs t o ≡ Stops Ambiguous → AmbiguousAt all cs o
 attach_ambiguous all ks cs fs f t o bottom d a h = absurd (takes_goes [] t o Ambiguous h)
-attach_ambiguous all ks cs fs f t o (waits_left gs q g y js _ s e p' q' l' a') d a h = go (fits_right (By o.fixity o.number) q.fixity q.number) (fits_left (By q.fixity q.number) o.fixity o.number) refl refl h (λ i. attach_ambiguous all js cs gs (By q.fixity q.number) (binary q.spot y t) o s (span_between q p' q' l' a e d) a' i)
+attach_ambiguous all ks cs fs f t o (waits_left gs q g y js _ s e p' q' l' a') d a h = go (fits_right (By o.fixity o.number) q.fixity q.number)
+    (fits_left (By q.fixity q.number) o.fixity o.number) refl refl h (λ i. attach_ambiguous all js cs gs (By q.fixity q.number) (binary q.spot y t) o
+    s (span_between q p' q' l' a e d) a' i)
   where
-    go : (b c : Bool) → fits_right (By o.fixity o.number) q.fixity q.number ≡ b → fits_left (By q.fixity q.number) o.fixity o.number ≡ c → (if b then takes (Waits q (Some y) ∷ gs) t o else (if c then attach gs (binary q.spot y t) o else Stops Ambiguous)) ≡ Stops Ambiguous → (attach gs (binary q.spot y t) o ≡ Stops Ambiguous → AmbiguousAt all cs o) → AmbiguousAt all cs o
+    go : (b c : Bool) → fits_right (By o.fixity o.number) q.fixity q.number ≡ b → fits_left (By q.fixity q.number) o.fixity o.number ≡ c →
+        (if b then takes (Waits q (Some y) ∷ gs) t o else (if c then attach gs (binary q.spot y t) o else Stops Ambiguous)) ≡ Stops Ambiguous →
+        (attach gs (binary q.spot y t) o ≡ Stops Ambiguous → AmbiguousAt all cs o) → AmbiguousAt all cs o
     go true c i j k on = absurd (takes_goes (Waits q (Some y) ∷ gs) t o Ambiguous k)
     go false true i j k on = on k
     go false false i j k on = record { frames = gs; earlier = q; left = Some y; from = ks; form = f; operand = t; stack = waits_left gs q g y js ks s e p' q' l' a'; spans = d; fits = a; same = same_number q.fixity o.fixity q.number o.number i j }
-attach_ambiguous all ks cs fs f t o (waits_first gs q _ s p' a') d a h = go (fits_right (By o.fixity o.number) q.fixity q.number) (fits_left (By q.fixity q.number) o.fixity o.number) refl refl h (λ i. attach_ambiguous all (Op q ∷ ks) cs gs (By q.fixity q.number) (App (Leaf q.spot) t) o s (span_before q p' a d) a' i)
+attach_ambiguous all ks cs fs f t o (waits_first gs q _ s p' a') d a h = go (fits_right (By o.fixity o.number) q.fixity q.number)
+    (fits_left (By q.fixity q.number) o.fixity o.number) refl refl h (λ i. attach_ambiguous all (Op q ∷ ks) cs gs (By q.fixity q.number)
+    (App (Leaf q.spot) t) o s (span_before q p' a d) a' i)
   where
-    go : (b c : Bool) → fits_right (By o.fixity o.number) q.fixity q.number ≡ b → fits_left (By q.fixity q.number) o.fixity o.number ≡ c → (if b then takes (Waits q None ∷ gs) t o else (if c then attach gs (App (Leaf q.spot) t) o else Stops Ambiguous)) ≡ Stops Ambiguous → (attach gs (App (Leaf q.spot) t) o ≡ Stops Ambiguous → AmbiguousAt all cs o) → AmbiguousAt all cs o
+    go : (b c : Bool) → fits_right (By o.fixity o.number) q.fixity q.number ≡ b → fits_left (By q.fixity q.number) o.fixity o.number ≡ c →
+        (if b then takes (Waits q None ∷ gs) t o else (if c then attach gs (App (Leaf q.spot) t) o else Stops Ambiguous)) ≡ Stops Ambiguous →
+        (attach gs (App (Leaf q.spot) t) o ≡ Stops Ambiguous → AmbiguousAt all cs o) → AmbiguousAt all cs o
     go true c i j k on = absurd (takes_goes (Waits q None ∷ gs) t o Ambiguous k)
     go false true i j k on = on k
     go false false i j k on = record { frames = gs; earlier = q; left = None; from = ks; form = f; operand = t; stack = waits_first gs q ks s p' a'; spans = d; fits = a; same = same_number q.fixity o.fixity q.number o.number i j }

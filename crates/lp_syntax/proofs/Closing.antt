@@ -22,7 +22,9 @@ use Rattle.lp_syntax.specs.Views.{done_of, frame_of, frames_of, AreItemsBelow, E
 use Rattle.lp_syntax.proofs.Arena.{grows_none}
 use Rattle.lp_syntax.proofs.Views.{Items, frames_push, done_push, each_more, items_push, items_more, maybe_more, maybe_kept, done_kept, frames_kept, pushed_below, if_ok}
 
-pub has_list : (old new : List Node) (hs : List Held) (fn : Option ℕ) (i : ℕ) (u : Tree) → Grows old new → EachBelow (length old) hs → IsMaybeBelow (length old) fn → i < length new → at (trees new) i ≡ u → Steps old new hs (step.Goes (doing.Has fn i None)) (Goes (st (frames_of (trees old) hs) (Has (maybe (trees old) fn) u None)))
+pub has_list : (old new : List Node) (hs : List Held) (fn : Option ℕ) (i : ℕ) (u : Tree) → Grows old new → EachBelow (length old) hs → IsMaybeBelow
+    (length old) fn → i < length new → at (trees new) i ≡ u → Steps old new hs (step.Goes (doing.Has fn i None))
+    (Goes (st (frames_of (trees old) hs) (Has (maybe (trees old) fn) u None)))
 has_list old new hs fn i u g b f l t = record {
   is = λ k. Goes (st (frames_kept old new hs g b k) (Has (maybe_kept old new fn g f k) (t k) None));
   grows = g;
@@ -42,7 +44,9 @@ pub bar_steps : (old : List Node) (hs hs' : List Held) (v : ℕ) (fn : Option �
     length old → Steps old old hs' (step.Goes doing.Wants) (close (Item v (maybe (trees old) fn) (done_of (trees old) done.items) ∷ frames_of
     (trees old) hs) (at (trees old) x) Bar)
 bar_steps old hs hs' v fn done done' x d q e f b l = record {
-  is = ap (λ k. Goes (st (frames_of (trees old) k) Wants)) q ∙ ap (λ fs. Goes (st fs Wants)) (frames_push (trees old) hs (held.Tail fn done')) ∙ ap (λ is. Goes (st (Tail (maybe (trees old) fn) is ∷ frames_of (trees old) hs) Wants)) (ap (done_of (trees old)) d ∙ done_push (trees old) done.items (v, x));
+  is = ap (λ k. Goes (st (frames_of (trees old) k) Wants)) q ∙ ap (λ fs. Goes (st fs Wants)) (frames_push (trees old) hs (held.Tail fn done')) ∙ ap
+      (λ is. Goes (st (Tail (maybe (trees old) fn) is ∷ frames_of (trees old) hs) Wants))
+      (ap (done_of (trees old)) d ∙ done_push (trees old) done.items (v, x));
   grows = grows_none old;
   below = (pushed_below (length old) hs hs' (held.Tail fn done') q e (f, subst (AreItemsBelow (length old)) (sym d) (items_push (length old) done.items (v, x) b l)), tt);
 }
@@ -56,27 +60,38 @@ pub waits_closed : (now new : List Node) (ks hs : List Held) (h : Held) (x x' : 
     c ≡ m
 waits_closed now new ks hs h x x' c m u e g b t k s = (λ i. close (frames_kept now new hs g b i) (t i) c) ∙ sym k ∙ close_top (trees now) ks hs h (at (trees now) x) c m e s
 
-pub closes_with : (old now new : List Node) (ks hs hs'' : List Held) (h : Held) (x : ℕ) (c : Sym) (m : Move) → Grows old now → ks ≡ hs ++ h ∷ [] → close (frames_of (trees now) ks) (at (trees now) x) c ≡ m → {E : Type 0} → (r : Result Step E) → IfOk r (λ s. Steps now new hs'' s (close (frame_of (trees now) h ∷ frames_of (trees now) hs) (at (trees now) x) c)) → IfOk r (λ s. Steps old new hs'' s m)
+pub closes_with : (old now new : List Node) (ks hs hs'' : List Held) (h : Held) (x : ℕ) (c : Sym) (m : Move) → Grows old now → ks ≡ hs ++ h ∷ [] →
+    close (frames_of (trees now) ks) (at (trees now) x) c ≡ m → {E : Type 0} → (r : Result Step E) → IfOk r
+    (λ s. Steps now new hs'' s (close (frame_of (trees now) h ∷ frames_of (trees now) hs) (at (trees now) x) c)) → IfOk r
+    (λ s. Steps old new hs'' s m)
 closes_with old now new ks hs hs'' h x c m g e s r i = if_ok old now new hs'' _ m g (close_top (trees now) ks hs h (at (trees now) x) c m e s) r i
 
-pub closes_bracket : (old now : List Node) (ks hs : List Held) (h : Held) (x : ℕ) (c : Sym) (m : Move) (s : Step) → Grows old now → ks ≡ hs ++ h ∷ [] → close (frames_of (trees now) ks) (at (trees now) x) c ≡ m → Steps now now hs s (close (frame_of (trees now) h ∷ frames_of (trees now) hs) (at (trees now) x) c) → Steps old now hs s m
+pub closes_bracket : (old now : List Node) (ks hs : List Held) (h : Held) (x : ℕ) (c : Sym) (m : Move) (s : Step) → Grows old now → ks ≡ hs ++ h ∷ []
+    → close (frames_of (trees now) ks) (at (trees now) x) c ≡ m → Steps now now hs s
+    (close (frame_of (trees now) h ∷ frames_of (trees now) hs) (at (trees now) x) c) → Steps old now hs s m
 closes_bracket old now ks hs h x c m s g e k i = record { is = i.is ∙ close_top (trees now) ks hs h (at (trees now) x) c m e k; grows = g; below = i.below }
 
-pub has_steps : (old new : List Node) (hs : List Held) (fn : Option ℕ) (i : ℕ) (w : Option ℕ) (u : Tree) → Grows old new → EachBelow (length old) hs → IsMaybeBelow (length old) fn → i < length new → at (trees new) i ≡ u → Steps old new hs (step.Goes (doing.Has fn i w)) (Goes (st (frames_of (trees old) hs) (Has (maybe (trees old) fn) u w)))
+pub has_steps : (old new : List Node) (hs : List Held) (fn : Option ℕ) (i : ℕ) (w : Option ℕ) (u : Tree) → Grows old new → EachBelow (length old) hs →
+    IsMaybeBelow (length old) fn → i < length new → at (trees new) i ≡ u → Steps old new hs (step.Goes (doing.Has fn i w))
+    (Goes (st (frames_of (trees old) hs) (Has (maybe (trees old) fn) u w)))
 has_steps old new hs fn i w u g b f l t = record {
   is = λ k. Goes (st (frames_kept old new hs g b k) (Has (maybe_kept old new fn g f k) (t k) w));
   grows = g;
   below = (each_more (length old) (length new) hs g.longer b, (maybe_more (length old) (length new) fn g.longer f, l));
 }
 
-pub push_steps : (old : List Node) (hs hs' : List Held) (h : Held) (m : Doing) → hs' ≡ hs ++ h ∷ [] → EachBelow (length old) hs → IsHeldBelow (length old) h → IsDoingBelow (length old) m → Steps old old hs' (step.Goes m) (Goes (st (frame_of (trees old) h ∷ frames_of (trees old) hs) (mode_of (trees old) m)))
+pub push_steps : (old : List Node) (hs hs' : List Held) (h : Held) (m : Doing) → hs' ≡ hs ++ h ∷ [] → EachBelow (length old) hs → IsHeldBelow
+    (length old) h → IsDoingBelow (length old) m → Steps old old hs' (step.Goes m) (Goes
+    (st (frame_of (trees old) h ∷ frames_of (trees old) hs) (mode_of (trees old) m)))
 push_steps old hs hs' h m q e i j = record {
   is = ap (λ k. Goes (st (frames_of (trees old) k) (mode_of (trees old) m))) q ∙ ap (λ fs. Goes (st fs (mode_of (trees old) m))) (frames_push (trees old) hs h);
   grows = grows_none old;
   below = (pushed_below (length old) hs hs' h q e i, j);
 }
 
-pub list_steps : (old : List Node) (hs hs' : List Held) (v : ℕ) (fn : Option ℕ) (done : Items) → done.items ≡ [] → hs' ≡ hs ++ held.Item v fn done ∷ [] → EachBelow (length old) hs → IsMaybeBelow (length old) fn → Steps old old hs' (step.Goes doing.FreshList) (Goes (st (Item v (maybe (trees old) fn) [] ∷ frames_of (trees old) hs) FreshList))
+pub list_steps : (old : List Node) (hs hs' : List Held) (v : ℕ) (fn : Option ℕ) (done : Items) → done.items ≡ [] → hs' ≡ hs ++ held.Item v fn done ∷
+    [] → EachBelow (length old) hs → IsMaybeBelow (length old) fn → Steps old old hs' (step.Goes doing.FreshList)
+    (Goes (st (Item v (maybe (trees old) fn) [] ∷ frames_of (trees old) hs) FreshList))
 list_steps old hs hs' v fn done d q e f =
     let s = push_steps old hs hs' (held.Item v fn done) doing.FreshList q e (f, subst (AreItemsBelow (length old)) (sym d) tt) tt in
     record { is = s.is ∙ ap (λ is. Goes (st (Item v (maybe (trees old) fn) is ∷ frames_of (trees old) hs) FreshList)) (ap (done_of (trees old)) d); grows = s.grows; below = s.below }

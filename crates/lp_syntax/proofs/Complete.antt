@@ -218,7 +218,9 @@ takes_infix fs t o q = rw q refl
 takes_postfix : (fs : List Frame) (t : Tree) (o : Oper) → is_postfix o.fixity ≡ true → takes fs t o ≡ at fs (Formed o.fixity o.number (App (Leaf o.spot) t))
 takes_postfix fs t o q = rw q refl
 
-read_between : (o : Oper) (b : Bool) (f g : Form) (ts : List Sym) (t : Tree) (us : List Sym) (u : Tree) → is_prefix o.fixity ≡ false → is_postfix o.fixity ≡ false → fits_left f o.fixity o.number ≡ true → fits_right g o.fixity o.number ≡ true → IsRead (Part false f) ts t → IsRead (Part b g) us u → IsRead (Part b (By o.fixity o.number)) (ts ++ Op o ∷ us) (binary o.spot t u)
+read_between : (o : Oper) (b : Bool) (f g : Form) (ts : List Sym) (t : Tree) (us : List Sym) (u : Tree) → is_prefix o.fixity ≡ false → is_postfix
+    o.fixity ≡ false → fits_left f o.fixity o.number ≡ true → fits_right g o.fixity o.number ≡ true → IsRead (Part false f) ts t → IsRead (Part b g)
+    us u → IsRead (Part b (By o.fixity o.number)) (ts ++ Op o ∷ us) (binary o.spot t u)
 read_between o b f g ts t us u p q l m h k fs rest a =
     let r = h fs (Op o ∷ us ++ rest) (admits_left fs f o a l) in
     let z = k (Waits o (Some t) ∷ fs) rest m in (

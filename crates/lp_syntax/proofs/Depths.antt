@@ -96,7 +96,9 @@ right_target spot nodes i t n h (word_node _ w xs _ f b s) = word_target spot no
 right_target spot nodes i t n h (arrow_node _ l r u v f a b s q) = absurd (h l r f)
 
 -- the nodes of a type
-pub word_count : (spot : ℕ → Spot) (nodes : List RawTypeNode) (ds : List ℕ) (i d : ℕ) (s : Spot) (xs : Vec ℕ Global) (t : TypeTree) → slice_get nodes i ≡ Some (Word s xs) → i ≡ length ds → ((w : ℕ) → AreBelow (length ds) xs.items → ShowsType spot nodes (OnNodes w xs.items) t → d ≡ counted (type_depth t)) → ShowsType spot nodes (Node i) t → d ≡ counted (type_depth t)
+pub word_count : (spot : ℕ → Spot) (nodes : List RawTypeNode) (ds : List ℕ) (i d : ℕ) (s : Spot) (xs : Vec ℕ Global) (t : TypeTree) → slice_get nodes
+    i ≡ Some (Word s xs) → i ≡ length ds → ((w : ℕ) → AreBelow (length ds) xs.items → ShowsType spot nodes (OnNodes w xs.items) t → d ≡ counted
+    (type_depth t)) → ShowsType spot nodes (Node i) t → d ≡ counted (type_depth t)
 word_count spot nodes ds i d s xs t e m k (word_node _ w ys _ f b p) =
     let z : ys ≡ xs = same_arguments (sym f ∙ e) in
     k w (subst (λ j. AreBelow j xs.items) m (subst (λ l. AreBelow i l.items) z b)) (subst (λ l. ShowsType spot nodes (OnNodes w l.items) t) z p)
@@ -105,7 +107,9 @@ word_count spot nodes ds i d s xs t e m k (word_node _ w ys _ f b p) =
     same_arguments e = cc
 word_count spot nodes ds i d s xs t e m k (arrow_node _ l r u v f a b p q) = let z = sym f ∙ e in absurd (cc)
 
-pub arrow_count : (spot : ℕ → Spot) (nodes : List RawTypeNode) (ds : List ℕ) (i l r d : ℕ) (t : TypeTree) → slice_get nodes i ≡ Some (Arrow l r) → i ≡ length ds → ((u v : TypeTree) → l < length ds → r < length ds → ShowsType spot nodes (Node l) u → ShowsType spot nodes (Node r) v → d ≡ counted (type_depth (Arrows u v))) → ShowsType spot nodes (Node i) t → d ≡ counted (type_depth t)
+pub arrow_count : (spot : ℕ → Spot) (nodes : List RawTypeNode) (ds : List ℕ) (i l r d : ℕ) (t : TypeTree) → slice_get nodes i ≡ Some (Arrow l r) → i ≡
+    length ds → ((u v : TypeTree) → l < length ds → r < length ds → ShowsType spot nodes (Node l) u → ShowsType spot nodes (Node r) v → d ≡ counted
+    (type_depth (Arrows u v))) → ShowsType spot nodes (Node i) t → d ≡ counted (type_depth t)
 arrow_count spot nodes ds i l r d t e m k (word_node _ w xs _ f b s) = let z = sym f ∙ e in absurd (cc)
 arrow_count spot nodes ds i l r d t e m k (arrow_node _ l' r' u v f a b p q) =
     let z = same_sides (sym f ∙ e) in
@@ -189,7 +193,9 @@ leaf_count spot ls nodes i t node e h (abs_node _ x v y n u g a b p) = let z : f
 no_leaf_there : (spot : ℕ → Spot) (ls : List Lexeme) (nodes : List RawNode) (i s : ℕ) (node : RawNode) → slice_get nodes i ≡ Some node → is_leaf node ≡ false → slice_get nodes i ≡ Some (leaf spot ls s) → ⊥
 no_leaf_there spot ls nodes i s node e h f = let z : true ≡ false = sym (leaf_is spot ls s) ∙ ap is_leaf (same_node (sym f ∙ e)) ∙ h in cc
 
-pub application_count : (spot : ℕ → Spot) (ls : List Lexeme) (nodes : List RawNode) (ds : List ℕ) (i f x d : ℕ) (t : Tree) → slice_get nodes i ≡ Some (raw.App f x) → i ≡ length ds → ((u v : Tree) → f < length ds → x < length ds → Shows spot ls nodes f u → Shows spot ls nodes x v → IsDepth ls (App u v) d) → Shows spot ls nodes i t → IsDepth ls t d
+pub application_count : (spot : ℕ → Spot) (ls : List Lexeme) (nodes : List RawNode) (ds : List ℕ) (i f x d : ℕ) (t : Tree) → slice_get nodes i ≡ Some
+    (raw.App f x) → i ≡ length ds → ((u v : Tree) → f < length ds → x < length ds → Shows spot ls nodes f u → Shows spot ls nodes x v → IsDepth ls
+    (App u v) d) → Shows spot ls nodes i t → IsDepth ls t d
 application_count spot ls nodes ds i f x d t e m k (leaf_node _ s g) = absurd (no_leaf_there spot ls nodes i s _ e refl g)
 application_count spot ls nodes ds i f x d t e m k (cons_node _ s g) = let z = sym g ∙ e in absurd (cc)
 application_count spot ls nodes ds i f x d t e m k (nil_node _ s g) = let z = sym g ∙ e in absurd (cc)
@@ -221,7 +227,9 @@ under_binder spot ls v x d n (Some c) (Some ty) b w h k e =
     let m = type_depth w.tree in
     (max h.0 m + 1, annotated v c w.end b w.tree _ h.0 h.1 w.type_is w.mark refl, noted_body d x h.0 n m (k spot w.tree w.nodes) h.2 e)
 
-pub abstraction_count : (spot : ℕ → Spot) (ls : List Lexeme) (nodes : List RawNode) (ds : List ℕ) (i x d n : ℕ) (s : Spot) (ann : Option RawType) (t : Tree) → AreDepths nodes ds → slice_get nodes i ≡ Some (raw.Abs s ann x) → i ≡ length ds → IsNoteDepth ann n → d ≡ counted (max (get_or ds x 0) n + 1) → Shows spot ls nodes i t → IsDepth ls t d
+pub abstraction_count : (spot : ℕ → Spot) (ls : List Lexeme) (nodes : List RawNode) (ds : List ℕ) (i x d n : ℕ) (s : Spot) (ann : Option RawType)
+    (t : Tree) → AreDepths nodes ds → slice_get nodes i ≡ Some (raw.Abs s ann x) → i ≡ length ds → IsNoteDepth ann n → d ≡ counted
+    (max (get_or ds x 0) n + 1) → Shows spot ls nodes i t → IsDepth ls t d
 abstraction_count spot ls nodes ds i x d n s ann t h e m k g (leaf_node _ r f) = absurd (no_leaf_there spot ls nodes i r _ e refl f)
 abstraction_count spot ls nodes ds i x d n s ann t h e m k g (cons_node _ r f) = let z = sym f ∙ e in absurd (cc)
 abstraction_count spot ls nodes ds i x d n s ann t h e m k g (nil_node _ r f) = let z = sym f ∙ e in absurd (cc)

@@ -314,7 +314,9 @@ pub kind_other : (spot : ℕ → Spot) (ops : Operators) (ls : List Lexeme) (fro
 kind_other spot ops ls from n f e g = inr ((λ a. let k : Other ≡ Op a.operator = sym e ∙ a.is in cc), g)
 
 -- nor is a token in an annotation
-pub kind_note : (spot : ℕ → Spot) (ops : Operators) (ls : List Lexeme) (from n p : ℕ) (s : State) (q : TypeState) (f : SyntaxFault) → n < p → HasRead ops ls from n s → class_at ls n ≡ Colon → Runs ls (ts [] NeedsType) (suc n) q p → IsNoNote ls p q → f ≡ refused spot p (innermost (open_brackets ls from p)) (class_at ls p) → IsKind spot ops ls from p f
+pub kind_note : (spot : ℕ → Spot) (ops : Operators) (ls : List Lexeme) (from n p : ℕ) (s : State) (q : TypeState) (f : SyntaxFault) → n < p → HasRead
+    ops ls from n s → class_at ls n ≡ Colon → Runs ls (ts [] NeedsType) (suc n) q p → IsNoNote ls p q → f ≡ refused spot p
+    (innermost (open_brackets ls from p)) (class_at ls p) → IsKind spot ops ls from p f
 kind_note spot ops ls from n p s q f u h c r i g = inr (no, g)
   where
     no : IsAmbiguous ops ls from p → ⊥
@@ -325,7 +327,9 @@ kind_note spot ops ls from n p s q f u h c r i g = inr (no, g)
         i.1 z.1 (ap (class_at ls) z.0 ∙ y.mark)
 
 -- nor is one behind a full stop
-pub kind_behind : (spot : ℕ → Spot) (ops : Operators) (ls : List Lexeme) (from n : ℕ) (s : State) (f : SyntaxFault) → HasRead ops ls from n s → class_at ls n ≢ Colon → step s (symbol_at ops ls n) ≡ Stops Unexpected → f ≡ refused spot (suc n) (innermost (open_brackets ls from (suc n))) (class_at ls (suc n)) → IsKind spot ops ls from (suc n) f
+pub kind_behind : (spot : ℕ → Spot) (ops : Operators) (ls : List Lexeme) (from n : ℕ) (s : State) (f : SyntaxFault) → HasRead ops ls from n s →
+    class_at ls n ≢ Colon → step s (symbol_at ops ls n) ≡ Stops Unexpected → f ≡ refused spot (suc n) (innermost (open_brackets ls from (suc n)))
+    (class_at ls (suc n)) → IsKind spot ops ls from (suc n) f
 kind_behind spot ops ls from n s f h c e g = inr (no, g)
   where
     no : IsAmbiguous ops ls from (suc n) → ⊥

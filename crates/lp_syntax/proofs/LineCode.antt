@@ -45,7 +45,9 @@ memory_or f g (inl e) = inl e
 memory_or f g (inr p) = inr (g p)
 
 -- nothing is open where they stop
-pub stops_here : (spot : ℕ → Spot) (ls : List Lexeme) (s r : LineState) (i n : ℕ) (f : SyntaxFault) → LineRuns ls s i r n → opened s ≡ 0 → opened r ≡ 0 → IsUnfinished r → ((q : LineState) → LineStep (class_at ls n) r q → ⊥) → n ≤ length ls → f ≡ refused spot n None (class_at ls n) → StopsIn spot ls s i f
+pub stops_here : (spot : ℕ → Spot) (ls : List Lexeme) (s r : LineState) (i n : ℕ) (f : SyntaxFault) → LineRuns ls s i r n → opened s ≡ 0 → opened r ≡
+    0 → IsUnfinished r → ((q : LineState) → LineStep (class_at ls n) r q → ⊥) → n ≤ length ls → f ≡ refused spot n None (class_at ls n) → StopsIn spot
+    ls s i f
 stops_here spot ls s r i n f d e o u h l k = record {
   number = n;
   there = record { state = r; runs = d; unfinished = u; stops = h; high = l };
@@ -100,7 +102,9 @@ no_more_parameters : (c : Class) → c ≢ class.Upper → c ≢ class.Close →
 no_more_parameters c a b q (one_parameter e) = a e
 no_more_parameters c a b q (head_closed e) = b e
 
-pub parameters_stop : (spot : ℕ → Spot) (ls : List Lexeme) (i n : ℕ) (ns : List ℕ) (f : SyntaxFault) → class_at ls i ≡ class.Open → class_at ls (i + 1) ≡ class.Lower → Parameters ls (i + 1 + 1) n ns → class_at ls n ≢ class.Upper → class_at ls n ≢ class.Close → n ≤ length ls → f ≡ refused spot n (Some i) (class_at ls n) → StopsIn spot ls AtHead i f
+pub parameters_stop : (spot : ℕ → Spot) (ls : List Lexeme) (i n : ℕ) (ns : List ℕ) (f : SyntaxFault) → class_at ls i ≡ class.Open → class_at ls
+    (i + 1) ≡ class.Lower → Parameters ls (i + 1 + 1) n ns → class_at ls n ≢ class.Upper → class_at ls n ≢ class.Close → n ≤ length ls → f ≡ refused
+    spot n (Some i) (class_at ls n) → StopsIn spot ls AtHead i f
 parameters_stop spot ls i n ns f o w p a b l h = record {
   number = n;
   there = record {

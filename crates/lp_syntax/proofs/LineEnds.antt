@@ -58,8 +58,12 @@ CanEnd _ = Unit {0}
 type_above : (ls : List Lexeme) (ws : List Wait) (s : TypeState) (i m : ℕ) → Above ws s → Stands ls i (type_ends ws) → m ≡ i + length (type_ends ws) → LineRuns ls (InType s) i AtEnd m
 type_above ls [] s i m a h e = let d = class_stands ls i dot_token h.0 in one_step ls (InType s) AtEnd i m (type_dot s (ap (type_step s) d ∙ dot_left [] s a) d) e
 type_above ls (AtArrow ∷ ws) s i m a h e = type_above ls ws s i m (below_arrow ws s a) h e
-type_above ls (AtGroup ∷ ws) s i m a h e = goes (InType s) (InType (ts ws Has)) AtEnd i (suc i) m (in_type s (ts ws Has) (ap (type_step s) (class_stands ls i (token kind.Close) h.0) ∙ above_close (AtGroup ∷ ws) s a)) (omega arith) (type_above ls ws (ts ws Has) (suc i) m (behind_type ws) h.1 (omega (arith, e)))
-type_above ls (AtArgument ∷ ws) s i m a h e = goes (InType s) (InType (ts ws Applies)) AtEnd i (suc i) m (in_type s (ts ws Applies) (ap (type_step s) (class_stands ls i (token kind.Close) h.0) ∙ above_close (AtArgument ∷ ws) s a)) (omega arith) (type_above ls ws (ts ws Applies) (suc i) m (behind_word ws) h.1 (omega (arith, e)))
+type_above ls (AtGroup ∷ ws) s i m a h e = goes (InType s) (InType (ts ws Has)) AtEnd i (suc i) m
+    (in_type s (ts ws Has) (ap (type_step s) (class_stands ls i (token kind.Close) h.0) ∙ above_close (AtGroup ∷ ws) s a)) (omega arith)
+    (type_above ls ws (ts ws Has) (suc i) m (behind_type ws) h.1 (omega (arith, e)))
+type_above ls (AtArgument ∷ ws) s i m a h e = goes (InType s) (InType (ts ws Applies)) AtEnd i (suc i) m
+    (in_type s (ts ws Applies) (ap (type_step s) (class_stands ls i (token kind.Close) h.0) ∙ above_close (AtArgument ∷ ws) s a)) (omega arith)
+    (type_above ls ws (ts ws Applies) (suc i) m (behind_word ws) h.1 (omega (arith, e)))
 
 type_to_end : (ls : List Lexeme) (ws : List Wait) (n : Need) (i m : ℕ) → Stands ls i (ends_of_type ws n) → m ≡ i + length (ends_of_type ws n) → LineRuns ls (InType (ts ws n)) i AtEnd m
 type_to_end ls ws Wants i m h e = goes (InType (ts ws Wants)) (InType (ts ws Has)) AtEnd i (suc i) m (in_type (ts ws Wants) (ts ws Has) (ap (type_step (ts ws Wants)) (class_stands ls i upper_token h.0))) (omega arith) (type_above ls ws (ts ws Has) (suc i) m (behind_type ws) h.1 (omega (arith, e)))
@@ -77,7 +81,9 @@ behind_to_end ls keyword.Sig i m y h e = absurd (cc)
 behind_to_end ls keyword.Module i m y h e = absurd (cc)
 behind_to_end ls keyword.Typeabbrev i m y h e = absurd (cc)
 behind_to_end ls keyword.Kind i m y h e = goes (BehindName keyword.Kind) BehindKind AtEnd i (suc i) m (list_kind keyword.Kind refl (class_stands ls i type_token h.0 ∙ is_type_token)) (omega arith) (dot_to_end ls BehindKind (suc i) m (λ c z. kind_dot z) h.1.0 (omega (arith, e)))
-behind_to_end ls keyword.Type i m y h e = goes (BehindName keyword.Type) (InType (ts [] Has)) AtEnd i (suc i) m (list_type keyword.Type (ts [] Has) refl (ap (type_step no_type) (class_stands ls i upper_token h.0))) (omega arith) (type_above ls [] (ts [] Has) (suc i) m (behind_type []) h.1 (omega (arith, e)))
+behind_to_end ls keyword.Type i m y h e = goes (BehindName keyword.Type) (InType (ts [] Has)) AtEnd i (suc i) m
+    (list_type keyword.Type (ts [] Has) refl (ap (type_step no_type) (class_stands ls i upper_token h.0))) (omega arith)
+    (type_above ls [] (ts [] Has) (suc i) m (behind_type []) h.1 (omega (arith, e)))
 behind_to_end ls (keyword.Fixity f) i m y h e = goes (BehindName (keyword.Fixity f)) AtDot AtEnd i (suc i) m (list_number f (pos 0) (class_stands ls i (token (kind.Number (pos 0))) h.0)) (omega arith) (dot_to_end ls AtDot (suc i) m (λ c z. full_stop z) h.1.0 (omega (arith, e)))
 behind_to_end ls keyword.Local i m y h e = list_to_dot ls keyword.Local i m refl h (omega (arith, e))
 behind_to_end ls keyword.Localkind i m y h e = list_to_dot ls keyword.Localkind i m refl h (omega (arith, e))

@@ -114,7 +114,9 @@ kind_behind ls k i j m n ns y a d =
     longer s r i j (stays _ _) n = absurd (n refl)
     longer s r i j (goes _ q _ _ k _ h p e) n = let u = line_up ls q r k j e in omega (arith, u, p)
 
-pub kind_dot_refused : (spot : ℕ → Spot) (ls : List Lexeme) (k : Keyword) (i j m n : ℕ) (ns : List ℕ) (f : SyntaxFault) → takes_kind k ≡ true → AreNames ls (lists_words k) i j ns → IsKindText ls j m n → class_at ls m ≢ class.Arrow → class_at ls m ≢ class.Dot → m ≤ length ls → f ≡ refused spot m None (class_at ls m) → StopsIn spot ls (AtName k) i f
+pub kind_dot_refused : (spot : ℕ → Spot) (ls : List Lexeme) (k : Keyword) (i j m n : ℕ) (ns : List ℕ) (f : SyntaxFault) → takes_kind k ≡ true →
+    AreNames ls (lists_words k) i j ns → IsKindText ls j m n → class_at ls m ≢ class.Arrow → class_at ls m ≢ class.Dot → m ≤ length ls → f ≡ refused
+    spot m None (class_at ls m) → StopsIn spot ls (AtName k) i f
 kind_dot_refused spot ls k i j m n ns f y a d b c l h = stops_here spot ls (AtName k) BehindKind i m f (kind_behind ls k i j m n ns y a d) refl refl tt (no_kind_dot (class_at ls m) b c) l h
 
 -- a type behind names, and behind a head
@@ -158,7 +160,9 @@ no_list_end c (keyword.Fixity f) y n d q (list_type _ r t e) = cc
 no_list_end c _ y n d q (list_number f m e) = cc
 no_list_end c k y n d q (list_dot _ t e) = d e
 
-pub list_dot_refused : (spot : ℕ → Spot) (ls : List Lexeme) (k : Keyword) (i j : ℕ) (ns : List ℕ) (f : SyntaxFault) → lists_words k ≡ true → AreNames ls true i j ns → class_at ls j ≢ class.Comma → class_at ls j ≢ class.Dot → j ≤ length ls → f ≡ refused spot j None (class_at ls j) → StopsIn spot ls (AtName k) i f
+pub list_dot_refused : (spot : ℕ → Spot) (ls : List Lexeme) (k : Keyword) (i j : ℕ) (ns : List ℕ) (f : SyntaxFault) → lists_words k ≡ true → AreNames
+    ls true i j ns → class_at ls j ≢ class.Comma → class_at ls j ≢ class.Dot → j ≤ length ls → f ≡ refused spot j None (class_at ls j) → StopsIn spot
+    ls (AtName k) i f
 list_dot_refused spot ls k i j ns f y a n d l h = stops_here spot ls (AtName k) (BehindName k) i j f (names_run ls k i j ns (subst (λ w. AreNames ls w i j ns) (sym y) a)) refl refl tt (no_list_end (class_at ls j) k y n d) l h
 
 -- fixities
@@ -169,14 +173,20 @@ no_number c f n d q (list_type _ r t e) = cc
 no_number c f n d q (list_number _ m e) = d m e
 no_number c f n d q (list_dot _ t e) = cc
 
-pub number_refused : (spot : ℕ → Spot) (ls : List Lexeme) (g : Fixity) (i j : ℕ) (ns : List ℕ) (f : SyntaxFault) → AreNames ls false i j ns → class_at ls j ≢ class.Comma → ((n : ℤ) → class_at ls j ≢ class.Number n) → j ≤ length ls → f ≡ refused spot j None (class_at ls j) → StopsIn spot ls (AtName (keyword.Fixity g)) i f
+pub number_refused : (spot : ℕ → Spot) (ls : List Lexeme) (g : Fixity) (i j : ℕ) (ns : List ℕ) (f : SyntaxFault) → AreNames ls false i j ns → class_at
+    ls j ≢ class.Comma → ((n : ℤ) → class_at ls j ≢ class.Number n) → j ≤ length ls → f ≡ refused spot j None (class_at ls j) → StopsIn spot ls
+    (AtName (keyword.Fixity g)) i f
 number_refused spot ls g i j ns f a n d l h = stops_here spot ls (AtName (keyword.Fixity g)) (BehindName (keyword.Fixity g)) i j f (names_run ls (keyword.Fixity g) i j ns a) refl refl tt (no_number (class_at ls j) g n d) l h
 
 no_dot : (c : Class) → c ≢ class.Dot → (q : LineState) → LineStep c AtDot q → ⊥
 no_dot c d q (full_stop e) = d e
 
-pub number_dot_refused : (spot : ℕ → Spot) (ls : List Lexeme) (g : Fixity) (i j m n : ℕ) (ns : List ℕ) (f : SyntaxFault) → AreNames ls false i j ns → HasNumber ls j n → m ≡ j + 1 → class_at ls m ≢ class.Dot → m ≤ length ls → f ≡ refused spot m None (class_at ls m) → StopsIn spot ls (AtName (keyword.Fixity g)) i f
-number_dot_refused spot ls g i j m n ns f a w e d l h = stops_here spot ls (AtName (keyword.Fixity g)) AtDot i m f (line_on ls (AtName (keyword.Fixity g)) (BehindName (keyword.Fixity g)) AtDot i j m (names_run ls (keyword.Fixity g) i j ns a) (one_step ls (BehindName (keyword.Fixity g)) AtDot j m (list_number g w.written w.there) e)) refl refl tt (no_dot (class_at ls m) d) l h
+pub number_dot_refused : (spot : ℕ → Spot) (ls : List Lexeme) (g : Fixity) (i j m n : ℕ) (ns : List ℕ) (f : SyntaxFault) → AreNames ls false i j ns →
+    HasNumber ls j n → m ≡ j + 1 → class_at ls m ≢ class.Dot → m ≤ length ls → f ≡ refused spot m None (class_at ls m) → StopsIn spot ls
+    (AtName (keyword.Fixity g)) i f
+number_dot_refused spot ls g i j m n ns f a w e d l h = stops_here spot ls (AtName (keyword.Fixity g)) AtDot i m f
+    (line_on ls (AtName (keyword.Fixity g)) (BehindName (keyword.Fixity g)) AtDot i j m (names_run ls (keyword.Fixity g) i j ns a)
+    (one_step ls (BehindName (keyword.Fixity g)) AtDot j m (list_number g w.written w.there) e)) refl refl tt (no_dot (class_at ls m) d) l h
 
 -- the keyword itself
 no_sentence : (c : Class) (k : Keyword) → c ≡ class.Keyword k → lists k ≡ false → (k ≡ keyword.Typeabbrev → ⊥) → (q : LineState) → LineStep c AtStart q → ⊥
@@ -211,11 +221,15 @@ pub not_last : (k : Keyword) (c : Class) → may_end k ≡ false → IsNoEnd k c
 not_last k c h y e = let z : false ≡ true = sym h ∙ y in cc
 
 -- a declaration by its keyword
-pub list_kept : {T : Type 0} (spot : ℕ → Spot) (ls : List Lexeme) (k m : Keyword) (i : ℕ) (r : Result T SyntaxFault) → k ≡ m → lists m ≡ true → class_at ls i ≡ class.Keyword k → IfErr r (λ f. MemoryOr f (StopsIn spot ls (AtName m) (i + 1) f)) → IfErr r (λ f. MemoryOr f (IsTooDeep ls k (i + 1) f ⊎ StopsIn spot ls AtStart i f))
+pub list_kept : {T : Type 0} (spot : ℕ → Spot) (ls : List Lexeme) (k m : Keyword) (i : ℕ) (r : Result T SyntaxFault) → k ≡ m → lists m ≡ true →
+    class_at ls i ≡ class.Keyword k → IfErr r (λ f. MemoryOr f (StopsIn spot ls (AtName m) (i + 1) f)) → IfErr r
+    (λ f. MemoryOr f (IsTooDeep ls k (i + 1) f ⊎ StopsIn spot ls AtStart i f))
 list_kept spot ls k m i (Ok x) p y e h = tt
 list_kept spot ls k m i (Err f) p y e h = memory_or f (λ s. inr (list_started spot ls m i f (e ∙ ap class.Keyword p) y s)) h
 
-pub typed_kept : {T : Type 0} (spot : ℕ → Spot) (ls : List Lexeme) (k m : Keyword) (i : ℕ) (r : Result T SyntaxFault) → k ≡ m → lists m ≡ true → class_at ls i ≡ class.Keyword k → IfErr r (λ f. MemoryOr f (IsTooDeep ls m (i + 1) f ⊎ StopsIn spot ls (AtName m) (i + 1) f)) → IfErr r (λ f. MemoryOr f (IsTooDeep ls k (i + 1) f ⊎ StopsIn spot ls AtStart i f))
+pub typed_kept : {T : Type 0} (spot : ℕ → Spot) (ls : List Lexeme) (k m : Keyword) (i : ℕ) (r : Result T SyntaxFault) → k ≡ m → lists m ≡ true →
+    class_at ls i ≡ class.Keyword k → IfErr r (λ f. MemoryOr f (IsTooDeep ls m (i + 1) f ⊎ StopsIn spot ls (AtName m) (i + 1) f)) → IfErr r
+    (λ f. MemoryOr f (IsTooDeep ls k (i + 1) f ⊎ StopsIn spot ls AtStart i f))
 typed_kept spot ls k m i (Ok x) p y e h = tt
 typed_kept spot ls k m i (Err f) p y e h = memory_or f go h
   where
@@ -223,7 +237,9 @@ typed_kept spot ls k m i (Err f) p y e h = memory_or f go h
     go (inl d) = inl (subst (λ z. IsTooDeep ls z (i + 1) f) (sym p) d)
     go (inr s) = inr (list_started spot ls m i f (e ∙ ap class.Keyword p) y s)
 
-pub head_kept : {T : Type 0} (spot : ℕ → Spot) (ls : List Lexeme) (k : Keyword) (i : ℕ) (r : Result T SyntaxFault) → k ≡ keyword.Typeabbrev → class_at ls i ≡ class.Keyword k → IfErr r (λ f. MemoryOr f (IsTooDeep ls keyword.Typeabbrev (i + 1) f ⊎ StopsIn spot ls AtHead (i + 1) f)) → IfErr r (λ f. MemoryOr f (IsTooDeep ls k (i + 1) f ⊎ StopsIn spot ls AtStart i f))
+pub head_kept : {T : Type 0} (spot : ℕ → Spot) (ls : List Lexeme) (k : Keyword) (i : ℕ) (r : Result T SyntaxFault) → k ≡ keyword.Typeabbrev → class_at
+    ls i ≡ class.Keyword k → IfErr r (λ f. MemoryOr f (IsTooDeep ls keyword.Typeabbrev (i + 1) f ⊎ StopsIn spot ls AtHead (i + 1) f)) → IfErr r
+    (λ f. MemoryOr f (IsTooDeep ls k (i + 1) f ⊎ StopsIn spot ls AtStart i f))
 head_kept spot ls k i (Ok x) p e h = tt
 head_kept spot ls k i (Err f) p e h = memory_or f go h
   where
@@ -231,5 +247,7 @@ head_kept spot ls k i (Err f) p e h = memory_or f go h
     go (inl d) = inl (subst (λ z. IsTooDeep ls z (i + 1) f) (sym p) d)
     go (inr s) = inr (head_started spot ls i f (e ∙ ap class.Keyword p) s)
 
-pub title_kept : (spot : ℕ → Spot) (ls : List Lexeme) (k m : Keyword) (i : ℕ) (f : SyntaxFault) → k ≡ m → lists m ≡ false → (m ≡ keyword.Typeabbrev → ⊥) → i ≤ length ls → f ≡ refused spot i None (class_at ls i) → class_at ls i ≡ class.Keyword k → MemoryOr f (IsTooDeep ls k (i + 1) f ⊎ StopsIn spot ls AtStart i f)
+pub title_kept : (spot : ℕ → Spot) (ls : List Lexeme) (k m : Keyword) (i : ℕ) (f : SyntaxFault) → k ≡ m → lists m ≡ false →
+    (m ≡ keyword.Typeabbrev → ⊥) → i ≤ length ls → f ≡ refused spot i None (class_at ls i) → class_at ls i ≡ class.Keyword k → MemoryOr f
+    (IsTooDeep ls k (i + 1) f ⊎ StopsIn spot ls AtStart i f)
 title_kept spot ls k m i f p y n l h e = inr (inr (title_refused spot ls m i f (e ∙ ap class.Keyword p) y n l h))

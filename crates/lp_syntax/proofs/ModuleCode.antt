@@ -43,7 +43,9 @@ pub term_refused : (spot : ℕ → Spot) (ops : Operators) (ls : List Lexeme) (i
 term_refused spot ops ls i f q (inl m) = inl m
 term_refused spot ops ls i f q (inr t) = inr (inr (term_fault spot ops ls i f q t))
 
-pub end_refused : (spot : ℕ → Spot) (ops : Operators) (ls : List Lexeme) (i n : ℕ) (t : Tree) (f : SyntaxFault) → ((k : Keyword) → class_at ls i ≡ class.Keyword k → ⊥) → TermAt ops ls i n t → IsOver ls n → class_at ls n ≢ class.Dot → f ≡ refused spot n None (class_at ls n) → SentenceFault spot ops ls i f
+pub end_refused : (spot : ℕ → Spot) (ops : Operators) (ls : List Lexeme) (i n : ℕ) (t : Tree) (f : SyntaxFault) →
+    ((k : Keyword) → class_at ls i ≡ class.Keyword k → ⊥) → TermAt ops ls i n t → IsOver ls n → class_at ls n ≢ class.Dot → f ≡ refused spot n None
+    (class_at ls n) → SentenceFault spot ops ls i f
 end_refused spot ops ls i n t f q d (inr e) h p = absurd (h e)
 end_refused spot ops ls i n t f q d (inl e) h p = end_fault spot ops ls i n t f q d e (p ∙ ap (refused spot n None) (past_end ls n (omega (arith, e))))
 
@@ -63,13 +65,17 @@ map_more : (source : List ℕ) (ss : List Spot) (s : Spot) → map (bytes_of sou
 map_more source [] s = refl
 map_more source (x ∷ ss) s = ap (λ l. bytes_of source x ∷ l) (map_more source ss s)
 
-pub one_more_name : (source : List ℕ) (ss : List Spot) (n : ℕ) (s : Spot) (e : Fixity × ℕ) (ops now after : Operators) → slice_get ss n ≡ Some s → DeclaresAll e ops (map (bytes_of source) (take n ss)) now → DeclaresOne (bytes_of source s) e now after → DeclaresAll e ops (map (bytes_of source) (take (n + 1) ss)) after
+pub one_more_name : (source : List ℕ) (ss : List Spot) (n : ℕ) (s : Spot) (e : Fixity × ℕ) (ops now after : Operators) → slice_get ss n ≡ Some s →
+    DeclaresAll e ops (map (bytes_of source) (take n ss)) now → DeclaresOne (bytes_of source s) e now after → DeclaresAll e ops
+    (map (bytes_of source) (take (n + 1) ss)) after
 one_more_name source ss n s e ops now after h d o = one_declared (map (bytes_of source) (take n ss)) _ (bytes_of source s) now after d o (ap (map (bytes_of source)) (take_more ss n s h) ∙ map_more source (take n ss) s)
 
 pub all_names : (source : List ℕ) (ss : List Spot) (n : ℕ) (e : Fixity × ℕ) (ops now : Operators) → length ss ≤ n → DeclaresAll e ops (map (bytes_of source) (take n ss)) now → DeclaresAll e ops (map (bytes_of source) ss) now
 all_names source ss n e ops now l d = subst (λ x. DeclaresAll e ops (map (bytes_of source) x) now) (take_all n ss l) d
 
-pub name_refused : (source : List ℕ) (ss : List Spot) (n : ℕ) (s : Spot) (e : Fixity × ℕ) (ops now : Operators) (f : SyntaxFault) → slice_get ss n ≡ Some s → DeclaresAll e ops (map (bytes_of source) (take n ss)) now → MemoryOr f ((c : FixFault) × IsFixFault now (bytes_of source s) e c × (f ≡ fault.Operator c s)) → MemoryOr f (NameFault source ss e ops f)
+pub name_refused : (source : List ℕ) (ss : List Spot) (n : ℕ) (s : Spot) (e : Fixity × ℕ) (ops now : Operators) (f : SyntaxFault) → slice_get ss n ≡
+    Some s → DeclaresAll e ops (map (bytes_of source) (take n ss)) now → MemoryOr f
+    ((c : FixFault) × IsFixFault now (bytes_of source s) e c × (f ≡ fault.Operator c s)) → MemoryOr f (NameFault source ss e ops f)
 name_refused source ss n s e ops now f h d m = memory_or f (λ x. record { place = n; name = s; there = h; now = now; before = d; cause = x.0; is_cause = x.1; is = x.2 }) m
 
 no_piece : (b : Bool) (x : List ℕ) → x ≡ [] → (if b then x else []) ≡ []
@@ -216,7 +222,9 @@ split_at spot (n ∷ ns) zero s e = (record { number = n; rest = ns; all = refl 
     same e = cc
 split_at spot (n ∷ ns) (suc place) s e = let h = split_at spot ns place s e in (record { number = h.0.number; rest = h.0.rest; all = ap (λ l. n ∷ l) h.0.all }, h.1)
 
-operator_fault : (file : ℕ) (source : List ℕ) (ts : List Token) (ns : List ℕ) (ss : List Spot) (g : Fixity) (m : ℕ) (now : Operators) (f : SyntaxFault) → ss ≡ map (spot_at file source ts) ns → NameFault source ss (g, m) now f → OperatorFault (spot_at file source ts) (lexemes source ts) now (FixityLine ns g m) f
+operator_fault : (file : ℕ) (source : List ℕ) (ts : List Token) (ns : List ℕ) (ss : List Spot) (g : Fixity) (m : ℕ) (now : Operators)
+    (f : SyntaxFault) → ss ≡ map (spot_at file source ts) ns → NameFault source ss (g, m) now f → OperatorFault (spot_at file source ts)
+    (lexemes source ts) now (FixityLine ns g m) f
 operator_fault file source ts ns ss g m now f e x =
     let spot = spot_at file source ts in
     let h = split_at spot ns x.place x.name (subst (λ l. slice_get l x.place ≡ Some x.name) e x.there) in

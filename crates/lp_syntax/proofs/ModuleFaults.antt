@@ -111,7 +111,9 @@ stopped_first ops ls ms i n j s q h a (says e t d z p) = go (compared n e)
     go (more l) =
         let g = h.viable in
         let long = g.agrees.long in
-        over_dot ops g.text i e t (same_term ops n ls g.text g.agrees i e t (omega (arith, l)) (same_term ops n ms ls (agree_back n ls ms h.high b) i e t (omega (arith, l)) d)) (class_same n e ls g.text g.agrees l ∙ sym (class_same n e ls ms b l) ∙ z) (length g.text) g.tree (omega (arith, long, l)) g.term
+        over_dot ops g.text i e t (same_term ops n ls g.text g.agrees i e t (omega (arith, l))
+        (same_term ops n ms ls (agree_back n ls ms h.high b) i e t (omega (arith, l)) d))
+        (class_same n e ls g.text g.agrees l ∙ sym (class_same n e ls ms b l) ∙ z) (length g.text) g.tree (omega (arith, long, l)) g.term
 
 stopped_none : (ops : Operators) (ls : List Lexeme) (i n j : ℕ) (s : Clause) → ((k : Keyword) → class_at ls i ≡ class.Keyword k → ⊥) → StopsAt ops ls i n → IsSentence ops ls i j s → ⊥
 stopped_none ops ls i n j s q h (declares l d) = q d.word d.there

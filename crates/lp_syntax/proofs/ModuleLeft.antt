@@ -27,7 +27,9 @@ take_drop (suc n) (x ∷ ns) = ap (λ l. x ∷ l) (take_drop n ns)
 abbrev LeftBy : List Lexeme → ℕ → Operators → Operators → Type 0
 LeftBy ls at ops now = ((name : List ℕ) → now name ≡ ops name) ⊎ IsPartDeclared ls at ops now
 
-part_left : (file : ℕ) (source : List ℕ) (ts : List Token) (ns : List ℕ) (ss : List Spot) (g : Fixity) (m at end place : ℕ) (now after : Operators) → IsLine (lexemes source ts) at end (FixityLine ns g m) → ss ≡ map (spot_at file source ts) ns → DeclaresAll (g, m) now (map (bytes_of source) (take place ss)) after → IsPartDeclared (lexemes source ts) at now after
+part_left : (file : ℕ) (source : List ℕ) (ts : List Token) (ns : List ℕ) (ss : List Spot) (g : Fixity) (m at end place : ℕ) (now after : Operators) →
+    IsLine (lexemes source ts) at end (FixityLine ns g m) → ss ≡ map (spot_at file source ts) ns → DeclaresAll (g, m) now
+    (map (bytes_of source) (take place ss)) after → IsPartDeclared (lexemes source ts) at now after
 part_left file source ts ns ss g m at end place now after k e d = record {
   end = end;
   front = take place ns;
@@ -57,7 +59,9 @@ line_left file source ts (AccumulateLine ns) (Fixities ss f n) at end now after 
 line_left file source ts (AccumSigLine ns) (Fixities ss f n) at end now after k h p = absurd h
 line_left file source ts (FixityLine ns g m) (Fixities ss f n) at end now after k h p = inr (part_left file source ts ns ss.items g m at end p.0 now after k h.0 (subst (λ x. DeclaresAll x now (map (bytes_of source) (take p.0 ss.items)) after) (λ i. (h.1 i, h.2 i)) p.1))
 
-sentence_left : (file : ℕ) (source : List ℕ) (ts : List Token) (s : Clause) (d : Sentence) (at end : ℕ) (now after : Operators) → IsSentence now (lexemes source ts) at end s → IsSaid (spot_at file source ts) (lexemes source ts) d s → SentenceLeft source d now after → LeftBy (lexemes source ts) at now after
+sentence_left : (file : ℕ) (source : List ℕ) (ts : List Token) (s : Clause) (d : Sentence) (at end : ℕ) (now after : Operators) → IsSentence now
+    (lexemes source ts) at end s → IsSaid (spot_at file source ts) (lexemes source ts) d s → SentenceLeft source d now after → LeftBy
+    (lexemes source ts) at now after
 sentence_left file source ts (Declared l) (sentence.Declares d) at end now after (declares _ k) h p = line_left file source ts l d at end now after k h p
 sentence_left file source ts (Declared l) (sentence.Says x) at end now after k h p = absurd h
 sentence_left file source ts (Said t) (sentence.Declares d) at end now after k h p = absurd h
@@ -70,5 +74,7 @@ none_left ls ops = record { at = 3; behind = ops; before = []; sentences = no_se
 pub left_behind : (spot : ℕ → Spot) (ls : List Lexeme) (ops now : Operators) (i : ℕ) (ds : List Sentence) → SentencesRead spot ls ops now i ds → IsLeft ls ops now
 left_behind spot ls ops now i ds r = record { at = i; behind = now; before = r.before; sentences = r.sentences; names = inl (λ o. refl) }
 
-pub left_within : (file : ℕ) (source : List ℕ) (ts : List Token) (ops now after : Operators) (i j : ℕ) (ds : List Sentence) (d : Sentence) → SentencesRead (spot_at file source ts) (lexemes source ts) ops now i ds → IsSentenceText (spot_at file source ts) now (lexemes source ts) i j d → SentenceLeft source d now after → IsLeft (lexemes source ts) ops after
+pub left_within : (file : ℕ) (source : List ℕ) (ts : List Token) (ops now after : Operators) (i j : ℕ) (ds : List Sentence) (d : Sentence) →
+    SentencesRead (spot_at file source ts) (lexemes source ts) ops now i ds → IsSentenceText (spot_at file source ts) now (lexemes source ts) i j d →
+    SentenceLeft source d now after → IsLeft (lexemes source ts) ops after
 left_within file source ts ops now after i j ds d r t p = record { at = i; behind = now; before = r.before; sentences = r.sentences; names = sentence_left file source ts t.clause d i j now after t.is t.said p }

@@ -117,5 +117,7 @@ other_dot = refl
 before_its_sentence : IsModule standard other (Said other_tree ∷ Declared other_line ∷ []) later
 before_its_sentence = record {
   header = other_header;
-  sentences = one_sentence standard later 7 11 (Said other_tree ∷ []) (Said other_tree ∷ Declared other_line ∷ []) (Declared other_line) (one_sentence standard standard 3 7 [] (Said other_tree ∷ []) (Said other_tree) no_sentence (says 6 other_tree other_term other_dot refl) (λ name. refl) refl) (declares other_line other_has_line) other_declared refl;
+  sentences = one_sentence standard later 7 11 (Said other_tree ∷ []) (Said other_tree ∷ Declared other_line ∷ []) (Declared other_line)
+      (one_sentence standard standard 3 7 [] (Said other_tree ∷ []) (Said other_tree) no_sentence (says 6 other_tree other_term other_dot refl)
+      (λ name. refl) refl) (declares other_line other_has_line) other_declared refl;
 }

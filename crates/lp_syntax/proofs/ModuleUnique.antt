@@ -217,7 +217,9 @@ declared_well spot ls now after l f o h =
     no_cause o.now z.next (bytes_at ls o.name) e o.cause (subst (λ x. DeclaresOne (bytes_at ls o.name) e x z.next) s z.one) o.is_cause
 
 -- a module is not refused but for want of memory or depth
-refused_there : (spot : ℕ → Spot) (now : Operators) (ls : List Lexeme) (at : ℕ) (f : SyntaxFault) (end : ℕ) (s : Clause) (after : Operators) → IsSentence now ls at end s → Follows ls s now after → IsSentenceRefusal spot now ls at f ⊎ IsBadOperator spot now ls at f → (f ≡ fault.Memory) ⊎ ((f ≡ fault.Limit Nesting) × ClauseTooDeep ls s)
+refused_there : (spot : ℕ → Spot) (now : Operators) (ls : List Lexeme) (at : ℕ) (f : SyntaxFault) (end : ℕ) (s : Clause) (after : Operators) →
+    IsSentence now ls at end s → Follows ls s now after → IsSentenceRefusal spot now ls at f ⊎ IsBadOperator spot now ls at f → (f ≡ fault.Memory) ⊎
+    ((f ≡ fault.Limit Nesting) × ClauseTooDeep ls s)
 refused_there spot now ls at f end s after h w (inl (inl m)) = inl m
 refused_there spot now ls at f end s after h w (inl (inr (inl d))) = inr (d.0, subst (ClauseTooDeep ls) (same_sentence now ls at d.1.0 end d.1.1 s d.1.2 h).clause d.1.3)
 refused_there spot now ls at f end s after h w (inl (inr (inr x))) = absurd (x.none end s h)

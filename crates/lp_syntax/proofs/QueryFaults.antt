@@ -136,7 +136,9 @@ pub tail_refused : (spot : ℕ → Spot) (ops : Operators) (ls : List Lexeme) (i
 tail_refused spot ops ls i t f d e l k =
     let z : i + 1 ≡ suc i = omega arith in
     let r = term_read ops ls 0 i t d in
-    let g : f ≡ refused spot (suc i) (innermost (open_brackets ls 0 (suc i))) (class_at ls (suc i)) = subst (λ j. f ≡ refused spot j (innermost (open_brackets ls 0 j)) (class_at ls j)) z (k ∙ refused_there spot (i + 1) None (innermost (open_brackets ls 0 (i + 1))) (class_at ls (i + 1)) (class_there ls (i + 1) l)) in
+    let g : f ≡ refused spot (suc i) (innermost (open_brackets ls 0 (suc i))) (class_at ls (suc i)) = subst
+    (λ j. f ≡ refused spot j (innermost (open_brackets ls 0 j)) (class_at ls j)) z
+    (k ∙ refused_there spot (i + 1) None (innermost (open_brackets ls 0 (i + 1))) (class_at ls (i + 1)) (class_there ls (i + 1) l)) in
     tail_stops spot ops ls i t f d e (omega (arith, l)) (kind_behind spot ops ls 0 i r.0 f r.1 (dot_no_colon ls i e) (ap (step r.0) (dot_symbol ops ls i e) ∙ other_stops r.0.frames r.0.mode) g)
 
 -- a term up to its end, or to a full stop at the end

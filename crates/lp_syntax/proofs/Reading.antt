@@ -110,7 +110,9 @@ closes_all all n ks fs b f t s (waits_left gs o g x js _ k e p q l a') d a = clo
 closes_all all n ks fs b f t s (waits_first gs o _ k p a') d a = closes_all all n (Op o ∷ ks) gs b (By o.fixity o.number) (App (Leaf o.spot) t) s k (waiting gs o None b f t s a d) a'
 closes_all all n ks fs b f t s (binder gs v y fn js _ k e) d a = closes_all all n js gs true Whole (apply fn (Lam v y t)) s k (under gs v y fn b f t s d) (admits_whole gs)
 closes_all all n ks fs b f t s (bracket gs fn js _ k e) d a = finishes_on s _ Closes (closers (suc n) gs) (step_close (Inside fn ∷ gs) b f t s EndBracket d) (closes_all all (suc n) js gs false Whole (apply fn t) (st gs (Has fn t None)) k (has_term gs fn t None) (admits_whole gs))
-closes_all all n ks fs b f t s (item gs v fn done js bs _ k e i) d a = finishes_on s _ (ClosesList n) (closers (suc n) gs) (step_close (Item v fn done ∷ gs) b f t s (EndList n) d) (closes_all all (suc n) js gs false Whole _ (st gs (Has fn (wrap ((v, t) ∷ done) (Nil n)) None)) k (has_term gs fn _ None) (admits_whole gs))
+closes_all all n ks fs b f t s (item gs v fn done js bs _ k e i) d a = finishes_on s _ (ClosesList n) (closers (suc n) gs)
+    (step_close (Item v fn done ∷ gs) b f t s (EndList n) d) (closes_all all (suc n) js gs false Whole _
+    (st gs (Has fn (wrap ((v, t) ∷ done) (Nil n)) None)) k (has_term gs fn _ None) (admits_whole gs))
 closes_all all n ks fs b f t s (rest gs fn done js bs _ k e i) d a = finishes_on s _ (ClosesList n) (closers (suc n) gs) (step_close (Tail fn done ∷ gs) b f t s (EndList n) d) (closes_all all (suc n) js gs false Whole _ (st gs (Has fn (wrap done t) None)) k (has_term gs fn _ None) (admits_whole gs))
 
 -- what completes a term
@@ -127,7 +129,9 @@ completion n s = completion_in n s.frames s.mode
 
 completes : (n : ℕ) (all cs : List Sym) (s : State) → Reads all s cs → Finishes s (completion n s)
 completes n all cs s (at_operand fs _ k) = finishes_on s _ (Atom n) (closers (suc n) fs) refl (closes_all all (suc n) cs fs false Whole (Leaf n) (st fs (Has None (Leaf n) None)) k (has_term fs None (Leaf n) None) (admits_whole fs))
-completes n all cs s (at_bracket fs fn ks _ k e) = finishes_on s _ (Atom n) (closers (suc n) (Inside fn ∷ fs)) refl (closes_all all (suc n) cs (Inside fn ∷ fs) false Whole (Leaf n) (st (Inside fn ∷ fs) (Has None (Leaf n) None)) (bracket fs fn ks cs k e) (has_term (Inside fn ∷ fs) None (Leaf n) None) refl)
+completes n all cs s (at_bracket fs fn ks _ k e) = finishes_on s _ (Atom n) (closers (suc n) (Inside fn ∷ fs)) refl
+    (closes_all all (suc n) cs (Inside fn ∷ fs) false Whole (Leaf n) (st (Inside fn ∷ fs) (Has None (Leaf n) None)) (bracket fs fn ks cs k e)
+    (has_term (Inside fn ∷ fs) None (Leaf n) None) refl)
 completes n all cs s (at_list fs v fn ks _ k e) = finishes_on s _ (ClosesList n) (closers (suc n) fs) refl (closes_all all (suc n) ks fs false Whole (apply fn (Nil n)) (st fs (Has fn (Nil n) None)) k (has_term fs fn (Nil n) None) (admits_whole fs))
 completes n all cs s (at_name fs fn o ks _ k e) = finishes_on s _ Closes (closers (suc n) fs) refl (closes_all all (suc n) ks fs false Whole (apply fn (Leaf o.spot)) (st fs (Has fn (Leaf o.spot) None)) k (has_term fs fn (Leaf o.spot) None) (admits_whole fs))
 completes n all cs s (behind_term fs fn x w ks bs _ k e d i) = closes_all all n ks fs false Whole (apply fn x) s k (has_term fs fn x w) (admits_whole fs)

@@ -122,7 +122,12 @@ pub header_runs : (ls : List Lexeme) (k : Keyword) → IsHeader ls k → LineRun
 header_runs ls k h = goes (AtHeader k) AtWord AtEnd 0 1 3 (header k h.first) refl (goes AtWord AtHeaderDot AtEnd 1 2 3 (header_word h.second) refl (one_step ls AtHeaderDot AtEnd 2 3 (header_dot h.third) refl))
 
 pub header_sound : (ls : List Lexeme) (k : Keyword) (j : ℕ) → LineRuns ls (AtHeader k) 0 AtEnd j → IsHeader ls k × (j ≡ 3)
-header_sound ls k j (goes _ _ _ _ _ _ (header _ e) p (goes _ _ _ _ _ _ (header_word f) q (goes _ _ _ _ _ _ (header_dot g) r d))) = (record { first = e; second = ap (λ i. is_word (class_at ls i)) (sym p) ∙ f; third = ap (class_at ls) (sym (q ∙ ap (λ n. n + 1) p)) ∙ g }, at_end _ j d ∙ r ∙ ap (λ n. n + 1) (q ∙ ap (λ n. n + 1) p))
+header_sound ls k j (goes _ _ _ _ _ _ (header _ e) p (goes _ _ _ _ _ _ (header_word f) q (goes _ _ _ _ _ _ (header_dot g) r d))) = (
+  record
+      { first = e; second = ap (λ i. is_word (class_at ls i)) (sym p) ∙ f; third = ap (class_at ls) (sym (q ∙ ap (λ n. n + 1) p)) ∙ g },
+  at_end _ j d ∙
+      r ∙ ap (λ n. n + 1) (q ∙ ap (λ n. n + 1) p),
+)
   where
     at_end : (a b : ℕ) → LineRuns ls AtEnd a AtEnd b → b ≡ a
     at_end a b (stays _ _) = refl

@@ -109,7 +109,9 @@ no_local ls ms at ds es k t a l e y g = go (rest_of ls ms at at ds es t (omega a
     go : (rest : List Line) × AreLines ms at (length ms) rest → ⊥
     go r = some (length ms) r.0 refl r.1
 
-pub local_fault : (spot : ℕ → Spot) (ls : List Lexeme) (at : ℕ) (ds : List Line) (f : SyntaxFault) (k : Keyword) → IsHeader ls keyword.Sig → AreLines ls 3 at ds → at < length ls → class_at ls at ≡ class.Keyword k → is_local_word k ≡ true → f ≡ refused spot at None (class_at ls at) → SignatureFault spot ls f
+pub local_fault : (spot : ℕ → Spot) (ls : List Lexeme) (at : ℕ) (ds : List Line) (f : SyntaxFault) (k : Keyword) → IsHeader ls keyword.Sig → AreLines
+    ls 3 at ds → at < length ls → class_at ls at ≡ class.Keyword k → is_local_word k ≡ true → f ≡ refused spot at None (class_at ls at) →
+    SignatureFault spot ls f
 local_fault spot ls at ds f k h t l e y z = record {
   number = at;
   high = omega (arith, l);

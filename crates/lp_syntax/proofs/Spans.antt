@@ -53,7 +53,9 @@ span_abstracted v y d = span _ _ _ _ (Word v ∷ Binds y ∷ d.tokens) (ap (λ l
 pub span_bound : {b : Bool} {f : Form} {ks bs cs : List Sym} {t u : Tree} (v : ℕ) (y : Option ℕ) → Spans (Part false Whole) ks (Word v ∷ Binds y ∷ bs) t → Spans (Part b f) bs cs u → Spans (Part true Whole) ks cs (App t (Lam v y u))
 span_bound v y d e = span _ _ _ _ (d.tokens ++ Word v ∷ Binds y ∷ e.tokens) (joined _ d.tokens (Word v ∷ Binds y ∷ e.tokens) d.are (ap (λ l. Word v ∷ Binds y ∷ l) e.are)) (bound v y _ _ _ _ _ _ d.derives e.derives)
 
-pub span_between : {b : Bool} {f g : Form} {ks bs cs : List Sym} {t u : Tree} (o : Oper) → is_prefix o.fixity ≡ false → is_postfix o.fixity ≡ false → fits_left f o.fixity o.number ≡ true → fits_right g o.fixity o.number ≡ true → Spans (Part false f) ks (Op o ∷ bs) t → Spans (Part b g) bs cs u → Spans (Part b (By o.fixity o.number)) ks cs (binary o.spot t u)
+pub span_between : {b : Bool} {f g : Form} {ks bs cs : List Sym} {t u : Tree} (o : Oper) → is_prefix o.fixity ≡ false → is_postfix o.fixity ≡ false →
+    fits_left f o.fixity o.number ≡ true → fits_right g o.fixity o.number ≡ true → Spans (Part false f) ks (Op o ∷ bs) t → Spans (Part b g) bs cs u →
+    Spans (Part b (By o.fixity o.number)) ks cs (binary o.spot t u)
 span_between o p q l m d e = span _ _ _ _ (d.tokens ++ Op o ∷ e.tokens) (joined _ d.tokens (Op o ∷ e.tokens) d.are (ap (λ l. Op o ∷ l) e.are)) (between o _ _ _ _ _ _ _ p q l m d.derives e.derives)
 
 pub span_before : {b : Bool} {f : Form} {ks cs : List Sym} {t : Tree} (o : Oper) → is_prefix o.fixity ≡ true → fits_right f o.fixity o.number ≡ true → Spans (Part b f) ks cs t → Spans (Part b (By o.fixity o.number)) (Op o ∷ ks) cs (App (Leaf o.spot) t)

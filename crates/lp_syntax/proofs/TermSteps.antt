@@ -71,7 +71,9 @@ token_reads ops ls r d next i ns hs os c m v l n e g s b =
       inner = b ∙ brackets_more ls r.from i r.opens.items v.low v.inner;
     }
 
-pub token_faults : (spot : ℕ → Spot) (ops : Operators) (ls : List Lexeme) (r : Reader) (d : Doing) (i : ℕ) (x : Fault) (f : SyntaxFault) → IsReading ops ls r d i → i < length ls → class_at ls i ≢ Colon → class_at ls i ≢ Dot → step (state_of r d) (symbol_at ops ls i) ≡ Stops x → IsKind spot ops ls r.from i f → TermFault spot ops ls r.from f
+pub token_faults : (spot : ℕ → Spot) (ops : Operators) (ls : List Lexeme) (r : Reader) (d : Doing) (i : ℕ) (x : Fault) (f : SyntaxFault) → IsReading
+    ops ls r d i → i < length ls → class_at ls i ≢ Colon → class_at ls i ≢ Dot → step (state_of r d) (symbol_at ops ls i) ≡ Stops x → IsKind spot ops
+    ls r.from i f → TermFault spot ops ls r.from f
 token_faults spot ops ls r d i x f v l n m e k = record {
   number = i;
   stops = record {
@@ -79,7 +81,9 @@ token_faults spot ops ls r d i x f v l n m e k = record {
     high = v.high;
     viable = can_go_on ops ls r.from i (state_of r d) v.high v.read;
     first = λ text a.
-        token_stops ops text r.from i (state_of r d) x (same_read ops i ls text (agree_less i (suc i) ls text (omega arith) a) r.from (state_of r d) v.read) (λ z. n (sym (class_same (suc i) i ls text a (omega arith)) ∙ z)) (ap (step (state_of r d)) (symbol_same ops (suc i) i ls text a (omega arith)) ∙ e);
+        token_stops ops text r.from i (state_of r d) x (same_read ops i ls text (agree_less i (suc i) ls text (omega arith) a) r.from (state_of r d)
+        v.read) (λ z. n (sym (class_same (suc i) i ls text a (omega arith)) ∙ z))
+        (ap (step (state_of r d)) (symbol_same ops (suc i) i ls text a (omega arith)) ∙ e);
     none = λ h. go h;
   };
   kind = k;
@@ -96,7 +100,9 @@ class_symbol ops ls i c e k = ap (λ c'. symbol_of i c' (ops (bytes_at ls i))) e
 colon_no_dot : (ls : List Lexeme) (i : ℕ) → class_at ls i ≡ Colon → class_at ls i ≡ Dot → ⊥
 colon_no_dot ls i e f = let g : Colon ≡ Dot = sym e ∙ f in cc
 
-pub colon_faults : (spot : ℕ → Spot) (ops : Operators) (ls : List Lexeme) (r : Reader) (d : Doing) (i : ℕ) (x : Fault) (f : SyntaxFault) → IsReading ops ls r d i → i < length ls → class_at ls i ≡ Colon → step (state_of r d) (Binds (Some i)) ≡ Stops x → f ≡ refused spot i (innermost (open_brackets ls r.from i)) (class_at ls i) → TermFault spot ops ls r.from f
+pub colon_faults : (spot : ℕ → Spot) (ops : Operators) (ls : List Lexeme) (r : Reader) (d : Doing) (i : ℕ) (x : Fault) (f : SyntaxFault) → IsReading
+    ops ls r d i → i < length ls → class_at ls i ≡ Colon → step (state_of r d) (Binds (Some i)) ≡ Stops x → f ≡ refused spot i
+    (innermost (open_brackets ls r.from i)) (class_at ls i) → TermFault spot ops ls r.from f
 colon_faults spot ops ls r d i x f v l n e k = record {
   number = i;
   stops = record {
@@ -281,7 +287,9 @@ agree_past ls text a =
     cc
 
 -- a term that may not end here
-pub end_faults : (spot : ℕ → Spot) (ops : Operators) (ls : List Lexeme) (r : Reader) (d : Doing) (i : ℕ) (f : SyntaxFault) → IsReading ops ls r d i → IsOver ls i → ended (state_of r d) ≡ None → f ≡ refused spot i (innermost (open_brackets ls r.from i)) (class_at ls i) → TermFault spot ops ls r.from f
+pub end_faults : (spot : ℕ → Spot) (ops : Operators) (ls : List Lexeme) (r : Reader) (d : Doing) (i : ℕ) (f : SyntaxFault) → IsReading ops ls r d i →
+    IsOver ls i → ended (state_of r d) ≡ None → f ≡ refused spot i (innermost (open_brackets ls r.from i)) (class_at ls i) → TermFault spot ops ls
+    r.from f
 end_faults spot ops ls r d i f v o e k = record {
   number = i;
   stops = record {
@@ -314,7 +322,9 @@ end_term spot ops ls r d i root ns o text v e f g a h k w =
     let y = shows spot ls ns text.term.nodes.items root t a (f.grows.ordered v.ordered) (subst (IsMaybeBelow (length ns)) e f.below) refl (term_notes ops ls r.from text.end t x) in
     record { tree = t; term = x; nodes = subst (λ j. Shows spot ls text.term.nodes.items j t) h y; first = k; depth = w t y }
 
-pub refused_is : (spot : ℕ → Spot) (ops : Operators) (ls : List Lexeme) (r : Reader) (d : Doing) (i : ℕ) (b : Option ℕ) (f : SyntaxFault) → IsReading ops ls r d i → f ≡ refused spot i b (class_at ls i) → b ≡ innermost r.opens.items → f ≡ refused spot i (innermost (open_brackets ls r.from i)) (class_at ls i)
+pub refused_is : (spot : ℕ → Spot) (ops : Operators) (ls : List Lexeme) (r : Reader) (d : Doing) (i : ℕ) (b : Option ℕ) (f : SyntaxFault) → IsReading
+    ops ls r d i → f ≡ refused spot i b (class_at ls i) → b ≡ innermost r.opens.items → f ≡ refused spot i (innermost (open_brackets ls r.from i))
+    (class_at ls i)
 refused_is spot ops ls r d i b f v e g = e ∙ ap (λ o. refused spot i o (class_at ls i)) (g ∙ ap innermost v.inner)
 
 pub memory_or : (Q R : SyntaxFault → Type 0) (f : SyntaxFault) → (Q f → R f) → MemoryOr f (Q f) → MemoryOr f (R f)

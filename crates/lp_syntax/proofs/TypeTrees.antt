@@ -65,7 +65,9 @@ kept_held x old new k ks i (at_group _ hs m e h o) = at_group ks hs m e (kept_he
 kept_held x old new k ks i (at_argument _ hs w m j xs t e h s b d o) = at_argument ks hs w m j xs t e (kept_held x old new k hs m h) (kept_shows x.spot old new k _ t s) (below_more (length old) (length new) xs.items k.longer b) d o
 
 -- what is newest
-arrow_top : (x : TypeText) (ns : List RawTypeNode) (ks hs : List Waiting) (l i : ℕ) → ks ≡ hs ++ waiting.Arrow l ∷ [] → IsHeld x ns ks i → (j : ℕ) × (m : ℕ) × (t : TypeTree) × (i ≡ suc j) × IsHeld x ns hs m × ShowsType x.spot ns (Node l) t × (l < length ns) × IsType x.lexemes Side m j t × (class_at x.lexemes j ≡ Arrow)
+arrow_top : (x : TypeText) (ns : List RawTypeNode) (ks hs : List Waiting) (l i : ℕ) → ks ≡ hs ++ waiting.Arrow l ∷ [] → IsHeld x ns ks i → (j : ℕ) ×
+    (m : ℕ) × (t : TypeTree) × (i ≡ suc j) × IsHeld x ns hs m × ShowsType x.spot ns (Node l) t × (l < length ns) × IsType x.lexemes Side m j t ×
+    (class_at x.lexemes j ≡ Arrow)
 arrow_top x ns ks hs l i e (at_none _ _ f g) = absurd (snoc_some hs _ (sym f ∙ e))
 arrow_top x ns ks hs l i e (at_arrow _ gs k m j t f h s b d a) =
     let r = same_from_push gs hs _ _ (sym f ∙ e) in
@@ -136,7 +138,9 @@ fold_argument x ns ks hs s xs node at e w = go w.start w.held w.type_is
 pub closes_group : (x : TypeText) (ns : List RawTypeNode) (hs : List Waiting) (node at : ℕ) → class_at x.lexemes at ≡ Close → IsGrouped x ns hs at node → IsBuilt x ns hs (at + 1) node
 closes_group x ns hs node at c g = record { start = g.start; tree = g.tree; held = g.held; shows = g.shows; below = g.below; type_is = subst (λ j. IsType x.lexemes Side g.start j g.tree) (suc-eq-add-one at) (side_argument g.start (suc at) g.tree (group g.start at g.tree g.mark g.type_is c)) }
 
-more_applied : (x : TypeText) (ns : List RawTypeNode) (hs : List Waiting) (s : Spot) (xs ys : Vec ℕ Global) (j k node : ℕ) (u : TypeTree) → IsApplied x ns hs j s xs → ShowsType x.spot ns (Node node) u → node < length ns → IsType x.lexemes Argument j k u → ys.items ≡ xs.items ++ node ∷ [] → IsApplied x ns hs k s ys
+more_applied : (x : TypeText) (ns : List RawTypeNode) (hs : List Waiting) (s : Spot) (xs ys : Vec ℕ Global) (j k node : ℕ) (u : TypeTree) → IsApplied
+    x ns hs j s xs → ShowsType x.spot ns (Node node) u → node < length ns → IsType x.lexemes Argument j k u → ys.items ≡ xs.items ++ node ∷ [] →
+    IsApplied x ns hs k s ys
 more_applied x ns hs s xs ys j k node u a w b d e = record {
   start = a.start;
   word = a.word;
@@ -152,10 +156,21 @@ pub closes_argument : (x : TypeText) (ns : List RawTypeNode) (hs : List Waiting)
 closes_argument x ns hs s xs ys node at c g e = more_applied x ns hs s xs ys g.open_at (at + 1) node g.tree g.applied g.shows g.below (subst (λ j. IsType x.lexemes Argument g.open_at j g.tree) (suc-eq-add-one at) (group g.open_at at g.tree g.mark g.type_is c)) e
 
 pub kept_applied : (x : TypeText) (old new : List RawTypeNode) (hs : List Waiting) (at : ℕ) (s : Spot) (xs : Vec ℕ Global) → AreKept old new → IsApplied x old hs at s xs → IsApplied x new hs at s xs
-kept_applied x old new hs at s xs k a = record { start = a.start; word = a.word; tree = a.tree; held = kept_held x old new k hs a.start a.held; spot_is = a.spot_is; shows = kept_shows x.spot old new k _ a.tree a.shows; below = below_more (length old) (length new) xs.items k.longer a.below; type_is = a.type_is }
+kept_applied x old new hs at s xs k a = record {
+  start = a.start;
+  word = a.word;
+  tree = a.tree;
+  held = kept_held x old new k hs a.start a.held;
+  spot_is = a.spot_is;
+  shows = kept_shows x.spot old new k _ a.tree a.shows;
+  below = below_more (length old) (length new) xs.items k.longer a.below;
+  type_is = a.type_is;
+}
 
 -- a word as a node
-node_of_word : (x : TypeText) (old new : List RawTypeNode) (w n : ℕ) (s : Spot) (xs : Vec ℕ Global) (t : TypeTree) → s ≡ x.spot w → ShowsType x.spot old (OnNodes w xs.items) t → AreBelow (length old) xs.items → AreKept old new → slice_get new n ≡ Some (raw.Word s xs) → n ≡ length old → ShowsType x.spot new (Node n) t
+node_of_word : (x : TypeText) (old new : List RawTypeNode) (w n : ℕ) (s : Spot) (xs : Vec ℕ Global) (t : TypeTree) → s ≡ x.spot w → ShowsType x.spot
+    old (OnNodes w xs.items) t → AreBelow (length old) xs.items → AreKept old new → slice_get new n ≡ Some (raw.Word s xs) → n ≡ length old →
+    ShowsType x.spot new (Node n) t
 node_of_word x old new w n s xs t e d b k g f = word_node n w xs t (g ∙ ap (λ z. Some (raw.Word z xs)) e) (subst (λ m. AreBelow m xs.items) (sym f) b) (kept_shows x.spot old new k _ t d)
 
 -- an argument that is one word
@@ -175,7 +190,9 @@ built_word x old new hs at n s xs a k g f b = record { start = a.start; tree = a
 pub begins_word : (x : TypeText) (ns : List RawTypeNode) (hs : List Waiting) (at : ℕ) (s : Spot) (xs : Vec ℕ Global) → IsHeld x ns hs at → class_at x.lexemes at ≡ Lower → s ≡ x.spot at → xs.items ≡ [] → IsApplied x ns hs (at + 1) s xs
 begins_word x ns hs at s xs h c e f = record { start = at; word = at; tree = Named at; held = h; spot_is = e; shows = on_none at xs.items f; below = subst (AreBelow (length ns)) (sym f) tt; type_is = subst (λ j. IsType x.lexemes Head at j (Named at)) (suc-eq-add-one at) (head at c) }
 
-pub begins_variable : (x : TypeText) (old new : List RawTypeNode) (hs : List Waiting) (at n : ℕ) (s : Spot) (none : Vec ℕ Global) → IsHeld x old hs at → class_at x.lexemes at ≡ Upper → s ≡ x.spot at → none.items ≡ [] → AreKept old new → slice_get new n ≡ Some (raw.Word s none) → n ≡ length old → n < length new → IsBuilt x new hs (at + 1) n
+pub begins_variable : (x : TypeText) (old new : List RawTypeNode) (hs : List Waiting) (at n : ℕ) (s : Spot) (none : Vec ℕ Global) → IsHeld x old hs at
+    → class_at x.lexemes at ≡ Upper → s ≡ x.spot at → none.items ≡ [] → AreKept old new → slice_get new n ≡ Some (raw.Word s none) → n ≡ length old →
+    n < length new → IsBuilt x new hs (at + 1) n
 begins_variable x old new hs at n s none h c e z k g f b = record {
   start = at;
   tree = Named at;
@@ -199,7 +216,9 @@ pub whole_of : (x : TypeText) (ns : List RawTypeNode) (hs : List Waiting) (at n 
 whole_of x ns hs at n b = record { start = b.start; tree = b.tree; held = b.held; shows = b.shows; below = b.below; type_is = target b.start at b.tree b.type_is }
 
 -- a bracket or an arrow that was pushed
-pub turned_due : {E : Type 0} (x : TypeText) (old new : Vec RawTypeNode Global) (hs ks : List Waiting) (h : Waiting) (at : ℕ) (r : Result Turn E) → new ≡ old → IfOk r (λ t. ks ≡ hs ++ h ∷ []) → IfOk r (λ t. t ≡ turn.Goes due.Wants) → (ks ≡ hs ++ h ∷ [] → IsHeld x old.items ks (at + 1)) → IfOk r (IsTurned x new.items ks at)
+pub turned_due : {E : Type 0} (x : TypeText) (old new : Vec RawTypeNode Global) (hs ks : List Waiting) (h : Waiting) (at : ℕ) (r : Result Turn E) →
+    new ≡ old → IfOk r (λ t. ks ≡ hs ++ h ∷ []) → IfOk r (λ t. t ≡ turn.Goes due.Wants) → (ks ≡ hs ++ h ∷ [] → IsHeld x old.items ks (at + 1)) → IfOk
+    r (IsTurned x new.items ks at)
 turned_due x old new hs ks h at (Ok t) e p g f = subst (IsTurned x new.items ks at) (sym g) (subst (λ v. IsHeld x v.items ks (at + 1)) (sym e) (f p))
 turned_due x old new hs ks h at (Err f') e p g f = tt
 

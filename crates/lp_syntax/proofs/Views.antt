@@ -78,7 +78,9 @@ frames_kept old new [] g h = refl
 frames_kept old new (x ∷ hs) g h = λ k. frames_kept old new hs g h.1 k ++ frame_kept old new x g h.0 k ∷ []
 
 -- `takes`
-pub took_postfix : (old new : List Node) (hs : List Held) (x i : ℕ) (o : Oper) → is_postfix o.fixity ≡ true → EachBelow (length old) hs → Grows old new → i < length new → at (trees new) i ≡ App (Leaf o.spot) (at (trees old) x) → Steps old new hs (step.Goes (doing.Formed o.fixity o.number i)) (takes (frames_of (trees old) hs) (at (trees old) x) o)
+pub took_postfix : (old new : List Node) (hs : List Held) (x i : ℕ) (o : Oper) → is_postfix o.fixity ≡ true → EachBelow (length old) hs → Grows old
+    new → i < length new → at (trees new) i ≡ App (Leaf o.spot) (at (trees old) x) → Steps old new hs (step.Goes (doing.Formed o.fixity o.number i))
+    (takes (frames_of (trees old) hs) (at (trees old) x) o)
 took_postfix old new hs x i o p e g l t = record {
   is = (λ k. Goes (st (frames_kept old new hs g e k) (Formed o.fixity o.number (t k)))) ∙ rw p refl;
   grows = g;
@@ -103,7 +105,9 @@ took_waiting old hs hs' x o q p e l = rw q (took_infix old hs x o p e l)
 pub pushed_below : (n : ℕ) (hs hs' : List Held) (h : Held) → hs' ≡ hs ++ h ∷ [] → EachBelow n hs → IsHeldBelow n h → EachBelow n hs'
 pushed_below n hs hs' h q e i = rw q (each_push n hs h e i)
 
-pub item_takes : (ts : List Tree) (hs hs' : List Held) (v : ℕ) (fn : Option ℕ) (done : Items) (t : Tree) (o : Oper) → hs' ≡ hs ++ held.Item v fn done ∷ [] → is_item (By o.fixity o.number) ≡ true → takes (frames_of ts hs') t o ≡ attach (Item v (maybe ts fn) (done_of ts done.items) ∷ frames_of ts hs) t o
+pub item_takes : (ts : List Tree) (hs hs' : List Held) (v : ℕ) (fn : Option ℕ) (done : Items) (t : Tree) (o : Oper) → hs' ≡ hs ++ held.Item v fn done
+    ∷ [] → is_item (By o.fixity o.number) ≡ true → takes (frames_of ts hs') t o ≡ attach
+    (Item v (maybe ts fn) (done_of ts done.items) ∷ frames_of ts hs) t o
 item_takes ts hs hs' v fn done t o q i = ap (λ l. takes (frames_of ts l) t o) q ∙ ap (λ fs. takes fs t o) (frames_push ts hs (held.Item v fn done)) ∙ rw i refl
 
 pub item_separates : (old : List Node) (hs hs' : List Held) (v : ℕ) (fn : Option ℕ) (done done' : Items) (x : ℕ) (o : Oper) → done'.items ≡ done.items
@@ -111,7 +115,9 @@ pub item_separates : (old : List Node) (hs hs' : List Held) (v : ℕ) (fn : Opti
     hs → IsMaybeBelow (length old) fn → AreItemsBelow (length old) done.items → x < length old → Steps old old hs' (step.Goes doing.Wants)
     (attach (Item v (maybe (trees old) fn) (done_of (trees old) done.items) ∷ frames_of (trees old) hs) (at (trees old) x) o)
 item_separates old hs hs' v fn done done' x o d q i p e f g l = record {
-  is = ap (λ l. Goes (st (frames_of (trees old) l) Wants)) q ∙ ap (λ fs. Goes (st fs Wants)) (frames_push (trees old) hs (held.Item o.spot fn done')) ∙ ap (λ is. Goes (st (Item o.spot (maybe (trees old) fn) is ∷ frames_of (trees old) hs) Wants)) (ap (done_of (trees old)) d ∙ done_push (trees old) done.items (v, x)) ∙ rw (i, p) refl;
+  is = ap (λ l. Goes (st (frames_of (trees old) l) Wants)) q ∙ ap (λ fs. Goes (st fs Wants)) (frames_push (trees old) hs (held.Item o.spot fn done'))
+      ∙ ap (λ is. Goes (st (Item o.spot (maybe (trees old) fn) is ∷ frames_of (trees old) hs) Wants))
+      (ap (done_of (trees old)) d ∙ done_push (trees old) done.items (v, x)) ∙ rw (i, p) refl;
   grows = grows_none old;
   below = (pushed_below (length old) hs hs' (held.Item o.spot fn done') q e (f, subst (AreItemsBelow (length old)) (sym d) (items_push (length old) done.items (v, x) g l)), tt);
 }
@@ -159,7 +165,9 @@ reduced now new ks hs p l x x' o m e g b h k t s =
     ∙ sym (waits_reduces (frames_of (trees now) hs) p (maybe (trees now) l) (at (trees now) x) o h k)
     ∙ frames_top (trees now) ks hs (held.Waits p l) (at (trees now) x) o m e s
 
-pub stopped : (old now : List Node) (ks hs : List Held) (p : Oper) (l : Option ℕ) (x : ℕ) (o : Oper) (m : Move) → Grows old now → ks ≡ hs ++ held.Waits p l ∷ [] → fits_right (By o.fixity o.number) p.fixity p.number ≡ false → fits_left (By p.fixity p.number) o.fixity o.number ≡ false → attach (frames_of (trees now) ks) (at (trees now) x) o ≡ m → Steps old now hs (step.Stops Ambiguous) m
+pub stopped : (old now : List Node) (ks hs : List Held) (p : Oper) (l : Option ℕ) (x : ℕ) (o : Oper) (m : Move) → Grows old now → ks ≡ hs ++
+    held.Waits p l ∷ [] → fits_right (By o.fixity o.number) p.fixity p.number ≡ false → fits_left (By p.fixity p.number) o.fixity o.number ≡ false →
+    attach (frames_of (trees now) ks) (at (trees now) x) o ≡ m → Steps old now hs (step.Stops Ambiguous) m
 stopped old now ks hs p l x o m g e h k s = record {
   is = sym (waits_stops (frames_of (trees now) hs) p (maybe (trees now) l) (at (trees now) x) o h k) ∙ frames_top (trees now) ks hs (held.Waits p l) (at (trees now) x) o m e s;
   grows = g;
@@ -195,6 +203,8 @@ wrapped old now new is n t t' x m l e g g' b h s =
     ∙ s
 
 -- nothing waits
-pub none_takes : (old now new : List Node) (ks hs hs'' : List Held) (x : ℕ) (o : Oper) (m : Move) → Grows old now → ks ≡ [] → hs ≡ [] → attach (frames_of (trees now) ks) (at (trees now) x) o ≡ m → {E : Type 0} → (r : Result Step E) → IfOk r (λ s. Steps now new hs'' s (takes (frames_of (trees now) hs) (at (trees now) x) o)) → IfOk r (λ s. Steps old new hs'' s m)
+pub none_takes : (old now new : List Node) (ks hs hs'' : List Held) (x : ℕ) (o : Oper) (m : Move) → Grows old now → ks ≡ [] → hs ≡ [] → attach
+    (frames_of (trees now) ks) (at (trees now) x) o ≡ m → {E : Type 0} → (r : Result Step E) → IfOk r
+    (λ s. Steps now new hs'' s (takes (frames_of (trees now) hs) (at (trees now) x) o)) → IfOk r (λ s. Steps old new hs'' s m)
 none_takes old now new ks hs hs'' x o m g e f s r i =
     if_ok old now new hs'' _ m g (ap (λ l. takes (frames_of (trees now) l) (at (trees now) x) o) f ∙ sym (ap (λ l. attach (frames_of (trees now) l) (at (trees now) x) o) e) ∙ s) r i

@@ -36,6 +36,8 @@ pub data Derives : Kind → List Sym → Tree → Type 0 where
   abstracted : (s : ℕ) (y : Option ℕ) (b : Bool) (f : Form) (ts : List Sym) (t : Tree) → Derives (Part b f) ts t → Derives (Part true Whole) (Word s ∷ Binds y ∷ ts) (Lam s y t)
   bound : (s : ℕ) (y : Option ℕ) (b : Bool) (f : Form) (ts : List Sym) (t : Tree) (us : List Sym) (u : Tree) → Derives (Part false Whole) ts t → Derives (Part b f) us u → Derives (Part true Whole) (ts ++ Word s ∷ Binds y ∷ us) (App t (Lam s y u))
   -- operators: the operands are those that fit
-  between : (o : Oper) (b : Bool) (f g : Form) (ts : List Sym) (t : Tree) (us : List Sym) (u : Tree) → is_prefix o.fixity ≡ false → is_postfix o.fixity ≡ false → fits_left f o.fixity o.number ≡ true → fits_right g o.fixity o.number ≡ true → Derives (Part false f) ts t → Derives (Part b g) us u → Derives (Part b (By o.fixity o.number)) (ts ++ Op o ∷ us) (binary o.spot t u)
+  between : (o : Oper) (b : Bool) (f g : Form) (ts : List Sym) (t : Tree) (us : List Sym) (u : Tree) → is_prefix o.fixity ≡ false → is_postfix
+      o.fixity ≡ false → fits_left f o.fixity o.number ≡ true → fits_right g o.fixity o.number ≡ true → Derives (Part false f) ts t → Derives
+      (Part b g) us u → Derives (Part b (By o.fixity o.number)) (ts ++ Op o ∷ us) (binary o.spot t u)
   before : (o : Oper) (b : Bool) (f : Form) (ts : List Sym) (t : Tree) → is_prefix o.fixity ≡ true → fits_right f o.fixity o.number ≡ true → Derives (Part b f) ts t → Derives (Part b (By o.fixity o.number)) (Op o ∷ ts) (App (Leaf o.spot) t)
   behind : (o : Oper) (f : Form) (ts : List Sym) (t : Tree) → is_postfix o.fixity ≡ true → fits_left f o.fixity o.number ≡ true → Derives (Part false f) ts t → Derives (Part false (By o.fixity o.number)) (ts ++ Op o ∷ []) (App (Leaf o.spot) t)

@@ -31,7 +31,9 @@ pub data TailBefore : List (ℕ × Tree) → List Sym → List Sym → Type 0 wh
 -- the tokens of a text up to a place are these frames
 pub data Stack (all : List Sym) : List Frame → List Sym → Type 0 where
   bottom : Stack all [] all
-  waits_left : (fs : List Frame) (o : Oper) (f : Form) (l : Tree) (ks bs : List Sym) → Stack all fs ks → Spans (Part false f) ks (Op o ∷ bs) l → is_prefix o.fixity ≡ false → is_postfix o.fixity ≡ false → fits_left f o.fixity o.number ≡ true → admits fs (By o.fixity o.number) ≡ true → Stack all (Waits o (Some l) ∷ fs) bs
+  waits_left : (fs : List Frame) (o : Oper) (f : Form) (l : Tree) (ks bs : List Sym) → Stack all fs ks → Spans (Part false f) ks (Op o ∷ bs) l →
+      is_prefix o.fixity ≡ false → is_postfix o.fixity ≡ false → fits_left f o.fixity o.number ≡ true → admits fs (By o.fixity o.number) ≡ true →
+      Stack all (Waits o (Some l) ∷ fs) bs
   waits_first : (fs : List Frame) (o : Oper) (bs : List Sym) → Stack all fs (Op o ∷ bs) → is_prefix o.fixity ≡ true → admits fs (By o.fixity o.number) ≡ true → Stack all (Waits o None ∷ fs) bs
   binder : (fs : List Frame) (v : ℕ) (y : Option ℕ) (fn : Option Tree) (ks bs : List Sym) → Stack all fs ks → Before fn ks (Word v ∷ Binds y ∷ bs) → Stack all (Under v y fn ∷ fs) bs
   bracket : (fs : List Frame) (fn : Option Tree) (ks bs : List Sym) → Stack all fs ks → Before fn ks (Opens ∷ bs) → Stack all (Inside fn ∷ fs) bs

@@ -38,7 +38,9 @@ pub data IsHeld (x : TypeText) (nodes : List RawTypeNode) : List Waiting → ℕ
   at_none : (ks : List Waiting) (i : ℕ) → ks ≡ [] → i ≡ x.from → IsHeld x nodes ks i
   at_arrow : (ks hs : List Waiting) (l i j : ℕ) (t : TypeTree) → ks ≡ hs ++ waiting.Arrow l ∷ [] → IsHeld x nodes hs i → ShowsType x.spot nodes (Node l) t → l < length nodes → IsType x.lexemes Side i j t → class_at x.lexemes j ≡ Arrow → IsHeld x nodes ks (suc j)
   at_group : (ks hs : List Waiting) (i : ℕ) → ks ≡ hs ++ waiting.Group ∷ [] → IsHeld x nodes hs i → class_at x.lexemes i ≡ Open → IsHeld x nodes ks (suc i)
-  at_argument : (ks hs : List Waiting) (w i j : ℕ) (xs : Vec ℕ Global) (t : TypeTree) → ks ≡ hs ++ waiting.Argument (x.spot w) xs ∷ [] → IsHeld x nodes hs i → ShowsType x.spot nodes (OnNodes w xs.items) t → AreBelow (length nodes) xs.items → IsType x.lexemes Head i j t → class_at x.lexemes j ≡ Open → IsHeld x nodes ks (suc j)
+  at_argument : (ks hs : List Waiting) (w i j : ℕ) (xs : Vec ℕ Global) (t : TypeTree) → ks ≡ hs ++ waiting.Argument (x.spot w) xs ∷ [] → IsHeld x
+      nodes hs i → ShowsType x.spot nodes (OnNodes w xs.items) t → AreBelow (length nodes) xs.items → IsType x.lexemes Head i j t → class_at x.lexemes
+      j ≡ Open → IsHeld x nodes ks (suc j)
 
 -- a word on arguments up to a token, behind what waits
 pub record IsApplied (x : TypeText) (nodes : List RawTypeNode) (hs : List Waiting) (at : ℕ) (s : Spot) (xs : Vec ℕ Global) : Type 0 where

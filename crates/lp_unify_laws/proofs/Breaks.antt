@@ -96,16 +96,21 @@ by_look s σ n one all next inside k t u (an_abs b) l z r v f e =
       within = (c.within, allows_local s k l);
     }) e in
     (i.0, occurs_under b r i.1)
-by_look s σ n one all next inside k t u (rigid h ts) l z r v f e = elim (allows_head s h || inside) as (λ x. (allows_head s h || inside) ≡ x → (elim x [ true ↦ option_map (above (not (allows_head s h))) (scan_all n s inside k ts) | false ↦ Some (broken 1) ]) ≡ Some (broken u) → (inside ≡ false) × Occurs s k t) [
-  | true ↦ λ p q.
-      let m = map_above (not (allows_head s h)) (scan_all n s inside k ts) u q in
-      let i = all next inside k ts m.0 (within_apply (Seen next s.pair k) ts h v).1 l (λ w. (rigid_clean s σ t h ts f (converts_reduces r) (z w)).1) m.1 in
-      (i.0, occurs_in h ts r f i.1)
-  | false ↦ λ p q.
-      let a = or_no (allows_head s h) inside p in
-      let c = (rigid_clean s σ t h ts f (converts_reduces r) (z a.1)).0 in
-      absurd (cc)
-] refl e
+by_look s σ n one all next inside k t u (rigid h ts) l z r v f e = elim (allows_head s h || inside) as
+    (λ x. (allows_head s h || inside) ≡ x → (elim x [
+      | true ↦ option_map (above (not (allows_head s h))) (scan_all n s inside k ts)
+      | false ↦ Some
+          (broken 1)
+    ]) ≡ Some (broken u) → (inside ≡ false) × Occurs s k t) [
+      | true ↦ λ p q.
+          let m = map_above (not (allows_head s h)) (scan_all n s inside k ts) u q in
+          let i = all next inside k ts m.0 (within_apply (Seen next s.pair k) ts h v).1 l (λ w. (rigid_clean s σ t h ts f (converts_reduces r) (z w)).1) m.1 in
+          (i.0, occurs_in h ts r f i.1)
+      | false ↦ λ p q.
+          let a = or_no (allows_head s h) inside p in
+          let c = (rigid_clean s σ t h ts f (converts_reduces r) (z a.1)).0 in
+          absurd (cc)
+    ] refl e
 by_look s σ n one all next inside k t u (flexible y m ts) l z r v f e = option_and_then_some _ (pattern_of n m ts) (broken u) e λ o p q.
     elim o as (λ o. pattern_of n m ts ≡ Some o → (elim o [
       | Some b ↦ Some (scanned_pattern s inside y m b)
@@ -122,10 +127,12 @@ by_look s σ n one all next inside k t u (flexible y m ts) l z r v f e = option_
           absurd (cc)
     ] p q
 
-by_first : (s : Side) (σ : ℕ → ℕ → Term) (n : ℕ) → Tells s σ n → TellsAll s σ n → (next : ℕ) (inside : Bool) (k : ℕ) (t : Term) (ts : List Term) (u : ℕ) → Within (Seen next s.pair k) 0 t → WithinAll (Seen next s.pair k) ts → s.pair ≤ k → (inside ≡ false → EachIsClean s (close_all σ (t ∷ ts))) → (r : Scanned) → scan n s inside k t ≡ Some r → (elim r [
-  | broken u ↦ Some (broken u)
-  | whole u d ps ↦ option_map (beside u d ps) (scan_all n s inside k ts)
-]) ≡ Some (broken u) → (inside ≡ false) × OccursAny s k (t ∷ ts)
+by_first : (s : Side) (σ : ℕ → ℕ → Term) (n : ℕ) → Tells s σ n → TellsAll s σ n → (next : ℕ) (inside : Bool) (k : ℕ) (t : Term) (ts : List Term)
+    (u : ℕ) → Within (Seen next s.pair k) 0 t → WithinAll (Seen next s.pair k) ts → s.pair ≤ k →
+    (inside ≡ false → EachIsClean s (close_all σ (t ∷ ts))) → (r : Scanned) → scan n s inside k t ≡ Some r → (elim r [
+      | broken u ↦ Some (broken u)
+      | whole u d ps ↦ option_map (beside u d ps) (scan_all n s inside k ts)
+    ]) ≡ Some (broken u) → (inside ≡ false) × OccursAny s k (t ∷ ts)
 by_first s σ n one all next inside k t ts u w v l z (broken m) p e = let i = one next inside k t m w l (λ q. (z q).0) p in (i.0, occurs_first i.1)
 by_first s σ n one all next inside k t ts u w v l z (whole m d ps) p e =
     let x = map_beside m d ps (scan_all n s inside k ts) u e in

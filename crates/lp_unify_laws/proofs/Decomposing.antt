@@ -130,7 +130,9 @@ instance_rigid θ (abs b) r = absurd r
 instance_rigid θ (app t u) r = absurd r
 
 -- the arguments of one head have the same types
-pub arguments_typed : (d : Declared) (E : List Ty) (V : List Variable) (n : ℕ) → length E ≡ n → (A T S : Ty) (ts us : List Term) → HaveTypes (in_scope d E V) [] A ts T → HaveTypes (in_scope d E V) [] A us S → WithinAll (IsScopedAtom V E) ts → WithinAll (IsScopedAtom V E) us → (qs : List PairTyping) × AreTypedPairs d V qs (argument_pairs n ts us)
+pub arguments_typed : (d : Declared) (E : List Ty) (V : List Variable) (n : ℕ) → length E ≡ n → (A T S : Ty) (ts us : List Term) → HaveTypes
+    (in_scope d E V) [] A ts T → HaveTypes (in_scope d E V) [] A us S → WithinAll (IsScopedAtom V E) ts → WithinAll (IsScopedAtom V E) us →
+    (qs : List PairTyping) × AreTypedPairs d V qs (argument_pairs n ts us)
 arguments_typed d E V n e A T S [] us h k w v = ([], tt)
 arguments_typed d E V n e A T S (t ∷ ts) [] h k w v = ([], tt)
 arguments_typed d E V n e A T S (t ∷ ts) (u ∷ us) h k w v =
@@ -140,7 +142,9 @@ arguments_typed d E V n e A T S (t ∷ ts) (u ∷ us) h k w v =
     let r = arguments_typed d E V n e h.1 T S ts us h.4 (transport (λ z. HaveTypes (in_scope d E V) [] z us S) q k.4) w.1 v.1 in
     (record { eigens = E; type = h.0 } ∷ r.0, (record { level = e; left = h.3; right = transport (HasType (in_scope d E V) [] u) p k.3; left_scoped = w.0; right_scoped = v.0 }, r.1))
 
-pub heads_typed : (d : Declared) (E : List Ty) (V : List Variable) (n : ℕ) → length E ≡ n → (h g : Term) (T S : Ty) (ts us : List Term) → IsRigid h → h ≡ g → HasType (in_scope d E V) [] (apply h ts) T → HasType (in_scope d E V) [] (apply g us) S → WithinAll (IsScopedAtom V E) ts → WithinAll (IsScopedAtom V E) us → (qs : List PairTyping) × AreTypedPairs d V qs (argument_pairs n ts us)
+pub heads_typed : (d : Declared) (E : List Ty) (V : List Variable) (n : ℕ) → length E ≡ n → (h g : Term) (T S : Ty) (ts us : List Term) → IsRigid h →
+    h ≡ g → HasType (in_scope d E V) [] (apply h ts) T → HasType (in_scope d E V) [] (apply g us) S → WithinAll (IsScopedAtom V E) ts → WithinAll
+    (IsScopedAtom V E) us → (qs : List PairTyping) × AreTypedPairs d V qs (argument_pairs n ts us)
 heads_typed d E V n e h g T S ts us r i a b w v =
     let x = typed_parts (in_scope d E V) [] h ts T a in
     let y = typed_parts (in_scope d E V) [] g us S b in

@@ -309,4 +309,6 @@ mutual
   pub settle_all_instance : (θ : ℕ → Ty) (n : ℕ) → SettlesAll θ n
   settle_all_instance θ zero k h ts = refl
   settle_all_instance θ (suc n) k h [] = refl
-  settle_all_instance θ (suc n) k h (t ∷ ts) = bind_map (instance_term θ) (λ u. settle_all n k (app (instance_term θ h) u) (instance_all θ ts)) (λ u. settle_all n k (app h u) ts) (instance_term θ) (settle n k t) (settle n k (instance_term θ t)) (settle_instance θ n k t) (λ u. settle_all_instance θ n k (app h u) ts)
+  settle_all_instance θ (suc n) k h (t ∷ ts) = bind_map (instance_term θ) (λ u. settle_all n k (app (instance_term θ h) u) (instance_all θ ts))
+      (λ u. settle_all n k (app h u) ts) (instance_term θ) (settle n k t) (settle n k (instance_term θ t)) (settle_instance θ n k t)
+      (λ u. settle_all_instance θ n k (app h u) ts)

@@ -137,7 +137,9 @@ pub joined_typed : (d : Declared) (E : List Ty) (V : List Variable) (s : Side) (
 joined_typed d E V s T next e h b = transport (λ z. IsTypedBinding d (joined_context d E V s T h b) (renewed z s.id s.level s.level s.arguments (agreeing s.arguments b))) e
     (new_binding d V E h.variable.scope s.id s.level s.level s.arguments (agreeing s.arguments b) T (joined_new d E V s T h b))
 
-pub joined_keeps : (d : Declared) (E : List Ty) (V : List Variable) (s : Side) (T : Ty) (next : ℕ) → length V ≡ next → (h : IsTypedSide d E V s T) → (b : List ℕ) (σ : ℕ → ℕ → Term) → IsClosing σ → IsTypedClosing d V σ → length s.arguments ≡ length b → are_distinct s.arguments ≡ true → are_above s.level s.arguments ≡ true →
+pub joined_keeps : (d : Declared) (E : List Ty) (V : List Variable) (s : Side) (T : Ty) (next : ℕ) → length V ≡ next → (h : IsTypedSide d E V s T) →
+    (b : List ℕ) (σ : ℕ → ℕ → Term) → IsClosing σ → IsTypedClosing d V σ → length s.arguments ≡ length b → are_distinct s.arguments ≡ true → are_above
+    s.level s.arguments ≡ true →
     Converts (apply (σ s.id s.level) (eigens s.arguments)) (apply (σ s.id s.level) (eigens b)) → Keeps (IsTypedClosing d (joined_context d E V s T h b)) next (renewed next s.id s.level s.level s.arguments (agreeing s.arguments b) ∷ []) σ
 joined_keeps d E V s T next z h b σ c g e i u m =
     let x = s.id in

@@ -76,7 +76,9 @@ solutions_are_kept d V n limit eqs ps ds s c i e h =
       gives = λ x v q. converts_on (k.0.gives x (length v.scope) (got_before V x v q)) (converts_is (gives_through c.types k.0.closing s.bindings x (length v.scope)));
     }
 
-pub solutions_are_not_added : (d : Declared) (V : List Variable) (n limit : ℕ) (eqs : List TypePair) (ps ds : List Pair) (s : State) (c : Closing) → IsTypedInput c.types d V eqs ps ds → solve n limit eqs ps ds (length V) ≡ Some (Solution s) → AreStuck n ds → IsClosing c.terms → Satisfies c.types s.types → SolvesAll c s.delayed →
+pub solutions_are_not_added : (d : Declared) (V : List Variable) (n limit : ℕ) (eqs : List TypePair) (ps ds : List Pair) (s : State) (c : Closing) →
+    IsTypedInput c.types d V eqs ps ds → solve n limit eqs ps ds (length V) ≡ Some (Solution s) → AreStuck n ds → IsClosing c.terms → Satisfies
+    c.types s.types → SolvesAll c s.delayed →
     Unifies c.types eqs × SolvesAll (through_bindings s.bindings c) ps × SolvesAll (through_bindings s.bindings c) ds
 solutions_are_not_added d V n limit eqs ps ds s c i e k levels m h =
     let r = comes c.types d V n limit eqs ps ds s i e in

@@ -210,7 +210,9 @@ record Opened (s : Side) (σ : ℕ → ℕ → Term) (next k : ℕ) (κ τ : Ato
   within : Within (Seen next s.pair (suc k)) 0 (substitute (atom (eigen (suc k))) b)
   converts : Converts (app (put_low s σ τ t) (atom (param 0 from))) (put_low s σ (typed_at τ (suc k) from) (substitute (atom (eigen (suc k))) b))
 
-opened_low : (s : Side) (σ : ℕ → ℕ → Term) → IsClosing σ → (next k : ℕ) (κ : Atom → Ty) → ((j : ℕ) (B : Ty) → κ (param j B) ≡ B) → s.level ≤ s.pair → s.pair ≤ k → (τ : Atom → Ty) → Fits s.level κ τ → (t b : Term) (T : Ty) → Within (Seen next s.pair k) 0 t → HasTotal τ [] t T → ReducesTo t (abs b) → Opened s σ next k κ τ t b T
+opened_low : (s : Side) (σ : ℕ → ℕ → Term) → IsClosing σ → (next k : ℕ) (κ : Atom → Ty) → ((j : ℕ) (B : Ty) → κ (param j B) ≡ B) → s.level ≤ s.pair →
+    s.pair ≤ k → (τ : Atom → Ty) → Fits s.level κ τ → (t b : Term) (T : Ty) → Within (Seen next s.pair k) 0 t → HasTotal τ [] t T → ReducesTo t
+    (abs b) → Opened s σ next k κ τ t b T
 opened_low s σ c next k κ p low high τ f t b T w ty r =
     let c' = suc k in
     let i = typed_reduces (λ a. Some (τ a)) [] r T ty in
@@ -238,7 +240,9 @@ low_apply s σ τ a ts r =
     renamed_apply (lowered s.level τ) (atom a) (close_all σ ts)
 
 mutual
-  occ : (s : Side) (σ : ℕ → ℕ → Term) → IsClosing σ → (next : ℕ) (κ : Atom → Ty) → ((j : ℕ) (B : Ty) → κ (param j B) ≡ B) → s.level ≤ s.pair → {k : ℕ} {t : Term} → Occurs s k t → s.pair ≤ k → (τ : Atom → Ty) → Fits s.level κ τ → (T : Ty) → Within (Seen next s.pair k) 0 t → HasTotal τ [] t T → Found κ (κ (logic s.id s.level)) (σ s.id s.level) T (put_low s σ τ t)
+  occ : (s : Side) (σ : ℕ → ℕ → Term) → IsClosing σ → (next : ℕ) (κ : Atom → Ty) → ((j : ℕ) (B : Ty) → κ (param j B) ≡ B) → s.level ≤ s.pair → {k : ℕ}
+      {t : Term} → Occurs s k t → s.pair ≤ k → (τ : Atom → Ty) → Fits s.level κ τ → (T : Ty) → Within (Seen next s.pair k) 0 t → HasTotal τ [] t T →
+      Found κ (κ (logic s.id s.level)) (σ s.id s.level) T (put_low s σ τ t)
   occ s σ c next κ p low (occurs_here {t = t} b r d a) high τ f T w ty = record {
     arguments = types_of τ b;
     result = T;
@@ -269,7 +273,9 @@ mutual
   occ s σ c next κ p low (occurs_in (abs b) ts r g d) high τ f T w ty = absurd g
   occ s σ c next κ p low (occurs_in (app h u) ts r g d) high τ f T w ty = absurd g
 
-  occ_any : (s : Side) (σ : ℕ → ℕ → Term) → IsClosing σ → (next : ℕ) (κ : Atom → Ty) → ((j : ℕ) (B : Ty) → κ (param j B) ≡ B) → s.level ≤ s.pair → {k : ℕ} {ts : List Term} → OccursAny s k ts → s.pair ≤ k → (τ : Atom → Ty) → Fits s.level κ τ → (F T : Ty) → WithinAll (Seen next s.pair k) ts → Spine τ F ts T → FoundAny κ (κ (logic s.id s.level)) (σ s.id s.level) F (all_low s σ τ ts)
+  occ_any : (s : Side) (σ : ℕ → ℕ → Term) → IsClosing σ → (next : ℕ) (κ : Atom → Ty) → ((j : ℕ) (B : Ty) → κ (param j B) ≡ B) → s.level ≤ s.pair →
+      {k : ℕ} {ts : List Term} → OccursAny s k ts → s.pair ≤ k → (τ : Atom → Ty) → Fits s.level κ τ → (F T : Ty) → WithinAll (Seen next s.pair k) ts →
+      Spine τ F ts T → FoundAny κ (κ (logic s.id s.level)) (σ s.id s.level) F (all_low s σ τ ts)
   occ_any s σ c next κ p low (occurs_first {t = t} {ts = ts} d) high τ f F T w y =
       let i = occ s σ c next κ p low d high τ f y.0 w.0 y.3 in
       record { arguments = i.arguments; result = i.result; is = i.is; path = transport (λ z. PathAny κ (apply (σ s.id s.level) (news i.arguments)) i.result z (all_low s σ τ (t ∷ ts))) (sym y.2) (path_first {ts = all_low s σ τ ts} i.path) }

@@ -100,7 +100,9 @@ rigid_heads n m next p h g ts us r w a b e c l =
     (look_firm n p.left (rigid h ts) a) (look_firm n p.right (rigid g us) b) (look_reduces n (instance_term θ p.left) (instance_look θ (rigid h ts)) iv) (look_reduces n (instance_term θ p.right) (instance_look θ (rigid g us)) iw) e))
 
 -- each rule
-comes_through : (d : Declared) (V : List Variable) (c : Closing) (p : Pair) (bs : List Binding) (next : ℕ) → (i : IsBinding d V (length V) (instance_pair c.types p) (bindings_at c.types bs) next) → Keeps (IsTypedClosing d i.after) (length V) (bindings_at c.types bs) c.terms → ComesThrough d V c bs next
+comes_through : (d : Declared) (V : List Variable) (c : Closing) (p : Pair) (bs : List Binding) (next : ℕ) →
+    (i : IsBinding d V (length V) (instance_pair c.types p) (bindings_at c.types bs) next) → Keeps (IsTypedClosing d i.after) (length V)
+    (bindings_at c.types bs) c.terms → ComesThrough d V c bs next
 comes_through d V c p bs next i k = record {
   after = i.after;
   more = i.more;

@@ -63,7 +63,9 @@ pub opened_scoped : (V : List Variable) (E : List Ty) (k : ℕ) (b : Term) → W
 opened_scoped V E k b w = within_step (IsScopedVariable V E) 0 (here (by_beta b (atom (eigen k)))) (w, tt)
 
 mutual
-  pub scans_placed : (s : Side) (next : ℕ) (d : Declared) (E : List Ty) (V : List Variable) → {inside : Bool} {k : ℕ} {t : Term} {ps : List Pattern} → Scans s next inside k t ps → (L : List Ty) (T : Ty) → length (E ++ L) ≡ k → HasType (in_scope d (E ++ L) V) [] t T → Within (IsScopedVariable V E) 0 t → ArePlaced d E V ps
+  pub scans_placed : (s : Side) (next : ℕ) (d : Declared) (E : List Ty) (V : List Variable) → {inside : Bool} {k : ℕ} {t : Term} {ps : List Pattern} →
+      Scans s next inside k t ps → (L : List Ty) (T : Ty) → length (E ++ L) ≡ k → HasType (in_scope d (E ++ L) V) [] t T → Within
+      (IsScopedVariable V E) 0 t → ArePlaced d E V ps
   scans_placed s next d E V (scans_abs {k = k} b w r i) L T e ty sc =
       let z = typed_reduces (in_scope d (E ++ L) V) [] r T ty in
       let o = opened_typed d (E ++ L) V k b z.0 z.1 e z.3 in
@@ -87,7 +89,9 @@ mutual
       let z = typed_parts (in_scope d (E ++ L) V) [] (atom (logic y m)) ts T (typed_reduces (in_scope d (E ++ L) V) [] r T ty) in
       all_placed s next d E V i L z.0 T e z.2 (within_apply (IsScopedVariable V E) ts (atom (logic y m)) (within_reduces (IsScopedVariable V E) 0 r sc)).1
 
-  pub all_placed : (s : Side) (next : ℕ) (d : Declared) (E : List Ty) (V : List Variable) → {inside : Bool} {k : ℕ} {ts : List Term} {ps : List Pattern} → ScansAll s next inside k ts ps → (L : List Ty) (A T : Ty) → length (E ++ L) ≡ k → HaveTypes (in_scope d (E ++ L) V) [] A ts T → WithinAll (IsScopedVariable V E) ts → ArePlaced d E V ps
+  pub all_placed : (s : Side) (next : ℕ) (d : Declared) (E : List Ty) (V : List Variable) → {inside : Bool} {k : ℕ} {ts : List Term}
+      {ps : List Pattern} → ScansAll s next inside k ts ps → (L : List Ty) (A T : Ty) → length (E ++ L) ≡ k → HaveTypes (in_scope d (E ++ L) V) [] A
+      ts T → WithinAll (IsScopedVariable V E) ts → ArePlaced d E V ps
   all_placed s next d E V scans_none L A T e ty sc = tt
   all_placed s next d E V (scans_more ps qs q i is) L A T e ty sc =
       transport (ArePlaced d E V) (sym q) (placed_append d E V ps qs (scans_placed s next d E V i L ty.0 e ty.3 sc.0) (all_placed s next d E V is L ty.1 T e ty.4 sc.1))

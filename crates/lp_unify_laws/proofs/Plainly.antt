@@ -77,7 +77,9 @@ joint_of σ p h g ts us r q f k s =
     (converts_on (converts_sym (close_seen_rigid σ p.left h ts r f)) (converts_on s (close_seen_rigid σ p.right g us q k)))
 
 -- one head on as many arguments
-pub decomposed_right : (next : ℕ) (p : Pair) (h g : Term) (ts us : List Term) → IsRigid h → IsRigid g → h ≡ g → length ts ≡ length us → Converts p.left (apply h ts) → Converts p.right (apply g us) → WithinAll (IsPairAtom next p.level) ts → WithinAll (IsPairAtom next p.level) us → IsGiven next p (argument_pairs p.level ts us)
+pub decomposed_right : (next : ℕ) (p : Pair) (h g : Term) (ts us : List Term) → IsRigid h → IsRigid g → h ≡ g → length ts ≡ length us → Converts
+    p.left (apply h ts) → Converts p.right (apply g us) → WithinAll (IsPairAtom next p.level) ts → WithinAll (IsPairAtom next p.level) us → IsGiven
+    next p (argument_pairs p.level ts us)
 decomposed_right next p h g ts us r q i l f k w v = record {
   pairs = arguments_within next p.level ts us w v;
   keeps = λ σ c s. arguments_solved p.level σ ts us (joint_of σ p h g ts us r q f k s).arguments;

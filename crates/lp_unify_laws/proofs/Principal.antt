@@ -124,12 +124,16 @@ adds_no_closing θ d V n limit eqs ps ds s tp td e k m a c h sd = (behind ps tp 
     behind : (qs : List Pair) → HaveTypings d V (at_types θ qs) → AllSolvedBy (through (bindings_at β s.bindings) (trimmed Y c.terms)) (at_types β qs) → SolvesAll (through_bindings (bindings_at θ s.bindings) c) (at_types θ qs)
     behind qs t w =
         let bs = bindings_at κ (bindings_at θ s.bindings) in
-        let x : AllSolvedBy (through bs (trimmed Y c.terms)) (at_types κ (at_types θ qs)) = transport (λ z. AllSolvedBy (through z (trimmed Y c.terms)) (at_types κ (at_types θ qs))) (sym (bindings_twice κ θ s.bindings)) (transport (AllSolvedBy (through (bindings_at β s.bindings) (trimmed Y c.terms))) (sym (pairs_twice κ θ qs)) w) in
+        let x : AllSolvedBy (through bs (trimmed Y c.terms)) (at_types κ (at_types θ qs)) = transport
+        (λ z. AllSolvedBy (through z (trimmed Y c.terms)) (at_types κ (at_types θ qs))) (sym (bindings_twice κ θ s.bindings))
+        (transport (AllSolvedBy (through (bindings_at β s.bindings) (trimmed Y c.terms))) (sym (pairs_twice κ θ qs)) w) in
         let y = untrimmed d X Y (more_at κ V a.after a.more) bs (bindings_instance κ d a.after (bindings_at θ s.bindings) a.typed) c.terms (at_types κ (at_types θ qs)) (each_typed_at κ d V (at_types θ qs) (each_typed d V t.0 (at_types θ qs) t.1)) x in
         by_solved (through_bindings (bindings_at θ s.bindings) c) (at_types θ qs)
         (transport (λ τ. AllSolvedBy τ (at_types κ (at_types θ qs))) (fun_ext (λ x. fun_ext (λ l. gives_through κ c.terms (bindings_at θ s.bindings) x l))) y)
 
-pub closings_are_the_same : (d : Declared) (V : List Variable) (n limit : ℕ) (eqs : List TypePair) (ps ds : List Pair) (s : State) (θ : ℕ → Ty) → IsTypedInput θ d V eqs ps ds → solve n limit eqs ps ds (length V) ≡ Some (Solution s) → AreStuck n ds → Satisfies θ s.types → HasSameClosings θ d V ps ds s
+pub closings_are_the_same : (d : Declared) (V : List Variable) (n limit : ℕ) (eqs : List TypePair) (ps ds : List Pair) (s : State) (θ : ℕ → Ty) →
+    IsTypedInput θ d V eqs ps ds → solve n limit eqs ps ds (length V) ≡ Some (Solution s) → AreStuck n ds → Satisfies θ s.types → HasSameClosings θ d
+    V ps ds s
 unfolding typings
 closings_are_the_same d V n limit eqs ps ds s θ i e k m =
     let r = comes θ d V n limit eqs ps ds s i e in

@@ -116,7 +116,9 @@ among_given s m b h (eigen k) c a = elim (member k b) as (λ z. member k b ≡ z
         | false ↦ λ q.
             let r : nat_lt s.pair k ≡ false = grind (arith, nat_tests) in
             let i : member k s.arguments ≡ true = middle (nat_le k s.level) (member k s.arguments) (nat_lt s.pair k) q r c in
-            or_true_right (nat_le k (min s.level m)) (member k (given s m b)) (member_append k (chosen (λ j. nat_le j m) s.arguments) (chosen (allows s) b) ∙ or_true_left (member k (chosen (λ j. nat_le j m) s.arguments)) (member k (chosen (allows s) b)) (member_chosen (λ j. nat_le j m) k s.arguments i low))
+            or_true_right (nat_le k (min s.level m)) (member k (given s m b)) (member_append k (chosen (λ j. nat_le j m) s.arguments)
+            (chosen (allows s) b) ∙ or_true_left (member k (chosen (λ j. nat_le j m) s.arguments)) (member k (chosen (allows s) b))
+            (member_chosen (λ j. nat_le j m) k s.arguments i low))
       ] refl
 ] refl
   where
@@ -297,7 +299,9 @@ pub record PruneRight (d : Declared) (E : List Ty) (V : List Variable) (T : Ty) 
   pub keeps : (κ : ℕ → Ty) (σ : ℕ → ℕ → Term) → IsClosing σ → IsTypedClosing d (variables_at κ V) σ → IsClean s (close σ (instance_term κ t)) → Keeps (IsTypedClosing d (variables_at κ after)) next (map (instance_binding κ) r.bindings) σ
 
 -- no pattern is left to change
-done_right : (d : Declared) (E : List Ty) (V : List Variable) (T : Ty) (s : Side) (next : ℕ) (t : Term) (ps : List Pattern) → length V ≡ next → IsTypedTerm d E V t T → Within (IsPairAtom next s.pair) 0 t → Scans s next false s.pair t ps → EachFits s ps → PruneRight d E V T s next t (record { bindings = []; next = next; term = t })
+done_right : (d : Declared) (E : List Ty) (V : List Variable) (T : Ty) (s : Side) (next : ℕ) (t : Term) (ps : List Pattern) → length V ≡ next →
+    IsTypedTerm d E V t T → Within (IsPairAtom next s.pair) 0 t → Scans s next false s.pair t ps → EachFits s ps → PruneRight d E V T s next t
+    (record { bindings = []; next = next; term = t })
 done_right d E V T s next t ps l ty w i f = record {
   grows = omega arith;
   scoped = tt;
@@ -315,7 +319,9 @@ done_right d E V T s next t ps l ty w i f = record {
   keeps = λ κ σ c g h. record { closing = σ; is_closing = c; is_good = g; gives = λ x l q. same (σ x l) };
 }
 
-step_right : (d : Declared) (E : List Ty) (V : List Variable) (T : Ty) (s : Side) (next : ℕ) (t : Term) (p : Pattern) (ps : List Pattern) (r : Pruned) → length V ≡ next → (x : Renews d E V s p) → Within (IsPairAtom next s.pair) 0 t → Scans s next false s.pair t ps → first_misfit s ps ≡ Some p → is_side s p.id p.level ≡ false →
+step_right : (d : Declared) (E : List Ty) (V : List Variable) (T : Ty) (s : Side) (next : ℕ) (t : Term) (p : Pattern) (ps : List Pattern) (r : Pruned)
+    → length V ≡ next → (x : Renews d E V s p) → Within (IsPairAtom next s.pair) 0 t → Scans s next false s.pair t ps → first_misfit s ps ≡ Some p →
+    is_side s p.id p.level ≡ false →
     PruneRight d E (renewed_context d E V s p x) T s (suc next) (put (renewal s next p) t) r → PruneRight d E V T s next t (led_by (renewal s next p) r)
 step_right d E V T s next t p ps r l x w i e o h =
     let b = renewal s next p in
@@ -393,10 +399,12 @@ misfit_placed d E V s (q ∷ ps) h p e = elim (fits s q) as (λ b. (if b then fi
 abbrev Prunes : Declared → List Ty → Ty → ℕ → Type 0
 Prunes d E T n = (S : Ty) (V : List Variable) (s : Side) (next : ℕ) (t : Term) (r : Pruned) → length V ≡ next → IsTypedSide d E V s S → IsTypedTerm d E V t T → Within (IsPairAtom next s.pair) 0 t → prune n s next t ≡ Some r → PruneRight d E V T s next t r
 
-after_scan : (d : Declared) (E : List Ty) (T : Ty) (n : ℕ) → Prunes d E T n → (S : Ty) (V : List Variable) (s : Side) (next : ℕ) (t : Term) (r : Pruned) → length V ≡ next → IsTypedSide d E V s S → IsTypedTerm d E V t T → Within (IsPairAtom next s.pair) 0 t → (ps : List Pattern) → Scans s next false s.pair t ps → (elim (first_misfit s ps) [
-  | None ↦ Some (record { bindings = []; next = next; term = t })
-  | Some p ↦ option_map (led_by (renewal s next p)) (prune n s (suc next) (put (renewal s next p) t))
-]) ≡ Some r → PruneRight d E V T s next t r
+after_scan : (d : Declared) (E : List Ty) (T : Ty) (n : ℕ) → Prunes d E T n → (S : Ty) (V : List Variable) (s : Side) (next : ℕ) (t : Term)
+    (r : Pruned) → length V ≡ next → IsTypedSide d E V s S → IsTypedTerm d E V t T → Within (IsPairAtom next s.pair) 0 t → (ps : List Pattern) → Scans
+    s next false s.pair t ps → (elim (first_misfit s ps) [
+      | None ↦ Some (record { bindings = []; next = next; term = t })
+      | Some p ↦ option_map (led_by (renewal s next p)) (prune n s (suc next) (put (renewal s next p) t))
+    ]) ≡ Some r → PruneRight d E V T s next t r
 after_scan d E T n ih S V s next t r l side ty w ps i e = elim (first_misfit s ps) as (λ o. first_misfit s ps ≡ o → (elim o [
   | None ↦ Some (record { bindings = []; next = next; term = t })
   | Some p ↦ option_map (led_by (renewal s next p)) (prune n s (suc next) (put (renewal s next p) t))

@@ -53,7 +53,9 @@ solved_at θ d V next p (gives ts ps) h = absurd h
 solved_at θ d V next p (binds bs next') h = h
 solved_at θ d V next p delays h = tt
 
-rule_5_at : (θ : ℕ → Ty) (d : Declared) (E : List Ty) (V : List Variable) (T : Ty) (n next : ℕ) (p : Pair) (v w : Look) (r : Ruled) → IsTypedAt d E V next (instance_pair θ p) T → Looked next (instance_pair θ p) (instance_look θ v) (instance_look θ w) → NoAbs v → NoAbs w → by_rule_5 n next p v w ≡ Some r → IsRightAt θ d V next p r.verdict
+rule_5_at : (θ : ℕ → Ty) (d : Declared) (E : List Ty) (V : List Variable) (T : Ty) (n next : ℕ) (p : Pair) (v w : Look) (r : Ruled) → IsTypedAt d E V
+    next (instance_pair θ p) T → Looked next (instance_pair θ p) (instance_look θ v) (instance_look θ w) → NoAbs v → NoAbs w → by_rule_5 n next p v w
+    ≡ Some r → IsRightAt θ d V next p r.verdict
 rule_5_at θ d E V T n next p v w r ty k a b e =
     solved_at θ d V next p r.verdict (rule_5_right d E V T n next (instance_pair θ p) (instance_look θ v) (instance_look θ w) (instance_ruled θ r) ty k (no_abs v a) (no_abs w b) (rule_5_instance θ n next p v w ∙ ap (option_map (instance_ruled θ)) e))
   where
@@ -62,7 +64,9 @@ rule_5_at θ d E V T n next p v w r ty k a b e =
     no_abs (rigid h ts) k = tt
     no_abs (flexible x l ts) k = tt
 
-rule_4_at : (θ : ℕ → Ty) (d : Declared) (E : List Ty) (V : List Variable) (T : Ty) (n next : ℕ) (p : Pair) (x l : ℕ) (ts us : List Term) (r : Ruled) → IsTypedAt d E V next (instance_pair θ p) T → Looked next (instance_pair θ p) (instance_look θ (flexible x l ts)) (instance_look θ (flexible x l us)) → length ts ≡ length us → by_rule_4 n next p x l ts us ≡ Some r → IsRightAt θ d V next p r.verdict
+rule_4_at : (θ : ℕ → Ty) (d : Declared) (E : List Ty) (V : List Variable) (T : Ty) (n next : ℕ) (p : Pair) (x l : ℕ) (ts us : List Term) (r : Ruled) →
+    IsTypedAt d E V next (instance_pair θ p) T → Looked next (instance_pair θ p) (instance_look θ (flexible x l ts))
+    (instance_look θ (flexible x l us)) → length ts ≡ length us → by_rule_4 n next p x l ts us ≡ Some r → IsRightAt θ d V next p r.verdict
 rule_4_at θ d E V T n next p x l ts us r ty k e h =
     solved_at θ d V next p r.verdict (rule_4_right d E V T n next (instance_pair θ p) x l (instance_all θ ts) (instance_all θ us) (instance_ruled θ r) ty k (length_instance θ ts ∙ e ∙ sym (length_instance θ us)) (rule_4_instance θ n next p x l ts us ∙ ap (option_map (instance_ruled θ)) h))
 
@@ -167,10 +171,16 @@ same_at θ d V p h = record {
   solves = λ σ c x s. converts_fill (at_variables σ) (instance_converts θ p.left p.right h);
 }
 
-looks_at : (θ : ℕ → Ty) (d : Declared) (E : List Ty) (V : List Variable) (T : Ty) (n next : ℕ) (p : Pair) (v w : Look) (r : Ruled) → IsTypedAt d E V next (instance_pair θ p) T → ReducesTo p.left (seen v) → ReducesTo p.right (seen w) → IsFirm v → IsFirm w → Looked next (instance_pair θ p) (instance_look θ v) (instance_look θ w) → by_looks n next p v w ≡ Some r → IsRightAt θ d V next p r.verdict
+looks_at : (θ : ℕ → Ty) (d : Declared) (E : List Ty) (V : List Variable) (T : Ty) (n next : ℕ) (p : Pair) (v w : Look) (r : Ruled) → IsTypedAt d E V
+    next (instance_pair θ p) T → ReducesTo p.left (seen v) → ReducesTo p.right (seen w) → IsFirm v → IsFirm w → Looked next (instance_pair θ p)
+    (instance_look θ v) (instance_look θ w) → by_looks n next p v w ≡ Some r → IsRightAt θ d V next p r.verdict
 looks_at θ d E V T n next p (an_abs b) w r ty f g i j k h = let z : ruled 0 (gives [] (opened p ∷ [])) ≡ r = cc in transport (λ q. IsRightAt θ d V next p q.verdict) z (opened_at θ d V next p k.pair (λ E T next' ty. abs_arrow d E V (instance_term θ p.left) (instance_term θ b) T ty.left k.left))
-looks_at θ d E V T n next p (rigid e ts) (an_abs c) r ty f g i j k h = let z : ruled 0 (gives [] (opened p ∷ [])) ≡ r = cc in transport (λ q. IsRightAt θ d V next p q.verdict) z (opened_at θ d V next p k.pair (λ E T next' ty. abs_arrow d E V (instance_term θ p.right) (instance_term θ c) T ty.right k.right))
-looks_at θ d E V T n next p (flexible x l ts) (an_abs c) r ty f g i j k h = let z : ruled 0 (gives [] (opened p ∷ [])) ≡ r = cc in transport (λ q. IsRightAt θ d V next p q.verdict) z (opened_at θ d V next p k.pair (λ E T next' ty. abs_arrow d E V (instance_term θ p.right) (instance_term θ c) T ty.right k.right))
+looks_at θ d E V T n next p (rigid e ts) (an_abs c) r ty f g i j k h = let z : ruled 0 (gives [] (opened p ∷ [])) ≡ r = cc in transport
+    (λ q. IsRightAt θ d V next p q.verdict) z (opened_at θ d V next p k.pair (λ E T next' ty. abs_arrow d E V (instance_term θ p.right)
+    (instance_term θ c) T ty.right k.right))
+looks_at θ d E V T n next p (flexible x l ts) (an_abs c) r ty f g i j k h = let z : ruled 0 (gives [] (opened p ∷ [])) ≡ r = cc in transport
+    (λ q. IsRightAt θ d V next p q.verdict) z (opened_at θ d V next p k.pair (λ E T next' ty. abs_arrow d E V (instance_term θ p.right)
+    (instance_term θ c) T ty.right k.right))
 looks_at θ d E V T n next p (rigid e ts) (rigid m us) r ty f g i j k h = decomposed_at θ d V n next p e m ts us r k.pair i j k.left k.right h
 looks_at θ d E V T n next p (rigid e ts) (flexible y m us) r ty f g i j k h = rule_5_at θ d E V T n next p (rigid e ts) (flexible y m us) r ty k tt tt h
 looks_at θ d E V T n next p (flexible x l ts) (rigid e us) r ty f g i j k h = rule_5_at θ d E V T n next p (flexible x l ts) (rigid e us) r ty k tt tt h

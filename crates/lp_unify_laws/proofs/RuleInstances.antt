@@ -47,7 +47,9 @@ scanned n next s t r = elim r [
 ]
 
 settled_same : (θ : ℕ → Ty) (n : ℕ) (s : Side) (u : ℕ) (q : Pruned) → settled n s u (instance_pruned θ q) ≡ option_map (instance_ruled θ) (settled n s u q)
-settled_same θ n s u q = map_map (instance_term θ) (λ t. ruled u (binds (bound s (map (instance_binding θ) q.bindings) t) q.next)) (λ t. ruled u (binds (bound s q.bindings t) q.next)) (instance_ruled θ) (settle n s.pair q.term) (settle n s.pair (instance_term θ q.term)) (settle_instance θ n s.pair q.term)
+settled_same θ n s u q = map_map (instance_term θ) (λ t. ruled u (binds (bound s (map (instance_binding θ) q.bindings) t) q.next))
+    (λ t. ruled u (binds (bound s q.bindings t) q.next)) (instance_ruled θ) (settle n s.pair q.term) (settle n s.pair (instance_term θ q.term))
+    (settle_instance θ n s.pair q.term)
     (λ t. ap (λ z. ruled u (binds z q.next)) (bound_instance θ s q.bindings t))
 
 scanned_same : (θ : ℕ → Ty) (n next : ℕ) (s : Side) (t : Term) (r : Scanned) → scanned n next s (instance_term θ t) r ≡ option_map (instance_ruled θ) (scanned n next s t r)

@@ -137,7 +137,9 @@ map_ruled f (Some x) r e = let z : f x ≡ r = cc in (x, refl, z)
 pattern_at : (κ : ℕ → Ty) (s : Side) (l : Term) → Converts l (pattern_term (pattern s.id s.level s.arguments)) → Converts (instance_term κ l) (pattern_term (pattern s.id s.level s.arguments))
 pattern_at κ s l c = converts_on (instance_converts κ l (pattern_term (pattern s.id s.level s.arguments)) c) (converts_is (instance_pattern κ s.arguments (atom (logic s.id s.level))))
 
-bound_right : (d : Declared) (E : List Ty) (V : List Variable) (T : Ty) (n next : ℕ) (s : Side) (l t : Term) (q : Pruned) (u : Term) → length V ≡ next → IsSide s next → IsTypedSide d E V s T → IsTypedTerm d E V t T → Converts l (pattern_term (pattern s.id s.level s.arguments)) → Within (IsPairAtom next s.pair) 0 t →
+bound_right : (d : Declared) (E : List Ty) (V : List Variable) (T : Ty) (n next : ℕ) (s : Side) (l t : Term) (q : Pruned) (u : Term) → length V ≡ next
+    → IsSide s next → IsTypedSide d E V s T → IsTypedTerm d E V t T → Converts l (pattern_term (pattern s.id s.level s.arguments)) → Within
+    (IsPairAtom next s.pair) 0 t →
     prune n s next t ≡ Some q → settle n s.pair q.term ≡ Some u → IsBinding d V next (record { left = l; right = t; level = s.pair }) (bound s q.bindings u) q.next
 bound_right d E V T n next s l t q u k i side ty c w e f =
     let p = prune_right d E T n T V s next t q k side ty w e in
@@ -160,7 +162,9 @@ bound_right d E V T n next s l t q u k i side ty c w e f =
       solves = λ σ c'. converts_on (meets_of s l t (through (bound s q.bindings u) σ) c) (bound_meets d E V T s next t q u i p x v σ c');
     }
 
-solve_right : (d : Declared) (E : List Ty) (V : List Variable) (T : Ty) (n next : ℕ) (s : Side) (l t : Term) (v : Look) (r : Ruled) → length V ≡ next → IsSide s next → IsTypedSide d E V s T → IsTypedTerm d E V t T → Converts l (pattern_term (pattern s.id s.level s.arguments)) → Within (IsPairAtom next s.pair) 0 t →
+solve_right : (d : Declared) (E : List Ty) (V : List Variable) (T : Ty) (n next : ℕ) (s : Side) (l t : Term) (v : Look) (r : Ruled) → length V ≡ next
+    → IsSide s next → IsTypedSide d E V s T → IsTypedTerm d E V t T → Converts l (pattern_term (pattern s.id s.level s.arguments)) → Within
+    (IsPairAtom next s.pair) 0 t →
     Converts t (seen v) → IsFirm v → NoAbs v → solve_for n next s t v ≡ Some r → IsSolved d V next (record { left = l; right = t; level = s.pair }) r.verdict
 solve_right d E V T n next s l t v r k i side ty c w f g a e = let p : Pair = record { left = l; right = t; level = s.pair } in elim (has_head s v) as (λ b. has_head s v ≡ b → (elim b [
   | true ↦ Some (ruled 0 delays)
@@ -232,7 +236,9 @@ pub record Looked (next : ℕ) (p : Pair) (v w : Look) : Type 0 where
   pub left_firm : IsFirm v
   pub right_firm : IsFirm w
 
-one_side : (d : Declared) (E : List Ty) (V : List Variable) (T : Ty) (n next : ℕ) (s : Side) (l t : Term) (k : ℕ) (w : Look) (r : Ruled) → length V ≡ next → length E ≡ k → s.pair ≡ k → IsSide s next → IsTypedTerm d E V l T → IsTypedTerm d E V t T → ReducesTo l (pattern_term (pattern s.id s.level s.arguments)) → Within (IsPairAtom next k) 0 t →
+one_side : (d : Declared) (E : List Ty) (V : List Variable) (T : Ty) (n next : ℕ) (s : Side) (l t : Term) (k : ℕ) (w : Look) (r : Ruled) → length V ≡
+    next → length E ≡ k → s.pair ≡ k → IsSide s next → IsTypedTerm d E V l T → IsTypedTerm d E V t T → ReducesTo l
+    (pattern_term (pattern s.id s.level s.arguments)) → Within (IsPairAtom next k) 0 t →
     Converts t (seen w) → IsFirm w → NoAbs w → solve_for n next s t w ≡ Some r → IsSolved d V next (record { left = l; right = t; level = k }) r.verdict
 one_side d E V T n next s l t k w r z j e i lt ty c q f g a h =
     let side = side_typed d E V s T (j ∙ sym e) (term_reduces d E V T c lt) in
@@ -252,7 +258,9 @@ rule_5_right d E V T n next p v w r ty k a b e = option_and_then_some _ (pattern
     sides None hx None hy ey = let i : ruled 0 delays ≡ r = cc in transport (λ j. IsSolved d V next p j.verdict) i tt
 
 -- rule 4
-joined_right : (d : Declared) (E : List Ty) (V : List Variable) (T : Ty) (next : ℕ) (p : Pair) (x l : ℕ) (ts us : List Term) (a b : List ℕ) → IsTypedAt d E V next p T → Looked next p (flexible x l ts) (flexible x l us) → length a ≡ length b → IsPattern l ts a → IsPattern l us b → IsSolved d V next p (joined next x l a b)
+joined_right : (d : Declared) (E : List Ty) (V : List Variable) (T : Ty) (next : ℕ) (p : Pair) (x l : ℕ) (ts us : List Term) (a b : List ℕ) →
+    IsTypedAt d E V next p T → Looked next p (flexible x l ts) (flexible x l us) → length a ≡ length b → IsPattern l ts a → IsPattern l us b →
+    IsSolved d V next p (joined next x l a b)
 unfolding side_at
 joined_right d E V T next p x l ts us a b ty k e i j =
     let s : Side = record { id = x; level = l; arguments = a; pair = p.level } in
@@ -288,7 +296,9 @@ pattern_length [] (k ∷ a) c = elim c [ ]
 pattern_length (t ∷ ts) [] c = elim c [ ]
 pattern_length (t ∷ ts) (k ∷ a) (convert_more d c) = ap suc (pattern_length ts a c)
 
-pub rule_4_right : (d : Declared) (E : List Ty) (V : List Variable) (T : Ty) (n next : ℕ) (p : Pair) (x l : ℕ) (ts us : List Term) (r : Ruled) → IsTypedAt d E V next p T → Looked next p (flexible x l ts) (flexible x l us) → length ts ≡ length us → by_rule_4 n next p x l ts us ≡ Some r → IsSolved d V next p r.verdict
+pub rule_4_right : (d : Declared) (E : List Ty) (V : List Variable) (T : Ty) (n next : ℕ) (p : Pair) (x l : ℕ) (ts us : List Term) (r : Ruled) →
+    IsTypedAt d E V next p T → Looked next p (flexible x l ts) (flexible x l us) → length ts ≡ length us → by_rule_4 n next p x l ts us ≡ Some r →
+    IsSolved d V next p r.verdict
 rule_4_right d E V T n next p x l ts us r ty k e h = option_and_then_some _ (pattern_of n l ts) r h λ a ha h'. option_and_then_some _ (pattern_of n l us) r h' λ b hb h''. both_sides a ha b hb h''
   where
     both_sides : (a : Option (List ℕ)) → pattern_of n l ts ≡ Some a → (b : Option (List ℕ)) → pattern_of n l us ≡ Some b → (elim a [

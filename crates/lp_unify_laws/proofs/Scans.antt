@@ -146,10 +146,12 @@ Tells n = (s : Side) (next : ℕ) (inside : Bool) (k : ℕ) (t : Term) (u : ℕ)
 abbrev TellsAll : ℕ → Type 0
 TellsAll n = (s : Side) (next : ℕ) (inside : Bool) (k : ℕ) (ts : List Term) (u : ℕ) (ps : List Pattern) → WithinAll (Seen next s.pair k) ts → scan_all n s inside k ts ≡ Some (whole u false ps) → ScansAll s next inside k ts ps
 
-by_pattern : (n : ℕ) → TellsAll n → (s : Side) (next : ℕ) (inside : Bool) (k : ℕ) (t : Term) (u : ℕ) (ps : List Pattern) (y m : ℕ) (ts : List Term) → ReducesTo t (apply (atom (logic y m)) ts) → Within (Seen next s.pair k) 0 (atom (logic y m)) → WithinAll (Seen next s.pair k) ts → (o : Option (List ℕ)) → pattern_of n m ts ≡ Some o → (elim o [
-  | Some b ↦ Some (scanned_pattern s inside y m b)
-  | None ↦ option_map (above (is_side s y m || nat_lt s.level m)) (scan_all n s true k ts)
-]) ≡ Some (whole u false ps) → Scans s next inside k t ps
+by_pattern : (n : ℕ) → TellsAll n → (s : Side) (next : ℕ) (inside : Bool) (k : ℕ) (t : Term) (u : ℕ) (ps : List Pattern) (y m : ℕ) (ts : List Term) →
+    ReducesTo t (apply (atom (logic y m)) ts) → Within (Seen next s.pair k) 0 (atom (logic y m)) → WithinAll (Seen next s.pair k) ts →
+    (o : Option (List ℕ)) → pattern_of n m ts ≡ Some o → (elim o [
+      | Some b ↦ Some (scanned_pattern s inside y m b)
+      | None ↦ option_map (above (is_side s y m || nat_lt s.level m)) (scan_all n s true k ts)
+    ]) ≡ Some (whole u false ps) → Scans s next inside k t ps
 by_pattern n all s next inside k t u ps y m ts r w v None p e =
     let z = above_whole (is_side s y m || nat_lt s.level m) (scan_all n s true k ts) u ps e in
     let d = or_false (is_side s y m) (nat_lt s.level m) z.1 in

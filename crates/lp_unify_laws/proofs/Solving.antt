@@ -168,7 +168,9 @@ if_like : (b : Bool) (σ : ℕ → ℕ → Term) (s t u : Term) → (b ≡ true 
 if_like true σ s t u h k = h refl
 if_like false σ s t u h k = k
 
-pub bound_keeps : (Good : (ℕ → ℕ → Term) → Type 0) (s : Side) (next next' : ℕ) (t r u : Term) (bs : List Binding) → IsSide s next → Within (IsPairAtom next s.pair) 0 t → next ≤ next' → AreScoped next' bs → put_all bs t ≡ r → put_all bs (atom (logic s.id s.level)) ≡ atom (logic s.id s.level) → ReducesTo r u → Within (Fit s next' s.pair) 0 u →
+pub bound_keeps : (Good : (ℕ → ℕ → Term) → Type 0) (s : Side) (next next' : ℕ) (t r u : Term) (bs : List Binding) → IsSide s next → Within
+    (IsPairAtom next s.pair) 0 t → next ≤ next' → AreScoped next' bs → put_all bs t ≡ r → put_all bs (atom (logic s.id s.level)) ≡ atom
+    (logic s.id s.level) → ReducesTo r u → Within (Fit s next' s.pair) 0 u →
     (σ : ℕ → ℕ → Term) → Keeps Good next bs σ → Meets σ s t → Keeps Good next (bound s bs u) σ
 bound_keeps Good s next next' t r u bs i v grown scoped ht hs f w σ k e =
     let β = side_binding s u in
@@ -235,7 +237,9 @@ side_bound d E V s T next h u ty w =
           (within_abstracted (λ a. Fit s next s.pair a × IsAtomOf d E V a) s.arguments u both_within);
     }
 
-pub bound_typed : (d : Declared) (E : List Ty) (V : List Variable) (S T : Ty) (s : Side) (next : ℕ) (t : Term) (r : Pruned) (u : Term) → IsTypedSide d E V s T → (h : PruneRight d E V T s next t r) → IsSettled r.term u → Within (Fit s r.next s.pair) 0 u → AreTypedBindings d h.after (bound s r.bindings u)
+pub bound_typed : (d : Declared) (E : List Ty) (V : List Variable) (S T : Ty) (s : Side) (next : ℕ) (t : Term) (r : Pruned) (u : Term) → IsTypedSide d
+    E V s T → (h : PruneRight d E V T s next t r) → IsSettled r.term u → Within (Fit s r.next s.pair) 0 u → AreTypedBindings d h.after
+    (bound s r.bindings u)
 bound_typed d E V S T s next t r u side h f w =
     bindings_append d h.after r.bindings (side_binding s u ∷ []) h.typed
     (side_bound d E h.after s T r.next (side_more d E V h.after s T h.more side) u (term_reduces d E h.after T f.reduces h.term_typed) w, tt)

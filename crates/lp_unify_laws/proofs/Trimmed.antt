@@ -119,7 +119,9 @@ pub closings_have_none : (d : Declared) (V : List Variable) (n limit : ℕ) (eqs
 closings_have_none d V n limit eqs ps ds c i e h =
     failures_have_no_solution d (closed_variables c V) n limit eqs ps ds (trim V c) i (transport (λ z. solve n limit eqs ps ds z ≡ Some Fail) (sym (length_variables c.types V)) e) (trimmed_solution d V c eqs ps ds i h)
 
-pub closings_are_kept : (d : Declared) (V : List Variable) (n limit : ℕ) (eqs : List TypePair) (ps ds : List Pair) (s : State) (c : Closing) → IsTypedInput c.types d (closed_variables c V) eqs ps ds → solve n limit eqs ps ds (length V) ≡ Some (Solution s) → IsClosedSolution d V c eqs ps ds → KeepsSolution d (closed_variables c V) c s
+pub closings_are_kept : (d : Declared) (V : List Variable) (n limit : ℕ) (eqs : List TypePair) (ps ds : List Pair) (s : State) (c : Closing) →
+    IsTypedInput c.types d (closed_variables c V) eqs ps ds → solve n limit eqs ps ds (length V) ≡ Some (Solution s) → IsClosedSolution d V c eqs ps
+    ds → KeepsSolution d (closed_variables c V) c s
 closings_are_kept d V n limit eqs ps ds s c i e h =
     let W = closed_variables c V in
     let k = solutions_are_kept d W n limit eqs ps ds s (trim V c) i (transport (λ z. solve n limit eqs ps ds z ≡ Some (Solution s)) (sym (length_variables c.types V)) e) (trimmed_solution d V c eqs ps ds i h) in

@@ -133,15 +133,17 @@ parts_unify : (θ : ℕ → Ty) (ts us : Tys) (qs : List TypePair) → parts_of 
 parts_unify θ no_types no_types qs e = let z : [] ≡ qs = cc in ((λ h. transport (Unifies θ) z tt), (λ h. refl))
 parts_unify θ no_types (types u us) qs e = absurd (cc)
 parts_unify θ (types t ts) no_types qs e = absurd (cc)
-parts_unify θ (types t ts) (types u us) qs e = elim (parts_of ts us) as (λ o. parts_of ts us ≡ o → (elim o [ None ↦ None | Some ps ↦ Some (record { left = t; right = u } ∷ ps) ]) ≡ Some qs → (instances θ (types t ts) ≡ instances θ (types u us) → Unifies θ qs) × (Unifies θ qs → instances θ (types t ts) ≡ instances θ (types u us))) [
-  | None ↦ λ p q. absurd (cc)
-  | Some ps ↦ λ p q.
-      let z : record { left = t; right = u } ∷ ps ≡ qs = cc in
-      let r = parts_unify θ ts us ps p in (
-        (λ h. let i : instance θ t ≡ instance θ u = cc in let j : instances θ ts ≡ instances θ us = cc in transport (Unifies θ) z (i, r.0 j)),
-        (λ h. let k = transport (Unifies θ) (sym z) h in let m = r.1 k.1 in λ i. types (k.0 i) (m i)),
-      )
-] refl e
+parts_unify θ (types t ts) (types u us) qs e = elim (parts_of ts us) as (λ o. parts_of ts us ≡ o →
+    (elim o [ None ↦ None | Some ps ↦ Some (record { left = t; right = u } ∷ ps) ]) ≡ Some qs →
+    (instances θ (types t ts) ≡ instances θ (types u us) → Unifies θ qs) × (Unifies θ qs → instances θ (types t ts) ≡ instances θ (types u us))) [
+      | None ↦ λ p q. absurd (cc)
+      | Some ps ↦ λ p q.
+          let z : record { left = t; right = u } ∷ ps ≡ qs = cc in
+          let r = parts_unify θ ts us ps p in (
+            (λ h. let i : instance θ t ≡ instance θ u = cc in let j : instances θ ts ≡ instances θ us = cc in transport (Unifies θ) z (i, r.0 j)),
+            (λ h. let k = transport (Unifies θ) (sym z) h in let m = r.1 k.1 in λ i. types (k.0 i) (m i)),
+          )
+    ] refl e
 
 tail_same : (t u : Ty) (ts us : Tys) → types t ts ≡ types u us → ts ≡ us
 tail_same t u ts us e = cc

@@ -215,7 +215,13 @@ pub definition_turn : (n : ℕ) (p : TypePair) (ps : List TypePair) (made : List
     solve_types (suc n) (p ∷ ps) made u ≡ behind n ps made (suc u + (type_rule p.left p.right).units) (type_rule p.left p.right).verdict
 definition_turn n p ps made u = go (type_rule p.left p.right).verdict
   where
-    go : (v : TypeVerdict) → (elim v [ differ ↦ Some (none (suc u + (type_rule p.left p.right).units)) | model.parts qs ↦ solve_types n (qs ++ ps) made (suc u + (type_rule p.left p.right).units) | bound b ↦ solve_types n (map (put_in_pair b) ps) (made ++ b ∷ []) (suc u + (type_rule p.left p.right).units) ]) ≡ behind n ps made (suc u + (type_rule p.left p.right).units) v
+    go : (v : TypeVerdict) → (elim v [
+      | differ ↦ Some (none (suc u + (type_rule p.left p.right).units))
+      | model.parts qs ↦ solve_types n (qs ++ ps)
+          made (suc u + (type_rule p.left p.right).units)
+      | bound b ↦ solve_types n (map (put_in_pair b) ps) (made ++ b ∷ [])
+          (suc u + (type_rule p.left p.right).units)
+    ]) ≡ behind n ps made (suc u + (type_rule p.left p.right).units) v
     go differ = refl
     go (model.parts qs) = refl
     go (bound b) = refl

@@ -289,7 +289,9 @@ pub record Arrives (θ : ℕ → Ty) (d : Declared) (V : List Variable) (next : 
   pub is_state : IsStateAt θ d after s'
   pub typed : AreTypedBindings d after (bindings_at θ s'.bindings)
   pub keeps : (σ : ℕ → ℕ → Term) → IsClosing σ → IsTypedClosing d V σ → AllSolvedBy σ (at_types θ ps) → AllSolvedBy σ (at_types θ ds) → (k : Keeps (IsTypedClosing d after) next (bindings_at θ s'.bindings) σ) × SolvesAt θ k.closing s'
-  pub keeps_at : (κ : ℕ → Ty) (σ : ℕ → ℕ → Term) → IsClosing σ → IsTypedClosing d (variables_at κ V) σ → AllSolvedBy σ (at_types κ (at_types θ ps)) → AllSolvedBy σ (at_types κ (at_types θ ds)) → (k : Keeps (IsTypedClosing d (variables_at κ after)) next (bindings_at κ (bindings_at θ s'.bindings)) σ) × SolvesTwice κ θ k.closing s'
+  pub keeps_at : (κ : ℕ → Ty) (σ : ℕ → ℕ → Term) → IsClosing σ → IsTypedClosing d (variables_at κ V) σ → AllSolvedBy σ (at_types κ (at_types θ ps)) →
+      AllSolvedBy σ (at_types κ (at_types θ ds)) → (k : Keeps (IsTypedClosing d (variables_at κ after)) next
+      (bindings_at κ (bindings_at θ s'.bindings)) σ) × SolvesTwice κ θ k.closing s'
   pub solves : (σ : ℕ → ℕ → Term) → IsClosing σ → SolvesAt θ σ s' → AllSolvedBy (through (bindings_at θ s'.bindings) σ) (at_types θ ps) × AllSolvedBy (through (bindings_at θ s'.bindings) σ) (at_types θ ds)
 
 pub record Comes (θ : ℕ → Ty) (d : Declared) (V : List Variable) (eqs : List TypePair) (next : ℕ) (ps ds : List Pair) (s' : State) : Type 0 where
@@ -303,7 +305,9 @@ IsSolveOutcome θ d V eqs next ps ds (Solution s') = Comes θ d V eqs next ps ds
 IsSolveOutcome θ d V eqs next ps ds Spent = Unit {0}
 
 -- from the state behind the type equations
-from_start : (θ : ℕ → Ty) (d : Declared) (V : List Variable) (eqs : List TypePair) (next : ℕ) (ps ds : List Pair) (ts : List TypeBinding) (u : ℕ) → AreSolved eqs [] (solved ts u) → (o : Unified) → Adds (begun ps ds next (solved ts u)) o → (Unifies θ eqs → IsOutcome θ d V (begun ps ds next (solved ts u)) o) → IsSolveOutcome θ d V eqs next ps ds o
+from_start : (θ : ℕ → Ty) (d : Declared) (V : List Variable) (eqs : List TypePair) (next : ℕ) (ps ds : List Pair) (ts : List TypeBinding) (u : ℕ) →
+    AreSolved eqs [] (solved ts u) → (o : Unified) → Adds (begun ps ds next (solved ts u)) o →
+    (Unifies θ eqs → IsOutcome θ d V (begun ps ds next (solved ts u)) o) → IsSolveOutcome θ d V eqs next ps ds o
 from_start θ d V eqs next ps ds ts u t Fail a f = λ σ c g k.
     let m : Satisfies θ ts = transport (Satisfies θ) (sym t.is) (t.keeps θ k.types) in
     f k.types m σ c g (record { pairs = transport (AllSolvedBy σ) (sym (types_satisfied θ ts m ps)) k.pairs; delayed = transport (AllSolvedBy σ) (sym (types_satisfied θ ts m ds)) k.delayed })

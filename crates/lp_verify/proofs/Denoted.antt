@@ -212,7 +212,9 @@ module _ (t : Tables) (all : List Record) where
       final = behind.final;
       same = λ m o. elim o [
         | inl l ↦ let k : m < suc n = omega (arith, l) in let j : m ≤ n = omega (arith, l) in behind.same m (inl k) ∙ same_start n r rs before rest named v ran m j
-        | inr e ↦ behind.same m (inr (ap (λ l. member m (numbers l)) (assumed_is n r rs before rest named v ran) ∙ ap (member m) (numbers_both before ran.more) ∙ member_append m (numbers before) (numbers ran.more) ∙ ap (λ b. b || member m (numbers ran.more)) e)) ∙ ap (λ l. captured_of l m) (assumed_is n r rs before rest named v ran) ∙ captured_there before ran.more m e
+        | inr e ↦ behind.same m (inr (ap (λ l. member m (numbers l)) (assumed_is n r rs before rest named v ran) ∙ ap (member m)
+            (numbers_both before ran.more) ∙ member_append m (numbers before) (numbers ran.more) ∙ ap (λ b. b || member m (numbers ran.more)) e)) ∙ ap
+            (λ l. captured_of l m) (assumed_is n r rs before rest named v ran) ∙ captured_there before ran.more m e
       ];
       each = each_here;
       clauses = clauses_here r.program refl;
@@ -228,7 +230,9 @@ module _ (t : Tables) (all : List Record) where
     each = λ m r l e. absurd (let z : None ≡ Some r = sym (none_behind all n m rest l) ∙ e in cc);
     clauses = ([], refl);
   }
-  all_denote n (r ∷ rs) before rest named h = by_ran (λ v. all_denote (suc n) rs (before ++ v.assumed) (rest_next all n r rs rest)) (run (at n r) any_clause (first_state r (captured_of before n)) r.code.items) refl (compare (at n r) (later (suc n) rs) r.code.items (first_state r (captured_of before n))) h
+  all_denote n (r ∷ rs) before rest named h = by_ran (λ v. all_denote (suc n) rs (before ++ v.assumed) (rest_next all n r rs rest))
+      (run (at n r) any_clause (first_state r (captured_of before n)) r.code.items) refl
+      (compare (at n r) (later (suc n) rs) r.code.items (first_state r (captured_of before n))) h
     where
       by_ran : ((v : State) → AreNamed all (suc n) (before ++ v.assumed) → fault_from rules t all (before ++ v.assumed) (suc n) rs ≡ None → AllDenote (suc n) rs (before ++ v.assumed)) → (ran : Ran) → run (at n r) any_clause (first_state r (captured_of before n)) r.code.items ≡ ran
           → Compared (at n r) (later (suc n) rs) (first_state r (captured_of before n)) r.code.items ran → fault_of_run n (λ s. fault_from rules t all (before ++ s.assumed) (suc n) rs) ran ≡ None → AllDenote n (r ∷ rs) before
@@ -287,7 +291,9 @@ module _ (t : Tables) (all : List Record) where
           record { first = g.0; denotes = sym (later_here n r rs (captured_of before n)) ∙ g.1; others = cs; denote = h }
       by_named false e h = absurd (cc)
 
-      by_program : (p : Bool) → r.program ≡ p → (if p then option_and_then (λ c. option_map (λ cs. c ∷ cs) (denote_from t all (suc n) rs)) (denoted (at n r) (later (suc n) rs) nothing_captured) else (if is_named (at n r) then denote_from t all (suc n) rs else None)) ≡ Some cs → FirstDenotes n r rs before
+      by_program : (p : Bool) → r.program ≡ p → (if p then option_and_then (λ c. option_map (λ cs. c ∷ cs) (denote_from t all (suc n) rs))
+          (denoted (at n r) (later (suc n) rs) nothing_captured) else (if is_named (at n r) then denote_from t all (suc n) rs else None)) ≡ Some cs →
+          FirstDenotes n r rs before
       by_program true p h = by_first p (denoted (at n r) (later (suc n) rs) nothing_captured) refl h
       by_program false p h = by_named (is_named (at n r)) refl h
 

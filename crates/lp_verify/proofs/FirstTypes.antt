@@ -423,7 +423,9 @@ still_type x p i t s T h = (h.0, h.1, h.2, still_firsts x p i t h.3)
 abbrev IsKind : Types → Types → ℕ → TypeId → Type 0
 IsKind x y k t = AreFirsts x → (Ts : List Ty) → AreTypes x [] Ts → IsType y t (con k (tys Ts))
 
-pub basics_put : (x y z w : Types) (p i t : TypeId) (k l m : ℕ) → AreFirsts x → TypesGrow x y → TypesGrow (with_basics y p y.integer y.text) z → TypesGrow (with_basics z z.proposition i z.text) w → IsKind x y k p → IsKind (with_basics y p y.integer y.text) z l i → IsKind (with_basics z z.proposition i z.text) w m t
+pub basics_put : (x y z w : Types) (p i t : TypeId) (k l m : ℕ) → AreFirsts x → TypesGrow x y → TypesGrow (with_basics y p y.integer y.text) z →
+    TypesGrow (with_basics z z.proposition i z.text) w → IsKind x y k p → IsKind (with_basics y p y.integer y.text) z l i → IsKind
+    (with_basics z z.proposition i z.text) w m t
     → con k (tys []) ≡ o_type → con l (tys []) ≡ int_type → con m (tys []) ≡ string_type → HasBasics (with_basics w w.proposition w.integer t)
 basics_put x y z w p i t k l m a first second third one two three e f g =
     let y1 = with_basics y p y.integer y.text in

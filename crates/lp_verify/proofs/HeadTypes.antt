@@ -133,7 +133,9 @@ no_constant_stays h s t p e n keeps = ap (built_of h t) (sym e) ∙ by_head p e 
     by_head (Some (Register r)) e n = keeps r (sym e)
 
 -- an argument more was taken
-pub argument_taken : (x : Types) (h : Home) (s t : State) (p q : HeadSoFar) → q.predicate ≡ p.predicate → q.count ≡ p.count → q.types ≡ p.types → q.whole ≡ p.whole → q.arguments ≡ p.arguments + 1 → ((T : Ty) (n : ℕ) → IsType x p.left (result_type T n) → IsType x q.left (result_type T (suc n))) → IsHead x p h s → TakesArgument h s t → IsHead x q h t
+pub argument_taken : (x : Types) (h : Home) (s t : State) (p q : HeadSoFar) → q.predicate ≡ p.predicate → q.count ≡ p.count → q.types ≡ p.types →
+    q.whole ≡ p.whole → q.arguments ≡ p.arguments + 1 → ((T : Ty) (n : ℕ) → IsType x p.left (result_type T n) → IsType x q.left
+    (result_type T (suc n))) → IsHead x p h s → TakesArgument h s t → IsHead x q h t
 argument_taken x h s t p q predicate count types whole arguments left k f =
     let same = head_stays h s t f.0 f.2 in
     let old = k.arguments in
@@ -166,7 +168,9 @@ types_more x (u ∷ ts) t [] T a h = absurd a
 types_more x (u ∷ ts) t (U ∷ Ts) T a h = (a.0, types_more x ts t Ts T a.1 h)
 
 -- the head behind type arguments, before the first argument
-pub head_put : (x y : Types) (h : Home) (t : State) (p : HeadSoFar) (ts : List TypeId) → TypesGrow x y → p.predicate ≡ h.self.head → p.count ≡ head_count h → p.types.items ≡ ts → AreTypes x ts t.head_types → p.arguments ≡ 0 → length t.head_arguments ≡ 0 → IsType y p.whole (head_built h t).type → p.left ≡ p.whole → IsHead y p h t
+pub head_put : (x y : Types) (h : Home) (t : State) (p : HeadSoFar) (ts : List TypeId) → TypesGrow x y → p.predicate ≡ h.self.head → p.count ≡
+    head_count h → p.types.items ≡ ts → AreTypes x ts t.head_types → p.arguments ≡ 0 → length t.head_arguments ≡ 0 → IsType y p.whole
+    (head_built h t).type → p.left ≡ p.whole → IsHead y p h t
 head_put x y h t p ts g predicate count items types none first whole left = record {
   predicate = predicate;
   count = count;
@@ -220,7 +224,9 @@ no_constant_there (Some (Register r)) e = tt
 abbrev pub TakesNone : Instr → Type 0
 TakesNone i = ((s : State) → taken_by s i ≡ []) × ((n : ℕ) → arguments_behind i n ≡ n)
 
-pub takes_none_of : (i : Instr) → ((j t : ℕ) → i ≡ on.GetType j t → ⊥) → ((x d : ℕ) → i ≡ on.GetVar x d → ⊥) → ((x q : ℕ) → i ≡ on.Get x q → ⊥) → ((x c : ℕ) (v : Vec ℕ Global) → i ≡ on.GetConst x c v → ⊥) → ((x : ℕ) (z : ℤ) → i ≡ on.GetInt x z → ⊥) → ((x : ℕ) (b : Vec ℕ Global) → i ≡ on.GetStr x b → ⊥) → TakesNone i
+pub takes_none_of : (i : Instr) → ((j t : ℕ) → i ≡ on.GetType j t → ⊥) → ((x d : ℕ) → i ≡ on.GetVar x d → ⊥) → ((x q : ℕ) → i ≡ on.Get x q → ⊥) →
+    ((x c : ℕ) (v : Vec ℕ Global) → i ≡ on.GetConst x c v → ⊥) → ((x : ℕ) (z : ℤ) → i ≡ on.GetInt x z → ⊥) →
+    ((x : ℕ) (b : Vec ℕ Global) → i ≡ on.GetStr x b → ⊥) → TakesNone i
 takes_none_of (on.TyCon d k ts) a b1 c1 d1 e1 f1 = (λ s. refl, λ n. refl)
 takes_none_of (on.TyArr d x y) a b1 c1 d1 e1 f1 = (λ s. refl, λ n. refl)
 takes_none_of (on.TyNew d) a b1 c1 d1 e1 f1 = (λ s. refl, λ n. refl)

@@ -9,7 +9,9 @@ use Rattle.lp_code.specs.Rules.{breaks_type}
 use Rattle.lp_code.specs.States.{State, Home}
 use Rattle.lp_verify.specs.inner.Made.{is_goal_typed, is_argument_typed, nothing_built, type_made, term_made}
 
-pub no_goal_typed : (i : Instr) → ((c : ℕ) (v u : Vec ℕ Global) → i ≡ on.Call c v u → ⊥) → ((r : ℕ) → i ≡ on.CallTerm r → ⊥) → ((t l r : ℕ) → i ≡ on.Equal t l r → ⊥) → ((t l r : ℕ) → i ≡ on.Is t l r → ⊥) → ((l r : ℕ) → i ≡ on.Less l r → ⊥) → ((l r : ℕ) → i ≡ on.Greater l r → ⊥) → ((l r : ℕ) → i ≡ on.AtMost l r → ⊥) → ((l r : ℕ) → i ≡ on.AtLeast l r → ⊥) → is_goal_typed i ≡ false
+pub no_goal_typed : (i : Instr) → ((c : ℕ) (v u : Vec ℕ Global) → i ≡ on.Call c v u → ⊥) → ((r : ℕ) → i ≡ on.CallTerm r → ⊥) →
+    ((t l r : ℕ) → i ≡ on.Equal t l r → ⊥) → ((t l r : ℕ) → i ≡ on.Is t l r → ⊥) → ((l r : ℕ) → i ≡ on.Less l r → ⊥) →
+    ((l r : ℕ) → i ≡ on.Greater l r → ⊥) → ((l r : ℕ) → i ≡ on.AtMost l r → ⊥) → ((l r : ℕ) → i ≡ on.AtLeast l r → ⊥) → is_goal_typed i ≡ false
 no_goal_typed (on.TyCon d k ts) n0 n1 n2 n3 n4 n5 n6 n7 = refl
 no_goal_typed (on.TyArr d a b) n0 n1 n2 n3 n4 n5 n6 n7 = refl
 no_goal_typed (on.TyNew d) n0 n1 n2 n3 n4 n5 n6 n7 = refl

@@ -294,7 +294,9 @@ same_lacking R n rs hs xs xss s r = by_value R (value_in rs r) (held xs r) (same
     by_value R (Some t) (Some b) a = refl
 
 -- the registers of a record that begins
-pub stack_begins : {T B : Type 0} (R : T → B → Type 0) (n m : ℕ) (rs : Registers T) (ts : List T) (bs : List B) → IsFilled ts rs → ((r : ℕ) → was_set rs r ≡ nat_lt r n) → length ts ≤ n → m ≤ length (started bs m) → ((r : ℕ) → Agree R (slice_get ts r) (slice_get bs r)) → IsStack R m rs [] (started bs m ∷ [])
+pub stack_begins : {T B : Type 0} (R : T → B → Type 0) (n m : ℕ) (rs : Registers T) (ts : List T) (bs : List B) → IsFilled ts rs →
+    ((r : ℕ) → was_set rs r ≡ nat_lt r n) → length ts ≤ n → m ≤ length (started bs m) → ((r : ℕ) → Agree R (slice_get ts r) (slice_get bs r)) →
+    IsStack R m rs [] (started bs m ∷ [])
 stack_begins R n m rs ts bs f ever few wide alike =
     let t : rs.trail.items ≡ from_zero (length ts) = f.0 in
     let kept : IsKept rs =

@@ -107,7 +107,9 @@ merge_places (suc n) k (e ∷ es) (f ∷ fs) zs (Some T ∷ ts) (Some U ∷ us) 
 low_on : (e : Entry) (o : Option (List Entry)) (zs : List Entry) → with_entry e o ≡ Some zs → e.index < 2 ^ 16 → ((ws : List Entry) → o ≡ Some ws → AreLow ws) → AreLow zs
 low_on e o zs h at go = let w = with_entry_is e o zs h in subst AreLow (sym w.2) (at, go w.0 w.1)
 
-low_next : (x y : Entry) (l r b : Option (List Entry)) (zs : List Entry) → x.index < 2 ^ 16 → y.index < 2 ^ 16 → merge_on (next_of_both x y) l r b ≡ Some zs → ((ws : List Entry) → l ≡ Some ws → AreLow ws) → ((ws : List Entry) → r ≡ Some ws → AreLow ws) → ((ws : List Entry) → b ≡ Some ws → AreLow ws) → AreLow zs
+low_next : (x y : Entry) (l r b : Option (List Entry)) (zs : List Entry) → x.index < 2 ^ 16 → y.index < 2 ^ 16 → merge_on (next_of_both x y) l r b ≡
+    Some zs → ((ws : List Entry) → l ≡ Some ws → AreLow ws) → ((ws : List Entry) → r ≡ Some ws → AreLow ws) →
+    ((ws : List Entry) → b ≡ Some ws → AreLow ws) → AreLow zs
 low_next x y l r b zs p q h u v w = by_next (nat_eq x.index y.index) (nat_eq x.of.0 y.of.0) (nat_lt x.index y.index) h
   where
     by_next : (e t k : Bool) → merge_on (if e then (if t then next.Both x else next.Clash) else (if k then next.Left x else next.Right y)) l r b ≡ Some zs → AreLow zs

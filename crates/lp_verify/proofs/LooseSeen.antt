@@ -116,7 +116,9 @@ map_zero : (ps : List ℕ) → map (λ n. n + 0) ps ≡ ps
 map_zero [] = refl
 map_zero (p ∷ ps) = let q : p + 0 ≡ p = omega arith in let r = map_zero ps in λ j. q j ∷ r j
 
-pub put_there : (l : Lists) (m : Store) (v : Vec Entry Global) (x : Loose) (ts : List (Option Ty)) → m.lists.lists.items ≡ l.lists.items ++ v ∷ [] → x ≡ record { list = length l.lists.items; from = 0; lowered = 0 } → indices v.items ≡ places_from 0 ts → AreLow v.items → AreTypes m.types (types_of v.items) (types_there ts)
+pub put_there : (l : Lists) (m : Store) (v : Vec Entry Global) (x : Loose) (ts : List (Option Ty)) → m.lists.lists.items ≡ l.lists.items ++ v ∷ [] → x
+    ≡ record { list = length l.lists.items; from = 0; lowered = 0 } → indices v.items ≡ places_from 0 ts → AreLow v.items → AreTypes m.types
+    (types_of v.items) (types_there ts)
     → StandFor m x ts
 put_there l m v x ts e at places low typed = λ n g.
     let there : entries_in n.lists x ≡ v.items = (λ j. drop (at j).from (items_of (slice_get ((g.0.1 ∙ ap (λ xs. xs ++ g.0.0) e) j) (at j).list))) ∙ ap items_of (get_in l.lists.items v g.0.0) in (
@@ -134,7 +136,9 @@ one_there es e i T h at low =
     let z : i ≡ 0 + i = omega arith in
     (ap indices h ∙ ap (λ n. n ∷ []) (at ∙ z) ∙ sym (one_place 0 i T), subst AreLow (sym h) (subst (λ n. n < 2 ^ 16) (sym at) low, tt))
 
-pub one_put : (k : Types) (l m : Lists) (v : Vec Entry Global) (x : Loose) (e : Entry) (i : ℕ) (T : Ty) → i < 2 ^ 16 → v.items ≡ e ∷ [] → e.index ≡ i → m.lists.items ≡ l.lists.items ++ v ∷ [] → x ≡ record { list = length l.lists.items; from = 0; lowered = 0 } → IsType k e.of T → StandFor (store k m) x (bound_index i T).loose
+pub one_put : (k : Types) (l m : Lists) (v : Vec Entry Global) (x : Loose) (e : Entry) (i : ℕ) (T : Ty) → i < 2 ^ 16 → v.items ≡ e ∷ [] → e.index ≡ i
+    → m.lists.items ≡ l.lists.items ++ v ∷ [] → x ≡ record { list = length l.lists.items; from = 0; lowered = 0 } → IsType k e.of T → StandFor
+    (store k m) x (bound_index i T).loose
 one_put k l m v x e i T low items index lists at typed =
     let o = one_there v.items e i T items index low in
     put_there l (store k m) v x (bound_index i T).loose lists at o.0 o.1 (subst (λ es. AreTypes k (types_of es) (types_there (bound_index i T).loose)) (sym items) (subst (AreTypes k (e.of ∷ [])) (sym (one_type i T)) (typed, tt)))

@@ -101,7 +101,9 @@ both_merge x e f T U l r o b Ts at t u h =
     by_types true = with_merges x e T o b Ts t h
     by_types false = refl
 
-pub merge_types : (x : Types) (n k : ℕ) (es fs : List Entry) (ts us : List (Option Ty)) → indices es ≡ places_from k ts → indices fs ≡ places_from k us → AreTypes x (types_of es) (types_there ts) → AreTypes x (types_of fs) (types_there us) → length es + length fs ≤ n → Merges x (merge n es fs) (agree ts us) (types_there (joined ts us))
+pub merge_types : (x : Types) (n k : ℕ) (es fs : List Entry) (ts us : List (Option Ty)) → indices es ≡ places_from k ts → indices fs ≡ places_from k
+    us → AreTypes x (types_of es) (types_there ts) → AreTypes x (types_of fs) (types_there us) → length es + length fs ≤ n → Merges x (merge n es fs)
+    (agree ts us) (types_there (joined ts us))
 merge_types x n k [] fs [] us a b p q l = subst (λ o. Merges x o true (types_there us)) (sym (all_right n fs (omega (arith, l)))) (refl, q)
 merge_types x n k (e ∷ es) fs [] us a b p q l = absurd (cc)
 merge_types x n k es [] (o ∷ ts) [] a b p q l = subst (λ z. Merges x z true (types_there (o ∷ ts))) (sym (all_left n es (omega (arith, l)))) (refl, p)

@@ -213,7 +213,9 @@ settled_there : {T : Type 0} (i : Instr) (ds : List ℕ) (t : T) (p q : ℕ) (ss
     → q ≡ p + length_of i → ts ≡ sides_run i p ss → IsStacked i ds t hs old js mid → IsSettled q ts js mid ks new → IsStackRun i ds t (p + length_of i) (sides_run i p ss) hs old ks new
 settled_there i ds t p q ss ts hs ks js old mid new e f x y = record { heights = js; made = mid; stacked = x; settled = subst (λ n. IsSettled n (sides_run i p ss) js mid ks new) e (subst (λ l. IsSettled q l js mid ks new) f y) }
 
-pub passed_on : (i : Instr) (u : TypeId) (t : kept_built.Built) (old mid new : Work) → IsActed i u t old mid → new.home ≡ mid.home → new.places ≡ mid.places → new.takings ≡ mid.takings → new.own_types ≡ mid.own_types → (mid.place + length_of i < 2 ^ 64 → new.place ≡ mid.place + length_of i) → (mid.number + 1 < 2 ^ 64 → new.number ≡ mid.number + 1)
+pub passed_on : (i : Instr) (u : TypeId) (t : kept_built.Built) (old mid new : Work) → IsActed i u t old mid → new.home ≡ mid.home → new.places ≡
+    mid.places → new.takings ≡ mid.takings → new.own_types ≡ mid.own_types → (mid.place + length_of i < 2 ^ 64 → new.place ≡ mid.place + length_of i)
+    → (mid.number + 1 < 2 ^ 64 → new.number ≡ mid.number + 1)
     → sides_in new.blocks.frames.items ≡ sides_settled new.place (sides_in mid.blocks.frames.items) → (AreEnds (reverse mid.blocks.frames.items) → AreEnds (reverse new.blocks.frames.items)) → new.in_body ≡ mid.in_body → new.head ≡ mid.head
     → IsSettled new.place (sides_in mid.blocks.frames.items) (type_heights (reverse mid.blocks.frames.items)) mid.types (type_heights (reverse new.blocks.frames.items)) new.types
     → IsSettled new.place (sides_in mid.blocks.frames.items) (term_heights (reverse mid.blocks.frames.items)) mid.terms (term_heights (reverse new.blocks.frames.items)) new.terms → IsRun i u t old new
@@ -233,9 +235,15 @@ passed_on i u t old mid new a home places takings own place number sides ends bo
       types_are = ap (λ (x : HeadSoFar). length x.types.items) head ∙ a.types_are;
       arguments_are = λ h. ap (λ (x : HeadSoFar). x.arguments) head ∙ a.arguments_are h;
       types_run = λ h.
-          settled_there i (type_set i) u old.place new.place (sides_in old.blocks.frames.items) (sides_in mid.blocks.frames.items) (type_heights (reverse old.blocks.frames.items)) (type_heights (reverse new.blocks.frames.items)) (type_heights (reverse mid.blocks.frames.items)) old.types mid.types new.types (at h) (a.sides_act (omega (arith, h))) a.types_act types;
+          settled_there i (type_set i) u old.place new.place (sides_in old.blocks.frames.items) (sides_in mid.blocks.frames.items)
+          (type_heights (reverse old.blocks.frames.items)) (type_heights (reverse new.blocks.frames.items))
+          (type_heights (reverse mid.blocks.frames.items)) old.types mid.types new.types (at h) (a.sides_act (omega (arith, h))) a.types_act
+          types;
       terms_run = λ h.
-          settled_there i (term_set i) t old.place new.place (sides_in old.blocks.frames.items) (sides_in mid.blocks.frames.items) (term_heights (reverse old.blocks.frames.items)) (term_heights (reverse new.blocks.frames.items)) (term_heights (reverse mid.blocks.frames.items)) old.terms mid.terms new.terms (at h) (a.sides_act (omega (arith, h))) a.terms_act terms;
+          settled_there i (term_set i) t old.place new.place (sides_in old.blocks.frames.items) (sides_in mid.blocks.frames.items)
+          (term_heights (reverse old.blocks.frames.items)) (term_heights (reverse new.blocks.frames.items))
+          (term_heights (reverse mid.blocks.frames.items)) old.terms mid.terms new.terms (at h) (a.sides_act (omega (arith, h))) a.terms_act
+          terms;
     }
 
 -- the record is judged before its first instruction, and else only the instruction is
@@ -575,5 +583,7 @@ begins l before w x p grow there first b knows names j judges low =
 pub begun : (h : Home) (l : Store) (before : List (ℕ × Captured)) (w : Work) (x : Shared) (p : Whole) → home_in w.home ≡ h → StoreGrows l (kept_in x) → IsStarted x.handed.items x.named w → slice_get h.records h.number ≡ Some h.self → AreHanded l h.records x.handed.items x.named before
     → KnowsFirst l x w h → AreNamedBefore h.number h.records x.named → IsJudgedWhole h (was_named x.named) p → JudgesHead x w p → HandedLow before → GoesOn h before h.self.code.items h.self.code.items w x p
 begun h l before w x p e grow b =
-    subst (λ h. slice_get h.records h.number ≡ Some h.self → AreHanded l h.records x.handed.items x.named before → KnowsFirst l x w h → AreNamedBefore h.number h.records x.named → IsJudgedWhole h (was_named x.named) p → JudgesHead x w p → HandedLow before → GoesOn h before h.self.code.items h.self.code.items w x p) e
+    subst (λ h. slice_get h.records h.number ≡ Some h.self → AreHanded l h.records x.handed.items x.named before → KnowsFirst l x w h → AreNamedBefore
+    h.number h.records x.named → IsJudgedWhole h (was_named x.named) p → JudgesHead x w p → HandedLow before → GoesOn h before h.self.code.items
+    h.self.code.items w x p) e
     (λ there given knows names j judges low. begins l before w x p grow there given b knows names j judges low)

@@ -136,7 +136,9 @@ argument_at_place x (u ∷ ts) (U ∷ Us) (suc n) t a e =
 abbrev pub IsAppliedTo : Types → Ty → List Ty → TypeId → ℕ → Type 0
 IsAppliedTo x T Us t n = (R : Ty) × IsType x t R × (applied_type R (drop n Us) ≡ applied_type T Us)
 
-module _ (x : Types) (ts : List kept_built.Built) (T : Ty) (Us : List Ty) (rest : TypeId) (n : ℕ) (t : kept_built.Built) (o : Option (TypeId × TypeId)) (all : AreTypes x (ofs ts) Us) (at : slice_get ts n ≡ Some t) (arrows : (R : Ty) → IsType x rest R → IsArrowAs x R o) (so_far : IsAppliedTo x T Us rest n) where
+module _ (x : Types) (ts : List kept_built.Built) (T : Ty) (Us : List Ty) (rest : TypeId) (n : ℕ) (t : kept_built.Built)
+    (o : Option (TypeId × TypeId)) (all : AreTypes x (ofs ts) Us) (at : slice_get ts n ≡ Some t)
+    (arrows : (R : Ty) → IsType x rest R → IsArrowAs x R o) (so_far : IsAppliedTo x T Us rest n) where
   pub applied_none : o ≡ None → Agree (IsType x) None (applied_type T Us)
   applied_none e =
       let u = argument_at_place x ts Us n t all at in
@@ -221,7 +223,9 @@ pub built_makes : (m : Store) (p : Bool) (b : Built) (t : kept_built.Built) → 
 built_makes m p b t e h = subst (λ p. MakesTerm m p b (typed.Built t)) (sym e) h
 
 -- an abstraction
-pub abstraction_same : (x y : Types) (l : Lists) (b t : kept_built.Built) (B : Built) (T : Ty) → TypesGrow x y → SameTerm (store x l) b B → ((ts : List (Option Ty)) → StandFor (store x l) b.loose ts → StandFor (store x l) t.loose (outer ts)) → IsType y t.of (arrow T B.type) → variable_in t.head ≡ None → SameTerm (store y l) t (abstraction_of B T)
+pub abstraction_same : (x y : Types) (l : Lists) (b t : kept_built.Built) (B : Built) (T : Ty) → TypesGrow x y → SameTerm (store x l) b B →
+    ((ts : List (Option Ty)) → StandFor (store x l) b.loose ts → StandFor (store x l) t.loose (outer ts)) → IsType y t.of (arrow T B.type) →
+    variable_in t.head ≡ None → SameTerm (store y l) t (abstraction_of B T)
 abstraction_same x y l b t B T g h out of none = (stands_later (store x l) (store y l) t.loose (outer B.loose) (grows_same l, g) (out B.loose h.0), of, none)
 
 -- others are joined, one behind the other
@@ -302,7 +306,9 @@ no_variable : (t u : Term) (us : List Term) → variable_of (apply t (u ∷ us))
 no_variable t u [] = refl
 no_variable t u (v ∷ us) = no_variable (app t u) v us
 
-pub application_same : (l m : Store) (ts : List kept_built.Built) (f : Built) (bs : List Built) (o : Option TypeId) (p : Option Loose) (t : kept_built.Built) → Alike (SameTerm l) ts bs → nat_eq (length ts) 0 ≡ false → o ≡ Some t.of → p ≡ Some t.loose → Agree (IsType m.types) o (applied_type f.type (built_types bs))
+pub application_same : (l m : Store) (ts : List kept_built.Built) (f : Built) (bs : List Built) (o : Option TypeId) (p : Option Loose)
+    (t : kept_built.Built) → Alike (SameTerm l) ts bs → nat_eq (length ts) 0 ≡ false → o ≡ Some t.of → p ≡ Some t.loose → Agree (IsType m.types) o
+    (applied_type f.type (built_types bs))
     → AreAllJoined m f.loose bs p → variable_in t.head ≡ None → MakesTerm m (not (applies f bs)) (application_of f bs) (typed.Built t)
 application_same l m [] f [] o p t a e x y g h none = absurd (cc)
 application_same l m [] f (b ∷ bs) o p t a e x y g h none = absurd (cc)
@@ -331,10 +337,14 @@ pub fine_makes : (m : Store) (p q : Bool) (b : Built) (t : Typed) → p ≡ q �
 fine_makes m p q b t e h = subst (λ p. MakesTerm m (not p) b t) e h
 
 -- an argument of the head
-pub head_argument : (x : Types) (w : Work) (h : Home) (s : State) (i : ℕ) (o : Option TypeId) → IsHead x w.head h s → ((T : Ty) → IsType x w.head.whole T → IsType x w.head.left (result_type T w.head.arguments) → Agree (IsType x) o (argument_type T i)) → Agree (IsType x) o (argument_type (head_built h s).type i)
+pub head_argument : (x : Types) (w : Work) (h : Home) (s : State) (i : ℕ) (o : Option TypeId) → IsHead x w.head h s →
+    ((T : Ty) → IsType x w.head.whole T → IsType x w.head.left (result_type T w.head.arguments) → Agree (IsType x) o (argument_type T i)) → Agree
+    (IsType x) o (argument_type (head_built h s).type i)
 head_argument x w h s i o k f = let T = (head_built h s).type in f T k.whole (subst (λ n. IsType x w.head.left (result_type T n)) (sym k.arguments) k.left)
 
-pub argument_made : (x : Types) (l : Lists) (w : Work) (h : Home) (s : State) (i : ℕ) (o : Option TypeId) (t : TypeId) (e : Term) (hd : Head) → variable_in hd ≡ variable_of e → Agree (IsType x) o (argument_type (head_built h s).type i) → o ≡ Some t → MakesTerm (store x l) (is_none (argument_type (head_built h s).type i)) (whole e (argument_at h s i)) (typed.Built (bare_built t hd))
+pub argument_made : (x : Types) (l : Lists) (w : Work) (h : Home) (s : State) (i : ℕ) (o : Option TypeId) (t : TypeId) (e : Term) (hd : Head) →
+    variable_in hd ≡ variable_of e → Agree (IsType x) o (argument_type (head_built h s).type i) → o ≡ Some t → MakesTerm (store x l)
+    (is_none (argument_type (head_built h s).type i)) (whole e (argument_at h s i)) (typed.Built (bare_built t hd))
 argument_made x l w h s i o t e hd same a is = by_type (argument_type (head_built h s).type i) (subst (λ o. Agree (IsType x) o (argument_type (head_built h s).type i)) is a)
   where
     by_type : (p : Option Ty) → Agree (IsType x) (Some t) p → MakesTerm (store x l) (is_none p) (whole e (unwrap_or p o_type)) (typed.Built (bare_built t hd))
@@ -379,21 +389,33 @@ TellsConstant x y w c ds of = (l : Lists) (h : Home) (s : State) → Knows (stor
 read_in : (w : Work) (ds es : List ℕ) → ds ≡ es → list_any (is_lacking w.types) es ≡ false → list_any (is_lacking w.types) ds ≡ false
 read_in w ds es e h = ap (list_any (is_lacking w.types)) e ∙ h
 
-constant_known : (x y : Types) (l : Lists) (w : Work) (h : Home) (s : State) (c : ℕ) (ds es : List ℕ) (of : TypeId) → ds ≡ es → TellsConstant x y w c ds of → Knows (store x l) w h s → list_any (is_lacking w.types) es ≡ false → IsType y of (constant_type h.tables c (types_in s.now es)) × UsesAre h.tables y
+constant_known : (x y : Types) (l : Lists) (w : Work) (h : Home) (s : State) (c : ℕ) (ds es : List ℕ) (of : TypeId) → ds ≡ es → TellsConstant x y w c
+    ds of → Knows (store x l) w h s → list_any (is_lacking w.types) es ≡ false → IsType y of (constant_type h.tables c (types_in s.now es)) × UsesAre
+    h.tables y
 constant_known x y l w h s c ds es of e m k set = subst (λ ds. IsType y of (constant_type h.tables c (types_in s.now ds)) × UsesAre h.tables y) e (m l h s k (read_in w ds es e set))
 
-pub constant_by : (x y : Types) (l : Lists) (w : Work) (i : Instr) (d c : ℕ) (v : Vec ℕ Global) (ds : List ℕ) (t : kept_built.Built) (of : TypeId) → i ≡ on.PutConst d c v → ds ≡ v.items → t ≡ bare_built of head.Other → TellsConstant x y w c ds of → IsMadeBy (store x l) (store y l) w i (typed.Built t)
+pub constant_by : (x y : Types) (l : Lists) (w : Work) (i : Instr) (d c : ℕ) (v : Vec ℕ Global) (ds : List ℕ) (t : kept_built.Built) (of : TypeId) → i
+    ≡ on.PutConst d c v → ds ≡ v.items → t ≡ bare_built of head.Other → TellsConstant x y w c ds of → IsMadeBy (store x l) (store y l) w i
+    (typed.Built t)
 constant_by x y l w i d c v ds t of e n q m =
     made_at (store x l) (store y l) w i (on.PutConst d c v) (typed.Built t) e
     (λ h s k set. let a = constant_known x y l w h s c ds v.items of n m k (read_types w (on.PutConst d c v) set) in (a.1, subst (λ t. SameTerm (store y l) t (term_made h s (on.PutConst d c v))) (sym q) (bare_same (store y l) of head.Other (term_made h s (on.PutConst d c v)) refl a.0 refl)))
 
 pub integer_by : (x : Types) (l : Lists) (w : Work) (i : Instr) (d : ℕ) (z : ℤ) (t : kept_built.Built) → i ≡ on.PutInt d z → t ≡ bare_built x.integer head.Other → IsMadeBy (store x l) (store x l) w i (typed.Built t)
 integer_by x l w i d z t e q =
-    made_at (store x l) (store x l) w i (on.PutInt d z) (typed.Built t) e (λ h s k set. (k.of_head.constants.uses, subst (λ t. SameTerm (store x l) t (term_made h s (on.PutInt d z))) (sym q) (bare_same (store x l) x.integer head.Other (term_made h s (on.PutInt d z)) refl k.of_head.constants.basics.integer refl)))
+    made_at (store x l) (store x l) w i (on.PutInt d z) (typed.Built t) e (λ h s k set. (
+      k.of_head.constants.uses,
+      subst (λ t. SameTerm (store x l) t (term_made h s (on.PutInt d z))) (sym q)
+          (bare_same (store x l) x.integer head.Other (term_made h s (on.PutInt d z)) refl k.of_head.constants.basics.integer refl),
+    ))
 
 pub text_by : (x : Types) (l : Lists) (w : Work) (i : Instr) (d : ℕ) (b : Vec ℕ Global) (t : kept_built.Built) → i ≡ on.PutStr d b → t ≡ bare_built x.text head.Other → IsMadeBy (store x l) (store x l) w i (typed.Built t)
 text_by x l w i d b t e q =
-    made_at (store x l) (store x l) w i (on.PutStr d b) (typed.Built t) e (λ h s k set. (k.of_head.constants.uses, subst (λ t. SameTerm (store x l) t (term_made h s (on.PutStr d b))) (sym q) (bare_same (store x l) x.text head.Other (term_made h s (on.PutStr d b)) refl k.of_head.constants.basics.text refl)))
+    made_at (store x l) (store x l) w i (on.PutStr d b) (typed.Built t) e (λ h s k set. (
+      k.of_head.constants.uses,
+      subst (λ t. SameTerm (store x l) t (term_made h s (on.PutStr d b))) (sym q)
+          (bare_same (store x l) x.text head.Other (term_made h s (on.PutStr d b)) refl k.of_head.constants.basics.text refl),
+    ))
 
 -- the head, when types are put
 pub head_later : (x y : Types) (p : HeadSoFar) (h : Home) (s : State) → TypesGrow x y → IsHead x p h s → IsHead y p h s
@@ -419,14 +441,18 @@ agree_later l m None (Some b) g a = absurd a
 agree_later l m (Some t) (Some b) g a = same_later l m t b g a
 
 pub call_by : (x y : Types) (l : Lists) (w : Work) (i : Instr) (c : ℕ) (v u : Vec ℕ Global) (ds es : List ℕ) (of : TypeId) (t : Typed) → i ≡ on.Call c v u → ds ≡ v.items → es ≡ u.items → TypesGrow x y → TellsConstant x y w c ds of
-    → ((l : Lists) (h : Home) (s : State) (T : Ty) (b : Built) → IsSame (SameTerm (store y l)) w.terms s.now.terms → HasBasics y → list_any (is_lacking w.terms) es ≡ false → IsType y of T → b.loose ≡ [] → b.type ≡ o_type → variable_of b.term ≡ None → MakesTerm (store y l) (not (has_type (applied_type T (built_types (terms_in s.now es))) o_type)) b t)
+    → ((l : Lists) (h : Home) (s : State) (T : Ty) (b : Built) → IsSame (SameTerm (store y l)) w.terms s.now.terms → HasBasics y → list_any
+    (is_lacking w.terms) es ≡ false → IsType y of T → b.loose ≡ [] → b.type ≡ o_type → variable_of b.term ≡ None → MakesTerm (store y l)
+    (not (has_type (applied_type T (built_types (terms_in s.now es))) o_type)) b t)
     → IsMadeBy (store x l) (store y l) w i t
 call_by x y l w i c v u ds es of t e same_types same_terms g m a =
     made_at (store x l) (store y l) w i (on.Call c v u) t e
     (λ h s k set.
     let q = constant_known x y l w h s c ds v.items of same_types m k (read_types w (on.Call c v u) set) in
     let T = constant_type h.tables c (types_in s.now v.items) in
-    let r = a l h s T nothing_built (λ n. agree_later (store x l) (store y l) (value_in w.terms n) (held s.now.terms n) (grows_same l, g) (k.terms n)) (basics_stay x y g k.of_head.constants.basics) (ap (list_any (is_lacking w.terms)) same_terms ∙ read_terms w (on.Call c v u) set) q.0 refl refl refl in
+    let r = a l h s T nothing_built (λ n. agree_later (store x l) (store y l) (value_in w.terms n) (held s.now.terms n) (grows_same l, g) (k.terms n))
+    (basics_stay x y g k.of_head.constants.basics) (ap (list_any (is_lacking w.terms)) same_terms ∙ read_terms w (on.Call c v u) set) q.0 refl
+    refl refl in
     (q.1, subst (λ es. MakesTerm (store y l) (not (has_type (applied_type T (built_types (terms_in s.now es))) o_type)) nothing_built t) same_terms r))
 
 pub abs_by : {E : Type 0} (x y : Types) (l : Lists) (w : Work) (i : Instr) (d b u : ℕ) (r : Result Typed E) → i ≡ on.PutAbs d b u → OnOk r (TypesGrow x y × UsesStay x y)
@@ -535,7 +561,9 @@ pub matched_none : {A : Type 0} (P : Type 0) (Q : A → Type 0) (o : Option A) �
 matched_none P Q o e m = subst (λ o. MatchOption o P Q) e m
 
 -- the type of a head that is a register, or that is not there
-pub head_given : (l : Store) (rs : kept_registers.Registers kept_built.Built) (h : Home) (s : State) (p : Option RecordHead) (of : Option TypeId) → of ≡ given_in rs p → HasBasics l.types → IsSame (SameTerm l) rs s.now.terms → IsNoConstant p → IsType l.types (unwrap_or of l.types.proposition) (built_of h s p).type
+pub head_given : (l : Store) (rs : kept_registers.Registers kept_built.Built) (h : Home) (s : State) (p : Option RecordHead) (of : Option TypeId) → of
+    ≡ given_in rs p → HasBasics l.types → IsSame (SameTerm l) rs s.now.terms → IsNoConstant p → IsType l.types (unwrap_or of l.types.proposition)
+    (built_of h s p).type
 head_given l rs h s p of e basics same n = subst (λ of. IsType l.types (unwrap_or of l.types.proposition) (built_of h s p).type) (sym e) (by_head p n)
   where
     by_value : (o : Option kept_built.Built) (b : Option Built) → Agree (SameTerm l) o b → IsType l.types (unwrap_or (option_map (λ (t : kept_built.Built). t.of) o) l.types.proposition) (unwrap_or b nothing_built).type

@@ -118,10 +118,14 @@ module _ (d : Declared) where
       form_up (λ n. flat_list n d B (t ∷ [])) (λ n. flat_list n d B [] >>= flat_goal n d B t) gs (λ n. refl)
       (then_comes (λ n. flat_list n d B []) (λ n. flat_goal n d B t) no_goals gs (form_up (λ n. flat_list n d B []) (λ n. Some no_goals) no_goals (λ n. refl) (at_once no_goals)) c)
 
-  atom_comes : (B : List Bool) (h : Term) (vars : List Ty) (body : List Term) (gs : Goals) → (is_clause_head d B (head_of h) && are_positive (arguments h)) ≡ true → Comes (λ n. flat_list n d B body) gs → Comes (λ n. flat_clause_form n d B h connective.Atomic vars body) (clauses (clause 0 vars h gs) no_clauses)
+  atom_comes : (B : List Bool) (h : Term) (vars : List Ty) (body : List Term) (gs : Goals) →
+      (is_clause_head d B (head_of h) && are_positive (arguments h)) ≡ true → Comes (λ n. flat_list n d B body) gs → Comes
+      (λ n. flat_clause_form n d B h connective.Atomic vars body) (clauses (clause 0 vars h gs) no_clauses)
   atom_comes B h vars body gs e c =
       form_up (λ n. flat_clause_form n d B h connective.Atomic vars body) (λ n. only (is_clause_head d B (head_of h) && are_positive (arguments h)) h >>= λ k. option_map (λ z. clauses (clause 0 vars k z) no_clauses) (flat_list n d B body)) _ (λ n. refl)
-      (then_comes (λ n. only (is_clause_head d B (head_of h) && are_positive (arguments h)) h) (λ n k. option_map (λ z. clauses (clause 0 vars k z) no_clauses) (flat_list n d B body)) h (clauses (clause 0 vars h gs) no_clauses) (only_comes (is_clause_head d B (head_of h) && are_positive (arguments h)) h e)
+      (then_comes (λ n. only (is_clause_head d B (head_of h) && are_positive (arguments h)) h)
+      (λ n k. option_map (λ z. clauses (clause 0 vars k z) no_clauses) (flat_list n d B body)) h (clauses (clause 0 vars h gs) no_clauses)
+      (only_comes (is_clause_head d B (head_of h) && are_positive (arguments h)) h e)
       (map_comes (λ n. flat_list n d B body) (λ z. clauses (clause 0 vars h z) no_clauses) gs c))
 
   -- each reads back

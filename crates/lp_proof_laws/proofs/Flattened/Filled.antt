@@ -156,11 +156,17 @@ module _ (κ : ℕ → Ty) where
 
   pub type_filled_goals : (u : ℕ) (θ : ℕ → Ty) (σ : ℕ → Term) (gs : Goals) → map_goals (λ (u : ℕ). u) (λ u t. instance_term κ t) (instance κ) u (filled_goals θ σ gs) ≡ filled_goals (λ i. instance κ (θ i)) (λ i. instance_term κ (σ i)) gs
   type_filled_goals u θ σ gs =
-      goals_fused lifted (filled_term θ) (instance θ) (λ (u : ℕ). u) (λ u t. instance_term κ t) (instance κ) lifted (filled_term (λ i. instance κ (θ i))) (instance (λ i. instance κ (θ i))) Any (λ σ u τ. Gives (instance_term κ) σ τ) (λ σ u τ h. type_lifted σ τ h) (λ σ u τ h t w. type_term θ σ τ h t) (instance-instance θ κ) σ u (λ i. instance_term κ (σ i)) (λ i. refl) gs (any_goals gs)
+      goals_fused lifted (filled_term θ) (instance θ) (λ (u : ℕ). u) (λ u t. instance_term κ t) (instance κ) lifted
+      (filled_term (λ i. instance κ (θ i))) (instance (λ i. instance κ (θ i))) Any (λ σ u τ. Gives (instance_term κ) σ τ)
+      (λ σ u τ h. type_lifted σ τ h) (λ σ u τ h t w. type_term θ σ τ h t) (instance-instance θ κ) σ u (λ i. instance_term κ (σ i)) (λ i. refl) gs
+      (any_goals gs)
 
   pub type_filled_clauses : (u : ℕ) (θ : ℕ → Ty) (σ : ℕ → Term) (cs : Clauses) → map_clauses (λ (u : ℕ). u) (λ u t. instance_term κ t) (instance κ) u (filled_clauses θ σ cs) ≡ filled_clauses (λ i. instance κ (θ i)) (λ i. instance_term κ (σ i)) cs
   type_filled_clauses u θ σ cs =
-      clauses_fused lifted (filled_term θ) (instance θ) (λ (u : ℕ). u) (λ u t. instance_term κ t) (instance κ) lifted (filled_term (λ i. instance κ (θ i))) (instance (λ i. instance κ (θ i))) Any (λ σ u τ. Gives (instance_term κ) σ τ) (λ σ u τ h. type_lifted σ τ h) (λ σ u τ h t w. type_term θ σ τ h t) (instance-instance θ κ) σ u (λ i. instance_term κ (σ i)) (λ i. refl) cs (any_clauses cs)
+      clauses_fused lifted (filled_term θ) (instance θ) (λ (u : ℕ). u) (λ u t. instance_term κ t) (instance κ) lifted
+      (filled_term (λ i. instance κ (θ i))) (instance (λ i. instance κ (θ i))) Any (λ σ u τ. Gives (instance_term κ) σ τ)
+      (λ σ u τ h. type_lifted σ τ h) (λ σ u τ h t w. type_term θ σ τ h t) (instance-instance θ κ) σ u (λ i. instance_term κ (σ i)) (λ i. refl) cs
+      (any_clauses cs)
 
 -- terms for loose indices
 instantiate_lifted : (σ γ τ : ℕ → Term) → Gives (instantiate γ) σ τ → Gives (instantiate (lifted γ)) (lifted σ) (lifted τ)
@@ -204,11 +210,15 @@ raise_filled_clauses n θ σ cs =
 -- and types and terms, one after the other, are a filling
 pub one_filling : (θ : ℕ → Ty) (σ : ℕ → Term) (gs : Goals) → instantiate_goals σ (type_goals θ gs) ≡ filled_goals θ σ gs
 one_filling θ σ gs =
-    goals_fused (λ (u : ℕ). u) (λ u t. instance_term θ t) (instance θ) lifted instantiate same_type lifted (filled_term θ) (instance θ) Any (λ u γ τ. (i : ℕ) → γ i ≡ τ i) (λ u γ τ h. lifted_gives (λ t. t) (λ t. t) (λ t. refl) refl γ τ h) (λ u γ τ h t w. ap (λ f. instantiate f (instance_term θ t)) (fun_ext h)) (λ T. refl) zero σ σ (λ i. refl) gs (any_goals gs)
+    goals_fused (λ (u : ℕ). u) (λ u t. instance_term θ t) (instance θ) lifted instantiate same_type lifted (filled_term θ) (instance θ) Any
+    (λ u γ τ. (i : ℕ) → γ i ≡ τ i) (λ u γ τ h. lifted_gives (λ t. t) (λ t. t) (λ t. refl) refl γ τ h)
+    (λ u γ τ h t w. ap (λ f. instantiate f (instance_term θ t)) (fun_ext h)) (λ T. refl) zero σ σ (λ i. refl) gs (any_goals gs)
 
 pub one_filling_of_clauses : (θ : ℕ → Ty) (σ : ℕ → Term) (cs : Clauses) → instantiate_clauses σ (type_clauses θ cs) ≡ filled_clauses θ σ cs
 one_filling_of_clauses θ σ cs =
-    clauses_fused (λ (u : ℕ). u) (λ u t. instance_term θ t) (instance θ) lifted instantiate same_type lifted (filled_term θ) (instance θ) Any (λ u γ τ. (i : ℕ) → γ i ≡ τ i) (λ u γ τ h. lifted_gives (λ t. t) (λ t. t) (λ t. refl) refl γ τ h) (λ u γ τ h t w. ap (λ f. instantiate f (instance_term θ t)) (fun_ext h)) (λ T. refl) zero σ σ (λ i. refl) cs (any_clauses cs)
+    clauses_fused (λ (u : ℕ). u) (λ u t. instance_term θ t) (instance θ) lifted instantiate same_type lifted (filled_term θ) (instance θ) Any
+    (λ u γ τ. (i : ℕ) → γ i ≡ τ i) (λ u γ τ h. lifted_gives (λ t. t) (λ t. t) (λ t. refl) refl γ τ h)
+    (λ u γ τ h t w. ap (λ f. instantiate f (instance_term θ t)) (fun_ext h)) (λ T. refl) zero σ σ (λ i. refl) cs (any_clauses cs)
 
 pub stay_filled : (θ : ℕ → Ty) (σ : ℕ → Term) (gs : Goals) →
     (AreTermsOf (λ t. AllAtoms IsSourceAtom t) gs → (b : Binding) → shift 0 1 b.value ≡ b.value → map_goals (λ (u : ℕ). u) (λ u t. put b t) same_type 0 (filled_goals θ σ gs) ≡ filled_goals θ (λ i. put b (σ i)) gs) ×

@@ -83,7 +83,9 @@ module _ {L : Leaves} (d : Declared) (std : IsSetting L d) where
       all_chooses vs Γ (pi_of T (abs X)) (pi_of T (abs Y)) (pi_of T (abs Z)) k.1 (q X ox) (q Y oy) (q Z oz) (pi_chooses (vs ++ Γ) T X Y Z k.0 ox oy oz c)
 
   -- a formula under goals is focused on where the goals are provable and the formula is focused on
-  pub imps_split : (Γ : List Ty) (gs : List Term) (X : Term) → EachOf (λ t. IsOpen d Γ t o_type) gs → IsOpen d Γ X o_type → (E : List Ty) (P : List ClauseFormula) (θ : ℕ → Term) (A : Term) → Fits d E Γ θ → IsAtomHead (head_of A) → FocusableBy L d E P (instantiate θ (imps gs X)) A → EachOf (λ t. ProvableBy L d E P (instantiate θ t)) gs × FocusableBy L d E P (instantiate θ X) A
+  pub imps_split : (Γ : List Ty) (gs : List Term) (X : Term) → EachOf (λ t. IsOpen d Γ t o_type) gs → IsOpen d Γ X o_type → (E : List Ty)
+      (P : List ClauseFormula) (θ : ℕ → Term) (A : Term) → Fits d E Γ θ → IsAtomHead (head_of A) → FocusableBy L d E P (instantiate θ (imps gs X)) A →
+      EachOf (λ t. ProvableBy L d E P (instantiate θ t)) gs × FocusableBy L d E P (instantiate θ X) A
   imps_split Γ [] X h o E P θ A f at r = (tt, r)
   imps_split Γ (g ∷ gs) X h o E P θ A f at r =
       let q = implied_focus d std.standard E P A at (instantiate θ g) (instantiate θ (imps gs X)) (open_formula d E Γ θ (imps (g ∷ gs) X) f (open_imps Γ (g ∷ gs) X h o)) r in

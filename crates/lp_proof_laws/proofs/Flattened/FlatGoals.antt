@@ -52,7 +52,9 @@ mutual
   pub clause_raise : (from : ℕ) (c : Clause) → formula_of_clause (map_clause suc (λ e t. shift e 1 t) same_type from c) ≡ shift from 1 (formula_of_clause c)
   clause_raise from (clause n vs h no_goals) = ap (λ z. all_of z (shift (under_all suc vs from) 1 h)) (map_same vs) ∙ all_shift vs from h
   clause_raise from (clause n vs h (goals g gs)) =
-      ap (λ z. all_of z (two 2 [] (formula_of_goals (map_goals suc (λ e t. shift e 1 t) same_type (under_all suc vs from) (goals g gs))) (shift (under_all suc vs from) 1 h))) (map_same vs) ∙ ap (λ z. all_of vs (two 2 [] z (shift (under_all suc vs from) 1 h))) (goals_raise (under_all suc vs from) (goals g gs)) ∙ all_shift vs from (two 2 [] (formula_of_goals (goals g gs)) h)
+      ap (λ z. all_of z (two 2 [] (formula_of_goals (map_goals suc (λ e t. shift e 1 t) same_type (under_all suc vs from) (goals g gs)))
+      (shift (under_all suc vs from) 1 h))) (map_same vs) ∙ ap (λ z. all_of vs (two 2 [] z (shift (under_all suc vs from) 1 h)))
+      (goals_raise (under_all suc vs from) (goals g gs)) ∙ all_shift vs from (two 2 [] (formula_of_goals (goals g gs)) h)
 
   clauses_raise : (from : ℕ) (cs : Clauses) → formula_of_clauses (map_clauses suc (λ e t. shift e 1 t) same_type from cs) ≡ shift from 1 (formula_of_clauses cs)
   clauses_raise from no_clauses = refl
@@ -141,10 +143,14 @@ module _ {L : Leaves} (d : Declared) (std : IsSetting L d) where
   open_argument Γ g o = record { typed = subst (Typed (under d []) Γ g) (denial_is o.typed.0 o.typed.1) o.typed.2; within = o.within.1 }
 
   -- a proof of either side is a failing search
-  pub denied_law : (n : ℕ) (binders : List Bool) (Γ : List Ty) (g : Term) (rest gs : Goals) → flat_goal n d binders g no_goals ≡ Some gs → IsOpen d Γ (not_of g) o_type → IsOpen d Γ (formula_of_goals rest) o_type → IsOpen d Γ (formula_of_goals gs) o_type → GoalLaw Γ (not_of g) rest (goals (denied gs) rest)
+  pub denied_law : (n : ℕ) (binders : List Bool) (Γ : List Ty) (g : Term) (rest gs : Goals) → flat_goal n d binders g no_goals ≡ Some gs → IsOpen d Γ
+      (not_of g) o_type → IsOpen d Γ (formula_of_goals rest) o_type → IsOpen d Γ (formula_of_goals gs) o_type → GoalLaw Γ (not_of g) rest
+      (goals (denied gs) rest)
   denied_law n binders Γ g rest gs e o rs os = instead_of Γ (not_of (formula_of_goals gs)) (not_of g) rest (goals (denied gs) rest) (in_front Γ (denied gs) rest opens rs)
       (λ E P θ f p. let x = denial_root_by L d std.standard E P (instantiate θ g) (open_formula d E Γ θ (not_of g) f o) (std.converting P) p in record { proof = Fails x.0; holds = (_, refl, (std.flat_goals n binders g gs e E Γ θ (open_argument Γ g o) f P x.0).0 x.1) })
-      (λ E P θ f p. let x = denial_root_by L d std.standard E P (instantiate θ (formula_of_goals gs)) (open_formula d E Γ θ (not_of (formula_of_goals gs)) f opens) (std.converting P) p in record { proof = Fails x.0; holds = (_, refl, (std.flat_goals n binders g gs e E Γ θ (open_argument Γ g o) f P x.0).1 x.1) })
+      (λ E P θ f p. let x = denial_root_by L d std.standard E P (instantiate θ (formula_of_goals gs))
+      (open_formula d E Γ θ (not_of (formula_of_goals gs)) f opens) (std.converting P) p in record
+      { proof = Fails x.0; holds = (_, refl, (std.flat_goals n binders g gs e E Γ θ (open_argument Γ g o) f P x.0).1 x.1) })
     where
       opens : IsOpen d Γ (not_of (formula_of_goals gs)) o_type
       opens = record { typed = (o_type, subst (λ X. scheme_type [] (d 24) ≡ Some (arrow X o_type)) (denial_is o.typed.0 o.typed.1) o.typed.1, os.typed); within = (tt, os.within) }
@@ -235,12 +241,16 @@ module _ {L : Leaves} (d : Declared) (std : IsSetting L d) where
     unfolding Focuses
     under_flat E P θ f p =
         let q = y.together E (P ++ assumed (instantiate θ c) ∷ []) θ f p (truth_proved E (P ++ assumed (instantiate θ c) ∷ [])) in
-        replaced_assumption L d E P (instantiate θ c) (instantiate θ (formula_of_clauses cs)) (instantiate θ (formula_of_goals gs)) (closed_open d E Γ θ c o_type f oc).1 (closed_open d E Γ θ (formula_of_clauses cs) o_type f x.opens).1 (std.flat_clauses n binders c cs flat E Γ θ oc f P).0 (λ F e R A i h. x.to F R θ A (fits_extends E F Γ θ f e) i h) q
+        replaced_assumption L d E P (instantiate θ c) (instantiate θ (formula_of_clauses cs)) (instantiate θ (formula_of_goals gs))
+        (closed_open d E Γ θ c o_type f oc).1 (closed_open d E Γ θ (formula_of_clauses cs) o_type f x.opens).1
+        (std.flat_clauses n binders c cs flat E Γ θ oc f P).0 (λ F e R A i h. x.to F R θ A (fits_extends E F Γ θ f e) i h) q
 
     under_formula : (E : List Ty) (P : List ClauseFormula) (θ : ℕ → Term) → Fits d E Γ θ → ProvableBy L d E (P ++ assumed (instantiate θ (formula_of_clauses cs)) ∷ []) (instantiate θ (formula_of_goals gs)) → ProvableBy L d E (P ++ assumed (instantiate θ c) ∷ []) (instantiate θ g)
     unfolding Focuses
     under_formula E P θ f p =
-        let q = replaced_assumption L d E P (instantiate θ (formula_of_clauses cs)) (instantiate θ c) (instantiate θ (formula_of_goals gs)) (closed_open d E Γ θ (formula_of_clauses cs) o_type f x.opens).1 (closed_open d E Γ θ c o_type f oc).1 (std.flat_clauses n binders c cs flat E Γ θ oc f P).1 (λ F e R A i h. x.from F R θ A (fits_extends E F Γ θ f e) i h) p in
+        let q = replaced_assumption L d E P (instantiate θ (formula_of_clauses cs)) (instantiate θ c) (instantiate θ (formula_of_goals gs))
+        (closed_open d E Γ θ (formula_of_clauses cs) o_type f x.opens).1 (closed_open d E Γ θ c o_type f oc).1
+        (std.flat_clauses n binders c cs flat E Γ θ oc f P).1 (λ F e R A i h. x.from F R θ A (fits_extends E F Γ θ f e) i h) p in
         (y.apart E (P ++ assumed (instantiate θ c) ∷ []) θ f q).0
 
     open_implied : IsOpen d Γ (two 2 [] (formula_of_clauses cs) (formula_of_goals gs)) o_type

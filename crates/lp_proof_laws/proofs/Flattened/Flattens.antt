@@ -136,11 +136,15 @@ module _ {L : Leaves} (d : Declared) (std : IsSetting L d) where
           from = λ E P θ f p. let z = y.apart E P θ f p in (z.0, x.from E P θ f z.1);
         }
 
-    clause_law : (n : ℕ) (binders : List Bool) (c : Term) (vs : List Ty) (body : List Term) (cs : Clauses) (Γ : List Ty) → flat_clause n d binders c vs body ≡ Some cs → AreClosed vs → IsOpen d (vs ++ Γ) c o_type → EachOf (λ t. IsOpen d (vs ++ Γ) t o_type) body → ClauseLaw d std Γ (all_of vs (imps body c)) cs
+    clause_law : (n : ℕ) (binders : List Bool) (c : Term) (vs : List Ty) (body : List Term) (cs : Clauses) (Γ : List Ty) → flat_clause n d binders c
+        vs body ≡ Some cs → AreClosed vs → IsOpen d (vs ++ Γ) c o_type → EachOf (λ t. IsOpen d (vs ++ Γ) t o_type) body → ClauseLaw d std Γ
+        (all_of vs (imps body c)) cs
     clause_law zero binders c vs body cs Γ e k o h = absurd (cc)
     clause_law (suc n) binders c vs body cs Γ e k o h = clause_form_law n binders c (connective_of c) (form_shape c) vs body cs Γ e k o h
 
-    clause_form_law : (n : ℕ) (binders : List Bool) (c : Term) (f : Connective) → Shape f c → (vs : List Ty) (body : List Term) (cs : Clauses) (Γ : List Ty) → flat_clause_form n d binders c f vs body ≡ Some cs → AreClosed vs → IsOpen d (vs ++ Γ) c o_type → EachOf (λ t. IsOpen d (vs ++ Γ) t o_type) body → ClauseLaw d std Γ (all_of vs (imps body c)) cs
+    clause_form_law : (n : ℕ) (binders : List Bool) (c : Term) (f : Connective) → Shape f c → (vs : List Ty) (body : List Term) (cs : Clauses)
+        (Γ : List Ty) → flat_clause_form n d binders c f vs body ≡ Some cs → AreClosed vs → IsOpen d (vs ++ Γ) c o_type → EachOf
+        (λ t. IsOpen d (vs ++ Γ) t o_type) body → ClauseLaw d std Γ (all_of vs (imps body c)) cs
     clause_form_law zero binders c f s vs body cs Γ e k o h = absurd (cc)
     clause_form_law (suc n) binders c connective.True s vs body cs Γ e k o h = absurd (cc)
     clause_form_law (suc n) binders c connective.Cut s vs body cs Γ e k o h = absurd (cc)

@@ -27,7 +27,9 @@ nothing_to_fit d E = record { at = λ i T e. absurd (cc) }
 open_closed : (d : Declared) (t : Term) → IsFormula d [] t → IsOpen d [] t o_type
 open_closed d t f = record { typed = f.typed; within = f.closed }
 
-pub goals_read_back : (d : Declared) → IsStandard d → (n : ℕ) (t : Term) (gs : Goals) → flat_goal n d [] t no_goals ≡ Some gs → IsFormula d [] t → (E : List Ty) (P : List ClauseFormula) → (PlainlyProvable d E P t → PlainlyProvable d E P (formula_of_goals gs)) × (PlainlyProvable d E P (formula_of_goals gs) → PlainlyProvable d E P t)
+pub goals_read_back : (d : Declared) → IsStandard d → (n : ℕ) (t : Term) (gs : Goals) → flat_goal n d [] t no_goals ≡ Some gs → IsFormula d [] t →
+    (E : List Ty) (P : List ClauseFormula) → (PlainlyProvable d E P t → PlainlyProvable d E P (formula_of_goals gs)) ×
+    (PlainlyProvable d E P (formula_of_goals gs) → PlainlyProvable d E P t)
 goals_read_back d std n t gs e f E P =
     let l = flattened_goal d (without_leaves d std) n [] t no_goals gs [] e (open_closed d t f) (open_truth d (without_leaves d std) []) in
     let w = nothing_to_fit d E in (
@@ -64,7 +66,9 @@ clauses_read_back d std n c cs e f E P G =
 abbrev read_back : ClauseFormula → Clauses → ClauseFormula
 read_back D cs = record { type_vars = D.type_vars; formula = formula_of_clauses cs }
 
-pub sentence_reads_back : (d : Declared) → IsStandard d → (n : ℕ) (D : ClauseFormula) (cs : Clauses) → flat_clause n d [] D.formula [] [] ≡ Some cs → IsSentence d D → (E : List Ty) (P R : List ClauseFormula) (G : Term) → (PlainlyProvable d E (P ++ D ∷ R) G → PlainlyProvable d E (P ++ read_back D cs ∷ R) G) × (PlainlyProvable d E (P ++ read_back D cs ∷ R) G → PlainlyProvable d E (P ++ D ∷ R) G)
+pub sentence_reads_back : (d : Declared) → IsStandard d → (n : ℕ) (D : ClauseFormula) (cs : Clauses) → flat_clause n d [] D.formula [] [] ≡ Some cs →
+    IsSentence d D → (E : List Ty) (P R : List ClauseFormula) (G : Term) → (PlainlyProvable d E (P ++ D ∷ R) G → PlainlyProvable d E
+    (P ++ read_back D cs ∷ R) G) × (PlainlyProvable d E (P ++ read_back D cs ∷ R) G → PlainlyProvable d E (P ++ D ∷ R) G)
 sentence_reads_back d std n D cs e s E P R G = (
   λ p. replaced_clause no_leaf d E P R D (read_back D cs) G refl (λ S m y H k h. h) (λ ts l k.
       let i = instance_flat (type_at ts) d n D.formula cs e in

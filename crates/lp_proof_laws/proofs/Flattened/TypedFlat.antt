@@ -187,7 +187,9 @@ mutual
       typed_then (AreClauses θ) (AreGoals θ) (flat_clause n d bs (instance_term θ c) [] []) (flat_clause n d bs c [] []) _ _ (clause_typed θ n d bs c [] []) (λ ks cs p.
       typed_map (AreGoals θ) (AreGoals θ) (flat_goal n d bs (instance_term θ g) no_goals) (flat_goal n d bs g no_goals) (λ z. goals (assuming ks z) more) (λ z. goals (assuming cs z) rest) (goal_typed θ n d bs g no_goals no_goals refl) (λ x y q. goals_with (assume_with p q) r))
   form_goal_typed θ (suc n) d bs t (connective.ForAll T b) more rest r =
-      typed_map (AreGoals θ) (AreGoals θ) (flat_goal n d (true ∷ bs) (instance_term θ b) no_goals) (flat_goal n d (true ∷ bs) b no_goals) (λ z. goals (Forall (instance θ T) z) more) (λ z. goals (Forall T z) rest) (goal_typed θ n d (true ∷ bs) b no_goals no_goals refl) (λ x y q. goals_with (ap (Forall (instance θ T)) q) r)
+      typed_map (AreGoals θ) (AreGoals θ) (flat_goal n d (true ∷ bs) (instance_term θ b) no_goals) (flat_goal n d (true ∷ bs) b no_goals)
+      (λ z. goals (Forall (instance θ T) z) more) (λ z. goals (Forall T z) rest) (goal_typed θ n d (true ∷ bs) b no_goals no_goals refl)
+      (λ x y q. goals_with (ap (Forall (instance θ T)) q) r)
   form_goal_typed θ (suc n) d bs t (connective.Exists T b) more rest r =
       typed_map (AreGoals θ) (AreGoals θ) (flat_goal n d (false ∷ bs) (instance_term θ b) (raise_goals 0 more))
       (flat_goal n d (false ∷ bs) b (raise_goals 0 rest)) (λ z. goals (Exists (instance θ T) z) no_goals) (λ z. goals (Exists T z) no_goals)
@@ -207,7 +209,9 @@ mutual
   clause_typed θ zero d bs t vars body = tt
   clause_typed θ (suc n) d bs t vars body = rw (form_typed θ t) (form_clause_typed θ n d bs t (connective_of t) vars body)
 
-  form_clause_typed : (θ : ℕ → Ty) (n : ℕ) (d : Declared) (bs : List Bool) (t : Term) (f : Connective) (vars : List Ty) (body : List Term) → Typed (AreClauses θ) (flat_clause_form n d bs (instance_term θ t) (type_form θ f) (map (instance θ) vars) (map (instance_term θ) body)) (flat_clause_form n d bs t f vars body)
+  form_clause_typed : (θ : ℕ → Ty) (n : ℕ) (d : Declared) (bs : List Bool) (t : Term) (f : Connective) (vars : List Ty) (body : List Term) → Typed
+      (AreClauses θ) (flat_clause_form n d bs (instance_term θ t) (type_form θ f) (map (instance θ) vars) (map (instance_term θ) body))
+      (flat_clause_form n d bs t f vars body)
   form_clause_typed θ zero d bs t f vars body = tt
   form_clause_typed θ (suc n) d bs t (connective.And a b) vars body =
       typed_then (AreClauses θ) (AreClauses θ) (flat_clause n d bs (instance_term θ a) (map (instance θ) vars) (map (instance_term θ) body)) (flat_clause n d bs a vars body) _ _ (clause_typed θ n d bs a vars body) (λ k l p.
@@ -217,7 +221,9 @@ mutual
   form_clause_typed θ (suc n) d bs t (connective.ForAll T b) vars body =
       subst (λ z. Typed (AreClauses θ) (flat_clause n d (false ∷ bs) (instance_term θ b) (instance θ T ∷ map (instance θ) vars) z) (flat_clause n d (false ∷ bs) b (T ∷ vars) (map (shift 0 1) body))) (shifts_typed θ body) (clause_typed θ n d (false ∷ bs) b (T ∷ vars) (map (shift 0 1) body))
   form_clause_typed θ (suc n) d bs t connective.Atomic vars body =
-      typed_then (λ u h. u ≡ instance_term θ h) (AreClauses θ) (only (is_clause_head d bs (head_of (instance_term θ t)) && are_positive (arguments (instance_term θ t))) (instance_term θ t)) (only (is_clause_head d bs (head_of t) && are_positive (arguments t)) t) _ _ (only_typed (λ u h. u ≡ instance_term θ h) _ _ t (instance_term θ t) (clause_test θ d bs t) refl) (λ u h p.
+      typed_then (λ u h. u ≡ instance_term θ h) (AreClauses θ) (only (is_clause_head d bs (head_of (instance_term θ t)) && are_positive
+      (arguments (instance_term θ t))) (instance_term θ t)) (only (is_clause_head d bs (head_of t) && are_positive (arguments t)) t) _ _
+      (only_typed (λ u h. u ≡ instance_term θ h) _ _ t (instance_term θ t) (clause_test θ d bs t) refl) (λ u h p.
       typed_map (AreGoals θ) (AreClauses θ) (flat_list n d bs (map (instance_term θ) body)) (flat_list n d bs body)
       (λ z. clauses (clause 0 (map (instance θ) vars) u z) no_clauses) (λ z. clauses (clause 0 vars h z) no_clauses) (list_typed θ n d bs body)
       (λ x y q. subst (λ w. AreClauses θ (clauses (clause 0 (map (instance θ) vars) w x) no_clauses) (clauses (clause 0 vars h y) no_clauses))

@@ -58,7 +58,9 @@ none_typed θ true q = refl
 none_typed θ false true = refl
 none_typed θ false false = refl
 
-one_typed : (θ : ℕ → Ty) (p q : Bool) (T : Ty) (a : Term) → (if p then connective.ForAll (instance θ T) (body_of (instance_term θ a)) else (if q then connective.Exists (instance θ T) (body_of (instance_term θ a)) else connective.Atomic)) ≡ type_form θ (if p then connective.ForAll T (body_of a) else (if q then connective.Exists T (body_of a) else connective.Atomic))
+one_typed : (θ : ℕ → Ty) (p q : Bool) (T : Ty) (a : Term) → (if p then connective.ForAll (instance θ T) (body_of (instance_term θ a)) else
+    (if q then connective.Exists (instance θ T) (body_of (instance_term θ a)) else connective.Atomic)) ≡ type_form θ
+    (if p then connective.ForAll T (body_of a) else (if q then connective.Exists T (body_of a) else connective.Atomic))
 one_typed θ true q T a = ap (connective.ForAll (instance θ T)) (body_typed θ a)
 one_typed θ false true T a = ap (connective.Exists (instance θ T)) (body_typed θ a)
 one_typed θ false false T a = refl

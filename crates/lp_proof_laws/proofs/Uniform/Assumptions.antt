@@ -148,7 +148,9 @@ module _ (L : Leaves) where
       subst (λ Q. ProvableBy L d E Q G) (append_assoc P (D' ∷ []) S) (proof_as d E ((P ++ D ∷ []) ++ S) ((P ++ D' ∷ []) ++ S) G p.proof st p.holds)
 
   -- an assumption in the place of another on which one can focus instead
-  pub replaced_assumption : (d : Declared) (E : List Ty) (P : List ClauseFormula) (D D' G : Term) → IsClosedAt (length E) D → IsClosedAt (length E) D' → AreKept E (P ++ assumed D ∷ []) (P ++ assumed D' ∷ []) → Focuses d E D D' → ProvableBy L d E (P ++ assumed D ∷ []) G → ProvableBy L d E (P ++ assumed D' ∷ []) G
+  pub replaced_assumption : (d : Declared) (E : List Ty) (P : List ClauseFormula) (D D' G : Term) → IsClosedAt (length E) D → IsClosedAt (length E) D'
+      → AreKept E (P ++ assumed D ∷ []) (P ++ assumed D' ∷ []) → Focuses d E D D' → ProvableBy L d E (P ++ assumed D ∷ []) G → ProvableBy L d E
+      (P ++ assumed D' ∷ []) G
   replaced_assumption d E P D D' G f f' q c h =
       proof_as d E (P ++ assumed D ∷ []) (P ++ assumed D' ∷ []) G h.proof (one_more d E P P (assumed D) (assumed D') (all_same d E P) (record {
         type_vars = refl;

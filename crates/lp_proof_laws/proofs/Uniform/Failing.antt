@@ -34,7 +34,9 @@ module _ (d : Declared) (k : ℕ) where
     kept S D R E G f c h = record {
       variables = h.variables;
       goals = h.goals;
-      assumed = subst (λ Q. StandForClauses d E f.variables f.next_type Q f.assumed) (sym (drop-append-le k P (assumed R ∷ S) l)) (behind d E f.variables f.next_type (drop k P) S D R f.assumed c (subst (λ Q. StandForClauses d E f.variables f.next_type Q f.assumed) (drop-append-le k P (assumed D ∷ S) l) h.assumed));
+      assumed = subst (λ Q. StandForClauses d E f.variables f.next_type Q f.assumed) (sym (drop-append-le k P (assumed R ∷ S) l))
+          (behind d E f.variables f.next_type (drop k P) S D R f.assumed c (subst (λ Q. StandForClauses d E f.variables f.next_type Q f.assumed)
+          (drop-append-le k P (assumed D ∷ S) l) h.assumed));
       program = subst (λ Q. AreFlattened d Q f.program) (take-append-le k P (assumed D ∷ S) l ∙ sym (take-append-le k P (assumed R ∷ S) l)) h.program;
       ends = h.ends;
       gives_none = h.gives_none;

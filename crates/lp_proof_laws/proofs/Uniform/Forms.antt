@@ -38,7 +38,9 @@ one_shape c T a = go (nat_eq c 4) refl (nat_eq c 5) refl
 two_shape : (c : ℕ) (a b : Term) → Shape (connective_of_constant c [] (a ∷ b ∷ [])) (two c [] a b)
 two_shape c a b = go (nat_eq c 0) refl (nat_eq c 1) refl (nat_eq c 2) refl (nat_eq c 3) refl
   where
-    go : (p : Bool) → nat_eq c 0 ≡ p → (q : Bool) → nat_eq c 1 ≡ q → (r : Bool) → nat_eq c 2 ≡ r → (s : Bool) → nat_eq c 3 ≡ s → Shape (if p then connective.And a b else (if q then connective.Or a b else (if r then connective.Implies a b else (if s then connective.Implies b a else connective.Atomic)))) (two c [] a b)
+    go : (p : Bool) → nat_eq c 0 ≡ p → (q : Bool) → nat_eq c 1 ≡ q → (r : Bool) → nat_eq c 2 ≡ r → (s : Bool) → nat_eq c 3 ≡ s → Shape
+        (if p then connective.And a b else (if q then connective.Or a b else (if r then connective.Implies a b else
+        (if s then connective.Implies b a else connective.Atomic)))) (two c [] a b)
     go true e q f r g s h = ap (λ z. two z [] a b) (eqb-true c 0 e)
     go false e true f r g s h = ap (λ z. two z [] a b) (eqb-true c 1 f)
     go false e false f true g s h = inl (ap (λ z. two z [] a b) (eqb-true c 2 g))

@@ -293,7 +293,9 @@ eigens_same ads E gs = ap (map (λ g. widened ads E)) (goals_listed (moving ads)
     go [] = refl
     go (g ∷ gs) = ap (λ z. widened ads E ∷ z) (go gs)
 
-begins_widened : (n : ℕ) (d : Declared) (ads : Additions) → HaveClosedTypes ads → (E : List Ty) (f : Failure) → IsTypedBranch n d no_query (failing_typing E f) (failing_branch (length E) f) → IsTypedBranch n d no_query (failing_typing (widened ads E) (widened_failure ads f)) (failing_branch (length (widened ads E)) (widened_failure ads f))
+begins_widened : (n : ℕ) (d : Declared) (ads : Additions) → HaveClosedTypes ads → (E : List Ty) (f : Failure) → IsTypedBranch n d no_query
+    (failing_typing E f) (failing_branch (length E) f) → IsTypedBranch n d no_query (failing_typing (widened ads E) (widened_failure ads f))
+    (failing_branch (length (widened ads E)) (widened_failure ads f))
 begins_widened n d ads k E f b =
     let V = widened_variables ads f.variables in
     let Es = map (λ g. E) (goal_list f.goals) in
@@ -317,7 +319,9 @@ run_widened d P w ads E f p l =
     let m = moving ads in
     let s = transport (λ Q. map (moved_clause m) Q ≡ Q) (sym p) (program_stays m d P w) in
     ap (λ b. run (look unit_limit f.looks f.program) f.moves f.moves (starts_within f.limit (Go b) f.limit 1)) (branch_same ads E f) ∙
-    run_moved (moved_to ads) (moved_task m) (moved_answer m) (IsHighTask (olds ads)) (look unit_limit f.looks f.program) (λ height t h. look_moved m unit_limit f.looks f.program s height t h) (λ height t h. look_stays m unit_limit f.looks f.program s height t h) f.moves f.moves (starts_within f.limit (Go (failing_branch (length E) f)) f.limit 1)
+    run_moved (moved_to ads) (moved_task m) (moved_answer m) (IsHighTask (olds ads)) (look unit_limit f.looks f.program)
+    (λ height t h. look_moved m unit_limit f.looks f.program s height t h) (λ height t h. look_stays m unit_limit f.looks f.program s height t h)
+    f.moves f.moves (starts_within f.limit (Go (failing_branch (length E) f)) f.limit 1)
     (record { goals = high_entries (olds ads) (length E) l (goal_list f.goals) (newest_first f.assumed) f.written 0; pairs = tt }, tt)
 
 pub failed_widened : (o : Order) (d : Declared) (P : List Clause) → EachOf (IsProgramTyped d) P → (ads : Additions) → HaveClosedTypes ads → (E : List Ty) → olds ads ≤ length E → (R : List ClauseFormula) (G : Term) (f : Failure) → IsFailedSearch o d P E R G f →

@@ -57,7 +57,16 @@ abbrev pub moved_view : Moving → View Task Answer → View Task Answer
 moved_view m v = image m.eigen (moved_task m) (moved_answer m) (IsHighTask m.from) v
 
 -- behind a unification
-resumed : (m : Moving) (b : Branch) (s : State) → ◌≡◌ {A = Task} (Go (resume (moved_branch m b) (record { pairs = map (moved_pair m) s.pairs; delayed = map (moved_pair m) s.delayed; bindings = map (moved_binding m) s.bindings; types = s.types; changed = s.changed; next = s.next; units = s.units }))) (Go (moved_branch m (resume b s)))
+resumed : (m : Moving) (b : Branch) (s : State) → ◌≡◌ {A = Task} (Go (resume (moved_branch m b)
+    (record {
+      pairs = map (moved_pair m) s.pairs;
+      delayed = map (moved_pair m) s.delayed;
+      bindings = map (moved_binding m) s.bindings;
+      types = s.types;
+      changed = s.changed;
+      next = s.next;
+      units = s.units;
+    }))) (Go (moved_branch m (resume b s)))
 resumed m b s = λ i. Go (record {
   next = s.next;
   next_type = b.next_type;
@@ -254,7 +263,9 @@ module _ (m : Moving) (u n : ℕ) (P : List Clause) (p : map (moved_clause m) P 
   form_moved t (connective.And x y) = ap (λ z. Parts (z ∷ [])) (front_moved _ (in_place e (x ∷ y ∷ [])) (placed (x ∷ y ∷ [])))
   form_moved t (connective.Or x y) = λ i. Parts (front_moved _ (in_place e (x ∷ [])) (placed (x ∷ [])) i ∷ front_moved _ (in_place e (y ∷ [])) (placed (y ∷ [])) i ∷ [])
   form_moved t (connective.ForAll T s) = ap (λ z. Parts (Go (with_goals (moved_branch m b) (z ∷ moved_entries m b.goals)) ∷ [])) (next_moved s)
-  form_moved t (connective.Exists T s) = ap (λ z. Parts (z ∷ [])) (front_new _ (in_place e (substitute (atom (logic b.next e.level)) s ∷ [])) (ap (λ z. in_place (moved_entry m e) (z ∷ [])) (sym (moved_substitute m (atom (logic b.next e.level)) s)) ∙ placed (substitute (atom (logic b.next e.level)) s ∷ [])))
+  form_moved t (connective.Exists T s) = ap (λ z. Parts (z ∷ [])) (front_new _ (in_place e (substitute (atom (logic b.next e.level)) s ∷ []))
+      (ap (λ z. in_place (moved_entry m e) (z ∷ [])) (sym (moved_substitute m (atom (logic b.next e.level)) s)) ∙ placed
+      (substitute (atom (logic b.next e.level)) s ∷ [])))
   form_moved t connective.Atomic = ap (look_atom u n P height (moved_entry m e) (moved_branch m b) (moved m t)) (head_of_moved m t) ∙ atom_moved t (head_of t)
   form_moved t connective.Cut = refl
   form_moved t (connective.Implies c g) = refl
@@ -283,7 +294,9 @@ module _ (m : Moving) (u n : ℕ) (P : List Clause) (p : map (moved_clause m) P 
   listed : (gs : Goals) → entries (goal_list (moved_goals m gs)) (map (moved_clause m) e.assumed) (moved_written m e.written) (m.level e.level) e.mark ≡ moved_entries m (entries (goal_list gs) e.assumed e.written e.level e.mark)
   listed gs = entries_moved m gs e.assumed e.written e.level e.mark
 
-  listed_front : (gs : Goals) → ◌≡◌ {A = Task} (Go (with_goals (moved_branch m b) (entries (goal_list (moved_goals m gs)) (map (moved_clause m) e.assumed) (moved_written m e.written) (m.level e.level) e.mark ++ moved_entries m b.goals))) (Go (moved_branch m (with_goals b (entries (goal_list gs) e.assumed e.written e.level e.mark ++ b.goals))))
+  listed_front : (gs : Goals) → ◌≡◌ {A = Task} (Go (with_goals (moved_branch m b) (entries (goal_list (moved_goals m gs))
+      (map (moved_clause m) e.assumed) (moved_written m e.written) (m.level e.level) e.mark ++ moved_entries m b.goals)))
+      (Go (moved_branch m (with_goals b (entries (goal_list gs) e.assumed e.written e.level e.mark ++ b.goals))))
   listed_front gs = front_moved _ (entries (goal_list gs) e.assumed e.written e.level e.mark) (listed gs)
 
   listed_high : (gs : Goals) → IsHigh m.from (with_goals b (entries (goal_list gs) e.assumed e.written e.level e.mark ++ b.goals))
@@ -292,10 +305,14 @@ module _ (m : Moving) (u n : ℕ) (P : List Clause) (p : map (moved_clause m) P 
   opened_listed : (v : Term) (gs : Goals) (k mark : ℕ) → entries (opened (moved m v) (moved_goals m gs)) (map (moved_clause m) e.assumed) (moved_written m e.written) (m.level k) mark ≡ moved_entries m (entries (opened v gs) e.assumed e.written k mark)
   opened_listed v gs k mark = ap (λ z. entries z (map (moved_clause m) e.assumed) (moved_written m e.written) (m.level k) mark) (opened_moved m v gs) ∙ entries_listed m (opened v gs) e.assumed e.written k mark
 
-  opened_next : (gs : Goals) → entries (opened (atom (eigen (suc (m.level e.level)))) (moved_goals m gs)) (map (moved_clause m) e.assumed) (moved_written m e.written) (suc (m.level e.level)) e.mark ≡ moved_entries m (entries (opened (atom (eigen (suc e.level))) gs) e.assumed e.written (suc e.level) e.mark)
+  opened_next : (gs : Goals) → entries (opened (atom (eigen (suc (m.level e.level)))) (moved_goals m gs)) (map (moved_clause m) e.assumed)
+      (moved_written m e.written) (suc (m.level e.level)) e.mark ≡ moved_entries m (entries (opened (atom (eigen (suc e.level))) gs) e.assumed
+      e.written (suc e.level) e.mark)
   opened_next gs = (λ i. entries (opened (atom (eigen (sym (m.next e.level l) i))) (moved_goals m gs)) (map (moved_clause m) e.assumed) (moved_written m e.written) (sym (m.next_level e.level l) i) e.mark) ∙ opened_listed (atom (eigen (suc e.level))) gs (suc e.level) e.mark
 
-  assumed_listed : (w : Written) (cs : Clauses) (gs : Goals) → entries (goal_list (moved_goals m gs)) (clause_list (moved_clauses m cs) ++ map (moved_clause m) e.assumed) (both_written (moved_written m w) (moved_written m e.written)) (m.level e.level) e.mark ≡ moved_entries m (entries (goal_list gs) (clause_list cs ++ e.assumed) (both_written w e.written) e.level e.mark)
+  assumed_listed : (w : Written) (cs : Clauses) (gs : Goals) → entries (goal_list (moved_goals m gs))
+      (clause_list (moved_clauses m cs) ++ map (moved_clause m) e.assumed) (both_written (moved_written m w) (moved_written m e.written))
+      (m.level e.level) e.mark ≡ moved_entries m (entries (goal_list gs) (clause_list cs ++ e.assumed) (both_written w e.written) e.level e.mark)
   assumed_listed w cs gs =
       (λ i. entries (goal_list (moved_goals m gs)) ((ap (λ z. z ++ map (moved_clause m) e.assumed) (clauses_listed m cs) ∙ sym (map-append (moved_clause m) (clause_list cs) e.assumed)) i) (both_written_moved m w e.written i) (m.level e.level) e.mark) ∙
       entries_moved m gs (clause_list cs ++ e.assumed) (both_written w e.written) e.level e.mark
@@ -324,7 +341,14 @@ module _ (m : Moving) (u n : ℕ) (P : List Clause) (p : map (moved_clause m) P 
   goal_stays (Atomic t) = normal_stays (head_normal n t)
   goal_stays Cut = (h, tt)
   goal_stays (Either x y) = (listed_high x, (listed_high y, tt))
-  goal_stays (Exists T gs) = (record { goals = each_append (λ x. m.from ≤ x.level) (entries (opened (atom (logic b.next e.level)) gs) e.assumed e.written e.level e.mark) b.goals (high_entries m.from e.level l (opened (atom (logic b.next e.level)) gs) e.assumed e.written e.mark) h.goals; pairs = h.pairs }, tt)
+  goal_stays (Exists T gs) = (
+    record {
+      goals = each_append (λ x. m.from ≤ x.level) (entries (opened (atom (logic b.next e.level)) gs) e.assumed
+          e.written e.level e.mark) b.goals (high_entries m.from e.level l (opened (atom (logic b.next e.level)) gs) e.assumed e.written e.mark) h.goals;
+      pairs = h.pairs;
+    },
+    tt,
+  )
   goal_stays (Forall T gs) = (front_high (entries (opened (atom (eigen (suc e.level))) gs) e.assumed e.written (suc e.level) e.mark) (high_entries m.from (suc e.level) (up_one m.from e.level l) (opened (atom (eigen (suc e.level))) gs) e.assumed e.written e.mark), tt)
   goal_stays (Assume w cs gs) = (front_high (entries (goal_list gs) (clause_list cs ++ e.assumed) (both_written w e.written) e.level e.mark) (high_entries m.from e.level l (goal_list gs) (clause_list cs ++ e.assumed) (both_written w e.written) e.mark), tt)
   goal_stays (Not w gs) = denied_stays gs (has_variables n (both_written w e.written))
@@ -349,7 +373,9 @@ module _ (m : Moving) (u n : ℕ) (t : Term) (e : Entry) (b : Branch) (mark : �
   body_same : (g : Term) (gs : Goals) → entries (goal_list (instantiate_goals (moved_terms_at g) (moved_goals m gs))) (map (moved_clause m) e.assumed) (moved_written m e.written) (m.level e.level) mark ++ moved_entries m b.goals ≡
       moved_entries m (entries (goal_list (instantiate_goals (terms_at g) gs)) e.assumed e.written e.level mark ++ b.goals)
   body_same g gs =
-      ap (λ z. z ++ moved_entries m b.goals) (ap (λ z. entries (goal_list z) (map (moved_clause m) e.assumed) (moved_written m e.written) (m.level e.level) mark) (goals_instantiated m zero (terms_at g) (moved_terms_at g) (terms_for m g t b.next e.level) gs) ∙ entries_moved m (instantiate_goals (terms_at g) gs) e.assumed e.written e.level mark) ∙
+      ap (λ z. z ++ moved_entries m b.goals) (ap (λ z. entries (goal_list z) (map (moved_clause m) e.assumed) (moved_written m e.written)
+      (m.level e.level) mark) (goals_instantiated m zero (terms_at g) (moved_terms_at g) (terms_for m g t b.next e.level) gs) ∙ entries_moved m
+      (instantiate_goals (terms_at g) gs) e.assumed e.written e.level mark) ∙
       sym (map-append (moved_entry m) (entries (goal_list (instantiate_goals (terms_at g) gs)) e.assumed e.written e.level mark) b.goals)
 
   abbrev tried_branch : (k : ℕ) → List Ty → Term → Goals → Branch

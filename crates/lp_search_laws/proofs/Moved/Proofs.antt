@@ -62,6 +62,8 @@ failed_moves o d P p = record {
       (g, transport (λ X. IsFailedSearch o d P X (map (renamed_clause ρ) R) (renamed ρ G) g) (sym w.is) b);
 }
 
-pub proof_widened : (o : Order) (d : Declared) (P : List Clause) → EachOf (IsProgramTyped d) P → (ads : Additions) → HaveClosedTypes ads → (E : List Ty) → olds ads ≤ length E → (R : List ClauseFormula) (G : Term) → HaveLevel (length E) R → HasLevel (length E) G → ProvableBy (IsFailedSearch o d P) d E R G →
+pub proof_widened : (o : Order) (d : Declared) (P : List Clause) → EachOf (IsProgramTyped d) P → (ads : Additions) → HaveClosedTypes ads →
+    (E : List Ty) → olds ads ≤ length E → (R : List ClauseFormula) (G : Term) → HaveLevel (length E) R → HasLevel (length E) G → ProvableBy
+    (IsFailedSearch o d P) d E R G →
     ProvableBy (IsFailedSearch o d P) d (widened ads E) (map (renamed_clause (moved_to ads)) R) (renamed (moved_to ads) G)
 proof_widened o d P p ads c E l R G h g w = proof_moved (failed_moves o d P p) d E (widened ads E) (moved_to ads) (record { additions = ads; closed = c; within = l; is = refl; same = λ k q. refl }) R G h g w

@@ -146,7 +146,9 @@ scanned n next s t r = elim r [
 ]
 
 settled_moved : (m : Moving) (n : ℕ) (s : Side) (u : ℕ) → m.from ≤ s.pair → (q : Pruned) → settled n (moved_side m s) u (moved_pruned m q) ≡ option_map (moved_ruled m) (settled n s u q)
-settled_moved m n s u l q = map_map (moved m) (λ t. ruled u (binds (bound (moved_side m s) (map (moved_binding m) q.bindings) t) q.next)) (λ t. ruled u (binds (bound s q.bindings t) q.next)) (moved_ruled m) (settle n s.pair q.term) (settle n (m.level s.pair) (moved m q.term)) (settle_moved m n s.pair q.term l)
+settled_moved m n s u l q = map_map (moved m) (λ t. ruled u (binds (bound (moved_side m s) (map (moved_binding m) q.bindings) t) q.next))
+    (λ t. ruled u (binds (bound s q.bindings t) q.next)) (moved_ruled m) (settle n s.pair q.term) (settle n (m.level s.pair) (moved m q.term))
+    (settle_moved m n s.pair q.term l)
     (λ t. ap (λ z. ruled u (binds z q.next)) (bound_moved m s q.bindings t))
 
 scanned_moved : (m : Moving) (n next : ℕ) (s : Side) (t : Term) → m.from ≤ s.pair → (r : Scanned) → scanned n next (moved_side m s) (moved m t) (moved_scanned m r) ≡ option_map (moved_ruled m) (scanned n next s t r)
@@ -203,13 +205,17 @@ pattern_sides n p (flexible x l ts) = go (pattern_of n l ts)
 side_level : (m : Moving) (p : Pair) (s : Side) → m.from ≤ p.level → s.pair ≡ p.level → m.from ≤ s.pair
 side_level m p s l e = rw e l
 
-by_pattern_moved : (m : Moving) (n next : ℕ) (p : Pair) (v w : Look) → m.from ≤ p.level → (a b : Option Side) → IsSideOf p a → IsSideOf p b → by_pattern n next (moved_pair m p) (moved_look m v) (moved_look m w) (option_map (moved_side m) a) (option_map (moved_side m) b) ≡ option_map (moved_ruled m) (by_pattern n next p v w a b)
+by_pattern_moved : (m : Moving) (n next : ℕ) (p : Pair) (v w : Look) → m.from ≤ p.level → (a b : Option Side) → IsSideOf p a → IsSideOf p b →
+    by_pattern n next (moved_pair m p) (moved_look m v) (moved_look m w) (option_map (moved_side m) a) (option_map (moved_side m) b) ≡ option_map
+    (moved_ruled m) (by_pattern n next p v w a b)
 by_pattern_moved m n next p v w l (Some s) b h g = solve_for_moved m n next s p.right w (side_level m p s l h)
 by_pattern_moved m n next p v w l None (Some s) h g = solve_for_moved m n next s p.left v (side_level m p s l g)
 by_pattern_moved m n next p v w l None None h g = refl
 
 -- a bind over what has a property
-bind_with : {A B C D : Type 0} (P : A → Type 0) (f : A → B) (g : B → Option D) (h : A → Option C) (k : C → D) (o : Option A) (o' : Option B) → o' ≡ option_map f o → (elim o as (λ x. Type 0) [ None ↦ Unit {0} | Some a ↦ P a ]) → ((a : A) → P a → g (f a) ≡ option_map k (h a)) → option_and_then g o' ≡ option_map k (option_and_then h o)
+bind_with : {A B C D : Type 0} (P : A → Type 0) (f : A → B) (g : B → Option D) (h : A → Option C) (k : C → D) (o : Option A) (o' : Option B) → o' ≡
+    option_map f o → (elim o as (λ x. Type 0) [ None ↦ Unit {0} | Some a ↦ P a ]) → ((a : A) → P a → g (f a) ≡ option_map k (h a)) → option_and_then g
+    o' ≡ option_map k (option_and_then h o)
 bind_with P f g h k None o' e w q = ap (option_and_then g) e
 bind_with P f g h k (Some a) o' e w q = ap (option_and_then g) e ∙ q a w
 
@@ -221,7 +227,9 @@ rule_5_moved : (m : Moving) (n next : ℕ) (p : Pair) (v w : Look) → m.from �
 rule_5_moved m n next p v w l =
     bind_with (IsSideOf p) (option_map (moved_side m)) (λ a. option_and_then (λ b. by_pattern n next (moved_pair m p) (moved_look m v) (moved_look m w) a b) (pattern_side n (moved_pair m p) (moved_look m w)))
     (λ a. option_and_then (λ b. by_pattern n next p v w a b) (pattern_side n p w)) (moved_ruled m) (pattern_side n p v) (pattern_side n (moved_pair m p) (moved_look m v)) (pattern_side_moved m n p v) (found_sides p (pattern_side n p v) (pattern_sides n p v))
-    (λ a h. bind_with (IsSideOf p) (option_map (moved_side m)) (λ b. by_pattern n next (moved_pair m p) (moved_look m v) (moved_look m w) (option_map (moved_side m) a) b) (λ b. by_pattern n next p v w a b) (moved_ruled m) (pattern_side n p w) (pattern_side n (moved_pair m p) (moved_look m w)) (pattern_side_moved m n p w) (found_sides p (pattern_side n p w) (pattern_sides n p w))
+    (λ a h. bind_with (IsSideOf p) (option_map (moved_side m)) (λ b. by_pattern n next (moved_pair m p) (moved_look m v) (moved_look m w)
+    (option_map (moved_side m) a) b) (λ b. by_pattern n next p v w a b) (moved_ruled m) (pattern_side n p w)
+    (pattern_side n (moved_pair m p) (moved_look m w)) (pattern_side_moved m n p w) (found_sides p (pattern_side n p w) (pattern_sides n p w))
     (λ b g. by_pattern_moved m n next p v w l a b h g))
 
 if_agreeing : (m : Moving) (b : Bool) (c : ℕ) (cs : List ℕ) → (if b then m.eigen c ∷ map m.eigen cs else map m.eigen cs) ≡ map m.eigen (if b then c ∷ cs else cs)
@@ -242,7 +250,9 @@ both_patterns n next p x l ts us a b = elim a [
   ]
 ]
 
-both_moved : (m : Moving) (n next : ℕ) (p : Pair) (x l : ℕ) (ts us : List Term) → m.from ≤ p.level → (a b : Option (List ℕ)) → both_patterns n next (moved_pair m p) x (m.level l) (moved_all m ts) (moved_all m us) (option_map (map m.eigen) a) (option_map (map m.eigen) b) ≡ option_map (moved_ruled m) (both_patterns n next p x l ts us a b)
+both_moved : (m : Moving) (n next : ℕ) (p : Pair) (x l : ℕ) (ts us : List Term) → m.from ≤ p.level → (a b : Option (List ℕ)) → both_patterns n next
+    (moved_pair m p) x (m.level l) (moved_all m ts) (moved_all m us) (option_map (map m.eigen) a) (option_map (map m.eigen) b) ≡ option_map
+    (moved_ruled m) (both_patterns n next p x l ts us a b)
 both_moved m n next p x l ts us h None b = rule_5_moved m n next p (flexible x l ts) (flexible x l us) h
 both_moved m n next p x l ts us h (Some a) None = rule_5_moved m n next p (flexible x l ts) (flexible x l us) h
 both_moved m n next p x l ts us h (Some a) (Some b) =
@@ -255,7 +265,9 @@ rule_4_moved : (m : Moving) (n next : ℕ) (p : Pair) (x l : ℕ) (ts us : List 
 rule_4_moved m n next p x l ts us h =
     bind_map (option_map (map m.eigen)) (λ a. option_and_then (λ b. both_patterns n next (moved_pair m p) x (m.level l) (moved_all m ts) (moved_all m us) a b) (pattern_of n (m.level l) (moved_all m us)))
     (λ a. option_and_then (λ b. both_patterns n next p x l ts us a b) (pattern_of n l us)) (moved_ruled m) (pattern_of n l ts) (pattern_of n (m.level l) (moved_all m ts)) (pattern_moved m n l ts)
-    (λ a. bind_map (option_map (map m.eigen)) (λ b. both_patterns n next (moved_pair m p) x (m.level l) (moved_all m ts) (moved_all m us) (option_map (map m.eigen) a) b) (λ b. both_patterns n next p x l ts us a b) (moved_ruled m) (pattern_of n l us) (pattern_of n (m.level l) (moved_all m us)) (pattern_moved m n l us)
+    (λ a. bind_map (option_map (map m.eigen)) (λ b. both_patterns n next (moved_pair m p) x (m.level l) (moved_all m ts) (moved_all m us)
+    (option_map (map m.eigen) a) b) (λ b. both_patterns n next p x l ts us a b) (moved_ruled m) (pattern_of n l us)
+    (pattern_of n (m.level l) (moved_all m us)) (pattern_moved m n l us)
     (λ b. both_moved m n next p x l ts us h a b))
 
 -- all rules
@@ -281,7 +293,9 @@ dear_moved : (m : Moving) (u : ℕ) (o : Option Ruled) → option_map (dear u) (
 dear_moved m u None = refl
 dear_moved m u (Some r) = refl
 
-compared_moved : (m : Moving) (o : Option Ruled) (c : Compared) (b : Bool) → (elim b as (λ x. Option Ruled) [ true ↦ Some (ruled c.units (gives [] [])) | false ↦ option_map (dear c.units) (option_map (moved_ruled m) o) ]) ≡ option_map (moved_ruled m) (elim b as (λ x. Option Ruled) [ true ↦ Some (ruled c.units (gives [] [])) | false ↦ option_map (dear c.units) o ])
+compared_moved : (m : Moving) (o : Option Ruled) (c : Compared) (b : Bool) → (elim b as (λ x. Option Ruled)
+    [ true ↦ Some (ruled c.units (gives [] [])) | false ↦ option_map (dear c.units) (option_map (moved_ruled m) o) ]) ≡ option_map (moved_ruled m)
+    (elim b as (λ x. Option Ruled) [ true ↦ Some (ruled c.units (gives [] [])) | false ↦ option_map (dear c.units) o ])
 compared_moved m o c true = refl
 compared_moved m o c false = dear_moved m c.units o
 

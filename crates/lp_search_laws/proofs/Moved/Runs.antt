@@ -81,7 +81,9 @@ module _ {T A : Type 0} (ρ : ℕ → ℕ) (f : T → T) (g : A → A) (Ok : T �
   more_moved zero rest = refl
   more_moved (suc k) rest = back_moved [] rest
 
-  goes_same : (k : ℕ) (ns ns' : List Note) (n a v u p : ℕ) (l : Bool) (xs ys : List T) → ns ≡ ns' → xs ≡ ys → ◌≡◌ {A = Move T A} (Goes k ns (record { steps = n; answers = a; given = v; rows = u; row = p; lost = l; stack = xs })) (Goes k ns' (record { steps = n; answers = a; given = v; rows = u; row = p; lost = l; stack = ys }))
+  goes_same : (k : ℕ) (ns ns' : List Note) (n a v u p : ℕ) (l : Bool) (xs ys : List T) → ns ≡ ns' → xs ≡ ys → ◌≡◌ {A = Move T A}
+      (Goes k ns (record { steps = n; answers = a; given = v; rows = u; row = p; lost = l; stack = xs }))
+      (Goes k ns' (record { steps = n; answers = a; given = v; rows = u; row = p; lost = l; stack = ys }))
   goes_same k ns ns' n a v u p l xs ys e h = λ i. Goes k (e i) (record { steps = n; answers = a; given = v; rows = u; row = p; lost = l; stack = h i })
 
   denied_moved : (n k v u : ℕ) (lost : Bool) (ts rest : List T) (r : Inner) → move_denied {Answer = A} n k v u lost (map f ts) (map f rest) (moved_inner r) ≡ moved_move (move_denied n k v u lost ts rest r)

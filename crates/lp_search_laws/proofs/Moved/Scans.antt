@@ -84,7 +84,9 @@ at_look n s inside k (an_abs b) = scan n s inside (suc k) (substitute (atom (eig
 at_look n s inside k (rigid h ts) = at_rigid n s inside k (allows_head s h) ts
 at_look n s inside k (flexible y m ts) = option_and_then (at_flexible n s inside k y m ts) (pattern_of n m ts)
 
-flexible_scanned : (m : Moving) (n : ℕ) → ScansAll m n → (s : Side) (inside : Bool) (k y l : ℕ) (ts : List Term) → m.from ≤ k → (o : Option (List ℕ)) → at_flexible n (moved_side m s) inside (m.level k) y (m.level l) (moved_all m ts) (option_map (map m.eigen) o) ≡ option_map (moved_scanned m) (at_flexible n s inside k y l ts o)
+flexible_scanned : (m : Moving) (n : ℕ) → ScansAll m n → (s : Side) (inside : Bool) (k y l : ℕ) (ts : List Term) → m.from ≤ k → (o : Option (List ℕ))
+    → at_flexible n (moved_side m s) inside (m.level k) y (m.level l) (moved_all m ts) (option_map (map m.eigen) o) ≡ option_map (moved_scanned m)
+    (at_flexible n s inside k y l ts o)
 flexible_scanned m n all s inside k y l ts h None =
     (λ i. option_map (above (side_moved m s y l i || m.lower s.level l i)) (scan_all n (moved_side m s) true (m.level k) (moved_all m ts))) ∙
     map_map (moved_scanned m) (above (is_side s y l || nat_lt s.level l)) (above (is_side s y l || nat_lt s.level l)) (moved_scanned m) (scan_all n s true k ts) (scan_all n (moved_side m s) true (m.level k) (moved_all m ts)) (all s true k ts h) (above_scanned m (is_side s y l || nat_lt s.level l))
@@ -99,7 +101,9 @@ look_scanned m n here all s inside k h (an_abs b) =
     (λ i. scan n (moved_side m s) inside (sym (m.next_level k h) i) (substitute (atom (eigen (sym (m.next k h) i))) (moved m b))) ∙
     ap (scan n (moved_side m s) inside (m.level (suc k))) (sym (moved_substitute m (atom (eigen (suc k))) b)) ∙ here s inside (suc k) (substitute (atom (eigen (suc k))) b) (up_one m.from k h)
 look_scanned m n here all s inside k h (rigid g ts) = ap (λ a. at_rigid n (moved_side m s) inside (m.level k) a (moved_all m ts)) (head_moved m s g) ∙ test_scanned m n all s inside k (allows_head s g) ts h (allows_head s g || inside)
-look_scanned m n here all s inside k h (flexible y l ts) = bind_map (option_map (map m.eigen)) (at_flexible n (moved_side m s) inside (m.level k) y (m.level l) (moved_all m ts)) (at_flexible n s inside k y l ts) (moved_scanned m) (pattern_of n l ts) (pattern_of n (m.level l) (moved_all m ts)) (pattern_moved m n l ts) (flexible_scanned m n all s inside k y l ts h)
+look_scanned m n here all s inside k h (flexible y l ts) = bind_map (option_map (map m.eigen))
+    (at_flexible n (moved_side m s) inside (m.level k) y (m.level l) (moved_all m ts)) (at_flexible n s inside k y l ts) (moved_scanned m)
+    (pattern_of n l ts) (pattern_of n (m.level l) (moved_all m ts)) (pattern_moved m n l ts) (flexible_scanned m n all s inside k y l ts h)
 
 abbrev behind : ℕ → Side → Bool → ℕ → List Term → Scanned → Option Scanned
 behind n s inside k ts r = elim r [
@@ -119,7 +123,9 @@ mutual
   pub scan_all_moved : (m : Moving) (n : ℕ) → ScansAll m n
   scan_all_moved m zero s inside k ts h = refl
   scan_all_moved m (suc n) s inside k [] h = refl
-  scan_all_moved m (suc n) s inside k (t ∷ ts) h = bind_map (moved_scanned m) (behind n (moved_side m s) inside (m.level k) (moved_all m ts)) (behind n s inside k ts) (moved_scanned m) (scan n s inside k t) (scan n (moved_side m s) inside (m.level k) (moved m t)) (scan_moved m n s inside k t h) (behind_scanned m n (scan_all_moved m n) s inside k ts h)
+  scan_all_moved m (suc n) s inside k (t ∷ ts) h = bind_map (moved_scanned m) (behind n (moved_side m s) inside (m.level k) (moved_all m ts))
+      (behind n s inside k ts) (moved_scanned m) (scan n s inside k t) (scan n (moved_side m s) inside (m.level k) (moved m t))
+      (scan_moved m n s inside k t h) (behind_scanned m n (scan_all_moved m n) s inside k ts h)
 
 -- pruning
 if_chosen : (m : Moving) (b : Bool) (k : ℕ) (ks : List ℕ) → (if b then m.eigen k ∷ map m.eigen ks else map m.eigen ks) ≡ map m.eigen (if b then k ∷ ks else ks)
@@ -135,7 +141,9 @@ renewed_moved m next y j l b cs = ap (λ z. record { id = y; level = m.level j; 
 
 renewal_moved : (m : Moving) (s : Side) (next : ℕ) (p : Pattern) → renewal (moved_side m s) next (moved_place m p) ≡ moved_binding m (renewal s next p)
 renewal_moved m s next p =
-    (λ i. renewed next p.id (m.level p.level) (m.least s.level p.level i) (map m.eigen p.arguments) (chosen_moved m (λ k. nat_le k p.level) (λ k. nat_le k (m.level p.level)) (λ k. m.up_to k p.level) s.arguments i ++ chosen_moved m (allows s) (allows (moved_side m s)) (allows_moved m s) p.arguments i)) ∙
+    (λ i. renewed next p.id (m.level p.level) (m.least s.level p.level i) (map m.eigen p.arguments)
+    (chosen_moved m (λ k. nat_le k p.level) (λ k. nat_le k (m.level p.level)) (λ k. m.up_to k p.level) s.arguments i ++ chosen_moved m (allows s)
+    (allows (moved_side m s)) (allows_moved m s) p.arguments i)) ∙
     ap (renewed next p.id (m.level p.level) (m.level (min s.level p.level)) (map m.eigen p.arguments)) (sym (map-append m.eigen (chosen (λ k. nat_le k p.level) s.arguments) (chosen (allows s) p.arguments))) ∙
     renewed_moved m next p.id p.level (min s.level p.level) p.arguments (chosen (λ k. nat_le k p.level) s.arguments ++ chosen (allows s) p.arguments)
 
@@ -181,7 +189,9 @@ scan_pruned m n h s next t l (whole u false ps) = ap (by_misfit n (moved_side m 
 
 pub prune_moved : (m : Moving) (n : ℕ) → Prunes m n
 prune_moved m zero s next t l = refl
-prune_moved m (suc n) s next t l = bind_map (moved_scanned m) (by_scan n (moved_side m s) next (moved m t)) (by_scan n s next t) (moved_pruned m) (scan n s false s.pair t) (scan n (moved_side m s) false (m.level s.pair) (moved m t)) (scan_moved m n s false s.pair t l) (scan_pruned m n (prune_moved m n) s next t l)
+prune_moved m (suc n) s next t l = bind_map (moved_scanned m) (by_scan n (moved_side m s) next (moved m t)) (by_scan n s next t) (moved_pruned m)
+    (scan n s false s.pair t) (scan n (moved_side m s) false (m.level s.pair) (moved m t)) (scan_moved m n s false s.pair t l)
+    (scan_pruned m n (prune_moved m n) s next t l)
 
 -- settling
 abbrev Settles : Moving → ℕ → Type 0
@@ -213,7 +223,9 @@ look_settled m n here all k h (an_abs b) =
     map_map (moved m) (abstraction (m.eigen (suc k))) (abstraction (suc k)) (moved m) (settle n (suc k) (substitute (atom (eigen (suc k))) b)) (settle n (m.level (suc k)) (substitute (atom (eigen (m.eigen (suc k)))) (moved m b)))
     (ap (settle n (m.level (suc k))) (sym (moved_substitute m (atom (eigen (suc k))) b)) ∙ here (suc k) (substitute (atom (eigen (suc k))) b) (up_one m.from k h)) (abstraction_moved m (suc k))
 look_settled m n here all k h (rigid g ts) = all k g ts h
-look_settled m n here all k h (flexible y l ts) = bind_map (option_map (map m.eigen)) (settle_flexible n (m.level k) y (m.level l) (moved_all m ts)) (settle_flexible n k y l ts) (moved m) (pattern_of n l ts) (pattern_of n (m.level l) (moved_all m ts)) (pattern_moved m n l ts) (flexible_settled m n all k y l ts h)
+look_settled m n here all k h (flexible y l ts) = bind_map (option_map (map m.eigen)) (settle_flexible n (m.level k) y (m.level l) (moved_all m ts))
+    (settle_flexible n k y l ts) (moved m) (pattern_of n l ts) (pattern_of n (m.level l) (moved_all m ts)) (pattern_moved m n l ts)
+    (flexible_settled m n all k y l ts h)
 
 mutual
   pub settle_moved : (m : Moving) (n : ℕ) → Settles m n

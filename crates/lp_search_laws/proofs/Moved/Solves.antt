@@ -284,10 +284,21 @@ begun_above n ps ds next ts u h g = record { pairs = typed_above n ts ps h; dela
 go_on_moved : (m : Moving) (n limit : ℕ) (ps ds : List Pair) (next : ℕ) → AreAbove m.from ps → AreAbove m.from ds → (o : TypeOutcome) → go_on n limit (map (moved_pair m) ps) (map (moved_pair m) ds) next o ≡ option_map (moved_unified m) (go_on n limit ps ds next o)
 go_on_moved m n limit ps ds next h g (none u) = ap (λ z. Some z) (limited_moved m (nat_lt limit u))
 go_on_moved m n limit ps ds next h g (solved ts u) =
-    ap (unless_spent (nat_lt limit u)) ((λ i. unify n n limit (record { pairs = type_pairs_moved m ts ps i; delayed = type_pairs_moved m ts ds i; bindings = []; types = ts; changed = is_some_bound ts; next = next; units = u })) ∙ unify_moved m n n limit (begun ps ds next (solved ts u)) (begun_above m.from ps ds next ts u h g)) ∙
+    ap (unless_spent (nat_lt limit u)) ((λ i. unify n n limit (record {
+      pairs = type_pairs_moved m ts ps i;
+      delayed = type_pairs_moved m ts ds i;
+      bindings = [];
+      types = ts;
+      changed = is_some_bound ts;
+      next = next;
+      units = u;
+    })) ∙ unify_moved m n n limit (begun ps ds next (solved ts u))
+    (begun_above m.from ps ds next ts u h g)) ∙
     unless_moved m (nat_lt limit u) (unify n n limit (begun ps ds next (solved ts u)))
 
-over_types : (m : Moving) (n limit : ℕ) (ps ds : List Pair) (next : ℕ) → AreAbove m.from ps → AreAbove m.from ds → (o : Option TypeOutcome) → option_and_then (go_on n limit (map (moved_pair m) ps) (map (moved_pair m) ds) next) o ≡ option_map (moved_unified m) (option_and_then (go_on n limit ps ds next) o)
+over_types : (m : Moving) (n limit : ℕ) (ps ds : List Pair) (next : ℕ) → AreAbove m.from ps → AreAbove m.from ds → (o : Option TypeOutcome) →
+    option_and_then (go_on n limit (map (moved_pair m) ps) (map (moved_pair m) ds) next) o ≡ option_map (moved_unified m)
+    (option_and_then (go_on n limit ps ds next) o)
 over_types m n limit ps ds next h g None = refl
 over_types m n limit ps ds next h g (Some o) = go_on_moved m n limit ps ds next h g o
 

@@ -35,7 +35,9 @@ module _ {T A T0 A0 : Type 0} (f : T → T0) (g : A → A0) where
   move_map (Breaks k ns e) = Breaks k ns e
   move_map (Waits k ns) = Waits k ns
 
-  goes_stack : (k : ℕ) (ns ns' : List Note) (n a v u p : ℕ) (l : Bool) (xs ys : List T0) → ns ≡ ns' → xs ≡ ys → ◌≡◌ {A = Move T0 A0} (Goes k ns (record { steps = n; answers = a; given = v; rows = u; row = p; lost = l; stack = xs })) (Goes k ns' (record { steps = n; answers = a; given = v; rows = u; row = p; lost = l; stack = ys }))
+  goes_stack : (k : ℕ) (ns ns' : List Note) (n a v u p : ℕ) (l : Bool) (xs ys : List T0) → ns ≡ ns' → xs ≡ ys → ◌≡◌ {A = Move T0 A0}
+      (Goes k ns (record { steps = n; answers = a; given = v; rows = u; row = p; lost = l; stack = xs }))
+      (Goes k ns' (record { steps = n; answers = a; given = v; rows = u; row = p; lost = l; stack = ys }))
   goes_stack k ns ns' n a v u p l xs ys e h = ap (λ z. Goes k z (record { steps = n; answers = a; given = v; rows = u; row = p; lost = l; stack = xs })) e ∙ ap (λ z. Goes k ns' (record { steps = n; answers = a; given = v; rows = u; row = p; lost = l; stack = z })) h
 
   denied_map : (n k g' u : ℕ) (lost : Bool) (ts rest : List T) (r : Inner) → move_denied {Answer = A0} n k g' u lost (map f ts) (map f rest) r ≡ move_map (move_denied n k g' u lost ts rest r)

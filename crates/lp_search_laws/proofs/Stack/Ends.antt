@@ -83,7 +83,9 @@ module _ {T A : Type 0} (looks : ℕ → ℕ → T → View T A) (w : T → ℕ)
   over_final false p = tt
 
   -- one move more
-  more_moves : (n i j k : ℕ) (s : State T) → suc n ≤ i → suc n ≤ j → suc n ≤ k → ((i j k : ℕ) → n ≤ i → n ≤ j → n ≤ k → (e : Ending) × ((told_after (run (looks i) j k) (move_at (inner (looks i) j) (looks i) s.steps s.answers s.given s.rows s.row s.lost s.stack)).ending ≡ Some e)) → (e : Ending) × ((run (looks i) j k s).ending ≡ Some e)
+  more_moves : (n i j k : ℕ) (s : State T) → suc n ≤ i → suc n ≤ j → suc n ≤ k → ((i j k : ℕ) → n ≤ i → n ≤ j → n ≤ k → (e : Ending) ×
+      ((told_after (run (looks i) j k) (move_at (inner (looks i) j) (looks i) s.steps s.answers s.given s.rows s.row s.lost s.stack)).ending ≡ Some
+      e)) → (e : Ending) × ((run (looks i) j k s).ending ≡ Some e)
   more_moves n i j zero s l l' l'' h = absurd (omega arith)
   more_moves n i j (suc k) s l l' l'' h = h i j k (omega arith) (omega arith) (omega arith)
 
@@ -127,8 +129,20 @@ module _ {T A : Type 0} (looks : ℕ → ℕ → T → View T A) (w : T → ℕ)
         let d = deeper s (okt, tt) (let e : n + 1 < b = omega arith in e) in
         let z = d.1 f in
         let x = by_denied q n k g u lost ts rest z.1 z.2 oks okr hb in (
-          (z.0 + x.0.0, λ i j o l l' l''. let l1 : z.0 ≤ i = omega arith in let l2 : z.0 ≤ j = omega arith in let l3 : x.0.0 ≤ i = omega arith in let l4 : x.0.0 ≤ j = omega arith in let l5 : x.0.0 ≤ o = omega arith in let y = x.0.1 i j o l3 l4 l5 in (y.0, ap (λ r. (told_after (run (looks i) j o) (move_denied n k g u lost ts rest r)).ending) (z.3 i j l1 l2) ∙ y.1)),
-          λ f'. let y = x.1 f' in (z.0 + y.0, y.1, y.2, λ i j l l'. let l1 : z.0 ≤ i = omega arith in let l2 : z.0 ≤ j = omega arith in let l3 : y.0 ≤ i = omega arith in let l4 : y.0 ≤ j = omega arith in ap (λ r. inner_after (inner (looks i) j f') f' q (move_denied n k g u lost ts rest r)) (z.3 i j l1 l2) ∙ y.3 i j l3 l4),
+          (
+            z.0 + x.0.0,
+            λ i j o l l' l''. let l1 : z.0 ≤ i = omega arith in let l2 : z.0 ≤ j = omega arith in let l3 : x.0.0 ≤ i = omega arith in let
+                l4 : x.0.0 ≤ j = omega arith in let l5 : x.0.0 ≤ o = omega arith in let y = x.0.1 i j o l3 l4 l5 in
+                (y.0, ap (λ r. (told_after (run (looks i) j o) (move_denied n k g u lost ts rest r)).ending) (z.3 i j l1 l2) ∙ y.1),
+          ),
+          λ f'. let y = x.1 f' in (
+            z.0 + y.0,
+            y.1,
+            y.2,
+            λ i j l l'. let l1 : z.0 ≤ i = omega arith in let l2 : z.0 ≤ j = omega arith in let l3 : y.0 ≤
+                i = omega arith in let l4 : y.0 ≤ j = omega arith in ap (λ r. inner_after (inner (looks i) j f') f' q
+                (move_denied n k g u lost ts rest r)) (z.3 i j l1 l2) ∙ y.3 i j l3 l4,
+          ),
         )
 
     module _ (r : ℕ) (parted : (s : State T) → EachOf Ok s.stack → s.steps + s.answers < suc b → s.row < r → BothEnd s) where
@@ -156,8 +170,20 @@ module _ {T A : Type 0} (looks : ℕ → ℕ → T → View T A) (w : T → ℕ)
             let v = looks c.0 (length rest) t in
             let x = ends_view q n k g u p lost t rest v c.1 (falls c.0 (length rest) t) (ok.leaves c.0 (length rest) t okt) okr hb hr hm in
             let same : (i : ℕ) → c.0 ≤ i → looks i (length rest) t ≡ v = λ i l. ok.more c.0 i l (length rest) t c.1 in (
-              (c.0 + x.0.0, λ i j o l l' l''. let l1 : c.0 ≤ i = omega arith in let l2 : x.0.0 ≤ i = omega arith in let l3 : x.0.0 ≤ j = omega arith in let l4 : x.0.0 ≤ o = omega arith in let y = x.0.1 i j o l2 l3 l4 in (y.0, ap (λ z. (told_after (run (looks i) j o) (move_view (inner (looks i) j) n k g u p lost rest z)).ending) (same i l1) ∙ y.1)),
-              λ f. let y = x.1 f in (c.0 + y.0, y.1, y.2, λ i j l l'. let l1 : c.0 ≤ i = omega arith in let l2 : y.0 ≤ i = omega arith in let l3 : y.0 ≤ j = omega arith in ap (λ z. inner_after (inner (looks i) j f) f q (move_view (inner (looks i) j) n k g u p lost rest z)) (same i l1) ∙ y.3 i j l2 l3),
+              (
+                c.0 + x.0.0,
+                λ i j o l l' l''. let l1 : c.0 ≤ i = omega arith in let l2 : x.0.0 ≤ i = omega arith in let l3 : x.0.0 ≤ j = omega arith
+                    in let l4 : x.0.0 ≤ o = omega arith in let y = x.0.1 i j o l2 l3 l4 in
+                    (y.0, ap (λ z. (told_after (run (looks i) j o) (move_view (inner (looks i) j) n k g u p lost rest z)).ending) (same i l1) ∙ y.1),
+              ),
+              λ f. let y = x.1 f in (
+                c.0 + y.0,
+                y.1,
+                y.2,
+                λ i j l l'. let l1 : c.0 ≤ i = omega arith in let l2 : y.0 ≤ i = omega arith in let l3 : y.0
+                    ≤ j = omega arith in ap (λ z. inner_after (inner (looks i) j f) f q (move_view (inner (looks i) j) n k g u p lost rest z))
+                    (same i l1) ∙ y.3 i j l2 l3,
+              ),
             )
 
         ends_at : (q n k g u p : ℕ) (lost : Bool) (stack : List T) → EachOf Ok stack → n + k < suc b → p < suc r → total w stack < suc m → BothEndBy q (λ c go. move_at go (looks c) n k g u p lost stack)

@@ -17,7 +17,9 @@ oldest_all m xs h = let e : length xs - m ≡ 0 = omega arith in ap (λ n. drop 
 module _ {Task Answer Inst : Type 0} (look : ℕ → Task → View Task Answer) (b : ℕ) (Ok : Task → Type 0) (Fine : Answer → Type 0) (Sol : Inst → Task → Type 0) (Is : Inst → Answer → Type 0) (f : Faithful look b Ok Fine Sol Is) (j : ℕ) where
   -- an instance of an answer to come is a solution of a task
   module _ (i : Inst) (go : State Task → Told Answer) (ih : (s : State Task) → s.steps ≤ b → EachOf Ok s.stack → AnyOf (Is i) (go s).answers → AnyOf (Sol i) s.stack) where
-    sound_denied : (n k g u : ℕ) (lost : Bool) (t : Task) (ts rest : List Task) (r : Inner) → ((c p : ℕ) (ns : List Note) → r ≡ Refuted c ns p → AnyOf (Sol i) ts → Sol i t) → n < b → EachOf Ok ts → EachOf Ok rest → AnyOf (Is i) (told_after go (move_denied n k g u lost ts rest r)).answers → Sol i t ⊎ AnyOf (Sol i) rest
+    sound_denied : (n k g u : ℕ) (lost : Bool) (t : Task) (ts rest : List Task) (r : Inner) →
+        ((c p : ℕ) (ns : List Note) → r ≡ Refuted c ns p → AnyOf (Sol i) ts → Sol i t) → n < b → EachOf Ok ts → EachOf Ok rest → AnyOf (Is i)
+        (told_after go (move_denied n k g u lost ts rest r)).answers → Sol i t ⊎ AnyOf (Sol i) rest
     sound_denied n k g u lost t ts rest (Refuted c ns p) d hn ok oks h =
         let q : n - c ≤ b = omega arith in
         elim (any_append (Sol i) ts rest (ih _ q (each_append Ok ts rest ok oks) h)) [ inl e ↦ inl (d c p ns refl e) | inr e ↦ inr e ]
@@ -25,7 +27,9 @@ module _ {Task Answer Inst : Type 0} (look : ℕ → Task → View Task Answer) 
     sound_denied n k g u lost t ts rest (Broke c ns e) d hn ok oks h = absurd h
     sound_denied n k g u lost t ts rest (Lasts c ns) d hn ok oks h = absurd h
 
-    sound_view : (n k g u p : ℕ) (lost : Bool) (t : Task) (rest : List Task) (v : View Task Answer) → (Covers ⊥ Sol Is i v → Sol i t) → ((w : Task) (f : Answer → Bool) (ts : List Task) → v ≡ Denies w f ts → Denied look b Sol t w f ts) → AreFine Ok Fine v → n ≤ b → EachOf Ok rest → AnyOf (Is i) (told_after go (move_view (inner look j) n k g u p lost rest v)).answers → Sol i t ⊎ AnyOf (Sol i) rest
+    sound_view : (n k g u p : ℕ) (lost : Bool) (t : Task) (rest : List Task) (v : View Task Answer) → (Covers ⊥ Sol Is i v → Sol i t) →
+        ((w : Task) (f : Answer → Bool) (ts : List Task) → v ≡ Denies w f ts → Denied look b Sol t w f ts) → AreFine Ok Fine v → n ≤ b → EachOf Ok
+        rest → AnyOf (Is i) (told_after go (move_view (inner look j) n k g u p lost rest v)).answers → Sol i t ⊎ AnyOf (Sol i) rest
     sound_view n k g u p lost t rest (Gives a) c d ok hn oks h = elim h [ inl e ↦ inl (c e) | inr e ↦ inr (ih _ hn oks e) ]
     sound_view n k g u p lost t rest (Opens ts) c d ok hn oks h =
         elim (any_append (Sol i) ts rest (ih _ hn (each_append Ok ts rest ok oks) h)) [ inl e ↦ inl (c e) | inr e ↦ inr e ]
@@ -140,7 +144,9 @@ module _ {Task Answer Inst : Type 0} (look : ℕ → Task → View Task Answer) 
     exhausts_view n k g u p lost' t rest (Halts x) c d ok hn oks e h = let y : x ≡ NoMore = cc in absurd (ok y)
     exhausts_view n k g u p lost' t rest Lacks c d ok hn oks e h = cc
 
-    exhausts_at : (n k g u p : ℕ) (lost' : Bool) (stack : List Task) → n ≤ b → EachOf Ok stack → (told_after (run look j m') (move_at (inner look j) look n k g u p lost' stack)).ending ≡ Some NoMore → AnyOf (Sol i) stack → AnyOf (Is i) (told_after (run look j m') (move_at (inner look j) look n k g u p lost' stack)).answers
+    exhausts_at : (n k g u p : ℕ) (lost' : Bool) (stack : List Task) → n ≤ b → EachOf Ok stack →
+        (told_after (run look j m') (move_at (inner look j) look n k g u p lost' stack)).ending ≡ Some NoMore → AnyOf (Sol i) stack → AnyOf (Is i)
+        (told_after (run look j m') (move_at (inner look j) look n k g u p lost' stack)).answers
     exhausts_at n zero g u p lost' stack hn oks e h = cc
     exhausts_at n (suc k) g u p true [] hn oks e h = cc
     exhausts_at n (suc k) g u p false [] hn oks e h = h

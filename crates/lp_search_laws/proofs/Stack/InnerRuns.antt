@@ -210,7 +210,9 @@ module _ {T A : Type 0} (look : ℕ → T → View T A) where
   none_taken j zero s e = refl
   none_taken j (suc m) s e = none_at j m s.steps s.answers s.given s.rows s.row s.lost s.stack e
 
-  held_taken : (f : A → Bool) (j n : ℕ) → ((s : State T) (k p : ℕ) (ns : List Note) → s.answers ≡ 1 → inner look n f s ≡ Held k ns p → (run look j n s).steps ≡ k) → (q : ℕ) (v : Move T A) (k p : ℕ) (ns : List Note) → KeepsOne v → inner_after (inner look n f) f q v ≡ Held k ns p → (told_after (run look j n) v).steps ≡ k
+  held_taken : (f : A → Bool) (j n : ℕ) → ((s : State T) (k p : ℕ) (ns : List Note) → s.answers ≡ 1 → inner look n f s ≡ Held k ns p →
+      (run look j n s).steps ≡ k) → (q : ℕ) (v : Move T A) (k p : ℕ) (ns : List Note) → KeepsOne v → inner_after (inner look n f) f q v ≡ Held k ns p
+      → (told_after (run look j n) v).steps ≡ k
   held_taken f j n ih q (Goes i ms s) k p ns o h =
       let r = later_held_taken i ms (inner look n f s) k p ns h in
       ap (λ x. i + x) (ih s r.0 r.1 r.2 o r.3) ∙ sym r.4

@@ -93,7 +93,9 @@ module _ {T A : Type 0} (L M : ℕ → T → View T A) (Dead : T → Type 0) (de
     denied_within q q' n n' k g u u' lost ts rest (Broke c ns e) r' b l l' h = absurd h
     denied_within q q' n n' k g u u' lost ts rest (Lasts c ns) r' b l l' h = absurd h
 
-    goes : (i : ℕ) (ns : List Note) (n n' k g u u' p p' : ℕ) (lost : Bool) (stack : List T) → n ≤ n' → u ≤ u' → p ≤ p' → IsDecided (later i ns (inner L j f (st n k g u p lost stack))) → IsWithin (later i ns (inner L j f (st n k g u p lost stack))) (later i ns (inner M j f (st n' k g u' p' lost stack)))
+    goes : (i : ℕ) (ns : List Note) (n n' k g u u' p p' : ℕ) (lost : Bool) (stack : List T) → n ≤ n' → u ≤ u' → p ≤ p' → IsDecided
+        (later i ns (inner L j f (st n k g u p lost stack))) → IsWithin (later i ns (inner L j f (st n k g u p lost stack)))
+        (later i ns (inner M j f (st n' k g u' p' lost stack)))
     unfolding Inners
     goes i ns n n' k g u u' p p' lost stack a b c h =
         later_within i ns (inner L j f (st n k g u p lost stack)) (inner M j f (st n' k g u' p' lost stack)) (ih f n n' k g u u' p p' lost stack a b c (later_decided i ns (inner L j f (st n k g u p lost stack)) h))

@@ -32,7 +32,9 @@ module _ {T A : Type 0} (L M : ℕ → T → View T A) (Dead : T → Type 0) (de
 
   -- the search of a negated goal
   module _ (j : ℕ) (f : A → Bool) (ih : (h : A → Bool) (s : State T) → Follows (inner L j h s) (inner M j h s)) where
-    inner_view : (q : ℕ) (n k g u p : ℕ) (lost : Bool) (rest : List T) (v w : View T A) → Fewer Dead v w → IsOver (inner_after (inner L j f) f q (move_view (inner L j) n k g u p lost rest v)) → inner_after (inner M j f) f q (move_view (inner M j) n k g u p lost rest w) ≡ inner_after (inner L j f) f q (move_view (inner L j) n k g u p lost rest v)
+    inner_view : (q : ℕ) (n k g u p : ℕ) (lost : Bool) (rest : List T) (v w : View T A) → Fewer Dead v w → IsOver
+        (inner_after (inner L j f) f q (move_view (inner L j) n k g u p lost rest v)) → inner_after (inner M j f) f q
+        (move_view (inner M j) n k g u p lost rest w) ≡ inner_after (inner L j f) f q (move_view (inner L j) n k g u p lost rest v)
     unfolding IsOver
     inner_view q n k g u p lost rest v w (same_look e) h =
         ap (λ z. inner_after (inner M j f) f q (move_view (inner M j) n k g u p lost rest z)) (sym e) ∙
@@ -47,7 +49,9 @@ module _ {T A : Type 0} (L M : ℕ → T → View T A) (Dead : T → Type 0) (de
         let o = subst (λ z. IsOver (inner_after (inner L j f) f q (move_view (inner L j) (suc n) k g u p lost rest z))) e h in
         absurd (dead_inner j f n k g u u lost t (ts ++ rest) d (later_over 1 (GoalNote name ∷ back (t ∷ ts) rest) (inner L j f (state_with n (suc k) g u u lost (t ∷ ts ++ rest))) o))
 
-    inner_at : (q : ℕ) (n k g u p : ℕ) (lost : Bool) (stack : List T) → IsOver (inner_after (inner L j f) f q (move_at (inner L j) L n k g u p lost stack)) → inner_after (inner M j f) f q (move_at (inner M j) M n k g u p lost stack) ≡ inner_after (inner L j f) f q (move_at (inner L j) L n k g u p lost stack)
+    inner_at : (q : ℕ) (n k g u p : ℕ) (lost : Bool) (stack : List T) → IsOver (inner_after (inner L j f) f q
+        (move_at (inner L j) L n k g u p lost stack)) → inner_after (inner M j f) f q (move_at (inner M j) M n k g u p lost stack) ≡ inner_after
+        (inner L j f) f q (move_at (inner L j) L n k g u p lost stack)
     inner_at q n zero g u p lost stack h = refl
     inner_at q n (suc k) g u p true [] h = refl
     inner_at q n (suc k) g u p false [] h = refl
@@ -76,7 +80,9 @@ module _ {T A : Type 0} (L M : ℕ → T → View T A) (Dead : T → Type 0) (de
     made (Breaks k ns x) h = tt
     made (Waits k ns) h = cc
 
-    run_view : (n k g u p : ℕ) (lost : Bool) (rest : List T) (v w : View T A) → Fewer Dead v w → (told_after (run L j m) (move_view (inner L j) n k g u p lost rest v)).ending ≡ Some e → told_after (run M j m) (move_view (inner M j) n k g u p lost rest w) ≡ told_after (run L j m) (move_view (inner L j) n k g u p lost rest v)
+    run_view : (n k g u p : ℕ) (lost : Bool) (rest : List T) (v w : View T A) → Fewer Dead v w →
+        (told_after (run L j m) (move_view (inner L j) n k g u p lost rest v)).ending ≡ Some e → told_after (run M j m)
+        (move_view (inner M j) n k g u p lost rest w) ≡ told_after (run L j m) (move_view (inner L j) n k g u p lost rest v)
     run_view n k g u p lost rest v w (same_look q) h =
         ap (λ z. told_after (run M j m) (move_view (inner M j) n k g u p lost rest z)) (sym q) ∙
         ap (told_after (run M j m)) (view_follows (inner L j) (inner M j) (λ f s. inner_same j f s) n k g u p lost rest v (made (move_view (inner L j) n k g u p lost rest v) h)) ∙

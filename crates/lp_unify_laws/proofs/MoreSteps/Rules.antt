@@ -44,7 +44,9 @@ compare_types_more (suc n) zero h ps = absurd (omega arith)
 compare_types_more (suc n) (suc m) h [] = below_same _
 compare_types_more (suc n) (suc m) h (p ∷ ps) = go (same_top p.left p.right) (λ qs. compare_types_more n m (omega arith) qs)
   where
-    go : (o : Option (List TypePair)) → ((qs : List TypePair) → Below (compare_types n qs) (compare_types m qs)) → Below {A = Compared} (elim o [ None ↦ Some (record { same = false; units = 1 }) | Some qs ↦ option_map (dearer 1) (compare_types n (qs ++ ps)) ]) (elim o [ None ↦ Some (record { same = false; units = 1 }) | Some qs ↦ option_map (dearer 1) (compare_types m (qs ++ ps)) ])
+    go : (o : Option (List TypePair)) → ((qs : List TypePair) → Below (compare_types n qs) (compare_types m qs)) → Below {A = Compared}
+        (elim o [ None ↦ Some (record { same = false; units = 1 }) | Some qs ↦ option_map (dearer 1) (compare_types n (qs ++ ps)) ])
+        (elim o [ None ↦ Some (record { same = false; units = 1 }) | Some qs ↦ option_map (dearer 1) (compare_types m (qs ++ ps)) ])
     go None ih = below_same _
     go (Some qs) ih = below_map (compare_types n (qs ++ ps)) (compare_types m (qs ++ ps)) (dearer 1) (ih (qs ++ ps))
 
@@ -78,7 +80,9 @@ mutual
   compare_all_more (suc n) zero h k ts us = absurd (omega arith)
   compare_all_more (suc n) (suc m) h k [] us = below_same _
   compare_all_more (suc n) (suc m) h k (t ∷ ts) [] = below_same _
-  compare_all_more (suc n) (suc m) h k (t ∷ ts) (u ∷ us) = below_then (compare n k t u) (compare m k t u) _ _ (compare_more n m (omega arith) k t u) (λ c. below_if c.same _ _ _ _ (below_map (compare_all n k ts us) (compare_all m k ts us) (dearer c.units) (compare_all_more n m (omega arith) k ts us)) (below_same (Some c)))
+  compare_all_more (suc n) (suc m) h k (t ∷ ts) (u ∷ us) = below_then (compare n k t u) (compare m k t u) _ _ (compare_more n m (omega arith) k t u)
+      (λ c. below_if c.same _ _ _ _ (below_map (compare_all n k ts us) (compare_all m k ts us) (dearer c.units)
+      (compare_all_more n m (omega arith) k ts us)) (below_same (Some c)))
 
 below_misfit : {A : Type 0} (o : Option Pattern) (x x' : Option A) (f f' : Pattern → Option A) → Below x x' → ((p : Pattern) → Below (f p) (f' p)) → Below (elim o [ None ↦ x | Some p ↦ f p ]) (elim o [ None ↦ x' | Some p ↦ f' p ])
 below_misfit None x x' f f' p q = p

@@ -60,10 +60,12 @@ as_eigen_more n m h t = below_map (beta_normal n t) (beta_normal m t) (λ s. eig
 
 pub as_eigens_more : (n m : ℕ) → n ≤ m → (ts : List Term) → Below (as_eigens n ts) (as_eigens m ts)
 as_eigens_more n m h [] = below_same (Some (Some []))
-as_eigens_more n m h (t ∷ ts) = below_then (as_eigen n t) (as_eigen m t) _ _ (as_eigen_more n m h t) λ o. elim o as (λ o. Below {A = Option (List ℕ)} (elim o [ None ↦ Some None | Some k ↦ option_map (option_map (λ ks. k ∷ ks)) (as_eigens n ts) ]) (elim o [ None ↦ Some None | Some k ↦ option_map (option_map (λ ks. k ∷ ks)) (as_eigens m ts) ])) [
-  | None ↦ below_same (Some None)
-  | Some k ↦ below_map (as_eigens n ts) (as_eigens m ts) (option_map (λ ks. k ∷ ks)) (as_eigens_more n m h ts)
-]
+as_eigens_more n m h (t ∷ ts) = below_then (as_eigen n t) (as_eigen m t) _ _ (as_eigen_more n m h t) λ o. elim o as
+    (λ o. Below {A = Option (List ℕ)} (elim o [ None ↦ Some None | Some k ↦ option_map (option_map (λ ks. k ∷ ks)) (as_eigens n ts) ])
+    (elim o [ None ↦ Some None | Some k ↦ option_map (option_map (λ ks. k ∷ ks)) (as_eigens m ts) ])) [
+      | None ↦ below_same (Some None)
+      | Some k ↦ below_map (as_eigens n ts) (as_eigens m ts) (option_map (λ ks. k ∷ ks)) (as_eigens_more n m h ts)
+    ]
 
 pub pattern_more : (n m : ℕ) → n ≤ m → (l : ℕ) (ts : List Term) → Below (pattern_of n l ts) (pattern_of m l ts)
 pattern_more n m h l ts = below_map (as_eigens n ts) (as_eigens m ts) _ (as_eigens_more n m h ts)
@@ -95,10 +97,12 @@ mutual
             ]) (pattern_of m l ts)
       ])) [
         | an_abs b ↦ scan_more n m (omega arith) s inside (suc k) (substitute (atom (eigen (suc k))) b)
-        | rigid g ts ↦ elim (allows_head s g || inside) as (λ b. Below {A = Scanned} (elim b [ true ↦ option_map (above (not (allows_head s g))) (scan_all n s inside k ts) | false ↦ Some (broken 1) ]) (elim b [ true ↦ option_map (above (not (allows_head s g))) (scan_all m s inside k ts) | false ↦ Some (broken 1) ])) [
-          | true ↦ below_map (scan_all n s inside k ts) (scan_all m s inside k ts) (above (not (allows_head s g))) (scan_all_more n m (omega arith) s inside k ts)
-          | false ↦ below_same (Some (broken 1))
-        ]
+        | rigid g ts ↦ elim (allows_head s g || inside) as (λ b. Below {A = Scanned}
+            (elim b [ true ↦ option_map (above (not (allows_head s g))) (scan_all n s inside k ts) | false ↦ Some (broken 1) ])
+            (elim b [ true ↦ option_map (above (not (allows_head s g))) (scan_all m s inside k ts) | false ↦ Some (broken 1) ])) [
+              | true ↦ below_map (scan_all n s inside k ts) (scan_all m s inside k ts) (above (not (allows_head s g))) (scan_all_more n m (omega arith) s inside k ts)
+              | false ↦ below_same (Some (broken 1))
+            ]
         | flexible y l ts ↦ below_then (pattern_of n l ts) (pattern_of m l ts) _ _ (pattern_more n m (omega arith) l ts) λ o. elim o as
             (λ o. Below {A = Scanned} (elim o [
               | Some b ↦ Some (scanned_pattern s inside y l b)

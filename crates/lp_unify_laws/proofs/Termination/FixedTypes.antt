@@ -205,7 +205,9 @@ solved_fixed ρ n level eqs ts us h ht hu (solved made u) e = record {
   fixed = h;
   own = argument_pairs level ts us;
   own_fixed = arguments_instance ρ level ts us ∙ (λ i. argument_pairs level (ht i) (hu i));
-  pairs = (λ i. argument_pairs level (map_as (put_types_in made) (instance_term (put_by made)) (terms_put made) ts i) (map_as (put_types_in made) (instance_term (put_by made)) (terms_put made) us i)) ∙ sym (arguments_instance (put_by made) level ts us) ∙ sym (pairs_put made (argument_pairs level ts us));
+  pairs = (λ i. argument_pairs level (map_as (put_types_in made) (instance_term (put_by made)) (terms_put made) ts i)
+      (map_as (put_types_in made) (instance_term (put_by made)) (terms_put made) us i)) ∙ sym (arguments_instance (put_by made) level ts us) ∙ sym
+      (pairs_put made (argument_pairs level ts us));
 }
 
 with_fixed : (ρ : ℕ → Ty) (n level : ℕ) (eqs : List TypePair) (ts us : List Term) (r : Ruled) → AreFixed ρ eqs → instance_all ρ ts ≡ ts → instance_all ρ us ≡ us → (o : Option TypeOutcome) → solve_types n eqs [] 0 ≡ o → option_map (with_types level ts us) o ≡ Some r → IsFixedVerdict ρ r.verdict

@@ -257,7 +257,9 @@ semi_opens s k t l w (rigid_on h ts d r a all) =
     (all_last s ts (atom (eigen (suc k))) all (strict_on (record { to = atom (eigen (suc k)); converts = same (atom (eigen (suc k))); within = allows_local s k l })))
 semi_opens s k t l w (pattern_on y m b d i j p o) =
     let up = eigens_up k b (head_reaches (UpTo k) (atom (logic y m)) (eigens b) t tt (converts_sym d) w).1 refl in
-    pattern_on y m (b ++ suc k ∷ []) (converts_on (converts_app d (same (atom (eigen (suc k))))) (converts_is (sym (apply_last (eigens b) (atom (eigen (suc k))) (atom (logic y m))) ∙ ap (apply (atom (logic y m))) (sym (eigens_last b (suc k)))))) (distinct_last k b i up) (above_last m (suc k) b j (omega arith)) p o
+    pattern_on y m (b ++ suc k ∷ []) (converts_on (converts_app d (same (atom (eigen (suc k)))))
+    (converts_is (sym (apply_last (eigens b) (atom (eigen (suc k))) (atom (logic y m))) ∙ ap (apply (atom (logic y m)))
+    (sym (eigens_last b (suc k)))))) (distinct_last k b i up) (above_last m (suc k) b j (omega arith)) p o
 semi_opens s k t l w (strict_on z) = strict_on (strict_opens s k t l z)
 
 -- what a head tells

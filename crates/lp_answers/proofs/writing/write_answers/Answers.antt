@@ -59,4 +59,7 @@ returns-in-Over-clause-written g c =
 pub returns-clause-written : goal.returns-clause-written
 returns-clause-written g c =
     ended_all (entries_of c.args.shown.now.glossary.now.entries.items) (names_in c.args.shown.now.names.items) c.args.answers c.args.answers _ (g.K.Sink.written c.args.out.now) (g.K.Sink.written c.answers.out) (g.K.Sink.written c.write_end-2.new.out)
-    c.write_end-2.result (omega arith) (subst (λ n. Wrote (entries_of c.args.shown.now.glossary.now.entries.items) (names_in c.args.shown.now.names.items) n (g.K.Sink.written c.args.out.now) (g.K.Sink.written c.answers.out)) (let l = c.answers-test.false in let m = c.answers.auto.before-end in omega (arith, l, m)) c.answers.invariant.1.1) c.write_end-2.ensures.written
+    c.write_end-2.result (omega arith) (subst (λ n. Wrote (entries_of c.args.shown.now.glossary.now.entries.items)
+    (names_in c.args.shown.now.names.items) n (g.K.Sink.written c.args.out.now) (g.K.Sink.written c.answers.out))
+    (let l = c.answers-test.false in let m = c.answers.auto.before-end in omega (arith, l, m)) c.answers.invariant.1.1)
+    c.write_end-2.ensures.written

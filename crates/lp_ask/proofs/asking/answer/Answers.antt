@@ -46,4 +46,9 @@ returns-in-Text-clause-grows g c =
 
 pub returns-in-Text-clause-unwritten : goal.returns-in-Text-clause-unwritten
 returns-in-Text-clause-unwritten g c =
-    let b = c.in-Err.ensures.broke in record { same = refused_still b.0 b.1.0 _ _ (g.K.Sink.written c.args.out.now) (g.K.Sink.written c.ask.new.out) c.in-Err.refusal c.in-Text.ensures b.1.1; sound = text_counts Ending c.in-Err.refusal (g.K.Sink.faults c.args.out.now) (g.K.Sink.faults c.ask.new.out) c.in-Text.ensures c.in-Err.ensures.faults }
+    let b = c.in-Err.ensures.broke in record {
+      same = refused_still b.0 b.1.0 _ _ (g.K.Sink.written c.args.out.now) (g.K.Sink.written c.ask.new.out)
+          c.in-Err.refusal c.in-Text.ensures b.1.1;
+      sound = text_counts Ending c.in-Err.refusal (g.K.Sink.faults c.args.out.now)
+          (g.K.Sink.faults c.ask.new.out) c.in-Text.ensures c.in-Err.ensures.faults;
+    }

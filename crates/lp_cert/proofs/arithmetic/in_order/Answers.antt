@@ -44,8 +44,12 @@ returns-then-not-is_inside-2-clause-decides c = λ r s k. let l = s.0 in omega (
 pub returns-in_default-clause-decides : goal.returns-in_default-clause-decides
 returns-in_default-clause-decides c = λ r s.
     let on = c.in_ok-first.ensures.kept in
-    without_decides _ (tree c.args.bank.now c.args.left.0) (tree c.args.bank.now c.args.right.0) c.form_of.new.bank c.form_of-2.new.bank c.in_ok-first.first c.in_ok-second.second c.turn_without.result c.in_ok-first.ensures.formed (subst (λ x. IsFormed x c.form_of-2.new.bank c.in_ok-second.second) (on.same_terms c.args.right.0 s.0) c.in_ok-second.ensures.formed)
-    (λ e. c.in_ok-first.ensures.open e r.0 (ready_loose _ _ c.args.left (extends_same _) r)) (λ e. c.in_ok-second.ensures.open e (ready_later _ _ c.args.right on s).0 (ready_loose _ _ c.args.right on s)) (λ x y e f. c.in_default.not-Is x e) c.turn_without.ensures.on c.turn_without.ensures.no c.turn_without.ensures.deep
+    without_decides _ (tree c.args.bank.now c.args.left.0) (tree c.args.bank.now c.args.right.0) c.form_of.new.bank c.form_of-2.new.bank
+    c.in_ok-first.first c.in_ok-second.second c.turn_without.result c.in_ok-first.ensures.formed
+    (subst (λ x. IsFormed x c.form_of-2.new.bank c.in_ok-second.second) (on.same_terms c.args.right.0 s.0) c.in_ok-second.ensures.formed)
+    (λ e. c.in_ok-first.ensures.open e r.0 (ready_loose _ _ c.args.left (extends_same _) r))
+    (λ e. c.in_ok-second.ensures.open e (ready_later _ _ c.args.right on s).0 (ready_loose _ _ c.args.right on s))
+    (λ x y e f. c.in_default.not-Is x e) c.turn_without.ensures.on c.turn_without.ensures.no c.turn_without.ensures.deep
 
 pub returns-in_default-second-clause-decides : goal.returns-in_default-second-clause-decides
 returns-in_default-second-clause-decides c = λ r s.
@@ -54,7 +58,9 @@ returns-in_default-second-clause-decides c = λ r s.
     (formed.Is c.in-Is.one) c.in_ok-second.second c.turn_without-in_default-second.result
     (subst (IsFormed (tree c.args.bank.now c.args.left.0) c.form_of.new.bank) c.in-Is.is c.in_ok-first.ensures.formed)
     (subst (λ x. IsFormed x c.form_of-2.new.bank c.in_ok-second.second) (on.same_terms c.args.right.0 s.0) c.in_ok-second.ensures.formed)
-    (λ e. absurd (cc)) (λ e. c.in_ok-second.ensures.open e (ready_later _ _ c.args.right on s).0 (ready_loose _ _ c.args.right on s)) (λ x y e f. c.in_default-second.not-Is y f) c.turn_without-in_default-second.ensures.on c.turn_without-in_default-second.ensures.no c.turn_without-in_default-second.ensures.deep
+    (λ e. absurd (cc)) (λ e. c.in_ok-second.ensures.open e (ready_later _ _ c.args.right on s).0 (ready_loose _ _ c.args.right on s))
+    (λ x y e f. c.in_default-second.not-Is y f) c.turn_without-in_default-second.ensures.on c.turn_without-in_default-second.ensures.no
+    c.turn_without-in_default-second.ensures.deep
 
 pub returns-in_default-earlier-clause-decides : goal.returns-in_default-earlier-clause-decides
 returns-in_default-earlier-clause-decides c = λ r s k.
@@ -78,7 +84,9 @@ returns-clause-decides c = λ r s.
     let other = subst (IsFormed (tree c.form_of.new.bank c.args.right.0) c.form_of-2.new.bank) c.in-Is-second.is c.in_ok-second.ensures.formed in
     let less = some_is _ c.in_ok-earlier.earlier c.in-Some.less c.in-Some.is c.in_ok-earlier.ensures.some in
     let more = some_is _ c.in_ok-later.later c.in-Some-later.more c.in-Some-later.is c.in_ok-later.ensures.some in
-    where_turned (Decides (AreOrdered c.args.order (tree c.args.bank.now c.args.left.0) (tree c.args.bank.now c.args.right.0)) (tree c.args.bank.now c.args.left.0) (tree c.args.bank.now c.args.right.0)) c.turn_where.result c.are_ordered-holds.result c.turn_where.ensures.on c.turn_where.ensures.no c.turn_where.ensures.deep
+    where_turned (Decides (AreOrdered c.args.order (tree c.args.bank.now c.args.left.0) (tree c.args.bank.now c.args.right.0))
+    (tree c.args.bank.now c.args.left.0) (tree c.args.bank.now c.args.right.0)) c.turn_where.result c.are_ordered-holds.result
+    c.turn_where.ensures.on c.turn_where.ensures.no c.turn_where.ensures.deep
     (λ e. ordered_before c.args.bank.now c.form_of-2.new.bank c.args.order c.args.left c.args.right (extends-trans _ _ _ on off) r.0 s.0 (
       c.in-Some.less,
       c.in-Some-later.more,

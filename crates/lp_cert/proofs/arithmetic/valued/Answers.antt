@@ -40,8 +40,12 @@ returns-then-not-is_inside-2-clause-decides c = λ r s k. let l = s.0 in omega (
 pub returns-in_default-clause-decides : goal.returns-in_default-clause-decides
 returns-in_default-clause-decides c = λ r s.
     let on = c.in_ok-left.ensures.kept in
-    without_decides _ (tree c.args.bank.now c.args.term.0) (tree c.args.bank.now c.args.expression.0) c.form_of.new.bank c.form_of-2.new.bank c.in_ok-left.left c.in_ok-right.right c.turn_without.result c.in_ok-left.ensures.formed (subst (λ x. IsFormed x c.form_of-2.new.bank c.in_ok-right.right) (on.same_terms c.args.expression.0 s.0) c.in_ok-right.ensures.formed)
-    (λ e. c.in_ok-left.ensures.open e r.0 (ready_loose _ _ c.args.term (extends_same _) r)) (λ e. c.in_ok-right.ensures.open e (ready_later _ _ c.args.expression on s).0 (ready_loose _ _ c.args.expression on s)) (λ x y e f. c.in_default.not-Is x e) c.turn_without.ensures.on c.turn_without.ensures.no c.turn_without.ensures.deep
+    without_decides _ (tree c.args.bank.now c.args.term.0) (tree c.args.bank.now c.args.expression.0) c.form_of.new.bank c.form_of-2.new.bank
+    c.in_ok-left.left c.in_ok-right.right c.turn_without.result c.in_ok-left.ensures.formed
+    (subst (λ x. IsFormed x c.form_of-2.new.bank c.in_ok-right.right) (on.same_terms c.args.expression.0 s.0) c.in_ok-right.ensures.formed)
+    (λ e. c.in_ok-left.ensures.open e r.0 (ready_loose _ _ c.args.term (extends_same _) r))
+    (λ e. c.in_ok-right.ensures.open e (ready_later _ _ c.args.expression on s).0 (ready_loose _ _ c.args.expression on s))
+    (λ x y e f. c.in_default.not-Is x e) c.turn_without.ensures.on c.turn_without.ensures.no c.turn_without.ensures.deep
 
 pub returns-in_default-right-clause-decides : goal.returns-in_default-right-clause-decides
 returns-in_default-right-clause-decides c = λ r s.
@@ -50,7 +54,9 @@ returns-in_default-right-clause-decides c = λ r s.
     (formed.Is c.in-Is.one) c.in_ok-right.right c.turn_without-in_default-right.result
     (subst (IsFormed (tree c.args.bank.now c.args.term.0) c.form_of.new.bank) c.in-Is.is c.in_ok-left.ensures.formed)
     (subst (λ x. IsFormed x c.form_of-2.new.bank c.in_ok-right.right) (on.same_terms c.args.expression.0 s.0) c.in_ok-right.ensures.formed)
-    (λ e. absurd (cc)) (λ e. c.in_ok-right.ensures.open e (ready_later _ _ c.args.expression on s).0 (ready_loose _ _ c.args.expression on s)) (λ x y e f. c.in_default-right.not-Is y f) c.turn_without-in_default-right.ensures.on c.turn_without-in_default-right.ensures.no c.turn_without-in_default-right.ensures.deep
+    (λ e. absurd (cc)) (λ e. c.in_ok-right.ensures.open e (ready_later _ _ c.args.expression on s).0 (ready_loose _ _ c.args.expression on s))
+    (λ x y e f. c.in_default-right.not-Is y f) c.turn_without-in_default-right.ensures.on c.turn_without-in_default-right.ensures.no
+    c.turn_without-in_default-right.ensures.deep
 
 pub returns-in_default-found-clause-decides : goal.returns-in_default-found-clause-decides
 returns-in_default-found-clause-decides c = λ r s k.
@@ -67,7 +73,9 @@ returns-clause-decides c = λ r s.
     let one = subst (IsFormed (tree c.args.bank.now c.args.term.0) c.form_of.new.bank) c.in-Is.is c.in_ok-left.ensures.formed in
     let other = subst (IsFormed (tree c.form_of.new.bank c.args.expression.0) c.form_of-2.new.bank) c.in-Is-right.is c.in_ok-right.ensures.formed in
     let found = some_is _ c.in_ok-found.found c.in-Some.value c.in-Some.is c.in_ok-found.ensures.some end (begins_itself end) in
-    where_turned (Decides (IsValued (tree c.args.bank.now c.args.expression.0) (tree c.args.bank.now c.args.term.0)) (tree c.args.bank.now c.args.term.0) (tree c.args.bank.now c.args.expression.0)) c.turn_where.result c.in_ok-holds.holds c.turn_where.ensures.on c.turn_where.ensures.no c.turn_where.ensures.deep
+    where_turned (Decides (IsValued (tree c.args.bank.now c.args.expression.0) (tree c.args.bank.now c.args.term.0))
+    (tree c.args.bank.now c.args.term.0) (tree c.args.bank.now c.args.expression.0)) c.turn_where.result c.in_ok-holds.holds
+    c.turn_where.ensures.on c.turn_where.ensures.no c.turn_where.ensures.deep
     (λ e. valued_before c.args.bank.now c.form_of-2.new.bank c.args.expression c.args.term (extends-trans _ _ _ on off) s.0 r.0 (
       v,
       value_later c.form_of.new.bank c.form_of-2.new.bank c.form_of-2.new.bank c.form_of-2.new.bank c.args.expression c.in-Is-right.other v off (extends_same c.form_of-2.new.bank) (extends_same c.form_of-2.new.bank) (ready_later _ _ c.args.expression on s).0 other found,

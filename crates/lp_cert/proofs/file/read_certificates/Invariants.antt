@@ -9,4 +9,6 @@ use Rattle.lp_cert.specs.Standing.{IsCertificateInside}
 use Rattle.lp_cert.proofs.file.read_certificates.Given as goal
 
 abbrev pub invariant-loop : goal.invariant-loop
-invariant-loop l = Extends l.fn.bank l.bank × All (IsCertificateInside l.bank) l.certificates.items × ((b : Nodes) → Extends l.bank b → each_at (λ before. certificate_at (counts_of l.arities)) (map (certificate_of b) l.certificates.items) (l.count - l.counter) (left_of l.reader) ≡ each_at (λ before. certificate_at (counts_of l.arities)) [] l.count (left_of l.fn.reader))
+invariant-loop l = Extends l.fn.bank l.bank × All (IsCertificateInside l.bank) l.certificates.items ×
+    ((b : Nodes) → Extends l.bank b → each_at (λ before. certificate_at (counts_of l.arities)) (map (certificate_of b) l.certificates.items)
+    (l.count - l.counter) (left_of l.reader) ≡ each_at (λ before. certificate_at (counts_of l.arities)) [] l.count (left_of l.fn.reader))

@@ -12,7 +12,9 @@ loop-certificate-init c = sym (more_nothing c.args.writer.now)
 
 pub loop-certificate-preserved : goal.loop-certificate-preserved
 loop-certificate-preserved c =
-    entry_written (certificate_of c.args.bank.now) spelled_certificate c.args.certificates.now c.loop-certificate.certificate-index _ _ _ _ (get_read c.args.certificates.now c.args.certificates.now c.loop-certificate.certificate-index _ _ refl (omega (arith, c.loop-certificate-test.true)) c.certificate-item.is)
+    entry_written (certificate_of c.args.bank.now) spelled_certificate c.args.certificates.now c.loop-certificate.certificate-index _ _ _ _
+    (get_read c.args.certificates.now c.args.certificates.now c.loop-certificate.certificate-index _ _ refl
+    (omega (arith, c.loop-certificate-test.true)) c.certificate-item.is)
     c.loop-certificate.invariant c.in_ok-write_certificate.ensures
 
 pub returns : goal.returns

@@ -26,11 +26,15 @@ returns-then-not-is_inside-2-clause-differ c = λ e r s k. let l = s.0 in omega 
 pub returns-in_default-clause-differ : goal.returns-in_default-clause-differ
 returns-in_default-clause-differ c = λ e r s k.
     let on = c.in_ok-first.ensures.kept in
-    no_form_is c.in_ok-first.first c.in_ok-second.second (λ o. c.in_ok-first.ensures.open o r.0 (ready_loose _ _ c.args.left (extends_same _) r)) (λ o. c.in_ok-second.ensures.open o (ready_later _ _ c.args.right on s).0 (ready_loose _ _ c.args.right on s)) (λ x y f g. c.in_default.not-Is x f) (c.without_form.ensures.differ e)
+    no_form_is c.in_ok-first.first c.in_ok-second.second (λ o. c.in_ok-first.ensures.open o r.0 (ready_loose _ _ c.args.left (extends_same _) r))
+    (λ o. c.in_ok-second.ensures.open o (ready_later _ _ c.args.right on s).0 (ready_loose _ _ c.args.right on s))
+    (λ x y f g. c.in_default.not-Is x f) (c.without_form.ensures.differ e)
 
 pub returns-in_default-clause-deep : goal.returns-in_default-clause-deep
 returns-in_default-clause-deep c = λ e l m.
-    one_is_large (tree c.args.bank.now c.args.left.0) (tree c.args.bank.now c.args.right.0) c.form_of.new.bank c.form_of-2.new.bank c.in_ok-first.first c.in_ok-second.second c.in_ok-first.ensures.formed (subst (λ x. IsFormed x c.form_of-2.new.bank c.in_ok-second.second) (c.in_ok-first.ensures.kept.same_terms c.args.right.0 m) c.in_ok-second.ensures.formed) (c.without_form.ensures.deep e)
+    one_is_large (tree c.args.bank.now c.args.left.0) (tree c.args.bank.now c.args.right.0) c.form_of.new.bank c.form_of-2.new.bank
+    c.in_ok-first.first c.in_ok-second.second c.in_ok-first.ensures.formed (subst (λ x. IsFormed x c.form_of-2.new.bank c.in_ok-second.second)
+    (c.in_ok-first.ensures.kept.same_terms c.args.right.0 m) c.in_ok-second.ensures.formed) (c.without_form.ensures.deep e)
 
 pub returns-in_default-second-clause-differ : goal.returns-in_default-second-clause-differ
 returns-in_default-second-clause-differ c = λ e r s k.

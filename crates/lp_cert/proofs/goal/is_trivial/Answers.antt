@@ -17,4 +17,9 @@ pub returns-else-types-ne0-clause-no : goal.returns-else-types-ne0-clause-no
 returns-else-types-ne0-clause-no c = λ e q. c.is_true_or_cut.ensures.no e (trivial_number c.args.bank.now (tree c.args.bank.now c.args.goal.0) c.in-Const.constant c.in-Const.types.now c.in-Const.ensures.tree q)
 
 pub returns-in-App-clause-no : goal.returns-in-App-clause-no
-returns-in-App-clause-no c = λ e q. elim q [ inl k ↦ no_atom c.args.bank.now _ (tree c.args.bank.now c.args.goal.0) c.in-App.field-1.now _ c.in-App.ensures.within.2 c.in-App.ensures.tree k | inr k ↦ no_atom c.args.bank.now _ (tree c.args.bank.now c.args.goal.0) c.in-App.field-1.now _ c.in-App.ensures.within.2 c.in-App.ensures.tree k ]
+returns-in-App-clause-no c = λ e q. elim q [
+  | inl k ↦ no_atom c.args.bank.now _ (tree c.args.bank.now c.args.goal.0) c.in-App.field-1.now _
+      c.in-App.ensures.within.2 c.in-App.ensures.tree k
+  | inr k ↦ no_atom c.args.bank.now _ (tree c.args.bank.now c.args.goal.0) c.in-App.field-1.now _
+      c.in-App.ensures.within.2 c.in-App.ensures.tree k
+]

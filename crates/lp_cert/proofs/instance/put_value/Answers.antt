@@ -10,7 +10,9 @@ substitute-requires-clause-fits c = closed_fits (tree c.args.bank.now c.args.val
 
 pub returns-clause-put : goal.returns-clause-put
 returns-clause-put c = λ b g.
-    put_later c.args.bank.now c.substitute.new.bank b c.args.term.0 c.args.value.0 c.in_ok-made.made.0 c.in_ok-made.ensures.kept g (c.is_inside.ensures.inside c.if-not-is_inside.false) (c.is_inside-2.ensures.inside c.if-not-is_inside-2.false) c.in_ok-made.ensures.within (c.in_ok-is_loose_below.ensures.below c.if-not-branch.false) c.in_ok-made.ensures.tree
+    put_later c.args.bank.now c.substitute.new.bank b c.args.term.0 c.args.value.0 c.in_ok-made.made.0 c.in_ok-made.ensures.kept g
+    (c.is_inside.ensures.inside c.if-not-is_inside.false) (c.is_inside-2.ensures.inside c.if-not-is_inside-2.false) c.in_ok-made.ensures.within
+    (c.in_ok-is_loose_below.ensures.below c.if-not-branch.false) c.in_ok-made.ensures.tree
 
 pub returns-then-not-is_inside-clause-none : goal.returns-then-not-is_inside-clause-none
 returns-then-not-is_inside-clause-none c = λ e l m k. absurd (omega (arith, l, c.is_inside.ensures.outside c.if-not-is_inside.true))

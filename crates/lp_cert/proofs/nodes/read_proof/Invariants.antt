@@ -9,4 +9,6 @@ use Rattle.lp_cert.specs.Standing.{IsNodeInside}
 use Rattle.lp_cert.proofs.nodes.read_proof.Given as goal
 
 abbrev pub invariant-loop : goal.invariant-loop
-invariant-loop l = Extends l.fn.bank l.bank × All (IsNodeInside l.bank) l.nodes.items × ((b : Nodes) → Extends l.bank b → nested_at (node_at (counts_of l.arities)) nodes_below (map (node_of b) l.nodes.items) (l.most - l.counter) (reverse l.sorts.items) (left_of l.reader) ≡ proof_at (counts_of l.arities) (left_of l.fn.reader))
+invariant-loop l = Extends l.fn.bank l.bank × All (IsNodeInside l.bank) l.nodes.items ×
+    ((b : Nodes) → Extends l.bank b → nested_at (node_at (counts_of l.arities)) nodes_below (map (node_of b) l.nodes.items) (l.most - l.counter)
+    (reverse l.sorts.items) (left_of l.reader) ≡ proof_at (counts_of l.arities) (left_of l.fn.reader))

@@ -30,7 +30,9 @@ pub returns-then-arguments-eq1-clause-none : goal.returns-then-arguments-eq1-cla
 returns-then-arguments-eq1-clause-none c = λ e. head_not_with_two c.args.bank.now (tree c.args.bank.now c.in-App.head.0) (tree c.args.bank.now c.args.term.0) c.in-App.arguments.now (omega (arith, c.if-arguments-eq1.true)) c.in-App.ensures.tree (c.two_with.ensures.none e)
 
 pub returns-then-arguments-ne2-clause-none : goal.returns-then-arguments-ne2-clause-none
-returns-then-arguments-ne2-clause-none c = λ e. not_on_two c.args.bank.now (tree c.args.bank.now c.in-App.head.0) (tree c.args.bank.now c.args.term.0) c.in-App.arguments.now (λ l. omega (arith, l, c.if-arguments-eq1.false)) (λ l. omega (arith, l, c.if-arguments-ne2.true)) c.in-App.ensures.within.2 c.in-App.ensures.tree
+returns-then-arguments-ne2-clause-none c = λ e. not_on_two c.args.bank.now (tree c.args.bank.now c.in-App.head.0) (tree c.args.bank.now c.args.term.0)
+    c.in-App.arguments.now (λ l. omega (arith, l, c.if-arguments-eq1.false)) (λ l. omega (arith, l, c.if-arguments-ne2.true))
+    c.in-App.ensures.within.2 c.in-App.ensures.tree
 
 pub returns-else-arguments-ne2-clause-inside : goal.returns-else-arguments-ne2-clause-inside
 returns-else-arguments-ne2-clause-inside c = two_inside c.args.bank.now _ (tree c.args.bank.now c.in-App.head.0) c.in-App.arguments.now c.two_applied.result (omega (arith, c.if-arguments-ne2.false)) c.in-App.ensures.within.1 c.two_applied.ensures.now

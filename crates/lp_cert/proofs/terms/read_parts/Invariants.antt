@@ -9,4 +9,6 @@ use Rattle.lp_cert.specs.inner.Parts.{IsPartInside}
 use Rattle.lp_cert.proofs.terms.read_parts.Given as goal
 
 abbrev pub invariant-loop : goal.invariant-loop
-invariant-loop l = (l.wanted ≤ 1 + 2 * l.counter) × Extends l.fn.bank l.bank × All (IsPartInside l.bank) l.parts.items × ((b : Nodes) → Extends l.bank b → nested_at (λ one. term_top_at (counts_of l.arities)) terms_below (term_tops_of b l.parts.items) (l.most - l.counter) (replicate l.wanted tt) (left_of l.reader) ≡ term_tops_at (counts_of l.arities) (left_of l.fn.reader))
+invariant-loop l = (l.wanted ≤ 1 + 2 * l.counter) × Extends l.fn.bank l.bank × All (IsPartInside l.bank) l.parts.items ×
+    ((b : Nodes) → Extends l.bank b → nested_at (λ one. term_top_at (counts_of l.arities)) terms_below (term_tops_of b l.parts.items)
+    (l.most - l.counter) (replicate l.wanted tt) (left_of l.reader) ≡ term_tops_at (counts_of l.arities) (left_of l.fn.reader))

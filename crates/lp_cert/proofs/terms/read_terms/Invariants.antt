@@ -8,4 +8,6 @@ use Rattle.lp_cert.specs.Inside.{AreTermsInside}
 use Rattle.lp_cert.proofs.terms.read_terms.Given as goal
 
 abbrev pub invariant-loop : goal.invariant-loop
-invariant-loop l = Extends l.fn.bank l.bank × AreTermsInside (length l.bank.terms) l.terms.items × ((b : Nodes) → Extends l.bank b → each_at (λ before. term_at (counts_of l.arities)) (terms_in b l.terms.items) (l.count - l.counter) (left_of l.reader) ≡ terms_at (counts_of l.arities) l.count (left_of l.fn.reader))
+invariant-loop l = Extends l.fn.bank l.bank × AreTermsInside (length l.bank.terms) l.terms.items ×
+    ((b : Nodes) → Extends l.bank b → each_at (λ before. term_at (counts_of l.arities)) (terms_in b l.terms.items) (l.count - l.counter)
+    (left_of l.reader) ≡ terms_at (counts_of l.arities) l.count (left_of l.fn.reader))

@@ -48,4 +48,6 @@ pub returns-in_ok-push-in-App-clause-text : goal.returns-in_ok-push-in-App-claus
 returns-in_ok-push-in-App-clause-text c = rw c.in-App.is (rest_so _ _ _ _ _ c.in_ok-write_applications-in-App.ensures (application_waits c.args.bank.now c.in-App.head c.in-App.arguments.now _ _ _ c.in_ok-push_last_first-in-App.ensures c.in_ok-push-in-App.ensures.items))
 
 pub returns-in_ok-push-in-App-clause-less : goal.returns-in_ok-push-in-App-clause-less
-returns-in_ok-push-in-App-clause-less c = rw c.in-App.is (λ some. less_waits (replicate (length c.in-App.arguments.now) 7) _ _ _ (application_waits c.args.bank.now c.in-App.head c.in-App.arguments.now _ _ _ c.in_ok-push_last_first-in-App.ensures c.in_ok-push-in-App.ensures.items) (some_sevens c.in-App.arguments.now _ some))
+returns-in_ok-push-in-App-clause-less c = rw c.in-App.is (λ some. less_waits (replicate (length c.in-App.arguments.now) 7) _ _ _
+    (application_waits c.args.bank.now c.in-App.head c.in-App.arguments.now _ _ _ c.in_ok-push_last_first-in-App.ensures
+    c.in_ok-push-in-App.ensures.items) (some_sevens c.in-App.arguments.now _ some))

@@ -10,7 +10,9 @@ loop-init c = all_waits _ _ _ (term_alone c.args.bank.now c.push.new.self.items 
 
 pub loop-preserved : goal.loop-preserved
 loop-preserved c =
-    turn_done _ _ _ _ _ _ _ _ c.loop.counter (term_top c.args.bank.now c.loop.stack.items c.pop.new.self.items c.in-Some.next _ c.in-Some.ensures.items c.term_node.ensures.tree) c.in_ok-write_part.ensures.text (c.in_ok-write_part.ensures.less (has_arguments _ _ _ c.term_node.ensures.within)) c.loop.invariant
+    turn_done _ _ _ _ _ _ _ _ c.loop.counter (term_top c.args.bank.now c.loop.stack.items c.pop.new.self.items c.in-Some.next _
+    c.in-Some.ensures.items c.term_node.ensures.tree) c.in_ok-write_part.ensures.text
+    (c.in_ok-write_part.ensures.less (has_arguments _ _ _ c.term_node.ensures.within)) c.loop.invariant
 
 pub returns-then-is_full : goal.returns-then-is_full
 returns-then-is_full c = full_is _ _ _ _ (c.is_full.ensures c.if-is_full.true) c.loop.invariant.0

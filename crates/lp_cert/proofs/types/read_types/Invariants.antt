@@ -8,4 +8,6 @@ use Rattle.lp_cert.specs.Facts.{AreInside}
 use Rattle.lp_cert.proofs.types.read_types.Given as goal
 
 abbrev pub invariant-loop : goal.invariant-loop
-invariant-loop l = Extends l.fn.bank l.bank × AreInside (length l.bank.types) l.types.items × ((b : Nodes) → Extends l.bank b → each_at (λ before. type_at (counts_of l.arities)) (types_in b l.types.items) (l.count - l.counter) (left_of l.reader) ≡ types_at (counts_of l.arities) l.count (left_of l.fn.reader))
+invariant-loop l = Extends l.fn.bank l.bank × AreInside (length l.bank.types) l.types.items ×
+    ((b : Nodes) → Extends l.bank b → each_at (λ before. type_at (counts_of l.arities)) (types_in b l.types.items) (l.count - l.counter)
+    (left_of l.reader) ≡ types_at (counts_of l.arities) l.count (left_of l.fn.reader))

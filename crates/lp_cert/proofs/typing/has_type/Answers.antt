@@ -63,4 +63,6 @@ returns-clause-untyped c =
     }) c.finish.new.self
     c.equate.new.self c.as_slice.result.now c.pop.new.self.items c.args.term c.in-Some.found c.args.of _ c.have_solution.result
     c.in_ok-finish.ensures.kept c.new.ensures.items c.new-2.ensures.items c.new-3.ensures.items
-    (c.in_ok-push.ensures.items ∙ ap (λ ts. ts ++ task.Visit c.args.term ∷ []) c.new-4.ensures.items) c.in_ok-finish.ensures.keeps c.if-not-branch.false (c.in_ok-finish.ensures.ended c.if-not-branch.false) c.in-Some.ensures.items c.as_slice.ensures.value (record { next = q.next; solved = q.solved; below = q.below }) c.have_solution.ensures.none
+    (c.in_ok-push.ensures.items ∙ ap (λ ts. ts ++ task.Visit c.args.term ∷ []) c.new-4.ensures.items) c.in_ok-finish.ensures.keeps
+    c.if-not-branch.false (c.in_ok-finish.ensures.ended c.if-not-branch.false) c.in-Some.ensures.items c.as_slice.ensures.value
+    (record { next = q.next; solved = q.solved; below = q.below }) c.have_solution.ensures.none

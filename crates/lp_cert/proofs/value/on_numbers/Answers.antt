@@ -5,16 +5,24 @@ use Rattle.lp_cert.proofs.Evaluating.{by_sum, by_difference, by_product, by_quot
 use Rattle.lp_cert.proofs.value.on_numbers.Goals as goal
 
 pub returns-then-operation-add : goal.returns-then-operation-add
-returns-then-operation-add c = λ end. by_sum end c.args.operation c.args.left c.args.right _ _ (to_z-of_z w64 c.args.left c.ranges.left) (to_z-of_z w64 c.args.right c.ranges.right) c.checked_add.result c.state_of.result c.state_of.ensures (c.if-operation-add.true ∙ c.number-add.ensures.number) c.checked_add.ensures
+returns-then-operation-add c = λ end. by_sum end c.args.operation c.args.left c.args.right _ _ (to_z-of_z w64 c.args.left c.ranges.left)
+    (to_z-of_z w64 c.args.right c.ranges.right) c.checked_add.result c.state_of.result c.state_of.ensures
+    (c.if-operation-add.true ∙ c.number-add.ensures.number) c.checked_add.ensures
 
 pub returns-then-operation-subtract : goal.returns-then-operation-subtract
-returns-then-operation-subtract c = λ end. by_difference end c.args.operation c.args.left c.args.right _ _ (to_z-of_z w64 c.args.left c.ranges.left) (to_z-of_z w64 c.args.right c.ranges.right) c.checked_sub.result c.state_of-then-operation-subtract.result c.state_of-then-operation-subtract.ensures (c.if-operation-subtract.true ∙ c.number-subtract.ensures.number) c.checked_sub.ensures
+returns-then-operation-subtract c = λ end. by_difference end c.args.operation c.args.left c.args.right _ _ (to_z-of_z w64 c.args.left c.ranges.left)
+    (to_z-of_z w64 c.args.right c.ranges.right) c.checked_sub.result c.state_of-then-operation-subtract.result
+    c.state_of-then-operation-subtract.ensures (c.if-operation-subtract.true ∙ c.number-subtract.ensures.number) c.checked_sub.ensures
 
 pub returns-then-operation-multiply : goal.returns-then-operation-multiply
-returns-then-operation-multiply c = λ end. by_product end c.args.operation c.args.left c.args.right _ _ (to_z-of_z w64 c.args.left c.ranges.left) (to_z-of_z w64 c.args.right c.ranges.right) c.checked_mul.result c.state_of-then-operation-multiply.result c.state_of-then-operation-multiply.ensures (c.if-operation-multiply.true ∙ c.number-multiply.ensures.number) c.checked_mul.ensures
+returns-then-operation-multiply c = λ end. by_product end c.args.operation c.args.left c.args.right _ _ (to_z-of_z w64 c.args.left c.ranges.left)
+    (to_z-of_z w64 c.args.right c.ranges.right) c.checked_mul.result c.state_of-then-operation-multiply.result
+    c.state_of-then-operation-multiply.ensures (c.if-operation-multiply.true ∙ c.number-multiply.ensures.number) c.checked_mul.ensures
 
 pub returns-then-operation-divide : goal.returns-then-operation-divide
-returns-then-operation-divide c = λ end. by_quotient end c.args.operation c.args.left c.args.right _ _ (to_z-of_z w64 c.args.left c.ranges.left) (to_z-of_z w64 c.args.right c.ranges.right) c.checked_div.result c.state_of-then-operation-divide.result c.state_of-then-operation-divide.ensures (c.if-operation-divide.true ∙ c.number-divide.ensures.number) c.ranges.right c.checked_div.ensures
+returns-then-operation-divide c = λ end. by_quotient end c.args.operation c.args.left c.args.right _ _ (to_z-of_z w64 c.args.left c.ranges.left)
+    (to_z-of_z w64 c.args.right c.ranges.right) c.checked_div.result c.state_of-then-operation-divide.result c.state_of-then-operation-divide.ensures
+    (c.if-operation-divide.true ∙ c.number-divide.ensures.number) c.ranges.right c.checked_div.ensures
 
 pub returns-then-operation-remainder : goal.returns-then-operation-remainder
 returns-then-operation-remainder c = λ end. by_remainder end c.args.operation c.args.left c.args.right _ _ (to_z-of_z w64 c.args.left c.ranges.left)

@@ -71,7 +71,9 @@ returns-in_ok-open_some-in-Some c = λ cl.
     let env = c.args.environment.now in
     let bs = c.args.blocks.now.items in
     subst (λ s. IsTaken t cl K e c.open_some.new.emitter env c.open_some.new.environment bs bs s) (sym c.in-Some.is)
-    (taken t cl K e c.open_some.new.emitter env c.open_some.new.environment bs bs (on.Some c.in-Some.of) (λ q. refl) (some_opens (AssumedBy t cl) K e c.open_some.new.emitter (around_of b env) (around_of b c.open_some.new.environment) bs (type_tree b c.in-Some.of.0) c.in_ok-open_some-in-Some.ensures))
+    (taken t cl K e c.open_some.new.emitter env c.open_some.new.environment bs bs (on.Some c.in-Some.of) (λ q. refl)
+    (some_opens (AssumedBy t cl) K e c.open_some.new.emitter (around_of b env) (around_of b c.open_some.new.environment) bs
+    (type_tree b c.in-Some.of.0) c.in_ok-open_some-in-Some.ensures))
 
 pub returns-in_ok-open_all-in-All : goal.returns-in_ok-open_all-in-All
 returns-in_ok-open_all-in-All c = λ cl.
@@ -82,7 +84,9 @@ returns-in_ok-open_all-in-All c = λ cl.
     let env = c.args.environment.now in
     let bs = c.args.blocks.now.items in
     subst (λ s. IsTaken t cl K e c.open_all.new.emitter env c.open_all.new.environment bs c.open_all.new.blocks.items s) (sym c.in-All.is)
-    (taken t cl K e c.open_all.new.emitter env c.open_all.new.environment bs c.open_all.new.blocks.items (on.All c.in-All.of) (λ q. refl) (all_opens (AssumedBy t cl) K e c.open_all.new.emitter (around_of b env) (around_of b c.open_all.new.environment) bs c.open_all.new.blocks.items (type_tree b c.in-All.of.0) c.in_ok-open_all-in-All.ensures))
+    (taken t cl K e c.open_all.new.emitter env c.open_all.new.environment bs c.open_all.new.blocks.items (on.All c.in-All.of) (λ q. refl)
+    (all_opens (AssumedBy t cl) K e c.open_all.new.emitter (around_of b env) (around_of b c.open_all.new.environment) bs
+    c.open_all.new.blocks.items (type_tree b c.in-All.of.0) c.in_ok-open_all-in-All.ensures))
 
 pub returns-in_ok-end-in-EndAll : goal.returns-in_ok-end-in-EndAll
 returns-in_ok-end-in-EndAll c = λ cl.
@@ -115,7 +119,9 @@ returns-in_ok-end-in-EndAssume c = λ cl.
     let env = c.args.environment.now in
     let bs = c.args.blocks.now.items in
     subst (λ s. IsTaken t cl K e c.end-in-EndAssume.new.emitter env c.end-in-EndAssume.new.environment bs c.end-in-EndAssume.new.blocks.items s) (sym c.in-EndAssume.is)
-    (taken t cl K e c.end-in-EndAssume.new.emitter env c.end-in-EndAssume.new.environment bs c.end-in-EndAssume.new.blocks.items on.EndAssume (λ q. refl) (assumption_ends e c.end-in-EndAssume.new.emitter env c.end-in-EndAssume.new.environment bs c.end-in-EndAssume.new.blocks.items c.in_ok-end-in-EndAssume.ensures t cl b K))
+    (taken t cl K e c.end-in-EndAssume.new.emitter env c.end-in-EndAssume.new.environment bs c.end-in-EndAssume.new.blocks.items on.EndAssume
+    (λ q. refl) (assumption_ends e c.end-in-EndAssume.new.emitter env c.end-in-EndAssume.new.environment bs c.end-in-EndAssume.new.blocks.items
+    c.in_ok-end-in-EndAssume.ensures t cl b K))
 
 pub returns-in_ok-open-in-Not : goal.returns-in_ok-open-in-Not
 returns-in_ok-open-in-Not c = λ cl.

@@ -59,7 +59,9 @@ returns-in-Some-2-clause-passes c =
     let f = subst (λ (name : ℕ). IsFound rules name (c.in-Some.at + 1) c.candidate_after-found.result) (h.named c.index-rules-at.result s) (found_after rules c.args.index.now c.in-Some.at c.index-rules-at.result c.candidate_after-found.result c.requires.index s c.candidate_after-found.ensures) in
     let p = subst (λ (bs : List Binding). Pushes c.index-rules-at.result bs c.candidate_after-found.result c.args.goal c.args.rest c.candidates.stack.items c.push_made.new.stack.items) c.deref.ensures.value c.in_ok-push_made.ensures in
     let rest = λ (cs : List Choice). stack_of (clauses_of rules) cs in
-    let before = λ (n : ℕ). subst (λ (o : Option ℕ). Passes (clauses_of rules) n (tasks_left (clauses_of rules) c.args.first c.args.goal c.args.rest ++ rest c.candidates.stack.items) n (tasks_left (clauses_of rules) o c.args.goal c.args.rest ++ rest c.candidates.stack.items)) c.in-Some.is (c.candidates.invariant.passes n) in
+    let before = λ (n : ℕ). subst (λ (o : Option ℕ). Passes (clauses_of rules) n (tasks_left (clauses_of rules) c.args.first c.args.goal c.args.rest
+    ++ rest c.candidates.stack.items) n (tasks_left (clauses_of rules) o c.args.goal c.args.rest ++ rest c.candidates.stack.items)) c.in-Some.is
+    (c.candidates.invariant.passes n) in
     λ n. subst (λ (cs : List Choice). Passes (clauses_of rules) n (tasks_left (clauses_of rules) c.args.first c.args.goal c.args.rest ++ rest cs) n
     (rest c.push_made.new.stack.items)) c.candidates.invariant.stack (passes_on _ n n n _ _ _ (before n)
     (fitted rules c.args.goal.name 0 c.in-Some.at c.index-rules-at.result c.args.goal c.args.rest _ c.in-Some-2.bindings.items

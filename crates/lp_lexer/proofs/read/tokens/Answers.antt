@@ -20,7 +20,9 @@ over-preserved c =
     let w = c.in-Found.ensures.within in
     let r = rest_length c.args.text.now c.over.at in
     record {
-      done = pushed_token c.args.text.now c.over.at c.in-Found.n c.in-Found.kind c.over.out.items _ c.over.place c.over.invariant.place (chosen _ _ _ _ c.push.ensures.items (ap is_ok c.in_ok-push-in-Found.was)) c.over-test.true (front_is c.args.text.now c.over.at _ c.in-Found.ensures.is) c.over.invariant.done;
+      done = pushed_token c.args.text.now c.over.at c.in-Found.n c.in-Found.kind c.over.out.items _ c.over.place c.over.invariant.place
+          (chosen _ _ _ _ c.push.ensures.items (ap is_ok c.in_ok-push-in-Found.was)) c.over-test.true
+          (front_is c.args.text.now c.over.at _ c.in-Found.ensures.is) c.over.invariant.done;
       place = place_after c.args.text.now c.over.at c.in-Found.n _ _ c.over.invariant.place c.moved-place-in-Found.ensures.place;
       within = omega arith;
       line = omega arith;

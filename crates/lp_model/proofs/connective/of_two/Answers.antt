@@ -16,4 +16,6 @@ returns-in_default c =
 pub returns-in-Some-clause-tree : goal.returns-in-Some-clause-tree
 returns-in-Some-clause-tree c =
     let b = c.args.bank.now in
-    told_joined b (tree b c.args.head.0) c.in-Const.number c.in-Const.types.now c.in-Some.constant c.args.left c.args.right c.in-Const.ensures.tree (sym c.from_number.ensures ∙ c.in-Some.is) (eqb-true (length c.in-Const.types.now) 0 (sym c.if-not-is_empty.ensures)) ∙ ap (connective_in b) (sym c.joined.ensures)
+    told_joined b (tree b c.args.head.0) c.in-Const.number c.in-Const.types.now c.in-Some.constant c.args.left c.args.right c.in-Const.ensures.tree
+    (sym c.from_number.ensures ∙ c.in-Some.is) (eqb-true (length c.in-Const.types.now) 0 (sym c.if-not-is_empty.ensures)) ∙ ap (connective_in b)
+    (sym c.joined.ensures)

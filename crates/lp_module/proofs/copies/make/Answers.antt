@@ -19,10 +19,14 @@ pub new-making-requires-clause-constants : goal.new-making-requires-clause-const
 new-making-requires-clause-constants c = (root_names c.args.modules.now c.args.root c.args.totals.now.items c.args.uses.now.items c.requires.uses c.requires.plan.0 c.requires.plan.1 c.index-modules-root.result c.requires.root c.index-modules-root.is).1
 
 pub enter-requires-clause-hidden_kinds : goal.enter-requires-clause-hidden_kinds
-enter-requires-clause-hidden_kinds c = root_kinds c.args.modules.now c.args.root c.args.totals.now.items c.args.uses.now.items c.requires.uses c.requires.plan.0 c.requires.plan.1 c.index-modules-root.result c.requires.root c.index-modules-root.is c.new-making.result.next c.below_of.result c.index.result.now c.index.ensures c.new-making.ensures.next c.below_of.ensures.kinds
+enter-requires-clause-hidden_kinds c = root_kinds c.args.modules.now c.args.root c.args.totals.now.items c.args.uses.now.items c.requires.uses
+    c.requires.plan.0 c.requires.plan.1 c.index-modules-root.result c.requires.root c.index-modules-root.is c.new-making.result.next c.below_of.result
+    c.index.result.now c.index.ensures c.new-making.ensures.next c.below_of.ensures.kinds
 
 pub enter-requires-clause-hidden_constants : goal.enter-requires-clause-hidden_constants
-enter-requires-clause-hidden_constants c = root_constants c.args.modules.now c.args.root c.args.totals.now.items c.args.uses.now.items c.requires.uses c.requires.plan.0 c.requires.plan.1 c.index-modules-root.result c.requires.root c.index-modules-root.is c.new-making.result.next c.below_of.result c.index.result.now c.index.ensures c.new-making.ensures.next c.below_of.ensures.constants
+enter-requires-clause-hidden_constants c = root_constants c.args.modules.now c.args.root c.args.totals.now.items c.args.uses.now.items c.requires.uses
+    c.requires.plan.0 c.requires.plan.1 c.index-modules-root.result c.requires.root c.index-modules-root.is c.new-making.result.next c.below_of.result
+    c.index.result.now c.index.ensures c.new-making.ensures.next c.below_of.ensures.constants
 
 pub enter-requires-clause-kinds : goal.enter-requires-clause-kinds
 enter-requires-clause-kinds c = λ e. (root_names c.args.modules.now c.args.root c.args.totals.now.items c.args.uses.now.items c.requires.uses c.requires.plan.0 c.requires.plan.1 c.index-modules-root.result c.requires.root c.index-modules-root.is).0
@@ -34,69 +38,109 @@ pub copies-init : goal.copies-init
 copies-init c = (
   c.new-copying.ensures.copying,
   c.new-copying.ensures.root,
-  root_begun c.args.modules.now c.args.root c.args.totals.now.items c.args.uses.now.items c.requires.uses c.requires.plan.0 c.requires.plan.1 c.index-modules-root.result c.requires.root c.index-modules-root.is c.new-making.result c.enter.new.self c.enter.new.around.items c.index.result.now c.below_of.result c.new-copying.result c.index.ensures c.below_of.ensures.kinds c.below_of.ensures.constants c.new-making.ensures.made c.new-making.ensures.none c.new-making.ensures.next c.in_ok-enter.ensures.made
-      (subst (λ l. Opens l c.enter.new.around.items c.index-modules-root.result (record { kinds = c.new-making.result.next.kinds + c.below_of.result.kinds; constants = c.new-making.result.next.constants + c.below_of.result.constants })) c.new-around.ensures.items c.in_ok-enter.ensures.opened) c.new-copying.ensures.left c.new-copying.ensures.frames,
+  root_begun c.args.modules.now c.args.root c.args.totals.now.items c.args.uses.now.items c.requires.uses c.requires.plan.0 c.requires.plan.1
+      c.index-modules-root.result c.requires.root c.index-modules-root.is c.new-making.result c.enter.new.self c.enter.new.around.items
+      c.index.result.now c.below_of.result c.new-copying.result c.index.ensures c.below_of.ensures.kinds c.below_of.ensures.constants
+      c.new-making.ensures.made c.new-making.ensures.none c.new-making.ensures.next c.in_ok-enter.ensures.made
+      (subst (λ l. Opens l c.enter.new.around.items c.index-modules-root.result (record {
+        kinds = c.new-making.result.next.kinds + c.below_of.result.kinds;
+        constants = c.new-making.result.next.constants +
+            c.below_of.result.constants;
+      })) c.new-around.ensures.items c.in_ok-enter.ensures.opened) c.new-copying.ensures.left
+      c.new-copying.ensures.frames,
 )
 
 pub enter-requires-in-Entered-clause-hidden_kinds : goal.enter-requires-in-Entered-clause-hidden_kinds
 enter-requires-in-Entered-clause-hidden_kinds c =
     let t = subst (Turns (lists_in c.args.uses.now.items) c.copies.copying c.go_on.new.self) c.in-Entered.is c.in_ok-at.ensures.turns in
     let m = subst (Moves (lists_in c.args.uses.now.items) (frames_of c.copies.copying) (frames_of c.go_on.new.self)) c.in-Entered.is c.in_ok-at.ensures.moves in
-    entered_kinds c.args.modules.now c.args.root c.args.totals.now.items c.args.uses.now.items c.requires.uses c.requires.plan.0 c.requires.plan.1 c.copies.copying c.go_on.new.self c.copies.making c.copies.around.items c.copies.invariant.2 c.copies.invariant.1 c.in-Entered.at t m c.index-modules-at.result c.index-in-Entered.result.now c.below_of-below.result c.index-modules-at.is c.index-in-Entered.ensures c.below_of-below.ensures.kinds c.below_of-below.ensures.constants
+    entered_kinds c.args.modules.now c.args.root c.args.totals.now.items c.args.uses.now.items c.requires.uses c.requires.plan.0 c.requires.plan.1
+    c.copies.copying c.go_on.new.self c.copies.making c.copies.around.items c.copies.invariant.2 c.copies.invariant.1 c.in-Entered.at t m
+    c.index-modules-at.result c.index-in-Entered.result.now c.below_of-below.result c.index-modules-at.is c.index-in-Entered.ensures
+    c.below_of-below.ensures.kinds c.below_of-below.ensures.constants
 
 pub enter-requires-in-Entered-clause-hidden_constants : goal.enter-requires-in-Entered-clause-hidden_constants
 enter-requires-in-Entered-clause-hidden_constants c =
     let t = subst (Turns (lists_in c.args.uses.now.items) c.copies.copying c.go_on.new.self) c.in-Entered.is c.in_ok-at.ensures.turns in
     let m = subst (Moves (lists_in c.args.uses.now.items) (frames_of c.copies.copying) (frames_of c.go_on.new.self)) c.in-Entered.is c.in_ok-at.ensures.moves in
-    entered_constants c.args.modules.now c.args.root c.args.totals.now.items c.args.uses.now.items c.requires.uses c.requires.plan.0 c.requires.plan.1 c.copies.copying c.go_on.new.self c.copies.making c.copies.around.items c.copies.invariant.2 c.copies.invariant.1 c.in-Entered.at t m c.index-modules-at.result c.index-in-Entered.result.now c.below_of-below.result c.index-modules-at.is c.index-in-Entered.ensures c.below_of-below.ensures.kinds c.below_of-below.ensures.constants
+    entered_constants c.args.modules.now c.args.root c.args.totals.now.items c.args.uses.now.items c.requires.uses c.requires.plan.0 c.requires.plan.1
+    c.copies.copying c.go_on.new.self c.copies.making c.copies.around.items c.copies.invariant.2 c.copies.invariant.1 c.in-Entered.at t m
+    c.index-modules-at.result c.index-in-Entered.result.now c.below_of-below.result c.index-modules-at.is c.index-in-Entered.ensures
+    c.below_of-below.ensures.kinds c.below_of-below.ensures.constants
 
 pub enter-requires-in-Entered-clause-kinds : goal.enter-requires-in-Entered-clause-kinds
-enter-requires-in-Entered-clause-kinds c = λ e. absurd (never_empty c.args.modules.now c.args.root c.args.totals.now.items c.args.uses.now.items c.requires.uses c.requires.plan.0 c.requires.plan.1 c.copies.copying c.go_on.new.self c.copies.making c.copies.around.items c.copies.invariant.2 c.copies.invariant.1 e)
+enter-requires-in-Entered-clause-kinds c = λ e. absurd (never_empty c.args.modules.now c.args.root c.args.totals.now.items c.args.uses.now.items
+    c.requires.uses c.requires.plan.0 c.requires.plan.1 c.copies.copying c.go_on.new.self c.copies.making c.copies.around.items c.copies.invariant.2
+    c.copies.invariant.1 e)
 
 pub enter-requires-in-Entered-clause-constants : goal.enter-requires-in-Entered-clause-constants
-enter-requires-in-Entered-clause-constants c = λ e. absurd (never_empty c.args.modules.now c.args.root c.args.totals.now.items c.args.uses.now.items c.requires.uses c.requires.plan.0 c.requires.plan.1 c.copies.copying c.go_on.new.self c.copies.making c.copies.around.items c.copies.invariant.2 c.copies.invariant.1 e)
+enter-requires-in-Entered-clause-constants c = λ e. absurd (never_empty c.args.modules.now c.args.root c.args.totals.now.items c.args.uses.now.items
+    c.requires.uses c.requires.plan.0 c.requires.plan.1 c.copies.copying c.go_on.new.self c.copies.making c.copies.around.items c.copies.invariant.2
+    c.copies.invariant.1 e)
 
 pub copies-preserved-in-Continue-branch-4 : goal.copies-preserved-in-Continue-branch-4
 copies-preserved-in-Continue-branch-4 c =
     let t = subst (Turns (lists_in c.args.uses.now.items) c.copies.copying c.go_on.new.self) c.in-Entered.is c.in_ok-at.ensures.turns in
-    let m = subst (Moves (lists_in c.args.uses.now.items) (frames_of c.copies.copying) (frames_of c.go_on.new.self)) c.in-Entered.is c.in_ok-at.ensures.moves in
-    (t.0, t.1 ∙ c.copies.invariant.1, turn_entered c.args.modules.now c.args.root c.args.totals.now.items c.args.uses.now.items c.requires.uses c.requires.plan.0 c.requires.plan.1 c.copies.copying c.go_on.new.self c.copies.making c.copies.around.items c.copies.invariant.2 c.copies.invariant.1 c.in-Entered.at t m c.index-modules-at.result c.index-in-Entered.result.now c.below_of-below.result c.index-modules-at.is c.index-in-Entered.ensures c.below_of-below.ensures.kinds c.below_of-below.ensures.constants c.enter-in-Entered.new.self c.enter-in-Entered.new.around.items c.in_ok-enter-in-Entered.ensures.made c.in_ok-enter-in-Entered.ensures.opened)
+    let m = subst (Moves (lists_in c.args.uses.now.items) (frames_of c.copies.copying) (frames_of c.go_on.new.self)) c.in-Entered.is c.in_ok-at.ensures.moves in (
+      t.0,
+      t.1 ∙ c.copies.invariant.1,
+      turn_entered c.args.modules.now c.args.root c.args.totals.now.items c.args.uses.now.items c.requires.uses
+          c.requires.plan.0 c.requires.plan.1 c.copies.copying c.go_on.new.self c.copies.making c.copies.around.items c.copies.invariant.2
+          c.copies.invariant.1 c.in-Entered.at t m c.index-modules-at.result c.index-in-Entered.result.now c.below_of-below.result c.index-modules-at.is
+          c.index-in-Entered.ensures c.below_of-below.ensures.kinds c.below_of-below.ensures.constants c.enter-in-Entered.new.self
+          c.enter-in-Entered.new.around.items c.in_ok-enter-in-Entered.ensures.made c.in_ok-enter-in-Entered.ensures.opened,
+    )
 
 pub leave-requires-clause-kinds : goal.leave-requires-clause-kinds
 leave-requires-clause-kinds c =
     let t = subst (Turns (lists_in c.args.uses.now.items) c.copies.copying c.go_on.new.self) c.in-Left.is c.in_ok-at.ensures.turns in
     let m = subst (Moves (lists_in c.args.uses.now.items) (frames_of c.copies.copying) (frames_of c.go_on.new.self)) c.in-Left.is c.in_ok-at.ensures.moves in
-    λ o rest e. (left_within c.args.modules.now c.args.root c.args.totals.now.items c.args.uses.now.items c.requires.uses c.requires.plan.0 c.requires.plan.1 c.copies.copying c.go_on.new.self c.copies.making c.copies.around.items c.copies.invariant.2 c.copies.invariant.1 c.in-Left.field-0 t m o rest e).0
+    λ o rest e. (left_within c.args.modules.now c.args.root c.args.totals.now.items c.args.uses.now.items c.requires.uses c.requires.plan.0
+    c.requires.plan.1 c.copies.copying c.go_on.new.self c.copies.making c.copies.around.items c.copies.invariant.2 c.copies.invariant.1
+    c.in-Left.field-0 t m o rest e).0
 
 pub leave-requires-clause-constants : goal.leave-requires-clause-constants
 leave-requires-clause-constants c =
     let t = subst (Turns (lists_in c.args.uses.now.items) c.copies.copying c.go_on.new.self) c.in-Left.is c.in_ok-at.ensures.turns in
     let m = subst (Moves (lists_in c.args.uses.now.items) (frames_of c.copies.copying) (frames_of c.go_on.new.self)) c.in-Left.is c.in_ok-at.ensures.moves in
-    λ o rest e. (left_within c.args.modules.now c.args.root c.args.totals.now.items c.args.uses.now.items c.requires.uses c.requires.plan.0 c.requires.plan.1 c.copies.copying c.go_on.new.self c.copies.making c.copies.around.items c.copies.invariant.2 c.copies.invariant.1 c.in-Left.field-0 t m o rest e).1
+    λ o rest e. (left_within c.args.modules.now c.args.root c.args.totals.now.items c.args.uses.now.items c.requires.uses c.requires.plan.0
+    c.requires.plan.1 c.copies.copying c.go_on.new.self c.copies.making c.copies.around.items c.copies.invariant.2 c.copies.invariant.1
+    c.in-Left.field-0 t m o rest e).1
 
 pub copies-preserved : goal.copies-preserved
 copies-preserved c =
     let t = subst (Turns (lists_in c.args.uses.now.items) c.copies.copying c.go_on.new.self) c.in-Left.is c.in_ok-at.ensures.turns in
-    let m = subst (Moves (lists_in c.args.uses.now.items) (frames_of c.copies.copying) (frames_of c.go_on.new.self)) c.in-Left.is c.in_ok-at.ensures.moves in
-    (t.0, t.1 ∙ c.copies.invariant.1, turn_left c.args.modules.now c.args.root c.args.totals.now.items c.args.uses.now.items c.requires.uses c.requires.plan.0 c.requires.plan.1 c.copies.copying c.go_on.new.self c.copies.making c.copies.around.items c.copies.invariant.2 c.copies.invariant.1 c.in-Left.field-0 t m c.leave.new.self c.leave.new.around.items c.in_ok-leave-in-Left.ensures)
+    let m = subst (Moves (lists_in c.args.uses.now.items) (frames_of c.copies.copying) (frames_of c.go_on.new.self)) c.in-Left.is c.in_ok-at.ensures.moves in (
+      t.0,
+      t.1 ∙ c.copies.invariant.1,
+      turn_left c.args.modules.now c.args.root c.args.totals.now.items c.args.uses.now.items c.requires.uses
+          c.requires.plan.0 c.requires.plan.1 c.copies.copying c.go_on.new.self c.copies.making c.copies.around.items c.copies.invariant.2
+          c.copies.invariant.1 c.in-Left.field-0 t m c.leave.new.self c.leave.new.around.items c.in_ok-leave-in-Left.ensures,
+    )
 
 pub leave-requires-in-Ended-clause-kinds : goal.leave-requires-in-Ended-clause-kinds
 leave-requires-in-Ended-clause-kinds c =
     let t = subst (Turns (lists_in c.args.uses.now.items) c.copies.copying c.go_on.new.self) c.in-Ended.is c.in_ok-at.ensures.turns in
     let m = subst (Moves (lists_in c.args.uses.now.items) (frames_of c.copies.copying) (frames_of c.go_on.new.self)) c.in-Ended.is c.in_ok-at.ensures.moves in
-    λ o rest e. (ended_within c.args.modules.now c.args.root c.args.totals.now.items c.args.uses.now.items c.requires.uses c.requires.plan.0 c.requires.plan.1 c.copies.copying c.go_on.new.self c.copies.making c.copies.around.items c.copies.invariant.2 c.copies.invariant.1 c.in-Ended.field-0 t m o rest e).0
+    λ o rest e. (ended_within c.args.modules.now c.args.root c.args.totals.now.items c.args.uses.now.items c.requires.uses c.requires.plan.0
+    c.requires.plan.1 c.copies.copying c.go_on.new.self c.copies.making c.copies.around.items c.copies.invariant.2 c.copies.invariant.1
+    c.in-Ended.field-0 t m o rest e).0
 
 pub leave-requires-in-Ended-clause-constants : goal.leave-requires-in-Ended-clause-constants
 leave-requires-in-Ended-clause-constants c =
     let t = subst (Turns (lists_in c.args.uses.now.items) c.copies.copying c.go_on.new.self) c.in-Ended.is c.in_ok-at.ensures.turns in
     let m = subst (Moves (lists_in c.args.uses.now.items) (frames_of c.copies.copying) (frames_of c.go_on.new.self)) c.in-Ended.is c.in_ok-at.ensures.moves in
-    λ o rest e. (ended_within c.args.modules.now c.args.root c.args.totals.now.items c.args.uses.now.items c.requires.uses c.requires.plan.0 c.requires.plan.1 c.copies.copying c.go_on.new.self c.copies.making c.copies.around.items c.copies.invariant.2 c.copies.invariant.1 c.in-Ended.field-0 t m o rest e).1
+    λ o rest e. (ended_within c.args.modules.now c.args.root c.args.totals.now.items c.args.uses.now.items c.requires.uses c.requires.plan.0
+    c.requires.plan.1 c.copies.copying c.go_on.new.self c.copies.making c.copies.around.items c.copies.invariant.2 c.copies.invariant.1
+    c.in-Ended.field-0 t m o rest e).1
 
 pub returns-in-Ended-clause-copied : goal.returns-in-Ended-clause-copied
 returns-in-Ended-clause-copied c =
     let t = subst (Turns (lists_in c.args.uses.now.items) c.copies.copying c.go_on.new.self) c.in-Ended.is c.in_ok-at.ensures.turns in
     let m = subst (Moves (lists_in c.args.uses.now.items) (frames_of c.copies.copying) (frames_of c.go_on.new.self)) c.in-Ended.is c.in_ok-at.ensures.moves in
-    let (copied, are, order, clauses) = turn_ended c.args.modules.now c.args.root c.args.totals.now.items c.args.uses.now.items c.requires.uses c.requires.plan.0 c.requires.plan.1 c.copies.copying c.go_on.new.self c.copies.making c.copies.around.items c.copies.invariant.2 c.copies.invariant.1 c.in-Ended.field-0 t m c.leave-in-Ended.new.self c.leave-in-Ended.new.around.items c.in_ok-leave-in-Ended.ensures in
+    let (copied, are, order, clauses) = turn_ended c.args.modules.now c.args.root c.args.totals.now.items c.args.uses.now.items c.requires.uses
+    c.requires.plan.0 c.requires.plan.1 c.copies.copying c.go_on.new.self c.copies.making c.copies.around.items c.copies.invariant.2
+    c.copies.invariant.1 c.in-Ended.field-0 t m c.leave-in-Ended.new.self c.leave-in-Ended.new.around.items c.in_ok-leave-in-Ended.ensures in
     (copied, are, order, ap (λ b. map (formula_of b) c.finish.result.program.clauses.items) c.finish.ensures.bank ∙ ap (map (formula_of c.leave-in-Ended.new.self.bank)) c.finish.ensures.same ∙ clauses)
 
 pub below_of-requires : goal.below_of-requires

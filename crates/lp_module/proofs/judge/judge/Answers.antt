@@ -12,7 +12,9 @@ pub loop-init : goal.loop-init
 loop-init c = (
   extends_same c.args.bank.now,
   c.requires.measured,
-  judging_begun c.args.bank.now c.args.heads.now (whole c.args.goal (tree c.args.bank.now c.args.formula.0)) (record { binders = c.new-parts.result.binders; tasks = c.push.new.self }) (record { goal = c.args.goal; formula = c.args.formula; binder = 0; depth = 1 }) (record { deep = false; wide = false; in_term = false; other = false })
+  judging_begun c.args.bank.now c.args.heads.now (whole c.args.goal (tree c.args.bank.now c.args.formula.0))
+      (record { binders = c.new-parts.result.binders; tasks = c.push.new.self }) (record
+      { goal = c.args.goal; formula = c.args.formula; binder = 0; depth = 1 }) (record { deep = false; wide = false; in_term = false; other = false })
       (c.in_ok-push.ensures.items ∙ ap (λ l. l ++ (record { goal = c.args.goal; formula = c.args.formula; binder = 0; depth = 1 }) ∷ []) c.new-parts.ensures.tasks)
       (record { within = c.requires.within; goal = refl; around = none_around; depth = refl; formula = refl }) (omega arith) refl,
 )
@@ -21,7 +23,9 @@ pub loop-preserved : goal.loop-preserved
 loop-preserved c = (
   extends-trans c.args.bank.now c.loop.bank c.push_parts.new.bank c.loop.invariant.0 c.in_ok-push_parts-in-Some.ensures.kept,
   measured_later c.loop.bank c.push_parts.new.bank c.own.new.measures c.in_ok-push_parts-in-Some.ensures.kept c.in_ok-found-in-Some.ensures.measured,
-  judged c.loop.bank c.push_parts.new.bank c.args.heads.now (whole c.args.goal (tree c.args.bank.now c.args.formula.0)) c.loop.parts (record { binders = c.loop.parts.binders; tasks = c.pop.new.self }) c.push_parts.new.self c.pop.new.self.items c.in-Some.task c.connective_of-connective.result c.loop.verdict c.in_ok-found-in-Some.found c.with-verdict.result
+  judged c.loop.bank c.push_parts.new.bank c.args.heads.now (whole c.args.goal (tree c.args.bank.now c.args.formula.0)) c.loop.parts
+      (record { binders = c.loop.parts.binders; tasks = c.pop.new.self }) c.push_parts.new.self c.pop.new.self.items c.in-Some.task
+      c.connective_of-connective.result c.loop.verdict c.in_ok-found-in-Some.found c.with-verdict.result
       c.loop.invariant.2 c.in-Some.ensures.items refl refl c.if-verdict.false c.connective_of-connective.ensures.tree c.in_ok-found-in-Some.ensures.own c.with-verdict.ensures c.in_ok-push_parts-in-Some.ensures.kept c.in_ok-push_parts-in-Some.ensures.pushed,
 )
 

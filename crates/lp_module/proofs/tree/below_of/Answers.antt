@@ -9,8 +9,12 @@ pub loop-at-preserved : goal.loop-at-preserved
 loop-at-preserved c =
     let h : c.loop-at.at < length c.args.out.now.items = omega (arith, c.loop-at-test.true, c.len-at-end.ensures, c.args.out.now.ok) in
     let lt = subst (λ k. k < length c.args.totals.now.items) (sym c.index.ensures) (c.requires c.loop-at.at c.index.result.now h) in (
-      below_more _ c.args.out.now.items c.loop-at.at c.index.result.now c.loop-at.all.kinds c.index-in-loop-at.result.now.kinds c.with-all.result.kinds h c.index.ensures (in_all_at (λ h. h.kinds) c.args.totals.now.items c.index.result.now c.index-in-loop-at.result.now lt c.index-in-loop-at.ensures) c.loop-at.invariant.0 c.with-all.ensures.kinds,
-      below_more _ c.args.out.now.items c.loop-at.at c.index.result.now c.loop-at.all.constants c.index-in-loop-at.result.now.constants c.with-all.result.constants h c.index.ensures (in_all_at (λ h. h.constants) c.args.totals.now.items c.index.result.now c.index-in-loop-at.result.now lt c.index-in-loop-at.ensures) c.loop-at.invariant.1 c.with-all.ensures.constants,
+      below_more _ c.args.out.now.items c.loop-at.at c.index.result.now c.loop-at.all.kinds c.index-in-loop-at.result.now.kinds
+          c.with-all.result.kinds h c.index.ensures (in_all_at (λ h. h.kinds) c.args.totals.now.items c.index.result.now c.index-in-loop-at.result.now
+          lt c.index-in-loop-at.ensures) c.loop-at.invariant.0 c.with-all.ensures.kinds,
+      below_more _ c.args.out.now.items c.loop-at.at c.index.result.now c.loop-at.all.constants c.index-in-loop-at.result.now.constants
+          c.with-all.result.constants h c.index.ensures (in_all_at (λ h. h.constants) c.args.totals.now.items c.index.result.now
+          c.index-in-loop-at.result.now lt c.index-in-loop-at.ensures) c.loop-at.invariant.1 c.with-all.ensures.constants,
     )
 
 pub returns-clause-kinds : goal.returns-clause-kinds

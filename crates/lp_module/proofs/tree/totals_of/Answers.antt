@@ -30,10 +30,16 @@ loop-at-preserved c =
       behind_more us order c.loop-at.at place h c.index-place.ensures c.loop-at.invariant.1,
       closed_more us order c.loop-at.at place h c.index-place.ensures c.loop-at.invariant.1 c.loop-at.invariant.2,
       totals_step us order c.loop-at.at place h c.index-place.ensures c.loop-at.invariant.1 c.loop-at.invariant.2 (own_kinds c.args.modules.now) (λ h. h.kinds) c.loop-at.totals.items c.set_total.new.totals.items c.with-total.result c.set_total.ensures
-          (total_of (own_kinds c.args.modules.now) (in_all (λ h. h.kinds) c.loop-at.totals.items) us place c.of.result.kinds c.below_of-below.result.kinds c.with-total.result.kinds c.index.result.now.items (c.of.ensures.kinds ∙ count_at (λ m. length m.hidden_kinds.items) c.args.modules.now place c.index-modules-place.result lt c.index-modules-place.is) row c.below_of-below.ensures.kinds c.with-total.ensures.kinds)
+          (total_of (own_kinds c.args.modules.now) (in_all (λ h. h.kinds) c.loop-at.totals.items) us place c.of.result.kinds
+          c.below_of-below.result.kinds c.with-total.result.kinds c.index.result.now.items
+          (c.of.ensures.kinds ∙ count_at (λ m. length m.hidden_kinds.items) c.args.modules.now place c.index-modules-place.result lt
+          c.index-modules-place.is) row c.below_of-below.ensures.kinds c.with-total.ensures.kinds)
           c.loop-at.invariant.3,
       totals_step us order c.loop-at.at place h c.index-place.ensures c.loop-at.invariant.1 c.loop-at.invariant.2 (own_constants c.args.modules.now) (λ h. h.constants) c.loop-at.totals.items c.set_total.new.totals.items c.with-total.result c.set_total.ensures
-          (total_of (own_constants c.args.modules.now) (in_all (λ h. h.constants) c.loop-at.totals.items) us place c.of.result.constants c.below_of-below.result.constants c.with-total.result.constants c.index.result.now.items (c.of.ensures.constants ∙ count_at (λ m. length m.hidden_constants.items) c.args.modules.now place c.index-modules-place.result lt c.index-modules-place.is) row c.below_of-below.ensures.constants c.with-total.ensures.constants)
+          (total_of (own_constants c.args.modules.now) (in_all (λ h. h.constants) c.loop-at.totals.items) us place c.of.result.constants
+          c.below_of-below.result.constants c.with-total.result.constants c.index.result.now.items
+          (c.of.ensures.constants ∙ count_at (λ m. length m.hidden_constants.items) c.args.modules.now place c.index-modules-place.result lt
+          c.index-modules-place.is) row c.below_of-below.ensures.constants c.with-total.ensures.constants)
           c.loop-at.invariant.4,
     )
 

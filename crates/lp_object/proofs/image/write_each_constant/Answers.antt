@@ -11,7 +11,9 @@ pub loop-constant-init : goal.loop-constant-init
 loop-constant-init c = sym (more_nothing c.args.writer.now)
 
 pub loop-constant-preserved : goal.loop-constant-preserved
-loop-constant-preserved c = entry_written (plain_image_constant c.args.bank.now) (spelled_image_constant Four) c.args.constants.now c.loop-constant.constant-index _ _ _ _ (get_read c.args.constants.now c.args.constants.now c.loop-constant.constant-index _ _ refl (omega (arith, c.loop-constant-test.true)) c.constant-item.is) c.loop-constant.invariant c.in_ok-write_constant.ensures
+loop-constant-preserved c = entry_written (plain_image_constant c.args.bank.now) (spelled_image_constant Four) c.args.constants.now
+    c.loop-constant.constant-index _ _ _ _ (get_read c.args.constants.now c.args.constants.now c.loop-constant.constant-index _ _ refl
+    (omega (arith, c.loop-constant-test.true)) c.constant-item.is) c.loop-constant.invariant c.in_ok-write_constant.ensures
 
 pub returns : goal.returns
 returns c = entries_written (plain_image_constant c.args.bank.now) (spelled_image_constant Four) c.args.constants.now c.loop-constant.constant-index _ _ (omega (arith, c.loop-constant-test.false)) c.loop-constant.invariant

@@ -5,4 +5,6 @@ use Rattle.lp_object.specs.inner.Parts.{type_top_of}
 use Rattle.lp_object.proofs.schemes.read_parts.Given as goal
 
 abbrev pub invariant-loop : goal.invariant-loop
-invariant-loop l = (l.wanted ≤ 1 + 255 * l.counter) × (nested_at (λ one. type_top_at (scope l.width l.arities l.variables)) types_below (map type_top_of l.parts.items) (l.most - l.counter) (replicate l.wanted tt) (left_of l.reader) ≡ type_tops_at (scope l.width l.arities l.variables) (left_of l.fn.reader))
+invariant-loop l = (l.wanted ≤ 1 + 255 * l.counter) × (nested_at (λ one. type_top_at (scope l.width l.arities l.variables)) types_below
+    (map type_top_of l.parts.items) (l.most - l.counter) (replicate l.wanted tt) (left_of l.reader) ≡ type_tops_at
+    (scope l.width l.arities l.variables) (left_of l.fn.reader))

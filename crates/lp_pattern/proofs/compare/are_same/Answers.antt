@@ -14,7 +14,9 @@ use Rattle.lp_pattern.proofs.compare.are_same.Goals as goal
 pub pairs-init : goal.pairs-init
 pairs-init c = record {
   kept = extends_same c.args.bank.now;
-  left = start_known (length c.args.bank.now.terms) c.args.level c.args.lefts.now c.args.rights.now c.push_pairs.new.left.items (c.in_ok-push_pairs.ensures ∙ ap (λ l. l ++ reverse (pairs_of c.args.level c.args.lefts.now c.args.rights.now)) c.new-left.ensures.items) c.requires.lefts c.requires.rights;
+  left = start_known (length c.args.bank.now.terms) c.args.level c.args.lefts.now c.args.rights.now c.push_pairs.new.left.items
+      (c.in_ok-push_pairs.ensures ∙ ap (λ l. l ++ reverse (pairs_of c.args.level c.args.lefts.now c.args.rights.now)) c.new-left.ensures.items)
+      c.requires.lefts c.requires.rights;
   rest = λ r i n. are_start c.args.bank.now r c.args.units.now n c.args.level c.args.lefts.now c.args.rights.now c.push_pairs.new.left.items (c.in_ok-push_pairs.ensures ∙ ap (λ l. l ++ reverse (pairs_of c.args.level c.args.lefts.now c.args.rights.now)) c.new-left.ensures.items);
 }
 

@@ -28,7 +28,9 @@ parts-init c = record {
 
 pub returns-in_default-clause-pruned : goal.returns-in_default-clause-pruned
 returns-in_default-clause-pruned c = λ i t r h levels w n p e.
-    pruned_there (side_of c.args.side.now) (record { closing = r; levels = levels; next = c.args.next.now; bindings = c.args.bindings.now }) n c.parts.bank c.parts.bindings c.parts.next c.args.term c.parts.left.items p (nothing c.parts.left.items (omega (arith, c.in_default.ensures.cases.0, c.parts.left.ok)))
+    pruned_there (side_of c.args.side.now) (record { closing = r; levels = levels; next = c.args.next.now; bindings = c.args.bindings.now }) n
+    c.parts.bank c.parts.bindings c.parts.next c.args.term c.parts.left.items p
+    (nothing c.parts.left.items (omega (arith, c.in_default.ensures.cases.0, c.parts.left.ok)))
     (c.parts.invariant.prunes i t r h levels w n p e)
 
 pub parts-preserved : goal.parts-preserved

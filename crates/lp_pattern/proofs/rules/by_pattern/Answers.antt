@@ -115,7 +115,9 @@ returns-in-Some-clause-done c =
 pub returns-in_default-right-clause-done : goal.returns-in_default-right-clause-done
 returns-in_default-right-clause-done c = λ r o levels n p h w.
     let i = reading_kept c.args.bank.now c.side_of.new.bank c.args.bindings.now r c.in_ok-left.ensures.kept o.reading in
-    no_side_done c.args.bank.now c.side_of-2.new.bank c.args.bindings.now r c.args.one.now c.args.other.now c.args.level n c.args.next.now p (extends-trans c.args.bank.now c.side_of.new.bank c.side_of-2.new.bank c.in_ok-left.ensures.kept c.in_ok-right.ensures.kept) c.requires.one c.requires.other h o levels w
+    no_side_done c.args.bank.now c.side_of-2.new.bank c.args.bindings.now r c.args.one.now c.args.other.now c.args.level n c.args.next.now p
+    (extends-trans c.args.bank.now c.side_of.new.bank c.side_of-2.new.bank c.in_ok-left.ensures.kept c.in_ok-right.ensures.kept) c.requires.one
+    c.requires.other h o levels w
     (transport (λ z. IsSideOf n (view c.args.bank.now r c.args.one.now) c.args.level z) c.in_default.is (c.in_ok-left.ensures.side r o.reading o.shut n))
     (side_before c.args.bank.now c.side_of.new.bank c.args.bindings.now r c.args.one.now c.args.other.now c.args.level n c.args.next.now c.args.units.now p c.in_ok-left.ensures.kept c.requires.one c.requires.other h c.args.other.now None c.requires.other
     (transport (λ z. IsSideOf n (view c.side_of.new.bank r c.args.other.now) c.args.level z) c.in_default-right.is (c.in_ok-right.ensures.side r i o.shut n)))

@@ -11,7 +11,9 @@ on_one_variable-requires-clause-same c = sym c.have_same_variable.ensures ∙ c.
 pub returns-clause-judged : goal.returns-clause-judged
 returns-clause-judged c =
     if_ok c.by_pattern.result _ _
-    (λ done f r i g n p h. transport (IsJudged done c.args.units.now c.by_pattern.new.units) (sym (five n c.args.next.now p c.args.bank.now r c.args.one.now.head c.args.other.now.head c.args.one.now.top c.args.other.now.top c.args.one.now.arguments.items c.args.other.now.arguments.items c.requires.flexible
+    (λ done f r i g n p h. transport (IsJudged done c.args.units.now c.by_pattern.new.units)
+    (sym (five n c.args.next.now p c.args.bank.now r c.args.one.now.head c.args.other.now.head c.args.one.now.top c.args.other.now.top
+    c.args.one.now.arguments.items c.args.other.now.arguments.items c.requires.flexible
     (sym c.have_same_variable.ensures ∙ c.if-have_same_variable.false))) (f r i g n p h))
     c.by_pattern.ensures.judged
 

@@ -17,7 +17,9 @@ use Rattle.lp_pattern.proofs.rules.decompose.Goals as goal
 pub returns-then-len-clause-refused : goal.returns-then-len-clause-refused
 returns-then-len-clause-refused c = λ r i g n.
     decompose_fails n c.args.level c.args.units.now (under c.args.bank.now r c.args.one.now.top) (under c.args.bank.now r c.args.other.now.top) (map (under c.args.bank.now r) c.args.one.now.arguments.items) (map (under c.args.bank.now r) c.args.other.now.arguments.items)
-    (lengths_differ c.args.bank.now r (same_name (under c.args.bank.now r c.args.one.now.top) (under c.args.bank.now r c.args.other.now.top)) c.args.one.now.arguments.items c.args.other.now.arguments.items (λ e. c.if-len.true (omega (arith, e, c.len.ensures, c.len-2.ensures, c.args.one.now.arguments.ok, c.args.other.now.arguments.ok))))
+    (lengths_differ c.args.bank.now r (same_name (under c.args.bank.now r c.args.one.now.top) (under c.args.bank.now r c.args.other.now.top))
+    c.args.one.now.arguments.items c.args.other.now.arguments.items (λ e. c.if-len.true
+    (omega (arith, e, c.len.ensures, c.len-2.ensures, c.args.one.now.arguments.ok, c.args.other.now.arguments.ok))))
 
 pub returns-then-not-is_named-clause-refused : goal.returns-then-not-is_named-clause-refused
 returns-then-not-is_named-clause-refused c = λ r i g n.
@@ -31,7 +33,9 @@ returns-then-not-is_named-clause-refused c = λ r i g n.
 pub returns-in_err-solve_types-clause-refused : goal.returns-in_err-solve_types-clause-refused
 returns-in_err-solve_types-clause-refused c =
     passed_up c.from_residual-in_err-solve_types.result c.in_err-solve_types.field-0.0
-    (λ e. (r : Closing) → IsReading c.args.bank.now c.args.bindings.now r → IsShut r → (n : ℕ) → IsRuledOut n e c.args.units.now (decompose n c.args.level (under c.args.bank.now r c.args.one.now.top) (map (under c.args.bank.now r) c.args.one.now.arguments.items) (under c.args.bank.now r c.args.other.now.top) (map (under c.args.bank.now r) c.args.other.now.arguments.items)))
+    (λ e. (r : Closing) → IsReading c.args.bank.now c.args.bindings.now r → IsShut r → (n : ℕ) → IsRuledOut n e c.args.units.now
+    (decompose n c.args.level (under c.args.bank.now r c.args.one.now.top) (map (under c.args.bank.now r) c.args.one.now.arguments.items)
+    (under c.args.bank.now r c.args.other.now.top) (map (under c.args.bank.now r) c.args.other.now.arguments.items)))
     c.from_residual-in_err-solve_types.ensures.1
     (λ r i g n. decompose_out c.args.bank.now r (tree c.args.bank.now c.args.one.now.top.0) (tree c.args.bank.now c.args.other.now.top.0)
     c.have_same_name-is_named.result (map (under c.args.bank.now r) c.args.one.now.arguments.items)

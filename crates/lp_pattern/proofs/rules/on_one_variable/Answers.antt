@@ -64,7 +64,9 @@ returns-clause-refused c =
     (λ e f r o levels n p h known.
     other_ruled c.args.bank.now c.args.bindings.now r c.args.one.now c.args.other.now c.args.level n c.args.next.now c.args.units.now p h w.0 w.1 w.2 w.3 w.4 c.are_same.new.units c.in_ok-is_same.is_same e c.if-is_same.false
     (transport (λ o. IsComparedTo c.in_ok-is_same.is_same c.args.units.now c.are_same.new.units (compare_all n c.args.level (map (under c.args.bank.now r) o) (map (under c.args.bank.now r) c.args.other.now.arguments.items))) c.as_slice-ones.ensures.value
-    (transport (λ o. IsComparedTo c.in_ok-is_same.is_same c.args.units.now c.are_same.new.units (compare_all n c.args.level (map (under c.args.bank.now r) c.as_slice-ones.result.now) (map (under c.args.bank.now r) o))) c.as_slice-others.ensures.value (c.in_ok-is_same.ensures.compared r o.reading n)))
+    (transport (λ o. IsComparedTo c.in_ok-is_same.is_same c.args.units.now c.are_same.new.units
+    (compare_all n c.args.level (map (under c.args.bank.now r) c.as_slice-ones.result.now) (map (under c.args.bank.now r) o)))
+    c.as_slice-others.ensures.value (c.in_ok-is_same.ensures.compared r o.reading n)))
     (four_out_before c.args.bank.now c.are_same.new.bank c.args.bindings.now r c.args.one.now c.args.other.now c.args.level n c.args.next.now
     c.are_same.new.units p c.in_ok-is_same.ensures.kept c.requires.one c.requires.other h w.0 w.1 w.2 w.3 e
     (f r (open_kept c.args.bank.now c.are_same.new.bank c.args.bindings.now c.args.next.now r c.in_ok-is_same.ensures.kept o) levels n p
@@ -77,7 +79,9 @@ returns-then-is_same-clause-done c =
     let w = one_of c.args.one.now.head c.args.other.now.head (length c.args.one.now.arguments.items) (length c.args.other.now.arguments.items) c.requires.same in
     λ r o levels n p h v. same_done c.args.bank.now c.args.bindings.now r c.args.one.now c.args.other.now c.args.level n c.args.next.now c.args.units.now p h w.0 w.1 w.2 w.3 w.4 c.are_same.new.units c.in_ok-is_same.is_same levels c.are_same.new.bank c.if-is_same.true
     (transport (λ o. IsComparedTo c.in_ok-is_same.is_same c.args.units.now c.are_same.new.units (compare_all n c.args.level (map (under c.args.bank.now r) o) (map (under c.args.bank.now r) c.args.other.now.arguments.items))) c.as_slice-ones.ensures.value
-    (transport (λ o. IsComparedTo c.in_ok-is_same.is_same c.args.units.now c.are_same.new.units (compare_all n c.args.level (map (under c.args.bank.now r) c.as_slice-ones.result.now) (map (under c.args.bank.now r) o))) c.as_slice-others.ensures.value (c.in_ok-is_same.ensures.compared r o.reading n)))
+    (transport (λ o. IsComparedTo c.in_ok-is_same.is_same c.args.units.now c.are_same.new.units
+    (compare_all n c.args.level (map (under c.args.bank.now r) c.as_slice-ones.result.now) (map (under c.args.bank.now r) o)))
+    c.as_slice-others.ensures.value (c.in_ok-is_same.ensures.compared r o.reading n)))
     c.in_ok-is_same.ensures.kept o
 
 pub returns-clause-done : goal.returns-clause-done
@@ -87,7 +91,11 @@ returns-clause-done c =
     (λ done f r o levels n p h v.
     other_done c.args.bank.now c.args.bindings.now r c.args.one.now c.args.other.now c.args.level n c.args.next.now c.args.units.now p h w.0 w.1 w.2 w.3 w.4 c.are_same.new.units c.in_ok-is_same.is_same done levels c.on_others.new.bank c.on_others.new.bindings c.on_others.new.next c.if-is_same.false
     (transport (λ o. IsComparedTo c.in_ok-is_same.is_same c.args.units.now c.are_same.new.units (compare_all n c.args.level (map (under c.args.bank.now r) o) (map (under c.args.bank.now r) c.args.other.now.arguments.items))) c.as_slice-ones.ensures.value
-    (transport (λ o. IsComparedTo c.in_ok-is_same.is_same c.args.units.now c.are_same.new.units (compare_all n c.args.level (map (under c.args.bank.now r) c.as_slice-ones.result.now) (map (under c.args.bank.now r) o))) c.as_slice-others.ensures.value (c.in_ok-is_same.ensures.compared r o.reading n)))
+    (transport (λ o. IsComparedTo c.in_ok-is_same.is_same c.args.units.now c.are_same.new.units
+    (compare_all n c.args.level (map (under c.args.bank.now r) c.as_slice-ones.result.now) (map (under c.args.bank.now r) o)))
+    c.as_slice-others.ensures.value (c.in_ok-is_same.ensures.compared r o.reading n)))
     (four_done c.args.bank.now c.are_same.new.bank c.args.bindings.now r c.args.one.now c.args.other.now c.args.level n c.args.next.now p c.in_ok-is_same.ensures.kept c.requires.one c.requires.other h o levels v w.0 w.1 w.2 w.3 done c.on_others.new.bank c.on_others.new.bindings c.on_others.new.next
-    (f r (open_kept c.args.bank.now c.are_same.new.bank c.args.bindings.now c.args.next.now r c.in_ok-is_same.ensures.kept o) levels n p (pair_kept c.args.bank.now c.are_same.new.bank c.args.bindings.now r c.args.level c.args.one.now c.args.other.now p c.in_ok-is_same.ensures.kept c.requires.one c.requires.other h) v w.0 w.1 w.2 w.3)))
+    (f r (open_kept c.args.bank.now c.are_same.new.bank c.args.bindings.now c.args.next.now r c.in_ok-is_same.ensures.kept o) levels n p
+    (pair_kept c.args.bank.now c.are_same.new.bank c.args.bindings.now r c.args.level c.args.one.now c.args.other.now p
+    c.in_ok-is_same.ensures.kept c.requires.one c.requires.other h) v w.0 w.1 w.2 w.3)))
     c.on_others.ensures.done

@@ -17,9 +17,13 @@ use Rattle.lp_pattern.proofs.rules.on_others.Goals as goal
 pub returns-in_err-left-clause-refused : goal.returns-in_err-left-clause-refused
 returns-in_err-left-clause-refused c =
     passed_up c.from_residual.result c.in_err-left.field-0.0
-    (λ e. (r : Closing) → IsOpenReading c.args.bank.now c.args.bindings.now c.args.next.now r → (levels : ℕ → ℕ) → (n : ℕ) (p : Equation) → IsSeenPair c.args.bank.now r c.args.level c.args.one.now c.args.other.now p → IsKnownPair levels c.args.next.now p → (x l : ℕ) → c.args.one.now.head ≡ Head.Variable x l → c.args.other.now.head ≡ Head.Variable x l →
+    (λ e. (r : Closing) → IsOpenReading c.args.bank.now c.args.bindings.now c.args.next.now r → (levels : ℕ → ℕ) → (n : ℕ) (p : Equation) → IsSeenPair
+    c.args.bank.now r c.args.level c.args.one.now c.args.other.now p → IsKnownPair levels c.args.next.now p → (x l : ℕ) → c.args.one.now.head ≡
+    Head.Variable x l → c.args.other.now.head ≡ Head.Variable x l →
     IsRuledOut n e c.args.units.now (by_rule_4 n c.args.next.now p x l (map (under c.args.bank.now r) c.args.one.now.arguments.items) (map (under c.args.bank.now r) c.args.other.now.arguments.items)))
-    c.from_residual.ensures.1 (λ r o levels n p h known x l y z. left_test_out c.args.bank.now c.side_of.new.bank c.args.bindings.now r c.args.one.now c.args.other.now c.args.level n c.args.next.now c.args.units.now p c.in_err-left.ensures.kept c.requires.one c.requires.other h x l y z c.in_err-left.field-0.0 (c.in_err-left.ensures.refused r o.reading o.shut n))
+    c.from_residual.ensures.1 (λ r o levels n p h known x l y z. left_test_out c.args.bank.now c.side_of.new.bank c.args.bindings.now r c.args.one.now
+    c.args.other.now c.args.level n c.args.next.now c.args.units.now p c.in_err-left.ensures.kept c.requires.one c.requires.other h x l y z
+    c.in_err-left.field-0.0 (c.in_err-left.ensures.refused r o.reading o.shut n))
 
 pub by_pattern-requires-clause-one : goal.by_pattern-requires-clause-one
 by_pattern-requires-clause-one c = looked_stays c.args.bank.now c.side_of.new.bank c.args.bindings.now c.args.one.now c.in_ok-left.ensures.kept c.requires.one
@@ -31,7 +35,9 @@ pub returns-in_default-clause-judged : goal.returns-in_default-clause-judged
 returns-in_default-clause-judged c =
     if_ok c.by_pattern.result _ _
     (λ done f r i g n p h x l y z.
-    open_judged c.args.bank.now c.side_of.new.bank c.args.bindings.now r c.args.one.now c.args.other.now c.args.level n c.args.next.now c.args.units.now p c.in_ok-left.ensures.kept c.requires.one c.requires.other h x l y z c.by_pattern.new.units done (transport (λ z. IsSideOf n (view c.args.bank.now r c.args.one.now) c.args.level z) c.in_default.is (c.in_ok-left.ensures.side r i g n))
+    open_judged c.args.bank.now c.side_of.new.bank c.args.bindings.now r c.args.one.now c.args.other.now c.args.level n c.args.next.now
+    c.args.units.now p c.in_ok-left.ensures.kept c.requires.one c.requires.other h x l y z c.by_pattern.new.units done
+    (transport (λ z. IsSideOf n (view c.args.bank.now r c.args.one.now) c.args.level z) c.in_default.is (c.in_ok-left.ensures.side r i g n))
     (five_before c.args.bank.now c.side_of.new.bank c.args.bindings.now r c.args.one.now c.args.other.now c.args.level n c.args.next.now
     c.args.units.now p c.in_ok-left.ensures.kept c.requires.one c.requires.other h c.by_pattern.new.units done
     (f r (reading_kept c.args.bank.now c.side_of.new.bank c.args.bindings.now r c.in_ok-left.ensures.kept i) g n p
@@ -43,7 +49,10 @@ pub returns-in_default-clause-refused : goal.returns-in_default-clause-refused
 returns-in_default-clause-refused c =
     if_err c.by_pattern.result _ _
     (λ e f r o levels n p h known x l y z.
-    open_ruled c.args.bank.now c.side_of.new.bank c.args.bindings.now r c.args.one.now c.args.other.now c.args.level n c.args.next.now c.args.units.now p c.in_ok-left.ensures.kept c.requires.one c.requires.other h x l y z e (transport (λ z. IsSideOf n (view c.args.bank.now r c.args.one.now) c.args.level z) c.in_default.is (c.in_ok-left.ensures.side r o.reading o.shut n))
+    open_ruled c.args.bank.now c.side_of.new.bank c.args.bindings.now r c.args.one.now c.args.other.now c.args.level n c.args.next.now
+    c.args.units.now p c.in_ok-left.ensures.kept c.requires.one c.requires.other h x l y z e
+    (transport (λ z. IsSideOf n (view c.args.bank.now r c.args.one.now) c.args.level z) c.in_default.is
+    (c.in_ok-left.ensures.side r o.reading o.shut n))
     (five_out_before c.args.bank.now c.side_of.new.bank c.args.bindings.now r c.args.one.now c.args.other.now c.args.level n c.args.next.now
     c.args.units.now p c.in_ok-left.ensures.kept c.requires.one c.requires.other h e
     (f r (open_kept c.args.bank.now c.side_of.new.bank c.args.bindings.now c.args.next.now r c.in_ok-left.ensures.kept o) levels n p
@@ -57,7 +66,9 @@ side_of-requires-2 c = record { looked = looked_stays c.args.bank.now c.side_of.
 pub returns-in_err-right-clause-refused : goal.returns-in_err-right-clause-refused
 returns-in_err-right-clause-refused c =
     passed_up c.from_residual-in_err-right.result c.in_err-right.field-0.0
-    (λ e. (r : Closing) → IsOpenReading c.args.bank.now c.args.bindings.now c.args.next.now r → (levels : ℕ → ℕ) → (n : ℕ) (p : Equation) → IsSeenPair c.args.bank.now r c.args.level c.args.one.now c.args.other.now p → IsKnownPair levels c.args.next.now p → (x l : ℕ) → c.args.one.now.head ≡ Head.Variable x l → c.args.other.now.head ≡ Head.Variable x l →
+    (λ e. (r : Closing) → IsOpenReading c.args.bank.now c.args.bindings.now c.args.next.now r → (levels : ℕ → ℕ) → (n : ℕ) (p : Equation) → IsSeenPair
+    c.args.bank.now r c.args.level c.args.one.now c.args.other.now p → IsKnownPair levels c.args.next.now p → (x l : ℕ) → c.args.one.now.head ≡
+    Head.Variable x l → c.args.other.now.head ≡ Head.Variable x l →
     IsRuledOut n e c.args.units.now (by_rule_4 n c.args.next.now p x l (map (under c.args.bank.now r) c.args.one.now.arguments.items) (map (under c.args.bank.now r) c.args.other.now.arguments.items)))
     c.from_residual-in_err-right.ensures.1
     (λ r o levels n p h known x l y z.
@@ -136,7 +147,9 @@ returns-in_default-clause-done c =
     open_done c.args.bank.now c.side_of.new.bank c.args.bindings.now r c.args.one.now c.args.other.now c.args.level n c.args.next.now p c.in_ok-left.ensures.kept c.requires.one c.requires.other h o levels w x l y z done c.by_pattern.new.bank c.by_pattern.new.bindings c.by_pattern.new.next
     (transport (λ z. IsSideOf n (view c.args.bank.now r c.args.one.now) c.args.level z) c.in_default.is (c.in_ok-left.ensures.side r o.reading o.shut n))
     (five_done c.args.bank.now c.side_of.new.bank c.args.bindings.now r c.args.one.now c.args.other.now c.args.level n c.args.next.now p c.in_ok-left.ensures.kept c.requires.one c.requires.other h o levels w done c.by_pattern.new.bank c.by_pattern.new.bindings c.by_pattern.new.next
-    (f r (open_kept c.args.bank.now c.side_of.new.bank c.args.bindings.now c.args.next.now r c.in_ok-left.ensures.kept o) levels n p (pair_kept c.args.bank.now c.side_of.new.bank c.args.bindings.now r c.args.level c.args.one.now c.args.other.now p c.in_ok-left.ensures.kept c.requires.one c.requires.other h) w)))
+    (f r (open_kept c.args.bank.now c.side_of.new.bank c.args.bindings.now c.args.next.now r c.in_ok-left.ensures.kept o) levels n p
+    (pair_kept c.args.bank.now c.side_of.new.bank c.args.bindings.now r c.args.level c.args.one.now c.args.other.now p c.in_ok-left.ensures.kept
+    c.requires.one c.requires.other h) w)))
     c.by_pattern.ensures.done
 
 pub returns-in_default-right-clause-done : goal.returns-in_default-right-clause-done
@@ -145,11 +158,15 @@ returns-in_default-right-clause-done c =
     (λ done f r o levels n p h w x l y z.
     let e = extends-trans c.args.bank.now c.side_of.new.bank c.side_of-2.new.bank c.in_ok-left.ensures.kept c.in_ok-right.ensures.kept in
     let i = reading_kept c.args.bank.now c.side_of.new.bank c.args.bindings.now r c.in_ok-left.ensures.kept o.reading in
-    half_done c.args.bank.now c.side_of-2.new.bank c.args.bindings.now r c.args.one.now c.args.other.now c.args.level n c.args.next.now p e c.requires.one c.requires.other h o levels w x l y z done c.by_pattern-in_default-right.new.bank c.by_pattern-in_default-right.new.bindings c.by_pattern-in_default-right.new.next c.in-Some.left
+    half_done c.args.bank.now c.side_of-2.new.bank c.args.bindings.now r c.args.one.now c.args.other.now c.args.level n c.args.next.now p e
+    c.requires.one c.requires.other h o levels w x l y z done c.by_pattern-in_default-right.new.bank c.by_pattern-in_default-right.new.bindings
+    c.by_pattern-in_default-right.new.next c.in-Some.left
     (transport (λ z. IsSideOf n (view c.args.bank.now r c.args.one.now) c.args.level z) c.in-Some.is (c.in_ok-left.ensures.side r o.reading o.shut n))
     (side_before c.args.bank.now c.side_of.new.bank c.args.bindings.now r c.args.one.now c.args.other.now c.args.level n c.args.next.now c.args.units.now p c.in_ok-left.ensures.kept c.requires.one c.requires.other h c.args.other.now None c.requires.other
     (transport (λ z. IsSideOf n (view c.side_of.new.bank r c.args.other.now) c.args.level z) c.in_default-right.is (c.in_ok-right.ensures.side r i o.shut n)))
-    (five_done c.args.bank.now c.side_of-2.new.bank c.args.bindings.now r c.args.one.now c.args.other.now c.args.level n c.args.next.now p e c.requires.one c.requires.other h o levels w done c.by_pattern-in_default-right.new.bank c.by_pattern-in_default-right.new.bindings c.by_pattern-in_default-right.new.next
+    (five_done c.args.bank.now c.side_of-2.new.bank c.args.bindings.now r c.args.one.now c.args.other.now c.args.level n c.args.next.now p e
+    c.requires.one c.requires.other h o levels w done c.by_pattern-in_default-right.new.bank c.by_pattern-in_default-right.new.bindings
+    c.by_pattern-in_default-right.new.next
     (f r (open_kept c.args.bank.now c.side_of-2.new.bank c.args.bindings.now c.args.next.now r e o) levels n p (pair_kept c.args.bank.now c.side_of-2.new.bank c.args.bindings.now r c.args.level c.args.one.now c.args.other.now p e c.requires.one c.requires.other h) w)))
     c.by_pattern-in_default-right.ensures.done
 

@@ -41,7 +41,9 @@ pub returns-then-are_rigid-clause-given : goal.returns-then-are_rigid-clause-giv
 returns-then-are_rigid-clause-given c =
     on_two c.decompose.result _ _ _
     (λ f g next r i lv n p h w y q.
-    arguments_given c.args.bank.now c.decompose.new.bank c.args.bindings.now next r c.args.one.now c.args.other.now i c.requires.one c.requires.other c.args.level lv p h w c.decompose.ensures.kept c.args.todo.now.items c.decompose.new.todo.items c.decompose.new.bindings y.verdict c.decompose.ensures.terms g
+    arguments_given c.args.bank.now c.decompose.new.bank c.args.bindings.now next r c.args.one.now c.args.other.now i c.requires.one c.requires.other
+    c.args.level lv p h w c.decompose.ensures.kept c.args.todo.now.items c.decompose.new.todo.items c.decompose.new.bindings y.verdict
+    c.decompose.ensures.terms g
     (f r i.reading i.shut i.still n y (rule_rigid c.args.bank.now c.args.bindings.now r c.args.one.now c.args.other.now i.reading c.requires.one
     c.requires.other n next c.args.level p h y q (both_rigid c.args.one.now.head c.args.other.now.head
     (sym c.are_rigid.ensures ∙ c.if-are_rigid.true)).0 (both_rigid c.args.one.now.head c.args.other.now.head

@@ -23,7 +23,13 @@ returns-in_default-pattern-clause-side c = λ r i h m.
 
 pub returns-clause-side : goal.returns-clause-side
 returns-clause-side c = λ r i h m.
-    side_some c.args.bank.now r m c.args.pair c.in-Variable.id c.in-Variable.level c.none-opened.result.level c.none-opened.result.depth c.args.looked.now c.in-Some.pattern (record { id = c.in-Variable.id; level = c.in-Variable.level; eigens = c.in-Some.pattern.eigens; pair = c.args.pair }) c.in-Variable.is c.none-opened.ensures.depth
+    side_some c.args.bank.now r m c.args.pair c.in-Variable.id c.in-Variable.level c.none-opened.result.level c.none-opened.result.depth
+    c.args.looked.now c.in-Some.pattern (record {
+      id = c.in-Variable.id;
+      level = c.in-Variable.level;
+      eigens = c.in-Some.pattern.eigens;
+      pair = c.args.pair;
+    }) c.in-Variable.is c.none-opened.ensures.depth
     (transport (λ o. IsPattern m c.in-Variable.level (map (read_at c.args.bank.now r c.none-opened.result.level c.none-opened.result.depth) c.args.looked.now.arguments.items) o) c.in-Some.is
     (transport (λ l. IsPattern m c.in-Variable.level (map (read_at c.args.bank.now r c.none-opened.result.level c.none-opened.result.depth) l) c.in_ok-pattern.pattern) c.as_slice-arguments.ensures.value (c.in_ok-pattern.ensures.pattern r i h m)))
     refl refl refl refl

@@ -33,7 +33,9 @@ returns-then-has_head-clause-judged c = λ r i h n j t e.
 pub returns-in_err-found-clause-refused : goal.returns-in_err-found-clause-refused
 returns-in_err-found-clause-refused c =
     passed_up c.from_residual.result c.in_err-found.field-0.0
-    (λ e. (r : Closing) → IsOpenReading c.args.bank.now c.args.bindings.now c.args.next.now r → (levels : ℕ → ℕ) → IsKnownSide levels c.args.next.now (side_of c.args.side.now) → (n j : ℕ) (t : Term) → steps weak_step j t ≡ Some (under c.args.bank.now r c.args.other.now.whole) → Within (Known levels c.args.next.now) 0 t →
+    (λ e. (r : Closing) → IsOpenReading c.args.bank.now c.args.bindings.now c.args.next.now r → (levels : ℕ → ℕ) → IsKnownSide levels c.args.next.now
+    (side_of c.args.side.now) → (n j : ℕ) (t : Term) → steps weak_step j t ≡ Some (under c.args.bank.now r c.args.other.now.whole) → Within
+    (Known levels c.args.next.now) 0 t →
     IsRuledOut n e c.args.units.now (solve_for n c.args.next.now (side_of c.args.side.now) t (view c.args.bank.now r c.args.other.now)))
     c.from_residual.ensures.1
     (λ r o levels k n j t e w.
@@ -48,7 +50,9 @@ returns-then-found-clause-judged c = λ r i h n j t e.
 pub returns-in_err-value-clause-refused : goal.returns-in_err-value-clause-refused
 returns-in_err-value-clause-refused c =
     passed_up c.from_residual-in_err-value.result c.in_err-value.field-0.0
-    (λ e. (r : Closing) → IsOpenReading c.args.bank.now c.args.bindings.now c.args.next.now r → (levels : ℕ → ℕ) → IsKnownSide levels c.args.next.now (side_of c.args.side.now) → (n j : ℕ) (t : Term) → steps weak_step j t ≡ Some (under c.args.bank.now r c.args.other.now.whole) → Within (Known levels c.args.next.now) 0 t →
+    (λ e. (r : Closing) → IsOpenReading c.args.bank.now c.args.bindings.now c.args.next.now r → (levels : ℕ → ℕ) → IsKnownSide levels c.args.next.now
+    (side_of c.args.side.now) → (n j : ℕ) (t : Term) → steps weak_step j t ≡ Some (under c.args.bank.now r c.args.other.now.whole) → Within
+    (Known levels c.args.next.now) 0 t →
     IsRuledOut n e c.args.units.now (solve_for n c.args.next.now (side_of c.args.side.now) t (view c.args.bank.now r c.args.other.now)))
     c.from_residual-in_err-value.ensures.1
     (λ r o levels k n j t e w.

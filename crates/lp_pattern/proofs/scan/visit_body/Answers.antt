@@ -9,5 +9,7 @@ returns-clause-left c =
 
 pub returns-clause-scanned : goal.returns-clause-scanned
 returns-clause-scanned c = λ r i h m n.
-    body_goes c.args.bank.now c.args.bindings.now r c.args.side.now c.args.visit c.args.looked.now c.args.left.now.items c.requires.looked c.requires.visit m n c.args.units.now c.args.found.now c.args.body c.in_ok-inner.inner c.push.new.self.items h c.requires.head c.in_ok-inner.ensures.term c.in_ok-inner.ensures.level c.in_ok-inner.ensures.depth
+    body_goes c.args.bank.now c.args.bindings.now r c.args.side.now c.args.visit c.args.looked.now c.args.left.now.items c.requires.looked
+    c.requires.visit m n c.args.units.now c.args.found.now c.args.body c.in_ok-inner.inner c.push.new.self.items h c.requires.head
+    c.in_ok-inner.ensures.term c.in_ok-inner.ensures.level c.in_ok-inner.ensures.depth
     c.in_ok-inner.ensures.inside c.in_ok-push.ensures.items

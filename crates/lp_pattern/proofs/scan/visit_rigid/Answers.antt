@@ -19,7 +19,9 @@ returns-in_err-spend-clause-stopped c =
 
 pub returns-then-not-goes-clause-stopped : goal.returns-then-not-goes-clause-stopped
 returns-then-not-goes-clause-stopped c = λ r i h m n.
-    rigid_breaks c.args.bank.now c.args.bindings.now r c.args.side.now c.args.visit c.args.looked.now c.args.left.now.items c.requires.looked c.requires.visit m n c.args.units.now c.spend.new.units c.allows_head-is_allowed.result _ c.requires.head c.allows_head-is_allowed.ensures (sym c.either-goes.ensures ∙ c.if-not-goes.true)
+    rigid_breaks c.args.bank.now c.args.bindings.now r c.args.side.now c.args.visit c.args.looked.now c.args.left.now.items c.requires.looked
+    c.requires.visit m n c.args.units.now c.spend.new.units c.allows_head-is_allowed.result _ c.requires.head c.allows_head-is_allowed.ensures
+    (sym c.either-goes.ensures ∙ c.if-not-goes.true)
     c.in_ok-spend.ensures.spent refl
 
 pub returns-clause-left : goal.returns-clause-left

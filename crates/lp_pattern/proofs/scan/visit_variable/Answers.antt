@@ -17,7 +17,9 @@ returns-in_err-spend-clause-stopped c =
     (λ e. (r : Closing) → IsReading c.args.bank.now c.args.bindings.now r → IsShut r → (m n : ℕ) → IsStopped m e c.args.units.now
     (scan_parts m n (side_of c.args.side.now) (part_at c.args.bank.now r c.args.visit c.args.looked.now.whole ∷ parts_of c.args.bank.now r c.args.left.now.items)))
     c.from_residual.ensures.1
-    (λ r i h m n. variable_spent c.args.bank.now c.args.bindings.now r c.args.side.now c.args.visit c.args.looked.now c.args.left.now.items c.requires.looked c.requires.visit m n c.args.units.now c.args.id c.args.level c.in_err-spend.field-0.0 i c.requires.head c.in_err-spend.ensures.refused.1 c.in_err-spend.ensures.refused.0)
+    (λ r i h m n. variable_spent c.args.bank.now c.args.bindings.now r c.args.side.now c.args.visit c.args.looked.now c.args.left.now.items
+    c.requires.looked c.requires.visit m n c.args.units.now c.args.id c.args.level c.in_err-spend.field-0.0 i c.requires.head
+    c.in_err-spend.ensures.refused.1 c.in_err-spend.ensures.refused.0)
 
 pub returns-in_err-pattern-clause-stopped : goal.returns-in_err-pattern-clause-stopped
 returns-in_err-pattern-clause-stopped c =

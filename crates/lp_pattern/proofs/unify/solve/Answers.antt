@@ -27,7 +27,9 @@ pub returns-in_err-residual-clause-none : goal.returns-in_err-residual-clause-no
 returns-in_err-residual-clause-none c =
     passed_up c.from_residual.result c.in_err-residual.field-0.0
     (λ e. e ≡ Fails → (d : Declared) (V : List Variable) (z : Closing) → length V ≡ c.args.next.now → IsTypedInput z.types d V (type_pairs_of c.args.bank.now var c.args.types.now) (pairs_at c.args.bank.now c.args.pairs.now) (pairs_at c.args.bank.now c.args.delayed.now) →
-    (n : ℕ) (u : Unified) → run n c.args.limit c.args.bank.now c.args.types.now c.args.pairs.now c.args.delayed.now c.args.next.now ≡ Some u → SolvesInput d V z (type_pairs_of c.args.bank.now var c.args.types.now) (pairs_at c.args.bank.now c.args.pairs.now) (pairs_at c.args.bank.now c.args.delayed.now) → ⊥)
+    (n : ℕ) (u : Unified) → run n c.args.limit c.args.bank.now c.args.types.now c.args.pairs.now c.args.delayed.now c.args.next.now ≡ Some u →
+    SolvesInput d V z (type_pairs_of c.args.bank.now var c.args.types.now) (pairs_at c.args.bank.now c.args.pairs.now)
+    (pairs_at c.args.bank.now c.args.delayed.now) → ⊥)
     c.from_residual.ensures.1
     (λ fails d V z count i n u h w. none_found c.in_err-residual.field-0.0 fails d V z c.args.next.now n c.args.limit (type_pairs_of c.args.bank.now var c.args.types.now) (pairs_at c.args.bank.now c.args.pairs.now) (pairs_at c.args.bank.now c.args.delayed.now) u count i h
     (λ lv k m. c.in_err-residual.ensures.refused unbound (unbound_reading c.args.bank.now c.new-bindings.result c.args.next.now c.new-bindings.ensures.terms c.new-bindings.ensures.types) lv (pairs_at c.args.bank.now c.args.pairs.now) (pairs_at c.args.bank.now c.args.delayed.now)
@@ -37,7 +39,9 @@ pub returns-clause-right : goal.returns-clause-right
 returns-clause-right c = λ d V θ count i n s h k m.
     right_found d V θ c.args.next.now n c.args.limit (type_pairs_of c.args.bank.now var c.args.types.now) (pairs_at c.args.bank.now c.args.pairs.now) (pairs_at c.args.bank.now c.args.delayed.now) s c.solve_under.new.bank c.solve_under.new.next
     (record { bindings = c.in_ok-term_entries.field-0; types = c.in_ok-type_entries.field-0; residual = c.in_ok-residual.residual }) count i h k m
-    (λ lv p q. listed lv c.args.next.now c.solve_under.new.next c.solve_under.new.bank c.solve_under.new.bindings (record { bindings = c.in_ok-term_entries.field-0; types = c.in_ok-type_entries.field-0; residual = c.in_ok-residual.residual }) (Solution s) c.in_ok-term_entries.ensures c.in_ok-type_entries.ensures
+    (λ lv p q. listed lv c.args.next.now c.solve_under.new.next c.solve_under.new.bank c.solve_under.new.bindings
+    (record { bindings = c.in_ok-term_entries.field-0; types = c.in_ok-type_entries.field-0; residual = c.in_ok-residual.residual }) (Solution s)
+    c.in_ok-term_entries.ensures c.in_ok-type_entries.ensures
     (c.in_ok-residual.ensures.solved unbound (unbound_reading c.args.bank.now c.new-bindings.result c.args.next.now c.new-bindings.ensures.terms c.new-bindings.ensures.types) lv (pairs_at c.args.bank.now c.args.pairs.now) (pairs_at c.args.bank.now c.args.delayed.now)
     (pairs_unbound c.args.bank.now c.args.pairs.now) (pairs_unbound c.args.bank.now c.args.delayed.now) p q n (Solution s) h))
 

@@ -19,7 +19,9 @@ use Rattle.lp_pattern.proofs.unify.solve_inside.Goals.{else-not-is_bound-via-the
 pub returns-in_err-solve_types-clause-refused : goal.returns-in_err-solve_types-clause-refused
 returns-in_err-solve_types-clause-refused c =
     passed_up c.from_residual-in_err-solve_types.result c.in_err-solve_types.field-0.0
-    (λ e. (r : Closing) → IsOpenReading c.args.bank.now c.args.bindings.now c.args.next.now r → (levels : ℕ → ℕ) → (ps ds : List Pair) → ArePairsFor c.args.bank.now r c.args.pairs.now ps → ArePairsFor c.args.bank.now r c.args.delayed.now ds → AreKnownPairs levels c.args.next.now ps → AreKnownPairs levels c.args.next.now ds → (n : ℕ) (u : Unified) →
+    (λ e. (r : Closing) → IsOpenReading c.args.bank.now c.args.bindings.now c.args.next.now r → (levels : ℕ → ℕ) → (ps ds : List Pair) → ArePairsFor
+    c.args.bank.now r c.args.pairs.now ps → ArePairsFor c.args.bank.now r c.args.delayed.now ds → AreKnownPairs levels c.args.next.now ps →
+    AreKnownPairs levels c.args.next.now ds → (n : ℕ) (u : Unified) →
     solve n c.args.limit (type_pairs_of c.args.bank.now r.types c.args.types.now) ps ds c.args.next.now ≡ Some u → IsRefusedAs e n u)
     c.from_residual-in_err-solve_types.ensures.1
     (λ r i lv ps ds p q k m n u h. types_refused n c.args.limit (type_pairs_of c.args.bank.now r.types c.args.types.now) ps ds c.args.next.now u c.in_err-solve_types.field-0.0 (λ j o x. c.in_err-solve_types.ensures.refused r.types i.reading.types j o x) h)
@@ -36,11 +38,17 @@ rounds-init c = record {
       still_pairs c.args.bank.now c.solve_types.new.bank c.in_ok-waiting.waiting.items c.in_ok-solve_types.ensures.kept
       (transport (All (IsPairOf (length c.args.bank.now.terms))) (sym c.in_ok-waiting.ensures.items) c.requires.delayed);
   comes = λ r i lv ps ds p q k m n u h.
-      run_starts c.args.limit (record { closing = r; levels = lv; next = c.args.next.now }) n u c.solve_types.new.bank c.solve_types.new.bindings c.args.next.now c.solve_types.new.units c.push_pairs.new.todo.items c.new-todo.result.items c.args.delayed.now c.in_ok-waiting.waiting.items c.ne-has_types.result
+      run_starts c.args.limit (record { closing = r; levels = lv; next = c.args.next.now }) n u c.solve_types.new.bank c.solve_types.new.bindings
+      c.args.next.now c.solve_types.new.units c.push_pairs.new.todo.items c.new-todo.result.items c.args.delayed.now c.in_ok-waiting.waiting.items
+      c.ne-has_types.result
       c.args.bindings.now c.args.pairs.now
-      (run_begins n c.args.limit (type_pairs_of c.args.bank.now r.types c.args.types.now) ps ds c.args.next.now c.solve_types.new.units u c.args.bank.now c.solve_types.new.bank c.args.bindings.now c.solve_types.new.bindings r lv c.args.pairs.now c.args.delayed.now c.in_ok-solve_types.ensures.kept i c.in_ok-solve_types.ensures.terms
+      (run_begins n c.args.limit (type_pairs_of c.args.bank.now r.types c.args.types.now) ps ds c.args.next.now c.solve_types.new.units u
+      c.args.bank.now c.solve_types.new.bank c.args.bindings.now c.solve_types.new.bindings r lv c.args.pairs.now c.args.delayed.now
+      c.in_ok-solve_types.ensures.kept i c.in_ok-solve_types.ensures.terms
       (λ j o x. c.in_ok-solve_types.ensures.behind r i.reading i.shut i.still j o x) (λ j o x. c.in_ok-solve_types.ensures.solved r.types i.reading.types j o x) c.requires.pairs c.requires.delayed p q k m h)
-      (λ since x. marks_tell c.ne-has_types.result since c.args.bindings.now c.solve_types.new.bindings c.mark-before.result.terms c.mark.result.terms c.mark-before.result.types c.mark.result.types c.ne-has_types.ensures c.mark-before.ensures.terms c.mark.ensures.terms c.mark-before.ensures.types c.mark.ensures.types x)
+      (λ since x. marks_tell c.ne-has_types.result since c.args.bindings.now c.solve_types.new.bindings c.mark-before.result.terms c.mark.result.terms
+      c.mark-before.result.types c.mark.result.types c.ne-has_types.ensures c.mark-before.ensures.terms c.mark.ensures.terms
+      c.mark-before.ensures.types c.mark.ensures.types x)
       c.in_ok-push_pairs.ensures c.new-todo.ensures.items c.in_ok-waiting.ensures.items;
 }
 
@@ -50,7 +58,9 @@ returns-in_err-is_bound-clause-grown c = grows_then c.args.bindings.now c.rounds
 pub returns-in_err-is_bound-clause-refused : goal.returns-in_err-is_bound-clause-refused
 returns-in_err-is_bound-clause-refused c =
     passed_up c.from_residual-in_err-is_bound.result c.in_err-is_bound.field-0.0
-    (λ e. (r : Closing) → IsOpenReading c.args.bank.now c.args.bindings.now c.args.next.now r → (levels : ℕ → ℕ) → (ps ds : List Pair) → ArePairsFor c.args.bank.now r c.args.pairs.now ps → ArePairsFor c.args.bank.now r c.args.delayed.now ds → AreKnownPairs levels c.args.next.now ps → AreKnownPairs levels c.args.next.now ds → (n : ℕ) (u : Unified) →
+    (λ e. (r : Closing) → IsOpenReading c.args.bank.now c.args.bindings.now c.args.next.now r → (levels : ℕ → ℕ) → (ps ds : List Pair) → ArePairsFor
+    c.args.bank.now r c.args.pairs.now ps → ArePairsFor c.args.bank.now r c.args.delayed.now ds → AreKnownPairs levels c.args.next.now ps →
+    AreKnownPairs levels c.args.next.now ds → (n : ℕ) (u : Unified) →
     solve n c.args.limit (type_pairs_of c.args.bank.now r.types c.args.types.now) ps ds c.args.next.now ≡ Some u → IsRefusedAs e n u)
     c.from_residual-in_err-is_bound.ensures.1
     (λ r i lv ps ds p q k m n u h. c.in_err-is_bound.ensures.refused c.args.limit (record { closing = r; levels = lv; next = c.args.next.now }) n u c.rounds.has_types (c.rounds.invariant.comes r i lv ps ds p q k m n u h))
@@ -82,7 +92,9 @@ rounds-preserved c =
           (transport (All (IsPairOf (length c.take_all.new.bank.terms))) (sym c.as_slice.ensures.value) c.in_ok-is_bound.ensures.waiting);
       waiting = All_empty (IsPairOf (length c.take_all.new.bank.terms)) c.clear.new.self.items c.clear.ensures.items;
       comes = λ r i lv ps ds p q k m n u h.
-          wakes c.args.limit (record { closing = r; levels = lv; next = c.args.next.now }) n u c.take_all.new.bank c.take_all.new.bindings c.take_all.new.next c.take_all.new.units c.push_pairs-in-rounds.new.todo.items c.take_all.new.todo.items c.take_all.new.waiting.items c.clear.new.self.items (c.rounds.has_types || c.in_ok-is_bound.is_bound)
+          wakes c.args.limit (record { closing = r; levels = lv; next = c.args.next.now }) n u c.take_all.new.bank c.take_all.new.bindings
+          c.take_all.new.next c.take_all.new.units c.push_pairs-in-rounds.new.todo.items c.take_all.new.todo.items c.take_all.new.waiting.items
+          c.clear.new.self.items (c.rounds.has_types || c.in_ok-is_bound.is_bound)
           (c.in_ok-is_bound.ensures.taken c.args.limit (record { closing = r; levels = lv; next = c.args.next.now }) n u c.rounds.has_types (c.rounds.invariant.comes r i lv ps ds p q k m n u h))
           goes_on (c.in_ok-push_pairs-2.ensures ∙ ap (λ l. c.take_all.new.todo.items ++ reverse l) c.as_slice.ensures.value) c.in_ok-is_bound.ensures.emptied c.clear.ensures.items;
     }

@@ -10,7 +10,9 @@ pub returns-in-Some : goal.returns-in-Some
 returns-in-Some c =
     let s = read_at c.args.assumptions.now.items c.deref.result.now c.in-Assumed.number c.in-Some.assumption.now _ c.deref.ensures.value c.in-Some.ensures.lookup.3.0 c.in-Some.ensures.lookup.1 in
     IfOk-weaker c.assumed_or_first.result _ _
-    (λ found e left l. after_assumed c.args.bank.now c.args.rules.now.items c.args.assumptions.now.items (first_for (λ k. get nat_eq c.args.index.now k) c.args.call.now.head) c.args.call.now.key found c.args.candidate c.in-Assumed.number c.in-Some.assumption.now left c.in-Assumed.is s (λ ns ks h d. e _ ns ks h d) l)
+    (λ found e left l. after_assumed c.args.bank.now c.args.rules.now.items c.args.assumptions.now.items
+    (first_for (λ k. get nat_eq c.args.index.now k) c.args.call.now.head) c.args.call.now.key found c.args.candidate c.in-Assumed.number
+    c.in-Some.assumption.now left c.in-Assumed.is s (λ ns ks h d. e _ ns ks h d) l)
     c.assumed_or_first.ensures
 
 pub returns-in-Some-get : goal.returns-in-Some-get

@@ -18,5 +18,7 @@ returns-then-same_head c =
 pub nodes-preserved : goal.nodes-preserved
 nodes-preserved c =
     let s = read_at c.args.nodes.now.items c.deref.result.now c.in-Some.number c.in-Some-get.node.now _ c.deref.ensures.value c.in-Some-get.ensures.lookup.3.0 c.in-Some-get.ensures.lookup.1 in
-    way_further c.args.nodes.now.items c.args.head c.args.tree c.nodes.at c.child-at.result c.nodes.bits _ c.in-Some.number c.nodes.steps.items c.push.new.self.items (record { node = c.in-Some-get.node.now; is_odd = c.leads_to_odd-is_odd.result }) c.nodes.invariant c.in-Some.is s (c.same_head.ensures.other c.if-same_head.false)
+    way_further c.args.nodes.now.items c.args.head c.args.tree c.nodes.at c.child-at.result c.nodes.bits _ c.in-Some.number c.nodes.steps.items
+    c.push.new.self.items (record { node = c.in-Some-get.node.now; is_odd = c.leads_to_odd-is_odd.result }) c.nodes.invariant c.in-Some.is s
+    (c.same_head.ensures.other c.if-same_head.false)
     c.in_ok-push.ensures.items c.leads_to_odd-is_odd.ensures c.child-at.ensures refl

@@ -14,7 +14,9 @@ types-smaller-then-not-branch c = lighter_off (λ t. t.0) (type_weight c.args.ba
 
 pub types-preserved-then-not-branch : goal.types-preserved-then-not-branch
 types-preserved-then-not-branch c =
-    passed (open_types c.args.bank.now) (type_weight c.args.bank.now) _ _ _ c.in-Some.next.0 (contains nat_eq c.types.seen) (numbers_off (λ t. t.0) _ _ c.in-Some.next c.in-Some.ensures.items) c.types.invariant (contains nat_eq c.insert.new.self) (marked c.in-Some.next.0 (contains nat_eq c.types.seen) (contains nat_eq c.insert.new.self) c.in_ok-insert.ensures.updates.0)
+    passed (open_types c.args.bank.now) (type_weight c.args.bank.now) _ _ _ c.in-Some.next.0 (contains nat_eq c.types.seen)
+    (numbers_off (λ t. t.0) _ _ c.in-Some.next c.in-Some.ensures.items) c.types.invariant (contains nat_eq c.insert.new.self)
+    (marked c.in-Some.next.0 (contains nat_eq c.types.seen) (contains nat_eq c.insert.new.self) c.in_ok-insert.ensures.updates.0)
     (was_marked (contains nat_eq c.types.seen c.in-Some.next.0) _ c.in_ok-insert.ensures.added c.if-not-branch.true)
 
 pub returns-then-not-branch-2-clause-found : goal.returns-then-not-branch-2-clause-found
@@ -36,4 +38,6 @@ pub returns-clause-found : goal.returns-clause-found
 returns-clause-found c = ended (open_types c.args.bank.now) (type_weight c.args.bank.now) _ (map (λ t. t.0) c.types.left.items) (contains nat_eq c.types.seen) (ap (map (λ t. t.0)) (nil_from_length c.types.left.items (omega (arith, c.in_default.ensures.cases.0, c.types.left.ok)))) c.types.invariant
 
 pub returns-clause-clean : goal.returns-clause-clean
-returns-clause-clean c = λ z. ended_clean (open_types c.args.bank.now) (type_weight c.args.bank.now) _ (map (λ t. t.0) c.types.left.items) (contains nat_eq c.types.seen) (ap (map (λ t. t.0)) (nil_from_length c.types.left.items (omega (arith, c.in_default.ensures.cases.0, c.types.left.ok)))) c.types.invariant
+returns-clause-clean c = λ z. ended_clean (open_types c.args.bank.now) (type_weight c.args.bank.now) _ (map (λ t. t.0) c.types.left.items)
+    (contains nat_eq c.types.seen) (ap (map (λ t. t.0)) (nil_from_length c.types.left.items
+    (omega (arith, c.in_default.ensures.cases.0, c.types.left.ok)))) c.types.invariant

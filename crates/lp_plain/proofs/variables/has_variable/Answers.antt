@@ -9,7 +9,9 @@ use Rattle.lp_plain.proofs.variables.has_variable.Goals as goal
 pub terms-init : goal.terms-init
 terms-init c = (
   nothing_marked (open_types c.args.bank.now) c.new-types.result.keys c.new-types.ensures.empty,
-  begun (open_terms c.args.bank.now) (term_weight c.args.bank.now) _ _ (contains nat_eq c.new-seen.result) (ap (map (λ t. t.0)) (c.in_ok-push.ensures.items ∙ ap (λ l. l ++ c.args.term ∷ []) c.new-left.ensures.items)) (nothing_marked (open_terms c.args.bank.now) c.new-seen.result.keys c.new-seen.ensures.empty),
+  begun (open_terms c.args.bank.now) (term_weight c.args.bank.now) _ _ (contains nat_eq c.new-seen.result)
+      (ap (map (λ t. t.0)) (c.in_ok-push.ensures.items ∙ ap (λ l. l ++ c.args.term ∷ []) c.new-left.ensures.items))
+      (nothing_marked (open_terms c.args.bank.now) c.new-seen.result.keys c.new-seen.ensures.empty),
 )
 
 pub terms-smaller-then-not-branch : goal.terms-smaller-then-not-branch
@@ -18,7 +20,9 @@ terms-smaller-then-not-branch c = lighter_off (λ t. t.0) (term_weight c.args.ba
 pub terms-preserved-then-not-branch : goal.terms-preserved-then-not-branch
 terms-preserved-then-not-branch c = (
   c.terms.invariant.0,
-  passed (open_terms c.args.bank.now) (term_weight c.args.bank.now) _ _ _ c.in-Some.next.0 (contains nat_eq c.terms.seen) (numbers_off (λ t. t.0) _ _ c.in-Some.next c.in-Some.ensures.items) c.terms.invariant.1 (contains nat_eq c.insert.new.self) (marked c.in-Some.next.0 (contains nat_eq c.terms.seen) (contains nat_eq c.insert.new.self) c.in_ok-insert.ensures.updates.0)
+  passed (open_terms c.args.bank.now) (term_weight c.args.bank.now) _ _ _ c.in-Some.next.0 (contains nat_eq c.terms.seen)
+      (numbers_off (λ t. t.0) _ _ c.in-Some.next c.in-Some.ensures.items) c.terms.invariant.1 (contains nat_eq c.insert.new.self)
+      (marked c.in-Some.next.0 (contains nat_eq c.terms.seen) (contains nat_eq c.insert.new.self) c.in_ok-insert.ensures.updates.0)
       (was_marked (contains nat_eq c.terms.seen c.in-Some.next.0) _ c.in_ok-insert.ensures.added c.if-not-branch.true),
 )
 
@@ -40,4 +44,6 @@ terms-preserved c =
     )
 
 pub returns : goal.returns
-returns c = (ended (open_terms c.args.bank.now) (term_weight c.args.bank.now) _ (map (λ t. t.0) c.terms.left.items) (contains nat_eq c.terms.seen) (ap (map (λ t. t.0)) (nil_from_length c.terms.left.items (omega (arith, c.in_default.ensures.cases.0, c.terms.left.ok)))) c.terms.invariant.1) ∙ or_none _
+returns c = (ended (open_terms c.args.bank.now) (term_weight c.args.bank.now) _ (map (λ t. t.0) c.terms.left.items) (contains nat_eq c.terms.seen)
+    (ap (map (λ t. t.0)) (nil_from_length c.terms.left.items (omega (arith, c.in_default.ensures.cases.0, c.terms.left.ok)))) c.terms.invariant.1) ∙
+    or_none _

@@ -102,6 +102,8 @@ terms-preserved-in-App c =
       within =
           subst (All (λ t. t.0 < length c.args.bank.now.terms)) (sym c.in_ok-push-in-App.ensures.items)
           (All-push (λ t. t.0 < length c.args.bank.now.terms) c.push_reversed.new.terms.items c.in-App.head
-          (args_after c.in-Some.next.0 _ c.pop.new.self.items c.in-App.arguments.now c.push_reversed.new.terms.items (omega (arith, next)) (within_rest c.args.bank.now c.terms.left.items c.pop.new.self.items c.in-Some.next c.in-Some.ensures.items c.terms.invariant.within) c.in-App.ensures.older.1 c.in_ok-push_reversed-in-App.ensures)
+          (args_after c.in-Some.next.0 _ c.pop.new.self.items c.in-App.arguments.now c.push_reversed.new.terms.items (omega (arith, next))
+          (within_rest c.args.bank.now c.terms.left.items c.pop.new.self.items c.in-Some.next c.in-Some.ensures.items c.terms.invariant.within)
+          c.in-App.ensures.older.1 c.in_ok-push_reversed-in-App.ensures)
           (omega (arith, c.in-App.ensures.older.0, next)));
     }

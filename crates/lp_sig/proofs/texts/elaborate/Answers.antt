@@ -36,8 +36,12 @@ pub loop-step-preserved : goal.loop-step-preserved
 loop-step-preserved c = record {
   taken = taken_more c.args.names.now c.args.sources.now c.args.texts.now c.deref-step-items.result.now c.loop-step.step-index _ c.loop-step-test.true c.loop-step.invariant.taken (c.in_ok-take.ensures.taken _ _ c.loop-step.invariant.seen c.loop-step.invariant.constants c.loop-step.invariant.typed);
   seen = step_seen c.args.names.now c.args.sources.now c.args.texts.now c.deref-step-items.result.now c.loop-step.step-index _ c.loop-step-test.true c.loop-step.making c.take.new.making c.loop-step.invariant.seen c.in_ok-take.ensures.seen;
-  constants = (step_declares c.args.names.now c.args.sources.now c.args.texts.now c.deref-step-items.result.now c.loop-step.step-index _ c.loop-step-test.true c.loop-step.making c.take.new.making c.loop-step.invariant.seen c.loop-step.invariant.constants c.loop-step.invariant.typed c.in_ok-take.ensures.constants).0;
-  typed = (step_declares c.args.names.now c.args.sources.now c.args.texts.now c.deref-step-items.result.now c.loop-step.step-index _ c.loop-step-test.true c.loop-step.making c.take.new.making c.loop-step.invariant.seen c.loop-step.invariant.constants c.loop-step.invariant.typed c.in_ok-take.ensures.constants).1;
+  constants = (step_declares c.args.names.now c.args.sources.now c.args.texts.now c.deref-step-items.result.now c.loop-step.step-index _
+      c.loop-step-test.true c.loop-step.making c.take.new.making c.loop-step.invariant.seen c.loop-step.invariant.constants
+      c.loop-step.invariant.typed c.in_ok-take.ensures.constants).0;
+  typed = (step_declares c.args.names.now c.args.sources.now c.args.texts.now c.deref-step-items.result.now c.loop-step.step-index _
+      c.loop-step-test.true c.loop-step.making c.take.new.making c.loop-step.invariant.seen c.loop-step.invariant.constants
+      c.loop-step.invariant.typed c.in_ok-take.ensures.constants).1;
   operators = subst (KnowsOperators c.take.new.making.operators) (steps_more fixities_in c.args.sources.now c.args.texts.now c.deref-step-items.result.now c.loop-step.step-index _ c.loop-step-test.true) (c.in_ok-take.ensures.operators _ c.loop-step.invariant.operators);
 }
 
@@ -58,8 +62,12 @@ returns-clause-accepted c = record {
   steps = c.in_ok-steps.steps.items;
   loaded = free_steps c.args.names.now c.args.sources.now c.args.texts.now c.args.root (map (λ out. out.items) c.in_ok-ways.ways.ways.items) c.in_ok-steps.steps.items c.as_slice.result.now c.in_ok-ways.ensures c.as_slice.ensures.value c.in_ok-steps.ensures c.in_ok-check_circles.ensures.none;
   taken = all_taken c.args.names.now c.args.sources.now c.args.texts.now c.in_ok-steps.steps.items c.deref-step-items.result.now c.loop-step.step-index c.deref-step-items.ensures.value c.loop-step-test.false c.loop-step.invariant.taken;
-  kinds_are = c.in_ok-signature.ensures.kinds ∙ ap (numbered 8) (c.loop-step.invariant.seen.names.kinds ∙ ap (λ z. kinds_among (declared_names z.said)) (all_seen c.args.names.now c.args.sources.now c.args.texts.now c.deref-step-items.result.now c.loop-step.step-index c.in_ok-steps.steps.items c.deref-step-items.ensures.value c.loop-step-test.false));
-  fixities_are = ap (λ v. map fixity_row v.items) c.in_ok-signature.ensures.fixities ∙ c.loop-step.invariant.operators.rows ∙ ap (firsts []) (all_steps_said fixities_in c.args.sources.now c.args.texts.now c.in_ok-steps.steps.items c.deref-step-items.result.now c.loop-step.step-index c.deref-step-items.ensures.value c.loop-step-test.false);
+  kinds_are = c.in_ok-signature.ensures.kinds ∙ ap (numbered 8) (c.loop-step.invariant.seen.names.kinds ∙ ap
+      (λ z. kinds_among (declared_names z.said)) (all_seen c.args.names.now c.args.sources.now c.args.texts.now c.deref-step-items.result.now
+      c.loop-step.step-index c.in_ok-steps.steps.items c.deref-step-items.ensures.value c.loop-step-test.false));
+  fixities_are = ap (λ v. map fixity_row v.items) c.in_ok-signature.ensures.fixities ∙ c.loop-step.invariant.operators.rows ∙ ap (firsts [])
+      (all_steps_said fixities_in c.args.sources.now c.args.texts.now c.in_ok-steps.steps.items c.deref-step-items.result.now c.loop-step.step-index
+      c.deref-step-items.ensures.value c.loop-step-test.false);
   abbreviations_are = subst (λ z. AreAbbreviations c.in_ok-signature.signature.bank z c.in_ok-signature.signature.abbreviations.items)
       (all_seen c.args.names.now c.args.sources.now c.args.texts.now c.deref-step-items.result.now c.loop-step.step-index c.in_ok-steps.steps.items
       c.deref-step-items.ensures.value c.loop-step-test.false) (c.in_ok-signature.ensures.abbreviations _ c.loop-step.invariant.seen);

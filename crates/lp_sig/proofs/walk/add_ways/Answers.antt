@@ -9,4 +9,6 @@ loop-word-preserved-in_default c = λ ns has.
 
 pub loop-word-preserved : goal.loop-word-preserved
 loop-word-preserved c = λ ns has.
-    word_named ns c.args.source.now c.args.words.now c.loop-word.word-index _ c.args.ways.now.items c.loop-word.ways.items c.push.new.self.items c.in-Some.to c.loop-word-test.true (c.in-Some.ensures ∙ has c.spelled_at.result.now ∙ ap (λ n. first_place n ns) c.spelled_at.ensures) (c.loop-word.invariant ns has) c.in_ok-push.ensures.items
+    word_named ns c.args.source.now c.args.words.now c.loop-word.word-index _ c.args.ways.now.items c.loop-word.ways.items c.push.new.self.items
+    c.in-Some.to c.loop-word-test.true (c.in-Some.ensures ∙ has c.spelled_at.result.now ∙ ap (λ n. first_place n ns) c.spelled_at.ensures)
+    (c.loop-word.invariant ns has) c.in_ok-push.ensures.items

@@ -34,7 +34,9 @@ returns-in-Err-clause-refused c = λ t r.
     let b = c.loop-step.bank in
     let v = c.loop-step.invariant.reads t r in
     let x = subst (λ y. StateOf s b y v.0) c.in-Fresh.is v.2 in
-    stopped_beta s b c.loop-step.frames.items c.args.limit c.loop-step.budget.limit c.loop-step.budget.left (c.args.limit - c.loop-step.budget.left) t v.0 v.1 c.in-Err.refusal (reduced_same s) c.loop-step.invariant.frames c.loop-step.invariant.limit (omega (arith, c.loop-step.invariant.left)) v.4 v.3
+    stopped_beta s b c.loop-step.frames.items c.args.limit c.loop-step.budget.limit c.loop-step.budget.left (c.args.limit - c.loop-step.budget.left) t
+    v.0 v.1 c.in-Err.refusal (reduced_same s) c.loop-step.invariant.frames c.loop-step.invariant.limit (omega (arith, c.loop-step.invariant.left))
+    v.4 v.3
     (c.in-Err.ensures.refused v.0 x)
 
 pub returns-in-Err-clause-reduced : goal.returns-in-Err-clause-reduced

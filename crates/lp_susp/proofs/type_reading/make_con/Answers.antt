@@ -17,5 +17,7 @@ lengths c = grind (arith, common_steps)
 
 pub returns-clause-made : goal.returns-clause-made
 returns-clause-made c = λ front Ts h n.
-    con_made c.args.bank.now c.put_type.new.self c.in_ok-id.ensures.kept c.args.out.now.items c.truncate.new.self.items c.push.new.self.items (take (length c.as_slice.result.now - c.in-Some.from) (drop c.in-Some.from c.as_slice.result.now)) c.in_ok-id.id c.args.name c.in-Some.from c.args.count front Ts
+    con_made c.args.bank.now c.put_type.new.self c.in_ok-id.ensures.kept c.args.out.now.items c.truncate.new.self.items c.push.new.self.items
+    (take (length c.as_slice.result.now - c.in-Some.from) (drop c.in-Some.from c.as_slice.result.now)) c.in_ok-id.id c.args.name c.in-Some.from
+    c.args.count front Ts
     c.requires (lengths c) (rest_of c.as_slice.result.now c.args.out.now.items c.in-Some.from c.as_slice.ensures.value) c.truncate.ensures.items c.in_ok-push.ensures.items c.in_ok-id.ensures.tree h n

@@ -41,7 +41,9 @@ returns-in_ok-put_reads-in-TypeCon-clause-ran c = λ res r.
     let reads = reverse (reads_of c.items-cells.result.now) in
     let q = c.in_ok-put_reads-in-TypeCon.ensures ∙ ap (λ l. l ++ reads) c.in_ok-push-in-TypeCon.ensures.items ∙ append_assoc w (MakeCon c.in-TypeCon.name n ∷ []) reads in
     subst (λ l. Ran s l outs res) (sym q)
-    (replaced s w (MakeCon c.in-TypeCon.name n ∷ reads) (Read c.in-Read.cell) outs res (con_task s c.in-Read.cell c.in-TypeCon.name c.in-TypeCon.list n c.items-cells.result.now (sym c.in-TypeCon.ensures.cell) c.items-cells.ensures.items refl outs) (subst (λ t. Ran s (w ++ t ∷ []) outs res) c.in-Read.is r))
+    (replaced s w (MakeCon c.in-TypeCon.name n ∷ reads) (Read c.in-Read.cell) outs res
+    (con_task s c.in-Read.cell c.in-TypeCon.name c.in-TypeCon.list n c.items-cells.result.now (sym c.in-TypeCon.ensures.cell)
+    c.items-cells.ensures.items refl outs) (subst (λ t. Ran s (w ++ t ∷ []) outs res) c.in-Read.is r))
 
 pub returns-in_ok-push-in-TypeArrow-3-clause-ran : goal.returns-in_ok-push-in-TypeArrow-3-clause-ran
 returns-in_ok-push-in-TypeArrow-3-clause-ran c = λ res r.
@@ -50,7 +52,9 @@ returns-in_ok-push-in-TypeArrow-3-clause-ran c = λ res r.
     let w = c.args.work.now.items in
     let f = c.in-TypeArrow.from in
     let t = c.in-TypeArrow.to in
-    let q = c.in_ok-push-in-TypeArrow-3.ensures.items ∙ ap (λ l. l ++ Read f ∷ []) (c.in_ok-push-in-TypeArrow-2.ensures.items ∙ ap (λ l. l ++ Read t ∷ []) c.in_ok-push-in-TypeArrow.ensures.items ∙ append_assoc w (MakeArrow ∷ []) (Read t ∷ [])) ∙ append_assoc w (MakeArrow ∷ Read t ∷ []) (Read f ∷ []) in
+    let q = c.in_ok-push-in-TypeArrow-3.ensures.items ∙ ap (λ l. l ++ Read f ∷ []) (c.in_ok-push-in-TypeArrow-2.ensures.items ∙ ap
+    (λ l. l ++ Read t ∷ []) c.in_ok-push-in-TypeArrow.ensures.items ∙ append_assoc w (MakeArrow ∷ []) (Read t ∷ [])) ∙ append_assoc w
+    (MakeArrow ∷ Read t ∷ []) (Read f ∷ []) in
     subst (λ l. Ran s l outs res) (sym q)
     (replaced s w (MakeArrow ∷ Read t ∷ Read f ∷ []) (Read c.in-Read.cell) outs res (arrow_task s c.in-Read.cell f t (sym c.in-TypeArrow.ensures.cell) outs) (subst (λ y. Ran s (w ++ y ∷ []) outs res) c.in-Read.is r))
 

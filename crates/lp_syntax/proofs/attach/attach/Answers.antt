@@ -31,7 +31,10 @@ over-preserved c =
 pub returns-then-fits_right : goal.returns-then-fits_right
 returns-then-fits_right c =
     let st : c.over.frames.items ≡ c.pop.new.self.items ++ Waits c.in-Some-Waits.p c.in-Some-Waits.left ∷ [] = grind (arith, common_steps) in
-    ends_takes _ _ _ _ _ _ _ (Waits c.in-Some-Waits.p c.in-Some-Waits.left) c.over.x c.args.o _ c.over.invariant.grows st (chosen _ _ _ _ c.push.ensures.items (ap is_ok c.in_ok-push-in-Some-Waits.was)) (waits_takes _ c.in-Some-Waits.p _ _ c.args.o (sym c.fits_right.ensures ∙ c.if-fits_right.true)) c.over.invariant.same c.takes-then-fits_right.result c.takes-then-fits_right.ensures
+    ends_takes _ _ _ _ _ _ _ (Waits c.in-Some-Waits.p c.in-Some-Waits.left) c.over.x c.args.o _ c.over.invariant.grows st
+    (chosen _ _ _ _ c.push.ensures.items (ap is_ok c.in_ok-push-in-Some-Waits.was))
+    (waits_takes _ c.in-Some-Waits.p _ _ c.args.o (sym c.fits_right.ensures ∙ c.if-fits_right.true)) c.over.invariant.same
+    c.takes-then-fits_right.result c.takes-then-fits_right.ensures
 
 pub at_item-requires-clause-frames : goal.at_item-requires-clause-frames
 at_item-requires-clause-frames c =
@@ -56,7 +59,9 @@ returns-in-Some-Item c =
 pub returns-in-Some-Under : goal.returns-in-Some-Under
 returns-in-Some-Under c =
     let st : c.over.frames.items ≡ c.pop.new.self.items ++ Under c.in-Some-Under.spot c.in-Some-Under.note c.in-Some-Under.fun ∷ [] = grind (arith, common_steps) in
-    ends_takes _ _ _ _ _ _ _ (Under c.in-Some-Under.spot c.in-Some-Under.note c.in-Some-Under.fun) c.over.x c.args.o _ c.over.invariant.grows st (chosen _ _ _ _ c.push-in-Some-Under.ensures.items (ap is_ok c.in_ok-push-in-Some-Under.was)) refl c.over.invariant.same c.takes-in-Some-Under.result c.takes-in-Some-Under.ensures
+    ends_takes _ _ _ _ _ _ _ (Under c.in-Some-Under.spot c.in-Some-Under.note c.in-Some-Under.fun) c.over.x c.args.o _ c.over.invariant.grows st
+    (chosen _ _ _ _ c.push-in-Some-Under.ensures.items (ap is_ok c.in_ok-push-in-Some-Under.was)) refl c.over.invariant.same
+    c.takes-in-Some-Under.result c.takes-in-Some-Under.ensures
 
 pub returns-in-Some-Inside : goal.returns-in-Some-Inside
 returns-in-Some-Inside c =

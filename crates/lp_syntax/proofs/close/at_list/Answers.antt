@@ -17,4 +17,7 @@ returns-in_ok-list-in-ClosesList c =
 
 pub returns-in_ok-push-in-Bar-2 : goal.returns-in_ok-push-in-Bar-2
 returns-in_ok-push-in-Bar-2 c =
-    rw c.in-Bar.is (bar_steps _ c.args.frames.now.items _ c.args.spot c.args.fun c.args.done c.push-in-Bar.new.self c.args.x (chosen _ _ _ _ c.push-in-Bar.ensures.items (ap is_ok c.in_ok-push-in-Bar.was)) (chosen _ _ _ _ c.push-in-Bar-2.ensures.items (ap is_ok c.in_ok-push-in-Bar-2.was)) c.requires.frames c.requires.fun c.requires.done c.requires.x)
+    rw c.in-Bar.is (bar_steps _ c.args.frames.now.items _ c.args.spot c.args.fun c.args.done c.push-in-Bar.new.self c.args.x
+    (chosen _ _ _ _ c.push-in-Bar.ensures.items (ap is_ok c.in_ok-push-in-Bar.was))
+    (chosen _ _ _ _ c.push-in-Bar-2.ensures.items (ap is_ok c.in_ok-push-in-Bar-2.was)) c.requires.frames c.requires.fun c.requires.done
+    c.requires.x)

@@ -22,5 +22,7 @@ over-preserved c =
       grows = grows_on _ _ _ c.over.invariant.grows k.grows;
       t = k.within;
       n = omega (arith, l);
-      same = wrapped c.args.nodes.now.items c.over.nodes.items _ c.args.done.now (c.over.n - 1) c.over.t c.in_ok-t.t _ _ l refl c.over.invariant.grows k.grows c.requires.done k.tree (ap (λ j. wrap (done_of (trees c.over.nodes.items) (take j c.args.done.now)) (at (trees c.over.nodes.items) c.over.t)) e ∙ c.over.invariant.same);
+      same = wrapped c.args.nodes.now.items c.over.nodes.items _ c.args.done.now (c.over.n - 1) c.over.t c.in_ok-t.t _ _ l refl c.over.invariant.grows
+          k.grows c.requires.done k.tree (ap (λ j. wrap (done_of (trees c.over.nodes.items) (take j c.args.done.now))
+          (at (trees c.over.nodes.items) c.over.t)) e ∙ c.over.invariant.same);
     }

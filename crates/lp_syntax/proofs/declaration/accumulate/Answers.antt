@@ -19,7 +19,10 @@ returns-clause-declared c = record {
 
 pub returns-in_err-words-clause-fault : goal.returns-in_err-words-clause-fault
 returns-in_err-words-clause-fault c =
-    passed_up c.from_residual.result c.in_err-words.field-0.0 (λ f. MemoryOr f (StopsIn (spot_at c.args.input.now.file c.args.input.now.source.now c.args.input.now.tokens.now) (lexemes c.args.input.now.source.now c.args.input.now.tokens.now) (AtName keyword.Accumulate) c.args.from f)) c.from_residual.ensures.1 (c.in_err-words.ensures.fault keyword.Accumulate refl)
+    passed_up c.from_residual.result c.in_err-words.field-0.0 (λ f. MemoryOr f (StopsIn
+    (spot_at c.args.input.now.file c.args.input.now.source.now c.args.input.now.tokens.now)
+    (lexemes c.args.input.now.source.now c.args.input.now.tokens.now) (AtName keyword.Accumulate) c.args.from f)) c.from_residual.ensures.1
+    (c.in_err-words.ensures.fault keyword.Accumulate refl)
 
 pub returns-in_err-end-clause-fault : goal.returns-in_err-end-clause-fault
 returns-in_err-end-clause-fault c =

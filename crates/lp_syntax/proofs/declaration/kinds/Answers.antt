@@ -19,7 +19,10 @@ returns-clause-declared c = record {
 
 pub returns-in_err-names-clause-fault : goal.returns-in_err-names-clause-fault
 returns-in_err-names-clause-fault c =
-    passed_up c.from_residual.result c.in_err-names.field-0.0 (λ f. MemoryOr f (StopsIn (spot_at c.args.input.now.file c.args.input.now.source.now c.args.input.now.tokens.now) (lexemes c.args.input.now.source.now c.args.input.now.tokens.now) (AtName keyword.Kind) c.args.from f)) c.from_residual.ensures.1 (c.in_err-names.ensures.fault keyword.Kind refl)
+    passed_up c.from_residual.result c.in_err-names.field-0.0 (λ f. MemoryOr f (StopsIn
+    (spot_at c.args.input.now.file c.args.input.now.source.now c.args.input.now.tokens.now)
+    (lexemes c.args.input.now.source.now c.args.input.now.tokens.now) (AtName keyword.Kind) c.args.from f)) c.from_residual.ensures.1
+    (c.in_err-names.ensures.fault keyword.Kind refl)
 
 pub returns-in_err-arguments-clause-fault : goal.returns-in_err-arguments-clause-fault
 returns-in_err-arguments-clause-fault c =

@@ -16,10 +16,14 @@ returns-then-from-input-clause-fault c =
     let w = c.requires in
     let e = length_lexemes c.args.input.now.source.now c.args.input.now.tokens.now in
     let z = class_past c.args.input.now.source.now c.args.input.now.tokens.now c.args.from l in
-    inr (head_stops (spot_at c.args.input.now.file c.args.input.now.source.now c.args.input.now.tokens.now) (lexemes c.args.input.now.source.now c.args.input.now.tokens.now) c.args.from _ (λ y. let x : class.Lower ≡ class.End = sym y ∙ z in cc) (λ y. let x : class.Open ≡ class.End = sym y ∙ z in cc) (omega (arith, w, e)) c.refusal.ensures)
+    inr (head_stops (spot_at c.args.input.now.file c.args.input.now.source.now c.args.input.now.tokens.now)
+    (lexemes c.args.input.now.source.now c.args.input.now.tokens.now) c.args.from _ (λ y. let x : class.Lower ≡ class.End = sym y ∙ z in cc)
+    (λ y. let x : class.Open ≡ class.End = sym y ∙ z in cc) (omega (arith, w, e)) c.refusal.ensures)
 
 pub returns-in_default-clause-fault : goal.returns-in_default-clause-fault
 returns-in_default-clause-fault c =
     let w = c.requires in
     let e = length_lexemes c.args.input.now.source.now c.args.input.now.tokens.now in
-    inr (head_stops (spot_at c.args.input.now.file c.args.input.now.source.now c.args.input.now.tokens.now) (lexemes c.args.input.now.source.now c.args.input.now.tokens.now) c.args.from _ (λ y. c.in_default.not-Lower (c.class.ensures ∙ y)) (λ y. c.in_default.not-Open (c.class.ensures ∙ y)) (omega (arith, w, e)) c.refusal-in_default.ensures)
+    inr (head_stops (spot_at c.args.input.now.file c.args.input.now.source.now c.args.input.now.tokens.now)
+    (lexemes c.args.input.now.source.now c.args.input.now.tokens.now) c.args.from _ (λ y. c.in_default.not-Lower (c.class.ensures ∙ y))
+    (λ y. c.in_default.not-Open (c.class.ensures ∙ y)) (omega (arith, w, e)) c.refusal-in_default.ensures)

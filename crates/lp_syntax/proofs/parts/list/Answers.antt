@@ -41,4 +41,6 @@ returns-clause-fault c =
     let v = c.over.invariant in
     let w = v.within in
     let e = length_lexemes c.args.input.now.source.now c.args.input.now.tokens.now in
-    λ k y. inr (list_stops (spot_at c.args.input.now.file c.args.input.now.source.now c.args.input.now.tokens.now) (lexemes c.args.input.now.source.now c.args.input.now.tokens.now) k c.args.words c.args.from c.over.at v.listed.numbers _ v.listed.holds y (sym c.listed.ensures.is ∙ c.over-test.false) (omega (arith, w, e)) c.refusal.ensures)
+    λ k y. inr (list_stops (spot_at c.args.input.now.file c.args.input.now.source.now c.args.input.now.tokens.now)
+    (lexemes c.args.input.now.source.now c.args.input.now.tokens.now) k c.args.words c.args.from c.over.at v.listed.numbers _ v.listed.holds y
+    (sym c.listed.ensures.is ∙ c.over-test.false) (omega (arith, w, e)) c.refusal.ensures)

@@ -37,7 +37,9 @@ pub returns-in-Goes-2-clause-end : goal.returns-in-Goes-2-clause-end
 returns-in-Goes-2-clause-end c =
     let ls = lexemes c.args.input.now.source.now c.args.input.now.tokens.now in
     let l : length c.args.input.now.tokens.now ≤ c.over.at = grind (arith, common_steps) in
-    absurd (ends_there (state_of c.over.reader.waiting.items c.over.due) _ (sym (ap (turn_of c.turn-2.new.self.waiting.items) c.in-Goes-2.is) ∙ c.in_ok-root.ensures.moves ∙ ap (type_step (state_of c.over.reader.waiting.items c.over.due)) (class_past c.args.input.now.source.now c.args.input.now.tokens.now c.over.at l)))
+    absurd (ends_there (state_of c.over.reader.waiting.items c.over.due) _ (sym (ap (turn_of c.turn-2.new.self.waiting.items) c.in-Goes-2.is) ∙
+    c.in_ok-root.ensures.moves ∙ ap (type_step (state_of c.over.reader.waiting.items c.over.due))
+    (class_past c.args.input.now.source.now c.args.input.now.tokens.now c.over.at l)))
 
 pub returns-in-Ends-clause-tree : goal.returns-in-Ends-clause-tree
 returns-in-Ends-clause-tree c =

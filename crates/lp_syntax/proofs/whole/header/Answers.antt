@@ -11,7 +11,9 @@ use Rattle.lp_syntax.proofs.SignatureCode.{title_stops, word_stops, header_dot_s
 use Rattle.lp_syntax.proofs.whole.header.Goals as goal
 
 pub returns-then-not-is_title-clause-fault : goal.returns-then-not-is_title-clause-fault
-returns-then-not-is_title-clause-fault c = title_stops (spot_at c.args.input.now.file c.args.input.now.source.now c.args.input.now.tokens.now) (lexemes c.args.input.now.source.now c.args.input.now.tokens.now) (title c.args.signature) _ (λ y. c.if-not-is_title.ensures.no refl (c.class.ensures ∙ y)) c.refusal.ensures
+returns-then-not-is_title-clause-fault c = title_stops (spot_at c.args.input.now.file c.args.input.now.source.now c.args.input.now.tokens.now)
+    (lexemes c.args.input.now.source.now c.args.input.now.tokens.now) (title c.args.signature) _
+    (λ y. c.if-not-is_title.ensures.no refl (c.class.ensures ∙ y)) c.refusal.ensures
 
 pub returns-then-not-is_word-clause-fault : goal.returns-then-not-is_word-clause-fault
 returns-then-not-is_word-clause-fault c =

@@ -14,4 +14,6 @@ returns-then-end-tokens-clause-fault c =
     let e = length_lexemes c.args.source.now c.args.tokens.now in
     let l : c.in_ok-text.text.end + 1 < length c.args.tokens.now = grind (arith, common_steps) in
     let d = c.in_ok-text.ensures.term in
-    inr (inr (tail_refused (spot_at 0 c.args.source.now c.args.tokens.now) (entry_of c.args.table.now) (lexemes c.args.source.now c.args.tokens.now) c.in_ok-text.text.end d.tree _ d.term (is_at_dot (lexemes c.args.source.now c.args.tokens.now) c.in_ok-text.text.end (omega (arith, e, l)) c.in_ok-text.ensures.over) (omega (arith, e, l)) c.refusal.ensures))
+    inr (inr (tail_refused (spot_at 0 c.args.source.now c.args.tokens.now) (entry_of c.args.table.now) (lexemes c.args.source.now c.args.tokens.now)
+    c.in_ok-text.text.end d.tree _ d.term (is_at_dot (lexemes c.args.source.now c.args.tokens.now) c.in_ok-text.text.end (omega (arith, e, l))
+    c.in_ok-text.ensures.over) (omega (arith, e, l)) c.refusal.ensures))

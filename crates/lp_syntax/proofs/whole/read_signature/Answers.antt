@@ -30,7 +30,13 @@ returns-in_err-line-clause-fault c =
 pub over-preserved : goal.over-preserved
 over-preserved c =
     let v = c.over.invariant in
-    record { within = c.in_ok-line.ensures.within; header = v.header; read = one_more_read (spot_at c.args.file c.args.source.now c.args.tokens.now) (lexemes c.args.source.now c.args.tokens.now) c.over.at c.in_ok-line.end c.over.lines.items _ c.in_ok-line.line v.read c.in_ok-line.ensures.line (chosen _ _ _ _ c.push.ensures.items (ap is_ok c.in_ok-push.was)) }
+    record {
+      within = c.in_ok-line.ensures.within;
+      header = v.header;
+      read = one_more_read (spot_at c.args.file c.args.source.now c.args.tokens.now)
+          (lexemes c.args.source.now c.args.tokens.now) c.over.at c.in_ok-line.end c.over.lines.items _ c.in_ok-line.line v.read
+          c.in_ok-line.ensures.line (chosen _ _ _ _ c.push.ensures.items (ap is_ok c.in_ok-push.was));
+    }
 
 pub returns-clause-tree : goal.returns-clause-tree
 returns-clause-tree c =
@@ -38,4 +44,11 @@ returns-clause-tree c =
     let w = v.within in
     let u : length c.args.tokens.now ≤ c.over.at = grind (arith, common_steps) in
     let l = length_lexemes c.args.source.now c.args.tokens.now in
-    record { lines = v.read.before; is = whole_signature (spot_at c.args.file c.args.source.now c.args.tokens.now) (lexemes c.args.source.now c.args.tokens.now) c.over.at c.over.lines.items v.header v.read (omega (arith, w, u, l)); shown = v.read.shown; fit = v.read.fit; name = c.in_ok-header.ensures.name }
+    record {
+      lines = v.read.before;
+      is = whole_signature (spot_at c.args.file c.args.source.now c.args.tokens.now)
+          (lexemes c.args.source.now c.args.tokens.now) c.over.at c.over.lines.items v.header v.read (omega (arith, w, u, l));
+      shown = v.read.shown;
+      fit = v.read.fit;
+      name = c.in_ok-header.ensures.name;
+    }

@@ -5,7 +5,9 @@ use Rattle.lp_syntax.proofs.SignatureCode.{line_told, line_refused, local_refuse
 use Rattle.lp_syntax.proofs.whole.signature_line.Goals as goal
 
 pub returns-else-is_local-clause-line : goal.returns-else-is_local-clause-line
-returns-else-is_local-clause-line c = line_told (spot_at c.args.input.now.file c.args.input.now.source.now c.args.input.now.tokens.now) (lexemes c.args.input.now.source.now c.args.input.now.tokens.now) c.args.at c.in-Keyword.keyword c.declaration.result (sym c.class.ensures ∙ c.in-Keyword.is) (sym c.is_local.ensures ∙ c.if-is_local.false) c.declaration.ensures.declared
+returns-else-is_local-clause-line c = line_told (spot_at c.args.input.now.file c.args.input.now.source.now c.args.input.now.tokens.now)
+    (lexemes c.args.input.now.source.now c.args.input.now.tokens.now) c.args.at c.in-Keyword.keyword c.declaration.result
+    (sym c.class.ensures ∙ c.in-Keyword.is) (sym c.is_local.ensures ∙ c.if-is_local.false) c.declaration.ensures.declared
 
 pub returns-else-is_local-clause-fault : goal.returns-else-is_local-clause-fault
 returns-else-is_local-clause-fault c = line_refused (spot_at c.args.input.now.file c.args.input.now.source.now c.args.input.now.tokens.now)
@@ -14,7 +16,9 @@ returns-else-is_local-clause-fault c = line_refused (spot_at c.args.input.now.fi
     (c.declaration.ensures.fault (sym c.class.ensures ∙ c.in-Keyword.is))
 
 pub returns-then-is_local-clause-fault : goal.returns-then-is_local-clause-fault
-returns-then-is_local-clause-fault c = local_refused (spot_at c.args.input.now.file c.args.input.now.source.now c.args.input.now.tokens.now) (lexemes c.args.input.now.source.now c.args.input.now.tokens.now) c.args.at c.in-Keyword.keyword _ (sym c.class.ensures ∙ c.in-Keyword.is) (sym c.is_local.ensures ∙ c.if-is_local.true) c.refusal.ensures
+returns-then-is_local-clause-fault c = local_refused (spot_at c.args.input.now.file c.args.input.now.source.now c.args.input.now.tokens.now)
+    (lexemes c.args.input.now.source.now c.args.input.now.tokens.now) c.args.at c.in-Keyword.keyword _ (sym c.class.ensures ∙ c.in-Keyword.is)
+    (sym c.is_local.ensures ∙ c.if-is_local.true) c.refusal.ensures
 
 pub returns-in_default-clause-fault : goal.returns-in_default-clause-fault
 returns-in_default-clause-fault c =

@@ -27,5 +27,7 @@ contractions-preserved c =
       some = f.0;
       frames = f.1;
       left = omega (arith, c.in_ok-id.ensures.left, c.contractions.invariant.left);
-      taken = steps_on c.args.limit c.contractions.left c.go_on.new.left (tree c.args.bank.now c.args.term.0) (standing c.contractions.bank c.contractions.frames.items) (standing c.go_on.new.bank c.go_on.new.frames.items) c.in_ok-id.ensures.left c.contractions.invariant.left c.contractions.invariant.taken k;
+      taken = steps_on c.args.limit c.contractions.left c.go_on.new.left (tree c.args.bank.now c.args.term.0)
+          (standing c.contractions.bank c.contractions.frames.items) (standing c.go_on.new.bank c.go_on.new.frames.items) c.in_ok-id.ensures.left
+          c.contractions.invariant.left c.contractions.invariant.taken k;
     }

@@ -8,7 +8,9 @@ use Rattle.lp_verify.proofs.head.constant_on.Goals as goal
 
 pub returns-in_ok-of-in-Some-clause-made : goal.returns-in_ok-of-in-Some-clause-made
 returns-in_ok-of-in-Some-clause-made c = λ h Ts k a.
-    let there : h.tables.constants c.args.constant ≡ Some (scheme_in c.in-Some.bank.now c.in-Some.scheme.type_vars c.in-Some.scheme.body.0) = ap (λ (t : Tables). t.constants c.args.constant) k.tables ∙ sym (c.scheme.ensures k.language) ∙ ap (option_map (λ p. scheme_in p.0.now p.1.type_vars p.1.body.0)) c.in-Some.is in
+    let there : h.tables.constants c.args.constant ≡ Some (scheme_in c.in-Some.bank.now c.in-Some.scheme.type_vars c.in-Some.scheme.body.0) = ap
+    (λ (t : Tables). t.constants c.args.constant) k.tables ∙ sym (c.scheme.ensures k.language) ∙ ap
+    (option_map (λ p. scheme_in p.0.now p.1.type_vars p.1.body.0)) c.in-Some.is in
     c.in_ok-of-in-Some.ensures.made h.tables Ts there k.basics k.uses a
 
 pub returns-in-None-clause-made : goal.returns-in-None-clause-made

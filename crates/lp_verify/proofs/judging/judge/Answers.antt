@@ -9,7 +9,14 @@ use Rattle.lp_verify.proofs.Names.{record_named}
 use Rattle.lp_verify.proofs.judging.judge.Goals as goal
 
 pub loop-record-init : goal.loop-record-init
-loop-record-init c = (refl, λ short. none_yet (tables_in c.args.tables.now) c.args.records.now c.in_ok-shared.shared c.in_ok-shared.ensures.0 (c.in_ok-shared.ensures.1 (tables_in c.args.tables.now)), λ n. c.in_ok-shared.ensures.0 n, subst (AllsAre c.args.records.now 0) (sym c.new-alls.ensures) (no_alls c.args.records.now))
+loop-record-init c = (
+  refl,
+  λ short. none_yet (tables_in c.args.tables.now) c.args.records.now c.in_ok-shared.shared c.in_ok-shared.ensures.0
+      (c.in_ok-shared.ensures.1 (tables_in c.args.tables.now)),
+  λ n. c.in_ok-shared.ensures.0 n,
+  subst (AllsAre c.args.records.now 0)
+      (sym c.new-alls.ensures) (no_alls c.args.records.now),
+)
 
 pub loop-record-preserved : goal.loop-record-preserved
 loop-record-preserved c =

@@ -42,13 +42,17 @@ pub returns-in-Done : goal.returns-in-Done
 returns-in-Done c =
     let less = c.saturating_sub-steps.ensures in
     let some = c.loop-steps-test.true in
-    all_done c.args.left_by c.args.right_by c.loop-steps.steps c.saturating_sub-steps.result c.loop-steps.merged.items c.loop-steps.on_left.now c.loop-steps.on_right.now _ c.next_of.result c.first_lowered.result c.first_lowered-in-loop-steps.result c.next_of.ensures c.first_lowered.ensures c.first_lowered-in-loop-steps.ensures c.loop-steps.invariant (omega (arith, less, some)) c.in-Done.is
+    all_done c.args.left_by c.args.right_by c.loop-steps.steps c.saturating_sub-steps.result c.loop-steps.merged.items c.loop-steps.on_left.now
+    c.loop-steps.on_right.now _ c.next_of.result c.first_lowered.result c.first_lowered-in-loop-steps.result c.next_of.ensures
+    c.first_lowered.ensures c.first_lowered-in-loop-steps.ensures c.loop-steps.invariant (omega (arith, less, some)) c.in-Done.is
 
 pub returns-in-Clash : goal.returns-in-Clash
 returns-in-Clash c =
     let less = c.saturating_sub-steps.ensures in
     let some = c.loop-steps-test.true in
-    has_clash c.args.left_by c.args.right_by c.loop-steps.steps c.saturating_sub-steps.result c.loop-steps.merged.items c.loop-steps.on_left.now c.loop-steps.on_right.now _ c.next_of.result c.first_lowered.result c.first_lowered-in-loop-steps.result c.next_of.ensures c.first_lowered.ensures c.first_lowered-in-loop-steps.ensures c.loop-steps.invariant (omega (arith, less, some)) c.in-Clash.is
+    has_clash c.args.left_by c.args.right_by c.loop-steps.steps c.saturating_sub-steps.result c.loop-steps.merged.items c.loop-steps.on_left.now
+    c.loop-steps.on_right.now _ c.next_of.result c.first_lowered.result c.first_lowered-in-loop-steps.result c.next_of.ensures
+    c.first_lowered.ensures c.first_lowered-in-loop-steps.ensures c.loop-steps.invariant (omega (arith, less, some)) c.in-Clash.is
 
 pub returns : goal.returns
 returns c =

@@ -30,9 +30,16 @@ loop-instr-init c =
     let home = ap home_in c.in_ok-work.ensures.home in (
       home,
       λ before there given low alls keeps names short.
-          begun h (kept_in old) before c.in_ok-work.work new c.in_ok-whole.whole home (subst (λ l. ListsGrow old.lists l) (sym c.start.ensures.lists) (grows_same old.lists), c.in_ok-work.ensures.grow) (subst (λ l. IsStarted l m c.in_ok-work.work) (sym kept) (subst (λ l. IsStarted old.handed.items l c.in_ok-work.work) (sym same) c.in_ok-work.ensures.started)) there
-          (handed_kept (kept_in old) old new h.records before c.start.ensures.handed c.start.ensures.named given) (c.in_ok-work.ensures.head c.requires.language keeps) (subst (AreNamedBefore h.number h.records) (sym same) names) (subst (λ h. IsJudgedWhole h (was_named m) c.in_ok-whole.whole) home c.in_ok-whole.ensures.whole)
-          (λ s same starts. c.in_ok-whole.ensures.head s (subst (λ h. HasLanguage h.tables.now) (sym c.in_ok-work.ensures.home) c.requires.language) (basics_stay old.types new.types c.in_ok-work.ensures.grow keeps.0) same starts (subst (λ h. AllsAre h.records.now h.number c.args.alls.now.records.items) (sym c.in_ok-work.ensures.home) alls))
+          begun h (kept_in old) before c.in_ok-work.work new c.in_ok-whole.whole home
+          (subst (λ l. ListsGrow old.lists l) (sym c.start.ensures.lists) (grows_same old.lists), c.in_ok-work.ensures.grow)
+          (subst (λ l. IsStarted l m c.in_ok-work.work) (sym kept) (subst (λ l. IsStarted old.handed.items l c.in_ok-work.work) (sym same)
+          c.in_ok-work.ensures.started)) there
+          (handed_kept (kept_in old) old new h.records before c.start.ensures.handed c.start.ensures.named given)
+          (c.in_ok-work.ensures.head c.requires.language keeps) (subst (AreNamedBefore h.number h.records) (sym same) names)
+          (subst (λ h. IsJudgedWhole h (was_named m) c.in_ok-whole.whole) home c.in_ok-whole.ensures.whole)
+          (λ s same starts. c.in_ok-whole.ensures.head s (subst (λ h. HasLanguage h.tables.now) (sym c.in_ok-work.ensures.home) c.requires.language)
+          (basics_stay old.types new.types c.in_ok-work.ensures.grow keeps.0) same starts
+          (subst (λ h. AllsAre h.records.now h.number c.args.alls.now.records.items) (sym c.in_ok-work.ensures.home) alls))
           low,
       λ n. ap (λ m. was_named m n || member n (names_in h.self.code.items)) same,
     )

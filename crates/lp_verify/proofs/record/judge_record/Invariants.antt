@@ -14,6 +14,8 @@ invariant-loop-instr l =
     let code = home.record.now.code.items in
     let left = drop l.instr-index code in
     (home_in l.work.home ≡ home_in home)
-    × ((before : List (ℕ × Captured)) → slice_get home.records.now home.number ≡ Some home.record.now → HandedIn l.fn.shared home.records.now before → HandedLow before → AllsAre home.records.now home.number l.fn.alls.records.items → KeepsTypes (tables_in home.tables.now) l.fn.shared → AreNamedBefore home.number home.records.now l.fn.shared.named → bytes_of code < 2 ^ 32
+    × ((before : List (ℕ × Captured)) → slice_get home.records.now home.number ≡ Some home.record.now → HandedIn l.fn.shared home.records.now before →
+    HandedLow before → AllsAre home.records.now home.number l.fn.alls.records.items → KeepsTypes (tables_in home.tables.now) l.fn.shared →
+    AreNamedBefore home.number home.records.now l.fn.shared.named → bytes_of code < 2 ^ 32
     → GoesOn (home_in home) before code left l.work l.shared l.whole)
     × NamesLeft code left l.fn.shared.named l.shared.named

@@ -6,16 +6,22 @@ use Rattle.lp_ask.proofs.answering.Answering.reply_some.Goals as goal
 
 pub returns-in-Ok-clause-comes : goal.returns-in-Ok-clause-comes
 returns-in-Ok-clause-comes g c =
-    all_answered (entries_in c.args.self.now.asker) (reader c.args.self.now.asker) c.args.query.now (Some (map (λ n. n.items) c.args.names.now)) c.args.self.now.answers (map (λ n. n.items) c.args.names.now) (refl, c.in-Ok.ensures.there) (g.K.Sink.written c.args.out.now) (g.K.Sink.written c.ask_shown.new.out) c.in-Ok.written c.in-Ok.ensures.written
+    all_answered (entries_in c.args.self.now.asker) (reader c.args.self.now.asker) c.args.query.now (Some (map (λ n. n.items) c.args.names.now))
+    c.args.self.now.answers (map (λ n. n.items) c.args.names.now) (refl, c.in-Ok.ensures.there) (g.K.Sink.written c.args.out.now)
+    (g.K.Sink.written c.ask_shown.new.out) c.in-Ok.written c.in-Ok.ensures.written
 
 pub returns-in-Write-clause-comes : goal.returns-in-Write-clause-comes
 returns-in-Write-clause-comes g c =
-    write_comes (entries_in c.args.self.now.asker) (reader c.args.self.now.asker) c.args.query.now (Some (map (λ n. n.items) c.args.names.now)) c.args.self.now.answers (map (λ n. n.items) c.args.names.now) (g.K.Sink.written c.args.out.now) (g.K.Sink.written c.ask_shown.new.out) c.in-Err.refusal c.in-Write.ensures
+    write_comes (entries_in c.args.self.now.asker) (reader c.args.self.now.asker) c.args.query.now (Some (map (λ n. n.items) c.args.names.now))
+    c.args.self.now.answers (map (λ n. n.items) c.args.names.now) (g.K.Sink.written c.args.out.now) (g.K.Sink.written c.ask_shown.new.out)
+    c.in-Err.refusal c.in-Write.ensures
     (of_these (reader c.args.self.now.asker) c.args.query.now (map (λ n. n.items) c.args.names.now) _ c.in-Err.ensures.shows) c.in-Err.ensures.broke
 
 pub returns-in-Memory-clause-comes : goal.returns-in-Memory-clause-comes
 returns-in-Memory-clause-comes g c =
-    memory_comes (entries_in c.args.self.now.asker) (reader c.args.self.now.asker) c.args.query.now (Some (map (λ n. n.items) c.args.names.now)) c.args.self.now.answers (map (λ n. n.items) c.args.names.now) (g.K.Sink.written c.args.out.now) (g.K.Sink.written c.ask_shown.new.out) c.in-Err.refusal c.in-Memory.ensures
+    memory_comes (entries_in c.args.self.now.asker) (reader c.args.self.now.asker) c.args.query.now (Some (map (λ n. n.items) c.args.names.now))
+    c.args.self.now.answers (map (λ n. n.items) c.args.names.now) (g.K.Sink.written c.args.out.now) (g.K.Sink.written c.ask_shown.new.out)
+    c.in-Err.refusal c.in-Memory.ensures
     (of_these (reader c.args.self.now.asker) c.args.query.now (map (λ n. n.items) c.args.names.now) _ c.in-Err.ensures.shows) c.in-Err.ensures.broke
 
 pub returns-in-Missing-clause-comes : goal.returns-in-Missing-clause-comes

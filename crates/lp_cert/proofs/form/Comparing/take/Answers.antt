@@ -12,7 +12,10 @@ returns-clause-leads c =
     take_leads c.args.bank.now c.args.self.now c.push_terms.new.self c.heads.new.self _ _ _ _ _ _ c.heads.result c.in_ok-one.ensures.tree c.in_ok-other.ensures.tree (c.in_ok-push_terms.ensures.equal c.if-not-branch.false c.args.bank.now) c.in_ok-push_terms.ensures.types c.heads.ensures.leads
 
 pub returns-then-not-branch-clause-follows : goal.returns-then-not-branch-clause-follows
-returns-then-not-branch-clause-follows c = λ k. take_differs c.args.bank.now c.args.self.now c.push_terms.new.self _ _ _ _ _ _ c.in_ok-one.ensures.tree c.in_ok-other.ensures.tree c.in_ok-one.ensures.head c.in_ok-other.ensures.head (subst (TermsFollow c.args.bank.now c.args.self.now c.push_terms.new.self _ _) c.if-not-branch.true (c.in_ok-push_terms.ensures.follows c.args.bank.now))
+returns-then-not-branch-clause-follows c = λ k. take_differs c.args.bank.now c.args.self.now c.push_terms.new.self _ _ _ _ _ _
+    c.in_ok-one.ensures.tree c.in_ok-other.ensures.tree c.in_ok-one.ensures.head c.in_ok-other.ensures.head
+    (subst (TermsFollow c.args.bank.now c.args.self.now c.push_terms.new.self _ _) c.if-not-branch.true
+    (c.in_ok-push_terms.ensures.follows c.args.bank.now))
 
 pub returns-clause-follows : goal.returns-clause-follows
 returns-clause-follows c =

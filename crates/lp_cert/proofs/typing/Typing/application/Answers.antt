@@ -22,9 +22,14 @@ loop-at-preserved c = record {
   pairs = c.loop-at.invariant.pairs;
   next = c.loop-at.invariant.next;
   tasks = λ now h k.
-      tasks_next (IsTaskIn now) c.push-in-loop-at.new.self.items c.push.new.self.items c.loop-at.self.tasks.items (slice_index_or c.args.arguments.now (length c.args.arguments.now - 1 - c.loop-at.at) (record { 0 = 0 })) c.in_ok-push.ensures.items c.in_ok-push-2.ensures.items (c.loop-at.invariant.tasks now h k) tt
+      tasks_next (IsTaskIn now) c.push-in-loop-at.new.self.items c.push.new.self.items c.loop-at.self.tasks.items
+      (slice_index_or c.args.arguments.now (length c.args.arguments.now - 1 - c.loop-at.at) (record { 0 = 0 })) c.in_ok-push.ensures.items
+      c.in_ok-push-2.ensures.items (c.loop-at.invariant.tasks now h k) tt
       (All-get_or (λ t. IsTaskIn now (task.Visit t)) c.args.arguments.now (length c.args.arguments.now - 1 - c.loop-at.at) (record { 0 = 0 }) (omega (arith, c.loop-at-test.true)) k);
-  steps = λ b. argument_next b c.args.arguments.now c.push-in-loop-at.new.self.items c.push.new.self.items c.loop-at.self.tasks.items (steps_of b c.args.self.now.tasks.items) (length c.args.arguments.now - 1 - c.loop-at.at) _ _ (slice_index_or c.args.arguments.now (length c.args.arguments.now - 1 - c.loop-at.at) (record { 0 = 0 })) c.in_ok-push.ensures.items c.in_ok-push-2.ensures.items
+  steps = λ b. argument_next b c.args.arguments.now c.push-in-loop-at.new.self.items c.push.new.self.items c.loop-at.self.tasks.items
+      (steps_of b c.args.self.now.tasks.items) (length c.args.arguments.now - 1 - c.loop-at.at) _ _
+      (slice_index_or c.args.arguments.now (length c.args.arguments.now - 1 - c.loop-at.at) (record { 0 = 0 })) c.in_ok-push.ensures.items
+      c.in_ok-push-2.ensures.items
       (omega (arith, c.loop-at-test.true)) (read_again c.args.arguments.now (length c.args.arguments.now - 1 - c.loop-at.at) (record { 0 = 0 }) (omega (arith, c.loop-at-test.true))) (omega arith) (omega (arith, c.loop-at-test.true)) (c.loop-at.invariant.steps b);
 }
 

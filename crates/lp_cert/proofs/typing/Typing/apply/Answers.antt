@@ -31,6 +31,8 @@ pub returns-in_ok-push-in-Arrow-clause-keeps : goal.returns-in_ok-push-in-Arrow-
 returns-in_ok-push-in-Arrow-clause-keeps c = λ y.
     let t = c.in_ok-equate-in-Arrow.ensures.grown in
     let q = c.in_ok-equate-in-Arrow.ensures.equated in
-    arrow_keeps c.args.bank.now c.args.self.now c.equate.new.self _ c.pop.new.self.items c.pop-2.new.self.items c.in-Some-pop.head c.in-Some.argument c.in-Arrow.from c.in-Arrow.to y (extends_same c.args.bank.now) c.in-Some.ensures.items c.in-Some-pop.ensures.items t.constants t.eigens t.context t.tasks q.next refl
+    arrow_keeps c.args.bank.now c.args.self.now c.equate.new.self _ c.pop.new.self.items c.pop-2.new.self.items c.in-Some-pop.head c.in-Some.argument
+    c.in-Arrow.from c.in-Arrow.to y (extends_same c.args.bank.now) c.in-Some.ensures.items c.in-Some-pop.ensures.items t.constants t.eigens
+    t.context t.tasks q.next refl
     q.solved q.below (c.in_ok-push-in-Arrow.ensures.items ∙ ap (λ x. x.items ++ c.in-Arrow.to ∷ []) t.stack) c.in-Arrow.ensures.within.0 c.in-Arrow.ensures.within.1
     (λ b g. sym (type_seen_later c.args.bank.now b c.in-Some-pop.head.0 _ g c.in-Arrow.ensures.node (λ e. absurd (cc)) c.in-Arrow.ensures.within c.in-Arrow.ensures.tree))

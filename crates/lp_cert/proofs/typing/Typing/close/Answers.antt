@@ -27,4 +27,6 @@ returns-then-not-is_type_inside-2-clause-keeps c = λ y. last_inside c.args.bank
 
 pub returns-clause-keeps : goal.returns-clause-keeps
 returns-clause-keeps c = λ y.
-    closing_keeps c.args.bank.now c.put_arrow.new.bank c.args.self.now _ c.pop-2.new.self.items c.pop.new.self.items c.in-Some-pop.from c.in-Some.to c.in_ok-of.of c.in_ok-of.ensures.kept y refl refl refl refl refl c.in-Some-pop.ensures.items c.in-Some.ensures.items refl c.in_ok-push.ensures.items c.in_ok-of.ensures.within c.in_ok-of.ensures.tree
+    closing_keeps c.args.bank.now c.put_arrow.new.bank c.args.self.now _ c.pop-2.new.self.items c.pop.new.self.items c.in-Some-pop.from c.in-Some.to
+    c.in_ok-of.of c.in_ok-of.ensures.kept y refl refl refl refl refl c.in-Some-pop.ensures.items c.in-Some.ensures.items refl
+    c.in_ok-push.ensures.items c.in_ok-of.ensures.within c.in_ok-of.ensures.tree

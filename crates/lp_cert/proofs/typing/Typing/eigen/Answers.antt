@@ -10,7 +10,9 @@ use Rattle.lp_cert.proofs.typing.Typing.eigen.Goals as goal
 
 pub returns-in-Some-clause-moves : goal.returns-in-Some-clause-moves
 returns-in-Some-clause-moves c =
-    eigen_moves c.args.bank.now c.args.self.now c.closed.new.self c.closed.result c.args.level (c.args.level - 1) c.in-Some.of.now (omega (arith, c.if-level-eq0.false)) (slice_get-get_or c.args.self.now.eigens.now _ _ c.in-Some.ensures.lookup.3.0 ∙ ap Some (sym c.in-Some.ensures.lookup.1)) c.closed.ensures.pushes
+    eigen_moves c.args.bank.now c.args.self.now c.closed.new.self c.closed.result c.args.level (c.args.level - 1) c.in-Some.of.now
+    (omega (arith, c.if-level-eq0.false)) (slice_get-get_or c.args.self.now.eigens.now _ _ c.in-Some.ensures.lookup.3.0 ∙ ap Some
+    (sym c.in-Some.ensures.lookup.1)) c.closed.ensures.pushes
 
 pub returns-then-level-eq0-clause-keeps : goal.returns-then-level-eq0-clause-keeps
 returns-then-level-eq0-clause-keeps c = λ y. eigen_none c.args.bank.now c.args.self.now _ c.args.level (λ b. ap (eigen_type (types_in b c.args.self.now.eigens.now)) c.if-level-eq0.true)
@@ -20,4 +22,6 @@ returns-in-None-clause-keeps c = λ y. eigen_none c.args.bank.now c.args.self.no
 
 pub returns-in-Some-clause-keeps : goal.returns-in-Some-clause-keeps
 returns-in-Some-clause-keeps c =
-    eigen_kept c.args.bank.now c.args.self.now c.closed.new.self c.closed.result c.args.level (c.args.level - 1) c.in-Some.of.now (omega (arith, c.if-level-eq0.false)) (slice_get-get_or c.args.self.now.eigens.now _ _ c.in-Some.ensures.lookup.3.0 ∙ ap Some (sym c.in-Some.ensures.lookup.1)) c.closed.ensures.held
+    eigen_kept c.args.bank.now c.args.self.now c.closed.new.self c.closed.result c.args.level (c.args.level - 1) c.in-Some.of.now
+    (omega (arith, c.if-level-eq0.false)) (slice_get-get_or c.args.self.now.eigens.now _ _ c.in-Some.ensures.lookup.3.0 ∙ ap Some
+    (sym c.in-Some.ensures.lookup.1)) c.closed.ensures.held

@@ -17,10 +17,30 @@ loop-preserved c = record {
       let m = c.in_ok-take.ensures.moves c.if-not-branch.false b e θ T s d in
       c.loop.invariant.moves b (extends-trans _ _ _ c.in_ok-take.ensures.kept e) θ T m.0 (task_back b θ c.loop.self c.pop.new.self.items c.in-Some.task T c.in-Some.ensures.items m.1);
   tidy = λ y.
-      let t = taken_tidy c.loop.bank c.loop.self (record { alloc = c.loop.self.alloc; constants = c.loop.self.constants; eigens = c.loop.self.eigens; context = c.loop.self.context; stack = c.loop.self.stack; pairs = c.loop.self.pairs; tasks = c.pop.new.self; next = c.loop.self.next }) c.in-Some.task c.in-Some.ensures.items refl refl refl refl refl refl (c.loop.invariant.tidy y) in
+      let t = taken_tidy c.loop.bank c.loop.self (record {
+        alloc = c.loop.self.alloc;
+        constants = c.loop.self.constants;
+        eigens = c.loop.self.eigens;
+        context = c.loop.self.context;
+        stack = c.loop.self.stack;
+        pairs = c.loop.self.pairs;
+        tasks = c.pop.new.self;
+        next = c.loop.self.next;
+      })
+      c.in-Some.task c.in-Some.ensures.items refl refl refl refl refl refl (c.loop.invariant.tidy y) in
       (c.in_ok-take.ensures.keeps t.0 t.1).tidy c.if-not-branch.false;
   can = λ y b g T s.
-      let t = taken_tidy c.loop.bank c.loop.self (record { alloc = c.loop.self.alloc; constants = c.loop.self.constants; eigens = c.loop.self.eigens; context = c.loop.self.context; stack = c.loop.self.stack; pairs = c.loop.self.pairs; tasks = c.pop.new.self; next = c.loop.self.next }) c.in-Some.task c.in-Some.ensures.items refl refl refl refl refl refl (c.loop.invariant.tidy y) in
+      let t = taken_tidy c.loop.bank c.loop.self (record {
+        alloc = c.loop.self.alloc;
+        constants = c.loop.self.constants;
+        eigens = c.loop.self.eigens;
+        context = c.loop.self.context;
+        stack = c.loop.self.stack;
+        pairs = c.loop.self.pairs;
+        tasks = c.pop.new.self;
+        next = c.loop.self.next;
+      })
+      c.in-Some.task c.in-Some.ensures.items refl refl refl refl refl refl (c.loop.invariant.tidy y) in
       ((c.in_ok-take.ensures.keeps t.0 t.1).can b g T (task_taken b c.loop.self (record {
         alloc = c.loop.self.alloc;
         constants = c.loop.self.constants;
@@ -39,14 +59,27 @@ returns-in_default-clause-derives c = λ e b g θ T R s k. (c.loop.invariant.mov
 
 pub returns-in_default-clause-keeps : goal.returns-in_default-clause-keeps
 returns-in_default-clause-keeps c = λ y.
-    ended_keeps c.loop.bank c.args.self.now c.loop.self _ (nothing c.loop.self.tasks.items (omega (arith, c.in_default.ensures.cases.0, c.loop.self.tasks.ok))) (nothing c.pop.new.self.items (omega (arith, c.in_default.ensures.cases.1, c.pop.new.self.ok))) refl refl refl refl refl refl (c.loop.invariant.tidy y) (c.loop.invariant.can y)
+    ended_keeps c.loop.bank c.args.self.now c.loop.self _ (nothing c.loop.self.tasks.items
+    (omega (arith, c.in_default.ensures.cases.0, c.loop.self.tasks.ok))) (nothing c.pop.new.self.items
+    (omega (arith, c.in_default.ensures.cases.1, c.pop.new.self.ok))) refl refl refl refl refl refl (c.loop.invariant.tidy y)
+    (c.loop.invariant.can y)
 
 pub returns-in_default-clause-ended : goal.returns-in_default-clause-ended
 returns-in_default-clause-ended c = λ e. nothing c.pop.new.self.items (omega (arith, c.in_default.ensures.cases.1, c.pop.new.self.ok))
 
 pub returns-then-not-branch-clause-keeps : goal.returns-then-not-branch-clause-keeps
 returns-then-not-branch-clause-keeps c = λ y.
-    let t = taken_tidy c.loop.bank c.loop.self (record { alloc = c.loop.self.alloc; constants = c.loop.self.constants; eigens = c.loop.self.eigens; context = c.loop.self.context; stack = c.loop.self.stack; pairs = c.loop.self.pairs; tasks = c.pop.new.self; next = c.loop.self.next }) c.in-Some.task c.in-Some.ensures.items refl refl refl refl refl refl (c.loop.invariant.tidy y) in
+    let t = taken_tidy c.loop.bank c.loop.self (record {
+      alloc = c.loop.self.alloc;
+      constants = c.loop.self.constants;
+      eigens = c.loop.self.eigens;
+      context = c.loop.self.context;
+      stack = c.loop.self.stack;
+      pairs = c.loop.self.pairs;
+      tasks = c.pop.new.self;
+      next = c.loop.self.next;
+    })
+    c.in-Some.task c.in-Some.ensures.items refl refl refl refl refl refl (c.loop.invariant.tidy y) in
     refused c.take.new.bank c.args.self.now c.take.new.self (λ b. []) (λ b g T s.
     let q = ((c.in_ok-take.ensures.keeps t.0 t.1).can b g T (task_taken b c.loop.self
     (record {

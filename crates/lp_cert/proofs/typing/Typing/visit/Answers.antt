@@ -29,7 +29,9 @@ returns-in-Text-clause-moves c =
     (step_pushes c.kind-in-Text.new.bank c.args.self.now c.kind-in-Text.new.self c.kind-in-Text.result (λ b. string_type) (λ b. atom (text c.in-Text.field-0.now)) (λ b g C. refl) c.kind-in-Text.ensures.pushes)
 
 pub returns-in-Eigen-clause-moves : goal.returns-in-Eigen-clause-moves
-returns-in-Eigen-clause-moves c = step_as c.args.bank.now c.args.self.now c.eigen.new.self c.eigen.result (λ b. atom (eigen c.in-Eigen.level)) (λ b. tree b c.args.term.0) (λ b g. seen_inside c.args.bank.now b c.args.term.0 (eigen_node c.in-Eigen.level) g (c.is_inside.ensures.inside c.if-not-is_inside.false) c.in-Eigen.ensures.within c.in-Eigen.ensures.tree) c.eigen.ensures.moves
+returns-in-Eigen-clause-moves c = step_as c.args.bank.now c.args.self.now c.eigen.new.self c.eigen.result (λ b. atom (eigen c.in-Eigen.level))
+    (λ b. tree b c.args.term.0) (λ b g. seen_inside c.args.bank.now b c.args.term.0 (eigen_node c.in-Eigen.level) g
+    (c.is_inside.ensures.inside c.if-not-is_inside.false) c.in-Eigen.ensures.within c.in-Eigen.ensures.tree) c.eigen.ensures.moves
 
 pub returns-in-Param-clause-moves : goal.returns-in-Param-clause-moves
 returns-in-Param-clause-moves c =
@@ -46,12 +48,16 @@ returns-in-Abs-clause-moves c =
 pub returns-in-App-clause-moves : goal.returns-in-App-clause-moves
 returns-in-App-clause-moves c =
     step_as c.args.bank.now c.args.self.now c.application.new.self c.application.result (λ b. apply (tree b c.in-App.head.0) (map (λ t. tree b t.0) c.in-App.arguments.now)) (λ b. tree b c.args.term.0)
-    (λ b g. ap (apply (tree b c.in-App.head.0)) (twice_terms (tree b) c.in-App.arguments.now) ∙ seen_inside c.args.bank.now b c.args.term.0 (app_node c.in-App.head.0 (map (λ t. t.0) c.in-App.arguments.now)) g (c.is_inside.ensures.inside c.if-not-is_inside.false) c.in-App.ensures.within c.in-App.ensures.tree)
+    (λ b g. ap (apply (tree b c.in-App.head.0)) (twice_terms (tree b) c.in-App.arguments.now) ∙ seen_inside c.args.bank.now b c.args.term.0
+    (app_node c.in-App.head.0 (map (λ t. t.0) c.in-App.arguments.now)) g (c.is_inside.ensures.inside c.if-not-is_inside.false)
+    c.in-App.ensures.within c.in-App.ensures.tree)
     (step_any c.args.bank.now c.args.self.now c.application.new.self c.application.result (λ b. visiting (apply (tree b c.in-App.head.0) (map (λ t. tree b t.0) c.in-App.arguments.now))) c.application.ensures.moves)
 
 pub returns-in_ok-copy-in-Const-clause-moves : goal.returns-in_ok-copy-in-Const-clause-moves
 returns-in_ok-copy-in-Const-clause-moves c =
-    constant_step c.args.bank.now c.constant.new.bank c.args.self.now c.constant.new.self c.constant.result c.args.term c.in-Const.number c.in-Const.types.now c.as_slice.result.now (c.as_slice.ensures.value ∙ c.in_ok-copy-in-Const.ensures.items) c.constant.ensures.kept (c.is_inside.ensures.inside c.if-not-is_inside.false) c.in-Const.ensures.within c.in-Const.ensures.tree c.constant.ensures.moves
+    constant_step c.args.bank.now c.constant.new.bank c.args.self.now c.constant.new.self c.constant.result c.args.term c.in-Const.number
+    c.in-Const.types.now c.as_slice.result.now (c.as_slice.ensures.value ∙ c.in_ok-copy-in-Const.ensures.items) c.constant.ensures.kept
+    (c.is_inside.ensures.inside c.if-not-is_inside.false) c.in-Const.ensures.within c.in-Const.ensures.tree c.constant.ensures.moves
 
 pub returns-then-not-is_inside-clause-keeps : goal.returns-then-not-is_inside-clause-keeps
 returns-then-not-is_inside-clause-keeps c = λ y h. absurd (omega (arith, h.0, c.is_inside.ensures.outside c.if-not-is_inside.true))
@@ -94,9 +100,13 @@ returns-in-Abs-clause-keeps c =
 pub returns-in-App-clause-keeps : goal.returns-in-App-clause-keeps
 returns-in-App-clause-keeps c =
     visit_application c.args.bank.now c.args.self.now c.application.new.self c.application.result c.args.term c.in-App.head c.in-App.arguments.now c.in-App.ensures.within.0 c.in-App.ensures.within.1
-    (λ b g. ap (apply (tree b c.in-App.head.0)) (twice_terms (tree b) c.in-App.arguments.now) ∙ seen_inside c.args.bank.now b c.args.term.0 (app_node c.in-App.head.0 (map (λ t. t.0) c.in-App.arguments.now)) g (c.is_inside.ensures.inside c.if-not-is_inside.false) c.in-App.ensures.within c.in-App.ensures.tree)
+    (λ b g. ap (apply (tree b c.in-App.head.0)) (twice_terms (tree b) c.in-App.arguments.now) ∙ seen_inside c.args.bank.now b c.args.term.0
+    (app_node c.in-App.head.0 (map (λ t. t.0) c.in-App.arguments.now)) g (c.is_inside.ensures.inside c.if-not-is_inside.false)
+    c.in-App.ensures.within c.in-App.ensures.tree)
     c.application.ensures.keeps
 
 pub returns-in_ok-copy-in-Const-clause-keeps : goal.returns-in_ok-copy-in-Const-clause-keeps
 returns-in_ok-copy-in-Const-clause-keeps c =
-    visit_constant c.args.bank.now c.constant.new.bank c.args.self.now c.constant.new.self c.constant.result c.args.term c.in-Const.number c.in-Const.types.now c.as_slice.result.now (c.as_slice.ensures.value ∙ c.in_ok-copy-in-Const.ensures.items) c.constant.ensures.kept (c.is_inside.ensures.inside c.if-not-is_inside.false) c.in-Const.ensures.within c.in-Const.ensures.tree c.constant.ensures.keeps
+    visit_constant c.args.bank.now c.constant.new.bank c.args.self.now c.constant.new.self c.constant.result c.args.term c.in-Const.number
+    c.in-Const.types.now c.as_slice.result.now (c.as_slice.ensures.value ∙ c.in_ok-copy-in-Const.ensures.items) c.constant.ensures.kept
+    (c.is_inside.ensures.inside c.if-not-is_inside.false) c.in-Const.ensures.within c.in-Const.ensures.tree c.constant.ensures.keeps

@@ -38,7 +38,9 @@ loop-at-preserved c = record {
 pub returns-clause-values : goal.returns-clause-values
 returns-clause-values c = λ y e a.
     let n = variables_long c.args.query.now in
-    witnesses_whole c.loop-at.bank c.args.self.now.theory.constants.now c.args.types.now c.args.values.now (variable_types c.args.query.now) c.loop-at.at (omega (arith, c.loop-at-test.false)) (omega (arith, c.loop-at-test.false, n, c.if-values-len.false, c.args.query.now.vars.ok)) (c.loop-at.invariant.values e a)
+    witnesses_whole c.loop-at.bank c.args.self.now.theory.constants.now c.args.types.now c.args.values.now (variable_types c.args.query.now)
+    c.loop-at.at (omega (arith, c.loop-at-test.false)) (omega (arith, c.loop-at-test.false, n, c.if-values-len.false, c.args.query.now.vars.ok))
+    (c.loop-at.invariant.values e a)
 
 pub returns-then-values-len-clause-never : goal.returns-then-values-len-clause-never
 returns-then-values-len-clause-never c = λ e s n i j k.

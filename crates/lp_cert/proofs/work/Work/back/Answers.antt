@@ -25,8 +25,12 @@ returns-clause-goes c = λ e b g ns h.
     let closed = sym c.in_ok-are_closed_types.ensures.closed ∙ c.if-not-branch.false in
     let long = extends-trans _ _ _ c.in_ok-found.ensures.kept g in
     let it = some_is _ c.in_ok-found.found c.in-Some.clause c.in-Some.is c.in_ok-found.ensures.clause (types_inside c.args.bank.now c.args.types.now closed) b g in
-    clause_goes b c.args.self.now ns (tree b c.args.goal.0) (tree b c.in-Some.clause.0) c.args.number (types_in b c.args.types.now) it (closed_types_later c.args.bank.now b c.args.types.now long (types_found c.args.bank.now c.args.types.now closed)) (c.is_atom.ensures.yes c.if-not-is_atom.false b long)
-    (stays_with b c.args.self.now c.clause.new.self (focusing (tree b c.in-Some.clause.0) (tree b c.args.goal.0)) ns (stays_trans _ _ _ (record { theory = refl; eigens = refl; assumed = refl; tasks = refl }) c.in_ok-found.ensures.stays) (task_pushed b c.clause.new.self c.push.new.self.items (task.Focus c.in-Some.clause c.args.goal) ns c.in_ok-push.ensures.items h))
+    clause_goes b c.args.self.now ns (tree b c.args.goal.0) (tree b c.in-Some.clause.0) c.args.number (types_in b c.args.types.now) it
+    (closed_types_later c.args.bank.now b c.args.types.now long (types_found c.args.bank.now c.args.types.now closed))
+    (c.is_atom.ensures.yes c.if-not-is_atom.false b long)
+    (stays_with b c.args.self.now c.clause.new.self (focusing (tree b c.in-Some.clause.0) (tree b c.args.goal.0)) ns
+    (stays_trans _ _ _ (record { theory = refl; eigens = refl; assumed = refl; tasks = refl }) c.in_ok-found.ensures.stays)
+    (task_pushed b c.clause.new.self c.push.new.self.items (task.Focus c.in-Some.clause c.args.goal) ns c.in_ok-push.ensures.items h))
 
 pub returns-then-not-is_atom-clause-turned : goal.returns-then-not-is_atom-clause-turned
 returns-then-not-is_atom-clause-turned c = λ w g i b h k. c.is_atom.ensures.no c.if-not-is_atom.true (subst (λ t. IsAtomHead (head_of t)) (h.same_terms c.args.goal.0 g.0) k.4)

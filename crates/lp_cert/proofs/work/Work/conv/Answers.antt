@@ -33,7 +33,9 @@ returns-in-Same-clause-turned c = pushed_turned c.go_on.result _ _ c.go_on.ensur
     let long = extends-trans _ _ _ on (extends-trans _ _ _ c.in_ok-is_closed_of.ensures.kept off) in
     let r = other_ready _ _ c.args.other _ (extends-trans _ _ _ c.in_ok-is_closed_of.ensures.kept off) (further _ _ c.args.other on l) (c.in_ok-is_closed_of.ensures.closed c.if-not-branch.false) in
     goes_to c.args.bank.now _ c.args.self.now c.converts.new.self c.go_on.new.self (λ b. proving (tree b c.args.goal.0)) (λ b. converted (tree b c.args.other.0)) long (stays_trans _ _ _ c.in_ok-is_closed_of.ensures.stays c.in_ok-compared.ensures.stays) (task.Prove c.args.other) p w r (λ b h at. (
-      formula_in b c.args.self.now c.args.other c.in_ok-of.of (type_later _ b c.in_ok-of.of _ (extends-trans _ _ _ c.in_ok-is_closed_of.ensures.kept (extends-trans _ _ _ off h)) c.in_ok-of.ensures.within c.in_ok-of.ensures.tree) (c.in_ok-is_closed_of.ensures.typed c.if-not-branch.false b (extends-trans _ _ _ off h)),
+      formula_in b c.args.self.now c.args.other c.in_ok-of.of (type_later _ b c.in_ok-of.of _
+          (extends-trans _ _ _ c.in_ok-is_closed_of.ensures.kept (extends-trans _ _ _ off h)) c.in_ok-of.ensures.within c.in_ok-of.ensures.tree)
+          (c.in_ok-is_closed_of.ensures.typed c.if-not-branch.false b (extends-trans _ _ _ off h)),
       c.in_ok-compared.ensures.later c.in-Same.is b h,
       at,
     )))
@@ -49,7 +51,9 @@ pub returns-in-Deep-clause-turned : goal.returns-in-Deep-clause-turned
 returns-in-Deep-clause-turned c = λ w g l b h.
     let on = c.in_ok-of.ensures.kept in
     let off = c.in_ok-compared.ensures.kept in (
-      formula_in b c.args.self.now c.args.other c.in_ok-of.of (type_later _ b c.in_ok-of.of _ (extends-trans _ _ _ c.in_ok-is_closed_of.ensures.kept (extends-trans _ _ _ off h)) c.in_ok-of.ensures.within c.in_ok-of.ensures.tree) (c.in_ok-is_closed_of.ensures.typed c.if-not-branch.false b (extends-trans _ _ _ off h)),
+      formula_in b c.args.self.now c.args.other c.in_ok-of.of (type_later _ b c.in_ok-of.of _
+          (extends-trans _ _ _ c.in_ok-is_closed_of.ensures.kept (extends-trans _ _ _ off h)) c.in_ok-of.ensures.within c.in_ok-of.ensures.tree)
+          (c.in_ok-is_closed_of.ensures.typed c.if-not-branch.false b (extends-trans _ _ _ off h)),
       c.in_ok-compared.ensures.deep c.in-Deep.is
           (other_ready _ _ c.args.other _ c.in_ok-is_closed_of.ensures.kept (further _ _ c.args.other on l) (c.in_ok-is_closed_of.ensures.closed c.if-not-branch.false))
           (ready_later _ _ c.args.goal (extends-trans _ _ _ on c.in_ok-is_closed_of.ensures.kept) g) b h,

@@ -24,13 +24,19 @@ returns-in-Hit-clause-goes c =
     (goes_beside c.hit.result _ _ _ c.hit.ensures.stays c.hit.ensures.later (λ s q b g ns h. hit_goes b c.args.self.now ns (tree b c.args.clause.0) (tree b c.args.atom.0) (q b g) (stays_left b c.args.self.now c.hit.new.self ns s h)))
 
 pub returns-in-FocusConv-clause-turned : goal.returns-in-FocusConv-clause-turned
-returns-in-FocusConv-clause-turned c = focused_as c.focus_conv.result c.args.bank.now c.focus_conv.new.bank c.args.self.now c.focus_conv.new.self (λ b. focusing (tree b c.args.clause.0) (tree b c.args.atom.0)) c.args.node.now (node.FocusConv c.in-FocusConv.other) c.in-FocusConv.is _ _ _ c.focus_conv.ensures.turned
+returns-in-FocusConv-clause-turned c = focused_as c.focus_conv.result c.args.bank.now c.focus_conv.new.bank c.args.self.now c.focus_conv.new.self
+    (λ b. focusing (tree b c.args.clause.0) (tree b c.args.atom.0)) c.args.node.now (node.FocusConv c.in-FocusConv.other) c.in-FocusConv.is _ _ _
+    c.focus_conv.ensures.turned
 
 pub returns-in-FocusAll-clause-turned : goal.returns-in-FocusAll-clause-turned
-returns-in-FocusAll-clause-turned c = focused_as c.focus_all.result c.args.bank.now c.focus_all.new.bank c.args.self.now c.focus_all.new.self (λ b. focusing (tree b c.args.clause.0) (tree b c.args.atom.0)) c.args.node.now (node.FocusAll c.in-FocusAll.value) c.in-FocusAll.is _ _ _ c.focus_all.ensures.turned
+returns-in-FocusAll-clause-turned c = focused_as c.focus_all.result c.args.bank.now c.focus_all.new.bank c.args.self.now c.focus_all.new.self
+    (λ b. focusing (tree b c.args.clause.0) (tree b c.args.atom.0)) c.args.node.now (node.FocusAll c.in-FocusAll.value) c.in-FocusAll.is _ _ _
+    c.focus_all.ensures.turned
 
 pub returns-in-Take-clause-turned : goal.returns-in-Take-clause-turned
-returns-in-Take-clause-turned c = focused_as c.take.result c.args.bank.now c.args.bank.now c.args.self.now c.take.new.self (λ b. focusing (tree b c.args.clause.0) (tree b c.args.atom.0)) c.args.node.now (node.Take c.in-Take.side) c.in-Take.is _ _ _ (plainly_focused c.take.result _ _ _ _ c.take.ensures.turned)
+returns-in-Take-clause-turned c = focused_as c.take.result c.args.bank.now c.args.bank.now c.args.self.now c.take.new.self
+    (λ b. focusing (tree b c.args.clause.0) (tree b c.args.atom.0)) c.args.node.now (node.Take c.in-Take.side) c.in-Take.is _ _ _
+    (plainly_focused c.take.result _ _ _ _ c.take.ensures.turned)
 
 pub returns-in-Need-clause-turned : goal.returns-in-Need-clause-turned
 returns-in-Need-clause-turned c = focused_as c.need.result c.args.bank.now c.args.bank.now c.args.self.now c.need.new.self (λ b. focusing (tree b c.args.clause.0) (tree b c.args.atom.0)) c.args.node.now node.Need c.in-Need.is _ _ _ (plainly_focused c.need.result _ _ _ _ c.need.ensures.turned)

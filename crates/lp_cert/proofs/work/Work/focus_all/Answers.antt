@@ -23,7 +23,9 @@ returns-clause-goes c =
     let long = extends-trans _ _ _ on g in
     let l = c.in-Some.ensures.inside in
     let m = c.in_ok-is_witness.ensures.kept.more_terms in
-    focus_all_goes b c.args.self.now ns (tree b c.args.clause.0) (tree b c.args.atom.0) (tree b c.in-Some.body.0) (tree b c.in_ok-next.next.0) c.in-Some.of c.args.value (c.in-Some.ensures.later b (extends-trans _ _ _ c.in_ok-is_witness.ensures.kept long)) (c.in_ok-is_witness.ensures.witness c.if-not-branch.false b long)
+    focus_all_goes b c.args.self.now ns (tree b c.args.clause.0) (tree b c.args.atom.0) (tree b c.in-Some.body.0) (tree b c.in_ok-next.next.0)
+    c.in-Some.of c.args.value (c.in-Some.ensures.later b (extends-trans _ _ _ c.in_ok-is_witness.ensures.kept long))
+    (c.in_ok-is_witness.ensures.witness c.if-not-branch.false b long)
     (applied_later _ _ b c.in-Some.body.0 c.args.value.0 c.in_ok-next.next.0 on g (omega (arith, l, m)) (c.in_ok-is_witness.ensures.inside c.if-not-branch.false) c.in_ok-next.ensures.within c.in_ok-next.ensures.tree)
     (stays_with b c.args.self.now c.is_witness.new.self (focusing (tree b c.in_ok-next.next.0) (tree b c.args.atom.0)) ns c.in_ok-is_witness.ensures.stays (p b ns h)))
 

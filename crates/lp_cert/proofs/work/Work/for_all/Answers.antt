@@ -27,7 +27,9 @@ returns-clause-goes c =
     let m = c.in_ok-eigen.ensures.kept.more_terms in
     all_goes b c.args.self.now ns c.push.new.self.items c.push-2.new.self.items (tree b c.args.goal.0) (tree b c.in-Some.body.0) (tree b c.in_ok-next.next.0) c.in-Some.of c.in-Some-checked_add.level c.in_ok-push.ensures.items c.in_ok-push-2.ensures.items
     (c.in-Some.ensures.later b (extends-trans _ _ _ c.in_ok-eigen.ensures.kept long)) (omega (arith, c.in-Some-checked_add.ensures.1, c.level.ensures))
-    (applied_later _ _ b c.in-Some.body.0 c.in_ok-eigen.eigen.0 c.in_ok-next.next.0 on g (omega (arith, l, m)) c.in_ok-eigen.ensures.within c.in_ok-next.ensures.within c.in_ok-next.ensures.tree ∙ ap (app (tree b c.in-Some.body.0)) (long.same_terms c.in_ok-eigen.eigen.0 c.in_ok-eigen.ensures.within ∙ c.in_ok-eigen.ensures.tree))
+    (applied_later _ _ b c.in-Some.body.0 c.in_ok-eigen.eigen.0 c.in_ok-next.next.0 on g (omega (arith, l, m)) c.in_ok-eigen.ensures.within
+    c.in_ok-next.ensures.within c.in_ok-next.ensures.tree ∙ ap (app (tree b c.in-Some.body.0))
+    (long.same_terms c.in_ok-eigen.eigen.0 c.in_ok-eigen.ensures.within ∙ c.in_ok-eigen.ensures.tree))
     (p b ns h))
 
 pub returns-in_default-clause-turned : goal.returns-in_default-clause-turned
@@ -40,13 +42,17 @@ returns-clause-turned c = pushed_turned c.go_on.result _ _ c.go_on.ensures.pushe
     let long = extends-trans _ _ _ on off in
     let s = extends_same c.args.bank.now in
     let t = binder_type c.args.bank.now c.args.goal c.in-Some.body c.in-Some.of _ (c.in-Some.ensures.later c.args.bank.now s) g c.in-Some.ensures.inside in
-    let made : (b : Nodes) → Extends c.put_applied.new.bank b → tree b c.in_ok-next.next.0 ≡ app (tree b c.in-Some.body.0) (tree b c.in_ok-eigen.eigen.0) = λ b h. applied_later _ _ b c.in-Some.body.0 c.in_ok-eigen.eigen.0 c.in_ok-next.next.0 off h (further _ _ c.in-Some.body on c.in-Some.ensures.inside) c.in_ok-eigen.ensures.within c.in_ok-next.ensures.within c.in_ok-next.ensures.tree in
+    let made : (b : Nodes) → Extends c.put_applied.new.bank b → tree b c.in_ok-next.next.0 ≡ app (tree b c.in-Some.body.0)
+    (tree b c.in_ok-eigen.eigen.0) = λ b h. applied_later _ _ b c.in-Some.body.0 c.in_ok-eigen.eigen.0 c.in_ok-next.next.0 off h
+    (further _ _ c.in-Some.body on c.in-Some.ensures.inside) c.in_ok-eigen.ensures.within c.in_ok-next.ensures.within c.in_ok-next.ensures.tree in
     let new_one : (b : Nodes) → Extends c.put_applied.new.bank b → tree b c.in_ok-eigen.eigen.0 ≡ atom (eigen c.in-Some-checked_add.level) = λ b h. (extends-trans _ _ _ off h).same_terms c.in_ok-eigen.eigen.0 c.in_ok-eigen.ensures.within ∙ c.in_ok-eigen.ensures.tree in
     let type_is = long.same_types c.in-Some.of.0 (closed_type_inside c.args.bank.now c.in-Some.of.0 t.1) in
     let level_is : (b : Nodes) → c.in-Some-checked_add.level ≡ suc (length (types_in b c.args.self.now.eigens.items)) = λ b. level_counted b c.args.self.now.eigens.items c.in-Some-checked_add.level (omega (arith, c.in-Some-checked_add.ensures.1, c.level.ensures)) in
     goes_under_eigen c.args.bank.now _ c.args.self.now _ c.go_on.new.self (λ b. proving (tree b c.args.goal.0)) (λ b. general) c.in-Some.of (task.Prove c.in_ok-next.next) long
     (record { theory = refl; eigens = c.in_ok-push.ensures.items; assumed = refl; tasks = c.in_ok-push-2.ensures.items }) p w (subst IsClosedType (sym type_is) t.1)
-    (applied_ready _ c.in_ok-next.next c.in-Some.body c.in_ok-eigen.eigen (made _ (extends_same _)) c.in_ok-next.ensures.within (ready_later _ _ c.in-Some.body long t.0) (eigen_ready _ c.in_ok-eigen.eigen _ (further _ _ c.in_ok-eigen.eigen off c.in_ok-eigen.ensures.within) (new_one _ (extends_same _))))
+    (applied_ready _ c.in_ok-next.next c.in-Some.body c.in_ok-eigen.eigen (made _ (extends_same _)) c.in_ok-next.ensures.within
+    (ready_later _ _ c.in-Some.body long t.0) (eigen_ready _ c.in_ok-eigen.eigen _
+    (further _ _ c.in_ok-eigen.eigen off c.in_ok-eigen.ensures.within) (new_one _ (extends_same _))))
     (λ b h at. (
       type_tree b c.in-Some.of.0,
       tree b c.in-Some.body.0,

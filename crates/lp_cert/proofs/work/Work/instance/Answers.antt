@@ -17,7 +17,9 @@ returns-clause-named c =
     let closed = sym c.in_ok-are_closed_types.ensures.closed ∙ c.if-not-branch.false in
     let end = extends-trans c.are_values.new.bank c.term_at.new.bank c.put_values.new.bank c.in_ok-formula.ensures.kept c.put_values.ensures.kept in
     found_always c.put_values.result _ (λ e.
-    named_in c.args.bank.now c.are_values.new.bank c.put_values.new.bank c.args.self.now.theory.constants.now c.args.query.now c.args.types.now c.args.values.now (extends-trans c.args.bank.now c.are_values.new.bank c.put_values.new.bank c.in_ok-are_values.ensures.kept end) end (omega (arith, c.if-types-query.false)) closed
+    named_in c.args.bank.now c.are_values.new.bank c.put_values.new.bank c.args.self.now.theory.constants.now c.args.query.now c.args.types.now
+    c.args.values.now (extends-trans c.args.bank.now c.are_values.new.bank c.put_values.new.bank c.in_ok-are_values.ensures.kept end) end
+    (omega (arith, c.if-types-query.false)) closed
     (c.in_ok-are_values.ensures.values c.if-not-branch-2.false e (types_inside c.args.bank.now c.args.types.now closed)))
 
 pub returns-clause-stays : goal.returns-clause-stays
@@ -33,7 +35,9 @@ returns-clause-filled c =
     let long = extends-trans _ _ _ c.put_values.ensures.kept g in
     let vs = terms_in b c.args.values.now in
     p b g (subst (LooseBelow (length c.args.values.now) 0) (sym (long.same_terms c.in_ok-formula.formula.0 c.in_ok-formula.ensures.within)) (c.in_ok-is_loose_below.ensures.below c.if-not-branch-3.false)) ∙
-    ap (instantiate (λ k. at vs (length vs - suc k))) (c.in_ok-formula.ensures.tree (inside_more c.args.bank.now c.are_values.new.bank c.args.types.now c.in_ok-are_values.ensures.kept (types_inside c.args.bank.now c.args.types.now closed)) (c.is_inside.ensures.inside c.if-not-is_inside.false) b long))
+    ap (instantiate (λ k. at vs (length vs - suc k))) (c.in_ok-formula.ensures.tree
+    (inside_more c.args.bank.now c.are_values.new.bank c.args.types.now c.in_ok-are_values.ensures.kept
+    (types_inside c.args.bank.now c.args.types.now closed)) (c.is_inside.ensures.inside c.if-not-is_inside.false) b long))
 
 pub returns-then-types-query-clause-unnamed : goal.returns-then-types-query-clause-unnamed
 returns-then-types-query-clause-unnamed c = λ e s n i j k. count_unnamed c.args.bank.now c.args.self.now.theory.constants.now c.args.query.now c.args.types.now c.args.values.now (λ q. c.if-types-query.true (omega (arith, q)))
@@ -56,11 +60,15 @@ returns-then-not-is_inside-clause-unnamed c = λ e s n i j k.
 pub returns-then-not-branch-3-clause-unnamed : goal.returns-then-not-branch-3-clause-unnamed
 returns-then-not-branch-3-clause-unnamed c = λ e s n i j k.
     loose_unnamed c.args.bank.now c.term_at.new.bank c.term_at.new.bank c.args.self.now.theory.constants.now c.args.query.now c.args.types.now c.args.values.now c.in_ok-formula.formula (extends-trans _ _ _ c.in_ok-are_values.ensures.kept c.in_ok-formula.ensures.kept) i
-    (c.in_ok-formula.ensures.tree (inside_more c.args.bank.now c.are_values.new.bank c.args.types.now c.in_ok-are_values.ensures.kept j) (c.is_inside.ensures.inside c.if-not-is_inside.false) c.term_at.new.bank (extends_same c.term_at.new.bank)) (c.in_ok-is_loose_below.ensures.above c.if-not-branch-3.true)
+    (c.in_ok-formula.ensures.tree (inside_more c.args.bank.now c.are_values.new.bank c.args.types.now c.in_ok-are_values.ensures.kept j)
+    (c.is_inside.ensures.inside c.if-not-is_inside.false) c.term_at.new.bank (extends_same c.term_at.new.bank))
+    (c.in_ok-is_loose_below.ensures.above c.if-not-branch-3.true)
 
 pub returns-clause-unnamed : goal.returns-clause-unnamed
 returns-clause-unnamed c =
-    put_result c.args.bank.now c.term_at.new.bank c.put_values.new.bank c.args.self.now.theory.constants.now c.args.query.now c.args.types.now c.args.values.now c.in_ok-formula.formula c.put_values.result _ _ _ _ (extends-trans _ _ _ c.in_ok-are_values.ensures.kept c.in_ok-formula.ensures.kept) c.put_values.ensures.kept
+    put_result c.args.bank.now c.term_at.new.bank c.put_values.new.bank c.args.self.now.theory.constants.now c.args.query.now c.args.types.now
+    c.args.values.now c.in_ok-formula.formula c.put_values.result _ _ _ _ (extends-trans _ _ _ c.in_ok-are_values.ensures.kept
+    c.in_ok-formula.ensures.kept) c.put_values.ensures.kept
     c.in_ok-formula.ensures.within c.put_values.ensures.none
 
 pub returns-clause-within : goal.returns-clause-within

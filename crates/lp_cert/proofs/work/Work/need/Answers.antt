@@ -24,4 +24,6 @@ returns-clause-turned c = λ w g d.
     let r = implied_ready c.args.bank.now c.args.clause c.in-Some.goal c.in-Some.rest (c.in-Some.ensures.later c.args.bank.now s) g c.in-Some.ensures.inside.0 c.in-Some.ensures.inside.1 in
     let mid : Work = record { alloc = c.args.self.now.alloc; theory = c.args.self.now.theory; known = c.args.self.now.known; eigens = c.args.self.now.eigens; assumed = c.args.self.now.assumed; tasks = c.push.new.self } in
     goes_to_both c.args.bank.now c.args.bank.now c.args.self.now mid _ (λ b. focusing (tree b c.args.clause.0) (tree b c.args.atom.0)) (λ b. premise) (task.Focus c.in-Some.rest c.args.atom) (task.Prove c.in-Some.goal) s
-    (record { theory = refl; eigens = refl; assumed = refl; tasks = c.in_ok-push.ensures.items }) (record { theory = refl; eigens = refl; assumed = refl; tasks = c.in_ok-push-2.ensures.items }) w (r.1, d) r.0 (λ b h at. (tree b c.in-Some.goal.0, tree b c.in-Some.rest.0, c.in-Some.ensures.later b h, at))
+    (record { theory = refl; eigens = refl; assumed = refl; tasks = c.in_ok-push.ensures.items })
+    (record { theory = refl; eigens = refl; assumed = refl; tasks = c.in_ok-push-2.ensures.items }) w (r.1, d) r.0
+    (λ b h at. (tree b c.in-Some.goal.0, tree b c.in-Some.rest.0, c.in-Some.ensures.later b h, at))

@@ -20,7 +20,9 @@ pub returns-in-Conv-clause-goes : goal.returns-in-Conv-clause-goes
 returns-in-Conv-clause-goes c = goes_as c.conv.result c.conv.new.bank c.args.self.now c.conv.new.self (λ b. proving (tree b c.args.goal.0)) c.args.node.now (node.Conv c.in-Conv.other) c.in-Conv.is c.conv.ensures.goes
 
 pub returns-in-True-clause-goes : goal.returns-in-True-clause-goes
-returns-in-True-clause-goes c = goes_as (Ok c.turn_where.result) c.args.bank.now c.args.self.now c.args.self.now (λ b. proving (tree b c.args.goal.0)) c.args.node.now node.True c.in-True.is (λ e b g ns h. truth_goes b c.args.self.now ns (tree b c.args.goal.0) (c.is_trivial.ensures.yes (c.turn_where.ensures.on e) b g) h)
+returns-in-True-clause-goes c = goes_as (Ok c.turn_where.result) c.args.bank.now c.args.self.now c.args.self.now (λ b. proving (tree b c.args.goal.0))
+    c.args.node.now node.True c.in-True.is (λ e b g ns h. truth_goes b c.args.self.now ns (tree b c.args.goal.0)
+    (c.is_trivial.ensures.yes (c.turn_where.ensures.on e) b g) h)
 
 pub returns-in-And-clause-goes : goal.returns-in-And-clause-goes
 returns-in-And-clause-goes c = goes_as c.both.result c.args.bank.now c.args.self.now c.both.new.self (λ b. proving (tree b c.args.goal.0)) c.args.node.now node.And c.in-And.is c.both.ensures.goes
@@ -63,7 +65,9 @@ returns-in-Some-clause-turned c = turned_as c.witnessed.result c.args.bank.now c
 
 pub returns-in-Back-clause-turned : goal.returns-in-Back-clause-turned
 returns-in-Back-clause-turned c = turned_as c.back.result c.args.bank.now c.back.new.bank c.args.self.now c.back.new.self (λ b. proving (tree b c.args.goal.0)) c.args.node.now (node.Back c.in-Back.number c.in-Back.types) c.in-Back.is _ _
-    (subst (λ ts. IfOk c.back.result (λ turn. IsReadyWork c.args.bank.now c.args.self.now → IsReady c.args.bank.now c.args.goal → AreInside (length c.args.bank.now.types) ts → IsTurned c.back.new.bank c.args.self.now c.back.new.self (λ b. proving (tree b c.args.goal.0)) (λ b. back_to c.in-Back.number (types_in b ts)) turn)) c.as_slice.ensures.value c.back.ensures.turned)
+    (subst (λ ts. IfOk c.back.result (λ turn. IsReadyWork c.args.bank.now c.args.self.now → IsReady c.args.bank.now c.args.goal → AreInside
+    (length c.args.bank.now.types) ts → IsTurned c.back.new.bank c.args.self.now c.back.new.self (λ b. proving (tree b c.args.goal.0))
+    (λ b. back_to c.in-Back.number (types_in b ts)) turn)) c.as_slice.ensures.value c.back.ensures.turned)
 
 pub returns-in-And-clause-turned : goal.returns-in-And-clause-turned
 returns-in-And-clause-turned c = turned_as c.both.result c.args.bank.now c.args.bank.now c.args.self.now c.both.new.self (λ b. proving (tree b c.args.goal.0)) c.args.node.now node.And c.in-And.is _ _ (plainly c.both.result _ _ _ c.both.ensures.turned)

@@ -46,7 +46,9 @@ returns-in-None-clause-proves c = λ e idle b g. nodes_prove b c.args.self.now (
 
 pub returns-in-No-clause-refuted : goal.returns-in-No-clause-refuted
 returns-in-No-clause-refuted c = λ e idle w g all b h p.
-    let s = no_stepped c.step.new.bank c.loop-node.self c.step.new.self (λ b. node_of b c.node-item.result) c.in_ok-turn.turn c.in-No.is (c.in_ok-turn.ensures.stepped (c.loop-node.invariant.ready w g all) (node_inside c.args.bank.now c.loop-node.bank c.args.nodes.now c.loop-node.node-index c.node-item.result c.loop-node.invariant.kept (omega (arith, c.loop-node-test.true)) c.node-item.is all)) in
+    let s = no_stepped c.step.new.bank c.loop-node.self c.step.new.self (λ b. node_of b c.node-item.result) c.in_ok-turn.turn c.in-No.is
+    (c.in_ok-turn.ensures.stepped (c.loop-node.invariant.ready w g all) (node_inside c.args.bank.now c.loop-node.bank c.args.nodes.now
+    c.loop-node.node-index c.node-item.result c.loop-node.invariant.kept (omega (arith, c.loop-node-test.true)) c.node-item.is all)) in
     refuted_at b c.loop-node.self c.args.self.now.theory (tree b c.args.goal.0) c.args.nodes.now c.loop-node.node-index c.node-item.result (omega (arith, c.loop-node-test.true)) c.node-item.is (c.loop-node.invariant.theory w g all)
     (c.loop-node.invariant.runs idle w g all b (extends-trans _ _ _ c.in_ok-turn.ensures.kept h)) (s b h) p
 

@@ -26,8 +26,12 @@ returns-in-Focus-clause-stepped c = focused_by c.focus.result c.args.bank.now c.
 
 pub returns-in-LeaveEigen-clause-stepped : goal.returns-in-LeaveEigen-clause-stepped
 returns-in-LeaveEigen-clause-stepped c = λ w i b h k.
-    absurd (eigen_not_next (types_in b c.args.self.now.eigens.items) (terms_in b c.args.self.now.assumed.items) (jobs_of b c.args.self.now.tasks.items) (jobs_of b c.next.new.self.tasks.items) (ap (λ x. x.jobs) (c.in-Some.ensures.rest.1 b) ∙ ap (λ x. job_of b x ∷ jobs_of b c.next.new.self.tasks.items) c.in-LeaveEigen.is))
+    absurd (eigen_not_next (types_in b c.args.self.now.eigens.items) (terms_in b c.args.self.now.assumed.items)
+    (jobs_of b c.args.self.now.tasks.items) (jobs_of b c.next.new.self.tasks.items)
+    (ap (λ x. x.jobs) (c.in-Some.ensures.rest.1 b) ∙ ap (λ x. job_of b x ∷ jobs_of b c.next.new.self.tasks.items) c.in-LeaveEigen.is))
 
 pub returns-in-LeaveAssumed-clause-stepped : goal.returns-in-LeaveAssumed-clause-stepped
 returns-in-LeaveAssumed-clause-stepped c = λ w i b h k.
-    absurd (assumed_not_next (types_in b c.args.self.now.eigens.items) (terms_in b c.args.self.now.assumed.items) (jobs_of b c.args.self.now.tasks.items) (jobs_of b c.next.new.self.tasks.items) (ap (λ x. x.jobs) (c.in-Some.ensures.rest.1 b) ∙ ap (λ x. job_of b x ∷ jobs_of b c.next.new.self.tasks.items) c.in-LeaveAssumed.is))
+    absurd (assumed_not_next (types_in b c.args.self.now.eigens.items) (terms_in b c.args.self.now.assumed.items)
+    (jobs_of b c.args.self.now.tasks.items) (jobs_of b c.next.new.self.tasks.items)
+    (ap (λ x. x.jobs) (c.in-Some.ensures.rest.1 b) ∙ ap (λ x. job_of b x ∷ jobs_of b c.next.new.self.tasks.items) c.in-LeaveAssumed.is))

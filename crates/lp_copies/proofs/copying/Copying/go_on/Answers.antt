@@ -30,7 +30,9 @@ pub returns-in-Some-clause-turns : goal.returns-in-Some-clause-turns
 returns-in-Some-clause-turns c =
     let w = c.args.self.now in
     let row = row_at c.args.uses.now.items w.root w.left.items w.entered w.at w.next (reverse w.around.items) c.index-out.result.now c.requires.copying c.index-out.ensures in
-    turn_left (lists_in c.args.uses.now.items) w.root w.left.items c.push.new.self.items w.entered w.around.items c.pop.new.self.items w.at w.next c.in-Some.outer (subst (λ l. length l ≤ w.next) row (omega (arith, c.if-self-len.false, c.len.ensures, c.index-out.result.now.ok))) c.in_ok-push.ensures.items c.in-Some.ensures.items c.requires.copying
+    turn_left (lists_in c.args.uses.now.items) w.root w.left.items c.push.new.self.items w.entered w.around.items c.pop.new.self.items w.at w.next
+    c.in-Some.outer (subst (λ l. length l ≤ w.next) row (omega (arith, c.if-self-len.false, c.len.ensures, c.index-out.result.now.ok)))
+    c.in_ok-push.ensures.items c.in-Some.ensures.items c.requires.copying
 
 pub returns-then-self-len-clause-moves : goal.returns-then-self-len-clause-moves
 returns-then-self-len-clause-moves c =

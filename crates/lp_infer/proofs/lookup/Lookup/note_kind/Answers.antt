@@ -3,8 +3,12 @@ use Rattle.lp_infer.proofs.Noting.{kind_is, abbreviation_is}
 use Rattle.lp_infer.proofs.lookup.Lookup.note_kind.Goals as goal
 
 pub returns-in-Some-clause-kind : goal.returns-in-Some-clause-kind
-returns-in-Some-clause-kind c = λ known.
-    (c.in_ok-id.ensures.within, kind_is c.args.signature.now c.args.name.now c.args.self.now.types c.put_constructor.new.bank c.args.parts.now _ c.in-Some.number c.in-Some.arity c.in_ok-id.id c.put_constructor.ensures.kept known (sym c.kind.ensures ∙ c.in-Some.is) c.if-parts-arity.false (c.in_ok-id.ensures.within, c.in_ok-id.ensures.tree))
+returns-in-Some-clause-kind c = λ known. (
+  c.in_ok-id.ensures.within,
+  kind_is c.args.signature.now c.args.name.now c.args.self.now.types c.put_constructor.new.bank c.args.parts.now _
+      c.in-Some.number c.in-Some.arity c.in_ok-id.id c.put_constructor.ensures.kept known (sym c.kind.ensures ∙ c.in-Some.is) c.if-parts-arity.false
+      (c.in_ok-id.ensures.within, c.in_ok-id.ensures.tree),
+)
 
 pub returns-clause-kind : goal.returns-clause-kind
 returns-clause-kind c = λ known. (

@@ -47,7 +47,9 @@ returns-in_ok-integer-in-Number c = λ root S.
     let nodes = c.args.raw.now.nodes.items in
     let h : c.args.node < length nodes = subst (λ l. c.args.node < length l) c.deref.ensures.value c.in-Some.ensures.lookup.3.0 in
     let at : c.in-Some.found.now ≡ get_or nodes c.args.node c.in-Some.found.now = c.in-Some.ensures.lookup.1 ∙ ap (λ l. get_or l c.args.node c.in-Some.found.now) c.deref.ensures.value in
-    past_leaf c.args.signature.now c.args.source.now nodes root c.args.self.now c.integer.new.self c.args.node (node.Number c.in-Number.value c.in-Number.field-1) (reverse c.args.work.now.items) S (slice_get_read nodes (length nodes) c.args.node c.in-Some.found.now refl h at ∙ ap Some c.in-Number.is)
+    past_leaf c.args.signature.now c.args.source.now nodes root c.args.self.now c.integer.new.self c.args.node
+    (node.Number c.in-Number.value c.in-Number.field-1) (reverse c.args.work.now.items) S
+    (slice_get_read nodes (length nodes) c.args.node c.in-Some.found.now refl h at ∙ ap Some c.in-Number.is)
     (λ names H.
     leaf_as c.args.signature.now c.args.source.now _ _ c.args.self.now c.integer.new.self (λ count. ap (λ z. Some (raw_integer z, c.args.self.now.variables.places.items)) (sym same))
     (c.in_ok-integer-in-Number.ensures c.args.signature.now c.args.source.now))
@@ -82,7 +84,9 @@ returns-in_ok-push-in-App-3 c = λ root S.
     subst (Looked c.args.signature.now c.args.source.now nodes root c.args.self.now)
     (sym (reverse_two c.push-in-App.new.self.items c.push-in-App-2.new.self.items c.push-in-App-3.new.self.items (task.Visit c.in-App.argument) (task.Visit c.in-App.head) c.in_ok-push-in-App-2.ensures.items c.in_ok-push-in-App-3.ensures.items ∙
     ap (λ l. task.Visit c.in-App.head ∷ task.Visit c.in-App.argument ∷ l) (reverse_pushed c.push-in-App.new.self.items c.args.work.now.items task.Apply c.in_ok-push-in-App.ensures.items)))
-    (past_application c.args.signature.now c.args.source.now nodes root c.args.self.now c.args.node c.in-App.head c.in-App.argument (reverse c.args.work.now.items) (slice_get_read nodes (length nodes) c.args.node c.in-Some.found.now refl h at ∙ ap Some c.in-App.is) c.if-head-node.false c.if-argument-node.false S)
+    (past_application c.args.signature.now c.args.source.now nodes root c.args.self.now c.args.node c.in-App.head c.in-App.argument
+    (reverse c.args.work.now.items) (slice_get_read nodes (length nodes) c.args.node c.in-Some.found.now refl h at ∙ ap Some c.in-App.is)
+    c.if-head-node.false c.if-argument-node.false S)
 
 pub returns-then-body-node : goal.returns-then-body-node
 returns-then-body-node c = λ root S.
@@ -106,5 +110,7 @@ returns-in_ok-push-in-Abs-2 c = λ root S.
     let at : c.in-Some.found.now ≡ get_or nodes c.args.node c.in-Some.found.now = c.in-Some.ensures.lookup.1 ∙ ap (λ l. get_or l c.args.node c.in-Some.found.now) c.deref.ensures.value in
     subst (Looked c.args.signature.now c.args.source.now nodes root c.open.new.self)
     (sym (reverse_two c.args.work.now.items c.push-in-Abs.new.self.items c.push-in-Abs-2.new.self.items (task.Leave c.in-Abs.spot c.in-Some-2.outside) (task.Visit c.in-Abs.body) c.in_ok-push-in-Abs.ensures.items c.in_ok-push-in-Abs-2.ensures.items))
-    (past_abstraction c.args.signature.now c.args.source.now nodes root c.args.self.now c.open.new.self c.args.node c.in-Abs.spot c.in-Abs.note c.in-Abs.body c.in-Some-2.outside (reverse c.args.work.now.items) (slice_get_read nodes (length nodes) c.args.node c.in-Some.found.now refl h at ∙ ap Some c.in-Abs.is) c.if-body-node.false
+    (past_abstraction c.args.signature.now c.args.source.now nodes root c.args.self.now c.open.new.self c.args.node c.in-Abs.spot c.in-Abs.note
+    c.in-Abs.body c.in-Some-2.outside (reverse c.args.work.now.items) (slice_get_read nodes (length nodes) c.args.node c.in-Some.found.now refl h
+    at ∙ ap Some c.in-Abs.is) c.if-body-node.false
     (subst (Opened c.args.signature.now c.args.source.now (spelled c.args.source.now c.in-Abs.spot) c.in-Abs.note c.args.self.now c.open.new.self) c.in-Some-2.is (c.in_ok-outside-in-Abs.ensures S.notes)) S)

@@ -6,4 +6,9 @@ use Rattle.lp_infer.proofs.reading.Reading.parameter.Goals as goal
 pub returns-clause-memo : goal.returns-clause-memo
 returns-clause-memo c =
     let made = c.in_ok-made.ensures in
-    on_ok_weaker c.keep.result (λ put A is M. parameter_kept A c.args.to.now c.put_type.new.self c.args.self.now c.keep.new.self c.args.number c.args.top.0 c.in_ok-made.made.0 made.kept c.keep.ensures.numbers put (is_last c.args.to.now.types c.put_type.new.self.types _ c.in_ok-made.made.0 made.number made.types, made.tree) is M) c.keep.ensures.made
+    on_ok_weaker c.keep.result (λ put A is M. parameter_kept A c.args.to.now c.put_type.new.self c.args.self.now c.keep.new.self c.args.number
+    c.args.top.0 c.in_ok-made.made.0 made.kept c.keep.ensures.numbers put (
+      is_last c.args.to.now.types c.put_type.new.self.types _
+          c.in_ok-made.made.0 made.number made.types,
+      made.tree,
+    ) is M) c.keep.ensures.made

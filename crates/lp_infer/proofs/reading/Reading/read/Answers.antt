@@ -36,7 +36,9 @@ pub returns-clause-read : goal.returns-clause-read
 returns-clause-read c =
     let A = bound_type c.args.from.now c.args.bindings.now.made in
     IfOk-weaker c.part.result _ _ (λ j part.
-    reads_one A c.args.to.now c.loop-task.to c.args.self.now c.loop-task.self c.args.id.0 j c.loop-task.work.items (nil_from_length c.loop-task.work.items (omega (arith, c.in_default.ensures.cases.0, c.loop-task.work.ok))) c.loop-task.invariant.memo c.loop-task.invariant.order (part c.loop-task.to)) c.part.ensures
+    reads_one A c.args.to.now c.loop-task.to c.args.self.now c.loop-task.self c.args.id.0 j c.loop-task.work.items
+    (nil_from_length c.loop-task.work.items (omega (arith, c.in_default.ensures.cases.0, c.loop-task.work.ok))) c.loop-task.invariant.memo
+    c.loop-task.invariant.order (part c.loop-task.to)) c.part.ensures
 
 pub loop-task-smaller : goal.loop-task-smaller
 loop-task-smaller c =

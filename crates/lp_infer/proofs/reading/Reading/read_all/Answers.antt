@@ -15,7 +15,10 @@ loop-id-preserved c =
       kept = extends-trans c.args.to.now c.loop-id.to c.read.new.to c.loop-id.invariant.kept c.read.ensures.kept;
       read = λ M.
           let so_far = c.loop-id.invariant.read M in
-          reads_more A c.loop-id.to c.read.new.to c.args.self.now c.loop-id.self c.read.new.self (take c.loop-id.id-index c.args.ids.now) _ c.loop-id.types.items c.push.new.self.items _ c.in_ok-read.field-0 c.read.ensures.kept (take_more c.args.ids.now c.loop-id.id-index _ c.loop-id-test.true) c.in_ok-push.ensures.items so_far (c.in_ok-read.ensures.read so_far.memo);
+          reads_more A c.loop-id.to c.read.new.to c.args.self.now c.loop-id.self c.read.new.self (take c.loop-id.id-index c.args.ids.now) _
+          c.loop-id.types.items c.push.new.self.items _ c.in_ok-read.field-0 c.read.ensures.kept
+          (take_more c.args.ids.now c.loop-id.id-index _ c.loop-id-test.true) c.in_ok-push.ensures.items so_far
+          (c.in_ok-read.ensures.read so_far.memo);
     }
 
 pub returns-clause-read : goal.returns-clause-read

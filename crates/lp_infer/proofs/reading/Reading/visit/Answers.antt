@@ -45,7 +45,9 @@ returns-in_ok-push-in-Arrow-3-clause-taken c =
     let A = bound_type c.args.from.now c.args.bindings.now.made in
     taken_arrow A c.args.to.now c.args.self.now c.args.id c.in_ok-top.top c.in-Arrow.left c.in-Arrow.right (reverse c.args.work.now.items) (reverse c.push-in-Arrow-3.new.self.items) c.in_ok-top.ensures.1
     (ap (λ T. type_variables (instance (reads c.args.from.now c.args.bindings.now.made) T)) (sym c.in-Arrow.ensures.tree))
-    (arrow_pushed c.args.work.now.items c.push-in-Arrow.new.self.items c.push-in-Arrow-2.new.self.items c.push-in-Arrow-3.new.self.items (task.Build c.in_ok-top.top) (task.Visit c.in-Arrow.right) (task.Visit c.in-Arrow.left) c.in_ok-push-in-Arrow.ensures.items c.in_ok-push-in-Arrow-2.ensures.items c.in_ok-push-in-Arrow-3.ensures.items)
+    (arrow_pushed c.args.work.now.items c.push-in-Arrow.new.self.items c.push-in-Arrow-2.new.self.items c.push-in-Arrow-3.new.self.items
+    (task.Build c.in_ok-top.top) (task.Visit c.in-Arrow.right) (task.Visit c.in-Arrow.left) c.in_ok-push-in-Arrow.ensures.items
+    c.in_ok-push-in-Arrow-2.ensures.items c.in_ok-push-in-Arrow-3.ensures.items)
 
 pub returns-then-is_some-clause-fewer : goal.returns-then-is_some-clause-fewer
 returns-then-is_some-clause-fewer c = visit_cost (bound_type c.args.from.now c.args.bindings.now.made) c.args.id (reverse c.args.work.now.items)
@@ -67,4 +69,6 @@ pub returns-in_ok-push-in-Arrow-3-clause-fewer : goal.returns-in_ok-push-in-Arro
 returns-in_ok-push-in-Arrow-3-clause-fewer c =
     arrow_cost (bound_type c.args.from.now c.args.bindings.now.made) c.args.id c.in_ok-top.top c.in-Arrow.left c.in-Arrow.right (reverse c.args.work.now.items) (reverse c.push-in-Arrow-3.new.self.items) c.in_ok-top.ensures.1
     (ap (λ T. size (instance (reads c.args.from.now c.args.bindings.now.made) T)) (sym c.in-Arrow.ensures.tree))
-    (arrow_pushed c.args.work.now.items c.push-in-Arrow.new.self.items c.push-in-Arrow-2.new.self.items c.push-in-Arrow-3.new.self.items (task.Build c.in_ok-top.top) (task.Visit c.in-Arrow.right) (task.Visit c.in-Arrow.left) c.in_ok-push-in-Arrow.ensures.items c.in_ok-push-in-Arrow-2.ensures.items c.in_ok-push-in-Arrow-3.ensures.items)
+    (arrow_pushed c.args.work.now.items c.push-in-Arrow.new.self.items c.push-in-Arrow-2.new.self.items c.push-in-Arrow-3.new.self.items
+    (task.Build c.in_ok-top.top) (task.Visit c.in-Arrow.right) (task.Visit c.in-Arrow.left) c.in_ok-push-in-Arrow.ensures.items
+    c.in_ok-push-in-Arrow-2.ensures.items c.in_ok-push-in-Arrow-3.ensures.items)

@@ -19,7 +19,14 @@ loop-at-preserved c =
       c.loop-at.invariant.1,
       extends-trans c.args.self.now.bank c.loop-at.self.bank c.copy.new.to c.loop-at.invariant.2 c.copy.ensures.kept,
       c.in_ok-formula.ensures.memo m is c.loop-at.invariant.3,
-      clause_next c.args.self.now c.loop-at.self c.copy.new.to c.push.new.self c.args.copy.now c.index-clause.result.now k c.loop-at.at c.copy.ensures.kept c.in_ok-push.ensures.items (omega (arith, c.loop-at-test.true, c.len-at-end.ensures, c.args.copy.now.module.now.clauses.ok)) c.index-clause.ensures c.loop-at.invariant.0 (λ i. record { type_vars = k.type_vars; formula = f i }) c.loop-at.invariant.4,
+      clause_next c.args.self.now c.loop-at.self c.copy.new.to c.push.new.self c.args.copy.now c.index-clause.result.now k c.loop-at.at
+          c.copy.ensures.kept c.in_ok-push.ensures.items (omega (
+            arith,
+            c.loop-at-test.true,
+            c.len-at-end.ensures,
+            c.args.copy.now.module.now.clauses.ok,
+          )) c.index-clause.ensures c.loop-at.invariant.0
+          (λ i. record { type_vars = k.type_vars; formula = f i }) c.loop-at.invariant.4,
     )
 
 pub returns : goal.returns

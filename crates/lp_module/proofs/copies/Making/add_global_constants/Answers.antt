@@ -9,4 +9,6 @@ pub add_global_constant-requires : goal.add_global_constant-requires
 add_global_constant-requires c = c.in_ok-scheme.ensures.within
 
 pub loop-at-preserved : goal.loop-at-preserved
-loop-at-preserved c = names_then c.args.self.now (with_bank c.loop-at.self c.copy_type.new.to) c.add_global_constant.new.self (names_then c.args.self.now c.loop-at.self (with_bank c.loop-at.self c.copy_type.new.to) c.loop-at.invariant (bank_grown c.loop-at.self c.copy_type.new.to c.copy_type.ensures.kept)) c.in_ok-add_global_constant.ensures
+loop-at-preserved c = names_then c.args.self.now (with_bank c.loop-at.self c.copy_type.new.to) c.add_global_constant.new.self
+    (names_then c.args.self.now c.loop-at.self (with_bank c.loop-at.self c.copy_type.new.to) c.loop-at.invariant
+    (bank_grown c.loop-at.self c.copy_type.new.to c.copy_type.ensures.kept)) c.in_ok-add_global_constant.ensures

@@ -8,8 +8,17 @@ pub returns : goal.returns
 returns c = (
   (λ (within, lengths, counted, numbered, others_counted, others_numbered, typed).
       let a = hidden_added (count_in c.args.self.now.hidden_constants) (count_in c.next_hidden.new.counts) c.args.self.now.constants.items c.push.new.self.items (record { name = c.in_ok-name.name; hidden = c.in_ok-hidden.hidden; arity = c.args.entry.now.type_vars }) c.as_slice.result.now
-      c.in_ok-push.ensures.items (c.in_ok-name.ensures.items ∙ c.as_slice-2.ensures.value ∙ sym c.as_slice.ensures.value) c.in_ok-hidden.ensures.number c.in_ok-hidden.ensures.counted others_counted others_numbered in
-      (within, both_more c.args.self.now.declared.items c.push-2.new.self.items c.args.self.now.constants.items c.push.new.self.items _ _ c.in_ok-push-2.ensures.items c.in_ok-push.ensures.items lengths, counted, numbered, a.0, a.1, typed_push c.args.self.now.bank c.args.self.now.declared.items c.push-2.new.self.items _ c.in_ok-push-2.ensures.items typed c.requires)),
+      c.in_ok-push.ensures.items (c.in_ok-name.ensures.items ∙ c.as_slice-2.ensures.value ∙ sym c.as_slice.ensures.value) c.in_ok-hidden.ensures.number c.in_ok-hidden.ensures.counted others_counted others_numbered in (
+        within,
+        both_more c.args.self.now.declared.items c.push-2.new.self.items c.args.self.now.constants.items c.push.new.self.items _ _
+            c.in_ok-push-2.ensures.items c.in_ok-push.ensures.items lengths,
+        counted,
+        numbered,
+        a.0,
+        a.1,
+        typed_push c.args.self.now.bank
+            c.args.self.now.declared.items c.push-2.new.self.items _ c.in_ok-push-2.ensures.items typed c.requires,
+      )),
   refl,
   extends_same c.args.self.now.bank,
   refl,

@@ -9,4 +9,6 @@ pub add_hidden_constant-requires : goal.add_hidden_constant-requires
 add_hidden_constant-requires c = c.in_ok-scheme.ensures.within
 
 pub loop-number-preserved : goal.loop-number-preserved
-loop-number-preserved c = names_then c.args.self.now (with_bank c.loop-number.self c.copy_type.new.to) c.add_hidden_constant.new.self (names_then c.args.self.now c.loop-number.self (with_bank c.loop-number.self c.copy_type.new.to) c.loop-number.invariant (bank_grown c.loop-number.self c.copy_type.new.to c.copy_type.ensures.kept)) c.in_ok-add_hidden_constant.ensures
+loop-number-preserved c = names_then c.args.self.now (with_bank c.loop-number.self c.copy_type.new.to) c.add_hidden_constant.new.self
+    (names_then c.args.self.now c.loop-number.self (with_bank c.loop-number.self c.copy_type.new.to) c.loop-number.invariant
+    (bank_grown c.loop-number.self c.copy_type.new.to c.copy_type.ensures.kept)) c.in_ok-add_hidden_constant.ensures

@@ -5,7 +5,9 @@ use Rattle.lp_module.proofs.Visiting.{to_within, meets, ended, left}
 use Rattle.lp_module.proofs.visits.Walk.go_on.Goals as goal
 
 pub meet-requires-clause-to : goal.meet-requires-clause-to
-meet-requires-clause-to c = to_within c.args.ways.now.items c.args.self.now.at c.args.self.now.next _ c.index-out.result.now c.index.result.now c.requires.within c.requires.walk.within c.index-out.ensures (omega (arith, c.if-self-len.true, c.len.ensures, c.index-out.result.now.ok)) c.index.ensures c.requires.walk.count
+meet-requires-clause-to c = to_within c.args.ways.now.items c.args.self.now.at c.args.self.now.next _ c.index-out.result.now c.index.result.now
+    c.requires.within c.requires.walk.within c.index-out.ensures (omega (arith, c.if-self-len.true, c.len.ensures, c.index-out.result.now.ok))
+    c.index.ensures c.requires.walk.count
 
 pub returns-then-self-len : goal.returns-then-self-len
 returns-then-self-len c =

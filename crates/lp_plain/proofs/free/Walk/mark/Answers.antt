@@ -16,7 +16,15 @@ returns-in_ok-new-in-Term-clause-met c = λ e b.
 
 pub returns-in_ok-new-in-Term-clause-marks : goal.returns-in_ok-new-in-Term-clause-marks
 returns-in_ok-new-in-Term-clause-marks c = λ b i m.
-    subst (λ p. (i ≡ piece b p) ⊎ (is_marked c.args.self.now i ≡ true)) (sym c.in-Term.is) (term_marked c.args.self.now (record { left = c.args.self.now.left; terms = c.insert.new.self; types = c.args.self.now.types; variables = c.args.self.now.variables; type_variables = c.args.self.now.type_variables }) c.in-Term.term.0 c.in-Term.depth c.in_ok-new-in-Term.ensures.updates.0 refl i m)
+    subst (λ p. (i ≡ piece b p) ⊎ (is_marked c.args.self.now i ≡ true)) (sym c.in-Term.is)
+    (term_marked c.args.self.now (record {
+      left = c.args.self.now.left;
+      terms = c.insert.new.self;
+      types = c.args.self.now.types;
+      variables = c.args.self.now.variables;
+      type_variables = c.args.self.now.type_variables;
+    }) c.in-Term.term.0 c.in-Term.depth
+    c.in_ok-new-in-Term.ensures.updates.0 refl i m)
 
 pub returns-in_ok-new-in-Type-clause-found : goal.returns-in_ok-new-in-Type-clause-found
 returns-in_ok-new-in-Type-clause-found c = λ x. same_found c.args.self.now (record { left = c.args.self.now.left; terms = c.args.self.now.terms; types = c.insert-in-Type.new.self; variables = c.args.self.now.variables; type_variables = c.args.self.now.type_variables }) refl refl x
@@ -27,4 +35,12 @@ returns-in_ok-new-in-Type-clause-met c = λ e b.
 
 pub returns-in_ok-new-in-Type-clause-marks : goal.returns-in_ok-new-in-Type-clause-marks
 returns-in_ok-new-in-Type-clause-marks c = λ b i m.
-    subst (λ p. (i ≡ piece b p) ⊎ (is_marked c.args.self.now i ≡ true)) (sym c.in-Type.is) (type_marked c.args.self.now (record { left = c.args.self.now.left; terms = c.args.self.now.terms; types = c.insert-in-Type.new.self; variables = c.args.self.now.variables; type_variables = c.args.self.now.type_variables }) c.in-Type.of.0 c.in_ok-new-in-Type.ensures.updates.0 refl i m)
+    subst (λ p. (i ≡ piece b p) ⊎ (is_marked c.args.self.now i ≡ true)) (sym c.in-Type.is)
+    (type_marked c.args.self.now (record {
+      left = c.args.self.now.left;
+      terms = c.args.self.now.terms;
+      types = c.insert-in-Type.new.self;
+      variables = c.args.self.now.variables;
+      type_variables = c.args.self.now.type_variables;
+    }) c.in-Type.of.0 c.in_ok-new-in-Type.ensures.updates.0
+    refl i m)

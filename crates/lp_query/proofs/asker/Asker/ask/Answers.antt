@@ -19,8 +19,14 @@ returns-in_err-compiled-clause-broke g c =
     passed_up c.from_residual.result c.in_err-compiled.field-0.0 (λ e. (names : List (List ℕ)) ×
     ((AreVariables (reader c.args.self.now) c.args.query.now names ⊎ IsUnwritten (g.K.Sink.written c.args.out.now)
     (g.K.Sink.written c.args.out.now) e) × Broke (entries_in c.args.self.now) names (is_some c.args.watchers) c.args.answers
-    (g.K.Sink.written c.args.out.now) (g.K.Sink.written c.args.out.now) e)) c.from_residual.ensures.1
-    ([], (inr (query_unwritten c.args.query.now (g.K.Sink.written c.args.out.now) c.in_err-compiled.field-0.0 c.in_err-compiled.ensures.refused), broke_query (entries_in c.args.self.now) [] (is_some c.args.watchers) c.args.answers c.args.query.now (g.K.Sink.written c.args.out.now) c.in_err-compiled.field-0.0 c.in_err-compiled.ensures.refused))
+    (g.K.Sink.written c.args.out.now) (g.K.Sink.written c.args.out.now) e)) c.from_residual.ensures.1 (
+      [],
+      (
+        inr (query_unwritten c.args.query.now (g.K.Sink.written c.args.out.now) c.in_err-compiled.field-0.0 c.in_err-compiled.ensures.refused),
+        broke_query (entries_in c.args.self.now) [] (is_some c.args.watchers) c.args.answers c.args.query.now (g.K.Sink.written c.args.out.now)
+            c.in_err-compiled.field-0.0 c.in_err-compiled.ensures.refused,
+      ),
+    )
 
 pub returns-in_err-asked-clause-refused : goal.returns-in_err-asked-clause-refused
 returns-in_err-asked-clause-refused g c =
@@ -31,8 +37,15 @@ returns-in_err-asked-clause-broke g c =
     passed_up c.from_residual-in_err-asked.result c.in_err-asked.field-0.0 (λ e. (names : List (List ℕ)) ×
     ((AreVariables (reader c.args.self.now) c.args.query.now names ⊎ IsUnwritten (g.K.Sink.written c.args.out.now)
     (g.K.Sink.written c.args.out.now) e) × Broke (entries_in c.args.self.now) names (is_some c.args.watchers) c.args.answers
-    (g.K.Sink.written c.args.out.now) (g.K.Sink.written c.args.out.now) e)) c.from_residual-in_err-asked.ensures.1
-    ([], (inr (query_unwritten c.args.query.now (g.K.Sink.written c.args.out.now) c.in_err-asked.field-0.0 (c.in_err-asked.ensures.refused c.args.query.now)), broke_query (entries_in c.args.self.now) [] (is_some c.args.watchers) c.args.answers c.args.query.now (g.K.Sink.written c.args.out.now) c.in_err-asked.field-0.0 (c.in_err-asked.ensures.refused c.args.query.now)))
+    (g.K.Sink.written c.args.out.now) (g.K.Sink.written c.args.out.now) e)) c.from_residual-in_err-asked.ensures.1 (
+      [],
+      (
+        inr (query_unwritten c.args.query.now (g.K.Sink.written c.args.out.now) c.in_err-asked.field-0.0
+            (c.in_err-asked.ensures.refused c.args.query.now)),
+        broke_query (entries_in c.args.self.now) [] (is_some c.args.watchers) c.args.answers
+            c.args.query.now (g.K.Sink.written c.args.out.now) c.in_err-asked.field-0.0 (c.in_err-asked.ensures.refused c.args.query.now),
+      ),
+    )
 
 pub returns-in_err-asked-clause-faults : goal.returns-in_err-asked-clause-faults
 returns-in_err-asked-clause-faults g c =

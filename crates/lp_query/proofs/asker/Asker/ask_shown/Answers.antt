@@ -11,7 +11,9 @@ use Rattle.lp_query.proofs.asker.Asker.ask_shown.Goals as goal
 
 pub returns-in_err-compiled-clause-refused : goal.returns-in_err-compiled-clause-refused
 returns-in_err-compiled-clause-refused g c =
-    passed_up c.from_residual.result c.in_err-compiled.field-0.0 (IsShownFault (AreVariables (reader c.args.self.now) c.args.query.now) c.args.query.now (map bytes c.args.shown.now)) c.from_residual.ensures.1 (inl (ask_of_query c.args.query.now c.in_err-compiled.field-0.0 c.in_err-compiled.ensures.refused))
+    passed_up c.from_residual.result c.in_err-compiled.field-0.0 (IsShownFault (AreVariables (reader c.args.self.now) c.args.query.now)
+    c.args.query.now (map bytes c.args.shown.now)) c.from_residual.ensures.1 (inl
+    (ask_of_query c.args.query.now c.in_err-compiled.field-0.0 c.in_err-compiled.ensures.refused))
 
 pub returns-in_err-compiled-clause-broke : goal.returns-in_err-compiled-clause-broke
 returns-in_err-compiled-clause-broke g c =
@@ -26,11 +28,15 @@ returns-in_err-asked-clause-refused g c =
 pub returns-in_err-asked-clause-broke : goal.returns-in_err-asked-clause-broke
 returns-in_err-asked-clause-broke g c =
     passed_up c.from_residual-in_err-asked.result c.in_err-asked.field-0.0 (Broke (entries_in c.args.self.now) (map bytes c.args.shown.now) false c.args.answers (g.K.Sink.written c.args.out.now) (g.K.Sink.written c.args.out.now)) c.from_residual-in_err-asked.ensures.1
-    (broke_shown (entries_in c.args.self.now) (map bytes c.args.shown.now) false c.args.answers c.args.query.now (map bytes c.in_ok-compiled.compiled.names.items) (map bytes c.args.shown.now) (g.K.Sink.written c.args.out.now) c.in_err-asked.field-0.0 (c.in_err-asked.ensures.refused c.args.query.now))
+    (broke_shown (entries_in c.args.self.now) (map bytes c.args.shown.now) false c.args.answers c.args.query.now
+    (map bytes c.in_ok-compiled.compiled.names.items) (map bytes c.args.shown.now) (g.K.Sink.written c.args.out.now) c.in_err-asked.field-0.0
+    (c.in_err-asked.ensures.refused c.args.query.now))
 
 pub returns-in_err-asked-clause-faults : goal.returns-in_err-asked-clause-faults
 returns-in_err-asked-clause-faults g c =
-    still_counts c.from_residual-in_err-asked.result c.in_err-asked.field-0.0 (g.K.Sink.faults c.args.out.now) c.from_residual-in_err-asked.ensures.1 (no_write_shown (map bytes c.in_ok-compiled.compiled.names.items) (map bytes c.args.shown.now) c.in_err-asked.field-0.0 c.in_err-asked.ensures.refused)
+    still_counts c.from_residual-in_err-asked.result c.in_err-asked.field-0.0 (g.K.Sink.faults c.args.out.now) c.from_residual-in_err-asked.ensures.1
+    (no_write_shown (map bytes c.in_ok-compiled.compiled.names.items) (map bytes c.args.shown.now) c.in_err-asked.field-0.0
+    c.in_err-asked.ensures.refused)
 
 pub returns-clause-refused : goal.returns-clause-refused
 returns-clause-refused g c =

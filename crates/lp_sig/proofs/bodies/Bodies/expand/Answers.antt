@@ -48,7 +48,10 @@ loop-node-preserved c =
           (λ ks n. subst (λ n. HasNames c.expand_node.new.variables (names_by c.args.source.now ks n)) at (c.in_ok-found.ensures.names ks n)) (c.loop-node.invariant.names g);
       settled = λ said k s none.
           let both = neither c.loop-node.fault c.in_ok-found.found (sym c.earlier-fault.ensures.is ∙ none) in
-          c.in_ok-found.ensures.settled said k (subst (λ bs. AreUsesSettled bs (uses_in (abbreviation_names said) c.args.source.now (c.node-item.result ∷ []))) (sym (ap (λ v. v.items) c.loop-node.invariant.bodies)) (λ w d. s w (uses_at (abbreviation_names said) c.args.source.now c.args.raw.now.nodes.items i c.node-item.result h at w d))) (c.loop-node.invariant.settled said k s both.0) both.1;
+          c.in_ok-found.ensures.settled said k (subst (λ bs. AreUsesSettled bs (uses_in (abbreviation_names said) c.args.source.now
+          (c.node-item.result ∷ []))) (sym (ap (λ v. v.items) c.loop-node.invariant.bodies))
+          (λ w d. s w (uses_at (abbreviation_names said) c.args.source.now c.args.raw.now.nodes.items i c.node-item.result h at w d)))
+          (c.loop-node.invariant.settled said k s both.0) both.1;
       ordered = λ said defs k b g.
           c.in_ok-found.ensures.typed said defs (in_order c.args.source.now c.args.raw.now.nodes.items) c.args.raw.now.nodes.items k
           (bodies_stay c.args.self.now.types.bank c.loop-node.self.types.bank c.args.self.now.bodies.items c.loop-node.self.bodies.items said defs c.loop-node.invariant.kept (ap (λ v. v.items) c.loop-node.invariant.bodies) b) (c.loop-node.invariant.ordered said defs k b g)
@@ -70,11 +73,15 @@ returns-clause-stand c = λ said vs k h.
 
 pub returns-clause-body : goal.returns-clause-body
 returns-clause-body c = λ said defs ps k b g.
-    if_done c.loop-node.self.types.bank said defs c.args.source.now (by_parameters c.args.source.now ps) c.args.raw.now.nodes.items c.loop-node.done.items c.as_slice.result.now (c.loop-node.invariant.typed said defs ps k b g) c.args.raw.now.root c.in_ok-made.made c.as_slice.ensures.value c.in_ok-made.ensures.is
+    if_done c.loop-node.self.types.bank said defs c.args.source.now (by_parameters c.args.source.now ps) c.args.raw.now.nodes.items
+    c.loop-node.done.items c.as_slice.result.now (c.loop-node.invariant.typed said defs ps k b g) c.args.raw.now.root c.in_ok-made.made
+    c.as_slice.ensures.value c.in_ok-made.ensures.is
 
 pub returns-clause-open : goal.returns-clause-open
 returns-clause-open c = λ said defs k b g.
-    if_done c.loop-node.self.types.bank said defs c.args.source.now (in_order c.args.source.now c.args.raw.now.nodes.items) c.args.raw.now.nodes.items c.loop-node.done.items c.as_slice.result.now (c.loop-node.invariant.ordered said defs k b g) c.args.raw.now.root c.in_ok-made.made c.as_slice.ensures.value c.in_ok-made.ensures.is
+    if_done c.loop-node.self.types.bank said defs c.args.source.now (in_order c.args.source.now c.args.raw.now.nodes.items) c.args.raw.now.nodes.items
+    c.loop-node.done.items c.as_slice.result.now (c.loop-node.invariant.ordered said defs k b g) c.args.raw.now.root c.in_ok-made.made
+    c.as_slice.ensures.value c.in_ok-made.ensures.is
 
 pub returns-clause-settled : goal.returns-clause-settled
 returns-clause-settled c = λ said k s. c.in_ok-made.ensures.made (subst AllMade (sym c.as_slice.ensures.value) (c.loop-node.invariant.settled said k s c.in_default.is))

@@ -29,7 +29,9 @@ returns-then-len-gt-MAX_ARGUMENTS-clause-exact c = λ said defs k b.
     let whole = c.in-Some.whole in
     let tree = subst (λ o. IfSome o (IsTree bank (IsTypeOf said defs text (in_order text raw.nodes.items) raw.nodes.items raw.root))) c.in-Some.is (c.in_ok-whole.ensures.open said defs k b c.open-variables.ensures.names) in
     inr (many_variables refl (c.has_many_arguments.ensures.few c.if-has_many_arguments.false, c.in_ok-whole.ensures.stand said None k c.open-variables.ensures.open)
-    (length c.in_ok-found.found.items) (numbered_type (type_tree bank whole.0)) (scheme_made said defs text raw bank whole c.in_ok-found.found.items (length c.in_ok-found.found.items) (numbered_type (type_tree bank whole.0)) tree c.in_ok-found.ensures refl refl) (let l = c.if-len-gt-MAX_ARGUMENTS.true in omega (arith, l, c.len.ensures, c.in_ok-found.found.ok)))
+    (length c.in_ok-found.found.items) (numbered_type (type_tree bank whole.0)) (scheme_made said defs text raw bank whole c.in_ok-found.found.items
+    (length c.in_ok-found.found.items) (numbered_type (type_tree bank whole.0)) tree c.in_ok-found.ensures refl refl)
+    (let l = c.if-len-gt-MAX_ARGUMENTS.true in omega (arith, l, c.len.ensures, c.in_ok-found.found.ok)))
 
 pub returns-clause-typed : goal.returns-clause-typed
 returns-clause-typed c = λ said defs k b.

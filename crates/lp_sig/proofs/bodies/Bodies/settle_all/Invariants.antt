@@ -19,7 +19,9 @@ abbrev pub invariant-loop-step : goal.invariant-loop-step
 invariant-loop-step g l = record {
   lines : map (λ b. b.line) l.self.bodies.items ≡ map (λ b. b.line) l.fn.self.bodies.items;
   kept : Extends l.fn.self.types.bank l.self.types.bank;
-  bodies : (said : List (Row Said)) (defs : List (Row Definition)) → Knows l.names said → HoldsLines l.fn.self.bodies.items said defs l.source (g.T.Lines.declared l.text) → HoldsBodies l.fn.self.types.bank l.fn.self.bodies.items said defs → HoldsBodies l.self.types.bank l.self.bodies.items said defs;
+  bodies : (said : List (Row Said)) (defs : List (Row Definition)) → Knows l.names said → HoldsLines l.fn.self.bodies.items said defs l.source
+      (g.T.Lines.declared l.text) → HoldsBodies l.fn.self.types.bank l.fn.self.bodies.items said defs → HoldsBodies l.self.types.bank
+      l.self.bodies.items said defs;
   settled : (from : ℕ) (z : Seen) → Knows l.names z.said → ((place : ℕ) → Contains l.steps (Declare place) → BodyStands from z place → CanBeSettled l.fn.self.bodies.items z.said (all_uses z) l.source (g.T.Lines.declared l.text) place) →
       UsesComeFirst (all_uses z) (BodyStands from z) (IsSettledIf from z l.fn.self.bodies.items) l.steps → AreOnWay (all_uses z) (BodyStands from z) l.steps l.step-index (IsSettledIf from z l.fn.self.bodies.items) (IsSettledIf from z l.self.bodies.items);
 }

@@ -18,10 +18,14 @@ use Rattle.lp_sig.proofs.UsesSettled.{word_settled}
 use Rattle.lp_sig.proofs.bodies.Bodies.word.Goals as goal
 
 pub returns-in_default-clause-fault : goal.returns-in_default-clause-fault
-returns-in_default-clause-fault c = λ said vs k h. variable_unknown c.args.source.now said vs c.args.spot (length c.args.arguments.now) c.spelled_at-name.result.now c.spelled_at-name.ensures c.in_ok-number.field-0 (sym c.is_variable.ensures ∙ c.if-is_variable.true) (c.in_ok-number.ensures.given vs h) c.in_default.is
+returns-in_default-clause-fault c = λ said vs k h. variable_unknown c.args.source.now said vs c.args.spot (length c.args.arguments.now)
+    c.spelled_at-name.result.now c.spelled_at-name.ensures c.in_ok-number.field-0 (sym c.is_variable.ensures ∙ c.if-is_variable.true)
+    (c.in_ok-number.ensures.given vs h) c.in_default.is
 
 pub returns-then-is_variable-clause-fault : goal.returns-then-is_variable-clause-fault
-returns-then-is_variable-clause-fault c = λ said vs k h. variable_stands c.args.source.now said vs c.args.spot (length c.args.arguments.now) c.spelled_at-name.result.now c.spelled_at-name.ensures c.in_ok-number.field-0 c.in-Some.number (sym c.is_variable.ensures ∙ c.if-is_variable.true) (c.in_ok-number.ensures.given vs h) c.in-Some.is
+returns-then-is_variable-clause-fault c = λ said vs k h. variable_stands c.args.source.now said vs c.args.spot (length c.args.arguments.now)
+    c.spelled_at-name.result.now c.spelled_at-name.ensures c.in_ok-number.field-0 c.in-Some.number (sym c.is_variable.ensures ∙ c.if-is_variable.true)
+    (c.in_ok-number.ensures.given vs h) c.in-Some.is
 
 pub returns-then-arguments-arity-clause-fault : goal.returns-then-arguments-arity-clause-fault
 returns-then-arguments-arity-clause-fault c = λ said vs k h.
@@ -61,7 +65,9 @@ returns-then-is_variable-clause-typed c = λ said defs ν nodes i args k h all a
 pub returns-in_ok-id-in-Some-Kind-clause-typed : goal.returns-in_ok-id-in-Some-Kind-clause-typed
 returns-in_ok-id-in-Some-Kind-clause-typed c = λ said defs ν nodes i args k h all at same num.
     let made = subst (λ o. IfSome o (λ types. map (type_done c.args.done.now) c.args.arguments.now ≡ map (λ t. Some t) types.items)) c.in-Some-2.is c.in_ok-parts-in-Some-Kind.ensures.are in
-    kind_made c.args.self.now.types.bank said defs c.args.source.now ν nodes c.args.done.now all c.con.new.self.bank i c.args.spot args c.args.arguments.now c.spelled_at-name.result.now c.in-Some-Kind.number c.in-Some-Kind.arity c.in-Some-2.parts.items c.as_slice.result.now c.in_ok-id-in-Some-Kind.id at same
+    kind_made c.args.self.now.types.bank said defs c.args.source.now ν nodes c.args.done.now all c.con.new.self.bank i c.args.spot args
+    c.args.arguments.now c.spelled_at-name.result.now c.in-Some-Kind.number c.in-Some-Kind.arity c.in-Some-2.parts.items c.as_slice.result.now
+    c.in_ok-id-in-Some-Kind.id at same
     c.spelled_at-name.ensures (sym c.is_variable.ensures ∙ c.if-is_variable.false) (ap (λ m. Some (said_as c.args.names.now m)) (sym c.in-Some-Kind.field-0-is) ∙ c.in-Some-Kind.ensures.means said k) c.if-arguments-arity.false
     (subst (HasNumber (kind_number_of c.spelled_at-name.result.now said)) c.in-Some-Kind.field-0-is (c.in-Some-Kind.ensures.exact said k)) made c.as_slice.ensures.value c.in_ok-id-in-Some-Kind.ensures.tree.0 c.in_ok-id-in-Some-Kind.ensures.tree.1
 
@@ -78,7 +84,9 @@ returns-in-Some-Abbreviation-clause-typed c = λ said defs ν nodes i args k h a
     IfOk-weaker c.replaced.result (λ made. (blamed c.args.spot made ≡ on_count c.args.spot (length c.args.arguments.now) m) × IfType made (IsReplaced b now said defs word c.args.done.now c.args.arguments.now)) (λ made. IfType made (IsTree now (IsTypeOf said defs text ν nodes i)))
     (λ made p. as_type made (IsReplaced b now said defs word c.args.done.now c.args.arguments.now) (IsTree now (IsTypeOf said defs text ν nodes i))
     (λ id is r. abbreviation_made b said defs text ν nodes c.args.done.now all now i c.args.spot args c.args.arguments.now word m _ id at same c.spelled_at-name.ensures (sym c.is_variable.ensures ∙ c.if-is_variable.false) means refl (ap (blamed c.args.spot) (sym is) ∙ p.0) r) p.1)
-    (both_ok c.replaced.result (λ made. blamed c.args.spot made ≡ on_count c.args.spot (length c.args.arguments.now) m) (λ made. IfType made (IsReplaced b now said defs word c.args.done.now c.args.arguments.now)) (c.replaced.ensures.counted c.args.spot) (c.replaced.ensures.typed said defs word h there))
+    (both_ok c.replaced.result (λ made. blamed c.args.spot made ≡ on_count c.args.spot (length c.args.arguments.now) m)
+    (λ made. IfType made (IsReplaced b now said defs word c.args.done.now c.args.arguments.now)) (c.replaced.ensures.counted c.args.spot)
+    (c.replaced.ensures.typed said defs word h there))
 
 pub returns-in_default-2-clause-settled : goal.returns-in_default-2-clause-settled
 returns-in_default-2-clause-settled c = λ said args k settled all is. no_type c.in_ok-parts-in-Some-Kind.field-0 c.in_default-2.is (c.in_ok-parts-in-Some-Kind.ensures.made all)

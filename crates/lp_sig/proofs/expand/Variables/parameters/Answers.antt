@@ -9,7 +9,9 @@ loop-spot-init c = record { listed = λ name. ap is_some (c.open-variables.ensur
 pub loop-spot-preserved : goal.loop-spot-preserved
 loop-spot-preserved c = record {
   listed = listed_more c.loop-spot.variables _ c.args.source.now c.args.parameters.now c.loop-spot.spot-index _ c.spelled_at.result.now _ c.loop-spot-test.true c.spelled_at.ensures c.in_ok-add.ensures.added c.loop-spot.invariant.listed;
-  numbered = numbered_more c.loop-spot.variables _ c.args.source.now c.args.parameters.now c.loop-spot.spot-index _ c.spelled_at.result.now c.in_ok-check_apart.ensures.taken c.loop-spot-test.true c.spelled_at.ensures c.loop-spot.invariant.next c.in_ok-add.ensures.added c.loop-spot.invariant.numbered;
+  numbered = numbered_more c.loop-spot.variables _ c.args.source.now c.args.parameters.now c.loop-spot.spot-index _ c.spelled_at.result.now
+      c.in_ok-check_apart.ensures.taken c.loop-spot-test.true c.spelled_at.ensures c.loop-spot.invariant.next c.in_ok-add.ensures.added
+      c.loop-spot.invariant.numbered;
   next = c.in_ok-add.ensures.next ∙ ap (λ n. n + 1) c.loop-spot.invariant.next;
 }
 

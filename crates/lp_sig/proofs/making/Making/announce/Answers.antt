@@ -39,11 +39,15 @@ loop-line-preserved c =
       stay = λ j f. c.in_ok-announce_line.ensures.stay j (c.loop-line.invariant.stay j f);
       announced = λ from said defs k b a.
           subst (λ s. AreAnnounced from c.announce_line.new.self.bodies.bodies.items s c.args.source.now (line_of_text lines)) (said_more c.args.source.now lines i c.declaration-item.result said h at)
-          (c.in_ok-announce_line.ensures.lines from (said ++ said_in c.args.source.now (take i lines)) (defs ++ definitions_in c.args.source.now (take i lines)) (line_of_text lines) (c.loop-line.invariant.names said k) (line_there lines i c.declaration-item.result h at) (c.loop-line.invariant.bodies said defs k b)
+          (c.in_ok-announce_line.ensures.lines from (said ++ said_in c.args.source.now (take i lines))
+          (defs ++ definitions_in c.args.source.now (take i lines)) (line_of_text lines) (c.loop-line.invariant.names said k)
+          (line_there lines i c.declaration-item.result h at) (c.loop-line.invariant.bodies said defs k b)
           (c.loop-line.invariant.announced from said defs k b a));
       bodies = λ said defs k b.
           one_announced c.announce_line.new.self.bodies.types.bank c.announce_line.new.self.bodies.bodies.items said defs c.args.source.now (line_of_text lines) lines i c.declaration-item.result h at
-          (c.in_ok-announce_line.ensures.bodies (said ++ said_in c.args.source.now (take i lines)) (defs ++ definitions_in c.args.source.now (take i lines)) (line_of_text lines) (c.loop-line.invariant.names said k) (line_there lines i c.declaration-item.result h at) (c.loop-line.invariant.bodies said defs k b));
+          (c.in_ok-announce_line.ensures.bodies (said ++ said_in c.args.source.now (take i lines))
+          (defs ++ definitions_in c.args.source.now (take i lines)) (line_of_text lines) (c.loop-line.invariant.names said k)
+          (line_there lines i c.declaration-item.result h at) (c.loop-line.invariant.bodies said defs k b));
     }
 
 pub returns-clause-names : goal.returns-clause-names

@@ -16,7 +16,9 @@ invariant-loop-line l = record {
   types : l.self.bodies.types ≡ l.fn.self.bodies.types;
   uses : l.self.uses ≡ l.fn.self.uses;
   stay : (k : ℕ) → IsSettledAt l.fn.self.bodies.bodies.items k → IsSettledAt l.self.bodies.bodies.items k;
-  announced : (from : ℕ) (said : List (Row Said)) (defs : List (Row Definition)) → Knows l.fn.self.names said → KnowsBodies l.fn.self.bodies.types.bank l.fn.self.bodies.bodies.items said defs l.source (line_of_text l.text.lines.items) → AreAnnounced from l.fn.self.bodies.bodies.items said l.source (line_of_text l.text.lines.items) →
+  announced : (from : ℕ) (said : List (Row Said)) (defs : List (Row Definition)) → Knows l.fn.self.names said → KnowsBodies
+      l.fn.self.bodies.types.bank l.fn.self.bodies.bodies.items said defs l.source (line_of_text l.text.lines.items) → AreAnnounced from
+      l.fn.self.bodies.bodies.items said l.source (line_of_text l.text.lines.items) →
       AreAnnounced from l.self.bodies.bodies.items (said ++ said_in l.source (take l.line l.text.lines.items)) l.source (line_of_text l.text.lines.items);
   bodies : (said : List (Row Said)) (defs : List (Row Definition)) → Knows l.fn.self.names said → KnowsBodies l.fn.self.bodies.types.bank l.fn.self.bodies.bodies.items said defs l.source (line_of_text l.text.lines.items) →
       KnowsBodies l.self.bodies.types.bank l.self.bodies.bodies.items (said ++ said_in l.source (take l.line l.text.lines.items)) (defs ++ definitions_in l.source (take l.line l.text.lines.items)) l.source (line_of_text l.text.lines.items);

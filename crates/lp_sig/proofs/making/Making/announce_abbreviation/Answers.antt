@@ -28,7 +28,9 @@ returns-in_ok-add-clause-lines c = λ from said defs declared ps ty k there know
     let text = c.args.source.now in
     let n = spelled text c.args.name in
     let unknown = ap (λ w. is_known w said) (sym c.spelled_at.ensures) ∙ sym (c.in_ok-announce_head.ensures.fresh said k) ∙ ap not c.if-branch.true in
-    new_announced from c.args.self.now.bodies.bodies.items said ((n, an_abbreviation c.args.parameters) ∷ []) text declared all c.add.new.self.bodies.items c.args.name ps ty c.args.line c.in_ok-add.ensures.items there (names_fresh said n c.args.parameters unknown) (fresh_place said n unknown) known.count
+    new_announced from c.args.self.now.bodies.bodies.items said ((n, an_abbreviation c.args.parameters) ∷ []) text declared all
+    c.add.new.self.bodies.items c.args.name ps ty c.args.line c.in_ok-add.ensures.items there (names_fresh said n c.args.parameters unknown)
+    (fresh_place said n unknown) known.count
 
 pub returns-else-branch-clause-lines : goal.returns-else-branch-clause-lines
 returns-else-branch-clause-lines c = λ from said defs declared ps ty k there known all.

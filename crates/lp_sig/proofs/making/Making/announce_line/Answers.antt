@@ -10,7 +10,9 @@ use Rattle.lp_sig.proofs.Announcing.{quiet_line, abbreviation_announced, none_an
 use Rattle.lp_sig.proofs.making.Making.announce_line.Goals as goal
 
 pub returns-in-Kinds-clause-names : goal.returns-in-Kinds-clause-names
-returns-in-Kinds-clause-names c = on_ok_weaker c.announce_kinds.result (λ h said k. its_names c.announce_kinds.new.self c.args.source.now c.args.declaration.now _ _ c.in-Kinds.is (ap (each c.args.source.now (a_kind c.in-Kinds.arity)) c.as_slice.ensures.value) said (h said k)) c.announce_kinds.ensures
+returns-in-Kinds-clause-names c = on_ok_weaker c.announce_kinds.result (λ h said k. its_names c.announce_kinds.new.self c.args.source.now
+    c.args.declaration.now _ _ c.in-Kinds.is (ap (each c.args.source.now (a_kind c.in-Kinds.arity)) c.as_slice.ensures.value) said (h said k))
+    c.announce_kinds.ensures
 
 pub returns-in-Constants-clause-names : goal.returns-in-Constants-clause-names
 returns-in-Constants-clause-names c = no_names c.args.self.now.names c.args.source.now c.args.declaration.now _ c.in-Constants.is refl
@@ -31,7 +33,9 @@ pub returns-in-Abbreviation-clause-names : goal.returns-in-Abbreviation-clause-n
 returns-in-Abbreviation-clause-names c =
     let ps = c.in-Abbreviation.parameters in
     let n : c.len.result ≡ length ps.items = omega (arith, c.len.ensures, ps.ok) in
-    on_ok_weaker c.announce_abbreviation.result (λ h said k. its_names c.announce_abbreviation.new.self.names c.args.source.now c.args.declaration.now _ _ c.in-Abbreviation.is (ap (λ n. each c.args.source.now (an_abbreviation n) (c.in-Abbreviation.name ∷ [])) n) said (h said k)) c.announce_abbreviation.ensures.names
+    on_ok_weaker c.announce_abbreviation.result (λ h said k. its_names c.announce_abbreviation.new.self.names c.args.source.now c.args.declaration.now
+    _ _ c.in-Abbreviation.is (ap (λ n. each c.args.source.now (an_abbreviation n) (c.in-Abbreviation.name ∷ [])) n) said (h said k))
+    c.announce_abbreviation.ensures.names
 
 pub returns-in-Kinds-clause-bodies : goal.returns-in-Kinds-clause-bodies
 returns-in-Kinds-clause-bodies c = on_ok_always c.announce_kinds.result _ (λ said defs declared k there known.
@@ -47,7 +51,9 @@ returns-in-Abbreviation-clause-bodies c =
     let new = c.announce_abbreviation.new.self.bodies in
     let n : c.len.result ≡ length ps.items = omega (arith, c.len.ensures, ps.ok) in
     on_ok_weaker c.announce_abbreviation.result (λ h said defs declared k there known.
-    abbreviation_announced new.types.bank new.bodies.items said defs c.args.source.now declared c.args.declaration.now c.in-Abbreviation.name ps c.in-Abbreviation.field-2 c.len.result c.in-Abbreviation.is n (h said defs declared ps c.in-Abbreviation.field-2 k (there ∙ ap (λ d. Some d) c.in-Abbreviation.is) known)) c.announce_abbreviation.ensures.bodies
+    abbreviation_announced new.types.bank new.bodies.items said defs c.args.source.now declared c.args.declaration.now c.in-Abbreviation.name ps
+    c.in-Abbreviation.field-2 c.len.result c.in-Abbreviation.is n (h said defs declared ps c.in-Abbreviation.field-2 k
+    (there ∙ ap (λ d. Some d) c.in-Abbreviation.is) known)) c.announce_abbreviation.ensures.bodies
 
 pub returns-in-Kinds-clause-lines : goal.returns-in-Kinds-clause-lines
 returns-in-Kinds-clause-lines c = on_ok_always c.announce_kinds.result _ (λ from said defs declared k there known all.

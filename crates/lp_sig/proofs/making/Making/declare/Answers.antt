@@ -36,7 +36,9 @@ loop-declaration-init c =
           let defs = z.definitions ++ definitions_in text lines in
           let before = c.in_ok-announce.ensures.bodies z.said z.definitions k.names (at_work c.args.self.now.bodies.types.bank c.args.self.now.bodies.bodies.items z text (line_of_text lines) k.types) in
           settled old.types.bank new.types.bank old.bodies.items new.bodies.items said defs text (line_of_text lines) c.settle.ensures.lines (c.settle.ensures.bodies said defs (c.in_ok-announce.ensures.names z.said k.names) before.lines before.holds) before;
-      constants = λ z rows k a. text_begins c.args.self.now.bodies.types c.announce.new.self.bodies.types c.settle.new.self.types c.args.self.now.constants c.announce.new.self.constants z.said (said_in text lines) z.definitions (definitions_in text lines) rows text lines c.announce.ensures.types c.announce.ensures.constants c.settle.ensures.kept a;
+      constants = λ z rows k a. text_begins c.args.self.now.bodies.types c.announce.new.self.bodies.types c.settle.new.self.types
+          c.args.self.now.constants c.announce.new.self.constants z.said (said_in text lines) z.definitions (definitions_in text lines) rows text
+          lines c.announce.ensures.types c.announce.ensures.constants c.settle.ensures.kept a;
       stand = λ z k.
           let old = c.announce.new.self.bodies in
           let begun = at_work c.args.self.now.bodies.types.bank c.args.self.now.bodies.bodies.items z text (line_of_text lines) k.types in
@@ -55,10 +57,14 @@ loop-declaration-init c =
           subst (λ n. AreSettledIf n (seen_text z text lines) c.settle.new.self.bodies.items) same
           (c.in_ok-settle.ensures.settled (seen_text z text lines) known uses.are before.count
           (λ j f. c.in_ok-announce.ensures.stay j (k.settled j (omega (arith, f, first, same))))
-          (λ j f b. subst (λ n. HasUsesInside (seen_text z text lines) j × (BodyStands n (seen_text z text lines) j → CanBeSettled old.bodies.items (z.said ++ said_in text lines) (all_uses (seen_text z text lines)) text (line_of_text lines) j × HasNoCircle (all_uses (seen_text z text lines)) j)) (sym same)
+          (λ j f b. subst (λ n. HasUsesInside (seen_text z text lines) j × (BodyStands n (seen_text z text lines) j → CanBeSettled old.bodies.items
+          (z.said ++ said_in text lines) (all_uses (seen_text z text lines)) text (line_of_text lines) j × HasNoCircle
+          (all_uses (seen_text z text lines)) j)) (sym same)
           (text_ready z text lines old.types.bank old.bodies.items k.uses.said k.types.told before announced j (subst (λ n. n ≤ j) same f) b)));
       typed = λ z rows k a t. none_declared (seen_count z) (seen_text z text lines) rows text lines c.announce.new.self.constants
-          (typed_if c.args.self.now.bodies.types.bank z.said z.definitions (seen_count z) (seen_text z text lines) rows c.announce.new.self.constants (subst (λ y. KnowsConstants c.args.self.now.bodies.types.bank y z.said z.definitions rows) (sym c.announce.ensures.constants) a) (subst AreTyped (sym c.announce.ensures.constants) t.0));
+          (typed_if c.args.self.now.bodies.types.bank z.said z.definitions (seen_count z) (seen_text z text lines) rows c.announce.new.self.constants
+          (subst (λ y. KnowsConstants c.args.self.now.bodies.types.bank y z.said z.definitions rows) (sym c.announce.ensures.constants) a)
+          (subst AreTyped (sym c.announce.ensures.constants) t.0));
       operators = λ said k. subst (λ o. KnowsOperators o (said ++ fixities_in text (take 0 lines))) (sym c.announce.ensures.operators) (subst (KnowsOperators c.args.self.now.operators) (sym (append-nil said)) k);
     }
 
@@ -69,8 +75,16 @@ returns-in_err-declare_line-clause-refused c = λ z rows k a t.
     let all = seen_text z c.args.source.now lines in
     let had = c.loop-declaration.invariant.typed z rows k a t in
     passed_up c.from_residual-in_err-declare_line.result c.in_err-declare_line.field-0.0 (IsFaultIn c.args.source.now (seen_count z) all rows lines) c.from_residual-in_err-declare_line.ensures.1
-    (line_at_fault c.args.source.now (seen_count z) all rows lines c.deref-declaration-items.result.now i c.declaration-item.result c.in_err-declare_line.field-0.0 c.deref-declaration-items.ensures.value c.loop-declaration-test.true c.declaration-item.is c.loop-declaration.invariant.within (c.loop-declaration.invariant.sound z k) had.1
-    (c.in_err-declare_line.ensures.why (seen_count z) all (rows ++ constants_in c.args.source.now (take i lines)) (record { known = c.loop-declaration.invariant.names z k; uses = c.loop-declaration.invariant.uses z k; holds = (c.loop-declaration.invariant.bodies z k).holds }) (c.loop-declaration.invariant.settled z k) (c.loop-declaration.invariant.constants z rows k a) had.0))
+    (line_at_fault c.args.source.now (seen_count z) all rows lines c.deref-declaration-items.result.now i c.declaration-item.result
+    c.in_err-declare_line.field-0.0 c.deref-declaration-items.ensures.value c.loop-declaration-test.true c.declaration-item.is
+    c.loop-declaration.invariant.within (c.loop-declaration.invariant.sound z k) had.1
+    (c.in_err-declare_line.ensures.why (seen_count z) all (rows ++ constants_in c.args.source.now (take i lines))
+    (record {
+      known = c.loop-declaration.invariant.names z k;
+      uses = c.loop-declaration.invariant.uses z k;
+      holds = (c.loop-declaration.invariant.bodies z k).holds;
+    }) (c.loop-declaration.invariant.settled z k)
+    (c.loop-declaration.invariant.constants z rows k a) had.0))
 
 pub loop-declaration-preserved : goal.loop-declaration-preserved
 loop-declaration-preserved c =
@@ -89,15 +103,28 @@ loop-declaration-preserved c =
       bodies = λ z k.
           let old = c.loop-declaration.self.bodies in
           let new = c.declare_line.new.self.bodies in
-          work_stays old.types.bank new.types.bank old.bodies.items new.bodies.items (z.said ++ said_in text lines) (z.definitions ++ definitions_in text lines) text (line_of_text lines) c.declare_line.ensures.kept (ap (λ v. v.items) c.declare_line.ensures.bodies) (c.loop-declaration.invariant.bodies z k);
+          work_stays old.types.bank new.types.bank old.bodies.items new.bodies.items (z.said ++ said_in text lines)
+          (z.definitions ++ definitions_in text lines) text (line_of_text lines) c.declare_line.ensures.kept
+          (ap (λ v. v.items) c.declare_line.ensures.bodies) (c.loop-declaration.invariant.bodies z k);
       constants = λ z rows k a. subst (KnowsConstants c.declare_line.new.self.bodies.types.bank c.declare_line.new.self.constants (z.said ++ said_in text lines) (z.definitions ++ definitions_in text lines)) (constants_more text lines i c.declaration-item.result rows h at)
-          (c.in_ok-declare_line.ensures.constants (seen_text z text lines) (rows ++ constants_in text (take i lines)) (record { known = c.loop-declaration.invariant.names z k; uses = c.loop-declaration.invariant.uses z k; holds = (c.loop-declaration.invariant.bodies z k).holds }) (c.loop-declaration.invariant.constants z rows k a));
+          (c.in_ok-declare_line.ensures.constants (seen_text z text lines) (rows ++ constants_in text (take i lines))
+          (record {
+            known = c.loop-declaration.invariant.names z k;
+            uses = c.loop-declaration.invariant.uses z k;
+            holds = (c.loop-declaration.invariant.bodies z k).holds;
+          }) (c.loop-declaration.invariant.constants z rows k a));
       stand = c.loop-declaration.invariant.stand;
       settled = λ z k. subst (λ v. AreSettledIf (seen_count z) (seen_text z text lines) v.items) (sym c.declare_line.ensures.bodies) (c.loop-declaration.invariant.settled z k);
       typed = λ z rows k a t.
           let had = c.loop-declaration.invariant.typed z rows k a t in
           more_declared (seen_count z) (seen_text z text lines) rows text lines i c.declaration-item.result c.loop-declaration.self.constants c.declare_line.new.self.constants h at had
-          (c.in_ok-declare_line.ensures.declared (seen_count z) (seen_text z text lines) (rows ++ constants_in text (take i lines)) (record { known = c.loop-declaration.invariant.names z k; uses = c.loop-declaration.invariant.uses z k; holds = (c.loop-declaration.invariant.bodies z k).holds }) (c.loop-declaration.invariant.settled z k) (c.loop-declaration.invariant.constants z rows k a) had.0);
+          (c.in_ok-declare_line.ensures.declared (seen_count z) (seen_text z text lines) (rows ++ constants_in text (take i lines))
+          (record {
+            known = c.loop-declaration.invariant.names z k;
+            uses = c.loop-declaration.invariant.uses z k;
+            holds = (c.loop-declaration.invariant.bodies z k).holds;
+          }) (c.loop-declaration.invariant.settled z k)
+          (c.loop-declaration.invariant.constants z rows k a) had.0);
       operators = λ said k. subst (KnowsOperators c.declare_line.new.self.operators) (fixities_more text lines i c.declaration-item.result said h at)
           (c.in_ok-declare_line.ensures.operators (said ++ fixities_in text (take i lines)) (c.loop-declaration.invariant.operators said k));
     }
@@ -113,11 +140,15 @@ returns-clause-declared c = λ z rows k a t.
     (all_declared (seen_count z) (seen_text z c.args.source.now lines) rows c.args.source.now lines i c.loop-declaration.self.constants h (c.loop-declaration.invariant.typed z rows k a t)).1
 
 pub returns-clause-sound : goal.returns-clause-sound
-returns-clause-sound c = λ z k. sound_all (seen_count z) c.args.source.now (seen_text z c.args.source.now c.args.text.now.lines.items) c.args.text.now.lines.items c.deref-declaration-items.result.now c.loop-declaration.declaration-index c.deref-declaration-items.ensures.value c.loop-declaration-test.false
+returns-clause-sound c = λ z k. sound_all (seen_count z) c.args.source.now (seen_text z c.args.source.now c.args.text.now.lines.items)
+    c.args.text.now.lines.items c.deref-declaration-items.result.now c.loop-declaration.declaration-index c.deref-declaration-items.ensures.value
+    c.loop-declaration-test.false
     (c.loop-declaration.invariant.sound z k)
 
 pub returns-clause-stand : goal.returns-clause-stand
-returns-clause-stand c = λ z k. c.loop-declaration.invariant.stand z k (sound_all (seen_count z) c.args.source.now (seen_text z c.args.source.now c.args.text.now.lines.items) c.args.text.now.lines.items c.deref-declaration-items.result.now c.loop-declaration.declaration-index c.deref-declaration-items.ensures.value c.loop-declaration-test.false
+returns-clause-stand c = λ z k. c.loop-declaration.invariant.stand z k (sound_all (seen_count z) c.args.source.now
+    (seen_text z c.args.source.now c.args.text.now.lines.items) c.args.text.now.lines.items c.deref-declaration-items.result.now
+    c.loop-declaration.declaration-index c.deref-declaration-items.ensures.value c.loop-declaration-test.false
     (c.loop-declaration.invariant.sound z k))
 
 pub returns-clause-seen : goal.returns-clause-seen

@@ -38,7 +38,10 @@ pub returns-in-Constants-clause-operators : goal.returns-in-Constants-clause-ope
 returns-in-Constants-clause-operators c = on_ok_always c.declare_constants.result _ (no_fixities c.args.self.now.operators c.args.source.now c.args.declaration.now _ c.in-Constants.is refl)
 
 pub returns-in-Abbreviation-clause-operators : goal.returns-in-Abbreviation-clause-operators
-returns-in-Abbreviation-clause-operators c = on_ok_always c.declare_abbreviation.result _ (λ said k. subst (λ o. KnowsOperators o (said ++ fixities_by c.args.source.now c.args.declaration.now)) (sym c.declare_abbreviation.ensures.operators) (no_fixities c.args.self.now.operators c.args.source.now c.args.declaration.now _ c.in-Abbreviation.is refl said k))
+returns-in-Abbreviation-clause-operators c = on_ok_always c.declare_abbreviation.result _
+    (λ said k. subst (λ o. KnowsOperators o (said ++ fixities_by c.args.source.now c.args.declaration.now))
+    (sym c.declare_abbreviation.ensures.operators) (no_fixities c.args.self.now.operators c.args.source.now c.args.declaration.now _
+    c.in-Abbreviation.is refl said k))
 
 pub returns-in-LocalKinds-clause-operators : goal.returns-in-LocalKinds-clause-operators
 returns-in-LocalKinds-clause-operators c = no_fixities c.args.self.now.operators c.args.source.now c.args.declaration.now _ c.in-LocalKinds.is refl

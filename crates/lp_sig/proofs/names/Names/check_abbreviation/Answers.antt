@@ -17,14 +17,20 @@ pub returns-then-known-parameters-clause-why : goal.returns-then-known-parameter
 returns-then-known-parameters-clause-why c = λ said k.
     let known = c.in-Some.known.now in
     other refl c.in_ok-check_length.ensures.taken (other_parameters c.args.source.now said c.args.name c.spelled_at.result.now c.spelled_at.ensures known.parameters c.args.parameters
-    (ap (λ m. Some m) (sym (ap (said_as c.args.self.now) c.in-Some-Abbreviation.field-0-is ∙ parameters_at c.args.self.now.heads.items c.deref.result.now c.in-Some-Abbreviation.place known c.deref.ensures.value c.in-Some.ensures.lookup.3.0 c.in-Some.ensures.lookup.1)) ∙ c.in-Some-Abbreviation.ensures.means said k) c.if-known-parameters.true)
+    (ap (λ m. Some m) (sym (ap (said_as c.args.self.now) c.in-Some-Abbreviation.field-0-is ∙ parameters_at c.args.self.now.heads.items
+    c.deref.result.now c.in-Some-Abbreviation.place known c.deref.ensures.value c.in-Some.ensures.lookup.3.0 c.in-Some.ensures.lookup.1)) ∙
+    c.in-Some-Abbreviation.ensures.means said k) c.if-known-parameters.true)
 
 pub returns-in-None-get-clause-why : goal.returns-in-None-get-clause-why
 returns-in-None-get-clause-why c = λ said k.
     absurd (has_head c.args.self.now said c.spelled_at.result.now c.in-Some-Abbreviation.place c.deref.result.now k c.deref.ensures.value (sym (ap place_meant (ap (λ m. Some m) c.in-Some-Abbreviation.field-0-is)) ∙ c.in-Some-Abbreviation.ensures.place said k) c.in-None-get.ensures.lookup.3)
 
 pub returns-in-Some-Kind-clause-why : goal.returns-in-Some-Kind-clause-why
-returns-in-Some-Kind-clause-why c = λ said k. other refl c.in_ok-check_length.ensures.taken (not_a_head c.args.source.now said c.args.name c.spelled_at.result.now c.spelled_at.ensures _ c.args.parameters (ap (λ m. Some (said_as c.args.self.now m)) (sym c.in-Some-Kind.field-0-is) ∙ c.in-Some-Kind.ensures.means said k))
+returns-in-Some-Kind-clause-why c = λ said k. other refl c.in_ok-check_length.ensures.taken
+    (not_a_head c.args.source.now said c.args.name c.spelled_at.result.now c.spelled_at.ensures _ c.args.parameters
+    (ap (λ m. Some (said_as c.args.self.now m)) (sym c.in-Some-Kind.field-0-is) ∙ c.in-Some-Kind.ensures.means said k))
 
 pub returns-in-None-clause-why : goal.returns-in-None-clause-why
-returns-in-None-clause-why c = λ said k. other refl c.in_ok-check_length.ensures.taken (no_meaning c.args.source.now said c.args.name c.spelled_at.result.now c.spelled_at.ensures (an_abbreviation c.args.parameters) (ap (option_map (said_as c.args.self.now)) (sym c.in-None.is) ∙ c.meaning.ensures.means said k))
+returns-in-None-clause-why c = λ said k. other refl c.in_ok-check_length.ensures.taken
+    (no_meaning c.args.source.now said c.args.name c.spelled_at.result.now c.spelled_at.ensures (an_abbreviation c.args.parameters)
+    (ap (option_map (said_as c.args.self.now)) (sym c.in-None.is) ∙ c.meaning.ensures.means said k))

@@ -23,10 +23,18 @@ returns-in_err-declare_kind-clause-why c = λ said k.
     (a_name (first_name c.args.source.now said (a_kind c.args.arity) c.args.names.now c.loop-name.name-index _ c.in_err-declare_kind.field-0.0 c.loop-name-test.true (c.loop-name.invariant.meant said k) (c.loop-name.invariant.numbered said k) (c.in_err-declare_kind.ensures.why said k)))
 
 pub returns-then-arity-clause-why : goal.returns-then-arity-clause-why
-returns-then-arity-clause-why c = λ said k. arguments refl (all_meant c.args.source.now said (a_kind c.args.arity) c.args.names.now c.loop-name.name-index c.loop-name-test.false (c.loop-name.invariant.meant said k)) (all_numbered c.args.source.now said c.args.names.now c.loop-name.name-index c.loop-name-test.false (c.loop-name.invariant.numbered said k)) c.if-arity.true
+returns-then-arity-clause-why c = λ said k. arguments refl (all_meant c.args.source.now said (a_kind c.args.arity) c.args.names.now
+    c.loop-name.name-index c.loop-name-test.false (c.loop-name.invariant.meant said k))
+    (all_numbered c.args.source.now said c.args.names.now c.loop-name.name-index c.loop-name-test.false (c.loop-name.invariant.numbered said k))
+    c.if-arity.true
 
 pub returns-clause-meant : goal.returns-clause-meant
-returns-clause-meant c = λ said k. (all_meant c.args.source.now said (a_kind c.args.arity) c.args.names.now c.loop-name.name-index c.loop-name-test.false (c.loop-name.invariant.meant said k), all_numbered c.args.source.now said c.args.names.now c.loop-name.name-index c.loop-name-test.false (c.loop-name.invariant.numbered said k))
+returns-clause-meant c = λ said k. (
+  all_meant c.args.source.now said (a_kind c.args.arity) c.args.names.now c.loop-name.name-index
+      c.loop-name-test.false (c.loop-name.invariant.meant said k),
+  all_numbered c.args.source.now said c.args.names.now c.loop-name.name-index
+      c.loop-name-test.false (c.loop-name.invariant.numbered said k),
+)
 
 pub returns-clause-taken : goal.returns-clause-taken
 returns-clause-taken c = (all_short c.args.source.now c.args.names.now c.loop-name.name-index c.loop-name-test.false c.loop-name.invariant.short, c.if-arity.false)

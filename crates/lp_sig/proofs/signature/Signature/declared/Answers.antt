@@ -10,4 +10,6 @@ returns-in_err-at c =
     sym (none_item (λ e. e.name.items) c.args.name.now c.args.self.now.constants.items c.of.result (place_of c.args.self.now.constant_places c.args.name.now) c.of.ensures (c.args.self.now.constants_found c.args.name.now) c.in_err-at.was)
 
 pub returns : goal.returns
-returns c = item_found (λ e. e.name.items) c.args.name.now c.args.self.now.constants.items c.deref.result.now c.of.result (place_of c.args.self.now.constant_places c.args.name.now) c.in_ok-at.at c.of.ensures (c.args.self.now.constants_found c.args.name.now) c.in_ok-at.was c.deref.ensures.value c.get.result c.get.ensures.lookup
+returns c = item_found (λ e. e.name.items) c.args.name.now c.args.self.now.constants.items c.deref.result.now c.of.result
+    (place_of c.args.self.now.constant_places c.args.name.now) c.in_ok-at.at c.of.ensures (c.args.self.now.constants_found c.args.name.now)
+    c.in_ok-at.was c.deref.ensures.value c.get.result c.get.ensures.lookup

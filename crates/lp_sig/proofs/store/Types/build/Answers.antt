@@ -18,12 +18,16 @@ pub returns-in_ok-copy-in-Con-clause-copies : goal.returns-in_ok-copy-in-Con-cla
 returns-in_ok-copy-in-Con-clause-copies c =
     on_ok_weaker c.keep.result (λ put b args x h kept.
     let now = c.args.self.now.bank in
-    let e = con_copied b now c.args.id.0 (type_shape c.type_node.result) x h c.type_node.ensures.older c.type_node.ensures.tree (filled b args) (get nat_eq c.args.made.now) kept c.in-Con.kind c.in-Con.parts.now c.as_slice.result.now (ap type_shape c.in-Con.is) (c.in_ok-copies-in-Con.ensures ∙ ap (λ cs. map (λ c. Some c.0) cs) (sym c.as_slice.ensures.value)) in
+    let e = con_copied b now c.args.id.0 (type_shape c.type_node.result) x h c.type_node.ensures.older c.type_node.ensures.tree (filled b args)
+    (get nat_eq c.args.made.now) kept c.in-Con.kind c.in-Con.parts.now c.as_slice.result.now (ap type_shape c.in-Con.is)
+    (c.in_ok-copies-in-Con.ensures ∙ ap (λ cs. map (λ c. Some c.0) cs) (sym c.as_slice.ensures.value)) in
     one_more_copy b now c.con.new.self.bank args (get nat_eq c.args.made.now) (get nat_eq c.keep.new.made) c.args.id.0 c.in_ok-copy-in-Con.copy.0 put c.con.ensures.kept kept c.in_ok-copy-in-Con.ensures.tree.0 (c.in_ok-copy-in-Con.ensures.tree.1 ∙ e)) c.keep.ensures
 
 pub returns-in_ok-copy-in-Arrow-clause-copies : goal.returns-in_ok-copy-in-Arrow-clause-copies
 returns-in_ok-copy-in-Arrow-clause-copies c =
     on_ok_weaker c.keep-in-Arrow.result (λ put b args x h kept.
     let now = c.args.self.now.bank in
-    let e = arrow_copied b now c.args.id.0 (type_shape c.type_node.result) x h c.type_node.ensures.older c.type_node.ensures.tree (filled b args) (get nat_eq c.args.made.now) kept c.in-Arrow.from c.in-Arrow.to c.in_ok-left-in-Arrow.left c.in_ok-right-in-Arrow.right (ap type_shape c.in-Arrow.is) c.in_ok-left-in-Arrow.ensures c.in_ok-right-in-Arrow.ensures in
+    let e = arrow_copied b now c.args.id.0 (type_shape c.type_node.result) x h c.type_node.ensures.older c.type_node.ensures.tree (filled b args)
+    (get nat_eq c.args.made.now) kept c.in-Arrow.from c.in-Arrow.to c.in_ok-left-in-Arrow.left c.in_ok-right-in-Arrow.right
+    (ap type_shape c.in-Arrow.is) c.in_ok-left-in-Arrow.ensures c.in_ok-right-in-Arrow.ensures in
     one_more_copy b now c.arrow.new.self.bank args (get nat_eq c.args.made.now) (get nat_eq c.keep-in-Arrow.new.made) c.args.id.0 c.in_ok-copy-in-Arrow.copy.0 put c.arrow.ensures.kept kept c.in_ok-copy-in-Arrow.ensures.tree.0 (c.in_ok-copy-in-Arrow.ensures.tree.1 ∙ e)) c.keep-in-Arrow.ensures

@@ -11,7 +11,9 @@ returns-then-not-branch-clause-falls c = same_met c.args.self.now.bank c.args.id
 
 pub returns-then-not-branch-clause-on_way : goal.returns-then-not-branch-clause-on_way
 returns-then-not-branch-clause-on_way c = λ all w.
-    passed_over c.args.self.now.bank c.args.found.now.keys c.args.seen.now.keys c.insert.new.self.keys c.args.id (reverse c.args.work.now.items) all (was_there (list_any (nat_eq c.args.id.0) c.args.seen.now.keys) (sym c.if-not-branch.true ∙ c.in_ok-insert.ensures.added)) c.in_ok-insert.ensures.keys w
+    passed_over c.args.self.now.bank c.args.found.now.keys c.args.seen.now.keys c.insert.new.self.keys c.args.id (reverse c.args.work.now.items) all
+    (was_there (list_any (nat_eq c.args.id.0) c.args.seen.now.keys) (sym c.if-not-branch.true ∙ c.in_ok-insert.ensures.added))
+    c.in_ok-insert.ensures.keys w
 
 pub returns-clause-on_way : goal.returns-clause-on_way
 returns-clause-on_way c = on_ok_weaker c.meet.result (λ o all w.

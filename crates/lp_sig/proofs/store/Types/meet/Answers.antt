@@ -10,13 +10,17 @@ pub returns-in-Con-clause-falls : goal.returns-in-Con-clause-falls
 returns-in-Con-clause-falls c =
     let b = c.args.self.now.bank in
     let h : c.args.id.0 < length b.types = omega (arith, c.if-id-type_count.false, c.type_count.ensures.count) in
-    on_ok_weaker c.push_reversed.result (con_met b b c.args.id.0 (type_shape c.type_node.result) (extends_same b) h c.type_node.ensures.older c.type_node.ensures.tree c.args.work.now.items c.push_reversed.new.work.items c.in-Con.field-0 c.in-Con.parts.now (ap type_shape c.in-Con.is)) c.push_reversed.ensures
+    on_ok_weaker c.push_reversed.result (con_met b b c.args.id.0 (type_shape c.type_node.result) (extends_same b) h c.type_node.ensures.older
+    c.type_node.ensures.tree c.args.work.now.items c.push_reversed.new.work.items c.in-Con.field-0 c.in-Con.parts.now (ap type_shape c.in-Con.is))
+    c.push_reversed.ensures
 
 pub returns-in_ok-push-in-Arrow-2-clause-falls : goal.returns-in_ok-push-in-Arrow-2-clause-falls
 returns-in_ok-push-in-Arrow-2-clause-falls c =
     let b = c.args.self.now.bank in
     let h : c.args.id.0 < length b.types = omega (arith, c.if-id-type_count.false, c.type_count.ensures.count) in
-    arrow_met b b c.args.id.0 (type_shape c.type_node.result) (extends_same b) h c.type_node.ensures.older c.type_node.ensures.tree c.args.work.now.items c.push.new.self.items c.push-in-Arrow.new.self.items c.in-Arrow.from c.in-Arrow.to (ap type_shape c.in-Arrow.is) c.in_ok-push-in-Arrow.ensures.items c.in_ok-push-in-Arrow-2.ensures.items
+    arrow_met b b c.args.id.0 (type_shape c.type_node.result) (extends_same b) h c.type_node.ensures.older c.type_node.ensures.tree
+    c.args.work.now.items c.push.new.self.items c.push-in-Arrow.new.self.items c.in-Arrow.from c.in-Arrow.to (ap type_shape c.in-Arrow.is)
+    c.in_ok-push-in-Arrow.ensures.items c.in_ok-push-in-Arrow-2.ensures.items
 
 pub returns-in_ok-insert-in-Var-clause-falls : goal.returns-in_ok-insert-in-Var-clause-falls
 returns-in_ok-insert-in-Var-clause-falls c = same_met c.args.self.now.bank c.args.id c.args.work.now.items
@@ -26,11 +30,15 @@ returns-in-Param-clause-falls c = same_met c.args.self.now.bank c.args.id c.args
 
 pub returns-in-Con-clause-opened : goal.returns-in-Con-clause-opened
 returns-in-Con-clause-opened c =
-    on_ok_weaker c.push_reversed.result (con_opened c.args.self.now.bank c.args.id.0 (type_shape c.type_node.result) c.type_node.ensures.older c.type_node.ensures.tree c.in-Con.field-0 c.in-Con.parts.now c.args.found.now.keys c.args.work.now.items c.push_reversed.new.work.items (ap type_shape c.in-Con.is)) c.push_reversed.ensures
+    on_ok_weaker c.push_reversed.result (con_opened c.args.self.now.bank c.args.id.0 (type_shape c.type_node.result) c.type_node.ensures.older
+    c.type_node.ensures.tree c.in-Con.field-0 c.in-Con.parts.now c.args.found.now.keys c.args.work.now.items c.push_reversed.new.work.items
+    (ap type_shape c.in-Con.is)) c.push_reversed.ensures
 
 pub returns-in_ok-push-in-Arrow-2-clause-opened : goal.returns-in_ok-push-in-Arrow-2-clause-opened
 returns-in_ok-push-in-Arrow-2-clause-opened c =
-    arrow_opened c.args.self.now.bank c.args.id.0 (type_shape c.type_node.result) c.type_node.ensures.older c.type_node.ensures.tree c.in-Arrow.from c.in-Arrow.to c.args.found.now.keys c.args.work.now.items c.push.new.self.items c.push-in-Arrow.new.self.items (ap type_shape c.in-Arrow.is) c.in_ok-push-in-Arrow.ensures.items c.in_ok-push-in-Arrow-2.ensures.items
+    arrow_opened c.args.self.now.bank c.args.id.0 (type_shape c.type_node.result) c.type_node.ensures.older c.type_node.ensures.tree c.in-Arrow.from
+    c.in-Arrow.to c.args.found.now.keys c.args.work.now.items c.push.new.self.items c.push-in-Arrow.new.self.items (ap type_shape c.in-Arrow.is)
+    c.in_ok-push-in-Arrow.ensures.items c.in_ok-push-in-Arrow-2.ensures.items
 
 pub returns-in_ok-insert-in-Var-clause-opened : goal.returns-in_ok-insert-in-Var-clause-opened
 returns-in_ok-insert-in-Var-clause-opened c =

@@ -15,11 +15,15 @@ returns-then-contains_key-clause-falls c = λ b x h r. same_visited b c.args.id 
 
 pub returns-in_ok-push-in-Con-clause-falls : goal.returns-in_ok-push-in-Con-clause-falls
 returns-in_ok-push-in-Con-clause-falls c =
-    on_ok_weaker c.push_visits.result (λ e b x h r. con_visited b c.args.self.now.bank c.args.id.0 (type_shape c.type_node.result) x h c.type_node.ensures.older c.type_node.ensures.tree c.args.work.now.items c.push.new.self.items c.push_visits.new.work.items c.in-Con.field-0 c.args.id c.in-Con.parts.now h (ap type_shape c.in-Con.is) c.in_ok-push-in-Con.ensures.items e r) c.push_visits.ensures
+    on_ok_weaker c.push_visits.result (λ e b x h r. con_visited b c.args.self.now.bank c.args.id.0 (type_shape c.type_node.result) x h
+    c.type_node.ensures.older c.type_node.ensures.tree c.args.work.now.items c.push.new.self.items c.push_visits.new.work.items c.in-Con.field-0
+    c.args.id c.in-Con.parts.now h (ap type_shape c.in-Con.is) c.in_ok-push-in-Con.ensures.items e r) c.push_visits.ensures
 
 pub returns-in_ok-push-in-Arrow-3-clause-falls : goal.returns-in_ok-push-in-Arrow-3-clause-falls
 returns-in_ok-push-in-Arrow-3-clause-falls c = λ b x h r.
-    arrow_visited b c.args.self.now.bank c.args.id.0 (type_shape c.type_node.result) x h c.type_node.ensures.older c.type_node.ensures.tree c.args.work.now.items c.push-in-Arrow.new.self.items c.push-in-Arrow-2.new.self.items c.push-in-Arrow-3.new.self.items c.args.id c.in-Arrow.from c.in-Arrow.to h (ap type_shape c.in-Arrow.is)
+    arrow_visited b c.args.self.now.bank c.args.id.0 (type_shape c.type_node.result) x h c.type_node.ensures.older c.type_node.ensures.tree
+    c.args.work.now.items c.push-in-Arrow.new.self.items c.push-in-Arrow-2.new.self.items c.push-in-Arrow-3.new.self.items c.args.id
+    c.in-Arrow.from c.in-Arrow.to h (ap type_shape c.in-Arrow.is)
     c.in_ok-push-in-Arrow.ensures.items c.in_ok-push-in-Arrow-2.ensures.items c.in_ok-push-in-Arrow-3.ensures.items r
 
 pub returns-in-Var-clause-falls : goal.returns-in-Var-clause-falls

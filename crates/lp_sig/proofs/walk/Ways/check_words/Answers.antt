@@ -11,15 +11,21 @@ returns-in_default-clause-none c = none_of_none (map (λ out. out.items) c.args.
 
 pub returns-then-not-branch-clause-none : goal.returns-then-not-branch-clause-none
 returns-then-not-branch-clause-none c =
-    subst (λ ws. NoneLeads (map (λ out. out.items) c.args.self.now.ways.items) ws c.args.at) (words_read c.args.self.now.ways.items c.deref.result.now c.args.at c.in-Some.words.now c.as_slice.result.now c.deref.ensures.value c.in-Some.ensures.lookup.3.0 c.in-Some.ensures.lookup.1 c.as_slice.ensures.value)
+    subst (λ ws. NoneLeads (map (λ out. out.items) c.args.self.now.ways.items) ws c.args.at)
+    (words_read c.args.self.now.ways.items c.deref.result.now c.args.at c.in-Some.words.now c.as_slice.result.now c.deref.ensures.value
+    c.in-Some.ensures.lookup.3.0 c.in-Some.ensures.lookup.1 c.as_slice.ensures.value)
     (c.in_ok-lead_to.ensures.none c.if-not-branch.true)
 
 pub returns-clause-circle : goal.returns-clause-circle
 returns-clause-circle c =
-    subst (λ ws. IfErr c.first_leading.result (IsCircleFault (map (λ out. out.items) c.args.self.now.ways.items) ws c.args.at)) (words_read c.args.self.now.ways.items c.deref.result.now c.args.at c.in-Some.words.now c.as_slice-2.result.now c.deref.ensures.value c.in-Some.ensures.lookup.3.0 c.in-Some.ensures.lookup.1 c.as_slice-2.ensures.value)
+    subst (λ ws. IfErr c.first_leading.result (IsCircleFault (map (λ out. out.items) c.args.self.now.ways.items) ws c.args.at))
+    (words_read c.args.self.now.ways.items c.deref.result.now c.args.at c.in-Some.words.now c.as_slice-2.result.now c.deref.ensures.value
+    c.in-Some.ensures.lookup.3.0 c.in-Some.ensures.lookup.1 c.as_slice-2.ensures.value)
     c.first_leading.ensures.circle
 
 pub returns-clause-none : goal.returns-clause-none
 returns-clause-none c =
-    subst (λ ws. IfOk c.first_leading.result (λ done. NoneLeads (map (λ out. out.items) c.args.self.now.ways.items) ws c.args.at)) (words_read c.args.self.now.ways.items c.deref.result.now c.args.at c.in-Some.words.now c.as_slice-2.result.now c.deref.ensures.value c.in-Some.ensures.lookup.3.0 c.in-Some.ensures.lookup.1 c.as_slice-2.ensures.value)
+    subst (λ ws. IfOk c.first_leading.result (λ done. NoneLeads (map (λ out. out.items) c.args.self.now.ways.items) ws c.args.at))
+    (words_read c.args.self.now.ways.items c.deref.result.now c.args.at c.in-Some.words.now c.as_slice-2.result.now c.deref.ensures.value
+    c.in-Some.ensures.lookup.3.0 c.in-Some.ensures.lookup.1 c.as_slice-2.ensures.value)
     c.first_leading.ensures.none

@@ -26,7 +26,9 @@ pub returns-clause-moves : goal.returns-clause-moves
 returns-clause-moves c =
     let ways = map (λ out. out.items) c.args.self.now.ways.items in
     let x = new_mark c.args.marks.now.items c.mark.new.marks.items c.args.at c.if-not-mark.ensures.fresh c.mark.ensures.marked in
-    on_ok_weaker c.push_named.result (λ e. entered ways c.args.marks.now.items c.mark.new.marks.items c.args.work.now.items c.push-2.new.self.items c.push_named.new.work.items c.args.steps.now.items c.push.new.self.items c.args.at x.0 x.1 c.in_ok-push.ensures.items c.in_ok-push-2.ensures.items e) c.push_named.ensures
+    on_ok_weaker c.push_named.result (λ e. entered ways c.args.marks.now.items c.mark.new.marks.items c.args.work.now.items c.push-2.new.self.items
+    c.push_named.new.work.items c.args.steps.now.items c.push.new.self.items c.args.at x.0 x.1 c.in_ok-push.ensures.items
+    c.in_ok-push-2.ensures.items e) c.push_named.ensures
 
 pub returns-clause-falls : goal.returns-clause-falls
 returns-clause-falls c =

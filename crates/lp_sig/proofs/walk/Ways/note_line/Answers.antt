@@ -16,7 +16,9 @@ pub returns-in-Locals : goal.returns-in-Locals
 returns-in-Locals c = λ z more k u. quiet (map (λ out. out.items) c.args.self.now.ways.items) z _ c.args.source.now c.args.line.now (ap is_quiet c.in-Locals.is) u
 
 pub returns-in-Abbreviation : goal.returns-in-Abbreviation
-returns-in-Abbreviation c = on_ok_weaker c.note_body.result (λ f z more k u. abbreviation_noted c.args.names.now z more c.args.source.now c.args.line.now c.in-Abbreviation.name c.in-Abbreviation.field-1 c.in-Abbreviation.raw (map (λ out. out.items) c.args.self.now.ways.items) (map (λ out. out.items) c.note_body.new.self.ways.items) c.in-Abbreviation.is k u f) c.note_body.ensures
+returns-in-Abbreviation c = on_ok_weaker c.note_body.result (λ f z more k u. abbreviation_noted c.args.names.now z more c.args.source.now
+    c.args.line.now c.in-Abbreviation.name c.in-Abbreviation.field-1 c.in-Abbreviation.raw (map (λ out. out.items) c.args.self.now.ways.items)
+    (map (λ out. out.items) c.note_body.new.self.ways.items) c.in-Abbreviation.is k u f) c.note_body.ensures
 
 pub returns-in-Accumulate : goal.returns-in-Accumulate
 returns-in-Accumulate c = λ z more k u. quiet (map (λ out. out.items) c.args.self.now.ways.items) z _ c.args.source.now c.args.line.now (ap is_quiet c.in-Accumulate.is) u

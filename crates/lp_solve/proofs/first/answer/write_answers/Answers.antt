@@ -59,6 +59,8 @@ loop-out-smaller g c =
 
 pub loop-out-preserved : goal.loop-out-preserved
 loop-out-preserved g c = (
-  progress_more c.args.reading.now (held c.loop-out.search) (held c.next_piece.new.search) c.loop-out.before _ (g.K.Sink.written c.loop-out.out) _ c.in-Ok-Answer.lines c.loop-out.invariant.0 (rw c.in-Ok-Answer.field-0-is at c.in-Ok-Answer.ensures) (rw c.deref.ensures.value at c.in-Ok.ensures.appended),
+  progress_more c.args.reading.now (held c.loop-out.search) (held c.next_piece.new.search) c.loop-out.before _ (g.K.Sink.written c.loop-out.out) _
+      c.in-Ok-Answer.lines c.loop-out.invariant.0 (rw c.in-Ok-Answer.field-0-is at c.in-Ok-Answer.ensures)
+      (rw c.deref.ensures.value at c.in-Ok.ensures.appended),
   same_count _ (g.K.Sink.faults c.loop-out.out) (g.K.Sink.faults c.put.new.self) c.in-Ok.ensures.faults (λ e. cc) ∙ c.loop-out.invariant.1,
 )

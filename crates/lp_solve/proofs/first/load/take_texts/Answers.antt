@@ -10,4 +10,6 @@ pub returns-in-Some-clause-loads : goal.returns-in-Some-clause-loads
 returns-in-Some-clause-loads c = λ told. texts_mean _ _ _ _ told c.in-Some.reading (sym c.in-Some.is ∙ (rw (c.as_bytes.ensures.value, c.as_bytes-2.ensures.value, c.deref.ensures.value, c.deref-2.ensures.value) at c.in_ok-reading.ensures))
 
 pub returns-in_ok-both_files-in-None-clause-loads : goal.returns-in_ok-both_files-in-None-clause-loads
-returns-in_ok-both_files-in-None-clause-loads c = λ told. texts_beyond _ _ _ _ told (Ok c.in_ok-both_files-in-None.field-0) (sym c.in-None.is ∙ (rw (c.as_bytes.ensures.value, c.as_bytes-2.ensures.value, c.deref.ensures.value, c.deref-2.ensures.value) at c.in_ok-reading.ensures)) (c.in_ok-both_files-in-None.ensures.loads c.args.name.now told)
+returns-in_ok-both_files-in-None-clause-loads c = λ told. texts_beyond _ _ _ _ told (Ok c.in_ok-both_files-in-None.field-0)
+    (sym c.in-None.is ∙ (rw (c.as_bytes.ensures.value, c.as_bytes-2.ensures.value, c.deref.ensures.value, c.deref-2.ensures.value) at
+    c.in_ok-reading.ensures)) (c.in_ok-both_files-in-None.ensures.loads c.args.name.now told)

@@ -18,7 +18,10 @@ returns-then-end-input-clause-fault c =
     let w : c.in-Read.end ≤ length c.args.input.now.tokens.now = subst (IsUpTo (length c.args.input.now.tokens.now)) c.in-Read.is c.in_ok-stop.ensures.within in
     let l : length c.args.input.now.tokens.now ≤ c.in-Read.end = grind (arith, common_steps) in
     inr
-    (type_ended (spot_at c.args.input.now.file c.args.input.now.source.now c.args.input.now.tokens.now) (lexemes c.args.input.now.source.now c.args.input.now.tokens.now) c.args.self.now.opens.items c.args.at c.in-Read.end _ u (omega (arith, e, w)) d (no_backslash_past (lexemes c.args.input.now.source.now c.args.input.now.tokens.now) c.in-Read.end (omega (arith, e, l)))
+    (type_ended (spot_at c.args.input.now.file c.args.input.now.source.now c.args.input.now.tokens.now)
+    (lexemes c.args.input.now.source.now c.args.input.now.tokens.now) c.args.self.now.opens.items c.args.at c.in-Read.end _ u
+    (omega (arith, e, w)) d (no_backslash_past (lexemes c.args.input.now.source.now c.args.input.now.tokens.now) c.in-Read.end
+    (omega (arith, e, l)))
     (c.refusal-then-end-input.ensures ∙ ap (λ b. refused (spot_at c.args.input.now.file c.args.input.now.source.now c.args.input.now.tokens.now) c.in-Read.end b (class_at (lexemes c.args.input.now.source.now c.args.input.now.tokens.now) c.in-Read.end)) c.innermost-then-end-input.ensures))
 
 pub returns-then-not-is_backslash-clause-fault : goal.returns-then-not-is_backslash-clause-fault
@@ -30,4 +33,6 @@ returns-then-not-is_backslash-clause-fault c =
     let n : class_at (lexemes c.args.input.now.source.now c.args.input.now.tokens.now) c.in-Read.end ≢ Backslash = λ z. c.is_backslash.ensures.no c.if-not-is_backslash.true (c.class.ensures ∙ z) in
     inr
     (type_ended (spot_at c.args.input.now.file c.args.input.now.source.now c.args.input.now.tokens.now) (lexemes c.args.input.now.source.now c.args.input.now.tokens.now) c.args.self.now.opens.items c.args.at c.in-Read.end _ u (omega (arith, e, w)) d n
-    (c.refusal-then-not-is_backslash.ensures ∙ ap (λ b. refused (spot_at c.args.input.now.file c.args.input.now.source.now c.args.input.now.tokens.now) c.in-Read.end b (class_at (lexemes c.args.input.now.source.now c.args.input.now.tokens.now) c.in-Read.end)) c.innermost-then-not-is_backslash.ensures))
+    (c.refusal-then-not-is_backslash.ensures ∙ ap (λ b. refused (spot_at c.args.input.now.file c.args.input.now.source.now
+    c.args.input.now.tokens.now) c.in-Read.end b (class_at (lexemes c.args.input.now.source.now c.args.input.now.tokens.now) c.in-Read.end))
+    c.innermost-then-not-is_backslash.ensures))

@@ -22,7 +22,9 @@ returns-in-Open-clause-held c =
     (lexemes c.args.input.now.source.now c.args.input.now.tokens.now) from) c.args.self.now.nodes c.opens.new.self.nodes
     c.args.self.now.waiting.items c.opens.new.self.waiting.items (Argument c.args.spot c.args.arguments) c.args.at c.opens.result
     c.opens.ensures.nodes c.opens.ensures.pushed c.opens.ensures.goes
-    (opens_argument (type_text (spot_at c.args.input.now.file c.args.input.now.source.now c.args.input.now.tokens.now) (lexemes c.args.input.now.source.now c.args.input.now.tokens.now) from) c.args.self.now.nodes.items c.args.self.now.waiting.items c.opens.new.self.waiting.items c.args.at c.args.spot c.args.arguments h (sym c.class.ensures ∙ c.in-Open.is))
+    (opens_argument (type_text (spot_at c.args.input.now.file c.args.input.now.source.now c.args.input.now.tokens.now)
+    (lexemes c.args.input.now.source.now c.args.input.now.tokens.now) from) c.args.self.now.nodes.items c.args.self.now.waiting.items
+    c.opens.new.self.waiting.items c.args.at c.args.spot c.args.arguments h (sym c.class.ensures ∙ c.in-Open.is))
 
 pub returns-in_ok-node-in_default : goal.returns-in_ok-node-in_default
 returns-in_ok-node-in_default c =
@@ -37,5 +39,7 @@ returns-in_ok-node-in_default c =
       held = λ from h.
           c.has.ensures.held from
           (subst (λ v. IsBuilt (type_text (spot_at c.args.input.now.file c.args.input.now.source.now c.args.input.now.tokens.now) (lexemes c.args.input.now.source.now c.args.input.now.tokens.now) from) c.word.new.self.nodes.items v.items c.args.at c.in_ok-node-in_default.node) (sym e.waiting)
-          (built_word (type_text (spot_at c.args.input.now.file c.args.input.now.source.now c.args.input.now.tokens.now) (lexemes c.args.input.now.source.now c.args.input.now.tokens.now) from) c.args.self.now.nodes.items c.word.new.self.nodes.items c.args.self.now.waiting.items c.args.at c.in_ok-node-in_default.node c.args.spot c.args.arguments h e.kept e.node e.number e.below));
+          (built_word (type_text (spot_at c.args.input.now.file c.args.input.now.source.now c.args.input.now.tokens.now)
+          (lexemes c.args.input.now.source.now c.args.input.now.tokens.now) from) c.args.self.now.nodes.items c.word.new.self.nodes.items
+          c.args.self.now.waiting.items c.args.at c.in_ok-node-in_default.node c.args.spot c.args.arguments h e.kept e.node e.number e.below));
     }

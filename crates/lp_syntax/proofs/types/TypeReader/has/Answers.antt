@@ -15,7 +15,9 @@ returns-in-Arrow-clause-held c =
     (lexemes c.args.input.now.source.now c.args.input.now.tokens.now) from) c.args.self.now.nodes c.arrows.new.self.nodes
     c.args.self.now.waiting.items c.arrows.new.self.waiting.items (Arrow c.args.node) c.args.at c.arrows.result c.arrows.ensures.nodes
     c.arrows.ensures.pushed c.arrows.ensures.goes
-    (takes_arrow (type_text (spot_at c.args.input.now.file c.args.input.now.source.now c.args.input.now.tokens.now) (lexemes c.args.input.now.source.now c.args.input.now.tokens.now) from) c.args.self.now.nodes.items c.args.self.now.waiting.items c.arrows.new.self.waiting.items c.args.at c.args.node h (sym c.class.ensures ∙ c.in-Arrow.is))
+    (takes_arrow (type_text (spot_at c.args.input.now.file c.args.input.now.source.now c.args.input.now.tokens.now)
+    (lexemes c.args.input.now.source.now c.args.input.now.tokens.now) from) c.args.self.now.nodes.items c.args.self.now.waiting.items
+    c.arrows.new.self.waiting.items c.args.at c.args.node h (sym c.class.ensures ∙ c.in-Arrow.is))
 
 pub returns-in-Close-clause-held : goal.returns-in-Close-clause-held
 returns-in-Close-clause-held c = λ from h. c.closes.ensures.held (type_text (spot_at c.args.input.now.file c.args.input.now.source.now

@@ -6,7 +6,9 @@ use Rattle.lp_syntax.proofs.TypeTrees.{begins_word, begins_variable, opens_group
 use Rattle.lp_syntax.proofs.types.TypeReader.wants.Goals as goal
 
 pub returns-in-Lower-clause-held : goal.returns-in-Lower-clause-held
-returns-in-Lower-clause-held c = λ from h. begins_word (type_text (spot_at c.args.input.now.file c.args.input.now.source.now c.args.input.now.tokens.now) (lexemes c.args.input.now.source.now c.args.input.now.tokens.now) from) c.args.self.now.nodes.items c.args.self.now.waiting.items c.args.at c.spot.result c.new.result h (sym c.class.ensures ∙ c.in-Lower.is) c.spot.ensures c.new.ensures.items
+returns-in-Lower-clause-held c = λ from h. begins_word (type_text (spot_at c.args.input.now.file c.args.input.now.source.now
+    c.args.input.now.tokens.now) (lexemes c.args.input.now.source.now c.args.input.now.tokens.now) from) c.args.self.now.nodes.items
+    c.args.self.now.waiting.items c.args.at c.spot.result c.new.result h (sym c.class.ensures ∙ c.in-Lower.is) c.spot.ensures c.new.ensures.items
 
 pub returns-in_ok-node-in-Upper-clause-held : goal.returns-in_ok-node-in-Upper-clause-held
 returns-in_ok-node-in-Upper-clause-held c =
@@ -21,5 +23,10 @@ returns-in_ok-node-in-Upper-clause-held c =
 pub returns-in-Open-clause-held : goal.returns-in-Open-clause-held
 returns-in-Open-clause-held c =
     λ from h.
-    turned_due (type_text (spot_at c.args.input.now.file c.args.input.now.source.now c.args.input.now.tokens.now) (lexemes c.args.input.now.source.now c.args.input.now.tokens.now) from) c.args.self.now.nodes c.opens.new.self.nodes c.args.self.now.waiting.items c.opens.new.self.waiting.items Group c.args.at c.opens.result c.opens.ensures.nodes c.opens.ensures.pushed c.opens.ensures.goes
-    (opens_group (type_text (spot_at c.args.input.now.file c.args.input.now.source.now c.args.input.now.tokens.now) (lexemes c.args.input.now.source.now c.args.input.now.tokens.now) from) c.args.self.now.nodes.items c.args.self.now.waiting.items c.opens.new.self.waiting.items c.args.at h (sym c.class.ensures ∙ c.in-Open.is))
+    turned_due (type_text (spot_at c.args.input.now.file c.args.input.now.source.now c.args.input.now.tokens.now)
+    (lexemes c.args.input.now.source.now c.args.input.now.tokens.now) from) c.args.self.now.nodes c.opens.new.self.nodes
+    c.args.self.now.waiting.items c.opens.new.self.waiting.items Group c.args.at c.opens.result c.opens.ensures.nodes c.opens.ensures.pushed
+    c.opens.ensures.goes
+    (opens_group (type_text (spot_at c.args.input.now.file c.args.input.now.source.now c.args.input.now.tokens.now)
+    (lexemes c.args.input.now.source.now c.args.input.now.tokens.now) from) c.args.self.now.nodes.items c.args.self.now.waiting.items
+    c.opens.new.self.waiting.items c.args.at h (sym c.class.ensures ∙ c.in-Open.is))

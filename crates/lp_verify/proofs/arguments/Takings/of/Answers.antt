@@ -17,8 +17,12 @@ loop-number-preserved c =
     let within = c.head_length-head.ensures.within in
     let less = c.saturating_sub-number.ensures in
     let below : k < n = omega (arith, less, inv, c.loop-number-test.true) in
-    let item = get_below code k (omega (arith, below, within)) in
-    (omega (arith, less, inv), one_first code n k c.loop-number.number item.0 c.loop-number.takings.first c.pass_one.new.self.first c.head_length-head.ensures.are below (omega (arith, less, c.loop-number-test.true)) item.1 (λ f h x q. c.in_ok-pass_one.ensures item.0 f (copied_at code k c.get.result c.get.ensures.lookup ∙ item.1) h x q) c.loop-number.invariant.1)
+    let item = get_below code k (omega (arith, below, within)) in (
+      omega (arith, less, inv),
+      one_first code n k c.loop-number.number item.0 c.loop-number.takings.first c.pass_one.new.self.first
+          c.head_length-head.ensures.are below (omega (arith, less, c.loop-number-test.true)) item.1
+          (λ f h x q. c.in_ok-pass_one.ensures item.0 f (copied_at code k c.get.result c.get.ensures.lookup ∙ item.1) h x q) c.loop-number.invariant.1,
+    )
 
 pub returns : goal.returns
 returns c =

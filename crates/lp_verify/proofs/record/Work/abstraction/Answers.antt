@@ -17,7 +17,9 @@ returns-then-other-clause-made c = λ h s k.
     let b = term_known l w h s c.args.body c.term_in-body.result k c.term_in-body.ensures in
     let t = type_known l w h s c.args.of c.type_in-from.result k c.type_in-from.ensures in
     let o = subst (λ o. Agree (IsType l.types) o (innermost (term_in s.now c.args.body).loose)) (sym c.innermost.ensures) (innermost_stands l c.term_in-body.result.loose (term_in s.now c.args.body).loose b.0) in
-    ill_makes l (not (agree_at (innermost (term_in s.now c.args.body).loose) (Some (type_in s.now c.args.of)))) (abstraction_of (term_in s.now c.args.body) (type_in s.now c.args.of)) (sym (c.is_other-other.ensures l.types (innermost (term_in s.now c.args.body).loose) (type_in s.now c.args.of) o t) ∙ c.if-other.true)
+    ill_makes l (not (agree_at (innermost (term_in s.now c.args.body).loose) (Some (type_in s.now c.args.of))))
+    (abstraction_of (term_in s.now c.args.body) (type_in s.now c.args.of)) (sym
+    (c.is_other-other.ensures l.types (innermost (term_in s.now c.args.body).loose) (type_in s.now c.args.of) o t) ∙ c.if-other.true)
 
 pub returns-clause-made : goal.returns-clause-made
 returns-clause-made c = λ h s k.

@@ -57,5 +57,7 @@ returns-clause-made c = λ h s k set.
     let a = terms_alike l w.terms s c.args.arguments.now ts k.terms (c.as_slice-2.ensures.value ∙ c.in_ok-arguments.ensures) set in
     let some : nat_eq (length ts) 0 ≡ false = ap (λ l. nat_eq (length l) 0) c.as_slice-2.ensures.value ∙ ap (λ n. nat_eq n 0) (sym c.in_ok-arguments.arguments.ok.0) ∙ sym c.is_empty-empty.ensures ∙ c.if-empty.false in
     let v : Built = record { of = c.in-Some.of; loose = c.in-Some-2.loose; head = head.Other } in
-    let o = subst (λ l. Agree (IsType m.types) c.applied_type.result (applied_type f.type (built_types bs))) c.as_slice-2.ensures.value (c.applied_type.ensures f.type (built_types bs) t.1 (subst (λ l. AreTypes m.types (ofs l) (built_types bs)) (c.as_slice-2.ensures.value ∙ sym c.as_slice.ensures.value) (built_same l ts bs a))) in
+    let o = subst (λ l. Agree (IsType m.types) c.applied_type.result (applied_type f.type (built_types bs))) c.as_slice-2.ensures.value
+    (c.applied_type.ensures f.type (built_types bs) t.1 (subst (λ l. AreTypes m.types (ofs l) (built_types bs))
+    (c.as_slice-2.ensures.value ∙ sym c.as_slice.ensures.value) (built_same l ts bs a))) in
     application_same l m ts f bs c.applied_type.result c.in_ok-loose.field-0 v a some c.in-Some.is c.in-Some-2.is o (c.in_ok-loose.ensures.joined c.args.types.now f.loose bs t.0 a) refl

@@ -21,7 +21,9 @@ returns-in_ok-of-in-TyCon-clause-made c = λ l h s k set own.
     let e = c.in-TyCon.is in
     let ds = c.in-TyCon.parts.items in
     let set_there = ap (λ i. list_any (is_lacking w.types) (types_read i)) (sym e) ∙ set in
-    subst (λ i. IsType y c.in_ok-of-in-TyCon.of (type_made h s i)) (sym e) (c.in_ok-of-in-TyCon.ensures.made k.of_head.constants.basics.firsts (types_in s.now ds) (types_known m w h s ds c.as_slice-in-TyCon.result.now k (c.as_slice-in-TyCon.ensures.value ∙ c.in_ok-parts-in-TyCon.ensures ∙ ap (filter_map (value_in w.types)) c.as_slice.ensures.value) set_there))
+    subst (λ i. IsType y c.in_ok-of-in-TyCon.of (type_made h s i)) (sym e) (c.in_ok-of-in-TyCon.ensures.made k.of_head.constants.basics.firsts
+    (types_in s.now ds) (types_known m w h s ds c.as_slice-in-TyCon.result.now k
+    (c.as_slice-in-TyCon.ensures.value ∙ c.in_ok-parts-in-TyCon.ensures ∙ ap (filter_map (value_in w.types)) c.as_slice.ensures.value) set_there))
 
 pub returns-in_ok-of-in-TyArr-clause-made : goal.returns-in_ok-of-in-TyArr-clause-made
 returns-in_ok-of-in-TyArr-clause-made c = λ l h s k set own.

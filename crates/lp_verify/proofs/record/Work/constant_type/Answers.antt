@@ -13,7 +13,9 @@ returns-in-Some-clause-made c = λ l h s k set.
     let x = c.args.types.now in
     let w = c.args.self.now in
     let d = c.args.registers.now in
-    let there : h.tables.constants c.args.constant ≡ Some (scheme_in c.in-Some.bank.now c.in-Some.scheme.type_vars c.in-Some.scheme.body.0) = ap (λ (t : Tables). t.constants c.args.constant) k.of_head.constants.tables ∙ sym (c.scheme.ensures k.of_head.constants.language) ∙ ap (option_map (λ p. scheme_in p.0.now p.1.type_vars p.1.body.0)) c.in-Some.is in
+    let there : h.tables.constants c.args.constant ≡ Some (scheme_in c.in-Some.bank.now c.in-Some.scheme.type_vars c.in-Some.scheme.body.0) = ap
+    (λ (t : Tables). t.constants c.args.constant) k.of_head.constants.tables ∙ sym (c.scheme.ensures k.of_head.constants.language) ∙ ap
+    (option_map (λ p. scheme_in p.0.now p.1.type_vars p.1.body.0)) c.in-Some.is in
     c.in_ok-of-in-Some.ensures.made h.tables (types_in s.now d) there k.of_head.constants.basics k.of_head.constants.uses (types_known (store x l) w h s d c.as_slice.result.now k (c.as_slice.ensures.value ∙ c.in_ok-arguments.ensures) set)
 
 pub returns-clause-made : goal.returns-clause-made

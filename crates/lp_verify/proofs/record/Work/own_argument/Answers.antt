@@ -16,7 +16,9 @@ returns-in-Some c = λ l h s k.
     let n = c.args.number in
     let a = head_argument x w h s n c.argument_type.result k.head c.argument_type.ensures in
     let t = variable c.args.made h.number in
-    subst (λ v. MakesTerm (store x l) (is_none (argument_type (head_built h s).type n)) (whole t (argument_at h s n)) (typed.Built v)) (sym c.closed.ensures) (argument_made x l w h s n c.argument_type.result c.in-Some.of t (head.Variable c.args.made w.home.number) (ap (λ n. Some (c.args.made, n)) k.number) a c.in-Some.is)
+    subst (λ v. MakesTerm (store x l) (is_none (argument_type (head_built h s).type n)) (whole t (argument_at h s n)) (typed.Built v))
+    (sym c.closed.ensures) (argument_made x l w h s n c.argument_type.result c.in-Some.of t (head.Variable c.args.made w.home.number)
+    (ap (λ n. Some (c.args.made, n)) k.number) a c.in-Some.is)
 
 pub returns-in-None : goal.returns-in-None
 returns-in-None c = λ l h s k.

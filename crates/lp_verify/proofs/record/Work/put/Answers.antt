@@ -25,7 +25,9 @@ returns-in-All-clause-made c = λ g a.
 
 pub returns-in_ok-of-in-PutConst-clause-made : goal.returns-in_ok-of-in-PutConst-clause-made
 returns-in_ok-of-in-PutConst-clause-made c = λ g a.
-    constant_by c.args.types.now c.constant_type.new.types c.args.lists.now c.args.self.now c.args.instr.now _ c.in-PutConst.constant c.in-PutConst.arguments c.as_slice.result.now c.closed.result c.in_ok-of-in-PutConst.of c.in-PutConst.is c.as_slice.ensures.value c.closed.ensures c.in_ok-of-in-PutConst.ensures.made
+    constant_by c.args.types.now c.constant_type.new.types c.args.lists.now c.args.self.now c.args.instr.now _ c.in-PutConst.constant
+    c.in-PutConst.arguments c.as_slice.result.now c.closed.result c.in_ok-of-in-PutConst.of c.in-PutConst.is c.as_slice.ensures.value
+    c.closed.ensures c.in_ok-of-in-PutConst.ensures.made
 
 pub returns-in-PutInt-clause-made : goal.returns-in-PutInt-clause-made
 returns-in-PutInt-clause-made c = λ g a. integer_by c.args.types.now c.args.lists.now c.args.self.now c.args.instr.now _ c.in-PutInt.field-1 c.closed-in-PutInt.result c.in-PutInt.is c.closed-in-PutInt.ensures
@@ -44,10 +46,14 @@ returns-in_ok-loose-in-PutIndex-clause-made c = λ g a.
     (k.of_head.constants.uses, (c.in_ok-loose-in-PutIndex.ensures.one x (type_in s.now c.in-PutIndex.of) t, t, refl)))
 
 pub returns-in-PutAbs-clause-made : goal.returns-in-PutAbs-clause-made
-returns-in-PutAbs-clause-made c = IfOk-weaker c.abstraction.result _ _ (λ t m g a. m) (abs_by c.args.types.now c.abstraction.new.types c.args.lists.now c.args.self.now c.args.instr.now _ c.in-PutAbs.body c.in-PutAbs.of c.abstraction.result c.in-PutAbs.is c.abstraction.ensures.grow c.abstraction.ensures.made)
+returns-in-PutAbs-clause-made c = IfOk-weaker c.abstraction.result _ _ (λ t m g a. m)
+    (abs_by c.args.types.now c.abstraction.new.types c.args.lists.now c.args.self.now c.args.instr.now _ c.in-PutAbs.body c.in-PutAbs.of
+    c.abstraction.result c.in-PutAbs.is c.abstraction.ensures.grow c.abstraction.ensures.made)
 
 pub returns-in-PutApp-clause-made : goal.returns-in-PutApp-clause-made
-returns-in-PutApp-clause-made c = IfOk-weaker c.application.result _ _ (λ t m g a. m) (app_by c.args.types.now c.args.lists.now c.application.new.lists c.args.self.now c.args.instr.now _ c.in-PutApp.function c.in-PutApp.arguments c.as_slice-in-PutApp.result.now c.application.result c.in-PutApp.is c.as_slice-in-PutApp.ensures.value c.application.ensures.made)
+returns-in-PutApp-clause-made c = IfOk-weaker c.application.result _ _ (λ t m g a. m)
+    (app_by c.args.types.now c.args.lists.now c.application.new.lists c.args.self.now c.args.instr.now _ c.in-PutApp.function c.in-PutApp.arguments
+    c.as_slice-in-PutApp.result.now c.application.result c.in-PutApp.is c.as_slice-in-PutApp.ensures.value c.application.ensures.made)
 
 pub returns-in_default-clause-made : goal.returns-in_default-clause-made
 returns-in_default-clause-made c = λ g a.

@@ -57,7 +57,9 @@ returns c =
     let acted = c.in_ok-act.ensures.acted in
     let o : (h : states.Home) (s : State) → Knows (kept_in x) old h s → IsType z.types y.types.proposition o_type = λ h s k. subst (λ t. IsType z.types t o_type) (sym c.in_ok-act.ensures.grow.proposition) (basics_stay x.types z.types before.1 k.of_head.constants.basics).proposition in
     let puts : IsPutBy (kept_in x) (kept_in z) old i put = put_by (kept_in x) (kept_in z) old i typed y.types.proposition o judged in (
-      λ low few h s k. subst (IsFirst (told old y.lists (was_named x.named) c.args.whole (breaks_type h s i) (breaks_head h s i) i)) none (subst (λ l. IsFirst (told old l (was_named x.named) c.args.whole (breaks_type h s i) (breaks_head h s i) i) (rule_of c.in_ok-typed.field-0)) lists (c.in_ok-typed.ensures.first low few h s k)),
+      λ low few h s k. subst (IsFirst (told old y.lists (was_named x.named) c.args.whole (breaks_type h s i) (breaks_head h s i) i)) none
+          (subst (λ l. IsFirst (told old l (was_named x.named) c.args.whole (breaks_type h s i) (breaks_head h s i) i)
+          (rule_of c.in_ok-typed.field-0)) lists (c.in_ok-typed.ensures.first low few h s k)),
       store_then (kept_in x) (kept_in z) (kept_in y) before more,
       record {
         type = acted.0;

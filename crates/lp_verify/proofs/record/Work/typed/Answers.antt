@@ -34,9 +34,21 @@ pub returns-in-Equal-clause-made : goal.returns-in-Equal-clause-made
 returns-in-Equal-clause-made c =
     let m = store c.args.types.now c.args.lists.now in
     elim c.in-Equal.is [
-      | inl e ↦ made_at m m c.args.self.now c.args.instr.now _ c.have_type-in-Equal.result e (λ h s k set. (k.of_head.constants.uses, c.have_type-in-Equal.ensures c.args.lists.now h s (type_in s.now c.in-Equal.of) nothing_built k (type_known m c.args.self.now h s c.in-Equal.of c.type_in-of.result k c.type_in-of.ensures) refl refl refl))
-      | inr e ↦ made_at m m c.args.self.now c.args.instr.now _ c.have_type-in-Equal.result e (λ h s k set. (k.of_head.constants.uses, c.have_type-in-Equal.ensures c.args.lists.now h s (type_in s.now c.in-Equal.of) nothing_built k (type_known m c.args.self.now h s c.in-Equal.of c.type_in-of.result k c.type_in-of.ensures) refl refl refl))
+      | inl e ↦ made_at m m c.args.self.now c.args.instr.now _ c.have_type-in-Equal.result e
+          (λ h s k set. (
+            k.of_head.constants.uses,
+            c.have_type-in-Equal.ensures c.args.lists.now h s (type_in s.now c.in-Equal.of) nothing_built k
+                (type_known m c.args.self.now h s c.in-Equal.of c.type_in-of.result k c.type_in-of.ensures) refl refl refl,
+          ))
+      | inr e ↦ made_at m m c.args.self.now c.args.instr.now _ c.have_type-in-Equal.result e
+          (λ h s k set. (
+            k.of_head.constants.uses,
+            c.have_type-in-Equal.ensures c.args.lists.now h s (type_in s.now c.in-Equal.of) nothing_built k
+                (type_known m c.args.self.now h s c.in-Equal.of c.type_in-of.result k c.type_in-of.ensures) refl refl refl,
+          ))
     ]
 
 pub returns-in_default-clause-made : goal.returns-in_default-clause-made
-returns-in_default-clause-made c = IfOk-weaker c.got.result _ _ (λ t m. m (no_goal_typed c.args.instr.now c.in_default.not-Call c.in_default.not-CallTerm c.in_default.not-Equal c.in_default.not-Is c.in_default.not-Less c.in_default.not-Greater c.in_default.not-AtMost c.in_default.not-AtLeast)) c.got.ensures.made
+returns-in_default-clause-made c = IfOk-weaker c.got.result _ _ (λ t m. m (no_goal_typed c.args.instr.now c.in_default.not-Call
+    c.in_default.not-CallTerm c.in_default.not-Equal c.in_default.not-Is c.in_default.not-Less c.in_default.not-Greater c.in_default.not-AtMost
+    c.in_default.not-AtLeast)) c.got.ensures.made

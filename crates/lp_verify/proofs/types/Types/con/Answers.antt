@@ -16,4 +16,6 @@ pub returns-clause-made : goal.returns-clause-made
 returns-clause-made c = λ a Ts parts.
     let x = c.args.self.now in
     let m : Types = record { alloc = x.alloc; bank = c.put_constructor.new.bank; firsts = x.firsts; keys = x.keys; uses = x.uses; proposition = x.proposition; integer = x.integer; text = x.text } in
-    put_found x m c.found.new.self c.put_constructor.ensures.kept refl refl refl refl refl c.in_ok-made.ensures.kept c.in_ok-made.ensures.found c.in_ok-id.id.0 c.in_ok-made.made _ a c.in_ok-id.ensures.within (c.in_ok-id.ensures.tree ∙ ap (λ l. con c.args.kind (tys l)) (part_trees x c.args.parts.now Ts parts)) c.in_ok-made.ensures.number
+    put_found x m c.found.new.self c.put_constructor.ensures.kept refl refl refl refl refl c.in_ok-made.ensures.kept c.in_ok-made.ensures.found
+    c.in_ok-id.id.0 c.in_ok-made.made _ a c.in_ok-id.ensures.within (c.in_ok-id.ensures.tree ∙ ap (λ l. con c.args.kind (tys l))
+    (part_trees x c.args.parts.now Ts parts)) c.in_ok-made.ensures.number

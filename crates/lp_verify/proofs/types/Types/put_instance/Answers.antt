@@ -24,5 +24,7 @@ returns-clause-made c = λ basics Ts types.
     let b = c.args.bank.now in
     let θ = type_at Ts in
     put_found x m c.found.new.self c.copy_type.ensures.kept refl refl refl refl refl c.in_ok-id.ensures.kept c.in_ok-id.ensures.found c.in_ok-made.made.0 c.in_ok-id.id _ basics.firsts c.in_ok-made.ensures.within
-    (c.in_ok-made.ensures.made (putting θ (λ v l. atom (logic v l))) (filling_is_map x (record { types = c.args.types; other = x.proposition }) b Ts types basics.proposition) (c.new-changed.ensures (putting θ (λ v l. atom (logic v l))) b x.bank) ∙ type_put θ (λ v l. atom (logic v l)) (type_tree b c.args.body.0))
+    (c.in_ok-made.ensures.made (putting θ (λ v l. atom (logic v l))) (filling_is_map x (record { types = c.args.types; other = x.proposition }) b Ts
+    types basics.proposition) (c.new-changed.ensures (putting θ (λ v l. atom (logic v l))) b x.bank) ∙ type_put θ (λ v l. atom (logic v l))
+    (type_tree b c.args.body.0))
     c.in_ok-id.ensures.number
