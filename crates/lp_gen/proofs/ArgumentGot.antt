@@ -22,6 +22,9 @@ use Rattle.lp_gen.specs.inner.TermLaw.{Standing, IsSeen, level_term, with_variab
 use Rattle.lp_gen.specs.inner.Written.{IsWell, TermWritten}
 use Rattle.lp_gen.specs.inner.Doing.{Does}
 use Rattle.lp_gen.specs.inner.Heading.{VariableGot, if_unset, level_first, first_place, AreOwn, HaveStood, PredicateStands, ArgumentGot}
+use Rattle.lp_gen.proofs.OwnSet.{plain_both}
+use Rattle.lp_gen.proofs.CodeOwned.{none_owned, owns_then, one_owned}
+use Rattle.lp_gen.proofs.StepsOwn.{no_types_more}
 use Rattle.lp_gen.proofs.Denoting.{or_none, strict_may, room_front, room_behind, none_unset}
 use Rattle.lp_gen.proofs.TermPut.{types_held, moved}
 use Rattle.lp_gen.proofs.LooseOf.{equal_self, some_same}
@@ -93,6 +96,18 @@ first_none false l r e = absurd (no_pair (l, r) (sym e))
 in_turn : (s : State) (i : ℕ) → s.in_body ≡ false → length s.head_arguments ≡ i → out_of_turn s i ≡ false
 in_turn s i e f = or_none s.in_body (not (nat_eq i (length s.head_arguments))) e (ap not (eq-eqb i (length s.head_arguments) (sym f)))
 
+-- the variable of a first place
+first_found : (a : Around) (j l r : ℕ) → first_place a (index j) ≡ Some (l, r) → (v : Seen) × (at_level a l ≡ Some v) × (v.is_set ≡ false) × (v.register ≡ r)
+first_found a j l r e = by_level (level_in a j) e
+  where
+    by_seen : (m : ℕ) (o : Option Seen) → at_level a m ≡ o → if_unset m o ≡ Some (l, r) → (v : Seen) × (at_level a l ≡ Some v) × (v.is_set ≡ false) × (v.register ≡ r)
+    by_seen m None f q = absurd (no_pair (l, r) q)
+    by_seen m (Some v) f q = let is = first_unset v.is_set m v.register (l, r) q in (v, ap (at_level a) (sym is.1) ∙ f, is.0, is.2)
+
+    by_level : (o : Option ℕ) → level_first a o ≡ Some (l, r) → (v : Seen) × (at_level a l ≡ Some v) × (v.is_set ≡ false) × (v.register ≡ r)
+    by_level None q = absurd (no_pair (l, r) q)
+    by_level (Some m) q = by_seen m (at_level a m) refl q
+
 pub first_argument : (K : ℕ → List Ty → Ty) (old new : Emitter) (a : Around) (i l r : ℕ) (F : Ty) (j : ℕ) → VariableGot old new i r → first_place a (index j) ≡ Some (l, r) →
     ArgumentGot K old new a (set_level a l) i F (index j)
 first_argument K old new a i l r F j x first = record {
@@ -100,6 +115,8 @@ first_argument K old new a i l r F j x first = record {
   code_is = x.code_is;
   types_grow = let q = x.types_stay in omega (arith, q);
   terms_grow = let q = x.registers_stay in omega (arith, q);
+  owns = λ start. let z = first_found a j l r first in one_owned a l z.0 x.more (x.own ∙ ap (λ k. k ∷ []) (sym z.3)) start z.1 z.2;
+  no_types = x.no_types;
   denotes = λ h later vars s σ Γ T std asked st te low few before count typed stands well same predicate own stood room.
       let z = seen_at Γ a j (well.seen (omega arith)) in
       let v = z.1 in
@@ -151,6 +168,8 @@ integer_argument K old new a i F z x = record {
   code_is = x.code_is;
   types_grow = let q = x.types_stay in omega (arith, q);
   terms_grow = let q = x.registers_stay in omega (arith, q);
+  owns = λ start. none_owned a x.more x.plain.no_own;
+  no_types = x.plain.no_types;
   denotes = λ h later vars s σ Γ T std asked st te low few before count typed stands well same predicate own stood room.
       let of : int_type ≡ T = some_same int_type T well.typed in
       let w = x.denotes h later vars s std st te (record { in_turn = in_turn s i before count; typed = next_typed h s s i T int_type refl typed of }) (strict_may (s.place + sum_by length_of x.more) s.frames room) in (
@@ -169,6 +188,8 @@ text_argument K old new a i F b x = record {
   code_is = x.code_is;
   types_grow = let q = x.types_stay in omega (arith, q);
   terms_grow = let q = x.registers_stay in omega (arith, q);
+  owns = λ start. none_owned a x.more x.plain.no_own;
+  no_types = x.plain.no_types;
   denotes = λ h later vars s σ Γ T std asked st te low few before count typed stands well same predicate own stood room.
       let of : string_type ≡ T = some_same string_type T well.typed in
       let w = x.denotes h later vars s std st te (record { in_turn = in_turn s i before count; typed = next_typed h s s i T string_type refl typed of }) (strict_may (s.place + sum_by length_of x.more) s.frames room) in (
@@ -188,6 +209,8 @@ constant_argument K old mid new a i c F Ts ts y x = record {
   code_is = x.code_is ∙ ap (λ l. l ++ x.more) y.code_is ∙ append_assoc old.code.items y.more x.more;
   types_grow = let p = y.types_grow in let q = x.types_stay in omega (arith, p, q);
   terms_grow = let p = y.registers_stay in let q = x.registers_stay in omega (arith, p, q);
+  owns = λ start. none_owned a (y.more ++ x.more) (plain_both y.more x.more y.plain x.plain).no_own;
+  no_types = (plain_both y.more x.more y.plain x.plain).no_types;
   denotes = λ h later vars s σ Γ T std asked st te low few before count typed stands well same predicate own stood room.
       let kinds = x.types_stay in
       let stay = y.registers_stay in
@@ -266,6 +289,8 @@ term_argument K old mid new a b i r F t y x first = record {
   code_is = x.code_is ∙ ap (λ l. l ++ x.more) y.code_is ∙ append_assoc old.code.items y.more x.more;
   types_grow = let p = y.types_grow in let q = x.types_stay in omega (arith, p, q);
   terms_grow = let p = y.terms_grow in let q = x.registers_stay in omega (arith, p, q);
+  owns = owns_then a b b y.more x.more y.owns (λ start. none_owned b x.more x.plain.no_own);
+  no_types = no_types_more y.more x.more y.no_types x.plain.no_types;
   denotes = λ h later vars s σ Γ T std asked st te low few before count typed stands well same predicate own stood room.
       let kinds = x.types_stay in
       let stay = x.registers_stay in

@@ -74,7 +74,7 @@ variable_made old kind new a l v t q code same_types same_registers = record {
         terms_stand = u.1.terms_stand;
       } in
       let all = then_goes h later vars old.types kind.types kind.types old.registers old.registers old.registers s w.0 u.0 q.more one first second q.types_grow (omega arith) in
-      let many = u.1.terms_stand.as_many in (
+      let many = u.1.terms_stand.as_many.enough in (
         u.0,
         subst (λ n. Goes h later vars old.types n old.registers old.registers s (q.more ++ one) u.0) (sym same_types) all,
         standing_on h vars old.registers old.registers s.in_body σ (set_level a l) (made_variable h r v.of s.now.terms) u.0.now.terms
@@ -155,7 +155,9 @@ neck_put old new code same_types same_registers = record {
   code_is = code;
   types_stay = same_types;
   registers_stay = same_registers;
+  is_neck = refl;
   bytes = refl;
+  plain = record { no_own = refl; no_types = refl };
   denotes = λ h later vars s st te before fine room.
       let here : HasRoom s s.place = room_less s.place (s.place + 1) s.frames (omega arith) room in
       let nothing : s.types_set ++ [] ≡ s.types_set = append-nil s.types_set in

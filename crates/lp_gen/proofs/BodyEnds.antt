@@ -31,7 +31,7 @@ proceed_rules h u room none rule.Clause = refl
 proceed_rules h u room none rule.Key = refl
 
 -- no instruction is left
-ran_out : (h : Home) (later : Later) (s : State) → 0 < s.place → run h later s [] ≡ Done s
+pub ran_out : (h : Home) (later : Later) (s : State) → 0 < s.place → run h later s [] ≡ Done s
 ran_out h later s low =
     ap (λ o. unless_broken o s.place (Done s)) (ap (λ t. if t then first_broken (broken_by_record h s) rules else None) (ne_eqb s.place 0 (λ z. absurd (omega (arith, z, low)))))
 

@@ -67,7 +67,7 @@ module _ (h : Home) (vars : ℕ) (P : ℕ → Type 0) where
 
     clauses_through : (Q : ℕ → Type 0) (Γ : List Ty) (B : List Bool) (d : ℕ) (cs : Clauses) → ((i : ℕ) → Q i → d ≤ i → P (i - d)) → ClausesFit h vars Γ B Q cs → AllThrough (Bindable h vars P) d cs
     clauses_through Q Γ B d no_clauses q x = tt
-    clauses_through Q Γ B d (clauses (clause n vs t gs) cs) q (none, known, head, body, others) =
+    clauses_through Q Γ B d (clauses (clause n vs t gs) cs) q (none, known, head, body, ends, others) =
         let e = under_all suc vs d in (
           (head.known, loose_at P (more_of vs Q) e 0 e t (omega arith) (all_at P Q vs d q) head.loose),
           goals_through (more_of vs Q) (vs ++ Γ) (map (λ T. false) vs ++ B) e gs (all_at P Q vs d q) body,

@@ -17,9 +17,9 @@ use Rattle.lp_code.specs.Steps.{Later, clauses_of_records, captured_by, handed}
 use Rattle.lp_code.specs.Written.{nothing_written}
 use Rattle.lp_code.specs.Rules.{nesting_limit}
 use Rattle.lp_code.specs.Denote.{from_zero}
-use Rattle.lp_gen.specs.Sources.{IsKnownType, goal_depth, goals_depth, ends_list}
+use Rattle.lp_gen.specs.Sources.{IsKnownType, goal_depth, goals_depth, clauses_depth, ends_list}
 use Rattle.lp_gen.specs.inner.Running.{TypesStand, TermsStand, ends_before, MayEnd, Hold, Leads}
-use Rattle.lp_gen.specs.inner.Listing.{Around}
+use Rattle.lp_gen.specs.inner.Listing.{Seen, Around, at_level}
 use Rattle.lp_gen.specs.inner.TermLaw.{Standing, IsSeen}
 use Rattle.lp_gen.specs.inner.Doing.{Says}
 use Rattle.lp_gen.specs.inner.Bodies.{pushed, new_level, IsShort, with_level, bare_goal, bare_goals, bare_clauses, said_goal, said_goals, said_clauses, GoalsSaid, frame_of}
@@ -84,7 +84,8 @@ no_goal_more g gs e = cc
 abbrev pub TellClauses : Home → Later → (vars : ℕ) → (P : Around → (records levels : List ℕ) → Clauses → Type 0) → Type 1
 TellClauses h later vars P =
     (a : Around) (ns ls : List ℕ) (cs : Clauses) → P a ns ls cs → (σ : ℕ → Term) (Γ : List Ty) (B : List Bool) (Q : ℕ → Type 0) (c : Captured) → IsShort a → ClausesFit h vars Γ B Q cs →
-    ((i : ℕ) → Q i → IsSeen a Γ i) → ((i : ℕ) (U : Ty) → slice_get Γ i ≡ Some U → IsKnownType h.tables.kinds vars U) → AreAlls h σ a B → AreOuter h σ a → c.types ≡ map var (from_zero vars) →
+    ((i : ℕ) → Q i → IsSeen a Γ i) → ((i : ℕ) (U : Ty) → slice_get Γ i ≡ Some U → IsKnownType h.tables.kinds vars U) →
+    ((l : ℕ) (v : Seen) → at_level a l ≡ Some v → IsKnownType h.tables.kinds vars v.of) → clauses_depth cs ≤ nesting_limit → AreAlls h σ a B → AreOuter h σ a → c.types ≡ map var (from_zero vars) →
     StartWith σ a ls c.terms → (ds : Clauses) × (clauses_of_records later ns c ≡ Some ds) × (bare_clauses ds ≡ said_clauses σ a 0 cs)
 
 module _ (P : Around → (records levels : List ℕ) → Clauses → Type 0) (K : ℕ → List Ty → Ty) (h : Home) (later : Later) (vars : ℕ) where
@@ -392,7 +393,7 @@ module _ (P : Around → (records levels : List ℕ) → Clauses → Type 0) (K 
           let captured = captured_by s ts.items rs.items in
           let start = start_with h vars k s.in_body σ a s ls rs.items x.standing x.set are in
           let of_types = ap (Rattle.lp_code.specs.Symbolic.types_in s.now) types ∙ types_zero h vars n vars s x.types_stand (omega arith) in
-          let known = told a ns.items ls cs coded σ Γ B Q captured x.short fit.0 x.seen x.known x.alls x.outer of_types start.0 in
+          let known = told a ns.items ls cs coded σ Γ B Q captured x.short fit.0 x.seen x.known x.standing.known (omega (arith, nest)) x.alls x.outer of_types start.0 in
           let as_many : length ts.items ≡ vars = zero_is vars ts.items types in
           let as_long : length rs.items ≡ length ls = registers_length a ls rs.items are in
           let fine = (λ i. Rattle.lp_code.specs.Rules.are_fine_names h (Rattle.lp_code.specs.Rules.named_before h.number h.records ++ map (λ (a : ℕ × Captured). a.0) s.assumed) (as_many i) (as_long i) ns.items)

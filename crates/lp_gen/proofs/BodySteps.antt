@@ -63,16 +63,16 @@ take_less zero xs = omega arith
 take_less (suc n) [] = omega arith
 take_less (suc n) (x ∷ xs) = let z = take_less n xs in omega (arith, z)
 
-push_set : (a : Around) (k : ℕ) (T : Ty) → AreSet a → AreSet (pushed a (quantified k T))
+pub push_set : (a : Around) (k : ℕ) (T : Ty) → AreSet a → AreSet (pushed a (quantified k T))
 push_set a k T set l w e = ⊎_elim (λ q. ap (λ (y : Seen). y.is_set) q.1) (λ q. set l w q.1) (at_pushed a (quantified k T) w l e)
 
-push_level : (a : Around) (v : Seen) → new_level (pushed a v) ≡ new_level a + 1
+pub push_level : (a : Around) (v : Seen) → new_level (pushed a v) ≡ new_level a + 1
 push_level a v = let z = length-append a.own (v ∷ []) in omega (arith, z)
 
 marks_more : (bs : List Block) (b : Block) → marks (bs ++ b ∷ []) ≡ mark_of b ∷ marks bs
 marks_more bs b = ap (map mark_of) (reverse-append bs (b ∷ []))
 
-numbers_length : (q n : ℕ) → length (numbers q n) ≡ n
+pub numbers_length : (q n : ℕ) → length (numbers q n) ≡ n
 numbers_length q zero = refl
 numbers_length q (suc n) = ap suc (numbers_length (suc q) n)
 

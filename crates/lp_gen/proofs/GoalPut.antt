@@ -27,7 +27,7 @@ use Rattle.lp_code.specs.Rules.{has_type, have_type, is_passed, breaks_constant,
 use Rattle.lp_code.specs.Denote.{broken_by}
 use Rattle.lp_gen.specs.declared.emitter.Emitter.{Emitter}
 use Rattle.lp_gen.specs.inner.Owned.{IsPlain}
-use Rattle.lp_gen.specs.inner.Running.{TypesStand, TermsStand, HasRoom}
+use Rattle.lp_gen.specs.inner.Running.{HasRegisters, TypesStand, TermsStand, HasRoom}
 use Rattle.lp_gen.specs.inner.Saying.{own_numbered, own_by, equation_by, order_by, turned, Turns, IsPartPut, AreGoalParts, CallPut}
 use Rattle.lp_gen.specs.inner.Saying.{IsGoalTerm, TermCallPut, IsNext, IsNextConstant, ConstantGot, IntegerGot, TextGot, IsNextTerm, TermGot, IsNextType, TypeGot}
 use Rattle.lp_gen.proofs.Bytes.{some_length}
@@ -70,11 +70,10 @@ turns_one h later vars n k s i gs Ts bs eff ts rs long st te fine = (
     t : State
     t = passed i (turned s gs Ts bs)
 
-any_within : {A : Type 0} (xs : List (Option A)) (n : ℕ) (rs : List ℕ) → length xs ≡ n → list_any (λ r. is_none (held xs r)) rs ≡ false → list_any (λ r. nat_le n r) (rs ++ []) ≡ false
+any_within : {A : Type 0} (xs : List (Option A)) (n : ℕ) (rs : List ℕ) → HasRegisters xs n → list_any (λ r. is_none (held xs r)) rs ≡ false → list_any (λ r. nat_le n r) (rs ++ []) ≡ false
 any_within xs n [] e u = refl
 any_within xs n (r ∷ rs) e u =
-    or_none (nat_le n r) (list_any (λ r. nat_le n r) (rs ++ [])) (lt-leb n r (subst (λ m. r < m) e (set_within xs r (or_false_left (is_none (held xs r)) (list_any (λ r. is_none
-    (held xs r)) rs) u))))
+    or_none (nat_le n r) (list_any (λ r. nat_le n r) (rs ++ [])) (lt-leb n r (set_within xs n r e (or_false_left (is_none (held xs r)) (list_any (λ r. is_none (held xs r)) rs) u)))
     (any_within xs n rs e (or_false_right (is_none (held xs r)) (list_any (λ r. is_none (held xs r)) rs) u))
 
 -- how an instruction reads its parts, and that it breaks no rule

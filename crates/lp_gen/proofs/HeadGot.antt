@@ -29,6 +29,9 @@ use Rattle.lp_gen.specs.inner.TermLaw.{SameSides, Asks, Standing, as_set, with_v
 use Rattle.lp_gen.specs.inner.Written.{IsWell, AreWell, left_by, wholes}
 use Rattle.lp_gen.specs.inner.Doing.{Does}
 use Rattle.lp_gen.specs.inner.Heading.{AreOwn, HaveStood, PredicateStands, ArgumentGot, ArgumentsGot, TypesGot}
+use Rattle.lp_gen.proofs.OwnSet.{plain_both, plain_none}
+use Rattle.lp_gen.proofs.CodeOwned.{none_owned, owns_then}
+use Rattle.lp_gen.proofs.StepsOwn.{no_types_more}
 use Rattle.lp_gen.proofs.Denoting.{or_none, strict_may, room_less, room_front}
 use Rattle.lp_gen.proofs.TypeWorks.{map_length}
 use Rattle.lp_gen.proofs.AroundSet.{around_same, around_then, all_seen, variables_same, seen_of}
@@ -43,7 +46,7 @@ room_does h later v n m k l s t is xs ys gs Ts bs x e room =
     (room_less (t.place + sum_by length_of ys) (s.place + sum_by length_of is) s.frames (let p = ap
     (sum_by length_of) e in let q = sum_by-append length_of xs ys in let r = x.place_is in omega (arith, p, q, r)) room)
 
-nothing_does : (h : Home) (later : Later) (vars n k : ℕ) (s : State) → TypesStand h vars n s → TermsStand h k s → Does h later vars n n k k s [] s.goals s.head_types s.head_arguments s
+pub nothing_does : (h : Home) (later : Later) (vars n k : ℕ) (s : State) → TypesStand h vars n s → TermsStand h k s → Does h later vars n n k k s [] s.goals s.head_types s.head_arguments s
 nothing_does h later vars n k s st te = record {
   runs = λ rest. refl;
   place_is = let z : sum_by length_of [] ≡ 0 = refl in omega (arith, z);
@@ -91,6 +94,8 @@ no_head_arguments K e a F = record {
   code_is = append_nil_sym e.code.items;
   types_grow = omega arith;
   terms_grow = omega arith;
+  owns = λ start. none_owned a [] refl;
+  no_types = refl;
   denotes = λ h later vars s σ Γ R std asked st te low few before none stands well asks predicate own stood room. (
     s,
     does_same h later vars e.types e.types e.types e.registers e.registers e.registers s s [] s.goals s.head_types s.head_arguments s.goals s.head_types [] refl refl refl refl none
@@ -108,6 +113,8 @@ head_argument_then K old mid new a b c F G ts t x p left = record {
   code_is = p.code_is ∙ ap (λ l. l ++ p.more) x.code_is ∙ append_assoc old.code.items x.more p.more;
   types_grow = let i = x.types_grow in let j = p.types_grow in omega (arith, i, j);
   terms_grow = let i = x.terms_grow in let j = p.terms_grow in omega (arith, i, j);
+  owns = owns_then a b c x.more p.more x.owns p.owns;
+  no_types = no_types_more x.more p.more x.no_types p.no_types;
   denotes = λ h later vars s σ Γ R std asked st te low few before none stands well asks predicate own stood room.
       let i = p.types_grow in
       let j = p.terms_grow in
@@ -167,6 +174,7 @@ no_head_types e = record {
   code_is = append_nil_sym e.code.items;
   registers_stay = refl;
   types_grow = omega arith;
+  plain = plain_none;
   denotes = λ h later vars s std st te low before none nothing known count room. (
     s,
     does_same h later vars e.types e.types e.types e.registers e.registers e.registers s s [] s.goals s.head_types s.head_arguments s.goals [] [] refl refl refl none nothing
@@ -185,6 +193,7 @@ head_type_then old mid kind new Ts T i r x q p at = record {
   code_is = p.code_is ∙ ap (λ l. l ++ p.more) (q.code_is ∙ ap (λ l. l ++ q.more) x.code_is ∙ append_assoc old.code.items x.more q.more) ∙ append_assoc old.code.items (x.more ++ q.more) p.more;
   registers_stay = p.registers_stay ∙ q.registers_stay ∙ x.registers_stay;
   types_grow = let a = x.types_grow in let b = q.types_grow in let c = p.types_stay in omega (arith, a, b, c);
+  plain = plain_both (x.more ++ q.more) p.more (plain_both x.more q.more x.plain q.plain) p.plain;
   denotes = λ h later vars s std st te low before none nothing known count room.
       let front = x.more ++ q.more in
       let size : length (Ts ++ T ∷ []) ≡ length Ts + 1 = length-append Ts (T ∷ []) in

@@ -21,6 +21,8 @@ use Rattle.lp_gen.specs.inner.Listing.{Seen, Around, at_level, level_in, seen_in
 use Rattle.lp_gen.specs.inner.TermLaw.{Asks, Standing, with_variables}
 use Rattle.lp_gen.specs.inner.Written.{AreWell, wholes}
 use Rattle.lp_gen.specs.inner.Heading.{ArgumentsGot, TypesGot, seen_register, level_register, predicate_of, IsPredicate, HeadMatched}
+use Rattle.lp_gen.proofs.CodeOwned.{none_owned, owns_then}
+use Rattle.lp_gen.proofs.StepsOwn.{no_types_more}
 use Rattle.lp_gen.proofs.Denoting.{room_front}
 use Rattle.lp_gen.proofs.TypeWorks.{map_length}
 use Rattle.lp_gen.proofs.LooseOf.{equal_self, some_same}
@@ -60,6 +62,9 @@ constant_matched K old mid new a b c Ts ts x y = record {
   code_is = y.code_is ∙ ap (λ l. l ++ y.more) x.code_is ∙ append_assoc old.code.items x.more y.more;
   types_grow = let i = x.types_grow in let j = y.types_grow in omega (arith, i, j);
   terms_grow = let i = x.registers_stay in let j = y.terms_grow in omega (arith, i, j);
+  owns = owns_then a a b x.more y.more (λ start. none_owned a x.more x.plain.no_own) y.owns;
+  predicate_is = sym (ap (predicate_of a) (head_apply (atom (constant c Ts)) ts));
+  no_types = no_types_more x.more y.more x.plain.no_types y.no_types;
   denotes = λ h later vars s σ Γ std asked st te low few before no_types no_args self stands good predicate own stood room.
       let head = atom (constant c Ts) in
       let f = with_variables σ a 0 in
@@ -93,16 +98,20 @@ constant_matched K old mid new a b c Ts ts x y = record {
         (λ k. apply (last k).term (plain_terms (args k))) ∙ ap (apply head) (plain_wholes A (map f ts)) ∙ sym (with_apply σ a 0 head ts),
         neck_fine h v.0 (length ts) A ((λ k. nat_eq (length (types k)) (count k)) ∙ counts (h.tables.constants c) (length Ts) (has_scheme Ts (h.tables.constants c) A sp.1))
             (ap length args ∙ wholes_length A (map f ts) ∙ map_length f ts) (ap (λ (d : Built). d.type) last) (result_is h vars Γ a A ts o_type well),
+        ap plain_terms args ∙ plain_wholes A (map f ts) ∙ ap (map f) (sym (arguments_is head ts tt)),
       );
 }
 
 pub variable_matched : (K : ℕ → List Ty → Ty) (old new : Emitter) (a b : Around) (j r : ℕ) (ts : List Term) → ArgumentsGot K old new a b (head_type K [] a (index j)) ts →
-    ((l : ℕ) (v : Seen) → level_in a j ≡ Some l → at_level a l ≡ Some v → v.register ≡ r) → HeadMatched K old new a b (Register r) (apply (index j) ts)
-variable_matched K old new a b j r ts y register = record {
+    ((l : ℕ) (v : Seen) → level_in a j ≡ Some l → at_level a l ≡ Some v → v.register ≡ r) → Register r ≡ predicate_of a (index j) → HeadMatched K old new a b (Register r) (apply (index j) ts)
+variable_matched K old new a b j r ts y register named = record {
   more = y.more;
   code_is = y.code_is;
   types_grow = y.types_grow;
   terms_grow = y.terms_grow;
+  owns = y.owns;
+  no_types = y.no_types;
+  predicate_is = named ∙ sym (ap (predicate_of a) (head_apply (index j) ts));
   denotes = λ h later vars s σ Γ std asked st te low few before no_types no_args self stands good predicate own stood room.
       let head = index j in
       let f = with_variables σ a 0 in
@@ -132,18 +141,22 @@ variable_matched K old new a b j r ts y register = record {
         (λ k. apply (last k).term (plain_terms (args k))) ∙ (λ k. apply (sym (index_is σ Γ a j z) k) (plain_wholes A (map f ts) k)) ∙ sym (with_apply σ a 0 head ts),
         neck_fine h u.0 (length ts) A ((λ k. nat_eq (length ((u.1.head_types_are ∙ no_types) k)) (count_of h (self k))) ∙ eq-eqb 0 0 refl)
             (ap length args ∙ wholes_length A (map f ts) ∙ map_length f ts) (ap (λ (d : Built). d.type) last) (result_is h vars Γ a A ts o_type well),
+        ap plain_terms args ∙ plain_wholes A (map f ts) ∙ ap (map f) (sym (arguments_is head ts tt)),
       );
 }
 
 -- a head that is no constant
 
-never_matched : (K : ℕ → List Ty → Ty) (old new : Emitter) (a b : Around) (F : Ty) (ts : List Term) (p : RecordHead) (t : Term) → ArgumentsGot K old new a b F ts → (IsPredicate (head_of t) → ⊥) →
+never_matched : (K : ℕ → List Ty → Ty) (old new : Emitter) (a b : Around) (F : Ty) (ts : List Term) (p : RecordHead) (t : Term) → ArgumentsGot K old new a b F ts → (IsPredicate (head_of t) → ⊥) → p ≡ predicate_of a (head_of t) →
     HeadMatched K old new a b p t
-never_matched K old new a b F ts p t y none = record {
+never_matched K old new a b F ts p t y none named = record {
   more = y.more;
   code_is = y.code_is;
   types_grow = y.types_grow;
   terms_grow = y.terms_grow;
+  owns = y.owns;
+  no_types = y.no_types;
+  predicate_is = named;
   denotes = λ h later vars s σ Γ std asked st te low few before no_types no_args self stands good predicate own stood room. absurd (none good.predicate);
 }
 
@@ -163,12 +176,12 @@ pub other_matched : (K : ℕ → List Ty → Ty) (old new : Emitter) (a b : Arou
 other_matched K old new a b (index j) ts t p none other y e named =
     let r = a_register a (level_in a j) in
     subst (λ p. HeadMatched K old new a b p t) (sym (named ∙ r.1)) (subst (HeadMatched K old new a b (Register r.0)) e (variable_matched K old new a b j r.0 ts y
-    (λ l v f g. same_register v.register r.0 (sym (ap (level_register a) f ∙ ap seen_register g) ∙ r.1))))
+    (λ l v f g. same_register v.register r.0 (sym (ap (level_register a) f ∙ ap seen_register g) ∙ r.1)) (sym r.1)))
 other_matched K old new a b (atom (constant c Ts)) ts t p none other y e named = absurd (other c Ts refl)
-other_matched K old new a b (atom (integer z)) ts t p none other y e named = never_matched K old new a b o_type ts p t y (λ q. subst IsPredicate (ap head_of (sym e) ∙ head_apply (atom (integer z)) ts) q)
-other_matched K old new a b (atom (text s)) ts t p none other y e named = never_matched K old new a b o_type ts p t y (λ q. subst IsPredicate (ap head_of (sym e) ∙ head_apply (atom (text s)) ts) q)
-other_matched K old new a b (atom (eigen k)) ts t p none other y e named = never_matched K old new a b o_type ts p t y (λ q. subst IsPredicate (ap head_of (sym e) ∙ head_apply (atom (eigen k)) ts) q)
-other_matched K old new a b (atom (logic x l)) ts t p none other y e named = never_matched K old new a b o_type ts p t y (λ q. subst IsPredicate (ap head_of (sym e) ∙ head_apply (atom (logic x l)) ts) q)
-other_matched K old new a b (atom (param k T)) ts t p none other y e named = never_matched K old new a b o_type ts p t y (λ q. subst IsPredicate (ap head_of (sym e) ∙ head_apply (atom (param k T)) ts) q)
-other_matched K old new a b (abs u) ts t p none other y e named = never_matched K old new a b o_type ts p t y (λ q. subst IsPredicate (ap head_of (sym e) ∙ head_apply (abs u) ts) q)
+other_matched K old new a b (atom (integer z)) ts t p none other y e named = never_matched K old new a b o_type ts p t y (λ q. subst IsPredicate (ap head_of (sym e) ∙ head_apply (atom (integer z)) ts) q) (named ∙ ap (predicate_of a) (sym (ap head_of (sym e) ∙ head_apply (atom (integer z)) ts)))
+other_matched K old new a b (atom (text s)) ts t p none other y e named = never_matched K old new a b o_type ts p t y (λ q. subst IsPredicate (ap head_of (sym e) ∙ head_apply (atom (text s)) ts) q) (named ∙ ap (predicate_of a) (sym (ap head_of (sym e) ∙ head_apply (atom (text s)) ts)))
+other_matched K old new a b (atom (eigen k)) ts t p none other y e named = never_matched K old new a b o_type ts p t y (λ q. subst IsPredicate (ap head_of (sym e) ∙ head_apply (atom (eigen k)) ts) q) (named ∙ ap (predicate_of a) (sym (ap head_of (sym e) ∙ head_apply (atom (eigen k)) ts)))
+other_matched K old new a b (atom (logic x l)) ts t p none other y e named = never_matched K old new a b o_type ts p t y (λ q. subst IsPredicate (ap head_of (sym e) ∙ head_apply (atom (logic x l)) ts) q) (named ∙ ap (predicate_of a) (sym (ap head_of (sym e) ∙ head_apply (atom (logic x l)) ts)))
+other_matched K old new a b (atom (param k T)) ts t p none other y e named = never_matched K old new a b o_type ts p t y (λ q. subst IsPredicate (ap head_of (sym e) ∙ head_apply (atom (param k T)) ts) q) (named ∙ ap (predicate_of a) (sym (ap head_of (sym e) ∙ head_apply (atom (param k T)) ts)))
+other_matched K old new a b (abs u) ts t p none other y e named = never_matched K old new a b o_type ts p t y (λ q. subst IsPredicate (ap head_of (sym e) ∙ head_apply (abs u) ts) q) (named ∙ ap (predicate_of a) (sym (ap head_of (sym e) ∙ head_apply (abs u) ts)))
 other_matched K old new a b (app u v) ts t p none other y e named = absurd none

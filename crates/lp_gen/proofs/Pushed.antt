@@ -117,7 +117,7 @@ around_pushed h K vars n m k q σ Γ B a Q s t T c x short known_T st te low bod
     unmade = λ l w e none. absurd (true≢false (sym (all_set l w e) ∙ none));
     apart = λ l j w y e f none also z. absurd (true≢false (sym (all_set l w e) ∙ none));
     known = λ l w e. ⊎_elim (λ q. subst (λ (y : Seen). IsKnownType h.tables.kinds vars y.of) (sym q.1) known_T) (λ q. x.standing.known l w q.1) (at_pushed a v w l e);
-    long = let many = te.as_many in omega (arith, many, low);
+    long = let many = te.as_many.enough in omega (arith, many, low);
   };
   set = all_set;
   short = short;
@@ -184,7 +184,7 @@ around_kept h K vars n m k l q r σ Γ B a Q s t x st te low body le keep below 
     unmade = λ j w e none. absurd (true≢false (sym (x.set j w e) ∙ none));
     apart = λ j i w y e f none also z. absurd (true≢false (sym (x.set j w e) ∙ none));
     known = x.standing.known;
-    long = let many = te.as_many in omega (arith, many, low);
+    long = let many = te.as_many.enough in omega (arith, many, low);
   };
   set = x.set;
   short = x.short;

@@ -24,7 +24,7 @@ use Rattle.lp_gen.specs.inner.Running.{TypesStand, TermsStand, HasRoom, ends_bef
 use Rattle.lp_gen.specs.inner.Saying.{Turns}
 use Rattle.lp_gen.specs.inner.Doing.{Says}
 use Rattle.lp_gen.specs.inner.Bodies.{GoalsSaid, Opened, frame_of, opened_state}
-use Rattle.lp_gen.proofs.Denoting.{or_none, steps, settled_same, room_less, may_strict, none_unset, held_set, held_below, member_more}
+use Rattle.lp_gen.proofs.Denoting.{or_none, steps, settled_same, room_less, may_strict, none_unset, held_set, held_below, many_set, many_within, member_more}
 use Rattle.lp_gen.proofs.TermPut.{moved, types_within, one_within, one_unset, no_sides}
 use Rattle.lp_gen.proofs.GoalPut.{plain_rules, turns_one}
 use Rattle.lp_gen.proofs.Blocks.{some_code}
@@ -120,9 +120,9 @@ abbrev variable_state : State → Block → (register : ℕ) → Built → State
 variable_state s b d x = put_term (opened_state s b s.assumed) d x
 
 -- what stands in it
-variable_stands : (h : Home) (vars n : ℕ) (s : State) (i : Instr) (d : ℕ) (B : Block) (x : Built) → type_set i ≡ [] → term_set i ≡ d ∷ [] → 0 < length_of i → s.in_body ≡ true → TypesStand h vars n s → TermsStand h d s →
+variable_stands : (h : Home) (vars n : ℕ) (s : State) (i : Instr) (d : ℕ) (B : Block) (x : Built) → type_set i ≡ [] → term_set i ≡ d ∷ [] → 0 < length_of i → s.in_body ≡ true → TypesStand h vars n s → TermsStand h d s → d < h.self.registers →
     TypesStand h vars n (passed i (variable_state s B d x)) × TermsStand h (d + 1) (passed i (variable_state s B d x))
-variable_stands h vars n s i d B x ts rs long body st te = (
+variable_stands h vars n s i d B x ts rs long body st te low = (
   record {
     few = st.few;
     own = st.own;
@@ -132,7 +132,7 @@ variable_stands h vars n s i d B x ts rs long body st te = (
     sound = λ z r. let q = eqb-true (s.place + length_of i) 0 z in absurd (omega (arith, q, long));
   },
   record {
-    as_many = length-set s.now.terms d (Some x) ∙ te.as_many;
+    as_many = many_set s.now.terms h.self.registers d x te.as_many low;
     unset = λ r q. ap (λ ds. member r (s.terms_set ++ ds)) rs ∙ member_more r d s.terms_set (te.unset r (omega (arith, q))) (omega (arith, q));
     fresh = λ z r q. absurd (true≢false (sym body ∙ z));
   },
@@ -145,8 +145,8 @@ variable_opened h later vars n s i d B x eff ts rs long fine body side st te low
     let t = passed i (variable_state s B d x) in
     let one : sum_by length_of (i ∷ []) ≡ 0 + length_of i = refl in
     let open_room : list_any (is_passed t.place) t.frames ≡ false = or_none (side_is_passed t.place B) (list_any (is_passed t.place) s.frames) (side t.place) room in
-    let within : d < length s.now.terms = subst (λ m. d < m) (sym te.as_many) low in
-    let stands = variable_stands h vars n s i d B x ts rs long body st te in (
+    let within : d < length s.now.terms = many_within s.now.terms h.self.registers d te.as_many low in
+    let stands = variable_stands h vars n s i d B x ts rs long body st te low in (
       t,
       record {
         runs = λ rest. steps h later s t i rest st.sound (fine rest) (ap (option_map (λ (u : State). settled h.number (depth u.frames) (passed i u))) eff
@@ -293,7 +293,7 @@ sigma_alone h later vars n m k q s r is T body te low x held_q room =
     let eff : effect h later r sigma ≡ Some (variable_state r B k v) =
     ap (λ o. Some (variable_state r (under_sigma k (unwrap_or o o_type)) k (whole (variable k h.number) (unwrap_or o o_type)))) held_q in
     let fine = variable_rules h vars m r sigma k q T refl refl refl refl refl refl refl refl (ap not body_r) refl (λ rest. refl) refl x.stands te_r low held_q here in
-    let stands = variable_stands h vars m r sigma k B v refl refl (omega arith) body_r x.stands te_r in (
+    let stands = variable_stands h vars m r sigma k B v refl refl (omega arith) body_r x.stands te_r low in (
       u,
       record {
         runs = λ e rest. ap (run h later s) (append_assoc is (sigma ∷ []) (e ∷ rest)) ∙ x.runs (sigma ∷ e ∷ rest)

@@ -136,7 +136,7 @@ term_written K b old new before after steps r F t x adds = record {
       let fine : AreFine h vars old.registers s.in_body (map (plain_step b) steps) start = subst (λ os. AreFine h vars old.registers s.in_body os start) (sym adds.steps) c.fine in
       let is : steps_built h (map (plain_step b) steps) start ≡ stack c.registers (c.built ∷ []) = ap (λ os. steps_built h os start) adds.steps ∙ c.is in
       let w = x.denotes h later vars s c.registers c.built st te low few fine is room in
-      let many = w.1.terms_stand.as_many in
+      let many = w.1.terms_stand.as_many.enough in
       let grow = x.terms_grow in (
         w.0,
         record {

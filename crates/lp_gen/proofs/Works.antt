@@ -17,9 +17,7 @@ use Rattle.lp_term.specs.declared.node.TermId.{TermId}
 use Rattle.lp_calculus.specs.Typing.{type_at}
 use Rattle.lp_gen.specs.inner.Reading.{read_at, types_of}
 use Rattle.lp_term.proofs.Walks.{map_map}
-use Rattle.lp_gen.specs.declared.plan.Places.{Places}
-use Rattle.lp_gen.specs.declared.plan.Places.TheVariants as place
-use Rattle.lp_gen.specs.inner.Sizes.{type_size, place_task, place_work, term_task, term_work}
+use Rattle.lp_gen.specs.inner.Sizes.{type_size, term_task, term_work}
 
 pub some_type : (T : Ty) → 0 < type_size T
 some_type (var i) = omega arith
@@ -75,14 +73,6 @@ instance_con b c k parts i e =
 some_args : {X Y : Type 0} (f : X → Y) (xs : List X) → map f xs ≢ [] → 0 < length xs
 some_args f [] n = absurd (n refl)
 some_args f (x ∷ xs) n = omega arith
-
--- an application whose arguments are looked at one by one
-pub marks_application : (b : Nodes) (old mid new : List Places) (head term : TermId) (args : Bor (List TermId)) (u v : ℕ) → mid ≡ old ++ place.Terms args u ∷ [] → new ≡ mid ++ place.Term head v ∷ [] →
-    apply (tree b head.0) (map (tree b) (map (λ t. t.0) args.now)) ≡ tree b term.0 → map (λ t. t.0) args.now ≢ [] → place_work b new + 1 ≤ place_work b old + 4 * size (tree b term.0)
-marks_application b old mid new head term args u v m e t n =
-    let w = two_more (place_task b) old mid new (place.Terms args u) (place.Term head v) m e in
-    let a = application_weighs b (tree b head.0) (tree b term.0) args.now (ap (apply (tree b head.0)) (sym (map_map (tree b) (λ t. t.0) args.now)) ∙ t) (some_args (λ t. t.0) args.now n) in
-    omega (arith, w, a)
 
 applied : {X : Type 0} (f : X → Term) (ids : List X) (h t : Term) → (ids ≡ [] → ⊥) → apply h (map f ids) ≡ t → IsNoApplication t → ⊥
 applied f [] h t n e a = n refl

@@ -11,7 +11,10 @@ pub mod Listing
 pub mod OpenGoals
 pub mod Owned
 pub mod Pieces
+pub mod Planned
+pub mod Planning
 pub mod Reading
+pub mod Recorded
 pub mod Running
 pub mod Saying
 pub mod Sizes
