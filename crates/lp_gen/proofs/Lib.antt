@@ -78,3 +78,7 @@ mod PlanParts
 mod PlanDone
 mod WrittenTypes
 mod RecordNamed
+mod GroupTold
+mod GroupDenotes
+mod GroupPut
+mod GroupsDenote

@@ -1,12 +1,20 @@
 -- The type variables that a clause of a program makes, and variables with which records start.
-use Rattle.std.proofs.Common.{◌≡◌, ◌∙◌, ℕ, zero, suc, ◌+◌, List, [], ◌∷◌, ◌++◌, Bool, true, false, Option, Some, None, ap, refl, sym, true≢false}
+use Rattle.std.proofs.Common.{◌≡◌, ◌∙◌, ℕ, zero, suc, ◌+◌, List, [], ◌∷◌, ◌++◌, Bool, true, false, Bor, Option, Some, None, ap, refl, sym, subst, true≢false}
+use Rattle.lp_calculus.specs.Spine.{arguments}
+use Rattle.lp_term.specs.Nodes.{Nodes, tree}
+use Rattle.lp_model.specs.declared.clause.Clause.{Clause}
 use Rattle.lp_code.specs.declared.instruction.Instr.{Instr}
+use Rattle.lp_code.specs.declared.record.Key.{Key}
+use Rattle.lp_code.specs.declared.record.Key.TheVariants as key
+use Rattle.lp_code.specs.Denote.{key_is}
+use Rattle.lp_gen.specs.declared.plan.Origin.{Origin}
+use Rattle.lp_gen.specs.declared.plan.Origin.TheVariants as origin
 use Rattle.lp_gen.specs.declared.emitter.Emitter.{Emitter}
 use Rattle.lp_gen.specs.inner.Listing.{Seen, Around}
 use Rattle.lp_gen.specs.inner.Owned.{makes}
-use Rattle.lp_gen.specs.inner.Entering.{news}
+use Rattle.lp_gen.specs.inner.Entering.{news, TypesMade}
 use Rattle.lp_gen.specs.inner.BodyCode.{AreStarts}
-use Rattle.lp_gen.specs.inner.Recorded.{TypesWritten}
+use Rattle.lp_gen.specs.inner.Recorded.{TypesWritten, HasKey, first_key_of}
 
 pub starts_as : (A : Around) (ls : List ℕ) (f g : ℕ → Option Seen) (m n : ℕ) → ((l : ℕ) → g l ≡ f l) → n ≡ m → AreStarts A ls f m → AreStarts A ls g n
 starts_as A ls f g m n e many x = record {
@@ -46,3 +54,25 @@ news_make r (suc n) = news_make (suc r) n
 pub types_make : (p : Bool) (r n : ℕ) → makes (types_code p r n) ≡ []
 types_make true r n = news_make r n
 types_make false r n = refl
+
+pub no_types : (p : Bool) (e : Emitter) (n : ℕ) → p ≡ false → TypesWritten p e e n
+no_types true e n q = absurd (true≢false q)
+no_types false e n q = (refl, refl, refl)
+
+pub made_types : (p : Bool) (e e' : Emitter) (n : ℕ) → p ≡ true → TypesMade e e' n → TypesWritten p e e' n
+made_types true e e' n q w = w
+made_types false e e' n q w = absurd (true≢false (sym q))
+
+-- the key of what is no clause of a program
+
+pub no_key : (b : Nodes) (o : Origin) (p : Bool) → ((c : Bor Clause) → o ≡ origin.Clause c → ⊥) → HasKey b o p key.None
+no_key b (origin.Clause c) p none = absurd (none c refl)
+no_key b (origin.Query q gs) p none = refl
+
+pub inner_key : (b : Nodes) (o : Origin) (p : Bool) (c : Bor Clause) → o ≡ origin.Clause c → p ≡ false → HasKey b o p key.None
+inner_key b o true c e q = absurd (true≢false q)
+inner_key b o false c e q = subst (λ (u : Origin). HasKey b u false key.None) (sym e) refl
+
+pub outer_key : (b : Nodes) (o : Origin) (p : Bool) (c : Bor Clause) (k : Key) → o ≡ origin.Clause c → p ≡ true → key_is k (first_key_of (arguments (tree b c.now.head.0))) ≡ true → HasKey b o p k
+outer_key b o true c k e q is = subst (λ (u : Origin). HasKey b u true k) (sym e) is
+outer_key b o false c k e q is = absurd (true≢false (sym q))

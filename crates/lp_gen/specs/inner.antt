@@ -6,6 +6,7 @@ pub mod Doing
 pub mod Entering
 pub mod Fitting
 pub mod GoalCode
+pub mod Groups
 pub mod Heading
 pub mod Listing
 pub mod OpenGoals

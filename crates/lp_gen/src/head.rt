@@ -52,10 +52,10 @@ pub(crate) fn key_of(alloc: Global, bank: &Bank, head: TermId) -> Result<Key, Ge
     ensures { IfOk result (λ key. key_is key (first_key_of (arguments (tree bank.now head.0))) ≡ true) }
 {
     let spine = spine_of(alloc, bank, head)?;
-    let Some(first) = spine.args.first().copied() else {
+    let Some((first, _)) = spine.args.as_slice().split_first() else {
         return Ok(Key::None);
     };
-    let key = key_at(alloc, bank, first)?;
+    let key = key_at(alloc, bank, *first)?;
     Ok(key)
 }
 

@@ -1,9 +1,11 @@
 // A clause or query with the clauses that it assumes: each as a head and a list of steps.
-ghost use Rattle.std.specs.Prelude.{◌≡◌, ℕ, ◌≤◌, ◌<◌, ◌+◌, ◌∷◌, [], map, length, true, IfOk, OnOk};
+ghost use Rattle.std.specs.Prelude.{◌≡◌, ℕ, List, ◌≤◌, ◌<◌, ◌+◌, ◌∷◌, ◌++◌, [], map, length, true, IfOk, OnOk};
 ghost use Rattle.lp_code.specs.States.{member};
 ghost use Rattle.lp_gen.specs.inner.Sizes.{goal_work, goal_task, goal_weighs, goals_weigh};
 ghost use Rattle.lp_gen.specs.inner.Recorded.{own_count};
-ghost use Rattle.lp_gen.specs.inner.Planning.{body_of, todo_of, todos, due_goals, due_end, IsAssumed, WalkKept, PartWalked, ArePlanned};
+ghost use Rattle.lp_gen.specs.inner.Planning.{AreDue, body_of, todo_of, todos, due_goals, due_end, due_level, IsAssumed, WalkKept, PartWalked, ArePlanned};
+ghost use Rattle.lp_gen.specs.declared.plan.Due.{Due};
+ghost use Rattle.lp_gen.specs.declared.plan.Step.TheVariants as on;
 
 use crate::fault::GenRefusal;
 use indexmap::IndexSet;
@@ -121,6 +123,16 @@ impl<'a> Origin<'a> {
 }
 
 impl<'a> Walk<'a> {
+    // A step without a block.
+    fn put(&mut self, step: Step) -> Result<(), Memory>
+        ensures steps { OnOk result (self.new.steps.items ≡ self.old.steps.items ++ step ∷ []) }
+        ensures tasks { OnOk result (self.new.tasks ≡ self.old.tasks) }
+        ensures level { OnOk result (self.new.level ≡ self.old.level) }
+    {
+        self.steps.push(step)?;
+        Ok(())
+    }
+
     // A block of goals up to this end.
     fn push_block(&mut self, goals: &'a [Goal], end: Step) -> Result<(), Memory>
         ensures work { OnOk result (goal_work self.new.tasks.items ≡ goal_work self.old.tasks.items + 1 + goals_weigh (map goal_weighs goals.now)) }
@@ -130,6 +142,59 @@ impl<'a> Walk<'a> {
     {
         self.tasks.push(Task::End(end, self.level))?;
         self.tasks.push(Task::Goals(goals))?;
+        Ok(())
+    }
+
+    // A step that begins a block.
+    fn put_block(&mut self, step: Step, goals: &'a [Goal], end: Step) -> Result<(), Memory>
+        ensures work { OnOk result (goal_work self.new.tasks.items ≡ goal_work self.old.tasks.items + 1 + goals_weigh (map goal_weighs goals.now)) }
+        ensures todo { OnOk result (todos self.new.tasks.items ≡ due_goals goals.now ∷ due_end end self.old.level ∷ todos self.old.tasks.items) }
+        ensures steps { OnOk result (self.new.steps.items ≡ self.old.steps.items ++ step ∷ []) }
+        ensures level { OnOk result (self.new.level ≡ self.old.level) }
+    {
+        self.put(step)?;
+        self.push_block(goals, end)?;
+        Ok(())
+    }
+
+    // Both sides of a goal.
+    fn put_both(&mut self, left: &'a [Goal], right: &'a [Goal]) -> Result<(), Memory>
+        ensures work { OnOk result (goal_work self.new.tasks.items ≡ goal_work self.old.tasks.items + 2 + goals_weigh (map goal_weighs left.now) + goals_weigh (map goal_weighs right.now)) }
+        ensures todo { OnOk result (todos self.new.tasks.items ≡ due_goals left.now ∷ due_end on.Turn self.old.level ∷ due_goals right.now ∷ due_end on.EndEither self.old.level ∷ todos self.old.tasks.items) }
+        ensures steps { OnOk result (self.new.steps.items ≡ self.old.steps.items ++ on.Either ∷ []) }
+        ensures level { OnOk result (self.new.level ≡ self.old.level) }
+    {
+        self.put(Step::Either)?;
+        self.push_block(right, Step::EndEither)?;
+        self.push_block(left, Step::Turn)?;
+        Ok(())
+    }
+
+    // The goals of a `sigma`, behind which its variable is not known.
+    fn put_some(&mut self, of: TypeId, goals: &'a [Goal]) -> Result<(), GenRefusal>
+        ensures work { OnOk result (goal_work self.new.tasks.items ≡ goal_work self.old.tasks.items + 1 + goals_weigh (map goal_weighs goals.now)) }
+        ensures todo { OnOk result (todos self.new.tasks.items ≡ due_goals goals.now ∷ due_level self.old.level ∷ todos self.old.tasks.items) }
+        ensures steps { OnOk result (self.new.steps.items ≡ self.old.steps.items ++ on.Some of ∷ []) }
+        ensures level { OnOk result (self.new.level ≡ self.old.level + 1) }
+    {
+        self.put(Step::Some(of))?;
+        self.tasks.push(Task::Level(self.level))?;
+        self.tasks.push(Task::Goals(goals))?;
+        let level = with_more(self.level, 1)?;
+        self.level = level;
+        Ok(())
+    }
+
+    // The goals of a `pi`.
+    fn put_all(&mut self, of: TypeId, goals: &'a [Goal]) -> Result<(), GenRefusal>
+        ensures work { OnOk result (goal_work self.new.tasks.items ≡ goal_work self.old.tasks.items + 1 + goals_weigh (map goal_weighs goals.now)) }
+        ensures todo { OnOk result (todos self.new.tasks.items ≡ due_goals goals.now ∷ due_end on.EndAll self.old.level ∷ todos self.old.tasks.items) }
+        ensures steps { OnOk result (self.new.steps.items ≡ self.old.steps.items ++ on.All of ∷ []) }
+        ensures level { OnOk result (self.new.level ≡ self.old.level + 1) }
+    {
+        self.put_block(Step::All(of), goals, Step::EndAll)?;
+        let level = with_more(self.level, 1)?;
+        self.level = level;
         Ok(())
     }
 }
@@ -211,7 +276,8 @@ impl<'a> Plan<'a> {
                     return Ok(());
                 };
                 walk.tasks.push(Task::Goals(rest))?;
-                self.goal(walk, first)
+                self.goal(walk, first)?;
+                Ok(())
             }
             Task::End(end, level) => {
                 walk.steps.push(end)?;
@@ -231,35 +297,36 @@ impl<'a> Plan<'a> {
         ensures parts { OnOk result (self.new.parts ≡ self.old.parts) }
     {
         match goal {
-            Goal::Atom(term) => walk.steps.push(Step::Atom(*term))?,
-            Goal::Cut => walk.steps.push(Step::Cut)?,
+            Goal::Atom(term) => {
+                walk.put(Step::Atom(*term))?;
+                Ok(())
+            }
+            Goal::Cut => {
+                walk.put(Step::Cut)?;
+                Ok(())
+            }
             Goal::Either(left, right) => {
-                walk.steps.push(Step::Either)?;
-                walk.push_block(right.as_slice(), Step::EndEither)?;
-                walk.push_block(left.as_slice(), Step::Turn)?;
+                walk.put_both(left.as_slice(), right.as_slice())?;
+                Ok(())
             }
             Goal::Some(of, goals) => {
-                walk.steps.push(Step::Some(*of))?;
-                walk.tasks.push(Task::Level(walk.level))?;
-                walk.tasks.push(Task::Goals(goals.as_slice()))?;
-                walk.level = with_more(walk.level, 1)?;
+                walk.put_some(*of, goals.as_slice())?;
+                Ok(())
             }
             Goal::All(of, goals) => {
-                walk.steps.push(Step::All(*of))?;
-                walk.push_block(goals.as_slice(), Step::EndAll)?;
-                walk.level = with_more(walk.level, 1)?;
+                walk.put_all(*of, goals.as_slice())?;
+                Ok(())
             }
             Goal::Assume(clauses, goals) => {
                 let number = self.assume(clauses.as_slice(), walk.level)?;
-                walk.steps.push(Step::Assume(number))?;
-                walk.push_block(goals.as_slice(), Step::EndAssume)?;
+                walk.put_block(Step::Assume(number), goals.as_slice(), Step::EndAssume)?;
+                Ok(())
             }
             Goal::Not(goals) => {
-                walk.steps.push(Step::Not)?;
-                walk.push_block(goals.as_slice(), Step::EndNot)?;
+                walk.put_block(Step::Not, goals.as_slice(), Step::EndNot)?;
+                Ok(())
             }
         }
-        Ok(())
     }
 
     // An assumption of these clauses. Their records start with all variables around it.
@@ -276,15 +343,29 @@ impl<'a> Plan<'a> {
             first: self.due.len(),
             count: clauses.len(),
         })?;
-        for clause in clauses.iter() {
-            self.due.push(Due {
-                origin: Origin::Clause(clause),
-                within: Some(number),
-                base,
-            })?;
-        }
+        push_due(&mut self.due, clauses, number, base)?;
         Ok(number)
     }
+}
+
+// The parts of clauses that an assumption of this number is of.
+fn push_due<'a>(
+    due: &mut Vec<Due<'a>>,
+    clauses: &'a [Clause],
+    number: usize,
+    base: u64,
+) -> Result<(), Memory>
+    ensures { OnOk result ((more : List Due) × (due.new.items ≡ due.old.items ++ more) × AreDue number base clauses.now more) }
+{
+    for at in 0..clauses.len() {
+        let clause = &clauses[at];
+        due.push(Due {
+            origin: Origin::Clause(clause),
+            within: Some(number),
+            base,
+        })?;
+    }
+    Ok(())
 }
 
 // The levels of so many variables.

@@ -1,5 +1,5 @@
 // A record.
-ghost use Rattle.std.specs.Prelude.{◌≡◌, List, Some, None, map, [], ◌+◌, ◌<◌, ◌≤◌, ◌^◌, nat_eq, min, All, sum_by, IfOk, OnOk};
+ghost use Rattle.std.specs.Prelude.{◌≡◌, List, Some, None, map, [], ◌+◌, ◌<◌, ◌≤◌, ◌^◌, nat_eq, min, All, sum_by, if◌then◌else◌, IfOk, OnOk};
 ghost use Rattle.lp_term.specs.Nodes.{Nodes};
 ghost use Rattle.lp_code.specs.Length.{Fits, length_of};
 ghost use Rattle.lp_code.specs.Denote.{from_zero};
@@ -222,6 +222,13 @@ fn key_by(alloc: Global, bank: &Bank, origin: Origin<'_>, program: bool) -> Resu
     Ok(key)
 }
 
+// How many type variables a record starts with.
+fn first_types(program: bool, type_vars: u16) -> u16
+    ensures { result ≡ (if program then 0 else type_vars) }
+{
+    if program { 0 } else { type_vars }
+}
+
 /// The record of a part that starts with these variables; those that it assumes start with the ones that are added to `starts`.
 pub(crate) fn record_of<'x>(
     alloc: Global,
@@ -235,7 +242,7 @@ pub(crate) fn record_of<'x>(
     ensures written { IfOk result (RecordWritten tables.entry (constant_function tables.entry.bank.now tables.entry.constants.now) part.now captured.now starts.old.items starts.new.items) }
 {
     let program = part.within.is_none();
-    let captured_types = if program { 0 } else { tables.type_vars };
+    let captured_types = first_types(program, tables.type_vars);
     let registers = count_of_registers(captured.len() as u64)?;
     let mut emitter = Emitter::new(alloc, captured_types, registers);
     let mut environment = Environment::new(alloc, captured, part.base);
