@@ -34,7 +34,8 @@ registers_push a [] (r ∷ rs) l v x e = absurd x
 registers_push a (k ∷ ks) [] l v x e = absurd x
 registers_push a (k ∷ ks) (r ∷ rs) l v (w, at, is, more) e = (w, at, is, registers_push a ks rs l v more e)
 
-pub register_more : (a : Around) (ls rs after : List ℕ) (l : ℕ) (v : Seen) → AreRegisters a (levels_found a ls) rs → at_level a l ≡ Some v → after ≡ rs ++ v.register ∷ [] → AreRegisters a (levels_found a (ls ++ l ∷ [])) after
+pub register_more : (a : Around) (ls rs after : List ℕ) (l : ℕ) (v : Seen) → AreRegisters a (levels_found a ls) rs → at_level a l ≡ Some v → after ≡
+    rs ++ v.register ∷ [] → AreRegisters a (levels_found a (ls ++ l ∷ [])) after
 register_more a ls rs after l v x e f =
     subst (AreRegisters a (levels_found a (ls ++ l ∷ []))) (sym f) (subst (λ z. AreRegisters a z (rs ++ v.register ∷ [])) (sym (found_last a ls l ∙ ap (λ o. levels_found a ls ++ level_found o l) e))
     (registers_push a (levels_found a ls) rs l v x e))

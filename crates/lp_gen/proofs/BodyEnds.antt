@@ -39,7 +39,8 @@ ran_out h later s low =
 abbrev pub ended_state : State → Goals → State
 ended_state u gs = passed on.Proceed (record u { goals = gs; frames = [] })
 
-pub body_ends : (h : Home) (later : Later) (vars n m k l : ℕ) (s u : State) (is : List Instr) (gs : Goals) (more : List (ℕ × Captured)) → GoalsSaid h later vars n m k l s is gs more u → s.goals ≡ no_goals → s.frames ≡ [] →
+pub body_ends : (h : Home) (later : Later) (vars n m k l : ℕ) (s u : State) (is : List Instr) (gs : Goals) (more : List (ℕ × Captured)) → GoalsSaid h
+    later vars n m k l s is gs more u → s.goals ≡ no_goals → s.frames ≡ [] →
     run h later s (is ++ on.Proceed ∷ []) ≡ Done (ended_state u gs)
 body_ends h later vars n m k l s u is gs more x none closed =
     let deep : depth u.frames ≡ 0 = x.closes.deep ∙ ap depth closed in

@@ -33,7 +33,8 @@ no_marks : (m : Mark) (ms : List Mark) → [] ≡ m ∷ ms → ⊥
 no_marks m ms e = cc
 
 -- no block is open: there is none to end
-none_ended : (P : Around → (records levels : List ℕ) → Clauses → Type 0) (K : ℕ → List Ty → Ty) (e e' : Emitter) (a a' : Around) (bs bs' : List Block) (f : Goals → List OpenBlock → Option Walked) (s : BodyStep) → ((w : Walked) → advance s w ≡ ended f w) →
+none_ended : (P : Around → (records levels : List ℕ) → Clauses → Type 0) (K : ℕ → List Ty → Ty) (e e' : Emitter) (a a' : Around) (bs bs' : List Block)
+    (f : Goals → List OpenBlock → Option Walked) (s : BodyStep) → ((w : Walked) → advance s w ≡ ended f w) →
     ((v : ℕ) (z : Start) (q : ℕ) (gs : Goals) (os : List OpenBlock) (w' : Walked) → Closes P K v z (walked gs os) a e.types e.registers q e.code.items (marks bs) → f gs os ≡ Some w' →
     (m : Mark) × (ms : List Mark) × (marks bs ≡ m ∷ ms)) → bs ≡ [] → StepTaken P K e e' a a' bs bs' s
 none_ended P K e e' a a' bs bs' f s is some_mark none = λ v z w w' q x set short adv.
@@ -53,7 +54,8 @@ module _ (P : Around → (records levels : List ℕ) → Clauses → Type 0) (K 
   turn_mark v z q gs (block (in_assumption cs) hs ∷ os) w' c adv = absurd (no_walked w' adv)
   turn_mark v z q gs (block in_denial hs ∷ os) w' c adv = absurd (no_walked w' adv)
 
-  right_mark : (v : ℕ) (z : Start) (q : ℕ) (gs : Goals) (os : List OpenBlock) (w' : Walked) → Closes P K v z (walked gs os) a e.types e.registers q e.code.items (marks bs) → right_ended gs os ≡ Some w' →
+  right_mark : (v : ℕ) (z : Start) (q : ℕ) (gs : Goals) (os : List OpenBlock) (w' : Walked) → Closes P K v z (walked gs os) a e.types e.registers q
+      e.code.items (marks bs) → right_ended gs os ≡ Some w' →
       (m : Mark) × (ms : List Mark) × (marks bs ≡ m ∷ ms)
   right_mark v z q gs [] w' c adv = absurd (no_walked w' adv)
   right_mark v z q gs (block in_left hs ∷ os) w' c adv = absurd (no_walked w' adv)
@@ -75,7 +77,8 @@ module _ (P : Around → (records levels : List ℕ) → Clauses → Type 0) (K 
   all_mark v z q gs (block (in_assumption cs) hs ∷ os) w' c adv = absurd (no_walked w' adv)
   all_mark v z q gs (block in_denial hs ∷ os) w' c adv = absurd (no_walked w' adv)
 
-  assumption_mark : (v : ℕ) (z : Start) (q : ℕ) (gs : Goals) (os : List OpenBlock) (w' : Walked) → Closes P K v z (walked gs os) a e.types e.registers q e.code.items (marks bs) → assumption_ended gs os ≡ Some w' →
+  assumption_mark : (v : ℕ) (z : Start) (q : ℕ) (gs : Goals) (os : List OpenBlock) (w' : Walked) → Closes P K v z (walked gs os) a e.types e.registers
+      q e.code.items (marks bs) → assumption_ended gs os ≡ Some w' →
       (m : Mark) × (ms : List Mark) × (marks bs ≡ m ∷ ms)
   assumption_mark v z q gs [] w' c adv = absurd (no_walked w' adv)
   assumption_mark v z q gs (block in_left hs ∷ os) w' c adv = absurd (no_walked w' adv)
@@ -86,7 +89,8 @@ module _ (P : Around → (records levels : List ℕ) → Clauses → Type 0) (K 
       let t = assumption_leaves P K v z cs gs hs os a e.types e.registers q e.code.items (marks bs) c in (mark t.around t.at t.from, t.outer, t.marks_are)
   assumption_mark v z q gs (block in_denial hs ∷ os) w' c adv = absurd (no_walked w' adv)
 
-  denial_mark : (v : ℕ) (z : Start) (q : ℕ) (gs : Goals) (os : List OpenBlock) (w' : Walked) → Closes P K v z (walked gs os) a e.types e.registers q e.code.items (marks bs) → denial_ended gs os ≡ Some w' →
+  denial_mark : (v : ℕ) (z : Start) (q : ℕ) (gs : Goals) (os : List OpenBlock) (w' : Walked) → Closes P K v z (walked gs os) a e.types e.registers q
+      e.code.items (marks bs) → denial_ended gs os ≡ Some w' →
       (m : Mark) × (ms : List Mark) × (marks bs ≡ m ∷ ms)
   denial_mark v z q gs [] w' c adv = absurd (no_walked w' adv)
   denial_mark v z q gs (block in_left hs ∷ os) w' c adv = absurd (no_walked w' adv)
@@ -98,10 +102,12 @@ module _ (P : Around → (records levels : List ℕ) → Clauses → Type 0) (K 
       let t = denial_leaves P K v z gs hs os a e.types e.registers q e.code.items (marks bs) c in (mark t.around t.at t.from, t.outer, t.marks_are)
 
 pub no_turn : (e e' : Emitter) (env env' : Environment) (bs bs' : List Block) → bs ≡ [] → Takes e e' env env' bs bs' turn
-no_turn e e' env env' bs bs' none t cl b K = none_ended (AssumedBy t cl) K e e' (around_of b env) (around_of b env') bs bs' turned turn (λ w. refl) (turn_mark (AssumedBy t cl) K e (around_of b env) bs) none
+no_turn e e' env env' bs bs' none t cl b K = none_ended (AssumedBy t cl) K e e' (around_of b env) (around_of b env') bs bs' turned turn (λ w. refl)
+    (turn_mark (AssumedBy t cl) K e (around_of b env) bs) none
 
 pub no_right : (e e' : Emitter) (env env' : Environment) (bs bs' : List Block) → bs ≡ [] → Takes e e' env env' bs bs' end_either
-no_right e e' env env' bs bs' none t cl b K = none_ended (AssumedBy t cl) K e e' (around_of b env) (around_of b env') bs bs' right_ended end_either (λ w. refl) (right_mark (AssumedBy t cl) K e (around_of b env) bs) none
+no_right e e' env env' bs bs' none t cl b K = none_ended (AssumedBy t cl) K e e' (around_of b env) (around_of b env') bs bs' right_ended end_either
+    (λ w. refl) (right_mark (AssumedBy t cl) K e (around_of b env) bs) none
 
 pub all_ends : (e e' : Emitter) (env env' : Environment) (bs bs' : List Block) → BlockEnded e e' env env' bs bs' on.EndAll → Takes e e' env env' bs bs' end_all
 all_ends e e' env env' bs bs' x t cl b K =
@@ -110,7 +116,8 @@ all_ends e e' env env' bs bs' x t cl b K =
 
 pub assumption_ends : (e e' : Emitter) (env env' : Environment) (bs bs' : List Block) → BlockEnded e e' env env' bs bs' on.EndAssume → Takes e e' env env' bs bs' end_assume
 assumption_ends e e' env env' bs bs' x t cl b K =
-    ⊎_elim (λ none. none_ended (AssumedBy t cl) K e e' (around_of b env) (around_of b env') bs bs' assumption_ended end_assume (λ w. refl) (assumption_mark (AssumedBy t cl) K e (around_of b env) bs) none)
+    ⊎_elim (λ none. none_ended (AssumedBy t cl) K e e' (around_of b env) (around_of b env') bs bs' assumption_ended end_assume (λ w. refl)
+        (assumption_mark (AssumedBy t cl) K e (around_of b env) bs) none)
     (λ y. end_assume_step (AssumedBy t cl) K e e' (around_of b env) (around_of b env') bs bs' y.0 (y.1, y.2 b, y.3, y.4, y.5)) x
 
 pub denial_ends : (e e' : Emitter) (env env' : Environment) (bs bs' : List Block) → BlockEnded e e' env env' bs bs' on.EndNot → Takes e e' env env' bs bs' end_deny
@@ -124,24 +131,29 @@ mark_is b env l at from variables ea ef =
     let many : l.variables ≡ length (map (seen b) env.own.items) = variables ∙ sym (map_length (seen b) env.own.items) in
     λ i. record { variables = many i; at = ea i; from = ef i }
 
-pub either_opens : (P : Around → (records levels : List ℕ) → Clauses → Type 0) (b : Nodes) (K : ℕ → List Ty → Ty) (e e' : Emitter) (env : Environment) (bs bs' : List Block) → BlockOpened e e' env bs bs' (on.Either 0) →
+pub either_opens : (P : Around → (records levels : List ℕ) → Clauses → Type 0) (b : Nodes) (K : ℕ → List Ty → Ty) (e e' : Emitter) (env : Environment)
+    (bs bs' : List Block) → BlockOpened e e' env bs bs' (on.Either 0) →
     StepTaken P K e e' (around_of b env) (around_of b env) bs bs' either
 either_opens P b K e e' env bs bs' (l, blocks, variables, at, from, code, types, registers) =
     either_step P K e e' (around_of b env) bs bs' l blocks (mark_is b env l (length e.code.items) (sum_by length_of e.code.items) variables at from) code types registers
 
-pub not_opens : (P : Around → (records levels : List ℕ) → Clauses → Type 0) (b : Nodes) (K : ℕ → List Ty → Ty) (e e' : Emitter) (env : Environment) (bs bs' : List Block) → BlockOpened e e' env bs bs' on.Not →
+pub not_opens : (P : Around → (records levels : List ℕ) → Clauses → Type 0) (b : Nodes) (K : ℕ → List Ty → Ty) (e e' : Emitter) (env : Environment)
+    (bs bs' : List Block) → BlockOpened e e' env bs bs' on.Not →
     StepTaken P K e e' (around_of b env) (around_of b env) bs bs' deny
 not_opens P b K e e' env bs bs' (l, blocks, variables, at, from, code, types, registers) =
     not_step P K e e' (around_of b env) bs bs' l blocks (mark_is b env l (length e.code.items) (sum_by length_of e.code.items) variables at from) code types registers
 
-pub some_opens : (P : Around → (records levels : List ℕ) → Clauses → Type 0) (K : ℕ → List Ty → Ty) (e e' : Emitter) (a a' : Around) (bs : List Block) (T : Ty) → SomeOpened e e' a a' T → StepTaken P K e e' a a' bs bs (some T)
+pub some_opens : (P : Around → (records levels : List ℕ) → Clauses → Type 0) (K : ℕ → List Ty → Ty) (e e' : Emitter) (a a' : Around) (bs : List Block)
+    (T : Ty) → SomeOpened e e' a a' T → StepTaken P K e e' a a' bs bs (some T)
 some_opens P K e e' a a' bs T (mid, k, put, code, types, registers, around) = some_step P K e mid e' a a' bs k T put code types registers around
 
-pub all_opens : (P : Around → (records levels : List ℕ) → Clauses → Type 0) (K : ℕ → List Ty → Ty) (e e' : Emitter) (a a' : Around) (bs bs' : List Block) (T : Ty) → AllOpened e e' a a' bs bs' T → StepTaken P K e e' a a' bs bs' (all T)
+pub all_opens : (P : Around → (records levels : List ℕ) → Clauses → Type 0) (K : ℕ → List Ty → Ty) (e e' : Emitter) (a a' : Around)
+    (bs bs' : List Block) (T : Ty) → AllOpened e e' a a' bs bs' T → StepTaken P K e e' a a' bs bs' (all T)
 all_opens P K e e' a a' bs bs' T (mid, k, l, put, code, types, registers, around, blocks, variables) = all_step P K e mid e' a a' bs bs' l k T put code types registers around blocks variables
 
 -- the step that it is
-pub taken : {S : Type 0} (t : Tables) (cl : Suppositions) (K : ℕ → List Ty → Ty) (e e' : Emitter) (env env' : Environment) (bs bs' : List Block) (xs : List (IndexMap ℕ Variable S)) (s : Step) → ((q : ℕ) → next_of t q s ≡ q) →
+pub taken : {S : Type 0} (t : Tables) (cl : Suppositions) (K : ℕ → List Ty → Ty) (e e' : Emitter) (env env' : Environment) (bs bs' : List Block)
+    (xs : List (IndexMap ℕ Variable S)) (s : Step) → ((q : ℕ) → next_of t q s ≡ q) →
     StepTaken (AssumedBy t cl) K e e' (around_of t.bank.now env) (around_of t.bank.now env') bs bs' (step_of t.bank.now cl s) → IsTaken t cl K e e' env env' bs bs' xs xs s
 taken t cl K e e' env env' bs bs' xs s stays x q f z w w' held next stands set short adv =
     let y = x t.type_vars z w w' q stands set short adv in
@@ -159,16 +171,19 @@ starts_as a ls f g m n e many x = record {
   only = λ l v at. x.only l v (sym (e l) ∙ at);
 }
 
-pub assumption_taken : {S : Type 0} (t : Tables) (cl : Suppositions) (K : ℕ → List Ty → Ty) (e e' : Emitter) (env : Environment) (bs bs' : List Block) (xs xs' : List (IndexMap ℕ Variable S)) (n : ℕ) (i : Instr) →
+pub assumption_taken : {S : Type 0} (t : Tables) (cl : Suppositions) (K : ℕ → List Ty → Ty) (e e' : Emitter) (env : Environment) (bs bs' : List Block)
+    (xs xs' : List (IndexMap ℕ Variable S)) (n : ℕ) (i : Instr) →
     AssumptionMade t env n xs xs' i → BlockOpened e e' env bs bs' i → IsTaken t cl K e e' env env bs bs' xs xs' (step.Assume n)
 assumption_taken t cl K e e' env bs bs' xs xs' n i made (l, blocks, variables, at, from, code, types, registers) q f z w w' kept (x, found, first, few, number) stands set short adv =
     let b = t.bank.now in
     let a = around_of b env in
     let m = made b x found (omega (arith, first, few)) in
     let here = kept (length xs) m.3 (ap (λ l. slice_get l (length xs)) m.8 ∙ at_end xs m.3) in
-    let starts = starts_as a (levels_found a x.captured.keys) (started_at b m.3) (cl.starts n) (index_map_len m.3) (cl.counts n) (λ l. ap (λ k. cl.starts k l) number ∙ here.0 l) (ap cl.counts number ∙ here.1) m.9 in
+    let starts = starts_as a (levels_found a x.captured.keys) (started_at b m.3) (cl.starts n) (index_map_len m.3) (cl.counts n)
+        (λ l. ap (λ k. cl.starts k l) number ∙ here.0 l) (ap cl.counts number ∙ here.1) m.9 in
     let many : l.variables ≡ length (map (seen b) env.own.items) = variables ∙ sym (map_length (seen b) env.own.items) in
-    let y = assume_step (AssumedBy t cl) K t.type_vars e e' a bs bs' l (cl.clauses n) (t.first + x.first) x.count m.0 m.1 m.2 (levels_found a x.captured.keys) (n, x, found, refl, m.5, refl, starts) m.7 m.6 m.5 blocks many
+    let y = assume_step (AssumedBy t cl) K t.type_vars e e' a bs bs' l (cl.clauses n) (t.first + x.first) x.count m.0 m.1 m.2
+        (levels_found a x.captured.keys) (n, x, found, refl, m.5, refl, starts) m.7 m.6 m.5 blocks many
     (code ∙ ap (λ j. e.code.items ++ j ∷ []) m.4) types registers z w w' (subst (λ r. StandsAt (AssumedBy t cl) K t.type_vars z w a e r bs) (sym first) stands) set short adv in
     let last : t.first + x.first + x.count ≡ q + count_named (slice_get t.assumptions.now n) = (let c = ap count_named found in omega (arith, first, c)) in
     (subst (λ r. StandsAt (AssumedBy t cl) K t.type_vars z w' a e' r bs') last y.0, y.1, y.2)
@@ -183,7 +198,8 @@ SoFar t K e e' env env' bs xs xs' steps =
     StandsAt (AssumedBy t cl) K t.type_vars (start_at (around_of t.bank.now env) e q) w (around_of t.bank.now env') e' (next_all t q steps) bs × AreSet (around_of t.bank.now env')
     × (new_level (around_of t.bank.now env') ≤ new_level (around_of t.bank.now env) + length steps)
 
-pub no_steps_yet : {S : Type 0} (t : Tables) (K : ℕ → List Ty → Ty) (e : Emitter) (env : Environment) (bs : List Block) (xs : List (IndexMap ℕ Variable S)) → bs ≡ [] → SoFar t K e e env env bs xs xs []
+pub no_steps_yet : {S : Type 0} (t : Tables) (K : ℕ → List Ty → Ty) (e : Emitter) (env : Environment) (bs : List Block)
+    (xs : List (IndexMap ℕ Variable S)) → bs ≡ [] → SoFar t K e e env env bs xs xs []
 no_steps_yet t K e env bs xs none cl q f w kept next set short adv =
     let a = around_of t.bank.now env in (
       subst (λ y. Stands (AssumedBy t cl) K t.type_vars (start_at a e q) y a e.types e.registers q e.code.items (marks bs)) (some_walked (walked no_goals []) w adv) (record {
@@ -215,10 +231,12 @@ next_last : (t : Tables) (q m : ℕ) (ss : List Step) (s : Step) → AreNext t q
 next_last t q m [] s x = (tt, subst (λ k. IsNext t q k s) (let z : m ≡ m + sum_by (count_starts t) [] = (let y : sum_by (count_starts t) [] ≡ 0 = refl in omega (arith, y)) in z) x.0, refl)
 next_last t q m (u ∷ us) s x =
     let y = next_last t (next_of t q u) (m + count_starts t u) us s x.1 in
-    ((x.0, y.0), subst (λ k. IsNext t (next_all t (next_of t q u) us) k s) (let z : m + count_starts t u + starts_all t us ≡ m + starts_all t (u ∷ us) = (let c = starts_cons t u us in omega (arith, c)) in z) y.1, y.2)
+    ((x.0, y.0), subst (λ k. IsNext t (next_all t (next_of t q u) us) k s) (let z : m + count_starts t u + starts_all t us ≡ m + starts_all t
+        (u ∷ us) = (let c = starts_cons t u us in omega (arith, c)) in z) y.1, y.2)
 
 -- what is kept up to a step
-held_before : {S : Type 0} (t : Tables) (xs xs' : List (IndexMap ℕ Variable S)) (f : ℕ) (s : Step) (cl : Suppositions) → StartsGrow t xs xs' s → HoldStarts t.bank.now xs' f cl → HoldStarts t.bank.now xs f cl
+held_before : {S : Type 0} (t : Tables) (xs xs' : List (IndexMap ℕ Variable S)) (f : ℕ) (s : Step) (cl : Suppositions) → StartsGrow t xs xs' s →
+    HoldStarts t.bank.now xs' f cl → HoldStarts t.bank.now xs f cl
 held_before t xs xs' f s cl (more, e, many, set) x i m at = x i m (ap (λ l. slice_get l i) e ∙ in_front xs more i m at)
   where
     in_front : {X : Type 0} (xs ys : List X) (i : ℕ) (x : X) → slice_get xs i ≡ Some x → slice_get (xs ++ ys) i ≡ Some x
@@ -232,12 +250,14 @@ starts_stay t xs s none = ([], sym (append-nil xs), sym none, All-nil (AreAllSet
 pub starts_none : {S : Type 0} (t : Tables) (xs : List (IndexMap ℕ Variable S)) → AllStartsGrow t xs xs []
 starts_none t xs = ([], sym (append-nil xs), refl, All-nil (AreAllSet t.bank.now))
 
-pub starts_more : {S : Type 0} (t : Tables) (xs ys zs : List (IndexMap ℕ Variable S)) (ss : List Step) (s : Step) → AllStartsGrow t xs ys ss → StartsGrow t ys zs s → AllStartsGrow t xs zs (ss ++ s ∷ [])
+pub starts_more : {S : Type 0} (t : Tables) (xs ys zs : List (IndexMap ℕ Variable S)) (ss : List Step) (s : Step) → AllStartsGrow t xs ys ss →
+    StartsGrow t ys zs s → AllStartsGrow t xs zs (ss ++ s ∷ [])
 starts_more t xs ys zs ss s (more, e, m, set) (last, f, n, set2) =
     let z = sum_by-append (count_starts t) ss (s ∷ []) in
     let y = length-append more last in
     let one : sum_by (count_starts t) (s ∷ []) ≡ 0 + count_starts t s = refl in
-    (more ++ last, f ∙ ap (λ l. l ++ last) e ∙ append_assoc xs more last, let q : length (more ++ last) ≡ starts_all t (ss ++ s ∷ []) = omega (arith, m, n, z, y, one) in q, All-append (AreAllSet t.bank.now) more last set set2)
+    (more ++ last, f ∙ ap (λ l. l ++ last) e ∙ append_assoc xs more last, let q : length (more ++ last) ≡ starts_all t (ss ++ s ∷ []) = omega
+        (arith, m, n, z, y, one) in q, All-append (AreAllSet t.bank.now) more last set set2)
 
 -- where it comes to before the last one
 last_walked : (xs : List BodyStep) (x : BodyStep) (u w : Walked) → advance_all (xs ++ x ∷ []) u ≡ Some w → (y : Walked) × (advance_all xs u ≡ Some y) × (advance x y ≡ Some w)
@@ -255,7 +275,8 @@ last_walked (s ∷ ss) x u w e = go (advance s u) refl (λ y f. last_walked ss x
         let r = rec y (sym (ap (option_and_then (advance_all (ss ++ x ∷ []))) f) ∙ e) in
         (r.0, ap (option_and_then (advance_all ss)) f ∙ r.1, r.2)
 
-pub step_more : {S : Type 0} (t : Tables) (K : ℕ → List Ty → Ty) (e mid e' : Emitter) (env here env' : Environment) (bs bs' : List Block) (xs ys zs : List (IndexMap ℕ Variable S)) (ss : List Step) (s : Step) →
+pub step_more : {S : Type 0} (t : Tables) (K : ℕ → List Ty → Ty) (e mid e' : Emitter) (env here env' : Environment) (bs bs' : List Block)
+    (xs ys zs : List (IndexMap ℕ Variable S)) (ss : List Step) (s : Step) →
     SoFar t K e mid env here bs xs ys ss × AllStartsGrow t xs ys ss → ((cl : Suppositions) → IsTaken t cl K mid e' here env' bs bs' ys zs s) → StartsGrow t ys zs s →
     SoFar t K e e' env env' bs' xs zs (ss ++ s ∷ []) × AllStartsGrow t xs zs (ss ++ s ∷ [])
 step_more {S} t K e mid e' env here env' bs bs' xs ys zs ss s x y grown = (both, starts_more t xs ys zs ss s x.1 grown)
@@ -273,10 +294,12 @@ step_more {S} t K e mid e' env here env' bs bs' xs ys zs ss s x y grown = (both,
         let longer = x.1.2 in
         let size : length ys ≡ length xs + length x.1.0 = ap length x.1.1 ∙ length-append xs x.1.0 in
         let number : f + length xs + starts_all t ss ≡ f + length ys = omega (arith, longer, size) in
-        let after = y cl (next_all t q ss) f (start_at (around_of b env) e q) r.0 w kept (subst (λ k. IsNext t (next_all t q ss) k s) number l.1) before.0 before.1 (omega (arith, low, short, many, one)) r.2 in
+        let after = y cl (next_all t q ss) f (start_at (around_of b env) e q) r.0 w kept (subst (λ k. IsNext t (next_all t q ss) k s) number l.1)
+            before.0 before.1 (omega (arith, low, short, many, one)) r.2 in
         let high = after.2 in
         (subst (λ n. StandsAt (AssumedBy t cl) K t.type_vars (start_at (around_of b env) e q) w (around_of b env') e' n bs') (sym l.2) after.0, after.1, omega (arith, low, high, many, one))
 
-pub steps_end : {S : Type 0} (t : Tables) (K : ℕ → List Ty → Ty) (e e' : Emitter) (env env' : Environment) (bs : List Block) (xs xs' : List (IndexMap ℕ Variable S)) (ss : List Step) → SoFar t K e e' env env' bs xs xs' ss →
+pub steps_end : {S : Type 0} (t : Tables) (K : ℕ → List Ty → Ty) (e e' : Emitter) (env env' : Environment) (bs : List Block)
+    (xs xs' : List (IndexMap ℕ Variable S)) (ss : List Step) → SoFar t K e e' env env' bs xs xs' ss →
     StepsWritten t K e e' env env' xs xs' ss
 steps_end t K e e' env env' bs xs xs' ss x cl q f w kept next set short adv = (marks bs, (x cl q f w kept next set short adv).0)

@@ -25,7 +25,8 @@ use Rattle.lp_gen.proofs.RecordSound.{Whole, whole_sound}
 
 -- an assumed record that was run
 
-pub assumed_clause : (h : Home) (later : Later) (c : Captured) (σ : ℕ → Term) (A : Around) (Ts : List Ty) (head : Term) (gs : Goals) (z : State) → run h later (first_state h.self c) h.self.code.items ≡ Done z →
+pub assumed_clause : (h : Home) (later : Later) (c : Captured) (σ : ℕ → Term) (A : Around) (Ts : List Ty) (head : Term) (gs : Goals) (z : State) → run
+    h later (first_state h.self c) h.self.code.items ≡ Done z →
     h.self.program ≡ false → variable_types z (own_variables h.self) ≡ Ts → bind_term (own_variables h.self) h.number 0 (head_term h z) ≡ with_variables σ A (length Ts) head →
     bare_goals (bind_goals (own_variables h.self) h.number z.goals) ≡ said_goals σ A (length Ts) gs →
     (d : Clause) × (denoted h later c ≡ Some d) × (bare_clauses (clauses d no_clauses) ≡ said_clauses σ A 0 (clauses (clause 0 Ts head gs) no_clauses))
@@ -37,9 +38,12 @@ assumed_clause h later c σ A Ts head gs z ran program types top body = (
 )
 
 -- a record of a program that was run
-pub program_clause : (h : Home) (later : Later) (c : Captured) (σ : ℕ → Term) (A : Around) (v : ℕ) (Ts : List Ty) (head : Term) (gs : Goals) (z : State) → run h later (first_state h.self c) h.self.code.items ≡ Done z →
-    h.self.program ≡ true → length (own_types h.self) ≡ v → variable_types z (own_variables h.self) ≡ Ts → bind_term (own_variables h.self) h.number 0 (head_term h z) ≡ with_variables σ A (length Ts) head →
-    bare_goals (bind_goals (own_variables h.self) h.number z.goals) ≡ said_goals σ A (length Ts) gs → AllLoose NoIndex (length Ts) head → AreThrough (AllLoose NoIndex) (length Ts) gs → written_goals gs ≡ gs →
+pub program_clause : (h : Home) (later : Later) (c : Captured) (σ : ℕ → Term) (A : Around) (v : ℕ) (Ts : List Ty) (head : Term) (gs : Goals)
+    (z : State) → run h later (first_state h.self c) h.self.code.items ≡ Done z →
+    h.self.program ≡ true → length (own_types h.self) ≡ v → variable_types z (own_variables h.self) ≡ Ts → bind_term (own_variables h.self) h.number 0
+        (head_term h z) ≡ with_variables σ A (length Ts) head →
+    bare_goals (bind_goals (own_variables h.self) h.number z.goals) ≡ said_goals σ A (length Ts) gs → AllLoose NoIndex (length Ts) head → AreThrough
+        (AllLoose NoIndex) (length Ts) gs → written_goals gs ≡ gs →
     denoted h later c ≡ Some (clause v Ts head gs)
 program_clause h later c σ A v Ts head gs z ran program own types top body no_index none written =
     ap (clause_ran h) ran
@@ -82,7 +86,8 @@ zero_at (suc n) i l = go (nat_lt i n) refl (λ q. zero_at n i q)
         let many = zero_length n in
         last_at (from_zero n) n i (omega (arith, same, many)) ∙ ap (λ z. Some z) same
 
-pub assumed_types : (h : Home) (c : Captured) (v : ℕ) → v ≤ 65535 → c.types ≡ map var (from_zero v) → h.self.captured_types ≡ v → v ≤ h.self.types → Whole h (first_state h.self c) → TypesStand h v v (first_state h.self c)
+pub assumed_types : (h : Home) (c : Captured) (v : ℕ) → v ≤ 65535 → c.types ≡ map var (from_zero v) → h.self.captured_types ≡ v → v ≤ h.self.types →
+    Whole h (first_state h.self c) → TypesStand h v v (first_state h.self c)
 assumed_types h c v few types captured low whole = record {
   few = few;
   own = omega arith;
@@ -114,5 +119,6 @@ assumed_key h program none =
 
 pub program_key : (h : Home) (o : Option Atom) → h.self.program ≡ true → first_key (λ r. None) h.self.code.items ≡ o → key_is h.self.key o ≡ true → has_right_key h ≡ true
 program_key h o program first is =
-    (λ i. is_none h.self.head || (if program i then key_is h.self.key (first_key (λ r. None) h.self.code.items) else key_is h.self.key None)) ∙ (λ i. is_none h.self.head || (ap (key_is h.self.key) first ∙ is) i)
+    (λ i. is_none h.self.head || (if program i then key_is h.self.key (first_key (λ r. None) h.self.code.items) else key_is h.self.key None)) ∙
+        (λ i. is_none h.self.head || (ap (key_is h.self.key) first ∙ is) i)
     ∙ or_true (is_none h.self.head)

@@ -83,7 +83,8 @@ module _ (h : Home) (vars : ℕ) (Γ : List Ty) (B : List Bool) (a : Around) (Q 
         let at : term_in s.now v.register ≡ whole (σ z.0) v.of = ap (λ o. unwrap_or {T = Built} o (record { term = index 0; type = o_type; loose = [] })) w.1 in
         subst Fine (sym (ap (level_register a) z.2 ∙ ap seen_register z.3)) (
           (omega (arith, low_v, low), whole (σ z.0) v.of, w.1),
-          (λ i. (lt-ltb v.register h.self.captured low_v i && is_all_variable h.records (at i).term) && ends_in_o (at i).type) ∙ (λ i. (true && w.2 i) && ends_in_o (sym of i)) ∙ (λ i. (true && true) && ends.2 i),
+          (λ i. (lt-ltb v.register h.self.captured low_v i && is_all_variable h.records (at i).term) && ends_in_o (at i).type) ∙
+              (λ i. (true && w.2 i) && ends_in_o (sym of i)) ∙ (λ i. (true && true) && ends.2 i),
           refl,
         )
       where
@@ -122,7 +123,8 @@ key_level σ None f = refl
 key_level σ (Some l) f = f l
 
 key_with : (σ : ℕ → Term) (a : Around) (t : Term) → ((l : ℕ) → key_in (σ l) ≡ None) → key_in (with_variables σ a 0 t) ≡ key_in t
-key_with σ a (index i) f = ap (λ c. key_in (Rattle.std.specs.Prelude.if◌then◌else◌ c (index i) (level_term σ (level_in a (i - 0))))) (Rattle.std.proofs.lemmas.Bool.le-ltb i 0 (omega arith)) ∙ key_level σ (level_in a (i - 0)) f
+key_with σ a (index i) f = ap (λ c. key_in (Rattle.std.specs.Prelude.if◌then◌else◌ c (index i) (level_term σ (level_in a (i - 0)))))
+    (Rattle.std.proofs.lemmas.Bool.le-ltb i 0 (omega arith)) ∙ key_level σ (level_in a (i - 0)) f
 key_with σ a (atom s) f = refl
 key_with σ a (abs b) f = refl
 key_with σ a (app t u) f = key_with σ a t f

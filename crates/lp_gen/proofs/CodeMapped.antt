@@ -56,7 +56,8 @@ pub names_both : (xs ys : List Instr) → names_in (xs ++ ys) ≡ names_in xs ++
 names_both [] ys = refl
 names_both (i ∷ is) ys = ap (λ l. names_of i ++ l) (names_both is ys) ∙ sym (Rattle.std.proofs.Common.append_assoc (names_of i) (names_in is) (names_in ys))
 
-module _ (P : Around → (records levels : List ℕ) → Clauses → Type 0) (K : ℕ → List Ty → Ty) (v : ℕ) (long : (a : Around) (ns ls : List ℕ) (cs : Clauses) → P a ns ls cs → length ns ≡ clauses_length cs) where
+module _ (P : Around → (records levels : List ℕ) → Clauses → Type 0) (K : ℕ → List Ty → Ty) (v : ℕ)
+    (long : (a : Around) (ns ls : List ℕ) (cs : Clauses) → P a ns ls cs → length ns ≡ clauses_length cs) where
   mutual
     goal_next : (a : Around) (n n' k k' q q' : ℕ) (g : Goal) (is : List Instr) → GoalCode P K v a n n' k k' q q' g is → q' ≡ q + goal_records g
     goal_next a n n' k k' q q' (Atomic t) is (c, same) = omega (arith, same)
@@ -86,12 +87,14 @@ module _ (P : Around → (records levels : List ℕ) → Clauses → Type 0) (K 
     below_pushed a k T q gs x = subst (λ d. GoalsHave D q d gs) (let z = push_level a (quantified k T) in let y : suc (new_level a) ≡ new_level (pushed a (quantified k T)) = omega (arith, z) in y) x
 
     mutual
-      goal_mapped : (a : Around) (n n' k k' q q' : ℕ) (g : Goal) (is : List Instr) → first ≤ q → GoalHas D q (new_level a) g → GoalCode P K v a n n' k k' q q' g is → GoalCode R K v a n n' k k' q q' g is
+      goal_mapped : (a : Around) (n n' k k' q q' : ℕ) (g : Goal) (is : List Instr) → first ≤ q → GoalHas D q (new_level a) g → GoalCode P K v a n n' k
+          k' q q' g is → GoalCode R K v a n n' k k' q q' g is
       goal_mapped a n n' k k' q q' (Atomic t) is le has x = x
       goal_mapped a n n' k k' q q' Cut is le has x = x
       goal_mapped a n n' k k' q q' (Either gs hs) is le has (m, l, o, nl, mr, ls, rs, x, y, el, er, e) =
           let at : o ≡ q + goals_records gs = goals_next a n m k l q o gs ls x in
-          (m, l, o, nl, mr, ls, rs, goals_mapped a n m k l q o gs ls le has.0 x, goals_mapped a m n' l k' o q' hs rs (omega (arith, le, at)) (subst (λ z. GoalsHave D z (new_level a) hs) (sym at) has.1) y, el, er, e)
+          (m, l, o, nl, mr, ls, rs, goals_mapped a n m k l q o gs ls le has.0 x, goals_mapped a m n' l k' o q' hs rs (omega (arith, le, at))
+              (subst (λ z. GoalsHave D z (new_level a) hs) (sym at) has.1) y, el, er, e)
       goal_mapped a n n' k k' q q' (Exists T gs) is le has (m, r, ts, js, x, short, y, e) =
           (m, r, ts, js, x, short, goals_mapped (pushed a (quantified k T)) m n' (k + 1) k' q q' gs js le (below_pushed a k T q gs has) y, e)
       goal_mapped a n n' k k' q q' (Forall T gs) is le has (m, r, ts, js, x, short, y, e) =
@@ -112,8 +115,10 @@ module _ (P : Around → (records levels : List ℕ) → Clauses → Type 0) (K 
           )
       goal_mapped a n n' k k' q q' (Not w gs) is le has (js, x, e) = (js, goals_mapped a n n' k k' q q' gs js le has x, e)
 
-      pub goals_mapped : (a : Around) (n n' k k' q q' : ℕ) (gs : Goals) (is : List Instr) → first ≤ q → GoalsHave D q (new_level a) gs → GoalsCode P K v a n n' k k' q q' gs is → GoalsCode R K v a n n' k k' q q' gs is
+      pub goals_mapped : (a : Around) (n n' k k' q q' : ℕ) (gs : Goals) (is : List Instr) → first ≤ q → GoalsHave D q (new_level a) gs → GoalsCode P K
+          v a n n' k k' q q' gs is → GoalsCode R K v a n n' k k' q q' gs is
       goals_mapped a n n' k k' q q' no_goals is le has x = x
       goals_mapped a n n' k k' q q' (goals g gs) is le has (m, l, o, js, ks, x, y, last, e) =
           let at : o ≡ q + goal_records g = goal_next a n m k l q o g js x in
-          (m, l, o, js, ks, goal_mapped a n m k l q o g js le has.0 x, goals_mapped a m n' l k' o q' gs ks (omega (arith, le, at)) (subst (λ z. GoalsHave D z (new_level a) gs) (sym at) has.1) y, last, e)
+          (m, l, o, js, ks, goal_mapped a n m k l q o g js le has.0 x, goals_mapped a m n' l k' o q' gs ks (omega (arith, le, at))
+              (subst (λ z. GoalsHave D z (new_level a) gs) (sym at) has.1) y, last, e)

@@ -138,7 +138,8 @@ module _ (h : Home) (vars : ℕ) (R : ℕ → Type 0) where
     goals_joined Q S Γ B d no_goals j x y = tt
     goals_joined Q S Γ B d (goals g gs) j x y = (goal_joined Q S Γ B d g j x.0 y.0, goals_joined Q S Γ B d gs j x.1 y.1)
 
-    pub clauses_joined : (Q S : ℕ → Type 0) (Γ : List Ty) (B : List Bool) (d : ℕ) (cs : Clauses) → Joins Q R S d → ClausesFit h vars Γ B Q cs → AllThrough (AllLoose R) d cs → ClausesFit h vars Γ B S cs
+    pub clauses_joined : (Q S : ℕ → Type 0) (Γ : List Ty) (B : List Bool) (d : ℕ) (cs : Clauses) → Joins Q R S d → ClausesFit h vars Γ B Q cs →
+        AllThrough (AllLoose R) d cs → ClausesFit h vars Γ B S cs
     clauses_joined Q S Γ B d no_clauses j x y = tt
     clauses_joined Q S Γ B d (clauses (clause n vs t gs) cs) j (none, known, head, body, ends, others) y = (
       none,

@@ -29,7 +29,7 @@ use Rattle.lp_gen.specs.inner.Listing.{constant_function}
 use Rattle.lp_gen.specs.inner.Written.{AreAsked}
 use Rattle.lp_gen.specs.inner.Planned.{DeepGoal, DeepGoals, DeepClauses}
 use Rattle.lp_gen.specs.inner.Planning.{ArePlanned}
-use Rattle.lp_gen.specs.inner.Groups.{Kept, AllWritten, IsGroup, AreGroups}
+use Rattle.lp_gen.specs.inner.Groups.{Hasher, Kept, AllWritten, IsGroup, AreGroups}
 use Rattle.lp_gen.proofs.ConstantTypes.{constants_asked}
 use Rattle.lp_gen.proofs.PlanWalked.{get_behind}
 use Rattle.lp_gen.proofs.PlanGoals.{clause_is}
@@ -90,7 +90,8 @@ module _ (κ : ℕ → Option ℕ) (all : List Record) where
       × ((v : ℕ) → member v (named_before (n + length g) all) ≡ true → v < n + length g)
 
   one_group : (n : ℕ) (t : Tables) (of : Bor code.Clause) (us : List Due) (parts : List Part) (g rest : List Record) (starts : List Kept) → ArePlanned (origin.Clause of) us parts t.assumptions.now →
-      AllWritten t [] starts parts g → t.first ≡ n → n + length g ≤ 65535 → t.type_vars ≤ 65535 → t.type_vars ≡ of.now.type_vars → drop n all ≡ g ++ rest → ((v : ℕ) → member v (named_before n all) ≡ true → v < n) →
+      AllWritten t [] starts parts g → t.first ≡ n → n + length g ≤ 65535 → t.type_vars ≤ 65535 → t.type_vars ≡ of.now.type_vars → drop n all ≡ g ++
+          rest → ((v : ℕ) → member v (named_before n all) ≡ true → v < n) →
       AreKnownSchemes (tables_of t.bank.now t.constants.now κ) → IsClause (tables_of t.bank.now t.constants.now κ) (clause_of t.bank.now of.now) → Told t.bank.now t.constants.now n of.now g rest
   one_group n t of us parts g rest starts plan w first few few_types vars from before known is =
       (group_denotes (tables_of t.bank.now t.constants.now κ) all n g rest (clause_of t.bank.now of.now) from some first_one other, last)
@@ -116,34 +117,39 @@ module _ (κ : ℕ → Option ℕ) (all : List Record) where
       asked : (m : ℕ) (r : Record) → AreAsked (home_of (tables_of t.bank.now t.constants.now κ) all m r) (constant_function t.bank.now t.constants.now)
       asked m r = record { asks = constants_asked t.bank.now t.constants.now κ; known = known }
 
-      first_one : (r : Record) → slice_get g 0 ≡ Some r → (r.program ≡ true) × (Rattle.lp_gen.proofs.PartsTell.told_at (tables_of t.bank.now t.constants.now κ) all n r nothing_captured ≡ Some (clause_of t.bank.now of.now))
+      first_one : (r : Record) → slice_get g 0 ≡ Some r → (r.program ≡ true) × (Rattle.lp_gen.proofs.PartsTell.told_at
+          (tables_of t.bank.now t.constants.now κ) all n r nothing_captured ≡ Some (clause_of t.bank.now of.now))
       first_one r at = (
-        first_program Kept t of us parts g starts plan w low deep (tables_of t.bank.now t.constants.now κ) all placed early r at,
+        first_program Hasher t of us parts g starts plan w low deep (tables_of t.bank.now t.constants.now κ) all placed early r at,
         (let z : t.first + 0 ≡ n = omega (arith, first) in ap (λ k. Rattle.lp_gen.proofs.PartsTell.told_at (tables_of t.bank.now t.constants.now κ) all k r nothing_captured) (sym z))
-            ∙ first_told Kept t of us parts g starts plan w low deep (tables_of t.bank.now t.constants.now κ) all placed early (standard_of t.bank.now t.constants.now) asked few_types vars is r at,
+            ∙ first_told Hasher t of us parts g starts plan w low deep (tables_of t.bank.now t.constants.now κ) all placed early (standard_of t.bank.now t.constants.now) asked few_types vars is r at,
       )
 
       other : (i : ℕ) (r : Record) → slice_get g (suc i) ≡ Some r → (r.program ≡ false) × (member (n + suc i) (named_before (n + suc i) all) ≡ true)
-      other i r at = let o = other_assumed Kept t of us parts g starts plan w low deep (tables_of t.bank.now t.constants.now κ) all placed early i r at in (o.0, ap (λ k. member (k + suc i) (named_before (k + suc i) all)) (sym first) ∙ o.1)
+      other i r at = let o = other_assumed Hasher t of us parts g starts plan w low deep (tables_of t.bank.now t.constants.now κ) all placed early i r
+          at in (o.0, ap (λ k. member (k + suc i) (named_before (k + suc i) all)) (sym first) ∙ o.1)
 
       last : (v : ℕ) → member v (named_before (n + length g) all) ≡ true → v < n + length g
       last v e =
           let m = many in
           let s = plan.all in
           let z : n + length g ≡ t.first + length parts = omega (arith, first, m) in
-          let l = (early_end Kept t of us parts g starts plan w low deep (tables_of t.bank.now t.constants.now κ) all placed early).0 v (ap (λ k. member v (named_before k all)) (sym z) ∙ e) in
+          let l = (early_end Hasher t of us parts g starts plan w low deep (tables_of t.bank.now t.constants.now κ) all placed early).0 v (ap (λ k. member v (named_before k all)) (sym z) ∙ e) in
           omega (arith, l, z, s)
 
-  group_of : (b : Nodes) (ds : List Declared) (n : ℕ) (of : Bor code.Clause) (c : code.Clause) (g rest : List Record) → of.now ≡ c → IsGroup b ds n c.type_vars (origin.Clause of) g → n + length g ≤ 65535 → drop n all ≡ g ++ rest →
+  group_of : (b : Nodes) (ds : List Declared) (n : ℕ) (of : Bor code.Clause) (c : code.Clause) (g rest : List Record) → of.now ≡ c → IsGroup b ds n
+      c.type_vars (origin.Clause of) g → n + length g ≤ 65535 → drop n all ≡ g ++ rest →
       ((v : ℕ) → member v (named_before n all) ≡ true → v < n) → AreKnownSchemes (tables_of b ds κ) → IsClause (tables_of b ds κ) (clause_of b c) → Told b ds n c g rest
   group_of b ds n of c g rest is G few from before =
       subst (λ e. AreKnownSchemes (tables_of b ds κ) → IsClause (tables_of b ds κ) (clause_of b e) → Told b ds n e g rest) is
       (subst (λ u. AreKnownSchemes (tables_of u ds κ) → IsClause (tables_of u ds κ) (clause_of u of.now) → Told u ds n of.now g rest) G.bank_is
-      (subst (λ u. AreKnownSchemes (tables_of G.tables.bank.now u κ) → IsClause (tables_of G.tables.bank.now u κ) (clause_of G.tables.bank.now of.now) → Told G.tables.bank.now u n of.now g rest) G.constants_are
+      (subst (λ u. AreKnownSchemes (tables_of G.tables.bank.now u κ) → IsClause (tables_of G.tables.bank.now u κ) (clause_of G.tables.bank.now of.now)
+          → Told G.tables.bank.now u n of.now g rest) G.constants_are
       (one_group n G.tables of G.due G.parts g rest G.starts G.planned G.written (G.first (omega (arith, few))) few (let v = G.vars_are in let f = G.few_vars in omega (arith, v, f))
       (G.vars_are ∙ ap (λ (e : code.Clause). e.type_vars) (sym is)) from before)))
 
-  pub groups_denote : (b : Nodes) (ds : List Declared) (n : ℕ) (cs : List code.Clause) (rs : List Record) → AreGroups b ds n cs rs → drop n all ≡ rs → ((v : ℕ) → member v (named_before n all) ≡ true → v < n) → n + length rs ≤ 65535 →
+  pub groups_denote : (b : Nodes) (ds : List Declared) (n : ℕ) (cs : List code.Clause) (rs : List Record) → AreGroups b ds n cs rs → drop n all ≡ rs →
+      ((v : ℕ) → member v (named_before n all) ≡ true → v < n) → n + length rs ≤ 65535 →
       AreKnownSchemes (tables_of b ds κ) → All (IsClause (tables_of b ds κ)) (map (clause_of b) cs) → denote_from (tables_of b ds κ) all n rs ≡ Some (map (clause_of b) cs)
   groups_denote b ds n [] rs none from before few known each = ap (denote_from (tables_of b ds κ) all n) none
   groups_denote b ds n (c ∷ cs) rs (of, is, g, more, e, G, gs) from before few known each =

@@ -136,7 +136,8 @@ head_argument_then K old mid new a b c F G ts t x p left = record {
         indices = good.indices;
         seen = all_seen a b Γ 0 t w.3 good.seen;
       } in
-      let sides : SameSides (from_of G) parts.1 = (subst (λ H. Asks H (arrow parts.1 R)) (sym left) (subst (Asks (left_by F (length ts))) parts.3 (asks_left h vars Γ a F A ts parts.0 parts.2 asks))).0 in
+      let sides : SameSides (from_of G) parts.1 = (subst (λ H. Asks H (arrow parts.1 R)) (sym left)
+          (subst (Asks (left_by F (length ts))) parts.3 (asks_left h vars Γ a F A ts parts.0 parts.2 asks))).0 in
       let head = built_same h old.registers s w.0 h.self.head predicate w.1.head_types_are w.1.terms_keep in
       let typed : argument_type (head_built h w.0).type (length ts) ≡ Some parts.1 =
       ap (λ (d : Built). argument_type d.type (length ts)) head ∙ argument_last h vars Γ a A ts parts.0 parts.1 R parts.2 parts.3 in
@@ -187,7 +188,8 @@ not_asked : (e : Bool) (n i : ℕ) → (e ≡ true → i < n) → (e && nat_le n
 not_asked true n i f = lt-leb n i (f refl)
 not_asked false n i f = refl
 
-pub head_type_then : (old mid kind new : Emitter) (Ts : List Ty) (T : Ty) (i r : ℕ) → TypesGot old mid Ts → IsTypePut mid kind r T → TypeGot kind new i r → i ≡ length Ts → TypesGot old new (Ts ++ T ∷ [])
+pub head_type_then : (old mid kind new : Emitter) (Ts : List Ty) (T : Ty) (i r : ℕ) → TypesGot old mid Ts → IsTypePut mid kind r T → TypeGot kind new
+    i r → i ≡ length Ts → TypesGot old new (Ts ++ T ∷ [])
 head_type_then old mid kind new Ts T i r x q p at = record {
   more = (x.more ++ q.more) ++ p.more;
   code_is = p.code_is ∙ ap (λ l. l ++ p.more) (q.code_is ∙ ap (λ l. l ++ q.more) x.code_is ∙ append_assoc old.code.items x.more q.more) ∙ append_assoc old.code.items (x.more ++ q.more) p.more;
@@ -203,7 +205,8 @@ head_type_then old mid kind new Ts T i r x q p at = record {
       let room_f : HasRoom s (s.place + sum_by length_of front) = room_front s (front ++ p.more) front p.more refl room in
       let w = x.denotes h later vars s std st te (omega (arith, low, grow, kinds)) before none nothing parts.0 (λ e. let c = count e in omega (arith, c, size))
       (room_front s front x.more q.more refl room_f) in
-      let v = q.denotes h later vars w.0 w.1.types_stand (omega (arith, low, kinds)) parts.1 (room_does h later vars old.types mid.types old.registers mid.registers s w.0 front x.more q.more _ _ _ w.1 refl room_f) in
+      let v = q.denotes h later vars w.0 w.1.types_stand (omega (arith, low, kinds)) parts.1
+          (room_does h later vars old.types mid.types old.registers mid.registers s w.0 front x.more q.more _ _ _ w.1 refl room_f) in
       let first = leads_goes h later vars mid.types kind.types mid.registers w.0 v.0 q.more v.1 w.1.terms_stand in
       let both = then_does h later vars old.types mid.types kind.types old.registers mid.registers mid.registers s w.0 v.0 x.more q.more _ _ _ _ _ _ w.1
       (goes_does h later vars mid.types kind.types mid.registers mid.registers w.0 v.0 q.more first) x.types_grow (let z = x.registers_stay in omega (arith, z)) in

@@ -52,7 +52,8 @@ list_key : (b : Nodes) (f : ℕ) (is : List ℕ) → is ≢ [] → head_key (app
 list_key b f [] some = absurd (some refl)
 list_key b f (i ∷ is) some = applied_key (tree b f) (tree b i) (map (tree b) is)
 
-other_node : (b : Nodes) (m k : ℕ) (n : TermNode) → ((c : ℕ) (ids : Bor (List TypeId)) → n ≡ node.Const c ids → ⊥) → ((z : _) → n ≡ node.Int z → ⊥) → ((s : Bor (List ℕ)) → n ≡ node.Text s → ⊥) → TermBelow m k (term_shape n) →
+other_node : (b : Nodes) (m k : ℕ) (n : TermNode) → ((c : ℕ) (ids : Bor (List TypeId)) → n ≡ node.Const c ids → ⊥) → ((z : _) → n ≡ node.Int z → ⊥) →
+    ((s : Bor (List ℕ)) → n ≡ node.Text s → ⊥) → TermBelow m k (term_shape n) →
     head_key (node_tree b (term_shape n)) ≡ None
 other_node b m k (node.Index i) x y z low = refl
 other_node b m k (node.Const c ids) x y z low = absurd (x c ids refl)
@@ -64,7 +65,8 @@ other_node b m k (node.Param j t) x y z low = refl
 other_node b m k (node.Abs body) x y z low = refl
 other_node b m k (node.App f ids) x y z low = list_key b f.0 (map (λ t. t.0) ids.now) low.2
 
-pub other_key : (b : Nodes) (m k : ℕ) (n : TermNode) (x t : Term) → ((c : ℕ) (ids : Bor (List TypeId)) → n ≡ node.Const c ids → ⊥) → ((z : _) → n ≡ node.Int z → ⊥) → ((s : Bor (List ℕ)) → n ≡ node.Text s → ⊥) →
+pub other_key : (b : Nodes) (m k : ℕ) (n : TermNode) (x t : Term) → ((c : ℕ) (ids : Bor (List TypeId)) → n ≡ node.Const c ids → ⊥) →
+    ((z : _) → n ≡ node.Int z → ⊥) → ((s : Bor (List ℕ)) → n ≡ node.Text s → ⊥) →
     TermBelow m k (term_shape n) → node_tree b (term_shape n) ≡ t → t ≡ head_at x → key_is key.None (key_in x) ≡ true
 other_key b m k n x t no_const no_int no_text low e f = ap (λ u. key_is key.None (head_key u)) (sym (e ∙ f ∙ head_is x)) ∙ ap (key_is key.None) (other_node b m k n no_const no_int no_text low)
 

@@ -87,7 +87,8 @@ within (w ∷ vs) zero v e = omega arith
 within (w ∷ vs) (suc p) v e = let z = within vs p v e in omega (arith, z)
 
 -- and no other one stands there
-pub clause_from : (k : ℕ) (Ts : List Ty) (p : ℕ) (v : Seen) → slice_get (clause_own k Ts) p ≡ Some v → (i : ℕ) × (T : Ty) × (slice_get Ts i ≡ Some T) × (p ≡ length Ts - 1 - i) × (v ≡ unmade (k + i) T) × (i < length Ts)
+pub clause_from : (k : ℕ) (Ts : List Ty) (p : ℕ) (v : Seen) → slice_get (clause_own k Ts) p ≡ Some v → (i : ℕ) × (T : Ty) × (slice_get Ts i ≡ Some T)
+    × (p ≡ length Ts - 1 - i) × (v ≡ unmade (k + i) T) × (i < length Ts)
 clause_from k Ts p v e =
     let low = within (clause_own k Ts) p v e in
     let many = clause_count k Ts in
@@ -102,10 +103,12 @@ clause_from k Ts p v e =
 at_own : (a : Around) (l : ℕ) → a.base ≤ l → at_level a l ≡ slice_get a.own (l - a.base)
 at_own a l le = ap (λ t. if t then slice_get a.own (l - a.base) else a.captured l) (le-leb a.base l le)
 
-pub own_numbers : (a b : Around) (k : ℕ) (Ts : List Ty) (rs : List ℕ) (m : ℕ) → a.own ≡ clause_own k Ts → AreStarted a → MakesOwn a b rs → SameAround a b → ((l : ℕ) (v : Seen) → at_level b l ≡ Some v → v.is_set ≡ true) →
+pub own_numbers : (a b : Around) (k : ℕ) (Ts : List Ty) (rs : List ℕ) (m : ℕ) → a.own ≡ clause_own k Ts → AreStarted a → MakesOwn a b rs → SameAround
+    a b → ((l : ℕ) (v : Seen) → at_level b l ≡ Some v → v.is_set ≡ true) →
     k + length Ts ≤ m → passing m (λ r. member r rs) ≡ numbers k (length Ts)
 own_numbers a b k Ts rs m own start x same set le =
-    passing_range (m - (k + length Ts)) k (length Ts) m (λ r. member r rs) (omega (arith, le)) (λ r l. not_made r (λ i q z. absurd (omega (arith, l, z)))) made (λ r l. not_made r (λ i q z. absurd (omega (arith, l, q, z))))
+    passing_range (m - (k + length Ts)) k (length Ts) m (λ r. member r rs) (omega (arith, le))
+        (λ r l. not_made r (λ i q z. absurd (omega (arith, l, z)))) made (λ r l. not_made r (λ i q z. absurd (omega (arith, l, q, z))))
   where
     -- a register that is made is that of an own variable
     from : (r : ℕ) → member r rs ≡ true → (i : ℕ) × (i < length Ts) × (r ≡ k + i)

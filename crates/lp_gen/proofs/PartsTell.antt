@@ -69,7 +69,8 @@ same_record r s e = cc
 abbrev pub told_at : CodeTables → List Record → ℕ → Record → Captured → Option Clause
 told_at T all m r c = denoted (home_of T all m r) (λ k e. later_from T all (suc m) (drop (suc m) all) k e) c
 
-later_in : (T : CodeTables) (all : List Record) (n i m : ℕ) (rs : List Record) (r : Record) (c : Captured) → m ≡ n + i → rs ≡ drop n all → slice_get rs i ≡ Some r → later_from T all n rs m c ≡ told_at T all m r c
+later_in : (T : CodeTables) (all : List Record) (n i m : ℕ) (rs : List Record) (r : Record) (c : Captured) → m ≡ n + i → rs ≡ drop n all → slice_get
+    rs i ≡ Some r → later_from T all n rs m c ≡ told_at T all m r c
 later_in T all n i m [] r c e from at = absurd (no_record r at)
 later_in T all n zero m (s ∷ ss) r c e from at =
     let same : m ≡ n = omega (arith, e) in
@@ -147,7 +148,8 @@ clause_there (clauses c cs) (suc j) l = clause_there cs j (omega (arith, l))
 
 all_numbers : (P : ℕ → Type 0) (q n : ℕ) → ((j : ℕ) → j < n → P (q + j)) → All P (numbers q n)
 all_numbers P q zero f = All-nil P
-all_numbers P q (suc n) f = All-cons P q (numbers (suc q) n) (let z : q + 0 ≡ q = omega arith in subst P z (f 0 (omega arith))) (all_numbers P (suc q) n (λ j l. let z : q + suc j ≡ suc q + j = omega arith in subst P z (f (suc j) (omega (arith, l)))))
+all_numbers P q (suc n) f = All-cons P q (numbers (suc q) n) (let z : q + 0 ≡ q = omega arith in subst P z (f 0 (omega arith)))
+    (all_numbers P (suc q) n (λ j l. let z : q + suc j ≡ suc q + j = omega arith in subst P z (f (suc j) (omega (arith, l)))))
 
 -- the first clause and the others
 bare_split : (c : Clause) (cs : Clauses) → bare_clauses (clauses c cs) ≡ add_clauses (bare_clauses (clauses c no_clauses)) (bare_clauses cs)
@@ -156,7 +158,8 @@ bare_split (clause n vs h b) cs = refl
 said_split : (σ : ℕ → Term) (A : Around) (c : Clause) (cs : Clauses) → said_clauses σ A 0 (clauses c cs) ≡ add_clauses (said_clauses σ A 0 (clauses c no_clauses)) (said_clauses σ A 0 cs)
 said_split σ A (clause n vs h b) cs = refl
 
-fit_first : (h : Home) (v : ℕ) (Γ : List Ty) (B : List Bool) (Q : ℕ → Type 0) (c : Clause) (cs : Clauses) → ClausesFit h v Γ B Q (clauses c cs) → ClausesFit h v Γ B Q (clauses c no_clauses) × ClausesFit h v Γ B Q cs
+fit_first : (h : Home) (v : ℕ) (Γ : List Ty) (B : List Bool) (Q : ℕ → Type 0) (c : Clause) (cs : Clauses) → ClausesFit h v Γ B Q (clauses c cs) →
+    ClausesFit h v Γ B Q (clauses c no_clauses) × ClausesFit h v Γ B Q cs
 fit_first h v Γ B Q (clause n vs t b) cs (none, known, head, body, ends, others) = ((none, known, head, body, ends, tt), others)
 
 through_first : (P : ℕ → Term → Type 0) (d : ℕ) (c : Clause) (cs : Clauses) → AllThrough P d (clauses c cs) → AllThrough P d (clauses c no_clauses) × AllThrough P d cs
@@ -172,16 +175,20 @@ module _ {S : Type 0} (t : Tables) (cl : Suppositions) (T : CodeTables) (all : L
     (members : (n : ℕ) (x : Assumption) → slice_get t.assumptions.now n ≡ Some x → (j : ℕ) (c : Clause) → clause_at (cl.clauses n) j ≡ Some c → IsMember t parts records n x j c)
     (captured : (n : ℕ) (x : Assumption) → slice_get t.assumptions.now n ≡ Some x → AreCaptured x (cl.clauses n))
     (counts : (n : ℕ) (x : Assumption) → slice_get t.assumptions.now n ≡ Some x → clauses_length (cl.clauses n) ≡ x.count)
-    (names_below : (i : ℕ) (p : Part) (r : Record) (a : slice_get parts i ≡ Some p) (b : slice_get records i ≡ Some r) (m : ℕ) → member m (named_before (t.first + i) all) ≡ true → m < (done i p r a b).next)
+    (names_below : (i : ℕ) (p : Part) (r : Record) (a : slice_get parts i ≡ Some p) (b : slice_get records i ≡ Some r) (m : ℕ) → member m
+        (named_before (t.first + i) all) ≡ true → m < (done i p r a b).next)
     (named : (i : ℕ) (p : Part) (n : ℕ) → slice_get parts i ≡ Some p → p.within ≡ Some n → member (t.first + i) (named_before (t.first + i) all) ≡ true) where
   abbrev Told : ℕ → Type 1
   Told i =
       (p : Part) (r : Record) → slice_get parts i ≡ Some p → slice_get records i ≡ Some r → (n : ℕ) (x : Assumption) → p.within ≡ Some n → slice_get t.assumptions.now n ≡ Some x → p.base ≡ x.base →
       (c : Clause) → flat_of t.bank.now p.origin ≡ Some c → (A : Around) (σ : ℕ → Term) (Γ : List Ty) (B : List Bool) (Q : ℕ → Type 0) (c0 : Captured) → IsShort A → new_level A ≡ x.base →
-      AreStarts A (levels_found A x.captured.keys) (cl.starts n) (cl.counts n) → ClausesFit (home_of T all (t.first + i) r) t.type_vars Γ B Q (clauses c no_clauses) → AreCaptured x (clauses c no_clauses) →
-      ((j : ℕ) → Q j → IsSeen A Γ j) → ((j : ℕ) (U : Ty) → slice_get Γ j ≡ Some U → IsKnownType T.kinds t.type_vars U) → ((l : ℕ) (v : Seen) → at_level A l ≡ Some v → IsKnownType T.kinds t.type_vars v.of) →
+      AreStarts A (levels_found A x.captured.keys) (cl.starts n) (cl.counts n) → ClausesFit (home_of T all (t.first + i) r) t.type_vars Γ B Q
+          (clauses c no_clauses) → AreCaptured x (clauses c no_clauses) →
+      ((j : ℕ) → Q j → IsSeen A Γ j) → ((j : ℕ) (U : Ty) → slice_get Γ j ≡ Some U → IsKnownType T.kinds t.type_vars U) →
+          ((l : ℕ) (v : Seen) → at_level A l ≡ Some v → IsKnownType T.kinds t.type_vars v.of) →
       clauses_depth (clauses c no_clauses) ≤ nesting_limit → AreAlls (home_of T all (t.first + i) r) σ A B →
-      ((j l : ℕ) → level_in A j ≡ Some l → (y : ℕ) × (k : ℕ) × (σ l ≡ variable y k) × (k < t.first + i)) → c0.types ≡ map var (from_zero t.type_vars) → StartWith σ A (levels_found A x.captured.keys) c0.terms →
+      ((j l : ℕ) → level_in A j ≡ Some l → (y : ℕ) × (k : ℕ) × (σ l ≡ variable y k) × (k < t.first + i)) → c0.types ≡ map var (from_zero t.type_vars)
+          → StartWith σ A (levels_found A x.captured.keys) c0.terms →
       (d : Clause) × (told_at T all (t.first + i) r c0 ≡ Some d) × (bare_clauses (clauses d no_clauses) ≡ said_clauses σ A 0 (clauses c no_clauses))
 
   -- what a record may assume
@@ -214,7 +221,8 @@ module _ {S : Type 0} (t : Tables) (cl : Suppositions) (T : CodeTables) (all : L
           let g = through_first (AllLoose (IsCaptured x)) 0 d ds within in
           let e = depth_first d ds nesting_limit deep in
           let number = t.first + (x.first + j) in
-          let one = told (x.first + j) (omega (arith, low)) m.part m.record_is m.part_at m.record_at n x m.within y.found m.base d m.flat a σ Γ B Q c short y.base (subst (λ l. AreStarts a l (cl.starts n) (cl.counts n)) y.levels y.starts)
+          let one = told (x.first + j) (omega (arith, low)) m.part m.record_is m.part_at m.record_at n x m.within y.found m.base d m.flat a σ Γ B Q c
+              short y.base (subst (λ l. AreStarts a l (cl.starts n) (cl.counts n)) y.levels y.starts)
           (clauses_home T all (t.first + i) (t.first + (x.first + j)) r m.record_is t.type_vars Γ B Q (clauses d no_clauses) f.0) g.0 seen known levels e.0 alls
           (λ k l q. let w = outer k l q in let less = w.3 in (w.0, w.1, w.2, omega (arith, less, low))) types (subst (λ l. StartWith σ a l c.terms) y.levels start) in
           let rest = each n x y (suc j) ds (λ k b q. let z : j + suc k ≡ suc j + k = omega arith in ap (clause_at (cl.clauses n)) (sym z) ∙ at (suc k) b q) f.1 g.1 e.1 in
@@ -268,7 +276,8 @@ module _ {S : Type 0} (t : Tables) (cl : Suppositions) (T : CodeTables) (all : L
 
   -- an assumed record denotes its clause, if those behind it do
   told_one : (i : ℕ) → ((j : ℕ) → i < j → Told j) → Told i
-  told_one i told p r at at_r n x within found base c flat A σ Γ B Q c0 short level starts fit within_x seen known levels depth alls earlier types start = (result.0, result.1, result.2 ∙ ap (λ e. said_clauses σ A 0 (clauses e no_clauses)) (none_own ∙ sym c_is))
+  told_one i told p r at at_r n x within found base c flat A σ Γ B Q c0 short level starts fit within_x seen known levels depth alls earlier types
+      start = (result.0, result.1, result.2 ∙ ap (λ e. said_clauses σ A 0 (clauses e no_clauses)) (none_own ∙ sym c_is))
     where
       d : PartDone S t cl p (t.first + i) r
       d = done i p r at at_r
@@ -351,9 +360,11 @@ module _ {S : Type 0} (t : Tables) (cl : Suppositions) (T : CodeTables) (all : L
       self : slice_get h.records h.number ≡ Some h.self
       self = placed i r at_r
 
-      result : (e : Clause) × (told_at T all (t.first + i) r c0 ≡ Some e) × (bare_clauses (clauses e no_clauses) ≡ said_clauses σ A 0 (clauses (clause 0 Ts (tree t.bank.now d.of.now.head.0) gs) no_clauses))
+      result : (e : Clause) × (told_at T all (t.first + i) r c0 ≡ Some e) × (bare_clauses (clauses e no_clauses) ≡ said_clauses σ A 0
+          (clauses (clause 0 Ts (tree t.bank.now d.of.now.head.0) gs) no_clauses))
       result =
-          record_of.assumed_denoted t p d.captured d.starts d.of h d.written d.origin_is σ Γ B A Q' x.captured.keys out part_base given low cl d.next d.first gs d.kept d.steps fits.4 d.are_next few (suc (t.first + i)) le has counts std
+          record_of.assumed_denoted t p d.captured d.starts d.of h d.written d.origin_is σ Γ B A Q' x.captured.keys out part_base given low cl d.next
+              d.first gs d.kept d.steps fits.4 d.are_next few (suc (t.first + i)) le has counts std
           (asked (t.first + i) r) fits.1 below fits.2 fits.3 nest c0.terms start program (named i p n at within) few_types later c0 types refl self (are_later i r) (tells i r told)
 
   -- all of them
@@ -369,10 +380,12 @@ module _ {S : Type 0} (t : Tables) (cl : Suppositions) (T : CodeTables) (all : L
   all_told zero i le = λ p r at at_r. let z = within_records i r at_r in absurd (omega (arith, z, le))
   all_told (suc k) i le = told_one i (λ j lt. all_told k j (omega (arith, le, lt)))
 
-  pub tell_all : (i : ℕ) (r : Record) → TellClauses (home_of T all (t.first + i) r) (λ k e. later_from T all (suc (t.first + i)) (drop (suc (t.first + i)) all) k e) t.type_vars (AreNamed t cl (suc (t.first + i)))
+  pub tell_all : (i : ℕ) (r : Record) → TellClauses (home_of T all (t.first + i) r)
+      (λ k e. later_from T all (suc (t.first + i)) (drop (suc (t.first + i)) all) k e) t.type_vars (AreNamed t cl (suc (t.first + i)))
   tell_all i r = tells i r (λ j lt. all_told (length records) j (omega arith))
 
-  pub name_later : (i : ℕ) (r : Record) (a : Around) (ns ls : List ℕ) (cs : Clauses) → AreNamed t cl (suc (t.first + i)) a ns ls cs → AreLater (home_of T all (t.first + i) r) t.type_vars (length ls) ns
+  pub name_later : (i : ℕ) (r : Record) (a : Around) (ns ls : List ℕ) (cs : Clauses) → AreNamed t cl (suc (t.first + i)) a ns ls cs → AreLater
+      (home_of T all (t.first + i) r) t.type_vars (length ls) ns
   name_later = are_later
 
   -- what is written in goals is what stands there
@@ -398,7 +411,8 @@ module _ {S : Type 0} (t : Tables) (cl : Suppositions) (T : CodeTables) (all : L
     goals_written i q d no_goals le x y f = refl
     goals_written i q d (goals g gs) le x y f = λ k. goals (goal_written i q d g le x.0 y.0 f k) (goals_written i (q + goal_records g) d gs (omega (arith, le)) x.1 y.1 f k)
 
-  clauses_written : (n : ℕ) (x : Assumption) → slice_get t.assumptions.now n ≡ Some x → ((j : ℕ) (c : Clause) → clause_at (cl.clauses n) j ≡ Some c → written_clauses (clauses c no_clauses) ≡ clauses c no_clauses) →
+  clauses_written : (n : ℕ) (x : Assumption) → slice_get t.assumptions.now n ≡ Some x →
+      ((j : ℕ) (c : Clause) → clause_at (cl.clauses n) j ≡ Some c → written_clauses (clauses c no_clauses) ≡ clauses c no_clauses) →
       written_clauses (cl.clauses n) ≡ cl.clauses n
   clauses_written n x found f = go (cl.clauses n) f
     where
@@ -419,16 +433,19 @@ module _ {S : Type 0} (t : Tables) (cl : Suppositions) (T : CodeTables) (all : L
       let later = d.later in
       let is = same_clause (clause d.of.now.type_vars (types_at t.bank.now d.of.now.vars.items) (tree t.bank.now d.of.now.head.0) (goals_of t.bank.now d.of.now.body.items)) c
       (sym (ap (flat_of t.bank.now) d.origin_is) ∙ m.flat) in
-      let body = goals_written (x.first + j) d.next (m.part.base + length (types_at t.bank.now d.of.now.vars.items)) (goals_of t.bank.now d.of.now.body.items) (omega (arith, later)) d.well d.has_clauses
+      let body = goals_written (x.first + j) d.next (m.part.base + length (types_at t.bank.now d.of.now.vars.items))
+          (goals_of t.bank.now d.of.now.body.items) (omega (arith, later)) d.well d.has_clauses
       (all_written k (x.first + j) (omega (arith, le, low))) in
-      subst (λ e. written_clauses (clauses e no_clauses) ≡ clauses e no_clauses) (sym is) (λ k. clauses (clause d.of.now.type_vars (types_at t.bank.now d.of.now.vars.items) (tree t.bank.now d.of.now.head.0) (body k)) no_clauses))
+      subst (λ e. written_clauses (clauses e no_clauses) ≡ clauses e no_clauses) (sym is)
+          (λ k. clauses (clause d.of.now.type_vars (types_at t.bank.now d.of.now.vars.items) (tree t.bank.now d.of.now.head.0) (body k)) no_clauses))
 
   pub body_written : (i : ℕ) (p : Part) (r : Record) (at : slice_get parts i ≡ Some p) (at_r : slice_get records i ≡ Some r) →
       written_goals (goals_of t.bank.now (done i p r at at_r).of.now.body.items) ≡ goals_of t.bank.now (done i p r at at_r).of.now.body.items
   body_written i p r at at_r =
       let d = done i p r at at_r in
       let later = d.later in
-      goals_written i d.next (p.base + length (types_at t.bank.now d.of.now.vars.items)) (goals_of t.bank.now d.of.now.body.items) (omega (arith, later)) d.well d.has_clauses (all_written (length records) i (omega arith))
+      goals_written i d.next (p.base + length (types_at t.bank.now d.of.now.vars.items)) (goals_of t.bank.now d.of.now.body.items)
+          (omega (arith, later)) d.well d.has_clauses (all_written (length records) i (omega arith))
 
   -- the first record is that of the clause itself
 
@@ -473,11 +490,14 @@ module _ {S : Type 0} (t : Tables) (cl : Suppositions) (T : CodeTables) (all : L
       no_type U e = cc
 
   pub program_told : (p : Part) (r : Record) (at : slice_get parts 0 ≡ Some p) (at_r : slice_get records 0 ≡ Some r) → p.within ≡ None → p.base ≡ 0 → (done 0 p r at at_r).captured.entries ≡ [] →
-      IsClause T (clause t.type_vars (types_at t.bank.now (done 0 p r at at_r).of.now.vars.items) (tree t.bank.now (done 0 p r at at_r).of.now.head.0) (goals_of t.bank.now (done 0 p r at at_r).of.now.body.items)) →
+      IsClause T (clause t.type_vars (types_at t.bank.now (done 0 p r at at_r).of.now.vars.items) (tree t.bank.now (done 0 p r at at_r).of.now.head.0)
+          (goals_of t.bank.now (done 0 p r at at_r).of.now.body.items)) →
       told_at T all (t.first + 0) r nothing_captured
-      ≡ Some (clause t.type_vars (types_at t.bank.now (done 0 p r at at_r).of.now.vars.items) (tree t.bank.now (done 0 p r at at_r).of.now.head.0) (goals_of t.bank.now (done 0 p r at at_r).of.now.body.items))
+      ≡ Some (clause t.type_vars (types_at t.bank.now (done 0 p r at at_r).of.now.vars.items) (tree t.bank.now (done 0 p r at at_r).of.now.head.0)
+          (goals_of t.bank.now (done 0 p r at at_r).of.now.body.items))
   program_told p r at at_r within base none is_clause =
-      record_of.program_denoted t p d.captured d.starts d.of h d.written d.origin_is no_terms [] [] nobody NoIndex [] (outside h) base given low cl d.next d.first gs d.kept d.steps fits.4 d.are_next few (suc (t.first + 0)) le has counts std
+      record_of.program_denoted t p d.captured d.starts d.of h d.written d.origin_is no_terms [] [] nobody NoIndex [] (outside h) base given low cl
+          d.next d.first gs d.kept d.steps fits.4 d.are_next few (suc (t.first + 0)) le has counts std
       (asked (t.first + 0) r) fits.1 below fits.2 fits.3 is_clause.1 [] tt (ap is_none within) few_types (ap length none) refl no_index no_indices (body_written 0 p r at at_r)
       (λ k e. later_from T all (suc (t.first + 0)) (drop (suc (t.first + 0)) all) k e) (placed 0 r at_r) (are_later 0 r) (tell_all 0 r)
     where
@@ -524,4 +544,5 @@ module _ {S : Type 0} (t : Tables) (cl : Suppositions) (T : CodeTables) (all : L
       no_index = loose_at NoIndex (more_of Ts NoIndex) (length Ts) 0 (length Ts) head (omega arith) behind fits.2.loose
 
       no_indices : AreThrough (AllLoose NoIndex) (length Ts) gs
-      no_indices = goals_loose h.tables.kinds t.type_vars NoIndex (length Ts) gs (goals_through h t.type_vars NoIndex (more_of Ts NoIndex) (Ts ++ []) (map (λ T. false) Ts ++ []) (length Ts) gs behind fits.3)
+      no_indices = goals_loose h.tables.kinds t.type_vars NoIndex (length Ts) gs (goals_through h t.type_vars NoIndex (more_of Ts NoIndex) (Ts ++ [])
+          (map (λ T. false) Ts ++ []) (length Ts) gs behind fits.3)

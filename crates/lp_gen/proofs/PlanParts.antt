@@ -63,7 +63,8 @@ all_on : (us us' : List Due) (xs xs' : List Assumption) (i n m q r : ℕ) (ps : 
 all_on us us' xs xs' i n m q r [] u x w = w
 all_on us us' xs xs' i n m q r (p ∷ ps) u x (k, s, w, ws) = (k, s, part_on us us' xs xs' i n k q s p u x w, all_on us us' xs xs' (suc i) k m s r ps u x ws)
 
-all_then : (us : List Due) (xs : List Assumption) (i n m k q r s : ℕ) (ps : List Part) (p : Part) → AllPlanned us xs i n m q r ps → PartPlanned us xs (i + length ps) m k r s p → AllPlanned us xs i n k q s (ps ++ p ∷ [])
+all_then : (us : List Due) (xs : List Assumption) (i n m k q r s : ℕ) (ps : List Part) (p : Part) → AllPlanned us xs i n m q r ps → PartPlanned us xs
+    (i + length ps) m k r s p → AllPlanned us xs i n k q s (ps ++ p ∷ [])
 all_then us xs i n m k q r s [] p w x =
     let z : i + 0 ≡ i = omega arith in
     (k, s, subst (λ j. PartPlanned us xs j n k q s p) z (subst (λ j. PartPlanned us xs (i + 0) j k q s p) (sym w.0) (subst (λ j. PartPlanned us xs (i + 0) m k j s p) (sym w.1) x)), (refl, refl))
@@ -71,7 +72,8 @@ all_then us xs i n m k q r s (y ∷ ys) p (j, l, w, ws) x =
     (j, l, w, all_then us xs (suc i) j m k l r s ys p ws (let z : i + suc (length ys) ≡ suc i + length ys = omega arith in subst (λ a. PartPlanned us xs a m k r s p) z x))
 
 -- a part with the steps that were found
-pub plan_grows : (o : Origin) (us us' : List Due) (ps : List Part) (xs xs' : List Assumption) (u : Due) (steps : Vec Step Global) → PlanStands o us ps xs → slice_get us (length ps) ≡ Some u → length ps < length us →
+pub plan_grows : (o : Origin) (us us' : List Due) (ps : List Part) (xs xs' : List Assumption) (u : Due) (steps : Vec Step Global) → PlanStands o us ps
+    xs → slice_get us (length ps) ≡ Some u → length ps < length us →
     PartWalked u us us' xs xs' steps.items → PlanStands o us' (ps ++ record { origin = u.origin; within = u.within; base = u.base; steps = steps } ∷ []) xs'
 plan_grows o us us' ps xs xs' u steps w at lt (few, short, d, walked) = record {
   begin = let f = w.begin in (f.0, extends_at us us' 0 f.0 walked.due_grow f.1, f.2, f.3, f.4);

@@ -39,7 +39,9 @@ in_numbers q (suc n) i le l = go (nat_eq i q) refl (λ lt. in_numbers (suc q) n 
 
 pub not_in_numbers : (q n i : ℕ) → (i < q → ⊥) → q + n ≤ i → member i (numbers q n) ≡ false
 not_in_numbers q zero i low le = refl
-not_in_numbers q (suc n) i low le = Rattle.lp_gen.proofs.Denoting.or_none (nat_eq i q) (member i (numbers (suc q) n)) (Rattle.std.proofs.lemmas.Bool.ne_eqb i q (λ z. absurd (omega (arith, z, le)))) (not_in_numbers (suc q) n i (λ z. absurd (omega (arith, z, le))) (omega (arith, le)))
+not_in_numbers q (suc n) i low le = Rattle.lp_gen.proofs.Denoting.or_none (nat_eq i q) (member i (numbers (suc q) n))
+    (Rattle.std.proofs.lemmas.Bool.ne_eqb i q (λ z. absurd (omega (arith, z, le))))
+    (not_in_numbers (suc q) n i (λ z. absurd (omega (arith, z, le))) (omega (arith, le)))
 
 module _ (h : Home) (v : ℕ) (rest : List Instr) (code : h.self.code.items ≡ news 0 v ++ rest) (none : tynews rest ≡ []) (low : v ≤ h.self.types) where
   own_is : (i : ℕ) → is_own_type h.self i ≡ member i (numbers 0 v)

@@ -111,7 +111,8 @@ around_pushed h K vars n m k q σ Γ B a Q s t T c x short known_T st te low bod
     set = λ l w e is_set. ⊎_elim
         (λ q. ap (λ (y : Seen). held t.now.terms y.register) q.1 ∙ made ∙ ap (λ y. Some (whole y T)) (sym (level_same σ (new_level a) l (variable k h.number) q.0))
         ∙ ap (λ (y : Seen). Some (whole (with_level σ (new_level a) (variable k h.number) l) y.of)) (sym q.1))
-        (λ q. keep w.register (whole (σ l) w.of) (x.standing.low l w q.1) (x.standing.set l w q.1 is_set) ∙ ap (λ y. Some (whole y w.of)) (sym (level_other σ (new_level a) l (variable k h.number) q.0)))
+        (λ q. keep w.register (whole (σ l) w.of) (x.standing.low l w q.1) (x.standing.set l w q.1 is_set) ∙ ap (λ y. Some (whole y w.of))
+            (sym (level_other σ (new_level a) l (variable k h.number) q.0)))
         (at_pushed a v w l e);
     unset = λ l w e none. absurd (true≢false (sym (all_set l w e) ∙ none));
     unmade = λ l w e none. absurd (true≢false (sym (all_set l w e) ∙ none));
@@ -168,7 +169,8 @@ around_pushed h K vars n m k q σ Γ B a Q s t T c x short known_T st te low bod
         ap (bind_term (r ∷ []) h.number d) here ∙ x.free i l r d (omega (arith, le)) old ∙ sym here
 
 -- the same behind more code
-pub around_kept : (h : Home) (K : ℕ → List Ty → Ty) (vars n m k l q r : ℕ) (σ : ℕ → Term) (Γ : List Ty) (B : List Bool) (a : Around) (Q : ℕ → Type 0) (s t : State) → IsAround h K vars n k q σ Γ B a Q s → TypesStand h vars m t →
+pub around_kept : (h : Home) (K : ℕ → List Ty → Ty) (vars n m k l q r : ℕ) (σ : ℕ → Term) (Γ : List Ty) (B : List Bool) (a : Around) (Q : ℕ → Type 0)
+    (s t : State) → IsAround h K vars n k q σ Γ B a Q s → TypesStand h vars m t →
     TermsStand h l t → l ≤ h.self.registers → t.in_body ≡ true → k ≤ l → ((r : ℕ) (b : Built) → r < k → held s.now.terms r ≡ Some b → held t.now.terms r ≡ Some b) → AreBelow r h t.assumed →
     IsAround h K vars m l r σ Γ B a Q t
 around_kept h K vars n m k l q r σ Γ B a Q s t x st te low body le keep below = record {

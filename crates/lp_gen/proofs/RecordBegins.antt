@@ -175,7 +175,8 @@ not_zero (suc k) r le = push (from_zero k) (not_zero k r (omega (arith, le)))
         right false d e = e
 
 -- what a record starts with, in its registers
-start_at : (σ : ℕ → Term) (A : Around) (ls : List ℕ) (bs : List Built) (i l : ℕ) (v : Seen) → StartWith σ A ls bs → slice_get ls i ≡ Some l → at_level A l ≡ Some v → slice_get bs i ≡ Some (whole (σ l) v.of)
+start_at : (σ : ℕ → Term) (A : Around) (ls : List ℕ) (bs : List Built) (i l : ℕ) (v : Seen) → StartWith σ A ls bs → slice_get ls i ≡ Some l → at_level
+    A l ≡ Some v → slice_get bs i ≡ Some (whole (σ l) v.of)
 start_at σ A [] [] i l v x e f = absurd (no_level l e)
 start_at σ A [] (b ∷ bs) i l v x e f = absurd x
 start_at σ A (k ∷ ks) [] i l v x e f = absurd x
@@ -237,7 +238,8 @@ pub record Inside (a A : Around) (k : ℕ) (Ts : List Ty) (keys : List ℕ) : Ty
   pub starts : AreStarts A (levels_found A keys) a.captured k
   pub short : IsShort a
 
-module _ (h : Home) (K : ℕ → List Ty → Ty) (vars : ℕ) (σ : ℕ → Term) (Γ : List Ty) (B : List Bool) (A a : Around) (Q : ℕ → Type 0) (keys : List ℕ) (k : ℕ) (Ts : List Ty) (out : Outside h vars σ Γ B A Q keys) (ins : Inside a A k Ts keys) where
+module _ (h : Home) (K : ℕ → List Ty → Ty) (vars : ℕ) (σ : ℕ → Term) (Γ : List Ty) (B : List Bool) (A a : Around) (Q : ℕ → Type 0) (keys : List ℕ)
+    (k : ℕ) (Ts : List Ty) (out : Outside h vars σ Γ B A Q keys) (ins : Inside a A k Ts keys) where
   pub level_count : new_level a ≡ new_level A + length Ts
   level_count = let b = ins.base in let o = ap length ins.own ∙ clause_count k Ts in omega (arith, b, o)
 
@@ -248,7 +250,8 @@ module _ (h : Home) (K : ℕ → List Ty → Ty) (vars : ℕ) (σ : ℕ → Term
   at_old l low = ap (λ t. if t then slice_get a.own (l - a.base) else a.captured l) (lt-leb a.base l low)
 
   -- a variable is one of its own, or one that it starts with
-  by_level : (X : Type 0) (l : ℕ) (v : Seen) → at_level a l ≡ Some v → ((i : ℕ) (T : Ty) → a.base ≤ l → i < length Ts → slice_get Ts i ≡ Some T → l ≡ a.base + (length Ts - 1 - i) → v ≡ unmade (k + i) T → X) →
+  by_level : (X : Type 0) (l : ℕ) (v : Seen) → at_level a l ≡ Some v → ((i : ℕ) (T : Ty) → a.base ≤ l → i < length Ts → slice_get Ts i ≡ Some T → l ≡
+      a.base + (length Ts - 1 - i) → v ≡ unmade (k + i) T → X) →
       ((i : ℕ) (w : Seen) → l < a.base → slice_get (levels_found A keys) i ≡ Some l → at_level A l ≡ Some w → v ≡ record { register = i; of = w.of; is_set = true } → X) → X
   by_level X l v e f g = go (nat_le a.base l) refl
     where
@@ -315,7 +318,8 @@ module _ (h : Home) (K : ℕ → List Ty → Ty) (vars : ℕ) (σ : ℕ → Term
           let b = ins.base in
           let is = from.1 in
           let high = from.0 in
-          g le (let z : l < a.base = omega (arith, le, c, b, is, high) in z) (level_is A (i - length Ts) out.short (omega (arith, le, c, high)) ∙ (let z : new_level A - (i - length Ts) - 1 ≡ l = omega (arith, le, c, b, is, high) in ap (λ j. Some j) z))
+          g le (let z : l < a.base = omega (arith, le, c, b, is, high) in z) (level_is A (i - length Ts) out.short (omega (arith, le, c, high)) ∙
+              (let z : new_level A - (i - length Ts) - 1 ≡ l = omega (arith, le, c, b, is, high) in ap (λ j. Some j) z))
 
   pub own_level : (i : ℕ) (T : Ty) → slice_get Ts i ≡ Some T → i < length Ts → at_level a (a.base + (length Ts - 1 - i)) ≡ Some (unmade (k + i) T)
   own_level i T e low =
@@ -406,7 +410,8 @@ module _ (h : Home) (K : ℕ → List Ty → Ty) (vars : ℕ) (σ : ℕ → Term
   old_register l v low e = by_level (v.register < k) l v e (λ i T le ilow at is same. absurd (omega (arith, le, low)))
       (λ i w lt at f same. let z = ap (λ (y : Seen). y.register) same in let q = place_low (levels_found A keys) i l at in let c = ins.starts.count_is in omega (arith, z, q, c))
 
-  pub stands_first : (bs : List Built) (n : ℕ) → StartWith σ A (levels_found A keys) bs → All (IsKnownType h.tables.kinds vars) Ts → k + length Ts ≤ n → Standing h vars (k + length Ts) false σ' a (started bs n)
+  pub stands_first : (bs : List Built) (n : ℕ) → StartWith σ A (levels_found A keys) bs → All (IsKnownType h.tables.kinds vars) Ts → k + length Ts ≤ n
+      → Standing h vars (k + length Ts) false σ' a (started bs n)
   stands_first bs n with all le = record {
     low = λ l v e. by_level (v.register < k + length Ts) l v e (λ i T le ilow at is same. let z = ap (λ (y : Seen). y.register) same in omega (arith, z, ilow))
         (λ i w lt at f same. let z = ap (λ (y : Seen). y.register) same in let q = place_low (levels_found A keys) i l at in let c = ins.starts.count_is in omega (arith, z, q, c));

@@ -33,7 +33,8 @@ under_count : (vs : List Ty) (d : ℕ) → under_all suc vs d ≡ length vs + d
 under_count [] d = let z : d ≡ 0 + d = omega arith in z
 under_count (T ∷ Ts) d = let z = under_count Ts d in omega (arith, z)
 
-module _ (h : Home) (K : ℕ → List Ty → Ty) (vars : ℕ) (σ : ℕ → Term) (Γ : List Ty) (B : List Bool) (A a : Around) (Q : ℕ → Type 0) (keys : List ℕ) (k : ℕ) (Ts : List Ty) (out : Outside h vars σ Γ B A Q keys) (ins : Inside a A k Ts keys) where
+module _ (h : Home) (K : ℕ → List Ty → Ty) (vars : ℕ) (σ : ℕ → Term) (Γ : List Ty) (B : List Bool) (A a : Around) (Q : ℕ → Type 0) (keys : List ℕ)
+    (k : ℕ) (Ts : List Ty) (out : Outside h vars σ Γ B A Q keys) (ins : Inside a A k Ts keys) where
   abbrev pub τ : ℕ → Term
   τ = own_terms h.number a σ
 
@@ -41,7 +42,8 @@ module _ (h : Home) (K : ℕ → List Ty → Ty) (vars : ℕ) (σ : ℕ → Term
   pub own_binds : Binds h.number (numbers k (length Ts)) (length Ts) τ a σ A
   own_binds = record {
     inner = λ d j low. inner_at d j low (type_at Ts j low);
-    outer = λ d j le w. by_index h K vars σ Γ B A a Q keys k Ts out ins (bind_term (numbers k (length Ts)) h.number d (level_term τ (level_in a j)) ≡ level_term σ (level_in A (j - length Ts))) j w.0 w.1
+    outer = λ d j le w. by_index h K vars σ Γ B A a Q keys k Ts out ins (bind_term (numbers k (length Ts)) h.number d (level_term τ (level_in a j)) ≡
+        level_term σ (level_in A (j - length Ts))) j w.0 w.1
         (λ low is. absurd (omega (arith, low, le))) (λ high low at.
         let v = old_variable h K vars σ Γ B A a Q keys k Ts out ins w.0 low in
         ap (λ o. bind_term (numbers k (length Ts)) h.number d (level_term τ o)) w.1 ∙ ap (bind_term (numbers k (length Ts)) h.number d) (old_term h.number a σ w.0 low)
@@ -51,14 +53,17 @@ module _ (h : Home) (K : ℕ → List Ty → Ty) (vars : ℕ) (σ : ℕ → Term
       not_own : (r j d : ℕ) (t : Term) → t ≡ variable r j → j < h.number → bind_term (numbers k (length Ts)) h.number d t ≡ t
       not_own r j d t e low =
           ap (bind_term (numbers k (length Ts)) h.number d) e
-          ∙ ap (λ c. index_or (if c then placed (numbers k (length Ts)) d r else None) (atom (logic r j))) (Rattle.std.proofs.lemmas.Bool.ne_eqb j h.number (λ z. absurd (omega (arith, z, low)))) ∙ sym e
+          ∙ ap (λ c. index_or (if c then placed (numbers k (length Ts)) d r else None) (atom (logic r j)))
+              (Rattle.std.proofs.lemmas.Bool.ne_eqb j h.number (λ z. absurd (omega (arith, z, low)))) ∙ sym e
 
       inner_at : (d j : ℕ) → j < length Ts → (T : Ty) × (slice_get Ts j ≡ Some T) → bind_term (numbers k (length Ts)) h.number d (level_term τ (level_in a j)) ≡ index (d + j)
       inner_at d j low t =
           let s = Rattle.lp_gen.proofs.RecordBegins.level_is a j ins.short (let c = Rattle.lp_gen.proofs.RecordBegins.level_count h K vars σ Γ B A a Q keys k Ts out ins in omega (arith, low, c)) in
           let l : ℕ = new_level a - j - 1 in
-          let same : l ≡ a.base + (length Ts - 1 - j) = (let c = Rattle.lp_gen.proofs.RecordBegins.level_count h K vars σ Γ B A a Q keys k Ts out ins in let b = ins.base in omega (arith, low, c, b)) in
-          let here = own_is h K vars σ Γ B A a Q keys k Ts out ins l (unmade (k + j) t.0) (ap (at_level a) same ∙ own_level h K vars σ Γ B A a Q keys k Ts out ins j t.0 t.1 low) (omega (arith, same)) in
+          let same : l ≡ a.base + (length Ts - 1 - j) = (let c = Rattle.lp_gen.proofs.RecordBegins.level_count h K vars σ Γ B A a Q keys k Ts out ins
+              in let b = ins.base in omega (arith, low, c, b)) in
+          let here = own_is h K vars σ Γ B A a Q keys k Ts out ins l (unmade (k + j) t.0)
+              (ap (at_level a) same ∙ own_level h K vars σ Γ B A a Q keys k Ts out ins j t.0 t.1 low) (omega (arith, same)) in
           ap (λ o. bind_term (numbers k (length Ts)) h.number d (level_term τ o)) s ∙ ap (bind_term (numbers k (length Ts)) h.number d) here
           ∙ ap (λ c. index_or (if c then placed (numbers k (length Ts)) d (k + j) else None) (atom (logic (k + j) h.number))) (eq-eqb h.number h.number refl)
           ∙ ap (λ o. index_or o (atom (logic (k + j) h.number))) (placed_at (length Ts) k d j low)
@@ -74,7 +79,8 @@ module _ (h : Home) (K : ℕ → List Ty → Ty) (vars : ℕ) (σ : ℕ → Term
       at_type : (i : ℕ) (T : Ty) → slice_get Ts i ≡ Some T → (term_in z.now (k + i)).type ≡ T
       at_type i T e =
           let low = place_low Ts i T e in
-          ap (λ o. (unwrap_or {T = Built} o (record { term = index 0; type = o_type; loose = [] })).type) (own (a.base + (length Ts - 1 - i)) (unmade (k + i) T) (own_level h K vars σ Γ B A a Q keys k Ts out ins i T e low))
+          ap (λ o. (unwrap_or {T = Built} o (record { term = index 0; type = o_type; loose = [] })).type)
+              (own (a.base + (length Ts - 1 - i)) (unmade (k + i) T) (own_level h K vars σ Γ B A a Q keys k Ts out ins i T e low))
 
   -- the head, and the goals
   pub head_bound : (z : State) (t : Term) → head_term h z ≡ with_variables τ a 0 t → KnownAtoms h.tables.kinds vars t → AllLoose (HasLevel a) 0 t →
@@ -90,7 +96,8 @@ module _ (h : Home) (K : ℕ → List Ty → Ty) (vars : ℕ) (σ : ℕ → Term
       ∙ bind_goals_with h.tables.kinds vars h.number (length Ts) (numbers k (length Ts)) τ σ a A own_binds 0 (length Ts) gs (omega arith) through
 
 -- the clause as it is said
-pub clause_said : (σ : ℕ → Term) (A : Around) (Ts : List Ty) (n m : ℕ) (Us : List Ty) (u t : Term) (said gs : Goals) → n ≡ m → Us ≡ Ts → u ≡ with_variables σ A (length Ts) t → bare_goals said ≡ said_goals σ A (length Ts) gs →
+pub clause_said : (σ : ℕ → Term) (A : Around) (Ts : List Ty) (n m : ℕ) (Us : List Ty) (u t : Term) (said gs : Goals) → n ≡ m → Us ≡ Ts → u ≡
+    with_variables σ A (length Ts) t → bare_goals said ≡ said_goals σ A (length Ts) gs →
     bare_clauses (clauses (clause n Us u (written_goals said)) no_clauses) ≡ said_clauses σ A 0 (clauses (clause m Ts t gs) no_clauses)
 clause_said σ A Ts n m Us u t said gs en eu et eg =
     let d : under_all suc Ts 0 ≡ length Ts = under_count Ts 0 ∙ (let z : length Ts + 0 ≡ length Ts = omega arith in z) in

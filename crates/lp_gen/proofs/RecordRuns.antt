@@ -81,14 +81,16 @@ head_more K e e' a a' (Some p) (Some t) x = record { more = x.more; code_is = x.
 no_predicate : (h : Home) (n : ℕ) (s : State) → h.self.head ≡ None → PredicateStands h.self.head n s
 no_predicate h n s e = subst (λ p. PredicateStands p n s) (sym e) tt
 
-head_ran : (h : Home) (later : Later) (K : ℕ → List Ty → Ty) (vars : ℕ) (next : ℕ) (σ : ℕ → Term) (Γ : List Ty) (B : List Bool) (a a2 : Around) (Q : ℕ → Type 0) (s : State) (e e2 : Emitter) (p : Option RecordHead)
+head_ran : (h : Home) (later : Later) (K : ℕ → List Ty → Ty) (vars : ℕ) (next : ℕ) (σ : ℕ → Term) (Γ : List Ty) (B : List Bool) (a a2 : Around)
+    (Q : ℕ → Type 0) (s : State) (e e2 : Emitter) (p : Option RecordHead)
     (o : Option Term) → (x : HeadWritten K e e2 a a2 p o) → MayRun h K vars e.types e.registers next σ Γ B a Q s → HeadFits h vars e.registers Γ a s o → h.self.head ≡ p → e2.types ≤ h.self.types →
     e2.registers ≤ h.self.registers → HeadRan h later vars e.types e2.types e.registers e2.registers s (head_more K e e2 a a2 p o x).more σ a a2 o
 unfolding head_more
 head_ran h later K vars next σ Γ B a a2 Q s e e2 None None (code, types, registers, same) m fits self few low = record {
   state = s;
   does = subst (λ k. Does h later vars e.types k e.registers e2.registers s [] s.goals s.head_types s.head_arguments s) (sym types)
-      (subst (λ k. Does h later vars e.types e.types e.registers k s [] s.goals s.head_types s.head_arguments s) (sym registers) (nothing_does h later vars e.types e.registers s m.types_stand m.terms_stand));
+      (subst (λ k. Does h later vars e.types e.types e.registers k s [] s.goals s.head_types s.head_arguments s) (sym registers)
+          (nothing_does h later vars e.types e.registers s m.types_stand m.terms_stand));
   stands = subst (λ c. Standing h vars e2.registers s.in_body σ c s.now.terms) (sym same)
       (subst (λ k. Standing h vars k s.in_body σ a s.now.terms) (sym registers) (subst (λ z. Standing h vars e.registers z σ a s.now.terms) (sym m.before) m.standing));
   same = subst (SameAround a) (sym same) (around_same a);
@@ -99,12 +101,14 @@ head_ran h later K vars next σ Γ B a a2 Q s e e2 None None (code, types, regis
 head_ran h later K vars next σ Γ B a a2 Q s e e2 None (Some t) x m fits self few low = absurd x
 head_ran h later K vars next σ Γ B a a2 Q s e e2 (Some p) None x m fits self few low = absurd x
 head_ran h later K vars next σ Γ B a a2 Q s e e2 (Some p) (Some t) x m fits self few low =
-    let w = x.denotes h later vars s σ Γ m.std m.asked m.types_stand m.terms_stand few low m.before m.no_types m.no_arguments self (subst (λ z. Standing h vars e.registers z σ a s.now.terms) (sym m.before) m.standing)
+    let w = x.denotes h later vars s σ Γ m.std m.asked m.types_stand m.terms_stand few low m.before m.no_types m.no_arguments self
+        (subst (λ z. Standing h vars e.registers z σ a s.now.terms) (sym m.before) m.standing)
     fits.0 fits.1 m.own (λ l v f le set. absurd (true≢false (sym set ∙ m.unmade l v f le))) (ap (list_any (is_passed (s.place + sum_by length_of x.more))) m.closed) in
     record { state = w.0; does = w.1; stands = w.2; same = w.3; is = (w.4, w.6); fine = w.5; predicate = fits.1 }
 
 -- which variables the code of a head makes
-pub head_owns : (K : ℕ → List Ty → Ty) (e e' : Emitter) (a a' : Around) (p : Option RecordHead) (o : Option Term) (x : HeadWritten K e e' a a' p o) → AreStarted a → CodeOwns a a' (head_more K e e' a a' p o x).more
+pub head_owns : (K : ℕ → List Ty → Ty) (e e' : Emitter) (a a' : Around) (p : Option RecordHead) (o : Option Term) (x : HeadWritten K e e' a a' p o) →
+    AreStarted a → CodeOwns a a' (head_more K e e' a a' p o x).more
 unfolding head_more
 head_owns K e e' a a' None None (code, types, registers, same) start = subst (λ c. CodeOwns a c []) (sym same) (none_owned a [] refl)
 head_owns K e e' a a' None (Some t) x start = absurd x
@@ -112,7 +116,8 @@ head_owns K e e' a a' (Some p) None x start = absurd x
 head_owns K e e' a a' (Some p) (Some t) x start = x.owns start
 
 -- and no type variables
-pub head_more_types : (K : ℕ → List Ty → Ty) (e e' : Emitter) (a a' : Around) (p : Option RecordHead) (o : Option Term) (x : HeadWritten K e e' a a' p o) → makes_types (head_more K e e' a a' p o x).more ≡ []
+pub head_more_types : (K : ℕ → List Ty → Ty) (e e' : Emitter) (a a' : Around) (p : Option RecordHead) (o : Option Term)
+    (x : HeadWritten K e e' a a' p o) → makes_types (head_more K e e' a a' p o x).more ≡ []
 unfolding head_more
 head_more_types K e e' a a' None None (code, types, registers, same) = refl
 head_more_types K e e' a a' None (Some t) x = absurd x
@@ -127,9 +132,11 @@ own_all_set old new a b x short start l v e = go (nat_le b.base l) refl
     go true q = x.set short (l - b.base) v (sym (ap (λ t. if t then slice_get b.own (l - b.base) else b.captured l) q) ∙ e)
     go false q =
         let low : l < a.base = (let z = leb-false b.base l q in let y = x.some.base in omega (arith, z, y)) in
-        start l v low (ap (λ t. if t then slice_get a.own (l - a.base) else a.captured l) (lt-leb a.base l low) ∙ sym (x.some.captured l) ∙ sym (ap (λ t. if t then slice_get b.own (l - b.base) else b.captured l) q) ∙ e)
+        start l v low (ap (λ t. if t then slice_get a.own (l - a.base) else a.captured l) (lt-leb a.base l low) ∙ sym (x.some.captured l) ∙ sym
+            (ap (λ t. if t then slice_get b.own (l - b.base) else b.captured l) q) ∙ e)
 
-neck_same : (h : Home) (s t : State) → t.head_types ≡ s.head_types → t.head_arguments ≡ s.head_arguments → head_built h t ≡ head_built h s → breaks_head h s on.Neck ≡ false → breaks_head h t on.Neck ≡ false
+neck_same : (h : Home) (s t : State) → t.head_types ≡ s.head_types → t.head_arguments ≡ s.head_arguments → head_built h t ≡ head_built h s →
+    breaks_head h s on.Neck ≡ false → breaks_head h t on.Neck ≡ false
 neck_same h s t types args built fine =
     (λ i. is_some h.self.head && (not (nat_eq (length (types i)) (head_count h)) || not (equal_types (result_type (built i).type (length (args i))) o_type))) ∙ fine
 
@@ -150,7 +157,8 @@ standing_set_all h vars n m i j σ a xs e set x = record {
 }
 
 -- behind NECK
-pub record FrontRan (h : Home) (later : Later) (K : ℕ → List Ty → Ty) (vars types terms next : ℕ) (σ : ℕ → Term) (Γ : List Ty) (B : List Bool) (a b : Around) (Q : ℕ → Type 0) (s : State) (is : List Instr) (o : Option Term) : Type 0 where
+pub record FrontRan (h : Home) (later : Later) (K : ℕ → List Ty → Ty) (vars types terms next : ℕ) (σ : ℕ → Term) (Γ : List Ty) (B : List Bool)
+    (a b : Around) (Q : ℕ → Type 0) (s : State) (is : List Instr) (o : Option Term) : Type 0 where
   pub state : State
   pub runs : (rest : List Instr) → run h later s (is ++ rest) ≡ run h later state rest
   pub around : IsAround h K vars types terms next σ Γ B b Q state
@@ -171,8 +179,10 @@ pub record FrontRan (h : Home) (later : Later) (K : ℕ → List Ty → Ty) (var
 front_code : (h : Home) (xs ys zs rest : List Instr) → (xs ++ (ys ++ zs)) ++ rest ≡ xs ++ (ys ++ (zs ++ rest))
 front_code h xs ys zs rest = append_assoc xs (ys ++ zs) rest ∙ ap (λ l. xs ++ l) (append_assoc ys zs rest)
 
-pub front_ran : (h : Home) (later : Later) (K : ℕ → List Ty → Ty) (vars next : ℕ) (σ : ℕ → Term) (Γ : List Ty) (B : List Bool) (a a2 a3 : Around) (Q : ℕ → Type 0) (s : State) (e e2 e3 e4 : Emitter) (p : Option RecordHead)
-    (o : Option Term) → (x : HeadWritten K e e2 a a2 p o) → (y : OwnMade e2 e3 a2 a3) → (z : NeckPut e3 e4) → MayRun h K vars e.types e.registers next σ Γ B a Q s → HeadFits h vars e.registers Γ a s o → h.self.head ≡ p →
+pub front_ran : (h : Home) (later : Later) (K : ℕ → List Ty → Ty) (vars next : ℕ) (σ : ℕ → Term) (Γ : List Ty) (B : List Bool) (a a2 a3 : Around)
+    (Q : ℕ → Type 0) (s : State) (e e2 e3 e4 : Emitter) (p : Option RecordHead)
+    (o : Option Term) → (x : HeadWritten K e e2 a a2 p o) → (y : OwnMade e2 e3 a2 a3) → (z : NeckPut e3 e4) → MayRun h K vars e.types e.registers next
+        σ Γ B a Q s → HeadFits h vars e.registers Γ a s o → h.self.head ≡ p →
     e4.types ≤ h.self.types → e4.registers ≤ h.self.registers →
     FrontRan h later K vars e4.types e4.registers next σ Γ B a a3 Q s ((head_more K e e2 a a2 p o x).more ++ (y.some.made.more ++ z.more)) o
 front_ran h later K vars next σ Γ B a a2 a3 Q s e e2 e3 e4 p o x y z m fits self few low =
@@ -244,9 +254,11 @@ pub record RecordRan (h : Home) (later : Later) (σ : ℕ → Term) (a : Around)
   pub head_is : HeadIs h σ a state o
   pub own : (l : ℕ) (v : Seen) → at_level a l ≡ Some v → held state.now.terms v.register ≡ Some (whole (σ l) v.of)
 
-pub record_ran : (P : Around → (records levels : List ℕ) → Clauses → Type 0) (h : Home) (later : Later) (K : ℕ → List Ty → Ty) (vars next next' : ℕ) (σ : ℕ → Term) (Γ : List Ty) (B : List Bool) (a b : Around) (Q : ℕ → Type 0)
+pub record_ran : (P : Around → (records levels : List ℕ) → Clauses → Type 0) (h : Home) (later : Later) (K : ℕ → List Ty → Ty) (vars next next' : ℕ)
+    (σ : ℕ → Term) (Γ : List Ty) (B : List Bool) (a b : Around) (Q : ℕ → Type 0)
     (types types' terms terms' : ℕ) (s : State) (front is : List Instr) (o : Option Term) (gs : Goals) → FrontRan h later K vars types terms next σ Γ B a b Q s front o →
-    GoalsCode P K vars b types types' terms terms' next next' (plain_goals gs) is → ((c : Around) (ns ls : List ℕ) (cs : Clauses) → P c ns ls cs → AreLater h vars (length ls) ns) → TellClauses h later vars P →
+    GoalsCode P K vars b types types' terms terms' next next' (plain_goals gs) is →
+        ((c : Around) (ns ls : List ℕ) (cs : Clauses) → P c ns ls cs → AreLater h vars (length ls) ns) → TellClauses h later vars P →
     slice_get h.records h.number ≡ Some h.self → IsInside h is → GoalsFit h vars Γ B Q gs → types' ≤ h.self.types → terms' ≤ h.self.registers → goals_depth gs ≤ nesting_limit →
     RecordRan h later σ a s (front ++ (is ++ on.Proceed ∷ [])) o gs
 record_ran P h later K vars next next' σ Γ B a b Q types types' terms terms' s front is o gs f code records told self inside fit few low nest =

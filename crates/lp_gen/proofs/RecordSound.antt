@@ -100,7 +100,8 @@ pub record Whole (h : Home) (s : State) : Type 0 where
   pub key : has_right_key h ≡ true
 
 pub whole_sound : (h : Home) (s : State) → Whole h s → (r : Rule) → broken_by_record h s r ≡ false
-whole_sound h s w rule.Register = or_none (nat_lt h.self.types h.self.captured_types) (nat_lt h.self.registers h.self.captured) (le-ltb h.self.types h.self.captured_types w.types) (le-ltb h.self.registers h.self.captured w.terms)
+whole_sound h s w rule.Register = or_none (nat_lt h.self.types h.self.captured_types) (nat_lt h.self.registers h.self.captured)
+    (le-ltb h.self.types h.self.captured_types w.types) (le-ltb h.self.registers h.self.captured w.terms)
 whole_sound h s w rule.Unset = refl
 whole_sound h s w rule.Set = refl
 whole_sound h s w rule.Constant = ap not w.known
@@ -112,7 +113,8 @@ whole_sound h s w rule.Head = ap not w.headed
 whole_sound h s w rule.Block = ap not w.ends
 whole_sound h s w rule.Clause = by_program h.self.program w.named
   where
-    by_program : (p : Bool) → (if p then nat_eq (h.self.captured_types + h.self.captured) 0 else is_named h) ≡ true → (if p then not (nat_eq (h.self.captured_types + h.self.captured) 0) else not (is_named h)) ≡ false
+    by_program : (p : Bool) → (if p then nat_eq (h.self.captured_types + h.self.captured) 0 else is_named h) ≡ true →
+        (if p then not (nat_eq (h.self.captured_types + h.self.captured) 0) else not (is_named h)) ≡ false
     by_program true e = ap not e
     by_program false e = ap not e
 whole_sound h s w rule.Key = ap not w.key

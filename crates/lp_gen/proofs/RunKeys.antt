@@ -131,7 +131,9 @@ fine_step h s i is e = go (nat_eq s.place 0) refl
   where
     go : (t : Bool) → nat_eq s.place 0 ≡ t → Fine (broken_by h s is i)
     go true q =
-        let f = all_fine (λ r. broken_by_record h s r || broken_by h s is i r) (sym (ap (λ t. if t then first_broken (λ r. broken_by_record h s r || broken_by h s is i r) rules else first_broken (broken_by h s is i) rules) q) ∙ e) in
+        let f = all_fine (λ r. broken_by_record h s r || broken_by h s is i r) (sym
+            (ap (λ t. if t then first_broken (λ r. broken_by_record h s r || broken_by h s is i r) rules else first_broken (broken_by h s is i) rules)
+            q) ∙ e) in
         record {
           unset = or_right (broken_by_record h s rule.Unset) (broken_by h s is i rule.Unset) f.unset;
           order = or_right (broken_by_record h s rule.Order) (broken_by h s is i rule.Order) f.order;
@@ -193,7 +195,8 @@ settled_keeps home (suc n) s = go (is_right_end s.place (innermost_block s.frame
     go false x = same_keeps s s refl refl
 
 passed_keeps : (h : Home) (s t u : State) (i : Instr) → Keeps s t → settled h.number (depth t.frames) (passed i t) ≡ u → Keeps s u
-passed_keeps h s t u i x e = subst (Keeps s) e (then_keeps s (passed i t) (settled h.number (depth t.frames) (passed i t)) (then_keeps s t (passed i t) x (same_keeps t (passed i t) refl refl)) (settled_keeps h.number (depth t.frames) (passed i t)))
+passed_keeps h s t u i x e = subst (Keeps s) e (then_keeps s (passed i t) (settled h.number (depth t.frames) (passed i t))
+    (then_keeps s t (passed i t) x (same_keeps t (passed i t) refl refl)) (settled_keeps h.number (depth t.frames) (passed i t)))
 
 -- where the step is this one
 kept : (h : Home) (later : Later) (s u : State) (i : Instr) (t : State) → effect h later s i ≡ Some t → Keeps s t → after h later s i ≡ Some u → Keeps s u
@@ -234,7 +237,8 @@ step_keeps h later s u (on.GetStr i b) e = kept h later s u (on.GetStr i b) _ re
 step_keeps h later s u on.EndAll e = kept h later s u on.EndAll (leave h.number s) refl (leave_keeps h.number s) e
 step_keeps h later s u on.EndAssume e = kept h later s u on.EndAssume (leave h.number s) refl (leave_keeps h.number s) e
 step_keeps h later s u on.EndNot e = kept h later s u on.EndNot (leave h.number s) refl (leave_keeps h.number s) e
-step_keeps h later s u (on.Jump n) e = kept h later s u (on.Jump n) (turn h.number s n) refl (turned_keeps s n (end_variables h.number s.goals s.frames).goals (end_variables h.number s.goals s.frames).frames) e
+step_keeps h later s u (on.Jump n) e = kept h later s u (on.Jump n) (turn h.number s n) refl
+    (turned_keeps s n (end_variables h.number s.goals s.frames).goals (end_variables h.number s.goals s.frames).frames) e
 step_keeps h later s u on.Neck e = kept h later s u on.Neck _ refl (record { more = []; arguments = sym (append-nil s.head_arguments); body = λ b. refl }) e
 step_keeps h later s u (on.Assume ns ts rs) e = go (clauses_of_records later ns.items (captured_by s ts.items rs.items)) refl
   where
@@ -277,7 +281,8 @@ never_back h later is t u e body before = true≢false (sym ((run_keeps h later 
 module _ (h : Home) (later : Later) (u : State) (before : u.in_body ≡ false) (rest : List Instr) where
   abbrev Law : List Instr → Type 0
   Law is =
-      (place : ℕ) (now : Registers) (ts us : List ℕ) (Ts : List Ty) (gs : Goals) (hs : List (ℕ × Captured)) (keys : ℕ → Option Atom) → KeysAre keys now.terms → run h later (before_neck place now ts us Ts gs hs) is ≡ Done u →
+      (place : ℕ) (now : Registers) (ts us : List ℕ) (Ts : List Ty) (gs : Goals) (hs : List (ℕ × Captured)) (keys : ℕ → Option Atom) → KeysAre keys
+          now.terms → run h later (before_neck place now ts us Ts gs hs) is ≡ Done u →
       first_key keys (is ++ on.Neck ∷ rest) ≡ arguments_key u.head_arguments
 
   law_on : (i : Instr) (is : List Instr) → Law is → Law (i ∷ is)
@@ -321,7 +326,8 @@ module _ (h : Home) (later : Later) (u : State) (before : u.in_body ≡ false) (
       let x = stepped h later (before_neck place now ts us Ts gs hs) u (on.PutApp d f vs) is e in
       let same = some_state _ x.next x.is_next in
       let set = or_left (is_none (held now.terms f)) (list_any (λ r. is_none (held now.terms r)) vs.items) x.fine.unset in
-      let key : keys f ≡ key_in (apply (term_in now f).term (plain_terms (terms_in now vs.items))) = key_at keys now f are set ∙ ap head_key (sym (head_apply (term_in now f).term (plain_terms (terms_in now vs.items)))) in
+      let key : keys f ≡ key_in (apply (term_in now f).term (plain_terms (terms_in now vs.items))) = key_at keys now f are set ∙ ap head_key
+          (sym (head_apply (term_in now f).term (plain_terms (terms_in now vs.items)))) in
       go _ _ _ _ _ _ _ (with_key d (keys f) keys) (keys_set keys now.terms d (keys f) _ are key) (subst (λ z. run h later z is ≡ Done u) (sym same) x.runs)
   law_on (on.GetType j t) is go place now ts us Ts gs hs keys are e =
       let x = stepped h later (before_neck place now ts us Ts gs hs) u (on.GetType j t) is e in

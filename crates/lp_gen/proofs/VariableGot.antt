@@ -22,7 +22,8 @@ use Rattle.lp_gen.proofs.Denoting.{or_none, steps, settled_same, room_less, many
 use Rattle.lp_gen.proofs.Registers.{held_elsewhere, fresh_set}
 use Rattle.lp_gen.proofs.TermPut.{one_within, no_sides}
 
-got_fine : (h : Home) (s : State) (i d : ℕ) (T : Ty) → member d s.terms_set ≡ false → out_of_turn s i ≡ false → argument_type (head_built h s).type i ≡ Some T → d < h.self.registers → HasRoom s s.place →
+got_fine : (h : Home) (s : State) (i d : ℕ) (T : Ty) → member d s.terms_set ≡ false → out_of_turn s i ≡ false → argument_type (head_built h s).type i
+    ≡ Some T → d < h.self.registers → HasRoom s s.place →
     (rest : List Instr) (r : Rule) → broken_by h s rest (GetVar i d) r ≡ false
 got_fine h s i d T unset turn typed low room rest rule.Register = one_within h.self.registers d low
 got_fine h s i d T unset turn typed low room rest rule.Unset = refl

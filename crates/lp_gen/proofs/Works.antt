@@ -83,7 +83,8 @@ applied f (i ∷ ids) h t n e a = go h (f i) (map f ids) (subst IsNoApplication 
     go u v (x ∷ ts) q = go (app u v) x ts q
 
 -- a spine is not empty where the term is an application
-pub has_args : (b : Nodes) (head : TermId) (term : TermId) (args : List TermId) (f : ℕ) (ids : List ℕ) → apply (tree b f) (map (tree b) ids) ≡ tree b term.0 → ids ≢ [] → IsNoApplication (tree b head.0) → apply (tree b head.0) (map (λ t. tree b t.0) args) ≡ tree b term.0 → 0 < length args
+pub has_args : (b : Nodes) (head : TermId) (term : TermId) (args : List TermId) (f : ℕ) (ids : List ℕ) → apply (tree b f) (map (tree b) ids) ≡ tree b
+    term.0 → ids ≢ [] → IsNoApplication (tree b head.0) → apply (tree b head.0) (map (λ t. tree b t.0) args) ≡ tree b term.0 → 0 < length args
 has_args b head term [] f ids t n h e = absurd (applied (tree b) ids (tree b f) (tree b term.0) n t (subst IsNoApplication e h))
 has_args b head term (x ∷ xs) f ids t n h e = omega arith
 

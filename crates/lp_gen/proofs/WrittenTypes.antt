@@ -1,5 +1,6 @@
 -- The type variables that a clause of a program makes, and variables with which records start.
 use Rattle.std.proofs.Common.{◌≡◌, ◌∙◌, ℕ, zero, suc, ◌+◌, List, [], ◌∷◌, ◌++◌, Bool, true, false, Bor, Option, Some, None, ap, refl, sym, subst, true≢false}
+use Rattle.std.specs.Prelude.{is_none, is_some, not}
 use Rattle.lp_calculus.specs.Spine.{arguments}
 use Rattle.lp_term.specs.Nodes.{Nodes, tree}
 use Rattle.lp_model.specs.declared.clause.Clause.{Clause}
@@ -76,3 +77,9 @@ inner_key b o false c e q = subst (λ (u : Origin). HasKey b u false key.None) (
 pub outer_key : (b : Nodes) (o : Origin) (p : Bool) (c : Bor Clause) (k : Key) → o ≡ origin.Clause c → p ≡ true → key_is k (first_key_of (arguments (tree b c.now.head.0))) ≡ true → HasKey b o p k
 outer_key b o true c k e q is = subst (λ (u : Origin). HasKey b u true k) (sym e) is
 outer_key b o false c k e q is = absurd (true≢false (sym q))
+
+pub none_of : {X : Type 0} (o : Option X) (b : Bool) → is_some o ≡ not b → b ≡ is_none o
+none_of None true e = refl
+none_of None false e = absurd (true≢false (sym e))
+none_of (Some x) true e = absurd (true≢false e)
+none_of (Some x) false e = refl

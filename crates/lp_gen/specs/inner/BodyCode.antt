@@ -52,7 +52,8 @@ pub record AreStarts (a : Around) (ls : List ℕ) (starts : ℕ → Option Seen)
 
 abbrev pub AssumedBy : Tables → Suppositions → Around → (records levels : List ℕ) → Clauses → Type 0
 AssumedBy t cl a ns ls cs =
-    (n : ℕ) × (x : Assumption) × (slice_get t.assumptions.now n ≡ Some x) × (cs ≡ cl.clauses n) × (ns ≡ records_named t x) × (ls ≡ levels_found a x.captured.keys) × AreStarts a ls (cl.starts n) (cl.counts n)
+    (n : ℕ) × (x : Assumption) × (slice_get t.assumptions.now n ≡ Some x) × (cs ≡ cl.clauses n) × (ns ≡ records_named t x) ×
+        (ls ≡ levels_found a x.captured.keys) × AreStarts a ls (cl.starts n) (cl.counts n)
 
 -- the variables with which records start, as they are kept
 abbrev pub started_at : {S : Type 0} → Nodes → IndexMap ℕ Variable S → ℕ → Option Seen
@@ -96,7 +97,8 @@ StepTaken P K e e' a a' bs bs' step =
     StandsAt P K v z w' a' e' q bs' × AreSet a' × (new_level a' ≤ new_level a + 1)
 
 -- an assumption, which names the next records
-abbrev pub AssumeTaken : (P : Around → (records levels : List ℕ) → Clauses → Type 0) → (K : ℕ → List Ty → Ty) → (v : ℕ) → (e e' : Emitter) → (a a' : Around) → (bs bs' : List Block) → Clauses → (first count : ℕ) → Type 0
+abbrev pub AssumeTaken : (P : Around → (records levels : List ℕ) → Clauses → Type 0) → (K : ℕ → List Ty → Ty) → (v : ℕ) → (e e' : Emitter) →
+    (a a' : Around) → (bs bs' : List Block) → Clauses → (first count : ℕ) → Type 0
 AssumeTaken P K v e e' a a' bs bs' cs first count =
     (z : Start) (w w' : Walked) → StandsAt P K v z w a e first bs → AreSet a → new_level a + 1 < 2 ^ 64 - 1 → advance (assume cs) w ≡ Some w' →
     StandsAt P K v z w' a' e' (first + count) bs' × AreSet a' × (new_level a' ≤ new_level a + 1)
@@ -147,7 +149,8 @@ abbrev pub AreNext : Tables → (q m : ℕ) → List Step → Type 0
 AreNext t q m [] = Unit {0}
 AreNext t q m (s ∷ ss) = IsNext t q m s × AreNext t (next_of t q s) (m + count_starts t s) ss
 
-abbrev pub IsTaken : {S : Type 0} → Tables → Suppositions → (K : ℕ → List Ty → Ty) → (e e' : Emitter) → (env env' : Environment) → (bs bs' : List Block) → (xs xs' : List (IndexMap ℕ Variable S)) → Step → Type 0
+abbrev pub IsTaken : {S : Type 0} → Tables → Suppositions → (K : ℕ → List Ty → Ty) → (e e' : Emitter) → (env env' : Environment) →
+    (bs bs' : List Block) → (xs xs' : List (IndexMap ℕ Variable S)) → Step → Type 0
 IsTaken t cl K e e' env env' bs bs' xs xs' s =
     (q f : ℕ) (z : Start) (w w' : Walked) → HoldStarts t.bank.now xs' f cl → IsNext t q (f + length xs) s → StandsAt (AssumedBy t cl) K t.type_vars z w (around_of t.bank.now env) e q bs →
     AreSet (around_of t.bank.now env) → new_level (around_of t.bank.now env) + 1 < 2 ^ 64 - 1 → advance (step_of t.bank.now cl s) w ≡ Some w' →

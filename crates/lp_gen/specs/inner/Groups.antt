@@ -18,9 +18,12 @@ use Rattle.lp_gen.specs.inner.Listing.{constant_function}
 use Rattle.lp_gen.specs.inner.Recorded.{RecordWritten}
 use Rattle.lp_gen.specs.inner.Planning.{ArePlanned}
 
+abbrev pub Hasher : Type 0
+Hasher = BuildHasherDefault FoldHasher
+
 -- what an assumption keeps
 abbrev pub Kept : Type 0
-Kept = IndexMap ℕ Variable (BuildHasherDefault FoldHasher)
+Kept = IndexMap ℕ Variable Hasher
 
 -- the variables with which a record starts: those that its assumption keeps
 abbrev pub IsStartOf : {S : Type 0} → List (IndexMap ℕ Variable S) → Option ℕ → IndexMap ℕ Variable S → Type 0
@@ -32,7 +35,8 @@ abbrev pub AllWritten : {S : Type 0} → Tables → (xs ys : List (IndexMap ℕ 
 AllWritten t xs ys [] rs = (rs ≡ []) × (ys ≡ xs)
 AllWritten t xs ys (p ∷ ps) [] = ⊥
 AllWritten {S} t xs ys (p ∷ ps) (r ∷ rs) =
-    (m : IndexMap ℕ Variable S) × (more : List (IndexMap ℕ Variable S)) × RecordWritten t (constant_function t.bank.now t.constants.now) p m [] more r × IsStartOf xs p.within m × AllWritten t (xs ++ more) ys ps rs
+    (m : IndexMap ℕ Variable S) × (more : List (IndexMap ℕ Variable S)) × RecordWritten t (constant_function t.bank.now t.constants.now) p m [] more r
+        × IsStartOf xs p.within m × AllWritten t (xs ++ more) ys ps rs
 
 -- the records of one of them, from number `n` on
 pub record IsGroup (b : Nodes) (ds : List Declared) (n vars : ℕ) (o : Origin) (g : List Record) : Type 0 where

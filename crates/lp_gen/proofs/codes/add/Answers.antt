@@ -1,4 +1,5 @@
 use Rattle.std.proofs.Common.{◌≡◌, ◌∙◌, ◌++◌, ◌<◌, ◌^◌, [], length, ap, refl, sym, subst, arith}
+use Rattle.lp_gen.specs.declared.record.Tables.{Tables}
 use Rattle.lp_gen.specs.inner.Planning.{ArePlanned}
 use Rattle.lp_gen.specs.inner.Groups.{AllWritten}
 use Rattle.lp_gen.proofs.codes.add.Goals as goal
@@ -7,7 +8,7 @@ pub returns-clause-group : goal.returns-clause-group
 returns-clause-group c =
     let w = c.in_ok-add_parts.ensures.written in
     let p = c.in_ok-plan.plan in
-    let t = record { bank = c.args.bank; constants = c.args.constants; type_vars = c.in-Ok.type_vars; assumptions = c.as_slice.result; first = c.number_of.result } in (
+    let t : Tables = record { bank = c.args.bank; constants = c.args.constants; type_vars = c.in-Ok.type_vars; assumptions = c.as_slice.result; first = c.number_of.result } in (
       w.0,
       w.2,
       record {
@@ -16,7 +17,7 @@ returns-clause-group c =
         constants_are = refl;
         vars_are = grind (arith, c.in-Ok.ensures);
         few_vars = grind (arith, c.in-Ok.ensures);
-        first = λ low. omega (arith, low, c.number_of.ensures, c.len.ensures);
+        first = λ low. omega (arith, low, c.number_of.ensures, c.len.ensures, c.args.records.now.ok);
         due = p.due.items;
         parts = p.parts.items;
         planned = subst (ArePlanned c.args.origin p.due.items p.parts.items) (sym c.as_slice.ensures.value) c.in_ok-plan.ensures.planned;

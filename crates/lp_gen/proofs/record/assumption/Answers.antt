@@ -30,7 +30,9 @@ returns-clause-grown c =
       c.captured_by.new.starts ∷ [],
       c.in_ok-push.ensures.items,
       sym (ap one_if (slice_get_read xs (length xs) c.args.number c.index-tables-number.result refl low c.index-tables-number.is)),
-      All-cons (AreAllSet b) c.captured_by.new.starts [] (starts_set b (around_of b c.args.environment.now) (levels_found (around_of b c.args.environment.now) c.as_slice-levels.result.now) c.captured_by.new.starts (index_map_len c.captured_by.new.starts)
+      All-cons (AreAllSet b) c.captured_by.new.starts [] (starts_set b (around_of b c.args.environment.now)
+          (levels_found (around_of b c.args.environment.now) c.as_slice-levels.result.now) c.captured_by.new.starts
+          (index_map_len c.captured_by.new.starts)
           (c.in_ok-registers.ensures.starts b c.new-starts.ensures.empty (subst (IsDistinct nat_eq) (sym c.as_slice-levels.ensures.keys) c.as_slice-levels.ensures.unique))) (All-nil (AreAllSet b)),
     )
 
@@ -38,7 +40,8 @@ pub returns-clause-made : goal.returns-clause-made
 returns-clause-made c = λ b x found few.
     let xs = c.args.tables.assumptions.now in
     let low : c.args.number < length xs = omega (arith, c.if-number-tables.false) in
-    let same : c.index-tables-number.result ≡ x = same_assumption c.index-tables-number.result x (sym (slice_get_read xs (length xs) c.args.number c.index-tables-number.result refl low c.index-tables-number.is) ∙ found) in
+    let same : c.index-tables-number.result ≡ x = same_assumption c.index-tables-number.result x
+        (sym (slice_get_read xs (length xs) c.args.number c.index-tables-number.result refl low c.index-tables-number.is) ∙ found) in
     let a = around_of b c.args.environment.now in
     let read : get_or xs c.args.number c.index-tables-number.result ≡ x = sym c.index-tables-number.is ∙ same in
     let few1 = subst (λ (y : Assumption). c.args.tables.first + y.first + y.count < 4294967296) (sym read) few in

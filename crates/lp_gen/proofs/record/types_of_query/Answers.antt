@@ -9,7 +9,7 @@ loop-of-init c = c.new-types.ensures.items
 
 pub loop-of-preserved : goal.loop-of-preserved
 loop-of-preserved c =
-    c.in_ok-push.ensures.items ∙ ap (λ l. l ++ c.in-Some.of ∷ []) c.loop-of.invariant ∙ sym (map-append (λ v. v.1) c.loop-of.yielded ((c.in-Some.field-0, c.in-Some.of) ∷ []))
+    c.in_ok-push.ensures.items ∙ ap (λ l. l ++ c.in-Some.of ∷ []) c.loop-of.invariant ∙ sym (map-append (λ v. v.1) c.loop-of.yielded ((c.in-Some.field-0-0, c.in-Some.of) ∷ []))
 
 pub returns : goal.returns
 returns c =

@@ -1,4 +1,4 @@
-use Rattle.std.proofs.Common.{◌∙◌, refl, ap, length, map, subst}
+use Rattle.std.proofs.Common.{◌∙◌, ◌+◌, refl, ap, length, map, subst}
 use Rattle.lp_gen.specs.inner.Listing.{around_of}
 use Rattle.lp_gen.specs.inner.Entering.{QueryEntered, query_own, types_at}
 use Rattle.lp_gen.proofs.TypeWorks.{map_length}

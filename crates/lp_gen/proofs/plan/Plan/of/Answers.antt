@@ -9,7 +9,8 @@ use Rattle.lp_gen.proofs.plan.Plan.of.Goals as goal
 
 pub parts-init : goal.parts-init
 parts-init c = (
-  plan_begins c.args.origin c.push.new.self.items c.new-2.result.items c.new-3.result.items (c.in_ok-push.ensures.items ∙ ap (λ l. l ++ record { origin = c.args.origin; within = None; base = 0 } ∷ []) c.new.ensures.items)
+  plan_begins c.args.origin c.push.new.self.items c.new-2.result.items c.new-3.result.items
+      (c.in_ok-push.ensures.items ∙ ap (λ l. l ++ record { origin = c.args.origin; within = None; base = 0 } ∷ []) c.new.ensures.items)
       c.new-2.ensures.items c.new-3.ensures.items,
   (let z = ap length c.new-2.ensures.items in omega (arith, z)),
 )
