@@ -8,14 +8,14 @@ use Rattle.lp_calculus.specs.Term.{Term}
 use Rattle.lp_standard.specs.Schemes.{IsStandard}
 use Rattle.std.proofs.lemmas.List.{append-nil}
 use Rattle.lp_term.specs.Nodes.{Nodes, tree, type_tree}
-use Rattle.lp_model.specs.Flat.{Goals, Clauses, no_clauses, clauses}
+use Rattle.lp_model.specs.Flat.{Goals, Clauses, no_clauses, clauses, no_goals, Clause as FlatClause, clause}
 use Rattle.lp_model.specs.declared.clause.Clause.{Clause}
 use Rattle.lp_code.specs.declared.instruction.Instr.{Instr}
 use Rattle.lp_code.specs.declared.instruction.Instr.TheVariants as on
 use Rattle.lp_code.specs.declared.record.Record.{Record}
 use Rattle.lp_code.specs.declared.record.RecordHead.{RecordHead}
 use Rattle.lp_code.specs.Operands.{own_set}
-use Rattle.lp_code.specs.States.{State, Home, member, passing}
+use Rattle.lp_code.specs.States.{State, Home, member, passing, Captured, bind_term, bind_goals}
 use Rattle.lp_code.specs.Steps.{Later, is_made, own_variables}
 use Rattle.lp_code.specs.Rules.{nesting_limit}
 use Rattle.lp_gen.specs.Sources.{IsKnownType, goals_depth}
@@ -26,70 +26,51 @@ use Rattle.lp_gen.specs.declared.plan.Part.{Part}
 use Rattle.lp_gen.specs.declared.plan.Origin.{Origin}
 use Rattle.lp_gen.specs.declared.plan.Origin.TheVariants as origin
 use Rattle.lp_gen.specs.declared.record.Tables.{Tables}
-use Rattle.lp_gen.specs.inner.Listing.{Seen, Around, around_of, at_level, constant_function}
-use Rattle.lp_gen.specs.inner.TermLaw.{AreSet, SameAround}
+use Rattle.lp_gen.specs.inner.Listing.{Seen, Around, around_of, at_level, constant_function, level_in}
+use Rattle.lp_gen.specs.inner.TermLaw.{AreSet, SameAround, Standing, with_variables, AllLoose}
 use Rattle.lp_gen.specs.inner.Owned.{makes, AreStarted}
-use Rattle.lp_gen.specs.inner.Written.{CodeOwns}
+use Rattle.lp_gen.specs.inner.Written.{CodeOwns, AreAsked}
 use Rattle.lp_gen.specs.inner.Beginning.{OwnMade}
-use Rattle.lp_gen.specs.inner.Bodies.{new_level, IsShort}
+use Rattle.lp_gen.specs.inner.Bodies.{new_level, IsShort, HasLevel, bare_goals, bare_clauses, said_goals, said_clauses, AreThrough}
 use Rattle.lp_gen.specs.inner.Entering.{clause_own, types_at, news, TypesMade}
 use Rattle.lp_gen.specs.inner.GoalCode.{numbers, GoalsCode}
 use Rattle.lp_gen.specs.inner.OpenGoals.{goals_steps, plain_goals, EndsGoals}
 use Rattle.lp_gen.specs.inner.BodyCode.{Suppositions, AreStarts, started_at, HoldStarts, levels_found, AssumedBy, steps_of, AreNext, next_all}
-use Rattle.lp_gen.specs.inner.BodyLaw.{more_of, GoalsFit, AreLater}
+use Rattle.lp_gen.specs.inner.BodyLaw.{more_of, GoalsFit, AreLater, AreBelow, StartWith}
 use Rattle.lp_gen.specs.inner.Heading.{PredicateStands, IsHeadAtom}
-use Rattle.lp_code.specs.Denote.{is_set_by_all, sets_by_all}
+use Rattle.lp_code.specs.Denote.{is_set_by_all, sets_by_all, Done, run, from_zero, started as started_with, has_neck, ends_with_proceed, heads, is_known_head, head_passes, is_all_variable, first_key, head_term, variable_types, first_state, is_named, denoted, key_is, nothing_captured}
 use Rattle.lp_gen.specs.declared.plan.Assumption.{Assumption}
 use Rattle.lp_gen.specs.inner.Planned.{clauses_length, goals_records, GoalsHave, IsAtLevel, NamedBy, AreNamed}
-use Rattle.lp_gen.specs.inner.Recorded.{MayRun, HeadWritten, FrontWritten, TypesWritten, RecordWritten}
+use Rattle.lp_gen.specs.inner.Recorded.{MayRun, HeadWritten, FrontWritten, TypesWritten, RecordWritten, key_in, first_key_of, HasKey}
 use Rattle.lp_gen.proofs.TypeWorks.{map_length}
 use Rattle.lp_gen.proofs.OwnSet.{makes_both, made_is}
 use Rattle.lp_gen.proofs.OwnMadeBy.{started_on}
 use Rattle.lp_gen.proofs.CodeOwned.{owns_then}
 use Rattle.lp_gen.proofs.GoalsGrow.{goals_grow}
 use Rattle.lp_gen.proofs.BodySaid.{TellClauses}
-use Rattle.lp_gen.proofs.BodyParts.{set_left, set_right}
+use Rattle.lp_gen.proofs.BodyParts.{set_left, set_right, loose_at, goals_through}
 use Rattle.lp_gen.proofs.CodeMapped.{plain_records, plain_have, goals_next, goals_mapped}
 use Rattle.lp_gen.proofs.BodySteps.{numbers_length}
 use Rattle.lp_gen.proofs.BodyPlain.{goals_plain}
 use Rattle.lp_gen.proofs.BodyCoded.{body_coded}
 use Rattle.lp_gen.proofs.OwnPlaces.{own_numbers, clause_count}
-use Rattle.lp_gen.proofs.RecordBegins.{Outside, Inside, own_terms}
-use Rattle.std.proofs.lemmas.Bool.{ltb-true, ltb-false}
+use Rattle.lp_gen.proofs.RecordBegins.{Outside, Inside, own_terms, own_term, old_term, binder_behind, front_held, started_registers, not_zero, start_length, are_own, are_started, own_unmade, old_variable, by_index, old_register, all_seen, all_known, all_free, all_alls, all_outer, stands_first, behind_held}
+use Rattle.std.proofs.lemmas.Bool.{ltb-true, ltb-false, eqb-true, eq-eqb}
 use Rattle.lp_calculus.specs.Spine.{arguments}
-use Rattle.lp_model.specs.Flat.{no_goals, Clause as FlatClause, clause}
 use Rattle.lp_code.specs.Symbolic.{Built, held, whole, plain_terms}
 use Rattle.lp_code.specs.declared.record.Key.TheVariants as key
-use Rattle.lp_code.specs.States.{Captured, bind_term, bind_goals}
-use Rattle.lp_code.specs.Denote.{Done, run, from_zero, started as started_with, has_neck, ends_with_proceed, heads, is_known_head, head_passes, is_all_variable, first_key, head_term, variable_types, first_state, is_named, denoted}
 use Rattle.lp_gen.specs.inner.Running.{HasRegisters, TypesStand}
-use Rattle.lp_gen.specs.inner.Listing.{level_in}
-use Rattle.lp_gen.specs.inner.TermLaw.{Standing, with_variables}
-use Rattle.lp_gen.specs.inner.Written.{AreAsked}
-use Rattle.lp_gen.specs.inner.Bodies.{HasLevel, bare_goals, bare_clauses, said_goals, said_clauses}
-use Rattle.lp_gen.specs.inner.BodyLaw.{AreBelow, StartWith}
-use Rattle.lp_gen.specs.inner.Recorded.{key_in, first_key_of, HasKey}
 use Rattle.lp_gen.proofs.BodyEnds.{ran_out}
-use Rattle.lp_gen.proofs.BodyParts.{loose_at, goals_through}
 use Rattle.lp_gen.proofs.RunKeys.{arguments_key, key_law}
-use Rattle.lp_gen.proofs.RecordBegins.{own_term, old_term, binder_behind, front_held, started_registers, not_zero, start_length, are_own, are_started, own_unmade, old_variable, by_index, old_register, all_seen, all_known, all_free, all_alls, all_outer, stands_first}
-use Rattle.lp_gen.proofs.RecordDenoted.{types_are, head_bound, body_bound}
-use Rattle.lp_gen.proofs.RecordSound.{neck_inside, proceed_last, Whole}
+use Rattle.lp_gen.proofs.RecordDenoted.{types_are, head_bound, body_bound, NoIndex}
+use Rattle.lp_gen.proofs.RecordSound.{neck_inside, proceed_last, Whole, whole_sound}
 use Rattle.lp_code.specs.Written.{written_goals}
-use Rattle.lp_code.specs.Denote.{key_is, nothing_captured}
-use Rattle.lp_gen.specs.inner.TermLaw.{AllLoose}
-use Rattle.lp_gen.specs.inner.Bodies.{AreThrough}
 use Rattle.lp_gen.proofs.RecordNames.{tynews, none_both, no_tynews, goals_none}
-use Rattle.lp_gen.proofs.RecordDenoted.{NoIndex}
-use Rattle.lp_gen.proofs.RecordBegins.{behind_held}
 use Rattle.lp_gen.proofs.WrittenTypes.{starts_as, written_registers, first_same, types_code, written_code, same_types, more_types, news_make, types_make}
-use Rattle.lp_gen.proofs.RecordSound.{whole_sound}
-use Rattle.lp_gen.proofs.RecordRuns.{head_more_types}
+use Rattle.lp_gen.proofs.RecordRuns.{head_more_types, HeadFits, HeadIs, HeadMore, head_more, head_owns, own_all_set, FrontRan, front_ran, RecordRan, record_ran}
 use Rattle.lp_gen.proofs.ProgramTypes.{Typed, typed, own_count}
 use Rattle.lp_gen.proofs.ClauseDenoted.{assumed_clause, assumed_types, assumed_key, program_clause, program_key}
-use Rattle.std.proofs.lemmas.Bool.{eqb-true, eq-eqb}
 use Rattle.lp_gen.proofs.ClauseHeads.{head_predicate, head_atom, predicate_fine, first_key_with}
-use Rattle.lp_gen.proofs.RecordRuns.{HeadFits, HeadIs, HeadMore, head_more, head_owns, own_all_set, FrontRan, front_ran, RecordRan, record_ran}
 
 module _ {S : Type 0} (t : Tables) (part : Part) (captured : IndexMap ℕ Variable S) (xs' : List (IndexMap ℕ Variable S)) (c : Bor Clause) (h : Home)
     (w : RecordWritten t (constant_function t.bank.now t.constants.now) part captured [] xs' h.self) (o : part.origin ≡ origin.Clause c) where
@@ -150,8 +131,8 @@ module _ {S : Type 0} (t : Tables) (part : Part) (captured : IndexMap ℕ Variab
     inside = record {
       own = own_is;
       base = ap (λ (a : Around). a.base) (front_of.entered.around t.bank.now) ∙ w.base ∙ base;
-      starts = starts_as A (levels_found A keys) (started_at t.bank.now captured) around.captured k k
-          (λ l. ap (λ (a : Around). a.captured l) (front_of.entered.around t.bank.now) ∙ w.starts_are t.bank.now l) refl starts;
+      starts = starts_as A (levels_found A keys) (started_at t.bank.now captured) around.captured k k (λ l. ap (λ (a : Around). a.captured l) (front_of.entered.around t.bank.now) ∙ w.starts_are
+          t.bank.now l) refl starts;
       short =
           let e = ap (λ (a : Around). a.base) (front_of.entered.around t.bank.now) ∙ w.base ∙ base in
           let n = ap length own_is ∙ clause_count k Ts in
@@ -184,12 +165,12 @@ module _ {S : Type 0} (t : Tables) (part : Part) (captured : IndexMap ℕ Variab
 
     -- the body
 
-    module _ (cl : Suppositions) (q f : ℕ) (gs : Goals) (kept : HoldStarts t.bank.now xs' f cl)
-        (steps : steps_of t.bank.now cl part.steps.items ≡ goals_steps gs) (ends : EndsGoals gs) (next : AreNext t q f part.steps.items)
+    module _ (cl : Suppositions) (q f : ℕ) (gs : Goals) (kept : HoldStarts t.bank.now xs' f cl) (steps : steps_of t.bank.now cl part.steps.items ≡ goals_steps gs) (ends : EndsGoals gs)
+        (next : AreNext t q f part.steps.items)
         (few : new_level A + length Ts + length part.steps.items < 2 ^ 64 - 1) where
       abbrev pub coded : (last : List Instr)
-          × GoalsCode (AssumedBy t cl) K t.type_vars (around_of t.bank.now w.fronted_env) w.body.begun.types w.body.said.types w.body.begun.registers
-              w.body.said.registers q (next_all t q part.steps.items) (plain_goals gs) last
+          × GoalsCode (AssumedBy t cl) K t.type_vars (around_of t.bank.now w.fronted_env) w.body.begun.types w.body.said.types w.body.begun.registers w.body.said.registers q
+              (next_all t q part.steps.items) (plain_goals gs) last
           × (w.body.said.code.items ≡ w.body.begun.code.items ++ last)
       coded =
           body_coded t K w.body.begun w.body.said w.fronted_env w.ended_env [] xs' part.steps.items cl q f gs w.body.written.0 kept steps ends
@@ -202,6 +183,14 @@ module _ {S : Type 0} (t : Tables) (part : Part) (captured : IndexMap ℕ Variab
           w.code_is ∙ w.body.code_is ∙ ap (λ l. l ++ on.Proceed ∷ []) (coded.2 ∙ ap (λ l. l ++ coded.0) front_code) ∙ append_assoc (own_types_code ++ front) coded.0 (on.Proceed ∷ [])
           ∙ append_assoc own_types_code front (coded.0 ++ on.Proceed ∷ [])
 
+      -- what is built has registers
+      room : (w.body.begun.types ≤ h.self.types) × (w.body.begun.registers ≤ h.self.registers) × (w.body.said.types ≤ h.self.types) × (w.body.said.registers ≤ h.self.registers)
+      room =
+          let grow = goals_grow (AssumedBy t cl) K t.type_vars (around_of t.bank.now w.fronted_env) w.body.begun.types w.body.said.types w.body.begun.registers w.body.said.registers q
+              (next_all t q part.steps.items) (plain_goals gs) coded.0 coded.1 in
+          let a = grow.0 in let b = grow.1 in let d = w.body.types_stay in let e = w.body.registers_stay in let g = w.types_are in let i = w.registers_are in
+          (omega (arith, a, d, g), omega (arith, b, e, i), omega (arith, d, g), omega (arith, e, i))
+
       -- the own variables are those of the clause
       pub own_registers : own_variables h.self ≡ numbers k (length Ts)
       own_registers =
@@ -211,15 +200,12 @@ module _ {S : Type 0} (t : Tables) (part : Part) (captured : IndexMap ℕ Variab
           let b = hm.terms_grow in
           let d = front_of.made.some.made.registers_stay in
           let e = w.body.neck.registers_stay in
-          let g = (goals_grow (AssumedBy t cl) K t.type_vars (around_of t.bank.now w.fronted_env) w.body.begun.types w.body.said.types
-              w.body.begun.registers w.body.said.registers q (next_all t q part.steps.items) (plain_goals gs) coded.0 coded.1).1 in
-          let i = w.body.registers_stay in
-          let j = w.registers_are in
-          omega (arith, a, b, d, e, g, i, j))
+          let g = room.1 in
+          omega (arith, a, b, d, e, g))
         where
           none : makes coded.0 ≡ []
-          none = goals_plain (AssumedBy t cl) K t.type_vars (around_of t.bank.now w.fronted_env) w.body.begun.types w.body.said.types
-              w.body.begun.registers w.body.said.registers q (next_all t q part.steps.items) (plain_goals gs) coded.0 all_set coded.1
+          none = goals_plain (AssumedBy t cl) K t.type_vars (around_of t.bank.now w.fronted_env) w.body.begun.types w.body.said.types w.body.begun.registers w.body.said.registers q
+              (next_all t q part.steps.items) (plain_goals gs) coded.0 all_set coded.1
 
           made : makes (own_types_code ++ (front ++ (coded.0 ++ on.Proceed ∷ []))) ≡ makes (hm.more ++ front_of.made.some.made.more)
           made =
@@ -230,13 +216,13 @@ module _ {S : Type 0} (t : Tables) (part : Part) (captured : IndexMap ℕ Variab
               ∙ ap (λ l. makes (hm.more ++ front_of.made.some.made.more) ++ l) w.body.neck.plain.no_own ∙ append-nil (makes (hm.more ++ front_of.made.some.made.more))
 
       -- the records that the body names are known
-      module _ (first : ℕ) (le : first ≤ q) (has : GoalsHave (IsAtLevel t) q (new_level A + length Ts) gs)
-          (counts : (n : ℕ) (x : Assumption) → slice_get t.assumptions.now n ≡ Some x → clauses_length (cl.clauses n) ≡ x.count) where
+      module _ (first : ℕ) (le : first ≤ q) (has : GoalsHave (IsAtLevel t) q (new_level A + length Ts) gs) (counts : (n : ℕ) (x : Assumption) → slice_get t.assumptions.now n ≡ Some x →
+          clauses_length (cl.clauses n) ≡ x.count) where
         long : (a : Around) (ns ls : List ℕ) (cs : Clauses) → AssumedBy t cl a ns ls cs → length ns ≡ clauses_length cs
         long a ns ls cs (n, x, found, clauses_are, names, levels, kept) = ap length names ∙ numbers_length (t.first + x.first) x.count ∙ sym (ap clauses_length clauses_are ∙ counts n x found)
 
-        change : (a : Around) (q : ℕ) (ns ls : List ℕ) (cs : Clauses) → first ≤ q → ns ≡ numbers q (length ns) → IsAtLevel t q (new_level a) cs →
-            AssumedBy t cl a ns ls cs → AreNamed t cl first a ns ls cs
+        change : (a : Around) (q : ℕ) (ns ls : List ℕ) (cs : Clauses) → first ≤ q → ns ≡ numbers q (length ns) → IsAtLevel t q (new_level a) cs → AssumedBy t cl a ns ls cs → AreNamed t cl first a ns
+            ls cs
         change a q ns ls cs le numbered level (n, x, found, clauses_are, names, levels, kept) = by_count x.count refl
           where
             many : clauses_length cs ≡ x.count
@@ -270,76 +256,52 @@ module _ {S : Type 0} (t : Tables) (part : Part) (captured : IndexMap ℕ Variab
         level_count : new_level (around_of t.bank.now w.fronted_env) ≡ new_level A + length Ts
         level_count = let i = all_owned.same.base in let j = all_owned.same.count in let e = inside.base in let n = ap length own_is ∙ clause_count k Ts in omega (arith, i, j, e, n)
 
-        pub named : GoalsCode (AreNamed t cl first) K t.type_vars (around_of t.bank.now w.fronted_env) w.body.begun.types w.body.said.types
-            w.body.begun.registers w.body.said.registers q (next_all t q part.steps.items) (plain_goals gs) coded.0
+        pub named : GoalsCode (AreNamed t cl first) K t.type_vars (around_of t.bank.now w.fronted_env) w.body.begun.types w.body.said.types w.body.begun.registers w.body.said.registers q
+            (next_all t q part.steps.items) (plain_goals gs) coded.0
         named =
-            goals_mapped (AssumedBy t cl) K t.type_vars long (AreNamed t cl first) (IsAtLevel t) first change (around_of t.bank.now w.fronted_env)
-                w.body.begun.types w.body.said.types w.body.begun.registers w.body.said.registers q
+            goals_mapped (AssumedBy t cl) K t.type_vars long (AreNamed t cl first) (IsAtLevel t) first change (around_of t.bank.now w.fronted_env) w.body.begun.types w.body.said.types
+                w.body.begun.registers w.body.said.registers q
             (next_all t q part.steps.items) (plain_goals gs) coded.0 le (subst (λ d. GoalsHave (IsAtLevel t) q d (plain_goals gs)) (sym level_count)
                 (plain_have (IsAtLevel t) q (new_level A + length Ts) gs has)) coded.1
 
         pub next_is : next_all t q part.steps.items ≡ q + goals_records gs
         next_is =
-            goals_next (AssumedBy t cl) K t.type_vars long (around_of t.bank.now w.fronted_env) w.body.begun.types w.body.said.types
-                w.body.begun.registers w.body.said.registers q (next_all t q part.steps.items) (plain_goals gs)
+            goals_next (AssumedBy t cl) K t.type_vars long (around_of t.bank.now w.fronted_env) w.body.begun.types w.body.said.types w.body.begun.registers w.body.said.registers q
+                (next_all t q part.steps.items) (plain_goals gs)
             coded.0 coded.1 ∙ ap (λ n. q + n) (plain_records gs)
 
         -- all is run
-        pub all_ran : (later : Later) (s : State) → slice_get h.records h.number ≡ Some h.self →
-            ((a : Around) (ns ls : List ℕ) (cs : Clauses) → AreNamed t cl first a ns ls cs → AreLater h t.type_vars (length ls) ns) →
-            TellClauses h later t.type_vars (AreNamed t cl first) → MayRun h K t.type_vars front_of.begun.types front_of.begun.registers q terms
-                (Ts ++ Γ) (map (λ T. false) Ts ++ B) around (more_of Ts Q) s →
-            IsHeadAtom h t.type_vars (Ts ++ Γ) around head → PredicateStands h.self.head front_of.begun.registers s → GoalsFit h t.type_vars (Ts ++ Γ)
-                (map (λ T. false) Ts ++ B) (more_of Ts Q) gs → goals_depth gs ≤ nesting_limit →
+        pub all_ran : (later : Later) (s : State) → slice_get h.records h.number ≡ Some h.self → ((a : Around) (ns ls : List ℕ) (cs : Clauses) → AreNamed t cl first a ns ls cs → AreLater h
+            t.type_vars (length ls) ns) →
+            TellClauses h later t.type_vars (AreNamed t cl first) → MayRun h K t.type_vars front_of.begun.types front_of.begun.registers q terms (Ts ++ Γ) (map (λ T. false) Ts ++ B) around
+                (more_of Ts Q) s →
+            IsHeadAtom h t.type_vars (Ts ++ Γ) around head → PredicateStands h.self.head front_of.begun.registers s → GoalsFit h t.type_vars (Ts ++ Γ) (map (λ T. false) Ts ++ B) (more_of Ts Q) gs →
+                goals_depth gs ≤ nesting_limit →
             RecordRan h later terms around s (front ++ (coded.0 ++ on.Proceed ∷ [])) (Some head) gs
         all_ran later s self records told may fits predicate fit nest =
-            let grow = goals_grow (AssumedBy t cl) K t.type_vars (around_of t.bank.now w.fronted_env) w.body.begun.types w.body.said.types
-                w.body.begun.registers w.body.said.registers q (next_all t q part.steps.items) (plain_goals gs) coded.0 coded.1 in
-            let a = grow.0 in
-            let b = grow.1 in
-            let d = w.body.types_stay in
-            let e = w.body.registers_stay in
-            let g = w.types_are in
-            let i = w.registers_are in
-            let ran = front_ran h later K t.type_vars q terms (Ts ++ Γ) (map (λ T. false) Ts ++ B) around (around_of t.bank.now front_of.matched_env)
-                (around_of t.bank.now w.fronted_env) (more_of Ts Q) s front_of.begun front_of.matched
-            w.fronted w.body.begun h.self.head (Some head) front_of.head front_of.made w.body.neck may (fits, predicate) refl (omega (arith, a, d, g)) (omega (arith, b, e, i)) in
-            record_ran (AreNamed t cl first) h later K t.type_vars q (next_all t q part.steps.items) terms (Ts ++ Γ) (map (λ T. false) Ts ++ B) around
-                (around_of t.bank.now w.fronted_env) (more_of Ts Q) w.body.begun.types
+            let ran = front_ran h later K t.type_vars q terms (Ts ++ Γ) (map (λ T. false) Ts ++ B) around (around_of t.bank.now front_of.matched_env) (around_of t.bank.now w.fronted_env)
+                (more_of Ts Q) s front_of.begun front_of.matched
+            w.fronted w.body.begun h.self.head (Some head) front_of.head front_of.made w.body.neck may (fits, predicate) refl room.0 room.1 in
+            record_ran (AreNamed t cl first) h later K t.type_vars q (next_all t q part.steps.items) terms (Ts ++ Γ) (map (λ T. false) Ts ++ B) around (around_of t.bank.now w.fronted_env)
+                (more_of Ts Q) w.body.begun.types
             w.body.said.types w.body.begun.registers w.body.said.registers s front coded.0 (Some head) gs ran named records told self
             (λ r set. ap (λ p. sets_by_all p r) self ∙ ap (λ l. is_set_by_all l r) code_is
-            ∙ set_right own_types_code (front ++ (coded.0 ++ on.Proceed ∷ [])) r (set_right front (coded.0 ++ on.Proceed ∷ []) r
-                (set_left coded.0 (on.Proceed ∷ []) r set))) fit (omega (arith, d, g)) (omega (arith, e, i)) nest
+            ∙ set_right own_types_code (front ++ (coded.0 ++ on.Proceed ∷ [])) r (set_right front (coded.0 ++ on.Proceed ∷ []) r (set_left coded.0 (on.Proceed ∷ []) r set))) fit
+                room.2 room.3 nest
 
         -- and its head alone
         pub head_front : (later : Later) (s : State) → MayRun h K t.type_vars front_of.begun.types front_of.begun.registers q terms (Ts ++ Γ) (map (λ T. false) Ts ++ B) around (more_of Ts Q) s →
             IsHeadAtom h t.type_vars (Ts ++ Γ) around head → PredicateStands h.self.head front_of.begun.registers s →
-            FrontRan h later K t.type_vars w.body.begun.types w.body.begun.registers q terms (Ts ++ Γ) (map (λ T. false) Ts ++ B) around
-                (around_of t.bank.now w.fronted_env) (more_of Ts Q) s front (Some head)
+            FrontRan h later K t.type_vars w.body.begun.types w.body.begun.registers q terms (Ts ++ Γ) (map (λ T. false) Ts ++ B) around (around_of t.bank.now w.fronted_env) (more_of Ts Q) s front
+                (Some head)
         head_front later s may fits predicate =
-            let grow = goals_grow (AssumedBy t cl) K t.type_vars (around_of t.bank.now w.fronted_env) w.body.begun.types w.body.said.types
-                w.body.begun.registers w.body.said.registers q (next_all t q part.steps.items) (plain_goals gs) coded.0 coded.1 in
-            let a = grow.0 in
-            let b = grow.1 in
-            let d = w.body.types_stay in
-            let e = w.body.registers_stay in
-            let g = w.types_are in
-            let i = w.registers_are in
-            front_ran h later K t.type_vars q terms (Ts ++ Γ) (map (λ T. false) Ts ++ B) around (around_of t.bank.now front_of.matched_env)
-                (around_of t.bank.now w.fronted_env) (more_of Ts Q) s front_of.begun front_of.matched
-            w.fronted w.body.begun h.self.head (Some head) front_of.head front_of.made w.body.neck may (fits, predicate) refl (omega (arith, a, d, g)) (omega (arith, b, e, i))
+            front_ran h later K t.type_vars q terms (Ts ++ Γ) (map (λ T. false) Ts ++ B) around (around_of t.bank.now front_of.matched_env) (around_of t.bank.now w.fronted_env) (more_of Ts Q) s
+                front_of.begun front_of.matched
+            w.fronted w.body.begun h.self.head (Some head) front_of.head front_of.made w.body.neck may (fits, predicate) refl room.0 room.1
 
         -- a state before the head, with what the record starts with
         enough : (k + length Ts ≤ h.self.registers) × (front_of.begun.types ≤ h.self.types)
         enough =
-            let grow = goals_grow (AssumedBy t cl) K t.type_vars (around_of t.bank.now w.fronted_env) w.body.begun.types w.body.said.types
-                w.body.begun.registers w.body.said.registers q (next_all t q part.steps.items) (plain_goals gs) coded.0 coded.1 in
-            let a = grow.0 in
-            let b = grow.1 in
-            let d = w.body.types_stay in
-            let e = w.body.registers_stay in
-            let g = w.types_are in
-            let i = w.registers_are in
             let j = begun_registers in
             let l = hm.terms_grow in
             let m = hm.types_grow in
@@ -347,12 +309,12 @@ module _ {S : Type 0} (t : Tables) (part : Part) (captured : IndexMap ℕ Variab
             let u = front_of.made.some.made.types_grow in
             let x = w.body.neck.registers_stay in
             let y = w.body.neck.types_stay in
-            (omega (arith, b, e, i, j, l, n, x), omega (arith, a, d, g, m, u, y))
+            (let p = room.1 in omega (arith, p, j, l, n, x), let p = room.0 in omega (arith, p, m, u, y))
 
         module _ (std : IsStandard h.tables.constants) (asked : AreAsked h K) (known : All (IsKnownType h.tables.kinds t.type_vars) Ts) (below : AreBelow q h [])
             (heads_fit : Rattle.lp_gen.specs.inner.BodyLaw.HeadFits h t.type_vars (Ts ++ Γ) (map (λ T. false) Ts ++ B) (more_of Ts Q) head)
-            (body_fits : GoalsFit h t.type_vars (Ts ++ Γ) (map (λ T. false) Ts ++ B) (more_of Ts Q) gs) (nest : goals_depth gs ≤ nesting_limit)
-                (bs : List Built) (with : StartWith σ A (levels_found A keys) bs) where
+            (body_fits : GoalsFit h t.type_vars (Ts ++ Γ) (map (λ T. false) Ts ++ B) (more_of Ts Q) gs) (nest : goals_depth gs ≤ nesting_limit) (bs : List Built)
+                (with : StartWith σ A (levels_found A keys) bs) where
           many : length bs ≡ k
           many = start_length σ A (levels_found A keys) bs with ∙ sym inside.starts.count_is
 
@@ -361,8 +323,8 @@ module _ {S : Type 0} (t : Tables) (part : Part) (captured : IndexMap ℕ Variab
 
           abbrev pub IsFirst : State → Type 0
           IsFirst s =
-              (s.now.terms ≡ started_with bs h.self.registers) × (s.terms_set ≡ from_zero k) × (s.in_body ≡ false) × (s.head_types ≡ []) ×
-                  (s.head_arguments ≡ []) × (s.goals ≡ no_goals) × (s.frames ≡ []) × (s.assumed ≡ [])
+              (s.now.terms ≡ started_with bs h.self.registers) × (s.terms_set ≡ from_zero k) × (s.in_body ≡ false) × (s.head_types ≡ []) × (s.head_arguments ≡ []) × (s.goals ≡ no_goals) ×
+                  (s.frames ≡ []) × (s.assumed ≡ [])
 
           pub may : (s : State) → IsFirst s → TypesStand h t.type_vars front_of.begun.types s →
               MayRun h K t.type_vars front_of.begun.types front_of.begun.registers q terms (Ts ++ Γ) (map (λ T. false) Ts ++ B) around (more_of Ts Q) s
@@ -424,8 +386,8 @@ module _ {S : Type 0} (t : Tables) (part : Part) (captured : IndexMap ℕ Variab
           captured_is : h.self.captured ≡ k
           captured_is = w.captured_are
 
-          first_stands : (s : State) → s.now.terms ≡ started_with bs h.self.registers → (j l : ℕ) (v : Seen) → slice_index_or
-              (map (λ (T : Ty). false) Ts ++ B) j false ≡ true → level_in around j ≡ Some l → at_level around l ≡ Some v →
+          first_stands : (s : State) → s.now.terms ≡ started_with bs h.self.registers → (j l : ℕ) (v : Seen) → slice_index_or (map (λ (T : Ty). false) Ts ++ B) j false ≡ true → level_in around j ≡
+              Some l → at_level around l ≡ Some v →
               (v.register < h.self.captured) × (held s.now.terms v.register ≡ Some (whole (terms l) v.of)) × (is_all_variable h.records (terms l) ≡ true)
           first_stands s now_is j l v is e at =
               let set = set_first j l v is e at in
@@ -449,9 +411,8 @@ module _ {S : Type 0} (t : Tables) (part : Part) (captured : IndexMap ℕ Variab
           pub neck_code : h.self.code.items ≡ (own_types_code ++ (hm.more ++ front_of.made.some.made.more)) ++ on.Neck ∷ (coded.0 ++ on.Proceed ∷ [])
           neck_code =
               code_is
-              ∙ ap (λ l. own_types_code ++ l) (ap (λ l. l ++ (coded.0 ++ on.Proceed ∷ []))
-                  (sym (append_assoc hm.more front_of.made.some.made.more w.body.neck.more) ∙ ap (λ l. (hm.more ++ front_of.made.some.made.more) ++ l)
-                  w.body.neck.is_neck)
+              ∙ ap (λ l. own_types_code ++ l) (ap (λ l. l ++ (coded.0 ++ on.Proceed ∷ [])) (sym (append_assoc hm.more front_of.made.some.made.more w.body.neck.more) ∙ ap
+                  (λ l. (hm.more ++ front_of.made.some.made.more) ++ l) w.body.neck.is_neck)
               ∙ append_assoc (hm.more ++ front_of.made.some.made.more) (on.Neck ∷ []) (coded.0 ++ on.Proceed ∷ []))
               ∙ sym (append_assoc own_types_code (hm.more ++ front_of.made.some.made.more) (on.Neck ∷ (coded.0 ++ on.Proceed ∷ [])))
 
@@ -485,29 +446,28 @@ module _ {S : Type 0} (t : Tables) (part : Part) (captured : IndexMap ℕ Variab
                 (λ i p le. let x = all_seen h K t.type_vars σ Γ B A around Q keys k Ts out inside i p in let z : i ≡ i - 0 = omega arith in subst (HasLevel around) z (x.0, x.2)) body_fits)
 
           -- run from the first state, behind the type variables that the record makes
-          pub ran_all : (later : Later) (s0 s : State) → ((rest : List Instr) → run h later s0 (own_types_code ++ rest) ≡ run h later s rest) →
-              IsFirst s → TypesStand h t.type_vars front_of.begun.types s →
-              slice_get h.records h.number ≡ Some h.self → ((a : Around) (ns ls : List ℕ) (cs : Clauses) → AreNamed t cl first a ns ls cs → AreLater h
-                  t.type_vars (length ls) ns) → TellClauses h later t.type_vars (AreNamed t cl first) →
+          pub ran_all : (later : Later) (s0 s : State) → ((rest : List Instr) → run h later s0 (own_types_code ++ rest) ≡ run h later s rest) → IsFirst s → TypesStand h t.type_vars
+              front_of.begun.types s →
+              slice_get h.records h.number ≡ Some h.self → ((a : Around) (ns ls : List ℕ) (cs : Clauses) → AreNamed t cl first a ns ls cs → AreLater h t.type_vars (length ls) ns) → TellClauses h
+                  later t.type_vars (AreNamed t cl first) →
               (r : RecordRan h later terms around s (front ++ (coded.0 ++ on.Proceed ∷ [])) (Some head) gs) × (run h later s0 h.self.code.items ≡ Done r.state)
           ran_all later s0 s runs is_first st self records told =
               let r = all_ran later s self records told (may s is_first st) atom_fits (predicate_is s is_first.0).0 body_fits nest in
               (r, ap (run h later s0) code_is ∙ runs (front ++ (coded.0 ++ on.Proceed ∷ [])) ∙ r.runs)
 
           -- the key of the first argument, where the types and the head are run alone
-          pub key_found : (later : Later) (s0 s : State) → ((rest : List Instr) → run h later s0 (own_types_code ++ rest) ≡ run h later s rest) →
-              IsFirst s → TypesStand h t.type_vars front_of.begun.types s → 0 < s.place →
+          pub key_found : (later : Later) (s0 s : State) → ((rest : List Instr) → run h later s0 (own_types_code ++ rest) ≡ run h later s rest) → IsFirst s → TypesStand h t.type_vars
+              front_of.begun.types s → 0 < s.place →
               s0.in_body ≡ false → s0.head_arguments ≡ [] → s0.frames ≡ [] → ((r : ℕ) → held s0.now.terms r ≡ None) → first_key (λ r. None) h.self.code.items ≡ first_key_of (arguments head)
           key_found later s0 s runs is_first st low before none closed unset =
               let f = head_front later s (may s is_first st) atom_fits (predicate_is s is_first.0).0 in
               let grow = f.place_grows in
               let end = f.runs_before [] ∙ ran_out h later f.before (omega (arith, low, grow)) in
               let rest = coded.0 ++ on.Proceed ∷ [] in
-              ap (first_key (λ r. None)) (code_is ∙ ap (λ l. own_types_code ++ l) (ap (λ l. l ++ rest) f.front_is ∙ append_assoc f.front
-                  (on.Neck ∷ []) rest) ∙ sym (append_assoc own_types_code f.front (on.Neck ∷ rest)))
-              ∙ key_law h later (own_types_code ++ f.front) (coded.0 ++ on.Proceed ∷ []) s0 f.before
-                  (ap (run h later s0) (sym (append-nil (own_types_code ++ f.front)) ∙ append_assoc own_types_code f.front []) ∙ runs (f.front ++ [])
-                  ∙ end) before none closed f.in_head unset
+              ap (first_key (λ r. None)) (code_is ∙ ap (λ l. own_types_code ++ l) (ap (λ l. l ++ rest) f.front_is ∙ append_assoc f.front (on.Neck ∷ []) rest) ∙ sym
+                  (append_assoc own_types_code f.front (on.Neck ∷ rest)))
+              ∙ key_law h later (own_types_code ++ f.front) (coded.0 ++ on.Proceed ∷ []) s0 f.before (ap (run h later s0)
+                  (sym (append-nil (own_types_code ++ f.front)) ∙ append_assoc own_types_code f.front []) ∙ runs (f.front ++ []) ∙ end) before none closed f.in_head unset
               ∙ ap arguments_key (sym f.same_arguments) ∙ first_built f.state.head_arguments ∙ ap first_key_of f.head_is.1 ∙ first_key_with terms around (arguments head) no_keys
             where
               first_built : (xs : List Built) → arguments_key xs ≡ first_key_of (plain_terms xs)
@@ -530,8 +490,8 @@ module _ {S : Type 0} (t : Tables) (part : Part) (captured : IndexMap ℕ Variab
 
           -- an assumed record
           pub assumed_denoted : is_none part.within ≡ false → is_named h ≡ true → t.type_vars ≤ 65535 → (later : Later) (c0 : Captured) → c0.types ≡ map var (from_zero t.type_vars) → c0.terms ≡ bs →
-              slice_get h.records h.number ≡ Some h.self → ((a : Around) (ns ls : List ℕ) (cs : Clauses) → AreNamed t cl first a ns ls cs → AreLater h
-                  t.type_vars (length ls) ns) → TellClauses h later t.type_vars (AreNamed t cl first) →
+              slice_get h.records h.number ≡ Some h.self → ((a : Around) (ns ls : List ℕ) (cs : Clauses) → AreNamed t cl first a ns ls cs → AreLater h t.type_vars (length ls) ns) → TellClauses h
+                  later t.type_vars (AreNamed t cl first) →
               (d : FlatClause) × (denoted h later c0 ≡ Some d) × (bare_clauses (clauses d no_clauses) ≡ said_clauses σ A 0 (clauses (clause 0 Ts head gs) no_clauses))
           assumed_denoted outer named few_types later c0 types terms_are self records told =
               let s0 = first_state h.self c0 in
@@ -539,8 +499,8 @@ module _ {S : Type 0} (t : Tables) (part : Part) (captured : IndexMap ℕ Variab
               let program : h.self.program ≡ false = w.is_program ∙ outer in
               let kinds : h.self.captured_types ≡ t.type_vars = w.captured_types ∙ ap (λ b. if b then 0 else t.type_vars) outer in
               let no_key : h.self.key ≡ key.None = subst (λ b. HasKey t.bank.now (origin.Clause c) b h.self.key) outer (subst (λ z. HasKey t.bank.now z (is_none part.within) h.self.key) o w.key_is) in
-              let begun : front_of.begun.types ≡ t.type_vars = front_of.entered.types_stay ∙ same_types (is_none part.within) w.begun w.typed
-                  t.type_vars w.made outer ∙ w.first_types ∙ ap (λ b. if b then 0 else t.type_vars) outer in
+              let begun : front_of.begun.types ≡ t.type_vars = front_of.entered.types_stay ∙ same_types (is_none part.within) w.begun w.typed t.type_vars w.made outer ∙ w.first_types ∙ ap
+                  (λ b. if b then 0 else t.type_vars) outer in
               let e0 = enough.0 in
               let e1 = enough.1 in
               let cap = captured_is in
@@ -573,24 +533,24 @@ module _ {S : Type 0} (t : Tables) (part : Part) (captured : IndexMap ℕ Variab
               (none_both front_of.made.some.made.more w.body.neck.more (no_tynews front_of.made.some.made.more front_of.made.some.made.no_types)
                   (no_tynews w.body.neck.more w.body.neck.plain.no_types)))
               (none_both coded.0 (on.Proceed ∷ [])
-              (goals_none (AssumedBy t cl) K t.type_vars (around_of t.bank.now w.fronted_env) w.body.begun.types w.body.said.types
-                  w.body.begun.registers w.body.said.registers q (next_all t q part.steps.items) (plain_goals gs)
+              (goals_none (AssumedBy t cl) K t.type_vars (around_of t.bank.now w.fronted_env) w.body.begun.types w.body.said.types w.body.begun.registers w.body.said.registers q
+                  (next_all t q part.steps.items) (plain_goals gs)
               coded.0 coded.1) refl)
 
-          pub program_denoted : is_none part.within ≡ true → t.type_vars ≤ 65535 → k ≡ 0 → bs ≡ [] → AllLoose NoIndex (length Ts) head → AreThrough
-              (AllLoose NoIndex) (length Ts) gs → written_goals gs ≡ gs → (later : Later) →
-              slice_get h.records h.number ≡ Some h.self → ((a : Around) (ns ls : List ℕ) (cs : Clauses) → AreNamed t cl first a ns ls cs → AreLater h
-                  t.type_vars (length ls) ns) → TellClauses h later t.type_vars (AreNamed t cl first) →
+          pub program_denoted : is_none part.within ≡ true → t.type_vars ≤ 65535 → k ≡ 0 → bs ≡ [] → AllLoose NoIndex (length Ts) head → AreThrough (AllLoose NoIndex) (length Ts) gs → written_goals
+              gs ≡ gs → (later : Later) →
+              slice_get h.records h.number ≡ Some h.self → ((a : Around) (ns ls : List ℕ) (cs : Clauses) → AreNamed t cl first a ns ls cs → AreLater h t.type_vars (length ls) ns) → TellClauses h
+                  later t.type_vars (AreNamed t cl first) →
               denoted h later nothing_captured ≡ Some (clause t.type_vars Ts head gs)
           program_denoted outer few_types none_captured nothing no_index no_indices written later self records told =
               let s0 = first_state h.self nothing_captured in
-              let s1 : State = record { place = 1; now = s0.now; types_set = s0.types_set; terms_set = s0.terms_set; in_body = s0.in_body;
-                  head_types = s0.head_types; head_arguments = s0.head_arguments; goals = s0.goals; frames = s0.frames; assumed = s0.assumed } in
+              let s1 : State = record { place = 1; now = s0.now; types_set = s0.types_set; terms_set = s0.terms_set; in_body = s0.in_body; head_types = s0.head_types;
+                  head_arguments = s0.head_arguments; goals = s0.goals; frames = s0.frames; assumed = s0.assumed } in
               let program : h.self.program ≡ true = w.is_program ∙ outer in
               let kinds : h.self.captured_types ≡ 0 = w.captured_types ∙ ap (λ b. if b then 0 else t.type_vars) outer in
               let zero_types : w.begun.types ≡ 0 = w.first_types ∙ ap (λ b. if b then 0 else t.type_vars) outer in
-              let begun : front_of.begun.types ≡ t.type_vars = front_of.entered.types_stay ∙ more_types (is_none part.within) w.begun w.typed
-                  t.type_vars w.made outer ∙ (let z : w.begun.types + t.type_vars ≡ t.type_vars = omega (arith, zero_types) in z) in
+              let begun : front_of.begun.types ≡ t.type_vars = front_of.entered.types_stay ∙ more_types (is_none part.within) w.begun w.typed t.type_vars w.made outer ∙
+                  (let z : w.begun.types + t.type_vars ≡ t.type_vars = omega (arith, zero_types) in z) in
               let code = program_code outer in
               let low : t.type_vars ≤ h.self.types = (let e = enough.1 in omega (arith, begun, e)) in
               let own_code : (rest : List Instr) → own_types_code ++ rest ≡ news 0 t.type_vars ++ rest = λ rest i. types_code (outer i) (zero_types i) t.type_vars ++ rest in
@@ -600,14 +560,14 @@ module _ {S : Type 0} (t : Tables) (part : Part) (captured : IndexMap ℕ Variab
               let cap = captured_is in
               let first_of : (x : Typed h t.type_vars (front ++ (coded.0 ++ on.Proceed ∷ [])) code no_new_types low later s1) → IsFirst x.state =
               λ x. (x.terms ∙ now_is, x.terms_set ∙ ap from_zero w.captured_are, x.in_body, x.head_types, x.arguments, x.goals, x.frames, x.assumed) in
-              let y1 = typed h t.type_vars (front ++ (coded.0 ++ on.Proceed ∷ [])) code no_new_types low later s1 refl types_none refl refl program
-                  few_types (λ e r. absurd (one_is_not (eqb-true 1 0 e))) in
+              let y1 = typed h t.type_vars (front ++ (coded.0 ++ on.Proceed ∷ [])) code no_new_types low later s1 refl types_none refl refl program few_types
+                  (λ e r. absurd (one_is_not (eqb-true 1 0 e))) in
               let grow = y1.place_grows in
-              let key = key_found later s1 y1.state (λ rest. ap (run h later s1) (own_code rest) ∙ y1.runs rest) (first_of y1)
-                  (subst (λ n. TypesStand h t.type_vars n y1.state) (sym begun) y1.stand) (omega (arith, grow)) refl refl refl
+              let key = key_found later s1 y1.state (λ rest. ap (run h later s1) (own_code rest) ∙ y1.runs rest) (first_of y1) (subst (λ n. TypesStand h t.type_vars n y1.state) (sym begun) y1.stand)
+                  (omega (arith, grow)) refl refl refl
               (λ r. none_started r) in
-              let has_key : key_is h.self.key (first_key_of (arguments head)) ≡ true = subst (λ b. HasKey t.bank.now (origin.Clause c) b h.self.key)
-                  outer (subst (λ z. HasKey t.bank.now z (is_none part.within) h.self.key) o w.key_is) in
+              let has_key : key_is h.self.key (first_key_of (arguments head)) ≡ true = subst (λ b. HasKey t.bank.now (origin.Clause c) b h.self.key) outer
+                  (subst (λ z. HasKey t.bank.now z (is_none part.within) h.self.key) o w.key_is) in
               let e0 = enough.0 in
               let whole : Whole h s0 = record {
                 types = omega (arith, kinds);
@@ -616,18 +576,17 @@ module _ {S : Type 0} (t : Tables) (part : Part) (captured : IndexMap ℕ Variab
                 neck = has_neck_is;
                 headed = p.1;
                 ends = ends_is;
-                named = ap (λ b. if b then nat_eq (h.self.captured_types + h.self.captured) 0 else is_named h) program ∙ eq-eqb
-                    (h.self.captured_types + h.self.captured) 0 (omega (arith, kinds, cap, none_captured));
+                named = ap (λ b. if b then nat_eq (h.self.captured_types + h.self.captured) 0 else is_named h) program ∙ eq-eqb (h.self.captured_types + h.self.captured) 0
+                    (omega (arith, kinds, cap, none_captured));
                 key = program_key h (first_key_of (arguments head)) program key has_key;
               } in
               let y0 = typed h t.type_vars (front ++ (coded.0 ++ on.Proceed ∷ [])) code no_new_types low later s0 refl types_none refl refl program few_types (λ e r. whole_sound h s0 whole r) in
               let r = ran_all later s0 y0.state (λ rest. ap (run h later s0) (own_code rest) ∙ y0.runs rest)
-              (y0.terms ∙ now_is, y0.terms_set ∙ ap from_zero w.captured_are, y0.in_body, y0.head_types, y0.arguments, y0.goals, y0.frames,
-                  y0.assumed) (subst (λ n. TypesStand h t.type_vars n y0.state) (sym begun) y0.stand) self
+              (y0.terms ∙ now_is, y0.terms_set ∙ ap from_zero w.captured_are, y0.in_body, y0.head_types, y0.arguments, y0.goals, y0.frames, y0.assumed)
+                  (subst (λ n. TypesStand h t.type_vars n y0.state) (sym begun) y0.stand) self
               records told in
               program_clause h later nothing_captured σ A t.type_vars Ts head gs r.0.state r.1 program (own_count h t.type_vars (front ++ (coded.0 ++ on.Proceed ∷ [])) code no_new_types low)
-              (types_said later y0.state (front ++ (coded.0 ++ on.Proceed ∷ [])) r.0)
-                  (head_said later y0.state (front ++ (coded.0 ++ on.Proceed ∷ [])) r.0)
+              (types_said later y0.state (front ++ (coded.0 ++ on.Proceed ∷ [])) r.0) (head_said later y0.state (front ++ (coded.0 ++ on.Proceed ∷ [])) r.0)
                   (body_said later y0.state (front ++ (coded.0 ++ on.Proceed ∷ [])) r.0) no_index no_indices
               written
             where

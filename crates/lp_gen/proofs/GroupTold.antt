@@ -36,7 +36,7 @@ use Rattle.lp_gen.specs.inner.OpenGoals.{goals_steps, EndsGoal, EndsGoals}
 use Rattle.lp_gen.specs.inner.BodyCode.{Suppositions, started_at, AreAllSet, HoldStarts, steps_of, starts_all}
 use Rattle.lp_gen.specs.inner.Recorded.{RecordWritten, own_count}
 use Rattle.lp_gen.specs.inner.Planned.{clauses_length, goal_records, goals_records, GoalHas, GoalsHave, AreWritten, DeepGoal, DeepGoals, DeepClauses, IsAssumption, IsAtLevel, IsCaptured, AreCaptured}
-use Rattle.lp_gen.specs.inner.Planning.{AreAssumed, Extends, HoldClauses, AssumptionAt, PartPlanned, AllPlanned, IsPartOf, ArePlanned, body_of}
+use Rattle.lp_gen.specs.inner.Planning.{AreAssumed, AllCaptured, Extends, HoldClauses, AssumptionAt, PartPlanned, AllPlanned, IsPartOf, ArePlanned, body_of}
 use Rattle.lp_gen.specs.inner.Groups.{IsStartOf, AllWritten}
 use Rattle.lp_gen.proofs.TypeWorks.{map_length}
 use Rattle.lp_gen.proofs.PlanWalked.{extends_same, extends_at, get_behind}
@@ -75,14 +75,14 @@ written_length t xs ys (p ∷ ps) [] w = absurd w
 written_length t xs ys (p ∷ ps) (r ∷ rs) (m, more, a, b, c) = ap suc (written_length t (xs ++ more) ys ps rs c)
 
 -- what is at a place, and what holds there step by step
-module _ (S : Type 0) (t : Tables) (us : List Due) (xs : List Assumption) (starts : List (IndexMap ℕ Variable S)) (parts : List Part)
-    (g : List Record) (e : Extends xs t.assumptions.now) (low : t.first + length us < 2 ^ 32)
+module _ (S : Type 0) (t : Tables) (us : List Due) (xs : List Assumption) (starts : List (IndexMap ℕ Variable S)) (parts : List Part) (g : List Record) (e : Extends xs t.assumptions.now)
+    (low : t.first + length us < 2 ^ 32)
     (I : ℕ → ℕ → Type 0) (step : (i : ℕ) (p : Part) (r : Record) (z : At S t us xs starts i p r) → slice_get parts i ≡ Some p → slice_get g i ≡ Some r → I i z.q → I (suc i) z.s) where
   -- the next place
-  placed : (before : List (IndexMap ℕ Variable S)) (i n k q l : ℕ) (y : Part) (x : Record) (ps : List Part) (rs : List Record)
-      (c : IndexMap ℕ Variable S) (more : List (IndexMap ℕ Variable S)) → PartPlanned us xs i n k q l y →
-      RecordWritten t (constant_function t.bank.now t.constants.now) y c [] more x → IsStartOf before y.within c → AllWritten t (before ++ more)
-          starts ps rs → length before ≡ n → All (AreAllSet t.bank.now) before →
+  placed : (before : List (IndexMap ℕ Variable S)) (i n k q l : ℕ) (y : Part) (x : Record) (ps : List Part) (rs : List Record) (c : IndexMap ℕ Variable S)
+      (more : List (IndexMap ℕ Variable S)) → PartPlanned us xs i n k q l y →
+      RecordWritten t (constant_function t.bank.now t.constants.now) y c [] more x → IsStartOf before y.within c → AllWritten t (before ++ more) starts ps rs → length before ≡ n → All
+          (AreAllSet t.bank.now) before →
       (z : At S t us xs starts i y x) × (z.q ≡ q) × (z.s ≡ l) × (length (before ++ more) ≡ k) × All (AreAllSet t.bank.now) (before ++ more)
   placed before i n k q l y x ps rs c more a w b ws many set = (
     record {
@@ -110,10 +110,10 @@ module _ (S : Type 0) (t : Tables) (us : List Due) (xs : List Assumption) (start
   next_known : (i q s : ℕ) (y : Part) (x : Record) (z : At S t us xs starts i y x) → slice_get parts i ≡ Some y → slice_get g i ≡ Some x → z.q ≡ q → z.s ≡ s → I i q → I (suc i) s
   next_known i q s y x z at at_g same_q same_s known = subst (I (suc i)) same_s (step i y x z at at_g (subst (I i) (sym same_q) known))
 
-  pub all_at : (before : List (IndexMap ℕ Variable S)) (i n m q s : ℕ) (ps : List Part) (rs : List Record) → AllPlanned us xs i n m q s ps →
-      AllWritten t before starts ps rs → length before ≡ n → All (AreAllSet t.bank.now) before → I i q →
-      ((j : ℕ) → slice_get parts (i + j) ≡ slice_get ps j) → ((j : ℕ) → slice_get g (i + j) ≡ slice_get rs j) → (j : ℕ) (p : Part) (r : Record) →
-          slice_get ps j ≡ Some p → slice_get rs j ≡ Some r → (z : At S t us xs starts (i + j) p r) × I (i + j) z.q
+  pub all_at : (before : List (IndexMap ℕ Variable S)) (i n m q s : ℕ) (ps : List Part) (rs : List Record) → AllPlanned us xs i n m q s ps → AllWritten t before starts ps rs → length before
+      ≡ n → All (AreAllSet t.bank.now) before → I i q →
+      ((j : ℕ) → slice_get parts (i + j) ≡ slice_get ps j) → ((j : ℕ) → slice_get g (i + j) ≡ slice_get rs j) → (j : ℕ) (p : Part) (r : Record) → slice_get ps j ≡ Some p → slice_get rs j ≡
+          Some r → (z : At S t us xs starts (i + j) p r) × I (i + j) z.q
   all_at before i n m q s [] rs a w many set known same same_g j p r at at_r = absurd (no_start p at)
   all_at before i n m q s (y ∷ ps) [] a w many set known same same_g j p r at at_r = absurd w
   all_at before i n m q s (y ∷ ps) (x ∷ rs) (k, l, a, ahead) (c, more, w, b, ws) many set known same same_g zero p r at at_r =
@@ -132,8 +132,8 @@ module _ (S : Type 0) (t : Tables) (us : List Due) (xs : List Assumption) (start
           (λ v. let u : suc i + v ≡ i + suc v = omega arith in ap (slice_get parts) u ∙ same (suc v))
       (λ v. let u : suc i + v ≡ i + suc v = omega arith in ap (slice_get g) u ∙ same_g (suc v)) j p r at at_r)
 
-  pub all_end : (before : List (IndexMap ℕ Variable S)) (i n m q s : ℕ) (ps : List Part) (rs : List Record) → AllPlanned us xs i n m q s ps →
-      AllWritten t before starts ps rs → length before ≡ n → All (AreAllSet t.bank.now) before → I i q →
+  pub all_end : (before : List (IndexMap ℕ Variable S)) (i n m q s : ℕ) (ps : List Part) (rs : List Record) → AllPlanned us xs i n m q s ps → AllWritten t before starts ps rs → length before
+      ≡ n → All (AreAllSet t.bank.now) before → I i q →
       ((j : ℕ) → slice_get parts (i + j) ≡ slice_get ps j) → ((j : ℕ) → slice_get g (i + j) ≡ slice_get rs j) → I (i + length ps) s
   all_end before i n m q s [] rs a w many set known same same_g = let zero_more : i ≡ i + 0 = omega arith in subst (λ v. I v s) zero_more (subst (I i) a.1 known)
   all_end before i n m q s (y ∷ ps) [] a w many set known same same_g = absurd w
@@ -160,32 +160,6 @@ mutual
   have_map : (D E : ℕ → ℕ → Clauses → Type 0) → ((q d : ℕ) (cs : Clauses) → D q d cs → E q d cs) → (q d : ℕ) (gs : Goals) → GoalsHave D q d gs → GoalsHave E q d gs
   have_map D E f q d no_goals x = tt
   have_map D E f q d (goals g gs) x = (goal_have_map D E f q d g x.0, have_map D E f (q + goal_records g) d gs x.1)
-
--- a condition that holds of all indices
-
-all_loose : (P : ℕ → Type 0) → ((i : ℕ) → P i) → (d : ℕ) (t : Term) → AllLoose P d t
-all_loose P f d (index i) = λ le. f (i - d)
-all_loose P f d (atom a) = tt
-all_loose P f d (abs t) = all_loose P f (suc d) t
-all_loose P f d (app t u) = (all_loose P f d t, all_loose P f d u)
-
-mutual
-  goal_everywhere : (P : ℕ → Type 0) → ((i : ℕ) → P i) → (d : ℕ) (g : Goal) → IsThrough (AllLoose P) d g
-  goal_everywhere P f d (Atomic t) = all_loose P f d t
-  goal_everywhere P f d Cut = tt
-  goal_everywhere P f d (Either gs hs) = (goals_everywhere P f d gs, goals_everywhere P f d hs)
-  goal_everywhere P f d (Exists T gs) = goals_everywhere P f (suc d) gs
-  goal_everywhere P f d (Forall T gs) = goals_everywhere P f (suc d) gs
-  goal_everywhere P f d (Assume w cs gs) = (clauses_everywhere P f d cs, goals_everywhere P f d gs)
-  goal_everywhere P f d (Not w gs) = goals_everywhere P f d gs
-
-  goals_everywhere : (P : ℕ → Type 0) → ((i : ℕ) → P i) → (d : ℕ) (gs : Goals) → AreThrough (AllLoose P) d gs
-  goals_everywhere P f d no_goals = tt
-  goals_everywhere P f d (goals g gs) = (goal_everywhere P f d g, goals_everywhere P f d gs)
-
-  pub clauses_everywhere : (P : ℕ → Type 0) → ((i : ℕ) → P i) → (d : ℕ) (cs : Clauses) → AllThrough (AllLoose P) d cs
-  clauses_everywhere P f d no_clauses = tt
-  clauses_everywhere P f d (clauses (clause n vs t gs) cs) = (all_loose P f (under_all suc vs d) t, goals_everywhere P f (under_all suc vs d) gs, clauses_everywhere P f d cs)
 
 -- clauses by their places
 clause_found : (b : Nodes) (cs : List code.Clause) (j : ℕ) (c : Clause) → clause_at (clauses_of b cs) j ≡ Some c → (d : code.Clause) × (slice_get cs j ≡ Some d) × (clause_of b d ≡ c)
@@ -306,9 +280,9 @@ clauses_in_place b (Some x) = clauses_of b x.clauses.now
 abbrev pub supposed : {S : Type 0} → Nodes → List Assumption → List (IndexMap ℕ Variable S) → Suppositions
 supposed b xs starts = record { clauses = λ n. clauses_in_place b (slice_get xs n); starts = λ n l. start_at b (slice_get starts n) l; counts = λ n. count_at (slice_get starts n) }
 
-module _ (S : Type 0) (t : Tables) (of : Bor code.Clause) (us : List Due) (parts : List Part) (g : List Record)
-    (starts : List (IndexMap ℕ Variable S)) (plan : ArePlanned (origin.Clause of) us parts t.assumptions.now)
-    (w : AllWritten t [] starts parts g) (low : t.first + length parts < 2 ^ 32) (deep : DeepGoals (goals_of t.bank.now of.now.body.items)) where
+module _ (S : Type 0) (t : Tables) (of : Bor code.Clause) (us : List Due) (parts : List Part) (g : List Record) (starts : List (IndexMap ℕ Variable S))
+    (plan : ArePlanned (origin.Clause of) us parts t.assumptions.now)
+    (w : AllWritten t [] starts parts g) (low : t.first + length parts < 2 ^ 32) (deep : DeepGoals (goals_of t.bank.now of.now.body.items)) (standing : AllCaptured t.bank.now t.assumptions.now) where
   abbrev b : Nodes
   b = t.bank.now
 
@@ -346,9 +320,8 @@ module _ (S : Type 0) (t : Tables) (of : Bor code.Clause) (us : List Due) (parts
           (m.2.0, is.0 ∙ ap (λ y. y.origin) (sym same) ∙ m.2.2)
 
   -- an assumed one is a member
-  member_of : (i n : ℕ) (p : Part) → slice_get parts i ≡ Some p → p.within ≡ Some n → (x : Assumption) × (j : ℕ) × (c : code.Clause) ×
-      (e : Bor code.Clause) × (slice_get xs n ≡ Some x) × (x.first + j ≡ i) × (slice_get x.clauses.now j ≡ Some c) × (e.now ≡ c) ×
-      (p.origin ≡ origin.Clause e) × (p.base ≡ x.base)
+  member_of : (i n : ℕ) (p : Part) → slice_get parts i ≡ Some p → p.within ≡ Some n → (x : Assumption) × (j : ℕ) × (c : code.Clause) × (e : Bor code.Clause) × (slice_get xs n ≡ Some x) ×
+      (x.first + j ≡ i) × (slice_get x.clauses.now j ≡ Some c) × (e.now ≡ c) × (p.origin ≡ origin.Clause e) × (p.base ≡ x.base)
   member_of i n p at within =
       let u = plan.stands.are i p at in
       let is = u.2 in
@@ -438,8 +411,8 @@ module _ (S : Type 0) (t : Tables) (of : Bor code.Clause) (us : List Due) (parts
   few_due = let z = bound in omega (arith, low, z)
 
   -- the records that it names
-  names_at : (T : CodeTables) (i : ℕ) (p : Part) (r : Record) (z : At S t us xs starts i p r) → slice_get parts i ≡ Some p → (n : ℕ) ×
-      (names_in r.code.items ≡ numbers (t.first + z.q) n) × (t.first + z.s ≡ t.first + z.q + n)
+  names_at : (T : CodeTables) (i : ℕ) (p : Part) (r : Record) (z : At S t us xs starts i p r) → slice_get parts i ≡ Some p → (n : ℕ) × (names_in r.code.items ≡ numbers (t.first + z.q) n) ×
+      (t.first + z.s ≡ t.first + z.q + n)
   names_at T i p r z at =
       let c = origin_of i p at in
       let next = z.planned.are_next t (extends_same xs) few_due in
@@ -447,8 +420,8 @@ module _ (S : Type 0) (t : Tables) (of : Bor code.Clause) (us : List Due) (parts
       let few = z.planned.few in
       let short = z.planned.short in
       let count = count_is c.0 p c.1 in
-      let w = names t p z.captured z.more c.0 (home_of T [] i r) z.written c.1 (set_at i p r z) cl (t.first + z.q) (length z.before)
-          (goals_of b (body_of p.origin)) (kept_at i p r z) (z.planned.says b cl hold) (ends_at i p at) next.0
+      let w = names t p z.captured z.more c.0 (home_of T [] i r) z.written c.1 (set_at i p r z) cl (t.first + z.q) (length z.before) (goals_of b (body_of p.origin)) (kept_at i p r z)
+          (z.planned.says b cl hold) (ends_at i p at) next.0
       (omega (arith, few, short, count)) in
       (w.0, w.1, sym next.1 ∙ w.2)
 
@@ -463,33 +436,32 @@ module _ (S : Type 0) (t : Tables) (of : Bor code.Clause) (us : List Due) (parts
     early_step i p r z at at_r known =
         let ns = names_at T i p r z at in
         let here : named_before (t.first + suc i) all ≡ named_before (t.first + i) all ++ names_in r.code.items =
-        (let y : t.first + suc i ≡ suc (t.first + i) = omega arith in ap (λ k. named_before k all) y) ∙ named_one_more all (t.first + i) r (placed i r at_r) in
+            (let y : t.first + suc i ≡ suc (t.first + i) = omega arith in ap (λ k. named_before k all) y) ∙ named_one_more all (t.first + i) r (placed i r at_r) in
         let grow = ns.2 in (
           λ v is.
               member_cases v (named_before (t.first + i) all) (names_in r.code.items) (v < t.first + z.s) (sym (ap (member v) here) ∙ is) (λ e. let l = known.0 v e in omega (arith, l, grow))
               (λ e. let l = member_numbers v (t.first + z.q) ns.0 (sym (ap (member v) ns.1) ∙ e) in omega (arith, l, grow)),
           λ v some lt.
               ap (member (t.first + v)) here ∙ ⊎_elim (λ e. member_left (t.first + v) (named_before (t.first + i) all) (names_in r.code.items) (known.1 v some e))
-              (λ e. member_right (t.first + v) (named_before (t.first + i) all) (names_in r.code.items)
-                  (ap (member (t.first + v)) ns.1 ∙ numbers_member (t.first + v) (t.first + z.q) ns.0 (omega (arith, e)) (omega (arith, lt, grow))))
-                  (low_or_high v z.q),
+              (λ e. member_right (t.first + v) (named_before (t.first + i) all) (names_in r.code.items) (ap (member (t.first + v)) ns.1 ∙ numbers_member (t.first + v) (t.first + z.q) ns.0
+                  (omega (arith, e)) (omega (arith, lt, grow)))) (low_or_high v z.q),
         )
 
     pub at_place : (i : ℕ) (p : Part) (r : Record) → slice_get parts i ≡ Some p → slice_get g i ≡ Some r → (z : At S t us xs starts i p r) × Early i z.q
     at_place i p r at at_r =
         let zero_more : 0 + i ≡ i = omega arith in
-        subst (λ v. (z : At S t us xs starts v p r) × Early v z.q) zero_more (all_at S t us xs starts parts g (extends_same xs) few_due Early
-            early_step [] 0 0 (length xs) 1 (length us) parts g plan.stands.planned w refl (All-nil (AreAllSet b))
-        (λ v e. let z : t.first + 0 ≡ t.first = omega arith in let l = before v (sym (ap (λ k. member v (named_before k all)) z) ∙ e) in omega
-            (arith, l), λ v some lt. absurd (omega (arith, some, lt))) (from_none parts) (from_none g) i p r at at_r)
+        subst (λ v. (z : At S t us xs starts v p r) × Early v z.q) zero_more (all_at S t us xs starts parts g (extends_same xs) few_due Early early_step [] 0 0 (length xs) 1 (length us)
+            parts g plan.stands.planned w refl (All-nil (AreAllSet b))
+        (λ v e. let z : t.first + 0 ≡ t.first = omega arith in let l = before v (sym (ap (λ k. member v (named_before k all)) z) ∙ e) in omega (arith, l), λ v some lt. absurd
+            (omega (arith, some, lt))) (from_none parts) (from_none g) i p r at at_r)
 
     pub early_end : Early (length parts) (length us)
     early_end =
         let zero_more : 0 + length parts ≡ length parts = omega arith in
-        subst (λ v. Early v (length us)) zero_more (all_end S t us xs starts parts g (extends_same xs) few_due Early early_step [] 0 0 (length xs) 1
-            (length us) parts g plan.stands.planned w refl (All-nil (AreAllSet b))
-        (λ v e. let z : t.first + 0 ≡ t.first = omega arith in let l = before v (sym (ap (λ k. member v (named_before k all)) z) ∙ e) in omega
-            (arith, l), λ v some lt. absurd (omega (arith, some, lt))) (from_none parts) (from_none g))
+        subst (λ v. Early v (length us)) zero_more (all_end S t us xs starts parts g (extends_same xs) few_due Early early_step [] 0 0 (length xs) 1 (length us) parts g plan.stands.planned w
+            refl (All-nil (AreAllSet b))
+        (λ v e. let z : t.first + 0 ≡ t.first = omega arith in let l = before v (sym (ap (λ k. member v (named_before k all)) z) ∙ e) in omega (arith, l), λ v some lt. absurd
+            (omega (arith, some, lt))) (from_none parts) (from_none g))
 
     -- a part with its record
     pub part_done : (i : ℕ) (p : Part) (r : Record) → slice_get parts i ≡ Some p → slice_get g i ≡ Some r → PartDone S t cl p (t.first + i) r
@@ -511,9 +483,8 @@ module _ (S : Type 0) (t : Tables) (of : Bor code.Clause) (us : List Due) (parts
       few = let f = z.planned.few in let h = z.planned.short in omega (arith, f, h, count);
       short = let f = z.planned.few in omega (arith, f, count);
       starts_are = λ n within.
-          let there = extends_at (z.before ++ z.more) starts n z.captured z.extends
-              (get_append z.before z.more n z.captured (subst (λ v. IsStartOf z.before v z.captured) within z.starts_with
-              (z.planned.around n within))) in
+          let there = extends_at (z.before ++ z.more) starts n z.captured z.extends (get_append z.before z.more n z.captured
+              (subst (λ v. IsStartOf z.before v z.captured) within z.starts_with (z.planned.around n within))) in
           (λ l. ap (λ v. start_at b v l) there, ap count_at there);
     }
       where
@@ -539,16 +510,15 @@ module _ (S : Type 0) (t : Tables) (of : Bor code.Clause) (us : List Due) (parts
         has_clauses =
             subst (λ k. GoalsHave (IsAssumption t cl) (t.first + z.q) (p.base + k) (goals_of b o.0.now.body.items)) (sym count)
                 (subst (λ gs. GoalsHave (IsAssumption t cl) (t.first + z.q) (p.base + own_count p.origin) (goals_of b gs)) goals
-            (have_map (AssumptionAt b xs t.first) (IsAssumption t cl) as_assumption (t.first + z.q) (p.base + own_count p.origin)
-                (goals_of b (body_of p.origin)) (z.planned.has b t.first xs (extends_same xs))))
+            (have_map (AssumptionAt b xs t.first) (IsAssumption t cl) as_assumption (t.first + z.q) (p.base + own_count p.origin) (goals_of b (body_of p.origin))
+                (z.planned.has b t.first xs (extends_same xs))))
 
         level : (q d : ℕ) (cs : Clauses) → IsAssumption t cl q d cs → IsAtLevel t q d cs
         level q d cs (n, x, found, is, first, base) m y found_y first_y some some_cs =
             let s = plan.stands.assumed.each n x found in
             let count_x : clauses_length cs ≡ x.count = ap clauses_length (is ∙ hold n x found) ∙ clauses_many b x.clauses.now ∙ sym s.count in
-            let same_place : n ≡ m = three n m (λ lt. let a = plan.stands.assumed.ordered n m x y lt found found_y in absurd
-                (omega (arith, a, first, first_y, some_cs, count_x))) (λ lt. let a = plan.stands.assumed.ordered m n y x lt found_y found in absurd
-                (omega (arith, a, first, first_y, some))) in
+            let same_place : n ≡ m = three n m (λ lt. let a = plan.stands.assumed.ordered n m x y lt found found_y in absurd (omega (arith, a, first, first_y, some_cs, count_x)))
+                (λ lt. let a = plan.stands.assumed.ordered m n y x lt found_y found in absurd (omega (arith, a, first, first_y, some))) in
             ap (λ (v : Assumption). v.base) (one_only (slice_get xs m) y x found_y (ap (slice_get xs) (sym same_place) ∙ found)) ∙ base
 
     pub members : (n : ℕ) (x : Assumption) → slice_get xs n ≡ Some x → (j : ℕ) (c : Clause) → clause_at (cl.clauses n) j ≡ Some c → IsMember t parts g n x j c
@@ -575,10 +545,10 @@ module _ (S : Type 0) (t : Tables) (of : Bor code.Clause) (us : List Due) (parts
     counts n x found = ap clauses_length (hold n x found) ∙ clauses_many b x.clauses.now ∙ sym (plan.stands.assumed.each n x found).count
 
     pub captured : (n : ℕ) (x : Assumption) → slice_get xs n ≡ Some x → AreCaptured x (cl.clauses n)
-    captured n x found = clauses_everywhere (IsCaptured x) (λ i lt. (plan.stands.assumed.each n x found).all (x.base - i - 1) (omega (arith, lt))) 0 (cl.clauses n)
+    captured n x found = subst (AreCaptured x) (sym (hold n x found)) (standing n x found)
 
-    pub names_below : (i : ℕ) (p : Part) (r : Record) (a : slice_get parts i ≡ Some p) (c : slice_get g i ≡ Some r) (m : ℕ) → member m
-        (named_before (t.first + i) all) ≡ true → m < (part_done i p r a c).next
+    pub names_below : (i : ℕ) (p : Part) (r : Record) (a : slice_get parts i ≡ Some p) (c : slice_get g i ≡ Some r) (m : ℕ) → member m (named_before (t.first + i) all) ≡ true → m <
+        (part_done i p r a c).next
     unfolding part_done
     names_below i p r a c m e = (at_place i p r a c).1.0 m e
 
@@ -617,8 +587,8 @@ module _ (S : Type 0) (t : Tables) (of : Bor code.Clause) (us : List Due) (parts
             absurd (omega (arith, z))
         by_within (Some n) e = ((at_place (suc i) p.0 r p.1 at_r).0.written.is_program ∙ ap is_none e, named (suc i) p.0 n p.1 e)
 
-    module _ (std : IsStandard T.constants) (asked : (m : ℕ) (r : Record) → AreAsked (home_of T all m r) (constant_function b t.constants.now))
-        (few_types : t.type_vars ≤ 65535) (vars_are : t.type_vars ≡ of.now.type_vars)
+    module _ (std : IsStandard T.constants) (asked : (m : ℕ) (r : Record) → AreAsked (home_of T all m r) (constant_function b t.constants.now)) (few_types : t.type_vars ≤ 65535)
+        (vars_are : t.type_vars ≡ of.now.type_vars)
         (is_clause : IsClause T (clause_of b of.now)) where
       -- the first record denotes the clause
       pub first_told : (r : Record) → slice_get g 0 ≡ Some r → told_at T all (t.first + 0) r nothing_captured ≡ Some (clause_of b of.now)
@@ -633,7 +603,7 @@ module _ (S : Type 0) (t : Tables) (of : Bor code.Clause) (us : List Due) (parts
           let d = part_done 0 p.0 r p.1 at_r in
           let root : d.of ≡ of = same_origin d.of of (sym d.origin_is ∙ u.2.0 ∙ ap (λ v. v.origin) same ∙ f.2) in
           let shape : (c : Bor code.Clause) → c ≡ of → clause t.type_vars (types_at b c.now.vars.items) (tree b c.now.head.0) (goals_of b c.now.body.items) ≡ clause_of b of.now =
-          λ c e. (λ i. clause (vars_are i) (types_at b (e i).now.vars.items) (tree b (e i).now.head.0) (goals_of b (e i).now.body.items)) ∙ sym (clause_is b of.now) in
+              λ c e. (λ i. clause (vars_are i) (types_at b (e i).now.vars.items) (tree b (e i).now.head.0) (goals_of b (e i).now.body.items)) ∙ sym (clause_is b of.now) in
           program_told t cl T all parts g std asked few_types part_done placed members captured counts names_below named p.0 r p.1 at_r within base
           (subst (λ v. IsStartOf (at_place 0 p.0 r p.1 at_r).0.before v (at_place 0 p.0 r p.1 at_r).0.captured) within (at_place 0 p.0 r p.1 at_r).0.starts_with)
           (subst (IsClause T) (sym (shape d.of root)) is_clause) ∙ ap (λ v. Some v) (shape d.of root)

@@ -28,7 +28,7 @@ use Rattle.lp_gen.specs.declared.record.Tables.{Tables}
 use Rattle.lp_gen.specs.inner.Listing.{constant_function}
 use Rattle.lp_gen.specs.inner.Written.{AreAsked}
 use Rattle.lp_gen.specs.inner.Planned.{DeepGoal, DeepGoals, DeepClauses}
-use Rattle.lp_gen.specs.inner.Planning.{ArePlanned}
+use Rattle.lp_gen.specs.inner.Planning.{ArePlanned, AllCaptured}
 use Rattle.lp_gen.specs.inner.Groups.{Hasher, Kept, AllWritten, IsGroup, AreGroups}
 use Rattle.lp_gen.proofs.ConstantTypes.{constants_asked}
 use Rattle.lp_gen.proofs.PlanWalked.{get_behind}
@@ -89,11 +89,12 @@ module _ (κ : ℕ → Option ℕ) (all : List Record) where
       (denote_from (tables_of b ds κ) all n (g ++ rest) ≡ option_map (λ cs. clause_of b c ∷ cs) (denote_from (tables_of b ds κ) all (n + length g) rest))
       × ((v : ℕ) → member v (named_before (n + length g) all) ≡ true → v < n + length g)
 
-  one_group : (n : ℕ) (t : Tables) (of : Bor code.Clause) (us : List Due) (parts : List Part) (g rest : List Record) (starts : List Kept) → ArePlanned (origin.Clause of) us parts t.assumptions.now →
+  one_group : (n : ℕ) (t : Tables) (of : Bor code.Clause) (us : List Due) (parts : List Part) (g rest : List Record) (starts : List Kept) → ArePlanned (origin.Clause of) us parts
+      t.assumptions.now → AllCaptured t.bank.now t.assumptions.now →
       AllWritten t [] starts parts g → t.first ≡ n → n + length g ≤ 65535 → t.type_vars ≤ 65535 → t.type_vars ≡ of.now.type_vars → drop n all ≡ g ++
           rest → ((v : ℕ) → member v (named_before n all) ≡ true → v < n) →
       AreKnownSchemes (tables_of t.bank.now t.constants.now κ) → IsClause (tables_of t.bank.now t.constants.now κ) (clause_of t.bank.now of.now) → Told t.bank.now t.constants.now n of.now g rest
-  one_group n t of us parts g rest starts plan w first few few_types vars from before known is =
+  one_group n t of us parts g rest starts plan standing w first few few_types vars from before known is =
       (group_denotes (tables_of t.bank.now t.constants.now κ) all n g rest (clause_of t.bank.now of.now) from some first_one other, last)
     where
       many : length g ≡ length parts
@@ -120,13 +121,14 @@ module _ (κ : ℕ → Option ℕ) (all : List Record) where
       first_one : (r : Record) → slice_get g 0 ≡ Some r → (r.program ≡ true) × (Rattle.lp_gen.proofs.PartsTell.told_at
           (tables_of t.bank.now t.constants.now κ) all n r nothing_captured ≡ Some (clause_of t.bank.now of.now))
       first_one r at = (
-        first_program Hasher t of us parts g starts plan w low deep (tables_of t.bank.now t.constants.now κ) all placed early r at,
+        first_program Hasher t of us parts g starts plan w low deep standing (tables_of t.bank.now t.constants.now κ) all placed early r at,
         (let z : t.first + 0 ≡ n = omega (arith, first) in ap (λ k. Rattle.lp_gen.proofs.PartsTell.told_at (tables_of t.bank.now t.constants.now κ) all k r nothing_captured) (sym z))
-            ∙ first_told Hasher t of us parts g starts plan w low deep (tables_of t.bank.now t.constants.now κ) all placed early (standard_of t.bank.now t.constants.now) asked few_types vars is r at,
+            ∙ first_told Hasher t of us parts g starts plan w low deep standing (tables_of t.bank.now t.constants.now κ) all placed early (standard_of t.bank.now t.constants.now) asked
+                few_types vars is r at,
       )
 
       other : (i : ℕ) (r : Record) → slice_get g (suc i) ≡ Some r → (r.program ≡ false) × (member (n + suc i) (named_before (n + suc i) all) ≡ true)
-      other i r at = let o = other_assumed Hasher t of us parts g starts plan w low deep (tables_of t.bank.now t.constants.now κ) all placed early i r
+      other i r at = let o = other_assumed Hasher t of us parts g starts plan w low deep standing (tables_of t.bank.now t.constants.now κ) all placed early i r
           at in (o.0, ap (λ k. member (k + suc i) (named_before (k + suc i) all)) (sym first) ∙ o.1)
 
       last : (v : ℕ) → member v (named_before (n + length g) all) ≡ true → v < n + length g
@@ -134,7 +136,8 @@ module _ (κ : ℕ → Option ℕ) (all : List Record) where
           let m = many in
           let s = plan.all in
           let z : n + length g ≡ t.first + length parts = omega (arith, first, m) in
-          let l = (early_end Hasher t of us parts g starts plan w low deep (tables_of t.bank.now t.constants.now κ) all placed early).0 v (ap (λ k. member v (named_before k all)) (sym z) ∙ e) in
+          let l = (early_end Hasher t of us parts g starts plan w low deep standing (tables_of t.bank.now t.constants.now κ) all placed early).0 v
+              (ap (λ k. member v (named_before k all)) (sym z) ∙ e) in
           omega (arith, l, z, s)
 
   group_of : (b : Nodes) (ds : List Declared) (n : ℕ) (of : Bor code.Clause) (c : code.Clause) (g rest : List Record) → of.now ≡ c → IsGroup b ds n
@@ -145,7 +148,7 @@ module _ (κ : ℕ → Option ℕ) (all : List Record) where
       (subst (λ u. AreKnownSchemes (tables_of u ds κ) → IsClause (tables_of u ds κ) (clause_of u of.now) → Told u ds n of.now g rest) G.bank_is
       (subst (λ u. AreKnownSchemes (tables_of G.tables.bank.now u κ) → IsClause (tables_of G.tables.bank.now u κ) (clause_of G.tables.bank.now of.now)
           → Told G.tables.bank.now u n of.now g rest) G.constants_are
-      (one_group n G.tables of G.due G.parts g rest G.starts G.planned G.written (G.first (omega (arith, few))) few (let v = G.vars_are in let f = G.few_vars in omega (arith, v, f))
+      (one_group n G.tables of G.due G.parts g rest G.starts G.planned G.captured G.written (G.first (omega (arith, few))) few (let v = G.vars_are in let f = G.few_vars in omega (arith, v, f))
       (G.vars_are ∙ ap (λ (e : code.Clause). e.type_vars) (sym is)) from before)))
 
   pub groups_denote : (b : Nodes) (ds : List Declared) (n : ℕ) (cs : List code.Clause) (rs : List Record) → AreGroups b ds n cs rs → drop n all ≡ rs →

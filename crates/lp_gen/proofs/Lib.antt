@@ -82,3 +82,4 @@ mod GroupTold
 mod GroupDenotes
 mod GroupPut
 mod GroupsDenote
+mod CapturedBy

@@ -177,10 +177,3 @@ inserted_new k xs = go (list_any (nat_eq k) xs) (any_member k xs)
     go : (b : Bool) → b ≡ member k xs → member k (if b then xs else xs ++ k ∷ []) ≡ true
     go true e = sym e
     go false e = at_end k xs
-
-pub levels_more : (n : ℕ) (xs ys : List ℕ) → ((k : ℕ) → k < n → member k xs ≡ true) → ys ≡ insert_key nat_eq xs n → (k : ℕ) → k < n + 1 → member k ys ≡ true
-levels_more n xs ys f e k lt = ap (member k) e ∙ go (nat_lt k n) refl
-  where
-    go : (b : Bool) → nat_lt k n ≡ b → member k (insert_key nat_eq xs n) ≡ true
-    go true q = inserted_old k n xs (f k (ltb-true k n q))
-    go false q = let le = ltb-false k n q in let z : n ≡ k = omega (arith, lt, le) in subst (λ j. member j (insert_key nat_eq xs n) ≡ true) z (inserted_new n xs)

@@ -23,25 +23,25 @@ use Rattle.lp_gen.specs.inner.Planned.{clauses_length, goal_records, goals_recor
 use Rattle.lp_gen.specs.inner.Planning.{IsMade, IsAssumed, Todo, due_goals, due_end, due_level, todo_steps, TodoHave, TodoWritten, TodoDeep, WalkKept}
 use Rattle.lp_gen.proofs.PlanWalked.{step_put, todo_same, assume_put}
 
-atom_is : (b : Nodes) (t : TermId) → goal_of b (code.Atom t) ≡ Atomic (tree b t.0)
+pub atom_is : (b : Nodes) (t : TermId) → goal_of b (code.Atom t) ≡ Atomic (tree b t.0)
 atom_is b t = ap (goal_of b) (sym (rolls-Atom t)) ∙ fold-roll-Goal FlatGoal FlatClause (goal_top b) (clause_top b) (Goal-F.Atom t)
 
-cut_is : (b : Nodes) → goal_of b code.Cut ≡ Cut
+pub cut_is : (b : Nodes) → goal_of b code.Cut ≡ Cut
 cut_is b = ap (goal_of b) (sym rolls-Cut) ∙ fold-roll-Goal FlatGoal FlatClause (goal_top b) (clause_top b) Goal-F.Cut
 
-either_is : (b : Nodes) (l r : Vec Goal Global) → goal_of b (code.Either l r) ≡ Either (goals_of b l.items) (goals_of b r.items)
+pub either_is : (b : Nodes) (l r : Vec Goal Global) → goal_of b (code.Either l r) ≡ Either (goals_of b l.items) (goals_of b r.items)
 either_is b l r = ap (goal_of b) (sym (rolls-Either l r)) ∙ fold-roll-Goal FlatGoal FlatClause (goal_top b) (clause_top b) (Goal-F.Either l r)
 
-some_is : (b : Nodes) (T : TypeId) (l : Vec Goal Global) → goal_of b (code.Some T l) ≡ Exists (type_tree b T.0) (goals_of b l.items)
+pub some_is : (b : Nodes) (T : TypeId) (l : Vec Goal Global) → goal_of b (code.Some T l) ≡ Exists (type_tree b T.0) (goals_of b l.items)
 some_is b T l = ap (goal_of b) (sym (rolls-Some T l)) ∙ fold-roll-Goal FlatGoal FlatClause (goal_top b) (clause_top b) (Goal-F.Some T l)
 
-all_is : (b : Nodes) (T : TypeId) (l : Vec Goal Global) → goal_of b (code.All T l) ≡ Forall (type_tree b T.0) (goals_of b l.items)
+pub all_is : (b : Nodes) (T : TypeId) (l : Vec Goal Global) → goal_of b (code.All T l) ≡ Forall (type_tree b T.0) (goals_of b l.items)
 all_is b T l = ap (goal_of b) (sym (rolls-All T l)) ∙ fold-roll-Goal FlatGoal FlatClause (goal_top b) (clause_top b) (Goal-F.All T l)
 
-assume_is : (b : Nodes) (cs : Vec Clause Global) (l : Vec Goal Global) → goal_of b (code.Assume cs l) ≡ assuming (clauses_of b cs.items) (goals_of b l.items)
+pub assume_is : (b : Nodes) (cs : Vec Clause Global) (l : Vec Goal Global) → goal_of b (code.Assume cs l) ≡ assuming (clauses_of b cs.items) (goals_of b l.items)
 assume_is b cs l = ap (goal_of b) (sym (rolls-Assume cs l)) ∙ fold-roll-Goal FlatGoal FlatClause (goal_top b) (clause_top b) (Goal-F.Assume cs l)
 
-not_is : (b : Nodes) (l : Vec Goal Global) → goal_of b (code.Not l) ≡ denied (goals_of b l.items)
+pub not_is : (b : Nodes) (l : Vec Goal Global) → goal_of b (code.Not l) ≡ denied (goals_of b l.items)
 not_is b l = ap (goal_of b) (sym (rolls-Not l)) ∙ fold-roll-Goal FlatGoal FlatClause (goal_top b) (clause_top b) (Goal-F.Not l)
 
 pub clause_is : (b : Nodes) (c : Clause) → clause_of b c ≡ clause c.type_vars (map (λ T. type_tree b T.0) c.vars.items) (tree b c.head.0) (goals_of b c.body.items)

@@ -9,7 +9,6 @@ use Rattle.lp_model.specs.declared.clause.Clause.{Clause}
 use Rattle.lp_model.specs.Flat.{Goals, Clauses, no_goals, goals}
 use Rattle.lp_model.specs.Flattened.{goal_of, goals_of, clauses_of}
 use Rattle.lp_term.specs.Nodes.{Nodes}
-use Rattle.lp_code.specs.States.{member}
 use Rattle.lp_gen.specs.declared.plan.Assumption.{Assumption}
 use Rattle.lp_gen.specs.declared.plan.Due.{Due}
 use Rattle.lp_gen.specs.declared.plan.Step.{Step}
@@ -17,9 +16,9 @@ use Rattle.lp_gen.specs.declared.plan.Step.TheVariants as on
 use Rattle.lp_gen.specs.declared.record.Tables.{Tables}
 use Rattle.lp_gen.specs.inner.OpenGoals.{BodyStep, goal_steps, goals_steps}
 use Rattle.lp_gen.specs.inner.BodyCode.{Suppositions, step_of, steps_of, next_of, next_all, IsNext, AreNext, count_starts, starts_all, count_named, one_if}
-use Rattle.lp_gen.specs.inner.Planned.{clauses_length, goal_records, goals_records, GoalHas, GoalsHave, IsWritten, AreWritten, DeepClauses}
+use Rattle.lp_gen.specs.inner.Planned.{clauses_length, goal_records, goals_records, GoalHas, GoalsHave, IsWritten, AreWritten, DeepClauses, AreCaptured}
 use Rattle.lp_gen.proofs.BodyFacts.{starts_cons}
-use Rattle.lp_gen.specs.inner.Planning.{IsDue, AreDue, IsMade, Stays, AreAssumed, Extends, Todo, due_goals, due_end, due_level, todo_steps, TodoHave, TodoWritten, TodoDeep, HoldClauses, AssumptionAt, IsEnd, AllEnds, WalkStands, WalkKept}
+use Rattle.lp_gen.specs.inner.Planning.{IsDue, AreDue, IsMade, Stays, AreAssumed, AllCaptured, Extends, Todo, due_goals, due_end, due_level, todo_steps, TodoHave, TodoWritten, TodoDeep, HoldClauses, AssumptionAt, IsEnd, AllEnds, WalkStands, WalkKept}
 
 -- lists that grow
 
@@ -155,7 +154,6 @@ due_more n d (y ∷ ys) (v ∷ vs) c u a x = (a.0, due_more n d ys vs c u a.1 x)
 stays_on : (us us' : List Due) (n : ℕ) (x : Assumption) → Extends us us' → Stays us n x → Stays us' n x
 stays_on us us' n x e s = record {
   count = s.count;
-  all = s.all;
   within = let w = s.within in let l = extends_length us us' e in omega (arith, w, l);
   behind = s.behind;
   members = λ j c at. let m = s.members j c at in (m.0, extends_at us us' (x.first + j) m.0 e m.1, m.2);
@@ -172,7 +170,6 @@ module _ (us us' : List Due) (xs : List Assumption) (cs : List Clause) (d : ℕ)
   new_stays some = record {
     behind = let f = made.first in omega (arith, f, some);
     count = made.count ∙ ap length (sym made.clauses_are);
-    all = λ l le. made.all l (let z = made.base in omega (arith, le, z));
     within = let f = made.first in let c = made.count in let m = many in omega (arith, f, c, m);
     members = λ j c at.
         let m = due_at (length xs) d cs made.more j c made.members (ap (λ l. slice_get l j) (sym made.clauses_are) ∙ at) in (
@@ -220,6 +217,11 @@ module _ (us us' : List Due) (xs : List Assumption) (cs : List Clause) (d : ℕ)
           let c = made.count in
           let same : n ≡ length xs = same_some (length xs) n (sym r.1 ∙ within) in
           (x, ap (slice_get (xs ++ x ∷ [])) same ∙ get_last xs x, omega (arith, f, le), omega (arith, f, c, lt, le), r.2 ∙ sym made.base)
+
+-- with one more that captures what stands in its clauses
+pub captured_more : (b : Nodes) (xs ys : List Assumption) (x : Assumption) → ys ≡ xs ++ x ∷ [] → AreCaptured x (clauses_of b x.clauses.now) → AllCaptured b xs → AllCaptured b ys
+captured_more b xs ys x e new old n y at =
+    ⊎_elim (λ f. old n y f) (λ f. subst (λ (z : Assumption). AreCaptured z (clauses_of b z.clauses.now)) (sym f.1) new) (get_more xs x n y (ap (λ l. slice_get l n) (sym e) ∙ at))
 
 -- a step that assumes clauses
 pub assume_put : (us us' : List Due) (xs : List Assumption) (cs : List Clause) (d d' : ℕ) (x : Assumption) (ss : List Step) (ts ts' : List Todo) → IsMade xs us us' cs d x →

@@ -70,7 +70,7 @@ instance_con b c k parts i e =
     let θ : ℕ → Ty = type_at (types_of (tree b c.0)) in
     sym (ap (instance θ) (sym e) ∙ ap (con k) (instances_tys θ (map (type_tree b) (map (λ t. t.0) parts))) ∙ ap (λ l. con k (tys l)) (three_maps (λ t. t.0) (type_tree b) (instance θ) parts))
 
-some_args : {X Y : Type 0} (f : X → Y) (xs : List X) → map f xs ≢ [] → 0 < length xs
+pub some_args : {X Y : Type 0} (f : X → Y) (xs : List X) → map f xs ≢ [] → 0 < length xs
 some_args f [] n = absurd (n refl)
 some_args f (x ∷ xs) n = omega arith
 

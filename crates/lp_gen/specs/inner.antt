@@ -2,6 +2,7 @@ pub mod Beginning
 pub mod Bodies
 pub mod BodyCode
 pub mod BodyLaw
+pub mod Capturing
 pub mod Doing
 pub mod Entering
 pub mod Fitting

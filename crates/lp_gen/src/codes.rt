@@ -73,7 +73,7 @@ fn add(
     let Ok(type_vars) = u16::try_from(type_vars) else {
         return Err(GenRefusal::Limit(Limit::Registers));
     };
-    let plan = Plan::of(alloc, origin)?;
+    let plan = Plan::of(alloc, bank, origin)?;
     let tables = Tables {
         bank,
         constants,

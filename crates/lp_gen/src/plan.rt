@@ -1,17 +1,17 @@
 // A clause or query with the clauses that it assumes: each as a head and a list of steps.
-ghost use Rattle.std.specs.Prelude.{◌≡◌, ℕ, List, ◌≤◌, ◌<◌, ◌+◌, ◌∷◌, ◌++◌, [], map, length, true, IfOk, OnOk};
-ghost use Rattle.lp_code.specs.States.{member};
+ghost use Rattle.std.specs.Prelude.{◌≡◌, List, ◌≤◌, ◌<◌, ◌+◌, ◌∷◌, ◌++◌, [], map, length, IfOk, OnOk};
 ghost use Rattle.lp_gen.specs.inner.Sizes.{goal_work, goal_task, goal_weighs, goals_weigh};
 ghost use Rattle.lp_gen.specs.inner.Recorded.{own_count};
-ghost use Rattle.lp_gen.specs.inner.Planning.{AreDue, body_of, todo_of, todos, due_goals, due_end, due_level, IsAssumed, WalkKept, PartWalked, ArePlanned};
+ghost use Rattle.lp_gen.specs.inner.Planning.{AreDue, body_of, todo_of, todos, due_goals, due_end, due_level, IsAssumed, WalkKept, PartWalked, ArePlanned, AllCaptured};
 ghost use Rattle.lp_gen.specs.declared.plan.Due.{Due};
 ghost use Rattle.lp_gen.specs.declared.plan.Step.TheVariants as on;
 
+use crate::captured::captured_of;
 use crate::fault::GenRefusal;
 use indexmap::IndexSet;
 use lp_base::{Limit, MAX_CLAUSES, Memory};
 use lp_model::{Clause, Goal, Typed};
-use lp_term::{TermId, TypeId};
+use lp_term::{Bank, TermId, TypeId};
 use std::alloc::Global;
 
 /// A goal of a record or the end of a block, by the order of its code. Blocks are those of `Either` up to `Turn`, of `Turn` up to `EndEither`, and of
@@ -199,8 +199,8 @@ impl<'a> Walk<'a> {
     }
 }
 
-// The number of variables with more of them; each takes a register.
-fn with_more(level: u64, more: u64) -> Result<u64, GenRefusal>
+/// The number of variables with more of them; each takes a register.
+pub(crate) fn with_more(level: u64, more: u64) -> Result<u64, GenRefusal>
     ensures sum { IfOk result (λ sum. sum ≡ level + more) }
     ensures few { IfOk result (λ sum. sum ≤ 65535) }
 {
@@ -212,8 +212,13 @@ fn with_more(level: u64, more: u64) -> Result<u64, GenRefusal>
 
 impl<'a> Plan<'a> {
     /// The records of a clause or query.
-    pub(crate) fn of(alloc: Global, origin: Origin<'a>) -> Result<Plan<'a>, GenRefusal>
+    pub(crate) fn of(
+        alloc: Global,
+        bank: &Bank,
+        origin: Origin<'a>,
+    ) -> Result<Plan<'a>, GenRefusal>
         ensures planned { IfOk result (λ plan. ArePlanned origin.entry plan.due.items plan.parts.items plan.assumptions.items) }
+        ensures captured { IfOk result (λ plan. AllCaptured bank.now plan.assumptions.items) }
         ensures few { IfOk result (λ plan. length plan.parts.items ≤ 65536) }
     {
         let mut plan = Plan {
@@ -234,7 +239,7 @@ impl<'a> Plan<'a> {
                 return Err(GenRefusal::Limit(Limit::Clauses));
             }
             let due = plan.due[at];
-            let steps = plan.walk(due)?;
+            let steps = plan.walk(bank, due)?;
             plan.parts.push(Part {
                 origin: due.origin,
                 within: due.within,
@@ -246,8 +251,9 @@ impl<'a> Plan<'a> {
     }
 
     // The steps of a part; those that it assumes are due.
-    fn walk(&mut self, due: Due<'a>) -> Result<Vec<Step>, GenRefusal>
+    fn walk(&mut self, bank: &Bank, due: Due<'a>) -> Result<Vec<Step>, GenRefusal>
         ensures walked { IfOk result (λ steps. PartWalked due.entry self.old.due.items self.new.due.items self.old.assumptions.items self.new.assumptions.items steps.items) }
+        ensures captured { IfOk result (λ steps. AllCaptured bank.now self.old.assumptions.items → AllCaptured bank.now self.new.assumptions.items) }
         ensures parts { IfOk result (λ steps. self.new.parts ≡ self.old.parts) }
     {
         let variables = due.origin.variables() as u64;
@@ -260,14 +266,20 @@ impl<'a> Plan<'a> {
         let goals = due.origin.body();
         walk.tasks.push(Task::Goals(goals))?;
         'tasks: while let Some(task) = walk.tasks.pop() {
-            self.step(&mut walk, task)?;
+            self.step(bank, &mut walk, task)?;
         }
         Ok(walk.steps)
     }
 
-    fn step(&mut self, walk: &mut Walk<'a>, task: Task<'a>) -> Result<(), GenRefusal>
+    fn step(
+        &mut self,
+        bank: &Bank,
+        walk: &mut Walk<'a>,
+        task: Task<'a>,
+    ) -> Result<(), GenRefusal>
         ensures work { OnOk result (goal_work walk.new.tasks.items + 1 ≤ goal_work walk.old.tasks.items + goal_task task.entry) }
         ensures kept { OnOk result (WalkKept self.old.due.items self.new.due.items self.old.assumptions.items self.new.assumptions.items walk.old.level walk.new.level walk.old.steps.items walk.new.steps.items (todo_of task.entry ∷ todos walk.old.tasks.items) (todos walk.new.tasks.items)) }
+        ensures captured { OnOk result (AllCaptured bank.now self.old.assumptions.items → AllCaptured bank.now self.new.assumptions.items) }
         ensures parts { OnOk result (self.new.parts ≡ self.old.parts) }
     {
         match task {
@@ -276,7 +288,7 @@ impl<'a> Plan<'a> {
                     return Ok(());
                 };
                 walk.tasks.push(Task::Goals(rest))?;
-                self.goal(walk, first)?;
+                self.goal(bank, walk, first)?;
                 Ok(())
             }
             Task::End(end, level) => {
@@ -291,9 +303,15 @@ impl<'a> Plan<'a> {
         }
     }
 
-    fn goal(&mut self, walk: &mut Walk<'a>, goal: &'a Goal) -> Result<(), GenRefusal>
+    fn goal(
+        &mut self,
+        bank: &Bank,
+        walk: &mut Walk<'a>,
+        goal: &'a Goal,
+    ) -> Result<(), GenRefusal>
         ensures work { OnOk result (goal_work walk.new.tasks.items ≤ goal_work walk.old.tasks.items + goal_weighs goal.now) }
         ensures kept { OnOk result (WalkKept self.old.due.items self.new.due.items self.old.assumptions.items self.new.assumptions.items walk.old.level walk.new.level walk.old.steps.items walk.new.steps.items (due_goals (goal.now ∷ []) ∷ todos walk.old.tasks.items) (todos walk.new.tasks.items)) }
+        ensures captured { OnOk result (AllCaptured bank.now self.old.assumptions.items → AllCaptured bank.now self.new.assumptions.items) }
         ensures parts { OnOk result (self.new.parts ≡ self.old.parts) }
     {
         match goal {
@@ -318,7 +336,7 @@ impl<'a> Plan<'a> {
                 Ok(())
             }
             Goal::Assume(clauses, goals) => {
-                let number = self.assume(clauses.as_slice(), walk.level)?;
+                let number = self.assume(bank, clauses.as_slice(), walk.level)?;
                 walk.put_block(Step::Assume(number), goals.as_slice(), Step::EndAssume)?;
                 Ok(())
             }
@@ -329,13 +347,19 @@ impl<'a> Plan<'a> {
         }
     }
 
-    // An assumption of these clauses. Their records start with all variables around it.
-    fn assume(&mut self, clauses: &'a [Clause], base: u64) -> Result<usize, Memory>
+    // An assumption of these clauses. Their records start with the variables around it that stand in them.
+    fn assume(
+        &mut self,
+        bank: &Bank,
+        clauses: &'a [Clause],
+        base: u64,
+    ) -> Result<usize, GenRefusal>
         ensures assumed { IfOk result (λ number. IsAssumed self.old.due.items self.new.due.items self.old.assumptions.items self.new.assumptions.items clauses.now base number) }
+        ensures captured { IfOk result (λ number. AllCaptured bank.now self.old.assumptions.items → AllCaptured bank.now self.new.assumptions.items) }
         ensures parts { IfOk result (λ number. self.new.parts ≡ self.old.parts) }
     {
         let number = self.assumptions.len();
-        let captured = all_levels(self.alloc, base)?;
+        let captured = captured_of(self.alloc, bank, clauses, base)?;
         self.assumptions.push(Assumption {
             clauses,
             base,
@@ -366,15 +390,4 @@ fn push_due<'a>(
         })?;
     }
     Ok(())
-}
-
-// The levels of so many variables.
-fn all_levels(alloc: Global, count: u64) -> Result<IndexSet<u64>, Memory>
-    ensures { IfOk result (λ levels. (l : ℕ) → l < count → member l levels.keys ≡ true) }
-{
-    let mut levels = IndexSet::new(alloc);
-    for level in 0..count {
-        let _new = levels.insert(level)?;
-    }
-    Ok(levels)
 }

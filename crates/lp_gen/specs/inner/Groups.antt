@@ -16,7 +16,7 @@ use Rattle.lp_gen.specs.declared.plan.Origin.TheVariants as origin
 use Rattle.lp_gen.specs.declared.record.Tables.{Tables}
 use Rattle.lp_gen.specs.inner.Listing.{constant_function}
 use Rattle.lp_gen.specs.inner.Recorded.{RecordWritten}
-use Rattle.lp_gen.specs.inner.Planning.{ArePlanned}
+use Rattle.lp_gen.specs.inner.Planning.{ArePlanned, AllCaptured}
 
 abbrev pub Hasher : Type 0
 Hasher = BuildHasherDefault FoldHasher
@@ -49,6 +49,7 @@ pub record IsGroup (b : Nodes) (ds : List Declared) (n vars : ℕ) (o : Origin) 
   pub due : List Due
   pub parts : List Part
   pub planned : ArePlanned o due parts tables.assumptions.now
+  pub captured : AllCaptured tables.bank.now tables.assumptions.now
   pub few : length parts ≤ 65536
   pub starts : List Kept
   pub written : AllWritten tables [] starts parts g

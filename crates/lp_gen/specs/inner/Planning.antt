@@ -6,7 +6,6 @@ use Rattle.lp_model.specs.declared.clause.Clause.{Clause}
 use Rattle.lp_model.specs.Flat.{Clauses, Cut}
 use Rattle.lp_model.specs.Flattened.{goals_of, clauses_of}
 use Rattle.lp_term.specs.Nodes.{Nodes}
-use Rattle.lp_code.specs.States.{member}
 use Rattle.lp_gen.specs.declared.plan.Assumption.{Assumption}
 use Rattle.lp_gen.specs.declared.plan.Due.{Due}
 use Rattle.lp_gen.specs.declared.plan.Part.{Part}
@@ -19,7 +18,7 @@ use Rattle.lp_gen.specs.declared.record.Tables.{Tables}
 use Rattle.lp_gen.specs.inner.OpenGoals.{BodyStep, goals_steps}
 use Rattle.lp_gen.specs.inner.BodyCode.{Suppositions, step_of, steps_of, next_of, next_all, IsNext, AreNext, count_starts, starts_all}
 use Rattle.lp_gen.specs.inner.Recorded.{own_count}
-use Rattle.lp_gen.specs.inner.Planned.{goals_records, GoalsHave, AreWritten, DeepGoals, DeepClauses}
+use Rattle.lp_gen.specs.inner.Planned.{goals_records, GoalsHave, AreWritten, DeepGoals, DeepClauses, AreCaptured}
 
 abbrev pub body_of : Origin → List Goal
 body_of (origin.Clause c) = c.now.body.items
@@ -41,7 +40,6 @@ pub record IsMade (xs : List Assumption) (us us' : List Due) (cs : List Clause) 
   pub base : x.base ≡ d
   pub first : x.first ≡ length us
   pub count : x.count ≡ length cs
-  pub all : (l : ℕ) → l < d → member l x.captured.keys ≡ true
   pub more : List Due
   pub due_are : us' ≡ us ++ more
   pub members : AreDue (length xs) d cs more
@@ -52,7 +50,6 @@ IsAssumed us us' xs xs' cs d n = (x : Assumption) × (xs' ≡ xs ++ x ∷ []) ×
 -- assumptions and the parts that are due
 pub record Stays (us : List Due) (n : ℕ) (x : Assumption) : Type 0 where
   pub count : x.count ≡ length x.clauses.now
-  pub all : (l : ℕ) → l < x.base → member l x.captured.keys ≡ true
   pub within : x.first + x.count ≤ length us
   pub behind : 1 ≤ x.first
   pub members : (j : ℕ) (c : Clause) → slice_get x.clauses.now j ≡ Some c → (u : Due) × (slice_get us (x.first + j) ≡ Some u) × IsDue n x.base c u
@@ -67,6 +64,10 @@ pub record AreAssumed (us : List Due) (xs : List Assumption) : Type 0 where
 
 abbrev pub Extends : {X : Type 0} → (xs ys : List X) → Type 0
 Extends {X} xs ys = (more : List X) × (ys ≡ xs ++ more)
+
+-- the records of each start with the variables around it that stand in them
+abbrev pub AllCaptured : Nodes → List Assumption → Type 0
+AllCaptured b xs = (n : ℕ) (x : Assumption) → slice_get xs n ≡ Some x → AreCaptured x (clauses_of b x.clauses.now)
 
 -- what is still to do for the goals of a part
 pub data Todo : Type 0 where

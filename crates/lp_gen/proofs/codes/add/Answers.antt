@@ -1,6 +1,6 @@
 use Rattle.std.proofs.Common.{◌≡◌, ◌∙◌, ◌++◌, ◌<◌, ◌^◌, [], length, ap, refl, sym, subst, arith}
 use Rattle.lp_gen.specs.declared.record.Tables.{Tables}
-use Rattle.lp_gen.specs.inner.Planning.{ArePlanned}
+use Rattle.lp_gen.specs.inner.Planning.{ArePlanned, AllCaptured}
 use Rattle.lp_gen.specs.inner.Groups.{AllWritten}
 use Rattle.lp_gen.proofs.codes.add.Goals as goal
 
@@ -21,6 +21,7 @@ returns-clause-group c =
         due = p.due.items;
         parts = p.parts.items;
         planned = subst (ArePlanned c.args.origin p.due.items p.parts.items) (sym c.as_slice.ensures.value) c.in_ok-plan.ensures.planned;
+        captured = subst (AllCaptured c.args.bank.now) (sym c.as_slice.ensures.value) c.in_ok-plan.ensures.captured;
         few = c.in_ok-plan.ensures.few;
         starts = w.1;
         written = subst (λ l. AllWritten t [] w.1 l w.0) c.as_slice-2.ensures.value w.3;

@@ -11,6 +11,7 @@ tasks-init c = (
       c.new.result.items c.new-2.result.items c.push.new.self.items
       c.body-goals.result (body_of c.args.due.origin) (c.in_ok-level.ensures.sum ∙ ap (λ n. c.args.due.base + n) c.variables-variables.ensures)
           c.new.ensures.items c.new-2.ensures.items c.in_ok-push.ensures.items c.body-goals.ensures,
+  λ x. x,
   refl,
 )
 
@@ -20,7 +21,8 @@ tasks-preserved c = (
       (c.args.due.base + own_count c.args.due.origin) c.tasks.walk.level c.step.new.walk.level (body_of c.args.due.origin) c.tasks.walk.steps.items
           c.step.new.walk.steps.items c.pop.new.self.items c.tasks.walk.tasks.items
       c.in-Some.task (todos c.step.new.walk.tasks.items) c.in-Some.ensures.items c.tasks.invariant.0 c.in_ok-step.ensures.kept,
-  c.in_ok-step.ensures.parts ∙ c.tasks.invariant.1,
+  λ x. c.in_ok-step.ensures.captured (c.tasks.invariant.1 x),
+  c.in_ok-step.ensures.parts ∙ c.tasks.invariant.2,
 )
 
 pub returns-clause-walked : goal.returns-clause-walked
@@ -35,4 +37,7 @@ returns-clause-walked c = (
 )
 
 pub returns-clause-parts : goal.returns-clause-parts
-returns-clause-parts c = c.tasks.invariant.1
+returns-clause-parts c = c.tasks.invariant.2
+
+pub returns-clause-captured : goal.returns-clause-captured
+returns-clause-captured c = c.tasks.invariant.1
