@@ -144,7 +144,7 @@ first_argument K old new a i l r F j x first = record {
             (ap (λ (c : Seen). stands_in c.register h.number (with_variables σ a 0 (index j))) q.1 ∙ (λ k. stands_in v.register h.number ((index_is σ Γ a j z ∙ ap σ is.1 ∙ unmade.1) k))
             ∙ (λ k. (eq-eqb v.register v.register refl k && eq-eqb h.number h.number refl k))))
             (λ q. any_front (λ (b : Built). stands_in y.register h.number b.term) s.head_arguments _
-                (stood m y q.1 (subst (λ n. n ≤ m) (around_set a l unmade.2).base le) set)) (found_set a l m v y unmade.2 here e),
+            (stood m y q.1 (subst (λ n. n ≤ m) (around_set a l unmade.2).base le) set)) (found_set a l m v y unmade.2 here e),
       );
 }
 
@@ -174,11 +174,11 @@ integer_argument K old new a i F z x = record {
   denotes = λ h later vars s σ Γ T std asked st te low few before count typed stands well same predicate own stood room.
       let of : int_type ≡ T = some_same int_type T well.typed in
       let w = x.denotes h later vars s std st te (record { in_turn = in_turn s i before count; typed = next_typed h s s i T int_type refl typed of })
-          (strict_may (s.place + sum_by length_of x.more) s.frames room) in (
+      (strict_may (s.place + sum_by length_of x.more) s.frames room) in (
         w.0,
         does_same h later vars old.types old.types new.types old.registers old.registers new.registers s w.0 x.more _ _ _ s.goals s.head_types (s.head_arguments ++ whole (atom (integer z)) T ∷ [])
             (sym x.types_stay) (sym x.registers_stay) refl refl (λ k. s.head_arguments ++ whole (atom (integer z)) (of k) ∷ [])
-                (turns_does h later vars old.types old.registers s w.0 x.more _ _ _ w.1 room),
+            (turns_does h later vars old.types old.registers s w.0 x.more _ _ _ w.1 room),
         standing_after h vars old.registers new.registers s.in_body s.in_body σ a s w.0 (sym x.registers_stay) refl w.1.now_stays stands,
         around_same a,
         stood_more h a s.head_arguments (whole (atom (integer z)) T) stood,
@@ -195,12 +195,14 @@ text_argument K old new a i F b x = record {
   no_types = x.plain.no_types;
   denotes = λ h later vars s σ Γ T std asked st te low few before count typed stands well same predicate own stood room.
       let of : string_type ≡ T = some_same string_type T well.typed in
-      let w = x.denotes h later vars s std st te (record { in_turn = in_turn s i before count; typed = next_typed h s s i T string_type refl typed of
-          }) (strict_may (s.place + sum_by length_of x.more) s.frames room) in (
+      let w = x.denotes h later vars s std st te (record {
+        in_turn = in_turn s i before count;
+        typed = next_typed h s s i T string_type refl typed of;
+      }) (strict_may (s.place + sum_by length_of x.more) s.frames room) in (
         w.0,
         does_same h later vars old.types old.types new.types old.registers old.registers new.registers s w.0 x.more _ _ _ s.goals s.head_types (s.head_arguments ++ whole (atom (text b)) T ∷ [])
             (sym x.types_stay) (sym x.registers_stay) refl refl (λ k. s.head_arguments ++ whole (atom (text b)) (of k) ∷ [])
-                (turns_does h later vars old.types old.registers s w.0 x.more _ _ _ w.1 room),
+            (turns_does h later vars old.types old.registers s w.0 x.more _ _ _ w.1 room),
         standing_after h vars old.registers new.registers s.in_body s.in_body σ a s w.0 (sym x.registers_stay) refl w.1.now_stays stands,
         around_same a,
         stood_more h a s.head_arguments (whole (atom (text b)) T) stood,
@@ -241,7 +243,7 @@ constant_argument K old mid new a i c F Ts ts y x = record {
       (goes_does h later vars old.types mid.types old.registers old.registers s w.0 y.more first)
       (subst (λ n. Does h later vars mid.types mid.types n n w.0 x.more w.0.goals w.0.head_types (w.0.head_arguments ++ constant_of h.tables c (types_in w.0.now ts) ∷ []) v.0) stay
       (turns_does h later vars mid.types mid.registers w.0 v.0 x.more w.0.goals w.0.head_types
-          (w.0.head_arguments ++ constant_of h.tables c (types_in w.0.now ts) ∷ []) v.1 behind)) y.types_grow (omega arith) in (
+      (w.0.head_arguments ++ constant_of h.tables c (types_in w.0.now ts) ∷ []) v.1 behind)) y.types_grow (omega arith) in (
         v.0,
         does_same h later vars old.types mid.types new.types old.registers old.registers new.registers s v.0 (y.more ++ x.more) _ _ _ s.goals s.head_types
             (s.head_arguments ++ whole (atom (constant c Ts)) T ∷ []) (sym kinds) (sym (x.registers_stay ∙ stay)) w.1.same.goals w.1.same.head_types
@@ -280,7 +282,7 @@ not_new h vars Γ s σ a (index j) T well first own stood q =
     go z set true e =
         let le = leb-true a.base z.0 e in
         ap (λ u. is_variable_of u q h.number && not (list_any (λ (b : Built). stands_in q h.number b.term) s.head_arguments)) (own.own z.0 z.1 z.3 le)
-            ∙ old_variable h s q z.1 (stood z.0 z.1 z.3 le set)
+        ∙ old_variable h s q z.1 (stood z.0 z.1 z.3 le set)
     go z set false e = ap (λ t. t && not (list_any (λ (b : Built). stands_in q h.number b.term) s.head_arguments)) (own.others z.0 q z.1 z.3 (leb-false a.base z.0 e))
 not_new h vars Γ s σ a (atom (constant c Ts)) T well first own stood q = refl
 not_new h vars Γ s σ a (atom (integer k)) T well first own stood q = refl
@@ -309,9 +311,9 @@ term_argument K old mid new a b i r F t y x first = record {
       let head = built_same h old.registers s w.0 h.self.head predicate w.1.same.head_types w.1.terms_keep in
       let args = w.1.same.head_arguments in
       let new_one : is_new_variable h w.0 r ≡ false = any_none (λ q. is_variable_of (term_in w.0.now r).term q h.number && not
-          (list_any (λ (b : Built). stands_in q h.number b.term) w.0.head_arguments))
+      (list_any (λ (b : Built). stands_in q h.number b.term) w.0.head_arguments))
       (own_variables h.self) (λ q. (λ k. is_variable_of (at k).term q h.number && not
-          (list_any (λ (b : Built). stands_in q h.number b.term) (args k))) ∙ not_new h vars Γ s σ a t T well first own stood q) in
+      (list_any (λ (b : Built). stands_in q h.number b.term) (args k))) ∙ not_new h vars Γ s σ a t T well first own stood q) in
       let behind = room_goes h later vars old.types mid.types old.registers mid.registers s w.0 (y.more ++ x.more) y.more x.more w.1 refl room in
       let v = x.denotes h later vars w.0 std w.1.types_stand w.1.terms_stand (record {
         next = record {
@@ -324,7 +326,7 @@ term_argument K old mid new a b i r F t y x first = record {
       }) (strict_may (w.0.place + sum_by length_of x.more) w.0.frames behind) in
       let all = then_does h later vars old.types mid.types mid.types old.registers mid.registers mid.registers s w.0 v.0 y.more x.more _ _ _ _ _ _
       (goes_does h later vars old.types mid.types old.registers mid.registers s w.0 y.more w.1)
-          (turns_does h later vars mid.types mid.registers w.0 v.0 x.more _ _ _ v.1 behind) y.types_grow y.terms_grow in (
+      (turns_does h later vars mid.types mid.registers w.0 v.0 x.more _ _ _ v.1 behind) y.types_grow y.terms_grow in (
         v.0,
         does_same h later vars old.types mid.types new.types old.registers mid.registers new.registers s v.0 (y.more ++ x.more) _ _ _ s.goals s.head_types (s.head_arguments ++ whole u T ∷ [])
             (sym kinds) (sym stay) w.1.same.goals w.1.same.head_types (λ k. args k ++ at k ∷ []) all,

@@ -63,7 +63,7 @@ variable_made old kind new a l v t q code same_types same_registers = record {
       (room_behind h later vars old.types kind.types s w.0 (q.more ++ one) q.more one w.1 refl room) in
       let here : HasRoom w.0 w.0.place = room_less w.0.place (w.0.place + length_of (New r t)) w.0.frames (omega arith) wide in
       let u = put_at h later vars kind.types old.registers old.registers w.0 (New r t) r b
-          (ap (λ o. Some (put_term w.0 r (whole (variable r h.number) (unwrap_or o o_type)))) w.2) refl refl (omega arith)
+      (ap (λ o. Some (put_term w.0 r (whole (variable r h.number) (unwrap_or o o_type)))) w.2) refl refl (omega arith)
       w.1.stands first.terms_stand (omega arith) below low_r wide (new_fine h vars kind.types w.0 r t v.of w.1.stands fresh before low_r w.2 here) in
       let second : Goes h later vars kind.types kind.types old.registers old.registers w.0 one u.0 = record {
         runs = u.1.runs;

@@ -49,7 +49,7 @@ all_closed P K v z gs a n k q code ms x =
 pub body_coded : {S : Type 0} (t : Tables) (K : ℕ → List Ty → Ty) (e e' : Emitter) (env env' : Environment) (xs xs' : List (IndexMap ℕ Variable S))
     (steps : List Step) (cl : Suppositions) (q f : ℕ) (gs : Goals) → StepsWritten t K e e' env env' xs xs' steps →
     HoldStarts t.bank.now xs' f cl → steps_of t.bank.now cl steps ≡ goals_steps gs → EndsGoals gs → AreNext t q (f + length xs) steps → AreSet
-        (around_of t.bank.now env) → new_level (around_of t.bank.now env) + length steps < 2 ^ 64 - 1 →
+    (around_of t.bank.now env) → new_level (around_of t.bank.now env) + length steps < 2 ^ 64 - 1 →
     (last : List Instr) × GoalsCode (AssumedBy t cl) K t.type_vars (around_of t.bank.now env) e.types e'.types e.registers e'.registers q (next_all t q steps) (plain_goals gs) last
     × (e'.code.items ≡ e.code.items ++ last)
 body_coded t K e e' env env' xs xs' steps cl q f gs x kept is ends next set short =

@@ -117,7 +117,7 @@ all_ends e e' env env' bs bs' x t cl b K =
 pub assumption_ends : (e e' : Emitter) (env env' : Environment) (bs bs' : List Block) → BlockEnded e e' env env' bs bs' on.EndAssume → Takes e e' env env' bs bs' end_assume
 assumption_ends e e' env env' bs bs' x t cl b K =
     ⊎_elim (λ none. none_ended (AssumedBy t cl) K e e' (around_of b env) (around_of b env') bs bs' assumption_ended end_assume (λ w. refl)
-        (assumption_mark (AssumedBy t cl) K e (around_of b env) bs) none)
+    (assumption_mark (AssumedBy t cl) K e (around_of b env) bs) none)
     (λ y. end_assume_step (AssumedBy t cl) K e e' (around_of b env) (around_of b env') bs bs' y.0 (y.1, y.2 b, y.3, y.4, y.5)) x
 
 pub denial_ends : (e e' : Emitter) (env env' : Environment) (bs bs' : List Block) → BlockEnded e e' env env' bs bs' on.EndNot → Takes e e' env env' bs bs' end_deny
@@ -180,10 +180,10 @@ assumption_taken t cl K e e' env bs bs' xs xs' n i made (l, blocks, variables, a
     let m = made b x found (omega (arith, first, few)) in
     let here = kept (length xs) m.3 (ap (λ l. slice_get l (length xs)) m.8 ∙ at_end xs m.3) in
     let starts = starts_as a (levels_found a x.captured.keys) (started_at b m.3) (cl.starts n) (index_map_len m.3) (cl.counts n)
-        (λ l. ap (λ k. cl.starts k l) number ∙ here.0 l) (ap cl.counts number ∙ here.1) m.9 in
+    (λ l. ap (λ k. cl.starts k l) number ∙ here.0 l) (ap cl.counts number ∙ here.1) m.9 in
     let many : l.variables ≡ length (map (seen b) env.own.items) = variables ∙ sym (map_length (seen b) env.own.items) in
     let y = assume_step (AssumedBy t cl) K t.type_vars e e' a bs bs' l (cl.clauses n) (t.first + x.first) x.count m.0 m.1 m.2
-        (levels_found a x.captured.keys) (n, x, found, refl, m.5, refl, starts) m.7 m.6 m.5 blocks many
+    (levels_found a x.captured.keys) (n, x, found, refl, m.5, refl, starts) m.7 m.6 m.5 blocks many
     (code ∙ ap (λ j. e.code.items ++ j ∷ []) m.4) types registers z w w' (subst (λ r. StandsAt (AssumedBy t cl) K t.type_vars z w a e r bs) (sym first) stands) set short adv in
     let last : t.first + x.first + x.count ≡ q + count_named (slice_get t.assumptions.now n) = (let c = ap count_named found in omega (arith, first, c)) in
     (subst (λ r. StandsAt (AssumedBy t cl) K t.type_vars z w' a e' r bs') last y.0, y.1, y.2)
@@ -230,9 +230,12 @@ next_last : (t : Tables) (q m : ℕ) (ss : List Step) (s : Step) → AreNext t q
     AreNext t q m ss × IsNext t (next_all t q ss) (m + starts_all t ss) s × (next_all t q (ss ++ s ∷ []) ≡ next_of t (next_all t q ss) s)
 next_last t q m [] s x = (tt, subst (λ k. IsNext t q k s) (let z : m ≡ m + sum_by (count_starts t) [] = (let y : sum_by (count_starts t) [] ≡ 0 = refl in omega (arith, y)) in z) x.0, refl)
 next_last t q m (u ∷ us) s x =
-    let y = next_last t (next_of t q u) (m + count_starts t u) us s x.1 in
-    ((x.0, y.0), subst (λ k. IsNext t (next_all t (next_of t q u) us) k s) (let z : m + count_starts t u + starts_all t us ≡ m + starts_all t
-        (u ∷ us) = (let c = starts_cons t u us in omega (arith, c)) in z) y.1, y.2)
+    let y = next_last t (next_of t q u) (m + count_starts t u) us s x.1 in (
+      (x.0, y.0),
+      subst (λ k. IsNext t (next_all t (next_of t q u) us) k s) (let z : m + count_starts t u + starts_all t us ≡ m + starts_all t
+          (u ∷ us) = (let c = starts_cons t u us in omega (arith, c)) in z) y.1,
+      y.2,
+    )
 
 -- what is kept up to a step
 held_before : {S : Type 0} (t : Tables) (xs xs' : List (IndexMap ℕ Variable S)) (f : ℕ) (s : Step) (cl : Suppositions) → StartsGrow t xs xs' s →
@@ -255,9 +258,13 @@ pub starts_more : {S : Type 0} (t : Tables) (xs ys zs : List (IndexMap ℕ Varia
 starts_more t xs ys zs ss s (more, e, m, set) (last, f, n, set2) =
     let z = sum_by-append (count_starts t) ss (s ∷ []) in
     let y = length-append more last in
-    let one : sum_by (count_starts t) (s ∷ []) ≡ 0 + count_starts t s = refl in
-    (more ++ last, f ∙ ap (λ l. l ++ last) e ∙ append_assoc xs more last, let q : length (more ++ last) ≡ starts_all t (ss ++ s ∷ []) = omega
-        (arith, m, n, z, y, one) in q, All-append (AreAllSet t.bank.now) more last set set2)
+    let one : sum_by (count_starts t) (s ∷ []) ≡ 0 + count_starts t s = refl in (
+      more ++ last,
+      f ∙ ap (λ l. l ++ last) e ∙ append_assoc xs more last,
+      let q : length (more ++ last) ≡ starts_all t (ss ++ s ∷ []) = omega
+          (arith, m, n, z, y, one) in q,
+      All-append (AreAllSet t.bank.now) more last set set2,
+    )
 
 -- where it comes to before the last one
 last_walked : (xs : List BodyStep) (x : BodyStep) (u w : Walked) → advance_all (xs ++ x ∷ []) u ≡ Some w → (y : Walked) × (advance_all xs u ≡ Some y) × (advance x y ≡ Some w)
@@ -295,7 +302,7 @@ step_more {S} t K e mid e' env here env' bs bs' xs ys zs ss s x y grown = (both,
         let size : length ys ≡ length xs + length x.1.0 = ap length x.1.1 ∙ length-append xs x.1.0 in
         let number : f + length xs + starts_all t ss ≡ f + length ys = omega (arith, longer, size) in
         let after = y cl (next_all t q ss) f (start_at (around_of b env) e q) r.0 w kept (subst (λ k. IsNext t (next_all t q ss) k s) number l.1)
-            before.0 before.1 (omega (arith, low, short, many, one)) r.2 in
+        before.0 before.1 (omega (arith, low, short, many, one)) r.2 in
         let high = after.2 in
         (subst (λ n. StandsAt (AssumedBy t cl) K t.type_vars (start_at (around_of b env) e q) w (around_of b env') e' n bs') (sym l.2) after.0, after.1, omega (arith, low, high, many, one))
 

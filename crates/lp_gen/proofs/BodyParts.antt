@@ -167,7 +167,7 @@ pub kind_leads : (h : Home) (later : Later) (vars n m q : ℕ) (T : Ty) (is : Li
 kind_leads h later vars n m q T is s x st few known room =
     let a = x.after in
     let w = x.put.denotes h later vars s (subst (λ z. TypesStand h vars z s) (sym x.before) st) (omega (arith, few, a)) known
-        (subst (λ l. HasRoom s (s.place + sum_by length_of l)) x.code_is room) in (
+    (subst (λ l. HasRoom s (s.place + sum_by length_of l)) x.code_is room) in (
       w.0,
       subst (λ l. Leads h later vars n m s l w.0) (sym x.code_is) (subst (λ z. Leads h later vars n z s x.put.more w.0) x.after
           (subst (λ z. Leads h later vars z x.new.types s x.put.more w.0) x.before w.1)),
@@ -283,7 +283,7 @@ fine_numbers h v k (suc c) q named low x =
     let first = All-head (λ n. (h.number < n) × (is_assumed_record (slice_get h.records n) v k ≡ true)) q (numbers (suc q) c) x in
     let others = All-tail (λ n. (h.number < n) × (is_assumed_record (slice_get h.records n) v k ≡ true)) q (numbers (suc q) c) x in
     let rest = fine_numbers h v k c (suc q) (q ∷ named) (λ m e. or_cases (m < suc q) (nat_eq m q) (member m named) e
-        (λ f. let z = eqb-true m q f in omega (arith, z)) (λ f. let z = low m f in omega (arith, z))) others in
+    (λ f. let z = eqb-true m q f in omega (arith, z)) (λ f. let z = low m f in omega (arith, z))) others in
     λ i. (lt-ltb h.number q first.0 i && first.1 i && not_member q named low i && rest i)
 
 pub fine_names : (h : Home) (v k q : ℕ) (ns named : List ℕ) → ((m : ℕ) → member m named ≡ true → m < q) → ns ≡ numbers q (length ns) → AreLater h v k ns → are_fine_names h named v k ns ≡ true

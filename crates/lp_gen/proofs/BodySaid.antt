@@ -98,7 +98,7 @@ module _ (P : Around → (records levels : List ℕ) → Clauses → Type 0) (K 
 
   atom_told : (n n' k k' q q' : ℕ) (σ : ℕ → Term) (Γ : List Ty) (B : List Bool) (a : Around) (Q : ℕ → Type 0) (s : State) (t : Term) (is : List Instr) → AtomCode K a n n' k k' t is →
       IsAround h K vars n k q σ Γ B a Q s → AtomFits h vars Γ Q t → n' ≤ h.self.types → k' ≤ h.self.registers → MayEnd s
-          (s.place + sum_by length_of is) → GoalTold h later vars n n' k k' q' σ a s is (Atomic t)
+      (s.place + sum_by length_of is) → GoalTold h later vars n n' k k' q' σ a s is (Atomic t)
   atom_told n n' k k' q q' σ Γ B a Q s t is c x fit few low room =
       let a0 = c.after.types_are in
       let a1 = c.after.registers_are in
@@ -135,7 +135,7 @@ module _ (P : Around → (records levels : List ℕ) → Clauses → Type 0) (K 
   piece_joined : (n m n' k l k' q o q' : ℕ) (σ : ℕ → Term) (a : Around) (s v : State) (g said : Goal) (b : List (ℕ × Captured)) (rest : Goals)
       (is js ks : List Instr) → 0 < sum_by length_of js → n ≤ m →
       k ≤ l → o ≤ q' → GoalsCode P K vars a m n' l k' o q' rest ks → is ≡ js ++ ks → (is ≡ [] → ⊥) → MayEnd s (s.place + sum_by length_of is) → Says h
-          later vars n m k l s js (with_goal s.goals said) b v →
+      later vars n m k l s js (with_goal s.goals said) b v →
       bare_goal said ≡ said_goal σ a 0 g → AreNames o b → Behind n m n' k l k' o q' σ a s js ks said rest → GoalsTold h later vars n n' k k' q' σ a s is (goals g rest)
   piece_joined n m n' k l k' q o q' σ a s v g said b no_goals is js ks some nm kl oq (d0, d1, d2, d3) e filled room x bare names others =
       let f : js ≡ is = sym (append-nil js) ∙ ap (λ z. js ++ z) (sym d3) ∙ sym e in
@@ -220,10 +220,10 @@ module _ (P : Around → (records levels : List ℕ) → Clauses → Type 0) (K 
   -- goals below `sigma`
   sigma_told : (n m n' k k' q q' r : ℕ) (σ : ℕ → Term) (Γ : List Ty) (B : List Bool) (a : Around) (Q : ℕ → Type 0) (s u : State) (T : Ty) (gs : Goals) (ts js : List Instr) →
       IsAround h K vars n k q σ Γ B a Q s → GoalsFit h vars (T ∷ Γ) (false ∷ B) (one_more Q) gs → GoalsCode P K vars (pushed a (quantified k T)) m n'
-          (k + 1) k' q q' gs js → n ≤ m → k < h.self.registers →
+      (k + 1) k' q q' gs js → n ≤ m → k < h.self.registers →
       MayEnd s (s.place + sum_by length_of (ts ++ (on.Sigma k r ∷ [] ++ js))) → Leads h later vars n m s ts u → Hold u r T →
       ((t : State) → Rattle.lp_gen.specs.inner.Bodies.Opened h later vars m m k (k + 1) u (on.Sigma k r ∷ []) (frame_of u (under_sigma k T)) [] t →
-          held t.now.terms k ≡ Some (whole (variable k h.number) T) →
+      held t.now.terms k ≡ Some (whole (variable k h.number) T) →
       Inner h later vars m n' (k + 1) k' t js (AreSaid (with_level σ (new_level a) (variable k h.number)) (pushed a (quantified k T)) q' gs)) →
       GoalTold h later vars n n' k k' q' σ a s (ts ++ (on.Sigma k r ∷ [] ++ js)) (Exists T gs)
   sigma_told n m n' k k' q q' r σ Γ B a Q s u T no_goals ts js x fit (c0, c1, c2, c3) nm low room leads holds inner =
@@ -244,7 +244,7 @@ module _ (P : Around → (records levels : List ℕ) → Clauses → Type 0) (K 
       let τ = with_level σ (new_level a) (variable k h.number) in
       let grow = goals_grow P K vars b m n' (k + 1) k' q q' gs js c in
       let w = sigma_said h later vars n m n' k k' r s u ts js T (AreSaid τ b q' gs) x.body x.terms_stand low leads holds nm grow.0 room
-          (goals_some P K vars b m n' (k + 1) k' q q' g3 gs3 js c) inner in
+      (goals_some P K vars b m n' (k + 1) k' q q' g3 gs3 js c) inner in
       record {
         said = Exists T (bind_goals (k ∷ []) h.number w.0);
         more = w.1;
@@ -292,7 +292,7 @@ module _ (P : Around → (records levels : List ℕ) → Clauses → Type 0) (K 
           let lands = left_stands h vars n k nl s x.types_stand x.terms_stand in
           let u = goals_say n m k l q o σ Γ B a Q t gs ls cl (inside_left h ls (on.Jump mr ∷ rs) within)
           (around_kept h K vars n n k k q q σ Γ B a Q s t x lands.0 lands.1 (omega (arith, kl, lk, low)) x.body (omega arith) (λ r b q z. z) x.below)
-              fit.0 (omega (arith, mn, few)) (omega (arith, lk, low))
+          fit.0 (omega (arith, mn, few)) (omega (arith, lk, low))
           (omega (arith, nest)) (or_none (nat_lt (s.place + 5 + nl) (s.place + 5 + sum_by length_of ls)) (list_any (λ (f : Frame). ends_before (s.place + 5 + sum_by length_of ls) f.block) s.frames)
           (le-ltb (s.place + 5 + nl) (s.place + 5 + sum_by length_of ls) (omega (arith, el)))
           (may_less (s.place + 5 + sum_by length_of ls) (s.place + sum_by length_of code) s.frames (omega (arith, z1, z2, z3)) room_s)) in
@@ -303,13 +303,13 @@ module _ (P : Around → (records levels : List ℕ) → Clauses → Type 0) (K 
           let same : u.state.place + 5 + sum_by length_of rs ≡ s.place + sum_by length_of code = omega (arith, z1, z2, z3, i) in
           let w = goals_say m n' l k' o q' σ Γ B a Q r hs rs cr right
           (around_kept h K vars n m k l q o σ Γ B a Q s r x rands.0 rands.1 (omega (arith, lk, low)) body_u kl (λ r b q z. z)
-              (below_more q o h s.assumed u.more r.assumed x.below u.names qo u.says.assumed_are))
+          (below_more q o h s.assumed u.more r.assumed x.below u.names qo u.says.assumed_are))
           fit.1 few low (omega (arith, nest))
           (or_none (nat_lt (u.state.place + 5 + mr) (u.state.place + 5 + sum_by length_of rs)) (list_any (λ (f : Frame). ends_before (u.state.place + 5 + sum_by length_of rs) f.block) s.frames)
           (le-ltb (u.state.place + 5 + mr) (u.state.place + 5 + sum_by length_of rs) (omega (arith, er)))
           (subst (λ q. list_any (λ (f : Frame). ends_before q f.block) s.frames ≡ false) (sym same) room_s)) in
           let v = either_said h later vars n m n' k l k' s u.state w.state ls rs u.said w.said u.more w.more nl mr el er x.body (omega (arith, nest))
-              x.types_stand x.terms_stand room_s u.says w.says w.empty nm kl in
+          x.types_stand x.terms_stand room_s u.says w.says w.empty nm kl in
           record {
             said = Either u.said w.said;
             more = u.more ++ w.more;
@@ -409,9 +409,9 @@ module _ (P : Around → (records levels : List ℕ) → Clauses → Type 0) (K 
           let as_many : length ts.items ≡ vars = zero_is vars ts.items types in
           let as_long : length rs.items ≡ length ls = registers_length a ls rs.items are in
           let fine = (λ i. Rattle.lp_code.specs.Rules.are_fine_names h (Rattle.lp_code.specs.Rules.named_before h.number h.records ++ map
-              (λ (a : ℕ × Captured). a.0) s.assumed) (as_many i) (as_long i) ns.items)
+          (λ (a : ℕ × Captured). a.0) s.assumed) (as_many i) (as_long i) ns.items)
           ∙ fine_names h vars (length ls) q ns.items (Rattle.lp_code.specs.Rules.named_before h.number h.records ++ map (λ (a : ℕ × Captured). a.0)
-              s.assumed) x.below named (records a ns.items ls cs coded) in
+          s.assumed) x.below named (records a ns.items ls cs coded) in
           let unset = ap (list_any (λ t. Rattle.std.specs.Prelude.is_none (held s.now.types t))) types ∙ zero_set h vars n vars s x.types_stand (omega arith) in
           let w = assume_said h later vars n n' k k' s ns ts rs known.0 js (AreSaid σ a q' gs) x.body (omega (arith, nest)) x.types_stand x.terms_stand unset start.1 fine known.1 room_s (λ t o.
           let at_t = o.place_is in

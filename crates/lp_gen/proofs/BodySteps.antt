@@ -56,7 +56,7 @@ cut_set n a set l v e = go (nat_le a.base l) refl
     go : (t : Bool) → nat_le a.base l ≡ t → v.is_set ≡ true
     go true f =
         set l v (ap (λ t. if t then slice_get a.own (l - a.base) else a.captured l) f ∙ kept a.own n (l - a.base)
-            (sym (ap (λ t. if t then slice_get (take n a.own) (l - a.base) else a.captured l) f) ∙ e))
+        (sym (ap (λ t. if t then slice_get (take n a.own) (l - a.base) else a.captured l) f) ∙ e))
     go false f = set l v (ap (λ t. if t then slice_get a.own (l - a.base) else a.captured l) f ∙ sym (ap (λ t. if t then slice_get (take n a.own) (l - a.base) else a.captured l) f) ∙ e)
 
 take_less : {A : Type 0} (n : ℕ) (xs : List A) → length (take n xs) ≤ length xs
@@ -201,7 +201,7 @@ module _ (P : Around → (records levels : List ℕ) → Clauses → Type 0) (K 
       (refl, refl, refl, ns, ts, rs, ls, coded, are, of, named1, last, refl, b.at, b.from, refl) in (
         subst (λ y. StandsAt P K v z y a e' (first + count) bs') (some_walked w1 w' adv)
             (stands_as v z w1 a a e.types e'.types e.registers e'.registers (first + count) (e.code.items ++ on.Assume ns ts rs ∷ []) e'.code.items ms
-                (marks bs') refl (sym types) (sym registers) (sym code)
+            (marks bs') refl (sym types) (sym registers) (sym code)
             (sym (ap marks blocks ∙ marks_more bs b ∙ (λ i. record { variables = variables i; at = b.at; from = b.from } ∷ marks bs))) more),
         set,
         omega arith,
@@ -296,7 +296,7 @@ module _ (P : Around → (records levels : List ℕ) → Clauses → Type 0) (K 
           let at_is : left.at ≡ length t.lead = ap (λ (m : Mark). m.at) here in
           let from_is : left.from ≡ t.from = ap (λ (m : Mark). m.from) here in
           let whole : e1.code.items ≡ t.lead ++ on.Either 0 ∷ (t.rest ++ on.Jump 0 ∷ []) = code ∙ ap (λ l. l ++ on.Jump 0 ∷ []) t.code_is ∙
-              append_assoc t.lead (on.Either 0 ∷ t.rest) (on.Jump 0 ∷ []) in
+          append_assoc t.lead (on.Either 0 ∷ t.rest) (on.Jump 0 ∷ []) in
           let size = ap (sum_by length_of) code ∙ sum_by-append length_of e.code.items (on.Jump 0 ∷ []) in
           let five : sum_by length_of (on.Jump 0 ∷ []) ≡ 5 = refl in
           let low = t.from_low in

@@ -86,36 +86,44 @@ module _ (b : Nodes) (n : ℕ) (ks : List ℕ) where
       PlacesHold b n ks ps' → PlacesHold b n ks ps × IsThrough (AllLoose (IsAmong n ks)) d (goal_of b g)
   either_holds d g l r ls rs ps mid ps' is left right m e h =
       let x = places_put mid ps' (on.Goals rs d) e h in
-      let y = places_put ps mid (on.Goals ls d) m x.0 in
-      (y.0, subst (IsThrough (AllLoose (IsAmong n ks)) d) (sym (ap (goal_of b) is ∙ either_is b l r))
-          (subst (λ l. AreThrough (AllLoose (IsAmong n ks)) d (goals_of b l)) left y.1, subst (λ l. AreThrough (AllLoose (IsAmong n ks)) d (goals_of b l)) right x.1))
+      let y = places_put ps mid (on.Goals ls d) m x.0 in (
+        y.0,
+        subst (IsThrough (AllLoose (IsAmong n ks)) d) (sym (ap (goal_of b) is ∙ either_is b l r))
+            (subst (λ l. AreThrough (AllLoose (IsAmong n ks)) d (goals_of b l)) left y.1, subst (λ l. AreThrough (AllLoose (IsAmong n ks)) d (goals_of b l)) right x.1),
+      )
 
   pub some_holds : (d u : ℕ) (g : Goal) (T : TypeId) (l : Vec Goal Global) (ls : Bor (List Goal)) (ps ps' : List Place) → g ≡ code.Some T l → ls.now ≡ l.items → u ≡ d + 1 → ps' ≡ ps ++
       on.Goals ls u ∷ [] →
       PlacesHold b n ks ps' → PlacesHold b n ks ps × IsThrough (AllLoose (IsAmong n ks)) d (goal_of b g)
   some_holds d u g T l ls ps ps' is same more e h =
       let x = places_put ps ps' (on.Goals ls u) e h in
-      let z : u ≡ suc d = omega (arith, more) in
-      (x.0, subst (IsThrough (AllLoose (IsAmong n ks)) d) (sym (ap (goal_of b) is ∙ some_is b T l))
-          (subst (λ k. AreThrough (AllLoose (IsAmong n ks)) k (goals_of b l.items)) z (subst (λ l. AreThrough (AllLoose (IsAmong n ks)) u (goals_of b l)) same x.1)))
+      let z : u ≡ suc d = omega (arith, more) in (
+        x.0,
+        subst (IsThrough (AllLoose (IsAmong n ks)) d) (sym (ap (goal_of b) is ∙ some_is b T l))
+            (subst (λ k. AreThrough (AllLoose (IsAmong n ks)) k (goals_of b l.items)) z (subst (λ l. AreThrough (AllLoose (IsAmong n ks)) u (goals_of b l)) same x.1)),
+      )
 
   pub all_holds : (d u : ℕ) (g : Goal) (T : TypeId) (l : Vec Goal Global) (ls : Bor (List Goal)) (ps ps' : List Place) → g ≡ code.All T l → ls.now ≡ l.items → u ≡ d + 1 → ps' ≡ ps ++
       on.Goals ls u ∷ [] →
       PlacesHold b n ks ps' → PlacesHold b n ks ps × IsThrough (AllLoose (IsAmong n ks)) d (goal_of b g)
   all_holds d u g T l ls ps ps' is same more e h =
       let x = places_put ps ps' (on.Goals ls u) e h in
-      let z : u ≡ suc d = omega (arith, more) in
-      (x.0, subst (IsThrough (AllLoose (IsAmong n ks)) d) (sym (ap (goal_of b) is ∙ all_is b T l))
-          (subst (λ k. AreThrough (AllLoose (IsAmong n ks)) k (goals_of b l.items)) z (subst (λ l. AreThrough (AllLoose (IsAmong n ks)) u (goals_of b l)) same x.1)))
+      let z : u ≡ suc d = omega (arith, more) in (
+        x.0,
+        subst (IsThrough (AllLoose (IsAmong n ks)) d) (sym (ap (goal_of b) is ∙ all_is b T l))
+            (subst (λ k. AreThrough (AllLoose (IsAmong n ks)) k (goals_of b l.items)) z (subst (λ l. AreThrough (AllLoose (IsAmong n ks)) u (goals_of b l)) same x.1)),
+      )
 
   pub assume_holds : (d : ℕ) (g : Goal) (cs : Vec Clause Global) (l : Vec Goal Global) (ds : Bor (List Clause)) (ls : Bor (List Goal)) (ps mid ps' : List Place) → g ≡ code.Assume cs l →
       ds.now ≡ cs.items → ls.now ≡ l.items → mid ≡ ps ++ on.Clauses ds d ∷ [] →
       ps' ≡ mid ++ on.Goals ls d ∷ [] → PlacesHold b n ks ps' → PlacesHold b n ks ps × IsThrough (AllLoose (IsAmong n ks)) d (goal_of b g)
   assume_holds d g cs l ds ls ps mid ps' is left right m e h =
       let x = places_put mid ps' (on.Goals ls d) e h in
-      let y = places_put ps mid (on.Clauses ds d) m x.0 in
-      (y.0, subst (IsThrough (AllLoose (IsAmong n ks)) d) (sym (ap (goal_of b) is ∙ assume_is b cs l))
-          (subst (λ l. AllThrough (AllLoose (IsAmong n ks)) d (clauses_of b l)) left y.1, subst (λ l. AreThrough (AllLoose (IsAmong n ks)) d (goals_of b l)) right x.1))
+      let y = places_put ps mid (on.Clauses ds d) m x.0 in (
+        y.0,
+        subst (IsThrough (AllLoose (IsAmong n ks)) d) (sym (ap (goal_of b) is ∙ assume_is b cs l))
+            (subst (λ l. AllThrough (AllLoose (IsAmong n ks)) d (clauses_of b l)) left y.1, subst (λ l. AreThrough (AllLoose (IsAmong n ks)) d (goals_of b l)) right x.1),
+      )
 
   pub not_holds : (d : ℕ) (g : Goal) (l : Vec Goal Global) (ls : Bor (List Goal)) (ps ps' : List Place) → g ≡ code.Not l → ls.now ≡ l.items → ps' ≡ ps ++ on.Goals ls d ∷ [] →
       PlacesHold b n ks ps' → PlacesHold b n ks ps × IsThrough (AllLoose (IsAmong n ks)) d (goal_of b g)
@@ -138,12 +146,14 @@ module _ (b : Nodes) (n : ℕ) (ks : List ℕ) where
       let vs = map (λ (T : TypeId). type_tree b T.0) c.vars.items in
       let many = map_length (λ (T : TypeId). type_tree b T.0) c.vars.items in
       let sum = under_many vs d in
-      let z : u ≡ under_all suc vs d = omega (arith, more, many, sum) in
-      (y.0, subst (λ F. AllThrough (AllLoose (IsAmong n ks)) d (clauses F no_clauses)) (sym (clause_is b c)) (
-        subst (λ k. AllLoose (IsAmong n ks) k (tree b c.head.0)) z x.1,
-        subst (λ k. AreThrough (AllLoose (IsAmong n ks)) k (goals_of b c.body.items)) z (subst (λ l. AreThrough (AllLoose (IsAmong n ks)) u (goals_of b l)) same y.1),
-        tt,
-      ))
+      let z : u ≡ under_all suc vs d = omega (arith, more, many, sum) in (
+        y.0,
+        subst (λ F. AllThrough (AllLoose (IsAmong n ks)) d (clauses F no_clauses)) (sym (clause_is b c)) (
+          subst (λ k. AllLoose (IsAmong n ks) k (tree b c.head.0)) z x.1,
+          subst (λ k. AreThrough (AllLoose (IsAmong n ks)) k (goals_of b c.body.items)) z (subst (λ l. AreThrough (AllLoose (IsAmong n ks)) u (goals_of b l)) same y.1),
+          tt,
+        ),
+      )
 
   -- the next clause of a list
   pub clauses_first : (d : ℕ) (F : FlatClause) (Fs : Clauses) → AllThrough (AllLoose (IsAmong n ks)) d (clauses F no_clauses) → AllThrough (AllLoose (IsAmong n ks)) d Fs → AllThrough
@@ -166,9 +176,12 @@ module _ (b : Nodes) (n : ℕ) (xs xs' : List ℕ) (ps ps' : List Place) where
       ((n : ℕ) (ks : List ℕ) → PlacesHold b n ks ps' → PlacesHold b n ks mid × AllThrough (AllLoose (IsAmong n ks)) d (clauses (clause_of b c) no_clauses)) → Marks b n xs xs ps ps' p
   clauses_some p cs rest c d mid is first m f ks cov h =
       let x = f n ks h in
-      let y = places_put b n ks ps mid (on.Clauses rest d) m x.0 in
-      (cov, y.0, subst (λ (q : Place). PlaceHolds b n ks q) (sym is) (subst (λ l. AllThrough (AllLoose (IsAmong n ks)) d (clauses_of b l)) (sym first)
-          (clauses_first b n ks d (clause_of b c) (clauses_of b rest.now) x.1 y.1)))
+      let y = places_put b n ks ps mid (on.Clauses rest d) m x.0 in (
+        cov,
+        y.0,
+        subst (λ (q : Place). PlaceHolds b n ks q) (sym is) (subst (λ l. AllThrough (AllLoose (IsAmong n ks)) d (clauses_of b l)) (sym first)
+            (clauses_first b n ks d (clause_of b c) (clauses_of b rest.now) x.1 y.1)),
+      )
 
   pub goals_some : (p : Place) (gs rest : Bor (List Goal)) (g : Goal) (d : ℕ) (mid : List Place) → p ≡ on.Goals gs d → gs.now ≡ g ∷ rest.now → mid ≡ ps ++ on.Goals rest d ∷ [] →
       ((n : ℕ) (ks : List ℕ) → PlacesHold b n ks ps' → PlacesHold b n ks mid × IsThrough (AllLoose (IsAmong n ks)) d (goal_of b g)) → Marks b n xs xs ps ps' p

@@ -41,9 +41,9 @@ assumed_clause h later c σ A Ts head gs z ran program types top body = (
 pub program_clause : (h : Home) (later : Later) (c : Captured) (σ : ℕ → Term) (A : Around) (v : ℕ) (Ts : List Ty) (head : Term) (gs : Goals)
     (z : State) → run h later (first_state h.self c) h.self.code.items ≡ Done z →
     h.self.program ≡ true → length (own_types h.self) ≡ v → variable_types z (own_variables h.self) ≡ Ts → bind_term (own_variables h.self) h.number 0
-        (head_term h z) ≡ with_variables σ A (length Ts) head →
+    (head_term h z) ≡ with_variables σ A (length Ts) head →
     bare_goals (bind_goals (own_variables h.self) h.number z.goals) ≡ said_goals σ A (length Ts) gs → AllLoose NoIndex (length Ts) head → AreThrough
-        (AllLoose NoIndex) (length Ts) gs → written_goals gs ≡ gs →
+    (AllLoose NoIndex) (length Ts) gs → written_goals gs ≡ gs →
     denoted h later c ≡ Some (clause v Ts head gs)
 program_clause h later c σ A v Ts head gs z ran program own types top body no_index none written =
     ap (clause_ran h) ran
@@ -120,5 +120,5 @@ assumed_key h program none =
 pub program_key : (h : Home) (o : Option Atom) → h.self.program ≡ true → first_key (λ r. None) h.self.code.items ≡ o → key_is h.self.key o ≡ true → has_right_key h ≡ true
 program_key h o program first is =
     (λ i. is_none h.self.head || (if program i then key_is h.self.key (first_key (λ r. None) h.self.code.items) else key_is h.self.key None)) ∙
-        (λ i. is_none h.self.head || (ap (key_is h.self.key) first ∙ is) i)
+    (λ i. is_none h.self.head || (ap (key_is h.self.key) first ∙ is) i)
     ∙ or_true (is_none h.self.head)

@@ -54,7 +54,7 @@ use Rattle.lp_gen.proofs.BodySteps.{numbers_length}
 use Rattle.lp_gen.proofs.BodyPlain.{goals_plain}
 use Rattle.lp_gen.proofs.BodyCoded.{body_coded}
 use Rattle.lp_gen.proofs.OwnPlaces.{own_numbers, clause_count}
-use Rattle.lp_gen.proofs.RecordBegins.{Outside, Inside, own_terms, own_term, old_term, binder_behind, front_held, started_registers, not_zero, start_length, are_own, are_started, own_unmade, old_variable, by_index, old_register, all_seen, all_known, all_free, all_alls, all_outer, stands_first, behind_held}
+use Rattle.lp_gen.proofs.RecordBegins.{built_at, no_built, Outside, Inside, own_terms, own_term, old_term, binder_behind, front_held, started_registers, not_zero, start_length, are_own, are_started, own_unmade, old_variable, by_index, old_register, all_seen, all_known, all_free, all_alls, all_outer, stands_first, behind_held}
 use Rattle.std.proofs.lemmas.Bool.{ltb-true, ltb-false, eqb-true, eq-eqb}
 use Rattle.lp_calculus.specs.Spine.{arguments}
 use Rattle.lp_code.specs.Symbolic.{Built, held, whole, plain_terms}
@@ -170,7 +170,7 @@ module _ {S : Type 0} (t : Tables) (part : Part) (captured : IndexMap ℕ Variab
         (few : new_level A + length Ts + length part.steps.items < 2 ^ 64 - 1) where
       abbrev pub coded : (last : List Instr)
           × GoalsCode (AssumedBy t cl) K t.type_vars (around_of t.bank.now w.fronted_env) w.body.begun.types w.body.said.types w.body.begun.registers w.body.said.registers q
-              (next_all t q part.steps.items) (plain_goals gs) last
+          (next_all t q part.steps.items) (plain_goals gs) last
           × (w.body.said.code.items ≡ w.body.begun.code.items ++ last)
       coded =
           body_coded t K w.body.begun w.body.said w.fronted_env w.ended_env [] xs' part.steps.items cl q f gs w.body.written.0 kept steps ends
@@ -187,7 +187,7 @@ module _ {S : Type 0} (t : Tables) (part : Part) (captured : IndexMap ℕ Variab
       room : (w.body.begun.types ≤ h.self.types) × (w.body.begun.registers ≤ h.self.registers) × (w.body.said.types ≤ h.self.types) × (w.body.said.registers ≤ h.self.registers)
       room =
           let grow = goals_grow (AssumedBy t cl) K t.type_vars (around_of t.bank.now w.fronted_env) w.body.begun.types w.body.said.types w.body.begun.registers w.body.said.registers q
-              (next_all t q part.steps.items) (plain_goals gs) coded.0 coded.1 in
+          (next_all t q part.steps.items) (plain_goals gs) coded.0 coded.1 in
           let a = grow.0 in let b = grow.1 in let d = w.body.types_stay in let e = w.body.registers_stay in let g = w.types_are in let i = w.registers_are in
           (omega (arith, a, d, g), omega (arith, b, e, i), omega (arith, d, g), omega (arith, e, i))
 
@@ -210,7 +210,7 @@ module _ {S : Type 0} (t : Tables) (part : Part) (captured : IndexMap ℕ Variab
           made : makes (own_types_code ++ (front ++ (coded.0 ++ on.Proceed ∷ []))) ≡ makes (hm.more ++ front_of.made.some.made.more)
           made =
               makes_both own_types_code (front ++ (coded.0 ++ on.Proceed ∷ [])) ∙ ap (λ l. l ++ makes (front ++ (coded.0 ++ on.Proceed ∷ [])))
-                  (types_make (is_none part.within) w.begun.types t.type_vars)
+              (types_make (is_none part.within) w.begun.types t.type_vars)
               ∙ makes_both front (coded.0 ++ on.Proceed ∷ []) ∙ ap (λ l. makes front ++ l) (makes_both coded.0 (on.Proceed ∷ []) ∙ ap (λ l. l ++ []) none) ∙ append-nil (makes front)
               ∙ ap makes (sym (append_assoc hm.more front_of.made.some.made.more w.body.neck.more)) ∙ makes_both (hm.more ++ front_of.made.some.made.more) w.body.neck.more
               ∙ ap (λ l. makes (hm.more ++ front_of.made.some.made.more) ++ l) w.body.neck.plain.no_own ∙ append-nil (makes (hm.more ++ front_of.made.some.made.more))
@@ -260,43 +260,43 @@ module _ {S : Type 0} (t : Tables) (part : Part) (captured : IndexMap ℕ Variab
             (next_all t q part.steps.items) (plain_goals gs) coded.0
         named =
             goals_mapped (AssumedBy t cl) K t.type_vars long (AreNamed t cl first) (IsAtLevel t) first change (around_of t.bank.now w.fronted_env) w.body.begun.types w.body.said.types
-                w.body.begun.registers w.body.said.registers q
+            w.body.begun.registers w.body.said.registers q
             (next_all t q part.steps.items) (plain_goals gs) coded.0 le (subst (λ d. GoalsHave (IsAtLevel t) q d (plain_goals gs)) (sym level_count)
-                (plain_have (IsAtLevel t) q (new_level A + length Ts) gs has)) coded.1
+            (plain_have (IsAtLevel t) q (new_level A + length Ts) gs has)) coded.1
 
         pub next_is : next_all t q part.steps.items ≡ q + goals_records gs
         next_is =
             goals_next (AssumedBy t cl) K t.type_vars long (around_of t.bank.now w.fronted_env) w.body.begun.types w.body.said.types w.body.begun.registers w.body.said.registers q
-                (next_all t q part.steps.items) (plain_goals gs)
+            (next_all t q part.steps.items) (plain_goals gs)
             coded.0 coded.1 ∙ ap (λ n. q + n) (plain_records gs)
 
         -- all is run
         pub all_ran : (later : Later) (s : State) → slice_get h.records h.number ≡ Some h.self → ((a : Around) (ns ls : List ℕ) (cs : Clauses) → AreNamed t cl first a ns ls cs → AreLater h
             t.type_vars (length ls) ns) →
             TellClauses h later t.type_vars (AreNamed t cl first) → MayRun h K t.type_vars front_of.begun.types front_of.begun.registers q terms (Ts ++ Γ) (map (λ T. false) Ts ++ B) around
-                (more_of Ts Q) s →
+            (more_of Ts Q) s →
             IsHeadAtom h t.type_vars (Ts ++ Γ) around head → PredicateStands h.self.head front_of.begun.registers s → GoalsFit h t.type_vars (Ts ++ Γ) (map (λ T. false) Ts ++ B) (more_of Ts Q) gs →
-                goals_depth gs ≤ nesting_limit →
+            goals_depth gs ≤ nesting_limit →
             RecordRan h later terms around s (front ++ (coded.0 ++ on.Proceed ∷ [])) (Some head) gs
         all_ran later s self records told may fits predicate fit nest =
             let ran = front_ran h later K t.type_vars q terms (Ts ++ Γ) (map (λ T. false) Ts ++ B) around (around_of t.bank.now front_of.matched_env) (around_of t.bank.now w.fronted_env)
-                (more_of Ts Q) s front_of.begun front_of.matched
+            (more_of Ts Q) s front_of.begun front_of.matched
             w.fronted w.body.begun h.self.head (Some head) front_of.head front_of.made w.body.neck may (fits, predicate) refl room.0 room.1 in
             record_ran (AreNamed t cl first) h later K t.type_vars q (next_all t q part.steps.items) terms (Ts ++ Γ) (map (λ T. false) Ts ++ B) around (around_of t.bank.now w.fronted_env)
-                (more_of Ts Q) w.body.begun.types
+            (more_of Ts Q) w.body.begun.types
             w.body.said.types w.body.begun.registers w.body.said.registers s front coded.0 (Some head) gs ran named records told self
             (λ r set. ap (λ p. sets_by_all p r) self ∙ ap (λ l. is_set_by_all l r) code_is
             ∙ set_right own_types_code (front ++ (coded.0 ++ on.Proceed ∷ [])) r (set_right front (coded.0 ++ on.Proceed ∷ []) r (set_left coded.0 (on.Proceed ∷ []) r set))) fit
-                room.2 room.3 nest
+            room.2 room.3 nest
 
         -- and its head alone
         pub head_front : (later : Later) (s : State) → MayRun h K t.type_vars front_of.begun.types front_of.begun.registers q terms (Ts ++ Γ) (map (λ T. false) Ts ++ B) around (more_of Ts Q) s →
             IsHeadAtom h t.type_vars (Ts ++ Γ) around head → PredicateStands h.self.head front_of.begun.registers s →
             FrontRan h later K t.type_vars w.body.begun.types w.body.begun.registers q terms (Ts ++ Γ) (map (λ T. false) Ts ++ B) around (around_of t.bank.now w.fronted_env) (more_of Ts Q) s front
-                (Some head)
+            (Some head)
         head_front later s may fits predicate =
             front_ran h later K t.type_vars q terms (Ts ++ Γ) (map (λ T. false) Ts ++ B) around (around_of t.bank.now front_of.matched_env) (around_of t.bank.now w.fronted_env) (more_of Ts Q) s
-                front_of.begun front_of.matched
+            front_of.begun front_of.matched
             w.fronted w.body.begun h.self.head (Some head) front_of.head front_of.made w.body.neck may (fits, predicate) refl room.0 room.1
 
         -- a state before the head, with what the record starts with
@@ -314,7 +314,7 @@ module _ {S : Type 0} (t : Tables) (part : Part) (captured : IndexMap ℕ Variab
         module _ (std : IsStandard h.tables.constants) (asked : AreAsked h K) (known : All (IsKnownType h.tables.kinds t.type_vars) Ts) (below : AreBelow q h [])
             (heads_fit : Rattle.lp_gen.specs.inner.BodyLaw.HeadFits h t.type_vars (Ts ++ Γ) (map (λ T. false) Ts ++ B) (more_of Ts Q) head)
             (body_fits : GoalsFit h t.type_vars (Ts ++ Γ) (map (λ T. false) Ts ++ B) (more_of Ts Q) gs) (nest : goals_depth gs ≤ nesting_limit) (bs : List Built)
-                (with : StartWith σ A (levels_found A keys) bs) where
+            (with : StartWith σ A (levels_found A keys) bs) where
           many : length bs ≡ k
           many = start_length σ A (levels_found A keys) bs with ∙ sym inside.starts.count_is
 
@@ -324,7 +324,7 @@ module _ {S : Type 0} (t : Tables) (part : Part) (captured : IndexMap ℕ Variab
           abbrev pub IsFirst : State → Type 0
           IsFirst s =
               (s.now.terms ≡ started_with bs h.self.registers) × (s.terms_set ≡ from_zero k) × (s.in_body ≡ false) × (s.head_types ≡ []) × (s.head_arguments ≡ []) × (s.goals ≡ no_goals) ×
-                  (s.frames ≡ []) × (s.assumed ≡ [])
+              (s.frames ≡ []) × (s.assumed ≡ [])
 
           pub may : (s : State) → IsFirst s → TypesStand h t.type_vars front_of.begun.types s →
               MayRun h K t.type_vars front_of.begun.types front_of.begun.registers q terms (Ts ++ Γ) (map (λ T. false) Ts ++ B) around (more_of Ts Q) s
@@ -358,14 +358,6 @@ module _ {S : Type 0} (t : Tables) (part : Part) (captured : IndexMap ℕ Variab
             where
               started_around : AreStarted around
               started_around = started
-
-              built_at : (xs : List Built) (r : ℕ) → r < length xs → (b : Built) × (slice_get xs r ≡ Some b)
-              built_at [] r l = absurd (omega (arith, l))
-              built_at (x ∷ xs) zero l = (x, refl)
-              built_at (x ∷ xs) (suc r) l = built_at xs r (omega (arith, l))
-
-              no_built : (b : Built) → ◌≡◌ {A = Option Built} (Some b) None → ⊥
-              no_built b e = cc
 
               by_low : (r : ℕ) (c : Bool) → nat_lt r k ≡ c → held (started_with bs h.self.registers) r ≡ None → member r (from_zero k) ≡ false
               by_low r true e none =
@@ -412,7 +404,7 @@ module _ {S : Type 0} (t : Tables) (part : Part) (captured : IndexMap ℕ Variab
           neck_code =
               code_is
               ∙ ap (λ l. own_types_code ++ l) (ap (λ l. l ++ (coded.0 ++ on.Proceed ∷ [])) (sym (append_assoc hm.more front_of.made.some.made.more w.body.neck.more) ∙ ap
-                  (λ l. (hm.more ++ front_of.made.some.made.more) ++ l) w.body.neck.is_neck)
+              (λ l. (hm.more ++ front_of.made.some.made.more) ++ l) w.body.neck.is_neck)
               ∙ append_assoc (hm.more ++ front_of.made.some.made.more) (on.Neck ∷ []) (coded.0 ++ on.Proceed ∷ []))
               ∙ sym (append_assoc own_types_code (hm.more ++ front_of.made.some.made.more) (on.Neck ∷ (coded.0 ++ on.Proceed ∷ [])))
 
@@ -449,7 +441,7 @@ module _ {S : Type 0} (t : Tables) (part : Part) (captured : IndexMap ℕ Variab
           pub ran_all : (later : Later) (s0 s : State) → ((rest : List Instr) → run h later s0 (own_types_code ++ rest) ≡ run h later s rest) → IsFirst s → TypesStand h t.type_vars
               front_of.begun.types s →
               slice_get h.records h.number ≡ Some h.self → ((a : Around) (ns ls : List ℕ) (cs : Clauses) → AreNamed t cl first a ns ls cs → AreLater h t.type_vars (length ls) ns) → TellClauses h
-                  later t.type_vars (AreNamed t cl first) →
+              later t.type_vars (AreNamed t cl first) →
               (r : RecordRan h later terms around s (front ++ (coded.0 ++ on.Proceed ∷ [])) (Some head) gs) × (run h later s0 h.self.code.items ≡ Done r.state)
           ran_all later s0 s runs is_first st self records told =
               let r = all_ran later s self records told (may s is_first st) atom_fits (predicate_is s is_first.0).0 body_fits nest in
@@ -465,9 +457,9 @@ module _ {S : Type 0} (t : Tables) (part : Part) (captured : IndexMap ℕ Variab
               let end = f.runs_before [] ∙ ran_out h later f.before (omega (arith, low, grow)) in
               let rest = coded.0 ++ on.Proceed ∷ [] in
               ap (first_key (λ r. None)) (code_is ∙ ap (λ l. own_types_code ++ l) (ap (λ l. l ++ rest) f.front_is ∙ append_assoc f.front (on.Neck ∷ []) rest) ∙ sym
-                  (append_assoc own_types_code f.front (on.Neck ∷ rest)))
+              (append_assoc own_types_code f.front (on.Neck ∷ rest)))
               ∙ key_law h later (own_types_code ++ f.front) (coded.0 ++ on.Proceed ∷ []) s0 f.before (ap (run h later s0)
-                  (sym (append-nil (own_types_code ++ f.front)) ∙ append_assoc own_types_code f.front []) ∙ runs (f.front ++ []) ∙ end) before none closed f.in_head unset
+              (sym (append-nil (own_types_code ++ f.front)) ∙ append_assoc own_types_code f.front []) ∙ runs (f.front ++ []) ∙ end) before none closed f.in_head unset
               ∙ ap arguments_key (sym f.same_arguments) ∙ first_built f.state.head_arguments ∙ ap first_key_of f.head_is.1 ∙ first_key_with terms around (arguments head) no_keys
             where
               first_built : (xs : List Built) → arguments_key xs ≡ first_key_of (plain_terms xs)
@@ -491,7 +483,7 @@ module _ {S : Type 0} (t : Tables) (part : Part) (captured : IndexMap ℕ Variab
           -- an assumed record
           pub assumed_denoted : is_none part.within ≡ false → is_named h ≡ true → t.type_vars ≤ 65535 → (later : Later) (c0 : Captured) → c0.types ≡ map var (from_zero t.type_vars) → c0.terms ≡ bs →
               slice_get h.records h.number ≡ Some h.self → ((a : Around) (ns ls : List ℕ) (cs : Clauses) → AreNamed t cl first a ns ls cs → AreLater h t.type_vars (length ls) ns) → TellClauses h
-                  later t.type_vars (AreNamed t cl first) →
+              later t.type_vars (AreNamed t cl first) →
               (d : FlatClause) × (denoted h later c0 ≡ Some d) × (bare_clauses (clauses d no_clauses) ≡ said_clauses σ A 0 (clauses (clause 0 Ts head gs) no_clauses))
           assumed_denoted outer named few_types later c0 types terms_are self records told =
               let s0 = first_state h.self c0 in
@@ -500,7 +492,7 @@ module _ {S : Type 0} (t : Tables) (part : Part) (captured : IndexMap ℕ Variab
               let kinds : h.self.captured_types ≡ t.type_vars = w.captured_types ∙ ap (λ b. if b then 0 else t.type_vars) outer in
               let no_key : h.self.key ≡ key.None = subst (λ b. HasKey t.bank.now (origin.Clause c) b h.self.key) outer (subst (λ z. HasKey t.bank.now z (is_none part.within) h.self.key) o w.key_is) in
               let begun : front_of.begun.types ≡ t.type_vars = front_of.entered.types_stay ∙ same_types (is_none part.within) w.begun w.typed t.type_vars w.made outer ∙ w.first_types ∙ ap
-                  (λ b. if b then 0 else t.type_vars) outer in
+              (λ b. if b then 0 else t.type_vars) outer in
               let e0 = enough.0 in
               let e1 = enough.1 in
               let cap = captured_is in
@@ -518,7 +510,7 @@ module _ {S : Type 0} (t : Tables) (part : Part) (captured : IndexMap ℕ Variab
               let r = ran_all later s0 s0 (λ rest. ap (λ b. run h later s0 (types_code b w.begun.types t.type_vars ++ rest)) outer)
               (ap (λ l. started_with l h.self.registers) terms_are, ap from_zero w.captured_are, refl, refl, refl, refl, refl, refl) st self records told in
               assumed_clause h later c0 σ A Ts head gs r.0.state r.1 program (types_said later s0 (front ++ (coded.0 ++ on.Proceed ∷ [])) r.0)
-                  (head_said later s0 (front ++ (coded.0 ++ on.Proceed ∷ [])) r.0)
+              (head_said later s0 (front ++ (coded.0 ++ on.Proceed ∷ [])) r.0)
               (body_said later s0 (front ++ (coded.0 ++ on.Proceed ∷ [])) r.0)
 
           -- the record of a clause of a program
@@ -531,26 +523,36 @@ module _ {S : Type 0} (t : Tables) (part : Part) (captured : IndexMap ℕ Variab
               (none_both hm.more (front_of.made.some.made.more ++ w.body.neck.more)
               (no_tynews hm.more (head_more_types K front_of.begun front_of.matched around (around_of t.bank.now front_of.matched_env) h.self.head (Some head) front_of.head))
               (none_both front_of.made.some.made.more w.body.neck.more (no_tynews front_of.made.some.made.more front_of.made.some.made.no_types)
-                  (no_tynews w.body.neck.more w.body.neck.plain.no_types)))
+              (no_tynews w.body.neck.more w.body.neck.plain.no_types)))
               (none_both coded.0 (on.Proceed ∷ [])
               (goals_none (AssumedBy t cl) K t.type_vars (around_of t.bank.now w.fronted_env) w.body.begun.types w.body.said.types w.body.begun.registers w.body.said.registers q
-                  (next_all t q part.steps.items) (plain_goals gs)
+              (next_all t q part.steps.items) (plain_goals gs)
               coded.0 coded.1) refl)
 
           pub program_denoted : is_none part.within ≡ true → t.type_vars ≤ 65535 → k ≡ 0 → bs ≡ [] → AllLoose NoIndex (length Ts) head → AreThrough (AllLoose NoIndex) (length Ts) gs → written_goals
               gs ≡ gs → (later : Later) →
               slice_get h.records h.number ≡ Some h.self → ((a : Around) (ns ls : List ℕ) (cs : Clauses) → AreNamed t cl first a ns ls cs → AreLater h t.type_vars (length ls) ns) → TellClauses h
-                  later t.type_vars (AreNamed t cl first) →
+              later t.type_vars (AreNamed t cl first) →
               denoted h later nothing_captured ≡ Some (clause t.type_vars Ts head gs)
           program_denoted outer few_types none_captured nothing no_index no_indices written later self records told =
               let s0 = first_state h.self nothing_captured in
-              let s1 : State = record { place = 1; now = s0.now; types_set = s0.types_set; terms_set = s0.terms_set; in_body = s0.in_body; head_types = s0.head_types;
-                  head_arguments = s0.head_arguments; goals = s0.goals; frames = s0.frames; assumed = s0.assumed } in
+              let s1 : State = record {
+                place = 1;
+                now = s0.now;
+                types_set = s0.types_set;
+                terms_set = s0.terms_set;
+                in_body = s0.in_body;
+                head_types = s0.head_types;
+                head_arguments = s0.head_arguments;
+                goals = s0.goals;
+                frames = s0.frames;
+                assumed = s0.assumed;
+              } in
               let program : h.self.program ≡ true = w.is_program ∙ outer in
               let kinds : h.self.captured_types ≡ 0 = w.captured_types ∙ ap (λ b. if b then 0 else t.type_vars) outer in
               let zero_types : w.begun.types ≡ 0 = w.first_types ∙ ap (λ b. if b then 0 else t.type_vars) outer in
               let begun : front_of.begun.types ≡ t.type_vars = front_of.entered.types_stay ∙ more_types (is_none part.within) w.begun w.typed t.type_vars w.made outer ∙
-                  (let z : w.begun.types + t.type_vars ≡ t.type_vars = omega (arith, zero_types) in z) in
+              (let z : w.begun.types + t.type_vars ≡ t.type_vars = omega (arith, zero_types) in z) in
               let code = program_code outer in
               let low : t.type_vars ≤ h.self.types = (let e = enough.1 in omega (arith, begun, e)) in
               let own_code : (rest : List Instr) → own_types_code ++ rest ≡ news 0 t.type_vars ++ rest = λ rest i. types_code (outer i) (zero_types i) t.type_vars ++ rest in
@@ -561,13 +563,13 @@ module _ {S : Type 0} (t : Tables) (part : Part) (captured : IndexMap ℕ Variab
               let first_of : (x : Typed h t.type_vars (front ++ (coded.0 ++ on.Proceed ∷ [])) code no_new_types low later s1) → IsFirst x.state =
               λ x. (x.terms ∙ now_is, x.terms_set ∙ ap from_zero w.captured_are, x.in_body, x.head_types, x.arguments, x.goals, x.frames, x.assumed) in
               let y1 = typed h t.type_vars (front ++ (coded.0 ++ on.Proceed ∷ [])) code no_new_types low later s1 refl types_none refl refl program few_types
-                  (λ e r. absurd (one_is_not (eqb-true 1 0 e))) in
+              (λ e r. absurd (one_is_not (eqb-true 1 0 e))) in
               let grow = y1.place_grows in
               let key = key_found later s1 y1.state (λ rest. ap (run h later s1) (own_code rest) ∙ y1.runs rest) (first_of y1) (subst (λ n. TypesStand h t.type_vars n y1.state) (sym begun) y1.stand)
-                  (omega (arith, grow)) refl refl refl
+              (omega (arith, grow)) refl refl refl
               (λ r. none_started r) in
               let has_key : key_is h.self.key (first_key_of (arguments head)) ≡ true = subst (λ b. HasKey t.bank.now (origin.Clause c) b h.self.key) outer
-                  (subst (λ z. HasKey t.bank.now z (is_none part.within) h.self.key) o w.key_is) in
+              (subst (λ z. HasKey t.bank.now z (is_none part.within) h.self.key) o w.key_is) in
               let e0 = enough.0 in
               let whole : Whole h s0 = record {
                 types = omega (arith, kinds);
@@ -583,11 +585,11 @@ module _ {S : Type 0} (t : Tables) (part : Part) (captured : IndexMap ℕ Variab
               let y0 = typed h t.type_vars (front ++ (coded.0 ++ on.Proceed ∷ [])) code no_new_types low later s0 refl types_none refl refl program few_types (λ e r. whole_sound h s0 whole r) in
               let r = ran_all later s0 y0.state (λ rest. ap (run h later s0) (own_code rest) ∙ y0.runs rest)
               (y0.terms ∙ now_is, y0.terms_set ∙ ap from_zero w.captured_are, y0.in_body, y0.head_types, y0.arguments, y0.goals, y0.frames, y0.assumed)
-                  (subst (λ n. TypesStand h t.type_vars n y0.state) (sym begun) y0.stand) self
+              (subst (λ n. TypesStand h t.type_vars n y0.state) (sym begun) y0.stand) self
               records told in
               program_clause h later nothing_captured σ A t.type_vars Ts head gs r.0.state r.1 program (own_count h t.type_vars (front ++ (coded.0 ++ on.Proceed ∷ [])) code no_new_types low)
               (types_said later y0.state (front ++ (coded.0 ++ on.Proceed ∷ [])) r.0) (head_said later y0.state (front ++ (coded.0 ++ on.Proceed ∷ [])) r.0)
-                  (body_said later y0.state (front ++ (coded.0 ++ on.Proceed ∷ [])) r.0) no_index no_indices
+              (body_said later y0.state (front ++ (coded.0 ++ on.Proceed ∷ [])) r.0) no_index no_indices
               written
             where
               one_is_not : ◌≡◌ {A = ℕ} 1 0 → ⊥

@@ -92,9 +92,21 @@ module _ (P : Around → (records levels : List ℕ) → Clauses → Type 0) (K 
       goal_mapped a n n' k k' q q' (Atomic t) is le has x = x
       goal_mapped a n n' k k' q q' Cut is le has x = x
       goal_mapped a n n' k k' q q' (Either gs hs) is le has (m, l, o, nl, mr, ls, rs, x, y, el, er, e) =
-          let at : o ≡ q + goals_records gs = goals_next a n m k l q o gs ls x in
-          (m, l, o, nl, mr, ls, rs, goals_mapped a n m k l q o gs ls le has.0 x, goals_mapped a m n' l k' o q' hs rs (omega (arith, le, at))
-              (subst (λ z. GoalsHave D z (new_level a) hs) (sym at) has.1) y, el, er, e)
+          let at : o ≡ q + goals_records gs = goals_next a n m k l q o gs ls x in (
+            m,
+            l,
+            o,
+            nl,
+            mr,
+            ls,
+            rs,
+            goals_mapped a n m k l q o gs ls le has.0 x,
+            goals_mapped a m n' l k' o q' hs rs (omega (arith, le, at))
+                (subst (λ z. GoalsHave D z (new_level a) hs) (sym at) has.1) y,
+            el,
+            er,
+            e,
+          )
       goal_mapped a n n' k k' q q' (Exists T gs) is le has (m, r, ts, js, x, short, y, e) =
           (m, r, ts, js, x, short, goals_mapped (pushed a (quantified k T)) m n' (k + 1) k' q q' gs js le (below_pushed a k T q gs has) y, e)
       goal_mapped a n n' k k' q q' (Forall T gs) is le has (m, r, ts, js, x, short, y, e) =
@@ -119,6 +131,15 @@ module _ (P : Around → (records levels : List ℕ) → Clauses → Type 0) (K 
           v a n n' k k' q q' gs is → GoalsCode R K v a n n' k k' q q' gs is
       goals_mapped a n n' k k' q q' no_goals is le has x = x
       goals_mapped a n n' k k' q q' (goals g gs) is le has (m, l, o, js, ks, x, y, last, e) =
-          let at : o ≡ q + goal_records g = goal_next a n m k l q o g js x in
-          (m, l, o, js, ks, goal_mapped a n m k l q o g js le has.0 x, goals_mapped a m n' l k' o q' gs ks (omega (arith, le, at))
-              (subst (λ z. GoalsHave D z (new_level a) gs) (sym at) has.1) y, last, e)
+          let at : o ≡ q + goal_records g = goal_next a n m k l q o g js x in (
+            m,
+            l,
+            o,
+            js,
+            ks,
+            goal_mapped a n m k l q o g js le has.0 x,
+            goals_mapped a m n' l k' o q' gs ks (omega (arith, le, at))
+                (subst (λ z. GoalsHave D z (new_level a) gs) (sym at) has.1) y,
+            last,
+            e,
+          )

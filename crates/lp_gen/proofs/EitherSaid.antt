@@ -118,7 +118,7 @@ either_said h later vars n m o k l p s u w ls rs gl gr a b nl mr en em body shal
     let v = left_state s w (Either gl gr) in
     let depth_is : depth w.frames ≡ suc (depth s.frames) = y.closes.deep in
     let ends_at : settled h.number (depth w.frames) w ≡ settled h.number (depth s.frames) v = right_ends h.number w (depth s.frames)
-        (u.place + 5 + mr) gl depth_is y.closes.innermost (omega (arith, j, em))
+    (u.place + 5 + mr) gl depth_is y.closes.innermost (omega (arith, j, em))
     ∙ ap (settled h.number (depth s.frames)) (left_is h.number s r w (right_frame s u mr gl) gr (Either gl gr) y.closes refl refl refl refl refl refl) in
     let turned : (e : Instr) (rest : List Instr) → run h later u (on.Jump mr ∷ (rs ++ e ∷ rest)) ≡ run h later (settled h.number (depth r.frames) r) (rs ++ e ∷ rest) = λ e rest.
     steps h later u (settled h.number (depth r.frames) r) (on.Jump mr) (rs ++ e ∷ rest) x.types_stand.sound

@@ -362,8 +362,8 @@ pub term_call_put : (old new : Emitter) (r : ℕ) → new.code.items ≡ old.cod
 term_call_put old new r code same_types same_registers =
     part_put old new (on.CallTerm r) [] (r ∷ []) (λ h s. IsGoalTerm s r) (λ s. with_goal s.goals (Atomic (term_in s.now r).term)) (λ s. s.head_types)
     (λ h s. s.head_arguments) code same_types same_registers (record { no_own = refl; no_types = refl })
-        (λ h later s d a. read_by refl refl refl refl refl a.terms_set refl (ap (λ x. not x) a.typed) a.closed refl (ap (λ x. not x) a.behind_head)
-        refl (λ rest. refl) refl refl (omega arith))
+    (λ h later s d a. read_by refl refl refl refl refl a.terms_set refl (ap (λ x. not x) a.typed) a.closed refl (ap (λ x. not x) a.behind_head)
+    refl (λ rest. refl) refl refl (omega arith))
 
 -- parts of the head
 
@@ -379,16 +379,16 @@ pub integer_got : (old new : Emitter) (i : ℕ) (z : ℤ) → new.code.items ≡
 integer_got old new i z code same_types same_registers =
     part_put old new (on.GetInt i z) [] [] (λ h s. IsNext h s i int_type) (λ s. s.goals) (λ s. s.head_types) (λ h s. s.head_arguments ++ whole (atom
     (integer z)) int_type ∷ []) code same_types same_registers (record { no_own = refl; no_types = refl })
-        (λ h later s d a. read_by refl refl refl refl refl refl refl (ap (λ x. not x) a.typed) refl refl a.in_turn refl (λ rest. refl) refl refl
-        (omega arith))
+    (λ h later s d a. read_by refl refl refl refl refl refl refl (ap (λ x. not x) a.typed) refl refl a.in_turn refl (λ rest. refl) refl refl
+    (omega arith))
 
 pub text_got : (old new : Emitter) (i : ℕ) (v : Vec ℕ Global) → new.code.items ≡ old.code.items ++ on.GetStr i v ∷ [] → new.types ≡ old.types → new.registers ≡ old.registers →
     TextGot old new i v.items
 text_got old new i v code same_types same_registers =
     part_put old new (on.GetStr i v) [] [] (λ h s. IsNext h s i string_type) (λ s. s.goals) (λ s. s.head_types) (λ h s. s.head_arguments ++ whole (atom
     (text v.items)) string_type ∷ []) code same_types same_registers (record { no_own = refl; no_types = refl })
-        (λ h later s d a. read_by refl refl refl refl refl refl refl (ap (λ x. not x) a.typed) refl refl a.in_turn refl (λ rest. refl) refl refl
-        (omega arith))
+    (λ h later s d a. read_by refl refl refl refl refl refl refl (ap (λ x. not x) a.typed) refl refl a.in_turn refl (λ rest. refl) refl refl
+    (omega arith))
 
 pub term_got : (old new : Emitter) (i r : ℕ) → new.code.items ≡ old.code.items ++ on.Get i r ∷ [] → new.types ≡ old.types → new.registers ≡ old.registers → TermGot old new i r
 term_got old new i r code same_types same_registers =
@@ -401,4 +401,4 @@ pub type_got : (old new : Emitter) (j t : ℕ) → new.code.items ≡ old.code.i
 type_got old new j t code same_types same_registers =
     part_put old new (on.GetType j t) (t ∷ []) [] (λ h s. IsNextType h s j t) (λ s. s.goals) (λ s. s.head_types ++ type_in s.now t ∷ [])
     (λ h s. s.head_arguments) code same_types same_registers (record { no_own = refl; no_types = refl })
-        (λ h later s d a. read_by refl refl refl refl a.types_set refl refl refl refl refl a.in_turn a.asked (λ rest. refl) refl refl (omega arith))
+    (λ h later s d a. read_by refl refl refl refl a.types_set refl refl refl refl refl a.in_turn a.asked (λ rest. refl) refl refl (omega arith))

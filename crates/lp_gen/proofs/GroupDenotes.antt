@@ -22,7 +22,7 @@ one_first T all n r rs c program from told =
     ap (λ b. if b then option_and_then (λ c. option_map (λ cs. c ∷ cs) (denote_from T all (suc n) rs)) (denoted (home_of T all n r) (later_from T all (suc n) rs) nothing_captured)
     else (if is_named (home_of T all n r) then denote_from T all (suc n) rs else None)) program
     ∙ ap (λ o. option_and_then (λ c. option_map (λ cs. c ∷ cs) (denote_from T all (suc n) rs)) o)
-        (ap (λ l. denoted (home_of T all n r) (λ k e. later_from T all (suc n) l k e) nothing_captured) from ∙ told)
+    (ap (λ l. denoted (home_of T all n r) (λ k e. later_from T all (suc n) l k e) nothing_captured) from ∙ told)
 
 one_assumed : (T : CodeTables) (all : List Record) (n : ℕ) (r : Record) (rs : List Record) → r.program ≡ false → member n (named_before n all) ≡ true
     → denote_from T all n (r ∷ rs) ≡ denote_from T all (suc n) rs
@@ -59,5 +59,5 @@ group_denotes T all n (r ∷ rs) rest c from some first others =
     let y : suc n + length rs ≡ n + suc (length rs) = omega arith in
     one_first T all n r (rs ++ rest) c f.0 (sym (dropped all n r (rs ++ rest) from)) f.1
     ∙ ap (option_map (λ cs. c ∷ cs)) (rest_assumed T all (suc n) rs rest (λ i s at. let e = others i s at in let x : n + suc i ≡ suc n + i = omega
-        arith in (e.0, ap (λ k. member k (named_before k all)) (sym x) ∙ e.1))
+    arith in (e.0, ap (λ k. member k (named_before k all)) (sym x) ∙ e.1))
     ∙ ap (λ k. denote_from T all k rest) y)

@@ -40,18 +40,25 @@ written_more t xs ys (y ∷ ps) (z ∷ rs) p r m more (k, ks, c, d, e) a b = (k,
 pub part_written : {S : Type 0} (t : Tables) (parts : List Part) (i : ℕ) (ys ys' more none given : List (IndexMap ℕ Variable S)) (rs : List Record)
     (p : Part) (r : Record) (m : IndexMap ℕ Variable S) → AllWritten t [] ys (take i parts) rs →
     slice_get parts i ≡ Some p → none ≡ [] → RecordWritten t (constant_function t.bank.now t.constants.now) p m none more r → given ≡ ys → IsStartOf
-        given p.within m → ys' ≡ ys ++ more → AllWritten t [] ys' (take (i + 1) parts) (rs ++ r ∷ [])
+    given p.within m → ys' ≡ ys ++ more → AllWritten t [] ys' (take (i + 1) parts) (rs ++ r ∷ [])
 part_written t parts i ys ys' more none given rs p r m w at empty written same start grown =
     subst (λ l. AllWritten t [] ys' l (rs ++ r ∷ [])) (sym (take_next i parts p at)) (subst (λ l. AllWritten t [] l (take i parts ++ p ∷ []) (rs ++ r ∷ [])) (sym grown)
     (written_more t [] ys (take i parts) rs p r m more w (subst (λ l. RecordWritten t (constant_function t.bank.now t.constants.now) p m l more r)
-        empty written) (subst (λ l. IsStartOf l p.within m) same start)))
+    empty written) (subst (λ l. IsStartOf l p.within m) same start)))
 
 -- the records of one clause more
 pub groups_more : (b : Nodes) (ds : List Declared) (n : ℕ) (cs : List code.Clause) (rs g : List Record) (c : code.Clause) (of : Bor code.Clause) → AreGroups b ds n cs rs → of.now ≡ c →
     IsGroup b ds (n + length rs) c.type_vars (origin.Clause of) g → AreGroups b ds n (cs ++ c ∷ []) (rs ++ g)
-groups_more b ds n [] rs g c of none is G =
-    (of, is, g, [], ap (λ l. l ++ g) none ∙ sym (append-nil g), subst (λ k. IsGroup b ds k c.type_vars (origin.Clause of) g)
-        (let z = ap length none in let y : n + length rs ≡ n = omega (arith, z) in y) G, refl)
+groups_more b ds n [] rs g c of none is G = (
+  of,
+  is,
+  g,
+  [],
+  ap (λ l. l ++ g) none ∙ sym (append-nil g),
+  subst (λ k. IsGroup b ds k c.type_vars (origin.Clause of) g)
+      (let z = ap length none in let y : n + length rs ≡ n = omega (arith, z) in y) G,
+  refl,
+)
 groups_more b ds n (d ∷ cs) rs g c of (of1, is1, g1, more, e, G1, gs) is G =
     let sum = ap length e ∙ length-append g1 more in
     let z : n + length rs ≡ n + length g1 + length more = omega (arith, sum) in
@@ -65,4 +72,4 @@ clause_written b ds clauses i rs rs' g vars of gs at same grown G =
     let z : length rs ≡ 0 + length rs = omega arith in
     subst (λ l. AreGroups b ds 0 l rs') (sym (take_next i clauses of.now at)) (subst (λ l. AreGroups b ds 0 (take i clauses ++ of.now ∷ []) l) (sym grown)
     (groups_more b ds 0 (take i clauses) rs g of.now of gs refl (subst (λ k. IsGroup b ds k of.now.type_vars (origin.Clause of) g) z
-        (subst (λ v. IsGroup b ds (length rs) v (origin.Clause of) g) same G))))
+    (subst (λ v. IsGroup b ds (length rs) v (origin.Clause of) g) same G))))

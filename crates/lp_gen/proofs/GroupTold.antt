@@ -43,6 +43,7 @@ use Rattle.lp_gen.proofs.PlanWalked.{extends_same, extends_at, get_behind}
 use Rattle.lp_gen.proofs.PlanGoals.{clause_is, clauses_many}
 use Rattle.lp_gen.proofs.PartsTell.{clause_at, told_at, PartDone, IsMember, flat_of, program_told}
 use Rattle.lp_gen.proofs.RecordNamed.{names}
+use Rattle.lp_gen.proofs.NamedNumbers.{member_left, member_right, member_cases, member_numbers, numbers_member, named_one_more}
 
 from_none : {X : Type 0} (xs : List X) (j : ℕ) → slice_get xs (0 + j) ≡ slice_get xs j
 from_none xs j = let z : 0 + j ≡ j = omega arith in ap (slice_get xs) z
@@ -82,7 +83,7 @@ module _ (S : Type 0) (t : Tables) (us : List Due) (xs : List Assumption) (start
   placed : (before : List (IndexMap ℕ Variable S)) (i n k q l : ℕ) (y : Part) (x : Record) (ps : List Part) (rs : List Record) (c : IndexMap ℕ Variable S)
       (more : List (IndexMap ℕ Variable S)) → PartPlanned us xs i n k q l y →
       RecordWritten t (constant_function t.bank.now t.constants.now) y c [] more x → IsStartOf before y.within c → AllWritten t (before ++ more) starts ps rs → length before ≡ n → All
-          (AreAllSet t.bank.now) before →
+      (AreAllSet t.bank.now) before →
       (z : At S t us xs starts i y x) × (z.q ≡ q) × (z.s ≡ l) × (length (before ++ more) ≡ k) × All (AreAllSet t.bank.now) (before ++ more)
   placed before i n k q l y x ps rs c more a w b ws many set = (
     record {
@@ -113,7 +114,7 @@ module _ (S : Type 0) (t : Tables) (us : List Due) (xs : List Assumption) (start
   pub all_at : (before : List (IndexMap ℕ Variable S)) (i n m q s : ℕ) (ps : List Part) (rs : List Record) → AllPlanned us xs i n m q s ps → AllWritten t before starts ps rs → length before
       ≡ n → All (AreAllSet t.bank.now) before → I i q →
       ((j : ℕ) → slice_get parts (i + j) ≡ slice_get ps j) → ((j : ℕ) → slice_get g (i + j) ≡ slice_get rs j) → (j : ℕ) (p : Part) (r : Record) → slice_get ps j ≡ Some p → slice_get rs j ≡
-          Some r → (z : At S t us xs starts (i + j) p r) × I (i + j) z.q
+      Some r → (z : At S t us xs starts (i + j) p r) × I (i + j) z.q
   all_at before i n m q s [] rs a w many set known same same_g j p r at at_r = absurd (no_start p at)
   all_at before i n m q s (y ∷ ps) [] a w many set known same same_g j p r at at_r = absurd w
   all_at before i n m q s (y ∷ ps) (x ∷ rs) (k, l, a, ahead) (c, more, w, b, ws) many set known same same_g zero p r at at_r =
@@ -122,14 +123,14 @@ module _ (S : Type 0) (t : Tables) (us : List Due) (xs : List Assumption) (start
       let written : x ≡ r = cc in
       let zero_more : i ≡ i + 0 = omega arith in
       subst (λ v. (z : At S t us xs starts v p r) × I v z.q) zero_more (subst (λ v. (z : At S t us xs starts i v r) × I i z.q) part
-          (subst (λ v. (z : At S t us xs starts i y v) × I i z.q) written (z.0, subst (I i) (sym z.1) known)))
+      (subst (λ v. (z : At S t us xs starts i y v) × I i z.q) written (z.0, subst (I i) (sym z.1) known)))
   all_at before i n m q s (y ∷ ps) (x ∷ rs) (k, l, a, ahead) (c, more, w, b, ws) many set known same same_g (suc j) p r at at_r =
       let z = placed before i n k q l y x ps rs c more a w b ws many set in
       let zero_more : i ≡ i + 0 = omega arith in
       let later : suc i + j ≡ i + suc j = omega arith in
       let next = next_known i q l y x z.0 (ap (slice_get parts) zero_more ∙ same 0) (ap (slice_get g) zero_more ∙ same_g 0) z.1 z.2 known in
       subst (λ v. (z : At S t us xs starts v p r) × I v z.q) later (all_at (before ++ more) (suc i) k m l s ps rs ahead ws z.3 z.4 next
-          (λ v. let u : suc i + v ≡ i + suc v = omega arith in ap (slice_get parts) u ∙ same (suc v))
+      (λ v. let u : suc i + v ≡ i + suc v = omega arith in ap (slice_get parts) u ∙ same (suc v))
       (λ v. let u : suc i + v ≡ i + suc v = omega arith in ap (slice_get g) u ∙ same_g (suc v)) j p r at at_r)
 
   pub all_end : (before : List (IndexMap ℕ Variable S)) (i n m q s : ℕ) (ps : List Part) (rs : List Record) → AllPlanned us xs i n m q s ps → AllWritten t before starts ps rs → length before
@@ -190,62 +191,8 @@ low_or_high v q = go (nat_lt v q) refl
     go true e = inl (ltb-true v q e)
     go false e = inr (ltb-false v q e)
 
-high_or_low : (v q : ℕ) → (suc q ≤ v) ⊎ (v ≤ q)
-high_or_low v q = go (nat_lt q v) refl
-  where
-    go : (a : Bool) → nat_lt q v ≡ a → (suc q ≤ v) ⊎ (v ≤ q)
-    go true e = inl (ltb-true q v e)
-    go false e = inr (ltb-false q v e)
-
 same_origin : (c d : Bor code.Clause) → origin.Clause c ≡ origin.Clause d → c ≡ d
 same_origin c d e = cc
-
--- numbers among numbers
-
-member_left : (v : ℕ) (ms ns : List ℕ) → member v ms ≡ true → member v (ms ++ ns) ≡ true
-member_left v [] ns e = absurd (true≢false (sym e))
-member_left v (m ∷ ms) ns e = go (nat_eq v m) (λ f. member_left v ms ns f) e
-  where
-    go : (a : Bool) → (member v ms ≡ true → member v (ms ++ ns) ≡ true) → (a || member v ms) ≡ true → (a || member v (ms ++ ns)) ≡ true
-    go true f e = refl
-    go false f e = f e
-
-member_right : (v : ℕ) (ms ns : List ℕ) → member v ns ≡ true → member v (ms ++ ns) ≡ true
-member_right v [] ns e = e
-member_right v (m ∷ ms) ns e = ap (λ a. nat_eq v m || a) (member_right v ms ns e) ∙ go (nat_eq v m)
-  where
-    go : (a : Bool) → (a || true) ≡ true
-    go true = refl
-    go false = refl
-
-member_cases : (v : ℕ) (ms ns : List ℕ) (X : Type 0) → member v (ms ++ ns) ≡ true → (member v ms ≡ true → X) → (member v ns ≡ true → X) → X
-member_cases v [] ns X e f h = h e
-member_cases v (m ∷ ms) ns X e f h = go (nat_eq v m) (λ d k. member_cases v ms ns X d k h) e f
-  where
-    go : (a : Bool) → (member v (ms ++ ns) ≡ true → (member v ms ≡ true → X) → X) → (a || member v (ms ++ ns)) ≡ true → ((a || member v ms) ≡ true → X) → X
-    go true r e f = f refl
-    go false r e f = r e f
-
-member_numbers : (v q n : ℕ) → member v (numbers q n) ≡ true → v < q + n
-member_numbers v q zero e = absurd (true≢false (sym e))
-member_numbers v q (suc n) e = go (nat_eq v q) refl (λ f. member_numbers v (suc q) n f) e
-  where
-    go : (a : Bool) → nat_eq v q ≡ a → (member v (numbers (suc q) n) ≡ true → v < suc q + n) → (a || member v (numbers (suc q) n)) ≡ true → v < q + suc n
-    go true same f e = let z = eqb-true v q same in omega (arith, z)
-    go false same f e = let z = f e in omega (arith, z)
-
-numbers_member : (v q n : ℕ) → q ≤ v → v < q + n → member v (numbers q n) ≡ true
-numbers_member v q zero le lt = absurd (omega (arith, le, lt))
-numbers_member v q (suc n) le lt = go (nat_eq v q) refl (λ less. numbers_member v (suc q) n less (omega (arith, lt)))
-  where
-    go : (a : Bool) → nat_eq v q ≡ a → (suc q ≤ v → member v (numbers (suc q) n) ≡ true) → (a || member v (numbers (suc q) n)) ≡ true
-    go true same f = refl
-    go false same f = f (⊎_elim (λ e. e) (λ e. absurd (true≢false (sym (eq-eqb v q (let z : v ≡ q = omega (arith, le, e) in z)) ∙ same))) (high_or_low v q))
-
-named_one_more : (all : List Record) (k : ℕ) (r : Record) → slice_get all k ≡ Some r → named_before (suc k) all ≡ named_before k all ++ names_in r.code.items
-named_one_more [] k r e = absurd (no_start r e)
-named_one_more (x ∷ xs) zero r e = let is : x ≡ r = cc in append-nil (names_in x.code.items) ∙ ap (λ (v : Record). names_in v.code.items) is
-named_one_more (x ∷ xs) (suc k) r e = ap (λ l. names_in x.code.items ++ l) (named_one_more xs k r e) ∙ sym (append_assoc (names_in x.code.items) (named_before k xs) (names_in r.code.items))
 
 mutual
   deep_end : (g : Goal) → DeepGoal g → EndsGoal g
@@ -421,7 +368,7 @@ module _ (S : Type 0) (t : Tables) (of : Bor code.Clause) (us : List Due) (parts
       let short = z.planned.short in
       let count = count_is c.0 p c.1 in
       let w = names t p z.captured z.more c.0 (home_of T [] i r) z.written c.1 (set_at i p r z) cl (t.first + z.q) (length z.before) (goals_of b (body_of p.origin)) (kept_at i p r z)
-          (z.planned.says b cl hold) (ends_at i p at) next.0
+      (z.planned.says b cl hold) (ends_at i p at) next.0
       (omega (arith, few, short, count)) in
       (w.0, w.1, sym next.1 ∙ w.2)
 
@@ -436,7 +383,7 @@ module _ (S : Type 0) (t : Tables) (of : Bor code.Clause) (us : List Due) (parts
     early_step i p r z at at_r known =
         let ns = names_at T i p r z at in
         let here : named_before (t.first + suc i) all ≡ named_before (t.first + i) all ++ names_in r.code.items =
-            (let y : t.first + suc i ≡ suc (t.first + i) = omega arith in ap (λ k. named_before k all) y) ∙ named_one_more all (t.first + i) r (placed i r at_r) in
+        (let y : t.first + suc i ≡ suc (t.first + i) = omega arith in ap (λ k. named_before k all) y) ∙ named_one_more all (t.first + i) r (placed i r at_r) in
         let grow = ns.2 in (
           λ v is.
               member_cases v (named_before (t.first + i) all) (names_in r.code.items) (v < t.first + z.s) (sym (ap (member v) here) ∙ is) (λ e. let l = known.0 v e in omega (arith, l, grow))
@@ -444,24 +391,28 @@ module _ (S : Type 0) (t : Tables) (of : Bor code.Clause) (us : List Due) (parts
           λ v some lt.
               ap (member (t.first + v)) here ∙ ⊎_elim (λ e. member_left (t.first + v) (named_before (t.first + i) all) (names_in r.code.items) (known.1 v some e))
               (λ e. member_right (t.first + v) (named_before (t.first + i) all) (names_in r.code.items) (ap (member (t.first + v)) ns.1 ∙ numbers_member (t.first + v) (t.first + z.q) ns.0
-                  (omega (arith, e)) (omega (arith, lt, grow)))) (low_or_high v z.q),
+              (omega (arith, e)) (omega (arith, lt, grow)))) (low_or_high v z.q),
         )
 
     pub at_place : (i : ℕ) (p : Part) (r : Record) → slice_get parts i ≡ Some p → slice_get g i ≡ Some r → (z : At S t us xs starts i p r) × Early i z.q
     at_place i p r at at_r =
         let zero_more : 0 + i ≡ i = omega arith in
         subst (λ v. (z : At S t us xs starts v p r) × Early v z.q) zero_more (all_at S t us xs starts parts g (extends_same xs) few_due Early early_step [] 0 0 (length xs) 1 (length us)
-            parts g plan.stands.planned w refl (All-nil (AreAllSet b))
-        (λ v e. let z : t.first + 0 ≡ t.first = omega arith in let l = before v (sym (ap (λ k. member v (named_before k all)) z) ∙ e) in omega (arith, l), λ v some lt. absurd
-            (omega (arith, some, lt))) (from_none parts) (from_none g) i p r at at_r)
+        parts g plan.stands.planned w refl (All-nil (AreAllSet b)) (
+          λ v e. let z : t.first + 0 ≡ t.first = omega arith in let l = before v (sym (ap (λ k. member v (named_before k all)) z) ∙ e) in omega (arith, l),
+          λ v some lt. absurd
+              (omega (arith, some, lt)),
+        ) (from_none parts) (from_none g) i p r at at_r)
 
     pub early_end : Early (length parts) (length us)
     early_end =
         let zero_more : 0 + length parts ≡ length parts = omega arith in
         subst (λ v. Early v (length us)) zero_more (all_end S t us xs starts parts g (extends_same xs) few_due Early early_step [] 0 0 (length xs) 1 (length us) parts g plan.stands.planned w
-            refl (All-nil (AreAllSet b))
-        (λ v e. let z : t.first + 0 ≡ t.first = omega arith in let l = before v (sym (ap (λ k. member v (named_before k all)) z) ∙ e) in omega (arith, l), λ v some lt. absurd
-            (omega (arith, some, lt))) (from_none parts) (from_none g))
+        refl (All-nil (AreAllSet b)) (
+          λ v e. let z : t.first + 0 ≡ t.first = omega arith in let l = before v (sym (ap (λ k. member v (named_before k all)) z) ∙ e) in omega (arith, l),
+          λ v some lt. absurd
+              (omega (arith, some, lt)),
+        ) (from_none parts) (from_none g))
 
     -- a part with its record
     pub part_done : (i : ℕ) (p : Part) (r : Record) → slice_get parts i ≡ Some p → slice_get g i ≡ Some r → PartDone S t cl p (t.first + i) r
@@ -484,7 +435,7 @@ module _ (S : Type 0) (t : Tables) (of : Bor code.Clause) (us : List Due) (parts
       short = let f = z.planned.few in omega (arith, f, count);
       starts_are = λ n within.
           let there = extends_at (z.before ++ z.more) starts n z.captured z.extends (get_append z.before z.more n z.captured
-              (subst (λ v. IsStartOf z.before v z.captured) within z.starts_with (z.planned.around n within))) in
+          (subst (λ v. IsStartOf z.before v z.captured) within z.starts_with (z.planned.around n within))) in
           (λ l. ap (λ v. start_at b v l) there, ap count_at there);
     }
       where
@@ -509,16 +460,16 @@ module _ (S : Type 0) (t : Tables) (of : Bor code.Clause) (us : List Due) (parts
         has_clauses : GoalsHave (IsAssumption t cl) (t.first + z.q) (p.base + length (types_at b o.0.now.vars.items)) (goals_of b o.0.now.body.items)
         has_clauses =
             subst (λ k. GoalsHave (IsAssumption t cl) (t.first + z.q) (p.base + k) (goals_of b o.0.now.body.items)) (sym count)
-                (subst (λ gs. GoalsHave (IsAssumption t cl) (t.first + z.q) (p.base + own_count p.origin) (goals_of b gs)) goals
+            (subst (λ gs. GoalsHave (IsAssumption t cl) (t.first + z.q) (p.base + own_count p.origin) (goals_of b gs)) goals
             (have_map (AssumptionAt b xs t.first) (IsAssumption t cl) as_assumption (t.first + z.q) (p.base + own_count p.origin) (goals_of b (body_of p.origin))
-                (z.planned.has b t.first xs (extends_same xs))))
+            (z.planned.has b t.first xs (extends_same xs))))
 
         level : (q d : ℕ) (cs : Clauses) → IsAssumption t cl q d cs → IsAtLevel t q d cs
         level q d cs (n, x, found, is, first, base) m y found_y first_y some some_cs =
             let s = plan.stands.assumed.each n x found in
             let count_x : clauses_length cs ≡ x.count = ap clauses_length (is ∙ hold n x found) ∙ clauses_many b x.clauses.now ∙ sym s.count in
             let same_place : n ≡ m = three n m (λ lt. let a = plan.stands.assumed.ordered n m x y lt found found_y in absurd (omega (arith, a, first, first_y, some_cs, count_x)))
-                (λ lt. let a = plan.stands.assumed.ordered m n y x lt found_y found in absurd (omega (arith, a, first, first_y, some))) in
+            (λ lt. let a = plan.stands.assumed.ordered m n y x lt found_y found in absurd (omega (arith, a, first, first_y, some))) in
             ap (λ (v : Assumption). v.base) (one_only (slice_get xs m) y x found_y (ap (slice_get xs) (sym same_place) ∙ found)) ∙ base
 
     pub members : (n : ℕ) (x : Assumption) → slice_get xs n ≡ Some x → (j : ℕ) (c : Clause) → clause_at (cl.clauses n) j ≡ Some c → IsMember t parts g n x j c
@@ -603,7 +554,7 @@ module _ (S : Type 0) (t : Tables) (of : Bor code.Clause) (us : List Due) (parts
           let d = part_done 0 p.0 r p.1 at_r in
           let root : d.of ≡ of = same_origin d.of of (sym d.origin_is ∙ u.2.0 ∙ ap (λ v. v.origin) same ∙ f.2) in
           let shape : (c : Bor code.Clause) → c ≡ of → clause t.type_vars (types_at b c.now.vars.items) (tree b c.now.head.0) (goals_of b c.now.body.items) ≡ clause_of b of.now =
-              λ c e. (λ i. clause (vars_are i) (types_at b (e i).now.vars.items) (tree b (e i).now.head.0) (goals_of b (e i).now.body.items)) ∙ sym (clause_is b of.now) in
+          λ c e. (λ i. clause (vars_are i) (types_at b (e i).now.vars.items) (tree b (e i).now.head.0) (goals_of b (e i).now.body.items)) ∙ sym (clause_is b of.now) in
           program_told t cl T all parts g std asked few_types part_done placed members captured counts names_below named p.0 r p.1 at_r within base
           (subst (λ v. IsStartOf (at_place 0 p.0 r p.1 at_r).0.before v (at_place 0 p.0 r p.1 at_r).0.captured) within (at_place 0 p.0 r p.1 at_r).0.starts_with)
           (subst (IsClause T) (sym (shape d.of root)) is_clause) ∙ ap (λ v. Some v) (shape d.of root)

@@ -92,7 +92,7 @@ module _ (κ : ℕ → Option ℕ) (all : List Record) where
   one_group : (n : ℕ) (t : Tables) (of : Bor code.Clause) (us : List Due) (parts : List Part) (g rest : List Record) (starts : List Kept) → ArePlanned (origin.Clause of) us parts
       t.assumptions.now → AllCaptured t.bank.now t.assumptions.now →
       AllWritten t [] starts parts g → t.first ≡ n → n + length g ≤ 65535 → t.type_vars ≤ 65535 → t.type_vars ≡ of.now.type_vars → drop n all ≡ g ++
-          rest → ((v : ℕ) → member v (named_before n all) ≡ true → v < n) →
+      rest → ((v : ℕ) → member v (named_before n all) ≡ true → v < n) →
       AreKnownSchemes (tables_of t.bank.now t.constants.now κ) → IsClause (tables_of t.bank.now t.constants.now κ) (clause_of t.bank.now of.now) → Told t.bank.now t.constants.now n of.now g rest
   one_group n t of us parts g rest starts plan standing w first few few_types vars from before known is =
       (group_denotes (tables_of t.bank.now t.constants.now κ) all n g rest (clause_of t.bank.now of.now) from some first_one other, last)
@@ -124,7 +124,7 @@ module _ (κ : ℕ → Option ℕ) (all : List Record) where
         first_program Hasher t of us parts g starts plan w low deep standing (tables_of t.bank.now t.constants.now κ) all placed early r at,
         (let z : t.first + 0 ≡ n = omega (arith, first) in ap (λ k. Rattle.lp_gen.proofs.PartsTell.told_at (tables_of t.bank.now t.constants.now κ) all k r nothing_captured) (sym z))
             ∙ first_told Hasher t of us parts g starts plan w low deep standing (tables_of t.bank.now t.constants.now κ) all placed early (standard_of t.bank.now t.constants.now) asked
-                few_types vars is r at,
+            few_types vars is r at,
       )
 
       other : (i : ℕ) (r : Record) → slice_get g (suc i) ≡ Some r → (r.program ≡ false) × (member (n + suc i) (named_before (n + suc i) all) ≡ true)
@@ -137,7 +137,7 @@ module _ (κ : ℕ → Option ℕ) (all : List Record) where
           let s = plan.all in
           let z : n + length g ≡ t.first + length parts = omega (arith, first, m) in
           let l = (early_end Hasher t of us parts g starts plan w low deep standing (tables_of t.bank.now t.constants.now κ) all placed early).0 v
-              (ap (λ k. member v (named_before k all)) (sym z) ∙ e) in
+          (ap (λ k. member v (named_before k all)) (sym z) ∙ e) in
           omega (arith, l, z, s)
 
   group_of : (b : Nodes) (ds : List Declared) (n : ℕ) (of : Bor code.Clause) (c : code.Clause) (g rest : List Record) → of.now ≡ c → IsGroup b ds n
@@ -147,7 +147,7 @@ module _ (κ : ℕ → Option ℕ) (all : List Record) where
       subst (λ e. AreKnownSchemes (tables_of b ds κ) → IsClause (tables_of b ds κ) (clause_of b e) → Told b ds n e g rest) is
       (subst (λ u. AreKnownSchemes (tables_of u ds κ) → IsClause (tables_of u ds κ) (clause_of u of.now) → Told u ds n of.now g rest) G.bank_is
       (subst (λ u. AreKnownSchemes (tables_of G.tables.bank.now u κ) → IsClause (tables_of G.tables.bank.now u κ) (clause_of G.tables.bank.now of.now)
-          → Told G.tables.bank.now u n of.now g rest) G.constants_are
+      → Told G.tables.bank.now u n of.now g rest) G.constants_are
       (one_group n G.tables of G.due G.parts g rest G.starts G.planned G.captured G.written (G.first (omega (arith, few))) few (let v = G.vars_are in let f = G.few_vars in omega (arith, v, f))
       (G.vars_are ∙ ap (λ (e : code.Clause). e.type_vars) (sym is)) from before)))
 

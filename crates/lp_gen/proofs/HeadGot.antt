@@ -137,7 +137,7 @@ head_argument_then K old mid new a b c F G ts t x p left = record {
         seen = all_seen a b Γ 0 t w.3 good.seen;
       } in
       let sides : SameSides (from_of G) parts.1 = (subst (λ H. Asks H (arrow parts.1 R)) (sym left)
-          (subst (Asks (left_by F (length ts))) parts.3 (asks_left h vars Γ a F A ts parts.0 parts.2 asks))).0 in
+      (subst (Asks (left_by F (length ts))) parts.3 (asks_left h vars Γ a F A ts parts.0 parts.2 asks))).0 in
       let head = built_same h old.registers s w.0 h.self.head predicate w.1.head_types_are w.1.terms_keep in
       let typed : argument_type (head_built h w.0).type (length ts) ≡ Some parts.1 =
       ap (λ (d : Built). argument_type d.type (length ts)) head ∙ argument_last h vars Γ a A ts parts.0 parts.1 R parts.2 parts.3 in
@@ -206,7 +206,7 @@ head_type_then old mid kind new Ts T i r x q p at = record {
       let w = x.denotes h later vars s std st te (omega (arith, low, grow, kinds)) before none nothing parts.0 (λ e. let c = count e in omega (arith, c, size))
       (room_front s front x.more q.more refl room_f) in
       let v = q.denotes h later vars w.0 w.1.types_stand (omega (arith, low, kinds)) parts.1
-          (room_does h later vars old.types mid.types old.registers mid.registers s w.0 front x.more q.more _ _ _ w.1 refl room_f) in
+      (room_does h later vars old.types mid.types old.registers mid.registers s w.0 front x.more q.more _ _ _ w.1 refl room_f) in
       let first = leads_goes h later vars mid.types kind.types mid.registers w.0 v.0 q.more v.1 w.1.terms_stand in
       let both = then_does h later vars old.types mid.types kind.types old.registers mid.registers mid.registers s w.0 v.0 x.more q.more _ _ _ _ _ _ w.1
       (goes_does h later vars mid.types kind.types mid.registers mid.registers w.0 v.0 q.more first) x.types_grow (let z = x.registers_stay in omega (arith, z)) in

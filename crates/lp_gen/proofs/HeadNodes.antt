@@ -127,4 +127,4 @@ constant_head K b old mid new a d c ids head ts t p x y is e named =
     let same : atom (constant c Ts) ≡ head = ap (λ l. atom (constant c l)) (sym (mapped_types b ids)) ∙ is in
     subst (λ p. HeadMatched K old new a d p t) (sym (named ∙ ap (predicate_of a) (sym same)))
     (subst (HeadMatched K old new a d (Const c)) (ap (λ u. apply u ts) same ∙ e) (constant_matched K old mid new a d c Ts ts x
-        (subst (λ u. ArgumentsGot K mid new a d (head_type K [] a u) ts) (sym same) y)))
+    (subst (λ u. ArgumentsGot K mid new a d (head_type K [] a u) ts) (sym same) y)))

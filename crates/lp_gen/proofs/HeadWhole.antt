@@ -83,7 +83,7 @@ constant_matched K old mid new a b c Ts ts x y = record {
       (subst (Standing h vars old.registers s.in_body σ a) (sym w.2) stands)) in
       let te_w : TermsStand h mid.registers w.0 = w.1.terms_stand in
       let v = y.denotes h later vars w.0 σ Γ o_type std asked w.1.types_stand te_w low few (w.1.in_body_stays ∙ before) w.1.arguments_are stands_w
-          (subst (λ T. AreWell h vars Γ a T ts o_type) (sym type) well)
+      (subst (λ T. AreWell h vars Γ a T ts o_type) (sym type) well)
       (subst (Asks (K c Ts)) (sym type) (asked.asks c Ts A sp.1)) (predicate_on old.registers mid.registers s w.0 h.self.head (omega (arith, stay)) w.1.terms_keep predicate) own stood
       (room_does h later vars old.types mid.types old.registers mid.registers s w.0 (x.more ++ y.more) x.more y.more s.goals Ts [] w.1 refl room) in
       let args : v.0.head_arguments ≡ wholes A (map f ts) = v.1.arguments_are ∙ ap (λ T. wholes T (map f ts)) type in
@@ -129,10 +129,10 @@ variable_matched K old new a b j r ts y register named = record {
       let built : head_built h s ≡ whole (σ z.0) A = ap (built_of h s) self ∙ ap (λ o. unwrap_or o default) set in
       let type = ap (λ (d : Built). d.type) built in
       let asks : Asks (head_type K [] a head) A = subst (λ F. Asks F A) (sym (let back : j - 0 ≡ j = omega arith in ap (λ k. type_or (seen_in a k))
-          back ∙ ap type_or (ap (option_and_then (at_level a)) z.2
+      back ∙ ap type_or (ap (option_and_then (at_level a)) z.2
       ∙ z.3) ∙ of)) (asks_same A) in
       let u = y.denotes h later vars s σ Γ o_type std asked st te low few before no_args stands
-          (subst (λ T. AreWell h vars Γ a T ts o_type) (sym type) well) (subst (Asks (head_type K [] a head)) (sym type)
+      (subst (λ T. AreWell h vars Γ a T ts o_type) (sym type) well) (subst (Asks (head_type K [] a head)) (sym type)
       asks) predicate own stood room in
       let args : u.0.head_arguments ≡ wholes A (map f ts) = u.1.arguments_are ∙ ap (λ T. wholes T (map f ts)) type in
       let last : head_built h u.0 ≡ whole (σ z.0) A = built_same h old.registers s u.0 h.self.head predicate u.1.head_types_are u.1.terms_keep ∙ built in (

@@ -83,3 +83,4 @@ mod GroupDenotes
 mod GroupPut
 mod GroupsDenote
 mod CapturedBy
+mod NamedNumbers

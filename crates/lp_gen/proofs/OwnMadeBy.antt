@@ -47,7 +47,7 @@ member_first : (m : ℕ) (xs ys : List ℕ) → member m xs ≡ true → member 
 member_first m [] ys e = absurd (true≢false (sym e))
 member_first m (x ∷ xs) ys e =
     or_cases (member m ((x ∷ xs) ++ ys) ≡ true) (nat_eq m x) (member m xs) e (λ q. or_left (nat_eq m x) (member m (xs ++ ys)) q)
-        (λ q. or_right (nat_eq m x) (member m (xs ++ ys)) (member_first m xs ys q))
+    (λ q. or_right (nat_eq m x) (member m (xs ++ ys)) (member_first m xs ys q))
 
 member_second : (m : ℕ) (xs ys : List ℕ) → member m ys ≡ true → member m (xs ++ ys) ≡ true
 member_second m [] ys e = e

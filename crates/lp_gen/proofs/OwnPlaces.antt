@@ -108,7 +108,7 @@ pub own_numbers : (a b : Around) (k : ℕ) (Ts : List Ty) (rs : List ℕ) (m : �
     k + length Ts ≤ m → passing m (λ r. member r rs) ≡ numbers k (length Ts)
 own_numbers a b k Ts rs m own start x same set le =
     passing_range (m - (k + length Ts)) k (length Ts) m (λ r. member r rs) (omega (arith, le))
-        (λ r l. not_made r (λ i q z. absurd (omega (arith, l, z)))) made (λ r l. not_made r (λ i q z. absurd (omega (arith, l, q, z))))
+    (λ r l. not_made r (λ i q z. absurd (omega (arith, l, z)))) made (λ r l. not_made r (λ i q z. absurd (omega (arith, l, q, z))))
   where
     -- a register that is made is that of an own variable
     from : (r : ℕ) → member r rs ≡ true → (i : ℕ) × (i < length Ts) × (r ≡ k + i)

@@ -176,19 +176,19 @@ module _ {S : Type 0} (t : Tables) (cl : Suppositions) (T : CodeTables) (all : L
     (captured : (n : ℕ) (x : Assumption) → slice_get t.assumptions.now n ≡ Some x → AreCaptured x (cl.clauses n))
     (counts : (n : ℕ) (x : Assumption) → slice_get t.assumptions.now n ≡ Some x → clauses_length (cl.clauses n) ≡ x.count)
     (names_below : (i : ℕ) (p : Part) (r : Record) (a : slice_get parts i ≡ Some p) (b : slice_get records i ≡ Some r) (m : ℕ) → member m
-        (named_before (t.first + i) all) ≡ true → m < (done i p r a b).next)
+    (named_before (t.first + i) all) ≡ true → m < (done i p r a b).next)
     (named : (i : ℕ) (p : Part) (n : ℕ) → slice_get parts i ≡ Some p → p.within ≡ Some n → member (t.first + i) (named_before (t.first + i) all) ≡ true) where
   abbrev Told : ℕ → Type 1
   Told i =
       (p : Part) (r : Record) → slice_get parts i ≡ Some p → slice_get records i ≡ Some r → (n : ℕ) (x : Assumption) → p.within ≡ Some n → slice_get t.assumptions.now n ≡ Some x → p.base ≡ x.base →
       (c : Clause) → flat_of t.bank.now p.origin ≡ Some c → (A : Around) (σ : ℕ → Term) (Γ : List Ty) (B : List Bool) (Q : ℕ → Type 0) (c0 : Captured) → IsShort A → new_level A ≡ x.base →
       AreStarts A (levels_found A x.captured.keys) (cl.starts n) (cl.counts n) → ClausesFit (home_of T all (t.first + i) r) t.type_vars Γ B Q
-          (clauses c no_clauses) → AreCaptured x (clauses c no_clauses) →
+      (clauses c no_clauses) → AreCaptured x (clauses c no_clauses) →
       ((j : ℕ) → Q j → IsSeen A Γ j) → ((j : ℕ) (U : Ty) → slice_get Γ j ≡ Some U → IsKnownType T.kinds t.type_vars U) →
-          ((l : ℕ) (v : Seen) → at_level A l ≡ Some v → IsKnownType T.kinds t.type_vars v.of) →
+      ((l : ℕ) (v : Seen) → at_level A l ≡ Some v → IsKnownType T.kinds t.type_vars v.of) →
       clauses_depth (clauses c no_clauses) ≤ nesting_limit → AreAlls (home_of T all (t.first + i) r) σ A B →
       ((j l : ℕ) → level_in A j ≡ Some l → (y : ℕ) × (k : ℕ) × (σ l ≡ variable y k) × (k < t.first + i)) → c0.types ≡ map var (from_zero t.type_vars)
-          → StartWith σ A (levels_found A x.captured.keys) c0.terms →
+      → StartWith σ A (levels_found A x.captured.keys) c0.terms →
       (d : Clause) × (told_at T all (t.first + i) r c0 ≡ Some d) × (bare_clauses (clauses d no_clauses) ≡ said_clauses σ A 0 (clauses c no_clauses))
 
   -- what a record may assume
@@ -222,7 +222,7 @@ module _ {S : Type 0} (t : Tables) (cl : Suppositions) (T : CodeTables) (all : L
           let e = depth_first d ds nesting_limit deep in
           let number = t.first + (x.first + j) in
           let one = told (x.first + j) (omega (arith, low)) m.part m.record_is m.part_at m.record_at n x m.within y.found m.base d m.flat a σ Γ B Q c
-              short y.base (subst (λ l. AreStarts a l (cl.starts n) (cl.counts n)) y.levels y.starts)
+          short y.base (subst (λ l. AreStarts a l (cl.starts n) (cl.counts n)) y.levels y.starts)
           (clauses_home T all (t.first + i) (t.first + (x.first + j)) r m.record_is t.type_vars Γ B Q (clauses d no_clauses) f.0) g.0 seen known levels e.0 alls
           (λ k l q. let w = outer k l q in let less = w.3 in (w.0, w.1, w.2, omega (arith, less, low))) types (subst (λ l. StartWith σ a l c.terms) y.levels start) in
           let rest = each n x y (suc j) ds (λ k b q. let z : j + suc k ≡ suc j + k = omega arith in ap (clause_at (cl.clauses n)) (sym z) ∙ at (suc k) b q) f.1 g.1 e.1 in
@@ -364,7 +364,7 @@ module _ {S : Type 0} (t : Tables) (cl : Suppositions) (T : CodeTables) (all : L
           (clauses (clause 0 Ts (tree t.bank.now d.of.now.head.0) gs) no_clauses))
       result =
           record_of.assumed_denoted t p d.captured d.starts d.of h d.written d.origin_is σ Γ B A Q' x.captured.keys out part_base given low cl d.next
-              d.first gs d.kept d.steps fits.4 d.are_next few (suc (t.first + i)) le has counts std
+          d.first gs d.kept d.steps fits.4 d.are_next few (suc (t.first + i)) le has counts std
           (asked (t.first + i) r) fits.1 below fits.2 fits.3 nest c0.terms start program (named i p n at within) few_types later c0 types refl self (are_later i r) (tells i r told)
 
   -- all of them
@@ -434,10 +434,10 @@ module _ {S : Type 0} (t : Tables) (cl : Suppositions) (T : CodeTables) (all : L
       let is = same_clause (clause d.of.now.type_vars (types_at t.bank.now d.of.now.vars.items) (tree t.bank.now d.of.now.head.0) (goals_of t.bank.now d.of.now.body.items)) c
       (sym (ap (flat_of t.bank.now) d.origin_is) ∙ m.flat) in
       let body = goals_written (x.first + j) d.next (m.part.base + length (types_at t.bank.now d.of.now.vars.items))
-          (goals_of t.bank.now d.of.now.body.items) (omega (arith, later)) d.well d.has_clauses
+      (goals_of t.bank.now d.of.now.body.items) (omega (arith, later)) d.well d.has_clauses
       (all_written k (x.first + j) (omega (arith, le, low))) in
       subst (λ e. written_clauses (clauses e no_clauses) ≡ clauses e no_clauses) (sym is)
-          (λ k. clauses (clause d.of.now.type_vars (types_at t.bank.now d.of.now.vars.items) (tree t.bank.now d.of.now.head.0) (body k)) no_clauses))
+      (λ k. clauses (clause d.of.now.type_vars (types_at t.bank.now d.of.now.vars.items) (tree t.bank.now d.of.now.head.0) (body k)) no_clauses))
 
   pub body_written : (i : ℕ) (p : Part) (r : Record) (at : slice_get parts i ≡ Some p) (at_r : slice_get records i ≡ Some r) →
       written_goals (goals_of t.bank.now (done i p r at at_r).of.now.body.items) ≡ goals_of t.bank.now (done i p r at at_r).of.now.body.items
@@ -445,7 +445,7 @@ module _ {S : Type 0} (t : Tables) (cl : Suppositions) (T : CodeTables) (all : L
       let d = done i p r at at_r in
       let later = d.later in
       goals_written i d.next (p.base + length (types_at t.bank.now d.of.now.vars.items)) (goals_of t.bank.now d.of.now.body.items)
-          (omega (arith, later)) d.well d.has_clauses (all_written (length records) i (omega arith))
+      (omega (arith, later)) d.well d.has_clauses (all_written (length records) i (omega arith))
 
   -- the first record is that of the clause itself
 
@@ -491,13 +491,13 @@ module _ {S : Type 0} (t : Tables) (cl : Suppositions) (T : CodeTables) (all : L
 
   pub program_told : (p : Part) (r : Record) (at : slice_get parts 0 ≡ Some p) (at_r : slice_get records 0 ≡ Some r) → p.within ≡ None → p.base ≡ 0 → (done 0 p r at at_r).captured.entries ≡ [] →
       IsClause T (clause t.type_vars (types_at t.bank.now (done 0 p r at at_r).of.now.vars.items) (tree t.bank.now (done 0 p r at at_r).of.now.head.0)
-          (goals_of t.bank.now (done 0 p r at at_r).of.now.body.items)) →
+      (goals_of t.bank.now (done 0 p r at at_r).of.now.body.items)) →
       told_at T all (t.first + 0) r nothing_captured
       ≡ Some (clause t.type_vars (types_at t.bank.now (done 0 p r at at_r).of.now.vars.items) (tree t.bank.now (done 0 p r at at_r).of.now.head.0)
-          (goals_of t.bank.now (done 0 p r at at_r).of.now.body.items))
+      (goals_of t.bank.now (done 0 p r at at_r).of.now.body.items))
   program_told p r at at_r within base none is_clause =
       record_of.program_denoted t p d.captured d.starts d.of h d.written d.origin_is no_terms [] [] nobody NoIndex [] (outside h) base given low cl
-          d.next d.first gs d.kept d.steps fits.4 d.are_next few (suc (t.first + 0)) le has counts std
+      d.next d.first gs d.kept d.steps fits.4 d.are_next few (suc (t.first + 0)) le has counts std
       (asked (t.first + 0) r) fits.1 below fits.2 fits.3 is_clause.1 [] tt (ap is_none within) few_types (ap length none) refl no_index no_indices (body_written 0 p r at at_r)
       (λ k e. later_from T all (suc (t.first + 0)) (drop (suc (t.first + 0)) all) k e) (placed 0 r at_r) (are_later 0 r) (tell_all 0 r)
     where

@@ -53,26 +53,26 @@ module _ (us : List Due) (xs : List Assumption) (d d' : ℕ) (ss ss' : List Step
       ts' ≡ due_goals ls ∷ due_end on.Turn d ∷ due_goals rs ∷ due_end on.EndEither d ∷ ts → WalkKept us us xs xs d d' ss ss' (due_goals (g ∷ []) ∷ ts) ts'
   either_done l r ls rs h left right v e f =
       goal_done us us xs xs d d d' ss (ss ++ on.Either ∷ []) ss' ts (due_goals l.items ∷ due_end on.Turn d ∷ due_goals r.items ∷ due_end on.EndEither
-          d ∷ ts) ts' (code.Either l r) g (either_put us xs d ss ts l r) v e
+      d ∷ ts) ts' (code.Either l r) g (either_put us xs d ss ts l r) v e
       (f ∙ (λ i. due_goals (left i) ∷ due_end on.Turn d ∷ due_goals (right i) ∷ due_end on.EndEither d ∷ ts)) h
 
   pub some_done : (T : TypeId) (l : Vec Goal Global) (ls : List Goal) → g ≡ code.Some T l → ls ≡ l.items → d' ≡ suc d → ss' ≡ ss ++ on.Some T ∷ [] →
       ts' ≡ due_goals ls ∷ due_level d ∷ ts → WalkKept us us xs xs d d' ss ss' (due_goals (g ∷ []) ∷ ts) ts'
   some_done T l ls h is v e f =
       goal_done us us xs xs d d' d' ss (ss ++ on.Some T ∷ []) ss' ts (due_goals l.items ∷ due_level d ∷ ts) ts' (code.Some T l) g
-          (some_put us xs d ss ts d' T l v) refl e (f ∙ (λ i. due_goals (is i) ∷ due_level d ∷ ts)) h
+      (some_put us xs d ss ts d' T l v) refl e (f ∙ (λ i. due_goals (is i) ∷ due_level d ∷ ts)) h
 
   pub all_done : (T : TypeId) (l : Vec Goal Global) (ls : List Goal) → g ≡ code.All T l → ls ≡ l.items → d' ≡ suc d → ss' ≡ ss ++ on.All T ∷ [] → ts'
       ≡ due_goals ls ∷ due_end on.EndAll d ∷ ts → WalkKept us us xs xs d d' ss ss' (due_goals (g ∷ []) ∷ ts) ts'
   all_done T l ls h is v e f =
       goal_done us us xs xs d d' d' ss (ss ++ on.All T ∷ []) ss' ts (due_goals l.items ∷ due_end on.EndAll d ∷ ts) ts' (code.All T l) g
-          (all_put us xs d ss ts d' T l v) refl e (f ∙ (λ i. due_goals (is i) ∷ due_end on.EndAll d ∷ ts)) h
+      (all_put us xs d ss ts d' T l v) refl e (f ∙ (λ i. due_goals (is i) ∷ due_end on.EndAll d ∷ ts)) h
 
   pub not_done : (l : Vec Goal Global) (ls : List Goal) → g ≡ code.Not l → ls ≡ l.items → d' ≡ d → ss' ≡ ss ++ on.Not ∷ [] → ts' ≡ due_goals ls ∷
       due_end on.EndNot d ∷ ts → WalkKept us us xs xs d d' ss ss' (due_goals (g ∷ []) ∷ ts) ts'
   not_done l ls h is v e f =
       goal_done us us xs xs d d d' ss (ss ++ on.Not ∷ []) ss' ts (due_goals l.items ∷ due_end on.EndNot d ∷ ts) ts' (code.Not l) g
-          (not_put us xs d ss ts l) v e (f ∙ (λ i. due_goals (is i) ∷ due_end on.EndNot d ∷ ts)) h
+      (not_put us xs d ss ts l) v e (f ∙ (λ i. due_goals (is i) ∷ due_end on.EndNot d ∷ ts)) h
 
   pub assume_done : (us' : List Due) (xs' : List Assumption) (n : ℕ) (cs : Vec Clause Global) (l : Vec Goal Global) (ds : List Clause)
       (ls : List Goal) → g ≡ code.Assume cs l → ds ≡ cs.items → ls ≡ l.items → IsAssumed us us' xs xs' ds d n → d' ≡ d →

@@ -87,7 +87,7 @@ module _ (us : List Due) (xs : List Assumption) (d : ℕ) (ss : List Step) (ts :
   first_goal g gs =
       todo_same us xs d d ss (due_goals (g ∷ gs) ∷ ts) (due_goals (g ∷ []) ∷ due_goals gs ∷ ts)
       (λ b cl. append_assoc (goal_steps (goal_of b g)) (goals_steps (goals_of b gs)) (todo_steps b cl ts) ∙ ap
-          (λ l. l ++ (goals_steps (goals_of b gs) ++ todo_steps b cl ts)) (sym (append-nil (goal_steps (goal_of b g)))))
+      (λ l. l ++ (goals_steps (goals_of b gs) ++ todo_steps b cl ts)) (sym (append-nil (goal_steps (goal_of b g)))))
       (λ b D q x.
       let z : q + (goal_records (goal_of b g) + 0) ≡ q + goal_records (goal_of b g) = omega arith in
       let y : q + (goal_records (goal_of b g) + 0) + goals_records (goals_of b gs) ≡ q + (goal_records (goal_of b g) + goals_records (goals_of b gs)) = omega arith in
@@ -100,16 +100,16 @@ module _ (us : List Due) (xs : List Assumption) (d : ℕ) (ss : List Step) (ts :
   pub atom_put : (t : TermId) → WalkKept us us xs xs d d ss (ss ++ on.Atom t ∷ []) (due_goals (code.Atom t ∷ []) ∷ ts) ts
   atom_put t =
       step_put us xs d d ss (on.Atom t) (due_goals (code.Atom t ∷ []) ∷ ts) ts (λ b cl. one_steps b cl (code.Atom t) (Atomic (tree b t.0)) ts
-          (step_of b cl (on.Atom t) ∷ todo_steps b cl ts) (atom_is b t) refl)
+      (step_of b cl (on.Atom t) ∷ todo_steps b cl ts) (atom_is b t) refl)
       (λ b D q x. one_has b D q d (code.Atom t) (Atomic (tree b t.0)) ts (atom_is b t) tt (none_more b D q d ts x))
-          (λ b x. one_written b (code.Atom t) (Atomic (tree b t.0)) ts (atom_is b t) tt x) (λ b x. x.1)
-          (λ e. (e, (λ t q m. tt, λ t q. refl, λ t. refl)))
+      (λ b x. one_written b (code.Atom t) (Atomic (tree b t.0)) ts (atom_is b t) tt x) (λ b x. x.1)
+      (λ e. (e, (λ t q m. tt, λ t q. refl, λ t. refl)))
 
   pub cut_put : WalkKept us us xs xs d d ss (ss ++ on.Cut ∷ []) (due_goals (code.Cut ∷ []) ∷ ts) ts
   cut_put =
       step_put us xs d d ss on.Cut (due_goals (code.Cut ∷ []) ∷ ts) ts (λ b cl. one_steps b cl code.Cut Cut ts (step_of b cl on.Cut ∷ todo_steps b cl ts) (cut_is b) refl)
       (λ b D q x. one_has b D q d code.Cut Cut ts (cut_is b) tt (none_more b D q d ts x)) (λ b x. one_written b code.Cut Cut ts (cut_is b) tt x)
-          (λ b x. x.1) (λ e. (e, (λ t q m. tt, λ t q. refl, λ t. refl)))
+      (λ b x. x.1) (λ e. (e, (λ t q m. tt, λ t q. refl, λ t. refl)))
 
   pub either_put : (l r : Vec Goal Global) →
       WalkKept us us xs xs d d ss (ss ++ on.Either ∷ []) (due_goals (code.Either l r ∷ []) ∷ ts) (due_goals l.items ∷ due_end on.Turn d ∷ due_goals r.items ∷ due_end on.EndEither d ∷ ts)
@@ -137,11 +137,11 @@ module _ (us : List Due) (xs : List Assumption) (d : ℕ) (ss : List Step) (ts :
   some_put d' T l more =
       step_put us xs d d' ss (on.Some T) (due_goals (code.Some T l ∷ []) ∷ ts) (due_goals l.items ∷ due_level d ∷ ts)
       (λ b cl. one_steps b cl (code.Some T l) (Exists (type_tree b T.0) (goals_of b l.items)) ts
-          (step_of b cl (on.Some T) ∷ todo_steps b cl (due_goals l.items ∷ due_level d ∷ ts)) (some_is b T l) refl)
+      (step_of b cl (on.Some T) ∷ todo_steps b cl (due_goals l.items ∷ due_level d ∷ ts)) (some_is b T l) refl)
       (λ b D q x. one_has b D q d (code.Some T l) (Exists (type_tree b T.0) (goals_of b l.items)) ts (some_is b T l) (subst (λ k. GoalsHave D q k (goals_of b l.items)) more x.0) x.1)
       (λ b x. one_written b (code.Some T l) (Exists (type_tree b T.0) (goals_of b l.items)) ts (some_is b T l) x.0 x.1)
-          (λ b x. one_deep b (code.Some T l) (Exists (type_tree b T.0) (goals_of b l.items)) ts (some_is b T l) x)
-          (λ e. (e, (λ t q m. tt, λ t q. refl, λ t. refl)))
+      (λ b x. one_deep b (code.Some T l) (Exists (type_tree b T.0) (goals_of b l.items)) ts (some_is b T l) x)
+      (λ e. (e, (λ t q m. tt, λ t q. refl, λ t. refl)))
 
   pub all_put : (d' : ℕ) (T : TypeId) (l : Vec Goal Global) → d' ≡ suc d → WalkKept us us xs xs d d' ss (ss ++ on.All T ∷ [])
       (due_goals (code.All T l ∷ []) ∷ ts) (due_goals l.items ∷ due_end on.EndAll d ∷ ts)
@@ -174,7 +174,7 @@ module _ (us : List Due) (xs : List Assumption) (d : ℕ) (ss : List Step) (ts :
       (assume_put us us' xs cs.items d d x ss (due_goals (code.Assume cs l ∷ []) ∷ ts) (due_goals l.items ∷ due_end on.EndAssume d ∷ ts) made
       (λ b cl e.
       one_steps b cl (code.Assume cs l) (assuming (clauses_of b cs.items) (goals_of b l.items)) ts
-          (step_of b cl (on.Assume (length xs)) ∷ todo_steps b cl (due_goals l.items ∷ due_end on.EndAssume d ∷ ts)) (assume_is b cs l)
+      (step_of b cl (on.Assume (length xs)) ∷ todo_steps b cl (due_goals l.items ∷ due_end on.EndAssume d ∷ ts)) (assume_is b cs l)
       ((λ i. Rattle.lp_gen.specs.inner.OpenGoals.assume (sym e i) ∷ append_assoc (goals_steps (goals_of b l.items)) (end_assume ∷ []) (todo_steps b cl ts) i)))
       (λ b D q here x.
       let many = clauses_many b cs.items in

@@ -60,7 +60,7 @@ get_both [] ys i y e = let z : i ≡ i - 0 = omega arith in inr (omega arith, su
 get_both (x ∷ xs) ys zero y e = inl e
 get_both (x ∷ xs) ys (suc i) y e =
     ⊎_elim (λ f. inl f) (λ f. let le = f.0 in let z : i - length xs ≡ suc i - suc (length xs) = omega arith in inr
-        (omega (arith, le), subst (λ k. slice_get ys k ≡ Some y) z f.1)) (get_both xs ys i y e)
+    (omega (arith, le), subst (λ k. slice_get ys k ≡ Some y) z f.1)) (get_both xs ys i y e)
 
 pub get_behind : {X : Type 0} (xs ys : List X) (i : ℕ) (y : X) → slice_get ys i ≡ Some y → slice_get (xs ++ ys) (length xs + i) ≡ Some y
 get_behind [] ys i y e = let z : i ≡ 0 + i = omega arith in subst (λ k. slice_get ys k ≡ Some y) z e
@@ -76,9 +76,11 @@ steps_more b cl ss s rest = ap (λ l. l ++ rest) (map-append (step_of b cl) ss (
 
 next_more : (t : Tables) (q m : ℕ) (ss : List Step) (s : Step) → AreNext t q m ss → IsNext t (next_all t q ss) (m + starts_all t ss) s → AreNext t q m (ss ++ s ∷ [])
 next_more t q m [] s x y = (let none : starts_all t [] ≡ 0 = refl in let z : m + starts_all t [] ≡ m = omega (arith, none) in subst (λ k. IsNext t q k s) z y, tt)
-next_more t q m (u ∷ us) s x y =
-    (x.0, next_more t (next_of t q u) (m + count_starts t u) us s x.1 (let c = starts_cons t u us in let z : m + starts_all t (u ∷ us) ≡ m +
-        count_starts t u + starts_all t us = omega (arith, c) in subst (λ k. IsNext t (next_all t (next_of t q u) us) k s) z y))
+next_more t q m (u ∷ us) s x y = (
+  x.0,
+  next_more t (next_of t q u) (m + count_starts t u) us s x.1 (let c = starts_cons t u us in let z : m + starts_all t (u ∷ us) ≡ m +
+      count_starts t u + starts_all t us = omega (arith, c) in subst (λ k. IsNext t (next_all t (next_of t q u) us) k s) z y),
+)
 
 all_more : (t : Tables) (q : ℕ) (ss : List Step) (s : Step) → next_all t q (ss ++ s ∷ []) ≡ next_of t (next_all t q ss) s
 all_more t q [] s = refl
@@ -113,7 +115,7 @@ step_put us xs d d' ss s ts ts' says has written deep ends us0 xs0 d0 gs w = rec
 -- the same that is still to do, with no step
 pub todo_same : (us : List Due) (xs : List Assumption) (d d' : ℕ) (ss : List Step) (ts ts' : List Todo) → ((b : Nodes) (cl : Suppositions) → todo_steps b cl ts ≡ todo_steps b cl ts') →
     ((b : Nodes) (D : ℕ → ℕ → Clauses → Type 0) (q : ℕ) → TodoHave b D q d' ts' → TodoHave b D q d ts) →
-        ((b : Nodes) → TodoWritten b ts' → TodoWritten b ts) → ((b : Nodes) → TodoDeep b ts → TodoDeep b ts') →
+    ((b : Nodes) → TodoWritten b ts' → TodoWritten b ts) → ((b : Nodes) → TodoDeep b ts → TodoDeep b ts') →
     (AllEnds ts → AllEnds ts') → WalkKept us us xs xs d d' ss ss ts ts'
 todo_same us xs d d' ss ts ts' says has written deep ends us0 xs0 d0 gs w = record {
   kept = w.kept;
@@ -240,15 +242,24 @@ assume_put us us' xs cs d d' x ss ts ts' made says has written deep ends us0 xs0
       let m = many us us' xs cs d x made in
       let first = made.first in
       let at : f + x.first ≡ f + length us = omega (arith, first) in
-      let here : AssumptionAt b all f (f + length us) d (clauses_of b cs) = (length xs, x, extends_at (xs ++ x ∷ []) all (length xs) x e
-          (get_last xs x), ap (clauses_of b) (sym made.clauses_are), at, made.base) in
+      let here : AssumptionAt b all f (f + length us) d (clauses_of b cs) = (
+        length xs,
+        x,
+        extends_at (xs ++ x ∷ []) all (length xs) x e
+            (get_last xs x),
+        ap (clauses_of b) (sym made.clauses_are),
+        at,
+        made.base,
+      ) in
       let z : f + length us' ≡ f + length us + length cs = omega (arith, m) in
       w.has b f all (extends_on xs (xs ++ x ∷ []) all (x ∷ [], refl) e) (has b (AssumptionAt b all f) (f + length us) here (subst (λ q. TodoHave b (AssumptionAt b all f) q d' ts') z y));
   deep = λ b y.
       let v = w.deep b y in
-      let u = deep b v.0 in
-      (u.0, λ n z le at. ⊎_elim (λ e. v.1 n z le e) (λ e. subst (λ k. DeepClauses (clauses_of b k.clauses.now)) (sym e.1)
-          (subst (λ k. DeepClauses (clauses_of b k)) (sym made.clauses_are) u.1)) (get_more xs x n z at));
+      let u = deep b v.0 in (
+        u.0,
+        λ n z le at. ⊎_elim (λ e. v.1 n z le e) (λ e. subst (λ k. DeepClauses (clauses_of b k.clauses.now)) (sym e.1)
+            (subst (λ k. DeepClauses (clauses_of b k)) (sym made.clauses_are) u.1)) (get_more xs x n z at),
+      );
   written = λ b y. w.written b (written b y);
   ends = ends w.ends;
 }

@@ -112,7 +112,7 @@ around_pushed h K vars n m k q σ Γ B a Q s t T c x short known_T st te low bod
         (λ q. ap (λ (y : Seen). held t.now.terms y.register) q.1 ∙ made ∙ ap (λ y. Some (whole y T)) (sym (level_same σ (new_level a) l (variable k h.number) q.0))
         ∙ ap (λ (y : Seen). Some (whole (with_level σ (new_level a) (variable k h.number) l) y.of)) (sym q.1))
         (λ q. keep w.register (whole (σ l) w.of) (x.standing.low l w q.1) (x.standing.set l w q.1 is_set) ∙ ap (λ y. Some (whole y w.of))
-            (sym (level_other σ (new_level a) l (variable k h.number) q.0)))
+        (sym (level_other σ (new_level a) l (variable k h.number) q.0)))
         (at_pushed a v w l e);
     unset = λ l w e none. absurd (true≢false (sym (all_set l w e) ∙ none));
     unmade = λ l w e none. absurd (true≢false (sym (all_set l w e) ∙ none));

@@ -88,9 +88,9 @@ not_said h later vars n o k p s js X body shallow st te room inner le =
     let u = w.3 in
     let y = w.4 in
     let z = block_ends h later vars n n o k k p s opened.0 u (frame_of s under_not) (on.Not ∷ []) js on.EndNot gs (Not nothing_written gs) [] b
-        opened.1 y refl refl refl (λ q. refl) refl refl refl (omega arith) refl
+    opened.1 y refl refl refl (λ q. refl) refl refl refl (omega arith) refl
     (λ strict innermost. plain_rules h vars o p u on.EndNot y.types_stand y.terms_stand refl refl refl refl refl refl refl refl refl refl
-        (λ rest. ap (λ k. not (ends_block on.EndNot k)) innermost) refl strict)
+    (λ rest. ap (λ k. not (ends_block on.EndNot k)) innermost) refl strict)
     body st te room in
     (gs, b, w.2, z.0, z.1)
 
@@ -146,7 +146,7 @@ variable_stands h vars n s i d B x ts rs long body st te low = (
 variable_opened : (h : Home) (later : Later) (vars n : ℕ) (s : State) (i : Instr) (d : ℕ) (B : Block) (x : Built) → effect h later s i ≡ Some
     (variable_state s B d x) → type_set i ≡ [] → term_set i ≡ d ∷ [] →
     0 < length_of i → ((rest : List Instr) (r : Rule) → broken_by h s rest i r ≡ false) → s.in_body ≡ true → ((q : ℕ) → side_is_passed q B ≡ false) →
-        TypesStand h vars n s → TermsStand h d s → d < h.self.registers →
+    TypesStand h vars n s → TermsStand h d s → d < h.self.registers →
     HasRoom s (s.place + length_of i) → (t : State) × Opened h later vars n n d (d + 1) s (i ∷ []) (frame_of s B) [] t × (held t.now.terms d ≡ Some x)
 variable_opened h later vars n s i d B x eff ts rs long fine body side st te low room =
     let t = passed i (variable_state s B d x) in
@@ -206,7 +206,7 @@ all_said h later vars n m o k p q s r is js T X body shallow te low x held_q le 
     let size = sum_by-append length_of is tail in
     let place = x.place_is in
     let room_r : MayEnd r (r.place + sum_by length_of tail) = subst (λ n. MayEnd r n)
-        (let z : s.place + sum_by length_of (is ++ tail) ≡ r.place + sum_by length_of tail = omega (arith, place, size) in z)
+    (let z : s.place + sum_by length_of (is ++ tail) ≡ r.place + sum_by length_of tail = omega (arith, place, size) in z)
     (subst (λ fs. list_any (λ (f : Frame). ends_before (s.place + sum_by length_of (is ++ tail)) f.block) fs ≡ false) (sym x.same.frames) room) in
     let body_r : r.in_body ≡ true = x.same.in_body ∙ body in
     let te_r : TermsStand h k r = (moved h later vars n m k s r is x te).terms_stand in
@@ -220,18 +220,23 @@ all_said h later vars n m o k p q s r is js T X body shallow te low x held_q le 
     let y = variable_opened h later vars m r (on.All k q) k (under_all k T) (whole (variable k h.number) T)
     (ap (λ o. Some (variable_state r (under_all k (unwrap_or o o_type)) k (whole (variable k h.number) (unwrap_or o o_type)))) held_q) refl refl (omega arith)
     (variable_rules h vars m r (on.All k q) k q T refl refl refl refl refl refl refl refl (ap not body_r) refl (λ rest. not_deep r deep) refl x.stands
-        te_r low held_q here) body_r (λ q. refl) x.stands te_r low after in
+    te_r low held_q here) body_r (λ q. refl) x.stands te_r low after in
     let w = inner y.0 y.1 y.2 in
     let gs = w.0 in
     let b = w.1 in
     let u = w.3 in
     let g = w.4 in
     let z = block_ends h later vars m m o k (k + 1) p r y.0 u (frame_of r (under_all k T)) (on.All k q ∷ []) js on.EndAll gs
-        (Forall T (bind_goals (k ∷ []) h.number gs)) [] b y.1 g refl refl refl (λ q. refl) refl refl refl
+    (Forall T (bind_goals (k ∷ []) h.number gs)) [] b y.1 g refl refl refl (λ q. refl) refl refl refl
     (omega arith) refl (λ strict innermost. plain_rules h vars o p u on.EndAll g.types_stand g.terms_stand refl refl refl refl refl refl refl refl refl refl
-    (λ rest. ap (λ k. not (ends_block on.EndAll k)) innermost) refl strict) body_r x.stands te_r room_r in
-    (gs, b, w.2, z.0, leads_says h later vars n m o k p s r z.0 is tail _ (with_goal s.goals (Forall T (bind_goals (k ∷ []) h.number gs))) b x z.1
-        (ap (λ l. with_goal l (Forall T (bind_goals (k ∷ []) h.number gs))) x.same.goals) le)
+    (λ rest. ap (λ k. not (ends_block on.EndAll k)) innermost) refl strict) body_r x.stands te_r room_r in (
+      gs,
+      b,
+      w.2,
+      z.0,
+      leads_says h later vars n m o k p s r z.0 is tail _ (with_goal s.goals (Forall T (bind_goals (k ∷ []) h.number gs))) b x z.1
+          (ap (λ l. with_goal l (Forall T (bind_goals (k ∷ []) h.number gs))) x.same.goals) le,
+    )
 
 -- goals below `sigma`, which is open up to the end of the block around it
 pub sigma_said : (h : Home) (later : Later) (vars n m o k p q : ℕ) (s r : State) (is js : List Instr) (T : Ty)
@@ -240,13 +245,13 @@ pub sigma_said : (h : Home) (later : Later) (vars n m o k p q : ℕ) (s r : Stat
     ((t : State) → Opened h later vars m m k (k + 1) r (on.Sigma k q ∷ []) (frame_of r (under_sigma k T)) [] t → held t.now.terms k ≡ Some (whole (variable k h.number) T) →
     Inner h later vars m o (k + 1) p t js X) →
     (gs : Goals) × (b : List (ℕ × Captured)) × X gs b × (u : State) × GoalsSaid h later vars n o k p s (is ++ (on.Sigma k q ∷ [] ++ js))
-        (goals (Exists T (bind_goals (k ∷ []) h.number gs)) no_goals) b u
+    (goals (Exists T (bind_goals (k ∷ []) h.number gs)) no_goals) b u
 sigma_said h later vars n m o k p q s r is js T X body te low x held_q le mo room some inner =
     let tail = on.Sigma k q ∷ [] ++ js in
     let size = sum_by-append length_of is tail in
     let place = x.place_is in
     let room_r : MayEnd r (r.place + sum_by length_of tail) = subst (λ n. MayEnd r n)
-        (let z : s.place + sum_by length_of (is ++ tail) ≡ r.place + sum_by length_of tail = omega (arith, place, size) in z)
+    (let z : s.place + sum_by length_of (is ++ tail) ≡ r.place + sum_by length_of tail = omega (arith, place, size) in z)
     (subst (λ fs. list_any (λ (f : Frame). ends_before (s.place + sum_by length_of (is ++ tail)) f.block) fs ≡ false) (sym x.same.frames) room) in
     let body_r : r.in_body ≡ true = x.same.in_body ∙ body in
     let te_r : TermsStand h k r = (moved h later vars n m k s r is x te).terms_stand in
@@ -257,7 +262,7 @@ sigma_said h later vars n m o k p q s r is js T X body te low x held_q le mo roo
     let y = variable_opened h later vars m r (on.Sigma k q) k (under_sigma k T) (whole (variable k h.number) T)
     (ap (λ o. Some (variable_state r (under_sigma k (unwrap_or o o_type)) k (whole (variable k h.number) (unwrap_or o o_type)))) held_q) refl refl (omega arith)
     (variable_rules h vars m r (on.Sigma k q) k q T refl refl refl refl refl refl refl refl (ap not body_r) refl (λ rest. refl) refl x.stands te_r low
-        held_q here) body_r (λ q. refl) x.stands te_r low after in
+    held_q here) body_r (λ q. refl) x.stands te_r low after in
     let w = inner y.0 y.1 y.2 in
     let gs = w.0 in
     let b = w.1 in
@@ -317,7 +322,7 @@ sigma_alone h later vars n m k q s r is T body te low x held_q room =
       record {
         runs = λ e rest. ap (run h later s) (append_assoc is (sigma ∷ []) (e ∷ rest)) ∙ x.runs (sigma ∷ e ∷ rest)
             ∙ steps h later r (settled h.number (depth u.frames) u) sigma (e ∷ rest) x.stands.sound (fine (e ∷ rest))
-                (ap (option_map (λ (z : State). settled h.number (depth z.frames) (passed sigma z))) eff)
+            (ap (option_map (λ (z : State). settled h.number (depth z.frames) (passed sigma z))) eff)
             ∙ ap (λ (z : State). run h later z (e ∷ rest)) (sym (some_code h (is ++ sigma ∷ []) u (omega (arith, size, five))));
         place_is = omega (arith, place, size, five);
         closes = record {

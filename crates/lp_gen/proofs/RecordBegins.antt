@@ -26,6 +26,14 @@ use Rattle.lp_gen.proofs.Denoting.{or_none}
 use Rattle.lp_gen.proofs.Binding.{bind_another}
 use Rattle.lp_gen.proofs.OwnPlaces.{clause_count, clause_at, clause_from, type_at}
 
+pub built_at : (xs : List Built) (r : ℕ) → r < length xs → (b : Built) × (slice_get xs r ≡ Some b)
+built_at [] r l = absurd (omega (arith, l))
+built_at (x ∷ xs) zero l = (x, refl)
+built_at (x ∷ xs) (suc r) l = built_at xs r (omega (arith, l))
+
+pub no_built : (b : Built) → ◌≡◌ {A = Option Built} (Some b) None → ⊥
+no_built b e = cc
+
 -- terms for levels: the own variables are made by the record
 
 abbrev pub own_term : (home : ℕ) → Option Seen → Term
@@ -319,7 +327,7 @@ module _ (h : Home) (K : ℕ → List Ty → Ty) (vars : ℕ) (σ : ℕ → Term
           let is = from.1 in
           let high = from.0 in
           g le (let z : l < a.base = omega (arith, le, c, b, is, high) in z) (level_is A (i - length Ts) out.short (omega (arith, le, c, high)) ∙
-              (let z : new_level A - (i - length Ts) - 1 ≡ l = omega (arith, le, c, b, is, high) in ap (λ j. Some j) z))
+          (let z : new_level A - (i - length Ts) - 1 ≡ l = omega (arith, le, c, b, is, high) in ap (λ j. Some j) z))
 
   pub own_level : (i : ℕ) (T : Ty) → slice_get Ts i ≡ Some T → i < length Ts → at_level a (a.base + (length Ts - 1 - i)) ≡ Some (unmade (k + i) T)
   own_level i T e low =

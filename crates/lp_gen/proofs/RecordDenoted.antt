@@ -54,16 +54,16 @@ module _ (h : Home) (K : ℕ → List Ty → Ty) (vars : ℕ) (σ : ℕ → Term
       not_own r j d t e low =
           ap (bind_term (numbers k (length Ts)) h.number d) e
           ∙ ap (λ c. index_or (if c then placed (numbers k (length Ts)) d r else None) (atom (logic r j)))
-              (Rattle.std.proofs.lemmas.Bool.ne_eqb j h.number (λ z. absurd (omega (arith, z, low)))) ∙ sym e
+          (Rattle.std.proofs.lemmas.Bool.ne_eqb j h.number (λ z. absurd (omega (arith, z, low)))) ∙ sym e
 
       inner_at : (d j : ℕ) → j < length Ts → (T : Ty) × (slice_get Ts j ≡ Some T) → bind_term (numbers k (length Ts)) h.number d (level_term τ (level_in a j)) ≡ index (d + j)
       inner_at d j low t =
           let s = Rattle.lp_gen.proofs.RecordBegins.level_is a j ins.short (let c = Rattle.lp_gen.proofs.RecordBegins.level_count h K vars σ Γ B A a Q keys k Ts out ins in omega (arith, low, c)) in
           let l : ℕ = new_level a - j - 1 in
           let same : l ≡ a.base + (length Ts - 1 - j) = (let c = Rattle.lp_gen.proofs.RecordBegins.level_count h K vars σ Γ B A a Q keys k Ts out ins
-              in let b = ins.base in omega (arith, low, c, b)) in
+          in let b = ins.base in omega (arith, low, c, b)) in
           let here = own_is h K vars σ Γ B A a Q keys k Ts out ins l (unmade (k + j) t.0)
-              (ap (at_level a) same ∙ own_level h K vars σ Γ B A a Q keys k Ts out ins j t.0 t.1 low) (omega (arith, same)) in
+          (ap (at_level a) same ∙ own_level h K vars σ Γ B A a Q keys k Ts out ins j t.0 t.1 low) (omega (arith, same)) in
           ap (λ o. bind_term (numbers k (length Ts)) h.number d (level_term τ o)) s ∙ ap (bind_term (numbers k (length Ts)) h.number d) here
           ∙ ap (λ c. index_or (if c then placed (numbers k (length Ts)) d (k + j) else None) (atom (logic (k + j) h.number))) (eq-eqb h.number h.number refl)
           ∙ ap (λ o. index_or o (atom (logic (k + j) h.number))) (placed_at (length Ts) k d j low)
@@ -80,7 +80,7 @@ module _ (h : Home) (K : ℕ → List Ty → Ty) (vars : ℕ) (σ : ℕ → Term
       at_type i T e =
           let low = place_low Ts i T e in
           ap (λ o. (unwrap_or {T = Built} o (record { term = index 0; type = o_type; loose = [] })).type)
-              (own (a.base + (length Ts - 1 - i)) (unmade (k + i) T) (own_level h K vars σ Γ B A a Q keys k Ts out ins i T e low))
+          (own (a.base + (length Ts - 1 - i)) (unmade (k + i) T) (own_level h K vars σ Γ B A a Q keys k Ts out ins i T e low))
 
   -- the head, and the goals
   pub head_bound : (z : State) (t : Term) → head_term h z ≡ with_variables τ a 0 t → KnownAtoms h.tables.kinds vars t → AllLoose (HasLevel a) 0 t →

@@ -42,7 +42,7 @@ types_name false r n = refl
 module _ {S : Type 0} (t : Tables) (part : Part) (captured : IndexMap ℕ Variable S) (xs' : List (IndexMap ℕ Variable S)) (c : Bor Clause) (h : Home)
     (w : RecordWritten t (constant_function t.bank.now t.constants.now) part captured [] xs' h.self) (o : part.origin ≡ origin.Clause c) (set : AreAllSet t.bank.now captured)
     (cl : Suppositions) (q f : ℕ) (gs : Goals) (kept : HoldStarts t.bank.now xs' f cl)
-        (steps : steps_of t.bank.now cl part.steps.items ≡ goals_steps gs) (ends : EndsGoals gs) (next : AreNext t q f part.steps.items)
+    (steps : steps_of t.bank.now cl part.steps.items ≡ goals_steps gs) (ends : EndsGoals gs) (next : AreNext t q f part.steps.items)
     (few : part.base + length (types_at t.bank.now c.now.vars.items) + length part.steps.items < 2 ^ 64 - 1) where
   abbrev K : ℕ → List Ty → Ty
   K = constant_function t.bank.now t.constants.now
@@ -84,16 +84,16 @@ module _ {S : Type 0} (t : Tables) (part : Part) (captured : IndexMap ℕ Variab
   all_owned : CodeOwns around (around_of t.bank.now w.fronted_env) ((record_of.hm t part captured xs' c h w o).more ++ front_of.made.some.made.more)
   all_owned = owns_then around (around_of t.bank.now front_of.matched_env) (around_of t.bank.now w.fronted_env) (record_of.hm t part captured xs' c h w o).more front_of.made.some.made.more
       (λ s. head_owns K front_of.begun front_of.matched around (around_of t.bank.now front_of.matched_env) h.self.head
-          (Some (record_of.head t part captured xs' c h w o)) front_of.head s) front_of.made.some.made.owns started
+      (Some (record_of.head t part captured xs' c h w o)) front_of.head s) front_of.made.some.made.owns started
 
   coded : (last : List Instr)
       × GoalsCode (AssumedBy t cl) K t.type_vars (around_of t.bank.now w.fronted_env) w.body.begun.types w.body.said.types w.body.begun.registers
-          w.body.said.registers q (next_all t q part.steps.items) (plain_goals gs) last
+      w.body.said.registers q (next_all t q part.steps.items) (plain_goals gs) last
       × (w.body.said.code.items ≡ w.body.begun.code.items ++ last)
   coded =
       body_coded t K w.body.begun w.body.said w.fronted_env w.ended_env [] xs' part.steps.items cl q f gs w.body.written.0 kept steps ends
       (subst (λ n. AreNext t q n part.steps.items) (let y : length {A = IndexMap ℕ Variable S} [] ≡ 0 = refl in let z : f ≡ f + length
-          {A = IndexMap ℕ Variable S} [] = omega (arith, y) in z) next) all_set
+      {A = IndexMap ℕ Variable S} [] = omega (arith, y) in z) next) all_set
       (let i = all_owned.same.base in let j = all_owned.same.count in let e = base_is in let n = own_length in omega (arith, i, j, e, n, few))
 
   none_named : (xs ys : List Instr) → names_in xs ≡ [] → names_in (xs ++ ys) ≡ names_in ys
@@ -104,17 +104,17 @@ module _ {S : Type 0} (t : Tables) (part : Part) (captured : IndexMap ℕ Variab
       let front = record_of.front t part captured xs' c h w o in
       let hm = record_of.hm t part captured xs' c h w o in
       let named = goals_named (AssumedBy t cl) K t.type_vars (around_of t.bank.now w.fronted_env) w.body.begun.types w.body.said.types
-          w.body.begun.registers w.body.said.registers q (next_all t q part.steps.items) (plain_goals gs) coded.0 coded.1 in
+      w.body.begun.registers w.body.said.registers q (next_all t q part.steps.items) (plain_goals gs) coded.0 coded.1 in
       let none : names_in front ≡ [] =
       none_named hm.more (front_of.made.some.made.more ++ w.body.neck.more)
       (no_names_in hm.more (head_more_types K front_of.begun front_of.matched around (around_of t.bank.now front_of.matched_env) h.self.head
-          (Some (record_of.head t part captured xs' c h w o)) front_of.head))
+      (Some (record_of.head t part captured xs' c h w o)) front_of.head))
       ∙ none_named front_of.made.some.made.more w.body.neck.more (no_names_in front_of.made.some.made.more front_of.made.some.made.no_types) ∙
-          no_names_in w.body.neck.more w.body.neck.plain.no_types in
+      no_names_in w.body.neck.more w.body.neck.plain.no_types in
       let all : names_in h.self.code.items ≡ names_in coded.0 =
       ap names_in (w.code_is ∙ w.body.code_is ∙ ap (λ l. l ++ on.Proceed ∷ []) (coded.2 ∙ ap (λ l. l ++ coded.0)
-          (record_of.front_code t part captured xs' c h w o)) ∙ append_assoc (record_of.own_types_code t part captured xs' c h w o ++ front) coded.0
-          (on.Proceed ∷ [])
+      (record_of.front_code t part captured xs' c h w o)) ∙ append_assoc (record_of.own_types_code t part captured xs' c h w o ++ front) coded.0
+      (on.Proceed ∷ [])
       ∙ append_assoc (record_of.own_types_code t part captured xs' c h w o) front (coded.0 ++ on.Proceed ∷ []))
       ∙ none_named (record_of.own_types_code t part captured xs' c h w o) (front ++ (coded.0 ++ on.Proceed ∷ [])) (types_name (is_none part.within) w.begun.types t.type_vars)
       ∙ none_named front (coded.0 ++ on.Proceed ∷ []) none ∙ names_both coded.0 (on.Proceed ∷ []) ∙ append-nil (names_in coded.0) in

@@ -145,7 +145,7 @@ module _ (P : Around → (records levels : List ℕ) → Clauses → Type 0) (K 
     goal_none a n n' k k' q q' Cut is (x, y, z, e) = ap tynews e
     goal_none a n n' k k' q q' (Either gs hs) is (m, l, o, nl, mr, ls, rs, x, y, el, er, e) =
         ap tynews e ∙ more_none (on.Either nl) (ls ++ on.Jump mr ∷ rs) refl (none_both ls (on.Jump mr ∷ rs) (goals_none a n m k l q o gs ls x)
-            (more_none (on.Jump mr) rs refl (goals_none a m n' l k' o q' hs rs y)))
+        (more_none (on.Jump mr) rs refl (goals_none a m n' l k' o q' hs rs y)))
     goal_none a n n' k k' q q' (Exists T gs) is (m, r, ts, js, x, short, y, e) =
         ap tynews e ∙ none_both ts (on.Sigma k r ∷ [] ++ js) (ap tynews x.code_is ∙ no_tynews x.put.more x.put.plain.no_types)
         (more_none (on.Sigma k r) js refl (goals_none (pushed a (quantified k T)) m n' (k + 1) k' q q' gs js y))
@@ -192,11 +192,11 @@ module _ (P : Around → (records levels : List ℕ) → Clauses → Type 0) (K 
         (one q q' (on.Sigma k r) js refl (goals_named (pushed a (quantified k T)) m n' (k + 1) k' q q' gs js y)))
     goal_names a n n' k k' q q' (Forall T gs) is (m, r, ts, js, x, short, y, e) =
         as_code q q' is (ts ++ (on.All k r ∷ [] ++ (js ++ on.EndAll ∷ []))) e (two q q q' ts (on.All k r ∷ (js ++ on.EndAll ∷ []))
-            (nothing q q ts refl (ap names_in x.code_is ∙ no_names_in x.put.more x.put.plain.no_types))
+        (nothing q q ts refl (ap names_in x.code_is ∙ no_names_in x.put.more x.put.plain.no_types))
         (one q q' (on.All k r) (js ++ on.EndAll ∷ []) refl (end q q' js on.EndAll refl (goals_named (pushed a (quantified k T)) m n' (k + 1) k' q q' gs js y))))
     goal_names a n n' k k' q q' (Assume w cs gs) is (ns, ts, rs, ls, js, coded, captured, types, names, x, e) =
         as_code q q' is (on.Assume ns ts rs ∷ [] ++ (js ++ on.EndAssume ∷ [])) e (two q (q + length ns.items) q' (on.Assume ns ts rs ∷ [])
-            (js ++ on.EndAssume ∷ []) (length ns.items, append-nil ns.items ∙ names, refl)
+        (js ++ on.EndAssume ∷ []) (length ns.items, append-nil ns.items ∙ names, refl)
         (end (q + length ns.items) q' js on.EndAssume refl (goals_named a n n' k k' (q + length ns.items) q' gs js x)))
     goal_names a n n' k k' q q' (Not w gs) is (js, x, e) =
         as_code q q' is (on.Not ∷ [] ++ (js ++ on.EndNot ∷ [])) e (one q q' on.Not (js ++ on.EndNot ∷ []) refl (end q q' js on.EndNot refl (goals_named a n n' k k' q q' gs js x)))

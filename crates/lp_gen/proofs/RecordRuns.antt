@@ -90,7 +90,7 @@ head_ran h later K vars next σ Γ B a a2 Q s e e2 None None (code, types, regis
   state = s;
   does = subst (λ k. Does h later vars e.types k e.registers e2.registers s [] s.goals s.head_types s.head_arguments s) (sym types)
       (subst (λ k. Does h later vars e.types e.types e.registers k s [] s.goals s.head_types s.head_arguments s) (sym registers)
-          (nothing_does h later vars e.types e.registers s m.types_stand m.terms_stand));
+      (nothing_does h later vars e.types e.registers s m.types_stand m.terms_stand));
   stands = subst (λ c. Standing h vars e2.registers s.in_body σ c s.now.terms) (sym same)
       (subst (λ k. Standing h vars k s.in_body σ a s.now.terms) (sym registers) (subst (λ z. Standing h vars e.registers z σ a s.now.terms) (sym m.before) m.standing));
   same = subst (SameAround a) (sym same) (around_same a);
@@ -102,7 +102,7 @@ head_ran h later K vars next σ Γ B a a2 Q s e e2 None (Some t) x m fits self f
 head_ran h later K vars next σ Γ B a a2 Q s e e2 (Some p) None x m fits self few low = absurd x
 head_ran h later K vars next σ Γ B a a2 Q s e e2 (Some p) (Some t) x m fits self few low =
     let w = x.denotes h later vars s σ Γ m.std m.asked m.types_stand m.terms_stand few low m.before m.no_types m.no_arguments self
-        (subst (λ z. Standing h vars e.registers z σ a s.now.terms) (sym m.before) m.standing)
+    (subst (λ z. Standing h vars e.registers z σ a s.now.terms) (sym m.before) m.standing)
     fits.0 fits.1 m.own (λ l v f le set. absurd (true≢false (sym set ∙ m.unmade l v f le))) (ap (list_any (is_passed (s.place + sum_by length_of x.more))) m.closed) in
     record { state = w.0; does = w.1; stands = w.2; same = w.3; is = (w.4, w.6); fine = w.5; predicate = fits.1 }
 
@@ -133,7 +133,7 @@ own_all_set old new a b x short start l v e = go (nat_le b.base l) refl
     go false q =
         let low : l < a.base = (let z = leb-false b.base l q in let y = x.some.base in omega (arith, z, y)) in
         start l v low (ap (λ t. if t then slice_get a.own (l - a.base) else a.captured l) (lt-leb a.base l low) ∙ sym (x.some.captured l) ∙ sym
-            (ap (λ t. if t then slice_get b.own (l - b.base) else b.captured l) q) ∙ e)
+        (ap (λ t. if t then slice_get b.own (l - b.base) else b.captured l) q) ∙ e)
 
 neck_same : (h : Home) (s t : State) → t.head_types ≡ s.head_types → t.head_arguments ≡ s.head_arguments → head_built h t ≡ head_built h s →
     breaks_head h s on.Neck ≡ false → breaks_head h t on.Neck ≡ false
@@ -182,7 +182,7 @@ front_code h xs ys zs rest = append_assoc xs (ys ++ zs) rest ∙ ap (λ l. xs ++
 pub front_ran : (h : Home) (later : Later) (K : ℕ → List Ty → Ty) (vars next : ℕ) (σ : ℕ → Term) (Γ : List Ty) (B : List Bool) (a a2 a3 : Around)
     (Q : ℕ → Type 0) (s : State) (e e2 e3 e4 : Emitter) (p : Option RecordHead)
     (o : Option Term) → (x : HeadWritten K e e2 a a2 p o) → (y : OwnMade e2 e3 a2 a3) → (z : NeckPut e3 e4) → MayRun h K vars e.types e.registers next
-        σ Γ B a Q s → HeadFits h vars e.registers Γ a s o → h.self.head ≡ p →
+    σ Γ B a Q s → HeadFits h vars e.registers Γ a s o → h.self.head ≡ p →
     e4.types ≤ h.self.types → e4.registers ≤ h.self.registers →
     FrontRan h later K vars e4.types e4.registers next σ Γ B a a3 Q s ((head_more K e e2 a a2 p o x).more ++ (y.some.made.more ++ z.more)) o
 front_ran h later K vars next σ Γ B a a2 a3 Q s e e2 e3 e4 p o x y z m fits self few low =
@@ -258,7 +258,7 @@ pub record_ran : (P : Around → (records levels : List ℕ) → Clauses → Typ
     (σ : ℕ → Term) (Γ : List Ty) (B : List Bool) (a b : Around) (Q : ℕ → Type 0)
     (types types' terms terms' : ℕ) (s : State) (front is : List Instr) (o : Option Term) (gs : Goals) → FrontRan h later K vars types terms next σ Γ B a b Q s front o →
     GoalsCode P K vars b types types' terms terms' next next' (plain_goals gs) is →
-        ((c : Around) (ns ls : List ℕ) (cs : Clauses) → P c ns ls cs → AreLater h vars (length ls) ns) → TellClauses h later vars P →
+    ((c : Around) (ns ls : List ℕ) (cs : Clauses) → P c ns ls cs → AreLater h vars (length ls) ns) → TellClauses h later vars P →
     slice_get h.records h.number ≡ Some h.self → IsInside h is → GoalsFit h vars Γ B Q gs → types' ≤ h.self.types → terms' ≤ h.self.registers → goals_depth gs ≤ nesting_limit →
     RecordRan h later σ a s (front ++ (is ++ on.Proceed ∷ [])) o gs
 record_ran P h later K vars next next' σ Γ B a b Q types types' terms terms' s front is o gs f code records told self inside fit few low nest =

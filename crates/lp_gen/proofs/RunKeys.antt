@@ -132,8 +132,8 @@ fine_step h s i is e = go (nat_eq s.place 0) refl
     go : (t : Bool) → nat_eq s.place 0 ≡ t → Fine (broken_by h s is i)
     go true q =
         let f = all_fine (λ r. broken_by_record h s r || broken_by h s is i r) (sym
-            (ap (λ t. if t then first_broken (λ r. broken_by_record h s r || broken_by h s is i r) rules else first_broken (broken_by h s is i) rules)
-            q) ∙ e) in
+        (ap (λ t. if t then first_broken (λ r. broken_by_record h s r || broken_by h s is i r) rules else first_broken (broken_by h s is i) rules)
+        q) ∙ e) in
         record {
           unset = or_right (broken_by_record h s rule.Unset) (broken_by h s is i rule.Unset) f.unset;
           order = or_right (broken_by_record h s rule.Order) (broken_by h s is i rule.Order) f.order;
@@ -282,7 +282,7 @@ module _ (h : Home) (later : Later) (u : State) (before : u.in_body ≡ false) (
   abbrev Law : List Instr → Type 0
   Law is =
       (place : ℕ) (now : Registers) (ts us : List ℕ) (Ts : List Ty) (gs : Goals) (hs : List (ℕ × Captured)) (keys : ℕ → Option Atom) → KeysAre keys
-          now.terms → run h later (before_neck place now ts us Ts gs hs) is ≡ Done u →
+      now.terms → run h later (before_neck place now ts us Ts gs hs) is ≡ Done u →
       first_key keys (is ++ on.Neck ∷ rest) ≡ arguments_key u.head_arguments
 
   law_on : (i : Instr) (is : List Instr) → Law is → Law (i ∷ is)
@@ -327,7 +327,7 @@ module _ (h : Home) (later : Later) (u : State) (before : u.in_body ≡ false) (
       let same = some_state _ x.next x.is_next in
       let set = or_left (is_none (held now.terms f)) (list_any (λ r. is_none (held now.terms r)) vs.items) x.fine.unset in
       let key : keys f ≡ key_in (apply (term_in now f).term (plain_terms (terms_in now vs.items))) = key_at keys now f are set ∙ ap head_key
-          (sym (head_apply (term_in now f).term (plain_terms (terms_in now vs.items)))) in
+      (sym (head_apply (term_in now f).term (plain_terms (terms_in now vs.items)))) in
       go _ _ _ _ _ _ _ (with_key d (keys f) keys) (keys_set keys now.terms d (keys f) _ are key) (subst (λ z. run h later z is ≡ Done u) (sym same) x.runs)
   law_on (on.GetType j t) is go place now ts us Ts gs hs keys are e =
       let x = stepped h later (before_neck place now ts us Ts gs hs) u (on.GetType j t) is e in

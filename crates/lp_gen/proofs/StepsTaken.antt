@@ -155,8 +155,24 @@ module _ (P : Around → (records levels : List ℕ) → Clauses → Type 0) (K 
         record { around = a; types = m; terms = l; next = o; front = front; last = last; opens = x; goals_are = d; code_is = e; left = f }
     sigmas_end (block in_denial b ∷ bs) gs a c m n l k o q code front last ms x d e f =
         record { around = a; types = m; terms = l; next = o; front = front; last = last; opens = x; goals_are = d; code_is = e; left = f }
-    sigmas_end (block (in_some T) hs ∷ bs) gs a c m n l k o q code front last ms (b, n1, k1, q1, n2, k2, q2, first, js, is, outer, below, before,
-        none, (ea, short, el, eo, r, ts, kind, eis, ems), efront) d e f =
+    sigmas_end (block (in_some T) hs ∷ bs) gs a c m n l k o q code front last ms (
+      b,
+      n1,
+      k1,
+      q1,
+      n2,
+      k2,
+      q2,
+      first,
+      js,
+      is,
+      outer,
+      below,
+      before,
+      none,
+      (ea, short, el, eo, r, ts, kind, eis, ems),
+      efront,
+    ) d e f =
         let inside = goals_as a (pushed b (quantified k2 T)) m m n n l (k2 + 1) k k o q2 q q gs last ea refl refl el refl eo refl d in
         sigmas_end bs (with_goal hs (Exists T gs)) b c n1 n k1 k q1 q code first (js ++ (ts ++ (on.Sigma k2 r ∷ [] ++ last))) ms (subst (Opens P K v z bs b n1 k1 q1 first) (sym ems) below)
         (goals_more b n1 n2 n k1 k2 k q1 q2 q hs js (Exists T gs) (ts ++ (on.Sigma k2 r ∷ [] ++ last)) before none (m, r, ts, last, kind, short, inside, refl))

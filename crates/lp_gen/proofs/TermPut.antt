@@ -341,7 +341,7 @@ last_put old mid new i rs Ts asks built x p known does = record {
       let wide : HasRoom w.0 (w.0.place + length_of i) = room_less (w.0.place + length_of i) (w.0.place + sum_by length_of (i ∷ [])) w.0.frames (omega (arith, one)) all in
       let here : HasRoom w.0 w.0.place = room_less w.0.place (w.0.place + length_of i) w.0.frames (omega arith) wide in
       let front : Moves h later vars old.types mid.types mid.registers mid.registers s.now.terms s x.more w.0 = subst
-          (λ k. Moves h later vars old.types mid.types k k s.now.terms s x.more w.0) (sym stay)
+      (λ k. Moves h later vars old.types mid.types k k s.now.terms s x.more w.0) (sym stay)
       (moved h later vars old.types mid.types old.registers s w.0 x.more w.1 te) in
       let v = does h later vars w.0 w.1.stands front.terms_stand (omega (arith, few, registers)) w.2 (subst (λ xs. asks h vars xs) (sym w.1.same.terms) k) wide here in
       let both = then_moves h later vars old.types mid.types mid.types mid.registers mid.registers (mid.registers + 1) s.now.terms w.0.now.terms s.now.terms s w.0 v.0 x.more (i ∷ []) front v.1
@@ -349,7 +349,7 @@ last_put old mid new i rs Ts asks built x p known does = record {
         v.0,
         subst (λ k. Moves h later vars old.types new.types k new.registers s.now.terms s (x.more ++ i ∷ []) v.0) stay (subst (λ n. Moves h later vars old.types n mid.registers
             new.registers s.now.terms s (x.more ++ i ∷ []) v.0) (sym types) (subst (λ n. Moves h later vars old.types mid.types mid.registers n
-                s.now.terms s (x.more ++ i ∷ []) v.0) (sym registers) both)),
+            s.now.terms s (x.more ++ i ∷ []) v.0) (sym registers) both)),
         subst
             (λ xs. HoldTerm v.0 mid.registers (built h xs)) w.1.same.terms v.2,
         omega (arith, registers),
@@ -362,8 +362,13 @@ pub constant_put : (old mid then_ new : Emitter) (c d : ℕ) (v : Vec ℕ Global
 constant_put old mid then_ new c d v Ts x r a b e f g j =
     subst (λ d. ConstantPut old new d c Ts) (sym r) (last_put old mid new (on.PutConst mid.registers c v) v.items Ts (λ h vars xs. IsKnownConstant h vars c Ts)
     (λ h xs. constant_of h.tables c Ts) x
-    (record { code = f ∙ ap (λ l. l ++ on.PutConst d c v ∷ []) a ∙ ap (λ d. mid.code.items ++ on.PutConst d c v ∷ []) r; types = g ∙ b; registers = j
-        ∙ e; plain = record { no_own = refl; no_types = refl } }) (λ h vars xs k. k.known)
+    (record {
+      code = f ∙ ap (λ l. l ++ on.PutConst d c v ∷ []) a ∙ ap (λ d. mid.code.items ++ on.PutConst d c v ∷ []) r;
+      types = g ∙ b;
+      registers = j
+          ∙ e;
+      plain = record { no_own = refl; no_types = refl };
+    }) (λ h vars xs k. k.known)
     (λ h later vars s st te low held k wide here. put_moves h later vars mid.types s (on.PutConst mid.registers c v) mid.registers (constant_of h.tables c Ts) (ap (λ us. Some
     (put_term s mid.registers (constant_of h.tables c us))) (types_held s v.items Ts held).0) refl refl (omega arith) st te low wide
     (const_fine h vars mid.types s mid.registers c v Ts st te low held k here)))

@@ -230,7 +230,7 @@ argument_then K old mid new a b c rs after r F G ts t x p left e = record {
         seen = all_seen a b Γ 0 t w.5 good.seen;
       } in
       let sides : SameSides (from_of G) parts.1 = (subst (λ H. Asks H (arrow parts.1 R)) (sym left)
-          (subst (Asks (left_by F (length ts))) parts.3 (asks_left h vars Γ a F A ts parts.0 parts.2 asks))).0 in
+      (subst (Asks (left_by F (length ts))) parts.3 (asks_left h vars Γ a F A ts parts.0 parts.2 asks))).0 in
       let v = p.denotes h later vars w.0 σ Γ parts.1 asked w.1.types_stand w.1.terms_stand low few here moved sides
       (room_goes h later vars old.types mid.types old.registers mid.registers s w.0 (x.more ++ p.more) x.more p.more w.1 refl room) in
       let f = with_variables σ a 0 in

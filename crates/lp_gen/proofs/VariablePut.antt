@@ -129,7 +129,7 @@ new_then b old mid kind new os made r t of x q code same_types same_registers = 
       let last = then_moves h later vars old.types kind.types kind.types old.registers mid.registers mid.registers z.registers (slice_set v.0.now.terms r (Some new_var))
       (made_variable h r T z.registers) s v.0 u.0 front one both u.1 (omega (arith, i, x.types_grow)) x.terms_grow
       (set_agrees old.registers r new_var v.0.now.terms z.registers both.terms_kept
-          (many_within v.0.now.terms h.self.registers r both.terms_stand.as_many low_r) (omega (arith, low_r, many, enough))) in
+      (many_within v.0.now.terms h.self.registers r both.terms_stand.as_many low_r) (omega (arith, low_r, many, enough))) in
       let is = built_more b h os (on.New r of) start in
       let stands : StandIn u.0.now.terms made z.made = stand_past mid.registers w.0.now.terms u.0.now.terms made z.made (λ k c l e. u.1.terms_kept k l
       ∙ held_elsewhere v.0.now.terms r k (Some new_var) (λ same. no_some c (sym (kinds.terms_kept k l ∙ e) ∙ ap (held v.0.now.terms) same ∙ none))

@@ -23,5 +23,5 @@ DenotesClauses b ds cs rs =
 abbrev pub DenotesQuery : Nodes → List Declared → program.Typed → List code_goal.Goal → List Record → Type 0
 DenotesQuery b ds q gs rs =
     (κ : ℕ → Option ℕ) → AreKnownSchemes (tables_of b ds κ) → IsQuery (tables_of b ds κ) q.type_vars
-        (reverse (map (λ v. type_tree b v.1.0) q.vars.items)) (goals_of b gs) → goals_count (goals_of b gs) ≤ 65534 →
+    (reverse (map (λ v. type_tree b v.1.0) q.vars.items)) (goals_of b gs) → goals_count (goals_of b gs) ≤ 65534 →
     denote_query (tables_of b ds κ) rs ≡ Some (record { type_vars = q.type_vars; vars = map (λ v. type_tree b v.1.0) q.vars.items; body = goals_of b gs })

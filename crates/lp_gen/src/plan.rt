@@ -212,11 +212,7 @@ pub(crate) fn with_more(level: u64, more: u64) -> Result<u64, GenRefusal>
 
 impl<'a> Plan<'a> {
     /// The records of a clause or query.
-    pub(crate) fn of(
-        alloc: Global,
-        bank: &Bank,
-        origin: Origin<'a>,
-    ) -> Result<Plan<'a>, GenRefusal>
+    pub(crate) fn of(alloc: Global, bank: &Bank, origin: Origin<'a>) -> Result<Plan<'a>, GenRefusal>
         ensures planned { IfOk result (λ plan. ArePlanned origin.entry plan.due.items plan.parts.items plan.assumptions.items) }
         ensures captured { IfOk result (λ plan. AllCaptured bank.now plan.assumptions.items) }
         ensures few { IfOk result (λ plan. length plan.parts.items ≤ 65536) }
@@ -271,12 +267,7 @@ impl<'a> Plan<'a> {
         Ok(walk.steps)
     }
 
-    fn step(
-        &mut self,
-        bank: &Bank,
-        walk: &mut Walk<'a>,
-        task: Task<'a>,
-    ) -> Result<(), GenRefusal>
+    fn step(&mut self, bank: &Bank, walk: &mut Walk<'a>, task: Task<'a>) -> Result<(), GenRefusal>
         ensures work { OnOk result (goal_work walk.new.tasks.items + 1 ≤ goal_work walk.old.tasks.items + goal_task task.entry) }
         ensures kept { OnOk result (WalkKept self.old.due.items self.new.due.items self.old.assumptions.items self.new.assumptions.items walk.old.level walk.new.level walk.old.steps.items walk.new.steps.items (todo_of task.entry ∷ todos walk.old.tasks.items) (todos walk.new.tasks.items)) }
         ensures captured { OnOk result (AllCaptured bank.now self.old.assumptions.items → AllCaptured bank.now self.new.assumptions.items) }
@@ -303,12 +294,7 @@ impl<'a> Plan<'a> {
         }
     }
 
-    fn goal(
-        &mut self,
-        bank: &Bank,
-        walk: &mut Walk<'a>,
-        goal: &'a Goal,
-    ) -> Result<(), GenRefusal>
+    fn goal(&mut self, bank: &Bank, walk: &mut Walk<'a>, goal: &'a Goal) -> Result<(), GenRefusal>
         ensures work { OnOk result (goal_work walk.new.tasks.items ≤ goal_work walk.old.tasks.items + goal_weighs goal.now) }
         ensures kept { OnOk result (WalkKept self.old.due.items self.new.due.items self.old.assumptions.items self.new.assumptions.items walk.old.level walk.new.level walk.old.steps.items walk.new.steps.items (due_goals (goal.now ∷ []) ∷ todos walk.old.tasks.items) (todos walk.new.tasks.items)) }
         ensures captured { OnOk result (AllCaptured bank.now self.old.assumptions.items → AllCaptured bank.now self.new.assumptions.items) }
@@ -348,12 +334,7 @@ impl<'a> Plan<'a> {
     }
 
     // An assumption of these clauses. Their records start with the variables around it that stand in them.
-    fn assume(
-        &mut self,
-        bank: &Bank,
-        clauses: &'a [Clause],
-        base: u64,
-    ) -> Result<usize, GenRefusal>
+    fn assume(&mut self, bank: &Bank, clauses: &'a [Clause], base: u64) -> Result<usize, GenRefusal>
         ensures assumed { IfOk result (λ number. IsAssumed self.old.due.items self.new.due.items self.old.assumptions.items self.new.assumptions.items clauses.now base number) }
         ensures captured { IfOk result (λ number. AllCaptured bank.now self.old.assumptions.items → AllCaptured bank.now self.new.assumptions.items) }
         ensures parts { IfOk result (λ number. self.new.parts ≡ self.old.parts) }

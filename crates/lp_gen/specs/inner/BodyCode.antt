@@ -53,7 +53,7 @@ pub record AreStarts (a : Around) (ls : List ℕ) (starts : ℕ → Option Seen)
 abbrev pub AssumedBy : Tables → Suppositions → Around → (records levels : List ℕ) → Clauses → Type 0
 AssumedBy t cl a ns ls cs =
     (n : ℕ) × (x : Assumption) × (slice_get t.assumptions.now n ≡ Some x) × (cs ≡ cl.clauses n) × (ns ≡ records_named t x) ×
-        (ls ≡ levels_found a x.captured.keys) × AreStarts a ls (cl.starts n) (cl.counts n)
+    (ls ≡ levels_found a x.captured.keys) × AreStarts a ls (cl.starts n) (cl.counts n)
 
 -- the variables with which records start, as they are kept
 abbrev pub started_at : {S : Type 0} → Nodes → IndexMap ℕ Variable S → ℕ → Option Seen

@@ -36,7 +36,7 @@ AllWritten t xs ys [] rs = (rs ≡ []) × (ys ≡ xs)
 AllWritten t xs ys (p ∷ ps) [] = ⊥
 AllWritten {S} t xs ys (p ∷ ps) (r ∷ rs) =
     (m : IndexMap ℕ Variable S) × (more : List (IndexMap ℕ Variable S)) × RecordWritten t (constant_function t.bank.now t.constants.now) p m [] more r
-        × IsStartOf xs p.within m × AllWritten t (xs ++ more) ys ps rs
+    × IsStartOf xs p.within m × AllWritten t (xs ++ more) ys ps rs
 
 -- the records of one of them, from number `n` on
 pub record IsGroup (b : Nodes) (ds : List Declared) (n vars : ℕ) (o : Origin) (g : List Record) : Type 0 where

@@ -83,7 +83,7 @@ pub record ArgumentGot (K : ℕ → List Ty → Ty) (old new : Emitter) (a a' : 
   pub denotes : (h : Home) (later : Later) (vars : ℕ) (s : State) (σ : ℕ → Term) (Γ : List Ty) (T : Ty) → IsStandard h.tables.constants → AreAsked h K → TypesStand h vars old.types s →
       TermsStand h old.registers s → new.types ≤ h.self.types → new.registers ≤ h.self.registers → s.in_body ≡ false → length s.head_arguments ≡ i →
       argument_type (head_built h s).type i ≡ Some T → Standing h vars old.registers s.in_body σ a s.now.terms → IsWell h vars Γ a t T → SameSides F T
-          → PredicateStands h.self.head old.registers s → AreOwn h σ a →
+      → PredicateStands h.self.head old.registers s → AreOwn h σ a →
       HaveStood h a s.head_arguments → HasRoom s (s.place + sum_by length_of more) →
       (u : State)
       × Does h later vars old.types new.types old.registers new.registers s more s.goals s.head_types (s.head_arguments ++ whole (with_variables σ a 0 t) T ∷ []) u

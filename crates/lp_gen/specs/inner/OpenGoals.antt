@@ -216,7 +216,7 @@ OpensBy P K v (in_some T) b n k q before a n' k' q' is ms ms' =
     (a ≡ pushed b (quantified k T)) × IsShort (pushed b (quantified k T)) × (k' ≡ k + 1) × (q' ≡ q) × (r : ℕ) × (ts : List Instr) × KindCode n n' r T ts × (is ≡ ts ++ on.Sigma k r ∷ []) × (ms' ≡ ms)
 OpensBy P K v (in_all T) b n k q before a n' k' q' is ms ms' =
     (a ≡ pushed b (quantified k T)) × IsShort (pushed b (quantified k T)) × (k' ≡ k + 1) × (q' ≡ q) × (r : ℕ) × (ts : List Instr) × KindCode n n' r T
-        ts × (is ≡ ts ++ on.All k r ∷ []) × (at : ℕ) × (from : ℕ)
+    ts × (is ≡ ts ++ on.All k r ∷ []) × (at : ℕ) × (from : ℕ)
     × (ms' ≡ mark b at from ∷ ms)
 OpensBy P K v (in_assumption cs) b n k q before a n' k' q' is ms ms' =
     (a ≡ b) × (n' ≡ n) × (k' ≡ k) × (ns : Vec ℕ Global) × (ts : Vec ℕ Global) × (rs : Vec ℕ Global) × (ls : List ℕ) × P b ns.items ls cs × AreRegisters b ls rs.items × (ts.items ≡ from_zero v)
@@ -237,7 +237,7 @@ abbrev pub Opens : (P : Around → (records levels : List ℕ) → Clauses → T
 Opens P K v z [] a n k q front ms = (a ≡ z.around) × (n ≡ z.types) × (k ≡ z.terms) × (q ≡ z.next) × (front ≡ z.code) × (ms ≡ [])
 Opens P K v z (block o gs ∷ bs) a n k q front ms =
     (b : Around) × (n1 : ℕ) × (k1 : ℕ) × (q1 : ℕ) × (n2 : ℕ) × (k2 : ℕ) × (q2 : ℕ) × (first : List Instr) × (js : List Instr) × (is : List Instr) ×
-        (outer : List Mark) × Opens P K v z bs b n1 k1 q1 first outer
+    (outer : List Mark) × Opens P K v z bs b n1 k1 q1 first outer
     × GoalsCode P K v b n1 n2 k1 k2 q1 q2 gs js × AreNoSigma gs × OpensBy P K v o b n2 k2 q2 (first ++ js) a n k q is outer ms × (front ≡ (first ++ js) ++ is)
 
 -- the code so far

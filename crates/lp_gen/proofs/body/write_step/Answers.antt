@@ -32,9 +32,11 @@ returns-in_ok-emit-in-Cut c =
     let env = c.args.environment.now in
     let bs = c.args.blocks.now.items in
     let xs = c.args.starts.now.items in
-    subst (λ s. IsDone t K e c.emit.new.self env env bs bs xs xs s) (sym c.in-Cut.is)
-    ((λ cl. taken t cl K e c.emit.new.self env env bs bs xs on.Cut (λ q. refl) (cut_step (AssumedBy t cl) K e c.emit.new.self (around_of b env) bs
-        c.in_ok-emit-in-Cut.ensures.code c.in_ok-emit-in-Cut.ensures.types c.in_ok-emit-in-Cut.ensures.registers)), starts_stay t xs on.Cut refl)
+    subst (λ s. IsDone t K e c.emit.new.self env env bs bs xs xs s) (sym c.in-Cut.is) (
+      (λ cl. taken t cl K e c.emit.new.self env env bs bs xs on.Cut (λ q. refl) (cut_step (AssumedBy t cl) K e c.emit.new.self (around_of b env) bs
+          c.in_ok-emit-in-Cut.ensures.code c.in_ok-emit-in-Cut.ensures.types c.in_ok-emit-in-Cut.ensures.registers)),
+      starts_stay t xs on.Cut refl,
+    )
 
 pub returns-in_ok-open-in-Either : goal.returns-in_ok-open-in-Either
 returns-in_ok-open-in-Either c =
@@ -45,10 +47,12 @@ returns-in_ok-open-in-Either c =
     let env = c.args.environment.now in
     let bs = c.args.blocks.now.items in
     let xs = c.args.starts.now.items in
-    subst (λ s. IsDone t K e c.open.new.emitter env env bs c.open.new.blocks.items xs xs s) (sym c.in-Either.is)
-    ((λ cl. taken t cl K e c.open.new.emitter env env bs c.open.new.blocks.items xs on.Either (λ q. refl)
-        (either_opens (AssumedBy t cl) b K e c.open.new.emitter env bs c.open.new.blocks.items c.in_ok-open-in-Either.ensures)), starts_stay t xs
-        on.Either refl)
+    subst (λ s. IsDone t K e c.open.new.emitter env env bs c.open.new.blocks.items xs xs s) (sym c.in-Either.is) (
+      (λ cl. taken t cl K e c.open.new.emitter env env bs c.open.new.blocks.items xs on.Either (λ q. refl)
+          (either_opens (AssumedBy t cl) b K e c.open.new.emitter env bs c.open.new.blocks.items c.in_ok-open-in-Either.ensures)),
+      starts_stay t xs
+          on.Either refl,
+    )
 
 pub returns-in_ok-turn-in-Turn : goal.returns-in_ok-turn-in-Turn
 returns-in_ok-turn-in-Turn c =
@@ -71,9 +75,11 @@ returns-in-EndEither c =
     let env = c.args.environment.now in
     let bs = c.args.blocks.now.items in
     let xs = c.args.starts.now.items in
-    subst (λ s. IsDone t K e c.end_either.new.emitter env c.end_either.new.environment bs c.end_either.new.blocks.items xs xs s) (sym c.in-EndEither.is)
-    ((λ cl. taken t cl K e c.end_either.new.emitter env c.end_either.new.environment bs c.end_either.new.blocks.items xs on.EndEither (λ q. refl)
-        (c.end_either.ensures t cl b K)), starts_stay t xs on.EndEither refl)
+    subst (λ s. IsDone t K e c.end_either.new.emitter env c.end_either.new.environment bs c.end_either.new.blocks.items xs xs s) (sym c.in-EndEither.is) (
+      (λ cl. taken t cl K e c.end_either.new.emitter env c.end_either.new.environment bs c.end_either.new.blocks.items xs on.EndEither (λ q. refl)
+          (c.end_either.ensures t cl b K)),
+      starts_stay t xs on.EndEither refl,
+    )
 
 pub returns-in_ok-open_some-in-Some : goal.returns-in_ok-open_some-in-Some
 returns-in_ok-open_some-in-Some c =
@@ -116,10 +122,12 @@ returns-in_ok-end-in-EndAll c =
     let env = c.args.environment.now in
     let bs = c.args.blocks.now.items in
     let xs = c.args.starts.now.items in
-    subst (λ s. IsDone t K e c.end.new.emitter env c.end.new.environment bs c.end.new.blocks.items xs xs s) (sym c.in-EndAll.is)
-    ((λ cl. taken t cl K e c.end.new.emitter env c.end.new.environment bs c.end.new.blocks.items xs on.EndAll (λ q. refl)
-        (all_ends e c.end.new.emitter env c.end.new.environment bs c.end.new.blocks.items c.in_ok-end-in-EndAll.ensures t cl b K)), starts_stay t xs
-        on.EndAll refl)
+    subst (λ s. IsDone t K e c.end.new.emitter env c.end.new.environment bs c.end.new.blocks.items xs xs s) (sym c.in-EndAll.is) (
+      (λ cl. taken t cl K e c.end.new.emitter env c.end.new.environment bs c.end.new.blocks.items xs on.EndAll (λ q. refl)
+          (all_ends e c.end.new.emitter env c.end.new.environment bs c.end.new.blocks.items c.in_ok-end-in-EndAll.ensures t cl b K)),
+      starts_stay t xs
+          on.EndAll refl,
+    )
 
 pub returns-in_ok-open-in-Assume : goal.returns-in_ok-open-in-Assume
 returns-in_ok-open-in-Assume c =
@@ -161,10 +169,12 @@ returns-in_ok-open-in-Not c =
     let env = c.args.environment.now in
     let bs = c.args.blocks.now.items in
     let xs = c.args.starts.now.items in
-    subst (λ s. IsDone t K e c.open-in-Not.new.emitter env env bs c.open-in-Not.new.blocks.items xs xs s) (sym c.in-Not.is)
-    ((λ cl. taken t cl K e c.open-in-Not.new.emitter env env bs c.open-in-Not.new.blocks.items xs on.Not (λ q. refl)
-        (not_opens (AssumedBy t cl) b K e c.open-in-Not.new.emitter env bs c.open-in-Not.new.blocks.items c.in_ok-open-in-Not.ensures)), starts_stay t
-        xs on.Not refl)
+    subst (λ s. IsDone t K e c.open-in-Not.new.emitter env env bs c.open-in-Not.new.blocks.items xs xs s) (sym c.in-Not.is) (
+      (λ cl. taken t cl K e c.open-in-Not.new.emitter env env bs c.open-in-Not.new.blocks.items xs on.Not (λ q. refl)
+          (not_opens (AssumedBy t cl) b K e c.open-in-Not.new.emitter env bs c.open-in-Not.new.blocks.items c.in_ok-open-in-Not.ensures)),
+      starts_stay t
+          xs on.Not refl,
+    )
 
 pub returns-in_ok-end-in-EndNot : goal.returns-in_ok-end-in-EndNot
 returns-in_ok-end-in-EndNot c =

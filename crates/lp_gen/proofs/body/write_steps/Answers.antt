@@ -19,7 +19,7 @@ pub loop-step-preserved : goal.loop-step-preserved
 loop-step-preserved c =
     let b = c.args.tables.bank.now in
     step_more c.args.tables (constant_function b c.args.tables.constants.now) c.args.emitter.now c.loop-step.emitter c.write_step.new.emitter
-        c.args.environment.now c.loop-step.environment c.write_step.new.environment
+    c.args.environment.now c.loop-step.environment c.write_step.new.environment
     c.loop-step.blocks.items c.write_step.new.blocks.items c.args.starts.now.items c.loop-step.starts.items c.write_step.new.starts.items c.loop-step.yielded c.in-Some.step c.loop-step.invariant
     c.in_ok-write_step.ensures.0 c.in_ok-write_step.ensures.1
 

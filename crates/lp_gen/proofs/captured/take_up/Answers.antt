@@ -6,7 +6,7 @@ use Rattle.lp_gen.proofs.captured.take_up.Goals as goal
 pub returns-in_ok-visit_clause-in-Clauses-clause-marks : goal.returns-in_ok-visit_clause-in-Clauses-clause-marks
 returns-in_ok-visit_clause-in-Clauses-clause-marks c =
     clauses_some c.args.bank.now c.args.base c.args.levels.now.keys c.args.levels.now.keys c.args.work.now.items c.visit_clause.new.work.items c.args.place c.in-Clauses.clauses
-        c.in-Some.rest c.in-Some.first.now
+    c.in-Some.rest c.in-Some.first.now
     c.in-Clauses.depth c.push.new.self.items c.in-Clauses.is c.in-Some.ensures.cases.0 c.in_ok-push-in-Clauses.ensures.items c.in_ok-visit_clause-in-Clauses.ensures.marks
 
 pub returns-in_ok-visit_term-in-Term-clause-marks : goal.returns-in_ok-visit_term-in-Term-clause-marks
@@ -23,6 +23,6 @@ returns-in_ok-visit_goal-in-Goals-clause-marks c =
 pub returns-in_ok-push-in-Terms-2-clause-marks : goal.returns-in_ok-push-in-Terms-2-clause-marks
 returns-in_ok-push-in-Terms-2-clause-marks c =
     terms_some c.args.bank.now c.args.base c.args.levels.now.keys c.args.levels.now.keys c.args.work.now.items c.push-in-Terms-2.new.self.items c.args.place c.in-Terms.terms
-        c.in-Some-split_first-2.rest
+    c.in-Some-split_first-2.rest
     c.in-Some-split_first-2.first.now c.in-Terms.depth c.push-in-Terms.new.self.items c.in-Terms.is c.in-Some-split_first-2.ensures.cases.0 c.in_ok-push-in-Terms.ensures.items
     c.in_ok-push-in-Terms-2.ensures.items

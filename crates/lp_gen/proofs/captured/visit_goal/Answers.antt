@@ -12,27 +12,27 @@ returns-in-Cut-clause-marks c = λ n ks h. (h, cut_holds c.args.bank.now n ks c.
 pub returns-in_ok-push-in-Either-2-clause-marks : goal.returns-in_ok-push-in-Either-2-clause-marks
 returns-in_ok-push-in-Either-2-clause-marks c = λ n ks h.
     either_holds c.args.bank.now n ks c.args.depth c.args.goal.now c.in-Either.left c.in-Either.right c.as_slice.result c.as_slice-in-Either.result c.args.work.now.items
-        c.push-in-Either.new.self.items
+    c.push-in-Either.new.self.items
     c.push-in-Either-2.new.self.items c.in-Either.is c.as_slice.ensures.value c.as_slice-in-Either.ensures.value c.in_ok-push-in-Either.ensures.items c.in_ok-push-in-Either-2.ensures.items h
 
 pub returns-in_ok-push-in-Some-clause-marks : goal.returns-in_ok-push-in-Some-clause-marks
 returns-in_ok-push-in-Some-clause-marks c = λ n ks h.
     some_holds c.args.bank.now n ks c.args.depth c.in_ok-under-in-Some.under c.args.goal.now c.in-Some.field-0 c.in-Some.goals c.as_slice-in-Some.result c.args.work.now.items
-        c.push-in-Some.new.self.items c.in-Some.is
+    c.push-in-Some.new.self.items c.in-Some.is
     c.as_slice-in-Some.ensures.value c.in_ok-under-in-Some.ensures.sum c.in_ok-push-in-Some.ensures.items h
 
 pub returns-in_ok-push-in-All-clause-marks : goal.returns-in_ok-push-in-All-clause-marks
 returns-in_ok-push-in-All-clause-marks c = λ n ks h.
     all_holds c.args.bank.now n ks c.args.depth c.in_ok-under-in-All.under c.args.goal.now c.in-All.field-0 c.in-All.goals c.as_slice-in-All.result c.args.work.now.items
-        c.push-in-All.new.self.items c.in-All.is
+    c.push-in-All.new.self.items c.in-All.is
     c.as_slice-in-All.ensures.value c.in_ok-under-in-All.ensures.sum c.in_ok-push-in-All.ensures.items h
 
 pub returns-in_ok-push-in-Assume-2-clause-marks : goal.returns-in_ok-push-in-Assume-2-clause-marks
 returns-in_ok-push-in-Assume-2-clause-marks c = λ n ks h.
     assume_holds c.args.bank.now n ks c.args.depth c.args.goal.now c.in-Assume.clauses c.in-Assume.goals c.as_slice-in-Assume.result c.as_slice-in-Assume-2.result c.args.work.now.items
-        c.push-in-Assume.new.self.items
+    c.push-in-Assume.new.self.items
     c.push-in-Assume-2.new.self.items c.in-Assume.is c.as_slice-in-Assume.ensures.value c.as_slice-in-Assume-2.ensures.value c.in_ok-push-in-Assume.ensures.items
-        c.in_ok-push-in-Assume-2.ensures.items h
+    c.in_ok-push-in-Assume-2.ensures.items h
 
 pub returns-in_ok-push-in-Not-clause-marks : goal.returns-in_ok-push-in-Not-clause-marks
 returns-in_ok-push-in-Not-clause-marks c = λ n ks h.

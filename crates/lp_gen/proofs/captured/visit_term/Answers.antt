@@ -25,11 +25,11 @@ returns-in_ok-push-in-App-2-clause-marks c =
 pub returns-in_ok-push-in-App-2-clause-less : goal.returns-in_ok-push-in-App-2-clause-less
 returns-in_ok-push-in-App-2-clause-less c =
     marks_application c.args.bank.now c.args.work.now.items c.push-in-App.new.self.items c.push-in-App-2.new.self.items c.in-App.head c.args.term c.in-App.args c.args.depth
-        c.in_ok-push-in-App.ensures.items
+    c.in_ok-push-in-App.ensures.items
     c.in_ok-push-in-App-2.ensures.items c.in-App.ensures.tree c.in-App.ensures.older.2
 
 pub returns-in_default-clause-marks : goal.returns-in_default-clause-marks
 returns-in_default-clause-marks c =
     other_form c.args.bank.now c.args.base c.args.levels.now.keys c.args.levels.now.keys c.args.work.now.items c.args.work.now.items c.args.term c.args.depth c.term_node.result
-        c.in_default.not-Index c.in_default.not-Abs
+    c.in_default.not-Index c.in_default.not-Abs
     c.in_default.not-App c.term_node.ensures.tree

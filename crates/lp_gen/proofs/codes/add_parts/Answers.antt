@@ -22,7 +22,7 @@ loop-at-preserved c =
         part_written c.args.tables ps c.loop-at.at c.loop-at.starts.items c.append.new.self.items c.record_of.new.starts.items c.new-more.result.items
             c.as_slice.result.now i.0 c.index-parts-at.result r
             c.start_of-captured.result.now i.2 (slice_get_read ps (length ps) c.loop-at.at c.index-parts-at.result refl
-                (omega (arith, c.loop-at-test.true)) c.index-parts-at.is) c.new-more.ensures.items
+            (omega (arith, c.loop-at-test.true)) c.index-parts-at.is) c.new-more.ensures.items
             c.in_ok-record.ensures.written c.as_slice.ensures.value (c.start_of-captured.ensures c.new-none.ensures.empty) c.in_ok-append.ensures.items,
       ),
     )

@@ -24,5 +24,5 @@ pub returns-in_default : goal.returns-in_default
 returns-in_default c =
     let b = c.args.bank.now in
     other_key b (length b.types) c.head_of.result.0 c.term_node.result (tree b c.args.argument.0) (tree b c.head_of.result.0) c.in_default.not-Const
-        c.in_default.not-Int c.in_default.not-Text c.term_node.ensures.older
+    c.in_default.not-Int c.in_default.not-Text c.term_node.ensures.older
     c.term_node.ensures.tree c.head_of.ensures.tree

@@ -17,5 +17,5 @@ returns c =
     let b = c.args.bank.now in
     let s = c.in_ok-spine.spine in
     first_some c.in_ok-key.key (tree b c.args.head.0) (tree b s.head.0) (tree b c.in-Some.first.now.0) (map (λ t. tree b t.0) s.args.items)
-        (map (λ t. tree b t.0) c.in-Some.field-0-1.now) c.in_ok-spine.ensures.head
+    (map (λ t. tree b t.0) c.in-Some.field-0-1.now) c.in_ok-spine.ensures.head
     c.in_ok-spine.ensures.tree (ap (map (λ t. tree b t.0)) (sym c.as_slice.ensures.value ∙ c.in-Some.ensures.cases.0)) c.in_ok-key.ensures

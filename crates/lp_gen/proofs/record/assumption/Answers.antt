@@ -41,7 +41,7 @@ returns-clause-made c = λ b x found few.
     let xs = c.args.tables.assumptions.now in
     let low : c.args.number < length xs = omega (arith, c.if-number-tables.false) in
     let same : c.index-tables-number.result ≡ x = same_assumption c.index-tables-number.result x
-        (sym (slice_get_read xs (length xs) c.args.number c.index-tables-number.result refl low c.index-tables-number.is) ∙ found) in
+    (sym (slice_get_read xs (length xs) c.args.number c.index-tables-number.result refl low c.index-tables-number.is) ∙ found) in
     let a = around_of b c.args.environment.now in
     let read : get_or xs c.args.number c.index-tables-number.result ≡ x = sym c.index-tables-number.is ∙ same in
     let few1 = subst (λ (y : Assumption). c.args.tables.first + y.first + y.count < 4294967296) (sym read) few in

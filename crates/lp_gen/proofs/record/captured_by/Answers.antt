@@ -36,7 +36,7 @@ loop-level-preserved c = (
       let a = around_of b c.args.environment.now in
       let found = registers_length a (levels_found a c.loop-level.yielded) c.loop-level.registers.items (c.loop-level.invariant.0 b) in
       let number : c.in_ok-count_of_registers.field-0 ≡ length (levels_found a c.loop-level.yielded) = omega
-          (arith, c.in_ok-count_of_registers.ensures, c.len.ensures, c.loop-level.registers.ok, found) in
+      (arith, c.in_ok-count_of_registers.ensures, c.len.ensures, c.loop-level.registers.ok, found) in
       starts_push b a c.loop-level.yielded c.in-Some.level c.in_ok-count_of_registers.field-0 c.in-Some-at.variable _ c.loop-level.starts c.insert.new.self distinct (c.loop-level.invariant.1 b none)
       (sym (c.at.ensures b) ∙ ap (option_map (seen b)) c.in-Some-at.is) number c.in_ok-_old.ensures.updates c.in_ok-_old.ensures.old c.in_ok-_old.ensures.len,
 )
@@ -52,5 +52,5 @@ returns-clause-starts c = λ b none.
     let whole : c.loop-level.yielded ≡ c.args.levels.now = sym (map-id c.loop-level.yielded)
     ∙ (YieldsList-end (YieldsList-from_copied (YieldsList-from_slice c.args.levels.now cc)) c.loop-level.yielded _ c.loop-level.yielded_by _ _ c.in-None.is c.next.ensures.steps).0 in
     subst (λ l. IsDistinct nat_eq l → AreStarts (around_of b c.args.environment.now) (levels_found (around_of b c.args.environment.now) l)
-        (started_at b c.loop-level.starts) (index_map_len c.loop-level.starts)) whole
+    (started_at b c.loop-level.starts) (index_map_len c.loop-level.starts)) whole
     (c.loop-level.invariant.1 b none)

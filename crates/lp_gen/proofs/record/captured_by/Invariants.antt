@@ -11,4 +11,4 @@ abbrev pub invariant-loop-level : goal.invariant-loop-level
 invariant-loop-level l =
     ((b : Nodes) → AreRegisters (around_of b l.environment) (levels_found (around_of b l.environment) l.yielded) l.registers.items)
     × ((b : Nodes) → l.fn.starts.entries ≡ [] → IsDistinct nat_eq l.yielded → AreStarts (around_of b l.environment)
-        (levels_found (around_of b l.environment) l.yielded) (started_at b l.starts) (index_map_len l.starts))
+    (levels_found (around_of b l.environment) l.yielded) (started_at b l.starts) (index_map_len l.starts))
