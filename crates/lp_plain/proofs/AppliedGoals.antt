@@ -21,7 +21,7 @@ use Rattle.lp_pattern.proofs.Keeps.{goes_on_same}
 use Rattle.lp_plain.proofs.Frames.{keeps_then, reads_on}
 use Rattle.lp_plain.proofs.Growing.{reads_later}
 
-shifted_back : (t u : Term) → app t u ≡ substitute u (app (shift 0 1 t) (index 0))
+pub shifted_back : (t u : Term) → app t u ≡ substitute u (app (shift 0 1 t) (index 0))
 shifted_back t u = λ i. app (sym (substitute_shift u t) i) (sym (shift-none u) i)
 
 -- by one step where the term is an abstraction, else by none
