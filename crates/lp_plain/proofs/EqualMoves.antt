@@ -1,5 +1,5 @@
 -- A unification in front of the goals behind an atom, as moves of the definition.
-use Rattle.std.proofs.Common.{◌≡◌, ℕ, suc, ◌≤◌, List, [], ◌∷◌, ◌++◌, length, refl, sym, ap, inl, inr, ◌∙◌, subst, Option, None, Some, Bool}
+use Rattle.std.proofs.Common.{◌≡◌, ℕ, suc, ◌<◌, ◌≤◌, List, [], ◌∷◌, ◌++◌, length, refl, sym, ap, inl, inr, ◌∙◌, subst, arith, Option, None, Some, Bool}
 use Rattle.lp_calculus.specs.Fill.{Within}
 use Rattle.lp_model.specs.Branch.{Answer, Branch, Go, Lack, Stop, Task, resume}
 use Rattle.lp_model.specs.Flat.{Clause}
@@ -115,7 +115,7 @@ module _ (qv : Query) (m n : Machine) (a : Around) (raw rest : Branch) (below : 
     }
 
   -- the atom takes a step
-  module _ (s : State Task) (w j : ℕ) (ea : s.answers ≡ suc w) (es : s.steps ≡ suc j) (go : (Answer → Bool) → State Task → Inner) (enough : ℕ) (few : enough ≤ 1000000) (P : List Clause) (name : GoalName) (task : Task) (o : Option Outcome)
+  module _ (s : State Task) (w j : ℕ) (ea : s.answers ≡ suc w) (es : s.steps ≡ suc j) (go : (Answer → Bool) → State Task → Inner) (enough : ℕ) (few : enough < 1000000) (P : List Clause) (name : GoalName) (task : Task) (o : Option Outcome)
       (stack : s.stack ≡ task ∷ below) (seen : look unit_limit enough P (length below) task ≡ Takes name (follow rest o)) where
     abbrev see : ℕ → Task → View Task Answer
     see = look unit_limit enough P
@@ -152,7 +152,7 @@ module _ (qv : Query) (m n : Machine) (a : Around) (raw rest : Branch) (below : 
       by_outcome Unified.Fits (Some Spent) e k = absurd (k Spent refl)
       by_outcome Unified.Fits (Some (Solution st)) e k = let y = k (Solution st) refl in solves st (ap (follow rest) e) y.0 y.1 y.2
       by_outcome Unified.Fails (Some y) e k = fails (ap (follow rest) (e ∙ ap (λ q. Some q) (k y refl)))
-      by_outcome Unified.Deep (Some y) e k = deep (ap (follow rest) (e ∙ ap (λ q. Some q) (k y refl few)))
+      by_outcome Unified.Deep (Some y) e k = deep (ap (follow rest) (e ∙ ap (λ q. Some q) (k y refl (omega (arith, few)))))
 
       pub unified_leads : (u : Unified) → ((y : Outcome) → o ≡ Some y → IsUnifiedAs u h.levels m.branch.next h.closing n enough y) → Leads 1 qv (turn_for u) n go see s
       unified_leads u k = by_outcome u o refl k

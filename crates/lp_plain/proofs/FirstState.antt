@@ -47,7 +47,7 @@ whole_still : (g : Goal) → g ≡ goal_with (closed unbound) (instance unbound.
 whole_still g = sym (goal_stays (λ u. u) (λ u t. closed unbound t) (instance unbound.types) (λ u t. unbound_is t) (instance_same var (λ i. refl)) zero g)
 
 goal_still : (g : Goal) → IsGoalUnder unbound g g
-goal_still (Atomic t) = (t, (0, ap Some (unbound_is t)), refl)
+goal_still (Atomic t) = (t, (0, omega arith, ap Some (unbound_is t)), refl)
 goal_still Cut = refl
 goal_still (Either gs hs) = whole_still (Either gs hs)
 goal_still (Exists T gs) = whole_still (Exists T gs)

@@ -42,7 +42,7 @@ pub body_heads : (z : Closing) (u : Term) → closed z u ≡ u → (t : Term) �
 body_heads z u e (abs b) =
     let q : closed z (substitute u b) ≡ substitute u (body_of (closed z (abs b))) =
     closed_substitute z u b ∙ (λ i. substitute (e i) (body_of (closed z (abs b)))) in
-    (0, ap Some q)
+    (0, omega arith, ap Some q)
 body_heads z u e (index i) = subst (λ x. HeadsTo x (substitute u (body_of (index i)))) (sym (ap (closed z) (sym (shifted_back (index i) u)) ∙ ap (app (index i)) e)) (applied_body (index i) u)
 body_heads z u e (atom a) =
     subst (λ x. HeadsTo x (substitute u (body_of (closed z (atom a))))) (sym (ap (closed z) (atom_body a) ∙ ap (app (closed z (atom a))) e)) (applied_body (closed z (atom a)) u)
@@ -98,9 +98,9 @@ module _ (qv : Query) (lv : ℕ → ℕ) (k : Nodes) (z : Closing) (f : ℕ → 
         one_part lv b c refl refl (omega arith) (record { goals = wide; next = h.next; next_type = h.next_type; types = h.types; values = h.values; pairs = h.pairs; known = h.known })
     form_parts nv q a_cut kn = absurd q
     form_parts nv q (an_and g g') kn =
-        one_part lv _ _ refl refl (omega arith) (branch _ _ (one_here g (closed z g) (0, refl), tight g' (closed z g') (0, refl), h.goals) ((kn.0, ka, kw), (kn.1, ka, kw), h.known.goals))
+        one_part lv _ _ refl refl (omega arith) (branch _ _ (one_here g (closed z g) (0, omega arith, refl), tight g' (closed z g') (0, omega arith, refl), h.goals) ((kn.0, ka, kw), (kn.1, ka, kw), h.known.goals))
     form_parts nv q (an_or g g') kn =
-        two_parts lv _ _ _ _ refl refl refl refl (branch _ _ (one_here g (closed z g) (0, refl), h.goals) ((kn.0, ka, kw), h.known.goals)) (branch _ _ (one_here g' (closed z g') (0, refl), h.goals) ((kn.1, ka, kw), h.known.goals))
+        two_parts lv _ _ _ _ refl refl refl refl (branch _ _ (one_here g (closed z g) (0, omega arith, refl), h.goals) ((kn.0, ka, kw), h.known.goals)) (branch _ _ (one_here g' (closed z g') (0, omega arith, refl), h.goals) ((kn.1, ka, kw), h.known.goals))
     form_parts nv q (an_implies g g') kn = absurd q
     form_parts nv q (a_pi T g) kn =
         let v = atom (eigen (suc e.level)) in

@@ -35,7 +35,7 @@ steps_filled f (suc j) t s e = elim (head_step t) as (λ o. head_step t ≡ o �
 ] refl e
 
 heads_filled : (f : Atom → Term) (t v : Term) → HeadsTo t v → HeadsTo (fill f t) (fill f v)
-heads_filled f t v h = (h.0, steps_filled f h.0 t v h.1)
+heads_filled f t v h = (h.0, h.1, steps_filled f h.0 t v h.2)
 
 heads_bound : (bs : List Binding) (t v : Term) → HeadsTo t v → HeadsTo (put_all bs t) (put_all bs v)
 heads_bound [] t v h = h

@@ -43,7 +43,7 @@ steps_within P d (suc j) t s e w = elim (head_step t) as (λ o. head_step t ≡ 
 ] refl e
 
 pub heads_within : (P : Atom → Type 0) (d : ℕ) (t v : Term) → HeadsTo t v → Within P d t → Within P d v
-heads_within P d t v h w = steps_within P d h.0 t v h.1 w
+heads_within P d t v h w = steps_within P d h.0 t v h.2 w
 
 -- the parts of a connective
 abbrev pub IsKnownForm : (P : Atom → Type 0) → Connective → Type 0

@@ -1,5 +1,5 @@
 -- A try whose clause fits leaves the search in the state of the definition's next task: the clause's goals stand in front, all under the new bindings.
-use Rattle.std.proofs.Common.{◌≡◌, ℕ, zero, suc, ◌+◌, ◌-◌, ◌≤◌, List, [], ◌∷◌, ◌++◌, length, map, refl, sym, ap, inl, inr, ◌∙◌, subst, arith, Bool, Option, None, Some}
+use Rattle.std.proofs.Common.{◌≡◌, ℕ, zero, suc, ◌+◌, ◌-◌, ◌<◌, ◌≤◌, List, [], ◌∷◌, ◌++◌, length, map, refl, sym, ap, inl, inr, ◌∙◌, subst, arith, Bool, Option, None, Some}
 use Rattle.lp_calculus.specs.Fill.{Within}
 use Rattle.lp_calculus.proofs.Fills.{within_more}
 use Rattle.lp_calculus.specs.Types.{instance, var}
@@ -189,7 +189,7 @@ trial_ready qv m a call one mark s h w = candidate_trial m qv.arity h.above.done
 
 -- what a unification in a try comes to, as moves of the definition
 module _ (qv : Query) (m n : Machine) (a : Around) (call : Call) (one : Candidate) (mark : ℕ) (s : State Task) (h : IsAtTry qv m a call one mark s) (g : GrowsByTry m n call) (goal : IsGoalOf m call) (tr : IsTrialFor m one h.tried)
-    (ft : HasFreeTypes n) (w : ℕ) (ea : s.answers ≡ suc w) (go : (Answer → Bool) → State Task → Inner) (enough : ℕ) (few : enough ≤ 1000000) (P : List Clause) where
+    (ft : HasFreeTypes n) (w : ℕ) (ea : s.answers ≡ suc w) (go : (Answer → Bool) → State Task → Inner) (enough : ℕ) (few : enough < 1000000) (P : List Clause) where
   abbrev see : ℕ → Task → View Task Answer
   see = look unit_limit enough P
 
@@ -282,7 +282,7 @@ module _ (qv : Query) (m n : Machine) (a : Around) (call : Call) (one : Candidat
   by_outcome u None e = lacks e (turn_for u)
   by_outcome Unified.Fits (Some o) e = goes e.0 e.2 e.3
   by_outcome Unified.Fails (Some o) e = fails e
-  by_outcome Unified.Deep (Some o) e = deep (e few)
+  by_outcome Unified.Deep (Some o) e = deep (e (omega (arith, few)))
 
   for_branch : IsBranchFor m h.closing h.levels h.rest
   for_branch = record {

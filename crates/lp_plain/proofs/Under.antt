@@ -36,7 +36,7 @@ entries_marked z f g l u a (e ∷ es) (d ∷ ds) h =
 
 -- a goal as it is read
 pub goal_read : (z : Closing) (g : Goal) → IsGoalUnder z g (goal_with (closed z) (instance z.types) g)
-goal_read z (Atomic t) = (closed z t, (0, refl), refl)
+goal_read z (Atomic t) = (closed z t, (0, omega arith, refl), refl)
 goal_read z Cut = refl
 goal_read z (Either gs hs) = refl
 goal_read z (Exists T gs) = refl

@@ -47,7 +47,7 @@ use Rattle.lp_plain.specs.Within.{IsKeyIn}
 abbrev pub mark_in : (base : ℕ) → List (List Task) → (mark : ℕ) → ℕ
 mark_in base tss k = length (stack_of (take (k - base) tss))
 
--- a goal as the bindings read it. A goal that is known at run time may have taken steps of head reduction
+-- a goal as the bindings read it. A goal that is known at run time may have taken a step of head reduction
 abbrev pub IsGoalUnder : Closing → Goal → Goal → Type 0
 IsGoalUnder z (Atomic t) d = (v : Term) × HeadsTo (closed z t) v × (d ≡ Atomic v)
 IsGoalUnder z Cut d = d ≡ Cut
@@ -392,9 +392,9 @@ Leads zero qv turn n go see s = IsMoved qv turn n (move go see s) s ⊎ IsWaitin
 Leads (suc j) qv turn n go see s =
     IsMoved qv turn n (move go see s) s ⊎ (IsWaiting (move go see s) ⊎ ((k : ℕ) × (ns : List Note) × (t : State Task) × (move go see s ≡ Goes k ns t) × (t.answers ≡ s.answers) × (t.given ≡ s.given) × Leads j qv turn n go see t))
 
--- so while answers are wanted, over each program, with at most a million steps for each look
+-- so while answers are wanted, over each program, with fewer than a million steps for each look
 abbrev pub LeadsTo : ℕ → Query → Turn → (new : Machine) → (before : State Task) → Type 0
-LeadsTo j qv turn n s = (k : ℕ) → s.answers ≡ suc k → (go : (Answer → Bool) → State Task → Inner) (enough : ℕ) → enough ≤ 1000000 → (P : List Clause) → Leads j qv turn n go (look unit_limit enough P) s
+LeadsTo j qv turn n s = (k : ℕ) → s.answers ≡ suc k → (go : (Answer → Bool) → State Task → Inner) (enough : ℕ) → enough < 1000000 → (P : List Clause) → Leads j qv turn n go (look unit_limit enough P) s
 
 -- the turn of a unification
 abbrev pub turn_for : Unified → Turn

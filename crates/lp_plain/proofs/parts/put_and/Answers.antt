@@ -1,4 +1,4 @@
-use Rattle.std.proofs.Common.{[], ◌∷◌, ◌++◌, ◌∙◌, refl, ap, Some}
+use Rattle.std.proofs.Common.{[], ◌∷◌, ◌++◌, ◌∙◌, refl, ap, arith, Some}
 use Rattle.lp_term.specs.Nodes.{tree}
 use Rattle.lp_model.specs.Flat.{Atomic}
 use Rattle.lp_plain.specs.Entries.{placed}
@@ -16,8 +16,8 @@ returns-clause-parts c = λ a b r u n height P t g.
       record {
         goals =
             f.reads a (Atomic (tree k c.args.left.0) ∷ []) (placed a c.args.place (Atomic (tree k c.args.right.0) ∷ []) ++ b.goals)
-            (tree k c.args.left.0, (0, ap (λ z. Some (tree z c.args.left.0)) s.goals.known.bank), refl)
-            (s.reads a (Atomic (tree k c.args.right.0) ∷ []) b.goals (tree k c.args.right.0, (0, refl), refl) r.goals);
+            (tree k c.args.left.0, (0, omega arith, ap (λ z. Some (tree z c.args.left.0)) s.goals.known.bank), refl)
+            (s.reads a (Atomic (tree k c.args.right.0) ∷ []) b.goals (tree k c.args.right.0, (0, omega arith, refl), refl) r.goals);
         next = ap (λ z. z.next) (f.course.branch ∙ s.course.branch) ∙ r.next;
         next_type = ap (λ z. z.next_type) (f.course.branch ∙ s.course.branch) ∙ r.next_type;
       },

@@ -1,4 +1,4 @@
-use Rattle.std.proofs.Common.{[], ◌∷◌, refl, ap, Some}
+use Rattle.std.proofs.Common.{[], ◌∷◌, refl, ap, arith, Some}
 use Rattle.lp_term.specs.Nodes.{tree}
 use Rattle.lp_model.specs.Flat.{Atomic}
 use Rattle.lp_plain.proofs.Frames.{reads_on, keeps_then, keeps_same, split}
@@ -31,10 +31,10 @@ returns-clause-parts c = λ a b r u n height P t g.
     c.in_ok-note.ensures.course.choices c.in_ok-one.ensures.course.choices r.next r.next_type
     (c.in_ok-one.ensures.reads a (Atomic (tree m.bank c.args.left.0) ∷ []) b.goals (
       tree m.bank c.args.left.0,
-      (0, ap (λ z. Some (tree z c.args.left.0)) all.known.bank),
+      (0, omega arith, ap (λ z. Some (tree z c.args.left.0)) all.known.bank),
       refl,
     ) (reads_on m three a c.args.behind b.goals all r.goals))
-    (c.in_ok-other.ensures.reads a (Atomic (tree m.bank c.args.right.0) ∷ []) b.goals (tree m.bank c.args.right.0, (0, refl), refl) r.goals)
+    (c.in_ok-other.ensures.reads a (Atomic (tree m.bank c.args.right.0) ∷ []) b.goals (tree m.bank c.args.right.0, (0, omega arith, refl), refl) r.goals)
 
 pub returns-clause-grown : goal.returns-clause-grown
 returns-clause-grown c =
