@@ -1,3 +1,4 @@
 mod Naming
 mod Renamed
 mod Reduced
+mod Looked

@@ -1,3 +1,4 @@
+use Rattle.lp_pattern_laws.proofs.Looked as looked
 use Rattle.lp_pattern_laws.proofs.Reduced.{pattern_head, pattern_leftmost}
 use Rattle.lp_pattern_laws.proofs.terms.patterns_reduce_to_patterns.Goals as goal
 
