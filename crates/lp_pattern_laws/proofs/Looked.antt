@@ -8,19 +8,13 @@ use Rattle.lp_calculus.specs.Convert.{head_step, leftmost_step, option_term}
 use Rattle.lp_calculus.specs.Normal.{contracted, eta_normal, is_absent}
 use Rattle.lp_calculus.specs.Fill.{Within}
 use Rattle.lp_calculus.proofs.Plain.{substitute-subst}
+use Rattle.lp_unify_laws.proofs.Looks.{beta_reduces}
 use Rattle.lp_model.specs.Patterns.{eigens, member}
 use Rattle.lp_model.specs.Eigens.{beta_normal, eigen_of, as_eigen}
 use Rattle.lp_model.specs.Look.{head_normal, as_eigens, are_distinct, are_above, only_if, pattern_of}
 use Rattle.lp_pattern_laws.specs.Patterns.{Name, bound, free, under, IsNewToIndex, IsNewToAtom, IsNewTo, Names, an_index, an_eigen, expanded, IsRigid, rigid_atom, rigid_name, rigid_on, IsPatternTerm, of_index, of_atom, of_abs, rigid, on_name}
 use Rattle.lp_pattern_laws.proofs.Naming.{own_not_new}
-use Rattle.lp_pattern_laws.proofs.Reduced.{names_leftmost, pattern_head}
-
-pub pattern_head_normal : (n : ℕ) (t s : Term) → IsPatternTerm t → head_normal n t ≡ Some s → IsPatternTerm s
-pattern_head_normal zero t s h e = absurd (cc)
-pattern_head_normal (suc n) t s h e = elim (head_step t) as (λ o. head_step t ≡ o → (elim o [ None ↦ Some t | Some r ↦ head_normal n r ]) ≡ Some s → IsPatternTerm s) [
-  | None ↦ λ p q. transport IsPatternTerm (same_Some t s q) h
-  | Some r ↦ λ p q. pattern_head_normal n r s (pattern_head t r h p) q
-] refl e
+use Rattle.lp_pattern_laws.proofs.Reduced.{names_reduce, front_pattern}
 
 -- a name as a term
 abbrev pub name_term : Name → Term
@@ -48,12 +42,15 @@ names_eta (an_index i) e = refl
 names_eta (an_eigen k) e = refl
 names_eta (expanded {n = n} {f = f} {u = u} p q) e = ap contracted (eta_applied u p (no_step abs (leftmost_step (app f u)) e) (names_eta q)) ∙ contracts n
 
-names_normal : (j : ℕ) {n : Name} (t s : Term) → Names n t → beta_normal j t ≡ Some s → eta_normal s ≡ name_term n
-names_normal zero t s h e = absurd (cc)
-names_normal (suc j) {n = n} t s h e = elim (leftmost_step t) as (λ o. leftmost_step t ≡ o → (elim o [ None ↦ Some t | Some r ↦ beta_normal j r ]) ≡ Some s → eta_normal s ≡ name_term n) [
-  | None ↦ λ p q. transport (λ x. eta_normal x ≡ name_term n) (same_Some t s q) (names_eta h p)
-  | Some r ↦ λ p q. names_normal j r s (names_leftmost h r p) q
+normal_end : (j : ℕ) (t s : Term) → beta_normal j t ≡ Some s → leftmost_step s ≡ None
+normal_end zero t s e = absurd (cc)
+normal_end (suc j) t s e = elim (leftmost_step t) as (λ o. leftmost_step t ≡ o → (elim o [ None ↦ Some t | Some r ↦ beta_normal j r ]) ≡ Some s → leftmost_step s ≡ None) [
+  | None ↦ λ p q. transport (λ x. leftmost_step x ≡ None) (same_Some t s q) p
+  | Some r ↦ λ p q. normal_end j r s q
 ] refl e
+
+names_normal : (j : ℕ) {n : Name} (t s : Term) → Names n t → beta_normal j t ≡ Some s → eta_normal s ≡ name_term n
+names_normal j t s h e = names_eta (names_reduce (beta_reduces j t s e) h) (normal_end j t s e)
 
 pub eigen_is : (j k : ℕ) (t : Term) (o : Option ℕ) → Names (free k) t → as_eigen j t ≡ Some o → o ≡ Some k
 eigen_is j k t o h e = elim (beta_normal j t) as (λ x. beta_normal j t ≡ x → option_map (λ s. eigen_of (eta_normal s)) x ≡ Some o → o ≡ Some k) [
@@ -94,10 +91,6 @@ never_rigid (rigid_name (an_index i)) h = h
 never_rigid (rigid_name (an_eigen k)) h = h
 never_rigid (rigid_name (expanded p q)) h = h
 never_rigid (rigid_on r) h = never_rigid r h
-
-pub front_pattern : {t u : Term} → IsPatternTerm (app t u) → IsPatternTerm t
-front_pattern (rigid r p q) = p
-front_pattern (on_name p q new) = p
 
 pub apply_front : (f : Term) (ts : List Term) → IsPatternTerm (apply f ts) → IsPatternTerm f
 apply_front f [] h = h

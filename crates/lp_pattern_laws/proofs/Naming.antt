@@ -9,7 +9,7 @@ abbrev pub renamed : (ℕ → ℕ) → Name → Name
 renamed ρ (bound i) = bound (ρ i)
 renamed ρ (free k) = free k
 
-under_renamed : (ρ : ℕ → ℕ) (n : Name) → renamed (lift ρ) (under n) ≡ under (renamed ρ n)
+pub under_renamed : (ρ : ℕ → ℕ) (n : Name) → renamed (lift ρ) (under n) ≡ under (renamed ρ n)
 under_renamed ρ (bound i) = refl
 under_renamed ρ (free k) = refl
 

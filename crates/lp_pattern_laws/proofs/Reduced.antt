@@ -1,12 +1,13 @@
 -- Pattern terms under reduction.
 use Rattle.std.proofs.Common.{◌≡◌, ℕ, zero, suc, Option, Some, None, refl, sym, ap, ◌∙◌, subst as transport}
 use Rattle.lp_calculus.specs.Term.{Term, index, atom, abs, app, Atom, eigen, substitute}
-use Rattle.lp_calculus.specs.Convert.{head_step, leftmost_step, option_term, or_else}
-use Rattle.lp_calculus.proofs.Sigma.{up, subst, instead}
-use Rattle.std.proofs.lemmas.Option.{same_Some}
+use Rattle.lp_calculus.specs.Convert.{here, in_abs, in_head, in_argument, by_beta, by_eta, ReducesTo, done, then_step}
+use Rattle.lp_calculus.proofs.BetaEta.{shift_one}
+use Rattle.lp_calculus.proofs.Steps.{Step}
+use Rattle.lp_calculus.proofs.Sigma.{lift, rename, up, subst, instead}
 use Rattle.lp_calculus.proofs.Plain.{substitute-subst}
-use Rattle.lp_pattern_laws.specs.Patterns.{Name, bound, free, under, IsNewToIndex, IsNewToAtom, IsNewTo, Names, an_index, an_eigen, expanded, IsRigid, rigid_atom, rigid_name, rigid_on, IsPatternTerm, of_index, of_atom, of_abs, rigid, on_name}
-use Rattle.lp_pattern_laws.proofs.Naming.{new_below_index, new_below_atom, new_first, other_new, at, names_at}
+use Rattle.lp_pattern_laws.specs.Patterns.{Name, bound, free, under, IsNewToIndex, IsNewToAtom, IsNewTo, Names, an_index, an_eigen, expanded, IsRigidAtom, IsRigid, rigid_atom, rigid_name, rigid_on, IsPatternTerm, of_index, of_atom, of_abs, rigid, on_name}
+use Rattle.lp_pattern_laws.proofs.Naming.{renamed, renamed_suc, under_renamed, same_under, under_not, new_below_index, new_below_atom, new_first, other_new, at, names_at}
 use Rattle.lp_pattern_laws.proofs.Renamed.{Sends, image, new_put, Puts, names_pattern, pattern_put, pattern_at}
 
 -- a name for the first index
@@ -74,23 +75,93 @@ module _ (n : Name) (u : Term) (new : IsNewTo n u) where
       go zero k l = new
       go (suc i) k l = new_below_index n i k
 
--- what a step leads to has no name that was new
-pub new_head : (n : Name) (t s : Term) → head_step t ≡ Some s → IsNewTo n t → IsNewTo n s
-new_head n (index i) s e h = absurd (cc)
-new_head n (atom a) s e h = absurd (cc)
-new_head n (abs b) s e h = elim (head_step b) as (λ o. head_step b ≡ o → option_term abs o ≡ Some s → IsNewTo n s) [
-  | None ↦ λ p q. absurd (cc)
-  | Some c ↦ λ p q. transport (IsNewTo n) (same_Some (abs c) s q) (new_head (under n) b c p h)
-] refl e
-new_head n (app (abs b) u) s e h = transport (IsNewTo n) (sym (substitute-subst u b) ∙ same_Some (substitute u b) s e) (stays_new n u h.1 b h.0)
-new_head n (app (index i) u) s e h = absurd (cc)
-new_head n (app (atom a) u) s e h = absurd (cc)
-new_head n (app (app t v) u) s e h = elim (head_step (app t v)) as (λ o. head_step (app t v) ≡ o → option_term (λ x. app x u) o ≡ Some s → IsNewTo n s) [
-  | None ↦ λ p q. absurd (cc)
-  | Some c ↦ λ p q. transport (IsNewTo n) (same_Some (app c u) s q) (new_head n (app t v) c p h.0, h.1)
-] refl e
+-- what a renamed term is, the term was
+from_lift : (ρ : ℕ → ℕ) (n m : Name) → under n ≡ renamed (lift ρ) m → (k : Name) × (m ≡ under k) × (n ≡ renamed ρ k)
+from_lift ρ n (bound zero) e = absurd (under_not n e)
+from_lift ρ n (bound (suc i)) e = (bound i, refl, same_under n (bound (ρ i)) e)
+from_lift ρ n (free j) e = (free j, refl, same_under n (free j) e)
 
--- what is applied has a rigid head where the whole has
+first_lift : (ρ : ℕ → ℕ) (m : Name) → bound 0 ≡ renamed (lift ρ) m → m ≡ bound 0
+first_lift ρ (bound zero) e = refl
+first_lift ρ (bound (suc i)) e = absurd (cc)
+first_lift ρ (free j) e = absurd (cc)
+
+names_unrenamed : {m : Name} {s : Term} → Names m s → (ρ : ℕ → ℕ) (t : Term) → s ≡ rename ρ t → (n : Name) × Names n t × (m ≡ renamed ρ n)
+names_unrenamed (an_index j) ρ (index i) e = let q : j ≡ ρ i = cc in (bound i, an_index i, ap bound q)
+names_unrenamed (an_index j) ρ _ e = absurd (cc)
+names_unrenamed (an_eigen k) ρ (atom a) e = let q : eigen k ≡ a = cc in (free k, transport (λ x. Names (free k) (atom x)) q (an_eigen k), refl)
+names_unrenamed (an_eigen k) ρ _ e = absurd (cc)
+names_unrenamed (expanded {n = n} {f = f} {u = u} p q) ρ (abs (app g v)) e =
+    let e₁ : f ≡ rename (lift ρ) g = cc in
+    let e₂ : u ≡ rename (lift ρ) v = cc in
+    let (m, a, i) = names_unrenamed p (lift ρ) g e₁ in
+    let (l, b, j) = names_unrenamed q (lift ρ) v e₂ in
+    let (k, is, at_k) = from_lift ρ n m i in
+    (k, expanded (transport (λ x. Names x g) is a) (transport (λ x. Names x v) (first_lift ρ l j) b), at_k)
+names_unrenamed (expanded p q) ρ _ e = absurd (cc)
+
+new_unrenamed : (ρ : ℕ → ℕ) (n : Name) (t : Term) → IsNewTo (renamed ρ n) (rename ρ t) → IsNewTo n t
+new_unrenamed ρ (bound j) (index i) h = λ e. h (ap ρ e)
+new_unrenamed ρ (free k) (index i) h = tt
+new_unrenamed ρ (bound j) (atom a) h = tt
+new_unrenamed ρ (free k) (atom a) h = h
+new_unrenamed ρ n (abs b) h = new_unrenamed (lift ρ) (under n) b (transport (λ m. IsNewTo m (rename (lift ρ) b)) (sym (under_renamed ρ n)) h)
+new_unrenamed ρ n (app t u) h = (new_unrenamed ρ n t h.0, new_unrenamed ρ n u h.1)
+
+rigid_unrenamed : {s : Term} → IsRigid s → (ρ : ℕ → ℕ) (t : Term) → s ≡ rename ρ t → IsRigid t
+rigid_unrenamed (rigid_atom a r) ρ (atom b) e = let q : a ≡ b = cc in rigid_atom b (transport IsRigidAtom q r)
+rigid_unrenamed (rigid_atom a r) ρ _ e = absurd (cc)
+rigid_unrenamed (rigid_name p) ρ t e = rigid_name (names_unrenamed p ρ t e).1
+rigid_unrenamed (rigid_on {t = f} r) ρ (app g v) e = let q : f ≡ rename ρ g = cc in rigid_on (rigid_unrenamed r ρ g q)
+rigid_unrenamed (rigid_on r) ρ _ e = absurd (cc)
+
+pattern_unrenamed : {s : Term} → IsPatternTerm s → (ρ : ℕ → ℕ) (t : Term) → s ≡ rename ρ t → IsPatternTerm t
+pattern_unrenamed (of_index j) ρ (index i) e = of_index i
+pattern_unrenamed (of_index j) ρ _ e = absurd (cc)
+pattern_unrenamed (of_atom a) ρ (atom b) e = of_atom b
+pattern_unrenamed (of_atom a) ρ _ e = absurd (cc)
+pattern_unrenamed (of_abs {b = b} p) ρ (abs c) e = let q : b ≡ rename (lift ρ) c = cc in of_abs (pattern_unrenamed p (lift ρ) c q)
+pattern_unrenamed (of_abs p) ρ _ e = absurd (cc)
+pattern_unrenamed (rigid {t = f} {u = x} r p q) ρ (app g v) e =
+    let e₁ : f ≡ rename ρ g = cc in
+    let e₂ : x ≡ rename ρ v = cc in
+    rigid (rigid_unrenamed r ρ g e₁) (pattern_unrenamed p ρ g e₁) (pattern_unrenamed q ρ v e₂)
+pattern_unrenamed (rigid r p q) ρ _ e = absurd (cc)
+pattern_unrenamed (on_name {n = n} {t = f} {u = x} p q new) ρ (app g v) e =
+    let e₁ : f ≡ rename ρ g = cc in
+    let e₂ : x ≡ rename ρ v = cc in
+    let (m, named, is) = names_unrenamed q ρ v e₂ in
+    on_name (pattern_unrenamed p ρ g e₁) named (new_unrenamed ρ m g (transport (λ y. IsNewTo y (rename ρ g)) is (transport (IsNewTo n) e₁ new)))
+pattern_unrenamed (on_name p q new) ρ _ e = absurd (cc)
+
+names_lowered : (m : Name) (t : Term) → Names (under m) (rename suc t) → Names m t
+names_lowered m t p =
+    let (n, named, is) = names_unrenamed p suc t refl in
+    transport (λ x. Names x t) (same_under n m (sym (renamed_suc n) ∙ sym is)) named
+
+-- a step in a name, of what is new, of a rigid head, and in a pattern term
+mutual
+  pub names_step : {t s : Term} → Step t s → {m : Name} → Names m t → Names m s
+  names_step (here (by_beta b u)) p = elim p [ ]
+  names_step (here (by_eta t)) {m = m} (expanded p q) = names_lowered m t (transport (Names (under m)) (shift_one t) p)
+  names_step (in_abs s) {m = m} (expanded p q) = inside_step s m refl p q
+  names_step (in_head u s) p = elim p [ ]
+  names_step (in_argument t s) p = elim p [ ]
+
+  inside_step : {f u c : Term} → Step (app f u) c → (m : Name) → {k : Name} → k ≡ under m → Names k f → Names (bound 0) u → Names m (abs c)
+  inside_step (here (by_beta b u)) m {k = k} e (expanded {f = g} {u = x} p r) q =
+      transport (λ y. Names m (abs y)) (sym (substitute-subst u (app g x)))
+      (expanded (transport (λ n. Names n (subst (instead u) g)) e (names_at (instead u) p k (named_at k u))) (names_at (instead u) r (bound 0) q))
+  inside_step {f = f} (in_head {s = g} u s) m e p q = expanded (transport (λ n. Names n g) e (names_step s p)) q
+  inside_step {f = f} (in_argument t s) m e p q = expanded (transport (λ n. Names n f) e p) (names_step s q)
+
+pub new_step : {t s : Term} → Step t s → (n : Name) → IsNewTo n t → IsNewTo n s
+new_step (here (by_beta b u)) n h = transport (IsNewTo n) (sym (substitute-subst u b)) (stays_new n u h.1 b h.0)
+new_step (here (by_eta t)) n h = new_unrenamed suc n t (transport (λ m. IsNewTo m (rename suc t)) (sym (renamed_suc n)) (transport (IsNewTo (under n)) (shift_one t) h.0))
+new_step (in_abs s) n h = new_step s (under n) h
+new_step (in_head u s) n h = (new_step s n h.0, h.1)
+new_step (in_argument t s) n h = (h.0, new_step s n h.1)
+
 front_rigid : {t u : Term} → IsRigid (app t u) → IsRigid t
 front_rigid (rigid_on r) = r
 front_rigid (rigid_name p) = elim p [ ]
@@ -98,128 +169,36 @@ front_rigid (rigid_name p) = elim p [ ]
 body_pattern : {b : Term} → IsPatternTerm (abs b) → IsPatternTerm b
 body_pattern (of_abs p) = p
 
-rigid_head : (t v c : Term) → head_step (app t v) ≡ Some c → IsRigid (app t v) → IsRigid c
-rigid_head (index i) v c e r = absurd (cc)
-rigid_head (atom a) v c e r = absurd (cc)
-rigid_head (abs b) v c e r = transport IsRigid (sym (substitute-subst v b) ∙ same_Some (substitute v b) c e) (beta_rigid b v (front_rigid r))
-rigid_head (app t u) v c e r = elim (head_step (app t u)) as (λ o. head_step (app t u) ≡ o → option_term (λ x. app x v) o ≡ Some c → IsRigid c) [
-  | None ↦ λ p q. absurd (cc)
-  | Some d ↦ λ p q. transport IsRigid (same_Some (app d v) c q) (rigid_on (rigid_head t u d p (front_rigid r)))
-] refl e
+pub front_pattern : {t u : Term} → IsPatternTerm (app t u) → IsPatternTerm t
+front_pattern (rigid r p q) = p
+front_pattern (on_name p q new) = p
 
--- where what is applied takes a step
+rigid_step : {t s : Term} → Step t s → IsRigid t → IsRigid s
+rigid_step p (rigid_name q) = rigid_name (names_step p q)
+rigid_step (here x) (rigid_atom a r) = elim x [ ]
+rigid_step (here (by_beta b u)) (rigid_on r) = transport IsRigid (sym (substitute-subst u b)) (beta_rigid b u r)
+rigid_step (in_head u s) (rigid_on r) = rigid_on (rigid_step s r)
+rigid_step (in_argument t s) (rigid_on r) = rigid_on r
+
 applied_step : {f c x : Term} → IsPatternTerm (app f x) → (IsPatternTerm f → IsPatternTerm c) → (IsRigid f → IsRigid c) → ((n : Name) → IsNewTo n f → IsNewTo n c) → IsPatternTerm (app c x)
 applied_step (rigid r p q) f g k = rigid (g r) (f p) q
 applied_step (on_name {n = n} p q new) f g k = on_name (f p) q (k n new)
 
-pub pattern_head : (t s : Term) → IsPatternTerm t → head_step t ≡ Some s → IsPatternTerm s
-pattern_head (index i) s h e = absurd (cc)
-pattern_head (atom a) s h e = absurd (cc)
-pattern_head (abs b) s h e = elim (head_step b) as (λ o. head_step b ≡ o → option_term abs o ≡ Some s → IsPatternTerm s) [
-  | None ↦ λ p q. absurd (cc)
-  | Some c ↦ λ p q. transport IsPatternTerm (same_Some (abs c) s q) (of_abs (pattern_head b c (body_pattern h) p))
-] refl e
-pattern_head (app (abs b) u) s h e = transport IsPatternTerm (sym (substitute-subst u b) ∙ same_Some (substitute u b) s e) (beta_pattern b u h)
-pattern_head (app (index i) u) s h e = absurd (cc)
-pattern_head (app (atom a) u) s h e = absurd (cc)
-pattern_head (app (app t v) u) s h e = elim (head_step (app t v)) as (λ o. head_step (app t v) ≡ o → option_term (λ x. app x u) o ≡ Some s → IsPatternTerm s) [
-  | None ↦ λ p q. absurd (cc)
-  | Some c ↦ λ p q. transport IsPatternTerm (same_Some (app c u) s q) (applied_step h (λ r. pattern_head (app t v) c r p) (rigid_head t v c p) (λ n. new_head n (app t v) c p))
-] refl e
-
--- the same of leftmost steps
-
--- a step in what is a name
-step_names : {m : Name} {f u : Term} → Names m f → Names (bound 0) u → ((v : Term) → leftmost_step u ≡ Some v → Names (bound 0) v) → (w : Term) → leftmost_step (app f u) ≡ Some w →
-    (g v : Term) × (w ≡ app g v) × Names m g × Names (bound 0) v
-step_names {u = u} (an_index i) q ih w e = elim (leftmost_step u) as (λ o. leftmost_step u ≡ o → option_term (app (index i)) o ≡ Some w → (g v : Term) × (w ≡ app g v) × Names (bound i) g × Names (bound 0) v) [
-  | None ↦ λ a b. absurd (cc)
-  | Some v ↦ λ a b. (index i, v, sym (same_Some (app (index i) v) w b), an_index i, ih v a)
-] refl e
-step_names {u = u} (an_eigen k) q ih w e = elim (leftmost_step u) as (λ o. leftmost_step u ≡ o → option_term (app (atom (eigen k))) o ≡ Some w → (g v : Term) × (w ≡ app g v) × Names (free k) g × Names (bound 0) v) [
-  | None ↦ λ a b. absurd (cc)
-  | Some v ↦ λ a b. (atom (eigen k), v, sym (same_Some (app (atom (eigen k)) v) w b), an_eigen k, ih v a)
-] refl e
-step_names {u = u} (expanded {n = n} {f = g} {u = x} p r) q ih w e =
-    (subst (instead u) g, subst (instead u) x, sym (same_Some (substitute u (app g x)) w e) ∙ substitute-subst u (app g x), names_at (instead u) p n (named_at n u), names_at (instead u) r (bound 0) q)
-
-pub names_leftmost : {n : Name} {t : Term} → Names n t → (s : Term) → leftmost_step t ≡ Some s → Names n s
-names_leftmost (an_index i) s e = absurd (cc)
-names_leftmost (an_eigen k) s e = absurd (cc)
-names_leftmost (expanded {n = n} {f = f} {u = u} p q) s e = elim (leftmost_step (app f u)) as (λ o. leftmost_step (app f u) ≡ o → option_term abs o ≡ Some s → Names n s) [
-  | None ↦ λ a b. absurd (cc)
-  | Some w ↦ λ a b.
-      let r = step_names p q (λ v h. names_leftmost q v h) w a in
-      transport (Names n) (ap abs (sym r.2) ∙ same_Some (abs w) s b) (expanded r.3 r.4)
-] refl e
-
-pub new_leftmost : (n : Name) (t s : Term) → leftmost_step t ≡ Some s → IsNewTo n t → IsNewTo n s
-new_leftmost n (index i) s e h = absurd (cc)
-new_leftmost n (atom a) s e h = absurd (cc)
-new_leftmost n (abs b) s e h = elim (leftmost_step b) as (λ o. leftmost_step b ≡ o → option_term abs o ≡ Some s → IsNewTo n s) [
-  | None ↦ λ p q. absurd (cc)
-  | Some c ↦ λ p q. transport (IsNewTo n) (same_Some (abs c) s q) (new_leftmost (under n) b c p h)
-] refl e
-new_leftmost n (app (abs b) u) s e h = transport (IsNewTo n) (sym (substitute-subst u b) ∙ same_Some (substitute u b) s e) (stays_new n u h.1 b h.0)
-new_leftmost n (app (index i) u) s e h = elim (leftmost_step u) as (λ o. leftmost_step u ≡ o → option_term (app (index i)) o ≡ Some s → IsNewTo n s) [
-  | None ↦ λ p q. absurd (cc)
-  | Some c ↦ λ p q. transport (IsNewTo n) (same_Some (app (index i) c) s q) (h.0, new_leftmost n u c p h.1)
-] refl e
-new_leftmost n (app (atom a) u) s e h = elim (leftmost_step u) as (λ o. leftmost_step u ≡ o → option_term (app (atom a)) o ≡ Some s → IsNewTo n s) [
-  | None ↦ λ p q. absurd (cc)
-  | Some c ↦ λ p q. transport (IsNewTo n) (same_Some (app (atom a) c) s q) (h.0, new_leftmost n u c p h.1)
-] refl e
-new_leftmost n (app (app t v) u) s e h = elim (leftmost_step (app t v)) as (λ o. leftmost_step (app t v) ≡ o → or_else (option_term (λ x. app x u) o) (option_term (app (app t v)) (leftmost_step u)) ≡ Some s → IsNewTo n s) [
-  | None ↦ λ a b. elim (leftmost_step u) as (λ o. leftmost_step u ≡ o → option_term (app (app t v)) o ≡ Some s → IsNewTo n s) [
-    | None ↦ λ p q. absurd (cc)
-    | Some c ↦ λ p q. transport (IsNewTo n) (same_Some (app (app t v) c) s q) (h.0, new_leftmost n u c p h.1)
-  ] refl b
-  | Some c ↦ λ p q. transport (IsNewTo n) (same_Some (app c u) s q) (new_leftmost n (app t v) c p h.0, h.1)
-] refl e
-
-rigid_leftmost : (t v c : Term) → leftmost_step (app t v) ≡ Some c → IsRigid (app t v) → IsRigid c
-rigid_leftmost (index i) v c e r = elim (leftmost_step v) as (λ o. leftmost_step v ≡ o → option_term (app (index i)) o ≡ Some c → IsRigid c) [
-  | None ↦ λ p q. absurd (cc)
-  | Some d ↦ λ p q. transport IsRigid (same_Some (app (index i) d) c q) (rigid_on (front_rigid r))
-] refl e
-rigid_leftmost (atom a) v c e r = elim (leftmost_step v) as (λ o. leftmost_step v ≡ o → option_term (app (atom a)) o ≡ Some c → IsRigid c) [
-  | None ↦ λ p q. absurd (cc)
-  | Some d ↦ λ p q. transport IsRigid (same_Some (app (atom a) d) c q) (rigid_on (front_rigid r))
-] refl e
-rigid_leftmost (abs b) v c e r = transport IsRigid (sym (substitute-subst v b) ∙ same_Some (substitute v b) c e) (beta_rigid b v (front_rigid r))
-rigid_leftmost (app t u) v c e r = elim (leftmost_step (app t u)) as (λ o. leftmost_step (app t u) ≡ o → or_else (option_term (λ x. app x v) o) (option_term (app (app t u)) (leftmost_step v)) ≡ Some c → IsRigid c) [
-  | None ↦ λ a b. elim (leftmost_step v) as (λ o. leftmost_step v ≡ o → option_term (app (app t u)) o ≡ Some c → IsRigid c) [
-    | None ↦ λ p q. absurd (cc)
-    | Some d ↦ λ p q. transport IsRigid (same_Some (app (app t u) d) c q) (rigid_on (front_rigid r))
-  ] refl b
-  | Some d ↦ λ p q. transport IsRigid (same_Some (app d v) c q) (rigid_on (rigid_leftmost t u d p (front_rigid r)))
-] refl e
-
--- where an argument takes a step
 argument_step : {f x y : Term} → IsPatternTerm (app f x) → (IsPatternTerm x → IsPatternTerm y) → ((n : Name) → Names n x → Names n y) → IsPatternTerm (app f y)
 argument_step (rigid r p q) f g = rigid r p (f q)
 argument_step (on_name {n = n} p q new) f g = on_name p (g n q) new
 
-pub pattern_leftmost : (t s : Term) → IsPatternTerm t → leftmost_step t ≡ Some s → IsPatternTerm s
-pattern_leftmost (index i) s h e = absurd (cc)
-pattern_leftmost (atom a) s h e = absurd (cc)
-pattern_leftmost (abs b) s h e = elim (leftmost_step b) as (λ o. leftmost_step b ≡ o → option_term abs o ≡ Some s → IsPatternTerm s) [
-  | None ↦ λ p q. absurd (cc)
-  | Some c ↦ λ p q. transport IsPatternTerm (same_Some (abs c) s q) (of_abs (pattern_leftmost b c (body_pattern h) p))
-] refl e
-pattern_leftmost (app (abs b) u) s h e = transport IsPatternTerm (sym (substitute-subst u b) ∙ same_Some (substitute u b) s e) (beta_pattern b u h)
-pattern_leftmost (app (index i) u) s h e = elim (leftmost_step u) as (λ o. leftmost_step u ≡ o → option_term (app (index i)) o ≡ Some s → IsPatternTerm s) [
-  | None ↦ λ p q. absurd (cc)
-  | Some c ↦ λ p q. transport IsPatternTerm (same_Some (app (index i) c) s q) (argument_step h (λ r. pattern_leftmost u c r p) (λ n r. names_leftmost r c p))
-] refl e
-pattern_leftmost (app (atom a) u) s h e = elim (leftmost_step u) as (λ o. leftmost_step u ≡ o → option_term (app (atom a)) o ≡ Some s → IsPatternTerm s) [
-  | None ↦ λ p q. absurd (cc)
-  | Some c ↦ λ p q. transport IsPatternTerm (same_Some (app (atom a) c) s q) (argument_step h (λ r. pattern_leftmost u c r p) (λ n r. names_leftmost r c p))
-] refl e
-pattern_leftmost (app (app t v) u) s h e = elim (leftmost_step (app t v)) as (λ o. leftmost_step (app t v) ≡ o → or_else (option_term (λ x. app x u) o) (option_term (app (app t v)) (leftmost_step u)) ≡ Some s → IsPatternTerm s) [
-  | None ↦ λ a b. elim (leftmost_step u) as (λ o. leftmost_step u ≡ o → option_term (app (app t v)) o ≡ Some s → IsPatternTerm s) [
-    | None ↦ λ p q. absurd (cc)
-    | Some c ↦ λ p q. transport IsPatternTerm (same_Some (app (app t v) c) s q) (argument_step h (λ r. pattern_leftmost u c r p) (λ n r. names_leftmost r c p))
-  ] refl b
-  | Some c ↦ λ p q. transport IsPatternTerm (same_Some (app c u) s q) (applied_step h (λ r. pattern_leftmost (app t v) c r p) (rigid_leftmost t v c p) (λ n. new_leftmost n (app t v) c p))
-] refl e
+pub pattern_step : {t s : Term} → Step t s → IsPatternTerm t → IsPatternTerm s
+pattern_step (here (by_beta b u)) h = transport IsPatternTerm (sym (substitute-subst u b)) (beta_pattern b u h)
+pattern_step (here (by_eta t)) h = pattern_unrenamed (transport IsPatternTerm (shift_one t) (front_pattern (body_pattern h))) suc t refl
+pattern_step (in_abs s) h = of_abs (pattern_step s (body_pattern h))
+pattern_step (in_head u s) h = applied_step h (pattern_step s) (rigid_step s) (new_step s)
+pattern_step (in_argument t s) h = argument_step h (pattern_step s) (λ n q. names_step s q)
+
+pub pattern_reduces : {t s : Term} → ReducesTo t s → IsPatternTerm t → IsPatternTerm s
+pattern_reduces (done t) h = h
+pattern_reduces (then_step p ps) h = pattern_reduces ps (pattern_step p h)
+
+pub names_reduce : {t s : Term} → ReducesTo t s → {m : Name} → Names m t → Names m s
+names_reduce (done t) h = h
+names_reduce (then_step p ps) h = names_reduce ps (names_step p h)
