@@ -2,3 +2,4 @@ mod Naming
 mod Renamed
 mod Reduced
 mod Looked
+mod Filled

@@ -59,7 +59,7 @@ eigen_is j k t o h e = elim (beta_normal j t) as (λ x. beta_normal j t ≡ x �
 ] refl e
 
 -- in a term without loose indices a name is an eigenconstant
-bound_within : (P : Atom → Type 0) {n : Name} {t : Term} → Names n t → (d i : ℕ) → Within P d t → n ≡ bound i → i < d
+pub bound_within : (P : Atom → Type 0) {n : Name} {t : Term} → Names n t → (d i : ℕ) → Within P d t → n ≡ bound i → i < d
 bound_within P (an_index j) d i h e = let q : j ≡ i = cc in transport (λ x. x < d) q h
 bound_within P (an_eigen k) d i h e = absurd (cc)
 bound_within P (expanded p q) d i h e = let l = bound_within P p (suc d) (suc i) h.0 (ap under e) in omega (arith, l)
