@@ -3,3 +3,4 @@ mod Renamed
 mod Reduced
 mod Looked
 mod Filled
+mod Scanned
