@@ -4,3 +4,4 @@ mod Reduced
 mod Looked
 mod Filled
 mod Scanned
+mod Pruned

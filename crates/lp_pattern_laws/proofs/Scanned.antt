@@ -69,7 +69,7 @@ beside_well : (n : ℕ) (ps : List Pattern) → AreGood ps → (r : Scanned) →
 beside_well n ps g (broken m) h = tt
 beside_well n ps g (whole m e qs) h = (h.0, good_append ps qs g h.1)
 
-mapped : {A B : Type 0} (f : A → B) (o : Option A) (b : B) → option_map f o ≡ Some b → (P : B → Type 0) → ((a : A) → o ≡ Some a → P (f a)) → P b
+pub mapped : {A B : Type 0} (f : A → B) (o : Option A) (b : B) → option_map f o ≡ Some b → (P : B → Type 0) → ((a : A) → o ≡ Some a → P (f a)) → P b
 mapped f None b e P h = absurd (cc)
 mapped f (Some a) b e P h = transport P (same_Some (f a) b e) (h a refl)
 
