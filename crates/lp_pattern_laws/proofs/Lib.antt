@@ -5,3 +5,4 @@ mod Looked
 mod Filled
 mod Scanned
 mod Pruned
+mod Ruled
