@@ -6,3 +6,4 @@ mod Filled
 mod Scanned
 mod Pruned
 mod Ruled
+mod Turned

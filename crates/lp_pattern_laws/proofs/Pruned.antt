@@ -15,7 +15,7 @@ use Rattle.lp_unify_laws.proofs.Closings.{WithinAll, apply_within}
 use Rattle.lp_unify_laws.proofs.Prunings.{pair_seen, renewal_scoped}
 use Rattle.lp_unify_laws.proofs.Scans.{Seen}
 use Rattle.lp_unify_laws.proofs.Throughs.{put_within, pair_next_term}
-use Rattle.lp_pattern_laws.specs.Patterns.{IsPatternTerm}
+use Rattle.lp_pattern_laws.specs.Patterns.{IsPatternTerm, HavePatterns}
 use Rattle.lp_pattern_laws.proofs.Looked.{variable_pattern}
 use Rattle.lp_pattern_laws.proofs.Filled.{pattern_put, pattern_abstracted}
 use Rattle.lp_pattern_laws.proofs.Scanned.{IsGood, AreGood, IsWell, scan_well, mapped}
@@ -140,11 +140,6 @@ abstracted_variable js cs x l d a =
 
 pub joined_pattern : (ks js : List ℕ) (x l : ℕ) → are_distinct ks ≡ true → are_above l ks ≡ true → IsPatternTerm (abstracted ks (apply (atom (logic x l)) (eigens (agreeing ks js))))
 joined_pattern ks js x l d a = abstracted_variable ks (agreeing ks js) x l (distinct_agreeing ks js d) (above_agreeing l ks js a)
-
--- values that are pattern terms
-abbrev pub HavePatterns : List Binding → Type 0
-HavePatterns [] = Unit {0}
-HavePatterns (b ∷ js) = IsPatternTerm b.value × HavePatterns js
 
 pub patterns_last : (js : List Binding) (b : Binding) → HavePatterns js → IsPatternTerm b.value → HavePatterns (js ++ b ∷ [])
 patterns_last [] b h p = (p, tt)

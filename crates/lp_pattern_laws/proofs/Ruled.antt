@@ -20,17 +20,12 @@ use Rattle.lp_unify_laws.proofs.Looks.{seen, look_reduces}
 use Rattle.lp_unify_laws.proofs.Prunings.{pair_seen}
 use Rattle.lp_unify_laws.proofs.Scans.{Seen}
 use Rattle.lp_unify_laws.proofs.Settles.{settle_tells}
-use Rattle.lp_pattern_laws.specs.Patterns.{IsPatternTerm, an_eigen, on_name}
+use Rattle.lp_pattern_laws.specs.Patterns.{IsPatternTerm, an_eigen, on_name, ArePatternPairs, HavePatterns}
 use Rattle.lp_pattern_laws.proofs.Reduced.{pattern_reduces}
 use Rattle.lp_pattern_laws.proofs.Looked.{stands_on_pattern}
 use Rattle.lp_pattern_laws.proofs.Filled.{above_new, pattern_abstracted, pattern_instance}
 use Rattle.lp_pattern_laws.proofs.Scanned.{AllPatterns, arguments_patterns, IsWell, scan_well, mapped}
-use Rattle.lp_pattern_laws.proofs.Pruned.{HavePatterns, patterns_last, IsPrunedWell, prune_well, joined_pattern}
-
--- pairs of pattern terms
-abbrev pub ArePatternPairs : List Pair → Type 0
-ArePatternPairs [] = Unit {0}
-ArePatternPairs (p ∷ ps) = (IsPatternTerm p.left × IsPatternTerm p.right) × ArePatternPairs ps
+use Rattle.lp_pattern_laws.proofs.Pruned.{patterns_last, IsPrunedWell, prune_well, joined_pattern}
 
 -- nothing is delayed
 abbrev pub IsRuledWell : Verdict → Type 0

@@ -1,7 +1,9 @@
 -- Pattern terms (Miller 1991, "A logic programming language with lambda-abstraction, function variables, and simple unification"), before they are reduced: each
 -- logic variable stands on distinct bound indices and eigenconstants that are new to it.
-use Rattle.std.specs.Prelude.{◌≡◌, ℕ, suc, ◌<◌}
+use Rattle.std.specs.Prelude.{◌≡◌, ℕ, suc, ◌<◌, List, [], ◌∷◌}
 use Rattle.lp_calculus.specs.Term.{Term, index, atom, abs, app, Atom, constant, integer, text, eigen, logic, param}
+use Rattle.lp_calculus.specs.Fill.{Binding}
+use Rattle.lp_model.specs.Pair.{Pair}
 
 -- a universal variable: the index of an abstraction around, or an eigenconstant
 pub data Name : Type 0 where
@@ -62,3 +64,13 @@ pub data IsPatternTerm : Term → Type 0 where
   of_abs : {b : Term} → IsPatternTerm b → IsPatternTerm (abs b)
   rigid : {t u : Term} → IsRigid t → IsPatternTerm t → IsPatternTerm u → IsPatternTerm (app t u)
   on_name : {n : Name} {t u : Term} → IsPatternTerm t → Names n u → IsNewTo n t → IsPatternTerm (app t u)
+
+-- pairs of such terms
+abbrev pub ArePatternPairs : List Pair → Type 0
+ArePatternPairs [] = Unit {0}
+ArePatternPairs (p ∷ ps) = (IsPatternTerm p.left × IsPatternTerm p.right) × ArePatternPairs ps
+
+-- values that are such terms
+abbrev pub HavePatterns : List Binding → Type 0
+HavePatterns [] = Unit {0}
+HavePatterns (b ∷ bs) = IsPatternTerm b.value × HavePatterns bs

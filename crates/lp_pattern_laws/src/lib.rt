@@ -3,3 +3,5 @@
 
 /// Pattern terms, and what reduction and values for variables make of them.
 pub mod terms;
+/// Unification of pattern terms.
+pub mod unification;
