@@ -1,14 +1,15 @@
 -- Pattern terms where atoms get terms, and where an eigenconstant is abstracted.
 use Rattle.std.proofs.Common.{◌≡◌, ℕ, zero, suc, ◌<◌, ◌≤◌, List, [], ◌∷◌, Bool, true, false, refl, sym, ap, ◌∙◌, subst as transport, arith}
 use Rattle.std.specs.Prelude.{◌&&◌, nat_eq, if◌then◌else◌}
-use Rattle.std.proofs.lemmas.Bool.Decides.{nat_tests}
-use Rattle.lp_calculus.specs.Term.{Term, index, atom, abs, app, apply, Atom, eigen, logic, constant, integer, text, param, shift}
-use Rattle.lp_calculus.specs.Fill.{Within, Binding, raise, fill, at_variables, one, put, at_eigens, indexed, abstraction, abstracted}
+use Rattle.lp_lemmas.proofs.Booleans.{and_true_right}
+use Rattle.lp_calculus.specs.Term.{Term, index, atom, abs, app, Atom, eigen, logic, constant, integer, text, param, shift}
+use Rattle.lp_calculus.specs.Fill.{Within, Binding, raise, fill, at_variables, one, put, indexed, abstraction, abstracted}
 use Rattle.lp_calculus.specs.Types.{Ty}
 use Rattle.lp_calculus.specs.Instance.{instance_atom, instance_term}
 use Rattle.lp_calculus.proofs.Sigma.{rename}
 use Rattle.lp_calculus.proofs.BetaEta.{shift_one}
 use Rattle.lp_unify_laws.specs.Levels.{IsPairAtom}
+use Rattle.lp_unify_laws.proofs.Sames.{same_number}
 use Rattle.lp_unify_laws.proofs.Abstractions.{within_abstraction}
 use Rattle.lp_pattern_laws.specs.Patterns.{Name, bound, free, under, IsNewToIndex, IsNewToAtom, IsNewTo, Names, an_index, an_eigen, expanded, IsRigidAtom, IsRigid, rigid_atom, rigid_name, rigid_on, IsPatternTerm, of_index, of_atom, of_abs, rigid, on_name}
 use Rattle.lp_pattern_laws.proofs.Naming.{new_raised, first_new}
@@ -81,17 +82,6 @@ pub record IsPatternBinding (next : ℕ) (b : Binding) : Type 0 where
   pub pattern : IsPatternTerm b.value
   pub scoped : Within (IsPairAtom next b.level) 0 b.value
 
-same_number : (x y : ℕ) → nat_eq x y ≡ true → x ≡ y
-same_number x y e = grind (arith, nat_tests)
-
-left_true : (a b : Bool) → (a && b) ≡ true → a ≡ true
-left_true true b e = refl
-left_true false b e = absurd (cc)
-
-right_true : (a b : Bool) → (a && b) ≡ true → b ≡ true
-right_true true b e = e
-right_true false b e = absurd (cc)
-
 module _ (next : ℕ) (b : Binding) (h : IsPatternBinding next b) where
   value_new : (n : Name) (x l : ℕ) → IsNewToAtom n (logic x l) → l ≡ b.level → IsNewTo n b.value
   value_new (bound i) x l k e = level_new next b.level 0 b.value h.scoped i (omega arith)
@@ -99,7 +89,7 @@ module _ (next : ℕ) (b : Binding) (h : IsPatternBinding next b) where
 
   value_at : (P : Term → Type 0) (x l : ℕ) → (l ≡ b.level → P b.value) → P (atom (logic x l)) → P (one b x l)
   value_at P x l p q = elim (nat_eq x b.id && nat_eq l b.level) as (λ t. (nat_eq x b.id && nat_eq l b.level) ≡ t → P (if t then b.value else atom (logic x l))) [
-    | true ↦ λ e. p (same_number l b.level (right_true (nat_eq x b.id) (nat_eq l b.level) e))
+    | true ↦ λ e. p (same_number l b.level (and_true_right (nat_eq x b.id) (nat_eq l b.level) e))
     | false ↦ λ e. q
   ] refl
 

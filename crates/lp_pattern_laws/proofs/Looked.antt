@@ -3,16 +3,18 @@ use Rattle.std.proofs.Common.{◌≡◌, ℕ, zero, suc, ◌<◌, List, [], ◌�
 use Rattle.std.specs.Prelude.{◌&&◌, ◌||◌, not, nat_eq, nat_lt, if◌then◌else◌, option_map, option_and_then}
 use Rattle.std.proofs.lemmas.Option.{same_Some}
 use Rattle.std.proofs.lemmas.Bool.Decides.{nat_tests}
+use Rattle.lp_lemmas.proofs.Booleans.{and_true_left, and_true_right}
 use Rattle.lp_calculus.specs.Term.{Term, index, atom, abs, app, apply, Atom, eigen, logic, constant, integer, text, param, substitute}
-use Rattle.lp_calculus.specs.Convert.{head_step, leftmost_step, option_term}
-use Rattle.lp_calculus.specs.Normal.{contracted, eta_normal, is_absent}
+use Rattle.lp_calculus.specs.Convert.{leftmost_step, option_term}
+use Rattle.lp_calculus.specs.Normal.{contracted, eta_normal}
 use Rattle.lp_calculus.specs.Fill.{Within}
 use Rattle.lp_calculus.proofs.Plain.{substitute-subst}
+use Rattle.lp_unify_laws.proofs.Sames.{both_on}
 use Rattle.lp_unify_laws.proofs.Looks.{beta_reduces}
 use Rattle.lp_model.specs.Patterns.{eigens, member}
 use Rattle.lp_model.specs.Eigens.{beta_normal, eigen_of, as_eigen}
-use Rattle.lp_model.specs.Look.{head_normal, as_eigens, are_distinct, are_above, only_if, pattern_of}
-use Rattle.lp_pattern_laws.specs.Patterns.{Name, bound, free, under, IsNewToIndex, IsNewToAtom, IsNewTo, Names, an_index, an_eigen, expanded, IsRigid, rigid_atom, rigid_name, rigid_on, IsPatternTerm, of_index, of_atom, of_abs, rigid, on_name}
+use Rattle.lp_model.specs.Look.{as_eigens, are_distinct, are_above, only_if, pattern_of}
+use Rattle.lp_pattern_laws.specs.Patterns.{Name, bound, free, under, IsNewTo, Names, an_index, an_eigen, expanded, IsRigid, rigid_atom, rigid_name, rigid_on, IsPatternTerm, of_atom, rigid, on_name}
 use Rattle.lp_pattern_laws.proofs.Naming.{own_not_new}
 use Rattle.lp_pattern_laws.proofs.Reduced.{names_reduce, front_pattern}
 
@@ -117,9 +119,6 @@ no_member f u k p (j ∷ ks) h =
     let test : nat_eq k j ≡ false = grind (arith, nat_tests) in
     ap (λ b. b || member k ks) test ∙ rest
 
-both_hold : (a b : Bool) → a ≡ true → b ≡ true → (a && b) ≡ true
-both_hold a b p q = ap (λ x. x && b) p ∙ q
-
 -- the eigenconstants to which the arguments of a variable come
 pub record AreArguments (f : Term) (r : Option (List ℕ)) : Type 0 where
   pub names : List ℕ
@@ -153,7 +152,7 @@ arguments_are P n (t ∷ ts) f x h w r e = elim (as_eigen n t) as (λ o. as_eige
           names = k ∷ a.names;
           is = sym (same_Some (option_map (λ ks. k ∷ ks) js) r e) ∙ ap (option_map (λ ks. k ∷ ks)) a.is;
           new = (new, fronts_new f t a.names a.new);
-          distinct = both_hold (not (member k a.names)) (are_distinct a.names) (ap not (no_member f t k named a.names a.new)) a.distinct;
+          distinct = both_on (not (member k a.names)) (are_distinct a.names) (ap not (no_member f t k named a.names a.new)) a.distinct;
         }
 
 above_all : (x l : ℕ) (ks : List ℕ) → AreNew (atom (logic x l)) ks → are_above l ks ≡ true
@@ -161,7 +160,7 @@ above_all x l [] h = refl
 above_all x l (k ∷ ks) h =
     let less : l < k = h.0 in
     let test : nat_lt l k ≡ true = grind (arith, nat_tests) in
-    both_hold (nat_lt l k) (are_above l ks) test (above_all x l ks h.1)
+    both_on (nat_lt l k) (are_above l ks) test (above_all x l ks h.1)
 
 -- so a variable in a pattern term stands on a pattern
 pub stands_on_pattern : (P : Atom → Type 0) (n x l : ℕ) (ts : List Term) → IsPatternTerm (apply (atom (logic x l)) ts) → Within P 0 (apply (atom (logic x l)) ts) →
@@ -171,7 +170,7 @@ stands_on_pattern P n x l ts h w r e = elim (as_eigens n ts) as (λ o. as_eigens
   | Some js ↦ λ p q.
       let a = arguments_are P n ts (atom (logic x l)) tt h w js p in
       let above = above_all x l a.names a.new in
-      let test = both_hold (are_distinct a.names) (are_above l a.names) a.distinct above in (
+      let test = both_on (are_distinct a.names) (are_above l a.names) a.distinct above in (
         a.names,
         sym (same_Some (only_if (λ ks. are_distinct ks && are_above l ks) js) r q) ∙ ap (only_if (λ ks. are_distinct ks && are_above l ks)) a.is ∙ ap (λ b. if b then Some a.names else None) test,
         a.distinct,
@@ -191,30 +190,22 @@ later_new f k (j ∷ ks) e h =
     tail_false true b e = absurd (cc)
     tail_false false b e = e
 
-left_true : (a b : Bool) → (a && b) ≡ true → a ≡ true
-left_true true b e = refl
-left_true false b e = absurd (cc)
-
-right_true : (a b : Bool) → (a && b) ≡ true → b ≡ true
-right_true true b e = e
-right_true false b e = absurd (cc)
-
-not_true : (b : Bool) → not b ≡ true → b ≡ false
+pub not_true : (b : Bool) → not b ≡ true → b ≡ false
 not_true true e = absurd (cc)
 not_true false e = refl
 
 pub pattern_on : (ks : List ℕ) (f : Term) → IsPatternTerm f → AreNew f ks → are_distinct ks ≡ true → IsPatternTerm (apply f (eigens ks))
 pattern_on [] f h new d = h
 pattern_on (k ∷ ks) f h new d =
-    pattern_on ks (app f (atom (eigen k))) (on_name h (an_eigen k) new.0) (later_new f k ks (not_true (member k ks) (left_true (not (member k ks)) (are_distinct ks) d)) new.1)
-    (right_true (not (member k ks)) (are_distinct ks) d)
+    pattern_on ks (app f (atom (eigen k))) (on_name h (an_eigen k) new.0) (later_new f k ks (not_true (member k ks) (and_true_left (not (member k ks)) (are_distinct ks) d)) new.1)
+    (and_true_right (not (member k ks)) (are_distinct ks) d)
 
 all_above : (x l : ℕ) (ks : List ℕ) → are_above l ks ≡ true → AreNew (atom (logic x l)) ks
 all_above x l [] e = tt
 all_above x l (k ∷ ks) e =
-    let a = left_true (nat_lt l k) (are_above l ks) e in
+    let a = and_true_left (nat_lt l k) (are_above l ks) e in
     let less : l < k = grind (arith, nat_tests) in
-    (less, all_above x l ks (right_true (nat_lt l k) (are_above l ks) e))
+    (less, all_above x l ks (and_true_right (nat_lt l k) (are_above l ks) e))
 
 pub variable_pattern : (x l : ℕ) (ks : List ℕ) → are_distinct ks ≡ true → are_above l ks ≡ true → IsPatternTerm (apply (atom (logic x l)) (eigens ks))
 variable_pattern x l ks d a = pattern_on ks (atom (logic x l)) (of_atom (logic x l)) (all_above x l ks a) d

@@ -1,6 +1,6 @@
 -- Names under renamings and substitutions.
-use Rattle.std.proofs.Common.{◌≡◌, ℕ, zero, suc, refl, sym, ap, ◌∙◌, subst as transport, arith}
-use Rattle.lp_calculus.specs.Term.{Term, index, atom, abs, app, Atom, constant, integer, text, eigen, logic, param}
+use Rattle.std.proofs.Common.{◌≡◌, ℕ, zero, suc, refl, sym, ap, subst as transport}
+use Rattle.lp_calculus.specs.Term.{Term, index, atom, abs, app, Atom, eigen}
 use Rattle.lp_calculus.proofs.Sigma.{lift, rename, up, subst}
 use Rattle.lp_pattern_laws.specs.Patterns.{Name, bound, free, under, IsNewToIndex, IsNewToAtom, IsNewTo, Names, an_index, an_eigen, expanded}
 

@@ -1,129 +1,111 @@
 -- Pruning, lowering and settling lead from pattern terms to pattern terms, and bind variables to such.
-use Rattle.std.proofs.Common.{◌≡◌, ℕ, zero, suc, ◌+◌, ◌<◌, ◌≤◌, List, [], ◌∷◌, ◌++◌, Bool, true, false, Option, Some, None, refl, sym, ap, ◌∙◌, subst as transport, arith}
-use Rattle.std.specs.Prelude.{◌&&◌, ◌||◌, not, min, nat_eq, nat_lt, nat_le, if◌then◌else◌, option_map, option_and_then}
+use Rattle.std.proofs.Common.{◌≡◌, ℕ, zero, suc, ◌≤◌, List, [], ◌∷◌, ◌++◌, Bool, true, false, Option, Some, None, refl, ap, ◌∙◌, subst as transport, arith}
+use Rattle.std.specs.Prelude.{◌||◌, not, min, nat_eq, nat_lt, nat_le, if◌then◌else◌, option_map}
 use Rattle.std.proofs.lemmas.Option.{same_Some, option_and_then_some}
 use Rattle.std.proofs.lemmas.Bool.Decides.{nat_tests}
-use Rattle.lp_calculus.specs.Term.{Term, atom, apply, Atom, eigen, logic}
+use Rattle.lp_lemmas.proofs.Booleans.{and_true_left, and_true_right, or_false_left, or_false_right}
+use Rattle.lp_calculus.specs.Term.{Term, atom, apply, Atom, logic}
 use Rattle.lp_calculus.specs.Fill.{Within, Binding, put, abstracted}
 use Rattle.lp_model.specs.Patterns.{eigens, member, chosen, agreeing}
 use Rattle.lp_model.specs.Look.{are_distinct, are_above}
-use Rattle.lp_model.specs.Scan.{Side, allows, Pattern, pattern, pattern_term, Scanned, broken, whole, scan, fits, first_misfit, renewal, Pruned, led_by, prune, settle}
+use Rattle.lp_model.specs.Scan.{Side, allows, Pattern, Scanned, broken, whole, scan, fits, first_misfit, renewal, Pruned, led_by, prune}
 use Rattle.lp_calculus.proofs.Fills.{within_more}
 use Rattle.lp_unify_laws.specs.Levels.{IsPairAtom}
-use Rattle.lp_unify_laws.specs.Right.{AreScoped}
 use Rattle.lp_unify_laws.proofs.Closings.{WithinAll, apply_within}
 use Rattle.lp_unify_laws.proofs.Prunings.{pair_seen, renewal_scoped}
+use Rattle.lp_unify_laws.proofs.Sames.{both_on}
 use Rattle.lp_unify_laws.proofs.Scans.{Seen}
 use Rattle.lp_unify_laws.proofs.Throughs.{put_within, pair_next_term}
 use Rattle.lp_pattern_laws.specs.Patterns.{IsPatternTerm, HavePatterns}
-use Rattle.lp_pattern_laws.proofs.Looked.{variable_pattern}
+use Rattle.lp_pattern_laws.proofs.Looked.{not_true, variable_pattern}
 use Rattle.lp_pattern_laws.proofs.Filled.{pattern_put, pattern_abstracted}
 use Rattle.lp_pattern_laws.proofs.Scanned.{IsGood, AreGood, IsWell, scan_well, mapped}
 
 -- lists of eigenconstants out of others
-
-left_true : (a b : Bool) → (a && b) ≡ true → a ≡ true
-left_true true b e = refl
-left_true false b e = absurd (cc)
-
-right_true : (a b : Bool) → (a && b) ≡ true → b ≡ true
-right_true true b e = e
-right_true false b e = absurd (cc)
-
-both_hold : (a b : Bool) → a ≡ true → b ≡ true → (a && b) ≡ true
-both_hold a b p q = ap (λ x. x && b) p ∙ q
-
-not_true : (b : Bool) → not b ≡ true → b ≡ false
-not_true true e = absurd (cc)
-not_true false e = refl
-
-or_false : (a b : Bool) → (a || b) ≡ false → (a ≡ false) × (b ≡ false)
-or_false true b e = absurd (cc)
-or_false false b e = (refl, e)
 
 false_or : (a b : Bool) → a ≡ false → b ≡ false → (a || b) ≡ false
 false_or a b p q = ap (λ x. x || b) p ∙ q
 
 no_chosen : (k : ℕ) (f : ℕ → Bool) (cs : List ℕ) → member k cs ≡ false → member k (chosen f cs) ≡ false
 no_chosen k f [] e = refl
-no_chosen k f (c ∷ cs) e = by (no_chosen k f cs (or_false (nat_eq k c) (member k cs) e).1) (f c)
+no_chosen k f (c ∷ cs) e = by (no_chosen k f cs (or_false_right (nat_eq k c) (member k cs) e)) (f c)
   where
     by : member k (chosen f cs) ≡ false → (t : Bool) → member k (if t then c ∷ chosen f cs else chosen f cs) ≡ false
-    by rest true = false_or (nat_eq k c) (member k (chosen f cs)) (or_false (nat_eq k c) (member k cs) e).0 rest
+    by rest true = false_or (nat_eq k c) (member k (chosen f cs)) (or_false_left (nat_eq k c) (member k cs) e) rest
     by rest false = rest
 
 distinct_chosen : (f : ℕ → Bool) (cs : List ℕ) → are_distinct cs ≡ true → are_distinct (chosen f cs) ≡ true
 distinct_chosen f [] d = refl
-distinct_chosen f (c ∷ cs) d = by (distinct_chosen f cs (right_true (not (member c cs)) (are_distinct cs) d)) (f c)
+distinct_chosen f (c ∷ cs) d = by (distinct_chosen f cs (and_true_right (not (member c cs)) (are_distinct cs) d)) (f c)
   where
     by : are_distinct (chosen f cs) ≡ true → (t : Bool) → are_distinct (if t then c ∷ chosen f cs else chosen f cs) ≡ true
-    by rest true = both_hold (not (member c (chosen f cs))) (are_distinct (chosen f cs)) (ap not (no_chosen c f cs (not_true (member c cs) (left_true (not (member c cs)) (are_distinct cs) d)))) rest
+    by rest true = both_on (not (member c (chosen f cs))) (are_distinct (chosen f cs)) (ap not (no_chosen c f cs (not_true (member c cs) (and_true_left (not (member c cs)) (are_distinct cs) d)))) rest
     by rest false = rest
 
 above_chosen : (l m : ℕ) (f : ℕ → Bool) (cs : List ℕ) → m ≤ l → are_above l cs ≡ true → are_above m (chosen f cs) ≡ true
 above_chosen l m f [] h a = refl
-above_chosen l m f (c ∷ cs) h a = by (above_chosen l m f cs h (right_true (nat_lt l c) (are_above l cs) a)) (f c)
+above_chosen l m f (c ∷ cs) h a = by (above_chosen l m f cs h (and_true_right (nat_lt l c) (are_above l cs) a)) (f c)
   where
     test : nat_lt m c ≡ true
-    test = let q = left_true (nat_lt l c) (are_above l cs) a in grind (arith, nat_tests)
+    test = let q = and_true_left (nat_lt l c) (are_above l cs) a in grind (arith, nat_tests)
 
     by : are_above m (chosen f cs) ≡ true → (t : Bool) → are_above m (if t then c ∷ chosen f cs else chosen f cs) ≡ true
-    by rest true = both_hold (nat_lt m c) (are_above m (chosen f cs)) test rest
+    by rest true = both_on (nat_lt m c) (are_above m (chosen f cs)) test rest
     by rest false = rest
 
 no_append : (k : ℕ) (ks js : List ℕ) → member k ks ≡ false → member k js ≡ false → member k (ks ++ js) ≡ false
 no_append k [] js e f = f
-no_append k (a ∷ ks) js e f = let r = or_false (nat_eq k a) (member k ks) e in false_or (nat_eq k a) (member k (ks ++ js)) r.0 (no_append k ks js r.1 f)
+no_append k (a ∷ ks) js e f = false_or (nat_eq k a) (member k (ks ++ js)) (or_false_left (nat_eq k a) (member k ks) e) (no_append k ks js (or_false_right (nat_eq k a) (member k ks) e) f)
 
 above_append : (l : ℕ) (ks js : List ℕ) → are_above l ks ≡ true → are_above l js ≡ true → are_above l (ks ++ js) ≡ true
 above_append l [] js p q = q
-above_append l (a ∷ ks) js p q = both_hold (nat_lt l a) (are_above l (ks ++ js)) (left_true (nat_lt l a) (are_above l ks) p) (above_append l ks js (right_true (nat_lt l a) (are_above l ks) p) q)
+above_append l (a ∷ ks) js p q = both_on (nat_lt l a) (are_above l (ks ++ js)) (and_true_left (nat_lt l a) (are_above l ks) p) (above_append l ks js (and_true_right (nat_lt l a) (are_above l ks) p) q)
 
 -- one that is not above a level is none of those that are
 no_above : (m k : ℕ) (js : List ℕ) → k ≤ m → are_above m js ≡ true → member k js ≡ false
 no_above m k [] h a = refl
 no_above m k (b ∷ js) h a =
-    let q = left_true (nat_lt m b) (are_above m js) a in
+    let q = and_true_left (nat_lt m b) (are_above m js) a in
     let t : nat_eq k b ≡ false = grind (arith, nat_tests) in
-    false_or (nat_eq k b) (member k js) t (no_above m k js h (right_true (nat_lt m b) (are_above m js) a))
+    false_or (nat_eq k b) (member k js) t (no_above m k js h (and_true_right (nat_lt m b) (are_above m js) a))
 
 -- those up to a level, then some above it
 distinct_given : (m : ℕ) (cs js : List ℕ) → are_distinct cs ≡ true → are_distinct js ≡ true → are_above m js ≡ true → are_distinct (chosen (λ k. nat_le k m) cs ++ js) ≡ true
 distinct_given m [] js d e a = e
-distinct_given m (c ∷ cs) js d e a = by (distinct_given m cs js (right_true (not (member c cs)) (are_distinct cs) d) e a) (nat_le c m) refl
+distinct_given m (c ∷ cs) js d e a = by (distinct_given m cs js (and_true_right (not (member c cs)) (are_distinct cs) d) e a) (nat_le c m) refl
   where
     by : are_distinct (chosen (λ k. nat_le k m) cs ++ js) ≡ true → (t : Bool) → nat_le c m ≡ t → are_distinct ((if t then c ∷ chosen (λ k. nat_le k m) cs else chosen (λ k. nat_le k m) cs) ++ js) ≡ true
     by rest true q =
         let low : c ≤ m = grind (arith, nat_tests) in
-        both_hold (not (member c (chosen (λ k. nat_le k m) cs ++ js))) (are_distinct (chosen (λ k. nat_le k m) cs ++ js))
-        (ap not (no_append c (chosen (λ k. nat_le k m) cs) js (no_chosen c (λ k. nat_le k m) cs (not_true (member c cs) (left_true (not (member c cs)) (are_distinct cs) d))) (no_above m c js low a))) rest
+        both_on (not (member c (chosen (λ k. nat_le k m) cs ++ js))) (are_distinct (chosen (λ k. nat_le k m) cs ++ js))
+        (ap not (no_append c (chosen (λ k. nat_le k m) cs) js (no_chosen c (λ k. nat_le k m) cs (not_true (member c cs) (and_true_left (not (member c cs)) (are_distinct cs) d))) (no_above m c js low a))) rest
     by rest false q = rest
 
 no_agreeing : (k : ℕ) (ks js : List ℕ) → member k ks ≡ false → member k (agreeing ks js) ≡ false
 no_agreeing k [] js e = refl
 no_agreeing k (a ∷ ks) [] e = refl
-no_agreeing k (a ∷ ks) (b ∷ js) e = by (no_agreeing k ks js (or_false (nat_eq k a) (member k ks) e).1) (nat_eq a b)
+no_agreeing k (a ∷ ks) (b ∷ js) e = by (no_agreeing k ks js (or_false_right (nat_eq k a) (member k ks) e)) (nat_eq a b)
   where
     by : member k (agreeing ks js) ≡ false → (t : Bool) → member k (if t then a ∷ agreeing ks js else agreeing ks js) ≡ false
-    by rest true = false_or (nat_eq k a) (member k (agreeing ks js)) (or_false (nat_eq k a) (member k ks) e).0 rest
+    by rest true = false_or (nat_eq k a) (member k (agreeing ks js)) (or_false_left (nat_eq k a) (member k ks) e) rest
     by rest false = rest
 
 distinct_agreeing : (ks js : List ℕ) → are_distinct ks ≡ true → are_distinct (agreeing ks js) ≡ true
 distinct_agreeing [] js d = refl
 distinct_agreeing (a ∷ ks) [] d = refl
-distinct_agreeing (a ∷ ks) (b ∷ js) d = by (distinct_agreeing ks js (right_true (not (member a ks)) (are_distinct ks) d)) (nat_eq a b)
+distinct_agreeing (a ∷ ks) (b ∷ js) d = by (distinct_agreeing ks js (and_true_right (not (member a ks)) (are_distinct ks) d)) (nat_eq a b)
   where
     by : are_distinct (agreeing ks js) ≡ true → (t : Bool) → are_distinct (if t then a ∷ agreeing ks js else agreeing ks js) ≡ true
-    by rest true = both_hold (not (member a (agreeing ks js))) (are_distinct (agreeing ks js)) (ap not (no_agreeing a ks js (not_true (member a ks) (left_true (not (member a ks)) (are_distinct ks) d)))) rest
+    by rest true = both_on (not (member a (agreeing ks js))) (are_distinct (agreeing ks js)) (ap not (no_agreeing a ks js (not_true (member a ks) (and_true_left (not (member a ks)) (are_distinct ks) d)))) rest
     by rest false = rest
 
 above_agreeing : (l : ℕ) (ks js : List ℕ) → are_above l ks ≡ true → are_above l (agreeing ks js) ≡ true
 above_agreeing l [] js d = refl
 above_agreeing l (a ∷ ks) [] d = refl
-above_agreeing l (a ∷ ks) (b ∷ js) d = by (above_agreeing l ks js (right_true (nat_lt l a) (are_above l ks) d)) (nat_eq a b)
+above_agreeing l (a ∷ ks) (b ∷ js) d = by (above_agreeing l ks js (and_true_right (nat_lt l a) (are_above l ks) d)) (nat_eq a b)
   where
     by : are_above l (agreeing ks js) ≡ true → (t : Bool) → are_above l (if t then a ∷ agreeing ks js else agreeing ks js) ≡ true
-    by rest true = both_hold (nat_lt l a) (are_above l (agreeing ks js)) (left_true (nat_lt l a) (are_above l ks) d) rest
+    by rest true = both_on (nat_lt l a) (are_above l (agreeing ks js)) (and_true_left (nat_lt l a) (are_above l ks) d) rest
     by rest false = rest
 
 -- a variable on eigenconstants, abstracted over eigenconstants

@@ -1,13 +1,13 @@
 -- Pattern terms under reduction.
-use Rattle.std.proofs.Common.{◌≡◌, ℕ, zero, suc, Option, Some, None, refl, sym, ap, ◌∙◌, subst as transport}
-use Rattle.lp_calculus.specs.Term.{Term, index, atom, abs, app, Atom, eigen, substitute}
+use Rattle.std.proofs.Common.{◌≡◌, ℕ, zero, suc, refl, sym, ap, ◌∙◌, subst as transport}
+use Rattle.lp_calculus.specs.Term.{Term, index, atom, abs, app, Atom, eigen}
 use Rattle.lp_calculus.specs.Convert.{here, in_abs, in_head, in_argument, by_beta, by_eta, ReducesTo, done, then_step}
 use Rattle.lp_calculus.proofs.BetaEta.{shift_one}
 use Rattle.lp_calculus.proofs.Steps.{Step}
-use Rattle.lp_calculus.proofs.Sigma.{lift, rename, up, subst, instead}
+use Rattle.lp_calculus.proofs.Sigma.{lift, rename, subst, instead}
 use Rattle.lp_calculus.proofs.Plain.{substitute-subst}
 use Rattle.lp_pattern_laws.specs.Patterns.{Name, bound, free, under, IsNewToIndex, IsNewToAtom, IsNewTo, Names, an_index, an_eigen, expanded, IsRigidAtom, IsRigid, rigid_atom, rigid_name, rigid_on, IsPatternTerm, of_index, of_atom, of_abs, rigid, on_name}
-use Rattle.lp_pattern_laws.proofs.Naming.{renamed, renamed_suc, under_renamed, same_under, under_not, new_below_index, new_below_atom, new_first, other_new, at, names_at}
+use Rattle.lp_pattern_laws.proofs.Naming.{renamed, renamed_suc, under_renamed, same_under, under_not, new_below_index, new_below_atom, other_new, at, names_at}
 use Rattle.lp_pattern_laws.proofs.Renamed.{Sends, image, new_put, Puts, names_pattern, pattern_put, pattern_at}
 
 -- a name for the first index
@@ -161,10 +161,6 @@ new_step (here (by_eta t)) n h = new_unrenamed suc n t (transport (λ m. IsNewTo
 new_step (in_abs s) n h = new_step s (under n) h
 new_step (in_head u s) n h = (new_step s n h.0, h.1)
 new_step (in_argument t s) n h = (h.0, new_step s n h.1)
-
-front_rigid : {t u : Term} → IsRigid (app t u) → IsRigid t
-front_rigid (rigid_on r) = r
-front_rigid (rigid_name p) = elim p [ ]
 
 body_pattern : {b : Term} → IsPatternTerm (abs b) → IsPatternTerm b
 body_pattern (of_abs p) = p

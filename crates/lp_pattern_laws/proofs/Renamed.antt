@@ -1,7 +1,7 @@
 -- Pattern terms where names are put for indices, no two the same.
-use Rattle.std.proofs.Common.{◌≡◌, ℕ, zero, suc, refl, sym, ap, ◌∙◌, subst as transport}
+use Rattle.std.proofs.Common.{◌≡◌, ℕ, zero, suc, refl, sym, ap, subst as transport}
 use Rattle.lp_calculus.specs.Term.{Term, index, atom, abs, app, Atom, eigen}
-use Rattle.lp_calculus.proofs.Sigma.{lift, rename, up, subst, instead, rename_as_subst}
+use Rattle.lp_calculus.proofs.Sigma.{lift, rename, up, subst}
 use Rattle.lp_pattern_laws.specs.Patterns.{Name, bound, free, under, IsNewToIndex, IsNewToAtom, IsNewTo, Names, an_index, an_eigen, expanded, IsRigid, rigid_atom, rigid_name, rigid_on, IsPatternTerm, of_index, of_atom, of_abs, rigid, on_name}
 use Rattle.lp_pattern_laws.proofs.Naming as naming
 use Rattle.lp_pattern_laws.proofs.Naming.{renamed, names_renamed, names_raised, same_under, under_not, new_under_index, new_below_index, new_first, new_under_atom, new_below_atom, other_new, own_not_new, new_raised, first_new, at, names_at, new_at}

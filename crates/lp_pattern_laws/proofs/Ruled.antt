@@ -1,23 +1,22 @@
 -- A rule delays no pair of pattern terms, and what it gives are such pairs, or values that are pattern terms.
-use Rattle.std.proofs.Common.{◌≡◌, ℕ, zero, suc, ◌+◌, ◌<◌, ◌≤◌, List, [], ◌∷◌, ◌++◌, map, length, Bool, true, false, Option, Some, None, refl, sym, ap, ◌∙◌, subst as transport, arith, nat_eq}
-use Rattle.std.specs.Prelude.{◌&&◌, if◌then◌else◌, option_map, option_and_then}
+use Rattle.std.proofs.Common.{◌≡◌, ℕ, suc, List, [], ◌∷◌, map, length, Bool, true, false, Option, Some, None, refl, sym, ap, ◌∙◌, subst as transport, arith, nat_eq}
+use Rattle.std.specs.Prelude.{◌&&◌, option_map, option_and_then}
 use Rattle.std.proofs.lemmas.Option.{same_Some, option_and_then_some}
-use Rattle.std.proofs.lemmas.Bool.Decides.{nat_tests}
-use Rattle.lp_calculus.specs.Term.{Term, atom, abs, app, apply, Atom, eigen, logic, constant, integer, text, param}
+use Rattle.lp_calculus.specs.Term.{Term, atom, apply, Atom, eigen, logic, constant, integer, text, param}
 use Rattle.lp_calculus.specs.Convert.{ReducesTo}
-use Rattle.lp_calculus.specs.Fill.{Within, Binding, abstracted}
+use Rattle.lp_calculus.specs.Fill.{Within, abstracted}
 use Rattle.lp_calculus.proofs.Fills.{within_more}
 use Rattle.lp_calculus.proofs.Steps.{within_reduces}
-use Rattle.lp_model.specs.Patterns.{eigens}
 use Rattle.lp_model.specs.Same.{same_name}
 use Rattle.lp_model.specs.Types.{TypeBinding, TypeOutcome, none, solved, solve_types}
 use Rattle.lp_model.specs.Look.{Look, an_abs, rigid, flexible, look, pattern_of, are_distinct, are_above}
 use Rattle.lp_model.specs.Pair.{Pair, put_types_in}
-use Rattle.lp_model.specs.Scan.{Side, is_side, Scanned, broken, whole, scan, Pruned, prune, settle}
-use Rattle.lp_model.specs.Rule.{Compared, compare_all, type_pairs, Verdict, fails, gives, binds, delays, Ruled, ruled, opened, argument_pairs, with_types, decompose, joined, bound, has_head, solve_for, side, by_pattern, pattern_side, by_rule_5, by_rule_4, dear, by_looks, rule}
+use Rattle.lp_model.specs.Scan.{Side, Scanned, broken, whole, scan, Pruned, prune, settle}
+use Rattle.lp_model.specs.Rule.{compare_all, type_pairs, Verdict, fails, gives, binds, delays, Ruled, ruled, opened, argument_pairs, with_types, decompose, joined, bound, has_head, solve_for, side, by_pattern, pattern_side, by_rule_5, by_rule_4, dear, by_looks, rule}
 use Rattle.lp_unify_laws.specs.Levels.{IsPair, IsPairAtom, UpTo}
 use Rattle.lp_unify_laws.proofs.Looks.{seen, look_reduces}
 use Rattle.lp_unify_laws.proofs.Prunings.{pair_seen}
+use Rattle.lp_unify_laws.proofs.Sames.{both, same_number, number_same}
 use Rattle.lp_unify_laws.proofs.Scans.{Seen}
 use Rattle.lp_unify_laws.proofs.Settles.{settle_tells}
 use Rattle.lp_pattern_laws.specs.Patterns.{IsPatternTerm, an_eigen, on_name, ArePatternPairs, HavePatterns}
@@ -108,16 +107,6 @@ module _ (s : Side) (distinct : are_distinct s.arguments ≡ true) (above : are_
 abbrev pub SameLength : Pair → Type 0
 SameLength p = (x l : ℕ) (ts us : List Term) → ReducesTo p.left (apply (atom (logic x l)) ts) → ReducesTo p.right (apply (atom (logic x l)) us) → length ts ≡ length us
 
-both_true : (a b : Bool) → (a && b) ≡ true → (a ≡ true) × (b ≡ true)
-both_true true b e = (refl, e)
-both_true false b e = absurd (cc)
-
-same_number : (x y : ℕ) → nat_eq x y ≡ true → x ≡ y
-same_number x y e = grind (arith, nat_tests)
-
-number_same : (x y : ℕ) → x ≡ y → nat_eq x y ≡ true
-number_same x y e = grind (arith, nat_tests)
-
 -- the side of a variable on a pattern
 record IsSideOf (p : Pair) (x l : ℕ) (a : Option Side) : Type 0 where
   arguments : List ℕ
@@ -183,8 +172,8 @@ module _ (next : ℕ) (p : Pair) (left : IsPatternTerm p.left) (right : IsPatter
         | false ↦ by_rule_5 n next p (flexible x l ts) (flexible y m us)
       ]) ≡ Some r → IsRuledWell r.verdict) [
         | true ↦ λ f q.
-            let b = both_true (nat_eq x y && nat_eq l m) (nat_eq (length ts) (length us)) f in
-            let b' = both_true (nat_eq x y) (nat_eq l m) b.0 in
+            let b = both (nat_eq x y && nat_eq l m) (nat_eq (length ts) (length us)) f in
+            let b' = both (nat_eq x y) (nat_eq l m) b.0 in
             compared (same_number x y b'.0) (same_number l m b'.1) q
         | false ↦ λ f q. flexible_left x l ts (flexible y m us) i a (λ ks. other f) q
       ] refl e
@@ -208,12 +197,12 @@ module _ (next : ℕ) (p : Pair) (left : IsPatternTerm p.left) (right : IsPatter
       other f = elim (nat_eq y x && nat_eq m l) as (λ b. (nat_eq y x && nat_eq m l) ≡ b → b ≡ false) [
         | false ↦ λ q. refl
         | true ↦ λ q.
-            let b = both_true (nat_eq y x) (nat_eq m l) q in
+            let b = both (nat_eq y x) (nat_eq m l) q in
             let e₁ : y ≡ x = same_number y x b.0 in
             let e₂ : m ≡ l = same_number m l b.1 in
             let lengths : length ts ≡ length us = same x l ts us c (transport (λ v. ReducesTo p.right (apply v us)) (λ t. atom (logic (e₁ t) (e₂ t))) d) in
             let all : (nat_eq x y && nat_eq l m && nat_eq (length ts) (length us)) ≡ true =
-            ap (λ k. (k && nat_eq l m) && nat_eq (length ts) (length us)) (number_same x y (sym e₁)) ∙ ap (λ k. k && nat_eq (length ts) (length us)) (number_same l m (sym e₂)) ∙ number_same (length ts) (length us) lengths in
+            ap (λ k. (k && nat_eq l m) && nat_eq (length ts) (length us)) (ap (nat_eq x) e₁ ∙ number_same x) ∙ ap (λ k. k && nat_eq (length ts) (length us)) (ap (nat_eq l) e₂ ∙ number_same l) ∙ (ap (nat_eq (length ts)) (sym lengths) ∙ number_same (length ts)) in
             absurd (let k : true ≡ false = sym all ∙ f in cc)
       ] refl
 

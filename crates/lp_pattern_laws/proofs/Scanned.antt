@@ -1,29 +1,24 @@
 -- A scan of a pattern term finds patterns alone and delays nothing; pruning and settling lead to pattern terms.
-use Rattle.std.proofs.Common.{◌≡◌, ℕ, zero, suc, ◌+◌, ◌<◌, ◌≤◌, List, [], ◌∷◌, ◌++◌, Bool, true, false, Option, Some, None, refl, sym, ap, ◌∙◌, subst as transport, arith}
-use Rattle.std.specs.Prelude.{◌&&◌, ◌||◌, not, min, nat_eq, nat_lt, nat_le, if◌then◌else◌, option_map, option_and_then}
+use Rattle.std.proofs.Common.{◌≡◌, ℕ, zero, suc, ◌≤◌, List, [], ◌∷◌, ◌++◌, Bool, true, false, Option, Some, None, refl, sym, ap, ◌∙◌, subst as transport, arith}
+use Rattle.std.specs.Prelude.{◌||◌, not, nat_lt, if◌then◌else◌, option_map, option_and_then}
 use Rattle.std.proofs.lemmas.Option.{same_Some, option_and_then_some}
-use Rattle.std.proofs.lemmas.Bool.Decides.{nat_tests}
-use Rattle.lp_calculus.specs.Term.{Term, index, atom, abs, app, apply, Atom, eigen, logic, constant, integer, text, param, substitute}
+use Rattle.lp_calculus.specs.Term.{Term, atom, abs, app, apply, Atom, eigen, logic, constant, integer, text, param, substitute}
 use Rattle.lp_calculus.specs.Convert.{here, by_beta}
-use Rattle.lp_calculus.specs.Fill.{Within, Binding, put, abstracted}
+use Rattle.lp_calculus.specs.Fill.{Within}
 use Rattle.lp_calculus.proofs.Fills.{within_more}
 use Rattle.lp_calculus.proofs.Steps.{within_reduces}
-use Rattle.lp_model.specs.Patterns.{eigens, member, chosen}
 use Rattle.lp_model.specs.Look.{Look, an_abs, rigid, flexible, look, pattern_of, are_distinct, are_above}
-use Rattle.lp_model.specs.Scan.{Side, is_side, allows, allows_head, Pattern, pattern, pattern_term, Scanned, broken, whole, above, beside, scanned_pattern, scan, scan_all, fits, first_misfit, renewed, renewal, Pruned, led_by, prune, settle}
-use Rattle.lp_unify_laws.specs.Levels.{IsPairAtom, UpTo}
-use Rattle.lp_unify_laws.proofs.Closings.{WithinAll, within_apply, apply_within}
+use Rattle.lp_model.specs.Scan.{Side, is_side, allows_head, Pattern, pattern, Scanned, broken, whole, above, beside, scanned_pattern, scan, scan_all}
+use Rattle.lp_unify_laws.specs.Levels.{IsPairAtom}
+use Rattle.lp_unify_laws.proofs.Closings.{WithinAll, within_apply}
 use Rattle.lp_unify_laws.proofs.Looks.{seen, look_reduces}
-use Rattle.lp_unify_laws.proofs.Prunings.{pair_seen, renewal_scoped}
 use Rattle.lp_unify_laws.proofs.Scans.{Seen, open_seen}
-use Rattle.lp_unify_laws.proofs.Settles.{settle_tells}
-use Rattle.lp_unify_laws.proofs.Throughs.{put_within, pair_next_term}
 use Rattle.lp_pattern_laws.specs.Patterns as of
 use Rattle.lp_pattern_laws.specs.Patterns.{IsPatternTerm, on_name, of_abs, an_eigen}
 use Rattle.lp_pattern_laws.proofs.Renamed.{names_pattern}
 use Rattle.lp_pattern_laws.proofs.Reduced.{pattern_step, pattern_reduces}
-use Rattle.lp_pattern_laws.proofs.Looked.{stands_on_pattern, variable_pattern}
-use Rattle.lp_pattern_laws.proofs.Filled.{above_new, IsPatternBinding, pattern_put, pattern_abstracted}
+use Rattle.lp_pattern_laws.proofs.Looked.{stands_on_pattern}
+use Rattle.lp_pattern_laws.proofs.Filled.{above_new}
 
 -- arguments of a pattern term
 abbrev pub AllPatterns : List Term → Type 0

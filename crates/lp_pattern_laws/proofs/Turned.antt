@@ -1,25 +1,25 @@
 -- Turns of unification on pattern terms: nothing is delayed, up to the end.
-use Rattle.std.proofs.Common.{◌≡◌, ℕ, zero, suc, ◌+◌, ◌<◌, ◌≤◌, List, [], ◌∷◌, ◌++◌, map, length, Bool, true, false, Option, Some, None, refl, sym, ap, ◌∙◌, subst as transport, arith}
-use Rattle.std.specs.Prelude.{◌||◌, nat_lt, option_map, option_and_then}
+use Rattle.std.proofs.Common.{◌≡◌, ℕ, zero, suc, ◌+◌, List, [], ◌∷◌, ◌++◌, map, length, true, false, Option, Some, None, refl, sym, ap, ◌∙◌, subst as transport, arith}
+use Rattle.std.specs.Prelude.{nat_lt, option_map}
 use Rattle.std.proofs.lemmas.Option.{same_Some, option_and_then_some}
 use Rattle.lp_calculus.specs.Types.{Ty, arrow}
 use Rattle.lp_calculus.specs.Term.{Term, index, atom, abs, app, apply, Atom, eigen, logic, constant, integer, text, param}
 use Rattle.lp_calculus.specs.Convert.{ReducesTo, done, then_step}
-use Rattle.lp_calculus.specs.Fill.{Within, Binding, put}
+use Rattle.lp_calculus.specs.Fill.{Within, Binding}
 use Rattle.lp_calculus.specs.Instance.{instance_atom, instance_term}
 use Rattle.lp_calculus.specs.Typing.{HasType}
 use Rattle.lp_calculus.proofs.Commutations.{instance_fill}
 use Rattle.lp_calculus.proofs.Steps.{Step, step_fill}
 use Rattle.lp_model.specs.Types.{TypeBinding, TypePair, TypeOutcome, none, solved, solve_types}
-use Rattle.lp_model.specs.Pair.{Pair, put_pair, put_type_in, type_pair}
+use Rattle.lp_model.specs.Pair.{Pair, put_pair, type_pair}
 use Rattle.lp_model.specs.Rule.{Verdict, fails, gives, binds, delays, Ruled, rule}
-use Rattle.lp_model.specs.Unify.{State, Turn, Goes, Fails, Solved, put_pairs, type_pairs_in, judged, turn_on, turn, Unified, Fail, Solution, Spent, limited, unify, begun, go_on, solve}
+use Rattle.lp_model.specs.Unify.{State, Turn, Goes, Fails, Solved, put_pairs, type_pairs_in, judged, turn_on, turn, Fail, Solution, Spent, limited, unify, begun, go_on, solve}
 use Rattle.lp_model.specs.Proofs.{Declared}
-use Rattle.lp_model.specs.Answers.{Variable, PairTyping}
+use Rattle.lp_model.specs.Answers.{Variable}
 use Rattle.lp_unify_laws.specs.Levels.{IsPair, IsPairAtom}
 use Rattle.lp_unify_laws.specs.Right.{AreScoped}
-use Rattle.lp_unify_laws.specs.Solutions.{at_types, instance_pair, instance_binding, HaveTypings, IsTypedInput}
-use Rattle.lp_unify_laws.specs.TypeSolutions.{Satisfies, Unifies}
+use Rattle.lp_unify_laws.specs.Solutions.{at_types, instance_pair, instance_binding, IsTypedInput}
+use Rattle.lp_unify_laws.specs.TypeSolutions.{Satisfies}
 use Rattle.lp_unify_laws.proofs.Instances.{instance_all, instance_apply, length_instance}
 use Rattle.lp_unify_laws.proofs.PairLists.{HasTyping, EachTyped, each_typed, left_term, right_term, pair_within, types_satisfied}
 use Rattle.lp_unify_laws.proofs.Rules.{IsTypedAt}
@@ -28,8 +28,8 @@ use Rattle.lp_unify_laws.proofs.Runs.{IsStateAt, TurnRight, right_goes, right_fa
 use Rattle.lp_unify_laws.proofs.Scopes.{in_scope}
 use Rattle.lp_unify_laws.proofs.TypedBindings.{IsTypedTerm, term_reduces}
 use Rattle.lp_unify_laws.proofs.TypeSolving.{AreSolved, satisfies_split, types_right}
-use Rattle.lp_unify_laws.proofs.Unifications.{AddsTypes, after_turn, goes_on, unify_adds}
-use Rattle.lp_pattern_laws.specs.Patterns.{IsPatternTerm, ArePatternPairs, HavePatterns}
+use Rattle.lp_unify_laws.proofs.Unifications.{AddsTypes, after_turn, unify_adds}
+use Rattle.lp_pattern_laws.specs.Patterns.{ArePatternPairs, HavePatterns}
 use Rattle.lp_pattern_laws.proofs.Filled.{IsPatternBinding, pattern_put, pattern_instance}
 use Rattle.lp_pattern_laws.proofs.Ruled.{IsRuledWell, SameLength, rule_well}
 

@@ -1,4 +1,3 @@
-use Rattle.lp_pattern_laws.proofs.Turned as turned
 use Rattle.lp_pattern_laws.proofs.Reduced.{pattern_reduces}
 use Rattle.lp_pattern_laws.proofs.terms.patterns_reduce_to_patterns.Goals as goal
 
