@@ -1,0 +1,9 @@
+mod Naming
+mod Renamed
+mod Reduced
+mod Looked
+mod Filled
+mod Scanned
+mod Pruned
+mod Ruled
+mod Turned
