@@ -7,3 +7,4 @@ mod Scanned
 mod Pruned
 mod Ruled
 mod Turned
+mod Opened

@@ -3,5 +3,7 @@
 
 /// Pattern terms, and what reduction and values for variables make of them.
 pub mod terms;
+/// Pattern text, and terms for its variables.
+pub mod texts;
 /// Unification of pattern terms.
 pub mod unification;
