@@ -302,10 +302,13 @@ new_instance θ (free j) (integer z) k = tt
 new_instance θ (free j) (text s) k = tt
 new_instance θ (free j) (param i T) k = tt
 
-pub pattern_instance : (θ : ℕ → Ty) {t : Term} → IsPatternTerm t → IsPatternTerm (instance_term θ t)
-pattern_instance θ {t = t} p = transport IsPatternTerm (sym (instance_fill θ t)) (pattern_fill (λ a. atom (instance_atom θ a)) (record {
+pub types_fill : (θ : ℕ → Ty) → Fills (λ a. atom (instance_atom θ a))
+types_fill θ = record {
   pattern = λ a. of_atom (instance_atom θ a);
   new = λ n a k. new_instance θ n a k;
   rigid = λ a r. rigid_atom (instance_atom θ a) (rigid_instance θ a r);
   eigens = λ k. refl;
-}) p)
+}
+
+pub pattern_instance : (θ : ℕ → Ty) {t : Term} → IsPatternTerm t → IsPatternTerm (instance_term θ t)
+pattern_instance θ {t = t} p = transport IsPatternTerm (sym (instance_fill θ t)) (pattern_fill (λ a. atom (instance_atom θ a)) (types_fill θ) p)

@@ -8,3 +8,5 @@ mod Pruned
 mod Ruled
 mod Turned
 mod Opened
+mod Parted
+mod Tried

@@ -4,7 +4,8 @@ use Rattle.std.specs.Prelude.{slice_get}
 use mathlib.Core.Path.{fun_ext}
 use Rattle.lp_calculus.specs.Term.{Term, index, atom, abs, app, Atom, eigen, logic, constant, integer, text, param, shift}
 use Rattle.lp_calculus.specs.Fill.{raise, fill, at_variables}
-use Rattle.lp_calculus.specs.Instance.{instance_atom}
+use Rattle.lp_calculus.specs.Types.{Ty}
+use Rattle.lp_calculus.specs.Instance.{instance_atom, instance_term}
 use Rattle.lp_calculus.specs.Closed.{AllAtoms}
 use Rattle.lp_calculus.proofs.Sigma.{up, subst, subst-rename, rename-subst}
 use Rattle.lp_calculus.proofs.BetaEta.{shift_one}
@@ -16,7 +17,7 @@ use Rattle.lp_proof_laws.proofs.Uniform.Openings.{instantiate_subst}
 use Rattle.lp_pattern_laws.specs.Patterns.{Name, bound, free, under, IsNewToAtom, IsNewTo, Names, an_index, an_eigen, expanded, IsRigidAtom, IsRigid, rigid_atom, rigid_name, rigid_on, IsPatternTerm, of_atom, of_abs, rigid, on_name}
 use Rattle.lp_pattern_laws.specs.Kinds.{Kind, universal, existential, IsNewAt, IsNewIn, IsUniversal, IsRigidIn, atom_head, name_head, more_on, IsPatternIn, index_in, atom_in, abs_in, rigid_in, name_in, IsAtLevel, IsPatternText, IsOpening, HasPatternValues}
 use Rattle.lp_pattern_laws.proofs.Naming.{names_raised, new_below_index, new_first, new_raised, first_new, at, at_under}
-use Rattle.lp_pattern_laws.proofs.Filled.{Fills, fills_raise, level_new, atoms_new, new_instance}
+use Rattle.lp_pattern_laws.proofs.Filled.{Fills, fills_raise, level_new, atoms_new, new_instance, types_fill}
 use Rattle.lp_pattern_laws.proofs.Renamed.{image, lifted, names_pattern, pattern_raised}
 
 -- what is new one binder further out
@@ -190,6 +191,13 @@ opening_opens l Γ σ o = record { names = names; patterns = o.existentials; apa
 
     atoms : (j : ℕ) (a : Atom) → slice_get Γ j ≡ Some universal → IsAtLevel l a → IsNewToAtom (name_of (σ j)) a
     atoms j a e m = let u = o.universals j e in transport (λ n. IsNewToAtom n a) (sym (is_name j u.0 u.1)) (level_above l u.0 a u.2 m)
+
+-- with types for type variables alone
+pub types_open : (l : ℕ) (Γ : List Kind) (θ : ℕ → Ty) (t : Term) → IsPatternText l Γ t → (σ : ℕ → Term) → IsOpening l Γ σ → IsPatternTerm (instantiate σ (instance_term θ t))
+types_open l Γ θ t h σ o =
+    let f = λ (a : Atom). atom (instance_atom θ a) in
+    let e : instantiate σ (instance_term θ t) ≡ put_both σ f t = instantiate_subst σ (instance_term θ t) ∙ ap (subst σ) (instance_fill θ t) ∙ both_are_put σ f t in
+    transport IsPatternTerm (sym e) (pattern_opens l Γ σ (λ i. name_of (σ i)) (opening_opens l Γ σ o) f (types_fill θ) h.0 h.1)
 
 -- what a closing puts for atoms
 abbrev put_at : Closing → Atom → Term

@@ -156,7 +156,8 @@ module _ (next : ℕ) (p : Pair) (left : IsPatternTerm p.left) (right : IsPatter
   opened_well : ArePatternPairs (opened p ∷ [])
   opened_well = ((on_name left (an_eigen (suc p.level)) (above_new next p.level 0 p.left w.0 (suc p.level) (omega arith)), on_name right (an_eigen (suc p.level)) (above_new next p.level 0 p.right w.1 (suc p.level) (omega arith))), tt)
 
-  looks_well : (v u : Look) → ReducesTo p.left (seen v) → ReducesTo p.right (seen u) → IsPatternTerm (seen v) → IsPatternTerm (seen u) → Within (IsPairAtom next p.level) 0 (seen v) → Within (IsPairAtom next p.level) 0 (seen u) → by_looks n next p v u ≡ Some r → IsRuledWell r.verdict
+  looks_well : (v u : Look) → ReducesTo p.left (seen v) → ReducesTo p.right (seen u) → IsPatternTerm (seen v) → IsPatternTerm (seen u)
+      → Within (IsPairAtom next p.level) 0 (seen v) → Within (IsPairAtom next p.level) 0 (seen u) → by_looks n next p v u ≡ Some r → IsRuledWell r.verdict
   looks_well (an_abs b) u c d i j a z e = transport RuledSo (same_Some (ruled 0 (gives [] (opened p ∷ []))) r e) opened_well
   looks_well (rigid h ts) (an_abs b) c d i j a z e = transport RuledSo (same_Some (ruled 0 (gives [] (opened p ∷ []))) r e) opened_well
   looks_well (flexible x l ts) (an_abs b) c d i j a z e = transport RuledSo (same_Some (ruled 0 (gives [] (opened p ∷ []))) r e) opened_well
