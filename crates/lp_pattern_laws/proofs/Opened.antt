@@ -3,17 +3,18 @@ use Rattle.std.proofs.Common.{◌≡◌, ℕ, zero, suc, ◌<◌, ◌≤◌, Lis
 use Rattle.std.specs.Prelude.{slice_get}
 use mathlib.Core.Path.{fun_ext}
 use Rattle.lp_calculus.specs.Term.{Term, index, atom, abs, app, Atom, eigen, logic, constant, integer, text, param, shift}
-use Rattle.lp_calculus.specs.Fill.{raise, fill, at_variables}
+use Rattle.lp_calculus.specs.Fill.{raise, fill}
 use Rattle.lp_calculus.specs.Types.{Ty}
 use Rattle.lp_calculus.specs.Instance.{instance_atom, instance_term}
 use Rattle.lp_calculus.specs.Closed.{AllAtoms}
 use Rattle.lp_calculus.proofs.Sigma.{up, subst, subst-rename, rename-subst}
 use Rattle.lp_calculus.proofs.BetaEta.{shift_one}
 use Rattle.lp_calculus.proofs.Commutations.{instance_fill}
-use Rattle.lp_calculus.proofs.Fills.{fill-fill, subst_closed}
+use Rattle.lp_calculus.proofs.Fills.{subst_closed}
 use Rattle.lp_model.specs.Pair.{Closing, closed}
 use Rattle.lp_model.specs.Index.{instantiate}
 use Rattle.lp_proof_laws.proofs.Uniform.Openings.{instantiate_subst}
+use Rattle.lp_search_laws.proofs.ClosedTerms.{closed_atom, closed_fill}
 use Rattle.lp_pattern_laws.specs.Patterns.{Name, bound, free, under, IsNewToAtom, IsNewTo, Names, an_index, an_eigen, expanded, IsRigidAtom, IsRigid, rigid_atom, rigid_name, rigid_on, IsPatternTerm, of_atom, of_abs, rigid, on_name}
 use Rattle.lp_pattern_laws.specs.Kinds.{Kind, universal, existential, IsNewAt, IsNewIn, IsUniversal, IsRigidIn, atom_head, name_head, more_on, IsPatternIn, index_in, atom_in, abs_in, rigid_in, name_in, IsAtLevel, IsPatternText, IsOpening, HasPatternValues}
 use Rattle.lp_pattern_laws.proofs.Naming.{names_raised, new_below_index, new_first, new_raised, first_new, at, at_under}
@@ -200,12 +201,6 @@ types_open l Γ θ t h σ o =
     transport IsPatternTerm (sym e) (pattern_opens l Γ σ (λ i. name_of (σ i)) (opening_opens l Γ σ o) f (types_fill θ) h.0 h.1)
 
 -- what a closing puts for atoms
-abbrev put_at : Closing → Atom → Term
-put_at c a = at_variables c.terms (instance_atom c.types a)
-
-closed_is : (c : Closing) (t : Term) → closed c t ≡ fill (put_at c) t
-closed_is c t = ap (fill (at_variables c.terms)) (instance_fill c.types t) ∙ fill-fill (at_variables c.terms) (λ a. atom (instance_atom c.types a)) (put_at c) (λ a. refl) t
-
 module _ (c : Closing) (v : HasPatternValues c) (σ : ℕ → Term) where
   value_is : (x l : ℕ) → subst σ (c.terms x l) ≡ c.terms x l
   value_is x l = subst_closed (IsAtLevel l) σ 0 (λ i m. absurd (omega (arith, m))) (c.terms x l) (v x l).1
@@ -214,10 +209,10 @@ module _ (c : Closing) (v : HasPatternValues c) (σ : ℕ → Term) where
   value_new (bound i) x l k = level_new (IsAtLevel l) 0 (c.terms x l) (v x l).1 i (omega arith)
   value_new (free j) x l k = atoms_new (IsAtLevel l) j (λ a w. level_above l j a k w) 0 (c.terms x l) (v x l).1
 
-  values_fill : Fills (λ a. subst σ (put_at c a))
+  values_fill : Fills (λ a. subst σ (closed_atom c a))
   values_fill = record { pattern = pattern; new = new; rigid = rigid_values; eigens = λ k. refl }
     where
-      pattern : (a : Atom) → IsPatternTerm (subst σ (put_at c a))
+      pattern : (a : Atom) → IsPatternTerm (subst σ (closed_atom c a))
       pattern (logic x l) = transport IsPatternTerm (sym (value_is x l)) (v x l).0
       pattern (constant k ts) = of_atom _
       pattern (integer z) = of_atom _
@@ -225,7 +220,7 @@ module _ (c : Closing) (v : HasPatternValues c) (σ : ℕ → Term) where
       pattern (eigen k) = of_atom _
       pattern (param k T) = of_atom _
 
-      new : (n : Name) (a : Atom) → IsNewToAtom n a → IsNewTo n (subst σ (put_at c a))
+      new : (n : Name) (a : Atom) → IsNewToAtom n a → IsNewTo n (subst σ (closed_atom c a))
       new n (logic x l) k = transport (IsNewTo n) (sym (value_is x l)) (value_new n x l k)
       new n (constant i ts) k = new_instance c.types n (constant i ts) k
       new n (integer z) k = k
@@ -233,7 +228,7 @@ module _ (c : Closing) (v : HasPatternValues c) (σ : ℕ → Term) where
       new n (eigen j) k = k
       new n (param i T) k = new_instance c.types n (param i T) k
 
-      rigid_values : (a : Atom) → IsRigidAtom a → IsRigid (subst σ (put_at c a))
+      rigid_values : (a : Atom) → IsRigidAtom a → IsRigid (subst σ (closed_atom c a))
       rigid_values (logic x l) r = absurd r
       rigid_values (constant k ts) r = rigid_atom _ tt
       rigid_values (integer z) r = rigid_atom _ tt
@@ -243,5 +238,5 @@ module _ (c : Closing) (v : HasPatternValues c) (σ : ℕ → Term) where
 
 pub text_opens : (l : ℕ) (Γ : List Kind) (t : Term) → IsPatternText l Γ t → (c : Closing) → HasPatternValues c → (σ : ℕ → Term) → IsOpening l Γ σ → IsPatternTerm (instantiate σ (closed c t))
 text_opens l Γ t h c v σ o =
-    let e : instantiate σ (closed c t) ≡ put_both σ (λ a. subst σ (put_at c a)) t = instantiate_subst σ (closed c t) ∙ ap (subst σ) (closed_is c t) ∙ both_are_put σ (put_at c) t in
-    transport IsPatternTerm (sym e) (pattern_opens l Γ σ (λ i. name_of (σ i)) (opening_opens l Γ σ o) (λ a. subst σ (put_at c a)) (values_fill c v σ) h.0 h.1)
+    let e : instantiate σ (closed c t) ≡ put_both σ (λ a. subst σ (closed_atom c a)) t = instantiate_subst σ (closed c t) ∙ ap (subst σ) (closed_fill c t) ∙ both_are_put σ (closed_atom c) t in
+    transport IsPatternTerm (sym e) (pattern_opens l Γ σ (λ i. name_of (σ i)) (opening_opens l Γ σ o) (λ a. subst σ (closed_atom c a)) (values_fill c v σ) h.0 h.1)
