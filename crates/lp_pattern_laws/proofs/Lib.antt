@@ -10,3 +10,7 @@ mod Turned
 mod Opened
 mod Parted
 mod Tried
+mod Staying
+mod Carried
+mod GoalsMapped
+mod TextStays

@@ -123,7 +123,7 @@ new_atom : (l : ℕ) (Γ : List Kind) (σ : ℕ → Term) (ν : ℕ → Name) �
 new_atom l Γ σ ν h (bound j) u a m k = h.atoms j a u m
 new_atom l Γ σ ν h (free j) u a m k = k
 
-universal_under : (Γ : List Kind) (n : Name) → IsUniversal Γ n → IsUniversal (universal ∷ Γ) (under n)
+pub universal_under : (Γ : List Kind) (n : Name) → IsUniversal Γ n → IsUniversal (universal ∷ Γ) (under n)
 universal_under Γ (bound j) u = u
 universal_under Γ (free k) u = tt
 
@@ -156,7 +156,7 @@ pattern_opens l Γ σ ν h f g (name_in {n = n} {t = t} u p q new) w =
     on_name (pattern_opens l Γ σ ν h f g p w.0) (names_both σ f g q (image ν n) (at_universal l Γ σ ν h n u)) (new_opens l Γ σ ν h f g n u (name_level l q w.1) t w.0 new)
 
 -- an eigenconstant above the level is new to what stands at it
-level_above : (l k : ℕ) (a : Atom) → l < k → IsAtLevel l a → IsNewToAtom (free k) a
+pub level_above : (l k : ℕ) (a : Atom) → l < k → IsAtLevel l a → IsNewToAtom (free k) a
 level_above l k (eigen j) m h = λ q. (let r : j ≡ k = q in let less : j ≤ l = h in omega (arith, m, r, less))
 level_above l k (logic x j) m h = let less : j ≤ l = h in let r : j < k = omega (arith, m, less) in r
 level_above l k (constant c ts) m h = tt
@@ -200,43 +200,49 @@ types_open l Γ θ t h σ o =
     let e : instantiate σ (instance_term θ t) ≡ put_both σ f t = instantiate_subst σ (instance_term θ t) ∙ ap (subst σ) (instance_fill θ t) ∙ both_are_put σ f t in
     transport IsPatternTerm (sym e) (pattern_opens l Γ σ (λ i. name_of (σ i)) (opening_opens l Γ σ o) f (types_fill θ) h.0 h.1)
 
--- what a closing puts for atoms
-module _ (c : Closing) (v : HasPatternValues c) (σ : ℕ → Term) where
-  value_is : (x l : ℕ) → subst σ (c.terms x l) ≡ c.terms x l
-  value_is x l = subst_closed (IsAtLevel l) σ 0 (λ i m. absurd (omega (arith, m))) (c.terms x l) (v x l).1
+-- what a closing puts for atoms keeps pattern terms
+pub closing_fills : (c : Closing) → HasPatternValues c → Fills (closed_atom c)
+closing_fills c v = record { pattern = pattern; new = new; rigid = rigids; eigens = λ k. refl }
+  where
+    pattern : (a : Atom) → IsPatternTerm (closed_atom c a)
+    pattern (logic x l) = (v x l).0
+    pattern (constant k ts) = of_atom _
+    pattern (integer z) = of_atom _
+    pattern (text s) = of_atom _
+    pattern (eigen k) = of_atom _
+    pattern (param k T) = of_atom _
 
-  value_new : (n : Name) (x l : ℕ) → IsNewToAtom n (logic x l) → IsNewTo n (c.terms x l)
-  value_new (bound i) x l k = level_new (IsAtLevel l) 0 (c.terms x l) (v x l).1 i (omega arith)
-  value_new (free j) x l k = atoms_new (IsAtLevel l) j (λ a w. level_above l j a k w) 0 (c.terms x l) (v x l).1
+    value_new : (n : Name) (x l : ℕ) → IsNewToAtom n (logic x l) → IsNewTo n (c.terms x l)
+    value_new (bound i) x l k = level_new (IsAtLevel l) 0 (c.terms x l) (v x l).1 i (omega arith)
+    value_new (free j) x l k = atoms_new (IsAtLevel l) j (λ a w. level_above l j a k w) 0 (c.terms x l) (v x l).1
 
-  values_fill : Fills (λ a. subst σ (closed_atom c a))
-  values_fill = record { pattern = pattern; new = new; rigid = rigid_values; eigens = λ k. refl }
-    where
-      pattern : (a : Atom) → IsPatternTerm (subst σ (closed_atom c a))
-      pattern (logic x l) = transport IsPatternTerm (sym (value_is x l)) (v x l).0
-      pattern (constant k ts) = of_atom _
-      pattern (integer z) = of_atom _
-      pattern (text s) = of_atom _
-      pattern (eigen k) = of_atom _
-      pattern (param k T) = of_atom _
+    new : (n : Name) (a : Atom) → IsNewToAtom n a → IsNewTo n (closed_atom c a)
+    new n (logic x l) k = value_new n x l k
+    new n (constant i ts) k = new_instance c.types n (constant i ts) k
+    new n (integer z) k = k
+    new n (text s) k = k
+    new n (eigen j) k = k
+    new n (param i T) k = new_instance c.types n (param i T) k
 
-      new : (n : Name) (a : Atom) → IsNewToAtom n a → IsNewTo n (subst σ (closed_atom c a))
-      new n (logic x l) k = transport (IsNewTo n) (sym (value_is x l)) (value_new n x l k)
-      new n (constant i ts) k = new_instance c.types n (constant i ts) k
-      new n (integer z) k = k
-      new n (text s) k = k
-      new n (eigen j) k = k
-      new n (param i T) k = new_instance c.types n (param i T) k
-
-      rigid_values : (a : Atom) → IsRigidAtom a → IsRigid (subst σ (closed_atom c a))
-      rigid_values (logic x l) r = absurd r
-      rigid_values (constant k ts) r = rigid_atom _ tt
-      rigid_values (integer z) r = rigid_atom _ tt
-      rigid_values (text s) r = rigid_atom _ tt
-      rigid_values (eigen k) r = rigid_atom _ tt
-      rigid_values (param k T) r = rigid_atom _ tt
+    rigids : (a : Atom) → IsRigidAtom a → IsRigid (closed_atom c a)
+    rigids (logic x l) r = absurd r
+    rigids (constant k ts) r = rigid_atom _ tt
+    rigids (integer z) r = rigid_atom _ tt
+    rigids (text s) r = rigid_atom _ tt
+    rigids (eigen k) r = rigid_atom _ tt
+    rigids (param k T) r = rigid_atom _ tt
 
 pub text_opens : (l : ℕ) (Γ : List Kind) (t : Term) → IsPatternText l Γ t → (c : Closing) → HasPatternValues c → (σ : ℕ → Term) → IsOpening l Γ σ → IsPatternTerm (instantiate σ (closed c t))
-text_opens l Γ t h c v σ o =
-    let e : instantiate σ (closed c t) ≡ put_both σ (λ a. subst σ (closed_atom c a)) t = instantiate_subst σ (closed c t) ∙ ap (subst σ) (closed_fill c t) ∙ both_are_put σ (closed_atom c) t in
-    transport IsPatternTerm (sym e) (pattern_opens l Γ σ (λ i. name_of (σ i)) (opening_opens l Γ σ o) (λ a. subst σ (closed_atom c a)) (values_fill c v σ) h.0 h.1)
+text_opens l Γ t h c v σ o = transport IsPatternTerm (sym put) (pattern_opens l Γ σ (λ i. name_of (σ i)) (opening_opens l Γ σ o) (closed_atom c) (closing_fills c v) h.0 h.1)
+  where
+    -- values are closed
+    stays : (a : Atom) → subst σ (closed_atom c a) ≡ closed_atom c a
+    stays (logic x k) = subst_closed (IsAtLevel k) σ 0 (λ i m. absurd (omega (arith, m))) (c.terms x k) (v x k).1
+    stays (constant k ts) = refl
+    stays (integer z) = refl
+    stays (text s) = refl
+    stays (eigen k) = refl
+    stays (param k T) = refl
+
+    put : instantiate σ (closed c t) ≡ put_both σ (closed_atom c) t
+    put = instantiate_subst σ (closed c t) ∙ ap (subst σ) (closed_fill c t) ∙ both_are_put σ (closed_atom c) t ∙ ap (λ f. put_both σ f t) (fun_ext stays)

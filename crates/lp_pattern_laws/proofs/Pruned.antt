@@ -16,7 +16,8 @@ use Rattle.lp_unify_laws.proofs.Prunings.{pair_seen, renewal_scoped}
 use Rattle.lp_unify_laws.proofs.Sames.{both_on}
 use Rattle.lp_unify_laws.proofs.Scans.{Seen}
 use Rattle.lp_unify_laws.proofs.Throughs.{put_within, pair_next_term}
-use Rattle.lp_pattern_laws.specs.Patterns.{IsPatternTerm, HavePatterns}
+use Rattle.lp_pattern_laws.specs.Patterns.{IsPatternTerm}
+use Rattle.lp_pattern_laws.proofs.Filled.{HavePatterns}
 use Rattle.lp_pattern_laws.proofs.Looked.{not_true, variable_pattern}
 use Rattle.lp_pattern_laws.proofs.Filled.{pattern_put, pattern_abstracted}
 use Rattle.lp_pattern_laws.proofs.Scanned.{IsGood, AreGood, IsWell, scan_well, mapped}

@@ -19,10 +19,10 @@ use Rattle.lp_unify_laws.proofs.Prunings.{pair_seen}
 use Rattle.lp_unify_laws.proofs.Sames.{both, same_number, number_same}
 use Rattle.lp_unify_laws.proofs.Scans.{Seen}
 use Rattle.lp_unify_laws.proofs.Settles.{settle_tells}
-use Rattle.lp_pattern_laws.specs.Patterns.{IsPatternTerm, an_eigen, on_name, ArePatternPairs, HavePatterns}
+use Rattle.lp_pattern_laws.specs.Patterns.{IsPatternTerm, an_eigen, on_name, ArePatternPairs}
 use Rattle.lp_pattern_laws.proofs.Reduced.{pattern_reduces}
 use Rattle.lp_pattern_laws.proofs.Looked.{stands_on_pattern}
-use Rattle.lp_pattern_laws.proofs.Filled.{above_new, pattern_abstracted, pattern_instance}
+use Rattle.lp_pattern_laws.proofs.Filled.{HavePatterns, above_new, pattern_abstracted, pattern_instance}
 use Rattle.lp_pattern_laws.proofs.Scanned.{AllPatterns, arguments_patterns, IsWell, scan_well, mapped}
 use Rattle.lp_pattern_laws.proofs.Pruned.{patterns_last, IsPrunedWell, prune_well, joined_pattern}
 

@@ -29,8 +29,13 @@ use Rattle.lp_unify_laws.proofs.Scopes.{in_scope}
 use Rattle.lp_unify_laws.proofs.TypedBindings.{IsTypedTerm, term_reduces}
 use Rattle.lp_unify_laws.proofs.TypeSolving.{AreSolved, satisfies_split, types_right}
 use Rattle.lp_unify_laws.proofs.Unifications.{AddsTypes, after_turn, unify_adds}
-use Rattle.lp_pattern_laws.specs.Patterns.{ArePatternPairs, HavePatterns}
-use Rattle.lp_pattern_laws.proofs.Filled.{IsPatternBinding, pattern_put, pattern_instance}
+use Rattle.lp_lemmas.specs.Each.{EachOf}
+use Rattle.lp_lemmas.proofs.Each.{each_append}
+use Rattle.lp_calculus.proofs.Fills.{within_more}
+use Rattle.lp_pattern_laws.specs.Kinds.{IsAtLevel}
+use Rattle.lp_pattern_laws.specs.Goals.{IsPatternValue}
+use Rattle.lp_pattern_laws.specs.Patterns.{ArePatternPairs}
+use Rattle.lp_pattern_laws.proofs.Filled.{HavePatterns, IsPatternBinding, pattern_put, pattern_instance}
 use Rattle.lp_pattern_laws.proofs.Ruled.{IsRuledWell, SameLength, rule_well}
 
 -- a variable of a type stands on as many arguments on both sides of a typed pair
@@ -125,15 +130,27 @@ none_bound : (bs : List Binding) → put_pairs bs [] ≡ []
 none_bound [] = refl
 none_bound (b ∷ bs) = none_bound bs
 
-bindings_append : (bs cs : List Binding) → HavePatterns bs → HavePatterns cs → HavePatterns (bs ++ cs)
-bindings_append [] cs h k = k
-bindings_append (b ∷ bs) cs h k = (h.0, bindings_append bs cs h.1 k)
+-- values at their levels
+pair_level : (next l : ℕ) (a : Atom) → IsPairAtom next l a → IsAtLevel l a
+pair_level next l (logic x m) w = w.1
+pair_level next l (constant c ts) w = tt
+pair_level next l (integer z) w = tt
+pair_level next l (text s) w = tt
+pair_level next l (eigen k) w = w
+pair_level next l (param k T) w = tt
+
+values_of : (next : ℕ) (bs : List Binding) → HavePatterns bs → AreScoped next bs → EachOf IsPatternValue bs
+values_of next [] h w = tt
+values_of next (b ∷ bs) h w = (
+  record { pattern = h.0; level = within_more (IsPairAtom next b.level) (IsAtLevel b.level) 0 0 (pair_level next b.level) (omega arith) b.value w.0 },
+  values_of next bs h.1 w.1,
+)
 
 -- a state of pattern terms with nothing delayed
 record IsPatternState (s : State) : Type 0 where
   pairs : ArePatternPairs s.pairs
   delayed : s.delayed ≡ []
-  bindings : HavePatterns s.bindings
+  bindings : EachOf IsPatternValue s.bindings
 
 abbrev IsTurnedWell : Turn → Type 0
 IsTurnedWell (Goes s) = IsPatternState s
@@ -141,7 +158,7 @@ IsTurnedWell (Fails u) = Unit {0}
 IsTurnedWell (Solved s) = IsPatternState s
 
 module _ (θ : ℕ → Ty) (d : Declared) where
-  judged_well : (V : List Variable) (s : State) (p : Pair) (rest : List Pair) (u : ℕ) (v : Verdict) → IsRuledWell v → IsRightAt θ d V s.next p v → ArePatternPairs rest → s.delayed ≡ [] → HavePatterns s.bindings → IsTurnedWell (judged s p rest u v)
+  judged_well : (V : List Variable) (s : State) (p : Pair) (rest : List Pair) (u : ℕ) (v : Verdict) → IsRuledWell v → IsRightAt θ d V s.next p v → ArePatternPairs rest → s.delayed ≡ [] → EachOf IsPatternValue s.bindings → IsTurnedWell (judged s p rest u v)
   judged_well V s p rest u fails h i k empty b = tt
   judged_well V s p rest u (gives ts ps) h i k empty b = record {
     pairs = pairs_append ps (type_pairs_in ts rest) h (pairs_typed ts rest k);
@@ -151,7 +168,7 @@ module _ (θ : ℕ → Ty) (d : Declared) where
   judged_well V s p rest u (binds bs next) h i k empty b = record {
     pairs = pairs_bound next bs h (scoped_back θ next bs i.scoped) rest k;
     delayed = ap (put_pairs bs) empty ∙ none_bound bs;
-    bindings = bindings_append s.bindings bs b h;
+    bindings = each_append IsPatternValue s.bindings bs b (values_of next bs h (scoped_back θ next bs i.scoped));
   }
   judged_well V s p rest u delays h i k empty b = absurd h
 
@@ -209,10 +226,10 @@ module _ (θ : ℕ → Ty) (d : Declared) where
       by_turn _ (right_fails {u = u} f) k q ih = absurd (never_solution limit u s' q)
       by_turn _ right_solved k q ih = let z : s ≡ s' = cc in transport IsPatternState z k
 
-  pub solve_well : (V : List Variable) (n limit : ℕ) (eqs : List TypePair) (ps : List Pair) (s : State) → IsTypedInput θ d V eqs ps [] → ArePatternPairs ps → solve n limit eqs ps [] (length V) ≡ Some (Solution s) → Satisfies θ s.types → (s.delayed ≡ []) × HavePatterns s.bindings
+  pub solve_well : (V : List Variable) (n limit : ℕ) (eqs : List TypePair) (ps : List Pair) (s : State) → IsTypedInput θ d V eqs ps [] → ArePatternPairs ps → solve n limit eqs ps [] (length V) ≡ Some (Solution s) → Satisfies θ s.types → (s.delayed ≡ []) × EachOf IsPatternValue s.bindings
   solve_well V n limit eqs ps s w h e all = option_and_then_some _ (solve_types n eqs [] 0) (Solution s) e λ t i j. by_types t (types_right n eqs [] 0 t i) j
     where
-      started : (ts : List TypeBinding) (u : ℕ) → AreSolved eqs [] (solved ts u) → unify n n limit (begun ps [] (length V) (solved ts u)) ≡ Some (Solution s) → (s.delayed ≡ []) × HavePatterns s.bindings
+      started : (ts : List TypeBinding) (u : ℕ) → AreSolved eqs [] (solved ts u) → unify n n limit (begun ps [] (length V) (solved ts u)) ≡ Some (Solution s) → (s.delayed ≡ []) × EachOf IsPatternValue s.bindings
       started ts u t j =
           let first = begun ps [] (length V) (solved ts u) in
           let m : Satisfies θ ts = falls_back first s (adds_of n n limit first s j) all in
@@ -226,12 +243,12 @@ module _ (θ : ℕ → Ty) (d : Declared) where
           let r = unify_well n n limit V first s state patterns j all in
           (r.delayed, r.bindings)
 
-      by_types : (t : TypeOutcome) → AreSolved eqs [] t → go_on n limit ps [] (length V) t ≡ Some (Solution s) → (s.delayed ≡ []) × HavePatterns s.bindings
+      by_types : (t : TypeOutcome) → AreSolved eqs [] t → go_on n limit ps [] (length V) t ≡ Some (Solution s) → (s.delayed ≡ []) × EachOf IsPatternValue s.bindings
       by_types (none u) t j = absurd (never_solution limit u s j)
       by_types (solved ts u) t j = elim (nat_lt limit u) as (λ b. (elim b [
         | true ↦ Some Spent
         | false ↦ unify n n limit (begun ps [] (length V) (solved ts u))
-      ]) ≡ Some (Solution s) → (s.delayed ≡ []) × HavePatterns s.bindings) [
+      ]) ≡ Some (Solution s) → (s.delayed ≡ []) × EachOf IsPatternValue s.bindings) [
         | true ↦ λ z. absurd (cc)
         | false ↦ λ z. started ts u t z
       ] j

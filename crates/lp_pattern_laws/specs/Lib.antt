@@ -1,3 +1,4 @@
 pub mod Patterns
 pub mod Kinds
 pub mod Parts
+pub mod Goals

@@ -2,7 +2,6 @@
 -- logic variable stands on distinct bound indices and eigenconstants that are new to it.
 use Rattle.std.specs.Prelude.{◌≡◌, ℕ, suc, ◌<◌, List, [], ◌∷◌}
 use Rattle.lp_calculus.specs.Term.{Term, index, atom, abs, app, Atom, constant, integer, text, eigen, logic, param}
-use Rattle.lp_calculus.specs.Fill.{Binding}
 use Rattle.lp_model.specs.Pair.{Pair}
 
 -- a universal variable: the index of an abstraction around, or an eigenconstant
@@ -69,8 +68,3 @@ pub data IsPatternTerm : Term → Type 0 where
 abbrev pub ArePatternPairs : List Pair → Type 0
 ArePatternPairs [] = Unit {0}
 ArePatternPairs (p ∷ ps) = (IsPatternTerm p.left × IsPatternTerm p.right) × ArePatternPairs ps
-
--- values that are such terms
-abbrev pub HavePatterns : List Binding → Type 0
-HavePatterns [] = Unit {0}
-HavePatterns (b ∷ bs) = IsPatternTerm b.value × HavePatterns bs

@@ -1,13 +1,16 @@
 //! What the search does to goals that are pattern terms (Miller 1991).
-ghost use Rattle.std.specs.Prelude.{ℕ, List, []};
+ghost use Rattle.std.specs.Prelude.{◌≡◌, ℕ, ◌<◌, ◌≤◌, List, [], ◌∷◌};
+ghost use Rattle.lp_calculus.specs.Fill.{Binding, Within};
 ghost use Rattle.lp_calculus.specs.Instance.{instance_term};
 ghost use Rattle.lp_calculus.specs.Spine.{arguments};
-ghost use Rattle.lp_calculus.specs.Term.{Term};
+ghost use Rattle.lp_calculus.specs.Term.{atom, eigen, Term};
 ghost use Rattle.lp_calculus.specs.Types.{Ty};
 ghost use Rattle.lp_lemmas.specs.Each.{EachOf};
+ghost use Rattle.lp_model.specs.Flat.{Goal, Goals, instantiate_goals, put_goal, type_goal};
 ghost use Rattle.lp_model.specs.Search.{pairs_of, slots_of, slotted};
 ghost use Rattle.lp_standard.specs.Connectives.{connective_of};
-ghost use Rattle.lp_pattern_laws.specs.Kinds.{IsPatternText};
+ghost use Rattle.lp_pattern_laws.specs.Goals.{ArePatternGoals, IsPatternGoal, IsPatternValue, StaysPattern};
+ghost use Rattle.lp_pattern_laws.specs.Kinds.{existential, IsAtLevel, IsPatternText, Kind, universal};
 ghost use Rattle.lp_pattern_laws.specs.Parts.{existentials, IsPatternForm};
 ghost use Rattle.lp_pattern_laws.specs.Patterns.{ArePatternPairs, free, IsNewTo, IsPatternTerm};
 
@@ -24,4 +27,16 @@ pub fn tried_clauses_unify_patterns()
         (i : ℕ) → IsPatternTerm (slotted (slots_of [] (arguments (instance_term θ h)) (arguments t)) next level i) }
     ensures pairs { (l : ℕ) (vs : List Ty) (θ : ℕ → Ty) (h t : Term) (next level : ℕ) → IsPatternText l (existentials vs) h → IsPatternTerm t →
         ArePatternPairs (pairs_of (slotted (slots_of [] (arguments (instance_term θ h)) (arguments t)) next level) level [] (arguments (instance_term θ h)) (arguments t)) }
+{}
+
+/// Goals of pattern text stay so while a search goes on: where logic variables get values and type variables types, where the variable of a `sigma` or of a clause
+/// becomes a closed pattern term, and where that of a `pi` becomes an eigenconstant above the level.
+pub fn pattern_goals_stay_so()
+    ensures texts { (l : ℕ) (Γ : List Kind) (t : Term) → IsPatternText l Γ t → StaysPattern l Γ t }
+    ensures values { (l : ℕ) (Γ : List Kind) (b : Binding) → IsPatternValue b → (g : Goal) → IsPatternGoal l Γ g → IsPatternGoal l Γ (put_goal b g) }
+    ensures types { (l : ℕ) (Γ : List Kind) (κ : ℕ → Ty) (g : Goal) → IsPatternGoal l Γ g → IsPatternGoal l Γ (type_goal κ g) }
+    ensures variables { (l : ℕ) (f : ℕ → Term) → IsPatternTerm (f 0) → Within (IsAtLevel l) 0 (f 0) →
+        (gs : Goals) → ArePatternGoals l (existential ∷ []) gs → ArePatternGoals l [] (instantiate_goals f gs) }
+    ensures eigenconstants { (l k m : ℕ) (f : ℕ → Term) → f 0 ≡ atom (eigen k) → l < k → k ≤ m →
+        (gs : Goals) → ArePatternGoals l (universal ∷ []) gs → ArePatternGoals m [] (instantiate_goals f gs) }
 {}
