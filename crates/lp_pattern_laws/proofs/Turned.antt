@@ -226,7 +226,8 @@ module _ (θ : ℕ → Ty) (d : Declared) where
       by_turn _ (right_fails {u = u} f) k q ih = absurd (never_solution limit u s' q)
       by_turn _ right_solved k q ih = let z : s ≡ s' = cc in transport IsPatternState z k
 
-  pub solve_well : (V : List Variable) (n limit : ℕ) (eqs : List TypePair) (ps : List Pair) (s : State) → IsTypedInput θ d V eqs ps [] → ArePatternPairs ps → solve n limit eqs ps [] (length V) ≡ Some (Solution s) → Satisfies θ s.types → (s.delayed ≡ []) × EachOf IsPatternValue s.bindings
+  pub solve_well : (V : List Variable) (n limit : ℕ) (eqs : List TypePair) (ps : List Pair) (s : State) → IsTypedInput θ d V eqs ps []
+      → ArePatternPairs ps → solve n limit eqs ps [] (length V) ≡ Some (Solution s) → Satisfies θ s.types → (s.delayed ≡ []) × EachOf IsPatternValue s.bindings
   solve_well V n limit eqs ps s w h e all = option_and_then_some _ (solve_types n eqs [] 0) (Solution s) e λ t i j. by_types t (types_right n eqs [] 0 t i) j
     where
       started : (ts : List TypeBinding) (u : ℕ) → AreSolved eqs [] (solved ts u) → unify n n limit (begun ps [] (length V) (solved ts u)) ≡ Some (Solution s) → (s.delayed ≡ []) × EachOf IsPatternValue s.bindings
