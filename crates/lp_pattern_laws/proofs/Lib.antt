@@ -14,3 +14,4 @@ mod Staying
 mod Carried
 mod GoalsMapped
 mod TextStays
+mod Resumed

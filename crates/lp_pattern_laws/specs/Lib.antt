@@ -2,3 +2,4 @@ pub mod Patterns
 pub mod Kinds
 pub mod Parts
 pub mod Goals
+pub mod Tasks

@@ -6,13 +6,16 @@ ghost use Rattle.lp_calculus.specs.Spine.{arguments};
 ghost use Rattle.lp_calculus.specs.Term.{atom, eigen, Term};
 ghost use Rattle.lp_calculus.specs.Types.{Ty};
 ghost use Rattle.lp_lemmas.specs.Each.{EachOf};
+ghost use Rattle.lp_model.specs.Branch.{Branch, resume};
 ghost use Rattle.lp_model.specs.Flat.{Goal, Goals, instantiate_goals, put_goal, type_goal};
 ghost use Rattle.lp_model.specs.Search.{pairs_of, slots_of, slotted};
+ghost use Rattle.lp_model.specs.Unify.{State};
 ghost use Rattle.lp_standard.specs.Connectives.{connective_of};
 ghost use Rattle.lp_pattern_laws.specs.Goals.{ArePatternGoals, IsPatternGoal, IsPatternValue, StaysPattern};
 ghost use Rattle.lp_pattern_laws.specs.Kinds.{existential, IsAtLevel, IsPatternText, Kind, universal};
 ghost use Rattle.lp_pattern_laws.specs.Parts.{existentials, IsPatternForm};
 ghost use Rattle.lp_pattern_laws.specs.Patterns.{ArePatternPairs, free, IsNewTo, IsPatternTerm};
+ghost use Rattle.lp_pattern_laws.specs.Tasks.{IsPatternBranch, IsPatternEntry};
 
 /// A goal that is a pattern term is taken apart into such goals, where a `pi` gets an eigenconstant that is new to it; and the arguments of an atom are such terms.
 pub fn pattern_goals_come_apart_into_patterns()
@@ -39,4 +42,9 @@ pub fn pattern_goals_stay_so()
         (gs : Goals) → ArePatternGoals l (existential ∷ []) gs → ArePatternGoals l [] (instantiate_goals f gs) }
     ensures eigenconstants { (l k m : ℕ) (f : ℕ → Term) → f 0 ≡ atom (eigen k) → l < k → k ≤ m →
         (gs : Goals) → ArePatternGoals l (universal ∷ []) gs → ArePatternGoals m [] (instantiate_goals f gs) }
+{}
+
+/// A branch of pattern text is one behind a unification that leaves no pair and gives closed pattern terms of their levels.
+pub fn pattern_branches_go_on()
+    ensures { (b : Branch) (s : State) → EachOf IsPatternEntry b.goals → s.delayed ≡ [] → EachOf IsPatternValue s.bindings → IsPatternBranch (resume b s) }
 {}
