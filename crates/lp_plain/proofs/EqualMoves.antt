@@ -26,6 +26,7 @@ use Rattle.lp_pattern.proofs.Keeps.{goes_on_same}
 use Rattle.lp_plain.proofs.AboveUnder.{still_all, still_done, still_turn}
 use Rattle.lp_plain.proofs.Grown.{grown_on, grown_still, placed_on, same_around}
 use Rattle.lp_plain.proofs.Growing.{reads_later}
+use Rattle.lp_plain.proofs.Inside.{inside_still}
 use Rattle.lp_plain.proofs.Opening.{bank_stands}
 use Rattle.lp_plain.proofs.QuietMoves.{by_lost}
 use Rattle.lp_plain.proofs.ResumedUnder.{known_behind, resumed_under, terms_known, types_behind, values_behind}
@@ -56,6 +57,7 @@ module _ (qv : Query) (m n : Machine) (a : Around) (raw rest : Branch) (below : 
         are = still_all qv m n a a st sn gr lt b.bindings below h.above ch;
         in_turn = still_turn qv m n a a st sn gr lt b.bindings below h.above ch;
         is = h.above.is;
+        inside = inside_still qv m n a a st gr lt b.bindings h.above.inside h.above.done.base ch;
       }
 
   -- a solution

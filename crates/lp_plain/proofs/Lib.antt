@@ -103,3 +103,7 @@ pub mod WrittenAssumed
 pub mod WrittenParts
 pub mod WrittenFirst
 pub mod WrittenPut
+mod Bounds
+mod Inside
+mod StepsLeft
+mod Following

@@ -24,6 +24,7 @@ use Rattle.lp_plain.specs.Stacks.{base_of}
 use Rattle.lp_plain.specs.Taking.{IsAbove, IsKept}
 use Rattle.lp_plain.specs.Within.{StandsIn}
 use Rattle.lp_plain.proofs.AboveUnder.{counts_same, marks_more, more_all, more_done, more_turn, pairs_more, still_all, still_done, still_turn}
+use Rattle.lp_plain.proofs.Inside.{inside_more, inside_still}
 use Rattle.lp_plain.proofs.Marking.{drop_length}
 use Rattle.lp_plain.proofs.QuietMoves.{stack_push}
 use Rattle.lp_plain.proofs.Under.{branch_marked, branch_on, branch_wider}
@@ -92,6 +93,7 @@ module _ (qv : Query) (m n : Machine) (a d : Around) (raw : Branch) (s : State T
       are = still_all qv m n a d h.above.done.stands st g lt bound h.rest h.above ch;
       in_turn = still_turn qv m n a d h.above.done.stands st g lt bound h.rest h.above ch;
       is = h.above.is;
+      inside = inside_still qv m n a d h.above.done.stands g lt bound h.above.inside h.above.done.base ch;
     };
     placed = pl;
     next = x;
@@ -165,6 +167,7 @@ module _ (qv : Query) (m n : Machine) (a d : Around) (raw : Branch) (s : State T
         are = more_all qv m n a d h.above.done.stands st g lt bound h.rest h.above c ch (Go x ∷ []) (Go y ∷ []) (a_side x k at refl) ab alternative;
         in_turn = more_turn qv m n a d h.above.done.stands st g lt bound h.rest h.above c ch (Go x ∷ []) (Go y ∷ []) (a_side x k at refl) ab alternative in_turn;
         is = ap (λ l. Go y ∷ l) h.above.is ∙ sym (stack_push h.above.others (Go y ∷ []));
+        inside = inside_more qv m n a d h.above.done.stands g lt bound h.above.inside h.above.done.base h.rest h.above c ch ab (let wt = w.terms in omega (arith, wt)) (let wy = w.types in omega (arith, wy));
       };
       placed = pl;
       next = nx;

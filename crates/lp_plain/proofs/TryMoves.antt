@@ -30,6 +30,7 @@ use Rattle.lp_plain.specs.Within.{StandsIn}
 use Rattle.lp_plain.specs.WrittenTable.{StandsWritten}
 use Rattle.lp_plain.proofs.AboveUnder.{still_all, still_done, still_turn}
 use Rattle.lp_plain.proofs.Grown.{grown_on, placed_on, same_around}
+use Rattle.lp_plain.proofs.Inside.{inside_still}
 use Rattle.lp_plain.proofs.KnownGoals.{assumed_weaker, entries_weaker, goals_in_list, terms_weaker}
 use Rattle.lp_plain.proofs.KnownUnder.{entries_all}
 use Rattle.lp_plain.proofs.OpenedUnder.{listed_goals}
@@ -162,6 +163,7 @@ module _ (qv : Query) (m n : Machine) (a : Around) (call : Call) (one : Candidat
               are = still_all qv m n a a h.above.done.stands stands gr lt g.bindings h.below h.above g.choices;
               in_turn = still_turn qv m n a a h.above.done.stands stands gr lt g.bindings h.below h.above g.choices;
               is = h.above.is;
+              inside = inside_still qv m n a a h.above.done.stands gr lt g.bindings h.above.inside h.above.done.base g.choices;
             };
             placed = placed_on m n a call.place g.grows h.above.done.stands h.placed h.place;
             next = refl;
@@ -248,6 +250,7 @@ module _ (qv : Query) (m n : Machine) (a : Around) (call : Call) (one : Candidat
             are = still_all qv m n a a h.above.done.stands sn gr lt g.bindings h.below h.above g.choices;
             in_turn = still_turn qv m n a a h.above.done.stands sn gr lt g.bindings h.below h.above g.choices;
             is = h.above.is;
+            inside = inside_still qv m n a a h.above.done.stands gr lt g.bindings h.above.inside h.above.done.base g.choices;
           };
           counted = counted [];
         },

@@ -3,3 +3,4 @@ pub mod Collecting
 pub mod Tabling
 pub mod Placing
 pub mod Programs
+pub mod Following
