@@ -26,6 +26,7 @@ use Rattle.lp_plain.proofs.Alternatives.{all_stand_on}
 use Rattle.lp_plain.proofs.Assumed.{lists_noted}
 use Rattle.lp_plain.proofs.Backwards.{all_back, drop_none, nested_last, on_kept, side_of, stands_then, stops_so}
 use Rattle.lp_plain.proofs.Grown.{same_around}
+use Rattle.lp_plain.proofs.Inside.{inside_back, inside_still}
 use Rattle.lp_plain.proofs.Marking.{drop_length}
 use Rattle.lp_plain.proofs.Opening.{same_stands}
 use Rattle.lp_plain.proofs.QuietMoves.{drop_push, stack_push}

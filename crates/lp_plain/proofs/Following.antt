@@ -10,7 +10,7 @@ use Rattle.lp_model.specs.Skeleton.{Broke, Breaks, Goes, Held, Inner, Lasts, Mov
 use Rattle.lp_search_laws.proofs.Stack.Inners.{IsMade, move_more}
 use Rattle.lp_plain.specs.declared.machine.Machine.{Machine}
 use Rattle.lp_plain.specs.declared.outcome.Turn.{Turn}
-use Rattle.lp_plain.specs.Moving.{AreFew, IsAnswer, IsAnswered, IsBack, IsMoved, IsState, IsWaiting, Leads, Query, Waiting}
+use Rattle.lp_plain.specs.Moving.{AreFew, IsAnswer, IsAnswered, IsBack, IsMoved, IsState, IsWaiting, Leads, LeadsTo, MovesTo, Query, Waiting}
 use Rattle.lp_plain.specs.inner.Following.{Comes, ComesOf, Course, IsOfQuery, Kept, Stands, behind_answer, behind_move, goes_on, seen_in}
 use Rattle.lp_plain.proofs.StepsLeft.{LeavesSteps, move_leaves}
 
@@ -162,3 +162,27 @@ module _ (c : Course) (qv : Query) (n : Machine) (within : IsOfQuery c.query qv)
       go : (ws : List Waiting) → qv.outer ≡ ws → IsInnerTurn ws turn → Comes c ws s → Stands c turn n
       go [] e x o = first_leads e o.3.inner_moves k turn o.3.moves s o.0 o.1 o.2 (h o.3.inner_moves) o.3.gives
       go (w ∷ ws) e x o = inner_leads w ws e o.2 k turn x o.2 (omega arith) s o.0 o.1 (h o.2) o.3
+
+-- answers are wanted
+pub wanted : (c : Course) (ws : List Waiting) (s : State Task) → Comes c ws s → (k : ℕ) × (s.answers ≡ suc k)
+wanted c [] s h = (c.left, h.0)
+wanted c (w ∷ ws) s h = (0, h.0)
+
+pub kept_of : (c : Course) (ws : List Waiting) (s : State Task) → Comes c ws s → Kept c s
+kept_of c [] s h = h.2
+kept_of c (w ∷ ws) s h = h.1
+
+pub moved_stands : (c : Course) (qv : Query) (n : Machine) → IsOfQuery c.query qv → (turn : Turn) (s : State Task) → IsInnerTurn qv.outer turn → MovesTo qv turn n s → Comes c qv.outer s → Stands c turn n
+moved_stands c qv n q turn s x h o =
+    let w = wanted c qv.outer s o in
+    leads_stands c qv n q 0 turn s x (λ j. inl (h w.0 w.1 (inner (seen_in c) j) c.enough c.program)) o
+
+-- so is one that leads there
+pub led_stands : (c : Course) (qv : Query) (n : Machine) → IsOfQuery c.query qv → (k : ℕ) (turn : Turn) (s : State Task) → IsInnerTurn qv.outer turn → LeadsTo k qv turn n s → Comes c qv.outer s → Stands c turn n
+led_stands c qv n q k turn s x h o = go turn x h
+  where
+    go : (turn : Turn) → IsInnerTurn qv.outer turn → LeadsTo k qv turn n s → Stands c turn n
+    go Turn.On x h = let w = wanted c qv.outer s o in leads_stands c qv n q k Turn.On s x (λ j. h w.0 w.1 (inner (seen_in c) j) c.enough (λ e. cc) c.program) o
+    go Turn.Back x h = let w = wanted c qv.outer s o in leads_stands c qv n q k Turn.Back s x (λ j. h w.0 w.1 (inner (seen_in c) j) c.enough (λ e. cc) c.program) o
+    go Turn.Answered x h = let w = wanted c qv.outer s o in leads_stands c qv n q k Turn.Answered s x (λ j. h w.0 w.1 (inner (seen_in c) j) c.enough (λ e. cc) c.program) o
+    go (Turn.Ended e) x h = λ few. (let w = wanted c qv.outer s o in leads_stands c qv n q k (Turn.Ended e) s x (λ j. h w.0 w.1 (inner (seen_in c) j) c.enough few c.program) o few)

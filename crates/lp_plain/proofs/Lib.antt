@@ -107,3 +107,4 @@ mod Bounds
 mod Inside
 mod StepsLeft
 mod Following
+mod Treated

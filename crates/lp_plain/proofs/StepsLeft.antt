@@ -40,13 +40,13 @@ final_most : (n p : ℕ) (b : Bool) → TakesAtMost n (if b then Held 0 [] p els
 final_most n p true = omega arith
 final_most n p false = tt
 
-module _ {T A : Type 0} where
-  denied_leaves : (n k g u : ℕ) (lost : Bool) (ts rest : List T) (r : Inner) → TakesAtMost n r → LeavesSteps {T} {A} (suc n) (move_denied n k g u lost ts rest r)
-  denied_leaves n k g u lost ts rest (Refuted j ns p) h = omega (arith, h)
-  denied_leaves n k g u lost ts rest (Held j ns p) h = omega (arith, h)
-  denied_leaves n k g u lost ts rest (Broke j ns e) h = tt
-  denied_leaves n k g u lost ts rest (Lasts j ns) h = tt
+denied_leaves : {T : Type 0} (A : Type 0) (n k g u : ℕ) (lost : Bool) (ts rest : List T) (r : Inner) → TakesAtMost n r → LeavesSteps {T = T} {A = A} (suc n) (move_denied n k g u lost ts rest r)
+denied_leaves A n k g u lost ts rest (Refuted j ns p) h = omega (arith, h)
+denied_leaves A n k g u lost ts rest (Held j ns p) h = omega (arith, h)
+denied_leaves A n k g u lost ts rest (Broke j ns e) h = tt
+denied_leaves A n k g u lost ts rest (Lasts j ns) h = tt
 
+module _ {T A : Type 0} where
   module _ (go : (A → Bool) → State T → Inner) (most : (f : A → Bool) (s : State T) → TakesAtMost s.steps (go f s)) where
     view_leaves : (n k g u p : ℕ) (lost : Bool) (rest : List T) (v : View T A) → LeavesSteps n (move_view go n k g u p lost rest v)
     view_leaves n k g u p lost rest (Gives a) = tt
@@ -58,7 +58,7 @@ module _ {T A : Type 0} where
     view_leaves zero k g u p lost rest (Cuts m ts) = tt
     view_leaves (suc n) k g u p lost rest (Cuts m ts) = omega arith
     view_leaves zero k g u p lost rest (Denies t f ts) = tt
-    view_leaves (suc n) k g u p lost rest (Denies t f ts) = denied_leaves n k g u lost ts rest (go f (starts_within u t n 1)) (most f (starts_within u t n 1))
+    view_leaves (suc n) k g u p lost rest (Denies t f ts) = denied_leaves A n k g u lost ts rest (go f (starts_within u t n 1)) (most f (starts_within u t n 1))
     view_leaves n k g u p lost rest (Halts e) = tt
     view_leaves n k g u p lost rest Lacks = tt
 

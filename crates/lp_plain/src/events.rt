@@ -4,6 +4,7 @@ ghost use Rattle.lp_model.specs.declared.ending.Ending.{Ending};
 ghost use Rattle.lp_model.specs.declared.answer.Event.TheVariants as told;
 ghost use Rattle.lp_model.specs.Whole.{IsTold, Keeps};
 ghost use Rattle.lp_plain.specs.Held.{variables_of, query_of, ended, failed};
+ghost use Rattle.lp_plain.specs.inner.Following.{Course, Stands, turn_told};
 
 use crate::answer::answer_of;
 use crate::machine::Machine;
@@ -22,22 +23,57 @@ enum Told {
     Ended(Ending),
 }
 
+// Tells that the search goes back, where it does.
+fn tell_turn<W: Watch>(
+    machine: &Machine,
+    crowd: &mut Crowd<'_, W>,
+    turn: Turn,
+) -> Result<(), Memory> {
+    if turn == Turn::Back {
+        return tell_back(machine, crowd);
+    }
+    Ok(())
+}
+
+// One turn: the first goal of the branch at work, or the newest alternative.
+fn take_turn<W: Watch>(
+    machine: &mut Machine,
+    crowd: &mut Crowd<'_, W>,
+    turn: Turn,
+) -> Result<Turn, Memory>
+    ensures stands { IfOk result (λ next. (c : Course) → Stands c turn machine.old → Stands c next machine.new) }
+{
+    match turn {
+        Turn::On => {
+            let next = take_goal(machine, crowd)?;
+            tell_turn(machine, crowd, next)?;
+            Ok(next)
+        }
+        Turn::Back => {
+            let next = go_back(machine)?;
+            tell_turn(machine, crowd, next)?;
+            Ok(next)
+        }
+        Turn::Answered => Ok(Turn::Answered),
+        Turn::Ended(ending) => Ok(Turn::Ended(ending)),
+    }
+}
+
 // Goes on until something is to be told.
 fn run<W: Watch>(
     machine: &mut Machine,
     crowd: &mut Crowd<'_, W>,
     first: Turn,
-) -> Result<Told, Memory> {
+) -> Result<Told, Memory>
+    ensures stands { IfOk result (λ told. (c : Course) → Stands c first machine.old → Stands c (turn_told told) machine.new) }
+{
     let mut turn = first;
-    for _ in 0..u64::MAX {
-        turn = match turn {
-            Turn::On => take_goal(machine, crowd)?,
-            Turn::Back => go_back(machine)?,
+    'turns: for _ in 0..u64::MAX {
+        match turn {
             Turn::Answered => return Ok(Told::Answered),
             Turn::Ended(ending) => return Ok(Told::Ended(ending)),
-        };
-        if turn == Turn::Back {
-            tell_back(machine, crowd)?;
+            Turn::On => turn = take_turn(machine, crowd, Turn::On)?,
+            Turn::Back => turn = take_turn(machine, crowd, Turn::Back)?,
         }
     }
     Err(Memory)

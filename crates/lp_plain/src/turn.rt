@@ -21,6 +21,7 @@ ghost use Rattle.lp_plain.specs.Tables.{AreGoals, Never, shown};
 ghost use Rattle.lp_plain.specs.Taking.{FirstIsApart, IsApartFirst, IsApartFlat, TakesApart, TakesGoals};
 ghost use Rattle.lp_plain.specs.Within.{StandsIn};
 ghost use Rattle.lp_plain.specs.WrittenSearch.{IsApartAtHand, IsWrittenSearch, WritesFlat, WritesGoals};
+ghost use Rattle.lp_plain.specs.inner.Following.{Course, Stands};
 
 use crate::act::Act;
 use crate::atomic::{take_atom, take_cut, try_candidate};
@@ -138,6 +139,7 @@ pub(crate) fn take_goal<W: Watch>(
     ensures marked { IfOk result (λ turn. turn ≡ Turn.On → (a : Around) (s : State Task) (h : IsStateOf machine.old a s) → IsApartFirst h.at_work.goals → IsMarked machine.old → IsMarked machine.new) }
     ensures answered { IfOk result (λ turn. (qv : Query) (s : State Task) → IsState qv machine.old s → machine.old.branch.goals ≡ None → machine.old.denied ≡ None → (turn ≡ Turn.Answered) × MovesTo qv turn machine.new s) }
     ensures moved { IfOk result (λ turn. (qv : Query) (s : State Task) (h : IsState qv machine.old s) → IsPlainFirst h.raw.goals → MovesTo qv turn machine.new s) }
+    ensures stands { IfOk result (λ turn. (c : Course) → Stands c Turn.On machine.old → Stands c turn machine.new) }
 {
     let Some(number) = machine.branch.goals else {
         return Ok(end_branch(machine));
@@ -195,6 +197,7 @@ pub(crate) fn go_back(machine: &mut Machine) -> Result<Turn, Memory>
     ensures leads { IfOk result (λ turn. (c : Choice) (rest : List Choice) (call : Called) (one : Tried) → machine.old.choices.items ≡ rest ++ c ∷ [] → c.untried ≡ Untried.Clauses call one → base_of machine.old.denied ≤ length rest → (qv : Query) (s : State Task) → IsBack qv machine.old s →
         IsWrittenSearch machine.old qv.arity → HasFreeTypes machine.new → LeadsTo 1 qv turn machine.new s) }
     ensures ends { IfOk result (λ turn. machine.old.choices.items ≡ [] → (a : Around) (s : State Task) → IsBackOf machine.old a s → EndsSo turn machine.old.counts.lost s) }
+    ensures stands { IfOk result (λ turn. (c : Course) → Stands c Turn.Back machine.old → Stands c turn machine.new) }
 {
     let Some(untried) = machine.take_choice()? else {
         if machine.counts.lost {

@@ -7,6 +7,7 @@ use Rattle.lp_model.specs.Flat.{Clause}
 use Rattle.lp_model.specs.Search.{has_no_pairs, look}
 use Rattle.lp_model.specs.Skeleton.{Broke, Goes, Held, Inner, Lasts, Note, Refuted, State, Tells, View, inner, move, row_limit}
 use Rattle.lp_model.specs.Unify.{unit_limit}
+use Rattle.lp_plain.specs.declared.events.Told.{Told}
 use Rattle.lp_plain.specs.declared.machine.Machine.{Machine}
 use Rattle.lp_plain.specs.declared.outcome.Turn.{Turn}
 use Rattle.lp_plain.specs.Moving.{AreFew, IsAnswer, IsAnswered, IsBack, IsPlain, IsState, Query, Waiting}
@@ -37,10 +38,10 @@ ComesOf c behind w n (Broke k ns e) = c.event ≡ Over e
 ComesOf c behind w n (Lasts k ns) = ⊥
 
 -- from the one state of the definition's search moves lead to the other
-pub data IsReached (see : ℕ → Task → View Task Answer) (s u : State Task) : Type 0 where
-  at_once : s ≡ u → IsReached see s u
-  behind_move : (j k : ℕ) (ns : List Note) (t : State Task) → move (inner see j) see s ≡ Goes k ns t → IsReached see t u → IsReached see s u
-  behind_answer : (j : ℕ) (a : Answer) (ns : List Note) (t : State Task) → move (inner see j) see s ≡ Tells a ns t → IsReached see t u → IsReached see s u
+pub data IsReached (see : ℕ → Task → View Task Answer) : State Task → State Task → Type 0 where
+  at_once : {s u : State Task} → s ≡ u → IsReached see s u
+  behind_move : {s u : State Task} (j k : ℕ) (ns : List Note) (t : State Task) → move (inner see j) see s ≡ Goes k ns t → IsReached see t u → IsReached see s u
+  behind_answer : {s u : State Task} (j : ℕ) (a : Answer) (ns : List Note) (t : State Task) → move (inner see j) see s ≡ Tells a ns t → IsReached see t u → IsReached see s u
 
 -- TO VANISH: the tasks of which a turn is known to be the definition's: branches whose first goal is neither an atom nor negated
 abbrev pub IsTreatedFirst : List Entry → Type 0
@@ -77,3 +78,8 @@ Stands c Turn.On m = (qv : Query) × (s : State Task) × IsOfQuery c.query qv ×
 Stands c Turn.Back m = (qv : Query) × (s : State Task) × IsOfQuery c.query qv × IsBack qv m s × Comes c qv.outer s
 Stands c Turn.Answered m = (qv : Query) × (x : Answer) × IsOfQuery c.query qv × (qv.outer ≡ []) × (c.event ≡ Gave x) × IsAnswer qv m x × IsAnswered qv m c.after × (c.after.answers ≡ c.left) × (c.after.given ≡ suc c.given) × Kept c c.after
 Stands c (Turn.Ended e) m = AreFew (Turn.Ended e) c.enough → c.event ≡ Over e
+
+-- the turn behind which something is told
+abbrev pub turn_told : Told → Turn
+turn_told Told.Answered = Turn.Answered
+turn_told (Told.Ended e) = Turn.Ended e

@@ -1,8 +1,10 @@
-use Rattle.std.proofs.Common.{◌≡◌, ◌∙◌, true, false, refl, sym, ap, subst}
+use Rattle.std.proofs.Common.{◌≡◌, ◌∙◌, true, false, refl, sym, ap, subst, arith}
 use Rattle.lp_plain.specs.declared.choice.Untried.{Untried}
 use Rattle.lp_plain.specs.Moving.{IsTrying}
 use Rattle.lp_plain.proofs.Backwards.{back_marked, back_state, ends_so}
 use Rattle.lp_plain.proofs.Restored.{goes_back}
+use Rattle.lp_plain.proofs.Following.{kept_of, moved_stands}
+use Rattle.lp_plain.proofs.Treated.{has_last, has_none, inner_turn, last_of, none_below, not_clauses, not_denied}
 use Rattle.lp_plain.proofs.BackMoves.{none_moved, side_state}
 use Rattle.lp_plain.proofs.WrittenFirst.{back_written}
 use Rattle.lp_plain.proofs.WrittenSearches.{search_back}
@@ -176,3 +178,76 @@ returns-in-Denied-clause-written c = λ k rest from e u ar i w.
     let z = t.0 in
     let y = c.in-Denied.is in
     absurd (cc)
+
+pub returns-then-machine-clause-stands : goal.returns-then-machine-clause-stands
+returns-then-machine-clause-stands c = λ k h.
+    let m = c.args.machine.now in
+    let qv = h.0 in
+    let s = h.1 in
+    let none = h.2.2 in
+    elim (last_of m.choices.items) [
+      | has_none e ↦ moved_stands k qv m h.2 _ s (inner_turn qv.outer _ none) (returns-then-machine-clause-moved c qv e s h.3) h.4
+      | has_last ys y e ↦ absurd (let z = (c.in_ok-untried.ensures.taken y ys e).0 in let w = c.in_default.is in cc)
+    ]
+
+pub returns-in_default-clause-stands : goal.returns-in_default-clause-stands
+returns-in_default-clause-stands c = λ k h.
+    let m = c.args.machine.now in
+    let qv = h.0 in
+    let s = h.1 in
+    let none = h.2.2 in
+    elim (last_of m.choices.items) [
+      | has_none e ↦ moved_stands k qv m h.2 _ s (inner_turn qv.outer _ none) (returns-in_default-clause-moved c qv e s h.3) h.4
+      | has_last ys y e ↦ absurd (let z = (c.in_ok-untried.ensures.taken y ys e).0 in let w = c.in_default.is in cc)
+    ]
+
+pub returns-in_ok-go_right-in-Goals-clause-stands : goal.returns-in_ok-go_right-in-Goals-clause-stands
+returns-in_ok-go_right-in-Goals-clause-stands c = λ k h.
+    let m = c.args.machine.now in
+    let qv = h.0 in
+    let s = h.1 in
+    let none = h.2.2 in
+    let low = none_below qv m h.3.around s.stack none h.3.above in
+    elim (last_of m.choices.items) [
+      | has_none e ↦ absurd (let z = c.in_ok-untried.ensures.none e in let w = c.in-Some.is in cc)
+      | has_last ys y e ↦
+          (let z = (c.in_ok-untried.ensures.taken y ys e).0 in
+          let w = c.in-Goals.is in
+          let v = c.in-Some.is in
+          let u : y.untried ≡ Untried.Goals c.in-Goals.goals = cc in
+          (qv, s, h.2, returns-in_ok-go_right-in-Goals-clause-resumed c qv y ys c.in-Goals.goals e u (omega (arith, low)) s h.3, h.4))
+    ]
+
+pub returns-in_ok-turn-in-Clauses-clause-stands : goal.returns-in_ok-turn-in-Clauses-clause-stands
+returns-in_ok-turn-in-Clauses-clause-stands c = λ k h.
+    let m = c.args.machine.now in
+    let qv = h.0 in
+    let s = h.1 in
+    let none = h.2.2 in
+    let low = none_below qv m h.3.around s.stack none h.3.above in
+    elim (last_of m.choices.items) [
+      | has_none e ↦ absurd (let z = c.in_ok-untried.ensures.none e in let w = c.in-Some.is in cc)
+      | has_last ys y e ↦
+          (let z = (c.in_ok-untried.ensures.taken y ys e).0 in
+          let w = c.in-Clauses.is in
+          let v = c.in-Some.is in
+          let u : y.untried ≡ Untried.Clauses c.in-Clauses.call c.in-Clauses.candidate = cc in
+          absurd (not_clauses k qv m s h.3 y ys e (omega (arith, low)) c.in-Clauses.call c.in-Clauses.candidate u (kept_of k qv.outer s h.4)))
+    ]
+
+pub returns-in-Denied-clause-stands : goal.returns-in-Denied-clause-stands
+returns-in-Denied-clause-stands c = λ k h.
+    let m = c.args.machine.now in
+    let qv = h.0 in
+    let s = h.1 in
+    let none = h.2.2 in
+    let low = none_below qv m h.3.around s.stack none h.3.above in
+    elim (last_of m.choices.items) [
+      | has_none e ↦ absurd (let z = c.in_ok-untried.ensures.none e in let w = c.in-Some.is in cc)
+      | has_last ys y e ↦
+          (let z = (c.in_ok-untried.ensures.taken y ys e).0 in
+          let w = c.in-Denied.is in
+          let v = c.in-Some.is in
+          let u : y.untried ≡ Untried.Denied c.in-Denied.denial = cc in
+          absurd (not_denied k qv m s h.3 y ys e (omega (arith, low)) c.in-Denied.denial u))
+    ]
