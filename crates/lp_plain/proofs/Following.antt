@@ -14,7 +14,7 @@ use Rattle.lp_plain.specs.Moving.{AreFew, IsAnswer, IsAnswered, IsBack, IsMoved,
 use Rattle.lp_plain.specs.inner.Following.{Comes, ComesOf, Course, IsOfQuery, Kept, Stands, behind_answer, behind_move, goes_on, seen_in}
 use Rattle.lp_plain.proofs.StepsLeft.{LeavesSteps, move_leaves}
 
-pair_left : (x y : Event Answer) (s t : State Task) → ◌≡◌ {A = Option (Event Answer × State Task)} (Some (x, s)) (Some (y, t)) → (x ≡ y) × (s ≡ t)
+pub pair_left : (x y : Event Answer) (s t : State Task) → ◌≡◌ {A = Option (Event Answer × State Task)} (Some (x, s)) (Some (y, t)) → (x ≡ y) × (s ≡ t)
 pair_left x y s t h =
     let e : ◌≡◌ {A = Event Answer × State Task} (x, s) (y, t) = cc in
     (ap (λ (z : Event Answer × State Task). z.0) e, ap (λ (z : Event Answer × State Task). z.1) e)

@@ -108,3 +108,8 @@ mod Inside
 mod StepsLeft
 mod Following
 mod Treated
+mod EventMoves
+mod Between
+mod AnswerTerms
+mod CallLooks
+mod CallTries

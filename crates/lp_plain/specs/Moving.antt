@@ -408,6 +408,7 @@ pub record IsAnswer (qv : Query) (m : Machine) (x : Answer) : Type 0 where
   pub types : x.types ≡ map (instance closing.types) (types_from qv.types 0)
   pub values : x.values ≡ map (closed closing) (vars_from qv.vars 0)
   pub pairs : ArePairsFor m.bank closing m.branch.pairs.items x.pairs
+  pub left : All (IsPairOf (length m.bank.terms)) m.branch.pairs.items
 
 -- an answer was given: the search goes back from there, in a new row
 pub record IsAnswered (qv : Query) (m : Machine) (s : State Task) : Type 0 where

@@ -4,3 +4,5 @@ pub mod Tabling
 pub mod Placing
 pub mod Programs
 pub mod Following
+pub mod Between
+pub mod Answering

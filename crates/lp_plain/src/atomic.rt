@@ -1,12 +1,14 @@
 // Atomic goals: a step each.
-ghost use Rattle.std.specs.Prelude.{◌≡◌, ℕ, List, length, IfOk, OnOk};
+ghost use Rattle.std.specs.Prelude.{◌≡◌, ℕ, List, None, length, IfOk, OnOk};
 ghost use Rattle.lp_model.specs.Branch.{Branch, Task};
 ghost use Rattle.lp_model.specs.Skeleton.{State};
 ghost use Rattle.lp_plain.specs.declared.outcome.Turn.{Turn};
 ghost use Rattle.lp_plain.specs.declared.table.Flat.{Flat};
 ghost use Rattle.lp_plain.specs.Cuts.{CutsOff};
 ghost use Rattle.lp_plain.specs.Assuming.{KeepsAssumed};
+ghost use Rattle.lp_plain.specs.Calling.{CallLeads, IsLookedAs};
 ghost use Rattle.lp_plain.specs.Entries.{Around, KeepsGoals};
+ghost use Rattle.lp_plain.specs.HeadLooks.{OnlyBank};
 ghost use Rattle.lp_plain.specs.Moving.{HasFreeTypes, IsAtGoal, IsAtTry, IsRunning, IsTrying, LeadsTo, MovesTo, Query};
 ghost use Rattle.lp_plain.specs.Stacks.{CutsTasks, HaveTasks, IsMarkOf};
 ghost use Rattle.lp_plain.specs.Within.{StandsIn};
@@ -128,6 +130,44 @@ pub(crate) fn try_candidate(
     Ok(turn_of(unified))
 }
 
+// The call of an atom, with its first argument as it was looked at; none where that is too deep.
+fn looked_call(
+    machine: &mut Machine,
+    goal: TermId,
+    head: Head,
+    first: Option<TermId>,
+    place: Place,
+    behind: Option<usize>,
+) -> Result<Option<Call>, Memory>
+    ensures only { OnOk result (OnlyBank machine.old machine.new) }
+    ensures looks { IfOk result (IsLookedAs machine.old machine.new (record { goal = goal; head = head; first = None; key = None; place = place; behind = behind }) first) }
+{
+    let Some(arg) = first else {
+        return Ok(Some(Call {
+            goal,
+            head,
+            first: None,
+            key: None,
+            place,
+            behind,
+        }));
+    };
+    let looked = head_normal(machine, arg)?;
+    let Some(form) = looked else {
+        return Ok(None);
+    };
+    let key = key_of(&machine.bank, form);
+    Ok(Some(Call {
+        goal,
+        head,
+        first: Some(form),
+        key,
+        place,
+        behind,
+    }))
+}
+
+// Tries the clauses for an atom whose step was taken.
 fn take_call(
     machine: &mut Machine,
     goal: TermId,
@@ -135,28 +175,19 @@ fn take_call(
     first: Option<TermId>,
     place: Place,
     behind: Option<usize>,
-) -> Result<Turn, Memory> {
-    let mut looked = None;
-    let mut key = None;
-    if let Some(arg) = first {
-        let Some(form) = head_normal(machine, arg)? else {
-            return Ok(Turn::Ended(Ending::Deep));
-        };
-        looked = Some(form);
-        key = key_of(&machine.bank, form);
-    }
-    let call = Call {
-        goal,
-        head,
-        first: looked,
-        key,
-        place,
-        behind,
+) -> Result<Turn, Memory>
+    ensures leads { IfOk result (CallLeads machine.old machine.new place goal head first behind) }
+{
+    let looked = looked_call(machine, goal, head, first, place, behind)?;
+    let Some(call) = looked else {
+        return Ok(Turn::Ended(Ending::Deep));
     };
-    match machine.first_candidate(&call)? {
-        Some(candidate) => try_candidate(machine, &call, candidate),
-        None => Ok(Turn::Back),
-    }
+    let found = machine.first_candidate(&call)?;
+    let Some(candidate) = found else {
+        return Ok(Turn::Back);
+    };
+    let turn = try_candidate(machine, &call, candidate)?;
+    Ok(turn)
 }
 
 /// Takes an atomic goal: one step.

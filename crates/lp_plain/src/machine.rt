@@ -1,11 +1,11 @@
 // What a search works on: one bank and one list of bindings for all branches. An alternative holds what leads back to
 // its branch.
-ghost use Rattle.std.specs.Prelude.{◌≡◌, ℕ, ◌∷◌, ◌++◌, [], List, OnOk, IfOk, IfSome, length, ◌≤◌, nat_lt, take, slice_get, Option, None, Some};
+ghost use Rattle.std.specs.Prelude.{◌≡◌, ℕ, ◌∷◌, ◌++◌, [], List, OnOk, IfOk, IfSome, length, ◌≤◌, nat_lt, take, filter, slice_get, Option, None, Some};
 ghost use Rattle.lp_calculus.specs.Term.{Term};
 ghost use Rattle.lp_plain.specs.declared.choice.Choice.{Choice};
 ghost use Rattle.lp_model.specs.Branch.{Entry, Task};
 ghost use Rattle.lp_model.specs.Flat.{Clause, Clauses, Goal};
-ghost use Rattle.lp_model.specs.Search.{candidates};
+ghost use Rattle.lp_model.specs.Search.{candidates, has_head, passes};
 ghost use Rattle.lp_plain.specs.Assuming.{HasAssumed, HasFrameAt, KeepsAssumed, lists_of};
 ghost use Rattle.lp_plain.specs.Cuts.{cut_off};
 ghost use Rattle.lp_plain.specs.Entries.{Around, AreTodo, IsListAt, HasAlternative, KeepsGoals, Reads, placed};
@@ -21,7 +21,7 @@ ghost use Rattle.lp_plain.specs.Opening.{IsNewVariable};
 ghost use Rattle.lp_plain.specs.Restoring.{IsRestored, IsTaken};
 ghost use Rattle.lp_plain.specs.Scopes.{block_count, blocks_of, value_count};
 ghost use Rattle.lp_plain.specs.Tables.{shown};
-ghost use Rattle.lp_plain.specs.Trying.{AreApplied, AreOfProgram, AreTries, HasProgram, IsCallOf, IsNext, IsTried, all_clauses, first_in};
+ghost use Rattle.lp_plain.specs.Trying.{AreApplied, AreOfProgram, AreTries, AreTriesApart, HasProgram, IsCallOf, IsNext, IsTried, all_clauses, first_in};
 ghost use Rattle.lp_plain.specs.Within.{IsTodoIn, StandsIn};
 ghost use Rattle.lp_plain.specs.WrittenTable.{PutsList};
 
@@ -164,6 +164,8 @@ impl Machine {
     pub(crate) fn first_candidate(&self, call: &Call) -> Result<Option<Candidate>, Memory>
         ensures tries { IfOk result (λ found. (ar : ℕ → ℕ) (css : List Clauses) (before : List Clause) (t : Term) → HasProgram self.now css → HasAssumed (lists_of self.now) call.now.place.assumed before → IsCallOf ar self.now.bank call.now t →
             AreOfProgram ar (all_clauses css) → AreApplied ar before → AreTries (lists_of self.now) (first_in self.now call.now.head) call.now.key found (candidates (all_clauses css) before t)) }
+        ensures apart { IfOk result (λ found. (ar : ℕ → ℕ) (css : List Clauses) (before : List Clause) (t : Term) → HasProgram self.now css → HasAssumed (lists_of self.now) call.now.place.assumed before → IsCallOf ar self.now.bank call.now t →
+            AreOfProgram ar (all_clauses css) → AreApplied ar before → AreTriesApart (lists_of self.now) (first_in self.now call.now.head) call.now.key found (filter (has_head t) before) (filter (passes t) (all_clauses css))) }
     {
         let found = first_candidate(
             &self.bank,

@@ -140,8 +140,12 @@ fn put_all(
     })
 }
 
-// The variables of the query, in order.
-fn query_variables(alloc: Global, bank: &mut Bank, count: usize) -> Result<Vec<TermId>, Memory>
+/// The variables of the query, in order.
+pub(crate) fn query_variables(
+    alloc: Global,
+    bank: &mut Bank,
+    count: usize,
+) -> Result<Vec<TermId>, Memory>
     ensures count { IfOk result (λ made. length made.items ≡ count) }
     ensures kept { Extends bank.old bank.new }
     ensures within { IfOk result (λ made. AreTermsOf bank.new made.items) }

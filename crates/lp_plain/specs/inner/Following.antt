@@ -54,9 +54,12 @@ IsTreated (Try c t e b k) = ⊥
 IsTreated (Stop e) = ⊥
 IsTreated Lack = ⊥
 
--- what each state of the definition's search has that is followed
+-- what each state of the definition's search has that is followed, over these clauses, with so many steps for each look
+abbrev pub IsKept : List Clause → (steps : ℕ) → State Task → Type 0
+IsKept P n s = (u : State Task) → IsReached (look unit_limit n P) s u → EachOf IsTreated u.stack
+
 abbrev pub Kept : Course → State Task → Type 0
-Kept c s = (u : State Task) → IsReached (seen_in c) s u → EachOf IsTreated u.stack
+Kept c s = IsKept c.program c.enough s
 
 -- the event is what comes of the search at work, and then of those that wait for it
 abbrev pub Comes : Course → List Waiting → State Task → Type 0

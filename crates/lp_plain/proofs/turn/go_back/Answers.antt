@@ -1,5 +1,7 @@
 use Rattle.std.proofs.Common.{◌≡◌, ◌∙◌, true, false, refl, sym, ap, subst, arith}
+use Rattle.lp_model.specs.declared.ending.Ending.TheVariants.{NoMore, NoMoreCut}
 use Rattle.lp_plain.specs.declared.choice.Untried.{Untried}
+use Rattle.lp_plain.specs.declared.outcome.Turn.{Turn}
 use Rattle.lp_plain.specs.Moving.{IsTrying}
 use Rattle.lp_plain.proofs.Backwards.{back_marked, back_state, ends_so}
 use Rattle.lp_plain.proofs.Restored.{goes_back}
@@ -141,7 +143,7 @@ returns-in_ok-turn-in-Clauses-clause-leads c = λ k rest call one e u l qv s h w
     let same : Untried.Clauses c.in-Clauses.call c.in-Clauses.candidate ≡ Untried.Clauses call one = (let z = t.0 in let y = c.in-Clauses.is in cc) in
     let sc : c.in-Clauses.call ≡ call = cc in
     let so : c.in-Clauses.candidate ≡ one = cc in
-    c.in_ok-turn.ensures.leads qv h.around s
+    c.in_ok-turn-in-Clauses.ensures.leads qv h.around s
     (subst (λ x. IsTrying qv n h.around x c.in-Clauses.candidate s) (sym sc) (subst (λ x. IsTrying qv n h.around call x s) (sym so) (o.trying qv k rest call one e u l s h)))
     (search_back c.args.machine.now n k rest e t.1 qv.arity w).at_work ft
 
@@ -186,7 +188,7 @@ returns-then-machine-clause-stands c = λ k h.
     let s = h.1 in
     let none = h.2.2 in
     elim (last_of m.choices.items) [
-      | has_none e ↦ moved_stands k qv m h.2 _ s (inner_turn qv.outer _ none) (returns-then-machine-clause-moved c qv e s h.3) h.4
+      | has_none e ↦ moved_stands k qv m h.2 (Turn.Ended NoMoreCut) s (inner_turn qv.outer (Turn.Ended NoMoreCut) none) (returns-then-machine-clause-moved c qv e s h.3) h.4
       | has_last ys y e ↦ absurd (let z = (c.in_ok-untried.ensures.taken y ys e).0 in let w = c.in_default.is in cc)
     ]
 
@@ -197,7 +199,7 @@ returns-in_default-clause-stands c = λ k h.
     let s = h.1 in
     let none = h.2.2 in
     elim (last_of m.choices.items) [
-      | has_none e ↦ moved_stands k qv m h.2 _ s (inner_turn qv.outer _ none) (returns-in_default-clause-moved c qv e s h.3) h.4
+      | has_none e ↦ moved_stands k qv m h.2 (Turn.Ended NoMore) s (inner_turn qv.outer (Turn.Ended NoMore) none) (returns-in_default-clause-moved c qv e s h.3) h.4
       | has_last ys y e ↦ absurd (let z = (c.in_ok-untried.ensures.taken y ys e).0 in let w = c.in_default.is in cc)
     ]
 
