@@ -91,7 +91,7 @@ module _ (m : Machine) (b : Nodes) (x : Extends m.bank b) where
     denied = refl;
   }
 
-  bank_goals : GrowsGoals m (with_bank m b)
+  pub bank_goals : GrowsGoals m (with_bank m b)
   bank_goals = record { bank = x; table = refl; frames = goes_on_same m.frames.items; blocks = goes_on_same m.scopes.blocks.items; values = goes_on_same m.scopes.values.items }
 
   pub bank_alternatives : (qv : Query) (a : Around) (stack : List Task) → HasAlternatives qv m a stack → HasAlternatives qv (with_bank m b) a stack

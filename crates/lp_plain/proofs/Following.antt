@@ -20,7 +20,7 @@ pair_left x y s t h =
     (ap (λ (z : Event Answer × State Task). z.0) e, ap (λ (z : Event Answer × State Task). z.1) e)
 
 -- what came of a search after some steps, with those steps counted
-later_comes : (c : Course) (behind : State Task → Type 0) (w : Waiting) (n m j : ℕ) (ns : List Note) (r : Inner) → n ≡ j + m → ComesOf c behind w n (later j ns r) → ComesOf c behind w m r
+pub later_comes : (c : Course) (behind : State Task → Type 0) (w : Waiting) (n m j : ℕ) (ns : List Note) (r : Inner) → n ≡ j + m → ComesOf c behind w n (later j ns r) → ComesOf c behind w m r
 later_comes c behind w n m j ns (Refuted k ms p) e h = let q : n - (j + k) ≡ m - k = omega (arith, e) in subst (λ i. behind (goes_on w i p (Go w.branch ∷ w.rest))) q h
 later_comes c behind w n m j ns (Held k ms p) e h = let q : n - (j + k) ≡ m - k = omega (arith, e) in subst (λ i. behind (goes_on w i p w.rest)) q h
 later_comes c behind w n m j ns (Broke k ms x) e h = h

@@ -113,3 +113,7 @@ mod Between
 mod AnswerTerms
 mod CallLooks
 mod CallTries
+mod CallMoves
+mod CallTurns
+mod Denying
+mod CallEnds

@@ -122,7 +122,7 @@ assumed_candidates l [] (c ∷ cs) h = absurd h
 assumed_candidates l (n ∷ ns) [] h = absurd h
 assumed_candidates l (n ∷ ns) (c ∷ cs) h = (h.0, assumed_candidates l ns cs h.1)
 
-candidates_append : (l : Lists) (ks js : List Candidate) (cs ds : List Clause) → AreCandidates l ks cs → AreCandidates l js ds → AreCandidates l (ks ++ js) (cs ++ ds)
+pub candidates_append : (l : Lists) (ks js : List Candidate) (cs ds : List Clause) → AreCandidates l ks cs → AreCandidates l js ds → AreCandidates l (ks ++ js) (cs ++ ds)
 candidates_append l [] js [] ds h g = g
 candidates_append l [] js (c ∷ cs) ds h g = absurd h
 candidates_append l (k ∷ ks) js [] ds h g = absurd h

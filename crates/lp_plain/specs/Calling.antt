@@ -4,7 +4,7 @@ use Rattle.lp_calculus.specs.Fill.{Within}
 use Rattle.lp_calculus.specs.Spine.{arguments, head_of}
 use Rattle.lp_calculus.specs.Term.{Term}
 use Rattle.lp_lemmas.specs.Each.{EachOf}
-use Rattle.lp_term.specs.Nodes.{tree}
+use Rattle.lp_term.specs.Nodes.{Nodes, Extends, tree}
 use Rattle.lp_term.specs.declared.node.TermId.{TermId}
 use Rattle.lp_model.specs.Branch.{Answer, Branch, Entry, Task}
 use Rattle.lp_model.specs.Flat.{Atomic, Clause, Clauses}
@@ -22,7 +22,7 @@ use Rattle.lp_plain.specs.declared.outcome.Turn.{Turn}
 use Rattle.lp_plain.specs.Assuming.{IsPlaceAt, head_term, lists_of}
 use Rattle.lp_plain.specs.Entries.{Around, entry_at}
 use Rattle.lp_plain.specs.Forms.{IsFirst}
-use Rattle.lp_plain.specs.HeadLooks.{LooksAt}
+use Rattle.lp_plain.specs.HeadLooks.{LooksAt, with_bank}
 use Rattle.lp_plain.specs.Heads.{IsKey}
 use Rattle.lp_plain.specs.Moving.{AreFew, HasFreeTypes, HasNoVariable, IsBack, IsCounted, IsGoingOn, IsPlaceUnder, Leads, Query}
 use Rattle.lp_plain.specs.Resuming.{AllOfAssumed, AllOfClause, AllTerms}
@@ -52,9 +52,9 @@ pub record IsAtCall (qv : Query) (m : Machine) (a : Around) (p : Place) (goal : 
   pub heads : HaveHeads (a.assumed p.assumed)
   pub applied : AreApplied qv.arity (a.assumed p.assumed)
 
--- the program's clauses stand in the table, and are written; no logic variable stands in them
+-- the program's clauses stand in the table, however much the bank grows, and are written; no logic variable stands in them
 pub record IsProgramIn (m : Machine) (arity : ℕ → ℕ) (css : List Clauses) : Type 0 where
-  pub has : HasProgram m css
+  pub has : (b : Nodes) → Extends m.bank b → HasProgram (with_bank m b) css
   pub heads : AreOfProgram arity (all_clauses css)
   pub written : EachOf (IsProgramClause arity) (all_clauses css)
   pub known : EachOf (AllOfClause HasNoVariable 0) (all_clauses css)

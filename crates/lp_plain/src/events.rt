@@ -163,7 +163,8 @@ impl Search {
             Told::Ended(ending) => Ok(self.end(ending)),
             Told::Answered => {
                 self.tell_answer(crowd)?;
-                let answer = answer_of(&mut self.machine, self.variables.len())?;
+                let count = self.variables.len();
+                let answer = answer_of(&mut self.machine, count)?;
                 Ok(Event::Answer(answer))
             }
         }

@@ -1,11 +1,11 @@
 -- What the definition's search tells next, followed by the turns of the search: what stands at each turn until it is told.
-use Rattle.std.specs.Prelude.{◌≡◌, ℕ, suc, ◌-◌, List, [], ◌∷◌}
+use Rattle.std.specs.Prelude.{◌≡◌, ℕ, suc, ◌-◌, Bool, List, [], ◌∷◌, length}
 use Rattle.lp_lemmas.specs.Each.{EachOf}
 use Rattle.lp_model.specs.Branch.{Answer, Entry, Go, Lack, Stop, Task, Try}
 use Rattle.lp_model.specs.Events.{Advances, Event, Gave, Over}
 use Rattle.lp_model.specs.Flat.{Clause}
 use Rattle.lp_model.specs.Search.{has_no_pairs, look}
-use Rattle.lp_model.specs.Skeleton.{Broke, Goes, Held, Inner, Lasts, Note, Refuted, State, Tells, View, inner, move, row_limit}
+use Rattle.lp_model.specs.Skeleton.{Broke, Denies, Goes, Held, Inner, Lasts, Note, Refuted, State, Tells, View, inner, move, row_limit, starts_within}
 use Rattle.lp_model.specs.Unify.{unit_limit}
 use Rattle.lp_plain.specs.declared.events.Told.{Told}
 use Rattle.lp_plain.specs.declared.machine.Machine.{Machine}
@@ -41,6 +41,7 @@ ComesOf c behind w n (Lasts k ns) = ⊥
 pub data IsReached (see : ℕ → Task → View Task Answer) : State Task → State Task → Type 0 where
   at_once : {s u : State Task} → s ≡ u → IsReached see s u
   behind_move : {s u : State Task} (j k : ℕ) (ns : List Note) (t : State Task) → move (inner see j) see s ≡ Goes k ns t → IsReached see t u → IsReached see s u
+  inside_denied : {s u : State Task} (n : ℕ) (t i : Task) (f : Answer → Bool) (ts rest : List Task) → s.stack ≡ t ∷ rest → s.steps ≡ suc n → see (length rest) t ≡ Denies i f ts → IsReached see (starts_within s.rows i n 1) u → IsReached see s u
   behind_answer : {s u : State Task} (j : ℕ) (a : Answer) (ns : List Note) (t : State Task) → move (inner see j) see s ≡ Tells a ns t → IsReached see t u → IsReached see s u
 
 -- TO VANISH: the tasks of which a turn is known to be the definition's: branches whose first goal is neither an atom nor negated
