@@ -62,35 +62,32 @@ stuck_app (abs b) u h = absurd h.1
 stuck_app (app t v) u h = (ap (option_term (λ s. app s u)) h.0, tt)
 
 -- the one end of head reduction
-
 pub same_end : (k n : ℕ) (T F t : Term) → steps head_step k T ≡ Some F → head_step F ≡ None → head_normal n T ≡ Some t → t ≡ F
 same_end k zero T F t e f h = absurd (cc)
 same_end zero (suc n) T F t e f h =
     let q : T ≡ F = (let z : Some T ≡ Some F = e in cc) in
     let r : head_step T ≡ None = ap head_step q ∙ f in
-    let z : Some T ≡ Some t = sym (ap (λ o. elim o [ None ↦ Some T | Some s ↦ head_normal n s ]) r) ∙ h in
+    let z : Some T ≡ Some t = sym (ap (λ (o : Option Term). elim o as (λ x. Option Term) [ None ↦ Some T | Some s ↦ head_normal n s ]) r) ∙ h in
     let y : T ≡ t = cc in
     sym y ∙ q
-same_end (suc k) (suc n) T F t e f h = go (head_step T) refl
-  where
-    go : (o : Option Term) → head_step T ≡ o → t ≡ F
-    go None q = absurd (let z : None ≡ Some F = sym (ap (λ o. elim o [ None ↦ None | Some s ↦ steps head_step k s ]) q) ∙ e in cc)
-    go (Some s) q =
-        same_end k n s F t (sym (ap (λ o. elim o [ None ↦ None | Some s ↦ steps head_step k s ]) q) ∙ e) f (sym (ap (λ o. elim o [ None ↦ Some T | Some s ↦ head_normal n s ]) q) ∙ h)
+same_end (suc k) (suc n) T F t e f h =
+    elim (head_step T) as (λ o. (elim o [ None ↦ None | Some s ↦ steps head_step k s ]) ≡ Some F → (elim o [ None ↦ Some T | Some s ↦ head_normal n s ]) ≡ Some t → t ≡ F) [
+      | None ↦ λ p q. absurd (cc)
+      | Some s ↦ λ p q. same_end k n s F t p f q
+    ] e h
 
 -- from a term between
 pub rest_of : (i k : ℕ) (T w F : Term) → steps head_step i T ≡ Some w → steps head_step k T ≡ Some F → head_step F ≡ None → (j : ℕ) × (steps head_step j w ≡ Some F)
 rest_of zero k T w F e h f = let q : T ≡ w = (let z : Some T ≡ Some w = e in cc) in (k, subst (λ x. steps head_step k x ≡ Some F) q h)
-rest_of (suc i) k T w F e h f = go (head_step T) refl
-  where
-    go : (o : Option Term) → head_step T ≡ o → (j : ℕ) × (steps head_step j w ≡ Some F)
-    go None q = absurd (let z : None ≡ Some w = sym (ap (λ o. elim o [ None ↦ None | Some s ↦ steps head_step i s ]) q) ∙ e in cc)
-    go (Some s) q = by k h
-      where
-        by : (k : ℕ) → steps head_step k T ≡ Some F → (j : ℕ) × (steps head_step j w ≡ Some F)
-        by zero h = absurd (let y : T ≡ F = (let z : Some T ≡ Some F = h in cc) in let x : Some s ≡ None = sym q ∙ ap head_step y ∙ f in cc)
-        by (suc k) h =
-            rest_of i k s w F (sym (ap (λ o. elim o [ None ↦ None | Some s ↦ steps head_step i s ]) q) ∙ e) (sym (ap (λ o. elim o [ None ↦ None | Some s ↦ steps head_step k s ]) q) ∙ h) f
+rest_of (suc i) zero T w F e h f =
+    let y : T ≡ F = (let z : Some T ≡ Some F = h in cc) in
+    let x : head_step T ≡ None = ap head_step y ∙ f in
+    absurd (let z : None ≡ Some w = sym (ap (λ (o : Option Term). elim o as (λ x. Option Term) [ None ↦ None | Some s ↦ steps head_step i s ]) x) ∙ e in cc)
+rest_of (suc i) (suc k) T w F e h f =
+    elim (head_step T) as (λ o. (elim o [ None ↦ None | Some s ↦ steps head_step i s ]) ≡ Some w → (elim o [ None ↦ None | Some s ↦ steps head_step k s ]) ≡ Some F → (j : ℕ) × (steps head_step j w ≡ Some F)) [
+      | None ↦ λ p q. absurd (cc)
+      | Some s ↦ λ p q. rest_of i k s w F p q f
+    ] e h
 
 -- a term with a head that is neither bound nor to be contracted
 module _ (b : Nodes) (s : Bindings) (z : Closing) (r : IsReading b s z) where

@@ -78,6 +78,7 @@ pub mod LooksUnder
 pub mod AboveUnder
 pub mod CutMoves
 pub mod Running
+pub mod ViewMoves
 pub mod PartMoves
 pub mod NoneBound
 pub mod AtGoals
@@ -96,6 +97,7 @@ pub mod RunMoves
 pub mod EqualMoves
 pub mod KnownForms
 pub mod ClosedForms
+pub mod SeenGoals
 pub mod FormsUnder
 pub mod TryWritten
 pub mod WrittenSearches
