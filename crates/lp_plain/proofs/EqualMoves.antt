@@ -18,7 +18,7 @@ use Rattle.lp_plain.specs.declared.outcome.Turn.{Turn}
 use Rattle.lp_plain.specs.declared.unified.Unified.{Unified}
 use Rattle.lp_plain.specs.Assuming.{GrowsAt, IsPlaceAt, lists_of}
 use Rattle.lp_plain.specs.Entries.{Around, GrowsGoals, Reads}
-use Rattle.lp_plain.specs.Moving.{AreEntriesUnder, HasAlternatives, HasFreeTypes, IsGoingOn, IsBranchUnder, IsCounted, IsState, Leads, Query, mark_in, turn_for}
+use Rattle.lp_plain.specs.Moving.{AreEntriesUnder, AreFew, HasAlternatives, HasFreeTypes, IsGoingOn, IsBranchUnder, IsCounted, IsState, Leads, Query, mark_in, turn_for}
 use Rattle.lp_plain.specs.Resuming.{AllTerms, AreKnownEntries}
 use Rattle.lp_plain.specs.Stacks.{base_of}
 use Rattle.lp_plain.specs.Unifying.{IsBoundIn, IsUnifiedAs, StandPairs}
@@ -115,7 +115,7 @@ module _ (qv : Query) (m n : Machine) (a : Around) (raw rest : Branch) (below : 
     }
 
   -- the atom takes a step
-  module _ (s : State Task) (w j : ℕ) (ea : s.answers ≡ suc w) (es : s.steps ≡ suc j) (go : (Answer → Bool) → State Task → Inner) (enough : ℕ) (few : enough < 1000000) (P : List Clause) (name : GoalName) (task : Task) (o : Option Outcome)
+  module _ (s : State Task) (w j : ℕ) (ea : s.answers ≡ suc w) (es : s.steps ≡ suc j) (go : (Answer → Bool) → State Task → Inner) (enough : ℕ) (P : List Clause) (name : GoalName) (task : Task) (o : Option Outcome)
       (stack : s.stack ≡ task ∷ below) (seen : look unit_limit enough P (length below) task ≡ Takes name (follow rest o)) where
     abbrev see : ℕ → Task → View Task Answer
     see = look unit_limit enough P
@@ -146,13 +146,13 @@ module _ (qv : Query) (m n : Machine) (a : Around) (raw rest : Branch) (below : 
       solves st e z r found =
           inl (1, GoalNote name ∷ [], after (Go (resume rest st) ∷ []), first_move (Go (resume rest st) ∷ []) e, goes_on st z r found (after (Go (resume rest st) ∷ [])) refl (counted (Go (resume rest st) ∷ [])), sym ea, refl)
 
-      by_outcome : (u : Unified) (x : Option Outcome) → o ≡ x → ((y : Outcome) → x ≡ Some y → IsUnifiedAs u h.levels m.branch.next h.closing n enough y) → Leads 1 qv (turn_for u) n go see s
-      by_outcome u None e k = lacks (ap (follow rest) e) (turn_for u)
-      by_outcome Unified.Fits (Some Fail) e k = absurd (k Fail refl)
-      by_outcome Unified.Fits (Some Spent) e k = absurd (k Spent refl)
-      by_outcome Unified.Fits (Some (Solution st)) e k = let y = k (Solution st) refl in solves st (ap (follow rest) e) y.0 y.1 y.2
-      by_outcome Unified.Fails (Some y) e k = fails (ap (follow rest) (e ∙ ap (λ q. Some q) (k y refl)))
-      by_outcome Unified.Deep (Some y) e k = deep (ap (follow rest) (e ∙ ap (λ q. Some q) (k y refl (omega (arith, few)))))
+      by_outcome : (u : Unified) (x : Option Outcome) → AreFew (turn_for u) enough → o ≡ x → ((y : Outcome) → x ≡ Some y → IsUnifiedAs u h.levels m.branch.next h.closing n enough y) → Leads 1 qv (turn_for u) n go see s
+      by_outcome u None few e k = lacks (ap (follow rest) e) (turn_for u)
+      by_outcome Unified.Fits (Some Fail) few e k = absurd (k Fail refl)
+      by_outcome Unified.Fits (Some Spent) few e k = absurd (k Spent refl)
+      by_outcome Unified.Fits (Some (Solution st)) few e k = let y = k (Solution st) refl in solves st (ap (follow rest) e) y.0 y.1 y.2
+      by_outcome Unified.Fails (Some y) few e k = fails (ap (follow rest) (e ∙ ap (λ q. Some q) (k y refl)))
+      by_outcome Unified.Deep (Some y) few e k = deep (ap (follow rest) (e ∙ ap (λ q. Some q) (k y refl (let l = few refl in omega (arith, l)))))
 
-      pub unified_leads : (u : Unified) → ((y : Outcome) → o ≡ Some y → IsUnifiedAs u h.levels m.branch.next h.closing n enough y) → Leads 1 qv (turn_for u) n go see s
-      unified_leads u k = by_outcome u o refl k
+      pub unified_leads : (u : Unified) → AreFew (turn_for u) enough → ((y : Outcome) → o ≡ Some y → IsUnifiedAs u h.levels m.branch.next h.closing n enough y) → Leads 1 qv (turn_for u) n go see s
+      unified_leads u few k = by_outcome u o few refl k

@@ -21,7 +21,7 @@ use Rattle.lp_plain.specs.declared.outcome.Turn.{Turn}
 use Rattle.lp_plain.specs.declared.unified.Unified.{Unified}
 use Rattle.lp_plain.specs.Entries.{Around}
 use Rattle.lp_plain.specs.Followed.{IsTrialFor, clause_by, GoesOnAs, IsBranchFor, IsTryOf, LeavesFor, body_read, clause_read, levels_with, solved_try, tried_branch, tried_values}
-use Rattle.lp_plain.specs.Moving.{AreEntriesUnder, HasFreeTypes, IsAtTry, IsBranchUnder, IsCounted, IsState, Leads, Query, mark_in, turn_for}
+use Rattle.lp_plain.specs.Moving.{AreEntriesUnder, AreFew, HasFreeTypes, IsAtTry, IsBranchUnder, IsCounted, IsState, Leads, Query, mark_in, turn_for}
 use Rattle.lp_plain.specs.Renewal.{renewing}
 use Rattle.lp_plain.specs.Resuming.{AllOfClause, AllTerms, AreKnownEntries, goal_with}
 use Rattle.lp_plain.specs.Stacks.{base_of}
@@ -189,7 +189,7 @@ trial_ready qv m a call one mark s h w = candidate_trial m qv.arity h.above.done
 
 -- what a unification in a try comes to, as moves of the definition
 module _ (qv : Query) (m n : Machine) (a : Around) (call : Call) (one : Candidate) (mark : ℕ) (s : State Task) (h : IsAtTry qv m a call one mark s) (g : GrowsByTry m n call) (goal : IsGoalOf m call) (tr : IsTrialFor m one h.tried)
-    (ft : HasFreeTypes n) (w : ℕ) (ea : s.answers ≡ suc w) (go : (Answer → Bool) → State Task → Inner) (enough : ℕ) (few : enough < 1000000) (P : List Clause) where
+    (ft : HasFreeTypes n) (w : ℕ) (ea : s.answers ≡ suc w) (go : (Answer → Bool) → State Task → Inner) (enough : ℕ) (P : List Clause) where
   abbrev see : ℕ → Task → View Task Answer
   see = look unit_limit enough P
 
@@ -275,14 +275,14 @@ module _ (qv : Query) (m n : Machine) (a : Around) (call : Call) (one : Candidat
         refl,
       )
 
-  by_outcome : (u : Unified) (o : Option Outcome) →
+  by_outcome : (u : Unified) (o : Option Outcome) → AreFew (turn_for u) enough →
       LeavesFor u m n call mark enough h.closing (levels_with h.levels m.branch.next call.place.level) (m.branch.next + length tr.vars) tr.trial.type_vars
       (instantiate_goals (tried_values m.branch.next call.place.level written_head t) body_there) there o tasks →
       Leads 1 qv (turn_for u) n go see s
-  by_outcome u None e = lacks e (turn_for u)
-  by_outcome Unified.Fits (Some o) e = goes e.0 e.2 e.3
-  by_outcome Unified.Fails (Some o) e = fails e
-  by_outcome Unified.Deep (Some o) e = deep (e (omega (arith, few)))
+  by_outcome u None few e = lacks e (turn_for u)
+  by_outcome Unified.Fits (Some o) few e = goes e.0 e.2 e.3
+  by_outcome Unified.Fails (Some o) few e = fails e
+  by_outcome Unified.Deep (Some o) few e = deep (e (let l = few refl in omega (arith, l)))
 
   for_branch : IsBranchFor m h.closing h.levels h.rest
   for_branch = record {
@@ -295,9 +295,9 @@ module _ (qv : Query) (m n : Machine) (a : Around) (call : Call) (one : Candidat
     known = subst (λ i. AreKnownPairs h.levels i h.rest.pairs) (sym h.next) h.under.known.pairs;
   }
 
-  pub try_leads : (u : Unified) → IsTryOf m n call one mark u → Leads 1 qv (turn_for u) n go see s
-  try_leads u leaves =
-      by_outcome u (solved_try enough call.place.level (length tr.vars) written_head t h.rest)
+  pub try_leads : (u : Unified) → AreFew (turn_for u) enough → IsTryOf m n call one mark u → Leads 1 qv (turn_for u) n go see s
+  try_leads u few leaves =
+      by_outcome u (solved_try enough call.place.level (length tr.vars) written_head t h.rest) few
       (leaves tr.vars tr.head tr.values tr.around tr.trial tr.own tr.terms tr.tys h.above.done.stands goal h.closing h.levels h.rest for_branch (tr.headed h.closing)
       (subst (λ i. Within (Known h.levels i) 0 t) (sym h.next) h.known.goal_known)
       (subst (λ c. AllOfClause (λ d x. Within (Known h.levels m.branch.next) d x) 0 c) (sym (tr.is h.closing)) (subst (λ i. AllOfClause (λ d x. Within (Known h.levels i) d x) 0 (clause_by h.closing one h.tried)) (sym h.next) h.known.tries.0))

@@ -392,9 +392,13 @@ Leads zero qv turn n go see s = IsMoved qv turn n (move go see s) s ⊎ IsWaitin
 Leads (suc j) qv turn n go see s =
     IsMoved qv turn n (move go see s) s ⊎ (IsWaiting (move go see s) ⊎ ((k : ℕ) × (ns : List Note) × (t : State Task) × (move go see s ≡ Goes k ns t) × (t.answers ≡ s.answers) × (t.given ≡ s.given) × Leads j qv turn n go see t))
 
--- so while answers are wanted, over each program, with fewer than a million steps for each look
+-- where the turn is too deep, fewer than a million steps are allowed for each look
+abbrev pub AreFew : Turn → (enough : ℕ) → Type 0
+AreFew turn enough = turn ≡ Turn.Ended Deep → enough < 1000000
+
+-- so while answers are wanted, over each program, with any number of steps for each look, but for a turn that is too deep
 abbrev pub LeadsTo : ℕ → Query → Turn → (new : Machine) → (before : State Task) → Type 0
-LeadsTo j qv turn n s = (k : ℕ) → s.answers ≡ suc k → (go : (Answer → Bool) → State Task → Inner) (enough : ℕ) → enough < 1000000 → (P : List Clause) → Leads j qv turn n go (look unit_limit enough P) s
+LeadsTo j qv turn n s = (k : ℕ) → s.answers ≡ suc k → (go : (Answer → Bool) → State Task → Inner) (enough : ℕ) → AreFew turn enough → (P : List Clause) → Leads j qv turn n go (look unit_limit enough P) s
 
 -- the turn of a unification
 abbrev pub turn_for : Unified → Turn

@@ -1,4 +1,4 @@
-use Rattle.std.proofs.Common.{◌≡◌, ap, length, sym, subst, arith}
+use Rattle.std.proofs.Common.{◌≡◌, ◌∙◌, ap, length, sym, subst, arith}
 use Rattle.lp_model.specs.Search.{look}
 use Rattle.lp_model.specs.Unify.{unit_limit}
 use Rattle.lp_plain.specs.Followed.{IsTryOf}
@@ -23,4 +23,4 @@ returns-clause-leads c = λ qv a s h sw ft w ea go enough few P.
     let written = same_lists m k h.above.done.stands (grows_kept m k p.goals) (ap (λ v. v.items) p.frames) (ap (λ v. v.items) p.assumed.assumptions) qv.arity sw in
     subst (λ x. Leads 1 qv x n go (look unit_limit enough P) s) (sym c.turn_of.ensures)
     (try_leads qv k n a call one (length m.choices.items) s at u.grows (goal_ready qv k a call one (length m.choices.items) s at) (trial_ready qv k a call one (length m.choices.items) s at written)
-    ft w ea go enough few P c.in_ok-unified.unified leaves)
+    ft w ea go enough P c.in_ok-unified.unified (λ e. few (c.turn_of.ensures ∙ e)) leaves)
