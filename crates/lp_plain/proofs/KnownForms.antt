@@ -12,6 +12,7 @@ use Rattle.lp_calculus.proofs.Steps.{within_step}
 use Rattle.lp_standard.specs.Connectives.{Connective, body_of, connective_at, connective_of, connective_of_constant}
 use Rattle.lp_standard.specs.Connectives as connective
 use Rattle.lp_standard.specs.Numbers as number
+use Rattle.lp_model.specs.Look.{head_normal}
 use Rattle.lp_model.specs.Pair.{Closing, closed}
 use Rattle.lp_pattern.proofs.Looking.{closed_substitute}
 use Rattle.lp_plain.specs.Entries.{HeadsTo}
@@ -44,6 +45,13 @@ steps_within P d (suc j) t s e w = elim (head_step t) as (λ o. head_step t ≡ 
 
 pub heads_within : (P : Atom → Type 0) (d : ℕ) (t v : Term) → HeadsTo t v → Within P d t → Within P d v
 heads_within P d t v h w = steps_within P d h.0 t v h.2 w
+
+pub normal_within : (P : Atom → Type 0) (d n : ℕ) (t v : Term) → head_normal n t ≡ Some v → Within P d t → Within P d v
+normal_within P d zero t v e w = absurd (cc)
+normal_within P d (suc n) t v e w = elim (head_step t) as (λ o. head_step t ≡ o → (elim o [ None ↦ Some t | Some r ↦ head_normal n r ]) ≡ Some v → Within P d v) [
+  | None ↦ λ p q. let z : t ≡ v = cc in subst (Within P d) z w
+  | Some r ↦ λ p q. normal_within P d n r v q (head_within P d t r p w)
+] refl e
 
 -- the parts of a connective
 abbrev pub IsKnownForm : (P : Atom → Type 0) → Connective → Type 0

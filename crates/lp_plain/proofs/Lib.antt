@@ -99,6 +99,11 @@ pub mod KnownForms
 pub mod ClosedForms
 pub mod SeenGoals
 pub mod FormsUnder
+pub mod FrontGoals
+pub mod FormMoves
+pub mod GoingOn
+pub mod AtomViews
+pub mod AtomMoves
 pub mod TryWritten
 pub mod WrittenSearches
 pub mod WrittenAssumed

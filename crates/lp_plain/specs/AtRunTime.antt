@@ -12,7 +12,6 @@ use Rattle.lp_model.specs.Flat.{Goal, Atomic, Cut, Either, Exists, Forall, Assum
 use Rattle.lp_model.specs.Look.{head_normal}
 use Rattle.lp_model.specs.Pair.{Closing, closed}
 use Rattle.lp_pattern.specs.Seen.{IsEnded, IsReachedWithin}
-use Rattle.lp_pattern.specs.Under.{IsReading}
 use Rattle.lp_plain.specs.declared.form.Form.{Form}
 use Rattle.lp_plain.specs.declared.form.Form.TheVariants as form
 use Rattle.lp_plain.specs.declared.frame.Place.{Place}
@@ -31,15 +30,15 @@ pub record IsAtTerm (m : Machine) (a : Around) (p : Place) (term : TermId) (behi
   pub reads : Reads m a behind rest
   pub goals : raw.goals ≡ entry_at a p (Atomic value) ∷ rest
 
--- so where it was looked at: at most a million contractions led to this term, which is an abstraction, or has a head that is neither bound nor to be contracted
-pub record IsAtLooked (m : Machine) (a : Around) (p : Place) (goal : TermId) (behind : Option ℕ) (raw : Branch) : Type 0 where
+-- so where it was looked at: at most a million contractions led to this term, as the bindings read both; it is an abstraction, or has a head that is neither bound nor to be contracted
+pub record IsAtLooked (m : Machine) (z : Closing) (a : Around) (p : Place) (goal : TermId) (behind : Option ℕ) (raw : Branch) : Type 0 where
   pub before : Term
   pub value : Term
   pub rest : List Entry
   pub place : IsPlaceAt (lists_of m) a p
   pub within : goal.0 < length m.bank.terms
   pub heads : HeadsTo before value
-  pub looked : (z : Closing) → IsReading m.bank m.bindings z → IsReachedWithin 1000000 (closed z before) (closed z (tree m.bank goal.0))
+  pub looked : IsReachedWithin 1000000 (closed z before) (closed z (tree m.bank goal.0))
   pub ended : IsEnded m.bindings (tree m.bank goal.0)
   pub reads : Reads m a behind rest
   pub goals : raw.goals ≡ entry_at a p (Atomic value) ∷ rest
