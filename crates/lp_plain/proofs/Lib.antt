@@ -104,6 +104,9 @@ pub mod FormMoves
 pub mod GoingOn
 pub mod AtomViews
 pub mod AtomMoves
+pub mod AtomTurns
+pub mod LookedOn
+pub mod BesideForms
 pub mod TryWritten
 pub mod WrittenSearches
 pub mod WrittenAssumed

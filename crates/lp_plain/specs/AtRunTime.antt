@@ -55,7 +55,11 @@ IsNoForm (connective.ForAll T s) = ⊥
 IsNoForm (connective.Exists T s) = ⊥
 IsNoForm connective.Atomic = ⊥
 
--- the form says what the term is, where it is no connective
+-- what is not taken apart
+abbrev pub IsAtomOrNoForm : connective.Connective → Type 0
+IsAtomOrNoForm g = (g ≡ connective.Atomic) ⊎ IsNoForm g
+
+-- the form says what the term is, where it is not taken apart
 abbrev pub IsAtomForm : Nodes → Term → Form → Type 0
 IsAtomForm b t f = ((connective_of t ≡ connective.Atomic) × IsForm b t f) ⊎ (IsNoForm (connective_of t) × (f ≡ form.Other))
 

@@ -1,5 +1,5 @@
 // The next goal of the branch at work, and the way back to an alternative.
-ghost use Rattle.std.specs.Prelude.{◌≡◌, ℕ, suc, Bool, ◌∷◌, ◌++◌, ◌<◌, ◌≤◌, [], List, drop, length, Option, None, IfOk, OnOk, Some, slice_get};
+ghost use Rattle.std.specs.Prelude.{◌≡◌, ℕ, suc, true, false, Bool, ◌∷◌, ◌++◌, ◌<◌, ◌≤◌, [], List, drop, length, Option, None, IfOk, OnOk, Some, slice_get};
 ghost use Rattle.lp_model.specs.Branch.{Answer, Branch, Task};
 ghost use Rattle.lp_model.specs.Flat.{Clause, Goals};
 ghost use Rattle.lp_model.specs.Skeleton.{Inner, State};
@@ -11,6 +11,10 @@ ghost use Rattle.lp_plain.specs.declared.outcome.Turn.{Turn};
 ghost use Rattle.lp_plain.specs.declared.table.Flat.{Flat};
 ghost use Rattle.lp_plain.specs.Apart.{IsApart};
 ghost use Rattle.lp_plain.specs.Assuming.{KeepsAssumed};
+ghost use Rattle.lp_standard.specs.Connectives.{connective_of};
+ghost use Rattle.lp_term.specs.Nodes.{Nodes, tree};
+ghost use Rattle.lp_model.specs.Connected.{connective_in};
+ghost use Rattle.lp_plain.specs.AtRunTime.{HasNoCall, IsAtomForm, IsAtomOrNoForm, IsAtTerm};
 ghost use Rattle.lp_plain.specs.Entries.{Around, KeepsGoals};
 ghost use Rattle.lp_plain.specs.Marks.{AreMarked, IsMarked, Marks, PutsAside, PutsMarks, SetsAside};
 ghost use Rattle.lp_plain.specs.Moving.{HasFreeTypes, IsBack, IsAtGoal, IsAtGoals, IsPlainFirst, IsRunning, IsState, LeadsTo, MovesTo, Query};
@@ -18,7 +22,7 @@ ghost use Rattle.lp_plain.specs.Restoring.{GoesBack};
 ghost use Rattle.lp_plain.specs.Searching.{EndsSo, GoesOnOrStops, IsBackOf, IsQuietMove, IsStateOf};
 ghost use Rattle.lp_plain.specs.Stacks.{base_of};
 ghost use Rattle.lp_plain.specs.Tables.{AreGoals, Never, shown};
-ghost use Rattle.lp_plain.specs.Taking.{FirstIsApart, IsApartFirst, IsApartFlat, TakesApart, TakesGoals};
+ghost use Rattle.lp_plain.specs.Taking.{FirstIsApart, IsApartFirst, IsApartFlat, IsApartForm, TakesApart, TakesGoals};
 ghost use Rattle.lp_plain.specs.Within.{StandsIn};
 ghost use Rattle.lp_plain.specs.WrittenSearch.{IsApartAtHand, IsWrittenSearch, WritesFlat, WritesGoals};
 
@@ -73,6 +77,42 @@ fn take_flat<W: Watch>(
     }
 }
 
+// Whether a goal that is known at run time is taken apart.
+fn is_apart(connective: Connective) -> bool
+    ensures apart { result ≡ true → IsApartForm connective }
+    ensures alone { result ≡ false → (b : Nodes) → IsAtomOrNoForm (connective_in b connective) }
+{
+    match connective {
+        Connective::And(_, _) => true,
+        Connective::Or(_, _) => true,
+        Connective::ForAll(_, _) => true,
+        Connective::Exists(_, _) => true,
+        Connective::True => true,
+        Connective::Cut => false,
+        Connective::Implies(_, _) => false,
+        Connective::Not(_) => false,
+        Connective::Atomic => false,
+    }
+}
+
+// The form of a goal that is not taken apart.
+fn form_beside(
+    machine: &Machine,
+    goal: TermId,
+    connective: Connective,
+) -> Result<Form, Memory>
+    ensures form { IfOk result (λ form. connective_of (tree machine.now.bank goal.0) ≡ connective_in machine.now.bank connective → IsAtomOrNoForm (connective_in machine.now.bank connective) → IsAtomForm machine.now.bank (tree machine.now.bank goal.0) form) }
+{
+    match connective {
+        Connective::Atomic => {
+            let form = form_of(machine.alloc, &machine.bank, goal)?;
+            Ok(form)
+        }
+        // No term that stands for a variable is built so.
+        _ => Ok(Form::Other),
+    }
+}
+
 // Takes a goal by its head-normal form.
 fn take_term<W: Watch>(
     machine: &mut Machine,
@@ -80,17 +120,20 @@ fn take_term<W: Watch>(
     term: TermId,
     place: Place,
     behind: Option<usize>,
-) -> Result<Turn, Memory> {
+) -> Result<Turn, Memory>
+    ensures leads { IfOk result (λ turn. (qv : Query) (a : Around) (raw : Branch) (s : State Task) (h : IsRunning qv machine.old a raw s) → IsAtTerm machine.old a place term behind raw → HasNoCall h.at_work.goals → HasFreeTypes machine.new → LeadsTo 1 qv turn machine.new s) }
+{
     let Some(goal) = head_normal(machine, term)? else {
         return Ok(Turn::Ended(Ending::Deep));
     };
-    let form = match connective_of(&machine.bank, goal) {
-        Connective::Atomic => form_of(machine.alloc, &machine.bank, goal)?,
-        // No term that stands for a variable is built so.
-        Connective::Cut | Connective::Implies(_, _) | Connective::Not(_) => Form::Other,
-        connective => return put_connective(machine, connective, place, behind),
-    };
-    take_atom(machine, crowd, goal, form, place, behind)
+    let connective = connective_of(&machine.bank, goal);
+    if is_apart(connective) {
+        let turn = put_connective(machine, connective, place, behind)?;
+        return Ok(turn);
+    }
+    let form = form_beside(machine, goal, connective)?;
+    let turn = take_atom(machine, crowd, goal, form, place, behind)?;
+    Ok(turn)
 }
 
 // Takes the first of the flattened goals; the others stay in front of those behind.
