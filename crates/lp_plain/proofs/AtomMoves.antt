@@ -152,8 +152,8 @@ module _ (qv : Query) (m : Machine) (a : Around) (raw : Branch) (s : State Task)
         go (Some t) e = l t e
 
     module _ (n : Machine) (w : ℕ) (ea : s.answers ≡ suc w) (go : (Answer → Bool) → State Task → Inner) where
-      pub waits : {turn : Turn} → head_normal enough f.goal ≡ None → Leads 1 qv turn n go see s
-      waits e = inr (inl (front_waits qv m a raw s h p at.value at.rest f enough P w ea go e))
+      pub waits : (turn : Turn) → head_normal enough f.goal ≡ None → Leads 1 qv turn n go see s
+      waits turn e = inr (inl (front_waits qv m a raw s h p at.value at.rest f enough P w ea go e))
 
       -- no step is left
       no_step : (name : GoalName) (ts : List Task) → m.counts.limit ≤ m.counts.steps → seen ≡ Takes name ts → IsMoved qv (Turn.Ended Steps) n (move go see s) s
@@ -163,4 +163,4 @@ module _ (qv : Query) (m : Machine) (a : Around) (raw : Branch) (s : State Task)
           ap (move_view go 0 w s.given s.rows s.row s.lost h.rest) e
 
       pub spent_leads : (c : Form) → IsAtomForm m.bank x c → m.counts.limit ≤ m.counts.steps → Leads 1 qv (Turn.Ended Steps) n go see s
-      spent_leads c e l = by_seen (Leads 1 qv (Turn.Ended Steps) n go see s) waits (λ t q. let v = some_view t q c e in inl (no_step v.0 v.1 l v.2))
+      spent_leads c e l = by_seen (Leads 1 qv (Turn.Ended Steps) n go see s) (waits (Turn.Ended Steps)) (λ t q. let v = some_view t q c e in inl (no_step v.0 v.1 l v.2))

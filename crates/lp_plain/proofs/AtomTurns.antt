@@ -102,7 +102,7 @@ module _ (qv : Query) (m c : Machine) (a : Around) (raw : Branch) (s : State Tas
     -- what no clause meets
     pub flexible_leads : IsAtomForm m.bank (tree m.bank u.0) form.Flexible → LeadsTo 1 qv (Turn.Ended Flexible) n s
     flexible_leads i w ea go enough few P =
-        by_seen qv m a raw s h p u o at enough P (Leads 1 qv (Turn.Ended Flexible) n go (look unit_limit enough P) s) (waits qv m a raw s h p u o at enough P n w ea go) (λ t q.
+        by_seen qv m a raw s h p u o at enough P (Leads 1 qv (Turn.Ended Flexible) n go (look unit_limit enough P) s) (waits qv m a raw s h p u o at enough P n w ea go (Turn.Ended Flexible)) (λ t q.
         let v = variable_of i in
         stops qv c n a rest work h.rest stepped p place_stepped b residual free s w left ea steps_are go enough P variable (Go h.at_work) (Stop Flexible ∷ []) h.stack
         (flexible_view qv m a raw s h p u o at enough P t q v.1.0 v.1.1 v.0 v.1.2) (λ ts. counted_after (suc w) (ts ++ h.rest)) Flexible refl)
@@ -113,13 +113,13 @@ module _ (qv : Query) (m c : Machine) (a : Around) (raw : Branch) (s : State Tas
 
     pub other_leads : IsAtomForm m.bank (tree m.bank u.0) form.Other → LeadsTo 1 qv Turn.Back n s
     other_leads i w ea go enough few P =
-        by_seen qv m a raw s h p u o at enough P (Leads 1 qv Turn.Back n go (look unit_limit enough P) s) (waits qv m a raw s h p u o at enough P n w ea go) (λ t q.
+        by_seen qv m a raw s h p u o at enough P (Leads 1 qv Turn.Back n go (look unit_limit enough P) s) (waits qv m a raw s h p u o at enough P n w ea go Turn.Back) (λ t q.
         fails qv c n a rest work h.rest stepped p place_stepped b residual free s w left ea steps_are go enough P variable (Go h.at_work) [] h.stack
         (other_view qv m a raw s h p u o at enough P t q i) (λ ts. counted_after (suc w) (ts ++ h.rest)) refl)
 
     pub equal_leads : (l r : TermId) (same : Unified) → IsAtomForm m.bank (tree m.bank u.0) (form.Equal l r) → c.bank ≡ m.bank → IsEquatedAs c n l r p.level same → LeadsTo 1 qv (turn_for same) n s
     equal_leads l r same i kept e w ea go enough few P =
-        by_seen qv m a raw s h p u o at enough P (Leads 1 qv (turn_for same) n go (look unit_limit enough P) s) (waits qv m a raw s h p u o at enough P n w ea go) (λ t q.
+        by_seen qv m a raw s h p u o at enough P (Leads 1 qv (turn_for same) n go (look unit_limit enough P) s) (waits qv m a raw s h p u o at enough P n w ea go (turn_for same)) (λ t q.
         let v = relation_of i in
         let known = named_known qv m a raw s h p u o at enough P t q number.Equal l r v.0 v.1 in
         equate_leads qv c n a rest work h.rest stepped p place_stepped b residual free l r same (closed h.closing (tree m.bank l.0)) (closed h.closing (tree m.bank r.0))

@@ -46,7 +46,8 @@ constant_under z c (T ∷ U ∷ ts) (a ∷ []) = an_atom
 constant_under z c [] (a ∷ b ∷ []) =
     if_under z (nat_eq c number.And) _ _ _ _ (an_and a b) (if_under z (nat_eq c number.Or) _ _ _ _ (an_or a b)
     (if_under z (nat_eq c number.Implies) _ _ _ _ (an_implies a b) (if_under z (nat_eq c number.If) _ _ _ _ (an_implies b a) an_atom)))
-constant_under z c (T ∷ ts) (a ∷ b ∷ []) = an_atom
+constant_under z c (T ∷ []) (a ∷ b ∷ []) = an_atom
+constant_under z c (T ∷ U ∷ ts) (a ∷ b ∷ []) = an_atom
 constant_under z c [] (a ∷ b ∷ d ∷ us) = an_atom
 constant_under z c (T ∷ []) (a ∷ b ∷ d ∷ us) = an_atom
 constant_under z c (T ∷ U ∷ ts) (a ∷ b ∷ d ∷ us) = an_atom

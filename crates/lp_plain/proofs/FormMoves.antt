@@ -102,7 +102,7 @@ module _ (qv : Query) (m n : Machine) (a : Around) (raw : Branch) (s : State Tas
           pairs = h.under.pairs;
           known = record { goals = f.known.1; values = h.under.known.values; pairs = h.under.known.pairs; free = h.under.known.free };
         })
-        f.known.0.1 f.known.0.2 0 0 unit_limit enough 0 (length h.rest) [] P x t new_variable (apart_in m.bank k af) form form_is_known
+        f.known.0.1 f.known.0.2 0 0 0 unit_limit enough (length h.rest) [] P x t new_variable (apart_in m.bank k af) form form_is_known
 
     looked : look unit_limit enough P (length h.rest) (Go h.at_work) ≡ look_form unit_limit enough P (length h.rest) f.first behind t (connective_of t)
     looked = front_look qv m a raw s h p at.value at.rest f enough P ∙ ap (look_normal unit_limit enough P (length h.rest) f.first behind) q

@@ -98,7 +98,7 @@ module _ (qv : Query) (lv : ℕ → ℕ) (k : Nodes) (z : Closing) (f : ℕ → 
         one_part lv b c refl refl (omega arith) (record { goals = wide; next = h.next; next_type = h.next_type; types = h.types; values = h.values; pairs = h.pairs; known = h.known })
     form_parts nv q a_cut kn = absurd q
     form_parts nv q (an_and g g') kn =
-        one_part lv _ _ refl refl (omega arith) (branch _ _ (one_here g (closed z g) (0, omega arith, refl), tight g' (closed z g') (0, omega arith, refl), h.goals) ((kn.0, ka, kw), (kn.1, ka, kw), h.known.goals))
+        one_part lv _ _ refl refl (omega arith) (branch _ _ (one_here g (closed z g) (0, omega arith, refl), (tight g' (closed z g') (0, omega arith, refl), h.goals)) ((kn.0, ka, kw), ((kn.1, ka, kw), h.known.goals)))
     form_parts nv q (an_or g g') kn =
         two_parts lv _ _ _ _ refl refl refl refl (branch _ _ (one_here g (closed z g) (0, omega arith, refl), h.goals) ((kn.0, ka, kw), h.known.goals)) (branch _ _ (one_here g' (closed z g') (0, omega arith, refl), h.goals) ((kn.1, ka, kw), h.known.goals))
     form_parts nv q (an_implies g g') kn = absurd q

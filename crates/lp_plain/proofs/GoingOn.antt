@@ -54,7 +54,7 @@ module _ (qv : Query) (m n : Machine) (a : Around) (raw : Branch) (s : State Tas
   items : n.choices.items ≡ m.choices.items
   items = ap (λ v. v.items) ch
 
-  above : HasAlternatives qv n a h.rest
+  abbrev above : HasAlternatives qv n a h.rest
   above = record {
     raws = h.above.raws;
     others = h.above.others;

@@ -88,7 +88,7 @@ closed_apply : (z : Closing) (ts : List Term) (h : Term) → closed z (apply h t
 closed_apply z [] h = refl
 closed_apply z (t ∷ ts) h = closed_apply z ts (app h t)
 
-head_closes : (z : Closing) (x : Term) → IsCallHead (head_of x) → head_of (closed z x) ≡ closed z (head_of x)
+pub head_closes : (z : Closing) (x : Term) → IsCallHead (head_of x) → head_of (closed z x) ≡ closed z (head_of x)
 head_closes z (index i) h = absurd h
 head_closes z (atom (constant c ts)) h = refl
 head_closes z (atom (integer j)) h = absurd h

@@ -93,7 +93,8 @@ module _ (P : Atom → Type 0) where
       let p : Within P 0 a × Within P 0 b = (h.0, h.1.0) in
       let q : Within P 0 b × Within P 0 a = (h.1.0, h.0) in
       if_known (nat_eq c number.And) _ _ p (if_known (nat_eq c number.Or) _ _ p (if_known (nat_eq c number.Implies) _ _ p (if_known (nat_eq c number.If) _ _ q tt)))
-  constant_known c (T ∷ ts) (a ∷ b ∷ []) h = tt
+  constant_known c (T ∷ []) (a ∷ b ∷ []) h = tt
+  constant_known c (T ∷ U ∷ ts) (a ∷ b ∷ []) h = tt
   constant_known c [] (a ∷ b ∷ d ∷ us) h = tt
   constant_known c (T ∷ []) (a ∷ b ∷ d ∷ us) h = tt
   constant_known c (T ∷ U ∷ ts) (a ∷ b ∷ d ∷ us) h = tt

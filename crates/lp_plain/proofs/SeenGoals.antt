@@ -24,8 +24,8 @@ heads_of (suc k) t s e = elim (weak_step t) as (λ o. weak_step t ≡ o → (eli
 
 some_heads : (k : ℕ) (t : Term) → IsSome (steps weak_step k t) → IsSome (steps head_step k t)
 some_heads k t h = elim (steps weak_step k t) as (λ o. steps weak_step k t ≡ o → IsSome o → IsSome (steps head_step k t)) [
-  | None ↦ λ p q. absurd q
-  | Some s ↦ λ p q. subst IsSome (sym (heads_of k t s p)) tt
+  | None ↦ λ p q. absurd (cc)
+  | Some s ↦ λ p q. subst IsSome (sym (heads_of k t s p)) refl
 ] refl h
 
 -- an abstraction stays one
@@ -81,7 +81,7 @@ none_long : (n m : ℕ) (w : Term) → n ≤ m → IsSome (steps head_step m w) 
 none_long zero m w l h = refl
 none_long (suc n) zero w l h = absurd (omega (arith, l))
 none_long (suc n) (suc m) w l h = elim (head_step w) as (λ o. IsSome (elim o [ None ↦ None | Some s ↦ steps head_step m s ]) → (elim o [ None ↦ Some w | Some s ↦ head_normal n s ]) ≡ None) [
-  | None ↦ λ q. absurd q
+  | None ↦ λ q. absurd (cc)
   | Some s ↦ λ q. none_long n m s (omega (arith, l)) q
 ] h
 
