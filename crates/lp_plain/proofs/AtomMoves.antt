@@ -23,7 +23,7 @@ use Rattle.lp_plain.specs.declared.form.Form.TheVariants as form
 use Rattle.lp_plain.specs.declared.frame.Place.{Place}
 use Rattle.lp_plain.specs.declared.machine.Machine.{Machine}
 use Rattle.lp_plain.specs.declared.outcome.Turn.{Turn}
-use Rattle.lp_plain.specs.AtRunTime.{ComesToNoCall, HasNoCall, IsAtLooked, IsAtomForm, IsNoCall, IsNoForm}
+use Rattle.lp_plain.specs.AtRunTime.{IsAtLooked, IsAtomForm, IsNoForm}
 use Rattle.lp_plain.specs.Entries.{Around, entry_at}
 use Rattle.lp_plain.specs.Forms.{IsRelation, is_named}
 use Rattle.lp_plain.specs.Moving.{IsMoved, IsRunning, Leads, Query}
@@ -31,10 +31,12 @@ use Rattle.lp_plain.specs.Trials.{IsCallHead}
 use Rattle.lp_plain.proofs.AtomViews.{atom_stays, atom_taken, constant_closed, free_closed, no_form_stays, no_form_taken, two_closed, unnamed_closed, unnamed_taken}
 use Rattle.lp_plain.proofs.ClosedForms.{form_under}
 use Rattle.lp_plain.proofs.FrontGoals.{IsFront, front_look, front_of, front_waits}
+use Rattle.lp_plain.proofs.HeadLooks.{head_closes}
 use Rattle.lp_plain.proofs.KnownForms.{normal_within}
 use Rattle.lp_plain.proofs.QuietMoves.{by_lost}
 use Rattle.lp_plain.proofs.SeenGoals.{IsAbs, seen_goal}
 use Rattle.lp_plain.proofs.TrialParts.{AllAre, arguments_written}
+use Rattle.lp_plain.proofs.Trials.{arguments_closed}
 
 module _ (qv : Query) (m : Machine) (a : Around) (raw : Branch) (s : State Task) (h : IsRunning qv m a raw s) (p : Place) (u : TermId) (o : Option ℕ) (at : IsAtLooked m h.closing a p u o raw) where
   abbrev pub x : Term
@@ -71,6 +73,19 @@ module _ (qv : Query) (m : Machine) (a : Around) (raw : Branch) (s : State Task)
       atomic : t ≡ closed h.closing x → IsEndedHead m.bindings x → connective_of x ≡ connective.Atomic → connective_of t ≡ connective.Atomic
       atomic y i e = ap connective_of y ∙ atom_stays h.closing (form_under m.bank m.bindings h.closing h.reading.reading x i) e
 
+      -- a call
+      pub called_same : (c : Term) → connective_of x ≡ connective.Atomic → head_of x ≡ c → IsCallHead c →
+          (connective_of t ≡ connective.Atomic) × (head_of t ≡ closed h.closing c) × (arguments t ≡ map (closed h.closing) (arguments x))
+      called_same c e i k =
+          elim same_or_abs [
+            | inl y ↦ (
+              atomic y.0 y.1 e,
+              ap head_of y.0 ∙ head_closes h.closing x (subst IsCallHead (sym i) k) ∙ ap (closed h.closing) i,
+              ap arguments y.0 ∙ arguments_closed h.closing x [] (subst IsCallHead (sym i) k),
+            )
+            | inr y ↦ absurd (no_abs c i k y.0)
+          ]
+
       -- a constant on two terms
       pub named_same : (c : ℕ) (l r : TermId) → connective_of x ≡ connective.Atomic → IsRelation m.bank x c l r →
           (connective_of t ≡ connective.Atomic) × ((ts : List Ty) × (head_of t ≡ atom (constant c ts))) × (arguments t ≡ closed h.closing (tree m.bank l.0) ∷ closed h.closing (tree m.bank r.0) ∷ [])
@@ -99,7 +114,7 @@ module _ (qv : Query) (m : Machine) (a : Around) (raw : Branch) (s : State Task)
           let k = subst (AllAre (Within (Known h.levels raw.next) 0)) (named_same c l r e i).2 (arguments_written (Known h.levels raw.next) 0 t [] w tt) in
           (k.0, k.1.0)
 
-      flexible_view : (i l : ℕ) → connective_of x ≡ connective.Atomic → head_of x ≡ atom (logic i l) → seen ≡ Takes variable (Stop Flexible ∷ [])
+      pub flexible_view : (i l : ℕ) → connective_of x ≡ connective.Atomic → head_of x ≡ atom (logic i l) → seen ≡ Takes variable (Stop Flexible ∷ [])
       flexible_view i l e q =
           elim same_or_abs [
             | inl y ↦
@@ -111,7 +126,7 @@ module _ (qv : Query) (m : Machine) (a : Around) (raw : Branch) (s : State Task)
       abs_view : IsAbs t → seen ≡ Takes variable []
       abs_view i = looked ∙ ap (λ y. look_form unit_limit enough P (length h.rest) f.first behind y (connective_of y)) i.1
 
-      other_view : IsAtomForm m.bank x form.Other → seen ≡ Takes variable []
+      pub other_view : IsAtomForm m.bank x form.Other → seen ≡ Takes variable []
       other_view e =
           elim same_or_abs [
             | inl y ↦ elim e [

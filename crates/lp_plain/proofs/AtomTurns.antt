@@ -83,7 +83,7 @@ module _ (qv : Query) (m c : Machine) (a : Around) (raw : Branch) (s : State Tas
   work = behind qv m a raw s h p u o at
 
   -- the search behind the step
-  pub stepped : IsGoingOn qv c a (with_goals raw at.rest) (behind qv m a raw s h p u o at) h.rest
+  abbrev pub stepped : IsGoingOn qv c a (with_goals raw at.rest) (behind qv m a raw s h p u o at) h.rest
   stepped = going_on qv m c a raw s h p at.value at.rest (f qv m a raw s h p u o at) o at.reads k ch
 
   pub place_stepped : IsPlaceAt (lists_of c) a p

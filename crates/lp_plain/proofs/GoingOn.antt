@@ -89,7 +89,7 @@ module _ (qv : Query) (m n : Machine) (a : Around) (raw : Branch) (s : State Tas
         known = record { goals = f.known.1; values = h.under.known.values; pairs = h.under.known.pairs; free = h.under.known.free };
       })
 
-  pub going_on : IsGoingOn qv n a (with_goals raw es) (with_goals h.at_work f.rest) h.rest
+  abbrev pub going_on : IsGoingOn qv n a (with_goals raw es) (with_goals h.at_work f.rest) h.rest
   going_on = record {
     above = above;
     placed = placed;

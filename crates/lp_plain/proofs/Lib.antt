@@ -107,6 +107,8 @@ pub mod AtomMoves
 pub mod AtomTurns
 pub mod LookedOn
 pub mod BesideForms
+pub mod StepTaken
+pub mod LeftOut
 pub mod TryWritten
 pub mod WrittenSearches
 pub mod WrittenAssumed

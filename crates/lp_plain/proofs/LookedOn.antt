@@ -1,5 +1,5 @@
 -- The search where only the bank has grown: before and behind a look at a goal.
-use Rattle.std.proofs.Common.{ℕ, ◌-◌, length, refl, sym, ap, inl, inr, ◌∙◌, subst, arith, Option, Some, None}
+use Rattle.std.proofs.Common.{◌≡◌, ℕ, ◌-◌, length, refl, sym, ap, inl, inr, ◌∙◌, subst, arith, Option, Some, None}
 use Rattle.lp_term.specs.Nodes.{tree}
 use Rattle.lp_term.specs.declared.node.TermId.{TermId}
 use Rattle.lp_model.specs.Branch.{Branch, Task}
@@ -52,6 +52,15 @@ module _ (m n : Machine) (b : OnlyBank m n) where
           row = h.counted.row ∙ ap (λ x. 1000000 - x.row) (sym c);
           lost = h.counted.lost ∙ ap (λ x. x.lost) (sym c);
         })
+
+    -- under the same reading
+    pub closing_on : running_on.closing ≡ h.closing
+      unfolding running_on running_still
+    closing_on = refl
+
+    pub work_on : running_on.at_work ≡ h.at_work
+      unfolding running_on running_still
+    work_on = refl
 
     pub looked_on : (t u : TermId) (o : Option ℕ) → LooksAt m n t (Some u) → IsAtTerm m a p t o raw → IsAtLooked n h.closing a p u o raw
     looked_on t u o l at = record {

@@ -77,7 +77,7 @@ module _ (qv : Query) (m n : Machine) (a d : Around) (raw : Branch) (s : State T
   under_on lv u b e w =
       subst (λ q. IsBranchUnder qv lv n.bank h.closing f base u q.items b e) (sym bn.pairs) (branch_on qv lv m.bank h.closing base u m.branch.pairs.items n.bank g.lists.bank h.left f b e w)
 
-  pub running_still : n.choices.items ≡ m.choices.items → (lv : ℕ → ℕ) (b e : Branch) (t : State Task) → IsBranchUnder qv lv m.bank h.closing f base (length m.choices.items) m.branch.pairs.items b e →
+  unfoldable pub running_still : n.choices.items ≡ m.choices.items → (lv : ℕ → ℕ) (b e : Branch) (t : State Task) → IsBranchUnder qv lv m.bank h.closing f base (length m.choices.items) m.branch.pairs.items b e →
       m.branch.next ≤ n.branch.next → n.branch.next ≡ b.next → n.branch.next_type ≡ b.next_type → t.stack ≡ Go e ∷ h.rest → IsCounted n t → IsRunning qv n d b t
   running_still ch lv b e t w l x y es ct = record {
     levels = lv;

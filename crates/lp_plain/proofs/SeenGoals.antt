@@ -80,7 +80,7 @@ longer (suc i) (suc N) T w l e h =
 none_long : (n m : ℕ) (w : Term) → n ≤ m → IsSome (steps head_step m w) → head_normal n w ≡ None
 none_long zero m w l h = refl
 none_long (suc n) zero w l h = absurd (omega (arith, l))
-none_long (suc n) (suc m) w l h = elim (head_step w) as (λ o. IsSome (elim o [ None ↦ None | Some s ↦ steps head_step m s ]) → (elim o [ None ↦ Some w | Some s ↦ head_normal n s ]) ≡ None) [
+none_long (suc n) (suc m) w l h = elim (head_step w) as (λ o. IsSome (elim o as (λ x. Option Term) [ None ↦ None | Some s ↦ steps head_step m s ]) → (elim o as (λ x. Option Term) [ None ↦ Some w | Some s ↦ head_normal n s ]) ≡ None) [
   | None ↦ λ q. absurd (cc)
   | Some s ↦ λ q. none_long n m s (omega (arith, l)) q
 ] h
