@@ -30,31 +30,31 @@ use Rattle.lp_plain.proofs.Under.{branch_on, entries_wider}
 
 module _ (qv : Query) (m n : Machine) (a : Around) (raw : Branch) (s : State Task) (h : IsRunning qv m a raw s) (p : Place) (value : Term) (es : List Entry) (f : IsFront qv m a raw s h p value es) (o : Option ℕ) (reads : Reads m a o es)
     (k : KeepsSearch m n o) (ch : n.choices ≡ m.choices) where
-  abbrev base : ℕ
+  abbrev pub base : ℕ
   base = base_of m.denied
 
-  abbrev marks : ℕ → ℕ
+  abbrev pub marks : ℕ → ℕ
   marks = mark_in base h.above.raws
 
-  grown : GrowsOn m n
+  pub grown : GrowsOn m n
   grown = on_kept m n k.goals k.assumed k.denied
 
-  bound : Grows m.bindings n.bindings
+  pub bound : Grows m.bindings n.bindings
   bound = subst (Grows m.bindings) (sym k.goals.known.bindings) (grows_same m.bindings)
 
-  bank : Extends m.bank n.bank
+  pub bank : Extends m.bank n.bank
   bank = subst (Extends m.bank) (sym k.goals.known.bank) (extends_same m.bank)
 
-  around : IsLaterAround (length m.newest.items) (length m.standings.items) a a
+  pub around : IsLaterAround (length m.newest.items) (length m.standings.items) a a
   around = same_around (length m.newest.items) (length m.standings.items) a
 
-  stands : StandsIn n
+  pub stands : StandsIn n
   stands = same_stands m n k.goals k.frames h.above.done.stands
 
-  items : n.choices.items ≡ m.choices.items
+  pub items : n.choices.items ≡ m.choices.items
   items = ap (λ v. v.items) ch
 
-  abbrev above : HasAlternatives qv n a h.rest
+  abbrev pub above : HasAlternatives qv n a h.rest
   above = record {
     raws = h.above.raws;
     others = h.above.others;
@@ -65,18 +65,18 @@ module _ (qv : Query) (m n : Machine) (a : Around) (raw : Branch) (s : State Tas
     is = h.above.is;
   }
 
-  placed : ArePlaced n a
+  pub placed : ArePlaced n a
   placed =
       subst (λ z. All (λ (x : Frame). IsPlaceAt (lists_of n) a x.place) z.items) (sym k.frames)
       (subst (λ z. All (λ (x : Frame). IsPlaceAt z a x.place) m.frames.items) (lists_noted m n k.goals k.assumed) h.placed)
 
-  abbrev after : Branch
+  abbrev pub after : Branch
   after = with_goals raw es
 
-  abbrev at_work : Branch
+  abbrev pub at_work : Branch
   at_work = with_goals h.at_work f.rest
 
-  here : IsBranchUnder qv h.levels n.bank h.closing marks base (length m.choices.items) m.branch.pairs.items after at_work
+  pub here : IsBranchUnder qv h.levels n.bank h.closing marks base (length m.choices.items) m.branch.pairs.items after at_work
   here =
       branch_on qv h.levels m.bank h.closing base (length m.choices.items) m.branch.pairs.items n.bank bank h.left marks after at_work
       (record {

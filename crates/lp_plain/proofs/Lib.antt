@@ -109,6 +109,7 @@ pub mod LookedOn
 pub mod BesideForms
 pub mod StepTaken
 pub mod LeftOut
+pub mod TermTurns
 pub mod TryWritten
 pub mod WrittenSearches
 pub mod WrittenAssumed

@@ -55,11 +55,11 @@ module _ (m n : Machine) (b : OnlyBank m n) where
 
     -- under the same reading
     pub closing_on : running_on.closing ≡ h.closing
-      unfolding running_on running_still
+    unfolding running_on running_still
     closing_on = refl
 
     pub work_on : running_on.at_work ≡ h.at_work
-      unfolding running_on running_still
+    unfolding running_on running_still
     work_on = refl
 
     pub looked_on : (t u : TermId) (o : Option ℕ) → LooksAt m n t (Some u) → IsAtTerm m a p t o raw → IsAtLooked n h.closing a p u o raw
