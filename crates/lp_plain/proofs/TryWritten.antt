@@ -99,15 +99,15 @@ head_written_on m n call candidate g ar vs h values σ T st G c w =
 pub body_written_on : (m k n o : Machine) (call : Call) (candidate : Candidate) (rule : ℕ) (p : Place) → IsMore m k → IsScopeFor m k call candidate
     rule p.values → KeepsGoals k n → KeepsAssumed k n → n.frames ≡ k.frames → KeepsGoals n o → KeepsAssumed n o → o.choices.items ≡ m.choices.items →
     ((r : Rule) → slice_get n.table.rules.items rule ≡ Some r → PutsList n o r.body p call.behind) → WritesOn m o call candidate
-body_written_on m k n o call candidate rule p g scope kn an fn no ao same puts ar vs h values σ T st G c w =
+body_written_on m k n o call candidate rule p g scope kn an fn nq ao same puts ar vs h values σ T st G c w =
     let S = scope vs h values σ T st G in
     let r = T.is.0 in
     let A = around_written m ar w.at_work candidate vs h values σ T c in
     let table : n.table ≡ m.table = kn.known.table ∙ g.table in
     let P = puts r (ap (λ t. slice_get t.rules.items rule) table ∙ ap (slice_get m.table.rules.items) S.0 ∙ T.is.1) in
-    let same_bank : o.bank ≡ k.bank = no.known.bank ∙ kn.known.bank in
-    let same_scopes : o.scopes ≡ k.scopes = no.known.scopes ∙ kn.known.scopes in
-    let grows : GrowsGoals m o = grows_then m k o (more_grows m k g) (grows_then k n o (grows_kept k n kn) (grows_kept n o no)) in
+    let same_bank : o.bank ≡ k.bank = nq.known.bank ∙ kn.known.bank in
+    let same_scopes : o.scopes ≡ k.scopes = nq.known.scopes ∙ kn.known.scopes in
+    let grows : GrowsGoals m o = grows_then m k o (more_grows m k g) (grows_then k n o (grows_kept k n kn) (grows_kept n o nq)) in
     let assumptions : o.assumptions.items ≡ m.assumptions.items = ap (λ v. v.items) (ao.assumptions ∙ an.assumptions ∙ g.assumptions) in
     let old = older_written m o st grows ar m.frames.items m.assumptions.items st.frames w.at_work in
     let goals : WrittenGoals m.bank (shown m.table) ar A.0 (own_and (length r.slots.items) A.1) P.0.from P.0.to =
