@@ -110,6 +110,7 @@ pub mod BesideForms
 pub mod StepTaken
 pub mod LeftOut
 pub mod TermTurns
+pub mod AtomAtHand
 pub mod TryWritten
 pub mod WrittenSearches
 pub mod WrittenAssumed

@@ -20,11 +20,10 @@ use Rattle.lp_plain.proofs.FormMoves.{form_leads}
 use Rattle.lp_plain.proofs.LookedOn.{closing_on, looked_on, running_on, work_on}
 
 module _ (qv : Query) (m n : Machine) (b : OnlyBank m n) (a : Around) (raw : Branch) (s : State Task) (h : IsRunning qv m a raw s) (p : Place) (t u : TermId) (o : Option ℕ) (at : IsAtTerm m a p t o raw) (l : LooksAt m n t (Some u)) where
-  now : IsRunning qv n a raw s
+  abbrev now : IsRunning qv n a raw s
   now = running_on m n b qv a raw s h p at.place
 
   looked : IsAtLooked n now.closing a p u o raw
-  unfolding now
   looked = subst (λ z. IsAtLooked n z a p u o raw) (sym (closing_on m n b qv a raw s h p at.place)) (looked_on m n b qv a raw s h p at.place t u o l at)
 
   pub connective_turn : (q : Machine) (k : Connective) → connective_of (tree n.bank u.0) ≡ connective_in n.bank k → IsConnectiveIn n.bank k → IsApartForm k → (turn : Turn) → IsApart turn n.counts q.counts →

@@ -16,9 +16,14 @@ use Rattle.lp_plain.specs.declared.form.Form.{Form}
 use Rattle.lp_plain.specs.declared.form.Form.TheVariants as form
 use Rattle.lp_plain.specs.declared.frame.Place.{Place}
 use Rattle.lp_plain.specs.declared.machine.Machine.{Machine}
+use Rattle.lp_plain.specs.declared.table.Flat.{Flat}
+use Rattle.lp_plain.specs.declared.table.Span.{Span}
 use Rattle.lp_plain.specs.Assuming.{IsPlaceAt, lists_of}
 use Rattle.lp_plain.specs.Entries.{Around, HeadsTo, Reads, entry_at}
 use Rattle.lp_plain.specs.Forms.{IsForm}
+use Rattle.lp_plain.specs.Scopes.{blocks_of}
+use Rattle.lp_plain.specs.Tables.{shown}
+use Rattle.lp_plain.specs.WrittenTable.{IsWrittenIn, WrittenFlat, WrittenGoals}
 
 -- the goal at hand is this term: in its place, in front of the goals from a frame on
 pub record IsAtTerm (m : Machine) (a : Around) (p : Place) (term : TermId) (behind : Option ℕ) (raw : Branch) : Type 0 where
@@ -29,6 +34,20 @@ pub record IsAtTerm (m : Machine) (a : Around) (p : Place) (term : TermId) (behi
   pub heads : HeadsTo (tree m.bank term.0) value
   pub reads : Reads m a behind rest
   pub goals : raw.goals ≡ entry_at a p (Atomic value) ∷ rest
+
+-- an atom in front
+abbrev pub IsAtom : Goal → Type 0
+IsAtom (Atomic t) = Unit {0}
+IsAtom Cut = ⊥
+IsAtom (Either gs hs) = ⊥
+IsAtom (Exists T gs) = ⊥
+IsAtom (Forall T gs) = ⊥
+IsAtom (Assume w cs gs) = ⊥
+IsAtom (Not w gs) = ⊥
+
+abbrev pub IsAtomFirst : List Entry → Type 0
+IsAtomFirst [] = ⊥
+IsAtomFirst (e ∷ es) = IsAtom e.goal
 
 -- so where it was looked at: at most a million contractions led to this term, as the bindings read both; it is an abstraction, or has a head that is neither bound nor to be contracted
 pub record IsAtLooked (m : Machine) (z : Closing) (a : Around) (p : Place) (goal : TermId) (behind : Option ℕ) (raw : Branch) : Type 0 where
@@ -75,6 +94,13 @@ IsNoCall (atom (param k T)) us = Unit {0}
 IsNoCall (index i) us = Unit {0}
 IsNoCall (abs b) us = Unit {0}
 IsNoCall (app t u) us = Unit {0}
+
+-- a goal of the table, or goals, are written in a place of the search
+abbrev pub IsWrittenFlat : Machine → (arity : ℕ → ℕ) → Place → Flat → Type 0
+IsWrittenFlat m ar p f = IsWrittenIn m.bank (blocks_of m.scopes) p.values.scope (λ k bs. WrittenFlat m.bank (shown m.table) ar k bs f)
+
+abbrev pub AreWrittenGoals : Machine → (arity : ℕ → ℕ) → Place → Span → Type 0
+AreWrittenGoals m ar p s = IsWrittenIn m.bank (blocks_of m.scopes) p.values.scope (λ k bs. WrittenGoals m.bank (shown m.table) ar k bs s.from s.to)
 
 -- no look at the goal in front comes to a call
 abbrev pub ComesToNoCall : Goal → Type 0

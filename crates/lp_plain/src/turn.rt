@@ -14,7 +14,7 @@ ghost use Rattle.lp_plain.specs.Assuming.{KeepsAssumed};
 ghost use Rattle.lp_standard.specs.Connectives.{connective_of};
 ghost use Rattle.lp_term.specs.Nodes.{Nodes, tree};
 ghost use Rattle.lp_model.specs.Connected.{connective_in};
-ghost use Rattle.lp_plain.specs.AtRunTime.{HasNoCall, IsAtomForm, IsAtomOrNoForm, IsAtTerm};
+ghost use Rattle.lp_plain.specs.AtRunTime.{AreWrittenGoals, HasNoCall, IsAtomFirst, IsAtomForm, IsAtomOrNoForm, IsAtTerm, IsWrittenFlat};
 ghost use Rattle.lp_plain.specs.Entries.{Around, KeepsGoals};
 ghost use Rattle.lp_plain.specs.Marks.{AreMarked, IsMarked, Marks, PutsAside, PutsMarks, SetsAside};
 ghost use Rattle.lp_plain.specs.Moving.{HasFreeTypes, IsBack, IsAtGoal, IsAtGoals, IsPlainFirst, IsRunning, IsState, LeadsTo, MovesTo, Query};
@@ -55,6 +55,7 @@ fn take_flat<W: Watch>(
     ensures aside { IfOk result (λ turn. turn ≡ Turn.On → IsApartFlat goal → PutsAside machine.old machine.new place behind) }
     ensures counted { IfOk result (λ turn. IsApartFlat goal → IsApart turn machine.old.counts machine.new.counts) }
     ensures moved { IfOk result (λ turn. (qv : Query) (a : Around) (raw : Branch) (s : State Task) → IsRunning qv machine.old a raw s → IsAtGoal machine.old a place goal behind raw → IsPlainFirst raw.goals → MovesTo qv turn machine.new s) }
+    ensures leads { IfOk result (λ turn. (qv : Query) (a : Around) (raw : Branch) (s : State Task) (h : IsRunning qv machine.old a raw s) → IsAtGoal machine.old a place goal behind raw → IsAtomFirst raw.goals → IsWrittenFlat machine.old qv.arity place goal → HasNoCall h.at_work.goals → HasFreeTypes machine.new → LeadsTo 1 qv turn machine.new s) }
 {
     match goal {
         Flat::Atom(term) => {
@@ -150,6 +151,7 @@ fn take_first<W: Watch>(
     ensures aside { IfOk result (λ turn. turn ≡ Turn.On → (hs : Goals) → goals.from < goals.to → AreGoals machine.old.bank Never (shown machine.old.table) goals.from goals.to hs → FirstIsApart hs → PutsAside machine.old machine.new place behind) }
     ensures counted { IfOk result (λ turn. (hs : Goals) → goals.from < goals.to → AreGoals machine.old.bank Never (shown machine.old.table) goals.from goals.to hs → FirstIsApart hs → IsApart turn machine.old.counts machine.new.counts) }
     ensures moved { IfOk result (λ turn. (qv : Query) (a : Around) (raw : Branch) (s : State Task) → IsRunning qv machine.old a raw s → IsAtGoals machine.old a place goals behind raw → IsPlainFirst raw.goals → MovesTo qv turn machine.new s) }
+    ensures leads { IfOk result (λ turn. (qv : Query) (a : Around) (raw : Branch) (s : State Task) (h : IsRunning qv machine.old a raw s) → IsAtGoals machine.old a place goals behind raw → IsAtomFirst raw.goals → AreWrittenGoals machine.old qv.arity place goals → HasNoCall h.at_work.goals → HasFreeTypes machine.new → LeadsTo 1 qv turn machine.new s) }
 {
     let goal = machine.table.goal(goals.from)?;
     let Some(second) = goals.from.checked_add(1) else {
@@ -181,6 +183,7 @@ pub(crate) fn take_goal<W: Watch>(
     ensures marked { IfOk result (λ turn. turn ≡ Turn.On → (a : Around) (s : State Task) (h : IsStateOf machine.old a s) → IsApartFirst h.at_work.goals → IsMarked machine.old → IsMarked machine.new) }
     ensures answered { IfOk result (λ turn. (qv : Query) (s : State Task) → IsState qv machine.old s → machine.old.branch.goals ≡ None → machine.old.denied ≡ None → (turn ≡ Turn.Answered) × MovesTo qv turn machine.new s) }
     ensures moved { IfOk result (λ turn. (qv : Query) (s : State Task) (h : IsState qv machine.old s) → IsPlainFirst h.raw.goals → MovesTo qv turn machine.new s) }
+    ensures leads { IfOk result (λ turn. (qv : Query) (s : State Task) (h : IsState qv machine.old s) → IsAtomFirst h.raw.goals → IsWrittenSearch machine.old qv.arity → HasNoCall h.running.at_work.goals → HasFreeTypes machine.new → LeadsTo 1 qv turn machine.new s) }
 {
     let Some(number) = machine.branch.goals else {
         return Ok(end_branch(machine));
