@@ -37,9 +37,7 @@ returns-clause-written c = λ ar i h s.
     let v = e.variable in
     c.in_ok-put_goal_of.ensures.written ar (e.stands i) (
       shut_later m n c.args.term v.grows.bank h,
-      v.within,
-      subst (LooseBelow 0 0) (sym v.variable)
-          tt,
+      (v.within, subst (LooseBelow 0 0) (sym v.variable) tt),
     ) (search_same m n i v.grows v.frames v.assumed v.choices ar s)
 
 pub returns-clause-none : goal.returns-clause-none

@@ -36,9 +36,7 @@ returns-clause-written c = λ ar i h s.
     let v = e.raised in
     c.in_ok-put_goal_of.ensures.written ar (e.stands i) (
       shut_later m n c.args.term v.grows.bank h,
-      v.within,
-      subst (LooseBelow 0 0) (sym v.eigen_is)
-          tt,
+      (v.within, subst (LooseBelow 0 0) (sym v.eigen_is) tt),
     ) (search_same m n i v.grows v.frames v.keeps v.choices ar s)
 
 pub returns-clause-none : goal.returns-clause-none
