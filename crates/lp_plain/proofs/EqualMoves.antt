@@ -7,6 +7,7 @@ use Rattle.lp_model.specs.Pair.{Closing, closed}
 use Rattle.lp_model.specs.Search.{follow, look, types_from, vars_from}
 use Rattle.lp_model.specs.Skeleton.{GoalName, GoalNote, Goes, Inner, State, Takes, View, back, move, move_at, move_view}
 use Rattle.lp_model.specs.Unify.{State as Solved, Unified as Outcome, Fail, Solution, Spent, unit_limit}
+use Rattle.lp_model.specs.declared.ending.Ending.{Ending}
 use Rattle.lp_model.specs.declared.ending.Ending.TheVariants.{Deep}
 use Rattle.lp_pattern.specs.Growing.{GoesOn}
 use Rattle.lp_pattern.specs.Putting.{Known}
@@ -117,15 +118,15 @@ module _ (qv : Query) (m n : Machine) (a : Around) (raw rest : Branch) (below : 
     }
 
   -- the atom takes a step
-  module _ (s : State Task) (w j : ℕ) (ea : s.answers ≡ suc w) (es : s.steps ≡ suc j) (go : (Answer → Bool) → State Task → Inner) (enough : ℕ) (P : List Clause) (name : GoalName) (task : Task) (o : Option Outcome)
-      (stack : s.stack ≡ task ∷ below) (seen : look unit_limit enough P (length below) task ≡ Takes name (follow rest o)) where
+  module _ (s : State Task) (w j : ℕ) (ea : s.answers ≡ suc w) (es : s.steps ≡ suc j) (go : (Answer → Bool) → State Task → Inner) (enough : ℕ) (P : List Clause) (name : GoalName) (task : Task) (tasks : List Task)
+      (stack : s.stack ≡ task ∷ below) (seen : look unit_limit enough P (length below) task ≡ Takes name tasks) where
     abbrev see : ℕ → Task → View Task Answer
     see = look unit_limit enough P
 
-    abbrev after : List Task → State Task
+    abbrev pub after : List Task → State Task
     after ts = record { steps = j; answers = suc w; given = s.given; rows = s.rows; row = s.rows; lost = s.lost; stack = ts ++ below }
 
-    first_move : (ts : List Task) → follow rest o ≡ ts → move go see s ≡ Goes 1 (GoalNote name ∷ back ts below) (after ts)
+    first_move : (ts : List Task) → tasks ≡ ts → move go see s ≡ Goes 1 (GoalNote name ∷ back ts below) (after ts)
     first_move ts e =
         (λ i. move_at go see (es i) (ea i) s.given s.rows s.row s.lost (stack i)) ∙ by_lost go see (suc j) w s.given s.rows s.row s.lost task below ∙
         ap (move_view go (suc j) w s.given s.rows s.row s.lost below) (seen ∙ ap (Takes name) e)
@@ -134,27 +135,27 @@ module _ (qv : Query) (m n : Machine) (a : Around) (raw rest : Branch) (below : 
     second x ts = by_lost go see j w s.given s.rows s.rows s.lost x (ts ++ below)
 
     module _ (counted : (ts : List Task) → IsCounted n (after ts)) where
-      lacks : follow rest o ≡ Lack ∷ [] → (turn : Turn) → Leads 1 qv turn n go see s
+      pub lacks : tasks ≡ Lack ∷ [] → (turn : Turn) → Leads 1 qv turn n go see s
       lacks e turn = inr (inr (1, GoalNote name ∷ [], after (Lack ∷ []), first_move (Lack ∷ []) e, sym ea, refl, inr (0, [], second Lack [])))
 
-      fails : follow rest o ≡ [] → Leads 1 qv Turn.Back n go see s
+      pub fails : tasks ≡ [] → Leads 1 qv Turn.Back n go see s
       fails e = inl (1, GoalNote name ∷ back [] below, after [], first_move [] e, record { around = a; above = above; counted = counted [] }, sym ea, refl)
 
-      deep : follow rest o ≡ Stop Deep ∷ [] → Leads 1 qv (Turn.Ended Deep) n go see s
-      deep e = inr (inr (1, GoalNote name ∷ [], after (Stop Deep ∷ []), first_move (Stop Deep ∷ []) e, sym ea, refl, inl (second (Stop Deep) [])))
+      pub stops : (f : Ending) → tasks ≡ Stop f ∷ [] → Leads 1 qv (Turn.Ended f) n go see s
+      stops f e = inr (inr (1, GoalNote name ∷ [], after (Stop f ∷ []), first_move (Stop f ∷ []) e, sym ea, refl, inl (second (Stop f) [])))
 
-      solves : (st : Solved) → follow rest o ≡ Go (resume rest st) ∷ [] → (z : Closing) → IsOpenReading n.bank n.bindings n.branch.next z →
+      solves : (st : Solved) → tasks ≡ Go (resume rest st) ∷ [] → (z : Closing) → IsOpenReading n.bank n.bindings n.branch.next z →
           IsFound h.levels m.branch.next h.closing n.bank n.branch.next n.branch.pairs.items z st → Leads 1 qv Turn.On n go see s
       solves st e z r found =
           inl (1, GoalNote name ∷ [], after (Go (resume rest st) ∷ []), first_move (Go (resume rest st) ∷ []) e, goes_on st z r found (after (Go (resume rest st) ∷ [])) refl (counted (Go (resume rest st) ∷ [])), sym ea, refl)
 
-      by_outcome : (u : Unified) (x : Option Outcome) → AreFew (turn_for u) enough → o ≡ x → ((y : Outcome) → x ≡ Some y → IsUnifiedAs u h.levels m.branch.next h.closing n enough y) → Leads 1 qv (turn_for u) n go see s
-      by_outcome u None few e k = lacks (ap (follow rest) e) (turn_for u)
-      by_outcome Unified.Fits (Some Fail) few e k = absurd (k Fail refl)
-      by_outcome Unified.Fits (Some Spent) few e k = absurd (k Spent refl)
-      by_outcome Unified.Fits (Some (Solution st)) few e k = let y = k (Solution st) refl in solves st (ap (follow rest) e) y.0 y.1 y.2
-      by_outcome Unified.Fails (Some y) few e k = fails (ap (follow rest) (e ∙ ap (λ q. Some q) (k y refl)))
-      by_outcome Unified.Deep (Some y) few e k = deep (ap (follow rest) (e ∙ ap (λ q. Some q) (k y refl (let l = few refl in omega (arith, l)))))
+      by_outcome : (u : Unified) (x : Option Outcome) → AreFew (turn_for u) enough → tasks ≡ follow rest x → ((y : Outcome) → x ≡ Some y → IsUnifiedAs u h.levels m.branch.next h.closing n enough y) → Leads 1 qv (turn_for u) n go see s
+      by_outcome u None few e k = lacks e (turn_for u)
+      by_outcome Unified.Fits (Some Fail) few e k = absurd (let z = k Fail refl in z)
+      by_outcome Unified.Fits (Some Spent) few e k = absurd (let z = k Spent refl in z)
+      by_outcome Unified.Fits (Some (Solution st)) few e k = let y = k (Solution st) refl in solves st e y.0 y.1 y.2
+      by_outcome Unified.Fails (Some y) few e k = fails (e ∙ ap (λ q. follow rest (Some q)) (k y refl))
+      by_outcome Unified.Deep (Some y) few e k = stops Deep (e ∙ ap (λ q. follow rest (Some q)) (k y refl (let l = few refl in omega (arith, l))))
 
-      pub unified_leads : (u : Unified) → AreFew (turn_for u) enough → ((y : Outcome) → o ≡ Some y → IsUnifiedAs u h.levels m.branch.next h.closing n enough y) → Leads 1 qv (turn_for u) n go see s
-      unified_leads u few k = by_outcome u o few refl k
+      pub unified_leads : (u : Unified) → AreFew (turn_for u) enough → (o : Option Outcome) → tasks ≡ follow rest o → ((y : Outcome) → o ≡ Some y → IsUnifiedAs u h.levels m.branch.next h.closing n enough y) → Leads 1 qv (turn_for u) n go see s
+      unified_leads u few o e k = by_outcome u o few e k

@@ -4,6 +4,8 @@ ghost use Rattle.lp_model.specs.Branch.{Branch, Task};
 ghost use Rattle.lp_model.specs.Skeleton.{State};
 ghost use Rattle.lp_plain.specs.declared.outcome.Turn.{Turn};
 ghost use Rattle.lp_plain.specs.declared.table.Flat.{Flat};
+ghost use Rattle.lp_term.specs.Nodes.{tree};
+ghost use Rattle.lp_plain.specs.AtRunTime.{HasNoCall, IsAtLooked, IsAtomForm};
 ghost use Rattle.lp_plain.specs.Cuts.{CutsOff};
 ghost use Rattle.lp_plain.specs.Assuming.{KeepsAssumed};
 ghost use Rattle.lp_plain.specs.Calling.{CallLeads, IsLookedAs};
@@ -106,6 +108,7 @@ fn put_others(machine: &mut Machine, call: &Call, candidate: Candidate) -> Resul
     ensures assumed { OnOk result (KeepsAssumed machine.old machine.new) }
     ensures branch { OnOk result (machine.new.branch ≡ machine.old.branch) }
     ensures frames { OnOk result (machine.new.frames ≡ machine.old.frames) }
+    ensures written { OnOk result ((ar : ℕ → ℕ) → StandsIn machine.old → IsWrittenSearch machine.old ar → IsWrittenSearch machine.new ar) }
     ensures at_try { OnOk result ((qv : Query) (a : Around) (s : State Task) → IsTrying qv machine.old a call.now candidate s → IsAtTry qv machine.new a call.now candidate (length machine.old.choices.items) s) }
 {
     let found = machine.candidate_after(call, candidate)?;
@@ -122,6 +125,7 @@ pub(crate) fn try_candidate(
     call: &Call,
     candidate: Candidate,
 ) -> Result<Turn, Memory>
+    ensures written { OnOk result ((qv : Query) (a : Around) (s : State Task) → IsTrying qv machine.old a call.now candidate s → IsWrittenSearch machine.old qv.arity → IsWrittenSearch machine.new qv.arity) }
     ensures leads { IfOk result (λ turn. (qv : Query) (a : Around) (s : State Task) → IsTrying qv machine.old a call.now candidate s → StandsWritten machine.old qv.arity → HasFreeTypes machine.new → LeadsTo 1 qv turn machine.new s) }
 {
     let mark = machine.choices.len();
@@ -198,7 +202,10 @@ pub(crate) fn take_atom<W: Watch>(
     form: Form,
     place: Place,
     behind: Option<usize>,
-) -> Result<Turn, Memory> {
+) -> Result<Turn, Memory>
+    ensures leads { IfOk result (λ turn. (qv : Query) (a : Around) (raw : Branch) (s : State Task) (h : IsRunning qv machine.old a raw s) → IsAtLooked machine.old h.closing a place goal behind raw → IsAtomForm machine.old.bank (tree machine.old.bank goal.0) form →
+        HasNoCall h.at_work.goals → HasFreeTypes machine.new → LeadsTo 1 qv turn machine.new s) }
+{
     if !take_step(machine) {
         return Ok(Turn::Ended(Ending::Steps));
     }
@@ -209,11 +216,20 @@ pub(crate) fn take_atom<W: Watch>(
             let unified = equate(machine, left, right, place.level)?;
             Ok(turn_of(unified))
         }
-        Form::Is(left, right) => assign(machine, left, right, place.level),
-        Form::Order(order, left, right) => compare(machine, order, left, right),
-        Form::Call(head, first) => take_call(machine, goal, head, first, place, behind),
+        Form::Is(left, right) => {
+            let turn = assign(machine, left, right, place.level)?;
+            Ok(turn)
+        }
+        Form::Order(order, left, right) => {
+            let turn = compare(machine, order, left, right)?;
+            Ok(turn)
+        }
+        Form::Call(head, first) => {
+            let turn = take_call(machine, goal, head, first, place, behind)?;
+            Ok(turn)
+        }
         Form::Flexible => Ok(Turn::Ended(Ending::Flexible)),
-        _ => Ok(Turn::Back),
+        Form::Other => Ok(Turn::Back),
     }
 }
 

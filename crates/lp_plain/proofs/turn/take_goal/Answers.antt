@@ -15,6 +15,8 @@ use Rattle.lp_plain.proofs.QuietMoves.{quiet_move}
 use Rattle.lp_plain.proofs.Following.{kept_of, moved_stands}
 use Rattle.lp_plain.proofs.Treated.{goals_some, inner_turn, none_denied, plain_first, term_some}
 use Rattle.lp_plain.proofs.WrittenFirst.{branch_written, none_at_hand, term_at_hand}
+use Rattle.lp_plain.specs.AtRunTime.{IsAtomFirst}
+use Rattle.lp_plain.proofs.AtomAtHand.{frame_written, none_atom, term_at}
 use Rattle.lp_plain.proofs.turn.take_goal.Goals as goal
 
 pub returns-in_ok-turn-in-Goals-clause-moves : goal.returns-in_ok-turn-in-Goals-clause-moves
@@ -152,3 +154,16 @@ returns-in_ok-turn-in-Term-clause-stands g c = λ k h.
     let st = h.3 in
     let pf = plain_first k qv m s st (kept_of k qv.outer s h.4) (term_some qv m s st c.in-Some.number c.in_ok-frame.frame c.in-Some.is c.in_ok-frame.ensures c.in-Term.term c.in-Term.is) in
     absurd (term_plain qv m s st c.in-Some.number c.in_ok-frame.frame c.in-Some.is c.in_ok-frame.ensures c.in-Term.term c.in-Term.is pf)
+
+pub returns-in_default-clause-leads : goal.returns-in_default-clause-leads
+returns-in_default-clause-leads g c = λ qv s h af w nc ft. absurd (none_atom qv c.args.machine.now s h c.in_default.is af)
+
+pub returns-in_ok-turn-in-Goals-clause-leads : goal.returns-in_ok-turn-in-Goals-clause-leads
+returns-in_ok-turn-in-Goals-clause-leads g c = λ qv s h af w nc ft.
+    let m = c.args.machine.now in
+    c.in_ok-turn-in-Goals.ensures.leads qv h.around h.raw s h.running (at_frame qv m s h c.in-Some.number c.in_ok-frame.frame c.in-Some.is c.in_ok-frame.ensures c.in-Goals.goals c.in-Goals.is) af
+    (frame_written qv m s h c.in-Some.number c.in_ok-frame.frame c.in-Some.is c.in_ok-frame.ensures c.in-Goals.goals c.in-Goals.is qv.arity w) nc ft
+
+pub returns-in_ok-turn-in-Term-clause-leads : goal.returns-in_ok-turn-in-Term-clause-leads
+returns-in_ok-turn-in-Term-clause-leads g c = λ qv s h af w nc ft.
+    c.in_ok-turn-in-Term.ensures.leads qv h.around h.raw s h.running (term_at qv c.args.machine.now s h c.in-Some.number c.in_ok-frame.frame c.in-Some.is c.in_ok-frame.ensures c.in-Term.term c.in-Term.is) nc ft
