@@ -36,7 +36,7 @@ plain_call p goal hd behind = record { goal = goal; head = hd; first = None; key
 -- its first argument is too deep
 pub deep_leads : (m n : Machine) (b : Nodes) → Extends m.bank b → (p : Place) (goal : TermId) (hd : Head) (first : Option TermId) (behind : Option ℕ) → IsLookedAs m n (plain_call p goal hd behind) first None → CallLeads m n p goal hd first behind (Turn.Ended Deep)
 deep_leads m n b x p goal hd None behind h = absurd h
-deep_leads m n b x p goal hd (Some u) behind h eb qv a rest work below g e c css pr sw ft s k ea ct go enough few es =
+deep_leads m n b x p goal hd (Some u) behind h = λ eb qv a rest work below g e c css pr sw ft s k ea ct go enough few es.
     let l = few refl in
     let q = deep_looked qv m b x a rest work below g p goal hd (Some u) e c css pr None None u refl enough (omega (arith, l)) h in
     inl (lacks_on qv (Turn.Ended Deep) n go enough (all_clauses css) s k below ea (es ∙ ap (λ o. tries (all_clauses css) e work (length below) o ++ below) q))

@@ -94,7 +94,7 @@ module _ (m : Machine) (b : Nodes) (x : Extends m.bank b) where
   pub bank_goals : GrowsGoals m (with_bank m b)
   bank_goals = record { bank = x; table = refl; frames = goes_on_same m.frames.items; blocks = goes_on_same m.scopes.blocks.items; values = goes_on_same m.scopes.values.items }
 
-  pub bank_alternatives : (qv : Query) (a : Around) (stack : List Task) → HasAlternatives qv m a stack → HasAlternatives qv (with_bank m b) a stack
+  abbrev pub bank_alternatives : (qv : Query) (a : Around) (stack : List Task) → HasAlternatives qv m a stack → HasAlternatives qv (with_bank m b) a stack
   bank_alternatives qv a stack h =
       let n = with_bank m b in
       let st = h.done.stands in

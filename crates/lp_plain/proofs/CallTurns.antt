@@ -58,14 +58,11 @@ lacks_on qv turn n go enough P s k below ea es =
 -- what holds of each holds of those that are kept
 kept_each : {A : Type 0} (P : A → Type 0) (f : A → Bool) (xs : List A) → EachOf P xs → EachOf P (filter f xs)
 kept_each P f [] h = tt
-kept_each P f (x ∷ xs) h = go (f x)
+kept_each P f (x ∷ xs) h = go (f x) (kept_each P f xs h.1)
   where
-    rest : EachOf P (filter f xs)
-    rest = kept_each P f xs h.1
-
-    go : (b : Bool) → EachOf P (cond b (x ∷ filter f xs) (filter f xs))
-    go true = (h.0, rest)
-    go false = rest
+    go : (b : Bool) → EachOf P (filter f xs) → EachOf P (cond b (x ∷ filter f xs) (filter f xs))
+    go true r = (h.0, r)
+    go false r = r
 
 known_each : (P : ℕ → Term → Type 0) (cs : List Clause) → AllOfAssumed P cs → EachOf (AllOfClause P 0) cs
 known_each P [] h = tt
@@ -136,7 +133,7 @@ module _ (qv : Query) (m : Machine) (b : Nodes) (x : Extends m.bank b) (a : Arou
   head_is = subst IsCallHead (sym seen.head_same) c.called
 
   place_now : IsPlaceAt (lists_of n) a p
-  place_now = place_on (lists_of m) (lists_of n) (bank_grown m b x).lists a a p (same_around (length m.newest.items) (length m.standings.items) a) c.place
+  place_now = place_on (lists_of m) (lists_of n) g.above.done.stands.table g.above.done.stands.values (bank_grown m b x).lists a a p (same_around (length m.newest.items) (length m.standings.items) a) c.place
 
   -- what the first candidate is found by
   pub of_call : IsCallOf qv.arity n.bank call now
@@ -206,7 +203,7 @@ module _ (qv : Query) (m : Machine) (b : Nodes) (x : Extends m.bank b) (a : Arou
             above = bank_alternatives m b x qv a below g.above;
             closing = z;
             stack = stack_now;
-            placed = places_on (lists_of m) (lists_of n) gr.lists a a m.frames.items (same_around (length m.newest.items) (length m.standings.items) a) g.placed;
+            placed = places_on (lists_of m) (lists_of n) st.table st.values gr.lists a a m.frames.items (same_around (length m.newest.items) (length m.standings.items) a) g.placed;
             place = place_now;
             at_place = record { assumed = c.at_place.assumed; written = c.at_place.written; level = c.at_place.level };
             goals = bank_reads m b x a m.branch.goals st rest.goals g.goals;

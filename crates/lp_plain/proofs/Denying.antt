@@ -33,7 +33,7 @@ module _ (c : Course) (s : State Task) (n k : ℕ) (task i : Task) (b : Branch) 
   kept_inside : Kept c s → Kept c begun
   kept_inside v = λ u r. v u (inside_denied n task i has_no_pairs (Go b ∷ []) rest es et seen r)
 
-  on : (m p : ℕ) (ts : List Task) → State Task
+  abbrev on : (m p : ℕ) (ts : List Task) → State Task
   on m p ts = record { steps = m; answers = suc k; given = s.given; rows = s.rows; row = p; lost = s.lost; stack = ts }
 
   same_on : (m p : ℕ) (ts : List Task) → on m p ts ≡ goes_on waits m p ts
@@ -83,7 +83,7 @@ module _ (c : Course) (s : State Task) (n k : ℕ) (task i : Task) (b : Branch) 
           ap suc one,
           kept_on c j (suc x) _ s t e v,
           j,
-          later_comes c (Comes c ws) w s.steps (n - x) (suc x) _ (inner see j has_no_pairs t) (omega (arith, et, l)) (subst (λ y. ComesOf c (Comes c ws) w s.steps (inner_after (inner see j has_no_pairs) has_no_pairs s.row y)) e h),
+          later_comes c (Comes c ws) w s.steps (n - x) (suc x) (GoalNote (named not_constant) ∷ ns ++ back (Go b ∷ []) rest) (inner see j has_no_pairs t) (omega (arith, et, l)) (subst (λ y. ComesOf c (Comes c ws) w s.steps (inner_after (inner see j has_no_pairs) has_no_pairs s.row y)) e h),
         )
     at_inner j (Held x ns p) q l h =
         let e = held_is j x p ns q in
@@ -92,7 +92,7 @@ module _ (c : Course) (s : State Task) (n k : ℕ) (task i : Task) (b : Branch) 
           ap suc one,
           kept_on c j (suc x) _ s t e v,
           j,
-          later_comes c (Comes c ws) w s.steps (n - x) (suc x) _ (inner see j has_no_pairs t) (omega (arith, et, l)) (subst (λ y. ComesOf c (Comes c ws) w s.steps (inner_after (inner see j has_no_pairs) has_no_pairs s.row y)) e h),
+          later_comes c (Comes c ws) w s.steps (n - x) (suc x) (GoalNote (named not_constant) ∷ ns ++ back [] rest) (inner see j has_no_pairs t) (omega (arith, et, l)) (subst (λ y. ComesOf c (Comes c ws) w s.steps (inner_after (inner see j has_no_pairs) has_no_pairs s.row y)) e h),
         )
     at_inner j (Broke x ns e) q l h = subst (λ y. ComesOf c (Comes c ws) w s.steps (inner_after (inner see j has_no_pairs) has_no_pairs s.row y)) (broke_is j x ns e q) h
     at_inner j (Lasts x ns) q l h = subst (λ y. ComesOf c (Comes c ws) w s.steps (inner_after (inner see j has_no_pairs) has_no_pairs s.row y)) (lasts_is j x ns q) h
