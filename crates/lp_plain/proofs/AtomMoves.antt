@@ -57,10 +57,10 @@ module _ (qv : Query) (m : Machine) (a : Around) (raw : Branch) (s : State Task)
 
     -- the term that the definition sees
     module _ (t : Term) (q : head_normal enough f.goal ≡ Some t) where
-      looked : seen ≡ look_form unit_limit enough P (length h.rest) f.first behind t (connective_of t)
+      pub looked : seen ≡ look_form unit_limit enough P (length h.rest) f.first behind t (connective_of t)
       looked = front_look qv m a raw s h p at.value at.rest f enough P ∙ ap (look_normal unit_limit enough P (length h.rest) f.first behind) q
 
-      same_or_abs : ((t ≡ closed h.closing x) × IsEndedHead m.bindings x) ⊎ (IsAbs x × IsAbs t)
+      pub same_or_abs : ((t ≡ closed h.closing x) × IsEndedHead m.bindings x) ⊎ (IsAbs x × IsAbs t)
       same_or_abs = seen_goal h.closing at.before at.value f.goal at.heads f.heads m.bank m.bindings h.reading.reading 1000000 enough t q x at.ended at.looked
 
       -- an abstraction has no head

@@ -1,8 +1,10 @@
 -- The turn of a call: its step, and then its first candidate.
-use Rattle.std.proofs.Common.{◌≡◌, ◌⊎◌, ℕ, suc, ◌+◌, ◌-◌, ◌<◌, List, [], ◌∷◌, ◌++◌, map, length, refl, sym, ap, inl, inr, ◌∙◌, subst, arith, Bool, false, Option, None, Some, nat_eq}
+use Rattle.std.proofs.Common.{◌≡◌, ◌⊎◌, ℕ, suc, ◌+◌, ◌-◌, ◌<◌, ◌≤◌, List, [], ◌∷◌, ◌++◌, map, length, refl, sym, ap, inl, inr, ◌∙◌, subst, arith, Bool, false, Option, None, Some, nat_eq}
 use Rattle.std.specs.Prelude.{if◌then◌else◌, ◌&&◌, nat_le, true}
+use Rattle.std.proofs.lemmas.List.{length-map}
 use Rattle.std.proofs.lemmas.Bool.{ne_eqb}
 use Rattle.std.proofs.lemmas.Bool.Decides.{nat_tests}
+use Rattle.indexmap.specs.IndexMap.{get}
 use Rattle.lp_calculus.specs.Fill.{Within}
 use Rattle.lp_calculus.specs.Term.{Term, atom, constant, eigen}
 use Rattle.lp_calculus.specs.Types.{Ty, instance}
@@ -11,15 +13,16 @@ use Rattle.lp_standard.specs.Connectives.{connective_of}
 use Rattle.lp_standard.specs.Connectives as connective
 use Rattle.lp_standard.specs.Constants.{IsOrder, is_order}
 use Rattle.lp_standard.specs.Numbers as number
-use Rattle.lp_term.specs.Nodes.{tree}
+use Rattle.lp_term.specs.Nodes.{Nodes, Extends, tree}
 use Rattle.lp_term.specs.declared.node.TermId.{TermId}
+use Rattle.lp_term.proofs.Trees.{extends_same, extends-trans}
 use Rattle.lp_model.specs.Branch.{Answer, Branch, Entry, Go, Task}
 use Rattle.lp_model.specs.Flat.{Clause, Clauses}
 use Rattle.lp_model.specs.Look.{head_normal}
 use Rattle.lp_model.specs.Pair.{Closing, closed}
-use Rattle.lp_model.specs.Search.{assigned, compared, equated, goal_looked, look, look_atom, look_constant, look_form, tries}
+use Rattle.lp_model.specs.Search.{assigned, compared, equated, goal_looked, look, look_atom, look_constant, look_form, tries, with_goals}
 use Rattle.lp_model.specs.Values.{evaluate}
-use Rattle.lp_model.specs.Skeleton.{GoalName, Goes, Inner, Note, State, Takes, View, eigenconstant, move, named}
+use Rattle.lp_model.specs.Skeleton.{GoalName, GoalNote, Goes, Inner, Note, State, Takes, View, back, eigenconstant, move, move_at, move_view, named}
 use Rattle.lp_model.specs.Unify.{unit_limit}
 use Rattle.lp_plain.specs.declared.form.Form.TheVariants as form
 use Rattle.lp_plain.specs.declared.frame.Place.{Place}
@@ -28,15 +31,27 @@ use Rattle.lp_plain.specs.declared.head.Head.TheVariants as head
 use Rattle.lp_plain.specs.declared.machine.Machine.{Machine}
 use Rattle.lp_plain.specs.declared.outcome.Turn.{Turn}
 use Rattle.lp_plain.specs.AtRunTime.{IsAtLooked, IsAtomForm}
-use Rattle.lp_plain.specs.Calling.{LeadsOn}
+use Rattle.lp_plain.specs.Assuming.{head_term}
+use Rattle.lp_plain.specs.Calling.{CallLeads, HaveHeads, IsAtCall, IsProgramIn, LeadsOf, LeadsOver}
+use Rattle.lp_plain.specs.Candidates.{IsIndex, numbers}
 use Rattle.lp_plain.specs.Entries.{Around}
 use Rattle.lp_plain.specs.Cuts.{one_step}
-use Rattle.lp_plain.specs.Forms.{IsCall}
-use Rattle.lp_plain.specs.Moving.{AreFew, IsBack, IsRunning, KeepsSearch, Leads, Query}
+use Rattle.lp_plain.specs.Forms.{IsCall, IsFirst}
+use Rattle.lp_plain.specs.Moving.{HasFreeTypes, IsBack, IsGoingOn, IsRunning, KeepsSearch, Leads, LeadsTo, Query}
+use Rattle.lp_plain.specs.Starts.{AreProgramOf}
 use Rattle.lp_plain.specs.Trials.{IsCallHead}
+use Rattle.lp_plain.specs.Trying.{AreApplied, HasArity, all_clauses}
+use Rattle.lp_plain.specs.WrittenTable.{StandsWritten}
 use Rattle.lp_plain.proofs.AtomMoves.{behind, by_seen, called_same, f, looked, same_or_abs, waits}
-use Rattle.lp_plain.proofs.FrontGoals.{IsFront}
+use Rattle.lp_plain.proofs.AtomTurns.{left, place_stepped, stepped, steps_are}
+use Rattle.lp_plain.proofs.FrontGoals.{IsFront, front_waits}
+use Rattle.lp_plain.proofs.GoingOn.{step_counted}
+use Rattle.lp_plain.proofs.Growing.{grows_kept}
+use Rattle.lp_plain.proofs.KnownForms.{normal_within}
 use Rattle.lp_plain.proofs.LeftOut.{call_mapped}
+use Rattle.lp_plain.proofs.QuietMoves.{by_lost}
+use Rattle.lp_plain.proofs.SeenGoals.{IsAbs}
+use Rattle.lp_plain.proofs.WrittenSearches.{same_lists}
 
 at_least : (a b : ℕ) → nat_le a b ≡ true → a ≤ b
 at_least a b e = grind (arith, nat_tests, e)
@@ -61,6 +76,35 @@ tried u n P height e b t c (l ∷ r ∷ []) h =
     ap (λ q. if q then x else (if nat_eq c number.Is then y else (if is_order c then v else w))) (ne_eqb c number.Equal h.0) ∙ ap (λ q. if q then y else (if is_order c then v else w)) (ne_eqb c number.Is h.1) ∙ ap (λ q. if q then v else w) (no_order c h.2)
 tried u n P height e b t c (l ∷ r ∷ s ∷ ts) h = refl
 
+-- the program stands while the bank grows
+pub program_later : (m n : Machine) → Extends m.bank n.bank → n.table ≡ m.table → n.index ≡ m.index → (ar : ℕ → ℕ) (css : List Clauses) → IsProgramIn m ar css → IsProgramIn n ar css
+program_later m n x et ei ar css r = record {
+  has = λ b y.
+      let p = r.has b (extends-trans m.bank n.bank b x y) in
+      record {
+        spans = p.spans;
+        clauses = subst (λ t. AreProgramOf b t p.spans css) (sym et) p.clauses;
+        index = subst (λ q. IsIndex b n.table.rules.items (λ j. get nat_eq q j) (numbers p.spans)) (sym ei) (subst (λ t. IsIndex b t.rules.items (λ j. get nat_eq m.index j) (numbers p.spans)) (sym et) p.index);
+      };
+  heads = r.heads;
+  written = r.written;
+  known = r.known;
+}
+
+-- what one move leads to two lead to
+more_left : (qv : Query) (turn : Turn) (n : Machine) (go : (Answer → Bool) → State Task → Inner) (see : ℕ → Task → View Task Answer) (s : State Task) → Leads 0 qv turn n go see s → Leads 1 qv turn n go see s
+more_left qv turn n go see s (inl h) = inl h
+more_left qv turn n go see s (inr h) = inr (inl h)
+
+pub leads_more : (qv : Query) (turn : Turn) (n : Machine) (go : (Answer → Bool) → State Task → Inner) (see : ℕ → Task → View Task Answer) (s : State Task) → Leads 1 qv turn n go see s → Leads 2 qv turn n go see s
+leads_more qv turn n go see s (inl h) = inl h
+leads_more qv turn n go see s (inr (inl h)) = inr (inl h)
+leads_more qv turn n go see s (inr (inr (k, ns, t, e, a, g, h))) = inr (inr (k, ns, t, e, a, g, more_left qv turn n go see t h))
+
+-- over one program
+pub over_one : (qv : Query) (turn : Turn) (n : Machine) (s : State Task) → LeadsTo 1 qv turn n s → (P : List Clause) → LeadsOver 2 qv turn n s P
+over_one qv turn n s l P = λ w ea go enough few. leads_more qv turn n go (look unit_limit enough P) s (l w ea go enough few P)
+
 -- two moves, the first of which is the step
 step_then : (qv : Query) (turn : Turn) (n : Machine) (go : (Answer → Bool) → State Task → Inner) (see : ℕ → Task → View Task Answer) (s t : State Task) (k : ℕ) (ns : List Note) → move go see s ≡ Goes k ns t → t.answers ≡ s.answers → t.given ≡ s.given →
     Leads 1 qv turn n go see t ⊎ ((turn ≡ Turn.Back) × IsBack qv n t) → Leads 2 qv turn n go see s
@@ -78,6 +122,8 @@ module _ (qv : Query) (m c : Machine) (a : Around) (raw : Branch) (s : State Tas
       pub name : GoalName
       pub view : look unit_limit enough P (length h.rest) (Go h.at_work) ≡ Takes name (tries P F.first (behind qv m a raw s h p u o at) (length h.rest) (goal_looked enough t))
       pub same : t ≡ closed h.closing (tree m.bank u.0)
+      pub atomic : connective_of t ≡ connective.Atomic
+      pub arity_is : HasArity qv.arity (head_of t) → HasArity qv.arity (head_of (tree m.bank u.0))
 
     no_abs_call : (x : Term) → head_of (tree m.bank u.0) ≡ x → IsCallHead x → IsAbs (tree m.bank u.0) → ⊥
     no_abs_call x e w j = subst IsCallHead (sym e ∙ ap head_of j.1) w
@@ -104,9 +150,71 @@ module _ (qv : Query) (m c : Machine) (a : Around) (raw : Branch) (s : State Tas
               view = form_view (closed h.closing (atom (constant c k.1.0))) g.0 g.1 ∙
                   ap (Takes (named c)) (tried unit_limit enough P (length h.rest) F.first (behind qv m a raw s h p u o at) t c (arguments t) (subst (IsCall c) (sym g.2) (call_mapped (closed h.closing) c (arguments (tree m.bank u.0)) k.1.2)));
               same = same_term (atom (constant c k.1.0)) k.1.1 tt;
+              atomic = g.0;
+              arity_is = λ y. subst (HasArity qv.arity) (sym k.1.1) (sym (length-map (instance h.closing.types) k.1.0) ∙ subst (HasArity qv.arity) g.1 y);
             }
         by (head.Eigen j) (inl k) =
             let g = called_same qv m a raw s h p u o at enough P t q (atom (eigen j)) k.0 k.1.0 tt in
-            record { name = eigenconstant j; view = form_view (atom (eigen j)) g.0 g.1; same = same_term (atom (eigen j)) k.1.0 tt }
+            record { name = eigenconstant j; view = form_view (atom (eigen j)) g.0 g.1; same = same_term (atom (eigen j)) k.1.0 tt; atomic = g.0; arity_is = λ y. subst (HasArity qv.arity) (sym k.1.0) tt }
         by (head.Constant c) (inr k) = absurd (let z = k.1 in cc)
         by (head.Eigen j) (inr k) = absurd (let z = k.1 in cc)
+
+  -- the call behind its step
+  abbrev OfBank : Nodes → Type 0
+  OfBank b =
+      (u.0 < length b.terms) × (head_term (head_of (tree b u.0)) ≡ Some hd) × IsCallHead (head_of (tree b u.0)) × HasArity qv.arity (head_of (tree b u.0)) × IsFirst b (arguments (tree b u.0)) first × ((v : TermId) → first ≡ Some v → v.0 < length b.terms) ×
+      Within (Known h.levels raw.next) 0 (closed h.closing (tree b u.0))
+
+  headed : (head_term (head_of (tree m.bank u.0)) ≡ Some hd) × IsCallHead (head_of (tree m.bank u.0)) × IsFirst m.bank (arguments (tree m.bank u.0)) first
+  headed = by hd i
+    where
+      by : (hd : Head) → IsAtomForm m.bank (tree m.bank u.0) (form.Call hd first) → (head_term (head_of (tree m.bank u.0)) ≡ Some hd) × IsCallHead (head_of (tree m.bank u.0)) × IsFirst m.bank (arguments (tree m.bank u.0)) first
+      by (head.Constant j) (inl y) = (ap head_term y.1.1, subst IsCallHead (sym y.1.1) tt, y.1.3)
+      by (head.Eigen j) (inl y) = (ap head_term y.1.0, subst IsCallHead (sym y.1.0) tt, y.1.1)
+      by (head.Constant j) (inr y) = absurd (let z = y.1 in cc)
+      by (head.Eigen j) (inr y) = absurd (let z = y.1 in cc)
+
+  module _ (inside : (v : TermId) → first ≡ Some v → v.0 < length m.bank.terms) (heads : HaveHeads (a.assumed p.assumed)) (applied : AreApplied qv.arity (a.assumed p.assumed)) where
+    abbrev g : IsGoingOn qv c a (with_goals raw at.rest) (behind qv m a raw s h p u o at) h.rest
+    g = stepped qv m c a raw s h p u o at k ch ct there
+
+    at_call : HasArity qv.arity (head_of (tree m.bank u.0)) → Within (Known h.levels raw.next) 0 (closed h.closing (tree m.bank u.0)) → IsAtCall qv c a p u hd first h.closing h.levels raw.next F.first
+    at_call arity known =
+        let w = subst OfBank (sym k.goals.known.bank) (at.within, headed.0, headed.1, arity, headed.2, inside, known) in
+        record {
+          place = place_stepped qv m c a raw s h p u o at k ch ct there;
+          at_place = record { assumed = F.entry.place.assumed; written = F.entry.place.written; level = F.entry.place.level };
+          within = w.0;
+          head_is = w.1;
+          called = w.2;
+          arity = w.3;
+          first_is = w.4;
+          first_within = w.5;
+          known = w.6;
+          assumed_known = F.known.0.1;
+          written_known = F.known.0.2;
+          heads = heads;
+          applied = applied;
+        }
+
+    -- the turn of the call, over the program of the search
+    pub call_leads : ((i : ℕ) (t : Term) → head_normal i F.goal ≡ Some t → connective_of t ≡ connective.Atomic → HasArity qv.arity (head_of t)) → (n : Machine) (turn : Turn) → CallLeads c n p u hd first o turn → c.branch.goals ≡ o → LeadsOf m n qv turn s
+    call_leads arity n turn leads front css r sw free = λ w ea go enough few.
+        let P = all_clauses css in
+        let see = look unit_limit enough P in
+        let work = behind qv m a raw s h p u o at in
+        let l = left qv m c a raw s h p u o at k ch ct there in
+        by_seen qv m a raw s h p u o at enough P (Leads 2 qv turn n go see s) (λ e. inr (inl (front_waits qv m a raw s h p at.value at.rest F enough P w ea go e))) (λ t q.
+        let seen = call_seen enough P t q in
+        let x = tree m.bank u.0 in
+        let known = subst (Within (Known h.levels raw.next) 0) seen.same (normal_within (Known h.levels raw.next) 0 enough F.goal t q F.goal_known) in
+        let ts = tries P F.first work (length h.rest) (goal_looked enough t) in
+        let after : State Task = record { steps = l; answers = suc w; given = s.given; rows = s.rows; row = s.rows; lost = s.lost; stack = ts ++ h.rest } in
+        let first_move : move go see s ≡ Goes 1 (GoalNote seen.name ∷ back ts h.rest) after =
+            (λ i. move_at go see (steps_are qv m c a raw s h p u o at k ch ct there i) (ea i) s.given s.rows s.row s.lost (h.stack i)) ∙ by_lost go see (suc l) w s.given s.rows s.row s.lost (Go h.at_work) h.rest ∙
+            ap (move_view go (suc l) w s.given s.rows s.row s.lost h.rest) seen.view in
+        let moved : closed h.closing x ≡ closed h.closing (tree c.bank u.0) = ap (λ b. closed h.closing (tree b u.0)) (sym k.goals.known.bank) in
+        step_then qv turn n go see s after 1 (GoalNote seen.name ∷ back ts h.rest) first_move (sym ea) refl
+        (leads front qv a (with_goals raw at.rest) work h.rest g F.first (at_call (seen.arity_is (arity enough t q seen.atomic)) known) css (program_later m c (subst (Extends m.bank) (sym k.goals.known.bank) (extends_same m.bank)) k.goals.known.table k.goals.known.index qv.arity css r)
+        (same_lists m c h.above.done.stands (grows_kept m c k.goals) (ap (λ v. v.items) k.frames) (ap (λ v. v.items) k.assumed.assumptions) qv.arity sw) free after w refl (step_counted qv m c a raw s h ct (suc w) (ts ++ h.rest)) go enough few
+        (ap (λ y. tries P F.first work (length h.rest) (goal_looked enough y) ++ h.rest) (seen.same ∙ moved))))

@@ -30,7 +30,7 @@ use Rattle.lp_plain.specs.Trials.{IsCallHead}
 use Rattle.lp_plain.proofs.AtomMoves.{by_seen, called_same, f, named_same, waits}
 
 -- a call is one as the bindings read it
-call_mapped : (g : Term → Term) (c : ℕ) (us : List Term) → IsCall c us → IsCall c (map g us)
+pub call_mapped : (g : Term → Term) (c : ℕ) (us : List Term) → IsCall c us → IsCall c (map g us)
 call_mapped g c [] i = tt
 call_mapped g c (a ∷ []) i = tt
 call_mapped g c (a ∷ b ∷ []) i = i

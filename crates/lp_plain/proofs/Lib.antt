@@ -130,4 +130,6 @@ mod CallTries
 mod CallMoves
 mod CallTurns
 mod Denying
+mod CallArm
 mod CallEnds
+mod CallForms

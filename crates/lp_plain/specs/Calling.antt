@@ -1,30 +1,38 @@
 -- A call that is at hand: its step is taken, and its clauses are to be tried.
-use Rattle.std.specs.Prelude.{◌≡◌, ◌⊎◌, Bool, ◌<◌, ◌++◌, ℕ, suc, List, length, Option, None, Some}
+use Rattle.std.specs.Prelude.{◌≡◌, ◌⊎◌, Bool, ◌<◌, ◌++◌, ℕ, suc, List, [], ◌∷◌, length, Option, None, Some}
 use Rattle.lp_calculus.specs.Fill.{Within}
 use Rattle.lp_calculus.specs.Spine.{arguments, head_of}
-use Rattle.lp_calculus.specs.Term.{Term}
+use Rattle.lp_calculus.specs.Term.{Term, atom, constant}
 use Rattle.lp_lemmas.specs.Each.{EachOf}
+use Rattle.lp_standard.specs.Connectives.{connective_of}
+use Rattle.lp_standard.specs.Connectives as connective
+use Rattle.lp_standard.specs.Constants.{IsOrder}
+use Rattle.lp_standard.specs.Numbers as number
 use Rattle.lp_term.specs.Nodes.{Nodes, Extends, tree}
 use Rattle.lp_term.specs.declared.node.TermId.{TermId}
 use Rattle.lp_model.specs.Branch.{Answer, Branch, Entry, Task}
-use Rattle.lp_model.specs.Flat.{Atomic, Clause, Clauses}
+use Rattle.lp_model.specs.Flat.{Goal, Atomic, Cut, Either, Exists, Forall, Assume, Not, Clause, Clauses}
+use Rattle.lp_model.specs.Look.{head_normal}
 use Rattle.lp_model.specs.Pair.{Closing, closed}
 use Rattle.lp_model.specs.Search.{goal_looked, key_of, look, tries}
 use Rattle.lp_model.specs.Skeleton.{Inner, State}
 use Rattle.lp_model.specs.Unify.{unit_limit}
 use Rattle.lp_pattern.specs.Putting.{Known}
 use Rattle.lp_plain.specs.declared.choice.Call.{Call}
+use Rattle.lp_plain.specs.declared.form.Form.{Form}
+use Rattle.lp_plain.specs.declared.form.Form.TheVariants as form
 use Rattle.lp_plain.specs.declared.frame.Place.{Place}
 use Rattle.lp_plain.specs.declared.head.Head.{Head}
 use Rattle.lp_plain.specs.declared.head.Key.{Key}
 use Rattle.lp_plain.specs.declared.machine.Machine.{Machine}
 use Rattle.lp_plain.specs.declared.outcome.Turn.{Turn}
 use Rattle.lp_plain.specs.Assuming.{IsPlaceAt, head_term, lists_of}
+use Rattle.lp_plain.specs.AtRunTime.{IsAtLooked, IsAtTerm, IsAtomForm}
 use Rattle.lp_plain.specs.Entries.{Around, entry_at}
 use Rattle.lp_plain.specs.Forms.{IsFirst}
 use Rattle.lp_plain.specs.HeadLooks.{LooksAt, with_bank}
 use Rattle.lp_plain.specs.Heads.{IsKey}
-use Rattle.lp_plain.specs.Moving.{AreFew, HasFreeTypes, HasNoVariable, IsBack, IsCounted, IsGoingOn, IsPlaceUnder, Leads, Query}
+use Rattle.lp_plain.specs.Moving.{AreFew, HasFreeTypes, HasNoVariable, IsBack, IsCounted, IsGoingOn, IsPlaceUnder, IsRunning, Leads, Query}
 use Rattle.lp_plain.specs.Resuming.{AllOfAssumed, AllOfClause, AllTerms}
 use Rattle.lp_plain.specs.Trials.{IsCallHead}
 use Rattle.lp_plain.specs.Trying.{AreApplied, AreOfProgram, HasArity, HasProgram, all_clauses, head_in}
@@ -76,3 +84,46 @@ CallLeads m n p goal head first behind turn =
     m.branch.goals ≡ behind → (qv : Query) (a : Around) (rest work : Branch) (below : List Task) (g : IsGoingOn qv m a rest work below) (e : Entry) → IsAtCall qv m a p goal head first g.closing g.levels rest.next e → (css : List Clauses) → IsProgramIn m qv.arity css →
     StandsWritten m qv.arity → HasFreeTypes n → (s : State Task) (k : ℕ) → s.answers ≡ suc k → IsCounted m s → (go : (Answer → Bool) → State Task → Inner) (enough : ℕ) → AreFew turn enough →
     s.stack ≡ tries (all_clauses css) e work (length below) (goal_looked enough (closed g.closing (tree m.bank goal.0))) ++ below → LeadsOn qv turn n go enough (all_clauses css) s
+
+-- so over one program, for a turn that may be too deep
+abbrev pub LeadsOver : ℕ → Query → Turn → (new : Machine) → (before : State Task) → List Clause → Type 0
+LeadsOver j qv turn n s P = (k : ℕ) → s.answers ≡ suc k → (go : (Answer → Bool) → State Task → Inner) (enough : ℕ) → AreFew turn enough → Leads j qv turn n go (look unit_limit enough P) s
+
+-- TO VANISH: no arithmetic, by the head and the arguments
+abbrev pub IsNoArithmetic : (head : Term) → List Term → Type 0
+IsNoArithmetic (atom (constant c ts)) (l ∷ r ∷ []) = (c ≡ number.Is → ⊥) × (IsOrder c → ⊥)
+IsNoArithmetic t us = Unit {0}
+
+-- a goal that comes to an atom comes to one whose constant has as many types as it takes (TO VANISH: and that is no arithmetic)
+abbrev pub ComesToCallable : (arity : ℕ → ℕ) → Goal → Type 0
+ComesToCallable ar (Atomic w) = (n : ℕ) (t : Term) → head_normal n w ≡ Some t → connective_of t ≡ connective.Atomic → IsNoArithmetic (head_of t) (arguments t) × HasArity ar (head_of t)
+ComesToCallable ar Cut = Unit {0}
+ComesToCallable ar (Either gs hs) = Unit {0}
+ComesToCallable ar (Exists T gs) = Unit {0}
+ComesToCallable ar (Forall T gs) = Unit {0}
+ComesToCallable ar (Assume w cs gs) = Unit {0}
+ComesToCallable ar (Not w gs) = Unit {0}
+
+-- so the goal in front (TO VANISH: with no assumed clauses)
+abbrev pub IsCallable : (arity : ℕ → ℕ) → List Entry → Type 0
+IsCallable ar [] = Unit {0}
+IsCallable ar (e ∷ es) = (e.assumed ≡ []) × ComesToCallable ar e.goal
+
+-- the first argument of a call is in the bank
+abbrev pub IsFirstIn : (terms : ℕ) → Form → Type 0
+IsFirstIn k (form.Call hd (Some u)) = u.0 < k
+IsFirstIn k f = Unit {0}
+
+-- over the clauses of the search's program, which are written, this leads to the turn in three moves of the definition's search at most
+abbrev pub LeadsOf : (old new : Machine) → Query → Turn → (before : State Task) → Type 0
+LeadsOf m n qv turn s = (css : List Clauses) → IsProgramIn m qv.arity css → StandsWritten m qv.arity → HasFreeTypes n → LeadsOver 2 qv turn n s (all_clauses css)
+
+-- the turn of an atom, as it was looked at
+abbrev pub AtomTurns : (old new : Machine) → Place → (goal : TermId) → Form → (behind : Option ℕ) → Turn → Type 0
+AtomTurns m n p goal f behind turn =
+    (qv : Query) (a : Around) (raw : Branch) (s : State Task) (h : IsRunning qv m a raw s) → IsAtLooked m h.closing a p goal behind raw → IsAtomForm m.bank (tree m.bank goal.0) f → IsFirstIn (length m.bank.terms) f → IsCallable qv.arity h.at_work.goals →
+    LeadsOf m n qv turn s
+
+-- that of a goal that is known at run time
+abbrev pub TermTurns : (old new : Machine) → Place → (term : TermId) → (behind : Option ℕ) → Turn → Type 0
+TermTurns m n p term behind turn = (qv : Query) (a : Around) (raw : Branch) (s : State Task) (h : IsRunning qv m a raw s) → IsAtTerm m a p term behind raw → IsCallable qv.arity h.at_work.goals → LeadsOf m n qv turn s

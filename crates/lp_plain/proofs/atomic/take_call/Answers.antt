@@ -1,10 +1,30 @@
-use Rattle.std.proofs.Common.{◌≡◌, ◌∙◌, None, Some, ap, refl, subst, sym}
-use Rattle.lp_plain.specs.Calling.{CallLeads, IsLookedAs}
-use Rattle.lp_plain.proofs.CallEnds.{deep_leads, none_leads, some_leads}
+use Rattle.std.proofs.Common.{Some, subst}
+use Rattle.lp_plain.specs.Calling.{IsLookedAs}
+use Rattle.lp_plain.proofs.CallEnds.{deep_leads, none_on, plain_call, some_on}
 use Rattle.lp_plain.proofs.atomic.take_call.Goals as goal
 
-pub returns-in_default-clause-leads : goal.returns-in_default-clause-leads
-returns-in_default-clause-leads c = ?
+pub returns-in_default : goal.returns-in_default
+returns-in_default c =
+    let m = c.args.machine.now in
+    let n = c.looked_call.new.machine in
+    let o = c.in_ok-looked.ensures in
+    record { leads = deep_leads m n n.bank o.only.bank c.args.place c.args.goal c.args.head c.args.first c.args.behind (subst (IsLookedAs m n (plain_call c.args.place c.args.goal c.args.head c.args.behind) c.args.first) c.in_default.is o.looks) }
 
-pub returns-clause-leads : goal.returns-clause-leads
-returns-clause-leads c = ?
+pub returns-in_default-2 : goal.returns-in_default-2
+returns-in_default-2 c =
+    let m = c.args.machine.now in
+    let n = c.looked_call.new.machine in
+    let o = c.in_ok-looked.ensures in
+    let lk = subst (IsLookedAs m n (plain_call c.args.place c.args.goal c.args.head c.args.behind) c.args.first) c.in-Some.is o.looks in
+    record { leads = none_on m n o.only c.args.place c.args.goal c.args.head c.args.first c.args.behind c.in-Some.call lk c.in_ok-found.found c.in_ok-found.ensures.apart c.in_default-2.is }
+
+pub returns : goal.returns
+returns c =
+    let m = c.args.machine.now in
+    let n = c.looked_call.new.machine in
+    let o = c.in_ok-looked.ensures in
+    let lk = subst (IsLookedAs m n (plain_call c.args.place c.args.goal c.args.head c.args.behind) c.args.first) c.in-Some.is o.looks in
+    record {
+      leads = some_on m n o.only c.args.place c.args.goal c.args.head c.args.first c.args.behind c.in-Some.call lk c.in_ok-found.found c.in_ok-found.ensures.apart c.in-Some-2.candidate c.in-Some-2.is c.try_candidate.new.machine c.in_ok-turn.turn
+          c.in_ok-turn.ensures.leads;
+    }
