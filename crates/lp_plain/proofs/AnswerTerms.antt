@@ -48,7 +48,7 @@ map_more : {A B C : Type 0} (f : A → C) (g : B → C) (xs : List A) (x : A) (y
 map_more f g xs x ys y at got h e =
     map_pushed f xs (xs ++ x ∷ []) x refl ∙ (λ i. h i ++ e i ∷ []) ∙ sym (map_pushed g (take at ys) (take (suc at) ys) y (take_suc ys at y got))
 
-one_more : {A : Type 0} (P : A → Type 0) (xs : List A) (x : A) → All P xs → P x → All P (xs ++ x ∷ [])
+pub one_more : {A : Type 0} (P : A → Type 0) (xs : List A) (x : A) → All P xs → P x → All P (xs ++ x ∷ [])
 one_more P xs x h p = All-append P xs (x ∷ []) h (All-cons P x [] p (All-nil P))
 
 pub one_taken : {A : Type 0} (P : A → Type 0) (xs : List A) (at : ℕ) (x : A) → slice_get xs at ≡ Some x → All P (take at xs) → P x → All P (take (suc at) xs)

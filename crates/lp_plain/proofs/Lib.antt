@@ -2,6 +2,7 @@ mod HeadPlaces
 mod HeadsJoined
 mod KeysMeet
 mod SlotValues
+mod FormFirsts
 pub mod GoalForms
 pub mod Indexes
 pub mod Instances
@@ -128,6 +129,7 @@ mod AnswerTerms
 mod CallLooks
 mod CallTries
 mod CallMoves
+mod CallTerms
 mod CallTurns
 mod Denying
 mod CallArm

@@ -1,9 +1,9 @@
 -- A turn on a goal that is known at run time: looked at, and then as what it is.
-use Rattle.std.proofs.Common.{◌≡◌, ℕ, sym, subst, Option, Some}
+use Rattle.std.proofs.Common.{◌≡◌, ℕ, List, sym, subst, Option, Some}
 use Rattle.lp_standard.specs.Connectives.{connective_of}
 use Rattle.lp_term.specs.Nodes.{tree}
 use Rattle.lp_term.specs.declared.node.TermId.{TermId}
-use Rattle.lp_model.specs.Branch.{Branch, Task}
+use Rattle.lp_model.specs.Branch.{Branch, Entry, Task}
 use Rattle.lp_model.specs.Connected.{IsConnectiveIn, connective_in}
 use Rattle.lp_model.specs.declared.connective.Connective.{Connective}
 use Rattle.lp_model.specs.Skeleton.{State}
@@ -31,8 +31,8 @@ module _ (qv : Query) (m n : Machine) (b : OnlyBank m n) (a : Around) (raw : Bra
   connective_turn q = form_leads qv n q a raw s now p u o looked
 
   -- any other goal, by what the turn says of it
+  pub atom_turn_of : (Q : List Entry → Type 0) (X : Type 0) → ((h : IsRunning qv n a raw s) → IsAtLooked n h.closing a p u o raw → Q h.at_work.goals → X) → Q h.at_work.goals → X
+  atom_turn_of Q X f nc = f now looked (subst (λ (z : Branch). Q z.goals) (sym (work_on m n b qv a raw s h p at.place)) nc)
+
   pub atom_turn : (X : Type 0) → ((h : IsRunning qv n a raw s) → IsAtLooked n h.closing a p u o raw → HasNoCall h.at_work.goals → X) → HasNoCall h.at_work.goals → X
-  atom_turn X f nc = f now looked (no_call nc)
-    where
-      no_call : HasNoCall h.at_work.goals → HasNoCall now.at_work.goals
-      no_call nc = subst (λ (z : Branch). HasNoCall z.goals) (sym (work_on m n b qv a raw s h p at.place)) nc
+  atom_turn = atom_turn_of HasNoCall

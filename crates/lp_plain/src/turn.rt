@@ -15,6 +15,7 @@ ghost use Rattle.lp_standard.specs.Connectives.{connective_of};
 ghost use Rattle.lp_term.specs.Nodes.{Nodes, tree};
 ghost use Rattle.lp_model.specs.Connected.{connective_in};
 ghost use Rattle.lp_plain.specs.AtRunTime.{AreWrittenGoals, HasNoCall, IsAtomFirst, IsAtomForm, IsAtomOrNoForm, IsAtTerm, IsWrittenFlat};
+ghost use Rattle.lp_plain.specs.Calling.{IsCallable, IsFirstIn, LeadsOf, TermTurns};
 ghost use Rattle.lp_plain.specs.Entries.{Around, KeepsGoals};
 ghost use Rattle.lp_plain.specs.Marks.{AreMarked, IsMarked, Marks, PutsAside, PutsMarks, SetsAside};
 ghost use Rattle.lp_plain.specs.Moving.{HasFreeTypes, IsBack, IsAtGoal, IsAtGoals, IsPlainFirst, IsRunning, IsState, LeadsTo, MovesTo, Query};
@@ -57,6 +58,7 @@ fn take_flat<W: Watch>(
     ensures counted { IfOk result (λ turn. IsApartFlat goal → IsApart turn machine.old.counts machine.new.counts) }
     ensures moved { IfOk result (λ turn. (qv : Query) (a : Around) (raw : Branch) (s : State Task) → IsRunning qv machine.old a raw s → IsAtGoal machine.old a place goal behind raw → IsPlainFirst raw.goals → MovesTo qv turn machine.new s) }
     ensures leads { IfOk result (λ turn. (qv : Query) (a : Around) (raw : Branch) (s : State Task) (h : IsRunning qv machine.old a raw s) → IsAtGoal machine.old a place goal behind raw → IsAtomFirst raw.goals → IsWrittenFlat machine.old qv.arity place goal → HasNoCall h.at_work.goals → HasFreeTypes machine.new → LeadsTo 1 qv turn machine.new s) }
+    ensures calls { IfOk result (λ turn. (qv : Query) (a : Around) (raw : Branch) (s : State Task) (h : IsRunning qv machine.old a raw s) → IsAtGoal machine.old a place goal behind raw → IsAtomFirst raw.goals → IsWrittenFlat machine.old qv.arity place goal → IsCallable qv.arity h.at_work.goals → LeadsOf machine.old machine.new qv turn s) }
 {
     match goal {
         Flat::Atom(term) => {
@@ -100,6 +102,7 @@ fn is_apart(connective: Connective) -> bool
 // The form of a goal that is not taken apart.
 fn form_beside(machine: &Machine, goal: TermId, connective: Connective) -> Result<Form, Memory>
     ensures form { IfOk result (λ form. connective_of (tree machine.now.bank goal.0) ≡ connective_in machine.now.bank connective → IsAtomOrNoForm (connective_in machine.now.bank connective) → IsAtomForm machine.now.bank (tree machine.now.bank goal.0) form) }
+    ensures within { IfOk result (IsFirstIn (length machine.now.bank.terms)) }
 {
     match connective {
         Connective::Atomic => {
@@ -120,6 +123,7 @@ fn take_term<W: Watch>(
     behind: Option<usize>,
 ) -> Result<Turn, Memory>
     ensures leads { IfOk result (λ turn. (qv : Query) (a : Around) (raw : Branch) (s : State Task) (h : IsRunning qv machine.old a raw s) → IsAtTerm machine.old a place term behind raw → HasNoCall h.at_work.goals → HasFreeTypes machine.new → LeadsTo 1 qv turn machine.new s) }
+    ensures calls { IfOk result (TermTurns machine.old machine.new place term behind) }
 {
     let Some(goal) = head_normal(machine, term)? else {
         return Ok(Turn::Ended(Ending::Deep));
@@ -149,6 +153,7 @@ fn take_first<W: Watch>(
     ensures counted { IfOk result (λ turn. (hs : Goals) → goals.from < goals.to → AreGoals machine.old.bank Never (shown machine.old.table) goals.from goals.to hs → FirstIsApart hs → IsApart turn machine.old.counts machine.new.counts) }
     ensures moved { IfOk result (λ turn. (qv : Query) (a : Around) (raw : Branch) (s : State Task) → IsRunning qv machine.old a raw s → IsAtGoals machine.old a place goals behind raw → IsPlainFirst raw.goals → MovesTo qv turn machine.new s) }
     ensures leads { IfOk result (λ turn. (qv : Query) (a : Around) (raw : Branch) (s : State Task) (h : IsRunning qv machine.old a raw s) → IsAtGoals machine.old a place goals behind raw → IsAtomFirst raw.goals → AreWrittenGoals machine.old qv.arity place goals → HasNoCall h.at_work.goals → HasFreeTypes machine.new → LeadsTo 1 qv turn machine.new s) }
+    ensures calls { IfOk result (λ turn. (qv : Query) (a : Around) (raw : Branch) (s : State Task) (h : IsRunning qv machine.old a raw s) → IsAtGoals machine.old a place goals behind raw → IsAtomFirst raw.goals → AreWrittenGoals machine.old qv.arity place goals → IsCallable qv.arity h.at_work.goals → LeadsOf machine.old machine.new qv turn s) }
 {
     let goal = machine.table.goal(goals.from)?;
     let Some(second) = goals.from.checked_add(1) else {
@@ -182,6 +187,7 @@ pub(crate) fn take_goal<W: Watch>(
     ensures moved { IfOk result (λ turn. (qv : Query) (s : State Task) (h : IsState qv machine.old s) → IsPlainFirst h.raw.goals → MovesTo qv turn machine.new s) }
     ensures stands { IfOk result (λ turn. (c : Course) → Stands c Turn.On machine.old → Stands c turn machine.new) }
     ensures leads { IfOk result (λ turn. (qv : Query) (s : State Task) (h : IsState qv machine.old s) → IsAtomFirst h.raw.goals → IsWrittenSearch machine.old qv.arity → HasNoCall h.running.at_work.goals → HasFreeTypes machine.new → LeadsTo 1 qv turn machine.new s) }
+    ensures calls { IfOk result (λ turn. (qv : Query) (s : State Task) (h : IsState qv machine.old s) → IsAtomFirst h.raw.goals → IsWrittenSearch machine.old qv.arity → IsCallable qv.arity h.running.at_work.goals → LeadsOf machine.old machine.new qv turn s) }
 {
     let Some(number) = machine.branch.goals else {
         return Ok(end_branch(machine));

@@ -167,3 +167,16 @@ returns-in_ok-turn-in-Goals-clause-leads g c = λ qv s h af w nc ft.
 pub returns-in_ok-turn-in-Term-clause-leads : goal.returns-in_ok-turn-in-Term-clause-leads
 returns-in_ok-turn-in-Term-clause-leads g c = λ qv s h af w nc ft.
     c.in_ok-turn-in-Term.ensures.leads qv h.around h.raw s h.running (term_at qv c.args.machine.now s h c.in-Some.number c.in_ok-frame.frame c.in-Some.is c.in_ok-frame.ensures c.in-Term.term c.in-Term.is) nc ft
+
+pub returns-in_default-clause-calls : goal.returns-in_default-clause-calls
+returns-in_default-clause-calls g c = λ qv s h af w callable. absurd (none_atom qv c.args.machine.now s h c.in_default.is af)
+
+pub returns-in_ok-turn-in-Goals-clause-calls : goal.returns-in_ok-turn-in-Goals-clause-calls
+returns-in_ok-turn-in-Goals-clause-calls g c = λ qv s h af w callable.
+    let m = c.args.machine.now in
+    c.in_ok-turn-in-Goals.ensures.calls qv h.around h.raw s h.running (at_frame qv m s h c.in-Some.number c.in_ok-frame.frame c.in-Some.is c.in_ok-frame.ensures c.in-Goals.goals c.in-Goals.is) af
+    (frame_written qv m s h c.in-Some.number c.in_ok-frame.frame c.in-Some.is c.in_ok-frame.ensures c.in-Goals.goals c.in-Goals.is qv.arity w) callable
+
+pub returns-in_ok-turn-in-Term-clause-calls : goal.returns-in_ok-turn-in-Term-clause-calls
+returns-in_ok-turn-in-Term-clause-calls g c = λ qv s h af w callable.
+    c.in_ok-turn-in-Term.ensures.calls qv h.around h.raw s h.running (term_at qv c.args.machine.now s h c.in-Some.number c.in_ok-frame.frame c.in-Some.is c.in_ok-frame.ensures c.in-Term.term c.in-Term.is) callable
