@@ -4,7 +4,7 @@ use Rattle.std.specs.Prelude.{if◌then◌else◌, ◌&&◌, nat_le, true}
 use Rattle.std.proofs.lemmas.List.{length-map}
 use Rattle.std.proofs.lemmas.Bool.{ne_eqb}
 use Rattle.std.proofs.lemmas.Bool.Decides.{nat_tests}
-use Rattle.indexmap.specs.IndexMap.{get}
+use Rattle.std.specs.HashMap.{get}
 use Rattle.lp_calculus.specs.Fill.{Within}
 use Rattle.lp_calculus.specs.Term.{Term, atom, constant, eigen}
 use Rattle.lp_calculus.specs.Types.{Ty, instance}
@@ -151,7 +151,7 @@ module _ (qv : Query) (m c : Machine) (a : Around) (raw : Branch) (s : State Tas
                   ap (Takes (named c)) (tried unit_limit enough P (length h.rest) F.first (behind qv m a raw s h p u o at) t c (arguments t) (subst (IsCall c) (sym g.2) (call_mapped (closed h.closing) c (arguments (tree m.bank u.0)) k.1.2)));
               same = same_term (atom (constant c k.1.0)) k.1.1 tt;
               atomic = g.0;
-              arity_is = λ y. subst (HasArity qv.arity) (sym k.1.1) (sym (length-map (instance h.closing.types) k.1.0) ∙ subst (HasArity qv.arity) g.1 y);
+              arity_is = λ y. subst (HasArity qv.arity) (sym k.1.1) (sym (length-map k.1.0 (instance h.closing.types)) ∙ subst (HasArity qv.arity) g.1 y);
             }
         by (head.Eigen j) (inl k) =
             let g = called_same qv m a raw s h p u o at enough P t q (atom (eigen j)) k.0 k.1.0 tt in

@@ -94,7 +94,6 @@ pub mod KnownUnder
 pub mod HeadFills
 pub mod ResumedUnder
 pub mod TryMoves
-pub mod RunMoves
 pub mod EqualMoves
 pub mod KnownForms
 pub mod ClosedForms

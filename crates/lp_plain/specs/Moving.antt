@@ -11,7 +11,7 @@ use Rattle.lp_model.specs.Branch.{Answer, Branch, Entry, Task, Go, Try}
 use Rattle.lp_model.specs.Flat.{Clause, Goal, Goals, Atomic, Cut, Either, Exists, Forall, Assume, Not, Written, goal_list, map_written}
 use Rattle.lp_model.specs.Pair.{Closing, closed}
 use Rattle.lp_model.specs.Search.{look, types_from, vars_from}
-use Rattle.lp_model.specs.Skeleton.{Goes, Inner, Move, Note, State, Stops, Tells, Told, View, Waits, move, row_limit, run}
+use Rattle.lp_model.specs.Skeleton.{Goes, Inner, Move, Note, State, Stops, Tells, View, Waits, move, row_limit}
 use Rattle.lp_model.specs.Unify.{unit_limit}
 use Rattle.lp_model.specs.declared.answer.Pair.{Pair as Numbers}
 use Rattle.lp_model.specs.declared.ending.Ending.TheVariants.{Deep}
@@ -458,20 +458,3 @@ turn_for Unified.Deep = Turn.Ended Deep
 -- no type variable from the next one on is bound
 abbrev pub HasFreeTypes : Machine → Type 0
 HasFreeTypes m = (z : Closing) → IsOpenReading m.bank m.bindings m.branch.next z → (x : ℕ) → m.branch.next_type ≤ x → z.types x ≡ var x
-
--- a run has told no answer, and not how it ends
-abbrev pub IsSilent : Told Answer → Type 0
-IsSilent t = (t.answers ≡ []) × (t.ending ≡ None)
-
--- two runs tell the same answers and the same end
-abbrev pub TellSame : Told Answer → Told Answer → Type 0
-TellSame a b = (a.answers ≡ b.answers) × (a.ending ≡ b.ending)
-
--- a run of the definition, of at most so many moves, tells what the run tells that goes on behind the turn; an answer comes first, and an end is all
-abbrev pub Reaches : Query → Turn → (new : Machine) → (see : ℕ → Task → View Task Answer) → (inside moves : ℕ) → State Task → Type 0
-Reaches qv Turn.On n see e i s = (k : ℕ) × (t : State Task) × IsState qv n t × (t.answers ≡ s.answers) × (t.given ≡ s.given) × TellSame (run see e i s) (run see e k t)
-Reaches qv Turn.Back n see e i s = (k : ℕ) × (t : State Task) × IsBack qv n t × (t.answers ≡ s.answers) × (t.given ≡ s.given) × TellSame (run see e i s) (run see e k t)
-Reaches qv Turn.Answered n see e i s =
-    (k : ℕ) × (x : Answer) × (t : State Task) × IsAnswer qv n x × IsAnswered qv n t × (s.answers ≡ suc t.answers) × (t.given ≡ suc s.given) ×
-    ((run see e i s).answers ≡ x ∷ (run see e k t).answers) × ((run see e i s).ending ≡ (run see e k t).ending)
-Reaches qv (Turn.Ended f) n see e i s = ((run see e i s).answers ≡ []) × ((run see e i s).ending ≡ Some f)

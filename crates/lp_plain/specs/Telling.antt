@@ -2,7 +2,7 @@
 use Rattle.std.specs.Prelude.{◌≡◌, ℕ, ◌<◌, List, [], ◌∷◌, map, Some}
 use Rattle.lp_calculus.specs.Convert.{steps}
 use Rattle.lp_calculus.specs.Term.{Term}
-use Rattle.lp_term.specs.Nodes.{Nodes, tree}
+use Rattle.lp_term.specs.Nodes.{tree}
 use Rattle.lp_model.specs.Branch as definition
 use Rattle.lp_model.specs.Events as definition_events
 use Rattle.lp_model.specs.Look.{weak_step}

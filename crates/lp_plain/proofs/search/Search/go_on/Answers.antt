@@ -20,6 +20,7 @@ returns-in_ok-answer-in-Answered-clause-search g c = λ k it st en.
     let m = c.run.new.machine in
     let t = c.tell_answer.new.self in
     let n = c.answer_of.new.machine in
+    let u = record t { machine = n } in
     let stands = subst (λ z. Stands k (turn_told z) m) c.in-Answered.is (c.in_ok-found.ensures.stands k st) in
     let note = c.in_ok-tell_answer-in-Answered.ensures.rests in
     let made = c.in_ok-answer-in-Answered.ensures in
@@ -27,8 +28,8 @@ returns-in_ok-answer-in-Answered-clause-search g c = λ k it st en.
     let x : Extends m.bank n.bank = subst (λ z. Extends z.bank n.bank) note.machine made.only.bank in
     let um : n ≡ with_bank (rested m) n.bank = made.only.same ∙ ap (λ z. with_bank z n.bank) note.machine in
     let count : c.len-count.result ≡ stands.0.vars =
-    (let a = c.len-count.ensures in let o = t.variables.ok in let v = ap (λ w. length w.items) note.variables in let q = same_count k s _ m n.bank it stands x um (note.given more) note.answers note.variables note.ended in omega (arith, a, o, v, q)) in
+    (let a = c.len-count.ensures in let o = t.variables.ok in let v = ap (λ w. length w.items) note.variables in let q = same_count k s u m n.bank it stands x um (note.given more) note.answers note.variables note.ended in omega (arith, a, o, v, q)) in
     (
       answer_told k m stands c.in_ok-answer-in-Answered.answer (made.answer stands.0 stands.1 count (subst (λ z. IsAnswer stands.0 z stands.1) (sym note.machine) (answer_rested stands.0 m stands.1 stands.5))),
-      answer_between k s _ m n.bank it stands x um (note.given more) note.answers note.variables note.ended,
+      answer_between k s u m n.bank it stands x um (note.given more) note.answers note.variables note.ended,
     )
