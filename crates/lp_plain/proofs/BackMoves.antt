@@ -35,13 +35,13 @@ use Rattle.lp_plain.proofs.Under.{branch_marked}
 use Rattle.lp_plain.proofs.Bounds.{all_older_back, bound_last, split_newest}
 
 -- the task of a side
-record IsSideTask (qv : Query) (m : Machine) (c : Choice) (z : Closing) (f : ℕ → ℕ) (l u : ℕ) (b : Branch) (ts : List Task) : Type 0 where
+pub record IsSideTask (qv : Query) (m : Machine) (c : Choice) (z : Closing) (f : ℕ → ℕ) (l u : ℕ) (b : Branch) (ts : List Task) : Type 0 where
   pub levels : ℕ → ℕ
   pub branch : Branch
   pub is : ts ≡ Go branch ∷ []
   pub under : IsBranchUnder qv levels m.bank z f l u c.pairs.items b branch
 
-side_task : (qv : Query) (m : Machine) (c : Choice) (z : Closing) (f : ℕ → ℕ) (l u : ℕ) (b : Branch) (from : Option ℕ) (rs ts : List Task) → c.untried ≡ Untried.Goals from → rs ≡ Go b ∷ [] → IsTasksOf qv m c z f l u rs ts →
+pub side_task : (qv : Query) (m : Machine) (c : Choice) (z : Closing) (f : ℕ → ℕ) (l u : ℕ) (b : Branch) (from : Option ℕ) (rs ts : List Task) → c.untried ≡ Untried.Goals from → rs ≡ Go b ∷ [] → IsTasksOf qv m c z f l u rs ts →
     IsSideTask qv m c z f l u b ts
 side_task qv m c z f l u b from rs ts e r (of_side lv x d p q w) =
     let same : x ≡ b = (let y : Go x ∷ [] ≡ Go b ∷ [] = sym p ∙ r in cc) in

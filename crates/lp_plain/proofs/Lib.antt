@@ -131,6 +131,8 @@ mod CallMoves
 mod CallTerms
 mod CallTurns
 mod Denying
+mod Elsewhere
+mod HeldMoves
 mod CallArm
 mod CallEnds
 mod CallForms
