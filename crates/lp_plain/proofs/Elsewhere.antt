@@ -1,7 +1,8 @@
 -- What alternatives stand for does not depend on which search is at work, nor on what is counted. So the search of a negated goal that holds leaves that which waited for it.
 use Rattle.std.proofs.Common.{◌≡◌, ℕ, zero, suc, ◌+◌, ◌-◌, ◌<◌, ◌≤◌, List, [], ◌∷◌, ◌++◌, length, take, drop, refl, sym, ap, ◌∙◌, subst, arith, append-nil, Option, Some}
 use Rattle.std.specs.Prelude.{slice_get}
-use Rattle.std.proofs.lemmas.List.{take-append-drop}
+use Rattle.std.proofs.lemmas.List.{length-append, take-append-drop}
+use Rattle.lp_lemmas.proofs.Lists.{take_suc}
 use Rattle.lp_model.specs.Branch.{Branch, Entry, Go, Task}
 use Rattle.lp_model.specs.Flat.{Clause, clause}
 use Rattle.lp_model.specs.Pair.{Closing}
@@ -15,7 +16,7 @@ use Rattle.lp_plain.specs.Assuming.{Lists}
 use Rattle.lp_plain.specs.Entries.{Around, IsChoiceAt}
 use Rattle.lp_plain.specs.Followed.{IsClauseWritten}
 use Rattle.lp_plain.specs.Moving.{AreAlternatives, AreBoundInTurn, AreCandidatesOf, AreClausesWritten, AreOuter, HasAlternatives, IsAlternative, IsOuter, IsTasksOf, Query, Waiting, mark_in, of_call, of_side, outer_choices, way_back}
-use Rattle.lp_plain.specs.Searching.{AreNested, IsTriesAt, StandForAll, StandsFor, a_side, some_tries}
+use Rattle.lp_plain.specs.Searching.{AreNested, IsTriesAt, IsWithin, StandForAll, StandsFor, a_side, some_tries}
 use Rattle.lp_plain.specs.Stacks.{base_of, stack_of}
 use Rattle.lp_plain.specs.Taking.{IsKept}
 use Rattle.lp_plain.proofs.AboveUnder.{alternatives_marked, counts_same, in_turn_taken, marks_more, nested_taken}
@@ -23,7 +24,7 @@ use Rattle.lp_plain.proofs.BackMoves.{side_task}
 use Rattle.lp_plain.proofs.Backwards.{side_of}
 use Rattle.lp_plain.proofs.Bounds.{split_newest}
 use Rattle.lp_plain.proofs.Inside.{all_carried}
-use Rattle.lp_plain.proofs.QuietMoves.{stack_push}
+use Rattle.lp_plain.proofs.QuietMoves.{drop_push, stack_push}
 
 module _ (m x : Machine) where
   -- the search with the alternatives, the search at work and the counts of another one
@@ -172,5 +173,76 @@ module _ (qv : Query) (m x : Machine) (a : Around) (stack : List Task) (h : HasA
               (λ q g l k cs rss tss u s y. (all_else m x a cs 0 rss s, alternatives_else m x q g l k cs rss tss y)) (λ j dn y p e. tt) d.around ws long more);
           nested = subst AreNested (sym cut) (nested_taken i m.choices.items h.inside.nested);
           in_turn = subst AreBoundInTurn (sym cut) (in_turn_taken i m.choices.items h.inside.in_turn);
+        };
+      }
+
+-- an alternative in the place of another one of the same lengths
+nested_swap : (c e : Choice) → ((y : Choice) → IsWithin y c → IsWithin y e) → (xs : List Choice) → AreNested (xs ++ c ∷ []) → AreNested (xs ++ e ∷ [])
+nested_swap c e f [] h = tt
+nested_swap c e f (y ∷ []) h = (f y h.0, tt)
+nested_swap c e f (y ∷ z ∷ xs) h = (h.0, nested_swap c e f (z ∷ xs) h.1)
+
+turn_swap : (c e : Choice) → e.bindings ≡ c.bindings → (xs : List Choice) → AreBoundInTurn (xs ++ c ∷ []) → AreBoundInTurn (xs ++ e ∷ [])
+turn_swap c e q [] h = tt
+turn_swap c e q (y ∷ []) h = (subst (λ b. y.bindings.terms ≤ b.terms) (sym q) h.0, subst (λ b. y.bindings.types ≤ b.types) (sym q) h.1, tt)
+turn_swap c e q (y ∷ z ∷ xs) h = (h.0, h.1, turn_swap c e q (z ∷ xs) h.2)
+
+-- so where the one that led back is left as one that goes on with the goals behind the negated one
+module _ (qv : Query) (m x : Machine) (a : Around) (stack : List Task) (h : HasAlternatives qv m a stack) (i : ℕ) (d : Denial) (w : Waiting) (ws : List Waiting) (o : IsOuter qv.arity m a i d w ws) (more : AreOuter qv.arity m a d.around ws)
+    (left : x.choices.items ≡ take i m.choices.items ++ way_back o.choice d ∷ []) (xd : x.denied ≡ d.around) where
+  abbrev here : Machine
+  here = elsewhere m x
+
+  abbrev back_query : Query
+  back_query = record { types = w.types; vars = w.vars; arity = qv.arity; outer = ws }
+
+  abbrev base_is : ℕ
+  base_is = base_of d.around
+
+  abbrev led : Choice
+  led = way_back o.choice d
+
+  abbrev olds : List Choice
+  olds = take i m.choices.items
+
+  far : base_is ≤ length olds
+  far = taken_long base_is i m.choices.items o.choice o.low o.there
+
+  together : take (suc i) m.choices.items ≡ olds ++ o.choice ∷ []
+  together = take_suc m.choices.items i o.choice o.there
+
+  nested : AreNested (olds ++ led ∷ [])
+  nested =
+      nested_swap o.choice led (λ y k. record { frames = k.frames; blocks = k.blocks; values = k.values; assumptions = k.assumptions; newest = k.newest; standings = k.standings }) olds
+      (subst AreNested together (nested_taken (suc i) m.choices.items h.inside.nested))
+
+  turn : AreBoundInTurn (olds ++ led ∷ [])
+  turn = turn_swap o.choice led refl olds (subst AreBoundInTurn together (in_turn_taken (suc i) m.choices.items h.inside.in_turn))
+
+  pub waiting_alternatives : HasAlternatives back_query here a (Go w.branch ∷ w.rest)
+  waiting_alternatives =
+      let f = mark_in base_is o.raws in
+      let cs = outer_choices m i o.choice d in
+      let are_cs : drop (base_of here.denied) here.choices.items ≡ cs = (λ j. drop (base_of (xd j)) (left j)) ∙ drop_push base_is olds led far in
+      record {
+        raws = o.raws;
+        others = o.others;
+        done = record {
+          stands = record { table = h.done.stands.table; values = h.done.stands.values; frames = h.done.stands.frames };
+          base = (let ed = ap base_of xd in let ec = ap length left ∙ length-append olds (led ∷ []) in let l = far in omega (arith, l, ed, ec));
+          alternatives = subst (λ z. StandForAll here a z 0 o.raws) (sym are_cs) (all_else m x a cs 0 o.raws o.stand);
+          nested = subst AreNested (sym (ap (λ e. drop (base_of e) here.choices.items) xd ∙ ap (drop base_is) left)) (nested_dropped base_is (olds ++ led ∷ []) nested);
+        };
+        numbers = h.numbers;
+        are = subst (λ e. AreAlternatives back_query here (mark_in (base_of e) o.raws) (base_of e) (base_of e) (drop (base_of here.denied) here.choices.items) o.raws o.others) (sym xd)
+            (subst (λ z. AreAlternatives back_query here f base_is base_is z o.raws o.others) (sym are_cs) (alternatives_else m x back_query f base_is base_is cs o.raws o.others o.are));
+        in_turn = subst AreBoundInTurn (sym (ap (λ e. drop (base_of e) here.choices.items) xd ∙ ap (drop base_is) left)) (turn_dropped base_is (olds ++ led ∷ []) turn);
+        is = sym o.is;
+        inside = record {
+          outer = subst (λ e. AreOuter qv.arity here a e ws) (sym xd)
+              (all_carried qv.arity m here a a olds (drop i m.choices.items) (led ∷ []) (sym (take-append-drop i m.choices.items)) left (λ cs. Unit {0})
+              (λ q g l k cs rss tss u s y. (all_else m x a cs 0 rss s, alternatives_else m x q g l k cs rss tss y)) (λ j dn y p e. tt) d.around ws far more);
+          nested = subst AreNested (sym left) nested;
+          in_turn = subst AreBoundInTurn (sym left) turn;
         };
       }
