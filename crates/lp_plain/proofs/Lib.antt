@@ -91,6 +91,9 @@ pub mod Others
 pub mod KnownUnder
 pub mod HeadFills
 pub mod ResumedUnder
+pub mod TypedTries
+pub mod TypedMoves
+pub mod TypedCalls
 pub mod TryMoves
 pub mod RunMoves
 pub mod EqualMoves
@@ -103,3 +106,5 @@ pub mod WrittenAssumed
 pub mod WrittenParts
 pub mod WrittenFirst
 pub mod WrittenPut
+pub mod ProgramTypes
+pub mod ProgramsWritten

@@ -13,7 +13,7 @@ ghost use Rattle.lp_plain.specs.Apart.{IsApart};
 ghost use Rattle.lp_plain.specs.Assuming.{KeepsAssumed};
 ghost use Rattle.lp_plain.specs.Entries.{Around, KeepsGoals};
 ghost use Rattle.lp_plain.specs.Marks.{AreMarked, IsMarked, Marks, PutsAside, PutsMarks, SetsAside};
-ghost use Rattle.lp_plain.specs.Moving.{HasFreeTypes, IsBack, IsAtGoal, IsAtGoals, IsPlainFirst, IsRunning, IsState, LeadsTo, MovesTo, Query};
+ghost use Rattle.lp_plain.specs.Moving.{IsBack, IsAtGoal, IsAtGoals, IsPlainFirst, IsRunning, IsState, LeadsTo, MovesTo, Query};
 ghost use Rattle.lp_plain.specs.Restoring.{GoesBack};
 ghost use Rattle.lp_plain.specs.Searching.{EndsSo, GoesOnOrStops, IsBackOf, IsQuietMove, IsStateOf};
 ghost use Rattle.lp_plain.specs.Stacks.{base_of};
@@ -193,7 +193,7 @@ pub(crate) fn go_back(machine: &mut Machine) -> Result<Turn, Memory>
     ensures resumed { IfOk result (λ turn. (qv : Query) (c : Choice) (rest : List Choice) (from : Option ℕ) → machine.old.choices.items ≡ rest ++ c ∷ [] → c.untried ≡ Untried.Goals from → base_of machine.old.denied ≤ length rest → (s : State Task) → IsBack qv machine.old s → IsState qv machine.new s) }
     ensures moved { IfOk result (λ turn. (qv : Query) → machine.old.choices.items ≡ [] → (s : State Task) → IsBack qv machine.old s → MovesTo qv turn machine.new s) }
     ensures leads { IfOk result (λ turn. (c : Choice) (rest : List Choice) (call : Called) (one : Tried) → machine.old.choices.items ≡ rest ++ c ∷ [] → c.untried ≡ Untried.Clauses call one → base_of machine.old.denied ≤ length rest → (qv : Query) (s : State Task) → IsBack qv machine.old s →
-        IsWrittenSearch machine.old qv.arity → HasFreeTypes machine.new → LeadsTo 1 qv turn machine.new s) }
+        IsWrittenSearch machine.old qv.arity → LeadsTo 1 qv turn machine.new s) }
     ensures tries_written { OnOk result ((c : Choice) (rest : List Choice) (call : Called) (one : Tried) → machine.old.choices.items ≡ rest ++ c ∷ [] → c.untried ≡ Untried.Clauses call one → base_of machine.old.denied ≤ length rest → (qv : Query) (s : State Task) → IsBack qv machine.old s →
         IsWrittenSearch machine.old qv.arity → IsWrittenSearch machine.new qv.arity) }
     ensures ends { IfOk result (λ turn. machine.old.choices.items ≡ [] → (a : Around) (s : State Task) → IsBackOf machine.old a s → EndsSo turn machine.old.counts.lost s) }
