@@ -108,3 +108,5 @@ pub mod WrittenFirst
 pub mod WrittenPut
 pub mod ProgramTypes
 pub mod ProgramsWritten
+pub mod KnownPrograms
+pub mod TypedPrograms

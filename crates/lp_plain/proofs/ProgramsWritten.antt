@@ -45,28 +45,26 @@ all_within P d [] t w = subst (λ n. Within P n t) (let z : d ≡ 0 + d = omega 
 all_within P d (T ∷ vs) t w =
     subst (λ n. Within P n t) (let z : suc (length vs + d) ≡ suc (length vs) + d = omega arith in z) (all_within P d vs _ w).1
 
-module _ (d : Declared) where
-  abbrev typed : Atom → Type 0
-  typed a = HasAtomType (atom_type (over d [] [])) a
+-- a constant that has a type has as many types as it takes
+pub types_many : (d : Declared) (c : ℕ) (ts : List Ty) (T : Ty) → scheme_type ts (d c) ≡ Some T → length ts ≡ arity_in d c
+types_many d c ts T w = by (d c) w
+  where
+    same : (b : Bool) (n m : ℕ) (x y : Ty) → nat_eq n m ≡ b → (if b then Some x else None) ≡ Some y → n ≡ m
+    same true n m x y e h = same_number n m e
+    same false n m x y e h = absurd (cc)
 
-  types_many : (c : ℕ) (ts : List Ty) → typed (constant c ts) → length ts ≡ arity_in d c
-  types_many c ts w = by (d c) w.0 w.1
-    where
-      same : (b : Bool) (n m : ℕ) (x y : Ty) → nat_eq n m ≡ b → (if b then Some x else None) ≡ Some y → n ≡ m
-      same true n m x y e h = same_number n m e
-      same false n m x y e h = absurd (cc)
+    by : (o : Option Scheme) → scheme_type ts o ≡ Some T → length ts ≡ count_of o
+    by None e = absurd (cc)
+    by (Some s) e = same (nat_eq (length ts) s.count) (length ts) s.count _ T refl e
 
-      by : (o : Option Scheme) (T : Ty) → scheme_type ts o ≡ Some T → length ts ≡ count_of o
-      by None T e = absurd (cc)
-      by (Some s) T e = same (nat_eq (length ts) s.count) (length ts) s.count _ T refl e
-
+-- of atoms that have types: constants have as many as they take, and no eigenconstant and no variable has one
+module _ (d : Declared) (typed : Atom → Type 0) (many : (c : ℕ) (ts : List Ty) → typed (constant c ts) → length ts ≡ arity_in d c) (none : (k : ℕ) → typed (eigen k) → ⊥) where
   atom_written : (k : ℕ) (a : Atom) → typed a → IsPlainAtom k a → IsNamedAtom a → WrittenAtom (arity_in d) k a
-  atom_written k (constant c ts) w p n = (types_many c ts w, list_below k ts p.1)
+  atom_written k (constant c ts) w p n = (many c ts w, list_below k ts p.1)
   atom_written k (integer z) w p n = tt
   atom_written k (text s) w p n = tt
-  atom_written k (eigen zero) w p n = absurd (let e = w.1 in cc)
-  atom_written k (eigen (suc j)) w p n = absurd (let e = w.1 in cc)
-  atom_written k (logic x l) w p n = absurd (let e = w.1 in cc)
+  atom_written k (eigen j) w p n = absurd (none j w)
+  atom_written k (logic x l) w p n = absurd n
   atom_written k (param j T) w p n = absurd n
 
   term_written : (k m : ℕ) (t : Term) → Within typed m t → IsPlainTerm k t → AllAtoms IsNamedAtom t → IsWritten (arity_in d) k m t
@@ -101,7 +99,7 @@ module _ (d : Declared) where
       goal_written bs (Assume v cs gs) w f n = (clauses_written bs cs w.0.1 f.0 n.1, goals_written bs gs w.1 f.1 n.2)
       goal_written bs (Not v gs) w f n = goals_written bs gs w.1 f n.1
 
-      goals_written : (bs : List Bool) (gs : Goals) → Within typed (length bs) (formula_of_goals gs) → AreGoals k bs gs → AreTermsOf (AllAtoms IsNamedAtom) gs → GoalsWritten (arity_in d) k bs gs
+      pub goals_written : (bs : List Bool) (gs : Goals) → Within typed (length bs) (formula_of_goals gs) → AreGoals k bs gs → AreTermsOf (AllAtoms IsNamedAtom) gs → GoalsWritten (arity_in d) k bs gs
       goals_written bs no_goals w f n = tt
       goals_written bs (goals g no_goals) w f n = (goal_written bs g w f.0 n.0, tt)
       goals_written bs (goals g (goals h gs)) w f n = (goal_written bs g w.0.1 f.0 n.0, goals_written bs (goals h gs) w.1 f.1 n.1)
@@ -129,6 +127,11 @@ module _ (d : Declared) where
 -- a typed clause of a program
 pub program_clause : (d : Declared) (c : Clause) → IsProgramTyped d c → IsClauseOf (AllAtoms IsNamedAtom) c → IsProgramClause (arity_in d) c
 program_clause d (clause n vs h b) x a = (
-  clause_written d n [] (clause n vs h b) (typed_atoms (atom_type (over d [] [])) [] (formula_of_clause (clause n vs h b)) o_type x.typed.typed) x.form a,
+  clause_written d (HasAtomType (atom_type (over d [] []))) (λ c ts w. types_many d c ts w.0 w.1) none n [] (clause n vs h b)
+      (typed_atoms (atom_type (over d [] [])) [] (formula_of_clause (clause n vs h b)) o_type x.typed.typed) x.form a,
   tys_of_goals n _ b x.form.3 x.written,
 )
+  where
+    none : (k : ℕ) → HasAtomType (atom_type (over d [] [])) (eigen k) → ⊥
+    none zero w = (let e = w.1 in cc)
+    none (suc k) w = (let e = w.1 in cc)

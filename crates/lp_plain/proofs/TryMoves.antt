@@ -48,7 +48,8 @@ use Rattle.lp_plain.proofs.TryRead.{known_more}
 use Rattle.lp_plain.proofs.Under.{entries_front, entries_wider}
 use Rattle.lp_plain.proofs.WrittenTerms.{loose_closed}
 
-module _ (qv : Query) (m n : Machine) (a : Around) (call : Call) (one : Candidate) (mark : ℕ) (s : State Task) (h : IsAtTry qv m a call one mark s) (g : GrowsByTry m n call) (goal : IsGoalOf m call) (k vars : ℕ)
+module _ (qv : Query) (m n : Machine) (a : Around) (call : Call) (one : Candidate) (mark : ℕ) (s : State Task) (h : IsAtTry qv m a call one mark s)
+    (g : GrowsByTry m n call) (goal : IsGoalOf m call) (k vars : ℕ)
     (head : Term) (body : Goals) (st : Solved) where
   abbrev level : ℕ
   level = call.place.level
@@ -112,12 +113,14 @@ module _ (qv : Query) (m n : Machine) (a : Around) (call : Call) (one : Candidat
 
     in_front : AreEntriesUnder h.closing f base mark raw.goals tried.goals
     in_front =
-        subst (λ i. AreEntriesUnder h.closing f base mark (entries (goal_list on.raw) (a.assumed call.place.assumed) (a.written call.place.standing) level i ++ h.raw.goals) tried.goals) (sym (h.above.numbers mark))
+        subst (λ i. AreEntriesUnder h.closing f base mark (entries (goal_list on.raw) (a.assumed call.place.assumed) (a.written call.place.standing)
+        level i ++ h.raw.goals) tried.goals) (sym (h.above.numbers mark))
         (subst (λ i. AreEntriesUnder h.closing f base mark (entries (goal_list on.raw) (a.assumed call.place.assumed) (a.written call.place.standing) level mark ++ h.raw.goals)
         (entries (goal_list in_tried) h.entry.assumed h.entry.written level i ++ h.rest.goals)) h.mark_is
         (subst (λ gs. AreEntriesUnder h.closing f base mark (entries (goal_list on.raw) (a.assumed call.place.assumed) (a.written call.place.standing) level mark ++ h.raw.goals)
         (entries gs h.entry.assumed h.entry.written level (f mark) ++ h.rest.goals)) opened_list
-        (entries_front h.closing f base mark mark level (goal_list on.raw) (a.assumed call.place.assumed) h.entry.assumed (a.written call.place.standing) h.entry.written h.raw.goals h.rest.goals h.low (omega arith)
+        (entries_front h.closing f base mark mark level (goal_list on.raw) (a.assumed call.place.assumed) h.entry.assumed
+        (a.written call.place.standing) h.entry.written h.raw.goals h.rest.goals h.low (omega arith)
         h.at_place.assumed h.at_place.written h.under.goals)))
 
     same_count : length n.choices.items ≡ length m.choices.items
@@ -178,7 +181,8 @@ module _ (qv : Query) (m n : Machine) (a : Around) (call : Call) (one : Candidat
             reading = on.reading;
             left = g.residual h.left;
             levels = on.found.levels';
-            under = subst (λ d. IsBranchUnder qv on.found.levels' n.bank on.closing (mark_in (base_of d) h.above.raws) (base_of d) (length n.choices.items) n.branch.pairs.items raw (resume tried st)) (sym g.grows.denied) under;
+            under = subst (λ d. IsBranchUnder qv on.found.levels' n.bank on.closing (mark_in (base_of d) h.above.raws) (base_of d)
+                (length n.choices.items) n.branch.pairs.items raw (resume tried st)) (sym g.grows.denied) under;
             counted = ct;
           };
         }
@@ -192,11 +196,13 @@ goal_ready qv m a call one mark s h = record {
   head = h.head_is;
 }
 
-pub trial_ready : (qv : Query) (m : Machine) (a : Around) (call : Call) (one : Candidate) (mark : ℕ) (s : State Task) (h : IsAtTry qv m a call one mark s) → StandsWritten m qv.arity → IsTrialFor m one h.tried
+pub trial_ready : (qv : Query) (m : Machine) (a : Around) (call : Call) (one : Candidate) (mark : ℕ) (s : State Task)
+    (h : IsAtTry qv m a call one mark s) → StandsWritten m qv.arity → IsTrialFor m one h.tried
 trial_ready qv m a call one mark s h w = candidate_trial m qv.arity h.above.done.stands w one h.tried h.is h.tried_written
 
 -- what a unification in a try comes to, as moves of the definition
-module _ (qv : Query) (m n : Machine) (a : Around) (call : Call) (one : Candidate) (mark : ℕ) (s : State Task) (h : IsAtTry qv m a call one mark s) (g : GrowsByTry m n call) (goal : IsGoalOf m call) (tr : IsTrialFor m one h.tried)
+module _ (qv : Query) (m n : Machine) (a : Around) (call : Call) (one : Candidate) (mark : ℕ) (s : State Task) (h : IsAtTry qv m a call one mark s)
+    (g : GrowsByTry m n call) (goal : IsGoalOf m call) (tr : IsTrialFor m one h.tried)
     (w : ℕ) (ea : s.answers ≡ suc w) (go : (Answer → Bool) → State Task → Inner) (enough : ℕ) (P : List Clause) (ty : IsTypedOver qv.arity enough P s) where
   abbrev see : ℕ → Task → View Task Answer
   see = look unit_limit enough P
@@ -228,7 +234,8 @@ module _ (qv : Query) (m n : Machine) (a : Around) (call : Call) (one : Candidat
   first_move ts e =
       (λ i. move_at go see s.steps (ea i) s.given s.rows s.row s.lost (h.stack i)) ∙
       by_lost go see s.steps w s.given s.rows s.row s.lost (Try (clause_by h.closing one h.tried) t h.entry h.rest h.height) h.below ∙
-      (λ i. move_view go s.steps w s.given s.rows s.row s.lost h.below (Opens (try_clause 1000000 enough (sym (tr.is h.closing) i) t h.entry h.rest h.height))) ∙ ap (λ us. Goes 0 (back us h.below) (after us)) e
+      (λ i. move_view go s.steps w s.given s.rows s.row s.lost h.below (Opens (try_clause 1000000 enough (sym (tr.is h.closing) i) t h.entry h.rest
+      h.height))) ∙ ap (λ us. Goes 0 (back us h.below) (after us)) e
 
   second : (x : Task) (ts : List Task) → move go see (after (x ∷ ts)) ≡ move_view go s.steps w s.given s.rows s.row s.lost (ts ++ h.below) (see (length (ts ++ h.below)) x)
   second x ts = by_lost go see s.steps w s.given s.rows s.row s.lost x (ts ++ h.below)
@@ -279,13 +286,15 @@ module _ (qv : Query) (m n : Machine) (a : Around) (call : Call) (one : Candidat
       let p : instance_term (renewed k h.rest.next_type) x ≡ written_head = ap (λ j. instance_term (renewed j h.rest.next_type) x) r.0 ∙ r.1 in
       let q =
       subst (λ g. solve enough unit_limit (type_pairs (head_of t) (head_of g)) (tried_pairs h.rest.next h.entry.level g t) h.rest.pairs (h.rest.next + length tr.vars) ≡ Some (Solution st)) (sym p)
-      (subst (λ l. solve enough unit_limit (type_pairs (head_of t) (head_of written_head)) (tried_pairs h.rest.next l written_head t) h.rest.pairs (h.rest.next + length tr.vars) ≡ Some (Solution st)) (sym h.at_place.level) e) in
+      (subst (λ l. solve enough unit_limit (type_pairs (head_of t) (head_of written_head)) (tried_pairs h.rest.next l written_head t) h.rest.pairs
+      (h.rest.next + length tr.vars) ≡ Some (Solution st)) (sym h.at_place.level) e) in
       subst (λ j. BindsBelow (h.rest.next_type + j) st) r.0
       (try_bound enough ty.declared ty.standard P ty.program ty.query y k vs x b t h.entry h.rest w (h.rest.next + length tr.vars) st q)
 
   free_there : (st : Solved) → solved_try enough call.place.level (length tr.vars) written_head t h.rest ≡ Some (Solution st) →
       IsHeadRead tr.trial.type_vars h.rest.next_type written_head (clause_read h.closing tr.around tr.values.types one (clause tr.trial.type_vars tr.vars tr.head tr.trial.body)) →
-      GoesOnAs m n call mark h.closing (levels_with h.levels m.branch.next call.place.level) (m.branch.next + length tr.vars) tr.trial.type_vars (instantiate_goals (tried_values m.branch.next call.place.level written_head t) body_there) st →
+      GoesOnAs m n call mark h.closing (levels_with h.levels m.branch.next call.place.level) (m.branch.next + length tr.vars) tr.trial.type_vars
+      (instantiate_goals (tried_values m.branch.next call.place.level written_head t) body_there) st →
       (c : Closing) → ((x : ℕ) → c.types x ≡ put_types st.types (h.closing.types x)) → (x : ℕ) → n.branch.next_type ≤ x → c.types x ≡ var x
   free_there st e hr on c ct x l =
       let y = try_typed in
@@ -297,7 +306,8 @@ module _ (qv : Query) (m n : Machine) (a : Around) (call : Call) (one : Candidat
 
   goes : (st : Solved) → tasks ≡ Go (resume there st) ∷ [] → solved_try enough call.place.level (length tr.vars) written_head t h.rest ≡ Some (Solution st) →
       IsHeadRead tr.trial.type_vars h.rest.next_type written_head (clause_read h.closing tr.around tr.values.types one (clause tr.trial.type_vars tr.vars tr.head tr.trial.body)) →
-      GoesOnAs m n call mark h.closing (levels_with h.levels m.branch.next call.place.level) (m.branch.next + length tr.vars) tr.trial.type_vars (instantiate_goals (tried_values m.branch.next call.place.level written_head t) body_there) st →
+      GoesOnAs m n call mark h.closing (levels_with h.levels m.branch.next call.place.level) (m.branch.next + length tr.vars) tr.trial.type_vars
+      (instantiate_goals (tried_values m.branch.next call.place.level written_head t) body_there) st →
       Leads 1 qv Turn.On n go see s
   goes st e eq hr on =
       inl (
@@ -305,7 +315,8 @@ module _ (qv : Query) (m n : Machine) (a : Around) (call : Call) (one : Candidat
         [],
         after (Go (resume there st) ∷ []),
         first_move (Go (resume there st) ∷ []) e,
-        goes_on qv m n a call one mark s h g goal tr.trial.type_vars (length tr.vars) written_head body_there st on (free_there st eq hr on on.closing on.types) (after (Go (resume there st) ∷ [])) refl (counted (Go (resume there st) ∷ [])),
+        goes_on qv m n a call one mark s h g goal tr.trial.type_vars (length tr.vars) written_head body_there st on
+            (free_there st eq hr on on.closing on.types) (after (Go (resume there st) ∷ [])) refl (counted (Go (resume there st) ∷ [])),
         sym ea,
         refl,
       )
@@ -336,6 +347,7 @@ module _ (qv : Query) (m n : Machine) (a : Around) (call : Call) (one : Candidat
       let r =
       leaves tr.vars tr.head tr.values tr.around tr.trial tr.own tr.terms tr.tys h.above.done.stands goal h.closing h.levels h.rest for_branch (tr.headed h.closing)
       (subst (λ i. Within (Known h.levels i) 0 t) (sym h.next) h.known.goal_known)
-      (subst (λ c. AllOfClause (λ d x. Within (Known h.levels m.branch.next) d x) 0 c) (sym (tr.is h.closing)) (subst (λ i. AllOfClause (λ d x. Within (Known h.levels i) d x) 0 (clause_by h.closing one h.tried)) (sym h.next) h.known.tries.0))
+      (subst (λ c. AllOfClause (λ d x. Within (Known h.levels m.branch.next) d x) 0 c) (sym (tr.is h.closing))
+      (subst (λ i. AllOfClause (λ d x. Within (Known h.levels i) d x) 0 (clause_by h.closing one h.tried)) (sym h.next) h.known.tries.0))
       h.entry h.at_place.level h.height enough (solved_try enough call.place.level (length tr.vars) written_head t h.rest) in
       by_outcome u (solved_try enough call.place.level (length tr.vars) written_head t h.rest) few refl r.0 (r.1 refl)

@@ -104,7 +104,8 @@ clauses_named k [] w = tt
 clauses_named k (clause n vs h b ∷ cs) w = (head_named vs (head_of h) w.0.1.1, clauses_named k cs w.1)
 
 -- of the entry in front
-module _ (arity : ℕ → ℕ) (n : ℕ) (P : List Clause) (s : State Task) (ty : IsTypedOver arity n P s) (b : Branch) (rest : List Task) (stack : s.stack ≡ Go b ∷ rest) (e : Entry) (es : List Entry) (first : b.goals ≡ e ∷ es) where
+module _ (arity : ℕ → ℕ) (n : ℕ) (P : List Clause) (s : State Task) (ty : IsTypedOver arity n P s) (b : Branch) (rest : List Task)
+    (stack : s.stack ≡ Go b ∷ rest) (e : Entry) (es : List Entry) (first : b.goals ≡ e ∷ es) where
   branch_typed : IsTaskTyped n ty.declared P ty.query (Go b)
   branch_typed = (subst (EachOf (IsTaskTyped n ty.declared P ty.query)) stack ty.typed).0
 

@@ -72,13 +72,15 @@ module _ (n : ℕ) (d : Declared) (P : List Clause) (q : Query) where
     typed_look height Lack w = tt
 
     module _ (go : (Answer → Bool) → State Task → Inner) where
-      by_inner : (m k g v : ℕ) (lost : Bool) (ts rest : List Task) → EachOf (IsTaskTyped n d P q) ts → EachOf (IsTaskTyped n d P q) rest → (i : Inner) → IsMoveTyped n d P q (move_denied m k g v lost ts rest i)
+      by_inner : (m k g v : ℕ) (lost : Bool) (ts rest : List Task) → EachOf (IsTaskTyped n d P q) ts → EachOf (IsTaskTyped n d P q) rest → (i : Inner)
+          → IsMoveTyped n d P q (move_denied m k g v lost ts rest i)
       by_inner m k g v lost ts rest w h (Refuted j ns p) = each_append (IsTaskTyped n d P q) ts rest w h
       by_inner m k g v lost ts rest w h (Held j ns p) = h
       by_inner m k g v lost ts rest w h (Broke j ns e) = tt
       by_inner m k g v lost ts rest w h (Lasts j ns) = tt
 
-      by_view : (m k g v p : ℕ) (lost : Bool) (rest : List Task) → EachOf (IsTaskTyped n d P q) rest → (x : View Task Answer) → IsViewTyped n d P q x → IsMoveTyped n d P q (move_view go m k g v p lost rest x)
+      by_view : (m k g v p : ℕ) (lost : Bool) (rest : List Task) → EachOf (IsTaskTyped n d P q) rest → (x : View Task Answer) → IsViewTyped n d P q x
+          → IsMoveTyped n d P q (move_view go m k g v p lost rest x)
       by_view m k g v p lost rest h (Gives a) w = h
       by_view m k g v p lost rest h (Opens ts) w = each_append (IsTaskTyped n d P q) ts rest w h
       by_view m k g v zero lost rest h (Parts ts) w = tt

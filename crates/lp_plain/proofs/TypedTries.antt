@@ -36,10 +36,12 @@ pub plain_bound : (n k next : ℕ) (ps ds : List Pair) (s : Solved) → EachOf (
 plain_bound n k next ps ds s hp hd e = each_more _ (λ b. b.id < k) (λ b h. h.0) s.types (solve_keeps_plain k n unit_limit [] ps ds next s tt hp hd e).2
 
 -- of a typed try
-pub try_bound : (n : ℕ) (d : Declared) → IsStandard d → (P : List Clause) → EachOf (IsProgramTyped d) P → (q : Query) (y : BranchTyping) (k : ℕ) (vs : List Ty) (h : Term) (g : Goals) (t : Term) (e : Entry) (b : Branch) →
+pub try_bound : (n : ℕ) (d : Declared) → IsStandard d → (P : List Clause) → EachOf (IsProgramTyped d) P → (q : Query) (y : BranchTyping) (k : ℕ)
+    (vs : List Ty) (h : Term) (g : Goals) (t : Term) (e : Entry) (b : Branch) →
     IsTypedTry n d P q y (clause k vs h g) t e b → (last : ℕ) (s : Solved) →
     solve n unit_limit (type_pairs (head_of t) (head_of (instance_term (renewed k b.next_type) h)))
-    (pairs_of (slotted (slots_of [] (arguments (instance_term (renewed k b.next_type) h)) (arguments t)) b.next e.level) e.level [] (arguments (instance_term (renewed k b.next_type) h)) (arguments t)) b.pairs last ≡ Some (Solution s) →
+    (pairs_of (slotted (slots_of [] (arguments (instance_term (renewed k b.next_type) h)) (arguments t)) b.next e.level) e.level []
+    (arguments (instance_term (renewed k b.next_type) h)) (arguments t)) b.pairs last ≡ Some (Solution s) →
     BindsBelow (b.next_type + k) s
 try_bound n d std P program q y k vs h g t e b w last s q' =
     let E = eigens_of d y.answer.variables y.eigens _ b.goals w.branch.entries in
@@ -55,6 +57,7 @@ try_bound n d std P program q y k vs h g t e b w last s q' =
     (pairs_of (slotted (slots_of [] (arguments x) (arguments t)) b.next e.level) e.level [] (arguments x) (arguments t)) b.pairs last s es ps ds q').2
 
 -- behind it, what was not bound before and comes later is not
-pub free_behind : (k : ℕ) (s : Solved) (z c : Closing) → BindsBelow k s → ((x : ℕ) → c.types x ≡ put_types s.types (z.types x)) → ((x : ℕ) → k ≤ x → z.types x ≡ var x) → (x : ℕ) → k ≤ x → c.types x ≡ var x
+pub free_behind : (k : ℕ) (s : Solved) (z c : Closing) → BindsBelow k s → ((x : ℕ) → c.types x ≡ put_types s.types (z.types x)) →
+    ((x : ℕ) → k ≤ x → z.types x ≡ var x) → (x : ℕ) → k ≤ x → c.types x ≡ var x
 free_behind k s z c g t f x l =
     t x ∙ ap (put_types s.types) (f x l) ∙ free_stays s.types x (each_more (λ b. b.id < k) (λ b. Not b.id x) (λ b h. λ e. let q : b.id < k = h in omega (arith, l, e, q)) s.types g)
