@@ -6,6 +6,8 @@ use Rattle.lp_calculus.specs.Types.{Ty}
 use Rattle.lp_calculus.proofs.BetaEta.{shift_one}
 use Rattle.lp_calculus.proofs.Fills.{within_unrename}
 use Rattle.lp_lemmas.specs.Each.{AnyOf, EachOf}
+use Rattle.lp_standard.specs.Connectives.{pi_of, two}
+use Rattle.lp_standard.specs.Numbers as number
 use Rattle.lp_model.specs.Flat.{Goal, Atomic, Cut, Either, Exists, Forall, Assume, Not, Goals, no_goals, goals, Clause, clause, Clauses, no_clauses, clauses, all_of, clause_list, formula_of_clause, formula_of_clauses, formula_of_goal, formula_of_goals}
 use Rattle.lp_search_laws.specs.Written.{AreWrittenClauses, AreWrittenGoals, IsWrittenClause, IsWrittenGoal, StandsIn, StandsInOne}
 use Rattle.lp_plain.specs.Resuming.{AllOfClause, AllOfClauses, AllOfGoal, AllOfGoals, AllTerms}
@@ -27,7 +29,7 @@ module _ (P : Atom → Type 0) where
 
   all_within : (d : ℕ) (vs : List Ty) (t : Term) → Within P d (all_of vs t) → Within P (length vs + d) t
   all_within d [] t w = subst (λ n. Within P n t) (let z : d ≡ 0 + d = omega arith in z) w
-  all_within d (T ∷ vs) t w = subst (λ n. Within P n t) (let z : suc (length vs + d) ≡ suc (length vs) + d = omega arith in z) (all_within d vs _ w).1
+  all_within d (T ∷ vs) t w = subst (λ n. Within P n t) (let z : suc (length vs + d) ≡ suc (length vs) + d = omega arith in z) (all_within d vs (two number.Implies [] (formula_of_goals (goals g gs)) x) w).1
 
   -- one of these clauses
   each_within : (d : ℕ) (cs : Clauses) → Within P d (formula_of_clauses cs) → EachOf (λ c. Within P d (formula_of_clause c)) (clause_list cs)
@@ -61,7 +63,7 @@ module _ (P : Atom → Type 0) where
 
     pub clause_within : (d : ℕ) (c : Clause) → Within P d (formula_of_clause c) → IsWrittenClause c → AllOfClause (λ i t. Within P i t) d c
     clause_within d (clause n vs x no_goals) w h = (all_within d vs x w, tt)
-    clause_within d (clause n vs x (goals g gs)) w h = let a = all_within d vs _ w in (a.1, goals_within (length vs + d) (goals g gs) a.0.1 h)
+    clause_within d (clause n vs x (goals g gs)) w h = let a = all_within d vs (two number.Implies [] (formula_of_goals (goals g gs)) x) w in (a.1, goals_within (length vs + d) (goals g gs) a.0.1 h)
 
     clauses_within : (d : ℕ) (cs : Clauses) → Within P d (formula_of_clauses cs) → AreWrittenClauses cs → AllOfClauses (λ i t. Within P i t) d cs
     clauses_within d no_clauses w h = tt

@@ -8,6 +8,8 @@ use Rattle.lp_calculus.specs.Types.{Ty, Tys, var, param as type_param, con, arro
 use Rattle.lp_calculus.specs.Term.{Term, Atom, index, atom, abs, app, constant, integer, text, eigen, logic, param}
 use Rattle.lp_calculus.specs.Typing.{Scheme, atom_type, o_type, scheme_type}
 use Rattle.lp_model.specs.Answers.{over}
+use Rattle.lp_standard.specs.Connectives.{pi_of, two}
+use Rattle.lp_standard.specs.Numbers as number
 use Rattle.lp_model.specs.Flat.{Goal, Atomic, Cut, Either, Exists, Forall, Assume, Not, Goals, no_goals, goals, Clause, clause, Clauses, no_clauses, clauses, all_of, formula_of_clause, formula_of_clauses, formula_of_goal, formula_of_goals}
 use Rattle.lp_model.specs.Proofs.{Declared}
 use Rattle.lp_proof_laws.specs.Terms.{AreClausesOf, AreTermsOf, IsClauseOf, IsTermOf}
@@ -43,7 +45,7 @@ head_within P d (app f t) w = head_within P d f w.0
 all_within : (P : Atom → Type 0) (d : ℕ) (vs : List Ty) (t : Term) → Within P d (all_of vs t) → Within P (length vs + d) t
 all_within P d [] t w = subst (λ n. Within P n t) (let z : d ≡ 0 + d = omega arith in z) w
 all_within P d (T ∷ vs) t w =
-    subst (λ n. Within P n t) (let z : suc (length vs + d) ≡ suc (length vs) + d = omega arith in z) (all_within P d vs _ w).1
+    subst (λ n. Within P n t) (let z : suc (length vs + d) ≡ suc (length vs) + d = omega arith in z) (all_within P d vs (pi_of T (abs t)) w).1
 
 -- a constant that has a type has as many types as it takes
 pub types_many : (d : Declared) (c : ℕ) (ts : List Ty) (T : Ty) → scheme_type ts (d c) ≡ Some T → length ts ≡ arity_in d c
@@ -109,7 +111,7 @@ module _ (d : Declared) (typed : Atom → Type 0) (many : (c : ℕ) (ts : List T
           let wh = term_written k (length vs + length bs) h (all_within typed (length bs) vs h w) f.2 x.0 in
           (head_written k n vs bs (head_of h) f.1 (head_within (WrittenAtom (arity_in d) k) (length vs + length bs) h wh), wh, tt)
       clause_written bs (clause n vs h (goals g gs)) w f x =
-          let a = all_within typed (length bs) vs _ w in
+          let a = all_within typed (length bs) vs (two number.Implies [] (formula_of_goals (goals g gs)) h) w in
           let wh = term_written k (length vs + length bs) h a.1 f.2 x.0 in
           let own = own_and (length vs) bs in (
             head_written k n vs bs (head_of h) f.1 (head_within (WrittenAtom (arity_in d) k) (length vs + length bs) h wh),

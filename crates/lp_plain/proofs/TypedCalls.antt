@@ -9,7 +9,9 @@ use Rattle.lp_calculus.specs.Typing.{HasType, Scheme, atom_type, o_type, scheme_
 use Rattle.lp_lemmas.specs.Each.{EachOf}
 use Rattle.lp_model.specs.Answers.{Variable, over}
 use Rattle.lp_model.specs.Branch.{Branch, Entry, Go, Task}
-use Rattle.lp_model.specs.Flat.{Atomic, Clause, Goals, all_of, clause, formula_of_clause, formula_of_goal, goals, no_goals}
+use Rattle.lp_standard.specs.Connectives.{pi_of, two}
+use Rattle.lp_standard.specs.Numbers as number
+use Rattle.lp_model.specs.Flat.{Atomic, Clause, Goals, all_of, clause, formula_of_clause, formula_of_goal, formula_of_goals, goals, no_goals}
 use Rattle.lp_model.specs.Look.{head_normal}
 use Rattle.lp_model.specs.Proofs.{Declared}
 use Rattle.lp_model.specs.Skeleton.{State}
@@ -48,7 +50,7 @@ head_atoms P (app f t) h = head_atoms P f h.0
 
 all_atoms : (P : Atom → Type 0) (vs : List Ty) (t : Term) → AllAtoms P (all_of vs t) → AllAtoms P t
 all_atoms P [] t h = h
-all_atoms P (T ∷ vs) t h = (all_atoms P vs _ h).1
+all_atoms P (T ∷ vs) t h = (all_atoms P vs (pi_of T (abs t)) h).1
 
 module _ (d : Declared) (E : List Ty) (V : List Variable) where
   abbrev typed : Atom → Type 0
@@ -76,7 +78,7 @@ module _ (d : Declared) (E : List Ty) (V : List Variable) where
   clause_many : (c : Clause) → IsTyped d E V (formula_of_clause c) o_type → HasArity (arity_in d) (head_in c)
   clause_many (clause n vs h no_goals) w = head_many (head_of h) (head_atoms typed h (all_atoms typed vs h (atoms_typed (atom_type (over d E V)) [] (all_of vs h) o_type w.typed)))
   clause_many (clause n vs h (goals g gs)) w =
-      head_many (head_of h) (head_atoms typed h (all_atoms typed vs _ (atoms_typed (atom_type (over d E V)) [] (formula_of_clause (clause n vs h (goals g gs))) o_type w.typed)).1)
+      head_many (head_of h) (head_atoms typed h (all_atoms typed vs (two number.Implies [] (formula_of_goals (goals g gs)) h) (atoms_typed (atom_type (over d E V)) [] (formula_of_clause (clause n vs h (goals g gs))) o_type w.typed)).1)
 
   clauses_many : (cs : List Clause) → EachOf (λ c. IsTyped d E V (formula_of_clause c) o_type) cs → AreApplied (arity_in d) cs
   clauses_many [] w = tt

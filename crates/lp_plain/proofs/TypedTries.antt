@@ -15,6 +15,7 @@ use Rattle.lp_model.specs.Search.{pairs_of, renewed, slots_of, slotted}
 use Rattle.lp_model.specs.Types.{put_types}
 use Rattle.lp_model.specs.Unify.{Solution, State as Solved, solve, unit_limit}
 use Rattle.lp_standard.specs.Schemes.{IsStandard}
+use Rattle.lp_unify_laws.specs.TypesBelow.{IsTypeBelow}
 use Rattle.lp_search_laws.specs.Branches.{AreTypedEntries, BranchTyping, IsPlainPair, IsPlainTerm, IsProgramTyped, IsTypedTry}
 use Rattle.lp_search_laws.proofs.PlainTry.{eqs_plain, pairs_plain, term_more}
 use Rattle.lp_search_laws.proofs.RunsKeep.{solve_keeps_plain}
@@ -33,7 +34,7 @@ pair_more k j l p h = record { left = term_more k j (λ i m. omega (arith, l, m)
 
 -- what a unification of plain terms binds
 pub plain_bound : (n k next : ℕ) (ps ds : List Pair) (s : Solved) → EachOf (IsPlainPair k) ps → EachOf (IsPlainPair k) ds → solve n unit_limit [] ps ds next ≡ Some (Solution s) → BindsBelow k s
-plain_bound n k next ps ds s hp hd e = each_more _ (λ b. b.id < k) (λ b h. h.0) s.types (solve_keeps_plain k n unit_limit [] ps ds next s tt hp hd e).2
+plain_bound n k next ps ds s hp hd e = each_more (λ b. (b.id < k) × IsTypeBelow k b.value) (λ b. b.id < k) (λ b h. h.0) s.types (solve_keeps_plain k n unit_limit [] ps ds next s tt hp hd e).2
 
 -- of a typed try
 pub try_bound : (n : ℕ) (d : Declared) → IsStandard d → (P : List Clause) → EachOf (IsProgramTyped d) P → (q : Query) (y : BranchTyping) (k : ℕ)
@@ -52,7 +53,7 @@ try_bound n d std P program q y k vs h g t e b w last s q' =
     (pairs_plain n d std P program q y k vs h g t e b w E.0 E.1 E.2) in
     let es = eqs_plain n d std P program q y k vs h g t e b w E.0 E.1 E.2 in
     let ds = each_more (IsPlainPair b.next_type) (IsPlainPair (b.next_type + k)) (pair_more b.next_type (b.next_type + k) (omega arith)) b.pairs w.branch.pairs in
-    each_more _ (λ b'. b'.id < b.next_type + k) (λ b' h'. h'.0) s.types
+    each_more (λ c. (c.id < b.next_type + k) × IsTypeBelow (b.next_type + k) c.value) (λ c. c.id < b.next_type + k) (λ c h'. h'.0) s.types
     (solve_keeps_plain (b.next_type + k) n unit_limit (type_pairs (head_of t) (head_of x))
     (pairs_of (slotted (slots_of [] (arguments x) (arguments t)) b.next e.level) e.level [] (arguments x) (arguments t)) b.pairs last s es ps ds q').2
 
