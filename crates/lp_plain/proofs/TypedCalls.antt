@@ -3,7 +3,7 @@ use Rattle.std.proofs.Common.{◌≡◌, Bool, true, false, ℕ, zero, suc, List
 use Rattle.std.specs.Prelude.{if◌then◌else◌, slice_index_or}
 use Rattle.lp_calculus.specs.Closed.{AllAtoms}
 use Rattle.lp_calculus.specs.Spine.{head_of}
-use Rattle.lp_calculus.specs.Types.{Ty}
+use Rattle.lp_calculus.specs.Types.{Ty, arrow}
 use Rattle.lp_calculus.specs.Term.{Term, Atom, index, atom, abs, app, constant, integer, text, eigen, logic, param}
 use Rattle.lp_calculus.specs.Typing.{HasType, Scheme, atom_type, o_type, scheme_type}
 use Rattle.lp_lemmas.specs.Each.{EachOf}
@@ -40,7 +40,7 @@ atoms_typed : (τ : Atom → Option Ty) (C : List Ty) (t : Term) (T : Ty) → Ha
 atoms_typed τ C (index i) T w = tt
 atoms_typed τ C (atom a) T w = (T, w)
 atoms_typed τ C (abs b) T w = atoms_typed τ (w.0 ∷ C) b w.1 w.3
-atoms_typed τ C (app t u) T w = (atoms_typed τ C t _ w.1, atoms_typed τ C u w.0 w.2)
+atoms_typed τ C (app t u) T w = (atoms_typed τ C t (arrow w.0 T) w.1, atoms_typed τ C u w.0 w.2)
 
 head_atoms : (P : Atom → Type 0) (t : Term) → AllAtoms P t → AllAtoms P (head_of t)
 head_atoms P (index i) h = tt
