@@ -1,11 +1,13 @@
 -- A unification in front of the goals behind an atom, as moves of the definition.
-use Rattle.std.proofs.Common.{◌≡◌, ℕ, suc, List, [], ◌∷◌, ◌++◌, length, refl, sym, ap, inl, inr, ◌∙◌, subst, arith, Option, None, Some, Bool}
+use Rattle.std.proofs.Common.{◌≡◌, ◌≤◌, ℕ, suc, List, [], ◌∷◌, ◌++◌, length, refl, sym, ap, inl, inr, ◌∙◌, subst, arith, Option, None, Some, Bool}
 use Rattle.lp_calculus.specs.Fill.{Within}
+use Rattle.lp_calculus.specs.Types.{var}
 use Rattle.lp_model.specs.Branch.{Answer, Branch, Go, Lack, Stop, Task, resume}
 use Rattle.lp_model.specs.Flat.{Clause}
 use Rattle.lp_model.specs.Pair.{Closing, closed}
 use Rattle.lp_model.specs.Search.{follow, look, types_from, vars_from}
 use Rattle.lp_model.specs.Skeleton.{GoalName, GoalNote, Goes, Inner, State, Takes, View, back, move, move_at, move_view}
+use Rattle.lp_model.specs.Types.{put_types}
 use Rattle.lp_model.specs.Unify.{State as Solved, Unified as Outcome, Fail, Solution, Spent, unit_limit}
 use Rattle.lp_model.specs.declared.ending.Ending.TheVariants.{Deep}
 use Rattle.lp_pattern.specs.Growing.{GoesOn}
@@ -18,7 +20,7 @@ use Rattle.lp_plain.specs.declared.outcome.Turn.{Turn}
 use Rattle.lp_plain.specs.declared.unified.Unified.{Unified}
 use Rattle.lp_plain.specs.Assuming.{GrowsAt, IsPlaceAt, lists_of}
 use Rattle.lp_plain.specs.Entries.{Around, GrowsGoals, Reads}
-use Rattle.lp_plain.specs.Moving.{AreEntriesUnder, AreFew, HasAlternatives, HasFreeTypes, IsGoingOn, IsBranchUnder, IsCounted, IsState, Leads, Query, mark_in, turn_for}
+use Rattle.lp_plain.specs.Moving.{AreEntriesUnder, AreFew, HasAlternatives, IsGoingOn, IsBranchUnder, IsCounted, IsState, Leads, Query, mark_in, turn_for}
 use Rattle.lp_plain.specs.Resuming.{AllTerms, AreKnownEntries}
 use Rattle.lp_plain.specs.Stacks.{base_of}
 use Rattle.lp_plain.specs.Unifying.{IsBoundIn, IsUnifiedAs, StandPairs}
@@ -28,11 +30,11 @@ use Rattle.lp_plain.proofs.Grown.{grown_on, grown_still, placed_on, same_around}
 use Rattle.lp_plain.proofs.Growing.{reads_later}
 use Rattle.lp_plain.proofs.Opening.{bank_stands}
 use Rattle.lp_plain.proofs.QuietMoves.{by_lost}
+use Rattle.lp_plain.proofs.Resumed.{variable_behind}
 use Rattle.lp_plain.proofs.ResumedUnder.{known_behind, resumed_under, terms_known, types_behind, values_behind}
 use Rattle.lp_plain.proofs.TryGrows.{bound_more}
 
-module _ (qv : Query) (m n : Machine) (a : Around) (raw rest : Branch) (below : List Task) (h : IsGoingOn qv m a raw rest below) (p : Place) (pl : IsPlaceAt (lists_of m) a p) (b : IsBoundIn m n) (residual : StandPairs m → StandPairs n)
-    (free : HasFreeTypes n) where
+module _ (qv : Query) (m n : Machine) (a : Around) (raw rest : Branch) (below : List Task) (h : IsGoingOn qv m a raw rest below) (p : Place) (pl : IsPlaceAt (lists_of m) a p) (b : IsBoundIn m n) (residual : StandPairs m → StandPairs n) where
   grows : GrowsGoals m n
   grows =
       let g = bound_more m n b in
@@ -59,7 +61,8 @@ module _ (qv : Query) (m n : Machine) (a : Around) (raw rest : Branch) (below : 
       }
 
   -- a solution
-  module _ (st : Solved) (z : Closing) (reading : IsOpenReading n.bank n.bindings n.branch.next z) (found : IsFound h.levels m.branch.next h.closing n.bank n.branch.next n.branch.pairs.items z st) where
+  module _ (st : Solved) (z : Closing) (reading : IsOpenReading n.bank n.bindings n.branch.next z) (found : IsFound h.levels m.branch.next h.closing n.bank n.branch.next n.branch.pairs.items z st)
+      (free : (x : ℕ) → n.branch.next_type ≤ x → z.types x ≡ var x) where
     abbrev base : ℕ
     base = base_of m.denied
 
@@ -88,7 +91,7 @@ module _ (qv : Query) (m n : Machine) (a : Around) (raw rest : Branch) (below : 
         goals = known_behind h.levels m.branch.next h.closing n.bank n.branch.next n.branch.pairs.items z st found raw.goals known;
         values = terms_known h.levels m.branch.next h.closing n.bank n.branch.next n.branch.pairs.items z st found (vars_from qv.vars 0) values_known;
         pairs = found.known;
-        free = free z reading;
+        free = free;
       };
     }
 
@@ -131,7 +134,8 @@ module _ (qv : Query) (m n : Machine) (a : Around) (raw rest : Branch) (below : 
     second : (x : Task) (ts : List Task) → move go see (after (x ∷ ts)) ≡ move_view go j w s.given s.rows s.rows s.lost (ts ++ below) (see (length (ts ++ below)) x)
     second x ts = by_lost go see j w s.given s.rows s.rows s.lost x (ts ++ below)
 
-    module _ (counted : (ts : List Task) → IsCounted n (after ts)) where
+    module _ (counted : (ts : List Task) → IsCounted n (after ts))
+        (free : (st : Solved) → o ≡ Some (Solution st) → (c : Closing) → ((x : ℕ) → c.types x ≡ put_types st.types (h.closing.types x)) → (x : ℕ) → n.branch.next_type ≤ x → c.types x ≡ var x) where
       lacks : follow rest o ≡ Lack ∷ [] → (turn : Turn) → Leads 1 qv turn n go see s
       lacks e turn = inr (inr (1, GoalNote name ∷ [], after (Lack ∷ []), first_move (Lack ∷ []) e, sym ea, refl, inr (0, [], second Lack [])))
 
@@ -141,16 +145,16 @@ module _ (qv : Query) (m n : Machine) (a : Around) (raw rest : Branch) (below : 
       deep : follow rest o ≡ Stop Deep ∷ [] → Leads 1 qv (Turn.Ended Deep) n go see s
       deep e = inr (inr (1, GoalNote name ∷ [], after (Stop Deep ∷ []), first_move (Stop Deep ∷ []) e, sym ea, refl, inl (second (Stop Deep) [])))
 
-      solves : (st : Solved) → follow rest o ≡ Go (resume rest st) ∷ [] → (z : Closing) → IsOpenReading n.bank n.bindings n.branch.next z →
+      solves : (st : Solved) → o ≡ Some (Solution st) → follow rest o ≡ Go (resume rest st) ∷ [] → (z : Closing) → IsOpenReading n.bank n.bindings n.branch.next z →
           IsFound h.levels m.branch.next h.closing n.bank n.branch.next n.branch.pairs.items z st → Leads 1 qv Turn.On n go see s
-      solves st e z r found =
-          inl (1, GoalNote name ∷ [], after (Go (resume rest st) ∷ []), first_move (Go (resume rest st) ∷ []) e, goes_on st z r found (after (Go (resume rest st) ∷ [])) refl (counted (Go (resume rest st) ∷ [])), sym ea, refl)
+      solves st q e z r found =
+          inl (1, GoalNote name ∷ [], after (Go (resume rest st) ∷ []), first_move (Go (resume rest st) ∷ []) e, goes_on st z r found (free st q z (variable_behind h.levels m.branch.next h.closing n.bank n.branch.next n.branch.pairs.items z st found)) (after (Go (resume rest st) ∷ [])) refl (counted (Go (resume rest st) ∷ [])), sym ea, refl)
 
       by_outcome : (u : Unified) (x : Option Outcome) → AreFew (turn_for u) enough → o ≡ x → ((y : Outcome) → x ≡ Some y → IsUnifiedAs u h.levels m.branch.next h.closing n enough y) → Leads 1 qv (turn_for u) n go see s
       by_outcome u None few e k = lacks (ap (follow rest) e) (turn_for u)
       by_outcome Unified.Fits (Some Fail) few e k = absurd (k Fail refl)
       by_outcome Unified.Fits (Some Spent) few e k = absurd (k Spent refl)
-      by_outcome Unified.Fits (Some (Solution st)) few e k = let y = k (Solution st) refl in solves st (ap (follow rest) e) y.0 y.1 y.2
+      by_outcome Unified.Fits (Some (Solution st)) few e k = let y = k (Solution st) refl in solves st e (ap (follow rest) e) y.0 y.1 y.2
       by_outcome Unified.Fails (Some y) few e k = fails (ap (follow rest) (e ∙ ap (λ q. Some q) (k y refl)))
       by_outcome Unified.Deep (Some y) few e k = deep (ap (follow rest) (e ∙ ap (λ q. Some q) (k y refl (let l = few refl in omega (arith, l)))))
 

@@ -407,10 +407,6 @@ turn_for Unified.Fits = Turn.On
 turn_for Unified.Fails = Turn.Back
 turn_for Unified.Deep = Turn.Ended Deep
 
--- no type variable from the next one on is bound
-abbrev pub HasFreeTypes : Machine → Type 0
-HasFreeTypes m = (z : Closing) → IsOpenReading m.bank m.bindings m.branch.next z → (x : ℕ) → m.branch.next_type ≤ x → z.types x ≡ var x
-
 -- a run has told no answer, and not how it ends
 abbrev pub IsSilent : Told Answer → Type 0
 IsSilent t = (t.answers ≡ []) × (t.ending ≡ None)
