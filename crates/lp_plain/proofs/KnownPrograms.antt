@@ -29,7 +29,7 @@ module _ (P : Atom → Type 0) where
 
   all_within : (d : ℕ) (vs : List Ty) (t : Term) → Within P d (all_of vs t) → Within P (length vs + d) t
   all_within d [] t w = subst (λ n. Within P n t) (let z : d ≡ 0 + d = omega arith in z) w
-  all_within d (T ∷ vs) t w = subst (λ n. Within P n t) (let z : suc (length vs + d) ≡ suc (length vs) + d = omega arith in z) (all_within d vs (two number.Implies [] (formula_of_goals (goals g gs)) x) w).1
+  all_within d (T ∷ vs) t w = subst (λ n. Within P n t) (let z : suc (length vs + d) ≡ suc (length vs) + d = omega arith in z) (all_within d vs (pi_of T (abs t)) w).1
 
   -- one of these clauses
   each_within : (d : ℕ) (cs : Clauses) → Within P d (formula_of_clauses cs) → EachOf (λ c. Within P d (formula_of_clause c)) (clause_list cs)
