@@ -37,10 +37,11 @@ use Rattle.lp_plain.specs.Candidates.{IsIndex, numbers}
 use Rattle.lp_plain.specs.Entries.{Around}
 use Rattle.lp_plain.specs.Cuts.{one_step}
 use Rattle.lp_plain.specs.Forms.{IsCall, IsFirst}
-use Rattle.lp_plain.specs.Moving.{HasFreeTypes, IsBack, IsGoingOn, IsRunning, KeepsSearch, Leads, LeadsTo, Query}
+use Rattle.lp_plain.specs.Moving.{IsBack, IsGoingOn, IsRunning, KeepsSearch, Leads, LeadsTo, Query}
 use Rattle.lp_plain.specs.Starts.{AreProgramOf}
 use Rattle.lp_plain.specs.Trials.{IsCallHead}
 use Rattle.lp_plain.specs.Trying.{AreApplied, HasArity, all_clauses}
+use Rattle.lp_plain.specs.TypedStates.{IsTypedOver}
 use Rattle.lp_plain.specs.WrittenTable.{StandsWritten}
 use Rattle.lp_plain.proofs.AtomMoves.{behind, by_seen, called_same, f, looked, same_or_abs, waits}
 use Rattle.lp_plain.proofs.AtomTurns.{left, place_stepped, stepped, steps_are}
@@ -51,6 +52,7 @@ use Rattle.lp_plain.proofs.KnownForms.{normal_within}
 use Rattle.lp_plain.proofs.LeftOut.{call_mapped}
 use Rattle.lp_plain.proofs.QuietMoves.{by_lost}
 use Rattle.lp_plain.proofs.SeenGoals.{IsAbs}
+use Rattle.lp_plain.proofs.TypedMoves.{IsMoveTyped, typed_move}
 use Rattle.lp_plain.proofs.WrittenSearches.{same_lists}
 
 at_least : (a b : ℕ) → nat_le a b ≡ true → a ≤ b
@@ -103,7 +105,18 @@ leads_more qv turn n go see s (inr (inr (k, ns, t, e, a, g, h))) = inr (inr (k, 
 
 -- over one program
 pub over_one : (qv : Query) (turn : Turn) (n : Machine) (s : State Task) → LeadsTo 1 qv turn n s → (P : List Clause) → LeadsOver 2 qv turn n s P
-over_one qv turn n s l P = λ w ea go enough few. leads_more qv turn n go (look unit_limit enough P) s (l w ea go enough few P)
+over_one qv turn n s l P = λ w ea go enough few ty. leads_more qv turn n go (look unit_limit enough P) s (l w ea go enough few P ty)
+
+-- a move leads from a typed state to a typed one
+typed_after : (ar : ℕ → ℕ) (enough : ℕ) (P : List Clause) (go : (Answer → Bool) → State Task → Inner) (s t : State Task) (k : ℕ) (ns : List Note) → move go (look unit_limit enough P) s ≡ Goes k ns t → IsTypedOver ar enough P s → IsTypedOver ar enough P t
+typed_after ar enough P go s t k ns e ty = record {
+  declared = ty.declared;
+  takes = ty.takes;
+  standard = ty.standard;
+  program = ty.program;
+  query = ty.query;
+  typed = subst (IsMoveTyped enough ty.declared P ty.query) e (typed_move enough ty.declared P ty.query ty.standard ty.program go s ty.typed);
+}
 
 -- two moves, the first of which is the step
 step_then : (qv : Query) (turn : Turn) (n : Machine) (go : (Answer → Bool) → State Task → Inner) (see : ℕ → Task → View Task Answer) (s t : State Task) (k : ℕ) (ns : List Note) → move go see s ≡ Goes k ns t → t.answers ≡ s.answers → t.given ≡ s.given →
@@ -199,7 +212,7 @@ module _ (qv : Query) (m c : Machine) (a : Around) (raw : Branch) (s : State Tas
 
     -- the turn of the call, over the program of the search
     pub call_leads : ((i : ℕ) (t : Term) → head_normal i F.goal ≡ Some t → connective_of t ≡ connective.Atomic → HasArity qv.arity (head_of t)) → (n : Machine) (turn : Turn) → CallLeads c n p u hd first o turn → c.branch.goals ≡ o → LeadsOf m n qv turn s
-    call_leads arity n turn leads front css r sw free = λ w ea go enough few.
+    call_leads arity n turn leads front css r sw = λ w ea go enough few ty.
         let P = all_clauses css in
         let see = look unit_limit enough P in
         let work = behind qv m a raw s h p u o at in
@@ -216,5 +229,5 @@ module _ (qv : Query) (m c : Machine) (a : Around) (raw : Branch) (s : State Tas
         let moved : closed h.closing x ≡ closed h.closing (tree c.bank u.0) = ap (λ b. closed h.closing (tree b u.0)) (sym k.goals.known.bank) in
         step_then qv turn n go see s after 1 (GoalNote seen.name ∷ back ts h.rest) first_move (sym ea) refl
         (leads front qv a (with_goals raw at.rest) work h.rest g F.first (at_call (seen.arity_is (arity enough t q seen.atomic)) known) css (program_later m c (subst (Extends m.bank) (sym k.goals.known.bank) (extends_same m.bank)) k.goals.known.table k.goals.known.index qv.arity css r)
-        (same_lists m c h.above.done.stands (grows_kept m c k.goals) (ap (λ v. v.items) k.frames) (ap (λ v. v.items) k.assumed.assumptions) qv.arity sw) free after w refl (step_counted qv m c a raw s h ct (suc w) (ts ++ h.rest)) go enough few
+        (same_lists m c h.above.done.stands (grows_kept m c k.goals) (ap (λ v. v.items) k.frames) (ap (λ v. v.items) k.assumed.assumptions) qv.arity sw) after w refl (step_counted qv m c a raw s h ct (suc w) (ts ++ h.rest)) go enough few (typed_after qv.arity enough P go s after 1 (GoalNote seen.name ∷ back ts h.rest) first_move ty)
         (ap (λ y. tries P F.first work (length h.rest) (goal_looked enough y) ++ h.rest) (seen.same ∙ moved))))

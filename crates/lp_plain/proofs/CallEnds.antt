@@ -22,7 +22,7 @@ use Rattle.lp_plain.specs.Assuming.{HasAssumed, lists_of}
 use Rattle.lp_plain.specs.Calling.{CallLeads, IsAtCall, IsLookedAs, IsProgramIn}
 use Rattle.lp_plain.specs.Entries.{Around}
 use Rattle.lp_plain.specs.HeadLooks.{LooksAt, OnlyBank, with_bank}
-use Rattle.lp_plain.specs.Moving.{HasFreeTypes, IsGoingOn, IsTrying, LeadsTo, Query}
+use Rattle.lp_plain.specs.Moving.{IsGoingOn, IsTrying, LeadsTo, Query}
 use Rattle.lp_plain.specs.Trials.{goal_of}
 use Rattle.lp_plain.specs.Trying.{AreApplied, AreOfProgram, AreTriesApart, HasProgram, IsCallOf, all_clauses, first_in}
 use Rattle.lp_plain.specs.WrittenTable.{StandsWritten}
@@ -42,7 +42,7 @@ IsApart n call found =
 -- its first argument is too deep
 pub deep_leads : (m n : Machine) (b : Nodes) → Extends m.bank b → (p : Place) (goal : TermId) (hd : Head) (first : Option TermId) (behind : Option ℕ) → IsLookedAs m n (plain_call p goal hd behind) first None → CallLeads m n p goal hd first behind (Turn.Ended Deep)
 deep_leads m n b x p goal hd None behind h = absurd h
-deep_leads m n b x p goal hd (Some u) behind h = λ eb qv a rest work below g e c css pr sw ft s k ea ct go enough few es.
+deep_leads m n b x p goal hd (Some u) behind h = λ eb qv a rest work below g e c css pr sw s k ea ct go enough few ty es.
     let l = few refl in
     let q = deep_looked qv m b x a rest work below g p goal hd (Some u) e c css pr None None u refl enough (omega (arith, l)) h in
     inl (lacks_on qv (Turn.Ended Deep) n go enough (all_clauses css) s k below ea (es ∙ ap (λ o. tries (all_clauses css) e work (length below) o ++ below) q))
@@ -72,7 +72,7 @@ module _ (m : Machine) (b : Nodes) (x : Extends m.bank b) (p : Place) (goal : Te
     d = made lk
 
     pub none_leads : found ≡ None → CallLeads m n p goal hd first behind Turn.Back
-    none_leads none eb qv a rest work below g e c css pr sw ft s k ea ct go enough few es =
+    none_leads none eb qv a rest work below g e c css pr sw s k ea ct go enough few ty es =
         let seen = d.seen qv a rest work below g e c css pr in
         let same : call ≡ record { goal = goal; head = hd; first = d.looked; key = d.key; place = p; behind = m.branch.goals } = d.is ∙ ap (λ o. record { goal = goal; head = hd; first = d.looked; key = d.key; place = p; behind = o }) (sym eb) in
         let f = found_by qv m b x a rest work below g p goal hd first e c css pr d.looked d.key seen found (subst (λ y. IsApart n y found) same apart) in
@@ -82,8 +82,8 @@ module _ (m : Machine) (b : Nodes) (x : Extends m.bank b) (p : Place) (goal : Te
               inr (refl, none_back qv m b x a rest work below g p goal hd first e c css pr d.looked d.key seen found f s (es ∙ ap (λ o. tries (all_clauses css) e work (length below) o ++ below) q) ct none)
         ]
 
-    pub some_leads : (one : Candidate) → found ≡ Some one → (r : Machine) (turn : Turn) → ((qv : Query) (a : Around) (s : State Task) → IsTrying qv n a call one s → StandsWritten n qv.arity → HasFreeTypes r → LeadsTo 1 qv turn r s) → CallLeads m r p goal hd first behind turn
-    some_leads one some r turn leads eb qv a rest work below g e c css pr sw ft s k ea ct go enough few es =
+    pub some_leads : (one : Candidate) → found ≡ Some one → (r : Machine) (turn : Turn) → ((qv : Query) (a : Around) (s : State Task) → IsTrying qv n a call one s → StandsWritten n qv.arity → LeadsTo 1 qv turn r s) → CallLeads m r p goal hd first behind turn
+    some_leads one some r turn leads eb qv a rest work below g e c css pr sw s k ea ct go enough few ty es =
         let seen = d.seen qv a rest work below g e c css pr in
         let same : call ≡ record { goal = goal; head = hd; first = d.looked; key = d.key; place = p; behind = m.branch.goals } = d.is ∙ ap (λ o. record { goal = goal; head = hd; first = d.looked; key = d.key; place = p; behind = o }) (sym eb) in
         let f = found_by qv m b x a rest work below g p goal hd first e c css pr d.looked d.key seen found (subst (λ y. IsApart n y found) same apart) in
@@ -91,7 +91,7 @@ module _ (m : Machine) (b : Nodes) (x : Extends m.bank b) (p : Place) (goal : Te
           | inl q ↦ inl (lacks_on qv turn r go enough (all_clauses css) s k below ea (es ∙ ap (λ o. tries (all_clauses css) e work (length below) o ++ below) q))
           | inr q ↦
               (let trying = some_trying qv m b x a rest work below g p goal hd first e c css pr d.looked d.key seen found f s (es ∙ ap (λ o. tries (all_clauses css) e work (length below) o ++ below) q) ct one some in
-              inl (leads qv a s (subst (λ y. IsTrying qv n a y one s) (sym same) trying) (same_lists m n g.above.done.stands (bank_goals m b x) refl refl qv.arity sw) ft k ea go enough few (all_clauses css)))
+              inl (leads qv a s (subst (λ y. IsTrying qv n a y one s) (sym same) trying) (same_lists m n g.above.done.stands (bank_goals m b x) refl refl qv.arity sw) k ea go enough few (all_clauses css) ty))
         ]
 
 -- the same where the machine is known to have grown in its bank alone
@@ -105,7 +105,7 @@ module _ (m n : Machine) (o : OnlyBank m n) (p : Place) (goal : TermId) (hd : He
   pub none_on : found ≡ None → CallLeads m n p goal hd first behind Turn.Back
   none_on none = subst (λ y. CallLeads m y p goal hd first behind Turn.Back) (sym o.same) (none_leads m n.bank o.bank p goal hd first behind call looked_on found apart_on none)
 
-  pub some_on : (one : Candidate) → found ≡ Some one → (r : Machine) (turn : Turn) → ((qv : Query) (a : Around) (s : State Task) → IsTrying qv n a call one s → StandsWritten n qv.arity → HasFreeTypes r → LeadsTo 1 qv turn r s) → CallLeads m r p goal hd first behind turn
+  pub some_on : (one : Candidate) → found ≡ Some one → (r : Machine) (turn : Turn) → ((qv : Query) (a : Around) (s : State Task) → IsTrying qv n a call one s → StandsWritten n qv.arity → LeadsTo 1 qv turn r s) → CallLeads m r p goal hd first behind turn
   some_on one some r turn leads =
       some_leads m n.bank o.bank p goal hd first behind call looked_on found apart_on one some r turn
-      (subst (λ y. (qv : Query) (a : Around) (s : State Task) → IsTrying qv y a call one s → StandsWritten y qv.arity → HasFreeTypes r → LeadsTo 1 qv turn r s) o.same leads)
+      (subst (λ y. (qv : Query) (a : Around) (s : State Task) → IsTrying qv y a call one s → StandsWritten y qv.arity → LeadsTo 1 qv turn r s) o.same leads)

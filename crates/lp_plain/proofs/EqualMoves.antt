@@ -1,11 +1,13 @@
 -- A unification in front of the goals behind an atom, as moves of the definition.
-use Rattle.std.proofs.Common.{◌≡◌, ℕ, suc, List, [], ◌∷◌, ◌++◌, length, refl, sym, ap, inl, inr, ◌∙◌, subst, arith, Option, None, Some, Bool}
+use Rattle.std.proofs.Common.{◌≡◌, ◌≤◌, ℕ, suc, List, [], ◌∷◌, ◌++◌, length, refl, sym, ap, inl, inr, ◌∙◌, subst, arith, Option, None, Some, Bool}
 use Rattle.lp_calculus.specs.Fill.{Within}
+use Rattle.lp_calculus.specs.Types.{var}
 use Rattle.lp_model.specs.Branch.{Answer, Branch, Go, Lack, Stop, Task, resume}
 use Rattle.lp_model.specs.Flat.{Clause}
 use Rattle.lp_model.specs.Pair.{Closing, closed}
 use Rattle.lp_model.specs.Search.{follow, look, types_from, vars_from}
 use Rattle.lp_model.specs.Skeleton.{GoalName, GoalNote, Goes, Inner, State, Takes, View, back, move, move_at, move_view}
+use Rattle.lp_model.specs.Types.{put_types}
 use Rattle.lp_model.specs.Unify.{State as Solved, Unified as Outcome, Fail, Solution, Spent, unit_limit}
 use Rattle.lp_model.specs.declared.ending.Ending.{Ending}
 use Rattle.lp_model.specs.declared.ending.Ending.TheVariants.{Deep}
@@ -19,7 +21,7 @@ use Rattle.lp_plain.specs.declared.outcome.Turn.{Turn}
 use Rattle.lp_plain.specs.declared.unified.Unified.{Unified}
 use Rattle.lp_plain.specs.Assuming.{GrowsAt, IsPlaceAt, lists_of}
 use Rattle.lp_plain.specs.Entries.{Around, GrowsGoals, Reads}
-use Rattle.lp_plain.specs.Moving.{AreEntriesUnder, AreFew, HasAlternatives, HasFreeTypes, IsGoingOn, IsBranchUnder, IsCounted, IsState, Leads, Query, mark_in, turn_for}
+use Rattle.lp_plain.specs.Moving.{AreEntriesUnder, AreFew, HasAlternatives, IsGoingOn, IsBranchUnder, IsCounted, IsState, Leads, Query, mark_in, turn_for}
 use Rattle.lp_plain.specs.Resuming.{AllTerms, AreKnownEntries}
 use Rattle.lp_plain.specs.Stacks.{base_of}
 use Rattle.lp_plain.specs.Unifying.{IsBoundIn, IsUnifiedAs, StandPairs}
@@ -30,11 +32,11 @@ use Rattle.lp_plain.proofs.Growing.{reads_later}
 use Rattle.lp_plain.proofs.Inside.{inside_still}
 use Rattle.lp_plain.proofs.Opening.{bank_stands}
 use Rattle.lp_plain.proofs.QuietMoves.{by_lost}
+use Rattle.lp_plain.proofs.Resumed.{variable_behind}
 use Rattle.lp_plain.proofs.ResumedUnder.{known_behind, resumed_under, terms_known, types_behind, values_behind}
 use Rattle.lp_plain.proofs.TryGrows.{bound_more}
 
-module _ (qv : Query) (m n : Machine) (a : Around) (raw rest : Branch) (below : List Task) (h : IsGoingOn qv m a raw rest below) (p : Place) (pl : IsPlaceAt (lists_of m) a p) (b : IsBoundIn m n) (residual : StandPairs m → StandPairs n)
-    (free : HasFreeTypes n) where
+module _ (qv : Query) (m n : Machine) (a : Around) (raw rest : Branch) (below : List Task) (h : IsGoingOn qv m a raw rest below) (p : Place) (pl : IsPlaceAt (lists_of m) a p) (b : IsBoundIn m n) (residual : StandPairs m → StandPairs n) where
   grows : GrowsGoals m n
   grows =
       let g = bound_more m n b in
@@ -61,8 +63,13 @@ module _ (qv : Query) (m n : Machine) (a : Around) (raw rest : Branch) (below : 
         inside = inside_still qv m n a a st gr lt b.bindings h.above.inside h.above.done.base ch;
       }
 
+  -- behind a solution no type variable is bound that is still to come
+  abbrev pub StaysFree : Solved → Type 0
+  StaysFree st = (c : Closing) → ((x : ℕ) → c.types x ≡ put_types st.types (h.closing.types x)) → (x : ℕ) → n.branch.next_type ≤ x → c.types x ≡ var x
+
   -- a solution
-  module _ (st : Solved) (z : Closing) (reading : IsOpenReading n.bank n.bindings n.branch.next z) (found : IsFound h.levels m.branch.next h.closing n.bank n.branch.next n.branch.pairs.items z st) where
+  module _ (st : Solved) (z : Closing) (reading : IsOpenReading n.bank n.bindings n.branch.next z) (found : IsFound h.levels m.branch.next h.closing n.bank n.branch.next n.branch.pairs.items z st)
+      (free : (x : ℕ) → n.branch.next_type ≤ x → z.types x ≡ var x) where
     abbrev base : ℕ
     base = base_of m.denied
 
@@ -91,7 +98,7 @@ module _ (qv : Query) (m n : Machine) (a : Around) (raw rest : Branch) (below : 
         goals = known_behind h.levels m.branch.next h.closing n.bank n.branch.next n.branch.pairs.items z st found raw.goals known;
         values = terms_known h.levels m.branch.next h.closing n.bank n.branch.next n.branch.pairs.items z st found (vars_from qv.vars 0) values_known;
         pairs = found.known;
-        free = free z reading;
+        free = free;
       };
     }
 
@@ -144,18 +151,28 @@ module _ (qv : Query) (m n : Machine) (a : Around) (raw rest : Branch) (below : 
       pub stops : (f : Ending) → tasks ≡ Stop f ∷ [] → Leads 1 qv (Turn.Ended f) n go see s
       stops f e = inr (inr (1, GoalNote name ∷ [], after (Stop f ∷ []), first_move (Stop f ∷ []) e, sym ea, refl, inl (second (Stop f) [])))
 
-      solves : (st : Solved) → tasks ≡ Go (resume rest st) ∷ [] → (z : Closing) → IsOpenReading n.bank n.bindings n.branch.next z →
+      solves : (st : Solved) → tasks ≡ Go (resume rest st) ∷ [] → StaysFree st → (z : Closing) → IsOpenReading n.bank n.bindings n.branch.next z →
           IsFound h.levels m.branch.next h.closing n.bank n.branch.next n.branch.pairs.items z st → Leads 1 qv Turn.On n go see s
-      solves st e z r found =
-          inl (1, GoalNote name ∷ [], after (Go (resume rest st) ∷ []), first_move (Go (resume rest st) ∷ []) e, goes_on st z r found (after (Go (resume rest st) ∷ [])) refl (counted (Go (resume rest st) ∷ [])), sym ea, refl)
+      solves st e free z r found =
+          inl (
+            1,
+            GoalNote name ∷ [],
+            after (Go (resume rest st) ∷ []),
+            first_move (Go (resume rest st) ∷ []) e,
+            goes_on st z r found (free z (variable_behind h.levels m.branch.next h.closing n.bank n.branch.next n.branch.pairs.items z st found)) (after (Go (resume rest st) ∷ [])) refl (counted (Go (resume rest st) ∷ [])),
+            sym ea,
+            refl,
+          )
 
-      by_outcome : (u : Unified) (x : Option Outcome) → AreFew (turn_for u) enough → tasks ≡ follow rest x → ((y : Outcome) → x ≡ Some y → IsUnifiedAs u h.levels m.branch.next h.closing n enough y) → Leads 1 qv (turn_for u) n go see s
-      by_outcome u None few e k = lacks e (turn_for u)
-      by_outcome Unified.Fits (Some Fail) few e k = absurd (let z = k Fail refl in z)
-      by_outcome Unified.Fits (Some Spent) few e k = absurd (let z = k Spent refl in z)
-      by_outcome Unified.Fits (Some (Solution st)) few e k = let y = k (Solution st) refl in solves st e y.0 y.1 y.2
-      by_outcome Unified.Fails (Some y) few e k = fails (e ∙ ap (λ q. follow rest (Some q)) (k y refl))
-      by_outcome Unified.Deep (Some y) few e k = stops Deep (e ∙ ap (λ q. follow rest (Some q)) (k y refl (let l = few refl in omega (arith, l))))
+      by_outcome : (u : Unified) (x : Option Outcome) → AreFew (turn_for u) enough → tasks ≡ follow rest x → ((y : Outcome) → x ≡ Some y → IsUnifiedAs u h.levels m.branch.next h.closing n enough y) → ((st : Solved) → x ≡ Some (Solution st) → StaysFree st) →
+          Leads 1 qv (turn_for u) n go see s
+      by_outcome u None few e k free = lacks e (turn_for u)
+      by_outcome Unified.Fits (Some Fail) few e k free = absurd (let z = k Fail refl in z)
+      by_outcome Unified.Fits (Some Spent) few e k free = absurd (let z = k Spent refl in z)
+      by_outcome Unified.Fits (Some (Solution st)) few e k free = let y = k (Solution st) refl in solves st e (free st refl) y.0 y.1 y.2
+      by_outcome Unified.Fails (Some y) few e k free = fails (e ∙ ap (λ q. follow rest (Some q)) (k y refl))
+      by_outcome Unified.Deep (Some y) few e k free = stops Deep (e ∙ ap (λ q. follow rest (Some q)) (k y refl (let l = few refl in omega (arith, l))))
 
-      pub unified_leads : (u : Unified) → AreFew (turn_for u) enough → (o : Option Outcome) → tasks ≡ follow rest o → ((y : Outcome) → o ≡ Some y → IsUnifiedAs u h.levels m.branch.next h.closing n enough y) → Leads 1 qv (turn_for u) n go see s
-      unified_leads u few o e k = by_outcome u o few e k
+      pub unified_leads : (u : Unified) → AreFew (turn_for u) enough → (o : Option Outcome) → tasks ≡ follow rest o → ((y : Outcome) → o ≡ Some y → IsUnifiedAs u h.levels m.branch.next h.closing n enough y) → ((st : Solved) → o ≡ Some (Solution st) → StaysFree st) →
+          Leads 1 qv (turn_for u) n go see s
+      unified_leads u few o e k free = by_outcome u o few e k free

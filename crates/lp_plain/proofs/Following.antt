@@ -12,6 +12,7 @@ use Rattle.lp_plain.specs.declared.machine.Machine.{Machine}
 use Rattle.lp_plain.specs.declared.outcome.Turn.{Turn}
 use Rattle.lp_plain.specs.Calling.{LeadsOver}
 use Rattle.lp_plain.specs.Moving.{AreFew, IsAnswer, IsAnswered, IsBack, IsMoved, IsState, IsWaiting, Leads, MovesTo, Query, Waiting}
+use Rattle.lp_plain.specs.TypedStates.{IsTypedOver}
 use Rattle.lp_plain.specs.inner.Following.{Comes, ComesOf, Course, IsOfQuery, Kept, Stands, behind_answer, behind_move, goes_on, seen_in}
 use Rattle.lp_plain.proofs.StepsLeft.{LeavesSteps, move_leaves}
 
@@ -179,11 +180,11 @@ moved_stands c qv n q turn s x h o =
     leads_stands c qv n q 0 turn s x (λ j. inl (h w.0 w.1 (inner (seen_in c) j) c.enough c.program)) o
 
 -- so is one that leads there, over the program
-pub led_over : (c : Course) (qv : Query) (n : Machine) → IsOfQuery c.query qv → (k : ℕ) (turn : Turn) (s : State Task) → IsInnerTurn qv.outer turn → LeadsOver k qv turn n s c.program → Comes c qv.outer s → Stands c turn n
-led_over c qv n q k turn s x h o = go turn x h
+pub led_over : (c : Course) (qv : Query) (n : Machine) → IsOfQuery c.query qv → (k : ℕ) (turn : Turn) (s : State Task) → IsInnerTurn qv.outer turn → IsTypedOver qv.arity c.enough c.program s → LeadsOver k qv turn n s c.program → Comes c qv.outer s → Stands c turn n
+led_over c qv n q k turn s x ty h o = go turn x h
   where
     go : (turn : Turn) → IsInnerTurn qv.outer turn → LeadsOver k qv turn n s c.program → Stands c turn n
-    go Turn.On x h = let w = wanted c qv.outer s o in leads_stands c qv n q k Turn.On s x (λ j. h w.0 w.1 (inner (seen_in c) j) c.enough (λ e. cc)) o
-    go Turn.Back x h = let w = wanted c qv.outer s o in leads_stands c qv n q k Turn.Back s x (λ j. h w.0 w.1 (inner (seen_in c) j) c.enough (λ e. cc)) o
-    go Turn.Answered x h = let w = wanted c qv.outer s o in leads_stands c qv n q k Turn.Answered s x (λ j. h w.0 w.1 (inner (seen_in c) j) c.enough (λ e. cc)) o
-    go (Turn.Ended e) x h = λ few. (let w = wanted c qv.outer s o in leads_stands c qv n q k (Turn.Ended e) s x (λ j. h w.0 w.1 (inner (seen_in c) j) c.enough few) o few)
+    go Turn.On x h = let w = wanted c qv.outer s o in leads_stands c qv n q k Turn.On s x (λ j. h w.0 w.1 (inner (seen_in c) j) c.enough (λ e. cc) ty) o
+    go Turn.Back x h = let w = wanted c qv.outer s o in leads_stands c qv n q k Turn.Back s x (λ j. h w.0 w.1 (inner (seen_in c) j) c.enough (λ e. cc) ty) o
+    go Turn.Answered x h = let w = wanted c qv.outer s o in leads_stands c qv n q k Turn.Answered s x (λ j. h w.0 w.1 (inner (seen_in c) j) c.enough (λ e. cc) ty) o
+    go (Turn.Ended e) x h = λ few. (let w = wanted c qv.outer s o in leads_stands c qv n q k (Turn.Ended e) s x (λ j. h w.0 w.1 (inner (seen_in c) j) c.enough few ty) o few)

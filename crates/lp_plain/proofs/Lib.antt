@@ -93,6 +93,10 @@ pub mod Others
 pub mod KnownUnder
 pub mod HeadFills
 pub mod ResumedUnder
+pub mod TypedTries
+pub mod TypedMoves
+pub mod TypedCalls
+pub mod TypedGoals
 pub mod TryMoves
 pub mod EqualMoves
 pub mod KnownForms
@@ -136,3 +140,7 @@ mod HeldMoves
 mod CallArm
 mod CallEnds
 mod CallForms
+pub mod ProgramTypes
+pub mod ProgramsWritten
+pub mod KnownPrograms
+pub mod TypedPrograms

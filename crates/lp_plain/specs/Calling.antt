@@ -32,9 +32,10 @@ use Rattle.lp_plain.specs.Entries.{Around, entry_at}
 use Rattle.lp_plain.specs.Forms.{IsFirst}
 use Rattle.lp_plain.specs.HeadLooks.{LooksAt, with_bank}
 use Rattle.lp_plain.specs.Heads.{IsKey}
-use Rattle.lp_plain.specs.Moving.{AreFew, HasFreeTypes, HasNoVariable, IsBack, IsCounted, IsGoingOn, IsPlaceUnder, IsRunning, Leads, Query}
+use Rattle.lp_plain.specs.Moving.{AreFew, HasNoVariable, IsBack, IsCounted, IsGoingOn, IsPlaceUnder, IsRunning, Leads, Query}
 use Rattle.lp_plain.specs.Resuming.{AllOfAssumed, AllOfClause, AllTerms}
 use Rattle.lp_plain.specs.Trials.{IsCallHead}
+use Rattle.lp_plain.specs.TypedStates.{IsTypedOver}
 use Rattle.lp_plain.specs.Trying.{AreApplied, AreOfProgram, HasArity, HasProgram, all_clauses, head_in}
 use Rattle.lp_plain.specs.Within.{IsKeyIn}
 use Rattle.lp_plain.specs.WrittenGoals.{IsProgramClause}
@@ -82,12 +83,12 @@ LeadsOn qv turn n go enough P s = Leads 1 qv turn n go (look unit_limit enough P
 abbrev pub CallLeads : (old new : Machine) → Place → (goal : TermId) → Head → (first : Option TermId) → (behind : Option ℕ) → Turn → Type 0
 CallLeads m n p goal head first behind turn =
     m.branch.goals ≡ behind → (qv : Query) (a : Around) (rest work : Branch) (below : List Task) (g : IsGoingOn qv m a rest work below) (e : Entry) → IsAtCall qv m a p goal head first g.closing g.levels rest.next e → (css : List Clauses) → IsProgramIn m qv.arity css →
-    StandsWritten m qv.arity → HasFreeTypes n → (s : State Task) (k : ℕ) → s.answers ≡ suc k → IsCounted m s → (go : (Answer → Bool) → State Task → Inner) (enough : ℕ) → AreFew turn enough →
+    StandsWritten m qv.arity → (s : State Task) (k : ℕ) → s.answers ≡ suc k → IsCounted m s → (go : (Answer → Bool) → State Task → Inner) (enough : ℕ) → AreFew turn enough → IsTypedOver qv.arity enough (all_clauses css) s →
     s.stack ≡ tries (all_clauses css) e work (length below) (goal_looked enough (closed g.closing (tree m.bank goal.0))) ++ below → LeadsOn qv turn n go enough (all_clauses css) s
 
 -- so over one program, for a turn that may be too deep
 abbrev pub LeadsOver : ℕ → Query → Turn → (new : Machine) → (before : State Task) → List Clause → Type 0
-LeadsOver j qv turn n s P = (k : ℕ) → s.answers ≡ suc k → (go : (Answer → Bool) → State Task → Inner) (enough : ℕ) → AreFew turn enough → Leads j qv turn n go (look unit_limit enough P) s
+LeadsOver j qv turn n s P = (k : ℕ) → s.answers ≡ suc k → (go : (Answer → Bool) → State Task → Inner) (enough : ℕ) → AreFew turn enough → IsTypedOver qv.arity enough P s → Leads j qv turn n go (look unit_limit enough P) s
 
 -- TO VANISH: no arithmetic, by the head and the arguments
 abbrev pub IsNoArithmetic : (head : Term) → List Term → Type 0
@@ -116,7 +117,7 @@ IsFirstIn k f = Unit {0}
 
 -- over the clauses of the search's program, which are written, this leads to the turn in three moves of the definition's search at most
 abbrev pub LeadsOf : (old new : Machine) → Query → Turn → (before : State Task) → Type 0
-LeadsOf m n qv turn s = (css : List Clauses) → IsProgramIn m qv.arity css → StandsWritten m qv.arity → HasFreeTypes n → LeadsOver 2 qv turn n s (all_clauses css)
+LeadsOf m n qv turn s = (css : List Clauses) → IsProgramIn m qv.arity css → StandsWritten m qv.arity → LeadsOver 2 qv turn n s (all_clauses css)
 
 -- the turn of an atom, as it was looked at
 abbrev pub AtomTurns : (old new : Machine) → Place → (goal : TermId) → Form → (behind : Option ℕ) → Turn → Type 0

@@ -11,7 +11,7 @@ ghost use Rattle.lp_plain.specs.Assuming.{KeepsAssumed};
 ghost use Rattle.lp_plain.specs.Calling.{AtomTurns, CallLeads, IsLookedAs};
 ghost use Rattle.lp_plain.specs.Entries.{Around, KeepsGoals};
 ghost use Rattle.lp_plain.specs.HeadLooks.{OnlyBank};
-ghost use Rattle.lp_plain.specs.Moving.{HasFreeTypes, IsAtGoal, IsAtTry, IsRunning, IsTrying, LeadsTo, MovesTo, Query};
+ghost use Rattle.lp_plain.specs.Moving.{IsAtGoal, IsAtTry, IsRunning, IsTrying, LeadsTo, MovesTo, Query};
 ghost use Rattle.lp_plain.specs.Stacks.{CutsTasks, HaveTasks, IsMarkOf};
 ghost use Rattle.lp_plain.specs.Within.{StandsIn};
 ghost use Rattle.lp_plain.specs.WrittenSearch.{IsWrittenSearch};
@@ -126,7 +126,7 @@ pub(crate) fn try_candidate(
     candidate: Candidate,
 ) -> Result<Turn, Memory>
     ensures written { OnOk result ((qv : Query) (a : Around) (s : State Task) → IsTrying qv machine.old a call.now candidate s → IsWrittenSearch machine.old qv.arity → IsWrittenSearch machine.new qv.arity) }
-    ensures leads { IfOk result (λ turn. (qv : Query) (a : Around) (s : State Task) → IsTrying qv machine.old a call.now candidate s → StandsWritten machine.old qv.arity → HasFreeTypes machine.new → LeadsTo 1 qv turn machine.new s) }
+    ensures leads { IfOk result (λ turn. (qv : Query) (a : Around) (s : State Task) → IsTrying qv machine.old a call.now candidate s → StandsWritten machine.old qv.arity → LeadsTo 1 qv turn machine.new s) }
 {
     let mark = machine.choices.len();
     put_others(machine, call, candidate)?;
@@ -204,7 +204,7 @@ pub(crate) fn take_atom<W: Watch>(
     behind: Option<usize>,
 ) -> Result<Turn, Memory>
     ensures leads { IfOk result (λ turn. (qv : Query) (a : Around) (raw : Branch) (s : State Task) (h : IsRunning qv machine.old a raw s) → IsAtLooked machine.old h.closing a place goal behind raw → IsAtomForm machine.old.bank (tree machine.old.bank goal.0) form →
-        HasNoCall h.at_work.goals → HasFreeTypes machine.new → LeadsTo 1 qv turn machine.new s) }
+        HasNoCall h.at_work.goals → LeadsTo 1 qv turn machine.new s) }
     ensures calls { IfOk result (AtomTurns machine.old machine.new place goal form behind) }
 {
     if !take_step(machine) {

@@ -85,13 +85,13 @@ returns-clause-written g c = λ e f got h l.
     (c.in_ok-turn-2.ensures.written e (subst IsApartFlat same h))
 
 pub returns-then-second-goals-clause-leads : goal.returns-then-second-goals-clause-leads
-returns-then-second-goals-clause-leads g c = λ qv a raw s h at af w nc ft.
+returns-then-second-goals-clause-leads g c = λ qv a raw s h at af w nc.
     let m = c.args.machine.now in
     c.in_ok-turn.ensures.leads qv a raw s h (at_last m a c.args.place c.args.goals c.args.behind raw c.in_ok-goal.goal c.in_ok-goal.ensures (omega (arith, c.if-second-goals.true, c.in-Some.ensures.1)) at) af
-    (first_written m qv.arity c.args.place c.args.goals c.in_ok-goal.goal c.in_ok-goal.ensures at.some w) nc ft
+    (first_written m qv.arity c.args.place c.args.goals c.in_ok-goal.goal c.in_ok-goal.ensures at.some w) nc
 
 pub returns-clause-leads : goal.returns-clause-leads
-returns-clause-leads g c = λ qv a raw s h at af w nc ft.
+returns-clause-leads g c = λ qv a raw s h at af w nc.
     let m = c.args.machine.now in
     let q = c.put_frame.new.self in
     let p = c.args.place in
@@ -101,16 +101,16 @@ returns-clause-leads g c = λ qv a raw s h at af w nc ft.
     (at_more m q a p c.args.goals (record { from = c.in-Some.second; to = c.args.goals.to }) c.args.behind c.in_ok-rest.rest raw c.in_ok-goal.goal c.in_ok-goal.ensures (c.in-Some.ensures.1 ∙ add-one c.args.goals.from) refl
     f.goals f.assumed f.reads at) af
     (flat_framed m q f.goals qv.arity p c.in_ok-goal.goal (first_written m qv.arity p c.args.goals c.in_ok-goal.goal c.in_ok-goal.ensures at.some w))
-    (subst (λ (z : Branch). HasNoCall z.goals) (sym (framed_work qv m q a p raw s f.goals f.course f.assumed f.frame st at.place h)) nc) ft
+    (subst (λ (z : Branch). HasNoCall z.goals) (sym (framed_work qv m q a p raw s f.goals f.course f.assumed f.frame st at.place h)) nc)
 
 pub returns-then-second-goals-clause-calls : goal.returns-then-second-goals-clause-calls
-returns-then-second-goals-clause-calls g c = λ qv a raw s h at af w callable css pr sw ft.
+returns-then-second-goals-clause-calls g c = λ qv a raw s h at af w callable css pr sw.
     let m = c.args.machine.now in
     c.in_ok-turn.ensures.calls qv a raw s h (at_last m a c.args.place c.args.goals c.args.behind raw c.in_ok-goal.goal c.in_ok-goal.ensures (omega (arith, c.if-second-goals.true, c.in-Some.ensures.1)) at) af
-    (first_written m qv.arity c.args.place c.args.goals c.in_ok-goal.goal c.in_ok-goal.ensures at.some w) callable css pr sw ft
+    (first_written m qv.arity c.args.place c.args.goals c.in_ok-goal.goal c.in_ok-goal.ensures at.some w) callable css pr sw
 
 pub returns-clause-calls : goal.returns-clause-calls
-returns-clause-calls g c = λ qv a raw s h at af w callable css pr sw ft.
+returns-clause-calls g c = λ qv a raw s h at af w callable css pr sw.
     let m = c.args.machine.now in
     let q = c.put_frame.new.self in
     let p = c.args.place in
@@ -124,4 +124,4 @@ returns-clause-calls g c = λ qv a raw s h at af w callable css pr sw ft.
     c.in_ok-turn-2.ensures.calls qv a raw s (running_framed qv m q a p raw s f.goals f.course f.assumed f.frame st at.place h)
     (at_more m q a p c.args.goals others c.args.behind c.in_ok-rest.rest raw c.in_ok-goal.goal c.in_ok-goal.ensures later refl f.goals f.assumed f.reads at) af
     (flat_framed m q f.goals qv.arity p c.in_ok-goal.goal (first_written m qv.arity p c.args.goals c.in_ok-goal.goal c.in_ok-goal.ensures at.some w))
-    (subst (λ (z : Branch). IsCallable qv.arity z.goals) (sym (framed_work qv m q a p raw s f.goals f.course f.assumed f.frame st at.place h)) callable) css (framed_program m q f.goals qv.arity css pr) (framed_written m q f.goals f.assumed qv.arity frame f.pushed w' sw) ft
+    (subst (λ (z : Branch). IsCallable qv.arity z.goals) (sym (framed_work qv m q a p raw s f.goals f.course f.assumed f.frame st at.place h)) callable) css (framed_program m q f.goals qv.arity css pr) (framed_written m q f.goals f.assumed qv.arity frame f.pushed w' sw)
