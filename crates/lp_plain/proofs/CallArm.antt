@@ -52,6 +52,7 @@ use Rattle.lp_plain.proofs.KnownForms.{normal_within}
 use Rattle.lp_plain.proofs.LeftOut.{call_mapped}
 use Rattle.lp_plain.proofs.QuietMoves.{by_lost}
 use Rattle.lp_plain.proofs.SeenGoals.{IsAbs}
+use Rattle.lp_plain.proofs.TypedCalls.{front_arity}
 use Rattle.lp_plain.proofs.TypedMoves.{IsMoveTyped, typed_move}
 use Rattle.lp_plain.proofs.WrittenSearches.{same_lists}
 
@@ -135,7 +136,6 @@ module _ (qv : Query) (m c : Machine) (a : Around) (raw : Branch) (s : State Tas
       pub name : GoalName
       pub view : look unit_limit enough P (length h.rest) (Go h.at_work) ≡ Takes name (tries P F.first (behind qv m a raw s h p u o at) (length h.rest) (goal_looked enough t))
       pub same : t ≡ closed h.closing (tree m.bank u.0)
-      pub atomic : connective_of t ≡ connective.Atomic
       pub arity_is : HasArity qv.arity (head_of t) → HasArity qv.arity (head_of (tree m.bank u.0))
 
     no_abs_call : (x : Term) → head_of (tree m.bank u.0) ≡ x → IsCallHead x → IsAbs (tree m.bank u.0) → ⊥
@@ -163,12 +163,11 @@ module _ (qv : Query) (m c : Machine) (a : Around) (raw : Branch) (s : State Tas
               view = form_view (closed h.closing (atom (constant c k.1.0))) g.0 g.1 ∙
                   ap (Takes (named c)) (tried unit_limit enough P (length h.rest) F.first (behind qv m a raw s h p u o at) t c (arguments t) (subst (IsCall c) (sym g.2) (call_mapped (closed h.closing) c (arguments (tree m.bank u.0)) k.1.2)));
               same = same_term (atom (constant c k.1.0)) k.1.1 tt;
-              atomic = g.0;
               arity_is = λ y. subst (HasArity qv.arity) (sym k.1.1) (sym (length-map k.1.0 (instance h.closing.types)) ∙ subst (HasArity qv.arity) g.1 y);
             }
         by (head.Eigen j) (inl k) =
             let g = called_same qv m a raw s h p u o at enough P t q (atom (eigen j)) k.0 k.1.0 tt in
-            record { name = eigenconstant j; view = form_view (atom (eigen j)) g.0 g.1; same = same_term (atom (eigen j)) k.1.0 tt; atomic = g.0; arity_is = λ y. subst (HasArity qv.arity) (sym k.1.0) tt }
+            record { name = eigenconstant j; view = form_view (atom (eigen j)) g.0 g.1; same = same_term (atom (eigen j)) k.1.0 tt; arity_is = λ y. subst (HasArity qv.arity) (sym k.1.0) tt }
         by (head.Constant c) (inr k) = absurd (let z = k.1 in cc)
         by (head.Eigen j) (inr k) = absurd (let z = k.1 in cc)
 
@@ -211,8 +210,8 @@ module _ (qv : Query) (m c : Machine) (a : Around) (raw : Branch) (s : State Tas
         }
 
     -- the turn of the call, over the program of the search
-    pub call_leads : ((i : ℕ) (t : Term) → head_normal i F.goal ≡ Some t → connective_of t ≡ connective.Atomic → HasArity qv.arity (head_of t)) → (n : Machine) (turn : Turn) → CallLeads c n p u hd first o turn → c.branch.goals ≡ o → LeadsOf m n qv turn s
-    call_leads arity n turn leads front css r sw = λ w ea go enough few ty.
+    pub call_leads : (n : Machine) (turn : Turn) → CallLeads c n p u hd first o turn → c.branch.goals ≡ o → LeadsOf m n qv turn s
+    call_leads n turn leads front css r sw = λ w ea go enough few ty.
         let P = all_clauses css in
         let see = look unit_limit enough P in
         let work = behind qv m a raw s h p u o at in
@@ -228,6 +227,6 @@ module _ (qv : Query) (m c : Machine) (a : Around) (raw : Branch) (s : State Tas
             ap (move_view go (suc l) w s.given s.rows s.row s.lost h.rest) seen.view in
         let moved : closed h.closing x ≡ closed h.closing (tree c.bank u.0) = ap (λ b. closed h.closing (tree b u.0)) (sym k.goals.known.bank) in
         step_then qv turn n go see s after 1 (GoalNote seen.name ∷ back ts h.rest) first_move (sym ea) refl
-        (leads front qv a (with_goals raw at.rest) work h.rest g F.first (at_call (seen.arity_is (arity enough t q seen.atomic)) known) css (program_later m c (subst (Extends m.bank) (sym k.goals.known.bank) (extends_same m.bank)) k.goals.known.table k.goals.known.index qv.arity css r)
+        (leads front qv a (with_goals raw at.rest) work h.rest g F.first (at_call (seen.arity_is (front_arity qv.arity enough P s ty h.at_work h.rest h.stack F.first F.rest F.whole F.goal t enough F.is q)) known) css (program_later m c (subst (Extends m.bank) (sym k.goals.known.bank) (extends_same m.bank)) k.goals.known.table k.goals.known.index qv.arity css r)
         (same_lists m c h.above.done.stands (grows_kept m c k.goals) (ap (λ v. v.items) k.frames) (ap (λ v. v.items) k.assumed.assumptions) qv.arity sw) after w refl (step_counted qv m c a raw s h ct (suc w) (ts ++ h.rest)) go enough few (typed_after qv.arity enough P go s after 1 (GoalNote seen.name ∷ back ts h.rest) first_move ty)
         (ap (λ y. tries P F.first work (length h.rest) (goal_looked enough y) ++ h.rest) (seen.same ∙ moved))))

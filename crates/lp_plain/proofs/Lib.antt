@@ -140,6 +140,7 @@ mod HeldMoves
 mod CallArm
 mod CallEnds
 mod CallForms
+mod TypedRuns
 pub mod ProgramTypes
 pub mod ProgramsWritten
 pub mod KnownPrograms

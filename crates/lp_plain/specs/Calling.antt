@@ -95,20 +95,20 @@ abbrev pub IsNoArithmetic : (head : Term) → List Term → Type 0
 IsNoArithmetic (atom (constant c ts)) (l ∷ r ∷ []) = (c ≡ number.Is → ⊥) × (IsOrder c → ⊥)
 IsNoArithmetic t us = Unit {0}
 
--- a goal that comes to an atom comes to one whose constant has as many types as it takes (TO VANISH: and that is no arithmetic)
-abbrev pub ComesToCallable : (arity : ℕ → ℕ) → Goal → Type 0
-ComesToCallable ar (Atomic w) = (n : ℕ) (t : Term) → head_normal n w ≡ Some t → connective_of t ≡ connective.Atomic → IsNoArithmetic (head_of t) (arguments t) × HasArity ar (head_of t)
-ComesToCallable ar Cut = Unit {0}
-ComesToCallable ar (Either gs hs) = Unit {0}
-ComesToCallable ar (Exists T gs) = Unit {0}
-ComesToCallable ar (Forall T gs) = Unit {0}
-ComesToCallable ar (Assume w cs gs) = Unit {0}
-ComesToCallable ar (Not w gs) = Unit {0}
+-- TO VANISH: a goal that comes to an atom comes to one that is no arithmetic
+abbrev pub ComesToCallable : Goal → Type 0
+ComesToCallable (Atomic w) = (n : ℕ) (t : Term) → head_normal n w ≡ Some t → connective_of t ≡ connective.Atomic → IsNoArithmetic (head_of t) (arguments t)
+ComesToCallable Cut = Unit {0}
+ComesToCallable (Either gs hs) = Unit {0}
+ComesToCallable (Exists T gs) = Unit {0}
+ComesToCallable (Forall T gs) = Unit {0}
+ComesToCallable (Assume w cs gs) = Unit {0}
+ComesToCallable (Not w gs) = Unit {0}
 
--- so the goal in front (TO VANISH: with no assumed clauses)
-abbrev pub IsCallable : (arity : ℕ → ℕ) → List Entry → Type 0
-IsCallable ar [] = Unit {0}
-IsCallable ar (e ∷ es) = (e.assumed ≡ []) × ComesToCallable ar e.goal
+-- TO VANISH: so the goal in front, with no assumed clauses
+abbrev pub IsCallable : List Entry → Type 0
+IsCallable [] = Unit {0}
+IsCallable (e ∷ es) = (e.assumed ≡ []) × ComesToCallable e.goal
 
 -- the first argument of a call is in the bank
 abbrev pub IsFirstIn : (terms : ℕ) → Form → Type 0
@@ -122,9 +122,9 @@ LeadsOf m n qv turn s = (css : List Clauses) → IsProgramIn m qv.arity css → 
 -- the turn of an atom, as it was looked at
 abbrev pub AtomTurns : (old new : Machine) → Place → (goal : TermId) → Form → (behind : Option ℕ) → Turn → Type 0
 AtomTurns m n p goal f behind turn =
-    (qv : Query) (a : Around) (raw : Branch) (s : State Task) (h : IsRunning qv m a raw s) → IsAtLooked m h.closing a p goal behind raw → IsAtomForm m.bank (tree m.bank goal.0) f → IsFirstIn (length m.bank.terms) f → IsCallable qv.arity h.at_work.goals →
+    (qv : Query) (a : Around) (raw : Branch) (s : State Task) (h : IsRunning qv m a raw s) → IsAtLooked m h.closing a p goal behind raw → IsAtomForm m.bank (tree m.bank goal.0) f → IsFirstIn (length m.bank.terms) f → IsCallable h.at_work.goals →
     LeadsOf m n qv turn s
 
 -- that of a goal that is known at run time
 abbrev pub TermTurns : (old new : Machine) → Place → (term : TermId) → (behind : Option ℕ) → Turn → Type 0
-TermTurns m n p term behind turn = (qv : Query) (a : Around) (raw : Branch) (s : State Task) (h : IsRunning qv m a raw s) → IsAtTerm m a p term behind raw → IsCallable qv.arity h.at_work.goals → LeadsOf m n qv turn s
+TermTurns m n p term behind turn = (qv : Query) (a : Around) (raw : Branch) (s : State Task) (h : IsRunning qv m a raw s) → IsAtTerm m a p term behind raw → IsCallable h.at_work.goals → LeadsOf m n qv turn s

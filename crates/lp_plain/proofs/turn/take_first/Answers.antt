@@ -124,4 +124,4 @@ returns-clause-calls g c = λ qv a raw s h at af w callable css pr sw.
     c.in_ok-turn-2.ensures.calls qv a raw s (running_framed qv m q a p raw s f.goals f.course f.assumed f.frame st at.place h)
     (at_more m q a p c.args.goals others c.args.behind c.in_ok-rest.rest raw c.in_ok-goal.goal c.in_ok-goal.ensures later refl f.goals f.assumed f.reads at) af
     (flat_framed m q f.goals qv.arity p c.in_ok-goal.goal (first_written m qv.arity p c.args.goals c.in_ok-goal.goal c.in_ok-goal.ensures at.some w))
-    (subst (λ (z : Branch). IsCallable qv.arity z.goals) (sym (framed_work qv m q a p raw s f.goals f.course f.assumed f.frame st at.place h)) callable) css (framed_program m q f.goals qv.arity css pr) (framed_written m q f.goals f.assumed qv.arity frame f.pushed w' sw)
+    (subst (λ (z : Branch). IsCallable z.goals) (sym (framed_work qv m q a p raw s f.goals f.course f.assumed f.frame st at.place h)) callable) css (framed_program m q f.goals qv.arity css pr) (framed_written m q f.goals f.assumed qv.arity frame f.pushed w' sw)

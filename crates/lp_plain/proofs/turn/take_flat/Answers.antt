@@ -121,7 +121,7 @@ returns-in_ok-turn-in-Atom-clause-calls g c = λ qv a raw s h at af w callable c
     let w' = subst (IsWrittenFlat m qv.arity p) c.in-Atom.is w in
     c.in_ok-turn-in-Atom.ensures.calls qv a raw s (running_on m n e.bank qv a raw s h p at'.place)
     (instance_at m n e.bank p u c.in_ok-atom-in-Atom.atom e.within e.tree a c.args.behind raw h.above.done.stands at' qv.arity w')
-    (subst (λ (z : Branch). IsCallable qv.arity z.goals) (sym (work_on m n e.bank qv a raw s h p at'.place)) callable) css (only_program m n e.bank qv.arity css pr) (only_written m n e.bank h.above.done.stands qv.arity sw)
+    (subst (λ (z : Branch). IsCallable z.goals) (sym (work_on m n e.bank qv a raw s h p at'.place)) callable) css (only_program m n e.bank qv.arity css pr) (only_written m n e.bank h.above.done.stands qv.arity sw)
 
 pub returns-in_ok-turn-in-Cut-clause-calls : goal.returns-in_ok-turn-in-Cut-clause-calls
 returns-in_ok-turn-in-Cut-clause-calls g c = λ qv a raw s h at af w callable css pr sw.

@@ -62,5 +62,5 @@ returns-clause-calls g c = λ qv a raw s h at callable css pr sw.
     let i = c.in_ok-form.ensures.form k.tree (c.is_apart.ensures.alone c.if-is_apart.false n.bank) in
     let pr' = only_program m n only qv.arity css pr in
     let sw' = only_written m n only h.above.done.stands qv.arity sw in
-    atom_turn_of qv m n only a raw s h c.args.place c.args.term c.in-Some.goal c.args.behind at (subst (LooksAt m n c.args.term) c.in-Some.is c.in_ok-goal.ensures.looks) (IsCallable qv.arity)
+    atom_turn_of qv m n only a raw s h c.args.place c.args.term c.in-Some.goal c.args.behind at (subst (LooksAt m n c.args.term) c.in-Some.is c.in_ok-goal.ensures.looks) IsCallable
     (LeadsOver 2 qv c.in_ok-turn-2.turn c.take_atom.new.machine s (all_clauses css)) (λ h at callable. c.in_ok-turn-2.ensures.calls qv a raw s h at i c.in_ok-form.ensures.within callable css pr' sw') callable
