@@ -131,7 +131,7 @@ side_state qv m n q c rest from e u l t g k ka fr qp s h =
     }
 
 -- no alternative is left
-no_tasks : (qv : Query) (m : Machine) (f : ℕ → ℕ) (l k : ℕ) (cs : List Choice) (rss tss : List (List Task)) → cs ≡ [] → AreAlternatives qv m f l k cs rss tss → tss ≡ []
+pub no_tasks : (qv : Query) (m : Machine) (f : ℕ → ℕ) (l k : ℕ) (cs : List Choice) (rss tss : List (List Task)) → cs ≡ [] → AreAlternatives qv m f l k cs rss tss → tss ≡ []
 no_tasks qv m f l k [] [] [] e h = refl
 no_tasks qv m f l k [] [] (ts ∷ tss) e h = absurd h
 no_tasks qv m f l k [] (rs ∷ rss) tss e h = absurd h

@@ -193,7 +193,7 @@ module _ (qv : Query) (m x : Machine) (a : Around) (stack : List Task) (h : HasA
   abbrev here : Machine
   here = elsewhere m x
 
-  abbrev back_query : Query
+  abbrev pub back_query : Query
   back_query = record { types = w.types; vars = w.vars; arity = qv.arity; outer = ws }
 
   abbrev base_is : ℕ

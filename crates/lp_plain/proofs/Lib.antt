@@ -137,6 +137,7 @@ mod CallTurns
 mod Denying
 mod Elsewhere
 mod HeldMoves
+mod RefutedMoves
 mod CallArm
 mod CallEnds
 mod CallForms
