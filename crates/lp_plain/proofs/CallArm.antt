@@ -24,6 +24,7 @@ use Rattle.lp_model.specs.Search.{assigned, compared, equated, goal_looked, look
 use Rattle.lp_model.specs.Values.{evaluate}
 use Rattle.lp_model.specs.Skeleton.{GoalName, GoalNote, Goes, Inner, Note, State, Takes, View, back, eigenconstant, move, move_at, move_view, named}
 use Rattle.lp_model.specs.Unify.{unit_limit}
+use Rattle.lp_pattern.specs.Putting.{Known}
 use Rattle.lp_plain.specs.declared.form.Form.TheVariants as form
 use Rattle.lp_plain.specs.declared.frame.Place.{Place}
 use Rattle.lp_plain.specs.declared.head.Head.{Head}

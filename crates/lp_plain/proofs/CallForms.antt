@@ -62,10 +62,10 @@ module _ (qv : Query) (m : Machine) (a : Around) (raw : Branch) (s : State Task)
   module _ (n : Machine) (turn : Turn) where
     -- arithmetic is left out
     relation_out : (c : ℕ) (l r : TermId) → ((c ≡ number.Is → ⊥) × (IsOrder c → ⊥) → ⊥) → connective_of (tree m.bank u.0) ≡ connective.Atomic → IsRelation m.bank (tree m.bank u.0) c l r → LeadsTo 1 qv turn n s
-    relation_out c l r no e i w ea go enough few P ty =
+    relation_out c l r out e i w ea go enough few P ty =
         by_seen qv m a raw s h p u o at enough P (Leads 1 qv turn n go (look unit_limit enough P) s) (waits qv m a raw s h p u o at enough P n w ea go turn) (λ t q.
         let g = named_same qv m a raw s h p u o at enough P t q c l r e i in
-        absurd (no (subst (λ us. IsNoArithmetic (atom (constant c g.1.0)) us) g.2 (subst (λ x. IsNoArithmetic x (arguments t)) g.1.1 (comes enough t q g.0)))))
+        absurd (out (subst (λ us. IsNoArithmetic (atom (constant c g.1.0)) us) g.2 (subst (λ x. IsNoArithmetic x (arguments t)) g.1.1 (comes enough t q g.0)))))
 
     pub is_out : (l r : TermId) → IsAtomForm m.bank (tree m.bank u.0) (form.Is l r) → LeadsTo 1 qv turn n s
     is_out l r (inl k) = relation_out number.Is l r (λ y. y.0 refl) k.0 k.1

@@ -1,5 +1,6 @@
 -- An answer of a negated goal's search: the search that waited goes back, or the goal is open.
-use Rattle.std.proofs.Common.{◌≡◌, ℕ, zero, suc, ◌-◌, List, [], ◌∷◌, length, take, refl, sym, ap, ◌∙◌, subst, Bool, true, false, nat_eq, Option, None, Some}
+use Rattle.std.proofs.Common.{◌≡◌, ℕ, zero, suc, ◌-◌, List, [], ◌∷◌, length, take, refl, sym, ap, ◌∙◌, subst, arith, Bool, true, false, nat_eq, Option, None, Some}
+use Rattle.std.proofs.lemmas.Bool.{ne_eqb}
 use Rattle.lp_model.specs.Branch.{Answer, Go, Task}
 use Rattle.lp_model.specs.Events.{Over}
 use Rattle.lp_model.specs.Pair.{Closing, Pair}
@@ -25,7 +26,7 @@ none_left b z (q ∷ qs) ps e h = absurd (cc)
 some_left : (b : Nodes) (z : Closing) (qs : List Numbers) (ps : List Pair) → (qs ≡ [] → ⊥) → ArePairsFor b z qs ps → nat_eq (length ps) 0 ≡ false
 some_left b z [] ps e h = absurd (e refl)
 some_left b z (q ∷ qs) [] e h = absurd h
-some_left b z (q ∷ qs) (p ∷ ps) e h = refl
+some_left b z (q ∷ qs) (p ∷ ps) e h = ne_eqb (suc (length ps)) 0 (λ y. omega (arith, y))
 
 module _ (c : Course) (qv : Query) (m : Machine) (s : State Task) (h : IsState qv m s) (none : m.branch.goals ≡ None) (w : Waiting) (ws : List Waiting) where
   -- with residual pairs

@@ -10,13 +10,13 @@ returns-in_default c =
     let o = c.in_ok-looked.ensures in
     record { leads = deep_leads m n n.bank o.only.bank c.args.place c.args.goal c.args.head c.args.first c.args.behind (subst (IsLookedAs m n (plain_call c.args.place c.args.goal c.args.head c.args.behind) c.args.first) c.in_default.is o.looks) }
 
-pub returns-in_default-2 : goal.returns-in_default-2
-returns-in_default-2 c =
+pub returns-in_default-found : goal.returns-in_default-found
+returns-in_default-found c =
     let m = c.args.machine.now in
     let n = c.looked_call.new.machine in
     let o = c.in_ok-looked.ensures in
     let lk = subst (IsLookedAs m n (plain_call c.args.place c.args.goal c.args.head c.args.behind) c.args.first) c.in-Some.is o.looks in
-    record { leads = none_on m n o.only c.args.place c.args.goal c.args.head c.args.first c.args.behind c.in-Some.call lk c.in_ok-found.found c.in_ok-found.ensures.apart c.in_default-2.is }
+    record { leads = none_on m n o.only c.args.place c.args.goal c.args.head c.args.first c.args.behind c.in-Some.call lk c.in_ok-found.found c.in_ok-found.ensures.apart c.in_default-found.is }
 
 pub returns : goal.returns
 returns c =
@@ -25,6 +25,6 @@ returns c =
     let o = c.in_ok-looked.ensures in
     let lk = subst (IsLookedAs m n (plain_call c.args.place c.args.goal c.args.head c.args.behind) c.args.first) c.in-Some.is o.looks in
     record {
-      leads = some_on m n o.only c.args.place c.args.goal c.args.head c.args.first c.args.behind c.in-Some.call lk c.in_ok-found.found c.in_ok-found.ensures.apart c.in-Some-2.candidate c.in-Some-2.is c.try_candidate.new.machine c.in_ok-turn.turn
+      leads = some_on m n o.only c.args.place c.args.goal c.args.head c.args.first c.args.behind c.in-Some.call lk c.in_ok-found.found c.in_ok-found.ensures.apart c.in-Some-found.candidate c.in-Some-found.is c.try_candidate.new.machine c.in_ok-turn.turn
           c.in_ok-turn.ensures.leads;
     }

@@ -1,5 +1,5 @@
 use Rattle.lp_plain.proofs.AtGoals.{at_last, at_more, running_framed}
-use Rattle.std.proofs.Common.{◌≡◌, ◌∙◌, [], ◌∷◌, ◌++◌, add-one, ap, arith, refl, subst, sym}
+use Rattle.std.proofs.Common.{◌≡◌, ◌∙◌, ◌+◌, [], ◌∷◌, ◌++◌, add-one, ap, arith, refl, subst, sym}
 use Rattle.lp_plain.specs.Apart.{IsApart}
 use Rattle.lp_plain.proofs.Counted.{counted_first}
 use Rattle.lp_plain.proofs.FirstGoals.{last_taken, more_taken}

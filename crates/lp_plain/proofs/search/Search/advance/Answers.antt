@@ -1,7 +1,7 @@
 use Rattle.std.proofs.Common.{arith}
 use Rattle.lp_model.specs.declared.ending.Ending.TheVariants.{Enough}
 use Rattle.lp_plain.specs.Held.{ended}
-use Rattle.lp_plain.proofs.Between.{first_told, given_enough, if_ok_then, later_told, over_told}
+use Rattle.lp_plain.proofs.Between.{first_told, given_enough, later_told, over_told}
 use Rattle.lp_plain.proofs.search.Search.advance.Goals as goal
 
 pub returns-then-self-clause-search : goal.returns-then-self-clause-search
@@ -12,10 +12,10 @@ returns-then-self-clause-search g c = λ none P n s h en x t d.
 
 pub returns-then-self-eq0-clause-search : goal.returns-then-self-eq0-clause-search
 unfolding ended
-returns-then-self-eq0-clause-search g c =
-    if_ok_then _ _ _ (λ event f none P n s h en x t d. first_told P n c.args.self.now c.go_on.new.self s x t d event none (omega arith) en (omega arith) f h) c.go_on.ensures.search
+returns-then-self-eq0-clause-search g c = λ none P n s h en x t d.
+    first_told P n c.args.self.now c.go_on.new.self s x t d c.in_ok-event.event none (omega arith) en (omega arith) c.in_ok-event.ensures.search h
 
 pub returns-clause-search : goal.returns-clause-search
 unfolding ended
-returns-clause-search g c =
-    if_ok_then _ _ _ (λ event f none P n s h en x t d. later_told P n c.args.self.now c.go_on.new.self s x t d event none (omega arith) en (omega arith) f h) c.go_on.ensures.search
+returns-clause-search g c = λ none P n s h en x t d.
+    later_told P n c.args.self.now c.go_on-2.new.self s x t d c.in_ok-event-2.event none (omega arith) en (omega arith) c.in_ok-event-2.ensures.search h
