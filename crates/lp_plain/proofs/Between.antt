@@ -1,6 +1,5 @@
 -- From one event to the next one.
 use Rattle.std.proofs.Common.{◌≡◌, ℕ, zero, suc, ◌+◌, ◌-◌, ◌<◌, ◌≤◌, List, [], ◌∷◌, map, length, refl, sym, ap, ◌∙◌, subst, arith, Option, Some, None}
-use Rattle.std.specs.Prelude.{Err, IfOk, Ok, Result}
 use Rattle.lp_term.specs.Nodes.{Nodes, Extends, tree}
 use Rattle.lp_term.specs.Within.{AreTermsOf}
 use Rattle.lp_model.specs.declared.answer.Answer.{Answer as CodeAnswer}
@@ -165,7 +164,3 @@ module _ (P : List Clause) (n : ℕ) (s u : Search) (t : State Task) (x : Event 
   later_told z f (goes_on qv e hv g (answered y bk) kept) = f (course P n s t x v d qv) (to_tell P n s t x v d qv hv g kept more none) (later_stands P n s t x v d qv hv g kept more bk) en
   later_told z f (goes_on qv e hv g (begins y st) kept) = absurd (omega (arith, z, y))
   later_told z f (is_over e q o) = absurd (cc)
-
-pub if_ok_then : {T E : Type 0} (P Q : T → Type 0) (r : Result T E) → ((t : T) → P t → Q t) → IfOk r P → IfOk r Q
-if_ok_then P Q (Ok t) f h = f t h
-if_ok_then P Q (Err e) f h = tt
