@@ -137,7 +137,7 @@ pub(crate) fn end_denial(machine: &mut Machine, denial: Denial) -> Turn
     ensures holds { machine.old.counts.lost ≡ false → result ≡ Turn.On }
     ensures around { machine.new.denied ≡ denial.around }
     ensures lost { machine.new.counts.lost ≡ denial.lost }
-    ensures written { (ar : ℕ → ℕ) → StandsIn machine.old → IsWrittenSearch machine.old ar → IsWrittenSearch machine.new ar }
+    ensures written { (ar : ℕ → ℕ) → IsWrittenSearch machine.old ar → IsWrittenSearch machine.new ar }
     ensures behind { machine.new.branch.goals ≡ denial.behind }
     ensures steps { machine.new.counts.steps ≡ machine.old.counts.steps }
 {
