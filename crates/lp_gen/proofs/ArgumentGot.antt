@@ -22,6 +22,9 @@ use Rattle.lp_gen.specs.inner.TermLaw.{Standing, IsSeen, level_term, with_variab
 use Rattle.lp_gen.specs.inner.Written.{IsWell, TermWritten}
 use Rattle.lp_gen.specs.inner.Doing.{Does}
 use Rattle.lp_gen.specs.inner.Heading.{VariableGot, if_unset, level_first, first_place, AreOwn, HaveStood, PredicateStands, ArgumentGot}
+use Rattle.lp_gen.proofs.OwnSet.{plain_both}
+use Rattle.lp_gen.proofs.CodeOwned.{none_owned, owns_then, one_owned}
+use Rattle.lp_gen.proofs.StepsOwn.{no_types_more}
 use Rattle.lp_gen.proofs.Denoting.{or_none, strict_may, room_front, room_behind, none_unset}
 use Rattle.lp_gen.proofs.TermPut.{types_held, moved}
 use Rattle.lp_gen.proofs.LooseOf.{equal_self, some_same}
@@ -93,6 +96,18 @@ first_none false l r e = absurd (no_pair (l, r) (sym e))
 in_turn : (s : State) (i : ℕ) → s.in_body ≡ false → length s.head_arguments ≡ i → out_of_turn s i ≡ false
 in_turn s i e f = or_none s.in_body (not (nat_eq i (length s.head_arguments))) e (ap not (eq-eqb i (length s.head_arguments) (sym f)))
 
+-- the variable of a first place
+first_found : (a : Around) (j l r : ℕ) → first_place a (index j) ≡ Some (l, r) → (v : Seen) × (at_level a l ≡ Some v) × (v.is_set ≡ false) × (v.register ≡ r)
+first_found a j l r e = by_level (level_in a j) e
+  where
+    by_seen : (m : ℕ) (o : Option Seen) → at_level a m ≡ o → if_unset m o ≡ Some (l, r) → (v : Seen) × (at_level a l ≡ Some v) × (v.is_set ≡ false) × (v.register ≡ r)
+    by_seen m None f q = absurd (no_pair (l, r) q)
+    by_seen m (Some v) f q = let is = first_unset v.is_set m v.register (l, r) q in (v, ap (at_level a) (sym is.1) ∙ f, is.0, is.2)
+
+    by_level : (o : Option ℕ) → level_first a o ≡ Some (l, r) → (v : Seen) × (at_level a l ≡ Some v) × (v.is_set ≡ false) × (v.register ≡ r)
+    by_level None q = absurd (no_pair (l, r) q)
+    by_level (Some m) q = by_seen m (at_level a m) refl q
+
 pub first_argument : (K : ℕ → List Ty → Ty) (old new : Emitter) (a : Around) (i l r : ℕ) (F : Ty) (j : ℕ) → VariableGot old new i r → first_place a (index j) ≡ Some (l, r) →
     ArgumentGot K old new a (set_level a l) i F (index j)
 first_argument K old new a i l r F j x first = record {
@@ -100,6 +115,8 @@ first_argument K old new a i l r F j x first = record {
   code_is = x.code_is;
   types_grow = let q = x.types_stay in omega (arith, q);
   terms_grow = let q = x.registers_stay in omega (arith, q);
+  owns = λ start. let z = first_found a j l r first in one_owned a l z.0 x.more (x.own ∙ ap (λ k. k ∷ []) (sym z.3)) start z.1 z.2;
+  no_types = x.no_types;
   denotes = λ h later vars s σ Γ T std asked st te low few before count typed stands well same predicate own stood room.
       let z = seen_at Γ a j (well.seen (omega arith)) in
       let v = z.1 in
@@ -126,7 +143,8 @@ first_argument K old new a i l r F j x first = record {
             (λ q. any_last (λ (b : Built). stands_in y.register h.number b.term) s.head_arguments (whole (with_variables σ a 0 (index j)) T)
             (ap (λ (c : Seen). stands_in c.register h.number (with_variables σ a 0 (index j))) q.1 ∙ (λ k. stands_in v.register h.number ((index_is σ Γ a j z ∙ ap σ is.1 ∙ unmade.1) k))
             ∙ (λ k. (eq-eqb v.register v.register refl k && eq-eqb h.number h.number refl k))))
-            (λ q. any_front (λ (b : Built). stands_in y.register h.number b.term) s.head_arguments _ (stood m y q.1 (subst (λ n. n ≤ m) (around_set a l unmade.2).base le) set)) (found_set a l m v y unmade.2 here e),
+            (λ q. any_front (λ (b : Built). stands_in y.register h.number b.term) s.head_arguments _
+            (stood m y q.1 (subst (λ n. n ≤ m) (around_set a l unmade.2).base le) set)) (found_set a l m v y unmade.2 here e),
       );
 }
 
@@ -151,12 +169,16 @@ integer_argument K old new a i F z x = record {
   code_is = x.code_is;
   types_grow = let q = x.types_stay in omega (arith, q);
   terms_grow = let q = x.registers_stay in omega (arith, q);
+  owns = λ start. none_owned a x.more x.plain.no_own;
+  no_types = x.plain.no_types;
   denotes = λ h later vars s σ Γ T std asked st te low few before count typed stands well same predicate own stood room.
       let of : int_type ≡ T = some_same int_type T well.typed in
-      let w = x.denotes h later vars s std st te (record { in_turn = in_turn s i before count; typed = next_typed h s s i T int_type refl typed of }) (strict_may (s.place + sum_by length_of x.more) s.frames room) in (
+      let w = x.denotes h later vars s std st te (record { in_turn = in_turn s i before count; typed = next_typed h s s i T int_type refl typed of })
+      (strict_may (s.place + sum_by length_of x.more) s.frames room) in (
         w.0,
         does_same h later vars old.types old.types new.types old.registers old.registers new.registers s w.0 x.more _ _ _ s.goals s.head_types (s.head_arguments ++ whole (atom (integer z)) T ∷ [])
-            (sym x.types_stay) (sym x.registers_stay) refl refl (λ k. s.head_arguments ++ whole (atom (integer z)) (of k) ∷ []) (turns_does h later vars old.types old.registers s w.0 x.more _ _ _ w.1 room),
+            (sym x.types_stay) (sym x.registers_stay) refl refl (λ k. s.head_arguments ++ whole (atom (integer z)) (of k) ∷ [])
+            (turns_does h later vars old.types old.registers s w.0 x.more _ _ _ w.1 room),
         standing_after h vars old.registers new.registers s.in_body s.in_body σ a s w.0 (sym x.registers_stay) refl w.1.now_stays stands,
         around_same a,
         stood_more h a s.head_arguments (whole (atom (integer z)) T) stood,
@@ -169,12 +191,18 @@ text_argument K old new a i F b x = record {
   code_is = x.code_is;
   types_grow = let q = x.types_stay in omega (arith, q);
   terms_grow = let q = x.registers_stay in omega (arith, q);
+  owns = λ start. none_owned a x.more x.plain.no_own;
+  no_types = x.plain.no_types;
   denotes = λ h later vars s σ Γ T std asked st te low few before count typed stands well same predicate own stood room.
       let of : string_type ≡ T = some_same string_type T well.typed in
-      let w = x.denotes h later vars s std st te (record { in_turn = in_turn s i before count; typed = next_typed h s s i T string_type refl typed of }) (strict_may (s.place + sum_by length_of x.more) s.frames room) in (
+      let w = x.denotes h later vars s std st te (record {
+        in_turn = in_turn s i before count;
+        typed = next_typed h s s i T string_type refl typed of;
+      }) (strict_may (s.place + sum_by length_of x.more) s.frames room) in (
         w.0,
         does_same h later vars old.types old.types new.types old.registers old.registers new.registers s w.0 x.more _ _ _ s.goals s.head_types (s.head_arguments ++ whole (atom (text b)) T ∷ [])
-            (sym x.types_stay) (sym x.registers_stay) refl refl (λ k. s.head_arguments ++ whole (atom (text b)) (of k) ∷ []) (turns_does h later vars old.types old.registers s w.0 x.more _ _ _ w.1 room),
+            (sym x.types_stay) (sym x.registers_stay) refl refl (λ k. s.head_arguments ++ whole (atom (text b)) (of k) ∷ [])
+            (turns_does h later vars old.types old.registers s w.0 x.more _ _ _ w.1 room),
         standing_after h vars old.registers new.registers s.in_body s.in_body σ a s w.0 (sym x.registers_stay) refl w.1.now_stays stands,
         around_same a,
         stood_more h a s.head_arguments (whole (atom (text b)) T) stood,
@@ -188,6 +216,8 @@ constant_argument K old mid new a i c F Ts ts y x = record {
   code_is = x.code_is ∙ ap (λ l. l ++ x.more) y.code_is ∙ append_assoc old.code.items y.more x.more;
   types_grow = let p = y.types_grow in let q = x.types_stay in omega (arith, p, q);
   terms_grow = let p = y.registers_stay in let q = x.registers_stay in omega (arith, p, q);
+  owns = λ start. none_owned a (y.more ++ x.more) (plain_both y.more x.more y.plain x.plain).no_own;
+  no_types = (plain_both y.more x.more y.plain x.plain).no_types;
   denotes = λ h later vars s σ Γ T std asked st te low few before count typed stands well same predicate own stood room.
       let kinds = x.types_stay in
       let stay = y.registers_stay in
@@ -212,7 +242,8 @@ constant_argument K old mid new a i c F Ts ts y x = record {
       let all = then_does h later vars old.types mid.types mid.types old.registers old.registers old.registers s w.0 v.0 y.more x.more _ _ _ _ _ _
       (goes_does h later vars old.types mid.types old.registers old.registers s w.0 y.more first)
       (subst (λ n. Does h later vars mid.types mid.types n n w.0 x.more w.0.goals w.0.head_types (w.0.head_arguments ++ constant_of h.tables c (types_in w.0.now ts) ∷ []) v.0) stay
-      (turns_does h later vars mid.types mid.registers w.0 v.0 x.more w.0.goals w.0.head_types (w.0.head_arguments ++ constant_of h.tables c (types_in w.0.now ts) ∷ []) v.1 behind)) y.types_grow (omega arith) in (
+      (turns_does h later vars mid.types mid.registers w.0 v.0 x.more w.0.goals w.0.head_types
+      (w.0.head_arguments ++ constant_of h.tables c (types_in w.0.now ts) ∷ []) v.1 behind)) y.types_grow (omega arith) in (
         v.0,
         does_same h later vars old.types mid.types new.types old.registers old.registers new.registers s v.0 (y.more ++ x.more) _ _ _ s.goals s.head_types
             (s.head_arguments ++ whole (atom (constant c Ts)) T ∷ []) (sym kinds) (sym (x.registers_stay ∙ stay)) w.1.same.goals w.1.same.head_types
@@ -237,7 +268,8 @@ old_variable h s q v stood = go (nat_eq v.register q) refl
         ap (λ t. (nat_eq v.register q && nat_eq h.number h.number) && not t) (ap (λ k. list_any (λ (b : Built). stands_in k h.number b.term) s.head_arguments) (sym same) ∙ stood)
         ∙ and_false (nat_eq v.register q && nat_eq h.number h.number)
 
-not_new : (h : Home) (vars : ℕ) (Γ : List Ty) (s : State) (σ : ℕ → Term) (a : Around) (t : Term) (T : Ty) → IsWell h vars Γ a t T → first_place a t ≡ None → AreOwn h σ a → HaveStood h a s.head_arguments → (q : ℕ) →
+not_new : (h : Home) (vars : ℕ) (Γ : List Ty) (s : State) (σ : ℕ → Term) (a : Around) (t : Term) (T : Ty) → IsWell h vars Γ a t T → first_place a t ≡
+    None → AreOwn h σ a → HaveStood h a s.head_arguments → (q : ℕ) →
     (is_variable_of (with_variables σ a 0 t) q h.number && not (list_any (λ (b : Built). stands_in q h.number b.term) s.head_arguments)) ≡ false
 not_new h vars Γ s σ a (index j) T well first own stood q =
     let z = seen_at Γ a j (well.seen (omega arith)) in
@@ -245,10 +277,12 @@ not_new h vars Γ s σ a (index j) T well first own stood q =
     let term = index_is σ Γ a j z in
     ap (λ u. is_variable_of u q h.number && not (list_any (λ (b : Built). stands_in q h.number b.term) s.head_arguments)) term ∙ go z set (nat_le a.base z.0) refl
   where
-    go : (z : IsSeen a Γ j) → z.1.is_set ≡ true → (t : Bool) → nat_le a.base z.0 ≡ t → (is_variable_of (σ z.0) q h.number && not (list_any (λ (b : Built). stands_in q h.number b.term) s.head_arguments)) ≡ false
+    go : (z : IsSeen a Γ j) → z.1.is_set ≡ true → (t : Bool) → nat_le a.base z.0 ≡ t →
+        (is_variable_of (σ z.0) q h.number && not (list_any (λ (b : Built). stands_in q h.number b.term) s.head_arguments)) ≡ false
     go z set true e =
         let le = leb-true a.base z.0 e in
-        ap (λ u. is_variable_of u q h.number && not (list_any (λ (b : Built). stands_in q h.number b.term) s.head_arguments)) (own.own z.0 z.1 z.3 le) ∙ old_variable h s q z.1 (stood z.0 z.1 z.3 le set)
+        ap (λ u. is_variable_of u q h.number && not (list_any (λ (b : Built). stands_in q h.number b.term) s.head_arguments)) (own.own z.0 z.1 z.3 le)
+        ∙ old_variable h s q z.1 (stood z.0 z.1 z.3 le set)
     go z set false e = ap (λ t. t && not (list_any (λ (b : Built). stands_in q h.number b.term) s.head_arguments)) (own.others z.0 q z.1 z.3 (leb-false a.base z.0 e))
 not_new h vars Γ s σ a (atom (constant c Ts)) T well first own stood q = refl
 not_new h vars Γ s σ a (atom (integer k)) T well first own stood q = refl
@@ -266,6 +300,8 @@ term_argument K old mid new a b i r F t y x first = record {
   code_is = x.code_is ∙ ap (λ l. l ++ x.more) y.code_is ∙ append_assoc old.code.items y.more x.more;
   types_grow = let p = y.types_grow in let q = x.types_stay in omega (arith, p, q);
   terms_grow = let p = y.terms_grow in let q = x.registers_stay in omega (arith, p, q);
+  owns = owns_then a b b y.more x.more y.owns (λ start. none_owned b x.more x.plain.no_own);
+  no_types = no_types_more y.more x.more y.no_types x.plain.no_types;
   denotes = λ h later vars s σ Γ T std asked st te low few before count typed stands well same predicate own stood room.
       let kinds = x.types_stay in
       let stay = x.registers_stay in
@@ -274,8 +310,10 @@ term_argument K old mid new a b i r F t y x first = record {
       let at : term_in w.0.now r ≡ whole u T = ap (λ o. unwrap_or o (record { term = index 0; type = o_type; loose = [] })) w.2 in
       let head = built_same h old.registers s w.0 h.self.head predicate w.1.same.head_types w.1.terms_keep in
       let args = w.1.same.head_arguments in
-      let new_one : is_new_variable h w.0 r ≡ false = any_none (λ q. is_variable_of (term_in w.0.now r).term q h.number && not (list_any (λ (b : Built). stands_in q h.number b.term) w.0.head_arguments))
-      (own_variables h.self) (λ q. (λ k. is_variable_of (at k).term q h.number && not (list_any (λ (b : Built). stands_in q h.number b.term) (args k))) ∙ not_new h vars Γ s σ a t T well first own stood q) in
+      let new_one : is_new_variable h w.0 r ≡ false = any_none (λ q. is_variable_of (term_in w.0.now r).term q h.number && not
+      (list_any (λ (b : Built). stands_in q h.number b.term) w.0.head_arguments))
+      (own_variables h.self) (λ q. (λ k. is_variable_of (at k).term q h.number && not
+      (list_any (λ (b : Built). stands_in q h.number b.term) (args k))) ∙ not_new h vars Γ s σ a t T well first own stood q) in
       let behind = room_goes h later vars old.types mid.types old.registers mid.registers s w.0 (y.more ++ x.more) y.more x.more w.1 refl room in
       let v = x.denotes h later vars w.0 std w.1.types_stand w.1.terms_stand (record {
         next = record {
@@ -287,7 +325,8 @@ term_argument K old mid new a b i r F t y x first = record {
         known = ap (λ t. is_some h.self.head && t) new_one ∙ and_false (is_some h.self.head);
       }) (strict_may (w.0.place + sum_by length_of x.more) w.0.frames behind) in
       let all = then_does h later vars old.types mid.types mid.types old.registers mid.registers mid.registers s w.0 v.0 y.more x.more _ _ _ _ _ _
-      (goes_does h later vars old.types mid.types old.registers mid.registers s w.0 y.more w.1) (turns_does h later vars mid.types mid.registers w.0 v.0 x.more _ _ _ v.1 behind) y.types_grow y.terms_grow in (
+      (goes_does h later vars old.types mid.types old.registers mid.registers s w.0 y.more w.1)
+      (turns_does h later vars mid.types mid.registers w.0 v.0 x.more _ _ _ v.1 behind) y.types_grow y.terms_grow in (
         v.0,
         does_same h later vars old.types mid.types new.types old.registers mid.registers new.registers s v.0 (y.more ++ x.more) _ _ _ s.goals s.head_types (s.head_arguments ++ whole u T ∷ [])
             (sym kinds) (sym stay) w.1.same.goals w.1.same.head_types (λ k. args k ++ at k ∷ []) all,

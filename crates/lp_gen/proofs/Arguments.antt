@@ -30,7 +30,8 @@ types_shape b (abs_node x) m k o h = refl
 types_shape b (app_node f []) m k o h = absurd (o.2 refl)
 types_shape b (app_node f (i ∷ ids)) m k o h = applied_none (tree b f) (tree b i) (map (tree b) ids)
 
-pub no_types : (b : Nodes) (number m : ℕ) (n : TermNode) (i : ℕ) → node_tree b (term_shape n) ≡ tree b i → TermBelow m i (term_shape n) → ((k : ℕ) (xs : Bor (List TypeId)) → n ≡ Const k xs → ⊥) → o_type ≡ type_at (types_of (tree b i)) number
+pub no_types : (b : Nodes) (number m : ℕ) (n : TermNode) (i : ℕ) → node_tree b (term_shape n) ≡ tree b i → TermBelow m i (term_shape n) →
+    ((k : ℕ) (xs : Bor (List TypeId)) → n ≡ Const k xs → ⊥) → o_type ≡ type_at (types_of (tree b i)) number
 no_types b number m n i e o h = ap (λ ts. type_at ts number) (sym (ap types_of (sym e) ∙ types_shape b (term_shape n) m i o (shape_no n h)))
 
 at_place : (b : Nodes) (n : ℕ) (ids : List TypeId) (d : TypeId) → n < length ids → type_tree b (get_or ids n d).0 ≡ type_at (map (type_tree b) (map (λ t. t.0) ids)) n
@@ -38,5 +39,6 @@ at_place b n [] d h = absurd (omega arith)
 at_place b zero (x ∷ xs) d h = refl
 at_place b (suc n) (x ∷ xs) d h = at_place b n xs d (omega arith)
 
-pub argument_at : (b : Nodes) (n k : ℕ) (ids : List TypeId) (d : TypeId) (i : ℕ) → n < length ids → atom (constant k (map (type_tree b) (map (λ t. t.0) ids))) ≡ tree b i → type_tree b (get_or ids n d).0 ≡ type_at (types_of (tree b i)) n
+pub argument_at : (b : Nodes) (n k : ℕ) (ids : List TypeId) (d : TypeId) (i : ℕ) → n < length ids → atom
+    (constant k (map (type_tree b) (map (λ t. t.0) ids))) ≡ tree b i → type_tree b (get_or ids n d).0 ≡ type_at (types_of (tree b i)) n
 argument_at b n k ids d i h e = at_place b n ids d h ∙ ap (λ t. type_at (types_of t) n) e

@@ -160,7 +160,8 @@ standing_own h vars n i σ a xs l v x e f = record {
     found : (m : ℕ) (w : Seen) → at_level (set_own a l) m ≡ Some w → ((m ≡ l) × (w ≡ as_set v)) ⊎ ((m ≡ l → ⊥) × (at_level a m ≡ Some w))
     found m w g = found_after a l m v w own.2 e g
 
-pub standing_set : (h : Home) (vars n : ℕ) (i : Bool) (σ : ℕ → Term) (a : Around) (xs : List (Option Built)) (l : ℕ) (v : Seen) → Standing h vars n i σ a xs → at_level a l ≡ Some v → v.is_set ≡ false →
+pub standing_set : (h : Home) (vars n : ℕ) (i : Bool) (σ : ℕ → Term) (a : Around) (xs : List (Option Built)) (l : ℕ) (v : Seen) → Standing h vars n i
+    σ a xs → at_level a l ≡ Some v → v.is_set ≡ false →
     Standing h vars n i σ (set_level a l) (made_variable h v.register v.of xs)
 standing_set h vars n i σ a xs l v x e f =
     subst (λ b. Standing h vars n i σ b (made_variable h v.register v.of xs)) (sym (set_is a l (x.unmade l v e f).2)) (standing_own h vars n i σ a xs l v x e f)

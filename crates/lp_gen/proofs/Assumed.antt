@@ -22,10 +22,12 @@ use Rattle.lp_gen.proofs.Quantified.{Inner, not_deep}
 use Rattle.lp_gen.proofs.Bytes.{some_length}
 
 pub assume_said : (h : Home) (later : Later) (vars n o k p : ℕ) (s : State) (v w x : Vec ℕ Global) (cs : Clauses) (js : List Instr) (X : Goals → List (ℕ × Captured) → Type 0) → s.in_body ≡ true →
-    depth s.frames < nesting_limit → TypesStand h vars n s → TermsStand h k s → list_any (λ t. is_none (held s.now.types t)) w.items ≡ false → list_any (λ r. is_none (held s.now.terms r)) x.items ≡ false →
+    depth s.frames < nesting_limit → TypesStand h vars n s → TermsStand h k s → list_any (λ t. is_none (held s.now.types t)) w.items ≡ false →
+    list_any (λ r. is_none (held s.now.terms r)) x.items ≡ false →
     are_fine_names h (named_before h.number h.records ++ map (λ (a : ℕ × Captured). a.0) s.assumed) (length w.items) (length x.items) v.items ≡ true →
     clauses_of_records later v.items (captured_by s w.items x.items) ≡ Some cs → MayEnd s (s.place + sum_by length_of (on.Assume v w x ∷ [] ++ (js ++ on.EndAssume ∷ []))) →
-    ((t : State) → Opened h later vars n n k k s (on.Assume v w x ∷ []) (frame_of s (under_assumption cs)) (handed v.items (captured_by s w.items x.items)) t → Inner h later vars n o k p t js X) → n ≤ o →
+    ((t : State) → Opened h later vars n n k k s (on.Assume v w x ∷ []) (frame_of s (under_assumption cs))
+    (handed v.items (captured_by s w.items x.items)) t → Inner h later vars n o k p t js X) → n ≤ o →
     (gs : Goals) × (b : List (ℕ × Captured)) × X gs b × (y : State)
     × Says h later vars n o k p s (on.Assume v w x ∷ [] ++ (js ++ on.EndAssume ∷ [])) (with_goal s.goals (Assume nothing_written cs gs)) (handed v.items (captured_by s w.items x.items) ++ b) y
 assume_said h later vars n o k p s v w x cs js X body shallow st te types terms names told room inner le =
@@ -36,7 +38,8 @@ assume_said h later vars n o k p s v w x cs js X body shallow st te types terms 
     let one : sum_by length_of (i ∷ []) ≡ 0 + length_of i = refl in
     let last : sum_by length_of (on.EndAssume ∷ []) ≡ 1 = refl in
     let long = some_length i in
-    let after : HasRoom s (s.place + length_of i) = may_strict (s.place + length_of i) (s.place + sum_by length_of (i ∷ [] ++ (js ++ on.EndAssume ∷ []))) s.frames (omega (arith, size, more, one, last)) room in
+    let after : HasRoom s (s.place + length_of i) = may_strict (s.place + length_of i)
+    (s.place + sum_by length_of (i ∷ [] ++ (js ++ on.EndAssume ∷ []))) s.frames (omega (arith, size, more, one, last)) room in
     let here : HasRoom s s.place = room_less s.place (s.place + length_of i) s.frames (omega arith) after in
     let opened = opened_by h later vars n k s i (under_assumption cs) (handed v.items c)
     (ap (option_map (λ (ds : Clauses). opened_state s (under_assumption ds) (s.assumed ++ handed v.items c))) told) refl refl long
@@ -61,8 +64,10 @@ assume_said h later vars n o k p s v w x cs js X body shallow st te types terms 
     let b = q.1 in
     let u = q.3 in
     let y = q.4 in
-    let z = block_ends h later vars n n o k k p s opened.0 u (frame_of s (under_assumption cs)) (i ∷ []) js on.EndAssume gs (Assume nothing_written cs gs) (handed v.items c) b opened.1 y refl refl refl (λ q. refl)
+    let z = block_ends h later vars n n o k k p s opened.0 u (frame_of s (under_assumption cs)) (i ∷ []) js on.EndAssume gs
+    (Assume nothing_written cs gs) (handed v.items c) b opened.1 y refl refl refl (λ q. refl)
     refl refl refl (omega arith) refl
-    (λ strict innermost. plain_rules h vars o p u on.EndAssume y.types_stand y.terms_stand refl refl refl refl refl refl refl refl refl refl (λ rest. ap (λ k. not (ends_block on.EndAssume k)) innermost) refl strict)
+    (λ strict innermost. plain_rules h vars o p u on.EndAssume y.types_stand y.terms_stand refl refl refl refl refl refl refl refl refl refl
+    (λ rest. ap (λ k. not (ends_block on.EndAssume k)) innermost) refl strict)
     body st te room in
     (gs, b, q.2, z.0, z.1)

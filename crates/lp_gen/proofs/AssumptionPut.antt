@@ -8,7 +8,7 @@ use Rattle.lp_gen.specs.inner.Listing.{Seen, Around, at_level}
 use Rattle.lp_gen.specs.inner.GoalCode.{numbers, AreRegisters}
 use Rattle.lp_gen.specs.inner.BodyCode.{level_found, levels_found}
 
-numbers_last : (q n : ℕ) → numbers q (n + 1) ≡ numbers q n ++ (q + n) ∷ []
+pub numbers_last : (q n : ℕ) → numbers q (n + 1) ≡ numbers q n ++ (q + n) ∷ []
 numbers_last q n = ap (numbers q) (add-one n) ∙ go q n
   where
     go : (q n : ℕ) → numbers q (suc n) ≡ numbers q n ++ (q + n) ∷ []
@@ -24,7 +24,7 @@ number_more f g c n sum place number xs ys before low total at is e few =
 pub zero_more : (n : ℕ) (xs ys : List ℕ) → xs ≡ from_zero n → ys ≡ xs ++ n ∷ [] → ys ≡ from_zero (n + 1)
 zero_more n xs ys x e = e ∙ ap (λ l. l ++ n ∷ []) x ∙ sym (ap from_zero (add-one n))
 
-found_last : (a : Around) (ls : List ℕ) (l : ℕ) → levels_found a (ls ++ l ∷ []) ≡ levels_found a ls ++ level_found (at_level a l) l
+pub found_last : (a : Around) (ls : List ℕ) (l : ℕ) → levels_found a (ls ++ l ∷ []) ≡ levels_found a ls ++ level_found (at_level a l) l
 found_last a [] l = append-nil (level_found (at_level a l) l)
 found_last a (k ∷ ks) l = ap (λ z. level_found (at_level a k) k ++ z) (found_last a ks l) ∙ sym (append_assoc (level_found (at_level a k) k) (levels_found a ks) (level_found (at_level a l) l))
 
@@ -34,7 +34,8 @@ registers_push a [] (r ∷ rs) l v x e = absurd x
 registers_push a (k ∷ ks) [] l v x e = absurd x
 registers_push a (k ∷ ks) (r ∷ rs) l v (w, at, is, more) e = (w, at, is, registers_push a ks rs l v more e)
 
-pub register_more : (a : Around) (ls rs after : List ℕ) (l : ℕ) (v : Seen) → AreRegisters a (levels_found a ls) rs → at_level a l ≡ Some v → after ≡ rs ++ v.register ∷ [] → AreRegisters a (levels_found a (ls ++ l ∷ [])) after
+pub register_more : (a : Around) (ls rs after : List ℕ) (l : ℕ) (v : Seen) → AreRegisters a (levels_found a ls) rs → at_level a l ≡ Some v → after ≡
+    rs ++ v.register ∷ [] → AreRegisters a (levels_found a (ls ++ l ∷ [])) after
 register_more a ls rs after l v x e f =
     subst (AreRegisters a (levels_found a (ls ++ l ∷ []))) (sym f) (subst (λ z. AreRegisters a z (rs ++ v.register ∷ [])) (sym (found_last a ls l ∙ ap (λ o. levels_found a ls ++ level_found o l) e))
     (registers_push a (levels_found a ls) rs l v x e))

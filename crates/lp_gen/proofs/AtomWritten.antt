@@ -89,7 +89,8 @@ head_apply t (x ∷ xs) = head_apply (app t x) xs
 
 -- wholes
 
-applied_wholes : (h : Home) (v : ℕ) (Γ : List Ty) (a : Around) (f : Term → Term) (A : Ty) (ts : List Term) (R : Ty) → AreWell h v Γ a A ts R → applied_type A (built_types (wholes A (map f ts))) ≡ Some R
+applied_wholes : (h : Home) (v : ℕ) (Γ : List Ty) (a : Around) (f : Term → Term) (A : Ty) (ts : List Term) (R : Ty) → AreWell h v Γ a A ts R →
+    applied_type A (built_types (wholes A (map f ts))) ≡ Some R
 applied_wholes h v Γ a f A [] R w = ap (λ T. Some T) w
 applied_wholes h v Γ a f A (t ∷ ts) R w =
     ap (λ T. applied_type T (built_types (wholes T (map f (t ∷ ts))))) w.2
@@ -110,7 +111,8 @@ wholes_closed xs (r ∷ rs) A (u ∷ us) f e a =
 
 -- a goal with one of the connectives at its head is no atom
 
-no_connective : (c : ℕ) (Ts : List Ty) (us : List Term) (k : connective.Connective) → connective_of_constant c Ts us ≡ connective.Atomic → connective_of_constant c Ts us ≡ k → (k ≡ connective.Atomic → ⊥) → ⊥
+no_connective : (c : ℕ) (Ts : List Ty) (us : List Term) (k : connective.Connective) → connective_of_constant c Ts us ≡ connective.Atomic →
+    connective_of_constant c Ts us ≡ k → (k ≡ connective.Atomic → ⊥) → ⊥
 no_connective c Ts us k e f n = n (sym f ∙ e)
 
 no_args : (B : Ty) (Ts : List Ty) (A : Ty) → scheme_type Ts (plain B) ≡ Some A → Ts ≡ []
@@ -274,7 +276,8 @@ says_same h later vars n m m' k l l' s t is gs hs more e f g x = record {
 }
 
 -- the same with other names for what it says
-pub does_same : (h : Home) (later : Later) (vars n m m' k l l' : ℕ) (s t : State) (is : List Instr) (gs : Goals) (Ts : List Ty) (bs : List Built) (hs : Goals) (Us : List Ty) (cs : List Built) → m ≡ m' → l ≡ l' →
+pub does_same : (h : Home) (later : Later) (vars n m m' k l l' : ℕ) (s t : State) (is : List Instr) (gs : Goals) (Ts : List Ty) (bs : List Built)
+    (hs : Goals) (Us : List Ty) (cs : List Built) → m ≡ m' → l ≡ l' →
     gs ≡ hs → Ts ≡ Us → bs ≡ cs → Does h later vars n m k l s is gs Ts bs t → Does h later vars n m' k l' s is hs Us cs t
 does_same h later vars n m m' k l l' s t is gs Ts bs hs Us cs e f g p q x = record {
   runs = x.runs;
@@ -331,13 +334,15 @@ call_written K start types args new a b c Ts ts qs rs x y z = record {
       let front = x.more ++ y.more in
       let size = sum_by-append length_of front z.more in
       let some = z.some in
-      let room_f : HasRoom s (s.place + sum_by length_of front) = may_strict (s.place + sum_by length_of front) (s.place + sum_by length_of (front ++ z.more)) s.frames (omega (arith, size, some)) room in
+      let room_f : HasRoom s (s.place + sum_by length_of front) = may_strict (s.place + sum_by length_of front)
+      (s.place + sum_by length_of (front ++ z.more)) s.frames (omega (arith, size, some)) room in
       let w = x.denotes h later vars s st (omega (arith, low, i, k)) sp.3 (room_front s front x.more y.more refl room_f) in
       let te_w : TermsStand h start.registers w.0 = (moved h later vars start.types types.types start.registers s w.0 x.more w.1 te).terms_stand in
       let stands_w : Standing h vars types.registers w.0.in_body σ a w.0.now.terms =
       subst (λ n. Standing h vars n w.0.in_body σ a w.0.now.terms) (sym stay) (subst (λ z. Standing h vars start.registers z σ a w.0.now.terms) (sym w.1.same.in_body)
       (subst (λ xs. Standing h vars start.registers s.in_body σ a xs) (sym w.1.same.terms) stands)) in
-      let v = y.denotes h later vars w.0 σ Γ A o_type asked w.1.stands (subst (λ n. TermsStand h n w.0) (sym stay) te_w) (omega (arith, low, k)) (omega (arith, few, l)) stands_w well (asked.asks c Ts A sp.1)
+      let v = y.denotes h later vars w.0 σ Γ A o_type asked w.1.stands (subst (λ n. TermsStand h n w.0) (sym stay) te_w) (omega (arith, low, k))
+      (omega (arith, few, l)) stands_w well (asked.asks c Ts A sp.1)
       (room_behind h later vars start.types types.types s w.0 front x.more y.more w.1 refl room_f) in
       let bs = wholes A (map f ts) in
       let held_types = hold_all_on types.types w.0 v.0 qs Ts v.1.types_kept w.3 w.2 in
@@ -359,7 +364,8 @@ call_written K start types args new a b c Ts ts qs rs x y z = record {
       let first = then_goes h later vars start.types types.types args.types start.registers start.registers args.registers s w.0 v.0 x.more y.more
       (leads_goes h later vars start.types types.types start.registers s w.0 x.more w.1 te) (subst (λ n. Goes h later vars types.types args.types n args.registers w.0 y.more v.0) stay v.1)
       x.types_grow (omega arith) in
-      let u = z.denotes h later vars v.0 std v.1.types_stand v.1.terms_stand parts (may_goes h later vars start.types args.types start.registers args.registers s v.0 (front ++ z.more) front z.more first refl room) in
+      let u = z.denotes h later vars v.0 std v.1.types_stand v.1.terms_stand parts (may_goes h later vars start.types args.types start.registers
+      args.registers s v.0 (front ++ z.more) front z.more first refl room) in
       let last = goes_says h later vars start.types args.types start.registers args.registers s v.0 u.0 front z.more _ first u.1 in
       let said : apply (atom (constant c (types_in v.0.now qs))) (plain_terms (terms_in v.0.now rs)) ≡ f (apply head ts) =
       (λ i. apply (atom (constant c (types_are.0 i))) (plain_terms (terms_are i))) ∙ ap (apply head) (plain_wholes A (map f ts)) ∙ sym (with_apply σ a 0 head ts) in (
@@ -433,7 +439,8 @@ term_call_written K start term new a b r t y z other = record {
       } in
       let size = sum_by-append length_of y.more z.more in
       let some = z.some in
-      let room_y : HasRoom s (s.place + sum_by length_of y.more) = may_strict (s.place + sum_by length_of y.more) (s.place + sum_by length_of (y.more ++ z.more)) s.frames (omega (arith, size, some)) room in
+      let room_y : HasRoom s (s.place + sum_by length_of y.more) = may_strict (s.place + sum_by length_of y.more)
+      (s.place + sum_by length_of (y.more ++ z.more)) s.frames (omega (arith, size, some)) room in
       let w = y.denotes h later vars s σ Γ o_type asked st te (omega (arith, low, k)) (omega (arith, few, l)) stands well (refl, refl) room_y in
       let at : term_in w.0.now r ≡ whole (f t) o_type = ap (λ o. unwrap_or o (record { term = index 0; type = o_type; loose = [] })) w.2 in
       let parts : IsGoalTerm w.0 r = record {

@@ -62,7 +62,8 @@ variable_made old kind new a l v t q code same_types same_registers = record {
       let wide : HasRoom w.0 (w.0.place + length_of (New r t)) = room_less (w.0.place + length_of (New r t)) (w.0.place + sum_by length_of one) w.0.frames (omega (arith, size))
       (room_behind h later vars old.types kind.types s w.0 (q.more ++ one) q.more one w.1 refl room) in
       let here : HasRoom w.0 w.0.place = room_less w.0.place (w.0.place + length_of (New r t)) w.0.frames (omega arith) wide in
-      let u = put_at h later vars kind.types old.registers old.registers w.0 (New r t) r b (ap (λ o. Some (put_term w.0 r (whole (variable r h.number) (unwrap_or o o_type)))) w.2) refl refl (omega arith)
+      let u = put_at h later vars kind.types old.registers old.registers w.0 (New r t) r b
+      (ap (λ o. Some (put_term w.0 r (whole (variable r h.number) (unwrap_or o o_type)))) w.2) refl refl (omega arith)
       w.1.stands first.terms_stand (omega arith) below low_r wide (new_fine h vars kind.types w.0 r t v.of w.1.stands fresh before low_r w.2 here) in
       let second : Goes h later vars kind.types kind.types old.registers old.registers w.0 one u.0 = record {
         runs = u.1.runs;
@@ -74,7 +75,7 @@ variable_made old kind new a l v t q code same_types same_registers = record {
         terms_stand = u.1.terms_stand;
       } in
       let all = then_goes h later vars old.types kind.types kind.types old.registers old.registers old.registers s w.0 u.0 q.more one first second q.types_grow (omega arith) in
-      let many = u.1.terms_stand.as_many in (
+      let many = u.1.terms_stand.as_many.enough in (
         u.0,
         subst (λ n. Goes h later vars old.types n old.registers old.registers s (q.more ++ one) u.0) (sym same_types) all,
         standing_on h vars old.registers old.registers s.in_body σ (set_level a l) (made_variable h r v.of s.now.terms) u.0.now.terms
@@ -107,7 +108,8 @@ no_variables e a = record {
   );
 }
 
-pub variable_then : (old mid new : Emitter) (a b : Around) (l : ℕ) (v : Seen) → VariablesMade old mid a b → VariableMade mid new b l v → at_level b l ≡ Some v → v.is_set ≡ false → VariablesMade old new a (set_level b l)
+pub variable_then : (old mid new : Emitter) (a b : Around) (l : ℕ) (v : Seen) → VariablesMade old mid a b → VariableMade mid new b l v → at_level b l
+    ≡ Some v → v.is_set ≡ false → VariablesMade old new a (set_level b l)
 variable_then old mid new a b l v x p found unset = record {
   more = x.more ++ p.more;
   code_is = p.code_is ∙ ap (λ l. l ++ p.more) x.code_is ∙ append_assoc old.code.items x.more p.more;
@@ -126,7 +128,8 @@ variable_then old mid new a b l v x p found unset = record {
       let y = p.denotes h later vars w.0 σ w.1.types_stand te_w low (omega (arith, few, stay)) here found unset
       (room_goes h later vars old.types mid.types old.registers old.registers s w.0 (x.more ++ p.more) x.more p.more w.1 refl room) in (
         y.0,
-        then_goes h later vars old.types mid.types new.types old.registers old.registers old.registers s w.0 y.0 x.more p.more w.1 (subst (λ n. Goes h later vars mid.types new.types n n w.0 p.more y.0)
+        then_goes h later vars old.types mid.types new.types old.registers old.registers old.registers s w.0 y.0 x.more p.more w.1
+            (subst (λ n. Goes h later vars mid.types new.types n n w.0 p.more y.0)
             stay y.1) x.types_grow (omega arith),
         subst (λ n. Standing h vars n s.in_body σ (set_level b l) y.0.now.terms) stay (subst (λ z. Standing h vars mid.registers z σ (set_level b l) y.0.now.terms) body y.2),
         around_then a b (set_level b l) w.3 (around_set b l (here.unmade l v found unset).2),
@@ -155,7 +158,9 @@ neck_put old new code same_types same_registers = record {
   code_is = code;
   types_stay = same_types;
   registers_stay = same_registers;
+  is_neck = refl;
   bytes = refl;
+  plain = record { no_own = refl; no_types = refl };
   denotes = λ h later vars s st te before fine room.
       let here : HasRoom s s.place = room_less s.place (s.place + 1) s.frames (omega arith) room in
       let nothing : s.types_set ++ [] ≡ s.types_set = append-nil s.types_set in

@@ -107,15 +107,15 @@ bound_atom κ n rs home d (eigen j) k = absurd k
 bound_atom κ n rs home d (logic x l) k = absurd k
 bound_atom κ n rs home d (param j T) k = absurd k
 
-under_same : (vs : List Ty) (d : ℕ) → under_all suc (map same_type vs) d ≡ under_all suc vs d
+pub under_same : (vs : List Ty) (d : ℕ) → under_all suc (map same_type vs) d ≡ under_all suc vs d
 under_same [] d = refl
 under_same (T ∷ Ts) d = ap suc (under_same Ts d)
 
-under_behind : (m : ℕ) (vs : List Ty) (d e : ℕ) → e ≡ m + d → under_all suc vs e ≡ m + under_all suc vs d
+pub under_behind : (m : ℕ) (vs : List Ty) (d e : ℕ) → e ≡ m + d → under_all suc vs e ≡ m + under_all suc vs d
 under_behind m [] d e q = q
 under_behind m (T ∷ Ts) d e q = let z = under_behind m Ts d e q in omega (arith, z)
 
-types_same : (vs : List Ty) → map same_type vs ≡ vs
+pub types_same : (vs : List Ty) → map same_type vs ≡ vs
 types_same [] = refl
 types_same (T ∷ Ts) = ap (λ l. T ∷ l) (types_same Ts)
 
@@ -166,7 +166,7 @@ module _ (κ : ℕ → Option ℕ) (n home m : ℕ) (rs : List ℕ) (σ τ : ℕ
     bind_goals_with d e no_goals q x = refl
     bind_goals_with d e (goals g gs) q x = λ i. goals (bind_goal_with d e g q x.0 i) (bind_goals_with d e gs q x.1 i)
 
-    bind_clauses_with : (d e : ℕ) (cs : Clauses) → e ≡ m + d → AllThrough IsBindable d cs →
+    pub bind_clauses_with : (d e : ℕ) (cs : Clauses) → e ≡ m + d → AllThrough IsBindable d cs →
         map_clauses suc (bind_term rs home) same_type d (said_clauses σ a d cs) ≡ said_clauses τ b e cs
     bind_clauses_with d e no_clauses q x = refl
     bind_clauses_with d e (clauses (clause j vs h t) cs) q x =

@@ -53,7 +53,8 @@ left_state s u g = record {
   assumed = u.assumed;
 }
 
-pub left_is : (home : ℕ) (s t u : State) (F : Frame) (gs : Goals) (g : Goal) → Closes home t gs u → t.goals ≡ no_goals → t.frames ≡ F ∷ s.frames → is_sigma F.block ≡ false → F.before ≡ s.goals → F.registers ≡ s.now →
+pub left_is : (home : ℕ) (s t u : State) (F : Frame) (gs : Goals) (g : Goal) → Closes home t gs u → t.goals ≡ no_goals → t.frames ≡ F ∷ s.frames →
+    is_sigma F.block ≡ false → F.before ≡ s.goals → F.registers ≡ s.now →
     goal_of_block home F.block gs ≡ Some g → leave home u ≡ left_state s u g
 left_is home s t u F gs g x none frames kept before registers is =
     let ends : (◌≡◌ {A = Ended} (end_variables home u.goals u.frames) (record { goals = gs; frames = F ∷ s.frames })) =
@@ -73,7 +74,8 @@ left_is home s t u F gs g x none frames kept before registers is =
     })
 
 pub block_ends : (h : Home) (later : Later) (vars n m o k l p : ℕ) (s t u : State) (F : Frame) (is js : List Instr) (e : Instr) (gs : Goals) (g : Goal) (a b : List (ℕ × Captured)) →
-    Opened h later vars n m k l s is F a t → GoalsSaid h later vars m o l p t js gs b u → F.before ≡ s.goals → F.registers ≡ s.now → is_sigma F.block ≡ false → ((q : ℕ) → side_is_passed q F.block ≡ false) →
+    Opened h later vars n m k l s is F a t → GoalsSaid h later vars m o l p t js gs b u → F.before ≡ s.goals → F.registers ≡ s.now → is_sigma F.block
+    ≡ false → ((q : ℕ) → side_is_passed q F.block ≡ false) →
     effect h later u e ≡ Some (leave h.number u) → type_set e ≡ [] → term_set e ≡ [] → 0 < length_of e → goal_of_block h.number F.block gs ≡ Some g →
     (HasRoom u u.place → innermost_block u.frames ≡ Some F.block → (rest : List Instr) (r : Rule) → broken_by h u rest e r ≡ false) → s.in_body ≡ true → TypesStand h vars n s → TermsStand h k s →
     MayEnd s (s.place + sum_by length_of (is ++ (js ++ e ∷ []))) → (v : State) × Says h later vars n o k p s (is ++ (js ++ e ∷ [])) (with_goal s.goals g) (a ++ b) v
@@ -123,8 +125,10 @@ block_ends h later vars n m o k l p s t u F is js e gs g a b x y before register
     )
 
 -- an instruction that opens a block
-pub opened_by : (h : Home) (later : Later) (vars n k : ℕ) (s : State) (i : Instr) (B : Block) (a : List (ℕ × Captured)) → effect h later s i ≡ Some (opened_state s B (s.assumed ++ a)) → type_set i ≡ [] → term_set i ≡ [] →
-    0 < length_of i → ((rest : List Instr) (r : Rule) → broken_by h s rest i r ≡ false) → s.in_body ≡ true → side_is_passed (s.place + length_of i) B ≡ false → TypesStand h vars n s → TermsStand h k s →
+pub opened_by : (h : Home) (later : Later) (vars n k : ℕ) (s : State) (i : Instr) (B : Block) (a : List (ℕ × Captured)) → effect h later s i ≡ Some
+    (opened_state s B (s.assumed ++ a)) → type_set i ≡ [] → term_set i ≡ [] →
+    0 < length_of i → ((rest : List Instr) (r : Rule) → broken_by h s rest i r ≡ false) → s.in_body ≡ true → side_is_passed (s.place + length_of i) B
+    ≡ false → TypesStand h vars n s → TermsStand h k s →
     HasRoom s (s.place + length_of i) → (t : State) × Opened h later vars n n k k s (i ∷ []) (frame_of s B) a t
 opened_by h later vars n k s i B a eff ts rs long fine body side st te room =
     let t = passed i (opened_state s B (s.assumed ++ a)) in

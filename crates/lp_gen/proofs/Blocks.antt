@@ -80,7 +80,8 @@ then_said h later vars n m o k l p s t u is js g gs a b some x y nm kl room =
     (may_strict t.place (s.place + sum_by length_of (is ++ js)) s.frames (omega (arith, i, size, some)) room) in
     let whole : 0 < sum_by length_of (is ++ js) = omega (arith, size, some) in
     record {
-      runs = λ e rest. ap (run h later s) (append_assoc is js (e ∷ rest)) ∙ head_runs js e rest some ∙ ap (λ (z : State). run h later z (js ++ e ∷ rest)) (settled_same h.number (depth t.frames) t strict)
+      runs = λ e rest. ap (run h later s) (append_assoc is js (e ∷ rest)) ∙ head_runs js e rest some ∙ ap
+          (λ (z : State). run h later z (js ++ e ∷ rest)) (settled_same h.number (depth t.frames) t strict)
           ∙ y.runs e rest ∙ ap (λ (z : State). run h later z (e ∷ rest)) (some_code h js u some ∙ sym (some_code h (is ++ js) u whole));
       place_is = omega (arith, i, j, size);
       closes = record {
@@ -99,7 +100,8 @@ then_said h later vars n m o k l p s t u is js g gs a b some x y nm kl room =
       terms_stand = y.terms_stand;
     }
   where
-    head_runs : (js : List Instr) (e : Instr) (rest : List Instr) → 0 < sum_by length_of js → run h later s (is ++ (js ++ e ∷ rest)) ≡ run h later (settled h.number (depth t.frames) t) (js ++ e ∷ rest)
+    head_runs : (js : List Instr) (e : Instr) (rest : List Instr) → 0 < sum_by length_of js → run h later s (is ++ (js ++ e ∷ rest)) ≡ run h later
+        (settled h.number (depth t.frames) t) (js ++ e ∷ rest)
     head_runs [] e rest l = let z : sum_by length_of [] ≡ 0 = refl in absurd (omega (arith, l, z))
     head_runs (j ∷ js) e rest l = x.runs j (js ++ e ∷ rest)
 

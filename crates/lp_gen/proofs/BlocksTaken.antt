@@ -56,11 +56,13 @@ module _ (P : Around → (records levels : List ℕ) → Clauses → Type 0) (K 
             (regrouped code front last first js is (on.EndAll ∷ []) e efront ∙ ap (λ y. first ++ (js ++ (y ++ tail))) eis ∙ ap (λ y. first ++ (js ++ y)) (append_assoc ts (on.All k2 r ∷ []) tail));
       }
 
-  pub all_leaves : (T : Ty) (gs hs : Goals) (bs : List OpenBlock) (c : Around) (n k q : ℕ) (code : List Instr) (ms : List Mark) → Closes P K v z (walked gs (block (in_all T) hs ∷ bs)) c n k q code ms →
+  pub all_leaves : (T : Ty) (gs hs : Goals) (bs : List OpenBlock) (c : Around) (n k q : ℕ) (code : List Instr) (ms : List Mark) → Closes P K v z
+      (walked gs (block (in_all T) hs ∷ bs)) c n k q code ms →
       Leaves P K v z (walked (with_goal hs (Forall T gs)) bs) c n k q (code ++ on.EndAll ∷ []) ms
   all_leaves T gs hs bs c n k q code ms x = all_by T gs hs bs x.around c x.types n x.terms k x.next q code x.front x.last ms x.opens x.goals_are x.code_is x.left
 
-  assumption_by : (cs : Clauses) (gs hs : Goals) (bs : List OpenBlock) (a c : Around) (m n l k o q : ℕ) (code front last : List Instr) (ms : List Mark) → Opens P K v z (block (in_assumption cs) hs ∷ bs) a m l o front ms →
+  assumption_by : (cs : Clauses) (gs hs : Goals) (bs : List OpenBlock) (a c : Around) (m n l k o q : ℕ) (code front last : List Instr)
+      (ms : List Mark) → Opens P K v z (block (in_assumption cs) hs ∷ bs) a m l o front ms →
       GoalsCode P K v a m n l k o q gs last → code ≡ front ++ last → a ≡ cut_to (length a.own) c →
       Leaves P K v z (walked (with_goal hs (Assume nothing_written cs gs)) bs) c n k q (code ++ on.EndAssume ∷ []) ms
   assumption_by cs gs hs bs a c m n l k o q code front last ms
@@ -79,7 +81,8 @@ module _ (P : Around → (records levels : List ℕ) → Clauses → Type 0) (K 
             (regrouped code front last first js is (on.EndAssume ∷ []) e efront ∙ ap (λ y. first ++ (js ++ (y ++ tail))) eis);
       }
 
-  pub assumption_leaves : (cs : Clauses) (gs hs : Goals) (bs : List OpenBlock) (c : Around) (n k q : ℕ) (code : List Instr) (ms : List Mark) → Closes P K v z (walked gs (block (in_assumption cs) hs ∷ bs)) c n k q code ms →
+  pub assumption_leaves : (cs : Clauses) (gs hs : Goals) (bs : List OpenBlock) (c : Around) (n k q : ℕ) (code : List Instr) (ms : List Mark) → Closes
+      P K v z (walked gs (block (in_assumption cs) hs ∷ bs)) c n k q code ms →
       Leaves P K v z (walked (with_goal hs (Assume nothing_written cs gs)) bs) c n k q (code ++ on.EndAssume ∷ []) ms
   assumption_leaves cs gs hs bs c n k q code ms x = assumption_by cs gs hs bs x.around c x.types n x.terms k x.next q code x.front x.last ms x.opens x.goals_are x.code_is x.left
 
@@ -162,7 +165,8 @@ module _ (P : Around → (records levels : List ℕ) → Clauses → Type 0) (K 
       Turns P K v z (walked no_goals (block (in_right gs) hs ∷ bs)) c n k q code ms
   turn_taken gs hs bs c n k q code ms x = turn_by gs hs bs x.around c x.types n x.terms k x.next q code x.front x.last ms x.opens x.goals_are x.code_is x.left
 
-  right_by : (left gs hs : Goals) (bs : List OpenBlock) (a c : Around) (m n l k o q : ℕ) (code front last : List Instr) (ms : List Mark) → Opens P K v z (block (in_right left) hs ∷ bs) a m l o front ms →
+  right_by : (left gs hs : Goals) (bs : List OpenBlock) (a c : Around) (m n l k o q : ℕ) (code front last : List Instr) (ms : List Mark) → Opens P K v
+      z (block (in_right left) hs ∷ bs) a m l o front ms →
       GoalsCode P K v a m n l k o q gs last → code ≡ front ++ last → a ≡ cut_to (length a.own) c → RightLeaves P K v z (walked (with_goal hs (Either left gs)) bs) c n k q code ms
   right_by left gs hs bs a c m n l k o q code front last ms (b, n1, k1, q1, n2, k2, q2, first, js, is, outer, below, before, none, (ea, nl, ls, cl, enl, eis, ems), efront) d e f =
       let inside = goals_as P K v a b m m n n l l k k o o q q gs last ea refl refl refl refl refl refl d in
@@ -193,6 +197,7 @@ module _ (P : Around → (records levels : List ℕ) → Clauses → Type 0) (K 
             (append_assoc front1 (on.Either nl ∷ ls) (on.Jump mr ∷ last) ∙ append_assoc first js (on.Either nl ∷ (ls ++ on.Jump mr ∷ last)));
       }
 
-  pub right_leaves : (left gs hs : Goals) (bs : List OpenBlock) (c : Around) (n k q : ℕ) (code : List Instr) (ms : List Mark) → Closes P K v z (walked gs (block (in_right left) hs ∷ bs)) c n k q code ms →
+  pub right_leaves : (left gs hs : Goals) (bs : List OpenBlock) (c : Around) (n k q : ℕ) (code : List Instr) (ms : List Mark) → Closes P K v z
+      (walked gs (block (in_right left) hs ∷ bs)) c n k q code ms →
       RightLeaves P K v z (walked (with_goal hs (Either left gs)) bs) c n k q code ms
   right_leaves left gs hs bs c n k q code ms x = right_by left gs hs bs x.around c x.types n x.terms k x.next q code x.front x.last ms x.opens x.goals_are x.code_is x.left

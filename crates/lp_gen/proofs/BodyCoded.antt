@@ -1,12 +1,14 @@
 -- The code of a body whose steps are those of goals stands for these goals.
 use Rattle.std.proofs.Common.{◌≡◌, ◌∙◌, ◌<◌, ◌+◌, ◌-◌, ◌^◌, ℕ, List, [], ◌++◌, length, Some, ap, refl, sym, subst}
 use Rattle.std.proofs.lemmas.List.{append-nil}
+use Rattle.indexmap.specs.IndexMap.{IndexMap}
 use Rattle.lp_calculus.specs.Types.{Ty}
 use Rattle.lp_model.specs.Flat.{Goal, Goals, Clauses, Atomic, Cut, Either, Exists, Forall, Assume, Not, no_goals, goals}
 use Rattle.lp_code.specs.declared.instruction.Instr.{Instr}
 use Rattle.lp_code.specs.Written.{nothing_written}
 use Rattle.lp_gen.specs.declared.emitter.Emitter.{Emitter}
 use Rattle.lp_gen.specs.declared.environment.Environment.{Environment}
+use Rattle.lp_gen.specs.declared.environment.Variable.{Variable}
 use Rattle.lp_gen.specs.declared.plan.Step.{Step}
 use Rattle.lp_gen.specs.declared.record.Tables.{Tables}
 use Rattle.lp_gen.specs.inner.Listing.{Around, around_of}
@@ -14,7 +16,7 @@ use Rattle.lp_gen.specs.inner.TermLaw.{AreSet}
 use Rattle.lp_gen.specs.inner.Bodies.{new_level, bare_goal, bare_goals}
 use Rattle.lp_gen.specs.inner.GoalCode.{GoalsCode}
 use Rattle.lp_gen.specs.inner.OpenGoals.{walked, advance_all, goals_steps, plain_goal, plain_goals, EndsGoals, Mark, Start, Closes}
-use Rattle.lp_gen.specs.inner.BodyCode.{AssumedBy, steps_of, next_all, AreNext, start_at, StepsWritten}
+use Rattle.lp_gen.specs.inner.BodyCode.{Suppositions, HoldStarts, AssumedBy, steps_of, next_all, AreNext, start_at, StepsWritten}
 use Rattle.lp_gen.proofs.StepsTaken.{goals_as, block_closes}
 use Rattle.lp_gen.proofs.StepsWalked.{goals_walk}
 
@@ -44,15 +46,17 @@ all_closed P K v z gs a n k q code ms x =
       x.code_is ∙ ap (λ l. l ++ x.last) o.4,
     )
 
-pub body_coded : (t : Tables) (K : ℕ → List Ty → Ty) (e e' : Emitter) (env env' : Environment) (steps : List Step) (cl : ℕ → Clauses) (q : ℕ) (gs : Goals) → StepsWritten t K e e' env env' steps →
-    steps_of t.bank.now cl steps ≡ goals_steps gs → EndsGoals gs → AreNext t q steps → AreSet (around_of t.bank.now env) → new_level (around_of t.bank.now env) + length steps < 2 ^ 64 - 1 →
+pub body_coded : {S : Type 0} (t : Tables) (K : ℕ → List Ty → Ty) (e e' : Emitter) (env env' : Environment) (xs xs' : List (IndexMap ℕ Variable S))
+    (steps : List Step) (cl : Suppositions) (q f : ℕ) (gs : Goals) → StepsWritten t K e e' env env' xs xs' steps →
+    HoldStarts t.bank.now xs' f cl → steps_of t.bank.now cl steps ≡ goals_steps gs → EndsGoals gs → AreNext t q (f + length xs) steps → AreSet
+    (around_of t.bank.now env) → new_level (around_of t.bank.now env) + length steps < 2 ^ 64 - 1 →
     (last : List Instr) × GoalsCode (AssumedBy t cl) K t.type_vars (around_of t.bank.now env) e.types e'.types e.registers e'.registers q (next_all t q steps) (plain_goals gs) last
     × (e'.code.items ≡ e.code.items ++ last)
-body_coded t K e e' env env' steps cl q gs x is ends next set short =
+body_coded t K e e' env env' xs xs' steps cl q f gs x kept is ends next set short =
     let b = t.bank.now in
     let w = goals_walk gs (walked no_goals []) ends in
     let adv : advance_all (steps_of b cl steps) (walked no_goals []) ≡ Some w.state = ap (λ l. advance_all l (walked no_goals [])) (is ∙ sym (append-nil (goals_steps gs))) ∙ w.runs [] in
-    let y = x cl q w.state next set short adv in
+    let y = x cl q f w.state kept next set short adv in
     let z = start_at (around_of b env) e q in
     let c = block_closes (AssumedBy t cl) K t.type_vars z w.state (around_of b env') e'.types e'.registers (next_all t q steps) e'.code.items y.0 y.1 in
     all_closed (AssumedBy t cl) K t.type_vars z (plain_goals gs) (around_of b env') e'.types e'.registers (next_all t q steps) e'.code.items y.0

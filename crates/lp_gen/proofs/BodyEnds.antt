@@ -31,7 +31,7 @@ proceed_rules h u room none rule.Clause = refl
 proceed_rules h u room none rule.Key = refl
 
 -- no instruction is left
-ran_out : (h : Home) (later : Later) (s : State) → 0 < s.place → run h later s [] ≡ Done s
+pub ran_out : (h : Home) (later : Later) (s : State) → 0 < s.place → run h later s [] ≡ Done s
 ran_out h later s low =
     ap (λ o. unless_broken o s.place (Done s)) (ap (λ t. if t then first_broken (broken_by_record h s) rules else None) (ne_eqb s.place 0 (λ z. absurd (omega (arith, z, low)))))
 
@@ -39,7 +39,8 @@ ran_out h later s low =
 abbrev pub ended_state : State → Goals → State
 ended_state u gs = passed on.Proceed (record u { goals = gs; frames = [] })
 
-pub body_ends : (h : Home) (later : Later) (vars n m k l : ℕ) (s u : State) (is : List Instr) (gs : Goals) (more : List (ℕ × Captured)) → GoalsSaid h later vars n m k l s is gs more u → s.goals ≡ no_goals → s.frames ≡ [] →
+pub body_ends : (h : Home) (later : Later) (vars n m k l : ℕ) (s u : State) (is : List Instr) (gs : Goals) (more : List (ℕ × Captured)) → GoalsSaid h
+    later vars n m k l s is gs more u → s.goals ≡ no_goals → s.frames ≡ [] →
     run h later s (is ++ on.Proceed ∷ []) ≡ Done (ended_state u gs)
 body_ends h later vars n m k l s u is gs more x none closed =
     let deep : depth u.frames ≡ 0 = x.closes.deep ∙ ap depth closed in

@@ -67,7 +67,7 @@ module _ (h : Home) (vars : ℕ) (P : ℕ → Type 0) where
 
     clauses_through : (Q : ℕ → Type 0) (Γ : List Ty) (B : List Bool) (d : ℕ) (cs : Clauses) → ((i : ℕ) → Q i → d ≤ i → P (i - d)) → ClausesFit h vars Γ B Q cs → AllThrough (Bindable h vars P) d cs
     clauses_through Q Γ B d no_clauses q x = tt
-    clauses_through Q Γ B d (clauses (clause n vs t gs) cs) q (none, known, head, body, others) =
+    clauses_through Q Γ B d (clauses (clause n vs t gs) cs) q (none, known, head, body, ends, others) =
         let e = under_all suc vs d in (
           (head.known, loose_at P (more_of vs Q) e 0 e t (omega arith) (all_at P Q vs d q) head.loose),
           goals_through (more_of vs Q) (vs ++ Γ) (map (λ T. false) vs ++ B) e gs (all_at P Q vs d q) body,
@@ -161,13 +161,16 @@ may_le n m (f ∷ fs) l e =
     side (right_side q gs) e = let z = ltb-false q m e in le-ltb q n (omega (arith, z, l))
 
 -- the code of a type leads to it
-pub kind_leads : (h : Home) (later : Later) (vars n m q : ℕ) (T : Ty) (is : List Instr) (s : State) → KindCode n m q T is → TypesStand h vars n s → m ≤ h.self.types → IsKnownType h.tables.kinds vars T →
+pub kind_leads : (h : Home) (later : Later) (vars n m q : ℕ) (T : Ty) (is : List Instr) (s : State) → KindCode n m q T is → TypesStand h vars n s → m
+    ≤ h.self.types → IsKnownType h.tables.kinds vars T →
     HasRoom s (s.place + sum_by length_of is) → (t : State) × Leads h later vars n m s is t × Hold t q T
 kind_leads h later vars n m q T is s x st few known room =
     let a = x.after in
-    let w = x.put.denotes h later vars s (subst (λ z. TypesStand h vars z s) (sym x.before) st) (omega (arith, few, a)) known (subst (λ l. HasRoom s (s.place + sum_by length_of l)) x.code_is room) in (
+    let w = x.put.denotes h later vars s (subst (λ z. TypesStand h vars z s) (sym x.before) st) (omega (arith, few, a)) known
+    (subst (λ l. HasRoom s (s.place + sum_by length_of l)) x.code_is room) in (
       w.0,
-      subst (λ l. Leads h later vars n m s l w.0) (sym x.code_is) (subst (λ z. Leads h later vars n z s x.put.more w.0) x.after (subst (λ z. Leads h later vars z x.new.types s x.put.more w.0) x.before w.1)),
+      subst (λ l. Leads h later vars n m s l w.0) (sym x.code_is) (subst (λ z. Leads h later vars n z s x.put.more w.0) x.after
+          (subst (λ z. Leads h later vars z x.new.types s x.put.more w.0) x.before w.1)),
       w.2,
     )
 
@@ -279,7 +282,8 @@ fine_numbers h v k zero q named low x = refl
 fine_numbers h v k (suc c) q named low x =
     let first = All-head (λ n. (h.number < n) × (is_assumed_record (slice_get h.records n) v k ≡ true)) q (numbers (suc q) c) x in
     let others = All-tail (λ n. (h.number < n) × (is_assumed_record (slice_get h.records n) v k ≡ true)) q (numbers (suc q) c) x in
-    let rest = fine_numbers h v k c (suc q) (q ∷ named) (λ m e. or_cases (m < suc q) (nat_eq m q) (member m named) e (λ f. let z = eqb-true m q f in omega (arith, z)) (λ f. let z = low m f in omega (arith, z))) others in
+    let rest = fine_numbers h v k c (suc q) (q ∷ named) (λ m e. or_cases (m < suc q) (nat_eq m q) (member m named) e
+    (λ f. let z = eqb-true m q f in omega (arith, z)) (λ f. let z = low m f in omega (arith, z))) others in
     λ i. (lt-ltb h.number q first.0 i && first.1 i && not_member q named low i && rest i)
 
 pub fine_names : (h : Home) (v k q : ℕ) (ns named : List ℕ) → ((m : ℕ) → member m named ≡ true → m < q) → ns ≡ numbers q (length ns) → AreLater h v k ns → are_fine_names h named v k ns ≡ true

@@ -57,7 +57,8 @@ mutual
 
 pub body_run : (P : Around → (records levels : List ℕ) → Clauses → Type 0) (K : ℕ → List Ty → Ty) (h : Home) (later : Later) (vars : ℕ) →
     ((a : Around) (ns ls : List ℕ) (cs : Clauses) → P a ns ls cs → AreLater h vars (length ls) ns) → TellClauses h later vars P → slice_get h.records h.number ≡ Some h.self →
-    (n n' k k' q q' : ℕ) (σ : ℕ → Term) (Γ : List Ty) (B : List Bool) (a : Around) (Q : ℕ → Type 0) (s : State) (gs : Goals) (is : List Instr) → GoalsCode P K vars a n n' k k' q q' (plain_goals gs) is →
+    (n n' k k' q q' : ℕ) (σ : ℕ → Term) (Γ : List Ty) (B : List Bool) (a : Around) (Q : ℕ → Type 0) (s : State) (gs : Goals) (is : List Instr) →
+    GoalsCode P K vars a n n' k k' q q' (plain_goals gs) is →
     IsInside h is → IsAround h K vars n k q σ Γ B a Q s → GoalsFit h vars Γ B Q gs → n' ≤ h.self.types → k' ≤ h.self.registers → goals_depth gs ≤ nesting_limit → s.goals ≡ no_goals → s.frames ≡ [] →
     (u : State) × (said : Goals) × (run h later s (is ++ on.Proceed ∷ []) ≡ Done (ended_state u said)) × (bare_goals said ≡ said_goals σ a 0 gs) × (u.head_types ≡ s.head_types)
     × (u.head_arguments ≡ s.head_arguments) × ((r : ℕ) (b : Built) → r < k → held s.now.terms r ≡ Some b → held u.now.terms r ≡ Some b)
@@ -65,7 +66,8 @@ body_run P K h later vars records told self n n' k k' q q' σ Γ B a Q s gs is c
     let shallow = depth_plain gs in
     let flat = ap depth closed in
     let zero_deep : depth [] ≡ 0 = refl in
-    let w = goals_say P K h later vars records told self n n' k k' q q' σ Γ B a Q s (plain_goals gs) is code inside x (fits_plain h vars Γ B Q gs fit) few low (omega (arith, nest, shallow, flat, zero_deep))
+    let w = goals_say P K h later vars records told self n n' k k' q q' σ Γ B a Q s (plain_goals gs) is code inside x (fits_plain h vars Γ B Q gs fit)
+    few low (omega (arith, nest, shallow, flat, zero_deep))
     (ap (list_any (λ (f : Frame). ends_before (s.place + sum_by length_of is) f.block)) closed) in (
       w.state,
       w.said,

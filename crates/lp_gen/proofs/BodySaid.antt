@@ -17,9 +17,9 @@ use Rattle.lp_code.specs.Steps.{Later, clauses_of_records, captured_by, handed}
 use Rattle.lp_code.specs.Written.{nothing_written}
 use Rattle.lp_code.specs.Rules.{nesting_limit}
 use Rattle.lp_code.specs.Denote.{from_zero}
-use Rattle.lp_gen.specs.Sources.{IsKnownType, goal_depth, goals_depth, ends_list}
+use Rattle.lp_gen.specs.Sources.{IsKnownType, goal_depth, goals_depth, clauses_depth, ends_list}
 use Rattle.lp_gen.specs.inner.Running.{TypesStand, TermsStand, ends_before, MayEnd, Hold, Leads}
-use Rattle.lp_gen.specs.inner.Listing.{Around}
+use Rattle.lp_gen.specs.inner.Listing.{Seen, Around, at_level}
 use Rattle.lp_gen.specs.inner.TermLaw.{Standing, IsSeen}
 use Rattle.lp_gen.specs.inner.Doing.{Says}
 use Rattle.lp_gen.specs.inner.Bodies.{pushed, new_level, IsShort, with_level, bare_goal, bare_goals, bare_clauses, said_goal, said_goals, said_clauses, GoalsSaid, frame_of}
@@ -84,7 +84,8 @@ no_goal_more g gs e = cc
 abbrev pub TellClauses : Home → Later → (vars : ℕ) → (P : Around → (records levels : List ℕ) → Clauses → Type 0) → Type 1
 TellClauses h later vars P =
     (a : Around) (ns ls : List ℕ) (cs : Clauses) → P a ns ls cs → (σ : ℕ → Term) (Γ : List Ty) (B : List Bool) (Q : ℕ → Type 0) (c : Captured) → IsShort a → ClausesFit h vars Γ B Q cs →
-    ((i : ℕ) → Q i → IsSeen a Γ i) → ((i : ℕ) (U : Ty) → slice_get Γ i ≡ Some U → IsKnownType h.tables.kinds vars U) → AreAlls h σ a B → AreOuter h σ a → c.types ≡ map var (from_zero vars) →
+    ((i : ℕ) → Q i → IsSeen a Γ i) → ((i : ℕ) (U : Ty) → slice_get Γ i ≡ Some U → IsKnownType h.tables.kinds vars U) →
+    ((l : ℕ) (v : Seen) → at_level a l ≡ Some v → IsKnownType h.tables.kinds vars v.of) → clauses_depth cs ≤ nesting_limit → AreAlls h σ a B → AreOuter h σ a → c.types ≡ map var (from_zero vars) →
     StartWith σ a ls c.terms → (ds : Clauses) × (clauses_of_records later ns c ≡ Some ds) × (bare_clauses ds ≡ said_clauses σ a 0 cs)
 
 module _ (P : Around → (records levels : List ℕ) → Clauses → Type 0) (K : ℕ → List Ty → Ty) (h : Home) (later : Later) (vars : ℕ) where
@@ -96,7 +97,8 @@ module _ (P : Around → (records levels : List ℕ) → Clauses → Type 0) (K 
       omega (arith, z, y, w)
 
   atom_told : (n n' k k' q q' : ℕ) (σ : ℕ → Term) (Γ : List Ty) (B : List Bool) (a : Around) (Q : ℕ → Type 0) (s : State) (t : Term) (is : List Instr) → AtomCode K a n n' k k' t is →
-      IsAround h K vars n k q σ Γ B a Q s → AtomFits h vars Γ Q t → n' ≤ h.self.types → k' ≤ h.self.registers → MayEnd s (s.place + sum_by length_of is) → GoalTold h later vars n n' k k' q' σ a s is (Atomic t)
+      IsAround h K vars n k q σ Γ B a Q s → AtomFits h vars Γ Q t → n' ≤ h.self.types → k' ≤ h.self.registers → MayEnd s
+      (s.place + sum_by length_of is) → GoalTold h later vars n n' k k' q' σ a s is (Atomic t)
   atom_told n n' k k' q q' σ Γ B a Q s t is c x fit few low room =
       let a0 = c.after.types_are in
       let a1 = c.after.registers_are in
@@ -117,7 +119,8 @@ module _ (P : Around → (records levels : List ℕ) → Clauses → Type 0) (K 
         said = said_goal σ a 0 (Atomic t);
         more = [];
         state = w.0;
-        says = says_as h later vars c.old.types c.new.types c.old.registers c.new.registers n n' k k' s w.0 c.written.more is (with_goal s.goals (said_goal σ a 0 (Atomic t))) [] c.before.types_are c.after.types_are
+        says = says_as h later vars c.old.types c.new.types c.old.registers c.new.registers n n' k k' s w.0 c.written.more is
+            (with_goal s.goals (said_goal σ a 0 (Atomic t))) [] c.before.types_are c.after.types_are
             c.before.registers_are c.after.registers_are (sym c.code_is) w.1;
         bare = refl;
         names = no_names q';
@@ -129,8 +132,10 @@ module _ (P : Around → (records levels : List ℕ) → Clauses → Type 0) (K 
       (t : State) (b : List (ℕ × Captured)) → Says h later vars n m k l s js (with_goal s.goals said) b t → AreNames q b → GoalsTold h later vars m n' l k' q' σ a t ks others
 
   -- a goal that is no `sigma`, and what is behind it
-  piece_joined : (n m n' k l k' q o q' : ℕ) (σ : ℕ → Term) (a : Around) (s v : State) (g said : Goal) (b : List (ℕ × Captured)) (rest : Goals) (is js ks : List Instr) → 0 < sum_by length_of js → n ≤ m →
-      k ≤ l → o ≤ q' → GoalsCode P K vars a m n' l k' o q' rest ks → is ≡ js ++ ks → (is ≡ [] → ⊥) → MayEnd s (s.place + sum_by length_of is) → Says h later vars n m k l s js (with_goal s.goals said) b v →
+  piece_joined : (n m n' k l k' q o q' : ℕ) (σ : ℕ → Term) (a : Around) (s v : State) (g said : Goal) (b : List (ℕ × Captured)) (rest : Goals)
+      (is js ks : List Instr) → 0 < sum_by length_of js → n ≤ m →
+      k ≤ l → o ≤ q' → GoalsCode P K vars a m n' l k' o q' rest ks → is ≡ js ++ ks → (is ≡ [] → ⊥) → MayEnd s (s.place + sum_by length_of is) → Says h
+      later vars n m k l s js (with_goal s.goals said) b v →
       bare_goal said ≡ said_goal σ a 0 g → AreNames o b → Behind n m n' k l k' o q' σ a s js ks said rest → GoalsTold h later vars n n' k k' q' σ a s is (goals g rest)
   piece_joined n m n' k l k' q o q' σ a s v g said b no_goals is js ks some nm kl oq (d0, d1, d2, d3) e filled room x bare names others =
       let f : js ≡ is = sym (append-nil js) ∙ ap (λ z. js ++ z) (sym d3) ∙ sym e in
@@ -208,14 +213,17 @@ module _ (P : Around → (records levels : List ℕ) → Clauses → Type 0) (K 
   abbrev AreSaid : (ℕ → Term) → Around → (q : ℕ) → (gs said : Goals) → List (ℕ × Captured) → Type 0
   AreSaid σ a q gs said b = (bare_goals said ≡ said_goals σ a 0 gs) × AreNames q b
 
-  inner_of : (n n' k k' q : ℕ) (σ : ℕ → Term) (a : Around) (s : State) (is : List Instr) (gs : Goals) → GoalsTold h later vars n n' k k' q σ a s is gs → Inner h later vars n n' k k' s is (AreSaid σ a q gs)
+  inner_of : (n n' k k' q : ℕ) (σ : ℕ → Term) (a : Around) (s : State) (is : List Instr) (gs : Goals) → GoalsTold h later vars n n' k k' q σ a s is gs
+      → Inner h later vars n n' k k' s is (AreSaid σ a q gs)
   inner_of n n' k k' q σ a s is gs x = (x.said, x.more, (x.bare, x.names), x.state, x.says)
 
   -- goals below `sigma`
   sigma_told : (n m n' k k' q q' r : ℕ) (σ : ℕ → Term) (Γ : List Ty) (B : List Bool) (a : Around) (Q : ℕ → Type 0) (s u : State) (T : Ty) (gs : Goals) (ts js : List Instr) →
-      IsAround h K vars n k q σ Γ B a Q s → GoalsFit h vars (T ∷ Γ) (false ∷ B) (one_more Q) gs → GoalsCode P K vars (pushed a (quantified k T)) m n' (k + 1) k' q q' gs js → n ≤ m → k < h.self.registers →
+      IsAround h K vars n k q σ Γ B a Q s → GoalsFit h vars (T ∷ Γ) (false ∷ B) (one_more Q) gs → GoalsCode P K vars (pushed a (quantified k T)) m n'
+      (k + 1) k' q q' gs js → n ≤ m → k < h.self.registers →
       MayEnd s (s.place + sum_by length_of (ts ++ (on.Sigma k r ∷ [] ++ js))) → Leads h later vars n m s ts u → Hold u r T →
-      ((t : State) → Rattle.lp_gen.specs.inner.Bodies.Opened h later vars m m k (k + 1) u (on.Sigma k r ∷ []) (frame_of u (under_sigma k T)) [] t → held t.now.terms k ≡ Some (whole (variable k h.number) T) →
+      ((t : State) → Rattle.lp_gen.specs.inner.Bodies.Opened h later vars m m k (k + 1) u (on.Sigma k r ∷ []) (frame_of u (under_sigma k T)) [] t →
+      held t.now.terms k ≡ Some (whole (variable k h.number) T) →
       Inner h later vars m n' (k + 1) k' t js (AreSaid (with_level σ (new_level a) (variable k h.number)) (pushed a (quantified k T)) q' gs)) →
       GoalTold h later vars n n' k k' q' σ a s (ts ++ (on.Sigma k r ∷ [] ++ js)) (Exists T gs)
   sigma_told n m n' k k' q q' r σ Γ B a Q s u T no_goals ts js x fit (c0, c1, c2, c3) nm low room leads holds inner =
@@ -235,7 +243,8 @@ module _ (P : Around → (records levels : List ℕ) → Clauses → Type 0) (K 
       let b = pushed a (quantified k T) in
       let τ = with_level σ (new_level a) (variable k h.number) in
       let grow = goals_grow P K vars b m n' (k + 1) k' q q' gs js c in
-      let w = sigma_said h later vars n m n' k k' r s u ts js T (AreSaid τ b q' gs) x.body x.terms_stand low leads holds nm grow.0 room (goals_some P K vars b m n' (k + 1) k' q q' g3 gs3 js c) inner in
+      let w = sigma_said h later vars n m n' k k' r s u ts js T (AreSaid τ b q' gs) x.body x.terms_stand low leads holds nm grow.0 room
+      (goals_some P K vars b m n' (k + 1) k' q q' g3 gs3 js c) inner in
       record {
         said = Exists T (bind_goals (k ∷ []) h.number w.0);
         more = w.1;
@@ -248,7 +257,8 @@ module _ (P : Around → (records levels : List ℕ) → Clauses → Type 0) (K 
   module _ (records : (a : Around) (ns ls : List ℕ) (cs : Clauses) → P a ns ls cs → AreLater h vars (length ls) ns) (told : TellClauses h later vars P)
       (is_self : slice_get h.records h.number ≡ Some h.self) where
     mutual
-      pub goal_says : (n n' k k' q q' : ℕ) (σ : ℕ → Term) (Γ : List Ty) (B : List Bool) (a : Around) (Q : ℕ → Type 0) (s : State) (g : Goal) (is : List Instr) → GoalCode P K vars a n n' k k' q q' g is →
+      pub goal_says : (n n' k k' q q' : ℕ) (σ : ℕ → Term) (Γ : List Ty) (B : List Bool) (a : Around) (Q : ℕ → Type 0) (s : State) (g : Goal)
+          (is : List Instr) → GoalCode P K vars a n n' k k' q q' g is →
           IsInside h is → IsAround h K vars n k q σ Γ B a Q s → GoalFits h vars Γ B Q g → n' ≤ h.self.types → k' ≤ h.self.registers → depth s.frames + goal_depth g ≤ nesting_limit →
           MayEnd s (s.place + sum_by length_of is) → GoalTold h later vars n n' k k' q' σ a s is g
       goal_says n n' k k' q q' σ Γ B a Q s (Atomic t) is (c, same) inside x fit few low nest room = atom_told n n' k k' q q' σ Γ B a Q s t is c x fit few low room
@@ -281,7 +291,8 @@ module _ (P : Around → (records levels : List ℕ) → Clauses → Type 0) (K 
           let t = left_begins s nl in
           let lands = left_stands h vars n k nl s x.types_stand x.terms_stand in
           let u = goals_say n m k l q o σ Γ B a Q t gs ls cl (inside_left h ls (on.Jump mr ∷ rs) within)
-          (around_kept h K vars n n k k q q σ Γ B a Q s t x lands.0 lands.1 (omega (arith, kl, lk, low)) x.body (omega arith) (λ r b q z. z) x.below) fit.0 (omega (arith, mn, few)) (omega (arith, lk, low))
+          (around_kept h K vars n n k k q q σ Γ B a Q s t x lands.0 lands.1 (omega (arith, kl, lk, low)) x.body (omega arith) (λ r b q z. z) x.below)
+          fit.0 (omega (arith, mn, few)) (omega (arith, lk, low))
           (omega (arith, nest)) (or_none (nat_lt (s.place + 5 + nl) (s.place + 5 + sum_by length_of ls)) (list_any (λ (f : Frame). ends_before (s.place + 5 + sum_by length_of ls) f.block) s.frames)
           (le-ltb (s.place + 5 + nl) (s.place + 5 + sum_by length_of ls) (omega (arith, el)))
           (may_less (s.place + 5 + sum_by length_of ls) (s.place + sum_by length_of code) s.frames (omega (arith, z1, z2, z3)) room_s)) in
@@ -291,12 +302,14 @@ module _ (P : Around → (records levels : List ℕ) → Clauses → Type 0) (K 
           let rands = right_stands h vars n m k l mr s u.state u.said body_u x.types_stand x.terms_stand u.says.types_stand u.says.terms_stand in
           let same : u.state.place + 5 + sum_by length_of rs ≡ s.place + sum_by length_of code = omega (arith, z1, z2, z3, i) in
           let w = goals_say m n' l k' o q' σ Γ B a Q r hs rs cr right
-          (around_kept h K vars n m k l q o σ Γ B a Q s r x rands.0 rands.1 (omega (arith, lk, low)) body_u kl (λ r b q z. z) (below_more q o h s.assumed u.more r.assumed x.below u.names qo u.says.assumed_are))
+          (around_kept h K vars n m k l q o σ Γ B a Q s r x rands.0 rands.1 (omega (arith, lk, low)) body_u kl (λ r b q z. z)
+          (below_more q o h s.assumed u.more r.assumed x.below u.names qo u.says.assumed_are))
           fit.1 few low (omega (arith, nest))
           (or_none (nat_lt (u.state.place + 5 + mr) (u.state.place + 5 + sum_by length_of rs)) (list_any (λ (f : Frame). ends_before (u.state.place + 5 + sum_by length_of rs) f.block) s.frames)
           (le-ltb (u.state.place + 5 + mr) (u.state.place + 5 + sum_by length_of rs) (omega (arith, er)))
           (subst (λ q. list_any (λ (f : Frame). ends_before q f.block) s.frames ≡ false) (sym same) room_s)) in
-          let v = either_said h later vars n m n' k l k' s u.state w.state ls rs u.said w.said u.more w.more nl mr el er x.body (omega (arith, nest)) x.types_stand x.terms_stand room_s u.says w.says w.empty nm kl in
+          let v = either_said h later vars n m n' k l k' s u.state w.state ls rs u.said w.said u.more w.more nl mr el er x.body (omega (arith, nest))
+          x.types_stand x.terms_stand room_s u.says w.says w.empty nm kl in
           record {
             said = Either u.said w.said;
             more = u.more ++ w.more;
@@ -392,11 +405,13 @@ module _ (P : Around → (records levels : List ℕ) → Clauses → Type 0) (K 
           let captured = captured_by s ts.items rs.items in
           let start = start_with h vars k s.in_body σ a s ls rs.items x.standing x.set are in
           let of_types = ap (Rattle.lp_code.specs.Symbolic.types_in s.now) types ∙ types_zero h vars n vars s x.types_stand (omega arith) in
-          let known = told a ns.items ls cs coded σ Γ B Q captured x.short fit.0 x.seen x.known x.alls x.outer of_types start.0 in
+          let known = told a ns.items ls cs coded σ Γ B Q captured x.short fit.0 x.seen x.known x.standing.known (omega (arith, nest)) x.alls x.outer of_types start.0 in
           let as_many : length ts.items ≡ vars = zero_is vars ts.items types in
           let as_long : length rs.items ≡ length ls = registers_length a ls rs.items are in
-          let fine = (λ i. Rattle.lp_code.specs.Rules.are_fine_names h (Rattle.lp_code.specs.Rules.named_before h.number h.records ++ map (λ (a : ℕ × Captured). a.0) s.assumed) (as_many i) (as_long i) ns.items)
-          ∙ fine_names h vars (length ls) q ns.items (Rattle.lp_code.specs.Rules.named_before h.number h.records ++ map (λ (a : ℕ × Captured). a.0) s.assumed) x.below named (records a ns.items ls cs coded) in
+          let fine = (λ i. Rattle.lp_code.specs.Rules.are_fine_names h (Rattle.lp_code.specs.Rules.named_before h.number h.records ++ map
+          (λ (a : ℕ × Captured). a.0) s.assumed) (as_many i) (as_long i) ns.items)
+          ∙ fine_names h vars (length ls) q ns.items (Rattle.lp_code.specs.Rules.named_before h.number h.records ++ map (λ (a : ℕ × Captured). a.0)
+          s.assumed) x.below named (records a ns.items ls cs coded) in
           let unset = ap (list_any (λ t. Rattle.std.specs.Prelude.is_none (held s.now.types t))) types ∙ zero_set h vars n vars s x.types_stand (omega arith) in
           let w = assume_said h later vars n n' k k' s ns ts rs known.0 js (AreSaid σ a q' gs) x.body (omega (arith, nest)) x.types_stand x.terms_stand unset start.1 fine known.1 room_s (λ t o.
           let at_t = o.place_is in
@@ -442,7 +457,8 @@ module _ (P : Around → (records levels : List ℕ) → Clauses → Type 0) (K 
             names = v.2.1;
           }
 
-      pub goals_say : (n n' k k' q q' : ℕ) (σ : ℕ → Term) (Γ : List Ty) (B : List Bool) (a : Around) (Q : ℕ → Type 0) (s : State) (gs : Goals) (is : List Instr) → GoalsCode P K vars a n n' k k' q q' gs is →
+      pub goals_say : (n n' k k' q q' : ℕ) (σ : ℕ → Term) (Γ : List Ty) (B : List Bool) (a : Around) (Q : ℕ → Type 0) (s : State) (gs : Goals)
+          (is : List Instr) → GoalsCode P K vars a n n' k k' q q' gs is →
           IsInside h is → IsAround h K vars n k q σ Γ B a Q s → GoalsFit h vars Γ B Q gs → n' ≤ h.self.types → k' ≤ h.self.registers → depth s.frames + goals_depth gs ≤ nesting_limit →
           MayEnd s (s.place + sum_by length_of is) → GoalsTold h later vars n n' k k' q' σ a s is gs
       goals_say n n' k k' q q' σ Γ B a Q s no_goals is (c0, c1, c2, c3) inside x fit few low nest room = record {

@@ -55,7 +55,8 @@ cut_set n a set l v e = go (nat_le a.base l) refl
 
     go : (t : Bool) → nat_le a.base l ≡ t → v.is_set ≡ true
     go true f =
-        set l v (ap (λ t. if t then slice_get a.own (l - a.base) else a.captured l) f ∙ kept a.own n (l - a.base) (sym (ap (λ t. if t then slice_get (take n a.own) (l - a.base) else a.captured l) f) ∙ e))
+        set l v (ap (λ t. if t then slice_get a.own (l - a.base) else a.captured l) f ∙ kept a.own n (l - a.base)
+        (sym (ap (λ t. if t then slice_get (take n a.own) (l - a.base) else a.captured l) f) ∙ e))
     go false f = set l v (ap (λ t. if t then slice_get a.own (l - a.base) else a.captured l) f ∙ sym (ap (λ t. if t then slice_get (take n a.own) (l - a.base) else a.captured l) f) ∙ e)
 
 take_less : {A : Type 0} (n : ℕ) (xs : List A) → length (take n xs) ≤ length xs
@@ -63,16 +64,16 @@ take_less zero xs = omega arith
 take_less (suc n) [] = omega arith
 take_less (suc n) (x ∷ xs) = let z = take_less n xs in omega (arith, z)
 
-push_set : (a : Around) (k : ℕ) (T : Ty) → AreSet a → AreSet (pushed a (quantified k T))
+pub push_set : (a : Around) (k : ℕ) (T : Ty) → AreSet a → AreSet (pushed a (quantified k T))
 push_set a k T set l w e = ⊎_elim (λ q. ap (λ (y : Seen). y.is_set) q.1) (λ q. set l w q.1) (at_pushed a (quantified k T) w l e)
 
-push_level : (a : Around) (v : Seen) → new_level (pushed a v) ≡ new_level a + 1
+pub push_level : (a : Around) (v : Seen) → new_level (pushed a v) ≡ new_level a + 1
 push_level a v = let z = length-append a.own (v ∷ []) in omega (arith, z)
 
 marks_more : (bs : List Block) (b : Block) → marks (bs ++ b ∷ []) ≡ mark_of b ∷ marks bs
 marks_more bs b = ap (map mark_of) (reverse-append bs (b ∷ []))
 
-numbers_length : (q n : ℕ) → length (numbers q n) ≡ n
+pub numbers_length : (q n : ℕ) → length (numbers q n) ≡ n
 numbers_length q zero = refl
 numbers_length q (suc n) = ap suc (numbers_length (suc q) n)
 
@@ -164,7 +165,8 @@ module _ (P : Around → (records levels : List ℕ) → Clauses → Type 0) (K 
         (let y = ap new_level same in omega (arith, y, level)),
       )
 
-  pub all_step : (e e1 e2 : Emitter) (a a' : Around) (bs bs' : List Block) (b : Block) (r : ℕ) (T : Ty) → IsTypePut e e1 r T → e2.code.items ≡ e1.code.items ++ on.All e1.registers r ∷ [] → e2.types ≡ e1.types →
+  pub all_step : (e e1 e2 : Emitter) (a a' : Around) (bs bs' : List Block) (b : Block) (r : ℕ) (T : Ty) → IsTypePut e e1 r T → e2.code.items ≡
+      e1.code.items ++ on.All e1.registers r ∷ [] → e2.types ≡ e1.types →
       e2.registers ≡ e1.registers + 1 → a' ≡ pushed a (quantified e1.registers T) → bs' ≡ bs ++ b ∷ [] → b.variables ≡ length a.own → StepTaken P K e e2 a a' bs bs' (all T)
   all_step e e1 e2 a a' bs bs' b r T put code types registers around blocks variables = λ v z w w' q x set short adv.
       let w1 = into (in_all T) w in
@@ -198,7 +200,8 @@ module _ (P : Around → (records levels : List ℕ) → Clauses → Type 0) (K 
       let more = opened_more P K v z w (in_assumption cs) a a e.types e.types e.registers e.registers first (first + count) e.code.items (marks bs) ms (on.Assume ns ts rs ∷ []) x
       (refl, refl, refl, ns, ts, rs, ls, coded, are, of, named1, last, refl, b.at, b.from, refl) in (
         subst (λ y. StandsAt P K v z y a e' (first + count) bs') (some_walked w1 w' adv)
-            (stands_as v z w1 a a e.types e'.types e.registers e'.registers (first + count) (e.code.items ++ on.Assume ns ts rs ∷ []) e'.code.items ms (marks bs') refl (sym types) (sym registers) (sym code)
+            (stands_as v z w1 a a e.types e'.types e.registers e'.registers (first + count) (e.code.items ++ on.Assume ns ts rs ∷ []) e'.code.items ms
+            (marks bs') refl (sym types) (sym registers) (sym code)
             (sym (ap marks blocks ∙ marks_more bs b ∙ (λ i. record { variables = variables i; at = b.at; from = b.from } ∷ marks bs))) more),
         set,
         omega arith,
@@ -292,7 +295,8 @@ module _ (P : Around → (records levels : List ℕ) → Clauses → Type 0) (K 
           let here = first_same (mark_of left) (mark t.around (length t.lead) t.from) (marks bs1) t.outer same in
           let at_is : left.at ≡ length t.lead = ap (λ (m : Mark). m.at) here in
           let from_is : left.from ≡ t.from = ap (λ (m : Mark). m.from) here in
-          let whole : e1.code.items ≡ t.lead ++ on.Either 0 ∷ (t.rest ++ on.Jump 0 ∷ []) = code ∙ ap (λ l. l ++ on.Jump 0 ∷ []) t.code_is ∙ append_assoc t.lead (on.Either 0 ∷ t.rest) (on.Jump 0 ∷ []) in
+          let whole : e1.code.items ≡ t.lead ++ on.Either 0 ∷ (t.rest ++ on.Jump 0 ∷ []) = code ∙ ap (λ l. l ++ on.Jump 0 ∷ []) t.code_is ∙
+          append_assoc t.lead (on.Either 0 ∷ t.rest) (on.Jump 0 ∷ []) in
           let size = ap (sum_by length_of) code ∙ sum_by-append length_of e.code.items (on.Jump 0 ∷ []) in
           let five : sum_by length_of (on.Jump 0 ∷ []) ≡ 5 = refl in
           let low = t.from_low in

@@ -140,13 +140,15 @@ visits_application K b old mid third new head term (x ∷ xs) vec n f of w m t e
 
 -- the arguments that wait
 
-pub no_arguments : (K : ℕ → List Ty → Ty) (b : Nodes) (work : List Task) (ids : Vec TermId Global) (f : Function) (w : Course) → ids.items ≡ [] → done K b work w ≡ done K b work (act K b (on.Args ids f) w)
+pub no_arguments : (K : ℕ → List Ty → Ty) (b : Nodes) (work : List Task) (ids : Vec TermId Global) (f : Function) (w : Course) → ids.items ≡ [] → done
+    K b work w ≡ done K b work (act K b (on.Args ids f) w)
 no_arguments K b work ids f w e =
     ap (done K b work) (sym (ap (λ l. behind w (of_head (with_arguments K w.bound (without_arguments w (read_function b f)) (map (λ t. tree b t.0) (reverse l))))) e
     ∙ (λ i. record { bound = w.bound; steps = append-nil w.steps i; around = w.around })))
 
 pub next_argument : (K : ℕ → List Ty → Ty) (b : Nodes) (old mid new : List Task) (ids rest : Vec TermId Global) (first : TermId) (f g : Function) (of : TypeView) (w : Course) →
-    ids.items ≡ rest.items ++ first ∷ [] → mid ≡ old ++ on.Args rest g ∷ [] → new ≡ mid ++ on.Visit first of ∷ [] → read b of ≡ from_of (read_function b f) → read_function b g ≡ to_of (read_function b f) →
+    ids.items ≡ rest.items ++ first ∷ [] → mid ≡ old ++ on.Args rest g ∷ [] → new ≡ mid ++ on.Visit first of ∷ [] → read b of ≡ from_of
+    (read_function b f) → read_function b g ≡ to_of (read_function b f) →
     done K b new w ≡ done K b old (act K b (on.Args ids f) w)
 next_argument K b old mid new ids rest first f g of w e m n p q =
     let tr : TermId → Term = λ t. tree b t.0 in
@@ -154,9 +156,11 @@ next_argument K b old mid new ids rest first f g of w e m n p q =
     let l = listed K w.bound w.around (from_of F) (tr first) in
     let ts = map tr (reverse rest.items) in
     let all = with_arguments K w.bound (begins l.around (to_of F)) ts in
-    let one : with_argument (without_arguments w F) l ≡ front l.steps 1 (begins l.around (to_of F)) = λ i. record { steps = sym (append-nil l.steps) i; around = l.around; function = to_of F; count = 1 } in
+    let one : with_argument (without_arguments w F) l ≡ front l.steps 1 (begins l.around (to_of F)) = λ i. record
+    { steps = sym (append-nil l.steps) i; around = l.around; function = to_of F; count = 1 } in
     last_two K b old mid new (on.Args rest g) (on.Visit first of) w m n
-    ∙ ap (done K b old) ((λ i. behind (behind w (listed K w.bound w.around (p i) (tr first))) (of_head (with_arguments K w.bound (begins (listed K w.bound w.around (p i) (tr first)).around (q i)) ts)))
+    ∙ ap (done K b old) ((λ i. behind (behind w (listed K w.bound w.around (p i) (tr first)))
+    (of_head (with_arguments K w.bound (begins (listed K w.bound w.around (p i) (tr first)).around (q i)) ts)))
     ∙ (λ i. record { bound = w.bound; steps = append_assoc w.steps l.steps all.steps i; around = all.around })
     ∙ ap (λ h. behind w (of_head h)) (sym (ap (λ h. with_arguments K w.bound h ts) one ∙ with_front K w.bound l.steps 1 (begins l.around (to_of F)) ts))
     ∙ ap (λ l. behind w (of_head (with_arguments K w.bound (without_arguments w F) (map tr l)))) (sym (ap reverse e ∙ reverse_last rest.items first)))
@@ -301,7 +305,11 @@ first_mapped f (x ∷ xs) = refl
 pub applies_task : (K : ℕ → List Ty → Ty) (b : Nodes) (work : List Task) (e : Environment) (old : Lists) (new : Vec TermStep Global) (n : ℕ) → new.items ≡ old.steps.items ++ step.Apply n ∷ [] →
     done K b work (course b e (record { bound = old.bound; steps = new })) ≡ done K b work (act K b (on.Apply n) (course b e old))
 applies_task K b work e old new n p =
-    ap (done K b work) (λ i. record { bound = map (read b) (reverse old.bound.items); steps = (ap (map (plain_step b)) p ∙ map-append (plain_step b) old.steps.items (step.Apply n ∷ [])) i; around = around_of b e })
+    ap (done K b work) (λ i. record {
+      bound = map (read b) (reverse old.bound.items);
+      steps = (ap (map (plain_step b)) p ∙ map-append (plain_step b) old.steps.items (step.Apply n ∷ [])) i;
+      around = around_of b e;
+    })
 
 pub abstracts_task : (K : ℕ → List Ty → Ty) (b : Nodes) (work : List Task) (e : Environment) (old : Lists) (bound : Vec TypeView Global) (new : Vec TermStep Global) (V : TypeView) →
     bound.items ≡ take (length old.bound.items - 1) old.bound.items → new.items ≡ old.steps.items ++ step.Abstract V ∷ [] →
@@ -347,4 +355,9 @@ pub set_own : (b : Nodes) (e : Environment) (l : ℕ) (own : List Variable) → 
     ◌≡◌ {A = Around} (record { own = map (seen b) own; base = e.base; captured = λ l. option_map (seen b) (get nat_eq e.captured.now l) }) (set_level (around_of b e) l)
 set_own b e l own le p =
     (λ i. record { own = p i; base = e.base; captured = λ l. option_map (seen b) (get nat_eq e.captured.now l) })
-    ∙ ap (λ t. if t then record { own = marked (map (seen b) e.own.items) (l - e.base); base = e.base; captured = λ l. option_map (seen b) (get nat_eq e.captured.now l) } else around_of b e) (sym (le-leb e.base l le))
+    ∙ ap (λ t. if t then record {
+      own = marked (map (seen b) e.own.items) (l - e.base);
+      base = e.base;
+      captured = λ l. option_map (seen b)
+          (get nat_eq e.captured.now l);
+    } else around_of b e) (sym (le-leb e.base l le))

@@ -1,6 +1,6 @@
 -- What the code of a type does where it is run.
 use Rattle.std.proofs.Common.{◌≡◌, ◌∙◌, ◌≤◌, ◌<◌, ℕ, zero, suc, ◌+◌, List, [], ◌∷◌, ◌++◌, append_assoc, length}
-use Rattle.std.proofs.Common.{Bool, true, false, Option, Some, None, Vec, Global, ap, refl, sym, subst, arith, eq-eqb}
+use Rattle.std.proofs.Common.{Bool, true, false, Option, Some, None, Vec, Global, ap, refl, sym, subst, arith, eq-eqb, ◌⊎◌, inl, inr, ⊎_elim}
 use Rattle.std.specs.Prelude.{nat_eq, nat_le, not, min, ◌||◌, if◌then◌else◌, is_none, slice_set, sum_by, unwrap_or, option_map}
 use Rattle.std.specs.List.{list_any}
 use Rattle.std.proofs.lemmas.List.{append-nil, length-set}
@@ -23,7 +23,7 @@ use Rattle.lp_code.specs.Rules.{is_count, side_is_passed, is_passed}
 use Rattle.lp_code.specs.Denote.{rules, first_broken, broken_by_record, broken_by, unless_broken, run_on, run}
 use Rattle.lp_gen.specs.Sources.{IsKnownType, AreKnownTypes}
 use Rattle.lp_gen.specs.inner.Pieces.{Piece, type_con, type_arrow, piece, pieces, type_made, types_made}
-use Rattle.lp_gen.specs.inner.Running.{TypesStand, HasRoom, ends_before, Leads, Hold, HoldAll}
+use Rattle.lp_gen.specs.inner.Running.{HasRegisters, TypesStand, HasRoom, ends_before, Leads, Hold, HoldAll}
 
 pub or_none : (a b : Bool) → a ≡ false → b ≡ false → (a || b) ≡ false
 or_none true b e f = absurd (cc)
@@ -105,11 +105,6 @@ strict_may a (f ∷ fs) e =
     (strict_may a fs (or_false_right (side_is_passed a f.block) (list_any (is_passed a) fs) e))
 
 -- registers
-pub held_within : {A : Type 0} (xs : List (Option A)) (r : ℕ) (x : A) → held xs r ≡ Some x → r < length xs
-held_within [] r x e = absurd (cc)
-held_within (y ∷ ys) zero x e = omega arith
-held_within (y ∷ ys) (suc r) x e = let q = held_within ys r x e in omega (arith, q)
-
 pub held_set : {A : Type 0} (xs : List (Option A)) (d : ℕ) (x : A) → d < length xs → held (slice_set xs d (Some x)) d ≡ Some x
 held_set [] d x l = absurd (omega (arith, l))
 held_set (y ∷ ys) zero x l = refl
@@ -124,6 +119,22 @@ held_below (y ∷ ys) (suc d) (suc r) o l = held_below ys d r o (omega (arith, l
 pub member_more : (r d : ℕ) (xs : List ℕ) → member r xs ≡ false → d < r → member r (xs ++ d ∷ []) ≡ false
 member_more r d [] e l = or_none (nat_eq r d) false (ne_eqb r d (λ z. absurd (omega (arith, z, l)))) refl
 member_more r d (x ∷ xs) e l = or_none (nat_eq r x) (member r (xs ++ d ∷ [])) (or_false_left (nat_eq r x) (member r xs) e) (member_more r d xs (or_false_right (nat_eq r x) (member r xs) e) l)
+
+set_or_held : {A : Type 0} (xs : List (Option A)) (d r : ℕ) (x y : A) → held (slice_set xs d (Some x)) r ≡ Some y → (r ≡ d) ⊎ (held xs r ≡ Some y)
+set_or_held [] d r x y e = inr e
+set_or_held (z ∷ zs) zero zero x y e = inl refl
+set_or_held (z ∷ zs) zero (suc r) x y e = inr e
+set_or_held (z ∷ zs) (suc d) zero x y e = inr e
+set_or_held (z ∷ zs) (suc d) (suc r) x y e = ⊎_elim (λ q. inl (ap suc q)) (λ q. inr q) (set_or_held zs d r x y e)
+
+pub many_set : {A : Type 0} (xs : List (Option A)) (n d : ℕ) (x : A) → HasRegisters xs n → d < n → HasRegisters (slice_set xs d (Some x)) n
+many_set xs n d x m low = record {
+  enough = let z = length-set xs d (Some x) in let y = m.enough in omega (arith, z, y);
+  inside = λ r y e. ⊎_elim (λ q. subst (λ k. k < n) (sym q) low) (λ q. m.inside r y q) (set_or_held xs d r x y e);
+}
+
+pub many_within : {A : Type 0} (xs : List (Option A)) (n d : ℕ) → HasRegisters xs n → d < n → d < length xs
+many_within xs n d m low = let z = m.enough in omega (arith, z, low)
 
 -- an instruction that makes a type
 pub put_leads : (h : Home) (later : Later) (vars : ℕ) (s : State) (i : Instr) (d : ℕ) (T : Ty) → effect h later s i ≡ Some (put_type s d T) → type_set i ≡ d ∷ [] → term_set i ≡ [] →
@@ -150,24 +161,24 @@ put_leads h later vars s i d T eff ts rs long st low room fine = (
     stands = record {
       few = st.few;
       own = let o = st.own in omega (arith, o);
-      as_many = length-set s.now.types d (Some T) ∙ st.as_many;
+      as_many = many_set s.now.types h.self.types d T st.as_many low;
       stand = λ x l. held_below s.now.types d x (Some T) (let o = st.own in omega (arith, o, l)) ∙ st.stand x l;
       unset = λ r l. ap (λ ds. member r (s.types_set ++ ds)) ts ∙ member_more r d s.types_set (st.unset r (omega (arith, l))) (omega (arith, l));
       sound = λ e r. let q = eqb-true (s.place + length_of i) 0 e in absurd (omega (arith, q, long));
     };
   },
-  held_set s.now.types d T (subst (λ n. d < n) (sym st.as_many) low),
+  held_set s.now.types d T (many_within s.now.types h.self.types d st.as_many low),
 )
   where
     t : State
     t = passed i (put_type s d T)
 
 -- what is read
-within_all : (s : State) (n d : ℕ) (rs : List ℕ) (Ts : Tys) → length s.now.types ≡ n → HoldAll s rs Ts → d < n → list_any (λ t. nat_le n t) (rs ++ d ∷ []) ≡ false
+within_all : (s : State) (n d : ℕ) (rs : List ℕ) (Ts : Tys) → HasRegisters s.now.types n → HoldAll s rs Ts → d < n → list_any (λ t. nat_le n t) (rs ++ d ∷ []) ≡ false
 within_all s n d [] no_types e a l = or_none (nat_le n d) false (lt-leb n d l) refl
 within_all s n d [] (types T Ts) e a l = absurd a
 within_all s n d (r ∷ rs) no_types e a l = absurd a
-within_all s n d (r ∷ rs) (types T Ts) e a l = or_none (nat_le n r) (list_any (λ t. nat_le n t) (rs ++ d ∷ [])) (lt-leb n r (subst (λ m. r < m) e (held_within s.now.types r T a.0)))
+within_all s n d (r ∷ rs) (types T Ts) e a l = or_none (nat_le n r) (list_any (λ t. nat_le n t) (rs ++ d ∷ [])) (lt-leb n r (e.inside r T a.0))
     (within_all s n d rs Ts e a.1 l)
 
 pub none_unset : (s : State) (rs : List ℕ) (Ts : Tys) → HoldAll s rs Ts → list_any (λ t. is_none (held s.now.types t)) rs ≡ false

@@ -88,7 +88,8 @@ turn_is home s u n m gl x =
     let ends : (◌≡◌ {A = Ended} (end_variables home u.goals u.frames) (record { goals = gl; frames = F ∷ s.frames })) = x.same ∙ kept_frame home gl F s.frames refl in
     λ i. turn_from u m (ends i).goals (ends i).frames
 
-right_ends : (home : ℕ) (w : State) (d e : ℕ) (gl : Goals) → depth w.frames ≡ suc d → innermost_block w.frames ≡ Some (right_side e gl) → e ≡ w.place → settled home (depth w.frames) w ≡ settled home d (leave home w)
+right_ends : (home : ℕ) (w : State) (d e : ℕ) (gl : Goals) → depth w.frames ≡ suc d → innermost_block w.frames ≡ Some (right_side e gl) → e ≡ w.place
+    → settled home (depth w.frames) w ≡ settled home d (leave home w)
 right_ends home w d e gl deep inner at =
     ap (λ n. settled home n w) deep ∙ ap (λ o. if is_right_end w.place o then settled home d (leave home w) else w) inner
     ∙ ap (λ t. if t then settled home d (leave home w) else w) (eq-eqb e w.place at)
@@ -116,7 +117,8 @@ either_said h later vars n m o k l p s u w ls rs gl gr a b nl mr en em body shal
     ∙ or_none (nat_le (s.place + 5 + nl) u.place) (list_any (is_passed u.place) s.frames) (lt-leb (s.place + 5 + nl) u.place (omega (arith, en, i))) outer in
     let v = left_state s w (Either gl gr) in
     let depth_is : depth w.frames ≡ suc (depth s.frames) = y.closes.deep in
-    let ends_at : settled h.number (depth w.frames) w ≡ settled h.number (depth s.frames) v = right_ends h.number w (depth s.frames) (u.place + 5 + mr) gl depth_is y.closes.innermost (omega (arith, j, em))
+    let ends_at : settled h.number (depth w.frames) w ≡ settled h.number (depth s.frames) v = right_ends h.number w (depth s.frames)
+    (u.place + 5 + mr) gl depth_is y.closes.innermost (omega (arith, j, em))
     ∙ ap (settled h.number (depth s.frames)) (left_is h.number s r w (right_frame s u mr gl) gr (Either gl gr) y.closes refl refl refl refl refl refl) in
     let turned : (e : Instr) (rest : List Instr) → run h later u (on.Jump mr ∷ (rs ++ e ∷ rest)) ≡ run h later (settled h.number (depth r.frames) r) (rs ++ e ∷ rest) = λ e rest.
     steps h later u (settled h.number (depth r.frames) r) (on.Jump mr) (rs ++ e ∷ rest) x.types_stand.sound
@@ -127,7 +129,8 @@ either_said h later vars n m o k l p s u w ls rs gl gr a b nl mr en em body shal
     let stays : w.in_body ≡ true = y.in_body_stays ∙ x.in_body_stays ∙ body in (
       v,
       record {
-        runs = λ e rest. ap (λ q. run h later s (on.Either nl ∷ q)) (append_assoc ls behind (e ∷ rest)) ∙ opened (ls ++ (behind ++ e ∷ rest)) (ends ls mr (rs ++ e ∷ rest) nl en) ∙ x.runs (on.Jump mr) (rs ++ e ∷ rest)
+        runs = λ e rest. ap (λ q. run h later s (on.Either nl ∷ q)) (append_assoc ls behind (e ∷ rest)) ∙ opened (ls ++ (behind ++ e ∷ rest))
+            (ends ls mr (rs ++ e ∷ rest) nl en) ∙ x.runs (on.Jump mr) (rs ++ e ∷ rest)
             ∙ ap (λ (z : State). run h later z (on.Jump mr ∷ (rs ++ e ∷ rest))) (code_same h ls u strict) ∙ turned e rest ∙ last rs refl e rest
             ∙ ap (λ (z : State). run h later z (e ∷ rest)) ends_at;
         place_is = omega (arith, z1, z2, z3, i, j);

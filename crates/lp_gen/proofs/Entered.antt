@@ -27,13 +27,15 @@ none_left (suc n) (x ∷ xs) le = none_left n xs (omega (arith, le))
 abbrev pub from_place : Nodes → (first place : ℕ) → List TypeId → List Seen
 from_place b first place ids = clause_own (first + place) (types_at b (drop place ids))
 
-pub none_entered : (b : Nodes) (env : Environment) (first count n : ℕ) (ids : List TypeId) → count ≡ length ids → n ≡ 0 → around_of b env ≡ behind (around_of b env) (from_place b first (count - n) ids)
+pub none_entered : (b : Nodes) (env : Environment) (first count n : ℕ) (ids : List TypeId) → count ≡ length ids → n ≡ 0 → around_of b env ≡ behind
+    (around_of b env) (from_place b first (count - n) ids)
 none_entered b env first count n ids many none =
     let z : count - n ≡ count = omega (arith, none) in
     behind_none (around_of b env)
     ∙ ap (behind (around_of b env)) (sym (ap (λ p. from_place b first p ids) z ∙ ap (λ l. clause_own (first + count) (types_at b l)) (none_left count ids (omega (arith, many)))))
 
-pub one_entered : (b : Nodes) (a c d : Around) (first count n place register : ℕ) (ids : List TypeId) (x : TypeId) → c ≡ behind a (from_place b first (count - n) ids) → n < count → count ≡ length ids → place ≡ count - 1 - n →
+pub one_entered : (b : Nodes) (a c d : Around) (first count n place register : ℕ) (ids : List TypeId) (x : TypeId) → c ≡ behind a
+    (from_place b first (count - n) ids) → n < count → count ≡ length ids → place ≡ count - 1 - n →
     register ≡ first + place → x ≡ get_or ids place x → d ≡ pushed c (unmade register (type_tree b x.0)) → d ≡ behind a (from_place b first (count - (n + 1)) ids)
 one_entered b a c d first count n place register ids x before low many at is here e =
     let low_place : place < length ids = omega (arith, at, low, many) in
@@ -58,7 +60,8 @@ query_last r (U ∷ Us) T = ap (λ l. unmade r U ∷ l) (query_last (r + 1) Us T
 pub no_query : (e : Emitter) (env : Environment) → QueryEntered e e env env []
 no_query e env = record { code_stays = refl; types_stay = refl; registers_are = omega arith; around = λ b. behind_none (around_of b env) }
 
-pub query_more : (e mid e' : Emitter) (env here env' : Environment) (ids : List TypeId) (x : TypeId) (register : ℕ) → QueryEntered e mid env here ids → register ≡ mid.registers → e'.code.items ≡ mid.code.items → e'.types ≡ mid.types →
+pub query_more : (e mid e' : Emitter) (env here env' : Environment) (ids : List TypeId) (x : TypeId) (register : ℕ) → QueryEntered e mid env here ids
+    → register ≡ mid.registers → e'.code.items ≡ mid.code.items → e'.types ≡ mid.types →
     e'.registers ≡ mid.registers + 1 → ((b : Nodes) → around_of b env' ≡ pushed (around_of b here) (unmade register (type_tree b x.0))) → QueryEntered e e' env env' (ids ++ x ∷ [])
 query_more e mid e' env here env' ids x register w is code types registers around =
     let many = length-append ids (x ∷ []) in

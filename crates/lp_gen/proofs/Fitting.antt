@@ -34,7 +34,11 @@ fits (GetConst i c ts) e = below (length ts.items) 256 e
 fits (GetInt i z) e = tt
 fits (GetStr i s) e = below (length s.items) 65536 e
 fits Neck e = tt
-fits (Call c ts rs) e = (below (length ts.items) 256 (and_true_left (nat_lt (length ts.items) 256) (nat_lt (length rs.items) 256) e), below (length rs.items) 256 (and_true_right (nat_lt (length ts.items) 256) (nat_lt (length rs.items) 256) e))
+fits (Call c ts rs) e = (
+  below (length ts.items) 256 (and_true_left (nat_lt (length ts.items) 256) (nat_lt (length rs.items) 256) e),
+  below
+      (length rs.items) 256 (and_true_right (nat_lt (length ts.items) 256) (nat_lt (length rs.items) 256) e),
+)
 fits (CallTerm s) e = tt
 fits (Equal t l r) e = tt
 fits (Is t l r) e = tt

@@ -27,7 +27,7 @@ use Rattle.lp_code.specs.Rules.{has_type, have_type, is_passed, breaks_constant,
 use Rattle.lp_code.specs.Denote.{broken_by}
 use Rattle.lp_gen.specs.declared.emitter.Emitter.{Emitter}
 use Rattle.lp_gen.specs.inner.Owned.{IsPlain}
-use Rattle.lp_gen.specs.inner.Running.{TypesStand, TermsStand, HasRoom}
+use Rattle.lp_gen.specs.inner.Running.{HasRegisters, TypesStand, TermsStand, HasRoom}
 use Rattle.lp_gen.specs.inner.Saying.{own_numbered, own_by, equation_by, order_by, turned, Turns, IsPartPut, AreGoalParts, CallPut}
 use Rattle.lp_gen.specs.inner.Saying.{IsGoalTerm, TermCallPut, IsNext, IsNextConstant, ConstantGot, IntegerGot, TextGot, IsNextTerm, TermGot, IsNextType, TypeGot}
 use Rattle.lp_gen.proofs.Bytes.{some_length}
@@ -70,11 +70,10 @@ turns_one h later vars n k s i gs Ts bs eff ts rs long st te fine = (
     t : State
     t = passed i (turned s gs Ts bs)
 
-any_within : {A : Type 0} (xs : List (Option A)) (n : ℕ) (rs : List ℕ) → length xs ≡ n → list_any (λ r. is_none (held xs r)) rs ≡ false → list_any (λ r. nat_le n r) (rs ++ []) ≡ false
+any_within : {A : Type 0} (xs : List (Option A)) (n : ℕ) (rs : List ℕ) → HasRegisters xs n → list_any (λ r. is_none (held xs r)) rs ≡ false → list_any (λ r. nat_le n r) (rs ++ []) ≡ false
 any_within xs n [] e u = refl
 any_within xs n (r ∷ rs) e u =
-    or_none (nat_le n r) (list_any (λ r. nat_le n r) (rs ++ [])) (lt-leb n r (subst (λ m. r < m) e (set_within xs r (or_false_left (is_none (held xs r)) (list_any (λ r. is_none
-    (held xs r)) rs) u))))
+    or_none (nat_le n r) (list_any (λ r. nat_le n r) (rs ++ [])) (lt-leb n r (set_within xs n r e (or_false_left (is_none (held xs r)) (list_any (λ r. is_none (held xs r)) rs) u)))
     (any_within xs n rs e (or_false_right (is_none (held xs r)) (list_any (λ r. is_none (held xs r)) rs) u))
 
 -- how an instruction reads its parts, and that it breaks no rule
@@ -142,7 +141,8 @@ record Stands (h : Home) (later : Later) (s : State) (i : Instr) (ts rs : List �
   long : 0 < length_of i
 
 -- the same, one fact after the other
-read_by : {h : Home} {later : Later} {s : State} {i : Instr} {ts rs : List ℕ} {gs : Goals} {Ts : List Ty} {bs : List Built} → types_read i ≡ ts → terms_read i ≡ rs → type_set i ≡ [] → term_set i ≡ [] →
+read_by : {h : Home} {later : Later} {s : State} {i : Instr} {ts rs : List ℕ} {gs : Goals} {Ts : List Ty} {bs : List Built} → types_read i ≡ ts →
+    terms_read i ≡ rs → type_set i ≡ [] → term_set i ≡ [] →
     list_any (λ t. is_none (held s.now.types t)) ts ≡ false → list_any (λ r. is_none (held s.now.terms r)) rs ≡ false → breaks_constant h i ≡ false → breaks_type h s i ≡ false →
     breaks_index s i ≡ false → breaks_term i ≡ false → breaks_order s i ≡ false → breaks_head h s i ≡ false → ((rest : List Instr) → breaks_nesting s rest i ≡ false) → breaks_clause h s i ≡ false →
     effect h later s i ≡ Some (turned s gs Ts bs) → 0 < length_of i → Stands h later s i ts rs gs Ts bs
@@ -215,7 +215,8 @@ StandsFor h later s i c ts rs = Stands h later s i ts rs (with_goal s.goals (Ato
     (terms_in s.now rs))))) s.head_types s.head_arguments
 
 plain_stands : (h : Home) (later : Later) (s : State) (c : ℕ) (v w : Vec ℕ Global) → AreGoalParts h s c v.items w.items → StandsFor h later s (on.Call c v w) c v.items w.items
-plain_stands h later s c v w a = read_by refl refl refl refl a.types_set a.terms_set (ap (λ x. not x) a.declared) (ap (λ x. not x) a.typed) a.closed a.in_goals (ap (λ x. not x) a.behind_head) refl (λ rest. refl) refl refl (omega arith)
+plain_stands h later s c v w a = read_by refl refl refl refl a.types_set a.terms_set (ap (λ x. not x) a.declared) (ap (λ x. not x) a.typed) a.closed
+    a.in_goals (ap (λ x. not x) a.behind_head) refl (λ rest. refl) refl refl (omega arith)
 
 abbrev StandsAs : Home → Later → State → Option Instr → Instr → (c : ℕ) → (ts rs : List ℕ) → Type 0
 StandsAs h later s o i c ts rs = o ≡ Some i → StandsFor h later s i c ts rs
@@ -348,17 +349,21 @@ goal_put old new i c ts rs code same_types same_registers plain stands =
 
 pub own_put : (old new : Emitter) (i : Instr) (c : ℕ) (ts rs : List ℕ) → own_numbered (numbered c) ts rs ≡ Some i → new.code.items ≡ old.code.items ++ i ∷ [] → new.types ≡ old.types →
     new.registers ≡ old.registers → CallPut old new c ts rs
-own_put old new i c ts rs e code same_types same_registers = goal_put old new i c ts rs code same_types same_registers (subst IsNonePlain e (numbered_plain (numbered c) ts rs)) (λ h later s d a. numbered_stands h later s
+own_put old new i c ts rs e code same_types same_registers = goal_put old new i c ts rs code same_types same_registers
+    (subst IsNonePlain e (numbered_plain (numbered c) ts rs)) (λ h later s d a. numbered_stands h later s
     (numbered c) c ts rs i d refl a e)
 
 pub call_put : (old new : Emitter) (c : ℕ) (v w : Vec ℕ Global) → new.code.items ≡ old.code.items ++ on.Call c v w ∷ [] → new.types ≡ old.types → new.registers ≡ old.registers →
     CallPut old new c v.items w.items
-call_put old new c v w code same_types same_registers = goal_put old new (on.Call c v w) c v.items w.items code same_types same_registers (record { no_own = refl; no_types = refl }) (λ h later s d a. plain_stands h later s c v w a)
+call_put old new c v w code same_types same_registers = goal_put old new (on.Call c v w) c v.items w.items code same_types same_registers
+    (record { no_own = refl; no_types = refl }) (λ h later s d a. plain_stands h later s c v w a)
 
 pub term_call_put : (old new : Emitter) (r : ℕ) → new.code.items ≡ old.code.items ++ on.CallTerm r ∷ [] → new.types ≡ old.types → new.registers ≡ old.registers → TermCallPut old new r
 term_call_put old new r code same_types same_registers =
     part_put old new (on.CallTerm r) [] (r ∷ []) (λ h s. IsGoalTerm s r) (λ s. with_goal s.goals (Atomic (term_in s.now r).term)) (λ s. s.head_types)
-    (λ h s. s.head_arguments) code same_types same_registers (record { no_own = refl; no_types = refl }) (λ h later s d a. read_by refl refl refl refl refl a.terms_set refl (ap (λ x. not x) a.typed) a.closed refl (ap (λ x. not x) a.behind_head) refl (λ rest. refl) refl refl (omega arith))
+    (λ h s. s.head_arguments) code same_types same_registers (record { no_own = refl; no_types = refl })
+    (λ h later s d a. read_by refl refl refl refl refl a.terms_set refl (ap (λ x. not x) a.typed) a.closed refl (ap (λ x. not x) a.behind_head)
+    refl (λ rest. refl) refl refl (omega arith))
 
 -- parts of the head
 
@@ -373,13 +378,17 @@ constant_got old new i c v code same_types same_registers =
 pub integer_got : (old new : Emitter) (i : ℕ) (z : ℤ) → new.code.items ≡ old.code.items ++ on.GetInt i z ∷ [] → new.types ≡ old.types → new.registers ≡ old.registers → IntegerGot old new i z
 integer_got old new i z code same_types same_registers =
     part_put old new (on.GetInt i z) [] [] (λ h s. IsNext h s i int_type) (λ s. s.goals) (λ s. s.head_types) (λ h s. s.head_arguments ++ whole (atom
-    (integer z)) int_type ∷ []) code same_types same_registers (record { no_own = refl; no_types = refl }) (λ h later s d a. read_by refl refl refl refl refl refl refl (ap (λ x. not x) a.typed) refl refl a.in_turn refl (λ rest. refl) refl refl (omega arith))
+    (integer z)) int_type ∷ []) code same_types same_registers (record { no_own = refl; no_types = refl })
+    (λ h later s d a. read_by refl refl refl refl refl refl refl (ap (λ x. not x) a.typed) refl refl a.in_turn refl (λ rest. refl) refl refl
+    (omega arith))
 
 pub text_got : (old new : Emitter) (i : ℕ) (v : Vec ℕ Global) → new.code.items ≡ old.code.items ++ on.GetStr i v ∷ [] → new.types ≡ old.types → new.registers ≡ old.registers →
     TextGot old new i v.items
 text_got old new i v code same_types same_registers =
     part_put old new (on.GetStr i v) [] [] (λ h s. IsNext h s i string_type) (λ s. s.goals) (λ s. s.head_types) (λ h s. s.head_arguments ++ whole (atom
-    (text v.items)) string_type ∷ []) code same_types same_registers (record { no_own = refl; no_types = refl }) (λ h later s d a. read_by refl refl refl refl refl refl refl (ap (λ x. not x) a.typed) refl refl a.in_turn refl (λ rest. refl) refl refl (omega arith))
+    (text v.items)) string_type ∷ []) code same_types same_registers (record { no_own = refl; no_types = refl })
+    (λ h later s d a. read_by refl refl refl refl refl refl refl (ap (λ x. not x) a.typed) refl refl a.in_turn refl (λ rest. refl) refl refl
+    (omega arith))
 
 pub term_got : (old new : Emitter) (i r : ℕ) → new.code.items ≡ old.code.items ++ on.Get i r ∷ [] → new.types ≡ old.types → new.registers ≡ old.registers → TermGot old new i r
 term_got old new i r code same_types same_registers =
@@ -391,4 +400,5 @@ term_got old new i r code same_types same_registers =
 pub type_got : (old new : Emitter) (j t : ℕ) → new.code.items ≡ old.code.items ++ on.GetType j t ∷ [] → new.types ≡ old.types → new.registers ≡ old.registers → TypeGot old new j t
 type_got old new j t code same_types same_registers =
     part_put old new (on.GetType j t) (t ∷ []) [] (λ h s. IsNextType h s j t) (λ s. s.goals) (λ s. s.head_types ++ type_in s.now t ∷ [])
-    (λ h s. s.head_arguments) code same_types same_registers (record { no_own = refl; no_types = refl }) (λ h later s d a. read_by refl refl refl refl a.types_set refl refl refl refl refl a.in_turn a.asked (λ rest. refl) refl refl (omega arith))
+    (λ h s. s.head_arguments) code same_types same_registers (record { no_own = refl; no_types = refl })
+    (λ h later s d a. read_by refl refl refl refl a.types_set refl refl refl refl refl a.in_turn a.asked (λ rest. refl) refl refl (omega arith))

@@ -29,6 +29,9 @@ use Rattle.lp_gen.specs.inner.TermLaw.{SameSides, Asks, Standing, as_set, with_v
 use Rattle.lp_gen.specs.inner.Written.{IsWell, AreWell, left_by, wholes}
 use Rattle.lp_gen.specs.inner.Doing.{Does}
 use Rattle.lp_gen.specs.inner.Heading.{AreOwn, HaveStood, PredicateStands, ArgumentGot, ArgumentsGot, TypesGot}
+use Rattle.lp_gen.proofs.OwnSet.{plain_both, plain_none}
+use Rattle.lp_gen.proofs.CodeOwned.{none_owned, owns_then}
+use Rattle.lp_gen.proofs.StepsOwn.{no_types_more}
 use Rattle.lp_gen.proofs.Denoting.{or_none, strict_may, room_less, room_front}
 use Rattle.lp_gen.proofs.TypeWorks.{map_length}
 use Rattle.lp_gen.proofs.AroundSet.{around_same, around_then, all_seen, variables_same, seen_of}
@@ -43,7 +46,7 @@ room_does h later v n m k l s t is xs ys gs Ts bs x e room =
     (room_less (t.place + sum_by length_of ys) (s.place + sum_by length_of is) s.frames (let p = ap
     (sum_by length_of) e in let q = sum_by-append length_of xs ys in let r = x.place_is in omega (arith, p, q, r)) room)
 
-nothing_does : (h : Home) (later : Later) (vars n k : ℕ) (s : State) → TypesStand h vars n s → TermsStand h k s → Does h later vars n n k k s [] s.goals s.head_types s.head_arguments s
+pub nothing_does : (h : Home) (later : Later) (vars n k : ℕ) (s : State) → TypesStand h vars n s → TermsStand h k s → Does h later vars n n k k s [] s.goals s.head_types s.head_arguments s
 nothing_does h later vars n k s st te = record {
   runs = λ rest. refl;
   place_is = let z : sum_by length_of [] ≡ 0 = refl in omega (arith, z);
@@ -91,6 +94,8 @@ no_head_arguments K e a F = record {
   code_is = append_nil_sym e.code.items;
   types_grow = omega arith;
   terms_grow = omega arith;
+  owns = λ start. none_owned a [] refl;
+  no_types = refl;
   denotes = λ h later vars s σ Γ R std asked st te low few before none stands well asks predicate own stood room. (
     s,
     does_same h later vars e.types e.types e.types e.registers e.registers e.registers s s [] s.goals s.head_types s.head_arguments s.goals s.head_types [] refl refl refl refl none
@@ -108,6 +113,8 @@ head_argument_then K old mid new a b c F G ts t x p left = record {
   code_is = p.code_is ∙ ap (λ l. l ++ p.more) x.code_is ∙ append_assoc old.code.items x.more p.more;
   types_grow = let i = x.types_grow in let j = p.types_grow in omega (arith, i, j);
   terms_grow = let i = x.terms_grow in let j = p.terms_grow in omega (arith, i, j);
+  owns = owns_then a b c x.more p.more x.owns p.owns;
+  no_types = no_types_more x.more p.more x.no_types p.no_types;
   denotes = λ h later vars s σ Γ R std asked st te low few before none stands well asks predicate own stood room.
       let i = p.types_grow in
       let j = p.terms_grow in
@@ -129,7 +136,8 @@ head_argument_then K old mid new a b c F G ts t x p left = record {
         indices = good.indices;
         seen = all_seen a b Γ 0 t w.3 good.seen;
       } in
-      let sides : SameSides (from_of G) parts.1 = (subst (λ H. Asks H (arrow parts.1 R)) (sym left) (subst (Asks (left_by F (length ts))) parts.3 (asks_left h vars Γ a F A ts parts.0 parts.2 asks))).0 in
+      let sides : SameSides (from_of G) parts.1 = (subst (λ H. Asks H (arrow parts.1 R)) (sym left)
+      (subst (Asks (left_by F (length ts))) parts.3 (asks_left h vars Γ a F A ts parts.0 parts.2 asks))).0 in
       let head = built_same h old.registers s w.0 h.self.head predicate w.1.head_types_are w.1.terms_keep in
       let typed : argument_type (head_built h w.0).type (length ts) ≡ Some parts.1 =
       ap (λ (d : Built). argument_type d.type (length ts)) head ∙ argument_last h vars Γ a A ts parts.0 parts.1 R parts.2 parts.3 in
@@ -167,6 +175,7 @@ no_head_types e = record {
   code_is = append_nil_sym e.code.items;
   registers_stay = refl;
   types_grow = omega arith;
+  plain = plain_none;
   denotes = λ h later vars s std st te low before none nothing known count room. (
     s,
     does_same h later vars e.types e.types e.types e.registers e.registers e.registers s s [] s.goals s.head_types s.head_arguments s.goals [] [] refl refl refl none nothing
@@ -179,12 +188,14 @@ not_asked : (e : Bool) (n i : ℕ) → (e ≡ true → i < n) → (e && nat_le n
 not_asked true n i f = lt-leb n i (f refl)
 not_asked false n i f = refl
 
-pub head_type_then : (old mid kind new : Emitter) (Ts : List Ty) (T : Ty) (i r : ℕ) → TypesGot old mid Ts → IsTypePut mid kind r T → TypeGot kind new i r → i ≡ length Ts → TypesGot old new (Ts ++ T ∷ [])
+pub head_type_then : (old mid kind new : Emitter) (Ts : List Ty) (T : Ty) (i r : ℕ) → TypesGot old mid Ts → IsTypePut mid kind r T → TypeGot kind new
+    i r → i ≡ length Ts → TypesGot old new (Ts ++ T ∷ [])
 head_type_then old mid kind new Ts T i r x q p at = record {
   more = (x.more ++ q.more) ++ p.more;
   code_is = p.code_is ∙ ap (λ l. l ++ p.more) (q.code_is ∙ ap (λ l. l ++ q.more) x.code_is ∙ append_assoc old.code.items x.more q.more) ∙ append_assoc old.code.items (x.more ++ q.more) p.more;
   registers_stay = p.registers_stay ∙ q.registers_stay ∙ x.registers_stay;
   types_grow = let a = x.types_grow in let b = q.types_grow in let c = p.types_stay in omega (arith, a, b, c);
+  plain = plain_both (x.more ++ q.more) p.more (plain_both x.more q.more x.plain q.plain) p.plain;
   denotes = λ h later vars s std st te low before none nothing known count room.
       let front = x.more ++ q.more in
       let size : length (Ts ++ T ∷ []) ≡ length Ts + 1 = length-append Ts (T ∷ []) in
@@ -194,7 +205,8 @@ head_type_then old mid kind new Ts T i r x q p at = record {
       let room_f : HasRoom s (s.place + sum_by length_of front) = room_front s (front ++ p.more) front p.more refl room in
       let w = x.denotes h later vars s std st te (omega (arith, low, grow, kinds)) before none nothing parts.0 (λ e. let c = count e in omega (arith, c, size))
       (room_front s front x.more q.more refl room_f) in
-      let v = q.denotes h later vars w.0 w.1.types_stand (omega (arith, low, kinds)) parts.1 (room_does h later vars old.types mid.types old.registers mid.registers s w.0 front x.more q.more _ _ _ w.1 refl room_f) in
+      let v = q.denotes h later vars w.0 w.1.types_stand (omega (arith, low, kinds)) parts.1
+      (room_does h later vars old.types mid.types old.registers mid.registers s w.0 front x.more q.more _ _ _ w.1 refl room_f) in
       let first = leads_goes h later vars mid.types kind.types mid.registers w.0 v.0 q.more v.1 w.1.terms_stand in
       let both = then_does h later vars old.types mid.types kind.types old.registers mid.registers mid.registers s w.0 v.0 x.more q.more _ _ _ _ _ _ w.1
       (goes_does h later vars mid.types kind.types mid.registers mid.registers w.0 v.0 q.more first) x.types_grow (let z = x.registers_stay in omega (arith, z)) in

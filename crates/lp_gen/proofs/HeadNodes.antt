@@ -72,7 +72,8 @@ no_list_predicate : (b : Nodes) (a : Around) (f : ℕ) (is : List ℕ) → is �
 no_list_predicate b a f [] some = absurd (some refl)
 no_list_predicate b a f (i ∷ is) some = no_predicates a (tree b f) (tree b i) (map (tree b) is)
 
-pub other_predicate : (b : Nodes) (a : Around) (m k : ℕ) (n : TermNode) → ((i : ℕ) → n ≡ node.Index i → ⊥) → ((c : ℕ) (ids : Bor (List TypeId)) → n ≡ node.Const c ids → ⊥) → TermBelow m k (term_shape n) →
+pub other_predicate : (b : Nodes) (a : Around) (m k : ℕ) (n : TermNode) → ((i : ℕ) → n ≡ node.Index i → ⊥) →
+    ((c : ℕ) (ids : Bor (List TypeId)) → n ≡ node.Const c ids → ⊥) → TermBelow m k (term_shape n) →
     Register 0 ≡ predicate_of a (node_tree b (term_shape n))
 other_predicate b a m k (node.Index i) x y low = absurd (x i refl)
 other_predicate b a m k (node.Const c ids) x y low = absurd (y c ids refl)
@@ -97,7 +98,8 @@ index_or (x ∷ xs) zero d e l = refl
 index_or (x ∷ xs) (suc i) d e l = index_or xs i d e (omega (arith, l))
 
 -- one argument more, and one type more
-pub argument_at_place : {X : Type 0} (f : X → Term) (K : ℕ → List Ty → Ty) (old mid new : Emitter) (a b c : Around) (i n : ℕ) (F G H of : Ty) (xs : List X) (x : X) → i < length xs → x ≡ get_or xs i x →
+pub argument_at_place : {X : Type 0} (f : X → Term) (K : ℕ → List Ty → Ty) (old mid new : Emitter) (a b c : Around) (i n : ℕ) (F G H of : Ty)
+    (xs : List X) (x : X) → i < length xs → x ≡ get_or xs i x →
     ArgumentsGot K old mid a b F (map f (take i xs)) × (G ≡ left_by F i) → ArgumentGot K mid new b c n of (f x) → n ≡ i → of ≡ from_of G → H ≡ to_of G →
     ArgumentsGot K old new a c F (map f (take (i + 1) xs)) × (H ≡ left_by F (i + 1))
 argument_at_place f K old mid new a b c i n F G H of xs x low at w p number is left =
@@ -124,4 +126,5 @@ constant_head K b old mid new a d c ids head ts t p x y is e named =
     let Ts = map (λ i. type_tree b i.0) ids in
     let same : atom (constant c Ts) ≡ head = ap (λ l. atom (constant c l)) (sym (mapped_types b ids)) ∙ is in
     subst (λ p. HeadMatched K old new a d p t) (sym (named ∙ ap (predicate_of a) (sym same)))
-    (subst (HeadMatched K old new a d (Const c)) (ap (λ u. apply u ts) same ∙ e) (constant_matched K old mid new a d c Ts ts x (subst (λ u. ArgumentsGot K mid new a d (head_type K [] a u) ts) (sym same) y)))
+    (subst (HeadMatched K old new a d (Const c)) (ap (λ u. apply u ts) same ∙ e) (constant_matched K old mid new a d c Ts ts x
+    (subst (λ u. ArgumentsGot K mid new a d (head_type K [] a u) ts) (sym same) y)))

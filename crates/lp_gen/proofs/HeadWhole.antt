@@ -21,6 +21,8 @@ use Rattle.lp_gen.specs.inner.Listing.{Seen, Around, at_level, level_in, seen_in
 use Rattle.lp_gen.specs.inner.TermLaw.{Asks, Standing, with_variables}
 use Rattle.lp_gen.specs.inner.Written.{AreWell, wholes}
 use Rattle.lp_gen.specs.inner.Heading.{ArgumentsGot, TypesGot, seen_register, level_register, predicate_of, IsPredicate, HeadMatched}
+use Rattle.lp_gen.proofs.CodeOwned.{none_owned, owns_then}
+use Rattle.lp_gen.proofs.StepsOwn.{no_types_more}
 use Rattle.lp_gen.proofs.Denoting.{room_front}
 use Rattle.lp_gen.proofs.TypeWorks.{map_length}
 use Rattle.lp_gen.proofs.LooseOf.{equal_self, some_same}
@@ -60,6 +62,9 @@ constant_matched K old mid new a b c Ts ts x y = record {
   code_is = y.code_is ∙ ap (λ l. l ++ y.more) x.code_is ∙ append_assoc old.code.items x.more y.more;
   types_grow = let i = x.types_grow in let j = y.types_grow in omega (arith, i, j);
   terms_grow = let i = x.registers_stay in let j = y.terms_grow in omega (arith, i, j);
+  owns = owns_then a a b x.more y.more (λ start. none_owned a x.more x.plain.no_own) y.owns;
+  predicate_is = sym (ap (predicate_of a) (head_apply (atom (constant c Ts)) ts));
+  no_types = no_types_more x.more y.more x.plain.no_types y.no_types;
   denotes = λ h later vars s σ Γ std asked st te low few before no_types no_args self stands good predicate own stood room.
       let head = atom (constant c Ts) in
       let f = with_variables σ a 0 in
@@ -77,7 +82,8 @@ constant_matched K old mid new a b c Ts ts x y = record {
       subst (λ n. Standing h vars n w.0.in_body σ a w.0.now.terms) (sym stay) (subst (λ z. Standing h vars old.registers z σ a w.0.now.terms) (sym w.1.in_body_stays)
       (subst (Standing h vars old.registers s.in_body σ a) (sym w.2) stands)) in
       let te_w : TermsStand h mid.registers w.0 = w.1.terms_stand in
-      let v = y.denotes h later vars w.0 σ Γ o_type std asked w.1.types_stand te_w low few (w.1.in_body_stays ∙ before) w.1.arguments_are stands_w (subst (λ T. AreWell h vars Γ a T ts o_type) (sym type) well)
+      let v = y.denotes h later vars w.0 σ Γ o_type std asked w.1.types_stand te_w low few (w.1.in_body_stays ∙ before) w.1.arguments_are stands_w
+      (subst (λ T. AreWell h vars Γ a T ts o_type) (sym type) well)
       (subst (Asks (K c Ts)) (sym type) (asked.asks c Ts A sp.1)) (predicate_on old.registers mid.registers s w.0 h.self.head (omega (arith, stay)) w.1.terms_keep predicate) own stood
       (room_does h later vars old.types mid.types old.registers mid.registers s w.0 (x.more ++ y.more) x.more y.more s.goals Ts [] w.1 refl room) in
       let args : v.0.head_arguments ≡ wholes A (map f ts) = v.1.arguments_are ∙ ap (λ T. wholes T (map f ts)) type in
@@ -93,16 +99,20 @@ constant_matched K old mid new a b c Ts ts x y = record {
         (λ k. apply (last k).term (plain_terms (args k))) ∙ ap (apply head) (plain_wholes A (map f ts)) ∙ sym (with_apply σ a 0 head ts),
         neck_fine h v.0 (length ts) A ((λ k. nat_eq (length (types k)) (count k)) ∙ counts (h.tables.constants c) (length Ts) (has_scheme Ts (h.tables.constants c) A sp.1))
             (ap length args ∙ wholes_length A (map f ts) ∙ map_length f ts) (ap (λ (d : Built). d.type) last) (result_is h vars Γ a A ts o_type well),
+        ap plain_terms args ∙ plain_wholes A (map f ts) ∙ ap (map f) (sym (arguments_is head ts tt)),
       );
 }
 
 pub variable_matched : (K : ℕ → List Ty → Ty) (old new : Emitter) (a b : Around) (j r : ℕ) (ts : List Term) → ArgumentsGot K old new a b (head_type K [] a (index j)) ts →
-    ((l : ℕ) (v : Seen) → level_in a j ≡ Some l → at_level a l ≡ Some v → v.register ≡ r) → HeadMatched K old new a b (Register r) (apply (index j) ts)
-variable_matched K old new a b j r ts y register = record {
+    ((l : ℕ) (v : Seen) → level_in a j ≡ Some l → at_level a l ≡ Some v → v.register ≡ r) → Register r ≡ predicate_of a (index j) → HeadMatched K old new a b (Register r) (apply (index j) ts)
+variable_matched K old new a b j r ts y register named = record {
   more = y.more;
   code_is = y.code_is;
   types_grow = y.types_grow;
   terms_grow = y.terms_grow;
+  owns = y.owns;
+  no_types = y.no_types;
+  predicate_is = named ∙ sym (ap (predicate_of a) (head_apply (index j) ts));
   denotes = λ h later vars s σ Γ std asked st te low few before no_types no_args self stands good predicate own stood room.
       let head = index j in
       let f = with_variables σ a 0 in
@@ -118,32 +128,40 @@ variable_matched K old new a b j r ts y register = record {
       let default : Built = record { term = index 0; type = o_type; loose = [] } in
       let built : head_built h s ≡ whole (σ z.0) A = ap (built_of h s) self ∙ ap (λ o. unwrap_or o default) set in
       let type = ap (λ (d : Built). d.type) built in
-      let asks : Asks (head_type K [] a head) A = subst (λ F. Asks F A) (sym (let back : j - 0 ≡ j = omega arith in ap (λ k. type_or (seen_in a k)) back ∙ ap type_or (ap (option_and_then (at_level a)) z.2
+      let asks : Asks (head_type K [] a head) A = subst (λ F. Asks F A) (sym (let back : j - 0 ≡ j = omega arith in ap (λ k. type_or (seen_in a k))
+      back ∙ ap type_or (ap (option_and_then (at_level a)) z.2
       ∙ z.3) ∙ of)) (asks_same A) in
-      let u = y.denotes h later vars s σ Γ o_type std asked st te low few before no_args stands (subst (λ T. AreWell h vars Γ a T ts o_type) (sym type) well) (subst (Asks (head_type K [] a head)) (sym type)
+      let u = y.denotes h later vars s σ Γ o_type std asked st te low few before no_args stands
+      (subst (λ T. AreWell h vars Γ a T ts o_type) (sym type) well) (subst (Asks (head_type K [] a head)) (sym type)
       asks) predicate own stood room in
       let args : u.0.head_arguments ≡ wholes A (map f ts) = u.1.arguments_are ∙ ap (λ T. wholes T (map f ts)) type in
       let last : head_built h u.0 ≡ whole (σ z.0) A = built_same h old.registers s u.0 h.self.head predicate u.1.head_types_are u.1.terms_keep ∙ built in (
         u.0,
-        does_same h later vars old.types new.types new.types old.registers new.registers new.registers s u.0 y.more s.goals s.head_types (wholes (head_built h s).type (map f ts)) s.goals u.0.head_types
+        does_same h later vars old.types new.types new.types old.registers new.registers new.registers s u.0 y.more s.goals s.head_types
+            (wholes (head_built h s).type (map f ts)) s.goals u.0.head_types
             u.0.head_arguments refl refl refl (sym u.1.head_types_are) (sym u.1.arguments_are) u.1,
         u.2,
         u.3,
         (λ k. apply (last k).term (plain_terms (args k))) ∙ (λ k. apply (sym (index_is σ Γ a j z) k) (plain_wholes A (map f ts) k)) ∙ sym (with_apply σ a 0 head ts),
         neck_fine h u.0 (length ts) A ((λ k. nat_eq (length ((u.1.head_types_are ∙ no_types) k)) (count_of h (self k))) ∙ eq-eqb 0 0 refl)
             (ap length args ∙ wholes_length A (map f ts) ∙ map_length f ts) (ap (λ (d : Built). d.type) last) (result_is h vars Γ a A ts o_type well),
+        ap plain_terms args ∙ plain_wholes A (map f ts) ∙ ap (map f) (sym (arguments_is head ts tt)),
       );
 }
 
 -- a head that is no constant
 
-never_matched : (K : ℕ → List Ty → Ty) (old new : Emitter) (a b : Around) (F : Ty) (ts : List Term) (p : RecordHead) (t : Term) → ArgumentsGot K old new a b F ts → (IsPredicate (head_of t) → ⊥) →
+never_matched : (K : ℕ → List Ty → Ty) (old new : Emitter) (a b : Around) (F : Ty) (ts : List Term) (p : RecordHead) (t : Term) → ArgumentsGot K old
+    new a b F ts → (IsPredicate (head_of t) → ⊥) → p ≡ predicate_of a (head_of t) →
     HeadMatched K old new a b p t
-never_matched K old new a b F ts p t y none = record {
+never_matched K old new a b F ts p t y none named = record {
   more = y.more;
   code_is = y.code_is;
   types_grow = y.types_grow;
   terms_grow = y.terms_grow;
+  owns = y.owns;
+  no_types = y.no_types;
+  predicate_is = named;
   denotes = λ h later vars s σ Γ std asked st te low few before no_types no_args self stands good predicate own stood room. absurd (none good.predicate);
 }
 
@@ -163,12 +181,24 @@ pub other_matched : (K : ℕ → List Ty → Ty) (old new : Emitter) (a b : Arou
 other_matched K old new a b (index j) ts t p none other y e named =
     let r = a_register a (level_in a j) in
     subst (λ p. HeadMatched K old new a b p t) (sym (named ∙ r.1)) (subst (HeadMatched K old new a b (Register r.0)) e (variable_matched K old new a b j r.0 ts y
-    (λ l v f g. same_register v.register r.0 (sym (ap (level_register a) f ∙ ap seen_register g) ∙ r.1))))
+    (λ l v f g. same_register v.register r.0 (sym (ap (level_register a) f ∙ ap seen_register g) ∙ r.1)) (sym r.1)))
 other_matched K old new a b (atom (constant c Ts)) ts t p none other y e named = absurd (other c Ts refl)
-other_matched K old new a b (atom (integer z)) ts t p none other y e named = never_matched K old new a b o_type ts p t y (λ q. subst IsPredicate (ap head_of (sym e) ∙ head_apply (atom (integer z)) ts) q)
-other_matched K old new a b (atom (text s)) ts t p none other y e named = never_matched K old new a b o_type ts p t y (λ q. subst IsPredicate (ap head_of (sym e) ∙ head_apply (atom (text s)) ts) q)
-other_matched K old new a b (atom (eigen k)) ts t p none other y e named = never_matched K old new a b o_type ts p t y (λ q. subst IsPredicate (ap head_of (sym e) ∙ head_apply (atom (eigen k)) ts) q)
-other_matched K old new a b (atom (logic x l)) ts t p none other y e named = never_matched K old new a b o_type ts p t y (λ q. subst IsPredicate (ap head_of (sym e) ∙ head_apply (atom (logic x l)) ts) q)
-other_matched K old new a b (atom (param k T)) ts t p none other y e named = never_matched K old new a b o_type ts p t y (λ q. subst IsPredicate (ap head_of (sym e) ∙ head_apply (atom (param k T)) ts) q)
-other_matched K old new a b (abs u) ts t p none other y e named = never_matched K old new a b o_type ts p t y (λ q. subst IsPredicate (ap head_of (sym e) ∙ head_apply (abs u) ts) q)
+other_matched K old new a b (atom (integer z)) ts t p none other y e named = never_matched K old new a b o_type ts p t y
+    (λ q. subst IsPredicate (ap head_of (sym e) ∙ head_apply (atom (integer z)) ts) q)
+    (named ∙ ap (predicate_of a) (sym (ap head_of (sym e) ∙ head_apply (atom (integer z)) ts)))
+other_matched K old new a b (atom (text s)) ts t p none other y e named = never_matched K old new a b o_type ts p t y
+    (λ q. subst IsPredicate (ap head_of (sym e) ∙ head_apply (atom (text s)) ts) q)
+    (named ∙ ap (predicate_of a) (sym (ap head_of (sym e) ∙ head_apply (atom (text s)) ts)))
+other_matched K old new a b (atom (eigen k)) ts t p none other y e named = never_matched K old new a b o_type ts p t y
+    (λ q. subst IsPredicate (ap head_of (sym e) ∙ head_apply (atom (eigen k)) ts) q)
+    (named ∙ ap (predicate_of a) (sym (ap head_of (sym e) ∙ head_apply (atom (eigen k)) ts)))
+other_matched K old new a b (atom (logic x l)) ts t p none other y e named = never_matched K old new a b o_type ts p t y
+    (λ q. subst IsPredicate (ap head_of (sym e) ∙ head_apply (atom (logic x l)) ts) q)
+    (named ∙ ap (predicate_of a) (sym (ap head_of (sym e) ∙ head_apply (atom (logic x l)) ts)))
+other_matched K old new a b (atom (param k T)) ts t p none other y e named = never_matched K old new a b o_type ts p t y
+    (λ q. subst IsPredicate (ap head_of (sym e) ∙ head_apply (atom (param k T)) ts) q)
+    (named ∙ ap (predicate_of a) (sym (ap head_of (sym e) ∙ head_apply (atom (param k T)) ts)))
+other_matched K old new a b (abs u) ts t p none other y e named = never_matched K old new a b o_type ts p t y
+    (λ q. subst IsPredicate (ap head_of (sym e) ∙ head_apply (abs u) ts) q) (named ∙ ap (predicate_of a)
+    (sym (ap head_of (sym e) ∙ head_apply (abs u) ts)))
 other_matched K old new a b (app u v) ts t p none other y e named = absurd none

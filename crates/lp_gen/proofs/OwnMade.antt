@@ -97,7 +97,8 @@ place_was_set e a p l v is there set = record {
   set = λ short w found. ap (λ (y : Seen). y.is_set) (same_seen w v (sym found ∙ sym (at_place a l p (level_of a l p w is short found)) ∙ there)) ∙ set;
 }
 
-pub place_made : (old new : Emitter) (a b : Around) (p l : ℕ) (v : Seen) → l ≡ min (a.base + p) (2 ^ 64 - 1) → at_level a l ≡ Some v → v.is_set ≡ false → VariableMade old new a l v → b ≡ set_level a l →
+pub place_made : (old new : Emitter) (a b : Around) (p l : ℕ) (v : Seen) → l ≡ min (a.base + p) (2 ^ 64 - 1) → at_level a l ≡ Some v → v.is_set ≡
+    false → VariableMade old new a l v → b ≡ set_level a l →
     PlaceMade old new a b p
 place_made old new a b p l v is there unset x e = subst (λ c. PlaceMade old new a c p) (sym e) (record {
   some = record {
@@ -131,7 +132,8 @@ variables_then old mid new a b c x p = record {
       let y = p.denotes h later vars w.0 σ w.1.types_stand te_w low (omega (arith, few, stay)) here
       (room_goes h later vars old.types mid.types old.registers old.registers s w.0 (x.more ++ p.more) x.more p.more w.1 refl room) in (
         y.0,
-        then_goes h later vars old.types mid.types new.types old.registers old.registers old.registers s w.0 y.0 x.more p.more w.1 (subst (λ n. Goes h later vars mid.types new.types n n w.0 p.more y.0)
+        then_goes h later vars old.types mid.types new.types old.registers old.registers old.registers s w.0 y.0 x.more p.more w.1
+            (subst (λ n. Goes h later vars mid.types new.types n n w.0 p.more y.0)
             stay y.1) x.types_grow (omega arith),
         subst (λ n. Standing h vars n s.in_body σ c y.0.now.terms) stay (subst (λ z. Standing h vars mid.registers z σ c y.0.now.terms) body y.2),
         around_then a b c w.3 y.3,

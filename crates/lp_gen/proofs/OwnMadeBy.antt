@@ -46,7 +46,8 @@ member_in X m (x ∷ xs) ys e f g =
 member_first : (m : ℕ) (xs ys : List ℕ) → member m xs ≡ true → member m (xs ++ ys) ≡ true
 member_first m [] ys e = absurd (true≢false (sym e))
 member_first m (x ∷ xs) ys e =
-    or_cases (member m ((x ∷ xs) ++ ys) ≡ true) (nat_eq m x) (member m xs) e (λ q. or_left (nat_eq m x) (member m (xs ++ ys)) q) (λ q. or_right (nat_eq m x) (member m (xs ++ ys)) (member_first m xs ys q))
+    or_cases (member m ((x ∷ xs) ++ ys) ≡ true) (nat_eq m x) (member m xs) e (λ q. or_left (nat_eq m x) (member m (xs ++ ys)) q)
+    (λ q. or_right (nat_eq m x) (member m (xs ++ ys)) (member_first m xs ys q))
 
 member_second : (m : ℕ) (xs ys : List ℕ) → member m ys ≡ true → member m (xs ++ ys) ≡ true
 member_second m [] ys e = e
@@ -107,7 +108,8 @@ stays_set a l v le found m u w e s f =
 
 pub makes_one : (a : Around) (l : ℕ) (v : Seen) → a.base ≤ l → at_level a l ≡ Some v → v.is_set ≡ false → MakesOwn a (set_level a l) (v.register ∷ [])
 makes_one a l v le found none = record {
-  sound = λ r e. or_cases ((l : ℕ) × (v : Seen) × (at_level a l ≡ Some v) × (v.is_set ≡ false) × (v.register ≡ r)) (nat_eq r v.register) false e (λ q. (l, v, found, none, sym (eqb-true r v.register q)))
+  sound = λ r e. or_cases ((l : ℕ) × (v : Seen) × (at_level a l ≡ Some v) × (v.is_set ≡ false) × (v.register ≡ r)) (nat_eq r v.register) false e
+      (λ q. (l, v, found, none, sym (eqb-true r v.register q)))
       (λ q. absurd (true≢false (sym q)));
   complete = λ m u w e f g s. ⊎_elim
       (λ q. let same = some_seen u v (sym e ∙ ap (at_level a) q.0 ∙ found) in or_left (nat_eq u.register v.register) false (eq-eqb u.register v.register (ap (λ (y : Seen). y.register) same)))

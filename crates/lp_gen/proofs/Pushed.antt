@@ -111,13 +111,14 @@ around_pushed h K vars n m k q σ Γ B a Q s t T c x short known_T st te low bod
     set = λ l w e is_set. ⊎_elim
         (λ q. ap (λ (y : Seen). held t.now.terms y.register) q.1 ∙ made ∙ ap (λ y. Some (whole y T)) (sym (level_same σ (new_level a) l (variable k h.number) q.0))
         ∙ ap (λ (y : Seen). Some (whole (with_level σ (new_level a) (variable k h.number) l) y.of)) (sym q.1))
-        (λ q. keep w.register (whole (σ l) w.of) (x.standing.low l w q.1) (x.standing.set l w q.1 is_set) ∙ ap (λ y. Some (whole y w.of)) (sym (level_other σ (new_level a) l (variable k h.number) q.0)))
+        (λ q. keep w.register (whole (σ l) w.of) (x.standing.low l w q.1) (x.standing.set l w q.1 is_set) ∙ ap (λ y. Some (whole y w.of))
+        (sym (level_other σ (new_level a) l (variable k h.number) q.0)))
         (at_pushed a v w l e);
     unset = λ l w e none. absurd (true≢false (sym (all_set l w e) ∙ none));
     unmade = λ l w e none. absurd (true≢false (sym (all_set l w e) ∙ none));
     apart = λ l j w y e f none also z. absurd (true≢false (sym (all_set l w e) ∙ none));
     known = λ l w e. ⊎_elim (λ q. subst (λ (y : Seen). IsKnownType h.tables.kinds vars y.of) (sym q.1) known_T) (λ q. x.standing.known l w q.1) (at_pushed a v w l e);
-    long = let many = te.as_many in omega (arith, many, low);
+    long = let many = te.as_many.enough in omega (arith, many, low);
   };
   set = all_set;
   short = short;
@@ -168,7 +169,8 @@ around_pushed h K vars n m k q σ Γ B a Q s t T c x short known_T st te low bod
         ap (bind_term (r ∷ []) h.number d) here ∙ x.free i l r d (omega (arith, le)) old ∙ sym here
 
 -- the same behind more code
-pub around_kept : (h : Home) (K : ℕ → List Ty → Ty) (vars n m k l q r : ℕ) (σ : ℕ → Term) (Γ : List Ty) (B : List Bool) (a : Around) (Q : ℕ → Type 0) (s t : State) → IsAround h K vars n k q σ Γ B a Q s → TypesStand h vars m t →
+pub around_kept : (h : Home) (K : ℕ → List Ty → Ty) (vars n m k l q r : ℕ) (σ : ℕ → Term) (Γ : List Ty) (B : List Bool) (a : Around) (Q : ℕ → Type 0)
+    (s t : State) → IsAround h K vars n k q σ Γ B a Q s → TypesStand h vars m t →
     TermsStand h l t → l ≤ h.self.registers → t.in_body ≡ true → k ≤ l → ((r : ℕ) (b : Built) → r < k → held s.now.terms r ≡ Some b → held t.now.terms r ≡ Some b) → AreBelow r h t.assumed →
     IsAround h K vars m l r σ Γ B a Q t
 around_kept h K vars n m k l q r σ Γ B a Q s t x st te low body le keep below = record {
@@ -184,7 +186,7 @@ around_kept h K vars n m k l q r σ Γ B a Q s t x st te low body le keep below 
     unmade = λ j w e none. absurd (true≢false (sym (x.set j w e) ∙ none));
     apart = λ j i w y e f none also z. absurd (true≢false (sym (x.set j w e) ∙ none));
     known = x.standing.known;
-    long = let many = te.as_many in omega (arith, many, low);
+    long = let many = te.as_many.enough in omega (arith, many, low);
   };
   set = x.set;
   short = x.short;

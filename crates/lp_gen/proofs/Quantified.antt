@@ -24,7 +24,7 @@ use Rattle.lp_gen.specs.inner.Running.{TypesStand, TermsStand, HasRoom, ends_bef
 use Rattle.lp_gen.specs.inner.Saying.{Turns}
 use Rattle.lp_gen.specs.inner.Doing.{Says}
 use Rattle.lp_gen.specs.inner.Bodies.{GoalsSaid, Opened, frame_of, opened_state}
-use Rattle.lp_gen.proofs.Denoting.{or_none, steps, settled_same, room_less, may_strict, none_unset, held_set, held_below, member_more}
+use Rattle.lp_gen.proofs.Denoting.{or_none, steps, settled_same, room_less, may_strict, none_unset, held_set, held_below, many_set, many_within, member_more}
 use Rattle.lp_gen.proofs.TermPut.{moved, types_within, one_within, one_unset, no_sides}
 use Rattle.lp_gen.proofs.GoalPut.{plain_rules, turns_one}
 use Rattle.lp_gen.proofs.Blocks.{some_code}
@@ -38,7 +38,8 @@ pub not_deep : (s : State) → depth s.frames < nesting_limit → is_too_deep s 
 not_deep s l = lt-leb nesting_limit (depth s.frames) l
 
 -- a cut
-turns_says : (h : Home) (later : Later) (vars n k : ℕ) (s t : State) (is : List Instr) (gs : Goals) → Turns h later vars n k s is gs s.head_types s.head_arguments t → Says h later vars n n k k s is gs [] t
+turns_says : (h : Home) (later : Later) (vars n k : ℕ) (s t : State) (is : List Instr) (gs : Goals) → Turns h later vars n k s is gs s.head_types
+    s.head_arguments t → Says h later vars n n k k s is gs [] t
 turns_says h later vars n k s t is gs x = record {
   runs = λ i rest. x.runs (i ∷ rest);
   place_is = x.place_is;
@@ -67,7 +68,8 @@ abbrev pub Inner : Home → Later → (vars m o k p : ℕ) → State → List In
 Inner h later vars m o k p t js X = (gs : Goals) × (b : List (ℕ × Captured)) × X gs b × (u : State) × GoalsSaid h later vars m o k p t js gs b u
 
 -- goals that are denied
-pub not_said : (h : Home) (later : Later) (vars n o k p : ℕ) (s : State) (js : List Instr) (X : Goals → List (ℕ × Captured) → Type 0) → s.in_body ≡ true → depth s.frames < nesting_limit → TypesStand h vars n s → TermsStand h k s →
+pub not_said : (h : Home) (later : Later) (vars n o k p : ℕ) (s : State) (js : List Instr) (X : Goals → List (ℕ × Captured) → Type 0) → s.in_body ≡
+    true → depth s.frames < nesting_limit → TypesStand h vars n s → TermsStand h k s →
     MayEnd s (s.place + sum_by length_of (on.Not ∷ [] ++ (js ++ on.EndNot ∷ []))) →
     ((t : State) → Opened h later vars n n k k s (on.Not ∷ []) (frame_of s under_not) [] t → Inner h later vars n o k p t js X) → n ≤ o →
     (gs : Goals) × (b : List (ℕ × Captured)) × X gs b × (v : State) × Says h later vars n o k p s (on.Not ∷ [] ++ (js ++ on.EndNot ∷ [])) (with_goal s.goals (Not nothing_written gs)) b v
@@ -85,8 +87,10 @@ not_said h later vars n o k p s js X body shallow st te room inner le =
     let b = w.1 in
     let u = w.3 in
     let y = w.4 in
-    let z = block_ends h later vars n n o k k p s opened.0 u (frame_of s under_not) (on.Not ∷ []) js on.EndNot gs (Not nothing_written gs) [] b opened.1 y refl refl refl (λ q. refl) refl refl refl (omega arith) refl
-    (λ strict innermost. plain_rules h vars o p u on.EndNot y.types_stand y.terms_stand refl refl refl refl refl refl refl refl refl refl (λ rest. ap (λ k. not (ends_block on.EndNot k)) innermost) refl strict)
+    let z = block_ends h later vars n n o k k p s opened.0 u (frame_of s under_not) (on.Not ∷ []) js on.EndNot gs (Not nothing_written gs) [] b
+    opened.1 y refl refl refl (λ q. refl) refl refl refl (omega arith) refl
+    (λ strict innermost. plain_rules h vars o p u on.EndNot y.types_stand y.terms_stand refl refl refl refl refl refl refl refl refl refl
+    (λ rest. ap (λ k. not (ends_block on.EndNot k)) innermost) refl strict)
     body st te room in
     (gs, b, w.2, z.0, z.1)
 
@@ -120,9 +124,10 @@ abbrev variable_state : State → Block → (register : ℕ) → Built → State
 variable_state s b d x = put_term (opened_state s b s.assumed) d x
 
 -- what stands in it
-variable_stands : (h : Home) (vars n : ℕ) (s : State) (i : Instr) (d : ℕ) (B : Block) (x : Built) → type_set i ≡ [] → term_set i ≡ d ∷ [] → 0 < length_of i → s.in_body ≡ true → TypesStand h vars n s → TermsStand h d s →
+variable_stands : (h : Home) (vars n : ℕ) (s : State) (i : Instr) (d : ℕ) (B : Block) (x : Built) → type_set i ≡ [] → term_set i ≡ d ∷ [] → 0 <
+    length_of i → s.in_body ≡ true → TypesStand h vars n s → TermsStand h d s → d < h.self.registers →
     TypesStand h vars n (passed i (variable_state s B d x)) × TermsStand h (d + 1) (passed i (variable_state s B d x))
-variable_stands h vars n s i d B x ts rs long body st te = (
+variable_stands h vars n s i d B x ts rs long body st te low = (
   record {
     few = st.few;
     own = st.own;
@@ -132,21 +137,23 @@ variable_stands h vars n s i d B x ts rs long body st te = (
     sound = λ z r. let q = eqb-true (s.place + length_of i) 0 z in absurd (omega (arith, q, long));
   },
   record {
-    as_many = length-set s.now.terms d (Some x) ∙ te.as_many;
+    as_many = many_set s.now.terms h.self.registers d x te.as_many low;
     unset = λ r q. ap (λ ds. member r (s.terms_set ++ ds)) rs ∙ member_more r d s.terms_set (te.unset r (omega (arith, q))) (omega (arith, q));
     fresh = λ z r q. absurd (true≢false (sym body ∙ z));
   },
 )
 
-variable_opened : (h : Home) (later : Later) (vars n : ℕ) (s : State) (i : Instr) (d : ℕ) (B : Block) (x : Built) → effect h later s i ≡ Some (variable_state s B d x) → type_set i ≡ [] → term_set i ≡ d ∷ [] →
-    0 < length_of i → ((rest : List Instr) (r : Rule) → broken_by h s rest i r ≡ false) → s.in_body ≡ true → ((q : ℕ) → side_is_passed q B ≡ false) → TypesStand h vars n s → TermsStand h d s → d < h.self.registers →
+variable_opened : (h : Home) (later : Later) (vars n : ℕ) (s : State) (i : Instr) (d : ℕ) (B : Block) (x : Built) → effect h later s i ≡ Some
+    (variable_state s B d x) → type_set i ≡ [] → term_set i ≡ d ∷ [] →
+    0 < length_of i → ((rest : List Instr) (r : Rule) → broken_by h s rest i r ≡ false) → s.in_body ≡ true → ((q : ℕ) → side_is_passed q B ≡ false) →
+    TypesStand h vars n s → TermsStand h d s → d < h.self.registers →
     HasRoom s (s.place + length_of i) → (t : State) × Opened h later vars n n d (d + 1) s (i ∷ []) (frame_of s B) [] t × (held t.now.terms d ≡ Some x)
 variable_opened h later vars n s i d B x eff ts rs long fine body side st te low room =
     let t = passed i (variable_state s B d x) in
     let one : sum_by length_of (i ∷ []) ≡ 0 + length_of i = refl in
     let open_room : list_any (is_passed t.place) t.frames ≡ false = or_none (side_is_passed t.place B) (list_any (is_passed t.place) s.frames) (side t.place) room in
-    let within : d < length s.now.terms = subst (λ m. d < m) (sym te.as_many) low in
-    let stands = variable_stands h vars n s i d B x ts rs long body st te in (
+    let within : d < length s.now.terms = many_within s.now.terms h.self.registers d te.as_many low in
+    let stands = variable_stands h vars n s i d B x ts rs long body st te low in (
       t,
       record {
         runs = λ rest. steps h later s t i rest st.sound (fine rest) (ap (option_map (λ (u : State). settled h.number (depth u.frames) (passed i u))) eff
@@ -167,7 +174,8 @@ variable_opened h later vars n s i d B x eff ts rs long fine body side st te low
     )
 
 -- what is behind instructions that make a type
-leads_says : (h : Home) (later : Later) (vars n m o k l : ℕ) (s t v : State) (is js : List Instr) (gs hs : Goals) (a : List (ℕ × Captured)) → Leads h later vars n m s is t → Says h later vars m o k l t js gs a v →
+leads_says : (h : Home) (later : Later) (vars n m o k l : ℕ) (s t v : State) (is js : List Instr) (gs hs : Goals) (a : List (ℕ × Captured)) → Leads h
+    later vars n m s is t → Says h later vars m o k l t js gs a v →
     gs ≡ hs → n ≤ m → Says h later vars n o k l s (is ++ js) hs a v
 leads_says h later vars n m o k l s t v is js gs hs a x y e le = record {
   runs = λ i rest. ap (run h later s) (append_assoc is js (i ∷ rest)) ∙ x.runs (js ++ i ∷ rest) ∙ y.runs i rest;
@@ -185,7 +193,8 @@ leads_says h later vars n m o k l s t v is js gs hs a x y e le = record {
 }
 
 -- goals below `pi`, behind the instructions that make its type
-pub all_said : (h : Home) (later : Later) (vars n m o k p q : ℕ) (s r : State) (is js : List Instr) (T : Ty) (X : Goals → List (ℕ × Captured) → Type 0) → s.in_body ≡ true → depth s.frames < nesting_limit →
+pub all_said : (h : Home) (later : Later) (vars n m o k p q : ℕ) (s r : State) (is js : List Instr) (T : Ty)
+    (X : Goals → List (ℕ × Captured) → Type 0) → s.in_body ≡ true → depth s.frames < nesting_limit →
     TermsStand h k s → k < h.self.registers → Leads h later vars n m s is r → Hold r q T → n ≤ m → m ≤ o →
     MayEnd s (s.place + sum_by length_of (is ++ (on.All k q ∷ [] ++ (js ++ on.EndAll ∷ [])))) →
     ((t : State) → Opened h later vars m m k (k + 1) r (on.All k q ∷ []) (frame_of r (under_all k T)) [] t → held t.now.terms k ≡ Some (whole (variable k h.number) T) →
@@ -196,7 +205,8 @@ all_said h later vars n m o k p q s r is js T X body shallow te low x held_q le 
     let tail = on.All k q ∷ [] ++ (js ++ on.EndAll ∷ []) in
     let size = sum_by-append length_of is tail in
     let place = x.place_is in
-    let room_r : MayEnd r (r.place + sum_by length_of tail) = subst (λ n. MayEnd r n) (let z : s.place + sum_by length_of (is ++ tail) ≡ r.place + sum_by length_of tail = omega (arith, place, size) in z)
+    let room_r : MayEnd r (r.place + sum_by length_of tail) = subst (λ n. MayEnd r n)
+    (let z : s.place + sum_by length_of (is ++ tail) ≡ r.place + sum_by length_of tail = omega (arith, place, size) in z)
     (subst (λ fs. list_any (λ (f : Frame). ends_before (s.place + sum_by length_of (is ++ tail)) f.block) fs ≡ false) (sym x.same.frames) room) in
     let body_r : r.in_body ≡ true = x.same.in_body ∙ body in
     let te_r : TermsStand h k r = (moved h later vars n m k s r is x te).terms_stand in
@@ -209,28 +219,39 @@ all_said h later vars n m o k p q s r is js T X body shallow te low x held_q le 
     let deep : depth r.frames < nesting_limit = subst (λ fs. depth fs < nesting_limit) (sym x.same.frames) shallow in
     let y = variable_opened h later vars m r (on.All k q) k (under_all k T) (whole (variable k h.number) T)
     (ap (λ o. Some (variable_state r (under_all k (unwrap_or o o_type)) k (whole (variable k h.number) (unwrap_or o o_type)))) held_q) refl refl (omega arith)
-    (variable_rules h vars m r (on.All k q) k q T refl refl refl refl refl refl refl refl (ap not body_r) refl (λ rest. not_deep r deep) refl x.stands te_r low held_q here) body_r (λ q. refl) x.stands te_r low after in
+    (variable_rules h vars m r (on.All k q) k q T refl refl refl refl refl refl refl refl (ap not body_r) refl (λ rest. not_deep r deep) refl x.stands
+    te_r low held_q here) body_r (λ q. refl) x.stands te_r low after in
     let w = inner y.0 y.1 y.2 in
     let gs = w.0 in
     let b = w.1 in
     let u = w.3 in
     let g = w.4 in
-    let z = block_ends h later vars m m o k (k + 1) p r y.0 u (frame_of r (under_all k T)) (on.All k q ∷ []) js on.EndAll gs (Forall T (bind_goals (k ∷ []) h.number gs)) [] b y.1 g refl refl refl (λ q. refl) refl refl refl
+    let z = block_ends h later vars m m o k (k + 1) p r y.0 u (frame_of r (under_all k T)) (on.All k q ∷ []) js on.EndAll gs
+    (Forall T (bind_goals (k ∷ []) h.number gs)) [] b y.1 g refl refl refl (λ q. refl) refl refl refl
     (omega arith) refl (λ strict innermost. plain_rules h vars o p u on.EndAll g.types_stand g.terms_stand refl refl refl refl refl refl refl refl refl refl
-    (λ rest. ap (λ k. not (ends_block on.EndAll k)) innermost) refl strict) body_r x.stands te_r room_r in
-    (gs, b, w.2, z.0, leads_says h later vars n m o k p s r z.0 is tail _ (with_goal s.goals (Forall T (bind_goals (k ∷ []) h.number gs))) b x z.1 (ap (λ l. with_goal l (Forall T (bind_goals (k ∷ []) h.number gs))) x.same.goals) le)
+    (λ rest. ap (λ k. not (ends_block on.EndAll k)) innermost) refl strict) body_r x.stands te_r room_r in (
+      gs,
+      b,
+      w.2,
+      z.0,
+      leads_says h later vars n m o k p s r z.0 is tail _ (with_goal s.goals (Forall T (bind_goals (k ∷ []) h.number gs))) b x z.1
+          (ap (λ l. with_goal l (Forall T (bind_goals (k ∷ []) h.number gs))) x.same.goals) le,
+    )
 
 -- goals below `sigma`, which is open up to the end of the block around it
-pub sigma_said : (h : Home) (later : Later) (vars n m o k p q : ℕ) (s r : State) (is js : List Instr) (T : Ty) (X : Goals → List (ℕ × Captured) → Type 0) → s.in_body ≡ true → TermsStand h k s → k < h.self.registers →
+pub sigma_said : (h : Home) (later : Later) (vars n m o k p q : ℕ) (s r : State) (is js : List Instr) (T : Ty)
+    (X : Goals → List (ℕ × Captured) → Type 0) → s.in_body ≡ true → TermsStand h k s → k < h.self.registers →
     Leads h later vars n m s is r → Hold r q T → n ≤ m → m ≤ o → MayEnd s (s.place + sum_by length_of (is ++ (on.Sigma k q ∷ [] ++ js))) → 0 < sum_by length_of js →
     ((t : State) → Opened h later vars m m k (k + 1) r (on.Sigma k q ∷ []) (frame_of r (under_sigma k T)) [] t → held t.now.terms k ≡ Some (whole (variable k h.number) T) →
     Inner h later vars m o (k + 1) p t js X) →
-    (gs : Goals) × (b : List (ℕ × Captured)) × X gs b × (u : State) × GoalsSaid h later vars n o k p s (is ++ (on.Sigma k q ∷ [] ++ js)) (goals (Exists T (bind_goals (k ∷ []) h.number gs)) no_goals) b u
+    (gs : Goals) × (b : List (ℕ × Captured)) × X gs b × (u : State) × GoalsSaid h later vars n o k p s (is ++ (on.Sigma k q ∷ [] ++ js))
+    (goals (Exists T (bind_goals (k ∷ []) h.number gs)) no_goals) b u
 sigma_said h later vars n m o k p q s r is js T X body te low x held_q le mo room some inner =
     let tail = on.Sigma k q ∷ [] ++ js in
     let size = sum_by-append length_of is tail in
     let place = x.place_is in
-    let room_r : MayEnd r (r.place + sum_by length_of tail) = subst (λ n. MayEnd r n) (let z : s.place + sum_by length_of (is ++ tail) ≡ r.place + sum_by length_of tail = omega (arith, place, size) in z)
+    let room_r : MayEnd r (r.place + sum_by length_of tail) = subst (λ n. MayEnd r n)
+    (let z : s.place + sum_by length_of (is ++ tail) ≡ r.place + sum_by length_of tail = omega (arith, place, size) in z)
     (subst (λ fs. list_any (λ (f : Frame). ends_before (s.place + sum_by length_of (is ++ tail)) f.block) fs ≡ false) (sym x.same.frames) room) in
     let body_r : r.in_body ≡ true = x.same.in_body ∙ body in
     let te_r : TermsStand h k r = (moved h later vars n m k s r is x te).terms_stand in
@@ -240,7 +261,8 @@ sigma_said h later vars n m o k p q s r is js T X body te low x held_q le mo roo
     let here : HasRoom r r.place = room_less r.place (r.place + 5) r.frames (omega arith) after in
     let y = variable_opened h later vars m r (on.Sigma k q) k (under_sigma k T) (whole (variable k h.number) T)
     (ap (λ o. Some (variable_state r (under_sigma k (unwrap_or o o_type)) k (whole (variable k h.number) (unwrap_or o o_type)))) held_q) refl refl (omega arith)
-    (variable_rules h vars m r (on.Sigma k q) k q T refl refl refl refl refl refl refl refl (ap not body_r) refl (λ rest. refl) refl x.stands te_r low held_q here) body_r (λ q. refl) x.stands te_r low after in
+    (variable_rules h vars m r (on.Sigma k q) k q T refl refl refl refl refl refl refl refl (ap not body_r) refl (λ rest. refl) refl x.stands te_r low
+    held_q here) body_r (λ q. refl) x.stands te_r low after in
     let w = inner y.0 y.1 y.2 in
     let gs = w.0 in
     let b = w.1 in
@@ -261,7 +283,8 @@ sigma_said h later vars n m o k p q s r is js T X body te low x held_q le mo roo
           same = g.closes.same ∙ (λ z. end_variables h.number (add_goals (y.1.goals_are z) gs) (y.1.frames_are z)) ∙ (λ z. end_variables h.number (with_goal (x.same.goals z) bound) (x.same.frames z));
           innermost = g.closes.innermost ∙ ap innermost_block y.1.frames_are ∙ ap innermost_block x.same.frames;
           deep = g.closes.deep ∙ ap depth y.1.frames_are ∙ ap depth x.same.frames;
-          sides = λ f e. g.closes.sides f e ∙ ap (list_any f) y.1.frames_are ∙ or_skip (f (frame_of r (under_sigma k T))) (list_any f r.frames) (e (frame_of r (under_sigma k T)) refl) ∙ ap (list_any f) x.same.frames;
+          sides = λ f e. g.closes.sides f e ∙ ap (list_any f) y.1.frames_are ∙ or_skip (f (frame_of r (under_sigma k T))) (list_any f r.frames)
+              (e (frame_of r (under_sigma k T)) refl) ∙ ap (list_any f) x.same.frames;
         };
         head_types_stay = g.head_types_stay ∙ y.1.head_types_stay ∙ x.same.head_types;
         arguments_stay = g.arguments_stay ∙ y.1.arguments_stay ∙ x.same.head_arguments;
@@ -275,7 +298,8 @@ sigma_said h later vars n m o k p q s r is js T X body te low x held_q le mo roo
     )
 
 -- `sigma` with no goals behind it: its block may end with it
-pub sigma_alone : (h : Home) (later : Later) (vars n m k q : ℕ) (s r : State) (is : List Instr) (T : Ty) → s.in_body ≡ true → TermsStand h k s → k < h.self.registers → Leads h later vars n m s is r → Hold r q T →
+pub sigma_alone : (h : Home) (later : Later) (vars n m k q : ℕ) (s r : State) (is : List Instr) (T : Ty) → s.in_body ≡ true → TermsStand h k s → k <
+    h.self.registers → Leads h later vars n m s is r → Hold r q T →
     MayEnd s (s.place + sum_by length_of (is ++ on.Sigma k q ∷ [])) → (u : State) × GoalsSaid h later vars n m k (k + 1) s (is ++ on.Sigma k q ∷ []) (goals (Exists T no_goals) no_goals) [] u
 sigma_alone h later vars n m k q s r is T body te low x held_q room =
     let sigma = on.Sigma k q in
@@ -293,11 +317,12 @@ sigma_alone h later vars n m k q s r is T body te low x held_q room =
     let eff : effect h later r sigma ≡ Some (variable_state r B k v) =
     ap (λ o. Some (variable_state r (under_sigma k (unwrap_or o o_type)) k (whole (variable k h.number) (unwrap_or o o_type)))) held_q in
     let fine = variable_rules h vars m r sigma k q T refl refl refl refl refl refl refl refl (ap not body_r) refl (λ rest. refl) refl x.stands te_r low held_q here in
-    let stands = variable_stands h vars m r sigma k B v refl refl (omega arith) body_r x.stands te_r in (
+    let stands = variable_stands h vars m r sigma k B v refl refl (omega arith) body_r x.stands te_r low in (
       u,
       record {
         runs = λ e rest. ap (run h later s) (append_assoc is (sigma ∷ []) (e ∷ rest)) ∙ x.runs (sigma ∷ e ∷ rest)
-            ∙ steps h later r (settled h.number (depth u.frames) u) sigma (e ∷ rest) x.stands.sound (fine (e ∷ rest)) (ap (option_map (λ (z : State). settled h.number (depth z.frames) (passed sigma z))) eff)
+            ∙ steps h later r (settled h.number (depth u.frames) u) sigma (e ∷ rest) x.stands.sound (fine (e ∷ rest))
+            (ap (option_map (λ (z : State). settled h.number (depth z.frames) (passed sigma z))) eff)
             ∙ ap (λ (z : State). run h later z (e ∷ rest)) (sym (some_code h (is ++ sigma ∷ []) u (omega (arith, size, five))));
         place_is = omega (arith, place, size, five);
         closes = record {

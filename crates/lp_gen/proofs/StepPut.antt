@@ -119,7 +119,8 @@ pub fine_parts : (b : Nodes) (h : Home) (v n : ℕ) (i : Bool) (os : List TermSt
 fine_parts b h v n i [] o z a = (tt, a.0)
 fine_parts b h v n i (p ∷ os) o z a = let w = fine_parts b h v n i os o (step_built h (plain_step b p) z) a.1 in ((a.0, w.0), w.1)
 
-pub room_on : (h : Home) (later : Later) (v n m k l : ℕ) (os : List (Option Built)) (s t : State) (is xs ys : List Instr) → Moves h later v n m k l os s xs t → is ≡ xs ++ ys → HasRoom s (s.place + sum_by length_of is) →
+pub room_on : (h : Home) (later : Later) (v n m k l : ℕ) (os : List (Option Built)) (s t : State) (is xs ys : List Instr) → Moves h later v n m k l os
+    s xs t → is ≡ xs ++ ys → HasRoom s (s.place + sum_by length_of is) →
     HasRoom t (t.place + sum_by length_of ys)
 room_on h later v n m k l os s t is xs ys x e room =
     subst (λ fs. list_any (is_passed (t.place + sum_by length_of ys)) fs ≡ false) (sym x.same.frames)

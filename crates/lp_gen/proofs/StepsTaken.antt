@@ -77,7 +77,8 @@ module _ (P : Around → (records levels : List ℕ) → Clauses → Type 0) (K 
   goal_from a n n1 m k k1 l q q1 r g is en ek eq c =
       subst (λ z. GoalCode P K v a n1 m k1 l z r g is) eq (subst (λ z. GoalCode P K v a n1 m z l q r g is) ek (subst (λ z. GoalCode P K v a z m k l q r g is) en c))
 
-  pub goals_more : (a : Around) (n m o k l p q r t : ℕ) (gs : Goals) (js : List Instr) (g : Goal) (is : List Instr) → GoalsCode P K v a n m k l q r gs js → AreNoSigma gs → GoalCode P K v a m o l p r t g is →
+  pub goals_more : (a : Around) (n m o k l p q r t : ℕ) (gs : Goals) (js : List Instr) (g : Goal) (is : List Instr) → GoalsCode P K v a n m k l q r gs
+      js → AreNoSigma gs → GoalCode P K v a m o l p r t g is →
       GoalsCode P K v a n o k p q t (with_goal gs g) (js ++ is)
   goals_more a n m o k l p q r t no_goals js g is (e0, e1, e2, e3) none c =
       (o, p, t, is, [], goal_from a m n o l k p r q t g is e0 e1 e2 c, (refl, refl, refl, refl), ends_none g, ap (λ z. z ++ is) e3 ∙ sym (append-nil is))
@@ -140,7 +141,8 @@ module _ (P : Around → (records levels : List ℕ) → Clauses → Type 0) (K 
     }
 
     -- each `sigma` of the innermost block ends
-    sigmas_end : (bs : List OpenBlock) (gs : Goals) (a c : Around) (m n l k o q : ℕ) (code front last : List Instr) (ms : List Mark) → Opens P K v z bs a m l o front ms → GoalsCode P K v a m n l k o q gs last →
+    sigmas_end : (bs : List OpenBlock) (gs : Goals) (a c : Around) (m n l k o q : ℕ) (code front last : List Instr) (ms : List Mark) → Opens P K v z
+        bs a m l o front ms → GoalsCode P K v a m n l k o q gs last →
         code ≡ front ++ last → a ≡ cut_to (length a.own) c → Closes P K v z (closed gs bs) c n k q code ms
     sigmas_end [] gs a c m n l k o q code front last ms x d e f = record { around = a; types = m; terms = l; next = o; front = front; last = last; opens = x; goals_are = d; code_is = e; left = f }
     sigmas_end (block in_left b ∷ bs) gs a c m n l k o q code front last ms x d e f =
@@ -153,7 +155,24 @@ module _ (P : Around → (records levels : List ℕ) → Clauses → Type 0) (K 
         record { around = a; types = m; terms = l; next = o; front = front; last = last; opens = x; goals_are = d; code_is = e; left = f }
     sigmas_end (block in_denial b ∷ bs) gs a c m n l k o q code front last ms x d e f =
         record { around = a; types = m; terms = l; next = o; front = front; last = last; opens = x; goals_are = d; code_is = e; left = f }
-    sigmas_end (block (in_some T) hs ∷ bs) gs a c m n l k o q code front last ms (b, n1, k1, q1, n2, k2, q2, first, js, is, outer, below, before, none, (ea, short, el, eo, r, ts, kind, eis, ems), efront) d e f =
+    sigmas_end (block (in_some T) hs ∷ bs) gs a c m n l k o q code front last ms (
+      b,
+      n1,
+      k1,
+      q1,
+      n2,
+      k2,
+      q2,
+      first,
+      js,
+      is,
+      outer,
+      below,
+      before,
+      none,
+      (ea, short, el, eo, r, ts, kind, eis, ems),
+      efront,
+    ) d e f =
         let inside = goals_as a (pushed b (quantified k2 T)) m m n n l (k2 + 1) k k o q2 q q gs last ea refl refl el refl eo refl d in
         sigmas_end bs (with_goal hs (Exists T gs)) b c n1 n k1 k q1 q code first (js ++ (ts ++ (on.Sigma k2 r ∷ [] ++ last))) ms (subst (Opens P K v z bs b n1 k1 q1 first) (sym ems) below)
         (goals_more b n1 n2 n k1 k2 k q1 q2 q hs js (Exists T gs) (ts ++ (on.Sigma k2 r ∷ [] ++ last)) before none (m, r, ts, last, kind, short, inside, refl))

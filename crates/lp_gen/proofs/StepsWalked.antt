@@ -10,7 +10,8 @@ use Rattle.lp_gen.specs.inner.OpenGoals.{turned, right_ended, all_ended, assumpt
 use Rattle.lp_gen.proofs.Blocks.{add_behind, add_nothing}
 
 -- the end of a block whose goals were said
-block_ended : (f : Goals → List OpenBlock → Option Walked) (ss : List BodyStep) (s : BodyStep) (w x : Walked) (b : OpenBlock) (bs : List OpenBlock) (gs : Goals) → ((u : Walked) → advance s u ≡ ended f u) →
+block_ended : (f : Goals → List OpenBlock → Option Walked) (ss : List BodyStep) (s : BodyStep) (w x : Walked) (b : OpenBlock) (bs : List OpenBlock)
+    (gs : Goals) → ((u : Walked) → advance s u ≡ ended f u) →
     (y : Walks ss w gs) → closed (add_goals w.said gs) w.opened ≡ walked gs (b ∷ bs) → f gs (b ∷ bs) ≡ Some x → (rest : List BodyStep) → advance_all (ss ++ s ∷ rest) w ≡ advance_all rest x
 block_ended f ss s w x b bs gs is y e last rest =
     y.runs (s ∷ rest) ∙ ap (option_and_then (advance_all rest)) (is y.state ∙ ap (λ (u : Walked). f u.said u.opened) (y.closes ∙ e) ∙ last)
@@ -67,7 +68,8 @@ mutual
       λ rest. ap (λ l. advance_all l left) (append_assoc (goals_steps gs) (turn ∷ (goals_steps hs ++ end_either ∷ [])) rest)
       ∙ block_ended turned (goals_steps gs) turn left right (block in_left w.said) w.opened (plain_goals gs) (λ u. refl) x refl refl ((goals_steps hs ++ end_either ∷ []) ++ rest)
       ∙ ap (λ l. advance_all l right) (append_assoc (goals_steps hs) (end_either ∷ []) rest)
-      ∙ block_ended right_ended (goals_steps hs) end_either right (walked (with_goal w.said (Either (plain_goals gs) (plain_goals hs))) w.opened) (block (in_right (plain_goals gs)) w.said) w.opened (plain_goals hs)
+      ∙ block_ended right_ended (goals_steps hs) end_either right (walked (with_goal w.said (Either (plain_goals gs) (plain_goals hs))) w.opened)
+      (block (in_right (plain_goals gs)) w.said) w.opened (plain_goals hs)
       (λ u. refl) y refl refl rest
   goal_walks (Exists T gs) w e =
       let x = goals_walk gs (into (in_some T) w) e in
@@ -76,18 +78,21 @@ mutual
       let inner = into (in_all T) w in
       let x = goals_walk gs inner e in
       λ rest. ap (λ l. advance_all l inner) (append_assoc (goals_steps gs) (end_all ∷ []) rest)
-      ∙ block_ended all_ended (goals_steps gs) end_all inner (walked (with_goal w.said (Forall T (plain_goals gs))) w.opened) (block (in_all T) w.said) w.opened (plain_goals gs) (λ u. refl) x refl refl rest
+      ∙ block_ended all_ended (goals_steps gs) end_all inner (walked (with_goal w.said (Forall T (plain_goals gs))) w.opened)
+      (block (in_all T) w.said) w.opened (plain_goals gs) (λ u. refl) x refl refl rest
   goal_walks (Assume u cs gs) w e =
       let inner = into (in_assumption cs) w in
       let x = goals_walk gs inner e in
       λ rest. ap (λ l. advance_all l inner) (append_assoc (goals_steps gs) (end_assume ∷ []) rest)
-      ∙ block_ended assumption_ended (goals_steps gs) end_assume inner (walked (with_goal w.said (Assume nothing_written cs (plain_goals gs))) w.opened) (block (in_assumption cs) w.said) w.opened (plain_goals gs)
+      ∙ block_ended assumption_ended (goals_steps gs) end_assume inner (walked (with_goal w.said (Assume nothing_written cs (plain_goals gs)))
+      w.opened) (block (in_assumption cs) w.said) w.opened (plain_goals gs)
       (λ u. refl) x refl refl rest
   goal_walks (Not u gs) w e =
       let inner = into in_denial w in
       let x = goals_walk gs inner e in
       λ rest. ap (λ l. advance_all l inner) (append_assoc (goals_steps gs) (end_deny ∷ []) rest)
-      ∙ block_ended denial_ended (goals_steps gs) end_deny inner (walked (with_goal w.said (Not nothing_written (plain_goals gs))) w.opened) (block in_denial w.said) w.opened (plain_goals gs) (λ u. refl) x refl refl rest
+      ∙ block_ended denial_ended (goals_steps gs) end_deny inner (walked (with_goal w.said (Not nothing_written (plain_goals gs))) w.opened)
+      (block in_denial w.said) w.opened (plain_goals gs) (λ u. refl) x refl refl rest
 
   pub goals_walk : (gs : Goals) (w : Walked) → EndsGoals gs → Walks (goals_steps gs) w (plain_goals gs)
   goals_walk no_goals w e = record { state = w; runs = λ rest. refl; closes = ap (λ l. closed l w.opened) (sym (add_nothing w.said)) }

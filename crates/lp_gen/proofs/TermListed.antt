@@ -181,8 +181,15 @@ module _ (h : Home) (v n : ℕ) (i : Bool) (σ : ℕ → Term) (Γ : List Ty) (K
       Lists C a w.of u (if set then one_step a (from_register w.register) else record { steps = make_variable w.register w.of ∷ from_register w.register ∷ []; around = set_level a l })
   seen_comes C a u l w true s e t xs bs st = one_comes C a w.of u (from_register w.register) (λ xs. built_at xs w.register) (λ xs bs st.
       let here = st.set l w e s in
-      let at : built_at xs w.register ≡ whole (σ l) w.of = ap (λ o. unwrap_or o (whole (index 0) o_type)) here in
-      ((st.low l w e, ap is_none here), refl, record { term = ap (λ (b : Built). b.term) at ∙ sym t; type = ap (λ (b : Built). b.type) at; loose = subst (λ (b : Built). AreOf C b.loose) (sym at) tt })) xs bs st
+      let at : built_at xs w.register ≡ whole (σ l) w.of = ap (λ o. unwrap_or o (whole (index 0) o_type)) here in (
+        (st.low l w e, ap is_none here),
+        refl,
+        record {
+          term = ap (λ (b : Built). b.term) at ∙ sym t;
+          type = ap (λ (b : Built). b.type) at;
+          loose = subst (λ (b : Built). AreOf C b.loose) (sym at) tt;
+        },
+      )) xs bs st
   seen_comes C a u l w false s e t xs bs st =
       let low = st.low l w e in
       let own = st.unmade l w e s in

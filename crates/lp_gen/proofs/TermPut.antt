@@ -26,12 +26,12 @@ use Rattle.lp_code.specs.Rules.{has_count, is_passed}
 use Rattle.lp_code.specs.Denote.{broken_by, run}
 use Rattle.lp_gen.specs.declared.emitter.Emitter.{Emitter}
 use Rattle.lp_gen.specs.Sources.{IsKnownType}
-use Rattle.lp_gen.specs.inner.Running.{TypesStand, HasRoom, Leads, Hold, HoldAll, IsTypePut, AreTypesPut, TermsStand, Moves, HoldTerm}
+use Rattle.lp_gen.specs.inner.Running.{HasRegisters, TypesStand, HasRoom, Leads, Hold, HoldAll, IsTypePut, AreTypesPut, TermsStand, Moves, HoldTerm}
 use Rattle.lp_gen.specs.inner.Owned.{IsPlain}
 use Rattle.lp_gen.specs.inner.Running.{IsTermPut, IsKnownConstant, ConstantPut, IntegerPut, TextPut, IndexPut, built_at, AreParts, ApplicationPut, IsBody, AbstractionPut}
 use Rattle.lp_gen.proofs.Registers.{fresh_set}
 use Rattle.lp_gen.proofs.OwnSet.{plain_none, plain_both}
-use Rattle.lp_gen.proofs.Denoting.{or_none, steps, settled_same, room_less, held_within, held_set, held_below, member_more, none_unset, then_leads, nothing_leads, room_front, room_behind}
+use Rattle.lp_gen.proofs.Denoting.{or_none, steps, settled_same, room_less, many_set, many_within, held_set, held_below, member_more, none_unset, then_leads, nothing_leads, room_front, room_behind}
 
 -- types one after the other
 
@@ -97,7 +97,7 @@ moved h later vars n m k s t is l ts = record {
   terms_kept = λ r q. ap (λ xs. held xs r) l.same.terms;
   types_stand = l.stands;
   terms_stand = record {
-    as_many = ap length l.same.terms ∙ ts.as_many;
+    as_many = subst (λ xs. HasRegisters xs h.self.registers) (sym l.same.terms) ts.as_many;
     unset = λ r q. ap (member r) l.same.terms_set ∙ ts.unset r q;
     fresh = λ e r q. ap (member r) l.same.terms_set ∙ ts.fresh (sym l.same.in_body ∙ e) r (sym (ap (λ xs. held xs r) l.same.terms) ∙ q);
   };
@@ -148,7 +148,7 @@ put_at h later vars n k l s i d b eff ts rs long st te more less low room fine =
       sound = λ e r. let q = eqb-true (s.place + length_of i) 0 e in absurd (omega (arith, q, long));
     };
     terms_stand = record {
-      as_many = length-set s.now.terms d (Some b) ∙ te.as_many;
+      as_many = many_set s.now.terms h.self.registers d b te.as_many low;
       unset = λ r q. ap (λ ds. member r (s.terms_set ++ ds)) rs ∙ member_more r d s.terms_set (te.unset r (omega (arith, q, more))) (omega (arith, q, less));
       fresh = λ e r q. ap (λ ds. member r (s.terms_set ++ ds)) rs ∙ fresh_set s.now.terms s.terms_set d r b within (te.fresh e) q;
     };
@@ -160,7 +160,7 @@ put_at h later vars n k l s i d b eff ts rs long st te more less low room fine =
     t = passed i (put_term s d b)
 
     within : d < length s.now.terms
-    within = subst (λ m. d < m) (sym te.as_many) low
+    within = many_within s.now.terms h.self.registers d te.as_many low
 
 moves_same : (h : Home) (later : Later) (vars n m a b : ℕ) (xs ys : List (Option Built)) (s t : State) (is : List Instr) → Moves h later vars n m a b xs s is t →
     ((r : ℕ) → r < a → held xs r ≡ held ys r) → Moves h later vars n m a b ys s is t
@@ -183,11 +183,11 @@ put_moves h later vars n s i d b eff ts rs long st te low room fine =
     (w.0, moves_same h later vars n n d (d + 1) (slice_set s.now.terms d (Some b)) s.now.terms s w.0 (i ∷ []) w.1 (λ r q. held_below s.now.terms d r (Some b) q), w.2)
 
 -- what is read and set
-pub types_within : (s : State) (n : ℕ) (rs : List ℕ) (Ts : Tys) → length s.now.types ≡ n → HoldAll s rs Ts → list_any (λ t. nat_le n t) (rs ++ []) ≡ false
+pub types_within : (s : State) (n : ℕ) (rs : List ℕ) (Ts : Tys) → HasRegisters s.now.types n → HoldAll s rs Ts → list_any (λ t. nat_le n t) (rs ++ []) ≡ false
 types_within s n [] no_types e a = refl
 types_within s n [] (types T Ts) e a = absurd a
 types_within s n (r ∷ rs) no_types e a = absurd a
-types_within s n (r ∷ rs) (types T Ts) e a = or_none (nat_le n r) (list_any (λ t. nat_le n t) (rs ++ [])) (lt-leb n r (subst (λ m. r < m) e (held_within s.now.types r T a.0)))
+types_within s n (r ∷ rs) (types T Ts) e a = or_none (nat_le n r) (list_any (λ t. nat_le n t) (rs ++ [])) (lt-leb n r (e.inside r T a.0))
     (types_within s n rs Ts e a.1)
 
 pub one_within : (n d : ℕ) → d < n → list_any (λ r. nat_le n r) (d ∷ []) ≡ false
@@ -264,18 +264,17 @@ index_fine h vars n s d i q T st te low a room rest rule.Clause = refl
 index_fine h vars n s d i q T st te low a room rest rule.Key = refl
 
 -- terms that are read
-pub set_within : {A : Type 0} (xs : List (Option A)) (r : ℕ) → is_none (held xs r) ≡ false → r < length xs
-set_within {A} xs r e = by_case (held xs r) refl
+pub set_within : {A : Type 0} (xs : List (Option A)) (n r : ℕ) → HasRegisters xs n → is_none (held xs r) ≡ false → r < n
+set_within {A} xs n r m e = by_case (held xs r) refl
   where
-    by_case : (o : Option A) → held xs r ≡ o → r < length xs
+    by_case : (o : Option A) → held xs r ≡ o → r < n
     by_case None f = absurd (true≢false (sym (ap is_none f) ∙ e))
-    by_case (Some x) f = held_within xs r x f
+    by_case (Some x) f = m.inside r x f
 
-terms_within : (xs : List (Option Built)) (n d : ℕ) (rs : List ℕ) → length xs ≡ n → list_any (λ r. is_none (held xs r)) rs ≡ false → d < n → list_any (λ r. nat_le n r) (rs ++ d ∷ []) ≡ false
+terms_within : (xs : List (Option Built)) (n d : ℕ) (rs : List ℕ) → HasRegisters xs n → list_any (λ r. is_none (held xs r)) rs ≡ false → d < n → list_any (λ r. nat_le n r) (rs ++ d ∷ []) ≡ false
 terms_within xs n d [] e u l = one_within n d l
 terms_within xs n d (r ∷ rs) e u l =
-    or_none (nat_le n r) (list_any (λ r. nat_le n r) (rs ++ d ∷ [])) (lt-leb n r (subst (λ m. r < m) e (set_within xs r (or_false_left (is_none (held xs r)) (list_any (λ r. is_none
-    (held xs r)) rs) u))))
+    or_none (nat_le n r) (list_any (λ r. nat_le n r) (rs ++ d ∷ [])) (lt-leb n r (set_within xs n r e (or_false_left (is_none (held xs r)) (list_any (λ r. is_none (held xs r)) rs) u)))
     (terms_within xs n d rs e (or_false_right (is_none (held xs r)) (list_any (λ r. is_none (held xs r)) rs) u) l)
 
 app_fine : (h : Home) (s : State) (d f : ℕ) (v : Vec ℕ Global) → TermsStand h d s → d < h.self.registers → AreParts s.now.terms f v.items → HasRoom s s.place →
@@ -341,14 +340,16 @@ last_put old mid new i rs Ts asks built x p known does = record {
       let all = room_behind h later vars old.types mid.types s w.0 (x.more ++ i ∷ []) x.more (i ∷ []) w.1 refl room in
       let wide : HasRoom w.0 (w.0.place + length_of i) = room_less (w.0.place + length_of i) (w.0.place + sum_by length_of (i ∷ [])) w.0.frames (omega (arith, one)) all in
       let here : HasRoom w.0 w.0.place = room_less w.0.place (w.0.place + length_of i) w.0.frames (omega arith) wide in
-      let front : Moves h later vars old.types mid.types mid.registers mid.registers s.now.terms s x.more w.0 = subst (λ k. Moves h later vars old.types mid.types k k s.now.terms s x.more w.0) (sym stay)
+      let front : Moves h later vars old.types mid.types mid.registers mid.registers s.now.terms s x.more w.0 = subst
+      (λ k. Moves h later vars old.types mid.types k k s.now.terms s x.more w.0) (sym stay)
       (moved h later vars old.types mid.types old.registers s w.0 x.more w.1 te) in
       let v = does h later vars w.0 w.1.stands front.terms_stand (omega (arith, few, registers)) w.2 (subst (λ xs. asks h vars xs) (sym w.1.same.terms) k) wide here in
       let both = then_moves h later vars old.types mid.types mid.types mid.registers mid.registers (mid.registers + 1) s.now.terms w.0.now.terms s.now.terms s w.0 v.0 x.more (i ∷ []) front v.1
       x.types_grow (omega arith) front.terms_kept in (
         v.0,
         subst (λ k. Moves h later vars old.types new.types k new.registers s.now.terms s (x.more ++ i ∷ []) v.0) stay (subst (λ n. Moves h later vars old.types n mid.registers
-            new.registers s.now.terms s (x.more ++ i ∷ []) v.0) (sym types) (subst (λ n. Moves h later vars old.types mid.types mid.registers n s.now.terms s (x.more ++ i ∷ []) v.0) (sym registers) both)),
+            new.registers s.now.terms s (x.more ++ i ∷ []) v.0) (sym types) (subst (λ n. Moves h later vars old.types mid.types mid.registers n
+            s.now.terms s (x.more ++ i ∷ []) v.0) (sym registers) both)),
         subst
             (λ xs. HoldTerm v.0 mid.registers (built h xs)) w.1.same.terms v.2,
         omega (arith, registers),
@@ -361,7 +362,13 @@ pub constant_put : (old mid then_ new : Emitter) (c d : ℕ) (v : Vec ℕ Global
 constant_put old mid then_ new c d v Ts x r a b e f g j =
     subst (λ d. ConstantPut old new d c Ts) (sym r) (last_put old mid new (on.PutConst mid.registers c v) v.items Ts (λ h vars xs. IsKnownConstant h vars c Ts)
     (λ h xs. constant_of h.tables c Ts) x
-    (record { code = f ∙ ap (λ l. l ++ on.PutConst d c v ∷ []) a ∙ ap (λ d. mid.code.items ++ on.PutConst d c v ∷ []) r; types = g ∙ b; registers = j ∙ e; plain = record { no_own = refl; no_types = refl } }) (λ h vars xs k. k.known)
+    (record {
+      code = f ∙ ap (λ l. l ++ on.PutConst d c v ∷ []) a ∙ ap (λ d. mid.code.items ++ on.PutConst d c v ∷ []) r;
+      types = g ∙ b;
+      registers = j
+          ∙ e;
+      plain = record { no_own = refl; no_types = refl };
+    }) (λ h vars xs k. k.known)
     (λ h later vars s st te low held k wide here. put_moves h later vars mid.types s (on.PutConst mid.registers c v) mid.registers (constant_of h.tables c Ts) (ap (λ us. Some
     (put_term s mid.registers (constant_of h.tables c us))) (types_held s v.items Ts held).0) refl refl (omega arith) st te low wide
     (const_fine h vars mid.types s mid.registers c v Ts st te low held k here)))

@@ -61,7 +61,8 @@ steps_keep h v n i [] z r b f e = e
 steps_keep h v n i (o ∷ os) z r b f e = steps_keep h v n i os (step_built h o z) r b f.1 (step_keeps h v n i o z r b f.0 e)
 
 -- variables stand in another state in which their registers hold the same
-pub standing_on : (h : Home) (v n m : ℕ) (i : Bool) (σ : ℕ → Term) (a : Around) (xs ys : List (Option Built)) → Standing h v n i σ a xs → ((r : ℕ) → r < n → held ys r ≡ held xs r) → n ≤ m → m ≤ length ys →
+pub standing_on : (h : Home) (v n m : ℕ) (i : Bool) (σ : ℕ → Term) (a : Around) (xs ys : List (Option Built)) → Standing h v n i σ a xs →
+    ((r : ℕ) → r < n → held ys r ≡ held xs r) → n ≤ m → m ≤ length ys →
     Standing h v m i σ a ys
 standing_on h v n m i σ a xs ys x same le long = record {
   low = λ l w e. let q = x.low l w e in omega (arith, q, le);
@@ -136,7 +137,7 @@ term_written K b old new before after steps r F t x adds = record {
       let fine : AreFine h vars old.registers s.in_body (map (plain_step b) steps) start = subst (λ os. AreFine h vars old.registers s.in_body os start) (sym adds.steps) c.fine in
       let is : steps_built h (map (plain_step b) steps) start ≡ stack c.registers (c.built ∷ []) = ap (λ os. steps_built h os start) adds.steps ∙ c.is in
       let w = x.denotes h later vars s c.registers c.built st te low few fine is room in
-      let many = w.1.terms_stand.as_many in
+      let many = w.1.terms_stand.as_many.enough in
       let grow = x.terms_grow in (
         w.0,
         record {
@@ -228,7 +229,8 @@ argument_then K old mid new a b c rs after r F G ts t x p left e = record {
         indices = good.indices;
         seen = all_seen a b Γ 0 t w.5 good.seen;
       } in
-      let sides : SameSides (from_of G) parts.1 = (subst (λ H. Asks H (arrow parts.1 R)) (sym left) (subst (Asks (left_by F (length ts))) parts.3 (asks_left h vars Γ a F A ts parts.0 parts.2 asks))).0 in
+      let sides : SameSides (from_of G) parts.1 = (subst (λ H. Asks H (arrow parts.1 R)) (sym left)
+      (subst (Asks (left_by F (length ts))) parts.3 (asks_left h vars Γ a F A ts parts.0 parts.2 asks))).0 in
       let v = p.denotes h later vars w.0 σ Γ parts.1 asked w.1.types_stand w.1.terms_stand low few here moved sides
       (room_goes h later vars old.types mid.types old.registers mid.registers s w.0 (x.more ++ p.more) x.more p.more w.1 refl room) in
       let f = with_variables σ a 0 in

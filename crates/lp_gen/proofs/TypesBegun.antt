@@ -59,7 +59,8 @@ passing_all (suc n) test all =
     let here : length (passing (suc n) test) ≡ length (passing n test ++ n ∷ []) = ap (λ t. length (passing n test ++ (if t then n ∷ [] else []))) (all n (omega arith)) in
     omega (arith, z, y, one, here)
 
-new_fine : (h : Home) (s : State) (d : ℕ) → TypesStand h d d s → d < h.self.types → s.in_body ≡ false → h.self.program ≡ true → HasRoom s s.place → (rest : List Instr) (r : Rule) → broken_by h s rest (on.TyNew d) r ≡ false
+new_fine : (h : Home) (s : State) (d : ℕ) → TypesStand h d d s → d < h.self.types → s.in_body ≡ false → h.self.program ≡ true → HasRoom s s.place →
+    (rest : List Instr) (r : Rule) → broken_by h s rest (on.TyNew d) r ≡ false
 new_fine h s d st low before program room rest rule.Register = or_none (nat_le h.self.types d || false) false (or_none (nat_le h.self.types d) false (lt-leb h.self.types d low) refl) refl
 new_fine h s d st low before program room rest rule.Unset = refl
 new_fine h s d st low before program room rest rule.Set = or_none (member d s.types_set || false) false (or_none (member d s.types_set) false (st.unset d (omega arith)) refl) refl

@@ -18,11 +18,12 @@ use Rattle.lp_code.specs.Denote.{broken_by}
 use Rattle.lp_gen.specs.declared.emitter.Emitter.{Emitter}
 use Rattle.lp_gen.specs.inner.Running.{HasRoom}
 use Rattle.lp_gen.specs.inner.Heading.{VariableGot}
-use Rattle.lp_gen.proofs.Denoting.{or_none, steps, settled_same, room_less, member_more}
+use Rattle.lp_gen.proofs.Denoting.{or_none, steps, settled_same, room_less, many_set, many_within, member_more}
 use Rattle.lp_gen.proofs.Registers.{held_elsewhere, fresh_set}
 use Rattle.lp_gen.proofs.TermPut.{one_within, no_sides}
 
-got_fine : (h : Home) (s : State) (i d : ℕ) (T : Ty) → member d s.terms_set ≡ false → out_of_turn s i ≡ false → argument_type (head_built h s).type i ≡ Some T → d < h.self.registers → HasRoom s s.place →
+got_fine : (h : Home) (s : State) (i d : ℕ) (T : Ty) → member d s.terms_set ≡ false → out_of_turn s i ≡ false → argument_type (head_built h s).type i
+    ≡ Some T → d < h.self.registers → HasRoom s s.place →
     (rest : List Instr) (r : Rule) → broken_by h s rest (GetVar i d) r ≡ false
 got_fine h s i d T unset turn typed low room rest rule.Register = one_within h.self.registers d low
 got_fine h s i d T unset turn typed low room rest rule.Unset = refl
@@ -46,6 +47,8 @@ variable_got old new i d code same_types same_registers = record {
   code_is = code;
   types_stay = same_types;
   registers_stay = same_registers;
+  own = refl;
+  no_types = refl;
   denotes = λ h later vars s T st te below few before none turn typed room.
       let one : sum_by length_of (GetVar i d ∷ []) ≡ 0 + length_of (GetVar i d) = refl in
       let wide : HasRoom s (s.place + length_of (GetVar i d)) = room_less (s.place + length_of (GetVar i d)) (s.place + sum_by length_of (GetVar i d ∷ [])) s.frames (omega (arith, one)) room in
@@ -55,7 +58,7 @@ variable_got old new i d code same_types same_registers = record {
       let of : argument_at h s i ≡ T = ap (λ o. unwrap_or o o_type) typed in
       let b = whole (variable d h.number) T in
       let t = passed (GetVar i d) (with_argument (put_term s d b) b) in
-      let within : d < length s.now.terms = subst (λ m. d < m) (sym te.as_many) low in (
+      let within : d < length s.now.terms = many_within s.now.terms h.self.registers d te.as_many low in (
         t,
         record {
           runs = λ rest. steps h later s t (GetVar i d) rest st.sound (got_fine h s i d T unset turn typed low here rest)
@@ -79,7 +82,7 @@ variable_got old new i d code same_types same_registers = record {
             sound = λ e r. let q = eqb-true (s.place + length_of (GetVar i d)) 0 e in absurd (omega (arith, q));
           };
           terms_stand = record {
-            as_many = length-set s.now.terms d (Some b) ∙ te.as_many;
+            as_many = many_set s.now.terms h.self.registers d b te.as_many low;
             unset = λ r q. member_more r d s.terms_set (te.unset r q) (omega (arith, q, below));
             fresh = λ e r q. fresh_set s.now.terms s.terms_set d r b within (te.fresh e) q;
           };

@@ -24,14 +24,15 @@ use Rattle.lp_gen.specs.inner.Listing.{Step, make_constant, make_integer, make_t
 use Rattle.lp_gen.specs.inner.Owned.{made_by}
 use Rattle.lp_gen.specs.inner.Running.{TypesStand, HasRoom, Hold, Moves, IsTypePut}
 use Rattle.lp_gen.specs.inner.TermSteps.{Stack, stack, made_variable, step_built, steps_built, StandIn, StepsPut}
-use Rattle.lp_gen.proofs.Denoting.{or_none, room_less, room_front, none_unset, held_set}
+use Rattle.lp_gen.proofs.Denoting.{or_none, room_less, room_front, none_unset, many_within, held_set}
 use Rattle.lp_gen.proofs.Registers.{held_elsewhere, by_same}
 use Rattle.lp_gen.proofs.TermPut.{moved, then_moves, put_at, types_within, one_within, no_sides}
 use Rattle.lp_gen.proofs.OwnSet.{makes_both}
 use Rattle.lp_gen.proofs.StepsOwn.{own_more, no_types_more}
 use Rattle.lp_gen.proofs.StepPut.{built_more, fine_parts, room_on}
 
-pub new_fine : (h : Home) (vars n : ℕ) (s : State) (d q : ℕ) (T : Ty) → TypesStand h vars n s → member d s.terms_set ≡ false → s.in_body ≡ false → d < h.self.registers → Hold s q T → HasRoom s s.place →
+pub new_fine : (h : Home) (vars n : ℕ) (s : State) (d q : ℕ) (T : Ty) → TypesStand h vars n s → member d s.terms_set ≡ false → s.in_body ≡ false → d <
+    h.self.registers → Hold s q T → HasRoom s s.place →
     (rest : List Instr) (r : Rule) → broken_by h s rest (New d q) r ≡ false
 new_fine h vars n s d q T st unset unmade low a room rest rule.Register =
     or_none (list_any (λ t. nat_le h.self.types t) (q ∷ [])) (list_any (λ r. nat_le h.self.registers r) (d ∷ [])) (types_within s h.self.types (q ∷ []) (types T no_types) st.as_many
@@ -63,7 +64,8 @@ pub steps_length : (h : Home) (os : List Step) (z : Stack) → length (steps_bui
 steps_length h [] z = refl
 steps_length h (o ∷ os) z = steps_length h os (step_built h o z) ∙ step_length h o z
 
-pub stand_past : (n : ℕ) (xs ys : List (Option Built)) (rs : List ℕ) (bs : List Built) → ((r : ℕ) (b : Built) → r < n → held xs r ≡ Some b → held ys r ≡ Some b) → All (λ r. r < n) rs → StandIn xs rs bs →
+pub stand_past : (n : ℕ) (xs ys : List (Option Built)) (rs : List ℕ) (bs : List Built) →
+    ((r : ℕ) (b : Built) → r < n → held xs r ≡ Some b → held ys r ≡ Some b) → All (λ r. r < n) rs → StandIn xs rs bs →
     StandIn ys rs bs
 stand_past n xs ys [] [] k l a = tt
 stand_past n xs ys [] (c ∷ bs) k l a = absurd a
@@ -122,10 +124,12 @@ new_then b old mid kind new os made r t of x q code same_types same_registers = 
       let u = put_at h later vars kind.types mid.registers mid.registers v.0 (New r t) r new_var
       (ap (λ o. Some (put_term v.0 r (whole (variable r h.number) (unwrap_or o o_type)))) v.2) refl refl (omega arith) v.1.stands both.terms_stand (omega arith)
       (omega (arith, below, grow)) low_r wide (new_fine h vars kind.types v.0 r t T v.1.stands unset unmade low_r v.2 here) in
-      let many : length z.registers ≡ h.self.registers = steps_length h (map (plain_step b) os) start ∙ te.as_many in
+      let many = steps_length h (map (plain_step b) os) start in
+      let enough = te.as_many.enough in
       let last = then_moves h later vars old.types kind.types kind.types old.registers mid.registers mid.registers z.registers (slice_set v.0.now.terms r (Some new_var))
       (made_variable h r T z.registers) s v.0 u.0 front one both u.1 (omega (arith, i, x.types_grow)) x.terms_grow
-      (set_agrees old.registers r new_var v.0.now.terms z.registers both.terms_kept (subst (λ m. r < m) (sym both.terms_stand.as_many) low_r) (subst (λ m. r < m) (sym many) low_r)) in
+      (set_agrees old.registers r new_var v.0.now.terms z.registers both.terms_kept
+      (many_within v.0.now.terms h.self.registers r both.terms_stand.as_many low_r) (omega (arith, low_r, many, enough))) in
       let is = built_more b h os (on.New r of) start in
       let stands : StandIn u.0.now.terms made z.made = stand_past mid.registers w.0.now.terms u.0.now.terms made z.made (λ k c l e. u.1.terms_kept k l
       ∙ held_elsewhere v.0.now.terms r k (Some new_var) (λ same. no_some c (sym (kinds.terms_kept k l ∙ e) ∙ ap (held v.0.now.terms) same ∙ none))

@@ -17,9 +17,7 @@ use Rattle.lp_term.specs.declared.node.TermId.{TermId}
 use Rattle.lp_calculus.specs.Typing.{type_at}
 use Rattle.lp_gen.specs.inner.Reading.{read_at, types_of}
 use Rattle.lp_term.proofs.Walks.{map_map}
-use Rattle.lp_gen.specs.declared.plan.Places.{Places}
-use Rattle.lp_gen.specs.declared.plan.Places.TheVariants as place
-use Rattle.lp_gen.specs.inner.Sizes.{type_size, place_task, place_work, term_task, term_work}
+use Rattle.lp_gen.specs.inner.Sizes.{type_size, term_task, term_work}
 
 pub some_type : (T : Ty) → 0 < type_size T
 some_type (var i) = omega arith
@@ -72,17 +70,9 @@ instance_con b c k parts i e =
     let θ : ℕ → Ty = type_at (types_of (tree b c.0)) in
     sym (ap (instance θ) (sym e) ∙ ap (con k) (instances_tys θ (map (type_tree b) (map (λ t. t.0) parts))) ∙ ap (λ l. con k (tys l)) (three_maps (λ t. t.0) (type_tree b) (instance θ) parts))
 
-some_args : {X Y : Type 0} (f : X → Y) (xs : List X) → map f xs ≢ [] → 0 < length xs
+pub some_args : {X Y : Type 0} (f : X → Y) (xs : List X) → map f xs ≢ [] → 0 < length xs
 some_args f [] n = absurd (n refl)
 some_args f (x ∷ xs) n = omega arith
-
--- an application whose arguments are looked at one by one
-pub marks_application : (b : Nodes) (old mid new : List Places) (head term : TermId) (args : Bor (List TermId)) (u v : ℕ) → mid ≡ old ++ place.Terms args u ∷ [] → new ≡ mid ++ place.Term head v ∷ [] →
-    apply (tree b head.0) (map (tree b) (map (λ t. t.0) args.now)) ≡ tree b term.0 → map (λ t. t.0) args.now ≢ [] → place_work b new + 1 ≤ place_work b old + 4 * size (tree b term.0)
-marks_application b old mid new head term args u v m e t n =
-    let w = two_more (place_task b) old mid new (place.Terms args u) (place.Term head v) m e in
-    let a = application_weighs b (tree b head.0) (tree b term.0) args.now (ap (apply (tree b head.0)) (sym (map_map (tree b) (λ t. t.0) args.now)) ∙ t) (some_args (λ t. t.0) args.now n) in
-    omega (arith, w, a)
 
 applied : {X : Type 0} (f : X → Term) (ids : List X) (h t : Term) → (ids ≡ [] → ⊥) → apply h (map f ids) ≡ t → IsNoApplication t → ⊥
 applied f [] h t n e a = n refl
@@ -93,7 +83,8 @@ applied f (i ∷ ids) h t n e a = go h (f i) (map f ids) (subst IsNoApplication 
     go u v (x ∷ ts) q = go (app u v) x ts q
 
 -- a spine is not empty where the term is an application
-pub has_args : (b : Nodes) (head : TermId) (term : TermId) (args : List TermId) (f : ℕ) (ids : List ℕ) → apply (tree b f) (map (tree b) ids) ≡ tree b term.0 → ids ≢ [] → IsNoApplication (tree b head.0) → apply (tree b head.0) (map (λ t. tree b t.0) args) ≡ tree b term.0 → 0 < length args
+pub has_args : (b : Nodes) (head : TermId) (term : TermId) (args : List TermId) (f : ℕ) (ids : List ℕ) → apply (tree b f) (map (tree b) ids) ≡ tree b
+    term.0 → ids ≢ [] → IsNoApplication (tree b head.0) → apply (tree b head.0) (map (λ t. tree b t.0) args) ≡ tree b term.0 → 0 < length args
 has_args b head term [] f ids t n h e = absurd (applied (tree b) ids (tree b f) (tree b term.0) n t (subst IsNoApplication e h))
 has_args b head term (x ∷ xs) f ids t n h e = omega arith
 

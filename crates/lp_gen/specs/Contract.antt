@@ -6,21 +6,22 @@ use Rattle.lp_model.specs.declared.program.Declared.{Declared}
 use Rattle.lp_model.specs.declared.program.Typed as program
 use Rattle.lp_model.specs.declared.clause.Goal as code_goal
 use Rattle.lp_model.specs.declared.clause.Clause as code_clause
-use Rattle.lp_model.specs.Flattened.{clause_of, clauses_of, goals_of}
+use Rattle.lp_model.specs.Flattened.{clause_of, goals_of}
 use Rattle.lp_model.specs.Readings.{declared_by}
 use Rattle.lp_code.specs.declared.record.Record.{Record}
 use Rattle.lp_code.specs.Symbolic.{Tables}
 use Rattle.lp_code.specs.Denote.{denote, denote_query}
-use Rattle.lp_gen.specs.Sources.{AreKnownSchemes, IsClause, IsQuery, clauses_count, goals_count}
+use Rattle.lp_gen.specs.Sources.{AreKnownSchemes, IsClause, IsQuery, goals_count}
 
 abbrev pub tables_of : Nodes → List Declared → (kinds : ℕ → Option ℕ) → Tables
 tables_of b ds κ = record { kinds = κ; constants = declared_by b ds }
 
 abbrev pub DenotesClauses : Nodes → List Declared → List code_clause.Clause → List Record → Type 0
 DenotesClauses b ds cs rs =
-    (κ : ℕ → Option ℕ) → AreKnownSchemes (tables_of b ds κ) → All (IsClause (tables_of b ds κ)) (map (clause_of b) cs) → clauses_count (clauses_of b cs) ≤ 65535 → denote (tables_of b ds κ) rs ≡ Some (map (clause_of b) cs)
+    (κ : ℕ → Option ℕ) → AreKnownSchemes (tables_of b ds κ) → All (IsClause (tables_of b ds κ)) (map (clause_of b) cs) → denote (tables_of b ds κ) rs ≡ Some (map (clause_of b) cs)
 
 abbrev pub DenotesQuery : Nodes → List Declared → program.Typed → List code_goal.Goal → List Record → Type 0
 DenotesQuery b ds q gs rs =
-    (κ : ℕ → Option ℕ) → AreKnownSchemes (tables_of b ds κ) → IsQuery (tables_of b ds κ) q.type_vars (reverse (map (λ v. type_tree b v.1.0) q.vars.items)) (goals_of b gs) → goals_count (goals_of b gs) ≤ 65534 →
+    (κ : ℕ → Option ℕ) → AreKnownSchemes (tables_of b ds κ) → IsQuery (tables_of b ds κ) q.type_vars
+    (reverse (map (λ v. type_tree b v.1.0) q.vars.items)) (goals_of b gs) → goals_count (goals_of b gs) ≤ 65534 →
     denote_query (tables_of b ds κ) rs ≡ Some (record { type_vars = q.type_vars; vars = map (λ v. type_tree b v.1.0) q.vars.items; body = goals_of b gs })

@@ -95,7 +95,8 @@ abbrev mutual
   pub AreAssumed : Tables → Under → Clauses → Type 0
   AreAssumed t u no_clauses = Unit {0}
   AreAssumed t u (clauses (clause n vs h b) cs) =
-      (n ≡ 0) × All (IsKnownType t.kinds u.type_vars) vs × IsAtom t (all_bound u vs) h × (is_clause_head t.constants (all_bound u vs).binders (head_of h) ≡ true) × AreGoals t (all_bound u vs) b × AreAssumed t u cs
+      (n ≡ 0) × All (IsKnownType t.kinds u.type_vars) vs × IsAtom t (all_bound u vs) h ×
+      (is_clause_head t.constants (all_bound u vs).binders (head_of h) ≡ true) × AreGoals t (all_bound u vs) b × AreAssumed t u cs
 
 -- how deep blocks nest, those of `sigma` not counted, and how many clauses are assumed
 abbrev mutual

@@ -1,12 +1,11 @@
 // The goals of a record.
-ghost use Rattle.std.specs.Prelude.{◌≡◌, ℕ, [], ◌∷◌, ◌++◌, length, sum_by, IfOk, OnOk, IfSome, MatchOption};
+ghost use Rattle.std.specs.Prelude.{◌≡◌, [], ◌∷◌, ◌++◌, length, sum_by, IfOk, OnOk, IfSome, MatchOption};
 ghost use Rattle.lp_term.specs.Nodes.{Nodes, type_tree};
-ghost use Rattle.lp_model.specs.Flat.{Clauses};
 ghost use Rattle.lp_code.specs.Length.{length_of};
 ghost use Rattle.lp_gen.specs.inner.Listing.{around_of, constant_function};
 ghost use Rattle.lp_gen.specs.inner.OpenGoals.{cut_to};
 ghost use Rattle.lp_gen.specs.inner.OpenGoals as plain;
-ghost use Rattle.lp_gen.specs.inner.BodyCode.{VariableOpened, SomeOpened, AllOpened, BlockOpened, BlockEnded, Takes, IsTaken, StepsWritten, BodyWritten};
+ghost use Rattle.lp_gen.specs.inner.BodyCode.{VariableOpened, SomeOpened, AllOpened, BlockOpened, BlockEnded, Takes, IsDone, AreDone, BodyWritten};
 
 use crate::atoms::put_atom;
 use crate::emitter::Emitter;
@@ -178,7 +177,7 @@ fn write_step(
     blocks: &mut Vec<Block>,
     step: Step,
 ) -> Result<(), GenRefusal>
-    ensures { OnOk result ((cl : ℕ → Clauses) → IsTaken tables.entry cl (constant_function tables.entry.bank.now tables.entry.constants.now) emitter.old emitter.new environment.old environment.new blocks.old.items blocks.new.items step) }
+    ensures { OnOk result (IsDone tables.entry (constant_function tables.entry.bank.now tables.entry.constants.now) emitter.old emitter.new environment.old environment.new blocks.old.items blocks.new.items starts.old.items starts.new.items step) }
 {
     match step {
         Step::Atom(term) => {
@@ -242,7 +241,7 @@ fn write_steps(
     starts: &mut Vec<Starts>,
     steps: &[Step],
 ) -> Result<(), GenRefusal>
-    ensures { OnOk result (StepsWritten tables.entry (constant_function tables.entry.bank.now tables.entry.constants.now) emitter.old emitter.new environment.old environment.new steps.now) }
+    ensures { OnOk result (AreDone tables.entry (constant_function tables.entry.bank.now tables.entry.constants.now) emitter.old emitter.new environment.old environment.new starts.old.items starts.new.items steps.now) }
 {
     let mut blocks = Vec::new(alloc);
     for step in steps.iter().copied() {
@@ -268,7 +267,7 @@ pub(crate) fn write_body(
     starts: &mut Vec<Starts>,
     steps: &[Step],
 ) -> Result<(), GenRefusal>
-    ensures { OnOk result (BodyWritten tables.entry (constant_function tables.entry.bank.now tables.entry.constants.now) emitter.old emitter.new environment.old environment.new steps.now) }
+    ensures { OnOk result (BodyWritten tables.entry (constant_function tables.entry.bank.now tables.entry.constants.now) emitter.old emitter.new environment.old environment.new starts.old.items starts.new.items steps.now) }
 {
     put_neck(emitter)?;
     write_steps(alloc, tables, emitter, environment, starts, steps)?;

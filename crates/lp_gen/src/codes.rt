@@ -1,10 +1,13 @@
 // The code of clauses and queries.
-ghost use Rattle.std.specs.Prelude.{◌≡◌, ◌<◌, ◌≤◌, ◌^◌, All, length, sum_by, IfOk, OnOk};
+ghost use Rattle.std.specs.Prelude.{◌≡◌, ℕ, List, [], ◌++◌, ◌<◌, ◌≤◌, ◌^◌, All, length, sum_by, IfOk, OnOk};
+ghost use Rattle.lp_code.specs.declared.record.Record.{Record};
 ghost use Rattle.lp_code.specs.Length.{length_of, AllFit};
+ghost use Rattle.lp_gen.specs.Contract.{DenotesClauses};
+ghost use Rattle.lp_gen.specs.inner.Groups.{Kept, IsStartOf, AllWritten, IsGroup};
 
 use crate::emitter::within;
 use crate::fault::GenRefusal;
-use crate::plan::{Origin, Plan};
+use crate::plan::{Origin, Part, Plan};
 use crate::record::{Starts, Tables, number_of, record_of};
 use indexmap::IndexMap;
 use lp_base::{Limit, MAX_CLAUSES};
@@ -14,11 +17,42 @@ use lp_term::Bank;
 use std::alloc::Global;
 
 // The variables with which the records of an assumption start.
-fn start_of<'x>(starts: &'x [Starts], none: &'x Starts, within: Option<usize>) -> &'x Starts {
-    match within {
-        Some(at) if at < starts.len() => &starts[at],
-        _ => none,
+fn start_of<'x>(starts: &'x [Starts], none: &'x Starts, within: Option<usize>) -> &'x Starts
+    ensures { none.now.entries ≡ [] → IsStartOf starts.now within result.now }
+{
+    let Some(at) = within else {
+        return none;
+    };
+    if at >= starts.len() {
+        return none;
     }
+    &starts[at]
+}
+
+// The records of parts, behind those so far.
+fn add_parts(
+    alloc: Global,
+    tables: Tables<'_>,
+    parts: &[Part<'_>],
+    records: &mut Vec<Record>,
+) -> Result<(), GenRefusal>
+    requires fit { AllFit records.old.items }
+    requires short { All (λ r. sum_by length_of r.code.items < 2 ^ 32) records.old.items }
+    ensures fit { OnOk result (AllFit records.new.items) }
+    ensures short { OnOk result (All (λ r. sum_by length_of r.code.items < 2 ^ 32) records.new.items) }
+    ensures written { OnOk result ((g : List Record) × (xs : List Kept) × (records.new.items ≡ records.old.items ++ g) × AllWritten tables.entry [] xs parts.now g) }
+{
+    let none = IndexMap::new(alloc);
+    let mut starts = Vec::new(alloc);
+    for at in 0..parts.len() {
+        let part = &parts[at];
+        let mut more = Vec::new(alloc);
+        let captured = start_of(starts.as_slice(), &none, part.within);
+        let record = record_of(alloc, tables, part, captured, &mut more)?;
+        records.push(record)?;
+        starts.append(&mut more)?;
+    }
+    Ok(())
 }
 
 // The records of a clause or query, behind those so far.
@@ -34,6 +68,7 @@ fn add(
     requires short { All (λ r. sum_by length_of r.code.items < 2 ^ 32) records.old.items }
     ensures fit { OnOk result (AllFit records.new.items) }
     ensures short { OnOk result (All (λ r. sum_by length_of r.code.items < 2 ^ 32) records.new.items) }
+    ensures group { OnOk result ((g : List Record) × (records.new.items ≡ records.old.items ++ g) × IsGroup bank.now constants.now (length records.old.items) type_vars origin.entry g) }
 {
     let Ok(type_vars) = u16::try_from(type_vars) else {
         return Err(GenRefusal::Limit(Limit::Registers));
@@ -46,14 +81,7 @@ fn add(
         assumptions: plan.assumptions.as_slice(),
         first: number_of(records.len()),
     };
-    let none = IndexMap::new(alloc);
-    let mut starts = Vec::new(alloc);
-    for part in plan.parts.iter() {
-        let mut more = Vec::new(alloc);
-        let captured = start_of(starts.as_slice(), &none, part.within);
-        records.push(record_of(alloc, tables, part, captured, &mut more)?)?;
-        starts.append(&mut more)?;
-    }
+    add_parts(alloc, tables, plan.parts.as_slice(), records)?;
     Ok(())
 }
 
@@ -72,9 +100,11 @@ pub fn generate(
     ensures fit { IfOk result (λ code. AllFit code.records.items) }
     ensures short { IfOk result (λ code. All (λ r. sum_by length_of r.code.items < 2 ^ 32) code.records.items) }
     ensures few { IfOk result (λ code. length code.records.items ≤ 65535) }
+    ensures denotes { IfOk result (λ code. DenotesClauses bank.now constants.now clauses.now code.records.items) }
 {
     let mut records = Vec::new(alloc);
-    for clause in clauses {
+    for at in 0..clauses.len() {
+        let clause = &clauses[at];
         let origin = Origin::Clause(clause);
         let type_vars = clause.type_vars as u64;
         add(alloc, bank, constants, type_vars, origin, &mut records)?;

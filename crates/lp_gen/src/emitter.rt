@@ -68,7 +68,11 @@ fn next(count: u16) -> Result<u16, GenRefusal>
 
 impl Emitter {
     /// No code, behind the registers that the record starts with.
-    pub(crate) fn new(alloc: Global, types: u16, registers: u16) -> Emitter {
+    pub(crate) fn new(alloc: Global, types: u16, registers: u16) -> Emitter
+        ensures code { result.code.items ≡ [] }
+        ensures types { result.types ≡ types }
+        ensures registers { result.registers ≡ registers }
+    {
         Emitter {
             code: Vec::new(alloc),
             place: 0,

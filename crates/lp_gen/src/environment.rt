@@ -1,8 +1,9 @@
 // The variables of a record, by their levels: that of a variable is the number of variables around it.
-ghost use Rattle.std.specs.Prelude.{◌≡◌, ◌+◌, ◌-◌, ◌^◌, min, length, option_map, OnOk};
+ghost use Rattle.std.specs.Prelude.{◌≡◌, ℕ, [], ◌+◌, ◌-◌, ◌^◌, min, length, option_map, OnOk};
 ghost use Rattle.lp_term.specs.Nodes.{Nodes};
 ghost use Rattle.lp_gen.specs.inner.Listing.{seen, around_of, level_in, level_below, at_level, set_level};
 ghost use Rattle.lp_gen.specs.inner.Bodies.{pushed};
+ghost use Rattle.lp_gen.specs.inner.BodyCode.{started_at};
 
 use indexmap::IndexMap;
 use lp_base::Memory;
@@ -30,7 +31,11 @@ impl<'a> Environment<'a> {
         alloc: Global,
         captured: &'a IndexMap<u64, Variable>,
         base: u64,
-    ) -> Environment<'a> {
+    ) -> Environment<'a>
+        ensures own { result.own.items ≡ [] }
+        ensures base { result.base ≡ base }
+        ensures captured { (b : Nodes) (l : ℕ) → (around_of b result).captured l ≡ started_at b captured.now l }
+    {
         Environment {
             captured,
             base,

@@ -1,5 +1,8 @@
 // The head of a record.
-ghost use Rattle.std.specs.Prelude.{◌≡◌, [], map, IfOk, OnOk};
+ghost use Rattle.std.specs.Prelude.{◌≡◌, [], map, true, IfOk, OnOk};
+ghost use Rattle.lp_calculus.specs.Spine.{arguments};
+ghost use Rattle.lp_code.specs.Denote.{key_is};
+ghost use Rattle.lp_gen.specs.inner.Recorded.{key_in, first_key_of};
 ghost use Rattle.lp_term.specs.Nodes.{tree, type_tree};
 ghost use Rattle.lp_gen.specs.inner.Reading.{read};
 ghost use Rattle.lp_gen.specs.inner.Listing.{around_of, constant_function, head_type};
@@ -29,18 +32,31 @@ fn number_of(place: usize) -> Result<u8, GenRefusal>
     }
 }
 
-/// The key of a clause by its head.
-pub(crate) fn key_of(alloc: Global, bank: &Bank, head: TermId) -> Result<Key, GenRefusal> {
-    let spine = spine_of(alloc, bank, head)?;
-    let Some(first) = spine.args.first().copied() else {
-        return Ok(Key::None);
-    };
-    match bank.term_node(head_of(bank, first)) {
+// The key of an argument.
+fn key_at(alloc: Global, bank: &Bank, argument: TermId) -> Result<Key, GenRefusal>
+    ensures { IfOk result (λ key. key_is key (key_in (tree bank.now argument.0)) ≡ true) }
+{
+    match bank.term_node(head_of(bank, argument)) {
         TermNode::Const(number, _) => Ok(Key::Const(number)),
         TermNode::Int(value) => Ok(Key::Int(value)),
-        TermNode::Text(bytes) => Ok(Key::Text(Vec::from_slice(alloc, bytes)?)),
+        TermNode::Text(bytes) => {
+            let text = Vec::from_slice(alloc, bytes)?;
+            Ok(Key::Text(text))
+        }
         _ => Ok(Key::None),
     }
+}
+
+/// The key of a clause by its head.
+pub(crate) fn key_of(alloc: Global, bank: &Bank, head: TermId) -> Result<Key, GenRefusal>
+    ensures { IfOk result (λ key. key_is key (first_key_of (arguments (tree bank.now head.0))) ≡ true) }
+{
+    let spine = spine_of(alloc, bank, head)?;
+    let Some((first, _)) = spine.args.as_slice().split_first() else {
+        return Ok(Key::None);
+    };
+    let key = key_at(alloc, bank, *first)?;
+    Ok(key)
 }
 
 // The level and register of a variable that the argument is, at its first place.

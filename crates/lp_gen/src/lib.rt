@@ -13,6 +13,8 @@ mod emitter;
 mod entering;
 // Variables by index.
 mod environment;
+// The variables around assumed clauses that stand in them.
+mod captured;
 // The code of clauses and queries.
 mod codes;
 // Why clauses have no code.

@@ -1,15 +1,17 @@
-// A clause or query with the clauses that it assumes: each as a head and a list of steps, and which variables around them the assumed ones need.
+// A clause or query with the clauses that it assumes: each as a head and a list of steps.
+ghost use Rattle.std.specs.Prelude.{◌≡◌, List, ◌≤◌, ◌<◌, ◌+◌, ◌∷◌, ◌++◌, [], map, length, IfOk, OnOk};
+ghost use Rattle.lp_gen.specs.inner.Sizes.{goal_work, goal_task, goal_weighs, goals_weigh};
+ghost use Rattle.lp_gen.specs.inner.Recorded.{own_count};
+ghost use Rattle.lp_gen.specs.inner.Planning.{AreDue, body_of, todo_of, todos, due_goals, due_end, due_level, IsAssumed, WalkKept, PartWalked, ArePlanned, AllCaptured};
+ghost use Rattle.lp_gen.specs.declared.plan.Due.{Due};
+ghost use Rattle.lp_gen.specs.declared.plan.Step.TheVariants as on;
 
-ghost use Rattle.std.specs.Prelude.{◌≡◌, ◌≤◌, ◌+◌, ◌*◌, map, OnOk};
-ghost use Rattle.lp_term.specs.Nodes.{tree};
-ghost use Rattle.lp_term.specs.Walk.{size};
-ghost use Rattle.lp_gen.specs.inner.Sizes.{place_work, goal_work, goal_task, goal_weighs, goals_weigh};
-
+use crate::captured::captured_of;
 use crate::fault::GenRefusal;
 use indexmap::IndexSet;
 use lp_base::{Limit, MAX_CLAUSES, Memory};
 use lp_model::{Clause, Goal, Typed};
-use lp_term::{Bank, TermId, TermNode, TypeId};
+use lp_term::{Bank, TermId, TypeId};
 use std::alloc::Global;
 
 /// A goal of a record or the end of a block, by the order of its code. Blocks are those of `Either` up to `Turn`, of `Turn` up to `EndEither`, and of
@@ -47,57 +49,53 @@ pub(crate) struct Part<'a> {
     pub steps: Vec<Step>,
 }
 
-/// Clauses that are assumed together: the assumption in whose clauses they stand, how many variables are around them, the levels of those that stand in
-/// them, and which parts they are.
+/// Clauses that are assumed together: how many variables are around them, the levels of those with which their records start, and which parts they are.
 #[derive(Drop)]
-pub(crate) struct Assumption {
-    pub within: Option<usize>,
+pub(crate) struct Assumption<'a> {
+    pub clauses: &'a [Clause],
     pub base: u64,
     pub captured: IndexSet<u64>,
     pub first: usize,
     pub count: usize,
 }
 
+/// A part whose steps are not known yet.
+#[derive(Clone, Copy)]
+pub(crate) struct Due<'a> {
+    pub origin: Origin<'a>,
+    pub within: Option<usize>,
+    pub base: u64,
+}
+
 /// The records of a clause or query, those that it assumes behind it, in the order in which their assumptions are met.
 #[derive(Drop)]
 pub(crate) struct Plan<'a> {
     alloc: Global,
+    pub due: Vec<Due<'a>>,
     pub parts: Vec<Part<'a>>,
-    pub assumptions: Vec<Assumption>,
+    pub assumptions: Vec<Assumption<'a>>,
 }
 
-// What is still to be done, the next one last. An end restores the number of variables.
+// What is still to be done, the next one last. An end restores the number of variables, that of a `sigma` without a step.
 #[derive(Clone, Copy)]
 enum Task<'a> {
     Goals(&'a [Goal]),
     End(Step, u64),
-}
-
-// Terms under so many variables, the next one last.
-#[derive(Clone, Copy)]
-enum Places<'a> {
-    Term(TermId, u64),
-    Terms(&'a [TermId], u64),
+    Level(u64),
 }
 
 // The goals of a record in the making.
 #[derive(Drop)]
 struct Walk<'a> {
-    within: Option<usize>,
     level: u64,
     steps: Vec<Step>,
     tasks: Vec<Task<'a>>,
 }
 
 impl<'a> Origin<'a> {
-    pub(crate) fn head(self) -> Option<TermId> {
-        match self {
-            Origin::Clause(clause) => Some(clause.head),
-            Origin::Query(_, _) => None,
-        }
-    }
-
-    fn variables(self) -> usize {
+    fn variables(self) -> usize
+        ensures { result ≡ own_count self.entry }
+    {
         match self {
             Origin::Clause(clause) => clause.vars.len(),
             Origin::Query(query, _) => query.vars.len(),
@@ -114,7 +112,9 @@ impl<'a> Origin<'a> {
         }
     }
 
-    fn body(self) -> &'a [Goal] {
+    fn body(self) -> &'a [Goal]
+        ensures { result.now ≡ body_of self.entry }
+    {
         match self {
             Origin::Clause(clause) => clause.body.as_slice(),
             Origin::Query(_, goals) => goals,
@@ -123,83 +123,155 @@ impl<'a> Origin<'a> {
 }
 
 impl<'a> Walk<'a> {
+    // A step without a block.
+    fn put(&mut self, step: Step) -> Result<(), Memory>
+        ensures steps { OnOk result (self.new.steps.items ≡ self.old.steps.items ++ step ∷ []) }
+        ensures tasks { OnOk result (self.new.tasks ≡ self.old.tasks) }
+        ensures level { OnOk result (self.new.level ≡ self.old.level) }
+    {
+        self.steps.push(step)?;
+        Ok(())
+    }
+
     // A block of goals up to this end.
     fn push_block(&mut self, goals: &'a [Goal], end: Step) -> Result<(), Memory>
-        ensures { OnOk result (goal_work self.new.tasks.items ≡ goal_work self.old.tasks.items + 1 + goals_weigh (map goal_weighs goals.now)) }
+        ensures work { OnOk result (goal_work self.new.tasks.items ≡ goal_work self.old.tasks.items + 1 + goals_weigh (map goal_weighs goals.now)) }
+        ensures todo { OnOk result (todos self.new.tasks.items ≡ due_goals goals.now ∷ due_end end self.old.level ∷ todos self.old.tasks.items) }
+        ensures steps { OnOk result (self.new.steps ≡ self.old.steps) }
+        ensures level { OnOk result (self.new.level ≡ self.old.level) }
     {
         self.tasks.push(Task::End(end, self.level))?;
         self.tasks.push(Task::Goals(goals))?;
         Ok(())
     }
+
+    // A step that begins a block.
+    fn put_block(&mut self, step: Step, goals: &'a [Goal], end: Step) -> Result<(), Memory>
+        ensures work { OnOk result (goal_work self.new.tasks.items ≡ goal_work self.old.tasks.items + 1 + goals_weigh (map goal_weighs goals.now)) }
+        ensures todo { OnOk result (todos self.new.tasks.items ≡ due_goals goals.now ∷ due_end end self.old.level ∷ todos self.old.tasks.items) }
+        ensures steps { OnOk result (self.new.steps.items ≡ self.old.steps.items ++ step ∷ []) }
+        ensures level { OnOk result (self.new.level ≡ self.old.level) }
+    {
+        self.put(step)?;
+        self.push_block(goals, end)?;
+        Ok(())
+    }
+
+    // Both sides of a goal.
+    fn put_both(&mut self, left: &'a [Goal], right: &'a [Goal]) -> Result<(), Memory>
+        ensures work { OnOk result (goal_work self.new.tasks.items ≡ goal_work self.old.tasks.items + 2 + goals_weigh (map goal_weighs left.now) + goals_weigh (map goal_weighs right.now)) }
+        ensures todo { OnOk result (todos self.new.tasks.items ≡ due_goals left.now ∷ due_end on.Turn self.old.level ∷ due_goals right.now ∷ due_end on.EndEither self.old.level ∷ todos self.old.tasks.items) }
+        ensures steps { OnOk result (self.new.steps.items ≡ self.old.steps.items ++ on.Either ∷ []) }
+        ensures level { OnOk result (self.new.level ≡ self.old.level) }
+    {
+        self.put(Step::Either)?;
+        self.push_block(right, Step::EndEither)?;
+        self.push_block(left, Step::Turn)?;
+        Ok(())
+    }
+
+    // The goals of a `sigma`, behind which its variable is not known.
+    fn put_some(&mut self, of: TypeId, goals: &'a [Goal]) -> Result<(), GenRefusal>
+        ensures work { OnOk result (goal_work self.new.tasks.items ≡ goal_work self.old.tasks.items + 1 + goals_weigh (map goal_weighs goals.now)) }
+        ensures todo { OnOk result (todos self.new.tasks.items ≡ due_goals goals.now ∷ due_level self.old.level ∷ todos self.old.tasks.items) }
+        ensures steps { OnOk result (self.new.steps.items ≡ self.old.steps.items ++ on.Some of ∷ []) }
+        ensures level { OnOk result (self.new.level ≡ self.old.level + 1) }
+    {
+        self.put(Step::Some(of))?;
+        self.tasks.push(Task::Level(self.level))?;
+        self.tasks.push(Task::Goals(goals))?;
+        let level = with_more(self.level, 1)?;
+        self.level = level;
+        Ok(())
+    }
+
+    // The goals of a `pi`.
+    fn put_all(&mut self, of: TypeId, goals: &'a [Goal]) -> Result<(), GenRefusal>
+        ensures work { OnOk result (goal_work self.new.tasks.items ≡ goal_work self.old.tasks.items + 1 + goals_weigh (map goal_weighs goals.now)) }
+        ensures todo { OnOk result (todos self.new.tasks.items ≡ due_goals goals.now ∷ due_end on.EndAll self.old.level ∷ todos self.old.tasks.items) }
+        ensures steps { OnOk result (self.new.steps.items ≡ self.old.steps.items ++ on.All of ∷ []) }
+        ensures level { OnOk result (self.new.level ≡ self.old.level + 1) }
+    {
+        self.put_block(Step::All(of), goals, Step::EndAll)?;
+        let level = with_more(self.level, 1)?;
+        self.level = level;
+        Ok(())
+    }
+}
+
+/// The number of variables with more of them; each takes a register.
+pub(crate) fn with_more(level: u64, more: u64) -> Result<u64, GenRefusal>
+    ensures sum { IfOk result (λ sum. sum ≡ level + more) }
+    ensures few { IfOk result (λ sum. sum ≤ 65535) }
+{
+    match level.checked_add(more) {
+        Some(sum) if sum <= 65535 => Ok(sum),
+        _ => Err(GenRefusal::Limit(Limit::Registers)),
+    }
 }
 
 impl<'a> Plan<'a> {
     /// The records of a clause or query.
-    pub(crate) fn of(
-        alloc: Global,
-        bank: &Bank,
-        origin: Origin<'a>,
-    ) -> Result<Plan<'a>, GenRefusal> {
+    pub(crate) fn of(alloc: Global, bank: &Bank, origin: Origin<'a>) -> Result<Plan<'a>, GenRefusal>
+        ensures planned { IfOk result (λ plan. ArePlanned origin.entry plan.due.items plan.parts.items plan.assumptions.items) }
+        ensures captured { IfOk result (λ plan. AllCaptured bank.now plan.assumptions.items) }
+        ensures few { IfOk result (λ plan. length plan.parts.items ≤ 65536) }
+    {
         let mut plan = Plan {
             alloc,
+            due: Vec::new(alloc),
             parts: Vec::new(alloc),
             assumptions: Vec::new(alloc),
         };
-        plan.push_part(origin, None, 0)?;
+        plan.due.push(Due {
+            origin,
+            within: None,
+            base: 0,
+        })?;
         let most = origin.most_records();
-        let mut at = 0;
-        'parts: while at < plan.parts.len() {
+        'parts: while plan.parts.len() < plan.due.len() {
+            let at = plan.parts.len();
             if at >= most {
                 return Err(GenRefusal::Limit(Limit::Clauses));
             }
-            plan.walk(bank, at)?;
-            at += 1;
+            let due = plan.due[at];
+            let steps = plan.walk(bank, due)?;
+            plan.parts.push(Part {
+                origin: due.origin,
+                within: due.within,
+                base: due.base,
+                steps,
+            })?;
         }
         Ok(plan)
     }
 
-    fn push_part(
-        &mut self,
-        origin: Origin<'a>,
-        within: Option<usize>,
-        base: u64,
-    ) -> Result<(), Memory> {
-        self.parts.push(Part {
-            origin,
-            within,
-            base,
-            steps: Vec::new(self.alloc),
-        })?;
-        Ok(())
-    }
-
-    // The steps of a part; those that it assumes are parts from here on.
-    fn walk(&mut self, bank: &Bank, at: usize) -> Result<(), Memory> {
-        let Some(part) = self.parts.get(at) else {
-            return Ok(());
-        };
-        let origin = part.origin;
+    // The steps of a part; those that it assumes are due.
+    fn walk(&mut self, bank: &Bank, due: Due<'a>) -> Result<Vec<Step>, GenRefusal>
+        ensures walked { IfOk result (λ steps. PartWalked due.entry self.old.due.items self.new.due.items self.old.assumptions.items self.new.assumptions.items steps.items) }
+        ensures captured { IfOk result (λ steps. AllCaptured bank.now self.old.assumptions.items → AllCaptured bank.now self.new.assumptions.items) }
+        ensures parts { IfOk result (λ steps. self.new.parts ≡ self.old.parts) }
+    {
+        let variables = due.origin.variables() as u64;
+        let level = with_more(due.base, variables)?;
         let mut walk = Walk {
-            within: part.within,
-            level: part.base.saturating_add(origin.variables() as u64),
+            level,
             steps: Vec::new(self.alloc),
             tasks: Vec::new(self.alloc),
         };
-        if let Some(head) = origin.head() {
-            self.mark_all(bank, walk.within, walk.level, head)?;
-        }
-        walk.tasks.push(Task::Goals(origin.body()))?;
+        let goals = due.origin.body();
+        walk.tasks.push(Task::Goals(goals))?;
         'tasks: while let Some(task) = walk.tasks.pop() {
             self.step(bank, &mut walk, task)?;
         }
-        if let Some(part) = self.parts.get_mut(at) {
-            part.steps = walk.steps;
-        }
-        Ok(())
+        Ok(walk.steps)
     }
 
-    fn step(&mut self, bank: &Bank, walk: &mut Walk<'a>, task: Task<'a>) -> Result<(), Memory>
-        ensures { OnOk result (goal_work walk.new.tasks.items + 1 ≤ goal_work walk.old.tasks.items + goal_task task.entry) }
+    fn step(&mut self, bank: &Bank, walk: &mut Walk<'a>, task: Task<'a>) -> Result<(), GenRefusal>
+        ensures work { OnOk result (goal_work walk.new.tasks.items + 1 ≤ goal_work walk.old.tasks.items + goal_task task.entry) }
+        ensures kept { OnOk result (WalkKept self.old.due.items self.new.due.items self.old.assumptions.items self.new.assumptions.items walk.old.level walk.new.level walk.old.steps.items walk.new.steps.items (todo_of task.entry ∷ todos walk.old.tasks.items) (todos walk.new.tasks.items)) }
+        ensures captured { OnOk result (AllCaptured bank.now self.old.assumptions.items → AllCaptured bank.now self.new.assumptions.items) }
+        ensures parts { OnOk result (self.new.parts ≡ self.old.parts) }
     {
         match task {
             Task::Goals(goals) => {
@@ -207,149 +279,96 @@ impl<'a> Plan<'a> {
                     return Ok(());
                 };
                 walk.tasks.push(Task::Goals(rest))?;
-                self.goal(bank, walk, first)
+                self.goal(bank, walk, first)?;
+                Ok(())
             }
             Task::End(end, level) => {
                 walk.steps.push(end)?;
                 walk.level = level;
                 Ok(())
             }
+            Task::Level(level) => {
+                walk.level = level;
+                Ok(())
+            }
         }
     }
 
-    fn goal(&mut self, bank: &Bank, walk: &mut Walk<'a>, goal: &'a Goal) -> Result<(), Memory>
-        ensures { OnOk result (goal_work walk.new.tasks.items ≤ goal_work walk.old.tasks.items + goal_weighs goal.now) }
+    fn goal(&mut self, bank: &Bank, walk: &mut Walk<'a>, goal: &'a Goal) -> Result<(), GenRefusal>
+        ensures work { OnOk result (goal_work walk.new.tasks.items ≤ goal_work walk.old.tasks.items + goal_weighs goal.now) }
+        ensures kept { OnOk result (WalkKept self.old.due.items self.new.due.items self.old.assumptions.items self.new.assumptions.items walk.old.level walk.new.level walk.old.steps.items walk.new.steps.items (due_goals (goal.now ∷ []) ∷ todos walk.old.tasks.items) (todos walk.new.tasks.items)) }
+        ensures captured { OnOk result (AllCaptured bank.now self.old.assumptions.items → AllCaptured bank.now self.new.assumptions.items) }
+        ensures parts { OnOk result (self.new.parts ≡ self.old.parts) }
     {
         match goal {
             Goal::Atom(term) => {
-                walk.steps.push(Step::Atom(*term))?;
-                self.mark_all(bank, walk.within, walk.level, *term)?;
+                walk.put(Step::Atom(*term))?;
+                Ok(())
             }
-            Goal::Cut => walk.steps.push(Step::Cut)?,
+            Goal::Cut => {
+                walk.put(Step::Cut)?;
+                Ok(())
+            }
             Goal::Either(left, right) => {
-                walk.steps.push(Step::Either)?;
-                walk.push_block(right.as_slice(), Step::EndEither)?;
-                walk.push_block(left.as_slice(), Step::Turn)?;
+                walk.put_both(left.as_slice(), right.as_slice())?;
+                Ok(())
             }
             Goal::Some(of, goals) => {
-                walk.steps.push(Step::Some(*of))?;
-                walk.level = walk.level.saturating_add(1);
-                walk.tasks.push(Task::Goals(goals.as_slice()))?;
+                walk.put_some(*of, goals.as_slice())?;
+                Ok(())
             }
             Goal::All(of, goals) => {
-                walk.steps.push(Step::All(*of))?;
-                walk.push_block(goals.as_slice(), Step::EndAll)?;
-                walk.level = walk.level.saturating_add(1);
+                walk.put_all(*of, goals.as_slice())?;
+                Ok(())
             }
             Goal::Assume(clauses, goals) => {
-                let number = self.assume(clauses.as_slice(), walk.within, walk.level)?;
-                walk.steps.push(Step::Assume(number))?;
-                walk.push_block(goals.as_slice(), Step::EndAssume)?;
+                let number = self.assume(bank, clauses.as_slice(), walk.level)?;
+                walk.put_block(Step::Assume(number), goals.as_slice(), Step::EndAssume)?;
+                Ok(())
             }
             Goal::Not(goals) => {
-                walk.steps.push(Step::Not)?;
-                walk.push_block(goals.as_slice(), Step::EndNot)?;
+                walk.put_block(Step::Not, goals.as_slice(), Step::EndNot)?;
+                Ok(())
             }
         }
-        Ok(())
     }
 
-    // An assumption of these clauses.
-    fn assume(
-        &mut self,
-        clauses: &'a [Clause],
-        within: Option<usize>,
-        base: u64,
-    ) -> Result<usize, Memory> {
+    // An assumption of these clauses. Their records start with the variables around it that stand in them.
+    fn assume(&mut self, bank: &Bank, clauses: &'a [Clause], base: u64) -> Result<usize, GenRefusal>
+        ensures assumed { IfOk result (λ number. IsAssumed self.old.due.items self.new.due.items self.old.assumptions.items self.new.assumptions.items clauses.now base number) }
+        ensures captured { IfOk result (λ number. AllCaptured bank.now self.old.assumptions.items → AllCaptured bank.now self.new.assumptions.items) }
+        ensures parts { IfOk result (λ number. self.new.parts ≡ self.old.parts) }
+    {
         let number = self.assumptions.len();
+        let captured = captured_of(self.alloc, bank, clauses, base)?;
         self.assumptions.push(Assumption {
-            within,
+            clauses,
             base,
-            captured: IndexSet::new(self.alloc),
-            first: self.parts.len(),
+            captured,
+            first: self.due.len(),
             count: clauses.len(),
         })?;
-        for clause in clauses {
-            self.push_part(Origin::Clause(clause), Some(number), base)?;
-        }
+        push_due(&mut self.due, clauses, number, base)?;
         Ok(number)
     }
+}
 
-    // The variable of a level stands in the clauses of an assumption, and so in those around it, as far as it is not theirs.
-    fn mark(&mut self, within: Option<usize>, level: u64) -> Result<(), Memory> {
-        let mut next = within;
-        for _ in 0..self.assumptions.len() {
-            let Some(at) = next else {
-                return Ok(());
-            };
-            next = self.mark_at(at, level)?;
-        }
-        Ok(())
+// The parts of clauses that an assumption of this number is of.
+fn push_due<'a>(
+    due: &mut Vec<Due<'a>>,
+    clauses: &'a [Clause],
+    number: usize,
+    base: u64,
+) -> Result<(), Memory>
+    ensures { OnOk result ((more : List Due) × (due.new.items ≡ due.old.items ++ more) × AreDue number base clauses.now more) }
+{
+    for at in 0..clauses.len() {
+        let clause = &clauses[at];
+        due.push(Due {
+            origin: Origin::Clause(clause),
+            within: Some(number),
+            base,
+        })?;
     }
-
-    // The same for one assumption; says the one around it where it is new there.
-    fn mark_at(&mut self, at: usize, level: u64) -> Result<Option<usize>, Memory> {
-        let Some(assumption) = self.assumptions.get_mut(at) else {
-            return Ok(None);
-        };
-        if level >= assumption.base || assumption.captured.contains(&level) {
-            return Ok(None);
-        }
-        let _new = assumption.captured.insert(level)?;
-        Ok(assumption.within)
-    }
-
-    // The variables of a term, which stands under so many variables.
-    fn mark_all(
-        &mut self,
-        bank: &Bank,
-        within: Option<usize>,
-        level: u64,
-        term: TermId,
-    ) -> Result<(), Memory> {
-        if within.is_none() {
-            return Ok(());
-        }
-        let mut work = Vec::new(self.alloc);
-        work.push(Places::Term(term, level))?;
-        'terms: while let Some(next) = work.pop() {
-            match next {
-                Places::Term(id, under) => self.mark_term(bank, within, id, under, &mut work)?,
-                Places::Terms(ids, under) => {
-                    if let Some((first, rest)) = ids.split_first() {
-                        work.push(Places::Terms(rest, under))?;
-                        work.push(Places::Term(*first, under))?;
-                    }
-                }
-            }
-        }
-        Ok(())
-    }
-
-    // Looks at a term, whose parts come next.
-    fn mark_term<'b>(
-        &mut self,
-        bank: &'b Bank,
-        within: Option<usize>,
-        term: TermId,
-        under: u64,
-        work: &mut Vec<Places<'b>>,
-    ) -> Result<(), Memory>
-        ensures { OnOk result (place_work bank.now work.new.items + 1 ≤ place_work bank.now work.old.items + 4 * size (tree bank.now term.0)) }
-    {
-        match bank.term_node(term) {
-            TermNode::Index(index) => {
-                if index < under {
-                    self.mark(within, under - index - 1)?;
-                }
-            }
-            TermNode::Abs(body) => work.push(Places::Term(body, under.saturating_add(1)))?,
-            TermNode::App(head, args) => {
-                work.push(Places::Terms(args, under))?;
-                work.push(Places::Term(head, under))?;
-            }
-            _ => {}
-        }
-        Ok(())
-    }
+    Ok(())
 }

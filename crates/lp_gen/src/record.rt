@@ -1,11 +1,18 @@
 // A record.
-ghost use Rattle.std.specs.Prelude.{◌≡◌, ◌+◌, ◌<◌, ◌≤◌, ◌^◌, min, All, sum_by, IfOk};
+ghost use Rattle.std.specs.Prelude.{◌≡◌, List, Some, None, map, [], ◌+◌, ◌<◌, ◌≤◌, ◌^◌, nat_eq, min, All, sum_by, if◌then◌else◌, IfOk, OnOk};
 ghost use Rattle.lp_term.specs.Nodes.{Nodes};
 ghost use Rattle.lp_code.specs.Length.{Fits, length_of};
 ghost use Rattle.lp_code.specs.Denote.{from_zero};
-ghost use Rattle.lp_gen.specs.inner.Listing.{around_of};
+ghost use Rattle.lp_model.specs.declared.clause.Goal.{Goal};
+ghost use Rattle.lp_gen.specs.declared.plan.Origin.TheVariants as origin;
+ghost use Rattle.lp_gen.specs.inner.Listing.{around_of, constant_function};
+ghost use Rattle.lp_gen.specs.inner.Recorded.{FrontWritten, TypesWritten, HasKey, RecordWritten};
 ghost use Rattle.lp_gen.specs.inner.GoalCode.{numbers, AreRegisters};
-ghost use Rattle.lp_gen.specs.inner.BodyCode.{levels_found, AssumptionMade};
+ghost use Rattle.lp_gen.specs.inner.BodyCode.{levels_found, AreStarts, started_at, StartsGrow, AssumptionMade};
+ghost use Rattle.lp_gen.specs.declared.plan.Step.TheVariants as on;
+ghost use Rattle.std.specs.List.{IsDistinct};
+ghost use Rattle.std.specs.Borrow.{Bor};
+ghost use Rattle.indexmap.specs.IndexMap.{index_map_len};
 
 use crate::body::write_body;
 use crate::emitter::Emitter;
@@ -14,13 +21,12 @@ use crate::environment::{Environment, Variable};
 use crate::fault::GenRefusal;
 use crate::head::{get_head, key_of};
 use crate::plan::{Assumption, Origin, Part, Step};
-use crate::terms::Writer;
 use crate::variables::make_variables;
 use indexmap::IndexMap;
 use lp_base::{Limit, Memory};
 use lp_code::{Instr, Key, Record, RecordHead};
-use lp_model::Declared;
-use lp_term::Bank;
+use lp_model::{Clause, Declared, Typed};
+use lp_term::{Bank, TypeId};
 use std::alloc::Global;
 
 /// What the records of a clause or query have in common: the bank, the declared constants, how many type variables there are, the assumptions, and the
@@ -30,7 +36,7 @@ pub(crate) struct Tables<'a> {
     pub bank: &'a Bank,
     pub constants: &'a [Declared],
     pub type_vars: u16,
-    pub assumptions: &'a [Assumption],
+    pub assumptions: &'a [Assumption<'a>],
     pub first: u32,
 }
 
@@ -44,7 +50,9 @@ pub(crate) fn number_of(place: usize) -> u32
     place.min(u32::MAX as usize) as u32
 }
 
-fn count_of_registers(count: u64) -> Result<u16, GenRefusal> {
+fn count_of_registers(count: u64) -> Result<u16, GenRefusal>
+    ensures { IfOk result (λ registers. registers ≡ count) }
+{
     match u16::try_from(count) {
         Ok(registers) => Ok(registers),
         Err(_) => Err(GenRefusal::Limit(Limit::Registers)),
@@ -52,7 +60,7 @@ fn count_of_registers(count: u64) -> Result<u16, GenRefusal> {
 }
 
 // The numbers of the records of an assumption.
-fn records_of(alloc: Global, first: u32, assumption: &Assumption) -> Result<Vec<u32>, Memory>
+fn records_of(alloc: Global, first: u32, assumption: &Assumption<'_>) -> Result<Vec<u32>, Memory>
     ensures { IfOk result (λ records. first + assumption.now.first + assumption.now.count < 2 ^ 32 → records.items ≡ numbers (first + assumption.now.first) assumption.now.count) }
 {
     let mut records = Vec::new(alloc);
@@ -81,7 +89,8 @@ fn captured_by(
     levels: &[u64],
     starts: &mut Starts,
 ) -> Result<Vec<u16>, GenRefusal>
-    ensures { IfOk result (λ registers. (b : Nodes) → AreRegisters (around_of b environment.now) (levels_found (around_of b environment.now) levels.now) registers.items) }
+    ensures registers { IfOk result (λ registers. (b : Nodes) → AreRegisters (around_of b environment.now) (levels_found (around_of b environment.now) levels.now) registers.items) }
+    ensures starts { OnOk result ((b : Nodes) → starts.old.entries ≡ [] → IsDistinct nat_eq levels.now → AreStarts (around_of b environment.now) (levels_found (around_of b environment.now) levels.now) (started_at b starts.new) (index_map_len starts.new)) }
 {
     let mut registers = Vec::new(alloc);
     for level in levels.iter().copied() {
@@ -94,7 +103,7 @@ fn captured_by(
             is_set: true,
         };
         registers.push(variable.register)?;
-        starts.insert(level, start)?;
+        let _old = starts.insert(level, start)?;
     }
     Ok(registers)
 }
@@ -107,7 +116,8 @@ pub(crate) fn assumption(
     all_starts: &mut Vec<Starts>,
     number: usize,
 ) -> Result<Instr, GenRefusal>
-    ensures { IfOk result (λ instr. AssumptionMade tables.entry environment.now number instr) }
+    ensures made { IfOk result (λ instr. AssumptionMade tables.entry environment.now number all_starts.old.items all_starts.new.items instr) }
+    ensures grown { OnOk result (StartsGrow tables.entry all_starts.old.items all_starts.new.items (on.Assume number)) }
 {
     if number >= tables.assumptions.len() {
         return Ok(Instr::Cut);
@@ -122,58 +132,101 @@ pub(crate) fn assumption(
     Ok(Instr::Assume(records, types, registers))
 }
 
-impl<'a> Writer<'a> {
-    fn write_body(&mut self, steps: &[Step]) -> Result<(), GenRefusal> {
-        write_body(
-            self.alloc,
-            self.tables,
-            &mut self.emitter,
-            &mut self.environment,
-            &mut self.starts,
-            steps,
-        )
+// The types of the variables of a query.
+fn types_of_query(alloc: Global, query: &Typed) -> Result<Vec<TypeId>, Memory>
+    ensures { IfOk result (λ types. types.items ≡ map (λ v. v.1) query.now.vars.items) }
+{
+    let mut types = Vec::new(alloc);
+    for (_, of) in query.vars.iter().copied() {
+        types.push(of)?;
     }
+    Ok(types)
+}
 
-    fn make_variables(&mut self, is_clause: bool) -> Result<(), GenRefusal> {
-        make_variables(
-            self.alloc,
-            self.tables.bank,
-            &mut self.emitter,
-            &mut self.environment,
-            is_clause,
-        )
-    }
+// The variables of a clause, its head, and what is made before NECK; says the predicate.
+fn write_head(
+    alloc: Global,
+    tables: Tables<'_>,
+    emitter: &mut Emitter,
+    environment: &mut Environment<'_>,
+    clause: &Clause,
+) -> Result<RecordHead, GenRefusal>
+    ensures { IfOk result (λ head. FrontWritten tables.entry.bank.now (constant_function tables.entry.bank.now tables.entry.constants.now) emitter.old emitter.new environment.old environment.new (origin.Clause clause.entry) (Some head)) }
+{
+    enter_clause(emitter, environment, clause.vars.as_slice())?;
+    let head = get_head(alloc, tables, emitter, environment, clause.head)?;
+    make_variables(alloc, tables.bank, emitter, environment, true)?;
+    Ok(head)
+}
 
-    // The head, and what is made before NECK.
-    fn write_head(&mut self, origin: Origin<'_>) -> Result<Option<RecordHead>, GenRefusal> {
-        match origin {
-            Origin::Clause(clause) => {
-                enter_clause(
-                    &mut self.emitter,
-                    &mut self.environment,
-                    clause.vars.as_slice(),
-                )?;
-                let head = get_head(
-                    self.alloc,
-                    self.tables,
-                    &mut self.emitter,
-                    &mut self.environment,
-                    clause.head,
-                )?;
-                self.make_variables(true)?;
-                Ok(Some(head))
-            }
-            Origin::Query(query, _) => {
-                let mut vars = Vec::new(self.alloc);
-                for (_, of) in query.vars.iter().copied() {
-                    vars.push(of)?;
-                }
-                enter_query(&mut self.emitter, &mut self.environment, vars.as_slice())?;
-                self.make_variables(false)?;
-                Ok(None)
-            }
+// The variables of a query.
+fn write_variables(
+    alloc: Global,
+    tables: Tables<'_>,
+    emitter: &mut Emitter,
+    environment: &mut Environment<'_>,
+    query: &Typed,
+) -> Result<(), GenRefusal>
+    ensures { OnOk result ((goals : Bor (List Goal)) → FrontWritten tables.entry.bank.now (constant_function tables.entry.bank.now tables.entry.constants.now) emitter.old emitter.new environment.old environment.new (origin.Query query.entry goals) None) }
+{
+    let vars = types_of_query(alloc, query)?;
+    enter_query(emitter, environment, vars.as_slice())?;
+    make_variables(alloc, tables.bank, emitter, environment, false)?;
+    Ok(())
+}
+
+// The code up to NECK; says the predicate, if there is one.
+fn write_front(
+    alloc: Global,
+    tables: Tables<'_>,
+    emitter: &mut Emitter,
+    environment: &mut Environment<'_>,
+    origin: Origin<'_>,
+) -> Result<Option<RecordHead>, GenRefusal>
+    ensures { IfOk result (λ head. FrontWritten tables.entry.bank.now (constant_function tables.entry.bank.now tables.entry.constants.now) emitter.old emitter.new environment.old environment.new origin.entry head) }
+{
+    match origin {
+        Origin::Clause(clause) => {
+            let head = write_head(alloc, tables, emitter, environment, clause)?;
+            Ok(Some(head))
+        }
+        Origin::Query(query, _) => {
+            write_variables(alloc, tables, emitter, environment, query)?;
+            Ok(None)
         }
     }
+}
+
+// The type variables that a clause of a program makes.
+fn write_types(emitter: &mut Emitter, program: bool, count: u16) -> Result<(), GenRefusal>
+    ensures { OnOk result (TypesWritten program emitter.old emitter.new count) }
+{
+    if !program {
+        return Ok(());
+    }
+    make_types(emitter, count)?;
+    Ok(())
+}
+
+// The key of a record.
+fn key_by(alloc: Global, bank: &Bank, origin: Origin<'_>, program: bool) -> Result<Key, GenRefusal>
+    ensures { IfOk result (HasKey bank.now origin.entry program) }
+{
+    let Origin::Clause(clause) = origin else {
+        return Ok(Key::None);
+    };
+    if !program {
+        return Ok(Key::None);
+    }
+    let key = key_of(alloc, bank, clause.head)?;
+    Ok(key)
+}
+
+// How many type variables a record starts with.
+fn first_types(program: bool, type_vars: u16) -> u16
+    ensures { result ≡ (if program then 0 else type_vars) }
+{
+    if program { 0 } else { type_vars }
 }
 
 /// The record of a part that starts with these variables; those that it assumes start with the ones that are added to `starts`.
@@ -186,35 +239,26 @@ pub(crate) fn record_of<'x>(
 ) -> Result<Record, GenRefusal>
     ensures fit { IfOk result (λ r. All Fits r.code.items) }
     ensures few { IfOk result (λ r. sum_by length_of r.code.items ≤ 4294967295) }
+    ensures written { IfOk result (RecordWritten tables.entry (constant_function tables.entry.bank.now tables.entry.constants.now) part.now captured.now starts.old.items starts.new.items) }
 {
     let program = part.within.is_none();
-    let captured_types = if program { 0 } else { tables.type_vars };
+    let captured_types = first_types(program, tables.type_vars);
     let registers = count_of_registers(captured.len() as u64)?;
-    let mut writer = Writer {
-        alloc,
-        tables,
-        emitter: Emitter::new(alloc, captured_types, registers),
-        environment: Environment::new(alloc, captured, part.base),
-        starts: Vec::new(alloc),
-    };
-    if program {
-        make_types(&mut writer.emitter, tables.type_vars)?;
-    }
-    let head = writer.write_head(part.origin)?;
-    writer.write_body(part.steps.as_slice())?;
-    let key = match part.origin {
-        Origin::Clause(clause) if program => key_of(alloc, tables.bank, clause.head)?,
-        _ => Key::None,
-    };
-    starts.append(&mut writer.starts)?;
+    let mut emitter = Emitter::new(alloc, captured_types, registers);
+    let mut environment = Environment::new(alloc, captured, part.base);
+    write_types(&mut emitter, program, tables.type_vars)?;
+    let head = write_front(alloc, tables, &mut emitter, &mut environment, part.origin)?;
+    let steps = part.steps.as_slice();
+    write_body(alloc, tables, &mut emitter, &mut environment, starts, steps)?;
+    let key = key_by(alloc, tables.bank, part.origin, program)?;
     Ok(Record {
         program,
         head,
         captured_types,
         captured: registers,
-        types: writer.emitter.types,
-        registers: writer.emitter.registers,
+        types: emitter.types,
+        registers: emitter.registers,
         key,
-        code: writer.emitter.code,
+        code: emitter.code,
     })
 }

@@ -9,21 +9,11 @@ use crate::emitter::Emitter;
 use crate::environment::Environment;
 use crate::fault::GenRefusal;
 use crate::listing::{list_steps, type_of_head};
-use crate::record::{Starts, Tables};
+use crate::record::Tables;
 use crate::term_steps::put_steps;
 use crate::types::TypeView;
 use lp_term::TermId;
 use std::alloc::Global;
-
-/// A record in the making: its code, its variables, and what the records start with that are assumed so far.
-#[derive(Drop)]
-pub(crate) struct Writer<'a> {
-    pub alloc: Global,
-    pub tables: Tables<'a>,
-    pub emitter: Emitter,
-    pub environment: Environment<'a>,
-    pub starts: Vec<Starts>,
-}
 
 /// The term of this type in a register.
 pub(crate) fn put_term(

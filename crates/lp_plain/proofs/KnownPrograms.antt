@@ -1,5 +1,5 @@
 -- What is written in typed goals and clauses of a program stands in them: so no logic variable stands anywhere in them, and the loose indices are those of the variables around.
-use Rattle.std.proofs.Common.{◌≡◌, ◌<◌, ℕ, zero, suc, ◌+◌, List, [], ◌∷◌, length, inl, inr, sym, subst, arith}
+use Rattle.std.proofs.Common.{◌≡◌, ℕ, suc, ◌+◌, List, [], ◌∷◌, length, inl, inr, sym, subst, arith}
 use Rattle.lp_calculus.specs.Fill.{Within}
 use Rattle.lp_calculus.specs.Term.{Term, Atom, index, atom, abs, app, shift}
 use Rattle.lp_calculus.specs.Types.{Ty}

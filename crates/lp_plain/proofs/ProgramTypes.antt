@@ -1,18 +1,17 @@
 -- The types that a typed clause binds and that are written in it have its own type variables alone.
-use Rattle.std.proofs.Common.{◌≡◌, Bool, true, false, ℕ, zero, suc, List, [], ◌∷◌, ◌++◌, map, length, sym, subst}
-use Rattle.lp_calculus.specs.Closed.{AllAtoms}
+use Rattle.std.proofs.Common.{Bool, true, false, ℕ, suc, List, [], ◌∷◌, ◌++◌, map, sym, subst}
 use Rattle.lp_calculus.specs.Instance.{instance_term}
 use Rattle.lp_calculus.specs.Types.{Ty, Tys, var, param as type_param, con, arrow, no_types, types, instance, instances}
-use Rattle.lp_calculus.specs.Term.{Term, Atom, index, atom, abs, app, constant, integer, text, eigen, logic, param}
+use Rattle.lp_calculus.specs.Term.{Term, index, atom, abs, app, constant, integer, text, eigen, logic, param}
 use Rattle.lp_lemmas.specs.Each.{EachOf}
 use Rattle.lp_lemmas.proofs.Each.{each_append}
-use Rattle.lp_model.specs.Flat.{Goal, Atomic, Cut, Either, Exists, Forall, Assume, Not, Goals, no_goals, goals, Clause, clause, Clauses, no_clauses, clauses, collect_clauses, collect_goal, collect_goals, map_clauses, map_goal, map_goals, of_each, type_variables, type_variables_in, types_variables, under_all}
+use Rattle.lp_model.specs.Flat.{Goal, Atomic, Cut, Either, Exists, Forall, Assume, Not, Goals, no_goals, goals, clause, Clauses, no_clauses, clauses, collect_clauses, collect_goal, collect_goals, map_clauses, map_goal, map_goals, of_each, type_variables, type_variables_in, types_variables, under_all}
 use Rattle.lp_model.specs.Index.{instantiate, lifted}
-use Rattle.lp_proof_laws.specs.Filled.{filled_clauses, filled_goals, filled_term}
+use Rattle.lp_proof_laws.specs.Filled.{filled_term}
 use Rattle.lp_unify_laws.specs.TypesBelow.{IsTypeBelow as TypeBelow, AreTysBelow as TysBelow, AreTypesBelow as TypesBelow}
-use Rattle.lp_search_laws.specs.Branches.{AreClauses, AreGoals, IsClause, IsGoal, IsPlainAtom, IsPlainTerm}
-use Rattle.lp_search_laws.specs.Written.{AreWrittenClauses, AreWrittenGoals, IsWrittenClause, IsWrittenGoal}
-use Rattle.lp_plain.specs.Resuming.{AllTys, TysOfClause, TysOfClauses, TysOfGoal, TysOfGoals}
+use Rattle.lp_search_laws.specs.Branches.{AreClauses, AreGoals, IsGoal, IsPlainTerm}
+use Rattle.lp_search_laws.specs.Written.{AreWrittenClauses, AreWrittenGoals, IsWrittenGoal}
+use Rattle.lp_plain.specs.Resuming.{AllTys, TysOfClauses, TysOfGoal, TysOfGoals}
 use Rattle.lp_plain.specs.Written.{AreTypesBelow, AreTysBelow, IsTypeBelow}
 
 mutual

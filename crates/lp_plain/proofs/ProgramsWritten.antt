@@ -1,10 +1,10 @@
 -- Clauses of a program that are typed over their type variables, and name no parameter, are written as in a program: constants have as many types as they take.
-use Rattle.std.proofs.Common.{◌≡◌, Bool, true, false, ℕ, zero, suc, ◌+◌, ◌-◌, ◌≤◌, List, [], ◌∷◌, ◌++◌, map, length, refl, sym, ap, subst, arith, Option, None, Some, nat_eq}
+use Rattle.std.proofs.Common.{◌≡◌, Bool, true, false, ℕ, zero, suc, ◌+◌, List, [], ◌∷◌, ◌++◌, map, length, refl, sym, ap, subst, arith, Option, None, Some, nat_eq}
 use Rattle.std.specs.Prelude.{if◌then◌else◌, slice_get, slice_index_or}
 use Rattle.lp_calculus.specs.Closed.{AllAtoms}
 use Rattle.lp_calculus.specs.Fill.{Within}
 use Rattle.lp_calculus.specs.Spine.{head_of}
-use Rattle.lp_calculus.specs.Types.{Ty, Tys, var, param as type_param, con, arrow, no_types, types}
+use Rattle.lp_calculus.specs.Types.{Ty}
 use Rattle.lp_calculus.specs.Term.{Term, Atom, index, atom, abs, app, constant, integer, text, eigen, logic, param}
 use Rattle.lp_calculus.specs.Typing.{Scheme, atom_type, o_type, scheme_type}
 use Rattle.lp_model.specs.Answers.{over}
@@ -13,16 +13,15 @@ use Rattle.lp_standard.specs.Numbers as number
 use Rattle.lp_model.specs.Flat.{Goal, Atomic, Cut, Either, Exists, Forall, Assume, Not, Goals, no_goals, goals, Clause, clause, Clauses, no_clauses, clauses, all_of, formula_of_clause, formula_of_clauses, formula_of_goal, formula_of_goals}
 use Rattle.lp_model.specs.Proofs.{Declared}
 use Rattle.lp_proof_laws.specs.Terms.{AreClausesOf, AreTermsOf, IsClauseOf, IsTermOf}
-use Rattle.lp_unify_laws.specs.TypesBelow.{IsTypeBelow as TypeBelow, AreTysBelow as TysBelow, AreTypesBelow as TypesBelow}
 use Rattle.lp_unify_laws.proofs.Sames.{same_number}
 use Rattle.lp_unify_laws.proofs.TypedBindings.{HasAtomType, typed_atoms}
 use Rattle.lp_search_laws.specs.Branches.{AreClauses, AreGoals, IsClause, IsClauseHead, IsGoal, IsPlainAtom, IsPlainTerm, IsProgramTyped}
 use Rattle.lp_search_laws.specs.Clauses.{own_types}
 use Rattle.lp_plain.specs.ProgramClauses.{arity_in, count_of, IsNamedAtom}
-use Rattle.lp_plain.specs.Written.{AreTypesBelow, AreTysBelow, IsTypeBelow, IsWritten, WrittenAtom}
+use Rattle.lp_plain.specs.Written.{IsWritten, WrittenAtom}
 use Rattle.lp_plain.specs.WrittenGoals.{HasNoTypes, ClausesWritten, ClauseWritten, GoalWritten, GoalsWritten, IsProgramClause}
 use Rattle.lp_plain.specs.WrittenTable.{IsWrittenHead, own_and}
-use Rattle.lp_plain.proofs.ProgramTypes.{tys_of_goals, type_below, list_below}
+use Rattle.lp_plain.proofs.ProgramTypes.{tys_of_goals, list_below}
 use Rattle.lp_plain.proofs.TableWritten.{own_many}
 use Rattle.lp_plain.proofs.TryWritten.{own_back}
 

@@ -1,5 +1,5 @@
 -- A typed branch: the constant at the head of the goal in front has as many types as it takes, and so have the heads of the clauses that are assumed there, which name their clauses.
-use Rattle.std.proofs.Common.{◌≡◌, Bool, true, false, ℕ, zero, suc, List, [], ◌∷◌, ◌++◌, map, length, Option, Some, None, refl, sym, ap, subst, ◌∙◌, nat_eq}
+use Rattle.std.proofs.Common.{◌≡◌, Bool, true, false, ℕ, zero, suc, List, [], ◌∷◌, ◌++◌, map, length, Option, Some, None, refl, sym, subst, ◌∙◌, nat_eq}
 use Rattle.std.specs.Prelude.{if◌then◌else◌, slice_index_or}
 use Rattle.lp_calculus.specs.Closed.{AllAtoms}
 use Rattle.lp_calculus.specs.Spine.{head_of}
@@ -11,14 +11,14 @@ use Rattle.lp_model.specs.Answers.{Variable, over}
 use Rattle.lp_model.specs.Branch.{Branch, Entry, Go, Task}
 use Rattle.lp_standard.specs.Connectives.{pi_of, two}
 use Rattle.lp_standard.specs.Numbers as number
-use Rattle.lp_model.specs.Flat.{Atomic, Clause, Goals, all_of, clause, formula_of_clause, formula_of_goal, formula_of_goals, goals, no_goals}
+use Rattle.lp_model.specs.Flat.{Atomic, Clause, all_of, clause, formula_of_clause, formula_of_goal, formula_of_goals, goals, no_goals}
 use Rattle.lp_model.specs.Look.{head_normal}
 use Rattle.lp_model.specs.Proofs.{Declared}
 use Rattle.lp_model.specs.Skeleton.{State}
 use Rattle.lp_unify_laws.proofs.Looks.{head_reduces}
 use Rattle.lp_unify_laws.proofs.Sames.{same_number}
 use Rattle.lp_unify_laws.proofs.TypedBindings.{HasAtomType}
-use Rattle.lp_search_laws.specs.Branches.{ArePlainEntries, AreTypedEntries, IsAssumable, IsClauseHead, IsPlainEntry, IsTypedBranch, IsTypedEntry}
+use Rattle.lp_search_laws.specs.Branches.{ArePlainEntries, AreTypedEntries, IsAssumable, IsClauseHead, IsPlainEntry, IsTypedEntry}
 use Rattle.lp_search_laws.specs.Holds.{IsTyped}
 use Rattle.lp_search_laws.proofs.AtomsKept.{atoms_reduces}
 use Rattle.lp_plain.specs.ProgramClauses.{arity_in, count_of}

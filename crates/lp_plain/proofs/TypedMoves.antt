@@ -1,19 +1,19 @@
 -- Each move of the definition leads from a typed state to a typed one.
-use Rattle.std.proofs.Common.{◌≡◌, ℕ, zero, suc, List, [], ◌∷◌, ◌++◌, map, length, Bool, true, false, refl, sym, subst}
+use Rattle.std.proofs.Common.{ℕ, zero, suc, List, [], ◌∷◌, map, length, Bool, true, false, sym, subst}
 use Rattle.std.specs.Prelude.{◌-◌, drop}
 use Rattle.lp_lemmas.specs.Each.{EachOf}
 use Rattle.lp_lemmas.proofs.Each.{each_append, each_drop}
 use Rattle.lp_model.specs.Answers.{Query}
 use Rattle.lp_model.specs.Branch.{Answer, Task, Go, Try, Stop, Lack}
-use Rattle.lp_model.specs.Flat.{Clause, Goals}
+use Rattle.lp_model.specs.Flat.{Clause}
 use Rattle.lp_model.specs.Proofs.{Declared, no_leaf}
-use Rattle.lp_model.specs.Search.{look, start}
+use Rattle.lp_model.specs.Search.{look}
 use Rattle.lp_model.specs.Skeleton.{View, Gives, Opens, Parts, Takes, Cuts, Denies, Halts, Lacks, State, Inner, Refuted, Held, Broke, Lasts, Move, Goes, Tells, Stops, Breaks, Waits, move, move_at, move_denied, move_view}
 use Rattle.lp_model.specs.Unify.{unit_limit}
 use Rattle.lp_standard.specs.Schemes.{IsStandard}
 use Rattle.lp_proof_laws.proofs.Uniform.Settings.{without_leaves}
 use Rattle.lp_search_laws.specs.Branches.{IsOk, IsProgramTyped, TypedTask, denied_typing, going, lacking, no_query, stopping, task_of, trying}
-use Rattle.lp_search_laws.specs.Views.{DeniesTyped, IsRightView, StandFor}
+use Rattle.lp_search_laws.specs.Views.{IsRightView, StandFor}
 use Rattle.lp_search_laws.proofs.LooksRight.{each_look}
 use Rattle.lp_plain.specs.TypedStates.{IsTaskTyped, IsTypedState}
 

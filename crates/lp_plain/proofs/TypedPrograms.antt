@@ -1,5 +1,5 @@
 -- Where a search begins: the clauses of a typed program are written as in a program, so are the goals of a typed query, and the first state is typed.
-use Rattle.std.proofs.Common.{◌≡◌, Bool, true, false, ℕ, zero, suc, ◌+◌, List, [], ◌∷◌, ◌++◌, map, length, reverse, Some, refl, sym, ap, ◌∙◌, subst, arith, append_assoc}
+use Rattle.std.proofs.Common.{◌≡◌, Bool, true, false, ℕ, zero, suc, List, [], ◌∷◌, ◌++◌, map, length, reverse, Some, sym, subst, arith, append_assoc}
 use Rattle.std.specs.Prelude.{slice_index_or}
 use Rattle.std.proofs.lemmas.List.{length-reverse}
 use Rattle.lp_calculus.specs.Closed.{AllAtoms}

@@ -16,7 +16,7 @@ use Rattle.lp_model.specs.Types.{put_types}
 use Rattle.lp_model.specs.Unify.{Solution, State as Solved, solve, unit_limit}
 use Rattle.lp_standard.specs.Schemes.{IsStandard}
 use Rattle.lp_unify_laws.specs.TypesBelow.{IsTypeBelow}
-use Rattle.lp_search_laws.specs.Branches.{AreTypedEntries, BranchTyping, IsPlainPair, IsPlainTerm, IsProgramTyped, IsTypedTry}
+use Rattle.lp_search_laws.specs.Branches.{AreTypedEntries, BranchTyping, IsPlainPair, IsProgramTyped, IsTypedTry}
 use Rattle.lp_search_laws.proofs.PlainTry.{eqs_plain, pairs_plain, term_more}
 use Rattle.lp_search_laws.proofs.RunsKeep.{solve_keeps_plain}
 use Rattle.lp_search_laws.proofs.TypesOver.{Not, each_more, free_stays}

@@ -1,6 +1,5 @@
 -- States of the definition's search over a typed program, all of whose tasks are typed, as the laws of the search have it: each look at such a task leaves such tasks.
 use Rattle.std.specs.Prelude.{◌≡◌, ◌≢◌, ℕ, List}
-use Rattle.lp_calculus.specs.Term.{Term}
 use Rattle.lp_lemmas.specs.Each.{EachOf}
 use Rattle.lp_model.specs.Answers.{Query}
 use Rattle.lp_model.specs.Branch.{Task, Go, Try, Stop, Lack}

@@ -296,6 +296,9 @@ impl Machine {
     pub(crate) fn drop_denied(&mut self, number: usize)
         ensures dropped { self.new.choices.items ≡ take number self.old.choices.items }
         ensures steps { self.new.counts.steps ≡ self.old.counts.steps }
+        ensures goals { KeepsGoals self.old self.new }
+        ensures frames { self.new.frames ≡ self.old.frames }
+        ensures assumed { KeepsAssumed self.old self.new }
         ensures around { IfSome (slice_get self.old.choices.items number) (λ c. IsAround c.untried self.new) }
     {
         if let Some(

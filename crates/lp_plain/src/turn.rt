@@ -6,6 +6,7 @@ ghost use Rattle.lp_model.specs.Skeleton.{Inner, State};
 ghost use Rattle.lp_plain.specs.declared.candidates.Candidate.{Candidate as Tried};
 ghost use Rattle.lp_plain.specs.declared.choice.Call.{Call as Called};
 ghost use Rattle.lp_plain.specs.declared.choice.Choice.{Choice};
+ghost use Rattle.lp_plain.specs.declared.choice.Denial.{Denial};
 ghost use Rattle.lp_plain.specs.declared.choice.Untried.{Untried};
 ghost use Rattle.lp_plain.specs.declared.outcome.Turn.{Turn};
 ghost use Rattle.lp_plain.specs.declared.table.Flat.{Flat};
@@ -238,6 +239,7 @@ pub(crate) fn go_back(machine: &mut Machine) -> Result<Turn, Memory>
         IsWrittenSearch machine.old qv.arity → LeadsTo 1 qv turn machine.new s) }
     ensures tries_written { OnOk result ((c : Choice) (rest : List Choice) (call : Called) (one : Tried) → machine.old.choices.items ≡ rest ++ c ∷ [] → c.untried ≡ Untried.Clauses call one → base_of machine.old.denied ≤ length rest → (qv : Query) (s : State Task) → IsBack qv machine.old s →
         IsWrittenSearch machine.old qv.arity → IsWrittenSearch machine.new qv.arity) }
+    ensures denied_written { OnOk result ((c : Choice) (rest : List Choice) (d : Denial) → machine.old.choices.items ≡ rest ++ c ∷ [] → c.untried ≡ Untried.Denied d → (ar : ℕ → ℕ) → IsWrittenSearch machine.old ar → IsWrittenSearch machine.new ar) }
     ensures ends { IfOk result (λ turn. machine.old.choices.items ≡ [] → (a : Around) (s : State Task) → IsBackOf machine.old a s → EndsSo turn machine.old.counts.lost s) }
 {
     let Some(untried) = machine.take_choice()? else {

@@ -12,7 +12,7 @@ use Rattle.lp_gen.specs.declared.emitter.Emitter.{Emitter}
 use Rattle.lp_gen.specs.inner.Running.{TypesStand, TermsStand, HasRoom}
 use Rattle.lp_gen.specs.inner.Listing.{Seen, Around, at_level, set_level}
 use Rattle.lp_gen.specs.inner.TermLaw.{Standing, SameAround}
-use Rattle.lp_gen.specs.inner.Owned.{makes, makes_types, AreStarted}
+use Rattle.lp_gen.specs.inner.Owned.{makes, makes_types, IsPlain, AreStarted}
 use Rattle.lp_gen.specs.inner.Written.{Goes, CodeOwns}
 use Rattle.lp_gen.specs.inner.Bodies.{IsShort}
 
@@ -92,7 +92,9 @@ pub record NeckPut (old new : Emitter) : Type 0 where
   pub code_is : new.code.items ≡ old.code.items ++ more
   pub types_stay : new.types ≡ old.types
   pub registers_stay : new.registers ≡ old.registers
+  pub is_neck : more ≡ Neck ∷ []
   pub bytes : sum_by length_of more ≡ 1
+  pub plain : IsPlain more
   pub denotes : (h : Home) (later : Later) (vars : ℕ) (s : State) → TypesStand h vars old.types s → TermsStand h old.registers s → s.in_body ≡ false → breaks_head h s Neck ≡ false →
       HasRoom s (s.place + 1) →
       ((rest : List Instr) → run h later s (more ++ rest) ≡ run h later (behind_head s) rest) × TypesStand h vars new.types (behind_head s) × TermsStand h new.registers (behind_head s)

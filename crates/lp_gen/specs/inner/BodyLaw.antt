@@ -22,6 +22,7 @@ use Rattle.lp_gen.specs.inner.Listing.{Seen, Around, at_level, level_in}
 use Rattle.lp_gen.specs.inner.TermLaw.{Standing, KnownAtoms, AllLoose, IsSeen, AreSet}
 use Rattle.lp_gen.specs.inner.Written.{AreAsked}
 use Rattle.lp_gen.specs.inner.Bodies.{IsShort}
+use Rattle.lp_gen.specs.inner.OpenGoals.{EndsGoals}
 
 -- an atom as a goal, where indices that pass Q are those of variables
 pub record AtomFits (h : Home) (vars : ℕ) (Γ : List Ty) (Q : ℕ → Type 0) (t : Term) : Type 0 where
@@ -69,7 +70,7 @@ abbrev mutual
   ClausesFit h v Γ B Q no_clauses = Unit {0}
   ClausesFit h v Γ B Q (clauses (clause n vs t gs) cs) =
       (n ≡ 0) × All (IsKnownType h.tables.kinds v) vs × HeadFits h v (vs ++ Γ) (map (λ T. false) vs ++ B) (more_of vs Q) t × GoalsFit h v (vs ++ Γ) (map (λ T. false) vs ++ B) (more_of vs Q) gs
-      × ClausesFit h v Γ B Q cs
+      × EndsGoals gs × ClausesFit h v Γ B Q cs
 
 -- the records that were assumed by those before, and by this one so far, are those below a number
 abbrev pub AreBelow : ℕ → Home → List (ℕ × Captured) → Type 0

@@ -62,7 +62,8 @@ abbrev mutual
   GoalCode P K v a n n' k k' q q' (Atomic t) is = AtomCode K a n n' k k' t is × (q' ≡ q)
   GoalCode P K v a n n' k k' q q' Cut is = (n' ≡ n) × (k' ≡ k) × (q' ≡ q) × (is ≡ on.Cut ∷ [])
   GoalCode P K v a n n' k k' q q' (Either gs hs) is =
-      (m : ℕ) × (l : ℕ) × (o : ℕ) × (nl : ℕ) × (mr : ℕ) × (ls : List Instr) × (rs : List Instr) × GoalsCode P K v a n m k l q o gs ls × GoalsCode P K v a m n' l k' o q' hs rs × (nl ≡ sum_by length_of ls + 5)
+      (m : ℕ) × (l : ℕ) × (o : ℕ) × (nl : ℕ) × (mr : ℕ) × (ls : List Instr) × (rs : List Instr) × GoalsCode P K v a n m k l q o gs ls × GoalsCode P K
+      v a m n' l k' o q' hs rs × (nl ≡ sum_by length_of ls + 5)
       × (mr ≡ sum_by length_of rs) × (is ≡ on.Either nl ∷ (ls ++ on.Jump mr ∷ rs))
   GoalCode P K v a n n' k k' q q' (Exists T gs) is =
       (m : ℕ) × (r : ℕ) × (ts : List Instr) × (js : List Instr) × KindCode n m r T ts × IsShort (pushed a (quantified k T)) × GoalsCode P K v (pushed a (quantified k T)) m n' (k + 1) k' q q' gs js

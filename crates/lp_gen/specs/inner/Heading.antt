@@ -14,7 +14,7 @@ use Rattle.lp_code.specs.Denote.{head_term}
 use Rattle.lp_code.specs.declared.record.RecordHead.{RecordHead}
 use Rattle.lp_code.specs.declared.record.RecordHead.TheVariants.{Const, Register}
 use Rattle.lp_code.specs.Length.{length_of}
-use Rattle.lp_code.specs.Symbolic.{Built, variable, held, whole, argument_type}
+use Rattle.lp_code.specs.Symbolic.{Built, variable, held, whole, argument_type, plain_terms}
 use Rattle.lp_code.specs.States.{State, Home}
 use Rattle.lp_code.specs.Steps.{Later, head_built}
 use Rattle.lp_code.specs.Rules.{breaks_head, head_count, out_of_turn, is_variable_of, stands_in}
@@ -23,7 +23,8 @@ use Rattle.lp_gen.specs.inner.Running.{TypesStand, TermsStand, HasRoom}
 use Rattle.lp_gen.specs.inner.Listing.{Seen, Around, level_in, at_level}
 use Rattle.lp_gen.specs.inner.TermLaw.{SameSides, Asks, Standing, KnownAtoms, AllLoose, IsSeen, with_variables, SameAround}
 use Rattle.lp_gen.specs.Sources.{types_by, IsKnownType}
-use Rattle.lp_gen.specs.inner.Written.{AreAsked, IsWell, AreWell, wholes}
+use Rattle.lp_gen.specs.inner.Owned.{makes, makes_types, IsPlain, AreStarted}
+use Rattle.lp_gen.specs.inner.Written.{CodeOwns, AreAsked, IsWell, AreWell, wholes}
 use Rattle.lp_gen.specs.inner.Doing.{Does}
 
 -- an argument that is a variable at its first place
@@ -32,7 +33,10 @@ pub record VariableGot (old new : Emitter) (i register : ℕ) : Type 0 where
   pub code_is : new.code.items ≡ old.code.items ++ more
   pub types_stay : new.types ≡ old.types
   pub registers_stay : new.registers ≡ old.registers
-  pub denotes : (h : Home) (later : Later) (vars : ℕ) (s : State) (T : Ty) → TypesStand h vars old.types s → TermsStand h old.registers s → register < old.registers → old.registers ≤ h.self.registers →
+  pub own : makes more ≡ register ∷ []
+  pub no_types : makes_types more ≡ []
+  pub denotes : (h : Home) (later : Later) (vars : ℕ) (s : State) (T : Ty) → TypesStand h vars old.types s → TermsStand h old.registers s → register <
+      old.registers → old.registers ≤ h.self.registers →
       s.in_body ≡ false → held s.now.terms register ≡ None → out_of_turn s i ≡ false → argument_type (head_built h s).type i ≡ Some T → HasRoom s (s.place + sum_by length_of more) →
       (t : State)
       × Does h later vars old.types old.types old.registers old.registers s more s.goals s.head_types (s.head_arguments ++ whole (variable register h.number) T ∷ []) t
@@ -74,9 +78,12 @@ pub record ArgumentGot (K : ℕ → List Ty → Ty) (old new : Emitter) (a a' : 
   pub code_is : new.code.items ≡ old.code.items ++ more
   pub types_grow : old.types ≤ new.types
   pub terms_grow : old.registers ≤ new.registers
+  pub owns : AreStarted a → CodeOwns a a' more
+  pub no_types : makes_types more ≡ []
   pub denotes : (h : Home) (later : Later) (vars : ℕ) (s : State) (σ : ℕ → Term) (Γ : List Ty) (T : Ty) → IsStandard h.tables.constants → AreAsked h K → TypesStand h vars old.types s →
       TermsStand h old.registers s → new.types ≤ h.self.types → new.registers ≤ h.self.registers → s.in_body ≡ false → length s.head_arguments ≡ i →
-      argument_type (head_built h s).type i ≡ Some T → Standing h vars old.registers s.in_body σ a s.now.terms → IsWell h vars Γ a t T → SameSides F T → PredicateStands h.self.head old.registers s → AreOwn h σ a →
+      argument_type (head_built h s).type i ≡ Some T → Standing h vars old.registers s.in_body σ a s.now.terms → IsWell h vars Γ a t T → SameSides F T
+      → PredicateStands h.self.head old.registers s → AreOwn h σ a →
       HaveStood h a s.head_arguments → HasRoom s (s.place + sum_by length_of more) →
       (u : State)
       × Does h later vars old.types new.types old.registers new.registers s more s.goals s.head_types (s.head_arguments ++ whole (with_variables σ a 0 t) T ∷ []) u
@@ -88,6 +95,8 @@ pub record ArgumentsGot (K : ℕ → List Ty → Ty) (old new : Emitter) (a a' :
   pub code_is : new.code.items ≡ old.code.items ++ more
   pub types_grow : old.types ≤ new.types
   pub terms_grow : old.registers ≤ new.registers
+  pub owns : AreStarted a → CodeOwns a a' more
+  pub no_types : makes_types more ≡ []
   pub denotes : (h : Home) (later : Later) (vars : ℕ) (s : State) (σ : ℕ → Term) (Γ : List Ty) (R : Ty) → IsStandard h.tables.constants → AreAsked h K → TypesStand h vars old.types s →
       TermsStand h old.registers s → new.types ≤ h.self.types → new.registers ≤ h.self.registers → s.in_body ≡ false → s.head_arguments ≡ [] → Standing h vars old.registers s.in_body σ a s.now.terms →
       AreWell h vars Γ a (head_built h s).type ts R → Asks F (head_built h s).type → PredicateStands h.self.head old.registers s → AreOwn h σ a → HaveStood h a [] →
@@ -102,6 +111,7 @@ pub record TypesGot (old new : Emitter) (Ts : List Ty) : Type 0 where
   pub code_is : new.code.items ≡ old.code.items ++ more
   pub registers_stay : new.registers ≡ old.registers
   pub types_grow : old.types ≤ new.types
+  pub plain : IsPlain more
   pub denotes : (h : Home) (later : Later) (vars : ℕ) (s : State) → IsStandard h.tables.constants → TypesStand h vars old.types s → TermsStand h old.registers s → new.types ≤ h.self.types →
       s.in_body ≡ false → s.head_types ≡ [] → s.head_arguments ≡ [] → All (IsKnownType h.tables.kinds vars) Ts → (is_some h.self.head ≡ true → length Ts ≤ head_count h) →
       HasRoom s (s.place + sum_by length_of more) →
@@ -158,6 +168,9 @@ pub record HeadMatched (K : ℕ → List Ty → Ty) (old new : Emitter) (a a' : 
   pub code_is : new.code.items ≡ old.code.items ++ more
   pub types_grow : old.types ≤ new.types
   pub terms_grow : old.registers ≤ new.registers
+  pub owns : AreStarted a → CodeOwns a a' more
+  pub predicate_is : predicate ≡ predicate_of a (head_of t)
+  pub no_types : makes_types more ≡ []
   pub denotes : (h : Home) (later : Later) (vars : ℕ) (s : State) (σ : ℕ → Term) (Γ : List Ty) → IsStandard h.tables.constants → AreAsked h K → TypesStand h vars old.types s →
       TermsStand h old.registers s → new.types ≤ h.self.types → new.registers ≤ h.self.registers → s.in_body ≡ false → s.head_types ≡ [] → s.head_arguments ≡ [] → h.self.head ≡ Some predicate →
       Standing h vars old.registers s.in_body σ a s.now.terms → IsHeadAtom h vars Γ a t → PredicateStands h.self.head old.registers s → AreOwn h σ a → HaveStood h a [] →
@@ -165,3 +178,4 @@ pub record HeadMatched (K : ℕ → List Ty → Ty) (old new : Emitter) (a a' : 
       (u : State)
       × Does h later vars old.types new.types old.registers new.registers s more s.goals u.head_types u.head_arguments u
       × Standing h vars new.registers s.in_body σ a' u.now.terms × SameAround a a' × (head_term h u ≡ with_variables σ a 0 t) × (breaks_head h u Neck ≡ false)
+      × (plain_terms u.head_arguments ≡ map (with_variables σ a 0) (arguments t))

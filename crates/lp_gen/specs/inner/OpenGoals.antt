@@ -215,7 +215,8 @@ OpensBy P K v (in_right left) b n k q before a n' k' q' is ms ms' =
 OpensBy P K v (in_some T) b n k q before a n' k' q' is ms ms' =
     (a ≡ pushed b (quantified k T)) × IsShort (pushed b (quantified k T)) × (k' ≡ k + 1) × (q' ≡ q) × (r : ℕ) × (ts : List Instr) × KindCode n n' r T ts × (is ≡ ts ++ on.Sigma k r ∷ []) × (ms' ≡ ms)
 OpensBy P K v (in_all T) b n k q before a n' k' q' is ms ms' =
-    (a ≡ pushed b (quantified k T)) × IsShort (pushed b (quantified k T)) × (k' ≡ k + 1) × (q' ≡ q) × (r : ℕ) × (ts : List Instr) × KindCode n n' r T ts × (is ≡ ts ++ on.All k r ∷ []) × (at : ℕ) × (from : ℕ)
+    (a ≡ pushed b (quantified k T)) × IsShort (pushed b (quantified k T)) × (k' ≡ k + 1) × (q' ≡ q) × (r : ℕ) × (ts : List Instr) × KindCode n n' r T
+    ts × (is ≡ ts ++ on.All k r ∷ []) × (at : ℕ) × (from : ℕ)
     × (ms' ≡ mark b at from ∷ ms)
 OpensBy P K v (in_assumption cs) b n k q before a n' k' q' is ms ms' =
     (a ≡ b) × (n' ≡ n) × (k' ≡ k) × (ns : Vec ℕ Global) × (ts : Vec ℕ Global) × (rs : Vec ℕ Global) × (ls : List ℕ) × P b ns.items ls cs × AreRegisters b ls rs.items × (ts.items ≡ from_zero v)
@@ -231,14 +232,17 @@ pub record Start : Type 0 where
   pub code : List Instr
 
 -- the code up to the goals of the innermost block
-abbrev pub Opens : (P : Around → (records levels : List ℕ) → Clauses → Type 0) → (K : ℕ → List Ty → Ty) → (v : ℕ) → Start → List OpenBlock → Around → (n k q : ℕ) → (front : List Instr) → List Mark → Type 0
+abbrev pub Opens : (P : Around → (records levels : List ℕ) → Clauses → Type 0) → (K : ℕ → List Ty → Ty) → (v : ℕ) → Start → List OpenBlock → Around →
+    (n k q : ℕ) → (front : List Instr) → List Mark → Type 0
 Opens P K v z [] a n k q front ms = (a ≡ z.around) × (n ≡ z.types) × (k ≡ z.terms) × (q ≡ z.next) × (front ≡ z.code) × (ms ≡ [])
 Opens P K v z (block o gs ∷ bs) a n k q front ms =
-    (b : Around) × (n1 : ℕ) × (k1 : ℕ) × (q1 : ℕ) × (n2 : ℕ) × (k2 : ℕ) × (q2 : ℕ) × (first : List Instr) × (js : List Instr) × (is : List Instr) × (outer : List Mark) × Opens P K v z bs b n1 k1 q1 first outer
+    (b : Around) × (n1 : ℕ) × (k1 : ℕ) × (q1 : ℕ) × (n2 : ℕ) × (k2 : ℕ) × (q2 : ℕ) × (first : List Instr) × (js : List Instr) × (is : List Instr) ×
+    (outer : List Mark) × Opens P K v z bs b n1 k1 q1 first outer
     × GoalsCode P K v b n1 n2 k1 k2 q1 q2 gs js × AreNoSigma gs × OpensBy P K v o b n2 k2 q2 (first ++ js) a n k q is outer ms × (front ≡ (first ++ js) ++ is)
 
 -- the code so far
-pub record Stands (P : Around → (records levels : List ℕ) → Clauses → Type 0) (K : ℕ → List Ty → Ty) (v : ℕ) (z : Start) (w : Walked) (a : Around) (n k q : ℕ) (code : List Instr) (ms : List Mark) : Type 0 where
+pub record Stands (P : Around → (records levels : List ℕ) → Clauses → Type 0) (K : ℕ → List Ty → Ty) (v : ℕ) (z : Start) (w : Walked) (a : Around)
+    (n k q : ℕ) (code : List Instr) (ms : List Mark) : Type 0 where
   pub types : ℕ
   pub terms : ℕ
   pub next : ℕ
@@ -253,7 +257,8 @@ pub record Stands (P : Around → (records levels : List ℕ) → Clauses → Ty
 abbrev pub cut_to : ℕ → Around → Around
 cut_to m a = record { own = take m a.own; base = a.base; captured = a.captured }
 
-pub record Closes (P : Around → (records levels : List ℕ) → Clauses → Type 0) (K : ℕ → List Ty → Ty) (v : ℕ) (z : Start) (w : Walked) (a : Around) (n k q : ℕ) (code : List Instr) (ms : List Mark) : Type 0 where
+pub record Closes (P : Around → (records levels : List ℕ) → Clauses → Type 0) (K : ℕ → List Ty → Ty) (v : ℕ) (z : Start) (w : Walked) (a : Around)
+    (n k q : ℕ) (code : List Instr) (ms : List Mark) : Type 0 where
   pub around : Around
   pub types : ℕ
   pub terms : ℕ
@@ -266,7 +271,8 @@ pub record Closes (P : Around → (records levels : List ℕ) → Clauses → Ty
   pub left : around ≡ cut_to (length around.own) a
 
 -- behind the end of a block: that of a block with an end of its own, of a right side, and of a left one
-pub record Leaves (P : Around → (records levels : List ℕ) → Clauses → Type 0) (K : ℕ → List Ty → Ty) (v : ℕ) (z : Start) (w : Walked) (a : Around) (n k q : ℕ) (code : List Instr) (ms : List Mark) : Type 0 where
+pub record Leaves (P : Around → (records levels : List ℕ) → Clauses → Type 0) (K : ℕ → List Ty → Ty) (v : ℕ) (z : Start) (w : Walked) (a : Around)
+    (n k q : ℕ) (code : List Instr) (ms : List Mark) : Type 0 where
   pub around : Around
   pub outer : List Mark
   pub at : ℕ
@@ -275,7 +281,8 @@ pub record Leaves (P : Around → (records levels : List ℕ) → Clauses → Ty
   pub left : around ≡ cut_to (length around.own) a
   pub stands : Stands P K v z w around n k q code outer
 
-pub record RightLeaves (P : Around → (records levels : List ℕ) → Clauses → Type 0) (K : ℕ → List Ty → Ty) (v : ℕ) (z : Start) (w : Walked) (a : Around) (n k q : ℕ) (code : List Instr) (ms : List Mark) : Type 0 where
+pub record RightLeaves (P : Around → (records levels : List ℕ) → Clauses → Type 0) (K : ℕ → List Ty → Ty) (v : ℕ) (z : Start) (w : Walked)
+    (a : Around) (n k q : ℕ) (code : List Instr) (ms : List Mark) : Type 0 where
   pub around : Around
   pub outer : List Mark
   pub from : ℕ
@@ -287,7 +294,8 @@ pub record RightLeaves (P : Around → (records levels : List ℕ) → Clauses �
   pub from_low : from + 5 ≤ sum_by length_of code
   pub stands : (m : ℕ) → m ≡ sum_by length_of code - (from + 5) → Stands P K v z w around n k q (lead ++ on.Jump m ∷ rest) outer
 
-pub record Turns (P : Around → (records levels : List ℕ) → Clauses → Type 0) (K : ℕ → List Ty → Ty) (v : ℕ) (z : Start) (w : Walked) (a : Around) (n k q : ℕ) (code : List Instr) (ms : List Mark) : Type 0 where
+pub record Turns (P : Around → (records levels : List ℕ) → Clauses → Type 0) (K : ℕ → List Ty → Ty) (v : ℕ) (z : Start) (w : Walked) (a : Around)
+    (n k q : ℕ) (code : List Instr) (ms : List Mark) : Type 0 where
   pub around : Around
   pub outer : List Mark
   pub from : ℕ

@@ -10,15 +10,17 @@ abbrev pub makes : List Instr → List ℕ
 makes [] = []
 makes (i ∷ is) = own_set i ++ makes is
 
+-- type variables that are made, and records that are assumed
 abbrev pub new_type : Instr → List ℕ
 new_type (on.TyNew d) = d ∷ []
+new_type (on.Assume ns ts rs) = ns.items
 new_type i = []
 
 abbrev pub makes_types : List Instr → List ℕ
 makes_types [] = []
 makes_types (i ∷ is) = new_type i ++ makes_types is
 
--- code that makes none
+-- code that makes none, and assumes none
 pub record IsPlain (is : List Instr) : Type 0 where
   pub no_own : makes is ≡ []
   pub no_types : makes_types is ≡ []

@@ -16,11 +16,16 @@ use Rattle.lp_gen.specs.declared.emitter.Emitter.{Emitter}
 use Rattle.lp_gen.specs.Sources.{IsKnownType}
 use Rattle.lp_gen.specs.inner.Owned.{IsPlain}
 
+-- so many registers are there, and what is set stands in one of them
+pub record HasRegisters {A : Type 0} (xs : List (Option A)) (n : ℕ) : Type 0 where
+  pub enough : n ≤ length xs
+  pub inside : (r : ℕ) (x : A) → held xs r ≡ Some x → r < n
+
 -- the type variables of the clause stand in the first registers, and those from one on were never set; at the first byte the record as a whole breaks no rule
 pub record TypesStand (h : Home) (vars next : ℕ) (s : State) : Type 0 where
   pub few : vars ≤ 65535
   pub own : vars ≤ next
-  pub as_many : length s.now.types ≡ h.self.types
+  pub as_many : HasRegisters s.now.types h.self.types
   pub stand : (i : ℕ) → i < vars → held s.now.types i ≡ Some (var i)
   pub unset : (r : ℕ) → next ≤ r → member r s.types_set ≡ false
   pub sound : nat_eq s.place 0 ≡ true → (r : Rule) → broken_by_record h s r ≡ false
@@ -89,7 +94,7 @@ pub record AreTypesPut (old new : Emitter) (rs : List ℕ) (Ts : List Ty) : Type
 
 -- the registers of terms from one on were never set, nor before NECK any that does not hold a term
 pub record TermsStand (h : Home) (next : ℕ) (s : State) : Type 0 where
-  pub as_many : length s.now.terms ≡ h.self.registers
+  pub as_many : HasRegisters s.now.terms h.self.registers
   pub unset : (r : ℕ) → next ≤ r → member r s.terms_set ≡ false
   -- before NECK nothing that was set is unset
   pub fresh : s.in_body ≡ false → (r : ℕ) → held s.now.terms r ≡ None → member r s.terms_set ≡ false

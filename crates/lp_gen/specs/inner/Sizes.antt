@@ -13,8 +13,6 @@ use Rattle.lp_model.specs.declared.clause.Goal.TheOpen.{Goal-F}
 use Rattle.lp_model.specs.declared.clause.Clause as code_clause
 use Rattle.lp_gen.specs.declared.plan.Task.{Task as PlanTask}
 use Rattle.lp_gen.specs.declared.plan.Task.TheVariants as on_goal
-use Rattle.lp_gen.specs.declared.plan.Places.{Places}
-use Rattle.lp_gen.specs.declared.plan.Places.TheVariants as place
 
 -- the nodes of a type, the items of lists counted too
 abbrev mutual
@@ -46,13 +44,6 @@ term_task b (on_term.Abstract T) = 1
 abbrev pub term_work : Nodes → List Task → ℕ
 term_work b ts = sum_by (term_task b) ts
 
-abbrev pub place_task : Nodes → Places → ℕ
-place_task b (place.Term t under) = 4 * size (tree b t.0)
-place_task b (place.Terms ids under) = 1 + sum_by (λ t. 1 + 4 * size (tree b t.0)) ids.now
-
-abbrev pub place_work : Nodes → List Places → ℕ
-place_work b ts = sum_by (place_task b) ts
-
 -- the tasks that a list of goals comes to, of which each has those that it pushes
 abbrev pub goals_weigh : List ℕ → ℕ
 goals_weigh ns = 1 + sum_by suc ns
@@ -61,7 +52,7 @@ abbrev pub goal_weighs_at : Goal-F ℕ ℕ → ℕ
 goal_weighs_at (Goal-F.Atom t) = 0
 goal_weighs_at Goal-F.Cut = 0
 goal_weighs_at (Goal-F.Either l r) = 2 + goals_weigh l.items + goals_weigh r.items
-goal_weighs_at (Goal-F.Some T l) = goals_weigh l.items
+goal_weighs_at (Goal-F.Some T l) = 1 + goals_weigh l.items
 goal_weighs_at (Goal-F.All T l) = 1 + goals_weigh l.items
 goal_weighs_at (Goal-F.Assume cs l) = 1 + goals_weigh l.items
 goal_weighs_at (Goal-F.Not l) = 1 + goals_weigh l.items
@@ -75,6 +66,7 @@ goal_weighs = code.fold-Goal ℕ ℕ goal_weighs_at no_weight
 abbrev pub goal_task : PlanTask → ℕ
 goal_task (on_goal.Goals gs) = goals_weigh (map goal_weighs gs.now)
 goal_task (on_goal.End s level) = 1
+goal_task (on_goal.Level level) = 1
 
 abbrev pub goal_work : List PlanTask → ℕ
 goal_work ts = sum_by goal_task ts

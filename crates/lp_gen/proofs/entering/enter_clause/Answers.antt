@@ -18,7 +18,8 @@ loop-at-preserved c = λ b.
     let x : TypeId = slice_index_or ids place (record { 0 = 0 }) in
     let low : place < length ids = omega (arith, c.loop-at-test.true) in
     let first = c.args.emitter.now.registers in
-    one_entered b (around_of b c.args.environment.now) (around_of b c.loop-at.environment) (around_of b c.push.new.self) first count c.loop-at.at place c.in_ok-register.register ids x (c.loop-at.invariant b)
+    one_entered b (around_of b c.args.environment.now) (around_of b c.loop-at.environment) (around_of b c.push.new.self) first count c.loop-at.at
+    place c.in_ok-register.register ids x (c.loop-at.invariant b)
     c.loop-at-test.true refl refl c.in_ok-register.ensures (index_or ids place (record { 0 = 0 }) x low) (c.in_ok-push.ensures b)
 
 pub returns : goal.returns

@@ -11,7 +11,8 @@ loop-of-init c = no_query c.args.emitter.now c.args.environment.now
 
 pub loop-of-preserved : goal.loop-of-preserved
 loop-of-preserved c =
-    query_more c.args.emitter.now c.loop-of.emitter c.new_register.new.self c.args.environment.now c.loop-of.environment c.push.new.self c.loop-of.yielded c.in-Some.of c.in_ok-register.register c.loop-of.invariant
+    query_more c.args.emitter.now c.loop-of.emitter c.new_register.new.self c.args.environment.now c.loop-of.environment c.push.new.self
+    c.loop-of.yielded c.in-Some.of c.in_ok-register.register c.loop-of.invariant
     c.in_ok-register.ensures.register c.in_ok-register.ensures.code c.in_ok-register.ensures.types c.in_ok-register.ensures.registers c.in_ok-push.ensures
 
 pub returns : goal.returns

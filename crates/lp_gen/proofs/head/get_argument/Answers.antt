@@ -45,5 +45,6 @@ pub returns-in_ok-get_term-in_default-term_node : goal.returns-in_ok-get_term-in
 returns-in_ok-get_term-in_default-term_node c =
     let b = c.args.tables.bank.now in
     term_argument (constant_function b c.args.tables.constants.now) c.args.emitter.now c.put_term.new.emitter c.get_term.new.emitter (around_of b c.args.environment.now)
-    (around_of b c.put_term.new.environment) c.args.at c.in_ok-register-in_default-term_node.register (read b c.args.of) (tree b c.args.argument.0) c.in_ok-register-in_default-term_node.ensures c.in_ok-get_term-in_default-term_node.ensures
+    (around_of b c.put_term.new.environment) c.args.at c.in_ok-register-in_default-term_node.register (read b c.args.of) (tree b c.args.argument.0)
+    c.in_ok-register-in_default-term_node.ensures c.in_ok-get_term-in_default-term_node.ensures
     (sym c.place_of.ensures ∙ c.in_default.is)

@@ -25,7 +25,8 @@ loop-at-preserved c =
     let x : TermId = slice_index_or c.args.args.now c.loop-at.at (record { 0 = 0 }) in
     argument_at_place (λ (t : TermId). tree b t.0) K c.args.emitter.now c.loop-at.emitter c.get_argument.new.emitter a (around_of b c.loop-at.environment) (around_of b c.get_argument.new.environment)
     c.loop-at.at c.in_ok-number.number (head_type K [] a (tree b c.args.head.0)) (read_function b c.loop-at.function) (read_function b c.next-of.result.1) (read b c.next-of.result.0) c.args.args.now
-    x c.loop-at-test.true (index_or c.args.args.now c.loop-at.at (record { 0 = 0 }) x c.loop-at-test.true) c.loop-at.invariant c.in_ok-get_argument.ensures c.in_ok-number.ensures c.next-of.ensures.from c.next-of.ensures.to
+    x c.loop-at-test.true (index_or c.args.args.now c.loop-at.at (record { 0 = 0 }) x c.loop-at-test.true) c.loop-at.invariant
+    c.in_ok-get_argument.ensures c.in_ok-number.ensures c.next-of.ensures.from c.next-of.ensures.to
 
 pub returns : goal.returns
 returns c =

@@ -8,7 +8,8 @@ use Rattle.lp_gen.proofs.head.get_arguments.Given as goal
 abbrev pub invariant-loop-at : goal.invariant-loop-at
 invariant-loop-at l =
     ArgumentsGot (constant_function l.tables.bank.now l.tables.constants.now) l.fn.emitter l.emitter (around_of l.tables.bank.now l.fn.environment) (around_of l.tables.bank.now l.environment)
-    (head_type (constant_function l.tables.bank.now l.tables.constants.now) [] (around_of l.tables.bank.now l.fn.environment) (tree l.tables.bank.now l.fn.head.0)) (map (λ t. tree l.tables.bank.now t.0)
+    (head_type (constant_function l.tables.bank.now l.tables.constants.now) [] (around_of l.tables.bank.now l.fn.environment)
+    (tree l.tables.bank.now l.fn.head.0)) (map (λ t. tree l.tables.bank.now t.0)
     (take l.at l.args))
     × (read_function l.tables.bank.now l.function ≡ left_by (head_type (constant_function l.tables.bank.now l.tables.constants.now) [] (around_of l.tables.bank.now l.fn.environment)
     (tree l.tables.bank.now l.fn.head.0)) l.at)

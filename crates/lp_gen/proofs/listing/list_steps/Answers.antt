@@ -9,7 +9,8 @@ use Rattle.lp_gen.proofs.listing.list_steps.Goals as goal
 pub terms-init : goal.terms-init
 terms-init c =
     let b = c.args.tables.bank.now in
-    task_begins (constant_function b c.args.tables.constants.now) b c.args.environment.now (record { bound = c.new.result; steps = c.new-2.result }) c.new-work.result.items c.push.new.self.items (on.Visit c.args.term c.args.of) c.new.ensures.items
+    task_begins (constant_function b c.args.tables.constants.now) b c.args.environment.now (record { bound = c.new.result; steps = c.new-2.result })
+    c.new-work.result.items c.push.new.self.items (on.Visit c.args.term c.args.of) c.new.ensures.items
     c.new-2.ensures.items c.new-work.ensures.items c.in_ok-push.ensures.items
 
 pub terms-preserved : goal.terms-preserved

@@ -11,4 +11,5 @@ decreases-terms l = term_work l.tables.bank.now l.work.items
 abbrev pub invariant-terms : goal.invariant-terms
 invariant-terms l =
     done (constant_function l.tables.bank.now l.tables.constants.now) l.tables.bank.now l.work.items (course l.tables.bank.now l.environment l.lists)
-    ≡ act (constant_function l.tables.bank.now l.tables.constants.now) l.tables.bank.now (on.Visit l.fn.term l.fn.of) (record { bound = []; steps = []; around = around_of l.tables.bank.now l.fn.environment })
+    ≡ act (constant_function l.tables.bank.now l.tables.constants.now) l.tables.bank.now (on.Visit l.fn.term l.fn.of)
+    (record { bound = []; steps = []; around = around_of l.tables.bank.now l.fn.environment })

@@ -3,19 +3,45 @@ use Rattle.std.proofs.lemmas.Option.{slice_get_read, slice_get_past}
 use Rattle.lp_gen.specs.declared.plan.Assumption.{Assumption}
 use Rattle.lp_gen.specs.inner.Listing.{around_of}
 use Rattle.lp_gen.specs.inner.GoalCode.{AreRegisters}
-use Rattle.lp_gen.specs.inner.BodyCode.{records_named, levels_found}
+use Rattle.std.specs.Prelude.{[], ◌∷◌, nat_eq}
+use Rattle.std.specs.List.{IsDistinct}
+use Rattle.indexmap.specs.IndexMap.{index_map_len}
+use Rattle.lp_gen.specs.declared.plan.Step.TheVariants as on
+use Rattle.lp_gen.specs.inner.BodyCode.{records_named, levels_found, AreStarts, started_at, AreAllSet, one_if}
+use Rattle.std.proofs.lemmas.List.Elements.{All-nil, All-cons}
+use Rattle.lp_gen.proofs.StartsPut.{starts_set}
+use Rattle.lp_gen.proofs.BodyFacts.{starts_stay}
 use Rattle.lp_gen.proofs.AssumptionPut.{no_assumption, same_assumption}
 use Rattle.lp_gen.proofs.record.assumption.Goals as goal
 
-pub returns-then-number-tables : goal.returns-then-number-tables
-returns-then-number-tables c = λ b x found few.
+pub returns-then-number-tables-clause-made : goal.returns-then-number-tables-clause-made
+returns-then-number-tables-clause-made c = λ b x found few.
     absurd (no_assumption x (sym (slice_get_past c.args.tables.assumptions.now c.args.number (omega (arith, c.if-number-tables.true))) ∙ found))
 
-pub returns : goal.returns
-returns c = λ b x found few.
+pub returns-then-number-tables-clause-grown : goal.returns-then-number-tables-clause-grown
+returns-then-number-tables-clause-grown c =
+    starts_stay c.args.tables c.args.all_starts.now.items (on.Assume c.args.number) (ap one_if (slice_get_past c.args.tables.assumptions.now c.args.number (omega (arith, c.if-number-tables.true))))
+
+pub returns-clause-grown : goal.returns-clause-grown
+returns-clause-grown c =
+    let xs = c.args.tables.assumptions.now in
+    let b = c.args.tables.bank.now in
+    let low : c.args.number < length xs = omega (arith, c.if-number-tables.false) in (
+      c.captured_by.new.starts ∷ [],
+      c.in_ok-push.ensures.items,
+      sym (ap one_if (slice_get_read xs (length xs) c.args.number c.index-tables-number.result refl low c.index-tables-number.is)),
+      All-cons (AreAllSet b) c.captured_by.new.starts [] (starts_set b (around_of b c.args.environment.now)
+          (levels_found (around_of b c.args.environment.now) c.as_slice-levels.result.now) c.captured_by.new.starts
+          (index_map_len c.captured_by.new.starts)
+          (c.in_ok-registers.ensures.starts b c.new-starts.ensures.empty (subst (IsDistinct nat_eq) (sym c.as_slice-levels.ensures.keys) c.as_slice-levels.ensures.unique))) (All-nil (AreAllSet b)),
+    )
+
+pub returns-clause-made : goal.returns-clause-made
+returns-clause-made c = λ b x found few.
     let xs = c.args.tables.assumptions.now in
     let low : c.args.number < length xs = omega (arith, c.if-number-tables.false) in
-    let same : c.index-tables-number.result ≡ x = same_assumption c.index-tables-number.result x (sym (slice_get_read xs (length xs) c.args.number c.index-tables-number.result refl low c.index-tables-number.is) ∙ found) in
+    let same : c.index-tables-number.result ≡ x = same_assumption c.index-tables-number.result x
+    (sym (slice_get_read xs (length xs) c.args.number c.index-tables-number.result refl low c.index-tables-number.is) ∙ found) in
     let a = around_of b c.args.environment.now in
     let read : get_or xs c.args.number c.index-tables-number.result ≡ x = sym c.index-tables-number.is ∙ same in
     let few1 = subst (λ (y : Assumption). c.args.tables.first + y.first + y.count < 4294967296) (sym read) few in
@@ -23,8 +49,12 @@ returns c = λ b x found few.
       c.in_ok-records.records,
       c.in_ok-types.types,
       c.in_ok-registers.registers,
+      c.captured_by.new.starts,
       refl,
       c.in_ok-records.ensures few1 ∙ ap (records_named c.args.tables) read,
       c.in_ok-types.ensures,
-      subst (λ l. AreRegisters a (levels_found a l) c.in_ok-registers.registers.items) (c.as_slice-levels.ensures.keys ∙ keys) (c.in_ok-registers.ensures b),
+      subst (λ l. AreRegisters a (levels_found a l) c.in_ok-registers.registers.items) (c.as_slice-levels.ensures.keys ∙ keys) (c.in_ok-registers.ensures.registers b),
+      c.in_ok-push.ensures.items,
+      subst (λ l. AreStarts a (levels_found a l) (started_at b c.captured_by.new.starts) (index_map_len c.captured_by.new.starts)) (c.as_slice-levels.ensures.keys ∙ keys)
+          (c.in_ok-registers.ensures.starts b c.new-starts.ensures.empty (subst (IsDistinct nat_eq) (sym c.as_slice-levels.ensures.keys) c.as_slice-levels.ensures.unique)),
     )

@@ -10,7 +10,8 @@ pub loop-at-preserved : goal.loop-at-preserved
 loop-at-preserved c =
     let place = c.saturating_add.ensures in
     let exact = c.number_of-place.ensures in
-    number_more c.args.first c.args.assumption.now.first c.args.assumption.now.count c.loop-at.at c.saturating_add.result c.number_of-place.result c.saturating_add-in-loop-at.result c.loop-at.records.items
+    number_more c.args.first c.args.assumption.now.first c.args.assumption.now.count c.loop-at.at c.saturating_add.result c.number_of-place.result
+    c.saturating_add-in-loop-at.result c.loop-at.records.items
     c.push.new.self.items c.loop-at.invariant c.loop-at-test.true place exact c.saturating_add-in-loop-at.ensures c.in_ok-push.ensures.items
 
 pub returns : goal.returns

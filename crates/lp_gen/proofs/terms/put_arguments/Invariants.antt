@@ -7,7 +7,8 @@ use Rattle.lp_gen.proofs.terms.put_arguments.Given as goal
 abbrev pub invariant-loop-arg : goal.invariant-loop-arg
 invariant-loop-arg l =
     ArgumentsWritten (constant_function l.tables.bank.now l.tables.constants.now) l.fn.emitter l.emitter (around_of l.tables.bank.now l.fn.environment) (around_of l.tables.bank.now l.environment)
-    l.registers.items (head_type (constant_function l.tables.bank.now l.tables.constants.now) [] (around_of l.tables.bank.now l.fn.environment) (tree l.tables.bank.now l.fn.head.0)) (map (λ t. tree l.tables.bank.now t.0)
+    l.registers.items (head_type (constant_function l.tables.bank.now l.tables.constants.now) [] (around_of l.tables.bank.now l.fn.environment)
+    (tree l.tables.bank.now l.fn.head.0)) (map (λ t. tree l.tables.bank.now t.0)
     l.yielded)
     × (read_function l.tables.bank.now l.function ≡ left_by (head_type (constant_function l.tables.bank.now l.tables.constants.now) [] (around_of l.tables.bank.now l.fn.environment)
     (tree l.tables.bank.now l.fn.head.0)) (length l.yielded))

@@ -202,3 +202,22 @@ returns-in-Denied-clause-tries_written c = λ k rest call one e u l qv s h w.
     let z = t.0 in
     let y = c.in-Denied.is in
     absurd (cc)
+
+pub returns-in-Denied-clause-denied_written : goal.returns-in-Denied-clause-denied_written
+returns-in-Denied-clause-denied_written c = λ k rest d e u ar w.
+    let t = c.in_ok-untried.ensures.taken k rest e in
+    c.end_denial.ensures.written ar (search_back c.args.machine.now c.take_choice.new.self k rest e t.1 ar w)
+
+pub returns-in_ok-turn-in-Clauses-clause-denied_written : goal.returns-in_ok-turn-in-Clauses-clause-denied_written
+returns-in_ok-turn-in-Clauses-clause-denied_written c = λ k rest d e u ar w.
+    let t = c.in_ok-untried.ensures.taken k rest e in
+    let z = t.0 in
+    let y = c.in-Clauses.is in
+    absurd (cc)
+
+pub returns-in_ok-go_right-in-Goals-clause-denied_written : goal.returns-in_ok-go_right-in-Goals-clause-denied_written
+returns-in_ok-go_right-in-Goals-clause-denied_written c = λ k rest d e u ar w.
+    let t = c.in_ok-untried.ensures.taken k rest e in
+    let z = t.0 in
+    let y = c.in-Goals.is in
+    absurd (cc)

@@ -1,0 +1,160 @@
+-- The own variables of a clause: where they stand, and the indices that they get.
+use Rattle.std.proofs.Common.{◌≡◌, ◌∙◌, ◌⊎◌, inl, inr, ⊎_elim, ◌<◌, ◌≤◌, ℕ, zero, suc, ◌+◌, ◌-◌, List, [], ◌∷◌, ◌++◌, length, map, Bool, true, false, Option, Some, None, ap, refl, sym, subst, arith, true≢false, add-one}
+use Rattle.std.specs.Prelude.{nat_eq, nat_le, nat_lt, if◌then◌else◌, slice_get}
+use Rattle.std.proofs.lemmas.Bool.{eqb-true, eq-eqb, ne_eqb, leb-true, leb-false, le-leb, ltb-true, ltb-false}
+use Rattle.std.proofs.lemmas.List.{append-nil, length-append}
+use Rattle.lp_calculus.specs.Types.{Ty}
+use Rattle.lp_code.specs.States.{member, passing, placed}
+use Rattle.lp_gen.specs.inner.Listing.{Seen, Around, at_level, level_in}
+use Rattle.lp_gen.specs.inner.TermLaw.{as_set, SameAround}
+use Rattle.lp_gen.specs.inner.Owned.{AreStarted, MakesOwn}
+use Rattle.lp_gen.specs.inner.GoalCode.{numbers}
+use Rattle.lp_gen.specs.inner.Entering.{unmade, clause_own}
+use Rattle.lp_gen.proofs.AssumptionPut.{numbers_last}
+use Rattle.lp_gen.proofs.AroundSet.{seen_of}
+
+no_seen : (v : Seen) → ◌≡◌ {A = Option Seen} None (Some v) → ⊥
+no_seen v e = cc
+
+same_seen : (v w : Seen) → ◌≡◌ {A = Option Seen} (Some v) (Some w) → w ≡ v
+same_seen v w e = cc
+
+no_type : (T : Ty) → ◌≡◌ {A = Option Ty} None (Some T) → ⊥
+no_type T e = cc
+
+same_type : (T U : Ty) → ◌≡◌ {A = Option Ty} (Some T) (Some U) → U ≡ T
+same_type T U e = cc
+
+-- numbers that pass a test
+
+passing_none : (m : ℕ) (test : ℕ → Bool) → ((r : ℕ) → r < m → test r ≡ false) → passing m test ≡ []
+passing_none zero test f = refl
+passing_none (suc m) test f = λ i. passing_none m test (λ r l. f r (omega (arith, l))) i ++ (if f m (omega arith) i then m ∷ [] else [])
+
+passing_some : (j k m : ℕ) (test : ℕ → Bool) → m ≡ k + j → ((r : ℕ) → r < k → test r ≡ false) → ((r : ℕ) → k ≤ r → r < m → test r ≡ true) → passing m test ≡ numbers k j
+passing_some zero k m test e low up = let z : m ≡ k = omega (arith, e) in passing_none m test (λ r l. low r (omega (arith, l, z)))
+passing_some (suc j) k m test e low up =
+    let z : m ≡ suc (k + j) = omega (arith, e) in
+    ap (λ n. passing n test) z ∙ (λ i. passing_some j k (k + j) test refl low (λ r l q. up r l (omega (arith, q, z))) i ++ (if up (k + j) (omega arith) (omega (arith, z)) i then (k + j) ∷ [] else []))
+    ∙ sym (numbers_last k j) ∙ ap (numbers k) (add-one j)
+
+pub passing_range : (i k n m : ℕ) (test : ℕ → Bool) → m ≡ k + n + i → ((r : ℕ) → r < k → test r ≡ false) → ((r : ℕ) → k ≤ r → r < k + n → test r ≡ true) → ((r : ℕ) → k + n ≤ r → test r ≡ false) →
+    passing m test ≡ numbers k n
+passing_range zero k n m test e low up high = let z : m ≡ k + n = omega (arith, e) in passing_some n k m test z low (λ r l q. up r l (omega (arith, q, z)))
+passing_range (suc i) k n m test e low up high =
+    let z : m ≡ suc (k + n + i) = omega (arith, e) in
+    ap (λ j. passing j test) z ∙ (λ j. passing_range i k n (k + n + i) test refl low up high j ++ (if high (k + n + i) (omega arith) j then (k + n + i) ∷ [] else [])) ∙ append-nil (numbers k n)
+
+-- where the own variables stand
+
+at_last : (vs : List Seen) (v : Seen) (i : ℕ) → i ≡ length vs → slice_get (vs ++ v ∷ []) i ≡ Some v
+at_last [] v i e = ap (slice_get (v ∷ [])) e
+at_last (u ∷ us) v i e = ap (slice_get (u ∷ (us ++ v ∷ []))) e ∙ at_last us v (length us) refl
+
+before_last : (vs : List Seen) (v w : Seen) (i : ℕ) → slice_get vs i ≡ Some w → slice_get (vs ++ v ∷ []) i ≡ Some w
+before_last [] v w i e = absurd (no_seen w e)
+before_last (u ∷ us) v w zero e = e
+before_last (u ∷ us) v w (suc i) e = before_last us v w i e
+
+pub clause_count : (k : ℕ) (Ts : List Ty) → length (clause_own k Ts) ≡ length Ts
+clause_count k [] = refl
+clause_count k (T ∷ Ts) =
+    let z = length-append (clause_own (k + 1) Ts) (unmade k T ∷ []) in
+    let y = clause_count (k + 1) Ts in
+    let one : length (unmade k T ∷ []) ≡ 1 = refl in
+    omega (arith, z, y, one)
+
+-- the variable of an index is in its register
+pub clause_at : (k : ℕ) (Ts : List Ty) (i p : ℕ) (T : Ty) → slice_get Ts i ≡ Some T → p ≡ length Ts - 1 - i → slice_get (clause_own k Ts) p ≡ Some (unmade (k + i) T)
+clause_at k [] i p T e q = absurd (no_type T e)
+clause_at k (U ∷ Us) zero p T e q =
+    let many = clause_count (k + 1) Us in
+    let z : p ≡ length (clause_own (k + 1) Us) = omega (arith, q, many) in
+    at_last (clause_own (k + 1) Us) (unmade k U) p z ∙ (let y : k ≡ k + 0 = omega arith in λ j. Some (unmade (y j) (sym (same_type U T e) j)))
+clause_at k (U ∷ Us) (suc i) p T e q =
+    let z : p ≡ length Us - 1 - i = omega (arith, q) in
+    let y : k + 1 + i ≡ k + suc i = omega arith in
+    before_last (clause_own (k + 1) Us) (unmade k U) (unmade (k + suc i) T) p (clause_at (k + 1) Us i p T e z ∙ ap (λ r. Some (unmade r T)) y)
+
+pub type_at : (Ts : List Ty) (i : ℕ) → i < length Ts → (T : Ty) × (slice_get Ts i ≡ Some T)
+type_at [] i l = absurd (omega (arith, l))
+type_at (T ∷ Ts) zero l = (T, refl)
+type_at (T ∷ Ts) (suc i) l = type_at Ts i (omega (arith, l))
+
+within : (vs : List Seen) (p : ℕ) (v : Seen) → slice_get vs p ≡ Some v → p < length vs
+within [] p v e = absurd (no_seen v e)
+within (w ∷ vs) zero v e = omega arith
+within (w ∷ vs) (suc p) v e = let z = within vs p v e in omega (arith, z)
+
+-- and no other one stands there
+pub clause_from : (k : ℕ) (Ts : List Ty) (p : ℕ) (v : Seen) → slice_get (clause_own k Ts) p ≡ Some v → (i : ℕ) × (T : Ty) × (slice_get Ts i ≡ Some T)
+    × (p ≡ length Ts - 1 - i) × (v ≡ unmade (k + i) T) × (i < length Ts)
+clause_from k Ts p v e =
+    let low = within (clause_own k Ts) p v e in
+    let many = clause_count k Ts in
+    let i : ℕ = length Ts - 1 - p in
+    let l : i < length Ts = omega (arith, low, many) in
+    let t = type_at Ts i l in
+    let back : p ≡ length Ts - 1 - i = omega (arith, low, many) in
+    (i, t.0, t.1, back, same_seen (unmade (k + i) t.0) v (sym (clause_at k Ts i p t.0 t.1 back) ∙ e), l)
+
+-- the own variables of code
+
+at_own : (a : Around) (l : ℕ) → a.base ≤ l → at_level a l ≡ slice_get a.own (l - a.base)
+at_own a l le = ap (λ t. if t then slice_get a.own (l - a.base) else a.captured l) (le-leb a.base l le)
+
+pub own_numbers : (a b : Around) (k : ℕ) (Ts : List Ty) (rs : List ℕ) (m : ℕ) → a.own ≡ clause_own k Ts → AreStarted a → MakesOwn a b rs → SameAround
+    a b → ((l : ℕ) (v : Seen) → at_level b l ≡ Some v → v.is_set ≡ true) →
+    k + length Ts ≤ m → passing m (λ r. member r rs) ≡ numbers k (length Ts)
+own_numbers a b k Ts rs m own start x same set le =
+    passing_range (m - (k + length Ts)) k (length Ts) m (λ r. member r rs) (omega (arith, le))
+    (λ r l. not_made r (λ i q z. absurd (omega (arith, l, z)))) made (λ r l. not_made r (λ i q z. absurd (omega (arith, l, q, z))))
+  where
+    -- a register that is made is that of an own variable
+    from : (r : ℕ) → member r rs ≡ true → (i : ℕ) × (i < length Ts) × (r ≡ k + i)
+    from r e =
+        let w = x.sound r e in
+        go w.0 w.1 w.2 w.3 w.4 (nat_le a.base w.0) refl
+      where
+        go : (l : ℕ) (v : Seen) → at_level a l ≡ Some v → v.is_set ≡ false → v.register ≡ r → (t : Bool) → nat_le a.base l ≡ t → (i : ℕ) × (i < length Ts) × (r ≡ k + i)
+        go l v f none at true q =
+            let y = clause_from k Ts (l - a.base) v (ap (λ vs. slice_get vs (l - a.base)) (sym own) ∙ sym (at_own a l (leb-true a.base l q)) ∙ f) in
+            (y.0, y.5, sym at ∙ ap (λ (u : Seen). u.register) y.4)
+        go l v f none at false q = absurd (true≢false (sym (start l v (leb-false a.base l q) f) ∙ none))
+
+    not_made : (r : ℕ) → ((i : ℕ) → i < length Ts → r ≡ k + i → ⊥) → member r rs ≡ false
+    not_made r f = go (member r rs) refl
+      where
+        go : (t : Bool) → member r rs ≡ t → member r rs ≡ false
+        go true e = let y = from r e in absurd (f y.0 y.1 y.2)
+        go false e = e
+
+    made : (r : ℕ) → k ≤ r → r < k + length Ts → member r rs ≡ true
+    made r l q =
+        let i : ℕ = r - k in
+        let t = type_at Ts i (omega (arith, l, q)) in
+        let p : ℕ = length Ts - 1 - i in
+        let y : (a.base + p) - a.base ≡ p = omega arith in
+        let here : at_level a (a.base + p) ≡ Some (unmade (k + i) t.0) = at_own a (a.base + p) (omega arith) ∙ (λ j. slice_get (own j) (y j)) ∙ clause_at k Ts i p t.0 t.1 refl in
+        let w = seen_of (at_level b (a.base + p)) (as_set (unmade (k + i) t.0)) (same.variables (a.base + p) ∙ ap (Rattle.std.specs.Prelude.option_map as_set) here) in
+        let z : k + i ≡ r = omega (arith, l) in
+        ap (λ n. member n rs) (sym z) ∙ x.complete (a.base + p) (unmade (k + i) t.0) w.0 here refl w.1 (set (a.base + p) w.0 w.1)
+
+-- the indices of registers
+
+pub placed_at : (n k d i : ℕ) → i < n → placed (numbers k n) d (k + i) ≡ Some (d + i)
+placed_at zero k d i l = absurd (omega (arith, l))
+placed_at (suc n) k d zero l =
+    let z : k + 0 ≡ k = omega arith in
+    let y : d ≡ d + 0 = omega arith in
+    ap (λ t. if t then Some d else placed (numbers (suc k) n) (suc d) (k + 0)) (eq-eqb (k + 0) k z) ∙ ap (λ j. Some j) y
+placed_at (suc n) k d (suc i) l =
+    let z : k + suc i ≡ suc k + i = omega arith in
+    let y : suc d + i ≡ d + suc i = omega arith in
+    ap (λ t. if t then Some d else placed (numbers (suc k) n) (suc d) (k + suc i)) (ne_eqb (k + suc i) k (λ e. absurd (omega (arith, e)))) ∙ ap (placed (numbers (suc k) n) (suc d)) z
+    ∙ placed_at n (suc k) (suc d) i (omega (arith, l)) ∙ ap (λ j. Some j) y
+
+pub placed_low : (n k d r : ℕ) → r < k → placed (numbers k n) d r ≡ None
+placed_low zero k d r l = refl
+placed_low (suc n) k d r l =
+    ap (λ t. if t then Some d else placed (numbers (suc k) n) (suc d) r) (ne_eqb r k (λ e. absurd (omega (arith, e, l)))) ∙ placed_low n (suc k) (suc d) r (omega (arith, l))

@@ -1,0 +1,548 @@
+-- The records of assumptions denote their clauses, each by those behind it.
+use Rattle.std.proofs.Common.{◌≡◌, ◌∙◌, ◌⊎◌, inl, inr, ⊎_elim, ◌≤◌, ◌<◌, ℕ, zero, suc, ◌+◌, ◌-◌, ◌^◌, List, [], ◌∷◌, ◌++◌, length, map, drop, Bor, Bool, true, false, Option, Some, None, ap, refl, sym, subst, arith, true≢false}
+use Rattle.std.specs.Prelude.{nat_eq, nat_le, nat_lt, if◌then◌else◌, max, not, ◌&&◌, All, is_none, slice_get, option_map, option_and_then}
+use Rattle.std.proofs.lemmas.Bool.{eq-eqb, ne_eqb, le-ltb}
+use Rattle.indexmap.specs.IndexMap.{IndexMap, index_map_len}
+use Rattle.lp_calculus.specs.Types.{Ty, var}
+use Rattle.lp_calculus.specs.Term.{Term}
+use Rattle.lp_standard.specs.Schemes.{IsStandard}
+use Rattle.lp_term.specs.Nodes.{Nodes, tree, type_tree}
+use Rattle.std.proofs.lemmas.List.{append-nil}
+use Rattle.std.proofs.lemmas.List.Elements.{All-nil, All-cons}
+use Rattle.lp_model.specs.Flat.{Goal, Goals, Clause, Clauses, Atomic, Cut, Either, Exists, Forall, Assume, Not, no_goals, goals, clause, no_clauses, clauses, add_clauses, assuming, denied}
+use Rattle.lp_code.specs.Written.{written_goal, written_goals, written_clauses}
+use Rattle.lp_model.specs.Flattened.{goals_of}
+use Rattle.lp_model.specs.declared.clause.Clause as code
+use Rattle.lp_code.specs.declared.record.Record.{Record}
+use Rattle.lp_code.specs.declared.record.Key.TheVariants as key
+use Rattle.lp_code.specs.Symbolic.{Tables as CodeTables, Built, variable}
+use Rattle.lp_code.specs.States.{Captured, State, Home, member}
+use Rattle.lp_code.specs.Steps.{Later, clauses_of_records}
+use Rattle.lp_code.specs.Rules.{nesting_limit, named_before, is_assumed_record}
+use Rattle.lp_code.specs.Denote.{from_zero, first_state, is_named, denoted, home_of, later_from, nothing_captured}
+use Rattle.lp_gen.specs.Sources.{IsClause, IsKnownType, goals_depth, clauses_depth}
+use Rattle.lp_gen.specs.declared.environment.Variable.{Variable}
+use Rattle.lp_gen.specs.declared.plan.Assumption.{Assumption}
+use Rattle.lp_gen.specs.declared.plan.Part.{Part}
+use Rattle.lp_gen.specs.declared.plan.Origin.{Origin}
+use Rattle.lp_gen.specs.declared.plan.Origin.TheVariants as origin
+use Rattle.lp_gen.specs.declared.record.Tables.{Tables}
+use Rattle.lp_gen.specs.inner.Listing.{Seen, Around, at_level, level_in, constant_function}
+use Rattle.lp_gen.specs.inner.TermLaw.{IsSeen, AllLoose}
+use Rattle.lp_gen.specs.inner.Written.{AreAsked}
+use Rattle.lp_gen.specs.inner.Bodies.{new_level, IsShort, bare_clauses, said_clauses, AreThrough, AllThrough}
+use Rattle.lp_gen.specs.inner.GoalCode.{numbers}
+use Rattle.lp_gen.specs.inner.Entering.{types_at}
+use Rattle.lp_gen.specs.inner.OpenGoals.{goals_steps, EndsGoals}
+use Rattle.lp_gen.specs.inner.BodyCode.{Suppositions, AreStarts, started_at, HoldStarts, levels_found, steps_of, AreNext}
+use Rattle.lp_gen.specs.inner.BodyLaw.{more_of, ClausesFit, AreBelow, AreAlls, AreOuter, AreLater, StartWith}
+use Rattle.lp_gen.specs.inner.Planned.{clauses_length, goal_records, goals_records, GoalHas, GoalsHave, IsWritten, AreWritten, IsAtLevel, IsAssumption, NamedBy, AreNamed, IsCaptured, AreCaptured}
+use Rattle.lp_gen.specs.inner.Recorded.{RecordWritten}
+use Rattle.lp_gen.proofs.BodySaid.{TellClauses}
+use Rattle.lp_gen.proofs.BodySteps.{numbers_length}
+use Rattle.lp_gen.proofs.FitsOf.{clauses_joined, clauses_home, clauses_fit, goals_loose}
+use Rattle.lp_gen.proofs.StartsPut.{starts_begin}
+use Rattle.lp_gen.proofs.RecordDenoted.{NoIndex}
+use Rattle.lp_gen.proofs.BodyParts.{goals_through, loose_at}
+use Rattle.lp_gen.proofs.RecordBegins.{Outside, level_from, old_term, more_at}
+use Rattle.lp_gen.proofs.ClauseRecords as record_of
+use Rattle.lp_gen.proofs.WrittenTypes.{starts_as}
+
+-- what the later records denote, by their numbers
+
+drop_none : {X : Type 0} (k : ℕ) → drop {A = X} k [] ≡ []
+drop_none zero = refl
+drop_none (suc k) = refl
+
+drop_more : {X : Type 0} (xs : List X) (n i : ℕ) → drop i (drop n xs) ≡ drop (n + i) xs
+drop_more xs zero i = let z : i ≡ 0 + i = omega arith in ap (λ k. drop k xs) z
+drop_more [] (suc n) i = drop_none i ∙ sym (drop_none (suc n + i))
+drop_more (x ∷ xs) (suc n) i = drop_more xs n i ∙ (let z : suc (n + i) ≡ suc n + i = omega arith in ap (λ k. drop k (x ∷ xs)) z)
+
+no_record : (r : Record) → ◌≡◌ {A = Option Record} None (Some r) → ⊥
+no_record r e = cc
+
+same_record : (r s : Record) → ◌≡◌ {A = Option Record} (Some r) (Some s) → r ≡ s
+same_record r s e = cc
+
+-- what the record of a number denotes
+abbrev pub told_at : CodeTables → List Record → ℕ → Record → Captured → Option Clause
+told_at T all m r c = denoted (home_of T all m r) (λ k e. later_from T all (suc m) (drop (suc m) all) k e) c
+
+later_in : (T : CodeTables) (all : List Record) (n i m : ℕ) (rs : List Record) (r : Record) (c : Captured) → m ≡ n + i → rs ≡ drop n all → slice_get
+    rs i ≡ Some r → later_from T all n rs m c ≡ told_at T all m r c
+later_in T all n i m [] r c e from at = absurd (no_record r at)
+later_in T all n zero m (s ∷ ss) r c e from at =
+    let same : m ≡ n = omega (arith, e) in
+    let rest : ss ≡ drop (suc m) all = ap (drop 1) from ∙ drop_more all n 1 ∙ (let z : n + 1 ≡ suc m = omega (arith, same) in ap (λ k. drop k all) z) in
+    ap (λ t. if t then denoted (home_of T all n s) (λ k e. later_from T all (suc n) ss k e) c else later_from T all (suc n) ss m c) (eq-eqb m n same)
+    ∙ (λ i. denoted (home_of T all (sym same i) (same_record s r at i)) (λ k e. later_from T all (suc (sym same i)) (rest i) k e) c)
+later_in T all n (suc i) m (s ∷ ss) r c e from at =
+    let rest : ss ≡ drop (suc n) all = ap (drop 1) from ∙ drop_more all n 1 ∙ (let z : n + 1 ≡ suc n = omega arith in ap (λ k. drop k all) z) in
+    ap (λ t. if t then denoted (home_of T all n s) (λ k e. later_from T all (suc n) ss k e) c else later_from T all (suc n) ss m c) (ne_eqb m n (λ z. absurd (omega (arith, z, e))))
+    ∙ later_in T all (suc n) i m ss r c (let z : m ≡ suc n + i = omega (arith, e) in z) rest at
+
+dropped_at : {X : Type 0} (xs : List X) (n i : ℕ) → slice_get (drop n xs) i ≡ slice_get xs (n + i)
+dropped_at xs zero i = let z : i ≡ 0 + i = omega arith in ap (slice_get xs) z
+dropped_at [] (suc n) i = refl
+dropped_at (x ∷ xs) (suc n) i = dropped_at xs n i ∙ (let z : suc (n + i) ≡ suc n + i = omega arith in ap (slice_get (x ∷ xs)) z)
+
+pub later_told : (T : CodeTables) (all : List Record) (n m : ℕ) (r : Record) (c : Captured) → n ≤ m → slice_get all m ≡ Some r → later_from T all n (drop n all) m c ≡ told_at T all m r c
+later_told T all n m r c le at =
+    let i : ℕ = m - n in
+    let z : m ≡ n + i = omega (arith, le) in
+    later_in T all n i m (drop n all) r c z refl (dropped_at all n i ∙ ap (slice_get all) (sym z) ∙ at)
+
+-- clauses one by one
+
+abbrev pub clause_at : Clauses → ℕ → Option Clause
+clause_at no_clauses i = None
+clause_at (clauses c cs) zero = Some c
+clause_at (clauses c cs) (suc i) = clause_at cs i
+
+-- a part of a plan with its record
+pub record PartDone (S : Type 0) (t : Tables) (cl : Suppositions) (part : Part) (number : ℕ) (r : Record) : Type 0 where
+  pub captured : IndexMap ℕ Variable S
+  pub starts : List (IndexMap ℕ Variable S)
+  pub written : RecordWritten t (constant_function t.bank.now t.constants.now) part captured [] starts r
+  pub of : Bor code.Clause
+  pub origin_is : part.origin ≡ origin.Clause of
+  pub first : ℕ
+  pub kept : HoldStarts t.bank.now starts first cl
+  pub next : ℕ
+  pub later : number < next
+  pub steps : steps_of t.bank.now cl part.steps.items ≡ goals_steps (goals_of t.bank.now of.now.body.items)
+  pub are_next : AreNext t next first part.steps.items
+  pub has : GoalsHave (IsAtLevel t) next (part.base + length (types_at t.bank.now of.now.vars.items)) (goals_of t.bank.now of.now.body.items)
+  pub well : AreWritten (goals_of t.bank.now of.now.body.items)
+  pub has_clauses : GoalsHave (IsAssumption t cl) next (part.base + length (types_at t.bank.now of.now.vars.items)) (goals_of t.bank.now of.now.body.items)
+  pub few : part.base + length (types_at t.bank.now of.now.vars.items) + length part.steps.items < 2 ^ 64 - 1
+  pub short : part.base + length (types_at t.bank.now of.now.vars.items) < 2 ^ 64 - 1
+  -- what it starts with is what the assumption around it gave
+  pub starts_are : (n : ℕ) → part.within ≡ Some n → ((l : ℕ) → cl.starts n l ≡ started_at t.bank.now captured l) × (cl.counts n ≡ index_map_len captured)
+
+abbrev pub flat_of : Nodes → Origin → Option Clause
+flat_of b (origin.Clause c) = Some (clause c.now.type_vars (types_at b c.now.vars.items) (tree b c.now.head.0) (goals_of b c.now.body.items))
+flat_of b (origin.Query q gs) = None
+
+-- a part that is one of the clauses of an assumption
+pub record IsMember (t : Tables) (parts : List Part) (records : List Record) (n : ℕ) (x : Assumption) (j : ℕ) (c : Clause) : Type 0 where
+  pub part : Part
+  pub record_is : Record
+  pub part_at : slice_get parts (x.first + j) ≡ Some part
+  pub record_at : slice_get records (x.first + j) ≡ Some record_is
+  pub within : part.within ≡ Some n
+  pub base : part.base ≡ x.base
+  pub flat : flat_of t.bank.now part.origin ≡ Some c
+
+no_clause : (c : Clause) → ◌≡◌ {A = Option Clause} None (Some c) → ⊥
+no_clause c e = cc
+
+same_clause : (c d : Clause) → ◌≡◌ {A = Option Clause} (Some c) (Some d) → d ≡ c
+same_clause c d e = cc
+
+clause_there : (cs : Clauses) (j : ℕ) → j < clauses_length cs → (c : Clause) × (clause_at cs j ≡ Some c)
+clause_there no_clauses j l = absurd (omega (arith, l))
+clause_there (clauses c cs) zero l = (c, refl)
+clause_there (clauses c cs) (suc j) l = clause_there cs j (omega (arith, l))
+
+all_numbers : (P : ℕ → Type 0) (q n : ℕ) → ((j : ℕ) → j < n → P (q + j)) → All P (numbers q n)
+all_numbers P q zero f = All-nil P
+all_numbers P q (suc n) f = All-cons P q (numbers (suc q) n) (let z : q + 0 ≡ q = omega arith in subst P z (f 0 (omega arith)))
+    (all_numbers P (suc q) n (λ j l. let z : q + suc j ≡ suc q + j = omega arith in subst P z (f (suc j) (omega (arith, l)))))
+
+-- the first clause and the others
+bare_split : (c : Clause) (cs : Clauses) → bare_clauses (clauses c cs) ≡ add_clauses (bare_clauses (clauses c no_clauses)) (bare_clauses cs)
+bare_split (clause n vs h b) cs = refl
+
+said_split : (σ : ℕ → Term) (A : Around) (c : Clause) (cs : Clauses) → said_clauses σ A 0 (clauses c cs) ≡ add_clauses (said_clauses σ A 0 (clauses c no_clauses)) (said_clauses σ A 0 cs)
+said_split σ A (clause n vs h b) cs = refl
+
+fit_first : (h : Home) (v : ℕ) (Γ : List Ty) (B : List Bool) (Q : ℕ → Type 0) (c : Clause) (cs : Clauses) → ClausesFit h v Γ B Q (clauses c cs) →
+    ClausesFit h v Γ B Q (clauses c no_clauses) × ClausesFit h v Γ B Q cs
+fit_first h v Γ B Q (clause n vs t b) cs (none, known, head, body, ends, others) = ((none, known, head, body, ends, tt), others)
+
+through_first : (P : ℕ → Term → Type 0) (d : ℕ) (c : Clause) (cs : Clauses) → AllThrough P d (clauses c cs) → AllThrough P d (clauses c no_clauses) × AllThrough P d cs
+through_first P d (clause n vs t b) cs (head, body, others) = ((head, body, tt), others)
+
+depth_first : (c : Clause) (cs : Clauses) (n : ℕ) → clauses_depth (clauses c cs) ≤ n → (clauses_depth (clauses c no_clauses) ≤ n) × (clauses_depth cs ≤ n)
+depth_first (clause m vs t b) cs n le = (omega (arith, le), omega (arith, le))
+
+module _ {S : Type 0} (t : Tables) (cl : Suppositions) (T : CodeTables) (all : List Record) (parts : List Part) (records : List Record) (std : IsStandard T.constants)
+    (asked : (m : ℕ) (r : Record) → AreAsked (home_of T all m r) (constant_function t.bank.now t.constants.now)) (few_types : t.type_vars ≤ 65535)
+    (done : (i : ℕ) (p : Part) (r : Record) → slice_get parts i ≡ Some p → slice_get records i ≡ Some r → PartDone S t cl p (t.first + i) r)
+    (placed : (i : ℕ) (r : Record) → slice_get records i ≡ Some r → slice_get all (t.first + i) ≡ Some r)
+    (members : (n : ℕ) (x : Assumption) → slice_get t.assumptions.now n ≡ Some x → (j : ℕ) (c : Clause) → clause_at (cl.clauses n) j ≡ Some c → IsMember t parts records n x j c)
+    (captured : (n : ℕ) (x : Assumption) → slice_get t.assumptions.now n ≡ Some x → AreCaptured x (cl.clauses n))
+    (counts : (n : ℕ) (x : Assumption) → slice_get t.assumptions.now n ≡ Some x → clauses_length (cl.clauses n) ≡ x.count)
+    (names_below : (i : ℕ) (p : Part) (r : Record) (a : slice_get parts i ≡ Some p) (b : slice_get records i ≡ Some r) (m : ℕ) → member m
+    (named_before (t.first + i) all) ≡ true → m < (done i p r a b).next)
+    (named : (i : ℕ) (p : Part) (n : ℕ) → slice_get parts i ≡ Some p → p.within ≡ Some n → member (t.first + i) (named_before (t.first + i) all) ≡ true) where
+  abbrev Told : ℕ → Type 1
+  Told i =
+      (p : Part) (r : Record) → slice_get parts i ≡ Some p → slice_get records i ≡ Some r → (n : ℕ) (x : Assumption) → p.within ≡ Some n → slice_get t.assumptions.now n ≡ Some x → p.base ≡ x.base →
+      (c : Clause) → flat_of t.bank.now p.origin ≡ Some c → (A : Around) (σ : ℕ → Term) (Γ : List Ty) (B : List Bool) (Q : ℕ → Type 0) (c0 : Captured) → IsShort A → new_level A ≡ x.base →
+      AreStarts A (levels_found A x.captured.keys) (cl.starts n) (cl.counts n) → ClausesFit (home_of T all (t.first + i) r) t.type_vars Γ B Q
+      (clauses c no_clauses) → AreCaptured x (clauses c no_clauses) →
+      ((j : ℕ) → Q j → IsSeen A Γ j) → ((j : ℕ) (U : Ty) → slice_get Γ j ≡ Some U → IsKnownType T.kinds t.type_vars U) →
+      ((l : ℕ) (v : Seen) → at_level A l ≡ Some v → IsKnownType T.kinds t.type_vars v.of) →
+      clauses_depth (clauses c no_clauses) ≤ nesting_limit → AreAlls (home_of T all (t.first + i) r) σ A B →
+      ((j l : ℕ) → level_in A j ≡ Some l → (y : ℕ) × (k : ℕ) × (σ l ≡ variable y k) × (k < t.first + i)) → c0.types ≡ map var (from_zero t.type_vars)
+      → StartWith σ A (levels_found A x.captured.keys) c0.terms →
+      (d : Clause) × (told_at T all (t.first + i) r c0 ≡ Some d) × (bare_clauses (clauses d no_clauses) ≡ said_clauses σ A 0 (clauses c no_clauses))
+
+  -- what a record may assume
+  tells : (i : ℕ) (r : Record) → ((j : ℕ) → i < j → Told j) →
+      TellClauses (home_of T all (t.first + i) r) (λ k e. later_from T all (suc (t.first + i)) (drop (suc (t.first + i)) all) k e) t.type_vars (AreNamed t cl (suc (t.first + i)))
+  tells i r told a ns ls cs are σ Γ B Q c short fit seen known levels depth alls outer types start = ⊎_elim empty some are
+    where
+      h : Home
+      h = home_of T all (t.first + i) r
+
+      later : Later
+      later = λ k e. later_from T all (suc (t.first + i)) (drop (suc (t.first + i)) all) k e
+
+      Result : Type 0
+      Result = (ds : Clauses) × (clauses_of_records later ns c ≡ Some ds) × (bare_clauses ds ≡ said_clauses σ a 0 cs)
+
+      empty : (ns ≡ []) × (cs ≡ no_clauses) → Result
+      empty (e, f) = (no_clauses, ap (λ l. clauses_of_records later l c) e, ap (said_clauses σ a 0) (sym f))
+
+      each : (n : ℕ) (x : Assumption) (y : NamedBy t cl (suc (t.first + i)) a ns ls cs n x) (j : ℕ) (ds : Clauses) →
+          ((k : ℕ) (d : Clause) → clause_at ds k ≡ Some d → clause_at (cl.clauses n) (j + k) ≡ Some d) → ClausesFit h t.type_vars Γ B Q ds →
+          AreCaptured x ds → clauses_depth ds ≤ nesting_limit →
+          (es : Clauses) × (clauses_of_records later (numbers (t.first + (x.first + j)) (clauses_length ds)) c ≡ Some es) × (bare_clauses es ≡ said_clauses σ a 0 ds)
+      each n x y j no_clauses at fits within deep = (no_clauses, refl, refl)
+      each n x y j (clauses d ds) at fits within deep =
+          let here = at 0 d refl in
+          let m = members n x y.found j d (let z : j + 0 ≡ j = omega arith in ap (clause_at (cl.clauses n)) (sym z) ∙ here) in
+          let low = y.later in
+          let f = fit_first h t.type_vars Γ B Q d ds fits in
+          let g = through_first (AllLoose (IsCaptured x)) 0 d ds within in
+          let e = depth_first d ds nesting_limit deep in
+          let number = t.first + (x.first + j) in
+          let one = told (x.first + j) (omega (arith, low)) m.part m.record_is m.part_at m.record_at n x m.within y.found m.base d m.flat a σ Γ B Q c
+          short y.base (subst (λ l. AreStarts a l (cl.starts n) (cl.counts n)) y.levels y.starts)
+          (clauses_home T all (t.first + i) (t.first + (x.first + j)) r m.record_is t.type_vars Γ B Q (clauses d no_clauses) f.0) g.0 seen known levels e.0 alls
+          (λ k l q. let w = outer k l q in let less = w.3 in (w.0, w.1, w.2, omega (arith, less, low))) types (subst (λ l. StartWith σ a l c.terms) y.levels start) in
+          let rest = each n x y (suc j) ds (λ k b q. let z : j + suc k ≡ suc j + k = omega arith in ap (clause_at (cl.clauses n)) (sym z) ∙ at (suc k) b q) f.1 g.1 e.1 in
+          let next : suc number ≡ t.first + (x.first + suc j) = omega arith in
+          let told_here : later number c ≡ Some one.0 = later_told T all (suc (t.first + i)) number m.record_is c (omega (arith, low)) (placed (x.first + j) m.record_is m.record_at) ∙ one.1 in (
+            clauses one.0 rest.0,
+            ap (option_and_then (λ d. option_map (clauses d) (clauses_of_records later (numbers (suc number) (clauses_length ds)) c))) told_here
+                ∙ ap (option_map (clauses one.0)) (ap (λ k. clauses_of_records later (numbers k (clauses_length ds)) c) next ∙ rest.1),
+            bare_split one.0 rest.0 ∙ (λ k. add_clauses (one.2 k) (rest.2 k)) ∙ sym (said_split σ a d ds),
+          )
+
+      some : (n : ℕ) × (x : Assumption) × NamedBy t cl (suc (t.first + i)) a ns ls cs n x → Result
+      some (n, x, y) =
+          let all_captured : AreCaptured x cs = subst (AreCaptured x) (sym y.clauses_are) (captured n x y.found) in
+          let w = each n x y 0 cs (λ k d q. let z : k ≡ 0 + k = omega arith in ap (clause_at (cl.clauses n)) (sym z) ∙ ap (λ l. clause_at l k) (sym y.clauses_are) ∙ q) fit all_captured depth in
+          let many = y.count in
+          let names : ns ≡ numbers (t.first + (x.first + 0)) (clauses_length cs) = y.names ∙ (let z : t.first + x.first ≡ t.first + (x.first + 0) = omega arith in (λ k. numbers (z k) (sym many k))) in
+          (w.0, ap (λ l. clauses_of_records later l c) names ∙ w.1, w.2)
+
+  -- records that an assumption may name
+  are_later : (i : ℕ) (r : Record) (a : Around) (ns ls : List ℕ) (cs : Clauses) → AreNamed t cl (suc (t.first + i)) a ns ls cs → AreLater (home_of T all (t.first + i) r) t.type_vars (length ls) ns
+  are_later i r a ns ls cs are = ⊎_elim empty some are
+    where
+      h : Home
+      h = home_of T all (t.first + i) r
+
+      Later_one : ℕ → Type 0
+      Later_one m = (t.first + i < m) × (is_assumed_record (slice_get all m) t.type_vars (length ls) ≡ true)
+
+      empty : (ns ≡ []) × (cs ≡ no_clauses) → All Later_one ns
+      empty (e, f) = subst (All Later_one) (sym e) (All-nil Later_one)
+
+      some : (n : ℕ) × (x : Assumption) × NamedBy t cl (suc (t.first + i)) a ns ls cs n x → All Later_one ns
+      some (n, x, y) = subst (All Later_one) (sym y.names) (all_numbers Later_one (t.first + x.first) x.count one)
+        where
+          one : (j : ℕ) → j < x.count → Later_one (t.first + x.first + j)
+          one j low =
+              let many = counts n x y.found in
+              let c = clause_there (cl.clauses n) j (omega (arith, low, many)) in
+              let m = members n x y.found j c.0 c.1 in
+              let d = done (x.first + j) m.part m.record_is m.part_at m.record_at in
+              let later = y.later in
+              let same : t.first + x.first + j ≡ t.first + (x.first + j) = omega arith in
+              let no_program : m.record_is.program ≡ false = d.written.is_program ∙ ap is_none m.within in
+              let types : m.record_is.captured_types ≡ t.type_vars = d.written.captured_types ∙ ap (λ o. if is_none o then 0 else t.type_vars) m.within in
+              let terms : m.record_is.captured ≡ length ls = d.written.captured_are ∙ sym (d.starts_are n m.within).1 ∙ y.starts.count_is in (
+                omega (arith, later),
+                ap (λ o. is_assumed_record o t.type_vars (length ls)) (ap (slice_get all) same ∙ placed (x.first + j) m.record_is m.record_at)
+                    ∙ (λ k. (not (no_program k) && eq-eqb m.record_is.captured_types t.type_vars types k) && eq-eqb m.record_is.captured (length ls) terms k),
+              )
+
+  -- an assumed record denotes its clause, if those behind it do
+  told_one : (i : ℕ) → ((j : ℕ) → i < j → Told j) → Told i
+  told_one i told p r at at_r n x within found base c flat A σ Γ B Q c0 short level starts fit within_x seen known levels depth alls earlier types
+      start = (result.0, result.1, result.2 ∙ ap (λ e. said_clauses σ A 0 (clauses e no_clauses)) (none_own ∙ sym c_is))
+    where
+      d : PartDone S t cl p (t.first + i) r
+      d = done i p r at at_r
+
+      h : Home
+      h = home_of T all (t.first + i) r
+
+      later : Later
+      later = λ k e. later_from T all (suc (t.first + i)) (drop (suc (t.first + i)) all) k e
+
+      Ts : List Ty
+      Ts = types_at t.bank.now d.of.now.vars.items
+
+      gs : Goals
+      gs = goals_of t.bank.now d.of.now.body.items
+
+      whole_clause : Clause
+      whole_clause = clause d.of.now.type_vars Ts (tree t.bank.now d.of.now.head.0) gs
+
+      c_is : c ≡ whole_clause
+      c_is = same_clause whole_clause c (sym (ap (flat_of t.bank.now) d.origin_is) ∙ flat)
+
+      Q' : ℕ → Type 0
+      Q' j = Q j × IsCaptured x j
+
+      fits : ClausesFit h t.type_vars Γ B Q' (clauses whole_clause no_clauses)
+      fits =
+          clauses_joined h t.type_vars (IsCaptured x) Q Q' Γ B 0 (clauses whole_clause no_clauses) (λ j q k. (q, let z : j - 0 ≡ j = omega arith in subst (IsCaptured x) z (k (omega arith))))
+          (subst (λ e. ClausesFit h t.type_vars Γ B Q (clauses e no_clauses)) c_is fit) (subst (λ e. AreCaptured x (clauses e no_clauses)) c_is within_x)
+
+      -- it has no type variables of its own
+      none_own : clause 0 Ts (tree t.bank.now d.of.now.head.0) gs ≡ whole_clause
+      none_own = ap (λ k. clause k Ts (tree t.bank.now d.of.now.head.0) gs) (sym fits.0)
+
+      program : is_none p.within ≡ false
+      program = ap is_none within
+
+      out : Outside h t.type_vars σ Γ B A Q' x.captured.keys
+      out = record {
+        short = short;
+        seen = λ j q. seen j q.0;
+        captured = λ j l q e.
+            let w = level_from A j l short e in
+            let low = w.0 in
+            let is = w.1 in
+            let z : x.base - j - 1 ≡ l = omega (arith, low, is, level) in
+            ap (λ k. member k x.captured.keys) (sym z) ∙ q.1 (omega (arith, low, level));
+        known = known;
+        levels = levels;
+        alls = alls;
+        earlier = earlier;
+      }
+
+      part_base : p.base ≡ new_level A
+      part_base = base ∙ sym level
+
+      given : AreStarts A (levels_found A x.captured.keys) (started_at t.bank.now d.captured) (index_map_len d.captured)
+      given =
+          let s = d.starts_are n within in
+          starts_as A (levels_found A x.captured.keys) (cl.starts n) (started_at t.bank.now d.captured) (cl.counts n) (index_map_len d.captured) (λ l. sym (s.0 l)) (sym s.1) starts
+
+      low : new_level A + length Ts < 2 ^ 64 - 1
+      low = let e = part_base in let f = d.short in omega (arith, e, f)
+
+      few : new_level A + length Ts + length p.steps.items < 2 ^ 64 - 1
+      few = let e = part_base in let f = d.few in omega (arith, e, f)
+
+      has : GoalsHave (IsAtLevel t) d.next (new_level A + length Ts) gs
+      has = subst (λ k. GoalsHave (IsAtLevel t) d.next (k + length Ts) gs) part_base d.has
+
+      le : suc (t.first + i) ≤ d.next
+      le = let e = d.later in omega (arith, e)
+
+      nest : goals_depth gs ≤ nesting_limit
+      nest = let e = subst (λ e. clauses_depth (clauses e no_clauses) ≤ nesting_limit) c_is depth in omega (arith, e)
+
+      below : AreBelow d.next h []
+      below m e = names_below i p r at at_r m (sym (ap (member m) (append-nil (named_before (t.first + i) all))) ∙ e)
+
+      self : slice_get h.records h.number ≡ Some h.self
+      self = placed i r at_r
+
+      result : (e : Clause) × (told_at T all (t.first + i) r c0 ≡ Some e) × (bare_clauses (clauses e no_clauses) ≡ said_clauses σ A 0
+          (clauses (clause 0 Ts (tree t.bank.now d.of.now.head.0) gs) no_clauses))
+      result =
+          record_of.assumed_denoted t p d.captured d.starts d.of h d.written d.origin_is σ Γ B A Q' x.captured.keys out part_base given low cl d.next
+          d.first gs d.kept d.steps fits.4 d.are_next few (suc (t.first + i)) le has counts std
+          (asked (t.first + i) r) fits.1 below fits.2 fits.3 nest c0.terms start program (named i p n at within) few_types later c0 types refl self (are_later i r) (tells i r told)
+
+  -- all of them
+  within_records : (i : ℕ) (r : Record) → slice_get records i ≡ Some r → i < length records
+  within_records i r = go records i
+    where
+      go : (rs : List Record) (i : ℕ) → slice_get rs i ≡ Some r → i < length rs
+      go [] i e = absurd (no_record r e)
+      go (s ∷ ss) zero e = omega arith
+      go (s ∷ ss) (suc i) e = let z = go ss i e in omega (arith, z)
+
+  all_told : (k i : ℕ) → length records ≤ i + k → Told i
+  all_told zero i le = λ p r at at_r. let z = within_records i r at_r in absurd (omega (arith, z, le))
+  all_told (suc k) i le = told_one i (λ j lt. all_told k j (omega (arith, le, lt)))
+
+  pub tell_all : (i : ℕ) (r : Record) → TellClauses (home_of T all (t.first + i) r)
+      (λ k e. later_from T all (suc (t.first + i)) (drop (suc (t.first + i)) all) k e) t.type_vars (AreNamed t cl (suc (t.first + i)))
+  tell_all i r = tells i r (λ j lt. all_told (length records) j (omega arith))
+
+  pub name_later : (i : ℕ) (r : Record) (a : Around) (ns ls : List ℕ) (cs : Clauses) → AreNamed t cl (suc (t.first + i)) a ns ls cs → AreLater
+      (home_of T all (t.first + i) r) t.type_vars (length ls) ns
+  name_later = are_later
+
+  -- what is written in goals is what stands there
+
+  abbrev pub WrittenFrom : ℕ → Type 0
+  WrittenFrom i = (n : ℕ) (x : Assumption) → slice_get t.assumptions.now n ≡ Some x → i < x.first → written_clauses (cl.clauses n) ≡ cl.clauses n
+
+  mutual
+    goal_written : (i q d : ℕ) (g : Goal) → suc (t.first + i) ≤ q → IsWritten g → GoalHas (IsAssumption t cl) q d g → WrittenFrom i → written_goal g ≡ g
+    goal_written i q d (Atomic u) le x y f = refl
+    goal_written i q d Cut le x y f = refl
+    goal_written i q d (Either gs hs) le x y f = λ k. Either (goals_written i q d gs le x.0 y.0 f k) (goals_written i (q + goals_records gs) d hs (omega (arith, le)) x.1 y.1 f k)
+    goal_written i q d (Exists U gs) le x y f = ap (Exists U) (goals_written i q (suc d) gs le x y f)
+    goal_written i q d (Forall U gs) le x y f = ap (Forall U) (goals_written i q (suc d) gs le x y f)
+    goal_written i q d (Assume w cs gs) le x y f =
+        let a = y.0 in
+        let at = a.4 in
+        let same : written_clauses cs ≡ cs = ap written_clauses a.3 ∙ f a.0 a.1 a.2 (omega (arith, at, le)) ∙ sym a.3 in
+        (λ k. assuming (same k) (goals_written i (q + clauses_length cs) d gs (omega (arith, le)) x.1 y.1 f k)) ∙ sym x.0
+    goal_written i q d (Not w gs) le x y f = ap denied (goals_written i q d gs le x.1 y f) ∙ sym x.0
+
+    goals_written : (i q d : ℕ) (gs : Goals) → suc (t.first + i) ≤ q → AreWritten gs → GoalsHave (IsAssumption t cl) q d gs → WrittenFrom i → written_goals gs ≡ gs
+    goals_written i q d no_goals le x y f = refl
+    goals_written i q d (goals g gs) le x y f = λ k. goals (goal_written i q d g le x.0 y.0 f k) (goals_written i (q + goal_records g) d gs (omega (arith, le)) x.1 y.1 f k)
+
+  clauses_written : (n : ℕ) (x : Assumption) → slice_get t.assumptions.now n ≡ Some x →
+      ((j : ℕ) (c : Clause) → clause_at (cl.clauses n) j ≡ Some c → written_clauses (clauses c no_clauses) ≡ clauses c no_clauses) →
+      written_clauses (cl.clauses n) ≡ cl.clauses n
+  clauses_written n x found f = go (cl.clauses n) f
+    where
+      go : (cs : Clauses) → ((j : ℕ) (c : Clause) → clause_at cs j ≡ Some c → written_clauses (clauses c no_clauses) ≡ clauses c no_clauses) → written_clauses cs ≡ cs
+      go no_clauses f = refl
+      go (clauses (clause m vs h b) cs) f = λ k. add_clauses (f 0 (clause m vs h b) refl k) (go cs (λ j c e. f (suc j) c e) k)
+
+  all_written : (k i : ℕ) → length records ≤ i + k → WrittenFrom i
+  all_written zero i le n x found low =
+      clauses_written n x found (λ j c e.
+      let m = members n x found j c e in
+      let z = within_records (x.first + j) m.record_is m.record_at in
+      absurd (omega (arith, z, le, low)))
+  all_written (suc k) i le n x found low =
+      clauses_written n x found (λ j c e.
+      let m = members n x found j c e in
+      let d = done (x.first + j) m.part m.record_is m.part_at m.record_at in
+      let later = d.later in
+      let is = same_clause (clause d.of.now.type_vars (types_at t.bank.now d.of.now.vars.items) (tree t.bank.now d.of.now.head.0) (goals_of t.bank.now d.of.now.body.items)) c
+      (sym (ap (flat_of t.bank.now) d.origin_is) ∙ m.flat) in
+      let body = goals_written (x.first + j) d.next (m.part.base + length (types_at t.bank.now d.of.now.vars.items))
+      (goals_of t.bank.now d.of.now.body.items) (omega (arith, later)) d.well d.has_clauses
+      (all_written k (x.first + j) (omega (arith, le, low))) in
+      subst (λ e. written_clauses (clauses e no_clauses) ≡ clauses e no_clauses) (sym is)
+      (λ k. clauses (clause d.of.now.type_vars (types_at t.bank.now d.of.now.vars.items) (tree t.bank.now d.of.now.head.0) (body k)) no_clauses))
+
+  pub body_written : (i : ℕ) (p : Part) (r : Record) (at : slice_get parts i ≡ Some p) (at_r : slice_get records i ≡ Some r) →
+      written_goals (goals_of t.bank.now (done i p r at at_r).of.now.body.items) ≡ goals_of t.bank.now (done i p r at at_r).of.now.body.items
+  body_written i p r at at_r =
+      let d = done i p r at at_r in
+      let later = d.later in
+      goals_written i d.next (p.base + length (types_at t.bank.now d.of.now.vars.items)) (goals_of t.bank.now d.of.now.body.items)
+      (omega (arith, later)) d.well d.has_clauses (all_written (length records) i (omega arith))
+
+  -- the first record is that of the clause itself
+
+  -- nothing is around it
+  abbrev pub nobody : Around
+  nobody = record { own = []; base = 0; captured = λ l. None }
+
+  abbrev no_terms : ℕ → Term
+  no_terms l = Rattle.lp_calculus.specs.Term.index 0
+
+  no_seen_there : (l : ℕ) (v : Seen) → at_level nobody l ≡ Some v → ⊥
+  no_seen_there l v e = go (nat_le 0 l) e
+    where
+      no_seen : ◌≡◌ {A = Option Seen} None (Some v) → ⊥
+      no_seen f = cc
+
+      nowhere : List Seen
+      nowhere = []
+
+      go : (c : Bool) → (if c then slice_get nowhere (l - 0) else None) ≡ Some v → ⊥
+      go true f = no_seen f
+      go false f = no_seen f
+
+  no_index_there : (i l : ℕ) → level_in nobody i ≡ Some l → ⊥
+  no_index_there i l e = no_number l (sym (ap (λ c. if c then Some (0 - i - 1) else None) (le-ltb i 0 (omega arith))) ∙ e)
+    where
+      no_number : (l : ℕ) → ◌≡◌ {A = Option ℕ} None (Some l) → ⊥
+      no_number l f = cc
+
+  outside : (h : Home) → Outside h t.type_vars no_terms [] [] nobody NoIndex []
+  outside h = record {
+    short = omega arith;
+    seen = λ i q. absurd q;
+    captured = λ i l q e. absurd q;
+    known = λ i U e. absurd (no_type U e);
+    levels = λ l v e. absurd (no_seen_there l v e);
+    alls = λ i l is e. absurd (true≢false (sym is));
+    earlier = λ i l e. absurd (no_index_there i l e);
+  }
+    where
+      no_type : (U : Ty) → ◌≡◌ {A = Option Ty} None (Some U) → ⊥
+      no_type U e = cc
+
+  pub program_told : (p : Part) (r : Record) (at : slice_get parts 0 ≡ Some p) (at_r : slice_get records 0 ≡ Some r) → p.within ≡ None → p.base ≡ 0 → (done 0 p r at at_r).captured.entries ≡ [] →
+      IsClause T (clause t.type_vars (types_at t.bank.now (done 0 p r at at_r).of.now.vars.items) (tree t.bank.now (done 0 p r at at_r).of.now.head.0)
+      (goals_of t.bank.now (done 0 p r at at_r).of.now.body.items)) →
+      told_at T all (t.first + 0) r nothing_captured
+      ≡ Some (clause t.type_vars (types_at t.bank.now (done 0 p r at at_r).of.now.vars.items) (tree t.bank.now (done 0 p r at at_r).of.now.head.0)
+      (goals_of t.bank.now (done 0 p r at at_r).of.now.body.items))
+  program_told p r at at_r within base none is_clause =
+      record_of.program_denoted t p d.captured d.starts d.of h d.written d.origin_is no_terms [] [] nobody NoIndex [] (outside h) base given low cl
+      d.next d.first gs d.kept d.steps fits.4 d.are_next few (suc (t.first + 0)) le has counts std
+      (asked (t.first + 0) r) fits.1 below fits.2 fits.3 is_clause.1 [] tt (ap is_none within) few_types (ap length none) refl no_index no_indices (body_written 0 p r at at_r)
+      (λ k e. later_from T all (suc (t.first + 0)) (drop (suc (t.first + 0)) all) k e) (placed 0 r at_r) (are_later 0 r) (tell_all 0 r)
+    where
+      d : PartDone S t cl p (t.first + 0) r
+      d = done 0 p r at at_r
+
+      h : Home
+      h = home_of T all (t.first + 0) r
+
+      Ts : List Ty
+      Ts = types_at t.bank.now d.of.now.vars.items
+
+      head : Term
+      head = tree t.bank.now d.of.now.head.0
+
+      gs : Goals
+      gs = goals_of t.bank.now d.of.now.body.items
+
+      fits : ClausesFit h t.type_vars [] [] NoIndex (clauses (clause 0 Ts head gs) no_clauses)
+      fits = clauses_fit h (record { type_vars = t.type_vars; indices = []; binders = [] }) NoIndex (clauses (clause 0 Ts head gs) no_clauses) is_clause.0 (λ i U e. absurd (cc))
+
+      given : AreStarts nobody (levels_found nobody []) (started_at t.bank.now d.captured) (index_map_len d.captured)
+      given = starts_begin t.bank.now nobody d.captured none
+
+      low : new_level nobody + length Ts < 2 ^ 64 - 1
+      low = let f = d.short in omega (arith, base, f)
+
+      few : new_level nobody + length Ts + length p.steps.items < 2 ^ 64 - 1
+      few = let f = d.few in omega (arith, base, f)
+
+      has : GoalsHave (IsAtLevel t) d.next (new_level nobody + length Ts) gs
+      has = subst (λ k. GoalsHave (IsAtLevel t) d.next (k + length Ts) gs) base d.has
+
+      le : suc (t.first + 0) ≤ d.next
+      le = let e = d.later in omega (arith, e)
+
+      below : AreBelow d.next h []
+      below m e = names_below 0 p r at at_r m (sym (ap (member m) (append-nil (named_before (t.first + 0) all))) ∙ e)
+
+      behind : (i : ℕ) → more_of Ts NoIndex i → length Ts ≤ i → NoIndex (i - length Ts)
+      behind i q le2 = ⊎_elim (λ l. absurd (omega (arith, l, le2))) (λ w. w.1) (more_at Ts NoIndex i q)
+
+      no_index : AllLoose NoIndex (length Ts) head
+      no_index = loose_at NoIndex (more_of Ts NoIndex) (length Ts) 0 (length Ts) head (omega arith) behind fits.2.loose
+
+      no_indices : AreThrough (AllLoose NoIndex) (length Ts) gs
+      no_indices = goals_loose h.tables.kinds t.type_vars NoIndex (length Ts) gs (goals_through h t.type_vars NoIndex (more_of Ts NoIndex) (Ts ++ [])
+          (map (λ T. false) Ts ++ []) (length Ts) gs behind fits.3)

@@ -1,0 +1,35 @@
+use Rattle.std.proofs.Common.{sym, refl, arith}
+use Rattle.lp_gen.proofs.CapturedBy.{marks_application, bound_index, free_index, under_abs, of_application, other_form}
+use Rattle.lp_gen.proofs.captured.visit_term.Goals as goal
+
+pub returns-then-index-depth-clause-marks : goal.returns-then-index-depth-clause-marks
+returns-then-index-depth-clause-marks c =
+    bound_index c.args.bank.now c.args.base c.args.levels.now.keys c.args.levels.now.keys c.args.work.now.items c.args.work.now.items c.args.term c.args.depth c.in-Index.index c.in-Index.ensures.tree
+    (omega (arith, c.if-index-depth.true))
+
+pub returns-in_ok-mark-in-Index-clause-marks : goal.returns-in_ok-mark-in-Index-clause-marks
+returns-in_ok-mark-in-Index-clause-marks c =
+    free_index c.args.bank.now c.args.base c.args.levels.now.keys c.mark.new.levels.keys c.args.work.now.items c.args.work.now.items c.args.term c.args.depth c.in-Index.index c.in-Index.ensures.tree
+    c.in_ok-mark-in-Index.ensures.old c.in_ok-mark-in-Index.ensures.new
+
+pub returns-in_ok-push-in-Abs-clause-marks : goal.returns-in_ok-push-in-Abs-clause-marks
+returns-in_ok-push-in-Abs-clause-marks c =
+    under_abs c.args.bank.now c.args.base c.args.levels.now.keys c.args.levels.now.keys c.args.work.now.items c.push.new.self.items c.args.term c.in-Abs.body c.args.depth c.in_ok-under-in-Abs.under
+    c.in-Abs.ensures.tree c.in_ok-under-in-Abs.ensures.sum c.in_ok-push-in-Abs.ensures.items
+
+pub returns-in_ok-push-in-App-2-clause-marks : goal.returns-in_ok-push-in-App-2-clause-marks
+returns-in_ok-push-in-App-2-clause-marks c =
+    of_application c.args.bank.now c.args.base c.args.levels.now.keys c.args.levels.now.keys c.args.work.now.items c.push-in-App-2.new.self.items c.args.term c.in-App.head c.in-App.args c.args.depth
+    c.push-in-App.new.self.items c.in-App.ensures.tree c.in_ok-push-in-App.ensures.items c.in_ok-push-in-App-2.ensures.items
+
+pub returns-in_ok-push-in-App-2-clause-less : goal.returns-in_ok-push-in-App-2-clause-less
+returns-in_ok-push-in-App-2-clause-less c =
+    marks_application c.args.bank.now c.args.work.now.items c.push-in-App.new.self.items c.push-in-App-2.new.self.items c.in-App.head c.args.term c.in-App.args c.args.depth
+    c.in_ok-push-in-App.ensures.items
+    c.in_ok-push-in-App-2.ensures.items c.in-App.ensures.tree c.in-App.ensures.older.2
+
+pub returns-in_default-clause-marks : goal.returns-in_default-clause-marks
+returns-in_default-clause-marks c =
+    other_form c.args.bank.now c.args.base c.args.levels.now.keys c.args.levels.now.keys c.args.work.now.items c.args.work.now.items c.args.term c.args.depth c.term_node.result
+    c.in_default.not-Index c.in_default.not-Abs
+    c.in_default.not-App c.term_node.ensures.tree

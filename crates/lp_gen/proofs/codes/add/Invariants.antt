@@ -1,7 +1,0 @@
-use Rattle.std.proofs.Common.{◌<◌, ◌^◌}
-use Rattle.std.specs.Prelude.{All, sum_by}
-use Rattle.lp_code.specs.Length.{length_of, AllFit}
-use Rattle.lp_gen.proofs.codes.add.Given as goal
-
-abbrev pub invariant-loop-part : goal.invariant-loop-part
-invariant-loop-part l = AllFit l.records.items × All (λ r. sum_by length_of r.code.items < 2 ^ 32) l.records.items

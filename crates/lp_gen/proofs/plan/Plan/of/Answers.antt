@@ -1,0 +1,47 @@
+use Rattle.std.proofs.Common.{◌≡◌, ◌∙◌, ◌++◌, ◌∷◌, [], ◌<◌, length, None, ap, sym, refl, subst, arith}
+use Rattle.std.specs.Prelude.{slice_get}
+use Rattle.std.proofs.lemmas.Option.{slice_get_read}
+use Rattle.std.proofs.lemmas.List.{length-append}
+use Rattle.lp_gen.specs.declared.plan.Part.{Part}
+use Rattle.lp_gen.specs.inner.Planning.{PlanStands}
+use Rattle.lp_gen.proofs.AssumptionPut.{no_assumption}
+use Rattle.lp_gen.proofs.PlanParts.{plan_begins, plan_grows}
+use Rattle.lp_gen.proofs.plan.Plan.of.Goals as goal
+
+pub parts-init : goal.parts-init
+parts-init c = (
+  plan_begins c.args.origin c.push.new.self.items c.new-2.result.items c.new-3.result.items
+      (c.in_ok-push.ensures.items ∙ ap (λ l. l ++ record { origin = c.args.origin; within = None; base = 0 } ∷ []) c.new.ensures.items)
+      c.new-2.ensures.items c.new-3.ensures.items,
+  λ n x at. absurd (no_assumption x (sym (ap (λ l. slice_get l n) c.new-3.ensures.items) ∙ at)),
+  (let z = ap length c.new-2.ensures.items in omega (arith, z)),
+)
+
+pub parts-preserved : goal.parts-preserved
+parts-preserved c =
+    let ps = c.parts.plan.parts.items in
+    let us = c.parts.plan.due.items in
+    let low : length ps < length us = omega (arith, c.parts-test.true) in
+    let u = c.index-due.result.now in
+    let place : c.len-at.result ≡ length ps = omega (arith, c.len-at.ensures, c.parts.plan.parts.ok) in
+    let there = slice_get_read us (length us) c.len-at.result u refl (omega (arith, low, place)) c.index-due.ensures in
+    let part : Part = record { origin = u.origin; within = u.within; base = u.base; steps = c.in_ok-steps.steps } in
+    let all = c.in_ok-push-2.ensures.items ∙ ap (λ v. v.items ++ part ∷ []) c.in_ok-steps.ensures.parts in (
+      subst (λ l. PlanStands c.args.origin c.walk.new.self.due.items l c.walk.new.self.assumptions.items) (sym all)
+          (plan_grows c.args.origin us c.walk.new.self.due.items ps c.parts.plan.assumptions.items c.walk.new.self.assumptions.items u c.in_ok-steps.steps c.parts.invariant.0
+          (ap (slice_get us) (sym place) ∙ there) low c.in_ok-steps.ensures.walked),
+      c.in_ok-steps.ensures.captured c.parts.invariant.1,
+      (let z = ap length all in let y = length-append ps (part ∷ []) in omega (arith, z, y, place, c.if-at-most.false, c.most_records-most.ensures)),
+    )
+
+pub returns-clause-planned : goal.returns-clause-planned
+returns-clause-planned c = record {
+  stands = c.parts.invariant.0;
+  all = let s = c.parts.invariant.0.some in omega (arith, s, c.parts-test.false, c.parts.plan.parts.ok, c.parts.plan.due.ok);
+}
+
+pub returns-clause-few : goal.returns-clause-few
+returns-clause-few c = c.parts.invariant.2
+
+pub returns-clause-captured : goal.returns-clause-captured
+returns-clause-captured c = c.parts.invariant.1

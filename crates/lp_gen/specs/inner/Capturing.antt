@@ -1,0 +1,71 @@
+-- Which variables around clauses stand in them.
+use Rattle.std.specs.Prelude.{◌≡◌, ℕ, suc, ◌+◌, ◌-◌, ◌*◌, ◌<◌, true, List, [], ◌∷◌, map, sum_by}
+use Rattle.lp_term.specs.Nodes.{Nodes, tree}
+use Rattle.lp_term.specs.Walk.{size}
+use Rattle.lp_term.specs.declared.node.TermId.{TermId}
+use Rattle.lp_model.specs.declared.clause.Goal as code
+use Rattle.lp_model.specs.declared.clause.Goal.TheOpen.{Goal-F}
+use Rattle.lp_model.specs.declared.clause.Clause as code_clause
+use Rattle.lp_model.specs.Flattened.{goals_of, clauses_of}
+use Rattle.lp_code.specs.States.{member}
+use Rattle.lp_gen.specs.declared.captured.Place.{Place}
+use Rattle.lp_gen.specs.declared.captured.Place.TheVariants as on
+use Rattle.lp_gen.specs.inner.Sizes.{goals_weigh}
+use Rattle.lp_gen.specs.inner.TermLaw.{AllLoose}
+use Rattle.lp_gen.specs.inner.Bodies.{AreThrough, AllThrough}
+
+-- an index of one of so many variables is that of a level among these
+abbrev pub IsAmong : (base : ℕ) → List ℕ → ℕ → Type 0
+IsAmong n ks i = i < n → member (n - i - 1) ks ≡ true
+
+-- what is still to be looked at has no others
+
+abbrev pub TermsHold : Nodes → (base : ℕ) → List ℕ → ℕ → List TermId → Type 0
+TermsHold b n ks d [] = Unit {0}
+TermsHold b n ks d (t ∷ ts) = AllLoose (IsAmong n ks) d (tree b t.0) × TermsHold b n ks d ts
+
+abbrev pub PlaceHolds : Nodes → (base : ℕ) → List ℕ → Place → Type 0
+PlaceHolds b n ks (on.Clauses cs d) = AllThrough (AllLoose (IsAmong n ks)) d (clauses_of b cs.now)
+PlaceHolds b n ks (on.Goals gs d) = AreThrough (AllLoose (IsAmong n ks)) d (goals_of b gs.now)
+PlaceHolds b n ks (on.Terms ts d) = TermsHold b n ks d ts.now
+PlaceHolds b n ks (on.Term t d) = AllLoose (IsAmong n ks) d (tree b t.0)
+
+abbrev pub PlacesHold : Nodes → (base : ℕ) → List ℕ → List Place → Type 0
+PlacesHold b n ks [] = Unit {0}
+PlacesHold b n ks (p ∷ ps) = PlaceHolds b n ks p × PlacesHold b n ks ps
+
+abbrev pub Covers : List ℕ → List ℕ → Type 0
+Covers xs ks = (k : ℕ) → member k xs ≡ true → member k ks ≡ true
+
+-- a place that is looked at
+abbrev pub Marks : Nodes → (base : ℕ) → (xs xs' : List ℕ) → (ps ps' : List Place) → Place → Type 0
+Marks b n xs xs' ps ps' p = (ks : List ℕ) → Covers xs' ks → PlacesHold b n ks ps' → Covers xs ks × PlacesHold b n ks ps × PlaceHolds b n ks p
+
+-- how much is left to look at
+
+abbrev pub goal_size_at : Nodes → Goal-F ℕ ℕ → ℕ
+goal_size_at b (Goal-F.Atom t) = 4 * size (tree b t.0)
+goal_size_at b Goal-F.Cut = 0
+goal_size_at b (Goal-F.Either l r) = goals_weigh l.items + goals_weigh r.items
+goal_size_at b (Goal-F.Some T l) = goals_weigh l.items
+goal_size_at b (Goal-F.All T l) = goals_weigh l.items
+goal_size_at b (Goal-F.Assume cs l) = goals_weigh cs.items + goals_weigh l.items
+goal_size_at b (Goal-F.Not l) = goals_weigh l.items
+
+abbrev pub clause_size_at : Nodes → code_clause.Clause-F ℕ ℕ → ℕ
+clause_size_at b c = 4 * size (tree b c.head.0) + goals_weigh c.body.items
+
+abbrev pub goal_size : Nodes → code.Goal → ℕ
+goal_size b = code.fold-Goal ℕ ℕ (goal_size_at b) (clause_size_at b)
+
+abbrev pub clause_size : Nodes → code_clause.Clause → ℕ
+clause_size b = code_clause.fold-Clause ℕ ℕ (goal_size_at b) (clause_size_at b)
+
+abbrev pub place_task : Nodes → Place → ℕ
+place_task b (on.Clauses cs d) = goals_weigh (map (clause_size b) cs.now)
+place_task b (on.Goals gs d) = goals_weigh (map (goal_size b) gs.now)
+place_task b (on.Terms ids d) = 1 + sum_by (λ t. 1 + 4 * size (tree b t.0)) ids.now
+place_task b (on.Term t d) = 4 * size (tree b t.0)
+
+abbrev pub place_work : Nodes → List Place → ℕ
+place_work b ps = sum_by (place_task b) ps
