@@ -110,6 +110,11 @@ pub mod BesideForms
 pub mod StepTaken
 pub mod LeftOut
 pub mod TermTurns
+pub mod Operations
+pub mod NormalValues
+pub mod Evaluations
+pub mod ReadExpressions
+pub mod ValuesGiven
 pub mod AtomAtHand
 pub mod TryWritten
 pub mod WrittenSearches
