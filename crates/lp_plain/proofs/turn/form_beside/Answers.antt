@@ -4,7 +4,11 @@ use Rattle.lp_plain.proofs.BesideForms.{no_form_of}
 use Rattle.lp_plain.proofs.turn.form_beside.Goals as goal
 
 pub returns-in_ok-form-in-Atomic : goal.returns-in_ok-form-in-Atomic
-returns-in_ok-form-in-Atomic c = λ e k. inl (e ∙ ap (connective_in c.args.machine.now.bank) c.in-Atomic.is, c.in_ok-form-in-Atomic.ensures)
+returns-in_ok-form-in-Atomic c = record {
+  form = λ e k. inl (e ∙ ap (connective_in c.args.machine.now.bank) c.in-Atomic.is, c.in_ok-form-in-Atomic.ensures);
+}
 
 pub returns-in_default : goal.returns-in_default
-returns-in_default c = λ e k. inr (no_form_of c.args.machine.now.bank c.args.connective _ c.in_default.not-Atomic e k, refl)
+returns-in_default c = record {
+  form = λ e k. inr (no_form_of c.args.machine.now.bank c.args.connective _ c.in_default.not-Atomic e k, refl);
+}

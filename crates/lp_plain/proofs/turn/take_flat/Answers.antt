@@ -90,7 +90,7 @@ returns-in_ok-turn-in-Atom-clause-leads g c = λ qv a raw s h at af w nc ft.
     let e = c.in_ok-atom-in-Atom.ensures in
     let at' = subst (λ f. IsAtGoal m a p f c.args.behind raw) c.in-Atom.is at in
     let w' = subst (IsWrittenFlat m qv.arity p) c.in-Atom.is w in
-    c.in_ok-turn-in-Atom.ensures qv a raw s (running_on m n e.bank qv a raw s h p at'.place)
+    c.in_ok-turn-in-Atom.ensures.leads qv a raw s (running_on m n e.bank qv a raw s h p at'.place)
     (instance_at m n e.bank p u c.in_ok-atom-in-Atom.atom e.within e.tree a c.args.behind raw h.above.done.stands at' qv.arity w')
     (subst (λ (z : Branch). HasNoCall z.goals) (sym (work_on m n e.bank qv a raw s h p at'.place)) nc) ft
 

@@ -134,4 +134,4 @@ returns-in_ok-turn-in-Goals-clause-leads g c = λ qv s h af w nc ft.
 
 pub returns-in_ok-turn-in-Term-clause-leads : goal.returns-in_ok-turn-in-Term-clause-leads
 returns-in_ok-turn-in-Term-clause-leads g c = λ qv s h af w nc ft.
-    c.in_ok-turn-in-Term.ensures qv h.around h.raw s h.running (term_at qv c.args.machine.now s h c.in-Some.number c.in_ok-frame.frame c.in-Some.is c.in_ok-frame.ensures c.in-Term.term c.in-Term.is) nc ft
+    c.in_ok-turn-in-Term.ensures.leads qv h.around h.raw s h.running (term_at qv c.args.machine.now s h c.in-Some.number c.in_ok-frame.frame c.in-Some.is c.in_ok-frame.ensures c.in-Term.term c.in-Term.is) nc ft
