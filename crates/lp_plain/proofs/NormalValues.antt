@@ -171,7 +171,7 @@ two_operands n c ts l r v e q = let w = leaf_on_arguments n (atom (constant c ts
       right = b;
       left_form = ea;
       right_form = eb;
-      parts = ap nodes i;
+      parts = (let k = ap nodes i in omega (arith, k));
       is = ap (λ y. value (eta_normal y)) i ∙ ap (λ o. if o then both c (value (eta_normal a)) (value (eta_normal b)) else Faults NotClosed) e;
       functions = λ h. subst IsNoFunction i h e;
     }
@@ -191,7 +191,7 @@ one_operand n c ts t v e q = let w = leaf_on_arguments n (atom (constant c ts)) 
     go ss (more {s = a} ea none) i = record {
       operand = a;
       form = ea;
-      parts = ap nodes i;
+      parts = (let k = ap nodes i in omega (arith, k));
       is = ap (λ y. value (eta_normal y)) i ∙ ap (λ o. if o then single c (value (eta_normal a)) else Faults NotClosed) e;
       functions = λ h. subst IsNoFunction i h e;
     }
