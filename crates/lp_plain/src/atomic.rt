@@ -151,6 +151,7 @@ fn put_others(machine: &mut Machine, call: &Call, candidate: Candidate) -> Resul
     ensures assumed { OnOk result (KeepsAssumed machine.old machine.new) }
     ensures branch { OnOk result (machine.new.branch ≡ machine.old.branch) }
     ensures frames { OnOk result (machine.new.frames ≡ machine.old.frames) }
+    ensures written { OnOk result ((ar : ℕ → ℕ) → StandsIn machine.old → IsWrittenSearch machine.old ar → IsWrittenSearch machine.new ar) }
     ensures at_try { OnOk result ((qv : Query) (a : Around) (s : State Task) → IsTrying qv machine.old a call.now candidate s → IsAtTry qv machine.new a call.now candidate (length machine.old.choices.items) s) }
 {
     let found = machine.candidate_after(call, candidate)?;
@@ -167,6 +168,7 @@ pub(crate) fn try_candidate(
     call: &Call,
     candidate: Candidate,
 ) -> Result<Turn, Memory>
+    ensures written { OnOk result ((qv : Query) (a : Around) (s : State Task) → IsTrying qv machine.old a call.now candidate s → IsWrittenSearch machine.old qv.arity → IsWrittenSearch machine.new qv.arity) }
     ensures leads { IfOk result (λ turn. (qv : Query) (a : Around) (s : State Task) → IsTrying qv machine.old a call.now candidate s → StandsWritten machine.old qv.arity → HasFreeTypes machine.new → LeadsTo 1 qv turn machine.new s) }
 {
     let mark = machine.choices.len();

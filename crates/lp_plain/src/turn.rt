@@ -240,6 +240,8 @@ pub(crate) fn go_back(machine: &mut Machine) -> Result<Turn, Memory>
     ensures moved { IfOk result (λ turn. (qv : Query) → machine.old.choices.items ≡ [] → (s : State Task) → IsBack qv machine.old s → MovesTo qv turn machine.new s) }
     ensures leads { IfOk result (λ turn. (c : Choice) (rest : List Choice) (call : Called) (one : Tried) → machine.old.choices.items ≡ rest ++ c ∷ [] → c.untried ≡ Untried.Clauses call one → base_of machine.old.denied ≤ length rest → (qv : Query) (s : State Task) → IsBack qv machine.old s →
         IsWrittenSearch machine.old qv.arity → HasFreeTypes machine.new → LeadsTo 1 qv turn machine.new s) }
+    ensures tries_written { OnOk result ((c : Choice) (rest : List Choice) (call : Called) (one : Tried) → machine.old.choices.items ≡ rest ++ c ∷ [] → c.untried ≡ Untried.Clauses call one → base_of machine.old.denied ≤ length rest → (qv : Query) (s : State Task) → IsBack qv machine.old s →
+        IsWrittenSearch machine.old qv.arity → IsWrittenSearch machine.new qv.arity) }
     ensures ends { IfOk result (λ turn. machine.old.choices.items ≡ [] → (a : Around) (s : State Task) → IsBackOf machine.old a s → EndsSo turn machine.old.counts.lost s) }
 {
     let Some(untried) = machine.take_choice()? else {

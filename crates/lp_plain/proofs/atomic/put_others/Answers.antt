@@ -1,7 +1,9 @@
 use Rattle.std.proofs.Common.{refl, subst}
 use Rattle.lp_pattern.proofs.Keeps.{goes_on_same}
+use Rattle.lp_plain.specs.declared.choice.Untried.{Untried}
 use Rattle.lp_plain.specs.Trying.{IsNext}
 use Rattle.lp_plain.proofs.Others.{alone_at, others_at}
+use Rattle.lp_plain.proofs.WrittenSearches.{search_aside}
 use Rattle.lp_plain.proofs.atomic.put_others.Goals as goal
 
 pub returns-in_default-clause-at_try : goal.returns-in_default-clause-at_try
@@ -40,3 +42,11 @@ returns-clause-frames c = c.in_ok-put_choice.ensures.frames
 
 pub returns-in_default-clause-frames : goal.returns-in_default-clause-frames
 returns-in_default-clause-frames c = refl
+
+pub returns-in_default-clause-written : goal.returns-in_default-clause-written
+returns-in_default-clause-written c = λ ar i w. w
+
+pub returns-clause-written : goal.returns-clause-written
+returns-clause-written c = λ ar i w.
+    let p = c.in_ok-put_choice.ensures in
+    search_aside c.args.machine.now c.put_choice.new.self (Untried.Clauses c.args.call.now c.in-Some.next) i p.goals p.frames p.assumed p.alternative ar w

@@ -4,6 +4,7 @@ use Rattle.lp_model.specs.Unify.{unit_limit}
 use Rattle.lp_plain.specs.Followed.{IsTryOf}
 use Rattle.lp_plain.specs.Moving.{Leads}
 use Rattle.lp_plain.proofs.Growing.{grows_kept}
+use Rattle.lp_plain.proofs.TrialsFound.{candidate_written}
 use Rattle.lp_plain.proofs.TryMoves.{goal_ready, trial_ready, try_leads}
 use Rattle.lp_plain.proofs.WrittenSearches.{same_lists}
 use Rattle.lp_plain.proofs.atomic.try_candidate.Goals as goal
@@ -24,3 +25,16 @@ returns-clause-leads c = λ qv a s h sw ft w ea go enough few P.
     subst (λ x. Leads 1 qv x n go (look unit_limit enough P) s) (sym c.turn_of.ensures)
     (try_leads qv k n a call one (length m.choices.items) s at u.grows (goal_ready qv k a call one (length m.choices.items) s at) (trial_ready qv k a call one (length m.choices.items) s at written)
     ft w ea go enough P c.in_ok-unified.unified (λ e. few (c.turn_of.ensures ∙ e)) leaves)
+
+pub returns-clause-written : goal.returns-clause-written
+returns-clause-written c = λ qv a s h w.
+    let m = c.args.machine.now in
+    let k = c.put_others.new.machine in
+    let call = c.args.call.now in
+    let one = c.args.candidate in
+    let p = c.in_ok-put_others.ensures in
+    let at = p.at_try qv a s h in
+    let wk = p.written qv.arity h.above.done.stands w in
+    let tr = trial_ready qv k a call one (length m.choices.items) s at wk.at_work in
+    c.in_ok-unified.ensures.written qv.arity tr.vars tr.head tr.values tr.around tr.trial at.above.done.stands (goal_ready qv k a call one (length m.choices.items) s at)
+    (candidate_written k qv.arity one at.tried at.tried_written) wk

@@ -139,7 +139,7 @@ returns-in_ok-turn-in-Clauses-clause-leads c = λ k rest call one e u l qv s h w
     let same : Untried.Clauses c.in-Clauses.call c.in-Clauses.candidate ≡ Untried.Clauses call one = (let z = t.0 in let y = c.in-Clauses.is in cc) in
     let sc : c.in-Clauses.call ≡ call = cc in
     let so : c.in-Clauses.candidate ≡ one = cc in
-    c.in_ok-turn.ensures.leads qv h.around s
+    c.in_ok-turn-in-Clauses.ensures.leads qv h.around s
     (subst (λ x. IsTrying qv n h.around x c.in-Clauses.candidate s) (sym sc) (subst (λ x. IsTrying qv n h.around call x s) (sym so) (o.trying qv k rest call one e u l s h)))
     (search_back c.args.machine.now n k rest e t.1 qv.arity w).at_work ft
 
@@ -172,6 +172,32 @@ returns-in_ok-turn-in-Clauses-clause-written c = λ k rest from e u ar i w.
 
 pub returns-in-Denied-clause-written : goal.returns-in-Denied-clause-written
 returns-in-Denied-clause-written c = λ k rest from e u ar i w.
+    let t = c.in_ok-untried.ensures.taken k rest e in
+    let z = t.0 in
+    let y = c.in-Denied.is in
+    absurd (cc)
+
+pub returns-in_ok-turn-in-Clauses-clause-tries_written : goal.returns-in_ok-turn-in-Clauses-clause-tries_written
+returns-in_ok-turn-in-Clauses-clause-tries_written c = λ k rest call one e u l qv s h w.
+    let n = c.take_choice.new.self in
+    let o = c.in_ok-untried.ensures in
+    let t = o.taken k rest e in
+    let same : Untried.Clauses c.in-Clauses.call c.in-Clauses.candidate ≡ Untried.Clauses call one = (let z = t.0 in let y = c.in-Clauses.is in cc) in
+    let sc : c.in-Clauses.call ≡ call = cc in
+    let so : c.in-Clauses.candidate ≡ one = cc in
+    c.in_ok-turn-in-Clauses.ensures.written qv h.around s
+    (subst (λ x. IsTrying qv n h.around x c.in-Clauses.candidate s) (sym sc) (subst (λ x. IsTrying qv n h.around call x s) (sym so) (o.trying qv k rest call one e u l s h)))
+    (search_back c.args.machine.now n k rest e t.1 qv.arity w)
+
+pub returns-in_ok-go_right-in-Goals-clause-tries_written : goal.returns-in_ok-go_right-in-Goals-clause-tries_written
+returns-in_ok-go_right-in-Goals-clause-tries_written c = λ k rest call one e u l qv s h w.
+    let t = c.in_ok-untried.ensures.taken k rest e in
+    let z = t.0 in
+    let y = c.in-Goals.is in
+    absurd (cc)
+
+pub returns-in-Denied-clause-tries_written : goal.returns-in-Denied-clause-tries_written
+returns-in-Denied-clause-tries_written c = λ k rest call one e u l qv s h w.
     let t = c.in_ok-untried.ensures.taken k rest e in
     let z = t.0 in
     let y = c.in-Denied.is in
