@@ -1,5 +1,5 @@
 -- The steps of an evaluation.
-use Rattle.std.proofs.Common.{◌≡◌, ℕ, zero, suc, ◌+◌, ◌<◌, ◌≤◌, List, [], ◌∷◌, ◌++◌, length, reverse, refl, sym, ap, ◌∙◌, subst, arith, Option, Some, None}
+use Rattle.std.proofs.Common.{◌≡◌, ℕ, zero, suc, ◌+◌, ◌<◌, ◌≤◌, List, [], ◌∷◌, ◌++◌, length, reverse, refl, sym, ap, ◌∙◌, subst, arith, true, Option, Some, None}
 use Rattle.std.specs.Prelude.{IsSome}
 use Rattle.lp_lemmas.proofs.Lists.{reverse_pushed}
 use Rattle.lp_calculus.specs.Convert.{steps}

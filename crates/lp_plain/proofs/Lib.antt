@@ -94,6 +94,7 @@ pub mod HeadFills
 pub mod ResumedUnder
 pub mod TryMoves
 pub mod RunMoves
+pub mod TaskMoves
 pub mod EqualMoves
 pub mod KnownForms
 pub mod ClosedForms
@@ -115,6 +116,8 @@ pub mod NormalValues
 pub mod Evaluations
 pub mod ReadExpressions
 pub mod ValuesGiven
+pub mod GoingBank
+pub mod ArithmeticMoves
 pub mod AtomAtHand
 pub mod TryWritten
 pub mod WrittenSearches

@@ -140,7 +140,7 @@ module _ (b : Nodes) (s : Bindings) (z : Closing) (r : IsReading b s z) where
   leaf_other h us l f e n v q =
       let k = leaf_closed h l (leaf_ended s us h l e) in
       let w = leaf_on_arguments n (closed z h) (map (closed z) us) v k.0 (ap (beta_normal n) (sym (closed_apply z us h)) ∙ q) in
-      let count : length (map eta_normal w.0) ≡ length us = length-map eta_normal w.0 ∙ forms_count w.2 ∙ length-map (closed z) us in
+      let count : length (map eta_normal w.0) ≡ length us = length-map w.0 eta_normal ∙ forms_count w.2 ∙ length-map us (closed z) in
       ap (λ y. value (eta_normal y)) w.1 ∙ ap value (eta_apply w.0 (closed z h) ∙ ap (λ y. apply y (map eta_normal w.0)) (eta_leaf (closed z h) k.0)) ∙
       unfit_value (closed z h) (map eta_normal w.0) k.0 (ap (fits (closed z h)) count ∙ k.1 (length us) ∙ f)
 
