@@ -19,6 +19,7 @@ use Rattle.lp_model.specs.declared.ending.Fault.TheVariants.{NotClosed}
 use Rattle.lp_pattern.specs.Seen.{IsEnded}
 use Rattle.lp_pattern.specs.Turning.{IsOpenReading}
 use Rattle.lp_pattern.proofs.BetaForms.{beta_behind, leaf_form}
+use Rattle.lp_pattern.proofs.Walking.{open_kept}
 use Rattle.lp_plain.specs.declared.arithmetic.Expression.{Expression}
 use Rattle.lp_plain.specs.declared.arithmetic.Expression.TheVariants as expression
 use Rattle.lp_plain.specs.declared.arithmetic.Outcome.{Outcome}
@@ -28,10 +29,16 @@ use Rattle.lp_plain.specs.declared.arithmetic.Task.TheVariants as task
 use Rattle.lp_plain.specs.declared.arithmetic.Value.{Value}
 use Rattle.lp_plain.specs.declared.arithmetic.Value.TheVariants as kept
 use Rattle.lp_plain.specs.declared.machine.Machine.{Machine}
-use Rattle.lp_plain.specs.Evaluated.{GivesValue, IsNoFunction, IsValueIn}
+use Rattle.lp_plain.specs.Evaluated.{EvaluatesTo, GivesValue, IsNoFunction, IsValueIn}
 use Rattle.lp_plain.specs.HeadLooks.{LooksAt, OnlyBank}
-use Rattle.lp_plain.specs.inner.Evaluating.{After, AreValuesIn, Comes, IsEnd, IsExpression, IsKept, IsPut, StandsExpression, TakesTask, cost_of}
+use Rattle.lp_plain.specs.inner.Evaluating.{After, AreValuesIn, Comes, IsCounted, IsEnd, IsExpression, IsKept, IsOnWay, IsPut, StandsExpression, TakesTask}
 use Rattle.lp_plain.proofs.NormalValues.{HasOperand, HasOperands, one_operand, other_value, two_operands, weak_long}
+
+some_nodes : (t : Term) → 1 ≤ nodes t
+some_nodes (index i) = omega arith
+some_nodes (atom a) = omega arith
+some_nodes (abs b) = let l = some_nodes b in omega (arith, l)
+some_nodes (app t u) = let l = some_nodes t in omega (arith, l)
 
 -- in a bank that has grown
 pub value_later : (b d : Nodes) → Extends b d → (v : Value) (m : model.Value) → IsValueIn b v m → IsValueIn d v m
@@ -247,3 +254,72 @@ module _ (m q : Machine) (ob : OnlyBank m q) (c : Constant) (o : Outcome) (end :
       go : (ms : List model.Value) → AreValuesIn m.bank (value ∷ reverse ys) ms → Comes m.bank z n (task.One c ∷ reverse ts) ms r k → After q.bank z n 0 end (reverse ts) (reverse ws) r k
       go [] av h = absurd h
       go (a ∷ ms) av h = value_taken (unary (number c) a) (g a av.0) z n (reverse ts) ys ws ms r k av.1 kp h
+
+-- the reading of before
+pub reading_later : (m q : Machine) → OnlyBank m q → (z : Closing) → IsOpenReading m.bank m.bindings m.branch.next z → IsOpenReading q.bank q.bindings q.branch.next z
+reading_later m q b z y =
+    subst (λ x. IsOpenReading q.bank q.bindings x z) (sym (ap (λ x. x.branch.next) b.same))
+    (subst (λ x. IsOpenReading q.bank x m.branch.next z) (sym (ap (λ x. x.bindings) b.same)) (open_kept m.bank q.bank m.bindings m.branch.next z b.bank y))
+
+-- the term itself
+root_value : (b : Nodes) (z : Closing) (n : ℕ) (o : model.Outcome) → elim o as (λ x. Type 0) [ Is m ↦ Comes b z n [] (m ∷ []) o 0 | Faults f ↦ o ≡ Faults f ]
+root_value b z n (Is m) = (m, refl, refl)
+root_value b z n (Faults f) = refl
+
+pub on_way : (m : Machine) (t : TermId) (ts : List Task) (vs : List Value) → ts ≡ task.Visit t ∷ [] → vs ≡ [] → IsOnWay m m t ts vs 0
+on_way m t ts vs et ev l z y n s e f = (
+  [],
+  nodes s,
+  subst (λ x. AreValuesIn m.bank (reverse x) []) (sym ev) tt,
+  omega arith,
+  subst (λ x. Comes m.bank z n (reverse x) [] (model.value (eta_normal s)) (nodes s)) (sym et) (s, 0, l, e, f, omega arith, root_value m.bank z n (model.value (eta_normal s))),
+)
+
+module _ (m q : Machine) (ob : OnlyBank m q) (t : TermId) (all ts : List Task) (vs : List Value) (i : ℕ) (x : Task) (top : all ≡ ts ++ x ∷ []) (way : IsOnWay m q t all vs i) where
+  -- a task more was taken
+  pub way_on : (r : Machine) (us : List Task) (ws : List Value) (k : ℕ) → IsCounted x i (Some k) → TakesTask q r None x ts us vs ws → IsOnWay m r t us ws k
+  way_on r us ws k c g l z y n s e f =
+      let w = way l z y n s e f in
+      let a = g z (reading_later m q ob z y) n w.0 (model.value (eta_normal s)) w.1 w.2 (subst (λ l. Comes q.bank z n l w.0 (model.value (eta_normal s)) w.1) (reverse_pushed all ts x top) w.4) in
+      let p = w.3 in
+      let o = a.3 in
+      (a.0, a.1, a.2, omega (arith, c, p, o), a.4)
+
+  -- the evaluation ends
+  pub way_ends : (r : Machine) (us : List Task) (ws : List Value) (o : Outcome) → TakesTask q r (Some o) x ts us vs ws → t.0 < length m.bank.terms → (z : Closing) → IsOpenReading m.bank m.bindings m.branch.next z → EvaluatesTo r.bank o (closed z (tree m.bank t.0))
+  way_ends r us ws o g l z y = go o g
+    where
+      at : (o : Outcome) → TakesTask q r (Some o) x ts us vs ws → (n : ℕ) (s : Term) → beta_normal n (closed z (tree m.bank t.0)) ≡ Some s → IsNoFunction s → IsEnd o (model.value (eta_normal s)) n
+      at o g n s e f =
+          let w = way l z y n s e f in
+          g z (reading_later m q ob z y) n w.0 (model.value (eta_normal s)) w.1 w.2 (subst (λ l. Comes q.bank z n l w.0 (model.value (eta_normal s)) w.1) (reverse_pushed all ts x top) w.4)
+
+      go : (o : Outcome) → TakesTask q r (Some o) x ts us vs ws → EvaluatesTo r.bank o (closed z (tree m.bank t.0))
+      go (code.Is v) g n s e f = absurd (at (code.Is v) g n s e f)
+      go (code.Faults i) g n s e f = at (code.Faults i) g n s e f
+      go code.Deep g n s e f j k = at code.Deep g n s e f j
+
+  -- too many parts
+  pub way_deep : IsCounted x i None → t.0 < length m.bank.terms → (z : Closing) → IsOpenReading m.bank m.bindings m.branch.next z → EvaluatesTo q.bank code.Deep (closed z (tree m.bank t.0))
+  way_deep c l z y n s e f j k =
+      let w = way l z y n s e f in
+      let h = subst (λ l. Comes q.bank z n l w.0 (model.value (eta_normal s)) w.1) (reverse_pushed all ts x top) w.4 in
+      by x c h w.3
+    where
+      by : (x : Task) → IsCounted x i None → {ms : List model.Value} {d : ℕ} → Comes q.bank z n (x ∷ reverse ts) ms (model.value (eta_normal s)) d → i + d ≤ nodes s → ⊥
+      by (task.Visit u) c h p =
+          let a = h.5 in
+          let b = some_nodes h.0 in
+          let g = c.1 in
+          omega (arith, a, b, g, p, k)
+      by (task.Two u) c h p = let g = c.0 in omega (arith, g)
+      by (task.One u) c h p = let g = c.0 in omega (arith, g)
+
+-- no task is left
+pub way_done : (m q : Machine) (t : TermId) (ts : List Task) (vs us : List Value) (i : ℕ) (v : Value) → ts ≡ [] → vs ≡ us ++ v ∷ [] → IsOnWay m q t ts vs i → t.0 < length m.bank.terms → (z : Closing) → IsOpenReading m.bank m.bindings m.branch.next z →
+    EvaluatesTo q.bank (code.Is v) (closed z (tree m.bank t.0))
+way_done m q t ts vs us i v et ev way l z y n s e f =
+    let w = way l z y n s e f in
+    let h = subst (λ x. Comes q.bank z n (reverse x) w.0 (model.value (eta_normal s)) w.1) et w.4 in
+    let a = subst (λ x. AreValuesIn q.bank x w.0) (reverse_pushed vs us v ev) w.2 in
+    (h.0, h.2, (subst (AreValuesIn q.bank (v ∷ reverse us)) h.1 a).0)

@@ -108,6 +108,7 @@ pub mod AtomMoves
 pub mod AtomTurns
 pub mod LookedOn
 pub mod BesideForms
+pub mod FormStands
 pub mod StepTaken
 pub mod LeftOut
 pub mod TermTurns
@@ -118,6 +119,7 @@ pub mod ReadExpressions
 pub mod ValuesGiven
 pub mod GoingBank
 pub mod ArithmeticMoves
+pub mod ArithmeticTurns
 pub mod AtomAtHand
 pub mod TryWritten
 pub mod WrittenSearches

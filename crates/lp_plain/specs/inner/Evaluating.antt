@@ -138,3 +138,9 @@ abbrev pub TakesTask : (old new : Machine) → Option Outcome → Task → (task
 TakesTask m q o t ts us vs ws =
     (z : Closing) → IsOpenReading m.bank m.bindings m.branch.next z → (n : ℕ) (ms : List model.Value) (r : model.Outcome) (k : ℕ) → AreValuesIn m.bank (reverse vs) ms → Comes m.bank z n (t ∷ reverse ts) ms r k →
     After q.bank z n (cost_of t) o (reverse us) (reverse ws) r k
+
+-- the evaluation is on its way: from the tasks and values that there are it comes to the value of the term's normal form
+abbrev pub IsOnWay : (old new : Machine) → TermId → List Task → List Value → (visited : ℕ) → Type 0
+IsOnWay m q t ts vs i =
+    t.0 < length m.bank.terms → (z : Closing) → IsOpenReading m.bank m.bindings m.branch.next z → (n : ℕ) (s : Term) → beta_normal n (closed z (tree m.bank t.0)) ≡ Some s → IsNoFunction s →
+    (ms : List model.Value) × (k : ℕ) × AreValuesIn q.bank (reverse vs) ms × (i + k ≤ nodes s) × Comes q.bank z n (reverse ts) ms (model.value (eta_normal s)) k
