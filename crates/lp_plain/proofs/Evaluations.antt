@@ -295,25 +295,25 @@ module _ (m q : Machine) (ob : OnlyBank m q) (t : TermId) (all ts : List Task) (
           g z (reading_later m q ob z y) n w.0 (model.value (eta_normal s)) w.1 w.2 (subst (λ l. Comes q.bank z n l w.0 (model.value (eta_normal s)) w.1) (reverse_pushed all ts x top) w.4)
 
       go : (o : Outcome) → TakesTask q r (Some o) x ts us vs ws → EvaluatesTo r.bank o (closed z (tree m.bank t.0))
-      go (code.Is v) g n s e f = absurd (at (code.Is v) g n s e f)
-      go (code.Faults i) g n s e f = at (code.Faults i) g n s e f
-      go code.Deep g n s e f j k = at code.Deep g n s e f j
+      go (code.Is v) g = λ n s e f. absurd (at (code.Is v) g n s e f)
+      go (code.Faults i) g = λ n s e f. at (code.Faults i) g n s e f
+      go code.Deep g = λ n s e f j k. at code.Deep g n s e f j
 
   -- too many parts
   pub way_deep : IsCounted x i None → t.0 < length m.bank.terms → (z : Closing) → IsOpenReading m.bank m.bindings m.branch.next z → EvaluatesTo q.bank code.Deep (closed z (tree m.bank t.0))
   way_deep c l z y n s e f j k =
       let w = way l z y n s e f in
       let h = subst (λ l. Comes q.bank z n l w.0 (model.value (eta_normal s)) w.1) (reverse_pushed all ts x top) w.4 in
-      by x c h w.3
+      by x c w.0 w.1 h w.3
     where
-      by : (x : Task) → IsCounted x i None → {ms : List model.Value} {d : ℕ} → Comes q.bank z n (x ∷ reverse ts) ms (model.value (eta_normal s)) d → i + d ≤ nodes s → ⊥
-      by (task.Visit u) c h p =
+      by : (x : Task) → IsCounted x i None → (ms : List model.Value) (d : ℕ) → Comes q.bank z n (x ∷ reverse ts) ms (model.value (eta_normal s)) d → i + d ≤ nodes s → ⊥
+      by (task.Visit u) c ms d h p =
           let a = h.5 in
           let b = some_nodes h.0 in
           let g = c.1 in
           omega (arith, a, b, g, p, k)
-      by (task.Two u) c h p = let g = c.0 in omega (arith, g)
-      by (task.One u) c h p = let g = c.0 in omega (arith, g)
+      by (task.Two u) c ms d h p = let g = c.0 in omega (arith, g)
+      by (task.One u) c ms d h p = let g = c.0 in omega (arith, g)
 
 -- no task is left
 pub way_done : (m q : Machine) (t : TermId) (ts : List Task) (vs us : List Value) (i : ℕ) (v : Value) → ts ≡ [] → vs ≡ us ++ v ∷ [] → IsOnWay m q t ts vs i → t.0 < length m.bank.terms → (z : Closing) → IsOpenReading m.bank m.bindings m.branch.next z →

@@ -37,8 +37,8 @@ by_stands n c (a ∷ b ∷ d ∷ ids) h = call_stands n c a (All-head (λ (t : T
 pub constant_stands : (n c : ℕ) (ids js : List TermId) (f : Form) → js ≡ ids → f ≡ by_constant c js → All (λ (t : TermId). t.0 < n) ids → StandsForm n f
 constant_stands n c ids js f q s h = subst (StandsForm n) (sym (s ∙ ap (by_constant c) q)) (by_stands n c ids h)
 
-pub eigen_stands : (n : ℕ) {k : ℕ} (ids js : List TermId) (o : Option TermId) → js ≡ ids → o ≡ slice_get js 0 → All (λ (t : TermId). t.0 < n) ids → StandsForm n (form.Call (head.Eigen k) o)
-eigen_stands n ids js o q s h u e = go ids h (sym (s ∙ ap (λ l. slice_get l 0) q) ∙ e)
+pub eigen_stands : (n k : ℕ) (ids js : List TermId) (o : Option TermId) → js ≡ ids → o ≡ slice_get js 0 → All (λ (t : TermId). t.0 < n) ids → StandsForm n (form.Call (head.Eigen k) o)
+eigen_stands n k ids js o q s h u e = go ids h (sym (s ∙ ap (λ l. slice_get l 0) q) ∙ e)
   where
     go : (ids : List TermId) → All (λ (t : TermId). t.0 < n) ids → slice_get ids 0 ≡ Some u → u.0 < n
     go [] h e = absurd (cc)

@@ -36,4 +36,4 @@ pub returns-in-Const-clause-stands : goal.returns-in-Const-clause-stands
 returns-in-Const-clause-stands c = constant_stands _ c.in-Const.number c.in_ok-head.field-0.args.items c.as_slice.result.now c.of_constant.result c.as_slice.ensures.value c.of_constant.ensures c.in_ok-head.ensures.args
 
 pub returns-in-Eigen-clause-stands : goal.returns-in-Eigen-clause-stands
-returns-in-Eigen-clause-stands c = eigen_stands _ c.in_ok-head.field-0.args.items c.deref.result.now c.copied.result c.deref.ensures.value (c.copied.ensures ∙ c.first.ensures.value) c.in_ok-head.ensures.args
+returns-in-Eigen-clause-stands c = eigen_stands _ c.in-Eigen.level c.in_ok-head.field-0.args.items c.deref.result.now c.copied.result c.deref.ensures.value (c.copied.ensures ∙ c.first.ensures.value) c.in_ok-head.ensures.args
