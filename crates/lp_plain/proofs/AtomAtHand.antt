@@ -62,7 +62,7 @@ whole_scope s o vs h =
 -- an atom of the table, under its values
 module _ (m n : Machine) (b : OnlyBank m n) (p : Place) (u id : TermId) (within : id.0 < length n.bank.terms)
     (made : (nb nv : ℕ) → (vs : List TermId) → IsScope m.scopes nb nv p.values.scope vs → AreValues m.bank vs → (ar : ℕ → ℕ) → (k : ℕ) → IsWritten ar k (length vs) (tree m.bank u.0) →
-        tree n.bank id.0 ≡ instantiate (values_of m.bank vs) (instance_term (renewing p.values.types) (tree m.bank u.0)))
+    tree n.bank id.0 ≡ instantiate (values_of m.bank vs) (instance_term (renewing p.values.types) (tree m.bank u.0)))
     (a : Around) (o : Option ℕ) (raw : Branch) (st : StandsIn m) (at : IsAtGoal m a p (Flat.Atom u) o raw) (ar : ℕ → ℕ) (w : IsWrittenFlat m ar p (Flat.Atom u)) where
   written : IsWritten ar w.type_vars (length w.values) (tree m.bank u.0)
   written = atom_written m.bank (shown m.table) ar w.type_vars (length w.values) u refl w.have.many w.is
