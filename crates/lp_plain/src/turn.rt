@@ -98,16 +98,8 @@ fn is_apart(connective: Connective) -> bool
 }
 
 // The form of a goal that is not taken apart.
-<<<<<<< HEAD
-fn form_beside(
-    machine: &Machine,
-    goal: TermId,
-    connective: Connective,
-) -> Result<Form, Memory>
-    ensures stands { IfOk result (StandsForm (length machine.now.bank.terms)) }
-=======
 fn form_beside(machine: &Machine, goal: TermId, connective: Connective) -> Result<Form, Memory>
->>>>>>> next
+    ensures stands { IfOk result (StandsForm (length machine.now.bank.terms)) }
     ensures form { IfOk result (λ form. connective_of (tree machine.now.bank goal.0) ≡ connective_in machine.now.bank connective → IsAtomOrNoForm (connective_in machine.now.bank connective) → IsAtomForm machine.now.bank (tree machine.now.bank goal.0) form) }
 {
     match connective {
