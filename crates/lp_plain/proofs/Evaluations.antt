@@ -24,6 +24,8 @@ use Rattle.lp_plain.specs.declared.arithmetic.Expression.{Expression}
 use Rattle.lp_plain.specs.declared.arithmetic.Expression.TheVariants as expression
 use Rattle.lp_plain.specs.declared.arithmetic.Outcome.{Outcome}
 use Rattle.lp_plain.specs.declared.arithmetic.Outcome.TheVariants as code
+use Rattle.lp_plain.specs.declared.arithmetic.Step.{Step}
+use Rattle.lp_plain.specs.declared.arithmetic.Step.TheVariants as step
 use Rattle.lp_plain.specs.declared.arithmetic.Task.{Task}
 use Rattle.lp_plain.specs.declared.arithmetic.Task.TheVariants as task
 use Rattle.lp_plain.specs.declared.arithmetic.Value.{Value}
@@ -31,7 +33,7 @@ use Rattle.lp_plain.specs.declared.arithmetic.Value.TheVariants as kept
 use Rattle.lp_plain.specs.declared.machine.Machine.{Machine}
 use Rattle.lp_plain.specs.Evaluated.{EvaluatesTo, GivesValue, IsNoFunction, IsValueIn}
 use Rattle.lp_plain.specs.HeadLooks.{LooksAt, OnlyBank}
-use Rattle.lp_plain.specs.inner.Evaluating.{After, AreValuesIn, Comes, IsCounted, IsEnd, IsExpression, IsKept, IsOnWay, IsPut, StandsExpression, TakesTask}
+use Rattle.lp_plain.specs.inner.Evaluating.{After, AreValuesIn, Comes, GoesFrom, IsCounted, IsEnd, IsExpression, IsKept, IsLast, IsOnWay, IsPut, IsStep, IsStepOn, StandsExpression, TakesTask}
 use Rattle.lp_plain.proofs.NormalValues.{HasOperand, HasOperands, one_operand, other_value, two_operands, weak_long}
 
 some_nodes : (t : Term) → 1 ≤ nodes t
@@ -323,3 +325,14 @@ way_done m q t ts vs us i v et ev way l z y n s e f =
     let h = subst (λ x. Comes q.bank z n (reverse x) w.0 (model.value (eta_normal s)) w.1) et w.4 in
     let a = subst (λ x. AreValuesIn q.bank x w.0) (reverse_pushed vs us v ev) w.2 in
     (h.0, h.2, (subst (AreValuesIn q.bank (v ∷ reverse us)) h.1 a).0)
+
+-- a step, by what a task came to
+pub step_taken : (q r : Machine) (x : Task) (ts us : List Task) (vs ws : List Value) (i k : ℕ) (end : Option Outcome) (s : Step) → IsStep end k s → IsCounted x i (Some k) → TakesTask q r end x ts us vs ws → GoesFrom q r x ts us vs ws i s
+step_taken q r x ts us vs ws i k None s e c g m t all top ob way = subst (λ s. IsStepOn s m r t us ws) (sym e) (way_on m q ob t all ts vs i x top way r us ws k c g)
+step_taken q r x ts us vs ws i k (Some o) s e c g m t all top ob way = subst (λ s. IsStepOn s m r t us ws) (sym e) (way_ends m q ob t all ts vs i x top way r us ws o g)
+
+pub deep_step : (q : Machine) (x : Task) (ts us : List Task) (vs ws : List Value) (i : ℕ) → IsCounted x i None → GoesFrom q q x ts us vs ws i (step.End code.Deep)
+deep_step q x ts us vs ws i c m t all top ob way = way_deep m q ob t all ts vs i x top way c
+
+pub last_step : (m q : Machine) (t : TermId) (ts us : List Task) (vs ws : List Value) (i : ℕ) (o : Outcome) → ts ≡ [] → IsLast vs o → IsOnWay m q t ts vs i → IsStepOn (step.End o) m q t us ws
+last_step m q t ts us vs ws i o e l way = subst (λ o. IsStepOn (step.End o) m q t us ws) (sym l.3) (way_done m q t ts vs l.1 i l.0 e l.2 way)

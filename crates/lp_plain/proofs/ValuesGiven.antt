@@ -1,49 +1,77 @@
 -- What an operation gives on values, by what it gives on numbers and texts.
-use Rattle.std.proofs.Common.{◌≡◌, ℕ, List, [], ◌++◌, refl, sym, ap, ◌∙◌, subst, Ok, Err}
+use Rattle.std.proofs.Common.{◌≡◌, ◌<◌, ℕ, List, ◌++◌, length, refl, sym, ap, ◌∙◌, subst, Ok, Err}
 use Rattle.std.specs.Prelude.{ℤ, Result}
-use Rattle.lp_calculus.specs.Term.{atom, text}
-use Rattle.lp_term.specs.Nodes.{Nodes, tree}
+use Rattle.lp_calculus.specs.Term.{Term, Atom, atom, text}
+use Rattle.lp_standard.specs.Constants.{number}
+use Rattle.lp_standard.specs.declared.constant.Constant.{Constant}
+use Rattle.lp_standard.specs.declared.constant.Constant.TheVariants as fixed
+use Rattle.lp_term.specs.Node.{TermBelow}
+use Rattle.lp_term.specs.Nodes.{Nodes, node_tree, tree}
+use Rattle.lp_term.specs.Shapes.{term_shape}
 use Rattle.lp_term.specs.declared.node.TermId.{TermId}
+use Rattle.lp_term.specs.declared.node.TermNode.{TermNode}
 use Rattle.lp_model.specs.Values as model
 use Rattle.lp_model.specs.Values.{Bytes, Faults, Is, Number, binary, unary}
 use Rattle.lp_model.specs.declared.ending.Fault.{Fault}
 use Rattle.lp_model.specs.declared.ending.Fault.TheVariants.{NotClosed}
+use Rattle.lp_pattern.proofs.Names.{kind, kind_of, node_kind}
 use Rattle.lp_plain.specs.declared.arithmetic.Outcome.{Outcome}
 use Rattle.lp_plain.specs.declared.arithmetic.Outcome.TheVariants as code
 use Rattle.lp_plain.specs.declared.arithmetic.Value.{Value}
 use Rattle.lp_plain.specs.declared.arithmetic.Value.TheVariants as kept
 use Rattle.lp_plain.specs.Evaluated.{GivesNumber, GivesValue, IsValueIn}
 
--- values that are these
-module _ (b d : Nodes) (c : ℕ) (o : Outcome) (v w : Value) (x y : model.Value) (i : IsValueIn b v x) (j : IsValueIn b w y) where
-  pub two_numbers : (p q : ℤ) → v ≡ kept.Number p → w ≡ kept.Number q → GivesValue d o (binary c (Number p) (Number q)) → GivesValue d o (binary c x y)
-  two_numbers p q e f g =
-      let ex : x ≡ Number p = subst (λ u. IsValueIn b u x) e i in
-      let ey : y ≡ Number q = subst (λ u. IsValueIn b u y) f j in
-      subst (λ u. GivesValue d o (binary c u y)) (sym ex) (subst (λ u. GivesValue d o (binary c (Number p) u)) (sym ey) g)
+-- a number, read again from its bits, and a fault
+pub number_given : (r : Result ℤ Fault) (v w : ℤ) → r ≡ Ok v → w ≡ v → (b : Nodes) (o : model.Outcome) → GivesNumber r o → GivesValue b (code.Is (kept.Number w)) o
+number_given r v w e q b o h = (Number w, subst (λ x. GivesNumber x o) e h ∙ ap (λ x. Is (Number x)) (sym q), refl)
 
-  pub two_texts : (s t : TermId) → v ≡ kept.Text s → w ≡ kept.Text t → ((p q : List ℕ) → tree b s.0 ≡ atom (text p) → tree b t.0 ≡ atom (text q) → GivesValue d o (binary c (Bytes p) (Bytes q))) → GivesValue d o (binary c x y)
-  two_texts s t e f g =
-      let ex = subst (λ u. IsValueIn b u x) e i in
-      let ey = subst (λ u. IsValueIn b u y) f j in
-      subst (λ u. GivesValue d o (binary c u y)) (sym ex.1) (subst (λ u. GivesValue d o (binary c (Bytes ex.0) u)) (sym ey.1) (g ex.0 ey.0 ex.2 ey.2))
+pub fault_given : (r : Result ℤ Fault) (f : Fault) → r ≡ Err f → (b : Nodes) (o : model.Outcome) → GivesNumber r o → GivesValue b (code.Faults f) o
+fault_given r f e b o h = subst (λ x. GivesNumber x o) e h
 
-  pub number_text : (p : ℤ) (t : TermId) → v ≡ kept.Number p → w ≡ kept.Text t → binary c x y ≡ Faults NotClosed
-  number_text p t e f =
-      let ex : x ≡ Number p = subst (λ u. IsValueIn b u x) e i in
-      let ey = subst (λ u. IsValueIn b u y) f j in
-      ap (λ u. binary c u y) ex ∙ ap (binary c (Number p)) ey.1
+-- two numbers
+pub two_numbers : (d : Nodes) (c : ℕ) (o : Outcome) (r : Result ℤ Fault) (p q v w : ℤ) → v ≡ p → w ≡ q → ((b : Nodes) (x : model.Outcome) → GivesNumber r x → GivesValue b o x) → GivesNumber r (binary c (Number v) (Number w)) →
+    (right : Value) → right ≡ kept.Number q → (y : model.Value) → IsValueIn d right y → GivesValue d o (binary c (Number p) y)
+two_numbers d c o r p q v w ep eq f g right e y i =
+    let ey : y ≡ Number q = subst (λ u. IsValueIn d u y) e i in
+    subst (λ u. GivesValue d o (binary c (Number p) u)) (sym ey)
+    (f d (binary c (Number p) (Number q)) (subst (λ u. GivesNumber r (binary c (Number u) (Number q))) ep (subst (λ u. GivesNumber r (binary c (Number v) (Number u))) eq g)))
 
-  pub text_number : (s : TermId) (q : ℤ) → v ≡ kept.Text s → w ≡ kept.Number q → binary c x y ≡ Faults NotClosed
-  text_number s q e f =
-      let ex = subst (λ u. IsValueIn b u x) e i in
-      let ey : y ≡ Number q = subst (λ u. IsValueIn b u y) f j in
-      ap (λ u. binary c u y) ex.1 ∙ ap (binary c (Bytes ex.0)) ey
+pub number_text : (d : Nodes) (c : ℕ) (p : ℤ) (t : TermId) (right : Value) → right ≡ kept.Text t → (y : model.Value) → IsValueIn d right y → binary c (Number p) y ≡ Faults NotClosed
+number_text d c p t right e y i = let ey = subst (λ u. IsValueIn d u y) e i in ap (binary c (Number p)) ey.1
+
+pub text_number : (d : Nodes) (c : ℕ) (s : List ℕ) (q : ℤ) (right : Value) → right ≡ kept.Number q → (y : model.Value) → IsValueIn d right y → binary c (Bytes s) y ≡ Faults NotClosed
+text_number d c s q right e y i = let ey : y ≡ Number q = subst (λ u. IsValueIn d u y) e i in ap (binary c (Bytes s)) ey
+
+pub two_texts : (b d : Nodes) (c : ℕ) (o : Outcome) (s : List ℕ) (t : TermId) (right : Value) → right ≡ kept.Text t → ((q : List ℕ) → tree b t.0 ≡ atom (text q) → GivesValue d o (binary c (Bytes s) (Bytes q))) → (y : model.Value) → IsValueIn b right y → GivesValue d o (binary c (Bytes s) y)
+two_texts b d c o s t right e g y i = let ey = subst (λ u. IsValueIn b u y) e i in subst (λ u. GivesValue d o (binary c (Bytes s) u)) (sym ey.1) (g ey.0 ey.2)
+
+-- a value in front
+pub number_first : (b d : Nodes) (c : ℕ) (o : Outcome) (p v : ℤ) → v ≡ p → (left : Value) → left ≡ kept.Number p → (x y : model.Value) → IsValueIn b left x → GivesValue d o (binary c (Number v) y) → GivesValue d o (binary c x y)
+number_first b d c o p v q left e x y i g =
+    let ex : x ≡ Number p = subst (λ u. IsValueIn b u x) e i in
+    subst (λ u. GivesValue d o (binary c u y)) (sym ex) (subst (λ u. GivesValue d o (binary c (Number u) y)) q g)
+
+pub text_first : (b d : Nodes) (c : ℕ) (o : Outcome) (t : TermId) (left : Value) → left ≡ kept.Text t → (x y : model.Value) → IsValueIn b left x → ((s : List ℕ) → tree b t.0 ≡ atom (text s) → GivesValue d o (binary c (Bytes s) y)) → GivesValue d o (binary c x y)
+text_first b d c o t left e x y i g = let ex = subst (λ u. IsValueIn b u x) e i in subst (λ u. GivesValue d o (binary c u y)) (sym ex.1) (g ex.0 ex.2)
 
 -- one value
-module _ (b : Nodes) (c : ℕ) (o : Outcome) (v : Value) (x : model.Value) (i : IsValueIn b v x) where
-  pub one_number : (p : ℤ) → v ≡ kept.Number p → GivesValue b o (unary c (Number p)) → GivesValue b o (unary c x)
-  one_number p e g = let ex : x ≡ Number p = subst (λ u. IsValueIn b u x) e i in subst (λ u. GivesValue b o (unary c u)) (sym ex) g
+pub one_number : (b : Nodes) (c : ℕ) (o : Outcome) (r : Result ℤ Fault) (p v : ℤ) → v ≡ p → ((b : Nodes) (x : model.Outcome) → GivesNumber r x → GivesValue b o x) → GivesNumber r (unary c (Number v)) → (value : Value) → value ≡ kept.Number p →
+    (x : model.Value) → IsValueIn b value x → GivesValue b o (unary c x)
+one_number b c o r p v q f g value e x i =
+    let ex : x ≡ Number p = subst (λ u. IsValueIn b u x) e i in
+    subst (λ u. GivesValue b o (unary c u)) (sym ex) (f b (unary c (Number p)) (subst (λ u. GivesNumber r (unary c (Number u))) q g))
 
-  pub one_text : (s : TermId) → v ≡ kept.Text s → ((p : List ℕ) → tree b s.0 ≡ atom (text p) → GivesValue b o (unary c (Bytes p))) → GivesValue b o (unary c x)
-  one_text s e g = let ex = subst (λ u. IsValueIn b u x) e i in subst (λ u. GivesValue b o (unary c u)) (sym ex.1) (g ex.0 ex.2)
+pub one_text : (b : Nodes) (c : ℕ) (o : Outcome) (t : TermId) (value : Value) → value ≡ kept.Text t → ((s : List ℕ) → tree b t.0 ≡ atom (text s) → GivesValue b o (unary c (Bytes s))) → (x : model.Value) → IsValueIn b value x → GivesValue b o (unary c x)
+one_text b c o t value e g x i = let ex = subst (λ u. IsValueIn b u x) e i in subst (λ u. GivesValue b o (unary c u)) (sym ex.1) (g ex.0 ex.2)
+
+-- a text is its bytes
+pub same_text : (s t : List ℕ) (u : Term) → atom (text s) ≡ u → u ≡ atom (text t) → t ≡ s
+same_text s t u e q = let z : atom (text s) ≡ atom (text t) = e ∙ q in cc
+
+-- two texts joined
+pub texts_joined : (d : Nodes) (c : Constant) (id : TermId) (s t : List ℕ) → c ≡ fixed.Concatenate → tree d id.0 ≡ atom (text (s ++ t)) → id.0 < length d.terms → GivesValue d (code.Is (kept.Text id)) (binary (number c) (Bytes s) (Bytes t))
+texts_joined d c id s t e q l = (Bytes (s ++ t), ap (λ k. binary (number k) (Bytes s) (Bytes t)) e, (s ++ t, refl, q, l))
+
+-- no text
+pub no_text_there : (b : Nodes) (n m : ℕ) (x : TermNode) (u : Term) (s : List ℕ) → TermBelow n m (term_shape x) → node_tree b (term_shape x) ≡ u → (node_kind x ≡ 3 → ⊥) → u ≡ atom (text s) → ⊥
+no_text_there b n m x u s l e f q = f (sym (kind_of b n m x l) ∙ ap kind (e ∙ q))

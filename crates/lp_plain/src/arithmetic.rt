@@ -3,15 +3,17 @@ ghost use Rattle.std.specs.Prelude.{◌≡◌, ◌++◌, ◌<◌, ℕ, List, len
 ghost use Rattle.lp_calculus.specs.Term.{atom, text};
 ghost use Rattle.lp_standard.specs.Constants.{number as number_of, numbered};
 ghost use Rattle.lp_term.specs.Nodes.{Extends, Nodes, tree};
-ghost use Rattle.lp_model.specs.Values.{Value as Meant, Outcome as Told, Bytes, binary, ordered, term_of as meant_term, unary};
+ghost use Rattle.lp_model.specs.Values.{Value as Meant, Outcome as Told, Bytes, Number as a_number, binary, ordered, term_of as meant_term, unary};
 ghost use Rattle.lp_model.specs.Pair.{Closing, closed};
 ghost use Rattle.lp_pattern.specs.Turning.{IsOpenReading};
+ghost use Rattle.lp_term.specs.declared.node.TermId.{TermId};
+ghost use Rattle.lp_plain.specs.declared.machine.Machine.{Machine};
 ghost use Rattle.lp_plain.specs.declared.arithmetic.Task.{Task as Todo};
 ghost use Rattle.lp_plain.specs.declared.arithmetic.Task.TheVariants as todo;
 ghost use Rattle.lp_plain.specs.Evaluated.{EvaluatesTo, GivesNumber, GivesValue, IsValueIn};
 ghost use Rattle.lp_plain.specs.Forms.{order_number};
 ghost use Rattle.lp_plain.specs.HeadLooks.{OnlyBank};
-ghost use Rattle.lp_plain.specs.inner.Evaluating.{IsCounted, IsExpression, IsKept, IsPut, StandsExpression, TakesTask, applied_by, leaf_by, one_by, operation_by, two_by};
+ghost use Rattle.lp_plain.specs.inner.Evaluating.{GoesFrom, IsCounted, IsExpression, IsKept, IsLast, IsOnWay, IsPut, IsStep, IsStepOn, StandsExpression, TakesTask, applied_by, leaf_by, one_by, operation_by, two_by};
 
 use crate::machine::Machine;
 use crate::operation::{on_integer, on_integers, on_length};
@@ -43,6 +45,13 @@ pub(crate) enum Task {
     /// The operation on the last two values, or on the last one.
     Two(Constant),
     One(Constant),
+}
+
+/// How an evaluation goes on: so many parts were looked at, or it ends.
+#[derive(Clone, Copy)]
+pub(crate) enum Step {
+    On(u64),
+    End(Outcome),
 }
 
 /// A head-normal expression.
@@ -174,6 +183,36 @@ fn on_texts(
     }
 }
 
+// A number in front of a value.
+fn with_number(operation: Constant, left: i64, right: Value) -> Outcome
+    ensures { (b : Nodes) (y : Meant) → IsValueIn b right y → GivesValue b result (binary (number_of operation) (a_number left) y) }
+{
+    match right {
+        Value::Number(other) => outcome_of(on_integers(operation, left, other)),
+        Value::Text(_) => Outcome::Faults(Fault::NotClosed),
+    }
+}
+
+// A text in front of a value.
+fn with_text(
+    alloc: Global,
+    bank: &mut Bank,
+    operation: Constant,
+    left: TermId,
+    right: Value,
+) -> Result<Outcome, Memory>
+    ensures kept { Extends bank.old bank.new }
+    ensures gives { IfOk result (λ o. (s : List ℕ) (y : Meant) → tree bank.old left.0 ≡ atom (text s) → IsValueIn bank.old right y → GivesValue bank.new o (binary (number_of operation) (Bytes s) y)) }
+{
+    match right {
+        Value::Number(_) => Ok(Outcome::Faults(Fault::NotClosed)),
+        Value::Text(other) => {
+            let outcome = on_texts(alloc, bank, operation, left, other)?;
+            Ok(outcome)
+        }
+    }
+}
+
 fn on_two(
     alloc: Global,
     bank: &mut Bank,
@@ -185,17 +224,11 @@ fn on_two(
     ensures gives { IfOk result (λ o. (x y : Meant) → IsValueIn bank.old left x → IsValueIn bank.old right y → GivesValue bank.new o (binary (number_of operation) x y)) }
 {
     match left {
-        Value::Number(a) => match right {
-            Value::Number(b) => Ok(outcome_of(on_integers(operation, a, b))),
-            Value::Text(_) => Ok(Outcome::Faults(Fault::NotClosed)),
-        },
-        Value::Text(a) => match right {
-            Value::Number(_) => Ok(Outcome::Faults(Fault::NotClosed)),
-            Value::Text(b) => {
-                let outcome = on_texts(alloc, bank, operation, a, b)?;
-                Ok(outcome)
-            }
-        },
+        Value::Number(one) => Ok(with_number(operation, one, right)),
+        Value::Text(one) => {
+            let outcome = with_text(alloc, bank, operation, one, right)?;
+            Ok(outcome)
+        }
     }
 }
 
@@ -353,6 +386,64 @@ fn counted(task: Task, visited: u64) -> Option<u64>
     }
 }
 
+// How the evaluation goes on behind a task.
+fn step_of(end: Option<Outcome>, count: u64) -> Step
+    ensures { IsStep end count result }
+{
+    match end {
+        None => Step::On(count),
+        Some(outcome) => Step::End(outcome),
+    }
+}
+
+// Takes a task where it may be counted.
+fn take_counted(
+    machine: &mut Machine,
+    task: Task,
+    tasks: &mut Vec<Task>,
+    values: &mut Vec<Value>,
+    visited: u64,
+) -> Result<Step, Memory>
+    ensures bank { OnOk result (OnlyBank machine.old machine.new) }
+    ensures goes { IfOk result (λ step. GoesFrom machine.old machine.new task tasks.old.items tasks.new.items values.old.items values.new.items visited step) }
+{
+    match counted(task, visited) {
+        None => Ok(Step::End(Outcome::Deep)),
+        Some(count) => {
+            let end = take_task(machine, task, tasks, values)?;
+            Ok(step_of(end, count))
+        }
+    }
+}
+
+// The value that is left.
+fn last_value(values: &mut Vec<Value>) -> Result<Outcome, Memory>
+    ensures { IfOk result (IsLast values.old.items) }
+{
+    let Some(last) = values.pop() else {
+        return Err(Memory);
+    };
+    Ok(Outcome::Is(last))
+}
+
+// Takes the next task. So many parts were looked at.
+fn go_on(
+    machine: &mut Machine,
+    tasks: &mut Vec<Task>,
+    values: &mut Vec<Value>,
+    visited: u64,
+) -> Result<Step, Memory>
+    ensures bank { OnOk result (OnlyBank machine.old machine.new) }
+    ensures goes { IfOk result (λ step. (m : Machine) (term : TermId) → OnlyBank m machine.old → IsOnWay m machine.old term tasks.old.items values.old.items visited → IsStepOn step m machine.new term tasks.new.items values.new.items) }
+{
+    let Some(task) = tasks.pop() else {
+        let outcome = last_value(values)?;
+        return Ok(Step::End(outcome));
+    };
+    let step = take_counted(machine, task, tasks, values, visited)?;
+    Ok(step)
+}
+
 /// Evaluates an expression, operands left to right before the operation.
 pub(crate) fn evaluate(machine: &mut Machine, term: TermId) -> Result<Outcome, Memory>
     ensures bank { OnOk result (OnlyBank machine.old machine.new) }
@@ -363,19 +454,9 @@ pub(crate) fn evaluate(machine: &mut Machine, term: TermId) -> Result<Outcome, M
     let mut visited = 0u64;
     tasks.push(Task::Visit(term))?;
     'tasks: for _ in 0..u64::MAX {
-        let Some(task) = tasks.pop() else {
-            let Some(last) = values.pop() else {
-                return Err(Memory);
-            };
-            return Ok(Outcome::Is(last));
-        };
-        let Some(count) = counted(task, visited) else {
-            return Ok(Outcome::Deep);
-        };
-        visited = count;
-        let end = take_task(machine, task, &mut tasks, &mut values)?;
-        if let Some(outcome) = end {
-            return Ok(outcome);
+        match go_on(machine, &mut tasks, &mut values, visited)? {
+            Step::On(count) => visited = count,
+            Step::End(outcome) => return Ok(outcome),
         }
     }
     Err(Memory)

@@ -19,12 +19,15 @@ use Rattle.lp_plain.specs.declared.arithmetic.Expression.{Expression}
 use Rattle.lp_plain.specs.declared.arithmetic.Expression.TheVariants as expression
 use Rattle.lp_plain.specs.declared.arithmetic.Outcome.{Outcome}
 use Rattle.lp_plain.specs.declared.arithmetic.Outcome.TheVariants as code
+use Rattle.lp_plain.specs.declared.arithmetic.Step.{Step}
+use Rattle.lp_plain.specs.declared.arithmetic.Step.TheVariants as step
 use Rattle.lp_plain.specs.declared.arithmetic.Task.{Task}
 use Rattle.lp_plain.specs.declared.arithmetic.Task.TheVariants as task
 use Rattle.lp_plain.specs.declared.arithmetic.Value.{Value}
 use Rattle.lp_plain.specs.declared.arithmetic.Value.TheVariants as kept
 use Rattle.lp_plain.specs.declared.machine.Machine.{Machine}
-use Rattle.lp_plain.specs.Evaluated.{IsNoFunction, IsValueIn}
+use Rattle.lp_plain.specs.Evaluated.{EvaluatesTo, IsNoFunction, IsValueIn}
+use Rattle.lp_plain.specs.HeadLooks.{OnlyBank}
 
 -- what the code makes of an operation and its arguments, and of a literal
 
@@ -144,3 +147,20 @@ abbrev pub IsOnWay : (old new : Machine) → TermId → List Task → List Value
 IsOnWay m q t ts vs i =
     t.0 < length m.bank.terms → (z : Closing) → IsOpenReading m.bank m.bindings m.branch.next z → (n : ℕ) (s : Term) → beta_normal n (closed z (tree m.bank t.0)) ≡ Some s → IsNoFunction s →
     (ms : List model.Value) × (k : ℕ) × AreValuesIn q.bank (reverse vs) ms × (i + k ≤ nodes s) × Comes q.bank z n (reverse ts) ms (model.value (eta_normal s)) k
+
+-- it goes on, or it ends with what it comes to
+abbrev pub IsStepOn : Step → (old new : Machine) → TermId → List Task → List Value → Type 0
+IsStepOn (step.On k) m q t ts vs = IsOnWay m q t ts vs k
+IsStepOn (step.End o) m q t ts vs = t.0 < length m.bank.terms → (z : Closing) → IsOpenReading m.bank m.bindings m.branch.next z → EvaluatesTo q.bank o (closed z (tree m.bank t.0))
+
+abbrev pub IsStep : Option Outcome → ℕ → Step → Type 0
+IsStep None k s = s ≡ step.On k
+IsStep (Some o) k s = s ≡ step.End o
+
+-- so by a task that was the next one
+abbrev pub GoesFrom : (old new : Machine) → Task → (tasks tasks' : List Task) → (values values' : List Value) → (visited : ℕ) → Step → Type 0
+GoesFrom q r x ts us vs ws i s = (m : Machine) (t : TermId) (all : List Task) → all ≡ ts ++ x ∷ [] → OnlyBank m q → IsOnWay m q t all vs i → IsStepOn s m r t us ws
+
+-- the value that was the last one
+abbrev pub IsLast : List Value → Outcome → Type 0
+IsLast vs o = (v : Value) × (us : List Value) × (vs ≡ us ++ v ∷ []) × (o ≡ code.Is v)
