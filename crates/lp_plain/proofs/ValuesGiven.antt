@@ -1,7 +1,7 @@
 -- What an operation gives on values, by what it gives on numbers and texts.
 use Rattle.std.proofs.Common.{◌≡◌, ◌<◌, ℕ, List, ◌++◌, length, refl, sym, ap, ◌∙◌, subst, Ok, Err}
 use Rattle.std.specs.Prelude.{ℤ, Result}
-use Rattle.lp_calculus.specs.Term.{Term, Atom, atom, text}
+use Rattle.lp_calculus.specs.Term.{Term, Atom, atom, integer, text}
 use Rattle.lp_standard.specs.Constants.{number}
 use Rattle.lp_standard.specs.declared.constant.Constant.{Constant}
 use Rattle.lp_standard.specs.declared.constant.Constant.TheVariants as fixed
@@ -11,7 +11,7 @@ use Rattle.lp_term.specs.Shapes.{term_shape}
 use Rattle.lp_term.specs.declared.node.TermId.{TermId}
 use Rattle.lp_term.specs.declared.node.TermNode.{TermNode}
 use Rattle.lp_model.specs.Values as model
-use Rattle.lp_model.specs.Values.{Bytes, Faults, Is, Number, binary, unary}
+use Rattle.lp_model.specs.Values.{Bytes, Faults, Is, Number, binary, term_of, unary}
 use Rattle.lp_model.specs.declared.ending.Fault.{Fault}
 use Rattle.lp_model.specs.declared.ending.Fault.TheVariants.{NotClosed}
 use Rattle.lp_pattern.proofs.Names.{kind, kind_of, node_kind}
@@ -19,6 +19,7 @@ use Rattle.lp_plain.specs.declared.arithmetic.Outcome.{Outcome}
 use Rattle.lp_plain.specs.declared.arithmetic.Outcome.TheVariants as code
 use Rattle.lp_plain.specs.declared.arithmetic.Value.{Value}
 use Rattle.lp_plain.specs.declared.arithmetic.Value.TheVariants as kept
+use Rattle.lp_plain.specs.Assigned.{IsNumberOr}
 use Rattle.lp_plain.specs.Evaluated.{GivesNumber, GivesValue, IsValueIn}
 
 -- a number, read again from its bits, and a fault
@@ -75,3 +76,16 @@ texts_joined d c id s t e q l = (Bytes (s ++ t), ap (λ k. binary (number k) (By
 -- no text
 pub no_text_there : (b : Nodes) (n m : ℕ) (x : TermNode) (u : Term) (s : List ℕ) → TermBelow n m (term_shape x) → node_tree b (term_shape x) ≡ u → (node_kind x ≡ 3 → ⊥) → u ≡ atom (text s) → ⊥
 no_text_there b n m x u s l e f q = f (sym (kind_of b n m x l) ∙ ap kind (e ∙ q))
+
+-- the term of a value
+pub number_term : (b d : Nodes) (id : TermId) (p v : ℤ) → v ≡ p → (value : Value) → value ≡ kept.Number p → tree d id.0 ≡ atom (integer v) → (m : model.Value) → IsValueIn b value m → tree d id.0 ≡ term_of m
+number_term b d id p v q value e h m i =
+    let em : m ≡ Number p = subst (λ u. IsValueIn b u m) e i in
+    h ∙ ap (λ x. atom (integer x)) q ∙ ap term_of (sym em)
+
+pub text_term : (b : Nodes) (t : TermId) (value : Value) → value ≡ kept.Text t → (m : model.Value) → IsValueIn b value m → (tree b t.0 ≡ term_of m) × (t.0 < length b.terms)
+text_term b t value e m i = let w = subst (λ u. IsValueIn b u m) e i in (w.2 ∙ ap term_of (sym w.1), w.3)
+
+-- the number of a value
+pub number_told : (value : Value) (p w : ℤ) → w ≡ p → value ≡ kept.Number p → IsNumberOr (code.Is value) (Ok w)
+number_told value p w q e = subst (λ v. IsNumberOr (code.Is v) (Ok w)) (sym e) (ap Ok q)

@@ -334,7 +334,7 @@ fn operate_on_one(
     operation: Constant,
     values: &mut Vec<Value>,
 ) -> Result<Option<Outcome>, Memory>
-    ensures bank { OnlyBank machine.old machine.new }
+    ensures bank { OnOk result (OnlyBank machine.old machine.new) }
     ensures takes { IfOk result (λ end. (ts : List Todo) → TakesTask machine.old machine.new end (todo.One operation) ts ts values.old.items values.new.items) }
 {
     let Some(value) = values.pop() else {

@@ -2,6 +2,7 @@
 ghost use Rattle.std.specs.Prelude.{◌≡◌, ℕ, List, length, IfOk, OnOk, Ok};
 ghost use Rattle.lp_model.specs.Branch.{Branch, Task};
 ghost use Rattle.lp_model.specs.Skeleton.{State};
+ghost use Rattle.lp_plain.specs.declared.arithmetic.Outcome.TheVariants as code;
 ghost use Rattle.lp_plain.specs.declared.outcome.Turn.{Turn};
 ghost use Rattle.lp_plain.specs.declared.table.Flat.{Flat};
 ghost use Rattle.lp_term.specs.Nodes.{tree};
@@ -100,8 +101,16 @@ fn number_of(outcome: Outcome) -> Result<i64, Ending>
     match outcome {
         Outcome::Deep => Err(Ending::Deep),
         Outcome::Faults(fault) => Err(Ending::Arithmetic(fault)),
-        Outcome::Is(Value::Number(value)) => Ok(value),
-        Outcome::Is(Value::Text(_)) => Err(Ending::Arithmetic(Fault::NotClosed)),
+        Outcome::Is(value) => number_in(value),
+    }
+}
+
+fn number_in(value: Value) -> Result<i64, Ending>
+    ensures { IsNumberOr (code.Is value) result }
+{
+    match value {
+        Value::Number(number) => Ok(number),
+        Value::Text(_) => Err(Ending::Arithmetic(Fault::NotClosed)),
     }
 }
 

@@ -1,9 +1,8 @@
-use Rattle.std.proofs.Common.{◌∙◌, ◌++◌, ◌∷◌, [], ap, arith, refl, subst}
-use Rattle.lp_term.proofs.Moves.{nothing}
+use Rattle.std.proofs.Common.{◌∙◌, ◌++◌, ◌∷◌, [], ap, refl, subst}
 use Rattle.lp_term.proofs.Trees.{extends_same}
 use Rattle.lp_plain.specs.declared.arithmetic.Task.TheVariants as task
-use Rattle.lp_plain.specs.inner.Evaluating.{IsCounted, TakesTask}
-use Rattle.lp_plain.proofs.Evaluations.{on_way, way_deep, way_done, way_ends, way_on}
+use Rattle.lp_plain.specs.inner.Evaluating.{IsStepOn}
+use Rattle.lp_plain.proofs.Evaluations.{on_way}
 use Rattle.lp_plain.proofs.GoingBank.{bank_then}
 use Rattle.lp_plain.proofs.arithmetic.evaluate.Goals as goal
 
@@ -15,17 +14,19 @@ tasks-init c =
       way = on_way m c.args.term _ _ (c.in_ok-push.ensures.items ∙ ap (λ l. l ++ task.Visit c.args.term ∷ []) c.new-tasks.ensures.items) c.new-values.ensures.items;
     }
 
-pub tasks-preserved : goal.tasks-preserved
-tasks-preserved c =
+pub tasks-preserved-in-On : goal.tasks-preserved-in-On
+tasks-preserved-in-On c =
     let m = c.args.machine.now in
     let q = c.tasks.machine in
-    let r = c.take_task.new.machine in
-    let e = c.in_ok-end.ensures in
-    record {
-      bank = bank_then m q r c.tasks.invariant.bank e.bank;
-      way = way_on m q c.tasks.invariant.bank c.args.term c.tasks.tasks.items _ c.tasks.values.items c.tasks.visited c.in-Some.task c.in-Some.ensures.items c.tasks.invariant.way r c.take_task.new.tasks.items c.take_task.new.values.items c.in-Some-2.count
-          (subst (IsCounted c.in-Some.task c.tasks.visited) c.in-Some-2.is c.counted.ensures) (subst (λ o. TakesTask q r o c.in-Some.task _ c.take_task.new.tasks.items c.tasks.values.items c.take_task.new.values.items) c.in_default.is e.takes);
-    }
+    let r = c.go_on.new.machine in
+    let i = c.tasks.invariant in
+    let e = c.in_ok-count.ensures in
+    record { bank = bank_then m q r i.bank e.bank; way = subst (λ s. IsStepOn s m r c.args.term c.go_on.new.tasks.items c.go_on.new.values.items) c.in-On.is (e.goes m c.args.term i.bank i.way) }
 
-pub returns-in_default-in-Some-clause-value : goal.returns-in_default-in-Some-clause-value
-returns-in_default-in-Some-clause-value c = nothing_known
+pub returns-in-End-clause-bank : goal.returns-in-End-clause-bank
+returns-in-End-clause-bank c = bank_then c.args.machine.now c.tasks.machine c.go_on.new.machine c.tasks.invariant.bank c.in_ok-count.ensures.bank
+
+pub returns-in-End-clause-value : goal.returns-in-End-clause-value
+returns-in-End-clause-value c =
+    let i = c.tasks.invariant in
+    subst (λ s. IsStepOn s c.args.machine.now c.go_on.new.machine c.args.term c.go_on.new.tasks.items c.go_on.new.values.items) c.in-End.is (c.in_ok-count.ensures.goes c.args.machine.now c.args.term i.bank i.way)
