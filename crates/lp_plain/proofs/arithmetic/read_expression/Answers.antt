@@ -1,4 +1,6 @@
-use Rattle.std.proofs.Common.{length, map, ◌∙◌, refl}
+use Rattle.std.proofs.Common.{◌≡◌, length, map, ◌∙◌, ap, arith, refl, w64, to_z, of_z}
+use Rattle.std.proofs.lemmas.Int.{to_z-of_z}
+use Rattle.lp_calculus.specs.Term.{atom, integer}
 use Rattle.lp_term.specs.Nodes.{tree}
 use Rattle.lp_standard.specs.Constants.{numbered}
 use Rattle.lp_term.specs.declared.node.TermId.{TermId}
@@ -10,10 +12,11 @@ pub returns-in-Int-clause-is : goal.returns-in-Int-clause-is
 returns-in-Int-clause-is c =
     let b = c.args.bank.now in
     let s = c.in_ok-head in
-    integer_read b (tree b c.args.term.0) (tree b s.field-0.head.0) s.field-0.args.items c.as_slice.result.now c.leaf.result s.ensures.head s.ensures.tree c.as_slice.ensures.value c.in-Int.value c.in-Int.ensures.tree c.leaf.ensures
+    let e : to_z w64 (of_z w64 c.in-Int.value) ≡ c.in-Int.value = grind (arith, to_z-of_z) in
+    integer_read b (tree b c.args.term.0) (tree b s.field-0.head.0) s.field-0.args.items c.as_slice.result.now c.leaf.result s.ensures.head s.ensures.tree c.as_slice.ensures.value _ (ap (λ z. atom (integer z)) e ∙ c.in-Int.ensures.tree) c.leaf.ensures
 
 pub returns-in-Int-clause-stands : goal.returns-in-Int-clause-stands
-returns-in-Int-clause-stands c = λ l. integer_stands (length c.args.bank.now.terms) c.in-Int.value c.as_slice.result.now c.leaf.result c.leaf.ensures
+returns-in-Int-clause-stands c = λ l. integer_stands (length c.args.bank.now.terms) _ c.as_slice.result.now c.leaf.result c.leaf.ensures
 
 pub returns-in-Text-clause-is : goal.returns-in-Text-clause-is
 returns-in-Text-clause-is c =
