@@ -1,5 +1,5 @@
 -- The candidates behind the one that is tried become an alternative.
-use Rattle.std.proofs.Common.{Bool, true, ◌≡◌, ℕ, ◌+◌, ◌-◌, ◌<◌, ◌≤◌, List, [], ◌∷◌, ◌++◌, map, length, take, drop, refl, sym, ap, ◌∙◌, subst, arith, Option, None, Some}
+use Rattle.std.proofs.Common.{Bool, true, ◌≡◌, ℕ, ◌-◌, ◌<◌, ◌≤◌, List, [], ◌∷◌, ◌++◌, length, take, drop, refl, sym, ap, ◌∙◌, subst, arith, Option, None, Some}
 use Rattle.std.specs.Prelude.{All, cond, filter}
 use Rattle.std.proofs.lemmas.List.{length-append, length-map, take_all}
 use Rattle.lp_calculus.specs.Fill.{Within}

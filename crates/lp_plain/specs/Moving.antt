@@ -1,8 +1,8 @@
 -- A search between two turns as the definition's state, all bindings put in, and turns as moves of the definition. The goals of a branch are read as they stand in the bank
 -- (specs/Entries); the entries of the definition are these as the bindings of the branch read them. An alternative has the bindings of then.
-use Rattle.std.specs.Prelude.{◌≡◌, ◌⊎◌, Bool, ℕ, zero, suc, ◌+◌, ◌-◌, ◌<◌, ◌≤◌, List, [], ◌∷◌, ◌++◌, All, map, length, take, drop, Option, None, Some}
+use Rattle.std.specs.Prelude.{◌≡◌, ◌⊎◌, Bool, ℕ, zero, suc, ◌-◌, ◌<◌, ◌≤◌, List, [], ◌∷◌, ◌++◌, All, map, length, take, drop, Option, None, Some}
 use Rattle.lp_calculus.specs.Fill.{Within}
-use Rattle.lp_calculus.specs.Types.{Ty, instance, var}
+use Rattle.lp_calculus.specs.Types.{instance, var}
 use Rattle.lp_calculus.specs.Spine.{head_of}
 use Rattle.lp_calculus.specs.Term.{Term}
 use Rattle.lp_term.specs.Nodes.{Nodes}
