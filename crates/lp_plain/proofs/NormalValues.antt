@@ -89,13 +89,13 @@ forms_count : {n : ℕ} {ts ss : List Term} → Forms n ts ss → length ss ≡ 
 forms_count none = refl
 forms_count (more e f) = ap suc (forms_count f)
 
--- an abstraction is a function
-pub abs_function : (n : ℕ) (b s : Term) → beta_normal n (abs b) ≡ Some s → IsNoFunction s → ⊥
-abs_function n b s e = go (beta_normal n b) (sym (beta_abs n b) ∙ e)
+-- an abstraction has no value
+abs_value : (n : ℕ) (b s : Term) → beta_normal n (abs b) ≡ Some s → IsNoFunction s → value (eta_normal s) ≡ Faults NotClosed
+abs_value n b s e = go (beta_normal n b) (sym (beta_abs n b) ∙ e)
   where
-    go : (o : Option Term) → option_map abs o ≡ Some s → IsNoFunction s → ⊥
+    go : (o : Option Term) → option_map abs o ≡ Some s → IsNoFunction s → value (eta_normal s) ≡ Faults NotClosed
     go None q = absurd (cc)
-    go (Some c) q = let z : abs c ≡ s = cc in λ i. subst IsNoFunction (sym z) i
+    go (Some c) q = let z : abs c ≡ s = cc in λ i. ap (λ t. value (eta_normal t)) (sym z) ∙ subst IsNoFunction (sym z) i
 
 -- a head that is not contracted
 ended_apply : (s : Bindings) (vs : List Term) (t u : Term) → IsEnded s (apply (app t u) vs) → IsEndedHead s t
@@ -148,7 +148,7 @@ module _ (b : Nodes) (s : Bindings) (z : Closing) (r : IsReading b s z) where
       value (eta_normal v) ≡ Faults NotClosed
   other_value (index i) us l f e n v q i' = leaf_other (index i) us tt f e n v q
   other_value (atom a) us l f e n v q i = leaf_other (atom a) us tt f e n v q
-  other_value (abs c) [] l f e n v q i = absurd (abs_function n _ v q i)
+  other_value (abs c) [] l f e n v q i = abs_value n _ v q i
   other_value (abs c) (u ∷ us) l f e n v q i = absurd (ended_apply s us (abs c) u e)
   other_value (app t u) us l f e n v q i = absurd l
 

@@ -86,7 +86,7 @@ IsAtomOrNoForm g = (g ≡ connective.Atomic) ⊎ IsNoForm g
 abbrev pub IsAtomForm : Nodes → Term → Form → Type 0
 IsAtomForm b t f = ((connective_of t ≡ connective.Atomic) × IsForm b t f) ⊎ (IsNoForm (connective_of t) × (f ≡ form.Other))
 
--- the beta-normal form of an expression has no abstraction where a value is looked for, and at most a million nodes
+-- the beta-normal form of an expression has no abstraction with a value (a well-typed one has none), and at most a million nodes
 abbrev pub IsSmallExpression : Term → Type 0
 IsSmallExpression t = (n : ℕ) (s : Term) → beta_normal n t ≡ Some s → IsNoFunction s × (nodes s ≤ 1000000)
 

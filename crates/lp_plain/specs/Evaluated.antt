@@ -7,6 +7,7 @@ use Rattle.lp_model.specs.Eigens.{beta_normal}
 use Rattle.lp_model.specs.Values as model
 use Rattle.lp_model.specs.Values.{Bytes, Faults, Is, Number, is_one_place, is_two_place}
 use Rattle.lp_model.specs.declared.ending.Fault.{Fault}
+use Rattle.lp_model.specs.declared.ending.Fault.TheVariants.{NotClosed}
 use Rattle.lp_plain.specs.declared.arithmetic.Outcome.{Outcome}
 use Rattle.lp_plain.specs.declared.arithmetic.Outcome.TheVariants as code
 use Rattle.lp_plain.specs.declared.arithmetic.Value.{Value}
@@ -28,11 +29,11 @@ GivesValue b (code.Is v) o = (m : model.Value) × (o ≡ Is m) × IsValueIn b v 
 GivesValue b (code.Faults f) o = o ≡ Faults f
 GivesValue b code.Deep o = ⊥
 
--- no abstraction stands where a value is looked for
+-- an abstraction that stands where a value is looked for is no function in another form that would have one. (Of a well-typed term none is)
 abbrev pub IsNoFunction : Term → Type 0
 IsNoFunction (index i) = Unit {0}
 IsNoFunction (atom a) = Unit {0}
-IsNoFunction (abs b) = ⊥
+IsNoFunction (abs b) = model.value (eta_normal (abs b)) ≡ Faults NotClosed
 IsNoFunction (app (index i) u) = Unit {0}
 IsNoFunction (app (abs b) u) = Unit {0}
 IsNoFunction (app (atom (constant c ts)) u) = is_one_place c ≡ true → IsNoFunction u
