@@ -116,6 +116,7 @@ pub mod Operations
 pub mod NormalValues
 pub mod Evaluations
 pub mod ReadExpressions
+pub mod TypedValues
 pub mod ValuesGiven
 pub mod GoingBank
 pub mod ArithmeticMoves
