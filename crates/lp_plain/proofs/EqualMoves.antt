@@ -1,5 +1,5 @@
 -- A unification in front of the goals behind an atom, as moves of the definition.
-use Rattle.std.proofs.Common.{◌≡◌, ℕ, suc, List, [], ◌∷◌, ◌++◌, length, refl, sym, ap, inl, inr, ◌∙◌, subst, arith, Option, None, Some, Bool}
+use Rattle.std.proofs.Common.{◌≡◌, ◌≤◌, ℕ, suc, List, [], ◌∷◌, ◌++◌, length, refl, sym, ap, inl, inr, ◌∙◌, subst, arith, Option, None, Some, Bool}
 use Rattle.lp_calculus.specs.Fill.{Within}
 use Rattle.lp_model.specs.Branch.{Answer, Branch, Go, Task, resume}
 use Rattle.lp_model.specs.Flat.{Clause}
@@ -18,7 +18,7 @@ use Rattle.lp_plain.specs.declared.outcome.Turn.{Turn}
 use Rattle.lp_plain.specs.declared.unified.Unified.{Unified}
 use Rattle.lp_plain.specs.Assuming.{GrowsAt, IsPlaceAt, lists_of}
 use Rattle.lp_plain.specs.Entries.{Around, GrowsGoals, Reads}
-use Rattle.lp_plain.specs.Moving.{AreEntriesUnder, AreFew, HasAlternatives, HasFreeTypes, IsGoingOn, IsBranchUnder, IsCounted, IsState, Leads, Query, mark_in, turn_for}
+use Rattle.lp_plain.specs.Moving.{AreEntriesUnder, AreFew, HasAlternatives, IsGoingOn, IsBranchUnder, IsCounted, IsState, Leads, Query, mark_in, turn_for}
 use Rattle.lp_plain.specs.Resuming.{AllTerms, AreKnownEntries}
 use Rattle.lp_plain.specs.Stacks.{base_of}
 use Rattle.lp_plain.specs.Unifying.{IsBoundIn, IsUnifiedAs, StandPairs}
@@ -31,8 +31,7 @@ use Rattle.lp_plain.proofs.ResumedUnder.{known_behind, resumed_under, terms_know
 use Rattle.lp_plain.proofs.TaskMoves.{fails, goes, lacks, stops}
 use Rattle.lp_plain.proofs.TryGrows.{bound_more}
 
-module _ (qv : Query) (m n : Machine) (a : Around) (raw rest : Branch) (below : List Task) (h : IsGoingOn qv m a raw rest below) (p : Place) (pl : IsPlaceAt (lists_of m) a p) (b : IsBoundIn m n) (residual : StandPairs m → StandPairs n)
-    (free : HasFreeTypes n) where
+module _ (qv : Query) (m n : Machine) (a : Around) (raw rest : Branch) (below : List Task) (h : IsGoingOn qv m a raw rest below) (p : Place) (pl : IsPlaceAt (lists_of m) a p) (b : IsBoundIn m n) (residual : StandPairs m → StandPairs n) where
   grows : GrowsGoals m n
   grows =
       let g = bound_more m n b in
@@ -58,8 +57,13 @@ module _ (qv : Query) (m n : Machine) (a : Around) (raw rest : Branch) (below : 
         is = h.above.is;
       }
 
+  -- behind a solution no type variable is bound that is still to come
+  abbrev pub StaysFree : Solved → Type 0
+  StaysFree st = (c : Closing) → ((x : ℕ) → c.types x ≡ put_types st.types (h.closing.types x)) → (x : ℕ) → n.branch.next_type ≤ x → c.types x ≡ var x
+
   -- a solution
-  module _ (st : Solved) (z : Closing) (reading : IsOpenReading n.bank n.bindings n.branch.next z) (found : IsFound h.levels m.branch.next h.closing n.bank n.branch.next n.branch.pairs.items z st) where
+  module _ (st : Solved) (z : Closing) (reading : IsOpenReading n.bank n.bindings n.branch.next z) (found : IsFound h.levels m.branch.next h.closing n.bank n.branch.next n.branch.pairs.items z st)
+      (free : (x : ℕ) → n.branch.next_type ≤ x → z.types x ≡ var x) where
     abbrev base : ℕ
     base = base_of m.denied
 
@@ -88,7 +92,7 @@ module _ (qv : Query) (m n : Machine) (a : Around) (raw rest : Branch) (below : 
         goals = known_behind h.levels m.branch.next h.closing n.bank n.branch.next n.branch.pairs.items z st found raw.goals known;
         values = terms_known h.levels m.branch.next h.closing n.bank n.branch.next n.branch.pairs.items z st found (vars_from qv.vars 0) values_known;
         pairs = found.known;
-        free = free z reading;
+        free = free;
       };
     }
 
@@ -137,5 +141,6 @@ module _ (qv : Query) (m n : Machine) (a : Around) (raw rest : Branch) (below : 
       by_outcome Unified.Fails (Some y) few e k = none_left (e ∙ ap (λ q. follow rest (Some q)) (k y refl))
       by_outcome Unified.Deep (Some y) few e k = stops qv n below s w j ea es go enough P name task tasks stack seen Deep (e ∙ ap (λ q. follow rest (Some q)) (k y refl (let l = few refl in omega (arith, l))))
 
-      pub unified_leads : (u : Unified) → AreFew (turn_for u) enough → (o : Option Outcome) → tasks ≡ follow rest o → ((y : Outcome) → o ≡ Some y → IsUnifiedAs u h.levels m.branch.next h.closing n enough y) → Leads 1 qv (turn_for u) n go see s
-      unified_leads u few o e k = by_outcome u o few e k
+      pub unified_leads : (u : Unified) → AreFew (turn_for u) enough → (o : Option Outcome) → tasks ≡ follow rest o → ((y : Outcome) → o ≡ Some y → IsUnifiedAs u h.levels m.branch.next h.closing n enough y) → ((st : Solved) → o ≡ Some (Solution st) → StaysFree st) →
+          Leads 1 qv (turn_for u) n go see s
+      unified_leads u few o e k free = by_outcome u o few e k free

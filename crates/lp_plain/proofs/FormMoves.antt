@@ -150,4 +150,4 @@ module _ (qv : Query) (m n : Machine) (a : Around) (raw : Branch) (s : State Tas
 pub form_leads : (qv : Query) (m n : Machine) (a : Around) (raw : Branch) (s : State Task) (h : IsRunning qv m a raw s) (p : Place) (u : TermId) (o : Option ℕ) → IsAtLooked m h.closing a p u o raw →
     (k : Connective) → connective_of (tree m.bank u.0) ≡ connective_in m.bank k → IsConnectiveIn m.bank k → IsApartForm k → (turn : Turn) → IsApart turn m.counts n.counts → (turn ≡ Turn.On → TakesKnown m n p k o) →
     (turn ≡ Turn.On → BindsNone m n) → (turn ≡ Turn.On → PutsWith m n) → LeadsTo 1 qv turn n s
-form_leads qv m n a raw s h p u o at k is inside af turn c tk bn pw w ea go enough few P = by_count qv m n a raw s h p u o at k is inside af w ea go enough P turn n.counts c tk bn pw
+form_leads qv m n a raw s h p u o at k is inside af turn c tk bn pw w ea go enough few P ty = by_count qv m n a raw s h p u o at k is inside af w ea go enough P turn n.counts c tk bn pw

@@ -46,7 +46,7 @@ module _ (qv : Query) (m : Machine) (a : Around) (raw : Branch) (s : State Task)
   comes = let y = f qv m a raw s h p u o at in subst ComesToNoCall y.is (subst HasNoCall y.whole left)
 
   pub call_left : (hd : Head) (first : Option TermId) → IsAtomForm m.bank (tree m.bank u.0) (form.Call hd first) → LeadsTo 1 qv turn n s
-  call_left hd first i w ea go enough few P =
+  call_left hd first i w ea go enough few P ty =
       by_seen qv m a raw s h p u o at enough P (Leads 1 qv turn n go (look unit_limit enough P) s) (waits qv m a raw s h p u o at enough P n w ea go turn) (λ t q. absurd (by t q hd i))
     where
       by : (t : Term) → head_normal enough (f qv m a raw s h p u o at).goal ≡ Some t → (hd : Head) → IsAtomForm m.bank (tree m.bank u.0) (form.Call hd first) → ⊥

@@ -92,6 +92,10 @@ pub mod Others
 pub mod KnownUnder
 pub mod HeadFills
 pub mod ResumedUnder
+pub mod TypedTries
+pub mod TypedMoves
+pub mod TypedCalls
+pub mod TypedGoals
 pub mod TryMoves
 pub mod RunMoves
 pub mod TaskMoves
@@ -128,3 +132,7 @@ pub mod WrittenAssumed
 pub mod WrittenParts
 pub mod WrittenFirst
 pub mod WrittenPut
+pub mod ProgramTypes
+pub mod ProgramsWritten
+pub mod KnownPrograms
+pub mod TypedPrograms

@@ -78,7 +78,7 @@ module _ (m n : Machine) (b : OnlyBank m n) where
 
 -- a look that is too deep
 pub deep_look : (qv : Query) (m n : Machine) (a : Around) (raw : Branch) (s : State Task) (h : IsRunning qv m a raw s) (p : Place) (t : TermId) (o : Option ℕ) → IsAtTerm m a p t o raw → LooksAt m n t None → LeadsTo 1 qv (Turn.Ended Deep) n s
-deep_look qv m n a raw s h p t o at l w ea go enough few P =
+deep_look qv m n a raw s h p t o at l w ea go enough few P ty =
     let f = front_of qv m a raw s h p at.value at.rest at.goals in
     inr (inl (front_waits qv m a raw s h p at.value at.rest f enough P w ea go
     (lacks_steps h.closing (tree m.bank t.0) at.value f.goal at.heads f.heads 1000000 (omega arith) (l h.closing h.reading.reading) enough (few refl))))

@@ -41,6 +41,7 @@ use Rattle.lp_plain.specs.Tables.{AreGoals, IsGoal, Never, shown}
 use Rattle.lp_plain.specs.Taking.{goal_in}
 use Rattle.lp_plain.specs.Trials.{IsCallHead, goal_of}
 use Rattle.lp_plain.specs.Trying.{AreCandidates, IsCandidate, first_in, lists_at, tries_of}
+use Rattle.lp_plain.specs.TypedStates.{IsTypedOver}
 use Rattle.lp_plain.specs.Within.{IsKeyIn}
 
 -- the definition's mark for a mark of the search: as many tasks as the oldest alternatives up to it stand for
@@ -396,19 +397,15 @@ Leads (suc j) qv turn n go see s =
 abbrev pub AreFew : Turn → (enough : ℕ) → Type 0
 AreFew turn enough = turn ≡ Turn.Ended Deep → enough < 1000000
 
--- so while answers are wanted, over each program, with any number of steps for each look, but for a turn that is too deep
+-- so while answers are wanted, over each typed program and in a typed state, with any number of steps for each look, but for a turn that is too deep
 abbrev pub LeadsTo : ℕ → Query → Turn → (new : Machine) → (before : State Task) → Type 0
-LeadsTo j qv turn n s = (k : ℕ) → s.answers ≡ suc k → (go : (Answer → Bool) → State Task → Inner) (enough : ℕ) → AreFew turn enough → (P : List Clause) → Leads j qv turn n go (look unit_limit enough P) s
+LeadsTo j qv turn n s = (k : ℕ) → s.answers ≡ suc k → (go : (Answer → Bool) → State Task → Inner) (enough : ℕ) → AreFew turn enough → (P : List Clause) → IsTypedOver qv.arity enough P s → Leads j qv turn n go (look unit_limit enough P) s
 
 -- the turn of a unification
 abbrev pub turn_for : Unified → Turn
 turn_for Unified.Fits = Turn.On
 turn_for Unified.Fails = Turn.Back
 turn_for Unified.Deep = Turn.Ended Deep
-
--- no type variable from the next one on is bound
-abbrev pub HasFreeTypes : Machine → Type 0
-HasFreeTypes m = (z : Closing) → IsOpenReading m.bank m.bindings m.branch.next z → (x : ℕ) → m.branch.next_type ≤ x → z.types x ≡ var x
 
 -- a run has told no answer, and not how it ends
 abbrev pub IsSilent : Told Answer → Type 0

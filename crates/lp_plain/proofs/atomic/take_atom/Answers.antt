@@ -27,7 +27,7 @@ returns-in_ok-unified-in-Equal g c = record {
       let t = c.if-not-take_step.ensures in
       let e = c.in_ok-unified-in-Equal.ensures in
       subst (λ x. LeadsTo 1 qv x n s) (sym c.turn_of.ensures)
-      (equal_leads qv m (going_behind k o) a raw s h c.args.place c.args.goal o at (step_kept m k o t.goals t.assumed t.frames t.denied t.branch) t.choices (t.counts refl) (t.there refl) n e.bound e.residual ft
+      (equal_leads qv m (going_behind k o) a raw s h c.args.place c.args.goal o at (step_kept m k o t.goals t.assumed t.frames t.denied t.branch) t.choices (t.counts refl) (t.there refl) n e.bound e.residual
       c.in-Equal.left c.in-Equal.right c.in_ok-unified-in-Equal.unified (subst (IsAtomForm m.bank (tree m.bank c.args.goal.0)) c.in-Equal.is i) t.goals.known.bank e.equated);
 }
 
@@ -68,7 +68,7 @@ returns-in-Flexible g c = record {
       let o = c.args.behind in
       let n = going_behind k o in
       let t = c.if-not-take_step.ensures in
-      flexible_leads qv m n a raw s h c.args.place c.args.goal o at (step_kept m k o t.goals t.assumed t.frames t.denied t.branch) t.choices (t.counts refl) (t.there refl) n (bound_same n) (λ x. x) ft
+      flexible_leads qv m n a raw s h c.args.place c.args.goal o at (step_kept m k o t.goals t.assumed t.frames t.denied t.branch) t.choices (t.counts refl) (t.there refl) n (bound_same n) (λ x. x)
       (subst (IsAtomForm m.bank (tree m.bank c.args.goal.0)) c.in-Flexible.is i);
 }
 
@@ -80,6 +80,6 @@ returns-in-Other g c = record {
       let o = c.args.behind in
       let n = going_behind k o in
       let t = c.if-not-take_step.ensures in
-      other_leads qv m n a raw s h c.args.place c.args.goal o at (step_kept m k o t.goals t.assumed t.frames t.denied t.branch) t.choices (t.counts refl) (t.there refl) n (bound_same n) (λ x. x) ft
+      other_leads qv m n a raw s h c.args.place c.args.goal o at (step_kept m k o t.goals t.assumed t.frames t.denied t.branch) t.choices (t.counts refl) (t.there refl) n (bound_same n) (λ x. x)
       (subst (IsAtomForm m.bank (tree m.bank c.args.goal.0)) c.in-Other.is i);
 }

@@ -132,7 +132,7 @@ pub returns-in_default-clause-moved : goal.returns-in_default-clause-moved
 returns-in_default-clause-moved c = λ qv e s h. none_moved qv c.args.machine.now c.args.machine.now s false e (sym c.in_ok-untried.ensures.lost ∙ c.if-machine.false) h
 
 pub returns-in_ok-turn-in-Clauses-clause-leads : goal.returns-in_ok-turn-in-Clauses-clause-leads
-returns-in_ok-turn-in-Clauses-clause-leads c = λ k rest call one e u l qv s h w ft.
+returns-in_ok-turn-in-Clauses-clause-leads c = λ k rest call one e u l qv s h w.
     let n = c.take_choice.new.self in
     let o = c.in_ok-untried.ensures in
     let t = o.taken k rest e in
@@ -141,17 +141,17 @@ returns-in_ok-turn-in-Clauses-clause-leads c = λ k rest call one e u l qv s h w
     let so : c.in-Clauses.candidate ≡ one = cc in
     c.in_ok-turn-in-Clauses.ensures.leads qv h.around s
     (subst (λ x. IsTrying qv n h.around x c.in-Clauses.candidate s) (sym sc) (subst (λ x. IsTrying qv n h.around call x s) (sym so) (o.trying qv k rest call one e u l s h)))
-    (search_back c.args.machine.now n k rest e t.1 qv.arity w).at_work ft
+    (search_back c.args.machine.now n k rest e t.1 qv.arity w).at_work
 
 pub returns-in_ok-go_right-in-Goals-clause-leads : goal.returns-in_ok-go_right-in-Goals-clause-leads
-returns-in_ok-go_right-in-Goals-clause-leads c = λ k rest call one e u l qv s h w ft.
+returns-in_ok-go_right-in-Goals-clause-leads c = λ k rest call one e u l qv s h w.
     let t = c.in_ok-untried.ensures.taken k rest e in
     let z = t.0 in
     let y = c.in-Goals.is in
     absurd (cc)
 
 pub returns-in-Denied-clause-leads : goal.returns-in-Denied-clause-leads
-returns-in-Denied-clause-leads c = λ k rest call one e u l qv s h w ft.
+returns-in-Denied-clause-leads c = λ k rest call one e u l qv s h w.
     let t = c.in_ok-untried.ensures.taken k rest e in
     let z = t.0 in
     let y = c.in-Denied.is in

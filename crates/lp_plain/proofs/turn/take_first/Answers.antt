@@ -80,13 +80,13 @@ returns-clause-written g c = λ e f got h l.
     (c.in_ok-turn-2.ensures.written e (subst IsApartFlat same h))
 
 pub returns-then-second-goals-clause-leads : goal.returns-then-second-goals-clause-leads
-returns-then-second-goals-clause-leads g c = λ qv a raw s h at af w nc ft.
+returns-then-second-goals-clause-leads g c = λ qv a raw s h at af w nc.
     let m = c.args.machine.now in
     c.in_ok-turn.ensures.leads qv a raw s h (at_last m a c.args.place c.args.goals c.args.behind raw c.in_ok-goal.goal c.in_ok-goal.ensures (omega (arith, c.if-second-goals.true, c.in-Some.ensures.1)) at) af
-    (first_written m qv.arity c.args.place c.args.goals c.in_ok-goal.goal c.in_ok-goal.ensures at.some w) nc ft
+    (first_written m qv.arity c.args.place c.args.goals c.in_ok-goal.goal c.in_ok-goal.ensures at.some w) nc
 
 pub returns-clause-leads : goal.returns-clause-leads
-returns-clause-leads g c = λ qv a raw s h at af w nc ft.
+returns-clause-leads g c = λ qv a raw s h at af w nc.
     let m = c.args.machine.now in
     let q = c.put_frame.new.self in
     let p = c.args.place in
@@ -96,4 +96,4 @@ returns-clause-leads g c = λ qv a raw s h at af w nc ft.
     (at_more m q a p c.args.goals (record { from = c.in-Some.second; to = c.args.goals.to }) c.args.behind c.in_ok-rest.rest raw c.in_ok-goal.goal c.in_ok-goal.ensures (c.in-Some.ensures.1 ∙ add-one c.args.goals.from) refl
     f.goals f.assumed f.reads at) af
     (flat_framed m q f.goals qv.arity p c.in_ok-goal.goal (first_written m qv.arity p c.args.goals c.in_ok-goal.goal c.in_ok-goal.ensures at.some w))
-    (subst (λ (z : Branch). HasNoCall z.goals) (sym (framed_work qv m q a p raw s f.goals f.course f.assumed f.frame st at.place h)) nc) ft
+    (subst (λ (z : Branch). HasNoCall z.goals) (sym (framed_work qv m q a p raw s f.goals f.course f.assumed f.frame st at.place h)) nc)

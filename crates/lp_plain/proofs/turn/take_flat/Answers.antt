@@ -82,7 +82,7 @@ pub returns-in_ok-turn-in_default-clause-written : goal.returns-in_ok-turn-in_de
 returns-in_ok-turn-in_default-clause-written g c = c.in_ok-turn-in_default.ensures.written
 
 pub returns-in_ok-turn-in-Atom-clause-leads : goal.returns-in_ok-turn-in-Atom-clause-leads
-returns-in_ok-turn-in-Atom-clause-leads g c = λ qv a raw s h at af w nc ft.
+returns-in_ok-turn-in-Atom-clause-leads g c = λ qv a raw s h at af w nc.
     let m = c.args.machine.now in
     let n = c.instance.new.self in
     let p = c.args.place in
@@ -92,18 +92,18 @@ returns-in_ok-turn-in-Atom-clause-leads g c = λ qv a raw s h at af w nc ft.
     let w' = subst (IsWrittenFlat m qv.arity p) c.in-Atom.is w in
     c.in_ok-turn-in-Atom.ensures.leads qv a raw s (running_on m n e.bank qv a raw s h p at'.place)
     (instance_at m n e.bank p u c.in_ok-atom-in-Atom.atom e.within e.tree a c.args.behind raw h.above.done.stands at' qv.arity w')
-    (subst (λ (z : Branch). HasNoCall z.goals) (sym (work_on m n e.bank qv a raw s h p at'.place)) nc) ft
+    (subst (λ (z : Branch). HasNoCall z.goals) (sym (work_on m n e.bank qv a raw s h p at'.place)) nc)
 
 pub returns-in_ok-turn-in-Cut-clause-leads : goal.returns-in_ok-turn-in-Cut-clause-leads
-returns-in_ok-turn-in-Cut-clause-leads g c = λ qv a raw s h at af w nc ft.
+returns-in_ok-turn-in-Cut-clause-leads g c = λ qv a raw s h at af w nc.
     let y = c.in-Cut.is in
     absurd (no_atom_first c.args.machine.now a c.args.place c.args.goal c.args.behind raw at (λ u z. cc) af)
 
 pub returns-in_ok-turn-in-Not-clause-leads : goal.returns-in_ok-turn-in-Not-clause-leads
-returns-in_ok-turn-in-Not-clause-leads g c = λ qv a raw s h at af w nc ft.
+returns-in_ok-turn-in-Not-clause-leads g c = λ qv a raw s h at af w nc.
     let y = c.in-Not.is in
     absurd (no_atom_first c.args.machine.now a c.args.place c.args.goal c.args.behind raw at (λ u z. cc) af)
 
 pub returns-in_ok-turn-in_default-clause-leads : goal.returns-in_ok-turn-in_default-clause-leads
-returns-in_ok-turn-in_default-clause-leads g c = λ qv a raw s h at af w nc ft.
+returns-in_ok-turn-in_default-clause-leads g c = λ qv a raw s h at af w nc.
     absurd (no_atom_first c.args.machine.now a c.args.place c.args.goal c.args.behind raw at c.in_default.not-Atom af)

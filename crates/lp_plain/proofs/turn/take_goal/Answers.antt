@@ -124,14 +124,14 @@ pub returns-in_default-clause-written : goal.returns-in_default-clause-written
 returns-in_default-clause-written g c = λ e h ar i w. absurd (none_at_hand c.args.machine.now c.in_default.is h)
 
 pub returns-in_default-clause-leads : goal.returns-in_default-clause-leads
-returns-in_default-clause-leads g c = λ qv s h af w nc ft. absurd (none_atom qv c.args.machine.now s h c.in_default.is af)
+returns-in_default-clause-leads g c = λ qv s h af w nc. absurd (none_atom qv c.args.machine.now s h c.in_default.is af)
 
 pub returns-in_ok-turn-in-Goals-clause-leads : goal.returns-in_ok-turn-in-Goals-clause-leads
-returns-in_ok-turn-in-Goals-clause-leads g c = λ qv s h af w nc ft.
+returns-in_ok-turn-in-Goals-clause-leads g c = λ qv s h af w nc.
     let m = c.args.machine.now in
     c.in_ok-turn-in-Goals.ensures.leads qv h.around h.raw s h.running (at_frame qv m s h c.in-Some.number c.in_ok-frame.frame c.in-Some.is c.in_ok-frame.ensures c.in-Goals.goals c.in-Goals.is) af
-    (frame_written qv m s h c.in-Some.number c.in_ok-frame.frame c.in-Some.is c.in_ok-frame.ensures c.in-Goals.goals c.in-Goals.is qv.arity w) nc ft
+    (frame_written qv m s h c.in-Some.number c.in_ok-frame.frame c.in-Some.is c.in_ok-frame.ensures c.in-Goals.goals c.in-Goals.is qv.arity w) nc
 
 pub returns-in_ok-turn-in-Term-clause-leads : goal.returns-in_ok-turn-in-Term-clause-leads
-returns-in_ok-turn-in-Term-clause-leads g c = λ qv s h af w nc ft.
-    c.in_ok-turn-in-Term.ensures.leads qv h.around h.raw s h.running (term_at qv c.args.machine.now s h c.in-Some.number c.in_ok-frame.frame c.in-Some.is c.in_ok-frame.ensures c.in-Term.term c.in-Term.is) nc ft
+returns-in_ok-turn-in-Term-clause-leads g c = λ qv s h af w nc.
+    c.in_ok-turn-in-Term.ensures.leads qv h.around h.raw s h.running (term_at qv c.args.machine.now s h c.in-Some.number c.in_ok-frame.frame c.in-Some.is c.in_ok-frame.ensures c.in-Term.term c.in-Term.is) nc

@@ -7,7 +7,7 @@ use Rattle.lp_plain.proofs.turn.take_term.Goals as goal
 
 pub returns-in_default : goal.returns-in_default
 returns-in_default g c = record {
-  leads = λ qv a raw s h at nc ft.
+  leads = λ qv a raw s h at nc.
       let m = c.args.machine.now in
       let n = c.head_normal.new.machine in
       deep_look qv m n a raw s h c.args.place c.args.term c.args.behind at (subst (LooksAt m n c.args.term) c.in_default.is c.in_ok-goal.ensures.looks);
@@ -15,7 +15,7 @@ returns-in_default g c = record {
 
 pub returns-then-is_apart : goal.returns-then-is_apart
 returns-then-is_apart g c = record {
-  leads = λ qv a raw s h at nc ft.
+  leads = λ qv a raw s h at nc.
       let m = c.args.machine.now in
       let n = c.head_normal.new.machine in
       let e = c.in_ok-turn.ensures in
@@ -27,7 +27,7 @@ returns-then-is_apart g c = record {
 
 pub returns : goal.returns
 returns g c = record {
-  leads = λ qv a raw s h at nc ft.
+  leads = λ qv a raw s h at nc.
       let m = c.args.machine.now in
       let n = c.head_normal.new.machine in
       let k = c.connective_of-connective.ensures in
