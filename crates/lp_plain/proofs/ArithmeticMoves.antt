@@ -19,6 +19,8 @@ use Rattle.lp_model.specs.Values.{Bytes, Faults, Is, Number, evaluate, ordered, 
 use Rattle.lp_model.specs.declared.ending.Ending.{Ending}
 use Rattle.lp_model.specs.declared.ending.Ending.TheVariants.{Arithmetic, Deep}
 use Rattle.lp_model.specs.declared.ending.Fault.TheVariants.{NotClosed}
+use Rattle.lp_lemmas.specs.Each.{EachOf}
+use Rattle.lp_search_laws.specs.Branches.{IsPlainPair, IsPlainTerm}
 use Rattle.lp_pattern.specs.Putting.{Known}
 use Rattle.lp_pattern.specs.Turning.{IsOpenReading}
 use Rattle.lp_plain.specs.declared.arithmetic.Outcome.{Outcome}
@@ -35,7 +37,7 @@ use Rattle.lp_plain.specs.Entries.{Around}
 use Rattle.lp_plain.specs.Evaluated.{EvaluatesTo, IsNoFunction, IsValueIn}
 use Rattle.lp_plain.specs.Forms.{order_number}
 use Rattle.lp_plain.specs.HeadLooks.{OnlyBank}
-use Rattle.lp_plain.specs.Moving.{AreFew, HasFreeTypes, IsCounted, IsGoingOn, IsState, Leads, Query, turn_for}
+use Rattle.lp_plain.specs.Moving.{AreFew, IsCounted, IsGoingOn, IsState, Leads, Query, turn_for}
 use Rattle.lp_plain.specs.Unifying.{IsBoundIn, StandPairs}
 use Rattle.lp_plain.proofs.AtomTurns.{equate_leads}
 use Rattle.lp_plain.proofs.GoingBank.{above_bank, bank_then, going_bank, going_state, place_bank, reading_bank}
@@ -57,6 +59,10 @@ value_known : (lv : ℕ → ℕ) (n : ℕ) (m : model.Value) → Within (Known l
 value_known lv n (Number i) = tt
 value_known lv n (Bytes s) = tt
 
+value_plain : (n : ℕ) (m : model.Value) → IsPlainTerm n (term_of m)
+value_plain n (Number i) = tt
+value_plain n (Bytes s) = tt
+
 came : (m q : Machine) (t : TermId) (o : Outcome) → IsEvaluated m q t o → t.0 < length m.bank.terms → (z : Closing) → IsOpenReading m.bank m.bindings m.branch.next z → IsSmallExpression (closed z (tree m.bank t.0)) → (n : ℕ) →
     CameTo o n (evaluate n (closed z (tree m.bank t.0))) (IsValueIn q.bank)
 came m q t o e l z y small n = go (beta_normal n (closed z (tree m.bank t.0))) refl o (e.value l z y)
@@ -76,27 +82,27 @@ module _ (qv : Query) (c : Machine) (a : Around) (rest work : Branch) (below : L
 
   -- a value and a term are made one
   value_leads : (q n : Machine) → OnlyBank c q → (l : TermId) → l.0 < length c.bank.terms → Within (Known g.levels rest.next) 0 (closed g.closing (tree c.bank l.0)) → (v : Value) (m : model.Value) → IsValueIn q.bank v m → (turn : Turn) → AreFew turn enough →
-      HasFreeTypes n → IsAssigned q n l p.level v turn → (tasks : List Task) → look unit_limit enough P (length below) task ≡ Takes name tasks → tasks ≡ equated unit_limit enough p.level (closed g.closing (tree c.bank l.0)) (term_of m) work → Leads 1 qv turn n go see s
-  value_leads q n b l inside known v m i turn few free h tasks seen is =
+      IsPlainTerm work.next_type (closed g.closing (tree c.bank l.0)) → EachOf (IsPlainPair work.next_type) work.pairs → IsAssigned q n l p.level v turn → (tasks : List Task) → look unit_limit enough P (length below) task ≡ Takes name tasks → tasks ≡ equated unit_limit enough p.level (closed g.closing (tree c.bank l.0)) (term_of m) work → Leads 1 qv turn n go see s
+  value_leads q n b l inside known v m i turn few plain pairs h tasks seen is =
       let r = h.between in
       let d = bank_then c q r b h.bank in
       let g' = going_bank qv c r d a rest work below g p pl in
       let x = closed g.closing (tree c.bank l.0) in
       let same : n.counts ≡ c.counts = h.bound.counts ∙ ap (λ z. z.counts) d.same in
       subst (λ t. Leads 1 qv t n go see s) (sym h.is)
-      (equate_leads qv r n a rest work below g' p (place_bank qv c r d a rest work below g p pl) h.bound h.residual free l h.term h.same x (term_of m) (ap (closed g.closing) (sym (d.bank.same_terms l.0 inside)))
-      (sym (ap (closed g.closing) (h.term_is m i) ∙ value_closed g.closing m)) known (value_known g.levels rest.next m) h.equated s w j ea es go enough (subst (λ t. AreFew t enough) h.is few) P name task tasks stack seen is (counted n same))
+      (equate_leads qv r n a rest work below g' p (place_bank qv c r d a rest work below g p pl) h.bound h.residual l h.term h.same x (term_of m) (ap (closed g.closing) (sym (d.bank.same_terms l.0 inside)))
+      (sym (ap (closed g.closing) (h.term_is m i) ∙ value_closed g.closing m)) known (value_known g.levels rest.next m) h.equated s w j ea es go enough (subst (λ t. AreFew t enough) h.is few) plain (value_plain work.next_type m) pairs P name task tasks stack seen is (counted n same))
 
-  pub is_leads : (n : Machine) (l r : TermId) (turn : Turn) → Assigns c n l r p.level turn → AreFew turn enough → HasFreeTypes n → l.0 < length c.bank.terms → r.0 < length c.bank.terms → Within (Known g.levels rest.next) 0 (closed g.closing (tree c.bank l.0)) →
+  pub is_leads : (n : Machine) (l r : TermId) (turn : Turn) → Assigns c n l r p.level turn → AreFew turn enough → IsPlainTerm work.next_type (closed g.closing (tree c.bank l.0)) → EachOf (IsPlainPair work.next_type) work.pairs → l.0 < length c.bank.terms → r.0 < length c.bank.terms → Within (Known g.levels rest.next) 0 (closed g.closing (tree c.bank l.0)) →
       IsSmallExpression (closed g.closing (tree c.bank r.0)) → look unit_limit enough P (length below) task ≡ Takes name (assigned unit_limit enough p.level (closed g.closing (tree c.bank l.0)) work (evaluate enough (closed g.closing (tree c.bank r.0)))) →
       Leads 1 qv turn n go see s
-  is_leads n l r turn h few free il ir known small seen =
+  is_leads n l r turn h few plain pairs il ir known small seen =
       by h.outcome (evaluate enough (closed g.closing (tree c.bank r.0))) refl h.by (came c h.between r h.outcome h.evaluated ir g.closing g.reading small enough)
     where
       by : (o : Outcome) (x : Option model.Outcome) → evaluate enough (closed g.closing (tree c.bank r.0)) ≡ x → AssignsBy o h.between n l p.level turn → CameTo o enough x (IsValueIn h.between.bank) → Leads 1 qv turn n go see s
       by o None e k came = lacks qv n below s w j ea es go enough P name task (Lack ∷ []) stack (seen ∙ ap (λ y. Takes name (assigned unit_limit enough p.level (closed g.closing (tree c.bank l.0)) work y)) e) refl turn
       by (code.Is v) (Some x) e k came =
-          value_leads h.between n h.evaluated.bank l il known v came.0 came.2 turn few free k _ (seen ∙ ap (λ y. Takes name (assigned unit_limit enough p.level (closed g.closing (tree c.bank l.0)) work y)) (e ∙ ap (λ y. Some y) came.1)) refl
+          value_leads h.between n h.evaluated.bank l il known v came.0 came.2 turn few plain pairs k _ (seen ∙ ap (λ y. Takes name (assigned unit_limit enough p.level (closed g.closing (tree c.bank l.0)) work y)) (e ∙ ap (λ y. Some y) came.1)) refl
       by (code.Faults f) (Some x) e k came =
           subst (λ t. Leads 1 qv t n go see s) (sym k)
           (stops qv n below s w j ea es go enough P name task (Stop (Arithmetic f) ∷ []) stack (seen ∙ ap (λ y. Takes name (assigned unit_limit enough p.level (closed g.closing (tree c.bank l.0)) work y)) (e ∙ ap (λ y. Some y) came)) (Arithmetic f) refl)

@@ -20,6 +20,8 @@ use Rattle.lp_model.specs.Search.{assigned, compared, look, look_constant, with_
 use Rattle.lp_model.specs.Skeleton.{Inner, State, Takes, named}
 use Rattle.lp_model.specs.Unify.{unit_limit}
 use Rattle.lp_model.specs.Values.{evaluate}
+use Rattle.lp_lemmas.specs.Each.{EachOf}
+use Rattle.lp_search_laws.specs.Branches.{IsPlainTerm}
 use Rattle.lp_pattern.specs.Putting.{Known}
 use Rattle.lp_plain.specs.declared.form.Form.TheVariants as form
 use Rattle.lp_plain.specs.declared.frame.Place.{Place}
@@ -30,12 +32,13 @@ use Rattle.lp_plain.specs.AtRunTime.{HasNoCall, IsAtLooked, IsAtomForm, IsNoCall
 use Rattle.lp_plain.specs.Cuts.{one_step}
 use Rattle.lp_plain.specs.Entries.{Around}
 use Rattle.lp_plain.specs.Forms.{IsRelation, order_number}
-use Rattle.lp_plain.specs.Moving.{HasFreeTypes, IsCounted, IsRunning, KeepsSearch, Leads, LeadsTo, Query}
+use Rattle.lp_plain.specs.Moving.{IsCounted, IsRunning, KeepsSearch, Leads, LeadsTo, Query}
 use Rattle.lp_plain.proofs.ArithmeticMoves.{is_leads, order_leads}
 use Rattle.lp_plain.proofs.AtomMoves.{behind, by_seen, f, named_known, named_same, named_view, waits}
 use Rattle.lp_plain.proofs.AtomTurns.{left, place_stepped, stepped, steps_are}
 use Rattle.lp_plain.proofs.GoingOn.{step_counted}
 use Rattle.lp_plain.proofs.LeftOut.{comes}
+use Rattle.lp_plain.proofs.TypedGoals.{front_arguments, front_pairs}
 
 module _ (qv : Query) (m c : Machine) (a : Around) (raw : Branch) (s : State Task) (h : IsRunning qv m a raw s) (p : Place) (u : TermId) (o : Option ℕ) (at : IsAtLooked m h.closing a p u o raw) (k : KeepsSearch m c o) (ch : c.choices ≡ m.choices)
     (ct : c.counts ≡ one_step m.counts) (there : m.counts.steps < m.counts.limit) (kept : c.bank ≡ m.bank) (none : HasNoCall h.at_work.goals) (n : Machine) (turn : Turn) where
@@ -87,14 +90,18 @@ module _ (qv : Query) (m c : Machine) (a : Around) (raw : Branch) (s : State Tas
   order_tasks AtMost P enough height t l r = refl
   order_tasks AtLeast P enough height t l r = refl
 
-  pub is_turn : (l r : TermId) → IsAtomForm m.bank x (form.Is l r) → (l.0 < length m.bank.terms) × (r.0 < length m.bank.terms) → Assigns c n l r p.level turn → HasFreeTypes n → LeadsTo 1 qv turn n s
-  is_turn l r i st e free w ea go enough few P =
+  pub is_turn : (l r : TermId) → IsAtomForm m.bank x (form.Is l r) → (l.0 < length m.bank.terms) × (r.0 < length m.bank.terms) → Assigns c n l r p.level turn → LeadsTo 1 qv turn n s
+  is_turn l r i st e w ea go enough few P ty =
       by_seen qv m a raw s h p u o at enough P (Leads 1 qv turn n go (look unit_limit enough P) s) (waits qv m a raw s h p u o at enough P n w ea go turn) (λ t q.
       let v = of i in
       let known = named_known qv m a raw s h p u o at enough P t q number.Is l r v.0 v.1 in
+      let y = f qv m a raw s h p u o at in
+      let args =
+      subst (EachOf (IsPlainTerm h.at_work.next_type)) (named_same qv m a raw s h p u o at enough P t q number.Is l r v.0 v.1).2
+      (front_arguments qv.arity enough P s ty h.at_work h.rest h.stack y.first y.rest y.whole y.goal t enough y.is q) in
       let small = small_right (closed h.closing (tree m.bank l.0)) (closed h.closing (tree m.bank r.0)) (relation_of number.Is l r v enough P t q).1 in
       is_leads qv c a rest work h.rest (stepped qv m c a raw s h p u o at k ch ct there) p (place_stepped qv m c a raw s h p u o at k ch ct there) s w (left qv m c a raw s h p u o at k ch ct there) ea
-      (steps_are qv m c a raw s h p u o at k ch ct there) go enough P (named number.Is) (Go h.at_work) h.stack (counted w) n l r turn e few free
+      (steps_are qv m c a raw s h p u o at k ch ct there) go enough P (named number.Is) (Go h.at_work) h.stack (counted w) n l r turn e few (subst (IsPlainTerm h.at_work.next_type) (same_closed l) args.0) (front_pairs qv.arity enough P s ty h.at_work h.rest h.stack y.first y.rest y.whole)
       (subst (λ b. l.0 < length b.terms) (sym kept) st.0) (subst (λ b. r.0 < length b.terms) (sym kept) st.1) (subst (Within (Known h.levels raw.next) 0) (same_closed l) known.0) (subst IsSmallExpression (same_closed r) small)
       (named_view qv m a raw s h p u o at enough P t q number.Is l r v.0 v.1 ∙
       (λ j. Takes (named number.Is) (assigned unit_limit enough (level_is j) (same_closed l j) work (evaluate enough (same_closed r j))))))
@@ -104,7 +111,7 @@ module _ (qv : Query) (m c : Machine) (a : Around) (raw : Branch) (s : State Tas
       of (inr y) = absurd (let z = y.1 in cc)
 
   pub order_turn : (v : Compare) (l r : TermId) → IsAtomForm m.bank x (form.Order v l r) → (l.0 < length m.bank.terms) × (r.0 < length m.bank.terms) → Compares c n v l r turn → LeadsTo 1 qv turn n s
-  order_turn v l r i st e w ea go enough few P =
+  order_turn v l r i st e w ea go enough few P ty =
       by_seen qv m a raw s h p u o at enough P (Leads 1 qv turn n go (look unit_limit enough P) s) (waits qv m a raw s h p u o at enough P n w ea go turn) (λ t q.
       let y = of i in
       let small = small_both v (closed h.closing (tree m.bank l.0)) (closed h.closing (tree m.bank r.0)) (relation_of (order_number v) l r y enough P t q).1 in

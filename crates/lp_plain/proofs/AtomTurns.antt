@@ -129,7 +129,7 @@ module _ (qv : Query) (m c : Machine) (a : Around) (raw : Branch) (s : State Tas
     pub other_leads : IsAtomForm m.bank (tree m.bank u.0) form.Other → LeadsTo 1 qv Turn.Back n s
     other_leads i w ea go enough few P ty =
         by_seen qv m a raw s h p u o at enough P (Leads 1 qv Turn.Back n go (look unit_limit enough P) s) (waits qv m a raw s h p u o at enough P n w ea go Turn.Back) (λ t q.
-        none_left qv c n a rest work h.rest stepped p place_stepped b residual free s w left ea steps_are go enough P variable (Go h.at_work) [] h.stack
+        none_left qv c n a rest work h.rest stepped p place_stepped b residual s w left ea steps_are go enough P variable (Go h.at_work) [] h.stack
         (other_view qv m a raw s h p u o at enough P t q i) (λ ts. counted_after (suc w) (ts ++ h.rest)) refl)
 
     pub equal_leads : (l r : TermId) (same : Unified) → IsAtomForm m.bank (tree m.bank u.0) (form.Equal l r) → c.bank ≡ m.bank → IsEquatedAs c n l r p.level same → LeadsTo 1 qv (turn_for same) n s

@@ -131,15 +131,16 @@ module _ (qv : Query) (m n : Machine) (a : Around) (raw rest : Branch) (below : 
       pub none_left : tasks ≡ [] → Leads 1 qv Turn.Back n go see s
       none_left e = fails qv n below s w j ea es go enough P name task tasks stack seen e (record { around = a; above = above; counted = counted [] })
 
-      by_outcome : (u : Unified) (x : Option Outcome) → AreFew (turn_for u) enough → tasks ≡ follow rest x → ((y : Outcome) → x ≡ Some y → IsUnifiedAs u h.levels m.branch.next h.closing n enough y) → Leads 1 qv (turn_for u) n go see s
-      by_outcome u None few e k = lacks qv n below s w j ea es go enough P name task tasks stack seen e (turn_for u)
-      by_outcome Unified.Fits (Some Fail) few e k = absurd (let z = k Fail refl in z)
-      by_outcome Unified.Fits (Some Spent) few e k = absurd (let z = k Spent refl in z)
-      by_outcome Unified.Fits (Some (Solution st)) few e k =
+      by_outcome : (u : Unified) (x : Option Outcome) → AreFew (turn_for u) enough → tasks ≡ follow rest x → ((y : Outcome) → x ≡ Some y → IsUnifiedAs u h.levels m.branch.next h.closing n enough y) → ((st : Solved) → x ≡ Some (Solution st) → StaysFree st) →
+          Leads 1 qv (turn_for u) n go see s
+      by_outcome u None few e k free = lacks qv n below s w j ea es go enough P name task tasks stack seen e (turn_for u)
+      by_outcome Unified.Fits (Some Fail) few e k free = absurd (let z = k Fail refl in z)
+      by_outcome Unified.Fits (Some Spent) few e k free = absurd (let z = k Spent refl in z)
+      by_outcome Unified.Fits (Some (Solution st)) few e k free =
           let y = k (Solution st) refl in
-          goes qv n below s w j ea es go enough P name task tasks stack seen (resume rest st) e (goes_on st y.0 y.1 y.2 (after (Go (resume rest st) ∷ [])) refl (counted (Go (resume rest st) ∷ [])))
-      by_outcome Unified.Fails (Some y) few e k = none_left (e ∙ ap (λ q. follow rest (Some q)) (k y refl))
-      by_outcome Unified.Deep (Some y) few e k = stops qv n below s w j ea es go enough P name task tasks stack seen Deep (e ∙ ap (λ q. follow rest (Some q)) (k y refl (let l = few refl in omega (arith, l))))
+          goes qv n below s w j ea es go enough P name task tasks stack seen (resume rest st) e (goes_on st y.0 y.1 y.2 (free st refl y.0 (variable_behind h.levels m.branch.next h.closing n.bank n.branch.next n.branch.pairs.items y.0 st y.2)) (after (Go (resume rest st) ∷ [])) refl (counted (Go (resume rest st) ∷ [])))
+      by_outcome Unified.Fails (Some y) few e k free = none_left (e ∙ ap (λ q. follow rest (Some q)) (k y refl))
+      by_outcome Unified.Deep (Some y) few e k free = stops qv n below s w j ea es go enough P name task tasks stack seen Deep (e ∙ ap (λ q. follow rest (Some q)) (k y refl (let l = few refl in omega (arith, l))))
 
       pub unified_leads : (u : Unified) → AreFew (turn_for u) enough → (o : Option Outcome) → tasks ≡ follow rest o → ((y : Outcome) → o ≡ Some y → IsUnifiedAs u h.levels m.branch.next h.closing n enough y) → ((st : Solved) → o ≡ Some (Solution st) → StaysFree st) →
           Leads 1 qv (turn_for u) n go see s

@@ -12,7 +12,7 @@ ghost use Rattle.lp_plain.specs.Cuts.{CutsOff};
 ghost use Rattle.lp_plain.specs.Assuming.{KeepsAssumed};
 ghost use Rattle.lp_plain.specs.Entries.{Around, KeepsGoals};
 ghost use Rattle.lp_plain.specs.Forms.{StandsForm};
-ghost use Rattle.lp_plain.specs.Moving.{HasFreeTypes, IsAtGoal, IsAtTry, IsRunning, IsTrying, LeadsTo, MovesTo, Query};
+ghost use Rattle.lp_plain.specs.Moving.{IsAtGoal, IsAtTry, IsRunning, IsTrying, LeadsTo, MovesTo, Query};
 ghost use Rattle.lp_plain.specs.Stacks.{CutsTasks, HaveTasks, IsMarkOf};
 ghost use Rattle.lp_plain.specs.Within.{StandsIn};
 ghost use Rattle.lp_plain.specs.WrittenSearch.{IsWrittenSearch};
@@ -228,7 +228,7 @@ pub(crate) fn take_atom<W: Watch>(
     behind: Option<usize>,
 ) -> Result<Turn, Memory>
     ensures leads { IfOk result (λ turn. (qv : Query) (a : Around) (raw : Branch) (s : State Task) (h : IsRunning qv machine.old a raw s) → IsAtLooked machine.old h.closing a place goal behind raw → IsAtomForm machine.old.bank (tree machine.old.bank goal.0) form →
-        StandsForm (length machine.old.bank.terms) form → HasNoCall h.at_work.goals → HasFreeTypes machine.new → LeadsTo 1 qv turn machine.new s) }
+        StandsForm (length machine.old.bank.terms) form → HasNoCall h.at_work.goals → LeadsTo 1 qv turn machine.new s) }
 {
     if !take_step(machine) {
         return Ok(Turn::Ended(Ending::Steps));

@@ -12,14 +12,14 @@ use Rattle.lp_plain.proofs.atomic.take_atom.Goals as goal
 
 pub returns-then-not-take_step : goal.returns-then-not-take_step
 returns-then-not-take_step g c = record {
-  leads = λ qv a raw s h at i sf nc ft w ea go enough few P.
+  leads = λ qv a raw s h at i sf nc w ea go enough few P ty.
       let m = c.args.machine.now in
       spent_leads qv m a raw s h c.args.place c.args.goal c.args.behind at enough P m w ea go c.args.form i (c.if-not-take_step.ensures.spent refl).1;
 }
 
 pub returns-in_ok-unified-in-Equal : goal.returns-in_ok-unified-in-Equal
 returns-in_ok-unified-in-Equal g c = record {
-  leads = λ qv a raw s h at i sf nc ft.
+  leads = λ qv a raw s h at i sf nc.
       let m = c.args.machine.now in
       let k = c.take_step.new.machine in
       let o = c.args.behind in
@@ -33,18 +33,18 @@ returns-in_ok-unified-in-Equal g c = record {
 
 pub returns-in_ok-turn-in-Is : goal.returns-in_ok-turn-in-Is
 returns-in_ok-turn-in-Is g c = record {
-  leads = λ qv a raw s h at i sf nc ft.
+  leads = λ qv a raw s h at i sf nc.
       let m = c.args.machine.now in
       let k = c.take_step.new.machine in
       let o = c.args.behind in
       let t = c.if-not-take_step.ensures in
       is_turn qv m (going_behind k o) a raw s h c.args.place c.args.goal o at (step_kept m k o t.goals t.assumed t.frames t.denied t.branch) t.choices (t.counts refl) (t.there refl) t.goals.known.bank nc c.assign.new.machine
-      c.in_ok-turn-in-Is.turn c.in-Is.left c.in-Is.right (subst (IsAtomForm m.bank (tree m.bank c.args.goal.0)) c.in-Is.is i) (subst (StandsForm (length m.bank.terms)) c.in-Is.is sf) c.in_ok-turn-in-Is.ensures ft;
+      c.in_ok-turn-in-Is.turn c.in-Is.left c.in-Is.right (subst (IsAtomForm m.bank (tree m.bank c.args.goal.0)) c.in-Is.is i) (subst (StandsForm (length m.bank.terms)) c.in-Is.is sf) c.in_ok-turn-in-Is.ensures;
 }
 
 pub returns-in_ok-turn-in-Order : goal.returns-in_ok-turn-in-Order
 returns-in_ok-turn-in-Order g c = record {
-  leads = λ qv a raw s h at i sf nc ft.
+  leads = λ qv a raw s h at i sf nc.
       let m = c.args.machine.now in
       let k = c.take_step.new.machine in
       let o = c.args.behind in
@@ -55,14 +55,14 @@ returns-in_ok-turn-in-Order g c = record {
 
 pub returns-in_ok-turn-in-Call : goal.returns-in_ok-turn-in-Call
 returns-in_ok-turn-in-Call g c = record {
-  leads = λ qv a raw s h at i sf nc ft.
+  leads = λ qv a raw s h at i sf nc.
       let m = c.args.machine.now in
       call_left qv m a raw s h c.args.place c.args.goal c.args.behind at nc c.take_call.new.machine c.in_ok-turn-in-Call.turn c.in-Call.head c.in-Call.first (subst (IsAtomForm m.bank (tree m.bank c.args.goal.0)) c.in-Call.is i);
 }
 
 pub returns-in-Flexible : goal.returns-in-Flexible
 returns-in-Flexible g c = record {
-  leads = λ qv a raw s h at i sf nc ft.
+  leads = λ qv a raw s h at i sf nc.
       let m = c.args.machine.now in
       let k = c.take_step.new.machine in
       let o = c.args.behind in
@@ -74,7 +74,7 @@ returns-in-Flexible g c = record {
 
 pub returns-in-Other : goal.returns-in-Other
 returns-in-Other g c = record {
-  leads = λ qv a raw s h at i sf nc ft.
+  leads = λ qv a raw s h at i sf nc.
       let m = c.args.machine.now in
       let k = c.take_step.new.machine in
       let o = c.args.behind in
