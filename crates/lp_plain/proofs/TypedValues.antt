@@ -1,11 +1,11 @@
 -- Well-typed expressions: an abstraction that stands where a value is looked for has none.
-use Rattle.std.proofs.Common.{◌≡◌, ℕ, suc, ◌≤◌, ◌<◌, List, [], ◌∷◌, length, refl, sym, ap, ◌∙◌, subst, arith, Bool, true, false, nat_eq, nat_le, if◌then◌else◌, Option, Some, None, inl, inr}
-use Rattle.std.specs.Prelude.{◌⊎◌, ◌&&◌, ◌||◌}
+use Rattle.std.proofs.Common.{◌≡◌, ℕ, suc, ◌≤◌, ◌<◌, List, refl, sym, ap, ◌∙◌, subst, arith, Bool, true, false, nat_eq, nat_le, if◌then◌else◌, Some, inl, inr}
+use Rattle.std.specs.Prelude.{◌⊎◌}
 use Rattle.std.proofs.lemmas.Bool.Decides.{nat_tests}
 use Rattle.lp_calculus.specs.Normal.{IsBetaNormal, eta_normal}
-use Rattle.lp_calculus.specs.Types.{Ty, arrow, con, instance, no_types}
+use Rattle.lp_calculus.specs.Types.{Ty, arrow, con, no_types}
 use Rattle.lp_calculus.specs.Term.{Term, index, atom, abs, app, constant, integer, text, eigen, logic, param}
-use Rattle.lp_calculus.specs.Typing.{Context, Typed, atom_type, int_type, scheme_type, string_type, type_at}
+use Rattle.lp_calculus.specs.Typing.{Context, Typed, atom_type, int_type, scheme_type, string_type}
 use Rattle.lp_calculus.proofs.Subject.{typed_reduces}
 use Rattle.lp_standard.specs.Schemes.{IsStandard, entry, on_two, plain, standard_schemes}
 use Rattle.lp_term.proofs.EtaForms.{form_is}
@@ -14,37 +14,16 @@ use Rattle.lp_model.specs.Values.{Faults, both, is_binary, is_one_place, is_two_
 use Rattle.lp_model.specs.declared.ending.Fault.TheVariants.{NotClosed}
 use Rattle.lp_unify_laws.proofs.Looks.{beta_reduces}
 use Rattle.lp_unify_laws.proofs.Termination.SemiForms.{normal_of}
+use Rattle.lp_search_laws.proofs.Computed.{both_true, either_true, is_number, not_above, plain_type}
 use Rattle.lp_plain.specs.Evaluated.{IsNoFunction}
 
 -- the numbers of the operations
-same_number : (a b : ℕ) → nat_eq a b ≡ true → a ≡ b
-same_number a b e = grind (e, arith, nat_tests)
-
-either : (a b : Bool) → (a || b) ≡ true → (a ≡ true) ⊎ (b ≡ true)
-either true b e = inl refl
-either false b e = inr e
-
-between : (a b : Bool) → (a && b) ≡ true → (a ≡ true) × (b ≡ true)
-between true b e = (refl, e)
-between false b e = absurd (cc)
-
-at_least : (a b : ℕ) → nat_le a b ≡ true → a ≤ b
-at_least a b e = grind (e, arith, nat_tests)
-
 next_number : (a c : ℕ) → a ≤ c → (c ≡ a) ⊎ (suc a ≤ c)
 next_number a c l = go (nat_eq c a) refl
   where
     go : (t : Bool) → nat_eq c a ≡ t → (c ≡ a) ⊎ (suc a ≤ c)
-    go true e = inl (same_number c a e)
+    go true e = inl (is_number c a e)
     go false e = inr (grind (l, e, arith, nat_tests))
-
--- a declared type without variables
-declared_type : (ts : List Ty) (S X : Ty) → scheme_type ts (plain S) ≡ Some X → X ≡ instance (type_at ts) S
-declared_type [] S X e = let q : instance (type_at []) S ≡ X = cc in sym q
-declared_type (t ∷ ts) S X e =
-    let q : nat_eq (suc (length ts)) 0 ≡ false = grind (arith, nat_tests) in
-    let y : (if false then Some (instance (type_at (t ∷ ts)) S) else None) ≡ Some X = sym (ap (λ b. if b then Some (instance (type_at (t ∷ ts)) S) else None) q) ∙ e in
-    absurd (cc)
 
 -- a type without parts
 abbrev IsGround : Ty → Type 0
@@ -71,7 +50,7 @@ module _ (K : Context) (std : IsStandard K.declared) (C : List Ty) where
   IsTwo c = (ts : List Ty) (A B T : Ty) → scheme_type ts (K.declared c) ≡ Some (arrow A (arrow B T)) → IsGround A × IsGround B × IsGround T
 
   two_at : (c k : ℕ) → c < 32 → entry standard_schemes c ≡ plain (on_two (con k no_types) (con k no_types)) → IsTwo c
-  two_at c k l e ts A B T f = two_grounds A B T k (declared_type ts (on_two (con k no_types) (con k no_types)) (arrow A (arrow B T)) (sym (ap (scheme_type ts) (std.at c l ∙ e)) ∙ f))
+  two_at c k l e ts A B T f = two_grounds A B T k (plain_type ts (on_two (con k no_types) (con k no_types)) (arrow A (arrow B T)) (sym (ap (scheme_type ts) (std.at c l ∙ e)) ∙ f)).1
 
   five : (c : ℕ) → 16 ≤ c → c ≤ 20 → IsTwo c
   five c l h = go (next_number 16 c l)
@@ -93,24 +72,24 @@ module _ (K : Context) (std : IsStandard K.declared) (C : List Ty) where
       go (inr m) = go2 (next_number 17 c m)
 
   two_places : (c : ℕ) → is_two_place c ≡ true → IsTwo c
-  two_places c t = go (either (is_binary c) (nat_eq c 22) t)
+  two_places c t = go (either_true (is_binary c) (nat_eq c 22) t)
     where
       go : (is_binary c ≡ true) ⊎ (nat_eq c 22 ≡ true) → IsTwo c
-      go (inl h) = let b = between (nat_le 16 c) (nat_le c 20) h in five c (at_least 16 c b.0) (at_least c 20 b.1)
-      go (inr h) = subst IsTwo (sym (same_number c 22 h)) (two_at 22 2 (omega arith) refl)
+      go (inl h) = let b = both_true (nat_le 16 c) (nat_le c 20) h in five c (not_above 16 c b.0) (not_above c 20 b.1)
+      go (inr h) = subst IsTwo (sym (is_number c 22 h)) (two_at 22 2 (omega arith) refl)
 
   abbrev IsOne : ℕ → Type 0
   IsOne c = (ts : List Ty) (A T : Ty) → scheme_type ts (K.declared c) ≡ Some (arrow A T) → IsGround A × IsGround T
 
   one_at : (c j k : ℕ) → c < 32 → entry standard_schemes c ≡ plain (arrow (con j no_types) (con k no_types)) → IsOne c
-  one_at c j k l e ts A T f = one_ground A T j k (declared_type ts (arrow (con j no_types) (con k no_types)) (arrow A T) (sym (ap (scheme_type ts) (std.at c l ∙ e)) ∙ f))
+  one_at c j k l e ts A T f = one_ground A T j k (plain_type ts (arrow (con j no_types) (con k no_types)) (arrow A T) (sym (ap (scheme_type ts) (std.at c l ∙ e)) ∙ f)).1
 
   one_place : (c : ℕ) → is_one_place c ≡ true → IsOne c
-  one_place c t = go (either (nat_eq c 21) (nat_eq c 23) t)
+  one_place c t = go (either_true (nat_eq c 21) (nat_eq c 23) t)
     where
       go : (nat_eq c 21 ≡ true) ⊎ (nat_eq c 23 ≡ true) → IsOne c
-      go (inl h) = subst IsOne (sym (same_number c 21 h)) (one_at 21 1 1 (omega arith) refl)
-      go (inr h) = subst IsOne (sym (same_number c 23 h)) (one_at 23 2 1 (omega arith) refl)
+      go (inl h) = subst IsOne (sym (is_number c 21 h)) (one_at 21 1 1 (omega arith) refl)
+      go (inr h) = subst IsOne (sym (is_number c 23 h)) (one_at 23 2 1 (omega arith) refl)
 
   -- what has the type of a function has no value
   one_function : (c : ℕ) (ts : List Ty) (a : Term) (D A B : Ty) → scheme_type ts (K.declared c) ≡ Some (arrow D (arrow A B)) → (t : Bool) → is_one_place c ≡ t → (if t then single c (value a) else Faults NotClosed) ≡ Faults NotClosed
