@@ -37,10 +37,12 @@ use Rattle.lp_plain.specs.Forms.{IsRelation}
 use Rattle.lp_plain.specs.Moving.{AreFew, IsCounted, IsGoingOn, IsRunning, KeepsSearch, Leads, LeadsTo, Query, turn_for}
 use Rattle.lp_plain.specs.Unifying.{IsBoundIn, IsEquatedAs, IsUnifiedAs, StandPairs}
 use Rattle.lp_plain.proofs.Assumed.{lists_noted}
-use Rattle.lp_plain.proofs.AtomMoves.{behind, by_seen, f, flexible_view, named_known, named_view, other_view, waits}
+use Rattle.lp_plain.proofs.AtomMoves.{behind, by_seen, f, flexible_view, named_known, named_same, named_view, other_view, waits}
 use Rattle.lp_plain.proofs.EqualMoves.{none_left, unified_leads}
 use Rattle.lp_plain.proofs.GoingOn.{going_on, step_counted}
 use Rattle.lp_plain.proofs.TaskMoves.{stops}
+use Rattle.lp_plain.proofs.TypedGoals.{front_arguments, front_pairs}
+use Rattle.lp_plain.proofs.TypedTries.{free_behind, plain_bound}
 
 -- nothing is bound
 pub bound_same : (m : Machine) → IsBoundIn m m

@@ -1,11 +1,13 @@
 -- A unification in front of the goals behind an atom, as moves of the definition.
 use Rattle.std.proofs.Common.{◌≡◌, ◌≤◌, ℕ, suc, List, [], ◌∷◌, ◌++◌, length, refl, sym, ap, inl, inr, ◌∙◌, subst, arith, Option, None, Some, Bool}
 use Rattle.lp_calculus.specs.Fill.{Within}
+use Rattle.lp_calculus.specs.Types.{var}
 use Rattle.lp_model.specs.Branch.{Answer, Branch, Go, Task, resume}
 use Rattle.lp_model.specs.Flat.{Clause}
 use Rattle.lp_model.specs.Pair.{Closing, closed}
 use Rattle.lp_model.specs.Search.{follow, look, types_from, vars_from}
 use Rattle.lp_model.specs.Skeleton.{GoalName, Inner, State, Takes, View}
+use Rattle.lp_model.specs.Types.{put_types}
 use Rattle.lp_model.specs.Unify.{State as Solved, Unified as Outcome, Fail, Solution, Spent, unit_limit}
 use Rattle.lp_model.specs.declared.ending.Ending.TheVariants.{Deep}
 use Rattle.lp_pattern.specs.Growing.{GoesOn}
@@ -27,6 +29,7 @@ use Rattle.lp_plain.proofs.AboveUnder.{still_all, still_done, still_turn}
 use Rattle.lp_plain.proofs.Grown.{grown_on, grown_still, placed_on, same_around}
 use Rattle.lp_plain.proofs.Growing.{reads_later}
 use Rattle.lp_plain.proofs.Opening.{bank_stands}
+use Rattle.lp_plain.proofs.Resumed.{variable_behind}
 use Rattle.lp_plain.proofs.ResumedUnder.{known_behind, resumed_under, terms_known, types_behind, values_behind}
 use Rattle.lp_plain.proofs.TaskMoves.{fails, goes, lacks, stops}
 use Rattle.lp_plain.proofs.TryGrows.{bound_more}

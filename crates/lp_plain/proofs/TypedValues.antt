@@ -98,7 +98,7 @@ module _ (K : Context) (std : IsStandard K.declared) (C : List Ty) where
 
   two_function : (c : ℕ) (ts : List Ty) (a b : Term) (D E A B : Ty) → scheme_type ts (K.declared c) ≡ Some (arrow D (arrow E (arrow A B))) → (t : Bool) → is_two_place c ≡ t →
       (if t then both c (value a) (value b) else Faults NotClosed) ≡ Faults NotClosed
-  two_function c ts a b D E A B h true e = absurd (no_arrow A B (two_places c e ts D E (arrow A B) h).1.1)
+  two_function c ts a b D E A B h true e = absurd (no_arrow A B (two_places c e ts D E (arrow A B) h).2)
   two_function c ts a b D E A B h false e = refl
 
   function_value : (t : Term) (A B : Ty) → Typed K C t (arrow A B) → value t ≡ Faults NotClosed
@@ -144,7 +144,7 @@ module _ (K : Context) (std : IsStandard K.declared) (C : List Ty) where
   operand (app (app (index i) v) u) T g h = tt
   operand (app (app (abs b) v) u) T g h = tt
   operand (app (app (app t w) v) u) T g h = tt
-  operand (app (app (atom (constant c ts)) v) u) T g h = λ e. let w = two_places c e ts h.1.0 h.0 T h.1.1 in (operand v h.1.0 w.0 h.1.2, operand u h.0 w.1.0 h.2)
+  operand (app (app (atom (constant c ts)) v) u) T g h = λ e. let w = two_places c e ts h.1.0 h.0 T h.1.1 in (operand v h.1.0 w.0 h.1.2, operand u h.0 w.1 h.2)
   operand (app (app (atom (integer z)) v) u) T g h = tt
   operand (app (app (atom (text s)) v) u) T g h = tt
   operand (app (app (atom (eigen k)) v) u) T g h = tt
@@ -169,7 +169,7 @@ module _ (K : Context) (std : IsStandard K.declared) (C : List Ty) where
   typed_expression (app (app (index i) v) u) T n h = tt
   typed_expression (app (app (abs b) v) u) T n h = tt
   typed_expression (app (app (app t w) v) u) T n h = tt
-  typed_expression (app (app (atom (constant c ts)) v) u) T n h = λ e. let w = two_places c e ts h.1.0 h.0 T h.1.1 in (operand v h.1.0 w.0 h.1.2, operand u h.0 w.1.0 h.2)
+  typed_expression (app (app (atom (constant c ts)) v) u) T n h = λ e. let w = two_places c e ts h.1.0 h.0 T h.1.1 in (operand v h.1.0 w.0 h.1.2, operand u h.0 w.1 h.2)
   typed_expression (app (app (atom (integer z)) v) u) T n h = tt
   typed_expression (app (app (atom (text s)) v) u) T n h = tt
   typed_expression (app (app (atom (eigen k)) v) u) T n h = tt
