@@ -32,9 +32,8 @@ use Rattle.lp_plain.specs.declared.machine.Machine.{Machine}
 use Rattle.lp_plain.specs.declared.outcome.Turn.{Turn}
 use Rattle.lp_plain.specs.Assigned.{Assigns, AssignsBy, Compares, ComparesBy, ComparesWith, IsAssigned, IsEvaluated, IsNumber, IsNumberOr, turn_if}
 use Rattle.lp_plain.specs.Assuming.{IsPlaceAt, lists_of}
-use Rattle.lp_plain.specs.AtRunTime.{IsSmallExpression}
 use Rattle.lp_plain.specs.Entries.{Around}
-use Rattle.lp_plain.specs.Evaluated.{EvaluatesTo, IsNoFunction, IsValueIn}
+use Rattle.lp_plain.specs.Evaluated.{EvaluatesTo, IsEvaluable, IsNoFunction, IsValueIn}
 use Rattle.lp_plain.specs.Forms.{order_number}
 use Rattle.lp_plain.specs.HeadLooks.{OnlyBank}
 use Rattle.lp_plain.specs.Moving.{AreFew, IsCounted, IsGoingOn, IsState, Leads, Query, turn_for}
@@ -63,7 +62,7 @@ value_plain : (n : ℕ) (m : model.Value) → IsPlainTerm n (term_of m)
 value_plain n (Number i) = tt
 value_plain n (Bytes s) = tt
 
-came : (m q : Machine) (t : TermId) (o : Outcome) → IsEvaluated m q t o → t.0 < length m.bank.terms → (z : Closing) → IsOpenReading m.bank m.bindings m.branch.next z → IsSmallExpression (closed z (tree m.bank t.0)) → (n : ℕ) →
+came : (m q : Machine) (t : TermId) (o : Outcome) → IsEvaluated m q t o → t.0 < length m.bank.terms → (z : Closing) → IsOpenReading m.bank m.bindings m.branch.next z → IsEvaluable (closed z (tree m.bank t.0)) → (n : ℕ) →
     CameTo o n (evaluate n (closed z (tree m.bank t.0))) (IsValueIn q.bank)
 came m q t o e l z y small n = go (beta_normal n (closed z (tree m.bank t.0))) refl o (e.value l z y)
   where
@@ -94,7 +93,7 @@ module _ (qv : Query) (c : Machine) (a : Around) (rest work : Branch) (below : L
       (sym (ap (closed g.closing) (h.term_is m i) ∙ value_closed g.closing m)) known (value_known g.levels rest.next m) h.equated s w j ea es go enough (subst (λ t. AreFew t enough) h.is few) plain (value_plain work.next_type m) pairs P name task tasks stack seen is (counted n same))
 
   pub is_leads : (n : Machine) (l r : TermId) (turn : Turn) → Assigns c n l r p.level turn → AreFew turn enough → IsPlainTerm work.next_type (closed g.closing (tree c.bank l.0)) → EachOf (IsPlainPair work.next_type) work.pairs → l.0 < length c.bank.terms → r.0 < length c.bank.terms → Within (Known g.levels rest.next) 0 (closed g.closing (tree c.bank l.0)) →
-      IsSmallExpression (closed g.closing (tree c.bank r.0)) → look unit_limit enough P (length below) task ≡ Takes name (assigned unit_limit enough p.level (closed g.closing (tree c.bank l.0)) work (evaluate enough (closed g.closing (tree c.bank r.0)))) →
+      IsEvaluable (closed g.closing (tree c.bank r.0)) → look unit_limit enough P (length below) task ≡ Takes name (assigned unit_limit enough p.level (closed g.closing (tree c.bank l.0)) work (evaluate enough (closed g.closing (tree c.bank r.0)))) →
       Leads 1 qv turn n go see s
   is_leads n l r turn h few plain pairs il ir known small seen =
       by h.outcome (evaluate enough (closed g.closing (tree c.bank r.0))) refl h.by (came c h.between r h.outcome h.evaluated ir g.closing g.reading small enough)
@@ -147,7 +146,7 @@ module _ (qv : Query) (c : Machine) (a : Around) (rest work : Branch) (below : L
             (stops qv n below s w j ea es go enough P name task (Stop (Arithmetic f) ∷ []) stack (seen ∙ ap (λ u. Takes name (compared order work (Some (Is (Number x))) (Some u))) came) (Arithmetic f) refl)
         by code.Deep k i cw (Some u) came seen = absurd (came (let z = few (subst (λ k. ComparesWith x k o turn) i cw) in omega (arith, z)))
 
-  first_leads : (n : Machine) (o : Compare) (turn : Turn) → AreFew turn enough → (q : Machine) → OnlyBank c q → (l r : TermId) (k : Result ℤ Ending) → (h : IsNumber c q l k) → ComparesBy k q n o r turn → r.0 < length c.bank.terms → IsSmallExpression (closed g.closing (tree c.bank r.0)) →
+  first_leads : (n : Machine) (o : Compare) (turn : Turn) → AreFew turn enough → (q : Machine) → OnlyBank c q → (l r : TermId) (k : Result ℤ Ending) → (h : IsNumber c q l k) → ComparesBy k q n o r turn → r.0 < length c.bank.terms → IsEvaluable (closed g.closing (tree c.bank r.0)) →
       (x : Option model.Outcome) → CameTo h.outcome enough x (IsValueIn q.bank) → look unit_limit enough P (length below) task ≡ Takes name (compared (order_number o) work x (evaluate enough (closed g.closing (tree c.bank r.0)))) → Leads 1 qv turn n go see s
   first_leads n o turn few q b l r k h cb ir small x came' seen = by h.outcome k h.is cb x came' seen
     where
@@ -165,7 +164,7 @@ module _ (qv : Query) (c : Machine) (a : Around) (rest work : Branch) (below : L
           let more = b.bank.more_terms in
           second_leads n o turn few (bank_then c q n b number.evaluated.bank) v q n r h2.0 number h2.2 (evaluate enough (closed g.closing (tree c.bank r.0)))
           (subst (λ y. CameTo number.outcome enough (evaluate enough (closed g.closing y)) (IsValueIn n.bank)) same
-          (came q n r number.outcome number.evaluated (omega (arith, ir, more)) g.closing (reading_bank qv c q b a rest work below g p pl) (subst (λ y. IsSmallExpression (closed g.closing y)) (sym same) small) enough))
+          (came q n r number.outcome number.evaluated (omega (arith, ir, more)) g.closing (reading_bank qv c q b a rest work below g p pl) (subst (λ y. IsEvaluable (closed g.closing y)) (sym same) small) enough))
           (seen ∙ ap (λ u. Takes name (compared (order_number o) work (Some u) (evaluate enough (closed g.closing (tree c.bank r.0))))) (came'.1 ∙ ap (λ z. Is z) m))
       by (code.Is (kept.Text t)) k i cb (Some u) came' seen =
           let m = came'.2 in
@@ -174,8 +173,8 @@ module _ (qv : Query) (c : Machine) (a : Around) (rest work : Branch) (below : L
           stopped (Arithmetic f) (subst (λ k. ComparesBy k q n o r turn) i cb) (seen ∙ ap (λ u. Takes name (compared (order_number o) work (Some u) (evaluate enough (closed g.closing (tree c.bank r.0))))) came')
       by code.Deep k i cb (Some u) came' seen = absurd (came' (let z = few (subst (λ k. ComparesBy k q n o r turn) i cb) in omega (arith, z)))
 
-  pub order_leads : (n : Machine) (o : Compare) (l r : TermId) (turn : Turn) → Compares c n o l r turn → AreFew turn enough → l.0 < length c.bank.terms → r.0 < length c.bank.terms → IsSmallExpression (closed g.closing (tree c.bank l.0)) →
-      IsSmallExpression (closed g.closing (tree c.bank r.0)) →
+  pub order_leads : (n : Machine) (o : Compare) (l r : TermId) (turn : Turn) → Compares c n o l r turn → AreFew turn enough → l.0 < length c.bank.terms → r.0 < length c.bank.terms → IsEvaluable (closed g.closing (tree c.bank l.0)) →
+      IsEvaluable (closed g.closing (tree c.bank r.0)) →
       look unit_limit enough P (length below) task ≡ Takes name (compared (order_number o) work (evaluate enough (closed g.closing (tree c.bank l.0))) (evaluate enough (closed g.closing (tree c.bank r.0)))) → Leads 1 qv turn n go see s
   order_leads n o l r turn h few il ir sl sr seen =
       first_leads n o turn few h.between h.number.evaluated.bank l r h.first h.number h.by ir sr (evaluate enough (closed g.closing (tree c.bank l.0))) (came c h.between l h.number.outcome h.number.evaluated il g.closing g.reading sl enough) seen

@@ -13,6 +13,7 @@ use Rattle.lp_standard.specs.Numbers as number
 use Rattle.lp_term.specs.Nodes.{tree}
 use Rattle.lp_term.specs.declared.node.TermId.{TermId}
 use Rattle.lp_model.specs.Branch.{Answer, Branch, Go, Task}
+use Rattle.lp_model.specs.Eigens.{beta_normal}
 use Rattle.lp_model.specs.Flat.{Clause}
 use Rattle.lp_model.specs.Look.{head_normal}
 use Rattle.lp_model.specs.Pair.{closed}
@@ -31,6 +32,7 @@ use Rattle.lp_plain.specs.Assigned.{Assigns, Compares}
 use Rattle.lp_plain.specs.AtRunTime.{HasNoCall, IsAtLooked, IsAtomForm, IsNoCall, IsSmallExpression}
 use Rattle.lp_plain.specs.Cuts.{one_step}
 use Rattle.lp_plain.specs.Entries.{Around}
+use Rattle.lp_plain.specs.Evaluated.{IsEvaluable, IsNoFunction}
 use Rattle.lp_plain.specs.Forms.{IsRelation, order_number}
 use Rattle.lp_plain.specs.Moving.{IsCounted, IsRunning, KeepsSearch, Leads, LeadsTo, Query}
 use Rattle.lp_plain.proofs.ArithmeticMoves.{is_leads, order_leads}
@@ -39,6 +41,8 @@ use Rattle.lp_plain.proofs.AtomTurns.{left, place_stepped, stepped, steps_are}
 use Rattle.lp_plain.proofs.GoingOn.{step_counted}
 use Rattle.lp_plain.proofs.LeftOut.{comes}
 use Rattle.lp_plain.proofs.TypedGoals.{front_arguments, front_pairs}
+use Rattle.lp_plain.proofs.TypedOperands.{front_operands}
+use Rattle.lp_plain.specs.TypedStates.{IsTypedOver}
 
 module _ (qv : Query) (m c : Machine) (a : Around) (raw : Branch) (s : State Task) (h : IsRunning qv m a raw s) (p : Place) (u : TermId) (o : Option ℕ) (at : IsAtLooked m h.closing a p u o raw) (k : KeepsSearch m c o) (ch : c.choices ≡ m.choices)
     (ct : c.counts ≡ one_step m.counts) (there : m.counts.steps < m.counts.limit) (kept : c.bank ≡ m.bank) (none : HasNoCall h.at_work.goals) (n : Machine) (turn : Turn) where
@@ -67,6 +71,14 @@ module _ (qv : Query) (m c : Machine) (a : Around) (raw : Branch) (s : State Tas
   relation_of v l r i enough P t q =
       let g = named_same qv m a raw s h p u o at enough P t q v l r i.0 i.1 in
       (g.1.0, subst (λ us. IsNoCall (atom (constant v g.1.0)) us) g.2 (subst (λ y. IsNoCall y (arguments t)) g.1.1 (comes qv m a raw s h p u o at none n turn enough t q g.0)))
+
+  -- no abstraction in them has a value, since they are typed
+  operands_of : (v : ℕ) (l r : TermId) → ((connective_of x ≡ connective.Atomic) × IsRelation m.bank x v l r) → (enough : ℕ) (P : List Clause) → IsTypedOver qv.arity enough P s → (t : Term) → head_normal enough (f qv m a raw s h p u o at).goal ≡ Some t →
+      EachOf (λ y. (i : ℕ) (z : Term) → beta_normal i y ≡ Some z → IsNoFunction z) (closed h.closing (tree m.bank l.0) ∷ closed h.closing (tree m.bank r.0) ∷ [])
+  operands_of v l r i enough P ty t q =
+      let y = f qv m a raw s h p u o at in
+      subst (EachOf (λ y. (i : ℕ) (z : Term) → beta_normal i y ≡ Some z → IsNoFunction z)) (named_same qv m a raw s h p u o at enough P t q v l r i.0 i.1).2
+      (front_operands qv.arity enough P s ty h.at_work h.rest h.stack y.first y.rest y.whole y.goal t enough y.is q)
 
   small_right : (y z : Term) → (number.Is ≡ number.Equal) ⊎ (((number.Is ≡ number.Is) × IsSmallExpression z) ⊎ (IsOrder number.Is × IsSmallExpression y × IsSmallExpression z)) → IsSmallExpression z
   small_right y z (inl e) = absurd (cc)
@@ -99,10 +111,11 @@ module _ (qv : Query) (m c : Machine) (a : Around) (raw : Branch) (s : State Tas
       let args =
       subst (EachOf (IsPlainTerm h.at_work.next_type)) (named_same qv m a raw s h p u o at enough P t q number.Is l r v.0 v.1).2
       (front_arguments qv.arity enough P s ty h.at_work h.rest h.stack y.first y.rest y.whole y.goal t enough y.is q) in
+      let no = operands_of number.Is l r v enough P ty t q in
       let small = small_right (closed h.closing (tree m.bank l.0)) (closed h.closing (tree m.bank r.0)) (relation_of number.Is l r v enough P t q).1 in
       is_leads qv c a rest work h.rest (stepped qv m c a raw s h p u o at k ch ct there) p (place_stepped qv m c a raw s h p u o at k ch ct there) s w (left qv m c a raw s h p u o at k ch ct there) ea
       (steps_are qv m c a raw s h p u o at k ch ct there) go enough P (named number.Is) (Go h.at_work) h.stack (counted w) n l r turn e few (subst (IsPlainTerm h.at_work.next_type) (same_closed l) args.0) (front_pairs qv.arity enough P s ty h.at_work h.rest h.stack y.first y.rest y.whole)
-      (subst (λ b. l.0 < length b.terms) (sym kept) st.0) (subst (λ b. r.0 < length b.terms) (sym kept) st.1) (subst (Within (Known h.levels raw.next) 0) (same_closed l) known.0) (subst IsSmallExpression (same_closed r) small)
+      (subst (λ b. l.0 < length b.terms) (sym kept) st.0) (subst (λ b. r.0 < length b.terms) (sym kept) st.1) (subst (Within (Known h.levels raw.next) 0) (same_closed l) known.0) (subst IsEvaluable (same_closed r) (λ i z j. (no.1.0 i z j, small i z j)))
       (named_view qv m a raw s h p u o at enough P t q number.Is l r v.0 v.1 ∙
       (λ j. Takes (named number.Is) (assigned unit_limit enough (level_is j) (same_closed l j) work (evaluate enough (same_closed r j))))))
     where
@@ -114,10 +127,11 @@ module _ (qv : Query) (m c : Machine) (a : Around) (raw : Branch) (s : State Tas
   order_turn v l r i st e w ea go enough few P ty =
       by_seen qv m a raw s h p u o at enough P (Leads 1 qv turn n go (look unit_limit enough P) s) (waits qv m a raw s h p u o at enough P n w ea go turn) (λ t q.
       let y = of i in
+      let no = operands_of (order_number v) l r y enough P ty t q in
       let small = small_both v (closed h.closing (tree m.bank l.0)) (closed h.closing (tree m.bank r.0)) (relation_of (order_number v) l r y enough P t q).1 in
       order_leads qv c a rest work h.rest (stepped qv m c a raw s h p u o at k ch ct there) p (place_stepped qv m c a raw s h p u o at k ch ct there) s w (left qv m c a raw s h p u o at k ch ct there) ea
       (steps_are qv m c a raw s h p u o at k ch ct there) go enough P (named (order_number v)) (Go h.at_work) h.stack (counted w) n v l r turn e few
-      (subst (λ b. l.0 < length b.terms) (sym kept) st.0) (subst (λ b. r.0 < length b.terms) (sym kept) st.1) (subst IsSmallExpression (same_closed l) small.0) (subst IsSmallExpression (same_closed r) small.1)
+      (subst (λ b. l.0 < length b.terms) (sym kept) st.0) (subst (λ b. r.0 < length b.terms) (sym kept) st.1) (subst IsEvaluable (same_closed l) (λ i z j. (no.0 i z j, small.0 i z j))) (subst IsEvaluable (same_closed r) (λ i z j. (no.1.0 i z j, small.1 i z j)))
       (named_view qv m a raw s h p u o at enough P t q (order_number v) l r y.0 y.1 ∙
       ap (Takes (named (order_number v))) (order_tasks v P enough (length h.rest) t (closed h.closing (tree m.bank l.0)) (closed h.closing (tree m.bank r.0)) ∙
       (λ j. compared (order_number v) work (evaluate enough (same_closed l j)) (evaluate enough (same_closed r j))))))

@@ -121,6 +121,7 @@ pub mod NormalValues
 pub mod Evaluations
 pub mod ReadExpressions
 pub mod TypedValues
+pub mod TypedOperands
 pub mod ValuesGiven
 pub mod GoingBank
 pub mod ArithmeticMoves

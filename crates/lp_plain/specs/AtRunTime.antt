@@ -23,7 +23,6 @@ use Rattle.lp_plain.specs.declared.table.Flat.{Flat}
 use Rattle.lp_plain.specs.declared.table.Span.{Span}
 use Rattle.lp_plain.specs.Assuming.{IsPlaceAt, lists_of}
 use Rattle.lp_plain.specs.Entries.{Around, HeadsTo, Reads, entry_at}
-use Rattle.lp_plain.specs.Evaluated.{IsNoFunction}
 use Rattle.lp_plain.specs.Forms.{IsForm}
 use Rattle.lp_plain.specs.Scopes.{blocks_of}
 use Rattle.lp_plain.specs.Tables.{shown}
@@ -86,9 +85,9 @@ IsAtomOrNoForm g = (g ≡ connective.Atomic) ⊎ IsNoForm g
 abbrev pub IsAtomForm : Nodes → Term → Form → Type 0
 IsAtomForm b t f = ((connective_of t ≡ connective.Atomic) × IsForm b t f) ⊎ (IsNoForm (connective_of t) × (f ≡ form.Other))
 
--- the beta-normal form of an expression has no abstraction with a value (a well-typed one has none), and at most a million nodes
+-- the beta-normal form of an expression has at most a million nodes
 abbrev pub IsSmallExpression : Term → Type 0
-IsSmallExpression t = (n : ℕ) (s : Term) → beta_normal n t ≡ Some s → IsNoFunction s × (nodes s ≤ 1000000)
+IsSmallExpression t = (n : ℕ) (s : Term) → beta_normal n t ≡ Some s → nodes s ≤ 1000000
 
 -- an atom by its head and arguments, that is no call; its expressions are small
 abbrev pub IsNoCall : (head : Term) → List Term → Type 0

@@ -5,8 +5,8 @@ use Rattle.lp_plain.proofs.arithmetic.counted.Goals as goal
 pub returns-then-visited-ge-RUN_LIMIT : goal.returns-then-visited-ge-RUN_LIMIT
 returns-then-visited-ge-RUN_LIMIT c = subst (λ x. IsCounted x c.args.visited None) (sym c.in-Visit.is) (refl, omega (arith, c.if-visited-ge-RUN_LIMIT.true))
 
-pub returns-in-Visit : goal.returns-in-Visit
-returns-in-Visit c = subst (λ x. IsCounted x c.args.visited (Some (c.args.visited + 1))) (sym c.in-Visit.is) refl
+pub returns-else-visited-ge-RUN_LIMIT : goal.returns-else-visited-ge-RUN_LIMIT
+returns-else-visited-ge-RUN_LIMIT c = subst (λ x. IsCounted x c.args.visited (Some (c.args.visited + 1))) (sym c.in-Visit.is) refl
 
 pub returns-in-Two : goal.returns-in-Two
 returns-in-Two c = subst (λ x. IsCounted x c.args.visited (Some c.args.visited)) (sym c.in-Two.is) (omega arith)

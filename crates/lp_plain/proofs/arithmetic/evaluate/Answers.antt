@@ -14,8 +14,8 @@ tasks-init c =
       way = on_way m c.args.term _ _ (c.in_ok-push.ensures.items ∙ ap (λ l. l ++ task.Visit c.args.term ∷ []) c.new-tasks.ensures.items) c.new-values.ensures.items;
     }
 
-pub tasks-preserved-in-On : goal.tasks-preserved-in-On
-tasks-preserved-in-On c =
+pub tasks-preserved : goal.tasks-preserved
+tasks-preserved c =
     let m = c.args.machine.now in
     let q = c.tasks.machine in
     let r = c.go_on.new.machine in

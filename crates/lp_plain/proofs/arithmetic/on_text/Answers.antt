@@ -1,4 +1,4 @@
-use Rattle.std.proofs.Common.{◌≡◌, ap, arith, length}
+use Rattle.std.proofs.Common.{◌≡◌, ap, length}
 use Rattle.lp_standard.specs.Constants.{number}
 use Rattle.lp_term.specs.Nodes.{tree}
 use Rattle.lp_model.specs.Values.{Bytes, unary}
@@ -11,7 +11,7 @@ returns-in-Text c = λ s e.
     let b = c.args.bank.now in
     let q = same_text c.in-Text.bytes.now s (tree b c.args.part.0) c.in-Text.ensures.tree e in
     let l : length s ≡ length c.in-Text.bytes.now = ap length q in
-    c.outcome_of.ensures b (unary (number c.args.operation) (Bytes s)) (c.on_length.ensures s (omega (arith, l, c.len.ensures)))
+    c.outcome_of.ensures b (unary (number c.args.operation) (Bytes s)) (c.on_length.ensures s l)
 
 pub returns-in_default : goal.returns-in_default
 returns-in_default c = λ s e.

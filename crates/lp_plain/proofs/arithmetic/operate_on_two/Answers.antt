@@ -8,4 +8,4 @@ returns-clause-bank c = record { bank = c.in_ok-outcome.ensures.kept; same = ref
 pub returns-clause-takes : goal.returns-clause-takes
 returns-clause-takes c = λ ts.
     let o = c.in_ok-outcome.ensures in
-    two_done c.args.machine.now _ (returns-clause-bank c) c.args.operation c.in_ok-outcome.outcome c.in_ok-end.end ts c.in-Some-2.left c.in-Some.right _ _ _ _ c.in-Some.ensures.items c.in-Some-2.ensures.items o.gives c.in_ok-end.ensures
+    two_done c.args.machine.now _ (returns-clause-bank c) c.args.operation c.in_ok-outcome.outcome c.in_ok-end.end ts c.in-Some-pop.left c.in-Some.right _ _ _ _ c.in-Some.ensures.items c.in-Some-pop.ensures.items o.gives c.in_ok-end.ensures
