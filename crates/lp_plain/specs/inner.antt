@@ -3,3 +3,5 @@ pub mod Collecting
 pub mod Tabling
 pub mod Placing
 pub mod Programs
+pub mod Fitting
+pub mod Evaluating
