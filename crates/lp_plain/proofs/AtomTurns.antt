@@ -38,8 +38,9 @@ use Rattle.lp_plain.specs.Moving.{AreFew, IsCounted, IsGoingOn, IsRunning, Keeps
 use Rattle.lp_plain.specs.Unifying.{IsBoundIn, IsEquatedAs, IsUnifiedAs, StandPairs}
 use Rattle.lp_plain.proofs.Assumed.{lists_noted}
 use Rattle.lp_plain.proofs.AtomMoves.{behind, by_seen, f, flexible_view, named_known, named_same, named_view, other_view, waits}
-use Rattle.lp_plain.proofs.EqualMoves.{fails, stops, unified_leads}
+use Rattle.lp_plain.proofs.EqualMoves.{none_left, unified_leads}
 use Rattle.lp_plain.proofs.GoingOn.{going_on, step_counted}
+use Rattle.lp_plain.proofs.TaskMoves.{stops}
 use Rattle.lp_plain.proofs.TypedGoals.{front_arguments, front_pairs}
 use Rattle.lp_plain.proofs.TypedTries.{free_behind, plain_bound}
 
@@ -121,8 +122,7 @@ module _ (qv : Query) (m c : Machine) (a : Around) (raw : Branch) (s : State Tas
     flexible_leads i w ea go enough few P ty =
         by_seen qv m a raw s h p u o at enough P (Leads 1 qv (Turn.Ended Flexible) n go (look unit_limit enough P) s) (waits qv m a raw s h p u o at enough P n w ea go (Turn.Ended Flexible)) (λ t q.
         let v = variable_of i in
-        stops qv c n a rest work h.rest stepped p place_stepped b residual s w left ea steps_are go enough P variable (Go h.at_work) (Stop Flexible ∷ []) h.stack
-        (flexible_view qv m a raw s h p u o at enough P t q v.1.0 v.1.1 v.0 v.1.2) (λ ts. counted_after (suc w) (ts ++ h.rest)) Flexible refl)
+        stops qv n h.rest s w left ea steps_are go enough P variable (Go h.at_work) (Stop Flexible ∷ []) h.stack (flexible_view qv m a raw s h p u o at enough P t q v.1.0 v.1.1 v.0 v.1.2) Flexible refl)
       where
         variable_of : IsAtomForm m.bank (tree m.bank u.0) form.Flexible → (connective_of (tree m.bank u.0) ≡ connective.Atomic) × ((j : ℕ) × (l : ℕ) × (head_of (tree m.bank u.0) ≡ atom (logic j l)))
         variable_of (inl e) = (e.0, e.1)
@@ -131,7 +131,7 @@ module _ (qv : Query) (m c : Machine) (a : Around) (raw : Branch) (s : State Tas
     pub other_leads : IsAtomForm m.bank (tree m.bank u.0) form.Other → LeadsTo 1 qv Turn.Back n s
     other_leads i w ea go enough few P ty =
         by_seen qv m a raw s h p u o at enough P (Leads 1 qv Turn.Back n go (look unit_limit enough P) s) (waits qv m a raw s h p u o at enough P n w ea go Turn.Back) (λ t q.
-        fails qv c n a rest work h.rest stepped p place_stepped b residual s w left ea steps_are go enough P variable (Go h.at_work) [] h.stack
+        none_left qv c n a rest work h.rest stepped p place_stepped b residual s w left ea steps_are go enough P variable (Go h.at_work) [] h.stack
         (other_view qv m a raw s h p u o at enough P t q i) (λ ts. counted_after (suc w) (ts ++ h.rest)) refl)
 
     pub equal_leads : (l r : TermId) (same : Unified) → IsAtomForm m.bank (tree m.bank u.0) (form.Equal l r) → c.bank ≡ m.bank → IsEquatedAs c n l r p.level same → LeadsTo 1 qv (turn_for same) n s

@@ -2,14 +2,13 @@
 use Rattle.std.proofs.Common.{◌≡◌, ◌≤◌, ℕ, suc, List, [], ◌∷◌, ◌++◌, length, refl, sym, ap, inl, inr, ◌∙◌, subst, arith, Option, None, Some, Bool}
 use Rattle.lp_calculus.specs.Fill.{Within}
 use Rattle.lp_calculus.specs.Types.{var}
-use Rattle.lp_model.specs.Branch.{Answer, Branch, Go, Lack, Stop, Task, resume}
+use Rattle.lp_model.specs.Branch.{Answer, Branch, Go, Task, resume}
 use Rattle.lp_model.specs.Flat.{Clause}
 use Rattle.lp_model.specs.Pair.{Closing, closed}
 use Rattle.lp_model.specs.Search.{follow, look, types_from, vars_from}
-use Rattle.lp_model.specs.Skeleton.{GoalName, GoalNote, Goes, Inner, State, Takes, View, back, move, move_at, move_view}
+use Rattle.lp_model.specs.Skeleton.{GoalName, Inner, State, Takes, View}
 use Rattle.lp_model.specs.Types.{put_types}
 use Rattle.lp_model.specs.Unify.{State as Solved, Unified as Outcome, Fail, Solution, Spent, unit_limit}
-use Rattle.lp_model.specs.declared.ending.Ending.{Ending}
 use Rattle.lp_model.specs.declared.ending.Ending.TheVariants.{Deep}
 use Rattle.lp_pattern.specs.Growing.{GoesOn}
 use Rattle.lp_pattern.specs.Putting.{Known}
@@ -31,9 +30,9 @@ use Rattle.lp_plain.proofs.Grown.{grown_on, grown_still, placed_on, same_around}
 use Rattle.lp_plain.proofs.Growing.{reads_later}
 use Rattle.lp_plain.proofs.Inside.{inside_still}
 use Rattle.lp_plain.proofs.Opening.{bank_stands}
-use Rattle.lp_plain.proofs.QuietMoves.{by_lost}
 use Rattle.lp_plain.proofs.Resumed.{variable_behind}
 use Rattle.lp_plain.proofs.ResumedUnder.{known_behind, resumed_under, terms_known, types_behind, values_behind}
+use Rattle.lp_plain.proofs.TaskMoves.{fails, goes, lacks, stops}
 use Rattle.lp_plain.proofs.TryGrows.{bound_more}
 
 module _ (qv : Query) (m n : Machine) (a : Around) (raw rest : Branch) (below : List Task) (h : IsGoingOn qv m a raw rest below) (p : Place) (pl : IsPlaceAt (lists_of m) a p) (b : IsBoundIn m n) (residual : StandPairs m → StandPairs n) where
@@ -130,48 +129,23 @@ module _ (qv : Query) (m n : Machine) (a : Around) (raw rest : Branch) (below : 
     abbrev see : ℕ → Task → View Task Answer
     see = look unit_limit enough P
 
-    abbrev pub after : List Task → State Task
+    abbrev after : List Task → State Task
     after ts = record { steps = j; answers = suc w; given = s.given; rows = s.rows; row = s.rows; lost = s.lost; stack = ts ++ below }
 
-    first_move : (ts : List Task) → tasks ≡ ts → move go see s ≡ Goes 1 (GoalNote name ∷ back ts below) (after ts)
-    first_move ts e =
-        (λ i. move_at go see (es i) (ea i) s.given s.rows s.row s.lost (stack i)) ∙ by_lost go see (suc j) w s.given s.rows s.row s.lost task below ∙
-        ap (move_view go (suc j) w s.given s.rows s.row s.lost below) (seen ∙ ap (Takes name) e)
-
-    second : (x : Task) (ts : List Task) → move go see (after (x ∷ ts)) ≡ move_view go j w s.given s.rows s.rows s.lost (ts ++ below) (see (length (ts ++ below)) x)
-    second x ts = by_lost go see j w s.given s.rows s.rows s.lost x (ts ++ below)
-
     module _ (counted : (ts : List Task) → IsCounted n (after ts)) where
-      pub lacks : tasks ≡ Lack ∷ [] → (turn : Turn) → Leads 1 qv turn n go see s
-      lacks e turn = inr (inr (1, GoalNote name ∷ [], after (Lack ∷ []), first_move (Lack ∷ []) e, sym ea, refl, inr (0, [], second Lack [])))
-
-      pub fails : tasks ≡ [] → Leads 1 qv Turn.Back n go see s
-      fails e = inl (1, GoalNote name ∷ back [] below, after [], first_move [] e, record { around = a; above = above; counted = counted [] }, sym ea, refl)
-
-      pub stops : (f : Ending) → tasks ≡ Stop f ∷ [] → Leads 1 qv (Turn.Ended f) n go see s
-      stops f e = inr (inr (1, GoalNote name ∷ [], after (Stop f ∷ []), first_move (Stop f ∷ []) e, sym ea, refl, inl (second (Stop f) [])))
-
-      solves : (st : Solved) → tasks ≡ Go (resume rest st) ∷ [] → StaysFree st → (z : Closing) → IsOpenReading n.bank n.bindings n.branch.next z →
-          IsFound h.levels m.branch.next h.closing n.bank n.branch.next n.branch.pairs.items z st → Leads 1 qv Turn.On n go see s
-      solves st e free z r found =
-          inl (
-            1,
-            GoalNote name ∷ [],
-            after (Go (resume rest st) ∷ []),
-            first_move (Go (resume rest st) ∷ []) e,
-            goes_on st z r found (free z (variable_behind h.levels m.branch.next h.closing n.bank n.branch.next n.branch.pairs.items z st found)) (after (Go (resume rest st) ∷ [])) refl (counted (Go (resume rest st) ∷ [])),
-            sym ea,
-            refl,
-          )
+      pub none_left : tasks ≡ [] → Leads 1 qv Turn.Back n go see s
+      none_left e = fails qv n below s w j ea es go enough P name task tasks stack seen e (record { around = a; above = above; counted = counted [] })
 
       by_outcome : (u : Unified) (x : Option Outcome) → AreFew (turn_for u) enough → tasks ≡ follow rest x → ((y : Outcome) → x ≡ Some y → IsUnifiedAs u h.levels m.branch.next h.closing n enough y) → ((st : Solved) → x ≡ Some (Solution st) → StaysFree st) →
           Leads 1 qv (turn_for u) n go see s
-      by_outcome u None few e k free = lacks e (turn_for u)
+      by_outcome u None few e k free = lacks qv n below s w j ea es go enough P name task tasks stack seen e (turn_for u)
       by_outcome Unified.Fits (Some Fail) few e k free = absurd (let z = k Fail refl in z)
       by_outcome Unified.Fits (Some Spent) few e k free = absurd (let z = k Spent refl in z)
-      by_outcome Unified.Fits (Some (Solution st)) few e k free = let y = k (Solution st) refl in solves st e (free st refl) y.0 y.1 y.2
-      by_outcome Unified.Fails (Some y) few e k free = fails (e ∙ ap (λ q. follow rest (Some q)) (k y refl))
-      by_outcome Unified.Deep (Some y) few e k free = stops Deep (e ∙ ap (λ q. follow rest (Some q)) (k y refl (let l = few refl in omega (arith, l))))
+      by_outcome Unified.Fits (Some (Solution st)) few e k free =
+          let y = k (Solution st) refl in
+          goes qv n below s w j ea es go enough P name task tasks stack seen (resume rest st) e (goes_on st y.0 y.1 y.2 (free st refl y.0 (variable_behind h.levels m.branch.next h.closing n.bank n.branch.next n.branch.pairs.items y.0 st y.2)) (after (Go (resume rest st) ∷ [])) refl (counted (Go (resume rest st) ∷ [])))
+      by_outcome Unified.Fails (Some y) few e k free = none_left (e ∙ ap (λ q. follow rest (Some q)) (k y refl))
+      by_outcome Unified.Deep (Some y) few e k free = stops qv n below s w j ea es go enough P name task tasks stack seen Deep (e ∙ ap (λ q. follow rest (Some q)) (k y refl (let l = few refl in omega (arith, l))))
 
       pub unified_leads : (u : Unified) → AreFew (turn_for u) enough → (o : Option Outcome) → tasks ≡ follow rest o → ((y : Outcome) → o ≡ Some y → IsUnifiedAs u h.levels m.branch.next h.closing n enough y) → ((st : Solved) → o ≡ Some (Solution st) → StaysFree st) →
           Leads 1 qv (turn_for u) n go see s

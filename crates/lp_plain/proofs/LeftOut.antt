@@ -1,13 +1,10 @@
--- Goals that are left out here: calls, and arithmetic.
+-- Goals that are left out here: calls.
 use Rattle.std.proofs.Common.{◌≡◌, ◌⊎◌, ℕ, List, [], ◌∷◌, map, refl, sym, ap, inl, inr, ◌∙◌, subst, Option, Some}
-use Rattle.lp_base.specs.declared.compare.Compare.{Compare}
-use Rattle.lp_base.specs.declared.compare.Compare.TheVariants.{Less, Greater, AtMost, AtLeast}
 use Rattle.lp_calculus.specs.Types.{Ty, instance}
 use Rattle.lp_calculus.specs.Term.{Term, atom, constant, eigen}
 use Rattle.lp_calculus.specs.Spine.{arguments, head_of}
 use Rattle.lp_standard.specs.Connectives.{connective_of}
 use Rattle.lp_standard.specs.Connectives as connective
-use Rattle.lp_standard.specs.Numbers as number
 use Rattle.lp_term.specs.Nodes.{tree}
 use Rattle.lp_term.specs.declared.node.TermId.{TermId}
 use Rattle.lp_model.specs.Branch.{Branch, Task}
@@ -24,10 +21,10 @@ use Rattle.lp_plain.specs.declared.machine.Machine.{Machine}
 use Rattle.lp_plain.specs.declared.outcome.Turn.{Turn}
 use Rattle.lp_plain.specs.AtRunTime.{ComesToNoCall, HasNoCall, IsAtLooked, IsAtomForm, IsNoCall}
 use Rattle.lp_plain.specs.Entries.{Around}
-use Rattle.lp_plain.specs.Forms.{IsCall, IsRelation, order_number}
+use Rattle.lp_plain.specs.Forms.{IsCall}
 use Rattle.lp_plain.specs.Moving.{IsRunning, Leads, LeadsTo, Query}
 use Rattle.lp_plain.specs.Trials.{IsCallHead}
-use Rattle.lp_plain.proofs.AtomMoves.{by_seen, called_same, f, named_same, waits}
+use Rattle.lp_plain.proofs.AtomMoves.{by_seen, called_same, f, waits}
 
 -- a call is one as the bindings read it
 pub call_mapped : (g : Term → Term) (c : ℕ) (us : List Term) → IsCall c us → IsCall c (map g us)
@@ -39,18 +36,14 @@ call_mapped g c (a ∷ b ∷ d ∷ us) i = tt
 no_call : (c : ℕ) (ts : List Ty) (us : List Term) → IsCall c us → IsNoCall (atom (constant c ts)) us → ⊥
 no_call c ts [] i n = n
 no_call c ts (a ∷ []) i n = n
-no_call c ts (a ∷ b ∷ []) i n = i.0 n
+no_call c ts (a ∷ b ∷ []) i (inl n) = i.0 n
+no_call c ts (a ∷ b ∷ []) i (inr (inl n)) = i.1 n.0
+no_call c ts (a ∷ b ∷ []) i (inr (inr n)) = i.2 n.0
 no_call c ts (a ∷ b ∷ d ∷ us) i n = n
 
 module _ (qv : Query) (m : Machine) (a : Around) (raw : Branch) (s : State Task) (h : IsRunning qv m a raw s) (p : Place) (u : TermId) (o : Option ℕ) (at : IsAtLooked m h.closing a p u o raw) (left : HasNoCall h.at_work.goals) (n : Machine) (turn : Turn) where
-  comes : (i : ℕ) (t : Term) → head_normal i (f qv m a raw s h p u o at).goal ≡ Some t → connective_of t ≡ connective.Atomic → IsNoCall (head_of t) (arguments t)
+  pub comes : (i : ℕ) (t : Term) → head_normal i (f qv m a raw s h p u o at).goal ≡ Some t → connective_of t ≡ connective.Atomic → IsNoCall (head_of t) (arguments t)
   comes = let y = f qv m a raw s h p u o at in subst ComesToNoCall y.is (subst HasNoCall y.whole left)
-
-  pub relation_left : (c : ℕ) (l r : TermId) → (c ≡ number.Equal → ⊥) → connective_of (tree m.bank u.0) ≡ connective.Atomic → IsRelation m.bank (tree m.bank u.0) c l r → LeadsTo 1 qv turn n s
-  relation_left c l r ne e i w ea go enough few P ty =
-      by_seen qv m a raw s h p u o at enough P (Leads 1 qv turn n go (look unit_limit enough P) s) (waits qv m a raw s h p u o at enough P n w ea go turn) (λ t q.
-      let g = named_same qv m a raw s h p u o at enough P t q c l r e i in
-      absurd (ne (subst (λ us. IsNoCall (atom (constant c g.1.0)) us) g.2 (subst (λ x. IsNoCall x (arguments t)) g.1.1 (comes enough t q g.0)))))
 
   pub call_left : (hd : Head) (first : Option TermId) → IsAtomForm m.bank (tree m.bank u.0) (form.Call hd first) → LeadsTo 1 qv turn n s
   call_left hd first i w ea go enough few P ty =
@@ -65,17 +58,3 @@ module _ (qv : Query) (m : Machine) (a : Around) (raw : Branch) (s : State Task)
           subst (λ x. IsNoCall x (arguments t)) g.1 (comes enough t q g.0)
       by t q (head.Constant c) (inr k) = let z = k.1 in cc
       by t q (head.Eigen j) (inr k) = let z = k.1 in cc
-
-  pub is_left : (l r : TermId) → IsAtomForm m.bank (tree m.bank u.0) (form.Is l r) → LeadsTo 1 qv turn n s
-  is_left l r (inl k) = relation_left number.Is l r (λ z. cc) k.0 k.1
-  is_left l r (inr k) = absurd (let z = k.1 in cc)
-
-  pub order_left : (order : Compare) (l r : TermId) → IsAtomForm m.bank (tree m.bank u.0) (form.Order order l r) → LeadsTo 1 qv turn n s
-  order_left order l r (inl k) = relation_left (order_number order) l r (apart order) k.0 k.1
-    where
-      apart : (order : Compare) → order_number order ≡ number.Equal → ⊥
-      apart Less z = cc
-      apart Greater z = cc
-      apart AtMost z = cc
-      apart AtLeast z = cc
-  order_left order l r (inr k) = absurd (let z = k.1 in cc)

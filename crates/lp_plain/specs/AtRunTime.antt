@@ -1,13 +1,16 @@
 -- Goals that are known at run time: at hand, and as they were looked at.
-use Rattle.std.specs.Prelude.{◌≡◌, ◌⊎◌, ◌<◌, ℕ, List, [], ◌∷◌, length, Option, Some}
+use Rattle.std.specs.Prelude.{◌≡◌, ◌⊎◌, ◌<◌, ◌≤◌, ℕ, List, [], ◌∷◌, length, Option, Some}
+use Rattle.lp_calculus.specs.Normal.{nodes}
 use Rattle.lp_calculus.specs.Spine.{arguments, head_of}
 use Rattle.lp_calculus.specs.Term.{Term, index, atom, abs, app, constant, integer, text, eigen, logic, param}
 use Rattle.lp_standard.specs.Connectives.{connective_of}
+use Rattle.lp_standard.specs.Constants.{IsOrder}
 use Rattle.lp_standard.specs.Connectives as connective
 use Rattle.lp_standard.specs.Numbers as number
 use Rattle.lp_term.specs.Nodes.{Nodes, tree}
 use Rattle.lp_term.specs.declared.node.TermId.{TermId}
 use Rattle.lp_model.specs.Branch.{Branch, Entry}
+use Rattle.lp_model.specs.Eigens.{beta_normal}
 use Rattle.lp_model.specs.Flat.{Goal, Atomic, Cut, Either, Exists, Forall, Assume, Not}
 use Rattle.lp_model.specs.Look.{head_normal}
 use Rattle.lp_model.specs.Pair.{Closing, closed}
@@ -82,9 +85,13 @@ IsAtomOrNoForm g = (g ≡ connective.Atomic) ⊎ IsNoForm g
 abbrev pub IsAtomForm : Nodes → Term → Form → Type 0
 IsAtomForm b t f = ((connective_of t ≡ connective.Atomic) × IsForm b t f) ⊎ (IsNoForm (connective_of t) × (f ≡ form.Other))
 
--- an atom by its head and arguments, that is no call, and no arithmetic
+-- the beta-normal form of an expression has at most a million nodes
+abbrev pub IsSmallExpression : Term → Type 0
+IsSmallExpression t = (n : ℕ) (s : Term) → beta_normal n t ≡ Some s → nodes s ≤ 1000000
+
+-- an atom by its head and arguments, that is no call; its expressions are small
 abbrev pub IsNoCall : (head : Term) → List Term → Type 0
-IsNoCall (atom (constant c ts)) (l ∷ r ∷ []) = c ≡ number.Equal
+IsNoCall (atom (constant c ts)) (l ∷ r ∷ []) = (c ≡ number.Equal) ⊎ (((c ≡ number.Is) × IsSmallExpression r) ⊎ (IsOrder c × IsSmallExpression l × IsSmallExpression r))
 IsNoCall (atom (constant c ts)) us = ⊥
 IsNoCall (atom (eigen k)) us = ⊥
 IsNoCall (atom (integer z)) us = Unit {0}

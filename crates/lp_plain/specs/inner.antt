@@ -6,3 +6,5 @@ pub mod Programs
 pub mod Following
 pub mod Between
 pub mod Answering
+pub mod Fitting
+pub mod Evaluating

@@ -1,15 +1,18 @@
 // Atomic goals: a step each.
-ghost use Rattle.std.specs.Prelude.{◌≡◌, ℕ, List, None, length, IfOk, OnOk};
+ghost use Rattle.std.specs.Prelude.{◌≡◌, ℕ, List, None, length, IfOk, OnOk, Ok};
 ghost use Rattle.lp_model.specs.Branch.{Branch, Task};
 ghost use Rattle.lp_model.specs.Skeleton.{State};
+ghost use Rattle.lp_plain.specs.declared.arithmetic.Outcome.TheVariants as code;
 ghost use Rattle.lp_plain.specs.declared.outcome.Turn.{Turn};
 ghost use Rattle.lp_plain.specs.declared.table.Flat.{Flat};
 ghost use Rattle.lp_term.specs.Nodes.{tree};
+ghost use Rattle.lp_plain.specs.Assigned.{Assigns, Compares, ComparesBy, IsAssigned, IsNumber, IsNumberOr, turn_if};
 ghost use Rattle.lp_plain.specs.AtRunTime.{HasNoCall, IsAtLooked, IsAtomForm};
 ghost use Rattle.lp_plain.specs.Cuts.{CutsOff};
 ghost use Rattle.lp_plain.specs.Assuming.{KeepsAssumed};
 ghost use Rattle.lp_plain.specs.Calling.{AtomTurns, CallLeads, IsLookedAs};
 ghost use Rattle.lp_plain.specs.Entries.{Around, KeepsGoals};
+ghost use Rattle.lp_plain.specs.Forms.{StandsForm};
 ghost use Rattle.lp_plain.specs.HeadLooks.{OnlyBank};
 ghost use Rattle.lp_plain.specs.Moving.{IsAtGoal, IsAtTry, IsRunning, IsTrying, LeadsTo, MovesTo, Query};
 ghost use Rattle.lp_plain.specs.Stacks.{CutsTasks, HaveTasks, IsMarkOf};
@@ -59,25 +62,57 @@ fn tell_goal<W: Watch>(
     }
 }
 
-fn assign(machine: &mut Machine, left: TermId, right: TermId, level: u64) -> Result<Turn, Memory> {
+fn assign(machine: &mut Machine, left: TermId, right: TermId, level: u64) -> Result<Turn, Memory>
+    ensures { IfOk result (Assigns machine.old machine.new left right level) }
+{
     match evaluate(machine, right)? {
         Outcome::Deep => Ok(Turn::Ended(Ending::Deep)),
         Outcome::Faults(fault) => Ok(Turn::Ended(Ending::Arithmetic(fault))),
         Outcome::Is(value) => {
-            let term = term_of(&mut machine.bank, value)?;
-            let unified = equate(machine, left, term, level)?;
-            Ok(turn_of(unified))
+            let turn = assign_value(machine, left, value, level)?;
+            Ok(turn)
         }
     }
 }
 
+// Makes the term and the value one.
+fn assign_value(
+    machine: &mut Machine,
+    left: TermId,
+    value: Value,
+    level: u64,
+) -> Result<Turn, Memory>
+    ensures { IfOk result (IsAssigned machine.old machine.new left level value) }
+{
+    let term = term_of(&mut machine.bank, value)?;
+    let unified = equate(machine, left, term, level)?;
+    Ok(turn_of(unified))
+}
+
 // The number that an expression is, or how the search ends.
-fn number(machine: &mut Machine, term: TermId) -> Result<Result<i64, Ending>, Memory> {
-    match evaluate(machine, term)? {
-        Outcome::Deep => Ok(Err(Ending::Deep)),
-        Outcome::Faults(fault) => Ok(Err(Ending::Arithmetic(fault))),
-        Outcome::Is(Value::Number(value)) => Ok(Ok(value)),
-        Outcome::Is(Value::Text(_)) => Ok(Err(Ending::Arithmetic(Fault::NotClosed))),
+fn number(machine: &mut Machine, term: TermId) -> Result<Result<i64, Ending>, Memory>
+    ensures { IfOk result (IsNumber machine.old machine.new term) }
+{
+    let outcome = evaluate(machine, term)?;
+    Ok(number_of(outcome))
+}
+
+fn number_of(outcome: Outcome) -> Result<i64, Ending>
+    ensures { IsNumberOr outcome result }
+{
+    match outcome {
+        Outcome::Deep => Err(Ending::Deep),
+        Outcome::Faults(fault) => Err(Ending::Arithmetic(fault)),
+        Outcome::Is(value) => number_in(value),
+    }
+}
+
+fn number_in(value: Value) -> Result<i64, Ending>
+    ensures { IsNumberOr (code.Is value) result }
+{
+    match value {
+        Value::Number(number) => Ok(number),
+        Value::Text(_) => Err(Ending::Arithmetic(Fault::NotClosed)),
     }
 }
 
@@ -86,20 +121,40 @@ fn compare(
     order: Compare,
     left: TermId,
     right: TermId,
-) -> Result<Turn, Memory> {
-    let one = match number(machine, left)? {
-        Ok(value) => value,
-        Err(ending) => return Ok(Turn::Ended(ending)),
-    };
-    let other = match number(machine, right)? {
-        Ok(value) => value,
-        Err(ending) => return Ok(Turn::Ended(ending)),
-    };
-    if holds(order, one, other) {
-        Ok(Turn::On)
-    } else {
-        Ok(Turn::Back)
+) -> Result<Turn, Memory>
+    ensures { IfOk result (Compares machine.old machine.new order left right) }
+{
+    match number(machine, left)? {
+        Ok(one) => {
+            let turn = compare_with(machine, order, one, right)?;
+            Ok(turn)
+        }
+        Err(ending) => Ok(Turn::Ended(ending)),
     }
+}
+
+// Compares with the number that the expression is.
+fn compare_with(
+    machine: &mut Machine,
+    order: Compare,
+    one: i64,
+    right: TermId,
+) -> Result<Turn, Memory>
+    ensures { IfOk result (ComparesBy (Ok one) machine.old machine.new order right) }
+{
+    match number(machine, right)? {
+        Ok(other) => Ok(turn_by(holds(order, one, other))),
+        Err(ending) => Ok(Turn::Ended(ending)),
+    }
+}
+
+fn turn_by(holds: bool) -> Turn
+    ensures { result ≡ turn_if holds }
+{
+    if holds {
+        return Turn::On;
+    }
+    Turn::Back
 }
 
 // Keeps the candidates behind one of them as an alternative.
@@ -204,7 +259,7 @@ pub(crate) fn take_atom<W: Watch>(
     behind: Option<usize>,
 ) -> Result<Turn, Memory>
     ensures leads { IfOk result (λ turn. (qv : Query) (a : Around) (raw : Branch) (s : State Task) (h : IsRunning qv machine.old a raw s) → IsAtLooked machine.old h.closing a place goal behind raw → IsAtomForm machine.old.bank (tree machine.old.bank goal.0) form →
-        HasNoCall h.at_work.goals → LeadsTo 1 qv turn machine.new s) }
+        StandsForm (length machine.old.bank.terms) form → HasNoCall h.at_work.goals → LeadsTo 1 qv turn machine.new s) }
     ensures calls { IfOk result (AtomTurns machine.old machine.new place goal form behind) }
 {
     if !take_step(machine) {

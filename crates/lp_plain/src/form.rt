@@ -2,7 +2,7 @@
 ghost use Rattle.std.specs.Prelude.{◌≡◌, length, IfOk};
 ghost use Rattle.lp_term.specs.Nodes.{tree};
 ghost use Rattle.lp_plain.specs.Calling.{IsFirstIn};
-ghost use Rattle.lp_plain.specs.Forms.{relation_by, by_two, by_constant, IsForm};
+ghost use Rattle.lp_plain.specs.Forms.{relation_by, by_two, by_constant, IsForm, StandsForm};
 
 use crate::head::Head;
 use lp_base::{Compare, Memory};
@@ -63,6 +63,7 @@ fn of_constant(number: u32, args: &[TermId]) -> Form
 pub(crate) fn form_of(alloc: Global, bank: &Bank, goal: TermId) -> Result<Form, Memory>
     ensures form { IfOk result (IsForm bank.now (tree bank.now goal.0)) }
     ensures within { IfOk result (IsFirstIn (length bank.now.terms)) }
+    ensures stands { IfOk result (StandsForm (length bank.now.terms)) }
 {
     let Spine { head, args } = spine_of(alloc, bank, goal)?;
     match bank.term_node(head) {

@@ -18,6 +18,7 @@ ghost use Rattle.lp_model.specs.Connected.{connective_in};
 ghost use Rattle.lp_plain.specs.AtRunTime.{AreWrittenGoals, HasNoCall, IsAtomFirst, IsAtomForm, IsAtomOrNoForm, IsAtTerm, IsWrittenFlat};
 ghost use Rattle.lp_plain.specs.Calling.{IsCallable, IsFirstIn, LeadsOf, TermTurns};
 ghost use Rattle.lp_plain.specs.Entries.{Around, KeepsGoals};
+ghost use Rattle.lp_plain.specs.Forms.{StandsForm};
 ghost use Rattle.lp_plain.specs.Marks.{AreMarked, IsMarked, Marks, PutsAside, PutsMarks, SetsAside};
 ghost use Rattle.lp_plain.specs.Moving.{IsBack, IsAtGoal, IsAtGoals, IsPlainFirst, IsRunning, IsState, LeadsTo, MovesTo, Query};
 ghost use Rattle.lp_plain.specs.Restoring.{GoesBack};
@@ -102,6 +103,7 @@ fn is_apart(connective: Connective) -> bool
 
 // The form of a goal that is not taken apart.
 fn form_beside(machine: &Machine, goal: TermId, connective: Connective) -> Result<Form, Memory>
+    ensures stands { IfOk result (StandsForm (length machine.now.bank.terms)) }
     ensures form { IfOk result (λ form. connective_of (tree machine.now.bank goal.0) ≡ connective_in machine.now.bank connective → IsAtomOrNoForm (connective_in machine.now.bank connective) → IsAtomForm machine.now.bank (tree machine.now.bank goal.0) form) }
     ensures within { IfOk result (IsFirstIn (length machine.now.bank.terms)) }
 {

@@ -5,23 +5,25 @@ use Rattle.lp_model.specs.declared.ending.Ending.TheVariants.{Flexible, Steps}
 use Rattle.lp_plain.specs.declared.outcome.Turn.{Turn}
 use Rattle.lp_plain.specs.AtRunTime.{IsAtomForm}
 use Rattle.lp_plain.specs.Calling.{IsFirstIn, LeadsOver}
+use Rattle.lp_plain.specs.Forms.{StandsForm}
 use Rattle.lp_plain.specs.Moving.{LeadsTo, turn_for}
 use Rattle.lp_plain.specs.Trying.{all_clauses}
 use Rattle.lp_plain.proofs.AtomMoves.{spent_leads}
 use Rattle.lp_plain.proofs.AtomTurns.{bound_same, equal_leads, flexible_leads, other_leads}
+use Rattle.lp_plain.proofs.ArithmeticTurns.{is_turn, order_turn}
 use Rattle.lp_plain.proofs.CallArm.{over_one}
 use Rattle.lp_plain.proofs.CallForms.{call_turn, is_out, order_out}
-use Rattle.lp_plain.proofs.LeftOut.{call_left, is_left, order_left}
+use Rattle.lp_plain.proofs.LeftOut.{call_left}
 use Rattle.lp_plain.proofs.StepTaken.{going_behind, step_kept}
 use Rattle.lp_plain.proofs.atomic.take_atom.Goals as goal
 
 pub returns-then-not-take_step-clause-leads : goal.returns-then-not-take_step-clause-leads
-returns-then-not-take_step-clause-leads g c = λ qv a raw s h at i nc w ea go enough few P ty.
+returns-then-not-take_step-clause-leads g c = λ qv a raw s h at i sf nc w ea go enough few P ty.
     let m = c.args.machine.now in
     spent_leads qv m a raw s h c.args.place c.args.goal c.args.behind at enough P m w ea go c.args.form i (c.if-not-take_step.ensures.spent refl).1
 
 pub returns-in_ok-unified-in-Equal-clause-leads : goal.returns-in_ok-unified-in-Equal-clause-leads
-returns-in_ok-unified-in-Equal-clause-leads g c = λ qv a raw s h at i nc.
+returns-in_ok-unified-in-Equal-clause-leads g c = λ qv a raw s h at i sf nc.
     let m = c.args.machine.now in
     let k = c.take_step.new.machine in
     let o = c.args.behind in
@@ -33,23 +35,30 @@ returns-in_ok-unified-in-Equal-clause-leads g c = λ qv a raw s h at i nc.
     c.in-Equal.left c.in-Equal.right c.in_ok-unified-in-Equal.unified (subst (IsAtomForm m.bank (tree m.bank c.args.goal.0)) c.in-Equal.is i) t.goals.known.bank e.equated)
 
 pub returns-in_ok-turn-in-Is-clause-leads : goal.returns-in_ok-turn-in-Is-clause-leads
-returns-in_ok-turn-in-Is-clause-leads g c = λ qv a raw s h at i nc.
+returns-in_ok-turn-in-Is-clause-leads g c = λ qv a raw s h at i sf nc.
     let m = c.args.machine.now in
-    is_left qv m a raw s h c.args.place c.args.goal c.args.behind at nc c.assign.new.machine c.in_ok-turn-in-Is.turn c.in-Is.left c.in-Is.right (subst (IsAtomForm m.bank (tree m.bank c.args.goal.0)) c.in-Is.is i)
+    let k = c.take_step.new.machine in
+    let o = c.args.behind in
+    let t = c.if-not-take_step.ensures in
+    is_turn qv m (going_behind k o) a raw s h c.args.place c.args.goal o at (step_kept m k o t.goals t.assumed t.frames t.denied t.branch) t.choices (t.counts refl) (t.there refl) t.goals.known.bank nc c.assign.new.machine
+    c.in_ok-turn-in-Is.turn c.in-Is.left c.in-Is.right (subst (IsAtomForm m.bank (tree m.bank c.args.goal.0)) c.in-Is.is i) (subst (StandsForm (length m.bank.terms)) c.in-Is.is sf) c.in_ok-turn-in-Is.ensures
 
 pub returns-in_ok-turn-in-Order-clause-leads : goal.returns-in_ok-turn-in-Order-clause-leads
-returns-in_ok-turn-in-Order-clause-leads g c = λ qv a raw s h at i nc.
+returns-in_ok-turn-in-Order-clause-leads g c = λ qv a raw s h at i sf nc.
     let m = c.args.machine.now in
-    order_left qv m a raw s h c.args.place c.args.goal c.args.behind at nc c.compare.new.machine c.in_ok-turn-in-Order.turn c.in-Order.order c.in-Order.left c.in-Order.right
-    (subst (IsAtomForm m.bank (tree m.bank c.args.goal.0)) c.in-Order.is i)
+    let k = c.take_step.new.machine in
+    let o = c.args.behind in
+    let t = c.if-not-take_step.ensures in
+    order_turn qv m (going_behind k o) a raw s h c.args.place c.args.goal o at (step_kept m k o t.goals t.assumed t.frames t.denied t.branch) t.choices (t.counts refl) (t.there refl) t.goals.known.bank nc c.compare.new.machine
+    c.in_ok-turn-in-Order.turn c.in-Order.order c.in-Order.left c.in-Order.right (subst (IsAtomForm m.bank (tree m.bank c.args.goal.0)) c.in-Order.is i) (subst (StandsForm (length m.bank.terms)) c.in-Order.is sf) c.in_ok-turn-in-Order.ensures
 
 pub returns-in_ok-turn-in-Call-clause-leads : goal.returns-in_ok-turn-in-Call-clause-leads
-returns-in_ok-turn-in-Call-clause-leads g c = λ qv a raw s h at i nc.
+returns-in_ok-turn-in-Call-clause-leads g c = λ qv a raw s h at i sf nc.
     let m = c.args.machine.now in
     call_left qv m a raw s h c.args.place c.args.goal c.args.behind at nc c.take_call.new.machine c.in_ok-turn-in-Call.turn c.in-Call.head c.in-Call.first (subst (IsAtomForm m.bank (tree m.bank c.args.goal.0)) c.in-Call.is i)
 
 pub returns-in-Flexible-clause-leads : goal.returns-in-Flexible-clause-leads
-returns-in-Flexible-clause-leads g c = λ qv a raw s h at i nc.
+returns-in-Flexible-clause-leads g c = λ qv a raw s h at i sf nc.
     let m = c.args.machine.now in
     let k = c.take_step.new.machine in
     let o = c.args.behind in
@@ -59,7 +68,7 @@ returns-in-Flexible-clause-leads g c = λ qv a raw s h at i nc.
     (subst (IsAtomForm m.bank (tree m.bank c.args.goal.0)) c.in-Flexible.is i)
 
 pub returns-in-Other-clause-leads : goal.returns-in-Other-clause-leads
-returns-in-Other-clause-leads g c = λ qv a raw s h at i nc.
+returns-in-Other-clause-leads g c = λ qv a raw s h at i sf nc.
     let m = c.args.machine.now in
     let k = c.take_step.new.machine in
     let o = c.args.behind in

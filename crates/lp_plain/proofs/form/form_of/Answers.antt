@@ -4,6 +4,7 @@ use Rattle.lp_term.specs.declared.node.TermId.{TermId}
 use Rattle.lp_pattern.proofs.Names.{no_constant, no_eigen, no_logic}
 use Rattle.lp_plain.proofs.FormFirsts.{constant_first, eigen_first}
 use Rattle.lp_plain.proofs.GoalForms.{constant_is, eigen_is, flexible_is, other_is}
+use Rattle.lp_plain.proofs.FormStands.{constant_stands, eigen_stands}
 use Rattle.lp_plain.proofs.form.form_of.Goals as goal
 
 pub returns-in-Const-clause-form : goal.returns-in-Const-clause-form
@@ -47,3 +48,9 @@ returns-in-Logic-clause-within c = tt
 
 pub returns-clause-within : goal.returns-clause-within
 returns-clause-within c = tt
+
+pub returns-in-Const-clause-stands : goal.returns-in-Const-clause-stands
+returns-in-Const-clause-stands c = constant_stands _ c.in-Const.number c.in_ok-head.field-0.args.items c.as_slice.result.now c.of_constant.result c.as_slice.ensures.value c.of_constant.ensures c.in_ok-head.ensures.args
+
+pub returns-in-Eigen-clause-stands : goal.returns-in-Eigen-clause-stands
+returns-in-Eigen-clause-stands c = eigen_stands _ c.in-Eigen.level c.in_ok-head.field-0.args.items c.deref.result.now c.copied.result c.deref.ensures.value (c.copied.ensures ∙ c.first.ensures.value) c.in_ok-head.ensures.args

@@ -1,4 +1,4 @@
-use Rattle.std.proofs.Common.{◌∙◌, ap, inl, inr, refl, subst, sym}
+use Rattle.std.proofs.Common.{◌∙◌, ap, inl, inr, refl}
 use Rattle.lp_model.specs.Connected.{connective_in}
 use Rattle.lp_plain.proofs.BesideForms.{no_form_of}
 use Rattle.lp_plain.proofs.turn.form_beside.Goals as goal

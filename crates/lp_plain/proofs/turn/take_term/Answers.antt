@@ -34,7 +34,7 @@ returns-clause-leads g c = λ qv a raw s h at nc.
     let k = c.connective_of-connective.ensures in
     let i = c.in_ok-form.ensures.form k.tree (c.is_apart.ensures.alone c.if-is_apart.false n.bank) in
     atom_turn qv m n c.in_ok-goal.ensures.bank a raw s h c.args.place c.args.term c.in-Some.goal c.args.behind at (subst (LooksAt m n c.args.term) c.in-Some.is c.in_ok-goal.ensures.looks)
-    (LeadsTo 1 qv c.in_ok-turn-2.turn c.take_atom.new.machine s) (λ h at nc. c.in_ok-turn-2.ensures.leads qv a raw s h at i nc) nc
+    (LeadsTo 1 qv c.in_ok-turn-2.turn c.take_atom.new.machine s) (λ h at nc. c.in_ok-turn-2.ensures.leads qv a raw s h at i c.in_ok-form.ensures.stands nc) nc
 
 pub returns-in_default-clause-calls : goal.returns-in_default-clause-calls
 returns-in_default-clause-calls g c = λ qv a raw s h at callable css pr sw.
