@@ -121,9 +121,10 @@ over_few event e n q h = λ w. h (q ∙ ap (λ z. told.Ended z) (let y = w in cc
 
 pub over_is : (k : Course) (s u : Search) (event : Told) (e : Ending) → event ≡ told.Ended e → u.ended ≡ Some e → IsToTell s k → (AreFew (Turn.Ended e) k.enough → k.event ≡ Over e) → AreEnough event k.enough → IsEventOf k.event event × IsBetween k.program k.enough u k.after
 over_is k s u event e q eu it st en =
-    let o = st (over_few event e k.enough q en) in
-    (subst (λ z. IsEventOf z event) (sym o) (subst (IsEventOf (Over e)) (sym q) refl),
-    is_over e eu (over_stays (look unit_limit k.enough k.program) it.before k.after e (subst (λ z. Advances (look unit_limit k.enough k.program) it.before z k.after) o it.comes)))
+    let o = st (over_few event e k.enough q en) in (
+      subst (λ z. IsEventOf z event) (sym o) (subst (IsEventOf (Over e)) (sym q) refl),
+      is_over e eu (over_stays (look unit_limit k.enough k.program) it.before k.after e (subst (λ z. Advances (look unit_limit k.enough k.program) it.before z k.after) o it.comes)),
+    )
 
 pub answer_rested : (qv : Query) (m : Machine) (x : Answer) → IsAnswer qv m x → IsAnswer qv (rested m) x
 answer_rested qv m x a = record { closing = a.closing; reading = a.reading; next = a.next; next_type = a.next_type; types = a.types; values = a.values; pairs = a.pairs; left = a.left }

@@ -224,8 +224,8 @@ module _ (qv : Query) (m c : Machine) (a : Around) (raw : Branch) (s : State Tas
         let ts = tries P F.first work (length h.rest) (goal_looked enough t) in
         let after : State Task = record { steps = l; answers = suc w; given = s.given; rows = s.rows; row = s.rows; lost = s.lost; stack = ts ++ h.rest } in
         let first_move : move go see s ≡ Goes 1 (GoalNote seen.name ∷ back ts h.rest) after =
-            (λ i. move_at go see (steps_are qv m c a raw s h p u o at k ch ct there i) (ea i) s.given s.rows s.row s.lost (h.stack i)) ∙ by_lost go see (suc l) w s.given s.rows s.row s.lost (Go h.at_work) h.rest ∙
-            ap (move_view go (suc l) w s.given s.rows s.row s.lost h.rest) seen.view in
+        (λ i. move_at go see (steps_are qv m c a raw s h p u o at k ch ct there i) (ea i) s.given s.rows s.row s.lost (h.stack i)) ∙ by_lost go see (suc l) w s.given s.rows s.row s.lost (Go h.at_work) h.rest ∙
+        ap (move_view go (suc l) w s.given s.rows s.row s.lost h.rest) seen.view in
         let moved : closed h.closing x ≡ closed h.closing (tree c.bank u.0) = ap (λ b. closed h.closing (tree b u.0)) (sym k.goals.known.bank) in
         step_then qv turn n go see s after 1 (GoalNote seen.name ∷ back ts h.rest) first_move (sym ea) refl
         (leads front qv a (with_goals raw at.rest) work h.rest g F.first (at_call (seen.arity_is (front_arity qv.arity enough P s ty h.at_work h.rest h.stack F.first F.rest F.whole F.goal t enough F.is q)) known) css (program_later m c (subst (Extends m.bank) (sym k.goals.known.bank) (extends_same m.bank)) k.goals.known.table k.goals.known.index qv.arity css r)

@@ -68,8 +68,6 @@ name_read z (atom (param j t)) (atom (constant d us)) k = refl
 name_read z (abs s) (atom (constant d us)) k = refl
 name_read z (app f s) (atom (constant d us)) k = refl
 
-
-
 module _ (z : Closing) (g : Term) (head : IsCallHead (head_of g)) where
   abbrev read : Clause → Clause
   read c = clause_with (closed z) (instance z.types) c

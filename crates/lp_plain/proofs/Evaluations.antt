@@ -203,8 +203,8 @@ module _ (m q : Machine) (ob : OnlyBank m q) (t u : TermId) (looks : LooksAt m q
       (subst (λ l. After q.bank z n 1 None (reverse us) l r k) (sym (ap reverse put.2))
       (subst (λ l. After q.bank z n 1 None l (reverse vs) r k)
       (sym (reverse_pushed us ((ts ++ task.Two c ∷ []) ++ task.Visit b ∷ []) (task.Visit a) put.1 ∙
-        ap (λ l. task.Visit a ∷ l) (reverse_pushed ((ts ++ task.Two c ∷ []) ++ task.Visit b ∷ []) (ts ++ task.Two c ∷ []) (task.Visit b) refl ∙
-        ap (λ l. task.Visit b ∷ l) (reverse_pushed (ts ++ task.Two c ∷ []) ts (task.Two c) refl))))
+      ap (λ l. task.Visit a ∷ l) (reverse_pushed ((ts ++ task.Two c ∷ []) ++ task.Visit b ∷ []) (ts ++ task.Two c ∷ []) (task.Visit b) refl ∙
+      ap (λ l. task.Visit b ∷ l) (reverse_pushed (ts ++ task.Two c ∷ []) ts (task.Two c) refl))))
       (two_taken m q ob t u looks z y n (reverse ts) (reverse vs) ms r k av h c a b is.0 is.1 is.2 s.0 s.1)))
   visit_taken (expression.One c a) is st o ts us vs ws put z y n ms r k av h =
       subst (λ o. After q.bank z n 1 o (reverse us) (reverse ws) r k) (sym put.0)

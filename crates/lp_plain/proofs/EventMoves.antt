@@ -68,9 +68,9 @@ module _ (see : ℕ → Task → View Task Answer) where
 
     same_end : (v : Move Task Answer) → move (inner see i) see t ≡ v → EndsWith e v ⊎ ((k : ℕ) × (ns : List Note) × (v ≡ Waits k ns))
     same_end v q = elim (in_order i j) [
-        | inl l ↦ fewer v q l
-        | inr l ↦ inl (subst (EndsWith e) (sym (move_more see j i l t (ends_made e (move (inner see j) see t) ends)) ∙ q) ends)
-      ]
+      | inl l ↦ fewer v q l
+      | inr l ↦ inl (subst (EndsWith e) (sym (move_more see j i l t (ends_made e (move (inner see j) see t) ends)) ∙ q) ends)
+    ]
 
     event_at_end : (m : ℕ) (v : Move Task Answer) → EndsWith e v → (x : Event Answer) (u : State Task) → first_after t (first see i m) v ≡ Some (x, u) → x ≡ Over e
     event_at_end m v (by_stop q) x u h = sym (pair_left (Over e) x t u (sym (ap (first_after t (first see i m)) q) ∙ h)).0

@@ -79,8 +79,7 @@ module _ (c : Course) (qv : Query) (n : Machine) (within : IsOfQuery c.query qv)
         (qv, h.2, within, h.4, here h.2 (h.5 ∙ a) (h.6 ∙ g) (kept_on c j h.0 h.1 s h.2 h.3 v) i q)
     first_moved Turn.Answered i s a g v h e =
         let q = pair_left (Gave h.1) c.event h.2 c.after (sym (ap (first_after s (first see j i)) h.3) ∙ e) in
-        let left : h.2.answers ≡ c.left = (let x : suc h.2.answers ≡ suc c.left = sym h.6 ∙ a in omega (arith, x)) in
-        (
+        let left : h.2.answers ≡ c.left = (let x : suc h.2.answers ≡ suc c.left = sym h.6 ∙ a in omega (arith, x)) in (
           qv,
           h.1,
           within,
@@ -133,9 +132,9 @@ module _ (c : Course) (qv : Query) (n : Machine) (within : IsOfQuery c.query qv)
 
       by_move : (v : Move Task Answer) → move (inner see m) see s ≡ v → of s.steps (inner see (suc i) has_no_pairs s) → of s.steps (after v) × LeavesSteps s.steps v
       by_move v e h = elim (same_or_waits v e (move (inner see i) see s) refl) [
-          | inl q ↦ (subst (λ y. of s.steps (after y)) q h, subst (LeavesSteps s.steps) q (move_leaves see i s))
-          | inr q ↦ absurd (waits_comes (move (inner see i) see s) q h)
-        ]
+        | inl q ↦ (subst (λ y. of s.steps (after y)) q h, subst (LeavesSteps s.steps) q (move_leaves see i s))
+        | inr q ↦ absurd (waits_comes (move (inner see i) see s) q h)
+      ]
 
       on_goes : (k : ℕ) (ns : List Note) (t : State Task) → move (inner see m) see s ≡ Goes k ns t → of s.steps (inner see (suc i) has_no_pairs s) → of t.steps (inner see i has_no_pairs t)
       on_goes k ns t e h = let r = by_move (Goes k ns t) e h in later_comes c (Comes c ws) w s.steps t.steps k ns (inner see i has_no_pairs t) r.1 r.0

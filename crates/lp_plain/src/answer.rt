@@ -159,7 +159,12 @@ pub(crate) fn answer_of(machine: &mut Machine, count: usize) -> Result<Answer, M
     let alloc = machine.alloc;
     let variables = query_variables(alloc, &mut machine.bank, count)?;
     let full = filled_terms(alloc, &mut machine.bank, &machine.bindings, &variables)?;
-    let sides = filled_pairs(alloc, &mut machine.bank, &machine.bindings, &machine.branch.pairs)?;
+    let sides = filled_pairs(
+        alloc,
+        &mut machine.bank,
+        &machine.bindings,
+        &machine.branch.pairs,
+    )?;
     let mut bank = Bank::new(alloc);
     let mut copies = Changed::new(alloc);
     let values = copied_terms(alloc, &mut copies, &machine.bank, &full, &mut bank)?;

@@ -28,8 +28,7 @@ returns-in_ok-answer-in-Answered-clause-search g c = λ k it st en.
     let x : Extends m.bank n.bank = subst (λ z. Extends z.bank n.bank) note.machine made.only.bank in
     let um : n ≡ with_bank (rested m) n.bank = made.only.same ∙ ap (λ z. with_bank z n.bank) note.machine in
     let count : c.len-count.result ≡ stands.0.vars =
-    (let a = c.len-count.ensures in let o = t.variables.ok in let v = ap (λ w. length w.items) note.variables in let q = same_count k s u m n.bank it stands x um (note.given more) note.answers note.variables note.ended in omega (arith, a, o, v, q)) in
-    (
+    (let a = c.len-count.ensures in let o = t.variables.ok in let v = ap (λ w. length w.items) note.variables in let q = same_count k s u m n.bank it stands x um (note.given more) note.answers note.variables note.ended in omega (arith, a, o, v, q)) in (
       answer_told k m stands c.in_ok-answer-in-Answered.answer (made.answer stands.0 stands.1 count (subst (λ z. IsAnswer stands.0 z stands.1) (sym note.machine) (answer_rested stands.0 m stands.1 stands.5))),
       answer_between k s u m n.bank it stands x um (note.given more) note.answers note.variables note.ended,
     )
