@@ -19,6 +19,7 @@ use Rattle.lp_plain.specs.Stacks.{base_of}
 use Rattle.lp_plain.proofs.AboveUnder.{pairs_more, still_all, still_done, still_turn}
 use Rattle.lp_plain.proofs.Growing.{reads_later}
 use Rattle.lp_plain.proofs.Grown.{grown_on, placed_on, same_around}
+use Rattle.lp_plain.proofs.Inside.{inside_still}
 use Rattle.lp_plain.proofs.LookedOn.{bank_goals, bank_grown, bank_still, place_later}
 use Rattle.lp_plain.proofs.Under.{branch_on}
 
@@ -52,6 +53,7 @@ module _ (qv : Query) (m n : Machine) (b : OnlyBank m n) (a : Around) (rest work
         are = still_all qv m n a a st sn gr lt bound_bank below g.above ch;
         in_turn = still_turn qv m n a a st sn gr lt bound_bank below g.above ch;
         is = g.above.is;
+        inside = inside_still qv m n a a st gr lt bound_bank g.above.inside g.above.done.base ch;
       }
 
   pub under_bank : IsBranchUnder qv g.levels n.bank g.closing (mark_in (base_of n.denied) g.above.raws) (base_of n.denied) (length n.choices.items) n.branch.pairs.items rest work
