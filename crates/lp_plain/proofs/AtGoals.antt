@@ -83,6 +83,12 @@ running_framed qv m q a p raw s k c ka f st pl h =
       lost = h.counted.lost ∙ ap (λ x. x.lost) (sym c.counts);
     })
 
+-- at work on the same branch
+pub framed_work : (qv : Query) (m q : Machine) (a : Around) (p : Place) (raw : Branch) (s : State Task) (k : KeepsGoals m q) (c : KeepsCourse m q) (ka : KeepsAssumed m q) (f : HasFrameAt m q p) (st : StandsIn q) (pl : IsPlaceAt (lists_of m) a p)
+    (h : IsRunning qv m a raw s) → (running_framed qv m q a p raw s k c ka f st pl h).at_work ≡ h.at_work
+unfolding running_framed running_still
+framed_work qv m q a p raw s k c ka f st pl h = refl
+
 -- the frame in front
 
 module _ (qv : Query) (m : Machine) (s : State Task) (h : IsState qv m s) (number : ℕ) (f : Frame) (front : m.branch.goals ≡ Some number) (got : slice_get m.frames.items number ≡ Some f) where

@@ -28,7 +28,8 @@ use Rattle.lp_plain.specs.Taking.{IsKept}
 use Rattle.lp_plain.specs.Trials.{goal_of}
 use Rattle.lp_plain.specs.Trying.{lists_at, tries_of}
 use Rattle.lp_plain.proofs.AboveUnder.{alternatives_marked, counts_same, marks_more}
-use Rattle.lp_plain.proofs.BackMoves.{all_older_back, bound_last, split_newest}
+use Rattle.lp_plain.proofs.Bounds.{all_older_back, bound_last, split_newest}
+use Rattle.lp_plain.proofs.Inside.{inside_back}
 use Rattle.lp_plain.proofs.Backwards.{all_back, nested_last, stands_then}
 use Rattle.lp_plain.proofs.CallsUnder.{candidates_same, goal_back}
 use Rattle.lp_plain.proofs.Marking.{drop_length}
@@ -145,6 +146,7 @@ call_state qv m n c rest call one e u l t s h =
             (subst (λ o. AreAlternatives qv n f' b b o sp.raws sp.others) (sym qs) older);
         in_turn = subst AreBoundInTurn (sym qs) turn.1;
         is = refl;
+        inside = inside_back qv m n a c rest e l t ca.kept sp.is.bound_terms sp.is.bound_types h.above.inside;
       };
       closing = z;
       stack = h.above.is ∙ ap stack_of sp.whole ∙ stack_push sp.others sp.tasks ∙ ap (λ o. o ++ stack_of sp.others) ct.is ∙

@@ -32,6 +32,7 @@ use Rattle.lp_plain.proofs.Assumed.{lists_noted}
 use Rattle.lp_plain.proofs.Backwards.{on_kept}
 use Rattle.lp_plain.proofs.Frames.{reads_on}
 use Rattle.lp_plain.proofs.Grown.{same_around}
+use Rattle.lp_plain.proofs.Inside.{inside_cut}
 use Rattle.lp_plain.proofs.Marking.{drop_length}
 use Rattle.lp_plain.proofs.Opening.{same_stands}
 use Rattle.lp_plain.proofs.QuietMoves.{by_lost}
@@ -175,6 +176,7 @@ module _ (qv : Query) (m n : Machine) (a : Around) (raw : Branch) (s : State Tas
         are = kept_all qv m n a a h.above.done.stands stands grown around bound e.mark c.choices sp.entry.low h.rest h.above;
         in_turn = kept_turn qv m n a a h.above.done.stands stands grown around bound e.mark c.choices sp.entry.low h.rest h.above;
         is = ap (oldest sp.first.mark) h.above.is ∙ sym tasks.stack;
+        inside = inside_cut qv m n a a h.above.done.stands grown around bound h.above.inside h.above.done.base e.mark c.choices sp.entry.low;
       };
       placed = placed;
       next = k.next ∙ h.next;

@@ -1,11 +1,13 @@
 -- A unification in front of the goals behind an atom, as moves of the definition.
-use Rattle.std.proofs.Common.{◌≡◌, ℕ, suc, ◌<◌, List, [], ◌∷◌, ◌++◌, length, refl, sym, ap, inl, inr, ◌∙◌, subst, arith, Option, None, Some, Bool}
+use Rattle.std.proofs.Common.{◌≡◌, ◌≤◌, ℕ, suc, List, [], ◌∷◌, ◌++◌, length, refl, sym, ap, inl, inr, ◌∙◌, subst, arith, Option, None, Some, Bool}
 use Rattle.lp_calculus.specs.Fill.{Within}
-use Rattle.lp_model.specs.Branch.{Answer, Branch, Go, Lack, Stop, Task, resume}
+use Rattle.lp_calculus.specs.Types.{var}
+use Rattle.lp_model.specs.Branch.{Answer, Branch, Go, Task, resume}
 use Rattle.lp_model.specs.Flat.{Clause}
 use Rattle.lp_model.specs.Pair.{Closing, closed}
 use Rattle.lp_model.specs.Search.{follow, look, types_from, vars_from}
-use Rattle.lp_model.specs.Skeleton.{GoalName, GoalNote, Goes, Inner, State, Takes, View, back, move, move_at, move_view}
+use Rattle.lp_model.specs.Skeleton.{GoalName, Inner, State, Takes, View}
+use Rattle.lp_model.specs.Types.{put_types}
 use Rattle.lp_model.specs.Unify.{State as Solved, Unified as Outcome, Fail, Solution, Spent, unit_limit}
 use Rattle.lp_model.specs.declared.ending.Ending.TheVariants.{Deep}
 use Rattle.lp_pattern.specs.Growing.{GoesOn}
@@ -18,7 +20,7 @@ use Rattle.lp_plain.specs.declared.outcome.Turn.{Turn}
 use Rattle.lp_plain.specs.declared.unified.Unified.{Unified}
 use Rattle.lp_plain.specs.Assuming.{GrowsAt, IsPlaceAt, lists_of}
 use Rattle.lp_plain.specs.Entries.{Around, GrowsGoals, Reads}
-use Rattle.lp_plain.specs.Moving.{AreEntriesUnder, AreFew, HasAlternatives, HasFreeTypes, IsGoingOn, IsBranchUnder, IsCounted, IsState, Leads, Query, mark_in, turn_for}
+use Rattle.lp_plain.specs.Moving.{AreEntriesUnder, AreFew, HasAlternatives, IsGoingOn, IsBranchUnder, IsCounted, IsState, Leads, Query, mark_in, turn_for}
 use Rattle.lp_plain.specs.Resuming.{AllTerms, AreKnownEntries}
 use Rattle.lp_plain.specs.Stacks.{base_of}
 use Rattle.lp_plain.specs.Unifying.{IsBoundIn, IsUnifiedAs, StandPairs}
@@ -26,13 +28,14 @@ use Rattle.lp_pattern.proofs.Keeps.{goes_on_same}
 use Rattle.lp_plain.proofs.AboveUnder.{still_all, still_done, still_turn}
 use Rattle.lp_plain.proofs.Grown.{grown_on, grown_still, placed_on, same_around}
 use Rattle.lp_plain.proofs.Growing.{reads_later}
+use Rattle.lp_plain.proofs.Inside.{inside_still}
 use Rattle.lp_plain.proofs.Opening.{bank_stands}
-use Rattle.lp_plain.proofs.QuietMoves.{by_lost}
+use Rattle.lp_plain.proofs.Resumed.{variable_behind}
 use Rattle.lp_plain.proofs.ResumedUnder.{known_behind, resumed_under, terms_known, types_behind, values_behind}
+use Rattle.lp_plain.proofs.TaskMoves.{fails, goes, lacks, stops}
 use Rattle.lp_plain.proofs.TryGrows.{bound_more}
 
-module _ (qv : Query) (m n : Machine) (a : Around) (raw rest : Branch) (below : List Task) (h : IsGoingOn qv m a raw rest below) (p : Place) (pl : IsPlaceAt (lists_of m) a p) (b : IsBoundIn m n) (residual : StandPairs m → StandPairs n)
-    (free : HasFreeTypes n) where
+module _ (qv : Query) (m n : Machine) (a : Around) (raw rest : Branch) (below : List Task) (h : IsGoingOn qv m a raw rest below) (p : Place) (pl : IsPlaceAt (lists_of m) a p) (b : IsBoundIn m n) (residual : StandPairs m → StandPairs n) where
   grows : GrowsGoals m n
   grows =
       let g = bound_more m n b in
@@ -56,10 +59,16 @@ module _ (qv : Query) (m n : Machine) (a : Around) (raw rest : Branch) (below : 
         are = still_all qv m n a a st sn gr lt b.bindings below h.above ch;
         in_turn = still_turn qv m n a a st sn gr lt b.bindings below h.above ch;
         is = h.above.is;
+        inside = inside_still qv m n a a st gr lt b.bindings h.above.inside h.above.done.base ch;
       }
 
+  -- behind a solution no type variable is bound that is still to come
+  abbrev pub StaysFree : Solved → Type 0
+  StaysFree st = (c : Closing) → ((x : ℕ) → c.types x ≡ put_types st.types (h.closing.types x)) → (x : ℕ) → n.branch.next_type ≤ x → c.types x ≡ var x
+
   -- a solution
-  module _ (st : Solved) (z : Closing) (reading : IsOpenReading n.bank n.bindings n.branch.next z) (found : IsFound h.levels m.branch.next h.closing n.bank n.branch.next n.branch.pairs.items z st) where
+  module _ (st : Solved) (z : Closing) (reading : IsOpenReading n.bank n.bindings n.branch.next z) (found : IsFound h.levels m.branch.next h.closing n.bank n.branch.next n.branch.pairs.items z st)
+      (free : (x : ℕ) → n.branch.next_type ≤ x → z.types x ≡ var x) where
     abbrev base : ℕ
     base = base_of m.denied
 
@@ -88,7 +97,7 @@ module _ (qv : Query) (m n : Machine) (a : Around) (raw rest : Branch) (below : 
         goals = known_behind h.levels m.branch.next h.closing n.bank n.branch.next n.branch.pairs.items z st found raw.goals known;
         values = terms_known h.levels m.branch.next h.closing n.bank n.branch.next n.branch.pairs.items z st found (vars_from qv.vars 0) values_known;
         pairs = found.known;
-        free = free z reading;
+        free = free;
       };
     }
 
@@ -115,44 +124,29 @@ module _ (qv : Query) (m n : Machine) (a : Around) (raw rest : Branch) (below : 
     }
 
   -- the atom takes a step
-  module _ (s : State Task) (w j : ℕ) (ea : s.answers ≡ suc w) (es : s.steps ≡ suc j) (go : (Answer → Bool) → State Task → Inner) (enough : ℕ) (P : List Clause) (name : GoalName) (task : Task) (o : Option Outcome)
-      (stack : s.stack ≡ task ∷ below) (seen : look unit_limit enough P (length below) task ≡ Takes name (follow rest o)) where
+  module _ (s : State Task) (w j : ℕ) (ea : s.answers ≡ suc w) (es : s.steps ≡ suc j) (go : (Answer → Bool) → State Task → Inner) (enough : ℕ) (P : List Clause) (name : GoalName) (task : Task) (tasks : List Task)
+      (stack : s.stack ≡ task ∷ below) (seen : look unit_limit enough P (length below) task ≡ Takes name tasks) where
     abbrev see : ℕ → Task → View Task Answer
     see = look unit_limit enough P
 
     abbrev after : List Task → State Task
     after ts = record { steps = j; answers = suc w; given = s.given; rows = s.rows; row = s.rows; lost = s.lost; stack = ts ++ below }
 
-    first_move : (ts : List Task) → follow rest o ≡ ts → move go see s ≡ Goes 1 (GoalNote name ∷ back ts below) (after ts)
-    first_move ts e =
-        (λ i. move_at go see (es i) (ea i) s.given s.rows s.row s.lost (stack i)) ∙ by_lost go see (suc j) w s.given s.rows s.row s.lost task below ∙
-        ap (move_view go (suc j) w s.given s.rows s.row s.lost below) (seen ∙ ap (Takes name) e)
-
-    second : (x : Task) (ts : List Task) → move go see (after (x ∷ ts)) ≡ move_view go j w s.given s.rows s.rows s.lost (ts ++ below) (see (length (ts ++ below)) x)
-    second x ts = by_lost go see j w s.given s.rows s.rows s.lost x (ts ++ below)
-
     module _ (counted : (ts : List Task) → IsCounted n (after ts)) where
-      lacks : follow rest o ≡ Lack ∷ [] → (turn : Turn) → Leads 1 qv turn n go see s
-      lacks e turn = inr (inr (1, GoalNote name ∷ [], after (Lack ∷ []), first_move (Lack ∷ []) e, sym ea, refl, inr (0, [], second Lack [])))
+      pub none_left : tasks ≡ [] → Leads 1 qv Turn.Back n go see s
+      none_left e = fails qv n below s w j ea es go enough P name task tasks stack seen e (record { around = a; above = above; counted = counted [] })
 
-      fails : follow rest o ≡ [] → Leads 1 qv Turn.Back n go see s
-      fails e = inl (1, GoalNote name ∷ back [] below, after [], first_move [] e, record { around = a; above = above; counted = counted [] }, sym ea, refl)
+      by_outcome : (u : Unified) (x : Option Outcome) → AreFew (turn_for u) enough → tasks ≡ follow rest x → ((y : Outcome) → x ≡ Some y → IsUnifiedAs u h.levels m.branch.next h.closing n enough y) → ((st : Solved) → x ≡ Some (Solution st) → StaysFree st) →
+          Leads 1 qv (turn_for u) n go see s
+      by_outcome u None few e k free = lacks qv n below s w j ea es go enough P name task tasks stack seen e (turn_for u)
+      by_outcome Unified.Fits (Some Fail) few e k free = absurd (let z = k Fail refl in z)
+      by_outcome Unified.Fits (Some Spent) few e k free = absurd (let z = k Spent refl in z)
+      by_outcome Unified.Fits (Some (Solution st)) few e k free =
+          let y = k (Solution st) refl in
+          goes qv n below s w j ea es go enough P name task tasks stack seen (resume rest st) e (goes_on st y.0 y.1 y.2 (free st refl y.0 (variable_behind h.levels m.branch.next h.closing n.bank n.branch.next n.branch.pairs.items y.0 st y.2)) (after (Go (resume rest st) ∷ [])) refl (counted (Go (resume rest st) ∷ [])))
+      by_outcome Unified.Fails (Some y) few e k free = none_left (e ∙ ap (λ q. follow rest (Some q)) (k y refl))
+      by_outcome Unified.Deep (Some y) few e k free = stops qv n below s w j ea es go enough P name task tasks stack seen Deep (e ∙ ap (λ q. follow rest (Some q)) (k y refl (let l = few refl in omega (arith, l))))
 
-      deep : follow rest o ≡ Stop Deep ∷ [] → Leads 1 qv (Turn.Ended Deep) n go see s
-      deep e = inr (inr (1, GoalNote name ∷ [], after (Stop Deep ∷ []), first_move (Stop Deep ∷ []) e, sym ea, refl, inl (second (Stop Deep) [])))
-
-      solves : (st : Solved) → follow rest o ≡ Go (resume rest st) ∷ [] → (z : Closing) → IsOpenReading n.bank n.bindings n.branch.next z →
-          IsFound h.levels m.branch.next h.closing n.bank n.branch.next n.branch.pairs.items z st → Leads 1 qv Turn.On n go see s
-      solves st e z r found =
-          inl (1, GoalNote name ∷ [], after (Go (resume rest st) ∷ []), first_move (Go (resume rest st) ∷ []) e, goes_on st z r found (after (Go (resume rest st) ∷ [])) refl (counted (Go (resume rest st) ∷ [])), sym ea, refl)
-
-      by_outcome : (u : Unified) (x : Option Outcome) → AreFew (turn_for u) enough → o ≡ x → ((y : Outcome) → x ≡ Some y → IsUnifiedAs u h.levels m.branch.next h.closing n enough y) → Leads 1 qv (turn_for u) n go see s
-      by_outcome u None few e k = lacks (ap (follow rest) e) (turn_for u)
-      by_outcome Unified.Fits (Some Fail) few e k = absurd (k Fail refl)
-      by_outcome Unified.Fits (Some Spent) few e k = absurd (k Spent refl)
-      by_outcome Unified.Fits (Some (Solution st)) few e k = let y = k (Solution st) refl in solves st (ap (follow rest) e) y.0 y.1 y.2
-      by_outcome Unified.Fails (Some y) few e k = fails (ap (follow rest) (e ∙ ap (λ q. Some q) (k y refl)))
-      by_outcome Unified.Deep (Some y) few e k = deep (ap (follow rest) (e ∙ ap (λ q. Some q) (k y refl (let l = few refl in omega (arith, l)))))
-
-      pub unified_leads : (u : Unified) → AreFew (turn_for u) enough → ((y : Outcome) → o ≡ Some y → IsUnifiedAs u h.levels m.branch.next h.closing n enough y) → Leads 1 qv (turn_for u) n go see s
-      unified_leads u few k = by_outcome u o few refl k
+      pub unified_leads : (u : Unified) → AreFew (turn_for u) enough → (o : Option Outcome) → tasks ≡ follow rest o → ((y : Outcome) → o ≡ Some y → IsUnifiedAs u h.levels m.branch.next h.closing n enough y) → ((st : Solved) → o ≡ Some (Solution st) → StaysFree st) →
+          Leads 1 qv (turn_for u) n go see s
+      unified_leads u few o e k free = by_outcome u o few e k free

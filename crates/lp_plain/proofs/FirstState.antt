@@ -20,7 +20,7 @@ use Rattle.lp_plain.specs.declared.choice.Choice.{Choice}
 use Rattle.lp_plain.specs.declared.machine.Machine.{Machine}
 use Rattle.lp_plain.specs.Assuming.{ArePlaced}
 use Rattle.lp_plain.specs.Entries.{Around, IsBranchAt}
-use Rattle.lp_plain.specs.Moving.{Query, AreAlternatives, AreBoundInTurn, AreEntriesUnder, IsBranchUnder, IsGoalUnder, HasNoVariable, IsKnownAs, IsState, mark_in}
+use Rattle.lp_plain.specs.Moving.{Query, AreAlternatives, AreBoundInTurn, AreOuter, AreEntriesUnder, IsBranchUnder, IsGoalUnder, HasNoVariable, IsKnownAs, IsState, mark_in}
 use Rattle.lp_plain.specs.Resuming.{AllOfEntries, AllOfGoals, AllTerms, goal_with}
 use Rattle.lp_plain.specs.Searching.{AreNested, StandForAll}
 use Rattle.lp_plain.specs.Stacks.{base_of}
@@ -86,7 +86,7 @@ query_known k gs h =
     (entries_all (λ d t. Within (Known (λ x. 0) k) d (closed unbound t)) (goal_list (instantiate_goals σ gs)) [] nothing_written 0 0 [] (goals_in_list (λ d t. Within (Known (λ x. 0) k) d (closed unbound t)) (instantiate_goals σ gs) u) tt tt tt)
 
 pub start_known : (ar : ℕ → ℕ) (j k : ℕ) (gs : Goals) → AllOfGoals HasNoVariable k gs → (b : Branch) → b.goals ≡ entries (goal_list (instantiate_goals (λ i. atom (logic (k - suc i) 0)) gs)) [] nothing_written 0 0 → b.next ≡ k → b.pairs ≡ [] →
-    IsKnownAs (record { types = j; vars = k; arity = ar }) unbound (λ x. 0) b b
+    IsKnownAs (record { types = j; vars = k; arity = ar; outer = [] }) unbound (λ x. 0) b b
 start_known ar j k gs h b eg en ep = record {
   goals = subst (λ n. AllOfEntries (λ d t. Within (Known (λ x. 0) n) d (closed unbound t)) b.goals) (sym en) (subst (AllOfEntries (λ d t. Within (Known (λ x. 0) k) d (closed unbound t))) (sym eg) (query_known k gs h));
   values = subst (λ n. AllTerms (λ d t. Within (Known (λ x. 0) n) d (closed unbound t)) 0 (vars_from k 0)) (sym en) (vars_known k k 0 (omega arith));
@@ -116,8 +116,8 @@ module _ (qv : Query) (limit : ℕ) (m : Machine) (s : State Task) (b : Branch) 
         known = known;
       }))
 
-  pub begins_so : s.stack ≡ Go b ∷ [] → s.steps ≡ limit → s.rows ≡ row_limit → s.row ≡ row_limit → s.lost ≡ false → IsState qv m s
-  begins_so es et er eo el = record {
+  pub begins_so : qv.outer ≡ [] → s.stack ≡ Go b ∷ [] → s.steps ≡ limit → s.rows ≡ row_limit → s.row ≡ row_limit → s.lost ≡ false → IsState qv m s
+  begins_so alone es et er eo el = record {
     around = outermost;
     raw = b;
     goals = w.goals;
@@ -138,6 +138,11 @@ module _ (qv : Query) (limit : ℕ) (m : Machine) (s : State Task) (b : Branch) 
         are = subst (λ x. AreAlternatives qv m (mark_in (base_of m.denied) []) (base_of m.denied) (base_of m.denied) x [] []) (sym none_left) tt;
         in_turn = subst AreBoundInTurn (sym none_left) tt;
         is = refl;
+        inside = record {
+          outer = subst (λ o. AreOuter qv.arity m outermost o qv.outer) (sym d) (subst (AreOuter qv.arity m outermost None) (sym alone) tt);
+          nested = subst AreNested (sym c) tt;
+          in_turn = subst AreBoundInTurn (sym c) tt;
+        };
       };
       placed = pl;
       next = w.next;

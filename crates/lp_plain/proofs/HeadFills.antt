@@ -2,11 +2,11 @@
 use Rattle.std.proofs.Common.{◌≡◌, ℕ, zero, suc, List, [], ◌∷◌, refl, sym, ap, ◌∙◌, subst, Option, None, Some}
 use Rattle.lp_calculus.specs.Convert.{head_step, option_term, steps}
 use Rattle.lp_calculus.specs.Fill.{Binding, at_variables, fill, one, put, put_all, raise}
-use Rattle.lp_calculus.specs.Instance.{instance_atom}
+use Rattle.lp_calculus.specs.Instance.{instance_atom, instance_term}
 use Rattle.lp_calculus.specs.Term.{Term, Atom, index, atom, abs, app, substitute}
 use Rattle.lp_calculus.proofs.Commutations.{instance_fill}
 use Rattle.lp_calculus.proofs.Fills.{fill-substitute}
-use Rattle.lp_model.specs.Pair.{put_type_in, put_types_in}
+use Rattle.lp_model.specs.Pair.{Closing, closed, put_type_in, put_types_in}
 use Rattle.lp_model.specs.Types.{TypeBinding, one_type}
 use Rattle.lp_plain.specs.Entries.{HeadsTo}
 
@@ -36,6 +36,13 @@ steps_filled f (suc j) t s e = elim (head_step t) as (λ o. head_step t ≡ o �
 
 heads_filled : (f : Atom → Term) (t v : Term) → HeadsTo t v → HeadsTo (fill f t) (fill f v)
 heads_filled f t v h = (h.0, h.1, steps_filled f h.0 t v h.2)
+
+-- as a reading has them
+pub heads_closed : (z : Closing) (t v : Term) → HeadsTo t v → HeadsTo (closed z t) (closed z v)
+heads_closed z t v h =
+    let g = heads_filled (λ a. atom (instance_atom z.types a)) t v h in
+    heads_filled (at_variables z.terms) (instance_term z.types t) (instance_term z.types v)
+    (subst (λ x. HeadsTo (instance_term z.types t) x) (sym (instance_fill z.types v)) (subst (λ x. HeadsTo x (fill (λ a. atom (instance_atom z.types a)) v)) (sym (instance_fill z.types t)) g))
 
 heads_bound : (bs : List Binding) (t v : Term) → HeadsTo t v → HeadsTo (put_all bs t) (put_all bs v)
 heads_bound [] t v h = h

@@ -84,11 +84,11 @@ looked_top m n t u z h y k l =
     let r = h.2 z y.reading in
     top_reached r.0 k (closed z (tree m.bank t.0)) (closed z (tree n.bank u.0)) (let q = r.1 in omega (arith, l, q)) r.2 (ended_stays m.bank m.bindings m.branch.next z y (tree n.bank u.0) h.1)
 
-closed_apply : (z : Closing) (ts : List Term) (h : Term) → closed z (apply h ts) ≡ apply (closed z h) (map (closed z) ts)
+pub closed_apply : (z : Closing) (ts : List Term) (h : Term) → closed z (apply h ts) ≡ apply (closed z h) (map (closed z) ts)
 closed_apply z [] h = refl
 closed_apply z (t ∷ ts) h = closed_apply z ts (app h t)
 
-head_closes : (z : Closing) (x : Term) → IsCallHead (head_of x) → head_of (closed z x) ≡ closed z (head_of x)
+pub head_closes : (z : Closing) (x : Term) → IsCallHead (head_of x) → head_of (closed z x) ≡ closed z (head_of x)
 head_closes z (index i) h = absurd h
 head_closes z (atom (constant c ts)) h = refl
 head_closes z (atom (integer j)) h = absurd h

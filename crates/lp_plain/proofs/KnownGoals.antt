@@ -81,7 +81,7 @@ module _ (P Q : ℕ → Term → Type 0) (f : Term → Term) (ty : Ty → Ty) (g
     goals_on d e no_goals h = tt
     goals_on d e (goals x xs) h = (goal_on d e x h.0, goals_on d e xs h.1)
 
-    clause_on : (d e : ℕ) (c : Clause) → AllOfClause P d c → AllOfClause Q d (map_clause (λ u. u) (λ u t. f t) ty e c)
+    pub clause_on : (d e : ℕ) (c : Clause) → AllOfClause P d c → AllOfClause Q d (map_clause (λ u. u) (λ u t. f t) ty e c)
     clause_on d e (clause k vs t b) h =
         subst (λ n. Q (n + d) (f t) × AllOfGoals Q (n + d) (map_goals (λ u. u) (λ u x. f x) ty (under_all (λ u. u) vs e) b)) (sym (as_many ty vs))
         (g (length vs + d) t h.0, goals_on (length vs + d) (under_all (λ u. u) vs e) b h.1)

@@ -2,6 +2,7 @@ mod HeadPlaces
 mod HeadsJoined
 mod KeysMeet
 mod SlotValues
+mod FormFirsts
 pub mod GoalForms
 pub mod Indexes
 pub mod Instances
@@ -78,6 +79,7 @@ pub mod LooksUnder
 pub mod AboveUnder
 pub mod CutMoves
 pub mod Running
+pub mod ViewMoves
 pub mod PartMoves
 pub mod NoneBound
 pub mod AtGoals
@@ -91,15 +93,68 @@ pub mod Others
 pub mod KnownUnder
 pub mod HeadFills
 pub mod ResumedUnder
+pub mod TypedTries
+pub mod TypedMoves
+pub mod TypedCalls
+pub mod TypedGoals
 pub mod TryMoves
-pub mod RunMoves
+pub mod TaskMoves
 pub mod EqualMoves
 pub mod KnownForms
 pub mod ClosedForms
+pub mod SeenGoals
 pub mod FormsUnder
+pub mod FrontGoals
+pub mod FormMoves
+pub mod GoingOn
+pub mod AtomViews
+pub mod AtomMoves
+pub mod AtomTurns
+pub mod LookedOn
+pub mod BesideForms
+pub mod FormStands
+pub mod StepTaken
+pub mod LeftOut
+pub mod TermTurns
+pub mod Operations
+pub mod NormalValues
+pub mod Evaluations
+pub mod ReadExpressions
+pub mod TypedValues
+pub mod TypedOperands
+pub mod ValuesGiven
+pub mod GoingBank
+pub mod ArithmeticMoves
+pub mod ArithmeticTurns
+pub mod AtomAtHand
 pub mod TryWritten
 pub mod WrittenSearches
 pub mod WrittenAssumed
 pub mod WrittenParts
 pub mod WrittenFirst
 pub mod WrittenPut
+mod Bounds
+mod Inside
+mod StepsLeft
+mod Following
+mod Treated
+mod EventMoves
+mod Between
+mod AnswerTerms
+mod CallLooks
+mod CallTries
+mod CallMoves
+mod CallTerms
+mod CallTurns
+mod Denying
+mod Elsewhere
+mod HeldMoves
+mod RefutedMoves
+mod CallArm
+mod CallEnds
+mod CallForms
+mod TypedRuns
+pub mod ProgramTypes
+pub mod ProgramsWritten
+pub mod KnownPrograms
+pub mod TypedPrograms

@@ -1,5 +1,5 @@
 -- The candidates behind the one that is tried become an alternative.
-use Rattle.std.proofs.Common.{Bool, true, ◌≡◌, ℕ, ◌+◌, ◌-◌, ◌<◌, ◌≤◌, List, [], ◌∷◌, ◌++◌, map, length, take, drop, refl, sym, ap, ◌∙◌, subst, arith, Option, None, Some}
+use Rattle.std.proofs.Common.{Bool, true, ◌≡◌, ℕ, ◌-◌, ◌<◌, ◌≤◌, List, [], ◌∷◌, ◌++◌, length, take, drop, refl, sym, ap, ◌∙◌, subst, arith, Option, None, Some}
 use Rattle.std.specs.Prelude.{All, cond, filter}
 use Rattle.std.proofs.lemmas.List.{length-append, length-map, take_all}
 use Rattle.lp_calculus.specs.Fill.{Within}
@@ -42,6 +42,7 @@ use Rattle.lp_plain.proofs.Backwards.{on_kept}
 use Rattle.lp_plain.proofs.CallsUnder.{candidates_same, clause_back, goal_same}
 use Rattle.lp_plain.proofs.Frames.{kept_choice, reads_on}
 use Rattle.lp_plain.proofs.Grown.{alternative_kept, same_around}
+use Rattle.lp_plain.proofs.Inside.{inside_more}
 use Rattle.lp_plain.proofs.Marking.{drop_length}
 use Rattle.lp_plain.proofs.Opening.{same_stands}
 use Rattle.lp_plain.proofs.QuietMoves.{stack_push}
@@ -374,6 +375,8 @@ module _ (qv : Query) (m : Machine) (a : Around) (call : Call) (one : Candidate)
             are = more_all qv m n a a st stands grown around bound h.below h.above c put.more rs ts stands_for over alternative;
             in_turn = more_turn qv m n a a st stands grown around bound h.below h.above c put.more rs ts stands_for over alternative all_bound;
             is = ap (λ x. ts ++ x) h.above.is ∙ sym (stack_push h.above.others ts);
+            inside = inside_more qv m n a a st grown around bound h.above.inside h.above.done.base h.below h.above c put.more over
+                (let wt = put.bound_terms in omega (arith, wt)) (let wy = put.bound_types in omega (arith, wy));
           };
           closing = h.closing;
           stack = split (Some later) next ∙ (λ i. Try (clause_by h.closing one fs.tried) (closed h.closing (sym goal_is i)) h.entry h.rest (length h.below) ∷

@@ -6,7 +6,7 @@ use Rattle.lp_model.specs.Branch.{Answer, Branch, Entry, Go, Task}
 use Rattle.lp_model.specs.Flat.{Clause, Goal, Atomic, Cut, Either, Exists, Forall, Assume, Not}
 use Rattle.lp_model.specs.Pair.{closed}
 use Rattle.lp_model.specs.Search.{look, look_branch, look_goal, with_goals}
-use Rattle.lp_model.specs.Skeleton.{Inner, Parts, State, View, move, move_at, row_limit}
+use Rattle.lp_model.specs.Skeleton.{Inner, State, View, move}
 use Rattle.lp_model.specs.Unify.{unit_limit}
 use Rattle.lp_model.specs.declared.ending.Ending.TheVariants.{NoMore, NoMoreCut, Enough, Steps, Flexible, Arithmetic, OpenNot, Deep}
 use Rattle.lp_pattern.specs.Under.{ValueIs}
@@ -16,18 +16,17 @@ use Rattle.lp_plain.specs.declared.machine.Machine.{Machine}
 use Rattle.lp_plain.specs.declared.outcome.Turn.{Turn}
 use Rattle.lp_plain.specs.declared.table.Flat.{Flat}
 use Rattle.lp_plain.specs.Apart.{IsApart}
-use Rattle.lp_plain.specs.Entries.{Around, ArePartsOf, entry_at}
-use Rattle.lp_plain.specs.Moving.{Query, AreEntriesUnder, BindsNone, IsAtGoal, IsCounted, IsMoved, IsPlain, IsPlainFirst, IsRunning, MovesTo, PutsWith, mark_in}
+use Rattle.lp_plain.specs.Entries.{Around, entry_at}
+use Rattle.lp_plain.specs.Moving.{Query, AreEntriesUnder, BindsNone, IsAtGoal, IsMoved, IsPlain, IsPlainFirst, IsRunning, MovesTo, PutsWith, mark_in}
 use Rattle.lp_plain.specs.Resuming.{AreKnownEntries}
 use Rattle.lp_plain.specs.Stacks.{base_of}
 use Rattle.lp_plain.specs.Tables.{IsGoal, Never, Shown, shown}
 use Rattle.lp_plain.specs.Taking.{IsApartFlat, IsTakenApart, TakesApart, TakesOne, goal_in}
-use Rattle.lp_plain.proofs.Counted.{at_limit, flat_kind}
+use Rattle.lp_plain.proofs.Counted.{flat_kind}
 use Rattle.lp_plain.proofs.CutMoves.{IsSplit, split_under}
 use Rattle.lp_plain.proofs.FirstGoals.{kind_in}
-use Rattle.lp_plain.proofs.LooksUnder.{IsViewUnder, one_part, two_parts, parts_under}
-use Rattle.lp_plain.proofs.QuietMoves.{after_parts, parts_move}
-use Rattle.lp_plain.proofs.Running.{running_more, running_still}
+use Rattle.lp_plain.proofs.LooksUnder.{IsViewUnder, parts_under}
+use Rattle.lp_plain.proofs.ViewMoves.{view_moves, view_stops}
 
 -- what is neither atomic nor negated nor a cut
 apart_of : (σ : ℕ → Term) (p : Place) (g : Goal) → IsPlain (goal_in σ p.values.types g) → (g ≡ Cut → ⊥) → IsTakenApart (goal_in σ p.values.types g)
@@ -91,84 +90,12 @@ module _ (qv : Query) (m n : Machine) (a : Around) (raw : Branch) (s : State Tas
         known = record { goals = known_all.1; values = h.under.known.values; pairs = h.under.known.pairs; free = h.under.known.free };
       }) known_all.0 0 0 0 unit_limit enough (length h.rest) [] P new_variable e.goal sp.first.goal known_all.0.0 k sp.entry.goal
 
-  module _ (t : TakesOne m n a (look_goal 0 0 [] 0 e rest e.goal)) (bn : BindsNone m n) (pw : PutsWith m n) where
-    abbrev left : ℕ
-    left = row_limit - n.counts.row
-
-    row_is : s.row ≡ suc left
-    row_is =
-        let r = h.counted.row in
-        let l = t.quiet.row in
-        let c : n.counts.row ≡ m.counts.row + 1 = ap (λ x. x.row) t.quiet.counts in
-        omega (arith, r, l, c)
-
-    counted : (stack : List Task) → IsCounted n (after_parts go (look unit_limit enough P) s w left stack)
-    counted stack = record {
-      steps = h.counted.steps ∙ ap (λ x. x.limit - x.steps) (sym t.quiet.counts);
-      rows = h.counted.rows;
-      row = refl;
-      lost = h.counted.lost ∙ ap (λ x. x.lost) (sym t.quiet.counts);
-    }
-
-    by_view : (v : View Task Answer) → v ≡ look_goal 0 0 [] 0 e rest e.goal → IsViewUnder qv m.bank h.closing f base (length m.choices.items) m.branch.pairs.items rest v seen →
-        IsMoved qv Turn.On n (move go (look unit_limit enough P) s) s
-    by_view v q (one_part lv b d x y l u) =
-        let parts = subst (ArePartsOf m n t.around) (sym q ∙ x) t.parts in
-        let br = parts.0 in
-        let bx = br.next in
-        let mx = h.next in (
-          0,
-          [],
-          after_parts go (look unit_limit enough P) s w left (Go d ∷ h.rest),
-          parts_move go (look unit_limit enough P) s w left (Go h.at_work) (Go d) h.rest [] ea row_is h.stack (looked ∙ y),
-          record {
-            around = t.around;
-            raw = b;
-            goals = br.goals;
-            running = running_still qv m n a t.around raw s h t.stands t.placed t.quiet.on t.later bn parts.1 lv b d (after_parts go (look unit_limit enough P) s w left (Go d ∷ h.rest)) u
-                (omega (arith, bx, mx, l)) br.next br.next_type refl (counted (Go d ∷ h.rest));
-          },
-          sym ea,
-          refl,
-        )
-    by_view v q (two_parts lv b d c c' x y p r u o) =
-        let parts = subst (ArePartsOf m n t.around) (sym q ∙ x) t.parts in
-        let br = parts.0 in
-        let ch = parts.1.1 in
-        let at = parts.1.2 in
-        let bx = br.next in
-        let mx = h.next in
-        let kp = t.kept parts.1.0 ch in (
-          0,
-          [],
-          after_parts go (look unit_limit enough P) s w left (Go d ∷ Go c' ∷ h.rest),
-          parts_move go (look unit_limit enough P) s w left (Go h.at_work) (Go d) h.rest (Go c' ∷ []) ea row_is h.stack (looked ∙ y),
-          record {
-            around = t.around;
-            raw = b;
-            goals = br.goals;
-            running = running_more qv m n a t.around raw s h t.stands t.placed t.quiet.on t.later bn lv parts.1.0 ch b d c c' kp.0 kp.1 at (pw parts.1.0 ch) u o (h.next ∙ r)
-                (after_parts go (look unit_limit enough P) s w left (Go d ∷ Go c' ∷ h.rest)) (omega (arith, bx, mx, p)) br.next br.next_type refl (counted (Go d ∷ Go c' ∷ h.rest));
-          },
-          sym ea,
-          refl,
-        )
-
-    pub apart_moves : IsMoved qv Turn.On n (move go (look unit_limit enough P) s) s
-    apart_moves = by_view (look_goal 0 0 [] 0 e rest e.goal) refl views
+  pub apart_moves : TakesOne m n a (look_goal 0 0 [] 0 e rest e.goal) → BindsNone m n → PutsWith m n → IsMoved qv Turn.On n (move go (look unit_limit enough P) s) s
+  apart_moves = view_moves qv m n a raw s h rest refl w ea go enough P (look_goal 0 0 [] 0 e rest e.goal) seen looked views
 
   -- a million were taken apart
-  some_parts : {v : View Task Answer} → IsViewUnder qv m.bank h.closing f base (length m.choices.items) m.branch.pairs.items rest v seen → (ts : List Task) × (seen ≡ Parts ts)
-  some_parts (one_part lv b d x y l u) = (Go d ∷ [], y)
-  some_parts (two_parts lv b d c c' x y p r u o) = (Go d ∷ Go c' ∷ [], y)
-
   pub apart_stops : 1000000 ≤ m.counts.row → IsMoved qv (Turn.Ended Deep) n (move go (look unit_limit enough P) s) s
-  apart_stops l =
-      let r = h.counted.row in
-      let zero_row : s.row ≡ 0 = omega (arith, r, l) in
-      let q = some_parts views in
-      (λ i. move_at go (look unit_limit enough P) s.steps (ea i) s.given s.rows (zero_row i) s.lost (h.stack i)) ∙
-      at_limit go (look unit_limit enough P) s.steps w s.given s.rows s.lost (Go h.at_work) h.rest q.0 (looked ∙ q.1)
+  apart_stops = view_stops qv m n a raw s h rest refl w ea go enough P (look_goal 0 0 [] 0 e rest e.goal) seen looked views
 
 -- by what the goal is in the table
 module _ (qv : Query) (m n : Machine) (p : Place) (flat : Flat) (o : Option ℕ) (turn : Turn) (taken : turn ≡ Turn.On → TakesApart m n p flat o) (none : turn ≡ Turn.On → IsApartFlat flat → BindsNone m n)

@@ -28,7 +28,7 @@ stand_push m a [] c below (us ∷ tss) ts h f = absurd h
 stand_push m a (x ∷ cs) c below [] ts h f = absurd h
 stand_push m a (x ∷ cs) c below (us ∷ tss) ts h f = (h.0, stand_push m a cs c (below + length us) tss ts h.1 f)
 
-within_new : (m : Machine) (a : Around) (c d : Choice) → IsKept m a c → IsAbove m d → IsWithin c d
+pub within_new : (m : Machine) (a : Around) (c d : Choice) → IsKept m a c → IsAbove m d → IsWithin c d
 within_new m a c d k h =
     let kf = k.frames in
     let kb = k.blocks in

@@ -1,5 +1,5 @@
 -- A search that goes on from one branch to another, with the same alternatives or with one more, where nothing is bound.
-use Rattle.std.proofs.Common.{◌≡◌, ℕ, suc, ◌+◌, ◌-◌, ◌≤◌, List, [], ◌∷◌, ◌++◌, length, take, drop, refl, sym, ap, ◌∙◌, subst, arith, nat_eq, None}
+use Rattle.std.proofs.Common.{◌≡◌, ℕ, suc, ◌≤◌, List, [], ◌∷◌, ◌++◌, length, take, drop, refl, sym, ap, ◌∙◌, subst, arith, nat_eq, None}
 use Rattle.std.specs.Prelude.{All}
 use Rattle.std.specs.Map.{lookup}
 use Rattle.std.proofs.lemmas.List.{length-append, take_all}
@@ -24,6 +24,7 @@ use Rattle.lp_plain.specs.Stacks.{base_of}
 use Rattle.lp_plain.specs.Taking.{IsAbove, IsKept}
 use Rattle.lp_plain.specs.Within.{StandsIn}
 use Rattle.lp_plain.proofs.AboveUnder.{counts_same, marks_more, more_all, more_done, more_turn, pairs_more, still_all, still_done, still_turn}
+use Rattle.lp_plain.proofs.Inside.{inside_more, inside_still}
 use Rattle.lp_plain.proofs.Marking.{drop_length}
 use Rattle.lp_plain.proofs.QuietMoves.{stack_push}
 use Rattle.lp_plain.proofs.Under.{branch_marked, branch_on, branch_wider}
@@ -51,16 +52,16 @@ in_turn_push qv m f l k (d ∷ e ∷ cs) (rs ∷ rss) (ts ∷ tss) c h w p q = (
 
 module _ (qv : Query) (m n : Machine) (a d : Around) (raw : Branch) (s : State Task) (h : IsRunning qv m a raw s) (st : StandsIn n) (pl : ArePlaced n d) (g : GrowsOn m n)
     (lt : IsLaterAround (length m.newest.items) (length m.standings.items) a d) (bn : BindsNone m n) where
-  abbrev base : ℕ
+  abbrev pub base : ℕ
   base = base_of m.denied
 
-  abbrev f : ℕ → ℕ
+  abbrev pub f : ℕ → ℕ
   f = mark_in base h.above.raws
 
-  bound : Grows m.bindings n.bindings
+  pub bound : Grows m.bindings n.bindings
   bound = subst (Grows m.bindings) (sym bn.bindings) (grows_same m.bindings)
 
-  reading_on : m.branch.next ≤ n.branch.next → IsOpenReading n.bank n.bindings n.branch.next h.closing
+  pub reading_on : m.branch.next ≤ n.branch.next → IsOpenReading n.bank n.bindings n.branch.next h.closing
   reading_on l =
       let r = open_kept m.bank n.bank m.bindings m.branch.next h.closing g.lists.bank h.reading in
       record {
@@ -70,14 +71,14 @@ module _ (qv : Query) (m n : Machine) (a d : Around) (raw : Branch) (s : State T
         unbound = λ x q. subst (λ b. get nat_eq b.terms x ≡ None) (sym bn.bindings) (r.unbound x (omega (arith, l, q)));
       }
 
-  left_on : All (IsPairOf (length n.bank.terms)) n.branch.pairs.items
+  pub left_on : All (IsPairOf (length n.bank.terms)) n.branch.pairs.items
   left_on = subst (λ q. All (IsPairOf (length n.bank.terms)) q.items) (sym bn.pairs) (pairs_more (length m.bank.terms) (length n.bank.terms) m.branch.pairs.items g.lists.bank.more_terms h.left)
 
-  under_on : (lv : ℕ → ℕ) (u : ℕ) (b e : Branch) → IsBranchUnder qv lv m.bank h.closing f base u m.branch.pairs.items b e → IsBranchUnder qv lv n.bank h.closing f base u n.branch.pairs.items b e
+  pub under_on : (lv : ℕ → ℕ) (u : ℕ) (b e : Branch) → IsBranchUnder qv lv m.bank h.closing f base u m.branch.pairs.items b e → IsBranchUnder qv lv n.bank h.closing f base u n.branch.pairs.items b e
   under_on lv u b e w =
       subst (λ q. IsBranchUnder qv lv n.bank h.closing f base u q.items b e) (sym bn.pairs) (branch_on qv lv m.bank h.closing base u m.branch.pairs.items n.bank g.lists.bank h.left f b e w)
 
-  pub running_still : n.choices.items ≡ m.choices.items → (lv : ℕ → ℕ) (b e : Branch) (t : State Task) → IsBranchUnder qv lv m.bank h.closing f base (length m.choices.items) m.branch.pairs.items b e →
+  unfoldable pub running_still : n.choices.items ≡ m.choices.items → (lv : ℕ → ℕ) (b e : Branch) (t : State Task) → IsBranchUnder qv lv m.bank h.closing f base (length m.choices.items) m.branch.pairs.items b e →
       m.branch.next ≤ n.branch.next → n.branch.next ≡ b.next → n.branch.next_type ≡ b.next_type → t.stack ≡ Go e ∷ h.rest → IsCounted n t → IsRunning qv n d b t
   running_still ch lv b e t w l x y es ct = record {
     levels = lv;
@@ -92,6 +93,7 @@ module _ (qv : Query) (m n : Machine) (a d : Around) (raw : Branch) (s : State T
       are = still_all qv m n a d h.above.done.stands st g lt bound h.rest h.above ch;
       in_turn = still_turn qv m n a d h.above.done.stands st g lt bound h.rest h.above ch;
       is = h.above.is;
+      inside = inside_still qv m n a d h.above.done.stands g lt bound h.above.inside h.above.done.base ch;
     };
     placed = pl;
     next = x;
@@ -165,6 +167,7 @@ module _ (qv : Query) (m n : Machine) (a d : Around) (raw : Branch) (s : State T
         are = more_all qv m n a d h.above.done.stands st g lt bound h.rest h.above c ch (Go x ∷ []) (Go y ∷ []) (a_side x k at refl) ab alternative;
         in_turn = more_turn qv m n a d h.above.done.stands st g lt bound h.rest h.above c ch (Go x ∷ []) (Go y ∷ []) (a_side x k at refl) ab alternative in_turn;
         is = ap (λ l. Go y ∷ l) h.above.is ∙ sym (stack_push h.above.others (Go y ∷ []));
+        inside = inside_more qv m n a d h.above.done.stands g lt bound h.above.inside h.above.done.base h.rest h.above c ch ab (let wt = w.terms in omega (arith, wt)) (let wy = w.types in omega (arith, wy));
       };
       placed = pl;
       next = nx;

@@ -8,7 +8,7 @@ use Rattle.lp_plain.specs.declared.scope.Scopes.{Scopes}
 use Rattle.lp_plain.specs.Scopes.{Holds, outermost, inside, IsScope, KeepsScopes, IsOnWay, blocks_to}
 
 -- lists
-get_front : {X : Type 0} (xs ys : List X) (i : ℕ) → i < length xs → slice_get (xs ++ ys) i ≡ slice_get xs i
+pub get_front : {X : Type 0} (xs ys : List X) (i : ℕ) → i < length xs → slice_get (xs ++ ys) i ≡ slice_get xs i
 get_front [] ys i h = absurd (omega arith)
 get_front (x ∷ xs) ys zero h = refl
 get_front (x ∷ xs) ys (suc i) h = get_front xs ys i (omega arith)

@@ -5,11 +5,11 @@ use Rattle.lp_calculus.specs.Spine.{head_of, arguments_and, arguments}
 use Rattle.lp_term.specs.Nodes.{Nodes, tree}
 use Rattle.lp_term.specs.Spine.{IsNoApplication, head}
 
-head_applied : (ts : List Term) (f : Term) → head_of (apply f ts) ≡ head_of f
+pub head_applied : (ts : List Term) (f : Term) → head_of (apply f ts) ≡ head_of f
 head_applied [] f = refl
 head_applied (t ∷ ts) f = head_applied ts (app f t)
 
-arguments_applied : (ts : List Term) (f : Term) (more : List Term) → arguments_and (apply f ts) more ≡ arguments_and f (ts ++ more)
+pub arguments_applied : (ts : List Term) (f : Term) (more : List Term) → arguments_and (apply f ts) more ≡ arguments_and f (ts ++ more)
 arguments_applied [] f more = refl
 arguments_applied (t ∷ ts) f more = arguments_applied ts (app f t) more
 

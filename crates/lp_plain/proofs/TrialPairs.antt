@@ -41,7 +41,7 @@ slot_read : (z : Closing) (next level k : ℕ) → z.terms (next + k) level ≡ 
 slot_read z next level k e ts None = e
 slot_read z next level k e ts (Some p) = argument_read z (atom (logic (next + k) level)) e ts p
 
-at_read : (b : Nodes) (ws : List TermId) (σ : ℕ → Term) → AreAt b ws σ → (i : ℕ) → i < length ws → values_of b ws i ≡ σ i
+pub at_read : (b : Nodes) (ws : List TermId) (σ : ℕ → Term) → AreAt b ws σ → (i : ℕ) → i < length ws → values_of b ws i ≡ σ i
 at_read b [] σ a i l = absurd (omega (arith, l))
 at_read b (w ∷ ws) σ a zero l = a zero w refl
 at_read b (w ∷ ws) σ a (suc i) l = at_read b ws (λ j. σ (suc j)) (λ j v e. a (suc j) v e) i (omega (arith, l))

@@ -42,28 +42,25 @@ use Rattle.lp_plain.proofs.WrittenGrows.{rule_later}
 
 -- terms for indices that agree on those that stand there
 
-Agree : ℕ → (σ τ : ℕ → Term) → Type 0
+abbrev pub Agree : ℕ → (σ τ : ℕ → Term) → Type 0
 Agree n σ τ = (i : ℕ) → i < n → σ i ≡ τ i
 
 lifted_agree : (n : ℕ) (σ τ : ℕ → Term) → Agree n σ τ → Agree (suc n) (lifted σ) (lifted τ)
-unfolding Agree
 lifted_agree n σ τ h zero l = refl
 lifted_agree n σ τ h (suc i) l = ap (shift 0 1) (h i (omega (arith, l)))
 
 all_agree : (f : Ty → Ty) (n : ℕ) (σ τ : ℕ → Term) → Agree n σ τ → (vs : List Ty) → Agree (length vs + n) (under_all lifted (map f vs) σ) (under_all lifted (map f vs) τ)
-unfolding Agree
 all_agree f n σ τ h [] i l = h i (omega (arith, l))
 all_agree f n σ τ h (v ∷ vs) i l = lifted_agree (length vs + n) (under_all lifted (map f vs) σ) (under_all lifted (map f vs) τ) (all_agree f n σ τ h vs) i (omega (arith, l))
 
 term_agrees : (n d m : ℕ) (σ τ : ℕ → Term) → m ≡ d + n → Agree m σ τ → (t : Term) → LooseBelow n d t → instantiate σ t ≡ instantiate τ t
-unfolding Agree
 term_agrees n d m σ τ q h (index i) l = h i (subst (λ k. i < k) (sym q) l)
 term_agrees n d m σ τ q h (atom a) l = refl
 term_agrees n d m σ τ q h (abs b) l = ap abs (term_agrees n (suc d) (suc m) (lifted σ) (lifted τ) (omega (arith, q)) (lifted_agree m σ τ h) b l)
 term_agrees n d m σ τ q h (app t u) l = let e = term_agrees n d m σ τ q h t l.0 in let f = term_agrees n d m σ τ q h u l.1 in λ i. app (e i) (f i)
 
 module _ (θ : ℕ → Ty) where
-  one_agrees : (n : ℕ) (σ τ : ℕ → Term) → Agree n σ τ → (t : Term) → LooseBelow n 0 t → instantiate σ (instance_term θ t) ≡ instantiate τ (instance_term θ t)
+  pub one_agrees : (n : ℕ) (σ τ : ℕ → Term) → Agree n σ τ → (t : Term) → LooseBelow n 0 t → instantiate σ (instance_term θ t) ≡ instantiate τ (instance_term θ t)
   one_agrees n σ τ h t l = term_agrees n 0 n σ τ (omega arith) h (instance_term θ t) (typed_loose θ n 0 t l)
 
   terms_agree : (n : ℕ) (σ τ : ℕ → Term) → Agree n σ τ → (ts : List Term) → AllTerms IsLooseAt n ts → map (instantiate σ) (map (instance_term θ) ts) ≡ map (instantiate τ) (map (instance_term θ) ts)
@@ -125,7 +122,6 @@ all_closed b (w ∷ ws) a zero = (All-head (λ (t : TermId). (t.0 < length b.ter
 all_closed b (w ∷ ws) a (suc i) = all_closed b ws (All-tail (λ (t : TermId). (t.0 < length b.terms) × LooseBelow 0 0 (tree b t.0)) w ws a) i
 
 agree_at : (b : Nodes) (ws : List TermId) (σ : ℕ → Term) → AreAt b ws σ → Agree (length ws) σ (closed_values b ws)
-unfolding Agree
 agree_at b [] σ a i l = absurd (omega (arith, l))
 agree_at b (w ∷ ws) σ a zero l = sym (a zero w refl)
 agree_at b (w ∷ ws) σ a (suc i) l = agree_at b ws (λ j. σ (suc j)) (λ j v e. a (suc j) v e) i (omega (arith, l))

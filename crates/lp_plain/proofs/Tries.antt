@@ -1,9 +1,10 @@
 -- What is left to try: all candidates of a call, those behind one of them, and those of an alternative to which the search goes back.
 use Rattle.std.proofs.Common.{◌≡◌, ℕ, List, [], ◌∷◌, refl, sym, subst, Option, Some, nat_eq}
 use Rattle.std.specs.HashMap.{get}
+use Rattle.std.specs.Prelude.{filter}
 use Rattle.lp_calculus.specs.Term.{Term}
 use Rattle.lp_model.specs.Flat.{Clause, Clauses}
-use Rattle.lp_model.specs.Search.{candidates}
+use Rattle.lp_model.specs.Search.{candidates, has_head, passes}
 use Rattle.lp_plain.specs.declared.candidates.Candidate.{Candidate}
 use Rattle.lp_plain.specs.declared.choice.Call.{Call}
 use Rattle.lp_plain.specs.declared.choice.Choice.{Choice}
@@ -12,11 +13,11 @@ use Rattle.lp_plain.specs.declared.head.Head.TheVariants as head
 use Rattle.lp_plain.specs.declared.head.Key.{Key}
 use Rattle.lp_plain.specs.declared.machine.Machine.{Machine}
 use Rattle.lp_plain.specs.Assuming.{Lists, HasAssumed, links, lists_of}
-use Rattle.lp_plain.specs.Candidates.{AreLeft, IsChain, first_for, in_turn, nexts, numbers}
+use Rattle.lp_plain.specs.Candidates.{AreLeft, IsChain, first_for, in_turn, nexts, numbers, passes as meeting}
 use Rattle.lp_plain.specs.Newest.{IsNewest}
 use Rattle.lp_plain.specs.Restoring.{IsTaken}
-use Rattle.lp_plain.specs.Trying.{AreApplied, AreCandidates, AreOfProgram, AreTries, HasProgram, IsCallOf, IsNext, IsTried, all_clauses, first_in, lists_at}
-use Rattle.lp_plain.proofs.Trying.{candidates_are, program_for}
+use Rattle.lp_plain.specs.Trying.{AreApplied, AreCandidates, AreOfProgram, AreTries, AreTriesApart, HasProgram, IsCallOf, IsNext, IsTried, all_clauses, first_in, lists_at}
+use Rattle.lp_plain.proofs.Trying.{assumed_are, candidates_are, program_are, program_for}
 
 -- the program's clauses for a head are a chain
 program_chain : (m : Machine) (css : List Clauses) (p : HasProgram m css) (h : Head) → IsChain (nexts m.table.rules.items) (first_in m h) (program_for m.bank m.table.rules.items h (numbers p.spans))
@@ -39,6 +40,21 @@ first_tries m call found f ar css before t p a c wp wb =
       left = in_turn m.bank m.table.rules.items call.key u.numbers ks;
       found_left = f (links m.assumptions.items) u.newest u.numbers ks u.found u.chain (program_chain m css p call.head);
       clauses = candidates_are (lists_of m) ar call.head call.key t p.spans css before u.numbers p.clauses c.head c.arity wp wb c.key_is u.clauses;
+    }
+
+pub first_apart : (m : Machine) (call : Call) (found : Option Candidate) → IsFirst m call found → (ar : ℕ → ℕ) (css : List Clauses)
+    (before : List Clause) (t : Term) → HasProgram m css → HasAssumed (lists_of m) call.place.assumed before →
+    IsCallOf ar m.bank call t → AreOfProgram ar (all_clauses css) → AreApplied ar before →
+    AreTriesApart (lists_of m) (first_in m call.head) call.key found (filter (has_head t) before) (filter (passes t) (all_clauses css))
+first_apart m call found f ar css before t p a c wp wb =
+    let u = a call.head in
+    let ks = program_for m.bank m.table.rules.items call.head (numbers p.spans) in
+    record {
+      numbers_assumed = u.numbers;
+      numbers_program = filter (meeting m.bank m.table.rules.items call.key) ks;
+      found_left = f (links m.assumptions.items) u.newest u.numbers ks u.found u.chain (program_chain m css p call.head);
+      assumed_are = assumed_are (lists_of m) ar call.head call.key t p.spans css before u.numbers p.clauses c.head c.arity wp wb c.key_is u.clauses;
+      program_are = program_are (lists_of m) ar call.head call.key t p.spans css before u.numbers p.clauses c.head c.arity wp wb c.key_is u.clauses;
     }
 
 taken_first : (l : Lists) (first : Option ℕ) (key : Option Key) (candidate : Candidate) (found : Option Candidate) (rest : List Candidate)

@@ -1,16 +1,21 @@
 -- A try whose clause fits leaves the search in the state of the definition's next task: the clause's goals stand in front, all under the new bindings.
-use Rattle.std.proofs.Common.{◌≡◌, ℕ, zero, suc, ◌+◌, ◌-◌, ◌<◌, ◌≤◌, List, [], ◌∷◌, ◌++◌, length, map, refl, sym, ap, inl, inr, ◌∙◌, subst, arith, Bool, Option, None, Some}
+use Rattle.std.proofs.Common.{◌≡◌, ℕ, zero, suc, ◌+◌, ◌-◌, ◌≤◌, List, [], ◌∷◌, ◌++◌, length, map, refl, sym, ap, inl, inr, ◌∙◌, subst, arith, Bool, Option, None, Some}
 use Rattle.lp_calculus.specs.Fill.{Within}
 use Rattle.lp_calculus.proofs.Fills.{within_more}
+use Rattle.lp_calculus.specs.Instance.{instance_term}
+use Rattle.lp_calculus.specs.Spine.{head_of}
 use Rattle.lp_calculus.specs.Types.{instance, var}
+use Rattle.lp_lemmas.specs.Each.{EachOf}
 use Rattle.lp_calculus.specs.Term.{Term}
 use Rattle.lp_model.specs.Branch.{Answer, Branch, Go, Lack, Stop, Task, Try, entries, resume}
 use Rattle.lp_model.specs.Flat.{Clause, Goals, clause, goal_list, instantiate_goals, under_all}
 use Rattle.lp_model.specs.Index.{lifted}
-use Rattle.lp_model.specs.Pair.{closed}
-use Rattle.lp_model.specs.Search.{look, try_clause, types_from, vars_from}
+use Rattle.lp_model.specs.Pair.{Closing, closed}
+use Rattle.lp_model.specs.Rule.{type_pairs}
+use Rattle.lp_model.specs.Search.{look, renewed, try_clause, types_from, vars_from}
 use Rattle.lp_model.specs.Skeleton.{Goes, Inner, Opens, State, View, back, move, move_at, move_view, row_limit}
-use Rattle.lp_model.specs.Unify.{State as Solved, Unified as Outcome, unit_limit}
+use Rattle.lp_model.specs.Types.{put_types}
+use Rattle.lp_model.specs.Unify.{Solution, State as Solved, Unified as Outcome, solve, unit_limit}
 use Rattle.lp_model.specs.declared.ending.Ending.TheVariants.{Deep}
 use Rattle.lp_pattern.specs.Putting.{Known}
 use Rattle.lp_pattern.specs.Turning.{AreKnownPairs}
@@ -20,27 +25,32 @@ use Rattle.lp_plain.specs.declared.machine.Machine.{Machine}
 use Rattle.lp_plain.specs.declared.outcome.Turn.{Turn}
 use Rattle.lp_plain.specs.declared.unified.Unified.{Unified}
 use Rattle.lp_plain.specs.Entries.{Around}
-use Rattle.lp_plain.specs.Followed.{IsTrialFor, clause_by, GoesOnAs, IsBranchFor, IsTryOf, LeavesFor, body_read, clause_read, levels_with, solved_try, tried_branch, tried_values}
-use Rattle.lp_plain.specs.Moving.{AreEntriesUnder, AreFew, HasFreeTypes, IsAtTry, IsBranchUnder, IsCounted, IsState, Leads, Query, mark_in, turn_for}
+use Rattle.lp_plain.specs.Followed.{IsTrialFor, clause_by, GoesOnAs, IsBranchFor, IsHeadRead, IsTryOf, LeavesFor, body_read, clause_read, levels_with, solved_try, tried_branch, tried_values}
+use Rattle.lp_plain.specs.Moving.{AreEntriesUnder, AreFew, IsAtTry, IsBranchUnder, IsCounted, IsState, Leads, Query, mark_in, turn_for}
 use Rattle.lp_plain.specs.Renewal.{renewing}
 use Rattle.lp_plain.specs.Resuming.{AllOfClause, AllTerms, AreKnownEntries, goal_with}
 use Rattle.lp_plain.specs.Stacks.{base_of}
-use Rattle.lp_plain.specs.Trials.{GrowsByTry, IsGoalOf, goal_of, read_in}
+use Rattle.lp_plain.specs.Trials.{GrowsByTry, IsGoalOf, goal_of, read_in, tried_pairs}
+use Rattle.lp_plain.specs.TypedStates.{IsTaskTyped, IsTypedOver}
 use Rattle.lp_plain.specs.Within.{StandsIn}
 use Rattle.lp_plain.specs.WrittenTable.{StandsWritten}
 use Rattle.lp_plain.proofs.AboveUnder.{still_all, still_done, still_turn}
 use Rattle.lp_plain.proofs.Grown.{grown_on, placed_on, same_around}
+use Rattle.lp_plain.proofs.Inside.{inside_still}
 use Rattle.lp_plain.proofs.KnownGoals.{assumed_weaker, entries_weaker, goals_in_list, terms_weaker}
 use Rattle.lp_plain.proofs.KnownUnder.{entries_all}
 use Rattle.lp_plain.proofs.OpenedUnder.{listed_goals}
 use Rattle.lp_plain.proofs.QuietMoves.{by_lost}
 use Rattle.lp_plain.proofs.ResumedUnder.{known_behind, resumed_under, terms_known, types_behind, values_behind}
+use Rattle.lp_search_laws.specs.Branches.{BranchTyping, IsTypedTry}
+use Rattle.lp_plain.proofs.TypedTries.{BindsBelow, free_behind, try_bound}
 use Rattle.lp_plain.proofs.TrialsFound.{candidate_trial}
 use Rattle.lp_plain.proofs.TryRead.{known_more}
 use Rattle.lp_plain.proofs.Under.{entries_front, entries_wider}
 use Rattle.lp_plain.proofs.WrittenTerms.{loose_closed}
 
-module _ (qv : Query) (m n : Machine) (a : Around) (call : Call) (one : Candidate) (mark : ℕ) (s : State Task) (h : IsAtTry qv m a call one mark s) (g : GrowsByTry m n call) (goal : IsGoalOf m call) (k vars : ℕ)
+module _ (qv : Query) (m n : Machine) (a : Around) (call : Call) (one : Candidate) (mark : ℕ) (s : State Task) (h : IsAtTry qv m a call one mark s)
+    (g : GrowsByTry m n call) (goal : IsGoalOf m call) (k vars : ℕ)
     (head : Term) (body : Goals) (st : Solved) where
   abbrev level : ℕ
   level = call.place.level
@@ -104,12 +114,14 @@ module _ (qv : Query) (m n : Machine) (a : Around) (call : Call) (one : Candidat
 
     in_front : AreEntriesUnder h.closing f base mark raw.goals tried.goals
     in_front =
-        subst (λ i. AreEntriesUnder h.closing f base mark (entries (goal_list on.raw) (a.assumed call.place.assumed) (a.written call.place.standing) level i ++ h.raw.goals) tried.goals) (sym (h.above.numbers mark))
+        subst (λ i. AreEntriesUnder h.closing f base mark (entries (goal_list on.raw) (a.assumed call.place.assumed) (a.written call.place.standing)
+        level i ++ h.raw.goals) tried.goals) (sym (h.above.numbers mark))
         (subst (λ i. AreEntriesUnder h.closing f base mark (entries (goal_list on.raw) (a.assumed call.place.assumed) (a.written call.place.standing) level mark ++ h.raw.goals)
         (entries (goal_list in_tried) h.entry.assumed h.entry.written level i ++ h.rest.goals)) h.mark_is
         (subst (λ gs. AreEntriesUnder h.closing f base mark (entries (goal_list on.raw) (a.assumed call.place.assumed) (a.written call.place.standing) level mark ++ h.raw.goals)
         (entries gs h.entry.assumed h.entry.written level (f mark) ++ h.rest.goals)) opened_list
-        (entries_front h.closing f base mark mark level (goal_list on.raw) (a.assumed call.place.assumed) h.entry.assumed (a.written call.place.standing) h.entry.written h.raw.goals h.rest.goals h.low (omega arith)
+        (entries_front h.closing f base mark mark level (goal_list on.raw) (a.assumed call.place.assumed) h.entry.assumed
+        (a.written call.place.standing) h.entry.written h.raw.goals h.rest.goals h.low (omega arith)
         h.at_place.assumed h.at_place.written h.under.goals)))
 
     same_count : length n.choices.items ≡ length m.choices.items
@@ -162,6 +174,7 @@ module _ (qv : Query) (m n : Machine) (a : Around) (call : Call) (one : Candidat
               are = still_all qv m n a a h.above.done.stands stands gr lt g.bindings h.below h.above g.choices;
               in_turn = still_turn qv m n a a h.above.done.stands stands gr lt g.bindings h.below h.above g.choices;
               is = h.above.is;
+              inside = inside_still qv m n a a h.above.done.stands gr lt g.bindings h.above.inside h.above.done.base g.choices;
             };
             placed = placed_on m n a call.place g.grows h.above.done.stands h.placed h.place;
             next = refl;
@@ -170,7 +183,8 @@ module _ (qv : Query) (m n : Machine) (a : Around) (call : Call) (one : Candidat
             reading = on.reading;
             left = g.residual h.left;
             levels = on.found.levels';
-            under = subst (λ d. IsBranchUnder qv on.found.levels' n.bank on.closing (mark_in (base_of d) h.above.raws) (base_of d) (length n.choices.items) n.branch.pairs.items raw (resume tried st)) (sym g.grows.denied) under;
+            under = subst (λ d. IsBranchUnder qv on.found.levels' n.bank on.closing (mark_in (base_of d) h.above.raws) (base_of d)
+                (length n.choices.items) n.branch.pairs.items raw (resume tried st)) (sym g.grows.denied) under;
             counted = ct;
           };
         }
@@ -184,12 +198,14 @@ goal_ready qv m a call one mark s h = record {
   head = h.head_is;
 }
 
-pub trial_ready : (qv : Query) (m : Machine) (a : Around) (call : Call) (one : Candidate) (mark : ℕ) (s : State Task) (h : IsAtTry qv m a call one mark s) → StandsWritten m qv.arity → IsTrialFor m one h.tried
+pub trial_ready : (qv : Query) (m : Machine) (a : Around) (call : Call) (one : Candidate) (mark : ℕ) (s : State Task)
+    (h : IsAtTry qv m a call one mark s) → StandsWritten m qv.arity → IsTrialFor m one h.tried
 trial_ready qv m a call one mark s h w = candidate_trial m qv.arity h.above.done.stands w one h.tried h.is h.tried_written
 
 -- what a unification in a try comes to, as moves of the definition
-module _ (qv : Query) (m n : Machine) (a : Around) (call : Call) (one : Candidate) (mark : ℕ) (s : State Task) (h : IsAtTry qv m a call one mark s) (g : GrowsByTry m n call) (goal : IsGoalOf m call) (tr : IsTrialFor m one h.tried)
-    (ft : HasFreeTypes n) (w : ℕ) (ea : s.answers ≡ suc w) (go : (Answer → Bool) → State Task → Inner) (enough : ℕ) (P : List Clause) where
+module _ (qv : Query) (m n : Machine) (a : Around) (call : Call) (one : Candidate) (mark : ℕ) (s : State Task) (h : IsAtTry qv m a call one mark s)
+    (g : GrowsByTry m n call) (goal : IsGoalOf m call) (tr : IsTrialFor m one h.tried)
+    (w : ℕ) (ea : s.answers ≡ suc w) (go : (Answer → Bool) → State Task → Inner) (enough : ℕ) (P : List Clause) (ty : IsTypedOver qv.arity enough P s) where
   abbrev see : ℕ → Task → View Task Answer
   see = look unit_limit enough P
 
@@ -220,7 +236,8 @@ module _ (qv : Query) (m n : Machine) (a : Around) (call : Call) (one : Candidat
   first_move ts e =
       (λ i. move_at go see s.steps (ea i) s.given s.rows s.row s.lost (h.stack i)) ∙
       by_lost go see s.steps w s.given s.rows s.row s.lost (Try (clause_by h.closing one h.tried) t h.entry h.rest h.height) h.below ∙
-      (λ i. move_view go s.steps w s.given s.rows s.row s.lost h.below (Opens (try_clause 1000000 enough (sym (tr.is h.closing) i) t h.entry h.rest h.height))) ∙ ap (λ us. Goes 0 (back us h.below) (after us)) e
+      (λ i. move_view go s.steps w s.given s.rows s.row s.lost h.below (Opens (try_clause 1000000 enough (sym (tr.is h.closing) i) t h.entry h.rest
+      h.height))) ∙ ap (λ us. Goes 0 (back us h.below) (after us)) e
 
   second : (x : Task) (ts : List Task) → move go see (after (x ∷ ts)) ≡ move_view go s.steps w s.given s.rows s.row s.lost (ts ++ h.below) (see (length (ts ++ h.below)) x)
   second x ts = by_lost go see s.steps w s.given s.rows s.row s.lost x (ts ++ h.below)
@@ -248,6 +265,7 @@ module _ (qv : Query) (m n : Machine) (a : Around) (call : Call) (one : Candidat
             are = still_all qv m n a a h.above.done.stands sn gr lt g.bindings h.below h.above g.choices;
             in_turn = still_turn qv m n a a h.above.done.stands sn gr lt g.bindings h.below h.above g.choices;
             is = h.above.is;
+            inside = inside_still qv m n a a h.above.done.stands gr lt g.bindings h.above.inside h.above.done.base g.choices;
           };
           counted = counted [];
         },
@@ -261,28 +279,60 @@ module _ (qv : Query) (m n : Machine) (a : Around) (call : Call) (one : Candidat
   abbrev there : Branch
   there = tried_branch call.place.level tr.trial.type_vars (length tr.vars) written_head t body_there h.entry.assumed h.entry.written h.height h.rest
 
-  goes : (st : Solved) → tasks ≡ Go (resume there st) ∷ [] →
-      GoesOnAs m n call mark h.closing (levels_with h.levels m.branch.next call.place.level) (m.branch.next + length tr.vars) tr.trial.type_vars (instantiate_goals (tried_values m.branch.next call.place.level written_head t) body_there) st →
+  -- the try is typed, so its unification binds no type variable that is still to come
+  try_typed : (y : BranchTyping) × IsTypedTry enough ty.declared P ty.query y (clause_by h.closing one h.tried) t h.entry h.rest
+  try_typed = (subst (EachOf (IsTaskTyped enough ty.declared P ty.query)) h.stack ty.typed).0
+
+  bound_by : (c : Clause) (y : BranchTyping) → IsTypedTry enough ty.declared P ty.query y c t h.entry h.rest → IsHeadRead tr.trial.type_vars h.rest.next_type written_head c → (st : Solved) →
+      solved_try enough call.place.level (length tr.vars) written_head t h.rest ≡ Some (Solution st) → BindsBelow (h.rest.next_type + tr.trial.type_vars) st
+  bound_by (clause k vs x b) y w r st e =
+      let p : instance_term (renewed k h.rest.next_type) x ≡ written_head = ap (λ j. instance_term (renewed j h.rest.next_type) x) r.0 ∙ r.1 in
+      let q =
+      subst (λ g. solve enough unit_limit (type_pairs (head_of t) (head_of g)) (tried_pairs h.rest.next h.entry.level g t) h.rest.pairs (h.rest.next + length tr.vars) ≡ Some (Solution st)) (sym p)
+      (subst (λ l. solve enough unit_limit (type_pairs (head_of t) (head_of written_head)) (tried_pairs h.rest.next l written_head t) h.rest.pairs
+      (h.rest.next + length tr.vars) ≡ Some (Solution st)) (sym h.at_place.level) e) in
+      subst (λ j. BindsBelow (h.rest.next_type + j) st) r.0
+      (try_bound enough ty.declared ty.standard P ty.program ty.query y k vs x b t h.entry h.rest w (h.rest.next + length tr.vars) st q)
+
+  free_there : (st : Solved) → solved_try enough call.place.level (length tr.vars) written_head t h.rest ≡ Some (Solution st) →
+      IsHeadRead tr.trial.type_vars h.rest.next_type written_head (clause_read h.closing tr.around tr.values.types one (clause tr.trial.type_vars tr.vars tr.head tr.trial.body)) →
+      GoesOnAs m n call mark h.closing (levels_with h.levels m.branch.next call.place.level) (m.branch.next + length tr.vars) tr.trial.type_vars
+      (instantiate_goals (tried_values m.branch.next call.place.level written_head t) body_there) st →
+      (c : Closing) → ((x : ℕ) → c.types x ≡ put_types st.types (h.closing.types x)) → (x : ℕ) → n.branch.next_type ≤ x → c.types x ≡ var x
+  free_there st e hr on c ct x l =
+      let y = try_typed in
+      let g = bound_by (clause_by h.closing one h.tried) y.0 y.1 (subst (IsHeadRead tr.trial.type_vars h.rest.next_type written_head) (tr.is h.closing) hr) st e in
+      let a = on.next_type in
+      let b = h.next_type in
+      let d = h.under.next_type in
+      free_behind (h.rest.next_type + tr.trial.type_vars) st h.closing c g ct (λ z k. h.under.known.free z (omega (arith, d, k))) x (omega (arith, a, b, d, l))
+
+  goes : (st : Solved) → tasks ≡ Go (resume there st) ∷ [] → solved_try enough call.place.level (length tr.vars) written_head t h.rest ≡ Some (Solution st) →
+      IsHeadRead tr.trial.type_vars h.rest.next_type written_head (clause_read h.closing tr.around tr.values.types one (clause tr.trial.type_vars tr.vars tr.head tr.trial.body)) →
+      GoesOnAs m n call mark h.closing (levels_with h.levels m.branch.next call.place.level) (m.branch.next + length tr.vars) tr.trial.type_vars
+      (instantiate_goals (tried_values m.branch.next call.place.level written_head t) body_there) st →
       Leads 1 qv Turn.On n go see s
-  goes st e on =
+  goes st e eq hr on =
       inl (
         0,
         [],
         after (Go (resume there st) ∷ []),
         first_move (Go (resume there st) ∷ []) e,
-        goes_on qv m n a call one mark s h g goal tr.trial.type_vars (length tr.vars) written_head body_there st on (λ x l. ft on.closing on.reading x l) (after (Go (resume there st) ∷ [])) refl (counted (Go (resume there st) ∷ [])),
+        goes_on qv m n a call one mark s h g goal tr.trial.type_vars (length tr.vars) written_head body_there st on
+            (free_there st eq hr on on.closing on.types) (after (Go (resume there st) ∷ [])) refl (counted (Go (resume there st) ∷ [])),
         sym ea,
         refl,
       )
 
-  by_outcome : (u : Unified) (o : Option Outcome) → AreFew (turn_for u) enough →
+  by_outcome : (u : Unified) (o : Option Outcome) → AreFew (turn_for u) enough → solved_try enough call.place.level (length tr.vars) written_head t h.rest ≡ o →
+      IsHeadRead tr.trial.type_vars h.rest.next_type written_head (clause_read h.closing tr.around tr.values.types one (clause tr.trial.type_vars tr.vars tr.head tr.trial.body)) →
       LeavesFor u m n call mark enough h.closing (levels_with h.levels m.branch.next call.place.level) (m.branch.next + length tr.vars) tr.trial.type_vars
       (instantiate_goals (tried_values m.branch.next call.place.level written_head t) body_there) there o tasks →
       Leads 1 qv (turn_for u) n go see s
-  by_outcome u None few e = lacks e (turn_for u)
-  by_outcome Unified.Fits (Some o) few e = goes e.0 e.2 e.3
-  by_outcome Unified.Fails (Some o) few e = fails e
-  by_outcome Unified.Deep (Some o) few e = deep (e (let l = few refl in omega (arith, l)))
+  by_outcome u None few q hr e = lacks e (turn_for u)
+  by_outcome Unified.Fits (Some o) few q hr e = goes e.0 e.2 (q ∙ ap (λ x. Some x) e.1) hr e.3
+  by_outcome Unified.Fails (Some o) few q hr e = fails e
+  by_outcome Unified.Deep (Some o) few q hr e = deep (e (let l = few refl in omega (arith, l)))
 
   for_branch : IsBranchFor m h.closing h.levels h.rest
   for_branch = record {
@@ -297,8 +347,10 @@ module _ (qv : Query) (m n : Machine) (a : Around) (call : Call) (one : Candidat
 
   pub try_leads : (u : Unified) → AreFew (turn_for u) enough → IsTryOf m n call one mark u → Leads 1 qv (turn_for u) n go see s
   try_leads u few leaves =
-      by_outcome u (solved_try enough call.place.level (length tr.vars) written_head t h.rest) few
-      (leaves tr.vars tr.head tr.values tr.around tr.trial tr.own tr.terms tr.tys h.above.done.stands goal h.closing h.levels h.rest for_branch (tr.headed h.closing)
+      let r =
+      leaves tr.vars tr.head tr.values tr.around tr.trial tr.own tr.terms tr.tys h.above.done.stands goal h.closing h.levels h.rest for_branch (tr.headed h.closing)
       (subst (λ i. Within (Known h.levels i) 0 t) (sym h.next) h.known.goal_known)
-      (subst (λ c. AllOfClause (λ d x. Within (Known h.levels m.branch.next) d x) 0 c) (sym (tr.is h.closing)) (subst (λ i. AllOfClause (λ d x. Within (Known h.levels i) d x) 0 (clause_by h.closing one h.tried)) (sym h.next) h.known.tries.0))
-      h.entry h.at_place.level h.height enough (solved_try enough call.place.level (length tr.vars) written_head t h.rest) refl)
+      (subst (λ c. AllOfClause (λ d x. Within (Known h.levels m.branch.next) d x) 0 c) (sym (tr.is h.closing))
+      (subst (λ i. AllOfClause (λ d x. Within (Known h.levels i) d x) 0 (clause_by h.closing one h.tried)) (sym h.next) h.known.tries.0))
+      h.entry h.at_place.level h.height enough (solved_try enough call.place.level (length tr.vars) written_head t h.rest) in
+      by_outcome u (solved_try enough call.place.level (length tr.vars) written_head t h.rest) few refl r.0 (r.1 refl)

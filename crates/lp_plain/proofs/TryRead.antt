@@ -1,5 +1,5 @@
 -- A try leaves what the definition's leaves, as the bindings read it.
-use Rattle.std.proofs.Common.{◌≡◌, ℕ, zero, suc, ◌+◌, ◌<◌, ◌≤◌, List, [], ◌∷◌, ◌++◌, map, length, refl, sym, ap, ◌∙◌, subst, arith, Bool, true, false, nat_eq, nat_lt, if◌then◌else◌, None, Some}
+use Rattle.std.proofs.Common.{◌≡◌, ℕ, zero, suc, ◌+◌, ◌<◌, List, [], ◌∷◌, length, refl, sym, ap, ◌∙◌, subst, arith, Bool, true, false, nat_eq, if◌then◌else◌, None, Some, Option}
 use Rattle.std.proofs.lemmas.Bool.{lt-ltb, le-ltb}
 use Rattle.lp_calculus.specs.Types.{Ty, instance}
 use Rattle.lp_calculus.specs.Term.{Term, Atom, index, atom, abs, app, constant, integer, text, eigen, logic, param}
@@ -22,7 +22,7 @@ use Rattle.lp_plain.specs.declared.instance.Values.{Values}
 use Rattle.lp_plain.specs.declared.machine.Machine.{Machine}
 use Rattle.lp_plain.specs.declared.unified.Unified.{Unified}
 use Rattle.lp_plain.specs.Entries.{in_scope}
-use Rattle.lp_plain.specs.Followed.{GoesOnAs, HasOwnTypes, HaveOwnTys, IsBranchFor, IsTryOf, LeavesTasks, PutsGoals, TakesTypes, body_read, clause_read, levels_with, solved_try, tried_branch, tried_values}
+use Rattle.lp_plain.specs.Followed.{GoesOnAs, HasOwnTypes, HaveOwnTys, IsBranchFor, IsHeadRead, IsTryOf, LeavesFor, LeavesTasks, PutsGoals, TakesTypes, body_read, clause_read, levels_with, solved_try, tried_branch, tried_values}
 use Rattle.lp_plain.specs.Renewal.{renewing}
 use Rattle.lp_plain.specs.Resuming.{AllOfClause, AllOfGoals}
 use Rattle.lp_plain.specs.Trials.{IsGoalOf, IsHeadFor, IsTrialOf, IsTriedAs, goal_of, read_in, tried_pairs}
@@ -91,18 +91,21 @@ module _ (lv : ℕ → ℕ) (next level n : ℕ) where
   slotted_known [] h i l = new_known lv next level n i l
   slotted_known (s ∷ ss) h i l = go (nat_eq i s.variable) (slotted_known ss h.1 i l)
     where
-      go : (b : Bool) → Within (Known (levels_with lv next level) (next + n)) 0 (slotted ss next level i) → Within (Known (levels_with lv next level) (next + n)) 0 (if b then s.term else slotted ss next level i)
+      go : (b : Bool) → Within (Known (levels_with lv next level) (next + n)) 0 (slotted ss next level i) → Within
+          (Known (levels_with lv next level) (next + n)) 0 (if b then s.term else slotted ss next level i)
       go true w = h.0
       go false w = w
 
   pairs_known : (σ : ℕ → Term) → StandWithin (Known (levels_with lv next level) (next + n)) n 0 σ → (l : ℕ) (earlier hs ts : List Term) →
-      AllAre (Within (Known (levels_with lv next level) (next + n)) n) hs → AllAre (Within (Known (levels_with lv next level) (next + n)) 0) ts → AreKnownPairs (levels_with lv next level) (next + n) (pairs_of σ l earlier hs ts)
+      AllAre (Within (Known (levels_with lv next level) (next + n)) n) hs → AllAre (Within (Known (levels_with lv next level) (next + n)) 0) ts →
+      AreKnownPairs (levels_with lv next level) (next + n) (pairs_of σ l earlier hs ts)
   pairs_known σ o l earlier [] ts a b = tt
   pairs_known σ o l earlier (h ∷ hs) [] a b = tt
   pairs_known σ o l earlier (h ∷ hs) (t ∷ ts) a b = go (is_new h earlier) (pairs_known σ o l (h ∷ earlier) hs ts a.1 b.1)
     where
       go : (c : Bool) → AreKnownPairs (levels_with lv next level) (next + n) (pairs_of σ l (h ∷ earlier) hs ts) →
-          AreKnownPairs (levels_with lv next level) (next + n) (if c then pairs_of σ l (h ∷ earlier) hs ts else record { left = t; right = instantiate σ h; level = l } ∷ pairs_of σ l (h ∷ earlier) hs ts)
+          AreKnownPairs (levels_with lv next level) (next + n) (if c then pairs_of σ l (h ∷ earlier) hs ts else record
+          { left = t; right = instantiate σ h; level = l } ∷ pairs_of σ l (h ∷ earlier) hs ts)
       go true p = p
       go false p = ((b.0, put_within (Known (levels_with lv next level) (next + n)) n 0 σ o h a.0), p)
 
@@ -112,12 +115,14 @@ pairs_more lv next level n (p ∷ ps) h =
     let f = within_more (Known lv next) (Known (levels_with lv next level) (next + n)) 0 0 (known_more lv next level n) (omega arith) in
     ((f p.left h.0.0, f p.right h.0.1), pairs_more lv next level n ps h.1)
 
-module _ (m n : Machine) (call : Call) (candidate : Candidate) (mark : ℕ) (u : Unified) (tried : IsTriedAs m n call candidate u) (puts : u ≡ Unified.Fits → PutsGoals m n call candidate mark) (takes : TakesTypes m n candidate)
+module _ (m n : Machine) (call : Call) (candidate : Candidate) (mark : ℕ) (u : Unified) (tried : IsTriedAs m n call candidate u)
+    (puts : u ≡ Unified.Fits → PutsGoals m n call candidate mark) (takes : TakesTypes m n candidate)
     (vs : List Ty) (h : Term) (values : Values) (σ : ℕ → Term) (T : IsTrialOf m candidate vs h values σ) (own : HasOwnTypes candidate T.type_vars T.types)
     (w : AllOfGoals (IsWritten T.arity T.types) (length vs + length T.outer) T.body) (y : HaveOwnTys candidate T.types T.body) (st : StandsIn m) (G : IsGoalOf m call)
     (z : Closing) (levels : ℕ → ℕ) (b : Branch) (R : IsBranchFor m z levels b) (headed : IsHeadFor z (under_all lifted vs σ) (renewing values.types) (head_of h))
     (known_goal : Within (Known levels m.branch.next) 0 (closed z (goal_of m call)))
-    (known_clause : AllOfClause (λ d t. Within (Known levels m.branch.next) d t) 0 (clause_read z σ values.types candidate (clause T.type_vars vs h T.body))) (e : Entry) (at_level : e.level ≡ call.place.level) (mark' : ℕ) where
+    (known_clause : AllOfClause (λ d t. Within (Known levels m.branch.next) d t) 0 (clause_read z σ values.types candidate
+    (clause T.type_vars vs h T.body))) (e : Entry) (at_level : e.level ≡ call.place.level) (mark' : ℕ) where
   abbrev next : ℕ
   next = m.branch.next
 
@@ -163,6 +168,9 @@ module _ (m n : Machine) (call : Call) (candidate : Candidate) (mark : ℕ) (u :
       (λ j. follow (tried_branch (at_level j) T.type_vars (length (c.vars)) (p j) goal (q j) e.assumed e.written mark' b) (solved_try i (at_level j) (length c.vars) (p j) goal b)) ∙
       (λ j. follow (tried_branch level T.type_vars (c.many j) head goal body e.assumed e.written mark' b) (solved_try i level (c.many j) head goal b))
 
+  head_read : IsHeadRead T.type_vars b.next_type head (clause_read z σ values.types candidate (clause T.type_vars vs h T.body))
+  head_read = subst (IsHeadRead T.type_vars b.next_type head) (sym c.is) (refl, ap (λ j. instance_term (renewed T.type_vars j) c.head) R.next_type ∙ c.head_is)
+
   -- what is known
   more : (d : ℕ) (t : Term) → Within (Known levels next) d t → Within K d t
   more d t k = within_more (Known levels next) K d d (known_more levels next level (length vs)) (omega arith) t k
@@ -182,16 +190,19 @@ module _ (m n : Machine) (call : Call) (candidate : Candidate) (mark : ℕ) (u :
   body_known =
       goals_weaker (Within (Known levels next)) (Within K) more (length vs) body (subst (λ gs. AllOfGoals (Within (Known levels next)) (length vs) gs) c.body_is
       (goals_on (Within (Known levels next)) (Within (Known levels next)) (instance_term (renewed T.type_vars m.branch.next_type)) (instance (renewed T.type_vars m.branch.next_type))
-      (λ d t k. typed_known levels next (renewed T.type_vars m.branch.next_type) d t k) (length vs) 0 c.body (subst (λ j. AllOfGoals (Within (Known levels next)) j c.body) written_here parts_known.1)))
+      (λ d t k. typed_known levels next (renewed T.type_vars m.branch.next_type) d t k) (length vs) 0 c.body
+      (subst (λ j. AllOfGoals (Within (Known levels next)) j c.body) written_here parts_known.1)))
 
   goals_known : AllAre (Within K 0) (arguments goal)
   goals_known = arguments_written K 0 goal [] (more 0 goal known_goal) tt
 
   values_known : StandWithin K (length vs) 0 (tried_values next level head goal)
-  values_known i l = slotted_known levels next level (length vs) (slots_of [] (arguments head) (arguments goal)) (slots_known levels next level (length vs) [] (arguments head) (arguments goal) goals_known) i l
+  values_known i l = slotted_known levels next level (length vs) (slots_of [] (arguments head) (arguments goal))
+      (slots_known levels next level (length vs) [] (arguments head) (arguments goal) goals_known) i l
 
   tried_known : AreKnownPairs lv last (tried_pairs next level head goal)
-  tried_known = pairs_known levels next level (length vs) (tried_values next level head goal) values_known level [] (arguments head) (arguments goal) (arguments_written K (length vs) head [] head_known tt) goals_known
+  tried_known = pairs_known levels next level (length vs) (tried_values next level head goal) values_known level [] (arguments head) (arguments goal)
+      (arguments_written K (length vs) head [] head_known tt) goals_known
 
   unified : (i : ℕ) (o : Outcome) → solved_try i level (length vs) head goal b ≡ Some o → IsUnifiedAs u lv last z n i o
   unified i o q =
@@ -221,22 +232,35 @@ module _ (m n : Machine) (call : Call) (candidate : Candidate) (mark : ℕ) (u :
       raw = written_goals;
       reads = (puts fits vs h values σ T st G).1;
       goals = sym goals_are;
-      known = goals_off (Within K) (closed z) (instance z.types) 0 0 written_goals (subst (AllOfGoals (Within K) 0) goals_are (goals_put K (length vs) 0 (tried_values next level head goal) values_known body body_known));
+      known = goals_off (Within K) (closed z) (instance z.types) 0 0 written_goals (subst (AllOfGoals (Within K) 0) goals_are
+          (goals_put K (length vs) 0 (tried_values next level head goal) values_known body body_known));
     }
 
   by_outcome : (r : Unified) → u ≡ r → (i : ℕ) (o : Outcome) → IsUnifiedAs r lv last z n i o → solved_try i level (length vs) head goal b ≡ Some o →
-      LeavesTasks r m n call mark i z lv last T.type_vars (instantiate_goals (tried_values next level head goal) body) here o (try_clause 1000000 i (clause_read z σ values.types candidate (clause T.type_vars vs h T.body)) goal e b mark')
+      LeavesTasks r m n call mark i z lv last T.type_vars (instantiate_goals (tried_values next level head goal) body) here o
+      (try_clause 1000000 i (clause_read z σ values.types candidate (clause T.type_vars vs h T.body)) goal e b mark')
   by_outcome Unified.Fits f i Fail k q = absurd k
   by_outcome Unified.Fits f i Spent k q = absurd k
   by_outcome Unified.Fits f i (Solution s) k q = (s, refl, try_is i ∙ ap (follow here) q, goes_on f s k)
   by_outcome Unified.Fails f i o k q = try_is i ∙ ap (follow here) (q ∙ ap (λ x. Some x) k)
   by_outcome Unified.Deep f i o k q = λ l. try_is i ∙ ap (follow here) (q ∙ ap (λ x. Some x) (k l))
 
-pub tries_read : (m n : Machine) (call : Call) (candidate : Candidate) (mark : ℕ) (u : Unified) → IsTriedAs m n call candidate u → (u ≡ Unified.Fits → PutsGoals m n call candidate mark) → TakesTypes m n candidate →
+pub tries_read : (m n : Machine) (call : Call) (candidate : Candidate) (mark : ℕ) (u : Unified) → IsTriedAs m n call candidate u →
+    (u ≡ Unified.Fits → PutsGoals m n call candidate mark) → TakesTypes m n candidate →
     IsTryOf m n call candidate mark u
-tries_read m n call candidate mark u tried puts takes vs h values σ T own w y st G z levels b R headed kg kc e l k i None q =
-    try_is m n call candidate mark u tried puts takes vs h values σ T own w y st G z levels b R headed kg kc e l k i ∙
-    ap (follow (here m n call candidate mark u tried puts takes vs h values σ T own w y st G z levels b R headed kg kc e l k)) q
-tries_read m n call candidate mark u tried puts takes vs h values σ T own w y st G z levels b R headed kg kc e l k i (Some o) q =
-    by_outcome m n call candidate mark u tried puts takes vs h values σ T own w y st G z levels b R headed kg kc e l k u refl i o
-    (unified m n call candidate mark u tried puts takes vs h values σ T own w y st G z levels b R headed kg kc e l k i o q) q
+tries_read m n call candidate mark u tried puts takes vs h values σ T own w y st G z levels b R headed kg kc e l k i o =
+    (head_read m n call candidate mark u tried puts takes vs h values σ T own w y st G z levels b R headed kg kc e l k, by o)
+  where
+    by : (o : Option Outcome) → solved_try i call.place.level (length vs) (read_in z (under_all lifted vs σ) (renewing values.types) h) (closed z (goal_of m call)) b ≡ o →
+        LeavesFor u m n call mark i z (levels_with levels m.branch.next call.place.level) (m.branch.next + length vs) T.type_vars
+        (instantiate_goals (tried_values m.branch.next call.place.level (read_in z (under_all lifted vs σ) (renewing values.types) h)
+        (closed z (goal_of m call))) (body_read z (under_all lifted vs σ) (renewing values.types) T.body))
+        (tried_branch call.place.level T.type_vars (length vs) (read_in z (under_all lifted vs σ) (renewing values.types) h)
+        (closed z (goal_of m call)) (body_read z (under_all lifted vs σ) (renewing values.types) T.body) e.assumed e.written k b) o
+        (try_clause 1000000 i (clause_read z σ values.types candidate (clause T.type_vars vs h T.body)) (closed z (goal_of m call)) e b k)
+    by None q =
+        try_is m n call candidate mark u tried puts takes vs h values σ T own w y st G z levels b R headed kg kc e l k i ∙
+        ap (follow (here m n call candidate mark u tried puts takes vs h values σ T own w y st G z levels b R headed kg kc e l k)) q
+    by (Some x) q =
+        by_outcome m n call candidate mark u tried puts takes vs h values σ T own w y st G z levels b R headed kg kc e l k u refl i x
+        (unified m n call candidate mark u tried puts takes vs h values σ T own w y st G z levels b R headed kg kc e l k i x q) q

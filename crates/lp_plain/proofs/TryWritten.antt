@@ -35,7 +35,7 @@ use Rattle.lp_plain.proofs.WrittenGrows.{goals_later, older_written}
 use Rattle.lp_plain.proofs.WrittenSearches.{goes_on_by, search_grows, search_same}
 
 -- the binders around a clause behind its own variables
-own_back : (n : ℕ) (bs : List Bool) (i : ℕ) → slice_get (own_and n bs) i ≡ Some true → (n ≤ i) × (slice_get bs (i - n) ≡ Some true)
+pub own_back : (n : ℕ) (bs : List Bool) (i : ℕ) → slice_get (own_and n bs) i ≡ Some true → (n ≤ i) × (slice_get bs (i - n) ≡ Some true)
 own_back zero bs i e = let q : i ≡ i - 0 = omega arith in (omega arith, subst (λ k. slice_get bs k ≡ Some true) q e)
 own_back (suc n) bs zero e = absurd (cc)
 own_back (suc n) bs (suc i) e =

@@ -122,7 +122,7 @@ assumed_candidates l [] (c ∷ cs) h = absurd h
 assumed_candidates l (n ∷ ns) [] h = absurd h
 assumed_candidates l (n ∷ ns) (c ∷ cs) h = (h.0, assumed_candidates l ns cs h.1)
 
-candidates_append : (l : Lists) (ks js : List Candidate) (cs ds : List Clause) → AreCandidates l ks cs → AreCandidates l js ds → AreCandidates l (ks ++ js) (cs ++ ds)
+pub candidates_append : (l : Lists) (ks js : List Candidate) (cs ds : List Clause) → AreCandidates l ks cs → AreCandidates l js ds → AreCandidates l (ks ++ js) (cs ++ ds)
 candidates_append l [] js [] ds h g = g
 candidates_append l [] js (c ∷ cs) ds h g = absurd h
 candidates_append l (k ∷ ks) js [] ds h g = absurd h
@@ -236,20 +236,23 @@ eigen_of_head k (atom (param i t)) e = absurd (cc)
 eigen_of_head k (abs b) e = absurd (cc)
 eigen_of_head k (app t v) e = absurd (cc)
 
-pub candidates_are : (l : Lists) (ar : ℕ → ℕ) (h : Head) (key : Option Key) (goal : Term) (ss : List Span) (css : List Clauses)
-    (before : List Clause) (ns : List ℕ) → AreProgramOf l.bank l.table ss css → head_term (head_of goal) ≡ Some h → HasArity ar (head_of goal) →
-    AreOfProgram ar (all_clauses css) → AreApplied ar before → IsKey l.bank key (first_key (arguments goal)) → AreAssumed l ns (filter (is_for h) before) →
-    AreCandidates l (in_turn l.bank l.table.rules.items key ns (program_for l.bank l.table.rules.items h (numbers ss))) (candidates (all_clauses css) before goal)
-candidates_are l ar h key goal ss css before ns p e w wp wb k found =
-    candidates_append l (map (λ i. candidate.Assumed i) ns) (map (λ i. candidate.Program i)
-    (filter (passes l.bank l.table.rules.items key) (program_for l.bank l.table.rules.items h (numbers ss)))) (filter (has_head goal) before)
-    (filter (lets_pass goal) (all_clauses css))
-    (assumed_candidates l ns (filter (has_head goal) before) (subst (AreAssumed l ns) (sym (filter_heads ar goal h before wb w e)) found)) (of_program h e)
-  where
-    of_program : (x : Head) → head_term (head_of goal) ≡ Some x → AreCandidates l (map (λ i. candidate.Program i)
-        (filter (passes l.bank l.table.rules.items key) (program_for l.bank l.table.rules.items x (numbers ss))))
-        (filter (lets_pass goal) (all_clauses css))
-    of_program (head.Constant c) q =
-        program_candidates l (filter (passes l.bank l.table.rules.items key) (filter (is_of l.bank l.table.rules.items c) (numbers ss))) (filter (lets_pass goal) (all_clauses css))
-        (program_passes l.bank (shown l.table) ar goal key k w c (numbers ss) (all_clauses css) q wp (program_at l.bank l.table ss css p))
-    of_program (head.Eigen n) q = subst (AreCandidates l []) (sym (none_passes l.bank (shown l.table) ar goal key k w n (all_clauses css) (eigen_of_head n (head_of goal) q) wp)) tt
+module _ (l : Lists) (ar : ℕ → ℕ) (h : Head) (key : Option Key) (goal : Term) (ss : List Span) (css : List Clauses) (before : List Clause) (ns : List ℕ) (p : AreProgramOf l.bank l.table ss css) (e : head_term (head_of goal) ≡ Some h)
+    (w : HasArity ar (head_of goal)) (wp : AreOfProgram ar (all_clauses css)) (wb : AreApplied ar before) (k : IsKey l.bank key (first_key (arguments goal))) (found : AreAssumed l ns (filter (is_for h) before)) where
+  of_program : (x : Head) → head_term (head_of goal) ≡ Some x →
+      AreCandidates l (map (λ i. candidate.Program i) (filter (passes l.bank l.table.rules.items key) (program_for l.bank l.table.rules.items x (numbers ss)))) (filter (lets_pass goal) (all_clauses css))
+  of_program (head.Constant c) q =
+      program_candidates l (filter (passes l.bank l.table.rules.items key) (filter (is_of l.bank l.table.rules.items c) (numbers ss))) (filter (lets_pass goal) (all_clauses css))
+      (program_passes l.bank (shown l.table) ar goal key k w c (numbers ss) (all_clauses css) q wp (program_at l.bank l.table ss css p))
+  of_program (head.Eigen n) q = subst (AreCandidates l []) (sym (none_passes l.bank (shown l.table) ar goal key k w n (all_clauses css) (eigen_of_head n (head_of goal) q) wp)) tt
+
+  pub program_are : AreCandidates l (map (λ i. candidate.Program i) (filter (passes l.bank l.table.rules.items key) (program_for l.bank l.table.rules.items h (numbers ss)))) (filter (lets_pass goal) (all_clauses css))
+  program_are = of_program h e
+
+  pub assumed_are : AreCandidates l (map (λ i. candidate.Assumed i) ns) (filter (has_head goal) before)
+  assumed_are = assumed_candidates l ns (filter (has_head goal) before) (subst (AreAssumed l ns) (sym (filter_heads ar goal h before wb w e)) found)
+
+  pub candidates_are : AreCandidates l (in_turn l.bank l.table.rules.items key ns (program_for l.bank l.table.rules.items h (numbers ss))) (candidates (all_clauses css) before goal)
+  candidates_are =
+      candidates_append l (map (λ i. candidate.Assumed i) ns) (map (λ i. candidate.Program i)
+      (filter (passes l.bank l.table.rules.items key) (program_for l.bank l.table.rules.items h (numbers ss)))) (filter (has_head goal) before)
+      (filter (lets_pass goal) (all_clauses css)) assumed_are program_are

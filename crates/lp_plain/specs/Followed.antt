@@ -4,6 +4,7 @@ use Rattle.lp_calculus.specs.Types.{Ty, var, instance}
 use Rattle.lp_calculus.specs.Term.{Term}
 use Rattle.lp_calculus.specs.Fill.{Within}
 use Rattle.lp_calculus.specs.Spine.{arguments, head_of}
+use Rattle.lp_calculus.specs.Instance.{instance_term}
 use Rattle.lp_term.specs.Nodes.{tree}
 use Rattle.lp_term.specs.declared.node.TermId.{TermId}
 use Rattle.lp_model.specs.Branch.{Entry, Branch, Task, Go, Lack, Stop, entries, resume}
@@ -11,7 +12,7 @@ use Rattle.lp_model.specs.Flat.{Written, Goals, Clause, clause, goal_list, insta
 use Rattle.lp_model.specs.Index.{lifted, instantiate}
 use Rattle.lp_model.specs.Pair.{Closing, closed}
 use Rattle.lp_model.specs.Rule.{type_pairs}
-use Rattle.lp_model.specs.Search.{slots_of, slotted, try_clause}
+use Rattle.lp_model.specs.Search.{renewed, slots_of, slotted, try_clause}
 use Rattle.lp_model.specs.Types.{put_types}
 use Rattle.lp_model.specs.Unify.{State, Unified as Outcome, Solution, solve}
 use Rattle.lp_model.specs.declared.ending.Ending.TheVariants.{Deep}
@@ -155,6 +156,10 @@ abbrev pub LeavesFor : Unified → (old new : Machine) → Call → (mark : ℕ)
 LeavesFor u m n call k i z lv next j body b None ts = ts ≡ Lack ∷ []
 LeavesFor u m n call k i z lv next j body b (Some o) ts = LeavesTasks u m n call k i z lv next j body b o ts
 
+-- the head of a clause that is tried, with new type variables
+abbrev pub IsHeadRead : (type_vars next_type : ℕ) → (head : Term) → Clause → Type 0
+IsHeadRead k next g (clause n vs h b) = (n ≡ k) × (instance_term (renewed k next) h ≡ g)
+
 -- a candidate is tried as the definition's `Try` of its clause: for the goal as it was looked at, at the call's level, in front of any goals, all as the bindings read
 -- it
 abbrev pub IsTryOf : (old new : Machine) → Call → Candidate → (mark : ℕ) → Unified → Type 0
@@ -167,10 +172,10 @@ IsTryOf m n call candidate mark u =
     (e : Entry) → e.level ≡ call.place.level → (k i : ℕ) (o : Option Outcome) →
     let t : Term = closed z (goal_of m call) in let g : Term = read_in z (under_all lifted vs σ) (renewing values.types) h in
     let body : Goals = body_read z (under_all lifted vs σ) (renewing values.types) T.body in
-    solved_try i call.place.level (length vs) g t b ≡ o →
-    LeavesFor u m n call mark i z (levels_with levels m.branch.next call.place.level) (m.branch.next + length vs) T.type_vars (instantiate_goals (tried_values m.branch.next call.place.level g t) body)
+    IsHeadRead T.type_vars b.next_type g (clause_read z σ values.types candidate (clause T.type_vars vs h T.body)) ×
+    (solved_try i call.place.level (length vs) g t b ≡ o → LeavesFor u m n call mark i z (levels_with levels m.branch.next call.place.level) (m.branch.next + length vs) T.type_vars (instantiate_goals (tried_values m.branch.next call.place.level g t) body)
     (tried_branch call.place.level T.type_vars (length vs) g t body e.assumed e.written k b) o
-    (try_clause 1000000 i (clause_read z σ values.types candidate (clause T.type_vars vs h T.body)) t e b k)
+    (try_clause 1000000 i (clause_read z σ values.types candidate (clause T.type_vars vs h T.body)) t e b k))
 
 -- what is put and assumed stays written by a try
 abbrev pub WritesOn : (old new : Machine) → Call → Candidate → Type 0

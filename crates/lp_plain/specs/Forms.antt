@@ -1,5 +1,5 @@
 -- What the code tells of an atomic goal, against the numbers of the relations.
-use Rattle.std.specs.Prelude.{◌≡◌, ℕ, Bool, true, false, List, [], ◌∷◌, Option, Some, None}
+use Rattle.std.specs.Prelude.{◌≡◌, ◌<◌, ℕ, Bool, true, false, List, [], ◌∷◌, Option, Some, None}
 use Rattle.lp_base.specs.declared.compare.Compare.{Compare}
 use Rattle.lp_base.specs.declared.compare.Compare.TheVariants.{Less, Greater, AtMost, AtLeast}
 use Rattle.lp_calculus.specs.Types.{Ty}
@@ -51,6 +51,15 @@ IsForm b t (form.Call (head.Constant c) o) = (ts : List Ty) × (head_of t ≡ at
 IsForm b t (form.Call (head.Eigen k) o) = (head_of t ≡ atom (eigen k)) × IsFirst b (arguments t) o
 IsForm b t form.Flexible = (x : ℕ) × (l : ℕ) × (head_of t ≡ atom (logic x l))
 IsForm b t form.Other = is_named (head_of t) ≡ false
+
+-- its terms are among so many
+abbrev pub StandsForm : ℕ → Form → Type 0
+StandsForm n (form.Equal l r) = (l.0 < n) × (r.0 < n)
+StandsForm n (form.Is l r) = (l.0 < n) × (r.0 < n)
+StandsForm n (form.Order o l r) = (l.0 < n) × (r.0 < n)
+StandsForm n (form.Call h o) = (u : TermId) → o ≡ Some u → u.0 < n
+StandsForm n form.Flexible = Unit {0}
+StandsForm n form.Other = Unit {0}
 
 -- what the code tells by a constant and its arguments
 

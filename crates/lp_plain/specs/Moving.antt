@@ -1,8 +1,8 @@
 -- A search between two turns as the definition's state, all bindings put in, and turns as moves of the definition. The goals of a branch are read as they stand in the bank
 -- (specs/Entries); the entries of the definition are these as the bindings of the branch read them. An alternative has the bindings of then.
-use Rattle.std.specs.Prelude.{◌≡◌, ◌⊎◌, Bool, ℕ, zero, suc, ◌+◌, ◌-◌, ◌<◌, ◌≤◌, List, [], ◌∷◌, ◌++◌, All, map, length, take, drop, Option, None, Some}
+use Rattle.std.specs.Prelude.{◌≡◌, ◌⊎◌, Bool, ℕ, zero, suc, ◌-◌, ◌<◌, ◌≤◌, List, [], ◌∷◌, ◌++◌, All, map, length, take, drop, Option, None, Some, slice_get}
 use Rattle.lp_calculus.specs.Fill.{Within}
-use Rattle.lp_calculus.specs.Types.{Ty, instance, var}
+use Rattle.lp_calculus.specs.Types.{instance, var}
 use Rattle.lp_calculus.specs.Spine.{head_of}
 use Rattle.lp_calculus.specs.Term.{Term}
 use Rattle.lp_term.specs.Nodes.{Nodes}
@@ -11,7 +11,7 @@ use Rattle.lp_model.specs.Branch.{Answer, Branch, Entry, Task, Go, Try}
 use Rattle.lp_model.specs.Flat.{Clause, Goal, Goals, Atomic, Cut, Either, Exists, Forall, Assume, Not, Written, goal_list, map_written}
 use Rattle.lp_model.specs.Pair.{Closing, closed}
 use Rattle.lp_model.specs.Search.{look, types_from, vars_from}
-use Rattle.lp_model.specs.Skeleton.{Goes, Inner, Move, Note, State, Stops, Tells, Told, View, Waits, move, row_limit, run}
+use Rattle.lp_model.specs.Skeleton.{Goes, Inner, Move, Note, State, Stops, Tells, View, Waits, move, row_limit}
 use Rattle.lp_model.specs.Unify.{unit_limit}
 use Rattle.lp_model.specs.declared.answer.Pair.{Pair as Numbers}
 use Rattle.lp_model.specs.declared.ending.Ending.TheVariants.{Deep}
@@ -22,6 +22,7 @@ use Rattle.lp_pattern.specs.declared.bindings.Bindings.{Bindings}
 use Rattle.lp_plain.specs.declared.candidates.Candidate.{Candidate}
 use Rattle.lp_plain.specs.declared.choice.Call.{Call}
 use Rattle.lp_plain.specs.declared.choice.Choice.{Choice}
+use Rattle.lp_plain.specs.declared.choice.Denial.{Denial}
 use Rattle.lp_plain.specs.declared.choice.Untried.{Untried}
 use Rattle.lp_plain.specs.declared.frame.Place.{Place}
 use Rattle.lp_plain.specs.declared.machine.Machine.{Machine}
@@ -35,12 +36,13 @@ use Rattle.lp_plain.specs.Entries.{Around, HeadsTo, IsAt, KeepsGoals, Reads, ent
 use Rattle.lp_plain.specs.Followed.{IsClauseWritten, clause_by}
 use Rattle.lp_plain.specs.Resuming.{AllOfAssumed, AllOfClause, AllTerms, AreKnownEntries, clause_with, goal_with}
 use Rattle.lp_plain.specs.Scopes.{blocks_of}
-use Rattle.lp_plain.specs.Searching.{IsDone}
+use Rattle.lp_plain.specs.Searching.{AreNested, IsDone, StandForAll}
 use Rattle.lp_plain.specs.Stacks.{base_of, stack_of}
 use Rattle.lp_plain.specs.Tables.{AreGoals, IsGoal, Never, shown}
 use Rattle.lp_plain.specs.Taking.{goal_in}
 use Rattle.lp_plain.specs.Trials.{IsCallHead, goal_of}
 use Rattle.lp_plain.specs.Trying.{AreCandidates, IsCandidate, first_in, lists_at, tries_of}
+use Rattle.lp_plain.specs.TypedStates.{IsTypedOver}
 use Rattle.lp_plain.specs.Within.{IsKeyIn}
 
 -- the definition's mark for a mark of the search: as many tasks as the oldest alternatives up to it stand for
@@ -78,11 +80,23 @@ AreEntriesUnder z m l u [] (d ∷ ds) = ⊥
 AreEntriesUnder z m l u (e ∷ es) [] = ⊥
 AreEntriesUnder z m l u (e ∷ es) (d ∷ ds) = IsEntryUnder z m l u e d × AreEntriesUnder z m l e.mark es ds
 
--- how many type variables and variables the query has, and how many types a constant takes
+-- a search that waits for that of a negated goal: how many type variables and variables its query has, the answers that are left behind the next one and those that were
+-- given, whether a cut removed an alternative, the branch to go on with where the goal is refuted, and the tasks below it
+pub record Waiting : Type 0 where
+  pub types : ℕ
+  pub vars : ℕ
+  pub left : ℕ
+  pub given : ℕ
+  pub lost : Bool
+  pub branch : Branch
+  pub rest : List Task
+
+-- how many type variables and variables the query of the search at work has, how many types a constant takes, and the searches that wait, the innermost first
 pub record Query : Type 0 where
   pub types : ℕ
   pub vars : ℕ
   pub arity : ℕ → ℕ
+  pub outer : List Waiting
 
 -- each variable that is read in a branch has a level, and a number below the next one; no type variable from the next one on is bound
 pub record IsKnownAs (qv : Query) (z : Closing) (levels : ℕ → ℕ) (b d : Branch) : Type 0 where
@@ -172,6 +186,40 @@ AreBoundInTurn [] = Unit {0}
 AreBoundInTurn (c ∷ []) = Unit {0}
 AreBoundInTurn (c ∷ d ∷ cs) = (c.bindings.terms ≤ d.bindings.terms) × (c.bindings.types ≤ d.bindings.types) × AreBoundInTurn (d ∷ cs)
 
+-- the alternative of a negated goal as one that goes on with the goals behind it
+abbrev pub way_back : Choice → Denial → Choice
+way_back c d = record c { untried = Untried.Goals d.behind }
+
+-- the alternatives of the search that waits behind the one of this number, which leads back to it
+abbrev pub outer_choices : Machine → (number : ℕ) → Choice → Denial → List Choice
+outer_choices m i c d = drop (base_of d.around) (take i m.choices.items) ++ way_back c d ∷ []
+
+-- that search stands for its tasks
+pub record IsOuter (arity : ℕ → ℕ) (m : Machine) (a : Around) (number : ℕ) (d : Denial) (w : Waiting) (ws : List Waiting) : Type 0 where
+  pub choice : Choice
+  pub there : slice_get m.choices.items number ≡ Some choice
+  pub denied : choice.untried ≡ Untried.Denied d
+  pub low : base_of d.around ≤ number
+  pub raws : List (List Task)
+  pub others : List (List Task)
+  pub stand : StandForAll m a (outer_choices m number choice d) 0 raws
+  pub are : AreAlternatives (record { types = w.types; vars = w.vars; arity = arity; outer = ws }) m (mark_in (base_of d.around) raws) (base_of d.around) (base_of d.around) (outer_choices m number choice d) raws others
+  pub is : stack_of others ≡ Go w.branch ∷ w.rest
+  pub lost : w.lost ≡ d.lost
+
+-- the searches that wait, from that of this negated goal outwards
+abbrev pub AreOuter : (arity : ℕ → ℕ) → Machine → Around → Option ℕ → List Waiting → Type 0
+AreOuter ar m a None [] = Unit {0}
+AreOuter ar m a None (w ∷ ws) = ⊥
+AreOuter ar m a (Some i) [] = ⊥
+AreOuter ar m a (Some i) (w ∷ ws) = (d : Denial) × IsOuter ar m a i d w ws × AreOuter ar m a d.around ws
+
+-- so around the search at work; of all alternatives what there was, and what was bound, at one was so at the next one
+pub record IsInside (qv : Query) (m : Machine) (a : Around) : Type 0 where
+  pub outer : AreOuter qv.arity m a m.denied qv.outer
+  pub nested : AreNested m.choices.items
+  pub in_turn : AreBoundInTurn m.choices.items
+
 -- what is counted, as the definition counts what is left
 pub record IsCounted (m : Machine) (s : State Task) : Type 0 where
   pub steps : s.steps ≡ m.counts.limit - m.counts.steps
@@ -188,6 +236,7 @@ pub record HasAlternatives (qv : Query) (m : Machine) (a : Around) (stack : List
   pub are : AreAlternatives qv m (mark_in (base_of m.denied) raws) (base_of m.denied) (base_of m.denied) (drop (base_of m.denied) m.choices.items) raws others
   pub in_turn : AreBoundInTurn (drop (base_of m.denied) m.choices.items)
   pub is : stack ≡ stack_of others
+  pub inside : IsInside qv m a
 
 -- the innermost search: at work on a branch, whose goals stand in the bank as in the first one, above its alternatives
 pub record IsRunning (qv : Query) (m : Machine) (a : Around) (raw : Branch) (s : State Task) : Type 0 where
@@ -360,6 +409,7 @@ pub record IsAnswer (qv : Query) (m : Machine) (x : Answer) : Type 0 where
   pub types : x.types ≡ map (instance closing.types) (types_from qv.types 0)
   pub values : x.values ≡ map (closed closing) (vars_from qv.vars 0)
   pub pairs : ArePairsFor m.bank closing m.branch.pairs.items x.pairs
+  pub left : All (IsPairOf (length m.bank.terms)) m.branch.pairs.items
 
 -- an answer was given: the search goes back from there, in a new row
 pub record IsAnswered (qv : Query) (m : Machine) (s : State Task) : Type 0 where
@@ -396,33 +446,12 @@ Leads (suc j) qv turn n go see s =
 abbrev pub AreFew : Turn → (enough : ℕ) → Type 0
 AreFew turn enough = turn ≡ Turn.Ended Deep → enough < 1000000
 
--- so while answers are wanted, over each program, with any number of steps for each look, but for a turn that is too deep
+-- so while answers are wanted, over each typed program and in a typed state, with any number of steps for each look, but for a turn that is too deep
 abbrev pub LeadsTo : ℕ → Query → Turn → (new : Machine) → (before : State Task) → Type 0
-LeadsTo j qv turn n s = (k : ℕ) → s.answers ≡ suc k → (go : (Answer → Bool) → State Task → Inner) (enough : ℕ) → AreFew turn enough → (P : List Clause) → Leads j qv turn n go (look unit_limit enough P) s
+LeadsTo j qv turn n s = (k : ℕ) → s.answers ≡ suc k → (go : (Answer → Bool) → State Task → Inner) (enough : ℕ) → AreFew turn enough → (P : List Clause) → IsTypedOver qv.arity enough P s → Leads j qv turn n go (look unit_limit enough P) s
 
 -- the turn of a unification
 abbrev pub turn_for : Unified → Turn
 turn_for Unified.Fits = Turn.On
 turn_for Unified.Fails = Turn.Back
 turn_for Unified.Deep = Turn.Ended Deep
-
--- no type variable from the next one on is bound
-abbrev pub HasFreeTypes : Machine → Type 0
-HasFreeTypes m = (z : Closing) → IsOpenReading m.bank m.bindings m.branch.next z → (x : ℕ) → m.branch.next_type ≤ x → z.types x ≡ var x
-
--- a run has told no answer, and not how it ends
-abbrev pub IsSilent : Told Answer → Type 0
-IsSilent t = (t.answers ≡ []) × (t.ending ≡ None)
-
--- two runs tell the same answers and the same end
-abbrev pub TellSame : Told Answer → Told Answer → Type 0
-TellSame a b = (a.answers ≡ b.answers) × (a.ending ≡ b.ending)
-
--- a run of the definition, of at most so many moves, tells what the run tells that goes on behind the turn; an answer comes first, and an end is all
-abbrev pub Reaches : Query → Turn → (new : Machine) → (see : ℕ → Task → View Task Answer) → (inside moves : ℕ) → State Task → Type 0
-Reaches qv Turn.On n see e i s = (k : ℕ) × (t : State Task) × IsState qv n t × (t.answers ≡ s.answers) × (t.given ≡ s.given) × TellSame (run see e i s) (run see e k t)
-Reaches qv Turn.Back n see e i s = (k : ℕ) × (t : State Task) × IsBack qv n t × (t.answers ≡ s.answers) × (t.given ≡ s.given) × TellSame (run see e i s) (run see e k t)
-Reaches qv Turn.Answered n see e i s =
-    (k : ℕ) × (x : Answer) × (t : State Task) × IsAnswer qv n x × IsAnswered qv n t × (s.answers ≡ suc t.answers) × (t.given ≡ suc s.given) ×
-    ((run see e i s).answers ≡ x ∷ (run see e k t).answers) × ((run see e i s).ending ≡ (run see e k t).ending)
-Reaches qv (Turn.Ended f) n see e i s = ((run see e i s).answers ≡ []) × ((run see e i s).ending ≡ Some f)

@@ -82,6 +82,14 @@ pub record AreTries (l : Lists) (first : Option ℕ) (key : Option Key) (found :
   pub found_left : AreLeft l.bank l.table.rules.items (links l.assumptions) first key found left
   pub clauses : AreCandidates l left cs
 
+-- so the assumed clauses and those of the program, apart
+pub record AreTriesApart (l : Lists) (first : Option ℕ) (key : Option Key) (found : Option Candidate) (assumed program : List Clause) : Type 0 where
+  pub numbers_assumed : List ℕ
+  pub numbers_program : List ℕ
+  pub found_left : AreLeft l.bank l.table.rules.items (links l.assumptions) first key found (map (λ i. candidate.Assumed i) numbers_assumed ++ map (λ i. candidate.Program i) numbers_program)
+  pub assumed_are : AreCandidates l (map (λ i. candidate.Assumed i) numbers_assumed) assumed
+  pub program_are : AreCandidates l (map (λ i. candidate.Program i) numbers_program) program
+
 -- the program's clauses stand in the table, and the index finds them
 pub record HasProgram (m : Machine) (css : List Clauses) : Type 0 where
   pub spans : List Span

@@ -1,9 +1,14 @@
 -- What a unification in the branch at work comes to.
-use Rattle.std.specs.Prelude.{◌≡◌, ℕ, ◌≤◌, All, length}
-use Rattle.lp_term.specs.Nodes.{Extends}
-use Rattle.lp_model.specs.Pair.{Closing}
-use Rattle.lp_model.specs.Unify.{Unified as Outcome, Fail, Spent}
+use Rattle.std.specs.Prelude.{◌≡◌, ℕ, ◌≤◌, List, [], ◌∷◌, All, length, Some}
+use Rattle.lp_calculus.specs.Fill.{Within}
+use Rattle.lp_calculus.specs.Term.{Term}
+use Rattle.lp_term.specs.Nodes.{Extends, tree}
+use Rattle.lp_term.specs.declared.node.TermId.{TermId}
+use Rattle.lp_model.specs.Pair.{Closing, Pair as Equation, closed}
+use Rattle.lp_model.specs.Unify.{Unified as Outcome, Fail, Spent, solve}
 use Rattle.lp_pattern.specs.Growing.{GoesOn, Grows, IsPairOf}
+use Rattle.lp_pattern.specs.Putting.{Known}
+use Rattle.lp_pattern.specs.Turning.{AreKnownPairs, ArePairsFor, IsOpenReading}
 use Rattle.lp_pattern.specs.Unifying.{IsSolutionUnder}
 use Rattle.lp_plain.specs.declared.machine.Machine.{Machine}
 use Rattle.lp_plain.specs.declared.unified.Unified.{Unified}
@@ -54,3 +59,10 @@ abbrev pub IsUnifiedAs : Unified → (levels : ℕ → ℕ) → (next : ℕ) →
 IsUnifiedAs Unified.Fits lv next c new n u = IsSolutionUnder lv next c new.bank new.bindings new.branch.next new.branch.pairs.items u
 IsUnifiedAs Unified.Fails lv next c new n u = u ≡ Fail
 IsUnifiedAs Unified.Deep lv next c new n u = n ≤ 1000000 → u ≡ Spent
+
+-- so two terms that are made one, for this level
+abbrev pub IsEquatedAs : (old new : Machine) → (left right : TermId) → (level : ℕ) → Unified → Type 0
+IsEquatedAs m n l r level u =
+    (z : Closing) → IsOpenReading m.bank m.bindings m.branch.next z → (levels : ℕ → ℕ) (ds : List Equation) (s t : Term) → s ≡ closed z (tree m.bank l.0) → t ≡ closed z (tree m.bank r.0) →
+    Within (Known levels m.branch.next) 0 s → Within (Known levels m.branch.next) 0 t → ArePairsFor m.bank z m.branch.pairs.items ds → AreKnownPairs levels m.branch.next ds → (i : ℕ) (o : Outcome) →
+    solve i 1000000 [] (record { left = s; right = t; level = level } ∷ []) ds m.branch.next ≡ Some o → IsUnifiedAs u levels m.branch.next z n i o

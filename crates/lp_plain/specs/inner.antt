@@ -3,3 +3,8 @@ pub mod Collecting
 pub mod Tabling
 pub mod Placing
 pub mod Programs
+pub mod Following
+pub mod Between
+pub mod Answering
+pub mod Fitting
+pub mod Evaluating

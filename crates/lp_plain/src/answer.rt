@@ -1,51 +1,183 @@
 // The answer that a branch without goals is, in a bank of its own.
-ghost use Rattle.std.specs.Prelude.{length, IfOk};
-ghost use Rattle.lp_model.specs.Whole.{IsWhole};
+ghost use Rattle.std.specs.Prelude.{◌≡◌, true, ℕ, All, length, map, IfOk, OnOk};
+ghost use Rattle.lp_term.specs.Memo.{AreMade};
+ghost use Rattle.lp_term.specs.Nodes.{Extends, tree};
+ghost use Rattle.lp_term.specs.Same.{same_map};
+ghost use Rattle.lp_term.specs.Within.{AreTermsOf};
+ghost use Rattle.lp_model.specs.Branch.{Answer as Found};
+ghost use Rattle.lp_model.specs.Pair.{Closing, closed};
+ghost use Rattle.lp_model.specs.Readings.{pair_of};
+ghost use Rattle.lp_model.specs.Whole.{CanBeShown, CanPairBeShown, IsWhole};
+ghost use Rattle.lp_pattern.specs.Growing.{IsPairOf};
+ghost use Rattle.lp_pattern.specs.Stripping.{IsShut};
+ghost use Rattle.lp_pattern.specs.Under.{IsReading};
+ghost use Rattle.lp_plain.specs.HeadLooks.{OnlyBank};
+ghost use Rattle.lp_plain.specs.Moving.{IsAnswer, Query};
+ghost use Rattle.lp_plain.specs.Telling.{IsAnswerOf};
+ghost use Rattle.lp_plain.specs.inner.Answering.{pair_under};
 
 use crate::machine::Machine;
+use crate::start::query_variables;
 use lp_base::Memory;
-use lp_model::{Answer, Pair, whole_answer};
-use lp_pattern::filled;
+use lp_model::{Answer, Pair};
+use lp_pattern::{Bindings, filled};
 use lp_term::{Bank, Changed, Same, TermId};
 use std::alloc::Global;
 
-// The term with all bindings put in.
-fn filled_in(machine: &mut Machine, term: TermId) -> Result<TermId, Memory> {
-    filled(machine.alloc, &mut machine.bank, &machine.bindings, term)
-}
-
-// The term with all bindings put in, in another bank.
-fn shown(
-    machine: &mut Machine,
-    copies: &mut Changed,
-    term: TermId,
-    to: &mut Bank,
-) -> Result<TermId, Memory> {
-    let full = filled_in(machine, term)?;
-    copies.copy(machine.alloc, &Same, &machine.bank, full, to)
-}
-
-/// The values of the query's variables and the residual pairs.
-pub(crate) fn answer_of(machine: &mut Machine, variables: &Vec<TermId>) -> Result<Answer, Memory>
-    ensures { IfOk result (IsWhole (length variables.now.items)) }
+// The terms with all bindings put in.
+fn filled_terms(
+    alloc: Global,
+    bank: &mut Bank,
+    bindings: &Bindings,
+    terms: &Vec<TermId>,
+) -> Result<Vec<TermId>, Memory>
+    ensures kept { Extends bank.old bank.new }
+    ensures count { IfOk result (λ made. length made.items ≡ length terms.now.items) }
+    ensures within { IfOk result (λ made. AreTermsOf bank.new made.items) }
+    ensures filled { IfOk result (λ made. (c : Closing) → IsReading bank.old bindings.now c → IsShut c → AreTermsOf bank.old terms.now.items → map (λ t. tree bank.new t.0) made.items ≡ map (λ t. closed c (tree bank.old t.0)) terms.now.items) }
 {
-    let alloc = machine.alloc;
-    let mut bank = Bank::new(alloc);
-    let mut copies = Changed::new(alloc);
-    let mut values = Vec::new(alloc);
-    for variable in variables {
-        values.push(shown(machine, &mut copies, *variable, &mut bank)?)?;
+    let mut made = Vec::new(alloc);
+    'each: for at in 0..terms.len() {
+        let full = filled(alloc, bank, bindings, terms[at])?;
+        made.push(full)?;
     }
-    let residual = Vec::from_slice(alloc, machine.branch.pairs.as_slice())?;
-    let mut pairs = Vec::new(alloc);
-    for pair in residual.iter().copied() {
-        let left = shown(machine, &mut copies, pair.left, &mut bank)?;
-        let right = shown(machine, &mut copies, pair.right, &mut bank)?;
-        pairs.push(Pair {
+    Ok(made)
+}
+
+fn filled_pairs(
+    alloc: Global,
+    bank: &mut Bank,
+    bindings: &Bindings,
+    pairs: &Vec<Pair>,
+) -> Result<Vec<Pair>, Memory>
+    ensures kept { Extends bank.old bank.new }
+    ensures filled { IfOk result (λ made. (c : Closing) → IsReading bank.old bindings.now c → IsShut c → All (IsPairOf (length bank.old.terms)) pairs.now.items → map (pair_of bank.new) made.items ≡ map (pair_under bank.old c) pairs.now.items) }
+{
+    let mut made = Vec::new(alloc);
+    'each: for at in 0..pairs.len() {
+        let pair = pairs[at];
+        let left = filled(alloc, bank, bindings, pair.left)?;
+        let right = filled(alloc, bank, bindings, pair.right)?;
+        made.push(Pair {
             left,
             right,
             level: pair.level,
         })?;
     }
-    whole_answer(bank, values, pairs, variables.len()).ok_or(Memory)
+    Ok(made)
+}
+
+// The terms in another bank.
+fn copied_terms(
+    alloc: Global,
+    copies: &mut Changed,
+    from: &Bank,
+    terms: &Vec<TermId>,
+    to: &mut Bank,
+) -> Result<Vec<TermId>, Memory>
+    ensures kept { Extends to.old to.new }
+    ensures count { IfOk result (λ made. length made.items ≡ length terms.now.items) }
+    ensures within { IfOk result (λ made. AreTermsOf to.new made.items) }
+    ensures copied { IfOk result (λ made. AreMade same_map from.now to.old copies.old → map (λ t. tree to.new t.0) made.items ≡ map (λ t. tree from.now t.0) terms.now.items) }
+    ensures memo { OnOk result (AreMade same_map from.now to.old copies.old → AreMade same_map from.now to.new copies.new) }
+{
+    let mut made = Vec::new(alloc);
+    'each: for at in 0..terms.len() {
+        let copy = copies.copy(alloc, &Same, from, terms[at], to)?;
+        made.push(copy)?;
+    }
+    Ok(made)
+}
+
+fn copied_pairs(
+    alloc: Global,
+    copies: &mut Changed,
+    from: &Bank,
+    pairs: &Vec<Pair>,
+    to: &mut Bank,
+) -> Result<Vec<Pair>, Memory>
+    ensures kept { Extends to.old to.new }
+    ensures copied { IfOk result (λ made. AreMade same_map from.now to.old copies.old → map (pair_of to.new) made.items ≡ map (pair_of from.now) pairs.now.items) }
+{
+    let mut made = Vec::new(alloc);
+    'each: for at in 0..pairs.len() {
+        let pair = pairs[at];
+        let left = copies.copy(alloc, &Same, from, pair.left, to)?;
+        let right = copies.copy(alloc, &Same, from, pair.right, to)?;
+        made.push(Pair {
+            left,
+            right,
+            level: pair.level,
+        })?;
+    }
+    Ok(made)
+}
+
+fn can_be_shown(bank: &Bank, id: TermId) -> bool
+    ensures { result ≡ true → CanBeShown bank.now id }
+{
+    if id.0 >= bank.term_count() {
+        return false;
+    }
+    bank.is_known_below(id, 4_294_967_296)
+}
+
+fn can_all_be_shown(bank: &Bank, ids: &Vec<TermId>) -> bool
+    ensures { result ≡ true → All (CanBeShown bank.now) ids.now.items }
+{
+    'each: for at in 0..ids.len() {
+        if !can_be_shown(bank, ids[at]) {
+            return false;
+        }
+    }
+    true
+}
+
+fn can_pair_be_shown(bank: &Bank, pair: Pair) -> bool
+    ensures { result ≡ true → CanPairBeShown bank.now pair }
+{
+    can_be_shown(bank, pair.left) && can_be_shown(bank, pair.right)
+}
+
+fn can_pairs_be_shown(bank: &Bank, pairs: &Vec<Pair>) -> bool
+    ensures { result ≡ true → All (CanPairBeShown bank.now) pairs.now.items }
+{
+    'each: for at in 0..pairs.len() {
+        if !can_pair_be_shown(bank, pairs[at]) {
+            return false;
+        }
+    }
+    true
+}
+
+/// The values of the query's variables, so many, and the residual pairs.
+pub(crate) fn answer_of(machine: &mut Machine, count: usize) -> Result<Answer, Memory>
+    ensures whole { IfOk result (IsWhole count) }
+    ensures only { OnOk result (OnlyBank machine.old machine.new) }
+    ensures answer { IfOk result (λ answer. (qv : Query) (x : Found) → count ≡ qv.vars → IsAnswer qv machine.old x → IsAnswerOf x answer) }
+{
+    let alloc = machine.alloc;
+    let variables = query_variables(alloc, &mut machine.bank, count)?;
+    let full = filled_terms(alloc, &mut machine.bank, &machine.bindings, &variables)?;
+    let sides = filled_pairs(
+        alloc,
+        &mut machine.bank,
+        &machine.bindings,
+        &machine.branch.pairs,
+    )?;
+    let mut bank = Bank::new(alloc);
+    let mut copies = Changed::new(alloc);
+    let values = copied_terms(alloc, &mut copies, &machine.bank, &full, &mut bank)?;
+    let pairs = copied_pairs(alloc, &mut copies, &machine.bank, &sides, &mut bank)?;
+    if !can_all_be_shown(&bank, &values) {
+        return Err(Memory);
+    }
+    if !can_pairs_be_shown(&bank, &pairs) {
+        return Err(Memory);
+    }
+    Ok(Answer {
+        bank,
+        values,
+        pairs,
+    })
 }

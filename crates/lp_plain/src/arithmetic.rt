@@ -1,6 +1,22 @@
 // The values of expressions.
+ghost use Rattle.std.specs.Prelude.{◌≡◌, ◌++◌, ◌<◌, ℕ, List, length, IfOk, OnOk};
+ghost use Rattle.lp_calculus.specs.Term.{atom, text};
+ghost use Rattle.lp_standard.specs.Constants.{number as number_of, numbered};
+ghost use Rattle.lp_term.specs.Nodes.{Extends, Nodes, tree};
+ghost use Rattle.lp_model.specs.Values.{Value as Meant, Outcome as Told, Bytes, Number as a_number, binary, ordered, term_of as meant_term, unary};
+ghost use Rattle.lp_model.specs.Pair.{Closing, closed};
+ghost use Rattle.lp_pattern.specs.Turning.{IsOpenReading};
+ghost use Rattle.lp_term.specs.declared.node.TermId.{TermId};
+ghost use Rattle.lp_plain.specs.declared.machine.Machine.{Machine};
+ghost use Rattle.lp_plain.specs.declared.arithmetic.Task.{Task as Todo};
+ghost use Rattle.lp_plain.specs.declared.arithmetic.Task.TheVariants as todo;
+ghost use Rattle.lp_plain.specs.Evaluated.{EvaluatesTo, GivesNumber, GivesValue, IsValueIn};
+ghost use Rattle.lp_plain.specs.Forms.{order_number};
+ghost use Rattle.lp_plain.specs.HeadLooks.{OnlyBank};
+ghost use Rattle.lp_plain.specs.inner.Evaluating.{GoesFrom, IsCounted, IsExpression, IsKept, IsLast, IsOnWay, IsPut, IsStep, IsStepOn, StandsExpression, TakesTask, applied_by, leaf_by, one_by, operation_by, two_by};
 
 use crate::machine::Machine;
+use crate::operation::{on_integer, on_integers, on_length};
 use crate::unified::head_normal;
 use lp_base::{Compare, Memory, RUN_LIMIT};
 use lp_model::Fault;
@@ -24,23 +40,32 @@ pub(crate) enum Outcome {
 }
 
 #[derive(Clone, Copy)]
-enum Task {
+pub(crate) enum Task {
     Visit(TermId),
     /// The operation on the last two values, or on the last one.
     Two(Constant),
     One(Constant),
 }
 
+/// How an evaluation goes on: so many parts were looked at, or it ends.
+#[derive(Clone, Copy)]
+pub(crate) enum Step {
+    On(u64),
+    End(Outcome),
+}
+
 /// A head-normal expression.
 #[derive(Clone, Copy)]
-enum Expression {
+pub(crate) enum Expression {
     Leaf(Value),
     Two(Constant, TermId, TermId),
     One(Constant, TermId),
     Other,
 }
 
-fn on_two_args(operation: Constant, left: TermId, right: TermId) -> Expression {
+fn on_two_args(operation: Constant, left: TermId, right: TermId) -> Expression
+    ensures { result ≡ two_by operation left right }
+{
     match operation {
         Constant::Add | Constant::Subtract | Constant::Multiply => {
             Expression::Two(operation, left, right)
@@ -52,68 +77,140 @@ fn on_two_args(operation: Constant, left: TermId, right: TermId) -> Expression {
     }
 }
 
-fn on_one_arg(operation: Constant, arg: TermId) -> Expression {
+fn on_one_arg(operation: Constant, arg: TermId) -> Expression
+    ensures { result ≡ one_by operation arg }
+{
     match operation {
         Constant::Negate | Constant::Size => Expression::One(operation, arg),
         _ => Expression::Other,
     }
 }
 
-fn applied(number: u32, args: &[TermId]) -> Expression {
-    let Some(operation) = Constant::from_number(number) else {
-        return Expression::Other;
-    };
+// An operation on these arguments.
+fn operation_on(operation: Constant, args: &[TermId]) -> Expression
+    ensures { result ≡ operation_by operation args.now }
+{
     match args {
-        [left, right] => on_two_args(operation, *left, *right),
         [arg] => on_one_arg(operation, *arg),
+        [left, right] => on_two_args(operation, *left, *right),
         _ => Expression::Other,
     }
 }
 
-fn read_expression(alloc: Global, bank: &Bank, term: TermId) -> Result<Expression, Memory> {
+// The operation of a number on these arguments.
+fn applied(number: u32, args: &[TermId]) -> Expression
+    ensures { result ≡ applied_by (numbered number) args.now }
+{
+    match Constant::from_number(number) {
+        Some(operation) => operation_on(operation, args),
+        None => Expression::Other,
+    }
+}
+
+// A literal on these arguments.
+fn leaf(value: Value, args: &[TermId]) -> Expression
+    ensures { result ≡ leaf_by value args.now }
+{
+    match args {
+        [] => Expression::Leaf(value),
+        _ => Expression::Other,
+    }
+}
+
+fn read_expression(alloc: Global, bank: &Bank, term: TermId) -> Result<Expression, Memory>
+    ensures is { IfOk result (λ e. IsExpression bank.now e (tree bank.now term.0)) }
+    ensures stands { IfOk result (λ e. term.0 < length bank.now.terms → StandsExpression (length bank.now.terms) e) }
+{
     let Spine { head, args } = spine_of(alloc, bank, term)?;
     match bank.term_node(head) {
-        TermNode::Int(value) if args.is_empty() => Ok(Expression::Leaf(Value::Number(value))),
-        TermNode::Text(_) if args.is_empty() => Ok(Expression::Leaf(Value::Text(head))),
+        TermNode::Int(value) => Ok(leaf(Value::Number(value), args.as_slice())),
+        TermNode::Text(_) => Ok(leaf(Value::Text(head), args.as_slice())),
         TermNode::Const(number, _) => Ok(applied(number, args.as_slice())),
         _ => Ok(Expression::Other),
     }
 }
 
-// A number that fits 64 bits.
-fn number(value: Option<i64>) -> Outcome {
-    match value {
-        Some(value) => Outcome::Is(Value::Number(value)),
-        None => Outcome::Faults(Fault::Overflow),
+// What an operation on integers gave.
+fn outcome_of(given: Result<i64, Fault>) -> Outcome
+    ensures { (b : Nodes) (o : Told) → GivesNumber given o → GivesValue b result o }
+{
+    match given {
+        Ok(value) => Outcome::Is(Value::Number(value)),
+        Err(fault) => Outcome::Faults(fault),
     }
 }
 
-fn on_numbers(operation: Constant, left: i64, right: i64) -> Outcome {
-    match operation {
-        Constant::Add => number(left.checked_add(right)),
-        Constant::Subtract => number(left.checked_sub(right)),
-        Constant::Multiply => number(left.checked_mul(right)),
-        Constant::Divide | Constant::Remainder if right == 0 => {
-            Outcome::Faults(Fault::ZeroDivisor)
+fn add_text(bank: &Bank, part: TermId, out: &mut Vec<u8>) -> Result<(), Memory>
+    ensures { OnOk result ((s : List ℕ) → tree bank.now part.0 ≡ atom (text s) → out.new.items ≡ out.old.items ++ s) }
+{
+    match bank.term_node(part) {
+        TermNode::Text(bytes) => {
+            out.extend_from_slice(bytes)?;
+            Ok(())
         }
-        Constant::Divide => number(left.checked_div(right)),
-        Constant::Remainder => number(left.checked_rem(right)),
-        _ => Outcome::Faults(Fault::NotClosed),
+        _ => Ok(()),
     }
 }
 
-fn add_text(bank: &Bank, text: TermId, out: &mut Vec<u8>) -> Result<(), Memory> {
-    if let TermNode::Text(bytes) = bank.term_node(text) {
-        out.extend_from_slice(bytes)?;
-    }
-    Ok(())
-}
-
-fn joined(alloc: Global, bank: &mut Bank, left: TermId, right: TermId) -> Result<TermId, Memory> {
+fn joined(alloc: Global, bank: &mut Bank, left: TermId, right: TermId) -> Result<TermId, Memory>
+    ensures kept { Extends bank.old bank.new }
+    ensures within { IfOk result (λ id. id.0 < length bank.new.terms) }
+    ensures joined { IfOk result (λ id. (a b : List ℕ) → tree bank.old left.0 ≡ atom (text a) → tree bank.old right.0 ≡ atom (text b) → tree bank.new id.0 ≡ atom (text (a ++ b))) }
+{
     let mut bytes = Vec::new(alloc);
     add_text(bank, left, &mut bytes)?;
     add_text(bank, right, &mut bytes)?;
-    put_text(bank, bytes.as_slice())
+    let text = put_text(bank, bytes.as_slice())?;
+    Ok(text)
+}
+
+fn on_texts(
+    alloc: Global,
+    bank: &mut Bank,
+    operation: Constant,
+    left: TermId,
+    right: TermId,
+) -> Result<Outcome, Memory>
+    ensures kept { Extends bank.old bank.new }
+    ensures gives { IfOk result (λ o. (a b : List ℕ) → tree bank.old left.0 ≡ atom (text a) → tree bank.old right.0 ≡ atom (text b) → GivesValue bank.new o (binary (number_of operation) (Bytes a) (Bytes b))) }
+{
+    match operation {
+        Constant::Concatenate => {
+            let both = joined(alloc, bank, left, right)?;
+            Ok(Outcome::Is(Value::Text(both)))
+        }
+        _ => Ok(Outcome::Faults(Fault::NotClosed)),
+    }
+}
+
+// A number in front of a value.
+fn with_number(operation: Constant, left: i64, right: Value) -> Outcome
+    ensures { (b : Nodes) (y : Meant) → IsValueIn b right y → GivesValue b result (binary (number_of operation) (a_number left) y) }
+{
+    match right {
+        Value::Number(other) => outcome_of(on_integers(operation, left, other)),
+        Value::Text(_) => Outcome::Faults(Fault::NotClosed),
+    }
+}
+
+// A text in front of a value.
+fn with_text(
+    alloc: Global,
+    bank: &mut Bank,
+    operation: Constant,
+    left: TermId,
+    right: Value,
+) -> Result<Outcome, Memory>
+    ensures kept { Extends bank.old bank.new }
+    ensures gives { IfOk result (λ o. (s : List ℕ) (y : Meant) → tree bank.old left.0 ≡ atom (text s) → IsValueIn bank.old right y → GivesValue bank.new o (binary (number_of operation) (Bytes s) y)) }
+{
+    match right {
+        Value::Number(_) => Ok(Outcome::Faults(Fault::NotClosed)),
+        Value::Text(other) => {
+            let outcome = on_texts(alloc, bank, operation, left, other)?;
+            Ok(outcome)
+        }
+    }
 }
 
 fn on_two(
@@ -122,69 +219,94 @@ fn on_two(
     operation: Constant,
     left: Value,
     right: Value,
-) -> Result<Outcome, Memory> {
-    match (left, right) {
-        (Value::Number(a), Value::Number(b)) => Ok(on_numbers(operation, a, b)),
-        (Value::Text(a), Value::Text(b)) => {
-            if operation != Constant::Concatenate {
-                return Ok(Outcome::Faults(Fault::NotClosed));
-            }
-            let text = joined(alloc, bank, a, b)?;
-            Ok(Outcome::Is(Value::Text(text)))
+) -> Result<Outcome, Memory>
+    ensures kept { Extends bank.old bank.new }
+    ensures gives { IfOk result (λ o. (x y : Meant) → IsValueIn bank.old left x → IsValueIn bank.old right y → GivesValue bank.new o (binary (number_of operation) x y)) }
+{
+    match left {
+        Value::Number(one) => Ok(with_number(operation, one, right)),
+        Value::Text(one) => {
+            let outcome = with_text(alloc, bank, operation, one, right)?;
+            Ok(outcome)
         }
-        _ => Ok(Outcome::Faults(Fault::NotClosed)),
     }
 }
 
-fn size_of_text(bank: &Bank, text: TermId) -> Outcome {
-    let TermNode::Text(bytes) = bank.term_node(text) else {
-        return Outcome::Faults(Fault::NotClosed);
-    };
-    number(i64::try_from(bytes.len()).ok())
-}
-
-fn on_one(bank: &Bank, operation: Constant, value: Value) -> Outcome {
-    match (operation, value) {
-        (Constant::Negate, Value::Number(a)) => number(a.checked_neg()),
-        (Constant::Size, Value::Text(text)) => size_of_text(bank, text),
+fn on_text(bank: &Bank, operation: Constant, part: TermId) -> Outcome
+    ensures { (s : List ℕ) → tree bank.now part.0 ≡ atom (text s) → GivesValue bank.now result (unary (number_of operation) (Bytes s)) }
+{
+    match bank.term_node(part) {
+        TermNode::Text(bytes) => outcome_of(on_length(operation, bytes.len())),
         _ => Outcome::Faults(Fault::NotClosed),
     }
 }
 
-// Looks at an expression: its value, or the operands first. An ending of the evaluation, if it comes to one.
+fn on_one(bank: &Bank, operation: Constant, value: Value) -> Outcome
+    ensures { (x : Meant) → IsValueIn bank.now value x → GivesValue bank.now result (unary (number_of operation) x) }
+{
+    match value {
+        Value::Number(a) => outcome_of(on_integer(operation, a)),
+        Value::Text(part) => on_text(bank, operation, part),
+    }
+}
+
+// What is left to do of an expression, or how the evaluation ends.
+fn put_expression(
+    expression: Expression,
+    tasks: &mut Vec<Task>,
+    values: &mut Vec<Value>,
+) -> Result<Option<Outcome>, Memory>
+    ensures { IfOk result (λ end. IsPut expression end tasks.old.items tasks.new.items values.old.items values.new.items) }
+{
+    match expression {
+        Expression::Leaf(value) => {
+            values.push(value)?;
+            Ok(None)
+        }
+        Expression::Two(operation, left, right) => {
+            tasks.push(Task::Two(operation))?;
+            tasks.push(Task::Visit(right))?;
+            tasks.push(Task::Visit(left))?;
+            Ok(None)
+        }
+        Expression::One(operation, arg) => {
+            tasks.push(Task::One(operation))?;
+            tasks.push(Task::Visit(arg))?;
+            Ok(None)
+        }
+        Expression::Other => Ok(Some(Outcome::Faults(Fault::NotClosed))),
+    }
+}
+
+// Looks at an expression: its value, or the operands first.
 fn visit(
     machine: &mut Machine,
     term: TermId,
     tasks: &mut Vec<Task>,
     values: &mut Vec<Value>,
-) -> Result<Option<Outcome>, Memory> {
+) -> Result<Option<Outcome>, Memory>
+    ensures bank { OnOk result (OnlyBank machine.old machine.new) }
+    ensures takes { IfOk result (λ end. TakesTask machine.old machine.new end (todo.Visit term) tasks.old.items tasks.new.items values.old.items values.new.items) }
+{
     let Some(form) = head_normal(machine, term)? else {
         return Ok(Some(Outcome::Deep));
     };
-    match read_expression(machine.alloc, &machine.bank, form)? {
-        Expression::Leaf(value) => values.push(value)?,
-        Expression::Two(operation, left, right) => {
-            tasks.push(Task::Two(operation))?;
-            tasks.push(Task::Visit(right))?;
-            tasks.push(Task::Visit(left))?;
-        }
-        Expression::One(operation, arg) => {
-            tasks.push(Task::One(operation))?;
-            tasks.push(Task::Visit(arg))?;
-        }
-        Expression::Other => return Ok(Some(Outcome::Faults(Fault::NotClosed))),
-    }
-    Ok(None)
+    let expression = read_expression(machine.alloc, &machine.bank, form)?;
+    let end = put_expression(expression, tasks, values)?;
+    Ok(end)
 }
 
-// Keeps the value of an operation. An ending of the evaluation, if it comes to one.
-fn keep(outcome: Outcome, values: &mut Vec<Value>) -> Result<Option<Outcome>, Memory> {
+// Keeps the value of an operation, or tells how the evaluation ends.
+fn keep(outcome: Outcome, values: &mut Vec<Value>) -> Result<Option<Outcome>, Memory>
+    ensures { IfOk result (λ end. IsKept outcome end values.old.items values.new.items) }
+{
     match outcome {
         Outcome::Is(value) => {
             values.push(value)?;
             Ok(None)
         }
-        _ => Ok(Some(outcome)),
+        Outcome::Faults(_) => Ok(Some(outcome)),
+        Outcome::Deep => Ok(Some(outcome)),
     }
 }
 
@@ -192,7 +314,10 @@ fn operate_on_two(
     machine: &mut Machine,
     operation: Constant,
     values: &mut Vec<Value>,
-) -> Result<Option<Outcome>, Memory> {
+) -> Result<Option<Outcome>, Memory>
+    ensures bank { OnOk result (OnlyBank machine.old machine.new) }
+    ensures takes { IfOk result (λ end. (ts : List Todo) → TakesTask machine.old machine.new end (todo.Two operation) ts ts values.old.items values.new.items) }
+{
     let Some(right) = values.pop() else {
         return Err(Memory);
     };
@@ -200,19 +325,24 @@ fn operate_on_two(
         return Err(Memory);
     };
     let outcome = on_two(machine.alloc, &mut machine.bank, operation, left, right)?;
-    keep(outcome, values)
+    let end = keep(outcome, values)?;
+    Ok(end)
 }
 
 fn operate_on_one(
-    machine: &Machine,
+    machine: &mut Machine,
     operation: Constant,
     values: &mut Vec<Value>,
-) -> Result<Option<Outcome>, Memory> {
+) -> Result<Option<Outcome>, Memory>
+    ensures bank { OnOk result (OnlyBank machine.old machine.new) }
+    ensures takes { IfOk result (λ end. (ts : List Todo) → TakesTask machine.old machine.new end (todo.One operation) ts ts values.old.items values.new.items) }
+{
     let Some(value) = values.pop() else {
         return Err(Memory);
     };
     let outcome = on_one(&machine.bank, operation, value);
-    keep(outcome, values)
+    let end = keep(outcome, values)?;
+    Ok(end)
 }
 
 fn take_task(
@@ -220,55 +350,137 @@ fn take_task(
     task: Task,
     tasks: &mut Vec<Task>,
     values: &mut Vec<Value>,
-) -> Result<Option<Outcome>, Memory> {
+) -> Result<Option<Outcome>, Memory>
+    ensures bank { OnOk result (OnlyBank machine.old machine.new) }
+    ensures takes { IfOk result (λ end. TakesTask machine.old machine.new end task tasks.old.items tasks.new.items values.old.items values.new.items) }
+{
     match task {
-        Task::Visit(term) => visit(machine, term, tasks, values),
-        Task::Two(operation) => operate_on_two(machine, operation, values),
-        Task::One(operation) => operate_on_one(machine, operation, values),
+        Task::Visit(term) => {
+            let end = visit(machine, term, tasks, values)?;
+            Ok(end)
+        }
+        Task::Two(operation) => {
+            let end = operate_on_two(machine, operation, values)?;
+            Ok(end)
+        }
+        Task::One(operation) => {
+            let end = operate_on_one(machine, operation, values)?;
+            Ok(end)
+        }
     }
 }
 
-fn is_visit(task: Task) -> bool {
+// Counts a task, where it may be taken: at most a million parts are looked at.
+fn counted(task: Task, visited: u64) -> Option<u64>
+    ensures { IsCounted task visited result }
+{
     match task {
-        Task::Visit(_) => true,
-        Task::Two(_) => false,
-        Task::One(_) => false,
+        Task::Visit(_) => {
+            if visited >= RUN_LIMIT {
+                return None;
+            }
+            Some(visited + 1)
+        }
+        Task::Two(_) => Some(visited),
+        Task::One(_) => Some(visited),
     }
+}
+
+// How the evaluation goes on behind a task.
+fn step_of(end: Option<Outcome>, count: u64) -> Step
+    ensures { IsStep end count result }
+{
+    match end {
+        None => Step::On(count),
+        Some(outcome) => Step::End(outcome),
+    }
+}
+
+// Takes a task where it may be counted.
+fn take_counted(
+    machine: &mut Machine,
+    task: Task,
+    tasks: &mut Vec<Task>,
+    values: &mut Vec<Value>,
+    visited: u64,
+) -> Result<Step, Memory>
+    ensures bank { OnOk result (OnlyBank machine.old machine.new) }
+    ensures goes { IfOk result (λ step. GoesFrom machine.old machine.new task tasks.old.items tasks.new.items values.old.items values.new.items visited step) }
+{
+    match counted(task, visited) {
+        None => Ok(Step::End(Outcome::Deep)),
+        Some(count) => {
+            let end = take_task(machine, task, tasks, values)?;
+            Ok(step_of(end, count))
+        }
+    }
+}
+
+// The value that is left.
+fn last_value(values: &mut Vec<Value>) -> Result<Outcome, Memory>
+    ensures { IfOk result (IsLast values.old.items) }
+{
+    let Some(last) = values.pop() else {
+        return Err(Memory);
+    };
+    Ok(Outcome::Is(last))
+}
+
+// Takes the next task. So many parts were looked at.
+fn go_on(
+    machine: &mut Machine,
+    tasks: &mut Vec<Task>,
+    values: &mut Vec<Value>,
+    visited: u64,
+) -> Result<Step, Memory>
+    ensures bank { OnOk result (OnlyBank machine.old machine.new) }
+    ensures goes { IfOk result (λ step. (m : Machine) (term : TermId) → OnlyBank m machine.old → IsOnWay m machine.old term tasks.old.items values.old.items visited → IsStepOn step m machine.new term tasks.new.items values.new.items) }
+{
+    let Some(task) = tasks.pop() else {
+        let outcome = last_value(values)?;
+        return Ok(Step::End(outcome));
+    };
+    let step = take_counted(machine, task, tasks, values, visited)?;
+    Ok(step)
 }
 
 /// Evaluates an expression, operands left to right before the operation.
-pub(crate) fn evaluate(machine: &mut Machine, term: TermId) -> Result<Outcome, Memory> {
+pub(crate) fn evaluate(machine: &mut Machine, term: TermId) -> Result<Outcome, Memory>
+    ensures bank { OnOk result (OnlyBank machine.old machine.new) }
+    ensures value { IfOk result (λ outcome. term.0 < length machine.old.bank.terms → (z : Closing) → IsOpenReading machine.old.bank machine.old.bindings machine.old.branch.next z → EvaluatesTo machine.new.bank outcome (closed z (tree machine.old.bank term.0))) }
+{
     let mut tasks = Vec::new(machine.alloc);
     let mut values = Vec::new(machine.alloc);
     let mut visited = 0u64;
     tasks.push(Task::Visit(term))?;
-    for _ in 0..u64::MAX {
-        let Some(task) = tasks.pop() else {
-            return values.pop().map(Outcome::Is).ok_or(Memory);
-        };
-        if is_visit(task) {
-            if visited >= RUN_LIMIT {
-                return Ok(Outcome::Deep);
-            }
-            visited += 1;
-        }
-        if let Some(outcome) = take_task(machine, task, &mut tasks, &mut values)? {
-            return Ok(outcome);
+    'tasks: for _ in 0..u64::MAX {
+        match go_on(machine, &mut tasks, &mut values, visited)? {
+            Step::On(count) => visited = count,
+            Step::End(outcome) => return Ok(outcome),
         }
     }
     Err(Memory)
 }
 
 /// The term of a value.
-pub(crate) fn term_of(bank: &mut Bank, value: Value) -> Result<TermId, Memory> {
+pub(crate) fn term_of(bank: &mut Bank, value: Value) -> Result<TermId, Memory>
+    ensures kept { Extends bank.old bank.new }
+    ensures within { IfOk result (λ id. (m : Meant) → IsValueIn bank.old value m → id.0 < length bank.new.terms) }
+    ensures tree { IfOk result (λ id. (m : Meant) → IsValueIn bank.old value m → tree bank.new id.0 ≡ meant_term m) }
+{
     match value {
-        Value::Number(number) => put_integer(bank, number),
+        Value::Number(number) => {
+            let id = put_integer(bank, number)?;
+            Ok(id)
+        }
         Value::Text(text) => Ok(text),
     }
 }
 
 /// Whether the order holds.
-pub(crate) fn holds(order: Compare, left: i64, right: i64) -> bool {
+pub(crate) fn holds(order: Compare, left: i64, right: i64) -> bool
+    ensures { result ≡ ordered (order_number order) left right }
+{
     match order {
         Compare::Less => left < right,
         Compare::Greater => left > right,

@@ -1,13 +1,20 @@
 // Atomic goals: a step each.
-ghost use Rattle.std.specs.Prelude.{◌≡◌, ℕ, List, length, IfOk, OnOk};
+ghost use Rattle.std.specs.Prelude.{◌≡◌, ℕ, List, None, length, IfOk, OnOk, Ok};
 ghost use Rattle.lp_model.specs.Branch.{Branch, Task};
 ghost use Rattle.lp_model.specs.Skeleton.{State};
+ghost use Rattle.lp_plain.specs.declared.arithmetic.Outcome.TheVariants as code;
 ghost use Rattle.lp_plain.specs.declared.outcome.Turn.{Turn};
 ghost use Rattle.lp_plain.specs.declared.table.Flat.{Flat};
+ghost use Rattle.lp_term.specs.Nodes.{tree};
+ghost use Rattle.lp_plain.specs.Assigned.{Assigns, Compares, ComparesBy, IsAssigned, IsNumber, IsNumberOr, turn_if};
+ghost use Rattle.lp_plain.specs.AtRunTime.{HasNoCall, IsAtLooked, IsAtomForm};
 ghost use Rattle.lp_plain.specs.Cuts.{CutsOff};
 ghost use Rattle.lp_plain.specs.Assuming.{KeepsAssumed};
+ghost use Rattle.lp_plain.specs.Calling.{AtomTurns, CallLeads, IsLookedAs};
 ghost use Rattle.lp_plain.specs.Entries.{Around, KeepsGoals};
-ghost use Rattle.lp_plain.specs.Moving.{HasFreeTypes, IsAtGoal, IsAtTry, IsRunning, IsTrying, LeadsTo, MovesTo, Query};
+ghost use Rattle.lp_plain.specs.Forms.{StandsForm};
+ghost use Rattle.lp_plain.specs.HeadLooks.{OnlyBank};
+ghost use Rattle.lp_plain.specs.Moving.{IsAtGoal, IsAtTry, IsRunning, IsTrying, LeadsTo, MovesTo, Query};
 ghost use Rattle.lp_plain.specs.Stacks.{CutsTasks, HaveTasks, IsMarkOf};
 ghost use Rattle.lp_plain.specs.Within.{StandsIn};
 ghost use Rattle.lp_plain.specs.WrittenSearch.{IsWrittenSearch};
@@ -55,25 +62,57 @@ fn tell_goal<W: Watch>(
     }
 }
 
-fn assign(machine: &mut Machine, left: TermId, right: TermId, level: u64) -> Result<Turn, Memory> {
+fn assign(machine: &mut Machine, left: TermId, right: TermId, level: u64) -> Result<Turn, Memory>
+    ensures { IfOk result (Assigns machine.old machine.new left right level) }
+{
     match evaluate(machine, right)? {
         Outcome::Deep => Ok(Turn::Ended(Ending::Deep)),
         Outcome::Faults(fault) => Ok(Turn::Ended(Ending::Arithmetic(fault))),
         Outcome::Is(value) => {
-            let term = term_of(&mut machine.bank, value)?;
-            let unified = equate(machine, left, term, level)?;
-            Ok(turn_of(unified))
+            let turn = assign_value(machine, left, value, level)?;
+            Ok(turn)
         }
     }
 }
 
+// Makes the term and the value one.
+fn assign_value(
+    machine: &mut Machine,
+    left: TermId,
+    value: Value,
+    level: u64,
+) -> Result<Turn, Memory>
+    ensures { IfOk result (IsAssigned machine.old machine.new left level value) }
+{
+    let term = term_of(&mut machine.bank, value)?;
+    let unified = equate(machine, left, term, level)?;
+    Ok(turn_of(unified))
+}
+
 // The number that an expression is, or how the search ends.
-fn number(machine: &mut Machine, term: TermId) -> Result<Result<i64, Ending>, Memory> {
-    match evaluate(machine, term)? {
-        Outcome::Deep => Ok(Err(Ending::Deep)),
-        Outcome::Faults(fault) => Ok(Err(Ending::Arithmetic(fault))),
-        Outcome::Is(Value::Number(value)) => Ok(Ok(value)),
-        Outcome::Is(Value::Text(_)) => Ok(Err(Ending::Arithmetic(Fault::NotClosed))),
+fn number(machine: &mut Machine, term: TermId) -> Result<Result<i64, Ending>, Memory>
+    ensures { IfOk result (IsNumber machine.old machine.new term) }
+{
+    let outcome = evaluate(machine, term)?;
+    Ok(number_of(outcome))
+}
+
+fn number_of(outcome: Outcome) -> Result<i64, Ending>
+    ensures { IsNumberOr outcome result }
+{
+    match outcome {
+        Outcome::Deep => Err(Ending::Deep),
+        Outcome::Faults(fault) => Err(Ending::Arithmetic(fault)),
+        Outcome::Is(value) => number_in(value),
+    }
+}
+
+fn number_in(value: Value) -> Result<i64, Ending>
+    ensures { IsNumberOr (code.Is value) result }
+{
+    match value {
+        Value::Number(number) => Ok(number),
+        Value::Text(_) => Err(Ending::Arithmetic(Fault::NotClosed)),
     }
 }
 
@@ -82,20 +121,40 @@ fn compare(
     order: Compare,
     left: TermId,
     right: TermId,
-) -> Result<Turn, Memory> {
-    let one = match number(machine, left)? {
-        Ok(value) => value,
-        Err(ending) => return Ok(Turn::Ended(ending)),
-    };
-    let other = match number(machine, right)? {
-        Ok(value) => value,
-        Err(ending) => return Ok(Turn::Ended(ending)),
-    };
-    if holds(order, one, other) {
-        Ok(Turn::On)
-    } else {
-        Ok(Turn::Back)
+) -> Result<Turn, Memory>
+    ensures { IfOk result (Compares machine.old machine.new order left right) }
+{
+    match number(machine, left)? {
+        Ok(one) => {
+            let turn = compare_with(machine, order, one, right)?;
+            Ok(turn)
+        }
+        Err(ending) => Ok(Turn::Ended(ending)),
     }
+}
+
+// Compares with the number that the expression is.
+fn compare_with(
+    machine: &mut Machine,
+    order: Compare,
+    one: i64,
+    right: TermId,
+) -> Result<Turn, Memory>
+    ensures { IfOk result (ComparesBy (Ok one) machine.old machine.new order right) }
+{
+    match number(machine, right)? {
+        Ok(other) => Ok(turn_by(holds(order, one, other))),
+        Err(ending) => Ok(Turn::Ended(ending)),
+    }
+}
+
+fn turn_by(holds: bool) -> Turn
+    ensures { result ≡ turn_if holds }
+{
+    if holds {
+        return Turn::On;
+    }
+    Turn::Back
 }
 
 // Keeps the candidates behind one of them as an alternative.
@@ -122,7 +181,7 @@ pub(crate) fn try_candidate(
     candidate: Candidate,
 ) -> Result<Turn, Memory>
     ensures written { OnOk result ((qv : Query) (a : Around) (s : State Task) → IsTrying qv machine.old a call.now candidate s → IsWrittenSearch machine.old qv.arity → IsWrittenSearch machine.new qv.arity) }
-    ensures leads { IfOk result (λ turn. (qv : Query) (a : Around) (s : State Task) → IsTrying qv machine.old a call.now candidate s → StandsWritten machine.old qv.arity → HasFreeTypes machine.new → LeadsTo 1 qv turn machine.new s) }
+    ensures leads { IfOk result (λ turn. (qv : Query) (a : Around) (s : State Task) → IsTrying qv machine.old a call.now candidate s → StandsWritten machine.old qv.arity → LeadsTo 1 qv turn machine.new s) }
 {
     let mark = machine.choices.len();
     put_others(machine, call, candidate)?;
@@ -130,6 +189,44 @@ pub(crate) fn try_candidate(
     Ok(turn_of(unified))
 }
 
+// The call of an atom, with its first argument as it was looked at; none where that is too deep.
+fn looked_call(
+    machine: &mut Machine,
+    goal: TermId,
+    head: Head,
+    first: Option<TermId>,
+    place: Place,
+    behind: Option<usize>,
+) -> Result<Option<Call>, Memory>
+    ensures only { OnOk result (OnlyBank machine.old machine.new) }
+    ensures looks { IfOk result (IsLookedAs machine.old machine.new (record { goal = goal; head = head; first = None; key = None; place = place; behind = behind }) first) }
+{
+    let Some(arg) = first else {
+        return Ok(Some(Call {
+            goal,
+            head,
+            first: None,
+            key: None,
+            place,
+            behind,
+        }));
+    };
+    let looked = head_normal(machine, arg)?;
+    let Some(form) = looked else {
+        return Ok(None);
+    };
+    let key = key_of(&machine.bank, form);
+    Ok(Some(Call {
+        goal,
+        head,
+        first: Some(form),
+        key,
+        place,
+        behind,
+    }))
+}
+
+// Tries the clauses for an atom whose step was taken.
 fn take_call(
     machine: &mut Machine,
     goal: TermId,
@@ -137,28 +234,19 @@ fn take_call(
     first: Option<TermId>,
     place: Place,
     behind: Option<usize>,
-) -> Result<Turn, Memory> {
-    let mut looked = None;
-    let mut key = None;
-    if let Some(arg) = first {
-        let Some(form) = head_normal(machine, arg)? else {
-            return Ok(Turn::Ended(Ending::Deep));
-        };
-        looked = Some(form);
-        key = key_of(&machine.bank, form);
-    }
-    let call = Call {
-        goal,
-        head,
-        first: looked,
-        key,
-        place,
-        behind,
+) -> Result<Turn, Memory>
+    ensures leads { IfOk result (CallLeads machine.old machine.new place goal head first behind) }
+{
+    let looked = looked_call(machine, goal, head, first, place, behind)?;
+    let Some(call) = looked else {
+        return Ok(Turn::Ended(Ending::Deep));
     };
-    match machine.first_candidate(&call)? {
-        Some(candidate) => try_candidate(machine, &call, candidate),
-        None => Ok(Turn::Back),
-    }
+    let found = machine.first_candidate(&call)?;
+    let Some(candidate) = found else {
+        return Ok(Turn::Back);
+    };
+    let turn = try_candidate(machine, &call, candidate)?;
+    Ok(turn)
 }
 
 /// Takes an atomic goal: one step.
@@ -169,7 +257,11 @@ pub(crate) fn take_atom<W: Watch>(
     form: Form,
     place: Place,
     behind: Option<usize>,
-) -> Result<Turn, Memory> {
+) -> Result<Turn, Memory>
+    ensures leads { IfOk result (λ turn. (qv : Query) (a : Around) (raw : Branch) (s : State Task) (h : IsRunning qv machine.old a raw s) → IsAtLooked machine.old h.closing a place goal behind raw → IsAtomForm machine.old.bank (tree machine.old.bank goal.0) form →
+        StandsForm (length machine.old.bank.terms) form → HasNoCall h.at_work.goals → LeadsTo 1 qv turn machine.new s) }
+    ensures calls { IfOk result (AtomTurns machine.old machine.new place goal form behind) }
+{
     if !take_step(machine) {
         return Ok(Turn::Ended(Ending::Steps));
     }
@@ -180,11 +272,20 @@ pub(crate) fn take_atom<W: Watch>(
             let unified = equate(machine, left, right, place.level)?;
             Ok(turn_of(unified))
         }
-        Form::Is(left, right) => assign(machine, left, right, place.level),
-        Form::Order(order, left, right) => compare(machine, order, left, right),
-        Form::Call(head, first) => take_call(machine, goal, head, first, place, behind),
+        Form::Is(left, right) => {
+            let turn = assign(machine, left, right, place.level)?;
+            Ok(turn)
+        }
+        Form::Order(order, left, right) => {
+            let turn = compare(machine, order, left, right)?;
+            Ok(turn)
+        }
+        Form::Call(head, first) => {
+            let turn = take_call(machine, goal, head, first, place, behind)?;
+            Ok(turn)
+        }
         Form::Flexible => Ok(Turn::Ended(Ending::Flexible)),
-        _ => Ok(Turn::Back),
+        Form::Other => Ok(Turn::Back),
     }
 }
 

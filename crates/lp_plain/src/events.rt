@@ -1,9 +1,18 @@
 // A search, from one event to the next.
-ghost use Rattle.std.specs.Prelude.{◌≡◌, true, false, length, Ok, None, Some, IfOk, OnOk, OnErr, IsErr};
+ghost use Rattle.std.specs.Prelude.{◌≡◌, ℕ, List, true, false, length, Ok, None, Some, IfOk, OnOk, OnErr, IsErr};
+ghost use Rattle.lp_model.specs.Branch.{Answer, Task};
+ghost use Rattle.lp_model.specs.Events.{Advances, Event as Happens};
+ghost use Rattle.lp_model.specs.Flat.{Clause};
+ghost use Rattle.lp_model.specs.Search.{look};
+ghost use Rattle.lp_model.specs.Skeleton.{State};
+ghost use Rattle.lp_model.specs.Unify.{unit_limit};
 ghost use Rattle.lp_model.specs.declared.ending.Ending.{Ending};
 ghost use Rattle.lp_model.specs.declared.answer.Event.TheVariants as told;
 ghost use Rattle.lp_model.specs.Whole.{IsTold, Keeps};
 ghost use Rattle.lp_plain.specs.Held.{variables_of, query_of, ended, failed};
+ghost use Rattle.lp_plain.specs.Telling.{AreEnough, IsEventOf};
+ghost use Rattle.lp_plain.specs.inner.Between.{IsBetween, IsNoted, IsToTell};
+ghost use Rattle.lp_plain.specs.inner.Following.{Course, Stands, turn_told};
 
 use crate::answer::answer_of;
 use crate::machine::Machine;
@@ -22,22 +31,57 @@ enum Told {
     Ended(Ending),
 }
 
+// Tells that the search goes back, where it does.
+fn tell_turn<W: Watch>(
+    machine: &Machine,
+    crowd: &mut Crowd<'_, W>,
+    turn: Turn,
+) -> Result<(), Memory> {
+    if turn == Turn::Back {
+        return tell_back(machine, crowd);
+    }
+    Ok(())
+}
+
+// One turn: the first goal of the branch at work, or the newest alternative.
+fn take_turn<W: Watch>(
+    machine: &mut Machine,
+    crowd: &mut Crowd<'_, W>,
+    turn: Turn,
+) -> Result<Turn, Memory>
+    ensures stands { IfOk result (λ next. (c : Course) → Stands c turn machine.old → Stands c next machine.new) }
+{
+    match turn {
+        Turn::On => {
+            let next = take_goal(machine, crowd)?;
+            tell_turn(machine, crowd, next)?;
+            Ok(next)
+        }
+        Turn::Back => {
+            let next = go_back(machine)?;
+            tell_turn(machine, crowd, next)?;
+            Ok(next)
+        }
+        Turn::Answered => Ok(Turn::Answered),
+        Turn::Ended(ending) => Ok(Turn::Ended(ending)),
+    }
+}
+
 // Goes on until something is to be told.
 fn run<W: Watch>(
     machine: &mut Machine,
     crowd: &mut Crowd<'_, W>,
     first: Turn,
-) -> Result<Told, Memory> {
+) -> Result<Told, Memory>
+    ensures stands { IfOk result (λ told. (c : Course) → Stands c first machine.old → Stands c (turn_told told) machine.new) }
+{
     let mut turn = first;
-    for _ in 0..u64::MAX {
-        turn = match turn {
-            Turn::On => take_goal(machine, crowd)?,
-            Turn::Back => go_back(machine)?,
+    'turns: for _ in 0..u64::MAX {
+        match turn {
             Turn::Answered => return Ok(Told::Answered),
             Turn::Ended(ending) => return Ok(Told::Ended(ending)),
-        };
-        if turn == Turn::Back {
-            tell_back(machine, crowd)?;
+            Turn::On => turn = take_turn(machine, crowd, Turn::On)?,
+            Turn::Back => turn = take_turn(machine, crowd, Turn::Back)?,
         }
     }
     Err(Memory)
@@ -79,6 +123,8 @@ impl Search {
         ensures told { IsTold (variables_of self.old) result }
         ensures ended { Keeps result (ended self.new) }
         ensures failed { failed self.new ≡ failed self.old }
+        ensures is { result ≡ told.Ended ending }
+        ensures now { ended self.new ≡ Some ending }
     {
         self.ended = Some(ending);
         Event::Ended(ending)
@@ -91,6 +137,7 @@ impl Search {
         ensures query { query_of self.new ≡ query_of self.old }
         ensures ended { ended self.new ≡ ended self.old }
         ensures failed { failed self.new ≡ failed self.old }
+        ensures rests { OnOk result (IsNoted self.old self.new) }
     {
         self.given = self.given.saturating_add(1);
         self.machine.counts.row = 0;
@@ -101,6 +148,28 @@ impl Search {
         tell_back(&self.machine, crowd)
     }
 
+    // Goes on to the next event, where answers are wanted.
+    #[tactic(auto, unfolding(crate::specs::Held::variables_of, crate::specs::Held::query_of, crate::specs::Held::ended, crate::specs::Held::failed))]
+    fn go_on<W: Watch>(&mut self, crowd: &mut Crowd<'_, W>, first: Turn) -> Result<Event, Memory>
+        ensures variables { variables_of self.new ≡ variables_of self.old }
+        ensures query { query_of self.new ≡ query_of self.old }
+        ensures told { IfOk result (IsTold (variables_of self.old)) }
+        ensures ended { ended self.old ≡ None → IfOk result (λ event. Keeps event (ended self.new)) }
+        ensures failed { failed self.new ≡ failed self.old }
+        ensures search { IfOk result (λ event. (c : Course) → IsToTell self.old c → Stands c first self.old.machine → AreEnough event c.enough → IsEventOf c.event event × IsBetween c.program c.enough self.new c.after) }
+    {
+        let found = run(&mut self.machine, crowd, first)?;
+        match found {
+            Told::Ended(ending) => Ok(self.end(ending)),
+            Told::Answered => {
+                self.tell_answer(crowd)?;
+                let count = self.variables.len();
+                let answer = answer_of(&mut self.machine, count)?;
+                Ok(Event::Answer(answer))
+            }
+        }
+    }
+
     #[tactic(auto, unfolding(crate::specs::Held::variables_of, crate::specs::Held::query_of, crate::specs::Held::ended, crate::specs::Held::failed))]
     fn advance<W: Watch>(&mut self, crowd: &mut Crowd<'_, W>) -> Result<Event, Memory>
         ensures variables { variables_of self.new ≡ variables_of self.old }
@@ -108,23 +177,17 @@ impl Search {
         ensures told { IfOk result (IsTold (variables_of self.old)) }
         ensures ended { ended self.old ≡ None → IfOk result (λ event. Keeps event (ended self.new)) }
         ensures failed { failed self.new ≡ failed self.old }
+        ensures search { IfOk result (λ event. ended self.old ≡ None → (P : List Clause) (n : ℕ) (s : State Task) → IsBetween P n self.old s → AreEnough event n → (x : Happens Answer) (t : State Task) → Advances (look unit_limit n P) s x t → IsEventOf x event × IsBetween P n self.new t) }
     {
         if self.given >= self.answers {
             return Ok(self.end(Ending::Enough));
         }
-        let first = if self.given == 0 {
-            Turn::On
-        } else {
-            Turn::Back
-        };
-        match run(&mut self.machine, crowd, first)? {
-            Told::Ended(ending) => Ok(self.end(ending)),
-            Told::Answered => {
-                self.tell_answer(crowd)?;
-                let answer = answer_of(&mut self.machine, &self.variables)?;
-                Ok(Event::Answer(answer))
-            }
+        if self.given == 0 {
+            let event = self.go_on(crowd, Turn::On)?;
+            return Ok(event);
         }
+        let event = self.go_on(crowd, Turn::Back)?;
+        Ok(event)
     }
 
     /// The next answer, or how the search ended. After an end the same end, after `Memory` always `Memory`.

@@ -1,7 +1,8 @@
 // What an atomic goal is by its head-normal form.
-ghost use Rattle.std.specs.Prelude.{◌≡◌, IfOk};
+ghost use Rattle.std.specs.Prelude.{◌≡◌, length, IfOk};
 ghost use Rattle.lp_term.specs.Nodes.{tree};
-ghost use Rattle.lp_plain.specs.Forms.{relation_by, by_two, by_constant, IsForm};
+ghost use Rattle.lp_plain.specs.Calling.{IsFirstIn};
+ghost use Rattle.lp_plain.specs.Forms.{relation_by, by_two, by_constant, IsForm, StandsForm};
 
 use crate::head::Head;
 use lp_base::{Compare, Memory};
@@ -60,7 +61,9 @@ fn of_constant(number: u32, args: &[TermId]) -> Form
 
 /// What a head-normal atomic goal is.
 pub(crate) fn form_of(alloc: Global, bank: &Bank, goal: TermId) -> Result<Form, Memory>
-    ensures { IfOk result (IsForm bank.now (tree bank.now goal.0)) }
+    ensures form { IfOk result (IsForm bank.now (tree bank.now goal.0)) }
+    ensures within { IfOk result (IsFirstIn (length bank.now.terms)) }
+    ensures stands { IfOk result (StandsForm (length bank.now.terms)) }
 {
     let Spine { head, args } = spine_of(alloc, bank, goal)?;
     match bank.term_node(head) {

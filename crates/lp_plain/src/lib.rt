@@ -45,6 +45,8 @@ mod openness;
 mod scope;
 // How the search goes on, and what is counted on its way.
 mod outcome;
+// What the operations give on integers.
+mod operation;
 // Goals that are taken apart.
 mod parts;
 // A search, between its events.

@@ -1,14 +1,22 @@
 // What a search works on: one bank and one list of bindings for all branches. An alternative holds what leads back to
 // its branch.
-ghost use Rattle.std.specs.Prelude.{◌≡◌, ℕ, ◌∷◌, ◌++◌, [], List, OnOk, IfOk, IfSome, length, ◌≤◌, nat_lt, take, slice_get, Option, None, Some};
+ghost use Rattle.std.specs.Prelude.{◌≡◌, ℕ, ◌∷◌, ◌++◌, [], List, OnOk, IfOk, IfSome, length, ◌<◌, ◌≤◌, nat_lt, take, filter, slice_get, Option, None, Some};
 ghost use Rattle.lp_calculus.specs.Term.{Term};
 ghost use Rattle.lp_plain.specs.declared.choice.Choice.{Choice};
 ghost use Rattle.lp_model.specs.Branch.{Entry, Task};
 ghost use Rattle.lp_model.specs.Flat.{Clause, Clauses, Goal};
-ghost use Rattle.lp_model.specs.Search.{candidates};
+ghost use Rattle.lp_model.specs.Search.{candidates, has_head, passes};
 ghost use Rattle.lp_plain.specs.Assuming.{HasAssumed, HasFrameAt, KeepsAssumed, lists_of};
 ghost use Rattle.lp_plain.specs.Cuts.{cut_off};
 ghost use Rattle.lp_plain.specs.Entries.{Around, AreTodo, IsListAt, HasAlternative, KeepsGoals, Reads, placed};
+ghost use Rattle.lp_calculus.specs.Instance.{instance_term};
+ghost use Rattle.lp_model.specs.Index.{instantiate};
+ghost use Rattle.lp_term.specs.Nodes.{tree};
+ghost use Rattle.lp_term.specs.declared.node.TermId.{TermId};
+ghost use Rattle.lp_plain.specs.HeadLooks.{OnlyBank};
+ghost use Rattle.lp_plain.specs.Instances.{AreValues, values_of};
+ghost use Rattle.lp_plain.specs.Renewal.{renewing};
+ghost use Rattle.lp_plain.specs.Written.{IsWritten};
 ghost use Rattle.lp_plain.specs.Keeping.{HasOneMore, IsAround, KeepsCourse};
 ghost use Rattle.lp_plain.specs.Marks.{PutsMarks};
 ghost use Rattle.lp_plain.specs.Moving.{BindsNone, IsBack, IsTrying, Query};
@@ -19,9 +27,9 @@ ghost use Rattle.lp_plain.specs.declared.choice.Untried.{Untried as Left};
 ghost use Rattle.lp_model.specs.Skeleton.{State};
 ghost use Rattle.lp_plain.specs.Opening.{IsNewVariable};
 ghost use Rattle.lp_plain.specs.Restoring.{IsRestored, IsTaken};
-ghost use Rattle.lp_plain.specs.Scopes.{block_count, blocks_of, value_count};
+ghost use Rattle.lp_plain.specs.Scopes.{IsScope, block_count, blocks_of, value_count};
 ghost use Rattle.lp_plain.specs.Tables.{shown};
-ghost use Rattle.lp_plain.specs.Trying.{AreApplied, AreOfProgram, AreTries, HasProgram, IsCallOf, IsNext, IsTried, all_clauses, first_in};
+ghost use Rattle.lp_plain.specs.Trying.{AreApplied, AreOfProgram, AreTries, AreTriesApart, HasProgram, IsCallOf, IsNext, IsTried, all_clauses, first_in};
 ghost use Rattle.lp_plain.specs.Within.{IsTodoIn, StandsIn};
 ghost use Rattle.lp_plain.specs.WrittenTable.{PutsList};
 
@@ -156,7 +164,12 @@ impl Machine {
     }
 
     /// The clause's term in a place.
-    pub(crate) fn instance(&mut self, term: TermId, place: Place) -> Result<TermId, Memory> {
+    pub(crate) fn instance(&mut self, term: TermId, place: Place) -> Result<TermId, Memory>
+        ensures bank { OnOk result (OnlyBank self.old self.new) }
+        ensures within { IfOk result (λ id. id.0 < length self.new.bank.terms) }
+        ensures tree { IfOk result (λ id. (nb nv : ℕ) → (vs : List TermId) → IsScope self.old.scopes nb nv place.values.scope vs → AreValues self.old.bank vs → (ar : ℕ → ℕ) → (k : ℕ) → IsWritten ar k (length vs) (tree self.old.bank term.0) →
+            tree self.new.bank id.0 ≡ instantiate (values_of self.old.bank vs) (instance_term (renewing place.values.types) (tree self.old.bank term.0))) }
+    {
         instance(self.alloc, &mut self.bank, &self.scopes, place.values, term)
     }
 
@@ -164,6 +177,8 @@ impl Machine {
     pub(crate) fn first_candidate(&self, call: &Call) -> Result<Option<Candidate>, Memory>
         ensures tries { IfOk result (λ found. (ar : ℕ → ℕ) (css : List Clauses) (before : List Clause) (t : Term) → HasProgram self.now css → HasAssumed (lists_of self.now) call.now.place.assumed before → IsCallOf ar self.now.bank call.now t →
             AreOfProgram ar (all_clauses css) → AreApplied ar before → AreTries (lists_of self.now) (first_in self.now call.now.head) call.now.key found (candidates (all_clauses css) before t)) }
+        ensures apart { IfOk result (λ found. (ar : ℕ → ℕ) (css : List Clauses) (before : List Clause) (t : Term) → HasProgram self.now css → HasAssumed (lists_of self.now) call.now.place.assumed before → IsCallOf ar self.now.bank call.now t →
+            AreOfProgram ar (all_clauses css) → AreApplied ar before → AreTriesApart (lists_of self.now) (first_in self.now call.now.head) call.now.key found (filter (has_head t) before) (filter (passes t) (all_clauses css))) }
     {
         let found = first_candidate(
             &self.bank,
@@ -283,6 +298,9 @@ impl Machine {
     pub(crate) fn drop_denied(&mut self, number: usize)
         ensures dropped { self.new.choices.items ≡ take number self.old.choices.items }
         ensures steps { self.new.counts.steps ≡ self.old.counts.steps }
+        ensures goals { KeepsGoals self.old self.new }
+        ensures frames { self.new.frames ≡ self.old.frames }
+        ensures assumed { KeepsAssumed self.old self.new }
         ensures around { IfSome (slice_get self.old.choices.items number) (λ c. IsAround c.untried self.new) }
     {
         if let Some(

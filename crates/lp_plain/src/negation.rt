@@ -11,7 +11,7 @@ ghost use Rattle.lp_plain.specs.Entries.{Around as Reading, GrowsGoals, IsBehind
 ghost use Rattle.lp_plain.specs.Keeping.{HasOneMore};
 ghost use Rattle.lp_plain.specs.Negations.{denial, AreFound, IsDenied, Takes};
 ghost use Rattle.lp_plain.specs.Within.{StandsIn};
-ghost use Rattle.lp_plain.specs.WrittenSearch.{WritesList};
+ghost use Rattle.lp_plain.specs.WrittenSearch.{IsWrittenSearch, WritesList};
 
 use crate::choice::{Denial, Untried};
 use crate::frame::Place;
@@ -116,6 +116,7 @@ pub(crate) fn end_branch(machine: &mut Machine) -> Turn
     ensures answered { machine.old.denied ≡ None → result ≡ Turn.Answered }
     ensures same { machine.old.denied ≡ None → machine.new ≡ machine.old }
     ensures pairs { (number : ℕ) → machine.old.denied ≡ Some number → machine.old.branch.pairs.items ≢ [] → result ≡ Turn.Ended Ending.OpenNot }
+    ensures written { (ar : ℕ → ℕ) → StandsIn machine.old → IsWrittenSearch machine.old ar → IsWrittenSearch machine.new ar }
     ensures fails { (number : ℕ) → machine.old.denied ≡ Some number → machine.old.branch.pairs.items ≡ [] → (result ≡ Turn.Back) × (machine.new.choices.items ≡ take number machine.old.choices.items) }
     ensures steps { machine.new.counts.steps ≡ machine.old.counts.steps }
 {
@@ -136,6 +137,7 @@ pub(crate) fn end_denial(machine: &mut Machine, denial: Denial) -> Turn
     ensures holds { machine.old.counts.lost ≡ false → result ≡ Turn.On }
     ensures around { machine.new.denied ≡ denial.around }
     ensures lost { machine.new.counts.lost ≡ denial.lost }
+    ensures written { (ar : ℕ → ℕ) → IsWrittenSearch machine.old ar → IsWrittenSearch machine.new ar }
     ensures behind { machine.new.branch.goals ≡ denial.behind }
     ensures steps { machine.new.counts.steps ≡ machine.old.counts.steps }
 {

@@ -218,6 +218,7 @@ fn put_and(
     ensures grown { OnOk result (GrowsAt machine.old machine.new place) }
     ensures written { OnOk result (WritesWhere machine.old machine.new (IsShut machine.old.bank left × IsShut machine.old.bank right)) }
     ensures choices { OnOk result (machine.new.choices.items ≡ machine.old.choices.items) }
+    ensures none { OnOk result (BindsNone machine.old machine.new) }
     ensures stands { OnOk result (left.0 < length machine.old.bank.terms → right.0 < length machine.old.bank.terms → StandsIn machine.old → StandsIn machine.new) }
     ensures parts { OnOk result ((a : Around) (b : Branch) → IsBehind machine.old a behind b → (u n height : ℕ) (P : List Clause) (t : Term) (g : Goal) →
         ArePartsOf machine.old machine.new a (look_form u n P height (entry_at a place g) b t (two_sided.And (tree machine.old.bank left.0) (tree machine.old.bank right.0)))) }
@@ -236,6 +237,8 @@ fn put_or(
     behind: Option<usize>,
 ) -> Result<(), Memory>
     ensures counts { machine.new.counts ≡ machine.old.counts }
+    ensures none { OnOk result (BindsNone machine.old machine.new) }
+    ensures aside_with { OnOk result (PutsWith machine.old machine.new) }
     ensures grown { OnOk result (GrowsAt machine.old machine.new place) }
     ensures written { OnOk result (WritesWhere machine.old machine.new (IsShut machine.old.bank left × IsShut machine.old.bank right)) }
     ensures stands { OnOk result (left.0 < length machine.old.bank.terms → right.0 < length machine.old.bank.terms → StandsIn machine.old → StandsIn machine.new) }
@@ -254,6 +257,7 @@ fn put_or(
 // The term on a value.
 fn applied(machine: &mut Machine, term: TermId, value: TermId) -> Result<TermId, Memory>
     ensures counts { machine.new.counts ≡ machine.old.counts }
+    ensures none { BindsNone machine.old machine.new }
     ensures grows { OnOk result (GrowsGoals machine.old machine.new) }
     ensures frames { machine.new.frames ≡ machine.old.frames }
     ensures assumed { KeepsAssumed machine.old machine.new }
@@ -277,6 +281,7 @@ fn put_goal_of(
     behind: Option<usize>,
 ) -> Result<(), Memory>
     ensures counts { machine.new.counts ≡ machine.old.counts }
+    ensures none { OnOk result (BindsNone machine.old machine.new) }
     ensures grown { OnOk result (GrowsAt machine.old machine.new place) }
     ensures written { OnOk result (WritesWhere machine.old machine.new (IsShut machine.old.bank term × IsShut machine.old.bank value)) }
     ensures choices { OnOk result (machine.new.choices.items ≡ machine.old.choices.items) }
@@ -298,6 +303,7 @@ fn put_for_all(
     behind: Option<usize>,
 ) -> Result<(), Memory>
     ensures counts { machine.new.counts ≡ machine.old.counts }
+    ensures none { OnOk result (BindsNone machine.old machine.new) }
     ensures grown { OnOk result (GrowsAt machine.old machine.new place) }
     ensures written { OnOk result (WritesWhere machine.old machine.new (IsShut machine.old.bank term)) }
     ensures choices { OnOk result (machine.new.choices.items ≡ machine.old.choices.items) }
@@ -318,6 +324,7 @@ fn put_exists(
     behind: Option<usize>,
 ) -> Result<(), Memory>
     ensures counts { machine.new.counts ≡ machine.old.counts }
+    ensures none { OnOk result (BindsNone machine.old machine.new) }
     ensures grown { OnOk result (GrowsAt machine.old machine.new place) }
     ensures written { OnOk result (WritesWhere machine.old machine.new (IsShut machine.old.bank term)) }
     ensures choices { OnOk result (machine.new.choices.items ≡ machine.old.choices.items) }
@@ -333,6 +340,7 @@ fn put_exists(
 // Goes on with the goals behind.
 fn go_behind(machine: &mut Machine, behind: Option<usize>)
     ensures counts { machine.new.counts ≡ machine.old.counts }
+    ensures none { BindsNone machine.old machine.new }
     ensures known { KeepsGoals machine.old machine.new }
     ensures frames { machine.new.frames ≡ machine.old.frames }
     ensures assumed { KeepsAssumed machine.old machine.new }
@@ -353,6 +361,8 @@ pub(crate) fn put_connective(
     behind: Option<usize>,
 ) -> Result<Turn, Memory>
     ensures counted { IfOk result (λ turn. IsApart turn machine.old.counts machine.new.counts) }
+    ensures none { IfOk result (λ turn. turn ≡ Turn.On → IsApartForm connective → BindsNone machine.old machine.new) }
+    ensures aside_with { IfOk result (λ turn. turn ≡ Turn.On → IsApartForm connective → PutsWith machine.old machine.new) }
     ensures written { IfOk result (λ turn. turn ≡ Turn.On → IsApartForm connective → WritesWhere machine.old machine.new (IsShutIn machine.old.bank connective)) }
     ensures taken { IfOk result (λ turn. turn ≡ Turn.On → IsApartForm connective → TakesKnown machine.old machine.new place connective behind) }
     ensures and { IfOk result (λ turn. turn ≡ Turn.On → (l r : TermId) → connective ≡ known.And l r → (a : Around) (b : Branch) → IsBehind machine.old a behind b → (u n height : ℕ) (P : List Clause) (t : Term) (g : Goal) →

@@ -1,26 +1,34 @@
 // The next goal of the branch at work, and the way back to an alternative.
-ghost use Rattle.std.specs.Prelude.{◌≡◌, ℕ, suc, Bool, ◌∷◌, ◌++◌, ◌<◌, ◌≤◌, [], List, drop, length, Option, None, IfOk, OnOk, Some, slice_get};
+ghost use Rattle.std.specs.Prelude.{◌≡◌, ℕ, suc, true, false, Bool, ◌∷◌, ◌++◌, ◌<◌, ◌≤◌, [], List, drop, length, Option, None, IfOk, OnOk, Some, slice_get};
 ghost use Rattle.lp_model.specs.Branch.{Answer, Branch, Task};
 ghost use Rattle.lp_model.specs.Flat.{Clause, Goals};
 ghost use Rattle.lp_model.specs.Skeleton.{Inner, State};
 ghost use Rattle.lp_plain.specs.declared.candidates.Candidate.{Candidate as Tried};
 ghost use Rattle.lp_plain.specs.declared.choice.Call.{Call as Called};
 ghost use Rattle.lp_plain.specs.declared.choice.Choice.{Choice};
+ghost use Rattle.lp_plain.specs.declared.choice.Denial.{Denial};
 ghost use Rattle.lp_plain.specs.declared.choice.Untried.{Untried};
 ghost use Rattle.lp_plain.specs.declared.outcome.Turn.{Turn};
 ghost use Rattle.lp_plain.specs.declared.table.Flat.{Flat};
 ghost use Rattle.lp_plain.specs.Apart.{IsApart};
 ghost use Rattle.lp_plain.specs.Assuming.{KeepsAssumed};
+ghost use Rattle.lp_standard.specs.Connectives.{connective_of};
+ghost use Rattle.lp_term.specs.Nodes.{Nodes, tree};
+ghost use Rattle.lp_model.specs.Connected.{connective_in};
+ghost use Rattle.lp_plain.specs.AtRunTime.{AreWrittenGoals, HasNoCall, IsAtomFirst, IsAtomForm, IsAtomOrNoForm, IsAtTerm, IsWrittenFlat};
+ghost use Rattle.lp_plain.specs.Calling.{IsCallable, IsFirstIn, LeadsOf, TermTurns};
 ghost use Rattle.lp_plain.specs.Entries.{Around, KeepsGoals};
+ghost use Rattle.lp_plain.specs.Forms.{StandsForm};
 ghost use Rattle.lp_plain.specs.Marks.{AreMarked, IsMarked, Marks, PutsAside, PutsMarks, SetsAside};
-ghost use Rattle.lp_plain.specs.Moving.{HasFreeTypes, IsBack, IsAtGoal, IsAtGoals, IsPlainFirst, IsRunning, IsState, LeadsTo, MovesTo, Query};
+ghost use Rattle.lp_plain.specs.Moving.{IsBack, IsAtGoal, IsAtGoals, IsPlainFirst, IsRunning, IsState, LeadsTo, MovesTo, Query};
 ghost use Rattle.lp_plain.specs.Restoring.{GoesBack};
 ghost use Rattle.lp_plain.specs.Searching.{EndsSo, GoesOnOrStops, IsBackOf, IsQuietMove, IsStateOf};
 ghost use Rattle.lp_plain.specs.Stacks.{base_of};
 ghost use Rattle.lp_plain.specs.Tables.{AreGoals, Never, shown};
-ghost use Rattle.lp_plain.specs.Taking.{FirstIsApart, IsApartFirst, IsApartFlat, TakesApart, TakesGoals};
+ghost use Rattle.lp_plain.specs.Taking.{FirstIsApart, IsApartFirst, IsApartFlat, IsApartForm, TakesApart, TakesGoals};
 ghost use Rattle.lp_plain.specs.Within.{StandsIn};
 ghost use Rattle.lp_plain.specs.WrittenSearch.{IsApartAtHand, IsWrittenSearch, WritesFlat, WritesGoals};
+ghost use Rattle.lp_plain.specs.inner.Following.{Course, Stands};
 
 use crate::act::Act;
 use crate::atomic::{take_atom, take_cut, try_candidate};
@@ -51,6 +59,8 @@ fn take_flat<W: Watch>(
     ensures aside { IfOk result (λ turn. turn ≡ Turn.On → IsApartFlat goal → PutsAside machine.old machine.new place behind) }
     ensures counted { IfOk result (λ turn. IsApartFlat goal → IsApart turn machine.old.counts machine.new.counts) }
     ensures moved { IfOk result (λ turn. (qv : Query) (a : Around) (raw : Branch) (s : State Task) → IsRunning qv machine.old a raw s → IsAtGoal machine.old a place goal behind raw → IsPlainFirst raw.goals → MovesTo qv turn machine.new s) }
+    ensures leads { IfOk result (λ turn. (qv : Query) (a : Around) (raw : Branch) (s : State Task) (h : IsRunning qv machine.old a raw s) → IsAtGoal machine.old a place goal behind raw → IsAtomFirst raw.goals → IsWrittenFlat machine.old qv.arity place goal → HasNoCall h.at_work.goals → LeadsTo 1 qv turn machine.new s) }
+    ensures calls { IfOk result (λ turn. (qv : Query) (a : Around) (raw : Branch) (s : State Task) (h : IsRunning qv machine.old a raw s) → IsAtGoal machine.old a place goal behind raw → IsAtomFirst raw.goals → IsWrittenFlat machine.old qv.arity place goal → IsCallable h.at_work.goals → LeadsOf machine.old machine.new qv turn s) }
 {
     match goal {
         Flat::Atom(term) => {
@@ -73,6 +83,40 @@ fn take_flat<W: Watch>(
     }
 }
 
+// Whether a goal that is known at run time is taken apart.
+fn is_apart(connective: Connective) -> bool
+    ensures apart { result ≡ true → IsApartForm connective }
+    ensures alone { result ≡ false → (b : Nodes) → IsAtomOrNoForm (connective_in b connective) }
+{
+    match connective {
+        Connective::And(_, _) => true,
+        Connective::Or(_, _) => true,
+        Connective::ForAll(_, _) => true,
+        Connective::Exists(_, _) => true,
+        Connective::True => true,
+        Connective::Cut => false,
+        Connective::Implies(_, _) => false,
+        Connective::Not(_) => false,
+        Connective::Atomic => false,
+    }
+}
+
+// The form of a goal that is not taken apart.
+fn form_beside(machine: &Machine, goal: TermId, connective: Connective) -> Result<Form, Memory>
+    ensures stands { IfOk result (StandsForm (length machine.now.bank.terms)) }
+    ensures form { IfOk result (λ form. connective_of (tree machine.now.bank goal.0) ≡ connective_in machine.now.bank connective → IsAtomOrNoForm (connective_in machine.now.bank connective) → IsAtomForm machine.now.bank (tree machine.now.bank goal.0) form) }
+    ensures within { IfOk result (IsFirstIn (length machine.now.bank.terms)) }
+{
+    match connective {
+        Connective::Atomic => {
+            let form = form_of(machine.alloc, &machine.bank, goal)?;
+            Ok(form)
+        }
+        // No term that stands for a variable is built so.
+        _ => Ok(Form::Other),
+    }
+}
+
 // Takes a goal by its head-normal form.
 fn take_term<W: Watch>(
     machine: &mut Machine,
@@ -80,17 +124,21 @@ fn take_term<W: Watch>(
     term: TermId,
     place: Place,
     behind: Option<usize>,
-) -> Result<Turn, Memory> {
+) -> Result<Turn, Memory>
+    ensures leads { IfOk result (λ turn. (qv : Query) (a : Around) (raw : Branch) (s : State Task) (h : IsRunning qv machine.old a raw s) → IsAtTerm machine.old a place term behind raw → HasNoCall h.at_work.goals → LeadsTo 1 qv turn machine.new s) }
+    ensures calls { IfOk result (TermTurns machine.old machine.new place term behind) }
+{
     let Some(goal) = head_normal(machine, term)? else {
         return Ok(Turn::Ended(Ending::Deep));
     };
-    let form = match connective_of(&machine.bank, goal) {
-        Connective::Atomic => form_of(machine.alloc, &machine.bank, goal)?,
-        // No term that stands for a variable is built so.
-        Connective::Cut | Connective::Implies(_, _) | Connective::Not(_) => Form::Other,
-        connective => return put_connective(machine, connective, place, behind),
-    };
-    take_atom(machine, crowd, goal, form, place, behind)
+    let connective = connective_of(&machine.bank, goal);
+    if is_apart(connective) {
+        let turn = put_connective(machine, connective, place, behind)?;
+        return Ok(turn);
+    }
+    let form = form_beside(machine, goal, connective)?;
+    let turn = take_atom(machine, crowd, goal, form, place, behind)?;
+    Ok(turn)
 }
 
 // Takes the first of the flattened goals; the others stay in front of those behind.
@@ -107,6 +155,8 @@ fn take_first<W: Watch>(
     ensures aside { IfOk result (λ turn. turn ≡ Turn.On → (hs : Goals) → goals.from < goals.to → AreGoals machine.old.bank Never (shown machine.old.table) goals.from goals.to hs → FirstIsApart hs → PutsAside machine.old machine.new place behind) }
     ensures counted { IfOk result (λ turn. (hs : Goals) → goals.from < goals.to → AreGoals machine.old.bank Never (shown machine.old.table) goals.from goals.to hs → FirstIsApart hs → IsApart turn machine.old.counts machine.new.counts) }
     ensures moved { IfOk result (λ turn. (qv : Query) (a : Around) (raw : Branch) (s : State Task) → IsRunning qv machine.old a raw s → IsAtGoals machine.old a place goals behind raw → IsPlainFirst raw.goals → MovesTo qv turn machine.new s) }
+    ensures leads { IfOk result (λ turn. (qv : Query) (a : Around) (raw : Branch) (s : State Task) (h : IsRunning qv machine.old a raw s) → IsAtGoals machine.old a place goals behind raw → IsAtomFirst raw.goals → AreWrittenGoals machine.old qv.arity place goals → HasNoCall h.at_work.goals → LeadsTo 1 qv turn machine.new s) }
+    ensures calls { IfOk result (λ turn. (qv : Query) (a : Around) (raw : Branch) (s : State Task) (h : IsRunning qv machine.old a raw s) → IsAtGoals machine.old a place goals behind raw → IsAtomFirst raw.goals → AreWrittenGoals machine.old qv.arity place goals → IsCallable h.at_work.goals → LeadsOf machine.old machine.new qv turn s) }
 {
     let goal = machine.table.goal(goals.from)?;
     let Some(second) = goals.from.checked_add(1) else {
@@ -138,6 +188,9 @@ pub(crate) fn take_goal<W: Watch>(
     ensures marked { IfOk result (λ turn. turn ≡ Turn.On → (a : Around) (s : State Task) (h : IsStateOf machine.old a s) → IsApartFirst h.at_work.goals → IsMarked machine.old → IsMarked machine.new) }
     ensures answered { IfOk result (λ turn. (qv : Query) (s : State Task) → IsState qv machine.old s → machine.old.branch.goals ≡ None → machine.old.denied ≡ None → (turn ≡ Turn.Answered) × MovesTo qv turn machine.new s) }
     ensures moved { IfOk result (λ turn. (qv : Query) (s : State Task) (h : IsState qv machine.old s) → IsPlainFirst h.raw.goals → MovesTo qv turn machine.new s) }
+    ensures stands { IfOk result (λ turn. (c : Course) → Stands c Turn.On machine.old → Stands c turn machine.new) }
+    ensures leads { IfOk result (λ turn. (qv : Query) (s : State Task) (h : IsState qv machine.old s) → IsAtomFirst h.raw.goals → IsWrittenSearch machine.old qv.arity → HasNoCall h.running.at_work.goals → LeadsTo 1 qv turn machine.new s) }
+    ensures calls { IfOk result (λ turn. (qv : Query) (s : State Task) (h : IsState qv machine.old s) → IsAtomFirst h.raw.goals → IsWrittenSearch machine.old qv.arity → IsCallable h.running.at_work.goals → LeadsOf machine.old machine.new qv turn s) }
 {
     let Some(number) = machine.branch.goals else {
         return Ok(end_branch(machine));
@@ -193,10 +246,12 @@ pub(crate) fn go_back(machine: &mut Machine) -> Result<Turn, Memory>
     ensures resumed { IfOk result (λ turn. (qv : Query) (c : Choice) (rest : List Choice) (from : Option ℕ) → machine.old.choices.items ≡ rest ++ c ∷ [] → c.untried ≡ Untried.Goals from → base_of machine.old.denied ≤ length rest → (s : State Task) → IsBack qv machine.old s → IsState qv machine.new s) }
     ensures moved { IfOk result (λ turn. (qv : Query) → machine.old.choices.items ≡ [] → (s : State Task) → IsBack qv machine.old s → MovesTo qv turn machine.new s) }
     ensures leads { IfOk result (λ turn. (c : Choice) (rest : List Choice) (call : Called) (one : Tried) → machine.old.choices.items ≡ rest ++ c ∷ [] → c.untried ≡ Untried.Clauses call one → base_of machine.old.denied ≤ length rest → (qv : Query) (s : State Task) → IsBack qv machine.old s →
-        IsWrittenSearch machine.old qv.arity → HasFreeTypes machine.new → LeadsTo 1 qv turn machine.new s) }
+        IsWrittenSearch machine.old qv.arity → LeadsTo 1 qv turn machine.new s) }
     ensures tries_written { OnOk result ((c : Choice) (rest : List Choice) (call : Called) (one : Tried) → machine.old.choices.items ≡ rest ++ c ∷ [] → c.untried ≡ Untried.Clauses call one → base_of machine.old.denied ≤ length rest → (qv : Query) (s : State Task) → IsBack qv machine.old s →
         IsWrittenSearch machine.old qv.arity → IsWrittenSearch machine.new qv.arity) }
+    ensures denied_written { OnOk result ((c : Choice) (rest : List Choice) (d : Denial) → machine.old.choices.items ≡ rest ++ c ∷ [] → c.untried ≡ Untried.Denied d → (ar : ℕ → ℕ) → IsWrittenSearch machine.old ar → IsWrittenSearch machine.new ar) }
     ensures ends { IfOk result (λ turn. machine.old.choices.items ≡ [] → (a : Around) (s : State Task) → IsBackOf machine.old a s → EndsSo turn machine.old.counts.lost s) }
+    ensures stands { IfOk result (λ turn. (c : Course) → Stands c Turn.Back machine.old → Stands c turn machine.new) }
 {
     let Some(untried) = machine.take_choice()? else {
         if machine.counts.lost {

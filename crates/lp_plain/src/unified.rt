@@ -8,7 +8,7 @@ ghost use Rattle.lp_pattern.specs.Turning.{IsOpenReading, AreKnownPairs, ArePair
 ghost use Rattle.lp_pattern.specs.Seen.{IsEnded, IsEndedHead};
 ghost use Rattle.lp_pattern.specs.declared.bindings.Bindings.{Bindings};
 ghost use Rattle.lp_plain.specs.HeadLooks.{LooksAt, OnlyBank};
-ghost use Rattle.lp_plain.specs.Unifying.{IsBoundIn, IsUnifiedAs, StandPairs};
+ghost use Rattle.lp_plain.specs.Unifying.{IsBoundIn, IsEquatedAs, IsUnifiedAs, StandPairs};
 
 use crate::machine::Machine;
 use lp_base::{Memory, RUN_LIMIT};
@@ -64,9 +64,14 @@ pub(crate) fn equate(
     left: TermId,
     right: TermId,
     level: u64,
-) -> Result<Unified, Memory> {
+) -> Result<Unified, Memory>
+    ensures bound { IsBoundIn machine.old machine.new }
+    ensures residual { OnOk result (StandPairs machine.old → StandPairs machine.new) }
+    ensures equated { IfOk result (IsEquatedAs machine.old machine.new left right level) }
+{
     let pairs = [Pair { left, right, level }];
-    unify(machine, &[], &pairs)
+    let unified = unify(machine, &[], &pairs)?;
+    Ok(unified)
 }
 
 // Whether the term is a constant, an eigenconstant or a literal.

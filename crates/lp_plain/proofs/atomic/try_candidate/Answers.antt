@@ -10,7 +10,7 @@ use Rattle.lp_plain.proofs.WrittenSearches.{same_lists}
 use Rattle.lp_plain.proofs.atomic.try_candidate.Goals as goal
 
 pub returns-clause-leads : goal.returns-clause-leads
-returns-clause-leads c = λ qv a s h sw ft w ea go enough few P.
+returns-clause-leads c = λ qv a s h sw w ea go enough few P ty.
     let m = c.args.machine.now in
     let k = c.put_others.new.machine in
     let n = c.attempt.new.machine in
@@ -24,7 +24,7 @@ returns-clause-leads c = λ qv a s h sw ft w ea go enough few P.
     let written = same_lists m k h.above.done.stands (grows_kept m k p.goals) (ap (λ v. v.items) p.frames) (ap (λ v. v.items) p.assumed.assumptions) qv.arity sw in
     subst (λ x. Leads 1 qv x n go (look unit_limit enough P) s) (sym c.turn_of.ensures)
     (try_leads qv k n a call one (length m.choices.items) s at u.grows (goal_ready qv k a call one (length m.choices.items) s at) (trial_ready qv k a call one (length m.choices.items) s at written)
-    ft w ea go enough P c.in_ok-unified.unified (λ e. few (c.turn_of.ensures ∙ e)) leaves)
+    w ea go enough P ty c.in_ok-unified.unified (λ e. few (c.turn_of.ensures ∙ e)) leaves)
 
 pub returns-clause-written : goal.returns-clause-written
 returns-clause-written c = λ qv a s h w.

@@ -6,6 +6,7 @@ use Rattle.lp_plain.proofs.Grown.{grown_frame, grown_then}
 use Rattle.std.proofs.Common.{◌<◌, length, subst, sym}
 use Rattle.lp_plain.specs.WrittenSearch.{IsShut}
 use Rattle.lp_plain.proofs.WrittenSearches.{search_term}
+use Rattle.lp_plain.proofs.NoneBound.{none_kept, none_then}
 use Rattle.lp_plain.proofs.parts.put_and.Goals as goal
 
 pub returns-clause-parts : goal.returns-clause-parts
@@ -54,3 +55,13 @@ returns-clause-written c = λ ar i h s.
     let left = subst (λ b. IsShut b c.args.left) (sym k.goals.known.bank) h.0 in
     let z = search_term n c.put_frame-2.new.self c.args.left c.args.place _ l.goals l.assumed l.course.choices l.pushed ar (k.stands h.1.0 i) left one in
     record { at_work = z.at_work; alternatives = z.alternatives; older = z.older }
+
+pub returns-clause-none : goal.returns-clause-none
+returns-clause-none c =
+    let m = c.args.machine.now in
+    let n = c.put_frame.new.self in
+    let o = c.put_frame-2.new.self in
+    let k = c.in_ok-second.ensures in
+    let l = c.in_ok-first.ensures in
+    let x = none_then m n o (none_kept m n k.goals k.course) (none_kept n o l.goals l.course) in
+    record { bindings = x.bindings; pairs = x.pairs }

@@ -12,6 +12,7 @@ use Rattle.lp_plain.proofs.Grown.{grown_apart, grown_kept, grown_on, kept_apart,
 use Rattle.lp_plain.proofs.Opening.{same_stands}
 use Rattle.lp_plain.proofs.TakenApart.{known_taken, no_other, stands_known}
 use Rattle.lp_plain.proofs.WrittenParts.{behind_writes, connective_writes}
+use Rattle.lp_plain.proofs.NoneBound.{none_apart, none_with, with_apart}
 use Rattle.lp_plain.proofs.parts.put_connective.Goals as goal
 
 pub returns-in_ok-put_and-in-And-clause-and : goal.returns-in_ok-put_and-in-And-clause-and
@@ -135,3 +136,37 @@ pub returns-in-True-clause-written : goal.returns-in-True-clause-written
 returns-in-True-clause-written c = λ e h. behind_writes c.args.machine.now c.take_apart.new.machine c.go_behind.new.machine
     (c.if-not-take_apart.ensures.apart refl) c.go_behind.ensures.known c.go_behind.ensures.frames c.go_behind.ensures.assumed
     c.go_behind.ensures.choices
+
+pub returns-in_ok-put_and-in-And-clause-none : goal.returns-in_ok-put_and-in-And-clause-none
+returns-in_ok-put_and-in-And-clause-none c = λ e af. none_apart c.args.machine.now c.take_apart.new.machine c.put_and.new.machine (c.if-not-take_apart.ensures.apart refl) c.in_ok-put_and-in-And.ensures.none
+
+pub returns-in_ok-put_or-in-Or-clause-none : goal.returns-in_ok-put_or-in-Or-clause-none
+returns-in_ok-put_or-in-Or-clause-none c = λ e af. none_apart c.args.machine.now c.take_apart.new.machine c.put_or.new.machine (c.if-not-take_apart.ensures.apart refl) c.in_ok-put_or-in-Or.ensures.none
+
+pub returns-in_ok-put_for_all-in-ForAll-clause-none : goal.returns-in_ok-put_for_all-in-ForAll-clause-none
+returns-in_ok-put_for_all-in-ForAll-clause-none c = λ e af. none_apart c.args.machine.now c.take_apart.new.machine c.put_for_all.new.machine (c.if-not-take_apart.ensures.apart refl) c.in_ok-put_for_all-in-ForAll.ensures.none
+
+pub returns-in_ok-put_exists-in-Exists-clause-none : goal.returns-in_ok-put_exists-in-Exists-clause-none
+returns-in_ok-put_exists-in-Exists-clause-none c = λ e af. none_apart c.args.machine.now c.take_apart.new.machine c.put_exists.new.machine (c.if-not-take_apart.ensures.apart refl) c.in_ok-put_exists-in-Exists.ensures.none
+
+pub returns-in-True-clause-none : goal.returns-in-True-clause-none
+returns-in-True-clause-none c = λ e af. none_apart c.args.machine.now c.take_apart.new.machine c.go_behind.new.machine (c.if-not-take_apart.ensures.apart refl) c.go_behind.ensures.none
+
+pub returns-in_ok-put_and-in-And-clause-aside_with : goal.returns-in_ok-put_and-in-And-clause-aside_with
+returns-in_ok-put_and-in-And-clause-aside_with c = λ e af.
+    with_apart c.args.machine.now c.take_apart.new.machine c.put_and.new.machine (c.if-not-take_apart.ensures.apart refl) (none_with c.take_apart.new.machine c.put_and.new.machine c.in_ok-put_and-in-And.ensures.choices)
+
+pub returns-in_ok-put_or-in-Or-clause-aside_with : goal.returns-in_ok-put_or-in-Or-clause-aside_with
+returns-in_ok-put_or-in-Or-clause-aside_with c = λ e af. with_apart c.args.machine.now c.take_apart.new.machine c.put_or.new.machine (c.if-not-take_apart.ensures.apart refl) c.in_ok-put_or-in-Or.ensures.aside_with
+
+pub returns-in_ok-put_for_all-in-ForAll-clause-aside_with : goal.returns-in_ok-put_for_all-in-ForAll-clause-aside_with
+returns-in_ok-put_for_all-in-ForAll-clause-aside_with c = λ e af.
+    with_apart c.args.machine.now c.take_apart.new.machine c.put_for_all.new.machine (c.if-not-take_apart.ensures.apart refl) (none_with c.take_apart.new.machine c.put_for_all.new.machine c.in_ok-put_for_all-in-ForAll.ensures.choices)
+
+pub returns-in_ok-put_exists-in-Exists-clause-aside_with : goal.returns-in_ok-put_exists-in-Exists-clause-aside_with
+returns-in_ok-put_exists-in-Exists-clause-aside_with c = λ e af.
+    with_apart c.args.machine.now c.take_apart.new.machine c.put_exists.new.machine (c.if-not-take_apart.ensures.apart refl) (none_with c.take_apart.new.machine c.put_exists.new.machine c.in_ok-put_exists-in-Exists.ensures.choices)
+
+pub returns-in-True-clause-aside_with : goal.returns-in-True-clause-aside_with
+returns-in-True-clause-aside_with c = λ e af.
+    with_apart c.args.machine.now c.take_apart.new.machine c.go_behind.new.machine (c.if-not-take_apart.ensures.apart refl) (none_with c.take_apart.new.machine c.go_behind.new.machine (ap (λ v. v.items) c.go_behind.ensures.choices))

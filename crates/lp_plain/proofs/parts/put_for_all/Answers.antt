@@ -4,6 +4,7 @@ use Rattle.std.proofs.Common.{◌∙◌}
 use Rattle.std.proofs.Common.{subst, sym}
 use Rattle.lp_term.specs.Spine.{LooseBelow}
 use Rattle.lp_plain.proofs.WrittenSearches.{search_same, shut_later}
+use Rattle.lp_plain.proofs.NoneBound.{none_then}
 use Rattle.lp_plain.proofs.parts.put_for_all.Goals as goal
 
 pub returns-clause-parts : goal.returns-clause-parts
@@ -37,3 +38,6 @@ returns-clause-written c = λ ar i h s.
       shut_later m n c.args.term v.grows.bank h,
       (v.within, subst (LooseBelow 0 0) (sym v.eigen_is) tt),
     ) (search_same m n i v.grows v.frames v.keeps v.choices ar s)
+
+pub returns-clause-none : goal.returns-clause-none
+returns-clause-none c = none_then c.args.machine.now c.raised.new.machine c.put_goal_of.new.machine c.in_ok-above.ensures.none c.in_ok-put_goal_of.ensures.none

@@ -5,6 +5,7 @@ use Rattle.lp_plain.proofs.Growing.{reads_later}
 use Rattle.lp_plain.proofs.Grown.{grown_frame, grown_still, grown_then}
 use Rattle.lp_term.specs.Spine.{LooseBelow}
 use Rattle.lp_plain.proofs.WrittenSearches.{search_same, search_term}
+use Rattle.lp_plain.proofs.NoneBound.{none_kept, none_then}
 use Rattle.lp_plain.proofs.parts.put_goal_of.Goals as goal
 
 pub returns-clause-front : goal.returns-clause-front
@@ -49,3 +50,12 @@ returns-clause-written c = λ ar i h s.
     let z = search_term n c.put_frame.new.self c.in_ok-goal.goal c.args.place c.args.behind f.goals f.assumed f.course.choices f.pushed ar
     (p.stands i) (p.within, subst (LooseBelow 0 0) (sym p.tree) (h.0.1, h.1.1)) one in
     record { at_work = z.at_work; alternatives = z.alternatives; older = z.older }
+
+pub returns-clause-none : goal.returns-clause-none
+returns-clause-none c =
+    let m = c.args.machine.now in
+    let n = c.applied.new.machine in
+    let q = c.put_frame.new.self in
+    let f = c.in_ok-front.ensures in
+    let x = none_then m n q c.in_ok-goal.ensures.none (none_kept n q f.goals f.course) in
+    record { bindings = x.bindings; pairs = x.pairs }

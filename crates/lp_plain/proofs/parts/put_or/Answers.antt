@@ -12,6 +12,8 @@ use Rattle.lp_plain.proofs.Restored.{last_same}
 use Rattle.lp_plain.specs.WrittenSearch.{IsShut}
 use Rattle.lp_plain.proofs.Growing.{grows_kept}
 use Rattle.lp_plain.proofs.WrittenSearches.{search_aside, search_same, search_term}
+use Rattle.lp_plain.specs.Moving.{IsPutWith}
+use Rattle.lp_plain.proofs.NoneBound.{none_kept, put_with}
 use Rattle.lp_plain.proofs.parts.put_or.Goals as goal
 
 pub returns-clause-parts : goal.returns-clause-parts
@@ -116,3 +118,24 @@ returns-clause-written c = λ ar i h s.
     let left = subst (λ b. IsShut b c.args.left) (sym (n.goals.known.bank ∙ k.goals.known.bank ∙ a.goals.known.bank)) h.0 in
     let z = search_term three c.put_frame-2.new.self c.args.left c.args.place c.args.behind f.goals f.assumed f.course.choices f.pushed ar i3 left s3 in
     record { at_work = z.at_work; alternatives = z.alternatives; older = z.older }
+
+pub returns-clause-none : goal.returns-clause-none
+returns-clause-none c =
+    let k = c.in_ok-other.ensures in
+    let l = c.in_ok-put_choice.ensures in
+    let j = c.in_ok-note.ensures in
+    let i = c.in_ok-one.ensures in
+    record {
+      bindings = i.goals.known.bindings ∙ j.goals.known.bindings ∙ l.goals.known.bindings ∙ k.goals.known.bindings;
+      pairs = ap (λ b. b.pairs) (i.course.branch ∙ j.course.branch ∙ l.branch ∙ k.course.branch);
+    }
+
+pub returns-clause-aside_with : goal.returns-clause-aside_with
+returns-clause-aside_with c = λ k e.
+    let m = c.args.machine.now in
+    let one = c.put_frame.new.self in
+    let two = c.put_choice.new.self in
+    let o = c.in_ok-other.ensures in
+    let x = c.in_ok-put_choice.ensures.alternative in
+    let same = last_same one.choices.items m.choices.items x.choice k (sym (c.in_ok-one.ensures.course.choices ∙ c.in_ok-note.ensures.course.choices ∙ x.more) ∙ e) in
+    subst (IsPutWith m) same.1 (put_with m one two _ x (none_kept m one o.goals o.course))

@@ -1,8 +1,12 @@
-use Rattle.std.proofs.Common.{◌≡◌, ◌∙◌, true, false, refl, sym, ap, subst}
+use Rattle.std.proofs.Common.{◌≡◌, ◌∙◌, true, false, refl, sym, ap, subst, arith}
+use Rattle.lp_model.specs.declared.ending.Ending.TheVariants.{NoMore, NoMoreCut}
 use Rattle.lp_plain.specs.declared.choice.Untried.{Untried}
+use Rattle.lp_plain.specs.declared.outcome.Turn.{Turn}
 use Rattle.lp_plain.specs.Moving.{IsTrying}
 use Rattle.lp_plain.proofs.Backwards.{back_marked, back_state, ends_so}
 use Rattle.lp_plain.proofs.Restored.{goes_back}
+use Rattle.lp_plain.proofs.Following.{kept_of, moved_stands}
+use Rattle.lp_plain.proofs.Treated.{has_last, has_none, inner_turn, last_of, none_below, not_clauses, not_denied}
 use Rattle.lp_plain.proofs.BackMoves.{none_moved, side_state}
 use Rattle.lp_plain.proofs.WrittenFirst.{back_written}
 use Rattle.lp_plain.proofs.WrittenSearches.{search_back}
@@ -132,7 +136,7 @@ pub returns-in_default-clause-moved : goal.returns-in_default-clause-moved
 returns-in_default-clause-moved c = λ qv e s h. none_moved qv c.args.machine.now c.args.machine.now s false e (sym c.in_ok-untried.ensures.lost ∙ c.if-machine.false) h
 
 pub returns-in_ok-turn-in-Clauses-clause-leads : goal.returns-in_ok-turn-in-Clauses-clause-leads
-returns-in_ok-turn-in-Clauses-clause-leads c = λ k rest call one e u l qv s h w ft.
+returns-in_ok-turn-in-Clauses-clause-leads c = λ k rest call one e u l qv s h w.
     let n = c.take_choice.new.self in
     let o = c.in_ok-untried.ensures in
     let t = o.taken k rest e in
@@ -141,17 +145,17 @@ returns-in_ok-turn-in-Clauses-clause-leads c = λ k rest call one e u l qv s h w
     let so : c.in-Clauses.candidate ≡ one = cc in
     c.in_ok-turn-in-Clauses.ensures.leads qv h.around s
     (subst (λ x. IsTrying qv n h.around x c.in-Clauses.candidate s) (sym sc) (subst (λ x. IsTrying qv n h.around call x s) (sym so) (o.trying qv k rest call one e u l s h)))
-    (search_back c.args.machine.now n k rest e t.1 qv.arity w).at_work ft
+    (search_back c.args.machine.now n k rest e t.1 qv.arity w).at_work
 
 pub returns-in_ok-go_right-in-Goals-clause-leads : goal.returns-in_ok-go_right-in-Goals-clause-leads
-returns-in_ok-go_right-in-Goals-clause-leads c = λ k rest call one e u l qv s h w ft.
+returns-in_ok-go_right-in-Goals-clause-leads c = λ k rest call one e u l qv s h w.
     let t = c.in_ok-untried.ensures.taken k rest e in
     let z = t.0 in
     let y = c.in-Goals.is in
     absurd (cc)
 
 pub returns-in-Denied-clause-leads : goal.returns-in-Denied-clause-leads
-returns-in-Denied-clause-leads c = λ k rest call one e u l qv s h w ft.
+returns-in-Denied-clause-leads c = λ k rest call one e u l qv s h w.
     let t = c.in_ok-untried.ensures.taken k rest e in
     let z = t.0 in
     let y = c.in-Denied.is in
@@ -177,6 +181,79 @@ returns-in-Denied-clause-written c = λ k rest from e u ar i w.
     let y = c.in-Denied.is in
     absurd (cc)
 
+pub returns-then-machine-clause-stands : goal.returns-then-machine-clause-stands
+returns-then-machine-clause-stands c = λ k h.
+    let m = c.args.machine.now in
+    let qv = h.0 in
+    let s = h.1 in
+    let none = h.2.2 in
+    elim (last_of m.choices.items) [
+      | has_none e ↦ moved_stands k qv m h.2 (Turn.Ended NoMoreCut) s (inner_turn qv.outer (Turn.Ended NoMoreCut) none) (returns-then-machine-clause-moved c qv e s h.3) h.4
+      | has_last ys y e ↦ absurd (let z = (c.in_ok-untried.ensures.taken y ys e).0 in let w = c.in_default.is in cc)
+    ]
+
+pub returns-in_default-clause-stands : goal.returns-in_default-clause-stands
+returns-in_default-clause-stands c = λ k h.
+    let m = c.args.machine.now in
+    let qv = h.0 in
+    let s = h.1 in
+    let none = h.2.2 in
+    elim (last_of m.choices.items) [
+      | has_none e ↦ moved_stands k qv m h.2 (Turn.Ended NoMore) s (inner_turn qv.outer (Turn.Ended NoMore) none) (returns-in_default-clause-moved c qv e s h.3) h.4
+      | has_last ys y e ↦ absurd (let z = (c.in_ok-untried.ensures.taken y ys e).0 in let w = c.in_default.is in cc)
+    ]
+
+pub returns-in_ok-go_right-in-Goals-clause-stands : goal.returns-in_ok-go_right-in-Goals-clause-stands
+returns-in_ok-go_right-in-Goals-clause-stands c = λ k h.
+    let m = c.args.machine.now in
+    let qv = h.0 in
+    let s = h.1 in
+    let none = h.2.2 in
+    let low = none_below qv m h.3.around s.stack none h.3.above in
+    elim (last_of m.choices.items) [
+      | has_none e ↦ absurd (let z = c.in_ok-untried.ensures.none e in let w = c.in-Some.is in cc)
+      | has_last ys y e ↦
+          (let z = (c.in_ok-untried.ensures.taken y ys e).0 in
+          let w = c.in-Goals.is in
+          let v = c.in-Some.is in
+          let u : y.untried ≡ Untried.Goals c.in-Goals.goals = cc in
+          (qv, s, h.2, returns-in_ok-go_right-in-Goals-clause-resumed c qv y ys c.in-Goals.goals e u (omega (arith, low)) s h.3, h.4))
+    ]
+
+pub returns-in_ok-turn-in-Clauses-clause-stands : goal.returns-in_ok-turn-in-Clauses-clause-stands
+returns-in_ok-turn-in-Clauses-clause-stands c = λ k h.
+    let m = c.args.machine.now in
+    let qv = h.0 in
+    let s = h.1 in
+    let none = h.2.2 in
+    let low = none_below qv m h.3.around s.stack none h.3.above in
+    elim (last_of m.choices.items) [
+      | has_none e ↦ absurd (let z = c.in_ok-untried.ensures.none e in let w = c.in-Some.is in cc)
+      | has_last ys y e ↦
+          (let z = (c.in_ok-untried.ensures.taken y ys e).0 in
+          let w = c.in-Clauses.is in
+          let v = c.in-Some.is in
+          let u : y.untried ≡ Untried.Clauses c.in-Clauses.call c.in-Clauses.candidate = cc in
+          absurd (not_clauses k qv m s h.3 y ys e (omega (arith, low)) c.in-Clauses.call c.in-Clauses.candidate u (kept_of k qv.outer s h.4)))
+    ]
+
+pub returns-in-Denied-clause-stands : goal.returns-in-Denied-clause-stands
+returns-in-Denied-clause-stands c = λ k h.
+    let m = c.args.machine.now in
+    let qv = h.0 in
+    let s = h.1 in
+    let none = h.2.2 in
+    let low = none_below qv m h.3.around s.stack none h.3.above in
+    elim (last_of m.choices.items) [
+      | has_none e ↦ absurd (let z = c.in_ok-untried.ensures.none e in let w = c.in-Some.is in cc)
+      | has_last ys y e ↦
+          (let z = (c.in_ok-untried.ensures.taken y ys e).0 in
+          let w = c.in-Denied.is in
+          let v = c.in-Some.is in
+          let u : y.untried ≡ Untried.Denied c.in-Denied.denial = cc in
+          absurd (not_denied k qv m s h.3 y ys e (omega (arith, low)) c.in-Denied.denial u))
+    ]
+
 pub returns-in_ok-turn-in-Clauses-clause-tries_written : goal.returns-in_ok-turn-in-Clauses-clause-tries_written
 returns-in_ok-turn-in-Clauses-clause-tries_written c = λ k rest call one e u l qv s h w.
     let n = c.take_choice.new.self in
@@ -201,4 +278,23 @@ returns-in-Denied-clause-tries_written c = λ k rest call one e u l qv s h w.
     let t = c.in_ok-untried.ensures.taken k rest e in
     let z = t.0 in
     let y = c.in-Denied.is in
+    absurd (cc)
+
+pub returns-in-Denied-clause-denied_written : goal.returns-in-Denied-clause-denied_written
+returns-in-Denied-clause-denied_written c = λ k rest d e u ar w.
+    let t = c.in_ok-untried.ensures.taken k rest e in
+    c.end_denial.ensures.written ar (search_back c.args.machine.now c.take_choice.new.self k rest e t.1 ar w)
+
+pub returns-in_ok-turn-in-Clauses-clause-denied_written : goal.returns-in_ok-turn-in-Clauses-clause-denied_written
+returns-in_ok-turn-in-Clauses-clause-denied_written c = λ k rest d e u ar w.
+    let t = c.in_ok-untried.ensures.taken k rest e in
+    let z = t.0 in
+    let y = c.in-Clauses.is in
+    absurd (cc)
+
+pub returns-in_ok-go_right-in-Goals-clause-denied_written : goal.returns-in_ok-go_right-in-Goals-clause-denied_written
+returns-in_ok-go_right-in-Goals-clause-denied_written c = λ k rest d e u ar w.
+    let t = c.in_ok-untried.ensures.taken k rest e in
+    let z = t.0 in
+    let y = c.in-Goals.is in
     absurd (cc)

@@ -4,6 +4,13 @@ use Rattle.lp_plain.specs.Moving.{IsAtGoal}
 use Rattle.std.proofs.Common.{subst}
 use Rattle.lp_plain.specs.Taking.{IsApartFlat}
 use Rattle.lp_plain.proofs.TakenApart.{none_taken}
+use Rattle.lp_plain.specs.AtRunTime.{HasNoCall, IsWrittenFlat}
+use Rattle.std.proofs.Common.{sym, ap}
+use Rattle.lp_model.specs.Branch.{Branch}
+use Rattle.lp_plain.proofs.AtomAtHand.{instance_at, no_atom_first}
+use Rattle.lp_plain.proofs.LookedOn.{running_on, work_on}
+use Rattle.lp_plain.specs.Calling.{IsCallable}
+use Rattle.lp_plain.proofs.CallTerms.{only_program, only_written}
 use Rattle.lp_plain.proofs.turn.take_flat.Goals as goal
 
 pub returns-in_ok-turn-in-Atom-clause-taken : goal.returns-in_ok-turn-in-Atom-clause-taken
@@ -75,3 +82,57 @@ returns-in_ok-turn-in-Not-clause-written g c = λ e h. absurd (subst IsApartFlat
 
 pub returns-in_ok-turn-in_default-clause-written : goal.returns-in_ok-turn-in_default-clause-written
 returns-in_ok-turn-in_default-clause-written g c = c.in_ok-turn-in_default.ensures.written
+
+pub returns-in_ok-turn-in-Atom-clause-leads : goal.returns-in_ok-turn-in-Atom-clause-leads
+returns-in_ok-turn-in-Atom-clause-leads g c = λ qv a raw s h at af w nc.
+    let m = c.args.machine.now in
+    let n = c.instance.new.self in
+    let p = c.args.place in
+    let u = c.in-Atom.term in
+    let e = c.in_ok-atom-in-Atom.ensures in
+    let at' = subst (λ f. IsAtGoal m a p f c.args.behind raw) c.in-Atom.is at in
+    let w' = subst (IsWrittenFlat m qv.arity p) c.in-Atom.is w in
+    c.in_ok-turn-in-Atom.ensures.leads qv a raw s (running_on m n e.bank qv a raw s h p at'.place)
+    (instance_at m n e.bank p u c.in_ok-atom-in-Atom.atom e.within e.tree a c.args.behind raw h.above.done.stands at' qv.arity w')
+    (subst (λ (z : Branch). HasNoCall z.goals) (sym (work_on m n e.bank qv a raw s h p at'.place)) nc)
+
+pub returns-in_ok-turn-in-Cut-clause-leads : goal.returns-in_ok-turn-in-Cut-clause-leads
+returns-in_ok-turn-in-Cut-clause-leads g c = λ qv a raw s h at af w nc.
+    let y = c.in-Cut.is in
+    absurd (no_atom_first c.args.machine.now a c.args.place c.args.goal c.args.behind raw at (λ u z. cc) af)
+
+pub returns-in_ok-turn-in-Not-clause-leads : goal.returns-in_ok-turn-in-Not-clause-leads
+returns-in_ok-turn-in-Not-clause-leads g c = λ qv a raw s h at af w nc.
+    let y = c.in-Not.is in
+    absurd (no_atom_first c.args.machine.now a c.args.place c.args.goal c.args.behind raw at (λ u z. cc) af)
+
+pub returns-in_ok-turn-in_default-clause-leads : goal.returns-in_ok-turn-in_default-clause-leads
+returns-in_ok-turn-in_default-clause-leads g c = λ qv a raw s h at af w nc.
+    absurd (no_atom_first c.args.machine.now a c.args.place c.args.goal c.args.behind raw at c.in_default.not-Atom af)
+
+pub returns-in_ok-turn-in-Atom-clause-calls : goal.returns-in_ok-turn-in-Atom-clause-calls
+returns-in_ok-turn-in-Atom-clause-calls g c = λ qv a raw s h at af w callable css pr sw.
+    let m = c.args.machine.now in
+    let n = c.instance.new.self in
+    let p = c.args.place in
+    let u = c.in-Atom.term in
+    let e = c.in_ok-atom-in-Atom.ensures in
+    let at' = subst (λ f. IsAtGoal m a p f c.args.behind raw) c.in-Atom.is at in
+    let w' = subst (IsWrittenFlat m qv.arity p) c.in-Atom.is w in
+    c.in_ok-turn-in-Atom.ensures.calls qv a raw s (running_on m n e.bank qv a raw s h p at'.place)
+    (instance_at m n e.bank p u c.in_ok-atom-in-Atom.atom e.within e.tree a c.args.behind raw h.above.done.stands at' qv.arity w')
+    (subst (λ (z : Branch). IsCallable z.goals) (sym (work_on m n e.bank qv a raw s h p at'.place)) callable) css (only_program m n e.bank qv.arity css pr) (only_written m n e.bank h.above.done.stands qv.arity sw)
+
+pub returns-in_ok-turn-in-Cut-clause-calls : goal.returns-in_ok-turn-in-Cut-clause-calls
+returns-in_ok-turn-in-Cut-clause-calls g c = λ qv a raw s h at af w callable css pr sw.
+    let y = c.in-Cut.is in
+    absurd (no_atom_first c.args.machine.now a c.args.place c.args.goal c.args.behind raw at (λ u z. cc) af)
+
+pub returns-in_ok-turn-in-Not-clause-calls : goal.returns-in_ok-turn-in-Not-clause-calls
+returns-in_ok-turn-in-Not-clause-calls g c = λ qv a raw s h at af w callable css pr sw.
+    let y = c.in-Not.is in
+    absurd (no_atom_first c.args.machine.now a c.args.place c.args.goal c.args.behind raw at (λ u z. cc) af)
+
+pub returns-in_ok-turn-in_default-clause-calls : goal.returns-in_ok-turn-in_default-clause-calls
+returns-in_ok-turn-in_default-clause-calls g c = λ qv a raw s h at af w callable css pr sw.
+    absurd (no_atom_first c.args.machine.now a c.args.place c.args.goal c.args.behind raw at c.in_default.not-Atom af)

@@ -1,0 +1,189 @@
+-- A turn that is some moves of the definition: what is told next comes of the state behind it.
+use Rattle.std.proofs.Common.{◌≡◌, ◌⊎◌, ℕ, zero, suc, ◌+◌, ◌-◌, ◌≤◌, List, [], ◌∷◌, refl, sym, ap, inl, inr, ◌∙◌, subst, arith, Option, Some, None}
+use Rattle.std.specs.Prelude.{Bool, true, false}
+use Rattle.lp_model.specs.declared.ending.Ending.{Ending}
+use Rattle.lp_model.specs.declared.ending.Ending.TheVariants.{NoMore, NoMoreCut, Enough, Steps, Flexible, Arithmetic, OpenNot, Deep}
+use Rattle.lp_model.specs.Branch.{Answer, Go, Task}
+use Rattle.lp_model.specs.Events.{Advances, Event, Gave, Over, first, first_after}
+use Rattle.lp_model.specs.Search.{has_no_pairs}
+use Rattle.lp_model.specs.Skeleton.{Broke, Breaks, Goes, Held, Inner, Lasts, Move, Note, Refuted, State, Stops, Tells, View, Waits, inner, inner_after, inner_end, later, move}
+use Rattle.lp_search_laws.proofs.Stack.Inners.{IsMade, move_more}
+use Rattle.lp_plain.specs.declared.machine.Machine.{Machine}
+use Rattle.lp_plain.specs.declared.outcome.Turn.{Turn}
+use Rattle.lp_plain.specs.Calling.{LeadsOver}
+use Rattle.lp_plain.specs.Moving.{AreFew, IsAnswer, IsAnswered, IsBack, IsMoved, IsState, IsWaiting, Leads, MovesTo, Query, Waiting}
+use Rattle.lp_plain.specs.TypedStates.{IsTypedOver}
+use Rattle.lp_plain.specs.inner.Following.{Comes, ComesOf, Course, IsOfQuery, Kept, Stands, behind_answer, behind_move, goes_on, seen_in}
+use Rattle.lp_plain.proofs.StepsLeft.{LeavesSteps, move_leaves}
+
+pub pair_left : (x y : Event Answer) (s t : State Task) → ◌≡◌ {A = Option (Event Answer × State Task)} (Some (x, s)) (Some (y, t)) → (x ≡ y) × (s ≡ t)
+pair_left x y s t h =
+    let e : ◌≡◌ {A = Event Answer × State Task} (x, s) (y, t) = cc in
+    (ap (λ (z : Event Answer × State Task). z.0) e, ap (λ (z : Event Answer × State Task). z.1) e)
+
+-- what came of a search after some steps, with those steps counted
+pub later_comes : (c : Course) (behind : State Task → Type 0) (w : Waiting) (n m j : ℕ) (ns : List Note) (r : Inner) → n ≡ j + m → ComesOf c behind w n (later j ns r) → ComesOf c behind w m r
+later_comes c behind w n m j ns (Refuted k ms p) e h = let q : n - (j + k) ≡ m - k = omega (arith, e) in subst (λ i. behind (goes_on w i p (Go w.branch ∷ w.rest))) q h
+later_comes c behind w n m j ns (Held k ms p) e h = let q : n - (j + k) ≡ m - k = omega (arith, e) in subst (λ i. behind (goes_on w i p w.rest)) q h
+later_comes c behind w n m j ns (Broke k ms x) e h = h
+later_comes c behind w n m j ns (Lasts k ms) e h = h
+
+-- an end other than that no alternative is left
+abbrev pub EndsAll : Ending → Type 0
+EndsAll NoMore = ⊥
+EndsAll NoMoreCut = ⊥
+EndsAll Enough = Unit {0}
+EndsAll Steps = Unit {0}
+EndsAll Flexible = Unit {0}
+EndsAll (Arithmetic f) = Unit {0}
+EndsAll OpenNot = Unit {0}
+EndsAll Deep = Unit {0}
+
+end_comes : (c : Course) (behind : State Task → Type 0) (w : Waiting) (n p : ℕ) (e : Ending) → EndsAll e → ComesOf c behind w n (inner_end p e) → c.event ≡ Over e
+end_comes c behind w n p NoMore h x = absurd h
+end_comes c behind w n p NoMoreCut h x = absurd h
+end_comes c behind w n p Enough h x = x
+end_comes c behind w n p Steps h x = x
+end_comes c behind w n p Flexible h x = x
+end_comes c behind w n p (Arithmetic f) h x = x
+end_comes c behind w n p OpenNot h x = x
+end_comes c behind w n p Deep h x = x
+
+-- a turn does not answer, and ends with no such end, where a search waits
+abbrev pub IsInnerTurn : List Waiting → Turn → Type 0
+IsInnerTurn [] turn = Unit {0}
+IsInnerTurn (w ∷ ws) Turn.On = Unit {0}
+IsInnerTurn (w ∷ ws) Turn.Back = Unit {0}
+IsInnerTurn (w ∷ ws) Turn.Answered = ⊥
+IsInnerTurn (w ∷ ws) (Turn.Ended e) = EndsAll e
+
+-- what each state has, the next one has
+pub kept_on : (c : Course) (j k : ℕ) (ns : List Note) (s t : State Task) → move (inner (seen_in c) j) (seen_in c) s ≡ Goes k ns t → Kept c s → Kept c t
+kept_on c j k ns s t e h = λ u r. h u (behind_move j k ns t e r)
+
+module _ (c : Course) (qv : Query) (n : Machine) (within : IsOfQuery c.query qv) where
+  abbrev see : ℕ → Task → View Task Answer
+  see = seen_in c
+
+  -- in the outermost search
+  module _ (none : qv.outer ≡ []) (j : ℕ) where
+    here : (s : State Task) → s.answers ≡ suc c.left → s.given ≡ c.given → Kept c s → (i : ℕ) → first see j i s ≡ Some (c.event, c.after) → Comes c qv.outer s
+    here s a g v i e = subst (λ ws. Comes c ws s) (sym none) (a, g, v, record { inner_moves = j; moves = i; gives = e })
+
+    first_moved : (turn : Turn) (i : ℕ) (s : State Task) → s.answers ≡ suc c.left → s.given ≡ c.given → Kept c s → IsMoved qv turn n (move (inner see j) see s) s → first see j (suc i) s ≡ Some (c.event, c.after) → Stands c turn n
+    first_moved Turn.On i s a g v h e =
+        let q = sym (ap (first_after s (first see j i)) h.3) ∙ e in
+        (qv, h.2, within, h.4, here h.2 (h.5 ∙ a) (h.6 ∙ g) (kept_on c j h.0 h.1 s h.2 h.3 v) i q)
+    first_moved Turn.Back i s a g v h e =
+        let q = sym (ap (first_after s (first see j i)) h.3) ∙ e in
+        (qv, h.2, within, h.4, here h.2 (h.5 ∙ a) (h.6 ∙ g) (kept_on c j h.0 h.1 s h.2 h.3 v) i q)
+    first_moved Turn.Answered i s a g v h e =
+        let q = pair_left (Gave h.1) c.event h.2 c.after (sym (ap (first_after s (first see j i)) h.3) ∙ e) in
+        let left : h.2.answers ≡ c.left = (let x : suc h.2.answers ≡ suc c.left = sym h.6 ∙ a in omega (arith, x)) in (
+          qv,
+          h.1,
+          within,
+          none,
+          sym q.0,
+          h.4,
+          subst (IsAnswered qv n) q.1 h.5,
+          subst (λ (t : State Task). t.answers ≡ c.left) q.1 left,
+          subst (λ (t : State Task). t.given ≡ suc c.given) q.1 (h.7 ∙ ap suc g),
+          subst (Kept c) q.1 (λ u r. v u (behind_answer j h.1 h.0 h.2 h.3 r)),
+        )
+    first_moved (Turn.Ended f) i s a g v h e = λ few. sym (pair_left (Over f) c.event s c.after (sym (ap (first_after s (first see j i)) h) ∙ e)).0
+
+    first_waits : (i : ℕ) (s : State Task) → IsWaiting (move (inner see j) see s) → first see j (suc i) s ≡ Some (c.event, c.after) → ⊥
+    first_waits i s h e = let q = sym (ap (first_after s (first see j i)) h.2) ∙ e in absurd (cc)
+
+    first_leads : (k : ℕ) (turn : Turn) (i : ℕ) (s : State Task) → s.answers ≡ suc c.left → s.given ≡ c.given → Kept c s → Leads k qv turn n (inner see j) see s → first see j i s ≡ Some (c.event, c.after) → Stands c turn n
+    first_leads k turn zero s a g v h e = absurd (cc)
+    first_leads zero turn (suc i) s a g v (inl h) e = first_moved turn i s a g v h e
+    first_leads zero turn (suc i) s a g v (inr h) e = absurd (first_waits i s h e)
+    first_leads (suc k) turn (suc i) s a g v (inl h) e = first_moved turn i s a g v h e
+    first_leads (suc k) turn (suc i) s a g v (inr (inl h)) e = absurd (first_waits i s h e)
+    first_leads (suc k) turn (suc i) s a g v (inr (inr h)) e =
+        let q = sym (ap (first_after s (first see j i)) h.3) ∙ e in
+        first_leads k turn i h.2 (h.4 ∙ a) (h.5 ∙ g) (kept_on c j h.0 h.1 s h.2 h.3 v) h.6 q
+
+  -- in that of a negated goal
+  module _ (w : Waiting) (ws : List Waiting) (some : qv.outer ≡ w ∷ ws) (m : ℕ) where
+    abbrev of : ℕ → Inner → Type 0
+    of k r = ComesOf c (Comes c ws) w k r
+
+    inside : (s : State Task) → s.answers ≡ 1 → Kept c s → (i : ℕ) → of s.steps (inner see i has_no_pairs s) → Comes c qv.outer s
+    inside s a v i h = subst (λ vs. Comes c vs s) (sym some) (a, v, i, h)
+
+    -- what the move is with the moves that are left to this search, or it waits
+    module _ (i : ℕ) (l : i ≤ m) (s : State Task) where
+      abbrev after : Move Task Answer → Inner
+      after v = inner_after (inner see i has_no_pairs) has_no_pairs s.row v
+
+      same_or_waits : (v : Move Task Answer) → move (inner see m) see s ≡ v → (x : Move Task Answer) → move (inner see i) see s ≡ x → (x ≡ v) ⊎ IsWaiting x
+      unfolding IsMade
+      same_or_waits v e (Goes k ns t) q = inl (sym q ∙ sym (move_more see i m l s (subst IsMade (sym q) tt)) ∙ e)
+      same_or_waits v e (Tells a ns t) q = inl (sym q ∙ sym (move_more see i m l s (subst IsMade (sym q) tt)) ∙ e)
+      same_or_waits v e (Stops f) q = inl (sym q ∙ sym (move_more see i m l s (subst IsMade (sym q) tt)) ∙ e)
+      same_or_waits v e (Breaks k ns f) q = inl (sym q ∙ sym (move_more see i m l s (subst IsMade (sym q) tt)) ∙ e)
+      same_or_waits v e (Waits k ns) q = inr (k, ns, refl)
+
+      waits_comes : (x : Move Task Answer) → IsWaiting x → of s.steps (after x) → ⊥
+      waits_comes x h o = subst (λ y. of s.steps (after y)) h.2 o
+
+      by_move : (v : Move Task Answer) → move (inner see m) see s ≡ v → of s.steps (inner see (suc i) has_no_pairs s) → of s.steps (after v) × LeavesSteps s.steps v
+      by_move v e h = elim (same_or_waits v e (move (inner see i) see s) refl) [
+        | inl q ↦ (subst (λ y. of s.steps (after y)) q h, subst (LeavesSteps s.steps) q (move_leaves see i s))
+        | inr q ↦ absurd (waits_comes (move (inner see i) see s) q h)
+      ]
+
+      on_goes : (k : ℕ) (ns : List Note) (t : State Task) → move (inner see m) see s ≡ Goes k ns t → of s.steps (inner see (suc i) has_no_pairs s) → of t.steps (inner see i has_no_pairs t)
+      on_goes k ns t e h = let r = by_move (Goes k ns t) e h in later_comes c (Comes c ws) w s.steps t.steps k ns (inner see i has_no_pairs t) r.1 r.0
+
+      inner_moved : (turn : Turn) → IsInnerTurn (w ∷ ws) turn → s.answers ≡ 1 → Kept c s → IsMoved qv turn n (move (inner see m) see s) s → of s.steps (inner see (suc i) has_no_pairs s) → Stands c turn n
+      inner_moved Turn.On x a v h o = (qv, h.2, within, h.4, inside h.2 (h.5 ∙ a) (kept_on c m h.0 h.1 s h.2 h.3 v) i (on_goes h.0 h.1 h.2 h.3 o))
+      inner_moved Turn.Back x a v h o = (qv, h.2, within, h.4, inside h.2 (h.5 ∙ a) (kept_on c m h.0 h.1 s h.2 h.3 v) i (on_goes h.0 h.1 h.2 h.3 o))
+      inner_moved Turn.Answered x a v h o = absurd x
+      inner_moved (Turn.Ended f) x a v h o = λ few. end_comes c (Comes c ws) w s.steps s.row f x (by_move (Stops f) h o).0
+
+      inner_waits : IsWaiting (move (inner see m) see s) → of s.steps (inner see (suc i) has_no_pairs s) → ⊥
+      inner_waits h o = (by_move (Waits h.0 h.1) h.2 o).0
+
+    inner_leads : (k : ℕ) (turn : Turn) → IsInnerTurn (w ∷ ws) turn → (i : ℕ) → i ≤ suc m → (s : State Task) → s.answers ≡ 1 → Kept c s → Leads k qv turn n (inner see m) see s → of s.steps (inner see i has_no_pairs s) → Stands c turn n
+    inner_leads k turn x zero l s a v h o = absurd o
+    inner_leads zero turn x (suc i) l s a v (inl h) o = inner_moved i (omega (arith, l)) s turn x a v h o
+    inner_leads zero turn x (suc i) l s a v (inr h) o = absurd (inner_waits i (omega (arith, l)) s h o)
+    inner_leads (suc k) turn x (suc i) l s a v (inl h) o = inner_moved i (omega (arith, l)) s turn x a v h o
+    inner_leads (suc k) turn x (suc i) l s a v (inr (inl h)) o = absurd (inner_waits i (omega (arith, l)) s h o)
+    inner_leads (suc k) turn x (suc i) l s a v (inr (inr h)) o = inner_leads k turn x i (omega (arith, l)) h.2 (h.4 ∙ a) (kept_on c m h.0 h.1 s h.2 h.3 v) h.6 (on_goes i (omega (arith, l)) s h.0 h.1 h.2 h.3 o)
+
+  -- a turn that leads there
+  pub leads_stands : (k : ℕ) (turn : Turn) (s : State Task) → IsInnerTurn qv.outer turn → ((j : ℕ) → Leads k qv turn n (inner see j) see s) → Comes c qv.outer s → Stands c turn n
+  leads_stands k turn s x h o = go qv.outer refl x o
+    where
+      go : (ws : List Waiting) → qv.outer ≡ ws → IsInnerTurn ws turn → Comes c ws s → Stands c turn n
+      go [] e x o = first_leads e o.3.inner_moves k turn o.3.moves s o.0 o.1 o.2 (h o.3.inner_moves) o.3.gives
+      go (w ∷ ws) e x o = inner_leads w ws e o.2 k turn x o.2 (omega arith) s o.0 o.1 (h o.2) o.3
+
+-- answers are wanted
+pub wanted : (c : Course) (ws : List Waiting) (s : State Task) → Comes c ws s → (k : ℕ) × (s.answers ≡ suc k)
+wanted c [] s h = (c.left, h.0)
+wanted c (w ∷ ws) s h = (0, h.0)
+
+pub kept_of : (c : Course) (ws : List Waiting) (s : State Task) → Comes c ws s → Kept c s
+kept_of c [] s h = h.2
+kept_of c (w ∷ ws) s h = h.1
+
+pub moved_stands : (c : Course) (qv : Query) (n : Machine) → IsOfQuery c.query qv → (turn : Turn) (s : State Task) → IsInnerTurn qv.outer turn → MovesTo qv turn n s → Comes c qv.outer s → Stands c turn n
+moved_stands c qv n q turn s x h o =
+    let w = wanted c qv.outer s o in
+    leads_stands c qv n q 0 turn s x (λ j. inl (h w.0 w.1 (inner (seen_in c) j) c.enough c.program)) o
+
+-- so is one that leads there, over the program
+pub led_over : (c : Course) (qv : Query) (n : Machine) → IsOfQuery c.query qv → (k : ℕ) (turn : Turn) (s : State Task) → IsInnerTurn qv.outer turn → IsTypedOver qv.arity c.enough c.program s → LeadsOver k qv turn n s c.program → Comes c qv.outer s → Stands c turn n
+led_over c qv n q k turn s x ty h o = go turn x h
+  where
+    go : (turn : Turn) → IsInnerTurn qv.outer turn → LeadsOver k qv turn n s c.program → Stands c turn n
+    go Turn.On x h = let w = wanted c qv.outer s o in leads_stands c qv n q k Turn.On s x (λ j. h w.0 w.1 (inner (seen_in c) j) c.enough (λ e. cc) ty) o
+    go Turn.Back x h = let w = wanted c qv.outer s o in leads_stands c qv n q k Turn.Back s x (λ j. h w.0 w.1 (inner (seen_in c) j) c.enough (λ e. cc) ty) o
+    go Turn.Answered x h = let w = wanted c qv.outer s o in leads_stands c qv n q k Turn.Answered s x (λ j. h w.0 w.1 (inner (seen_in c) j) c.enough (λ e. cc) ty) o
+    go (Turn.Ended e) x h = λ few. (let w = wanted c qv.outer s o in leads_stands c qv n q k (Turn.Ended e) s x (λ j. h w.0 w.1 (inner (seen_in c) j) c.enough few ty) o few)
