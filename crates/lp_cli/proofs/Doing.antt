@@ -1,11 +1,12 @@
 -- How each thing that is asked for is carried out, by what its command shows.
 use Rattle.std.proofs.Common.{◌≡◌, ◌≢◌, ℕ, List, ◌++◌, Option, Some, None, refl, sym, ap, ◌∙◌, subst, inl, inr, Bool, true, false}
-use Rattle.std.specs.Prelude.{◌⊎◌, IfSome, if◌then◌else◌}
+use Rattle.std.specs.Prelude.{◌⊎◌, IfSome, if◌then◌else◌, ◌&&◌, not, is_none}
+use Rattle.lp_lemmas.proofs.Booleans.{and_true_right}
 use Rattle.lp_base.specs.Held.{Held}
 use Rattle.lp_base.specs.declared.status.Status.{Status}
 use Rattle.lp_base.specs.declared.status.Status.TheVariants as variant
 use Rattle.lp_cli.specs.Does.{Does}
-use Rattle.lp_cli.specs.Fulfils.{Fulfils}
+use Rattle.lp_cli.specs.Fulfils.{Fulfils, IsWhole, Solves}
 use Rattle.lp_files.specs.Made.{WritesMade}
 use Rattle.lp_judge.specs.Checked.{Checks}
 use Rattle.lp_judge.specs.Judged.{Judges}
@@ -21,6 +22,7 @@ use Rattle.lp_lines.proofs.Appending.{whole_prefix}
 use Rattle.lp_load.specs.Placed.{WritesPlaced}
 use Rattle.lp_solve.specs.Ends.{Ends, Writes, WritesPrefix, IsQueryFault, of_module, of_any, WritesQueryFault, BeginsQueryFault}
 use Rattle.lp_solve.specs.Order.{Order, Beyond, order_of}
+use Rattle.lp_solve.specs.Solved.{BeginsSolved, WritesSolved}
 use Rattle.lp_words.specs.Asked.{Asked, check, files, is_plain, lambda, prove, query_image, query_on_texts, session, solve, trial, watches, writes_file}
 use Rattle.lp_words.specs.declared.asked.FileCommand.{FileCommand}
 use Rattle.lp_words.specs.declared.asked.Options.{Options}
@@ -60,6 +62,36 @@ module _ (name query : List ℕ) (options : Options) (plain : is_plain options �
 
   begins_so : (told : Option Held) (old new : Option (List ℕ)) → BeginsQueryFault told name query old new → BeginsAskedFault told (solve name query options) old new
   begins_so told old new w = record { text = w.text; fault = fault_so told w.text w.fault; appended = w.appended }
+
+-- a query without options is not watched
+module _ (name query : List ℕ) (options : Options) (plain : is_plain options ≡ true) (told : Option Held) (old new : Option (List ℕ)) (result : Status)
+    (writes : (h : Held) → told ≡ Some h → order_of name query h ≡ Beyond → result ≢ variant.WriteFault → WritesSolved told name query false result old new)
+    (begins : (h : Held) → told ≡ Some h → order_of name query h ≡ Beyond → result ≡ variant.WriteFault → BeginsSolved told name query false old new) where
+  unwatched : options.watch ≡ false
+  unwatched = by options.watch (and_true_right (is_none options.steps && is_none options.answers) (not options.watch) plain)
+    where
+      by : (b : Bool) → not b ≡ true → b ≡ false
+      by true e = absurd (cc)
+      by false e = refl
+
+  beyond_told : {P : Type 0} → IsWhole told name query options → ((h : Held) → told ≡ Some h → order_of name query h ≡ Beyond → P) → P
+  beyond_told (inl other) f = absurd (let e : true ≡ false = sym plain ∙ other in cc)
+  beyond_told (inr (h, is, beyond)) f = f h is beyond
+
+  pub solves_plain : Solves told name query options old new result
+  solves_plain = record {
+    writes = λ w n. subst (λ b. WritesSolved told name query b result old new) (sym unwatched) (beyond_told w (λ h is beyond. writes h is beyond n));
+    begins = λ w e. subst (λ b. BeginsSolved told name query b old new) (sym unwatched) (beyond_told w (λ h is beyond. begins h is beyond e));
+  }
+
+-- a query with options, under its name and text as they are handed on
+pub solves_within : (told : Option Held) (old new : Option (List ℕ)) (result : Status) (options : Options) {name' name query' query : List ℕ} → name' ≡ name → query' ≡ query →
+    (result ≢ variant.WriteFault → WritesSolved told name' query' options.watch result old new) →
+    (result ≡ variant.WriteFault → BeginsSolved told name' query' options.watch old new) → Solves told name query options old new result
+solves_within told old new result options {name' = name'} {query = query} n q writes begins = record {
+  writes = λ w k. subst (λ x. WritesSolved told x query options.watch result old new) n (subst (λ y. WritesSolved told name' y options.watch result old new) q (writes k));
+  begins = λ w k. subst (λ x. BeginsSolved told x query options.watch old new) n (subst (λ y. BeginsSolved told name' y options.watch old new) q (begins k));
+}
 
 module _ {F K : Type 0} {rf ms ov wf : F → ℕ} {held : F → Option Held} {faults : K → ℕ} {written : K → Option (List ℕ)} {a b : F} {o p : K} where
   -- what is asked for is one of these
@@ -136,11 +168,12 @@ module _ {F K : Type 0} {rf ms ov wf : F → ℕ} {held : F → Option Held} {fa
 
   -- a query with options
   pub does_within : (name query : List ℕ) (options : Options) (result : Status) → is_plain options ≡ false → Ran rf ms ov written a b o p result → KeepsFiles wf held faults a b o p result
-      → (result ≡ variant.Source → WritesPlaced (held a) query (written o) (written p)) → Does rf ms ov wf held faults written (solve name query options) a b o p result
-  does_within name query options result plain r k placed =
+      → (result ≡ variant.Source → WritesPlaced (held a) query (written o) (written p)) → Solves (held a) name query options (written o) (written p) result
+      → Does rf ms ov wf held faults written (solve name query options) a b o p result
+  does_within name query options result plain r k placed u =
       does_beyond (solve name query options) result (λ h. ap (λ (t : Bool). if t then order_of name query h else Beyond) plain) r
       (placed_one (held a) (written o) (written p) query result placed) (λ no. k)
-      (λ command name' is. absurd (cc)) (λ name' query' options' is. absurd (cc)) tt
+      (λ command name' is. absurd (cc)) (λ name' query' options' is. absurd (cc)) u
 
   -- a query without
   pub does_plain : (name query : List ℕ) (options : Options) (plain : is_plain options ≡ true) (result : Status)
@@ -148,8 +181,11 @@ module _ {F K : Type 0} {rf ms ov wf : F → ℕ} {held : F → Option Held} {fa
       → (result ≡ variant.WriteFault → IfSome (held a) (λ h. WritesPrefix (order_of name query h) (written o) (written p) ⊎ BeginsQueryFault (held a) name query (written o) (written p)))
       → (result ≡ variant.ReadFault → WritesQueryFault (held a) name query (written o) (written p))
       → (result ≡ variant.Source → WritesPlaced (held a) query (written o) (written p))
-      → Ran rf ms ov written a b o p result → KeepsFiles wf held faults a b o p result → Does rf ms ov wf held faults written (solve name query options) a b o p result
-  does_plain name query options plain result told prefix fault placed r k = record {
+      → Ran rf ms ov written a b o p result → KeepsFiles wf held faults a b o p result
+      → ((h : Held) → held a ≡ Some h → order_of name query h ≡ Beyond → result ≢ variant.WriteFault → WritesSolved (held a) name query false result (written o) (written p))
+      → ((h : Held) → held a ≡ Some h → order_of name query h ≡ Beyond → result ≡ variant.WriteFault → BeginsSolved (held a) name query false (written o) (written p))
+      → Does rf ms ov wf held faults written (solve name query options) a b o p result
+  does_plain name query options plain result told prefix fault placed r k writes begins = record {
     told = λ no other. for_told (held a) (λ h w. subst (λ x. Writes x result (written o) (written p)) (sym (order_so name query options plain h)) w) (told no other);
     prefix = λ e. for_told (held a) (λ h w. elim w [
       | inl x ↦ inl (subst (λ y. WritesPrefix y (written o) (written p)) (sym (order_so name query options plain h)) x)
@@ -160,7 +196,7 @@ module _ {F K : Type 0} {rf ms ov wf : F → ℕ} {held : F → Option Held} {fa
     ran = r;
     keeps = λ no. k;
     leaves = λ command name' is. absurd (cc);
-    fulfils = tt;
+    fulfils = solves_plain name query options plain (held a) (written o) (written p) result writes begins;
     certifies = λ name' query' options' is. absurd (cc);
   }
 

@@ -7,7 +7,7 @@ use Rattle.lp_base.specs.Written.{Appends, AppendsPrefix}
 use Rattle.lp_base.specs.declared.status.Status.{Status}
 use Rattle.lp_base.specs.declared.status.Status.TheVariants as variant
 use Rattle.lp_cli.specs.Does.{Does}
-use Rattle.lp_cli.specs.Fulfils.{Fulfils}
+use Rattle.lp_cli.specs.Fulfils.{Fulfils, Solves}
 use Rattle.lp_judge.specs.Proofs.{has_file}
 use Rattle.lp_lines.proofs.Statuses.{is_fault, not_otherwise}
 use Rattle.lp_cli.specs.Ends.{IsAskedFault, of_plain, of_beyond, BeginsAskedFault, WritesAskedFault, IsReadFault, own, beyond, BeginsReadFault, WritesReadFault}
@@ -17,9 +17,11 @@ use Rattle.lp_lines.specs.Ends.{KeepsFiles}
 use Rattle.lp_judge.specs.Proved.{Proves}
 use Rattle.lp_lines.specs.Left.{Leaves}
 use Rattle.lp_lines.specs.Lines.{memory_line}
+use Rattle.lp_lines.specs.declared.refusal.Refusal.TheVariants.{Memory}
 use Rattle.lp_load.specs.Placed.{WritesPlaced}
 use Rattle.lp_solve.specs.Ends.{Ends, with_line, without_memory, Writes, WritesPrefix}
 use Rattle.lp_solve.specs.Order.{Beyond, Refuse, order_of}
+use Rattle.lp_solve.specs.Solved as solved
 use Rattle.lp_solve.proofs.Orders.{for_each, for_told, query_wanting}
 use Rattle.lp_words.specs.Asked.{Asked, asked, check, files, is_plain, lambda, prove, query_image, query_on_texts, session, solve, trial, watches, writes_file, IsCommand, IsWatched, WritesNone}
 use Rattle.lp_words.specs.Commands.{usage_line}
@@ -136,15 +138,16 @@ module _ (words : List (List ℕ)) (a : Asked) (is : asked words ≡ Some a) whe
     pub fulfils_asked : (x : Asked) → asked words ≡ Some x → Fulfils (held f) (held g) (written o) (written p) x result
     fulfils_asked x h = subst (λ y. Fulfils (held f) (held g) (written o) (written p) y result) (some_is is h) d.fulfils
 
--- a run that ends with none of the statuses of a command that was carried out
+-- a run that ends with none of the statuses of a command that was carried out; a query is refused so
 module _ (told now : Option Held) (before after : Option (List ℕ)) (result : Status) (not_done : result ≢ variant.Done) (not_no : result ≢ variant.No)
-    (not_deep : result ≢ variant.Deep) (no_file : has_file result ≡ true → ⊥) where
+    (not_deep : result ≢ variant.Deep) (no_file : has_file result ≡ true → ⊥)
+    (refused : (name query : List ℕ) (options : Options) → Solves told name query options before after result) where
   pub fulfils_none : (x : Asked) → Fulfils told now before after x result
   fulfils_none (lambda name query) = record { yes = λ e. absurd (not_done e); no = λ e. absurd (not_no e) }
   fulfils_none (check name query) = record { accepted = λ e. absurd (not_done e); rejected = λ e. absurd (not_no e); deep = λ e. absurd (not_deep e) }
   fulfils_none (prove name query options) = λ f. absurd (no_file f)
   fulfils_none (files command name) = λ e. absurd (not_done e)
-  fulfils_none (solve name query options) = tt
+  fulfils_none (solve name query options) = refused name query options
   fulfils_none (query_image name query options) = tt
   fulfils_none (trial size) = tt
   fulfils_none (session name options) = tt
@@ -156,16 +159,21 @@ no_file_of said result none kept f = elim (is_fault result) [
   | inr n ↦ let h : true ≡ false = sym f ∙ ap has_file (kept n) ∙ none in cc
 ]
 
-pub fulfils_usage : (told now : Option Held) (before after : Option (List ℕ)) (result : Status) →
-    (result ≢ variant.WriteFault → result ≡ variant.Usage) → (x : Asked) → Fulfils told now before after x result
-unfolding has_file
-fulfils_usage told now before after result kept x = fulfils_none told now before after result
-    (not_otherwise result variant.Usage variant.Done kept (λ f. cc) (λ f. cc)) (not_otherwise result variant.Usage variant.No kept (λ f. cc) (λ f. cc))
-    (not_otherwise result variant.Usage variant.Deep kept (λ f. cc) (λ f. cc)) (no_file_of variant.Usage result refl kept) x
+-- want of memory is a refusal of each query
+wanting_solves : (told : Option Held) (before after : Option (List ℕ)) (result : Status) → (result ≢ variant.WriteFault → (result ≡ variant.Memory) × Appends before after memory_line) →
+    (result ≡ variant.WriteFault → AppendsPrefix before after memory_line) → (name query : List ℕ) (options : Options) → Solves told name query options before after result
+wanting_solves told before after result wrote began name query options = record {
+  writes = λ w n. record { text = memory_line; is = solved.refused Memory (solved.of_texts Memory tt tt) (wrote n).0 refl; appended = (wrote n).1 };
+  begins = λ w e. solved.a_line Memory (solved.of_texts Memory tt tt) (began e);
+}
 
 pub fulfils_memory : (told now : Option Held) (before after : Option (List ℕ)) (result : Status) →
-    (result ≢ variant.WriteFault → result ≡ variant.Memory) → (x : Asked) → Fulfils told now before after x result
+    (result ≢ variant.WriteFault → (result ≡ variant.Memory) × Appends before after memory_line) → (result ≡ variant.WriteFault → AppendsPrefix before after memory_line) →
+    (x : Asked) → Fulfils told now before after x result
 unfolding has_file
-fulfils_memory told now before after result kept x = fulfils_none told now before after result
+fulfils_memory told now before after result wrote began x =
+    let kept : result ≢ variant.WriteFault → result ≡ variant.Memory = λ n. (wrote n).0 in
+    fulfils_none told now before after result
     (not_otherwise result variant.Memory variant.Done kept (λ f. cc) (λ f. cc)) (not_otherwise result variant.Memory variant.No kept (λ f. cc) (λ f. cc))
-    (not_otherwise result variant.Memory variant.Deep kept (λ f. cc) (λ f. cc)) (no_file_of variant.Memory result refl kept) x
+    (not_otherwise result variant.Memory variant.Deep kept (λ f. cc) (λ f. cc)) (no_file_of variant.Memory result refl kept)
+    (wanting_solves told before after result wrote began) x

@@ -1,5 +1,5 @@
 -- What a run of a command says or leaves that is true of the texts, the certificates and the files that it is asked for.
-use Rattle.std.specs.Prelude.{◌≡◌, List, ℕ, Option, true}
+use Rattle.std.specs.Prelude.{◌≡◌, ◌≢◌, ◌⊎◌, List, ℕ, Option, Some, true, false}
 use Rattle.lp_base.specs.Held.{Held}
 use Rattle.lp_base.specs.declared.status.Status.{Status}
 use Rattle.lp_base.specs.declared.status.Status.TheVariants as variant
@@ -7,16 +7,28 @@ use Rattle.lp_files.specs.Made.{WritesMade}
 use Rattle.lp_judge.specs.Checked.{Checks}
 use Rattle.lp_judge.specs.Judged.{Judges}
 use Rattle.lp_judge.specs.Proofs.{WritesProofs, has_file}
-use Rattle.lp_words.specs.Asked.{Asked, check, files, lambda, prove, query_image, session, solve, trial}
+use Rattle.lp_solve.specs.Order.{Beyond, order_of}
+use Rattle.lp_solve.specs.Solved.{BeginsSolved, WritesSolved}
+use Rattle.lp_words.specs.Asked.{Asked, check, files, is_plain, lambda, prove, query_image, session, solve, trial}
+use Rattle.lp_words.specs.declared.asked.Options.{Options}
+
+-- a query of the whole language: an option is given, or the texts that the folder tells, or the query, are beyond the first fragment
+abbrev pub IsWhole : Option Held → (name query : List ℕ) → Options → Type 0
+IsWhole told name query options = (is_plain options ≡ false) ⊎ ((held : Held) × (told ≡ Some held) × (order_of name query held ≡ Beyond))
+
+-- what is written of such a query: the line of the first refusal, or what the search tells; where the output fails, a beginning of that
+pub record Solves (told : Option Held) (name query : List ℕ) (options : Options) (before after : Option (List ℕ)) (result : Status) : Type 0 where
+  pub writes : IsWhole told name query options → result ≢ variant.WriteFault → WritesSolved told name query options.watch result before after
+  pub begins : IsWhole told name query options → result ≡ variant.WriteFault → BeginsSolved told name query options.watch before after
 
 -- A verdict on the texts of a module and a query is right; so is one on certificates over the program of a module; where certificates are written, they are proofs from that program; and where a file
--- of a module is written, its bytes are of the kind that is asked for. Of a search nothing is said here.
+-- of a module is written, its bytes are of the kind that is asked for. Of a query on texts the lines of answers are those that its search tells. Of a search on an image nothing is said here.
 abbrev pub Fulfils : (told now : Option Held) → (before after : Option (List ℕ)) → Asked → Status → Type 0
 Fulfils told now before after (lambda name query) result = Judges told name query before after result
 Fulfils told now before after (check name query) result = Checks told name query before after result
 Fulfils told now before after (prove name query options) result = has_file result ≡ true → WritesProofs told now name query
 Fulfils told now before after (files command name) result = result ≡ variant.Done → WritesMade told now command name
-Fulfils told now before after (solve name query options) result = Unit {0}
+Fulfils told now before after (solve name query options) result = Solves told name query options before after result
 Fulfils told now before after (query_image name query options) result = Unit {0}
 Fulfils told now before after (trial size) result = Unit {0}
 Fulfils told now before after (session name options) result = Unit {0}

@@ -29,7 +29,8 @@ use std::alloc::Global;
 
 // The question of a module and a query, within these limits.
 fn question<'a>(name: &'a str, query: &'a str, options: Options) -> Question<'a>
-    ensures { result.query.now ≡ query.now }
+    ensures name { result.name.now ≡ name.now }
+    ensures query { result.query.now ≡ query.now }
 {
     Question {
         name,
@@ -115,7 +116,7 @@ pub fn run<F: Folder, K: Sink>(
     watchers: &mut Vec<Box<dyn Watch>>,
 ) -> Status
     // What the words and the files come to is done, to the last byte; with it comes that the answers are sound and exhaust the query. Of what is
-    // beyond the first fragment nothing is said yet.
+    // beyond the first fragment `fulfils` tells.
     ensures told { result ≢ Status.WriteFault → result ≢ Status.ReadFault
         → IfSome (F.held folder.old) (λ held. Writes (order (map string_bytes words.now) held) result (K.written out.old) (K.written out.new)) }
     // Where the output failed, a prefix of what would have been written stands.
@@ -140,7 +141,7 @@ pub fn run<F: Folder, K: Sink>(
     // A command that writes a file leaves all others as they are, and after a refusal this one too.
     ensures leaves { (command : FileCommand) (name : List ℕ) → asked (map string_bytes words.now) ≡ Some (OnFiles command name)
         → Leaves F.write_faults F.held K.faults K.written folder.old folder.new out.old out.new (name ++ ending_of command) (done_line command (name ++ ending_of command)) result }
-    // What a command says of texts, certificates and files is true of them.
+    // What a command says of texts, certificates and files is true of them; of a query on texts the refusal, or what its search tells, is written.
     ensures fulfils { (a : Asking) → asked (map string_bytes words.now) ≡ Some a → Fulfils (F.held folder.old) (F.held folder.new) (K.written out.old) (K.written out.new) a result }
     ensures certifies { (name query : List ℕ) (options : Options) → asked (map string_bytes words.now) ≡ Some (Proving name query options)
         → Proves F.write_faults F.held K.faults K.written folder.old folder.new out.old out.new name result }

@@ -1,3 +1,4 @@
 pub mod Leaving
 pub mod Making
 pub mod Linking
+pub mod Gathering

@@ -16,7 +16,7 @@ use Rattle.lp_object.specs.Plain.{plain_image, plain_object}
 use Rattle.lp_build.specs.Told.{IsTold}
 use Rattle.lp_link.specs.Linked.{IsLinked}
 use Rattle.lp_lines.specs.declared.refusal.Refusal.{Refusal}
-use Rattle.lp_files.specs.Made.{IsHeldObject, AreHeldObjects, BeginsNamed, SpellsLinked, IsImageLinked}
+use Rattle.lp_files.specs.Made.{IsHeldObject, AreHeldObjects, BeginsNamed, HaveUsed, AreUsedOnce, SpellsLinked, IsImageLinked}
 use Rattle.lp_files.specs.inner.Objects.{AreMore}
 
 -- texts of the same bytes
@@ -42,11 +42,11 @@ object_held told name file slice bytes (Ok o) f s there named spelled denotes = 
 object_held told name file slice bytes (Err e) f s there named spelled denotes = tt
 
 -- one more object
-pub more_held : (told now : Option Held) (old new : List Object) → now ≡ told → AreMore now old new → AreHeldObjects told old → AreHeldObjects told new
-more_held told now old new same (o, is, held) all = All_pushed (IsHeldObject told) new old o is all (subst (λ t. IsHeldObject t o) same held)
+pub more_held : (told now : Option Held) (name : List ℕ) (old new : List Object) → now ≡ told → AreMore now name old new → AreHeldObjects told old → AreHeldObjects told new
+more_held told now name old new same (o, is, as_asked, held) all = All_pushed (IsHeldObject told) new old o is all (subst (λ t. IsHeldObject t o) same held)
 
-pub more_named : (name : List ℕ) (told : Option Held) (old new : List Object) → AreMore told old new → BeginsNamed name old → BeginsNamed name new
-more_named name told old new (o, is, held) (first, more, begins, named) = (first, more ++ o ∷ [], is ∙ ap (λ l. l ++ o ∷ []) begins, named)
+pub more_named : (name : List ℕ) (told : Option Held) (other : List ℕ) (old new : List Object) → AreMore told other old new → BeginsNamed name old → BeginsNamed name new
+more_named name told other old new (o, is, as_asked, held) (first, more, begins, named) = (first, more ++ o ∷ [], is ∙ ap (λ l. l ++ o ∷ []) begins, named)
 
 -- the first object
 pub first_held : (told : Option Held) (old new : List Object) (o : Object) → old ≡ [] → new ≡ old ++ o ∷ [] → IsHeldObject told o → AreHeldObjects told new
@@ -62,7 +62,14 @@ spells_linked os image (Ok bytes) linked h = (image, linked, h)
 spells_linked os image (Err e) linked h = tt
 
 pub image_linked : (told : Option Held) (name : List ℕ) (os slice : List Object) (r : Result (Vec ℕ Global) Refusal) → slice ≡ os → BeginsNamed name
-    os → AreHeldObjects told os → IfOk r (λ bytes. SpellsLinked slice bytes.items)
-    → IfOk r (λ bytes. IsImageLinked told name bytes.items)
-image_linked told name os slice (Ok bytes) same first held h = record { objects = os; first = first; held = held; spells = subst (λ l. SpellsLinked l bytes.items) same h }
-image_linked told name os slice (Err e) same first held h = tt
+    os → AreHeldObjects told os → HaveUsed os → AreUsedOnce os
+    → IfOk r (λ bytes. SpellsLinked slice bytes.items) → IfOk r (λ bytes. IsImageLinked told name bytes.items)
+image_linked told name os slice (Ok bytes) same first held used once h = record {
+  objects = os;
+  first = first;
+  held = held;
+  used = used;
+  once = once;
+  spells = subst (λ l. SpellsLinked l bytes.items) same h;
+}
+image_linked told name os slice (Err e) same first held used once h = tt

@@ -1,19 +1,21 @@
 // The image of a module.
-ghost use Rattle.std.specs.Prelude.{◌≡◌, ◌<◌, ◌++◌, [], ◌∷◌, length, IfErr, IfOk, OnOk};
+ghost use Rattle.std.specs.Prelude.{◌≡◌, ◌<◌, ◌++◌, [], ◌∷◌, length, None, IfErr, IfOk, OnOk};
+ghost use Rattle.lp_places.specs.Places.{HasPlaces};
+ghost use Rattle.lp_link.specs.Uses.{names_of};
 ghost use Rattle.lp_link.specs.Linked.{IsLinked};
-ghost use Rattle.lp_files.specs.Made.{IsHeldObject, AreHeldObjects, BeginsNamed, SpellsLinked, IsImageLinked};
-ghost use Rattle.lp_files.specs.inner.Objects.{AreMore};
+ghost use Rattle.lp_files.specs.Made.{IsHeldObject, AreHeldObjects, BeginsNamed, HaveUsed, AreUsedOnce, SpellsLinked, IsImageLinked};
+ghost use Rattle.lp_files.specs.inner.Objects.{AreMore, AreTaken, IsUnread, IsNext};
 ghost use Rattle.lp_lines.specs.Looked.{Looked, refusal_of};
 ghost use Rattle.lp_lines.specs.Refusals.{IsJudged};
 
 use crate::lines::differ;
 use crate::migrate::image_bytes;
 use crate::open::open_object;
-use indexmap::IndexSet;
 use lp_base::{Folder, Limit, MAX_MODULES, Memory};
 use lp_code::{Image, Object};
 use lp_lines::{Refusal, limited, said_of};
 use lp_link::{LinkRefusal, Part, link};
+use lp_places::Places;
 use lp_standard::{FIRST_CONSTANT, FIRST_KIND};
 use std::alloc::Global;
 
@@ -22,7 +24,7 @@ use std::alloc::Global;
 struct Reading {
     alloc: Global,
     objects: Vec<Object>,
-    names: IndexSet<Vec<u8>>,
+    names: Places,
 }
 
 // The name of the file of a module.
@@ -44,45 +46,55 @@ fn misnamed(alloc: Global, user: &[u8]) -> Refusal
 
 impl Reading {
     fn new(alloc: Global) -> Reading
-        ensures { result.objects.items ≡ [] }
+        ensures none { result.objects.items ≡ [] }
+        ensures found { HasPlaces result.names [] }
     {
         Reading {
             alloc,
             objects: Vec::new(alloc),
-            names: IndexSet::new(alloc),
+            names: Places::new(alloc),
         }
     }
 
     fn take(&mut self, object: Object) -> Result<(), Memory>
+        requires found { HasPlaces self.old.names (names_of self.old.objects.items) }
+        ensures found { OnOk result (HasPlaces self.new.names (names_of self.new.objects.items)) }
         ensures some { OnOk result (0 < length self.new.objects.items) }
         ensures pushed { OnOk result (self.new.objects.items ≡ self.old.objects.items ++ object ∷ []) }
     {
-        let name = object.name.clone()?;
-        self.names.insert(name)?;
+        self.names.add(object.name.as_slice(), self.objects.len())?;
         self.objects.push(object)?;
         Ok(())
     }
 
     // The first name that an object uses from a place on and of which no object was read, with the place behind it.
-    fn unread(&self, user: usize, place: usize) -> Result<Option<(usize, Vec<u8>)>, Memory> {
+    fn unread(&self, user: usize, place: usize) -> Result<Option<(usize, Vec<u8>)>, Memory>
+        requires found { HasPlaces self.now.names (names_of self.now.objects.items) }
+        ensures { IfOk result (IsUnread self.now.objects.items user place) }
+    {
         let Some(object) = self.objects.get(user) else {
             return Ok(None);
         };
         for at in place..object.uses.len() {
             let name = &object.uses[at];
-            if !self.names.contains(name.as_slice()) {
-                return Ok(Some((at + 1, name.clone()?)));
+            if self.names.of(name.as_slice()).is_none() {
+                let name = Vec::from_slice(self.alloc, name.as_slice())?;
+                return Ok(Some((at + 1, name)));
             }
         }
         Ok(None)
     }
 
-    // The next of these names, depth first, with the number of the object that uses it. The objects that are open are those of which uses are left,
+    // The next of these names, depth first, with the number of the object that uses it. The objects that wait are those of which uses are left,
     // the newest last, each with the place of the next one.
-    fn next(&self, open: &mut Vec<(usize, usize)>) -> Result<Option<(usize, Vec<u8>)>, Memory> {
-        while let Some((user, place)) = open.pop() {
+    fn next(&self, waiting: &mut Vec<(usize, usize)>) -> Result<Option<(usize, Vec<u8>)>, Memory>
+        requires found { HasPlaces self.now.names (names_of self.now.objects.items) }
+        requires taken { AreTaken self.now.objects.items waiting.old.items None }
+        ensures { IfOk result (IsNext self.now.objects.items waiting.new.items) }
+    {
+        while let Some((user, place)) = waiting.pop() {
             if let Some((next, name)) = self.unread(user, place)? {
-                open.push((user, next))?;
+                waiting.push((user, next))?;
                 return Ok(Some((user, name)));
             }
         }
@@ -105,6 +117,7 @@ impl Reading {
         user: usize,
         name: &[u8],
     ) -> Result<Object, Refusal>
+        ensures named { IfOk result (λ object. object.name.items ≡ name.now) }
         ensures held { IfOk result (IsHeldObject (F.held folder.old)) }
         ensures looked { Looked F.read_faults F.misses F.overs F.write_faults F.held folder.old folder.new (refusal_of result) }
     {
@@ -116,14 +129,24 @@ impl Reading {
 
     // Reads the object of this name, which another one uses.
     fn read<F: Folder>(&mut self, folder: &mut F, user: usize, name: &[u8]) -> Result<(), Refusal>
+        requires found { HasPlaces self.old.names (names_of self.old.objects.items) }
         ensures looked { Looked F.read_faults F.misses F.overs F.write_faults F.held folder.old folder.new (refusal_of result) }
         ensures some { OnOk result (0 < length self.new.objects.items) }
-        ensures more { OnOk result (AreMore (F.held folder.old) self.old.objects.items self.new.objects.items) }
+        ensures found { OnOk result (HasPlaces self.new.names (names_of self.new.objects.items)) }
+        ensures more { OnOk result (AreMore (F.held folder.old) name.now self.old.objects.items self.new.objects.items) }
     {
         let object = self.open_used(folder, user, name)?;
         self.take(object)?;
         Ok(())
     }
+}
+
+// The uses of an object are all left.
+fn wait(waiting: &mut Vec<(usize, usize)>, number: usize) -> Result<(), Memory>
+    ensures { OnOk result (waiting.new.items ≡ waiting.old.items ++ (number, 0) ∷ []) }
+{
+    waiting.push((number, 0))?;
+    Ok(())
 }
 
 // The objects of a root and of what it uses, depth first, each once.
@@ -132,20 +155,22 @@ fn objects_of<F: Folder>(alloc: Global, folder: &mut F, root: &str) -> Result<Ve
     ensures root { IfOk result (λ objects. 0 < length objects.items) }
     ensures first { IfOk result (λ objects. BeginsNamed root.now objects.items) }
     ensures held { IfOk result (λ objects. AreHeldObjects (F.held folder.old) objects.items) }
+    ensures used { IfOk result (λ objects. HaveUsed objects.items) }
+    ensures once { IfOk result (λ objects. AreUsedOnce objects.items) }
 {
     let object = open_object(alloc, folder, root)?;
     let mut reading = Reading::new(alloc);
     reading.take(object)?;
-    let mut open = Vec::new(alloc);
-    open.push((0, 0)).map_err(Memory::from)?;
+    let mut waiting = Vec::new(alloc);
+    wait(&mut waiting, 0)?;
     for number in 1..MAX_MODULES {
-        let Some((user, name)) = reading.next(&mut open)? else {
+        let Some((user, name)) = reading.next(&mut waiting)? else {
             return Ok(reading.objects);
         };
         reading.read(folder, user, name.as_slice())?;
-        open.push((number, 0)).map_err(Memory::from)?;
+        wait(&mut waiting, number)?;
     }
-    match reading.next(&mut open)? {
+    match reading.next(&mut waiting)? {
         None => Ok(reading.objects),
         Some(_) => Err(limited(alloc, Limit::Modules)),
     }

@@ -89,7 +89,7 @@ pub const FILES: [(&str, &str); 40] = [
     ("calls.mod", "module calls. p a. p b. q X :- X."),
     (
         "forms.sig",
-        "sig forms. kind i type. type a i. type p i -> o. type q, r o.",
+        "sig forms. kind i type. type a i. type p i -> o. type q, r o. type some A.",
     ),
     (
         "forms.mod",

@@ -1,5 +1,5 @@
 -- A typing stays in a bank that grows.
-use Rattle.std.proofs.Common.{◌≡◌, ℕ, ◌<◌, ◌≤◌, List, map, ap, subst, sym, arith, ◌∙◌}
+use Rattle.std.proofs.Common.{◌≡◌, ℕ, ◌<◌, ◌≤◌, List, map, ap, subst, sym, arith, ◌∙◌, true}
 use Rattle.std.specs.Prelude.{reverse, length}
 use Rattle.lp_lemmas.proofs.Lists.{map_agree_on}
 use Rattle.lp_fixity.specs.Table.{entry_of}
@@ -17,7 +17,9 @@ use Rattle.lp_infer.specs.Numbering.{AreNumbered, IsTyped, typing_of, typing_var
 use Rattle.lp_infer.specs.Texts.{IsPrincipalTyping}
 use Rattle.lp_infer.specs.Refusals.{Stands}
 use Rattle.lp_module.specs.Arguments.{HasManyArguments}
+use Rattle.lp_module.specs.Clauses.{IsFormed}
 use Rattle.lp_module.specs.Refusals.{IsShort}
+use Rattle.lp_module.specs.Schemes.{declared_schemes}
 use Rattle.lp_base.specs.declared.limits.TheConstants.{MAX_ARGUMENTS}
 use Rattle.lp_term.proofs.Trees.{extends-trans}
 use Rattle.lp_load.specs.Asked.{IsAsked, IsRead}
@@ -57,11 +59,13 @@ module _ (a b : Nodes) (grown : Extends a b) where
     typed = typed_stays names text h.raw.term t h.stands h.typed;
     short = subst IsShort (sym (grown.same_terms t.formula.0 h.stands.formula)) h.short;
     variables = h.variables;
+    formed = subst (IsFormed (declared_schemes names) true t.type_vars) (sym (grown.same_terms t.formula.0 h.stands.formula)) h.formed;
   }
 
 -- what is typed in a bank and tested there, in a later one
 pub asked_later : (operators : Table) (names : Signature) (text : List ℕ) (a b c : Nodes) (raw : RawQuery) (t : Typed) → Extends a b → Extends b c
     → IsRead operators text raw → (HasManyArguments raw.term → ⊥) → Stands a t → IsTyped names text raw.term a t
-    → IsShort (tree a t.formula.0) → t.type_vars ≤ MAX_ARGUMENTS → IsAsked operators names text c t
-asked_later operators names text a b c raw t e f r n h i s v =
-    asked_stays a c (extends-trans a b c e f) operators names text t (record { raw = raw; read = r; few = n; stands = h; typed = i; short = s; variables = v })
+    → IsShort (tree a t.formula.0) → t.type_vars ≤ MAX_ARGUMENTS → IsFormed (declared_schemes names) true t.type_vars (tree a t.formula.0)
+    → IsAsked operators names text c t
+asked_later operators names text a b c raw t e f r n h i s v m =
+    asked_stays a c (extends-trans a b c e f) operators names text t (record { raw = raw; read = r; few = n; stands = h; typed = i; short = s; variables = v; formed = m })

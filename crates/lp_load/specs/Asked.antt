@@ -1,5 +1,5 @@
 -- A query as its text says it.
-use Rattle.std.specs.Prelude.{◌≤◌, ℕ, List}
+use Rattle.std.specs.Prelude.{◌≤◌, ℕ, List, true}
 use Rattle.lp_base.specs.declared.limits.TheConstants.{MAX_ARGUMENTS}
 use Rattle.lp_lexer.specs.declared.token.Token.{Token}
 use Rattle.lp_lexer.specs.Lexis.{HasTokens}
@@ -14,7 +14,9 @@ use Rattle.lp_sig.specs.declared.signature.Signature.{Signature}
 use Rattle.lp_infer.specs.Numbering.{IsTyped}
 use Rattle.lp_infer.specs.Refusals.{Stands}
 use Rattle.lp_module.specs.Arguments.{HasManyArguments}
+use Rattle.lp_module.specs.Clauses.{IsFormed}
 use Rattle.lp_module.specs.Refusals.{IsShort}
+use Rattle.lp_module.specs.Schemes.{declared_schemes}
 
 -- the text has tokens, and these are one query tree under the operators
 pub record IsRead (operators : Table) (text : List ℕ) (raw : RawQuery) : Type 0 where
@@ -22,7 +24,8 @@ pub record IsRead (operators : Table) (text : List ℕ) (raw : RawQuery) : Type 
   pub lexed : HasTokens text tokens
   pub tree : IsQueryText (spot_at 0 text tokens) (entry_of operators) (lexemes text tokens) raw
 
--- the query is the principal typing of what is read in the text, in this bank, and within the limits on arguments and on the nodes of its normal form
+-- the query is the principal typing of what is read in the text, in this bank, within the limits on arguments and on the nodes of its normal form, and has
+-- the form of a goal: a constant heads an assumed clause only where its declared type ends in `o`
 pub record IsAsked (operators : Table) (names : Signature) (text : List ℕ) (b : Nodes) (query : Typed) : Type 0 where
   pub raw : RawQuery
   pub read : IsRead operators text raw
@@ -31,3 +34,4 @@ pub record IsAsked (operators : Table) (names : Signature) (text : List ℕ) (b 
   pub typed : IsTyped names text raw.term b query
   pub short : IsShort (tree b query.formula.0)
   pub variables : query.type_vars ≤ MAX_ARGUMENTS
+  pub formed : IsFormed (declared_schemes names) true query.type_vars (tree b query.formula.0)

@@ -1,9 +1,11 @@
 // A query, from its text to its typed formula.
-ghost use Rattle.std.specs.Prelude.{◌≡◌, ◌≢◌, ◌≤◌, ◌⊎◌, ℕ, List, IfOk, IfErr, OnOk, codes};
+ghost use Rattle.std.specs.Prelude.{◌≡◌, ◌≢◌, ◌≤◌, ◌⊎◌, ℕ, List, IfOk, IfErr, OnOk, codes, true};
 ghost use Rattle.lp_base.specs.declared.limits.TheConstants.{MAX_ARGUMENTS};
 ghost use Rattle.lp_term.specs.Nodes.{Extends, tree};
 ghost use Rattle.lp_module.specs.Arguments.{HasManyArguments};
+ghost use Rattle.lp_module.specs.Clauses.{IsFormed};
 ghost use Rattle.lp_module.specs.Refusals.{IsShort};
+ghost use Rattle.lp_module.specs.Schemes.{declared_schemes};
 ghost use Rattle.lp_load.specs.Asked.{IsAsked, IsRead};
 ghost use Rattle.lp_lines.specs.Placed.{IsCauseOf, IsOfText, IfSource};
 ghost use Rattle.lp_lines.specs.Refusals.{IsTextRefusal};
@@ -14,8 +16,9 @@ use lp_infer::type_query;
 use lp_lexer::tokens;
 use lp_lines::{Cause, Refusal, of_module, of_syntax, of_typing, query_refused};
 use lp_model::Typed;
-use lp_module::{has_many_arguments, query_form};
+use lp_module::{has_many_arguments, query_form_under};
 use lp_normal::{NormalRefusal, query_body};
+use lp_sig::Signature;
 use lp_syntax::{RawQuery, query_text};
 use lp_term::Bank;
 use std::alloc::Global;
@@ -46,13 +49,20 @@ fn within_arguments(alloc: Global, raw: &RawQuery) -> Result<(), Cause>
     }
 }
 
-fn within_form(alloc: Global, bank: &mut Bank, typed: &Typed, first: Spot) -> Result<(), Cause>
+fn within_form(
+    alloc: Global,
+    bank: &mut Bank,
+    names: &Signature,
+    typed: &Typed,
+    first: Spot,
+) -> Result<(), Cause>
     ensures refused { (text : List ℕ) → IfErr result (IsCauseOf text) }
     ensures kept { Extends bank.old bank.new }
     ensures short { OnOk result (IsShort (tree bank.old typed.now.formula.0)) }
     ensures variables { OnOk result (typed.now.type_vars ≤ MAX_ARGUMENTS) }
+    ensures formed { OnOk result (IsFormed (declared_schemes names.now) true typed.now.type_vars (tree bank.old typed.now.formula.0)) }
 {
-    match query_form(alloc, bank, typed, first) {
+    match query_form_under(alloc, bank, names, typed, first) {
         Ok(()) => Ok(()),
         Err(fault) => Err(of_module(fault)),
     }
@@ -88,7 +98,7 @@ fn type_of(alloc: Global, text: &[u8], built: &mut Built) -> Result<Typed, Cause
         Ok(typed) => typed,
         Err(fault) => return Err(of_typing(fault)),
     };
-    within_form(alloc, bank, &typed, raw.term.first)?;
+    within_form(alloc, bank, &built.signature, &typed, raw.term.first)?;
     within_clauses(alloc, bank, &typed)?;
     Ok(typed)
 }

@@ -8,7 +8,7 @@ ghost use Rattle.lp_term.specs.Nodes.{Extends, tree};
 ghost use Rattle.lp_module.specs.Clauses.{IsShortForm, IsFormed};
 ghost use Rattle.lp_module.specs.Form.{whole};
 ghost use Rattle.lp_module.specs.Refusals.{IsFormFault, IsShort};
-ghost use Rattle.lp_module.specs.Schemes.{any_schemes};
+ghost use Rattle.lp_module.specs.Schemes.{any_schemes, declared_schemes};
 ghost use Rattle.lp_module.specs.inner.Judging.{AreHeads, AreMeasured, IsVerdict};
 
 use crate::fault::ModuleFault;
@@ -18,6 +18,7 @@ use crate::measure::Measures;
 use crate::quantified::LOOSE;
 use lp_base::{Limit, MAX_ARGUMENTS, MAX_CONTRACTIONS, MAX_NODES, Spot};
 use lp_model::Typed;
+use lp_sig::Signature;
 use lp_term::{Bank, TermId, TermRefusal, beta_normal};
 use std::alloc::Global;
 
@@ -85,7 +86,33 @@ pub(crate) fn check_form(
     Ok(())
 }
 
-/// Whether a query is within the limits and is a goal. `first` is the spot of its first token.
+// Whether a query is within the limits and is a goal, where it is known which constants can head a clause.
+fn goal_form(
+    alloc: Global,
+    bank: &mut Bank,
+    heads: &Heads,
+    query: &Typed,
+    first: Spot,
+) -> Result<(), ModuleFault>
+    ensures kept { Extends bank.old bank.new }
+    ensures formed { OnOk result ((d : ℕ → Option Scheme) → AreHeads d heads.now → IsFormed d true query.now.type_vars (tree bank.old query.now.formula.0)) }
+    ensures refused { IfErr result (λ e. (d : ℕ → Option Scheme) → AreHeads d heads.now → IsFormFault d true query.now.type_vars (tree bank.old query.now.formula.0) first e) }
+{
+    let mut measures = Measures::new(alloc);
+    check_form(
+        alloc,
+        bank,
+        heads,
+        &mut measures,
+        true,
+        query.type_vars,
+        query.formula,
+        first,
+    )
+}
+
+/// Whether a query is within the limits and is a goal, where each constant that is not standard may head an assumed clause. `first` is the spot of its
+/// first token.
 pub fn query_form(
     alloc: Global,
     bank: &mut Bank,
@@ -98,17 +125,26 @@ pub fn query_form(
     ensures formed { OnOk result (IsFormed any_schemes true query.now.type_vars (tree bank.old query.now.formula.0)) }
     ensures refused { IfErr result (IsFormFault any_schemes true query.now.type_vars (tree bank.old query.now.formula.0) first) }
 {
-    let heads = Heads::Any;
-    let mut measures = Measures::new(alloc);
-    check_form(
-        alloc,
-        bank,
-        &heads,
-        &mut measures,
-        true,
-        query.type_vars,
-        query.formula,
-        first,
-    )?;
+    goal_form(alloc, bank, &Heads::Any, query, first)?;
+    Ok(())
+}
+
+/// Whether a query that is written in the names of a signature is within the limits and is a goal: a constant may head an assumed clause where its
+/// declared type ends in `o`. `first` is the spot of the query's first token.
+pub fn query_form_under(
+    alloc: Global,
+    bank: &mut Bank,
+    names: &Signature,
+    query: &Typed,
+    first: Spot,
+) -> Result<(), ModuleFault>
+    ensures kept { Extends bank.old bank.new }
+    ensures short { OnOk result (IsShort (tree bank.old query.now.formula.0)) }
+    ensures variables { OnOk result (query.now.type_vars ≤ MAX_ARGUMENTS) }
+    ensures formed { OnOk result (IsFormed (declared_schemes names.now) true query.now.type_vars (tree bank.old query.now.formula.0)) }
+    ensures refused { IfErr result (IsFormFault (declared_schemes names.now) true query.now.type_vars (tree bank.old query.now.formula.0) first) }
+{
+    let heads = Heads::of(alloc, names)?;
+    goal_form(alloc, bank, &heads, query, first)?;
     Ok(())
 }

@@ -42,7 +42,7 @@ mod words;
 
 pub use copies::{Assembled, GlobalName, assemble};
 pub use fault::ModuleFault;
-pub use form::query_form;
+pub use form::{query_form, query_form_under};
 pub use laws::{clauses_are_closed, program_is_closed};
 pub use meaning::elaborate;
 pub use module::Module;

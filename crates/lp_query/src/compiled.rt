@@ -20,7 +20,7 @@ use lp_gen::generate_query;
 use lp_infer::type_query;
 use lp_lexer::tokens;
 use lp_model::{Goal, Typed};
-use lp_module::{has_many_arguments, query_form};
+use lp_module::{has_many_arguments, query_form_under};
 use lp_normal::query_body;
 use lp_sig::spelled_at;
 use lp_syntax::{RawQuery, query_text};
@@ -61,7 +61,7 @@ fn goals_of(
 {
     let bank = &mut seen.bank;
     let typed = type_query(alloc, &seen.signature, query, raw, bank)?;
-    query_form(alloc, bank, &typed, raw.term.first)?;
+    query_form_under(alloc, bank, &seen.signature, &typed, raw.term.first)?;
     let body = query_body(alloc, bank, &typed)?;
     Ok((typed, body))
 }

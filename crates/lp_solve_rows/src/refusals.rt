@@ -76,6 +76,7 @@ fn queries_are_refused(rt: HostRuntime) -> Result<(), Memory> {
             "source: query:1:5: undeclared name b\n",
         ),
         ("loop", "q :- X", "source: query:1:1: not a clause\n"),
+        ("forms", "some => true", "source: query:1:1: not a clause\n"),
         ("loop", "(q ; q) => q", "source: query:1:1: not a clause\n"),
     ] {
         check(&rt, alloc, module, query, Status::Source, written)?;

@@ -3,7 +3,7 @@ use Rattle.lp_judge.specs.Proofs.{WritesProofs}
 use Rattle.lp_judge.specs.Proved.{Proves}
 use Rattle.lp_load.specs.Placed.{WritesPlaced}
 use Rattle.lp_words.specs.Asked.{asked_of}
-use Rattle.lp_cli.proofs.Doing.{becomes, does_check, does_files, does_lambda, does_plain, does_prove, does_query, does_session, does_trial, does_within, watching_or}
+use Rattle.lp_cli.proofs.Doing.{becomes, does_check, does_files, does_lambda, does_plain, does_prove, does_query, does_session, does_trial, does_within, solves_within, watching_or}
 use Rattle.lp_cli.proofs.run.perform.Goals as goal
 
 pub returns-in-Trial-clause-does : goal.returns-in-Trial-clause-does
@@ -50,7 +50,7 @@ returns-then-are_none-clause-does g c =
     becomes _ (asked_of c.args.asked) c.solve_plain.result (ap asked_of c.in-Solve.is)
     (does_plain c.in-Solve.name.now c.in-Solve.query.now c.in-Solve.options (sym c.are_none.ensures ∙ c.if-are_none.true) c.solve_plain.result
     c.solve_plain.ensures.told c.solve_plain.ensures.prefix c.solve_plain.ensures.read_fault
-    c.solve_plain.ensures.placed c.solve_plain.ensures.ran c.solve_plain.ensures.keeps)
+    c.solve_plain.ensures.placed c.solve_plain.ensures.ran c.solve_plain.ensures.keeps c.solve_plain.ensures.writes c.solve_plain.ensures.begins)
 
 pub returns-else-are_none-clause-does : goal.returns-else-are_none-clause-does
 returns-else-are_none-clause-does g c =
@@ -58,7 +58,9 @@ returns-else-are_none-clause-does g c =
     (does_within c.in-Solve.name.now c.in-Solve.query.now c.in-Solve.options c.solve_within.result (sym c.are_none.ensures ∙ c.if-are_none.false)
     c.solve_within.ensures.ran c.solve_within.ensures.keeps
     (λ e. subst (λ q. WritesPlaced (g.F.Folder.held c.args.folder.now) q (g.K.Sink.written c.args.out.now) (g.K.Sink.written c.solve_within.new.out))
-    c.question.ensures (c.solve_within.ensures.placed e)))
+    c.question.ensures.query (c.solve_within.ensures.placed e))
+    (solves_within (g.F.Folder.held c.args.folder.now) (g.K.Sink.written c.args.out.now) (g.K.Sink.written c.solve_within.new.out) c.solve_within.result c.in-Solve.options
+    c.question.ensures.name c.question.ensures.query c.solve_within.ensures.writes c.solve_within.ensures.begins))
 
 pub returns-in-Query-clause-silent : goal.returns-in-Query-clause-silent
 returns-in-Query-clause-silent g c = watching_or _ (asked_of c.args.asked) _ _ (ap asked_of c.in-Query.is) c.query.ensures.silent

@@ -5,7 +5,7 @@ use Rattle.lp_model.specs.declared.ending.Ending.TheVariants as ending
 use Rattle.lp_lines.proofs.Leaving.{leaves_untouched}
 use Rattle.lp_lines.proofs.Statuses.{is_fault, still, long_still, not_otherwise}
 use Rattle.lp_words.specs.Asked.{asked_of}
-use Rattle.lp_cli.proofs.Orders.{Wrote, usage_told, usage_began, wanting_told, wanting_began, told_asked, prefix_asked, fault_asked, placed_asked, keeps_asked, leaves_asked, certifies_asked, fulfils_asked, fulfils_memory, fulfils_usage, command_asked, watched_asked}
+use Rattle.lp_cli.proofs.Orders.{Wrote, usage_told, usage_began, wanting_told, wanting_began, told_asked, prefix_asked, fault_asked, placed_asked, keeps_asked, leaves_asked, certifies_asked, fulfils_asked, fulfils_memory, command_asked, watched_asked}
 use Rattle.lp_cli.proofs.run.run.Goals as goal
 
 -- words that are no command, and want of memory for them
@@ -197,7 +197,11 @@ pub returns-in-Ok-clause-fulfils : goal.returns-in-Ok-clause-fulfils
 returns-in-Ok-clause-fulfils g c = fulfils_asked (map string_bytes c.args.words.now) (asked_of c.in-Ok.asked) c.in-Ok.ensures.ok c.perform.ensures.does
 
 pub returns-in-Err-Usage-clause-fulfils : goal.returns-in-Err-Usage-clause-fulfils
-returns-in-Err-Usage-clause-fulfils g c = λ x is. fulfils_usage _ _ _ _ c.say.result (λ n. (c.say.ensures.said n).0) x
+returns-in-Err-Usage-clause-fulfils g c = λ x is. absurd (let none = sym (c.in-Err-Usage.ensures.usage (ap Err c.in-Err-Usage.field-0-is)) ∙ is in cc)
 
 pub returns-in-Err-Memory-clause-fulfils : goal.returns-in-Err-Memory-clause-fulfils
-returns-in-Err-Memory-clause-fulfils g c = λ x is. fulfils_memory _ _ _ _ c.say-in-Err-Memory.result (λ n. (c.say-in-Err-Memory.ensures.said n).0) x
+returns-in-Err-Memory-clause-fulfils g c =
+    let line = c.as_bytes-in-Err-Memory.ensures.value ∙ c.memory.ensures in
+    λ x is. fulfils_memory _ _ (g.K.Sink.written c.args.out.now) (g.K.Sink.written c.say-in-Err-Memory.new.out) c.say-in-Err-Memory.result
+    (λ n. let said = c.say-in-Err-Memory.ensures.said n in (said.0, subst (Appends (g.K.Sink.written c.args.out.now) (g.K.Sink.written c.say-in-Err-Memory.new.out)) line said.1))
+    (λ e. subst (AppendsPrefix (g.K.Sink.written c.args.out.now) (g.K.Sink.written c.say-in-Err-Memory.new.out)) line (c.say-in-Err-Memory.ensures.prefix e)) x

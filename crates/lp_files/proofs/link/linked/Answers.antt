@@ -8,4 +8,4 @@ returns-clause-looked g c = looked_judged c.linked_bytes.result c.in_ok-objects.
 pub returns-clause-image : goal.returns-clause-image
 returns-clause-image g c =
     image_linked (g.F.Folder.held c.args.folder.now) c.args.name.now c.in_ok-objects.objects.items c.as_slice.result.now c.linked_bytes.result c.as_slice.ensures.value
-    c.in_ok-objects.ensures.first c.in_ok-objects.ensures.held c.linked_bytes.ensures.image
+    c.in_ok-objects.ensures.first c.in_ok-objects.ensures.held c.in_ok-objects.ensures.used c.in_ok-objects.ensures.once c.linked_bytes.ensures.image

@@ -20,4 +20,4 @@ returns-in_err-within_clauses-clause-refused g = cause_passed g.from_residual-in
 pub returns-clause-asked : goal.returns-clause-asked
 returns-clause-asked g = asked_later _ _ _ _ _ _ g.in_ok-raw.raw _ g.in_ok-within_form.ensures.kept g.in_ok-within_clauses.ensures.kept
     g.in_ok-raw.ensures.read g.in_ok-within_arguments.ensures.few g.in-Ok.ensures.stands g.in-Ok.ensures.typed g.in_ok-within_form.ensures.short
-    g.in_ok-within_form.ensures.variables
+    g.in_ok-within_form.ensures.variables g.in_ok-within_form.ensures.formed

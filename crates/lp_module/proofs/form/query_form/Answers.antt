@@ -6,19 +6,16 @@ use Rattle.lp_module.specs.Schemes.{any_schemes}
 use Rattle.lp_module.proofs.Forming.{any_heads, short_of}
 use Rattle.lp_module.proofs.form.query_form.Goals as goal
 
-pub check_form-requires : goal.check_form-requires
-check_form-requires c = record { measured = c.new-measures.ensures c.args.bank.now }
-
 pub returns-clause-short : goal.returns-clause-short
-returns-clause-short c = short_of any_schemes true c.args.query.now.type_vars (tree c.args.bank.now c.args.query.now.formula.0) (c.in_ok-check_form.ensures.formed any_schemes any_heads)
+returns-clause-short c = short_of any_schemes true c.args.query.now.type_vars (tree c.args.bank.now c.args.query.now.formula.0) (c.in_ok-goal_form.ensures.formed any_schemes any_heads)
 
 pub returns-clause-variables : goal.returns-clause-variables
-returns-clause-variables c = (c.in_ok-check_form.ensures.formed any_schemes any_heads).within.type_variables
+returns-clause-variables c = (c.in_ok-goal_form.ensures.formed any_schemes any_heads).within.type_variables
 
 pub returns-clause-formed : goal.returns-clause-formed
-returns-clause-formed c = c.in_ok-check_form.ensures.formed any_schemes any_heads
+returns-clause-formed c = c.in_ok-goal_form.ensures.formed any_schemes any_heads
 
-pub returns-in_err-check_form-clause-refused : goal.returns-in_err-check_form-clause-refused
-returns-in_err-check_form-clause-refused c =
-    passed_up c.from_residual.result c.in_err-check_form.field-0.0 (IsFormFault any_schemes true c.args.query.now.type_vars (tree c.args.bank.now c.args.query.now.formula.0) c.args.first) c.from_residual.ensures.1
-    (c.in_err-check_form.ensures.refused any_schemes any_heads)
+pub returns-in_err-goal_form-clause-refused : goal.returns-in_err-goal_form-clause-refused
+returns-in_err-goal_form-clause-refused c =
+    passed_up c.from_residual.result c.in_err-goal_form.field-0.0 (IsFormFault any_schemes true c.args.query.now.type_vars (tree c.args.bank.now c.args.query.now.formula.0) c.args.first) c.from_residual.ensures.1
+    (c.in_err-goal_form.ensures.refused any_schemes any_heads)
