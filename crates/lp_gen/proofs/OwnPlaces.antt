@@ -1,16 +1,21 @@
 -- The own variables of a clause: where they stand, and the indices that they get.
-use Rattle.std.proofs.Common.{◌≡◌, ◌∙◌, ◌⊎◌, inl, inr, ⊎_elim, ◌<◌, ◌≤◌, ℕ, zero, suc, ◌+◌, ◌-◌, List, [], ◌∷◌, ◌++◌, length, map, reverse, Bool, true, false, Option, Some, None, ap, refl, sym, subst, arith, true≢false, add-one}
+use Rattle.std.proofs.Common.{◌≡◌, ◌∙◌, ◌⊎◌, inl, inr, ⊎_elim, ◌<◌, ◌≤◌, ℕ, zero, suc, ◌+◌, ◌-◌, List, [], ◌∷◌, ◌++◌, length, map, reverse, get_or, Bool, true, false, Option, Some, None, ap, refl, sym, subst, arith, true≢false, add-one}
 use Rattle.std.specs.Prelude.{nat_eq, nat_le, nat_lt, if◌then◌else◌, slice_get}
 use Rattle.std.proofs.lemmas.Bool.{eqb-true, eq-eqb, ne_eqb, leb-true, leb-false, le-leb, ltb-true, ltb-false}
 use Rattle.std.proofs.lemmas.List.{append-nil, length-append, length-reverse, get_or-reverse, reverse-append}
 use Rattle.std.proofs.lemmas.Option.{slice_get_within, slice_get-get_or, get_or_from_slice_get}
 use Rattle.lp_calculus.specs.Types.{Ty}
+use Rattle.lp_term.specs.Nodes.{Nodes, type_tree}
 use Rattle.lp_code.specs.States.{member, passing, placed}
 use Rattle.lp_gen.specs.inner.Listing.{Seen, Around, at_level, level_in}
 use Rattle.lp_gen.specs.inner.TermLaw.{as_set, SameAround}
 use Rattle.lp_gen.specs.inner.Owned.{AreStarted, MakesOwn}
 use Rattle.lp_gen.specs.inner.GoalCode.{numbers}
-use Rattle.lp_gen.specs.inner.Entering.{unmade, clause_own, query_own}
+use Rattle.lp_gen.specs.declared.plan.Origin.{Origin}
+use Rattle.lp_gen.specs.declared.plan.Origin.TheVariants as origin
+use Rattle.lp_gen.specs.inner.Entering.{unmade, clause_own, query_own, types_at}
+use Rattle.lp_gen.specs.inner.Recorded.{own_of, own_count}
+use Rattle.lp_gen.proofs.TypeWorks.{map_length}
 use Rattle.lp_gen.proofs.AssumptionPut.{numbers_last}
 use Rattle.lp_gen.proofs.AroundSet.{seen_of}
 
@@ -147,6 +152,14 @@ reverse_at Us i p T e q =
     let l : i < length Us = omega (arith, low, many) in
     ap (slice_get Us) q ∙ slice_get-get_or Us (length Us - 1 - i) T (omega (arith, l)) ∙ ap (λ x. Some x) (sym (get_or-reverse Us i T l) ∙ get_or_from_slice_get (reverse Us) i T T e)
 
+pub at_reverse : (Us : List Ty) (i j : ℕ) (U : Ty) → slice_get Us i ≡ Some U → j ≡ length Us - 1 - i → slice_get (reverse Us) j ≡ Some U
+at_reverse Us i j U e q =
+    let low = slice_get_within Us i U e in
+    let many = length-reverse Us in
+    let z : length Us - 1 - j ≡ i = omega (arith, low, q) in
+    slice_get-get_or (reverse Us) j U (omega (arith, low, q, many))
+    ∙ ap (λ x. Some x) (get_or-reverse Us j U (omega (arith, low, q)) ∙ ap (λ n. get_or Us n U) z ∙ get_or_from_slice_get Us i U U e)
+
 pub query_are : (k : ℕ) (Us : List Ty) → OwnAre k (reverse Us) (query_own k Us) (λ i. k + (length Us - 1 - i))
 query_are k Us = record {
   count = query_count k Us ∙ sym many;
@@ -236,3 +249,23 @@ placed_back (suc n) k d (suc i) l =
     let y : suc d + i ≡ d + suc i = omega arith in
     ap (λ ls. placed ls d r) (numbers_back k n) ∙ ap (λ t. if t then Some d else placed (reverse (numbers k n)) (suc d) r) (ne_eqb r (k + n) (λ e. absurd (omega (arith, e, l))))
     ∙ ap (placed (reverse (numbers k n)) (suc d)) z ∙ placed_back n k (suc d) i (omega (arith, l)) ∙ ap (λ j. Some j) y
+
+-- what a record is the code of: the types of its own variables by their indices, and the register of each
+
+abbrev pub index_types : Nodes → Origin → List Ty
+index_types b (origin.Clause c) = types_at b c.now.vars.items
+index_types b (origin.Query q gs) = reverse (types_at b (map (λ v. v.1) q.now.vars.items))
+
+abbrev pub own_register : Nodes → Origin → (first : ℕ) → ℕ → ℕ
+own_register b (origin.Clause c) k i = k + i
+own_register b (origin.Query q gs) k i = k + (length (types_at b (map (λ v. v.1) q.now.vars.items)) - 1 - i)
+
+pub own_are : (b : Nodes) (o : Origin) (k : ℕ) → OwnAre k (index_types b o) (own_of b o k) (own_register b o k)
+own_are b (origin.Clause c) k = clause_are k (types_at b c.now.vars.items)
+own_are b (origin.Query q gs) k = query_are k (types_at b (map (λ v. v.1) q.now.vars.items))
+
+pub own_types_count : (b : Nodes) (o : Origin) → length (index_types b o) ≡ own_count o
+own_types_count b (origin.Clause c) = map_length (λ i. type_tree b i.0) c.now.vars.items
+own_types_count b (origin.Query q gs) =
+    let ids = map (λ v. v.1) q.now.vars.items in
+    length-reverse (types_at b ids) ∙ map_length (λ i. type_tree b i.0) ids ∙ map_length (λ v. v.1) q.now.vars.items
