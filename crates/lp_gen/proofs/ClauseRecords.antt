@@ -56,7 +56,7 @@ use Rattle.lp_gen.proofs.CodeMapped.{plain_records, plain_have, goals_next, goal
 use Rattle.lp_gen.proofs.BodySteps.{numbers_length}
 use Rattle.lp_gen.proofs.BodyPlain.{goals_plain}
 use Rattle.lp_gen.proofs.BodyCoded.{body_coded}
-use Rattle.lp_gen.proofs.OwnPlaces.{OwnAre, own_numbers, index_types, own_register, own_are, own_types_count, placed_at, placed_back, at_reverse}
+use Rattle.lp_gen.proofs.OwnPlaces.{OwnAre, own_numbers, index_types, own_register, own_are, index_types_count, placed_at, placed_back, at_reverse}
 use Rattle.lp_gen.proofs.RecordBegins.{built_at, no_built, Outside, Inside, own_terms, own_term, old_term, binder_behind, front_held, started_registers, not_zero, start_length, are_own, are_started, own_unmade, old_variable, by_index, old_register, all_seen, all_known, all_free, all_alls, all_outer, stands_first, behind_held}
 use Rattle.std.proofs.lemmas.Bool.{ltb-true, ltb-false, eqb-true, eq-eqb}
 use Rattle.lp_calculus.specs.Spine.{arguments}
@@ -111,7 +111,7 @@ module _ {S : Type 0} (t : Tables) (part : Part) (captured : IndexMap ℕ Variab
   own_stands = subst (λ l. OwnAre k Ts l reg) (sym own_is) (own_are t.bank.now o1 k)
 
   types_count : length Ts ≡ Rattle.lp_gen.specs.inner.Recorded.own_count o1
-  types_count = own_types_count t.bank.now o1
+  types_count = index_types_count t.bank.now o1
 
   pub begun_registers : front_of.begun.registers ≡ k + length Ts
   begun_registers = let a = front_of.entered.registers_are in let b = first_registers in let d = types_count in omega (arith, a, b, d)

@@ -34,7 +34,7 @@ one_holds : (Γ : List Ty) (T : Ty) (Q : ℕ → Type 0) → Holds Γ Q → Hold
 one_holds Γ T Q f zero U e = tt
 one_holds Γ T Q f (suc i) U e = f i U e
 
-all_hold : (vs Γ : List Ty) (Q : ℕ → Type 0) → Holds Γ Q → Holds (vs ++ Γ) (more_of vs Q)
+pub all_hold : (vs Γ : List Ty) (Q : ℕ → Type 0) → Holds Γ Q → Holds (vs ++ Γ) (more_of vs Q)
 all_hold [] Γ Q f = f
 all_hold (T ∷ Ts) Γ Q f = one_holds (Ts ++ Γ) T (more_of Ts Q) (all_hold Ts Γ Q f)
 

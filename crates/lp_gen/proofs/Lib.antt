@@ -84,3 +84,4 @@ mod GroupPut
 mod GroupsDenote
 mod CapturedBy
 mod NamedNumbers
+mod QueryDenotes

@@ -264,8 +264,8 @@ pub own_are : (b : Nodes) (o : Origin) (k : ℕ) → OwnAre k (index_types b o) 
 own_are b (origin.Clause c) k = clause_are k (types_at b c.now.vars.items)
 own_are b (origin.Query q gs) k = query_are k (types_at b (map (λ v. v.1) q.now.vars.items))
 
-pub own_types_count : (b : Nodes) (o : Origin) → length (index_types b o) ≡ own_count o
-own_types_count b (origin.Clause c) = map_length (λ i. type_tree b i.0) c.now.vars.items
-own_types_count b (origin.Query q gs) =
+pub index_types_count : (b : Nodes) (o : Origin) → length (index_types b o) ≡ own_count o
+index_types_count b (origin.Clause c) = map_length (λ i. type_tree b i.0) c.now.vars.items
+index_types_count b (origin.Query q gs) =
     let ids = map (λ v. v.1) q.now.vars.items in
     length-reverse (types_at b ids) ∙ map_length (λ i. type_tree b i.0) ids ∙ map_length (λ v. v.1) q.now.vars.items

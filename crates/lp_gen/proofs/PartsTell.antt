@@ -1,5 +1,5 @@
 -- The records of assumptions denote their clauses, each by those behind it.
-use Rattle.std.proofs.Common.{◌≡◌, ◌∙◌, ◌⊎◌, inl, inr, ⊎_elim, ◌≤◌, ◌<◌, ℕ, zero, suc, ◌+◌, ◌-◌, ◌^◌, List, [], ◌∷◌, ◌++◌, length, map, drop, Bor, Bool, true, false, Option, Some, None, ap, refl, sym, subst, arith, true≢false}
+use Rattle.std.proofs.Common.{◌≡◌, ◌∙◌, ◌⊎◌, inl, inr, ⊎_elim, ◌≤◌, ◌<◌, ℕ, zero, suc, ◌+◌, ◌-◌, ◌^◌, List, [], ◌∷◌, ◌++◌, length, map, drop, reverse, Bor, Bool, true, false, Option, Some, None, ap, refl, sym, subst, arith, true≢false}
 use Rattle.std.specs.Prelude.{nat_eq, nat_le, nat_lt, if◌then◌else◌, max, not, ◌&&◌, All, is_none, slice_get, option_map, option_and_then}
 use Rattle.std.proofs.lemmas.Bool.{eq-eqb, ne_eqb, le-ltb}
 use Rattle.indexmap.specs.IndexMap.{IndexMap, index_map_len}
@@ -13,14 +13,16 @@ use Rattle.lp_model.specs.Flat.{Goal, Goals, Clause, Clauses, Atomic, Cut, Eithe
 use Rattle.lp_code.specs.Written.{written_goal, written_goals, written_clauses}
 use Rattle.lp_model.specs.Flattened.{goals_of}
 use Rattle.lp_model.specs.declared.clause.Clause as code
+use Rattle.lp_model.specs.declared.clause.Goal as code_goal
+use Rattle.lp_model.specs.declared.program.Typed as query
 use Rattle.lp_code.specs.declared.record.Record.{Record}
 use Rattle.lp_code.specs.declared.record.Key.TheVariants as key
 use Rattle.lp_code.specs.Symbolic.{Tables as CodeTables, Built, variable}
 use Rattle.lp_code.specs.States.{Captured, State, Home, member}
 use Rattle.lp_code.specs.Steps.{Later, clauses_of_records}
 use Rattle.lp_code.specs.Rules.{nesting_limit, named_before, is_assumed_record}
-use Rattle.lp_code.specs.Denote.{from_zero, first_state, is_named, denoted, home_of, later_from, nothing_captured}
-use Rattle.lp_gen.specs.Sources.{IsClause, IsKnownType, goals_depth, clauses_depth}
+use Rattle.lp_code.specs.Denote.{from_zero, first_state, is_named, denoted, home_of, later_from, nothing_captured, run, query_ran}
+use Rattle.lp_gen.specs.Sources.{IsClause, IsQuery, Under, AreGoals, IsKnownType, goals_depth, clauses_depth}
 use Rattle.lp_gen.specs.declared.environment.Variable.{Variable}
 use Rattle.lp_gen.specs.declared.plan.Assumption.{Assumption}
 use Rattle.lp_gen.specs.declared.plan.Part.{Part}
@@ -35,12 +37,15 @@ use Rattle.lp_gen.specs.inner.GoalCode.{numbers}
 use Rattle.lp_gen.specs.inner.Entering.{types_at}
 use Rattle.lp_gen.specs.inner.OpenGoals.{goals_steps, EndsGoals}
 use Rattle.lp_gen.specs.inner.BodyCode.{Suppositions, AreStarts, started_at, HoldStarts, levels_found, steps_of, AreNext}
-use Rattle.lp_gen.specs.inner.BodyLaw.{more_of, ClausesFit, AreBelow, AreAlls, AreOuter, AreLater, StartWith}
+use Rattle.lp_gen.specs.inner.BodyLaw.{more_of, ClausesFit, GoalsFit, AreBelow, AreAlls, AreOuter, AreLater, StartWith}
 use Rattle.lp_gen.specs.inner.Planned.{clauses_length, goal_records, goals_records, GoalHas, GoalsHave, IsWritten, AreWritten, IsAtLevel, IsAssumption, NamedBy, AreNamed, IsCaptured, AreCaptured}
-use Rattle.lp_gen.specs.inner.Recorded.{RecordWritten}
+use Rattle.lp_gen.specs.inner.Recorded.{RecordWritten, own_count}
+use Rattle.lp_gen.specs.inner.Planning.{body_of}
 use Rattle.lp_gen.proofs.BodySaid.{TellClauses}
 use Rattle.lp_gen.proofs.BodySteps.{numbers_length}
-use Rattle.lp_gen.proofs.FitsOf.{clauses_joined, clauses_home, clauses_fit, goals_loose}
+use Rattle.lp_gen.proofs.FitsOf.{clauses_joined, clauses_home, clauses_fit, goals_fit, goals_end, goals_loose, all_hold}
+use Rattle.lp_gen.proofs.TypeWorks.{map_length}
+use Rattle.lp_gen.proofs.OwnPlaces.{index_types_count}
 use Rattle.lp_gen.proofs.StartsPut.{starts_begin}
 use Rattle.lp_gen.proofs.RecordDenoted.{NoIndex}
 use Rattle.lp_gen.proofs.BodyParts.{goals_through, loose_at}
@@ -105,19 +110,17 @@ pub record PartDone (S : Type 0) (t : Tables) (cl : Suppositions) (part : Part) 
   pub captured : IndexMap ℕ Variable S
   pub starts : List (IndexMap ℕ Variable S)
   pub written : RecordWritten t (constant_function t.bank.now t.constants.now) part captured [] starts r
-  pub of : Bor code.Clause
-  pub origin_is : part.origin ≡ origin.Clause of
   pub first : ℕ
   pub kept : HoldStarts t.bank.now starts first cl
   pub next : ℕ
   pub later : number < next
-  pub steps : steps_of t.bank.now cl part.steps.items ≡ goals_steps (goals_of t.bank.now of.now.body.items)
+  pub steps : steps_of t.bank.now cl part.steps.items ≡ goals_steps (goals_of t.bank.now (body_of part.origin))
   pub are_next : AreNext t next first part.steps.items
-  pub has : GoalsHave (IsAtLevel t) next (part.base + length (types_at t.bank.now of.now.vars.items)) (goals_of t.bank.now of.now.body.items)
-  pub well : AreWritten (goals_of t.bank.now of.now.body.items)
-  pub has_clauses : GoalsHave (IsAssumption t cl) next (part.base + length (types_at t.bank.now of.now.vars.items)) (goals_of t.bank.now of.now.body.items)
-  pub few : part.base + length (types_at t.bank.now of.now.vars.items) + length part.steps.items < 2 ^ 64 - 1
-  pub short : part.base + length (types_at t.bank.now of.now.vars.items) < 2 ^ 64 - 1
+  pub has : GoalsHave (IsAtLevel t) next (part.base + own_count part.origin) (goals_of t.bank.now (body_of part.origin))
+  pub well : AreWritten (goals_of t.bank.now (body_of part.origin))
+  pub has_clauses : GoalsHave (IsAssumption t cl) next (part.base + own_count part.origin) (goals_of t.bank.now (body_of part.origin))
+  pub few : part.base + own_count part.origin + length part.steps.items < 2 ^ 64 - 1
+  pub short : part.base + own_count part.origin < 2 ^ 64 - 1
   -- what it starts with is what the assumption around it gave
   pub starts_are : (n : ℕ) → part.within ≡ Some n → ((l : ℕ) → cl.starts n l ≡ started_at t.bank.now captured l) × (cl.counts n ≡ index_map_len captured)
 
@@ -137,6 +140,11 @@ pub record IsMember (t : Tables) (parts : List Part) (records : List Record) (n 
 
 no_clause : (c : Clause) → ◌≡◌ {A = Option Clause} None (Some c) → ⊥
 no_clause c e = cc
+
+-- a part that is a clause
+clause_origin : (b : Nodes) (o : Origin) (c : Clause) → flat_of b o ≡ Some c → (of : Bor code.Clause) × (o ≡ origin.Clause of)
+clause_origin b (origin.Clause of) c e = (of, refl)
+clause_origin b (origin.Query q gs) c e = absurd (no_clause c e)
 
 same_clause : (c d : Clause) → ◌≡◌ {A = Option Clause} (Some c) (Some d) → d ≡ c
 same_clause c d e = cc
@@ -288,17 +296,29 @@ module _ {S : Type 0} (t : Tables) (cl : Suppositions) (T : CodeTables) (all : L
       later : Later
       later = λ k e. later_from T all (suc (t.first + i)) (drop (suc (t.first + i)) all) k e
 
+      root : (of : Bor code.Clause) × (p.origin ≡ origin.Clause of)
+      root = clause_origin t.bank.now p.origin c flat
+
+      of : code.Clause
+      of = root.0.now
+
       Ts : List Ty
-      Ts = types_at t.bank.now d.of.now.vars.items
+      Ts = types_at t.bank.now of.vars.items
 
       gs : Goals
-      gs = goals_of t.bank.now d.of.now.body.items
+      gs = goals_of t.bank.now of.body.items
+
+      body : goals_of t.bank.now (body_of p.origin) ≡ gs
+      body = ap (λ o. goals_of t.bank.now (body_of o)) root.1
+
+      count : own_count p.origin ≡ length Ts
+      count = ap own_count root.1 ∙ sym (map_length (λ i. type_tree t.bank.now i.0) of.vars.items)
 
       whole_clause : Clause
-      whole_clause = clause d.of.now.type_vars Ts (tree t.bank.now d.of.now.head.0) gs
+      whole_clause = clause of.type_vars Ts (tree t.bank.now of.head.0) gs
 
       c_is : c ≡ whole_clause
-      c_is = same_clause whole_clause c (sym (ap (flat_of t.bank.now) d.origin_is) ∙ flat)
+      c_is = same_clause whole_clause c (sym (ap (flat_of t.bank.now) root.1) ∙ flat)
 
       Q' : ℕ → Type 0
       Q' j = Q j × IsCaptured x j
@@ -309,8 +329,8 @@ module _ {S : Type 0} (t : Tables) (cl : Suppositions) (T : CodeTables) (all : L
           (subst (λ e. ClausesFit h t.type_vars Γ B Q (clauses e no_clauses)) c_is fit) (subst (λ e. AreCaptured x (clauses e no_clauses)) c_is within_x)
 
       -- it has no type variables of its own
-      none_own : clause 0 Ts (tree t.bank.now d.of.now.head.0) gs ≡ whole_clause
-      none_own = ap (λ k. clause k Ts (tree t.bank.now d.of.now.head.0) gs) (sym fits.0)
+      none_own : clause 0 Ts (tree t.bank.now of.head.0) gs ≡ whole_clause
+      none_own = ap (λ k. clause k Ts (tree t.bank.now of.head.0) gs) (sym fits.0)
 
       program : is_none p.within ≡ false
       program = ap is_none within
@@ -340,13 +360,17 @@ module _ {S : Type 0} (t : Tables) (cl : Suppositions) (T : CodeTables) (all : L
           starts_as A (levels_found A x.captured.keys) (cl.starts n) (started_at t.bank.now d.captured) (cl.counts n) (index_map_len d.captured) (λ l. sym (s.0 l)) (sym s.1) starts
 
       low : new_level A + length Ts < 2 ^ 64 - 1
-      low = let e = part_base in let f = d.short in omega (arith, e, f)
+      low = let e = part_base in let f = d.short in let n = count in omega (arith, e, f, n)
 
       few : new_level A + length Ts + length p.steps.items < 2 ^ 64 - 1
-      few = let e = part_base in let f = d.few in omega (arith, e, f)
+      few = let e = part_base in let f = d.few in let n = count in omega (arith, e, f, n)
 
       has : GoalsHave (IsAtLevel t) d.next (new_level A + length Ts) gs
-      has = subst (λ k. GoalsHave (IsAtLevel t) d.next (k + length Ts) gs) part_base d.has
+      has = subst (λ g. GoalsHave (IsAtLevel t) d.next (new_level A + length Ts) g) body (subst (λ n. GoalsHave (IsAtLevel t) d.next (new_level A + n) (goals_of t.bank.now (body_of p.origin))) count
+          (subst (λ k. GoalsHave (IsAtLevel t) d.next (k + own_count p.origin) (goals_of t.bank.now (body_of p.origin))) part_base d.has))
+
+      steps : steps_of t.bank.now cl p.steps.items ≡ goals_steps gs
+      steps = subst (λ g. steps_of t.bank.now cl p.steps.items ≡ goals_steps g) body d.steps
 
       le : suc (t.first + i) ≤ d.next
       le = let e = d.later in omega (arith, e)
@@ -361,11 +385,11 @@ module _ {S : Type 0} (t : Tables) (cl : Suppositions) (T : CodeTables) (all : L
       self = placed i r at_r
 
       result : (e : Clause) × (told_at T all (t.first + i) r c0 ≡ Some e) × (bare_clauses (clauses e no_clauses) ≡ said_clauses σ A 0
-          (clauses (clause 0 Ts (tree t.bank.now d.of.now.head.0) gs) no_clauses))
+          (clauses (clause 0 Ts (tree t.bank.now of.head.0) gs) no_clauses))
       result =
-          record_of.assumed_denoted t p d.captured d.starts d.of h d.written d.origin_is σ Γ B A Q' x.captured.keys out part_base given low cl d.next
-          d.first gs d.kept d.steps fits.4 d.are_next few (suc (t.first + i)) le has counts std
-          (asked (t.first + i) r) fits.1 below fits.2 fits.3 nest c0.terms start program (named i p n at within) few_types later c0 types refl self (are_later i r) (tells i r told)
+          record_of.assumed_denoted t p d.captured d.starts (origin.Clause root.0) h d.written root.1 σ Γ B A Q' x.captured.keys out part_base given low cl d.next
+          d.first gs d.kept steps fits.4 d.are_next few (suc (t.first + i)) le has counts std
+          (asked (t.first + i) r) fits.1 below fits.3 nest c0.terms start root.0 refl fits.2 program (named i p n at within) few_types later c0 types refl self (are_later i r) (tells i r told)
 
   -- all of them
   within_records : (i : ℕ) (r : Record) → slice_get records i ≡ Some r → i < length records
@@ -431,21 +455,22 @@ module _ {S : Type 0} (t : Tables) (cl : Suppositions) (T : CodeTables) (all : L
       let m = members n x found j c e in
       let d = done (x.first + j) m.part m.record_is m.part_at m.record_at in
       let later = d.later in
-      let is = same_clause (clause d.of.now.type_vars (types_at t.bank.now d.of.now.vars.items) (tree t.bank.now d.of.now.head.0) (goals_of t.bank.now d.of.now.body.items)) c
-      (sym (ap (flat_of t.bank.now) d.origin_is) ∙ m.flat) in
-      let body = goals_written (x.first + j) d.next (m.part.base + length (types_at t.bank.now d.of.now.vars.items))
-      (goals_of t.bank.now d.of.now.body.items) (omega (arith, later)) d.well d.has_clauses
-      (all_written k (x.first + j) (omega (arith, le, low))) in
+      let root = clause_origin t.bank.now m.part.origin c m.flat in
+      let of : code.Clause = root.0.now in
+      let is = same_clause (clause of.type_vars (types_at t.bank.now of.vars.items) (tree t.bank.now of.head.0) (goals_of t.bank.now of.body.items)) c
+      (sym (ap (flat_of t.bank.now) root.1) ∙ m.flat) in
+      let body = subst (λ g. written_goals g ≡ g) (ap (λ o. goals_of t.bank.now (body_of o)) root.1)
+      (goals_written (x.first + j) d.next (m.part.base + own_count m.part.origin) (goals_of t.bank.now (body_of m.part.origin)) (omega (arith, later)) d.well d.has_clauses
+      (all_written k (x.first + j) (omega (arith, le, low)))) in
       subst (λ e. written_clauses (clauses e no_clauses) ≡ clauses e no_clauses) (sym is)
-      (λ k. clauses (clause d.of.now.type_vars (types_at t.bank.now d.of.now.vars.items) (tree t.bank.now d.of.now.head.0) (body k)) no_clauses))
+      (λ k. clauses (clause of.type_vars (types_at t.bank.now of.vars.items) (tree t.bank.now of.head.0) (body k)) no_clauses))
 
   pub body_written : (i : ℕ) (p : Part) (r : Record) (at : slice_get parts i ≡ Some p) (at_r : slice_get records i ≡ Some r) →
-      written_goals (goals_of t.bank.now (done i p r at at_r).of.now.body.items) ≡ goals_of t.bank.now (done i p r at at_r).of.now.body.items
+      written_goals (goals_of t.bank.now (body_of p.origin)) ≡ goals_of t.bank.now (body_of p.origin)
   body_written i p r at at_r =
       let d = done i p r at at_r in
       let later = d.later in
-      goals_written i d.next (p.base + length (types_at t.bank.now d.of.now.vars.items)) (goals_of t.bank.now d.of.now.body.items)
-      (omega (arith, later)) d.well d.has_clauses (all_written (length records) i (omega arith))
+      goals_written i d.next (p.base + own_count p.origin) (goals_of t.bank.now (body_of p.origin)) (omega (arith, later)) d.well d.has_clauses (all_written (length records) i (omega arith))
 
   -- the first record is that of the clause itself
 
@@ -490,15 +515,14 @@ module _ {S : Type 0} (t : Tables) (cl : Suppositions) (T : CodeTables) (all : L
       no_type U e = cc
 
   pub program_told : (p : Part) (r : Record) (at : slice_get parts 0 ≡ Some p) (at_r : slice_get records 0 ≡ Some r) → p.within ≡ None → p.base ≡ 0 → (done 0 p r at at_r).captured.entries ≡ [] →
-      IsClause T (clause t.type_vars (types_at t.bank.now (done 0 p r at at_r).of.now.vars.items) (tree t.bank.now (done 0 p r at at_r).of.now.head.0)
-      (goals_of t.bank.now (done 0 p r at at_r).of.now.body.items)) →
-      told_at T all (t.first + 0) r nothing_captured
-      ≡ Some (clause t.type_vars (types_at t.bank.now (done 0 p r at at_r).of.now.vars.items) (tree t.bank.now (done 0 p r at at_r).of.now.head.0)
-      (goals_of t.bank.now (done 0 p r at at_r).of.now.body.items))
-  program_told p r at at_r within base none is_clause =
-      record_of.program_denoted t p d.captured d.starts d.of h d.written d.origin_is no_terms [] [] nobody NoIndex [] (outside h) base given low cl
-      d.next d.first gs d.kept d.steps fits.4 d.are_next few (suc (t.first + 0)) le has counts std
-      (asked (t.first + 0) r) fits.1 below fits.2 fits.3 is_clause.1 [] tt (ap is_none within) few_types (ap length none) refl no_index no_indices (body_written 0 p r at at_r)
+      (of : Bor code.Clause) → p.origin ≡ origin.Clause of →
+      IsClause T (clause t.type_vars (types_at t.bank.now of.now.vars.items) (tree t.bank.now of.now.head.0) (goals_of t.bank.now of.now.body.items)) →
+      told_at T all (t.first + 0) r nothing_captured ≡ Some (clause t.type_vars (types_at t.bank.now of.now.vars.items) (tree t.bank.now of.now.head.0) (goals_of t.bank.now of.now.body.items))
+  program_told p r at at_r within base none of root is_clause =
+      record_of.program_denoted t p d.captured d.starts (origin.Clause of) h d.written root no_terms [] [] nobody NoIndex [] (outside h) base given low cl
+      d.next d.first gs d.kept steps fits.4 d.are_next few (suc (t.first + 0)) le has counts std
+      (asked (t.first + 0) r) fits.1 below fits.3 is_clause.1 [] tt of refl fits.2 (ap is_none within) few_types (ap length none) refl no_index no_indices
+      (subst (λ g. written_goals g ≡ g) body (body_written 0 p r at at_r))
       (λ k e. later_from T all (suc (t.first + 0)) (drop (suc (t.first + 0)) all) k e) (placed 0 r at_r) (are_later 0 r) (tell_all 0 r)
     where
       d : PartDone S t cl p (t.first + 0) r
@@ -508,13 +532,19 @@ module _ {S : Type 0} (t : Tables) (cl : Suppositions) (T : CodeTables) (all : L
       h = home_of T all (t.first + 0) r
 
       Ts : List Ty
-      Ts = types_at t.bank.now d.of.now.vars.items
+      Ts = types_at t.bank.now of.now.vars.items
 
       head : Term
-      head = tree t.bank.now d.of.now.head.0
+      head = tree t.bank.now of.now.head.0
 
       gs : Goals
-      gs = goals_of t.bank.now d.of.now.body.items
+      gs = goals_of t.bank.now of.now.body.items
+
+      body : goals_of t.bank.now (body_of p.origin) ≡ gs
+      body = ap (λ o. goals_of t.bank.now (body_of o)) root
+
+      count : own_count p.origin ≡ length Ts
+      count = ap own_count root ∙ sym (map_length (λ i. type_tree t.bank.now i.0) of.now.vars.items)
 
       fits : ClausesFit h t.type_vars [] [] NoIndex (clauses (clause 0 Ts head gs) no_clauses)
       fits = clauses_fit h (record { type_vars = t.type_vars; indices = []; binders = [] }) NoIndex (clauses (clause 0 Ts head gs) no_clauses) is_clause.0 (λ i U e. absurd (cc))
@@ -523,13 +553,17 @@ module _ {S : Type 0} (t : Tables) (cl : Suppositions) (T : CodeTables) (all : L
       given = starts_begin t.bank.now nobody d.captured none
 
       low : new_level nobody + length Ts < 2 ^ 64 - 1
-      low = let f = d.short in omega (arith, base, f)
+      low = let f = d.short in let n = count in omega (arith, base, f, n)
 
       few : new_level nobody + length Ts + length p.steps.items < 2 ^ 64 - 1
-      few = let f = d.few in omega (arith, base, f)
+      few = let f = d.few in let n = count in omega (arith, base, f, n)
 
       has : GoalsHave (IsAtLevel t) d.next (new_level nobody + length Ts) gs
-      has = subst (λ k. GoalsHave (IsAtLevel t) d.next (k + length Ts) gs) base d.has
+      has = subst (λ g. GoalsHave (IsAtLevel t) d.next (new_level nobody + length Ts) g) body (subst (λ n. GoalsHave (IsAtLevel t) d.next (new_level nobody + n) (goals_of t.bank.now (body_of p.origin))) count
+          (subst (λ k. GoalsHave (IsAtLevel t) d.next (k + own_count p.origin) (goals_of t.bank.now (body_of p.origin))) base d.has))
+
+      steps : steps_of t.bank.now cl p.steps.items ≡ goals_steps gs
+      steps = subst (λ g. steps_of t.bank.now cl p.steps.items ≡ goals_steps g) body d.steps
 
       le : suc (t.first + 0) ≤ d.next
       le = let e = d.later in omega (arith, e)
@@ -546,3 +580,78 @@ module _ {S : Type 0} (t : Tables) (cl : Suppositions) (T : CodeTables) (all : L
       no_indices : AreThrough (AllLoose NoIndex) (length Ts) gs
       no_indices = goals_loose h.tables.kinds t.type_vars NoIndex (length Ts) gs (goals_through h t.type_vars NoIndex (more_of Ts NoIndex) (Ts ++ [])
           (map (λ T. false) Ts ++ []) (length Ts) gs behind fits.3)
+
+  -- or that of the query
+  pub query_told : (p : Part) (r : Record) (at : slice_get parts 0 ≡ Some p) (at_r : slice_get records 0 ≡ Some r) → p.within ≡ None → p.base ≡ 0 → (done 0 p r at at_r).captured.entries ≡ [] →
+      (q1 : Bor query.Typed) (gs1 : Bor (List code_goal.Goal)) → p.origin ≡ origin.Query q1 gs1 →
+      IsQuery T t.type_vars (reverse (types_at t.bank.now (map (λ v. v.1) q1.now.vars.items))) (goals_of t.bank.now gs1.now) →
+      query_ran (home_of T all (t.first + 0) r)
+      (run (home_of T all (t.first + 0) r) (λ k e. later_from T all (suc (t.first + 0)) (drop (suc (t.first + 0)) all) k e) (first_state r nothing_captured) r.code.items)
+      ≡ Some (record { type_vars = t.type_vars; vars = types_at t.bank.now (map (λ v. v.1) q1.now.vars.items); body = goals_of t.bank.now gs1.now })
+  query_told p r at at_r within base none q1 gs1 root is_query =
+      record_of.query_denoted t p d.captured d.starts (origin.Query q1 gs1) h d.written root no_terms [] [] nobody NoIndex [] (outside h) base given low cl
+      d.next d.first gs d.kept steps ends d.are_next few (suc (t.first + 0)) le has counts std
+      (asked (t.first + 0) r) is_query.0 below fits is_query.2 [] tt q1 gs1 refl (ap is_none within) few_types (ap length none) refl no_indices
+      (subst (λ g. written_goals g ≡ g) body (body_written 0 p r at at_r))
+      (λ k e. later_from T all (suc (t.first + 0)) (drop (suc (t.first + 0)) all) k e) (placed 0 r at_r) (are_later 0 r) (tell_all 0 r)
+    where
+      d : PartDone S t cl p (t.first + 0) r
+      d = done 0 p r at at_r
+
+      h : Home
+      h = home_of T all (t.first + 0) r
+
+      Ts : List Ty
+      Ts = reverse (types_at t.bank.now (map (λ v. v.1) q1.now.vars.items))
+
+      gs : Goals
+      gs = goals_of t.bank.now gs1.now
+
+      body : goals_of t.bank.now (body_of p.origin) ≡ gs
+      body = ap (λ o. goals_of t.bank.now (body_of o)) root
+
+      count : own_count p.origin ≡ length Ts
+      count = ap own_count root ∙ sym (index_types_count t.bank.now (origin.Query q1 gs1))
+
+      u : Under
+      u = record { type_vars = t.type_vars; indices = Ts ++ []; binders = map (λ T. false) Ts ++ [] }
+
+      are : AreGoals T u gs
+      are =
+          subst (λ l. AreGoals T (record { type_vars = t.type_vars; indices = l; binders = map (λ T. false) Ts ++ [] }) gs) (sym (append-nil Ts))
+          (subst (λ l. AreGoals T (record { type_vars = t.type_vars; indices = Ts; binders = l }) gs) (sym (append-nil (map (λ (T : Ty). false) Ts))) is_query.1)
+
+      fits : GoalsFit h t.type_vars (Ts ++ []) (map (λ T. false) Ts ++ []) (more_of Ts NoIndex) gs
+      fits = goals_fit h u (more_of Ts NoIndex) gs are (all_hold Ts [] NoIndex (λ i U e. absurd (cc)))
+
+      ends : EndsGoals gs
+      ends = goals_end h u gs are
+
+      given : AreStarts nobody (levels_found nobody []) (started_at t.bank.now d.captured) (index_map_len d.captured)
+      given = starts_begin t.bank.now nobody d.captured none
+
+      low : new_level nobody + length Ts < 2 ^ 64 - 1
+      low = let f = d.short in let n = count in omega (arith, base, f, n)
+
+      few : new_level nobody + length Ts + length p.steps.items < 2 ^ 64 - 1
+      few = let f = d.few in let n = count in omega (arith, base, f, n)
+
+      has : GoalsHave (IsAtLevel t) d.next (new_level nobody + length Ts) gs
+      has = subst (λ g. GoalsHave (IsAtLevel t) d.next (new_level nobody + length Ts) g) body (subst (λ n. GoalsHave (IsAtLevel t) d.next (new_level nobody + n) (goals_of t.bank.now (body_of p.origin))) count
+          (subst (λ k. GoalsHave (IsAtLevel t) d.next (k + own_count p.origin) (goals_of t.bank.now (body_of p.origin))) base d.has))
+
+      steps : steps_of t.bank.now cl p.steps.items ≡ goals_steps gs
+      steps = subst (λ g. steps_of t.bank.now cl p.steps.items ≡ goals_steps g) body d.steps
+
+      le : suc (t.first + 0) ≤ d.next
+      le = let e = d.later in omega (arith, e)
+
+      below : AreBelow d.next h []
+      below m e = names_below 0 p r at at_r m (sym (ap (member m) (append-nil (named_before (t.first + 0) all))) ∙ e)
+
+      behind : (i : ℕ) → more_of Ts NoIndex i → length Ts ≤ i → NoIndex (i - length Ts)
+      behind i q le2 = ⊎_elim (λ l. absurd (omega (arith, l, le2))) (λ w. w.1) (more_at Ts NoIndex i q)
+
+      no_indices : AreThrough (AllLoose NoIndex) (length Ts) gs
+      no_indices = goals_loose h.tables.kinds t.type_vars NoIndex (length Ts) gs (goals_through h t.type_vars NoIndex (more_of Ts NoIndex) (Ts ++ [])
+          (map (λ T. false) Ts ++ []) (length Ts) gs behind fits)
