@@ -12,7 +12,7 @@ use Rattle.lp_code.specs.Symbolic.{Tables as CodeTables}
 use Rattle.lp_code.specs.States.{member}
 use Rattle.lp_code.specs.Rules.{named_before}
 use Rattle.lp_code.specs.Denote.{home_of, is_named, denoted, denote_from, later_from, nothing_captured}
-use Rattle.lp_gen.proofs.PartsTell.{told_at}
+use Rattle.lp_gen.proofs.PartsDone.{told_at}
 
 -- a record of the program with those that it assumes
 

@@ -47,7 +47,8 @@ use Rattle.lp_gen.specs.inner.Groups.{IsStartOf, AllWritten}
 use Rattle.lp_gen.proofs.TypeWorks.{map_length}
 use Rattle.lp_gen.proofs.PlanWalked.{extends_same, extends_at, get_behind}
 use Rattle.lp_gen.proofs.PlanGoals.{clause_is, clauses_many}
-use Rattle.lp_gen.proofs.PartsTell.{clause_at, told_at, PartDone, IsMember, flat_of, program_told, query_told}
+use Rattle.lp_gen.proofs.PartsDone.{clause_at, told_at, PartDone, IsMember, flat_of}
+use Rattle.lp_gen.proofs.PartsTell.{program_told, query_told}
 use Rattle.lp_gen.proofs.RecordNamed.{names}
 use Rattle.lp_gen.proofs.NamedNumbers.{member_left, member_right, member_cases, member_numbers, numbers_member, named_one_more}
 
@@ -58,7 +59,8 @@ no_start : {X : Type 0} (x : X) → ◌≡◌ {A = Option X} None (Some x) → �
 no_start x e = cc
 
 -- a query has no head
-query_no_head : (b : Nodes) (K : ℕ → List Ty → Ty) (e e' : Emitter) (env env' : Environment) (o : Origin) (p : Option RecordHead) (q : Bor query.Typed) (gs : Bor (List code_goal.Goal)) → FrontWritten b K e e' env env' o p →
+query_no_head : (b : Nodes) (K : ℕ → List Ty → Ty) (e e' : Emitter) (env env' : Environment) (o : Origin) (p : Option RecordHead) (q : Bor query.Typed) (gs : Bor (List code_goal.Goal)) →
+    FrontWritten b K e e' env env' o p →
     o ≡ origin.Query q gs → p ≡ None
 query_no_head b K e e' env env' o None q gs f is = refl
 query_no_head b K e e' env env' o (Some p) q gs f is =
@@ -203,9 +205,6 @@ low_or_high v q = go (nat_lt v q) refl
     go : (a : Bool) → nat_lt v q ≡ a → (v < q) ⊎ (q ≤ v)
     go true e = inl (ltb-true v q e)
     go false e = inr (ltb-false v q e)
-
-same_origin : (c d : Bor code.Clause) → origin.Clause c ≡ origin.Clause d → c ≡ d
-same_origin c d e = cc
 
 mutual
   deep_end : (g : Goal) → DeepGoal g → EndsGoal g
@@ -528,7 +527,8 @@ module _ (S : Type 0) (t : Tables) (o1 : Origin) (us : List Due) (parts : List P
           (subst (IsClause T) (sym shape) is_clause) ∙ ap (λ v. Some v) shape
 
       -- or the query
-      pub first_query : (q1 : Bor query.Typed) (gs1 : Bor (List code_goal.Goal)) → o1 ≡ origin.Query q1 gs1 → IsQuery T t.type_vars (reverse (types_at b (map (λ v. v.1) q1.now.vars.items))) (goals_of b gs1.now) →
+      pub first_query : (q1 : Bor query.Typed) (gs1 : Bor (List code_goal.Goal)) → o1 ≡ origin.Query q1 gs1 → IsQuery T t.type_vars (reverse (types_at b (map (λ v. v.1) q1.now.vars.items)))
+          (goals_of b gs1.now) →
           (r : Record) → slice_get g 0 ≡ Some r →
           query_ran (home_of T all (t.first + 0) r)
           (run (home_of T all (t.first + 0) r) (λ k e. later_from T all (suc (t.first + 0)) (drop (suc (t.first + 0)) all) k e) (first_state r nothing_captured) r.code.items)
@@ -536,7 +536,8 @@ module _ (S : Type 0) (t : Tables) (o1 : Origin) (us : List Due) (parts : List P
       unfolding part_done
       first_query q1 gs1 o_is is_query r at_r =
           let p = first_part r at_r in
-          query_told t cl T all parts g std asked few_types part_done placed members captured counts names_below named p.0 r p.1 at_r p.3 p.4 (starts_none p.0 r p.1 at_r p.3) q1 gs1 (p.2 ∙ o_is) is_query
+          query_told t cl T all parts g std asked few_types part_done placed members captured counts names_below named p.0 r p.1 at_r p.3 p.4 (starts_none p.0 r p.1 at_r p.3) q1 gs1
+              (p.2 ∙ o_is) is_query
 
       pub query_head : (q1 : Bor query.Typed) (gs1 : Bor (List code_goal.Goal)) → o1 ≡ origin.Query q1 gs1 → (r : Record) → slice_get g 0 ≡ Some r → r.head ≡ None
       query_head q1 gs1 o_is r at_r =

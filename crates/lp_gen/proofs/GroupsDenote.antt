@@ -32,6 +32,7 @@ use Rattle.lp_gen.specs.inner.Planning.{ArePlanned, AllCaptured}
 use Rattle.lp_gen.specs.inner.Groups.{Hasher, Kept, AllWritten, IsGroup, AreGroups}
 use Rattle.lp_gen.proofs.ConstantTypes.{constants_asked}
 use Rattle.lp_gen.proofs.PlanWalked.{get_behind}
+use Rattle.lp_gen.proofs.PartsDone.{told_at}
 use Rattle.lp_gen.proofs.PlanGoals.{clause_is}
 use Rattle.lp_gen.proofs.GroupTold.{written_length, early_end, first_program, other_assumed, first_told}
 use Rattle.lp_gen.proofs.GroupDenotes.{group_denotes}
@@ -118,11 +119,11 @@ module _ (κ : ℕ → Option ℕ) (all : List Record) where
       asked : (m : ℕ) (r : Record) → AreAsked (home_of (tables_of t.bank.now t.constants.now κ) all m r) (constant_function t.bank.now t.constants.now)
       asked m r = record { asks = constants_asked t.bank.now t.constants.now κ; known = known }
 
-      first_one : (r : Record) → slice_get g 0 ≡ Some r → (r.program ≡ true) × (Rattle.lp_gen.proofs.PartsTell.told_at
+      first_one : (r : Record) → slice_get g 0 ≡ Some r → (r.program ≡ true) × (told_at
           (tables_of t.bank.now t.constants.now κ) all n r nothing_captured ≡ Some (clause_of t.bank.now of.now))
       first_one r at = (
         first_program Hasher t (origin.Clause of) us parts g starts plan w low deep standing (tables_of t.bank.now t.constants.now κ) all placed early r at,
-        (let z : t.first + 0 ≡ n = omega (arith, first) in ap (λ k. Rattle.lp_gen.proofs.PartsTell.told_at (tables_of t.bank.now t.constants.now κ) all k r nothing_captured) (sym z))
+        (let z : t.first + 0 ≡ n = omega (arith, first) in ap (λ k. told_at (tables_of t.bank.now t.constants.now κ) all k r nothing_captured) (sym z))
             ∙ first_told Hasher t (origin.Clause of) us parts g starts plan w low deep standing (tables_of t.bank.now t.constants.now κ) all placed early (standard_of t.bank.now t.constants.now) asked
             few_types of refl vars is r at,
       )

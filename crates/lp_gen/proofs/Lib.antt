@@ -85,3 +85,5 @@ mod GroupsDenote
 mod CapturedBy
 mod NamedNumbers
 mod QueryDenotes
+mod PartsDone
+mod RecordCode

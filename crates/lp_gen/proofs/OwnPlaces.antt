@@ -92,18 +92,6 @@ within [] p v e = absurd (no_seen v e)
 within (w ∷ vs) zero v e = omega arith
 within (w ∷ vs) (suc p) v e = let z = within vs p v e in omega (arith, z)
 
--- and no other one stands there
-pub clause_from : (k : ℕ) (Ts : List Ty) (p : ℕ) (v : Seen) → slice_get (clause_own k Ts) p ≡ Some v → (i : ℕ) × (T : Ty) × (slice_get Ts i ≡ Some T)
-    × (p ≡ length Ts - 1 - i) × (v ≡ unmade (k + i) T) × (i < length Ts)
-clause_from k Ts p v e =
-    let low = within (clause_own k Ts) p v e in
-    let many = clause_count k Ts in
-    let i : ℕ = length Ts - 1 - p in
-    let l : i < length Ts = omega (arith, low, many) in
-    let t = type_at Ts i l in
-    let back : p ≡ length Ts - 1 - i = omega (arith, low, many) in
-    (i, t.0, t.1, back, same_seen (unmade (k + i) t.0) v (sym (clause_at k Ts i p t.0 t.1 back) ∙ e), l)
-
 -- own variables that stand for indices of these types: the register of each
 pub record OwnAre (k : ℕ) (Ts : List Ty) (own : List Seen) (reg : ℕ → ℕ) : Type 0 where
   pub count : length own ≡ length Ts

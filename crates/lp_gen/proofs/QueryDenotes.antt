@@ -48,10 +48,12 @@ module _ (κ : ℕ → Option ℕ) where
       ap (λ o. elim o [
         | None ↦ None
         | Some cs ↦ if has_none cs && is_none r.head then query_ran (home_of (tables_of t.bank.now t.constants.now κ) (r ∷ rs) 0 r)
-            (run (home_of (tables_of t.bank.now t.constants.now κ) (r ∷ rs) 0 r) (later_from (tables_of t.bank.now t.constants.now κ) (r ∷ rs) 1 rs) (first_state r nothing_captured) r.code.items) else None
+            (run (home_of (tables_of t.bank.now t.constants.now κ) (r ∷ rs) 0 r) (later_from (tables_of t.bank.now t.constants.now κ) (r ∷ rs) 1 rs) (first_state r nothing_captured)
+                r.code.items) else None
       ]) others
       ∙ ap (λ h. if has_none {A = Clause} [] && is_none h then query_ran (home_of (tables_of t.bank.now t.constants.now κ) (r ∷ rs) 0 r)
-            (run (home_of (tables_of t.bank.now t.constants.now κ) (r ∷ rs) 0 r) (later_from (tables_of t.bank.now t.constants.now κ) (r ∷ rs) 1 rs) (first_state r nothing_captured) r.code.items) else None) no_head
+      (run (home_of (tables_of t.bank.now t.constants.now κ) (r ∷ rs) 0 r) (later_from (tables_of t.bank.now t.constants.now κ) (r ∷ rs) 1 rs) (first_state r nothing_captured) r.code.items)
+          else None) no_head
       ∙ at_zero ∙ told ∙ (λ i. Some (record { type_vars = vars i; vars = types_at t.bank.now (map (λ v. v.1) q1.now.vars.items); body = goals_of t.bank.now gs1.now }))
     where
       many : length (r ∷ rs) ≡ length parts
@@ -70,7 +72,8 @@ module _ (κ : ℕ → Option ℕ) where
       asked m s = record { asks = constants_asked t.bank.now t.constants.now κ; known = known }
 
       u : Under
-      u = record { type_vars = q1.now.type_vars; indices = reverse (types_at t.bank.now (map (λ v. v.1) q1.now.vars.items)); binders = map (λ T. false) (reverse (types_at t.bank.now (map (λ v. v.1) q1.now.vars.items))) }
+      u = record { type_vars = q1.now.type_vars; indices = reverse (types_at t.bank.now (map (λ v. v.1) q1.now.vars.items)); binders = map (λ T. false)
+          (reverse (types_at t.bank.now (map (λ v. v.1) q1.now.vars.items))) }
 
       deep : DeepGoals (goals_of t.bank.now gs1.now)
       deep = goals_deep (tables_of t.bank.now t.constants.now κ) u (goals_of t.bank.now gs1.now) is.1
@@ -107,7 +110,8 @@ module _ (κ : ℕ → Option ℕ) where
       others : denote_from (tables_of t.bank.now t.constants.now κ) (r ∷ rs) 1 rs ≡ Some []
       others = ap (denote_from (tables_of t.bank.now t.constants.now κ) (r ∷ rs) 1) (sym (append-nil rs)) ∙ rest_assumed (tables_of t.bank.now t.constants.now κ) (r ∷ rs) 1 rs [] each
 
-  pub query_denotes : (b : Nodes) (ds : List Declared) (q : query.Typed) (gs : List code_goal.Goal) (q1 : Bor query.Typed) (gs1 : Bor (List code_goal.Goal)) (g : List Record) → q1.now ≡ q → gs1.now ≡ gs →
+  pub query_denotes : (b : Nodes) (ds : List Declared) (q : query.Typed) (gs : List code_goal.Goal) (q1 : Bor query.Typed) (gs1 : Bor (List code_goal.Goal)) (g : List Record) → q1.now ≡ q →
+      gs1.now ≡ gs →
       IsGroup b ds 0 q.type_vars (origin.Query q1 gs1) g → length g ≤ 65536 → AreKnownSchemes (tables_of b ds κ) → IsAsked b ds q gs → denote_query (tables_of b ds κ) g ≡ Some (query_is b q gs)
   query_denotes b ds q gs q1 gs1 [] q_is gs_is G few =
       let m = written_length G.tables [] G.starts G.parts [] G.written in
@@ -118,7 +122,8 @@ module _ (κ : ℕ → Option ℕ) where
       subst (λ v. AreKnownSchemes (tables_of b ds κ) → IsAsked b ds q v → denote_query (tables_of b ds κ) (r ∷ rs) ≡ Some (query_is b q v)) gs_is
       (subst (λ v. AreKnownSchemes (tables_of b ds κ) → IsAsked b ds v gs1.now → denote_query (tables_of b ds κ) (r ∷ rs) ≡ Some (query_is b v gs1.now)) q_is
       (subst (λ u. AreKnownSchemes (tables_of u ds κ) → IsAsked u ds q1.now gs1.now → denote_query (tables_of u ds κ) (r ∷ rs) ≡ Some (query_is u q1.now gs1.now)) G.bank_is
-      (subst (λ v. AreKnownSchemes (tables_of G.tables.bank.now v κ) → IsAsked G.tables.bank.now v q1.now gs1.now → denote_query (tables_of G.tables.bank.now v κ) (r ∷ rs) ≡ Some (query_is G.tables.bank.now q1.now gs1.now)) G.constants_are
+      (subst (λ v. AreKnownSchemes (tables_of G.tables.bank.now v κ) → IsAsked G.tables.bank.now v q1.now gs1.now → denote_query (tables_of G.tables.bank.now v κ) (r ∷ rs) ≡ Some
+          (query_is G.tables.bank.now q1.now gs1.now)) G.constants_are
       (one_query G.tables q1 gs1 G.due G.parts r rs G.starts G.planned G.captured G.written (G.first (omega arith)) few (let v = G.vars_are in let f = G.few_vars in omega (arith, v, f))
       (G.vars_are ∙ ap (λ (e : query.Typed). e.type_vars) (sym q_is))))))
 
@@ -127,7 +132,8 @@ two_maps f g [] = refl
 two_maps f g (x ∷ xs) = ap (λ l. g (f x) ∷ l) (two_maps f g xs)
 
 -- the same by what the functions give
-pub query_law : (κ : ℕ → Option ℕ) (b : Nodes) (ds : List Declared) (q : query.Typed) (gs : List code_goal.Goal) (none all g : List Record) (vars : ℕ) (q1 : Bor query.Typed) (gs1 : Bor (List code_goal.Goal)) →
+pub query_law : (κ : ℕ → Option ℕ) (b : Nodes) (ds : List Declared) (q : query.Typed) (gs : List code_goal.Goal) (none all g : List Record) (vars : ℕ) (q1 : Bor query.Typed)
+    (gs1 : Bor (List code_goal.Goal)) →
     none ≡ [] → all ≡ none ++ g → vars ≡ q.type_vars → q1.now ≡ q → gs1.now ≡ gs → IsGroup b ds (length none) vars (origin.Query q1 gs1) g → length all ≤ 65536 → AreKnownSchemes (tables_of b ds κ) →
     IsQuery (tables_of b ds κ) q.type_vars (reverse (map (λ v. type_tree b v.1.0) q.vars.items)) (goals_of b gs) →
     denote_query (tables_of b ds κ) all ≡ Some (record { type_vars = q.type_vars; vars = map (λ v. type_tree b v.1.0) q.vars.items; body = goals_of b gs })

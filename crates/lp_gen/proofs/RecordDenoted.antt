@@ -78,7 +78,8 @@ module _ (h : Home) (K : ℕ → List Ty → Ty) (vars : ℕ) (σ : ℕ → Term
 
         inner_at : (d j : ℕ) → j < length Ts → (T : Ty) × (slice_get Ts j ≡ Some T) → bind_term rs h.number d (level_term τ (level_in a j)) ≡ index (d + j)
         inner_at d j low t =
-            let s = Rattle.lp_gen.proofs.RecordBegins.level_is a j ins.short (let c = Rattle.lp_gen.proofs.RecordBegins.level_count h K vars σ Γ B A a Q keys k Ts reg out ins in omega (arith, low, c)) in
+            let s = Rattle.lp_gen.proofs.RecordBegins.level_is a j ins.short (let c = Rattle.lp_gen.proofs.RecordBegins.level_count h K vars σ Γ B A a Q keys k Ts reg out ins in omega
+                (arith, low, c)) in
             let l : ℕ = new_level a - j - 1 in
             let same : l ≡ a.base + (length Ts - 1 - j) = (let c = Rattle.lp_gen.proofs.RecordBegins.level_count h K vars σ Γ B A a Q keys k Ts reg out ins
             in let b = ins.base in omega (arith, low, c, b)) in

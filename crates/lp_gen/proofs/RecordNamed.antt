@@ -32,7 +32,7 @@ use Rattle.lp_gen.proofs.CodeMapped.{names_both}
 use Rattle.lp_gen.proofs.OwnPlaces.{index_types_count}
 use Rattle.lp_gen.proofs.RecordRuns.{head_owns, head_more_types, own_all_set}
 use Rattle.lp_gen.proofs.RecordNames.{goals_named, no_names_in, news_names}
-use Rattle.lp_gen.proofs.ClauseRecords as record_of
+use Rattle.lp_gen.proofs.RecordCode as record_of
 use Rattle.lp_gen.proofs.WrittenTypes.{types_code}
 
 types_name : (p : Bool) (r n : ℕ) → names_in (types_code p r n) ≡ []
