@@ -1,77 +1,61 @@
 -- The records of clauses and queries: what they denote.
-use Rattle.std.proofs.Common.{◌≡◌, ◌∙◌, ◌≤◌, ◌<◌, ℕ, zero, suc, ◌+◌, ◌-◌, ◌^◌, List, [], ◌∷◌, ◌++◌, append_assoc, length, map, reverse, Bor, Bool, true, false, inl, inr, Option, Some, None, ap, refl, sym, subst, arith, true≢false}
-use Rattle.std.specs.Prelude.{nat_eq, nat_lt, ◌||◌, if◌then◌else◌, All, is_none, sum_by, slice_get, slice_index_or}
-use mathlib.Core.Path.{fun_ext}
-use Rattle.indexmap.specs.IndexMap.{IndexMap, index_map_len}
+use Rattle.std.proofs.Common.{◌≡◌, ◌∙◌, ◌≤◌, ◌<◌, ℕ, ◌+◌, ◌-◌, ◌^◌, List, [], ◌∷◌, ◌++◌, append_assoc, length, map, reverse, Bor, Bool, true, false, Option, Some, None, ap, refl, sym, subst, arith}
+use Rattle.std.specs.Prelude.{nat_eq, nat_lt, ◌||◌, if◌then◌else◌, All, is_none, slice_get, slice_index_or}
+use Rattle.indexmap.specs.IndexMap.{IndexMap}
 use Rattle.lp_calculus.specs.Types.{Ty, var}
 use Rattle.lp_calculus.specs.Term.{Term}
 use Rattle.lp_standard.specs.Schemes.{IsStandard}
 use Rattle.std.proofs.lemmas.List.{append-nil, length-reverse}
 use Rattle.std.proofs.lemmas.Option.{slice_get_within}
-use Rattle.lp_term.specs.Nodes.{Nodes, tree, type_tree}
+use Rattle.lp_term.specs.Nodes.{tree}
 use Rattle.lp_model.specs.Flat.{Goals, Clauses, no_clauses, clauses, no_goals, Clause as FlatClause, clause}
 use Rattle.lp_model.specs.declared.clause.Clause.{Clause}
 use Rattle.lp_model.specs.declared.clause.Goal as code_goal
 use Rattle.lp_model.specs.declared.program.Typed as query
 use Rattle.lp_code.specs.declared.instruction.Instr.{Instr}
 use Rattle.lp_code.specs.declared.instruction.Instr.TheVariants as on
-use Rattle.lp_code.specs.declared.record.Record.{Record}
 use Rattle.lp_code.specs.declared.record.RecordHead.{RecordHead}
-use Rattle.lp_code.specs.Operands.{own_set}
-use Rattle.lp_code.specs.States.{State, Home, member, passing, placed, Captured, bind_term, bind_goals}
-use Rattle.lp_code.specs.Steps.{Later, is_made, own_variables}
+use Rattle.lp_code.specs.States.{State, Home, placed, Captured, bind_term, bind_goals}
+use Rattle.lp_code.specs.Steps.{Later, own_variables}
 use Rattle.lp_code.specs.Rules.{nesting_limit}
 use Rattle.lp_gen.specs.Sources.{IsKnownType, goals_depth}
-use Rattle.lp_gen.specs.declared.emitter.Emitter.{Emitter}
-use Rattle.lp_gen.specs.declared.environment.Environment.{Environment}
 use Rattle.lp_gen.specs.declared.environment.Variable.{Variable}
 use Rattle.lp_gen.specs.declared.plan.Part.{Part}
 use Rattle.lp_gen.specs.declared.plan.Origin.{Origin}
 use Rattle.lp_gen.specs.declared.plan.Origin.TheVariants as origin
 use Rattle.lp_gen.specs.declared.record.Tables.{Tables}
 use Rattle.lp_gen.specs.inner.Listing.{Seen, Around, around_of, at_level, constant_function, level_in}
-use Rattle.lp_gen.specs.inner.TermLaw.{AreSet, SameAround, Standing, with_variables, AllLoose}
-use Rattle.lp_gen.specs.inner.Owned.{makes, AreStarted}
-use Rattle.lp_gen.specs.inner.Written.{CodeOwns, AreAsked}
-use Rattle.lp_gen.specs.inner.Beginning.{OwnMade}
-use Rattle.lp_gen.specs.inner.Bodies.{new_level, IsShort, HasLevel, bare_goals, bare_clauses, said_goals, said_clauses, AreThrough}
-use Rattle.lp_gen.specs.inner.Entering.{types_at, news, TypesMade}
+use Rattle.lp_gen.specs.inner.TermLaw.{with_variables, AllLoose}
+use Rattle.lp_gen.specs.inner.Written.{AreAsked}
+use Rattle.lp_gen.specs.inner.Bodies.{new_level, HasLevel, bare_goals, bare_clauses, said_goals, said_clauses, AreThrough}
+use Rattle.lp_gen.specs.inner.Entering.{types_at, news}
 use Rattle.lp_gen.specs.inner.GoalCode.{numbers, GoalsCode}
 use Rattle.lp_gen.specs.inner.OpenGoals.{goals_steps, plain_goals, EndsGoals}
 use Rattle.lp_gen.specs.inner.BodyCode.{Suppositions, AreStarts, started_at, HoldStarts, levels_found, AssumedBy, steps_of, AreNext, next_all}
 use Rattle.lp_gen.specs.inner.BodyLaw.{more_of, GoalsFit, AreLater, AreBelow, StartWith}
 use Rattle.lp_gen.specs.inner.Heading.{PredicateStands, IsHeadAtom}
-use Rattle.lp_code.specs.Denote.{is_set_by_all, sets_by_all, Done, run, from_zero, started as started_with, has_neck, ends_with_proceed, heads, is_known_head, head_passes, is_all_variable, first_key, head_term, variable_types, first_state, is_named, denoted, key_is, nothing_captured, query_ran}
+use Rattle.lp_code.specs.Denote.{Done, run, from_zero, started as started_with, has_neck, ends_with_proceed, heads, is_known_head, head_passes, is_all_variable, first_key, head_term, variable_types, first_state, is_named, denoted, key_is, nothing_captured, query_ran}
 use Rattle.lp_gen.specs.declared.plan.Assumption.{Assumption}
-use Rattle.lp_gen.specs.inner.Planned.{clauses_length, goals_records, GoalsHave, IsAtLevel, NamedBy, AreNamed}
-use Rattle.lp_gen.specs.inner.Recorded.{MayRun, HeadWritten, FrontWritten, TypesWritten, RecordWritten, key_in, first_key_of, HasKey, head_in, own_of}
-use Rattle.lp_gen.proofs.TypeWorks.{map_length}
-use Rattle.lp_gen.proofs.OwnSet.{makes_both, made_is}
-use Rattle.lp_gen.proofs.OwnMadeBy.{started_on}
-use Rattle.lp_gen.proofs.CodeOwned.{owns_then}
-use Rattle.lp_gen.proofs.GoalsGrow.{goals_grow}
+use Rattle.lp_gen.specs.inner.Planned.{clauses_length, GoalsHave, IsAtLevel, AreNamed}
+use Rattle.lp_gen.specs.inner.Recorded.{MayRun, HeadWritten, FrontWritten, RecordWritten, key_in, first_key_of, HasKey, head_in}
 use Rattle.lp_gen.proofs.BodySaid.{TellClauses}
-use Rattle.lp_gen.proofs.BodyParts.{set_left, set_right, loose_at, goals_through}
-use Rattle.lp_gen.proofs.CodeMapped.{plain_records, plain_have, goals_next, goals_mapped}
-use Rattle.lp_gen.proofs.BodySteps.{numbers_length}
-use Rattle.lp_gen.proofs.BodyPlain.{goals_plain}
-use Rattle.lp_gen.proofs.BodyCoded.{body_coded}
-use Rattle.lp_gen.proofs.OwnPlaces.{OwnAre, own_numbers, index_types, own_register, own_are, index_types_count, placed_at, placed_back, at_reverse}
-use Rattle.lp_gen.proofs.RecordBegins.{built_at, no_built, Outside, Inside, own_terms, own_term, old_term, binder_behind, front_held, started_registers, not_zero, start_length, are_own, are_started, own_unmade, old_variable, by_index, old_register, all_seen, all_known, all_free, all_alls, all_outer, stands_first, behind_held}
-use Rattle.std.proofs.lemmas.Bool.{ltb-true, ltb-false, eqb-true, eq-eqb}
+use Rattle.lp_gen.proofs.BodyParts.{loose_at}
+use Rattle.lp_gen.proofs.OwnPlaces.{index_types, own_register, placed_at, placed_back, at_reverse}
+use Rattle.lp_gen.proofs.RecordBegins.{Outside, Inside, own_term, old_term, old_variable, all_seen, all_known, behind_held}
+use Rattle.std.proofs.lemmas.Bool.{ltb-true, eqb-true, eq-eqb}
 use Rattle.lp_calculus.specs.Spine.{arguments}
 use Rattle.lp_code.specs.Symbolic.{Built, held, whole, plain_terms}
 use Rattle.lp_code.specs.declared.record.Key.TheVariants as key
-use Rattle.lp_gen.specs.inner.Running.{HasRegisters, TypesStand}
+use Rattle.lp_gen.specs.inner.Running.{TypesStand}
 use Rattle.lp_gen.proofs.BodyEnds.{ran_out}
 use Rattle.lp_gen.proofs.RunKeys.{arguments_key, key_law}
-use Rattle.lp_gen.proofs.RecordDenoted.{types_are, head_bound, body_bound, NoIndex, goals_stay}
+use Rattle.lp_gen.proofs.RecordDenoted.{head_bound, NoIndex, goals_stay}
 use Rattle.lp_gen.proofs.Bares.{written_same}
-use Rattle.lp_gen.proofs.RecordSound.{neck_inside, proceed_last, Whole, whole_sound}
+use Rattle.lp_gen.proofs.RecordSound.{Whole}
 use Rattle.lp_code.specs.Written.{written_goals}
-use Rattle.lp_gen.proofs.RecordNames.{tynews, none_both, no_tynews, goals_none}
-use Rattle.lp_gen.proofs.WrittenTypes.{starts_as, written_registers, first_same, types_code, written_code, same_types, more_types, news_make, types_make}
-use Rattle.lp_gen.proofs.RecordRuns.{head_more_types, HeadFits, HeadIs, HeadMore, head_more, head_owns, own_all_set, FrontRan, front_ran, RecordRan, record_ran}
+use Rattle.lp_gen.proofs.RecordNames.{tynews}
+use Rattle.lp_gen.proofs.WrittenTypes.{types_code, same_types}
+use Rattle.lp_gen.proofs.RecordRuns.{HeadFits, HeadIs, FrontRan, RecordRan}
 use Rattle.lp_gen.proofs.ProgramTypes.{Typed, typed, own_count}
 use Rattle.lp_gen.proofs.ClauseDenoted.{assumed_clause, assumed_types, assumed_key, program_clause, program_key}
 use Rattle.lp_gen.proofs.ClauseHeads.{head_predicate, head_atom, predicate_fine, first_key_with}
@@ -143,7 +127,7 @@ module _ {S : Type 0} (t : Tables) (part : Part) (captured : IndexMap ℕ Variab
 
         head_front : (later : Later) (s : State) → MayRun h K t.type_vars front_of.begun.types front_of.begun.registers q terms (Ts ++ Γ) (map (λ T. false) Ts ++ B) around (more_of Ts Q) s →
             Fits s → FrontRan h later K t.type_vars w.body.begun.types w.body.begun.registers q terms (Ts ++ Γ) (map (λ T. false) Ts ++ B) around (around_of t.bank.now w.fronted_env)
-                (more_of Ts Q) s front hd
+            (more_of Ts Q) s front hd
         head_front = record_of.head_front t part captured xs' o1 h w o σ Γ B A Q keys out base starts low cl q f gs kept steps ends next few first le has counts
 
         enough : (k + length Ts ≤ h.self.registers) × (front_of.begun.types ≤ h.self.types)
@@ -247,7 +231,7 @@ module _ {S : Type 0} (t : Tables) (part : Part) (captured : IndexMap ℕ Variab
                 t.type_vars (length ls) ns) →
                 TellClauses h later t.type_vars (AreNamed t cl first) → Whole h (first_state h.self nothing_captured) → ((s : State) → s.now.terms ≡ started_with bs h.self.registers → Fits s) →
                 (s : State) × (r : RecordRan h later terms around s (front ++ (coded.0 ++ on.Proceed ∷ [])) hd gs) ×
-                    (run h later (first_state h.self nothing_captured) h.self.code.items ≡ Done r.state)
+                (run h later (first_state h.self nothing_captured) h.self.code.items ≡ Done r.state)
             program_ran = record_of.program_ran t part captured xs' o1 h w o σ Γ B A Q keys out base starts low cl q f gs kept steps ends next few first le has counts std asked known below
                 body_fits nest bs with outer few_types none_captured nothing
 
@@ -297,7 +281,7 @@ module _ {S : Type 0} (t : Tables) (part : Part) (captured : IndexMap ℕ Variab
               key_found later s0 s runs is_first st low before none closed unset =
                   let f0 = head_front later s (may s is_first st) (fits_at s is_first.0) in
                   let f = subst (FrontRan h later K t.type_vars w.body.begun.types w.body.begun.registers q terms (Ts ++ Γ) (map (λ T. false) Ts ++ B) around
-                      (around_of t.bank.now w.fronted_env) (more_of Ts Q) s front) hd_is f0 in
+                  (around_of t.bank.now w.fronted_env) (more_of Ts Q) s front) hd_is f0 in
                   let grow = f.place_grows in
                   let end = f.runs_before [] ∙ ran_out h later f.before (omega (arith, low, grow)) in
                   let rest = coded.0 ++ on.Proceed ∷ [] in
@@ -337,7 +321,7 @@ module _ {S : Type 0} (t : Tables) (part : Part) (captured : IndexMap ℕ Variab
                   let program : h.self.program ≡ false = w.is_program ∙ outer in
                   let kinds : h.self.captured_types ≡ t.type_vars = w.captured_types ∙ ap (λ b. if b then 0 else t.type_vars) outer in
                   let no_key : h.self.key ≡ key.None = subst (λ b. HasKey t.bank.now (origin.Clause c) b h.self.key) outer
-                      (subst (λ z. HasKey t.bank.now z (is_none part.within) h.self.key) (o ∙ c_is) w.key_is) in
+                  (subst (λ z. HasKey t.bank.now z (is_none part.within) h.self.key) (o ∙ c_is) w.key_is) in
                   let begun : front_of.begun.types ≡ t.type_vars = front_of.entered.types_stay ∙ same_types (is_none part.within) w.begun w.typed t.type_vars w.made outer ∙ w.first_types ∙ ap
                   (λ b. if b then 0 else t.type_vars) outer in
                   let e0 = enough.0 in
@@ -356,10 +340,10 @@ module _ {S : Type 0} (t : Tables) (part : Part) (captured : IndexMap ℕ Variab
                   let st = subst (λ n. TypesStand h t.type_vars n s0) (sym begun) (assumed_types h c0 t.type_vars few_types types kinds (omega (arith, begun, e1)) whole) in
                   let r0 = ran_all later s0 s0 (λ rest. ap (λ b. run h later s0 (types_code b w.begun.types t.type_vars ++ rest)) outer)
                   (ap (λ l. started_with l h.self.registers) terms_are, ap from_zero w.captured_are, refl, refl, refl, refl, refl, refl) st self records told
-                      (fits_at s0 (ap (λ l. started_with l h.self.registers) terms_are)) in
+                  (fits_at s0 (ap (λ l. started_with l h.self.registers) terms_are)) in
                   let r = subst (λ d. (x : RecordRan h later terms around s0 (front ++ (coded.0 ++ on.Proceed ∷ [])) d gs) × (run h later s0 h.self.code.items ≡ Done x.state)) hd_is r0 in
                   assumed_clause h later c0 σ A Ts head gs r.0.state r.1 program (types_of r.0.state r.0.own) (head_said r.0.state r.0.head_is)
-                      (body_said (own_variables h.self) places r.0.state.goals r.0.said)
+                  (body_said (own_variables h.self) places r.0.state.goals r.0.said)
 
               pub program_denoted : is_none part.within ≡ true → t.type_vars ≤ 65535 → k ≡ 0 → bs ≡ [] → AllLoose NoIndex (length Ts) head → AreThrough (AllLoose NoIndex) (length Ts) gs →
                   written_goals
@@ -369,8 +353,18 @@ module _ {S : Type 0} (t : Tables) (part : Part) (captured : IndexMap ℕ Variab
                   denoted h later nothing_captured ≡ Some (clause t.type_vars Ts head gs)
               program_denoted outer few_types none_captured nothing no_index no_indices written later self records told =
                   let s0 = first_state h.self nothing_captured in
-                  let s1 : State = record { place = 1; now = s0.now; types_set = s0.types_set; terms_set = s0.terms_set; in_body = s0.in_body; head_types = s0.head_types;
-                      head_arguments = s0.head_arguments; goals = s0.goals; frames = s0.frames; assumed = s0.assumed } in
+                  let s1 : State = record {
+                    place = 1;
+                    now = s0.now;
+                    types_set = s0.types_set;
+                    terms_set = s0.terms_set;
+                    in_body = s0.in_body;
+                    head_types = s0.head_types;
+                    head_arguments = s0.head_arguments;
+                    goals = s0.goals;
+                    frames = s0.frames;
+                    assumed = s0.assumed;
+                  } in
                   let program = is_program outer few_types none_captured nothing in
                   let kinds = no_kinds outer few_types none_captured nothing in
                   let begun = begun_types outer few_types none_captured nothing in
@@ -380,7 +374,7 @@ module _ {S : Type 0} (t : Tables) (part : Part) (captured : IndexMap ℕ Variab
                   let p = predicate_is s0 now_is in
                   let cap = captured_is in
                   let y1 = typed h t.type_vars (front ++ (coded.0 ++ on.Proceed ∷ [])) code no_new_types low later s1 refl (ap from_zero kinds) refl refl program few_types
-                      (λ e r. absurd (one_is_not (eqb-true 1 0 e))) in
+                  (λ e r. absurd (one_is_not (eqb-true 1 0 e))) in
                   let grow = y1.place_grows in
                   let key = key_found later s1 y1.state (λ rest. ap (run h later s1) (own_code outer few_types none_captured nothing rest) ∙ y1.runs rest)
                   (first_of outer few_types none_captured nothing s1 refl refl refl refl refl refl refl refl later y1)
@@ -447,7 +441,7 @@ module _ {S : Type 0} (t : Tables) (part : Part) (captured : IndexMap ℕ Variab
 
             pub query_denoted : is_none part.within ≡ true → t.type_vars ≤ 65535 → k ≡ 0 → bs ≡ [] → AreThrough (AllLoose NoIndex) (length Ts) gs → written_goals gs ≡ gs → (later : Later) →
                 slice_get h.records h.number ≡ Some h.self → ((a : Around) (ns ls : List ℕ) (cs : Clauses) → AreNamed t cl first a ns ls cs → AreLater h t.type_vars (length ls) ns) →
-                    TellClauses h later t.type_vars (AreNamed t cl first) →
+                TellClauses h later t.type_vars (AreNamed t cl first) →
                 query_ran h (run h later (first_state h.self nothing_captured) h.self.code.items) ≡ Some (record { type_vars = t.type_vars; vars = Us; body = gs })
             query_denoted outer few_types none_captured nothing no_indices written later self records told =
                 let s0 = first_state h.self nothing_captured in
@@ -469,7 +463,7 @@ module _ {S : Type 0} (t : Tables) (part : Part) (captured : IndexMap ℕ Variab
                   key = ap (λ p. is_none p || (if h.self.program then key_is h.self.key (first_key (λ r. None) h.self.code.items) else key_is h.self.key None)) none;
                 } in
                 let x = program_ran outer few_types none_captured nothing later self records told whole (λ s e. subst (HeadFits h t.type_vars front_of.begun.registers (Ts ++ Γ) around s)
-                    (sym no_hd) none) in
+                (sym no_hd) none) in
                 let z = x.1.state in
                 let rs = reverse (own_variables h.self) in
                 ap (query_ran h) x.2

@@ -1,5 +1,5 @@
 -- Goals of which there is code fit: as they stand, and where less is known of indices.
-use Rattle.std.proofs.Common.{◌≡◌, ◌∙◌, ◌≤◌, ◌<◌, ℕ, zero, suc, ◌+◌, ◌-◌, List, [], ◌∷◌, ◌++◌, map, Bool, true, false, Option, Some, None, ap, refl, sym, subst, arith}
+use Rattle.std.proofs.Common.{◌≡◌, ◌≤◌, ℕ, zero, suc, ◌+◌, ◌-◌, List, [], ◌∷◌, ◌++◌, map, Bool, true, false, Option, Some, subst, arith}
 use Rattle.std.specs.Prelude.{slice_get}
 use Rattle.lp_calculus.specs.Types.{Ty}
 use Rattle.lp_calculus.specs.Term.{Term, Atom, index, atom, abs, app}
@@ -9,7 +9,7 @@ use Rattle.lp_code.specs.declared.record.Record.{Record}
 use Rattle.lp_code.specs.Symbolic.{Tables}
 use Rattle.lp_code.specs.States.{Home}
 use Rattle.lp_code.specs.Denote.{home_of}
-use Rattle.lp_gen.specs.Sources.{types_by, Under, bound, all_bound, IsAtom, IsGoal, AreGoals, AreAssumed, ends_list}
+use Rattle.lp_gen.specs.Sources.{types_by, Under, bound, all_bound, IsAtom, IsGoal, AreGoals, AreAssumed}
 use Rattle.lp_gen.specs.inner.TermLaw.{AllLoose, KnownAtoms}
 use Rattle.lp_gen.specs.inner.Bodies.{IsThrough, AreThrough, AllThrough}
 use Rattle.lp_gen.specs.inner.BodyLaw.{one_more, more_of, GoalFits, GoalsFit, ClausesFit}

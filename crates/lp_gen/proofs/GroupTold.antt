@@ -1,17 +1,16 @@
 -- What the records of a clause denote among all records.
-use Rattle.std.proofs.Common.{◌≡◌, ◌≢◌, ◌∙◌, ◌⊎◌, inl, inr, ⊎_elim, ◌≤◌, ◌<◌, ℕ, zero, suc, ◌+◌, ◌-◌, ◌^◌, List, [], ◌∷◌, ◌++◌, append_assoc, length, map, drop, reverse, Bor, Bool, true, false, Option, Some, None, ap, refl, sym, subst, arith, true≢false}
-use Rattle.std.specs.Prelude.{nat_eq, nat_lt, ◌||◌, All, is_none, slice_get, option_map}
-use Rattle.std.proofs.lemmas.Bool.{eq-eqb, eqb-true, ltb-true, ltb-false}
+use Rattle.std.proofs.Common.{◌≡◌, ◌∙◌, ◌⊎◌, inl, inr, ⊎_elim, ◌≤◌, ◌<◌, ℕ, zero, suc, ◌+◌, ◌-◌, ◌^◌, List, [], ◌∷◌, ◌++◌, append_assoc, length, map, drop, reverse, Bor, Bool, true, false, Option, Some, None, ap, refl, sym, subst, arith}
+use Rattle.std.specs.Prelude.{nat_eq, nat_lt, All, is_none, slice_get, option_map}
+use Rattle.std.proofs.lemmas.Bool.{ltb-true, ltb-false}
 use Rattle.std.proofs.lemmas.List.{append-nil, length-append}
 use Rattle.std.proofs.lemmas.List.Elements.{All-nil, All-append, All-get_or}
 use Rattle.std.proofs.lemmas.Option.{slice_get_within, get_or_from_slice_get}
 use Rattle.lp_lemmas.proofs.Lists.{get_append}
 use Rattle.indexmap.specs.IndexMap.{IndexMap, index_map_len}
 use Rattle.lp_calculus.specs.Types.{Ty}
-use Rattle.lp_calculus.specs.Term.{Term, index, atom, abs, app}
 use Rattle.lp_standard.specs.Schemes.{IsStandard}
-use Rattle.lp_term.specs.Nodes.{Nodes, tree, type_tree}
-use Rattle.lp_model.specs.Flat.{Goal, Goals, Clause, Clauses, Atomic, Cut, Either, Exists, Forall, Assume, Not, no_goals, goals, clause, no_clauses, clauses, under_all}
+use Rattle.lp_term.specs.Nodes.{Nodes, tree}
+use Rattle.lp_model.specs.Flat.{Goal, Goals, Clause, Clauses, Atomic, Cut, Either, Exists, Forall, Assume, Not, no_goals, goals, clause, no_clauses, clauses}
 use Rattle.lp_model.specs.Flattened.{goals_of, clause_of, clauses_of}
 use Rattle.lp_model.specs.declared.clause.Clause as code
 use Rattle.lp_model.specs.declared.clause.Goal as code_goal
@@ -33,18 +32,15 @@ use Rattle.lp_gen.specs.declared.plan.Part.{Part}
 use Rattle.lp_gen.specs.declared.plan.Origin.TheVariants as origin
 use Rattle.lp_gen.specs.declared.record.Tables.{Tables}
 use Rattle.lp_gen.specs.inner.Listing.{Seen, seen, around_of, constant_function}
-use Rattle.lp_gen.specs.inner.TermLaw.{AllLoose}
 use Rattle.lp_gen.specs.inner.Written.{AreAsked}
-use Rattle.lp_gen.specs.inner.Bodies.{IsThrough, AreThrough, AllThrough}
 use Rattle.lp_gen.specs.inner.GoalCode.{numbers}
 use Rattle.lp_gen.specs.inner.Entering.{types_at}
-use Rattle.lp_gen.specs.inner.OpenGoals.{goals_steps, EndsGoal, EndsGoals}
-use Rattle.lp_gen.specs.inner.BodyCode.{Suppositions, started_at, AreAllSet, HoldStarts, steps_of, starts_all}
+use Rattle.lp_gen.specs.inner.OpenGoals.{EndsGoal, EndsGoals}
+use Rattle.lp_gen.specs.inner.BodyCode.{Suppositions, started_at, AreAllSet, HoldStarts, starts_all}
 use Rattle.lp_gen.specs.inner.Recorded.{RecordWritten, own_count, FrontWritten, HeadWritten, head_in}
-use Rattle.lp_gen.specs.inner.Planned.{clauses_length, goal_records, goals_records, GoalHas, GoalsHave, AreWritten, DeepGoal, DeepGoals, DeepClauses, IsAssumption, IsAtLevel, IsCaptured, AreCaptured}
-use Rattle.lp_gen.specs.inner.Planning.{AreAssumed, AllCaptured, Extends, HoldClauses, AssumptionAt, PartPlanned, AllPlanned, IsPartOf, ArePlanned, body_of}
+use Rattle.lp_gen.specs.inner.Planned.{clauses_length, goal_records, goals_records, GoalHas, GoalsHave, DeepGoal, DeepGoals, DeepClauses, IsAssumption, IsAtLevel, AreCaptured}
+use Rattle.lp_gen.specs.inner.Planning.{AllCaptured, Extends, HoldClauses, AssumptionAt, PartPlanned, AllPlanned, ArePlanned, body_of}
 use Rattle.lp_gen.specs.inner.Groups.{IsStartOf, AllWritten}
-use Rattle.lp_gen.proofs.TypeWorks.{map_length}
 use Rattle.lp_gen.proofs.PlanWalked.{extends_same, extends_at, get_behind}
 use Rattle.lp_gen.proofs.PlanGoals.{clause_is, clauses_many}
 use Rattle.lp_gen.proofs.PartsDone.{clause_at, told_at, PartDone, IsMember, flat_of}
@@ -537,7 +533,7 @@ module _ (S : Type 0) (t : Tables) (o1 : Origin) (us : List Due) (parts : List P
       first_query q1 gs1 o_is is_query r at_r =
           let p = first_part r at_r in
           query_told t cl T all parts g std asked few_types part_done placed members captured counts names_below named p.0 r p.1 at_r p.3 p.4 (starts_none p.0 r p.1 at_r p.3) q1 gs1
-              (p.2 ∙ o_is) is_query
+          (p.2 ∙ o_is) is_query
 
       pub query_head : (q1 : Bor query.Typed) (gs1 : Bor (List code_goal.Goal)) → o1 ≡ origin.Query q1 gs1 → (r : Record) → slice_get g 0 ≡ Some r → r.head ≡ None
       query_head q1 gs1 o_is r at_r =

@@ -1,15 +1,14 @@
 -- The records of clauses, one clause after the other, denote the clauses.
-use Rattle.std.proofs.Common.{◌≡◌, ◌∙◌, ◌≤◌, ◌<◌, ℕ, zero, suc, ◌+◌, ◌-◌, ◌^◌, List, [], ◌∷◌, ◌++◌, length, map, drop, Bor, Bool, true, false, Option, Some, None, ap, refl, sym, subst, arith}
-use Rattle.std.specs.Prelude.{All, if◌then◌else◌, nat_lt, slice_get, option_map}
+use Rattle.std.proofs.Common.{◌≡◌, ◌∙◌, ◌≤◌, ◌<◌, ℕ, zero, suc, ◌+◌, ◌-◌, ◌^◌, List, [], ◌∷◌, ◌++◌, length, map, drop, Bor, true, false, Option, Some, ap, refl, sym, subst, arith}
+use Rattle.std.specs.Prelude.{All, if◌then◌else◌, slice_get, option_map}
 use Rattle.std.proofs.lemmas.Bool.{lt-ltb}
 use Rattle.std.proofs.lemmas.List.{length-append}
 use Rattle.std.proofs.lemmas.List.Elements.{All-head, All-tail}
-use Rattle.std.proofs.lemmas.Option.{slice_get_within}
 use Rattle.lp_standard.specs.Schemes.{IsStandard, entry, standard_schemes}
 use Rattle.lp_standard.specs.Constants.{first_declared}
 use Rattle.lp_lemmas.proofs.Lists.{get_append}
 use Rattle.lp_term.specs.Nodes.{Nodes, tree, type_tree}
-use Rattle.lp_model.specs.Flat.{Goal, Goals, Clause, Clauses, Atomic, Cut, Either, Exists, Forall, Assume, Not, no_goals, goals, clause, no_clauses, clauses}
+use Rattle.lp_model.specs.Flat.{Goal, Goals, Clauses, Atomic, Cut, Either, Exists, Forall, Assume, Not, no_goals, goals, clause, no_clauses, clauses}
 use Rattle.lp_model.specs.Flattened.{clause_of, goals_of}
 use Rattle.lp_model.specs.Readings.{declared_by, scheme_of}
 use Rattle.lp_model.specs.declared.clause.Clause as code
@@ -31,7 +30,6 @@ use Rattle.lp_gen.specs.inner.Planned.{DeepGoal, DeepGoals, DeepClauses}
 use Rattle.lp_gen.specs.inner.Planning.{ArePlanned, AllCaptured}
 use Rattle.lp_gen.specs.inner.Groups.{Hasher, Kept, AllWritten, IsGroup, AreGroups}
 use Rattle.lp_gen.proofs.ConstantTypes.{constants_asked}
-use Rattle.lp_gen.proofs.PlanWalked.{get_behind}
 use Rattle.lp_gen.proofs.PartsDone.{told_at}
 use Rattle.lp_gen.proofs.PlanGoals.{clause_is}
 use Rattle.lp_gen.proofs.GroupTold.{written_length, early_end, first_program, other_assumed, first_told}

@@ -1,13 +1,13 @@
 -- The own variables of a clause: where they stand, and the indices that they get.
-use Rattle.std.proofs.Common.{◌≡◌, ◌∙◌, ◌⊎◌, inl, inr, ⊎_elim, ◌<◌, ◌≤◌, ℕ, zero, suc, ◌+◌, ◌-◌, List, [], ◌∷◌, ◌++◌, length, map, reverse, get_or, Bool, true, false, Option, Some, None, ap, refl, sym, subst, arith, true≢false, add-one}
+use Rattle.std.proofs.Common.{◌≡◌, ◌∙◌, ◌<◌, ◌≤◌, ℕ, zero, suc, ◌+◌, ◌-◌, List, [], ◌∷◌, ◌++◌, length, map, reverse, get_or, Bool, true, false, Option, Some, None, ap, refl, sym, arith, true≢false, add-one}
 use Rattle.std.specs.Prelude.{nat_eq, nat_le, nat_lt, if◌then◌else◌, slice_get}
-use Rattle.std.proofs.lemmas.Bool.{eqb-true, eq-eqb, ne_eqb, leb-true, leb-false, le-leb, ltb-true, ltb-false}
+use Rattle.std.proofs.lemmas.Bool.{eq-eqb, ne_eqb, leb-true, leb-false, le-leb}
 use Rattle.std.proofs.lemmas.List.{append-nil, length-append, length-reverse, get_or-reverse, reverse-append}
 use Rattle.std.proofs.lemmas.Option.{slice_get_within, slice_get-get_or, get_or_from_slice_get}
 use Rattle.lp_calculus.specs.Types.{Ty}
 use Rattle.lp_term.specs.Nodes.{Nodes, type_tree}
 use Rattle.lp_code.specs.States.{member, passing, placed}
-use Rattle.lp_gen.specs.inner.Listing.{Seen, Around, at_level, level_in}
+use Rattle.lp_gen.specs.inner.Listing.{Seen, Around, at_level}
 use Rattle.lp_gen.specs.inner.TermLaw.{as_set, SameAround}
 use Rattle.lp_gen.specs.inner.Owned.{AreStarted, MakesOwn}
 use Rattle.lp_gen.specs.inner.GoalCode.{numbers}

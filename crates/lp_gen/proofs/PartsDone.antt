@@ -1,57 +1,36 @@
 -- Parts with their records, and clauses by their places.
-use Rattle.std.proofs.Common.{◌≡◌, ◌∙◌, ◌⊎◌, inl, inr, ⊎_elim, ◌≤◌, ◌<◌, ℕ, zero, suc, ◌+◌, ◌-◌, ◌^◌, List, [], ◌∷◌, ◌++◌, length, map, drop, reverse, Bor, Bool, true, false, Option, Some, None, ap, refl, sym, subst, arith, true≢false}
-use Rattle.std.specs.Prelude.{nat_eq, nat_le, nat_lt, if◌then◌else◌, max, not, ◌&&◌, All, is_none, slice_get, option_map, option_and_then}
-use Rattle.std.proofs.lemmas.Bool.{eq-eqb, ne_eqb, le-ltb}
+use Rattle.std.proofs.Common.{◌≡◌, ◌∙◌, ◌≤◌, ◌<◌, ℕ, zero, suc, ◌+◌, ◌-◌, ◌^◌, List, [], ◌∷◌, length, drop, Bor, Bool, Option, Some, None, ap, refl, sym, subst, arith}
+use Rattle.std.specs.Prelude.{if◌then◌else◌, All, slice_get}
+use Rattle.std.proofs.lemmas.Bool.{eq-eqb, ne_eqb}
 use Rattle.indexmap.specs.IndexMap.{IndexMap, index_map_len}
-use Rattle.lp_calculus.specs.Types.{Ty, var}
+use Rattle.lp_calculus.specs.Types.{Ty}
 use Rattle.lp_calculus.specs.Term.{Term}
-use Rattle.lp_standard.specs.Schemes.{IsStandard}
-use Rattle.lp_term.specs.Nodes.{Nodes, tree, type_tree}
-use Rattle.std.proofs.lemmas.List.{append-nil}
+use Rattle.lp_term.specs.Nodes.{Nodes, tree}
 use Rattle.std.proofs.lemmas.List.Elements.{All-nil, All-cons}
-use Rattle.lp_model.specs.Flat.{Goal, Goals, Clause, Clauses, Atomic, Cut, Either, Exists, Forall, Assume, Not, no_goals, goals, clause, no_clauses, clauses, add_clauses, assuming, denied}
-use Rattle.lp_code.specs.Written.{written_goal, written_goals, written_clauses}
+use Rattle.lp_model.specs.Flat.{Clause, Clauses, clause, no_clauses, clauses, add_clauses}
 use Rattle.lp_model.specs.Flattened.{goals_of}
 use Rattle.lp_model.specs.declared.clause.Clause as code
-use Rattle.lp_model.specs.declared.clause.Goal as code_goal
-use Rattle.lp_model.specs.declared.program.Typed as query
 use Rattle.lp_code.specs.declared.record.Record.{Record}
-use Rattle.lp_code.specs.declared.record.Key.TheVariants as key
-use Rattle.lp_code.specs.Symbolic.{Tables as CodeTables, Built, variable}
-use Rattle.lp_code.specs.States.{Captured, State, Home, member}
-use Rattle.lp_code.specs.Steps.{Later, clauses_of_records}
-use Rattle.lp_code.specs.Rules.{nesting_limit, named_before, is_assumed_record}
-use Rattle.lp_code.specs.Denote.{from_zero, first_state, is_named, denoted, home_of, later_from, nothing_captured, run, query_ran}
-use Rattle.lp_gen.specs.Sources.{IsClause, IsQuery, Under, AreGoals, IsKnownType, goals_depth, clauses_depth}
+use Rattle.lp_code.specs.Symbolic.{Tables as CodeTables}
+use Rattle.lp_code.specs.States.{Captured, Home}
+use Rattle.lp_code.specs.Denote.{denoted, home_of, later_from}
+use Rattle.lp_gen.specs.Sources.{clauses_depth}
 use Rattle.lp_gen.specs.declared.environment.Variable.{Variable}
 use Rattle.lp_gen.specs.declared.plan.Assumption.{Assumption}
 use Rattle.lp_gen.specs.declared.plan.Part.{Part}
 use Rattle.lp_gen.specs.declared.plan.Origin.{Origin}
 use Rattle.lp_gen.specs.declared.plan.Origin.TheVariants as origin
 use Rattle.lp_gen.specs.declared.record.Tables.{Tables}
-use Rattle.lp_gen.specs.inner.Listing.{Seen, Around, at_level, level_in, constant_function}
-use Rattle.lp_gen.specs.inner.TermLaw.{IsSeen, AllLoose}
-use Rattle.lp_gen.specs.inner.Written.{AreAsked}
-use Rattle.lp_gen.specs.inner.Bodies.{new_level, IsShort, bare_clauses, said_clauses, AreThrough, AllThrough}
+use Rattle.lp_gen.specs.inner.Listing.{Around, constant_function}
+use Rattle.lp_gen.specs.inner.Bodies.{bare_clauses, said_clauses, AllThrough}
 use Rattle.lp_gen.specs.inner.GoalCode.{numbers}
 use Rattle.lp_gen.specs.inner.Entering.{types_at}
-use Rattle.lp_gen.specs.inner.OpenGoals.{goals_steps, EndsGoals}
-use Rattle.lp_gen.specs.inner.BodyCode.{Suppositions, AreStarts, started_at, HoldStarts, levels_found, steps_of, AreNext}
-use Rattle.lp_gen.specs.inner.BodyLaw.{more_of, ClausesFit, GoalsFit, AreBelow, AreAlls, AreOuter, AreLater, StartWith}
-use Rattle.lp_gen.specs.inner.Planned.{clauses_length, goal_records, goals_records, GoalHas, GoalsHave, IsWritten, AreWritten, IsAtLevel, IsAssumption, NamedBy, AreNamed, IsCaptured, AreCaptured}
+use Rattle.lp_gen.specs.inner.OpenGoals.{goals_steps}
+use Rattle.lp_gen.specs.inner.BodyCode.{Suppositions, started_at, HoldStarts, steps_of, AreNext}
+use Rattle.lp_gen.specs.inner.BodyLaw.{ClausesFit}
+use Rattle.lp_gen.specs.inner.Planned.{clauses_length, GoalsHave, AreWritten, IsAtLevel, IsAssumption}
 use Rattle.lp_gen.specs.inner.Recorded.{RecordWritten, own_count}
 use Rattle.lp_gen.specs.inner.Planning.{body_of}
-use Rattle.lp_gen.proofs.BodySaid.{TellClauses}
-use Rattle.lp_gen.proofs.BodySteps.{numbers_length}
-use Rattle.lp_gen.proofs.FitsOf.{clauses_joined, clauses_home, clauses_fit, goals_fit, goals_end, goals_loose, all_hold}
-use Rattle.lp_gen.proofs.TypeWorks.{map_length}
-use Rattle.lp_gen.proofs.OwnPlaces.{index_types_count}
-use Rattle.lp_gen.proofs.StartsPut.{starts_begin}
-use Rattle.lp_gen.proofs.RecordDenoted.{NoIndex}
-use Rattle.lp_gen.proofs.BodyParts.{goals_through, loose_at}
-use Rattle.lp_gen.proofs.RecordBegins.{Outside, level_from, old_term, more_at}
-use Rattle.lp_gen.proofs.ClauseRecords as record_of
-use Rattle.lp_gen.proofs.WrittenTypes.{starts_as}
 
 -- what the later records denote, by their numbers
 

@@ -1,8 +1,7 @@
 -- The records of a query denote it.
-use Rattle.std.proofs.Common.{◌≡◌, ◌∙◌, ◌≤◌, ◌<◌, ℕ, zero, suc, ◌+◌, ◌^◌, List, [], ◌∷◌, ◌++◌, length, map, drop, reverse, Bor, Bool, true, false, Option, Some, None, ap, refl, sym, subst, arith, true≢false}
+use Rattle.std.proofs.Common.{◌≡◌, ◌∙◌, ◌≤◌, ◌<◌, ℕ, suc, ◌+◌, ◌^◌, List, [], ◌∷◌, ◌++◌, length, map, drop, reverse, Bor, true, false, Option, Some, None, ap, refl, sym, subst, arith, true≢false}
 use Rattle.std.specs.Prelude.{if◌then◌else◌, ◌&&◌, is_none, slice_get}
 use Rattle.std.proofs.lemmas.List.{append-nil}
-use Rattle.indexmap.specs.IndexMap.{IndexMap}
 use Rattle.lp_term.specs.Nodes.{Nodes, type_tree}
 use Rattle.lp_term.specs.declared.node.TypeId.{TypeId}
 use Rattle.lp_model.specs.Flat.{Clause}
@@ -11,7 +10,6 @@ use Rattle.lp_model.specs.declared.clause.Goal as code_goal
 use Rattle.lp_model.specs.declared.program.Declared.{Declared}
 use Rattle.lp_model.specs.declared.program.Typed as query
 use Rattle.lp_code.specs.declared.record.Record.{Record}
-use Rattle.lp_code.specs.Symbolic.{Tables as CodeTables}
 use Rattle.lp_code.specs.States.{member}
 use Rattle.lp_code.specs.Rules.{named_before, has_none}
 use Rattle.lp_code.specs.Denote.{DenotedQuery, denote_query, denote_from, later_from, home_of, first_state, nothing_captured, run, query_ran}
@@ -49,11 +47,11 @@ module _ (κ : ℕ → Option ℕ) where
         | None ↦ None
         | Some cs ↦ if has_none cs && is_none r.head then query_ran (home_of (tables_of t.bank.now t.constants.now κ) (r ∷ rs) 0 r)
             (run (home_of (tables_of t.bank.now t.constants.now κ) (r ∷ rs) 0 r) (later_from (tables_of t.bank.now t.constants.now κ) (r ∷ rs) 1 rs) (first_state r nothing_captured)
-                r.code.items) else None
+            r.code.items) else None
       ]) others
       ∙ ap (λ h. if has_none {A = Clause} [] && is_none h then query_ran (home_of (tables_of t.bank.now t.constants.now κ) (r ∷ rs) 0 r)
       (run (home_of (tables_of t.bank.now t.constants.now κ) (r ∷ rs) 0 r) (later_from (tables_of t.bank.now t.constants.now κ) (r ∷ rs) 1 rs) (first_state r nothing_captured) r.code.items)
-          else None) no_head
+      else None) no_head
       ∙ at_zero ∙ told ∙ (λ i. Some (record { type_vars = vars i; vars = types_at t.bank.now (map (λ v. v.1) q1.now.vars.items); body = goals_of t.bank.now gs1.now }))
     where
       many : length (r ∷ rs) ≡ length parts
@@ -72,8 +70,12 @@ module _ (κ : ℕ → Option ℕ) where
       asked m s = record { asks = constants_asked t.bank.now t.constants.now κ; known = known }
 
       u : Under
-      u = record { type_vars = q1.now.type_vars; indices = reverse (types_at t.bank.now (map (λ v. v.1) q1.now.vars.items)); binders = map (λ T. false)
-          (reverse (types_at t.bank.now (map (λ v. v.1) q1.now.vars.items))) }
+      u = record {
+        type_vars = q1.now.type_vars;
+        indices = reverse (types_at t.bank.now (map (λ v. v.1) q1.now.vars.items));
+        binders = map (λ T. false)
+            (reverse (types_at t.bank.now (map (λ v. v.1) q1.now.vars.items)));
+      }
 
       deep : DeepGoals (goals_of t.bank.now gs1.now)
       deep = goals_deep (tables_of t.bank.now t.constants.now κ) u (goals_of t.bank.now gs1.now) is.1
@@ -123,7 +125,7 @@ module _ (κ : ℕ → Option ℕ) where
       (subst (λ v. AreKnownSchemes (tables_of b ds κ) → IsAsked b ds v gs1.now → denote_query (tables_of b ds κ) (r ∷ rs) ≡ Some (query_is b v gs1.now)) q_is
       (subst (λ u. AreKnownSchemes (tables_of u ds κ) → IsAsked u ds q1.now gs1.now → denote_query (tables_of u ds κ) (r ∷ rs) ≡ Some (query_is u q1.now gs1.now)) G.bank_is
       (subst (λ v. AreKnownSchemes (tables_of G.tables.bank.now v κ) → IsAsked G.tables.bank.now v q1.now gs1.now → denote_query (tables_of G.tables.bank.now v κ) (r ∷ rs) ≡ Some
-          (query_is G.tables.bank.now q1.now gs1.now)) G.constants_are
+      (query_is G.tables.bank.now q1.now gs1.now)) G.constants_are
       (one_query G.tables q1 gs1 G.due G.parts r rs G.starts G.planned G.captured G.written (G.first (omega arith)) few (let v = G.vars_are in let f = G.few_vars in omega (arith, v, f))
       (G.vars_are ∙ ap (λ (e : query.Typed). e.type_vars) (sym q_is))))))
 

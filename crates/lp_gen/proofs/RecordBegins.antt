@@ -1,27 +1,22 @@
 -- Where a record begins: its own variables are to be made, and those that it starts with stand in the first registers.
-use Rattle.std.proofs.Common.{◌≡◌, ◌∙◌, ◌⊎◌, inl, inr, ⊎_elim, ◌<◌, ◌≤◌, ◌≢◌, ℕ, zero, suc, ◌+◌, ◌-◌, ◌^◌, List, [], ◌∷◌, ◌++◌, length, map, Bool, true, false, Option, Some, None, get_or, ap, refl, sym, subst, arith, true≢false}
-use Rattle.std.specs.Prelude.{nat_eq, nat_le, nat_lt, ◌&&◌, ◌||◌, if◌then◌else◌, All, min, replicate, slice_get, slice_index_or}
-use Rattle.std.proofs.lemmas.Bool.{eqb-true, eq-eqb, ne_eqb, leb-true, leb-false, le-leb, lt-leb, lt-ltb, le-ltb, ltb-true, ltb-false}
-use Rattle.std.proofs.lemmas.List.{append-nil, length-append}
-use Rattle.lp_calculus.specs.Types.{Ty, var}
+use Rattle.std.proofs.Common.{◌≡◌, ◌∙◌, ◌⊎◌, inl, inr, ⊎_elim, ◌<◌, ◌≤◌, ℕ, zero, suc, ◌+◌, ◌-◌, List, [], ◌∷◌, ◌++◌, length, map, Bool, true, false, Option, Some, None, get_or, ap, refl, sym, subst, arith, true≢false}
+use Rattle.std.specs.Prelude.{nat_eq, nat_le, nat_lt, ◌&&◌, ◌||◌, if◌then◌else◌, All, replicate, slice_get, slice_index_or}
+use Rattle.std.proofs.lemmas.Bool.{eqb-true, ne_eqb, leb-true, leb-false, le-leb, lt-leb, lt-ltb, le-ltb, ltb-true, ltb-false}
+use Rattle.lp_calculus.specs.Types.{Ty}
 use Rattle.lp_calculus.specs.Term.{Term, index, atom, logic}
-use Rattle.lp_standard.specs.Schemes.{IsStandard}
-use Rattle.lp_model.specs.Flat.{no_goals}
 use Rattle.lp_code.specs.Symbolic.{Built, variable, held, whole}
-use Rattle.lp_code.specs.States.{State, Home, member, placed, index_or, bind_term}
-use Rattle.lp_code.specs.Rules.{is_variable_of, named_before}
+use Rattle.lp_code.specs.States.{Home, member, placed, index_or, bind_term}
+use Rattle.lp_code.specs.Rules.{is_variable_of}
 use Rattle.lp_code.specs.Denote.{from_zero, started, is_all_variable}
 use Rattle.lp_gen.specs.Sources.{IsKnownType}
-use Rattle.lp_gen.specs.inner.Running.{HasRegisters, TypesStand, TermsStand}
+use Rattle.lp_gen.specs.inner.Running.{HasRegisters}
 use Rattle.lp_gen.specs.inner.Listing.{Seen, Around, count_around, level_below, at_level, level_in}
 use Rattle.lp_gen.specs.inner.TermLaw.{Standing, IsSeen}
-use Rattle.lp_gen.specs.inner.Written.{AreAsked}
 use Rattle.lp_gen.specs.inner.Bodies.{new_level, IsShort}
 use Rattle.lp_gen.specs.inner.Heading.{AreOwn}
 use Rattle.lp_gen.specs.inner.Entering.{unmade}
-use Rattle.lp_gen.specs.inner.BodyLaw.{more_of, AreBelow, AreAlls, AreOuter, StartWith}
+use Rattle.lp_gen.specs.inner.BodyLaw.{more_of, AreAlls, AreOuter, StartWith}
 use Rattle.lp_gen.specs.inner.BodyCode.{levels_found, level_found, AreStarts}
-use Rattle.lp_gen.specs.inner.Recorded.{MayRun}
 use Rattle.lp_gen.proofs.Denoting.{or_none}
 use Rattle.lp_gen.proofs.Binding.{bind_another}
 use Rattle.lp_gen.proofs.OwnPlaces.{OwnAre, own_from, type_at}

@@ -1,80 +1,59 @@
 -- The record of a clause or query: its code part by part, and what comes of it where it is run.
-use Rattle.std.proofs.Common.{◌≡◌, ◌∙◌, ◌≤◌, ◌<◌, ℕ, zero, suc, ◌+◌, ◌-◌, ◌^◌, List, [], ◌∷◌, ◌++◌, append_assoc, length, map, reverse, Bor, Bool, true, false, inl, inr, Option, Some, None, ap, refl, sym, subst, arith, true≢false}
-use Rattle.std.specs.Prelude.{nat_eq, nat_lt, ◌||◌, if◌then◌else◌, All, is_none, sum_by, slice_get, slice_index_or}
+use Rattle.std.proofs.Common.{◌≡◌, ◌∙◌, ◌≤◌, ◌<◌, ℕ, zero, suc, ◌+◌, ◌-◌, ◌^◌, List, [], ◌∷◌, ◌++◌, append_assoc, length, map, Bool, true, false, inl, inr, Option, Some, None, ap, refl, sym, subst, arith}
+use Rattle.std.specs.Prelude.{nat_lt, if◌then◌else◌, All, is_none, slice_get, slice_index_or}
 use mathlib.Core.Path.{fun_ext}
 use Rattle.indexmap.specs.IndexMap.{IndexMap, index_map_len}
-use Rattle.lp_calculus.specs.Types.{Ty, var}
+use Rattle.lp_calculus.specs.Types.{Ty}
 use Rattle.lp_calculus.specs.Term.{Term}
 use Rattle.lp_standard.specs.Schemes.{IsStandard}
-use Rattle.std.proofs.lemmas.List.{append-nil, length-reverse}
-use Rattle.std.proofs.lemmas.Option.{slice_get_within}
-use Rattle.lp_term.specs.Nodes.{Nodes, tree, type_tree}
-use Rattle.lp_model.specs.Flat.{Goals, Clauses, no_clauses, clauses, no_goals, Clause as FlatClause, clause}
-use Rattle.lp_model.specs.declared.clause.Clause.{Clause}
-use Rattle.lp_model.specs.declared.clause.Goal as code_goal
-use Rattle.lp_model.specs.declared.program.Typed as query
+use Rattle.std.proofs.lemmas.List.{append-nil}
+use Rattle.lp_model.specs.Flat.{Goals, Clauses, no_clauses, clauses, no_goals}
 use Rattle.lp_code.specs.declared.instruction.Instr.{Instr}
 use Rattle.lp_code.specs.declared.instruction.Instr.TheVariants as on
-use Rattle.lp_code.specs.declared.record.Record.{Record}
-use Rattle.lp_code.specs.declared.record.RecordHead.{RecordHead}
 use Rattle.lp_code.specs.Operands.{own_set}
-use Rattle.lp_code.specs.States.{State, Home, member, passing, placed, Captured, bind_term, bind_goals}
+use Rattle.lp_code.specs.States.{State, Home, member, passing, placed, bind_goals}
 use Rattle.lp_code.specs.Steps.{Later, is_made, own_variables}
 use Rattle.lp_code.specs.Rules.{nesting_limit}
 use Rattle.lp_gen.specs.Sources.{IsKnownType, goals_depth}
-use Rattle.lp_gen.specs.declared.emitter.Emitter.{Emitter}
-use Rattle.lp_gen.specs.declared.environment.Environment.{Environment}
 use Rattle.lp_gen.specs.declared.environment.Variable.{Variable}
 use Rattle.lp_gen.specs.declared.plan.Part.{Part}
 use Rattle.lp_gen.specs.declared.plan.Origin.{Origin}
-use Rattle.lp_gen.specs.declared.plan.Origin.TheVariants as origin
 use Rattle.lp_gen.specs.declared.record.Tables.{Tables}
 use Rattle.lp_gen.specs.inner.Listing.{Seen, Around, around_of, at_level, constant_function, level_in}
-use Rattle.lp_gen.specs.inner.TermLaw.{AreSet, SameAround, Standing, with_variables, AllLoose}
+use Rattle.lp_gen.specs.inner.TermLaw.{AreSet, Standing}
 use Rattle.lp_gen.specs.inner.Owned.{makes, AreStarted}
 use Rattle.lp_gen.specs.inner.Written.{CodeOwns, AreAsked}
-use Rattle.lp_gen.specs.inner.Beginning.{OwnMade}
-use Rattle.lp_gen.specs.inner.Bodies.{new_level, IsShort, HasLevel, bare_goals, bare_clauses, said_goals, said_clauses, AreThrough}
-use Rattle.lp_gen.specs.inner.Entering.{types_at, news, TypesMade}
+use Rattle.lp_gen.specs.inner.Bodies.{new_level, IsShort, HasLevel, bare_goals, said_goals}
+use Rattle.lp_gen.specs.inner.Entering.{news}
 use Rattle.lp_gen.specs.inner.GoalCode.{numbers, GoalsCode}
 use Rattle.lp_gen.specs.inner.OpenGoals.{goals_steps, plain_goals, EndsGoals}
 use Rattle.lp_gen.specs.inner.BodyCode.{Suppositions, AreStarts, started_at, HoldStarts, levels_found, AssumedBy, steps_of, AreNext, next_all}
 use Rattle.lp_gen.specs.inner.BodyLaw.{more_of, GoalsFit, AreLater, AreBelow, StartWith}
-use Rattle.lp_gen.specs.inner.Heading.{PredicateStands, IsHeadAtom}
-use Rattle.lp_code.specs.Denote.{is_set_by_all, sets_by_all, Done, run, from_zero, started as started_with, has_neck, ends_with_proceed, heads, is_known_head, head_passes, is_all_variable, first_key, head_term, variable_types, first_state, is_named, denoted, key_is, nothing_captured, query_ran}
+use Rattle.lp_code.specs.Denote.{is_set_by_all, sets_by_all, Done, run, from_zero, started as started_with, has_neck, ends_with_proceed, is_all_variable, variable_types, first_state, nothing_captured}
 use Rattle.lp_gen.specs.declared.plan.Assumption.{Assumption}
-use Rattle.lp_gen.specs.inner.Planned.{clauses_length, goals_records, GoalsHave, IsAtLevel, NamedBy, AreNamed}
+use Rattle.lp_gen.specs.inner.Planned.{clauses_length, goals_records, GoalsHave, IsAtLevel, AreNamed}
 use Rattle.lp_gen.specs.inner.Recorded.{MayRun, HeadWritten, FrontWritten, TypesWritten, RecordWritten, key_in, first_key_of, HasKey, head_in, own_of}
-use Rattle.lp_gen.proofs.TypeWorks.{map_length}
 use Rattle.lp_gen.proofs.OwnSet.{makes_both, made_is}
 use Rattle.lp_gen.proofs.OwnMadeBy.{started_on}
 use Rattle.lp_gen.proofs.CodeOwned.{owns_then}
 use Rattle.lp_gen.proofs.GoalsGrow.{goals_grow}
 use Rattle.lp_gen.proofs.BodySaid.{TellClauses}
-use Rattle.lp_gen.proofs.BodyParts.{set_left, set_right, loose_at, goals_through}
+use Rattle.lp_gen.proofs.BodyParts.{set_left, set_right, goals_through}
 use Rattle.lp_gen.proofs.CodeMapped.{plain_records, plain_have, goals_next, goals_mapped}
 use Rattle.lp_gen.proofs.BodySteps.{numbers_length}
 use Rattle.lp_gen.proofs.BodyPlain.{goals_plain}
 use Rattle.lp_gen.proofs.BodyCoded.{body_coded}
-use Rattle.lp_gen.proofs.OwnPlaces.{OwnAre, own_numbers, index_types, own_register, own_are, index_types_count, placed_at, placed_back, at_reverse}
+use Rattle.lp_gen.proofs.OwnPlaces.{OwnAre, own_numbers, index_types, own_register, own_are, index_types_count}
 use Rattle.lp_gen.proofs.RecordBegins.{built_at, no_built, Outside, Inside, own_terms, own_term, old_term, binder_behind, front_held, started_registers, not_zero, start_length, are_own, are_started, own_unmade, old_variable, by_index, old_register, all_seen, all_known, all_free, all_alls, all_outer, stands_first, behind_held}
-use Rattle.std.proofs.lemmas.Bool.{ltb-true, ltb-false, eqb-true, eq-eqb}
-use Rattle.lp_calculus.specs.Spine.{arguments}
-use Rattle.lp_code.specs.Symbolic.{Built, held, whole, plain_terms}
-use Rattle.lp_code.specs.declared.record.Key.TheVariants as key
+use Rattle.std.proofs.lemmas.Bool.{ltb-true, ltb-false}
+use Rattle.lp_code.specs.Symbolic.{Built, held, whole}
 use Rattle.lp_gen.specs.inner.Running.{HasRegisters, TypesStand}
-use Rattle.lp_gen.proofs.BodyEnds.{ran_out}
-use Rattle.lp_gen.proofs.RunKeys.{arguments_key, key_law}
-use Rattle.lp_gen.proofs.RecordDenoted.{types_are, head_bound, body_bound, NoIndex, goals_stay}
-use Rattle.lp_gen.proofs.Bares.{written_same}
+use Rattle.lp_gen.proofs.RecordDenoted.{types_are, body_bound}
 use Rattle.lp_gen.proofs.RecordSound.{neck_inside, proceed_last, Whole, whole_sound}
-use Rattle.lp_code.specs.Written.{written_goals}
 use Rattle.lp_gen.proofs.RecordNames.{tynews, none_both, no_tynews, goals_none}
-use Rattle.lp_gen.proofs.WrittenTypes.{starts_as, written_registers, first_same, types_code, written_code, same_types, more_types, news_make, types_make}
-use Rattle.lp_gen.proofs.RecordRuns.{head_more_types, HeadFits, HeadIs, HeadMore, head_more, head_owns, own_all_set, FrontRan, front_ran, RecordRan, record_ran}
-use Rattle.lp_gen.proofs.ProgramTypes.{Typed, typed, own_count}
-use Rattle.lp_gen.proofs.ClauseDenoted.{assumed_clause, assumed_types, assumed_key, program_clause, program_key}
-use Rattle.lp_gen.proofs.ClauseHeads.{head_predicate, head_atom, predicate_fine, first_key_with}
+use Rattle.lp_gen.proofs.WrittenTypes.{starts_as, written_registers, first_same, types_code, written_code, more_types, types_make}
+use Rattle.lp_gen.proofs.RecordRuns.{head_more_types, HeadFits, HeadMore, head_more, head_owns, own_all_set, FrontRan, front_ran, RecordRan, record_ran}
+use Rattle.lp_gen.proofs.ProgramTypes.{Typed, typed}
 
 module _ {S : Type 0} (t : Tables) (part : Part) (captured : IndexMap ℕ Variable S) (xs' : List (IndexMap ℕ Variable S)) (o1 : Origin) (h : Home)
     (w : RecordWritten t (constant_function t.bank.now t.constants.now) part captured [] xs' h.self) (o : part.origin ≡ o1) where
@@ -288,7 +267,7 @@ module _ {S : Type 0} (t : Tables) (part : Part) (captured : IndexMap ℕ Variab
             ((a : Around) (ns ls : List ℕ) (cs : Clauses) → AreNamed t cl first a ns ls cs → AreLater h t.type_vars (length ls) ns) → TellClauses h later t.type_vars (AreNamed t cl first) →
             MayRun h K t.type_vars front_of.begun.types front_of.begun.registers q terms (Ts ++ Γ) (map (λ T. false) Ts ++ B) around (more_of Ts Q) s → Fits s →
             GoalsFit h t.type_vars (Ts ++ Γ) (map (λ T. false) Ts ++ B) (more_of Ts Q) gs → goals_depth gs ≤ nesting_limit → RecordRan h later terms around s
-                (front ++ (coded.0 ++ on.Proceed ∷ [])) hd gs
+            (front ++ (coded.0 ++ on.Proceed ∷ [])) hd gs
         all_ran later s self records told may fits fit nest =
             record_ran (AreNamed t cl first) h later K t.type_vars q (next_all t q part.steps.items) terms (Ts ++ Γ) (map (λ T. false) Ts ++ B) around (around_of t.bank.now w.fronted_env)
             (more_of Ts Q) w.body.begun.types w.body.said.types w.body.begun.registers w.body.said.registers s front coded.0 hd gs
@@ -300,7 +279,7 @@ module _ {S : Type 0} (t : Tables) (part : Part) (captured : IndexMap ℕ Variab
         -- and its head alone
         pub head_front : (later : Later) (s : State) → MayRun h K t.type_vars front_of.begun.types front_of.begun.registers q terms (Ts ++ Γ) (map (λ T. false) Ts ++ B) around (more_of Ts Q) s →
             Fits s → FrontRan h later K t.type_vars w.body.begun.types w.body.begun.registers q terms (Ts ++ Γ) (map (λ T. false) Ts ++ B) around (around_of t.bank.now w.fronted_env)
-                (more_of Ts Q) s front hd
+            (more_of Ts Q) s front hd
         head_front later s may fits =
             front_ran h later K t.type_vars q terms (Ts ++ Γ) (map (λ T. false) Ts ++ B) around (around_of t.bank.now front_of.matched_env) (around_of t.bank.now w.fronted_env) (more_of Ts Q) s
             front_of.begun front_of.matched w.fronted w.body.begun h.self.head hd front_of.head front_of.made w.body.neck may fits refl room.0 room.1
@@ -479,22 +458,29 @@ module _ {S : Type 0} (t : Tables) (part : Part) (captured : IndexMap ℕ Variab
                 s0.head_arguments ≡ [] →
                 s0.goals ≡ no_goals → s0.frames ≡ [] → s0.assumed ≡ [] → (later : Later) →
                 (x : Typed h t.type_vars (front ++ (coded.0 ++ on.Proceed ∷ [])) (program_code outer) no_new_types enough_types later s0) → IsFirst x.state
-            first_of s0 now_is set_is before no_types no_args said closed assumed later x =
-                (x.terms ∙ now_is ∙ ap (λ l. started_with l h.self.registers) (sym nothing), x.terms_set ∙ set_is ∙ ap from_zero w.captured_are, x.in_body ∙ before, x.head_types ∙ no_types,
-                    x.arguments ∙ no_args, x.goals ∙ said, x.frames ∙ closed, x.assumed ∙ assumed)
+            first_of s0 now_is set_is before no_types no_args said closed assumed later x = (
+              x.terms ∙ now_is ∙ ap (λ l. started_with l h.self.registers) (sym nothing),
+              x.terms_set ∙ set_is ∙ ap from_zero w.captured_are,
+              x.in_body ∙ before,
+              x.head_types ∙ no_types,
+              x.arguments ∙ no_args,
+              x.goals ∙ said,
+              x.frames ∙ closed,
+              x.assumed ∙ assumed,
+            )
 
             pub program_ran : (later : Later) → slice_get h.records h.number ≡ Some h.self → ((a : Around) (ns ls : List ℕ) (cs : Clauses) → AreNamed t cl first a ns ls cs → AreLater h
                 t.type_vars (length ls) ns) →
                 TellClauses h later t.type_vars (AreNamed t cl first) → Whole h (first_state h.self nothing_captured) → ((s : State) → s.now.terms ≡ started_with bs h.self.registers → Fits s) →
                 (s : State) × (r : RecordRan h later terms around s (front ++ (coded.0 ++ on.Proceed ∷ [])) hd gs) ×
-                    (run h later (first_state h.self nothing_captured) h.self.code.items ≡ Done r.state)
+                (run h later (first_state h.self nothing_captured) h.self.code.items ≡ Done r.state)
             program_ran later self records told whole fits =
                 let s0 = first_state h.self nothing_captured in
                 let code = program_code outer in
                 let y0 = typed h t.type_vars (front ++ (coded.0 ++ on.Proceed ∷ [])) code no_new_types enough_types later s0 refl (ap from_zero no_kinds) refl refl is_program few_types
-                    (λ e r. whole_sound h s0 whole r) in
+                (λ e r. whole_sound h s0 whole r) in
                 let is_first = first_of s0 refl refl refl refl refl refl refl refl later y0 in
                 let r = ran_all later s0 y0.state (λ rest. ap (run h later s0) (own_code rest) ∙ y0.runs rest) is_first
-                    (subst (λ n. TypesStand h t.type_vars n y0.state) (sym begun_types) y0.stand) self
+                (subst (λ n. TypesStand h t.type_vars n y0.state) (sym begun_types) y0.stand) self
                 records told (fits y0.state is_first.0) in
                 (y0.state, r.0, r.1)

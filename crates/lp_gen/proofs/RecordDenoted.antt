@@ -1,11 +1,11 @@
 -- What a record denotes that was run to its end.
-use Rattle.std.proofs.Common.{◌≡◌, ◌∙◌, ◌≤◌, ◌<◌, ℕ, zero, suc, ◌+◌, ◌-◌, List, [], ◌∷◌, ◌++◌, length, map, Bool, true, false, Option, Some, None, ap, refl, sym, subst, arith}
-use Rattle.std.specs.Prelude.{nat_eq, nat_lt, if◌then◌else◌, slice_get, unwrap_or}
+use Rattle.std.proofs.Common.{◌≡◌, ◌∙◌, ◌<◌, ℕ, zero, suc, ◌+◌, ◌-◌, List, [], ◌∷◌, length, map, Bool, true, false, Some, None, ap, refl, sym, arith}
+use Rattle.std.specs.Prelude.{nat_lt, if◌then◌else◌, slice_get, unwrap_or}
 use Rattle.std.proofs.lemmas.Bool.{eq-eqb, lt-ltb}
 use Rattle.lp_calculus.specs.Types.{Ty}
 use Rattle.lp_calculus.specs.Typing.{o_type}
 use Rattle.lp_calculus.specs.Term.{Term, index, atom, abs, app, logic}
-use Rattle.lp_model.specs.Flat.{Goal, Goals, Clauses, Atomic, Cut, Either, Exists, Forall, Assume, Not, no_goals, goals, clause, no_clauses, clauses, under_all, map_goal, map_goals, map_clauses, same_type}
+use Rattle.lp_model.specs.Flat.{Goal, Goals, Clauses, Atomic, Cut, Either, Exists, Forall, Assume, Not, no_goals, goals, clause, no_clauses, clauses, under_all, map_goal, same_type}
 use Rattle.lp_code.specs.Symbolic.{Built, variable, held, whole, term_in}
 use Rattle.lp_code.specs.States.{State, Home, placed, index_or, bind_term, bind_goals}
 use Rattle.lp_code.specs.Written.{nothing_written, written_goals}
@@ -79,7 +79,7 @@ module _ (h : Home) (K : ℕ → List Ty → Ty) (vars : ℕ) (σ : ℕ → Term
         inner_at : (d j : ℕ) → j < length Ts → (T : Ty) × (slice_get Ts j ≡ Some T) → bind_term rs h.number d (level_term τ (level_in a j)) ≡ index (d + j)
         inner_at d j low t =
             let s = Rattle.lp_gen.proofs.RecordBegins.level_is a j ins.short (let c = Rattle.lp_gen.proofs.RecordBegins.level_count h K vars σ Γ B A a Q keys k Ts reg out ins in omega
-                (arith, low, c)) in
+            (arith, low, c)) in
             let l : ℕ = new_level a - j - 1 in
             let same : l ≡ a.base + (length Ts - 1 - j) = (let c = Rattle.lp_gen.proofs.RecordBegins.level_count h K vars σ Γ B A a Q keys k Ts reg out ins
             in let b = ins.base in omega (arith, low, c, b)) in

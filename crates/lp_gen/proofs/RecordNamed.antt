@@ -1,12 +1,11 @@
 -- The records that the code of a clause names, by their numbers.
-use Rattle.std.proofs.Common.{◌≡◌, ◌∙◌, ◌≤◌, ◌<◌, ℕ, zero, suc, ◌+◌, ◌-◌, ◌^◌, List, [], ◌∷◌, ◌++◌, append_assoc, length, map, Bor, Bool, true, false, Option, Some, None, ap, refl, sym, subst, arith}
+use Rattle.std.proofs.Common.{◌≡◌, ◌∙◌, ◌<◌, ℕ, ◌+◌, ◌-◌, ◌^◌, List, [], ◌∷◌, ◌++◌, append_assoc, length, Bool, true, false, Some, ap, refl, sym, subst, arith}
 use Rattle.std.specs.Prelude.{nat_le, if◌then◌else◌, is_none, slice_get}
 use Rattle.std.proofs.lemmas.List.{append-nil}
 use Rattle.std.proofs.lemmas.Bool.{leb-true}
-use Rattle.indexmap.specs.IndexMap.{IndexMap, index_map_len}
+use Rattle.indexmap.specs.IndexMap.{IndexMap}
 use Rattle.lp_calculus.specs.Types.{Ty}
 use Rattle.lp_model.specs.Flat.{Goals}
-use Rattle.lp_model.specs.declared.clause.Clause.{Clause}
 use Rattle.lp_code.specs.declared.instruction.Instr.{Instr}
 use Rattle.lp_code.specs.declared.instruction.Instr.TheVariants as on
 use Rattle.lp_code.specs.States.{Home}
@@ -15,15 +14,14 @@ use Rattle.lp_gen.specs.declared.environment.Variable.{Variable}
 use Rattle.lp_gen.specs.declared.plan.Part.{Part}
 use Rattle.lp_gen.specs.declared.plan.Origin.{Origin}
 use Rattle.lp_gen.specs.declared.record.Tables.{Tables}
-use Rattle.lp_gen.specs.inner.Listing.{Seen, Around, around_of, at_level, constant_function}
+use Rattle.lp_gen.specs.inner.Listing.{Around, around_of, constant_function}
 use Rattle.lp_gen.specs.inner.TermLaw.{AreSet}
 use Rattle.lp_gen.specs.inner.Owned.{AreStarted}
 use Rattle.lp_gen.specs.inner.Written.{CodeOwns}
 use Rattle.lp_gen.specs.inner.Bodies.{IsShort}
-use Rattle.lp_gen.specs.inner.Entering.{types_at}
 use Rattle.lp_gen.specs.inner.GoalCode.{numbers, GoalsCode}
 use Rattle.lp_gen.specs.inner.OpenGoals.{goals_steps, plain_goals, EndsGoals}
-use Rattle.lp_gen.specs.inner.BodyCode.{Suppositions, started_at, AreAllSet, HoldStarts, AssumedBy, steps_of, AreNext, next_all}
+use Rattle.lp_gen.specs.inner.BodyCode.{Suppositions, AreAllSet, HoldStarts, AssumedBy, steps_of, AreNext, next_all}
 use Rattle.lp_gen.specs.inner.Recorded.{FrontWritten, RecordWritten, own_count}
 use Rattle.lp_gen.proofs.OwnMadeBy.{started_on}
 use Rattle.lp_gen.proofs.CodeOwned.{owns_then}

@@ -1,6 +1,6 @@
 -- What the code of clauses and of a query denotes: over the declared constants, and over each table of kinds in which the declared types have their kinds and
 -- over which they are well typed, these clauses, or this query.
-use Rattle.std.specs.Prelude.{◌≡◌, ℕ, ◌≤◌, List, map, reverse, All, Option, Some}
+use Rattle.std.specs.Prelude.{◌≡◌, ℕ, List, map, reverse, All, Option, Some}
 use Rattle.lp_term.specs.Nodes.{Nodes, type_tree}
 use Rattle.lp_model.specs.declared.program.Declared.{Declared}
 use Rattle.lp_model.specs.declared.program.Typed as program

@@ -1,9 +1,9 @@
 -- The plan of a clause or query while it is made: which parts are due, what assumptions are, and what is still to do for the goals of a part.
-use Rattle.std.specs.Prelude.{◌≡◌, ℕ, zero, suc, ◌+◌, ◌<◌, ◌≤◌, ◌^◌, true, List, [], ◌∷◌, ◌++◌, map, reverse, length, Option, Some, None, slice_get}
+use Rattle.std.specs.Prelude.{◌≡◌, ℕ, suc, ◌+◌, ◌<◌, ◌≤◌, ◌^◌, List, [], ◌∷◌, ◌++◌, map, reverse, length, Some, None, slice_get}
 use Rattle.std.specs.Borrow.{Bor}
 use Rattle.lp_model.specs.declared.clause.Goal.{Goal}
 use Rattle.lp_model.specs.declared.clause.Clause.{Clause}
-use Rattle.lp_model.specs.Flat.{Clauses, Cut}
+use Rattle.lp_model.specs.Flat.{Clauses}
 use Rattle.lp_model.specs.Flattened.{goals_of, clauses_of}
 use Rattle.lp_term.specs.Nodes.{Nodes}
 use Rattle.lp_gen.specs.declared.plan.Assumption.{Assumption}
