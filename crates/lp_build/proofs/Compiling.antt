@@ -19,7 +19,8 @@ use Rattle.lp_build.specs.declared.sources.Sources.{Sources}
 use Rattle.lp_build.specs.declared.texts.Group.{Group}
 use Rattle.std.proofs.lemmas.List.{get_or_default, length_push}
 use Rattle.lp_sig.specs.Refusals.{IsAt}
-use Rattle.lp_build.specs.Compiled.{AreExported, ArePaired, HasNamesOf, IsCompiled, IsModuleOfFile}
+use Rattle.lp_module.specs.Sentences.{AreWithin}
+use Rattle.lp_build.specs.Compiled.{AreExported, ArePaired, IsCompiled, IsModuleOfFile, IsObjectOf}
 use Rattle.lp_build.proofs.Growing.{each_more}
 
 nothing_at : {A : Type 0} (xs : List A) (i : ℕ) (x : A) → xs ≡ [] → IsAt xs i x → ⊥
@@ -75,17 +76,20 @@ found_number numbers place number other read wanted lt is same e all =
     subst (IsAt numbers place) h (lt, get_or_default numbers place number other lt ∙ sym is)
 
 pub compiled_is : (sources : Sources) (w : Whole) (number : ℕ) (m : Module) (r : Result Object BuildFault) → IsWhole sources.files.items w
-    → IsModuleOfFile sources.files.items w.texts.signatures w.texts.modules number m → IfOk r (HasNamesOf m) → IfOk r (IsCompiled sources number)
-compiled_is sources w number m (Ok o) whole is names = record {
-  signatures = w.texts.signatures;
-  texts = w.texts.modules;
-  signature_texts = whole.texts.signatures;
-  module_texts = whole.texts.modules;
-  meant = m;
-  is = is;
-  names = names;
-}
-compiled_is sources w number m (Err e) whole is names = tt
+    → IsModuleOfFile sources.files.items w.texts.signatures w.texts.modules number m → (AreWithin m.bank m.clauses.items → IfOk r (IsObjectOf m)) → IfOk r (IsCompiled sources number)
+compiled_is sources w number m r whole is object = by r (object is.is.meaning.clauses)
+  where
+    by : (r : Result Object BuildFault) → IfOk r (IsObjectOf m) → IfOk r (IsCompiled sources number)
+    by (Ok o) h = record {
+      signatures = w.texts.signatures;
+      texts = w.texts.modules;
+      signature_texts = whole.texts.signatures;
+      module_texts = whole.texts.modules;
+      meant = m;
+      is = is;
+      object = h;
+    }
+    by (Err e) h = tt
 
 pub module_of_file : (files : List File) (g : Group SignatureText) (t : Group ModuleText) (number place : ℕ) (r : Result Module BuildFault) → IsAt t.numbers.items place number
     → IfOk r (IsModuleAt files g t place) → IfOk r (IsModuleOfFile files g t number)

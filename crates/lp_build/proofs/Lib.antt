@@ -11,3 +11,5 @@ pub mod Building
 pub mod Awaiting
 pub mod Compiling
 pub mod Closed
+pub mod Coding
+pub mod Imaging

@@ -1,5 +1,15 @@
--- The object of a module of a set of files: its names.
-use Rattle.std.specs.Prelude.{◌≡◌, ℕ, ◌-◌, List, length, map, nat_lt, Bool, None, if◌then◌else◌}
+-- The object of a module of a set of files: its names, and what its code denotes.
+use Rattle.std.specs.Prelude.{◌≡◌, ℕ, ◌-◌, List, length, map, nat_lt, All, Bool, None, Some, if◌then◌else◌}
+use Rattle.lp_calculus.specs.Typing.{Scheme}
+use Rattle.lp_model.specs.Flat.{Clause}
+use Rattle.lp_model.specs.Flatten.{ClauseFormula}
+use Rattle.lp_model.specs.Proofs.{AreFlattened}
+use Rattle.lp_code.specs.Denote.{denote}
+use Rattle.lp_code.specs.Naming.{object_tables}
+use Rattle.lp_code.specs.Symbolic.{Tables}
+use Rattle.lp_code.specs.declared.record.Record.{Record}
+use Rattle.lp_gen.specs.Sources.{AreKnownSchemes, IsClause}
+use Rattle.lp_module.specs.Program.{clauses_in}
 use Rattle.lp_code.specs.declared.object.Object.{Object}
 use Rattle.lp_code.specs.declared.object.ObjectConstant.{ObjectConstant}
 use Rattle.lp_code.specs.declared.object.ObjectKind.{ObjectKind}
@@ -47,6 +57,16 @@ pub record HasNamesOf (m : Module) (o : Object) : Type 0 where
   pub exported_constants : AreExported (λ c. c.exported) (length m.signature.constants.items - length m.hidden_constants.items) o.constants.items
   pub uses : map (λ u. u.items) o.uses.items ≡ map (λ u. u.items) m.uses.items
 
+-- over these kinds and constants, records denote the flattened clauses of formulas, in order, where these are well typed and within the limits of code
+abbrev pub DenoteFlattened : Tables → List ClauseFormula → List Record → Type 0
+DenoteFlattened t fs rs =
+    (cs : List Clause) → AreFlattened t.constants fs cs → AreKnownSchemes t → All (IsClause t) cs → denote t rs ≡ Some cs
+
+-- an object of a module: its names, and code that denotes over its own kinds and constants the flattened clauses of the module
+pub record IsObjectOf (m : Module) (o : Object) : Type 0 where
+  pub names : HasNamesOf m o
+  pub code : DenoteFlattened (object_tables o) (clauses_in m) o.code.records.items
+
 -- a module is what the text of the file of a number means
 pub record IsModuleOfFile (files : List File) (g : Group SignatureText) (t : Group ModuleText) (number : ℕ) (m : Module) : Type 0 where
   pub place : ℕ
@@ -61,4 +81,4 @@ pub record IsCompiled (sources : Sources) (number : ℕ) (o : Object) : Type 0 w
   pub module_texts : AreModuleTexts sources.files.items (length sources.files.items) texts
   pub meant : Module
   pub is : IsModuleOfFile sources.files.items signatures texts number meant
-  pub names : HasNamesOf meant o
+  pub object : IsObjectOf meant o

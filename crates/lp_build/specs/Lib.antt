@@ -9,4 +9,5 @@ pub mod Meant
 pub mod Queried
 pub mod Programs
 pub mod Compiled
+pub mod Images
 pub mod inner

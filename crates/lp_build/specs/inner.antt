@@ -2,3 +2,4 @@ pub mod Linked
 pub mod Placed
 pub mod Wholes
 pub mod Waiting
+pub mod Coded

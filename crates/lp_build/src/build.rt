@@ -2,8 +2,10 @@
 ghost use Rattle.std.specs.Prelude.{◌≡◌, ◌+◌, ◌<◌, ◌≤◌, ◌^◌, List, All, length, IfErr, IfOk, IfSome};
 ghost use Rattle.lp_base.specs.declared.limits.TheConstants.{MAX_MODULES};
 ghost use Rattle.lp_sig.specs.Refusals.{IsAt};
-ghost use Rattle.lp_build.specs.Compiled.{HasNamesOf, IsCompiled, IsModuleOfFile};
+ghost use Rattle.lp_module.specs.Sentences.{AreWithin};
+ghost use Rattle.lp_build.specs.Compiled.{IsCompiled, IsModuleOfFile, IsObjectOf};
 ghost use Rattle.lp_build.specs.Faults.{IsOfTexts};
+ghost use Rattle.lp_build.specs.Images.{IsImage};
 ghost use Rattle.lp_build.specs.Meant.{AreModules, AreModulesOf};
 ghost use Rattle.lp_build.specs.Programs.{IsBuilt, IsProgramOf};
 ghost use Rattle.lp_build.specs.Reads.{AreRead};
@@ -11,17 +13,17 @@ ghost use Rattle.lp_build.specs.declared.sources.File.{File};
 ghost use Rattle.lp_build.specs.inner.Wholes.{IsRootSignature, IsSeenOf, IsWhole};
 
 use crate::fault::BuildFault;
+use crate::images::image_of;
 use crate::links::Links;
 use crate::meanings::{module_at, modules_of, own_of};
-use crate::objects::{check_names, code_of, names_of};
+use crate::objects::{check_names, names_of, with_code};
 use crate::queries::{query_signature, query_table};
 use crate::signatures::Signatures;
 use crate::sources::{Sources, as_number};
 use crate::texts::{Group, Texts, found_at, texts_of};
 use lp_base::{Limit, MAX_COPIES, MAX_MODULES, Memory};
-use lp_code::{Code, Image, Object};
+use lp_code::{Image, Object};
 use lp_fixity::Table;
-use lp_link::{check_copies, link};
 use lp_module::{Assembled, Module, assemble};
 use lp_sig::Signature;
 use lp_syntax::ModuleText;
@@ -160,15 +162,15 @@ fn module_in(alloc: Global, whole: &Whole, number: u32) -> Result<Module, BuildF
 }
 
 // The object of a module, within its limits.
-fn object_of(alloc: Global, module: &mut Module) -> Result<Object, BuildFault>
+fn object_of(alloc: Global, module: Module) -> Result<Object, BuildFault>
     ensures refused { IfErr result IsOfTexts }
-    ensures names { IfOk result (HasNamesOf «module».old) }
+    ensures object { AreWithin «module».bank «module».clauses.items → IfOk result (IsObjectOf «module») }
 {
     if module.uses.len() >= MAX_COPIES {
         return Err(BuildFault::Limit(Limit::Copies));
     }
-    let mut object = names_of(alloc, module)?;
-    object.code = code_of(alloc, module)?;
+    let names = names_of(alloc, &module)?;
+    let object = with_code(alloc, module, names)?;
     check_names(&object)?;
     Ok(object)
 }
@@ -183,98 +185,8 @@ pub fn build_object(alloc: Global, sources: &Sources, module: u32) -> Result<Obj
     ensures compiled { AreRead sources.now → IfOk result (IsCompiled sources.now «module») }
 {
     let whole = whole_of(alloc, sources)?;
-    let mut module = module_in(alloc, &whole, module)?;
-    object_of(alloc, &mut module)
-}
-
-// The number of the last of these objects.
-fn last_of(objects: &[Object]) -> Result<u32, Memory>
-    ensures { IfOk result (λ last. last < length objects.now) }
-{
-    match objects.len().checked_sub(1) {
-        Some(last) => Ok(as_number(last)),
-        None => Err(Memory),
-    }
-}
-
-// The objects of the modules, without their code.
-fn all_names(alloc: Global, modules: &Vec<Module>) -> Result<Vec<Object>, Memory> {
-    let mut objects = Vec::new(alloc);
-    for module in modules.iter() {
-        objects.push(names_of(alloc, module)?)?;
-    }
-    Ok(objects)
-}
-
-// The code of each module, in order.
-fn all_code(alloc: Global, modules: &mut Vec<Module>) -> Result<Vec<Code>, BuildFault>
-    ensures { IfErr result IsOfTexts }
-{
-    let mut codes = Vec::new(alloc);
-    for module in modules.iter_mut() {
-        codes.push(code_of(alloc, module)?)?;
-    }
-    Ok(codes)
-}
-
-fn check_all_names(objects: &Vec<Object>) -> Result<(), BuildFault>
-    ensures { IfErr result IsOfTexts }
-{
-    for object in objects.iter() {
-        check_names(object)?;
-    }
-    Ok(())
-}
-
-// The objects with their code, one for each.
-fn with_code(alloc: Global, objects: Vec<Object>, codes: Vec<Code>) -> Result<Vec<Object>, Memory> {
-    let mut whole = Vec::new(alloc);
-    for (object, code) in objects.into_iter().zip(codes) {
-        let Object {
-            name,
-            bank,
-            kinds,
-            constants,
-            uses,
-            code: _,
-        } = object;
-        whole.push(Object {
-            name,
-            bank,
-            kinds,
-            constants,
-            uses,
-            code,
-        })?;
-    }
-    Ok(whole)
-}
-
-fn linked(alloc: Global, objects: &Vec<Object>) -> Result<Image, BuildFault>
-    ensures { IfErr result IsOfTexts }
-{
-    let last = last_of(objects.as_slice())?;
-    Ok(link(alloc, objects.as_slice(), last)?)
-}
-
-fn within_copies(alloc: Global, objects: &Vec<Object>) -> Result<(), BuildFault>
-    ensures { IfErr result IsOfTexts }
-{
-    let last = last_of(objects.as_slice())?;
-    check_copies(alloc, objects.as_slice(), last)?;
-    Ok(())
-}
-
-// The image of modules, the root last.
-fn image_of(alloc: Global, modules: &mut Vec<Module>) -> Result<Image, BuildFault>
-    ensures { IfErr result IsOfTexts }
-{
-    let named = all_names(alloc, modules)?;
-    within_copies(alloc, &named)?;
-    let codes = all_code(alloc, modules)?;
-    let objects = with_code(alloc, named, codes)?;
-    check_all_names(&objects)?;
-    linked(alloc, &objects)
+    let module = module_in(alloc, &whole, module)?;
+    object_of(alloc, module)
 }
 
 /// The modules of the files, which are those that `gather` gave with `all`: the accumulated ones first, the root last.
@@ -297,7 +209,8 @@ pub fn modules(alloc: Global, sources: &Sources) -> Result<Vec<Module>, BuildFau
 /// accumulate, then the first fault of a module, accumulated ones first; then the limit `copies`, those of each module's object, and `names`.
 pub fn build_image(alloc: Global, sources: &Sources) -> Result<Image, BuildFault>
     ensures refused { IfErr result IsOfTexts }
+    ensures image { AreRead sources.now → IfOk result (IsImage sources.now) }
 {
-    let mut modules = modules(alloc, sources)?;
-    image_of(alloc, &mut modules)
+    let modules = modules(alloc, sources)?;
+    image_of(alloc, modules)
 }

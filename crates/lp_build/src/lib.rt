@@ -7,6 +7,8 @@ mod build;
 mod counts;
 // Why the files have no program.
 mod fault;
+// The image of modules.
+mod images;
 // Which files the texts name.
 mod links;
 // The loading of files.

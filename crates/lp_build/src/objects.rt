@@ -4,8 +4,13 @@ ghost use Rattle.lp_term.specs.Memo.{AreMade};
 ghost use Rattle.lp_term.specs.Nodes.{Extends, Nodes};
 ghost use Rattle.lp_term.specs.Same.{same_map};
 ghost use Rattle.lp_sig.specs.Rows.{fixity_row, found};
-ghost use Rattle.lp_build.specs.Compiled.{AreExported, ArePaired, HasNamesOf, IsObjectConstant, IsObjectKind};
+ghost use Rattle.lp_model.specs.Readings.{scheme_of};
+ghost use Rattle.lp_code.specs.Naming.{scheme_in};
+ghost use Rattle.lp_module.specs.Program.{clauses_in};
+ghost use Rattle.lp_module.specs.Sentences.{AreWithin};
+ghost use Rattle.lp_build.specs.Compiled.{AreExported, ArePaired, DenoteFlattened, HasNamesOf, IsObjectConstant, IsObjectKind, IsObjectOf};
 ghost use Rattle.lp_build.specs.Faults.{IsOfTexts};
+ghost use Rattle.lp_build.specs.inner.Coded.{AreFlat, schemes_of, signature_tables};
 
 use crate::counts::check_clauses;
 use crate::fault::BuildFault;
@@ -13,7 +18,7 @@ use lp_base::{END_OF_NUMBERS, Limit, Memory};
 use lp_code::{Code, Object, ObjectConstant, ObjectKind};
 use lp_fixity::Fixity;
 use lp_gen::generate;
-use lp_model::{Clause, Declared};
+use lp_model::{Clause, ClauseFormula, Declared};
 use lp_module::Module;
 use lp_normal::normalise;
 use lp_sig::{ConstantEntry, KindEntry, Signature};
@@ -117,32 +122,59 @@ fn constants_of(
     Ok(constants)
 }
 
+// A constant of a module as a program declares it; its type comes to stand in the bank.
+fn declared_constant(
+    alloc: Global,
+    signature: &Signature,
+    entry: &ConstantEntry,
+    changed: &mut Changed,
+    bank: &mut Bank,
+) -> Result<Declared, Memory>
+    ensures kept { Extends bank.old bank.new }
+    ensures scheme { AreMade same_map signature.now.bank bank.old changed.old → IfOk result (λ d. (later : Nodes) → Extends bank.new later → scheme_of later d ≡ scheme_in signature.now.bank entry.now.type_vars entry.now.scheme.0) }
+    ensures memo { AreMade same_map signature.now.bank bank.old changed.old → OnOk result (AreMade same_map signature.now.bank bank.new changed.new) }
+{
+    let shown = Vec::from_slice(alloc, entry.name.as_slice())?;
+    let scheme = changed.copy_type(alloc, &Same, signature.bank(), entry.scheme, bank)?;
+    Ok(Declared {
+        shown,
+        type_vars: entry.type_vars,
+        scheme,
+    })
+}
+
 // The constants of a module as a program declares them; their types come to stand in the bank.
 fn declared_of(
     alloc: Global,
     signature: &Signature,
     bank: &mut Bank,
-) -> Result<Vec<Declared>, Memory> {
+) -> Result<Vec<Declared>, Memory>
+    ensures kept { Extends bank.old bank.new }
+    ensures declared { IfOk result (λ ds. map (scheme_of bank.new) ds.items ≡ schemes_of signature.now) }
+{
+    let entries = signature.constants();
     let mut changed = Changed::new(alloc);
     let mut declared = Vec::new(alloc);
-    for entry in signature.constants() {
-        let scheme = changed.copy_type(alloc, &Same, signature.bank(), entry.scheme, bank)?;
-        declared.push(Declared {
-            shown: Vec::from_slice(alloc, entry.name.as_slice())?,
-            type_vars: entry.type_vars,
-            scheme,
-        })?;
+    for entry in entries {
+        let constant = declared_constant(alloc, signature, entry, &mut changed, bank)?;
+        declared.push(constant)?;
     }
     Ok(declared)
 }
 
-// The flattened clauses of a module, in written order.
-fn flattened(alloc: Global, module: &mut Module) -> Result<Vec<Clause>, BuildFault>
-    ensures { IfErr result IsOfTexts }
+// The flattened clauses of formulas, in written order.
+fn flattened(
+    alloc: Global,
+    bank: &mut Bank,
+    formulas: &[ClauseFormula],
+) -> Result<Vec<Clause>, BuildFault>
+    ensures refused { IfErr result IsOfTexts }
+    ensures kept { Extends bank.old bank.new }
+    ensures flat { AreWithin bank.old formulas.now → IfOk result (λ clauses. AreFlat bank.old bank.new formulas.now clauses.items) }
 {
     let mut clauses = Vec::new(alloc);
-    for formula in module.clauses.iter() {
-        let mut more = normalise(alloc, &mut module.bank, *formula)?;
+    for formula in formulas {
+        let mut more = normalise(alloc, bank, *formula)?;
         clauses.append(&mut more)?;
     }
     Ok(clauses)
@@ -161,13 +193,16 @@ pub(crate) fn check_names(object: &Object) -> Result<(), BuildFault>
 }
 
 // The code of a module, or the first of the limits `clauses`, `string` and `registers` that it passes.
-pub(crate) fn code_of(alloc: Global, module: &mut Module) -> Result<Code, BuildFault>
-    ensures { IfErr result IsOfTexts }
+fn code_of(alloc: Global, module: &mut Module) -> Result<Code, BuildFault>
+    ensures refused { IfErr result IsOfTexts }
+    ensures denotes { AreWithin «module».old.bank «module».old.clauses.items →
+        IfOk result (λ code. DenoteFlattened (signature_tables «module».old.signature) (clauses_in «module».old) code.records.items) }
 {
-    let clauses = flattened(alloc, module)?;
+    let clauses = flattened(alloc, &mut module.bank, module.clauses.as_slice())?;
     check_clauses(alloc, &module.bank, clauses.as_slice())?;
     let declared = declared_of(alloc, &module.signature, &mut module.bank)?;
-    Ok(generate(alloc, &module.bank, declared.as_slice(), clauses.as_slice())?)
+    let code = generate(alloc, &module.bank, declared.as_slice(), clauses.as_slice())?;
+    Ok(code)
 }
 
 // Copies of names.
@@ -210,4 +245,16 @@ pub(crate) fn names_of(alloc: Global, module: &Module) -> Result<Object, Memory>
             records: Vec::new(alloc),
         },
     })
+}
+
+// An object with the code of its module.
+pub(crate) fn with_code(alloc: Global, module: Module, names: Object) -> Result<Object, BuildFault>
+    ensures refused { IfErr result IsOfTexts }
+    ensures names { IfOk result (λ object. HasNamesOf «module» names → HasNamesOf «module» object) }
+    ensures code { AreWithin «module».bank «module».clauses.items → IfOk result (λ object. HasNamesOf «module» object → IsObjectOf «module» object) }
+{
+    let mut module = module;
+    let mut object = names;
+    object.code = code_of(alloc, &mut module)?;
+    Ok(object)
 }

@@ -49,7 +49,7 @@ later_fewer n m i j a d l k e = record { assumed = λ o h. e.assumed o (number_i
 
 -- keys meet as they did
 
-key_more : (a b : ℕ) (o : Option Key) → a ≤ b → IsKeyIn a o → IsKeyIn b o
+pub key_more : (a b : ℕ) (o : Option Key) → a ≤ b → IsKeyIn a o → IsKeyIn b o
 key_more a b None l h = tt
 key_more a b (Some (keys.Constant c)) l h = tt
 key_more a b (Some (keys.Number z)) l h = tt
@@ -95,7 +95,7 @@ module _ (k l : Lists) (i : IsTableIn (length k.bank.terms) k.table) (v : AreVal
   in_turn_on ns ks = ap (λ z. map (λ i. candidate.Assumed i) ns ++ map (λ i. candidate.Program i) z)
       (sym (filter_same (passes l.bank k.table.rules.items key) (passes k.bank k.table.rules.items key) ks passes_on))
 
-  left_on : (first : Option ℕ) (found : Option Candidate) (left : List Candidate) → AreLeft k.bank k.table.rules.items (links k.assumptions) first key
+  pub left_on : (first : Option ℕ) (found : Option Candidate) (left : List Candidate) → AreLeft k.bank k.table.rules.items (links k.assumptions) first key
       found left → AreLeft l.bank k.table.rules.items (links l.assumptions) first key found left
   left_on first None left h = h
   left_on first (Some (candidate.Assumed n)) left h = (h.0, h.1, links_on k l i v g (Some n) h.0 h.2, h.3, h.4 ∙ in_turn_on h.0 h.1)
@@ -107,7 +107,7 @@ module _ (k l : Lists) (i : IsTableIn (length k.bank.terms) k.table) (v : AreVal
   candidate_on (candidate.Assumed n) x h = assumed_on k l i v g n x h
   candidate_on (candidate.Program n) x h = rule_on k l i v g n x h
 
-  candidates_on : (ks : List Candidate) (cs : List Clause) → AreCandidates k ks cs → AreCandidates l ks cs
+  pub candidates_on : (ks : List Candidate) (cs : List Clause) → AreCandidates k ks cs → AreCandidates l ks cs
   candidates_on [] [] h = tt
   candidates_on [] (c ∷ cs) h = absurd h
   candidates_on (x ∷ ks) [] h = absurd h
@@ -123,7 +123,7 @@ module _ (k l : Lists) (i : IsTableIn (length k.bank.terms) k.table) (v : AreVal
 -- in a search that goes on
 module _ (m n : Machine) (a d : Around) (i : StandsIn m) (g : GrowsOn m n) (e : IsLaterAround (length m.newest.items) (length m.standings.items) a d) where
   module _ (c : Choice) (k : IsKept m a c) where
-    lists_grow : ListsGrow (lists_at c m) (lists_at c n)
+    pub lists_grow : ListsGrow (lists_at c m) (lists_at c n)
     lists_grow = record {
       bank = g.lists.bank;
       table = g.lists.table;
@@ -134,7 +134,7 @@ module _ (m n : Machine) (a d : Around) (i : StandsIn m) (g : GrowsOn m n) (e : 
       standings = taken_on c.lengths.standings m.standings.items n.standings.items g.lists.standings k.standings;
     }
 
-    values_then : AreValues m.bank (take c.lengths.scopes.values m.scopes.values.items)
+    pub values_then : AreValues m.bank (take c.lengths.scopes.values m.scopes.values.items)
     values_then = all_taken (λ (t : TermId). (t.0 < length m.bank.terms) × LooseBelow 0 0 (tree m.bank t.0)) c.lengths.scopes.values m.scopes.values.items i.values
 
     later_then : IsLaterAround (length (take c.lengths.newest m.newest.items)) (length (take c.lengths.standings m.standings.items)) a d

@@ -1,5 +1,5 @@
 -- A quantified goal that is known at run time, on its value: head reduction leads to the definition's goal.
-use Rattle.std.proofs.Common.{◌≡◌, ℕ, suc, ◌<◌, List, [], ◌∷◌, ◌++◌, length, refl, sym, ap, ◌∙◌, subst, Option, Some, add-one}
+use Rattle.std.proofs.Common.{◌≡◌, ℕ, suc, ◌<◌, List, [], ◌∷◌, ◌++◌, length, refl, sym, ap, ◌∙◌, subst, arith, Option, Some, add-one}
 use Rattle.lp_calculus.specs.Term.{Term, index, atom, abs, app, shift, substitute, eigen, logic}
 use Rattle.lp_calculus.specs.Types.{Ty}
 use Rattle.lp_calculus.proofs.Commutations.{substitute_shift}
@@ -21,15 +21,15 @@ use Rattle.lp_pattern.proofs.Keeps.{goes_on_same}
 use Rattle.lp_plain.proofs.Frames.{keeps_then, reads_on}
 use Rattle.lp_plain.proofs.Growing.{reads_later}
 
-shifted_back : (t u : Term) → app t u ≡ substitute u (app (shift 0 1 t) (index 0))
+pub shifted_back : (t u : Term) → app t u ≡ substitute u (app (shift 0 1 t) (index 0))
 shifted_back t u = λ i. app (sym (substitute_shift u t) i) (sym (shift-none u) i)
 
 -- by one step where the term is an abstraction, else by none
 pub applied_body : (t u : Term) → HeadsTo (app t u) (substitute u (body_of t))
-applied_body (abs b) u = (1, refl)
-applied_body (index i) u = (0, ap Some (shifted_back (index i) u))
-applied_body (atom a) u = (0, ap (λ x. Some (app (atom a) x)) (sym (shift-none u)))
-applied_body (app t v) u = (0, ap Some (shifted_back (app t v) u))
+applied_body (abs b) u = (1, omega arith, refl)
+applied_body (index i) u = (0, omega arith, ap Some (shifted_back (index i) u))
+applied_body (atom a) u = (0, omega arith, ap (λ x. Some (app (atom a) x)) (sym (shift-none u)))
+applied_body (app t v) u = (0, omega arith, ap Some (shifted_back (app t v) u))
 
 -- in front of the goals behind it
 abbrev pub FrontOf : Machine → Machine → Place → (behind : Option ℕ) → (term value : TermId) → Type 0

@@ -1,12 +1,9 @@
 -- The goals at hand: those of the frame in front, the first of them, and the others as a frame.
-use Rattle.std.proofs.Common.{◌≡◌, ℕ, suc, ◌-◌, ◌<◌, ◌≤◌, List, [], ◌∷◌, ◌++◌, length, take, drop, refl, sym, ap, ◌∙◌, subst, arith, Option, None, Some}
+use Rattle.std.proofs.Common.{◌≡◌, ℕ, suc, ◌-◌, ◌≤◌, List, ◌++◌, length, refl, sym, ap, ◌∙◌, subst, arith, Option, None, Some}
 use Rattle.std.specs.Prelude.{slice_get}
-use Rattle.std.proofs.lemmas.List.{take-append-drop}
-use Rattle.lp_calculus.specs.Term.{Term}
-use Rattle.lp_term.specs.Nodes.{tree}
 use Rattle.lp_term.specs.declared.node.TermId.{TermId}
 use Rattle.lp_model.specs.Branch.{Branch, Entry, Task}
-use Rattle.lp_model.specs.Flat.{Goal, Atomic, Goals, no_goals, goals, goal_list}
+use Rattle.lp_model.specs.Flat.{Goal, Goals, no_goals, goals, goal_list}
 use Rattle.lp_model.specs.Skeleton.{State}
 use Rattle.lp_plain.specs.declared.frame.Frame.{Frame}
 use Rattle.lp_plain.specs.declared.frame.Place.{Place}
@@ -14,16 +11,16 @@ use Rattle.lp_plain.specs.declared.frame.Todo.{Todo}
 use Rattle.lp_plain.specs.declared.machine.Machine.{Machine}
 use Rattle.lp_plain.specs.declared.table.Flat.{Flat}
 use Rattle.lp_plain.specs.declared.table.Span.{Span}
-use Rattle.lp_plain.specs.Assuming.{ArePlaced, HasFrameAt, IsPlaceAt, KeepsAssumed, lists_of}
-use Rattle.lp_plain.specs.Entries.{Around, AreEntries, no_frame, a_frame, AreTodo, HasValues, HeadsTo, IsAt, KeepsGoals, Reads, in_scope, placed}
+use Rattle.lp_plain.specs.Assuming.{HasFrameAt, IsPlaceAt, KeepsAssumed, lists_of}
+use Rattle.lp_plain.specs.Entries.{Around, no_frame, a_frame, AreTodo, IsAt, KeepsGoals, Reads, in_scope, placed}
 use Rattle.lp_plain.specs.Keeping.{KeepsCourse}
-use Rattle.lp_plain.specs.Moving.{IsAtGoal, IsAtGoals, IsPlainFirst, IsRunning, IsState}
+use Rattle.lp_plain.specs.Moving.{Query, IsAtGoal, IsAtGoals, IsPlainFirst, IsRunning, IsState}
 use Rattle.lp_plain.specs.Scopes.{blocks_of}
 use Rattle.lp_plain.specs.Tables.{AreGoals, IsGoal, Never, shown}
 use Rattle.lp_plain.specs.Within.{IsTodoIn, StandsIn}
 use Rattle.lp_plain.proofs.Assumed.{lists_noted}
 use Rattle.lp_plain.proofs.FirstGoals.{frame_of}
-use Rattle.lp_plain.proofs.Frames.{frames_more, goals_none}
+use Rattle.lp_plain.proofs.Frames.{goals_none}
 use Rattle.lp_plain.proofs.Grown.{grown_frame, grown_on, placed_on, same_around}
 use Rattle.lp_plain.proofs.NoneBound.{none_kept}
 use Rattle.lp_plain.proofs.Running.{running_still}
@@ -74,12 +71,12 @@ module _ (m q : Machine) (a : Around) (p : Place) (s others : Span) (o rest : Op
           }
 
 -- the search with such a frame more
-pub running_framed : (m q : Machine) (a : Around) (p : Place) (raw : Branch) (s : State Task) → KeepsGoals m q → KeepsCourse m q → KeepsAssumed m q → HasFrameAt m q p → StandsIn q → IsPlaceAt (lists_of m) a p → IsRunning m a raw s → IsRunning q a raw s
-running_framed m q a p raw s k c ka f st pl h =
+pub running_framed : (qv : Query) (m q : Machine) (a : Around) (p : Place) (raw : Branch) (s : State Task) → KeepsGoals m q → KeepsCourse m q → KeepsAssumed m q → HasFrameAt m q p → StandsIn q → IsPlaceAt (lists_of m) a p → IsRunning qv m a raw s → IsRunning qv q a raw s
+running_framed qv m q a p raw s k c ka f st pl h =
     let g = grown_frame m q p k ka f c.denied in
     let n = ap (λ b. b.next) c.branch in
-    running_still m q a a raw s h st (placed_on m q a p g h.above.done.stands h.placed pl) (grown_on m q p g) (same_around (length m.newest.items) (length m.standings.items) a) (none_kept m q k c) c.choices
-    raw h.at_work s h.under (omega (arith, n)) (n ∙ h.next) (ap (λ b. b.next_type) c.branch ∙ h.next_type) h.stack (record {
+    running_still qv m q a a raw s h st (placed_on m q a p g h.above.done.stands h.placed pl) (grown_on m q p g) (same_around (length m.newest.items) (length m.standings.items) a) (none_kept m q k c) c.choices
+    h.levels raw h.at_work s h.under (omega (arith, n)) (n ∙ h.next) (ap (λ b. b.next_type) c.branch ∙ h.next_type) h.stack (record {
       steps = h.counted.steps ∙ ap (λ x. x.limit - x.steps) (sym c.counts);
       rows = h.counted.rows;
       row = h.counted.row ∙ ap (λ x. 1000000 - x.row) (sym c.counts);
@@ -88,7 +85,7 @@ running_framed m q a p raw s k c ka f st pl h =
 
 -- the frame in front
 
-module _ (m : Machine) (s : State Task) (h : IsState m s) (number : ℕ) (f : Frame) (front : m.branch.goals ≡ Some number) (got : slice_get m.frames.items number ≡ Some f) where
+module _ (qv : Query) (m : Machine) (s : State Task) (h : IsState qv m s) (number : ℕ) (f : Frame) (front : m.branch.goals ≡ Some number) (got : slice_get m.frames.items number ≡ Some f) where
   pub at_frame : (span : Span) → f.todo ≡ Todo.Goals span → IsAtGoals m h.around f.place span f.behind h.raw
   at_frame span t =
       let i = frame_of m h.around number f got span h.raw.goals t (subst (λ o. Reads m h.around o h.raw.goals) front h.goals) in
@@ -116,8 +113,8 @@ module _ (m : Machine) (s : State Task) (h : IsState m s) (number : ℕ) (f : Fr
           subst (λ x. AreTodo m.bank (shown m.table) (blocks_of m.scopes) f.place x gs) t (subst (λ (x : Frame). AreTodo m.bank (shown m.table) (blocks_of m.scopes) x.place x.todo gs) same w) in
           subst IsPlainFirst (z ∙ ap (λ l. placed h.around g.place l ++ rest) todo.2) k
 
-pub none_plain : (m : Machine) (s : State Task) (h : IsState m s) → m.branch.goals ≡ None → IsPlainFirst h.raw.goals → ⊥
-none_plain m s h e = go e h.goals
+pub none_plain : (qv : Query) (m : Machine) (s : State Task) (h : IsState qv m s) → m.branch.goals ≡ None → IsPlainFirst h.raw.goals → ⊥
+none_plain qv m s h e = go e h.goals
   where
     go : {o : Option ℕ} {es : List Entry} → o ≡ None → Reads m h.around o es → IsPlainFirst es → ⊥
     go e (no_frame q z) k = subst IsPlainFirst z k

@@ -1,5 +1,5 @@
 -- An atom and a negated goal in front.
-use Rattle.std.proofs.Common.{◌≡◌, ℕ, subst, Option}
+use Rattle.std.proofs.Common.{ℕ, subst, Option}
 use Rattle.lp_term.specs.Nodes.{Nodes}
 use Rattle.lp_term.specs.declared.node.TermId.{TermId}
 use Rattle.lp_calculus.specs.Term.{Term}

@@ -1,98 +1,100 @@
 -- Back at the right side of a `;` the search is in the definition's state, with the bindings of then.
-use Rattle.std.proofs.Common.{◌≡◌, ℕ, zero, suc, ◌+◌, ◌-◌, ◌<◌, ◌≤◌, List, [], ◌∷◌, ◌++◌, length, take, drop, refl, sym, ap, ◌∙◌, subst, arith, Bool, Option}
+use Rattle.std.proofs.Common.{◌≡◌, ℕ, zero, suc, ◌+◌, ◌-◌, ◌≤◌, List, [], ◌∷◌, ◌++◌, length, take, drop, refl, sym, ap, ◌∙◌, subst, arith, Bool, Option}
 use Rattle.std.specs.Prelude.{All}
 use Rattle.std.proofs.lemmas.List.{length-append}
-use Rattle.lp_term.specs.Nodes.{Nodes}
-use Rattle.lp_model.specs.Branch.{Branch, Go, Try, Task}
+use Rattle.lp_model.specs.Branch.{Branch, Go, Task}
 use Rattle.lp_model.specs.Search.{look}
 use Rattle.lp_model.specs.Pair.{Closing}
 use Rattle.lp_model.specs.Skeleton.{State, move_at}
 use Rattle.lp_model.specs.Unify.{unit_limit}
-use Rattle.lp_model.specs.declared.answer.Pair.{Pair as Numbers}
-use Rattle.lp_pattern.specs.Growing.{IsPairOf}
+use Rattle.lp_pattern.specs.Growing.{Grows, IsPairOf}
+use Rattle.lp_pattern.proofs.Keeps.{grows_same}
 use Rattle.lp_pattern.specs.Turning.{IsOpenReading}
-use Rattle.lp_pattern.specs.declared.bindings.Bindings.{Bindings}
 use Rattle.lp_plain.specs.declared.choice.Choice.{Choice}
 use Rattle.lp_plain.specs.declared.choice.Untried.{Untried}
 use Rattle.lp_plain.specs.declared.frame.Frame.{Frame}
 use Rattle.lp_plain.specs.declared.machine.Machine.{Machine}
 use Rattle.lp_plain.specs.declared.outcome.Turn.{Turn}
-use Rattle.lp_plain.specs.Assuming.{ArePlaced, IsPlaceAt, KeepsAssumed, lists_of}
+use Rattle.lp_plain.specs.Assuming.{IsPlaceAt, KeepsAssumed, lists_of}
 use Rattle.lp_plain.specs.Entries.{Around, KeepsGoals}
-use Rattle.lp_plain.specs.Moving.{AreAlternatives, AreBoundInTurn, AreTasksUnder, AreThoseOf, HasAlternatives, IsAlternative, IsBack, IsBranchUnder, IsState, IsTaskUnder, MovesTo, a_branch, a_try, mark_in}
+use Rattle.lp_plain.specs.Moving.{Query, AreAlternatives, AreBoundInTurn, IsAlternative, IsBack, IsBranchUnder, IsState, IsTasksOf, MovesTo, mark_in, of_call, of_side}
 use Rattle.lp_plain.specs.Restoring.{GoesBack, IsTaken}
-use Rattle.lp_plain.specs.Searching.{AreNested, StandForAll, StandsFor, last_ending}
+use Rattle.lp_plain.specs.Searching.{AreNested, IsWithin, StandForAll, StandsFor, last_ending}
 use Rattle.lp_plain.specs.Stacks.{base_of, stack_of}
+use Rattle.lp_plain.specs.Taking.{IsKept}
 use Rattle.lp_plain.specs.Trying.{lists_at}
-use Rattle.lp_plain.proofs.AboveUnder.{alternatives_marked, counts_same, marks_more}
+use Rattle.lp_plain.proofs.AboveUnder.{alternatives_marked, alternatives_on, counts_same, marks_more}
 use Rattle.lp_plain.proofs.Alternatives.{all_stand_on}
 use Rattle.lp_plain.proofs.Assumed.{lists_noted}
-use Rattle.lp_plain.proofs.Backwards.{all_back, drop_none, nested_last, on_kept, side_of, stands_then, stops_so, take_within}
+use Rattle.lp_plain.proofs.Backwards.{AllWithin, all_back, drop_none, lists_same, nested_last, on_kept, side_of, stands_then, stops_so, take_within}
+use Rattle.lp_plain.proofs.CallsUnder.{tasks_back}
 use Rattle.lp_plain.proofs.Grown.{same_around}
 use Rattle.lp_plain.proofs.Marking.{drop_length}
 use Rattle.lp_plain.proofs.Opening.{same_stands}
 use Rattle.lp_plain.proofs.QuietMoves.{drop_push, stack_push}
-use Rattle.lp_plain.proofs.Restored.{last_same}
 use Rattle.lp_plain.proofs.Tries.{lists_back}
 use Rattle.lp_plain.proofs.Under.{branch_marked}
 
 -- the newest alternative and the others
-record IsSplit (m : Machine) (a : Around) (f : ℕ → ℕ) (l k : ℕ) (xs : List Choice) (c : Choice) (below : ℕ) (rss tss : List (List Task)) : Type 0 where
+pub record IsSplit (qv : Query) (m : Machine) (a : Around) (f : ℕ → ℕ) (l k : ℕ) (xs : List Choice) (c : Choice) (below : ℕ) (rss tss : List (List Task)) : Type 0 where
   pub raws : List (List Task)
   pub others : List (List Task)
   pub raw : List Task
   pub tasks : List Task
   pub under : ℕ
+  pub count : under ≡ below + length (stack_of raws)
   pub whole_raw : rss ≡ raws ++ raw ∷ []
   pub whole : tss ≡ others ++ tasks ∷ []
   pub stand : StandForAll m a xs below raws
   pub last : StandsFor m a c under raw
-  pub are : AreAlternatives m f l k xs raws others
-  pub is : IsAlternative m f l (k + length xs) c raw tasks
+  pub are : AreAlternatives qv m f l k xs raws others
+  pub is : IsAlternative qv m f l (k + length xs) c raw tasks
 
-split_newest : (m : Machine) (a : Around) (f : ℕ → ℕ) (l k : ℕ) (xs : List Choice) (c : Choice) (below : ℕ) (rss tss : List (List Task)) → StandForAll m a (xs ++ c ∷ []) below rss →
-    AreAlternatives m f l k (xs ++ c ∷ []) rss tss → IsSplit m a f l k xs c below rss tss
-split_newest m a f l k [] c below [] tss s h = absurd s
-split_newest m a f l k [] c below (rs ∷ []) [] s h = absurd h
-split_newest m a f l k [] c below (rs ∷ []) (ts ∷ []) s h = record {
+pub split_newest : (qv : Query) (m : Machine) (a : Around) (f : ℕ → ℕ) (l k : ℕ) (xs : List Choice) (c : Choice) (below : ℕ) (rss tss : List (List Task)) → StandForAll m a (xs ++ c ∷ []) below rss →
+    AreAlternatives qv m f l k (xs ++ c ∷ []) rss tss → IsSplit qv m a f l k xs c below rss tss
+split_newest qv m a f l k [] c below [] tss s h = absurd s
+split_newest qv m a f l k [] c below (rs ∷ []) [] s h = absurd h
+split_newest qv m a f l k [] c below (rs ∷ []) (ts ∷ []) s h = record {
   raws = [];
   others = [];
   raw = rs;
   tasks = ts;
   under = below;
+  count = (let e : below ≡ below + 0 = omega arith in e);
   whole_raw = refl;
   whole = refl;
   stand = tt;
   last = s.0;
   are = tt;
-  is = (let e : k ≡ k + 0 = omega arith in subst (λ i. IsAlternative m f l i c rs ts) e h.0);
+  is = (let e : k ≡ k + 0 = omega arith in subst (λ i. IsAlternative qv m f l i c rs ts) e h.0);
 }
-split_newest m a f l k [] c below (rs ∷ []) (ts ∷ us ∷ tss) s h = absurd h.1
-split_newest m a f l k [] c below (rs ∷ us ∷ rss) tss s h = absurd s.1
-split_newest m a f l k (x ∷ xs) c below [] tss s h = absurd s
-split_newest m a f l k (x ∷ xs) c below (rs ∷ rss) [] s h = absurd h
-split_newest m a f l k (x ∷ xs) c below (rs ∷ rss) (ts ∷ tss) s h =
-    let r = split_newest m a f l (suc k) xs c (below + length rs) rss tss s.1 h.1 in
+split_newest qv m a f l k [] c below (rs ∷ []) (ts ∷ us ∷ tss) s h = absurd h.1
+split_newest qv m a f l k [] c below (rs ∷ us ∷ rss) tss s h = absurd s.1
+split_newest qv m a f l k (x ∷ xs) c below [] tss s h = absurd s
+split_newest qv m a f l k (x ∷ xs) c below (rs ∷ rss) [] s h = absurd h
+split_newest qv m a f l k (x ∷ xs) c below (rs ∷ rss) (ts ∷ tss) s h =
+    let r = split_newest qv m a f l (suc k) xs c (below + length rs) rss tss s.1 h.1 in
     record {
       raws = rs ∷ r.raws;
       others = ts ∷ r.others;
       raw = r.raw;
       tasks = r.tasks;
       under = r.under;
+      count = (let w = r.count in let l = length-append (stack_of r.raws) rs in omega (arith, w, l));
       whole_raw = ap (λ z. rs ∷ z) r.whole_raw;
       whole = ap (λ z. ts ∷ z) r.whole;
       stand = (s.0, r.stand);
       last = r.last;
       are = (h.0, r.are);
-      is = (let e : suc k + length xs ≡ k + suc (length xs) = omega arith in subst (λ i. IsAlternative m f l i c r.raw r.tasks) e r.is);
+      is = (let e : suc k + length xs ≡ k + suc (length xs) = omega arith in subst (λ i. IsAlternative qv m f l i c r.raw r.tasks) e r.is);
     }
 
 -- what is bound at each of the older ones is bound at the newest one
-abbrev AllBound : Choice → List Choice → Type 0
+abbrev pub AllBound : Choice → List Choice → Type 0
 AllBound c [] = Unit {0}
 AllBound c (x ∷ xs) = (x.bindings.terms ≤ c.bindings.terms) × (x.bindings.types ≤ c.bindings.types) × AllBound c xs
 
-bound_last : (xs : List Choice) (c : Choice) → AreBoundInTurn (xs ++ c ∷ []) → AllBound c xs × AreBoundInTurn xs
+pub bound_last : (xs : List Choice) (c : Choice) → AreBoundInTurn (xs ++ c ∷ []) → AllBound c xs × AreBoundInTurn xs
 bound_last [] c n = (tt, tt)
 bound_last (x ∷ []) c n = ((n.0, n.1, tt), tt)
 bound_last (x ∷ y ∷ xs) c n =
@@ -104,74 +106,69 @@ bound_last (x ∷ y ∷ xs) c n =
     ((omega (arith, i, p), omega (arith, j, q), r.0), (n.0, n.1, r.1))
 
 -- the older ones are as they were
-module _ (m q : Machine) (c : Choice) (bank : q.bank ≡ m.bank) (terms : q.bindings.terms.entries ≡ take c.bindings.terms m.bindings.terms.entries) (types : q.bindings.types.entries ≡ take c.bindings.types m.bindings.types.entries)
-    (ct : c.bindings.terms ≤ length m.bindings.terms.entries) (cy : c.bindings.types ≤ length m.bindings.types.entries) where
+module _ (qv : Query) (m n : Machine) (a : Around) (c : Choice) (rest : List Choice) (t : IsTaken m n c rest) (kc : IsKept m a c) (ct : c.bindings.terms ≤ length m.bindings.terms.entries)
+    (cy : c.bindings.types ≤ length m.bindings.types.entries) where
   long : {X : Type 0} (i : ℕ) (xs : List X) → i ≤ length xs → length (take i xs) ≡ i
   long zero xs l = refl
   long (suc i) [] l = absurd (omega (arith, l))
   long (suc i) (x ∷ xs) l = ap suc (long i xs (omega (arith, l)))
 
-  older_back : (f : ℕ → ℕ) (l k : ℕ) (x : Choice) (rs ts : List Task) → x.bindings.terms ≤ c.bindings.terms → x.bindings.types ≤ c.bindings.types → IsAlternative m f l k x rs ts → IsAlternative q f l k x rs ts
-  older_back f l k x rs ts wt wy h =
-      let lt = ap length terms ∙ long c.bindings.terms m.bindings.terms.entries ct in
-      let ly = ap length types ∙ long c.bindings.types m.bindings.types.entries cy in
+  older_back : (f : ℕ → ℕ) (l k : ℕ) (x : Choice) (rs ts : List Task) → IsWithin x c → x.bindings.terms ≤ c.bindings.terms → x.bindings.types ≤ c.bindings.types → IsAlternative qv m f l k x rs ts → IsAlternative qv n f l k x rs ts
+  older_back f l k x rs ts w wt wy h =
+      let lt = ap length t.bound_terms ∙ long c.bindings.terms m.bindings.terms.entries ct in
+      let ly = ap length t.bound_types ∙ long c.bindings.types m.bindings.types.entries cy in
       record {
         closing = h.closing;
-        reading = λ s w. subst (λ b. IsOpenReading b s x.next h.closing) (sym bank) (h.reading s (record {
-          terms = w.terms ∙ ap (take x.bindings.terms) terms ∙ take_within x.bindings.terms c.bindings.terms m.bindings.terms.entries wt;
-          types = w.types ∙ ap (take x.bindings.types) types ∙ take_within x.bindings.types c.bindings.types m.bindings.types.entries wy;
+        reading = λ s q. subst (λ b. IsOpenReading b s x.next h.closing) (sym t.bank) (h.reading s (record {
+          terms = q.terms ∙ ap (take x.bindings.terms) t.bound_terms ∙ take_within x.bindings.terms c.bindings.terms m.bindings.terms.entries wt;
+          types = q.types ∙ ap (take x.bindings.types) t.bound_types ∙ take_within x.bindings.types c.bindings.types m.bindings.types.entries wy;
         }));
         bound_terms = omega (arith, lt, wt);
         bound_types = omega (arith, ly, wy);
-        left = subst (λ b. All (IsPairOf (length b.terms)) x.pairs.items) (sym bank) h.left;
-        tasks = subst (λ b. AreTasksUnder b h.closing f l k x.pairs.items rs ts) (sym bank) h.tasks;
+        left = subst (λ b. All (IsPairOf (length b.terms)) x.pairs.items) (sym t.bank) h.left;
+        tasks = tasks_back qv m n t.bank t.table t.index x (lists_same m n a c rest t kc x w) h.closing f l k rs ts h.tasks;
       }
 
-  all_older_back : (f : ℕ → ℕ) (l k : ℕ) (xs : List Choice) (rss tss : List (List Task)) → AllBound c xs → AreAlternatives m f l k xs rss tss → AreAlternatives q f l k xs rss tss
-  all_older_back f l k [] [] [] w h = tt
-  all_older_back f l k [] [] (ts ∷ tss) w h = absurd h
-  all_older_back f l k [] (rs ∷ rss) tss w h = absurd h
-  all_older_back f l k (x ∷ xs) [] tss w h = absurd h
-  all_older_back f l k (x ∷ xs) (rs ∷ rss) [] w h = absurd h
-  all_older_back f l k (x ∷ xs) (rs ∷ rss) (ts ∷ tss) w h = (older_back f l k x rs ts w.0 w.1 h.0, all_older_back f l (suc k) xs rss tss w.2 h.1)
+  pub all_older_back : (f : ℕ → ℕ) (l k : ℕ) (xs : List Choice) (rss tss : List (List Task)) → AllWithin c xs → AllBound c xs → AreAlternatives qv m f l k xs rss tss → AreAlternatives qv n f l k xs rss tss
+  all_older_back f l k [] [] [] v w h = tt
+  all_older_back f l k [] [] (ts ∷ tss) v w h = absurd h
+  all_older_back f l k [] (rs ∷ rss) tss v w h = absurd h
+  all_older_back f l k (x ∷ xs) [] tss v w h = absurd h
+  all_older_back f l k (x ∷ xs) (rs ∷ rss) [] v w h = absurd h
+  all_older_back f l k (x ∷ xs) (rs ∷ rss) (ts ∷ tss) v w h = (older_back f l k x rs ts v.0 w.0 w.1 h.0, all_older_back f l (suc k) xs rss tss v.1 w.2 h.1)
 
 -- the task of a side
-record IsSideTask (k : Nodes) (z : Closing) (f : ℕ → ℕ) (l u : ℕ) (left : List Numbers) (b : Branch) (ts : List Task) : Type 0 where
+record IsSideTask (qv : Query) (m : Machine) (c : Choice) (z : Closing) (f : ℕ → ℕ) (l u : ℕ) (b : Branch) (ts : List Task) : Type 0 where
+  pub levels : ℕ → ℕ
   pub branch : Branch
   pub is : ts ≡ Go branch ∷ []
-  pub under : IsBranchUnder k z f l u left b branch
+  pub under : IsBranchUnder qv levels m.bank z f l u c.pairs.items b branch
 
-side_task : (k : Nodes) (z : Closing) (f : ℕ → ℕ) (l u : ℕ) (left : List Numbers) (b : Branch) (rs ts : List Task) → rs ≡ Go b ∷ [] → AreTasksUnder k z f l u left rs ts → IsSideTask k z f l u left b ts
-side_task k z f l u left b [] ts e h = absurd (cc)
-side_task k z f l u left b (r ∷ rs) [] e h = absurd h
-side_task k z f l u left b (r ∷ r' ∷ rs) (t ∷ ts) e h = absurd (cc)
-side_task k z f l u left b (r ∷ []) (t ∷ t' ∷ ts) e h = absurd h.1
-side_task k z f l u left b (r ∷ []) (t ∷ []) e h = go h.0
-  where
-    go : IsTaskUnder k z f l u left r t → IsSideTask k z f l u left b (t ∷ [])
-    go (a_branch x d p q w) =
-        let same : x ≡ b = (let y : Go x ∷ [] ≡ Go b ∷ [] = ap (λ o. o ∷ []) (sym p) ∙ e in cc) in
-        record { branch = d; is = ap (λ o. o ∷ []) q; under = subst (λ o. IsBranchUnder k z f l u left o d) same w }
-    go (a_try c g v w x d i p q j y) = absurd (let y : Try c g v x i ∷ [] ≡ Go b ∷ [] = ap (λ o. o ∷ []) (sym p) ∙ e in cc)
+side_task : (qv : Query) (m : Machine) (c : Choice) (z : Closing) (f : ℕ → ℕ) (l u : ℕ) (b : Branch) (from : Option ℕ) (rs ts : List Task) → c.untried ≡ Untried.Goals from → rs ≡ Go b ∷ [] → IsTasksOf qv m c z f l u rs ts →
+    IsSideTask qv m c z f l u b ts
+side_task qv m c z f l u b from rs ts e r (of_side lv x d p q w) =
+    let same : x ≡ b = (let y : Go x ∷ [] ≡ Go b ∷ [] = sym p ∙ r in cc) in
+    record { levels = lv; branch = d; is = q; under = subst (λ o. IsBranchUnder qv lv m.bank z f l u c.pairs.items o d) same w }
+side_task qv m c z f l u b from rs ts e r (of_call lv call one xs cs t y e' x d k o a p q w v kc) = absurd (let j : Untried.Goals from ≡ Untried.Clauses call one = sym e ∙ o in cc)
 
-pub side_state : (m n q : Machine) (c : Choice) (rest : List Choice) (from : Option ℕ) → m.choices.items ≡ rest ++ c ∷ [] → c.untried ≡ Untried.Goals from → base_of m.denied ≤ length rest → IsTaken m n c rest → GoesBack m q c rest →
-    KeepsGoals n q → KeepsAssumed n q → q.frames ≡ n.frames → q.branch.pairs ≡ n.branch.pairs → (s : State Task) → IsBack m s → IsState q s
-side_state m n q c rest from e u l t g k ka fr qp s h =
+pub side_state : (qv : Query) (m n q : Machine) (c : Choice) (rest : List Choice) (from : Option ℕ) → m.choices.items ≡ rest ++ c ∷ [] → c.untried ≡ Untried.Goals from → base_of m.denied ≤ length rest → IsTaken m n c rest → GoesBack m q c rest →
+    KeepsGoals n q → KeepsAssumed n q → q.frames ≡ n.frames → q.branch.pairs ≡ n.branch.pairs → (s : State Task) → IsBack qv m s → IsState qv q s
+side_state qv m n q c rest from e u l t g k ka fr qp s h =
     let b = base_of m.denied in
     let a = h.around in
     let xs = drop b rest in
     let f = mark_in b h.above.raws in
     let whole : drop b m.choices.items ≡ xs ++ c ∷ [] = ap (drop b) e ∙ drop_push b rest c l in
-    let sp = split_newest m a f b b xs c 0 h.above.raws h.above.others (subst (λ z. StandForAll m a z 0 h.above.raws) whole h.above.done.alternatives)
-    (subst (λ z. AreAlternatives m f b b z h.above.raws h.above.others) whole h.above.are) in
+    let sp = split_newest qv m a f b b xs c 0 h.above.raws h.above.others (subst (λ z. StandForAll m a z 0 h.above.raws) whole h.above.done.alternatives)
+    (subst (λ z. AreAlternatives qv m f b b z h.above.raws h.above.others) whole h.above.are) in
     let sd = side_of m a c sp.under from u sp.last in
-    let st = side_task m.bank sp.is.closing f b (b + length xs) c.pairs.items sd.side sp.raw sp.tasks sd.is sp.is.tasks in
+    let st = side_task qv m c sp.is.closing f b (b + length xs) sd.side from sp.raw sp.tasks u sd.is sp.is.tasks in
     let nest = nested_last xs c (subst AreNested whole h.above.done.nested) in
     let turn = bound_last xs c (subst AreBoundInTurn whole h.above.in_turn) in
     let sn = stands_then m n c rest t h.above.done.stands in
     let height : b + length xs ≡ length rest = drop_length b rest l in
     let qs : drop (base_of q.denied) q.choices.items ≡ xs = (λ i. drop (base_of (g.denied i)) (g.choices i)) in
-    let counts = counts_same m f b b xs sp.raws sp.others sp.are in
+    let counts = counts_same qv m f b b xs sp.raws sp.others sp.are in
     let f' = mark_in b sp.raws in
     let agree : (i : ℕ) → b ≤ i → i ≤ b + length xs → f' i ≡ f i =
     (λ i p r. (let w = counts.0 in sym (ap (λ z. mark_in b z i) sp.whole_raw ∙ marks_more b sp.raws sp.raw i (omega (arith, p, r, w))))) in
@@ -179,9 +176,13 @@ side_state m n q c rest from e u l t g k ka fr qp s h =
     let terms : q.bindings.terms.entries ≡ take c.bindings.terms m.bindings.terms.entries = ap (λ z. z.terms.entries) k.known.bindings ∙ t.bound_terms in
     let types : q.bindings.types.entries ≡ take c.bindings.types m.bindings.types.entries = ap (λ z. z.types.entries) k.known.bindings ∙ t.bound_types in
     let pairs : q.branch.pairs.items ≡ c.pairs.items = ap (λ z. z.items) qp ∙ t.pairs in
-    let older = alternatives_marked q f f' b b xs sp.raws sp.others (λ i p r. agree i p (omega (arith, r))) (all_older_back m q c bank terms types sp.is.bound_terms sp.is.bound_types f b b xs sp.raws sp.others turn.0 sp.are) in
-    let stands = all_stand_on n q a a sn (on_kept n q k ka (g.denied ∙ sym t.denied)) (same_around (length n.newest.items) (length n.standings.items) a) xs 0 sp.raws
-    (all_back m n a c rest t sd.kept xs nest.0 0 sp.raws sp.stand) in
+    let ga = on_kept n q k ka (g.denied ∙ sym t.denied) in
+    let sa = same_around (length n.newest.items) (length n.standings.items) a in
+    let backs = all_back m n a c rest t sd.kept xs nest.0 0 sp.raws sp.stand in
+    let gb = subst (Grows n.bindings) (sym k.known.bindings) (grows_same n.bindings) in
+    let older = alternatives_marked qv q f f' b b xs sp.raws sp.others (λ i p r. agree i p (omega (arith, r)))
+    (alternatives_on qv n q a a sn ga sa gb f b b 0 xs sp.raws sp.others backs (all_older_back qv m n a c rest t sd.kept sp.is.bound_terms sp.is.bound_types f b b xs sp.raws sp.others nest.0 turn.0 sp.are)) in
+    let stands = all_stand_on n q a a sn ga sa xs 0 sp.raws backs in
     let at = g.branch a sd.side sd.at in
     record {
       around = a;
@@ -201,8 +202,8 @@ side_state m n q c rest from e u l t g k ka fr qp s h =
             nested = subst AreNested (sym qs) nest.1;
           };
           numbers = h.above.numbers;
-          are = subst (λ d. AreAlternatives q (mark_in (base_of d) sp.raws) (base_of d) (base_of d) (drop (base_of q.denied) q.choices.items) sp.raws sp.others) (sym g.denied)
-              (subst (λ z. AreAlternatives q f' b b z sp.raws sp.others) (sym qs) older);
+          are = subst (λ d. AreAlternatives qv q (mark_in (base_of d) sp.raws) (base_of d) (base_of d) (drop (base_of q.denied) q.choices.items) sp.raws sp.others) (sym g.denied)
+              (subst (λ z. AreAlternatives qv q f' b b z sp.raws sp.others) (sym qs) older);
           in_turn = subst AreBoundInTurn (sym qs) turn.1;
           is = refl;
         };
@@ -215,11 +216,12 @@ side_state m n q c rest from e u l t g k ka fr qp s h =
         reading = subst (λ i. IsOpenReading q.bank q.bindings i sp.is.closing) (sd.at.next ∙ sym at.next)
             (subst (λ z. IsOpenReading z q.bindings c.next sp.is.closing) (sym bank) (sp.is.reading q.bindings (record { terms = terms; types = types })));
         left = subst (λ z. All (IsPairOf (length z.terms)) q.branch.pairs.items) (sym bank) (subst (All (IsPairOf (length m.bank.terms))) (sym pairs) sp.is.left);
-        under = subst (λ d. IsBranchUnder q.bank sp.is.closing (mark_in (base_of d) sp.raws) (base_of d) (length q.choices.items) q.branch.pairs.items sd.side st.branch) (sym g.denied)
-            (subst (λ i. IsBranchUnder q.bank sp.is.closing f' b i q.branch.pairs.items sd.side st.branch) (height ∙ ap length (sym g.choices))
-            (subst (λ z. IsBranchUnder z sp.is.closing f' b (b + length xs) q.branch.pairs.items sd.side st.branch) (sym bank)
-            (subst (λ z. IsBranchUnder m.bank sp.is.closing f' b (b + length xs) z sd.side st.branch) (sym pairs)
-            (branch_marked m.bank sp.is.closing b (b + length xs) c.pairs.items f f' agree sd.side st.branch st.under))));
+        levels = st.levels;
+        under = subst (λ d. IsBranchUnder qv st.levels q.bank sp.is.closing (mark_in (base_of d) sp.raws) (base_of d) (length q.choices.items) q.branch.pairs.items sd.side st.branch) (sym g.denied)
+            (subst (λ i. IsBranchUnder qv st.levels q.bank sp.is.closing f' b i q.branch.pairs.items sd.side st.branch) (height ∙ ap length (sym g.choices))
+            (subst (λ z. IsBranchUnder qv st.levels z sp.is.closing f' b (b + length xs) q.branch.pairs.items sd.side st.branch) (sym bank)
+            (subst (λ z. IsBranchUnder qv st.levels m.bank sp.is.closing f' b (b + length xs) z sd.side st.branch) (sym pairs)
+            (branch_marked qv st.levels m.bank sp.is.closing b (b + length xs) c.pairs.items f f' agree sd.side st.branch st.under))));
         counted = record {
           steps = h.counted.steps ∙ ap (λ z. z.limit - z.steps) (sym g.counts);
           rows = h.counted.rows;
@@ -230,15 +232,15 @@ side_state m n q c rest from e u l t g k ka fr qp s h =
     }
 
 -- no alternative is left
-no_tasks : (m : Machine) (f : ℕ → ℕ) (l k : ℕ) (cs : List Choice) (rss tss : List (List Task)) → cs ≡ [] → AreAlternatives m f l k cs rss tss → tss ≡ []
-no_tasks m f l k [] [] [] e h = refl
-no_tasks m f l k [] [] (ts ∷ tss) e h = absurd h
-no_tasks m f l k [] (rs ∷ rss) tss e h = absurd h
-no_tasks m f l k (c ∷ cs) rss tss e h = absurd (cc)
+no_tasks : (qv : Query) (m : Machine) (f : ℕ → ℕ) (l k : ℕ) (cs : List Choice) (rss tss : List (List Task)) → cs ≡ [] → AreAlternatives qv m f l k cs rss tss → tss ≡ []
+no_tasks qv m f l k [] [] [] e h = refl
+no_tasks qv m f l k [] [] (ts ∷ tss) e h = absurd h
+no_tasks qv m f l k [] (rs ∷ rss) tss e h = absurd h
+no_tasks qv m f l k (c ∷ cs) rss tss e h = absurd (cc)
 
-pub none_moved : (m n : Machine) (s : State Task) (b : Bool) → m.choices.items ≡ [] → m.counts.lost ≡ b → IsBack m s → MovesTo (Turn.Ended (last_ending b)) n s
-none_moved m n s b e l h k ea go enough P =
+pub none_moved : (qv : Query) (m n : Machine) (s : State Task) (b : Bool) → m.choices.items ≡ [] → m.counts.lost ≡ b → IsBack qv m s → MovesTo qv (Turn.Ended (last_ending b)) n s
+none_moved qv m n s b e l h k ea go enough P =
     let d = base_of m.denied in
-    let none = no_tasks m (mark_in d h.above.raws) d d (drop d m.choices.items) h.above.raws h.above.others (drop_none d m.choices.items e) h.above.are in
+    let none = no_tasks qv m (mark_in d h.above.raws) d d (drop d m.choices.items) h.above.raws h.above.others (drop_none d m.choices.items e) h.above.are in
     let st : s.stack ≡ [] = h.above.is ∙ ap stack_of none in
     (λ i. move_at go (look unit_limit enough P) s.steps (ea i) s.given s.rows s.row ((h.counted.lost ∙ l) i) (st i)) ∙ stops_so go (look unit_limit enough P) s.steps k s.given s.rows s.row b

@@ -46,7 +46,7 @@ take_within (suc i) (suc j) (x ∷ xs) l = ap (λ ys. x ∷ ys) (take_within i j
 
 -- an alternative that is older than the one to which the search went back
 module _ (m n : Machine) (a : Around) (c : Choice) (rest : List Choice) (t : IsTaken m n c rest) (kc : IsKept m a c) (x : Choice) (w : IsWithin x c) where
-  lists_same : lists_at x m ≡ lists_at x n
+  pub lists_same : lists_at x m ≡ lists_at x n
   lists_same =
       let eb = ap (take x.lengths.scopes.blocks) t.blocks ∙ take_within x.lengths.scopes.blocks c.lengths.scopes.blocks m.scopes.blocks.items w.blocks in
       let ev = ap (take x.lengths.scopes.values) t.values ∙ take_within x.lengths.scopes.values c.lengths.scopes.values m.scopes.values.items w.values in

@@ -1,14 +1,13 @@
 -- A cut is one move of the definition.
-use Rattle.std.proofs.Common.{◌≡◌, ℕ, zero, suc, ◌+◌, ◌-◌, ◌<◌, ◌≤◌, List, [], ◌∷◌, ◌++◌, length, take, drop, refl, sym, ap, ◌∙◌, subst, arith, nat_lt, Bool, Option}
+use Rattle.std.proofs.Common.{◌≡◌, ℕ, zero, suc, ◌+◌, ◌-◌, ◌<◌, ◌≤◌, List, [], ◌∷◌, length, take, drop, refl, sym, ap, ◌∙◌, subst, arith, nat_lt, Bool, Option}
 use Rattle.std.specs.Prelude.{All, ◌||◌}
-use Rattle.lp_calculus.specs.Term.{Term}
 use Rattle.lp_term.specs.Nodes.{Extends}
 use Rattle.lp_term.proofs.Trees.{extends_same}
 use Rattle.lp_model.specs.Branch.{Answer, Branch, Entry, Go, Task}
 use Rattle.lp_model.specs.Flat.{Clause, Goal, Atomic, Cut, Either, Exists, Forall, Assume, Not}
 use Rattle.lp_model.specs.Pair.{Closing}
 use Rattle.lp_model.specs.Search.{look, look_branch, look_goal, with_goals}
-use Rattle.lp_model.specs.Skeleton.{CutNote, Cuts as View_Cuts, Goes, Inner, State, View, move, move_at, move_view, oldest}
+use Rattle.lp_model.specs.Skeleton.{CutNote, Cuts as View_Cuts, Goes, Inner, State, move, move_at, move_view, oldest}
 use Rattle.lp_model.specs.Unify.{unit_limit}
 use Rattle.lp_pattern.specs.Growing.{Grows, IsPairOf}
 use Rattle.lp_pattern.specs.Turning.{IsOpenReading}
@@ -20,10 +19,11 @@ use Rattle.lp_plain.specs.declared.machine.Machine.{Machine}
 use Rattle.lp_plain.specs.declared.outcome.Turn.{Turn}
 use Rattle.lp_plain.specs.declared.table.Flat.{Flat}
 use Rattle.lp_plain.specs.Assuming.{ArePlaced, GrowsOn, IsLaterAround, IsPlaceAt, lists_of}
-use Rattle.lp_plain.specs.Cuts.{Cuts, cut_off, one_step}
-use Rattle.lp_plain.specs.Entries.{Around, KeepsGoals, Reads, entry_at}
-use Rattle.lp_plain.specs.Moving.{IsGoalUnder, AreEntriesUnder, HasAlternatives, IsBranchUnder, IsEntryUnder, IsAtGoal, IsMoved, IsRunning, IsState, KeepsSearch, MovesTo, mark_in}
-use Rattle.lp_plain.specs.Stacks.{base_of, stack_of, CutsTasks, HaveTasks}
+use Rattle.lp_plain.specs.Cuts.{Cuts}
+use Rattle.lp_plain.specs.Entries.{Around, Reads, entry_at}
+use Rattle.lp_plain.specs.Moving.{Query, IsGoalUnder, AreEntriesUnder, IsBranchUnder, IsEntryUnder, IsAtGoal, IsMoved, IsRunning, IsState, KeepsSearch, MovesTo, mark_in}
+use Rattle.lp_plain.specs.Resuming.{AreKnownEntries}
+use Rattle.lp_plain.specs.Stacks.{base_of, stack_of, CutsTasks}
 use Rattle.lp_plain.specs.Tables.{IsGoal, Never, shown}
 use Rattle.lp_plain.specs.Taking.{goal_in}
 use Rattle.lp_plain.specs.Within.{StandsIn}
@@ -50,7 +50,7 @@ pub split_under : (z : Closing) (f : ℕ → ℕ) (l u : ℕ) (e : Entry) (es ds
 split_under z f l u e es [] h = absurd h
 split_under z f l u e es (d ∷ ds) h = record { first = d; rest = ds; whole = refl; entry = h.0; others = h.1 }
 
-module _ (m n : Machine) (a : Around) (raw : Branch) (s : State Task) (h : IsRunning m a raw s) (behind : Option ℕ) (e : Entry) (es : List Entry) (k : KeepsSearch m n behind)
+module _ (qv : Query) (m n : Machine) (a : Around) (raw : Branch) (s : State Task) (h : IsRunning qv m a raw s) (behind : Option ℕ) (e : Entry) (es : List Entry) (k : KeepsSearch m n behind)
     (reads : Reads m a behind es) (goals : raw.goals ≡ e ∷ es) (cut : e.goal ≡ Cut) (c : Cuts m n e.mark behind) (there : m.counts.steps < m.counts.limit) where
   abbrev base : ℕ
   base = base_of m.denied
@@ -77,7 +77,7 @@ module _ (m n : Machine) (a : Around) (raw : Branch) (s : State Task) (h : IsRun
   stands = same_stands m n k.goals k.frames h.above.done.stands
 
   counted : (length h.above.raws ≡ length (drop base m.choices.items)) × (length h.above.others ≡ length (drop base m.choices.items)) × (length (stack_of h.above.others) ≡ length (stack_of h.above.raws))
-  counted = counts_same m f base base (drop base m.choices.items) h.above.raws h.above.others h.above.are
+  counted = counts_same qv m f base base (drop base m.choices.items) h.above.raws h.above.others h.above.are
 
   abbrev kept : List (List Task)
   kept = take (e.mark - base) h.above.others
@@ -94,14 +94,14 @@ module _ (m n : Machine) (a : Around) (raw : Branch) (s : State Task) (h : IsRun
   mark_is : sp.first.mark ≡ length (stack_of kept)
   mark_is =
       let j = e.mark - base in
-      let r = counts_same m f base base (take j (drop base m.choices.items)) (take j h.above.raws) kept (alternatives_taken m f base j base (drop base m.choices.items) h.above.raws h.above.others h.above.are) in
+      let r = counts_same qv m f base base (take j (drop base m.choices.items)) (take j h.above.raws) kept (alternatives_taken qv m f base j base (drop base m.choices.items) h.above.raws h.above.others h.above.are) in
       sp.entry.mark ∙ sym r.2
 
   tasks : CutsTasks m n e.mark sp.first.mark h.above.others
   tasks =
       cut_tasks m n e.mark sp.first.mark h.above.others k.denied c.choices (ap (λ x. x.lost) c.counts) (record {
         count = (let r = counted in let p = r.1 in let b = h.above.done.base in let d = drop_length base m.choices.items b in omega (arith, p, d));
-        tasks = have_tasks m f base a base 0 (drop base m.choices.items) h.above.raws h.above.others h.above.done.alternatives h.above.are;
+        tasks = have_tasks qv m f base a base 0 (drop base m.choices.items) h.above.raws h.above.others h.above.done.alternatives h.above.are;
       }) (sp.entry.low, mark_is)
 
   -- the branch behind the cut
@@ -111,16 +111,22 @@ module _ (m n : Machine) (a : Around) (raw : Branch) (s : State Task) (h : IsRun
   abbrev at_work : Branch
   at_work = with_goals h.at_work sp.rest
 
-  here : IsBranchUnder n.bank h.closing (mark_in base raws) base e.mark m.branch.pairs.items after at_work
+  here : IsBranchUnder qv h.levels n.bank h.closing (mark_in base raws) base e.mark m.branch.pairs.items after at_work
   here =
-      branch_on m.bank h.closing base e.mark m.branch.pairs.items n.bank bank h.left (mark_in base raws) after at_work
-      (branch_marked m.bank h.closing base e.mark m.branch.pairs.items f (mark_in base raws) (λ i p q. marks_fewer base (e.mark - base) h.above.raws i (omega (arith, p, q))) after at_work (record {
+      branch_on qv h.levels m.bank h.closing base e.mark m.branch.pairs.items n.bank bank h.left (mark_in base raws) after at_work
+      (branch_marked qv h.levels m.bank h.closing base e.mark m.branch.pairs.items f (mark_in base raws) (λ i p q. marks_fewer base (e.mark - base) h.above.raws i (omega (arith, p, q))) after at_work (record {
         goals = sp.others;
         next = h.under.next;
         next_type = h.under.next_type;
         types = h.under.types;
         values = h.under.values;
         pairs = h.under.pairs;
+        known = record {
+          goals = (subst (λ x. AreKnownEntries h.levels raw.next h.closing x) goals h.under.known.goals).1;
+          values = h.under.known.values;
+          pairs = h.under.known.pairs;
+          free = h.under.known.free;
+        };
       }))
 
   height : e.mark ≡ length n.choices.items
@@ -131,11 +137,11 @@ module _ (m n : Machine) (a : Around) (raw : Branch) (s : State Task) (h : IsRun
       whole (suc i) [] l = absurd (omega (arith, l))
       whole (suc i) (x ∷ xs) l = ap suc (whole i xs (omega (arith, l)))
 
-  under : IsBranchUnder n.bank h.closing (mark_in (base_of n.denied) raws) (base_of n.denied) (length n.choices.items) n.branch.pairs.items after at_work
+  under : IsBranchUnder qv h.levels n.bank h.closing (mark_in (base_of n.denied) raws) (base_of n.denied) (length n.choices.items) n.branch.pairs.items after at_work
   under =
-      subst (λ b. IsBranchUnder n.bank h.closing (mark_in b raws) b (length n.choices.items) n.branch.pairs.items after at_work) (ap base_of (sym k.denied))
-      (subst (λ i. IsBranchUnder n.bank h.closing (mark_in base raws) base i n.branch.pairs.items after at_work) height
-      (subst (λ q. IsBranchUnder n.bank h.closing (mark_in base raws) base e.mark q.items after at_work) (sym k.pairs) here))
+      subst (λ b. IsBranchUnder qv h.levels n.bank h.closing (mark_in b raws) b (length n.choices.items) n.branch.pairs.items after at_work) (ap base_of (sym k.denied))
+      (subst (λ i. IsBranchUnder qv h.levels n.bank h.closing (mark_in base raws) base i n.branch.pairs.items after at_work) height
+      (subst (λ q. IsBranchUnder qv h.levels n.bank h.closing (mark_in base raws) base e.mark q.items after at_work) (sym k.pairs) here))
 
   -- the move
   abbrev left : ℕ
@@ -152,7 +158,7 @@ module _ (m n : Machine) (a : Around) (raw : Branch) (s : State Task) (h : IsRun
     stack = Go at_work ∷ oldest sp.first.mark h.rest;
   }
 
-  is_state : (w : ℕ) → IsState n (next w)
+  is_state : (w : ℕ) → IsState qv n (next w)
   is_state w = record {
     around = a;
     raw = after;
@@ -164,10 +170,10 @@ module _ (m n : Machine) (a : Around) (raw : Branch) (s : State Task) (h : IsRun
       above = record {
         raws = raws;
         others = kept;
-        done = kept_done m n a a h.above.done.stands stands grown around bound e.mark c.choices sp.entry.low h.rest h.above;
+        done = kept_done qv m n a a h.above.done.stands stands grown around bound e.mark c.choices sp.entry.low h.rest h.above;
         numbers = h.above.numbers;
-        are = kept_all m n a a h.above.done.stands stands grown around bound e.mark c.choices sp.entry.low h.rest h.above;
-        in_turn = kept_turn m n a a h.above.done.stands stands grown around bound e.mark c.choices sp.entry.low h.rest h.above;
+        are = kept_all qv m n a a h.above.done.stands stands grown around bound e.mark c.choices sp.entry.low h.rest h.above;
+        in_turn = kept_turn qv m n a a h.above.done.stands stands grown around bound e.mark c.choices sp.entry.low h.rest h.above;
         is = ap (oldest sp.first.mark) h.above.is ∙ sym tasks.stack;
       };
       placed = placed;
@@ -177,6 +183,7 @@ module _ (m n : Machine) (a : Around) (raw : Branch) (s : State Task) (h : IsRun
       reading = subst (λ x. IsOpenReading n.bank n.bindings x h.closing) (sym k.next) (subst (λ x. IsOpenReading n.bank x m.branch.next h.closing) (sym k.goals.known.bindings)
           (subst (λ x. IsOpenReading x m.bindings m.branch.next h.closing) (sym k.goals.known.bank) h.reading));
       left = subst (λ q. All (IsPairOf (length n.bank.terms)) q.items) (sym k.pairs) (pairs_more (length m.bank.terms) (length n.bank.terms) m.branch.pairs.items bank.more_terms h.left);
+      levels = h.levels;
       under = under;
       counted = record {
         steps = ap (λ x. x.limit - x.steps) (sym c.counts);
@@ -201,7 +208,7 @@ module _ (m n : Machine) (a : Around) (raw : Branch) (s : State Task) (h : IsRun
         (λ i. move_at go (look unit_limit enough P) (steps_are i) (ea i) s.given s.rows s.row s.lost (h.stack i)) ∙
         by_lost go (look unit_limit enough P) (suc left) w s.given s.rows s.row s.lost (Go h.at_work) h.rest ∙ ap (move_view go (suc left) w s.given s.rows s.row s.lost h.rest) looked
 
-    pub cut_moves : IsMoved Turn.On n (move go (look unit_limit enough P) s) s
+    pub cut_moves : IsMoved qv Turn.On n (move go (look unit_limit enough P) s) s
     cut_moves = (1, CutNote ∷ [], next w, moved, is_state w, sym ea, refl)
 
 -- by the goal at hand
@@ -214,15 +221,15 @@ cut_is m (Forall T gs) h = absurd (let z = h.1 in cc)
 cut_is m (Assume w cs gs) h = absurd (let z = h.3 in cc)
 cut_is m (Not w gs) h = absurd (let z = h.2 in cc)
 
-pub cut_moved : (m n : Machine) (p : Place) (o : Option ℕ) → KeepsSearch m n o → Cuts m n p.mark o → m.counts.steps < m.counts.limit → (a : Around) (raw : Branch) (s : State Task) → IsRunning m a raw s → IsAtGoal m a p Flat.Cut o raw →
-    MovesTo Turn.On n s
-cut_moved m n p o k c l a raw s h at w ea go enough P =
+pub cut_moved : (qv : Query) (m n : Machine) (p : Place) (o : Option ℕ) → KeepsSearch m n o → Cuts m n p.mark o → m.counts.steps < m.counts.limit → (a : Around) (raw : Branch) (s : State Task) → IsRunning qv m a raw s → IsAtGoal m a p Flat.Cut o raw →
+    MovesTo qv Turn.On n s
+cut_moved qv m n p o k c l a raw s h at w ea go enough P =
     let q = ap (goal_in at.values p.values.types) (cut_is m at.goal at.is) in
-    cut_moves m n a raw s h o (entry_at a p (goal_in at.values p.values.types at.goal)) at.rest k at.reads at.goals q (subst (λ i. Cuts m n i o) (sym (h.above.numbers p.mark)) c) l w ea go enough P
+    cut_moves qv m n a raw s h o (entry_at a p (goal_in at.values p.values.types at.goal)) at.rest k at.reads at.goals q (subst (λ i. Cuts m n i o) (sym (h.above.numbers p.mark)) c) l w ea go enough P
 
 -- no step is left
-pub cut_stops : (m n : Machine) (p : Place) (o : Option ℕ) → m.counts.limit ≤ m.counts.steps → (a : Around) (raw : Branch) (s : State Task) → IsRunning m a raw s → IsAtGoal m a p Flat.Cut o raw → MovesTo (Turn.Ended Steps) n s
-cut_stops m n p o l a raw s h at w ea go enough P =
+pub cut_stops : (qv : Query) (m n : Machine) (p : Place) (o : Option ℕ) → m.counts.limit ≤ m.counts.steps → (a : Around) (raw : Branch) (s : State Task) → IsRunning qv m a raw s → IsAtGoal m a p Flat.Cut o raw → MovesTo qv (Turn.Ended Steps) n s
+cut_stops qv m n p o l a raw s h at w ea go enough P =
     let e = entry_at a p (goal_in at.values p.values.types at.goal) in
     let b = base_of m.denied in
     let sp = split_under h.closing (mark_in b h.above.raws) b (length m.choices.items) e at.rest h.at_work.goals

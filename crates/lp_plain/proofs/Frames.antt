@@ -102,7 +102,7 @@ front_stays : {X : Type 0} (n : ℕ) (xs ys : List X) → GoesOn xs ys → n ≡
 front_stays n xs ys g e = ap (take n) g.1 ∙ ap (λ k. take k (xs ++ g.0)) e ∙ take-append_seam xs g.0
 
 -- goals of now read so in an alternative that is put now
-kept_choice : (m n : Machine) (a : Around) (o : Option ℕ) (es : List Entry) (c : Choice) → KeepsGoals m n → c.lengths.frames ≡ length m.frames.items → c.lengths.scopes.blocks ≡ block_count m.scopes → c.lengths.scopes.values ≡ value_count m.scopes → Reads m a o es →
+pub kept_choice : (m n : Machine) (a : Around) (o : Option ℕ) (es : List Entry) (c : Choice) → KeepsGoals m n → c.lengths.frames ≡ length m.frames.items → c.lengths.scopes.blocks ≡ block_count m.scopes → c.lengths.scopes.values ≡ value_count m.scopes → Reads m a o es →
     AreEntries n.bank (shown n.table) (blocks_at c.lengths.scopes n.scopes) a (take c.lengths.frames n.frames.items) o es
 kept_choice m n a o es c k f b v r =
     let s = k.known.scopes in

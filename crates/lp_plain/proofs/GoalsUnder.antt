@@ -1,10 +1,10 @@
 -- A reading of the bindings goes past terms for the indices of goals.
-use Rattle.std.proofs.Common.{◌≡◌, ℕ, zero, suc, ◌+◌, ◌<◌, List, [], ◌∷◌, map, length, refl, sym, ap, ◌∙◌, arith}
+use Rattle.std.proofs.Common.{◌≡◌, ℕ, zero, suc, ◌+◌, List, [], ◌∷◌, map, length, refl, sym, ap, ◌∙◌, arith}
 use Rattle.lp_calculus.specs.Types.{Ty, instance}
-use Rattle.lp_calculus.specs.Term.{Term, index, shift}
+use Rattle.lp_calculus.specs.Term.{Term, shift}
 use Rattle.lp_calculus.specs.Instance.{instance_term}
 use Rattle.lp_term.specs.Spine.{LooseBelow}
-use Rattle.lp_model.specs.Flat.{Written, Goal, Atomic, Cut, Either, Exists, Forall, Assume, Not, Goals, no_goals, goals, Clause, clause, Clauses, no_clauses, clauses, instantiate_goals, map_written, map_goal, map_goals, map_clause, map_clauses, same_type, type_goals, under_all}
+use Rattle.lp_model.specs.Flat.{Written, Goal, Atomic, Cut, Either, Exists, Forall, Assume, Not, Goals, no_goals, goals, Clause, clause, Clauses, no_clauses, clauses, map_written, map_goal, map_goals, map_clause, map_clauses, same_type, under_all}
 use Rattle.lp_model.specs.Index.{lifted, instantiate}
 use Rattle.lp_model.specs.Pair.{Closing, closed}
 use Rattle.lp_pattern.specs.Stripping.{IsShut}

@@ -45,7 +45,7 @@ module _ {E : Type 0} (under : E → E) (term : E → Term → Term) (ty : Ty �
   types_stay [] = refl
   types_stay (T ∷ Ts) = let p = same_ty T in let q = types_stay Ts in λ i. p i ∷ q i
 
-  written_stays : (e : E) (w : Written) → map_written (term e) ty w ≡ w
+  pub written_stays : (e : E) (w : Written) → map_written (term e) ty w ≡ w
   written_stays e w = let p = terms_stay e w.terms in let q = types_stay w.types in λ i. record { terms = p i; types = q i }
 
   mutual
@@ -62,7 +62,7 @@ module _ {E : Type 0} (under : E → E) (term : E → Term → Term) (ty : Ty �
     goals_stay e no_goals = refl
     goals_stay e (goals g gs) = goals_same (goal_stays e g) (goals_stay e gs)
 
-    clause_stays : (e : E) (c : Clause) → map_clause under term ty e c ≡ c
+    pub clause_stays : (e : E) (c : Clause) → map_clause under term ty e c ≡ c
     clause_stays e (clause n vs h b) = clause_same n (types_stay vs) (same (under_all under vs e) h) (goals_stay (under_all under vs e) b)
 
     clauses_stay : (e : E) (cs : Clauses) → map_clauses under term ty e cs ≡ cs

@@ -9,7 +9,7 @@ use Rattle.lp_model.specs.Pair.{Closing, closed}
 use Rattle.lp_model.specs.Search.{opened}
 use Rattle.lp_pattern.specs.Stripping.{IsShut}
 use Rattle.lp_plain.specs.Opening.{cons}
-use Rattle.lp_plain.specs.Resuming.{clause_with, goal_with}
+use Rattle.lp_plain.specs.Resuming.{goal_with}
 use Rattle.lp_plain.proofs.Closings.{instance_under, shifted_under}
 use Rattle.lp_plain.proofs.Mapped.{assume_same, clause_same, clauses_same, either_same, goals_same, not_same}
 

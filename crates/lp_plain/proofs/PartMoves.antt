@@ -1,12 +1,12 @@
 -- A flattened goal that is taken apart is one move of the definition, all bindings put in.
-use Rattle.std.proofs.Common.{◌≡◌, ℕ, suc, ◌+◌, ◌-◌, ◌<◌, ◌≤◌, List, [], ◌∷◌, ◌++◌, length, refl, sym, ap, ◌∙◌, subst, arith, Bool, Option}
+use Rattle.std.proofs.Common.{◌≡◌, ℕ, suc, ◌+◌, ◌-◌, ◌≤◌, List, [], ◌∷◌, length, refl, sym, ap, ◌∙◌, subst, arith, Bool, Option}
 use Rattle.lp_calculus.specs.Term.{Term, atom, logic}
 use Rattle.lp_term.specs.Nodes.{Nodes}
 use Rattle.lp_model.specs.Branch.{Answer, Branch, Entry, Go, Task}
 use Rattle.lp_model.specs.Flat.{Clause, Goal, Atomic, Cut, Either, Exists, Forall, Assume, Not}
 use Rattle.lp_model.specs.Pair.{closed}
 use Rattle.lp_model.specs.Search.{look, look_branch, look_goal, with_goals}
-use Rattle.lp_model.specs.Skeleton.{Goes, Inner, Parts, State, Stops, View, move, move_at, row_limit}
+use Rattle.lp_model.specs.Skeleton.{Inner, Parts, State, View, move, move_at, row_limit}
 use Rattle.lp_model.specs.Unify.{unit_limit}
 use Rattle.lp_model.specs.declared.ending.Ending.TheVariants.{NoMore, NoMoreCut, Enough, Steps, Flexible, Arithmetic, OpenNot, Deep}
 use Rattle.lp_pattern.specs.Under.{ValueIs}
@@ -17,7 +17,8 @@ use Rattle.lp_plain.specs.declared.outcome.Turn.{Turn}
 use Rattle.lp_plain.specs.declared.table.Flat.{Flat}
 use Rattle.lp_plain.specs.Apart.{IsApart}
 use Rattle.lp_plain.specs.Entries.{Around, ArePartsOf, entry_at}
-use Rattle.lp_plain.specs.Moving.{AreEntriesUnder, BindsNone, IsAtGoal, IsBranchUnder, IsCounted, IsMoved, IsPlain, IsPlainFirst, IsRunning, IsState, MovesTo, PutsWith, mark_in}
+use Rattle.lp_plain.specs.Moving.{Query, AreEntriesUnder, BindsNone, IsAtGoal, IsCounted, IsMoved, IsPlain, IsPlainFirst, IsRunning, MovesTo, PutsWith, mark_in}
+use Rattle.lp_plain.specs.Resuming.{AreKnownEntries}
 use Rattle.lp_plain.specs.Stacks.{base_of}
 use Rattle.lp_plain.specs.Tables.{IsGoal, Never, Shown, shown}
 use Rattle.lp_plain.specs.Taking.{IsApartFlat, IsTakenApart, TakesApart, TakesOne, goal_in}
@@ -47,7 +48,7 @@ no_cut b t flat (Forall T gs) h k e = absurd (cc)
 no_cut b t flat (Assume w cs gs) h k e = absurd (cc)
 no_cut b t flat (Not w gs) h k e = absurd (cc)
 
-module _ (m n : Machine) (a : Around) (raw : Branch) (s : State Task) (h : IsRunning m a raw s) (e : Entry) (es : List Entry) (goals : raw.goals ≡ e ∷ es) (k : IsTakenApart e.goal)
+module _ (qv : Query) (m n : Machine) (a : Around) (raw : Branch) (s : State Task) (h : IsRunning qv m a raw s) (e : Entry) (es : List Entry) (goals : raw.goals ≡ e ∷ es) (k : IsTakenApart e.goal)
     (w : ℕ) (ea : s.answers ≡ suc w) (go : (Answer → Bool) → State Task → Inner) (enough : ℕ) (P : List Clause) where
   abbrev base : ℕ
   base = base_of m.denied
@@ -75,16 +76,20 @@ module _ (m n : Machine) (a : Around) (raw : Branch) (s : State Task) (h : IsRun
       let x = h.next in
       subst (λ o. ValueIs m.bank h.closing rest.next o) (h.reading.unbound rest.next (omega (arith, x))) (h.reading.reading.terms rest.next) l
 
-  views : IsViewUnder m.bank h.closing f base (length m.choices.items) m.branch.pairs.items rest (look_goal 0 0 [] 0 e rest e.goal) seen
+  known_all : AreKnownEntries h.levels raw.next h.closing (e ∷ es)
+  known_all = subst (λ x. AreKnownEntries h.levels raw.next h.closing x) goals h.under.known.goals
+
+  views : IsViewUnder qv m.bank h.closing f base (length m.choices.items) m.branch.pairs.items rest (look_goal 0 0 [] 0 e rest e.goal) seen
   views =
-      parts_under m.bank h.closing h.reading.shut f base (length m.choices.items) m.branch.pairs.items e sp.first rest behind sp.entry.place sp.entry.mark sp.entry.low sp.entry.high (record {
+      parts_under qv h.levels m.bank h.closing h.reading.shut f base (length m.choices.items) m.branch.pairs.items e sp.first rest behind sp.entry.place sp.entry.mark sp.entry.low sp.entry.high (record {
         goals = sp.others;
         next = h.under.next;
         next_type = h.under.next_type;
         types = h.under.types;
         values = h.under.values;
         pairs = h.under.pairs;
-      }) 0 0 0 unit_limit enough (length h.rest) [] P new_variable e.goal sp.first.goal k sp.entry.goal
+        known = record { goals = known_all.1; values = h.under.known.values; pairs = h.under.known.pairs; free = h.under.known.free };
+      }) known_all.0 0 0 0 unit_limit enough (length h.rest) [] P new_variable e.goal sp.first.goal known_all.0.0 k sp.entry.goal
 
   module _ (t : TakesOne m n a (look_goal 0 0 [] 0 e rest e.goal)) (bn : BindsNone m n) (pw : PutsWith m n) where
     abbrev left : ℕ
@@ -105,9 +110,9 @@ module _ (m n : Machine) (a : Around) (raw : Branch) (s : State Task) (h : IsRun
       lost = h.counted.lost ∙ ap (λ x. x.lost) (sym t.quiet.counts);
     }
 
-    by_view : (v : View Task Answer) → v ≡ look_goal 0 0 [] 0 e rest e.goal → IsViewUnder m.bank h.closing f base (length m.choices.items) m.branch.pairs.items rest v seen →
-        IsMoved Turn.On n (move go (look unit_limit enough P) s) s
-    by_view v q (one_part b d x y l u) =
+    by_view : (v : View Task Answer) → v ≡ look_goal 0 0 [] 0 e rest e.goal → IsViewUnder qv m.bank h.closing f base (length m.choices.items) m.branch.pairs.items rest v seen →
+        IsMoved qv Turn.On n (move go (look unit_limit enough P) s) s
+    by_view v q (one_part lv b d x y l u) =
         let parts = subst (ArePartsOf m n t.around) (sym q ∙ x) t.parts in
         let br = parts.0 in
         let bx = br.next in
@@ -120,13 +125,13 @@ module _ (m n : Machine) (a : Around) (raw : Branch) (s : State Task) (h : IsRun
             around = t.around;
             raw = b;
             goals = br.goals;
-            running = running_still m n a t.around raw s h t.stands t.placed t.quiet.on t.later bn parts.1 b d (after_parts go (look unit_limit enough P) s w left (Go d ∷ h.rest)) u
+            running = running_still qv m n a t.around raw s h t.stands t.placed t.quiet.on t.later bn parts.1 lv b d (after_parts go (look unit_limit enough P) s w left (Go d ∷ h.rest)) u
                 (omega (arith, bx, mx, l)) br.next br.next_type refl (counted (Go d ∷ h.rest));
           },
           sym ea,
           refl,
         )
-    by_view v q (two_parts b d c c' x y p r u o) =
+    by_view v q (two_parts lv b d c c' x y p r u o) =
         let parts = subst (ArePartsOf m n t.around) (sym q ∙ x) t.parts in
         let br = parts.0 in
         let ch = parts.1.1 in
@@ -142,22 +147,22 @@ module _ (m n : Machine) (a : Around) (raw : Branch) (s : State Task) (h : IsRun
             around = t.around;
             raw = b;
             goals = br.goals;
-            running = running_more m n a t.around raw s h t.stands t.placed t.quiet.on t.later bn parts.1.0 ch b d c c' kp.0 kp.1 at (pw parts.1.0 ch) u o (h.next ∙ r)
+            running = running_more qv m n a t.around raw s h t.stands t.placed t.quiet.on t.later bn lv parts.1.0 ch b d c c' kp.0 kp.1 at (pw parts.1.0 ch) u o (h.next ∙ r)
                 (after_parts go (look unit_limit enough P) s w left (Go d ∷ Go c' ∷ h.rest)) (omega (arith, bx, mx, p)) br.next br.next_type refl (counted (Go d ∷ Go c' ∷ h.rest));
           },
           sym ea,
           refl,
         )
 
-    pub apart_moves : IsMoved Turn.On n (move go (look unit_limit enough P) s) s
+    pub apart_moves : IsMoved qv Turn.On n (move go (look unit_limit enough P) s) s
     apart_moves = by_view (look_goal 0 0 [] 0 e rest e.goal) refl views
 
   -- a million were taken apart
-  some_parts : {v : View Task Answer} → IsViewUnder m.bank h.closing f base (length m.choices.items) m.branch.pairs.items rest v seen → (ts : List Task) × (seen ≡ Parts ts)
-  some_parts (one_part b d x y l u) = (Go d ∷ [], y)
-  some_parts (two_parts b d c c' x y p r u o) = (Go d ∷ Go c' ∷ [], y)
+  some_parts : {v : View Task Answer} → IsViewUnder qv m.bank h.closing f base (length m.choices.items) m.branch.pairs.items rest v seen → (ts : List Task) × (seen ≡ Parts ts)
+  some_parts (one_part lv b d x y l u) = (Go d ∷ [], y)
+  some_parts (two_parts lv b d c c' x y p r u o) = (Go d ∷ Go c' ∷ [], y)
 
-  pub apart_stops : 1000000 ≤ m.counts.row → IsMoved (Turn.Ended Deep) n (move go (look unit_limit enough P) s) s
+  pub apart_stops : 1000000 ≤ m.counts.row → IsMoved qv (Turn.Ended Deep) n (move go (look unit_limit enough P) s) s
   apart_stops l =
       let r = h.counted.row in
       let zero_row : s.row ≡ 0 = omega (arith, r, l) in
@@ -166,8 +171,8 @@ module _ (m n : Machine) (a : Around) (raw : Branch) (s : State Task) (h : IsRun
       at_limit go (look unit_limit enough P) s.steps w s.given s.rows s.lost (Go h.at_work) h.rest q.0 (looked ∙ q.1)
 
 -- by what the goal is in the table
-module _ (m n : Machine) (p : Place) (flat : Flat) (o : Option ℕ) (turn : Turn) (taken : turn ≡ Turn.On → TakesApart m n p flat o) (none : turn ≡ Turn.On → IsApartFlat flat → BindsNone m n)
-    (aside : turn ≡ Turn.On → IsApartFlat flat → PutsWith m n) (nc : flat ≡ Flat.Cut → ⊥) (a : Around) (raw : Branch) (s : State Task) (h : IsRunning m a raw s) (at : IsAtGoal m a p flat o raw)
+module _ (qv : Query) (m n : Machine) (p : Place) (flat : Flat) (o : Option ℕ) (turn : Turn) (taken : turn ≡ Turn.On → TakesApart m n p flat o) (none : turn ≡ Turn.On → IsApartFlat flat → BindsNone m n)
+    (aside : turn ≡ Turn.On → IsApartFlat flat → PutsWith m n) (nc : flat ≡ Flat.Cut → ⊥) (a : Around) (raw : Branch) (s : State Task) (h : IsRunning qv m a raw s) (at : IsAtGoal m a p flat o raw)
     (pf : IsPlainFirst raw.goals) where
   abbrev goal : Goal
   goal = goal_in at.values p.values.types at.goal
@@ -181,17 +186,17 @@ module _ (m n : Machine) (p : Place) (flat : Flat) (o : Option ℕ) (turn : Turn
   flat_is : IsApartFlat flat
   flat_is = flat_kind m.bank (shown m.table) flat at.goal at.is (kind_in at.values p.values.types at.goal kind)
 
-  goes_on : turn ≡ Turn.On → MovesTo Turn.On n s
+  goes_on : turn ≡ Turn.On → MovesTo qv Turn.On n s
   goes_on e k ea go enough P =
-      apart_moves m n a raw s h (entry_at a p goal) at.rest at.goals kind k ea go enough P
+      apart_moves qv m n a raw s h (entry_at a p goal) at.rest at.goals kind k ea go enough P
       (taken e a at.goal at.values (with_goals raw at.rest) h.above.done.stands h.placed at.place (kind_in at.values p.values.types at.goal kind) at.is at.at
       (record { goals = at.reads; next = h.next; next_type = h.next_type }) 0 0 0 []) (none e flat_is) (aside e flat_is)
 
-  by_count : (x : Turn) → x ≡ turn → (new : Counts) → IsApart x m.counts new → MovesTo x n s
+  by_count : (x : Turn) → x ≡ turn → (new : Counts) → IsApart x m.counts new → MovesTo qv x n s
   by_count Turn.On e new c = goes_on (sym e)
   by_count Turn.Back e new c = absurd c
   by_count Turn.Answered e new c = absurd c
-  by_count (Turn.Ended Deep) e new c = λ k ea go enough P. apart_stops m n a raw s h (entry_at a p goal) at.rest at.goals kind k ea go enough P c.0
+  by_count (Turn.Ended Deep) e new c = λ k ea go enough P. apart_stops qv m n a raw s h (entry_at a p goal) at.rest at.goals kind k ea go enough P c.0
   by_count (Turn.Ended NoMore) e new c = absurd c
   by_count (Turn.Ended NoMoreCut) e new c = absurd c
   by_count (Turn.Ended Enough) e new c = absurd c
@@ -200,5 +205,5 @@ module _ (m n : Machine) (p : Place) (flat : Flat) (o : Option ℕ) (turn : Turn
   by_count (Turn.Ended (Arithmetic x)) e new c = absurd c
   by_count (Turn.Ended OpenNot) e new c = absurd c
 
-  pub part_moves : (new : Counts) → IsApart turn m.counts new → MovesTo turn n s
+  pub part_moves : (new : Counts) → IsApart turn m.counts new → MovesTo qv turn n s
   part_moves new c = by_count turn refl new c

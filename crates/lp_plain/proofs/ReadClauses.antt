@@ -1,5 +1,5 @@
 -- A candidate's clause as the definition tries it: its head and its goals are those of the written clause as the bindings read them, with the values around it.
-use Rattle.std.proofs.Common.{◌≡◌, ℕ, zero, suc, ◌+◌, ◌<◌, ◌≤◌, List, [], ◌∷◌, map, length, refl, sym, ap, ◌∙◌, subst, arith, nat_lt, if◌then◌else◌, Bool, false, Option, None, Some}
+use Rattle.std.proofs.Common.{◌≡◌, ℕ, zero, ◌+◌, ◌≤◌, List, [], ◌∷◌, map, length, refl, sym, ap, ◌∙◌, subst, arith, nat_lt, if◌then◌else◌, false, Option, None, Some}
 use Rattle.std.proofs.lemmas.Bool.Decides.{nat_tests}
 use mathlib.Core.Path.{fun_ext}
 use Rattle.lp_calculus.specs.Types.{Ty, var, instance}
@@ -16,7 +16,7 @@ use Rattle.lp_plain.specs.declared.instance.Values.{Values}
 use Rattle.lp_plain.specs.declared.machine.Machine.{Machine}
 use Rattle.lp_plain.specs.declared.scope.Block.{Block}
 use Rattle.lp_plain.specs.declared.types.Renewal.{Renewal}
-use Rattle.lp_plain.specs.Followed.{HasOwnTypes, HaveRoom, body_read, clause_read}
+use Rattle.lp_plain.specs.Followed.{HasOwnTypes, HaveOwnTys, HaveRoom, body_read, clause_read}
 use Rattle.lp_plain.specs.Renewal.{renewing}
 use Rattle.lp_plain.specs.Resuming.{AllOfGoals, TysOfGoals}
 use Rattle.lp_plain.specs.Scopes.{Holds, outermost, inside}
@@ -102,7 +102,7 @@ module _ (m : Machine) (z : Closing) (shut : IsShut z) (free : (x : ℕ) → m.b
       }
 
   pub clause_is : (candidate : Candidate) (T : IsTrialOf m candidate vs h values σ) → HasOwnTypes candidate T.type_vars T.types → HaveRoom candidate values.types →
-      AllOfGoals (IsWritten T.arity T.types) (length vs + length T.outer) T.body → TysOfGoals (IsTypeBelow T.types) T.body →
+      AllOfGoals (IsWritten T.arity T.types) (length vs + length T.outer) T.body → HaveOwnTys candidate T.types T.body →
       IsClauseRead z (under_all lifted vs σ) (renewing values.types) T.type_vars m.branch.next_type vs h T.body (clause_read z σ values.types candidate (clause T.type_vars vs h T.body))
   clause_is (Candidate.Assumed i) T own room w y = assumed_read i z σ values.types T.type_vars m.branch.next_type vs h T.body own
   clause_is (Candidate.Program i) T own room w y = program_read i T own room w y

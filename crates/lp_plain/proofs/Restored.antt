@@ -10,7 +10,7 @@ use Rattle.lp_plain.specs.Scopes.{blocks_of, blocks_at}
 use Rattle.lp_plain.specs.Tables.{shown}
 use Rattle.lp_plain.proofs.Frames.{reads_on}
 
-reads_restored : (m n : Machine) (c : Choice) (rest : List Choice) (a : Around) (o : Option ℕ) (es : List Entry) → IsTaken m n c rest → AreEntries
+pub reads_restored : (m n : Machine) (c : Choice) (rest : List Choice) (a : Around) (o : Option ℕ) (es : List Entry) → IsTaken m n c rest → AreEntries
     m.bank (shown m.table) (blocks_at c.lengths.scopes m.scopes) a (take c.lengths.frames m.frames.items) o es → Reads n a o es
 reads_restored m n c rest a o es t r =
     let z : blocks_at c.lengths.scopes m.scopes ≡ blocks_of n.scopes = (λ i. record { blocks = sym t.blocks i; values = sym t.values i }) in

@@ -3,11 +3,10 @@ use Rattle.std.proofs.Common.{◌≡◌, ℕ, zero, suc, ◌+◌, List, [], ◌�
 use Rattle.lp_calculus.specs.Types.{Ty, Tys, var, param, con, arrow, no_types, types, instance, instances}
 use Rattle.lp_calculus.specs.Term.{Term, atom, constant}
 use Rattle.lp_calculus.specs.Fill.{Within, Binding, put, put_all}
-use Rattle.lp_calculus.specs.Instance.{instance_term}
-use Rattle.lp_model.specs.Branch.{Entry, put_entry, put_entries, type_entry, type_entries}
+use Rattle.lp_model.specs.Branch.{Entry, put_entries, type_entries}
 use Rattle.lp_model.specs.Flat.{Written, Goal, Atomic, Cut, Either, Exists, Forall, Assume, Not, Goals, no_goals, goals, Clause, clause, Clauses, no_clauses, clauses, map_written, map_goal, map_goals, map_clause, map_clauses, same_type, under_all}
 use Rattle.lp_model.specs.Pair.{Closing, closed, put_type_in, put_types_in}
-use Rattle.lp_model.specs.Types.{TypeBinding, one_type, put_type, put_types}
+use Rattle.lp_model.specs.Types.{TypeBinding, put_type, put_types}
 use Rattle.lp_model.specs.Unify.{State}
 use Rattle.lp_model.specs.declared.answer.Pair.{Pair as Numbers}
 use Rattle.lp_calculus.proofs.TypeLaws.{instance-instance}
@@ -15,24 +14,24 @@ use Rattle.lp_term.specs.Nodes.{Nodes}
 use Rattle.lp_pattern.specs.Putting.{Known}
 use Rattle.lp_pattern.specs.Unifying.{IsFound}
 use Rattle.lp_pattern.proofs.TypesSolved.{put_is}
-use Rattle.lp_plain.specs.Resuming.{goal_with, clause_with, entry_with, entries_under, AllTerms, AllOfGoal, AllOfGoals, AllOfClause, AllOfClauses, AllOfAssumed, AllOfEntries, AreKnownEntries}
+use Rattle.lp_plain.specs.Resuming.{clause_with, entry_with, entries_under, AllTerms, AllOfGoal, AllOfGoals, AllOfClause, AllOfClauses, AllOfAssumed, AllOfEntries, AreKnownEntries}
 use Rattle.lp_plain.proofs.Mapped.{assume_same, clause_same, clauses_same, either_same, goals_same, not_same}
 
 -- one change after another is one change
 
-list_fused : {A B C : Type 0} (f : B → C) (g : A → B) (h : A → C) → ((x : A) → f (g x) ≡ h x) → (xs : List A) → map f (map g xs) ≡ map h xs
+pub list_fused : {A B C : Type 0} (f : B → C) (g : A → B) (h : A → C) → ((x : A) → f (g x) ≡ h x) → (xs : List A) → map f (map g xs) ≡ map h xs
 list_fused f g h e [] = refl
 list_fused f g h e (x ∷ xs) = let p = e x in let q = list_fused f g h e xs in λ i. p i ∷ q i
 
 module _ (f g : Term → Term) (t u : Ty → Ty) where
-  written_fused : (w : Written) → map_written f t (map_written g u w) ≡ map_written (λ x. f (g x)) (λ T. t (u T)) w
+  pub written_fused : (w : Written) → map_written f t (map_written g u w) ≡ map_written (λ x. f (g x)) (λ T. t (u T)) w
   written_fused w =
       let p = list_fused f g (λ x. f (g x)) (λ x. refl) w.terms in
       let q = list_fused t u (λ T. t (u T)) (λ T. refl) w.types in
       λ i. record { terms = p i; types = q i }
 
   mutual
-    goal_fused : (d e k : ℕ) (x : Goal) → map_goal (λ n. n) (λ n y. f y) t d (map_goal (λ n. n) (λ n y. g y) u e x) ≡ map_goal (λ n. n) (λ n y. f (g y)) (λ T. t (u T)) k x
+    pub goal_fused : (d e k : ℕ) (x : Goal) → map_goal (λ n. n) (λ n y. f y) t d (map_goal (λ n. n) (λ n y. g y) u e x) ≡ map_goal (λ n. n) (λ n y. f (g y)) (λ T. t (u T)) k x
     goal_fused d e k (Atomic y) = refl
     goal_fused d e k Cut = refl
     goal_fused d e k (Either gs hs) = either_same (goals_fused d e k gs) (goals_fused d e k hs)
@@ -45,7 +44,7 @@ module _ (f g : Term → Term) (t u : Ty → Ty) where
     goals_fused d e k no_goals = refl
     goals_fused d e k (goals x xs) = goals_same (goal_fused d e k x) (goals_fused d e k xs)
 
-    clause_fused : (d e k : ℕ) (c : Clause) → map_clause (λ n. n) (λ n y. f y) t d (map_clause (λ n. n) (λ n y. g y) u e c) ≡ map_clause (λ n. n) (λ n y. f (g y)) (λ T. t (u T)) k c
+    pub clause_fused : (d e k : ℕ) (c : Clause) → map_clause (λ n. n) (λ n y. f y) t d (map_clause (λ n. n) (λ n y. g y) u e c) ≡ map_clause (λ n. n) (λ n y. f (g y)) (λ T. t (u T)) k c
     clause_fused d e k (clause j vs h b) =
         clause_same j (list_fused t u (λ T. t (u T)) (λ T. refl) vs) refl (goals_fused (under_all (λ n. n) (map u vs) d) (under_all (λ n. n) vs e) (under_all (λ n. n) vs k) b)
 
@@ -63,7 +62,7 @@ module _ (f g : Term → Term) (t u : Ty → Ty) where
 -- changes that agree on what is known
 
 module _ (P : ℕ → Term → Type 0) (f g : Term → Term) (t u : Ty → Ty) (agree : (d : ℕ) (x : Term) → P d x → f x ≡ g x) (agree_types : (T : Ty) → t T ≡ u T) where
-  terms_agree : (d : ℕ) (xs : List Term) → AllTerms P d xs → map f xs ≡ map g xs
+  pub terms_agree : (d : ℕ) (xs : List Term) → AllTerms P d xs → map f xs ≡ map g xs
   terms_agree d [] k = refl
   terms_agree d (x ∷ xs) k = let p = agree d x k.0 in let q = terms_agree d xs k.1 in λ i. p i ∷ q i
 
@@ -71,11 +70,11 @@ module _ (P : ℕ → Term → Type 0) (f g : Term → Term) (t u : Ty → Ty) (
   types_agree [] = refl
   types_agree (T ∷ Ts) = let p = agree_types T in let q = types_agree Ts in λ i. p i ∷ q i
 
-  written_agree : (d : ℕ) (w : Written) → AllTerms P d w.terms → map_written f t w ≡ map_written g u w
+  pub written_agree : (d : ℕ) (w : Written) → AllTerms P d w.terms → map_written f t w ≡ map_written g u w
   written_agree d w k = let p = terms_agree d w.terms k in let q = types_agree w.types in λ i. record { terms = p i; types = q i }
 
   mutual
-    goal_agree : (d e k : ℕ) (x : Goal) → AllOfGoal P d x → map_goal (λ m. m) (λ m y. f y) t e x ≡ map_goal (λ m. m) (λ m y. g y) u k x
+    pub goal_agree : (d e k : ℕ) (x : Goal) → AllOfGoal P d x → map_goal (λ m. m) (λ m y. f y) t e x ≡ map_goal (λ m. m) (λ m y. g y) u k x
     goal_agree d e k (Atomic y) w = ap Atomic (agree d y w)
     goal_agree d e k Cut w = refl
     goal_agree d e k (Either gs hs) w = either_same (goals_agree d e k gs w.0) (goals_agree d e k hs w.1)
@@ -96,7 +95,7 @@ module _ (P : ℕ → Term → Type 0) (f g : Term → Term) (t u : Ty → Ty) (
     clauses_agree d e k no_clauses w = refl
     clauses_agree d e k (clauses c cs) w = clauses_same (clause_agree d e k c w.0) (clauses_agree d e k cs w.1)
 
-  assumed_agree : (cs : List Clause) → AllOfAssumed P cs → map (clause_with f t) cs ≡ map (clause_with g u) cs
+  pub assumed_agree : (cs : List Clause) → AllOfAssumed P cs → map (clause_with f t) cs ≡ map (clause_with g u) cs
   assumed_agree [] w = refl
   assumed_agree (c ∷ cs) w = let p = clause_agree 0 zero zero c w.0 in let q = assumed_agree cs w.1 in λ i. p i ∷ q i
 

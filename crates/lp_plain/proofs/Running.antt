@@ -1,5 +1,5 @@
 -- A search that goes on from one branch to another, with the same alternatives or with one more, where nothing is bound.
-use Rattle.std.proofs.Common.{◌≡◌, ℕ, zero, suc, ◌+◌, ◌-◌, ◌<◌, ◌≤◌, List, [], ◌∷◌, ◌++◌, length, take, drop, refl, sym, ap, ◌∙◌, subst, arith, nat_eq, Option, None, Some}
+use Rattle.std.proofs.Common.{◌≡◌, ℕ, suc, ◌+◌, ◌-◌, ◌≤◌, List, [], ◌∷◌, ◌++◌, length, take, drop, refl, sym, ap, ◌∙◌, subst, arith, nat_eq, None}
 use Rattle.std.specs.Prelude.{All}
 use Rattle.std.specs.Map.{lookup}
 use Rattle.std.proofs.lemmas.List.{length-append, take_all}
@@ -8,7 +8,6 @@ use Rattle.lp_term.specs.Nodes.{Nodes}
 use Rattle.lp_model.specs.Branch.{Branch, Go, Task}
 use Rattle.lp_model.specs.Pair.{Closing}
 use Rattle.lp_model.specs.Skeleton.{State}
-use Rattle.lp_model.specs.declared.answer.Pair.{Pair as Numbers}
 use Rattle.lp_pattern.specs.Growing.{Grows, IsPairOf}
 use Rattle.lp_pattern.specs.Turning.{IsOpenReading}
 use Rattle.lp_pattern.specs.Under.{IsReading, TypeIs, ValueIs}
@@ -19,8 +18,8 @@ use Rattle.lp_plain.specs.declared.choice.Choice.{Choice}
 use Rattle.lp_plain.specs.declared.machine.Machine.{Machine}
 use Rattle.lp_plain.specs.Assuming.{ArePlaced, GrowsOn, IsLaterAround}
 use Rattle.lp_plain.specs.Entries.{Around, IsChoiceAt}
-use Rattle.lp_plain.specs.Moving.{AreAlternatives, AreBoundInTurn, AreThoseOf, BindsNone, HasAlternatives, IsAlternative, IsBranchUnder, IsCounted, IsPutWith, IsRunning, a_branch, mark_in}
-use Rattle.lp_plain.specs.Searching.{StandsFor, a_side}
+use Rattle.lp_plain.specs.Moving.{Query, AreAlternatives, AreBoundInTurn, AreThoseOf, BindsNone, IsAlternative, IsBranchUnder, IsCounted, IsPutWith, IsRunning, mark_in, of_side}
+use Rattle.lp_plain.specs.Searching.{a_side}
 use Rattle.lp_plain.specs.Stacks.{base_of}
 use Rattle.lp_plain.specs.Taking.{IsAbove, IsKept}
 use Rattle.lp_plain.specs.Within.{StandsIn}
@@ -42,15 +41,15 @@ reading_like b s t next z e y h = record {
 }
 
 -- what is bound at each of them is bound now
-pub in_turn_push : (m : Machine) (f : ℕ → ℕ) (l k : ℕ) (cs : List Choice) (rss tss : List (List Task)) (c : Choice) → AreAlternatives m f l k cs rss tss → AreBoundInTurn cs →
+pub in_turn_push : (qv : Query) (m : Machine) (f : ℕ → ℕ) (l k : ℕ) (cs : List Choice) (rss tss : List (List Task)) (c : Choice) → AreAlternatives qv m f l k cs rss tss → AreBoundInTurn cs →
     length m.bindings.terms.entries ≤ c.bindings.terms → length m.bindings.types.entries ≤ c.bindings.types → AreBoundInTurn (cs ++ c ∷ [])
-in_turn_push m f l k [] rss tss c h w p q = tt
-in_turn_push m f l k (d ∷ cs) [] tss c h w p q = absurd h
-in_turn_push m f l k (d ∷ cs) (rs ∷ rss) [] c h w p q = absurd h
-in_turn_push m f l k (d ∷ []) (rs ∷ rss) (ts ∷ tss) c h w p q = let i = h.0.bound_terms in let j = h.0.bound_types in (omega (arith, i, p), omega (arith, j, q), tt)
-in_turn_push m f l k (d ∷ e ∷ cs) (rs ∷ rss) (ts ∷ tss) c h w p q = (w.0, w.1, in_turn_push m f l (suc k) (e ∷ cs) rss tss c h.1 w.2 p q)
+in_turn_push qv m f l k [] rss tss c h w p q = tt
+in_turn_push qv m f l k (d ∷ cs) [] tss c h w p q = absurd h
+in_turn_push qv m f l k (d ∷ cs) (rs ∷ rss) [] c h w p q = absurd h
+in_turn_push qv m f l k (d ∷ []) (rs ∷ rss) (ts ∷ tss) c h w p q = let i = h.0.bound_terms in let j = h.0.bound_types in (omega (arith, i, p), omega (arith, j, q), tt)
+in_turn_push qv m f l k (d ∷ e ∷ cs) (rs ∷ rss) (ts ∷ tss) c h w p q = (w.0, w.1, in_turn_push qv m f l (suc k) (e ∷ cs) rss tss c h.1 w.2 p q)
 
-module _ (m n : Machine) (a d : Around) (raw : Branch) (s : State Task) (h : IsRunning m a raw s) (st : StandsIn n) (pl : ArePlaced n d) (g : GrowsOn m n)
+module _ (qv : Query) (m n : Machine) (a d : Around) (raw : Branch) (s : State Task) (h : IsRunning qv m a raw s) (st : StandsIn n) (pl : ArePlaced n d) (g : GrowsOn m n)
     (lt : IsLaterAround (length m.newest.items) (length m.standings.items) a d) (bn : BindsNone m n) where
   abbrev base : ℕ
   base = base_of m.denied
@@ -74,23 +73,24 @@ module _ (m n : Machine) (a d : Around) (raw : Branch) (s : State Task) (h : IsR
   left_on : All (IsPairOf (length n.bank.terms)) n.branch.pairs.items
   left_on = subst (λ q. All (IsPairOf (length n.bank.terms)) q.items) (sym bn.pairs) (pairs_more (length m.bank.terms) (length n.bank.terms) m.branch.pairs.items g.lists.bank.more_terms h.left)
 
-  under_on : (u : ℕ) (b e : Branch) → IsBranchUnder m.bank h.closing f base u m.branch.pairs.items b e → IsBranchUnder n.bank h.closing f base u n.branch.pairs.items b e
-  under_on u b e w =
-      subst (λ q. IsBranchUnder n.bank h.closing f base u q.items b e) (sym bn.pairs) (branch_on m.bank h.closing base u m.branch.pairs.items n.bank g.lists.bank h.left f b e w)
+  under_on : (lv : ℕ → ℕ) (u : ℕ) (b e : Branch) → IsBranchUnder qv lv m.bank h.closing f base u m.branch.pairs.items b e → IsBranchUnder qv lv n.bank h.closing f base u n.branch.pairs.items b e
+  under_on lv u b e w =
+      subst (λ q. IsBranchUnder qv lv n.bank h.closing f base u q.items b e) (sym bn.pairs) (branch_on qv lv m.bank h.closing base u m.branch.pairs.items n.bank g.lists.bank h.left f b e w)
 
-  pub running_still : n.choices.items ≡ m.choices.items → (b e : Branch) (t : State Task) → IsBranchUnder m.bank h.closing f base (length m.choices.items) m.branch.pairs.items b e →
-      m.branch.next ≤ n.branch.next → n.branch.next ≡ b.next → n.branch.next_type ≡ b.next_type → t.stack ≡ Go e ∷ h.rest → IsCounted n t → IsRunning n d b t
-  running_still ch b e t w l x y es ct = record {
+  pub running_still : n.choices.items ≡ m.choices.items → (lv : ℕ → ℕ) (b e : Branch) (t : State Task) → IsBranchUnder qv lv m.bank h.closing f base (length m.choices.items) m.branch.pairs.items b e →
+      m.branch.next ≤ n.branch.next → n.branch.next ≡ b.next → n.branch.next_type ≡ b.next_type → t.stack ≡ Go e ∷ h.rest → IsCounted n t → IsRunning qv n d b t
+  running_still ch lv b e t w l x y es ct = record {
+    levels = lv;
     at_work = e;
     rest = h.rest;
     stack = es;
     above = record {
       raws = h.above.raws;
       others = h.above.others;
-      done = still_done m n a d h.above.done.stands st g lt bound h.rest h.above ch;
+      done = still_done qv m n a d h.above.done.stands st g lt bound h.rest h.above ch;
       numbers = λ k. ap (λ x. x k) lt.mark ∙ h.above.numbers k;
-      are = still_all m n a d h.above.done.stands st g lt bound h.rest h.above ch;
-      in_turn = still_turn m n a d h.above.done.stands st g lt bound h.rest h.above ch;
+      are = still_all qv m n a d h.above.done.stands st g lt bound h.rest h.above ch;
+      in_turn = still_turn qv m n a d h.above.done.stands st g lt bound h.rest h.above ch;
       is = h.above.is;
     };
     placed = pl;
@@ -99,29 +99,29 @@ module _ (m n : Machine) (a d : Around) (raw : Branch) (s : State Task) (h : IsR
     closing = h.closing;
     reading = reading_on l;
     left = left_on;
-    under = subst (λ i. IsBranchUnder n.bank h.closing (mark_in i h.above.raws) i (length n.choices.items) n.branch.pairs.items b e) (sym (ap base_of g.denied))
-        (subst (λ i. IsBranchUnder n.bank h.closing f base (length i) n.branch.pairs.items b e) (sym ch) (under_on (length m.choices.items) b e w));
+    under = subst (λ i. IsBranchUnder qv lv n.bank h.closing (mark_in i h.above.raws) i (length n.choices.items) n.branch.pairs.items b e) (sym (ap base_of g.denied))
+        (subst (λ i. IsBranchUnder qv lv n.bank h.closing f base (length i) n.branch.pairs.items b e) (sym ch) (under_on lv (length m.choices.items) b e w));
     counted = ct;
   }
 
-  module _ (c : Choice) (ch : n.choices.items ≡ m.choices.items ++ c ∷ []) (b e x y : Branch) (k : IsKept n d c) (ab : IsAbove m c) (at : IsChoiceAt n d c x) (w : IsPutWith m c)
-      (one : IsBranchUnder m.bank h.closing f base (length m.choices.items) m.branch.pairs.items b e) (other : IsBranchUnder m.bank h.closing f base (length m.choices.items) m.branch.pairs.items x y)
+  module _ (lv : ℕ → ℕ) (c : Choice) (ch : n.choices.items ≡ m.choices.items ++ c ∷ []) (b e x y : Branch) (k : IsKept n d c) (ab : IsAbove m c) (at : IsChoiceAt n d c x) (w : IsPutWith m c)
+      (one : IsBranchUnder qv lv m.bank h.closing f base (length m.choices.items) m.branch.pairs.items b e) (other : IsBranchUnder qv lv m.bank h.closing f base (length m.choices.items) m.branch.pairs.items x y)
       (same : m.branch.next ≡ x.next) where
     abbrev more : List (List Task)
     more = h.above.raws ++ (Go x ∷ []) ∷ []
 
     agree : (i : ℕ) → base ≤ i → i ≤ length m.choices.items → mark_in base more i ≡ f i
     agree i p q =
-        let r = counts_same m f base base (drop base m.choices.items) h.above.raws h.above.others h.above.are in
+        let r = counts_same qv m f base base (drop base m.choices.items) h.above.raws h.above.others h.above.are in
         let z = r.0 in
         let v = drop_length base m.choices.items h.above.done.base in
         marks_more base h.above.raws (Go x ∷ []) i (omega (arith, p, q, z, v))
 
-    aside : IsBranchUnder n.bank h.closing (mark_in base more) base (length m.choices.items) c.pairs.items x y
+    aside : IsBranchUnder qv lv n.bank h.closing (mark_in base more) base (length m.choices.items) c.pairs.items x y
     aside =
-        subst (λ q. IsBranchUnder n.bank h.closing (mark_in base more) base (length m.choices.items) q x y) (sym w.pairs)
-        (branch_marked n.bank h.closing base (length m.choices.items) m.branch.pairs.items f (mark_in base more) agree x y
-        (branch_on m.bank h.closing base (length m.choices.items) m.branch.pairs.items n.bank g.lists.bank h.left f x y other))
+        subst (λ q. IsBranchUnder qv lv n.bank h.closing (mark_in base more) base (length m.choices.items) q x y) (sym w.pairs)
+        (branch_marked qv lv n.bank h.closing base (length m.choices.items) m.branch.pairs.items f (mark_in base more) agree x y
+        (branch_on qv lv m.bank h.closing base (length m.choices.items) m.branch.pairs.items n.bank g.lists.bank h.left f x y other))
 
     those : (t : Bindings) → AreThoseOf n c t → IsOpenReading n.bank t c.next h.closing
     those t q =
@@ -130,7 +130,7 @@ module _ (m n : Machine) (a d : Around) (raw : Branch) (s : State Task) (h : IsR
         subst (λ i. IsOpenReading n.bank t i h.closing) (same ∙ sym at.next) (reading_like n.bank m.bindings t m.branch.next h.closing et ey
         (open_kept m.bank n.bank m.bindings m.branch.next h.closing g.lists.bank h.reading))
 
-    alternative : IsAlternative n (mark_in base more) base (length m.choices.items) c (Go x ∷ []) (Go y ∷ [])
+    alternative : IsAlternative qv n (mark_in base more) base (length m.choices.items) c (Go x ∷ []) (Go y ∷ [])
     alternative =
         let et = ap (λ z. length z.terms.entries) bn.bindings in
         let ey = ap (λ z. length z.types.entries) bn.bindings in
@@ -142,27 +142,28 @@ module _ (m n : Machine) (a d : Around) (raw : Branch) (s : State Task) (h : IsR
           bound_terms = omega (arith, et, wt);
           bound_types = omega (arith, ey, wy);
           left = subst (All (IsPairOf (length n.bank.terms))) (sym w.pairs) (pairs_more (length m.bank.terms) (length n.bank.terms) m.branch.pairs.items g.lists.bank.more_terms h.left);
-          tasks = (a_branch x y refl refl aside, tt);
+          tasks = of_side lv x y refl refl aside;
         }
 
     in_turn : AreBoundInTurn (drop base m.choices.items ++ c ∷ [])
     in_turn =
         let wt = w.terms in
         let wy = w.types in
-        in_turn_push m f base base (drop base m.choices.items) h.above.raws h.above.others c h.above.are h.above.in_turn (omega (arith, wt)) (omega (arith, wy))
+        in_turn_push qv m f base base (drop base m.choices.items) h.above.raws h.above.others c h.above.are h.above.in_turn (omega (arith, wt)) (omega (arith, wy))
 
-    pub running_more : (t : State Task) → m.branch.next ≤ n.branch.next → n.branch.next ≡ b.next → n.branch.next_type ≡ b.next_type → t.stack ≡ Go e ∷ Go y ∷ h.rest → IsCounted n t → IsRunning n d b t
+    pub running_more : (t : State Task) → m.branch.next ≤ n.branch.next → n.branch.next ≡ b.next → n.branch.next_type ≡ b.next_type → t.stack ≡ Go e ∷ Go y ∷ h.rest → IsCounted n t → IsRunning qv n d b t
     running_more t l nx ny es ct = record {
+      levels = lv;
       at_work = e;
       rest = Go y ∷ h.rest;
       stack = es;
       above = record {
         raws = more;
         others = h.above.others ++ (Go y ∷ []) ∷ [];
-        done = more_done m n a d h.above.done.stands st g lt bound h.rest h.above c ch (Go x ∷ []) (Go y ∷ []) (λ i. a_side x k at refl) ab alternative;
+        done = more_done qv m n a d h.above.done.stands st g lt bound h.rest h.above c ch (Go x ∷ []) (Go y ∷ []) (a_side x k at refl) ab alternative;
         numbers = λ i. ap (λ x. x i) lt.mark ∙ h.above.numbers i;
-        are = more_all m n a d h.above.done.stands st g lt bound h.rest h.above c ch (Go x ∷ []) (Go y ∷ []) (λ i. a_side x k at refl) ab alternative;
-        in_turn = more_turn m n a d h.above.done.stands st g lt bound h.rest h.above c ch (Go x ∷ []) (Go y ∷ []) (λ i. a_side x k at refl) ab alternative in_turn;
+        are = more_all qv m n a d h.above.done.stands st g lt bound h.rest h.above c ch (Go x ∷ []) (Go y ∷ []) (a_side x k at refl) ab alternative;
+        in_turn = more_turn qv m n a d h.above.done.stands st g lt bound h.rest h.above c ch (Go x ∷ []) (Go y ∷ []) (a_side x k at refl) ab alternative in_turn;
         is = ap (λ l. Go y ∷ l) h.above.is ∙ sym (stack_push h.above.others (Go y ∷ []));
       };
       placed = pl;
@@ -171,9 +172,9 @@ module _ (m n : Machine) (a d : Around) (raw : Branch) (s : State Task) (h : IsR
       closing = h.closing;
       reading = reading_on l;
       left = left_on;
-      under = subst (λ i. IsBranchUnder n.bank h.closing (mark_in i more) i (length n.choices.items) n.branch.pairs.items b e) (sym (ap base_of g.denied))
-          (branch_wider n.bank h.closing base (length m.choices.items) n.branch.pairs.items (mark_in base more) (length n.choices.items) b e
+      under = subst (λ i. IsBranchUnder qv lv n.bank h.closing (mark_in i more) i (length n.choices.items) n.branch.pairs.items b e) (sym (ap base_of g.denied))
+          (branch_wider qv lv n.bank h.closing base (length m.choices.items) n.branch.pairs.items (mark_in base more) (length n.choices.items) b e
           (let z = ap length ch ∙ length-append m.choices.items (c ∷ []) in omega (arith, z))
-          (branch_marked n.bank h.closing base (length m.choices.items) n.branch.pairs.items f (mark_in base more) agree b e (under_on (length m.choices.items) b e one)));
+          (branch_marked qv lv n.bank h.closing base (length m.choices.items) n.branch.pairs.items f (mark_in base more) agree b e (under_on lv (length m.choices.items) b e one)));
       counted = ct;
     }

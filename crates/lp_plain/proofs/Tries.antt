@@ -15,7 +15,7 @@ use Rattle.lp_plain.specs.Assuming.{Lists, HasAssumed, links, lists_of}
 use Rattle.lp_plain.specs.Candidates.{AreLeft, IsChain, first_for, in_turn, nexts, numbers}
 use Rattle.lp_plain.specs.Newest.{IsNewest}
 use Rattle.lp_plain.specs.Restoring.{IsTaken}
-use Rattle.lp_plain.specs.Trying.{AreApplied, AreCandidates, AreOfProgram, AreTries, HasProgram, IsCallOf, IsTried, all_clauses, first_in, lists_at}
+use Rattle.lp_plain.specs.Trying.{AreApplied, AreCandidates, AreOfProgram, AreTries, HasProgram, IsCallOf, IsNext, IsTried, all_clauses, first_in, lists_at}
 use Rattle.lp_plain.proofs.Trying.{candidates_are, program_for}
 
 -- the program's clauses for a head are a chain
@@ -40,11 +40,6 @@ first_tries m call found f ar css before t p a c wp wb =
       found_left = f (links m.assumptions.items) u.newest u.numbers ks u.found u.chain (program_chain m css p call.head);
       clauses = candidates_are (lists_of m) ar call.head call.key t p.spans css before u.numbers p.clauses c.head c.arity wp wb c.key_is u.clauses;
     }
-
--- the one that is tried is the first of those that are left
-abbrev pub IsNext : Machine → Call → Candidate → Option Candidate → Type 0
-IsNext m call candidate found = (left : List Candidate) → AreLeft m.bank m.table.rules.items (links m.assumptions.items) (first_in m call.head) call.key (Some candidate) left →
-    (rest : List Candidate) × (left ≡ candidate ∷ rest) × AreLeft m.bank m.table.rules.items (links m.assumptions.items) (first_in m call.head) call.key found rest
 
 taken_first : (l : Lists) (first : Option ℕ) (key : Option Key) (candidate : Candidate) (found : Option Candidate) (rest : List Candidate)
     (cs : List Clause) → AreCandidates l (candidate ∷ rest) cs → AreLeft l.bank l.table.rules.items (links l.assumptions) first key found rest →

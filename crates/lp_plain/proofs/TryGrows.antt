@@ -88,7 +88,7 @@ told_pairs m n (Candidate.Assumed i) p h = ap (λ x. x.branch.pairs) h.4
 told_pairs m n (Candidate.Program i) p h = ap (λ x. x.branch.pairs) h.2.4
 
 -- what is bound
-bound_more : (m n : Machine) → IsBoundIn m n → IsMore m n
+pub bound_more : (m n : Machine) → IsBoundIn m n → IsMore m n
 bound_more m n h = record {
   bank = h.bank;
   bindings = h.bindings;

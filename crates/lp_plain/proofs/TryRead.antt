@@ -1,7 +1,7 @@
 -- A try leaves what the definition's leaves, as the bindings read it.
-use Rattle.std.proofs.Common.{◌≡◌, ℕ, zero, suc, ◌+◌, ◌<◌, ◌≤◌, List, [], ◌∷◌, ◌++◌, map, length, refl, sym, ap, ◌∙◌, subst, arith, Bool, true, false, nat_eq, nat_lt, if◌then◌else◌, Some}
+use Rattle.std.proofs.Common.{◌≡◌, ℕ, zero, suc, ◌+◌, ◌<◌, ◌≤◌, List, [], ◌∷◌, ◌++◌, map, length, refl, sym, ap, ◌∙◌, subst, arith, Bool, true, false, nat_eq, nat_lt, if◌then◌else◌, None, Some}
 use Rattle.std.proofs.lemmas.Bool.{lt-ltb, le-ltb}
-use Rattle.lp_calculus.specs.Types.{Ty, var, instance}
+use Rattle.lp_calculus.specs.Types.{Ty, instance}
 use Rattle.lp_calculus.specs.Term.{Term, Atom, index, atom, abs, app, constant, integer, text, eigen, logic, param}
 use Rattle.lp_calculus.specs.Fill.{Within}
 use Rattle.lp_calculus.specs.Instance.{instance_term}
@@ -22,13 +22,13 @@ use Rattle.lp_plain.specs.declared.instance.Values.{Values}
 use Rattle.lp_plain.specs.declared.machine.Machine.{Machine}
 use Rattle.lp_plain.specs.declared.unified.Unified.{Unified}
 use Rattle.lp_plain.specs.Entries.{in_scope}
-use Rattle.lp_plain.specs.Followed.{GoesOnAs, HasOwnTypes, IsBranchFor, IsTryOf, LeavesTasks, PutsGoals, TakesTypes, body_read, clause_read, levels_with, solved_try, tried_branch, tried_values}
+use Rattle.lp_plain.specs.Followed.{GoesOnAs, HasOwnTypes, HaveOwnTys, IsBranchFor, IsTryOf, LeavesTasks, PutsGoals, TakesTypes, body_read, clause_read, levels_with, solved_try, tried_branch, tried_values}
 use Rattle.lp_plain.specs.Renewal.{renewing}
-use Rattle.lp_plain.specs.Resuming.{AllOfClause, AllOfGoals, TysOfGoals}
+use Rattle.lp_plain.specs.Resuming.{AllOfClause, AllOfGoals}
 use Rattle.lp_plain.specs.Trials.{IsGoalOf, IsHeadFor, IsTrialOf, IsTriedAs, goal_of, read_in, tried_pairs}
 use Rattle.lp_plain.specs.Unifying.{IsUnifiedAs}
 use Rattle.lp_plain.specs.Within.{StandsIn}
-use Rattle.lp_plain.specs.Written.{IsTypeBelow, IsWritten, WrittenAtom}
+use Rattle.lp_plain.specs.Written.{IsWritten, WrittenAtom}
 use Rattle.lp_plain.proofs.GoalsUnder.{IsLooseAt, goals_lead}
 use Rattle.lp_plain.proofs.KnownGoals.{StandWithin, goals_off, goals_on, goals_put, goals_weaker, put_within}
 use Rattle.lp_plain.proofs.ReadClauses.{IsClauseRead, clause_is}
@@ -37,7 +37,7 @@ use Rattle.lp_plain.proofs.TrialParts.{AllAre, arguments_written, within_loose}
 
 -- levels with those of new variables
 
-known_more : (lv : ℕ → ℕ) (next level k : ℕ) (a : Atom) → Known lv next a → Known (levels_with lv next level) (next + k) a
+pub known_more : (lv : ℕ → ℕ) (next level k : ℕ) (a : Atom) → Known lv next a → Known (levels_with lv next level) (next + k) a
 known_more lv next level k (constant c ts) h = tt
 known_more lv next level k (integer z) h = tt
 known_more lv next level k (text s) h = tt
@@ -114,7 +114,7 @@ pairs_more lv next level n (p ∷ ps) h =
 
 module _ (m n : Machine) (call : Call) (candidate : Candidate) (mark : ℕ) (u : Unified) (tried : IsTriedAs m n call candidate u) (puts : u ≡ Unified.Fits → PutsGoals m n call candidate mark) (takes : TakesTypes m n candidate)
     (vs : List Ty) (h : Term) (values : Values) (σ : ℕ → Term) (T : IsTrialOf m candidate vs h values σ) (own : HasOwnTypes candidate T.type_vars T.types)
-    (w : AllOfGoals (IsWritten T.arity T.types) (length vs + length T.outer) T.body) (y : TysOfGoals (IsTypeBelow T.types) T.body) (st : StandsIn m) (G : IsGoalOf m call)
+    (w : AllOfGoals (IsWritten T.arity T.types) (length vs + length T.outer) T.body) (y : HaveOwnTys candidate T.types T.body) (st : StandsIn m) (G : IsGoalOf m call)
     (z : Closing) (levels : ℕ → ℕ) (b : Branch) (R : IsBranchFor m z levels b) (headed : IsHeadFor z (under_all lifted vs σ) (renewing values.types) (head_of h))
     (known_goal : Within (Known levels m.branch.next) 0 (closed z (goal_of m call)))
     (known_clause : AllOfClause (λ d t. Within (Known levels m.branch.next) d t) 0 (clause_read z σ values.types candidate (clause T.type_vars vs h T.body))) (e : Entry) (at_level : e.level ≡ call.place.level) (mark' : ℕ) where
@@ -234,6 +234,9 @@ module _ (m n : Machine) (call : Call) (candidate : Candidate) (mark : ℕ) (u :
 
 pub tries_read : (m n : Machine) (call : Call) (candidate : Candidate) (mark : ℕ) (u : Unified) → IsTriedAs m n call candidate u → (u ≡ Unified.Fits → PutsGoals m n call candidate mark) → TakesTypes m n candidate →
     IsTryOf m n call candidate mark u
-tries_read m n call candidate mark u tried puts takes vs h values σ T own w y st G z levels b R headed kg kc e l k i o q =
+tries_read m n call candidate mark u tried puts takes vs h values σ T own w y st G z levels b R headed kg kc e l k i None q =
+    try_is m n call candidate mark u tried puts takes vs h values σ T own w y st G z levels b R headed kg kc e l k i ∙
+    ap (follow (here m n call candidate mark u tried puts takes vs h values σ T own w y st G z levels b R headed kg kc e l k)) q
+tries_read m n call candidate mark u tried puts takes vs h values σ T own w y st G z levels b R headed kg kc e l k i (Some o) q =
     by_outcome m n call candidate mark u tried puts takes vs h values σ T own w y st G z levels b R headed kg kc e l k u refl i o
     (unified m n call candidate mark u tried puts takes vs h values σ T own w y st G z levels b R headed kg kc e l k i o q) q

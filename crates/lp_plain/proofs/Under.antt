@@ -1,15 +1,15 @@
 -- Entries as the bindings read them: bounds on marks, goals of one place in front of others, and banks that grow.
-use Rattle.std.proofs.Common.{◌≡◌, ℕ, zero, suc, ◌+◌, ◌<◌, ◌≤◌, List, [], ◌∷◌, ◌++◌, map, length, refl, sym, ap, ◌∙◌, subst, arith}
+use Rattle.std.proofs.Common.{◌≡◌, ℕ, ◌+◌, ◌≤◌, List, [], ◌∷◌, ◌++◌, map, length, refl, sym, ◌∙◌, arith}
 use Rattle.std.specs.Prelude.{All}
 use Rattle.lp_calculus.specs.Types.{instance}
 use Rattle.lp_term.specs.Nodes.{Nodes, Extends}
-use Rattle.lp_model.specs.Branch.{Branch, Entry, Task, entries}
+use Rattle.lp_model.specs.Branch.{Branch, Entry, entries}
 use Rattle.lp_model.specs.Flat.{Clause, Goal, Atomic, Cut, Either, Exists, Forall, Assume, Not, Written, map_written}
 use Rattle.lp_model.specs.Pair.{Closing, closed}
 use Rattle.lp_model.specs.declared.answer.Pair.{Pair as Numbers}
 use Rattle.lp_pattern.specs.Growing.{IsPairOf}
 use Rattle.lp_pattern.proofs.PairsThrough.{pairs_stay}
-use Rattle.lp_plain.specs.Moving.{IsGoalUnder, IsPlaceUnder, IsEntryUnder, AreEntriesUnder, IsBranchUnder, IsTaskUnder, a_branch, a_try, AreTasksUnder}
+use Rattle.lp_plain.specs.Moving.{Query, IsGoalUnder, AreEntriesUnder, IsBranchUnder}
 use Rattle.lp_plain.specs.Resuming.{clause_with, goal_with}
 
 -- a greater bound
@@ -36,7 +36,7 @@ entries_marked z f g l u a (e ∷ es) (d ∷ ds) h =
 
 -- a goal as it is read
 pub goal_read : (z : Closing) (g : Goal) → IsGoalUnder z g (goal_with (closed z) (instance z.types) g)
-goal_read z (Atomic t) = (closed z t, (0, refl), refl)
+goal_read z (Atomic t) = (closed z t, (0, omega arith, refl), refl)
 goal_read z Cut = refl
 goal_read z (Either gs hs) = refl
 goal_read z (Exists T gs) = refl
@@ -55,35 +55,15 @@ entries_front z f l u k level (g ∷ gs) A B v w es ds i j p q h = (
 )
 
 -- branches and tasks
-module _ (k : Nodes) (z : Closing) (l u : ℕ) (left : List Numbers) where
-  pub branch_wider : (f : ℕ → ℕ) (w : ℕ) (b d : Branch) → u ≤ w → IsBranchUnder k z f l u left b d → IsBranchUnder k z f l w left b d
-  branch_wider f w b d i h = record { goals = entries_wider z f l u w b.goals d.goals i h.goals; next = h.next; next_type = h.next_type; types = h.types; values = h.values; pairs = h.pairs }
+module _ (qv : Query) (lv : ℕ → ℕ) (k : Nodes) (z : Closing) (l u : ℕ) (left : List Numbers) where
+  pub branch_wider : (f : ℕ → ℕ) (w : ℕ) (b d : Branch) → u ≤ w → IsBranchUnder qv lv k z f l u left b d → IsBranchUnder qv lv k z f l w left b d
+  branch_wider f w b d i h = record { goals = entries_wider z f l u w b.goals d.goals i h.goals; next = h.next; next_type = h.next_type; types = h.types; values = h.values; pairs = h.pairs; known = h.known }
 
   module _ (f g : ℕ → ℕ) (agree : (i : ℕ) → l ≤ i → i ≤ u → g i ≡ f i) where
-    pub branch_marked : (b d : Branch) → IsBranchUnder k z f l u left b d → IsBranchUnder k z g l u left b d
-    branch_marked b d h = record { goals = entries_marked z f g l u agree b.goals d.goals h.goals; next = h.next; next_type = h.next_type; types = h.types; values = h.values; pairs = h.pairs }
-
-    task_marked : (r t : Task) → IsTaskUnder k z f l u left r t → IsTaskUnder k z g l u left r t
-    task_marked r t (a_branch b d e x h) = a_branch b d e x (branch_marked b d h)
-    task_marked r t (a_try c y e w b d m p q i h) = a_try c y e w b d m p q i (branch_marked b d h)
-
-    pub tasks_marked : (rs ts : List Task) → AreTasksUnder k z f l u left rs ts → AreTasksUnder k z g l u left rs ts
-    tasks_marked [] [] h = tt
-    tasks_marked [] (t ∷ ts) h = absurd h
-    tasks_marked (r ∷ rs) [] h = absurd h
-    tasks_marked (r ∷ rs) (t ∷ ts) h = (task_marked r t h.0, tasks_marked rs ts h.1)
+    pub branch_marked : (b d : Branch) → IsBranchUnder qv lv k z f l u left b d → IsBranchUnder qv lv k z g l u left b d
+    branch_marked b d h = record { goals = entries_marked z f g l u agree b.goals d.goals h.goals; next = h.next; next_type = h.next_type; types = h.types; values = h.values; pairs = h.pairs; known = h.known }
 
   -- in a bank that has grown
   module _ (n : Nodes) (x : Extends k n) (w : All (IsPairOf (length k.terms)) left) (f : ℕ → ℕ) where
-    pub branch_on : (b d : Branch) → IsBranchUnder k z f l u left b d → IsBranchUnder n z f l u left b d
-    branch_on b d h = record { goals = h.goals; next = h.next; next_type = h.next_type; types = h.types; values = h.values; pairs = pairs_stay k n z left d.pairs x w h.pairs }
-
-    task_on : (r t : Task) → IsTaskUnder k z f l u left r t → IsTaskUnder n z f l u left r t
-    task_on r t (a_branch b d e y h) = a_branch b d e y (branch_on b d h)
-    task_on r t (a_try c y e v b d m p q i h) = a_try c y e v b d m p q i (branch_on b d h)
-
-    pub tasks_on : (rs ts : List Task) → AreTasksUnder k z f l u left rs ts → AreTasksUnder n z f l u left rs ts
-    tasks_on [] [] h = tt
-    tasks_on [] (t ∷ ts) h = absurd h
-    tasks_on (r ∷ rs) [] h = absurd h
-    tasks_on (r ∷ rs) (t ∷ ts) h = (task_on r t h.0, tasks_on rs ts h.1)
+    pub branch_on : (b d : Branch) → IsBranchUnder qv lv k z f l u left b d → IsBranchUnder qv lv n z f l u left b d
+    branch_on b d h = record { goals = h.goals; next = h.next; next_type = h.next_type; types = h.types; values = h.values; pairs = pairs_stay k n z left d.pairs x w h.pairs; known = h.known }

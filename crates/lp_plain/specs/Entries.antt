@@ -1,5 +1,5 @@
 -- How the goals of a branch read: the entries of the definition for which its frames stand.
-use Rattle.std.specs.Prelude.{◌≡◌, ℕ, List, [], ◌∷◌, ◌++◌, length, take, Option, None, Some, slice_get}
+use Rattle.std.specs.Prelude.{◌≡◌, ℕ, ◌≤◌, List, [], ◌∷◌, ◌++◌, length, take, Option, None, Some, slice_get}
 use Rattle.lp_calculus.specs.Convert.{head_step, steps}
 use Rattle.lp_calculus.specs.Term.{Term}
 use Rattle.lp_term.specs.Nodes.{Nodes, Extends, tree}
@@ -46,11 +46,11 @@ HasValues b s o σ = (vs : List TermId) × Holds s.values s.blocks o vs × AreAt
 abbrev pub IsAt : Nodes → Blocks → Place → (ℕ → Term) → Type 0
 IsAt b s p σ = HasValues b s p.values.scope σ
 
--- head reduction leads from the one term to the other, and on from there
+-- at most one step of head reduction leads from the one term to the other
 abbrev pub HeadsTo : Term → Term → Type 0
-HeadsTo t u = (k : ℕ) × (steps head_step k t ≡ Some u)
+HeadsTo t u = (k : ℕ) × (k ≤ 1) × (steps head_step k t ≡ Some u)
 
--- the goals of a frame. A goal that is known at run time stands for one that its head reduction comes to
+-- the goals of a frame. A goal that is known at run time stands for itself, or for what a step of head reduction makes of it
 abbrev pub AreTodo : Nodes → Shown → Blocks → Place → Todo → List Goal → Type 0
 AreTodo b t s p (Todo.Goals span) gs = (hs : Goals) × (σ : ℕ → Term) × AreGoals b Never t span.from span.to hs × IsAt b s p σ × (gs ≡ goal_list (in_scope σ p.values.types hs))
 AreTodo b t s p (Todo.Term u) gs = (v : Term) × HeadsTo (tree b u.0) v × (gs ≡ Atomic v ∷ [])

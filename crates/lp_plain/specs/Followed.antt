@@ -1,15 +1,15 @@
 -- What a try leaves, beside the definition's: the tasks of its `Try`, of clauses, goals and branches as the bindings read them.
-use Rattle.std.specs.Prelude.{◌≡◌, ℕ, zero, ◌+◌, ◌<◌, ◌≤◌, nat_lt, if◌then◌else◌, List, [], ◌∷◌, ◌++◌, length, Option, Some}
+use Rattle.std.specs.Prelude.{◌≡◌, ℕ, zero, ◌+◌, ◌<◌, ◌≤◌, nat_lt, if◌then◌else◌, List, [], ◌∷◌, ◌++◌, length, Option, None, Some, slice_get}
 use Rattle.lp_calculus.specs.Types.{Ty, var, instance}
 use Rattle.lp_calculus.specs.Term.{Term}
 use Rattle.lp_calculus.specs.Fill.{Within}
-use Rattle.lp_calculus.specs.Instance.{instance_term}
 use Rattle.lp_calculus.specs.Spine.{arguments, head_of}
+use Rattle.lp_term.specs.Nodes.{tree}
 use Rattle.lp_term.specs.declared.node.TermId.{TermId}
-use Rattle.lp_model.specs.Branch.{Entry, Branch, Task, Go, Stop, entries, resume}
+use Rattle.lp_model.specs.Branch.{Entry, Branch, Task, Go, Lack, Stop, entries, resume}
 use Rattle.lp_model.specs.Flat.{Written, Goals, Clause, clause, goal_list, instantiate_goals, map_goals, type_goals, under_all}
 use Rattle.lp_model.specs.Index.{lifted, instantiate}
-use Rattle.lp_model.specs.Pair.{Pair, Closing, closed}
+use Rattle.lp_model.specs.Pair.{Closing, closed}
 use Rattle.lp_model.specs.Rule.{type_pairs}
 use Rattle.lp_model.specs.Search.{slots_of, slotted, try_clause}
 use Rattle.lp_model.specs.Types.{put_types}
@@ -30,10 +30,13 @@ use Rattle.lp_plain.specs.Instances.{values_of}
 use Rattle.lp_plain.specs.Renewal.{Fits, renewing}
 use Rattle.lp_plain.specs.Resuming.{AllOfClause, AllOfGoals, TysOfGoals, clause_with}
 use Rattle.lp_plain.specs.Scopes.{Holds}
+use Rattle.lp_plain.specs.Tables.{shown}
 use Rattle.lp_plain.specs.Trials.{IsGoalOf, IsHeadFor, IsTrialOf, goal_of, read_in, tried_pairs}
 use Rattle.lp_plain.specs.Unifying.{StandPairs}
 use Rattle.lp_plain.specs.Within.{StandsIn}
 use Rattle.lp_plain.specs.Written.{IsTypeBelow, IsWritten}
+use Rattle.lp_plain.specs.WrittenSearch.{IsWrittenSearch}
+use Rattle.lp_plain.specs.WrittenTable.{IsWrittenCandidate, WrittenRule}
 
 -- a candidate's clause as the definition tries it: an assumed one with the terms around it, as the bindings read it
 abbrev pub clause_read : Closing → (ℕ → Term) → Renewal → Candidate → Clause → Clause
@@ -44,6 +47,16 @@ clause_read z σ r (Candidate.Program i) c = c
 abbrev pub HasOwnTypes : Candidate → (type_vars types : ℕ) → Type 0
 HasOwnTypes (Candidate.Assumed i) k n = k ≡ 0
 HasOwnTypes (Candidate.Program i) k n = n ≡ k
+
+-- a program's clause binds these type variables alone
+abbrev pub HaveOwnTys : Candidate → ℕ → Goals → Type 0
+HaveOwnTys (Candidate.Assumed i) n gs = Unit {0}
+HaveOwnTys (Candidate.Program i) n gs = TysOfGoals (IsTypeBelow n) gs
+
+-- the clause for which a candidate stands, as the bindings read it
+abbrev pub clause_by : Closing → Candidate → Clause → Clause
+clause_by z (Candidate.Assumed i) c = clause_with (closed z) (instance z.types) c
+clause_by z (Candidate.Program i) c = c
 
 -- the numbers of a program clause's new type variables are numbers of 64 bits
 abbrev pub HaveRoom : Candidate → Renewal → Type 0
@@ -58,11 +71,12 @@ LeadTo z n τ ρ σ = (i : ℕ) → i < n → instantiate σ (closed z (τ i)) �
 abbrev pub tried_values : (next level : ℕ) → (head goal : Term) → ℕ → Term
 tried_values next level h t = slotted (slots_of [] (arguments h) (arguments t)) next level
 
--- a candidate's clause and the scope of its variables in a try: their values are read as the definition's
+-- a candidate's clause and the scope of its variables in a try: their values are read as the definition's, and those behind them are those around the clause
 abbrev pub IsScopeFor : (old new : Machine) → Call → Candidate → (rule : ℕ) → Values → Type 0
 IsScopeFor m n call candidate rule inner =
     (vs : List Ty) (h : Term) (values : Values) (σ : ℕ → Term) (T : IsTrialOf m candidate vs h values σ) → StandsIn m → IsGoalOf m call →
-    (rule ≡ T.rule) × (inner.types ≡ values.types) × (ws : List TermId) × Holds n.scopes.values.items n.scopes.blocks.items inner.scope ws ×
+    (rule ≡ T.rule) × (inner.types ≡ values.types) × (ws : List TermId) × Holds n.scopes.values.items n.scopes.blocks.items inner.scope ws × (length ws ≡ length vs + length T.outer) ×
+    ((i : ℕ) (v : TermId) → slice_get ws (length vs + i) ≡ Some v → tree n.bank v.0 ≡ σ i) ×
     ((z : Closing) → IsOpenReading m.bank m.bindings m.branch.next z → IsHeadFor z (under_all lifted vs σ) (renewing values.types) (head_of h) →
     LeadTo z (length vs + length T.outer) (under_all lifted vs σ) (values_of n.bank ws)
     (tried_values m.branch.next call.place.level (read_in z (under_all lifted vs σ) (renewing values.types) h) (closed z (goal_of m call))))
@@ -136,19 +150,47 @@ LeavesTasks Unified.Fits m n call k i z lv next j body b o ts = (s : State) × (
 LeavesTasks Unified.Fails m n call k i z lv next j body b o ts = ts ≡ []
 LeavesTasks Unified.Deep m n call k i z lv next j body b o ts = i ≤ 1000000 → ts ≡ Stop Deep ∷ []
 
+-- so where the definition's look has not enough steps
+abbrev pub LeavesFor : Unified → (old new : Machine) → Call → (mark : ℕ) → (steps : ℕ) → Closing → (levels : ℕ → ℕ) → (next type_vars : ℕ) → (body : Goals) → Branch → Option Outcome → List Task → Type 0
+LeavesFor u m n call k i z lv next j body b None ts = ts ≡ Lack ∷ []
+LeavesFor u m n call k i z lv next j body b (Some o) ts = LeavesTasks u m n call k i z lv next j body b o ts
+
 -- a candidate is tried as the definition's `Try` of its clause: for the goal as it was looked at, at the call's level, in front of any goals, all as the bindings read
--- it. The definition's unification has enough steps
+-- it
 abbrev pub IsTryOf : (old new : Machine) → Call → Candidate → (mark : ℕ) → Unified → Type 0
 IsTryOf m n call candidate mark u =
     (vs : List Ty) (h : Term) (values : Values) (σ : ℕ → Term) (T : IsTrialOf m candidate vs h values σ) → HasOwnTypes candidate T.type_vars T.types →
-    AllOfGoals (IsWritten T.arity T.types) (length vs + length T.outer) T.body → TysOfGoals (IsTypeBelow T.types) T.body → StandsIn m → IsGoalOf m call →
+    AllOfGoals (IsWritten T.arity T.types) (length vs + length T.outer) T.body → HaveOwnTys candidate T.types T.body → StandsIn m → IsGoalOf m call →
     (z : Closing) (levels : ℕ → ℕ) (b : Branch) → IsBranchFor m z levels b → IsHeadFor z (under_all lifted vs σ) (renewing values.types) (head_of h) →
     Within (Known levels m.branch.next) 0 (closed z (goal_of m call)) →
     AllOfClause (λ d t. Within (Known levels m.branch.next) d t) 0 (clause_read z σ values.types candidate (clause T.type_vars vs h T.body)) →
-    (e : Entry) → e.level ≡ call.place.level → (k i : ℕ) (o : Outcome) →
+    (e : Entry) → e.level ≡ call.place.level → (k i : ℕ) (o : Option Outcome) →
     let t : Term = closed z (goal_of m call) in let g : Term = read_in z (under_all lifted vs σ) (renewing values.types) h in
     let body : Goals = body_read z (under_all lifted vs σ) (renewing values.types) T.body in
-    solved_try i call.place.level (length vs) g t b ≡ Some o →
-    LeavesTasks u m n call mark i z (levels_with levels m.branch.next call.place.level) (m.branch.next + length vs) T.type_vars (instantiate_goals (tried_values m.branch.next call.place.level g t) body)
+    solved_try i call.place.level (length vs) g t b ≡ o →
+    LeavesFor u m n call mark i z (levels_with levels m.branch.next call.place.level) (m.branch.next + length vs) T.type_vars (instantiate_goals (tried_values m.branch.next call.place.level g t) body)
     (tried_branch call.place.level T.type_vars (length vs) g t body e.assumed e.written k b) o
     (try_clause 1000000 i (clause_read z σ values.types candidate (clause T.type_vars vs h T.body)) t e b k)
+
+-- what is put and assumed stays written by a try
+abbrev pub WritesOn : (old new : Machine) → Call → Candidate → Type 0
+WritesOn m n call candidate =
+    (ar : ℕ → ℕ) (vs : List Ty) (h : Term) (values : Values) (σ : ℕ → Term) → IsTrialOf m candidate vs h values σ → StandsIn m → IsGoalOf m call → IsWrittenCandidate m ar candidate → IsWrittenSearch m ar → IsWrittenSearch n ar
+
+-- a clause of the program is written, and binds its own type variables alone
+abbrev pub IsClauseWritten : Machine → (ar : ℕ → ℕ) → Candidate → Clause → Type 0
+IsClauseWritten m ar (Candidate.Assumed i) c = Unit {0}
+IsClauseWritten m ar (Candidate.Program i) (clause n vs h body) = WrittenRule m.bank (shown m.table) ar n [] i × TysOfGoals (IsTypeBelow n) body
+
+-- the trial for which a candidate stands: it has what a try asks of it, and its clause is the candidate's
+pub record IsTrialFor (m : Machine) (candidate : Candidate) (c : Clause) : Type 0 where
+  pub vars : List Ty
+  pub head : Term
+  pub values : Values
+  pub around : ℕ → Term
+  pub trial : IsTrialOf m candidate vars head values around
+  pub own : HasOwnTypes candidate trial.type_vars trial.types
+  pub terms : AllOfGoals (IsWritten trial.arity trial.types) (length vars + length trial.outer) trial.body
+  pub tys : HaveOwnTys candidate trial.types trial.body
+  pub headed : (z : Closing) → IsHeadFor z (under_all lifted vars around) (renewing values.types) (head_of head)
+  pub is : (z : Closing) → clause_read z around values.types candidate (clause trial.type_vars vars head trial.body) ≡ clause_by z candidate c

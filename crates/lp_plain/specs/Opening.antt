@@ -1,5 +1,5 @@
 -- A quantified goal that is opened: a new variable or eigenconstant, and the place inside its scope.
-use Rattle.std.specs.Prelude.{◌≡◌, ℕ, zero, suc, ◌+◌, ◌<◌, length}
+use Rattle.std.specs.Prelude.{◌≡◌, ℕ, zero, suc, ◌+◌, ◌<◌, List, ◌∷◌, length}
 use Rattle.lp_calculus.specs.Term.{Term, atom, eigen, logic}
 use Rattle.lp_term.specs.Nodes.{tree}
 use Rattle.lp_term.specs.Spine.{LooseBelow}
@@ -8,7 +8,7 @@ use Rattle.lp_plain.specs.declared.frame.Place.{Place}
 use Rattle.lp_plain.specs.declared.machine.Machine.{Machine}
 use Rattle.lp_plain.specs.Assuming.{KeepsAssumed}
 use Rattle.lp_plain.specs.Entries.{GrowsGoals, IsAt}
-use Rattle.lp_plain.specs.Scopes.{blocks_of}
+use Rattle.lp_plain.specs.Scopes.{Holds, blocks_of}
 use Rattle.lp_plain.specs.Within.{StandsIn}
 
 -- one more value for an index, the innermost one
@@ -60,6 +60,7 @@ pub record IsBoundBy (old new : Machine) (place inner : Place) (value : TermId) 
   pub choices : new.choices.items ≡ old.choices.items
   pub branch : new.branch ≡ old.branch
   pub opened : (σ : ℕ → Term) → IsAt old.bank (blocks_of old.scopes) place σ → IsAt new.bank (blocks_of new.scopes) inner (cons (tree old.bank value.0) σ)
+  pub holds : (vs : List TermId) → Holds old.scopes.values.items old.scopes.blocks.items place.values.scope vs → Holds new.scopes.values.items new.scopes.blocks.items inner.values.scope (value ∷ vs)
   pub stands : value.0 < length old.bank.terms → LooseBelow 0 0 (tree old.bank value.0) → StandsIn old → StandsIn new
   pub types : inner.values.types ≡ place.values.types
   pub assumed : inner.assumed ≡ place.assumed

@@ -106,6 +106,11 @@ pub record IsTried (l : Lists) (first : Option ℕ) (key : Option Key) (candidat
   pub is : IsCandidate l candidate tried
   pub others : AreTries l first key found rest
 
+-- the one that is tried is the first of those that are left, and these are left behind it
+abbrev pub IsNext : Machine → Call → Candidate → (found : Option Candidate) → Type 0
+IsNext m call candidate found = (left : List Candidate) → AreLeft m.bank m.table.rules.items (links m.assumptions.items) (first_in m call.head) call.key (Some candidate) left →
+    (rest : List Candidate) × (left ≡ candidate ∷ rest) × AreLeft m.bank m.table.rules.items (links m.assumptions.items) (first_in m call.head) call.key found rest
+
 -- the lists as they were when an alternative was put
 abbrev pub lists_at : Choice → Machine → Lists
 lists_at c m = record {

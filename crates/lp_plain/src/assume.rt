@@ -13,6 +13,7 @@ ghost use Rattle.lp_plain.specs.Moving.{BindsNone};
 ghost use Rattle.lp_plain.specs.Scopes.{blocks_of};
 ghost use Rattle.lp_plain.specs.Tables.{AreClausesOf, IsNumbered, IsRule, Never, shown};
 ghost use Rattle.lp_plain.specs.Within.{StandsIn};
+ghost use Rattle.lp_plain.specs.WrittenSearch.{PushesRule, WritesAssumed, WritesRules};
 
 use crate::act::Act;
 use crate::frame::{Assumption, Place};
@@ -64,6 +65,7 @@ fn assume_one(
     head: Head,
 ) -> Result<usize, Memory>
     ensures counts { machine.new.counts ≡ machine.old.counts }
+    ensures pushed { OnOk result (PushesRule machine.old machine.new rule place.values) }
     ensures one { IfOk result (λ root. IsOneMore machine.old machine.new rule place.values tree head root) }
 {
     let older = newest_of(&machine.newest, tree, head)?;
@@ -80,6 +82,7 @@ fn assume_one(
 // Assumes clauses, the first of them to be tried first. The tree of the newest assumptions then.
 fn assume(machine: &mut Machine, rules: Span, place: Place) -> Result<Option<usize>, Memory>
     ensures counts { machine.new.counts ≡ machine.old.counts }
+    ensures written { OnOk result (WritesRules machine.old machine.new place rules.from rules.to) }
     ensures more { OnOk result (AssumesMore machine.old machine.new) }
     ensures tree { IfOk result (λ tree. IsTreeOf machine.old machine.new rules.from rules.to place.assumed tree) }
     ensures assumed { IfOk result (λ tree. (cs : Clauses) (before : List Clause) (σ : ℕ → Term) → StandsIn machine.old → HasAssumed (lists_of machine.old) place.assumed before → AreClausesOf machine.old.bank machine.old.table rules cs →
@@ -99,6 +102,7 @@ fn assume(machine: &mut Machine, rules: Span, place: Place) -> Result<Option<usi
 // So, and this is noted.
 fn assume_noted(machine: &mut Machine, rules: Span, place: Place) -> Result<Option<usize>, Memory>
     ensures counts { machine.new.counts ≡ machine.old.counts }
+    ensures written { OnOk result (WritesRules machine.old machine.new place rules.from rules.to) }
     ensures more { OnOk result (AssumesMore machine.old machine.new) }
     ensures tree { IfOk result (λ tree. IsTreeOf machine.old machine.new rules.from rules.to place.assumed tree) }
     ensures assumed { IfOk result (λ tree. (cs : Clauses) (before : List Clause) (σ : ℕ → Term) → StandsIn machine.old → HasAssumed (lists_of machine.old) place.assumed before → AreClausesOf machine.old.bank machine.old.table rules cs →
@@ -136,6 +140,7 @@ pub(crate) fn put_assume(
     behind: Option<usize>,
 ) -> Result<(), Memory>
     ensures counts { machine.new.counts ≡ machine.old.counts }
+    ensures written { OnOk result (WritesAssumed machine.old machine.new place rules goals) }
     ensures none { OnOk result (BindsNone machine.old machine.new) }
     ensures stands { OnOk result (StandsIn machine.old → StandsIn machine.new) }
     ensures grown { OnOk result (GrowsOn machine.old machine.new) }

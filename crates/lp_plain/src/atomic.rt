@@ -1,13 +1,17 @@
 // Atomic goals: a step each.
-ghost use Rattle.std.specs.Prelude.{◌≡◌, ℕ, List, IfOk};
+ghost use Rattle.std.specs.Prelude.{◌≡◌, ℕ, List, length, IfOk, OnOk};
 ghost use Rattle.lp_model.specs.Branch.{Branch, Task};
 ghost use Rattle.lp_model.specs.Skeleton.{State};
 ghost use Rattle.lp_plain.specs.declared.outcome.Turn.{Turn};
 ghost use Rattle.lp_plain.specs.declared.table.Flat.{Flat};
 ghost use Rattle.lp_plain.specs.Cuts.{CutsOff};
-ghost use Rattle.lp_plain.specs.Entries.{Around};
-ghost use Rattle.lp_plain.specs.Moving.{IsAtGoal, IsRunning, MovesTo};
+ghost use Rattle.lp_plain.specs.Assuming.{KeepsAssumed};
+ghost use Rattle.lp_plain.specs.Entries.{Around, KeepsGoals};
+ghost use Rattle.lp_plain.specs.Moving.{HasFreeTypes, IsAtGoal, IsAtTry, IsRunning, IsTrying, LeadsTo, MovesTo, Query};
 ghost use Rattle.lp_plain.specs.Stacks.{CutsTasks, HaveTasks, IsMarkOf};
+ghost use Rattle.lp_plain.specs.Within.{StandsIn};
+ghost use Rattle.lp_plain.specs.WrittenSearch.{IsWrittenSearch};
+ghost use Rattle.lp_plain.specs.WrittenTable.{StandsWritten};
 
 use crate::arithmetic::{Outcome, Value, evaluate, holds, term_of};
 use crate::attempt::attempt;
@@ -94,16 +98,34 @@ fn compare(
     }
 }
 
+// Keeps the candidates behind one of them as an alternative.
+fn put_others(machine: &mut Machine, call: &Call, candidate: Candidate) -> Result<(), Memory>
+    ensures goals { OnOk result (KeepsGoals machine.old machine.new) }
+    ensures assumed { OnOk result (KeepsAssumed machine.old machine.new) }
+    ensures branch { OnOk result (machine.new.branch ≡ machine.old.branch) }
+    ensures frames { OnOk result (machine.new.frames ≡ machine.old.frames) }
+    ensures written { OnOk result ((ar : ℕ → ℕ) → StandsIn machine.old → IsWrittenSearch machine.old ar → IsWrittenSearch machine.new ar) }
+    ensures at_try { OnOk result ((qv : Query) (a : Around) (s : State Task) → IsTrying qv machine.old a call.now candidate s → IsAtTry qv machine.new a call.now candidate (length machine.old.choices.items) s) }
+{
+    let found = machine.candidate_after(call, candidate)?;
+    let Some(next) = found else {
+        return Ok(());
+    };
+    machine.put_choice(Untried::Clauses(*call, next))?;
+    Ok(())
+}
+
 /// Tries a candidate for a goal; those behind it are an alternative.
 pub(crate) fn try_candidate(
     machine: &mut Machine,
     call: &Call,
     candidate: Candidate,
-) -> Result<Turn, Memory> {
+) -> Result<Turn, Memory>
+    ensures written { OnOk result ((qv : Query) (a : Around) (s : State Task) → IsTrying qv machine.old a call.now candidate s → IsWrittenSearch machine.old qv.arity → IsWrittenSearch machine.new qv.arity) }
+    ensures leads { IfOk result (λ turn. (qv : Query) (a : Around) (s : State Task) → IsTrying qv machine.old a call.now candidate s → StandsWritten machine.old qv.arity → HasFreeTypes machine.new → LeadsTo 1 qv turn machine.new s) }
+{
     let mark = machine.choices.len();
-    if let Some(next) = machine.candidate_after(call, candidate)? {
-        machine.put_choice(Untried::Clauses(*call, next))?;
-    }
+    put_others(machine, call, candidate)?;
     let unified = attempt(machine, call, candidate, mark)?;
     Ok(turn_of(unified))
 }
@@ -174,7 +196,8 @@ pub(crate) fn take_cut<W: Watch>(
     behind: Option<usize>,
 ) -> Result<Turn, Memory>
     ensures cuts { IfOk result (λ turn. CutsOff turn machine.old machine.new place.mark behind) }
-    ensures moved { IfOk result (λ turn. (a : Around) (raw : Branch) (s : State Task) → IsRunning machine.old a raw s → IsAtGoal machine.old a place Flat.Cut behind raw → MovesTo turn machine.new s) }
+    ensures moved { IfOk result (λ turn. (qv : Query) (a : Around) (raw : Branch) (s : State Task) → IsRunning qv machine.old a raw s → IsAtGoal machine.old a place Flat.Cut behind raw → MovesTo qv turn machine.new s) }
+    ensures written { OnOk result ((ar : ℕ → ℕ) → StandsIn machine.old → IsWrittenSearch machine.old ar → IsWrittenSearch machine.new ar) }
     ensures tasks { IfOk result (λ turn. turn ≡ Turn.On → (tss : List (List Task)) (keep : ℕ) → HaveTasks machine.old tss → IsMarkOf machine.old tss place.mark keep → CutsTasks machine.old machine.new place.mark keep tss) }
 {
     if !take_step(machine) {

@@ -12,7 +12,7 @@ ghost use Rattle.lp_model.specs.Branch.{Entry};
 ghost use Rattle.lp_model.specs.Flat.{Goal};
 ghost use Rattle.lp_plain.specs.Assuming.{HasFrameAt, KeepsAssumed};
 ghost use Rattle.lp_plain.specs.Entries.{Around, IsListAt, KeepsGoals, Reads, placed};
-ghost use Rattle.lp_plain.specs.Followed.{IsScopeFor, IsTryOf, TakesTypes};
+ghost use Rattle.lp_plain.specs.Followed.{IsScopeFor, IsTryOf, TakesTypes, WritesOn};
 ghost use Rattle.lp_plain.specs.Heads.{pair_in};
 ghost use Rattle.lp_plain.specs.Instances.{AreValues, IsNoParameter};
 ghost use Rattle.lp_plain.specs.Marks.{Marks, PutsMarks};
@@ -26,6 +26,7 @@ ghost use Rattle.lp_plain.specs.Trials.{GrowsByTry, IsGoalOf, IsTriedAs};
 ghost use Rattle.lp_plain.specs.Unifying.{IsBoundIn, IsMore, StandPairs};
 ghost use Rattle.lp_plain.specs.Within.{StandsIn};
 ghost use Rattle.lp_plain.specs.Written.{IsWritten};
+ghost use Rattle.lp_plain.specs.WrittenTable.{PutsList};
 
 use crate::act::{Act, Try};
 use crate::candidates::Candidate;
@@ -295,6 +296,7 @@ fn put_body(
     ensures assumed { OnOk result (KeepsAssumed machine.old machine.new) }
     ensures frame { OnOk result (HasFrameAt machine.old machine.new place) }
     ensures marks { OnOk result (PutsMarks machine.old machine.new place behind machine.new.branch.goals) }
+    ensures puts { OnOk result ((r : Rule) → slice_get machine.old.table.rules.items rule ≡ Some r → PutsList machine.old machine.new r.body place behind) }
     ensures stands { OnOk result (StandsIn machine.old → StandsIn machine.new) }
     ensures choices { OnOk result (machine.new.choices.items ≡ machine.old.choices.items) }
     ensures denied { OnOk result (machine.new.denied ≡ machine.old.denied) }
@@ -358,6 +360,7 @@ pub(crate) fn attempt(
     ensures grows { OnOk result (GrowsByTry machine.old machine.new call.now) }
     ensures marks { IfOk result (λ u. u ≡ Unified.Fits → (least most : ℕ) → Marks least most machine.old call.now.behind → least ≤ mark → mark ≤ most → Marks least most machine.new machine.new.branch.goals) }
     ensures tried { IfOk result (IsTriedAs machine.old machine.new call.now candidate) }
+    ensures written { OnOk result (WritesOn machine.old machine.new call.now candidate) }
     ensures leaves { IfOk result (IsTryOf machine.old machine.new call.now candidate mark) }
 {
     let tried = try_head(machine, call, candidate)?;

@@ -1,9 +1,9 @@
 // What a search works on: one bank and one list of bindings for all branches. An alternative holds what leads back to
 // its branch.
-ghost use Rattle.std.specs.Prelude.{◌≡◌, ℕ, ◌∷◌, ◌++◌, [], List, OnOk, IfOk, IfSome, length, nat_lt, take, slice_get, Option, None, Some};
+ghost use Rattle.std.specs.Prelude.{◌≡◌, ℕ, ◌∷◌, ◌++◌, [], List, OnOk, IfOk, IfSome, length, ◌≤◌, nat_lt, take, slice_get, Option, None, Some};
 ghost use Rattle.lp_calculus.specs.Term.{Term};
 ghost use Rattle.lp_plain.specs.declared.choice.Choice.{Choice};
-ghost use Rattle.lp_model.specs.Branch.{Entry};
+ghost use Rattle.lp_model.specs.Branch.{Entry, Task};
 ghost use Rattle.lp_model.specs.Flat.{Clause, Clauses, Goal};
 ghost use Rattle.lp_model.specs.Search.{candidates};
 ghost use Rattle.lp_plain.specs.Assuming.{HasAssumed, HasFrameAt, KeepsAssumed, lists_of};
@@ -11,13 +11,19 @@ ghost use Rattle.lp_plain.specs.Cuts.{cut_off};
 ghost use Rattle.lp_plain.specs.Entries.{Around, AreTodo, IsListAt, HasAlternative, KeepsGoals, Reads, placed};
 ghost use Rattle.lp_plain.specs.Keeping.{HasOneMore, IsAround, KeepsCourse};
 ghost use Rattle.lp_plain.specs.Marks.{PutsMarks};
-ghost use Rattle.lp_plain.specs.Moving.{BindsNone};
+ghost use Rattle.lp_plain.specs.Moving.{BindsNone, IsBack, IsTrying, Query};
+ghost use Rattle.lp_plain.specs.Stacks.{base_of};
+ghost use Rattle.lp_plain.specs.declared.candidates.Candidate.{Candidate as Tried};
+ghost use Rattle.lp_plain.specs.declared.choice.Call.{Call as Called};
+ghost use Rattle.lp_plain.specs.declared.choice.Untried.{Untried as Left};
+ghost use Rattle.lp_model.specs.Skeleton.{State};
 ghost use Rattle.lp_plain.specs.Opening.{IsNewVariable};
 ghost use Rattle.lp_plain.specs.Restoring.{IsRestored, IsTaken};
 ghost use Rattle.lp_plain.specs.Scopes.{block_count, blocks_of, value_count};
 ghost use Rattle.lp_plain.specs.Tables.{shown};
-ghost use Rattle.lp_plain.specs.Trying.{AreApplied, AreOfProgram, AreTries, HasProgram, IsCallOf, IsTried, all_clauses, first_in};
+ghost use Rattle.lp_plain.specs.Trying.{AreApplied, AreOfProgram, AreTries, HasProgram, IsCallOf, IsNext, IsTried, all_clauses, first_in};
 ghost use Rattle.lp_plain.specs.Within.{IsTodoIn, StandsIn};
+ghost use Rattle.lp_plain.specs.WrittenTable.{PutsList};
 
 use crate::act::Act;
 use crate::candidates::{Candidate, Index, candidate_after, first_candidate};
@@ -88,6 +94,7 @@ impl Machine {
         ensures frame { OnOk result (HasFrameAt self.old self.new place) }
         ensures marks { IfOk result (λ o. PutsMarks self.old self.new place behind o) }
         ensures stands { OnOk result (StandsIn self.old → StandsIn self.new) }
+        ensures puts { OnOk result (PutsList self.old self.new list place behind) }
         ensures reads { IfOk result (λ o. (a : Around) (gs : List Goal) (es : List Entry) → IsListAt self.old place list gs → Reads self.old a behind es → Reads self.new a o (placed a place gs ++ es)) }
     {
         let span = self.table.list(list)?;
@@ -110,6 +117,7 @@ impl Machine {
         ensures frame { OnOk result (HasFrameAt self.old self.new place) }
         ensures marks { IfOk result (λ o. PutsMarks self.old self.new place behind o) }
         ensures stands { OnOk result (IsTodoIn (length self.old.bank.terms) todo → StandsIn self.old → StandsIn self.new) }
+        ensures pushed { OnOk result (self.new.frames.items ≡ self.old.frames.items ++ record { todo = todo; place = place; behind = behind } ∷ []) }
         ensures reads { IfOk result (λ o. (a : Around) (gs : List Goal) (es : List Entry) → AreTodo self.old.bank (shown self.old.table) (blocks_of self.old.scopes) place todo gs → Reads self.old a behind es → Reads self.new a o (placed a place gs ++ es)) }
     {
         let number = self.frames.len();
@@ -173,6 +181,7 @@ impl Machine {
         call: &Call,
         candidate: Candidate,
     ) -> Result<Option<Candidate>, Memory>
+        ensures next { IfOk result (IsNext self.now call.now candidate) }
         ensures tries { IfOk result (λ found. (cs : List Clause) → AreTries (lists_of self.now) (first_in self.now call.now.head) call.now.key (Some candidate) cs → IsTried (lists_of self.now) (first_in self.now call.now.head) call.now.key candidate found cs) }
     {
         let found = candidate_after(
@@ -259,6 +268,7 @@ impl Machine {
     /// Takes the newest alternative: goes back to its branch, and gives what was left to try.
     pub(crate) fn take_choice(&mut self) -> Result<Option<Untried>, Memory>
         ensures taken { IfOk result (λ o. (c : Choice) (rest : List Choice) → self.old.choices.items ≡ rest ++ c ∷ [] → (o ≡ Some c.untried) × IsTaken self.old self.new c rest) }
+        ensures trying { OnOk result ((qv : Query) (c : Choice) (rest : List Choice) (call : Called) (one : Tried) → self.old.choices.items ≡ rest ++ c ∷ [] → c.untried ≡ Left.Clauses call one → base_of self.old.denied ≤ length rest → (s : State Task) (h : IsBack qv self.old s) → IsTrying qv self.new h.around call one s) }
         ensures none { IfOk result (λ o. self.old.choices.items ≡ [] → o ≡ None) }
         ensures lost { OnOk result (self.new.counts.lost ≡ self.old.counts.lost) }
     {

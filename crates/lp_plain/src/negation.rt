@@ -11,6 +11,7 @@ ghost use Rattle.lp_plain.specs.Entries.{Around as Reading, GrowsGoals, IsBehind
 ghost use Rattle.lp_plain.specs.Keeping.{HasOneMore};
 ghost use Rattle.lp_plain.specs.Negations.{denial, AreFound, IsDenied, Takes};
 ghost use Rattle.lp_plain.specs.Within.{StandsIn};
+ghost use Rattle.lp_plain.specs.WrittenSearch.{WritesList};
 
 use crate::choice::{Denial, Untried};
 use crate::frame::Place;
@@ -34,6 +35,7 @@ fn begin(
     ensures lost { OnOk result (machine.new.counts.lost ≡ false) }
     ensures steps { OnOk result (machine.new.counts.steps ≡ machine.old.counts.steps) }
     ensures pairs { OnOk result (machine.new.branch.pairs.items ≡ []) }
+    ensures written { OnOk result (WritesList machine.old machine.new place [] goals) }
     ensures inner { OnOk result ((a : Reading) (hs : Goals) (σ : ℕ → Term) (b : Branch) (w : Written) → IsOf machine.old place goals hs σ → machine.old.branch.next ≡ b.next → machine.old.branch.next_type ≡ b.next_type → a.mark (length machine.new.choices.items) ≡ 0 →
         let gs : Goals = in_scope σ place.values.types hs in IsDenied machine.new a (look_not (entry_at a place (Denied w gs)) b gs (Some false))) }
 {
@@ -59,6 +61,9 @@ fn openness_at(machine: &mut Machine, free: usize, place: Place) -> Result<Openn
     ensures choices { machine.new.choices ≡ machine.old.choices }
     ensures denied { machine.new.denied ≡ machine.old.denied }
     ensures branch { machine.new.branch ≡ machine.old.branch }
+    ensures frames { machine.new.frames ≡ machine.old.frames }
+    ensures assumptions { machine.new.assumptions ≡ machine.old.assumptions }
+    ensures newest { machine.new.newest ≡ machine.old.newest }
     ensures grows { OnOk result (GrowsGoals machine.old machine.new) }
     ensures stands { OnOk result (StandsIn machine.old → StandsIn machine.new) }
     ensures found { IfOk result (AreFound machine.old (record { free = free; values = place.values; older = place.standing })) }
@@ -88,6 +93,7 @@ pub(crate) fn take_not<W: Watch>(
     behind: Option<usize>,
 ) -> Result<Turn, Memory>
     ensures takes { IfOk result (λ turn. Takes turn (record { free = free; values = place.values; older = place.standing }) machine.old machine.new behind) }
+    ensures written { IfOk result (λ turn. turn ≡ Turn.On → WritesList machine.old machine.new place [] goals) }
     ensures inner { IfOk result (λ turn. turn ≡ Turn.On → (a : Reading) (hs : Goals) (σ : ℕ → Term) (b : Branch) (w : Written) → StandsIn machine.old → IsOf machine.old place goals hs σ → IsBehind machine.old a behind b → a.mark (length machine.new.choices.items) ≡ 0 →
         let gs : Goals = in_scope σ place.values.types hs in IsDenied machine.new a (look_not (entry_at a place (Denied w gs)) b gs (Some false))) }
 {
@@ -108,6 +114,7 @@ pub(crate) fn take_not<W: Watch>(
 /// The branch at work has no goals: an answer of the search, or of that of a negated goal, which fails by it.
 pub(crate) fn end_branch(machine: &mut Machine) -> Turn
     ensures answered { machine.old.denied ≡ None → result ≡ Turn.Answered }
+    ensures same { machine.old.denied ≡ None → machine.new ≡ machine.old }
     ensures pairs { (number : ℕ) → machine.old.denied ≡ Some number → machine.old.branch.pairs.items ≢ [] → result ≡ Turn.Ended Ending.OpenNot }
     ensures fails { (number : ℕ) → machine.old.denied ≡ Some number → machine.old.branch.pairs.items ≡ [] → (result ≡ Turn.Back) × (machine.new.choices.items ≡ take number machine.old.choices.items) }
     ensures steps { machine.new.counts.steps ≡ machine.old.counts.steps }

@@ -5,6 +5,7 @@ ghost use Rattle.lp_plain.specs.Assuming.{KeepsAssumed};
 ghost use Rattle.lp_plain.specs.Cuts.{one_step};
 ghost use Rattle.lp_plain.specs.Entries.{KeepsGoals};
 ghost use Rattle.lp_plain.specs.Keeping.{KeepsKnown};
+ghost use Rattle.lp_plain.specs.Moving.{turn_for};
 
 use crate::machine::Machine;
 use crate::unified::Unified;
@@ -22,7 +23,9 @@ pub(crate) enum Turn {
 }
 
 /// How the search goes on after a unification.
-pub(crate) fn turn_of(unified: Unified) -> Turn {
+pub(crate) fn turn_of(unified: Unified) -> Turn
+    ensures { result ≡ turn_for unified }
+{
     match unified {
         Unified::Fits => Turn::On,
         Unified::Fails => Turn::Back,

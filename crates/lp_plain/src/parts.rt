@@ -1,5 +1,5 @@
 // Goals that are taken apart.
-ghost use Rattle.std.specs.Prelude.{◌≡◌, ℕ, ◌<◌, List, [], ◌∷◌, ◌++◌, length, IfOk, OnOk};
+ghost use Rattle.std.specs.Prelude.{◌≡◌, ℕ, true, false, ◌<◌, List, [], ◌∷◌, ◌++◌, length, IfOk, OnOk};
 ghost use Rattle.lp_calculus.specs.Term.{Term, app};
 ghost use Rattle.lp_calculus.specs.Types.{Ty};
 ghost use Rattle.lp_standard.specs.Connectives.{body_of};
@@ -26,6 +26,7 @@ ghost use Rattle.lp_plain.specs.Opening.{IsBoundBy, IsNewVariable, IsRaised};
 ghost use Rattle.lp_plain.specs.Tables.{AreClausesOf, IsNumbered, shown};
 ghost use Rattle.lp_plain.specs.Taking.{IsApartFlat, IsApartForm, KeepsNew, TakesApart, TakesKnown};
 ghost use Rattle.lp_plain.specs.Within.{StandsIn};
+ghost use Rattle.lp_plain.specs.WrittenSearch.{IsShut, IsShutIn, WritesBoth, WritesFlat, WritesList, WritesWhere};
 
 use crate::act::Act;
 use crate::assume::put_assume;
@@ -82,6 +83,7 @@ fn put_either(
     ensures aside_with { OnOk result (PutsWith machine.old machine.new) }
     ensures grown { OnOk result (GrowsAt machine.old machine.new place) }
     ensures stands { OnOk result (StandsIn machine.old → StandsIn machine.new) }
+    ensures written { OnOk result (WritesBoth machine.old machine.new place left right) }
     ensures kept { OnOk result ((a : Around) → StandsIn machine.old → ArePlaced machine.old a → IsPlaceAt (lists_of machine.old) a place → KeepsNew machine.old machine.new a) }
     ensures marks { OnOk result (PutsMarks machine.old machine.new place behind machine.new.branch.goals) }
     ensures aside { OnOk result (PutsAside machine.old machine.new place behind) }
@@ -118,6 +120,7 @@ fn put_some(
     ensures none { OnOk result (BindsNone machine.old machine.new) }
     ensures grown { OnOk result (GrowsAt machine.old machine.new place) }
     ensures stands { OnOk result (StandsIn machine.old → StandsIn machine.new) }
+    ensures written { OnOk result (WritesList machine.old machine.new place (false ∷ []) goals) }
     ensures choices { OnOk result (machine.new.choices.items ≡ machine.old.choices.items) }
     ensures marks { OnOk result (PutsMarks machine.old machine.new place behind machine.new.branch.goals) }
     ensures parts { OnOk result ((a : Around) (hs : Goals) (σ : ℕ → Term) (b : Branch) → StandsIn machine.old → IsOf machine.old place goals hs σ → IsBehind machine.old a behind b → (u n height : ℕ) (P : List Clause) (T : Ty) →
@@ -140,6 +143,7 @@ fn put_all(
     ensures none { OnOk result (BindsNone machine.old machine.new) }
     ensures grown { OnOk result (GrowsAt machine.old machine.new place) }
     ensures stands { OnOk result (StandsIn machine.old → StandsIn machine.new) }
+    ensures written { OnOk result (WritesList machine.old machine.new place (true ∷ []) goals) }
     ensures choices { OnOk result (machine.new.choices.items ≡ machine.old.choices.items) }
     ensures marks { OnOk result (PutsMarks machine.old machine.new place behind machine.new.branch.goals) }
     ensures parts { OnOk result ((a : Around) (hs : Goals) (σ : ℕ → Term) (b : Branch) → StandsIn machine.old → IsOf machine.old place goals hs σ → IsBehind machine.old a behind b → (u n height : ℕ) (P : List Clause) (T : Ty) →
@@ -167,6 +171,7 @@ pub(crate) fn put_parts(
     ensures all { IfOk result (λ turn. turn ≡ Turn.On → (l : ℕ) → goal ≡ Flat.All l → (a : Around) (hs : Goals) (σ : ℕ → Term) (b : Branch) → StandsIn machine.old → IsOf machine.old place l hs σ → IsBehind machine.old a behind b →
         (u n height : ℕ) (P : List Clause) (T : Ty) → let g : Goal = Forall T (in_scope (lifted σ) place.values.types hs) in ArePartsOf machine.old machine.new a (look_goal u n P height (entry_at a place g) b g)) }
     ensures taken { IfOk result (λ turn. turn ≡ Turn.On → TakesApart machine.old machine.new place goal behind) }
+    ensures written { IfOk result (λ turn. turn ≡ Turn.On → IsApartFlat goal → WritesFlat machine.old machine.new place goal) }
     ensures none { IfOk result (λ turn. turn ≡ Turn.On → IsApartFlat goal → BindsNone machine.old machine.new) }
     ensures aside_with { IfOk result (λ turn. turn ≡ Turn.On → IsApartFlat goal → PutsWith machine.old machine.new) }
     ensures marks { IfOk result (λ turn. turn ≡ Turn.On → IsApartFlat goal → PutsMarks machine.old machine.new place behind machine.new.branch.goals) }
@@ -211,6 +216,7 @@ fn put_and(
 ) -> Result<(), Memory>
     ensures counts { machine.new.counts ≡ machine.old.counts }
     ensures grown { OnOk result (GrowsAt machine.old machine.new place) }
+    ensures written { OnOk result (WritesWhere machine.old machine.new (IsShut machine.old.bank left × IsShut machine.old.bank right)) }
     ensures choices { OnOk result (machine.new.choices.items ≡ machine.old.choices.items) }
     ensures stands { OnOk result (left.0 < length machine.old.bank.terms → right.0 < length machine.old.bank.terms → StandsIn machine.old → StandsIn machine.new) }
     ensures parts { OnOk result ((a : Around) (b : Branch) → IsBehind machine.old a behind b → (u n height : ℕ) (P : List Clause) (t : Term) (g : Goal) →
@@ -231,6 +237,7 @@ fn put_or(
 ) -> Result<(), Memory>
     ensures counts { machine.new.counts ≡ machine.old.counts }
     ensures grown { OnOk result (GrowsAt machine.old machine.new place) }
+    ensures written { OnOk result (WritesWhere machine.old machine.new (IsShut machine.old.bank left × IsShut machine.old.bank right)) }
     ensures stands { OnOk result (left.0 < length machine.old.bank.terms → right.0 < length machine.old.bank.terms → StandsIn machine.old → StandsIn machine.new) }
     ensures kept { OnOk result ((a : Around) → StandsIn machine.old → ArePlaced machine.old a → IsPlaceAt (lists_of machine.old) a place → KeepsNew machine.old machine.new a) }
     ensures parts { OnOk result ((a : Around) (b : Branch) → IsBehind machine.old a behind b → (u n height : ℕ) (P : List Clause) (t : Term) (g : Goal) →
@@ -271,6 +278,7 @@ fn put_goal_of(
 ) -> Result<(), Memory>
     ensures counts { machine.new.counts ≡ machine.old.counts }
     ensures grown { OnOk result (GrowsAt machine.old machine.new place) }
+    ensures written { OnOk result (WritesWhere machine.old machine.new (IsShut machine.old.bank term × IsShut machine.old.bank value)) }
     ensures choices { OnOk result (machine.new.choices.items ≡ machine.old.choices.items) }
     ensures stands { OnOk result (StandsIn machine.old → StandsIn machine.new) }
     ensures front { OnOk result ((a : Around) (es : List Entry) (v : Term) → StandsIn machine.old → HeadsTo (app (tree machine.old.bank term.0) (tree machine.old.bank value.0)) v → Reads machine.old a behind es →
@@ -291,6 +299,7 @@ fn put_for_all(
 ) -> Result<(), Memory>
     ensures counts { machine.new.counts ≡ machine.old.counts }
     ensures grown { OnOk result (GrowsAt machine.old machine.new place) }
+    ensures written { OnOk result (WritesWhere machine.old machine.new (IsShut machine.old.bank term)) }
     ensures choices { OnOk result (machine.new.choices.items ≡ machine.old.choices.items) }
     ensures stands { OnOk result (StandsIn machine.old → StandsIn machine.new) }
     ensures parts { OnOk result ((a : Around) (b : Branch) → StandsIn machine.old → term.0 < length machine.old.bank.terms → IsBehind machine.old a behind b → (u n height : ℕ) (P : List Clause) (t : Term) (g : Goal) (T : Ty) →
@@ -310,6 +319,7 @@ fn put_exists(
 ) -> Result<(), Memory>
     ensures counts { machine.new.counts ≡ machine.old.counts }
     ensures grown { OnOk result (GrowsAt machine.old machine.new place) }
+    ensures written { OnOk result (WritesWhere machine.old machine.new (IsShut machine.old.bank term)) }
     ensures choices { OnOk result (machine.new.choices.items ≡ machine.old.choices.items) }
     ensures stands { OnOk result (StandsIn machine.old → StandsIn machine.new) }
     ensures parts { OnOk result ((a : Around) (b : Branch) → StandsIn machine.old → term.0 < length machine.old.bank.terms → IsBehind machine.old a behind b → (u n height : ℕ) (P : List Clause) (t : Term) (g : Goal) (T : Ty) →
@@ -343,6 +353,7 @@ pub(crate) fn put_connective(
     behind: Option<usize>,
 ) -> Result<Turn, Memory>
     ensures counted { IfOk result (λ turn. IsApart turn machine.old.counts machine.new.counts) }
+    ensures written { IfOk result (λ turn. turn ≡ Turn.On → IsApartForm connective → WritesWhere machine.old machine.new (IsShutIn machine.old.bank connective)) }
     ensures taken { IfOk result (λ turn. turn ≡ Turn.On → IsApartForm connective → TakesKnown machine.old machine.new place connective behind) }
     ensures and { IfOk result (λ turn. turn ≡ Turn.On → (l r : TermId) → connective ≡ known.And l r → (a : Around) (b : Branch) → IsBehind machine.old a behind b → (u n height : ℕ) (P : List Clause) (t : Term) (g : Goal) →
         ArePartsOf machine.old machine.new a (look_form u n P height (entry_at a place g) b t (connective_in machine.old.bank connective))) }

@@ -16,10 +16,14 @@ ghost use Rattle.lp_plain.specs.Entries.{Around};
 ghost use Rattle.lp_plain.specs.Scopes.{IsScope, block_count, value_count};
 ghost use Rattle.lp_plain.specs.Searching.{IsStateOf};
 ghost use Rattle.lp_plain.specs.Marks.{IsMarked};
-ghost use Rattle.lp_plain.specs.Moving.{IsState};
+ghost use Rattle.lp_plain.specs.Moving.{HasNoVariable, IsState};
+ghost use Rattle.lp_plain.specs.Resuming.{AllOfGoals};
 ghost use Rattle.lp_plain.specs.Starts.{AreFlat, AreFormulasIn, AreProgramOf, IsAlone, IsOutermost, IsOutside};
 ghost use Rattle.lp_plain.specs.Tables.{IsListOf};
 ghost use Rattle.lp_plain.specs.Within.{IsTableIn, StandsIn};
+ghost use Rattle.lp_plain.specs.WrittenGoals.{GoalsWritten};
+ghost use Rattle.lp_plain.specs.WrittenSearch.{IsWrittenSearch};
+ghost use Rattle.lp_plain.specs.WrittenTable.{own_and};
 
 use crate::candidates::{Index, index_of};
 use crate::frame::Place;
@@ -186,8 +190,10 @@ pub(crate) fn begin(
         IsAlone s.machine a (start query.type_vars (length query.vars.items) flat limit answers).stack) }
     ensures state { IfOk result (λ s. query.formula.0 < length program.bank.terms → (n : ℕ) (d : ℕ → Option Scheme) (flat : Goals) → flatten_query n d (tree program.bank query.formula.0) ≡ Some flat → (a : Around) → IsOutermost a → (answers : ℕ) →
         IsStateOf s.machine a (start query.type_vars (length query.vars.items) flat limit answers)) }
-    ensures begun { IfOk result (λ s. query.formula.0 < length program.bank.terms → (n : ℕ) (d : ℕ → Option Scheme) (flat : Goals) → flatten_query n d (tree program.bank query.formula.0) ≡ Some flat → (answers : ℕ) →
-        IsState s.machine (start query.type_vars (length query.vars.items) flat limit answers)) }
+    ensures begun { IfOk result (λ s. query.formula.0 < length program.bank.terms → (n : ℕ) (d : ℕ → Option Scheme) (flat : Goals) → flatten_query n d (tree program.bank query.formula.0) ≡ Some flat → AllOfGoals HasNoVariable (length query.vars.items) flat → (arity : ℕ → ℕ) (answers : ℕ) →
+        IsState (record { types = query.type_vars; vars = length query.vars.items; arity = arity }) s.machine (start query.type_vars (length query.vars.items) flat limit answers)) }
+    ensures written { IfOk result (λ s. query.formula.0 < length program.bank.terms → (n : ℕ) (d : ℕ → Option Scheme) (flat : Goals) → flatten_query n d (tree program.bank query.formula.0) ≡ Some flat → (ar : ℕ → ℕ) (k : ℕ) →
+        GoalsWritten ar k (own_and (length query.vars.items) []) flat → IsWrittenSearch s.machine ar) }
     ensures marked { IfOk result (λ s. IsMarked s.machine) }
     ensures placed { IfOk result (λ s. (a : Around) → IsOutermost a → ArePlaced s.machine a) }
 {

@@ -1,21 +1,26 @@
 // The next goal of the branch at work, and the way back to an alternative.
-ghost use Rattle.std.specs.Prelude.{◌≡◌, ℕ, suc, Bool, ◌∷◌, ◌++◌, ◌<◌, ◌≤◌, [], List, drop, length, Option, IfOk, OnOk};
+ghost use Rattle.std.specs.Prelude.{◌≡◌, ℕ, suc, Bool, ◌∷◌, ◌++◌, ◌<◌, ◌≤◌, [], List, drop, length, Option, None, IfOk, OnOk, Some, slice_get};
 ghost use Rattle.lp_model.specs.Branch.{Answer, Branch, Task};
 ghost use Rattle.lp_model.specs.Flat.{Clause, Goals};
 ghost use Rattle.lp_model.specs.Skeleton.{Inner, State};
+ghost use Rattle.lp_plain.specs.declared.candidates.Candidate.{Candidate as Tried};
+ghost use Rattle.lp_plain.specs.declared.choice.Call.{Call as Called};
 ghost use Rattle.lp_plain.specs.declared.choice.Choice.{Choice};
 ghost use Rattle.lp_plain.specs.declared.choice.Untried.{Untried};
 ghost use Rattle.lp_plain.specs.declared.outcome.Turn.{Turn};
+ghost use Rattle.lp_plain.specs.declared.table.Flat.{Flat};
 ghost use Rattle.lp_plain.specs.Apart.{IsApart};
 ghost use Rattle.lp_plain.specs.Assuming.{KeepsAssumed};
 ghost use Rattle.lp_plain.specs.Entries.{Around, KeepsGoals};
 ghost use Rattle.lp_plain.specs.Marks.{AreMarked, IsMarked, Marks, PutsAside, PutsMarks, SetsAside};
-ghost use Rattle.lp_plain.specs.Moving.{IsBack, IsAtGoal, IsAtGoals, IsPlainFirst, IsRunning, IsState, MovesTo};
+ghost use Rattle.lp_plain.specs.Moving.{HasFreeTypes, IsBack, IsAtGoal, IsAtGoals, IsPlainFirst, IsRunning, IsState, LeadsTo, MovesTo, Query};
 ghost use Rattle.lp_plain.specs.Restoring.{GoesBack};
 ghost use Rattle.lp_plain.specs.Searching.{EndsSo, GoesOnOrStops, IsBackOf, IsQuietMove, IsStateOf};
 ghost use Rattle.lp_plain.specs.Stacks.{base_of};
 ghost use Rattle.lp_plain.specs.Tables.{AreGoals, Never, shown};
 ghost use Rattle.lp_plain.specs.Taking.{FirstIsApart, IsApartFirst, IsApartFlat, TakesApart, TakesGoals};
+ghost use Rattle.lp_plain.specs.Within.{StandsIn};
+ghost use Rattle.lp_plain.specs.WrittenSearch.{IsApartAtHand, IsWrittenSearch, WritesFlat, WritesGoals};
 
 use crate::act::Act;
 use crate::atomic::{take_atom, take_cut, try_candidate};
@@ -41,10 +46,11 @@ fn take_flat<W: Watch>(
     behind: Option<usize>,
 ) -> Result<Turn, Memory>
     ensures taken { IfOk result (λ turn. turn ≡ Turn.On → TakesApart machine.old machine.new place goal behind) }
+    ensures written { IfOk result (λ turn. turn ≡ Turn.On → IsApartFlat goal → WritesFlat machine.old machine.new place goal) }
     ensures marks { IfOk result (λ turn. turn ≡ Turn.On → IsApartFlat goal → PutsMarks machine.old machine.new place behind machine.new.branch.goals) }
     ensures aside { IfOk result (λ turn. turn ≡ Turn.On → IsApartFlat goal → PutsAside machine.old machine.new place behind) }
     ensures counted { IfOk result (λ turn. IsApartFlat goal → IsApart turn machine.old.counts machine.new.counts) }
-    ensures moved { IfOk result (λ turn. (a : Around) (raw : Branch) (s : State Task) → IsRunning machine.old a raw s → IsAtGoal machine.old a place goal behind raw → IsPlainFirst raw.goals → MovesTo turn machine.new s) }
+    ensures moved { IfOk result (λ turn. (qv : Query) (a : Around) (raw : Branch) (s : State Task) → IsRunning qv machine.old a raw s → IsAtGoal machine.old a place goal behind raw → IsPlainFirst raw.goals → MovesTo qv turn machine.new s) }
 {
     match goal {
         Flat::Atom(term) => {
@@ -96,10 +102,11 @@ fn take_first<W: Watch>(
     behind: Option<usize>,
 ) -> Result<Turn, Memory>
     ensures taken { IfOk result (λ turn. turn ≡ Turn.On → TakesGoals machine.old machine.new place goals behind) }
+    ensures written { IfOk result (λ turn. turn ≡ Turn.On → (f : Flat) → slice_get machine.old.table.goals.items goals.from ≡ Some f → IsApartFlat f → goals.from < goals.to → WritesGoals machine.old machine.new place goals) }
     ensures marks { IfOk result (λ turn. turn ≡ Turn.On → (hs : Goals) → goals.from < goals.to → AreGoals machine.old.bank Never (shown machine.old.table) goals.from goals.to hs → FirstIsApart hs → PutsMarks machine.old machine.new place behind machine.new.branch.goals) }
     ensures aside { IfOk result (λ turn. turn ≡ Turn.On → (hs : Goals) → goals.from < goals.to → AreGoals machine.old.bank Never (shown machine.old.table) goals.from goals.to hs → FirstIsApart hs → PutsAside machine.old machine.new place behind) }
     ensures counted { IfOk result (λ turn. (hs : Goals) → goals.from < goals.to → AreGoals machine.old.bank Never (shown machine.old.table) goals.from goals.to hs → FirstIsApart hs → IsApart turn machine.old.counts machine.new.counts) }
-    ensures moved { IfOk result (λ turn. (a : Around) (raw : Branch) (s : State Task) → IsRunning machine.old a raw s → IsAtGoals machine.old a place goals behind raw → IsPlainFirst raw.goals → MovesTo turn machine.new s) }
+    ensures moved { IfOk result (λ turn. (qv : Query) (a : Around) (raw : Branch) (s : State Task) → IsRunning qv machine.old a raw s → IsAtGoals machine.old a place goals behind raw → IsPlainFirst raw.goals → MovesTo qv turn machine.new s) }
 {
     let goal = machine.table.goal(goals.from)?;
     let Some(second) = goals.from.checked_add(1) else {
@@ -123,12 +130,14 @@ pub(crate) fn take_goal<W: Watch>(
     machine: &mut Machine,
     crowd: &mut Crowd<'_, W>,
 ) -> Result<Turn, Memory>
+    ensures written { IfOk result (λ turn. turn ≡ Turn.On → IsApartAtHand machine.old → (ar : ℕ → ℕ) → StandsIn machine.old → IsWrittenSearch machine.old ar → IsWrittenSearch machine.new ar) }
     ensures moves { IfOk result (λ turn. turn ≡ Turn.On → (a : Around) (s : State Task) (h : IsStateOf machine.old a s) → IsApartFirst h.at_work.goals → (k : ℕ) → s.answers ≡ suc k → (go : (Answer → Bool) → State Task → Inner) (u n : ℕ) (P : List Clause) → IsQuietMove machine.old machine.new a u n P go s) }
     ensures stops { IfOk result (λ turn. (a : Around) (s : State Task) (h : IsStateOf machine.old a s) → IsApartFirst h.at_work.goals → GoesOnOrStops turn s) }
     ensures marks { IfOk result (λ turn. turn ≡ Turn.On → (a : Around) (s : State Task) (h : IsStateOf machine.old a s) → IsApartFirst h.at_work.goals → (l u : ℕ) → Marks l u machine.old machine.old.branch.goals → Marks l u machine.new machine.new.branch.goals) }
     ensures aside { IfOk result (λ turn. turn ≡ Turn.On → (a : Around) (s : State Task) (h : IsStateOf machine.old a s) → IsApartFirst h.at_work.goals → SetsAside machine.old machine.new) }
     ensures marked { IfOk result (λ turn. turn ≡ Turn.On → (a : Around) (s : State Task) (h : IsStateOf machine.old a s) → IsApartFirst h.at_work.goals → IsMarked machine.old → IsMarked machine.new) }
-    ensures moved { IfOk result (λ turn. (s : State Task) (h : IsState machine.old s) → IsPlainFirst h.raw.goals → MovesTo turn machine.new s) }
+    ensures answered { IfOk result (λ turn. (qv : Query) (s : State Task) → IsState qv machine.old s → machine.old.branch.goals ≡ None → machine.old.denied ≡ None → (turn ≡ Turn.Answered) × MovesTo qv turn machine.new s) }
+    ensures moved { IfOk result (λ turn. (qv : Query) (s : State Task) (h : IsState qv machine.old s) → IsPlainFirst h.raw.goals → MovesTo qv turn machine.new s) }
 {
     let Some(number) = machine.branch.goals else {
         return Ok(end_branch(machine));
@@ -178,10 +187,15 @@ fn go_right(machine: &mut Machine, goals: Option<usize>) -> Result<(), Memory>
 /// Goes on with the newest alternative.
 pub(crate) fn go_back(machine: &mut Machine) -> Result<Turn, Memory>
     ensures goes { IfOk result (λ turn. (c : Choice) (rest : List Choice) (from : Option ℕ) → machine.old.choices.items ≡ rest ++ c ∷ [] → c.untried ≡ Untried.Goals from → (turn ≡ Turn.On) × GoesBack machine.old machine.new c rest) }
+    ensures written { IfOk result (λ turn. (c : Choice) (rest : List Choice) (from : Option ℕ) → machine.old.choices.items ≡ rest ++ c ∷ [] → c.untried ≡ Untried.Goals from → (ar : ℕ → ℕ) → StandsIn machine.old → IsWrittenSearch machine.old ar → IsWrittenSearch machine.new ar) }
     ensures state { IfOk result (λ turn. (c : Choice) (rest : List Choice) (from : Option ℕ) → machine.old.choices.items ≡ rest ++ c ∷ [] → c.untried ≡ Untried.Goals from → base_of machine.old.denied ≤ length rest → (a : Around) (s : State Task) → IsBackOf machine.old a s → IsStateOf machine.new a s) }
     ensures marked { IfOk result (λ turn. (c : Choice) (rest : List Choice) (from : Option ℕ) → machine.old.choices.items ≡ rest ++ c ∷ [] → c.untried ≡ Untried.Goals from → base_of machine.old.denied ≤ length rest → (a : Around) (s : State Task) → IsBackOf machine.old a s → AreMarked machine.old (base_of machine.old.denied) (base_of machine.old.denied) (drop (base_of machine.old.denied) machine.old.choices.items) → IsMarked machine.new) }
-    ensures resumed { IfOk result (λ turn. (c : Choice) (rest : List Choice) (from : Option ℕ) → machine.old.choices.items ≡ rest ++ c ∷ [] → c.untried ≡ Untried.Goals from → base_of machine.old.denied ≤ length rest → (s : State Task) → IsBack machine.old s → IsState machine.new s) }
-    ensures moved { IfOk result (λ turn. machine.old.choices.items ≡ [] → (s : State Task) → IsBack machine.old s → MovesTo turn machine.new s) }
+    ensures resumed { IfOk result (λ turn. (qv : Query) (c : Choice) (rest : List Choice) (from : Option ℕ) → machine.old.choices.items ≡ rest ++ c ∷ [] → c.untried ≡ Untried.Goals from → base_of machine.old.denied ≤ length rest → (s : State Task) → IsBack qv machine.old s → IsState qv machine.new s) }
+    ensures moved { IfOk result (λ turn. (qv : Query) → machine.old.choices.items ≡ [] → (s : State Task) → IsBack qv machine.old s → MovesTo qv turn machine.new s) }
+    ensures leads { IfOk result (λ turn. (c : Choice) (rest : List Choice) (call : Called) (one : Tried) → machine.old.choices.items ≡ rest ++ c ∷ [] → c.untried ≡ Untried.Clauses call one → base_of machine.old.denied ≤ length rest → (qv : Query) (s : State Task) → IsBack qv machine.old s →
+        IsWrittenSearch machine.old qv.arity → HasFreeTypes machine.new → LeadsTo 1 qv turn machine.new s) }
+    ensures tries_written { OnOk result ((c : Choice) (rest : List Choice) (call : Called) (one : Tried) → machine.old.choices.items ≡ rest ++ c ∷ [] → c.untried ≡ Untried.Clauses call one → base_of machine.old.denied ≤ length rest → (qv : Query) (s : State Task) → IsBack qv machine.old s →
+        IsWrittenSearch machine.old qv.arity → IsWrittenSearch machine.new qv.arity) }
     ensures ends { IfOk result (λ turn. machine.old.choices.items ≡ [] → (a : Around) (s : State Task) → IsBackOf machine.old a s → EndsSo turn machine.old.counts.lost s) }
 {
     let Some(untried) = machine.take_choice()? else {

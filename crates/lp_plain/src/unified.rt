@@ -1,9 +1,13 @@
 // Unification in the branch at work.
-ghost use Rattle.std.specs.Prelude.{◌≡◌, ℕ, List, Some, IfOk, OnOk};
+ghost use Rattle.std.specs.Prelude.{◌≡◌, ℕ, List, Some, true, IfOk, OnOk};
+ghost use Rattle.lp_term.specs.Nodes.{tree};
 ghost use Rattle.lp_model.specs.Pair.{Closing, Pair as Equation};
 ghost use Rattle.lp_model.specs.Unify.{Unified as Outcome, solve};
 ghost use Rattle.lp_pattern.specs.Reading.{type_pairs_of};
 ghost use Rattle.lp_pattern.specs.Turning.{IsOpenReading, AreKnownPairs, ArePairsFor};
+ghost use Rattle.lp_pattern.specs.Seen.{IsEnded, IsEndedHead};
+ghost use Rattle.lp_pattern.specs.declared.bindings.Bindings.{Bindings};
+ghost use Rattle.lp_plain.specs.HeadLooks.{LooksAt, OnlyBank};
 ghost use Rattle.lp_plain.specs.Unifying.{IsBoundIn, IsUnifiedAs, StandPairs};
 
 use crate::machine::Machine;
@@ -66,7 +70,9 @@ pub(crate) fn equate(
 }
 
 // Whether the term is a constant, an eigenconstant or a literal.
-fn is_rigid_head(bank: &Bank, head: TermId) -> bool {
+fn is_rigid_head(bank: &Bank, head: TermId) -> bool
+    ensures { result ≡ true → (s : Bindings) → IsEndedHead s (tree bank.now head.0) }
+{
     match bank.term_node(head) {
         TermNode::Const(_, _) => true,
         TermNode::Eigen(_) => true,
@@ -77,7 +83,9 @@ fn is_rigid_head(bank: &Bank, head: TermId) -> bool {
 }
 
 // Whether the term is seen to be head-normal at once: a rigid head, or one on arguments.
-fn is_rigid(bank: &Bank, term: TermId) -> bool {
+fn is_rigid(bank: &Bank, term: TermId) -> bool
+    ensures { result ≡ true → (s : Bindings) → IsEnded s (tree bank.now term.0) }
+{
     match bank.term_node(term) {
         TermNode::App(head, _) => is_rigid_head(bank, head),
         _ => is_rigid_head(bank, term),
@@ -85,7 +93,10 @@ fn is_rigid(bank: &Bank, term: TermId) -> bool {
 }
 
 /// The head-normal form in the branch at work; none where it takes too many contractions.
-pub(crate) fn head_normal(machine: &mut Machine, term: TermId) -> Result<Option<TermId>, Memory> {
+pub(crate) fn head_normal(machine: &mut Machine, term: TermId) -> Result<Option<TermId>, Memory>
+    ensures bank { OnOk result (OnlyBank machine.old machine.new) }
+    ensures looks { IfOk result (LooksAt machine.old machine.new term) }
+{
     if is_rigid(&machine.bank, term) {
         return Ok(Some(term));
     }

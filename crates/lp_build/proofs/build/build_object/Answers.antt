@@ -5,4 +5,4 @@ pub returns-clause-compiled : goal.returns-clause-compiled
 returns-clause-compiled c = λ read.
     let whole = c.in_ok-whole.ensures.whole read in
     compiled_is c.args.sources.now c.in_ok-whole.whole c.args.module c.in_ok-module.module c.object_of.result whole
-    (c.in_ok-module.ensures.meant c.args.sources.now.files.items read.few whole) c.object_of.ensures.names
+    (c.in_ok-module.ensures.meant c.args.sources.now.files.items read.few whole) c.object_of.ensures.object

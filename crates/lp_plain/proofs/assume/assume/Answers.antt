@@ -1,6 +1,7 @@
 use Rattle.std.proofs.Common.{◌≡◌, ◌∙◌, ◌-◌, suc, refl, arith, inl, inr}
 use Rattle.lp_pattern.proofs.Keeps.{goes_on_same}
 use Rattle.lp_plain.proofs.Assumed.{assumes_none, assumes_more, assumes_all, tree_more, tree_all, more_then}
+use Rattle.lp_plain.proofs.WrittenAssumed.{one_more_written}
 use Rattle.lp_plain.proofs.assume.assume.Goals as goal
 
 pub numbers-init : goal.numbers-init
@@ -19,6 +20,7 @@ numbers-init c =
       };
       tree = inl (refl, omega arith);
       assumed = assumes_none m c.args.rules.to c.args.place;
+      written = λ ar i w s. s;
     }
 
 pub numbers-preserved : goal.numbers-preserved
@@ -38,6 +40,8 @@ numbers-preserved c =
           c.in_ok-head.head c.in_ok-newest.newest i.more one i.assumed k w c.in_ok-head.ensures;
       assumed = assumes_more m c.numbers.machine c.assume_one.new.machine (c.numbers.left - 1) c.args.rules.to c.numbers.left c.args.place
           c.numbers.tree c.in_ok-head.head c.in_ok-newest.newest i.more one i.assumed k w c.in_ok-head.ensures;
+      written = one_more_written m c.numbers.machine c.assume_one.new.machine c.args.rules.from c.args.rules.to c.numbers.left c.args.place i.more
+          one.more c.in_ok-newest.ensures.pushed (omega (arith, t)) w i.written;
     }
 
 pub returns-clause-counts : goal.returns-clause-counts
@@ -52,3 +56,6 @@ returns-clause-tree c = tree_all c.args.machine.now c.numbers.machine c.args.rul
 pub returns-clause-assumed : goal.returns-clause-assumed
 returns-clause-assumed c = assumes_all c.args.machine.now c.numbers.machine c.args.rules.from c.args.rules.to c.numbers.left c.args.place
     c.numbers.tree c.numbers.invariant.assumed c.numbers-test.false c.numbers.invariant.begun
+
+pub returns-clause-written : goal.returns-clause-written
+returns-clause-written c = c.numbers.invariant.written

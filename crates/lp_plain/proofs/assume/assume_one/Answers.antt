@@ -29,3 +29,6 @@ returns-clause-one c =
       fresh = w.fresh;
       within = w.within;
     }
+
+pub returns-clause-pushed : goal.returns-clause-pushed
+returns-clause-pushed c = (c.in_ok-older.older, c.in_ok-push.ensures.items)

@@ -3,6 +3,12 @@ use Rattle.std.proofs.Common.{refl}
 use Rattle.lp_plain.proofs.Assuming.{assumes_for, put_grows, stood_stands}
 use Rattle.std.proofs.Common.{sym, subst, ◌∙◌}
 use Rattle.lp_plain.specs.Marks.{HasMarks}
+use Rattle.std.proofs.Common.{[]}
+use Rattle.lp_plain.proofs.Growing.{grows_kept, grows_then}
+use Rattle.lp_plain.proofs.Opening.{same_stands}
+use Rattle.lp_plain.proofs.WrittenAssumed.{stood_more}
+use Rattle.lp_plain.proofs.WrittenGrows.{list_in_later}
+use Rattle.lp_plain.proofs.WrittenSearches.{search_list, search_same}
 use Rattle.lp_plain.proofs.assume.put_assume.Goals as goal
 
 pub returns-clause-parts : goal.returns-clause-parts
@@ -48,3 +54,20 @@ returns-clause-none c =
     let f = c.in_ok-front.ensures in
     let x = none_then m n q (none_kept m n e.goals e.course) (none_then n o q c.in_ok-number.ensures.none (none_kept o q f.goals f.course)) in
     record { bindings = x.bindings; pairs = x.pairs }
+
+pub returns-clause-written : goal.returns-clause-written
+returns-clause-written c = λ ar i w s.
+    let m = c.args.machine.now in
+    let n = c.assume_noted.new.machine in
+    let o = c.stand.new.machine in
+    let p = c.args.place in
+    let g = c.in_ok-assumed.ensures.more in
+    let t = c.in_ok-number.ensures.stood in
+    let f = c.in_ok-front.ensures in
+    let one = c.in_ok-assumed.ensures.written ar i (record { type_vars = w.type_vars; binders = w.binders; values = w.values; scope_holds = w.scope_holds; have = w.have; is = w.is.0 }) s in
+    let gn = stood_more n o c.args.free p c.in_ok-number.number t in
+    let two = search_same n o (same_stands m n g.goals g.frames i) gn t.frames t.assumed t.course.choices ar one in
+    let l = list_in_later m o i (grows_then m n o (grows_kept m n g.goals) gn) ar p.values.scope [] c.args.goals
+    (record { type_vars = w.type_vars; binders = w.binders; values = w.values; scope_holds = w.scope_holds; have = w.have; is = w.is.1 }) in
+    let z = search_list o c.put_list.new.self c.args.goals _ c.args.behind f.goals f.assumed f.course.choices f.puts ar (stood_stands m n o c.args.free p c.in_ok-number.number g t i) l two in
+    record { at_work = z.at_work; alternatives = z.alternatives; older = z.older }

@@ -5,6 +5,11 @@ use Rattle.std.specs.Prelude.{nat_lt}
 use Rattle.lp_plain.specs.Cuts.{one_step, cut_off}
 use Rattle.lp_plain.proofs.Frames.{reads_on, keeps_then}
 use Rattle.lp_plain.proofs.Stacking.{cut_tasks}
+use Rattle.std.proofs.Common.{subst, sym}
+use Rattle.lp_plain.specs.WrittenSearch.{IsWrittenSearch}
+use Rattle.lp_plain.proofs.Growing.{grows_kept}
+use Rattle.lp_plain.proofs.Opening.{same_stands}
+use Rattle.lp_plain.proofs.WrittenSearches.{search_cut, search_same}
 use Rattle.lp_plain.proofs.atomic.take_cut.Goals as goal
 
 pub returns-clause-cuts : goal.returns-clause-cuts
@@ -33,7 +38,7 @@ returns-clause-tasks g c = λ e tss keep h i.
     cut_tasks m _ k keep tss (c.cut.ensures.denied ∙ s.denied) (c.cut.ensures.choices ∙ ap (λ z. take k z.items) s.choices) (ap (λ z. z.lost) counts) h i
 
 pub returns-clause-moved : goal.returns-clause-moved
-returns-clause-moved g c =
+returns-clause-moved g c = λ qv.
     let m = c.args.machine.now in
     let s = c.if-not-take_step.ensures in
     let d = c.cut.ensures in
@@ -50,7 +55,21 @@ returns-clause-moved g c =
       next_type = ap (λ z. z.next_type) branch;
       pairs = ap (λ z. z.pairs) branch;
     } in
-    cut_moved m _ c.args.place c.args.behind keeps (returns-clause-cuts g c) (s.there refl)
+    cut_moved qv m _ c.args.place c.args.behind keeps (returns-clause-cuts g c) (s.there refl)
 
 pub returns-then-not-take_step-clause-moved : goal.returns-then-not-take_step-clause-moved
-returns-then-not-take_step-clause-moved g c = cut_stops c.args.machine.now c.args.machine.now c.args.place c.args.behind (c.if-not-take_step.ensures.spent refl).1
+returns-then-not-take_step-clause-moved g c = λ qv. cut_stops qv c.args.machine.now c.args.machine.now c.args.place c.args.behind (c.if-not-take_step.ensures.spent refl).1
+
+pub returns-clause-written : goal.returns-clause-written
+returns-clause-written g c = λ ar i w.
+    let m = c.args.machine.now in
+    let n = c.take_step.new.machine in
+    let q = c.cut.new.self in
+    let s = c.if-not-take_step.ensures in
+    let d = c.cut.ensures in
+    let one = search_same m n i (grows_kept m n s.goals) s.frames s.assumed (ap (λ v. v.items) s.choices) ar w in
+    let z = search_cut n q c.args.place.mark (same_stands m n s.goals s.frames i) (grows_kept n q d.goals) d.frames d.assumed d.choices ar one in
+    record { at_work = z.at_work; alternatives = z.alternatives; older = z.older }
+
+pub returns-then-not-take_step-clause-written : goal.returns-then-not-take_step-clause-written
+returns-then-not-take_step-clause-written g c = λ ar i w. subst (λ x. IsWrittenSearch x ar) (sym (c.if-not-take_step.ensures.spent refl).0) w

@@ -7,6 +7,7 @@ use Rattle.lp_plain.proofs.Trials.{tried_kept}
 use Rattle.lp_plain.proofs.TryGrows.{head_alone, with_body}
 use Rattle.lp_plain.proofs.TryRead.{tries_read}
 use Rattle.lp_plain.proofs.TryScopes.{goals_put_in_front}
+use Rattle.lp_plain.proofs.TryWritten.{body_written_on, head_written_on}
 use Rattle.lp_plain.proofs.attempt.attempt.Goals as goal
 
 tried : (c : goal.In_ok-put_body) → IsTriedAs c.args.machine.now c.put_body.new.machine c.args.call.now c.args.candidate c.in_ok-tried.tried.0
@@ -22,7 +23,8 @@ grows c =
     let k = c.in_ok-put_body.ensures in
     let n = c.in_ok-note.ensures in
     let h = c.in_ok-tried.ensures in
-    with_body c.args.machine.now c.try_head.new.machine c.note.new.self c.put_body.new.machine c.args.call.now _ (head_alone c.args.machine.now c.try_head.new.machine c.args.call.now h.more h.residual h.stands)
+    with_body c.args.machine.now c.try_head.new.machine c.note.new.self c.put_body.new.machine c.args.call.now _
+    (head_alone c.args.machine.now c.try_head.new.machine c.args.call.now h.more h.residual h.stands)
     n.course n.goals n.assumed n.frames refl refl k.known k.assumed k.frame k.choices k.denied k.counts k.next k.next_type k.pairs
     (same_stands c.try_head.new.machine c.note.new.self n.goals n.frames) k.stands
 
@@ -44,7 +46,8 @@ returns-clause-leaves c =
     let n = c.in_ok-note.ensures in
     let h = c.in_ok-tried.ensures in
     tries_read c.args.machine.now c.put_body.new.machine c.args.call.now c.args.candidate c.args.mark c.in_ok-tried.tried.0 (tried c)
-    (λ e. goals_put_in_front c.args.machine.now c.try_head.new.machine c.note.new.self c.put_body.new.machine c.args.call.now c.args.candidate c.in_ok-tried.tried.1 c.args.mark c.in_ok-tried.tried.2 h.more h.scope n.goals k.body)
+    (λ e. goals_put_in_front c.args.machine.now c.try_head.new.machine c.note.new.self c.put_body.new.machine c.args.call.now c.args.candidate
+    c.in_ok-tried.tried.1 c.args.mark c.in_ok-tried.tried.2 h.more h.scope n.goals k.body)
     (λ vs g values σ T own. let t = h.types vs g values σ T own in (t.0, k.next_type ∙ ap (λ b. b.next_type) n.course.branch ∙ t.1))
 
 not_fitting : (c : goal.Then-ne) → c.in_ok-tried.tried.0 ≡ Unified.Fits → ⊥
@@ -54,3 +57,15 @@ pub returns-then-ne-clause-leaves : goal.returns-then-ne-clause-leaves
 returns-then-ne-clause-leaves c =
     let h = c.in_ok-tried.ensures in
     tries_read c.args.machine.now c.try_head.new.machine c.args.call.now c.args.candidate c.args.mark c.in_ok-tried.tried.0 h.tried (λ e. absurd (not_fitting c e)) h.types
+
+pub returns-clause-written : goal.returns-clause-written
+returns-clause-written c =
+    let k = c.in_ok-put_body.ensures in
+    let n = c.in_ok-note.ensures in
+    let h = c.in_ok-tried.ensures in
+    body_written_on c.args.machine.now c.try_head.new.machine c.note.new.self c.put_body.new.machine c.args.call.now c.args.candidate
+    c.in_ok-tried.tried.1 _ h.more h.scope n.goals n.assumed n.frames k.known k.assumed
+    (k.choices ∙ n.course.choices ∙ ap (λ v. v.items) h.more.choices) k.puts
+
+pub returns-then-ne-clause-written : goal.returns-then-ne-clause-written
+returns-then-ne-clause-written c = head_written_on c.args.machine.now c.try_head.new.machine c.args.call.now c.args.candidate c.in_ok-tried.ensures.more

@@ -3,6 +3,10 @@ use Rattle.lp_model.specs.Flat.{goal_list}
 use Rattle.lp_plain.specs.Entries.{in_scope, no_frame}
 use Rattle.lp_plain.proofs.DeniedGoals.{inner_begun, one_longer}
 use Rattle.lp_plain.proofs.Frames.{list_at_on, list_of}
+use Rattle.lp_plain.proofs.Growing.{grows_kept}
+use Rattle.lp_plain.proofs.Opening.{same_stands}
+use Rattle.lp_plain.proofs.WrittenGrows.{list_in_later}
+use Rattle.lp_plain.proofs.WrittenSearches.{search_aside, search_list}
 use Rattle.lp_plain.proofs.negation.begin.Goals as goal
 
 pub returns-clause-inner : goal.returns-clause-inner
@@ -18,3 +22,17 @@ returns-clause-inner c = λ a hs σ b w x n t z.
     (ap (λ v. v.next) f.course.branch ∙ ap (λ v. v.next) k.branch) (ap (λ v. v.next_type) f.course.branch ∙ ap (λ v. v.next_type) k.branch)
     (ap (λ v. v.pairs.items) f.course.branch ∙ c.new.ensures.items) (f.course.denied ∙ ap Some (c.len-number.ensures ∙ m.choices.ok.0))
     (ap length f.course.choices ∙ count) n t z
+
+pub returns-clause-written : goal.returns-clause-written
+returns-clause-written c = λ ar i w s.
+    let m = c.args.machine.now in
+    let n = c.put_choice.new.self in
+    let p = c.args.place in
+    let k = c.in_ok-put_choice.ensures in
+    let f = c.in_ok-first.ensures in
+    let one = search_aside m n _ i k.goals k.frames k.assumed k.alternative ar s in
+    let j = same_stands m n k.goals k.frames i in
+    let l = list_in_later m n i (grows_kept m n k.goals) ar p.values.scope [] c.args.goals w in
+    let z = search_list _ c.put_list.new.self c.args.goals _ _ f.goals f.assumed f.course.choices f.puts ar (record { table = j.table; values = j.values; frames = j.frames }) l
+    (record { at_work = one.at_work; alternatives = one.alternatives; older = one.older }) in
+    record { at_work = z.at_work; alternatives = z.alternatives; older = z.older }

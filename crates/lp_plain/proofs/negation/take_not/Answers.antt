@@ -5,6 +5,10 @@ use Rattle.lp_plain.specs.declared.openness.Standing.{Standing}
 use Rattle.lp_plain.proofs.DeniedGoals.{inner_after}
 use Rattle.lp_plain.proofs.FoundGoals.{found_before, begins_after}
 use Rattle.lp_plain.proofs.Growing.{grows_kept, grows_then}
+use Rattle.std.proofs.Common.{[]}
+use Rattle.lp_plain.proofs.Opening.{same_stands}
+use Rattle.lp_plain.proofs.WrittenGrows.{list_in_later}
+use Rattle.lp_plain.proofs.WrittenSearches.{search_same}
 use Rattle.lp_plain.proofs.negation.take_not.Goals as goal
 
 pub returns-in-Deep-clause-takes : goal.returns-in-Deep-clause-takes
@@ -39,3 +43,17 @@ returns-in_ok-begin-in-Closed-clause-inner g c = λ on.
     inner_after m n c.begin.new.machine c.args.place c.args.goals c.args.behind (grows_then m c.take_step.new.machine n
     (grows_kept m c.take_step.new.machine c.take_step.ensures.goals) c.in_ok-openness_at.ensures.grows)
     (c.openness_at.ensures.branch ∙ c.take_step.ensures.branch) c.in_ok-begin-in-Closed.ensures.inner
+
+pub returns-in_ok-begin-in-Closed-clause-written : goal.returns-in_ok-begin-in-Closed-clause-written
+returns-in_ok-begin-in-Closed-clause-written g c = λ on ar i w s.
+    let m = c.args.machine.now in
+    let k = c.take_step.new.machine in
+    let n = c.openness_at.new.machine in
+    let t = c.take_step.ensures in
+    let o = c.openness_at.ensures in
+    let grown = c.in_ok-openness_at.ensures.grows in
+    let j = same_stands m k t.goals t.frames i in
+    let one = search_same m k i (grows_kept m k t.goals) t.frames t.assumed (ap (λ v. v.items) t.choices) ar s in
+    let two = search_same k n j grown o.frames (record { assumptions = o.assumptions; newest = o.newest }) (ap (λ v. v.items) o.choices) ar one in
+    c.in_ok-begin-in-Closed.ensures.written ar (c.in_ok-openness_at.ensures.stands j)
+    (list_in_later m n i (grows_then m k n (grows_kept m k t.goals) grown) ar c.args.place.values.scope [] c.args.goals w) two

@@ -19,6 +19,7 @@ returns-clause-bound c =
       choices = refl;
       branch = refl;
       opened = λ σ h. (_, scope_whole c.open.new.self c.in_ok-scope.scope _ (s.opened h.0 (whole_scope m.scopes c.args.place.values.scope h.0 h.1)), values_more m.bank h.0 c.args.value σ h.2);
+      holds = λ vs h. scope_whole c.open.new.self c.in_ok-scope.scope _ (s.opened vs (whole_scope m.scopes c.args.place.values.scope vs h));
       stands = value_stands m _ c.args.value refl refl refl s.values;
       types = refl;
       assumed = refl;

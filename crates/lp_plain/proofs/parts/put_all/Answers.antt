@@ -6,6 +6,12 @@ use Rattle.std.proofs.Common.{subst, sym}
 use Rattle.lp_term.specs.Spine.{LooseBelow}
 use Rattle.std.proofs.Common.{◌≤◌}
 use Rattle.lp_plain.proofs.Marked.{marks_on}
+use Rattle.std.proofs.Common.{[], ◌∷◌, true}
+use Rattle.lp_plain.specs.Scopes.{blocks_of}
+use Rattle.lp_plain.specs.Tables.{shown}
+use Rattle.lp_plain.specs.WrittenTable.{IsWrittenIn, WrittenList}
+use Rattle.lp_plain.proofs.WrittenGrows.{list_in_later}
+use Rattle.lp_plain.proofs.WrittenSearches.{bound_in, search_list, search_same}
 use Rattle.lp_plain.proofs.parts.put_all.Goals as goal
 
 pub returns-clause-parts : goal.returns-clause-parts
@@ -57,3 +63,22 @@ returns-clause-none c =
     let f = c.in_ok-front.ensures in
     let x = none_then m n q c.in_ok-above.ensures.none (none_then n o q c.in_ok-inner.ensures.none (none_kept o q f.goals f.course)) in
     record { bindings = x.bindings; pairs = x.pairs }
+
+pub returns-clause-written : goal.returns-clause-written
+returns-clause-written c = λ ar i w s.
+    let m = c.args.machine.now in
+    let n = c.raised.new.machine in
+    let o = c.bound.new.machine in
+    let p = c.args.place in
+    let e = c.in_ok-above.ensures in
+    let v = e.raised in
+    let b = c.in_ok-inner.ensures.bound in
+    let f = c.in_ok-front.ensures in
+    let i1 = e.stands i in
+    let i2 = b.stands v.within (subst (LooseBelow 0 0) (sym v.eigen_is) tt) i1 in
+    let s2 = search_same n o i1 b.grows b.frames b.keeps b.choices ar (search_same m n i v.grows v.frames v.keeps v.choices ar s) in
+    let g = list_in_later m n i v.grows ar p.values.scope (true ∷ []) c.args.goals w in
+    let l = bound_in n o _ c.in_ok-inner.inner _ i1 b ar true c.args.goals (λ q. (_, v.eigen_is))
+    (subst (λ x. IsWrittenIn n.bank (blocks_of n.scopes) x.scope (λ k bs. WrittenList n.bank (shown n.table) ar k (true ∷ bs) c.args.goals)) (sym v.values) g) in
+    let z = search_list o c.put_list.new.self c.args.goals c.in_ok-inner.inner c.args.behind f.goals f.assumed f.course.choices f.puts ar i2 l s2 in
+    record { at_work = z.at_work; alternatives = z.alternatives; older = z.older }

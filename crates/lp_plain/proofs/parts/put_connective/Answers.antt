@@ -11,6 +11,7 @@ use Rattle.std.proofs.Common.{◌<◌, ap, length}
 use Rattle.lp_plain.proofs.Grown.{grown_apart, grown_kept, grown_on, kept_apart, quietly, stands_apart}
 use Rattle.lp_plain.proofs.Opening.{same_stands}
 use Rattle.lp_plain.proofs.TakenApart.{known_taken, no_other, stands_known}
+use Rattle.lp_plain.proofs.WrittenParts.{behind_writes, connective_writes}
 use Rattle.lp_plain.proofs.parts.put_connective.Goals as goal
 
 pub returns-in_ok-put_and-in-And-clause-and : goal.returns-in_ok-put_and-in-And-clause-and
@@ -111,3 +112,26 @@ returns-in-True-clause-taken c = λ e af.
     known_taken m n p c.args.connective c.args.behind (λ a b i kc w. returns-in-True-clause-truth c e c.in-True.is a b w) (grown_apart m k n p x g)
     (λ kc. stands_apart m k n x (same_stands k n f.known f.frames))
     (quietly m k n x (c.if-not-take_apart.ensures.taken refl) (grown_on k n p g) f.counts) (kept_apart m k n p x (no_other k n p (ap (λ v. v.items) f.choices)))
+
+pub returns-in_ok-put_and-in-And-clause-written : goal.returns-in_ok-put_and-in-And-clause-written
+returns-in_ok-put_and-in-And-clause-written c = λ e h.
+    connective_writes c.args.machine.now c.take_apart.new.machine c.put_and.new.machine c.args.connective _ (c.if-not-take_apart.ensures.apart refl) c.in-And.is c.in_ok-put_and-in-And.ensures.written
+
+pub returns-in_ok-put_or-in-Or-clause-written : goal.returns-in_ok-put_or-in-Or-clause-written
+returns-in_ok-put_or-in-Or-clause-written c = λ e h.
+    connective_writes c.args.machine.now c.take_apart.new.machine c.put_or.new.machine c.args.connective _ (c.if-not-take_apart.ensures.apart refl) c.in-Or.is c.in_ok-put_or-in-Or.ensures.written
+
+pub returns-in_ok-put_for_all-in-ForAll-clause-written : goal.returns-in_ok-put_for_all-in-ForAll-clause-written
+returns-in_ok-put_for_all-in-ForAll-clause-written c = λ e h.
+    connective_writes c.args.machine.now c.take_apart.new.machine c.put_for_all.new.machine c.args.connective _
+    (c.if-not-take_apart.ensures.apart refl) c.in-ForAll.is c.in_ok-put_for_all-in-ForAll.ensures.written
+
+pub returns-in_ok-put_exists-in-Exists-clause-written : goal.returns-in_ok-put_exists-in-Exists-clause-written
+returns-in_ok-put_exists-in-Exists-clause-written c = λ e h.
+    connective_writes c.args.machine.now c.take_apart.new.machine c.put_exists.new.machine c.args.connective _
+    (c.if-not-take_apart.ensures.apart refl) c.in-Exists.is c.in_ok-put_exists-in-Exists.ensures.written
+
+pub returns-in-True-clause-written : goal.returns-in-True-clause-written
+returns-in-True-clause-written c = λ e h. behind_writes c.args.machine.now c.take_apart.new.machine c.go_behind.new.machine
+    (c.if-not-take_apart.ensures.apart refl) c.go_behind.ensures.known c.go_behind.ensures.frames c.go_behind.ensures.assumed
+    c.go_behind.ensures.choices

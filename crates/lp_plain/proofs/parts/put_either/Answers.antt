@@ -12,6 +12,10 @@ use Rattle.lp_plain.proofs.Grown.{alternative_above, alternative_kept, grown_on,
 use Rattle.lp_plain.proofs.Restored.{last_same}
 use Rattle.std.proofs.Common.{◌∙◌, subst, sym}
 use Rattle.lp_plain.proofs.Marked.{marks_aside, marks_on}
+use Rattle.std.proofs.Common.{[]}
+use Rattle.lp_plain.proofs.Growing.{grows_kept}
+use Rattle.lp_plain.proofs.WrittenGrows.{list_in_later}
+use Rattle.lp_plain.proofs.WrittenSearches.{search_aside, search_list, search_same}
 use Rattle.lp_plain.proofs.parts.put_either.Goals as goal
 
 pub returns-clause-parts : goal.returns-clause-parts
@@ -137,3 +141,26 @@ returns-clause-aside_with c = λ k e.
     let x = c.in_ok-put_choice.ensures.alternative in
     let same = last_same one.choices.items m.choices.items x.choice k (sym (c.in_ok-one.ensures.course.choices ∙ c.in_ok-note.ensures.course.choices ∙ x.more) ∙ e) in
     subst (IsPutWith m) same.1 (put_with m one two _ x (none_kept m one o.goals o.course))
+
+pub returns-clause-written : goal.returns-clause-written
+returns-clause-written c = λ ar i w s.
+    let m = c.args.machine.now in
+    let p = c.args.place in
+    let one = c.put_list.new.self in
+    let two = c.put_choice.new.self in
+    let three = c.note.new.self in
+    let a = c.in_ok-other.ensures in
+    let k = c.in_ok-put_choice.ensures in
+    let n = c.in_ok-note.ensures in
+    let f = c.in_ok-one.ensures in
+    let i1 = a.stands i in
+    let i2 = same_stands one two k.goals k.frames i1 in
+    let i3 = same_stands two three n.goals n.frames i2 in
+    let s1 = search_list m one c.args.right p c.args.behind a.goals a.assumed a.course.choices a.puts ar i
+    (record { type_vars = w.type_vars; binders = w.binders; values = w.values; scope_holds = w.scope_holds; have = w.have; is = w.is.1 }) s in
+    let s2 = search_aside one two _ i1 k.goals k.frames k.assumed k.alternative ar s1 in
+    let s3 = search_same two three i2 (grows_kept two three n.goals) n.frames n.assumed n.course.choices ar s2 in
+    let l = list_in_later m three i (grows_kept m three (keeps_then m two three (keeps_then m one two a.goals k.goals) n.goals)) ar p.values.scope [] c.args.left
+    (record { type_vars = w.type_vars; binders = w.binders; values = w.values; scope_holds = w.scope_holds; have = w.have; is = w.is.0 }) in
+    let z = search_list three c.put_list-2.new.self c.args.left p c.args.behind f.goals f.assumed f.course.choices f.puts ar i3 l s3 in
+    record { at_work = z.at_work; alternatives = z.alternatives; older = z.older }

@@ -1,6 +1,9 @@
 use Rattle.lp_plain.proofs.AppliedGoals.{for_all_form}
 use Rattle.lp_plain.proofs.Grown.{grown_by, grown_still, grown_then}
 use Rattle.std.proofs.Common.{◌∙◌}
+use Rattle.std.proofs.Common.{subst, sym}
+use Rattle.lp_term.specs.Spine.{LooseBelow}
+use Rattle.lp_plain.proofs.WrittenSearches.{search_same, shut_later}
 use Rattle.lp_plain.proofs.parts.put_for_all.Goals as goal
 
 pub returns-clause-parts : goal.returns-clause-parts
@@ -23,3 +26,14 @@ returns-clause-choices c = c.in_ok-put_goal_of.ensures.choices ∙ c.in_ok-above
 
 pub returns-clause-stands : goal.returns-clause-stands
 returns-clause-stands c = λ i. c.in_ok-put_goal_of.ensures.stands (c.in_ok-above.ensures.stands i)
+
+pub returns-clause-written : goal.returns-clause-written
+returns-clause-written c = λ ar i h s.
+    let m = c.args.machine.now in
+    let n = c.raised.new.machine in
+    let e = c.in_ok-above.ensures in
+    let v = e.raised in
+    c.in_ok-put_goal_of.ensures.written ar (e.stands i) (
+      shut_later m n c.args.term v.grows.bank h,
+      (v.within, subst (LooseBelow 0 0) (sym v.eigen_is) tt),
+    ) (search_same m n i v.grows v.frames v.keeps v.choices ar s)

@@ -3,6 +3,8 @@ use Rattle.lp_model.specs.Flat.{Atomic}
 use Rattle.lp_plain.specs.Entries.{HeadsTo}
 use Rattle.lp_plain.proofs.Growing.{reads_later}
 use Rattle.lp_plain.proofs.Grown.{grown_frame, grown_still, grown_then}
+use Rattle.lp_term.specs.Spine.{LooseBelow}
+use Rattle.lp_plain.proofs.WrittenSearches.{search_same, search_term}
 use Rattle.lp_plain.proofs.parts.put_goal_of.Goals as goal
 
 pub returns-clause-front : goal.returns-clause-front
@@ -36,3 +38,14 @@ returns-clause-stands c = λ i.
     let p = c.in_ok-goal.ensures in
     let z = c.in_ok-front.ensures.stands p.within (p.stands i) in
     record { table = z.table; values = z.values; frames = z.frames }
+
+pub returns-clause-written : goal.returns-clause-written
+returns-clause-written c = λ ar i h s.
+    let m = c.args.machine.now in
+    let n = c.applied.new.machine in
+    let p = c.in_ok-goal.ensures in
+    let f = c.in_ok-front.ensures in
+    let one = search_same m n i p.grows p.frames p.assumed p.course.choices ar s in
+    let z = search_term n c.put_frame.new.self c.in_ok-goal.goal c.args.place c.args.behind f.goals f.assumed f.course.choices f.pushed ar
+    (p.stands i) (p.within, subst (LooseBelow 0 0) (sym p.tree) (h.0.1, h.1.1)) one in
+    record { at_work = z.at_work; alternatives = z.alternatives; older = z.older }

@@ -1,4 +1,4 @@
-use Rattle.std.proofs.Common.{[], ◌∷◌, refl, ap, Some}
+use Rattle.std.proofs.Common.{[], ◌∷◌, refl, ap, arith, Some}
 use Rattle.lp_term.specs.Nodes.{tree}
 use Rattle.lp_model.specs.Flat.{Atomic}
 use Rattle.lp_plain.proofs.Frames.{reads_on, keeps_then, keeps_same, split}
@@ -9,6 +9,9 @@ use Rattle.lp_plain.specs.Taking.{IsAbove, IsKept}
 use Rattle.lp_plain.proofs.Grown.{alternative_above, alternative_kept, grown_on, placed_on}
 use Rattle.lp_plain.proofs.Opening.{same_stands}
 use Rattle.lp_plain.proofs.Restored.{last_same}
+use Rattle.lp_plain.specs.WrittenSearch.{IsShut}
+use Rattle.lp_plain.proofs.Growing.{grows_kept}
+use Rattle.lp_plain.proofs.WrittenSearches.{search_aside, search_same, search_term}
 use Rattle.lp_plain.proofs.parts.put_or.Goals as goal
 
 pub returns-clause-parts : goal.returns-clause-parts
@@ -28,10 +31,10 @@ returns-clause-parts c = λ a b r u n height P t g.
     c.in_ok-note.ensures.course.choices c.in_ok-one.ensures.course.choices r.next r.next_type
     (c.in_ok-one.ensures.reads a (Atomic (tree m.bank c.args.left.0) ∷ []) b.goals (
       tree m.bank c.args.left.0,
-      (0, ap (λ z. Some (tree z c.args.left.0)) all.known.bank),
+      (0, omega arith, ap (λ z. Some (tree z c.args.left.0)) all.known.bank),
       refl,
     ) (reads_on m three a c.args.behind b.goals all r.goals))
-    (c.in_ok-other.ensures.reads a (Atomic (tree m.bank c.args.right.0) ∷ []) b.goals (tree m.bank c.args.right.0, (0, refl), refl) r.goals)
+    (c.in_ok-other.ensures.reads a (Atomic (tree m.bank c.args.right.0) ∷ []) b.goals (tree m.bank c.args.right.0, (0, omega arith, refl), refl) r.goals)
 
 pub returns-clause-grown : goal.returns-clause-grown
 returns-clause-grown c =
@@ -93,3 +96,23 @@ returns-clause-kept c = λ a i pl h k e.
       },
       subst (IsAbove m) same.1 (alternative_above m one two _ x (grown_on m one p grown)),
     )
+
+pub returns-clause-written : goal.returns-clause-written
+returns-clause-written c = λ ar i h s.
+    let m = c.args.machine.now in
+    let one = c.put_frame.new.self in
+    let two = c.put_choice.new.self in
+    let three = c.note.new.self in
+    let a = c.in_ok-other.ensures in
+    let k = c.in_ok-put_choice.ensures in
+    let n = c.in_ok-note.ensures in
+    let f = c.in_ok-one.ensures in
+    let i1 = a.stands h.1.0 i in
+    let i2 = same_stands one two k.goals k.frames i1 in
+    let i3 = same_stands two three n.goals n.frames i2 in
+    let s1 = search_term m one c.args.right c.args.place c.args.behind a.goals a.assumed a.course.choices a.pushed ar i h.1 s in
+    let s2 = search_aside one two _ i1 k.goals k.frames k.assumed k.alternative ar s1 in
+    let s3 = search_same two three i2 (grows_kept two three n.goals) n.frames n.assumed n.course.choices ar s2 in
+    let left = subst (λ b. IsShut b c.args.left) (sym (n.goals.known.bank ∙ k.goals.known.bank ∙ a.goals.known.bank)) h.0 in
+    let z = search_term three c.put_frame-2.new.self c.args.left c.args.place c.args.behind f.goals f.assumed f.course.choices f.pushed ar i3 left s3 in
+    record { at_work = z.at_work; alternatives = z.alternatives; older = z.older }

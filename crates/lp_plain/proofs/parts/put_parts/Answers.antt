@@ -10,6 +10,7 @@ use Rattle.lp_plain.proofs.Grown.{grown_apart, grown_on, kept_apart, quietly, st
 use Rattle.lp_plain.specs.Taking.{IsApartFlat}
 use Rattle.lp_plain.proofs.Marked.{aside_apart, marks_apart, none_aside}
 use Rattle.lp_plain.proofs.TakenApart.{all_taken, assume_taken, either_taken, none_taken, some_taken}
+use Rattle.lp_plain.proofs.WrittenParts.{all_writes, assume_writes, either_writes, some_writes}
 use Rattle.lp_plain.proofs.parts.put_parts.Goals as goal
 
 pub returns-in_ok-put_either-in-Either-clause-either : goal.returns-in_ok-put_either-in-Either-clause-either
@@ -177,28 +178,37 @@ pub returns-in-Not-clause-aside : goal.returns-in-Not-clause-aside
 returns-in-Not-clause-aside c = λ e h. absurd (subst IsApartFlat c.in-Not.is h)
 
 pub returns-in_ok-put_either-in-Either-clause-none : goal.returns-in_ok-put_either-in-Either-clause-none
-returns-in_ok-put_either-in-Either-clause-none c = λ e h. none_apart c.args.machine.now c.take_apart.new.machine c.put_either.new.machine (c.if-not-take_apart.ensures.apart refl) c.in_ok-put_either-in-Either.ensures.none
+returns-in_ok-put_either-in-Either-clause-none c = λ e h. none_apart c.args.machine.now c.take_apart.new.machine c.put_either.new.machine
+    (c.if-not-take_apart.ensures.apart refl) c.in_ok-put_either-in-Either.ensures.none
 
 pub returns-in_ok-put_either-in-Either-clause-aside_with : goal.returns-in_ok-put_either-in-Either-clause-aside_with
-returns-in_ok-put_either-in-Either-clause-aside_with c = λ e h. with_apart c.args.machine.now c.take_apart.new.machine c.put_either.new.machine (c.if-not-take_apart.ensures.apart refl) c.in_ok-put_either-in-Either.ensures.aside_with
+returns-in_ok-put_either-in-Either-clause-aside_with c = λ e h. with_apart c.args.machine.now c.take_apart.new.machine c.put_either.new.machine
+    (c.if-not-take_apart.ensures.apart refl) c.in_ok-put_either-in-Either.ensures.aside_with
 
 pub returns-in_ok-put_some-in-Some-clause-none : goal.returns-in_ok-put_some-in-Some-clause-none
-returns-in_ok-put_some-in-Some-clause-none c = λ e h. none_apart c.args.machine.now c.take_apart.new.machine c.put_some.new.machine (c.if-not-take_apart.ensures.apart refl) c.in_ok-put_some-in-Some.ensures.none
+returns-in_ok-put_some-in-Some-clause-none c = λ e h. none_apart c.args.machine.now c.take_apart.new.machine c.put_some.new.machine
+    (c.if-not-take_apart.ensures.apart refl) c.in_ok-put_some-in-Some.ensures.none
 
 pub returns-in_ok-put_some-in-Some-clause-aside_with : goal.returns-in_ok-put_some-in-Some-clause-aside_with
-returns-in_ok-put_some-in-Some-clause-aside_with c = λ e h. with_apart c.args.machine.now c.take_apart.new.machine c.put_some.new.machine (c.if-not-take_apart.ensures.apart refl) (none_with c.take_apart.new.machine c.put_some.new.machine c.in_ok-put_some-in-Some.ensures.choices)
+returns-in_ok-put_some-in-Some-clause-aside_with c = λ e h. with_apart c.args.machine.now c.take_apart.new.machine c.put_some.new.machine
+    (c.if-not-take_apart.ensures.apart refl) (none_with c.take_apart.new.machine c.put_some.new.machine c.in_ok-put_some-in-Some.ensures.choices)
 
 pub returns-in_ok-put_all-in-All-clause-none : goal.returns-in_ok-put_all-in-All-clause-none
-returns-in_ok-put_all-in-All-clause-none c = λ e h. none_apart c.args.machine.now c.take_apart.new.machine c.put_all.new.machine (c.if-not-take_apart.ensures.apart refl) c.in_ok-put_all-in-All.ensures.none
+returns-in_ok-put_all-in-All-clause-none c = λ e h. none_apart c.args.machine.now c.take_apart.new.machine c.put_all.new.machine
+    (c.if-not-take_apart.ensures.apart refl) c.in_ok-put_all-in-All.ensures.none
 
 pub returns-in_ok-put_all-in-All-clause-aside_with : goal.returns-in_ok-put_all-in-All-clause-aside_with
-returns-in_ok-put_all-in-All-clause-aside_with c = λ e h. with_apart c.args.machine.now c.take_apart.new.machine c.put_all.new.machine (c.if-not-take_apart.ensures.apart refl) (none_with c.take_apart.new.machine c.put_all.new.machine c.in_ok-put_all-in-All.ensures.choices)
+returns-in_ok-put_all-in-All-clause-aside_with c = λ e h. with_apart c.args.machine.now c.take_apart.new.machine c.put_all.new.machine
+    (c.if-not-take_apart.ensures.apart refl) (none_with c.take_apart.new.machine c.put_all.new.machine c.in_ok-put_all-in-All.ensures.choices)
 
 pub returns-in_ok-put_assume-in-Assume-clause-none : goal.returns-in_ok-put_assume-in-Assume-clause-none
-returns-in_ok-put_assume-in-Assume-clause-none c = λ e h. none_apart c.args.machine.now c.take_apart.new.machine c.put_assume.new.machine (c.if-not-take_apart.ensures.apart refl) c.in_ok-put_assume-in-Assume.ensures.none
+returns-in_ok-put_assume-in-Assume-clause-none c = λ e h. none_apart c.args.machine.now c.take_apart.new.machine c.put_assume.new.machine
+    (c.if-not-take_apart.ensures.apart refl) c.in_ok-put_assume-in-Assume.ensures.none
 
 pub returns-in_ok-put_assume-in-Assume-clause-aside_with : goal.returns-in_ok-put_assume-in-Assume-clause-aside_with
-returns-in_ok-put_assume-in-Assume-clause-aside_with c = λ e h. with_apart c.args.machine.now c.take_apart.new.machine c.put_assume.new.machine (c.if-not-take_apart.ensures.apart refl) (none_with c.take_apart.new.machine c.put_assume.new.machine c.in_ok-put_assume-in-Assume.ensures.choices)
+returns-in_ok-put_assume-in-Assume-clause-aside_with c = λ e h. with_apart c.args.machine.now c.take_apart.new.machine c.put_assume.new.machine
+    (c.if-not-take_apart.ensures.apart refl) (none_with c.take_apart.new.machine c.put_assume.new.machine
+    c.in_ok-put_assume-in-Assume.ensures.choices)
 
 pub returns-in-Atom-clause-none : goal.returns-in-Atom-clause-none
 returns-in-Atom-clause-none c = λ e h. absurd (subst IsApartFlat c.in-Atom.is h)
@@ -217,3 +227,32 @@ returns-in-Not-clause-none c = λ e h. absurd (subst IsApartFlat c.in-Not.is h)
 
 pub returns-in-Not-clause-aside_with : goal.returns-in-Not-clause-aside_with
 returns-in-Not-clause-aside_with c = λ e h. absurd (subst IsApartFlat c.in-Not.is h)
+
+pub returns-in_ok-put_either-in-Either-clause-written : goal.returns-in_ok-put_either-in-Either-clause-written
+returns-in_ok-put_either-in-Either-clause-written c = λ e h.
+    either_writes c.args.machine.now c.take_apart.new.machine c.put_either.new.machine c.args.place c.args.goal c.in-Either.left c.in-Either.right
+    (c.if-not-take_apart.ensures.apart refl) c.in-Either.is c.in_ok-put_either-in-Either.ensures.written
+
+pub returns-in_ok-put_some-in-Some-clause-written : goal.returns-in_ok-put_some-in-Some-clause-written
+returns-in_ok-put_some-in-Some-clause-written c = λ e h.
+    some_writes c.args.machine.now c.take_apart.new.machine c.put_some.new.machine c.args.place c.args.goal c.in-Some.goals
+    (c.if-not-take_apart.ensures.apart refl) c.in-Some.is c.in_ok-put_some-in-Some.ensures.written
+
+pub returns-in_ok-put_all-in-All-clause-written : goal.returns-in_ok-put_all-in-All-clause-written
+returns-in_ok-put_all-in-All-clause-written c = λ e h.
+    all_writes c.args.machine.now c.take_apart.new.machine c.put_all.new.machine c.args.place c.args.goal c.in-All.goals
+    (c.if-not-take_apart.ensures.apart refl) c.in-All.is c.in_ok-put_all-in-All.ensures.written
+
+pub returns-in_ok-put_assume-in-Assume-clause-written : goal.returns-in_ok-put_assume-in-Assume-clause-written
+returns-in_ok-put_assume-in-Assume-clause-written c = λ e h.
+    assume_writes c.args.machine.now c.take_apart.new.machine c.put_assume.new.machine c.args.place c.args.goal c.in-Assume.rules c.in-Assume.goals
+    c.in-Assume.free (c.if-not-take_apart.ensures.apart refl) c.in-Assume.is c.in_ok-put_assume-in-Assume.ensures.written
+
+pub returns-in-Atom-clause-written : goal.returns-in-Atom-clause-written
+returns-in-Atom-clause-written c = λ e h. absurd (subst IsApartFlat c.in-Atom.is h)
+
+pub returns-in-Cut-clause-written : goal.returns-in-Cut-clause-written
+returns-in-Cut-clause-written c = λ e h. absurd (subst IsApartFlat c.in-Cut.is h)
+
+pub returns-in-Not-clause-written : goal.returns-in-Not-clause-written
+returns-in-Not-clause-written c = λ e h. absurd (subst IsApartFlat c.in-Not.is h)

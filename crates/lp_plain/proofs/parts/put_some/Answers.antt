@@ -6,6 +6,9 @@ use Rattle.std.proofs.Common.{subst, sym}
 use Rattle.lp_term.specs.Spine.{LooseBelow}
 use Rattle.std.proofs.Common.{◌≤◌}
 use Rattle.lp_plain.proofs.Marked.{marks_on}
+use Rattle.std.proofs.Common.{[], ◌∷◌, false}
+use Rattle.lp_plain.proofs.WrittenGrows.{list_in_later}
+use Rattle.lp_plain.proofs.WrittenSearches.{bound_in, search_list, search_same}
 use Rattle.lp_plain.proofs.parts.put_some.Goals as goal
 
 pub returns-clause-parts : goal.returns-clause-parts
@@ -59,3 +62,20 @@ returns-clause-none c =
     let f = c.in_ok-front.ensures in
     let x = none_then m n q c.in_ok-variable.ensures.none (none_then n o q c.in_ok-inner.ensures.none (none_kept o q f.goals f.course)) in
     record { bindings = x.bindings; pairs = x.pairs }
+
+pub returns-clause-written : goal.returns-clause-written
+returns-clause-written c = λ ar i w s.
+    let m = c.args.machine.now in
+    let n = c.opened.new.machine in
+    let o = c.bound.new.machine in
+    let p = c.args.place in
+    let e = c.in_ok-variable.ensures in
+    let v = e.variable in
+    let b = c.in_ok-inner.ensures.bound in
+    let f = c.in_ok-front.ensures in
+    let i1 = e.stands i in
+    let i2 = b.stands v.within (subst (LooseBelow 0 0) (sym v.variable) tt) i1 in
+    let s2 = search_same n o i1 b.grows b.frames b.keeps b.choices ar (search_same m n i v.grows v.frames v.assumed v.choices ar s) in
+    let l = bound_in n o p c.in_ok-inner.inner c.in_ok-variable.variable i1 b ar false c.args.goals (λ q. absurd (cc)) (list_in_later m n i v.grows ar p.values.scope (false ∷ []) c.args.goals w) in
+    let z = search_list o c.put_list.new.self c.args.goals c.in_ok-inner.inner c.args.behind f.goals f.assumed f.course.choices f.puts ar i2 l s2 in
+    record { at_work = z.at_work; alternatives = z.alternatives; older = z.older }

@@ -21,7 +21,12 @@ use Rattle.lp_model.specs.Search.{start}
 use Rattle.lp_plain.proofs.QuietMoves.{first_state}
 use Rattle.lp_plain.specs.Marks.{no_mark}
 use Rattle.lp_plain.proofs.Marking.{first_marked}
-use Rattle.lp_plain.proofs.FirstState.{begins_so, outermost}
+use Rattle.lp_plain.proofs.FirstState.{begins_so, outermost, start_known}
+use Rattle.std.proofs.lemmas.List.{length-reverse}
+use Rattle.lp_plain.specs.Tables.{shown}
+use Rattle.lp_plain.specs.WrittenTable.{own_and}
+use Rattle.lp_plain.proofs.WrittenPut.{first_written, list_put, own_binders_are}
+use Rattle.lp_plain.proofs.WrittenSearches.{search_list}
 use Rattle.lp_plain.proofs.start.begin.Goals as goal
 
 pub returns-clause-stands : goal.returns-clause-stands
@@ -118,10 +123,44 @@ returns-clause-marked c =
     first_marked _ (f.course.choices ∙ c.new-choices.ensures.items) f.course.denied (f.marks 0 0 (no_mark refl) (omega arith) (omega (arith, mk)))
 
 pub returns-clause-begun : goal.returns-clause-begun
-returns-clause-begun c = λ l n k flat h answers.
+returns-clause-begun c = λ l n k flat h hv ar answers.
     let f = c.in_ok-front.ensures in
     let o : IsOutermost outermost = record { assumed = refl; written = refl; mark = refl } in
     let alone = returns-clause-starts c l n k flat h outermost o answers in
-    begins_so c.args.limit _ (start c.args.query.type_vars (length c.args.query.vars.items) flat c.args.limit answers) _ _ alone.0 refl refl alone.1 (returns-clause-stands c) (returns-clause-placed c outermost o)
+    begins_so (record { types = c.args.query.type_vars; vars = length c.args.query.vars.items; arity = ar }) c.args.limit _
+    (start c.args.query.type_vars (length c.args.query.vars.items) flat c.args.limit answers) _ _ alone.0 refl refl refl refl alone.1
+    (returns-clause-stands c) (returns-clause-placed c outermost o)
     f.course.denied f.course.counts (ap (λ z. z.terms.entries) f.goals.known.bindings ∙ c.new-bindings.ensures.terms) (ap (λ z. z.types.entries) f.goals.known.bindings ∙ c.new-bindings.ensures.types)
-    (ap (λ z. z.pairs.items) f.course.branch ∙ c.new-pairs.ensures.items) refl refl refl refl refl
+    (ap (λ z. z.pairs.items) f.course.branch ∙ c.new-pairs.ensures.items)
+    (start_known ar c.args.query.type_vars (length c.args.query.vars.items) flat hv _ refl refl refl) refl refl refl refl refl
+
+pub returns-clause-written : goal.returns-clause-written
+returns-clause-written c = λ l n j flat h ar k w.
+    let b = c.put_all.new.bank in
+    let d = c.query_variables.new.bank in
+    let t = c.in_ok-made.made.table in
+    let list = c.in_ok-made.made.list in
+    let m = c.in_ok-made.ensures in
+    let v = c.in_ok-variables.ensures in
+    let p = c.in_ok-place.place in
+    let f = c.in_ok-front.ensures in
+    let vars = c.args.query.vars in
+    let ts = c.in_ok-variables.variables.items in
+    let count = length vars.items in
+    let e : length (reverse ts) ≡ count = (let q = length-reverse ts in omega (arith, q, v.count, c.len-count.ensures, vars.ok)) in
+    let z = search_list _ c.put_list.new.self list p _ f.goals f.assumed f.course.choices f.puts ar
+    (record {
+      table = table_later b d v.kept t m.within;
+      values = variables_are_values d ts c.query_place.new.scopes.values.items c.len-count.result v.within v.trees (c.in_ok-place.ensures.values ∙ ap (λ x. x ++ reverse ts) c.new-scopes.ensures);
+      frames = All_empty (λ (x : Frame). IsTodoIn (length d.terms) x.todo) c.new-frames.result.items c.new-frames.ensures.items;
+    })
+    (record {
+      type_vars = k;
+      binders = own_and count [];
+      values = reverse ts;
+      scope_holds = scope_whole c.query_place.new.scopes p.values.scope (reverse ts) c.in_ok-place.ensures.scope;
+      have = own_binders_are d count (reverse ts) e;
+      is = list_put d (shown t) ar k (own_and count []) list flat w (list_later b d v.kept t m.within list flat (m.query l n j flat h));
+    })
+    (first_written _ c.new-frames.ensures.items c.new.ensures.items c.new-choices.ensures.items ar) in
+    record { at_work = z.at_work; alternatives = z.alternatives; older = z.older }

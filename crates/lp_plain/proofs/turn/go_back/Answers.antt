@@ -1,7 +1,11 @@
-use Rattle.std.proofs.Common.{◌≡◌, ◌∙◌, true, false, refl, sym, ap}
+use Rattle.std.proofs.Common.{◌≡◌, ◌∙◌, true, false, refl, sym, ap, subst}
+use Rattle.lp_plain.specs.declared.choice.Untried.{Untried}
+use Rattle.lp_plain.specs.Moving.{IsTrying}
 use Rattle.lp_plain.proofs.Backwards.{back_marked, back_state, ends_so}
 use Rattle.lp_plain.proofs.Restored.{goes_back}
 use Rattle.lp_plain.proofs.BackMoves.{none_moved, side_state}
+use Rattle.lp_plain.proofs.WrittenFirst.{back_written}
+use Rattle.lp_plain.proofs.WrittenSearches.{search_back}
 use Rattle.lp_plain.proofs.turn.go_back.Goals as goal
 
 pub returns-in_ok-go_right-in-Goals-clause-goes : goal.returns-in_ok-go_right-in-Goals-clause-goes
@@ -89,40 +93,112 @@ returns-in-Denied-clause-marked c = λ k rest from e u l a s h am.
     absurd (cc)
 
 pub returns-in_ok-go_right-in-Goals-clause-resumed : goal.returns-in_ok-go_right-in-Goals-clause-resumed
-returns-in_ok-go_right-in-Goals-clause-resumed c = λ k rest from e u l s h.
+returns-in_ok-go_right-in-Goals-clause-resumed c = λ qv k rest from e u l s h.
     let m = c.args.machine.now in
     let n = c.take_choice.new.self in
     let q = c.go_right.new.machine in
     let t = c.in_ok-untried.ensures.taken k rest e in
     let g = c.in_ok-go_right-in-Goals.ensures in
     let z = returns-in_ok-go_right-in-Goals-clause-goes c k rest from e u in
-    side_state m n q k rest from e u l t.1 z.1 g.known g.assumed g.frames g.pairs s h
+    side_state qv m n q k rest from e u l t.1 z.1 g.known g.assumed g.frames g.pairs s h
 
 pub returns-in_ok-turn-in-Clauses-clause-resumed : goal.returns-in_ok-turn-in-Clauses-clause-resumed
-returns-in_ok-turn-in-Clauses-clause-resumed c = λ k rest from e u l s h.
+returns-in_ok-turn-in-Clauses-clause-resumed c = λ qv k rest from e u l s h.
     let t = c.in_ok-untried.ensures.taken k rest e in
     let z = t.0 in
     let y = c.in-Clauses.is in
     absurd (cc)
 
 pub returns-in-Denied-clause-resumed : goal.returns-in-Denied-clause-resumed
-returns-in-Denied-clause-resumed c = λ k rest from e u l s h.
+returns-in-Denied-clause-resumed c = λ qv k rest from e u l s h.
     let t = c.in_ok-untried.ensures.taken k rest e in
     let z = t.0 in
     let y = c.in-Denied.is in
     absurd (cc)
 
 pub returns-in_ok-go_right-in-Goals-clause-moved : goal.returns-in_ok-go_right-in-Goals-clause-moved
-returns-in_ok-go_right-in-Goals-clause-moved c = λ e s h. let y = c.in_ok-untried.ensures.none e in absurd (cc)
+returns-in_ok-go_right-in-Goals-clause-moved c = λ qv e s h. let y = c.in_ok-untried.ensures.none e in absurd (cc)
 
 pub returns-in_ok-turn-in-Clauses-clause-moved : goal.returns-in_ok-turn-in-Clauses-clause-moved
-returns-in_ok-turn-in-Clauses-clause-moved c = λ e s h. let y = c.in_ok-untried.ensures.none e in absurd (cc)
+returns-in_ok-turn-in-Clauses-clause-moved c = λ qv e s h. let y = c.in_ok-untried.ensures.none e in absurd (cc)
 
 pub returns-in-Denied-clause-moved : goal.returns-in-Denied-clause-moved
-returns-in-Denied-clause-moved c = λ e s h. let y = c.in_ok-untried.ensures.none e in absurd (cc)
+returns-in-Denied-clause-moved c = λ qv e s h. let y = c.in_ok-untried.ensures.none e in absurd (cc)
 
 pub returns-then-machine-clause-moved : goal.returns-then-machine-clause-moved
-returns-then-machine-clause-moved c = λ e s h. none_moved c.args.machine.now c.args.machine.now s true e (sym c.in_ok-untried.ensures.lost ∙ c.if-machine.true) h
+returns-then-machine-clause-moved c = λ qv e s h. none_moved qv c.args.machine.now c.args.machine.now s true e (sym c.in_ok-untried.ensures.lost ∙ c.if-machine.true) h
 
 pub returns-in_default-clause-moved : goal.returns-in_default-clause-moved
-returns-in_default-clause-moved c = λ e s h. none_moved c.args.machine.now c.args.machine.now s false e (sym c.in_ok-untried.ensures.lost ∙ c.if-machine.false) h
+returns-in_default-clause-moved c = λ qv e s h. none_moved qv c.args.machine.now c.args.machine.now s false e (sym c.in_ok-untried.ensures.lost ∙ c.if-machine.false) h
+
+pub returns-in_ok-turn-in-Clauses-clause-leads : goal.returns-in_ok-turn-in-Clauses-clause-leads
+returns-in_ok-turn-in-Clauses-clause-leads c = λ k rest call one e u l qv s h w ft.
+    let n = c.take_choice.new.self in
+    let o = c.in_ok-untried.ensures in
+    let t = o.taken k rest e in
+    let same : Untried.Clauses c.in-Clauses.call c.in-Clauses.candidate ≡ Untried.Clauses call one = (let z = t.0 in let y = c.in-Clauses.is in cc) in
+    let sc : c.in-Clauses.call ≡ call = cc in
+    let so : c.in-Clauses.candidate ≡ one = cc in
+    c.in_ok-turn-in-Clauses.ensures.leads qv h.around s
+    (subst (λ x. IsTrying qv n h.around x c.in-Clauses.candidate s) (sym sc) (subst (λ x. IsTrying qv n h.around call x s) (sym so) (o.trying qv k rest call one e u l s h)))
+    (search_back c.args.machine.now n k rest e t.1 qv.arity w).at_work ft
+
+pub returns-in_ok-go_right-in-Goals-clause-leads : goal.returns-in_ok-go_right-in-Goals-clause-leads
+returns-in_ok-go_right-in-Goals-clause-leads c = λ k rest call one e u l qv s h w ft.
+    let t = c.in_ok-untried.ensures.taken k rest e in
+    let z = t.0 in
+    let y = c.in-Goals.is in
+    absurd (cc)
+
+pub returns-in-Denied-clause-leads : goal.returns-in-Denied-clause-leads
+returns-in-Denied-clause-leads c = λ k rest call one e u l qv s h w ft.
+    let t = c.in_ok-untried.ensures.taken k rest e in
+    let z = t.0 in
+    let y = c.in-Denied.is in
+    absurd (cc)
+
+pub returns-in_ok-go_right-in-Goals-clause-written : goal.returns-in_ok-go_right-in-Goals-clause-written
+returns-in_ok-go_right-in-Goals-clause-written c = λ k rest from e u ar i w.
+    let t = c.in_ok-untried.ensures.taken k rest e in
+    let g = c.in_ok-go_right-in-Goals.ensures in
+    back_written c.args.machine.now c.take_choice.new.self c.go_right.new.machine k rest e t.1 g.known g.frames g.assumed g.choices ar i w
+
+pub returns-in_ok-turn-in-Clauses-clause-written : goal.returns-in_ok-turn-in-Clauses-clause-written
+returns-in_ok-turn-in-Clauses-clause-written c = λ k rest from e u ar i w.
+    let t = c.in_ok-untried.ensures.taken k rest e in
+    let z = t.0 in
+    let y = c.in-Clauses.is in
+    absurd (cc)
+
+pub returns-in-Denied-clause-written : goal.returns-in-Denied-clause-written
+returns-in-Denied-clause-written c = λ k rest from e u ar i w.
+    let t = c.in_ok-untried.ensures.taken k rest e in
+    let z = t.0 in
+    let y = c.in-Denied.is in
+    absurd (cc)
+
+pub returns-in_ok-turn-in-Clauses-clause-tries_written : goal.returns-in_ok-turn-in-Clauses-clause-tries_written
+returns-in_ok-turn-in-Clauses-clause-tries_written c = λ k rest call one e u l qv s h w.
+    let n = c.take_choice.new.self in
+    let o = c.in_ok-untried.ensures in
+    let t = o.taken k rest e in
+    let same : Untried.Clauses c.in-Clauses.call c.in-Clauses.candidate ≡ Untried.Clauses call one = (let z = t.0 in let y = c.in-Clauses.is in cc) in
+    let sc : c.in-Clauses.call ≡ call = cc in
+    let so : c.in-Clauses.candidate ≡ one = cc in
+    c.in_ok-turn-in-Clauses.ensures.written qv h.around s
+    (subst (λ x. IsTrying qv n h.around x c.in-Clauses.candidate s) (sym sc) (subst (λ x. IsTrying qv n h.around call x s) (sym so) (o.trying qv k rest call one e u l s h)))
+    (search_back c.args.machine.now n k rest e t.1 qv.arity w)
+
+pub returns-in_ok-go_right-in-Goals-clause-tries_written : goal.returns-in_ok-go_right-in-Goals-clause-tries_written
+returns-in_ok-go_right-in-Goals-clause-tries_written c = λ k rest call one e u l qv s h w.
+    let t = c.in_ok-untried.ensures.taken k rest e in
+    let z = t.0 in
+    let y = c.in-Goals.is in
+    absurd (cc)
+
+pub returns-in-Denied-clause-tries_written : goal.returns-in-Denied-clause-tries_written
+returns-in-Denied-clause-tries_written c = λ k rest call one e u l qv s h w.
+    let t = c.in_ok-untried.ensures.taken k rest e in
+    let z = t.0 in
+    let y = c.in-Denied.is in
+    absurd (cc)

@@ -1,8 +1,11 @@
 use Rattle.lp_plain.proofs.AtGoals.{at_last, at_more, running_framed}
-use Rattle.std.proofs.Common.{◌∙◌, [], ◌∷◌, ◌++◌, add-one, ap, arith, refl, subst, sym}
+use Rattle.std.proofs.Common.{◌≡◌, ◌∙◌, [], ◌∷◌, ◌++◌, add-one, ap, arith, refl, subst, sym}
 use Rattle.lp_plain.specs.Apart.{IsApart}
 use Rattle.lp_plain.proofs.Counted.{counted_first}
 use Rattle.lp_plain.proofs.FirstGoals.{last_taken, more_taken}
+use Rattle.lp_plain.specs.Taking.{IsApartFlat}
+use Rattle.lp_plain.proofs.OwnValues.{one_read}
+use Rattle.lp_plain.proofs.WrittenFirst.{last_writes, more_writes}
 use Rattle.lp_plain.proofs.turn.take_first.Goals as goal
 
 pub returns-then-second-goals-clause-taken : goal.returns-then-second-goals-clause-taken
@@ -43,15 +46,31 @@ returns-clause-aside g c = λ e hs l h f d q from r least most k i j.
     (q ∙ ap (λ z. z ++ d ∷ []) (sym c.in_ok-rest.ensures.course.choices)) from r least most (c.in_ok-rest.ensures.marks least most k i j) i j
 
 pub returns-then-second-goals-clause-moved : goal.returns-then-second-goals-clause-moved
-returns-then-second-goals-clause-moved g c = λ a raw s h at pf.
-    c.in_ok-turn.ensures.moved a raw s h (at_last c.args.machine.now a c.args.place c.args.goals c.args.behind raw c.in_ok-goal.goal c.in_ok-goal.ensures (omega (arith, c.if-second-goals.true, c.in-Some.ensures.1)) at) pf
+returns-then-second-goals-clause-moved g c = λ qv a raw s h at pf.
+    c.in_ok-turn.ensures.moved qv a raw s h (at_last c.args.machine.now a c.args.place c.args.goals c.args.behind raw c.in_ok-goal.goal c.in_ok-goal.ensures (omega (arith, c.if-second-goals.true, c.in-Some.ensures.1)) at) pf
 
 pub returns-clause-moved : goal.returns-clause-moved
-returns-clause-moved g c = λ a raw s h at pf.
+returns-clause-moved g c = λ qv a raw s h at pf.
     let m = c.args.machine.now in
     let q = c.put_frame.new.self in
     let p = c.args.place in
     let f = c.in_ok-rest.ensures in
-    c.in_ok-turn-2.ensures.moved a raw s (running_framed m q a p raw s f.goals f.course f.assumed f.frame (f.stands c.if-second-goals.false h.above.done.stands) at.place h)
+    c.in_ok-turn-2.ensures.moved qv a raw s (running_framed qv m q a p raw s f.goals f.course f.assumed f.frame (f.stands c.if-second-goals.false h.above.done.stands) at.place h)
     (at_more m q a p c.args.goals (record { from = c.in-Some.second; to = c.args.goals.to }) c.args.behind c.in_ok-rest.rest raw c.in_ok-goal.goal c.in_ok-goal.ensures (c.in-Some.ensures.1 ∙ add-one c.args.goals.from) refl
     f.goals f.assumed f.reads at) pf
+
+pub returns-then-second-goals-clause-written : goal.returns-then-second-goals-clause-written
+returns-then-second-goals-clause-written g c = λ e f got h l.
+    let m = c.args.machine.now in
+    let same : f ≡ c.in_ok-goal.goal = one_read m.table.goals.items c.args.goals.from f c.in_ok-goal.goal got c.in_ok-goal.ensures in
+    last_writes m c.take_flat.new.machine c.args.place c.args.goals c.in_ok-goal.goal c.in_ok-goal.ensures l (c.in_ok-turn.ensures.written e (subst IsApartFlat same h))
+
+pub returns-clause-written : goal.returns-clause-written
+returns-clause-written g c = λ e f got h l.
+    let m = c.args.machine.now in
+    let r = c.in_ok-rest.ensures in
+    let same : f ≡ c.in_ok-goal.goal = one_read m.table.goals.items c.args.goals.from f c.in_ok-goal.goal got c.in_ok-goal.ensures in
+    more_writes m c.put_frame.new.self c.take_flat-2.new.machine c.args.place c.args.goals (record { from = c.in-Some.second; to = c.args.goals.to })
+    c.in_ok-goal.goal c.args.behind r.goals r.assumed r.course.choices r.pushed
+    (λ i. r.stands c.if-second-goals.false i) c.in_ok-goal.ensures (c.in-Some.ensures.1 ∙ add-one c.args.goals.from) refl c.if-second-goals.false
+    (c.in_ok-turn-2.ensures.written e (subst IsApartFlat same h))

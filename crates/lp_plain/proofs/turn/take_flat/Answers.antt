@@ -49,17 +49,29 @@ pub returns-in_ok-turn-in-Not-clause-aside : goal.returns-in_ok-turn-in-Not-clau
 returns-in_ok-turn-in-Not-clause-aside g c = λ e h. absurd (subst IsApartFlat c.in-Not.is h)
 
 pub returns-in_ok-turn-in-Atom-clause-moved : goal.returns-in_ok-turn-in-Atom-clause-moved
-returns-in_ok-turn-in-Atom-clause-moved g c = λ a raw s h at pf. absurd (atom_first c.args.machine.now a c.args.place c.in-Atom.term c.args.behind raw (subst (λ f. IsAtGoal c.args.machine.now a c.args.place f c.args.behind raw) c.in-Atom.is at) pf)
+returns-in_ok-turn-in-Atom-clause-moved g c = λ qv a raw s h at pf. absurd (atom_first c.args.machine.now a c.args.place c.in-Atom.term c.args.behind raw (subst (λ f. IsAtGoal c.args.machine.now a c.args.place f c.args.behind raw) c.in-Atom.is at) pf)
 
 pub returns-in_ok-turn-in-Cut-clause-moved : goal.returns-in_ok-turn-in-Cut-clause-moved
-returns-in_ok-turn-in-Cut-clause-moved g c = λ a raw s h at pf. c.in_ok-turn-in-Cut.ensures.moved a raw s h (subst (λ f. IsAtGoal c.args.machine.now a c.args.place f c.args.behind raw) c.in-Cut.is at)
+returns-in_ok-turn-in-Cut-clause-moved g c = λ qv a raw s h at pf. c.in_ok-turn-in-Cut.ensures.moved qv a raw s h (subst (λ f. IsAtGoal c.args.machine.now a c.args.place f c.args.behind raw) c.in-Cut.is at)
 
 pub returns-in_ok-turn-in-Not-clause-moved : goal.returns-in_ok-turn-in-Not-clause-moved
-returns-in_ok-turn-in-Not-clause-moved g c = λ a raw s h at pf.
+returns-in_ok-turn-in-Not-clause-moved g c = λ qv a raw s h at pf.
     absurd (not_first c.args.machine.now a c.args.place c.in-Not.goals c.in-Not.free c.args.behind raw (subst (λ f. IsAtGoal c.args.machine.now a c.args.place f c.args.behind raw) c.in-Not.is at) pf)
 
 pub returns-in_ok-turn-in_default-clause-moved : goal.returns-in_ok-turn-in_default-clause-moved
-returns-in_ok-turn-in_default-clause-moved g c = λ a raw s h at pf.
+returns-in_ok-turn-in_default-clause-moved g c = λ qv a raw s h at pf.
     let e = c.in_ok-turn-in_default.ensures in
     let n = c.put_parts.new.machine in
-    part_moves c.args.machine.now n c.args.place c.args.goal c.args.behind c.in_ok-turn-in_default.turn e.taken e.none e.aside_with c.in_default.not-Cut a raw s h at pf n.counts e.counted
+    part_moves qv c.args.machine.now n c.args.place c.args.goal c.args.behind c.in_ok-turn-in_default.turn e.taken e.none e.aside_with c.in_default.not-Cut a raw s h at pf n.counts e.counted
+
+pub returns-in_ok-turn-in-Atom-clause-written : goal.returns-in_ok-turn-in-Atom-clause-written
+returns-in_ok-turn-in-Atom-clause-written g c = λ e h. absurd (subst IsApartFlat c.in-Atom.is h)
+
+pub returns-in_ok-turn-in-Cut-clause-written : goal.returns-in_ok-turn-in-Cut-clause-written
+returns-in_ok-turn-in-Cut-clause-written g c = λ e h. absurd (subst IsApartFlat c.in-Cut.is h)
+
+pub returns-in_ok-turn-in-Not-clause-written : goal.returns-in_ok-turn-in-Not-clause-written
+returns-in_ok-turn-in-Not-clause-written g c = λ e h. absurd (subst IsApartFlat c.in-Not.is h)
+
+pub returns-in_ok-turn-in_default-clause-written : goal.returns-in_ok-turn-in_default-clause-written
+returns-in_ok-turn-in_default-clause-written g c = c.in_ok-turn-in_default.ensures.written

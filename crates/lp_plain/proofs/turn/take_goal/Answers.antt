@@ -1,3 +1,7 @@
+use Rattle.std.proofs.Common.{sym}
+use Rattle.lp_plain.specs.declared.outcome.Turn.{Turn}
+use Rattle.lp_plain.specs.Moving.{MovesTo}
+use Rattle.lp_plain.proofs.AnswerMoves.{answer_moved}
 use Rattle.lp_plain.proofs.AtGoals.{at_frame, none_plain, term_plain}
 use Rattle.std.proofs.Common.{subst}
 use Rattle.lp_plain.specs.Apart.{IsApart}
@@ -8,6 +12,7 @@ use Rattle.lp_plain.proofs.Marked.{branch_aside, branch_marked}
 use Rattle.lp_plain.proofs.Marking.{marked_turn}
 use Rattle.lp_plain.proofs.FirstGoals.{branch_taken, term_first, term_taken}
 use Rattle.lp_plain.proofs.QuietMoves.{quiet_move}
+use Rattle.lp_plain.proofs.WrittenFirst.{branch_written, none_at_hand, term_at_hand}
 use Rattle.lp_plain.proofs.turn.take_goal.Goals as goal
 
 pub returns-in_ok-turn-in-Goals-clause-moves : goal.returns-in_ok-turn-in-Goals-clause-moves
@@ -82,12 +87,36 @@ returns-in_ok-turn-in-Term-clause-marked g c = λ e a s h f im.
     (subst (λ o. Reads m a o h.at_work.goals) c.in-Some.is h.search.branch.goals) f)
 
 pub returns-in_default-clause-moved : goal.returns-in_default-clause-moved
-returns-in_default-clause-moved g c = λ s h pf. absurd (none_plain c.args.machine.now s h c.in_default.is pf)
+returns-in_default-clause-moved g c = λ qv s h pf. absurd (none_plain qv c.args.machine.now s h c.in_default.is pf)
 
 pub returns-in_ok-turn-in-Goals-clause-moved : goal.returns-in_ok-turn-in-Goals-clause-moved
-returns-in_ok-turn-in-Goals-clause-moved g c = λ s h pf.
+returns-in_ok-turn-in-Goals-clause-moved g c = λ qv s h pf.
     let m = c.args.machine.now in
-    c.in_ok-turn-in-Goals.ensures.moved h.around h.raw s h.running (at_frame m s h c.in-Some.number c.in_ok-frame.frame c.in-Some.is c.in_ok-frame.ensures c.in-Goals.goals c.in-Goals.is) pf
+    c.in_ok-turn-in-Goals.ensures.moved qv h.around h.raw s h.running (at_frame qv m s h c.in-Some.number c.in_ok-frame.frame c.in-Some.is c.in_ok-frame.ensures c.in-Goals.goals c.in-Goals.is) pf
 
 pub returns-in_ok-turn-in-Term-clause-moved : goal.returns-in_ok-turn-in-Term-clause-moved
-returns-in_ok-turn-in-Term-clause-moved g c = λ s h pf. absurd (term_plain c.args.machine.now s h c.in-Some.number c.in_ok-frame.frame c.in-Some.is c.in_ok-frame.ensures c.in-Term.term c.in-Term.is pf)
+returns-in_ok-turn-in-Term-clause-moved g c = λ qv s h pf. absurd (term_plain qv c.args.machine.now s h c.in-Some.number c.in_ok-frame.frame c.in-Some.is c.in_ok-frame.ensures c.in-Term.term c.in-Term.is pf)
+
+pub returns-in_default-clause-answered : goal.returns-in_default-clause-answered
+returns-in_default-clause-answered g c = λ qv s h e d.
+    let m = c.args.machine.now in
+    let q = c.end_branch.ensures.answered d in
+    (q, subst (λ x. MovesTo qv x c.end_branch.new.machine s) (sym q) (subst (λ n. MovesTo qv Turn.Answered n s) (sym (c.end_branch.ensures.same d)) (answer_moved qv m s h e)))
+
+pub returns-in_ok-turn-in-Goals-clause-answered : goal.returns-in_ok-turn-in-Goals-clause-answered
+returns-in_ok-turn-in-Goals-clause-answered g c = λ qv s h e d. let y = c.in-Some.is in absurd (cc)
+
+pub returns-in_ok-turn-in-Term-clause-answered : goal.returns-in_ok-turn-in-Term-clause-answered
+returns-in_ok-turn-in-Term-clause-answered g c = λ qv s h e d. let y = c.in-Some.is in absurd (cc)
+
+pub returns-in_ok-turn-in-Goals-clause-written : goal.returns-in_ok-turn-in-Goals-clause-written
+returns-in_ok-turn-in-Goals-clause-written g c = λ e h ar i w.
+    branch_written c.args.machine.now c.take_first.new.machine c.in-Some.number c.in_ok-frame.frame c.in-Goals.goals c.in-Some.is
+    c.in_ok-frame.ensures c.in-Goals.is (c.in_ok-turn-in-Goals.ensures.written e) h ar i w
+
+pub returns-in_ok-turn-in-Term-clause-written : goal.returns-in_ok-turn-in-Term-clause-written
+returns-in_ok-turn-in-Term-clause-written g c = λ e h ar i w. absurd (term_at_hand c.args.machine.now c.in-Some.number c.in_ok-frame.frame
+    c.in-Term.term c.in-Some.is c.in_ok-frame.ensures c.in-Term.is h)
+
+pub returns-in_default-clause-written : goal.returns-in_default-clause-written
+returns-in_default-clause-written g c = λ e h ar i w. absurd (none_at_hand c.args.machine.now c.in_default.is h)

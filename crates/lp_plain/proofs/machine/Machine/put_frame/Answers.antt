@@ -42,3 +42,6 @@ returns-clause-marks c = λ l u h k j.
     let n : c.len-number.result ≡ length m.frames.items = omega (arith, c.len-number.ensures, m.frames.ok) in
     subst (λ z. HasMarks l u c.push.new.self.items (Some z)) (sym n) (mark_put l u m.frames.items c.push.new.self.items
     (record { todo = c.args.todo; place = p; behind = c.args.behind }) c.in_ok-push.ensures.items k j h)
+
+pub returns-clause-pushed : goal.returns-clause-pushed
+returns-clause-pushed c = c.in_ok-push.ensures.items

@@ -1,4 +1,4 @@
-use Rattle.std.proofs.Common.{inl, refl}
+use Rattle.std.proofs.Common.{inl, inr, refl}
 use Rattle.lp_plain.proofs.Frames.{list_todo, list_empty}
 use Rattle.lp_plain.proofs.machine.Machine.put_list.Goals as goal
 
@@ -31,3 +31,9 @@ returns-then-span-clause-marks c = λ l u h k j. h
 
 pub returns-clause-marks : goal.returns-clause-marks
 returns-clause-marks c = c.in_ok-goals.ensures.marks
+
+pub returns-then-span-clause-puts : goal.returns-then-span-clause-puts
+returns-then-span-clause-puts c = (c.in_ok-span.span, c.in_ok-span.ensures, inl refl)
+
+pub returns-clause-puts : goal.returns-clause-puts
+returns-clause-puts c = (c.in_ok-span.span, c.in_ok-span.ensures, inr (c.if-span.false, c.in_ok-goals.ensures.pushed))

@@ -1,5 +1,6 @@
 use Rattle.std.proofs.Common.{◌∙◌, Some, ap, sym, take}
 use Rattle.lp_plain.proofs.Restored.{last_same, no_push}
+use Rattle.lp_plain.proofs.CallBacks.{call_state}
 use Rattle.lp_plain.proofs.machine.Machine.take_choice.Goals as goal
 
 pub returns-clause-taken : goal.returns-clause-taken
@@ -34,3 +35,6 @@ returns-clause-none c = λ e. absurd (no_push c.pop.new.self.items c.in-Some.cho
 
 pub returns-clause-lost : goal.returns-clause-lost
 returns-clause-lost c = ap (λ z. z.lost) c.in_ok-restore.ensures.counts
+
+pub returns-clause-trying : goal.returns-clause-trying
+returns-clause-trying c = λ qv k rest call one e u l s h. call_state qv c.args.self.now _ k rest call one e u l (returns-clause-taken c k rest e).1 s h

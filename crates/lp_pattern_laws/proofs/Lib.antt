@@ -1,0 +1,10 @@
+mod Naming
+mod Renamed
+mod Reduced
+mod Looked
+mod Filled
+mod Scanned
+mod Pruned
+mod Ruled
+mod Turned
+mod Opened
