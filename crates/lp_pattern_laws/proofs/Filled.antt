@@ -7,23 +7,30 @@ use Rattle.lp_calculus.specs.Fill.{Within, Binding, raise, fill, at_variables, o
 use Rattle.lp_calculus.specs.Types.{Ty}
 use Rattle.lp_calculus.specs.Instance.{instance_atom, instance_term}
 use Rattle.lp_calculus.proofs.Sigma.{rename}
+use Rattle.lp_calculus.proofs.Commutations.{instance_fill}
 use Rattle.lp_calculus.proofs.BetaEta.{shift_one}
 use Rattle.lp_unify_laws.specs.Levels.{IsPairAtom}
 use Rattle.lp_unify_laws.proofs.Sames.{same_number}
 use Rattle.lp_unify_laws.proofs.Abstractions.{within_abstraction}
 use Rattle.lp_pattern_laws.specs.Patterns.{Name, bound, free, under, IsNewToIndex, IsNewToAtom, IsNewTo, Names, an_index, an_eigen, expanded, IsRigidAtom, IsRigid, rigid_atom, rigid_name, rigid_on, IsPatternTerm, of_index, of_atom, of_abs, rigid, on_name}
 use Rattle.lp_pattern_laws.proofs.Naming.{new_raised, first_new}
-use Rattle.lp_pattern_laws.proofs.Renamed.{pattern_raised}
+use Rattle.lp_pattern_laws.proofs.Renamed.{pattern_raised, rigid_renamed}
 use Rattle.lp_pattern_laws.proofs.Looked.{bound_within}
 
 -- terms for atoms that keep what is new and what is rigid
 pub record Fills (f : Atom → Term) : Type 0 where
   pub pattern : (a : Atom) → IsPatternTerm (f a)
   pub new : (n : Name) (a : Atom) → IsNewToAtom n a → IsNewTo n (f a)
-  pub same : (a : Atom) → IsRigidAtom a → f a ≡ atom a
+  pub rigid : (a : Atom) → IsRigidAtom a → IsRigid (f a)
+  pub eigens : (k : ℕ) → f (eigen k) ≡ atom (eigen k)
 
-fills_raise : (f : Atom → Term) → Fills f → Fills (raise f)
-fills_raise f h = record { pattern = λ a. transport IsPatternTerm (sym (shift_one (f a))) (pattern_raised (h.pattern a)); new = new; same = λ a r. ap (shift 0 1) (h.same a r) }
+pub fills_raise : (f : Atom → Term) → Fills f → Fills (raise f)
+fills_raise f h = record {
+  pattern = λ a. transport IsPatternTerm (sym (shift_one (f a))) (pattern_raised (h.pattern a));
+  new = new;
+  rigid = λ a r. transport IsRigid (sym (shift_one (f a))) (rigid_renamed suc (h.rigid a r));
+  eigens = λ k. ap (shift 0 1) (h.eigens k);
+}
   where
     raised : (n : Name) (a : Atom) → IsNewTo n (rename suc (f a)) → IsNewTo n (raise f a)
     raised n a = transport (IsNewTo n) (sym (shift_one (f a)))
@@ -35,7 +42,7 @@ fills_raise f h = record { pattern = λ a. transport IsPatternTerm (sym (shift_o
 
 names_fill : (f : Atom → Term) → Fills f → {n : Name} {t : Term} → Names n t → Names n (fill f t)
 names_fill f h (an_index i) = an_index i
-names_fill f h (an_eigen k) = transport (Names (free k)) (sym (h.same (eigen k) tt)) (an_eigen k)
+names_fill f h (an_eigen k) = transport (Names (free k)) (sym (h.eigens k)) (an_eigen k)
 names_fill f h (expanded p q) = expanded (names_fill (raise f) (fills_raise f h) p) (names_fill (raise f) (fills_raise f h) q)
 
 new_fill : (f : Atom → Term) → Fills f → (n : Name) (t : Term) → IsNewTo n t → IsNewTo n (fill f t)
@@ -45,7 +52,7 @@ new_fill f h n (abs b) k = new_fill (raise f) (fills_raise f h) (under n) b k
 new_fill f h n (app t u) k = (new_fill f h n t k.0, new_fill f h n u k.1)
 
 rigid_fill : (f : Atom → Term) → Fills f → {t : Term} → IsRigid t → IsRigid (fill f t)
-rigid_fill f h (rigid_atom a r) = transport IsRigid (sym (h.same a r)) (rigid_atom a r)
+rigid_fill f h (rigid_atom a r) = h.rigid a r
 rigid_fill f h (rigid_name p) = rigid_name (names_fill f h p)
 rigid_fill f h (rigid_on r) = rigid_on (rigid_fill f h r)
 
@@ -56,12 +63,12 @@ pattern_fill f h (of_abs p) = of_abs (pattern_fill (raise f) (fills_raise f h) p
 pattern_fill f h (rigid r p q) = rigid (rigid_fill f h r) (pattern_fill f h p) (pattern_fill f h q)
 pattern_fill f h (on_name {n = n} {t = t} p q new) = on_name (pattern_fill f h p) (names_fill f h q) (new_fill f h n t new)
 
--- what may stand at a level has no index, and no eigenconstant above the level
-pub level_new : (next l d : ℕ) (t : Term) → Within (IsPairAtom next l) d t → (i : ℕ) → d ≤ i → IsNewTo (bound i) t
-level_new next l d (index j) w i h = λ e. (let q : j ≡ i = e in omega (arith, w, h, q))
-level_new next l d (atom a) w i h = tt
-level_new next l d (abs b) w i h = level_new next l (suc d) b w (suc i) (omega (arith, h))
-level_new next l d (app t u) w i h = (level_new next l d t w.0 i h, level_new next l d u w.1 i h)
+-- what is closed has no index, and what stands at a level no eigenconstant above it
+pub level_new : (P : Atom → Type 0) (d : ℕ) (t : Term) → Within P d t → (i : ℕ) → d ≤ i → IsNewTo (bound i) t
+level_new P d (index j) w i h = λ e. (let q : j ≡ i = e in omega (arith, w, h, q))
+level_new P d (atom a) w i h = tt
+level_new P d (abs b) w i h = level_new P (suc d) b w (suc i) (omega (arith, h))
+level_new P d (app t u) w i h = (level_new P d t w.0 i h, level_new P d u w.1 i h)
 
 above_new_atom : (next l k : ℕ) (a : Atom) → IsPairAtom next l a → l < k → IsNewToAtom (free k) a
 above_new_atom next l k (eigen j) w h = λ e. (let q : j ≤ l = w in let r : j ≡ k = e in omega (arith, q, r, h))
@@ -71,11 +78,14 @@ above_new_atom next l k (integer z) w h = tt
 above_new_atom next l k (text s) w h = tt
 above_new_atom next l k (param i T) w h = tt
 
+pub atoms_new : (P : Atom → Type 0) (k : ℕ) → ((a : Atom) → P a → IsNewToAtom (free k) a) → (d : ℕ) (t : Term) → Within P d t → IsNewTo (free k) t
+atoms_new P k f d (index j) w = tt
+atoms_new P k f d (atom a) w = f a w
+atoms_new P k f d (abs b) w = atoms_new P k f (suc d) b w
+atoms_new P k f d (app t u) w = (atoms_new P k f d t w.0, atoms_new P k f d u w.1)
+
 pub above_new : (next l d : ℕ) (t : Term) → Within (IsPairAtom next l) d t → (k : ℕ) → l < k → IsNewTo (free k) t
-above_new next l d (index j) w k h = tt
-above_new next l d (atom a) w k h = above_new_atom next l k a w h
-above_new next l d (abs b) w k h = above_new next l (suc d) b w k h
-above_new next l d (app t u) w k h = (above_new next l d t w.0 k h, above_new next l d u w.1 k h)
+above_new next l d t w k h = atoms_new (IsPairAtom next l) k (λ a g. above_new_atom next l k a g h) d t w
 
 -- a value for a variable
 pub record IsPatternBinding (next : ℕ) (b : Binding) : Type 0 where
@@ -84,7 +94,7 @@ pub record IsPatternBinding (next : ℕ) (b : Binding) : Type 0 where
 
 module _ (next : ℕ) (b : Binding) (h : IsPatternBinding next b) where
   value_new : (n : Name) (x l : ℕ) → IsNewToAtom n (logic x l) → l ≡ b.level → IsNewTo n b.value
-  value_new (bound i) x l k e = level_new next b.level 0 b.value h.scoped i (omega arith)
+  value_new (bound i) x l k e = level_new (IsPairAtom next b.level) 0 b.value h.scoped i (omega arith)
   value_new (free j) x l k e = above_new next b.level 0 b.value h.scoped j (let q : l < j = k in omega (arith, q, e))
 
   value_at : (P : Term → Type 0) (x l : ℕ) → (l ≡ b.level → P b.value) → P (atom (logic x l)) → P (one b x l)
@@ -94,7 +104,7 @@ module _ (next : ℕ) (b : Binding) (h : IsPatternBinding next b) where
   ] refl
 
   fills_one : Fills (at_variables (one b))
-  fills_one = record { pattern = pattern; new = new; same = same }
+  fills_one = record { pattern = pattern; new = new; rigid = rigid; eigens = λ k. refl }
     where
       pattern : (a : Atom) → IsPatternTerm (at_variables (one b) a)
       pattern (logic x l) = value_at IsPatternTerm x l (λ e. h.pattern) (of_atom (logic x l))
@@ -112,13 +122,13 @@ module _ (next : ℕ) (b : Binding) (h : IsPatternBinding next b) where
       new n (eigen j) k = k
       new n (param i t) k = k
 
-      same : (a : Atom) → IsRigidAtom a → at_variables (one b) a ≡ atom a
-      same (logic x l) r = absurd r
-      same (constant c ts) r = refl
-      same (integer z) r = refl
-      same (text s) r = refl
-      same (eigen k) r = refl
-      same (param k t) r = refl
+      rigid : (a : Atom) → IsRigidAtom a → IsRigid (at_variables (one b) a)
+      rigid (logic x l) r = absurd r
+      rigid (constant c ts) r = rigid_atom (constant c ts) tt
+      rigid (integer z) r = rigid_atom (integer z) tt
+      rigid (text s) r = rigid_atom (text s) tt
+      rigid (eigen k) r = rigid_atom (eigen k) tt
+      rigid (param k t) r = rigid_atom (param k t) tt
 
   pub pattern_put : (t : Term) → IsPatternTerm t → IsPatternTerm (put b t)
   pattern_put t p = pattern_fill (at_variables (one b)) fills_one p
@@ -275,39 +285,27 @@ pattern_abstracted P (c ∷ cs) t p w =
     (pattern_abstraction P c (abstracted cs t) r.0 r.1, within_abstraction P P c (λ a x n. x) (abstracted cs t) r.1)
 
 -- types for type variables
-new_instance : (θ : ℕ → Ty) (n : Name) (t : Term) → IsNewTo n t → IsNewTo n (instance_term θ t)
-new_instance θ n (index i) k = k
-new_instance θ (bound i) (atom a) k = tt
-new_instance θ (free j) (atom (eigen i)) k = k
-new_instance θ (free j) (atom (logic x l)) k = k
-new_instance θ (free j) (atom (constant c ts)) k = tt
-new_instance θ (free j) (atom (integer z)) k = tt
-new_instance θ (free j) (atom (text s)) k = tt
-new_instance θ (free j) (atom (param i T)) k = tt
-new_instance θ n (abs b) k = new_instance θ (under n) b k
-new_instance θ n (app t u) k = (new_instance θ n t k.0, new_instance θ n u k.1)
+pub rigid_instance : (θ : ℕ → Ty) (a : Atom) → IsRigidAtom a → IsRigidAtom (instance_atom θ a)
+rigid_instance θ (eigen k) r = tt
+rigid_instance θ (logic x l) r = r
+rigid_instance θ (constant c ts) r = tt
+rigid_instance θ (integer z) r = tt
+rigid_instance θ (text s) r = tt
+rigid_instance θ (param i T) r = tt
 
-names_instance : (θ : ℕ → Ty) {n : Name} {t : Term} → Names n t → Names n (instance_term θ t)
-names_instance θ (an_index i) = an_index i
-names_instance θ (an_eigen k) = an_eigen k
-names_instance θ (expanded p q) = expanded (names_instance θ p) (names_instance θ q)
-
-rigid_instance_atom : (θ : ℕ → Ty) (a : Atom) → IsRigidAtom a → IsRigidAtom (instance_atom θ a)
-rigid_instance_atom θ (eigen k) r = tt
-rigid_instance_atom θ (logic x l) r = r
-rigid_instance_atom θ (constant c ts) r = tt
-rigid_instance_atom θ (integer z) r = tt
-rigid_instance_atom θ (text s) r = tt
-rigid_instance_atom θ (param i T) r = tt
-
-rigid_instance : (θ : ℕ → Ty) {t : Term} → IsRigid t → IsRigid (instance_term θ t)
-rigid_instance θ (rigid_atom a r) = rigid_atom (instance_atom θ a) (rigid_instance_atom θ a r)
-rigid_instance θ (rigid_name p) = rigid_name (names_instance θ p)
-rigid_instance θ (rigid_on r) = rigid_on (rigid_instance θ r)
+pub new_instance : (θ : ℕ → Ty) (n : Name) (a : Atom) → IsNewToAtom n a → IsNewToAtom n (instance_atom θ a)
+new_instance θ (bound i) a k = tt
+new_instance θ (free j) (eigen i) k = k
+new_instance θ (free j) (logic x l) k = k
+new_instance θ (free j) (constant c ts) k = tt
+new_instance θ (free j) (integer z) k = tt
+new_instance θ (free j) (text s) k = tt
+new_instance θ (free j) (param i T) k = tt
 
 pub pattern_instance : (θ : ℕ → Ty) {t : Term} → IsPatternTerm t → IsPatternTerm (instance_term θ t)
-pattern_instance θ (of_index i) = of_index i
-pattern_instance θ (of_atom a) = of_atom (instance_atom θ a)
-pattern_instance θ (of_abs p) = of_abs (pattern_instance θ p)
-pattern_instance θ (rigid r p q) = rigid (rigid_instance θ r) (pattern_instance θ p) (pattern_instance θ q)
-pattern_instance θ (on_name {n = n} {t = t} p q new) = on_name (pattern_instance θ p) (names_instance θ q) (new_instance θ n t new)
+pattern_instance θ {t = t} p = transport IsPatternTerm (sym (instance_fill θ t)) (pattern_fill (λ a. atom (instance_atom θ a)) (record {
+  pattern = λ a. of_atom (instance_atom θ a);
+  new = λ n a k. new_instance θ n a k;
+  rigid = λ a r. rigid_atom (instance_atom θ a) (rigid_instance θ a r);
+  eigens = λ k. refl;
+}) p)

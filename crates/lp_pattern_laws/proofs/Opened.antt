@@ -1,14 +1,22 @@
 -- Pattern text with terms in the place of its indices and atoms.
-use Rattle.std.proofs.Common.{◌≡◌, ℕ, zero, suc, ◌<◌, ◌≤◌, List, ◌∷◌, Option, Some, None, refl, sym, ap, subst as transport, arith}
+use Rattle.std.proofs.Common.{◌≡◌, ℕ, zero, suc, ◌<◌, ◌≤◌, List, ◌∷◌, Option, Some, None, refl, sym, ap, ◌∙◌, subst as transport, arith}
 use Rattle.std.specs.Prelude.{slice_get}
-use Rattle.lp_calculus.specs.Term.{Term, index, atom, abs, app, Atom, eigen, logic, constant, integer, text, param}
+use mathlib.Core.Path.{fun_ext}
+use Rattle.lp_calculus.specs.Term.{Term, index, atom, abs, app, Atom, eigen, logic, constant, integer, text, param, shift}
+use Rattle.lp_calculus.specs.Fill.{raise, fill, at_variables}
+use Rattle.lp_calculus.specs.Instance.{instance_atom}
 use Rattle.lp_calculus.specs.Closed.{AllAtoms}
-use Rattle.lp_calculus.proofs.Sigma.{up, subst}
+use Rattle.lp_calculus.proofs.Sigma.{up, subst, subst-rename, rename-subst}
+use Rattle.lp_calculus.proofs.BetaEta.{shift_one}
+use Rattle.lp_calculus.proofs.Commutations.{instance_fill}
+use Rattle.lp_calculus.proofs.Fills.{fill-fill, subst_closed}
+use Rattle.lp_model.specs.Pair.{Closing, closed}
 use Rattle.lp_model.specs.Index.{instantiate}
 use Rattle.lp_proof_laws.proofs.Uniform.Openings.{instantiate_subst}
-use Rattle.lp_pattern_laws.specs.Patterns.{Name, bound, free, under, IsNewToAtom, IsNewTo, Names, an_index, an_eigen, expanded, IsRigid, rigid_atom, rigid_name, rigid_on, IsPatternTerm, of_atom, of_abs, rigid, on_name}
-use Rattle.lp_pattern_laws.specs.Kinds.{Kind, universal, existential, IsNewAt, IsNewIn, IsUniversal, IsRigidIn, atom_head, name_head, more_on, IsPatternIn, index_in, atom_in, abs_in, rigid_in, name_in, IsAtLevel, IsPatternText, IsOpening}
-use Rattle.lp_pattern_laws.proofs.Naming.{names_raised, new_below_index, new_first, new_raised, first_new, at, names_at}
+use Rattle.lp_pattern_laws.specs.Patterns.{Name, bound, free, under, IsNewToAtom, IsNewTo, Names, an_index, an_eigen, expanded, IsRigidAtom, IsRigid, rigid_atom, rigid_name, rigid_on, IsPatternTerm, of_atom, of_abs, rigid, on_name}
+use Rattle.lp_pattern_laws.specs.Kinds.{Kind, universal, existential, IsNewAt, IsNewIn, IsUniversal, IsRigidIn, atom_head, name_head, more_on, IsPatternIn, index_in, atom_in, abs_in, rigid_in, name_in, IsAtLevel, IsPatternText, IsOpening, HasPatternValues}
+use Rattle.lp_pattern_laws.proofs.Naming.{names_raised, new_below_index, new_first, new_raised, first_new, at, at_under}
+use Rattle.lp_pattern_laws.proofs.Filled.{Fills, fills_raise, level_new, atoms_new, new_instance}
 use Rattle.lp_pattern_laws.proofs.Renamed.{image, lifted, names_pattern, pattern_raised}
 
 -- what is new one binder further out
@@ -25,6 +33,29 @@ pub record Opens (level : ℕ) (Γ : List Kind) (σ : ℕ → Term) (ν : ℕ �
   pub apart : (i j : ℕ) (b : Kind) → slice_get Γ i ≡ Some b → slice_get Γ j ≡ Some universal → IsNewAt (Some b) (bound j) i → IsNewTo (ν j) (σ i)
   pub others : (i k : ℕ) → slice_get Γ i ≡ Some universal → k ≤ level → IsNewTo (free k) (σ i)
   pub atoms : (j : ℕ) (a : Atom) → slice_get Γ j ≡ Some universal → IsAtLevel level a → IsNewToAtom (ν j) a
+
+-- terms for indices and for atoms
+abbrev put_both : (ℕ → Term) → (Atom → Term) → Term → Term
+put_both σ f (index i) = σ i
+put_both σ f (atom a) = f a
+put_both σ f (abs b) = abs (put_both (up σ) (raise f) b)
+put_both σ f (app t u) = app (put_both σ f t) (put_both σ f u)
+
+past : (σ : ℕ → Term) (t : Term) → subst (up σ) (shift 0 1 t) ≡ shift 0 1 (subst σ t)
+past σ t = ap (subst (up σ)) (shift_one t) ∙ subst-rename suc (up σ) t ∙ sym (rename-subst σ suc t) ∙ sym (shift_one (subst σ t))
+
+both_are_put : (σ : ℕ → Term) (f : Atom → Term) (t : Term) → subst σ (fill f t) ≡ put_both σ (λ a. subst σ (f a)) t
+both_are_put σ f (index i) = refl
+both_are_put σ f (atom a) = refl
+both_are_put σ f (abs b) = ap abs (both_are_put (up σ) (raise f) b ∙ ap (λ g. put_both (up σ) g b) (fun_ext (λ a. past σ (f a))))
+both_are_put σ f (app t u) = rw (both_are_put σ f t, both_are_put σ f u)
+
+names_both : (σ : ℕ → Term) (f : Atom → Term) → Fills f → {n : Name} {t : Term} → Names n t → (p : Name) → Names p (at σ n) → Names p (put_both σ f t)
+names_both σ f g (an_index i) p h = h
+names_both σ f g (an_eigen k) p h = transport (Names p) (sym (g.eigens k)) h
+names_both σ f g (expanded {n = n} q r) p h =
+    expanded (names_both (up σ) (raise f) (fills_raise f g) q (under p) (transport (Names (under p)) (sym (at_under σ n)) (names_raised h)))
+    (names_both (up σ) (raise f) (fills_raise f g) r (bound 0) (an_index 0))
 
 module _ (l : ℕ) (Γ : List Kind) (σ : ℕ → Term) (ν : ℕ → Name) (h : Opens l Γ σ ν) where
   opens_up : Opens l (universal ∷ Γ) (up σ) (lifted ν)
@@ -61,10 +92,10 @@ module _ (l : ℕ) (Γ : List Kind) (σ : ℕ → Term) (ν : ℕ → Name) (h :
   at_universal (bound j) e = h.names j e
   at_universal (free k) e = an_eigen k
 
-  rigid_opens : {t : Term} → IsRigidIn Γ t → IsRigid (subst σ t)
-  rigid_opens (atom_head a r) = rigid_atom a r
-  rigid_opens (name_head {n = n} u p) = rigid_name (names_at σ p (image ν n) (at_universal n u))
-  rigid_opens (more_on r) = rigid_on (rigid_opens r)
+  rigid_opens : (f : Atom → Term) → Fills f → {t : Term} → IsRigidIn Γ t → IsRigid (put_both σ f t)
+  rigid_opens f g (atom_head a r) = g.rigid a r
+  rigid_opens f g (name_head {n = n} u p) = rigid_name (names_both σ f g p (image ν n) (at_universal n u))
+  rigid_opens f g (more_on r) = rigid_on (rigid_opens f g r)
 
 -- an eigenconstant of a text at a level is none above it
 abbrev IsNameAt : ℕ → Name → Type 0
@@ -102,25 +133,34 @@ image_under : (ν : ℕ → Name) (n : Name) → image (lifted ν) (under n) ≡
 image_under ν (bound j) = refl
 image_under ν (free k) = refl
 
-new_opens : (l : ℕ) (Γ : List Kind) (σ : ℕ → Term) (ν : ℕ → Name) → Opens l Γ σ ν → (n : Name) → IsUniversal Γ n → IsNameAt l n → (t : Term) → AllAtoms (IsAtLevel l) t → IsNewIn Γ n t → IsNewTo (image ν n) (subst σ t)
-new_opens l Γ σ ν h n u m (index i) w k = new_index l Γ σ ν h n u m i (slice_get Γ i) refl k
-new_opens l Γ σ ν h n u m (atom a) w k = new_atom l Γ σ ν h n u a w k
-new_opens l Γ σ ν h n u m (abs b) w k =
-    transport (λ p. IsNewTo p (subst (up σ) b)) (image_under ν n)
-    (new_opens l (universal ∷ Γ) (up σ) (lifted ν) (opens_up l Γ σ ν h) (under n) (universal_under Γ n u) (level_under l n m) b w k)
-new_opens l Γ σ ν h n u m (app t s) w k = (new_opens l Γ σ ν h n u m t w.0 k.0, new_opens l Γ σ ν h n u m s w.1 k.1)
+new_opens : (l : ℕ) (Γ : List Kind) (σ : ℕ → Term) (ν : ℕ → Name) → Opens l Γ σ ν → (f : Atom → Term) → Fills f → (n : Name) → IsUniversal Γ n → IsNameAt l n → (t : Term) → AllAtoms (IsAtLevel l) t → IsNewIn Γ n t → IsNewTo (image ν n) (put_both σ f t)
+new_opens l Γ σ ν h f g n u m (index i) w k = new_index l Γ σ ν h n u m i (slice_get Γ i) refl k
+new_opens l Γ σ ν h f g n u m (atom a) w k = g.new (image ν n) a (new_atom l Γ σ ν h n u a w k)
+new_opens l Γ σ ν h f g n u m (abs b) w k =
+    transport (λ p. IsNewTo p (put_both (up σ) (raise f) b)) (image_under ν n)
+    (new_opens l (universal ∷ Γ) (up σ) (lifted ν) (opens_up l Γ σ ν h) (raise f) (fills_raise f g) (under n) (universal_under Γ n u) (level_under l n m) b w k)
+new_opens l Γ σ ν h f g n u m (app t s) w k = (new_opens l Γ σ ν h f g n u m t w.0 k.0, new_opens l Γ σ ν h f g n u m s w.1 k.1)
 
 index_opens : (l : ℕ) (Γ : List Kind) (σ : ℕ → Term) (ν : ℕ → Name) → Opens l Γ σ ν → (i : ℕ) (k : Kind) → slice_get Γ i ≡ Some k → IsPatternTerm (σ i)
 index_opens l Γ σ ν h i universal e = names_pattern (h.names i e)
 index_opens l Γ σ ν h i existential e = h.patterns i e
 
-pub pattern_opens : (l : ℕ) (Γ : List Kind) (σ : ℕ → Term) (ν : ℕ → Name) → Opens l Γ σ ν → {t : Term} → IsPatternIn Γ t → AllAtoms (IsAtLevel l) t → IsPatternTerm (subst σ t)
-pattern_opens l Γ σ ν h (index_in {k = k} i e) w = index_opens l Γ σ ν h i k e
-pattern_opens l Γ σ ν h (atom_in a) w = of_atom a
-pattern_opens l Γ σ ν h (abs_in p) w = of_abs (pattern_opens l (universal ∷ Γ) (up σ) (lifted ν) (opens_up l Γ σ ν h) p w)
-pattern_opens l Γ σ ν h (rigid_in r p q) w = rigid (rigid_opens l Γ σ ν h r) (pattern_opens l Γ σ ν h p w.0) (pattern_opens l Γ σ ν h q w.1)
-pattern_opens l Γ σ ν h (name_in {n = n} {t = t} u p q new) w =
-    on_name (pattern_opens l Γ σ ν h p w.0) (names_at σ q (image ν n) (at_universal l Γ σ ν h n u)) (new_opens l Γ σ ν h n u (name_level l q w.1) t w.0 new)
+pattern_opens : (l : ℕ) (Γ : List Kind) (σ : ℕ → Term) (ν : ℕ → Name) → Opens l Γ σ ν → (f : Atom → Term) → Fills f → {t : Term} → IsPatternIn Γ t → AllAtoms (IsAtLevel l) t → IsPatternTerm (put_both σ f t)
+pattern_opens l Γ σ ν h f g (index_in {k = k} i e) w = index_opens l Γ σ ν h i k e
+pattern_opens l Γ σ ν h f g (atom_in a) w = g.pattern a
+pattern_opens l Γ σ ν h f g (abs_in p) w = of_abs (pattern_opens l (universal ∷ Γ) (up σ) (lifted ν) (opens_up l Γ σ ν h) (raise f) (fills_raise f g) p w)
+pattern_opens l Γ σ ν h f g (rigid_in r p q) w = rigid (rigid_opens l Γ σ ν h f g r) (pattern_opens l Γ σ ν h f g p w.0) (pattern_opens l Γ σ ν h f g q w.1)
+pattern_opens l Γ σ ν h f g (name_in {n = n} {t = t} u p q new) w =
+    on_name (pattern_opens l Γ σ ν h f g p w.0) (names_both σ f g q (image ν n) (at_universal l Γ σ ν h n u)) (new_opens l Γ σ ν h f g n u (name_level l q w.1) t w.0 new)
+
+-- an eigenconstant above the level is new to what stands at it
+level_above : (l k : ℕ) (a : Atom) → l < k → IsAtLevel l a → IsNewToAtom (free k) a
+level_above l k (eigen j) m h = λ q. (let r : j ≡ k = q in let less : j ≤ l = h in omega (arith, m, r, less))
+level_above l k (logic x j) m h = let less : j ≤ l = h in let r : j < k = omega (arith, m, less) in r
+level_above l k (constant c ts) m h = tt
+level_above l k (integer z) m h = tt
+level_above l k (text s) m h = tt
+level_above l k (param i T) m h = tt
 
 -- the eigenconstant that a term is
 abbrev name_of : Term → Name
@@ -148,16 +188,52 @@ opening_opens l Γ σ o = record { names = names; patterns = o.existentials; apa
         let u = o.universals i e in
         transport (IsNewTo (free k)) (sym u.1) (λ q. (let r : u.0 ≡ k = q in let less : l < u.0 = u.2 in omega (arith, m, r, less)))
 
-    above : (k : ℕ) (a : Atom) → l < k → IsAtLevel l a → IsNewToAtom (free k) a
-    above k (eigen j) m h = λ q. (let r : j ≡ k = q in let less : j ≤ l = h in omega (arith, m, r, less))
-    above k (logic x j) m h = let less : j ≤ l = h in let r : j < k = omega (arith, m, less) in r
-    above k (constant c ts) m h = tt
-    above k (integer z) m h = tt
-    above k (text s) m h = tt
-    above k (param i T) m h = tt
-
     atoms : (j : ℕ) (a : Atom) → slice_get Γ j ≡ Some universal → IsAtLevel l a → IsNewToAtom (name_of (σ j)) a
-    atoms j a e m = let u = o.universals j e in transport (λ n. IsNewToAtom n a) (sym (is_name j u.0 u.1)) (above u.0 a u.2 m)
+    atoms j a e m = let u = o.universals j e in transport (λ n. IsNewToAtom n a) (sym (is_name j u.0 u.1)) (level_above l u.0 a u.2 m)
 
-pub text_opens : (l : ℕ) (Γ : List Kind) (t : Term) → IsPatternText l Γ t → (σ : ℕ → Term) → IsOpening l Γ σ → IsPatternTerm (instantiate σ t)
-text_opens l Γ t h σ o = transport IsPatternTerm (sym (instantiate_subst σ t)) (pattern_opens l Γ σ (λ i. name_of (σ i)) (opening_opens l Γ σ o) h.0 h.1)
+-- what a closing puts for atoms
+abbrev put_at : Closing → Atom → Term
+put_at c a = at_variables c.terms (instance_atom c.types a)
+
+closed_is : (c : Closing) (t : Term) → closed c t ≡ fill (put_at c) t
+closed_is c t = ap (fill (at_variables c.terms)) (instance_fill c.types t) ∙ fill-fill (at_variables c.terms) (λ a. atom (instance_atom c.types a)) (put_at c) (λ a. refl) t
+
+module _ (c : Closing) (v : HasPatternValues c) (σ : ℕ → Term) where
+  value_is : (x l : ℕ) → subst σ (c.terms x l) ≡ c.terms x l
+  value_is x l = subst_closed (IsAtLevel l) σ 0 (λ i m. absurd (omega (arith, m))) (c.terms x l) (v x l).1
+
+  value_new : (n : Name) (x l : ℕ) → IsNewToAtom n (logic x l) → IsNewTo n (c.terms x l)
+  value_new (bound i) x l k = level_new (IsAtLevel l) 0 (c.terms x l) (v x l).1 i (omega arith)
+  value_new (free j) x l k = atoms_new (IsAtLevel l) j (λ a w. level_above l j a k w) 0 (c.terms x l) (v x l).1
+
+  values_fill : Fills (λ a. subst σ (put_at c a))
+  values_fill = record { pattern = pattern; new = new; rigid = rigid_values; eigens = λ k. refl }
+    where
+      pattern : (a : Atom) → IsPatternTerm (subst σ (put_at c a))
+      pattern (logic x l) = transport IsPatternTerm (sym (value_is x l)) (v x l).0
+      pattern (constant k ts) = of_atom _
+      pattern (integer z) = of_atom _
+      pattern (text s) = of_atom _
+      pattern (eigen k) = of_atom _
+      pattern (param k T) = of_atom _
+
+      new : (n : Name) (a : Atom) → IsNewToAtom n a → IsNewTo n (subst σ (put_at c a))
+      new n (logic x l) k = transport (IsNewTo n) (sym (value_is x l)) (value_new n x l k)
+      new n (constant i ts) k = new_instance c.types n (constant i ts) k
+      new n (integer z) k = k
+      new n (text s) k = k
+      new n (eigen j) k = k
+      new n (param i T) k = new_instance c.types n (param i T) k
+
+      rigid_values : (a : Atom) → IsRigidAtom a → IsRigid (subst σ (put_at c a))
+      rigid_values (logic x l) r = absurd r
+      rigid_values (constant k ts) r = rigid_atom _ tt
+      rigid_values (integer z) r = rigid_atom _ tt
+      rigid_values (text s) r = rigid_atom _ tt
+      rigid_values (eigen k) r = rigid_atom _ tt
+      rigid_values (param k T) r = rigid_atom _ tt
+
+pub text_opens : (l : ℕ) (Γ : List Kind) (t : Term) → IsPatternText l Γ t → (c : Closing) → HasPatternValues c → (σ : ℕ → Term) → IsOpening l Γ σ → IsPatternTerm (instantiate σ (closed c t))
+text_opens l Γ t h c v σ o =
+    let e : instantiate σ (closed c t) ≡ put_both σ (λ a. subst σ (put_at c a)) t = instantiate_subst σ (closed c t) ∙ ap (subst σ) (closed_is c t) ∙ both_are_put σ (put_at c) t in
+    transport IsPatternTerm (sym e) (pattern_opens l Γ σ (λ i. name_of (σ i)) (opening_opens l Γ σ o) (λ a. subst σ (put_at c a)) (values_fill c v σ) h.0 h.1)

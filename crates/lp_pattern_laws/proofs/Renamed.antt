@@ -90,7 +90,7 @@ injects_lift ρ h = record { apart = go }
     go (suc i) zero e = absurd (cc)
     go (suc i) (suc j) e = ap suc (h.apart i j (let q : ρ i ≡ ρ j = cc in q))
 
-rigid_renamed : (ρ : ℕ → ℕ) {t : Term} → IsRigid t → IsRigid (rename ρ t)
+pub rigid_renamed : (ρ : ℕ → ℕ) {t : Term} → IsRigid t → IsRigid (rename ρ t)
 rigid_renamed ρ (rigid_atom a r) = rigid_atom a r
 rigid_renamed ρ (rigid_name p) = rigid_name (names_renamed ρ p)
 rigid_renamed ρ (rigid_on r) = rigid_on (rigid_renamed ρ r)

@@ -3,6 +3,8 @@
 use Rattle.std.specs.Prelude.{◌≡◌, ℕ, ◌<◌, ◌≤◌, List, ◌∷◌, Option, Some, None, slice_get}
 use Rattle.lp_calculus.specs.Term.{Term, index, atom, abs, app, Atom, constant, integer, text, eigen, logic, param}
 use Rattle.lp_calculus.specs.Closed.{AllAtoms}
+use Rattle.lp_calculus.specs.Fill.{Within}
+use Rattle.lp_model.specs.Pair.{Closing}
 use Rattle.lp_pattern_laws.specs.Patterns.{Name, bound, free, under, IsNewToIndex, IsNewToAtom, IsNewTo, Names, IsRigidAtom, IsPatternTerm}
 
 -- what an index around a text stands for: what an abstraction or a `pi` binds, or a variable of a `sigma`, of a clause or of the query
@@ -63,3 +65,7 @@ pub record IsOpening (level : ℕ) (kinds : List Kind) (σ : ℕ → Term) : Typ
   pub existentials : (i : ℕ) → slice_get kinds i ≡ Some existential → IsPatternTerm (σ i)
   pub apart : (i j k : ℕ) → slice_get kinds i ≡ Some universal → slice_get kinds j ≡ Some universal → σ j ≡ atom (eigen k) → (i ≡ j → ⊥) → IsNewTo (free k) (σ i)
   pub new : (i j k : ℕ) → slice_get kinds i ≡ Some existential → slice_get kinds j ≡ Some universal → σ j ≡ atom (eigen k) → j < i → IsNewTo (free k) (σ i)
+
+-- each logic variable gets a pattern term without variables and eigenconstants above its level, and with no loose index
+abbrev pub HasPatternValues : Closing → Type 0
+HasPatternValues c = (x l : ℕ) → IsPatternTerm (c.terms x l) × Within (IsAtLevel l) 0 (c.terms x l)
