@@ -1,6 +1,5 @@
 -- What is written in goals and clauses is told by the rest of them.
-use Rattle.std.proofs.Common.{◌≡◌, ◌∙◌, ℕ, suc, List, [], ◌∷◌, map, ap, refl, sym}
-use Rattle.lp_calculus.specs.Types.{Ty}
+use Rattle.std.proofs.Common.{◌≡◌, ◌∙◌, ap, refl, sym}
 use Rattle.lp_model.specs.Flat.{Goal, Goals, Clauses, Atomic, Cut, Either, Exists, Forall, Assume, Not, no_goals, goals, clause, no_clauses, clauses, assuming, denied}
 use Rattle.lp_code.specs.Written.{nothing_written, written_goal, written_goals, written_clauses}
 use Rattle.lp_gen.specs.inner.Bodies.{bare_goal, bare_goals, bare_clauses}

@@ -1,6 +1,6 @@
 -- The code of goals makes no variable of the record: where all are set.
-use Rattle.std.proofs.Common.{◌≡◌, ◌∙◌, ℕ, ◌+◌, List, [], ◌∷◌, ◌++◌, length, Bool, true, false, Some, ap, refl, sym, subst, true≢false, ⊎_elim}
-use Rattle.std.specs.Prelude.{nat_eq, ◌||◌}
+use Rattle.std.proofs.Common.{◌≡◌, ◌∙◌, ℕ, ◌+◌, List, [], ◌∷◌, ◌++◌, length, true, ap, refl, sym, true≢false}
+use Rattle.std.specs.Prelude.{◌||◌}
 use Rattle.std.proofs.lemmas.Bool.{eq-eqb}
 use Rattle.lp_calculus.specs.Types.{Ty}
 use Rattle.lp_calculus.specs.Term.{Term}
@@ -8,11 +8,11 @@ use Rattle.lp_model.specs.Flat.{Goal, Goals, Clauses, Atomic, Cut, Either, Exist
 use Rattle.lp_code.specs.declared.instruction.Instr.{Instr}
 use Rattle.lp_code.specs.declared.instruction.Instr.TheVariants as on
 use Rattle.lp_code.specs.States.{member}
-use Rattle.lp_gen.specs.inner.Listing.{Seen, Around, at_level}
+use Rattle.lp_gen.specs.inner.Listing.{Around}
 use Rattle.lp_gen.specs.inner.TermLaw.{AreSet}
 use Rattle.lp_gen.specs.inner.Owned.{makes, AreStarted}
 use Rattle.lp_gen.specs.inner.Bodies.{pushed}
-use Rattle.lp_gen.specs.inner.GoalCode.{quantified, AtomCode, KindCode, GoalCode, GoalsCode}
+use Rattle.lp_gen.specs.inner.GoalCode.{quantified, AtomCode, GoalCode, GoalsCode}
 use Rattle.lp_gen.proofs.OwnSet.{makes_both}
 use Rattle.lp_gen.proofs.BodySteps.{push_set}
 

@@ -1,8 +1,7 @@
 -- Which variables around clauses stand in them, place by place.
-use Rattle.std.proofs.Common.{◌≡◌, ◌∙◌, ◌≤◌, ◌<◌, ◌≢◌, ℕ, ℤ, suc, ◌+◌, ◌-◌, ◌*◌, List, [], ◌∷◌, ◌++◌, length, map, Bor, Vec, Global, true, ap, refl, sym, subst, arith}
-use Rattle.std.specs.Prelude.{sum_by}
+use Rattle.std.proofs.Common.{◌≡◌, ◌∙◌, ◌≤◌, ◌<◌, ◌≢◌, ℕ, suc, ◌+◌, ◌-◌, ◌*◌, List, [], ◌∷◌, ◌++◌, length, map, Bor, Vec, Global, true, ap, refl, sym, subst, arith}
 use Rattle.lp_calculus.specs.Types.{Ty}
-use Rattle.lp_calculus.specs.Term.{Term, Atom, index, atom, abs, app, apply, constant, integer, text, eigen, logic, param}
+use Rattle.lp_calculus.specs.Term.{Term, index, abs, app, apply}
 use Rattle.lp_term.specs.Nodes.{Nodes, tree, type_tree, node_tree}
 use Rattle.lp_term.specs.Shapes.{term_shape}
 use Rattle.lp_term.specs.Walk.{size}
@@ -14,14 +13,14 @@ use Rattle.lp_term.proofs.Walks.{map_map}
 use Rattle.lp_model.specs.declared.clause.Goal as code
 use Rattle.lp_model.specs.declared.clause.Goal.{Goal}
 use Rattle.lp_model.specs.declared.clause.Clause.{Clause}
-use Rattle.lp_model.specs.Flat.{Atomic, Cut, Either, Exists, Forall, Clauses, Clause as FlatClause, clause, clauses, no_clauses, assuming, denied, under_all}
+use Rattle.lp_model.specs.Flat.{Clauses, Clause as FlatClause, clause, clauses, no_clauses, under_all}
 use Rattle.lp_model.specs.Flattened.{goal_of, goals_of, clause_of, clauses_of}
 use Rattle.lp_code.specs.States.{member}
 use Rattle.lp_gen.specs.declared.captured.Place.{Place}
 use Rattle.lp_gen.specs.declared.captured.Place.TheVariants as on
 use Rattle.lp_gen.specs.inner.TermLaw.{AllLoose}
 use Rattle.lp_gen.specs.inner.Bodies.{IsThrough, AreThrough, AllThrough}
-use Rattle.lp_gen.specs.inner.Capturing.{IsAmong, TermsHold, PlaceHolds, PlacesHold, Covers, Marks, place_task, place_work}
+use Rattle.lp_gen.specs.inner.Capturing.{IsAmong, TermsHold, PlaceHolds, PlacesHold, Marks, place_task, place_work}
 use Rattle.lp_gen.proofs.TypeWorks.{map_length}
 use Rattle.lp_gen.proofs.Works.{two_more, application_weighs, some_args}
 use Rattle.lp_gen.proofs.PlanGoals.{atom_is, cut_is, either_is, some_is, all_is, assume_is, not_is, clause_is}

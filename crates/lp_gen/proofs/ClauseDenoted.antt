@@ -1,19 +1,17 @@
 -- What a record denotes as a clause: an assumed one but for what is written in it, and one of a program.
-use Rattle.std.proofs.Common.{◌≡◌, ◌∙◌, ◌≤◌, ◌<◌, ℕ, zero, suc, ◌+◌, List, [], ◌∷◌, ◌++◌, length, map, Bool, true, false, Option, Some, None, ap, refl, sym, subst, arith, true≢false}
+use Rattle.std.proofs.Common.{◌≡◌, ◌∙◌, ◌≤◌, ◌<◌, ℕ, zero, suc, List, [], ◌∷◌, ◌++◌, length, map, Bool, true, false, Option, Some, None, ap, refl, sym, subst, arith}
 use Rattle.std.specs.Prelude.{nat_eq, nat_lt, if◌then◌else◌, ◌||◌, is_none, slice_get}
-use Rattle.std.proofs.lemmas.Bool.{eq-eqb, eqb-true, ltb-true, ltb-false}
+use Rattle.std.proofs.lemmas.Bool.{ltb-true, ltb-false}
 use Rattle.std.proofs.lemmas.List.{length-append}
 use Rattle.lp_calculus.specs.Types.{Ty, var}
 use Rattle.lp_calculus.specs.Term.{Term, Atom}
-use Rattle.lp_model.specs.Flat.{Goals, Clause, Clauses, clause, no_clauses, clauses}
-use Rattle.lp_code.specs.declared.record.Key.{Key}
+use Rattle.lp_model.specs.Flat.{Goals, Clause, clause, no_clauses, clauses}
 use Rattle.lp_code.specs.declared.record.Key.TheVariants as key
 use Rattle.lp_code.specs.declared.rule.Rule.{Rule}
-use Rattle.lp_code.specs.Symbolic.{held}
 use Rattle.lp_code.specs.States.{Captured, State, Home, member, bind_term, bind_goals}
 use Rattle.lp_code.specs.Steps.{Later, own_types, own_variables}
 use Rattle.lp_code.specs.Written.{written_goals}
-use Rattle.lp_code.specs.Denote.{Done, run, from_zero, started, first_state, is_named, has_neck, ends_with_proceed, heads, is_known_head, head_passes, key_is, first_key, has_right_key, clause_of, clause_ran, denoted, broken_by_record, head_term, variable_types}
+use Rattle.lp_code.specs.Denote.{Done, run, from_zero, started, first_state, key_is, first_key, has_right_key, clause_of, clause_ran, denoted, broken_by_record, head_term, variable_types}
 use Rattle.lp_gen.specs.inner.Running.{TypesStand}
 use Rattle.lp_gen.specs.inner.Listing.{Around}
 use Rattle.lp_gen.specs.inner.TermLaw.{AllLoose, with_variables}

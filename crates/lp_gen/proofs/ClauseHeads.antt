@@ -1,25 +1,24 @@
 -- The head of a clause that fits: its predicate, and what is known of it before it is matched.
-use Rattle.std.proofs.Common.{◌≡◌, ◌∙◌, ◌≤◌, ◌<◌, ℕ, zero, suc, ◌+◌, ◌-◌, List, [], ◌∷◌, map, Bool, true, false, Option, Some, None, ap, refl, sym, subst, arith, true≢false}
+use Rattle.std.proofs.Common.{◌≡◌, ◌∙◌, ◌≤◌, ◌<◌, ℕ, ◌-◌, List, [], ◌∷◌, map, Bool, true, false, Option, Some, None, ap, refl, sym, subst, arith, true≢false}
 use Rattle.std.specs.Prelude.{nat_eq, nat_lt, ◌&&◌, is_some, slice_get, slice_index_or, unwrap_or}
 use Rattle.std.proofs.lemmas.Bool.{lt-ltb}
 use Rattle.lp_calculus.specs.Types.{Ty, arrow}
-use Rattle.lp_calculus.specs.Term.{Term, Atom, index, atom, abs, app, apply, constant, integer, text, eigen, logic, param}
+use Rattle.lp_calculus.specs.Term.{Term, Atom, index, atom, abs, app, constant, integer, text, eigen, logic, param}
 use Rattle.lp_calculus.specs.Typing.{Scheme, o_type, HasType}
-use Rattle.lp_calculus.specs.Spine.{head_of, arguments}
+use Rattle.lp_calculus.specs.Spine.{head_of}
 use Rattle.lp_model.specs.Flatten.{ends_in_o, heads_clauses, is_clause_head}
 use Rattle.lp_standard.specs.Constants.{is_declared}
 use Rattle.lp_code.specs.declared.record.RecordHead.{RecordHead}
-use Rattle.lp_code.specs.declared.record.RecordHead.TheVariants.{Const, Register}
-use Rattle.lp_code.specs.Symbolic.{Built, held, whole, term_in, plain_terms}
+use Rattle.lp_code.specs.Symbolic.{Built, held, whole, term_in}
 use Rattle.lp_code.specs.States.{State, Home}
 use Rattle.lp_code.specs.Denote.{heads, is_known_head, head_passes, is_all_variable}
 use Rattle.lp_gen.specs.Sources.{types_by, IsKnownType}
 use Rattle.lp_gen.specs.declared.emitter.Emitter.{Emitter}
 use Rattle.lp_gen.specs.inner.Listing.{Seen, Around, level_in, at_level}
-use Rattle.lp_gen.specs.inner.TermLaw.{IsSeen, AllLoose, Standing, level_term, with_variables}
-use Rattle.lp_gen.specs.inner.Heading.{PredicateStands, predicate_of, level_register, seen_register, atom_predicate, IsPredicate, IsHeadAtom}
-use Rattle.lp_gen.specs.inner.BodyLaw.{HeadFits, AreAlls}
-use Rattle.lp_gen.specs.inner.Recorded.{HeadWritten, head_key, key_in, first_key_of}
+use Rattle.lp_gen.specs.inner.TermLaw.{IsSeen, AllLoose, level_term, with_variables}
+use Rattle.lp_gen.specs.inner.Heading.{PredicateStands, predicate_of, level_register, seen_register, IsPredicate, IsHeadAtom}
+use Rattle.lp_gen.specs.inner.BodyLaw.{HeadFits}
+use Rattle.lp_gen.specs.inner.Recorded.{HeadWritten, key_in, first_key_of}
 use Rattle.lp_gen.proofs.BodyParts.{loose_at}
 
 pub head_predicate : (K : ℕ → List Ty → Ty) (e e' : Emitter) (a a' : Around) (p : Option RecordHead) (t : Term) → HeadWritten K e e' a a' p (Some t) → p ≡ Some (predicate_of a (head_of t))

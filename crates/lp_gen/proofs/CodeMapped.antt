@@ -3,16 +3,13 @@ use Rattle.std.proofs.Common.{◌≡◌, ◌∙◌, ◌≤◌, ℕ, suc, ◌+◌
 use Rattle.lp_calculus.specs.Types.{Ty}
 use Rattle.lp_model.specs.Flat.{Goal, Goals, Clauses, Atomic, Cut, Either, Exists, Forall, Assume, Not, no_goals, goals}
 use Rattle.lp_code.specs.declared.instruction.Instr.{Instr}
-use Rattle.lp_code.specs.declared.instruction.Instr.TheVariants as on
 use Rattle.lp_code.specs.Rules.{names_of, names_in}
 use Rattle.lp_gen.specs.inner.Listing.{Around}
-use Rattle.lp_gen.specs.inner.Owned.{makes_types, new_type}
 use Rattle.lp_gen.specs.inner.Bodies.{pushed, new_level}
 use Rattle.lp_gen.specs.inner.GoalCode.{quantified, numbers, GoalCode, GoalsCode}
 use Rattle.lp_gen.specs.inner.OpenGoals.{plain_goal, plain_goals}
 use Rattle.lp_gen.specs.inner.Planned.{clauses_length, goal_records, goals_records, GoalHas, GoalsHave}
 use Rattle.lp_gen.proofs.BodySteps.{push_level}
-use Rattle.lp_gen.proofs.GoalsGrow.{goal_grows}
 
 -- what is written in goals matters to none of this
 

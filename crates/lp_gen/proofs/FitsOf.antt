@@ -1,5 +1,5 @@
 -- Goals of which there is code fit: as they stand, and where less is known of indices.
-use Rattle.std.proofs.Common.{◌≡◌, ◌∙◌, ◌≤◌, ◌<◌, ℕ, zero, suc, ◌+◌, ◌-◌, List, [], ◌∷◌, ◌++◌, map, Bool, true, false, Option, Some, None, ap, refl, sym, subst, arith}
+use Rattle.std.proofs.Common.{◌≡◌, ◌≤◌, ℕ, zero, suc, ◌+◌, ◌-◌, List, [], ◌∷◌, ◌++◌, map, Bool, true, false, Option, Some, subst, arith}
 use Rattle.std.specs.Prelude.{slice_get}
 use Rattle.lp_calculus.specs.Types.{Ty}
 use Rattle.lp_calculus.specs.Term.{Term, Atom, index, atom, abs, app}
@@ -9,7 +9,7 @@ use Rattle.lp_code.specs.declared.record.Record.{Record}
 use Rattle.lp_code.specs.Symbolic.{Tables}
 use Rattle.lp_code.specs.States.{Home}
 use Rattle.lp_code.specs.Denote.{home_of}
-use Rattle.lp_gen.specs.Sources.{types_by, Under, bound, all_bound, IsAtom, IsGoal, AreGoals, AreAssumed, ends_list}
+use Rattle.lp_gen.specs.Sources.{types_by, Under, bound, all_bound, IsAtom, IsGoal, AreGoals, AreAssumed}
 use Rattle.lp_gen.specs.inner.TermLaw.{AllLoose, KnownAtoms}
 use Rattle.lp_gen.specs.inner.Bodies.{IsThrough, AreThrough, AllThrough}
 use Rattle.lp_gen.specs.inner.BodyLaw.{one_more, more_of, GoalFits, GoalsFit, ClausesFit}
@@ -34,7 +34,7 @@ one_holds : (Γ : List Ty) (T : Ty) (Q : ℕ → Type 0) → Holds Γ Q → Hold
 one_holds Γ T Q f zero U e = tt
 one_holds Γ T Q f (suc i) U e = f i U e
 
-all_hold : (vs Γ : List Ty) (Q : ℕ → Type 0) → Holds Γ Q → Holds (vs ++ Γ) (more_of vs Q)
+pub all_hold : (vs Γ : List Ty) (Q : ℕ → Type 0) → Holds Γ Q → Holds (vs ++ Γ) (more_of vs Q)
 all_hold [] Γ Q f = f
 all_hold (T ∷ Ts) Γ Q f = one_holds (Ts ++ Γ) T (more_of Ts Q) (all_hold Ts Γ Q f)
 

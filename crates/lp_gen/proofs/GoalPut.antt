@@ -1,5 +1,5 @@
 -- The code of a goal, and of a part of the head, that was put: its instruction breaks no rule, and does what it should.
-use Rattle.std.proofs.Common.{◌≡◌, ◌∙◌, ◌<◌, ℕ, ◌+◌, ℤ, List, [], ◌∷◌, ◌++◌, length, Bool, true, false, Option, Some, None, Vec, Global, ap, refl, sym, subst, arith, eq-eqb}
+use Rattle.std.proofs.Common.{◌≡◌, ◌∙◌, ◌<◌, ℕ, ◌+◌, ℤ, List, [], ◌∷◌, ◌++◌, Bool, true, false, Option, Some, None, Vec, Global, ap, refl, sym, subst, arith, eq-eqb}
 use Rattle.std.specs.Prelude.{nat_eq, nat_le, not, ◌||◌, ◌&&◌, if◌then◌else◌, is_none, sum_by, unwrap_or, option_map}
 use Rattle.std.specs.List.{list_any}
 use Rattle.std.proofs.lemmas.List.{append-nil}

@@ -1,18 +1,13 @@
 -- The records of clauses denote the clauses.
-use Rattle.std.proofs.Common.{◌≡◌, ◌∙◌, ◌≤◌, ◌<◌, ℕ, zero, suc, ◌+◌, ◌^◌, List, [], ◌∷◌, ◌++◌, append_assoc, length, map, drop, Bor, Bool, true, false, Option, Some, None, ap, refl, sym, subst, arith}
-use Rattle.std.specs.Prelude.{All, if◌then◌else◌, is_none, slice_get, option_map, option_and_then}
-use Rattle.std.proofs.lemmas.List.{append-nil, length-append}
-use Rattle.lp_standard.specs.Schemes.{IsStandard}
-use Rattle.lp_term.specs.Nodes.{Nodes}
+use Rattle.std.proofs.Common.{◌≡◌, ◌∙◌, ◌≤◌, ℕ, zero, suc, ◌+◌, List, [], ◌∷◌, ◌++◌, length, drop, true, false, Some, None, ap, refl, sym, arith}
+use Rattle.std.specs.Prelude.{if◌then◌else◌, slice_get, option_map, option_and_then}
 use Rattle.lp_model.specs.Flat.{Clause}
-use Rattle.lp_model.specs.Flattened.{clause_of, goals_of}
-use Rattle.lp_model.specs.declared.clause.Clause as code
 use Rattle.lp_code.specs.declared.record.Record.{Record}
 use Rattle.lp_code.specs.Symbolic.{Tables as CodeTables}
 use Rattle.lp_code.specs.States.{member}
 use Rattle.lp_code.specs.Rules.{named_before}
 use Rattle.lp_code.specs.Denote.{home_of, is_named, denoted, denote_from, later_from, nothing_captured}
-use Rattle.lp_gen.proofs.PartsTell.{told_at}
+use Rattle.lp_gen.proofs.PartsDone.{told_at}
 
 -- a record of the program with those that it assumes
 

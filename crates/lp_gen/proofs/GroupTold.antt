@@ -1,47 +1,50 @@
 -- What the records of a clause denote among all records.
-use Rattle.std.proofs.Common.{◌≡◌, ◌≢◌, ◌∙◌, ◌⊎◌, inl, inr, ⊎_elim, ◌≤◌, ◌<◌, ℕ, zero, suc, ◌+◌, ◌-◌, ◌^◌, List, [], ◌∷◌, ◌++◌, append_assoc, length, map, Bor, Bool, true, false, Option, Some, None, ap, refl, sym, subst, arith, true≢false}
-use Rattle.std.specs.Prelude.{nat_eq, nat_lt, ◌||◌, All, is_none, slice_get, option_map}
-use Rattle.std.proofs.lemmas.Bool.{eq-eqb, eqb-true, ltb-true, ltb-false}
+use Rattle.std.proofs.Common.{◌≡◌, ◌∙◌, ◌⊎◌, inl, inr, ⊎_elim, ◌≤◌, ◌<◌, ℕ, zero, suc, ◌+◌, ◌-◌, ◌^◌, List, [], ◌∷◌, ◌++◌, append_assoc, length, map, drop, reverse, Bor, Bool, true, false, Option, Some, None, ap, refl, sym, subst, arith}
+use Rattle.std.specs.Prelude.{nat_eq, nat_lt, All, is_none, slice_get, option_map}
+use Rattle.std.proofs.lemmas.Bool.{ltb-true, ltb-false}
 use Rattle.std.proofs.lemmas.List.{append-nil, length-append}
 use Rattle.std.proofs.lemmas.List.Elements.{All-nil, All-append, All-get_or}
 use Rattle.std.proofs.lemmas.Option.{slice_get_within, get_or_from_slice_get}
 use Rattle.lp_lemmas.proofs.Lists.{get_append}
 use Rattle.indexmap.specs.IndexMap.{IndexMap, index_map_len}
 use Rattle.lp_calculus.specs.Types.{Ty}
-use Rattle.lp_calculus.specs.Term.{Term, index, atom, abs, app}
 use Rattle.lp_standard.specs.Schemes.{IsStandard}
-use Rattle.lp_term.specs.Nodes.{Nodes, tree, type_tree}
-use Rattle.lp_model.specs.Flat.{Goal, Goals, Clause, Clauses, Atomic, Cut, Either, Exists, Forall, Assume, Not, no_goals, goals, clause, no_clauses, clauses, under_all}
+use Rattle.lp_term.specs.Nodes.{Nodes, tree}
+use Rattle.lp_model.specs.Flat.{Goal, Goals, Clause, Clauses, Atomic, Cut, Either, Exists, Forall, Assume, Not, no_goals, goals, clause, no_clauses, clauses}
 use Rattle.lp_model.specs.Flattened.{goals_of, clause_of, clauses_of}
 use Rattle.lp_model.specs.declared.clause.Clause as code
+use Rattle.lp_model.specs.declared.clause.Goal as code_goal
+use Rattle.lp_model.specs.declared.program.Typed as query
+use Rattle.lp_code.specs.declared.record.RecordHead.{RecordHead}
+use Rattle.lp_gen.specs.declared.emitter.Emitter.{Emitter}
+use Rattle.lp_gen.specs.declared.environment.Environment.{Environment}
+use Rattle.lp_gen.specs.declared.plan.Origin.{Origin}
 use Rattle.lp_code.specs.declared.record.Record.{Record}
 use Rattle.lp_code.specs.Symbolic.{Tables as CodeTables}
 use Rattle.lp_code.specs.States.{member}
 use Rattle.lp_code.specs.Rules.{named_before, names_in}
-use Rattle.lp_code.specs.Denote.{home_of, nothing_captured}
-use Rattle.lp_gen.specs.Sources.{IsClause}
+use Rattle.lp_code.specs.Denote.{home_of, nothing_captured, later_from, first_state, run, query_ran}
+use Rattle.lp_gen.specs.Sources.{IsClause, IsQuery}
 use Rattle.lp_gen.specs.declared.environment.Variable.{Variable}
 use Rattle.lp_gen.specs.declared.plan.Assumption.{Assumption}
 use Rattle.lp_gen.specs.declared.plan.Due.{Due}
 use Rattle.lp_gen.specs.declared.plan.Part.{Part}
 use Rattle.lp_gen.specs.declared.plan.Origin.TheVariants as origin
 use Rattle.lp_gen.specs.declared.record.Tables.{Tables}
-use Rattle.lp_gen.specs.inner.Listing.{Seen, seen, constant_function}
-use Rattle.lp_gen.specs.inner.TermLaw.{AllLoose}
+use Rattle.lp_gen.specs.inner.Listing.{Seen, seen, around_of, constant_function}
 use Rattle.lp_gen.specs.inner.Written.{AreAsked}
-use Rattle.lp_gen.specs.inner.Bodies.{IsThrough, AreThrough, AllThrough}
 use Rattle.lp_gen.specs.inner.GoalCode.{numbers}
 use Rattle.lp_gen.specs.inner.Entering.{types_at}
-use Rattle.lp_gen.specs.inner.OpenGoals.{goals_steps, EndsGoal, EndsGoals}
-use Rattle.lp_gen.specs.inner.BodyCode.{Suppositions, started_at, AreAllSet, HoldStarts, steps_of, starts_all}
-use Rattle.lp_gen.specs.inner.Recorded.{RecordWritten, own_count}
-use Rattle.lp_gen.specs.inner.Planned.{clauses_length, goal_records, goals_records, GoalHas, GoalsHave, AreWritten, DeepGoal, DeepGoals, DeepClauses, IsAssumption, IsAtLevel, IsCaptured, AreCaptured}
-use Rattle.lp_gen.specs.inner.Planning.{AreAssumed, AllCaptured, Extends, HoldClauses, AssumptionAt, PartPlanned, AllPlanned, IsPartOf, ArePlanned, body_of}
+use Rattle.lp_gen.specs.inner.OpenGoals.{EndsGoal, EndsGoals}
+use Rattle.lp_gen.specs.inner.BodyCode.{Suppositions, started_at, AreAllSet, HoldStarts, starts_all}
+use Rattle.lp_gen.specs.inner.Recorded.{RecordWritten, own_count, FrontWritten, HeadWritten, head_in}
+use Rattle.lp_gen.specs.inner.Planned.{clauses_length, goal_records, goals_records, GoalHas, GoalsHave, DeepGoal, DeepGoals, DeepClauses, IsAssumption, IsAtLevel, AreCaptured}
+use Rattle.lp_gen.specs.inner.Planning.{AllCaptured, Extends, HoldClauses, AssumptionAt, PartPlanned, AllPlanned, ArePlanned, body_of}
 use Rattle.lp_gen.specs.inner.Groups.{IsStartOf, AllWritten}
-use Rattle.lp_gen.proofs.TypeWorks.{map_length}
 use Rattle.lp_gen.proofs.PlanWalked.{extends_same, extends_at, get_behind}
 use Rattle.lp_gen.proofs.PlanGoals.{clause_is, clauses_many}
-use Rattle.lp_gen.proofs.PartsTell.{clause_at, told_at, PartDone, IsMember, flat_of, program_told}
+use Rattle.lp_gen.proofs.PartsDone.{clause_at, told_at, PartDone, IsMember, flat_of}
+use Rattle.lp_gen.proofs.PartsTell.{program_told, query_told}
 use Rattle.lp_gen.proofs.RecordNamed.{names}
 use Rattle.lp_gen.proofs.NamedNumbers.{member_left, member_right, member_cases, member_numbers, numbers_member, named_one_more}
 
@@ -50,6 +53,14 @@ from_none xs j = let z : 0 + j ≡ j = omega arith in ap (slice_get xs) z
 
 no_start : {X : Type 0} (x : X) → ◌≡◌ {A = Option X} None (Some x) → ⊥
 no_start x e = cc
+
+-- a query has no head
+query_no_head : (b : Nodes) (K : ℕ → List Ty → Ty) (e e' : Emitter) (env env' : Environment) (o : Origin) (p : Option RecordHead) (q : Bor query.Typed) (gs : Bor (List code_goal.Goal)) →
+    FrontWritten b K e e' env env' o p →
+    o ≡ origin.Query q gs → p ≡ None
+query_no_head b K e e' env env' o None q gs f is = refl
+query_no_head b K e e' env env' o (Some p) q gs f is =
+    absurd (subst (λ u. HeadWritten K f.begun f.matched (around_of b f.begun_env) (around_of b f.matched_env) (Some p) (head_in b u)) is f.head)
 
 -- what is at a place of parts and records that are written
 pub record At (S : Type 0) (t : Tables) (us : List Due) (xs : List Assumption) (starts : List (IndexMap ℕ Variable S)) (i : ℕ) (p : Part) (r : Record) : Type 0 where
@@ -191,9 +202,6 @@ low_or_high v q = go (nat_lt v q) refl
     go true e = inl (ltb-true v q e)
     go false e = inr (ltb-false v q e)
 
-same_origin : (c d : Bor code.Clause) → origin.Clause c ≡ origin.Clause d → c ≡ d
-same_origin c d e = cc
-
 mutual
   deep_end : (g : Goal) → DeepGoal g → EndsGoal g
   deep_end (Atomic t) x = tt
@@ -227,9 +235,9 @@ clauses_in_place b (Some x) = clauses_of b x.clauses.now
 abbrev pub supposed : {S : Type 0} → Nodes → List Assumption → List (IndexMap ℕ Variable S) → Suppositions
 supposed b xs starts = record { clauses = λ n. clauses_in_place b (slice_get xs n); starts = λ n l. start_at b (slice_get starts n) l; counts = λ n. count_at (slice_get starts n) }
 
-module _ (S : Type 0) (t : Tables) (of : Bor code.Clause) (us : List Due) (parts : List Part) (g : List Record) (starts : List (IndexMap ℕ Variable S))
-    (plan : ArePlanned (origin.Clause of) us parts t.assumptions.now)
-    (w : AllWritten t [] starts parts g) (low : t.first + length parts < 2 ^ 32) (deep : DeepGoals (goals_of t.bank.now of.now.body.items)) (standing : AllCaptured t.bank.now t.assumptions.now) where
+module _ (S : Type 0) (t : Tables) (o1 : Origin) (us : List Due) (parts : List Part) (g : List Record) (starts : List (IndexMap ℕ Variable S))
+    (plan : ArePlanned o1 us parts t.assumptions.now)
+    (w : AllWritten t [] starts parts g) (low : t.first + length parts < 2 ^ 32) (deep : DeepGoals (goals_of t.bank.now (body_of o1))) (standing : AllCaptured t.bank.now t.assumptions.now) where
   abbrev b : Nodes
   b = t.bank.now
 
@@ -241,30 +249,6 @@ module _ (S : Type 0) (t : Tables) (of : Bor code.Clause) (us : List Due) (parts
 
   hold : HoldClauses b xs cl
   hold n x at = ap (clauses_in_place b) at
-
-  -- each part is one of a clause
-  origin_of : (i : ℕ) (p : Part) → slice_get parts i ≡ Some p → (c : Bor code.Clause) × (p.origin ≡ origin.Clause c)
-  origin_of i p at =
-      let u = plan.stands.are i p at in
-      by_within u.0 u.1 u.2 u.0.within refl
-    where
-      by_within : (u : Due) → slice_get us i ≡ Some u → IsPartOf u p → (o : Option ℕ) → u.within ≡ o → (c : Bor code.Clause) × (p.origin ≡ origin.Clause c)
-      by_within u at_u is None e =
-          let z = plan.stands.assumed.outer i u at_u e in
-          let f = plan.stands.begin in
-          let same : u ≡ f.0 = one_only (slice_get us 0) u f.0 (ap (slice_get us) (sym z) ∙ at_u) f.1 in
-          (of, is.0 ∙ ap (λ y. y.origin) same ∙ f.2)
-      by_within u at_u is (Some n) e =
-          let k = plan.stands.assumed.known i n u at_u e in
-          let x = k.0 in
-          let s = plan.stands.assumed.each n x k.1 in
-          let le = k.2 in
-          let lt = k.3 in
-          let c = there_is x.clauses.now (i - x.first) (let z = s.count in omega (arith, le, lt, z)) in
-          let m = s.members (i - x.first) c.0 c.1 in
-          let back : x.first + (i - x.first) ≡ i = omega (arith, le) in
-          let same : m.0 ≡ u = one_only (slice_get us i) m.0 u (ap (slice_get us) (sym back) ∙ m.1) at_u in
-          (m.2.0, is.0 ∙ ap (λ y. y.origin) (sym same) ∙ m.2.2)
 
   -- an assumed one is a member
   member_of : (i n : ℕ) (p : Part) → slice_get parts i ≡ Some p → p.within ≡ Some n → (x : Assumption) × (j : ℕ) × (c : code.Clause) × (e : Bor code.Clause) × (slice_get xs n ≡ Some x) ×
@@ -345,12 +329,6 @@ module _ (S : Type 0) (t : Tables) (of : Bor code.Clause) (us : List Due) (parts
       go None e x = λ l v at. absurd (no_start v (sym (none l x) ∙ at))
       go (Some n) e x = All-at (AreAllSet b) z.before n z.captured z.are_set (x (z.planned.around n e))
 
-  goals_at : (c : Bor code.Clause) (i : ℕ) (p : Part) → p.origin ≡ origin.Clause c → body_of p.origin ≡ c.now.body.items
-  goals_at c i p o = ap body_of o
-
-  count_is : (c : Bor code.Clause) (p : Part) → p.origin ≡ origin.Clause c → length (types_at b c.now.vars.items) ≡ own_count p.origin
-  count_is c p o = map_length (λ i. type_tree b i.0) c.now.vars.items ∙ sym (ap own_count o)
-
   bound : length us ≡ length parts
   bound = sym plan.all
 
@@ -361,15 +339,11 @@ module _ (S : Type 0) (t : Tables) (of : Bor code.Clause) (us : List Due) (parts
   names_at : (T : CodeTables) (i : ℕ) (p : Part) (r : Record) (z : At S t us xs starts i p r) → slice_get parts i ≡ Some p → (n : ℕ) × (names_in r.code.items ≡ numbers (t.first + z.q) n) ×
       (t.first + z.s ≡ t.first + z.q + n)
   names_at T i p r z at =
-      let c = origin_of i p at in
       let next = z.planned.are_next t (extends_same xs) few_due in
-      let goals = goals_at c.0 i p c.1 in
       let few = z.planned.few in
       let short = z.planned.short in
-      let count = count_is c.0 p c.1 in
-      let w = names t p z.captured z.more c.0 (home_of T [] i r) z.written c.1 (set_at i p r z) cl (t.first + z.q) (length z.before) (goals_of b (body_of p.origin)) (kept_at i p r z)
-      (z.planned.says b cl hold) (ends_at i p at) next.0
-      (omega (arith, few, short, count)) in
+      let w = names t p z.captured z.more p.origin (home_of T [] i r) z.written refl (set_at i p r z) cl (t.first + z.q) (length z.before) (goals_of b (body_of p.origin)) (kept_at i p r z)
+      (z.planned.says b cl hold) (ends_at i p at) next.0 (omega (arith, few, short)) in
       (w.0, w.1, sym next.1 ∙ w.2)
 
   module _ (T : CodeTables) (all : List Record) (placed : (i : ℕ) (r : Record) → slice_get g i ≡ Some r → slice_get all (t.first + i) ≡ Some r)
@@ -420,19 +394,17 @@ module _ (S : Type 0) (t : Tables) (of : Bor code.Clause) (us : List Due) (parts
       captured = z.captured;
       starts = z.more;
       written = z.written;
-      of = o.0;
-      origin_is = o.1;
       first = length z.before;
       kept = kept_at i p r z;
       next = t.first + z.q;
       later = let l = z.planned.later in omega (arith, l);
-      steps = subst (λ gs. steps_of b cl p.steps.items ≡ goals_steps (goals_of b gs)) goals (z.planned.says b cl hold);
+      steps = z.planned.says b cl hold;
       are_next = (z.planned.are_next t (extends_same xs) few_due).0;
-      has = have_map (IsAssumption t cl) (IsAtLevel t) level (t.first + z.q) (p.base + length (types_at b o.0.now.vars.items)) (goals_of b o.0.now.body.items) has_clauses;
-      well = subst (λ gs. AreWritten (goals_of b gs)) goals (z.planned.written b);
+      has = have_map (IsAssumption t cl) (IsAtLevel t) level (t.first + z.q) (p.base + own_count p.origin) (goals_of b (body_of p.origin)) has_clauses;
+      well = z.planned.written b;
       has_clauses = has_clauses;
-      few = let f = z.planned.few in let h = z.planned.short in omega (arith, f, h, count);
-      short = let f = z.planned.few in omega (arith, f, count);
+      few = let f = z.planned.few in let h = z.planned.short in omega (arith, f, h);
+      short = let f = z.planned.few in omega (arith, f);
       starts_are = λ n within.
           let there = extends_at (z.before ++ z.more) starts n z.captured z.extends (get_append z.before z.more n z.captured
           (subst (λ v. IsStartOf z.before v z.captured) within z.starts_with (z.planned.around n within))) in
@@ -445,24 +417,12 @@ module _ (S : Type 0) (t : Tables) (of : Bor code.Clause) (us : List Due) (parts
         z : At S t us xs starts i p r
         z = placed_one.0
 
-        o : (c : Bor code.Clause) × (p.origin ≡ origin.Clause c)
-        o = origin_of i p at
-
-        goals : body_of p.origin ≡ o.0.now.body.items
-        goals = goals_at o.0 i p o.1
-
-        count : length (types_at b o.0.now.vars.items) ≡ own_count p.origin
-        count = count_is o.0 p o.1
-
         as_assumption : (q d : ℕ) (cs : Clauses) → AssumptionAt b xs t.first q d cs → IsAssumption t cl q d cs
         as_assumption q d cs (n, x, found, is, first, base) = (n, x, found, is ∙ sym (hold n x found), first, base)
 
-        has_clauses : GoalsHave (IsAssumption t cl) (t.first + z.q) (p.base + length (types_at b o.0.now.vars.items)) (goals_of b o.0.now.body.items)
-        has_clauses =
-            subst (λ k. GoalsHave (IsAssumption t cl) (t.first + z.q) (p.base + k) (goals_of b o.0.now.body.items)) (sym count)
-            (subst (λ gs. GoalsHave (IsAssumption t cl) (t.first + z.q) (p.base + own_count p.origin) (goals_of b gs)) goals
-            (have_map (AssumptionAt b xs t.first) (IsAssumption t cl) as_assumption (t.first + z.q) (p.base + own_count p.origin) (goals_of b (body_of p.origin))
-            (z.planned.has b t.first xs (extends_same xs))))
+        has_clauses : GoalsHave (IsAssumption t cl) (t.first + z.q) (p.base + own_count p.origin) (goals_of b (body_of p.origin))
+        has_clauses = have_map (AssumptionAt b xs t.first) (IsAssumption t cl) as_assumption (t.first + z.q) (p.base + own_count p.origin) (goals_of b (body_of p.origin))
+            (z.planned.has b t.first xs (extends_same xs))
 
         level : (q d : ℕ) (cs : Clauses) → IsAssumption t cl q d cs → IsAtLevel t q d cs
         level q d cs (n, x, found, is, first, base) m y found_y first_y some some_cs =
@@ -538,23 +498,45 @@ module _ (S : Type 0) (t : Tables) (of : Bor code.Clause) (us : List Due) (parts
             absurd (omega (arith, z))
         by_within (Some n) e = ((at_place (suc i) p.0 r p.1 at_r).0.written.is_program ∙ ap is_none e, named (suc i) p.0 n p.1 e)
 
-    module _ (std : IsStandard T.constants) (asked : (m : ℕ) (r : Record) → AreAsked (home_of T all m r) (constant_function b t.constants.now)) (few_types : t.type_vars ≤ 65535)
-        (vars_are : t.type_vars ≡ of.now.type_vars)
-        (is_clause : IsClause T (clause_of b of.now)) where
-      -- the first record denotes the clause
-      pub first_told : (r : Record) → slice_get g 0 ≡ Some r → told_at T all (t.first + 0) r nothing_captured ≡ Some (clause_of b of.now)
-      unfolding part_done
-      first_told r at_r =
+    module _ (std : IsStandard T.constants) (asked : (m : ℕ) (r : Record) → AreAsked (home_of T all m r) (constant_function b t.constants.now)) (few_types : t.type_vars ≤ 65535) where
+      -- the first part is the clause or query itself
+      first_part : (r : Record) → slice_get g 0 ≡ Some r → (p : Part) × (slice_get parts 0 ≡ Some p) × (p.origin ≡ o1) × (p.within ≡ None) × (p.base ≡ 0)
+      first_part r at_r =
           let p = there_is parts 0 (let z = slice_get_within g 0 r at_r in let y = written_length t [] starts parts g w in omega (arith, z, y)) in
           let u = plan.stands.are 0 p.0 p.1 in
           let f = plan.stands.begin in
           let same : u.0 ≡ f.0 = one_only (slice_get us 0) u.0 f.0 u.1 f.1 in
-          let within : p.0.within ≡ None = u.2.1 ∙ ap (λ v. v.within) same ∙ f.3 in
-          let base : p.0.base ≡ 0 = u.2.2 ∙ ap (λ v. v.base) same ∙ f.4 in
-          let d = part_done 0 p.0 r p.1 at_r in
-          let root : d.of ≡ of = same_origin d.of of (sym d.origin_is ∙ u.2.0 ∙ ap (λ v. v.origin) same ∙ f.2) in
-          let shape : (c : Bor code.Clause) → c ≡ of → clause t.type_vars (types_at b c.now.vars.items) (tree b c.now.head.0) (goals_of b c.now.body.items) ≡ clause_of b of.now =
-          λ c e. (λ i. clause (vars_are i) (types_at b (e i).now.vars.items) (tree b (e i).now.head.0) (goals_of b (e i).now.body.items)) ∙ sym (clause_is b of.now) in
-          program_told t cl T all parts g std asked few_types part_done placed members captured counts names_below named p.0 r p.1 at_r within base
-          (subst (λ v. IsStartOf (at_place 0 p.0 r p.1 at_r).0.before v (at_place 0 p.0 r p.1 at_r).0.captured) within (at_place 0 p.0 r p.1 at_r).0.starts_with)
-          (subst (IsClause T) (sym (shape d.of root)) is_clause) ∙ ap (λ v. Some v) (shape d.of root)
+          (p.0, p.1, u.2.0 ∙ ap (λ v. v.origin) same ∙ f.2, u.2.1 ∙ ap (λ v. v.within) same ∙ f.3, u.2.2 ∙ ap (λ v. v.base) same ∙ f.4)
+
+      starts_none : (p : Part) (r : Record) (at : slice_get parts 0 ≡ Some p) (at_r : slice_get g 0 ≡ Some r) → p.within ≡ None → (at_place 0 p r at at_r).0.captured.entries ≡ []
+      starts_none p r at at_r within = subst (λ v. IsStartOf (at_place 0 p r at at_r).0.before v (at_place 0 p r at at_r).0.captured) within (at_place 0 p r at at_r).0.starts_with
+
+      -- the first record denotes the clause
+      pub first_told : (of : Bor code.Clause) → o1 ≡ origin.Clause of → t.type_vars ≡ of.now.type_vars → IsClause T (clause_of b of.now) → (r : Record) → slice_get g 0 ≡ Some r →
+          told_at T all (t.first + 0) r nothing_captured ≡ Some (clause_of b of.now)
+      unfolding part_done
+      first_told of o_is vars_are is_clause r at_r =
+          let p = first_part r at_r in
+          let shape : clause t.type_vars (types_at b of.now.vars.items) (tree b of.now.head.0) (goals_of b of.now.body.items) ≡ clause_of b of.now =
+          (λ i. clause (vars_are i) (types_at b of.now.vars.items) (tree b of.now.head.0) (goals_of b of.now.body.items)) ∙ sym (clause_is b of.now) in
+          program_told t cl T all parts g std asked few_types part_done placed members captured counts names_below named p.0 r p.1 at_r p.3 p.4 (starts_none p.0 r p.1 at_r p.3) of (p.2 ∙ o_is)
+          (subst (IsClause T) (sym shape) is_clause) ∙ ap (λ v. Some v) shape
+
+      -- or the query
+      pub first_query : (q1 : Bor query.Typed) (gs1 : Bor (List code_goal.Goal)) → o1 ≡ origin.Query q1 gs1 → IsQuery T t.type_vars (reverse (types_at b (map (λ v. v.1) q1.now.vars.items)))
+          (goals_of b gs1.now) →
+          (r : Record) → slice_get g 0 ≡ Some r →
+          query_ran (home_of T all (t.first + 0) r)
+          (run (home_of T all (t.first + 0) r) (λ k e. later_from T all (suc (t.first + 0)) (drop (suc (t.first + 0)) all) k e) (first_state r nothing_captured) r.code.items)
+          ≡ Some (record { type_vars = t.type_vars; vars = types_at b (map (λ v. v.1) q1.now.vars.items); body = goals_of b gs1.now })
+      unfolding part_done
+      first_query q1 gs1 o_is is_query r at_r =
+          let p = first_part r at_r in
+          query_told t cl T all parts g std asked few_types part_done placed members captured counts names_below named p.0 r p.1 at_r p.3 p.4 (starts_none p.0 r p.1 at_r p.3) q1 gs1
+          (p.2 ∙ o_is) is_query
+
+      pub query_head : (q1 : Bor query.Typed) (gs1 : Bor (List code_goal.Goal)) → o1 ≡ origin.Query q1 gs1 → (r : Record) → slice_get g 0 ≡ Some r → r.head ≡ None
+      query_head q1 gs1 o_is r at_r =
+          let p = first_part r at_r in
+          let w = (at_place 0 p.0 r p.1 at_r).0.written in
+          query_no_head b (constant_function b t.constants.now) w.typed w.fronted w.begun_env w.fronted_env p.0.origin r.head q1 gs1 w.front (p.2 ∙ o_is)

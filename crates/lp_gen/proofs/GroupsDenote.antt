@@ -1,15 +1,14 @@
 -- The records of clauses, one clause after the other, denote the clauses.
-use Rattle.std.proofs.Common.{◌≡◌, ◌∙◌, ◌≤◌, ◌<◌, ℕ, zero, suc, ◌+◌, ◌-◌, ◌^◌, List, [], ◌∷◌, ◌++◌, length, map, drop, Bor, Bool, true, false, Option, Some, None, ap, refl, sym, subst, arith}
-use Rattle.std.specs.Prelude.{All, if◌then◌else◌, nat_lt, slice_get, option_map}
+use Rattle.std.proofs.Common.{◌≡◌, ◌∙◌, ◌≤◌, ◌<◌, ℕ, zero, suc, ◌+◌, ◌-◌, ◌^◌, List, [], ◌∷◌, ◌++◌, length, map, drop, Bor, true, false, Option, Some, ap, refl, sym, subst, arith}
+use Rattle.std.specs.Prelude.{All, if◌then◌else◌, slice_get, option_map}
 use Rattle.std.proofs.lemmas.Bool.{lt-ltb}
 use Rattle.std.proofs.lemmas.List.{length-append}
 use Rattle.std.proofs.lemmas.List.Elements.{All-head, All-tail}
-use Rattle.std.proofs.lemmas.Option.{slice_get_within}
 use Rattle.lp_standard.specs.Schemes.{IsStandard, entry, standard_schemes}
 use Rattle.lp_standard.specs.Constants.{first_declared}
 use Rattle.lp_lemmas.proofs.Lists.{get_append}
 use Rattle.lp_term.specs.Nodes.{Nodes, tree, type_tree}
-use Rattle.lp_model.specs.Flat.{Goal, Goals, Clause, Clauses, Atomic, Cut, Either, Exists, Forall, Assume, Not, no_goals, goals, clause, no_clauses, clauses}
+use Rattle.lp_model.specs.Flat.{Goal, Goals, Clauses, Atomic, Cut, Either, Exists, Forall, Assume, Not, no_goals, goals, clause, no_clauses, clauses}
 use Rattle.lp_model.specs.Flattened.{clause_of, goals_of}
 use Rattle.lp_model.specs.Readings.{declared_by, scheme_of}
 use Rattle.lp_model.specs.declared.clause.Clause as code
@@ -31,7 +30,7 @@ use Rattle.lp_gen.specs.inner.Planned.{DeepGoal, DeepGoals, DeepClauses}
 use Rattle.lp_gen.specs.inner.Planning.{ArePlanned, AllCaptured}
 use Rattle.lp_gen.specs.inner.Groups.{Hasher, Kept, AllWritten, IsGroup, AreGroups}
 use Rattle.lp_gen.proofs.ConstantTypes.{constants_asked}
-use Rattle.lp_gen.proofs.PlanWalked.{get_behind}
+use Rattle.lp_gen.proofs.PartsDone.{told_at}
 use Rattle.lp_gen.proofs.PlanGoals.{clause_is}
 use Rattle.lp_gen.proofs.GroupTold.{written_length, early_end, first_program, other_assumed, first_told}
 use Rattle.lp_gen.proofs.GroupDenotes.{group_denotes}
@@ -47,7 +46,7 @@ mutual
   goal_deep t u (Assume w cs gs) x = (clauses_deep t u cs x.0, goals_deep t u gs x.1)
   goal_deep t u (Not w gs) x = goals_deep t u gs x
 
-  goals_deep : (t : CodeTables) (u : Under) (gs : Goals) → AreGoals t u gs → DeepGoals gs
+  pub goals_deep : (t : CodeTables) (u : Under) (gs : Goals) → AreGoals t u gs → DeepGoals gs
   goals_deep t u no_goals x = tt
   goals_deep t u (goals g gs) x = (goal_deep t u g x.0, x.1, goals_deep t u gs x.2)
 
@@ -60,7 +59,7 @@ deep_body t b c x =
     let y : IsClause t (clause c.type_vars (map (λ T. type_tree b T.0) c.vars.items) (tree b c.head.0) (goals_of b c.body.items)) = subst (IsClause t) (clause_is b c) x in
     goals_deep t (all_bound (record { type_vars = c.type_vars; indices = []; binders = [] }) (map (λ T. type_tree b T.0) c.vars.items)) (goals_of b c.body.items) y.0.4
 
-standard_of : (b : Nodes) (ds : List Declared) → IsStandard (declared_by b ds)
+pub standard_of : (b : Nodes) (ds : List Declared) → IsStandard (declared_by b ds)
 standard_of b ds = record {
   at = λ c lt. ap (λ t. if t then entry standard_schemes c else entry (map (λ x. Some (scheme_of b x)) ds) (c - first_declared)) (lt-ltb c first_declared lt);
 }
@@ -77,7 +76,7 @@ drop_more n all (x ∷ xs) ys e =
     one_less zero (y ∷ ys) x xs e = cc
     one_less (suc n) (y ∷ ys) x xs e = one_less n ys x xs e
 
-drop_at : {X : Type 0} (n : ℕ) (all : List X) (i : ℕ) → slice_get all (n + i) ≡ slice_get (drop n all) i
+pub drop_at : {X : Type 0} (n : ℕ) (all : List X) (i : ℕ) → slice_get all (n + i) ≡ slice_get (drop n all) i
 drop_at zero all i = let z : 0 + i ≡ i = omega arith in ap (slice_get all) z
 drop_at (suc n) [] i = let z : suc n + i ≡ suc (n + i) = omega arith in ap (slice_get []) z
 drop_at (suc n) (x ∷ xs) i = let z : suc n + i ≡ suc (n + i) = omega arith in ap (slice_get (x ∷ xs)) z ∙ drop_at n xs i
@@ -118,17 +117,17 @@ module _ (κ : ℕ → Option ℕ) (all : List Record) where
       asked : (m : ℕ) (r : Record) → AreAsked (home_of (tables_of t.bank.now t.constants.now κ) all m r) (constant_function t.bank.now t.constants.now)
       asked m r = record { asks = constants_asked t.bank.now t.constants.now κ; known = known }
 
-      first_one : (r : Record) → slice_get g 0 ≡ Some r → (r.program ≡ true) × (Rattle.lp_gen.proofs.PartsTell.told_at
+      first_one : (r : Record) → slice_get g 0 ≡ Some r → (r.program ≡ true) × (told_at
           (tables_of t.bank.now t.constants.now κ) all n r nothing_captured ≡ Some (clause_of t.bank.now of.now))
       first_one r at = (
-        first_program Hasher t of us parts g starts plan w low deep standing (tables_of t.bank.now t.constants.now κ) all placed early r at,
-        (let z : t.first + 0 ≡ n = omega (arith, first) in ap (λ k. Rattle.lp_gen.proofs.PartsTell.told_at (tables_of t.bank.now t.constants.now κ) all k r nothing_captured) (sym z))
-            ∙ first_told Hasher t of us parts g starts plan w low deep standing (tables_of t.bank.now t.constants.now κ) all placed early (standard_of t.bank.now t.constants.now) asked
-            few_types vars is r at,
+        first_program Hasher t (origin.Clause of) us parts g starts plan w low deep standing (tables_of t.bank.now t.constants.now κ) all placed early r at,
+        (let z : t.first + 0 ≡ n = omega (arith, first) in ap (λ k. told_at (tables_of t.bank.now t.constants.now κ) all k r nothing_captured) (sym z))
+            ∙ first_told Hasher t (origin.Clause of) us parts g starts plan w low deep standing (tables_of t.bank.now t.constants.now κ) all placed early (standard_of t.bank.now t.constants.now) asked
+            few_types of refl vars is r at,
       )
 
       other : (i : ℕ) (r : Record) → slice_get g (suc i) ≡ Some r → (r.program ≡ false) × (member (n + suc i) (named_before (n + suc i) all) ≡ true)
-      other i r at = let o = other_assumed Hasher t of us parts g starts plan w low deep standing (tables_of t.bank.now t.constants.now κ) all placed early i r
+      other i r at = let o = other_assumed Hasher t (origin.Clause of) us parts g starts plan w low deep standing (tables_of t.bank.now t.constants.now κ) all placed early i r
           at in (o.0, ap (λ k. member (k + suc i) (named_before (k + suc i) all)) (sym first) ∙ o.1)
 
       last : (v : ℕ) → member v (named_before (n + length g) all) ≡ true → v < n + length g
@@ -136,7 +135,7 @@ module _ (κ : ℕ → Option ℕ) (all : List Record) where
           let m = many in
           let s = plan.all in
           let z : n + length g ≡ t.first + length parts = omega (arith, first, m) in
-          let l = (early_end Hasher t of us parts g starts plan w low deep standing (tables_of t.bank.now t.constants.now κ) all placed early).0 v
+          let l = (early_end Hasher t (origin.Clause of) us parts g starts plan w low deep standing (tables_of t.bank.now t.constants.now κ) all placed early).0 v
           (ap (λ k. member v (named_before k all)) (sym z) ∙ e) in
           omega (arith, l, z, s)
 

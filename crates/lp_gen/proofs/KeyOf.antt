@@ -1,11 +1,11 @@
 -- The key of a clause is that of its first argument.
-use Rattle.std.proofs.Common.{◌≡◌, ◌≢◌, ◌∙◌, ℕ, ℤ, pos, negsuc, List, [], ◌∷◌, map, Bor, Vec, Global, length, Bool, true, Some, None, ap, refl, sym, subst, arith}
-use Rattle.std.specs.Prelude.{int_le, ◌&&◌, nat_eq}
+use Rattle.std.proofs.Common.{◌≡◌, ◌≢◌, ◌∙◌, ℕ, ℤ, pos, negsuc, List, [], ◌∷◌, map, Bor, Vec, Global, true, None, ap, refl, sym, arith}
+use Rattle.std.specs.Prelude.{int_le, ◌&&◌}
 use Rattle.std.specs.Str.{bytes_eq}
 use Rattle.std.proofs.lemmas.Bool.{eq-eqb, le-leb}
 use Rattle.std.proofs.lemmas.Slice.Eq.{bytes_eq-Decides}
 use Rattle.lp_calculus.specs.Types.{Ty}
-use Rattle.lp_calculus.specs.Term.{Term, Atom, index, atom, abs, app, apply, constant, integer, text, eigen, logic, param}
+use Rattle.lp_calculus.specs.Term.{Term, index, atom, abs, app, apply, constant, integer, text}
 use Rattle.lp_calculus.specs.Spine.{head_of, arguments}
 use Rattle.lp_term.specs.Nodes.{Nodes, tree, node_tree}
 use Rattle.lp_term.specs.Node.{TermBelow}

@@ -84,3 +84,6 @@ mod GroupPut
 mod GroupsDenote
 mod CapturedBy
 mod NamedNumbers
+mod QueryDenotes
+mod PartsDone
+mod RecordCode

@@ -1,172 +1,54 @@
 -- The records of assumptions denote their clauses, each by those behind it.
-use Rattle.std.proofs.Common.{◌≡◌, ◌∙◌, ◌⊎◌, inl, inr, ⊎_elim, ◌≤◌, ◌<◌, ℕ, zero, suc, ◌+◌, ◌-◌, ◌^◌, List, [], ◌∷◌, ◌++◌, length, map, drop, Bor, Bool, true, false, Option, Some, None, ap, refl, sym, subst, arith, true≢false}
-use Rattle.std.specs.Prelude.{nat_eq, nat_le, nat_lt, if◌then◌else◌, max, not, ◌&&◌, All, is_none, slice_get, option_map, option_and_then}
-use Rattle.std.proofs.lemmas.Bool.{eq-eqb, ne_eqb, le-ltb}
-use Rattle.indexmap.specs.IndexMap.{IndexMap, index_map_len}
+use Rattle.std.proofs.Common.{◌≡◌, ◌∙◌, ⊎_elim, ◌≤◌, ◌<◌, ℕ, zero, suc, ◌+◌, ◌-◌, ◌^◌, List, [], ◌∷◌, ◌++◌, length, map, drop, reverse, Bor, Bool, true, false, Option, Some, None, ap, refl, sym, subst, arith, true≢false}
+use Rattle.std.specs.Prelude.{nat_le, if◌then◌else◌, not, ◌&&◌, All, is_none, slice_get, option_map, option_and_then}
+use Rattle.std.proofs.lemmas.Bool.{eq-eqb, le-ltb}
+use Rattle.indexmap.specs.IndexMap.{index_map_len}
 use Rattle.lp_calculus.specs.Types.{Ty, var}
 use Rattle.lp_calculus.specs.Term.{Term}
 use Rattle.lp_standard.specs.Schemes.{IsStandard}
-use Rattle.lp_term.specs.Nodes.{Nodes, tree, type_tree}
+use Rattle.lp_term.specs.Nodes.{tree, type_tree}
 use Rattle.std.proofs.lemmas.List.{append-nil}
-use Rattle.std.proofs.lemmas.List.Elements.{All-nil, All-cons}
+use Rattle.std.proofs.lemmas.List.Elements.{All-nil}
 use Rattle.lp_model.specs.Flat.{Goal, Goals, Clause, Clauses, Atomic, Cut, Either, Exists, Forall, Assume, Not, no_goals, goals, clause, no_clauses, clauses, add_clauses, assuming, denied}
 use Rattle.lp_code.specs.Written.{written_goal, written_goals, written_clauses}
 use Rattle.lp_model.specs.Flattened.{goals_of}
 use Rattle.lp_model.specs.declared.clause.Clause as code
+use Rattle.lp_model.specs.declared.clause.Goal as code_goal
+use Rattle.lp_model.specs.declared.program.Typed as query
 use Rattle.lp_code.specs.declared.record.Record.{Record}
-use Rattle.lp_code.specs.declared.record.Key.TheVariants as key
-use Rattle.lp_code.specs.Symbolic.{Tables as CodeTables, Built, variable}
-use Rattle.lp_code.specs.States.{Captured, State, Home, member}
+use Rattle.lp_code.specs.Symbolic.{Tables as CodeTables, variable}
+use Rattle.lp_code.specs.States.{Captured, Home, member}
 use Rattle.lp_code.specs.Steps.{Later, clauses_of_records}
 use Rattle.lp_code.specs.Rules.{nesting_limit, named_before, is_assumed_record}
-use Rattle.lp_code.specs.Denote.{from_zero, first_state, is_named, denoted, home_of, later_from, nothing_captured}
-use Rattle.lp_gen.specs.Sources.{IsClause, IsKnownType, goals_depth, clauses_depth}
-use Rattle.lp_gen.specs.declared.environment.Variable.{Variable}
+use Rattle.lp_code.specs.Denote.{from_zero, first_state, home_of, later_from, nothing_captured, run, query_ran}
+use Rattle.lp_gen.specs.Sources.{IsClause, IsQuery, Under, AreGoals, IsKnownType, goals_depth, clauses_depth}
 use Rattle.lp_gen.specs.declared.plan.Assumption.{Assumption}
 use Rattle.lp_gen.specs.declared.plan.Part.{Part}
-use Rattle.lp_gen.specs.declared.plan.Origin.{Origin}
 use Rattle.lp_gen.specs.declared.plan.Origin.TheVariants as origin
 use Rattle.lp_gen.specs.declared.record.Tables.{Tables}
 use Rattle.lp_gen.specs.inner.Listing.{Seen, Around, at_level, level_in, constant_function}
 use Rattle.lp_gen.specs.inner.TermLaw.{IsSeen, AllLoose}
 use Rattle.lp_gen.specs.inner.Written.{AreAsked}
-use Rattle.lp_gen.specs.inner.Bodies.{new_level, IsShort, bare_clauses, said_clauses, AreThrough, AllThrough}
+use Rattle.lp_gen.specs.inner.Bodies.{new_level, IsShort, bare_clauses, said_clauses, AreThrough}
 use Rattle.lp_gen.specs.inner.GoalCode.{numbers}
 use Rattle.lp_gen.specs.inner.Entering.{types_at}
 use Rattle.lp_gen.specs.inner.OpenGoals.{goals_steps, EndsGoals}
-use Rattle.lp_gen.specs.inner.BodyCode.{Suppositions, AreStarts, started_at, HoldStarts, levels_found, steps_of, AreNext}
-use Rattle.lp_gen.specs.inner.BodyLaw.{more_of, ClausesFit, AreBelow, AreAlls, AreOuter, AreLater, StartWith}
+use Rattle.lp_gen.specs.inner.BodyCode.{Suppositions, AreStarts, started_at, levels_found, steps_of}
+use Rattle.lp_gen.specs.inner.BodyLaw.{more_of, ClausesFit, GoalsFit, AreBelow, AreAlls, AreLater, StartWith}
 use Rattle.lp_gen.specs.inner.Planned.{clauses_length, goal_records, goals_records, GoalHas, GoalsHave, IsWritten, AreWritten, IsAtLevel, IsAssumption, NamedBy, AreNamed, IsCaptured, AreCaptured}
-use Rattle.lp_gen.specs.inner.Recorded.{RecordWritten}
+use Rattle.lp_gen.specs.inner.Recorded.{own_count}
+use Rattle.lp_gen.specs.inner.Planning.{body_of}
 use Rattle.lp_gen.proofs.BodySaid.{TellClauses}
-use Rattle.lp_gen.proofs.BodySteps.{numbers_length}
-use Rattle.lp_gen.proofs.FitsOf.{clauses_joined, clauses_home, clauses_fit, goals_loose}
+use Rattle.lp_gen.proofs.FitsOf.{clauses_joined, clauses_home, clauses_fit, goals_fit, goals_end, goals_loose, all_hold}
+use Rattle.lp_gen.proofs.TypeWorks.{map_length}
+use Rattle.lp_gen.proofs.OwnPlaces.{index_types_count}
 use Rattle.lp_gen.proofs.StartsPut.{starts_begin}
 use Rattle.lp_gen.proofs.RecordDenoted.{NoIndex}
 use Rattle.lp_gen.proofs.BodyParts.{goals_through, loose_at}
-use Rattle.lp_gen.proofs.RecordBegins.{Outside, level_from, old_term, more_at}
+use Rattle.lp_gen.proofs.RecordBegins.{Outside, level_from, more_at}
 use Rattle.lp_gen.proofs.ClauseRecords as record_of
 use Rattle.lp_gen.proofs.WrittenTypes.{starts_as}
-
--- what the later records denote, by their numbers
-
-drop_none : {X : Type 0} (k : ℕ) → drop {A = X} k [] ≡ []
-drop_none zero = refl
-drop_none (suc k) = refl
-
-drop_more : {X : Type 0} (xs : List X) (n i : ℕ) → drop i (drop n xs) ≡ drop (n + i) xs
-drop_more xs zero i = let z : i ≡ 0 + i = omega arith in ap (λ k. drop k xs) z
-drop_more [] (suc n) i = drop_none i ∙ sym (drop_none (suc n + i))
-drop_more (x ∷ xs) (suc n) i = drop_more xs n i ∙ (let z : suc (n + i) ≡ suc n + i = omega arith in ap (λ k. drop k (x ∷ xs)) z)
-
-no_record : (r : Record) → ◌≡◌ {A = Option Record} None (Some r) → ⊥
-no_record r e = cc
-
-same_record : (r s : Record) → ◌≡◌ {A = Option Record} (Some r) (Some s) → r ≡ s
-same_record r s e = cc
-
--- what the record of a number denotes
-abbrev pub told_at : CodeTables → List Record → ℕ → Record → Captured → Option Clause
-told_at T all m r c = denoted (home_of T all m r) (λ k e. later_from T all (suc m) (drop (suc m) all) k e) c
-
-later_in : (T : CodeTables) (all : List Record) (n i m : ℕ) (rs : List Record) (r : Record) (c : Captured) → m ≡ n + i → rs ≡ drop n all → slice_get
-    rs i ≡ Some r → later_from T all n rs m c ≡ told_at T all m r c
-later_in T all n i m [] r c e from at = absurd (no_record r at)
-later_in T all n zero m (s ∷ ss) r c e from at =
-    let same : m ≡ n = omega (arith, e) in
-    let rest : ss ≡ drop (suc m) all = ap (drop 1) from ∙ drop_more all n 1 ∙ (let z : n + 1 ≡ suc m = omega (arith, same) in ap (λ k. drop k all) z) in
-    ap (λ t. if t then denoted (home_of T all n s) (λ k e. later_from T all (suc n) ss k e) c else later_from T all (suc n) ss m c) (eq-eqb m n same)
-    ∙ (λ i. denoted (home_of T all (sym same i) (same_record s r at i)) (λ k e. later_from T all (suc (sym same i)) (rest i) k e) c)
-later_in T all n (suc i) m (s ∷ ss) r c e from at =
-    let rest : ss ≡ drop (suc n) all = ap (drop 1) from ∙ drop_more all n 1 ∙ (let z : n + 1 ≡ suc n = omega arith in ap (λ k. drop k all) z) in
-    ap (λ t. if t then denoted (home_of T all n s) (λ k e. later_from T all (suc n) ss k e) c else later_from T all (suc n) ss m c) (ne_eqb m n (λ z. absurd (omega (arith, z, e))))
-    ∙ later_in T all (suc n) i m ss r c (let z : m ≡ suc n + i = omega (arith, e) in z) rest at
-
-dropped_at : {X : Type 0} (xs : List X) (n i : ℕ) → slice_get (drop n xs) i ≡ slice_get xs (n + i)
-dropped_at xs zero i = let z : i ≡ 0 + i = omega arith in ap (slice_get xs) z
-dropped_at [] (suc n) i = refl
-dropped_at (x ∷ xs) (suc n) i = dropped_at xs n i ∙ (let z : suc (n + i) ≡ suc n + i = omega arith in ap (slice_get (x ∷ xs)) z)
-
-pub later_told : (T : CodeTables) (all : List Record) (n m : ℕ) (r : Record) (c : Captured) → n ≤ m → slice_get all m ≡ Some r → later_from T all n (drop n all) m c ≡ told_at T all m r c
-later_told T all n m r c le at =
-    let i : ℕ = m - n in
-    let z : m ≡ n + i = omega (arith, le) in
-    later_in T all n i m (drop n all) r c z refl (dropped_at all n i ∙ ap (slice_get all) (sym z) ∙ at)
-
--- clauses one by one
-
-abbrev pub clause_at : Clauses → ℕ → Option Clause
-clause_at no_clauses i = None
-clause_at (clauses c cs) zero = Some c
-clause_at (clauses c cs) (suc i) = clause_at cs i
-
--- a part of a plan with its record
-pub record PartDone (S : Type 0) (t : Tables) (cl : Suppositions) (part : Part) (number : ℕ) (r : Record) : Type 0 where
-  pub captured : IndexMap ℕ Variable S
-  pub starts : List (IndexMap ℕ Variable S)
-  pub written : RecordWritten t (constant_function t.bank.now t.constants.now) part captured [] starts r
-  pub of : Bor code.Clause
-  pub origin_is : part.origin ≡ origin.Clause of
-  pub first : ℕ
-  pub kept : HoldStarts t.bank.now starts first cl
-  pub next : ℕ
-  pub later : number < next
-  pub steps : steps_of t.bank.now cl part.steps.items ≡ goals_steps (goals_of t.bank.now of.now.body.items)
-  pub are_next : AreNext t next first part.steps.items
-  pub has : GoalsHave (IsAtLevel t) next (part.base + length (types_at t.bank.now of.now.vars.items)) (goals_of t.bank.now of.now.body.items)
-  pub well : AreWritten (goals_of t.bank.now of.now.body.items)
-  pub has_clauses : GoalsHave (IsAssumption t cl) next (part.base + length (types_at t.bank.now of.now.vars.items)) (goals_of t.bank.now of.now.body.items)
-  pub few : part.base + length (types_at t.bank.now of.now.vars.items) + length part.steps.items < 2 ^ 64 - 1
-  pub short : part.base + length (types_at t.bank.now of.now.vars.items) < 2 ^ 64 - 1
-  -- what it starts with is what the assumption around it gave
-  pub starts_are : (n : ℕ) → part.within ≡ Some n → ((l : ℕ) → cl.starts n l ≡ started_at t.bank.now captured l) × (cl.counts n ≡ index_map_len captured)
-
-abbrev pub flat_of : Nodes → Origin → Option Clause
-flat_of b (origin.Clause c) = Some (clause c.now.type_vars (types_at b c.now.vars.items) (tree b c.now.head.0) (goals_of b c.now.body.items))
-flat_of b (origin.Query q gs) = None
-
--- a part that is one of the clauses of an assumption
-pub record IsMember (t : Tables) (parts : List Part) (records : List Record) (n : ℕ) (x : Assumption) (j : ℕ) (c : Clause) : Type 0 where
-  pub part : Part
-  pub record_is : Record
-  pub part_at : slice_get parts (x.first + j) ≡ Some part
-  pub record_at : slice_get records (x.first + j) ≡ Some record_is
-  pub within : part.within ≡ Some n
-  pub base : part.base ≡ x.base
-  pub flat : flat_of t.bank.now part.origin ≡ Some c
-
-no_clause : (c : Clause) → ◌≡◌ {A = Option Clause} None (Some c) → ⊥
-no_clause c e = cc
-
-same_clause : (c d : Clause) → ◌≡◌ {A = Option Clause} (Some c) (Some d) → d ≡ c
-same_clause c d e = cc
-
-clause_there : (cs : Clauses) (j : ℕ) → j < clauses_length cs → (c : Clause) × (clause_at cs j ≡ Some c)
-clause_there no_clauses j l = absurd (omega (arith, l))
-clause_there (clauses c cs) zero l = (c, refl)
-clause_there (clauses c cs) (suc j) l = clause_there cs j (omega (arith, l))
-
-all_numbers : (P : ℕ → Type 0) (q n : ℕ) → ((j : ℕ) → j < n → P (q + j)) → All P (numbers q n)
-all_numbers P q zero f = All-nil P
-all_numbers P q (suc n) f = All-cons P q (numbers (suc q) n) (let z : q + 0 ≡ q = omega arith in subst P z (f 0 (omega arith)))
-    (all_numbers P (suc q) n (λ j l. let z : q + suc j ≡ suc q + j = omega arith in subst P z (f (suc j) (omega (arith, l)))))
-
--- the first clause and the others
-bare_split : (c : Clause) (cs : Clauses) → bare_clauses (clauses c cs) ≡ add_clauses (bare_clauses (clauses c no_clauses)) (bare_clauses cs)
-bare_split (clause n vs h b) cs = refl
-
-said_split : (σ : ℕ → Term) (A : Around) (c : Clause) (cs : Clauses) → said_clauses σ A 0 (clauses c cs) ≡ add_clauses (said_clauses σ A 0 (clauses c no_clauses)) (said_clauses σ A 0 cs)
-said_split σ A (clause n vs h b) cs = refl
-
-fit_first : (h : Home) (v : ℕ) (Γ : List Ty) (B : List Bool) (Q : ℕ → Type 0) (c : Clause) (cs : Clauses) → ClausesFit h v Γ B Q (clauses c cs) →
-    ClausesFit h v Γ B Q (clauses c no_clauses) × ClausesFit h v Γ B Q cs
-fit_first h v Γ B Q (clause n vs t b) cs (none, known, head, body, ends, others) = ((none, known, head, body, ends, tt), others)
-
-through_first : (P : ℕ → Term → Type 0) (d : ℕ) (c : Clause) (cs : Clauses) → AllThrough P d (clauses c cs) → AllThrough P d (clauses c no_clauses) × AllThrough P d cs
-through_first P d (clause n vs t b) cs (head, body, others) = ((head, body, tt), others)
-
-depth_first : (c : Clause) (cs : Clauses) (n : ℕ) → clauses_depth (clauses c cs) ≤ n → (clauses_depth (clauses c no_clauses) ≤ n) × (clauses_depth cs ≤ n)
-depth_first (clause m vs t b) cs n le = (omega (arith, le), omega (arith, le))
+use Rattle.lp_gen.proofs.PartsDone.{no_record, told_at, later_told, clause_at, PartDone, flat_of, IsMember, clause_origin, same_clause, clause_there, all_numbers, bare_split, said_split, fit_first, through_first, depth_first}
 
 module _ {S : Type 0} (t : Tables) (cl : Suppositions) (T : CodeTables) (all : List Record) (parts : List Part) (records : List Record) (std : IsStandard T.constants)
     (asked : (m : ℕ) (r : Record) → AreAsked (home_of T all m r) (constant_function t.bank.now t.constants.now)) (few_types : t.type_vars ≤ 65535)
@@ -288,17 +170,29 @@ module _ {S : Type 0} (t : Tables) (cl : Suppositions) (T : CodeTables) (all : L
       later : Later
       later = λ k e. later_from T all (suc (t.first + i)) (drop (suc (t.first + i)) all) k e
 
+      root : (of : Bor code.Clause) × (p.origin ≡ origin.Clause of)
+      root = clause_origin t.bank.now p.origin c flat
+
+      of : code.Clause
+      of = root.0.now
+
       Ts : List Ty
-      Ts = types_at t.bank.now d.of.now.vars.items
+      Ts = types_at t.bank.now of.vars.items
 
       gs : Goals
-      gs = goals_of t.bank.now d.of.now.body.items
+      gs = goals_of t.bank.now of.body.items
+
+      body : goals_of t.bank.now (body_of p.origin) ≡ gs
+      body = ap (λ o. goals_of t.bank.now (body_of o)) root.1
+
+      count : own_count p.origin ≡ length Ts
+      count = ap own_count root.1 ∙ sym (map_length (λ i. type_tree t.bank.now i.0) of.vars.items)
 
       whole_clause : Clause
-      whole_clause = clause d.of.now.type_vars Ts (tree t.bank.now d.of.now.head.0) gs
+      whole_clause = clause of.type_vars Ts (tree t.bank.now of.head.0) gs
 
       c_is : c ≡ whole_clause
-      c_is = same_clause whole_clause c (sym (ap (flat_of t.bank.now) d.origin_is) ∙ flat)
+      c_is = same_clause whole_clause c (sym (ap (flat_of t.bank.now) root.1) ∙ flat)
 
       Q' : ℕ → Type 0
       Q' j = Q j × IsCaptured x j
@@ -309,8 +203,8 @@ module _ {S : Type 0} (t : Tables) (cl : Suppositions) (T : CodeTables) (all : L
           (subst (λ e. ClausesFit h t.type_vars Γ B Q (clauses e no_clauses)) c_is fit) (subst (λ e. AreCaptured x (clauses e no_clauses)) c_is within_x)
 
       -- it has no type variables of its own
-      none_own : clause 0 Ts (tree t.bank.now d.of.now.head.0) gs ≡ whole_clause
-      none_own = ap (λ k. clause k Ts (tree t.bank.now d.of.now.head.0) gs) (sym fits.0)
+      none_own : clause 0 Ts (tree t.bank.now of.head.0) gs ≡ whole_clause
+      none_own = ap (λ k. clause k Ts (tree t.bank.now of.head.0) gs) (sym fits.0)
 
       program : is_none p.within ≡ false
       program = ap is_none within
@@ -340,13 +234,17 @@ module _ {S : Type 0} (t : Tables) (cl : Suppositions) (T : CodeTables) (all : L
           starts_as A (levels_found A x.captured.keys) (cl.starts n) (started_at t.bank.now d.captured) (cl.counts n) (index_map_len d.captured) (λ l. sym (s.0 l)) (sym s.1) starts
 
       low : new_level A + length Ts < 2 ^ 64 - 1
-      low = let e = part_base in let f = d.short in omega (arith, e, f)
+      low = let e = part_base in let f = d.short in let n = count in omega (arith, e, f, n)
 
       few : new_level A + length Ts + length p.steps.items < 2 ^ 64 - 1
-      few = let e = part_base in let f = d.few in omega (arith, e, f)
+      few = let e = part_base in let f = d.few in let n = count in omega (arith, e, f, n)
 
       has : GoalsHave (IsAtLevel t) d.next (new_level A + length Ts) gs
-      has = subst (λ k. GoalsHave (IsAtLevel t) d.next (k + length Ts) gs) part_base d.has
+      has = subst (λ g. GoalsHave (IsAtLevel t) d.next (new_level A + length Ts) g) body (subst (λ n. GoalsHave (IsAtLevel t) d.next (new_level A + n) (goals_of t.bank.now (body_of p.origin))) count
+          (subst (λ k. GoalsHave (IsAtLevel t) d.next (k + own_count p.origin) (goals_of t.bank.now (body_of p.origin))) part_base d.has))
+
+      steps : steps_of t.bank.now cl p.steps.items ≡ goals_steps gs
+      steps = subst (λ g. steps_of t.bank.now cl p.steps.items ≡ goals_steps g) body d.steps
 
       le : suc (t.first + i) ≤ d.next
       le = let e = d.later in omega (arith, e)
@@ -361,11 +259,11 @@ module _ {S : Type 0} (t : Tables) (cl : Suppositions) (T : CodeTables) (all : L
       self = placed i r at_r
 
       result : (e : Clause) × (told_at T all (t.first + i) r c0 ≡ Some e) × (bare_clauses (clauses e no_clauses) ≡ said_clauses σ A 0
-          (clauses (clause 0 Ts (tree t.bank.now d.of.now.head.0) gs) no_clauses))
+          (clauses (clause 0 Ts (tree t.bank.now of.head.0) gs) no_clauses))
       result =
-          record_of.assumed_denoted t p d.captured d.starts d.of h d.written d.origin_is σ Γ B A Q' x.captured.keys out part_base given low cl d.next
-          d.first gs d.kept d.steps fits.4 d.are_next few (suc (t.first + i)) le has counts std
-          (asked (t.first + i) r) fits.1 below fits.2 fits.3 nest c0.terms start program (named i p n at within) few_types later c0 types refl self (are_later i r) (tells i r told)
+          record_of.assumed_denoted t p d.captured d.starts (origin.Clause root.0) h d.written root.1 σ Γ B A Q' x.captured.keys out part_base given low cl d.next
+          d.first gs d.kept steps fits.4 d.are_next few (suc (t.first + i)) le has counts std
+          (asked (t.first + i) r) fits.1 below fits.3 nest c0.terms start root.0 refl fits.2 program (named i p n at within) few_types later c0 types refl self (are_later i r) (tells i r told)
 
   -- all of them
   within_records : (i : ℕ) (r : Record) → slice_get records i ≡ Some r → i < length records
@@ -383,10 +281,6 @@ module _ {S : Type 0} (t : Tables) (cl : Suppositions) (T : CodeTables) (all : L
   pub tell_all : (i : ℕ) (r : Record) → TellClauses (home_of T all (t.first + i) r)
       (λ k e. later_from T all (suc (t.first + i)) (drop (suc (t.first + i)) all) k e) t.type_vars (AreNamed t cl (suc (t.first + i)))
   tell_all i r = tells i r (λ j lt. all_told (length records) j (omega arith))
-
-  pub name_later : (i : ℕ) (r : Record) (a : Around) (ns ls : List ℕ) (cs : Clauses) → AreNamed t cl (suc (t.first + i)) a ns ls cs → AreLater
-      (home_of T all (t.first + i) r) t.type_vars (length ls) ns
-  name_later = are_later
 
   -- what is written in goals is what stands there
 
@@ -431,21 +325,22 @@ module _ {S : Type 0} (t : Tables) (cl : Suppositions) (T : CodeTables) (all : L
       let m = members n x found j c e in
       let d = done (x.first + j) m.part m.record_is m.part_at m.record_at in
       let later = d.later in
-      let is = same_clause (clause d.of.now.type_vars (types_at t.bank.now d.of.now.vars.items) (tree t.bank.now d.of.now.head.0) (goals_of t.bank.now d.of.now.body.items)) c
-      (sym (ap (flat_of t.bank.now) d.origin_is) ∙ m.flat) in
-      let body = goals_written (x.first + j) d.next (m.part.base + length (types_at t.bank.now d.of.now.vars.items))
-      (goals_of t.bank.now d.of.now.body.items) (omega (arith, later)) d.well d.has_clauses
-      (all_written k (x.first + j) (omega (arith, le, low))) in
+      let root = clause_origin t.bank.now m.part.origin c m.flat in
+      let of : code.Clause = root.0.now in
+      let is = same_clause (clause of.type_vars (types_at t.bank.now of.vars.items) (tree t.bank.now of.head.0) (goals_of t.bank.now of.body.items)) c
+      (sym (ap (flat_of t.bank.now) root.1) ∙ m.flat) in
+      let body = subst (λ g. written_goals g ≡ g) (ap (λ o. goals_of t.bank.now (body_of o)) root.1)
+      (goals_written (x.first + j) d.next (m.part.base + own_count m.part.origin) (goals_of t.bank.now (body_of m.part.origin)) (omega (arith, later)) d.well d.has_clauses
+      (all_written k (x.first + j) (omega (arith, le, low)))) in
       subst (λ e. written_clauses (clauses e no_clauses) ≡ clauses e no_clauses) (sym is)
-      (λ k. clauses (clause d.of.now.type_vars (types_at t.bank.now d.of.now.vars.items) (tree t.bank.now d.of.now.head.0) (body k)) no_clauses))
+      (λ k. clauses (clause of.type_vars (types_at t.bank.now of.vars.items) (tree t.bank.now of.head.0) (body k)) no_clauses))
 
   pub body_written : (i : ℕ) (p : Part) (r : Record) (at : slice_get parts i ≡ Some p) (at_r : slice_get records i ≡ Some r) →
-      written_goals (goals_of t.bank.now (done i p r at at_r).of.now.body.items) ≡ goals_of t.bank.now (done i p r at at_r).of.now.body.items
+      written_goals (goals_of t.bank.now (body_of p.origin)) ≡ goals_of t.bank.now (body_of p.origin)
   body_written i p r at at_r =
       let d = done i p r at at_r in
       let later = d.later in
-      goals_written i d.next (p.base + length (types_at t.bank.now d.of.now.vars.items)) (goals_of t.bank.now d.of.now.body.items)
-      (omega (arith, later)) d.well d.has_clauses (all_written (length records) i (omega arith))
+      goals_written i d.next (p.base + own_count p.origin) (goals_of t.bank.now (body_of p.origin)) (omega (arith, later)) d.well d.has_clauses (all_written (length records) i (omega arith))
 
   -- the first record is that of the clause itself
 
@@ -490,15 +385,14 @@ module _ {S : Type 0} (t : Tables) (cl : Suppositions) (T : CodeTables) (all : L
       no_type U e = cc
 
   pub program_told : (p : Part) (r : Record) (at : slice_get parts 0 ≡ Some p) (at_r : slice_get records 0 ≡ Some r) → p.within ≡ None → p.base ≡ 0 → (done 0 p r at at_r).captured.entries ≡ [] →
-      IsClause T (clause t.type_vars (types_at t.bank.now (done 0 p r at at_r).of.now.vars.items) (tree t.bank.now (done 0 p r at at_r).of.now.head.0)
-      (goals_of t.bank.now (done 0 p r at at_r).of.now.body.items)) →
-      told_at T all (t.first + 0) r nothing_captured
-      ≡ Some (clause t.type_vars (types_at t.bank.now (done 0 p r at at_r).of.now.vars.items) (tree t.bank.now (done 0 p r at at_r).of.now.head.0)
-      (goals_of t.bank.now (done 0 p r at at_r).of.now.body.items))
-  program_told p r at at_r within base none is_clause =
-      record_of.program_denoted t p d.captured d.starts d.of h d.written d.origin_is no_terms [] [] nobody NoIndex [] (outside h) base given low cl
-      d.next d.first gs d.kept d.steps fits.4 d.are_next few (suc (t.first + 0)) le has counts std
-      (asked (t.first + 0) r) fits.1 below fits.2 fits.3 is_clause.1 [] tt (ap is_none within) few_types (ap length none) refl no_index no_indices (body_written 0 p r at at_r)
+      (of : Bor code.Clause) → p.origin ≡ origin.Clause of →
+      IsClause T (clause t.type_vars (types_at t.bank.now of.now.vars.items) (tree t.bank.now of.now.head.0) (goals_of t.bank.now of.now.body.items)) →
+      told_at T all (t.first + 0) r nothing_captured ≡ Some (clause t.type_vars (types_at t.bank.now of.now.vars.items) (tree t.bank.now of.now.head.0) (goals_of t.bank.now of.now.body.items))
+  program_told p r at at_r within base none of root is_clause =
+      record_of.program_denoted t p d.captured d.starts (origin.Clause of) h d.written root no_terms [] [] nobody NoIndex [] (outside h) base given low cl
+      d.next d.first gs d.kept steps fits.4 d.are_next few (suc (t.first + 0)) le has counts std
+      (asked (t.first + 0) r) fits.1 below fits.3 is_clause.1 [] tt of refl fits.2 (ap is_none within) few_types (ap length none) refl no_index no_indices
+      (subst (λ g. written_goals g ≡ g) body (body_written 0 p r at at_r))
       (λ k e. later_from T all (suc (t.first + 0)) (drop (suc (t.first + 0)) all) k e) (placed 0 r at_r) (are_later 0 r) (tell_all 0 r)
     where
       d : PartDone S t cl p (t.first + 0) r
@@ -508,13 +402,19 @@ module _ {S : Type 0} (t : Tables) (cl : Suppositions) (T : CodeTables) (all : L
       h = home_of T all (t.first + 0) r
 
       Ts : List Ty
-      Ts = types_at t.bank.now d.of.now.vars.items
+      Ts = types_at t.bank.now of.now.vars.items
 
       head : Term
-      head = tree t.bank.now d.of.now.head.0
+      head = tree t.bank.now of.now.head.0
 
       gs : Goals
-      gs = goals_of t.bank.now d.of.now.body.items
+      gs = goals_of t.bank.now of.now.body.items
+
+      body : goals_of t.bank.now (body_of p.origin) ≡ gs
+      body = ap (λ o. goals_of t.bank.now (body_of o)) root
+
+      count : own_count p.origin ≡ length Ts
+      count = ap own_count root ∙ sym (map_length (λ i. type_tree t.bank.now i.0) of.now.vars.items)
 
       fits : ClausesFit h t.type_vars [] [] NoIndex (clauses (clause 0 Ts head gs) no_clauses)
       fits = clauses_fit h (record { type_vars = t.type_vars; indices = []; binders = [] }) NoIndex (clauses (clause 0 Ts head gs) no_clauses) is_clause.0 (λ i U e. absurd (cc))
@@ -523,13 +423,18 @@ module _ {S : Type 0} (t : Tables) (cl : Suppositions) (T : CodeTables) (all : L
       given = starts_begin t.bank.now nobody d.captured none
 
       low : new_level nobody + length Ts < 2 ^ 64 - 1
-      low = let f = d.short in omega (arith, base, f)
+      low = let f = d.short in let n = count in omega (arith, base, f, n)
 
       few : new_level nobody + length Ts + length p.steps.items < 2 ^ 64 - 1
-      few = let f = d.few in omega (arith, base, f)
+      few = let f = d.few in let n = count in omega (arith, base, f, n)
 
       has : GoalsHave (IsAtLevel t) d.next (new_level nobody + length Ts) gs
-      has = subst (λ k. GoalsHave (IsAtLevel t) d.next (k + length Ts) gs) base d.has
+      has = subst (λ g. GoalsHave (IsAtLevel t) d.next (new_level nobody + length Ts) g) body (subst (λ n. GoalsHave (IsAtLevel t) d.next (new_level nobody + n)
+          (goals_of t.bank.now (body_of p.origin))) count
+          (subst (λ k. GoalsHave (IsAtLevel t) d.next (k + own_count p.origin) (goals_of t.bank.now (body_of p.origin))) base d.has))
+
+      steps : steps_of t.bank.now cl p.steps.items ≡ goals_steps gs
+      steps = subst (λ g. steps_of t.bank.now cl p.steps.items ≡ goals_steps g) body d.steps
 
       le : suc (t.first + 0) ≤ d.next
       le = let e = d.later in omega (arith, e)
@@ -546,3 +451,79 @@ module _ {S : Type 0} (t : Tables) (cl : Suppositions) (T : CodeTables) (all : L
       no_indices : AreThrough (AllLoose NoIndex) (length Ts) gs
       no_indices = goals_loose h.tables.kinds t.type_vars NoIndex (length Ts) gs (goals_through h t.type_vars NoIndex (more_of Ts NoIndex) (Ts ++ [])
           (map (λ T. false) Ts ++ []) (length Ts) gs behind fits.3)
+
+  -- or that of the query
+  pub query_told : (p : Part) (r : Record) (at : slice_get parts 0 ≡ Some p) (at_r : slice_get records 0 ≡ Some r) → p.within ≡ None → p.base ≡ 0 → (done 0 p r at at_r).captured.entries ≡ [] →
+      (q1 : Bor query.Typed) (gs1 : Bor (List code_goal.Goal)) → p.origin ≡ origin.Query q1 gs1 →
+      IsQuery T t.type_vars (reverse (types_at t.bank.now (map (λ v. v.1) q1.now.vars.items))) (goals_of t.bank.now gs1.now) →
+      query_ran (home_of T all (t.first + 0) r)
+      (run (home_of T all (t.first + 0) r) (λ k e. later_from T all (suc (t.first + 0)) (drop (suc (t.first + 0)) all) k e) (first_state r nothing_captured) r.code.items)
+      ≡ Some (record { type_vars = t.type_vars; vars = types_at t.bank.now (map (λ v. v.1) q1.now.vars.items); body = goals_of t.bank.now gs1.now })
+  query_told p r at at_r within base none q1 gs1 root is_query =
+      record_of.query_denoted t p d.captured d.starts (origin.Query q1 gs1) h d.written root no_terms [] [] nobody NoIndex [] (outside h) base given low cl
+      d.next d.first gs d.kept steps ends d.are_next few (suc (t.first + 0)) le has counts std
+      (asked (t.first + 0) r) is_query.0 below fits is_query.2 [] tt q1 gs1 refl (ap is_none within) few_types (ap length none) refl no_indices
+      (subst (λ g. written_goals g ≡ g) body (body_written 0 p r at at_r))
+      (λ k e. later_from T all (suc (t.first + 0)) (drop (suc (t.first + 0)) all) k e) (placed 0 r at_r) (are_later 0 r) (tell_all 0 r)
+    where
+      d : PartDone S t cl p (t.first + 0) r
+      d = done 0 p r at at_r
+
+      h : Home
+      h = home_of T all (t.first + 0) r
+
+      Ts : List Ty
+      Ts = reverse (types_at t.bank.now (map (λ v. v.1) q1.now.vars.items))
+
+      gs : Goals
+      gs = goals_of t.bank.now gs1.now
+
+      body : goals_of t.bank.now (body_of p.origin) ≡ gs
+      body = ap (λ o. goals_of t.bank.now (body_of o)) root
+
+      count : own_count p.origin ≡ length Ts
+      count = ap own_count root ∙ sym (index_types_count t.bank.now (origin.Query q1 gs1))
+
+      u : Under
+      u = record { type_vars = t.type_vars; indices = Ts ++ []; binders = map (λ T. false) Ts ++ [] }
+
+      are : AreGoals T u gs
+      are =
+          subst (λ l. AreGoals T (record { type_vars = t.type_vars; indices = l; binders = map (λ T. false) Ts ++ [] }) gs) (sym (append-nil Ts))
+          (subst (λ l. AreGoals T (record { type_vars = t.type_vars; indices = Ts; binders = l }) gs) (sym (append-nil (map (λ (T : Ty). false) Ts))) is_query.1)
+
+      fits : GoalsFit h t.type_vars (Ts ++ []) (map (λ T. false) Ts ++ []) (more_of Ts NoIndex) gs
+      fits = goals_fit h u (more_of Ts NoIndex) gs are (all_hold Ts [] NoIndex (λ i U e. absurd (cc)))
+
+      ends : EndsGoals gs
+      ends = goals_end h u gs are
+
+      given : AreStarts nobody (levels_found nobody []) (started_at t.bank.now d.captured) (index_map_len d.captured)
+      given = starts_begin t.bank.now nobody d.captured none
+
+      low : new_level nobody + length Ts < 2 ^ 64 - 1
+      low = let f = d.short in let n = count in omega (arith, base, f, n)
+
+      few : new_level nobody + length Ts + length p.steps.items < 2 ^ 64 - 1
+      few = let f = d.few in let n = count in omega (arith, base, f, n)
+
+      has : GoalsHave (IsAtLevel t) d.next (new_level nobody + length Ts) gs
+      has = subst (λ g. GoalsHave (IsAtLevel t) d.next (new_level nobody + length Ts) g) body (subst (λ n. GoalsHave (IsAtLevel t) d.next (new_level nobody + n)
+          (goals_of t.bank.now (body_of p.origin))) count
+          (subst (λ k. GoalsHave (IsAtLevel t) d.next (k + own_count p.origin) (goals_of t.bank.now (body_of p.origin))) base d.has))
+
+      steps : steps_of t.bank.now cl p.steps.items ≡ goals_steps gs
+      steps = subst (λ g. steps_of t.bank.now cl p.steps.items ≡ goals_steps g) body d.steps
+
+      le : suc (t.first + 0) ≤ d.next
+      le = let e = d.later in omega (arith, e)
+
+      below : AreBelow d.next h []
+      below m e = names_below 0 p r at at_r m (sym (ap (member m) (append-nil (named_before (t.first + 0) all))) ∙ e)
+
+      behind : (i : ℕ) → more_of Ts NoIndex i → length Ts ≤ i → NoIndex (i - length Ts)
+      behind i q le2 = ⊎_elim (λ l. absurd (omega (arith, l, le2))) (λ w. w.1) (more_at Ts NoIndex i q)
+
+      no_indices : AreThrough (AllLoose NoIndex) (length Ts) gs
+      no_indices = goals_loose h.tables.kinds t.type_vars NoIndex (length Ts) gs (goals_through h t.type_vars NoIndex (more_of Ts NoIndex) (Ts ++ [])
+          (map (λ T. false) Ts ++ []) (length Ts) gs behind fits)

@@ -1,9 +1,9 @@
 -- What the functions that make a plan do, by the values before and behind.
-use Rattle.std.proofs.Common.{◌≡◌, ◌∙◌, ◌<◌, ◌≤◌, ℕ, zero, suc, ◌+◌, List, [], ◌∷◌, ◌++◌, append_assoc, map, reverse, length, Bor, Vec, Global, Bool, true, false, Option, Some, None, ap, refl, sym, subst, arith}
-use Rattle.std.specs.Prelude.{nat_eq, nat_lt, ◌||◌, if◌then◌else◌, slice_get, take}
+use Rattle.std.proofs.Common.{◌≡◌, ◌∙◌, ℕ, suc, ◌+◌, List, [], ◌∷◌, ◌++◌, append_assoc, map, reverse, Bor, Vec, Global, Bool, true, false, Some, ap, refl, sym, subst, arith}
+use Rattle.std.specs.Prelude.{nat_eq, ◌||◌, if◌then◌else◌, slice_get, take}
 use Rattle.std.specs.List.{list_any}
 use Rattle.std.proofs.lemmas.List.{reverse-append}
-use Rattle.std.proofs.lemmas.Bool.{eq-eqb, ltb-true, ltb-false}
+use Rattle.std.proofs.lemmas.Bool.{eq-eqb}
 use Rattle.lp_lemmas.proofs.Lists.{take_suc}
 use Rattle.indexmap.specs.IndexSet.{insert_key}
 use Rattle.lp_model.specs.declared.clause.Goal as code

@@ -1,5 +1,5 @@
 -- What is to do for a goal, by its top.
-use Rattle.std.proofs.Common.{◌≡◌, ◌∙◌, ◌≤◌, ◌<◌, ℕ, zero, suc, ◌+◌, List, [], ◌∷◌, ◌++◌, append_assoc, length, map, Vec, Global, ap, refl, sym, subst, arith}
+use Rattle.std.proofs.Common.{◌≡◌, ◌∙◌, ℕ, suc, ◌+◌, List, [], ◌∷◌, ◌++◌, append_assoc, length, map, Vec, Global, ap, refl, sym, subst, arith}
 use Rattle.std.proofs.lemmas.List.{append-nil}
 use Rattle.lp_model.specs.declared.clause.Goal as code
 use Rattle.lp_model.specs.declared.clause.Goal.{Goal}
@@ -19,8 +19,8 @@ use Rattle.lp_gen.specs.declared.plan.Step.{Step}
 use Rattle.lp_gen.specs.declared.plan.Step.TheVariants as on
 use Rattle.lp_gen.specs.inner.OpenGoals.{BodyStep, turn, end_either, end_all, end_assume, end_deny, goal_steps, goals_steps}
 use Rattle.lp_gen.specs.inner.BodyCode.{Suppositions, step_of}
-use Rattle.lp_gen.specs.inner.Planned.{clauses_length, goal_records, goals_records, GoalHas, GoalsHave, IsWritten, AreWritten, DeepGoal, DeepGoals, DeepClauses}
-use Rattle.lp_gen.specs.inner.Planning.{IsMade, IsAssumed, Todo, due_goals, due_end, due_level, todo_steps, TodoHave, TodoWritten, TodoDeep, WalkKept}
+use Rattle.lp_gen.specs.inner.Planned.{clauses_length, goal_records, goals_records, GoalHas, GoalsHave, IsWritten, DeepGoal}
+use Rattle.lp_gen.specs.inner.Planning.{IsAssumed, Todo, due_goals, due_end, due_level, todo_steps, TodoHave, TodoWritten, TodoDeep, WalkKept}
 use Rattle.lp_gen.proofs.PlanWalked.{step_put, todo_same, assume_put}
 
 pub atom_is : (b : Nodes) (t : TermId) → goal_of b (code.Atom t) ≡ Atomic (tree b t.0)

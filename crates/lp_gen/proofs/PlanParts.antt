@@ -1,5 +1,5 @@
 -- The parts of a plan, one after the other.
-use Rattle.std.proofs.Common.{◌≡◌, ◌∙◌, ◌⊎◌, inl, inr, ⊎_elim, ◌≤◌, ◌<◌, ℕ, zero, suc, ◌+◌, ◌^◌, List, [], ◌∷◌, ◌++◌, length, map, Vec, Global, Option, Some, None, ap, refl, sym, subst, arith}
+use Rattle.std.proofs.Common.{◌≡◌, ◌∙◌, ⊎_elim, ◌<◌, ℕ, zero, suc, ◌+◌, List, [], ◌∷◌, ◌++◌, length, Vec, Global, Option, Some, None, ap, refl, sym, subst, arith}
 use Rattle.std.specs.Prelude.{slice_get}
 use Rattle.std.proofs.lemmas.List.{append-nil, length-append}
 use Rattle.std.proofs.lemmas.Option.{slice_get_within}
@@ -12,9 +12,8 @@ use Rattle.lp_gen.specs.declared.plan.Origin.{Origin}
 use Rattle.lp_gen.specs.declared.plan.Step.{Step}
 use Rattle.lp_gen.specs.inner.OpenGoals.{goals_steps}
 use Rattle.lp_gen.specs.inner.BodyCode.{steps_of}
-use Rattle.lp_gen.specs.inner.Recorded.{own_count}
-use Rattle.lp_gen.specs.inner.Planning.{body_of, AreAssumed, Extends, due_goals, WalkStands, PartWalked, PartPlanned, AllPlanned, IsPartOf, PlanStands}
-use Rattle.lp_gen.proofs.PlanWalked.{extends_same, extends_on, extends_at, extends_length, hold_less, get_more, get_both, get_last}
+use Rattle.lp_gen.specs.inner.Planning.{Extends, due_goals, WalkStands, PartWalked, PartPlanned, AllPlanned, IsPartOf, PlanStands}
+use Rattle.lp_gen.proofs.PlanWalked.{extends_same, extends_on, extends_at, extends_length, hold_less, get_more, get_both}
 
 no_due : (v : Due) → ◌≡◌ {A = Option Due} None (Some v) → ⊥
 no_due v e = cc

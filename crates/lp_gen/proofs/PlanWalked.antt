@@ -1,24 +1,23 @@
 -- The steps of a part come goal by goal.
-use Rattle.std.proofs.Common.{◌≡◌, ◌∙◌, ◌⊎◌, inl, inr, ⊎_elim, ◌≤◌, ◌<◌, ℕ, zero, suc, ◌+◌, ◌-◌, ◌^◌, List, [], ◌∷◌, ◌++◌, append_assoc, length, map, Bor, Vec, Global, Option, Some, None, ap, refl, sym, subst, arith}
+use Rattle.std.proofs.Common.{◌≡◌, ◌∙◌, ◌⊎◌, inl, inr, ⊎_elim, ◌≤◌, ◌<◌, ℕ, zero, suc, ◌+◌, ◌-◌, ◌^◌, List, [], ◌∷◌, ◌++◌, append_assoc, length, Option, Some, None, ap, refl, sym, subst, arith}
 use Rattle.std.specs.Prelude.{slice_get}
 use Rattle.std.proofs.lemmas.List.{append-nil, length-append, map-append}
 use Rattle.std.proofs.lemmas.Option.{slice_get_within}
 use Rattle.lp_lemmas.proofs.Lists.{get_append}
-use Rattle.lp_model.specs.declared.clause.Goal.{Goal}
 use Rattle.lp_model.specs.declared.clause.Clause.{Clause}
-use Rattle.lp_model.specs.Flat.{Goals, Clauses, no_goals, goals}
-use Rattle.lp_model.specs.Flattened.{goal_of, goals_of, clauses_of}
+use Rattle.lp_model.specs.Flat.{Clauses}
+use Rattle.lp_model.specs.Flattened.{clauses_of}
 use Rattle.lp_term.specs.Nodes.{Nodes}
 use Rattle.lp_gen.specs.declared.plan.Assumption.{Assumption}
 use Rattle.lp_gen.specs.declared.plan.Due.{Due}
 use Rattle.lp_gen.specs.declared.plan.Step.{Step}
 use Rattle.lp_gen.specs.declared.plan.Step.TheVariants as on
 use Rattle.lp_gen.specs.declared.record.Tables.{Tables}
-use Rattle.lp_gen.specs.inner.OpenGoals.{BodyStep, goal_steps, goals_steps}
+use Rattle.lp_gen.specs.inner.OpenGoals.{BodyStep}
 use Rattle.lp_gen.specs.inner.BodyCode.{Suppositions, step_of, steps_of, next_of, next_all, IsNext, AreNext, count_starts, starts_all, count_named, one_if}
-use Rattle.lp_gen.specs.inner.Planned.{clauses_length, goal_records, goals_records, GoalHas, GoalsHave, IsWritten, AreWritten, DeepClauses, AreCaptured}
+use Rattle.lp_gen.specs.inner.Planned.{DeepClauses, AreCaptured}
 use Rattle.lp_gen.proofs.BodyFacts.{starts_cons}
-use Rattle.lp_gen.specs.inner.Planning.{IsDue, AreDue, IsMade, Stays, AreAssumed, AllCaptured, Extends, Todo, due_goals, due_end, due_level, todo_steps, TodoHave, TodoWritten, TodoDeep, HoldClauses, AssumptionAt, IsEnd, AllEnds, WalkStands, WalkKept}
+use Rattle.lp_gen.specs.inner.Planning.{IsDue, AreDue, IsMade, Stays, AreAssumed, AllCaptured, Extends, Todo, todo_steps, TodoHave, TodoWritten, TodoDeep, HoldClauses, AssumptionAt, IsEnd, AllEnds, WalkKept}
 
 -- lists that grow
 

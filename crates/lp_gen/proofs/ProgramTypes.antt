@@ -1,15 +1,13 @@
 -- The type variables of a clause of a program: its code makes them first.
-use Rattle.std.proofs.Common.{◌≡◌, ◌∙◌, ◌≤◌, ◌<◌, ℕ, zero, suc, ◌+◌, ◌-◌, List, [], ◌∷◌, ◌++◌, length, Bool, true, false, Option, Some, None, ap, refl, sym, subst, arith, true≢false}
+use Rattle.std.proofs.Common.{◌≡◌, ◌∙◌, ◌≤◌, ◌<◌, ℕ, zero, suc, ◌+◌, ◌-◌, List, [], ◌++◌, length, Bool, true, false, ap, refl, sym, subst, arith, true≢false}
 use Rattle.std.specs.Prelude.{nat_eq, nat_lt, ◌||◌}
 use Rattle.std.proofs.lemmas.Bool.{eq-eqb, eqb-true, ltb-true, ltb-false}
-use Rattle.lp_model.specs.Flat.{no_goals}
 use Rattle.lp_code.specs.declared.instruction.Instr.{Instr}
 use Rattle.lp_code.specs.declared.rule.Rule.{Rule}
-use Rattle.lp_code.specs.Symbolic.{Built}
-use Rattle.lp_code.specs.States.{State, Home, member, passing}
+use Rattle.lp_code.specs.States.{State, Home, member}
 use Rattle.lp_code.specs.Steps.{Later, is_own_type, own_types}
-use Rattle.lp_code.specs.Denote.{run, started, first_state, nothing_captured, broken_by_record}
-use Rattle.lp_gen.specs.inner.Running.{TypesStand, Leads}
+use Rattle.lp_code.specs.Denote.{run, started, broken_by_record}
+use Rattle.lp_gen.specs.inner.Running.{TypesStand}
 use Rattle.lp_gen.specs.inner.GoalCode.{numbers}
 use Rattle.lp_gen.specs.inner.Entering.{news}
 use Rattle.lp_gen.proofs.BodySteps.{numbers_length}

@@ -1,30 +1,25 @@
 -- Where a record begins: its own variables are to be made, and those that it starts with stand in the first registers.
-use Rattle.std.proofs.Common.{◌≡◌, ◌∙◌, ◌⊎◌, inl, inr, ⊎_elim, ◌<◌, ◌≤◌, ◌≢◌, ℕ, zero, suc, ◌+◌, ◌-◌, ◌^◌, List, [], ◌∷◌, ◌++◌, length, map, Bool, true, false, Option, Some, None, get_or, ap, refl, sym, subst, arith, true≢false}
-use Rattle.std.specs.Prelude.{nat_eq, nat_le, nat_lt, ◌&&◌, ◌||◌, if◌then◌else◌, All, min, replicate, slice_get, slice_index_or}
-use Rattle.std.proofs.lemmas.Bool.{eqb-true, eq-eqb, ne_eqb, leb-true, leb-false, le-leb, lt-leb, lt-ltb, le-ltb, ltb-true, ltb-false}
-use Rattle.std.proofs.lemmas.List.{append-nil, length-append}
-use Rattle.lp_calculus.specs.Types.{Ty, var}
+use Rattle.std.proofs.Common.{◌≡◌, ◌∙◌, ◌⊎◌, inl, inr, ⊎_elim, ◌<◌, ◌≤◌, ℕ, zero, suc, ◌+◌, ◌-◌, List, [], ◌∷◌, ◌++◌, length, map, Bool, true, false, Option, Some, None, get_or, ap, refl, sym, subst, arith, true≢false}
+use Rattle.std.specs.Prelude.{nat_eq, nat_le, nat_lt, ◌&&◌, ◌||◌, if◌then◌else◌, All, replicate, slice_get, slice_index_or}
+use Rattle.std.proofs.lemmas.Bool.{eqb-true, ne_eqb, leb-true, leb-false, le-leb, lt-leb, lt-ltb, le-ltb, ltb-true, ltb-false}
+use Rattle.lp_calculus.specs.Types.{Ty}
 use Rattle.lp_calculus.specs.Term.{Term, index, atom, logic}
-use Rattle.lp_standard.specs.Schemes.{IsStandard}
-use Rattle.lp_model.specs.Flat.{no_goals}
 use Rattle.lp_code.specs.Symbolic.{Built, variable, held, whole}
-use Rattle.lp_code.specs.States.{State, Home, member, placed, index_or, bind_term}
-use Rattle.lp_code.specs.Rules.{is_variable_of, named_before}
+use Rattle.lp_code.specs.States.{Home, member, placed, index_or, bind_term}
+use Rattle.lp_code.specs.Rules.{is_variable_of}
 use Rattle.lp_code.specs.Denote.{from_zero, started, is_all_variable}
 use Rattle.lp_gen.specs.Sources.{IsKnownType}
-use Rattle.lp_gen.specs.inner.Running.{HasRegisters, TypesStand, TermsStand}
+use Rattle.lp_gen.specs.inner.Running.{HasRegisters}
 use Rattle.lp_gen.specs.inner.Listing.{Seen, Around, count_around, level_below, at_level, level_in}
 use Rattle.lp_gen.specs.inner.TermLaw.{Standing, IsSeen}
-use Rattle.lp_gen.specs.inner.Written.{AreAsked}
 use Rattle.lp_gen.specs.inner.Bodies.{new_level, IsShort}
 use Rattle.lp_gen.specs.inner.Heading.{AreOwn}
-use Rattle.lp_gen.specs.inner.Entering.{unmade, clause_own}
-use Rattle.lp_gen.specs.inner.BodyLaw.{more_of, AreBelow, AreAlls, AreOuter, StartWith}
+use Rattle.lp_gen.specs.inner.Entering.{unmade}
+use Rattle.lp_gen.specs.inner.BodyLaw.{more_of, AreAlls, AreOuter, StartWith}
 use Rattle.lp_gen.specs.inner.BodyCode.{levels_found, level_found, AreStarts}
-use Rattle.lp_gen.specs.inner.Recorded.{MayRun}
 use Rattle.lp_gen.proofs.Denoting.{or_none}
 use Rattle.lp_gen.proofs.Binding.{bind_another}
-use Rattle.lp_gen.proofs.OwnPlaces.{clause_count, clause_at, clause_from, type_at}
+use Rattle.lp_gen.proofs.OwnPlaces.{OwnAre, own_from, type_at}
 
 pub built_at : (xs : List Built) (r : ℕ) → r < length xs → (b : Built) × (slice_get xs r ≡ Some b)
 built_at [] r l = absurd (omega (arith, l))
@@ -240,33 +235,33 @@ pub record Outside (h : Home) (vars : ℕ) (σ : ℕ → Term) (Γ : List Ty) (B
   pub earlier : (i l : ℕ) → level_in A i ≡ Some l → (r : ℕ) × (j : ℕ) × (σ l ≡ variable r j) × (j < h.number)
 
 -- the own variables, and those that the record starts with
-pub record Inside (a A : Around) (k : ℕ) (Ts : List Ty) (keys : List ℕ) : Type 0 where
-  pub own : a.own ≡ clause_own k Ts
+pub record Inside (a A : Around) (k : ℕ) (Ts : List Ty) (reg : ℕ → ℕ) (keys : List ℕ) : Type 0 where
+  pub own : OwnAre k Ts a.own reg
   pub base : a.base ≡ new_level A
   pub starts : AreStarts A (levels_found A keys) a.captured k
   pub short : IsShort a
 
 module _ (h : Home) (K : ℕ → List Ty → Ty) (vars : ℕ) (σ : ℕ → Term) (Γ : List Ty) (B : List Bool) (A a : Around) (Q : ℕ → Type 0) (keys : List ℕ)
-    (k : ℕ) (Ts : List Ty) (out : Outside h vars σ Γ B A Q keys) (ins : Inside a A k Ts keys) where
+    (k : ℕ) (Ts : List Ty) (reg : ℕ → ℕ) (out : Outside h vars σ Γ B A Q keys) (ins : Inside a A k Ts reg keys) where
   pub level_count : new_level a ≡ new_level A + length Ts
-  level_count = let b = ins.base in let o = ap length ins.own ∙ clause_count k Ts in omega (arith, b, o)
+  level_count = let b = ins.base in let o = ins.own.count in omega (arith, b, o)
 
-  at_own : (l : ℕ) → a.base ≤ l → at_level a l ≡ slice_get (clause_own k Ts) (l - a.base)
-  at_own l le = ap (λ t. if t then slice_get a.own (l - a.base) else a.captured l) (le-leb a.base l le) ∙ ap (λ vs. slice_get vs (l - a.base)) ins.own
+  at_own : (l : ℕ) → a.base ≤ l → at_level a l ≡ slice_get a.own (l - a.base)
+  at_own l le = ap (λ t. if t then slice_get a.own (l - a.base) else a.captured l) (le-leb a.base l le)
 
   at_old : (l : ℕ) → l < a.base → at_level a l ≡ a.captured l
   at_old l low = ap (λ t. if t then slice_get a.own (l - a.base) else a.captured l) (lt-leb a.base l low)
 
   -- a variable is one of its own, or one that it starts with
   by_level : (X : Type 0) (l : ℕ) (v : Seen) → at_level a l ≡ Some v → ((i : ℕ) (T : Ty) → a.base ≤ l → i < length Ts → slice_get Ts i ≡ Some T → l ≡
-      a.base + (length Ts - 1 - i) → v ≡ unmade (k + i) T → X) →
+      a.base + (length Ts - 1 - i) → v ≡ unmade (reg i) T → X) →
       ((i : ℕ) (w : Seen) → l < a.base → slice_get (levels_found A keys) i ≡ Some l → at_level A l ≡ Some w → v ≡ record { register = i; of = w.of; is_set = true } → X) → X
   by_level X l v e f g = go (nat_le a.base l) refl
     where
       go : (t : Bool) → nat_le a.base l ≡ t → X
       go true q =
           let le = leb-true a.base l q in
-          let w = clause_from k Ts (l - a.base) v (sym (at_own l le) ∙ e) in
+          let w = own_from k Ts a.own reg ins.own (l - a.base) v (sym (at_own l le) ∙ e) in
           let p = w.3 in
           let i_low = w.5 in
           let i : ℕ = w.0 in
@@ -329,11 +324,11 @@ module _ (h : Home) (K : ℕ → List Ty → Ty) (vars : ℕ) (σ : ℕ → Term
           g le (let z : l < a.base = omega (arith, le, c, b, is, high) in z) (level_is A (i - length Ts) out.short (omega (arith, le, c, high)) ∙
           (let z : new_level A - (i - length Ts) - 1 ≡ l = omega (arith, le, c, b, is, high) in ap (λ j. Some j) z))
 
-  pub own_level : (i : ℕ) (T : Ty) → slice_get Ts i ≡ Some T → i < length Ts → at_level a (a.base + (length Ts - 1 - i)) ≡ Some (unmade (k + i) T)
+  pub own_level : (i : ℕ) (T : Ty) → slice_get Ts i ≡ Some T → i < length Ts → at_level a (a.base + (length Ts - 1 - i)) ≡ Some (unmade (reg i) T)
   own_level i T e low =
       let p : ℕ = length Ts - 1 - i in
       let z : (a.base + p) - a.base ≡ p = omega arith in
-      at_own (a.base + p) (omega arith) ∙ ap (slice_get (clause_own k Ts)) z ∙ clause_at k Ts i p T e refl
+      at_own (a.base + p) (omega arith) ∙ ap (slice_get a.own) z ∙ ins.own.at i p T e refl
 
   pub all_seen : (i : ℕ) → more_of Ts Q i → IsSeen a (Ts ++ Γ) i
   all_seen i q = ⊎_elim own_seen old_seen (more_at Ts Q i q)
@@ -344,7 +339,7 @@ module _ (h : Home) (K : ℕ → List Ty → Ty) (vars : ℕ) (σ : ℕ → Term
           let c = level_count in
           let b = ins.base in (
             a.base + (length Ts - 1 - i),
-            unmade (k + i) t.0,
+            unmade (reg i) t.0,
             level_is a i ins.short (omega (arith, low, c)) ∙ (let z : new_level a - i - 1 ≡ a.base + (length Ts - 1 - i) = omega (arith, low, c, b) in ap (λ j. Some j) z),
             own_level i t.0 t.1 low,
             type_front Ts Γ i t.0 t.1,
@@ -384,8 +379,8 @@ module _ (h : Home) (K : ℕ → List Ty → Ty) (vars : ℕ) (σ : ℕ → Term
   all_free i l x d le e = by_index (bind_term (x ∷ []) h.number d (σ' l) ≡ σ' l) i l e
       (λ low is.
       let t = type_at Ts i low in
-      let here = own_is l (unmade (k + i) t.0) (ap (at_level a) is ∙ own_level i t.0 t.1 low) (omega (arith, is)) in
-      ap (bind_term (x ∷ []) h.number d) here ∙ bind_another x (k + i) h.number d (λ z. absurd (omega (arith, z, low, le))) ∙ sym here)
+      let here = own_is l (unmade (reg i) t.0) (ap (at_level a) is ∙ own_level i t.0 t.1 low) (omega (arith, is)) in
+      ap (bind_term (x ∷ []) h.number d) here ∙ bind_another x (reg i) h.number d (λ z. let w = (ins.own.low i low).1 in absurd (omega (arith, z, w, le))) ∙ sym here)
       (λ high low at.
       let w = old_variable l low in
       let here = old_term h.number a σ l low in
@@ -402,7 +397,7 @@ module _ (h : Home) (K : ℕ → List Ty → Ty) (vars : ℕ) (σ : ℕ → Term
   all_outer i l e = by_index ((r : ℕ) × (j : ℕ) × (σ' l ≡ variable r j) × (j ≤ h.number)) i l e
       (λ low is.
       let t = type_at Ts i low in
-      (k + i, h.number, own_is l (unmade (k + i) t.0) (ap (at_level a) is ∙ own_level i t.0 t.1 low) (omega (arith, is)), omega arith))
+      (reg i, h.number, own_is l (unmade (reg i) t.0) (ap (at_level a) is ∙ own_level i t.0 t.1 low) (omega (arith, is)), omega arith))
       (λ high low at.
       let w = old_variable l low in
       let less = w.3 in
@@ -421,13 +416,13 @@ module _ (h : Home) (K : ℕ → List Ty → Ty) (vars : ℕ) (σ : ℕ → Term
   pub stands_first : (bs : List Built) (n : ℕ) → StartWith σ A (levels_found A keys) bs → All (IsKnownType h.tables.kinds vars) Ts → k + length Ts ≤ n
       → Standing h vars (k + length Ts) false σ' a (started bs n)
   stands_first bs n with all le = record {
-    low = λ l v e. by_level (v.register < k + length Ts) l v e (λ i T le ilow at is same. let z = ap (λ (y : Seen). y.register) same in omega (arith, z, ilow))
+    low = λ l v e. by_level (v.register < k + length Ts) l v e (λ i T le ilow at is same. let z = ap (λ (y : Seen). y.register) same in let u = (ins.own.low i ilow).1 in omega (arith, z, u))
         (λ i w lt at f same. let z = ap (λ (y : Seen). y.register) same in let q = place_low (levels_found A keys) i l at in let c = ins.starts.count_is in omega (arith, z, q, c));
     set = λ l v e set. by_level (held (started bs n) v.register ≡ Some (whole (σ' l) v.of)) l v e (λ i T le ilow at is same. absurd (true≢false (sym set ∙ ap (λ (y : Seen). y.is_set) same)))
         (λ i w lt at f same. ap (λ (y : Seen). held (started bs n) y.register) same ∙ front_held bs n i (whole (σ l) w.of) (start_at σ A (levels_found A keys) bs i l w with at f)
         ∙ (λ j. Some (whole (sym (old_term h.number a σ l lt) j) (sym same j).of)));
     unset = λ l v e none. by_level (held (started bs n) v.register ≡ None) l v e
-        (λ i T le ilow at is same. ap (λ (y : Seen). held (started bs n) y.register) same ∙ behind_held bs n (k + i) (let c = many in omega (arith, c)))
+        (λ i T le ilow at is same. ap (λ (y : Seen). held (started bs n) y.register) same ∙ behind_held bs n (reg i) (let c = many in let u = (ins.own.low i ilow).0 in omega (arith, c, u)))
         (λ i w lt at f same. absurd (true≢false (sym (ap (λ (y : Seen). y.is_set) same) ∙ none)));
     unmade = λ l v e none. by_level ((false ≡ false) × (σ' l ≡ variable v.register h.number) × (a.base ≤ l)) l v e (λ i T le ilow at is same. (refl, own_is l v e le, le))
         (λ i w lt at f same. absurd (true≢false (sym (ap (λ (y : Seen). y.is_set) same) ∙ none)));
@@ -436,7 +431,8 @@ module _ (h : Home) (K : ℕ → List Ty → Ty) (vars : ℕ) (σ : ℕ → Term
         (λ j U le2 jlow at2 is2 same2.
         let p = ap (λ (y : Seen). y.register) same in
         let q = ap (λ (y : Seen). y.register) same2 in
-        omega (arith, p, q, z, is, is2))
+        let one : i ≡ j = ins.own.apart i j ilow jlow (omega (arith, p, q, z)) in
+        omega (arith, one, is, is2))
         (λ j u lt at2 g same2. absurd (true≢false (sym (ap (λ (y : Seen). y.is_set) same2) ∙ also))))
         (λ i u lt at g same. absurd (true≢false (sym (ap (λ (y : Seen). y.is_set) same) ∙ none)));
     known = λ l v e. by_level (IsKnownType h.tables.kinds vars v.of) l v e

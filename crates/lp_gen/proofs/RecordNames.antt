@@ -1,7 +1,6 @@
 -- The type variables that a record makes, and the records that it names.
-use Rattle.std.proofs.Common.{◌≡◌, ◌∙◌, ◌≤◌, ◌<◌, ℕ, zero, suc, ◌+◌, List, [], ◌∷◌, ◌++◌, append_assoc, length, Bool, true, false, Some, None, ap, refl, sym, subst, arith, true≢false}
-use Rattle.std.specs.Prelude.{nat_eq, ◌||◌, if◌then◌else◌, option_map, option_and_then}
-use Rattle.std.proofs.lemmas.Bool.{eq-eqb, ne_eqb}
+use Rattle.std.proofs.Common.{◌≡◌, ◌∙◌, ℕ, zero, suc, ◌+◌, List, [], ◌∷◌, ◌++◌, append_assoc, length, Bool, true, false, ap, refl, sym, arith}
+use Rattle.std.specs.Prelude.{nat_eq, ◌||◌, if◌then◌else◌}
 use Rattle.std.proofs.lemmas.List.{append-nil}
 use Rattle.lp_calculus.specs.Types.{Ty}
 use Rattle.lp_model.specs.Flat.{Goal, Goals, Clauses, Atomic, Cut, Either, Exists, Forall, Assume, Not, no_goals, goals}
@@ -14,7 +13,7 @@ use Rattle.lp_code.specs.Rules.{names_of, names_in}
 use Rattle.lp_gen.specs.inner.Listing.{Around}
 use Rattle.lp_gen.specs.inner.Owned.{new_type, makes_types}
 use Rattle.lp_gen.specs.inner.Bodies.{pushed}
-use Rattle.lp_gen.specs.inner.GoalCode.{quantified, numbers, AtomCode, KindCode, GoalCode, GoalsCode}
+use Rattle.lp_gen.specs.inner.GoalCode.{quantified, numbers, GoalCode, GoalsCode}
 use Rattle.lp_gen.specs.inner.Entering.{news}
 use Rattle.lp_gen.proofs.CodeMapped.{numbers_both, names_both}
 

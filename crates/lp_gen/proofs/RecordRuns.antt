@@ -1,5 +1,5 @@
 -- A record is run to its end.
-use Rattle.std.proofs.Common.{◌≡◌, ◌∙◌, ◌≤◌, ◌<◌, ℕ, zero, ◌+◌, ◌-◌, List, [], ◌∷◌, ◌++◌, append_assoc, length, map, Bool, true, false, Option, Some, None, ap, refl, sym, subst, arith, true≢false}
+use Rattle.std.proofs.Common.{◌≡◌, ◌∙◌, ◌≤◌, ◌<◌, ℕ, ◌+◌, ◌-◌, List, [], ◌∷◌, ◌++◌, append_assoc, length, map, Bool, true, false, Option, Some, None, ap, refl, sym, subst, arith, true≢false}
 use Rattle.std.specs.Prelude.{nat_eq, nat_le, not, ◌&&◌, ◌||◌, if◌then◌else◌, is_some, sum_by, option_map, slice_get}
 use Rattle.std.specs.List.{list_any}
 use Rattle.std.proofs.lemmas.Bool.{leb-false, lt-leb}
@@ -14,12 +14,12 @@ use Rattle.lp_code.specs.declared.record.RecordHead.{RecordHead}
 use Rattle.lp_code.specs.Length.{length_of}
 use Rattle.lp_code.specs.Symbolic.{Built, held, whole, result_type, equal_types, plain_terms}
 use Rattle.lp_code.specs.States.{State, Home}
-use Rattle.lp_code.specs.Steps.{Later, built_of, head_built}
+use Rattle.lp_code.specs.Steps.{Later, head_built}
 use Rattle.lp_code.specs.Rules.{is_passed, head_count, breaks_head, nesting_limit}
 use Rattle.lp_code.specs.Denote.{Done, run, head_term}
 use Rattle.lp_gen.specs.Sources.{goals_depth}
 use Rattle.lp_gen.specs.declared.emitter.Emitter.{Emitter}
-use Rattle.lp_gen.specs.inner.Running.{TypesStand, TermsStand, HasRoom}
+use Rattle.lp_gen.specs.inner.Running.{TermsStand}
 use Rattle.lp_gen.specs.inner.Listing.{Seen, Around, at_level}
 use Rattle.lp_gen.specs.inner.TermLaw.{Standing, AreSet, as_set, with_variables, SameAround}
 use Rattle.lp_gen.specs.inner.Owned.{makes_types, AreStarted}

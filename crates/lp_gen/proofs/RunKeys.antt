@@ -1,12 +1,11 @@
 -- The key of the head's first argument, as it stands in the code, is that of the argument that the code makes.
-use Rattle.std.proofs.Common.{◌≡◌, ◌∙◌, ℕ, zero, suc, ◌+◌, List, [], ◌∷◌, ◌++◌, append_assoc, Bool, true, false, Option, Some, None, ap, refl, sym, subst, true≢false}
+use Rattle.std.proofs.Common.{◌≡◌, ◌∙◌, ℕ, zero, suc, List, [], ◌∷◌, ◌++◌, append_assoc, Bool, true, false, Option, Some, None, ap, refl, sym, subst, true≢false}
 use Rattle.std.specs.Prelude.{nat_eq, ◌||◌, if◌then◌else◌, is_none, option_map, slice_set, unwrap_or}
 use Rattle.std.specs.List.{list_any}
 use Rattle.std.proofs.lemmas.Bool.{eqb-true, eq-eqb}
 use Rattle.std.proofs.lemmas.List.{append-nil}
 use Rattle.lp_calculus.specs.Types.{Ty}
-use Rattle.lp_calculus.specs.Term.{Term, Atom, index, atom, abs, app, apply, constant, integer, text, eigen, logic, param}
-use Rattle.lp_calculus.specs.Spine.{head_of}
+use Rattle.lp_calculus.specs.Term.{Atom, index, apply, constant, integer, text}
 use Rattle.lp_calculus.specs.Typing.{o_type}
 use Rattle.lp_model.specs.Flat.{Goals}
 use Rattle.lp_model.specs.Flat as flat
@@ -17,7 +16,6 @@ use Rattle.lp_code.specs.declared.rule.Rule.TheVariants as rule
 use Rattle.lp_code.specs.Symbolic.{Built, Registers, held, term_in, terms_in, plain_terms}
 use Rattle.lp_code.specs.States.{Frame, Captured, State, Home, innermost_block, depth, end_variables}
 use Rattle.lp_code.specs.Steps.{Later, effect, after, settled, passed, leave, leave_from, leave_block, goal_of_block, turn, turn_from, is_right_end, clauses_of_records, captured_by}
-use Rattle.lp_code.specs.Rules.{breaks_unset, breaks_order, breaks_block}
 use Rattle.lp_code.specs.Denote.{Ran, Done, Broken, rules, first_broken, broken_by_record, broken_by, broken_of, unless_broken, run_on, run, with_key, first_key}
 use Rattle.lp_gen.specs.inner.Recorded.{head_key, key_in}
 use Rattle.lp_gen.proofs.Registers.{held_elsewhere}

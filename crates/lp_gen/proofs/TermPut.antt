@@ -3,7 +3,7 @@ use Rattle.std.proofs.Common.{◌≡◌, ◌∙◌, ◌≤◌, ◌<◌, ℕ, ℤ
 use Rattle.std.proofs.Common.{length, false, Option, Some, None, Vec, Global, ap, refl, sym, subst, arith, true≢false}
 use Rattle.std.specs.Prelude.{All, nat_le, not, ◌||◌, is_none, sum_by, unwrap_or, option_map, slice_set}
 use Rattle.std.specs.List.{list_any}
-use Rattle.std.proofs.lemmas.List.{append-nil, length-set, map-append}
+use Rattle.std.proofs.lemmas.List.{append-nil, map-append}
 use Rattle.std.proofs.lemmas.List.Sums.{sum_by-append}
 use Rattle.std.proofs.lemmas.List.Elements.{All-nil, All-head, All-tail, All-cons, All-push}
 use Rattle.std.proofs.lemmas.Bool.{eqb-true, lt-leb}

@@ -1,5 +1,5 @@
 -- Work lists get smaller.
-use Rattle.std.proofs.Common.{◌≡◌, ℕ, suc, ◌+◌, ◌*◌, ◌<◌, ◌≤◌, ◌≢◌, List, [], ◌∷◌, ◌++◌, length, map, reverse, refl, sym, ap, ◌∙◌, arith, subst, Bor, Vec, Global}
+use Rattle.std.proofs.Common.{◌≡◌, ℕ, suc, ◌+◌, ◌*◌, ◌<◌, ◌≤◌, ◌≢◌, List, [], ◌∷◌, ◌++◌, length, map, reverse, refl, sym, ap, ◌∙◌, arith, subst, Vec, Global}
 use Rattle.std.specs.Prelude.{sum_by, Some}
 use Rattle.std.proofs.lemmas.List.Sums.{sum_by_push, sum_by-append}
 use Rattle.std.proofs.lemmas.List.{reverse-append}
@@ -16,7 +16,6 @@ use Rattle.lp_term.specs.declared.node.TypeId.{TypeId}
 use Rattle.lp_term.specs.declared.node.TermId.{TermId}
 use Rattle.lp_calculus.specs.Typing.{type_at}
 use Rattle.lp_gen.specs.inner.Reading.{read_at, types_of}
-use Rattle.lp_term.proofs.Walks.{map_map}
 use Rattle.lp_gen.specs.inner.Sizes.{type_size, term_task, term_work}
 
 pub some_type : (T : Ty) → 0 < type_size T

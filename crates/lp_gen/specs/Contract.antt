@@ -1,6 +1,6 @@
 -- What the code of clauses and of a query denotes: over the declared constants, and over each table of kinds in which the declared types have their kinds and
 -- over which they are well typed, these clauses, or this query.
-use Rattle.std.specs.Prelude.{◌≡◌, ℕ, ◌≤◌, List, map, reverse, All, Option, Some}
+use Rattle.std.specs.Prelude.{◌≡◌, ℕ, List, map, reverse, All, Option, Some}
 use Rattle.lp_term.specs.Nodes.{Nodes, type_tree}
 use Rattle.lp_model.specs.declared.program.Declared.{Declared}
 use Rattle.lp_model.specs.declared.program.Typed as program
@@ -11,7 +11,7 @@ use Rattle.lp_model.specs.Readings.{declared_by}
 use Rattle.lp_code.specs.declared.record.Record.{Record}
 use Rattle.lp_code.specs.Symbolic.{Tables}
 use Rattle.lp_code.specs.Denote.{denote, denote_query}
-use Rattle.lp_gen.specs.Sources.{AreKnownSchemes, IsClause, IsQuery, goals_count}
+use Rattle.lp_gen.specs.Sources.{AreKnownSchemes, IsClause, IsQuery}
 
 abbrev pub tables_of : Nodes → List Declared → (kinds : ℕ → Option ℕ) → Tables
 tables_of b ds κ = record { kinds = κ; constants = declared_by b ds }
@@ -23,5 +23,5 @@ DenotesClauses b ds cs rs =
 abbrev pub DenotesQuery : Nodes → List Declared → program.Typed → List code_goal.Goal → List Record → Type 0
 DenotesQuery b ds q gs rs =
     (κ : ℕ → Option ℕ) → AreKnownSchemes (tables_of b ds κ) → IsQuery (tables_of b ds κ) q.type_vars
-    (reverse (map (λ v. type_tree b v.1.0) q.vars.items)) (goals_of b gs) → goals_count (goals_of b gs) ≤ 65534 →
+    (reverse (map (λ v. type_tree b v.1.0) q.vars.items)) (goals_of b gs) →
     denote_query (tables_of b ds κ) rs ≡ Some (record { type_vars = q.type_vars; vars = map (λ v. type_tree b v.1.0) q.vars.items; body = goals_of b gs })

@@ -1,6 +1,6 @@
 -- Flattened clauses and goals of which there is code: they are well typed over the tables and in normal form, hold no eigenconstant, logic variable or
 -- parameter, and are within the limits of instructions.
-use Rattle.std.specs.Prelude.{◌≡◌, ℕ, zero, suc, ◌+◌, ◌<◌, ◌≤◌, Bool, true, false, List, [], ◌∷◌, ◌++◌, map, max, All, Option, Some, None}
+use Rattle.std.specs.Prelude.{◌≡◌, ℕ, zero, suc, ◌<◌, ◌≤◌, Bool, true, false, List, [], ◌∷◌, ◌++◌, map, max, All, Option, Some, None}
 use Rattle.lp_calculus.specs.Types.{Ty, Tys, var, param as type_param, con, arrow, no_types, types}
 use Rattle.lp_calculus.specs.Term.{Term, Atom, index, atom, abs, app, constant, integer, text, eigen, logic, param}
 use Rattle.lp_calculus.specs.Convert.{leftmost_step}
@@ -98,7 +98,7 @@ abbrev mutual
       (n ≡ 0) × All (IsKnownType t.kinds u.type_vars) vs × IsAtom t (all_bound u vs) h ×
       (is_clause_head t.constants (all_bound u vs).binders (head_of h) ≡ true) × AreGoals t (all_bound u vs) b × AreAssumed t u cs
 
--- how deep blocks nest, those of `sigma` not counted, and how many clauses are assumed
+-- how deep blocks nest, those of `sigma` not counted
 abbrev mutual
   pub goal_depth : Goal → ℕ
   goal_depth (Atomic a) = 0
@@ -116,24 +116,6 @@ abbrev mutual
   pub clauses_depth : Clauses → ℕ
   clauses_depth no_clauses = 0
   clauses_depth (clauses (clause n vs h b) cs) = max (goals_depth b) (clauses_depth cs)
-
-abbrev mutual
-  pub goal_count : Goal → ℕ
-  goal_count (Atomic a) = 0
-  goal_count Cut = 0
-  goal_count (Either gs hs) = goals_count gs + goals_count hs
-  goal_count (Exists T gs) = goals_count gs
-  goal_count (Forall T gs) = goals_count gs
-  goal_count (Assume w cs gs) = clauses_count cs + goals_count gs
-  goal_count (Not w gs) = goals_count gs
-
-  pub goals_count : Goals → ℕ
-  goals_count no_goals = 0
-  goals_count (goals g gs) = goal_count g + goals_count gs
-
-  pub clauses_count : Clauses → ℕ
-  clauses_count no_clauses = 0
-  clauses_count (clauses (clause n vs h b) cs) = suc (goals_count b + clauses_count cs)
 
 -- a clause of a program
 abbrev pub IsClause : Tables → Clause → Type 0

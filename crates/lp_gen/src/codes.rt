@@ -2,7 +2,7 @@
 ghost use Rattle.std.specs.Prelude.{◌≡◌, ℕ, List, [], ◌++◌, ◌<◌, ◌≤◌, ◌^◌, All, length, sum_by, IfOk, OnOk};
 ghost use Rattle.lp_code.specs.declared.record.Record.{Record};
 ghost use Rattle.lp_code.specs.Length.{length_of, AllFit};
-ghost use Rattle.lp_gen.specs.Contract.{DenotesClauses};
+ghost use Rattle.lp_gen.specs.Contract.{DenotesClauses, DenotesQuery};
 ghost use Rattle.lp_gen.specs.inner.Groups.{Kept, IsStartOf, AllWritten, IsGroup};
 
 use crate::emitter::within;
@@ -128,6 +128,7 @@ pub fn generate_query(
     ensures fit { IfOk result (λ code. AllFit code.records.items) }
     ensures short { IfOk result (λ code. All (λ r. sum_by length_of r.code.items < 2 ^ 32) code.records.items) }
     ensures few { IfOk result (λ code. length code.records.items ≤ 65536) }
+    ensures denotes { IfOk result (λ code. DenotesQuery bank.now constants.now query.now body.now code.records.items) }
 {
     let mut records = Vec::new(alloc);
     let origin = Origin::Query(query, body);

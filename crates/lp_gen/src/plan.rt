@@ -199,13 +199,14 @@ impl<'a> Walk<'a> {
     }
 }
 
-/// The number of variables with more of them; each takes a register.
+/// The number of variables with more of them. No clause that is within the limits of nesting has 2^32 of them around a goal without more registers than a
+/// record may have.
 pub(crate) fn with_more(level: u64, more: u64) -> Result<u64, GenRefusal>
     ensures sum { IfOk result (λ sum. sum ≡ level + more) }
-    ensures few { IfOk result (λ sum. sum ≤ 65535) }
+    ensures few { IfOk result (λ sum. sum ≤ 4294967295) }
 {
     match level.checked_add(more) {
-        Some(sum) if sum <= 65535 => Ok(sum),
+        Some(sum) if sum <= u32::MAX as u64 => Ok(sum),
         _ => Err(GenRefusal::Limit(Limit::Registers)),
     }
 }

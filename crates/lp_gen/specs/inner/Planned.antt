@@ -1,7 +1,6 @@
 -- The records that goals assume, in the order in which they are met, and what is known of each assumption.
-use Rattle.std.specs.Prelude.{◌≡◌, ◌⊎◌, ℕ, zero, suc, ◌+◌, ◌-◌, ◌<◌, ◌≤◌, true, List, [], ◌∷◌, length, Some, slice_get}
-use Rattle.lp_calculus.specs.Types.{Ty}
-use Rattle.lp_model.specs.Flat.{Goal, Goals, Clause, Clauses, Atomic, Cut, Either, Exists, Forall, Assume, Not, no_goals, goals, clause, no_clauses, clauses, assuming, denied}
+use Rattle.std.specs.Prelude.{◌≡◌, ◌⊎◌, ℕ, suc, ◌+◌, ◌-◌, ◌<◌, ◌≤◌, true, List, [], Some, slice_get}
+use Rattle.lp_model.specs.Flat.{Goal, Goals, Clauses, Atomic, Cut, Either, Exists, Forall, Assume, Not, no_goals, goals, clause, no_clauses, clauses, assuming, denied}
 use Rattle.lp_code.specs.States.{member}
 use Rattle.lp_gen.specs.Sources.{ends_list}
 use Rattle.lp_gen.specs.declared.plan.Assumption.{Assumption}

@@ -1,9 +1,9 @@
 -- The plan of a clause or query while it is made: which parts are due, what assumptions are, and what is still to do for the goals of a part.
-use Rattle.std.specs.Prelude.{◌≡◌, ℕ, zero, suc, ◌+◌, ◌<◌, ◌≤◌, ◌^◌, true, List, [], ◌∷◌, ◌++◌, map, reverse, length, Option, Some, None, slice_get}
+use Rattle.std.specs.Prelude.{◌≡◌, ℕ, suc, ◌+◌, ◌<◌, ◌≤◌, ◌^◌, List, [], ◌∷◌, ◌++◌, map, reverse, length, Some, None, slice_get}
 use Rattle.std.specs.Borrow.{Bor}
 use Rattle.lp_model.specs.declared.clause.Goal.{Goal}
 use Rattle.lp_model.specs.declared.clause.Clause.{Clause}
-use Rattle.lp_model.specs.Flat.{Clauses, Cut}
+use Rattle.lp_model.specs.Flat.{Clauses}
 use Rattle.lp_model.specs.Flattened.{goals_of, clauses_of}
 use Rattle.lp_term.specs.Nodes.{Nodes}
 use Rattle.lp_gen.specs.declared.plan.Assumption.{Assumption}
@@ -145,14 +145,14 @@ WalkKept us us' xs xs' d d' steps steps' ts ts' =
 
 abbrev pub PartWalked : Due → (us us' : List Due) → (xs xs' : List Assumption) → List Step → Type 0
 PartWalked u us us' xs xs' steps =
-    (u.base + own_count u.origin ≤ 65535) × (length steps < 2 ^ 63) × (d : ℕ) × WalkStands us us' xs xs' (u.base + own_count u.origin) d (body_of u.origin) steps []
+    (u.base + own_count u.origin ≤ 4294967295) × (length steps < 2 ^ 63) × (d : ℕ) × WalkStands us us' xs xs' (u.base + own_count u.origin) d (body_of u.origin) steps []
 
 -- a part with its steps: `n` and `m` are how many assumptions there are before and behind it, `q` and `r` how many parts are due
 pub record PartPlanned (us : List Due) (xs : List Assumption) (i n m q r : ℕ) (p : Part) : Type 0 where
   pub later : i < q
   pub around : (k : ℕ) → p.within ≡ Some k → k < n
   pub within : m ≤ length xs
-  pub few : p.base + own_count p.origin ≤ 65535
+  pub few : p.base + own_count p.origin ≤ 4294967295
   pub short : length p.steps.items < 2 ^ 63
   pub says : (b : Nodes) (cl : Suppositions) → HoldClauses b xs cl → steps_of b cl p.steps.items ≡ goals_steps (goals_of b (body_of p.origin))
   pub are_next : (t : Tables) → Extends xs t.assumptions.now → t.first + length us < 2 ^ 32 →

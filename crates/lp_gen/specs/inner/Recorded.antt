@@ -1,5 +1,5 @@
 -- A record as it is written: what it starts with, its head, its body, and what is known before it is run.
-use Rattle.std.specs.Prelude.{◌≡◌, ℕ, ◌+◌, ◌<◌, ◌≤◌, Bool, true, false, if◌then◌else◌, is_none, List, [], ◌∷◌, ◌++◌, map, length, sum_by, Option, Some, None, slice_get}
+use Rattle.std.specs.Prelude.{◌≡◌, ℕ, ◌≤◌, Bool, true, false, if◌then◌else◌, is_none, List, [], ◌∷◌, map, length, Option, Some, None, slice_get}
 use Rattle.indexmap.specs.IndexMap.{IndexMap, index_map_len}
 use Rattle.lp_calculus.specs.Types.{Ty}
 use Rattle.lp_calculus.specs.Term.{Term, Atom, index, atom, abs, app, constant, integer, text, eigen, logic, param}
@@ -9,7 +9,7 @@ use Rattle.lp_code.specs.declared.record.Key.TheVariants as key
 use Rattle.lp_code.specs.Denote.{key_is}
 use Rattle.lp_standard.specs.Schemes.{IsStandard}
 use Rattle.lp_model.specs.Flat.{no_goals}
-use Rattle.lp_term.specs.Nodes.{Nodes, tree, type_tree}
+use Rattle.lp_term.specs.Nodes.{Nodes, tree}
 use Rattle.lp_code.specs.declared.record.Record.{Record}
 use Rattle.lp_code.specs.declared.record.RecordHead.{RecordHead}
 use Rattle.lp_code.specs.States.{State, Home, bind_term}
@@ -17,7 +17,6 @@ use Rattle.lp_gen.specs.Sources.{IsKnownType}
 use Rattle.lp_gen.specs.declared.emitter.Emitter.{Emitter}
 use Rattle.lp_gen.specs.declared.environment.Environment.{Environment}
 use Rattle.lp_gen.specs.declared.environment.Variable.{Variable}
-use Rattle.lp_gen.specs.declared.plan.Step.{Step}
 use Rattle.lp_gen.specs.declared.plan.Part.{Part}
 use Rattle.lp_gen.specs.declared.plan.Origin.{Origin}
 use Rattle.lp_gen.specs.declared.plan.Origin.TheVariants as origin

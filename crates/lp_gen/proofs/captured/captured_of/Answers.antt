@@ -1,4 +1,4 @@
-use Rattle.std.proofs.Common.{refl, subst, sym, arith}
+use Rattle.std.proofs.Common.{subst, sym, arith}
 use Rattle.std.proofs.lemmas.List.{nil_from_length}
 use Rattle.lp_gen.specs.inner.Capturing.{PlacesHold}
 use Rattle.lp_gen.proofs.CapturedBy.{walk_starts, places_back}

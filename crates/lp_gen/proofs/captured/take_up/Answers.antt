@@ -1,6 +1,4 @@
-use Rattle.std.proofs.Common.{refl, arith}
-use Rattle.std.proofs.lemmas.List.{nil_from_length}
-use Rattle.lp_gen.proofs.CapturedBy.{clauses_none, goals_none, terms_none, clauses_some, goals_some, terms_some, term_same}
+use Rattle.lp_gen.proofs.CapturedBy.{clauses_some, goals_some, terms_some, term_same}
 use Rattle.lp_gen.proofs.captured.take_up.Goals as goal
 
 pub returns-in_ok-visit_clause-in-Clauses-clause-marks : goal.returns-in_ok-visit_clause-in-Clauses-clause-marks

@@ -1,4 +1,4 @@
-use Rattle.std.proofs.Common.{length, arith}
+use Rattle.std.proofs.Common.{arith}
 use Rattle.lp_gen.proofs.CapturedBy.{clause_holds}
 use Rattle.lp_gen.proofs.captured.visit_clause.Goals as goal
 

@@ -1,4 +1,3 @@
-use Rattle.std.proofs.Common.{refl}
 use Rattle.lp_gen.proofs.CapturedBy.{atom_holds, cut_holds, either_holds, some_holds, all_holds, assume_holds, not_holds}
 use Rattle.lp_gen.proofs.captured.visit_goal.Goals as goal
 

@@ -1,4 +1,4 @@
-use Rattle.std.proofs.Common.{sym, refl, arith}
+use Rattle.std.proofs.Common.{arith}
 use Rattle.lp_gen.proofs.CapturedBy.{marks_application, bound_index, free_index, under_abs, of_application, other_form}
 use Rattle.lp_gen.proofs.captured.visit_term.Goals as goal
 

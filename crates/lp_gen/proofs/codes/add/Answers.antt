@@ -1,4 +1,4 @@
-use Rattle.std.proofs.Common.{◌≡◌, ◌∙◌, ◌++◌, ◌<◌, ◌^◌, [], length, ap, refl, sym, subst, arith}
+use Rattle.std.proofs.Common.{[], refl, sym, subst, arith}
 use Rattle.lp_gen.specs.declared.record.Tables.{Tables}
 use Rattle.lp_gen.specs.inner.Planning.{ArePlanned, AllCaptured}
 use Rattle.lp_gen.specs.inner.Groups.{AllWritten}

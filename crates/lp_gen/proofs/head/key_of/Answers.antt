@@ -1,4 +1,4 @@
-use Rattle.std.proofs.Common.{◌≡◌, ◌∙◌, ◌∷◌, length, map, sym, ap, arith}
+use Rattle.std.proofs.Common.{◌∙◌, length, map, sym, ap, arith}
 use Rattle.std.proofs.lemmas.List.{nil_from_length}
 use Rattle.lp_term.specs.Nodes.{tree}
 use Rattle.lp_gen.proofs.KeyOf.{first_none, first_some}

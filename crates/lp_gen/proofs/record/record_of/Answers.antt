@@ -1,4 +1,4 @@
-use Rattle.std.proofs.Common.{◌≡◌, ◌∙◌, Bool, ap, sym, refl, subst}
+use Rattle.std.proofs.Common.{◌≡◌, ◌∙◌, Bool, ap, refl, subst}
 use Rattle.std.specs.Prelude.{is_none, if◌then◌else◌}
 use Rattle.lp_gen.specs.inner.Listing.{constant_function}
 use Rattle.lp_gen.specs.inner.BodyCode.{BodyWritten}

@@ -1,6 +1,5 @@
-use Rattle.std.proofs.Common.{◌∙◌, ◌+◌, refl, ap, length, map, subst}
-use Rattle.lp_gen.specs.inner.Listing.{around_of}
-use Rattle.lp_gen.specs.inner.Entering.{QueryEntered, query_own, types_at}
+use Rattle.std.proofs.Common.{◌∙◌, ◌+◌, refl, ap, subst}
+use Rattle.lp_gen.specs.inner.Entering.{QueryEntered}
 use Rattle.lp_gen.proofs.TypeWorks.{map_length}
 use Rattle.lp_gen.proofs.record.write_variables.Goals as goal
 

@@ -1,4 +1,4 @@
-use Rattle.std.proofs.Common.{◌≡◌, ◌∙◌, ap, sym, refl, arith}
+use Rattle.std.proofs.Common.{ap, arith}
 use Rattle.lp_gen.specs.inner.Planning.{todos}
 use Rattle.lp_gen.proofs.PlanDone.{atom_done, cut_done, either_done, some_done, all_done, not_done, assume_done}
 use Rattle.lp_gen.proofs.plan.Plan.goal.Goals as goal

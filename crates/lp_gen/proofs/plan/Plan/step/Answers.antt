@@ -1,4 +1,3 @@
-use Rattle.std.proofs.Common.{◌≡◌, ◌∙◌, ap, sym, refl, arith}
 use Rattle.std.proofs.lemmas.List.{nil_from_length}
 use Rattle.lp_gen.specs.inner.Planning.{todos}
 use Rattle.lp_gen.proofs.PlanDone.{task_none, task_first, task_end, task_level}

@@ -1,4 +1,4 @@
-use Rattle.std.proofs.Common.{◌≡◌, ◌∙◌, ◌+◌, length, ap, sym, refl, subst, arith}
+use Rattle.std.proofs.Common.{◌∙◌, ◌+◌, ap, refl, arith}
 use Rattle.std.proofs.lemmas.List.{nil_from_length}
 use Rattle.lp_gen.specs.inner.Recorded.{own_count}
 use Rattle.lp_gen.specs.inner.Planning.{todos, body_of}

@@ -1,4 +1,4 @@
-use Rattle.std.proofs.Common.{◌≡◌, ◌∙◌, ◌∷◌, ◌+◌, ap, sym, subst, Vec}
+use Rattle.std.proofs.Common.{◌∙◌, ◌∷◌}
 use Rattle.lp_gen.specs.inner.Planning.{due_goals, due_end, todos}
 use Rattle.lp_gen.proofs.plan.Walk.put_block.Goals as goal
 

@@ -1,4 +1,4 @@
-use Rattle.std.proofs.Common.{◌≡◌, ◌∙◌, ◌∷◌, ap, sym}
+use Rattle.std.proofs.Common.{◌∙◌, ◌∷◌, ap}
 use Rattle.lp_gen.specs.declared.plan.Task.TheVariants as task
 use Rattle.lp_gen.specs.inner.Planning.{due_goals, due_level, todos}
 use Rattle.lp_gen.proofs.PlanDone.{todos_push}
