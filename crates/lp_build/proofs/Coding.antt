@@ -1,6 +1,5 @@
 -- The code of modules: what it denotes, and the objects and the image that have it.
-use Rattle.std.specs.Global.{Global}
-use Rattle.std.proofs.Common.{◌≡◌, ◌∙◌, ◌++◌, ◌∷◌, [], ◌+◌, ◌-◌, ◌<◌, ◌≤◌, ℕ, zero, suc, List, Option, None, Some, if◌then◌else◌, length, map, get_or, ap, refl, sym, subst, arith, append_assoc, append-nil}
+use Rattle.std.proofs.Common.{◌≡◌, ◌∙◌, ◌++◌, ◌∷◌, [], ◌+◌, ◌-◌, ◌<◌, ℕ, zero, suc, List, Option, Some, if◌then◌else◌, length, map, get_or, ap, refl, sym, subst, arith, append_assoc, append-nil}
 use Rattle.std.specs.Prelude.{All, nat_lt, slice_get, take}
 use Rattle.std.proofs.lemmas.List.{map-append, take_more}
 use mathlib.Core.Path.{fun_ext}
@@ -8,7 +7,7 @@ use Rattle.lp_lemmas.proofs.Lists.{cons_equal, map_pushed}
 use Rattle.lp_calculus.specs.Types.{Ty}
 use Rattle.lp_calculus.specs.Typing.{Scheme}
 use Rattle.lp_standard.specs.Schemes.{entry, standard_schemes}
-use Rattle.lp_term.specs.Nodes.{Nodes, Extends, type_tree}
+use Rattle.lp_term.specs.Nodes.{Nodes, Extends}
 use Rattle.lp_term.proofs.Trees.{extends-trans}
 use Rattle.lp_model.specs.Flat.{Clause, Clauses, clause_list}
 use Rattle.lp_model.specs.Flatten.{ClauseFormula, flatten}
@@ -27,11 +26,9 @@ use Rattle.lp_code.specs.declared.record.Record.{Record}
 use Rattle.lp_gen.specs.Contract as contract
 use Rattle.lp_gen.specs.Contract.{DenotesClauses}
 use Rattle.lp_gen.specs.Sources.{AreKnownSchemes, IsClause}
-use Rattle.lp_sig.specs.Refusals.{IsAt}
 use Rattle.lp_sig.specs.declared.entries.ConstantEntry.{ConstantEntry}
 use Rattle.lp_sig.specs.declared.signature.Signature.{Signature}
 use Rattle.lp_module.specs.Program.{clauses_in}
-use Rattle.lp_module.specs.Sentences.{AreWithin}
 use Rattle.lp_module.specs.declared.module.Module.{Module}
 use Rattle.lp_build.specs.Compiled.{ArePaired, DenoteFlattened, HasNamesOf, IsObjectConstant, IsObjectKind, IsObjectOf}
 use Rattle.lp_build.specs.inner.Coded.{AreFlat, schemes_of, signature_tables}
@@ -47,7 +44,7 @@ paired_tail P x xs y ys h = record {
   each = λ i u v a b. h.each (suc i) u v (let l = a.0 in omega (arith, l), a.1) (let l = b.0 in omega (arith, l), b.1);
 }
 
-paired_map : {A B C : Type 0} (P : A → B → Type 0) (f : A → C) (g : B → C) (xs : List A) (ys : List B) → ((x : A) (y : B) → P x y → g y ≡ f x) → ArePaired P xs (length xs) ys → map g ys ≡ map f xs
+pub paired_map : {A B C : Type 0} (P : A → B → Type 0) (f : A → C) (g : B → C) (xs : List A) (ys : List B) → ((x : A) (y : B) → P x y → g y ≡ f x) → ArePaired P xs (length xs) ys → map g ys ≡ map f xs
 paired_map P f g [] [] h p = refl
 paired_map P f g [] (y ∷ ys) h p = absurd (let m = p.many in omega (arith, m))
 paired_map P f g (x ∷ xs) [] h p = absurd (let m = p.many in omega (arith, m))

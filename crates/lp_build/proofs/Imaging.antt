@@ -1,12 +1,12 @@
 -- The objects of modules, and the image that is linked from them.
-use Rattle.std.specs.Global.{Global}
-use Rattle.std.proofs.Common.{◌≡◌, ◌∙◌, ◌++◌, ◌∷◌, [], ◌+◌, ◌<◌, ℕ, zero, suc, List, length, ap, refl, sym, subst, arith}
-use Rattle.std.specs.Prelude.{All, Result, Ok, Err, IfOk, String, Vec, zip}
+use Rattle.std.proofs.Common.{◌≡◌, ◌∷◌, [], ◌+◌, ℕ, zero, suc, List, length, refl, subst, arith}
+use Rattle.std.specs.Prelude.{All, Result, Ok, Err, IfOk, zip}
 use Rattle.std.proofs.lemmas.List.Elements.{All-head, All-tail}
 use Rattle.lp_lemmas.proofs.Elements.{All_empty, All_pushed}
 use Rattle.lp_code.specs.declared.object.Object.{Object}
 use Rattle.lp_code.specs.declared.image.Image.{Image}
 use Rattle.lp_link.specs.Linked.{IsLinked}
+use Rattle.lp_link.specs.Refusals.{CanBeLinked}
 use Rattle.lp_sig.specs.Refusals.{IsAt}
 use Rattle.lp_syntax.specs.declared.text.ModuleText.{ModuleText}
 use Rattle.lp_syntax.specs.declared.text.SignatureText.{SignatureText}
@@ -46,8 +46,8 @@ objects_are (m ∷ ms) (n ∷ ns) (o ∷ os) named within coded =
 
 -- the image of modules
 pub image_of_is : (ms : List Module) (os : List Object) (r : Result Image BuildFault) → ArePaired IsObjectOf ms (length ms) os
-    → IfOk r (λ image. (root : ℕ) × (root + 1 ≡ length os) × IsLinked os root image) → IfOk r (IsImageOf ms)
-image_of_is ms os (Ok image) are (root, last, linked) = record { objects = os; are = are; root = root; last = last; linked = linked }
+    → IfOk r (λ image. (root : ℕ) × (root + 1 ≡ length os) × CanBeLinked os root × IsLinked os root image) → IfOk r (IsImageOf ms)
+image_of_is ms os (Ok image) are (root, last, can, linked) = record { objects = os; are = are; root = root; last = last; can = can; linked = linked }
 image_of_is ms os (Err e) are h = tt
 
 -- the clauses of a module stand in its bank

@@ -13,3 +13,14 @@ pub mod Compiling
 pub mod Closed
 pub mod Coding
 pub mod Imaging
+pub mod CopyNumbers
+pub mod RenumberedTerms
+pub mod RenumberedFlat
+pub mod SameCopies
+pub mod Shapes
+pub mod Seen
+pub mod SeenEdges
+pub mod ImageCopies
+pub mod CopyClauses
+pub mod CopyNumbering
+pub mod ImageClauses

@@ -1,6 +1,5 @@
 -- The object of a module of a set of files: its names, and what its code denotes.
 use Rattle.std.specs.Prelude.{◌≡◌, ℕ, ◌-◌, List, length, map, nat_lt, All, Bool, None, Some, if◌then◌else◌}
-use Rattle.lp_calculus.specs.Typing.{Scheme}
 use Rattle.lp_model.specs.Flat.{Clause}
 use Rattle.lp_model.specs.Flatten.{ClauseFormula}
 use Rattle.lp_model.specs.Proofs.{AreFlattened}

@@ -9,5 +9,7 @@ pub mod Meant
 pub mod Queried
 pub mod Programs
 pub mod Compiled
+pub mod Copied
 pub mod Images
+pub mod Ready
 pub mod inner

@@ -11,6 +11,8 @@ mod fault;
 mod images;
 // Which files the texts name.
 mod links;
+// Laws of images and programs.
+mod laws;
 // The loading of files.
 mod load;
 // What all modules mean.
@@ -32,5 +34,6 @@ mod walk;
 
 pub use build::{Built, build_image, build_object, build_program, modules};
 pub use fault::BuildFault;
+pub use laws::{an_image_denotes_the_program, an_image_has_the_copies_of_the_program};
 pub use load::{gather, gather_with};
 pub use sources::Sources;

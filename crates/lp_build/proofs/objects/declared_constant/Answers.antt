@@ -3,7 +3,6 @@ use Rattle.lp_term.specs.Memo.{AreMade}
 use Rattle.lp_term.specs.Nodes.{type_tree}
 use Rattle.lp_term.specs.Same.{same_map}
 use Rattle.lp_term.proofs.MapLaws.{same_is_map, same_type}
-use Rattle.lp_code.specs.Naming.{scheme_in}
 use Rattle.lp_build.proofs.objects.declared_constant.Goals as goal
 
 pub returns-clause-scheme : goal.returns-clause-scheme

@@ -1,4 +1,4 @@
-use Rattle.std.proofs.Common.{◌≤◌, ◌<◌, ◌∙◌, length, take, refl, subst, arith}
+use Rattle.std.proofs.Common.{◌≤◌, ◌<◌, length, take, refl, subst, arith}
 use Rattle.std.proofs.lemmas.Grind.{common_steps}
 use Rattle.std.proofs.lemmas.List.{take_all, take_more}
 use Rattle.lp_term.proofs.Trees.{extends_same, extends-trans}
