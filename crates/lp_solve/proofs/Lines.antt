@@ -31,14 +31,14 @@ module _ (es : List Entry) (ns : List (List ℕ)) where
       (l, m ++ lines, one, lines_more (suc k) number xs x m lines behind more is, ap (λ t. t ++ lines) w ∙ append_assoc l m lines)
 
   -- of the code's answers, numbered from 1
-  pub told_more : (as : List Answer) (a : Answer) (text lines : List ℕ) → AreLines es ns 1 (map plain as) text → IsLines es ns (suc (length as)) (plain a) lines → AreLines es ns 1 (map plain (as ++ a ∷ [])) (text ++ lines)
-  told_more as a text lines h is =
-      let n : suc (length as) ≡ length (map plain as) + 1 = let e = length_mapped as in omega arith in
-      subst (λ xs. AreLines es ns 1 xs (text ++ lines)) (sym (map-append plain as (a ∷ []))) (lines_more 1 (suc (length as)) (map plain as) (plain a) text lines n h is)
+  pub told_more : (bs : List Answer) (a : Answer) (text lines : List ℕ) → AreLines es ns 1 (map plain bs) text → IsLines es ns (suc (length bs)) (plain a) lines → AreLines es ns 1 (map plain (bs ++ a ∷ [])) (text ++ lines)
+  told_more bs a text lines h is =
+      let n : suc (length bs) ≡ length (map plain bs) + 1 = let e = length_mapped bs in omega arith in
+      subst (λ xs. AreLines es ns 1 xs (text ++ lines)) (sym (map-append plain bs (a ∷ []))) (lines_more 1 (suc (length bs)) (map plain bs) (plain a) text lines n h is)
     where
-      length_mapped : (as : List Answer) → length (map plain as) ≡ length as
+      length_mapped : (bs : List Answer) → length (map plain bs) ≡ length bs
       length_mapped [] = refl
-      length_mapped (a ∷ as) = ap suc (length_mapped as)
+      length_mapped (a ∷ bs) = ap suc (length_mapped bs)
 
 -- what is shown
 shown_as : (t s : Term) → IsShownForm t s → IsShownAs t s

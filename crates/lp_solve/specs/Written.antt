@@ -40,7 +40,7 @@ pub record IsLines (es : List Entry) (ns : List (List ℕ)) (number : ℕ) (a : 
 -- those of answers one after the other, numbered from here on
 abbrev pub AreLines : List Entry → List (List ℕ) → (number : ℕ) → List Answer → (text : List ℕ) → Type 0
 AreLines es ns k [] text = text ≡ []
-AreLines es ns k (a ∷ as) text = (lines : List ℕ) × (more : List ℕ) × IsLines es ns k a lines × AreLines es ns (suc k) as more × (text ≡ lines ++ more)
+AreLines es ns k (a ∷ bs) text = (lines : List ℕ) × (more : List ℕ) × IsLines es ns k a lines × AreLines es ns (suc k) bs more × (text ≡ lines ++ more)
 
 -- an answer cannot be shown: of one of its terms the leftmost reduction takes more than 1,000,000 steps, or the beta-eta normal form has more than 1,000,000 nodes
 abbrev pub IsTooLarge : Term → Type 0
