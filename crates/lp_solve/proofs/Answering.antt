@@ -13,8 +13,8 @@ use Rattle.lp_solve.specs.inner.Searched.{HasLast, IsSearched, an_ending, no_mem
 
 module _ (ns : List (List ℕ)) (s : Search) where
   end_of : (e : Ending) → Ends ns s e → (left : List Answer) × (ending : Option Ending) × IsEnd (Unit {0}) ns left ending e
-  end_of e (as_told e t is) = ([], Some e, written.as_told e refl refl)
-  end_of e (too_deep a t is c) = (plain a ∷ [], None, written.too_large (plain a) [] refl c)
+  end_of o (as_told e t is) = ([], Some e, written.as_told e refl refl)
+  end_of o (too_deep a t is c) = (plain a ∷ [], None, written.too_large (plain a) [] refl c)
 
   last_of : (watched : Bool) (status : Status) (text : List ℕ) → HasLast ns watched s status text → (left : List Answer) × (ending : Option Ending) × IsLast (Unit {0}) ns watched left ending status text
   last_of watched status text (an_ending e reports ends may st is) = let x = end_of e ends in (x.0, x.1, written.an_ending e reports x.2 may st is)

@@ -55,13 +55,13 @@ TellsLines es ns k a r =
     IfOk r (λ text. (forms : List Term) × ((sides : List (Term × Term)) × (AreForms ns (in_order a.bank a.values.items) forms × AreSides (pair_trees a.bank a.pairs.items) sides × (text.items ≡ shown_answer es k ns forms sides))))
 
 pub lines_told : (es : List Entry) (ns : List (List ℕ)) (k : ℕ) (a : Answer) (r : Result (Vec ℕ Global) TermRefusal) → TellsLines es ns k a r → IfOk r (λ text. IsLines es ns k (plain a) text.items)
-lines_told es ns k a (Ok text) (forms, sides, f, s, e) = record { forms = forms; sides = sides; are_forms = f; are_sides = pairs_shown a.bank a.pairs.items sides s; is = e }
+lines_told es ns k a (Ok text) (forms, (sides, (f, s, e))) = record { forms = forms; sides = sides; are_forms = f; are_sides = pairs_shown a.bank a.pairs.items sides s; is = e }
 lines_told es ns k a (Err e) h = tt
 
 -- what is not
 too_large : (t : Term) (k : ℕ) → IsDeep t (refusal.Deep k) → IsTooLarge t
 too_large t k (inl (e, h)) = inl h
-too_large t k (inr (e, s, within, form, n)) = inr (s, form, n)
+too_large t k (inr (e, (s, within, form, n))) = inr (s, form, n)
 
 first_too_large : (ts : List Term) (k : ℕ) → IsFirstDeep ts (refusal.Deep k) → AnyOf IsTooLarge ts
 first_too_large [] k h = h

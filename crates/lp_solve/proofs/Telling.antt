@@ -1,5 +1,5 @@
 -- What was written of a search so far, and at its end.
-use Rattle.std.proofs.Common.{◌≡◌, ◌≢◌, ℕ, suc, List, [], ◌∷◌, ◌++◌, length, Option, Some, Bool, refl, sym, ap, ◌∙◌, subst, inl, inr}
+use Rattle.std.proofs.Common.{◌≡◌, ◌≢◌, ℕ, suc, List, [], ◌∷◌, ◌++◌, length, map, Option, Some, Bool, refl, sym, ap, ◌∙◌, subst, inl, inr}
 use Rattle.std.specs.Prelude.{IfOk, OnOk, Result, Ok, Err, false, Vec, IfErr}
 use Rattle.std.specs.Global.{Global}
 use Rattle.lp_base.specs.Written.{Appends, AppendsPrefix}
