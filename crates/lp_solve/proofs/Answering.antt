@@ -1,5 +1,5 @@
 -- What is written of a search is what is written of some search that tells these answers and ends so.
-use Rattle.std.proofs.Common.{◌≡◌, ℕ, List, [], ◌∷◌, ◌++◌, map, Option, Some, None, Bool, refl, sym, append-nil}
+use Rattle.std.proofs.Common.{ℕ, List, [], ◌∷◌, ◌++◌, map, Option, Some, None, Bool, refl}
 use Rattle.lp_base.specs.declared.status.Status.{Status}
 use Rattle.lp_model.specs.Branch.{Answer}
 use Rattle.lp_model.specs.Shown.{Entry}

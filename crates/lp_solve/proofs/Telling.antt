@@ -1,16 +1,12 @@
 -- What was written of a search so far, and at its end.
-use Rattle.std.proofs.Common.{◌≡◌, ◌≢◌, ℕ, suc, List, [], ◌∷◌, ◌++◌, length, map, Option, Some, Bool, refl, sym, ap, ◌∙◌, subst, inl, inr}
-use Rattle.std.specs.Prelude.{IfOk, OnOk, Result, Ok, Err, false, Vec, IfErr}
+use Rattle.std.proofs.Common.{◌≡◌, ◌≢◌, ℕ, suc, List, [], ◌∷◌, ◌++◌, length, map, Option, Bool, refl, sym, ap, ◌∙◌, subst, inl, inr}
+use Rattle.std.specs.Prelude.{IfOk, Result, Ok, Err, Vec}
 use Rattle.std.specs.Global.{Global}
 use Rattle.lp_base.specs.Written.{Appends, AppendsPrefix}
 use Rattle.lp_base.specs.declared.memory.Memory.{Memory as Want}
 use Rattle.lp_base.specs.declared.status.Status.{Status}
 use Rattle.lp_base.specs.declared.status.Status.TheVariants as variant
 use Rattle.lp_lemmas.proofs.Lists.{length_push_suc}
-use Rattle.lp_calculus.specs.Term.{Term}
-use Rattle.lp_term.specs.declared.reduce.TermRefusal.{TermRefusal}
-use Rattle.lp_term.specs.declared.reduce.TermRefusal.TheVariants as refusal
-use Rattle.lp_show.specs.Forms.{IsFirstDeep}
 use Rattle.lp_model.specs.Shown.{Entry}
 use Rattle.lp_model.specs.Whole as whole
 use Rattle.lp_model.specs.declared.answer.Answer.{Answer}
