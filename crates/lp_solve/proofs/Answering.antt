@@ -23,6 +23,7 @@ module _ (ns : List (List ℕ)) (s : Search) where
 pub some_search : (es : List Entry) (ns : List (List ℕ)) (watched : Bool) (first : Search) (status : Status) (text : List ℕ) → IsSearched es ns watched first status text → (t : Told Answer) × IsWritten (Unit {0}) es ns watched t status text
 some_search es ns watched first status text w =
     let x = last_of ns w.answers.now watched status w.last w.is_last in
-    let shown = map plain w.answers.answers in
-    (record { answers = shown ++ x.0; notes = []; steps = 0; ending = x.1 },
-    record { shown = shown; left = x.0; answers = refl; lines = w.lines; are_lines = w.answers.lines; last = w.last; is_last = x.2; wrote = w.wrote })
+    let shown = map plain w.answers.answers in (
+      record { answers = shown ++ x.0; notes = []; steps = 0; ending = x.1 },
+      record { shown = shown; left = x.0; answers = refl; lines = w.lines; are_lines = w.answers.lines; last = w.last; is_last = x.2; wrote = w.wrote },
+    )
