@@ -16,11 +16,13 @@ module _ (ns : List (List ℕ)) (s : Search) where
   end_of o (as_told e t is) = ([], Some e, written.as_told e refl refl)
   end_of o (too_deep a t is c) = (plain a ∷ [], None, written.too_large (plain a) [] refl c)
 
-  last_of : (watched : Bool) (status : Status) (text : List ℕ) → HasLast ns watched s status text → (left : List Answer) × (ending : Option Ending) × IsLast (Unit {0}) ns watched left ending status text
+  last_of : (watched : Bool) (status : Status) (text : List ℕ) → HasLast ns watched s status text → (left : List Answer) × (ending : Option Ending) ×
+      IsLast (Unit {0}) ns watched left ending status text
   last_of watched status text (an_ending e reports ends may st is) = let x = end_of e ends in (x.0, x.1, written.an_ending e reports x.2 may st is)
   last_of watched status text (no_memory st is) = ([], None, written.no_memory st is)
 
-pub some_search : (es : List Entry) (ns : List (List ℕ)) (watched : Bool) (first : Search) (status : Status) (text : List ℕ) → IsSearched es ns watched first status text → (t : Told Answer) × IsWritten (Unit {0}) es ns watched t status text
+pub some_search : (es : List Entry) (ns : List (List ℕ)) (watched : Bool) (first : Search) (status : Status) (text : List ℕ) → IsSearched es ns
+    watched first status text → (t : Told Answer) × IsWritten (Unit {0}) es ns watched t status text
 some_search es ns watched first status text w =
     let x = last_of ns w.answers.now watched status w.last w.is_last in
     let shown = map plain w.answers.answers in (

@@ -20,7 +20,8 @@ use Rattle.lp_solve.specs.inner.Events.{IfDeep, plain}
 
 -- one answer more
 module _ (es : List Entry) (ns : List (List ℕ)) where
-  pub lines_more : (k number : ℕ) (xs : List definition.Answer) (x : definition.Answer) (text lines : List ℕ) → number ≡ length xs + k → AreLines es ns k xs text → IsLines es ns number x lines → AreLines es ns k (xs ++ x ∷ []) (text ++ lines)
+  pub lines_more : (k number : ℕ) (xs : List definition.Answer) (x : definition.Answer) (text lines : List ℕ) → number ≡ length xs + k → AreLines es
+      ns k xs text → IsLines es ns number x lines → AreLines es ns k (xs ++ x ∷ []) (text ++ lines)
   lines_more k number [] x text lines e h is =
       let n : number ≡ 0 + k = e in
       let at : number ≡ k = omega arith in
@@ -31,7 +32,8 @@ module _ (es : List Entry) (ns : List (List ℕ)) where
       (l, m ++ lines, one, lines_more (suc k) number xs x m lines behind more is, ap (λ t. t ++ lines) w ∙ append_assoc l m lines)
 
   -- of the code's answers, numbered from 1
-  pub told_more : (bs : List Answer) (a : Answer) (text lines : List ℕ) → AreLines es ns 1 (map plain bs) text → IsLines es ns (suc (length bs)) (plain a) lines → AreLines es ns 1 (map plain (bs ++ a ∷ [])) (text ++ lines)
+  pub told_more : (bs : List Answer) (a : Answer) (text lines : List ℕ) → AreLines es ns 1 (map plain bs) text → IsLines es ns (suc (length bs))
+      (plain a) lines → AreLines es ns 1 (map plain (bs ++ a ∷ [])) (text ++ lines)
   told_more bs a text lines h is =
       let n : suc (length bs) ≡ length (map plain bs) + 1 = let e = length_mapped bs in omega arith in
       subst (λ xs. AreLines es ns 1 xs (text ++ lines)) (sym (map-append plain bs (a ∷ []))) (lines_more 1 (suc (length bs)) (map plain bs) (plain a) text lines n h is)
@@ -52,7 +54,8 @@ pairs_shown b (p ∷ ps) (q ∷ qs) (l, r, more) = (shown_as (tree b p.left.0) q
 
 abbrev pub TellsLines : List Entry → List (List ℕ) → (number : ℕ) → Answer → Result (Vec ℕ Global) TermRefusal → Type 0
 TellsLines es ns k a r =
-    IfOk r (λ text. (forms : List Term) × ((sides : List (Term × Term)) × (AreForms ns (in_order a.bank a.values.items) forms × AreSides (pair_trees a.bank a.pairs.items) sides × (text.items ≡ shown_answer es k ns forms sides))))
+    IfOk r (λ text. (forms : List Term) × ((sides : List (Term × Term)) × (AreForms ns (in_order a.bank a.values.items) forms × AreSides
+    (pair_trees a.bank a.pairs.items) sides × (text.items ≡ shown_answer es k ns forms sides))))
 
 pub lines_told : (es : List Entry) (ns : List (List ℕ)) (k : ℕ) (a : Answer) (r : Result (Vec ℕ Global) TermRefusal) → TellsLines es ns k a r → IfOk r (λ text. IsLines es ns k (plain a) text.items)
 lines_told es ns k a (Ok text) (forms, (sides, (f, s, e))) = record { forms = forms; sides = sides; are_forms = f; are_sides = pairs_shown a.bank a.pairs.items sides s; is = e }
