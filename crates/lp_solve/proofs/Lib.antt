@@ -6,6 +6,11 @@ mod Searched
 mod Telling
 mod Lines
 mod Answering
+mod Reducts
+mod Nexts
+mod Followed
+mod Beginning
+mod Truth
 mod Refused
 mod Naming
 mod Beyond

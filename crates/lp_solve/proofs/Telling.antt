@@ -19,16 +19,16 @@ use Rattle.lp_lines.specs.Lines.{ending_line, ending_status, memory_line}
 use Rattle.lp_lines.proofs.Appending.{appends_nothing, appends_both, prefix_behind, prefix_grows, prefix_longer}
 use Rattle.lp_lines.proofs.Statuses.{is_fault}
 use Rattle.lp_solve.specs.Written.{AreLines, IsLines, MayReport}
-use Rattle.lp_solve.specs.inner.Events.{Ends, IsPiece, IsTold, Tells, no_answer, one_answer, plain}
+use Rattle.lp_solve.specs.inner.Events.{Ends, Follows, IsPiece, IsTold, Tells, no_answer, one_answer, plain}
 use Rattle.lp_solve.specs.inner.Searched.{BeginsLast, BeginsSearch, WritesLast, WritesSearch, an_ending, no_memory}
 use Rattle.lp_solve.proofs.Lines.{told_more}
 use Rattle.lp_solve.specs.declared.piece.Piece.{Piece}
 use Rattle.lp_solve.specs.declared.piece.Piece.TheVariants as piece
 
 -- one event
-pub told_by : (old new : Search) (r : Result Event Want) → variables_of new ≡ variables_of old → IfOk r (whole.IsTold (variables_of old)) → IfOk r (λ e. IsTold old e new)
-told_by old new (Ok x) v t = record { variables = v; told = t }
-told_by old new (Err e) v t = tt
+pub told_by : (old new : Search) (r : Result Event Want) → variables_of new ≡ variables_of old → IfOk r (whole.IsTold (variables_of old)) → IfOk r (λ e. Follows old e new) → IfOk r (λ e. IsTold old e new)
+told_by old new (Ok x) v t f = record { variables = v; told = t; search = f }
+told_by old new (Err e) v t f = tt
 
 -- the search keeps the number of its variables
 pub told_variables : (first now : Search) (answers : List Answer) → Tells first answers now → variables_of now ≡ variables_of first

@@ -8,5 +8,7 @@ pub mod Schemes
 pub mod Sources
 pub mod Shown
 pub mod Written
+pub mod Queries
+pub mod Right
 pub mod Solved
 pub mod inner

@@ -141,8 +141,8 @@ pub fn solve<F: Folder, K: Sink, W: Watch>(
     out: &mut K,
     watchers: &mut Vec<W>,
 ) -> Status
-    ensures writes { AreKnown (F.held folder.old) known.items → result ≢ Status.WriteFault → WritesSolved (F.held folder.old) question.entry.name.now question.entry.query.now watched result (K.written out.old) (K.written out.new) }
-    ensures begins { AreKnown (F.held folder.old) known.items → result ≡ Status.WriteFault → BeginsSolved (F.held folder.old) question.entry.name.now question.entry.query.now watched (K.written out.old) (K.written out.new) }
+    ensures writes { AreKnown (F.held folder.old) known.items → result ≢ Status.WriteFault → WritesSolved (F.held folder.old) question.entry.name.now question.entry.query.now watched question.entry.steps question.entry.answers result (K.written out.old) (K.written out.new) }
+    ensures begins { AreKnown (F.held folder.old) known.items → result ≡ Status.WriteFault → BeginsSolved (F.held folder.old) question.entry.name.now question.entry.query.now watched question.entry.steps question.entry.answers (K.written out.old) (K.written out.new) }
     ensures ran { Ran F.read_faults F.misses F.overs K.written folder.old folder.new out.old out.new result }
     ensures keeps { KeepsFiles F.write_faults F.held K.faults folder.old folder.new out.old out.new result }
     ensures placed { AreKnown (F.held folder.old) known.items → result ≡ Status.Source → WritesPlaced (F.held folder.old) question.entry.query.now (K.written out.old) (K.written out.new) }

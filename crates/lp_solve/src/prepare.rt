@@ -41,7 +41,7 @@ pub struct Prepared {
 
 fn start(alloc: Global, question: Question<'_>, mut built: Built) -> Result<Prepared, Refusal>
     ensures prepared { IfOk result IsPrepared }
-    ensures ready { (told : Option Held) → IsLoaded told question.entry.name.now built → IfOk result (IsReady told question.entry.name.now question.entry.query.now) }
+    ensures ready { (told : Option Held) → IsLoaded told question.entry.name.now built → IfOk result (IsReady told question.entry.name.now question.entry.query.now question.entry.steps question.entry.answers) }
     ensures refused { IfErr result IsTextRefusal }
     ensures placed { IfErr result (IfSource (IsOfText (codes "query") question.entry.query.now)) }
 {
@@ -70,7 +70,7 @@ pub fn prepare<F: Folder>(
     folder: &mut F,
 ) -> Result<Prepared, Refusal>
     ensures prepared { IfOk result IsPrepared }
-    ensures ready { AreKnown (F.held folder.old) known.items → IfOk result (IsReady (F.held folder.old) question.entry.name.now question.entry.query.now) }
+    ensures ready { AreKnown (F.held folder.old) known.items → IfOk result (IsReady (F.held folder.old) question.entry.name.now question.entry.query.now question.entry.steps question.entry.answers) }
     ensures refusal { AreKnown (F.held folder.old) known.items → IfErr result (IsRefusal (F.held folder.old) question.entry.name.now question.entry.query.now) }
     ensures looked { Looked F.read_faults F.misses F.overs F.write_faults F.held folder.old folder.new (refusal_of result) }
     ensures placed { AreKnown (F.held folder.old) known.items → IfErr result (IfSource (IsPlaced (F.held folder.old) question.entry.query.now)) }

@@ -4,13 +4,16 @@ use Rattle.lp_base.specs.Held.{Held}
 use Rattle.lp_base.specs.Written.{Appends, AppendsPrefix}
 use Rattle.lp_base.specs.declared.status.Status.{Status}
 use Rattle.lp_base.specs.declared.status.Status.TheVariants as variant
+use Rattle.lp_model.specs.Flat.{Clause, Goals}
+use Rattle.lp_model.specs.Proofs.{Declared}
 use Rattle.lp_model.specs.Shown.{Entry}
 use Rattle.lp_model.specs.declared.answer.Answer.{Answer}
 use Rattle.lp_model.specs.declared.ending.Ending.{Ending}
+use Rattle.lp_plain.specs.Between.{IsBetween}
 use Rattle.lp_plain.specs.declared.search.Search.{Search}
 use Rattle.lp_lines.specs.Lines.{ending_line, ending_status, memory_line}
+use Rattle.lp_solve.specs.Queries.{IsFlat, IsQuery, first_state}
 use Rattle.lp_solve.specs.Shown.{IsShownWith}
-use Rattle.lp_solve.specs.Solved.{IsQuery}
 use Rattle.lp_solve.specs.Written.{AreLines, MayReport}
 use Rattle.lp_solve.specs.inner.Events.{Ends, Tells, plain}
 use Rattle.lp_solve.specs.declared.prepare.Prepared.{Prepared}
@@ -58,7 +61,8 @@ pub record BeginsSearch (es : List Entry) (ns : List (List ℕ)) (watched : Bool
   pub is : IsSearched es ns watched first status text
   pub appended : AppendsPrefix old new text
 
--- the search of the query before its first event, beside what its answers are shown with
-pub record IsReady (told : Option Held) (name query : List ℕ) (p : Prepared) : Type 0 where
+-- the search of the query before its first event, in the state in which the definition's search begins, beside what its answers are shown with
+pub record IsReady (told : Option Held) (name query : List ℕ) (steps answers : ℕ) (p : Prepared) : Type 0 where
   pub asks : IsQuery told name query
+  pub begins : (d : Declared) (P : List Clause) (gs : Goals) → IsFlat asks d P gs → (n : ℕ) → IsBetween P n p.search (first_state asks gs steps answers)
   pub shown : IsShownWith query asks.typed asks.built p.shown
