@@ -39,10 +39,10 @@ ended_deep : (e : Ending) → ◌≡◌ (event.Ended e) (event.Ended Deep) → e
 ended_deep e h = cc
 
 -- behind the answers that a search has told: those of the definition's run, in the state in which it goes on; or the run went no further
-pub data Followed (P : List Clause) (n j m : ℕ) (start : State Task) (now : Search) (as : List code.Answer) : Type 0 where
-  still : (xs : List Answer) (k : ℕ) (s : State Task) → AreAnswersOf xs as → (told_by P n j m start).answers ≡ xs ++ (told_by P n j k s).answers → (told_by P n j m start).ending ≡ (told_by P n j k s).ending →
-      IsBetween P n now s → ((u : State Task) → IsReached (look unit_limit n P) s u → IsReached (look unit_limit n P) start u) → Followed P n j m start now as
-  passed : (before behind : List code.Answer) → as ≡ before ++ behind → AreAnswersOf (told_by P n j m start).answers before → (told_by P n j m start).ending ≡ None → Followed P n j m start now as
+pub data Followed (P : List Clause) (n j m : ℕ) (start : State Task) (now : Search) (bs : List code.Answer) : Type 0 where
+  still : (xs : List Answer) (k : ℕ) (s : State Task) → AreAnswersOf xs bs → (told_by P n j m start).answers ≡ xs ++ (told_by P n j k s).answers → (told_by P n j m start).ending ≡ (told_by P n j k s).ending →
+      IsBetween P n now s → ((u : State Task) → IsReached (look unit_limit n P) s u → IsReached (look unit_limit n P) start u) → Followed P n j m start now bs
+  passed : (before behind : List code.Answer) → bs ≡ before ++ behind → AreAnswersOf (told_by P n j m start).answers before → (told_by P n j m start).ending ≡ None → Followed P n j m start now bs
 
 module _ (P : List Clause) (n j m : ℕ) (start : State Task) where
   -- one answer more
@@ -61,9 +61,9 @@ module _ (P : List Clause) (n j m : ℕ) (start : State Task) where
           (answers ∙ ap (λ ys. xs ++ ys) r.0.1 ∙ sym (append_assoc xs (x ∷ []) (told_by P n j r.0.0 u).answers)) (ending ∙ r.0.2) got.1 (λ w q. reach w (r.1 w q))
       go (Some (Over o, u)) h = absurd ((told.search P n st between (λ d. absurd (cc)) (Over o) u (record { inner_moves = j; moves = k; gives = h })).0)
 
-  pub follow : (first_search now : Search) (as : List code.Answer) → IsBetween P n first_search start → Tells first_search as now → Followed P n j m start now as
-  follow first_search now as begun no_answer = still [] m start tt refl refl begun (λ u r. r)
-  follow first_search now as begun (one_answer before all s t a more told e) = next_answer s t before as a told e (follow first_search s before begun more)
+  pub follow : (first_search now : Search) (bs : List code.Answer) → IsBetween P n first_search start → Tells first_search bs now → Followed P n j m start now bs
+  follow first_search now bs begun no_answer = still [] m start tt refl refl begun (λ u r. r)
+  follow first_search now bs begun (one_answer before all s t a more told e) = next_answer s t before bs a told e (follow first_search s before begun more)
 
 -- what is written of it
 abbrev Comes : (exact : Type 0) (es : List Entry) (ns : List (List ℕ)) (watched : Bool) (told : Told Answer) (status : Status) (text : List ℕ) → Type 0
@@ -151,10 +151,10 @@ module _ (P : List Clause) (n j m : ℕ) (start : State Task) (es : List Entry) 
         | inr end ↦ here (written.an_ending e reports end may st is)
       ]
 
-  pub written_of : (as : List code.Answer) (lines last text : List ℕ) → Followed P n j m start now as → AreLines es ns 1 (map plain as) lines → HasLast ns watched now status last → text ≡ lines ++ last → Done text
-  written_of as lines last text (still xs k st are answers ending between reach) ls l w =
-      last_here xs k st answers ending lines last text (all_lines_before es ns 1 xs as lines are ls) w between reach l
-  written_of as lines last text (passed before behind e are none) ls l w =
+  pub written_of : (bs : List code.Answer) (lines last text : List ℕ) → Followed P n j m start now bs → AreLines es ns 1 (map plain bs) lines → HasLast ns watched now status last → text ≡ lines ++ last → Done text
+  written_of bs lines last text (still xs k st are answers ending between reach) ls l w =
+      last_here xs k st answers ending lines last text (all_lines_before es ns 1 xs bs lines are ls) w between reach l
+  written_of bs lines last text (passed before behind e are none) ls l w =
       let split = first_lines es ns 1 (map plain before) (map plain behind) lines (subst (λ ys. AreLines es ns 1 ys lines) (ap (map plain) e ∙ map-append plain before behind) ls) in
       inr (record {
         lasts = none;

@@ -127,21 +127,21 @@ large_answer ns x a is h =
 
 abbrev pub AreAnswersOf : List Answer → List code.Answer → Type 0
 AreAnswersOf [] [] = Unit {0}
-AreAnswersOf [] (a ∷ as) = ⊥
+AreAnswersOf [] (a ∷ bs) = ⊥
 AreAnswersOf (x ∷ xs) [] = ⊥
-AreAnswersOf (x ∷ xs) (a ∷ as) = IsAnswerOf x a × AreAnswersOf xs as
+AreAnswersOf (x ∷ xs) (a ∷ bs) = IsAnswerOf x a × AreAnswersOf xs bs
 
-pub answers_more : (xs : List Answer) (as : List code.Answer) (x : Answer) (a : code.Answer) → AreAnswersOf xs as → IsAnswerOf x a → AreAnswersOf (xs ++ x ∷ []) (as ++ a ∷ [])
+pub answers_more : (xs : List Answer) (bs : List code.Answer) (x : Answer) (a : code.Answer) → AreAnswersOf xs bs → IsAnswerOf x a → AreAnswersOf (xs ++ x ∷ []) (bs ++ a ∷ [])
 answers_more [] [] x a h is = (is, tt)
-answers_more [] (b ∷ as) x a h is = absurd (h)
+answers_more [] (b ∷ bs) x a h is = absurd (h)
 answers_more (y ∷ xs) [] x a h is = absurd (h)
-answers_more (y ∷ xs) (b ∷ as) x a (one, more) is = (one, answers_more xs as x a more is)
+answers_more (y ∷ xs) (b ∷ bs) x a (one, more) is = (one, answers_more xs bs x a more is)
 
-pub all_lines_before : (es : List Entry) (ns : List (List ℕ)) (k : ℕ) (xs : List Answer) (as : List code.Answer) (text : List ℕ) → AreAnswersOf xs as → AreLines es ns k (map plain as) text → AreLines es ns k xs text
+pub all_lines_before : (es : List Entry) (ns : List (List ℕ)) (k : ℕ) (xs : List Answer) (bs : List code.Answer) (text : List ℕ) → AreAnswersOf xs bs → AreLines es ns k (map plain bs) text → AreLines es ns k xs text
 all_lines_before es ns k [] [] text h l = l
-all_lines_before es ns k [] (a ∷ as) text h l = absurd (h)
+all_lines_before es ns k [] (a ∷ bs) text h l = absurd (h)
 all_lines_before es ns k (x ∷ xs) [] text h l = absurd (h)
-all_lines_before es ns k (x ∷ xs) (a ∷ as) text (one, more) (l, m, is, rest, w) = (l, m, lines_before es ns k x a l one is, all_lines_before es ns (suc k) xs as m more rest, w)
+all_lines_before es ns k (x ∷ xs) (a ∷ bs) text (one, more) (l, m, is, rest, w) = (l, m, lines_before es ns k x a l one is, all_lines_before es ns (suc k) xs bs m more rest, w)
 
 -- the lines of the first ones
 pub first_lines : (es : List Entry) (ns : List (List ℕ)) (k : ℕ) (xs ys : List Answer) (text : List ℕ) → AreLines es ns k (xs ++ ys) text → (t : List ℕ) × (u : List ℕ) × AreLines es ns k xs t × (text ≡ t ++ u)
