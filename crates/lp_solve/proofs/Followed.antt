@@ -15,6 +15,7 @@ use Rattle.lp_model.specs.declared.ending.Ending.{Ending}
 use Rattle.lp_model.specs.declared.ending.Ending.TheVariants.{NoMore, NoMoreCut, Enough, Steps, Flexible, Arithmetic, OpenNot, Deep}
 use Rattle.lp_plain.specs.Between.{IsBetween}
 use Rattle.lp_plain.specs.Reached.{IsReached}
+use Rattle.lp_plain.specs.Telling.{IsEventOf}
 use Rattle.lp_plain.specs.declared.search.Search.{Search}
 use Rattle.lp_solve.specs.Queries.{IsExact, told_by}
 use Rattle.lp_solve.specs.Written as written
@@ -107,10 +108,10 @@ module _ (P : List Clause) (n j m : ℕ) (start : State Task) (es : List Entry) 
       unfolding IsEndHere
       end_told e t told = go (first (look unit_limit n P) j k st) refl
         where
-          enough : (x : Event Answer) (u : State Task) → first (look unit_limit n P) j k st ≡ Some (x, u) → IsExact P n start → _
+          enough : (x : Event Answer) (u : State Task) → first (look unit_limit n P) j k st ≡ Some (x, u) → IsExact P n start → IsEventOf x (event.Ended e)
           enough x u h exact = (told.search P n st between (λ d. (exact.few, λ w r. exact.small w (reach w r))) x u (record { inner_moves = j; moves = k; gives = h })).0
 
-          otherwise : (x : Event Answer) (u : State Task) → first (look unit_limit n P) j k st ≡ Some (x, u) → (e ≡ Deep → ⊥) → _
+          otherwise : (x : Event Answer) (u : State Task) → first (look unit_limit n P) j k st ≡ Some (x, u) → (e ≡ Deep → ⊥) → IsEventOf x (event.Ended e)
           otherwise x u h no = (told.search P n st between (λ d. absurd (no (ended_deep e d))) x u (record { inner_moves = j; moves = k; gives = h })).0
 
           go : (o : Option (Event Answer × State Task)) → first (look unit_limit n P) j k st ≡ o → HasNone (look unit_limit n P) j k st ⊎ IsEnd (IsExact P n start) ns (told_by P n j k st).answers (told_by P n j k st).ending e
@@ -140,8 +141,8 @@ module _ (P : List Clause) (n j m : ℕ) (start : State Task) (es : List Entry) 
           go (Some (Over o, u)) h = absurd ((told.search P n st between (λ d. absurd (cc)) (Over o) u (record { inner_moves = j; moves = k; gives = h })).0)
 
       end_here : (e : Ending) → Ends ns now e → HasNone (look unit_limit n P) j k st ⊎ IsEndHere e
-      end_here e (as_told e t told) = end_told e t told
-      end_here e (too_deep a t told c) = end_large a t told c
+      end_here o (as_told e t told) = end_told e t told
+      end_here o (too_deep a t told c) = end_large a t told c
 
       last_here : HasLast ns watched now status last → Done text
       unfolding IsEndHere

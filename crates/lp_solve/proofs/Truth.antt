@@ -94,9 +94,9 @@ memory_tells b h = let k = ap (byte 0) h in cc
 
 module _ {exact : Type 0} {ns : List (List ℕ)} {watched : Bool} {left : List Answer} {ending : Option Ending} where
   no_more : (e : Ending) → IsEnd exact ns left ending e → e ≡ NoMore → (left ≡ []) × (ending ≡ Some NoMore)
-  no_more e (as_told e none is) same = (none, is ∙ ap Some same)
-  no_more e (too_large a more is c) same = absurd (cc)
-  no_more e (too_deep f) same = absurd (cc)
+  no_more o (as_told e none is) same = (none, is ∙ ap Some same)
+  no_more o (too_large a more is c) same = absurd (cc)
+  no_more o (too_deep f) same = absurd (cc)
 
   tells_no_more : (status : Status) (last reports : List ℕ) → IsLast exact ns watched left ending status last → last ≡ ending_line NoMore ++ reports → (left ≡ []) × (ending ≡ Some NoMore)
   tells_no_more status last reports (an_ending e behind end may st is) h = no_more e end (line_tells e behind reports (sym is ∙ h))
