@@ -101,35 +101,33 @@ module _ (P : List Clause) (n j m : ℕ) (start : State Task) (es : List Entry) 
 
     module _ (between : IsBetween P n now st) (reach : (u : State Task) → IsReached (look unit_limit n P) st u → IsReached (look unit_limit n P) start u) where
       -- the ending that is told
-      IsEndHere : Ending → Type 0
+      abbrev IsEndHere : Ending → Type 0
       IsEndHere e = IsEnd (IsExact P n start) ns (told_by P n j k st).answers (told_by P n j k st).ending e
 
       end_told : (e : Ending) (t : Search) → IsTold now (event.Ended e) t → HasNone (look unit_limit n P) j k st ⊎ IsEndHere e
-      unfolding IsEndHere
       end_told e t told = go (first (look unit_limit n P) j k st) refl
         where
           enough : (x : Event Answer) (u : State Task) → first (look unit_limit n P) j k st ≡ Some (x, u) → IsExact P n start → IsEventOf x (event.Ended e)
           enough x u h exact = (told.search P n st between (λ d. (exact.few, λ w r. exact.small w (reach w r))) x u (record { inner_moves = j; moves = k; gives = h })).0
 
           otherwise : (x : Event Answer) (u : State Task) → first (look unit_limit n P) j k st ≡ Some (x, u) → (e ≡ Deep → ⊥) → IsEventOf x (event.Ended e)
-          otherwise x u h no = (told.search P n st between (λ d. absurd (no (ended_deep e d))) x u (record { inner_moves = j; moves = k; gives = h })).0
+          otherwise x u h other = (told.search P n st between (λ d. absurd (other (ended_deep e d))) x u (record { inner_moves = j; moves = k; gives = h })).0
 
           go : (o : Option (Event Answer × State Task)) → first (look unit_limit n P) j k st ≡ o → HasNone (look unit_limit n P) j k st ⊎ IsEnd (IsExact P n start) ns (told_by P n j k st).answers (told_by P n j k st).ending e
           go None h = inl (none_first (look unit_limit n P) j k st h)
           go (Some (Gave x, u)) h = elim (is_deep e) [
             | inl d ↦ inr (subst (λ e. IsEnd (IsExact P n start) ns (told_by P n j k st).answers (told_by P n j k st).ending e) (sym d) (written.too_deep (λ exact. absurd (enough (Gave x) u h exact))))
-            | inr no ↦ absurd (otherwise (Gave x) u h no)
+            | inr other ↦ absurd (otherwise (Gave x) u h other)
           ]
           go (Some (Over o, u)) h =
               let over = over_first (look unit_limit n P) j k st u o h in
               elim (is_deep e) [
                 | inl d ↦ inr (subst (λ e. IsEnd (IsExact P n start) ns (told_by P n j k st).answers (told_by P n j k st).ending e) (sym d)
                     (written.too_deep (λ exact. (over.0, over.1 ∙ ap Some (sym (enough (Over o) u h exact) ∙ d)))))
-                | inr no ↦ inr (written.as_told e over.0 (over.1 ∙ ap Some (sym (otherwise (Over o) u h no))))
+                | inr other ↦ inr (written.as_told e over.0 (over.1 ∙ ap Some (sym (otherwise (Over o) u h other))))
               ]
 
       end_large : (a : code.Answer) (t : Search) → IsTold now (event.Answer a) t → written.CannotBeShown ns (plain a) → HasNone (look unit_limit n P) j k st ⊎ IsEndHere Deep
-      unfolding IsEndHere
       end_large a t told c = go (first (look unit_limit n P) j k st) refl
         where
           go : (o : Option (Event Answer × State Task)) → first (look unit_limit n P) j k st ≡ o → HasNone (look unit_limit n P) j k st ⊎ IsEnd (IsExact P n start) ns (told_by P n j k st).answers (told_by P n j k st).ending Deep
@@ -145,7 +143,6 @@ module _ (P : List Clause) (n j m : ℕ) (start : State Task) (es : List Entry) 
       end_here o (too_deep a t told c) = end_large a t told c
 
       last_here : HasLast ns watched now status last → Done text
-      unfolding IsEndHere
       last_here (no_memory st is) = here (written.no_memory st is)
       last_here (an_ending e reports ends may st is) = elim (end_here e ends) [
         | inl none ↦ so_far none

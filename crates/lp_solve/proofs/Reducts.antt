@@ -36,48 +36,48 @@ weak_reduces : (t s : Term) → weak_step t ≡ Some s → Anywhere BetaEta t s
 weak_reduces (index i) s e = absurd (cc)
 weak_reduces (atom a) s e = absurd (cc)
 weak_reduces (abs b) s e = absurd (cc)
-weak_reduces (app (abs b) u) s e = subst (Anywhere BetaEta (app (abs b) u)) (same_Some (substitute u b) e) (here (by_beta b u))
+weak_reduces (app (abs b) u) s e = subst (Anywhere BetaEta (app (abs b) u)) (same_Some (substitute u b) s e) (here (by_beta b u))
 weak_reduces (app (index i) u) s e = absurd (cc)
 weak_reduces (app (atom a) u) s e = absurd (cc)
 weak_reduces (app (app t v) u) s e = go (weak_step (app t v)) refl e (λ r q. weak_reduces (app t v) r q)
   where
     go : (o : Option Term) → weak_step (app t v) ≡ o → option_term (λ y. app y u) o ≡ Some s → ((r : Term) → weak_step (app t v) ≡ Some r → Anywhere BetaEta (app t v) r) → Anywhere BetaEta (app (app t v) u) s
     go None p q f = absurd (cc)
-    go (Some r) p q f = subst (Anywhere BetaEta (app (app t v) u)) (same_Some (app r u) q) (in_head u (f r p))
+    go (Some r) p q f = subst (Anywhere BetaEta (app (app t v) u)) (same_Some (app r u) s q) (in_head u (f r p))
 
 -- so are several
-turn : (Term → Option Term) → ℕ → Option Term → Option Term
+abbrev turn : (Term → Option Term) → ℕ → Option Term → Option Term
 turn f n o = elim o [ None ↦ None | Some r ↦ steps f n r ]
 
 reduct_steps : (k : ℕ) (t s : Term) → steps weak_step k t ≡ Some s → steps leftmost_step k t ≡ Some s
 reduct_steps zero t s e = e
-unfolding turn
-reduct_steps (suc k) t s e = go (weak_step t) refl e
+reduct_steps (suc k) t s e = go (weak_step t) refl e (λ r q. reduct_steps k r s q)
   where
-    go : (o : Option Term) → weak_step t ≡ o → turn weak_step k o ≡ Some s → turn leftmost_step k (leftmost_step t) ≡ Some s
-    go None p q = absurd (cc)
-    go (Some r) p q = ap (turn leftmost_step k) (weak_leftmost t r p) ∙ reduct_steps k r s q
+    go : (o : Option Term) → weak_step t ≡ o → turn weak_step k o ≡ Some s → ((r : Term) → steps weak_step k r ≡ Some s → steps leftmost_step k r ≡ Some s) → turn leftmost_step k (leftmost_step t) ≡ Some s
+    go None p q f = absurd (cc)
+    go (Some r) p q f = ap (turn leftmost_step k) (weak_leftmost t r p) ∙ f r q
 
 reduct_reduces : (k : ℕ) (t s : Term) → steps weak_step k t ≡ Some s → ReducesTo t s
-reduct_reduces zero t s e = subst (ReducesTo t) (same_Some t e) (done t)
-reduct_reduces (suc k) t s e = go (weak_step t) refl e
+reduct_reduces zero t s e = subst (ReducesTo t) (same_Some t s e) (done t)
+reduct_reduces (suc k) t s e = go (weak_step t) refl e (λ r q. reduct_reduces k r s q)
   where
-    go : (o : Option Term) → weak_step t ≡ o → turn weak_step k o ≡ Some s → ReducesTo t s
-    go None p q = absurd (cc)
-    go (Some r) p q = then_step (weak_reduces t r p) (reduct_reduces k r s q)
+    go : (o : Option Term) → weak_step t ≡ o → turn weak_step k o ≡ Some s → ((r : Term) → steps weak_step k r ≡ Some s → ReducesTo r s) → ReducesTo t s
+    go None p q f = absurd (cc)
+    go (Some r) p q f = then_step (weak_reduces t r p) (f r q)
 
 -- fewer steps can be taken where more can
 fewer_steps : (n m : ℕ) (t : Term) → IsSome (steps leftmost_step (n + m) t) → IsSome (steps leftmost_step n t)
-fewer_steps zero m t h = tt
-fewer_steps (suc n) m t h = go (leftmost_step t) (subst (λ j. IsSome (steps leftmost_step j t)) (omega arith) h)
+fewer_steps zero m t h = refl
+fewer_steps (suc n) m t h = let e : suc n + m ≡ suc (n + m) = omega arith in go (leftmost_step t) (subst (λ j. IsSome (steps leftmost_step j t)) e h) (λ r k. fewer_steps n m r k)
   where
-    go : (o : Option Term) → IsSome (turn leftmost_step (n + m) o) → IsSome (turn leftmost_step n o)
-    go None h = absurd (h)
-    go (Some r) h = fewer_steps n m r h
+    go : (o : Option Term) → IsSome (turn leftmost_step (n + m) o) → ((r : Term) → IsSome (steps leftmost_step (n + m) r) → IsSome (steps leftmost_step n r)) → IsSome (turn leftmost_step n o)
+    go None h f = h
+    go (Some r) h f = f r h
 
 large_before : (t s : Term) → IsReduct t s → IsTooLarge s → IsTooLarge t
 large_before t s (k, e) (inl h) =
-    inl (fewer_steps 1000001 k t (subst (λ j. IsSome (steps leftmost_step j t)) (omega arith) (subst IsSome (sym (steps_more k 1000001 t s (reduct_steps k t s e))) h)))
+    let turned : k + 1000001 ≡ 1000001 + k = omega arith in
+    inl (fewer_steps 1000001 k t (subst (λ j. IsSome (steps leftmost_step j t)) turned (subst IsSome (sym (steps_more k 1000001 t s (reduct_steps k t s e))) h)))
 large_before t s (k, e) (inr (r, form, n)) = inr (r, (many_on (reduct_reduces k t s e) form.0, form.1), n)
 
 shown_before : (t s r : Term) → IsReduct t s → IsShownAs s r → IsShownAs t r
@@ -92,11 +92,10 @@ pairs_before (p ∷ ps) (q ∷ qs) [] r h = h
 pairs_before (p ∷ ps) (q ∷ qs) (f ∷ fs) (level, left, right, more) (x, y, rest) =
     (shown_before p.left q.left f.0 left x, shown_before p.right q.right f.1 right y, pairs_before ps qs fs more rest)
 
-sides : List Pair → List Term
+abbrev sides : List Pair → List Term
 sides ps = sides_of (map (λ p. (p.left, p.right)) ps)
 
 large_pair : (ps qs : List Pair) → ArePairReducts ps qs → AnyOf IsTooLarge (sides qs) → AnyOf IsTooLarge (sides ps)
-unfolding sides
 large_pair [] [] r h = h
 large_pair [] (q ∷ qs) r h = absurd (r)
 large_pair (p ∷ ps) [] r h = absurd (h)
@@ -120,7 +119,6 @@ lines_before es ns k x a text is h = record {
 }
 
 pub large_answer : (ns : List (List ℕ)) (x : Answer) (a : code.Answer) → IsAnswerOf x a → CannotBeShown ns (plain a) → CannotBeShown ns x
-unfolding sides
 large_answer ns x a is h =
     large_behind (values_of ns x.values) (sides (plain a).pairs) (sides x.pairs) (large_pair x.pairs (plain a).pairs is.pairs)
     (subst (λ ts. AnyOf IsTooLarge (values_of ns ts ++ sides (plain a).pairs)) is.values h)

@@ -1,6 +1,6 @@
 -- What is written of a query is right: it is what the definition's search tells, and that is right.
 use Rattle.std.proofs.Common.{◌≡◌, ◌⊎◌, ℕ, zero, suc, List, [], ◌∷◌, ◌++◌, map, length, Option, Some, None, Bool, refl, sym, ap, ◌∙◌, subst, inl, inr, append-nil}
-use Rattle.std.specs.Prelude.{codes}
+use Rattle.std.specs.Prelude.{true, false, nat_eq}
 use Rattle.std.proofs.lemmas.List.{length-map}
 use Rattle.lp_base.specs.Held.{Held}
 use Rattle.lp_base.specs.declared.status.Status.{Status}
@@ -38,18 +38,17 @@ record Parts (ts : List TypedAnswer) (xs ys : List Answer) : Type 0 where
   are_front : map (λ a. a.answer) front ≡ xs
   are_behind : map (λ a. a.answer) behind ≡ ys
 
-first_or : Answer → List Answer → Answer
+abbrev first_or : Answer → List Answer → Answer
 first_or a [] = a
 first_or a (x ∷ xs) = x
 
-rest_of : List Answer → List Answer
+abbrev rest_of : List Answer → List Answer
 rest_of [] = []
 rest_of (x ∷ xs) = xs
 
 parts : (ts : List TypedAnswer) (xs ys : List Answer) → map (λ a. a.answer) ts ≡ xs ++ ys → Parts ts xs ys
 parts ts [] ys e = record { front = []; behind = ts; both = refl; are_front = refl; are_behind = e }
 parts [] (x ∷ xs) ys e = absurd (cc)
-unfolding first_or rest_of
 parts (t ∷ ts) (x ∷ xs) ys e =
     let one : t.answer ≡ x = ap (first_or x) e in
     let p = parts ts xs ys (ap rest_of e) in
@@ -70,37 +69,40 @@ none_mapped [] e = refl
 none_mapped (t ∷ ts) e = absurd (cc)
 
 -- the bytes that tell `no more answers` from every other last line
-byte : ℕ → List ℕ → ℕ
+abbrev byte : ℕ → List ℕ → ℕ
 byte k [] = 0
 byte zero (x ∷ xs) = x
 byte (suc k) (x ∷ xs) = byte k xs
 
+no_such : true ≡ false → ⊥
+no_such h = cc
+
 line_tells : (e : Ending) (a b : List ℕ) → ending_line e ++ a ≡ ending_line NoMore ++ b → e ≡ NoMore
-unfolding ending_line fault_line byte
+unfolding ending_line fault_line
 line_tells NoMore a b h = refl
-line_tells NoMoreCut a b h = let k = ap (byte 15) h in absurd (cc)
-line_tells Enough a b h = let k = ap (byte 0) h in absurd (cc)
-line_tells Steps a b h = let k = ap (byte 0) h in absurd (cc)
-line_tells Flexible a b h = let k = ap (byte 0) h in absurd (cc)
-line_tells (Arithmetic Overflow) a b h = let k = ap (byte 0) h in absurd (cc)
-line_tells (Arithmetic ZeroDivisor) a b h = let k = ap (byte 0) h in absurd (cc)
-line_tells (Arithmetic NotClosed) a b h = let k = ap (byte 0) h in absurd (cc)
-line_tells OpenNot a b h = let k = ap (byte 0) h in absurd (cc)
-line_tells Deep a b h = let k = ap (byte 0) h in absurd (cc)
+line_tells NoMoreCut a b h = absurd (no_such (sym (ap (λ xs. nat_eq (byte 15 xs) 10) h)))
+line_tells Enough a b h = absurd (no_such (sym (ap (λ xs. nat_eq (byte 0 xs) 110) h)))
+line_tells Steps a b h = absurd (no_such (sym (ap (λ xs. nat_eq (byte 0 xs) 110) h)))
+line_tells Flexible a b h = absurd (no_such (sym (ap (λ xs. nat_eq (byte 0 xs) 110) h)))
+line_tells (Arithmetic Overflow) a b h = absurd (no_such (sym (ap (λ xs. nat_eq (byte 0 xs) 110) h)))
+line_tells (Arithmetic ZeroDivisor) a b h = absurd (no_such (sym (ap (λ xs. nat_eq (byte 0 xs) 110) h)))
+line_tells (Arithmetic NotClosed) a b h = absurd (no_such (sym (ap (λ xs. nat_eq (byte 0 xs) 110) h)))
+line_tells OpenNot a b h = absurd (no_such (sym (ap (λ xs. nat_eq (byte 0 xs) 110) h)))
+line_tells Deep a b h = absurd (no_such (sym (ap (λ xs. nat_eq (byte 0 xs) 110) h)))
 
 memory_tells : (b : List ℕ) → memory_line ≡ ending_line NoMore ++ b → ⊥
-unfolding ending_line memory_line byte
-memory_tells b h = let k = ap (byte 0) h in cc
+unfolding ending_line memory_line
+memory_tells b h = no_such (sym (ap (λ xs. nat_eq (byte 0 xs) 110) h))
 
-module _ {exact : Type 0} {ns : List (List ℕ)} {watched : Bool} {left : List Answer} {ending : Option Ending} where
+module _ {exact : Type 0} {ns : List (List ℕ)} {left : List Answer} {ending : Option Ending} where
   no_more : (e : Ending) → IsEnd exact ns left ending e → e ≡ NoMore → (left ≡ []) × (ending ≡ Some NoMore)
   no_more o (as_told e none is) same = (none, is ∙ ap Some same)
   no_more o (too_large a more is c) same = absurd (cc)
   no_more o (too_deep f) same = absurd (cc)
 
-  tells_no_more : (status : Status) (last reports : List ℕ) → IsLast exact ns watched left ending status last → last ≡ ending_line NoMore ++ reports → (left ≡ []) × (ending ≡ Some NoMore)
-  tells_no_more status last reports (an_ending e behind end may st is) h = no_more e end (line_tells e behind reports (sym is ∙ h))
-  tells_no_more status last reports (no_memory st is) h = absurd (memory_tells reports (sym is ∙ h))
+  tells_no_more : (watched : Bool) (status : Status) (last reports : List ℕ) → IsLast exact ns watched left ending status last → last ≡ ending_line NoMore ++ reports → (left ≡ []) × (ending ≡ Some NoMore)
+  tells_no_more watched status last reports (an_ending e behind end may st is) h = no_more e end (line_tells e behind reports (sym is ∙ h))
+  tells_no_more watched status last reports (no_memory st is) h = absurd (memory_tells reports (sym is ∙ h))
 
 -- a search that is right, and what is written of it
 true_by : (L : Leaves) (G : TypedAnswer → Type 0) (d : Declared) (F : List ClauseFormula) (q : Query) (es : List Entry) (ns : List (List ℕ)) (watched : Bool) (exact : Type 0) (status : Status) (text : List ℕ) (t : Told Answer) →
@@ -117,7 +119,7 @@ true_by L G d F q es ns watched exact status text t right w =
       sound = each_front (λ a. (i : Instance) → IsClosedInstance d a.typing a.answer i → IsProvableBy L d F q i) p.front p.behind
           (subst (EachOf (λ a. (i : Instance) → IsClosedInstance d a.typing a.answer i → IsProvableBy L d F q i)) p.both right.sound);
       exhausts = λ reports told i proved.
-          let over = tells_no_more status w.last reports w.is_last told in
+          let over = tells_no_more watched status w.last reports w.is_last told in
           let alone : p.behind ≡ [] = none_mapped p.behind (p.are_behind ∙ over.0) in
           subst (AnyOf (λ a. IsInstance d a.typing a.answer i)) (p.both ∙ ap (λ zs. p.front ++ zs) alone ∙ append-nil p.front) (right.exhausts over.1 i proved);
     }

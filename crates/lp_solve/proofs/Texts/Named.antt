@@ -32,11 +32,10 @@ use Rattle.lp_solve.proofs.Texts.Closing.{closed_moved}
 use Rattle.lp_solve.proofs.Texts.Program.{IsFair, copies_fair, each_clause, member_each, module_at}
 use Rattle.lp_solve.proofs.Texts.Query.{as_it_is, same_term}
 
-IsNamed : Term → Type 0
+abbrev IsNamed : Term → Type 0
 IsNamed t = AllAtoms IsNamedAtom t
 
 elaborated_named : (m : Map) (C : List Ty) (R : Raw) (t : Term) (A : Ty) → Elaborates C R t A → IsNamed (mapped m t)
-unfolding IsNamed
 elaborated_named m C (raw_index i) t A (e, f) = subst (λ t. AllAtoms IsNamedAtom (mapped m t)) (sym e) tt
 elaborated_named m C (raw_constant c s) t A (ts, e, n, f) = subst (λ t. AllAtoms IsNamedAtom (mapped m t)) (sym e) tt
 elaborated_named m C (raw_integer z) t A (e, f) = subst (λ t. AllAtoms IsNamedAtom (mapped m t)) (sym e) tt
@@ -46,7 +45,6 @@ elaborated_named m C (raw_app f u) t A (g, v, e, P, i, j) =
     subst (λ t. AllAtoms IsNamedAtom (mapped m t)) (sym e) (elaborated_named m C f g (arrow P A) i, elaborated_named m C u v P j)
 
 closed_named : (Ts : List Ty) (t : Term) → IsNamed t → IsNamed (all_of Ts t)
-unfolding IsNamed
 closed_named [] t h = h
 closed_named (T ∷ Ts) t h = closed_named Ts (pi_of T (abs t)) (tt, h)
 
@@ -60,7 +58,6 @@ clause_named c f sig source raw b k x =
 
 all_named : (sources : Sources) (modules : List Module) → AreModules sources modules → (cs : List Copy) → EachOf IsFair cs → EachOf (λ D. AllAtoms IsNamedAtom D.formula) (clauses_of modules cs)
 all_named sources modules are [] fair = tt
-unfolding IsNamed
 all_named sources modules are (c ∷ cs) (f, fair) =
     each_append (λ D. AllAtoms IsNamedAtom D.formula) (map (in_copy c) (get_or (map clauses_in modules) c.member [])) (clauses_of modules cs)
     (each_map (λ k. AllAtoms IsNamedAtom (in_copy c k).formula) (λ D. AllAtoms IsNamedAtom D.formula) (in_copy c) (λ k x. x) (get_or (map clauses_in modules) c.member [])
@@ -79,6 +76,5 @@ program_named sources built p =
     all_named sources is.modules is.are program.copied (copies_fair is.modules is.program.root program.copied program.are)
 
 pub query_named : (sig : Signature) (source : List ℕ) (raw : RawTerm) (b : Nodes) (q : code_query.Typed) → IsTyped sig source raw b q → AllAtoms IsNamedAtom (tree b q.formula.0)
-unfolding IsNamed
 query_named sig source raw b q x =
     subst (AllAtoms IsNamedAtom) (same_term (tree b q.formula.0)) (elaborated_named as_it_is (reverse (map (λ v. type_tree b v.1.0) q.vars.items)) _ (tree b q.formula.0) o_type x.principal.typing.elaborates)
