@@ -4,7 +4,7 @@ use Rattle.std.specs.Global.{Global}
 use Rattle.lp_base.specs.Held.{Held}
 use Rattle.lp_lemmas.specs.Each.{EachOf}
 use Rattle.lp_calculus.specs.Closed.{AllAtoms}
-use Rattle.lp_term.specs.Nodes.{Nodes, Extends}
+use Rattle.lp_term.specs.Nodes.{Nodes}
 use Rattle.lp_term.proofs.Trees.{extends-trans}
 use Rattle.lp_model.specs.Flat.{Clause, Goals}
 use Rattle.lp_model.specs.Proofs.{AreFlattened, Declared}
@@ -31,13 +31,15 @@ begins_so {text = text} q program bank clauses d P gs f =
     let grown = extends-trans _ q.built.assembled.program.bank q.bank loaded.program.grown.bank q.grown in
     let same : program.clauses ≡ _ = clauses ∙ loaded.program.grown.clauses in
     let read : map (formula_of program.bank) program.clauses.items ≡ source_clauses loaded.program =
-    ap (λ b. map (formula_of b) program.clauses.items) bank ∙ ap (λ (ks : Vec ClauseFormula Global). map (formula_of q.bank) ks.items) clauses ∙ clauses_read loaded.sources q.built loaded.program q.bank q.grown in
+    ap (λ b. map (formula_of b) program.clauses.items) bank ∙ ap (λ (ks : Vec ClauseFormula Global). map (formula_of q.bank) ks.items) clauses ∙
+    clauses_read loaded.sources q.built loaded.program q.bank q.grown in
     let within = within_later _ q.bank _ grown first.clauses in
     subst (λ (b : Nodes). Begins d (record { bank = b; constants = program.constants; clauses = program.clauses }) q.typed P gs) (sym bank) (record {
       standard = f.types.standard;
       clauses_within = subst (λ (ks : Vec ClauseFormula Global). AreFormulasIn q.bank ks.items) (sym same) within;
       clauses_typed = subst (EachOf (IsTypedSentence d)) (sym (ap (λ b. map (formula_of b) program.clauses.items) (sym bank) ∙ read)) (program_typed loaded.sources q.built loaded.program d f.types);
-      clauses_named = subst (EachOf (λ D. AllAtoms IsNamedAtom D.formula)) (sym (ap (λ b. map (formula_of b) program.clauses.items) (sym bank) ∙ read)) (program_named loaded.sources q.built loaded.program);
+      clauses_named = subst (EachOf (λ D. AllAtoms IsNamedAtom D.formula)) (sym (ap (λ b. map (formula_of b) program.clauses.items) (sym bank) ∙
+          read)) (program_named loaded.sources q.built loaded.program);
       clauses_flattened = subst (λ F. AreFlattened d F P) (sym (ap (λ b. map (formula_of b) program.clauses.items) (sym bank) ∙ read)) f.clauses;
       query_within = q.asked.stands.formula;
       query_typed = query_typed d f.types.standard q.built.signature f.types.queries text q.asked.raw.term q.bank q.typed q.asked.typed;

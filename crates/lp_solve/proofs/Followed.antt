@@ -1,5 +1,5 @@
 -- The answers that a search tells, and its last line, are those of the definition's search.
-use Rattle.std.proofs.Common.{◌≡◌, ◌⊎◌, ℕ, zero, suc, List, [], ◌∷◌, ◌++◌, map, Option, Some, None, Bool, refl, sym, ap, ◌∙◌, subst, inl, inr, append_assoc, append-nil}
+use Rattle.std.proofs.Common.{◌≡◌, ◌⊎◌, ℕ, List, [], ◌∷◌, ◌++◌, map, Option, Some, None, Bool, refl, sym, ap, ◌∙◌, subst, inl, inr, append_assoc, append-nil}
 use Rattle.std.proofs.lemmas.List.{map-append}
 use Rattle.lp_base.specs.declared.status.Status.{Status}
 use Rattle.lp_model.specs.Branch.{Answer, Task}
@@ -41,7 +41,8 @@ ended_deep e h = cc
 
 -- behind the answers that a search has told: those of the definition's run, in the state in which it goes on; or the run went no further
 pub data Followed (P : List Clause) (n j m : ℕ) (start : State Task) (now : Search) (bs : List code.Answer) : Type 0 where
-  still : (xs : List Answer) (k : ℕ) (s : State Task) → AreAnswersOf xs bs → (told_by P n j m start).answers ≡ xs ++ (told_by P n j k s).answers → (told_by P n j m start).ending ≡ (told_by P n j k s).ending →
+  still : (xs : List Answer) (k : ℕ) (s : State Task) → AreAnswersOf xs bs → (told_by P n j m start).answers ≡ xs ++ (told_by P n j k s).answers →
+      (told_by P n j m start).ending ≡ (told_by P n j k s).ending →
       IsBetween P n now s → ((u : State Task) → IsReached (look unit_limit n P) s u → IsReached (look unit_limit n P) start u) → Followed P n j m start now bs
   passed : (before behind : List code.Answer) → bs ≡ before ++ behind → AreAnswersOf (told_by P n j m start).answers before → (told_by P n j m start).ending ≡ None → Followed P n j m start now bs
 
@@ -74,7 +75,8 @@ module _ (P : List Clause) (n j m : ℕ) (start : State Task) (es : List Entry) 
   abbrev Done : List ℕ → Type 0
   Done text = Comes (IsExact P n start) es ns watched (told_by P n j m start) status text
 
-  module _ (xs : List Answer) (k : ℕ) (st : State Task) (answers : (told_by P n j m start).answers ≡ xs ++ (told_by P n j k st).answers) (ending : (told_by P n j m start).ending ≡ (told_by P n j k st).ending)
+  module _ (xs : List Answer) (k : ℕ) (st : State Task) (answers : (told_by P n j m start).answers ≡ xs ++ (told_by P n j k st).answers)
+      (ending : (told_by P n j m start).ending ≡ (told_by P n j k st).ending)
       (lines last text : List ℕ) (are : AreLines es ns 1 xs lines) (wrote : text ≡ lines ++ last) where
     -- the run is not over
     so_far : HasNone (look unit_limit n P) j k st → Done text
@@ -113,10 +115,12 @@ module _ (P : List Clause) (n j m : ℕ) (start : State Task) (es : List Entry) 
           otherwise : (x : Event Answer) (u : State Task) → first (look unit_limit n P) j k st ≡ Some (x, u) → (e ≡ Deep → ⊥) → IsEventOf x (event.Ended e)
           otherwise x u h other = (told.search P n st between (λ d. absurd (other (ended_deep e d))) x u (record { inner_moves = j; moves = k; gives = h })).0
 
-          go : (o : Option (Event Answer × State Task)) → first (look unit_limit n P) j k st ≡ o → HasNone (look unit_limit n P) j k st ⊎ IsEnd (IsExact P n start) ns (told_by P n j k st).answers (told_by P n j k st).ending e
+          go : (o : Option (Event Answer × State Task)) → first (look unit_limit n P) j k st ≡ o → HasNone (look unit_limit n P) j k st ⊎ IsEnd
+              (IsExact P n start) ns (told_by P n j k st).answers (told_by P n j k st).ending e
           go None h = inl (none_first (look unit_limit n P) j k st h)
           go (Some (Gave x, u)) h = elim (is_deep e) [
-            | inl d ↦ inr (subst (λ e. IsEnd (IsExact P n start) ns (told_by P n j k st).answers (told_by P n j k st).ending e) (sym d) (written.too_deep (λ exact. absurd (enough (Gave x) u h exact))))
+            | inl d ↦ inr (subst (λ e. IsEnd (IsExact P n start) ns (told_by P n j k st).answers (told_by P n j k st).ending e) (sym d)
+                (written.too_deep (λ exact. absurd (enough (Gave x) u h exact))))
             | inr other ↦ absurd (otherwise (Gave x) u h other)
           ]
           go (Some (Over o, u)) h =
@@ -130,7 +134,8 @@ module _ (P : List Clause) (n j m : ℕ) (start : State Task) (es : List Entry) 
       end_large : (a : code.Answer) (t : Search) → IsTold now (event.Answer a) t → written.CannotBeShown ns (plain a) → HasNone (look unit_limit n P) j k st ⊎ IsEndHere Deep
       end_large a t told c = go (first (look unit_limit n P) j k st) refl
         where
-          go : (o : Option (Event Answer × State Task)) → first (look unit_limit n P) j k st ≡ o → HasNone (look unit_limit n P) j k st ⊎ IsEnd (IsExact P n start) ns (told_by P n j k st).answers (told_by P n j k st).ending Deep
+          go : (o : Option (Event Answer × State Task)) → first (look unit_limit n P) j k st ≡ o → HasNone (look unit_limit n P) j k st ⊎ IsEnd
+              (IsExact P n start) ns (told_by P n j k st).answers (told_by P n j k st).ending Deep
           go None h = inl (none_first (look unit_limit n P) j k st h)
           go (Some (Gave x, u)) h =
               let got = told.search P n st between (λ d. absurd (cc)) (Gave x) u (record { inner_moves = j; moves = k; gives = h }) in
@@ -149,7 +154,8 @@ module _ (P : List Clause) (n j m : ℕ) (start : State Task) (es : List Entry) 
         | inr end ↦ here (written.an_ending e reports end may st is)
       ]
 
-  pub written_of : (bs : List code.Answer) (lines last text : List ℕ) → Followed P n j m start now bs → AreLines es ns 1 (map plain bs) lines → HasLast ns watched now status last → text ≡ lines ++ last → Done text
+  pub written_of : (bs : List code.Answer) (lines last text : List ℕ) → Followed P n j m start now bs → AreLines es ns 1 (map plain bs) lines →
+      HasLast ns watched now status last → text ≡ lines ++ last → Done text
   written_of bs lines last text (still xs k st are answers ending between reach) ls l w =
       last_here xs k st answers ending lines last text (all_lines_before es ns 1 xs bs lines are ls) w between reach l
   written_of bs lines last text (passed before behind e are none) ls l w =
@@ -163,7 +169,9 @@ module _ (P : List Clause) (n j m : ℕ) (start : State Task) (es : List Entry) 
       })
 
 -- whatever the moves are
-pub written_by : (P : List Clause) (n : ℕ) (first_search : Search) (start : State Task) → IsBetween P n first_search start → (es : List Entry) (ns : List (List ℕ)) (watched : Bool) (status : Status) (text : List ℕ) →
+pub written_by : (P : List Clause) (n : ℕ) (first_search : Search) (start : State Task) → IsBetween P n first_search start → (es : List Entry)
+    (ns : List (List ℕ)) (watched : Bool) (status : Status) (text : List ℕ) →
     IsSearched es ns watched first_search status text → (j m : ℕ) → IsWritten (IsExact P n start) es ns watched (told_by P n j m start) status text ⊎ IsBegun es ns (told_by P n j m start) text
 written_by P n first_search start begun es ns watched status text w j m =
-    written_of P n j m start es ns watched w.answers.now status w.answers.answers w.lines w.last text (follow P n j m start first_search w.answers.now w.answers.answers begun w.answers.told) w.answers.lines w.is_last w.wrote
+    written_of P n j m start es ns watched w.answers.now status w.answers.answers w.lines w.last text
+    (follow P n j m start first_search w.answers.now w.answers.answers begun w.answers.told) w.answers.lines w.is_last w.wrote

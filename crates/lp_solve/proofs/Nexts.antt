@@ -1,5 +1,5 @@
 -- A run by its next event.
-use Rattle.std.proofs.Common.{◌≡◌, ℕ, zero, suc, List, [], ◌∷◌, Option, Some, None, refl, sym, ap, ◌∙◌, subst}
+use Rattle.std.proofs.Common.{◌≡◌, ℕ, zero, suc, [], ◌∷◌, Option, Some, None, refl, sym, ap, ◌∙◌, subst}
 use Rattle.lp_model.specs.declared.ending.Ending.{Ending}
 use Rattle.lp_model.specs.Branch.{Answer, Task}
 use Rattle.lp_model.specs.Events.{Event, Gave, Over, first, first_after}
@@ -35,15 +35,17 @@ module _ (look : ℕ → Task → View Task Answer) (j : ℕ) where
       ((k : ℕ) × ((run look j n s).answers ≡ a ∷ (run look j k t).answers) × ((run look j n s).ending ≡ (run look j k t).ending))
       × ((u : State Task) → IsReached look t u → IsReached look s u)
 
-  gave_by : (n : ℕ) (s t : State Task) (a : Answer) (v : Move Task Answer) → move (inner look j) look s ≡ v → ((u : State Task) → first look j n u ≡ Some (Gave a, t) → HasFirst n u a t) → first_after s (first look j n) v ≡ Some (Gave a, t) →
+  gave_by : (n : ℕ) (s t : State Task) (a : Answer) (v : Move Task Answer) → move (inner look j) look s ≡ v →
+      ((u : State Task) → first look j n u ≡ Some (Gave a, t) → HasFirst n u a t) → first_after s (first look j n) v ≡ Some (Gave a, t) →
       ((k : ℕ) × ((told_after (run look j n) v).answers ≡ a ∷ (run look j k t).answers) × ((told_after (run look j n) v).ending ≡ (run look j k t).ending))
       × ((u : State Task) → IsReached look t u → IsReached look s u)
   gave_by n s t a (Goes k ns w) e ih h = let r = ih w h in (r.0, λ u x. behind_move j k ns w e (r.1 u x))
   gave_by n s t a (Tells b ns w) e ih h =
       let p = pair_left _ _ _ _ h in
-      let f : b ≡ a = cc in
-      ((n, ap (λ (x : Answer). x ∷ (run look j n w).answers) f ∙ ap (λ (x : State Task). a ∷ (run look j n x).answers) p.1, ap (λ (x : State Task). (run look j n x).ending) p.1),
-      λ u x. behind_answer j b ns w e (subst (λ z. IsReached look z u) (sym p.1) x))
+      let f : b ≡ a = cc in (
+        (n, ap (λ (x : Answer). x ∷ (run look j n w).answers) f ∙ ap (λ (x : State Task). a ∷ (run look j n x).answers) p.1, ap (λ (x : State Task). (run look j n x).ending) p.1),
+        λ u x. behind_answer j b ns w e (subst (λ z. IsReached look z u) (sym p.1) x),
+      )
   gave_by n s t a (Stops b) e ih h = let p = pair_left _ _ _ _ h in let q = p.0 in absurd (cc)
   gave_by n s t a (Breaks k ns b) e ih h = let p = pair_left _ _ _ _ h in let q = p.0 in absurd (cc)
   gave_by n s t a (Waits k ns) e ih h = absurd (cc)
@@ -56,7 +58,8 @@ module _ (look : ℕ → Task → View Task Answer) (j : ℕ) where
   abbrev pub HasEnd : ℕ → State Task → Ending → Type 0
   HasEnd n s o = ((run look j n s).answers ≡ []) × ((run look j n s).ending ≡ Some o)
 
-  over_by : (n : ℕ) (s t : State Task) (o : Ending) (v : Move Task Answer) → ((u : State Task) → first look j n u ≡ Some (Over o, t) → HasEnd n u o) → first_after s (first look j n) v ≡ Some (Over o, t) →
+  over_by : (n : ℕ) (s t : State Task) (o : Ending) (v : Move Task Answer) → ((u : State Task) → first look j n u ≡ Some (Over o, t) → HasEnd n u o) →
+      first_after s (first look j n) v ≡ Some (Over o, t) →
       ((told_after (run look j n) v).answers ≡ []) × ((told_after (run look j n) v).ending ≡ Some o)
   over_by n s t o (Goes k ns w) ih h = ih w h
   over_by n s t o (Tells b ns w) ih h = let p = pair_left _ _ _ _ h in let q = p.0 in absurd (cc)

@@ -14,7 +14,7 @@ use Rattle.lp_model.specs.Shown.{Entry}
 use Rattle.lp_model.specs.declared.answer.Answer as code
 use Rattle.lp_show.specs.Forms.{AreForms, sides_of, values_of}
 use Rattle.lp_plain.specs.Telling.{ArePairReducts, IsAnswerOf, IsReduct}
-use Rattle.lp_solve.specs.Written.{AreLines, ArePairsShown, CannotBeShown, IsLines, IsShownAs, IsTooLarge, terms_shown}
+use Rattle.lp_solve.specs.Written.{AreLines, ArePairsShown, CannotBeShown, IsLines, IsShownAs, IsTooLarge}
 use Rattle.lp_solve.specs.inner.Events.{plain}
 
 -- a step at the head that leaves abstractions is a leftmost one
@@ -41,7 +41,8 @@ weak_reduces (app (index i) u) s e = absurd (cc)
 weak_reduces (app (atom a) u) s e = absurd (cc)
 weak_reduces (app (app t v) u) s e = go (weak_step (app t v)) refl e (λ r q. weak_reduces (app t v) r q)
   where
-    go : (o : Option Term) → weak_step (app t v) ≡ o → option_term (λ y. app y u) o ≡ Some s → ((r : Term) → weak_step (app t v) ≡ Some r → Anywhere BetaEta (app t v) r) → Anywhere BetaEta (app (app t v) u) s
+    go : (o : Option Term) → weak_step (app t v) ≡ o → option_term (λ y. app y u) o ≡ Some s →
+        ((r : Term) → weak_step (app t v) ≡ Some r → Anywhere BetaEta (app t v) r) → Anywhere BetaEta (app (app t v) u) s
     go None p q f = absurd (cc)
     go (Some r) p q f = subst (Anywhere BetaEta (app (app t v) u)) (same_Some (app r u) s q) (in_head u (f r p))
 
@@ -53,7 +54,8 @@ reduct_steps : (k : ℕ) (t s : Term) → steps weak_step k t ≡ Some s → ste
 reduct_steps zero t s e = e
 reduct_steps (suc k) t s e = go (weak_step t) refl e (λ r q. reduct_steps k r s q)
   where
-    go : (o : Option Term) → weak_step t ≡ o → turn weak_step k o ≡ Some s → ((r : Term) → steps weak_step k r ≡ Some s → steps leftmost_step k r ≡ Some s) → turn leftmost_step k (leftmost_step t) ≡ Some s
+    go : (o : Option Term) → weak_step t ≡ o → turn weak_step k o ≡ Some s → ((r : Term) → steps weak_step k r ≡ Some s → steps leftmost_step k r ≡
+        Some s) → turn leftmost_step k (leftmost_step t) ≡ Some s
     go None p q f = absurd (cc)
     go (Some r) p q f = ap (turn leftmost_step k) (weak_leftmost t r p) ∙ f r q
 
@@ -135,14 +137,16 @@ answers_more [] (b ∷ bs) x a h is = absurd (h)
 answers_more (y ∷ xs) [] x a h is = absurd (h)
 answers_more (y ∷ xs) (b ∷ bs) x a (one, more) is = (one, answers_more xs bs x a more is)
 
-pub all_lines_before : (es : List Entry) (ns : List (List ℕ)) (k : ℕ) (xs : List Answer) (bs : List code.Answer) (text : List ℕ) → AreAnswersOf xs bs → AreLines es ns k (map plain bs) text → AreLines es ns k xs text
+pub all_lines_before : (es : List Entry) (ns : List (List ℕ)) (k : ℕ) (xs : List Answer) (bs : List code.Answer) (text : List ℕ) → AreAnswersOf xs bs
+    → AreLines es ns k (map plain bs) text → AreLines es ns k xs text
 all_lines_before es ns k [] [] text h l = l
 all_lines_before es ns k [] (a ∷ bs) text h l = absurd (h)
 all_lines_before es ns k (x ∷ xs) [] text h l = absurd (h)
 all_lines_before es ns k (x ∷ xs) (a ∷ bs) text (one, more) (l, m, is, rest, w) = (l, m, lines_before es ns k x a l one is, all_lines_before es ns (suc k) xs bs m more rest, w)
 
 -- the lines of the first ones
-pub first_lines : (es : List Entry) (ns : List (List ℕ)) (k : ℕ) (xs ys : List Answer) (text : List ℕ) → AreLines es ns k (xs ++ ys) text → (t : List ℕ) × (u : List ℕ) × AreLines es ns k xs t × (text ≡ t ++ u)
+pub first_lines : (es : List Entry) (ns : List (List ℕ)) (k : ℕ) (xs ys : List Answer) (text : List ℕ) → AreLines es ns k (xs ++ ys) text →
+    (t : List ℕ) × (u : List ℕ) × AreLines es ns k xs t × (text ≡ t ++ u)
 first_lines es ns k [] ys text h = ([], text, refl, refl)
 first_lines es ns k (x ∷ xs) ys text (l, m, is, rest, w) =
     let r = first_lines es ns (suc k) xs ys m rest in

@@ -50,7 +50,8 @@ answered_by : {told : Option Held} {name query : List ℕ} {steps answers : ℕ}
     IsSearched (entries q) (names q) watched first status text → IsAnswered told name query q watched steps answers status text
 answered_by {steps = steps} {answers = answers} q first begins watched status text w =
     let x = some_search (entries q) (names q) watched first status text w in
-    let search = λ (d : Declared) (P : List Clause) (gs : Goals) (f : IsFlat q d P gs) (n j m : ℕ). written_by P n first (first_state q gs steps answers) (begins d P gs f n) (entries q) (names q) watched status text w j m in
+    let search = λ (d : Declared) (P : List Clause) (gs : Goals) (f : IsFlat q d P gs) (n j m : ℕ). written_by P n first
+    (first_state q gs steps answers) (begins d P gs f n) (entries q) (names q) watched status text w j m in
     record {
       some = x.0;
       written = x.1;
@@ -63,7 +64,8 @@ module _ (told : Option Held) (name query : List ℕ) (watched : Bool) (steps an
       status ≢ variant.WriteFault → WritesSolved told name query watched steps answers status a b
   line_written r is h n = let k = h n in record { text = line_of r; is = refused r is k.0 refl; appended = k.1 }
 
-  pub line_begun : (r : Refusal) → IsRefusal told name query r → (status ≡ variant.WriteFault → AppendsPrefix a b (line_of r)) → status ≡ variant.WriteFault → BeginsSolved told name query watched steps answers a b
+  pub line_begun : (r : Refusal) → IsRefusal told name query r → (status ≡ variant.WriteFault → AppendsPrefix a b (line_of r)) → status ≡
+      variant.WriteFault → BeginsSolved told name query watched steps answers a b
   line_begun r is h e = record { status = status_of r; text = line_of r; is = refused r is refl refl; appended = h e }
 
   pub search_solved : (p : Prepared) → IsReady told name query steps answers p → (status ≢ variant.WriteFault → WritesSearch (constants_in p.shown)

@@ -1,5 +1,5 @@
 -- In the clauses and queries of texts stand no parameters of proofs and no logic variables.
-use Rattle.std.proofs.Common.{◌≡◌, ℕ, List, [], ◌∷◌, map, length, get_or, sym, ap, ◌∙◌, subst, Some, arith, refl}
+use Rattle.std.proofs.Common.{◌≡◌, ℕ, List, [], ◌∷◌, map, get_or, sym, ap, ◌∙◌, subst, Some, arith}
 use Rattle.std.specs.Prelude.{slice_get, reverse}
 use Rattle.lp_lemmas.specs.Each.{EachOf}
 use Rattle.lp_lemmas.proofs.Each.{each_append, each_map}
@@ -48,7 +48,8 @@ closed_named : (Ts : List Ty) (t : Term) → IsNamed t → IsNamed (all_of Ts t)
 closed_named [] t h = h
 closed_named (T ∷ Ts) t h = closed_named Ts (pi_of T (abs t)) (tt, h)
 
-clause_named : (c : Copy) → IsFair c → (sig : Signature) (source : List ℕ) (raw : RawTerm) (b : Nodes) (k : code.ClauseFormula) → IsClause sig source raw b k → IsNamed (in_copy c (formula_of b k)).formula
+clause_named : (c : Copy) → IsFair c → (sig : Signature) (source : List ℕ) (raw : RawTerm) (b : Nodes) (k : code.ClauseFormula) → IsClause sig source
+    raw b k → IsNamed (in_copy c (formula_of b k)).formula
 clause_named c f sig source raw b k x =
     let m = map_of c in
     let free = x.typing.free in
@@ -77,4 +78,5 @@ program_named sources built p =
 
 pub query_named : (sig : Signature) (source : List ℕ) (raw : RawTerm) (b : Nodes) (q : code_query.Typed) → IsTyped sig source raw b q → AllAtoms IsNamedAtom (tree b q.formula.0)
 query_named sig source raw b q x =
-    subst (AllAtoms IsNamedAtom) (same_term (tree b q.formula.0)) (elaborated_named as_it_is (reverse (map (λ v. type_tree b v.1.0) q.vars.items)) _ (tree b q.formula.0) o_type x.principal.typing.elaborates)
+    subst (AllAtoms IsNamedAtom) (same_term (tree b q.formula.0)) (elaborated_named as_it_is (reverse (map (λ v. type_tree b v.1.0) q.vars.items)) _
+    (tree b q.formula.0) o_type x.principal.typing.elaborates)
