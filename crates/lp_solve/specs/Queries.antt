@@ -49,7 +49,7 @@ first_state q gs steps answers = start q.typed.type_vars (length q.typed.vars.it
 abbrev pub told_by : List Clause → (looks inner_moves moves : ℕ) → State Task → Told Answer
 told_by P n j m s = run (look unit_limit n P) j m s
 
--- it is told to be too deep only where it is so by itself: each look takes fewer than 1,000,000 steps, and no expression that it evaluates has a normal form of more than
+-- it is told to be too deep only where it is so by itself: each look takes fewer than 1,000,000 steps, and no expression that it evaluates, and no term that is written in a negated goal, has a normal form of more than
 -- 1,000,000 nodes
 pub record IsExact (P : List Clause) (looks : ℕ) (s : State Task) : Type 0 where
   pub few : looks < 1000000
