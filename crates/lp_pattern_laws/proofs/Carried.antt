@@ -11,7 +11,7 @@ use Rattle.lp_model.specs.Pair.{Closing, closed}
 use Rattle.lp_proof_laws.proofs.Uniform.Openings.{instantiate_subst}
 use Rattle.lp_search_laws.proofs.ClosedTerms.{closed_atom, closed_fill}
 use Rattle.lp_pattern_laws.specs.Patterns.{free, IsNewTo, IsNewToAtom, IsPatternTerm}
-use Rattle.lp_pattern_laws.specs.Kinds.{Kind, universal, existential, IsAtLevel, IsOpening, HasPatternValues}
+use Rattle.lp_pattern_laws.specs.Binders.{Binder, universal, existential, IsAtLevel, IsOpening, HasPatternValues}
 use Rattle.lp_pattern_laws.proofs.Naming.{new_raised}
 use Rattle.lp_pattern_laws.proofs.Opened.{closing_fills, level_above}
 use Rattle.lp_pattern_laws.proofs.Filled.{pattern_fill}
@@ -54,7 +54,7 @@ raised_opened c σ u v =
     opened t = instantiate_subst σ (shift 0 1 t) ∙ ap (subst σ) (shift_one t) ∙ subst-rename suc σ t ∙ sym (instantiate_subst (λ i. σ (suc i)) t)
 
 -- the binders without the innermost
-tail_opening : (m : ℕ) (k : Kind) (Δ : List Kind) (σ : ℕ → Term) → IsOpening m (k ∷ Δ) σ → IsOpening m Δ (λ i. σ (suc i))
+tail_opening : (m : ℕ) (k : Binder) (Δ : List Binder) (σ : ℕ → Term) → IsOpening m (k ∷ Δ) σ → IsOpening m Δ (λ i. σ (suc i))
 tail_opening m k Δ σ o = record {
   universals = λ i e. o.universals (suc i) e;
   existentials = λ i e. o.existentials (suc i) e;
@@ -62,17 +62,17 @@ tail_opening m k Δ σ o = record {
   new = λ i j n e g is d. o.new (suc i) (suc j) n e g is (omega (arith, d));
 }
 
-pub length_get : (Γ : List Kind) (i : ℕ) (k : Kind) → slice_get Γ i ≡ Some k → i < length Γ
+pub length_get : (Γ : List Binder) (i : ℕ) (k : Binder) → slice_get Γ i ≡ Some k → i < length Γ
 length_get [] i k e = absurd (cc)
 length_get (x ∷ Γ) zero k e = omega arith
 length_get (x ∷ Γ) (suc i) k e = let q = length_get Γ i k e in omega (arith, q)
 
-get_length : (Γ : List Kind) (i : ℕ) → i < length Γ → (k : Kind) × (slice_get Γ i ≡ Some k)
+get_length : (Γ : List Binder) (i : ℕ) → i < length Γ → (k : Binder) × (slice_get Γ i ≡ Some k)
 get_length [] i l = absurd (omega (arith, l))
 get_length (x ∷ Γ) zero l = (x, refl)
 get_length (x ∷ Γ) (suc i) l = get_length Γ i (omega (arith, l))
 
-module _ (l m : ℕ) (less : l ≤ m) (Γ Δ : List Kind) (f : ℕ → Term) (carry : Carries l m Γ Δ f) (c : Closing) (v : HasPatternValues c) (σ : ℕ → Term) where
+module _ (l m : ℕ) (less : l ≤ m) (Γ Δ : List Binder) (f : ℕ → Term) (carry : Carries l m Γ Δ f) (c : Closing) (v : HasPatternValues c) (σ : ℕ → Term) where
   abbrev below : ℕ → Term
   below i = instantiate (λ j. σ (suc j)) (closed c (f i))
 
@@ -80,7 +80,7 @@ module _ (l m : ℕ) (less : l ≤ m) (Γ Δ : List Kind) (f : ℕ → Term) (ca
   first_new : IsOpening m (universal ∷ Δ) σ → (k : ℕ) → σ 0 ≡ atom (eigen k) → m < k → (i : ℕ) → i < length Γ → IsNewTo (free k) (below i)
   first_new o k is above i b = new_through m k above c v (λ j. σ (suc j)) (length Δ) each (f i) (carry.within i b)
     where
-      by : (j : ℕ) (x : Kind) → slice_get Δ j ≡ Some x → IsNewTo (free k) (σ (suc j))
+      by : (j : ℕ) (x : Binder) → slice_get Δ j ≡ Some x → IsNewTo (free k) (σ (suc j))
       by j universal e = o.apart (suc j) 0 k e refl is (λ q. cc)
       by j existential e = o.new (suc j) 0 k e refl is (omega arith)
 
@@ -93,7 +93,7 @@ module _ (l m : ℕ) (less : l ≤ m) (Γ Δ : List Kind) (f : ℕ → Term) (ca
   raised_is : (i : ℕ) → raised (suc i) ≡ below i
   raised_is i = raised_opened c σ (f i) v
 
-  pub below_opening : (x : Kind) → IsOpening m (x ∷ Δ) σ → IsOpening l (x ∷ Γ) raised
+  pub below_opening : (x : Binder) → IsOpening m (x ∷ Δ) σ → IsOpening l (x ∷ Γ) raised
   below_opening x o = record { universals = universals; existentials = existentials; apart = apart x o; new = new x o }
     where
       inner : IsOpening l Γ below
@@ -107,14 +107,14 @@ module _ (l m : ℕ) (less : l ≤ m) (Γ Δ : List Kind) (f : ℕ → Term) (ca
       existentials zero e = o.existentials 0 e
       existentials (suc i) e = transport IsPatternTerm (sym (raised_is i)) (inner.existentials i e)
 
-      at_first : (x : Kind) → IsOpening m (x ∷ Δ) σ → (k : ℕ) → Some x ≡ Some universal → σ 0 ≡ atom (eigen k) → (i : ℕ) → i < length Γ → IsNewTo (free k) (below i)
+      at_first : (x : Binder) → IsOpening m (x ∷ Δ) σ → (k : ℕ) → Some x ≡ Some universal → σ 0 ≡ atom (eigen k) → (i : ℕ) → i < length Γ → IsNewTo (free k) (below i)
       at_first universal o k e is i b = let u = o.universals 0 refl in first_new o k is (above u.0 u.1 u.2) i b
         where
           above : (j : ℕ) → σ 0 ≡ atom (eigen j) → m < j → m < k
           above j g q = let r : atom (eigen j) ≡ atom (eigen k) = sym g ∙ is in let p : j ≡ k = cc in omega (arith, p, q)
       at_first existential o k e is i b = absurd (cc)
 
-      apart : (x : Kind) → IsOpening m (x ∷ Δ) σ → (i j k : ℕ) → slice_get (x ∷ Γ) i ≡ Some universal → slice_get (x ∷ Γ) j ≡ Some universal → raised j ≡ atom (eigen k) → (i ≡ j → ⊥) → IsNewTo (free k) (raised i)
+      apart : (x : Binder) → IsOpening m (x ∷ Δ) σ → (i j k : ℕ) → slice_get (x ∷ Γ) i ≡ Some universal → slice_get (x ∷ Γ) j ≡ Some universal → raised j ≡ atom (eigen k) → (i ≡ j → ⊥) → IsNewTo (free k) (raised i)
       apart x o zero zero k e g is d = absurd (d refl)
       apart x o (suc i) zero k e g is d = transport (IsNewTo (free k)) (sym (raised_is i)) (at_first x o k g is i (length_get Γ i universal e))
       apart x o zero (suc j) k e g is d =
@@ -123,13 +123,13 @@ module _ (l m : ℕ) (less : l ≤ m) (Γ Δ : List Kind) (f : ℕ → Term) (ca
           transport (IsNewTo (free k)) (sym u.1) (λ q. h (sym q))
       apart x o (suc i) (suc j) k e g is d = transport (IsNewTo (free k)) (sym (raised_is i)) (inner.apart i j k e g (sym (raised_is j) ∙ is) (λ q. d (ap suc q)))
 
-      new : (x : Kind) → IsOpening m (x ∷ Δ) σ → (i j k : ℕ) → slice_get (x ∷ Γ) i ≡ Some existential → slice_get (x ∷ Γ) j ≡ Some universal → raised j ≡ atom (eigen k) → j < i → IsNewTo (free k) (raised i)
+      new : (x : Binder) → IsOpening m (x ∷ Δ) σ → (i j k : ℕ) → slice_get (x ∷ Γ) i ≡ Some existential → slice_get (x ∷ Γ) j ≡ Some universal → raised j ≡ atom (eigen k) → j < i → IsNewTo (free k) (raised i)
       new x o zero j k e g is d = absurd (omega (arith, d))
       new x o (suc i) zero k e g is d = transport (IsNewTo (free k)) (sym (raised_is i)) (at_first x o k g is i (length_get Γ i existential e))
       new x o (suc i) (suc j) k e g is d = transport (IsNewTo (free k)) (sym (raised_is i)) (inner.new i j k e g (sym (raised_is j) ∙ is) (omega (arith, d)))
 
 -- what is carried, below a binder
-pub carries_below : (l m : ℕ) → l ≤ m → (Γ Δ : List Kind) (f : ℕ → Term) (x : Kind) → Carries l m Γ Δ f → Carries l m (x ∷ Γ) (x ∷ Δ) (lifted f)
+pub carries_below : (l m : ℕ) → l ≤ m → (Γ Δ : List Binder) (f : ℕ → Term) (x : Binder) → Carries l m Γ Δ f → Carries l m (x ∷ Γ) (x ∷ Δ) (lifted f)
 carries_below l m less Γ Δ f x h = record { within = within; opens = λ c v σ o. below_opening l m less Γ Δ f h c v σ x o }
   where
     within : (i : ℕ) → i < suc (length Γ) → Within (IsAtLevel m) (suc (length Δ)) (lifted f i)

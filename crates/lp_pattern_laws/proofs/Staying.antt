@@ -17,7 +17,7 @@ use Rattle.lp_model.specs.Pair.{Closing, closed}
 use Rattle.lp_unify_laws.proofs.Sames.{same_number}
 use Rattle.lp_search_laws.proofs.ClosedTerms.{closed_atom, closed_fill, fill_instantiate}
 use Rattle.lp_pattern_laws.specs.Patterns.{IsPatternTerm}
-use Rattle.lp_pattern_laws.specs.Kinds.{Kind, IsAtLevel, IsOpening, HasPatternValues}
+use Rattle.lp_pattern_laws.specs.Binders.{Binder, IsAtLevel, IsOpening, HasPatternValues}
 use Rattle.lp_pattern_laws.specs.Goals.{StaysPattern, IsPatternValue}
 use Rattle.lp_pattern_laws.proofs.Filled.{pattern_fill}
 use Rattle.lp_pattern_laws.proofs.Opened.{closing_fills}
@@ -31,7 +31,7 @@ level_more l m h (integer z) w = tt
 level_more l m h (text s) w = tt
 level_more l m h (param k T) w = tt
 
-pub stays_deeper : (l m : ℕ) (Γ : List Kind) (t : Term) → l ≤ m → StaysPattern l Γ t → StaysPattern m Γ t
+pub stays_deeper : (l m : ℕ) (Γ : List Binder) (t : Term) → l ≤ m → StaysPattern l Γ t → StaysPattern m Γ t
 stays_deeper l m Γ t h s = record {
   within = within_more (IsAtLevel l) (IsAtLevel m) (length Γ) (length Γ) (level_more l m h) (omega arith) t s.within;
   opens = λ c v σ o. s.opens c v σ (record {
@@ -124,7 +124,7 @@ within_put l d b h t w = within_fill (IsAtLevel l) (IsAtLevel l) (at_variables (
     each (eigen j) k = k
     each (param i T) k = tt
 
-pub stays_put : (l : ℕ) (Γ : List Kind) (b : Binding) → IsPatternValue b → (t : Term) → StaysPattern l Γ t → StaysPattern l Γ (put b t)
+pub stays_put : (l : ℕ) (Γ : List Binder) (b : Binding) → IsPatternValue b → (t : Term) → StaysPattern l Γ t → StaysPattern l Γ (put b t)
 stays_put l Γ b h t s = record {
   within = within_put l (length Γ) b h t s.within;
   opens = λ c v σ o. transport (λ u. IsPatternTerm (instantiate σ u)) (sym (closed_put b c t)) (s.opens (after b c) (after_values b h c v) σ o);
@@ -144,7 +144,7 @@ within_types κ l d (atom a) w = types_level κ l a w
 within_types κ l d (abs b) w = within_types κ l (suc d) b w
 within_types κ l d (app t u) w = (within_types κ l d t w.0, within_types κ l d u w.1)
 
-pub stays_types : (l : ℕ) (Γ : List Kind) (κ : ℕ → Ty) (t : Term) → StaysPattern l Γ t → StaysPattern l Γ (instance_term κ t)
+pub stays_types : (l : ℕ) (Γ : List Binder) (κ : ℕ → Ty) (t : Term) → StaysPattern l Γ t → StaysPattern l Γ (instance_term κ t)
 stays_types l Γ κ t s = record {
   within = within_types κ l (length Γ) t s.within;
   opens = λ c v σ o. transport (λ u. IsPatternTerm (instantiate σ u)) (sym (closed_typed κ c t)) (s.opens (typed κ c) v σ o);
@@ -156,11 +156,11 @@ instantiated_twice σ τ t =
     ap (λ κ. subst κ t) (fun_ext (λ i. sym (instantiate_subst σ (τ i)))) ∙ sym (instantiate_subst (λ i. instantiate σ (τ i)) t)
 
 -- how an opening of some of the binders carries what opens the others
-pub record Carries (l m : ℕ) (Γ Δ : List Kind) (f : ℕ → Term) : Type 0 where
+pub record Carries (l m : ℕ) (Γ Δ : List Binder) (f : ℕ → Term) : Type 0 where
   pub within : (i : ℕ) → i < length Γ → Within (IsAtLevel m) (length Δ) (f i)
   pub opens : (c : Closing) → HasPatternValues c → (σ : ℕ → Term) → IsOpening m Δ σ → IsOpening l Γ (λ i. instantiate σ (closed c (f i)))
 
-pub stays_open : (l m : ℕ) (Γ Δ : List Kind) (f : ℕ → Term) → l ≤ m → Carries l m Γ Δ f → (t : Term) → StaysPattern l Γ t → StaysPattern m Δ (instantiate f t)
+pub stays_open : (l m : ℕ) (Γ Δ : List Binder) (f : ℕ → Term) → l ≤ m → Carries l m Γ Δ f → (t : Term) → StaysPattern l Γ t → StaysPattern m Δ (instantiate f t)
 stays_open l m Γ Δ f h k t s = record {
   within = transport (Within (IsAtLevel m) (length Δ)) (sym (instantiate_subst f t))
       (within_subst (IsAtLevel m) f (length Γ) (length Δ) k.within t (within_more (IsAtLevel l) (IsAtLevel m) (length Γ) (length Γ) (level_more l m h) (omega arith) t s.within));

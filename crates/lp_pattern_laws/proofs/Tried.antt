@@ -10,7 +10,7 @@ use Rattle.lp_lemmas.proofs.Each.{each_map}
 use Rattle.lp_model.specs.Index.{instantiate}
 use Rattle.lp_model.specs.Search.{Slot, is_new, slot_of, slots_of, slotted, pairs_of}
 use Rattle.lp_pattern_laws.specs.Patterns.{IsPatternTerm, of_atom, ArePatternPairs}
-use Rattle.lp_pattern_laws.specs.Kinds.{universal, IsPatternText, IsOpening}
+use Rattle.lp_pattern_laws.specs.Binders.{universal, IsPatternText, IsOpening}
 use Rattle.lp_pattern_laws.specs.Parts.{existentials}
 use Rattle.lp_pattern_laws.proofs.Opened.{types_open}
 use Rattle.lp_pattern_laws.proofs.Parted.{pattern_arguments, text_arguments}

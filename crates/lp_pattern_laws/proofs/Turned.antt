@@ -32,7 +32,7 @@ use Rattle.lp_unify_laws.proofs.Unifications.{AddsTypes, after_turn, unify_adds}
 use Rattle.lp_lemmas.specs.Each.{EachOf}
 use Rattle.lp_lemmas.proofs.Each.{each_append}
 use Rattle.lp_calculus.proofs.Fills.{within_more}
-use Rattle.lp_pattern_laws.specs.Kinds.{IsAtLevel}
+use Rattle.lp_pattern_laws.specs.Binders.{IsAtLevel}
 use Rattle.lp_pattern_laws.specs.Goals.{IsPatternValue}
 use Rattle.lp_pattern_laws.specs.Patterns.{ArePatternPairs}
 use Rattle.lp_pattern_laws.proofs.Filled.{HavePatterns, IsPatternBinding, pattern_put, pattern_instance}

@@ -12,7 +12,7 @@ ghost use Rattle.lp_model.specs.Search.{pairs_of, slots_of, slotted};
 ghost use Rattle.lp_model.specs.Unify.{State};
 ghost use Rattle.lp_standard.specs.Connectives.{connective_of};
 ghost use Rattle.lp_pattern_laws.specs.Goals.{ArePatternGoals, IsPatternGoal, IsPatternValue, StaysPattern};
-ghost use Rattle.lp_pattern_laws.specs.Kinds.{existential, IsAtLevel, IsPatternText, Kind, universal};
+ghost use Rattle.lp_pattern_laws.specs.Binders.{existential, IsAtLevel, IsPatternText, Binder, universal};
 ghost use Rattle.lp_pattern_laws.specs.Parts.{existentials, IsPatternForm};
 ghost use Rattle.lp_pattern_laws.specs.Patterns.{ArePatternPairs, free, IsNewTo, IsPatternTerm};
 ghost use Rattle.lp_pattern_laws.specs.Tasks.{IsPatternBranch, IsPatternEntry};
@@ -35,9 +35,9 @@ pub fn tried_clauses_unify_patterns()
 /// Goals of pattern text stay so while a search goes on: where logic variables get values and type variables types, where the variable of a `sigma` or of a clause
 /// becomes a closed pattern term, and where that of a `pi` becomes an eigenconstant above the level.
 pub fn pattern_goals_stay_so()
-    ensures texts { (l : ℕ) (Γ : List Kind) (t : Term) → IsPatternText l Γ t → StaysPattern l Γ t }
-    ensures values { (l : ℕ) (Γ : List Kind) (b : Binding) → IsPatternValue b → (g : Goal) → IsPatternGoal l Γ g → IsPatternGoal l Γ (put_goal b g) }
-    ensures types { (l : ℕ) (Γ : List Kind) (κ : ℕ → Ty) (g : Goal) → IsPatternGoal l Γ g → IsPatternGoal l Γ (type_goal κ g) }
+    ensures texts { (l : ℕ) (Γ : List Binder) (t : Term) → IsPatternText l Γ t → StaysPattern l Γ t }
+    ensures values { (l : ℕ) (Γ : List Binder) (b : Binding) → IsPatternValue b → (g : Goal) → IsPatternGoal l Γ g → IsPatternGoal l Γ (put_goal b g) }
+    ensures types { (l : ℕ) (Γ : List Binder) (κ : ℕ → Ty) (g : Goal) → IsPatternGoal l Γ g → IsPatternGoal l Γ (type_goal κ g) }
     ensures variables { (l : ℕ) (f : ℕ → Term) → IsPatternTerm (f 0) → Within (IsAtLevel l) 0 (f 0) →
         (gs : Goals) → ArePatternGoals l (existential ∷ []) gs → ArePatternGoals l [] (instantiate_goals f gs) }
     ensures eigenconstants { (l k m : ℕ) (f : ℕ → Term) → f 0 ≡ atom (eigen k) → l < k → k ≤ m →
