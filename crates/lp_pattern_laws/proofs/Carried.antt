@@ -136,34 +136,37 @@ carries_below l m less Γ Δ f x h = record { within = within; opens = λ c v σ
     within zero b = omega arith
     within (suc i) b = within_shift (IsAtLevel m) (length Δ) (f i) (h.within i (omega (arith, b)))
 
+-- a closed pattern term is one under each closing, and however it is opened
+pub closed_opens : (l : ℕ) (u : Term) → IsPatternTerm u → Within (IsAtLevel l) 0 u → (c : Closing) → HasPatternValues c → (σ : ℕ → Term) → IsPatternTerm (instantiate σ (closed c u))
+closed_opens l u p w c v σ =
+    let closed_at : Within (IsAtLevel l) 0 (closed c u) = transport (Within (IsAtLevel l) 0) (sym (closed_fill c u)) (within_fill (IsAtLevel l) (IsAtLevel l) (closed_atom c) 0 (closing_level c v l) u w) in
+    let stays : instantiate σ (closed c u) ≡ closed c u = instantiate_subst σ (closed c u) ∙ subst_closed (IsAtLevel l) σ 0 (λ i q. absurd (omega (arith, q))) (closed c u) closed_at in
+    transport IsPatternTerm (sym (stays ∙ closed_fill c u)) (pattern_fill (closed_atom c) (closing_fills c v) p)
+
+-- closed pattern terms for existential variables
+pub carries_values : (l : ℕ) (Γ : List Binder) → ((i : ℕ) → slice_get Γ i ≡ Some universal → ⊥) → (f : ℕ → Term) → ((i : ℕ) → i < length Γ → IsPatternTerm (f i) × Within (IsAtLevel l) 0 (f i)) → Carries l l Γ [] f
+carries_values l Γ none f p = record {
+  within = λ i b. (p i b).1;
+  opens = λ c v σ o. record {
+    universals = λ i e. absurd (none i e);
+    existentials = λ i e. let q = p i (length_get Γ i existential e) in closed_opens l (f i) q.0 q.1 c v σ;
+    apart = λ i j k e g. absurd (none j g);
+    new = λ i j k e g. absurd (none j g);
+  };
+}
+
 -- one variable: a closed pattern term for an existential one, a new eigenconstant for a universal one
 module _ (l : ℕ) (f : ℕ → Term) where
   pub carries_value : (u : Term) → f 0 ≡ u → IsPatternTerm u → Within (IsAtLevel l) 0 u → Carries l l (existential ∷ []) [] f
-  carries_value u is p w = record { within = within; opens = λ c v σ o. opening c v σ }
+  carries_value u is p w = carries_values l (existential ∷ []) none f each
     where
-      within : (i : ℕ) → i < 1 → Within (IsAtLevel l) 0 (f i)
-      within zero b = transport (Within (IsAtLevel l) 0) (sym is) w
-      within (suc i) b = absurd (omega (arith, b))
+      none : (j : ℕ) → slice_get (existential ∷ []) j ≡ Some universal → ⊥
+      none zero e = cc
+      none (suc j) e = cc
 
-      value : (c : Closing) → HasPatternValues c → (σ : ℕ → Term) → IsPatternTerm (instantiate σ (closed c u))
-      value c v σ =
-          let closed_at : Within (IsAtLevel l) 0 (closed c u) = transport (Within (IsAtLevel l) 0) (sym (closed_fill c u)) (within_fill (IsAtLevel l) (IsAtLevel l) (closed_atom c) 0 (closing_level c v l) u w) in
-          let stays : instantiate σ (closed c u) ≡ closed c u = instantiate_subst σ (closed c u) ∙ subst_closed (IsAtLevel l) σ 0 (λ i q. absurd (omega (arith, q))) (closed c u) closed_at in
-          transport IsPatternTerm (sym (stays ∙ closed_fill c u)) (pattern_fill (closed_atom c) (closing_fills c v) p)
-
-      opening : (c : Closing) → HasPatternValues c → (σ : ℕ → Term) → IsOpening l (existential ∷ []) (λ i. instantiate σ (closed c (f i)))
-      opening c v σ = record { universals = universals; existentials = existentials; apart = λ i j k e g. absurd (none j g); new = λ i j k e g. absurd (none j g) }
-        where
-          none : (j : ℕ) → slice_get (existential ∷ []) j ≡ Some universal → ⊥
-          none zero e = cc
-          none (suc j) e = cc
-
-          universals : (i : ℕ) → slice_get (existential ∷ []) i ≡ Some universal → (k : ℕ) × (instantiate σ (closed c (f i)) ≡ atom (eigen k)) × (l < k)
-          universals i e = absurd (none i e)
-
-          existentials : (i : ℕ) → slice_get (existential ∷ []) i ≡ Some existential → IsPatternTerm (instantiate σ (closed c (f i)))
-          existentials zero e = transport (λ t. IsPatternTerm (instantiate σ (closed c t))) (sym is) (value c v σ)
-          existentials (suc i) e = absurd (cc)
+      each : (i : ℕ) → i < 1 → IsPatternTerm (f i) × Within (IsAtLevel l) 0 (f i)
+      each zero b = (transport IsPatternTerm (sym is) p, transport (Within (IsAtLevel l) 0) (sym is) w)
+      each (suc i) b = absurd (omega (arith, b))
 
   pub carries_eigen : (k : ℕ) → f 0 ≡ atom (eigen k) → l < k → (m : ℕ) → k ≤ m → Carries l m (universal ∷ []) [] f
   carries_eigen k is above m less = record { within = within; opens = λ c v σ o. opening c σ }

@@ -15,3 +15,11 @@ mod Carried
 mod GoalsMapped
 mod TextStays
 mod Resumed
+mod ClosedPatterns
+mod GoalLists
+mod PatternTasks
+mod AtomLooks
+mod NoSigma
+mod GoalLooks
+mod TryLooks
+mod PatternRuns

@@ -19,7 +19,7 @@ pattern_apart (rigid r p q) = (p, q)
 pattern_apart (on_name p q new) = (p, names_pattern q)
 
 -- what goes apart with applications holds of arguments
-arguments_each : (P : Term → Type 0) → ((f a : Term) → P (app f a) → P f × P a) → (t : Term) (more : List Term) → P t → EachOf P more → EachOf P (arguments_and t more)
+pub arguments_each : (P : Term → Type 0) → ((f a : Term) → P (app f a) → P f × P a) → (t : Term) (more : List Term) → P t → EachOf P more → EachOf P (arguments_and t more)
 arguments_each P apart (index i) more p h = h
 arguments_each P apart (atom a) more p h = h
 arguments_each P apart (abs b) more p h = h

@@ -23,7 +23,7 @@ use Rattle.lp_pattern_laws.proofs.Filled.{pattern_fill}
 use Rattle.lp_pattern_laws.proofs.Opened.{closing_fills}
 
 -- what stands at a level stands at a higher one
-level_more : (l m : ℕ) → l ≤ m → (a : Atom) → IsAtLevel l a → IsAtLevel m a
+pub level_more : (l m : ℕ) → l ≤ m → (a : Atom) → IsAtLevel l a → IsAtLevel m a
 level_more l m h (eigen k) w = let q : k ≤ l = w in let r : k ≤ m = omega (arith, h, q) in r
 level_more l m h (logic x k) w = let q : k ≤ l = w in let r : k ≤ m = omega (arith, h, q) in r
 level_more l m h (constant c ts) w = tt
