@@ -1,9 +1,10 @@
 -- What a look at an atom that is a pattern term leaves: tasks of pattern text.
-use Rattle.std.proofs.Common.{◌≡◌, ℕ, ◌≤◌, List, [], ◌∷◌, map, Option, Some, None, ◌∙◌, refl, sym, ap, subst as transport, arith, Bool, true, false, nat_eq, if◌then◌else◌}
+use Rattle.std.proofs.Common.{◌≡◌, ℕ, List, [], ◌∷◌, Option, Some, None, ◌∙◌, refl, sym, ap, subst as transport, arith, Bool, true, false, nat_eq, if◌then◌else◌}
 use Rattle.std.specs.Prelude.{nat_le, ◌&&◌, filter}
 use Rattle.std.proofs.lemmas.Bool.Decides.{nat_tests}
 use Rattle.lp_calculus.specs.Types.{Ty}
-use Rattle.lp_calculus.specs.Term.{Term, Atom, abs, index, atom, app, apply, constant, integer, text, eigen, logic, param}
+use Rattle.lp_calculus.specs.Term.{Term, abs, index, atom, app, apply, constant, integer, text, eigen, logic, param}
+use Rattle.lp_calculus.specs.Normal.{IsHead}
 use Rattle.lp_calculus.specs.Typing.{HasType, HaveTypes, Typed, o_type, atom_type, scheme_type}
 use Rattle.lp_calculus.proofs.Typings.{typed_parts}
 use Rattle.lp_calculus.specs.Spine.{head_of, arguments}
@@ -33,24 +34,26 @@ use Rattle.lp_search_laws.proofs.FormViews.{form_typed}
 use Rattle.lp_search_laws.proofs.Fronts.{Typed as IsTypedHere}
 use Rattle.lp_search_laws.proofs.LookedGoals.{goal_reduces}
 use Rattle.lp_search_laws.proofs.Stack.AllFine.{LeavesFine}
-use Rattle.lp_pattern_laws.specs.Patterns.{IsPatternTerm, of_atom}
+use Rattle.lp_pattern_laws.specs.Patterns.{IsPattern, of_atom}
 use Rattle.lp_pattern_laws.specs.Goals.{IsPatternClause}
-use Rattle.lp_pattern_laws.specs.Tasks.{IsPatternBranch, IsPatternEntry}
+use Rattle.lp_pattern_laws.specs.Tasks.{IsPatternBranch}
 use Rattle.lp_pattern_laws.proofs.ClosedPatterns.{IsPatternAt, at_arguments, at_reduces}
+use Rattle.lp_pattern_laws.proofs.Comes.{of_term}
 use Rattle.lp_pattern_laws.proofs.GoalLists.{all_deeper, each_filter}
 use Rattle.lp_pattern_laws.proofs.PatternTasks.{IsPatternTask, HasNoPair, followed}
 
-value_pattern : (v : Value) → IsPatternTerm (term_of v)
-value_pattern (Number z) = of_atom (integer z)
-value_pattern (Bytes s) = of_atom (text s)
+value_pattern : (v : Value) → IsPattern (term_of v)
+value_pattern (Number z) = of_term (of_atom (integer z))
+value_pattern (Bytes s) = of_term (of_atom (text s))
 
 if_each : (p : Bool) (x y : List Task) → EachOf IsPatternTask x → EachOf IsPatternTask y → EachOf IsPatternTask (if p then x else y)
 if_each true x y h k = h
 if_each false x y h k = k
 
-module _ (n height : ℕ) (d : Declared) (std : IsStandard d) (P : List Clause) (texts : EachOf (IsPatternClause 0 []) P) (q : Query) (z : AnswerTyping) (b : Branch) (E : List Ty) (Es : List (List Ty)) (e : Entry) (es : List Entry)
+module _ (n height : ℕ) (d : Declared) (std : IsStandard d) (P : List Clause) (texts : EachOf (IsPatternClause 0 []) P) (q : Query) (z : AnswerTyping)
+    (b : Branch) (E : List Ty) (Es : List (List Ty)) (e : Entry) (es : List Entry)
     (h : IsTypedHere n d P q z b E Es e es) (own : EachOf (IsPatternClause e.level []) e.assumed) (rest : IsPatternBranch (with_goals b es)) where
-  unified : (T : Ty) (l r : Term) → IsTyped d E z.variables (two 8 (T ∷ []) l r) o_type → IsPatternTerm l → IsPatternTerm r → EachOf IsPatternTask (equated unit_limit n e.level l r (with_goals b es))
+  unified : (T : Ty) (l r : Term) → IsTyped d E z.variables (two 8 (T ∷ []) l r) o_type → IsPattern l → IsPattern r → EachOf IsPatternTask (equated unit_limit n e.level l r (with_goals b es))
   unified T l r typed p g =
       let y = typed.typed in
       let s = two_kinds (scheme_type (T ∷ []) (d 8)) T y.0 y.1.0 (ap (scheme_type (T ∷ [])) (std.at 8 (omega arith))) y.1.1 in
@@ -69,7 +72,9 @@ module _ (n height : ℕ) (d : Declared) (std : IsStandard d) (P : List Clause) 
   tried_all : (t : Term) → IsPatternAt e.level t → (o : Option Term) → goal_looked n t ≡ o → EachOf IsPatternTask (tries P e (with_goals b es) height o)
   tried_all t p None k = (tt, tt)
   tried_all t p (Some g) k =
-      each_map (IsPatternClause e.level []) IsPatternTask (λ c. Try c g e (with_goals b es) height) (λ c x. record { branch = rest; goal = at_reduces e.level t g (goal_reduces n t g k) p; clause = x; assumed = own }) (candidates P e.assumed g)
+      each_map (IsPatternClause e.level []) IsPatternTask (λ c. Try c g e (with_goals b es) height)
+      (λ c x. record { branch = rest; goal = at_reduces e.level t g (goal_reduces n t g k) p; clause = x; assumed = own })
+      (candidates P e.assumed g)
       (each_append (IsPatternClause e.level []) (filter (has_head g) e.assumed) (filter (passes g) P)
       (each_filter (IsPatternClause e.level []) (has_head g) e.assumed own)
       (each_filter (IsPatternClause e.level []) (passes g) P (all_deeper 0 e.level (omega arith) P texts)))
@@ -93,7 +98,7 @@ module _ (n height : ℕ) (d : Declared) (std : IsStandard d) (P : List Clause) 
     parts : (t' : Term) → head_of u ≡ t' → (A : Ty) × HasType (atom_type (over d E z.variables)) [] t' A × HaveTypes (atom_type (over d E z.variables)) [] A (arguments u) o_type
     parts t' x = typed_parts (atom_type (over d E z.variables)) [] t' (arguments u) o_type (transport (λ y. Typed (over d E z.variables) [] y o_type) (sym (on_head t' x)) typed.typed)
 
-    assigned_each : (T : Ty) (l w : Term) → u ≡ two 9 (T ∷ []) l w → IsPatternTerm l → (o : Option Outcome) → evaluate n w ≡ o → EachOf IsPatternTask (assigned unit_limit n e.level l (with_goals b es) o)
+    assigned_each : (T : Ty) (l w : Term) → u ≡ two 9 (T ∷ []) l w → IsPattern l → (o : Option Outcome) → evaluate n w ≡ o → EachOf IsPatternTask (assigned unit_limit n e.level l (with_goals b es) o)
     assigned_each T l w shape g None k = (tt, tt)
     assigned_each T l w shape g (Some (Faults f)) k = (tt, tt)
     assigned_each T l w shape g (Some (Is v)) k = unified T l (term_of v) (equal_branch n d (without_leaves d std) P q z b E Es e es t u i r h T l w shape v k).entries.0.goal g (value_pattern v)
@@ -102,10 +107,11 @@ module _ (n height : ℕ) (d : Declared) (std : IsStandard d) (P : List Clause) 
     Called c us = look_constant unit_limit n P height e (with_goals b es) u c us
 
     spelt : (c k : ℕ) (ts us : List Ty) (l w : Term) → head_of u ≡ atom (constant c ts) → c ≡ k → ts ≡ us → arguments u ≡ l ∷ w ∷ [] → u ≡ two k us l w
-    spelt c k ts us l w x y j g = sym (transport (λ m. two m us l w ≡ u) y (transport (λ m. two c m l w ≡ u) j (transport (λ vs. apply (atom (constant c ts)) vs ≡ u) g (on_head (atom (constant c ts)) x))))
+    spelt c k ts us l w x y j g = sym (transport (λ m. two m us l w ≡ u) y (transport (λ m. two c m l w ≡ u) j
+        (transport (λ vs. apply (atom (constant c ts)) vs ≡ u) g (on_head (atom (constant c ts)) x))))
 
-    sides : (l w : Term) → arguments u ≡ l ∷ w ∷ [] → EachOf (IsPatternAt e.level) (l ∷ w ∷ [])
-    sides l w g = transport (EachOf (IsPatternAt e.level)) g (at_arguments e.level u p)
+    sides : (c : ℕ) (ts : List Ty) (l w : Term) → head_of u ≡ atom (constant c ts) → arguments u ≡ l ∷ w ∷ [] → EachOf (IsPatternAt e.level) (l ∷ w ∷ [])
+    sides c ts l w x g = transport (EachOf (IsPatternAt e.level)) g (at_arguments e.level u (transport IsHead (sym x) tt) p)
 
     by_kind : (c : ℕ) (ts : List Ty) → head_of u ≡ atom (constant c ts) → AtomKind c ts (arguments u) → EachOf IsPatternTask (look_constant unit_limit n P height e (with_goals b es) u c (arguments u))
     by_kind c ts x (declared l) = transport (EachOf IsPatternTask) (sym (go (arguments u))) (tried_all u p (goal_looked n u) refl)
@@ -123,11 +129,11 @@ module _ (n height : ℕ) (d : Declared) (std : IsStandard d) (P : List Clause) 
             last _ _ _ _ _ _ _ e1 e2 e3
         go (v ∷ w ∷ y ∷ us) = refl
     by_kind c ts x (equality T l w y j k) =
-        let s = sides l w k in
+        let s = sides c ts l w x k in
         transport (λ us. EachOf IsPatternTask (Called c us)) (sym k) (transport (λ m. EachOf IsPatternTask (Called m (l ∷ w ∷ []))) (sym y)
         (unified T l w (transport (λ v. IsTyped d E z.variables v o_type) (spelt c 8 ts (T ∷ []) l w x y j k) typed) s.0.0 s.1.0.0))
     by_kind c ts x (assignment T l w y j k) =
-        let s = sides l w k in
+        let s = sides c ts l w x k in
         transport (λ us. EachOf IsPatternTask (Called c us)) (sym k) (transport (λ m. EachOf IsPatternTask (Called m (l ∷ w ∷ []))) (sym y)
         (assigned_each T l w (spelt c 9 ts (T ∷ []) l w x y j k) s.0.0 (evaluate n w) refl))
     by_kind c ts x (order l w y y' j k) = transport (λ us. EachOf IsPatternTask (Called c us)) (sym k) (transport (EachOf IsPatternTask) (sym called) (compared_each c (evaluate n l) (evaluate n w)))

@@ -1,14 +1,14 @@
 -- Goals and clauses of which each atom and each head is so: at deeper levels, and as the entries of a branch.
-use Rattle.std.proofs.Common.{ℕ, ◌≤◌, List, [], ◌∷◌, ◌++◌, Bool, true, false, arith}
+use Rattle.std.proofs.Common.{ℕ, ◌≤◌, List, [], ◌∷◌, ◌++◌, Bool, true, false}
 use Rattle.std.specs.Prelude.{cond, filter}
 use Rattle.lp_calculus.specs.Term.{Term}
 use Rattle.lp_lemmas.specs.Each.{EachOf}
-use Rattle.lp_model.specs.Branch.{Entry, entries}
+use Rattle.lp_model.specs.Branch.{entries}
 use Rattle.lp_model.specs.Flat.{Goal, Atomic, Cut, Either, Exists, Forall, Assume, Not, Written, Goals, no_goals, goals, goal_list, Clause, clause, Clauses, no_clauses, clauses, clause_list}
 use Rattle.lp_search_laws.proofs.TypesOver.{each_more}
 use Rattle.lp_pattern_laws.specs.Binders.{Binder, universal, existential}
 use Rattle.lp_pattern_laws.specs.Parts.{existentials}
-use Rattle.lp_pattern_laws.specs.Goals.{StaysPattern, IsGoalOf, AreGoalsOf, IsClauseOf, AreClausesOf, IsPatternGoal, ArePatternGoals, IsPatternClause, ArePatternClauses}
+use Rattle.lp_pattern_laws.specs.Goals.{StaysPattern, IsGoalOf, AreGoalsOf, IsClauseOf, AreClausesOf, ArePatternGoals, IsPatternClause, ArePatternClauses}
 use Rattle.lp_pattern_laws.specs.Tasks.{IsPatternEntry}
 use Rattle.lp_pattern_laws.proofs.Staying.{stays_deeper}
 

@@ -6,7 +6,7 @@ use Rattle.lp_calculus.specs.Fill.{Binding, Within, put}
 use Rattle.lp_calculus.specs.Instance.{instance_term}
 use Rattle.lp_model.specs.Index.{instantiate, lifted}
 use Rattle.lp_model.specs.Flat.{Goal, Atomic, Cut, Either, Exists, Forall, Assume, Not, under_all, map_goal, map_goals, map_clause, map_clauses, same_type, Goals, no_goals, goals, Clause, clause, Clauses, no_clauses, clauses, put_goal, type_goal, type_goals, instantiate_goals}
-use Rattle.lp_pattern_laws.specs.Patterns.{IsPatternTerm}
+use Rattle.lp_pattern_laws.specs.Patterns.{IsPattern}
 use Rattle.lp_pattern_laws.specs.Binders.{Binder, universal, existential, IsAtLevel}
 use Rattle.lp_pattern_laws.specs.Parts.{existentials}
 use Rattle.lp_pattern_laws.specs.Goals.{StaysPattern, IsPatternValue, IsPatternGoal, ArePatternGoals, IsPatternClause, ArePatternClauses}
@@ -60,10 +60,11 @@ pub open_kept : (l m : ℕ) → l ≤ m → (Γ Δ : List Binder) (f : ℕ → T
 open_kept l m less Γ Δ f k gs h = goals_mapped lifted instantiate same_type l m (λ g Θ Ξ. Carries l m Θ Ξ g) (λ g Θ Ξ x c. carries_below l m less Θ Ξ g x c)
     (λ g Θ Ξ c t s. stays_open l m Θ Ξ g less c t s) f Γ Δ k gs h
 
-pub term_opens : (l : ℕ) (f : ℕ → Term) (u : Term) → f 0 ≡ u → IsPatternTerm u → Within (IsAtLevel l) 0 u → (gs : Goals) → ArePatternGoals l (existential ∷ []) gs → ArePatternGoals l [] (instantiate_goals f gs)
+pub term_opens : (l : ℕ) (f : ℕ → Term) (u : Term) → f 0 ≡ u → IsPattern u → Within (IsAtLevel l) 0 u → (gs : Goals) → ArePatternGoals l
+    (existential ∷ []) gs → ArePatternGoals l [] (instantiate_goals f gs)
 term_opens l f u is p w gs h = open_kept l l (omega arith) (existential ∷ []) [] f (carries_value l f u is p w) gs h
 
-pub value_opens : (l : ℕ) (f : ℕ → Term) → IsPatternTerm (f 0) → Within (IsAtLevel l) 0 (f 0) → (gs : Goals) → ArePatternGoals l (existential ∷ []) gs → ArePatternGoals l [] (instantiate_goals f gs)
+pub value_opens : (l : ℕ) (f : ℕ → Term) → IsPattern (f 0) → Within (IsAtLevel l) 0 (f 0) → (gs : Goals) → ArePatternGoals l (existential ∷ []) gs → ArePatternGoals l [] (instantiate_goals f gs)
 value_opens l f p w gs h = term_opens l f (f 0) refl p w gs h
 
 pub eigen_opens : (l k m : ℕ) (f : ℕ → Term) → f 0 ≡ atom (eigen k) → l < k → k ≤ m → (gs : Goals) → ArePatternGoals l (universal ∷ []) gs → ArePatternGoals m [] (instantiate_goals f gs)

@@ -1,8 +1,11 @@
 mod Naming
 mod Renamed
 mod Reduced
+mod Apart
+mod Comes
 mod Looked
 mod Filled
+mod PutForms
 mod Scanned
 mod Pruned
 mod Ruled

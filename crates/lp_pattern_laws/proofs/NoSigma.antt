@@ -1,9 +1,10 @@
 -- Terms in which the constant `sigma` does not stand: the search keeps to them.
-use Rattle.std.proofs.Common.{◌≡◌, ℕ, ◌<◌, List, [], ◌∷◌, ◌++◌, Bool, refl, subst as transport}
+use Rattle.std.proofs.Common.{◌≡◌, ℕ, suc, ◌<◌, List, [], ◌∷◌, ◌++◌, length, Bool, refl, subst as transport}
 use Rattle.std.specs.Prelude.{◌≢◌}
 use Rattle.lp_calculus.specs.Types.{Ty}
 use Rattle.lp_calculus.specs.Term.{Term, Atom, index, atom, abs, app, constant, integer, text, eigen, logic, param}
 use Rattle.lp_calculus.specs.Closed.{AllAtoms}
+use Rattle.lp_calculus.specs.Fill.{Within}
 use Rattle.lp_lemmas.specs.Each.{EachOf}
 use Rattle.lp_model.specs.Flat.{Goal, Atomic, Cut, Either, Exists, Forall, Assume, Not, Goals, no_goals, goals, Clause, clause, Clauses, no_clauses, clauses}
 use Rattle.lp_model.specs.Proofs.{Declared}
@@ -37,8 +38,8 @@ others = record {
 }
 
 -- so no such term is a `sigma`
-pub no_sigma : {Q : ℕ → Type 0} → (t : Term) → AllAtoms (Good IsOther Q) t → (T : Ty) (s : Term) → connective_of t ≡ connective.Exists T s → ⊥
-no_sigma {Q} t h T s e =
+pub no_sigma : (Q : ℕ → Type 0) (t : Term) → AllAtoms (Good IsOther Q) t → (T : Ty) (s : Term) → connective_of t ≡ connective.Exists T s → ⊥
+no_sigma Q t h T s e =
     let g = transport (λ f. Shape f t) e (form_shape t) in
     let w : AllAtoms (Good IsOther Q) (sigma_of T g.0) = transport (AllAtoms (Good IsOther Q)) g.1 h in
     w.0.0 refl
@@ -58,13 +59,22 @@ both_atoms Q (atom a) h k = both_atom Q a h k
 both_atoms Q (abs b) h k = both_atoms Q b h k
 both_atoms Q (app t u) h k = (both_atoms Q t h.0 k.0, both_atoms Q u h.1 k.1)
 
+atoms_within : (n : ℕ) (t : Term) → Within IsTextAtom n t → AllAtoms IsTextAtom t
+atoms_within n (index i) w = tt
+atoms_within n (atom a) w = w
+atoms_within n (abs b) w = atoms_within (suc n) b w
+atoms_within n (app t u) w = (atoms_within n t w.0, atoms_within n u w.1)
+
+text_atoms : (Γ : List Binder) (t : Term) → IsWrittenText Γ t → AllAtoms IsTextAtom t
+text_atoms Γ t h = atoms_within (length Γ) t h.within
+
 module _ (m : ℕ) (Q : ℕ → Type 0) (below : (i : ℕ) → i < m → Q i) where
   term_plain : (t : Term) → IsPlainTerm m t → AllAtoms IsTextAtom t → Plain Q t
   term_plain t h k = good_more Plain others (λ i. i < m) Q below t (both_atoms (λ i. i < m) t (plain_term m t h) k)
 
   mutual
     goal_plain : (B : List Bool) (Γ : List Binder) (g : Goal) → IsGoal m B g → IsGoalOf IsWrittenText Γ g → IsGoalWith (Plain Q) g
-    goal_plain B Γ (Atomic t) h k = term_plain t h k.1
+    goal_plain B Γ (Atomic t) h k = term_plain t h (text_atoms Γ t k)
     goal_plain B Γ Cut h k = tt
     goal_plain B Γ (Either l r) h k = (goals_plain B Γ l h.0 k.0, goals_plain B Γ r h.1 k.1)
     goal_plain B Γ (Exists T gs) h k = goals_plain _ (existential ∷ Γ) gs h.1 k
@@ -79,11 +89,11 @@ module _ (m : ℕ) (Q : ℕ → Type 0) (below : (i : ℕ) → i < m → Q i) wh
     clauses_plain : (B : List Bool) (Γ : List Binder) (cs : Clauses) → AreClauses m B cs → AreClausesOf IsWrittenText Γ cs → AreClausesWith (Plain Q) cs
     clauses_plain B Γ no_clauses h k = tt
     clauses_plain B Γ (clauses (clause n vs x b) cs) h k =
-        ((h.0, term_plain x h.1.2 k.0.0.1, goals_plain _ (existentials vs ++ Γ) b h.1.3 k.0.1), clauses_plain B Γ cs h.2 k.1)
+        ((h.0, term_plain x h.1.2 (text_atoms (existentials vs ++ Γ) x k.0.0), goals_plain _ (existentials vs ++ Γ) b h.1.3 k.0.1), clauses_plain B Γ cs h.2 k.1)
 
 pub program_plain : (d : Declared) (P : List Clause) → EachOf (IsProgramTyped d) P → EachOf IsTextClause P → EachOf (IsKeptProgram Plain others) P
 program_plain d [] h k = tt
 program_plain d (clause m vs x b ∷ P) h k = (
-  (term_plain m (λ i. i < m) (λ i l. l) x h.0.form.2 k.0.0.1, goals_plain m (λ i. i < m) (λ i l. l) _ (existentials vs ++ []) b h.0.form.3 k.0.1),
+  (term_plain m (λ i. i < m) (λ i l. l) x h.0.form.2 (text_atoms (existentials vs ++ []) x k.0.0), goals_plain m (λ i. i < m) (λ i l. l) _ (existentials vs ++ []) b h.0.form.3 k.0.1),
   program_plain d P h.1 k.1,
 )

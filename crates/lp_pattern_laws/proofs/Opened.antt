@@ -113,7 +113,8 @@ name_level l (an_index i) h = tt
 name_level l (an_eigen k) h = h
 name_level l (expanded {n = n} p q) h = name_out l n (name_level l p h.0)
 
-new_index : (l : ℕ) (Γ : List Binder) (σ : ℕ → Term) (ν : ℕ → Name) → Opens l Γ σ ν → (n : Name) → IsUniversal Γ n → IsNameAt l n → (i : ℕ) (o : Option Binder) → slice_get Γ i ≡ o → IsNewAt o n i → IsNewTo (image ν n) (σ i)
+new_index : (l : ℕ) (Γ : List Binder) (σ : ℕ → Term) (ν : ℕ → Name) → Opens l Γ σ ν → (n : Name) → IsUniversal Γ n → IsNameAt l n → (i : ℕ)
+    (o : Option Binder) → slice_get Γ i ≡ o → IsNewAt o n i → IsNewTo (image ν n) (σ i)
 new_index l Γ σ ν h n u m i None e k = absurd k
 new_index l Γ σ ν h (bound j) u m i (Some b) e k = h.apart i j b e u k
 new_index l Γ σ ν h (free j) u m i (Some universal) e k = h.others i j e m
@@ -135,7 +136,8 @@ image_under : (ν : ℕ → Name) (n : Name) → image (lifted ν) (under n) ≡
 image_under ν (bound j) = refl
 image_under ν (free k) = refl
 
-new_opens : (l : ℕ) (Γ : List Binder) (σ : ℕ → Term) (ν : ℕ → Name) → Opens l Γ σ ν → (f : Atom → Term) → Fills f → (n : Name) → IsUniversal Γ n → IsNameAt l n → (t : Term) → AllAtoms (IsAtLevel l) t → IsNewIn Γ n t → IsNewTo (image ν n) (put_both σ f t)
+new_opens : (l : ℕ) (Γ : List Binder) (σ : ℕ → Term) (ν : ℕ → Name) → Opens l Γ σ ν → (f : Atom → Term) → Fills f → (n : Name) → IsUniversal Γ n →
+    IsNameAt l n → (t : Term) → AllAtoms (IsAtLevel l) t → IsNewIn Γ n t → IsNewTo (image ν n) (put_both σ f t)
 new_opens l Γ σ ν h f g n u m (index i) w k = new_index l Γ σ ν h n u m i (slice_get Γ i) refl k
 new_opens l Γ σ ν h f g n u m (atom a) w k = g.new (image ν n) a (new_atom l Γ σ ν h n u a w k)
 new_opens l Γ σ ν h f g n u m (abs b) w k =
@@ -147,7 +149,8 @@ index_opens : (l : ℕ) (Γ : List Binder) (σ : ℕ → Term) (ν : ℕ → Nam
 index_opens l Γ σ ν h i universal e = names_pattern (h.names i e)
 index_opens l Γ σ ν h i existential e = h.patterns i e
 
-pattern_opens : (l : ℕ) (Γ : List Binder) (σ : ℕ → Term) (ν : ℕ → Name) → Opens l Γ σ ν → (f : Atom → Term) → Fills f → {t : Term} → IsPatternIn Γ t → AllAtoms (IsAtLevel l) t → IsPatternTerm (put_both σ f t)
+pattern_opens : (l : ℕ) (Γ : List Binder) (σ : ℕ → Term) (ν : ℕ → Name) → Opens l Γ σ ν → (f : Atom → Term) → Fills f → {t : Term} → IsPatternIn Γ t →
+    AllAtoms (IsAtLevel l) t → IsPatternTerm (put_both σ f t)
 pattern_opens l Γ σ ν h f g (index_in {k = k} i e) w = index_opens l Γ σ ν h i k e
 pattern_opens l Γ σ ν h f g (atom_in a) w = g.pattern a
 pattern_opens l Γ σ ν h f g (abs_in p) w = of_abs (pattern_opens l (universal ∷ Γ) (up σ) (lifted ν) (opens_up l Γ σ ν h) (raise f) (fills_raise f g) p w)

@@ -3,27 +3,32 @@ use Rattle.std.proofs.Common.{◌≡◌, ℕ, List, [], ◌∷◌, Bool, true, f
 use Rattle.std.specs.Prelude.{nat_eq, if◌then◌else◌}
 use Rattle.lp_calculus.specs.Types.{Ty}
 use Rattle.lp_calculus.specs.Term.{Term, index, atom, abs, app, substitute, eigen, logic, constant, integer, text, param}
+use Rattle.lp_calculus.specs.Normal.{IsHead}
 use Rattle.lp_calculus.specs.Spine.{head_of, arguments, arguments_and}
 use Rattle.lp_lemmas.specs.Each.{EachOf}
 use Rattle.lp_standard.specs.Connectives.{Connective, body_of, connective_of, connective_at, connective_of_constant}
 use Rattle.lp_search_laws.proofs.Closed.{body_opens}
-use Rattle.lp_pattern_laws.specs.Patterns.{Name, bound, free, under, IsNewToIndex, IsNewTo, Names, an_index, an_eigen, expanded, IsPatternTerm, rigid, on_name}
+use Rattle.lp_pattern_laws.specs.Patterns.{Name, bound, free, under, IsNewToIndex, IsNewTo, Names, an_index, an_eigen, expanded, IsPatternTerm, on_name}
 use Rattle.lp_pattern_laws.specs.Binders.{Binder, universal, IsNewAt, IsNewIn, IsUniversal, IsPatternIn, index_in, atom_in, abs_in, rigid_in, name_in, IsPatternText}
 use Rattle.lp_pattern_laws.specs.Parts.{IsPatternForm}
 use Rattle.lp_pattern_laws.proofs.Naming.{same_under, under_not}
-use Rattle.lp_pattern_laws.proofs.Renamed.{names_pattern}
+use Rattle.lp_pattern_laws.proofs.Apart.{pattern_apart}
 use Rattle.lp_pattern_laws.proofs.Reduced.{pattern_reduces}
 
-pub pattern_apart : {t u : Term} → IsPatternTerm (app t u) → IsPatternTerm t × IsPatternTerm u
-pattern_apart (rigid r p q) = (p, q)
-pattern_apart (on_name p q new) = (p, names_pattern q)
-
 -- what goes apart with applications holds of arguments
-pub arguments_each : (P : Term → Type 0) → ((f a : Term) → P (app f a) → P f × P a) → (t : Term) (more : List Term) → P t → EachOf P more → EachOf P (arguments_and t more)
+arguments_each : (P : Term → Type 0) → ((f a : Term) → P (app f a) → P f × P a) → (t : Term) (more : List Term) → P t → EachOf P more → EachOf P (arguments_and t more)
 arguments_each P apart (index i) more p h = h
 arguments_each P apart (atom a) more p h = h
 arguments_each P apart (abs b) more p h = h
 arguments_each P apart (app f a) more p h = let q = apart f a p in arguments_each P apart f (a ∷ more) q.0 (q.1, h)
+
+-- and so does what goes apart where there is a head
+pub headed_each : (P : Term → Type 0) → ((f a : Term) → IsHead (head_of f) → P (app f a) → P f × P a) → (t : Term) (more : List Term) → IsHead
+    (head_of t) → P t → EachOf P more → EachOf P (arguments_and t more)
+headed_each P apart (index i) more h p w = w
+headed_each P apart (atom a) more h p w = w
+headed_each P apart (abs b) more h p w = w
+headed_each P apart (app f a) more h p w = let q = apart f a h p in headed_each P apart f (a ∷ more) h q.0 (q.1, w)
 
 pub pattern_arguments : (t : Term) → IsPatternTerm t → EachOf IsPatternTerm (arguments t)
 pattern_arguments t p = arguments_each IsPatternTerm (λ f a q. pattern_apart q) t [] p tt

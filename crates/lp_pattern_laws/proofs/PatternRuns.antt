@@ -1,14 +1,21 @@
 -- No answer of a search of pattern text has a pair left.
-use Rattle.std.proofs.Common.{◌≡◌, ℕ, suc, ◌-◌, ◌<◌, ◌≤◌, List, [], ◌∷◌, ◌++◌, map, length, Some, refl, sym, ap, subst as transport, arith}
+use Rattle.std.proofs.Common.{◌≡◌, ℕ, suc, ◌-◌, ◌≤◌, List, [], ◌∷◌, map, length, Some, refl, sym, subst as transport, arith}
 use Rattle.lp_calculus.specs.Types.{Ty}
-use Rattle.lp_calculus.specs.Term.{Term, Atom, atom, constant, integer, text, eigen, logic, param}
+use Rattle.lp_calculus.specs.Term.{Term, Atom, index, atom, abs, app, constant, integer, text, eigen, logic, param}
+use Rattle.lp_calculus.specs.Closed.{AllAtoms}
+use Rattle.lp_calculus.specs.Convert.{done}
+use Rattle.lp_calculus.specs.Fill.{Within}
+use Rattle.lp_calculus.proofs.Fills.{within_more}
+use Rattle.lp_calculus.proofs.Steps.{within_reduces}
 use Rattle.lp_lemmas.specs.Each.{EachOf}
 use Rattle.lp_model.specs.Unify.{unit_limit}
 use Rattle.lp_standard.specs.Schemes.{IsStandard}
-use Rattle.lp_model.specs.Flat.{Goals, goal_list, Clause, instantiate_goals}
+use Rattle.lp_model.specs.Flat.{Goals, Clause, instantiate_goals}
 use Rattle.lp_model.specs.Flatten.{ClauseFormula, flatten_query}
+use Rattle.lp_model.specs.Index.{instantiate}
+use Rattle.lp_model.specs.Pair.{closed}
 use Rattle.lp_model.specs.Skeleton.{View, Gives, Opens, Parts, Takes, Cuts, Denies, Halts, Lacks, run}
-use Rattle.lp_model.specs.Branch.{Branch, Answer, Task, Go, entries, nothing_written}
+use Rattle.lp_model.specs.Branch.{Answer, Task, nothing_written}
 use Rattle.lp_model.specs.Answers.{Query}
 use Rattle.lp_model.specs.Proofs.{Declared, AreFlattened, no_leaf}
 use Rattle.lp_model.specs.Search.{look, start}
@@ -21,7 +28,8 @@ use Rattle.lp_search_laws.proofs.Begins.{fine, start_typed, program_typed}
 use Rattle.lp_search_laws.proofs.KeptLooks.{IsKeptView, kept_look}
 use Rattle.lp_search_laws.proofs.KeptTasks.{IsKeptTask, IsKeptBranch, instantiated, goals_entries}
 use Rattle.lp_search_laws.proofs.LooksRight.{each_look}
-use Rattle.lp_search_laws.proofs.RunsKeep.{Any, all_more}
+use Rattle.lp_search_laws.proofs.ClosedTerms.{closed_atom}
+use Rattle.lp_search_laws.proofs.RunsKeep.{Any}
 use Rattle.lp_search_laws.proofs.Stack.AllFine.{LeavesFine, all_fine}
 use Rattle.lp_search_laws.proofs.TypesOver.{each_more}
 use Rattle.lp_pattern_laws.specs.Patterns.{of_atom}
@@ -30,12 +38,14 @@ use Rattle.lp_pattern_laws.specs.Parts.{existentials}
 use Rattle.lp_pattern_laws.specs.Goals.{StaysPattern, IsPatternClause, IsTextAtom, IsWrittenText, IsTextClause, AreTextGoals}
 use Rattle.lp_pattern_laws.specs.Tasks.{IsPatternBranch}
 use Rattle.lp_pattern_laws.proofs.Carried.{carries_values}
+use Rattle.lp_pattern_laws.proofs.Comes.{of_term}
 use Rattle.lp_pattern_laws.proofs.GoalLists.{clause_more, goals_more, goals_entries as pattern_entries}
 use Rattle.lp_pattern_laws.proofs.GoalLooks.{branch_look}
 use Rattle.lp_pattern_laws.proofs.GoalsMapped.{open_kept}
 use Rattle.lp_pattern_laws.proofs.NoSigma.{Plain, others, goals_plain, program_plain}
+use Rattle.lp_pattern_laws.proofs.Opened.{text_opens}
 use Rattle.lp_pattern_laws.proofs.PatternTasks.{IsPatternTask, HasNoPair}
-use Rattle.lp_pattern_laws.proofs.TextStays.{text_stays}
+use Rattle.lp_pattern_laws.proofs.Staying.{opened_leads}
 use Rattle.lp_pattern_laws.proofs.Tried.{none_universal}
 use Rattle.lp_pattern_laws.proofs.TryLooks.{try_look}
 
@@ -49,7 +59,20 @@ text_level (logic x l) h = absurd h
 text_level (param k T) h = tt
 
 written_stays : (Γ : List Binder) (t : Term) → IsWrittenText Γ t → StaysPattern 0 Γ t
-written_stays Γ t h = text_stays 0 Γ t (h.0, all_more IsTextAtom (IsAtLevel 0) text_level t h.1)
+written_stays Γ t h = record {
+  within = within_more IsTextAtom (IsAtLevel 0) (length Γ) (length Γ) text_level (omega arith) t h.within;
+  opens = λ c v σ o. record {
+    form = instantiate σ (closed c h.form);
+    reduces = opened_leads c c (λ a. done (closed_atom c a)) σ σ (λ i. done (σ i)) t h.form h.reduces;
+    pattern = text_opens 0 Γ h.form (h.pattern, all_level (length Γ) h.form (within_reduces IsTextAtom (length Γ) h.reduces h.within)) c v σ o;
+  };
+}
+  where
+    all_level : (n : ℕ) (s : Term) → Within IsTextAtom n s → AllAtoms (IsAtLevel 0) s
+    all_level n (index i) w = tt
+    all_level n (atom a) w = text_level a w
+    all_level n (abs b) w = all_level (suc n) b w
+    all_level n (app x y) w = (all_level n x w.0, all_level n y w.1)
 
 texts_stay : (P : List Clause) → EachOf IsTextClause P → EachOf (IsPatternClause 0 []) P
 texts_stay P h = each_more IsTextClause (IsPatternClause 0 []) (λ c w. clause_more IsWrittenText (StaysPattern 0) written_stays [] c w) P h
@@ -83,7 +106,8 @@ module _ (n : ℕ) (d : Declared) (std : IsStandard d) (P : List Clause) (progra
   each_fine : (xs : List TypedTask) (ts : List Task) → map task_of xs ≡ ts → EachOf (IsOk n d P q) xs → EachOf IsPatternTask ts → EachOf IsOthers ts → EachOf IsFine ts
   each_fine xs ts e h p k = transport (EachOf IsFine) e (all_fine_here xs h (transport (EachOf IsPatternTask) (sym e) p) (transport (EachOf IsOthers) (sym e) k))
 
-  fine_view : (x : TypedTask) (v : View Task Answer) → IsRightView no_leaf n d P q x v → LeavesFine IsPatternTask HasNoPair v → IsKeptView Plain others Any AnyTypes (λ bs s ts h. tt) v → LeavesFine IsFine HasNoPair v
+  fine_view : (x : TypedTask) (v : View Task Answer) → IsRightView no_leaf n d P q x v → LeavesFine IsPatternTask HasNoPair v → IsKeptView Plain
+      others Any AnyTypes (λ bs s ts h. tt) v → LeavesFine IsFine HasNoPair v
   fine_view x (Gives a) r p k = p
   fine_view x (Opens ts) r p k = each_fine r.typed ts r.is r.ok p k
   fine_view x (Parts ts) r p k = each_fine r.typed ts r.is r.ok p k
@@ -103,7 +127,8 @@ module _ (n : ℕ) (d : Declared) (std : IsStandard d) (P : List Clause) (progra
       transport (λ U. LeavesFine IsFine HasNoPair (look unit_limit n P height U)) h.is
       (fine_look height h.typed h.ok (transport IsPatternTask (sym h.is) h.pattern) (transport IsOthers (sym h.is) h.others_only))
 
-module _ (d : Declared) (std : IsStandard d) (l : ℕ) (F : List ClauseFormula) (P : List Clause) (s : EachOf (IsTypedSentence d) F) (x : AreFlattened d F P) (q : Query) (gs : Goals) (t : IsTypedQuery d q) (e : flatten_query l d q.formula ≡ Some gs)
+module _ (d : Declared) (std : IsStandard d) (l : ℕ) (F : List ClauseFormula) (P : List Clause) (s : EachOf (IsTypedSentence d) F)
+    (x : AreFlattened d F P) (q : Query) (gs : Goals) (t : IsTypedQuery d q) (e : flatten_query l d q.formula ≡ Some gs)
     (texts : EachOf IsTextClause P) (text : AreTextGoals (existentials q.vars) gs) where
   abbrev put_in : ℕ → Term
   put_in i = atom (logic (length q.vars - suc i) 0)
@@ -111,9 +136,11 @@ module _ (d : Declared) (std : IsStandard d) (l : ℕ) (F : List ClauseFormula) 
   first_pattern : IsPatternBranch (first_branch q.type_vars (length q.vars) gs)
   first_pattern =
       let less : 0 ≤ 0 = omega arith in
-      let c = carries_values 0 (existentials q.vars) (none_universal q.vars) put_in (λ i b. (of_atom (logic (length q.vars - suc i) 0), less)) in
+      let c = carries_values 0 (existentials q.vars) (none_universal q.vars) put_in (λ i. (of_term (of_atom (logic (length q.vars - suc i) 0)), less)) in
       record {
-        entries = pattern_entries (instantiate_goals put_in gs) [] nothing_written 0 0 (open_kept 0 0 less (existentials q.vars) [] put_in c gs (goals_more IsWrittenText (StaysPattern 0) written_stays (existentials q.vars) gs text)) tt;
+        entries = pattern_entries (instantiate_goals put_in gs) [] nothing_written 0 0
+            (open_kept 0 0 less (existentials q.vars) [] put_in c gs (goals_more IsWrittenText (StaysPattern 0) written_stays (existentials q.vars) gs
+            text)) tt;
         pairs = refl;
       }
 

@@ -1,5 +1,5 @@
 -- Tasks of the search that are pattern text, and what a unification leaves of them.
-use Rattle.std.proofs.Common.{◌≡◌, ℕ, List, [], map, length, Option, Some, None, ◌∙◌, refl, sym, subst as transport}
+use Rattle.std.proofs.Common.{◌≡◌, ℕ, List, [], length, Option, Some, None, ◌∙◌, refl, sym, subst as transport}
 use Rattle.lp_calculus.specs.Types.{Ty}
 use Rattle.lp_calculus.specs.Term.{Term}
 use Rattle.lp_lemmas.specs.Each.{EachOf}
@@ -52,6 +52,8 @@ followed n d V b eqs ps next long typed patterns h = go (solve n unit_limit eqs 
         let θ = types_of s.types in
         let ty = types_satisfy_themselves n unit_limit eqs ps b.pairs next s e in
         let count : next ≡ length (variables_of θ V) = sym long ∙ sym (length_map (instance_variable θ) V) in
-        let solved : solve n unit_limit eqs ps [] (length (variables_of θ V)) ≡ Some (Solution s) = transport (λ m. solve n unit_limit eqs ps [] m ≡ Some (Solution s)) count (transport (λ ds. solve n unit_limit eqs ps ds next ≡ Some (Solution s)) h.pairs e) in
+        let solved : solve n unit_limit eqs ps [] (length (variables_of θ V)) ≡ Some (Solution s) = transport
+        (λ m. solve n unit_limit eqs ps [] m ≡ Some (Solution s)) count (transport (λ ds. solve n unit_limit eqs ps ds next ≡ Some (Solution s))
+        h.pairs e) in
         let r = solve_well θ d (variables_of θ V) n unit_limit eqs ps s (λ u. (typed θ u, ([], tt))) patterns solved ty.0 in
         (resumed_kept b s h.entries r.0 r.1, tt)

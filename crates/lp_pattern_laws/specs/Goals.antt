@@ -1,25 +1,25 @@
 -- Flattened goals and clauses of pattern text, as they are written and while a search goes on.
 use Rattle.std.specs.Prelude.{◌≢◌, ℕ, List, [], ◌∷◌, ◌++◌, length}
 use Rattle.lp_calculus.specs.Term.{Term, Atom, constant, integer, text, eigen, logic, param}
-use Rattle.lp_calculus.specs.Closed.{AllAtoms}
+use Rattle.lp_calculus.specs.Convert.{ReducesTo}
 use Rattle.lp_calculus.specs.Fill.{Binding, Within}
 use Rattle.lp_standard.specs.Numbers as number
 use Rattle.lp_model.specs.Flat.{Goal, Atomic, Cut, Either, Exists, Forall, Assume, Not, Goals, no_goals, goals, Clause, clause, Clauses, no_clauses, clauses}
 use Rattle.lp_model.specs.Index.{instantiate}
 use Rattle.lp_model.specs.Pair.{Closing, closed}
-use Rattle.lp_pattern_laws.specs.Patterns.{IsPatternTerm}
+use Rattle.lp_pattern_laws.specs.Patterns.{IsPattern}
 use Rattle.lp_pattern_laws.specs.Binders.{Binder, universal, existential, IsPatternIn, IsAtLevel, IsOpening, HasPatternValues}
 use Rattle.lp_pattern_laws.specs.Parts.{existentials}
 
--- a value for a variable: a closed pattern term without variables and eigenconstants above the variable's level
+-- a value for a variable: it reduces to a pattern term, and is closed, without variables and eigenconstants above the variable's level
 pub record IsPatternValue (b : Binding) : Type 0 where
-  pub pattern : IsPatternTerm b.value
+  pub pattern : IsPattern b.value
   pub level : Within (IsAtLevel b.level) 0 b.value
 
--- a term at a level, below such binders, that is a pattern term as soon as it is opened, whatever its variables have got
+-- a term at a level, below such binders, that reduces to a pattern term as soon as it is opened, whatever its variables have got
 pub record StaysPattern (l : ℕ) (Γ : List Binder) (t : Term) : Type 0 where
   pub within : Within (IsAtLevel l) (length Γ) t
-  pub opens : (c : Closing) → HasPatternValues c → (σ : ℕ → Term) → IsOpening l Γ σ → IsPatternTerm (instantiate σ (closed c t))
+  pub opens : (c : Closing) → HasPatternValues c → (σ : ℕ → Term) → IsOpening l Γ σ → IsPattern (instantiate σ (closed c t))
 
 -- each atom of goals, and each head of clauses, is S of the binders around it; `sigma` and clauses bind existential variables, `pi` binds universal ones
 abbrev mutual
@@ -43,7 +43,7 @@ abbrev mutual
   AreClausesOf S Γ no_clauses = Unit {0}
   AreClausesOf S Γ (clauses c cs) = IsClauseOf S Γ c × AreClausesOf S Γ cs
 
--- goals whose atoms, and clauses whose heads too, stay pattern terms
+-- goals whose atoms, and clauses whose heads too, are such terms
 abbrev pub IsPatternGoal : (level : ℕ) → (binders : List Binder) → Goal → Type 0
 IsPatternGoal l Γ g = IsGoalOf (StaysPattern l) Γ g
 
@@ -65,9 +65,12 @@ IsTextAtom (eigen k) = ⊥
 IsTextAtom (logic x l) = ⊥
 IsTextAtom (param k T) = Unit {0}
 
--- pattern text as it is written
-abbrev pub IsWrittenText : (binders : List Binder) → Term → Type 0
-IsWrittenText Γ t = IsPatternIn Γ t × AllAtoms IsTextAtom t
+-- pattern text as it is written: it reduces to pattern text
+pub record IsWrittenText (Γ : List Binder) (t : Term) : Type 0 where
+  pub within : Within IsTextAtom (length Γ) t
+  pub form : Term
+  pub reduces : ReducesTo t form
+  pub pattern : IsPatternIn Γ form
 
 -- flattened clauses and goals of pattern text as they are written
 abbrev pub IsTextClause : Clause → Type 0
