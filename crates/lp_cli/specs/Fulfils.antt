@@ -16,13 +16,13 @@ use Rattle.lp_words.specs.declared.asked.Options.{Options}
 abbrev pub IsWhole : Option Held → (name query : List ℕ) → Options → Type 0
 IsWhole told name query options = (is_plain options ≡ false) ⊎ ((held : Held) × (told ≡ Some held) × (order_of name query held ≡ Beyond))
 
--- what is written of such a query: the line of the first refusal, or what the search tells; where the output fails, a beginning of that
+-- what is written of such a query: the line of a refusal, or the lines of answers and the last line; where the output fails, a beginning of that
 pub record Solves (told : Option Held) (name query : List ℕ) (options : Options) (before after : Option (List ℕ)) (result : Status) : Type 0 where
   pub writes : IsWhole told name query options → result ≢ variant.WriteFault → WritesSolved told name query options.watch result before after
   pub begins : IsWhole told name query options → result ≡ variant.WriteFault → BeginsSolved told name query options.watch before after
 
 -- A verdict on the texts of a module and a query is right; so is one on certificates over the program of a module; where certificates are written, they are proofs from that program; and where a file
--- of a module is written, its bytes are of the kind that is asked for. Of a query on texts the lines of answers are those that its search tells. Of a search on an image nothing is said here.
+-- of a module is written, its bytes are of the kind that is asked for. Of a query on texts each answer is shown by its definition; which answers these are is not said. Of a search on an image nothing is said here.
 abbrev pub Fulfils : (told now : Option Held) → (before after : Option (List ℕ)) → Asked → Status → Type 0
 Fulfils told now before after (lambda name query) result = Judges told name query before after result
 Fulfils told now before after (check name query) result = Checks told name query before after result

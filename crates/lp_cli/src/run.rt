@@ -141,7 +141,7 @@ pub fn run<F: Folder, K: Sink>(
     // A command that writes a file leaves all others as they are, and after a refusal this one too.
     ensures leaves { (command : FileCommand) (name : List ℕ) → asked (map string_bytes words.now) ≡ Some (OnFiles command name)
         → Leaves F.write_faults F.held K.faults K.written folder.old folder.new out.old out.new (name ++ ending_of command) (done_line command (name ++ ending_of command)) result }
-    // What a command says of texts, certificates and files is true of them; of a query on texts the refusal, or what its search tells, is written.
+    // What a command says of texts, certificates and files is true of them; of a query on texts a refusal, or lines of answers and the last line, are written.
     ensures fulfils { (a : Asking) → asked (map string_bytes words.now) ≡ Some a → Fulfils (F.held folder.old) (F.held folder.new) (K.written out.old) (K.written out.new) a result }
     ensures certifies { (name query : List ℕ) (options : Options) → asked (map string_bytes words.now) ≡ Some (Proving name query options)
         → Proves F.write_faults F.held K.faults K.written folder.old folder.new out.old out.new name result }

@@ -4,6 +4,8 @@ pub mod Orders
 mod Progress
 mod Searched
 mod Telling
+mod Lines
+mod Answering
 mod Refused
 mod Naming
 mod Beyond

@@ -1,4 +1,4 @@
--- The first refusal of a query, and a search that is ready, as the stages give them.
+-- A refusal of a query, and a search that is ready, as the stages give them.
 use Rattle.std.proofs.Common.{◌≡◌, ◌≢◌, ℕ, List, Option, Bool, refl, ap, ◌∙◌, subst, sym, map, length}
 use Rattle.std.proofs.lemmas.List.{length-map}
 use Rattle.std.specs.Prelude.{IfErr, Result, Ok, Err, codes}
@@ -13,8 +13,10 @@ use Rattle.lp_lines.specs.Placed.{IsOfText, IfSource}
 use Rattle.lp_lines.specs.Refusals.{IsTextRefusal, line_of, status_of}
 use Rattle.lp_lines.specs.declared.refusal.Refusal.{Refusal}
 use Rattle.lp_load.specs.Loaded.{IsLoaded}
-use Rattle.lp_solve.specs.Solved.{BeginsSearch, BeginsSolved, IsReady, IsRefusal, WritesSearch, WritesSolved, a_line, a_search, of_query, refused, searched}
-use Rattle.lp_solve.specs.Shown.{IsShownWith, all_constants, constants_in, constants_shown, names_in}
+use Rattle.lp_solve.specs.Solved.{BeginsSolved, IsRefusal, WritesSolved, answered, of_query, refused}
+use Rattle.lp_solve.specs.inner.Searched.{BeginsSearch, IsReady, WritesSearch}
+use Rattle.lp_solve.proofs.Answering.{some_search}
+use Rattle.lp_solve.specs.Shown.{IsShownWith, all_constants, constants_in, constants_shown, names_in, names_written}
 use Rattle.lp_solve.specs.declared.prepare.Prepared.{Prepared}
 use Rattle.lp_solve.specs.declared.shown.Shown.{Shown}
 
@@ -41,17 +43,22 @@ module _ (told : Option Held) (name query : List ℕ) (watched : Bool) (status :
   line_written r is h n = let k = h n in record { text = line_of r; is = refused r is k.0 refl; appended = k.1 }
 
   pub line_begun : (r : Refusal) → IsRefusal told name query r → (status ≡ variant.WriteFault → AppendsPrefix a b (line_of r)) → status ≡ variant.WriteFault → BeginsSolved told name query watched a b
-  line_begun r is h e = a_line r is (h e)
+  line_begun r is h e = record { status = status_of r; text = line_of r; is = refused r is refl refl; appended = h e }
 
   pub search_solved : (p : Prepared) → IsReady told name query p → (status ≢ variant.WriteFault → WritesSearch (constants_in p.shown)
       (names_in p.shown) watched p.search status a b) → status ≢ variant.WriteFault → WritesSolved told name query watched status a b
   search_solved p ready h n =
-      let w = subst (λ ns. WritesSearch (all_constants ready.built) ns watched p.search status a b) ready.shown.names
+      let q = ready.asks in
+      let w = subst (λ ns. WritesSearch (all_constants q.built) ns watched p.search status a b) ready.shown.names
       (subst (λ es. WritesSearch es (names_in p.shown) watched p.search status a b) ready.shown.constants (h n)) in
-      record { text = w.text; is = searched p ready w.is; appended = w.appended }
+      let x = some_search (all_constants q.built) (names_written query q.typed) watched p.search status w.text w.is in
+      record { text = w.text; is = answered q (record { search = x.0; written = x.1 }); appended = w.appended }
 
   pub search_begun : (p : Prepared) → IsReady told name query p → (status ≡ variant.WriteFault → BeginsSearch (constants_in p.shown)
       (names_in p.shown) watched p.search a b) → status ≡ variant.WriteFault → BeginsSolved told name query watched a b
   search_begun p ready h e =
-      a_search p ready (subst (λ ns. BeginsSearch (all_constants ready.built) ns watched p.search a b) ready.shown.names
-      (subst (λ es. BeginsSearch es (names_in p.shown) watched p.search a b) ready.shown.constants (h e)))
+      let q = ready.asks in
+      let w = subst (λ ns. BeginsSearch (all_constants q.built) ns watched p.search a b) ready.shown.names
+      (subst (λ es. BeginsSearch es (names_in p.shown) watched p.search a b) ready.shown.constants (h e)) in
+      let x = some_search (all_constants q.built) (names_written query q.typed) watched p.search w.status w.text w.is in
+      record { status = w.status; text = w.text; is = answered q (record { search = x.0; written = x.1 }); appended = w.appended }

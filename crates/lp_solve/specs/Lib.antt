@@ -7,5 +7,6 @@ pub mod Prepared
 pub mod Schemes
 pub mod Sources
 pub mod Shown
-pub mod Events
+pub mod Written
 pub mod Solved
+pub mod inner

@@ -6,10 +6,12 @@ ghost use Rattle.lp_lines.specs.Ends.{KeepsFiles, Ran};
 ghost use Rattle.lp_lines.specs.Lines.{ending_line, is_of_search};
 ghost use Rattle.lp_load.specs.Placed.{WritesPlaced};
 ghost use Rattle.lp_plain.specs.Held.{variables_of};
-ghost use Rattle.lp_solve.specs.Events.{Ends, IsPiece, IsTold};
 ghost use Rattle.lp_solve.specs.Prepared.{IsPrepared};
 ghost use Rattle.lp_solve.specs.Shown.{constants_in, names_in};
-ghost use Rattle.lp_solve.specs.Solved.{BeginsLast, BeginsSearch, BeginsSolved, MayReport, WritesLast, WritesSearch, WritesSolved};
+ghost use Rattle.lp_solve.specs.Solved.{BeginsSolved, WritesSolved};
+ghost use Rattle.lp_solve.specs.Written.{MayReport};
+ghost use Rattle.lp_solve.specs.inner.Events.{Ends, IsPiece, IsTold};
+ghost use Rattle.lp_solve.specs.inner.Searched.{BeginsLast, BeginsSearch, WritesLast, WritesSearch};
 
 use crate::piece::Piece;
 use crate::prepare::{Prepared, Question, prepare};

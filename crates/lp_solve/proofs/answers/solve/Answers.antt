@@ -40,13 +40,13 @@ pub returns-in-Err-clause-writes : goal.returns-in-Err-clause-writes
 returns-in-Err-clause-writes g c =
     λ known. line_written (g.F.Folder.held c.args.folder.now) c.args.question.name.now c.args.question.query.now c.args.watched c.tell.result
     (g.K.Sink.written c.args.out.now) (g.K.Sink.written c.tell.new.out)
-    c.in-Err.refusal (c.in-Err.ensures.first known) c.tell.ensures.said
+    c.in-Err.refusal (c.in-Err.ensures.refusal known) c.tell.ensures.said
 
 pub returns-in-Err-clause-begins : goal.returns-in-Err-clause-begins
 returns-in-Err-clause-begins g c =
     λ known. line_begun (g.F.Folder.held c.args.folder.now) c.args.question.name.now c.args.question.query.now c.args.watched c.tell.result
     (g.K.Sink.written c.args.out.now) (g.K.Sink.written c.tell.new.out)
-    c.in-Err.refusal (c.in-Err.ensures.first known) c.tell.ensures.prefix
+    c.in-Err.refusal (c.in-Err.ensures.refusal known) c.tell.ensures.prefix
 
 pub returns-in-Err-clause-ran : goal.returns-in-Err-clause-ran
 returns-in-Err-clause-ran g c = ran_told c.in-Err.refusal c.tell.result c.in-Err.ensures.looked c.tell.ensures.said c.tell.ensures.prefix

@@ -18,13 +18,14 @@ returns-clause-ready c =
     let same = c.as_bytes-text.ensures.value in
     let query = c.args.question.query.now in
     record {
-      built = old;
-      loaded = loaded;
-      bank = now.assembled.program.bank;
-      grown = c.in-Ok.ensures.kept;
-      typed = typed;
-      asked = subst (λ t. IsAsked old.table old.signature t now.assembled.program.bank typed) same c.in-Ok.ensures.asked;
-      begun = c.in_ok-search.ensures.query;
+      asks = record {
+        built = old;
+        loaded = loaded;
+        bank = now.assembled.program.bank;
+        grown = c.in-Ok.ensures.kept;
+        typed = typed;
+        asked = subst (λ t. IsAsked old.table old.signature t now.assembled.program.bank typed) same c.in-Ok.ensures.asked;
+      };
       shown = shown_before query typed old now c.in_ok-shown.shown c.in-Ok.ensures.signature c.in-Ok.ensures.names
           (subst (λ t. IsShownWith t typed now c.in_ok-shown.shown) same c.in_ok-shown.ensures);
     }

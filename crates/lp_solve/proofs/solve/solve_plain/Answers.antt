@@ -8,7 +8,7 @@ use Rattle.lp_load.specs.Placed.{WritesPlaced}
 use Rattle.lp_solve.specs.Order.{order_of}
 use Rattle.lp_solve.proofs.Orders.{beyond_began, beyond_fault, beyond_told, refusal_began, refusal_fault, refusal_not_source, refusal_told, searched_began, searched_told}
 use Rattle.lp_solve.specs.Solved.{BeginsSolved, WritesSolved}
-use Rattle.lp_solve.proofs.Beyond.{first_refusal, not_meant}
+use Rattle.lp_solve.proofs.Beyond.{is_refusal, not_meant}
 use Rattle.lp_solve.proofs.Refused.{line_begun, line_written}
 use Rattle.lp_solve.proofs.Searched.{search_ends_so, search_grows}
 use Rattle.lp_solve.proofs.solve.solve_plain.Goals as goal
@@ -125,12 +125,12 @@ pub returns-in-Err-clause-writes : goal.returns-in-Err-clause-writes
 returns-in-Err-clause-writes g c =
     λ held told beyond. line_written (g.F.Folder.held c.args.folder.now) c.args.name.now c.args.query.now false c.tell.result
     (g.K.Sink.written c.args.out.now) (g.K.Sink.written c.tell.new.out) c.in-Err.refusal
-    (first_refusal (g.F.Folder.held c.args.folder.now) c.args.name.now c.args.query.now held (order_of c.args.name.now c.args.query.now)
+    (is_refusal (g.F.Folder.held c.args.folder.now) c.args.name.now c.args.query.now held (order_of c.args.name.now c.args.query.now)
     c.in-Err.refusal told beyond c.in-Err.ensures.loads) c.tell.ensures.said
 
 pub returns-in-Err-clause-begins : goal.returns-in-Err-clause-begins
 returns-in-Err-clause-begins g c =
     λ held told beyond. line_begun (g.F.Folder.held c.args.folder.now) c.args.name.now c.args.query.now false c.tell.result
     (g.K.Sink.written c.args.out.now) (g.K.Sink.written c.tell.new.out) c.in-Err.refusal
-    (first_refusal (g.F.Folder.held c.args.folder.now) c.args.name.now c.args.query.now held (order_of c.args.name.now c.args.query.now)
+    (is_refusal (g.F.Folder.held c.args.folder.now) c.args.name.now c.args.query.now held (order_of c.args.name.now c.args.query.now)
     c.in-Err.refusal told beyond c.in-Err.ensures.loads) c.tell.ensures.prefix
