@@ -13,6 +13,7 @@ use Rattle.lp_plain.specs.declared.choice.Choice.{Choice}
 use Rattle.lp_plain.specs.declared.choice.Denial.{Denial}
 use Rattle.lp_plain.specs.declared.machine.Machine.{Machine}
 use Rattle.lp_plain.specs.Assuming.{Lists}
+use Rattle.lp_plain.specs.Denials.{searching_as, waiting_query}
 use Rattle.lp_plain.specs.Entries.{Around, IsChoiceAt}
 use Rattle.lp_plain.specs.Followed.{IsClauseWritten}
 use Rattle.lp_plain.specs.Moving.{AreAlternatives, AreBoundInTurn, AreCandidatesOf, AreClausesWritten, AreOuter, HasAlternatives, IsAlternative, IsOuter, IsTasksOf, Query, Waiting, mark_in, of_call, of_side, outer_choices, way_back}
@@ -27,9 +28,8 @@ use Rattle.lp_plain.proofs.Inside.{all_carried}
 use Rattle.lp_plain.proofs.QuietMoves.{drop_push, stack_push}
 
 module _ (m x : Machine) where
-  -- the search with the alternatives, the search at work and the counts of another one
   abbrev pub elsewhere : Machine
-  elsewhere = record m { choices = x.choices; denied = x.denied; counts = x.counts }
+  elsewhere = searching_as m x
 
   module _ (a : Around) where
     kept_else : (c : Choice) → IsKept m a c → IsKept elsewhere a c
@@ -128,7 +128,7 @@ module _ (qv : Query) (m x : Machine) (a : Around) (stack : List Task) (h : HasA
   n = elsewhere m x
 
   abbrev pub outer_query : Query
-  outer_query = record { types = w.types; vars = w.vars; arity = qv.arity; outer = ws }
+  outer_query = waiting_query qv.arity w ws
 
   abbrev b : ℕ
   b = base_of d.around
@@ -194,7 +194,7 @@ module _ (qv : Query) (m x : Machine) (a : Around) (stack : List Task) (h : HasA
   here = elsewhere m x
 
   abbrev pub back_query : Query
-  back_query = record { types = w.types; vars = w.vars; arity = qv.arity; outer = ws }
+  back_query = waiting_query qv.arity w ws
 
   abbrev base_is : ℕ
   base_is = base_of d.around

@@ -158,3 +158,8 @@ pub mod ProgramTypes
 pub mod ProgramsWritten
 pub mod KnownPrograms
 pub mod TypedPrograms
+mod ClosingTests
+mod OpenTests
+mod DenyBegins
+mod DenyTurns
+mod DenyFirst

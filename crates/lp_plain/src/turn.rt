@@ -17,6 +17,7 @@ ghost use Rattle.lp_term.specs.Nodes.{Nodes, tree};
 ghost use Rattle.lp_model.specs.Connected.{connective_in};
 ghost use Rattle.lp_plain.specs.AtRunTime.{AreWrittenGoals, HasNoCall, IsAtomFirst, IsAtomForm, IsAtomOrNoForm, IsAtTerm, IsWrittenFlat};
 ghost use Rattle.lp_plain.specs.Calling.{IsCallable, IsFirstIn, LeadsOf, TermTurns};
+ghost use Rattle.lp_plain.specs.Denials.{IsDeniedFirst, IsHeldBy, IsRefutedBy, TakesDenied};
 ghost use Rattle.lp_plain.specs.Entries.{Around, KeepsGoals};
 ghost use Rattle.lp_plain.specs.Forms.{StandsForm};
 ghost use Rattle.lp_plain.specs.Marks.{AreMarked, IsMarked, Marks, PutsAside, PutsMarks, SetsAside};
@@ -60,6 +61,7 @@ fn take_flat<W: Watch>(
     ensures counted { IfOk result (λ turn. IsApartFlat goal → IsApart turn machine.old.counts machine.new.counts) }
     ensures moved { IfOk result (λ turn. (qv : Query) (a : Around) (raw : Branch) (s : State Task) → IsRunning qv machine.old a raw s → IsAtGoal machine.old a place goal behind raw → IsPlainFirst raw.goals → MovesTo qv turn machine.new s) }
     ensures leads { IfOk result (λ turn. (qv : Query) (a : Around) (raw : Branch) (s : State Task) (h : IsRunning qv machine.old a raw s) → IsAtGoal machine.old a place goal behind raw → IsAtomFirst raw.goals → IsWrittenFlat machine.old qv.arity place goal → HasNoCall h.at_work.goals → LeadsTo 1 qv turn machine.new s) }
+    ensures denies { IfOk result (λ turn. (qv : Query) (a : Around) (raw : Branch) (s : State Task) (h : IsRunning qv machine.old a raw s) → IsAtGoal machine.old a place goal behind raw → IsDeniedFirst raw.goals → TakesDenied turn qv machine.new s h.at_work.goals) }
     ensures calls { IfOk result (λ turn. (qv : Query) (a : Around) (raw : Branch) (s : State Task) (h : IsRunning qv machine.old a raw s) → IsAtGoal machine.old a place goal behind raw → IsAtomFirst raw.goals → IsWrittenFlat machine.old qv.arity place goal → IsCallable h.at_work.goals → LeadsOf machine.old machine.new qv turn s) }
 {
     match goal {
@@ -156,6 +158,7 @@ fn take_first<W: Watch>(
     ensures counted { IfOk result (λ turn. (hs : Goals) → goals.from < goals.to → AreGoals machine.old.bank Never (shown machine.old.table) goals.from goals.to hs → FirstIsApart hs → IsApart turn machine.old.counts machine.new.counts) }
     ensures moved { IfOk result (λ turn. (qv : Query) (a : Around) (raw : Branch) (s : State Task) → IsRunning qv machine.old a raw s → IsAtGoals machine.old a place goals behind raw → IsPlainFirst raw.goals → MovesTo qv turn machine.new s) }
     ensures leads { IfOk result (λ turn. (qv : Query) (a : Around) (raw : Branch) (s : State Task) (h : IsRunning qv machine.old a raw s) → IsAtGoals machine.old a place goals behind raw → IsAtomFirst raw.goals → AreWrittenGoals machine.old qv.arity place goals → HasNoCall h.at_work.goals → LeadsTo 1 qv turn machine.new s) }
+    ensures denies { IfOk result (λ turn. (qv : Query) (a : Around) (raw : Branch) (s : State Task) (h : IsRunning qv machine.old a raw s) → IsAtGoals machine.old a place goals behind raw → IsDeniedFirst raw.goals → TakesDenied turn qv machine.new s h.at_work.goals) }
     ensures calls { IfOk result (λ turn. (qv : Query) (a : Around) (raw : Branch) (s : State Task) (h : IsRunning qv machine.old a raw s) → IsAtGoals machine.old a place goals behind raw → IsAtomFirst raw.goals → AreWrittenGoals machine.old qv.arity place goals → IsCallable h.at_work.goals → LeadsOf machine.old machine.new qv turn s) }
 {
     let goal = machine.table.goal(goals.from)?;
@@ -190,6 +193,8 @@ pub(crate) fn take_goal<W: Watch>(
     ensures moved { IfOk result (λ turn. (qv : Query) (s : State Task) (h : IsState qv machine.old s) → IsPlainFirst h.raw.goals → MovesTo qv turn machine.new s) }
     ensures stands { IfOk result (λ turn. (c : Course) → Stands c Turn.On machine.old → Stands c turn machine.new) }
     ensures leads { IfOk result (λ turn. (qv : Query) (s : State Task) (h : IsState qv machine.old s) → IsAtomFirst h.raw.goals → IsWrittenSearch machine.old qv.arity → HasNoCall h.running.at_work.goals → LeadsTo 1 qv turn machine.new s) }
+    ensures denies { IfOk result (λ turn. (qv : Query) (s : State Task) (h : IsState qv machine.old s) → IsDeniedFirst h.raw.goals → TakesDenied turn qv machine.new s h.running.at_work.goals) }
+    ensures held { IfOk result (λ turn. (qv : Query) (s : State Task) → IsState qv machine.old s → machine.old.branch.goals ≡ None → (number : ℕ) → machine.old.denied ≡ Some number → IsHeldBy qv turn machine.new s) }
     ensures calls { IfOk result (λ turn. (qv : Query) (s : State Task) (h : IsState qv machine.old s) → IsAtomFirst h.raw.goals → IsWrittenSearch machine.old qv.arity → IsCallable h.running.at_work.goals → LeadsOf machine.old machine.new qv turn s) }
 {
     let Some(number) = machine.branch.goals else {
@@ -250,6 +255,7 @@ pub(crate) fn go_back(machine: &mut Machine) -> Result<Turn, Memory>
     ensures tries_written { OnOk result ((c : Choice) (rest : List Choice) (call : Called) (one : Tried) → machine.old.choices.items ≡ rest ++ c ∷ [] → c.untried ≡ Untried.Clauses call one → base_of machine.old.denied ≤ length rest → (qv : Query) (s : State Task) → IsBack qv machine.old s →
         IsWrittenSearch machine.old qv.arity → IsWrittenSearch machine.new qv.arity) }
     ensures denied_written { OnOk result ((c : Choice) (rest : List Choice) (d : Denial) → machine.old.choices.items ≡ rest ++ c ∷ [] → c.untried ≡ Untried.Denied d → (ar : ℕ → ℕ) → IsWrittenSearch machine.old ar → IsWrittenSearch machine.new ar) }
+    ensures refuted { IfOk result (λ turn. (c : Choice) (rest : List Choice) (d : Denial) → machine.old.choices.items ≡ rest ++ c ∷ [] → c.untried ≡ Untried.Denied d → (qv : Query) (s : State Task) → IsBack qv machine.old s → IsRefutedBy qv turn machine.new s) }
     ensures ends { IfOk result (λ turn. machine.old.choices.items ≡ [] → (a : Around) (s : State Task) → IsBackOf machine.old a s → EndsSo turn machine.old.counts.lost s) }
     ensures stands { IfOk result (λ turn. (c : Course) → Stands c Turn.Back machine.old → Stands c turn machine.new) }
 {

@@ -10,6 +10,7 @@ use Rattle.lp_plain.proofs.Treated.{has_last, has_none, inner_turn, last_of, non
 use Rattle.lp_plain.proofs.BackMoves.{none_moved, side_state}
 use Rattle.lp_plain.proofs.WrittenFirst.{back_written}
 use Rattle.lp_plain.proofs.WrittenSearches.{search_back}
+use Rattle.lp_plain.proofs.RefutedMoves.{by_end}
 use Rattle.lp_plain.proofs.turn.go_back.Goals as goal
 
 pub returns-in_ok-go_right-in-Goals-clause-goes : goal.returns-in_ok-go_right-in-Goals-clause-goes
@@ -298,3 +299,29 @@ returns-in_ok-go_right-in-Goals-clause-denied_written c = λ k rest d e u ar w.
     let z = t.0 in
     let y = c.in-Goals.is in
     absurd (cc)
+
+pub returns-then-machine-clause-refuted : goal.returns-then-machine-clause-refuted
+returns-then-machine-clause-refuted c = λ k rest d e u. absurd (let z = (c.in_ok-untried.ensures.taken k rest e).0 in let w = c.in_default.is in cc)
+
+pub returns-in_default-clause-refuted : goal.returns-in_default-clause-refuted
+returns-in_default-clause-refuted c = λ k rest d e u. absurd (let z = (c.in_ok-untried.ensures.taken k rest e).0 in let w = c.in_default.is in cc)
+
+pub returns-in_ok-go_right-in-Goals-clause-refuted : goal.returns-in_ok-go_right-in-Goals-clause-refuted
+returns-in_ok-go_right-in-Goals-clause-refuted c = λ k rest d e u.
+    let z = (c.in_ok-untried.ensures.taken k rest e).0 in
+    let y = c.in-Goals.is in
+    absurd (cc)
+
+pub returns-in_ok-turn-in-Clauses-clause-refuted : goal.returns-in_ok-turn-in-Clauses-clause-refuted
+returns-in_ok-turn-in-Clauses-clause-refuted c = λ k rest d e u.
+    let z = (c.in_ok-untried.ensures.taken k rest e).0 in
+    let y = c.in-Clauses.is in
+    absurd (cc)
+
+pub returns-in-Denied-clause-refuted : goal.returns-in-Denied-clause-refuted
+returns-in-Denied-clause-refuted c = λ k rest d e u qv s h.
+    let m = c.args.machine.now in
+    let t = c.in_ok-untried.ensures.taken k rest e in
+    let v : k.untried ≡ Untried.Denied c.in-Denied.denial = (let z = t.0 in let y = c.in-Denied.is in let x = c.in-Some.is in cc) in
+    let r = c.end_denial.ensures in
+    by_end qv m s h k rest e c.take_choice.new.self t.1 c.end_denial.new.machine c.in-Denied.denial v r.only c.end_denial.result c.take_choice.new.self.counts.lost refl (ap (λ z. z.lost) (sym t.1.counts)) r.cut r.holds

@@ -15,6 +15,7 @@ use Rattle.lp_plain.specs.declared.frame.Todo.{Todo}
 use Rattle.lp_plain.specs.declared.table.Span.{Span}
 use Rattle.lp_plain.specs.Calling.{IsCallable}
 use Rattle.lp_plain.proofs.CallTerms.{framed_program, framed_written, rest_written}
+use Rattle.lp_plain.specs.Denials.{TakesDenied}
 use Rattle.lp_plain.proofs.turn.take_first.Goals as goal
 
 pub returns-then-second-goals-clause-taken : goal.returns-then-second-goals-clause-taken
@@ -125,3 +126,20 @@ returns-clause-calls g c = λ qv a raw s h at af w callable css pr sw.
     (at_more m q a p c.args.goals others c.args.behind c.in_ok-rest.rest raw c.in_ok-goal.goal c.in_ok-goal.ensures later refl f.goals f.assumed f.reads at) af
     (flat_framed m q f.goals qv.arity p c.in_ok-goal.goal (first_written m qv.arity p c.args.goals c.in_ok-goal.goal c.in_ok-goal.ensures at.some w))
     (subst (λ (z : Branch). IsCallable z.goals) (sym (framed_work qv m q a p raw s f.goals f.course f.assumed f.frame st at.place h)) callable) css (framed_program m q f.goals qv.arity css pr) (framed_written m q f.goals f.assumed qv.arity frame f.pushed w' sw)
+
+pub returns-then-second-goals-clause-denies : goal.returns-then-second-goals-clause-denies
+returns-then-second-goals-clause-denies g c = λ qv a raw s h at df.
+    let m = c.args.machine.now in
+    c.in_ok-turn.ensures.denies qv a raw s h (at_last m a c.args.place c.args.goals c.args.behind raw c.in_ok-goal.goal c.in_ok-goal.ensures (omega (arith, c.if-second-goals.true, c.in-Some.ensures.1)) at) df
+
+pub returns-clause-denies : goal.returns-clause-denies
+returns-clause-denies g c = λ qv a raw s h at df.
+    let m = c.args.machine.now in
+    let q = c.put_frame.new.self in
+    let p = c.args.place in
+    let f = c.in_ok-rest.ensures in
+    let st = f.stands c.if-second-goals.false h.above.done.stands in
+    subst (λ (z : Branch). TakesDenied c.in_ok-turn-2.turn qv c.take_flat-2.new.machine s z.goals) (framed_work qv m q a p raw s f.goals f.course f.assumed f.frame st at.place h)
+    (c.in_ok-turn-2.ensures.denies qv a raw s (running_framed qv m q a p raw s f.goals f.course f.assumed f.frame st at.place h)
+    (at_more m q a p c.args.goals (record { from = c.in-Some.second; to = c.args.goals.to }) c.args.behind c.in_ok-rest.rest raw c.in_ok-goal.goal c.in_ok-goal.ensures (c.in-Some.ensures.1 ∙ add-one c.args.goals.from) refl
+    f.goals f.assumed f.reads at) df)

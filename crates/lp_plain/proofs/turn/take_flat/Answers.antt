@@ -11,6 +11,7 @@ use Rattle.lp_plain.proofs.AtomAtHand.{instance_at, no_atom_first}
 use Rattle.lp_plain.proofs.LookedOn.{running_on, work_on}
 use Rattle.lp_plain.specs.Calling.{IsCallable}
 use Rattle.lp_plain.proofs.CallTerms.{only_program, only_written}
+use Rattle.lp_plain.proofs.DenyFirst.{no_denied_first}
 use Rattle.lp_plain.proofs.turn.take_flat.Goals as goal
 
 pub returns-in_ok-turn-in-Atom-clause-taken : goal.returns-in_ok-turn-in-Atom-clause-taken
@@ -136,3 +137,21 @@ returns-in_ok-turn-in-Not-clause-calls g c = λ qv a raw s h at af w callable cs
 pub returns-in_ok-turn-in_default-clause-calls : goal.returns-in_ok-turn-in_default-clause-calls
 returns-in_ok-turn-in_default-clause-calls g c = λ qv a raw s h at af w callable css pr sw.
     absurd (no_atom_first c.args.machine.now a c.args.place c.args.goal c.args.behind raw at c.in_default.not-Atom af)
+
+pub returns-in_ok-turn-in-Atom-clause-denies : goal.returns-in_ok-turn-in-Atom-clause-denies
+returns-in_ok-turn-in-Atom-clause-denies g c = λ qv a raw s h at df.
+    let y = c.in-Atom.is in
+    absurd (no_denied_first c.args.machine.now a c.args.place c.args.goal c.args.behind raw at (λ l f z. cc) df)
+
+pub returns-in_ok-turn-in-Cut-clause-denies : goal.returns-in_ok-turn-in-Cut-clause-denies
+returns-in_ok-turn-in-Cut-clause-denies g c = λ qv a raw s h at df.
+    let y = c.in-Cut.is in
+    absurd (no_denied_first c.args.machine.now a c.args.place c.args.goal c.args.behind raw at (λ l f z. cc) df)
+
+pub returns-in_ok-turn-in-Not-clause-denies : goal.returns-in_ok-turn-in-Not-clause-denies
+returns-in_ok-turn-in-Not-clause-denies g c = λ qv a raw s h at df.
+    c.in_ok-turn-in-Not.ensures.denies qv a raw s h (subst (λ f. IsAtGoal c.args.machine.now a c.args.place f c.args.behind raw) c.in-Not.is at)
+
+pub returns-in_ok-turn-in_default-clause-denies : goal.returns-in_ok-turn-in_default-clause-denies
+returns-in_ok-turn-in_default-clause-denies g c = λ qv a raw s h at df.
+    absurd (no_denied_first c.args.machine.now a c.args.place c.args.goal c.args.behind raw at c.in_default.not-Not df)

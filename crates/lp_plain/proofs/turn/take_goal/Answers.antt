@@ -17,6 +17,7 @@ use Rattle.lp_plain.proofs.Treated.{goals_some, inner_turn, none_denied, plain_f
 use Rattle.lp_plain.proofs.WrittenFirst.{branch_written, none_at_hand, term_at_hand}
 use Rattle.lp_plain.specs.AtRunTime.{IsAtomFirst}
 use Rattle.lp_plain.proofs.AtomAtHand.{frame_written, none_atom, term_at}
+use Rattle.lp_plain.proofs.DenyFirst.{none_denied_first, term_denied}
 use Rattle.lp_plain.proofs.turn.take_goal.Goals as goal
 
 pub returns-in_ok-turn-in-Goals-clause-moves : goal.returns-in_ok-turn-in-Goals-clause-moves
@@ -180,3 +181,23 @@ returns-in_ok-turn-in-Goals-clause-calls g c = λ qv s h af w callable.
 pub returns-in_ok-turn-in-Term-clause-calls : goal.returns-in_ok-turn-in-Term-clause-calls
 returns-in_ok-turn-in-Term-clause-calls g c = λ qv s h af w callable.
     c.in_ok-turn-in-Term.ensures.calls qv h.around h.raw s h.running (term_at qv c.args.machine.now s h c.in-Some.number c.in_ok-frame.frame c.in-Some.is c.in_ok-frame.ensures c.in-Term.term c.in-Term.is) callable
+
+pub returns-in_default-clause-denies : goal.returns-in_default-clause-denies
+returns-in_default-clause-denies g c = λ qv s h df. absurd (none_denied_first qv c.args.machine.now s h c.in_default.is df)
+
+pub returns-in_ok-turn-in-Goals-clause-denies : goal.returns-in_ok-turn-in-Goals-clause-denies
+returns-in_ok-turn-in-Goals-clause-denies g c = λ qv s h df.
+    let m = c.args.machine.now in
+    c.in_ok-turn-in-Goals.ensures.denies qv h.around h.raw s h.running (at_frame qv m s h c.in-Some.number c.in_ok-frame.frame c.in-Some.is c.in_ok-frame.ensures c.in-Goals.goals c.in-Goals.is) df
+
+pub returns-in_ok-turn-in-Term-clause-denies : goal.returns-in_ok-turn-in-Term-clause-denies
+returns-in_ok-turn-in-Term-clause-denies g c = λ qv s h df. absurd (term_denied qv c.args.machine.now s h c.in-Some.number c.in_ok-frame.frame c.in-Some.is c.in_ok-frame.ensures c.in-Term.term c.in-Term.is df)
+
+pub returns-in_default-clause-held : goal.returns-in_default-clause-held
+returns-in_default-clause-held g c = λ qv s h none number inside. c.end_branch.ensures.held qv s h none number inside
+
+pub returns-in_ok-turn-in-Goals-clause-held : goal.returns-in_ok-turn-in-Goals-clause-held
+returns-in_ok-turn-in-Goals-clause-held g c = λ qv s h none number inside. let y = c.in-Some.is in absurd (cc)
+
+pub returns-in_ok-turn-in-Term-clause-held : goal.returns-in_ok-turn-in-Term-clause-held
+returns-in_ok-turn-in-Term-clause-held g c = λ qv s h none number inside. let y = c.in-Some.is in absurd (cc)
