@@ -1,5 +1,5 @@
 -- A negated goal in front: its search begins where the definition's does, and the search ends where the definition's ends at the test.
-use Rattle.std.proofs.Common.{◌≡◌, ℕ, suc, ◌+◌, ◌-◌, ◌<◌, ◌≤◌, List, [], ◌∷◌, length, refl, sym, ap, inl, inr, ◌∙◌, subst, arith, Bool, true, false, Option, None, Some}
+use Rattle.std.proofs.Common.{◌≡◌, ℕ, zero, suc, ◌+◌, ◌-◌, ◌<◌, ◌≤◌, List, [], ◌∷◌, length, refl, sym, ap, inl, inr, ◌∙◌, subst, arith, Bool, true, false, Option, None, Some}
 use Rattle.lp_calculus.specs.Term.{Term}
 use Rattle.lp_calculus.specs.Types.{instance}
 use Rattle.lp_lemmas.specs.Each.{EachOf}
@@ -71,7 +71,7 @@ negated_is m list free (Not w gs) h =
     }
 
 module _ (qv : Query) (m : Machine) (a : Around) (raw : Branch) (s : State Task) (h : IsRunning qv m a raw s) (p : Place) (list free : ℕ) (behind : Option ℕ) (at : IsAtGoal m a p (Flat.Not list free) behind raw) where
-  ng : IsNegated m list free at.goal
+  pub ng : IsNegated m list free at.goal
   ng = negated_is m list free at.goal at.is
 
   abbrev gs : Goals
@@ -100,7 +100,7 @@ module _ (qv : Query) (m : Machine) (a : Around) (raw : Branch) (s : State Task)
   own = map_written (closed h.closing) (instance h.closing.types) w
 
   abbrev goals : Goals
-  goals = map_goals (λ u. u) (λ u x. closed h.closing x) (instance h.closing.types) 0 gs
+  goals = map_goals (λ u. u) (λ u x. closed h.closing x) (instance h.closing.types) zero gs
 
   goal_is : sp.first.goal ≡ Not own goals
   goal_is = sp.entry.goal
