@@ -1,7 +1,7 @@
 -- An answer of a negated goal's search: the search that waited is to go back, or the goal is open.
-use Rattle.std.proofs.Common.{◌≡◌, ℕ, zero, suc, ◌-◌, List, [], ◌∷◌, length, take, refl, sym, ap, ◌∙◌, subst, arith, Bool, true, false, nat_eq, Option, None, Some}
+use Rattle.std.proofs.Common.{◌≡◌, ℕ, zero, suc, ◌-◌, List, [], ◌∷◌, length, take, refl, sym, ap, ◌∙◌, subst, arith, Bool, true, false, true≢false, nat_eq, Option, None, Some}
 use Rattle.std.specs.Prelude.{IfSome, slice_get}
-use Rattle.std.proofs.lemmas.Bool.{ne_eqb}
+use Rattle.std.proofs.lemmas.Bool.{eq-eqb, eqb-true, ne_eqb}
 use Rattle.lp_model.specs.Branch.{Answer, Go, Task}
 use Rattle.lp_model.specs.Pair.{Closing, Pair}
 use Rattle.lp_model.specs.Search.{has_no_pairs}
@@ -30,6 +30,14 @@ some_left : (b : Nodes) (z : Closing) (qs : List Numbers) (ps : List Pair) → (
 some_left b z [] ps e h = absurd (e refl)
 some_left b z (q ∷ qs) [] e h = absurd h
 some_left b z (q ∷ qs) (p ∷ ps) e h = ne_eqb (suc (length ps)) 0 (λ y. omega (arith, y))
+
+-- a list that is found empty, or not
+pub no_items : {X : Type 0} (n : ℕ) (xs : List X) (b : Bool) → b ≡ nat_eq n 0 → n ≡ length xs → b ≡ true → xs ≡ []
+no_items n [] b e l t = refl
+no_items n (x ∷ xs) b e l t = absurd (let z = eqb-true n 0 (sym e ∙ t) in omega (arith, z, l))
+
+pub some_items : {X : Type 0} (n : ℕ) (xs : List X) (b : Bool) → b ≡ nat_eq n 0 → n ≡ length xs → b ≡ false → xs ≡ [] → ⊥
+some_items n xs b e l f q = true≢false (sym (eq-eqb n 0 (l ∙ ap length q)) ∙ sym e ∙ f)
 
 -- the search that waits, behind the alternative of this number
 pub record IsWithin (ar : ℕ → ℕ) (m : Machine) (a : Around) (i : ℕ) (ws : List Waiting) : Type 0 where

@@ -10,6 +10,7 @@ use Rattle.lp_model.specs.declared.ending.Ending.TheVariants.{Deep, OpenNot}
 use Rattle.lp_plain.specs.declared.choice.Denial.{Denial}
 use Rattle.lp_plain.specs.declared.choice.Untried.{Untried}
 use Rattle.lp_plain.specs.declared.frame.Place.{Place}
+use Rattle.lp_plain.specs.declared.machine.Counts.{Counts}
 use Rattle.lp_plain.specs.declared.machine.Machine.{Machine}
 use Rattle.lp_plain.specs.declared.outcome.Turn.{Turn}
 use Rattle.lp_plain.specs.Assuming.{HasFrameAt, KeepsAssumed}
@@ -19,6 +20,10 @@ use Rattle.lp_plain.specs.Moving.{IsBack, IsState, Leads, Query, Waiting}
 use Rattle.lp_plain.specs.Negations.{denial}
 use Rattle.lp_plain.specs.Searching.{last_ending}
 use Rattle.lp_plain.specs.Within.{StandsIn}
+
+-- a cut has removed an alternative or not
+abbrev pub with_lost : Counts → Bool → Counts
+with_lost c b = record c { lost = b }
 
 -- the search of the goals of a list has begun: they are in front, in their place, of a branch without residual pairs, in which a cut keeps the alternatives of now;
 -- the newest one leads back to the goals behind
@@ -31,7 +36,7 @@ pub record IsBegun (old new : Machine) (p : Place) (list : ℕ) (behind : Option
   pub stands : StandsIn old → StandsIn new
   pub more : HasAlternative old new (Untried.Denied (denial old behind))
   pub inside : new.denied ≡ Some (length old.choices.items)
-  pub counts : new.counts ≡ record old.counts { lost = false }
+  pub counts : new.counts ≡ with_lost old.counts false
   pub next : new.branch.next ≡ old.branch.next
   pub next_type : new.branch.next_type ≡ old.branch.next_type
   pub pairs : new.branch.pairs.items ≡ []
@@ -114,7 +119,7 @@ searching_as m x = record m { choices = x.choices; denied = x.denied; counts = x
 
 -- no alternative of it is left: the search is again the one around it, and goes on behind the negated goal
 abbrev pub goes_around : Machine → Denial → Machine
-goes_around m d = record m { denied = d.around; counts = record m.counts { lost = d.lost }; branch = record m.branch { goals = d.behind } }
+goes_around m d = record m { denied = d.around; counts = with_lost m.counts d.lost; branch = record m.branch { goals = d.behind } }
 
 -- the query of a search that waited
 abbrev pub waiting_query : (arity : ℕ → ℕ) → Waiting → List Waiting → Query

@@ -11,6 +11,7 @@ use Rattle.std.proofs.Common.{◌≡◌, ◌∷◌, ◌++◌, append-nil, false,
 use Rattle.std.specs.Prelude.{◌⊎◌}
 use Rattle.lp_pattern.proofs.Keeps.{goes_on_then}
 use Rattle.lp_plain.specs.declared.frame.Frame.{Frame}
+use Rattle.lp_plain.specs.Denials.{with_lost}
 use Rattle.lp_plain.specs.Entries.{Reads, placed}
 use Rattle.lp_plain.proofs.negation.begin.Goals as goal
 
@@ -87,7 +88,7 @@ returns-clause-begun c =
         pairs = k.alternative.pairs;
       };
       inside = f.course.denied ∙ ap Some (c.len-number.ensures ∙ m.choices.ok.0);
-      counts = f.course.counts ∙ ap (λ z. record z { lost = false }) k.counts;
+      counts = f.course.counts ∙ ap (λ z. with_lost z false) k.counts;
       next = ap (λ v. v.next) f.course.branch ∙ ap (λ v. v.next) k.branch;
       next_type = ap (λ v. v.next_type) f.course.branch ∙ ap (λ v. v.next_type) k.branch;
       pairs = ap (λ v. v.pairs.items) f.course.branch ∙ c.new.ensures.items;

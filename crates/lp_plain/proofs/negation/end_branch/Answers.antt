@@ -4,7 +4,7 @@ use Rattle.std.proofs.Common.{◌≡◌, ◌∙◌, ap, subst, take}
 use Rattle.std.specs.Prelude.{IfSome, slice_get}
 use Rattle.lp_plain.specs.declared.choice.Choice.{Choice}
 use Rattle.lp_plain.specs.Keeping.{IsAround}
-use Rattle.lp_plain.proofs.HeldMoves.{held_back, held_open}
+use Rattle.lp_plain.proofs.HeldMoves.{held_back, held_open, no_items, some_items}
 use Rattle.lp_plain.proofs.negation.end_branch.Goals as goal
 
 pub returns-in_default-clause-written : goal.returns-in_default-clause-written
@@ -24,7 +24,7 @@ pub returns-in_default-clause-held : goal.returns-in_default-clause-held
 returns-in_default-clause-held c = λ qv s h none number inside. absurd (let y = c.in_default.is in cc)
 
 pub returns-then-not-is_empty-clause-held : goal.returns-then-not-is_empty-clause-held
-returns-then-not-is_empty-clause-held c = λ qv s h none number inside. held_open qv c.args.machine.now s h none number inside c.args.machine.now (λ e. ?)
+returns-then-not-is_empty-clause-held c = λ qv s h none number inside. let m = c.args.machine.now in held_open qv m s h none number inside m (some_items m.branch.pairs.len m.branch.pairs.items c.is_empty.result c.is_empty.ensures m.branch.pairs.ok.0 c.if-not-is_empty.true)
 
 pub returns-clause-held : goal.returns-clause-held
 returns-clause-held c = λ qv s h none number inside.
@@ -32,4 +32,4 @@ returns-clause-held c = λ qv s h none number inside.
     let n = c.drop_denied.new.self in
     let d = c.drop_denied.ensures in
     let e : c.in-Some.number ≡ number = (let y = c.in-Some.is in cc) in
-    held_back qv m s h none number inside ? n (d.dropped ∙ ap (λ i. take i m.choices.items) e) d.only d.counts (subst (λ i. IfSome (slice_get m.choices.items i) (λ (c : Choice). IsAround c.untried n)) e d.around)
+    held_back qv m s h none number inside (no_items m.branch.pairs.len m.branch.pairs.items c.is_empty.result c.is_empty.ensures m.branch.pairs.ok.0 c.if-not-is_empty.false) n (d.dropped ∙ ap (λ i. take i m.choices.items) e) d.only d.counts (subst (λ i. IfSome (slice_get m.choices.items i) (λ (c : Choice). IsAround c.untried n)) e d.around)
