@@ -2,16 +2,19 @@
 ghost use Rattle.std.specs.Prelude.{◌≡◌, ℕ, List, true, false, length, Ok, None, Some, IfOk, OnOk, OnErr, IsErr};
 ghost use Rattle.lp_model.specs.Branch.{Answer, Task};
 ghost use Rattle.lp_model.specs.Events.{Advances, Event as Happens};
-ghost use Rattle.lp_model.specs.Flat.{Clause};
-ghost use Rattle.lp_model.specs.Search.{look};
+ghost use Rattle.lp_model.specs.Flat.{Clause, Goals};
+ghost use Rattle.lp_model.specs.Proofs.{Declared};
+ghost use Rattle.lp_model.specs.Search.{look, start as first_state};
 ghost use Rattle.lp_model.specs.Skeleton.{State};
 ghost use Rattle.lp_model.specs.Unify.{unit_limit};
 ghost use Rattle.lp_model.specs.declared.ending.Ending.{Ending};
 ghost use Rattle.lp_model.specs.declared.answer.Event.TheVariants as told;
 ghost use Rattle.lp_model.specs.Whole.{IsTold, Keeps};
 ghost use Rattle.lp_plain.specs.Held.{variables_of, query_of, ended, failed};
-ghost use Rattle.lp_plain.specs.Telling.{AreEnough, IsEventOf};
-ghost use Rattle.lp_plain.specs.inner.Between.{IsBetween, IsNoted, IsToTell};
+ghost use Rattle.lp_plain.specs.Begun.{Begins};
+ghost use Rattle.lp_plain.specs.Between.{AreEnough, IsBetween};
+ghost use Rattle.lp_plain.specs.Telling.{IsEventOf};
+ghost use Rattle.lp_plain.specs.inner.Between.{IsNoted, IsToTell};
 ghost use Rattle.lp_plain.specs.inner.Following.{Course, Stands, turn_told};
 
 use crate::answer::answer_of;
@@ -99,6 +102,7 @@ impl Search {
     ) -> Result<Search, Memory>
         ensures variables { IfOk result (λ s. variables_of s ≡ length query.vars.items) }
         ensures query { IfOk result (λ s. query_of s ≡ query) }
+        ensures begins { IfOk result (λ s. (d : Declared) (P : List Clause) (gs : Goals) → Begins d program query P gs → (n : ℕ) → IsBetween P n s (first_state query.type_vars (length query.vars.items) gs steps answers)) }
     {
         let Started {
             machine,
@@ -200,6 +204,7 @@ impl Search {
         ensures failed { failed self.old ≡ true → IsErr result }
         ensures going { OnOk result (failed self.new ≡ false) }
         ensures ended { IfOk result (λ event. Keeps event (ended self.new)) }
+        ensures search { IfOk result (λ event. (P : List Clause) (n : ℕ) (s : State Task) → IsBetween P n self.old s → AreEnough P n s event → (x : Happens Answer) (t : State Task) → Advances (look unit_limit n P) s x t → IsEventOf x event × IsBetween P n self.new t) }
         ensures stays { failed self.old ≡ false → (e : Ending) → ended self.old ≡ Some e → result ≡ Ok (told.Ended e) }
     {
         if self.failed {
