@@ -29,10 +29,10 @@ use Rattle.lp_plain.specs.declared.machine.Machine.{Machine}
 use Rattle.lp_plain.specs.declared.outcome.Turn.{Turn}
 use Rattle.lp_plain.specs.Assuming.{HasAssumed, IsPlaceAt, Lists, head_term, links, lists_of}
 use Rattle.lp_plain.specs.Candidates.{AreLeft}
-use Rattle.lp_plain.specs.Calling.{IsAtCall, IsProgramIn, LeadsOn}
+use Rattle.lp_plain.specs.Calling.{IsAtCall, IsProgramIn, LeadsWith, WrittenBehind}
 use Rattle.lp_plain.specs.Entries.{Around}
 use Rattle.lp_plain.specs.HeadLooks.{with_bank}
-use Rattle.lp_plain.specs.Moving.{AreClausesWritten, AreKnownTries, HasAlternatives, HasNoVariable, IsBack, IsCounted, IsGoingOn, IsTrying, Leads, Query, mark_in, tries_under}
+use Rattle.lp_plain.specs.Moving.{AreClausesWritten, AreKnownTries, HasAlternatives, HasNoVariable, IsBack, IsCounted, IsGoingOn, IsTrying, Query, mark_in, tries_under}
 use Rattle.lp_plain.specs.Stacks.{base_of}
 use Rattle.lp_plain.specs.Resuming.{AllOfAssumed, AllOfClause, clause_with}
 use Rattle.lp_plain.specs.Trials.{IsCallHead, goal_of}
@@ -50,7 +50,7 @@ use Rattle.lp_plain.proofs.Under.{branch_on}
 use Rattle.lp_plain.proofs.WrittenPut.{clause_put}
 
 -- a look that takes too many steps waits
-pub lacks_on : (qv : Query) (turn : Turn) (n : Machine) (go : (Answer → Bool) → State Task → Inner) (enough : ℕ) (P : List Clause) (s : State Task) (k : ℕ) (below : List Task) → s.answers ≡ suc k → s.stack ≡ Lack ∷ below → Leads 1 qv turn n go (look unit_limit enough P) s
+pub lacks_on : (qv : Query) (turn : Turn) (n : Machine) (go : (Answer → Bool) → State Task → Inner) (enough : ℕ) (P : List Clause) (s : State Task) (k : ℕ) (below : List Task) → s.answers ≡ suc k → s.stack ≡ Lack ∷ below → LeadsWith (WrittenBehind turn n qv.arity) 1 qv turn n go (look unit_limit enough P) s
 lacks_on qv turn n go enough P s k below ea es =
     let see = look unit_limit enough P in
     inr (inl (0, [], (λ i. move_at go see s.steps (ea i) s.given s.rows s.row s.lost (es i)) ∙ by_lost go see s.steps k s.given s.rows s.row s.lost Lack below))

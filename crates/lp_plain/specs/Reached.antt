@@ -1,13 +1,14 @@
 -- The states to which moves of the definition's search lead, and the expressions that are evaluated in them.
 use Rattle.std.specs.Prelude.{◌≡◌, ℕ, suc, Bool, List, [], ◌∷◌, length, Some}
 use Rattle.lp_calculus.specs.Spine.{arguments, head_of}
+use Rattle.lp_lemmas.specs.Each.{EachOf}
 use Rattle.lp_calculus.specs.Term.{Term, index, atom, abs, app, constant, integer, text, eigen, logic, param}
 use Rattle.lp_standard.specs.Connectives.{connective_of}
 use Rattle.lp_standard.specs.Connectives as connective
 use Rattle.lp_standard.specs.Constants.{IsOrder}
 use Rattle.lp_standard.specs.Numbers as number
-use Rattle.lp_model.specs.Branch.{Answer, Entry, Task, Go, Try, Stop, Lack}
-use Rattle.lp_model.specs.Flat.{Goal, Atomic, Cut, Either, Exists, Forall, Assume, Not}
+use Rattle.lp_model.specs.Branch.{Answer, Entry, Task, Go, Try, Stop, Lack, both_written}
+use Rattle.lp_model.specs.Flat.{Goal, Atomic, Cut, Either, Exists, Forall, Assume, Not, Written}
 use Rattle.lp_model.specs.Look.{head_normal}
 use Rattle.lp_model.specs.Skeleton.{Denies, Goes, Note, State, Tells, View, inner, move, starts_within}
 use Rattle.lp_plain.specs.AtRunTime.{IsSmallExpression}
@@ -24,20 +25,20 @@ abbrev pub IsSmallAtom : (head : Term) → List Term → Type 0
 IsSmallAtom (atom (constant c ts)) (l ∷ r ∷ []) = (c ≡ number.Is → IsSmallExpression r) × (IsOrder c → IsSmallExpression l × IsSmallExpression r)
 IsSmallAtom t us = Unit {0}
 
--- so what a goal comes to
-abbrev pub ComesToSmall : Goal → Type 0
-ComesToSmall (Atomic w) = (n : ℕ) (t : Term) → head_normal n w ≡ Some t → connective_of t ≡ connective.Atomic → IsSmallAtom (head_of t) (arguments t)
-ComesToSmall Cut = Unit {0}
-ComesToSmall (Either gs hs) = Unit {0}
-ComesToSmall (Exists T gs) = Unit {0}
-ComesToSmall (Forall T gs) = Unit {0}
-ComesToSmall (Assume w cs gs) = Unit {0}
-ComesToSmall (Not w gs) = Unit {0}
+-- so what a goal comes to; of a negated one what is written in it and in the clauses that are assumed at it
+abbrev pub IsSmallGoal : Goal → (w : Written) → Type 0
+IsSmallGoal (Atomic u) w = (n : ℕ) (t : Term) → head_normal n u ≡ Some t → connective_of t ≡ connective.Atomic → IsSmallAtom (head_of t) (arguments t)
+IsSmallGoal Cut w = Unit {0}
+IsSmallGoal (Either gs hs) w = Unit {0}
+IsSmallGoal (Exists T gs) w = Unit {0}
+IsSmallGoal (Forall T gs) w = Unit {0}
+IsSmallGoal (Assume v cs gs) w = Unit {0}
+IsSmallGoal (Not v gs) w = EachOf IsSmallExpression (both_written v w).terms
 
 -- so the goal in front
 abbrev pub HasSmallFirst : List Entry → Type 0
 HasSmallFirst [] = Unit {0}
-HasSmallFirst (e ∷ es) = ComesToSmall e.goal
+HasSmallFirst (e ∷ es) = IsSmallGoal e.goal e.written
 
 -- so in the first task
 abbrev pub HasSmallGoal : List Task → Type 0

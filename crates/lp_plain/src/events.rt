@@ -160,7 +160,7 @@ impl Search {
         ensures told { IfOk result (IsTold (variables_of self.old)) }
         ensures ended { ended self.old ≡ None → IfOk result (λ event. Keeps event (ended self.new)) }
         ensures failed { failed self.new ≡ failed self.old }
-        ensures search { IfOk result (λ event. (c : Course) → IsToTell self.old c → Stands c first self.old.machine → AreEnough event c.enough → IsEventOf c.event event × IsBetween c.program c.enough self.new c.after) }
+        ensures search { IfOk result (λ event. (c : Course) → IsToTell self.old c → Stands c first self.old.machine → AreEnough c.program c.enough c.begin event → IsEventOf c.event event × IsBetween c.program c.enough self.new c.after) }
     {
         let found = run(&mut self.machine, crowd, first)?;
         match found {
@@ -181,7 +181,7 @@ impl Search {
         ensures told { IfOk result (IsTold (variables_of self.old)) }
         ensures ended { ended self.old ≡ None → IfOk result (λ event. Keeps event (ended self.new)) }
         ensures failed { failed self.new ≡ failed self.old }
-        ensures search { IfOk result (λ event. ended self.old ≡ None → (P : List Clause) (n : ℕ) (s : State Task) → IsBetween P n self.old s → AreEnough event n → (x : Happens Answer) (t : State Task) → Advances (look unit_limit n P) s x t → IsEventOf x event × IsBetween P n self.new t) }
+        ensures search { IfOk result (λ event. ended self.old ≡ None → (P : List Clause) (n : ℕ) (s : State Task) → IsBetween P n self.old s → AreEnough P n s event → (x : Happens Answer) (t : State Task) → Advances (look unit_limit n P) s x t → IsEventOf x event × IsBetween P n self.new t) }
     {
         if self.given >= self.answers {
             return Ok(self.end(Ending::Enough));

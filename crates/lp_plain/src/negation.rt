@@ -10,6 +10,7 @@ ghost use Rattle.lp_model.specs.Search.{look_not};
 ghost use Rattle.lp_plain.specs.Entries.{Around as Reading, GrowsGoals, IsBehind, IsOf, entry_at, in_scope};
 ghost use Rattle.lp_plain.specs.Keeping.{HasOneMore};
 ghost use Rattle.lp_plain.specs.Negations.{denial, AreFound, IsDenied, Takes};
+ghost use Rattle.lp_plain.specs.Turns.{IsGoalTurn, KeepsProgram};
 ghost use Rattle.lp_plain.specs.Within.{StandsIn};
 ghost use Rattle.lp_plain.specs.WrittenSearch.{IsWrittenSearch, WritesList};
 
@@ -35,6 +36,7 @@ fn begin(
     ensures lost { OnOk result (machine.new.counts.lost ≡ false) }
     ensures steps { OnOk result (machine.new.counts.steps ≡ machine.old.counts.steps) }
     ensures pairs { OnOk result (machine.new.branch.pairs.items ≡ []) }
+    ensures program { OnOk result (KeepsProgram machine.old machine.new) }
     ensures written { OnOk result (WritesList machine.old machine.new place [] goals) }
     ensures inner { OnOk result ((a : Reading) (hs : Goals) (σ : ℕ → Term) (b : Branch) (w : Written) → IsOf machine.old place goals hs σ → machine.old.branch.next ≡ b.next → machine.old.branch.next_type ≡ b.next_type → a.mark (length machine.new.choices.items) ≡ 0 →
         let gs : Goals = in_scope σ place.values.types hs in IsDenied machine.new a (look_not (entry_at a place (Denied w gs)) b gs (Some false))) }
@@ -65,6 +67,7 @@ fn openness_at(machine: &mut Machine, free: usize, place: Place) -> Result<Openn
     ensures assumptions { machine.new.assumptions ≡ machine.old.assumptions }
     ensures newest { machine.new.newest ≡ machine.old.newest }
     ensures grows { OnOk result (GrowsGoals machine.old machine.new) }
+    ensures program { OnOk result (KeepsProgram machine.old machine.new) }
     ensures stands { OnOk result (StandsIn machine.old → StandsIn machine.new) }
     ensures found { IfOk result (AreFound machine.old (record { free = free; values = place.values; older = place.standing })) }
 {
@@ -94,6 +97,8 @@ pub(crate) fn take_not<W: Watch>(
 ) -> Result<Turn, Memory>
     ensures takes { IfOk result (λ turn. Takes turn (record { free = free; values = place.values; older = place.standing }) machine.old machine.new behind) }
     ensures written { IfOk result (λ turn. turn ≡ Turn.On → WritesList machine.old machine.new place [] goals) }
+    ensures program { OnOk result (KeepsProgram machine.old machine.new) }
+    ensures ends { IfOk result IsGoalTurn }
     ensures inner { IfOk result (λ turn. turn ≡ Turn.On → (a : Reading) (hs : Goals) (σ : ℕ → Term) (b : Branch) (w : Written) → StandsIn machine.old → IsOf machine.old place goals hs σ → IsBehind machine.old a behind b → a.mark (length machine.new.choices.items) ≡ 0 →
         let gs : Goals = in_scope σ place.values.types hs in IsDenied machine.new a (look_not (entry_at a place (Denied w gs)) b gs (Some false))) }
 {
