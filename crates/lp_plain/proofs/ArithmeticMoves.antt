@@ -1,5 +1,5 @@
 -- `is` and the orders, once they took their step, as moves of the definition.
-use Rattle.std.proofs.Common.{◌≡◌, ◌⊎◌, ℕ, suc, ◌+◌, ◌-◌, ◌<◌, ◌≤◌, List, [], ◌∷◌, ◌++◌, length, refl, sym, ap, inl, inr, ◌∙◌, subst, arith, Bool, true, false, if◌then◌else◌, Option, None, Some, Ok, Err}
+use Rattle.std.proofs.Common.{◌≡◌, ℕ, suc, ◌+◌, ◌-◌, ◌<◌, ◌≤◌, List, [], ◌∷◌, ◌++◌, length, refl, sym, ap, ◌∙◌, subst, arith, Bool, true, false, if◌then◌else◌, Option, None, Some}
 use Rattle.std.specs.Prelude.{ℤ, Result, option_map}
 use Rattle.lp_base.specs.declared.compare.Compare.{Compare}
 use Rattle.lp_calculus.specs.Fill.{Within}
@@ -34,11 +34,10 @@ use Rattle.lp_plain.specs.Assigned.{Assigns, AssignsBy, Compares, ComparesBy, Co
 use Rattle.lp_plain.specs.AtRunTime.{IsSmallExpression}
 use Rattle.lp_plain.specs.Assuming.{IsPlaceAt, lists_of}
 use Rattle.lp_plain.specs.Entries.{Around}
-use Rattle.lp_plain.specs.Evaluated.{EvaluatesTo, IsEvaluable, IsNoFunction, IsValueIn}
+use Rattle.lp_plain.specs.Evaluated.{EvaluatesTo, IsEvaluable, IsValueIn}
 use Rattle.lp_plain.specs.Forms.{order_number}
 use Rattle.lp_plain.specs.HeadLooks.{OnlyBank}
-use Rattle.lp_plain.specs.Moving.{AreFew, IsCounted, IsGoingOn, IsState, Leads, Query, turn_for}
-use Rattle.lp_plain.specs.Unifying.{IsBoundIn, StandPairs}
+use Rattle.lp_plain.specs.Moving.{AreFew, IsCounted, IsGoingOn, Leads, Query}
 use Rattle.lp_plain.proofs.AtomTurns.{equate_leads}
 use Rattle.lp_plain.proofs.GoingBank.{above_bank, bank_then, going_bank, going_state, place_bank, reading_bank}
 use Rattle.lp_plain.proofs.TaskMoves.{fails, goes, lacks, stops}
@@ -65,13 +64,13 @@ value_plain n (Bytes s) = tt
 
 came : (m q : Machine) (t : TermId) (o : Outcome) → IsEvaluated m q t o → t.0 < length m.bank.terms → (z : Closing) → IsOpenReading m.bank m.bindings m.branch.next z → IsEvaluable (closed z (tree m.bank t.0)) → (n : ℕ) →
     CameTo o n (evaluate n (closed z (tree m.bank t.0))) (IsValueIn q.bank) (IsSmallExpression (closed z (tree m.bank t.0)))
-came m q t o e l z y no n = go (beta_normal n (closed z (tree m.bank t.0))) refl o (e.value l z y)
+came m q t o e l z y fine n = go (beta_normal n (closed z (tree m.bank t.0))) refl o (e.value l z y)
   where
     go : (x : Option Term) → beta_normal n (closed z (tree m.bank t.0)) ≡ x → (o : Outcome) → EvaluatesTo q.bank o (closed z (tree m.bank t.0)) → CameTo o n (option_map (λ s. model.value (eta_normal s)) x) (IsValueIn q.bank) (IsSmallExpression (closed z (tree m.bank t.0)))
     go None p o h = tt
-    go (Some s) p (code.Is x) h = h n s p (no n s p)
-    go (Some s) p (code.Faults f) h = h n s p (no n s p)
-    go (Some s) p code.Deep h = λ k small. h n s p (no n s p) k (small n s p)
+    go (Some s) p (code.Is x) h = h n s p (fine n s p)
+    go (Some s) p (code.Faults f) h = h n s p (fine n s p)
+    go (Some s) p code.Deep h = λ k small. h n s p (fine n s p) k (small n s p)
 
 -- behind the step
 module _ (qv : Query) (c : Machine) (a : Around) (rest work : Branch) (below : List Task) (g : IsGoingOn qv c a rest work below) (p : Place) (pl : IsPlaceAt (lists_of c) a p) (s : State Task) (w j : ℕ) (ea : s.answers ≡ suc w) (es : s.steps ≡ suc j)
@@ -96,8 +95,8 @@ module _ (qv : Query) (c : Machine) (a : Around) (rest work : Branch) (below : L
   pub is_leads : (n : Machine) (l r : TermId) (turn : Turn) → Assigns c n l r p.level turn → AreFew turn enough → (turn ≡ Turn.Ended Deep → IsSmallExpression (closed g.closing (tree c.bank r.0))) → IsPlainTerm work.next_type (closed g.closing (tree c.bank l.0)) → EachOf (IsPlainPair work.next_type) work.pairs → l.0 < length c.bank.terms → r.0 < length c.bank.terms → Within (Known g.levels rest.next) 0 (closed g.closing (tree c.bank l.0)) →
       IsEvaluable (closed g.closing (tree c.bank r.0)) → look unit_limit enough P (length below) task ≡ Takes name (assigned unit_limit enough p.level (closed g.closing (tree c.bank l.0)) work (evaluate enough (closed g.closing (tree c.bank r.0)))) →
       Leads 1 qv turn n go see s
-  is_leads n l r turn h few small plain pairs il ir known no seen =
-      by h.outcome (evaluate enough (closed g.closing (tree c.bank r.0))) refl h.by (came c h.between r h.outcome h.evaluated ir g.closing g.reading no enough)
+  is_leads n l r turn h few small plain pairs il ir known fine seen =
+      by h.outcome (evaluate enough (closed g.closing (tree c.bank r.0))) refl h.by (came c h.between r h.outcome h.evaluated ir g.closing g.reading fine enough)
     where
       by : (o : Outcome) (x : Option model.Outcome) → evaluate enough (closed g.closing (tree c.bank r.0)) ≡ x → AssignsBy o h.between n l p.level turn → CameTo o enough x (IsValueIn h.between.bank) (IsSmallExpression (closed g.closing (tree c.bank r.0))) → Leads 1 qv turn n go see s
       by o None e k came = lacks qv n below s w j ea es go enough P name task (Lack ∷ []) stack (seen ∙ ap (λ y. Takes name (assigned unit_limit enough p.level (closed g.closing (tree c.bank l.0)) work y)) e) refl turn
@@ -151,7 +150,7 @@ module _ (qv : Query) (c : Machine) (a : Around) (rest work : Branch) (below : L
 
   first_leads : (n : Machine) (o : Compare) (turn : Turn) → AreFew turn enough → (q : Machine) → OnlyBank c q → (l r : TermId) → (turn ≡ Turn.Ended Deep → IsSmallExpression (closed g.closing (tree c.bank l.0)) × IsSmallExpression (closed g.closing (tree c.bank r.0))) → (k : Result ℤ Ending) → (h : IsNumber c q l k) → ComparesBy k q n o r turn → r.0 < length c.bank.terms → IsEvaluable (closed g.closing (tree c.bank r.0)) →
       (x : Option model.Outcome) → CameTo h.outcome enough x (IsValueIn q.bank) (IsSmallExpression (closed g.closing (tree c.bank l.0))) → look unit_limit enough P (length below) task ≡ Takes name (compared (order_number o) work x (evaluate enough (closed g.closing (tree c.bank r.0)))) → Leads 1 qv turn n go see s
-  first_leads n o turn few q b l r small k h cb ir no x came' seen = by h.outcome k h.is cb x came' seen
+  first_leads n o turn few q b l r small k h cb ir fine x came' seen = by h.outcome k h.is cb x came' seen
     where
       stopped : (e : Ending) → turn ≡ Turn.Ended e → look unit_limit enough P (length below) task ≡ Takes name (Stop e ∷ []) → Leads 1 qv turn n go see s
       stopped e i y = subst (λ t. Leads 1 qv t n go see s) (sym i) (stops qv n below s w j ea es go enough P name task (Stop e ∷ []) stack y e refl)
@@ -167,7 +166,7 @@ module _ (qv : Query) (c : Machine) (a : Around) (rest work : Branch) (below : L
           let more = b.bank.more_terms in
           second_leads n o turn few (bank_then c q n b number.evaluated.bank) (IsSmallExpression (closed g.closing (tree c.bank r.0))) (λ e. (small e).1) v q n r h2.0 number h2.2 (evaluate enough (closed g.closing (tree c.bank r.0)))
           (subst (λ y. CameTo number.outcome enough (evaluate enough (closed g.closing y)) (IsValueIn n.bank) (IsSmallExpression (closed g.closing y))) same
-          (came q n r number.outcome number.evaluated (omega (arith, ir, more)) g.closing (reading_bank qv c q b a rest work below g p pl) (subst (λ y. IsEvaluable (closed g.closing y)) (sym same) no) enough))
+          (came q n r number.outcome number.evaluated (omega (arith, ir, more)) g.closing (reading_bank qv c q b a rest work below g p pl) (subst (λ y. IsEvaluable (closed g.closing y)) (sym same) fine) enough))
           (seen ∙ ap (λ u. Takes name (compared (order_number o) work (Some u) (evaluate enough (closed g.closing (tree c.bank r.0))))) (came'.1 ∙ ap (λ z. Is z) m))
       by (code.Is (kept.Text t)) k i cb (Some u) came' seen =
           let m = came'.2 in

@@ -1,11 +1,11 @@
 -- The turns of `is` and of the orders.
-use Rattle.std.proofs.Common.{◌≡◌, ◌⊎◌, ℕ, suc, ◌+◌, ◌-◌, ◌<◌, List, [], ◌∷◌, ◌++◌, length, refl, sym, ap, inl, inr, ◌∙◌, subst, arith, Bool, Option, Some}
+use Rattle.std.proofs.Common.{◌≡◌, ℕ, suc, ◌+◌, ◌-◌, ◌<◌, List, [], ◌∷◌, ◌++◌, length, refl, sym, ap, inl, inr, ◌∙◌, subst, arith, Bool, Option, Some}
 use Rattle.lp_base.specs.declared.compare.Compare.{Compare}
 use Rattle.lp_base.specs.declared.compare.Compare.TheVariants.{Less, Greater, AtMost, AtLeast}
 use Rattle.lp_calculus.specs.Fill.{Within}
 use Rattle.lp_calculus.specs.Types.{Ty}
 use Rattle.lp_calculus.specs.Term.{Term, atom, constant}
-use Rattle.lp_calculus.specs.Spine.{arguments, head_of}
+use Rattle.lp_calculus.specs.Spine.{arguments}
 use Rattle.lp_standard.specs.Connectives.{connective_of}
 use Rattle.lp_standard.specs.Connectives as connective
 use Rattle.lp_standard.specs.Constants.{IsOrder}

@@ -1,23 +1,20 @@
 -- A search that begins is in the first state of the definition's.
-use Rattle.std.proofs.Common.{◌≡◌, ◌∙◌, ℕ, ◌-◌, ◌≤◌, Bool, true, List, [], ◌∷◌, ◌++◌, map, length, None, Option, Some, refl, sym, ap, subst, arith}
+use Rattle.std.proofs.Common.{◌≡◌, ◌∙◌, ℕ, ◌-◌, List, [], ◌∷◌, ◌++◌, map, length, None, refl, sym, ap, subst, arith}
 use Rattle.std.specs.Prelude.{◌<◌, All, nat_eq}
 use Rattle.std.specs.HashMap.{get}
 use Rattle.std.proofs.lemmas.List.{length-map}
 use Rattle.lp_calculus.specs.Closed.{AllAtoms}
 use Rattle.lp_calculus.specs.Spine.{head_of}
 use Rattle.lp_calculus.specs.Term.{Term, index, atom, abs, app, constant, integer, text, eigen, logic, param}
-use Rattle.lp_calculus.specs.Typing.{Scheme}
 use Rattle.lp_lemmas.specs.Each.{EachOf}
 use Rattle.lp_proof_laws.specs.Unnegated.{IsUnnegatedAtom}
-use Rattle.lp_term.specs.Nodes.{Nodes, Extends, tree, type_tree}
+use Rattle.lp_term.specs.Nodes.{Nodes, Extends, type_tree}
 use Rattle.lp_model.specs.Answers.{Query as Proved}
-use Rattle.lp_model.specs.Branch.{Task}
 use Rattle.lp_model.specs.Flat.{Clause, Clauses, Goals, clause, clause_list}
 use Rattle.lp_model.specs.Flatten.{ClauseFormula}
 use Rattle.lp_model.specs.Proofs.{AreFlattened, Declared}
 use Rattle.lp_model.specs.Readings.{formula_of}
 use Rattle.lp_model.specs.Search.{start}
-use Rattle.lp_model.specs.Skeleton.{State}
 use Rattle.lp_model.specs.declared.program.ClauseFormula.{ClauseFormula as Coded}
 use Rattle.lp_model.specs.declared.program.Program.{Program}
 use Rattle.lp_model.specs.declared.program.Typed.{Typed}
@@ -29,12 +26,11 @@ use Rattle.lp_plain.specs.declared.search.Search.{Search}
 use Rattle.lp_plain.specs.declared.table.Span.{Span}
 use Rattle.lp_plain.specs.Begun.{Begins, formulas_of, query_in}
 use Rattle.lp_plain.specs.Between.{HasClauses, IsBetween, IsUnnegated, begins, goes_on}
-use Rattle.lp_plain.specs.Calling.{IsProgramIn}
-use Rattle.lp_plain.specs.Moving.{HasNoVariable, IsState, Query}
+use Rattle.lp_plain.specs.Moving.{HasNoVariable, IsState}
 use Rattle.lp_plain.specs.ProgramClauses.{arity_in}
 use Rattle.lp_plain.specs.Resuming.{AllOfClause, AllOfGoals}
 use Rattle.lp_plain.specs.Starts.{AreFlat, AreProgramOf}
-use Rattle.lp_plain.specs.Trying.{AreOfProgram, HasArity, HasProgram, IsNoEigen, all_clauses, head_in}
+use Rattle.lp_plain.specs.Trying.{AreOfProgram, HasArity, HasProgram, IsNoEigen, all_clauses}
 use Rattle.lp_plain.specs.TypedStates.{IsTypedOver, IsTypedState}
 use Rattle.lp_plain.specs.WrittenGoals.{GoalsWritten, IsProgramClause}
 use Rattle.lp_plain.specs.WrittenSearch.{IsWrittenSearch}

@@ -1,18 +1,17 @@
 -- From one event to the next one.
-use Rattle.std.proofs.Common.{◌≡◌, ℕ, zero, suc, ◌+◌, ◌-◌, ◌<◌, ◌≤◌, List, [], ◌∷◌, map, length, refl, sym, ap, ◌∙◌, subst, arith, Option, Some, None}
+use Rattle.std.proofs.Common.{◌≡◌, ℕ, suc, ◌-◌, ◌<◌, ◌≤◌, List, [], ◌∷◌, length, refl, sym, ap, ◌∙◌, subst, arith, Some, None}
 use Rattle.std.specs.Prelude.{Bool}
-use Rattle.lp_term.specs.Nodes.{Nodes, Extends, tree}
-use Rattle.lp_term.specs.Within.{AreTermsOf}
+use Rattle.lp_term.specs.Nodes.{Nodes, Extends}
 use Rattle.lp_model.specs.declared.answer.Answer.{Answer as CodeAnswer}
 use Rattle.lp_model.specs.declared.answer.Event.{Event as Told}
 use Rattle.lp_model.specs.declared.answer.Event.TheVariants as told
 use Rattle.lp_model.specs.declared.ending.Ending.{Ending}
 use Rattle.lp_model.specs.declared.ending.Ending.TheVariants.{Enough}
 use Rattle.lp_model.specs.Branch.{Answer, Task}
-use Rattle.lp_model.specs.Events.{Advances, Event, Gave, Over}
+use Rattle.lp_model.specs.Events.{Advances, Event, Over}
 use Rattle.lp_model.specs.Flat.{Clause}
-use Rattle.lp_model.specs.Search.{look, vars_from}
-use Rattle.lp_model.specs.Skeleton.{State, row_limit}
+use Rattle.lp_model.specs.Search.{look}
+use Rattle.lp_model.specs.Skeleton.{State}
 use Rattle.lp_model.specs.Unify.{unit_limit}
 use Rattle.lp_plain.specs.declared.machine.Machine.{Machine}
 use Rattle.lp_plain.specs.declared.outcome.Turn.{Turn}
@@ -25,7 +24,7 @@ use Rattle.lp_plain.specs.Telling.{IsAnswerOf, IsEventOf}
 use Rattle.lp_plain.specs.TypedStates.{IsTypedOver}
 use Rattle.lp_plain.specs.Within.{StandsIn}
 use Rattle.lp_plain.specs.inner.Between.{IsToTell, rested}
-use Rattle.lp_plain.specs.inner.Following.{AreFewOn, Comes, Course, IsInQuery, IsOfQuery, Stands, turn_told}
+use Rattle.lp_plain.specs.inner.Following.{AreFewOn, Comes, Course, IsInQuery, IsOfQuery, Stands}
 use Rattle.lp_pattern.proofs.Keeps.{goes_on_same, grows_same}
 use Rattle.lp_plain.proofs.AboveUnder.{still_all, still_done, still_turn}
 use Rattle.lp_plain.proofs.CallArm.{program_later}

@@ -1,14 +1,15 @@
 -- The turn of a call: its step, and then its first candidate.
-use Rattle.std.proofs.Common.{◌≡◌, ◌⊎◌, ℕ, suc, ◌+◌, ◌-◌, ◌<◌, ◌≤◌, List, [], ◌∷◌, ◌++◌, map, length, refl, sym, ap, inl, inr, ◌∙◌, subst, arith, Bool, false, Option, None, Some, nat_eq}
+use Rattle.std.proofs.Common.{◌≡◌, ◌⊎◌, ℕ, suc, ◌+◌, ◌-◌, ◌<◌, ◌≤◌, List, [], ◌∷◌, ◌++◌, map, length, refl, sym, ap, inl, inr, ◌∙◌, subst, arith, Bool, false, Option, Some, nat_eq}
 use Rattle.std.specs.Prelude.{if◌then◌else◌, ◌&&◌, nat_le, true}
 use Rattle.std.proofs.lemmas.List.{length-map}
 use Rattle.std.proofs.lemmas.Bool.{ne_eqb}
 use Rattle.std.proofs.lemmas.Bool.Decides.{nat_tests}
 use Rattle.std.specs.HashMap.{get}
 use Rattle.lp_calculus.specs.Fill.{Within}
-use Rattle.lp_calculus.specs.Term.{Term, atom, constant, eigen}
-use Rattle.lp_calculus.specs.Types.{Ty, instance}
+use Rattle.lp_calculus.specs.Term.{Term, index, atom, abs, app, constant, integer, text, eigen, logic, param}
+use Rattle.lp_calculus.specs.Types.{instance}
 use Rattle.lp_calculus.specs.Spine.{arguments, head_of}
+use Rattle.lp_lemmas.specs.Each.{EachOf}
 use Rattle.lp_standard.specs.Connectives.{connective_of}
 use Rattle.lp_standard.specs.Connectives as connective
 use Rattle.lp_standard.specs.Constants.{IsOrder, is_order}
@@ -17,7 +18,7 @@ use Rattle.lp_term.specs.Nodes.{Nodes, Extends, tree}
 use Rattle.lp_term.specs.declared.node.TermId.{TermId}
 use Rattle.lp_term.proofs.Trees.{extends_same, extends-trans}
 use Rattle.lp_model.specs.Branch.{Answer, Branch, Entry, Go, Task}
-use Rattle.lp_model.specs.Flat.{Clause, Clauses}
+use Rattle.lp_model.specs.Flat.{Clause, Clauses, clause}
 use Rattle.lp_model.specs.Look.{head_normal}
 use Rattle.lp_model.specs.Pair.{Closing, closed}
 use Rattle.lp_model.specs.Search.{assigned, compared, equated, goal_looked, look, look_atom, look_constant, look_form, tries, with_goals}
@@ -45,13 +46,12 @@ use Rattle.lp_plain.specs.Trials.{IsCallHead}
 use Rattle.lp_plain.specs.Trying.{AreApplied, HasArity, all_clauses}
 use Rattle.lp_plain.specs.TypedStates.{IsTypedOver}
 use Rattle.lp_plain.specs.WrittenSearch.{IsWrittenSearch}
-use Rattle.lp_plain.proofs.AtomMoves.{behind, by_seen, called_same, f, looked, same_or_abs, waits}
+use Rattle.lp_plain.proofs.AtomMoves.{behind, by_seen, called_same, f, looked, same_or_abs}
 use Rattle.lp_plain.proofs.AtomTurns.{left, place_stepped, stepped, steps_are}
 use Rattle.lp_plain.proofs.FrontGoals.{IsFront, front_waits}
 use Rattle.lp_plain.proofs.GoingOn.{step_counted}
 use Rattle.lp_plain.proofs.Growing.{grows_kept}
 use Rattle.lp_plain.proofs.KnownForms.{normal_within}
-use Rattle.lp_plain.proofs.LeftOut.{call_mapped}
 use Rattle.lp_plain.proofs.QuietMoves.{by_lost}
 use Rattle.lp_plain.proofs.SeenGoals.{IsAbs}
 use Rattle.lp_plain.proofs.TypedCalls.{front_applied, front_arity}

@@ -1,13 +1,12 @@
 -- What a call comes to behind its step.
-use Rattle.std.proofs.Common.{◌≡◌, ◌⊎◌, ℕ, suc, ◌<◌, ◌≤◌, List, [], ◌∷◌, ◌++◌, length, refl, sym, ap, inl, inr, ◌∙◌, subst, arith, Option, None, Some}
-use Rattle.std.specs.Prelude.{Bool, filter}
+use Rattle.std.proofs.Common.{◌≡◌, ℕ, List, ◌++◌, length, refl, sym, ap, inl, inr, ◌∙◌, subst, arith, Option, None, Some}
+use Rattle.std.specs.Prelude.{filter}
 use Rattle.lp_calculus.specs.Term.{Term}
-use Rattle.lp_term.specs.Nodes.{Nodes, Extends, tree}
+use Rattle.lp_term.specs.Nodes.{Nodes, Extends}
 use Rattle.lp_term.specs.declared.node.TermId.{TermId}
 use Rattle.lp_model.specs.Branch.{Branch, Entry, Task}
 use Rattle.lp_model.specs.Flat.{Clause, Clauses}
-use Rattle.lp_model.specs.Pair.{closed}
-use Rattle.lp_model.specs.Search.{goal_looked, has_head, look, passes, tries}
+use Rattle.lp_model.specs.Search.{has_head, look, passes, tries}
 use Rattle.lp_model.specs.Skeleton.{State}
 use Rattle.lp_model.specs.declared.ending.Ending.TheVariants.{Deep}
 use Rattle.lp_model.specs.Unify.{unit_limit}
@@ -21,9 +20,8 @@ use Rattle.lp_plain.specs.declared.outcome.Turn.{Turn}
 use Rattle.lp_plain.specs.Assuming.{HasAssumed, lists_of}
 use Rattle.lp_plain.specs.Calling.{CallLeads, IsAtCall, IsLookedAs, IsProgramIn, WrittenBehind}
 use Rattle.lp_plain.specs.Entries.{Around}
-use Rattle.lp_plain.specs.HeadLooks.{LooksAt, OnlyBank, with_bank}
+use Rattle.lp_plain.specs.HeadLooks.{OnlyBank, with_bank}
 use Rattle.lp_plain.specs.Moving.{IsGoingOn, IsTrying, LeadsTo, Query}
-use Rattle.lp_plain.specs.Trials.{goal_of}
 use Rattle.lp_plain.specs.Trying.{AreApplied, AreOfProgram, AreTriesApart, HasProgram, IsCallOf, all_clauses, first_in}
 use Rattle.lp_plain.specs.Within.{StandsIn}
 use Rattle.lp_plain.specs.WrittenSearch.{IsWrittenSearch}

@@ -1,38 +1,19 @@
--- The turn of an atom by its form, over the program of the search.
-use Rattle.std.proofs.Common.{◌≡◌, ℕ, suc, ◌<◌, ◌≤◌, List, [], ◌∷◌, map, length, refl, sym, ap, inl, inr, ◌∙◌, subst, arith, Option, None, Some}
-use Rattle.lp_base.specs.declared.compare.Compare.{Compare}
-use Rattle.lp_base.specs.declared.compare.Compare.TheVariants.{Less, Greater, AtMost, AtLeast}
-use Rattle.lp_calculus.specs.Spine.{arguments, head_of}
-use Rattle.lp_calculus.specs.Term.{Term, atom, constant}
-use Rattle.lp_calculus.specs.Types.{instance}
-use Rattle.lp_standard.specs.Connectives.{connective_of}
-use Rattle.lp_standard.specs.Connectives as connective
-use Rattle.lp_standard.specs.Constants.{IsOrder}
-use Rattle.lp_standard.specs.Numbers as number
+-- The turn of a call, over the program of the search.
+use Rattle.std.proofs.Common.{◌≡◌, ℕ, ◌<◌, length, subst, Option, None, Some}
 use Rattle.lp_term.specs.Nodes.{tree}
 use Rattle.lp_term.specs.declared.node.TermId.{TermId}
-use Rattle.lp_model.specs.Branch.{Branch, Entry, Task}
-use Rattle.lp_model.specs.Flat.{Clause}
-use Rattle.lp_model.specs.Look.{head_normal}
-use Rattle.lp_model.specs.Pair.{closed}
-use Rattle.lp_model.specs.Search.{look}
+use Rattle.lp_model.specs.Branch.{Branch, Task}
 use Rattle.lp_model.specs.Skeleton.{State}
-use Rattle.lp_model.specs.Unify.{unit_limit}
-use Rattle.lp_plain.specs.declared.form.Form.{Form}
 use Rattle.lp_plain.specs.declared.form.Form.TheVariants as form
 use Rattle.lp_plain.specs.declared.frame.Place.{Place}
 use Rattle.lp_plain.specs.declared.head.Head.{Head}
 use Rattle.lp_plain.specs.declared.machine.Machine.{Machine}
 use Rattle.lp_plain.specs.declared.outcome.Turn.{Turn}
 use Rattle.lp_plain.specs.AtRunTime.{IsAtLooked, IsAtomForm}
-use Rattle.lp_plain.specs.Calling.{CallLeads, ComesToCallable, HaveHeads, IsCallable, IsFirstIn, IsNoArithmetic, LeadsOf}
+use Rattle.lp_plain.specs.Calling.{CallLeads, IsFirstIn, LeadsOf}
 use Rattle.lp_plain.specs.Cuts.{one_step}
 use Rattle.lp_plain.specs.Entries.{Around}
-use Rattle.lp_plain.specs.Forms.{IsRelation, order_number}
-use Rattle.lp_plain.specs.Moving.{IsRunning, KeepsSearch, Leads, LeadsTo, Query}
-use Rattle.lp_plain.specs.Resuming.{clause_with}
-use Rattle.lp_plain.specs.Trying.{AreApplied}
-use Rattle.lp_plain.proofs.AtomMoves.{by_seen, f, named_same, waits}
+use Rattle.lp_plain.specs.Moving.{IsRunning, KeepsSearch, Query}
 use Rattle.lp_plain.proofs.CallArm.{call_leads}
 
 first_inside : (k : ℕ) (hd : Head) (first : Option TermId) → IsFirstIn k (form.Call hd first) → (v : TermId) → first ≡ Some v → v.0 < k

@@ -1,27 +1,25 @@
 -- A call behind its step: about to try its first candidate, or without one, or too deep.
-use Rattle.std.proofs.Common.{◌≡◌, ◌⊎◌, ℕ, zero, suc, ◌+◌, ◌-◌, ◌<◌, ◌≤◌, List, [], ◌∷◌, ◌++◌, cond, map, length, refl, sym, ap, inl, inr, ◌∙◌, subst, arith, Option, None, Some, true, false}
-use Rattle.std.specs.Prelude.{All, Bool, filter}
+use Rattle.std.proofs.Common.{◌≡◌, ℕ, suc, ◌+◌, ◌-◌, List, [], ◌∷◌, ◌++◌, cond, map, length, refl, sym, ap, inl, inr, ◌∙◌, subst, arith, Option, None, Some, true, false}
+use Rattle.std.specs.Prelude.{Bool, filter}
 use Rattle.lp_calculus.specs.Fill.{Within}
-use Rattle.lp_calculus.specs.Spine.{arguments, head_of}
+use Rattle.lp_calculus.specs.Spine.{head_of}
 use Rattle.lp_calculus.specs.Term.{Term, Atom, constant, eigen, integer, logic, param, text}
 use Rattle.lp_calculus.specs.Types.{instance}
 use Rattle.lp_calculus.proofs.Fills.{within_more}
 use Rattle.lp_lemmas.specs.Each.{EachOf}
-use Rattle.lp_term.specs.Nodes.{Nodes, Extends, tree}
+use Rattle.lp_term.specs.Nodes.{Nodes, Extends}
 use Rattle.lp_term.specs.declared.node.TermId.{TermId}
 use Rattle.lp_model.specs.Branch.{Answer, Branch, Entry, Lack, Task, Try}
 use Rattle.lp_model.specs.Flat.{Clause, Clauses}
 use Rattle.lp_model.specs.Pair.{Closing, closed}
-use Rattle.lp_model.specs.Search.{candidates, goal_looked, has_head, look, passes, tries}
+use Rattle.lp_model.specs.Search.{candidates, has_head, look, passes, tries}
 use Rattle.lp_model.specs.Skeleton.{Inner, State, move_at}
 use Rattle.lp_model.specs.Unify.{unit_limit}
-use Rattle.lp_pattern.specs.Growing.{IsPairOf}
 use Rattle.lp_pattern.specs.Putting.{Known}
 use Rattle.lp_pattern.proofs.Walking.{open_kept}
 use Rattle.lp_plain.specs.declared.candidates.Candidate.{Candidate}
 use Rattle.lp_plain.specs.declared.candidates.Candidate.TheVariants as candidate
 use Rattle.lp_plain.specs.declared.choice.Call.{Call}
-use Rattle.lp_plain.specs.declared.frame.Frame.{Frame}
 use Rattle.lp_plain.specs.declared.frame.Place.{Place}
 use Rattle.lp_plain.specs.declared.head.Head.{Head}
 use Rattle.lp_plain.specs.declared.head.Key.{Key}
@@ -34,7 +32,7 @@ use Rattle.lp_plain.specs.Entries.{Around}
 use Rattle.lp_plain.specs.HeadLooks.{with_bank}
 use Rattle.lp_plain.specs.Moving.{AreClausesWritten, AreKnownTries, HasAlternatives, HasNoVariable, IsBack, IsCounted, IsGoingOn, IsTrying, Query, mark_in, tries_under}
 use Rattle.lp_plain.specs.Stacks.{base_of}
-use Rattle.lp_plain.specs.Resuming.{AllOfAssumed, AllOfClause, clause_with}
+use Rattle.lp_plain.specs.Resuming.{AllOfAssumed, AllOfClause}
 use Rattle.lp_plain.specs.Trials.{IsCallHead, goal_of}
 use Rattle.lp_plain.specs.Trying.{AreApplied, AreCandidates, AreOfProgram, AreTriesApart, HasArity, HasProgram, IsCallOf, all_clauses, first_in}
 use Rattle.lp_plain.specs.WrittenGoals.{IsProgramClause}

@@ -1,10 +1,10 @@
 -- A turn that is some moves of the definition: what is told next comes of the state behind it.
-use Rattle.std.proofs.Common.{◌≡◌, ◌⊎◌, ℕ, zero, suc, ◌+◌, ◌-◌, ◌≤◌, List, [], ◌∷◌, length, refl, sym, ap, inl, inr, ◌∙◌, subst, arith, Option, Some, None}
+use Rattle.std.proofs.Common.{◌≡◌, ◌⊎◌, ℕ, zero, suc, ◌+◌, ◌-◌, ◌≤◌, List, [], ◌∷◌, length, refl, sym, ap, inl, inr, ◌∙◌, subst, arith, Option, Some}
 use Rattle.std.specs.Prelude.{Bool, true, false, drop}
 use Rattle.lp_model.specs.declared.ending.Ending.{Ending}
 use Rattle.lp_model.specs.declared.ending.Ending.TheVariants.{NoMore, NoMoreCut, Enough, Steps, Flexible, Arithmetic, OpenNot, Deep}
 use Rattle.lp_model.specs.Branch.{Answer, Go, Task}
-use Rattle.lp_model.specs.Events.{Advances, Event, Gave, Over, first, first_after}
+use Rattle.lp_model.specs.Events.{Event, Gave, Over, first, first_after}
 use Rattle.lp_lemmas.specs.Each.{EachOf}
 use Rattle.lp_lemmas.proofs.Each.{each_append, each_drop}
 use Rattle.lp_model.specs.Answers.{Query as Proved}
@@ -20,7 +20,7 @@ use Rattle.lp_plain.specs.declared.machine.Machine.{Machine}
 use Rattle.lp_plain.specs.declared.outcome.Turn.{Turn}
 use Rattle.lp_plain.specs.Between.{HasClauses}
 use Rattle.lp_plain.specs.Calling.{AreFewAt, LeadsOver, LeadsWith, WrittenBehind}
-use Rattle.lp_plain.specs.Moving.{IsAnswer, IsAnswered, IsBack, IsMoved, IsState, IsWaiting, MovesTo, Query, Waiting}
+use Rattle.lp_plain.specs.Moving.{IsAnswered, IsMoved, IsWaiting, MovesTo, Query, Waiting}
 use Rattle.lp_plain.specs.Reached.{at_once, behind_answer, behind_move}
 use Rattle.lp_plain.specs.Turns.{EndsAll, IsNoEnd}
 use Rattle.lp_plain.specs.TypedStates.{IsTypedOver, IsTypedState}

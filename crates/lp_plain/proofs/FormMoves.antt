@@ -1,9 +1,7 @@
 -- A connective that is known at run time: the turn that takes it apart is the definition's move.
-use Rattle.std.proofs.Common.{◌≡◌, ◌⊎◌, ℕ, suc, ◌≤◌, ◌<◌, List, [], ◌∷◌, length, refl, sym, ap, inl, inr, ◌∙◌, subst, arith, Bool, Option, None, Some}
-use Rattle.lp_calculus.specs.Fill.{Within}
-use Rattle.lp_calculus.specs.Term.{Term, atom, abs, logic}
+use Rattle.std.proofs.Common.{◌≡◌, ℕ, suc, ◌≤◌, List, [], length, refl, sym, ap, inl, inr, ◌∙◌, subst, arith, Bool, Option, None, Some}
+use Rattle.lp_calculus.specs.Term.{Term, atom, logic}
 use Rattle.lp_standard.specs.Connectives.{connective_of}
-use Rattle.lp_standard.specs.Connectives as connective
 use Rattle.lp_term.specs.Nodes.{Nodes, tree}
 use Rattle.lp_term.specs.declared.node.TermId.{TermId}
 use Rattle.lp_model.specs.Branch.{Answer, Branch, Entry, Go, Task}
@@ -14,7 +12,7 @@ use Rattle.lp_model.specs.Flat.{Atomic, Clause}
 use Rattle.lp_model.specs.Look.{head_normal}
 use Rattle.lp_model.specs.Pair.{closed}
 use Rattle.lp_model.specs.Search.{look, look_form, look_normal, with_goals}
-use Rattle.lp_model.specs.Skeleton.{Inner, State, View, move}
+use Rattle.lp_model.specs.Skeleton.{Inner, State, move}
 use Rattle.lp_model.specs.Unify.{unit_limit}
 use Rattle.lp_model.specs.declared.ending.Ending.TheVariants.{NoMore, NoMoreCut, Enough, Steps, Flexible, Arithmetic, OpenNot, Deep}
 use Rattle.lp_pattern.specs.Putting.{Known}

@@ -1,7 +1,6 @@
 -- A turn that leads there: what stands behind it.
-use Rattle.std.proofs.Common.{◌≡◌, ℕ, List, sym, subst}
+use Rattle.std.proofs.Common.{ℕ, sym, subst}
 use Rattle.lp_model.specs.Branch.{Task}
-use Rattle.lp_model.specs.Flat.{Clause}
 use Rattle.lp_model.specs.Skeleton.{State}
 use Rattle.lp_plain.specs.declared.machine.Machine.{Machine}
 use Rattle.lp_plain.specs.declared.outcome.Turn.{Turn}

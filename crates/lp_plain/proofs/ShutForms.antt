@@ -1,5 +1,5 @@
 -- A connective whose parts are known as the bindings read them has no loose index.
-use Rattle.std.proofs.Common.{◌≡◌, ℕ, suc, sym, subst, arith}
+use Rattle.std.proofs.Common.{ℕ, suc, arith}
 use Rattle.std.specs.Prelude.{◌<◌, length}
 use Rattle.lp_calculus.specs.Fill.{Within, at_variables, fill, raise}
 use Rattle.lp_calculus.specs.Instance.{instance_term}
@@ -8,7 +8,6 @@ use Rattle.lp_calculus.specs.Types.{Ty}
 use Rattle.lp_standard.specs.Connectives.{Connective}
 use Rattle.lp_standard.specs.Connectives as connective
 use Rattle.lp_term.specs.Nodes.{Nodes, tree}
-use Rattle.lp_term.specs.Spine.{LooseBelow}
 use Rattle.lp_term.specs.declared.node.TermId.{TermId}
 use Rattle.lp_model.specs.Connected.{IsConnectiveIn, connective_in}
 use Rattle.lp_model.specs.Pair.{Closing, closed}

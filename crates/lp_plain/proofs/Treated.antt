@@ -1,14 +1,10 @@
 -- The first goal of a search, and its newest alternative. (TO VANISH: none is that of a negated goal)
-use Rattle.std.proofs.Common.{◌≡◌, ℕ, zero, suc, ◌+◌, ◌<◌, ◌≤◌, List, [], ◌∷◌, ◌++◌, length, take, drop, refl, sym, ap, ◌∙◌, subst, arith, Option, None, Some}
+use Rattle.std.proofs.Common.{◌≡◌, ℕ, ◌+◌, ◌≤◌, List, [], ◌∷◌, ◌++◌, length, drop, refl, sym, ap, ◌∙◌, subst, arith, Option, None, Some}
 use Rattle.std.specs.Prelude.{slice_get}
-use Rattle.lp_lemmas.specs.Each.{EachOf}
 use Rattle.lp_calculus.specs.Term.{Term}
-use Rattle.lp_model.specs.Branch.{Branch, Entry, Go, Task, Try}
-use Rattle.lp_model.specs.Flat.{Atomic, Assume, Clause, Cut, Either, Exists, Forall, Goal, Goals, Not, no_goals, goals, goal_list}
-use Rattle.lp_model.specs.Pair.{Closing, closed}
+use Rattle.lp_model.specs.Branch.{Branch, Entry, Task}
+use Rattle.lp_model.specs.Flat.{Goals, no_goals, goals, goal_list}
 use Rattle.lp_model.specs.Skeleton.{State}
-use Rattle.lp_plain.specs.declared.candidates.Candidate.{Candidate}
-use Rattle.lp_plain.specs.declared.choice.Call.{Call}
 use Rattle.lp_plain.specs.declared.choice.Choice.{Choice}
 use Rattle.lp_plain.specs.declared.choice.Denial.{Denial}
 use Rattle.lp_plain.specs.declared.choice.Untried.{Untried}
@@ -20,16 +16,15 @@ use Rattle.lp_plain.specs.declared.outcome.Turn.{Turn}
 use Rattle.lp_plain.specs.declared.table.Span.{Span}
 use Rattle.lp_term.specs.declared.node.TermId.{TermId}
 use Rattle.lp_plain.specs.Entries.{AreTodo, Around, Reads, a_frame, in_scope, no_frame, placed}
-use Rattle.lp_plain.specs.Moving.{AreAlternatives, AreEntriesUnder, AreOuter, HasAlternatives, IsAtGoals, IsBack, IsGoalUnder, IsPlain, IsPlainFirst, IsState, IsTasksOf, Query, Waiting, mark_in, of_call, of_side, tries_under}
+use Rattle.lp_plain.specs.Moving.{AreAlternatives, AreOuter, HasAlternatives, IsAtGoals, IsBack, IsState, Query, Waiting, mark_in}
 use Rattle.lp_plain.specs.Scopes.{blocks_of}
 use Rattle.lp_plain.specs.Searching.{StandForAll, StandsFor, a_side, some_tries}
-use Rattle.lp_plain.specs.Stacks.{base_of, stack_of}
+use Rattle.lp_plain.specs.Stacks.{base_of}
 use Rattle.lp_plain.specs.Tables.{AreGoals, Never, shown}
-use Rattle.lp_plain.specs.inner.Following.{Course, IsTreated, IsTreatedFirst, Kept, at_once}
+use Rattle.lp_plain.specs.inner.Following.{Course}
 use Rattle.lp_plain.proofs.Bounds.{split_newest}
-use Rattle.lp_plain.proofs.CallsUnder.{tasks_count}
 use Rattle.lp_plain.proofs.Following.{IsInnerTurn}
-use Rattle.lp_plain.proofs.QuietMoves.{drop_push, stack_push}
+use Rattle.lp_plain.proofs.QuietMoves.{drop_push}
 
 pub goals_some : (m : Machine) (a : Around) (p : Place) (span : Span) (o : Option ℕ) (raw : Branch) → IsAtGoals m a p span o raw → raw.goals ≡ [] → ⊥
 goals_some m a p span o raw h e = go h.goals_of h.are h.goals

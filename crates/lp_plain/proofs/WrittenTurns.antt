@@ -1,6 +1,5 @@
 -- All in a search stays written where its bank and its bindings grow, and where a step is taken.
 use Rattle.std.proofs.Common.{◌≡◌, ℕ, ap, ◌∙◌, arith, subst, sym, Option}
-use Rattle.lp_term.specs.Nodes.{Extends}
 use Rattle.lp_term.proofs.Trees.{extends-trans}
 use Rattle.lp_pattern.specs.Growing.{Grows}
 use Rattle.lp_pattern.proofs.Keeps.{grows_same, grows_then}

@@ -1,18 +1,14 @@
 -- Goals that are known at run time: at hand, and as they were looked at.
 use Rattle.std.specs.Prelude.{◌≡◌, ◌⊎◌, ◌<◌, ◌≤◌, ℕ, List, [], ◌∷◌, length, Option, Some}
 use Rattle.lp_calculus.specs.Normal.{nodes}
-use Rattle.lp_calculus.specs.Spine.{arguments, head_of}
-use Rattle.lp_calculus.specs.Term.{Term, index, atom, abs, app, constant, integer, text, eigen, logic, param}
+use Rattle.lp_calculus.specs.Term.{Term, atom}
 use Rattle.lp_standard.specs.Connectives.{connective_of}
-use Rattle.lp_standard.specs.Constants.{IsOrder}
 use Rattle.lp_standard.specs.Connectives as connective
-use Rattle.lp_standard.specs.Numbers as number
 use Rattle.lp_term.specs.Nodes.{Nodes, tree}
 use Rattle.lp_term.specs.declared.node.TermId.{TermId}
 use Rattle.lp_model.specs.Branch.{Branch, Entry}
 use Rattle.lp_model.specs.Eigens.{beta_normal}
 use Rattle.lp_model.specs.Flat.{Goal, Atomic, Cut, Either, Exists, Forall, Assume, Not}
-use Rattle.lp_model.specs.Look.{head_normal}
 use Rattle.lp_model.specs.Pair.{Closing, closed}
 use Rattle.lp_pattern.specs.Seen.{IsEnded, IsReachedWithin}
 use Rattle.lp_plain.specs.declared.form.Form.{Form}
