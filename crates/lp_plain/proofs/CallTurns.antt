@@ -1,27 +1,25 @@
 -- A call behind its step: about to try its first candidate, or without one, or too deep.
-use Rattle.std.proofs.Common.{◌≡◌, ◌⊎◌, ℕ, zero, suc, ◌+◌, ◌-◌, ◌<◌, ◌≤◌, List, [], ◌∷◌, ◌++◌, cond, map, length, refl, sym, ap, inl, inr, ◌∙◌, subst, arith, Option, None, Some, true, false}
-use Rattle.std.specs.Prelude.{All, Bool, filter}
+use Rattle.std.proofs.Common.{◌≡◌, ℕ, suc, ◌+◌, ◌-◌, List, [], ◌∷◌, ◌++◌, cond, map, length, refl, sym, ap, inl, inr, ◌∙◌, subst, arith, Option, None, Some, true, false}
+use Rattle.std.specs.Prelude.{Bool, filter}
 use Rattle.lp_calculus.specs.Fill.{Within}
-use Rattle.lp_calculus.specs.Spine.{arguments, head_of}
+use Rattle.lp_calculus.specs.Spine.{head_of}
 use Rattle.lp_calculus.specs.Term.{Term, Atom, constant, eigen, integer, logic, param, text}
 use Rattle.lp_calculus.specs.Types.{instance}
 use Rattle.lp_calculus.proofs.Fills.{within_more}
 use Rattle.lp_lemmas.specs.Each.{EachOf}
-use Rattle.lp_term.specs.Nodes.{Nodes, Extends, tree}
+use Rattle.lp_term.specs.Nodes.{Nodes, Extends}
 use Rattle.lp_term.specs.declared.node.TermId.{TermId}
 use Rattle.lp_model.specs.Branch.{Answer, Branch, Entry, Lack, Task, Try}
 use Rattle.lp_model.specs.Flat.{Clause, Clauses}
 use Rattle.lp_model.specs.Pair.{Closing, closed}
-use Rattle.lp_model.specs.Search.{candidates, goal_looked, has_head, look, passes, tries}
+use Rattle.lp_model.specs.Search.{candidates, has_head, look, passes, tries}
 use Rattle.lp_model.specs.Skeleton.{Inner, State, move_at}
 use Rattle.lp_model.specs.Unify.{unit_limit}
-use Rattle.lp_pattern.specs.Growing.{IsPairOf}
 use Rattle.lp_pattern.specs.Putting.{Known}
 use Rattle.lp_pattern.proofs.Walking.{open_kept}
 use Rattle.lp_plain.specs.declared.candidates.Candidate.{Candidate}
 use Rattle.lp_plain.specs.declared.candidates.Candidate.TheVariants as candidate
 use Rattle.lp_plain.specs.declared.choice.Call.{Call}
-use Rattle.lp_plain.specs.declared.frame.Frame.{Frame}
 use Rattle.lp_plain.specs.declared.frame.Place.{Place}
 use Rattle.lp_plain.specs.declared.head.Head.{Head}
 use Rattle.lp_plain.specs.declared.head.Key.{Key}
@@ -29,12 +27,12 @@ use Rattle.lp_plain.specs.declared.machine.Machine.{Machine}
 use Rattle.lp_plain.specs.declared.outcome.Turn.{Turn}
 use Rattle.lp_plain.specs.Assuming.{HasAssumed, IsPlaceAt, Lists, head_term, links, lists_of}
 use Rattle.lp_plain.specs.Candidates.{AreLeft}
-use Rattle.lp_plain.specs.Calling.{IsAtCall, IsProgramIn, LeadsOn}
+use Rattle.lp_plain.specs.Calling.{IsAtCall, IsProgramIn, LeadsWith, WrittenBehind}
 use Rattle.lp_plain.specs.Entries.{Around}
 use Rattle.lp_plain.specs.HeadLooks.{with_bank}
-use Rattle.lp_plain.specs.Moving.{AreClausesWritten, AreKnownTries, HasAlternatives, HasNoVariable, IsBack, IsCounted, IsGoingOn, IsTrying, Leads, Query, mark_in, tries_under}
+use Rattle.lp_plain.specs.Moving.{AreClausesWritten, AreKnownTries, HasAlternatives, HasNoVariable, IsBack, IsCounted, IsGoingOn, IsTrying, Query, mark_in, tries_under}
 use Rattle.lp_plain.specs.Stacks.{base_of}
-use Rattle.lp_plain.specs.Resuming.{AllOfAssumed, AllOfClause, clause_with}
+use Rattle.lp_plain.specs.Resuming.{AllOfAssumed, AllOfClause}
 use Rattle.lp_plain.specs.Trials.{IsCallHead, goal_of}
 use Rattle.lp_plain.specs.Trying.{AreApplied, AreCandidates, AreOfProgram, AreTriesApart, HasArity, HasProgram, IsCallOf, all_clauses, first_in}
 use Rattle.lp_plain.specs.WrittenGoals.{IsProgramClause}
@@ -50,7 +48,7 @@ use Rattle.lp_plain.proofs.Under.{branch_on}
 use Rattle.lp_plain.proofs.WrittenPut.{clause_put}
 
 -- a look that takes too many steps waits
-pub lacks_on : (qv : Query) (turn : Turn) (n : Machine) (go : (Answer → Bool) → State Task → Inner) (enough : ℕ) (P : List Clause) (s : State Task) (k : ℕ) (below : List Task) → s.answers ≡ suc k → s.stack ≡ Lack ∷ below → Leads 1 qv turn n go (look unit_limit enough P) s
+pub lacks_on : (qv : Query) (turn : Turn) (n : Machine) (go : (Answer → Bool) → State Task → Inner) (enough : ℕ) (P : List Clause) (s : State Task) (k : ℕ) (below : List Task) → s.answers ≡ suc k → s.stack ≡ Lack ∷ below → LeadsWith (WrittenBehind turn n qv.arity) 1 qv turn n go (look unit_limit enough P) s
 lacks_on qv turn n go enough P s k below ea es =
     let see = look unit_limit enough P in
     inr (inl (0, [], (λ i. move_at go see s.steps (ea i) s.given s.rows s.row s.lost (es i)) ∙ by_lost go see s.steps k s.given s.rows s.row s.lost Lack below))

@@ -1,7 +1,6 @@
 -- The clauses of a program are put into the table, formula by formula, while the bank grows.
 use Rattle.std.proofs.Common.{◌≡◌, ℕ, suc, ◌<◌, ◌≤◌, List, [], ◌∷◌, ◌++◌, map, length, take, inl, inr, refl, sym, ap, ◌∙◌, subst, arith, Option, Some}
 use Rattle.std.specs.Prelude.{All, slice_get}
-use Rattle.std.proofs.lemmas.List.{map-append}
 use Rattle.std.proofs.lemmas.List.Elements.{All-cons, All-head, All-tail, All-weaker}
 use Rattle.lp_lemmas.proofs.Elements.{All_empty, All_pushed}
 use Rattle.lp_lemmas.proofs.Lists.{get_map, get_from_map, take_suc}
@@ -47,32 +46,29 @@ program_push b t (r ∷ ss) [] s cs p h = absurd p
 program_push b t (r ∷ ss) (ds ∷ css) s cs p h = (p.0, program_push b t ss css s cs p.1 h)
 
 -- the last of those that are there
-record EndsIn {A : Type 0} (xs : List (Option A)) (x : Option A) (ys : List A) : Type 0 where
-  pub front : List A
-  pub last : A
-  pub whole : ys ≡ front ++ last ∷ []
-  pub fronts : xs ≡ map Some front
-  pub is_last : x ≡ Some last
+record EndsIn (d : ℕ → Option Scheme) (b : Nodes) (fs : List ClauseFormula) (f : ClauseFormula) (css : List Clauses) : Type 0 where
+  pub front : List Clauses
+  pub last : Clauses
+  pub whole : css ≡ front ++ last ∷ []
+  pub fronts : AreFlat d b fs front
+  pub is_last : (n : ℕ) × (flatten n d (formula_of b f) ≡ Some last)
 
-ends_in : {A : Type 0} (xs : List (Option A)) (x : Option A) (ys : List A) → xs ++ x ∷ [] ≡ map Some ys → EndsIn xs x ys
-ends_in [] x [] e = absurd (let q = ap length e in omega (arith, q))
-ends_in [] x (y ∷ []) e = record { front = []; last = y; whole = refl; fronts = refl; is_last = (let q : x ≡ Some y = cc in q) }
-ends_in [] x (y ∷ z ∷ ys) e = absurd (let q = ap length e in omega (arith, q))
-ends_in (w ∷ xs) x [] e = absurd (let q = ap length e in omega (arith, q))
-ends_in (w ∷ xs) x (y ∷ ys) e =
-    let h : w ≡ Some y = cc in
-    let t : xs ++ x ∷ [] ≡ map Some ys = cc in
-    let r = ends_in xs x ys t in
-    let k = r.fronts in
-    record { front = y ∷ r.front; last = r.last; whole = ap (λ l. y ∷ l) r.whole; fronts = (λ i. h i ∷ k i); is_last = r.is_last }
+ends_in : (d : ℕ → Option Scheme) (b : Nodes) (fs : List ClauseFormula) (f : ClauseFormula) (css : List Clauses) → AreFlat d b (fs ++ f ∷ []) css → EndsIn d b fs f css
+ends_in d b [] f [] h = absurd h
+ends_in d b [] f (cs ∷ []) h = record { front = []; last = cs; whole = refl; fronts = tt; is_last = h.0 }
+ends_in d b [] f (cs ∷ ds ∷ css) h = absurd h.1
+ends_in d b (g ∷ fs) f [] h = absurd h
+ends_in d b (g ∷ fs) f (cs ∷ css) h =
+    let r = ends_in d b fs f css h.1 in
+    record { front = cs ∷ r.front; last = r.last; whole = ap (λ l. cs ∷ l) r.whole; fronts = (h.0, r.fronts); is_last = r.is_last }
 
 -- nothing is put yet
 pub none_put : (fs : List ClauseFormula) (b : Nodes) (t : Table) (spans : List Span) → spans ≡ [] → ArePut fs b b t t spans 0
-none_put fs b t spans e = record { kept = extends_same b; ends = All_empty (λ (s : Span). s.to ≤ length t.rules.items) spans e; within = λ i. i; spans_are = λ i f n d css h. subst (λ ss. AreProgramOf b t ss css) (sym e) (go css h) }
+none_put fs b t spans e = record { kept = extends_same b; ends = All_empty (λ (s : Span). s.to ≤ length t.rules.items) spans e; within = λ i. i; spans_are = λ i f d css h. subst (λ ss. AreProgramOf b t ss css) (sym e) (go d css h) }
   where
-    go : (css : List Clauses) → [] ≡ map Some css → AreProgramOf b t [] css
-    go [] h = tt
-    go (cs ∷ css) h = absurd (let q = ap length h in omega (arith, q))
+    go : (d : ℕ → Option Scheme) (css : List Clauses) → AreFlat d b [] css → AreProgramOf b t [] css
+    go d [] h = tt
+    go d (cs ∷ css) h = absurd h
 
 -- the clauses of one formula more
 module _ (fs : List ClauseFormula) (a b d : Nodes) (t u v : Table) (spans spans' : List Span) (k k' : ℕ) (f : ClauseFormula) (cs : List CodeClause) (s : Span) (p : ArePut fs a b t u spans k) (x : Extends b d) (got : slice_get fs k ≡ Some f)
@@ -84,15 +80,13 @@ module _ (fs : List ClauseFormula) (a b d : Nodes) (t u v : Table) (spans spans'
   older : (css : List Clauses) → IsTableIn (length b.terms) u → AreProgramOf b u spans css → AreProgramOf d v spans css
   older css i h = program_on b d u v (λ r gs c. rules_on d Never Never (shown u) (shown v) leads r.from r.to gs (rules_later b d x u i r.from r.to gs c)) spans css h
 
-  spans_more : IsTableIn (length a.terms) t → AreFormulasIn a fs → (n : ℕ) (e : ℕ → Option Scheme) (css : List Clauses) → AreFlat n e a (take k' fs) css → AreProgramOf d v spans' css
-  spans_more i j n e css h =
-      let F = λ (g : ClauseFormula). flatten n e (formula_of a g) in
-      let z : map F (take k fs) ++ F f ∷ [] ≡ map Some css = sym (map-append F (take k fs) (f ∷ [])) ∙ ap (map F) (sym (ap (λ m. take m fs) next ∙ take_suc fs k f got)) ∙ h in
-      let r = ends_in (map F (take k fs)) (F f) css z in
+  spans_more : IsTableIn (length a.terms) t → AreFormulasIn a fs → (e : ℕ → Option Scheme) (css : List Clauses) → AreFlat e a (take k' fs) css → AreProgramOf d v spans' css
+  spans_more i j e css h =
+      let r = ends_in e a (take k fs) f css (subst (λ l. AreFlat e a l css) (ap (λ m. take m fs) next ∙ take_suc fs k f got) h) in
       let l : f.formula.0 < length a.terms = all_at (λ (g : ClauseFormula). g.formula.0 < length a.terms) fs k f got j in
-      let q : clauses_of d cs ≡ r.last = flat n e r.last d (ap (flatten n e) (same_formula l) ∙ r.is_last) (extends_same d) in
+      let q : clauses_of d cs ≡ r.last = flat r.is_last.0 e r.last d (ap (flatten r.is_last.0 e) (same_formula l) ∙ r.is_last.1) (extends_same d) in
       subst (λ ss. AreProgramOf d v ss css) (sym more)
-      (subst (AreProgramOf d v (spans ++ s ∷ [])) (sym r.whole) (program_push d v spans r.front s r.last (older r.front (p.within i) (p.spans_are i j n e r.front r.fronts)) (subst (AreClausesOf d v s) q means)))
+      (subst (AreProgramOf d v (spans ++ s ∷ [])) (sym r.whole) (program_push d v spans r.front s r.last (older r.front (p.within i) (p.spans_are i j e r.front r.fronts)) (subst (AreClausesOf d v s) q means)))
 
   ends_more : All (λ s. s.to ≤ length v.rules.items) spans'
   ends_more =

@@ -15,6 +15,7 @@ ghost use Rattle.lp_plain.specs.HeadLooks.{OnlyBank};
 ghost use Rattle.lp_plain.specs.Keeping.{HasOneMore};
 ghost use Rattle.lp_plain.specs.Moving.{IsAtGoal, IsRunning, IsState, Query};
 ghost use Rattle.lp_plain.specs.Negations.{denial, AreFound, IsDenied, Takes};
+ghost use Rattle.lp_plain.specs.Turns.{IsGoalTurn, KeepsProgram};
 ghost use Rattle.lp_plain.specs.Within.{StandsIn};
 ghost use Rattle.lp_plain.specs.WrittenSearch.{IsWrittenSearch, WritesList};
 
@@ -40,6 +41,7 @@ fn begin(
     ensures lost { OnOk result (machine.new.counts.lost ≡ false) }
     ensures steps { OnOk result (machine.new.counts.steps ≡ machine.old.counts.steps) }
     ensures pairs { OnOk result (machine.new.branch.pairs.items ≡ []) }
+    ensures program { OnOk result (KeepsProgram machine.old machine.new) }
     ensures written { OnOk result (WritesList machine.old machine.new place [] goals) }
     ensures begun { OnOk result (IsBegun machine.old machine.new place goals behind) }
     ensures inner { OnOk result ((a : Reading) (hs : Goals) (σ : ℕ → Term) (b : Branch) (w : Written) → IsOf machine.old place goals hs σ → machine.old.branch.next ≡ b.next → machine.old.branch.next_type ≡ b.next_type → a.mark (length machine.new.choices.items) ≡ 0 →
@@ -72,6 +74,7 @@ fn openness_at(machine: &mut Machine, free: usize, place: Place) -> Result<Openn
     ensures assumptions { machine.new.assumptions ≡ machine.old.assumptions }
     ensures newest { machine.new.newest ≡ machine.old.newest }
     ensures grows { OnOk result (GrowsGoals machine.old machine.new) }
+    ensures program { OnOk result (KeepsProgram machine.old machine.new) }
     ensures stands { OnOk result (StandsIn machine.old → StandsIn machine.new) }
     ensures found { IfOk result (AreFound machine.old (record { free = free; values = place.values; older = place.standing })) }
 {
@@ -102,6 +105,8 @@ pub(crate) fn take_not<W: Watch>(
     ensures takes { IfOk result (λ turn. Takes turn (record { free = free; values = place.values; older = place.standing }) machine.old machine.new behind) }
     ensures denies { IfOk result (λ turn. (qv : Query) (a : Reading) (raw : Branch) (s : State Task) (h : IsRunning qv machine.old a raw s) → IsAtGoal machine.old a place (Flat.Not goals free) behind raw → TakesDenied turn qv machine.new s h.at_work.goals) }
     ensures written { IfOk result (λ turn. turn ≡ Turn.On → WritesList machine.old machine.new place [] goals) }
+    ensures program { OnOk result (KeepsProgram machine.old machine.new) }
+    ensures ends { IfOk result IsGoalTurn }
     ensures inner { IfOk result (λ turn. turn ≡ Turn.On → (a : Reading) (hs : Goals) (σ : ℕ → Term) (b : Branch) (w : Written) → StandsIn machine.old → IsOf machine.old place goals hs σ → IsBehind machine.old a behind b → a.mark (length machine.new.choices.items) ≡ 0 →
         let gs : Goals = in_scope σ place.values.types hs in IsDenied machine.new a (look_not (entry_at a place (Denied w gs)) b gs (Some false))) }
 {

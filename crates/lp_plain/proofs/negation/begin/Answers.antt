@@ -7,6 +7,7 @@ use Rattle.lp_plain.proofs.Growing.{grows_kept}
 use Rattle.lp_plain.proofs.Opening.{same_stands}
 use Rattle.lp_plain.proofs.WrittenGrows.{list_in_later}
 use Rattle.lp_plain.proofs.WrittenSearches.{search_aside, search_list}
+use Rattle.lp_plain.proofs.ProgramKept.{goals_keep, program_then}
 use Rattle.std.proofs.Common.{◌≡◌, ◌∷◌, ◌++◌, append-nil, false, subst}
 use Rattle.std.specs.Prelude.{◌⊎◌}
 use Rattle.lp_pattern.proofs.Keeps.{goes_on_then}
@@ -42,6 +43,15 @@ returns-clause-written c = λ ar i w s.
     let z = search_list _ c.put_list.new.self c.args.goals _ _ f.goals f.assumed f.course.choices f.puts ar (record { table = j.table; values = j.values; frames = j.frames }) l
     (record { at_work = one.at_work; alternatives = one.alternatives; older = one.older }) in
     record { at_work = z.at_work; alternatives = z.alternatives; older = z.older }
+
+pub returns-clause-program : goal.returns-clause-program
+returns-clause-program c =
+    let m = c.args.machine.now in
+    let n = c.put_choice.new.self in
+    let q = c.put_list.new.self in
+    let y = goals_keep _ q c.in_ok-first.ensures.goals in
+    let z = program_then m n q (goals_keep m n c.in_ok-put_choice.ensures.goals) (record { bank = y.bank; table = y.table; index = y.index }) in
+    record { bank = z.bank; table = z.table; index = z.index }
 
 pub returns-clause-begun : goal.returns-clause-begun
 returns-clause-begun c =

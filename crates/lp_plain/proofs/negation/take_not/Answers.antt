@@ -9,6 +9,7 @@ use Rattle.std.proofs.Common.{[]}
 use Rattle.lp_plain.proofs.Opening.{same_stands}
 use Rattle.lp_plain.proofs.WrittenGrows.{list_in_later}
 use Rattle.lp_plain.proofs.WrittenSearches.{search_same}
+use Rattle.lp_plain.proofs.ProgramKept.{goals_keep, program_same, program_then}
 use Rattle.std.proofs.Common.{◌≡◌, refl}
 use Rattle.lp_term.specs.Nodes.{Extends}
 use Rattle.lp_plain.specs.Cuts.{one_step, stepped}
@@ -63,6 +64,22 @@ returns-in_ok-begin-in-Closed-clause-written g c = λ on ar i w s.
     let two = search_same k n j grown o.frames (record { assumptions = o.assumptions; newest = o.newest }) (ap (λ v. v.items) o.choices) ar one in
     c.in_ok-begin-in-Closed.ensures.written ar (c.in_ok-openness_at.ensures.stands j)
     (list_in_later m n i (grows_then m k n (grows_kept m k t.goals) grown) ar c.args.place.values.scope [] c.args.goals w) two
+
+pub returns-then-not-take_step-clause-program : goal.returns-then-not-take_step-clause-program
+returns-then-not-take_step-clause-program g c = program_same c.args.machine.now c.take_step.new.machine (c.if-not-take_step.ensures.spent refl).0
+
+pub returns-in-Deep-clause-program : goal.returns-in-Deep-clause-program
+returns-in-Deep-clause-program g c = program_then c.args.machine.now c.take_step.new.machine c.openness_at.new.machine (goals_keep c.args.machine.now c.take_step.new.machine c.take_step.ensures.goals) c.in_ok-openness_at.ensures.program
+
+pub returns-in-Open-clause-program : goal.returns-in-Open-clause-program
+returns-in-Open-clause-program g c = program_then c.args.machine.now c.take_step.new.machine c.openness_at.new.machine (goals_keep c.args.machine.now c.take_step.new.machine c.take_step.ensures.goals) c.in_ok-openness_at.ensures.program
+
+pub returns-in_ok-begin-in-Closed-clause-program : goal.returns-in_ok-begin-in-Closed-clause-program
+returns-in_ok-begin-in-Closed-clause-program g c =
+    let m = c.args.machine.now in
+    let k = c.take_step.new.machine in
+    let n = c.openness_at.new.machine in
+    program_then m n c.begin.new.machine (program_then m k n (goals_keep m k c.take_step.ensures.goals) c.in_ok-openness_at.ensures.program) c.in_ok-begin-in-Closed.ensures.program
 
 pub returns-then-not-take_step-clause-denies : goal.returns-then-not-take_step-clause-denies
 returns-then-not-take_step-clause-denies g c = λ qv a raw s h at.

@@ -26,10 +26,10 @@ pub returns-clause-within : goal.returns-clause-within
 returns-clause-within c = c.formulas.invariant.within
 
 pub returns-clause-program : goal.returns-clause-program
-returns-clause-program c = λ i j n d css h.
+returns-clause-program c = λ i j d css h.
     let fs = c.args.formulas.now in
     let w : length fs.items ≤ c.formulas.at = omega (arith, c.formulas-test.false, c.len-at-end.ensures, fs.ok) in
-    c.formulas.invariant.spans_are i j n d css (subst (λ l. AreFlat n d c.args.bank.now l css) (sym (take_all c.formulas.at fs.items w)) h)
+    c.formulas.invariant.spans_are i j d css (subst (λ l. AreFlat d c.args.bank.now l css) (sym (take_all c.formulas.at fs.items w)) h)
 
 pub returns-clause-ends : goal.returns-clause-ends
 returns-clause-ends c = c.formulas.invariant.ends

@@ -5,8 +5,11 @@ use Rattle.lp_plain.specs.declared.outcome.Turn.{Turn}
 use Rattle.lp_plain.specs.Moving.{IsTrying}
 use Rattle.lp_plain.proofs.Backwards.{back_marked, back_state, ends_so}
 use Rattle.lp_plain.proofs.Restored.{goes_back}
-use Rattle.lp_plain.proofs.Following.{kept_of, moved_stands}
-use Rattle.lp_plain.proofs.Treated.{has_last, has_none, inner_turn, last_of, none_below, not_clauses, not_denied}
+use Rattle.lp_plain.specs.WrittenSearch.{IsWrittenSearch}
+use Rattle.lp_plain.proofs.Following.{moved_stands}
+use Rattle.lp_plain.proofs.Led.{led_to}
+use Rattle.lp_plain.proofs.ProgramKept.{clauses_on, goals_keep, program_then, taken_keeps}
+use Rattle.lp_plain.proofs.Treated.{has_last, has_none, inner_turn, last_of, none_below, not_denied}
 use Rattle.lp_plain.proofs.BackMoves.{none_moved, side_state}
 use Rattle.lp_plain.proofs.WrittenFirst.{back_written}
 use Rattle.lp_plain.proofs.WrittenSearches.{search_back}
@@ -182,6 +185,18 @@ returns-in-Denied-clause-written c = λ k rest from e u ar i w.
     let y = c.in-Denied.is in
     absurd (cc)
 
+pub returns-in_ok-turn-in-Clauses-clause-tries_written : goal.returns-in_ok-turn-in-Clauses-clause-tries_written
+returns-in_ok-turn-in-Clauses-clause-tries_written c = λ k rest call one e u l qv s h w.
+    let n = c.take_choice.new.self in
+    let o = c.in_ok-untried.ensures in
+    let t = o.taken k rest e in
+    let same : Untried.Clauses c.in-Clauses.call c.in-Clauses.candidate ≡ Untried.Clauses call one = (let z = t.0 in let y = c.in-Clauses.is in cc) in
+    let sc : c.in-Clauses.call ≡ call = cc in
+    let so : c.in-Clauses.candidate ≡ one = cc in
+    c.in_ok-turn-in-Clauses.ensures.written qv h.around s
+    (subst (λ x. IsTrying qv n h.around x c.in-Clauses.candidate s) (sym sc) (subst (λ x. IsTrying qv n h.around call x s) (sym so) (o.trying qv k rest call one e u l s h)))
+    (search_back c.args.machine.now n k rest e t.1 qv.arity w)
+
 pub returns-then-machine-clause-stands : goal.returns-then-machine-clause-stands
 returns-then-machine-clause-stands c = λ k h.
     let m = c.args.machine.now in
@@ -189,7 +204,7 @@ returns-then-machine-clause-stands c = λ k h.
     let s = h.1 in
     let none = h.2.2 in
     elim (last_of m.choices.items) [
-      | has_none e ↦ moved_stands k qv m h.2 (Turn.Ended NoMoreCut) s (inner_turn qv.outer (Turn.Ended NoMoreCut) none) (returns-then-machine-clause-moved c qv e s h.3) h.4
+      | has_none e ↦ moved_stands k qv m h.2 (Turn.Ended NoMoreCut) (λ y. absurd y) s (inner_turn qv.outer (Turn.Ended NoMoreCut) none) (returns-then-machine-clause-moved c qv e s h.3) h.4
       | has_last ys y e ↦ absurd (let z = (c.in_ok-untried.ensures.taken y ys e).0 in let w = c.in_default.is in cc)
     ]
 
@@ -200,13 +215,15 @@ returns-in_default-clause-stands c = λ k h.
     let s = h.1 in
     let none = h.2.2 in
     elim (last_of m.choices.items) [
-      | has_none e ↦ moved_stands k qv m h.2 (Turn.Ended NoMore) s (inner_turn qv.outer (Turn.Ended NoMore) none) (returns-in_default-clause-moved c qv e s h.3) h.4
+      | has_none e ↦ moved_stands k qv m h.2 (Turn.Ended NoMore) (λ y. absurd y) s (inner_turn qv.outer (Turn.Ended NoMore) none) (returns-in_default-clause-moved c qv e s h.3) h.4
       | has_last ys y e ↦ absurd (let z = (c.in_ok-untried.ensures.taken y ys e).0 in let w = c.in_default.is in cc)
     ]
 
 pub returns-in_ok-go_right-in-Goals-clause-stands : goal.returns-in_ok-go_right-in-Goals-clause-stands
 returns-in_ok-go_right-in-Goals-clause-stands c = λ k h.
     let m = c.args.machine.now in
+    let n = c.take_choice.new.self in
+    let q = c.go_right.new.machine in
     let qv = h.0 in
     let s = h.1 in
     let none = h.2.2 in
@@ -214,28 +231,43 @@ returns-in_ok-go_right-in-Goals-clause-stands c = λ k h.
     elim (last_of m.choices.items) [
       | has_none e ↦ absurd (let z = c.in_ok-untried.ensures.none e in let w = c.in-Some.is in cc)
       | has_last ys y e ↦
-          (let z = (c.in_ok-untried.ensures.taken y ys e).0 in
+          (let o = c.in_ok-untried.ensures.taken y ys e in
+          let z = o.0 in
           let w = c.in-Goals.is in
           let v = c.in-Some.is in
           let u : y.untried ≡ Untried.Goals c.in-Goals.goals = cc in
-          (qv, s, h.2, returns-in_ok-go_right-in-Goals-clause-resumed c qv y ys c.in-Goals.goals e u (omega (arith, low)) s h.3, h.4))
+          let written = returns-in_ok-go_right-in-Goals-clause-written c y ys c.in-Goals.goals e u k.query.arity h.3.above.done.stands h.5.written in (
+            qv,
+            s,
+            h.2,
+            returns-in_ok-go_right-in-Goals-clause-resumed c qv y ys c.in-Goals.goals e u (omega (arith, low)) s h.3,
+            h.4,
+            clauses_on k.program k.query.arity m q (program_then m n q (taken_keeps m n y ys o.1) (goals_keep n q c.in_ok-go_right-in-Goals.ensures.known)) written h.5,
+          ))
     ]
 
 pub returns-in_ok-turn-in-Clauses-clause-stands : goal.returns-in_ok-turn-in-Clauses-clause-stands
 returns-in_ok-turn-in-Clauses-clause-stands c = λ k h.
     let m = c.args.machine.now in
+    let n = c.take_choice.new.self in
+    let q = c.try_candidate.new.machine in
     let qv = h.0 in
     let s = h.1 in
     let none = h.2.2 in
+    let turn = c.in_ok-turn-in-Clauses.turn in
     let low = none_below qv m h.3.around s.stack none h.3.above in
     elim (last_of m.choices.items) [
       | has_none e ↦ absurd (let z = c.in_ok-untried.ensures.none e in let w = c.in-Some.is in cc)
       | has_last ys y e ↦
-          (let z = (c.in_ok-untried.ensures.taken y ys e).0 in
+          (let o = c.in_ok-untried.ensures.taken y ys e in
+          let z = o.0 in
           let w = c.in-Clauses.is in
           let v = c.in-Some.is in
           let u : y.untried ≡ Untried.Clauses c.in-Clauses.call c.in-Clauses.candidate = cc in
-          absurd (not_clauses k qv m s h.3 y ys e (omega (arith, low)) c.in-Clauses.call c.in-Clauses.candidate u (kept_of k qv.outer s h.4)))
+          let sw = subst (IsWrittenSearch m) (sym h.2.0) h.5.written in
+          led_to k qv m q h.2 (program_then m n q (taken_keeps m n y ys o.1) c.in_ok-turn-in-Clauses.ensures.program) h.5 turn s (inner_turn qv.outer turn none)
+          (returns-in_ok-turn-in-Clauses-clause-leads c y ys c.in-Clauses.call c.in-Clauses.candidate e u (omega (arith, low)) qv s h.3 sw)
+          (returns-in_ok-turn-in-Clauses-clause-tries_written c y ys c.in-Clauses.call c.in-Clauses.candidate e u (omega (arith, low)) qv s h.3 sw) h.4)
     ]
 
 pub returns-in-Denied-clause-stands : goal.returns-in-Denied-clause-stands
@@ -254,18 +286,6 @@ returns-in-Denied-clause-stands c = λ k h.
           let u : y.untried ≡ Untried.Denied c.in-Denied.denial = cc in
           absurd (not_denied k qv m s h.3 y ys e (omega (arith, low)) c.in-Denied.denial u))
     ]
-
-pub returns-in_ok-turn-in-Clauses-clause-tries_written : goal.returns-in_ok-turn-in-Clauses-clause-tries_written
-returns-in_ok-turn-in-Clauses-clause-tries_written c = λ k rest call one e u l qv s h w.
-    let n = c.take_choice.new.self in
-    let o = c.in_ok-untried.ensures in
-    let t = o.taken k rest e in
-    let same : Untried.Clauses c.in-Clauses.call c.in-Clauses.candidate ≡ Untried.Clauses call one = (let z = t.0 in let y = c.in-Clauses.is in cc) in
-    let sc : c.in-Clauses.call ≡ call = cc in
-    let so : c.in-Clauses.candidate ≡ one = cc in
-    c.in_ok-turn-in-Clauses.ensures.written qv h.around s
-    (subst (λ x. IsTrying qv n h.around x c.in-Clauses.candidate s) (sym sc) (subst (λ x. IsTrying qv n h.around call x s) (sym so) (o.trying qv k rest call one e u l s h)))
-    (search_back c.args.machine.now n k rest e t.1 qv.arity w)
 
 pub returns-in_ok-go_right-in-Goals-clause-tries_written : goal.returns-in_ok-go_right-in-Goals-clause-tries_written
 returns-in_ok-go_right-in-Goals-clause-tries_written c = λ k rest call one e u l qv s h w.
