@@ -7,7 +7,6 @@ use Rattle.lp_calculus.specs.Closed.{AllAtoms}
 use Rattle.lp_calculus.specs.Spine.{head_of}
 use Rattle.lp_calculus.specs.Term.{Term, index, atom, abs, app, constant, integer, text, eigen, logic, param}
 use Rattle.lp_lemmas.specs.Each.{EachOf}
-use Rattle.lp_proof_laws.specs.Unnegated.{IsUnnegatedAtom}
 use Rattle.lp_term.specs.Nodes.{Nodes, Extends, type_tree}
 use Rattle.lp_model.specs.Answers.{Query as Proved}
 use Rattle.lp_model.specs.Flat.{Clause, Clauses, Goals, clause, clause_list}
@@ -20,12 +19,11 @@ use Rattle.lp_model.specs.declared.program.Program.{Program}
 use Rattle.lp_model.specs.declared.program.Typed.{Typed}
 use Rattle.lp_search_laws.specs.Started.{IsPlainSentence, IsTypedSentence}
 use Rattle.lp_search_laws.proofs.Begins.{program_typed}
-use Rattle.lp_search_laws.proofs.UnnegatedStarts.{program_unnegated, query_unnegated, start_unnegated}
 use Rattle.lp_plain.specs.declared.machine.Machine.{Machine}
 use Rattle.lp_plain.specs.declared.search.Search.{Search}
 use Rattle.lp_plain.specs.declared.table.Span.{Span}
 use Rattle.lp_plain.specs.Begun.{Begins, formulas_of, query_in}
-use Rattle.lp_plain.specs.Between.{HasClauses, IsBetween, IsUnnegated, begins, goes_on}
+use Rattle.lp_plain.specs.Between.{HasClauses, IsBetween, begins, goes_on}
 use Rattle.lp_plain.specs.Moving.{HasNoVariable, IsState}
 use Rattle.lp_plain.specs.ProgramClauses.{arity_in}
 use Rattle.lp_plain.specs.Resuming.{AllOfClause, AllOfGoals}
@@ -67,10 +65,6 @@ heads_have : (ar : ℕ → ℕ) (P : List Clause) → EachOf (IsProgramClause ar
 heads_have ar [] h = tt
 heads_have ar (clause n vs x b ∷ P) h = let y = head_has ar n (length vs) (head_of x) h.0.0.0 in (y.0, y.1, heads_have ar P h.1)
 
-plain_sentences : (d : Declared) (F : List ClauseFormula) → EachOf (IsTypedSentence d) F → EachOf (λ D. AllAtoms IsUnnegatedAtom D.formula) F → EachOf (IsPlainSentence d) F
-plain_sentences d [] t u = tt
-plain_sentences d (D ∷ F) t u = (record { typed = t.0; unnegated = u.0 }, plain_sentences d F t.1 u.1)
-
 module _ (d : Declared) (p : Program) (q : Typed) (P : List Clause) (gs : Goals) (h : Begins d p q P gs) where
   abbrev ar : ℕ → ℕ
   ar = arity_in d
@@ -100,12 +94,6 @@ module _ (d : Declared) (p : Program) (q : Typed) (P : List Clause) (gs : Goals)
   pub goals_written : GoalsWritten ar q.type_vars (own_and k []) gs
   goals_written = subst (λ i. GoalsWritten ar q.type_vars (own_and i []) gs) many (query_written d h.standard h.depth of gs h.query_typed h.query_flattened h.query_named)
 
-  unnegated : (steps answers : ℕ) → IsUnnegated P (start q.type_vars k gs steps answers)
-  unnegated steps answers = record {
-    program = program_unnegated d (formulas_of p) P (plain_sentences d (formulas_of p) h.clauses_typed h.clauses_unnegated) h.clauses_flattened;
-    tasks = (start_unnegated q.type_vars k gs (query_unnegated d h.depth of gs (record { typed = h.query_typed; unnegated = h.query_unnegated }) h.query_flattened), tt);
-  }
-
   abbrev lists : (css : List Clauses) × AreFlat d p.bank p.clauses.items css × (P ≡ all_clauses css)
   lists = flat_lists d p.bank p.clauses.items P h.clauses_flattened
 
@@ -129,7 +117,7 @@ module _ (d : Declared) (p : Program) (q : Typed) (P : List Clause) (gs : Goals)
   pub begun_between : (s : Search) (steps answers n : ℕ) → s.ended ≡ None → s.given ≡ 0 → s.answers ≡ answers → length s.variables.items ≡ k →
       IsState (record { types = q.type_vars; vars = k; arity = ar; outer = [] }) s.machine (start q.type_vars k gs steps answers) → HasClauses P ar s.machine → IsBetween P n s (start q.type_vars k gs steps answers)
   begun_between s steps answers n e g a v st cl =
-      goes_on (record { types = q.type_vars; vars = k; arity = ar; outer = [] }) e (record { alone = refl; are = v }) (record { given = sym g; left = omega (arith, a, g) }) (begins g st) cl (typed n steps answers) (unnegated steps answers)
+      goes_on (record { types = q.type_vars; vars = k; arity = ar; outer = [] }) e (record { alone = refl; are = v }) (record { given = sym g; left = omega (arith, a, g) }) (begins g st) cl (typed n steps answers)
 
 -- while the bank grows
 pub program_there : (m : Machine) (spans : List Span) (css : List Clauses) → StandsIn m → All (λ k. k < length m.table.rules.items) (numbers spans) → AreProgramOf m.bank m.table spans css → IsIndex m.bank m.table.rules.items (λ c. get nat_eq m.index c) (numbers spans) →

@@ -18,7 +18,7 @@ use Rattle.lp_plain.specs.declared.outcome.Turn.{Turn}
 use Rattle.lp_plain.specs.declared.search.Search.{Search}
 use Rattle.lp_plain.specs.Assuming.{GrowsOn}
 use Rattle.lp_plain.specs.HeadLooks.{with_bank}
-use Rattle.lp_plain.specs.Between.{AreEnough, HasClauses, HasGiven, HasVariables, IsBetween, IsUnnegated, answered, begins, goes_on, is_over}
+use Rattle.lp_plain.specs.Between.{AreEnough, HasClauses, HasGiven, HasVariables, IsBetween, answered, begins, goes_on, is_over}
 use Rattle.lp_plain.specs.Moving.{HasAlternatives, IsAnswer, IsAnswered, IsBack, IsState, Query, Waiting}
 use Rattle.lp_plain.specs.Telling.{IsAnswerOf, IsEventOf}
 use Rattle.lp_plain.specs.TypedStates.{IsTypedOver}
@@ -37,7 +37,7 @@ use Rattle.lp_plain.proofs.WrittenSearches.{search_same}
 -- no answer is left to give
 pub given_enough : (P : List Clause) (n : ℕ) (s u : Search) (t : State Task) → s.ended ≡ None → s.answers ≤ s.given → u.ended ≡ Some Enough → IsBetween P n s t → (x : Event Answer) (v : State Task) → Advances (look unit_limit n P) t x v →
     (x ≡ Over Enough) × IsBetween P n u v
-given_enough P n s u t e l eu (goes_on qv e' hv g go cl ty un) x v d =
+given_enough P n s u t e l eu (goes_on qv e' hv g go cl ty) x v d =
     let see = look unit_limit n P in
     let none : t.answers ≡ 0 = (let a = g.left in omega (arith, a, l)) in
     let r = enough_over see t none x v d in
@@ -46,7 +46,7 @@ given_enough P n s u t e l eu (is_over f ef h) x v d = absurd (cc)
 
 -- the search is over, and stays so
 pub is_over_still : (P : List Clause) (n : ℕ) (s : Search) (t : State Task) (e : Ending) → s.ended ≡ Some e → IsBetween P n s t → (x : Event Answer) (v : State Task) → Advances (look unit_limit n P) t x v → (x ≡ Over e) × IsBetween P n s v
-is_over_still P n s t e es (goes_on qv e' hv g go cl ty un) x v d = absurd (cc)
+is_over_still P n s t e es (goes_on qv e' hv g go cl ty) x v d = absurd (cc)
 is_over_still P n s t e es (is_over f ef h) x v d =
     let same : f ≡ e = (let q : Some f ≡ Some e = sym ef ∙ es in cc) in
     let q : x ≡ Over e = h x v d ∙ ap (λ z. Over z) same in
@@ -57,12 +57,12 @@ module _ (P : List Clause) (n : ℕ) (s : Search) (t : State Task) (x : Event An
   abbrev pub course : Query → Course
   course qv = record { query = qv; program = P; enough = n; left = s.answers - s.given - 1; given = s.given; begin = t; event = x; after = v }
 
-  module _ (qv : Query) (hv : HasVariables qv s) (g : HasGiven s t) (ty : IsTypedOver qv.arity n P t) (un : IsUnnegated P t) (cl : HasClauses P qv.arity s.machine) (more : s.given < s.answers) where
+  module _ (qv : Query) (hv : HasVariables qv s) (g : HasGiven s t) (ty : IsTypedOver qv.arity n P t) (cl : HasClauses P qv.arity s.machine) (more : s.given < s.answers) where
     within : IsOfQuery qv qv
-    within = (refl, subst (IsInQuery qv qv.types qv.vars) (sym hv.alone) (refl, refl), hv.alone)
+    within = (refl, subst (IsInQuery qv qv.types qv.vars) (sym hv.alone) (refl, refl))
 
     comes : Comes (course qv) qv.outer t
-    comes = subst (λ ws. Comes (course qv) ws t) (sym hv.alone) ((let a = g.left in omega (arith, a, more)), g.given, (λ u r. r, ty, un), d)
+    comes = subst (λ ws. Comes (course qv) ws t) (sym hv.alone) ((let a = g.left in omega (arith, a, more)), g.given, (λ u r. r, ty), d)
 
     pub to_tell : s.ended ≡ None → IsToTell s (course qv)
     to_tell e = record { goes_on = e; variables = hv; given = refl; left = (let l = more in omega (arith, l)); comes = d }
@@ -173,17 +173,17 @@ over_told x event e p q = subst (λ z. IsEventOf z event) (sym p) (subst (IsEven
 -- the next event, where the search has not begun, or is to go back from an answer
 module _ (P : List Clause) (n : ℕ) (s u : Search) (t : State Task) (x : Event Answer) (v : State Task) (d : Advances (look unit_limit n P) t x v) (event : Told) (none : s.ended ≡ None) (more : s.given < s.answers) (en : AreEnough P n t event) where
   pub first_told : s.given ≡ 0 → ((k : Course) → IsToTell s k → Stands k Turn.On s.machine → AreEnough k.program k.enough k.begin event → IsEventOf k.event event × IsBetween k.program k.enough u k.after) → IsBetween P n s t → IsEventOf x event × IsBetween P n u v
-  first_told z f (goes_on qv e hv g (begins y st) cl ty un) = f (course P n s t x v d qv) (to_tell P n s t x v d qv hv g ty un cl more none) (first_stands P n s t x v d qv hv g ty un cl more st) en
-  first_told z f (goes_on qv e hv g (answered y bk) cl ty un) = absurd (omega (arith, z, y))
+  first_told z f (goes_on qv e hv g (begins y st) cl ty) = f (course P n s t x v d qv) (to_tell P n s t x v d qv hv g ty cl more none) (first_stands P n s t x v d qv hv g ty cl more st) en
+  first_told z f (goes_on qv e hv g (answered y bk) cl ty) = absurd (omega (arith, z, y))
   first_told z f (is_over e q o) = absurd (cc)
 
   pub later_told : 0 < s.given → ((k : Course) → IsToTell s k → Stands k Turn.Back s.machine → AreEnough k.program k.enough k.begin event → IsEventOf k.event event × IsBetween k.program k.enough u k.after) → IsBetween P n s t → IsEventOf x event × IsBetween P n u v
-  later_told z f (goes_on qv e hv g (answered y bk) cl ty un) = f (course P n s t x v d qv) (to_tell P n s t x v d qv hv g ty un cl more none) (later_stands P n s t x v d qv hv g ty un cl more bk) en
-  later_told z f (goes_on qv e hv g (begins y st) cl ty un) = absurd (omega (arith, z, y))
+  later_told z f (goes_on qv e hv g (answered y bk) cl ty) = f (course P n s t x v d qv) (to_tell P n s t x v d qv hv g ty cl more none) (later_stands P n s t x v d qv hv g ty cl more bk) en
+  later_told z f (goes_on qv e hv g (begins y st) cl ty) = absurd (omega (arith, z, y))
   later_told z f (is_over e q o) = absurd (cc)
 
 -- whether memory ran out says nothing of it
 pub failed_between : (P : List Clause) (n : ℕ) (s : Search) (b : Bool) (t : State Task) → IsBetween P n s t → IsBetween P n (record s { failed = b }) t
-failed_between P n s b t (goes_on qv e hv g (begins y st) cl ty un) = goes_on qv e (record { alone = hv.alone; are = hv.are }) (record { given = g.given; left = g.left }) (begins y st) cl ty un
-failed_between P n s b t (goes_on qv e hv g (answered y bk) cl ty un) = goes_on qv e (record { alone = hv.alone; are = hv.are }) (record { given = g.given; left = g.left }) (answered y bk) cl ty un
+failed_between P n s b t (goes_on qv e hv g (begins y st) cl ty) = goes_on qv e (record { alone = hv.alone; are = hv.are }) (record { given = g.given; left = g.left }) (begins y st) cl ty
+failed_between P n s b t (goes_on qv e hv g (answered y bk) cl ty) = goes_on qv e (record { alone = hv.alone; are = hv.are }) (record { given = g.given; left = g.left }) (answered y bk) cl ty
 failed_between P n s b t (is_over e q o) = is_over e q o

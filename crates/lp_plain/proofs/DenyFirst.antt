@@ -1,5 +1,5 @@
 -- Which goals of the table, and of a frame, are negated ones.
-use Rattle.std.proofs.Common.{◌≡◌, ℕ, List, [], ◌∷◌, ◌++◌, refl, sym, ap, ◌∙◌, subst, Option, None, Some}
+use Rattle.std.proofs.Common.{◌≡◌, ℕ, Bool, List, [], ◌∷◌, ◌++◌, refl, sym, ap, ◌∙◌, subst, Option, None, Some}
 use Rattle.std.specs.Prelude.{slice_get}
 use Rattle.lp_calculus.specs.Term.{Term}
 use Rattle.lp_plain.specs.declared.types.Renewal.{Renewal}
@@ -19,6 +19,9 @@ use Rattle.lp_plain.specs.Moving.{IsAtGoal, IsState, Query}
 use Rattle.lp_plain.specs.Scopes.{blocks_of}
 use Rattle.lp_plain.specs.Tables.{IsGoal, Never, Shown, shown}
 use Rattle.lp_plain.specs.Taking.{goal_in}
+use Rattle.lp_plain.specs.AtRunTime.{IsWrittenFlat}
+use Rattle.lp_plain.specs.WrittenTable.{IsWrittenIn, WrittenFlat, WrittenList, a_choice, a_cut, a_not, a_some, an_all, an_assume, an_atom}
+use Rattle.lp_plain.proofs.WrittenParts.{in_by}
 
 no_denied : (b : Nodes) (t : Shown) (σ : ℕ → Term) (r : Renewal) (flat : Flat) (g : Goal) → IsGoal b Never t flat g → ((l f : ℕ) → flat ≡ Flat.Not l f → ⊥) → IsDeniedGoal (goal_in σ r g) → ⊥
 no_denied b t σ r flat (Atomic u) h n d = d
@@ -50,3 +53,17 @@ term_denied qv m s h number f front got u t d = go (subst (λ o. Reads m h.aroun
         let todo : AreTodo m.bank (shown m.table) (blocks_of m.scopes) f.place (Todo.Term u) gs =
         subst (λ x. AreTodo m.bank (shown m.table) (blocks_of m.scopes) f.place x gs) t (subst (λ (x : Frame). AreTodo m.bank (shown m.table) (blocks_of m.scopes) x.place x.todo gs) same w) in
         subst IsDeniedFirst (z ∙ ap (λ l. placed h.around g.place l ++ rest) todo.2) k
+
+-- the list of a negated goal is written where the goal is
+pub not_written : (m : Machine) (ar : ℕ → ℕ) (p : Place) (list free : ℕ) → IsWrittenFlat m ar p (Flat.Not list free) → IsWrittenIn m.bank (blocks_of m.scopes) p.values.scope (λ k bs. WrittenList m.bank (shown m.table) ar k bs list)
+not_written m ar p list free w =
+    in_by m.bank (blocks_of m.scopes) p.values.scope (λ k bs. WrittenFlat m.bank (shown m.table) ar k bs (Flat.Not list free)) (λ k bs. WrittenList m.bank (shown m.table) ar k bs list) (λ k bs h. go k bs h) w
+  where
+    go : (k : ℕ) (bs : List Bool) → WrittenFlat m.bank (shown m.table) ar k bs (Flat.Not list free) → WrittenList m.bank (shown m.table) ar k bs list
+    go k bs (an_atom u e x) = absurd (cc)
+    go k bs (a_cut e) = absurd (cc)
+    go k bs (a_choice l r e x y) = absurd (cc)
+    go k bs (a_some l e x) = absurd (cc)
+    go k bs (an_all l e x) = absurd (cc)
+    go k bs (an_assume s l n e x y) = absurd (cc)
+    go k bs (a_not l n e x) = subst (WrittenList m.bank (shown m.table) ar k bs) (let q : l ≡ list = cc in q) x

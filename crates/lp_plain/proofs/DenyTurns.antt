@@ -22,7 +22,8 @@ use Rattle.lp_plain.specs.declared.table.Flat.{Flat}
 use Rattle.lp_plain.specs.AtRunTime.{IsSmallExpression}
 use Rattle.lp_plain.specs.Assuming.{ArePlaced, GrowsAt, IsPlaceAt, lists_of, written_at}
 use Rattle.lp_plain.specs.Cuts.{one_step}
-use Rattle.lp_plain.specs.Denials.{AreFewDenied, EndsDenied, HasSmallDenied, IsBegun, IsDenying, IsSeenAs, IsSmallDenied}
+use Rattle.lp_plain.specs.Denials.{AreFewDenied, EndsDenied, IsBegun, IsDenying, IsSeenAs}
+use Rattle.lp_plain.specs.Reached.{HasSmallFirst, IsSmallGoal}
 use Rattle.lp_plain.specs.Entries.{Around, Reads, entry_at, in_scope}
 use Rattle.lp_plain.specs.Moving.{AreEntriesUnder, HasAlternatives, IsAtGoal, IsGoalUnder, IsRunning, IsWaiting, Leads, Query, mark_in}
 use Rattle.lp_plain.specs.Negations.{AreFound}
@@ -164,10 +165,10 @@ module _ (qv : Query) (m : Machine) (a : Around) (raw : Branch) (s : State Task)
     pub ends_open : (n : Machine) → AreFound m (record { free = free; values = p.values; older = p.standing }) found.Open → EndsDenied qv (Turn.Ended OpenNot) n s h.at_work.goals
     ends_open n k i ea go enough few P = open_at n go enough P i ea (has_variables enough asked) refl (open_given enough asked (tested enough found.Open k))
 
-    small_asked : HasSmallDenied h.at_work.goals → EachOf IsSmallExpression asked.terms
+    small_asked : HasSmallFirst h.at_work.goals → EachOf IsSmallExpression asked.terms
     small_asked x =
-        let y : IsSmallDenied sp.first.goal sp.first.written = subst HasSmallDenied sp.whole x in
-        subst (λ g. IsSmallDenied g sp.first.written) goal_is y
+        let y : IsSmallGoal sp.first.goal sp.first.written = subst HasSmallFirst sp.whole x in
+        subst (λ g. IsSmallGoal g sp.first.written) goal_is y
 
     pub ends_deep : (n : Machine) → AreFound m (record { free = free; values = p.values; older = p.standing }) found.Deep → EndsDenied qv (Turn.Ended Deep) n s h.at_work.goals
     ends_deep n k i ea go enough few P =

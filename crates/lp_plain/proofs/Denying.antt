@@ -7,8 +7,13 @@ use Rattle.lp_model.specs.Branch.{Answer, Branch, Go, Task}
 use Rattle.lp_model.specs.Events.{Advances, Event, Over, first, first_after}
 use Rattle.lp_model.specs.Search.{has_no_pairs}
 use Rattle.lp_model.specs.Skeleton.{Broke, Breaks, Denies, GoalNote, Goes, Held, Inner, Lasts, Move, Note, Refuted, State, Stops, Tells, View, Waits, back, inner, inner_after, later, move, move_at, move_denied, move_view, named, not_constant, row_limit, starts_within}
+use Rattle.lp_lemmas.specs.Each.{EachOf}
+use Rattle.lp_search_laws.specs.Branches.{no_query}
 use Rattle.lp_plain.specs.Moving.{Waiting}
-use Rattle.lp_plain.specs.inner.Following.{Comes, ComesOf, Course, Kept, goes_on, inside_denied, seen_in}
+use Rattle.lp_plain.specs.Reached.{inside_denied}
+use Rattle.lp_plain.specs.TypedStates.{IsTaskTyped, IsTypedOver}
+use Rattle.lp_plain.proofs.TypedMoves.{IsViewTyped, typed_look}
+use Rattle.lp_plain.specs.inner.Following.{Comes, ComesOf, Course, Kept, goes_on, seen_in}
 use Rattle.lp_plain.proofs.Following.{kept_on, later_comes, pair_left}
 use Rattle.lp_plain.proofs.QuietMoves.{by_lost}
 use Rattle.lp_plain.proofs.StepsLeft.{TakesAtMost, inner_most}
@@ -30,8 +35,15 @@ module _ (c : Course) (s : State Task) (n k : ℕ) (task i : Task) (b : Branch) 
       (λ x. move_at (inner see j) see (et x) (ea x) s.given s.rows s.row s.lost (es x)) ∙ by_lost (inner see j) see (suc n) k s.given s.rows s.row s.lost task rest ∙
       ap (move_view (inner see j) (suc n) k s.given s.rows s.row s.lost rest) seen
 
+  -- its search is one of no query
+  typed_inside : IsTypedOver c.query.arity c.enough c.program s → IsTypedOver c.query.arity c.enough c.program begun
+  typed_inside ty =
+      let w = subst (EachOf (IsTaskTyped c.enough ty.declared c.program ty.query)) es ty.typed in
+      let v = subst (IsViewTyped c.enough ty.declared c.program ty.query) seen (typed_look c.enough ty.declared c.program ty.query ty.standard ty.program (length rest) task w.0) in
+      record { declared = ty.declared; takes = ty.takes; standard = ty.standard; program = ty.program; query = no_query; typed = (v.0, tt) }
+
   kept_inside : Kept c s → Kept c begun
-  kept_inside v = λ u r. v u (inside_denied n task i has_no_pairs (Go b ∷ []) rest es et seen r)
+  kept_inside v = (λ u r. v.0 u (inside_denied n task i has_no_pairs (Go b ∷ []) rest es et seen r), typed_inside v.1)
 
   abbrev on : (m p : ℕ) (ts : List Task) → State Task
   on m p ts = record { steps = m; answers = suc k; given = s.given; rows = s.rows; row = p; lost = s.lost; stack = ts }

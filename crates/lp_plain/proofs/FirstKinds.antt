@@ -5,8 +5,6 @@ use Rattle.lp_model.specs.Branch.{Entry, Task}
 use Rattle.lp_model.specs.Flat.{Atomic, Assume, Cut, Either, Exists, Forall, Goal, Not}
 use Rattle.lp_model.specs.Pair.{Closing}
 use Rattle.lp_model.specs.Skeleton.{State}
-use Rattle.lp_search_laws.specs.Unnegated.{IsUnnegatedGoal}
-use Rattle.lp_search_laws.proofs.Unnegated.{IsUnnegatedEntry, IsUnnegatedTask}
 use Rattle.lp_term.specs.declared.node.TermId.{TermId}
 use Rattle.lp_plain.specs.declared.machine.Counts.{Counts}
 use Rattle.lp_plain.specs.declared.machine.Machine.{Machine}
@@ -15,28 +13,16 @@ use Rattle.lp_plain.specs.declared.table.Flat.{Flat}
 use Rattle.lp_plain.specs.Apart.{IsApart}
 use Rattle.lp_plain.specs.AtRunTime.{IsAtom, IsAtomFirst}
 use Rattle.lp_plain.specs.Calling.{WrittenBehind}
+use Rattle.lp_plain.specs.Denials.{IsDeniedFirst, IsDeniedGoal}
 use Rattle.lp_plain.specs.Moving.{AreEntriesUnder, IsGoalUnder, IsPlain, IsPlainFirst, IsState, Query, mark_in}
 use Rattle.lp_plain.specs.Stacks.{base_of}
 use Rattle.lp_plain.specs.Taking.{IsApartFlat}
 use Rattle.lp_plain.specs.WrittenSearch.{IsWrittenSearch}
 
-abbrev pub IsNot : Goal → Type 0
-IsNot (Atomic t) = ⊥
-IsNot Cut = ⊥
-IsNot (Either gs hs) = ⊥
-IsNot (Exists T gs) = ⊥
-IsNot (Forall T gs) = ⊥
-IsNot (Assume w cs gs) = ⊥
-IsNot (Not w gs) = Unit {0}
-
-abbrev pub IsNotFirst : List Entry → Type 0
-IsNotFirst [] = ⊥
-IsNotFirst (e ∷ es) = IsNot e.goal
-
 pub data FirstKind (es : List Entry) : Type 0 where
   a_plain : IsPlainFirst es → FirstKind es
   an_atom : IsAtomFirst es → FirstKind es
-  a_not : IsNotFirst es → FirstKind es
+  a_not : IsDeniedFirst es → FirstKind es
 
 goal_kind : (e : Entry) (es : List Entry) (g : Goal) → e.goal ≡ g → FirstKind (e ∷ es)
 goal_kind e es (Atomic t) q = an_atom (subst IsAtom (sym q) tt)
@@ -45,32 +31,11 @@ goal_kind e es (Either gs hs) q = a_plain (subst IsPlain (sym q) tt)
 goal_kind e es (Exists T gs) q = a_plain (subst IsPlain (sym q) tt)
 goal_kind e es (Forall T gs) q = a_plain (subst IsPlain (sym q) tt)
 goal_kind e es (Assume w cs gs) q = a_plain (subst IsPlain (sym q) tt)
-goal_kind e es (Not w gs) q = a_not (subst IsNot (sym q) tt)
+goal_kind e es (Not w gs) q = a_not (subst IsDeniedGoal (sym q) tt)
 
 pub first_kind : (es : List Entry) → (es ≡ [] → ⊥) → FirstKind es
 first_kind [] n = absurd (n refl)
 first_kind (e ∷ es) n = goal_kind e es e.goal refl
-
--- TO VANISH: none is negated where the definition's is not
-not_goal : (z : Closing) (g d : Goal) → IsGoalUnder z g d → IsUnnegatedGoal d → IsNot g → ⊥
-not_goal z (Atomic t) d h u n = n
-not_goal z Cut d h u n = n
-not_goal z (Either gs hs) d h u n = n
-not_goal z (Exists T gs) d h u n = n
-not_goal z (Forall T gs) d h u n = n
-not_goal z (Assume w cs gs) d h u n = n
-not_goal z (Not w gs) d h u n = subst IsUnnegatedGoal h u
-
-not_there : (z : Closing) (f : ℕ → ℕ) (l u : ℕ) (es ds : List Entry) → AreEntriesUnder z f l u es ds → EachOf IsUnnegatedEntry ds → IsNotFirst es → ⊥
-not_there z f l u [] ds h p n = n
-not_there z f l u (e ∷ es) [] h p n = h
-not_there z f l u (e ∷ es) (d ∷ ds) h p n = not_goal z e.goal d.goal h.0.goal p.0.goal n
-
-pub none_not : (qv : Query) (m : Machine) (s : State Task) (h : IsState qv m s) → EachOf IsUnnegatedTask s.stack → IsNotFirst h.raw.goals → ⊥
-none_not qv m s h v n =
-    let r = h.running in
-    let b = base_of m.denied in
-    not_there r.closing (mark_in b r.above.raws) b (length m.choices.items) h.raw.goals r.at_work.goals r.under.goals (subst (EachOf IsUnnegatedTask) r.stack v).0 n
 
 -- what the table has of a goal that is neither an atom, nor a cut, nor negated
 pub apart_flat : (f : Flat) → ((u : TermId) → f ≡ Flat.Atom u → ⊥) → (f ≡ Flat.Cut → ⊥) → ((l n : ℕ) → f ≡ Flat.Not l n → ⊥) → IsApartFlat f

@@ -59,39 +59,7 @@ IsInnerTurn (w ∷ ws) Turn.Back = Unit {0}
 IsInnerTurn (w ∷ ws) Turn.Answered = ⊥
 IsInnerTurn (w ∷ ws) (Turn.Ended e) = EndsAll e
 
--- no goal is negated behind a move
-module _ (n : ℕ) (P : List Clause) (program : EachOf IsUnnegatedClause P) (go : (Answer → Bool) → State Task → Inner) where
-  abbrev IsUnnegatedMove : Move Task Answer → Type 0
-  IsUnnegatedMove (Goes k ns t) = EachOf IsUnnegatedTask t.stack
-  IsUnnegatedMove (Tells a ns t) = EachOf IsUnnegatedTask t.stack
-  IsUnnegatedMove (Stops e) = Unit {0}
-  IsUnnegatedMove (Breaks k ns e) = Unit {0}
-  IsUnnegatedMove (Waits k ns) = Unit {0}
-
-  by_view : (m k g v p : ℕ) (lost : Bool) (rest : List Task) → EachOf IsUnnegatedTask rest → (x : View Task Answer) → IsUnnegatedView x → IsUnnegatedMove (move_view go m k g v p lost rest x)
-  by_view m k g v p lost rest h (Gives a) w = h
-  by_view m k g v p lost rest h (Opens ts) w = each_append IsUnnegatedTask ts rest w h
-  by_view m k g v zero lost rest h (Parts ts) w = tt
-  by_view m k g v (suc p) lost rest h (Parts ts) w = each_append IsUnnegatedTask ts rest w h
-  by_view zero k g v p lost rest h (Takes name ts) w = tt
-  by_view (suc m) k g v p lost rest h (Takes name ts) w = each_append IsUnnegatedTask ts rest w h
-  by_view zero k g v p lost rest h (Cuts i ts) w = tt
-  by_view (suc m) k g v p lost rest h (Cuts i ts) w = each_append IsUnnegatedTask ts (drop (length rest - i) rest) w (each_drop IsUnnegatedTask (length rest - i) rest h)
-  by_view m k g v p lost rest h (Denies t f ts) w = absurd w
-  by_view m k g v p lost rest h (Halts e) w = tt
-  by_view m k g v p lost rest h Lacks w = tt
-
-  at_stack : (m k g v p : ℕ) (lost : Bool) (stack : List Task) → EachOf IsUnnegatedTask stack → IsUnnegatedMove (move_at go (look unit_limit n P) m k g v p lost stack)
-  at_stack m zero g v p lost stack h = tt
-  at_stack m (suc k) g v p true [] h = tt
-  at_stack m (suc k) g v p false [] h = tt
-  at_stack m (suc k) g v p true (t ∷ rest) h = by_view m k g v p true rest h.1 (look unit_limit n P (length rest) t) (unnegated_look unit_limit n P program (length rest) t h.0)
-  at_stack m (suc k) g v p false (t ∷ rest) h = by_view m k g v p false rest h.1 (look unit_limit n P (length rest) t) (unnegated_look unit_limit n P program (length rest) t h.0)
-
-  pub unnegated_move : (s : State Task) → EachOf IsUnnegatedTask s.stack → IsUnnegatedMove (move go (look unit_limit n P) s)
-  unnegated_move s h = at_stack s.steps s.answers s.given s.rows s.row s.lost s.stack h
-
--- so the next state is typed
+-- the next state is typed
 pub typed_on : (ar : ℕ → ℕ) (n : ℕ) (P : List Clause) (go : (Answer → Bool) → State Task → Inner) (s t : State Task) → (v : Move Task Answer) → ((d : Declared) (q : Proved) → IsMoveTyped n d P q v → IsTypedState n d P q t) →
     move go (look unit_limit n P) s ≡ v → IsTypedOver ar n P s → IsTypedOver ar n P t
 typed_on ar n P go s t v f e ty = record {
@@ -109,7 +77,6 @@ kept_on c j k ns s t e h =
     let go = inner (seen_in c) j in (
       λ u r. h.0 u (behind_move j k ns t e r),
       typed_on c.query.arity c.enough c.program go s t (Goes k ns t) (λ d q w. w) e h.1,
-      record { program = h.2.program; tasks = subst (IsUnnegatedMove c.enough c.program h.2.program go) e (unnegated_move c.enough c.program h.2.program go s h.2.tasks) },
     )
 
 kept_behind : (c : Course) (j : ℕ) (a : Answer) (ns : List Note) (s t : State Task) → move (inner (seen_in c) j) (seen_in c) s ≡ Tells a ns t → Kept c s → Kept c t
@@ -117,7 +84,6 @@ kept_behind c j a ns s t e h =
     let go = inner (seen_in c) j in (
       λ u r. h.0 u (behind_answer j a ns t e r),
       typed_on c.query.arity c.enough c.program go s t (Tells a ns t) (λ d q w. w) e h.1,
-      record { program = h.2.program; tasks = subst (IsUnnegatedMove c.enough c.program h.2.program go) e (unnegated_move c.enough c.program h.2.program go s h.2.tasks) },
     )
 
 module _ (c : Course) (qv : Query) (n : Machine) (within : IsOfQuery c.query qv) (W : Turn → Type 0) (serves : (turn : Turn) → IsNoEnd turn → W turn → HasClauses c.program c.query.arity n) where

@@ -169,3 +169,4 @@ mod OpenTests
 mod DenyBegins
 mod DenyTurns
 mod DenyFirst
+mod DenyStands

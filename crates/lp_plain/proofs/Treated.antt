@@ -1,4 +1,4 @@
--- The first goal of a search, and its newest alternative. (TO VANISH: none is that of a negated goal)
+-- The first goal of a search, its newest alternative, and whether a search waits for it.
 use Rattle.std.proofs.Common.{◌≡◌, ℕ, ◌+◌, ◌≤◌, List, [], ◌∷◌, ◌++◌, length, drop, refl, sym, ap, ◌∙◌, subst, arith, Option, None, Some}
 use Rattle.std.specs.Prelude.{slice_get}
 use Rattle.lp_calculus.specs.Term.{Term}
@@ -21,6 +21,7 @@ use Rattle.lp_plain.specs.Scopes.{blocks_of}
 use Rattle.lp_plain.specs.Searching.{StandForAll, StandsFor, a_side, some_tries}
 use Rattle.lp_plain.specs.Stacks.{base_of}
 use Rattle.lp_plain.specs.Tables.{AreGoals, Never, shown}
+use Rattle.lp_plain.specs.Turns.{IsGoalTurn}
 use Rattle.lp_plain.specs.inner.Following.{Course}
 use Rattle.lp_plain.proofs.Bounds.{split_newest}
 use Rattle.lp_plain.proofs.Following.{IsInnerTurn}
@@ -46,36 +47,28 @@ term_some qv m s h number f front got u t e = go (subst (λ o. Reads m h.around 
         let q = sym k ∙ z ∙ ap (λ l. placed h.around g.place l ++ rest) todo.2 in
         cc
 
--- no search waits
-pub none_denied : (ar : ℕ → ℕ) (m : Machine) (a : Around) (o : Option ℕ) (ws : List Waiting) → ws ≡ [] → AreOuter ar m a o ws → o ≡ None
-none_denied ar m a None ws e h = refl
-none_denied ar m a (Some i) [] e h = absurd h
-none_denied ar m a (Some i) (w ∷ ws) e h = absurd (cc)
+-- no search waits where none is inside of a negated goal
+pub none_waits : (ar : ℕ → ℕ) (m : Machine) (a : Around) (o : Option ℕ) (ws : List Waiting) → o ≡ None → AreOuter ar m a o ws → ws ≡ []
+none_waits ar m a None [] e h = refl
+none_waits ar m a None (w ∷ ws) e h = absurd h
+none_waits ar m a (Some i) ws e h = absurd (cc)
 
-pub none_below : (qv : Query) (m : Machine) (a : Around) (stack : List Task) → qv.outer ≡ [] → HasAlternatives qv m a stack → base_of m.denied ≡ 0
-none_below qv m a stack e h = ap base_of (none_denied qv.arity m a m.denied qv.outer e h.inside.outer)
+none_base : (o : Option ℕ) → base_of o ≤ 0 → o ≡ None
+none_base None l = refl
+none_base (Some i) l = absurd (omega (arith, l))
 
--- the newest alternative of a search that is to go back
-module _ (c : Course) (qv : Query) (m : Machine) (s : State Task) (h : IsBack qv m s) (k : Choice) (rest : List Choice) (e : m.choices.items ≡ rest ++ k ∷ []) (l : base_of m.denied ≤ length rest) where
-  abbrev base : ℕ
-  base = base_of m.denied
+-- nor where there is no alternative
+pub back_alone : (qv : Query) (m : Machine) (s : State Task) (h : IsBack qv m s) → m.choices.items ≡ [] → qv.outer ≡ []
+back_alone qv m s h e = none_waits qv.arity m h.around m.denied qv.outer (none_base m.denied (let l = h.above.done.base in let c = ap length e in omega (arith, l, c))) h.above.inside.outer
 
-  whole : drop base m.choices.items ≡ drop base rest ++ k ∷ []
-  whole = ap (drop base) e ∙ drop_push base rest k l
+-- a number is there or not
+pub data HasNumber (o : Option ℕ) : Type 0 where
+  no_number : o ≡ None → HasNumber o
+  a_number : (i : ℕ) → o ≡ Some i → HasNumber o
 
-  abbrev f : ℕ → ℕ
-  f = mark_in base h.above.raws
-
-  -- is none of a negated goal
-  pub not_denied : (d : Denial) → k.untried ≡ Untried.Denied d → ⊥
-  not_denied d u =
-      let sp = split_newest qv m h.around f base base (drop base rest) k 0 h.above.raws h.above.others (subst (λ z. StandForAll m h.around z 0 h.above.raws) whole h.above.done.alternatives)
-      (subst (λ z. AreAlternatives qv m f base base z h.above.raws h.above.others) whole h.above.are) in
-      go sp.last
-    where
-      go : {n : ℕ} {ts : List Task} → StandsFor m h.around k n ts → ⊥
-      go (a_side b x y w) = let j = y.left in cc
-      go (some_tries t x b y cs kp at w) = let j = at.left in cc
+pub number_of : (o : Option ℕ) → HasNumber o
+number_of None = no_number refl
+number_of (Some i) = a_number i refl
 
 -- a list is empty or has a last one
 pub data HasLast {X : Type 0} (xs : List X) : Type 0 where
@@ -91,6 +84,14 @@ last_of (x ∷ xs) = go (last_of xs)
     go (has_last ys y e) = has_last (x ∷ ys) y (ap (λ l. x ∷ l) e)
 
 -- the turn of a search for which none waits
-pub inner_turn : (ws : List Waiting) (turn : Turn) → ws ≡ [] → IsInnerTurn ws turn
-inner_turn [] turn e = tt
-inner_turn (w ∷ ws) turn e = absurd (cc)
+pub alone_turn : (ws : List Waiting) (turn : Turn) → ws ≡ [] → IsInnerTurn ws turn
+alone_turn [] turn e = tt
+alone_turn (w ∷ ws) turn e = absurd (cc)
+
+-- that of a goal
+pub inner_turn : (ws : List Waiting) (turn : Turn) → IsGoalTurn turn → IsInnerTurn ws turn
+inner_turn [] turn h = tt
+inner_turn (w ∷ ws) Turn.On h = tt
+inner_turn (w ∷ ws) Turn.Back h = tt
+inner_turn (w ∷ ws) Turn.Answered h = absurd h
+inner_turn (w ∷ ws) (Turn.Ended e) h = h

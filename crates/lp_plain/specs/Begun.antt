@@ -11,7 +11,6 @@ use Rattle.lp_model.specs.Readings.{formula_of}
 use Rattle.lp_model.specs.declared.program.Program.{Program}
 use Rattle.lp_model.specs.declared.program.Typed.{Typed}
 use Rattle.lp_standard.specs.Schemes.{IsStandard}
-use Rattle.lp_proof_laws.specs.Unnegated.{IsUnnegatedAtom}
 use Rattle.lp_search_laws.specs.Started.{IsTypedQuery, IsTypedSentence}
 use Rattle.lp_plain.specs.ProgramClauses.{IsNamedAtom}
 use Rattle.lp_plain.specs.Starts.{AreFormulasIn}
@@ -36,6 +35,3 @@ pub record Begins (d : Declared) (p : Program) (q : Typed) (P : List Clause) (gs
   pub query_named : AllAtoms IsNamedAtom (tree p.bank q.formula.0)
   pub depth : ℕ
   pub query_flattened : flatten_query depth d (tree p.bank q.formula.0) ≡ Some gs
-  -- TO VANISH: neither in the clauses nor in the query a goal is negated
-  pub clauses_unnegated : EachOf (λ D. AllAtoms IsUnnegatedAtom D.formula) (formulas_of p)
-  pub query_unnegated : AllAtoms IsUnnegatedAtom (tree p.bank q.formula.0)

@@ -11,8 +11,6 @@ use Rattle.lp_model.specs.declared.answer.Event.{Event as Told}
 use Rattle.lp_model.specs.declared.answer.Event.TheVariants as told
 use Rattle.lp_model.specs.declared.ending.Ending.{Ending}
 use Rattle.lp_model.specs.declared.ending.Ending.TheVariants.{Deep}
-use Rattle.lp_search_laws.specs.Unnegated.{IsUnnegatedClause}
-use Rattle.lp_search_laws.proofs.Unnegated.{IsUnnegatedTask}
 use Rattle.lp_plain.specs.declared.machine.Machine.{Machine}
 use Rattle.lp_plain.specs.declared.search.Search.{Search}
 use Rattle.lp_plain.specs.Calling.{IsProgramIn}
@@ -44,18 +42,13 @@ pub record HasClauses (P : List Clause) (arity : ℕ → ℕ) (m : Machine) : Ty
   pub program : IsProgramIn m arity clauses
   pub written : IsWrittenSearch m arity
 
--- TO VANISH: no goal is negated, neither in the program nor in the tasks
-pub record IsUnnegated (P : List Clause) (s : State Task) : Type 0 where
-  pub program : EachOf IsUnnegatedClause P
-  pub tasks : EachOf IsUnnegatedTask s.stack
-
 -- the definition's search is over with this end
 abbrev pub IsOver : List Clause → (steps : ℕ) → Ending → State Task → Type 0
 IsOver P n e t = (x : Event Answer) (u : State Task) → Advances (look unit_limit n P) t x u → x ≡ Over e
 
 -- between two events the search is in this state of the definition's search over these clauses, with so many steps for each look
 pub data IsBetween (P : List Clause) (n : ℕ) (s : Search) (t : State Task) : Type 0 where
-  goes_on : (qv : Query) → s.ended ≡ None → HasVariables qv s → HasGiven s t → IsGoing qv s t → HasClauses P qv.arity s.machine → IsTypedOver qv.arity n P t → IsUnnegated P t → IsBetween P n s t
+  goes_on : (qv : Query) → s.ended ≡ None → HasVariables qv s → HasGiven s t → IsGoing qv s t → HasClauses P qv.arity s.machine → IsTypedOver qv.arity n P t → IsBetween P n s t
   is_over : (e : Ending) → s.ended ≡ Some e → IsOver P n e t → IsBetween P n s t
 
 -- that the search is too deep may be told before the definition's search tells something, where a look takes a million steps, or an expression has more than a million nodes

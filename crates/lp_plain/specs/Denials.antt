@@ -1,8 +1,7 @@
 -- A negated goal in front: the search of it that begins inside of the search at work, and the ends to which the test on it leads.
 use Rattle.std.specs.Prelude.{◌≡◌, ◌⊎◌, ◌<◌, ℕ, suc, true, false, Bool, List, [], ◌∷◌, length, Option, Some}
-use Rattle.lp_lemmas.specs.Each.{EachOf}
-use Rattle.lp_model.specs.Branch.{Answer, Branch, Entry, Go, Task, both_written}
-use Rattle.lp_model.specs.Flat.{Clause, Goal, Atomic, Cut, Either, Exists, Forall, Assume, Not, Written}
+use Rattle.lp_model.specs.Branch.{Answer, Branch, Entry, Go, Task}
+use Rattle.lp_model.specs.Flat.{Clause, Goal, Atomic, Cut, Either, Exists, Forall, Assume, Not}
 use Rattle.lp_model.specs.Search.{has_no_pairs, look}
 use Rattle.lp_model.specs.Skeleton.{Denies, Inner, Lacks, Note, State, Stops, Tells, View, move, row_limit, starts_within}
 use Rattle.lp_model.specs.Unify.{unit_limit}
@@ -14,10 +13,10 @@ use Rattle.lp_plain.specs.declared.machine.Counts.{Counts}
 use Rattle.lp_plain.specs.declared.machine.Machine.{Machine}
 use Rattle.lp_plain.specs.declared.outcome.Turn.{Turn}
 use Rattle.lp_plain.specs.Assuming.{HasFrameAt, KeepsAssumed}
-use Rattle.lp_plain.specs.AtRunTime.{IsSmallExpression}
 use Rattle.lp_plain.specs.Entries.{Around, HasAlternative, IsListAt, KeepsGoals, Reads, placed}
 use Rattle.lp_plain.specs.Moving.{IsBack, IsState, Leads, Query, Waiting}
 use Rattle.lp_plain.specs.Negations.{denial}
+use Rattle.lp_plain.specs.Reached.{HasSmallFirst}
 use Rattle.lp_plain.specs.Searching.{last_ending}
 use Rattle.lp_plain.specs.Within.{StandsIn}
 
@@ -67,21 +66,6 @@ pub record IsDenying (qv : Query) (n : Machine) (s : State Task) : Type 0 where
   pub seen : (enough : ℕ) (P : List Clause) → IsSeenAs (look unit_limit enough P (length rest) task) (Denies inside has_no_pairs (Go branch ∷ []))
   pub begun : (left : ℕ) → IsState (inner_query qv (waits_at qv s left branch rest)) n (starts_within s.rows inside steps 1)
 
--- the beta-normal forms of what is written in a negated goal, and in the clauses that are assumed around it, have at most a million nodes each
-abbrev pub IsSmallDenied : Goal → (around : Written) → Type 0
-IsSmallDenied (Atomic t) v = Unit {0}
-IsSmallDenied Cut v = Unit {0}
-IsSmallDenied (Either gs hs) v = Unit {0}
-IsSmallDenied (Exists T gs) v = Unit {0}
-IsSmallDenied (Forall T gs) v = Unit {0}
-IsSmallDenied (Assume w cs gs) v = Unit {0}
-IsSmallDenied (Not w gs) v = EachOf IsSmallExpression (both_written w v).terms
-
--- so in front
-abbrev pub HasSmallDenied : List Entry → Type 0
-HasSmallDenied [] = Unit {0}
-HasSmallDenied (e ∷ es) = IsSmallDenied e.goal e.written
-
 -- a negated goal
 abbrev pub IsDeniedGoal : Goal → Type 0
 IsDeniedGoal (Atomic t) = ⊥
@@ -98,7 +82,7 @@ IsDeniedFirst (e ∷ es) = IsDeniedGoal e.goal
 
 -- where the turn is too deep, fewer than a million steps are allowed for each look, and what the test looks at is small
 abbrev pub AreFewDenied : Turn → (enough : ℕ) → List Entry → Type 0
-AreFewDenied turn enough es = turn ≡ Turn.Ended Deep → (enough < 1000000) × HasSmallDenied es
+AreFewDenied turn enough es = turn ≡ Turn.Ended Deep → (enough < 1000000) × HasSmallFirst es
 
 -- the definition's search comes to this turn in at most two moves, while answers are wanted
 abbrev pub EndsDenied : Query → Turn → (new : Machine) → (before : State Task) → List Entry → Type 0

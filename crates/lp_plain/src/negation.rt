@@ -132,6 +132,7 @@ pub(crate) fn end_branch(machine: &mut Machine) -> Turn
     ensures written { (ar : ℕ → ℕ) → StandsIn machine.old → IsWrittenSearch machine.old ar → IsWrittenSearch machine.new ar }
     ensures fails { (number : ℕ) → machine.old.denied ≡ Some number → machine.old.branch.pairs.items ≡ [] → (result ≡ Turn.Back) × (machine.new.choices.items ≡ take number machine.old.choices.items) }
     ensures steps { machine.new.counts.steps ≡ machine.old.counts.steps }
+    ensures program { KeepsProgram machine.old machine.new }
     ensures held { (qv : Query) (s : State Task) → IsState qv machine.old s → machine.old.branch.goals ≡ None → (number : ℕ) → machine.old.denied ≡ Some number → IsHeldBy qv result machine.new s }
 {
     let Some(number) = machine.denied else {
@@ -154,6 +155,7 @@ pub(crate) fn end_denial(machine: &mut Machine, denial: Denial) -> Turn
     ensures written { (ar : ℕ → ℕ) → IsWrittenSearch machine.old ar → IsWrittenSearch machine.new ar }
     ensures behind { machine.new.branch.goals ≡ denial.behind }
     ensures steps { machine.new.counts.steps ≡ machine.old.counts.steps }
+    ensures program { KeepsProgram machine.old machine.new }
     ensures only { machine.new ≡ goes_around machine.old denial }
 {
     let lost = machine.counts.lost;

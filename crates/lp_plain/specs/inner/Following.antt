@@ -10,7 +10,7 @@ use Rattle.lp_model.specs.declared.ending.Ending.TheVariants.{Deep}
 use Rattle.lp_plain.specs.declared.events.Told.{Told}
 use Rattle.lp_plain.specs.declared.machine.Machine.{Machine}
 use Rattle.lp_plain.specs.declared.outcome.Turn.{Turn}
-use Rattle.lp_plain.specs.Between.{HasClauses, IsUnnegated}
+use Rattle.lp_plain.specs.Between.{HasClauses}
 use Rattle.lp_plain.specs.Moving.{IsAnswer, IsAnswered, IsBack, IsState, Query, Waiting}
 use Rattle.lp_plain.specs.Reached.{HasSmallGoal, IsReached}
 use Rattle.lp_plain.specs.TypedStates.{IsTypedOver}
@@ -41,9 +41,9 @@ ComesOf c behind w n (Held k ns p) = behind (goes_on w (n - k) p w.rest)
 ComesOf c behind w n (Broke k ns e) = c.event ≡ Over e
 ComesOf c behind w n (Lasts k ns) = ⊥
 
--- what each state that is followed has: what is reached from it is reached from the first one; it is typed; and (TO VANISH) no goal in it is negated
+-- what each state that is followed has: what is reached from it is reached from the first one, and it is typed
 abbrev pub Kept : Course → State Task → Type 0
-Kept c s = ((u : State Task) → IsReached (seen_in c) s u → IsReached (seen_in c) c.begin u) × IsTypedOver c.query.arity c.enough c.program s × IsUnnegated c.program s
+Kept c s = ((u : State Task) → IsReached (seen_in c) s u → IsReached (seen_in c) c.begin u) × IsTypedOver c.query.arity c.enough c.program s
 
 -- where the turn is too deep, fewer than a million steps are allowed for each look, and the expressions of all goals on the way are small
 abbrev pub AreFewOn : Course → Turn → Type 0
@@ -59,9 +59,8 @@ abbrev pub IsInQuery : Query → (types vars : ℕ) → List Waiting → Type 0
 IsInQuery q j k [] = (j ≡ q.types) × (k ≡ q.vars)
 IsInQuery q j k (w ∷ ws) = (j ≡ 0) × (k ≡ 0) × IsInQuery q w.types w.vars ws
 
--- (TO VANISH: that no search waits)
 abbrev pub IsOfQuery : Query → Query → Type 0
-IsOfQuery q qv = (qv.arity ≡ q.arity) × IsInQuery q qv.types qv.vars qv.outer × (qv.outer ≡ [])
+IsOfQuery q qv = (qv.arity ≡ q.arity) × IsInQuery q qv.types qv.vars qv.outer
 
 -- what stands at a turn: the search is in a state of the definition's, or is to go back, and the event comes of it; or it is told. All in the search is written, and the program's clauses stand in it
 abbrev pub Stands : Course → Turn → Machine → Type 0

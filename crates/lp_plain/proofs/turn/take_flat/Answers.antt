@@ -11,7 +11,7 @@ use Rattle.lp_plain.proofs.LookedOn.{running_on}
 use Rattle.lp_plain.proofs.ProgramKept.{only_keeps, program_then}
 use Rattle.lp_plain.proofs.FirstKinds.{apart_behind, apart_flat}
 use Rattle.lp_plain.proofs.CallTerms.{only_program, only_written}
-use Rattle.lp_plain.proofs.DenyFirst.{no_denied_first}
+use Rattle.lp_plain.proofs.DenyFirst.{no_denied_first, not_written}
 use Rattle.lp_plain.proofs.turn.take_flat.Goals as goal
 
 pub returns-in_ok-turn-in-Atom-clause-taken : goal.returns-in_ok-turn-in-Atom-clause-taken
@@ -171,4 +171,22 @@ returns-in_ok-turn-in-Not-clause-denies g c = λ qv a raw s h at df.
 
 pub returns-in_ok-turn-in_default-clause-denies : goal.returns-in_ok-turn-in_default-clause-denies
 returns-in_ok-turn-in_default-clause-denies g c = λ qv a raw s h at df.
+    absurd (no_denied_first c.args.machine.now a c.args.place c.args.goal c.args.behind raw at c.in_default.not-Not df)
+
+pub returns-in_ok-turn-in-Atom-clause-denied_stays : goal.returns-in_ok-turn-in-Atom-clause-denied_stays
+returns-in_ok-turn-in-Atom-clause-denied_stays g c = λ a raw at df.
+    let y = c.in-Atom.is in
+    absurd (no_denied_first c.args.machine.now a c.args.place c.args.goal c.args.behind raw at (λ l f z. cc) df)
+
+pub returns-in_ok-turn-in-Cut-clause-denied_stays : goal.returns-in_ok-turn-in-Cut-clause-denied_stays
+returns-in_ok-turn-in-Cut-clause-denied_stays g c = λ a raw at df.
+    let y = c.in-Cut.is in
+    absurd (no_denied_first c.args.machine.now a c.args.place c.args.goal c.args.behind raw at (λ l f z. cc) df)
+
+pub returns-in_ok-turn-in-Not-clause-denied_stays : goal.returns-in_ok-turn-in-Not-clause-denied_stays
+returns-in_ok-turn-in-Not-clause-denied_stays g c = λ a raw at df ar st w sw on.
+    c.in_ok-turn-in-Not.ensures.written on ar st (not_written c.args.machine.now ar c.args.place c.in-Not.goals c.in-Not.free (subst (IsWrittenFlat c.args.machine.now ar c.args.place) c.in-Not.is w)) sw
+
+pub returns-in_ok-turn-in_default-clause-denied_stays : goal.returns-in_ok-turn-in_default-clause-denied_stays
+returns-in_ok-turn-in_default-clause-denied_stays g c = λ a raw at df.
     absurd (no_denied_first c.args.machine.now a c.args.place c.args.goal c.args.behind raw at c.in_default.not-Not df)

@@ -12,17 +12,18 @@ use Rattle.lp_plain.proofs.Marked.{branch_aside, branch_marked}
 use Rattle.lp_plain.proofs.Marking.{marked_turn}
 use Rattle.lp_plain.proofs.FirstGoals.{branch_taken, term_first, term_taken}
 use Rattle.lp_plain.proofs.QuietMoves.{quiet_move}
-use Rattle.lp_plain.proofs.Following.{kept_of, moved_stands}
+use Rattle.lp_plain.proofs.Following.{moved_stands}
 use Rattle.lp_plain.specs.Between.{HasClauses}
 use Rattle.lp_plain.specs.WrittenSearch.{IsWrittenSearch}
-use Rattle.lp_plain.proofs.FirstKinds.{a_not, a_plain, an_atom, first_kind, none_not}
+use Rattle.lp_plain.proofs.FirstKinds.{a_not, a_plain, an_atom, first_kind}
 use Rattle.lp_plain.proofs.Led.{behind_written, led_stands}
 use Rattle.lp_plain.proofs.ProgramKept.{clauses_on}
-use Rattle.lp_plain.proofs.Treated.{goals_some, inner_turn, none_denied}
+use Rattle.lp_plain.proofs.Treated.{a_number, alone_turn, goals_some, inner_turn, no_number, none_waits, number_of}
 use Rattle.lp_plain.proofs.WrittenFirst.{branch_written, none_at_hand, term_at_hand}
 use Rattle.lp_plain.specs.AtRunTime.{IsAtomFirst}
 use Rattle.lp_plain.proofs.AtomAtHand.{frame_written, none_atom, term_at}
 use Rattle.lp_plain.proofs.DenyFirst.{none_denied_first, term_denied}
+use Rattle.lp_plain.proofs.DenyStands.{denied_stands, held_stands}
 use Rattle.lp_plain.proofs.turn.take_goal.Goals as goal
 
 pub returns-in_ok-turn-in-Goals-clause-moves : goal.returns-in_ok-turn-in-Goals-clause-moves
@@ -149,11 +150,18 @@ returns-in_default-clause-stands g c = λ k h.
     let m = c.args.machine.now in
     let n = c.end_branch.new.machine in
     let qv = h.0 in
+    let s = h.1 in
     let st = h.3 in
-    let none = h.2.2 in
-    let d = none_denied qv.arity m st.around m.denied qv.outer none st.running.above.inside.outer in
-    let a = returns-in_default-clause-answered g c qv h.1 st c.in_default.is d in
-    moved_stands k qv n h.2 c.end_branch.result (λ y. subst (HasClauses k.program k.query.arity) (sym (c.end_branch.ensures.same d)) h.5) h.1 (inner_turn qv.outer c.end_branch.result none) a.1 h.4
+    let e = c.end_branch.ensures in
+    elim (number_of m.denied) [
+      | no_number d ↦
+          (let a = returns-in_default-clause-answered g c qv s st c.in_default.is d in
+          let alone = none_waits qv.arity m st.around m.denied qv.outer d st.running.above.inside.outer in
+          moved_stands k qv n h.2 c.end_branch.result (λ y. subst (HasClauses k.program k.query.arity) (sym (e.same d)) h.5) s (alone_turn qv.outer c.end_branch.result alone) a.1 h.4)
+      | a_number i d ↦
+          held_stands k qv n s h.2 h.4 c.end_branch.result (e.held qv s st c.in_default.is i d)
+          (λ y. clauses_on k.program k.query.arity m n e.program (e.written k.query.arity st.running.above.done.stands h.5.written) h.5)
+    ]
 
 pub returns-in_ok-turn-in-Goals-clause-stands : goal.returns-in_ok-turn-in-Goals-clause-stands
 returns-in_ok-turn-in-Goals-clause-stands g c = λ k h.
@@ -173,9 +181,12 @@ returns-in_ok-turn-in-Goals-clause-stands g c = λ k h.
           (λ y. clauses_on k.program k.query.arity m n e.program
           (behind_written turn n k.query.arity y (e.stays st.around st.raw at pf k.query.arity st.running.above.done.stands
           (frame_written qv m s st c.in-Some.number c.in_ok-frame.frame c.in-Some.is c.in_ok-frame.ensures c.in-Goals.goals c.in-Goals.is k.query.arity cl.written) cl.written)) cl)
-          s (inner_turn qv.outer turn h.2.2) (returns-in_ok-turn-in-Goals-clause-moved g c qv s st pf) h.4
-      | an_atom af ↦ led_stands k qv m n h.2 e.program cl turn s (inner_turn qv.outer turn h.2.2) (returns-in_ok-turn-in-Goals-clause-leads g c qv s st af w) h.4
-      | a_not nf ↦ absurd (none_not qv m s st (kept_of k qv.outer s h.4).2.tasks nf)
+          s (inner_turn qv.outer turn e.ends) (returns-in_ok-turn-in-Goals-clause-moved g c qv s st pf) h.4
+      | an_atom af ↦ led_stands k qv m n h.2 e.program cl turn s (inner_turn qv.outer turn e.ends) (returns-in_ok-turn-in-Goals-clause-leads g c qv s st af w) h.4
+      | a_not nf ↦
+          denied_stands k qv n s h.2 h.4 m st turn (e.denies qv st.around st.raw s st.running at nf) e.ends
+          (λ y. clauses_on k.program k.query.arity m n e.program (e.denied_stays st.around st.raw at nf k.query.arity st.running.above.done.stands
+          (frame_written qv m s st c.in-Some.number c.in_ok-frame.frame c.in-Some.is c.in_ok-frame.ensures c.in-Goals.goals c.in-Goals.is k.query.arity cl.written) cl.written y) cl)
     ]
 
 pub returns-in_ok-turn-in-Term-clause-stands : goal.returns-in_ok-turn-in-Term-clause-stands
@@ -187,7 +198,7 @@ returns-in_ok-turn-in-Term-clause-stands g c = λ k h.
     let st = h.3 in
     let turn = c.in_ok-turn-in-Term.turn in
     let at = term_at qv m s st c.in-Some.number c.in_ok-frame.frame c.in-Some.is c.in_ok-frame.ensures c.in-Term.term c.in-Term.is in
-    led_stands k qv m n h.2 c.in_ok-turn-in-Term.ensures.program h.5 turn s (inner_turn qv.outer turn h.2.2)
+    led_stands k qv m n h.2 c.in_ok-turn-in-Term.ensures.program h.5 turn s (inner_turn qv.outer turn c.in_ok-turn-in-Term.ensures.ends)
     (returns-in_ok-turn-in-Term-clause-leads g c qv s st (subst IsAtomFirst (sym at.goals) tt) (subst (IsWrittenSearch m) (sym h.2.0) h.5.written)) h.4
 
 pub returns-in_default-clause-denies : goal.returns-in_default-clause-denies
