@@ -17,7 +17,7 @@ use Rattle.lp_model.specs.Search.{start}
 use Rattle.lp_model.specs.declared.program.ClauseFormula.{ClauseFormula as Coded}
 use Rattle.lp_model.specs.declared.program.Program.{Program}
 use Rattle.lp_model.specs.declared.program.Typed.{Typed}
-use Rattle.lp_search_laws.specs.Started.{IsPlainSentence, IsTypedSentence}
+use Rattle.lp_search_laws.specs.Started.{IsTypedSentence}
 use Rattle.lp_search_laws.proofs.Begins.{program_typed}
 use Rattle.lp_plain.specs.declared.machine.Machine.{Machine}
 use Rattle.lp_plain.specs.declared.search.Search.{Search}
