@@ -35,7 +35,8 @@ use Rattle.lp_plain.proofs.Opening.{bank_grows, bank_stands}
 use Rattle.lp_plain.proofs.WrittenSearches.{search_same}
 
 -- no answer is left to give
-pub given_enough : (P : List Clause) (n : ℕ) (s u : Search) (t : State Task) → s.ended ≡ None → s.answers ≤ s.given → u.ended ≡ Some Enough → IsBetween P n s t → (x : Event Answer) (v : State Task) → Advances (look unit_limit n P) t x v →
+pub given_enough : (P : List Clause) (n : ℕ) (s u : Search) (t : State Task) → s.ended ≡ None → s.answers ≤ s.given → u.ended ≡ Some Enough →
+    IsBetween P n s t → (x : Event Answer) (v : State Task) → Advances (look unit_limit n P) t x v →
     (x ≡ Over Enough) × IsBetween P n u v
 given_enough P n s u t e l eu (goes_on qv e' hv g go cl ty) x v d =
     let see = look unit_limit n P in
@@ -133,7 +134,8 @@ clauses_later P ar m n b x e st cl = subst (HasClauses P ar) (sym e) (record {
 over_few : (k : Course) (event : Told) (e : Ending) → event ≡ told.Ended e → AreEnough k.program k.enough k.begin event → AreFewOn k (Turn.Ended e)
 over_few k event e q h = λ w. h (q ∙ ap (λ z. told.Ended z) (let y = w in cc))
 
-pub over_is : (k : Course) (s u : Search) (event : Told) (e : Ending) → event ≡ told.Ended e → u.ended ≡ Some e → IsToTell s k → (AreFewOn k (Turn.Ended e) → k.event ≡ Over e) → AreEnough k.program k.enough k.begin event →
+pub over_is : (k : Course) (s u : Search) (event : Told) (e : Ending) → event ≡ told.Ended e → u.ended ≡ Some e → IsToTell s k →
+    (AreFewOn k (Turn.Ended e) → k.event ≡ Over e) → AreEnough k.program k.enough k.begin event →
     IsEventOf k.event event × IsBetween k.program k.enough u k.after
 over_is k s u event e q eu it st en =
     let o = st (over_few k event e q en) in (
@@ -148,7 +150,8 @@ in_query_alone : (q : Query) (j k : ℕ) (ws : List Waiting) → ws ≡ [] → I
 in_query_alone q j k [] e h = h.1
 in_query_alone q j k (w ∷ ws) e h = absurd (cc)
 
-module _ (k : Course) (s u : Search) (m : Machine) (b : Nodes) (it : IsToTell s k) (st : Stands k Turn.Answered m) (x : Extends m.bank b) (um : u.machine ≡ with_bank (rested m) b) (ug : u.given ≡ suc s.given) (ua : u.answers ≡ s.answers)
+module _ (k : Course) (s u : Search) (m : Machine) (b : Nodes) (it : IsToTell s k) (st : Stands k Turn.Answered m) (x : Extends m.bank b)
+    (um : u.machine ≡ with_bank (rested m) b) (ug : u.given ≡ suc s.given) (ua : u.answers ≡ s.answers)
     (uv : u.variables ≡ s.variables) (ue : u.ended ≡ s.ended) where
   pub same_count : length s.variables.items ≡ st.0.vars
   same_count = it.variables.are ∙ sym (in_query_alone k.query st.0.types st.0.vars st.0.outer st.3 st.2.1)

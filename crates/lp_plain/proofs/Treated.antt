@@ -34,7 +34,8 @@ goals_some m a p span o raw h e = go h.goals_of h.are h.goals
     go no_goals ag w = let l = h.some in absurd (omega (arith, ag, l))
     go (goals g gs) ag w = let q = sym e ∙ w in cc
 
-pub term_some : (qv : Query) (m : Machine) (s : State Task) (h : IsState qv m s) (number : ℕ) (f : Frame) → m.branch.goals ≡ Some number → slice_get m.frames.items number ≡ Some f → (u : TermId) → f.todo ≡ Todo.Term u → h.raw.goals ≡ [] → ⊥
+pub term_some : (qv : Query) (m : Machine) (s : State Task) (h : IsState qv m s) (number : ℕ) (f : Frame) → m.branch.goals ≡ Some number → slice_get
+    m.frames.items number ≡ Some f → (u : TermId) → f.todo ≡ Todo.Term u → h.raw.goals ≡ [] → ⊥
 term_some qv m s h number f front got u t e = go (subst (λ o. Reads m h.around o h.raw.goals) front h.goals) e
   where
     go : {es : List Entry} → Reads m h.around (Some number) es → es ≡ [] → ⊥
