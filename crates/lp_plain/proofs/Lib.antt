@@ -159,7 +159,6 @@ mod RefutedMoves
 mod CallArm
 mod CallEnds
 mod CallForms
-mod TypedRuns
 pub mod ProgramTypes
 pub mod ProgramsWritten
 pub mod KnownPrograms
