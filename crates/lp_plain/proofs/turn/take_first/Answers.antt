@@ -13,6 +13,7 @@ use Rattle.lp_plain.specs.declared.table.Span.{Span}
 use Rattle.lp_plain.proofs.CallTerms.{framed_program, rest_written}
 use Rattle.lp_plain.proofs.ProgramKept.{goals_keep, program_then}
 use Rattle.lp_plain.proofs.WrittenSearches.{search_frame}
+use Rattle.lp_model.specs.Branch.{Branch}
 use Rattle.lp_plain.specs.Denials.{TakesDenied}
 use Rattle.lp_plain.proofs.turn.take_first.Goals as goal
 
