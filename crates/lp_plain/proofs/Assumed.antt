@@ -83,14 +83,14 @@ module _ (k l : Lists) (i : IsTableIn (length k.bank.terms) k.table) (v : AreVal
   has_on o cs h = (
     h.0,
     λ e.
-    let u = h.1 e in
-    record {
-      newest = u.newest;
-      numbers = u.numbers;
-      found = finds_on k.newest l.newest e g.newest u.found;
-      chain = links_on u.newest u.numbers u.chain;
-      clauses = all_on u.numbers (filter (is_for e) cs) u.clauses;
-    },
+        let u = h.1 e in
+        record {
+          newest = u.newest;
+          numbers = u.numbers;
+          found = finds_on k.newest l.newest e g.newest u.found;
+          chain = links_on u.newest u.numbers u.chain;
+          clauses = all_on u.numbers (filter (is_for e) cs) u.clauses;
+        },
   )
 
   numbered_on : (n : ℕ) (cs : Clauses) → IsNumbered (shown k.table).frees n (λ f. collect_clauses f 0 cs) → IsNumbered (shown l.table).frees n (λ f. collect_clauses f 0 cs)

@@ -113,7 +113,8 @@ module _ (d : Declared) (p : Program) (q : Typed) (P : List Clause) (gs : Goals)
   written_clauses = program_written d h.standard (formulas_of p) P h.clauses_typed h.clauses_named h.clauses_flattened
 
   -- the program in the table
-  pub clauses_there : (m : Machine) → ((css : List Clauses) → AreFlat d p.bank p.clauses.items css → (b : Nodes) → Extends m.bank b → HasProgram (with_bank m b) css) → IsWrittenSearch m ar → HasClauses P ar m
+  pub clauses_there : (m : Machine) → ((css : List Clauses) → AreFlat d p.bank p.clauses.items css → (b : Nodes) → Extends m.bank b → HasProgram
+      (with_bank m b) css) → IsWrittenSearch m ar → HasClauses P ar m
   clauses_there m f w = record {
     clauses = lists.0;
     are = lists.2;
@@ -127,12 +128,15 @@ module _ (d : Declared) (p : Program) (q : Typed) (P : List Clause) (gs : Goals)
   }
 
   pub begun_between : (s : Search) (steps answers n : ℕ) → s.ended ≡ None → s.given ≡ 0 → s.answers ≡ answers → length s.variables.items ≡ k →
-      IsState (record { types = q.type_vars; vars = k; arity = ar; outer = [] }) s.machine (start q.type_vars k gs steps answers) → HasClauses P ar s.machine → IsBetween P n s (start q.type_vars k gs steps answers)
+      IsState (record { types = q.type_vars; vars = k; arity = ar; outer = [] }) s.machine (start q.type_vars k gs steps answers) → HasClauses P ar
+      s.machine → IsBetween P n s (start q.type_vars k gs steps answers)
   begun_between s steps answers n e g a v st cl =
-      goes_on (record { types = q.type_vars; vars = k; arity = ar; outer = [] }) e (record { alone = refl; are = v }) (record { given = sym g; left = omega (arith, a, g) }) (begins g st) cl (typed n steps answers) (unnegated steps answers)
+      goes_on (record { types = q.type_vars; vars = k; arity = ar; outer = [] }) e (record { alone = refl; are = v })
+      (record { given = sym g; left = omega (arith, a, g) }) (begins g st) cl (typed n steps answers) (unnegated steps answers)
 
 -- while the bank grows
-pub program_there : (m : Machine) (spans : List Span) (css : List Clauses) → StandsIn m → All (λ k. k < length m.table.rules.items) (numbers spans) → AreProgramOf m.bank m.table spans css → IsIndex m.bank m.table.rules.items (λ c. get nat_eq m.index c) (numbers spans) →
+pub program_there : (m : Machine) (spans : List Span) (css : List Clauses) → StandsIn m → All (λ k. k < length m.table.rules.items) (numbers spans) →
+    AreProgramOf m.bank m.table spans css → IsIndex m.bank m.table.rules.items (λ c. get nat_eq m.index c) (numbers spans) →
     (b : Nodes) → Extends m.bank b → HasProgram (with_bank m b) css
 program_there m spans css st ends are index b x = record {
   spans = spans;

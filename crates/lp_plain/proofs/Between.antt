@@ -35,7 +35,8 @@ use Rattle.lp_plain.proofs.Opening.{bank_grows, bank_stands}
 use Rattle.lp_plain.proofs.WrittenSearches.{search_same}
 
 -- no answer is left to give
-pub given_enough : (P : List Clause) (n : ℕ) (s u : Search) (t : State Task) → s.ended ≡ None → s.answers ≤ s.given → u.ended ≡ Some Enough → IsBetween P n s t → (x : Event Answer) (v : State Task) → Advances (look unit_limit n P) t x v →
+pub given_enough : (P : List Clause) (n : ℕ) (s u : Search) (t : State Task) → s.ended ≡ None → s.answers ≤ s.given → u.ended ≡ Some Enough →
+    IsBetween P n s t → (x : Event Answer) (v : State Task) → Advances (look unit_limit n P) t x v →
     (x ≡ Over Enough) × IsBetween P n u v
 given_enough P n s u t e l eu (goes_on qv e' hv g go cl ty un) x v d =
     let see = look unit_limit n P in
@@ -45,7 +46,8 @@ given_enough P n s u t e l eu (goes_on qv e' hv g go cl ty un) x v d =
 given_enough P n s u t e l eu (is_over f ef h) x v d = absurd (cc)
 
 -- the search is over, and stays so
-pub is_over_still : (P : List Clause) (n : ℕ) (s : Search) (t : State Task) (e : Ending) → s.ended ≡ Some e → IsBetween P n s t → (x : Event Answer) (v : State Task) → Advances (look unit_limit n P) t x v → (x ≡ Over e) × IsBetween P n s v
+pub is_over_still : (P : List Clause) (n : ℕ) (s : Search) (t : State Task) (e : Ending) → s.ended ≡ Some e → IsBetween P n s t → (x : Event Answer)
+    (v : State Task) → Advances (look unit_limit n P) t x v → (x ≡ Over e) × IsBetween P n s v
 is_over_still P n s t e es (goes_on qv e' hv g go cl ty un) x v d = absurd (cc)
 is_over_still P n s t e es (is_over f ef h) x v d =
     let same : f ≡ e = (let q : Some f ≡ Some e = sym ef ∙ es in cc) in
@@ -133,7 +135,8 @@ clauses_later P ar m n b x e st cl = subst (HasClauses P ar) (sym e) (record {
 over_few : (k : Course) (event : Told) (e : Ending) → event ≡ told.Ended e → AreEnough k.program k.enough k.begin event → AreFewOn k (Turn.Ended e)
 over_few k event e q h = λ w. h (q ∙ ap (λ z. told.Ended z) (let y = w in cc))
 
-pub over_is : (k : Course) (s u : Search) (event : Told) (e : Ending) → event ≡ told.Ended e → u.ended ≡ Some e → IsToTell s k → (AreFewOn k (Turn.Ended e) → k.event ≡ Over e) → AreEnough k.program k.enough k.begin event →
+pub over_is : (k : Course) (s u : Search) (event : Told) (e : Ending) → event ≡ told.Ended e → u.ended ≡ Some e → IsToTell s k →
+    (AreFewOn k (Turn.Ended e) → k.event ≡ Over e) → AreEnough k.program k.enough k.begin event →
     IsEventOf k.event event × IsBetween k.program k.enough u k.after
 over_is k s u event e q eu it st en =
     let o = st (over_few k event e q en) in (
@@ -148,7 +151,8 @@ in_query_alone : (q : Query) (j k : ℕ) (ws : List Waiting) → ws ≡ [] → I
 in_query_alone q j k [] e h = h.1
 in_query_alone q j k (w ∷ ws) e h = absurd (cc)
 
-module _ (k : Course) (s u : Search) (m : Machine) (b : Nodes) (it : IsToTell s k) (st : Stands k Turn.Answered m) (x : Extends m.bank b) (um : u.machine ≡ with_bank (rested m) b) (ug : u.given ≡ suc s.given) (ua : u.answers ≡ s.answers)
+module _ (k : Course) (s u : Search) (m : Machine) (b : Nodes) (it : IsToTell s k) (st : Stands k Turn.Answered m) (x : Extends m.bank b)
+    (um : u.machine ≡ with_bank (rested m) b) (ug : u.given ≡ suc s.given) (ua : u.answers ≡ s.answers)
     (uv : u.variables ≡ s.variables) (ue : u.ended ≡ s.ended) where
   pub same_count : length s.variables.items ≡ st.0.vars
   same_count = it.variables.are ∙ sym (in_query_alone k.query st.0.types st.0.vars st.0.outer st.3 st.2.1)
@@ -161,7 +165,8 @@ module _ (k : Course) (s u : Search) (m : Machine) (b : Nodes) (it : IsToTell s 
       let al = st.7 in
       goes_on st.0 (ue ∙ it.goes_on) (record { alone = st.3; are = ap (λ v. length v.items) uv ∙ same_count }) (record { given = ag ∙ ap suc g ∙ sym ug; left = omega (arith, al, ug, ua, l) })
       (answered (omega (arith, ug)) (answered_back st.0 m u.machine b x um k.after st.6))
-      (subst (λ ar. HasClauses k.program ar u.machine) (sym st.2.0) (clauses_later k.program k.query.arity m u.machine b x um st.6.above.done.stands st.10)) (subst (λ ar. IsTypedOver ar k.enough k.program k.after) (sym st.2.0) st.9.1) st.9.2
+      (subst (λ ar. HasClauses k.program ar u.machine) (sym st.2.0) (clauses_later k.program k.query.arity m u.machine b x um st.6.above.done.stands
+      st.10)) (subst (λ ar. IsTypedOver ar k.enough k.program k.after) (sym st.2.0) st.9.1) st.9.2
 
 pub answer_told : (k : Course) (m : Machine) (st : Stands k Turn.Answered m) (a : CodeAnswer) → IsAnswerOf st.1 a → IsEventOf k.event (told.Answer a)
 answer_told k m st a h = subst (λ z. IsEventOf z (told.Answer a)) (sym st.4) h
@@ -171,13 +176,16 @@ pub over_told : (x : Event Answer) (event : Told) (e : Ending) → x ≡ Over e 
 over_told x event e p q = subst (λ z. IsEventOf z event) (sym p) (subst (IsEventOf (Over e)) (sym q) refl)
 
 -- the next event, where the search has not begun, or is to go back from an answer
-module _ (P : List Clause) (n : ℕ) (s u : Search) (t : State Task) (x : Event Answer) (v : State Task) (d : Advances (look unit_limit n P) t x v) (event : Told) (none : s.ended ≡ None) (more : s.given < s.answers) (en : AreEnough P n t event) where
-  pub first_told : s.given ≡ 0 → ((k : Course) → IsToTell s k → Stands k Turn.On s.machine → AreEnough k.program k.enough k.begin event → IsEventOf k.event event × IsBetween k.program k.enough u k.after) → IsBetween P n s t → IsEventOf x event × IsBetween P n u v
+module _ (P : List Clause) (n : ℕ) (s u : Search) (t : State Task) (x : Event Answer) (v : State Task) (d : Advances (look unit_limit n P) t x v)
+    (event : Told) (none : s.ended ≡ None) (more : s.given < s.answers) (en : AreEnough P n t event) where
+  pub first_told : s.given ≡ 0 → ((k : Course) → IsToTell s k → Stands k Turn.On s.machine → AreEnough k.program k.enough k.begin event → IsEventOf
+      k.event event × IsBetween k.program k.enough u k.after) → IsBetween P n s t → IsEventOf x event × IsBetween P n u v
   first_told z f (goes_on qv e hv g (begins y st) cl ty un) = f (course P n s t x v d qv) (to_tell P n s t x v d qv hv g ty un cl more none) (first_stands P n s t x v d qv hv g ty un cl more st) en
   first_told z f (goes_on qv e hv g (answered y bk) cl ty un) = absurd (omega (arith, z, y))
   first_told z f (is_over e q o) = absurd (cc)
 
-  pub later_told : 0 < s.given → ((k : Course) → IsToTell s k → Stands k Turn.Back s.machine → AreEnough k.program k.enough k.begin event → IsEventOf k.event event × IsBetween k.program k.enough u k.after) → IsBetween P n s t → IsEventOf x event × IsBetween P n u v
+  pub later_told : 0 < s.given → ((k : Course) → IsToTell s k → Stands k Turn.Back s.machine → AreEnough k.program k.enough k.begin event → IsEventOf
+      k.event event × IsBetween k.program k.enough u k.after) → IsBetween P n s t → IsEventOf x event × IsBetween P n u v
   later_told z f (goes_on qv e hv g (answered y bk) cl ty un) = f (course P n s t x v d qv) (to_tell P n s t x v d qv hv g ty un cl more none) (later_stands P n s t x v d qv hv g ty un cl more bk) en
   later_told z f (goes_on qv e hv g (begins y st) cl ty un) = absurd (omega (arith, z, y))
   later_told z f (is_over e q o) = absurd (cc)

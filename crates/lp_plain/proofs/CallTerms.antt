@@ -29,7 +29,8 @@ pub framed_program : (m q : Machine) → KeepsGoals m q → (ar : ℕ → ℕ) (
 framed_program m q g ar css r = program_later m q (subst (Extends m.bank) (sym g.known.bank) (extends_same m.bank)) g.known.table g.known.index ar css r
 
 -- the goals behind the first are written where all are
-pub rest_written : (m : Machine) (ar : ℕ → ℕ) (p : Place) (s : Span) (second : ℕ) → second ≡ s.from + 1 → s.from < s.to → AreWrittenGoals m ar p s → AreWrittenGoals m ar p (record { from = second; to = s.to })
+pub rest_written : (m : Machine) (ar : ℕ → ℕ) (p : Place) (s : Span) (second : ℕ) → second ≡ s.from + 1 → s.from < s.to → AreWrittenGoals m ar p s →
+    AreWrittenGoals m ar p (record { from = second; to = s.to })
 rest_written m ar p s second e l w = record { type_vars = w.type_vars; binders = w.binders; values = w.values; scope_holds = w.scope_holds; have = w.have; is = go w.is }
   where
     go : WrittenGoals m.bank (shown m.table) ar w.type_vars w.binders s.from s.to → WrittenGoals m.bank (shown m.table) ar w.type_vars w.binders second s.to

@@ -92,7 +92,8 @@ module _ (n : ℕ) (P : List Clause) (program : EachOf IsUnnegatedClause P) (go 
   unnegated_move s h = at_stack s.steps s.answers s.given s.rows s.row s.lost s.stack h
 
 -- so the next state is typed
-pub typed_on : (ar : ℕ → ℕ) (n : ℕ) (P : List Clause) (go : (Answer → Bool) → State Task → Inner) (s t : State Task) → (v : Move Task Answer) → ((d : Declared) (q : Proved) → IsMoveTyped n d P q v → IsTypedState n d P q t) →
+pub typed_on : (ar : ℕ → ℕ) (n : ℕ) (P : List Clause) (go : (Answer → Bool) → State Task → Inner) (s t : State Task) → (v : Move Task Answer) →
+    ((d : Declared) (q : Proved) → IsMoveTyped n d P q v → IsTypedState n d P q t) →
     move go (look unit_limit n P) s ≡ v → IsTypedOver ar n P s → IsTypedOver ar n P t
 typed_on ar n P go s t v f e ty = record {
   declared = ty.declared;
@@ -129,7 +130,8 @@ module _ (c : Course) (qv : Query) (n : Machine) (within : IsOfQuery c.query qv)
     here : (s : State Task) → s.answers ≡ suc c.left → s.given ≡ c.given → Kept c s → (i : ℕ) → first see j i s ≡ Some (c.event, c.after) → Comes c qv.outer s
     here s a g v i e = subst (λ ws. Comes c ws s) (sym none) (a, g, v, record { inner_moves = j; moves = i; gives = e })
 
-    first_moved : (turn : Turn) (i : ℕ) (s : State Task) → s.answers ≡ suc c.left → s.given ≡ c.given → Kept c s → IsMoved qv turn n (move (inner see j) see s) s → W turn → first see j (suc i) s ≡ Some (c.event, c.after) → Stands c turn n
+    first_moved : (turn : Turn) (i : ℕ) (s : State Task) → s.answers ≡ suc c.left → s.given ≡ c.given → Kept c s → IsMoved qv turn n
+        (move (inner see j) see s) s → W turn → first see j (suc i) s ≡ Some (c.event, c.after) → Stands c turn n
     first_moved Turn.On i s a g v h w e =
         let q = sym (ap (first_after s (first see j i)) h.3) ∙ e in
         (qv, h.2, within, h.4, here h.2 (h.5 ∙ a) (h.6 ∙ g) (kept_on c j h.0 h.1 s h.2 h.3 v) i q, serves Turn.On tt w)
@@ -156,7 +158,8 @@ module _ (c : Course) (qv : Query) (n : Machine) (within : IsOfQuery c.query qv)
     first_waits : (i : ℕ) (s : State Task) → IsWaiting (move (inner see j) see s) → first see j (suc i) s ≡ Some (c.event, c.after) → ⊥
     first_waits i s h e = let q = sym (ap (first_after s (first see j i)) h.2) ∙ e in absurd (cc)
 
-    first_leads : (k : ℕ) (turn : Turn) (i : ℕ) (s : State Task) → s.answers ≡ suc c.left → s.given ≡ c.given → Kept c s → LeadsWith (W turn) k qv turn n (inner see j) see s → first see j i s ≡ Some (c.event, c.after) → Stands c turn n
+    first_leads : (k : ℕ) (turn : Turn) (i : ℕ) (s : State Task) → s.answers ≡ suc c.left → s.given ≡ c.given → Kept c s → LeadsWith (W turn) k qv
+        turn n (inner see j) see s → first see j i s ≡ Some (c.event, c.after) → Stands c turn n
     first_leads k turn zero s a g v h e = absurd (cc)
     first_leads zero turn (suc i) s a g v (inl h) e = first_moved turn i s a g v h.0 h.1 e
     first_leads zero turn (suc i) s a g v (inr h) e = absurd (first_waits i s h e)
@@ -199,7 +202,8 @@ module _ (c : Course) (qv : Query) (n : Machine) (within : IsOfQuery c.query qv)
       on_goes : (k : ℕ) (ns : List Note) (t : State Task) → move (inner see m) see s ≡ Goes k ns t → of s.steps (inner see (suc i) has_no_pairs s) → of t.steps (inner see i has_no_pairs t)
       on_goes k ns t e h = let r = by_move (Goes k ns t) e h in later_comes c (Comes c ws) w s.steps t.steps k ns (inner see i has_no_pairs t) r.1 r.0
 
-      inner_moved : (turn : Turn) → IsInnerTurn (w ∷ ws) turn → s.answers ≡ 1 → Kept c s → IsMoved qv turn n (move (inner see m) see s) s → W turn → of s.steps (inner see (suc i) has_no_pairs s) → Stands c turn n
+      inner_moved : (turn : Turn) → IsInnerTurn (w ∷ ws) turn → s.answers ≡ 1 → Kept c s → IsMoved qv turn n (move (inner see m) see s) s → W turn →
+          of s.steps (inner see (suc i) has_no_pairs s) → Stands c turn n
       inner_moved Turn.On x a v h y o = (qv, h.2, within, h.4, inside h.2 (h.5 ∙ a) (kept_on c m h.0 h.1 s h.2 h.3 v) i (on_goes h.0 h.1 h.2 h.3 o), serves Turn.On tt y)
       inner_moved Turn.Back x a v h y o = (qv, h.2, within, h.4, inside h.2 (h.5 ∙ a) (kept_on c m h.0 h.1 s h.2 h.3 v) i (on_goes h.0 h.1 h.2 h.3 o), serves Turn.Back tt y)
       inner_moved Turn.Answered x a v h y o = absurd x
@@ -208,13 +212,15 @@ module _ (c : Course) (qv : Query) (n : Machine) (within : IsOfQuery c.query qv)
       inner_waits : IsWaiting (move (inner see m) see s) → of s.steps (inner see (suc i) has_no_pairs s) → ⊥
       inner_waits h o = (by_move (Waits h.0 h.1) h.2 o).0
 
-    inner_leads : (k : ℕ) (turn : Turn) → IsInnerTurn (w ∷ ws) turn → (i : ℕ) → i ≤ suc m → (s : State Task) → s.answers ≡ 1 → Kept c s → LeadsWith (W turn) k qv turn n (inner see m) see s → of s.steps (inner see i has_no_pairs s) → Stands c turn n
+    inner_leads : (k : ℕ) (turn : Turn) → IsInnerTurn (w ∷ ws) turn → (i : ℕ) → i ≤ suc m → (s : State Task) → s.answers ≡ 1 → Kept c s → LeadsWith
+        (W turn) k qv turn n (inner see m) see s → of s.steps (inner see i has_no_pairs s) → Stands c turn n
     inner_leads k turn x zero l s a v h o = absurd o
     inner_leads zero turn x (suc i) l s a v (inl h) o = inner_moved i (omega (arith, l)) s turn x a v h.0 h.1 o
     inner_leads zero turn x (suc i) l s a v (inr h) o = absurd (inner_waits i (omega (arith, l)) s h o)
     inner_leads (suc k) turn x (suc i) l s a v (inl h) o = inner_moved i (omega (arith, l)) s turn x a v h.0 h.1 o
     inner_leads (suc k) turn x (suc i) l s a v (inr (inl h)) o = absurd (inner_waits i (omega (arith, l)) s h o)
-    inner_leads (suc k) turn x (suc i) l s a v (inr (inr h)) o = inner_leads k turn x i (omega (arith, l)) h.2 (h.4 ∙ a) (kept_on c m h.0 h.1 s h.2 h.3 v) h.6 (on_goes i (omega (arith, l)) s h.0 h.1 h.2 h.3 o)
+    inner_leads (suc k) turn x (suc i) l s a v (inr (inr h)) o = inner_leads k turn x i (omega (arith, l)) h.2 (h.4 ∙ a)
+        (kept_on c m h.0 h.1 s h.2 h.3 v) h.6 (on_goes i (omega (arith, l)) s h.0 h.1 h.2 h.3 o)
 
   -- a turn that leads there
   pub leads_stands : (k : ℕ) (turn : Turn) (s : State Task) → IsInnerTurn qv.outer turn → ((j : ℕ) → LeadsWith (W turn) k qv turn n (inner see j) see s) → Comes c qv.outer s → Stands c turn n
@@ -233,7 +239,9 @@ pub kept_of : (c : Course) (ws : List Waiting) (s : State Task) → Comes c ws s
 kept_of c [] s h = h.2
 kept_of c (w ∷ ws) s h = h.1
 
-pub moved_stands : (c : Course) (qv : Query) (n : Machine) → IsOfQuery c.query qv → (turn : Turn) → (IsNoEnd turn → HasClauses c.program c.query.arity n) → (s : State Task) → IsInnerTurn qv.outer turn → MovesTo qv turn n s → Comes c qv.outer s → Stands c turn n
+pub moved_stands : (c : Course) (qv : Query) (n : Machine) → IsOfQuery c.query qv → (turn : Turn) →
+    (IsNoEnd turn → HasClauses c.program c.query.arity n) → (s : State Task) → IsInnerTurn qv.outer turn → MovesTo qv turn n s → Comes c qv.outer s →
+    Stands c turn n
 moved_stands c qv n q turn cl s x h o =
     let w = wanted c qv.outer s o in
     leads_stands c qv n q (λ t. IsNoEnd t → HasClauses c.program c.query.arity n) (λ t k f. f k) 0 turn s x (λ j. inl (h w.0 w.1 (inner (seen_in c) j) c.enough c.program, cl)) o
@@ -242,7 +250,8 @@ moved_stands c qv n q turn cl s x h o =
 few_at : (c : Course) (qv : Query) (s : State Task) → Comes c qv.outer s → (e : Ending) → AreFewOn c (Turn.Ended e) → AreFewAt (Turn.Ended e) c.enough s.stack
 few_at c qv s o e few = λ q. let f = few q in (f.0, f.1 s ((kept_of c qv.outer s o).0 s (at_once refl)))
 
-pub led_over : (c : Course) (qv : Query) (n : Machine) → IsOfQuery c.query qv → (IsWrittenSearch n qv.arity → HasClauses c.program c.query.arity n) → (k : ℕ) (turn : Turn) (s : State Task) → IsInnerTurn qv.outer turn → LeadsOver k qv turn n s c.program →
+pub led_over : (c : Course) (qv : Query) (n : Machine) → IsOfQuery c.query qv → (IsWrittenSearch n qv.arity → HasClauses c.program c.query.arity n) →
+    (k : ℕ) (turn : Turn) (s : State Task) → IsInnerTurn qv.outer turn → LeadsOver k qv turn n s c.program →
     Comes c qv.outer s → Stands c turn n
 led_over c qv n q cl k turn s x h o = go turn x h
   where

@@ -94,7 +94,8 @@ module _ (qv : Query) (m n : Machine) (a : Around) (raw : Branch) (s : State Tas
     views : IsViewUnder qv m.bank h.closing (mark_in (base_of m.denied) h.above.raws) (base_of m.denied) (length m.choices.items) m.branch.pairs.items rest
         (look_form 0 0 [] 0 e rest x (connective_in m.bank k)) (look_form unit_limit enough P (length h.rest) f.first behind t (connective_of t))
     views =
-        form_parts qv h.levels m.bank h.closing (mark_in (base_of m.denied) h.above.raws) (base_of m.denied) (length m.choices.items) m.branch.pairs.items e f.first rest behind f.entry.place f.entry.mark f.entry.low f.entry.high
+        form_parts qv h.levels m.bank h.closing (mark_in (base_of m.denied) h.above.raws) (base_of m.denied) (length m.choices.items)
+        m.branch.pairs.items e f.first rest behind f.entry.place f.entry.mark f.entry.low f.entry.high
         (record {
           goals = f.others;
           next = h.under.next;
@@ -111,11 +112,13 @@ module _ (qv : Query) (m n : Machine) (a : Around) (raw : Branch) (s : State Tas
 
     on : TakesKnown m n p k o → BindsNone m n → PutsWith m n → IsMoved qv Turn.On n (move go (look unit_limit enough P) s) s
     on tk bn pw =
-        view_moves qv m n a raw s h rest refl w ea go enough P (look_form 0 0 [] 0 e rest x (connective_in m.bank k)) (look_form unit_limit enough P (length h.rest) f.first behind t (connective_of t)) looked views
+        view_moves qv m n a raw s h rest refl w ea go enough P (look_form 0 0 [] 0 e rest x (connective_in m.bank k))
+        (look_form unit_limit enough P (length h.rest) f.first behind t (connective_of t)) looked views
         (tk a rest h.above.done.stands h.placed at.place inside (record { goals = at.reads; next = h.next; next_type = h.next_type }) 0 0 0 [] x (Atomic at.value)) bn pw
 
     stops : 1000000 ≤ m.counts.row → IsMoved qv (Turn.Ended Deep) n (move go (look unit_limit enough P) s) s
-    stops = view_stops qv m n a raw s h rest refl w ea go enough P (look_form 0 0 [] 0 e rest x (connective_in m.bank k)) (look_form unit_limit enough P (length h.rest) f.first behind t (connective_of t)) looked views
+    stops = view_stops qv m n a raw s h rest refl w ea go enough P (look_form 0 0 [] 0 e rest x (connective_in m.bank k))
+        (look_form unit_limit enough P (length h.rest) f.first behind t (connective_of t)) looked views
 
   module _ (tk : TakesKnown m n p k o) (bn : BindsNone m n) (pw : PutsWith m n) (wr : IsShutIn m.bank k → IsWrittenSearch n qv.arity) where
     on_leads : LeadsWith (IsWrittenSearch n qv.arity) 1 qv Turn.On n go (look unit_limit enough P) s
@@ -136,7 +139,8 @@ module _ (qv : Query) (m n : Machine) (a : Around) (raw : Branch) (s : State Tas
     ]
   ] refl
 
-  by_count : (turn : Turn) (new : Counts) → IsApart turn m.counts new → (turn ≡ Turn.On → TakesKnown m n p k o) → (turn ≡ Turn.On → BindsNone m n) → (turn ≡ Turn.On → PutsWith m n) → (turn ≡ Turn.On → IsShutIn m.bank k → IsWrittenSearch n qv.arity) →
+  by_count : (turn : Turn) (new : Counts) → IsApart turn m.counts new → (turn ≡ Turn.On → TakesKnown m n p k o) → (turn ≡ Turn.On → BindsNone m n) →
+      (turn ≡ Turn.On → PutsWith m n) → (turn ≡ Turn.On → IsShutIn m.bank k → IsWrittenSearch n qv.arity) →
       LeadsWith (WrittenBehind turn n qv.arity) 1 qv turn n go (look unit_limit enough P) s
   by_count Turn.On new c tk bn pw wr = on_leads (tk refl) (bn refl) (pw refl) (wr refl)
   by_count Turn.Back new c tk bn pw wr = absurd c
@@ -151,7 +155,8 @@ module _ (qv : Query) (m n : Machine) (a : Around) (raw : Branch) (s : State Tas
   by_count (Turn.Ended OpenNot) new c tk bn pw wr = absurd c
 
 pub form_leads : (qv : Query) (m n : Machine) (a : Around) (raw : Branch) (s : State Task) (h : IsRunning qv m a raw s) (p : Place) (u : TermId) (o : Option ℕ) → IsAtLooked m h.closing a p u o raw →
-    (k : Connective) → connective_of (tree m.bank u.0) ≡ connective_in m.bank k → IsConnectiveIn m.bank k → IsApartForm k → (turn : Turn) → IsApart turn m.counts n.counts → (turn ≡ Turn.On → TakesKnown m n p k o) →
+    (k : Connective) → connective_of (tree m.bank u.0) ≡ connective_in m.bank k → IsConnectiveIn m.bank k → IsApartForm k → (turn : Turn) → IsApart
+    turn m.counts n.counts → (turn ≡ Turn.On → TakesKnown m n p k o) →
     (turn ≡ Turn.On → BindsNone m n) → (turn ≡ Turn.On → PutsWith m n) → (turn ≡ Turn.On → IsShutIn m.bank k → IsWrittenSearch n qv.arity) → (P : List Clause) → LeadsOver 2 qv turn n s P
 form_leads qv m n a raw s h p u o at k is inside af turn c tk bn pw wr P w ea go enough few ty =
     leads_more (WrittenBehind turn n qv.arity) qv turn n go (look unit_limit enough P) s (by_count qv m n a raw s h p u o at k is inside af w ea go enough P turn n.counts c tk bn pw wr)

@@ -22,15 +22,18 @@ use Rattle.lp_plain.specs.WrittenSearch.{IsShutIn, IsWrittenSearch}
 use Rattle.lp_plain.proofs.FormMoves.{form_leads}
 use Rattle.lp_plain.proofs.LookedOn.{closing_on, looked_on, running_on}
 
-module _ (qv : Query) (m n : Machine) (b : OnlyBank m n) (a : Around) (raw : Branch) (s : State Task) (h : IsRunning qv m a raw s) (p : Place) (t u : TermId) (o : Option ℕ) (at : IsAtTerm m a p t o raw) (l : LooksAt m n t (Some u)) where
+module _ (qv : Query) (m n : Machine) (b : OnlyBank m n) (a : Around) (raw : Branch) (s : State Task) (h : IsRunning qv m a raw s) (p : Place)
+    (t u : TermId) (o : Option ℕ) (at : IsAtTerm m a p t o raw) (l : LooksAt m n t (Some u)) where
   abbrev now : IsRunning qv n a raw s
   now = running_on m n b qv a raw s h p at.place
 
   looked : IsAtLooked n now.closing a p u o raw
   looked = subst (λ z. IsAtLooked n z a p u o raw) (sym (closing_on m n b qv a raw s h p at.place)) (looked_on m n b qv a raw s h p at.place t u o l at)
 
-  pub connective_turn : (q : Machine) (k : Connective) → connective_of (tree n.bank u.0) ≡ connective_in n.bank k → IsConnectiveIn n.bank k → IsApartForm k → (turn : Turn) → IsApart turn n.counts q.counts →
-      (turn ≡ Turn.On → TakesKnown n q p k o) → (turn ≡ Turn.On → BindsNone n q) → (turn ≡ Turn.On → PutsWith n q) → (turn ≡ Turn.On → IsShutIn n.bank k → IsWrittenSearch q qv.arity) → (P : List Clause) → LeadsOver 2 qv turn q s P
+  pub connective_turn : (q : Machine) (k : Connective) → connective_of (tree n.bank u.0) ≡ connective_in n.bank k → IsConnectiveIn n.bank k →
+      IsApartForm k → (turn : Turn) → IsApart turn n.counts q.counts →
+      (turn ≡ Turn.On → TakesKnown n q p k o) → (turn ≡ Turn.On → BindsNone n q) → (turn ≡ Turn.On → PutsWith n q) →
+      (turn ≡ Turn.On → IsShutIn n.bank k → IsWrittenSearch q qv.arity) → (P : List Clause) → LeadsOver 2 qv turn q s P
   connective_turn q = form_leads qv n q a raw s now p u o looked
 
   -- any other goal, by what the turn says of it

@@ -33,7 +33,8 @@ goals_some m a p span o raw h e = go h.goals_of h.are h.goals
     go no_goals ag w = let l = h.some in absurd (omega (arith, ag, l))
     go (goals g gs) ag w = let q = sym e ∙ w in cc
 
-pub term_some : (qv : Query) (m : Machine) (s : State Task) (h : IsState qv m s) (number : ℕ) (f : Frame) → m.branch.goals ≡ Some number → slice_get m.frames.items number ≡ Some f → (u : TermId) → f.todo ≡ Todo.Term u → h.raw.goals ≡ [] → ⊥
+pub term_some : (qv : Query) (m : Machine) (s : State Task) (h : IsState qv m s) (number : ℕ) (f : Frame) → m.branch.goals ≡ Some number → slice_get
+    m.frames.items number ≡ Some f → (u : TermId) → f.todo ≡ Todo.Term u → h.raw.goals ≡ [] → ⊥
 term_some qv m s h number f front got u t e = go (subst (λ o. Reads m h.around o h.raw.goals) front h.goals) e
   where
     go : {es : List Entry} → Reads m h.around (Some number) es → es ≡ [] → ⊥
@@ -56,7 +57,8 @@ pub none_below : (qv : Query) (m : Machine) (a : Around) (stack : List Task) →
 none_below qv m a stack e h = ap base_of (none_denied qv.arity m a m.denied qv.outer e h.inside.outer)
 
 -- the newest alternative of a search that is to go back
-module _ (c : Course) (qv : Query) (m : Machine) (s : State Task) (h : IsBack qv m s) (k : Choice) (rest : List Choice) (e : m.choices.items ≡ rest ++ k ∷ []) (l : base_of m.denied ≤ length rest) where
+module _ (c : Course) (qv : Query) (m : Machine) (s : State Task) (h : IsBack qv m s) (k : Choice) (rest : List Choice)
+    (e : m.choices.items ≡ rest ++ k ∷ []) (l : base_of m.denied ≤ length rest) where
   abbrev base : ℕ
   base = base_of m.denied
 

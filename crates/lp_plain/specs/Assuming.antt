@@ -122,7 +122,8 @@ HasAssumed l tree cs = EachOf HasHead cs × ((h : Head) → AreUnder l tree h cs
 -- what is written in the clauses of a standing, and in those before it
 pub data HasWritten (l : Lists) : Option ℕ → Written → Type 0 where
   no_standing : {o : Option ℕ} {w : Written} → o ≡ None → w ≡ nothing_written → HasWritten l o w
-  a_standing : {o : Option ℕ} {w : Written} (i : ℕ) (s : Standing) (cs : Clauses) (σ : ℕ → Term) (before : Written) → o ≡ Some i → slice_get l.standings i ≡ Some s → IsNumbered (shown l.table).frees s.free (λ f. collect_clauses f 0 cs) →
+  a_standing : {o : Option ℕ} {w : Written} (i : ℕ) (s : Standing) (cs : Clauses) (σ : ℕ → Term) (before : Written) → o ≡ Some i → slice_get
+      l.standings i ≡ Some s → IsNumbered (shown l.table).frees s.free (λ f. collect_clauses f 0 cs) →
       HasValues l.bank l.blocks s.values.scope σ → HasWritten l s.older before → w ≡ both_written (written_at σ s.values.types (written_in_clauses cs)) before → HasWritten l o w
 
 -- a number is one of the first n, where there is one

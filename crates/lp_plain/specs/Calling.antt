@@ -70,7 +70,8 @@ IsLookedAs m n call None None = ⊥
 IsLookedAs m n call None (Some made) = made ≡ call
 IsLookedAs m n call (Some u) None = LooksAt m n u None
 IsLookedAs m n call (Some u) (Some made) =
-    (v : TermId) × (key : Option Key) × (made ≡ record call { first = Some v; key = key }) × LooksAt m n u (Some v) × IsKey n.bank key (key_of (tree n.bank v.0)) × (v.0 < length n.bank.terms → IsKeyIn (length n.bank.terms) key)
+    (v : TermId) × (key : Option Key) × (made ≡ record call { first = Some v; key = key }) × LooksAt m n u (Some v) × IsKey n.bank key
+    (key_of (tree n.bank v.0)) × (v.0 < length n.bank.terms → IsKeyIn (length n.bank.terms) key)
 
 -- where the turn is too deep, fewer than a million steps are allowed for each look, and the expressions of the goal in front are small
 abbrev pub AreFewAt : Turn → (enough : ℕ) → List Task → Type 0
@@ -80,7 +81,8 @@ AreFewAt turn enough ts = turn ≡ Turn.Ended Deep → (enough < 1000000) × Has
 abbrev pub LeadsWith : (W : Type 0) → ℕ → Query → Turn → (new : Machine) → (go : (Answer → Bool) → State Task → Inner) → (ℕ → Task → View Task Answer) → (before : State Task) → Type 0
 LeadsWith W zero qv turn n go see s = (IsMoved qv turn n (move go see s) s × W) ⊎ IsWaiting (move go see s)
 LeadsWith W (suc j) qv turn n go see s =
-    (IsMoved qv turn n (move go see s) s × W) ⊎ (IsWaiting (move go see s) ⊎ ((k : ℕ) × (ns : List Note) × (t : State Task) × (move go see s ≡ Goes k ns t) × (t.answers ≡ s.answers) × (t.given ≡ s.given) × LeadsWith W j qv turn n go see t))
+    (IsMoved qv turn n (move go see s) s × W) ⊎ (IsWaiting (move go see s) ⊎ ((k : ℕ) × (ns : List Note) × (t : State Task) ×
+    (move go see s ≡ Goes k ns t) × (t.answers ≡ s.answers) × (t.given ≡ s.given) × LeadsWith W j qv turn n go see t))
 
 -- all in the search is written behind a turn that does not end it
 abbrev pub WrittenBehind : Turn → (new : Machine) → (arity : ℕ → ℕ) → Type 0
@@ -95,13 +97,16 @@ LeadsOn qv turn n go enough P s = LeadsWith (WrittenBehind turn n qv.arity) 1 qv
 
 abbrev pub CallLeads : (old new : Machine) → Place → (goal : TermId) → Head → (first : Option TermId) → (behind : Option ℕ) → Turn → Type 0
 CallLeads m n p goal head first behind turn =
-    m.branch.goals ≡ behind → (qv : Query) (a : Around) (rest work : Branch) (below : List Task) (g : IsGoingOn qv m a rest work below) (e : Entry) → IsAtCall qv m a p goal head first g.closing g.levels rest.next e → (css : List Clauses) → IsProgramIn m qv.arity css →
-    IsWrittenSearch m qv.arity → (s : State Task) (k : ℕ) → s.answers ≡ suc k → IsCounted m s → (go : (Answer → Bool) → State Task → Inner) (enough : ℕ) → AreFew turn enough → IsTypedOver qv.arity enough (all_clauses css) s →
+    m.branch.goals ≡ behind → (qv : Query) (a : Around) (rest work : Branch) (below : List Task) (g : IsGoingOn qv m a rest work below) (e : Entry) →
+    IsAtCall qv m a p goal head first g.closing g.levels rest.next e → (css : List Clauses) → IsProgramIn m qv.arity css →
+    IsWrittenSearch m qv.arity → (s : State Task) (k : ℕ) → s.answers ≡ suc k → IsCounted m s → (go : (Answer → Bool) → State Task → Inner)
+    (enough : ℕ) → AreFew turn enough → IsTypedOver qv.arity enough (all_clauses css) s →
     s.stack ≡ tries (all_clauses css) e work (length below) (goal_looked enough (closed g.closing (tree m.bank goal.0))) ++ below → LeadsOn qv turn n go enough (all_clauses css) s
 
 -- so over one program, for a turn that may be too deep
 abbrev pub LeadsOver : ℕ → Query → Turn → (new : Machine) → (before : State Task) → List Clause → Type 0
-LeadsOver j qv turn n s P = (k : ℕ) → s.answers ≡ suc k → (go : (Answer → Bool) → State Task → Inner) (enough : ℕ) → AreFewAt turn enough s.stack → IsTypedOver qv.arity enough P s → LeadsWith (WrittenBehind turn n qv.arity) j qv turn n go (look unit_limit enough P) s
+LeadsOver j qv turn n s P = (k : ℕ) → s.answers ≡ suc k → (go : (Answer → Bool) → State Task → Inner) (enough : ℕ) → AreFewAt turn enough s.stack →
+    IsTypedOver qv.arity enough P s → LeadsWith (WrittenBehind turn n qv.arity) j qv turn n go (look unit_limit enough P) s
 
 -- the first argument of a call is in the bank
 abbrev pub IsFirstIn : (terms : ℕ) → Form → Type 0
@@ -115,7 +120,8 @@ LeadsOf m n qv turn s = (css : List Clauses) → IsProgramIn m qv.arity css → 
 -- the turn of an atom, as it was looked at
 abbrev pub AtomTurns : (old new : Machine) → Place → (goal : TermId) → Form → (behind : Option ℕ) → Turn → Type 0
 AtomTurns m n p goal f behind turn =
-    (qv : Query) (a : Around) (raw : Branch) (s : State Task) (h : IsRunning qv m a raw s) → IsAtLooked m h.closing a p goal behind raw → IsAtomForm m.bank (tree m.bank goal.0) f → StandsForm (length m.bank.terms) f → IsFirstIn (length m.bank.terms) f →
+    (qv : Query) (a : Around) (raw : Branch) (s : State Task) (h : IsRunning qv m a raw s) → IsAtLooked m h.closing a p goal behind raw → IsAtomForm
+    m.bank (tree m.bank goal.0) f → StandsForm (length m.bank.terms) f → IsFirstIn (length m.bank.terms) f →
     LeadsOf m n qv turn s
 
 -- that of a goal that is known at run time

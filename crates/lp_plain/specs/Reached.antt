@@ -17,7 +17,8 @@ use Rattle.lp_plain.specs.AtRunTime.{IsSmallExpression}
 pub data IsReached (see : ℕ → Task → View Task Answer) : State Task → State Task → Type 0 where
   at_once : {s u : State Task} → s ≡ u → IsReached see s u
   behind_move : {s u : State Task} (j k : ℕ) (ns : List Note) (t : State Task) → move (inner see j) see s ≡ Goes k ns t → IsReached see t u → IsReached see s u
-  inside_denied : {s u : State Task} (n : ℕ) (t i : Task) (f : Answer → Bool) (ts rest : List Task) → s.stack ≡ t ∷ rest → s.steps ≡ suc n → see (length rest) t ≡ Denies i f ts → IsReached see (starts_within s.rows i n 1) u → IsReached see s u
+  inside_denied : {s u : State Task} (n : ℕ) (t i : Task) (f : Answer → Bool) (ts rest : List Task) → s.stack ≡ t ∷ rest → s.steps ≡ suc n → see
+      (length rest) t ≡ Denies i f ts → IsReached see (starts_within s.rows i n 1) u → IsReached see s u
   behind_answer : {s u : State Task} (j : ℕ) (a : Answer) (ns : List Note) (t : State Task) → move (inner see j) see s ≡ Tells a ns t → IsReached see t u → IsReached see s u
 
 -- an atom by its head and arguments: the expressions of an `is` or of an order have normal forms of at most a million nodes

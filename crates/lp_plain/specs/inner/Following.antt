@@ -67,7 +67,8 @@ IsOfQuery q qv = (qv.arity ≡ q.arity) × IsInQuery q qv.types qv.vars qv.outer
 abbrev pub Stands : Course → Turn → Machine → Type 0
 Stands c Turn.On m = (qv : Query) × (s : State Task) × IsOfQuery c.query qv × IsState qv m s × Comes c qv.outer s × HasClauses c.program c.query.arity m
 Stands c Turn.Back m = (qv : Query) × (s : State Task) × IsOfQuery c.query qv × IsBack qv m s × Comes c qv.outer s × HasClauses c.program c.query.arity m
-Stands c Turn.Answered m = (qv : Query) × (x : Answer) × IsOfQuery c.query qv × (qv.outer ≡ []) × (c.event ≡ Gave x) × IsAnswer qv m x × IsAnswered qv m c.after × (c.after.answers ≡ c.left) × (c.after.given ≡ suc c.given) × Kept c c.after × HasClauses c.program c.query.arity m
+Stands c Turn.Answered m = (qv : Query) × (x : Answer) × IsOfQuery c.query qv × (qv.outer ≡ []) × (c.event ≡ Gave x) × IsAnswer qv m x × IsAnswered qv
+    m c.after × (c.after.answers ≡ c.left) × (c.after.given ≡ suc c.given) × Kept c c.after × HasClauses c.program c.query.arity m
 Stands c (Turn.Ended e) m = AreFewOn c (Turn.Ended e) → c.event ≡ Over e
 
 -- the turn behind which something is told

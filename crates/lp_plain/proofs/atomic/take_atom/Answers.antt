@@ -23,7 +23,8 @@ pub returns-then-not-take_step-clause-leads : goal.returns-then-not-take_step-cl
 returns-then-not-take_step-clause-leads g c = λ qv a raw s h at i sf inside css pr sw.
     let m = c.args.machine.now in
     let e = c.if-not-take_step.ensures.spent refl in
-    over_one qv (Turn.Ended Steps) c.take_step.new.machine s (λ w ea go enough few P ty. spent_leads qv m a raw s h c.args.place c.args.goal c.args.behind at enough P c.take_step.new.machine w ea go c.args.form i e.1)
+    over_one qv (Turn.Ended Steps) c.take_step.new.machine s (λ w ea go enough few P ty. spent_leads qv m a raw s h c.args.place c.args.goal
+    c.args.behind at enough P c.take_step.new.machine w ea go c.args.form i e.1)
     tt (all_clauses css)
 
 pub returns-in_ok-unified-in-Equal-clause-leads : goal.returns-in_ok-unified-in-Equal-clause-leads
@@ -76,7 +77,8 @@ returns-in_ok-turn-in-Order-clause-leads g c = λ qv a raw s h at i sf inside cs
     let e = c.in_ok-turn-in-Order.ensures in
     over_next qv turn n s (all_clauses css) (written_behind turn n qv.arity (bound_written b n (only_bound b n e.only) (step_stands m b o ks st) qv.arity wb))
     (order_turn qv m b a raw s h c.args.place c.args.goal o at ks t.choices (t.counts refl) (t.there refl) t.goals.known.bank n
-    turn c.in-Order.order c.in-Order.left c.in-Order.right (subst (IsAtomForm m.bank (tree m.bank c.args.goal.0)) c.in-Order.is i) (subst (StandsForm (length m.bank.terms)) c.in-Order.is sf) e.compares (all_clauses css))
+    turn c.in-Order.order c.in-Order.left c.in-Order.right (subst (IsAtomForm m.bank (tree m.bank c.args.goal.0)) c.in-Order.is i)
+    (subst (StandsForm (length m.bank.terms)) c.in-Order.is sf) e.compares (all_clauses css))
 
 pub returns-in_ok-turn-in-Call-clause-leads : goal.returns-in_ok-turn-in-Call-clause-leads
 returns-in_ok-turn-in-Call-clause-leads g c = λ qv a raw s h at i sf inside.
@@ -84,7 +86,8 @@ returns-in_ok-turn-in-Call-clause-leads g c = λ qv a raw s h at i sf inside.
     let k = c.take_step.new.machine in
     let o = c.args.behind in
     let t = c.if-not-take_step.ensures in
-    call_turn qv m a raw s h c.args.place c.args.goal o at c.take_call.new.machine c.in_ok-turn-in-Call.turn (going_behind k o) (step_kept m k o t.goals t.assumed t.frames t.denied t.branch) t.choices (t.counts refl) (t.there refl) c.in-Call.head c.in-Call.first
+    call_turn qv m a raw s h c.args.place c.args.goal o at c.take_call.new.machine c.in_ok-turn-in-Call.turn (going_behind k o)
+    (step_kept m k o t.goals t.assumed t.frames t.denied t.branch) t.choices (t.counts refl) (t.there refl) c.in-Call.head c.in-Call.first
     (subst (IsAtomForm m.bank (tree m.bank c.args.goal.0)) c.in-Call.is i) (subst (IsFirstIn (length m.bank.terms)) c.in-Call.is inside) c.in_ok-turn-in-Call.ensures.leads refl
 
 pub returns-in-Flexible-clause-leads : goal.returns-in-Flexible-clause-leads
@@ -176,10 +179,12 @@ pub returns-in_ok-unified-in-Equal-clause-ends : goal.returns-in_ok-unified-in-E
 returns-in_ok-unified-in-Equal-clause-ends g c = subst IsGoalTurn (sym c.turn_of.ensures) (unified_ends c.in_ok-unified-in-Equal.unified)
 
 pub returns-in_ok-turn-in-Is-clause-ends : goal.returns-in_ok-turn-in-Is-clause-ends
-returns-in_ok-turn-in-Is-clause-ends g c = let e = c.in_ok-turn-in-Is.ensures.assigns in assigned_ends e.outcome e.between c.assign.new.machine c.in-Is.left c.args.place.level c.in_ok-turn-in-Is.turn e.by
+returns-in_ok-turn-in-Is-clause-ends g c = let e = c.in_ok-turn-in-Is.ensures.assigns in assigned_ends e.outcome e.between c.assign.new.machine
+    c.in-Is.left c.args.place.level c.in_ok-turn-in-Is.turn e.by
 
 pub returns-in_ok-turn-in-Order-clause-ends : goal.returns-in_ok-turn-in-Order-clause-ends
-returns-in_ok-turn-in-Order-clause-ends g c = compared_ends (going_behind c.take_step.new.machine c.args.behind) c.compare.new.machine c.in-Order.order c.in-Order.left c.in-Order.right c.in_ok-turn-in-Order.turn c.in_ok-turn-in-Order.ensures.compares
+returns-in_ok-turn-in-Order-clause-ends g c = compared_ends (going_behind c.take_step.new.machine c.args.behind) c.compare.new.machine
+    c.in-Order.order c.in-Order.left c.in-Order.right c.in_ok-turn-in-Order.turn c.in_ok-turn-in-Order.ensures.compares
 
 pub returns-in_ok-turn-in-Call-clause-ends : goal.returns-in_ok-turn-in-Call-clause-ends
 returns-in_ok-turn-in-Call-clause-ends g c = c.in_ok-turn-in-Call.ensures.ends

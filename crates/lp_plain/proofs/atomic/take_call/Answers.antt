@@ -9,7 +9,8 @@ returns-in_default-clause-leads c =
     let m = c.args.machine.now in
     let n = c.looked_call.new.machine in
     let o = c.in_ok-looked.ensures in
-    deep_leads m n n.bank o.only.bank c.args.place c.args.goal c.args.head c.args.first c.args.behind (subst (IsLookedAs m n (plain_call c.args.place c.args.goal c.args.head c.args.behind) c.args.first) c.in_default.is o.looks)
+    deep_leads m n n.bank o.only.bank c.args.place c.args.goal c.args.head c.args.first c.args.behind
+    (subst (IsLookedAs m n (plain_call c.args.place c.args.goal c.args.head c.args.behind) c.args.first) c.in_default.is o.looks)
 
 pub returns-in_default-found-clause-leads : goal.returns-in_default-found-clause-leads
 returns-in_default-found-clause-leads c =
@@ -25,7 +26,8 @@ returns-clause-leads c =
     let n = c.looked_call.new.machine in
     let o = c.in_ok-looked.ensures in
     let lk = subst (IsLookedAs m n (plain_call c.args.place c.args.goal c.args.head c.args.behind) c.args.first) c.in-Some.is o.looks in
-    some_on m n o.only c.args.place c.args.goal c.args.head c.args.first c.args.behind c.in-Some.call lk c.in_ok-found.found c.in_ok-found.ensures.apart c.in-Some-found.candidate c.in-Some-found.is c.try_candidate.new.machine c.in_ok-turn.turn
+    some_on m n o.only c.args.place c.args.goal c.args.head c.args.first c.args.behind c.in-Some.call lk c.in_ok-found.found
+    c.in_ok-found.ensures.apart c.in-Some-found.candidate c.in-Some-found.is c.try_candidate.new.machine c.in_ok-turn.turn
     c.in_ok-turn.ensures.leads c.in_ok-turn.ensures.written
 
 pub returns-in_default-clause-program : goal.returns-in_default-clause-program
@@ -35,7 +37,8 @@ pub returns-in_default-found-clause-program : goal.returns-in_default-found-clau
 returns-in_default-found-clause-program c = only_keeps c.args.machine.now c.looked_call.new.machine c.in_ok-looked.ensures.only
 
 pub returns-clause-program : goal.returns-clause-program
-returns-clause-program c = program_then c.args.machine.now c.looked_call.new.machine c.try_candidate.new.machine (only_keeps c.args.machine.now c.looked_call.new.machine c.in_ok-looked.ensures.only) c.in_ok-turn.ensures.program
+returns-clause-program c = program_then c.args.machine.now c.looked_call.new.machine c.try_candidate.new.machine
+    (only_keeps c.args.machine.now c.looked_call.new.machine c.in_ok-looked.ensures.only) c.in_ok-turn.ensures.program
 
 pub returns-clause-ends : goal.returns-clause-ends
 returns-clause-ends c = c.in_ok-turn.ensures.ends

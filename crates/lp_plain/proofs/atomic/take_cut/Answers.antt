@@ -47,7 +47,17 @@ returns-clause-moved g c = λ qv.
     let branch = d.branch ∙ s.branch in
     let keeps : KeepsSearch m _ c.args.behind =
     record {
-      goals = record { known = record { bank = k.known.bank; bindings = k.known.bindings; scopes = k.known.scopes; table = k.known.table; standings = k.known.standings; index = k.known.index }; frames = k.frames };
+      goals = record {
+        known = record {
+          bank = k.known.bank;
+          bindings = k.known.bindings;
+          scopes = k.known.scopes;
+          table = k.known.table;
+          standings = k.known.standings;
+          index = k.known.index;
+        };
+        frames = k.frames;
+      };
       assumed = record { assumptions = d.assumed.assumptions ∙ s.assumed.assumptions; newest = d.assumed.newest ∙ s.assumed.newest };
       frames = d.frames ∙ s.frames;
       denied = d.denied ∙ s.denied;

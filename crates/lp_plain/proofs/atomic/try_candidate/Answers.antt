@@ -42,7 +42,9 @@ returns-clause-written c = λ qv a s h w.
     (candidate_written k qv.arity one at.tried at.tried_written) wk
 
 pub returns-clause-program : goal.returns-clause-program
-returns-clause-program c = program_then c.args.machine.now c.put_others.new.machine c.attempt.new.machine (goals_keep c.args.machine.now c.put_others.new.machine c.in_ok-put_others.ensures.goals) (at_keeps c.put_others.new.machine c.attempt.new.machine c.args.call.now.place c.in_ok-unified.ensures.grows.grows)
+returns-clause-program c = program_then c.args.machine.now c.put_others.new.machine c.attempt.new.machine
+    (goals_keep c.args.machine.now c.put_others.new.machine c.in_ok-put_others.ensures.goals)
+    (at_keeps c.put_others.new.machine c.attempt.new.machine c.args.call.now.place c.in_ok-unified.ensures.grows.grows)
 
 pub returns-clause-ends : goal.returns-clause-ends
 returns-clause-ends c = subst IsGoalTurn (sym c.turn_of.ensures) (unified_ends c.in_ok-unified.unified)

@@ -63,10 +63,12 @@ pub returns-then-not-take_step-clause-program : goal.returns-then-not-take_step-
 returns-then-not-take_step-clause-program g c = program_same c.args.machine.now c.take_step.new.machine (c.if-not-take_step.ensures.spent refl).0
 
 pub returns-in-Deep-clause-program : goal.returns-in-Deep-clause-program
-returns-in-Deep-clause-program g c = program_then c.args.machine.now c.take_step.new.machine c.openness_at.new.machine (goals_keep c.args.machine.now c.take_step.new.machine c.take_step.ensures.goals) c.in_ok-openness_at.ensures.program
+returns-in-Deep-clause-program g c = program_then c.args.machine.now c.take_step.new.machine c.openness_at.new.machine
+    (goals_keep c.args.machine.now c.take_step.new.machine c.take_step.ensures.goals) c.in_ok-openness_at.ensures.program
 
 pub returns-in-Open-clause-program : goal.returns-in-Open-clause-program
-returns-in-Open-clause-program g c = program_then c.args.machine.now c.take_step.new.machine c.openness_at.new.machine (goals_keep c.args.machine.now c.take_step.new.machine c.take_step.ensures.goals) c.in_ok-openness_at.ensures.program
+returns-in-Open-clause-program g c = program_then c.args.machine.now c.take_step.new.machine c.openness_at.new.machine
+    (goals_keep c.args.machine.now c.take_step.new.machine c.take_step.ensures.goals) c.in_ok-openness_at.ensures.program
 
 pub returns-in_ok-begin-in-Closed-clause-program : goal.returns-in_ok-begin-in-Closed-clause-program
 returns-in_ok-begin-in-Closed-clause-program g c =

@@ -262,16 +262,20 @@ pub returns-then-not-take_apart-clause-program : goal.returns-then-not-take_apar
 returns-then-not-take_apart-clause-program c = program_same c.args.machine.now c.take_apart.new.machine (c.if-not-take_apart.ensures.spent refl).0
 
 pub returns-in_ok-put_either-in-Either-clause-program : goal.returns-in_ok-put_either-in-Either-clause-program
-returns-in_ok-put_either-in-Either-clause-program c = apart_at c.args.machine.now c.take_apart.new.machine c.put_either.new.machine c.args.place (c.if-not-take_apart.ensures.apart refl) c.in_ok-put_either-in-Either.ensures.grown
+returns-in_ok-put_either-in-Either-clause-program c = apart_at c.args.machine.now c.take_apart.new.machine c.put_either.new.machine c.args.place
+    (c.if-not-take_apart.ensures.apart refl) c.in_ok-put_either-in-Either.ensures.grown
 
 pub returns-in_ok-put_some-in-Some-clause-program : goal.returns-in_ok-put_some-in-Some-clause-program
-returns-in_ok-put_some-in-Some-clause-program c = apart_at c.args.machine.now c.take_apart.new.machine c.put_some.new.machine c.args.place (c.if-not-take_apart.ensures.apart refl) c.in_ok-put_some-in-Some.ensures.grown
+returns-in_ok-put_some-in-Some-clause-program c = apart_at c.args.machine.now c.take_apart.new.machine c.put_some.new.machine c.args.place
+    (c.if-not-take_apart.ensures.apart refl) c.in_ok-put_some-in-Some.ensures.grown
 
 pub returns-in_ok-put_all-in-All-clause-program : goal.returns-in_ok-put_all-in-All-clause-program
-returns-in_ok-put_all-in-All-clause-program c = apart_at c.args.machine.now c.take_apart.new.machine c.put_all.new.machine c.args.place (c.if-not-take_apart.ensures.apart refl) c.in_ok-put_all-in-All.ensures.grown
+returns-in_ok-put_all-in-All-clause-program c = apart_at c.args.machine.now c.take_apart.new.machine c.put_all.new.machine c.args.place
+    (c.if-not-take_apart.ensures.apart refl) c.in_ok-put_all-in-All.ensures.grown
 
 pub returns-in_ok-put_assume-in-Assume-clause-program : goal.returns-in_ok-put_assume-in-Assume-clause-program
-returns-in_ok-put_assume-in-Assume-clause-program c = apart_on c.args.machine.now c.take_apart.new.machine c.put_assume.new.machine (c.if-not-take_apart.ensures.apart refl) c.in_ok-put_assume-in-Assume.ensures.grown
+returns-in_ok-put_assume-in-Assume-clause-program c = apart_on c.args.machine.now c.take_apart.new.machine c.put_assume.new.machine
+    (c.if-not-take_apart.ensures.apart refl) c.in_ok-put_assume-in-Assume.ensures.grown
 
 pub returns-in-Atom-clause-program : goal.returns-in-Atom-clause-program
 returns-in-Atom-clause-program c = apart_keeps c.args.machine.now c.take_apart.new.machine (c.if-not-take_apart.ensures.apart refl)

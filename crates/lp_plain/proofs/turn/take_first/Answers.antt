@@ -54,7 +54,8 @@ returns-clause-aside g c = λ e hs l h f d q from r least most k i j.
 
 pub returns-then-second-goals-clause-moved : goal.returns-then-second-goals-clause-moved
 returns-then-second-goals-clause-moved g c = λ qv a raw s h at pf.
-    c.in_ok-turn.ensures.moved qv a raw s h (at_last c.args.machine.now a c.args.place c.args.goals c.args.behind raw c.in_ok-goal.goal c.in_ok-goal.ensures (omega (arith, c.if-second-goals.true, c.in-Some.ensures.1)) at) pf
+    c.in_ok-turn.ensures.moved qv a raw s h (at_last c.args.machine.now a c.args.place c.args.goals c.args.behind raw c.in_ok-goal.goal
+    c.in_ok-goal.ensures (omega (arith, c.if-second-goals.true, c.in-Some.ensures.1)) at) pf
 
 pub returns-clause-moved : goal.returns-clause-moved
 returns-clause-moved g c = λ qv a raw s h at pf.
@@ -63,7 +64,8 @@ returns-clause-moved g c = λ qv a raw s h at pf.
     let p = c.args.place in
     let f = c.in_ok-rest.ensures in
     c.in_ok-turn-2.ensures.moved qv a raw s (running_framed qv m q a p raw s f.goals f.course f.assumed f.frame (f.stands c.if-second-goals.false h.above.done.stands) at.place h)
-    (at_more m q a p c.args.goals (record { from = c.in-Some.second; to = c.args.goals.to }) c.args.behind c.in_ok-rest.rest raw c.in_ok-goal.goal c.in_ok-goal.ensures (c.in-Some.ensures.1 ∙ add-one c.args.goals.from) refl
+    (at_more m q a p c.args.goals (record { from = c.in-Some.second; to = c.args.goals.to }) c.args.behind c.in_ok-rest.rest raw c.in_ok-goal.goal
+    c.in_ok-goal.ensures (c.in-Some.ensures.1 ∙ add-one c.args.goals.from) refl
     f.goals f.assumed f.reads at) pf
 
 pub returns-then-second-goals-clause-written : goal.returns-then-second-goals-clause-written
@@ -85,7 +87,8 @@ returns-clause-written g c = λ e f got h l.
 pub returns-then-second-goals-clause-leads : goal.returns-then-second-goals-clause-leads
 returns-then-second-goals-clause-leads g c = λ qv a raw s h at af w.
     let m = c.args.machine.now in
-    c.in_ok-turn.ensures.leads qv a raw s h (at_last m a c.args.place c.args.goals c.args.behind raw c.in_ok-goal.goal c.in_ok-goal.ensures (omega (arith, c.if-second-goals.true, c.in-Some.ensures.1)) at) af
+    c.in_ok-turn.ensures.leads qv a raw s h (at_last m a c.args.place c.args.goals c.args.behind raw c.in_ok-goal.goal c.in_ok-goal.ensures
+    (omega (arith, c.if-second-goals.true, c.in-Some.ensures.1)) at) af
     (first_written m qv.arity c.args.place c.args.goals c.in_ok-goal.goal c.in_ok-goal.ensures at.some w)
 
 pub returns-clause-leads : goal.returns-clause-leads
@@ -109,7 +112,8 @@ returns-clause-leads g c = λ qv a raw s h at af w css pr sw.
 pub returns-then-second-goals-clause-stays : goal.returns-then-second-goals-clause-stays
 returns-then-second-goals-clause-stays g c = λ a raw at pf ar st w sw.
     let m = c.args.machine.now in
-    c.in_ok-turn.ensures.stays a raw (at_last m a c.args.place c.args.goals c.args.behind raw c.in_ok-goal.goal c.in_ok-goal.ensures (omega (arith, c.if-second-goals.true, c.in-Some.ensures.1)) at) pf ar st
+    c.in_ok-turn.ensures.stays a raw (at_last m a c.args.place c.args.goals c.args.behind raw c.in_ok-goal.goal c.in_ok-goal.ensures
+    (omega (arith, c.if-second-goals.true, c.in-Some.ensures.1)) at) pf ar st
     (first_written m ar c.args.place c.args.goals c.in_ok-goal.goal c.in_ok-goal.ensures at.some w) sw
 
 pub returns-clause-stays : goal.returns-clause-stays
@@ -123,7 +127,8 @@ returns-clause-stays g c = λ a raw at pf ar i w sw.
     let later = c.in-Some.ensures.1 ∙ add-one c.args.goals.from in
     let next : c.in-Some.second ≡ c.args.goals.from + 1 = (let z = c.in-Some.ensures.1 in omega (arith, z)) in
     let w' = rest_written m ar p c.args.goals c.in-Some.second next at.some w in
-    c.in_ok-turn-2.ensures.stays a raw (at_more m q a p c.args.goals others c.args.behind c.in_ok-rest.rest raw c.in_ok-goal.goal c.in_ok-goal.ensures later refl f.goals f.assumed f.reads at) pf ar (f.stands c.if-second-goals.false i)
+    c.in_ok-turn-2.ensures.stays a raw (at_more m q a p c.args.goals others c.args.behind c.in_ok-rest.rest raw c.in_ok-goal.goal c.in_ok-goal.ensures
+    later refl f.goals f.assumed f.reads at) pf ar (f.stands c.if-second-goals.false i)
     (flat_framed m q f.goals ar p c.in_ok-goal.goal (first_written m ar p c.args.goals c.in_ok-goal.goal c.in_ok-goal.ensures at.some w))
     (search_frame m q frame i f.goals f.assumed f.course.choices f.pushed c.if-second-goals.false ar w' sw)
 

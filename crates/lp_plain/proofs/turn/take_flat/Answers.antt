@@ -56,10 +56,12 @@ pub returns-in_ok-turn-in-Not-clause-aside : goal.returns-in_ok-turn-in-Not-clau
 returns-in_ok-turn-in-Not-clause-aside g c = λ e h. absurd (subst IsApartFlat c.in-Not.is h)
 
 pub returns-in_ok-turn-in-Atom-clause-moved : goal.returns-in_ok-turn-in-Atom-clause-moved
-returns-in_ok-turn-in-Atom-clause-moved g c = λ qv a raw s h at pf. absurd (atom_first c.args.machine.now a c.args.place c.in-Atom.term c.args.behind raw (subst (λ f. IsAtGoal c.args.machine.now a c.args.place f c.args.behind raw) c.in-Atom.is at) pf)
+returns-in_ok-turn-in-Atom-clause-moved g c = λ qv a raw s h at pf. absurd (atom_first c.args.machine.now a c.args.place c.in-Atom.term c.args.behind
+    raw (subst (λ f. IsAtGoal c.args.machine.now a c.args.place f c.args.behind raw) c.in-Atom.is at) pf)
 
 pub returns-in_ok-turn-in-Cut-clause-moved : goal.returns-in_ok-turn-in-Cut-clause-moved
-returns-in_ok-turn-in-Cut-clause-moved g c = λ qv a raw s h at pf. c.in_ok-turn-in-Cut.ensures.moved qv a raw s h (subst (λ f. IsAtGoal c.args.machine.now a c.args.place f c.args.behind raw) c.in-Cut.is at)
+returns-in_ok-turn-in-Cut-clause-moved g c = λ qv a raw s h at pf. c.in_ok-turn-in-Cut.ensures.moved qv a raw s h
+    (subst (λ f. IsAtGoal c.args.machine.now a c.args.place f c.args.behind raw) c.in-Cut.is at)
 
 pub returns-in_ok-turn-in-Not-clause-moved : goal.returns-in_ok-turn-in-Not-clause-moved
 returns-in_ok-turn-in-Not-clause-moved g c = λ qv a raw s h at pf.
@@ -111,7 +113,8 @@ returns-in_ok-turn-in_default-clause-leads g c = λ qv a raw s h at af w.
     absurd (no_atom_first c.args.machine.now a c.args.place c.args.goal c.args.behind raw at c.in_default.not-Atom af)
 
 pub returns-in_ok-turn-in-Atom-clause-stays : goal.returns-in_ok-turn-in-Atom-clause-stays
-returns-in_ok-turn-in-Atom-clause-stays g c = λ a raw at pf ar st w sw. absurd (atom_first c.args.machine.now a c.args.place c.in-Atom.term c.args.behind raw (subst (λ f. IsAtGoal c.args.machine.now a c.args.place f c.args.behind raw) c.in-Atom.is at) pf)
+returns-in_ok-turn-in-Atom-clause-stays g c = λ a raw at pf ar st w sw. absurd (atom_first c.args.machine.now a c.args.place c.in-Atom.term
+    c.args.behind raw (subst (λ f. IsAtGoal c.args.machine.now a c.args.place f c.args.behind raw) c.in-Atom.is at) pf)
 
 pub returns-in_ok-turn-in-Cut-clause-stays : goal.returns-in_ok-turn-in-Cut-clause-stays
 returns-in_ok-turn-in-Cut-clause-stays g c = λ a raw at pf ar st w sw. written_behind c.in_ok-turn-in-Cut.turn c.take_cut.new.machine ar (c.in_ok-turn-in-Cut.ensures.written ar st sw)

@@ -104,7 +104,8 @@ returns-in_ok-turn-in-Goals-clause-moved g c = λ qv s h pf.
     c.in_ok-turn-in-Goals.ensures.moved qv h.around h.raw s h.running (at_frame qv m s h c.in-Some.number c.in_ok-frame.frame c.in-Some.is c.in_ok-frame.ensures c.in-Goals.goals c.in-Goals.is) pf
 
 pub returns-in_ok-turn-in-Term-clause-moved : goal.returns-in_ok-turn-in-Term-clause-moved
-returns-in_ok-turn-in-Term-clause-moved g c = λ qv s h pf. absurd (term_plain qv c.args.machine.now s h c.in-Some.number c.in_ok-frame.frame c.in-Some.is c.in_ok-frame.ensures c.in-Term.term c.in-Term.is pf)
+returns-in_ok-turn-in-Term-clause-moved g c = λ qv s h pf. absurd (term_plain qv c.args.machine.now s h c.in-Some.number c.in_ok-frame.frame
+    c.in-Some.is c.in_ok-frame.ensures c.in-Term.term c.in-Term.is pf)
 
 pub returns-in_default-clause-answered : goal.returns-in_default-clause-answered
 returns-in_default-clause-answered g c = λ qv s h e d.
@@ -141,7 +142,8 @@ returns-in_ok-turn-in-Goals-clause-leads g c = λ qv s h af w.
 
 pub returns-in_ok-turn-in-Term-clause-leads : goal.returns-in_ok-turn-in-Term-clause-leads
 returns-in_ok-turn-in-Term-clause-leads g c = λ qv s h af w.
-    c.in_ok-turn-in-Term.ensures.leads qv h.around h.raw s h.running (term_at qv c.args.machine.now s h c.in-Some.number c.in_ok-frame.frame c.in-Some.is c.in_ok-frame.ensures c.in-Term.term c.in-Term.is)
+    c.in_ok-turn-in-Term.ensures.leads qv h.around h.raw s h.running (term_at qv c.args.machine.now s h c.in-Some.number c.in_ok-frame.frame
+    c.in-Some.is c.in_ok-frame.ensures c.in-Term.term c.in-Term.is)
 
 pub returns-in_default-clause-stands : goal.returns-in_default-clause-stands
 returns-in_default-clause-stands g c = λ k h.

@@ -16,7 +16,8 @@ pub returns-in_default-clause-leads : goal.returns-in_default-clause-leads
 returns-in_default-clause-leads g c = λ qv a raw s h at css pr sw.
     let m = c.args.machine.now in
     let n = c.head_normal.new.machine in
-    over_one qv (Turn.Ended Deep) n s (deep_look qv m n a raw s h c.args.place c.args.term c.args.behind at (subst (LooksAt m n c.args.term) c.in_default.is c.in_ok-goal.ensures.looks)) tt (all_clauses css)
+    over_one qv (Turn.Ended Deep) n s (deep_look qv m n a raw s h c.args.place c.args.term c.args.behind at
+    (subst (LooksAt m n c.args.term) c.in_default.is c.in_ok-goal.ensures.looks)) tt (all_clauses css)
 
 pub returns-then-is_apart-clause-leads : goal.returns-then-is_apart-clause-leads
 returns-then-is_apart-clause-leads g c = λ qv a raw s h at css pr sw.
@@ -27,7 +28,8 @@ returns-then-is_apart-clause-leads g c = λ qv a raw s h at css pr sw.
     let k = c.connective_of-connective.ensures in
     let af = c.is_apart.ensures.apart c.if-is_apart.true in
     let st = h.above.done.stands in
-    connective_turn qv m n only a raw s h c.args.place c.args.term c.in-Some.goal c.args.behind at (subst (LooksAt m n c.args.term) c.in-Some.is c.in_ok-goal.ensures.looks) c.put_connective.new.machine
+    connective_turn qv m n only a raw s h c.args.place c.args.term c.in-Some.goal c.args.behind at
+    (subst (LooksAt m n c.args.term) c.in-Some.is c.in_ok-goal.ensures.looks) c.put_connective.new.machine
     c.connective_of-connective.result k.tree k.within af c.in_ok-turn.turn e.counted (λ q. e.taken q af) (λ q. e.none q af) (λ q. e.aside_with q af)
     (λ q i. e.written q af qv.arity (bound_stands m n (only_bound m n only) st) i (only_written m n only st qv.arity sw)) (all_clauses css)
 
