@@ -13,7 +13,7 @@ use Rattle.lp_plain.proofs.Opening.{same_stands}
 use Rattle.lp_plain.proofs.TakenApart.{known_taken, no_other, stands_known}
 use Rattle.lp_plain.proofs.WrittenParts.{behind_writes, connective_writes}
 use Rattle.lp_plain.proofs.NoneBound.{none_apart, none_with, with_apart}
-use Rattle.lp_plain.proofs.ProgramKept.{apart_at, apart_goals, apart_keeps, program_same}
+use Rattle.lp_plain.proofs.ProgramKept.{apart_at, apart_goals, program_same}
 use Rattle.lp_plain.proofs.parts.put_connective.Goals as goal
 
 pub returns-in_ok-put_and-in-And-clause-and : goal.returns-in_ok-put_and-in-And-clause-and
@@ -202,6 +202,3 @@ returns-in_ok-put_exists-in-Exists-clause-program c = apart_at c.args.machine.no
 
 pub returns-in-True-clause-program : goal.returns-in-True-clause-program
 returns-in-True-clause-program c = apart_goals c.args.machine.now c.take_apart.new.machine c.go_behind.new.machine (c.if-not-take_apart.ensures.apart refl) c.go_behind.ensures.known
-
-pub returns-in_default-clause-program : goal.returns-in_default-clause-program
-returns-in_default-clause-program c = ?

@@ -1,4 +1,4 @@
-use Rattle.lp_plain.proofs.AtGoals.{at_last, at_more, running_framed}
+use Rattle.lp_plain.proofs.AtGoals.{at_last, at_more, framed_work, running_framed}
 use Rattle.std.proofs.Common.{◌≡◌, ◌∙◌, ◌+◌, [], ◌∷◌, ◌++◌, add-one, ap, arith, refl, subst, sym}
 use Rattle.lp_plain.specs.Apart.{IsApart}
 use Rattle.lp_plain.proofs.Counted.{counted_first}
