@@ -119,7 +119,8 @@ module _ (d : Declared) (p : Program) (q : Typed) (P : List Clause) (gs : Goals)
       IsState (record { types = q.type_vars; vars = k; arity = ar; outer = [] }) s.machine (start q.type_vars k gs steps answers) → HasClauses P ar
       s.machine → IsBetween P n s (start q.type_vars k gs steps answers)
   begun_between s steps answers n e g a v st cl =
-      goes_on (record { types = q.type_vars; vars = k; arity = ar; outer = [] }) e (record { alone = refl; are = v }) (record { given = sym g; left = omega (arith, a, g) }) (begins g st) cl (typed n steps answers)
+      goes_on (record { types = q.type_vars; vars = k; arity = ar; outer = [] }) e (record { alone = refl; are = v })
+      (record { given = sym g; left = omega (arith, a, g) }) (begins g st) cl (typed n steps answers)
 
 -- while the bank grows
 pub program_there : (m : Machine) (spans : List Span) (css : List Clauses) → StandsIn m → All (λ k. k < length m.table.rules.items) (numbers spans) →

@@ -46,7 +46,8 @@ given_enough P n s u t e l eu (goes_on qv e' hv g go cl ty) x v d =
 given_enough P n s u t e l eu (is_over f ef h) x v d = absurd (cc)
 
 -- the search is over, and stays so
-pub is_over_still : (P : List Clause) (n : ℕ) (s : Search) (t : State Task) (e : Ending) → s.ended ≡ Some e → IsBetween P n s t → (x : Event Answer) (v : State Task) → Advances (look unit_limit n P) t x v → (x ≡ Over e) × IsBetween P n s v
+pub is_over_still : (P : List Clause) (n : ℕ) (s : Search) (t : State Task) (e : Ending) → s.ended ≡ Some e → IsBetween P n s t → (x : Event Answer)
+    (v : State Task) → Advances (look unit_limit n P) t x v → (x ≡ Over e) × IsBetween P n s v
 is_over_still P n s t e es (goes_on qv e' hv g go cl ty) x v d = absurd (cc)
 is_over_still P n s t e es (is_over f ef h) x v d =
     let same : f ≡ e = (let q : Some f ≡ Some e = sym ef ∙ es in cc) in
@@ -164,7 +165,8 @@ module _ (k : Course) (s u : Search) (m : Machine) (b : Nodes) (it : IsToTell s 
       let al = st.7 in
       goes_on st.0 (ue ∙ it.goes_on) (record { alone = st.3; are = ap (λ v. length v.items) uv ∙ same_count }) (record { given = ag ∙ ap suc g ∙ sym ug; left = omega (arith, al, ug, ua, l) })
       (answered (omega (arith, ug)) (answered_back st.0 m u.machine b x um k.after st.6))
-      (subst (λ ar. HasClauses k.program ar u.machine) (sym st.2.0) (clauses_later k.program k.query.arity m u.machine b x um st.6.above.done.stands st.10)) (subst (λ ar. IsTypedOver ar k.enough k.program k.after) (sym st.2.0) st.9.1)
+      (subst (λ ar. HasClauses k.program ar u.machine) (sym st.2.0) (clauses_later k.program k.query.arity m u.machine b x um st.6.above.done.stands
+      st.10)) (subst (λ ar. IsTypedOver ar k.enough k.program k.after) (sym st.2.0) st.9.1)
 
 pub answer_told : (k : Course) (m : Machine) (st : Stands k Turn.Answered m) (a : CodeAnswer) → IsAnswerOf st.1 a → IsEventOf k.event (told.Answer a)
 answer_told k m st a h = subst (λ z. IsEventOf z (told.Answer a)) (sym st.4) h
@@ -174,13 +176,16 @@ pub over_told : (x : Event Answer) (event : Told) (e : Ending) → x ≡ Over e 
 over_told x event e p q = subst (λ z. IsEventOf z event) (sym p) (subst (IsEventOf (Over e)) (sym q) refl)
 
 -- the next event, where the search has not begun, or is to go back from an answer
-module _ (P : List Clause) (n : ℕ) (s u : Search) (t : State Task) (x : Event Answer) (v : State Task) (d : Advances (look unit_limit n P) t x v) (event : Told) (none : s.ended ≡ None) (more : s.given < s.answers) (en : AreEnough P n t event) where
-  pub first_told : s.given ≡ 0 → ((k : Course) → IsToTell s k → Stands k Turn.On s.machine → AreEnough k.program k.enough k.begin event → IsEventOf k.event event × IsBetween k.program k.enough u k.after) → IsBetween P n s t → IsEventOf x event × IsBetween P n u v
+module _ (P : List Clause) (n : ℕ) (s u : Search) (t : State Task) (x : Event Answer) (v : State Task) (d : Advances (look unit_limit n P) t x v)
+    (event : Told) (none : s.ended ≡ None) (more : s.given < s.answers) (en : AreEnough P n t event) where
+  pub first_told : s.given ≡ 0 → ((k : Course) → IsToTell s k → Stands k Turn.On s.machine → AreEnough k.program k.enough k.begin event → IsEventOf
+      k.event event × IsBetween k.program k.enough u k.after) → IsBetween P n s t → IsEventOf x event × IsBetween P n u v
   first_told z f (goes_on qv e hv g (begins y st) cl ty) = f (course P n s t x v d qv) (to_tell P n s t x v d qv hv g ty cl more none) (first_stands P n s t x v d qv hv g ty cl more st) en
   first_told z f (goes_on qv e hv g (answered y bk) cl ty) = absurd (omega (arith, z, y))
   first_told z f (is_over e q o) = absurd (cc)
 
-  pub later_told : 0 < s.given → ((k : Course) → IsToTell s k → Stands k Turn.Back s.machine → AreEnough k.program k.enough k.begin event → IsEventOf k.event event × IsBetween k.program k.enough u k.after) → IsBetween P n s t → IsEventOf x event × IsBetween P n u v
+  pub later_told : 0 < s.given → ((k : Course) → IsToTell s k → Stands k Turn.Back s.machine → AreEnough k.program k.enough k.begin event → IsEventOf
+      k.event event × IsBetween k.program k.enough u k.after) → IsBetween P n s t → IsEventOf x event × IsBetween P n u v
   later_told z f (goes_on qv e hv g (answered y bk) cl ty) = f (course P n s t x v d qv) (to_tell P n s t x v d qv hv g ty cl more none) (later_stands P n s t x v d qv hv g ty cl more bk) en
   later_told z f (goes_on qv e hv g (begins y st) cl ty) = absurd (omega (arith, z, y))
   later_told z f (is_over e q o) = absurd (cc)

@@ -36,7 +36,8 @@ none_found : (n m : ℕ) (t : Term) → n ≤ m → IsSome (steps leftmost_step 
 none_found zero m t l h = refl
 none_found (suc n) zero t l h = absurd (omega (arith, l))
 none_found (suc n) (suc m) t l h =
-    elim (leftmost_step t) as (λ o. IsSome (elim o as (λ x. Option Term) [ None ↦ None | Some u ↦ steps leftmost_step m u ]) → (elim o as (λ x. Option Term) [ None ↦ Some t | Some u ↦ beta_normal n u ]) ≡ None) [
+    elim (leftmost_step t) as (λ o. IsSome (elim o as (λ x. Option Term) [ None ↦ None | Some u ↦ steps leftmost_step m u ]) →
+    (elim o as (λ x. Option Term) [ None ↦ Some t | Some u ↦ beta_normal n u ]) ≡ None) [
       | None ↦ λ q. absurd (cc)
       | Some u ↦ λ q. none_found n m u (omega (arith, l)) q
     ] h

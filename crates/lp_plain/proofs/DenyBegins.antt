@@ -70,8 +70,11 @@ no_pairs k z left e = subst (λ l. ArePairsFor k z l []) (sym e) tt
 no_pair_of : (k : ℕ) (left : List Numbers) → left ≡ [] → All (IsPairOf k) left
 no_pair_of k left e = subst (All (IsPairOf k)) (sym e) (All-nil (IsPairOf k))
 
-module _ (qv : Query) (m n : Machine) (a : Around) (raw : Branch) (s : State Task) (h : IsRunning qv m a raw s) (p : Place) (list : ℕ) (behind : Option ℕ) (bg : IsBegun m n p list behind) (pl : IsPlaceAt (lists_of m) a p) (es : List Entry) (reads : Reads m a behind es) (hs : Goals) (σ : ℕ → Term) (is : IsOf m p list hs σ) (w : Written)
-    (goals : raw.goals ≡ entry_at a p (Not w (in_scope σ p.values.types hs)) ∷ es) (sp : IsSplit h.closing (mark_in (base_of m.denied) h.above.raws) (base_of m.denied) (length m.choices.items) (entry_at a p (Not w (in_scope σ p.values.types hs))) es h.at_work.goals) where
+module _ (qv : Query) (m n : Machine) (a : Around) (raw : Branch) (s : State Task) (h : IsRunning qv m a raw s) (p : Place) (list : ℕ)
+    (behind : Option ℕ) (bg : IsBegun m n p list behind) (pl : IsPlaceAt (lists_of m) a p) (es : List Entry) (reads : Reads m a behind es)
+    (hs : Goals) (σ : ℕ → Term) (is : IsOf m p list hs σ) (w : Written)
+    (goals : raw.goals ≡ entry_at a p (Not w (in_scope σ p.values.types hs)) ∷ es) (sp : IsSplit h.closing (mark_in (base_of m.denied) h.above.raws)
+    (base_of m.denied) (length m.choices.items) (entry_at a p (Not w (in_scope σ p.values.types hs))) es h.at_work.goals) where
   abbrev q : Place
   q = record p { mark = bg.mark }
 
@@ -96,7 +99,14 @@ module _ (qv : Query) (m n : Machine) (a : Around) (raw : Branch) (s : State Tas
 
   keeps : KeepsGoals m beside
   keeps = record {
-    known = record { bank = bg.goals.known.bank; bindings = bg.goals.known.bindings; scopes = bg.goals.known.scopes; table = bg.goals.known.table; standings = bg.goals.known.standings; index = bg.goals.known.index };
+    known = record {
+      bank = bg.goals.known.bank;
+      bindings = bg.goals.known.bindings;
+      scopes = bg.goals.known.scopes;
+      table = bg.goals.known.table;
+      standings = bg.goals.known.standings;
+      index = bg.goals.known.index;
+    };
     frames = bg.goals.frames;
   }
 
@@ -159,7 +169,14 @@ module _ (qv : Query) (m n : Machine) (a : Around) (raw : Branch) (s : State Tas
   kept_led = record { frames = kept.frames; blocks = kept.blocks; values = kept.values; assumptions = kept.assumptions; newest = kept.newest; standings = kept.standings; placed = kept.placed }
 
   above : IsAbove m c
-  above = record { frames = same bg.more.frames; blocks = same bg.more.blocks; values = same bg.more.values; assumptions = same bg.more.assumptions; newest = same bg.more.newest; standings = same bg.more.standings }
+  above = record {
+    frames = same bg.more.frames;
+    blocks = same bg.more.blocks;
+    values = same bg.more.values;
+    assumptions = same bg.more.assumptions;
+    newest = same bg.more.newest;
+    standings = same bg.more.standings;
+  }
     where
       same : {i j : ℕ} → j ≡ i → i ≤ j
       same {i} {j} e = omega (arith, e)
@@ -195,8 +212,10 @@ module _ (qv : Query) (m n : Machine) (a : Around) (raw : Branch) (s : State Tas
   those : (t : Bindings) → AreThoseOf beside led t → IsOpenReading n.bank t led.next h.closing
   those t k =
       let b = bg.goals.known.bindings in
-      let et : t.terms.entries ≡ m.bindings.terms.entries = k.terms ∙ (λ i. take (bg.more.bound_terms i) (b i).terms.entries) ∙ take_all (length m.bindings.terms.entries) m.bindings.terms.entries (omega arith) in
-      let ey : t.types.entries ≡ m.bindings.types.entries = k.types ∙ (λ i. take (bg.more.bound_types i) (b i).types.entries) ∙ take_all (length m.bindings.types.entries) m.bindings.types.entries (omega arith) in
+      let et : t.terms.entries ≡ m.bindings.terms.entries = k.terms ∙ (λ i. take (bg.more.bound_terms i) (b i).terms.entries) ∙ take_all
+      (length m.bindings.terms.entries) m.bindings.terms.entries (omega arith) in
+      let ey : t.types.entries ≡ m.bindings.types.entries = k.types ∙ (λ i. take (bg.more.bound_types i) (b i).types.entries) ∙ take_all
+      (length m.bindings.types.entries) m.bindings.types.entries (omega arith) in
       subst (λ i. IsOpenReading n.bank t i h.closing) (sym bg.more.next)
       (reading_like n.bank m.bindings t m.branch.next h.closing et ey (open_kept m.bank n.bank m.bindings m.branch.next h.closing bank h.reading))
 
@@ -221,7 +240,8 @@ module _ (qv : Query) (m n : Machine) (a : Around) (raw : Branch) (s : State Tas
 
   stand_led : StandForAll beside a (aged ++ led ∷ []) 0 more
   stand_led =
-      stand_push beside a aged led 0 h.above.raws (Go after ∷ []) (all_stand_on m beside a a h.above.done.stands grown around aged 0 h.above.raws h.above.done.alternatives) (λ i. a_side after kept_led side refl)
+      stand_push beside a aged led 0 h.above.raws (Go after ∷ []) (all_stand_on m beside a a h.above.done.stands grown around aged 0 h.above.raws
+      h.above.done.alternatives) (λ i. a_side after kept_led side refl)
 
   led_are : AreAlternatives qv beside (mark_in base more) base base (aged ++ led ∷ []) more (h.above.others ++ (Go waits ∷ []) ∷ [])
   led_are =
@@ -263,7 +283,8 @@ module _ (qv : Query) (m n : Machine) (a : Around) (raw : Branch) (s : State Tas
     others_wait : AreOuter qv.arity n a m.denied qv.outer
     others_wait =
         all_carried qv.arity beside n a a n.choices.items [] [] (sym (append-nil n.choices.items)) (sym (append-nil n.choices.items)) (λ cs. Unit {0})
-        (λ x g l k cs rss tss u st y. (all_else beside n a cs 0 rss st, alternatives_else beside n x g l k cs rss tss y)) (λ j dn y l k. tt) m.denied qv.outer (let l = h.above.done.base in let r = count in omega (arith, l, r)) inside_beside.outer
+        (λ x g l k cs rss tss u st y. (all_else beside n a cs 0 rss st, alternatives_else beside n x g l k cs rss tss y)) (λ j dn y l k. tt) m.denied
+        qv.outer (let l = h.above.done.base in let r = count in omega (arith, l, r)) inside_beside.outer
 
     within : IsInside inner n a
     within = record {
@@ -327,12 +348,20 @@ module _ (qv : Query) (m n : Machine) (a : Around) (raw : Branch) (s : State Tas
         let z = h.closing in
         let x = mark_high in
         let y = base_is in
-        let all = entries_front z g (base_of n.denied) (length n.choices.items) (a.mark bg.mark) p.level gs (a.assumed p.assumed) sp.first.assumed (a.written p.standing) sp.first.written [] [] (omega (arith, x, y)) (omega (arith, x)) sp.entry.place.assumed sp.entry.place.written tt in
-        subst (λ l. AreEntriesUnder z g (base_of n.denied) (length n.choices.items) asked.goals (entries l sp.first.assumed sp.first.written sp.first.level 0)) (sym (listed_goals (λ u. u) (λ u t. closed z t) (instance z.types) zero (in_scope σ p.values.types hs)))
-        (subst (λ i. AreEntriesUnder z g (base_of n.denied) (length n.choices.items) asked.goals (entries (map (goal_with (closed z) (instance z.types)) gs) sp.first.assumed sp.first.written i 0)) (sym sp.entry.place.level)
-        (subst (λ i. AreEntriesUnder z g (base_of n.denied) (length n.choices.items) asked.goals (entries (map (goal_with (closed z) (instance z.types)) gs) sp.first.assumed sp.first.written p.level i)) mark_none
-        (subst (AreEntriesUnder z g (base_of n.denied) (length n.choices.items) asked.goals) (append-nil (entries (map (goal_with (closed z) (instance z.types)) gs) sp.first.assumed sp.first.written p.level (g (a.mark bg.mark))))
-        (subst (λ l. AreEntriesUnder z g (base_of n.denied) (length n.choices.items) l (entries (map (goal_with (closed z) (instance z.types)) gs) sp.first.assumed sp.first.written p.level (g (a.mark bg.mark)) ++ [])) (append-nil asked.goals) all))))
+        let all = entries_front z g (base_of n.denied) (length n.choices.items) (a.mark bg.mark) p.level gs (a.assumed p.assumed) sp.first.assumed
+        (a.written p.standing) sp.first.written [] [] (omega (arith, x, y)) (omega (arith, x)) sp.entry.place.assumed sp.entry.place.written tt in
+        subst (λ l. AreEntriesUnder z g (base_of n.denied) (length n.choices.items) asked.goals
+        (entries l sp.first.assumed sp.first.written sp.first.level 0)) (sym (listed_goals (λ u. u) (λ u t. closed z t) (instance z.types) zero
+        (in_scope σ p.values.types hs)))
+        (subst (λ i. AreEntriesUnder z g (base_of n.denied) (length n.choices.items) asked.goals
+        (entries (map (goal_with (closed z) (instance z.types)) gs) sp.first.assumed sp.first.written i 0)) (sym sp.entry.place.level)
+        (subst (λ i. AreEntriesUnder z g (base_of n.denied) (length n.choices.items) asked.goals
+        (entries (map (goal_with (closed z) (instance z.types)) gs) sp.first.assumed sp.first.written p.level i)) mark_none
+        (subst (AreEntriesUnder z g (base_of n.denied) (length n.choices.items) asked.goals)
+        (append-nil (entries (map (goal_with (closed z) (instance z.types)) gs) sp.first.assumed sp.first.written p.level (g (a.mark bg.mark))))
+        (subst (λ l. AreEntriesUnder z g (base_of n.denied) (length n.choices.items) l
+        (entries (map (goal_with (closed z) (instance z.types)) gs) sp.first.assumed sp.first.written p.level (g (a.mark bg.mark)) ++ []))
+        (append-nil asked.goals) all))))
 
     abbrev P : ℕ → Term → Type 0
     P i t = Within (Known h.levels raw.next) i (closed h.closing t)
@@ -341,7 +370,8 @@ module _ (qv : Query) (m n : Machine) (a : Around) (raw : Branch) (s : State Tas
     known =
         let gs = in_scope σ p.values.types hs in
         let front = known_all.0 in
-        subst (AllOfEntries P) (append-nil asked.goals) (entries_all P (goal_list gs) (a.assumed p.assumed) (a.written p.standing) p.level (a.mark bg.mark) [] (goals_in_list P gs front.0.1) front.1 front.2 tt)
+        subst (AllOfEntries P) (append-nil asked.goals) (entries_all P (goal_list gs) (a.assumed p.assumed) (a.written p.standing) p.level
+        (a.mark bg.mark) [] (goals_in_list P gs front.0.1) front.1 front.2 tt)
 
     under : IsBranchUnder inner h.levels n.bank h.closing g (base_of n.denied) (length n.choices.items) n.branch.pairs.items asked begins
     under = record {

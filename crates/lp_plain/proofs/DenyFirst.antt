@@ -32,7 +32,8 @@ no_denied b t σ r flat (Forall T gs) h n d = d
 no_denied b t σ r flat (Assume w cs gs) h n d = d
 no_denied b t σ r flat (Not w gs) h n d = n h.0 h.1 h.2
 
-pub no_denied_first : (m : Machine) (a : Around) (p : Place) (flat : Flat) (o : Option ℕ) (raw : Branch) → IsAtGoal m a p flat o raw → ((l f : ℕ) → flat ≡ Flat.Not l f → ⊥) → IsDeniedFirst raw.goals → ⊥
+pub no_denied_first : (m : Machine) (a : Around) (p : Place) (flat : Flat) (o : Option ℕ) (raw : Branch) → IsAtGoal m a p flat o raw →
+    ((l f : ℕ) → flat ≡ Flat.Not l f → ⊥) → IsDeniedFirst raw.goals → ⊥
 no_denied_first m a p flat o raw at n d = no_denied m.bank (shown m.table) at.values p.values.types flat at.goal at.is n (subst IsDeniedFirst at.goals d)
 
 pub none_denied_first : (qv : Query) (m : Machine) (s : State Task) (h : IsState qv m s) → m.branch.goals ≡ None → IsDeniedFirst h.raw.goals → ⊥
@@ -42,7 +43,8 @@ none_denied_first qv m s h e d = go e h.goals d
     go e (no_frame q z) k = subst IsDeniedFirst z k
     go e (a_frame i g gs rest q x w r z) k = absurd (cc)
 
-pub term_denied : (qv : Query) (m : Machine) (s : State Task) (h : IsState qv m s) (number : ℕ) (f : Frame) → m.branch.goals ≡ Some number → slice_get m.frames.items number ≡ Some f → (u : TermId) → f.todo ≡ Todo.Term u → IsDeniedFirst h.raw.goals → ⊥
+pub term_denied : (qv : Query) (m : Machine) (s : State Task) (h : IsState qv m s) (number : ℕ) (f : Frame) → m.branch.goals ≡ Some number → slice_get
+    m.frames.items number ≡ Some f → (u : TermId) → f.todo ≡ Todo.Term u → IsDeniedFirst h.raw.goals → ⊥
 term_denied qv m s h number f front got u t d = go (subst (λ o. Reads m h.around o h.raw.goals) front h.goals) d
   where
     go : {es : List Entry} → Reads m h.around (Some number) es → IsDeniedFirst es → ⊥
@@ -55,9 +57,11 @@ term_denied qv m s h number f front got u t d = go (subst (λ o. Reads m h.aroun
         subst IsDeniedFirst (z ∙ ap (λ l. placed h.around g.place l ++ rest) todo.2) k
 
 -- the list of a negated goal is written where the goal is
-pub not_written : (m : Machine) (ar : ℕ → ℕ) (p : Place) (list free : ℕ) → IsWrittenFlat m ar p (Flat.Not list free) → IsWrittenIn m.bank (blocks_of m.scopes) p.values.scope (λ k bs. WrittenList m.bank (shown m.table) ar k bs list)
+pub not_written : (m : Machine) (ar : ℕ → ℕ) (p : Place) (list free : ℕ) → IsWrittenFlat m ar p (Flat.Not list free) → IsWrittenIn m.bank
+    (blocks_of m.scopes) p.values.scope (λ k bs. WrittenList m.bank (shown m.table) ar k bs list)
 not_written m ar p list free w =
-    in_by m.bank (blocks_of m.scopes) p.values.scope (λ k bs. WrittenFlat m.bank (shown m.table) ar k bs (Flat.Not list free)) (λ k bs. WrittenList m.bank (shown m.table) ar k bs list) (λ k bs h. go k bs h) w
+    in_by m.bank (blocks_of m.scopes) p.values.scope (λ k bs. WrittenFlat m.bank (shown m.table) ar k bs (Flat.Not list free))
+    (λ k bs. WrittenList m.bank (shown m.table) ar k bs list) (λ k bs h. go k bs h) w
   where
     go : (k : ℕ) (bs : List Bool) → WrittenFlat m.bank (shown m.table) ar k bs (Flat.Not list free) → WrittenList m.bank (shown m.table) ar k bs list
     go k bs (an_atom u e x) = absurd (cc)

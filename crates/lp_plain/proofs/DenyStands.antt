@@ -23,7 +23,8 @@ use Rattle.lp_plain.proofs.QuietMoves.{by_lost}
 use Rattle.lp_plain.proofs.Treated.{inner_turn}
 
 -- moves that lead there, behind which W holds
-with_it : (W : Type 0) → W → (j : ℕ) (qv : Query) (turn : Turn) (n : Machine) (go : (Answer → Bool) → State Task → Inner) (see : ℕ → Task → View Task Answer) (s : State Task) → Leads j qv turn n go see s → LeadsWith W j qv turn n go see s
+with_it : (W : Type 0) → W → (j : ℕ) (qv : Query) (turn : Turn) (n : Machine) (go : (Answer → Bool) → State Task → Inner)
+    (see : ℕ → Task → View Task Answer) (s : State Task) → Leads j qv turn n go see s → LeadsWith W j qv turn n go see s
 with_it W w zero qv turn n go see s (inl h) = inl (h, w)
 with_it W w zero qv turn n go see s (inr h) = inr h
 with_it W w (suc j) qv turn n go see s (inl h) = inl (h, w)
@@ -49,13 +50,22 @@ module _ (c : Course) (qv : Query) (n : Machine) (s : State Task) (of : IsOfQuer
     lacking j e = (
       0,
       [],
-      (λ i. move_at (inner (seen_in c) j) (seen_in c) s.steps (k.1 i) s.given s.rows s.row s.lost (d.stack i)) ∙ by_lost (inner (seen_in c) j) (seen_in c) s.steps k.0 s.given s.rows s.row s.lost d.task d.rest ∙
+      (λ i. move_at (inner (seen_in c) j) (seen_in c) s.steps (k.1 i) s.given s.rows s.row s.lost (d.stack i)) ∙ by_lost (inner (seen_in c) j)
+          (seen_in c) s.steps k.0 s.given s.rows s.row s.lost d.task d.rest ∙
           ap (move_view (inner (seen_in c) j) s.steps k.0 s.given s.rows s.row s.lost d.rest) e,
     )
 
     pub denying_stands : Stands c Turn.On n
     denying_stands = elim (d.seen c.enough c.program) [
-      | inl e ↦ (inner_query qv w, starts_within s.rows d.inside d.steps 1, (of.0, (refl, refl, of.1)), d.begun k.0, begins_inside c s d.steps k.0 d.task d.inside d.branch d.rest d.stack d.there k.1 d.rows e qv.types qv.vars qv.outer o, clauses)
+      | inl e ↦ (
+        inner_query qv w,
+        starts_within s.rows d.inside d.steps 1,
+        (of.0, (refl, refl, of.1)),
+        d.begun k.0,
+        begins_inside c s d.steps k.0
+            d.task d.inside d.branch d.rest d.stack d.there k.1 d.rows e qv.types qv.vars qv.outer o,
+        clauses,
+      )
       | inr e ↦ leads_stands c qv n of W serves 0 Turn.On s (inner_turn qv.outer Turn.On tt) (λ j. inr (lacking j e)) o
     ]
 
@@ -138,7 +148,8 @@ module _ (c : Course) (qv : Query) (n : Machine) (s : State Task) (of : IsOfQuer
     by_loss true e (Turn.Ended Flexible) f y = absurd y
     by_loss true e (Turn.Ended (Arithmetic x)) f y = absurd y
     by_loss true e (Turn.Ended Deep) f y = absurd y
-    by_loss true e (Turn.Ended OpenNot) f y = λ few. is_cut c h.waiting h.others s (λ j. h.stops 0 inside_refuted.0 (inner (seen_in c) j) c.enough c.program ∙ ap (λ b. Stops (last_ending b)) e) inside_refuted
+    by_loss true e (Turn.Ended OpenNot) f y = λ few. is_cut c h.waiting h.others s (λ j. h.stops 0 inside_refuted.0 (inner (seen_in c) j) c.enough
+        c.program ∙ ap (λ b. Stops (last_ending b)) e) inside_refuted
 
     pub refuted_stands : Stands c turn n
     refuted_stands = by_loss h.lost refl turn clauses h.comes

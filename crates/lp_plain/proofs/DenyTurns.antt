@@ -71,7 +71,8 @@ negated_is m list free (Not w gs) h =
       numbered = subst (λ i. IsNumbered m.table.frees.items i (λ f. collect_goals f 0 gs)) n h.5;
     }
 
-module _ (qv : Query) (m : Machine) (a : Around) (raw : Branch) (s : State Task) (h : IsRunning qv m a raw s) (p : Place) (list free : ℕ) (behind : Option ℕ) (at : IsAtGoal m a p (Flat.Not list free) behind raw) where
+module _ (qv : Query) (m : Machine) (a : Around) (raw : Branch) (s : State Task) (h : IsRunning qv m a raw s) (p : Place) (list free : ℕ)
+    (behind : Option ℕ) (at : IsAtGoal m a p (Flat.Not list free) behind raw) where
   pub ng : IsNegated m list free at.goal
   ng = negated_is m list free at.goal at.is
 
@@ -91,7 +92,8 @@ module _ (qv : Query) (m : Machine) (a : Around) (raw : Branch) (s : State Task)
   f = mark_in (base_of m.denied) h.above.raws
 
   pub sp : IsSplit h.closing f (base_of m.denied) (length m.choices.items) e at.rest h.at_work.goals
-  sp = split_under h.closing f (base_of m.denied) (length m.choices.items) e at.rest h.at_work.goals (subst (λ x. AreEntriesUnder h.closing f (base_of m.denied) (length m.choices.items) x h.at_work.goals) goals_are h.under.goals)
+  sp = split_under h.closing f (base_of m.denied) (length m.choices.items) e at.rest h.at_work.goals
+      (subst (λ x. AreEntriesUnder h.closing f (base_of m.denied) (length m.choices.items) x h.at_work.goals) goals_are h.under.goals)
 
   abbrev pub waits : Branch
   waits = with_goals h.at_work sp.rest
@@ -117,27 +119,32 @@ module _ (qv : Query) (m : Machine) (a : Around) (raw : Branch) (s : State Task)
   tested : (n : ℕ) (o : Openness) → AreFound m (record { free = free; values = p.values; older = p.standing }) o → IsTested n o asked
   tested n o k =
       subst (λ v. IsTested n o (both_written own v)) (sym sp.entry.place.written)
-      (standing_tested m h.above.done.stands h.closing h.reading.shut n (k h.closing h.reading.reading h.reading.shut) (λ f. collect_goals f 0 ng.goals) ng.numbered at.values at.at (a.written p.standing) at.place.written)
+      (standing_tested m h.above.done.stands h.closing h.reading.shut n (k h.closing h.reading.reading h.reading.shut)
+      (λ f. collect_goals f 0 ng.goals) ng.numbered at.values at.at (a.written p.standing) at.place.written)
 
   abbrev inside : Task
   inside = Go (record { next = waits.next; next_type = waits.next_type; goals = entries (goal_list goals) sp.first.assumed sp.first.written sp.first.level 0; types = []; values = []; pairs = [] })
 
   -- no variable is there
-  denies_at : (enough : ℕ) (P : List Clause) (o : Option Bool) → has_variables enough asked ≡ o → IsGiven enough false o → IsSeenAs (look unit_limit enough P (length h.rest) (Go h.at_work)) (Denies inside has_no_pairs (Go waits ∷ []))
+  denies_at : (enough : ℕ) (P : List Clause) (o : Option Bool) → has_variables enough asked ≡ o → IsGiven enough false o → IsSeenAs
+      (look unit_limit enough P (length h.rest) (Go h.at_work)) (Denies inside has_no_pairs (Go waits ∷ []))
   denies_at enough P None q k = inr (seen_is enough P None q)
   denies_at enough P (Some true) q k = absurd (cc)
   denies_at enough P (Some false) q k = inl (seen_is enough P (Some false) q)
 
-  waiting : (go : (Answer → Bool) → State Task → Inner) (enough : ℕ) (P : List Clause) (k : ℕ) → s.answers ≡ suc k → has_variables enough asked ≡ None → IsWaiting (move go (look unit_limit enough P) s)
+  waiting : (go : (Answer → Bool) → State Task → Inner) (enough : ℕ) (P : List Clause) (k : ℕ) → s.answers ≡ suc k → has_variables enough asked ≡ None
+      → IsWaiting (move go (look unit_limit enough P) s)
   waiting go enough P k ea q = (
     0,
     [],
-    (λ i. move_at go (look unit_limit enough P) s.steps (ea i) s.given s.rows s.row s.lost (h.stack i)) ∙ by_lost go (look unit_limit enough P) s.steps k s.given s.rows s.row s.lost (Go h.at_work) h.rest ∙
+    (λ i. move_at go (look unit_limit enough P) s.steps (ea i) s.given s.rows s.row s.lost (h.stack i)) ∙ by_lost go (look unit_limit enough P)
+        s.steps k s.given s.rows s.row s.lost (Go h.at_work) h.rest ∙
         ap (move_view go s.steps k s.given s.rows s.row s.lost h.rest) (seen_is enough P None q),
   )
 
   -- no step is left
-  steps_at : (n : Machine) → s.steps ≡ 0 → (go : (Answer → Bool) → State Task → Inner) (enough : ℕ) (P : List Clause) (k : ℕ) → s.answers ≡ suc k → (o : Option Bool) → has_variables enough asked ≡ o → Leads 1 qv (Turn.Ended Steps) n go (look unit_limit enough P) s
+  steps_at : (n : Machine) → s.steps ≡ 0 → (go : (Answer → Bool) → State Task → Inner) (enough : ℕ) (P : List Clause) (k : ℕ) → s.answers ≡ suc k →
+      (o : Option Bool) → has_variables enough asked ≡ o → Leads 1 qv (Turn.Ended Steps) n go (look unit_limit enough P) s
   steps_at n z go enough P k ea None q = inr (inl (waiting go enough P k ea q))
   steps_at n z go enough P k ea (Some true) q = inl
       ((λ i. move_at go (look unit_limit enough P) (z i) (ea i) s.given s.rows s.row s.lost (h.stack i)) ∙ by_lost go (look unit_limit enough P) 0 k s.given s.rows s.row s.lost (Go h.at_work) h.rest ∙
@@ -157,10 +164,12 @@ module _ (qv : Query) (m : Machine) (a : Around) (raw : Branch) (s : State Task)
     steps_are = let q = h.counted.steps in let l = there in omega (arith, q, l)
 
     -- a variable is there
-    open_at : (n : Machine) (go : (Answer → Bool) → State Task → Inner) (enough : ℕ) (P : List Clause) (k : ℕ) → s.answers ≡ suc k → (o : Option Bool) → has_variables enough asked ≡ o → IsGiven enough true o → Leads 1 qv (Turn.Ended OpenNot) n go (look unit_limit enough P) s
+    open_at : (n : Machine) (go : (Answer → Bool) → State Task → Inner) (enough : ℕ) (P : List Clause) (k : ℕ) → s.answers ≡ suc k → (o : Option Bool)
+        → has_variables enough asked ≡ o → IsGiven enough true o → Leads 1 qv (Turn.Ended OpenNot) n go (look unit_limit enough P) s
     open_at n go enough P k ea None q g = inr (inl (waiting go enough P k ea q))
     open_at n go enough P k ea (Some false) q g = absurd (cc)
-    open_at n go enough P k ea (Some true) q g = stops qv n h.rest s k left ea steps_are go enough P (named not_constant) (Go h.at_work) (Stop OpenNot ∷ []) h.stack (seen_is enough P (Some true) q) OpenNot refl
+    open_at n go enough P k ea (Some true) q g = stops qv n h.rest s k left ea steps_are go enough P (named not_constant) (Go h.at_work)
+        (Stop OpenNot ∷ []) h.stack (seen_is enough P (Some true) q) OpenNot refl
 
     pub ends_open : (n : Machine) → AreFound m (record { free = free; values = p.values; older = p.standing }) found.Open → EndsDenied qv (Turn.Ended OpenNot) n s h.at_work.goals
     ends_open n k i ea go enough few P = open_at n go enough P i ea (has_variables enough asked) refl (open_given enough asked (tested enough found.Open k))
@@ -243,5 +252,6 @@ module _ (qv : Query) (m : Machine) (a : Around) (raw : Branch) (s : State Task)
             there = steps_are;
             rows = h.counted.rows;
             seen = λ enough P. denies_at enough P (has_variables enough asked) refl (closed_given enough asked (tested enough found.Closed k));
-            begun = λ i. begun qv o n a raw t running p list behind bg place at.rest (reads_later m o st gr a behind at.rest at.reads) ng.goals at.values (of_later m o st gr p list ng.goals at.values (ng.listed, at.at)) w goals_are sp i refl;
+            begun = λ i. begun qv o n a raw t running p list behind bg place at.rest (reads_later m o st gr a behind at.rest at.reads) ng.goals
+                at.values (of_later m o st gr p list ng.goals at.values (ng.listed, at.at)) w goals_are sp i refl;
           }

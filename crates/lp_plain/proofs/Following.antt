@@ -60,7 +60,8 @@ IsInnerTurn (w ∷ ws) Turn.Answered = ⊥
 IsInnerTurn (w ∷ ws) (Turn.Ended e) = EndsAll e
 
 -- the next state is typed
-pub typed_on : (ar : ℕ → ℕ) (n : ℕ) (P : List Clause) (go : (Answer → Bool) → State Task → Inner) (s t : State Task) → (v : Move Task Answer) → ((d : Declared) (q : Proved) → IsMoveTyped n d P q v → IsTypedState n d P q t) →
+pub typed_on : (ar : ℕ → ℕ) (n : ℕ) (P : List Clause) (go : (Answer → Bool) → State Task → Inner) (s t : State Task) → (v : Move Task Answer) →
+    ((d : Declared) (q : Proved) → IsMoveTyped n d P q v → IsTypedState n d P q t) →
     move go (look unit_limit n P) s ≡ v → IsTypedOver ar n P s → IsTypedOver ar n P t
 typed_on ar n P go s t v f e ty = record {
   declared = ty.declared;

@@ -74,7 +74,8 @@ module _ (qv : Query) (m : Machine) (s : State Task) (h : IsState qv m s) (none 
   held_open n some = let r = h.running in by_pairs (Turn.Ended OpenNot) n false (some_left m.bank r.closing m.branch.pairs.items r.at_work.pairs some r.under.pairs) tt
 
   -- without
-  module _ (empty : m.branch.pairs.items ≡ []) (n : Machine) (cut : n.choices.items ≡ take number m.choices.items) (only : n ≡ searching_as m n) (counts : n.counts ≡ record m.counts { lost = n.counts.lost })
+  module _ (empty : m.branch.pairs.items ≡ []) (n : Machine) (cut : n.choices.items ≡ take number m.choices.items) (only : n ≡ searching_as m n)
+      (counts : n.counts ≡ record m.counts { lost = n.counts.lost })
       (around : IfSome (slice_get m.choices.items number) (λ (c : Choice). IsAround c.untried n)) where
     abbrev w : Waiting
     w = within.waiting

@@ -91,9 +91,11 @@ module _ (qv : Query) (m : Machine) (s : State Task) (h : IsBack qv m s) (rest :
         let b = base_of m.denied in
         h.above.is ∙ ap stack_of (no_tasks qv m (mark_in b h.above.raws) b b (drop b m.choices.items) h.above.raws h.above.others none h.above.are)
 
-    stops_at : (lost : Bool) → m.counts.lost ≡ lost → (k : ℕ) → s.answers ≡ suc k → (go : (Answer → Bool) → State Task → Inner) (enough : ℕ) (P : List Clause) → move go (look unit_limit enough P) s ≡ Stops (last_ending lost)
+    stops_at : (lost : Bool) → m.counts.lost ≡ lost → (k : ℕ) → s.answers ≡ suc k → (go : (Answer → Bool) → State Task → Inner) (enough : ℕ)
+        (P : List Clause) → move go (look unit_limit enough P) s ≡ Stops (last_ending lost)
     stops_at lost l k ea go enough P =
-        (λ i. move_at go (look unit_limit enough P) s.steps (ea i) s.given s.rows s.row ((h.counted.lost ∙ l) i) (stack_none i)) ∙ stops_so go (look unit_limit enough P) s.steps k s.given s.rows s.row lost
+        (λ i. move_at go (look unit_limit enough P) s.steps (ea i) s.given s.rows s.row ((h.counted.lost ∙ l) i) (stack_none i)) ∙ stops_so go
+        (look unit_limit enough P) s.steps k s.given s.rows s.row lost
 
     within : IsWithin qv.arity m h.around (length rest) qv.outer
     within = within_of qv.arity m h.around m.denied (length rest) qv.outer inside h.above.inside.outer
@@ -185,12 +187,19 @@ module _ (qv : Query) (m : Machine) (s : State Task) (h : IsBack qv m s) (rest :
       pub refuted_goes : (n : Machine) (v : Denial) → last.untried ≡ Untried.Denied v → n ≡ goes_around t v → m.counts.lost ≡ false → IsRefutedBy qv Turn.On n s
       refuted_goes n v u q l =
           let same : v ≡ within.denial = (let p : Untried.Denied v ≡ Untried.Denied within.denial = sym u ∙ ap (λ z. z.untried) (sym same_last) ∙ within.is.denied in cc) in
-          let k : here ≡ goes_around t within.denial = ap (λ z. record t { denied = within.denial.around; counts = record z { lost = within.denial.lost }; branch = record t.branch { goals = within.denial.behind } }) (sym taken.counts) in
+          let k : here ≡ goes_around t within.denial = ap (λ z. record t {
+            denied = within.denial.around;
+            counts = record z
+                { lost = within.denial.lost };
+            branch = record t.branch { goals = within.denial.behind };
+          }) (sym taken.counts) in
           by_lost Turn.On n false l (subst (λ z. IsState (waiting_query qv.arity w within.others) z (woken w s.steps s.row (Go w.branch ∷ w.rest))) (k ∙ ap (goes_around t) (sym same) ∙ sym q) state)
 
 -- by whether a cut had removed an alternative
-pub by_end : (qv : Query) (m : Machine) (s : State Task) (h : IsBack qv m s) (last : Choice) (rest : List Choice) (e : m.choices.items ≡ rest ++ last ∷ []) (t : Machine) → IsTaken m t last rest → (n : Machine) (d : Denial) →
-    last.untried ≡ Untried.Denied d → n ≡ goes_around t d → (turn : Turn) (lost : Bool) → t.counts.lost ≡ lost → m.counts.lost ≡ t.counts.lost → (t.counts.lost ≡ true → turn ≡ Turn.Ended OpenNot) → (t.counts.lost ≡ false → turn ≡ Turn.On) → IsRefutedBy qv turn n s
+pub by_end : (qv : Query) (m : Machine) (s : State Task) (h : IsBack qv m s) (last : Choice) (rest : List Choice)
+    (e : m.choices.items ≡ rest ++ last ∷ []) (t : Machine) → IsTaken m t last rest → (n : Machine) (d : Denial) →
+    last.untried ≡ Untried.Denied d → n ≡ goes_around t d → (turn : Turn) (lost : Bool) → t.counts.lost ≡ lost → m.counts.lost ≡ t.counts.lost →
+    (t.counts.lost ≡ true → turn ≡ Turn.Ended OpenNot) → (t.counts.lost ≡ false → turn ≡ Turn.On) → IsRefutedBy qv turn n s
 by_end qv m s h last rest e t tk n d u only turn true l q cut holds =
     subst (λ x. IsRefutedBy qv x n s) (sym (cut l)) (refuted_open qv m s h rest last e (inside_last qv m s h rest last e d u) n (q ∙ l))
 by_end qv m s h last rest e t tk n d u only turn false l q cut holds =

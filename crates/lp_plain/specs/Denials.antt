@@ -86,7 +86,8 @@ AreFewDenied turn enough es = turn ≡ Turn.Ended Deep → (enough < 1000000) ×
 
 -- the definition's search comes to this turn in at most two moves, while answers are wanted
 abbrev pub EndsDenied : Query → Turn → (new : Machine) → (before : State Task) → List Entry → Type 0
-EndsDenied qv turn n s es = (k : ℕ) → s.answers ≡ suc k → (go : (Answer → Bool) → State Task → Inner) (enough : ℕ) → AreFewDenied turn enough es → (P : List Clause) → Leads 1 qv turn n go (look unit_limit enough P) s
+EndsDenied qv turn n s es = (k : ℕ) → s.answers ≡ suc k → (go : (Answer → Bool) → State Task → Inner) (enough : ℕ) → AreFewDenied turn enough es →
+    (P : List Clause) → Leads 1 qv turn n go (look unit_limit enough P) s
 
 -- the turn of a negated goal, in front of those of the definition's branch: its search begins, or the whole search ends
 abbrev pub TakesDenied : Turn → Query → (new : Machine) → (before : State Task) → List Entry → Type 0
@@ -125,7 +126,8 @@ pub record IsHeldBy (qv : Query) (turn : Turn) (n : Machine) (s : State Task) : 
   pub others : List Waiting
   pub outer : qv.outer ≡ waiting ∷ others
   pub answer : Answer
-  pub tells : (k : ℕ) → s.answers ≡ suc k → (ns : List Note) × (t : State Task) × ((go : (Answer → Bool) → State Task → Inner) (enough : ℕ) (P : List Clause) → move go (look unit_limit enough P) s ≡ Tells answer ns t)
+  pub tells : (k : ℕ) → s.answers ≡ suc k → (ns : List Note) × (t : State Task) × ((go : (Answer → Bool) → State Task → Inner) (enough : ℕ)
+      (P : List Clause) → move go (look unit_limit enough P) s ≡ Tells answer ns t)
   pub comes : IsHeldTurn (has_no_pairs answer) turn n qv.arity s waiting others
 
 -- no alternative is left, and none was cut away: the search that waited goes on behind the goal; one was: the whole search ends

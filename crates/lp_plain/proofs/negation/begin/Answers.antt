@@ -102,5 +102,6 @@ returns-clause-begun c =
       next = ap (λ v. v.next) f.course.branch ∙ ap (λ v. v.next) k.branch;
       next_type = ap (λ v. v.next_type) f.course.branch ∙ ap (λ v. v.next_type) k.branch;
       pairs = ap (λ v. v.pairs.items) f.course.branch ∙ c.new.ensures.items;
-      reads = λ a gs l. subst (Reads o a c.in_ok-first.first) (append-nil (placed a (record p { mark = c.len-mark.result }) gs)) (f.reads a gs [] (list_at_on m n p c.args.goals gs k.goals l) (no_frame refl refl));
+      reads = λ a gs l. subst (Reads o a c.in_ok-first.first) (append-nil (placed a (record p { mark = c.len-mark.result }) gs))
+          (f.reads a gs [] (list_at_on m n p c.args.goals gs k.goals l) (no_frame refl refl));
     }

@@ -26,7 +26,8 @@ pub returns-in_default-clause-held : goal.returns-in_default-clause-held
 returns-in_default-clause-held c = λ qv s h none number inside. absurd (let y = c.in_default.is in cc)
 
 pub returns-then-not-is_empty-clause-held : goal.returns-then-not-is_empty-clause-held
-returns-then-not-is_empty-clause-held c = λ qv s h none number inside. let m = c.args.machine.now in held_open qv m s h none number inside m (some_items m.branch.pairs.len m.branch.pairs.items c.is_empty.result c.is_empty.ensures m.branch.pairs.ok.0 c.if-not-is_empty.true)
+returns-then-not-is_empty-clause-held c = λ qv s h none number inside. let m = c.args.machine.now in held_open qv m s h none number inside m
+    (some_items m.branch.pairs.len m.branch.pairs.items c.is_empty.result c.is_empty.ensures m.branch.pairs.ok.0 c.if-not-is_empty.true)
 
 pub returns-clause-held : goal.returns-clause-held
 returns-clause-held c = λ qv s h none number inside.
@@ -34,7 +35,9 @@ returns-clause-held c = λ qv s h none number inside.
     let n = c.drop_denied.new.self in
     let d = c.drop_denied.ensures in
     let e : c.in-Some.number ≡ number = (let y = c.in-Some.is in cc) in
-    held_back qv m s h none number inside (no_items m.branch.pairs.len m.branch.pairs.items c.is_empty.result c.is_empty.ensures m.branch.pairs.ok.0 c.if-not-is_empty.false) n (d.dropped ∙ ap (λ i. take i m.choices.items) e) d.only d.counts (subst (λ i. IfSome (slice_get m.choices.items i) (λ (c : Choice). IsAround c.untried n)) e d.around)
+    held_back qv m s h none number inside (no_items m.branch.pairs.len m.branch.pairs.items c.is_empty.result c.is_empty.ensures m.branch.pairs.ok.0
+    c.if-not-is_empty.false) n (d.dropped ∙ ap (λ i. take i m.choices.items) e) d.only d.counts
+    (subst (λ i. IfSome (slice_get m.choices.items i) (λ (c : Choice). IsAround c.untried n)) e d.around)
 
 pub returns-in_default-clause-program : goal.returns-in_default-clause-program
 returns-in_default-clause-program c = program_same c.args.machine.now c.args.machine.now refl

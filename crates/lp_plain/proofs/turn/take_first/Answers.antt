@@ -152,7 +152,8 @@ returns-clause-ends g c = c.in_ok-turn-2.ensures.ends
 pub returns-then-second-goals-clause-denies : goal.returns-then-second-goals-clause-denies
 returns-then-second-goals-clause-denies g c = λ qv a raw s h at df.
     let m = c.args.machine.now in
-    c.in_ok-turn.ensures.denies qv a raw s h (at_last m a c.args.place c.args.goals c.args.behind raw c.in_ok-goal.goal c.in_ok-goal.ensures (omega (arith, c.if-second-goals.true, c.in-Some.ensures.1)) at) df
+    c.in_ok-turn.ensures.denies qv a raw s h (at_last m a c.args.place c.args.goals c.args.behind raw c.in_ok-goal.goal c.in_ok-goal.ensures
+    (omega (arith, c.if-second-goals.true, c.in-Some.ensures.1)) at) df
 
 pub returns-clause-denies : goal.returns-clause-denies
 returns-clause-denies g c = λ qv a raw s h at df.
@@ -163,13 +164,15 @@ returns-clause-denies g c = λ qv a raw s h at df.
     let st = f.stands c.if-second-goals.false h.above.done.stands in
     subst (λ (z : Branch). TakesDenied c.in_ok-turn-2.turn qv c.take_flat-2.new.machine s z.goals) (framed_work qv m q a p raw s f.goals f.course f.assumed f.frame st at.place h)
     (c.in_ok-turn-2.ensures.denies qv a raw s (running_framed qv m q a p raw s f.goals f.course f.assumed f.frame st at.place h)
-    (at_more m q a p c.args.goals (record { from = c.in-Some.second; to = c.args.goals.to }) c.args.behind c.in_ok-rest.rest raw c.in_ok-goal.goal c.in_ok-goal.ensures (c.in-Some.ensures.1 ∙ add-one c.args.goals.from) refl
+    (at_more m q a p c.args.goals (record { from = c.in-Some.second; to = c.args.goals.to }) c.args.behind c.in_ok-rest.rest raw c.in_ok-goal.goal
+    c.in_ok-goal.ensures (c.in-Some.ensures.1 ∙ add-one c.args.goals.from) refl
     f.goals f.assumed f.reads at) df)
 
 pub returns-then-second-goals-clause-denied_stays : goal.returns-then-second-goals-clause-denied_stays
 returns-then-second-goals-clause-denied_stays g c = λ a raw at df ar st w sw.
     let m = c.args.machine.now in
-    c.in_ok-turn.ensures.denied_stays a raw (at_last m a c.args.place c.args.goals c.args.behind raw c.in_ok-goal.goal c.in_ok-goal.ensures (omega (arith, c.if-second-goals.true, c.in-Some.ensures.1)) at) df ar st
+    c.in_ok-turn.ensures.denied_stays a raw (at_last m a c.args.place c.args.goals c.args.behind raw c.in_ok-goal.goal c.in_ok-goal.ensures
+    (omega (arith, c.if-second-goals.true, c.in-Some.ensures.1)) at) df ar st
     (first_written m ar c.args.place c.args.goals c.in_ok-goal.goal c.in_ok-goal.ensures at.some w) sw
 
 pub returns-clause-denied_stays : goal.returns-clause-denied_stays
@@ -183,6 +186,7 @@ returns-clause-denied_stays g c = λ a raw at df ar i w sw.
     let later = c.in-Some.ensures.1 ∙ add-one c.args.goals.from in
     let next : c.in-Some.second ≡ c.args.goals.from + 1 = (let z = c.in-Some.ensures.1 in omega (arith, z)) in
     let w' = rest_written m ar p c.args.goals c.in-Some.second next at.some w in
-    c.in_ok-turn-2.ensures.denied_stays a raw (at_more m q a p c.args.goals others c.args.behind c.in_ok-rest.rest raw c.in_ok-goal.goal c.in_ok-goal.ensures later refl f.goals f.assumed f.reads at) df ar (f.stands c.if-second-goals.false i)
+    c.in_ok-turn-2.ensures.denied_stays a raw (at_more m q a p c.args.goals others c.args.behind c.in_ok-rest.rest raw c.in_ok-goal.goal
+    c.in_ok-goal.ensures later refl f.goals f.assumed f.reads at) df ar (f.stands c.if-second-goals.false i)
     (flat_framed m q f.goals ar p c.in_ok-goal.goal (first_written m ar p c.args.goals c.in_ok-goal.goal c.in_ok-goal.ensures at.some w))
     (search_frame m q frame i f.goals f.assumed f.course.choices f.pushed c.if-second-goals.false ar w' sw)

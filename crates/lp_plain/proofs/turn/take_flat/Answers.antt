@@ -188,7 +188,8 @@ returns-in_ok-turn-in-Cut-clause-denied_stays g c = λ a raw at df.
 
 pub returns-in_ok-turn-in-Not-clause-denied_stays : goal.returns-in_ok-turn-in-Not-clause-denied_stays
 returns-in_ok-turn-in-Not-clause-denied_stays g c = λ a raw at df ar st w sw on.
-    c.in_ok-turn-in-Not.ensures.written on ar st (not_written c.args.machine.now ar c.args.place c.in-Not.goals c.in-Not.free (subst (IsWrittenFlat c.args.machine.now ar c.args.place) c.in-Not.is w)) sw
+    c.in_ok-turn-in-Not.ensures.written on ar st (not_written c.args.machine.now ar c.args.place c.in-Not.goals c.in-Not.free
+    (subst (IsWrittenFlat c.args.machine.now ar c.args.place) c.in-Not.is w)) sw
 
 pub returns-in_ok-turn-in_default-clause-denied_stays : goal.returns-in_ok-turn-in_default-clause-denied_stays
 returns-in_ok-turn-in_default-clause-denied_stays g c = λ a raw at df.

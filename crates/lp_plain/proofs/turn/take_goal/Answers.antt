@@ -212,7 +212,8 @@ returns-in_ok-turn-in-Goals-clause-denies g c = λ qv s h df.
     c.in_ok-turn-in-Goals.ensures.denies qv h.around h.raw s h.running (at_frame qv m s h c.in-Some.number c.in_ok-frame.frame c.in-Some.is c.in_ok-frame.ensures c.in-Goals.goals c.in-Goals.is) df
 
 pub returns-in_ok-turn-in-Term-clause-denies : goal.returns-in_ok-turn-in-Term-clause-denies
-returns-in_ok-turn-in-Term-clause-denies g c = λ qv s h df. absurd (term_denied qv c.args.machine.now s h c.in-Some.number c.in_ok-frame.frame c.in-Some.is c.in_ok-frame.ensures c.in-Term.term c.in-Term.is df)
+returns-in_ok-turn-in-Term-clause-denies g c = λ qv s h df. absurd (term_denied qv c.args.machine.now s h c.in-Some.number c.in_ok-frame.frame
+    c.in-Some.is c.in_ok-frame.ensures c.in-Term.term c.in-Term.is df)
 
 pub returns-in_default-clause-held : goal.returns-in_default-clause-held
 returns-in_default-clause-held g c = λ qv s h none number inside. c.end_branch.ensures.held qv s h none number inside
