@@ -1,4 +1,4 @@
-use Rattle.std.proofs.Common.{Some, subst}
+use Rattle.std.proofs.Common.{subst}
 use Rattle.lp_plain.specs.Calling.{IsLookedAs}
 use Rattle.lp_plain.proofs.CallEnds.{deep_leads, none_on, plain_call, some_on}
 use Rattle.lp_plain.proofs.ProgramKept.{only_keeps, program_then}

@@ -1,4 +1,4 @@
-use Rattle.std.proofs.Common.{◌≡◌, ◌∙◌, true, false, refl, sym, ap, subst, arith}
+use Rattle.std.proofs.Common.{◌≡◌, ◌∙◌, true, false, refl, sym, ap, subst}
 use Rattle.lp_model.specs.declared.ending.Ending.TheVariants.{NoMore, NoMoreCut}
 use Rattle.lp_plain.specs.declared.choice.Untried.{Untried}
 use Rattle.lp_plain.specs.declared.outcome.Turn.{Turn}
