@@ -1,4 +1,4 @@
-use Rattle.std.proofs.Common.{subst, ap, ◌∙◌}
+use Rattle.std.proofs.Common.{refl, subst, ap, ◌∙◌}
 use Rattle.lp_plain.specs.Negations.{AreFound}
 use Rattle.lp_plain.specs.declared.openness.Openness.TheVariants.{Closed, Open, Deep}
 use Rattle.lp_plain.specs.declared.openness.Standing.{Standing}

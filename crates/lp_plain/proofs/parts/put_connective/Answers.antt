@@ -202,3 +202,6 @@ returns-in_ok-put_exists-in-Exists-clause-program c = apart_at c.args.machine.no
 
 pub returns-in-True-clause-program : goal.returns-in-True-clause-program
 returns-in-True-clause-program c = apart_goals c.args.machine.now c.take_apart.new.machine c.go_behind.new.machine (c.if-not-take_apart.ensures.apart refl) c.go_behind.ensures.known
+
+pub returns-in-Cut-clause-program : goal.returns-in-Cut-clause-program
+returns-in-Cut-clause-program c = apart_goals c.args.machine.now c.take_apart.new.machine c.go_behind-in-Cut.new.machine (c.if-not-take_apart.ensures.apart refl) c.go_behind-in-Cut.ensures.known
