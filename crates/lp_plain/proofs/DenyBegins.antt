@@ -131,9 +131,6 @@ module _ (qv : Query) (m n : Machine) (a : Around) (raw : Branch) (s : State Tas
   stands : StandsIn n
   stands = bg.stands h.above.done.stands
 
-  stands_beside : StandsIn beside
-  stands_beside = record { table = stands.table; values = stands.values; frames = stands.frames }
-
   placed_now : ArePlaced beside a
   placed_now = placed_on m beside a p at_place h.above.done.stands h.placed pl
 

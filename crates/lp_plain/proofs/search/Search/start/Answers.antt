@@ -8,8 +8,8 @@ pub returns-clause-begins : goal.returns-clause-begins
 returns-clause-begins c = λ d P gs h n.
     let p = c.args.program in
     let q = c.args.query in
-    let e = c.in_ok-begin.ensures in
-    let s = c.in_ok-begin.field-0 in
+    let e = c.in_ok-machine.ensures in
+    let s = c.in_ok-machine.field-0 in
     begun_between d p q P gs h _ c.args.steps c.args.answers n refl refl refl e.variables
     (e.begun h.query_within h.depth d gs h.query_flattened (no_variable d p q P gs h) (arity_in d) c.args.answers)
     (clauses_there d p q P gs h s.machine (λ css f. program_there s.machine s.source.spans.items css e.stands e.ends (e.program h.clauses_within d css f) e.index)
