@@ -126,15 +126,8 @@ module _ (d : Declared) (p : Program) (q : Typed) (P : List Clause) (gs : Goals)
 pub program_there : (m : Machine) (spans : List Span) (css : List Clauses) → StandsIn m → All (λ k. k < length m.table.rules.items) (numbers spans) →
     AreProgramOf m.bank m.table spans css → IsIndex m.bank m.table.rules.items (λ c. get nat_eq m.index c) (numbers spans) →
     (b : Nodes) → Extends m.bank b → HasProgram (with_bank m b) css
-<<<<<<< HEAD
 program_there m spans css st ends are there b x = record {
   spans = spans;
   clauses = program_on m.bank b m.table m.table (λ s cs p. rules_later m.bank b x m.table st.table s.from s.to cs p) spans css are;
   index = index_later m.bank b m.table.rules.items m.table.rules.items (λ c. get nat_eq m.index c) (numbers spans) x (goes_on_same m.table.rules.items) st.table.rules ends there;
-=======
-program_there m spans css st ends are found b x = record {
-  spans = spans;
-  clauses = program_on m.bank b m.table m.table (λ s cs p. rules_later m.bank b x m.table st.table s.from s.to cs p) spans css are;
-  index = index_later m.bank b m.table.rules.items m.table.rules.items (λ c. get nat_eq m.index c) (numbers spans) x (goes_on_same m.table.rules.items) st.table.rules ends found;
->>>>>>> 27b047077d7b4861ddc8c834c4c012ef316892bc
 }
