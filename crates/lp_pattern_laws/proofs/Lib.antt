@@ -1,8 +1,11 @@
 mod Naming
 mod Renamed
 mod Reduced
+mod Apart
+mod Comes
 mod Looked
 mod Filled
+mod PutForms
 mod Scanned
 mod Pruned
 mod Ruled
@@ -15,3 +18,11 @@ mod Carried
 mod GoalsMapped
 mod TextStays
 mod Resumed
+mod ClosedPatterns
+mod GoalLists
+mod PatternTasks
+mod AtomLooks
+mod NoSigma
+mod GoalLooks
+mod TryLooks
+mod PatternRuns

@@ -3,6 +3,8 @@
 
 /// Goals that are pattern terms, in the search.
 pub mod goals;
+/// The search of pattern text.
+pub mod search;
 /// Pattern terms, and what reduction and values for variables make of them.
 pub mod terms;
 /// Pattern text, and terms for its variables.
