@@ -72,7 +72,7 @@ length_get [] i k e = absurd (cc)
 length_get (x ∷ Γ) zero k e = omega arith
 length_get (x ∷ Γ) (suc i) k e = let q = length_get Γ i k e in omega (arith, q)
 
-get_length : (Γ : List Binder) (i : ℕ) → i < length Γ → (k : Binder) × (slice_get Γ i ≡ Some k)
+pub get_length : (Γ : List Binder) (i : ℕ) → i < length Γ → (k : Binder) × (slice_get Γ i ≡ Some k)
 get_length [] i l = absurd (omega (arith, l))
 get_length (x ∷ Γ) zero l = (x, refl)
 get_length (x ∷ Γ) (suc i) l = get_length Γ i (omega (arith, l))

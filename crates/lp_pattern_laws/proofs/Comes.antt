@@ -28,7 +28,7 @@ reduces_both {s = s} {u = u} r q = many_on (reduces_map (λ z. app z u) (λ x y 
 pub reduces_fill : (f : Atom → Term) {t s : Term} → ReducesTo t s → ReducesTo (fill f t) (fill f s)
 reduces_fill f r = reduces_map (fill f) (λ x y p. step_fill f p) r
 
-reduces_rename : (ρ : ℕ → ℕ) {t s : Term} → ReducesTo t s → ReducesTo (rename ρ t) (rename ρ s)
+pub reduces_rename : (ρ : ℕ → ℕ) {t s : Term} → ReducesTo t s → ReducesTo (rename ρ t) (rename ρ s)
 reduces_rename ρ r = reduces_map (rename ρ) (λ x y p. step_rename ρ p) r
 
 step_subst : (σ : ℕ → Term) {t s : Term} → Step t s → Step (subst σ t) (subst σ s)
@@ -45,7 +45,7 @@ pub reduces_subst : (σ : ℕ → Term) {t s : Term} → ReducesTo t s → Reduc
 reduces_subst σ r = reduces_map (subst σ) (λ x y p. step_subst σ p) r
 
 -- and so it does where terms that are put reduce
-reduces_raise : {t s : Term} → ReducesTo t s → ReducesTo (shift 0 1 t) (shift 0 1 s)
+pub reduces_raise : {t s : Term} → ReducesTo t s → ReducesTo (shift 0 1 t) (shift 0 1 s)
 reduces_raise {t} {s} r = transport (λ z. ReducesTo z (shift 0 1 s)) (sym (shift_one t)) (transport (ReducesTo (rename suc t)) (sym (shift_one s)) (reduces_rename suc r))
 
 pub reduces_fills : (f g : Atom → Term) → ((a : Atom) → ReducesTo (f a) (g a)) → (t : Term) → ReducesTo (fill f t) (fill g t)

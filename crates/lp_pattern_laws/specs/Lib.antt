@@ -3,3 +3,4 @@ pub mod Binders
 pub mod Parts
 pub mod Goals
 pub mod Tasks
+pub mod Formulas

@@ -1,6 +1,8 @@
 //! Pattern text leaves no equation unsolved: what holds of unification on pattern terms, as functions that do nothing; each contract is a law.
 #![tactic(auto)]
 
+/// Sentences and queries of pattern text.
+pub mod formulas;
 /// Goals that are pattern terms, in the search.
 pub mod goals;
 /// The search of pattern text.
