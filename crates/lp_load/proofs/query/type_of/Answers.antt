@@ -7,7 +7,7 @@ returns-in_err-within_arguments-clause-refused g = cause_passed g.from_residual-
     g.args.text.now g.from_residual-in_err-within_arguments.ensures.1 (g.in_err-within_arguments.ensures.refused g.args.text.now)
 
 pub returns-in-Err-clause-refused : goal.returns-in-Err-clause-refused
-returns-in-Err-clause-refused g = g.of_typing.ensures g.args.text.now
+returns-in-Err-clause-refused g = g.of_typing.ensures.cause g.args.text.now
 
 pub returns-in_err-within_form-clause-refused : goal.returns-in_err-within_form-clause-refused
 returns-in_err-within_form-clause-refused g = cause_passed g.from_residual-in_err-within_form.result g.in_err-within_form.field-0.0 g.args.text.now
