@@ -1,7 +1,8 @@
 -- Why the text of a query is refused: its first fault, in the order of tokens, tree, arguments, typing, form and clauses.
-use Rattle.std.specs.Prelude.{ℕ, List, true}
+use Rattle.std.specs.Prelude.{◌≡◌, ◌⊎◌, ℕ, List, true}
 use Rattle.lp_base.specs.declared.limit.Limit.{Limit}
 use Rattle.lp_base.specs.declared.limit.Limit.TheVariants as limit
+use Rattle.lp_base.specs.declared.place.Spot.{Spot}
 use Rattle.lp_lexer.specs.Lexis.{HasFault, HasTokens}
 use Rattle.lp_lexer.specs.declared.token.LexFault.{LexFault}
 use Rattle.lp_lexer.specs.declared.token.Token.{Token}
@@ -11,6 +12,7 @@ use Rattle.lp_syntax.specs.Queries.{IsQueryRefusal}
 use Rattle.lp_syntax.specs.Tokens.{lexemes, spot_at}
 use Rattle.lp_syntax.specs.declared.fault.SyntaxFault.{SyntaxFault}
 use Rattle.lp_syntax.specs.declared.text.RawQuery.{RawQuery}
+use Rattle.lp_syntax.specs.declared.text.RawTerm.{RawTerm}
 use Rattle.lp_term.specs.Nodes.{Nodes, tree}
 use Rattle.lp_model.specs.declared.program.Typed.{Typed}
 use Rattle.lp_sig.specs.declared.signature.Signature.{Signature}
@@ -30,6 +32,18 @@ use Rattle.lp_load.specs.Asked.{IsAsked, IsRead}
 pub data IsUnread (operators : Table) (text : List ℕ) : Cause → Type 0 where
   of_tokens : (e : LexFault) → HasFault text e → IsUnread operators text (cause.Tokens e)
   of_tree : (tokens : List Token) (f : SyntaxFault) (c : Cause) → HasTokens text tokens → IsQueryRefusal (spot_at 0 text tokens) (entry_of operators) (lexemes text tokens) f → TellsSyntax f c → IsUnread operators text c
+
+-- too many arguments as written, or want of memory
+abbrev pub IsOverArguments : RawTerm → Cause → Type 0
+IsOverArguments raw c = (c ≡ cause.Memory) ⊎ ((c ≡ cause.Limit limit.Arguments) × HasManyArguments raw)
+
+-- a typed query has not the form of a goal
+abbrev pub IsUnformed : Signature → Nodes → Typed → (first : Spot) → Cause → Type 0
+IsUnformed names b q first c = (f : ModuleFault) × IsFormFault (declared_schemes names) true q.type_vars (tree b q.formula.0) first f × TellsModule f c
+
+-- a limit of its flattened clauses was passed, or memory is wanting
+abbrev pub IsOverClauses : Cause → Type 0
+IsOverClauses c = (c ≡ cause.Memory) ⊎ ((l : Limit) × (c ≡ cause.Limit l))
 
 -- each stage has its fault where those before it have none. Of the limit on clauses it is not said where it is passed
 pub data IsRefusedFor (operators : Table) (names : Signature) (text : List ℕ) : Cause → Type 0 where
