@@ -1,5 +1,5 @@
 -- Why the text of a query is refused: its first fault, in the order of tokens, tree, arguments, typing, form and clauses.
-use Rattle.std.specs.Prelude.{◌≡◌, ◌⊎◌, ℕ, List, true}
+use Rattle.std.specs.Prelude.{◌≡◌, ◌⊎◌, ℕ, List, codes, true}
 use Rattle.lp_base.specs.declared.limit.Limit.{Limit}
 use Rattle.lp_base.specs.declared.limit.Limit.TheVariants as limit
 use Rattle.lp_base.specs.declared.place.Spot.{Spot}
@@ -24,8 +24,10 @@ use Rattle.lp_module.specs.Refusals.{IsFormFault}
 use Rattle.lp_module.specs.Schemes.{declared_schemes}
 use Rattle.lp_module.specs.declared.fault.ModuleFault.{ModuleFault}
 use Rattle.lp_lines.specs.Causes.{TellsModule, TellsSyntax, TellsTyping}
+use Rattle.lp_lines.specs.Placed.{SaysOf}
 use Rattle.lp_lines.specs.declared.cause.Cause.{Cause}
 use Rattle.lp_lines.specs.declared.cause.Cause.TheVariants as cause
+use Rattle.lp_lines.specs.declared.refusal.Refusal.{Refusal}
 use Rattle.lp_load.specs.Asked.{IsAsked, IsRead}
 
 -- it has no tokens, or these are no query tree
@@ -54,3 +56,7 @@ pub data IsRefusedFor (operators : Table) (names : Signature) (text : List ℕ) 
       IsFormFault (declared_schemes names) true q.type_vars (tree b q.formula.0) raw.term.first f → TellsModule f c → IsRefusedFor operators names text c
   of_clauses : (b : Nodes) (q : Typed) (l : Limit) → IsAsked operators names text b q → IsRefusedFor operators names text (cause.Limit l)
   no_memory : IsRefusedFor operators names text cause.Memory
+
+-- the refusal of a query says its cause
+abbrev pub IsRefusedQuery : Table → Signature → (text : List ℕ) → Refusal → Type 0
+IsRefusedQuery operators names text r = (c : Cause) × IsRefusedFor operators names text c × SaysOf (codes "query") text c r

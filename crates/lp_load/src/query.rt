@@ -7,9 +7,8 @@ ghost use Rattle.lp_module.specs.Clauses.{IsFormed};
 ghost use Rattle.lp_module.specs.Refusals.{IsShort};
 ghost use Rattle.lp_module.specs.Schemes.{declared_schemes};
 ghost use Rattle.lp_load.specs.Asked.{IsAsked, IsRead};
-ghost use Rattle.lp_load.specs.Refused.{IsOverArguments, IsOverClauses, IsRefusedFor, IsUnformed, IsUnread};
-ghost use Rattle.lp_lines.specs.Placed.{IsCauseOf, IsOfText, IfSource, SaysOf};
-ghost use Rattle.lp_lines.specs.declared.cause.Cause.{Cause as Why};
+ghost use Rattle.lp_load.specs.Refused.{IsOverArguments, IsOverClauses, IsRefusedFor, IsRefusedQuery, IsUnformed, IsUnread};
+ghost use Rattle.lp_lines.specs.Placed.{IsCauseOf, IsOfText, IfSource};
 ghost use Rattle.lp_lines.specs.Refusals.{IsTextRefusal};
 
 use lp_base::{Limit, Memory, Spot};
@@ -116,7 +115,7 @@ fn type_of(alloc: Global, text: &[u8], built: &mut Built) -> Result<Typed, Cause
 pub fn ask(alloc: Global, text: &[u8], built: &mut Built) -> Result<Typed, Refusal>
     ensures refused { IfErr result IsTextRefusal }
     ensures placed { IfErr result (IfSource (IsOfText (codes "query") text.now)) }
-    ensures cause { IfErr result (λ r. (c : Why) × IsRefusedFor built.old.table built.old.signature text.now c × SaysOf (codes "query") text.now c r) }
+    ensures cause { IfErr result (IsRefusedQuery built.old.table built.old.signature text.now) }
     ensures asked { IfOk result (IsAsked built.old.table built.old.signature text.now built.new.assembled.program.bank) }
     ensures kept { Extends built.old.assembled.program.bank built.new.assembled.program.bank }
     ensures table { built.new.table ≡ built.old.table }
