@@ -1,13 +1,9 @@
 -- The first goal of a search, its newest alternative, and whether a search waits for it.
-use Rattle.std.proofs.Common.{◌≡◌, ℕ, ◌+◌, ◌≤◌, List, [], ◌∷◌, ◌++◌, length, drop, refl, sym, ap, ◌∙◌, subst, arith, Option, None, Some}
+use Rattle.std.proofs.Common.{◌≡◌, ℕ, ◌≤◌, List, [], ◌∷◌, ◌++◌, length, refl, sym, ap, ◌∙◌, subst, arith, Option, None, Some}
 use Rattle.std.specs.Prelude.{slice_get}
-use Rattle.lp_calculus.specs.Term.{Term}
 use Rattle.lp_model.specs.Branch.{Branch, Entry, Task}
 use Rattle.lp_model.specs.Flat.{Goals, no_goals, goals, goal_list}
 use Rattle.lp_model.specs.Skeleton.{State}
-use Rattle.lp_plain.specs.declared.choice.Choice.{Choice}
-use Rattle.lp_plain.specs.declared.choice.Denial.{Denial}
-use Rattle.lp_plain.specs.declared.choice.Untried.{Untried}
 use Rattle.lp_plain.specs.declared.frame.Frame.{Frame}
 use Rattle.lp_plain.specs.declared.frame.Place.{Place}
 use Rattle.lp_plain.specs.declared.frame.Todo.{Todo}
@@ -16,16 +12,12 @@ use Rattle.lp_plain.specs.declared.outcome.Turn.{Turn}
 use Rattle.lp_plain.specs.declared.table.Span.{Span}
 use Rattle.lp_term.specs.declared.node.TermId.{TermId}
 use Rattle.lp_plain.specs.Entries.{AreTodo, Around, Reads, a_frame, in_scope, no_frame, placed}
-use Rattle.lp_plain.specs.Moving.{AreAlternatives, AreOuter, HasAlternatives, IsAtGoals, IsBack, IsState, Query, Waiting, mark_in}
+use Rattle.lp_plain.specs.Moving.{AreOuter, IsAtGoals, IsBack, IsState, Query, Waiting}
 use Rattle.lp_plain.specs.Scopes.{blocks_of}
-use Rattle.lp_plain.specs.Searching.{StandForAll, StandsFor, a_side, some_tries}
 use Rattle.lp_plain.specs.Stacks.{base_of}
 use Rattle.lp_plain.specs.Tables.{AreGoals, Never, shown}
 use Rattle.lp_plain.specs.Turns.{IsGoalTurn}
-use Rattle.lp_plain.specs.inner.Following.{Course}
-use Rattle.lp_plain.proofs.Bounds.{split_newest}
 use Rattle.lp_plain.proofs.Following.{IsInnerTurn}
-use Rattle.lp_plain.proofs.QuietMoves.{drop_push}
 
 pub goals_some : (m : Machine) (a : Around) (p : Place) (span : Span) (o : Option ℕ) (raw : Branch) → IsAtGoals m a p span o raw → raw.goals ≡ [] → ⊥
 goals_some m a p span o raw h e = go h.goals_of h.are h.goals

@@ -1,6 +1,5 @@
 -- A search between two events, as a state of the definition's.
 use Rattle.std.specs.Prelude.{◌≡◌, ℕ, ◌-◌, ◌<◌, List, [], length, None, Some}
-use Rattle.lp_lemmas.specs.Each.{EachOf}
 use Rattle.lp_model.specs.Branch.{Answer, Task}
 use Rattle.lp_model.specs.Events.{Advances, Event, Over}
 use Rattle.lp_model.specs.Flat.{Clause, Clauses}
