@@ -1,11 +1,15 @@
-use Rattle.std.proofs.Common.{◌∙◌, subst}
+use Rattle.std.proofs.Common.{◌∙◌, refl, subst}
 use Rattle.std.specs.Prelude.{codes}
 use Rattle.lp_lemmas.proofs.Results.{passed_up}
 use Rattle.lp_lines.specs.declared.refusal.Refusal.TheVariants.{Memory}
 use Rattle.lp_lines.specs.Placed.{IsOfText, IfSource}
 use Rattle.lp_lines.specs.Refusals.{IsTextRefusal}
+use Rattle.lp_lines.specs.declared.cause.Cause.TheVariants as cause
 use Rattle.lp_load.specs.Asked.{IsAsked}
+use Rattle.lp_load.specs.Refused.{IsRefusedQuery, no_memory}
+use Rattle.lp_solve.specs.Queries.{IsQuery}
 use Rattle.lp_solve.specs.Shown.{IsShownWith}
+use Rattle.lp_solve.proofs.Beginning.{begins_so}
 use Rattle.lp_solve.proofs.Refused.{named, shown_before}
 use Rattle.lp_solve.proofs.prepare.start.Goals as goal
 
@@ -17,14 +21,17 @@ returns-clause-ready c =
     let typed = c.in-Ok.typed in
     let same = c.as_bytes-text.ensures.value in
     let query = c.args.question.query.now in
-    record {
+    let asks : IsQuery told c.args.question.name.now query = record {
       built = old;
       loaded = loaded;
       bank = now.assembled.program.bank;
       grown = c.in-Ok.ensures.kept;
       typed = typed;
       asked = subst (λ t. IsAsked old.table old.signature t now.assembled.program.bank typed) same c.in-Ok.ensures.asked;
-      begun = c.in_ok-search.ensures.query;
+    } in
+    record {
+      asks = asks;
+      begins = λ d P gs f. c.in_ok-search.ensures.begins d P gs (begins_so asks now.assembled.program refl c.in-Ok.ensures.clauses d P gs f);
       shown = shown_before query typed old now c.in_ok-shown.shown c.in-Ok.ensures.signature c.in-Ok.ensures.names
           (subst (λ t. IsShownWith t typed now c.in_ok-shown.shown) same c.in_ok-shown.ensures);
     }
@@ -43,3 +50,12 @@ returns-in_err-search-clause-refused c = passed_up c.from_residual-in_err-search
 
 pub returns-in_err-search-clause-placed : goal.returns-in_err-search-clause-placed
 returns-in_err-search-clause-placed c = passed_up c.from_residual-in_err-search.result Memory (IfSource (IsOfText (codes "query") c.args.question.query.now)) c.from_residual-in_err-search.ensures.1 tt
+
+pub returns-in-Err-clause-cause : goal.returns-in-Err-clause-cause
+returns-in-Err-clause-cause c = subst (λ t. IsRefusedQuery c.args.built.table c.args.built.signature t c.in-Err.refusal) c.as_bytes-text.ensures.value c.in-Err.ensures.cause
+
+pub returns-in_err-shown-clause-cause : goal.returns-in_err-shown-clause-cause
+returns-in_err-shown-clause-cause c = passed_up c.from_residual.result Memory (IsRefusedQuery c.args.built.table c.args.built.signature c.args.question.query.now) c.from_residual.ensures.1 (cause.Memory, no_memory, tt)
+
+pub returns-in_err-search-clause-cause : goal.returns-in_err-search-clause-cause
+returns-in_err-search-clause-cause c = passed_up c.from_residual-in_err-search.result Memory (IsRefusedQuery c.args.built.table c.args.built.signature c.args.question.query.now) c.from_residual-in_err-search.ensures.1 (cause.Memory, no_memory, tt)
