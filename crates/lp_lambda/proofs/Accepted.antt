@@ -115,30 +115,30 @@ module _ (k : ℕ) (Vs : List Ty) where
   all_judged no_parts = tt
   all_judged (more_parts {p = p} {ps = ps} e a r) = (by_position p.position p.binders p.term ps e (all_judged a), all_judged r)
 
-pub sentence_accepted : (d : Declared) (D : ClauseFormula) → IsTypedSentence d D → IsPatternClause D.formula → IsPatternSentence D
-sentence_accepted d D t h = (h.0, h.1, (all_judged D.type_vars [] h.2).0 (normal_plain h.0 h.1.1, within_reduces (IsQueryAtom D.type_vars) 0 h.1.0 t.within))
+pub sentence_accepted : (D : ClauseFormula) → Within (IsQueryAtom D.type_vars) 0 D.formula → IsPatternClause D.formula → IsPatternSentence D
+sentence_accepted D w h = (h.0, h.1, (all_judged D.type_vars [] h.2).0 (normal_plain h.0 h.1.1, within_reduces (IsQueryAtom D.type_vars) 0 h.1.0 w))
 
 count_variables : (Vs : List Ty) → length Vs ≡ length (binders_of Vs [])
 count_variables [] = refl
 count_variables (V ∷ Vs) = let e = count_variables Vs in ap suc e
 
-pub query_accepted : (d : Declared) (q : Query) → IsTypedQuery d q → IsPatternQuery q.formula → formulas.IsPatternQuery q
-query_accepted d q t h = (
+pub query_accepted : (q : Query) → Within (IsQueryAtom q.type_vars) (length q.vars) q.formula → IsPatternQuery q.formula → formulas.IsPatternQuery q
+query_accepted q w h = (
   h.0,
   h.1,
   (all_judged q.type_vars q.vars h.2).0 (
     normal_plain h.0 h.1.1,
     transport (λ z. Within (IsQueryAtom q.type_vars) z h.0) (count_variables q.vars)
-        (within_reduces (IsQueryAtom q.type_vars) (length q.vars) h.1.0 t.within),
+        (within_reduces (IsQueryAtom q.type_vars) (length q.vars) h.1.0 w),
   ),
 )
 
 sentences_accepted : (d : Declared) (F : List ClauseFormula) → EachOf (IsTypedSentence d) F → EachOf (λ D. IsPatternClause D.formula) F → EachOf IsPatternSentence F
 sentences_accepted d [] s h = tt
-sentences_accepted d (D ∷ F) s h = (sentence_accepted d D s.0 h.0, sentences_accepted d F s.1 h.1)
+sentences_accepted d (D ∷ F) s h = (sentence_accepted D s.0.within h.0, sentences_accepted d F s.1 h.1)
 
 pub accepted_no_pairs : (d : Declared) → IsStandard d → (l : ℕ) (F : List ClauseFormula) (P : List Clause) → EachOf (IsTypedSentence d) F →
     AreFlattened d F P → EachOf (λ D. IsPatternClause D.formula) F → (q : Query) (gs : Goals) → IsTypedQuery d q →
     flatten_query l d q.formula ≡ Some gs → IsPatternQuery q.formula → (n j m steps answers : ℕ) → EachOf HasNoPair
     (run (look unit_limit n P) j m (start q.type_vars (length q.vars) gs steps answers)).answers
-accepted_no_pairs d std l F P s x h q gs t e p n j m steps answers = formulas_no_pairs d std l F P s x (sentences_accepted d F s h) q gs t e (query_accepted d q t p) n j m steps answers
+accepted_no_pairs d std l F P s x h q gs t e p n j m steps answers = formulas_no_pairs d std l F P s x (sentences_accepted d F s h) q gs t e (query_accepted q t.within p) n j m steps answers

@@ -62,4 +62,5 @@ pub mod Unbound
 pub mod GivenUp
 pub mod RuledOut
 pub mod SolutionsFound
+pub mod TypedRuns
 mod Grounds

@@ -1,14 +1,17 @@
 -- What whole runs come to: the outcome of the definition, read off the code's bindings and pairs.
-use Rattle.std.specs.Prelude.{◌≡◌, ℕ, ◌<◌, ◌≤◌, nat_eq, List, map, Option}
+use Rattle.std.specs.Prelude.{◌≡◌, ℕ, ◌<◌, ◌≤◌, nat_eq, List, length, map, Option, Some}
 use Rattle.std.specs.Map.{lookup}
-use Rattle.lp_calculus.specs.Types.{var}
+use Rattle.lp_calculus.specs.Types.{Ty, var}
 use Rattle.lp_calculus.specs.Term.{Term, atom, logic}
 use Rattle.lp_calculus.specs.Fill.{Within, put_all}
 use Rattle.lp_term.specs.Nodes.{Nodes, tree}
 use Rattle.lp_term.specs.declared.node.TermId.{TermId}
 use Rattle.lp_term.specs.declared.node.TypeId.{TypeId}
 use Rattle.lp_model.specs.Pair.{Pair, Closing, closed, put_types_in}
+use Rattle.lp_model.specs.Answers.{Variable}
+use Rattle.lp_model.specs.Proofs.{Declared}
 use Rattle.lp_model.specs.Unify.{State, Unified, Fail, Solution, Spent, solve}
+use Rattle.lp_unify_laws.specs.Solutions.{instance_variable, IsTypedInput}
 use Rattle.lp_model.specs.declared.answer.Pair.{Pair as Numbers}
 use Rattle.lp_pattern.specs.declared.bindings.Bindings.{Bindings}
 use Rattle.lp_pattern.specs.declared.fault.PatternRefusal.{PatternRefusal}
@@ -28,6 +31,18 @@ pairs_at b ps = map (pair_of b) ps
 -- what the definition makes of equations of types and pairs at numbers of a bank
 abbrev pub run : (n limit : ℕ) → Nodes → List (TypeId × TypeId) → (pairs delayed : List Numbers) → (next : ℕ) → Option Unified
 run n limit b types ps ds next = solve n limit (type_pairs_of b var types) (pairs_at b ps) (pairs_at b ds) next
+
+-- the input is typed over these variables, which are all those below the next one, under each choice of types that solves the equations
+pub record IsTypedRun (d : Declared) (V : List Variable) (b : Nodes) (types : List (TypeId × TypeId)) (ps ds : List Numbers) (next : ℕ) : Type 0 where
+  pub count : length V ≡ next
+  pub typed : (θ : ℕ → Ty) → IsTypedInput θ d (map (instance_variable θ) V) (type_pairs_of b var types) (pairs_at b ps) (pairs_at b ds)
+
+-- the definition comes to an outcome, in some number of steps of each kind, of which this holds
+pub record ComesToOutcome (limit : ℕ) (b : Nodes) (types : List (TypeId × TypeId)) (ps ds : List Numbers) (next : ℕ) (P : (steps : ℕ) → Unified → Type 0) : Type 0 where
+  pub steps : ℕ
+  pub outcome : Unified
+  pub comes : run steps limit b types ps ds next ≡ Some outcome
+  pub is : P steps outcome
 
 -- nothing is bound
 abbrev pub unbound : Closing

@@ -15,7 +15,7 @@ ghost use Rattle.lp_pattern.specs.Reading.{type_pairs_of};
 ghost use Rattle.lp_pattern.specs.Solutions.{HasSolutions};
 ghost use Rattle.lp_pattern.specs.Turning.{IsOpenReading, AreKnownPairs, ArePairsFor};
 ghost use Rattle.lp_pattern.specs.Turns.{Began, LeadsTo};
-ghost use Rattle.lp_pattern.specs.Unifying.{pairs_at, run, Reads, IsSolutionUnder, IsSolution, IsRefusedAs};
+ghost use Rattle.lp_pattern.specs.Unifying.{pairs_at, run, ComesToOutcome, IsTypedRun, Reads, IsSolutionUnder, IsSolution, IsRefusedAs};
 
 use crate::bindings::Bindings;
 use crate::fault::PatternRefusal;
@@ -168,8 +168,8 @@ pub fn solve_under(
 }
 
 /// Unifies, with nothing bound at the start, where each variable has one level: what comes out is what the definition of unification makes of the input,
-/// wherever it comes to an outcome in any number of steps of each kind (`solved`, `refused`). Through the values found, typed pairs have the solutions of
-/// those that are left (`right`), and none where the call fails (`none`).
+/// wherever it comes to an outcome in any number of steps of each kind (`solved`, `refused`), and on typed input it comes to one (`typed`, `typed_refused`). Through
+/// the values found, typed pairs have the solutions of those that are left (`right`), and none where the call fails (`none`).
 pub fn solve(
     alloc: Global,
     bank: &mut Bank,
@@ -184,11 +184,15 @@ pub fn solve(
     ensures within { IfOk result (λ found. All (IsPairOf (length bank.new.terms)) found.residual.items) }
     ensures solved { IfOk result (λ found. (levels : ℕ → ℕ) → AreKnownPairs levels next.old (pairs_at bank.old pairs.now) → AreKnownPairs levels next.old (pairs_at bank.old delayed.now) →
         (n : ℕ) (u : Unified) → run n limit bank.old types.now pairs.now delayed.now next.old ≡ Some u → IsSolution levels next.old bank.new next.new found u) }
+    ensures typed { IfOk result (λ found. (d : Declared) (V : List TypedVariable) → IsTypedRun d V bank.old types.now pairs.now delayed.now next.old → (levels : ℕ → ℕ) → AreKnownPairs levels next.old (pairs_at bank.old pairs.now) → AreKnownPairs levels next.old (pairs_at bank.old delayed.now) →
+        ComesToOutcome limit bank.old types.now pairs.now delayed.now next.old (λ n u. IsSolution levels next.old bank.new next.new found u)) }
     ensures right { IfOk result (λ found. (d : Declared) (V : List TypedVariable) (θ : ℕ → Ty) → length V ≡ next.old → IsTypedInput θ d V (type_pairs_of bank.old var types.now) (pairs_at bank.old pairs.now) (pairs_at bank.old delayed.now) →
         (n : ℕ) (s : State) → run n limit bank.old types.now pairs.now delayed.now next.old ≡ Some (Solution s) → AreStuck n (pairs_at bank.old delayed.now) → Satisfies θ s.types →
         (z : Closing) × Reads bank.new found.bindings.items found.types.items z × HasSolutions n d V θ (pairs_at bank.old pairs.now) (pairs_at bank.old delayed.now) bank.new next.new found.residual.items z) }
     ensures none { IfErr result (λ e. e ≡ Fails → (d : Declared) (V : List TypedVariable) (c : Closing) → length V ≡ next.old → IsTypedInput c.types d V (type_pairs_of bank.old var types.now) (pairs_at bank.old pairs.now) (pairs_at bank.old delayed.now) →
         (n : ℕ) (u : Unified) → run n limit bank.old types.now pairs.now delayed.now next.old ≡ Some u → SolvesInput d V c (type_pairs_of bank.old var types.now) (pairs_at bank.old pairs.now) (pairs_at bank.old delayed.now) → ⊥) }
+    ensures typed_refused { IfErr result (λ e. (d : Declared) (V : List TypedVariable) → IsTypedRun d V bank.old types.now pairs.now delayed.now next.old → (levels : ℕ → ℕ) → AreKnownPairs levels next.old (pairs_at bank.old pairs.now) → AreKnownPairs levels next.old (pairs_at bank.old delayed.now) →
+        ComesToOutcome limit bank.old types.now pairs.now delayed.now next.old (IsRefusedAs e)) }
     ensures refused { IfErr result (λ e. (levels : ℕ → ℕ) → AreKnownPairs levels next.old (pairs_at bank.old pairs.now) → AreKnownPairs levels next.old (pairs_at bank.old delayed.now) →
         (n : ℕ) (u : Unified) → run n limit bank.old types.now pairs.now delayed.now next.old ≡ Some u → IsRefusedAs e n u) }
 {

@@ -33,3 +33,4 @@ pub mod PlainTerms
 pub mod FormulaReduced
 pub mod FormulaFlat
 pub mod FormulaRuns
+pub mod Renumbered

@@ -1,12 +1,14 @@
 -- Formulas of pattern text, as goals and as clauses: a `pi` in goal position binds a universal variable, one in clause position an existential one, a `sigma` in goal
 -- position an existential one, and each other abstraction a universal one.
-use Rattle.std.specs.Prelude.{◌≡◌, List, [], ◌∷◌}
+use Rattle.std.specs.Prelude.{◌≡◌, ℕ, ◌<◌, ◌≤◌, List, [], ◌∷◌}
 use Rattle.lp_calculus.specs.Types.{Ty}
-use Rattle.lp_calculus.specs.Term.{Term}
+use Rattle.lp_calculus.specs.Term.{Term, atom, logic}
 use Rattle.lp_calculus.specs.Closed.{AllAtoms}
 use Rattle.lp_calculus.specs.Normal.{IsFormOf}
+use Rattle.lp_standard.specs.Constants.{first_declared}
 use Rattle.lp_standard.specs.Connectives.{Connective, connective_of}
 use Rattle.lp_standard.specs.Connectives as connective
+use Rattle.lp_term.specs.Mapped.{Map}
 use Rattle.lp_model.specs.Answers.{Query}
 use Rattle.lp_model.specs.Flatten.{ClauseFormula}
 use Rattle.lp_pattern_laws.specs.Binders.{Binder, universal, existential, IsPatternIn}
@@ -50,3 +52,9 @@ IsPatternSentence D = (s : Term) × IsFormOf D.formula s × IsClauseText [] s
 
 abbrev pub IsPatternQuery : Query → Type 0
 IsPatternQuery q = (s : Term) × IsFormOf q.formula s × IsGoalText (existentials q.vars) s
+
+-- new numbers for the declared constants, and any for kinds
+pub record IsRenumbering (m : Map) : Type 0 where
+  pub standard : (c : ℕ) → c < first_declared → m.constants c ≡ c
+  pub declared : (c : ℕ) → first_declared ≤ c → first_declared ≤ m.constants c
+  pub terms : (x l : ℕ) → m.terms x l ≡ atom (logic x l)

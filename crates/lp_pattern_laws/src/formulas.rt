@@ -1,7 +1,10 @@
 //! Sentences and queries of pattern text, by their beta-eta normal forms.
 ghost use Rattle.std.specs.Prelude.{◌≡◌, ℕ, List, [], length, Some};
 ghost use Rattle.lp_lemmas.specs.Each.{EachOf};
+ghost use Rattle.lp_calculus.specs.Fill.{Within};
+ghost use Rattle.lp_calculus.specs.Types.{var};
 ghost use Rattle.lp_standard.specs.Schemes.{IsStandard};
+ghost use Rattle.lp_term.specs.Mapped.{Map, mapped};
 ghost use Rattle.lp_model.specs.Answers.{Query};
 ghost use Rattle.lp_model.specs.Branch.{Answer};
 ghost use Rattle.lp_model.specs.Flat.{Clause, clause_list, Clauses, Goals};
@@ -10,8 +13,8 @@ ghost use Rattle.lp_model.specs.Proofs.{AreFlattened, Declared};
 ghost use Rattle.lp_model.specs.Search.{look, start};
 ghost use Rattle.lp_model.specs.Skeleton.{run};
 ghost use Rattle.lp_model.specs.Unify.{unit_limit};
-ghost use Rattle.lp_search_laws.specs.Started.{IsTypedQuery, IsTypedSentence};
-ghost use Rattle.lp_pattern_laws.specs.Formulas.{IsPatternQuery, IsPatternSentence};
+ghost use Rattle.lp_search_laws.specs.Started.{IsQueryAtom, IsTypedQuery, IsTypedSentence};
+ghost use Rattle.lp_pattern_laws.specs.Formulas.{IsPatternQuery, IsPatternSentence, IsRenumbering};
 ghost use Rattle.lp_pattern_laws.specs.Goals.{AreTextGoals, IsTextClause};
 ghost use Rattle.lp_pattern_laws.specs.Parts.{existentials};
 
@@ -26,4 +29,11 @@ pub fn pattern_formulas_flatten_to_pattern_text()
 pub fn searches_of_pattern_text_leave_no_equation()
     ensures { (d : Declared) → IsStandard d → (l : ℕ) (F : List ClauseFormula) (P : List Clause) → EachOf (IsTypedSentence d) F → AreFlattened d F P → EachOf IsPatternSentence F → (q : Query) (gs : Goals) → IsTypedQuery d q → flatten_query l d q.formula ≡ Some gs → IsPatternQuery q →
         (n j m steps answers : ℕ) → EachOf (λ (a : Answer). a.pairs ≡ []) (run (look unit_limit n P) j m (start q.type_vars (length q.vars) gs steps answers)).answers }
+{}
+
+/// A sentence of pattern text stays one where its declared constants get other numbers, and its kinds any. And where type variables stay, it has no logic variable, no eigenconstant,
+/// no index and no type variable of others if it then has none.
+pub fn renumbered_pattern_text_stays_so()
+    ensures text { (m : Map) → IsRenumbering m → (D : ClauseFormula) → IsPatternSentence D → IsPatternSentence (record { type_vars = D.type_vars; formula = mapped m D.formula }) }
+    ensures within { (m : Map) → IsRenumbering m → ((x : ℕ) → m.types x ≡ var x) → (D : ClauseFormula) → Within (IsQueryAtom D.type_vars) 0 (mapped m D.formula) → Within (IsQueryAtom D.type_vars) 0 D.formula }
 {}

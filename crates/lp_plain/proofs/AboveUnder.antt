@@ -228,9 +228,6 @@ module _ (qv : Query) (m n : Machine) (a d : Around) (st : StandsIn m) (sn : Sta
       enough (suc k) (x ∷ xs) zero p q = omega arith
       enough (suc k) (x ∷ xs) (suc b) p q = let r = enough k xs b (omega (arith, p)) (omega (arith, q)) in omega (arith, r)
 
-  pub kept_numbers : (k : ℕ) → d.mark k ≡ k
-  kept_numbers k = ap (λ f. f k) lt.mark ∙ h.numbers k
-
   pub kept_all : AreAlternatives qv n (mark_in (base_of n.denied) (take (mark - base) h.raws)) (base_of n.denied) (base_of n.denied) (drop (base_of n.denied) n.choices.items) (take (mark - base) h.raws) (take (mark - base) h.others)
   kept_all =
       subst (λ b. AreAlternatives qv n (mark_in b (take (mark - base) h.raws)) b b (drop (base_of n.denied) n.choices.items) (take (mark - base) h.raws) (take (mark - base) h.others)) (sym same_base)

@@ -1,15 +1,15 @@
 -- An atomic goal that is known at run time: what the definition's look tells of it, and the turns that unify nothing.
-use Rattle.std.proofs.Common.{◌≡◌, ◌⊎◌, ℕ, zero, suc, ◌+◌, ◌-◌, ◌≤◌, ◌<◌, List, [], ◌∷◌, length, map, refl, sym, ap, inl, inr, ◌∙◌, subst, arith, Bool, false, Option, None, Some}
+use Rattle.std.proofs.Common.{◌≡◌, ◌⊎◌, ℕ, suc, ◌≤◌, List, [], ◌∷◌, length, map, refl, sym, ap, inl, inr, ◌∙◌, subst, arith, Bool, Option, None, Some}
 use Rattle.lp_calculus.specs.Fill.{Within}
 use Rattle.lp_calculus.specs.Types.{Ty, instance}
-use Rattle.lp_calculus.specs.Term.{Term, atom, abs, constant, eigen, logic}
+use Rattle.lp_calculus.specs.Term.{Term, atom, abs, constant, logic}
 use Rattle.lp_calculus.specs.Spine.{arguments, head_of}
 use Rattle.lp_standard.specs.Connectives.{connective_of}
 use Rattle.lp_standard.specs.Connectives as connective
 use Rattle.lp_term.specs.Nodes.{tree}
 use Rattle.lp_term.specs.declared.node.TermId.{TermId}
-use Rattle.lp_model.specs.Branch.{Answer, Branch, Entry, Go, Stop, Task}
-use Rattle.lp_model.specs.Flat.{Atomic, Clause}
+use Rattle.lp_model.specs.Branch.{Answer, Branch, Go, Stop, Task}
+use Rattle.lp_model.specs.Flat.{Clause}
 use Rattle.lp_model.specs.Look.{head_normal}
 use Rattle.lp_model.specs.Pair.{closed}
 use Rattle.lp_model.specs.Search.{look, look_atom, look_constant, look_form, look_normal, with_goals}
@@ -24,7 +24,7 @@ use Rattle.lp_plain.specs.declared.frame.Place.{Place}
 use Rattle.lp_plain.specs.declared.machine.Machine.{Machine}
 use Rattle.lp_plain.specs.declared.outcome.Turn.{Turn}
 use Rattle.lp_plain.specs.AtRunTime.{IsAtLooked, IsAtomForm, IsNoForm}
-use Rattle.lp_plain.specs.Entries.{Around, entry_at}
+use Rattle.lp_plain.specs.Entries.{Around}
 use Rattle.lp_plain.specs.Forms.{IsRelation, is_named}
 use Rattle.lp_plain.specs.Moving.{IsMoved, IsRunning, Leads, Query}
 use Rattle.lp_plain.specs.Trials.{IsCallHead}

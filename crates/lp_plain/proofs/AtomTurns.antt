@@ -1,5 +1,5 @@
 -- The turns of an equality, and of goals that no clause meets, once they took their step.
-use Rattle.std.proofs.Common.{◌≡◌, ℕ, suc, ◌+◌, ◌-◌, ◌<◌, ◌≤◌, List, [], ◌∷◌, ◌++◌, length, refl, sym, ap, inl, inr, ◌∙◌, subst, arith, Bool, Option, None, Some}
+use Rattle.std.proofs.Common.{◌≡◌, ℕ, suc, ◌+◌, ◌-◌, ◌<◌, ◌≤◌, List, [], ◌∷◌, ◌++◌, length, refl, sym, ap, inl, inr, ◌∙◌, subst, arith, Bool, Option, Some}
 use Rattle.lp_calculus.specs.Fill.{Within}
 use Rattle.lp_calculus.specs.Types.{var}
 use Rattle.lp_calculus.specs.Term.{Term, atom, logic}
@@ -13,7 +13,6 @@ use Rattle.lp_term.specs.declared.node.TermId.{TermId}
 use Rattle.lp_term.proofs.Trees.{extends_same}
 use Rattle.lp_model.specs.Branch.{Answer, Branch, Go, Stop, Task}
 use Rattle.lp_model.specs.Flat.{Clause}
-use Rattle.lp_model.specs.Look.{head_normal}
 use Rattle.lp_model.specs.Pair.{Closing, closed}
 use Rattle.lp_model.specs.Search.{equated, look, with_goals}
 use Rattle.lp_model.specs.Skeleton.{GoalName, Inner, State, Takes, named, variable}

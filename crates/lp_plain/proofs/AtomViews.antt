@@ -1,12 +1,11 @@
 -- What the definition's look at an atomic goal tells, by what the goal is.
-use Rattle.std.proofs.Common.{◌≡◌, ℕ, List, [], ◌∷◌, map, refl, sym, ap, ◌∙◌, subst, nat_eq, Bool, false, None}
-use Rattle.indexmap.specs.IndexMap.{get}
+use Rattle.std.proofs.Common.{◌≡◌, ℕ, List, [], ◌∷◌, map, refl, sym, ap, ◌∙◌, subst, false}
 use Rattle.lp_calculus.specs.Types.{Ty, instance}
-use Rattle.lp_calculus.specs.Term.{Term, Atom, index, atom, abs, app, constant, integer, text, eigen, logic, param}
+use Rattle.lp_calculus.specs.Term.{Term, index, atom, abs, app, constant, integer, text, eigen, logic, param}
 use Rattle.lp_calculus.specs.Spine.{arguments, head_of}
 use Rattle.lp_standard.specs.Connectives as connective
 use Rattle.lp_term.specs.Nodes.{Nodes}
-use Rattle.lp_model.specs.Branch.{Answer, Branch, Entry, Task}
+use Rattle.lp_model.specs.Branch.{Branch, Entry, Task}
 use Rattle.lp_model.specs.Flat.{Clause}
 use Rattle.lp_model.specs.Pair.{Closing, closed}
 use Rattle.lp_model.specs.Search.{look_atom, look_form}

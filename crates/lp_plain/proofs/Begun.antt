@@ -1,23 +1,20 @@
 -- A search that begins is in the first state of the definition's.
-use Rattle.std.proofs.Common.{◌≡◌, ◌∙◌, ℕ, ◌-◌, List, [], ◌∷◌, ◌++◌, map, length, None, refl, sym, ap, subst, arith}
+use Rattle.std.proofs.Common.{◌≡◌, ◌∙◌, ℕ, List, [], ◌∷◌, ◌++◌, map, length, None, refl, sym, ap, subst, arith}
 use Rattle.std.specs.Prelude.{◌<◌, All, nat_eq}
 use Rattle.std.specs.HashMap.{get}
 use Rattle.std.proofs.lemmas.List.{length-map}
-use Rattle.lp_calculus.specs.Closed.{AllAtoms}
 use Rattle.lp_calculus.specs.Spine.{head_of}
 use Rattle.lp_calculus.specs.Term.{Term, index, atom, abs, app, constant, integer, text, eigen, logic, param}
 use Rattle.lp_lemmas.specs.Each.{EachOf}
 use Rattle.lp_term.specs.Nodes.{Nodes, Extends, type_tree}
 use Rattle.lp_model.specs.Answers.{Query as Proved}
 use Rattle.lp_model.specs.Flat.{Clause, Clauses, Goals, clause, clause_list}
-use Rattle.lp_model.specs.Flatten.{ClauseFormula}
 use Rattle.lp_model.specs.Proofs.{AreFlattened, Declared}
 use Rattle.lp_model.specs.Readings.{formula_of}
 use Rattle.lp_model.specs.Search.{start}
 use Rattle.lp_model.specs.declared.program.ClauseFormula.{ClauseFormula as Coded}
 use Rattle.lp_model.specs.declared.program.Program.{Program}
 use Rattle.lp_model.specs.declared.program.Typed.{Typed}
-use Rattle.lp_search_laws.specs.Started.{IsTypedSentence}
 use Rattle.lp_search_laws.proofs.Begins.{program_typed}
 use Rattle.lp_plain.specs.declared.machine.Machine.{Machine}
 use Rattle.lp_plain.specs.declared.search.Search.{Search}

@@ -1,5 +1,5 @@
 -- The turn of a call: its step, and then its first candidate.
-use Rattle.std.proofs.Common.{◌≡◌, ◌⊎◌, ℕ, suc, ◌+◌, ◌-◌, ◌<◌, ◌≤◌, List, [], ◌∷◌, ◌++◌, map, length, refl, sym, ap, inl, inr, ◌∙◌, subst, arith, Bool, false, Option, Some, nat_eq}
+use Rattle.std.proofs.Common.{◌≡◌, ◌⊎◌, ℕ, suc, ◌<◌, ◌≤◌, List, [], ◌∷◌, ◌++◌, map, length, refl, sym, ap, inl, inr, ◌∙◌, subst, arith, Bool, false, Option, Some, nat_eq}
 use Rattle.std.specs.Prelude.{if◌then◌else◌, ◌&&◌, nat_le, true}
 use Rattle.std.proofs.lemmas.List.{length-map}
 use Rattle.std.proofs.lemmas.Bool.{ne_eqb}

@@ -1,5 +1,5 @@
 -- The goal of a call as the definition looks at it: its first argument is as it was looked at, or takes too many steps.
-use Rattle.std.proofs.Common.{◌≡◌, ◌⊎◌, ℕ, zero, suc, ◌<◌, ◌≤◌, List, [], ◌∷◌, map, refl, sym, ap, inl, inr, ◌∙◌, subst, arith, Option, Some, None}
+use Rattle.std.proofs.Common.{◌≡◌, ◌⊎◌, ℕ, zero, suc, ◌≤◌, List, [], ◌∷◌, map, refl, sym, ap, inl, inr, ◌∙◌, arith, Option, Some, None}
 use Rattle.std.specs.Prelude.{option_map}
 use Rattle.lp_calculus.specs.Convert.{steps}
 use Rattle.lp_calculus.specs.Term.{Term, apply}

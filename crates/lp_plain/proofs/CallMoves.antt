@@ -1,30 +1,20 @@
 -- A call whose step was taken is about to try its first candidate, as the definition is.
-use Rattle.std.proofs.Common.{◌≡◌, ◌⊎◌, ℕ, zero, suc, ◌+◌, ◌-◌, ◌<◌, ◌≤◌, List, [], ◌∷◌, ◌++◌, map, length, refl, sym, ap, inl, inr, ◌∙◌, subst, arith, Option, None, Some, nat_eq}
-use Rattle.std.specs.Prelude.{All, Bool, filter, option_map}
-use Rattle.std.specs.HashMap.{get}
+use Rattle.std.proofs.Common.{◌≡◌, ◌⊎◌, ℕ, zero, suc, ◌<◌, ◌≤◌, List, [], ◌∷◌, map, length, refl, sym, ap, inr, ◌∙◌, subst, Option, None, Some}
 use Rattle.lp_calculus.specs.Convert.{by_beta, here, option_term, steps}
 use Rattle.lp_calculus.specs.Fill.{Within}
 use Rattle.lp_calculus.specs.Spine.{arguments, arguments_and, head_of}
 use Rattle.lp_calculus.specs.Term.{Term, Atom, index, atom, abs, app, apply, substitute}
-use Rattle.lp_calculus.specs.Types.{instance}
 use Rattle.lp_calculus.proofs.Steps.{within_step}
-use Rattle.lp_lemmas.specs.Each.{EachOf}
 use Rattle.lp_term.specs.Nodes.{Nodes, Extends, tree}
 use Rattle.lp_term.specs.Spine.{IsNoApplication}
 use Rattle.lp_term.specs.declared.node.TermId.{TermId}
-use Rattle.lp_model.specs.Branch.{Answer, Branch, Entry, Lack, Task}
-use Rattle.lp_model.specs.Flat.{Clause, Clauses}
+use Rattle.lp_model.specs.Branch.{Branch, Entry, Task}
+use Rattle.lp_model.specs.Flat.{Clauses}
 use Rattle.lp_model.specs.Look.{weak_step}
 use Rattle.lp_model.specs.Pair.{Closing, closed}
-use Rattle.lp_model.specs.Search.{candidates, first_key, goal_looked, has_head, key_of, look, passes, tries}
-use Rattle.lp_model.specs.Skeleton.{Inner, State, View, Waits, move, move_at, move_view}
-use Rattle.lp_model.specs.Unify.{unit_limit}
-use Rattle.lp_pattern.specs.Growing.{Grows, IsPairOf}
+use Rattle.lp_model.specs.Search.{first_key, goal_looked, key_of}
 use Rattle.lp_pattern.specs.Putting.{Known}
-use Rattle.lp_pattern.specs.Turning.{IsOpenReading}
 use Rattle.lp_pattern.proofs.Keeps.{goes_on_same, grows_same}
-use Rattle.lp_pattern.proofs.Walking.{open_kept}
-use Rattle.lp_plain.specs.declared.candidates.Candidate.{Candidate}
 use Rattle.lp_plain.specs.declared.choice.Call.{Call}
 use Rattle.lp_plain.specs.declared.frame.Place.{Place}
 use Rattle.lp_plain.specs.declared.head.Head.{Head}
@@ -44,7 +34,7 @@ use Rattle.lp_plain.proofs.HeadLooks.{closed_apply, ended_key}
 use Rattle.lp_plain.proofs.Spines.{head_applied, spine_arguments, spine_head}
 use Rattle.lp_plain.proofs.TrialParts.{AllAre}
 use Rattle.lp_plain.proofs.Trials.{arguments_closed}
-use Rattle.lp_plain.proofs.AboveUnder.{pairs_more, still_all, still_done, still_turn}
+use Rattle.lp_plain.proofs.AboveUnder.{still_all, still_done, still_turn}
 use Rattle.lp_plain.proofs.Grown.{same_around}
 use Rattle.lp_plain.proofs.Growing.{reads_later}
 use Rattle.lp_plain.proofs.Inside.{inside_still}

@@ -1,17 +1,15 @@
 -- The clauses that are tried for a call, as the bindings read it: they are the ones that are tried for the goal as it stands.
-use Rattle.std.proofs.Common.{◌≡◌, ℕ, List, [], ◌∷◌, ◌++◌, map, length, cond, refl, sym, ap, ◌∙◌, Bool, true, false, nat_eq}
+use Rattle.std.proofs.Common.{◌≡◌, ℕ, List, [], ◌∷◌, ◌++◌, map, length, cond, refl, ap, ◌∙◌, Bool, true, false, nat_eq}
 use Rattle.std.specs.Prelude.{filter, ◌&&◌}
 use Rattle.std.proofs.lemmas.List.{length-map}
 use Rattle.lp_calculus.specs.Spine.{arguments, head_of}
 use Rattle.lp_calculus.specs.Term.{Term, index, atom, abs, app, constant, integer, text, eigen, logic, param}
 use Rattle.lp_calculus.specs.Types.{instance}
-use Rattle.lp_lemmas.specs.Each.{EachOf}
 use Rattle.lp_model.specs.Branch.{Branch, Entry, Task, Try}
 use Rattle.lp_model.specs.Flat.{Clause, clause}
 use Rattle.lp_model.specs.Pair.{Closing, closed}
 use Rattle.lp_model.specs.Same.{same_name}
 use Rattle.lp_model.specs.Search.{candidates, first_key, has_head, may_meet, passes}
-use Rattle.lp_plain.specs.declared.candidates.Candidate.{Candidate}
 use Rattle.lp_plain.specs.declared.candidates.Candidate.TheVariants as candidate
 use Rattle.lp_plain.specs.Assuming.{Lists}
 use Rattle.lp_plain.specs.Calling.{HaveHeads}

@@ -1,5 +1,5 @@
 -- A call behind its step: about to try its first candidate, or without one, or too deep.
-use Rattle.std.proofs.Common.{◌≡◌, ℕ, suc, ◌+◌, ◌-◌, List, [], ◌∷◌, ◌++◌, cond, map, length, refl, sym, ap, inl, inr, ◌∙◌, subst, arith, Option, None, Some, true, false}
+use Rattle.std.proofs.Common.{◌≡◌, ℕ, suc, List, [], ◌∷◌, ◌++◌, cond, map, length, refl, sym, ap, inl, inr, ◌∙◌, subst, arith, Option, None, Some, true, false}
 use Rattle.std.specs.Prelude.{Bool, filter}
 use Rattle.lp_calculus.specs.Fill.{Within}
 use Rattle.lp_calculus.specs.Spine.{head_of}

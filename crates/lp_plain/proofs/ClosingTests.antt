@@ -1,9 +1,8 @@
 -- The definition's test on what is written in a negated goal and in the clauses that are assumed around it, by what is known of each term and type.
-use Rattle.std.proofs.Common.{◌≡◌, ℕ, zero, suc, ◌<◌, ◌≤◌, List, [], ◌∷◌, ◌++◌, refl, sym, ap, inl, inr, ◌∙◌, arith, Bool, true, false, Option, None, Some}
+use Rattle.std.proofs.Common.{◌≡◌, ℕ, zero, suc, ◌<◌, ◌≤◌, List, [], ◌∷◌, refl, ap, inl, inr, ◌∙◌, arith, Bool, true, false, Option, None, Some}
 use Rattle.std.specs.Prelude.{◌⊎◌, ◌||◌, IsSome, option_map}
 use Rattle.std.specs.List.{list_any}
 use Rattle.lp_calculus.specs.Convert.{leftmost_step, steps}
-use Rattle.lp_calculus.specs.Normal.{nodes}
 use Rattle.lp_calculus.specs.Term.{Term}
 use Rattle.lp_calculus.specs.Types.{Ty}
 use Rattle.lp_lemmas.specs.Each.{AnyOf, EachOf}

@@ -1,8 +1,8 @@
 -- The search of a negated goal has begun: it stands for the definition's, and the search that waits for the tasks below.
-use Rattle.std.proofs.Common.{◌≡◌, ℕ, zero, suc, ◌+◌, ◌-◌, ◌<◌, ◌≤◌, List, [], ◌∷◌, ◌++◌, map, length, take, drop, refl, sym, ap, inl, inr, ◌∙◌, subst, arith, append-nil, false, Option, None, Some}
+use Rattle.std.proofs.Common.{◌≡◌, ℕ, zero, suc, ◌+◌, ◌-◌, ◌≤◌, List, [], ◌∷◌, ◌++◌, map, length, take, drop, refl, sym, ap, ◌∙◌, subst, arith, append-nil, Option}
 use Rattle.std.specs.Prelude.{All, slice_get}
-use Rattle.std.proofs.lemmas.List.{length-append, take-append-le, take_all}
-use Rattle.std.proofs.lemmas.List.Elements.{All-nil, All-cons}
+use Rattle.std.proofs.lemmas.List.{length-append, take_all}
+use Rattle.std.proofs.lemmas.List.Elements.{All-nil}
 use Rattle.lp_lemmas.proofs.Lists.{get_push}
 use Rattle.lp_calculus.specs.Fill.{Within}
 use Rattle.lp_calculus.specs.Term.{Term}
@@ -10,10 +10,10 @@ use Rattle.lp_calculus.specs.Types.{instance}
 use Rattle.lp_term.specs.Nodes.{Extends, Nodes}
 use Rattle.lp_term.proofs.Trees.{extends_same}
 use Rattle.lp_model.specs.Branch.{Branch, Entry, Go, Task, entries}
-use Rattle.lp_model.specs.Flat.{Clause, Goal, Goals, Not, Written, goal_list, map_goals}
-use Rattle.lp_model.specs.Pair.{Closing, Pair, closed}
+use Rattle.lp_model.specs.Flat.{Goals, Not, Written, goal_list, map_goals}
+use Rattle.lp_model.specs.Pair.{Closing, closed}
 use Rattle.lp_model.specs.Search.{with_goals}
-use Rattle.lp_model.specs.Skeleton.{State, row_limit, starts_within}
+use Rattle.lp_model.specs.Skeleton.{State, starts_within}
 use Rattle.lp_model.specs.declared.answer.Pair.{Pair as Numbers}
 use Rattle.lp_pattern.specs.Growing.{Grows, IsPairOf}
 use Rattle.lp_pattern.specs.Putting.{Known}
@@ -26,12 +26,12 @@ use Rattle.lp_plain.specs.declared.choice.Denial.{Denial}
 use Rattle.lp_plain.specs.declared.choice.Untried.{Untried}
 use Rattle.lp_plain.specs.declared.frame.Place.{Place}
 use Rattle.lp_plain.specs.declared.machine.Machine.{Machine}
-use Rattle.lp_plain.specs.Assuming.{ArePlaced, GrowsAt, GrowsOn, IsLaterAround, IsPlaceAt, KeepsAssumed, NamesAsIn, lists_of}
+use Rattle.lp_plain.specs.Assuming.{ArePlaced, GrowsAt, GrowsOn, IsLaterAround, IsPlaceAt, KeepsAssumed, lists_of}
 use Rattle.lp_plain.specs.Denials.{IsBegun, inner_query, waits_at}
 use Rattle.lp_plain.specs.Entries.{Around, IsChoiceAt, IsOf, KeepsGoals, Reads, entry_at, in_scope, placed}
 use Rattle.lp_plain.specs.Moving.{AreAlternatives, AreBoundInTurn, AreEntriesUnder, AreOuter, AreThoseOf, HasAlternatives, IsAlternative, IsBranchUnder, IsInside, IsOuter, IsRunning, IsState, Query, Waiting, mark_in, of_side, outer_choices, way_back}
 use Rattle.lp_plain.specs.Negations.{denial}
-use Rattle.lp_plain.specs.Resuming.{AllOfAssumed, AllOfEntries, AllOfGoal, AllOfGoals, AllTerms, AreKnownEntries, goal_with}
+use Rattle.lp_plain.specs.Resuming.{AllOfEntries, AreKnownEntries, goal_with}
 use Rattle.lp_plain.specs.Searching.{AreNested, StandForAll, a_side}
 use Rattle.lp_plain.specs.Stacks.{base_of, stack_of}
 use Rattle.lp_plain.specs.Taking.{IsAbove, IsKept}
@@ -41,7 +41,7 @@ use Rattle.lp_plain.proofs.Alternatives.{all_stand_on}
 use Rattle.lp_plain.proofs.CutMoves.{IsSplit}
 use Rattle.lp_plain.proofs.Elsewhere.{all_else, alternatives_else}
 use Rattle.lp_plain.proofs.Frames.{kept_choice}
-use Rattle.lp_plain.proofs.Grown.{alternative_above, alternative_kept, grown_frame, grown_by, grown_on, placed_on, same_around}
+use Rattle.lp_plain.proofs.Grown.{alternative_kept, grown_frame, grown_by, grown_on, placed_on, same_around}
 use Rattle.lp_plain.proofs.Inside.{all_carried, inside_more}
 use Rattle.lp_plain.proofs.KnownGoals.{goals_in_list}
 use Rattle.lp_plain.proofs.KnownUnder.{entries_all}

@@ -1,5 +1,5 @@
 -- Which goals of the table, and of a frame, are negated ones.
-use Rattle.std.proofs.Common.{◌≡◌, ℕ, Bool, List, [], ◌∷◌, ◌++◌, refl, sym, ap, ◌∙◌, subst, Option, None, Some}
+use Rattle.std.proofs.Common.{◌≡◌, ℕ, Bool, List, ◌++◌, sym, ap, ◌∙◌, subst, Option, None, Some}
 use Rattle.std.specs.Prelude.{slice_get}
 use Rattle.lp_calculus.specs.Term.{Term}
 use Rattle.lp_plain.specs.declared.types.Renewal.{Renewal}

@@ -1,5 +1,5 @@
 -- The turns of a negated goal and of its search, followed to the event that is told next.
-use Rattle.std.proofs.Common.{◌≡◌, ℕ, zero, suc, ◌<◌, List, [], ◌∷◌, length, refl, sym, ap, inl, inr, ◌∙◌, subst, Bool, true, false}
+use Rattle.std.proofs.Common.{◌≡◌, ℕ, zero, suc, List, [], ◌∷◌, length, refl, ap, inl, inr, ◌∙◌, subst, Bool, true, false}
 use Rattle.lp_model.specs.Branch.{Answer, Go, Task}
 use Rattle.lp_model.specs.Flat.{Clause}
 use Rattle.lp_model.specs.Search.{has_no_pairs, look}
@@ -16,7 +16,7 @@ use Rattle.lp_plain.specs.Moving.{IsState, IsWaiting, Leads, Query, Waiting}
 use Rattle.lp_plain.specs.Reached.{HasSmallGoal, at_once}
 use Rattle.lp_plain.specs.Searching.{last_ending}
 use Rattle.lp_plain.specs.Turns.{IsGoalTurn, IsNoEnd}
-use Rattle.lp_plain.specs.inner.Following.{AreFewOn, Comes, Course, IsInQuery, IsOfQuery, Stands, seen_in}
+use Rattle.lp_plain.specs.inner.Following.{Comes, Course, IsInQuery, IsOfQuery, Stands, seen_in}
 use Rattle.lp_plain.proofs.Denying.{begins_inside, is_cut, is_held, is_open, is_refuted}
 use Rattle.lp_plain.proofs.Following.{kept_of, leads_stands, wanted}
 use Rattle.lp_plain.proofs.QuietMoves.{by_lost}

@@ -1,6 +1,5 @@
 -- A negated goal in front: its search begins where the definition's does, and the search ends where the definition's ends at the test.
 use Rattle.std.proofs.Common.{◌≡◌, ℕ, zero, suc, ◌+◌, ◌-◌, ◌<◌, ◌≤◌, List, [], ◌∷◌, length, refl, sym, ap, inl, inr, ◌∙◌, subst, arith, Bool, true, false, Option, None, Some}
-use Rattle.lp_calculus.specs.Term.{Term}
 use Rattle.lp_calculus.specs.Types.{instance}
 use Rattle.lp_lemmas.specs.Each.{EachOf}
 use Rattle.lp_term.specs.Nodes.{Nodes, Extends}
@@ -8,7 +7,7 @@ use Rattle.lp_model.specs.Branch.{Answer, Branch, Entry, Go, Stop, Task, both_wr
 use Rattle.lp_model.specs.Flat.{Clause, Goal, Atomic, Cut, Either, Exists, Forall, Assume, Not, Goals, Written, collect_goals, goal_list, map_goals, map_written, written_in_goals}
 use Rattle.lp_model.specs.Pair.{closed}
 use Rattle.lp_model.specs.Search.{has_no_pairs, has_variables, look, look_branch, look_goal, look_not, with_goals}
-use Rattle.lp_model.specs.Skeleton.{Denies, Inner, Lacks, State, Takes, View, move, move_at, move_view, named, not_constant, row_limit}
+use Rattle.lp_model.specs.Skeleton.{Denies, Inner, State, move, move_at, move_view, named, not_constant}
 use Rattle.lp_model.specs.Unify.{unit_limit}
 use Rattle.lp_model.specs.declared.ending.Ending.TheVariants.{Deep, OpenNot, Steps}
 use Rattle.lp_pattern.proofs.Walking.{open_kept}
@@ -16,16 +15,15 @@ use Rattle.lp_plain.specs.declared.frame.Place.{Place}
 use Rattle.lp_plain.specs.declared.machine.Machine.{Machine}
 use Rattle.lp_plain.specs.declared.openness.Openness.{Openness}
 use Rattle.lp_plain.specs.declared.openness.Openness.TheVariants as found
-use Rattle.lp_plain.specs.declared.openness.Standing.{Standing}
 use Rattle.lp_plain.specs.declared.outcome.Turn.{Turn}
 use Rattle.lp_plain.specs.declared.table.Flat.{Flat}
 use Rattle.lp_plain.specs.AtRunTime.{IsSmallExpression}
 use Rattle.lp_plain.specs.Assuming.{ArePlaced, GrowsAt, IsPlaceAt, lists_of, written_at}
 use Rattle.lp_plain.specs.Cuts.{one_step}
-use Rattle.lp_plain.specs.Denials.{AreFewDenied, EndsDenied, IsBegun, IsDenying, IsSeenAs}
+use Rattle.lp_plain.specs.Denials.{EndsDenied, IsBegun, IsDenying, IsSeenAs}
 use Rattle.lp_plain.specs.Reached.{HasSmallFirst, IsSmallGoal}
-use Rattle.lp_plain.specs.Entries.{Around, Reads, entry_at, in_scope}
-use Rattle.lp_plain.specs.Moving.{AreEntriesUnder, HasAlternatives, IsAtGoal, IsGoalUnder, IsRunning, IsWaiting, Leads, Query, mark_in}
+use Rattle.lp_plain.specs.Entries.{Around, entry_at, in_scope}
+use Rattle.lp_plain.specs.Moving.{AreEntriesUnder, HasAlternatives, IsAtGoal, IsRunning, IsWaiting, Leads, Query, mark_in}
 use Rattle.lp_plain.specs.Negations.{AreFound}
 use Rattle.lp_plain.specs.Stacks.{base_of}
 use Rattle.lp_plain.specs.Tables.{IsGoal, IsListOf, IsNumbered, Never, shown}
@@ -35,11 +33,11 @@ use Rattle.lp_plain.proofs.AboveUnder.{pairs_more, still_all, still_done, still_
 use Rattle.lp_plain.proofs.Assumed.{place_on}
 use Rattle.lp_plain.proofs.ClosingTests.{IsGiven, IsTested, closed_given, deep_given, open_given}
 use Rattle.lp_plain.proofs.CutMoves.{IsSplit, split_under}
-use Rattle.lp_plain.proofs.DenyBegins.{begins, begun}
+use Rattle.lp_plain.proofs.DenyBegins.{begun}
 use Rattle.lp_plain.proofs.Growing.{of_later, reads_later}
 use Rattle.lp_plain.proofs.Grown.{grown_on, grown_still, placed_on, same_around}
 use Rattle.lp_plain.proofs.Inside.{inside_still}
-use Rattle.lp_plain.proofs.OpenTests.{read, standing_tested}
+use Rattle.lp_plain.proofs.OpenTests.{standing_tested}
 use Rattle.lp_plain.proofs.Opening.{bank_grows, bank_stands}
 use Rattle.lp_plain.proofs.QuietMoves.{by_lost}
 use Rattle.lp_plain.proofs.TaskMoves.{stops}

@@ -1,12 +1,12 @@
 -- A negated goal whose search begins: what comes of its search, and then of the one that waits for it, is what came of that.
-use Rattle.std.proofs.Common.{◌≡◌, ℕ, zero, suc, ◌+◌, ◌-◌, ◌≤◌, List, [], ◌∷◌, ◌++◌, length, refl, sym, ap, ◌∙◌, subst, arith, Option, Some, None, Bool, true, false}
+use Rattle.std.proofs.Common.{◌≡◌, ℕ, zero, suc, ◌-◌, List, [], ◌∷◌, ◌++◌, length, refl, sym, ap, ◌∙◌, subst, arith, Some, true, false}
 use Rattle.std.specs.Prelude.{if◌then◌else◌}
 use Rattle.lp_model.specs.declared.ending.Ending.{Ending}
 use Rattle.lp_model.specs.declared.ending.Ending.TheVariants.{NoMore, NoMoreCut, OpenNot}
 use Rattle.lp_model.specs.Branch.{Answer, Branch, Go, Task}
-use Rattle.lp_model.specs.Events.{Advances, Event, Over, first, first_after}
+use Rattle.lp_model.specs.Events.{Over, first, first_after}
 use Rattle.lp_model.specs.Search.{has_no_pairs}
-use Rattle.lp_model.specs.Skeleton.{Broke, Breaks, Denies, GoalNote, Goes, Held, Inner, Lasts, Move, Note, Refuted, State, Stops, Tells, View, Waits, back, inner, inner_after, later, move, move_at, move_denied, move_view, named, not_constant, row_limit, starts_within}
+use Rattle.lp_model.specs.Skeleton.{Broke, Breaks, Denies, GoalNote, Goes, Held, Inner, Lasts, Move, Note, Refuted, State, Stops, Tells, View, Waits, back, inner, inner_after, move, move_at, move_denied, move_view, named, not_constant, row_limit, starts_within}
 use Rattle.lp_lemmas.specs.Each.{EachOf}
 use Rattle.lp_search_laws.specs.Branches.{no_query}
 use Rattle.lp_plain.specs.Moving.{Waiting}

@@ -1,17 +1,14 @@
 -- The steps of an evaluation.
-use Rattle.std.proofs.Common.{◌≡◌, ℕ, zero, suc, ◌+◌, ◌<◌, ◌≤◌, List, [], ◌∷◌, ◌++◌, length, reverse, refl, sym, ap, ◌∙◌, subst, arith, true, Option, Some, None}
-use Rattle.std.specs.Prelude.{IsSome}
+use Rattle.std.proofs.Common.{◌≡◌, ℕ, suc, ◌+◌, ◌<◌, ◌≤◌, List, [], ◌∷◌, ◌++◌, length, reverse, refl, sym, ap, ◌∙◌, subst, arith, true, Option, Some, None}
 use Rattle.lp_lemmas.proofs.Lists.{reverse_pushed}
-use Rattle.lp_calculus.specs.Convert.{steps}
 use Rattle.lp_calculus.specs.Normal.{eta_normal, nodes}
-use Rattle.lp_calculus.specs.Types.{Ty, instance}
-use Rattle.lp_calculus.specs.Term.{Term, index, atom, abs, app, apply, constant, integer, text}
+use Rattle.lp_calculus.specs.Types.{Ty}
+use Rattle.lp_calculus.specs.Term.{Term, index, atom, abs, app, constant, integer, text}
 use Rattle.lp_standard.specs.Constants.{number}
 use Rattle.lp_standard.specs.declared.constant.Constant.{Constant}
 use Rattle.lp_term.specs.Nodes.{Extends, Nodes, tree}
 use Rattle.lp_term.specs.declared.node.TermId.{TermId}
 use Rattle.lp_model.specs.Eigens.{beta_normal}
-use Rattle.lp_model.specs.Look.{weak_step}
 use Rattle.lp_model.specs.Pair.{Closing, closed}
 use Rattle.lp_model.specs.Values as model
 use Rattle.lp_model.specs.Values.{Bytes, Faults, Is, Number, binary, both, single, unary}

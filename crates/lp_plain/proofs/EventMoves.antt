@@ -1,5 +1,5 @@
 -- The ends of a search: no answer is wanted, and a search that is over stays so.
-use Rattle.std.proofs.Common.{◌≡◌, ◌⊎◌, ℕ, zero, suc, ◌≤◌, List, [], ◌∷◌, refl, sym, ap, inl, inr, ◌∙◌, subst, arith, Option, Some, None}
+use Rattle.std.proofs.Common.{◌≡◌, ◌⊎◌, ℕ, zero, suc, ◌≤◌, List, refl, sym, ap, inl, inr, ◌∙◌, subst, arith, Option, Some}
 use Rattle.std.specs.Prelude.{Bool}
 use Rattle.lp_model.specs.declared.ending.Ending.{Ending}
 use Rattle.lp_model.specs.declared.ending.Ending.TheVariants.{Enough}

@@ -153,8 +153,5 @@ pub no_entries : (m : Machine) (a : Around) (o : Option ℕ) (es : List Entry) �
 no_entries m a o es e (no_frame q z) h = subst IsApartFirst z h
 no_entries m a o es e (a_frame i g gs rest q x k r z) h = absurd (cc)
 
-pub no_branch_taken : (m n : Machine) → m.branch.goals ≡ None → TakesBranch m n
-no_branch_taken m n e a b st pl w af u k height P = absurd (no_entries m a m.branch.goals b.goals e w.goals af)
-
 pub term_taken : (m n : Machine) (number : ℕ) (f : Frame) (u : TermId) → m.branch.goals ≡ Some number → slice_get m.frames.items number ≡ Some f → f.todo ≡ Todo.Term u → TakesBranch m n
 term_taken m n number f u g got t a b st pl w af v k height P = absurd (term_first m a number f got u b.goals t (subst (λ o. Reads m a o b.goals) g w.goals) af)

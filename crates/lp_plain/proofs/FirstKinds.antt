@@ -1,10 +1,7 @@
 -- The kinds of the first goal.
-use Rattle.std.proofs.Common.{◌≡◌, ℕ, List, [], ◌∷◌, length, refl, subst, sym}
-use Rattle.lp_lemmas.specs.Each.{EachOf}
-use Rattle.lp_model.specs.Branch.{Entry, Task}
+use Rattle.std.proofs.Common.{◌≡◌, ℕ, List, [], ◌∷◌, refl, subst, sym}
+use Rattle.lp_model.specs.Branch.{Entry}
 use Rattle.lp_model.specs.Flat.{Atomic, Assume, Cut, Either, Exists, Forall, Goal, Not}
-use Rattle.lp_model.specs.Pair.{Closing}
-use Rattle.lp_model.specs.Skeleton.{State}
 use Rattle.lp_term.specs.declared.node.TermId.{TermId}
 use Rattle.lp_plain.specs.declared.machine.Counts.{Counts}
 use Rattle.lp_plain.specs.declared.machine.Machine.{Machine}
@@ -14,8 +11,7 @@ use Rattle.lp_plain.specs.Apart.{IsApart}
 use Rattle.lp_plain.specs.AtRunTime.{IsAtom, IsAtomFirst}
 use Rattle.lp_plain.specs.Calling.{WrittenBehind}
 use Rattle.lp_plain.specs.Denials.{IsDeniedFirst, IsDeniedGoal}
-use Rattle.lp_plain.specs.Moving.{AreEntriesUnder, IsGoalUnder, IsPlain, IsPlainFirst, IsState, Query, mark_in}
-use Rattle.lp_plain.specs.Stacks.{base_of}
+use Rattle.lp_plain.specs.Moving.{IsPlain, IsPlainFirst}
 use Rattle.lp_plain.specs.Taking.{IsApartFlat}
 use Rattle.lp_plain.specs.WrittenSearch.{IsWrittenSearch}
 

@@ -1,21 +1,17 @@
 -- A turn that is some moves of the definition: what is told next comes of the state behind it.
-use Rattle.std.proofs.Common.{◌≡◌, ◌⊎◌, ℕ, zero, suc, ◌+◌, ◌-◌, ◌≤◌, List, [], ◌∷◌, length, refl, sym, ap, inl, inr, ◌∙◌, subst, arith, Option, Some}
-use Rattle.std.specs.Prelude.{Bool, true, false, drop}
+use Rattle.std.proofs.Common.{◌≡◌, ◌⊎◌, ℕ, zero, suc, ◌+◌, ◌-◌, ◌≤◌, List, [], ◌∷◌, refl, sym, ap, inl, inr, ◌∙◌, subst, arith, Option, Some}
+use Rattle.std.specs.Prelude.{Bool}
 use Rattle.lp_model.specs.declared.ending.Ending.{Ending}
 use Rattle.lp_model.specs.declared.ending.Ending.TheVariants.{NoMore, NoMoreCut, Enough, Steps, Flexible, Arithmetic, OpenNot, Deep}
 use Rattle.lp_model.specs.Branch.{Answer, Go, Task}
 use Rattle.lp_model.specs.Events.{Event, Gave, Over, first, first_after}
-use Rattle.lp_lemmas.specs.Each.{EachOf}
-use Rattle.lp_lemmas.proofs.Each.{each_append, each_drop}
 use Rattle.lp_model.specs.Answers.{Query as Proved}
 use Rattle.lp_model.specs.Flat.{Clause}
 use Rattle.lp_model.specs.Proofs.{Declared}
 use Rattle.lp_model.specs.Search.{has_no_pairs, look}
-use Rattle.lp_model.specs.Skeleton.{Broke, Breaks, Cuts, Denies, Gives, Goes, Halts, Held, Inner, Lacks, Lasts, Move, Note, Opens, Parts, Refuted, State, Stops, Takes, Tells, View, Waits, inner, inner_after, inner_end, later, move, move_at, move_view}
+use Rattle.lp_model.specs.Skeleton.{Broke, Breaks, Goes, Held, Inner, Lasts, Move, Note, Refuted, State, Stops, Tells, View, Waits, inner, inner_after, inner_end, later, move}
 use Rattle.lp_model.specs.Unify.{unit_limit}
-use Rattle.lp_search_laws.specs.Unnegated.{IsUnnegatedClause}
 use Rattle.lp_search_laws.proofs.Stack.Inners.{IsMade, move_more}
-use Rattle.lp_search_laws.proofs.Unnegated.{IsUnnegatedTask, IsUnnegatedView, unnegated_look}
 use Rattle.lp_plain.specs.declared.machine.Machine.{Machine}
 use Rattle.lp_plain.specs.declared.outcome.Turn.{Turn}
 use Rattle.lp_plain.specs.Between.{HasClauses}

@@ -1,6 +1,6 @@
 -- The first argument of a call is in the bank.
 use Rattle.std.proofs.Common.{◌≡◌, ℕ, ◌<◌, List, [], ◌∷◌, length, refl, sym, ap, ◌∙◌, subst, Option, None, Some}
-use Rattle.std.specs.Prelude.{All, slice_get}
+use Rattle.std.specs.Prelude.{slice_get}
 use Rattle.lp_standard.specs.Constants.{numbered}
 use Rattle.lp_standard.specs.declared.constant.Constant.{Constant}
 use Rattle.lp_standard.specs.declared.constant.Constant.TheVariants as fixed
@@ -9,7 +9,6 @@ use Rattle.lp_term.specs.Within.{AreTermsOf}
 use Rattle.lp_term.specs.declared.node.TermId.{TermId}
 use Rattle.lp_plain.specs.declared.form.Form.{Form}
 use Rattle.lp_plain.specs.declared.form.Form.TheVariants as form
-use Rattle.lp_plain.specs.declared.head.Head.{Head}
 use Rattle.lp_plain.specs.declared.head.Head.TheVariants as head
 use Rattle.lp_plain.specs.Calling.{IsFirstIn}
 use Rattle.lp_plain.specs.Forms.{by_constant, by_numbered, or_call, relation_by}

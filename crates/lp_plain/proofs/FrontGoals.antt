@@ -1,5 +1,5 @@
 -- The goal in front, where it is known at run time, as the bindings read it.
-use Rattle.std.proofs.Common.{◌≡◌, ℕ, suc, List, [], ◌∷◌, length, refl, sym, ap, ◌∙◌, subst, Bool, Option, None}
+use Rattle.std.proofs.Common.{◌≡◌, ℕ, suc, List, [], ◌∷◌, length, ap, ◌∙◌, subst, Bool, None}
 use Rattle.lp_calculus.specs.Fill.{Within}
 use Rattle.lp_calculus.specs.Term.{Term}
 use Rattle.lp_model.specs.Branch.{Answer, Branch, Entry, Go, Task}
@@ -7,7 +7,7 @@ use Rattle.lp_model.specs.Flat.{Atomic, Clause}
 use Rattle.lp_model.specs.Look.{head_normal}
 use Rattle.lp_model.specs.Pair.{closed}
 use Rattle.lp_model.specs.Search.{look, look_branch, look_goal, look_normal, with_goals}
-use Rattle.lp_model.specs.Skeleton.{Inner, Lacks, State, move, move_at, move_view}
+use Rattle.lp_model.specs.Skeleton.{Inner, State, move, move_at, move_view}
 use Rattle.lp_model.specs.Unify.{unit_limit}
 use Rattle.lp_pattern.specs.Putting.{Known}
 use Rattle.lp_plain.specs.declared.frame.Place.{Place}

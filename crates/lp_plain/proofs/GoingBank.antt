@@ -1,7 +1,6 @@
 -- A search behind a step, where only the bank has grown since.
 use Rattle.std.proofs.Common.{◌≡◌, ◌∷◌, length, sym, ap, ◌∙◌, subst, List}
 use Rattle.std.specs.Prelude.{All}
-use Rattle.lp_term.specs.declared.node.TermId.{TermId}
 use Rattle.lp_term.proofs.Trees.{extends-trans}
 use Rattle.lp_model.specs.Branch.{Branch, Go, Task}
 use Rattle.lp_model.specs.Skeleton.{State}

@@ -1,22 +1,18 @@
 -- A look at a head: where it ends at once, and what it is for the definition.
-use Rattle.std.proofs.Common.{◌≡◌, ℕ, ◌<◌, List, [], ◌∷◌, map, refl, sym, ap, ◌∙◌, subst, arith, Some, None}
-use Rattle.std.specs.Prelude.{option_map}
+use Rattle.std.proofs.Common.{◌≡◌, ℕ, List, [], ◌∷◌, map, refl, sym, ap, ◌∙◌, subst, Some, None}
 use Rattle.lp_calculus.specs.Convert.{option_term}
 use Rattle.lp_calculus.specs.Term.{Term, index, atom, abs, app, apply, constant, integer, text, eigen, logic, param}
 use Rattle.lp_calculus.specs.Spine.{arguments, head_of}
 use Rattle.lp_term.specs.Nodes.{Nodes, tree}
-use Rattle.lp_term.specs.declared.node.TermId.{TermId}
-use Rattle.lp_model.specs.Look.{top_normal, weak_step}
+use Rattle.lp_model.specs.Look.{weak_step}
 use Rattle.lp_model.specs.Pair.{Closing, closed}
 use Rattle.lp_model.specs.Search.{first_looked, goal_looked, key_of}
 use Rattle.lp_pattern.specs.Seen.{IsEnded, IsEndedHead}
 use Rattle.lp_pattern.specs.Turning.{IsOpenReading}
 use Rattle.lp_pattern.specs.Under.{ValueIs}
 use Rattle.lp_pattern.specs.declared.bindings.Bindings.{Bindings}
-use Rattle.lp_pattern.proofs.TopScans.{top_reached}
 use Rattle.lp_plain.specs.declared.choice.Call.{Call}
 use Rattle.lp_plain.specs.declared.machine.Machine.{Machine}
-use Rattle.lp_plain.specs.HeadLooks.{LooksAt}
 use Rattle.lp_plain.specs.Trials.{IsCallHead, goal_of, term_at, with_first_term}
 use Rattle.lp_plain.proofs.Trials.{arguments_closed}
 
@@ -77,13 +73,6 @@ module _ (b : Nodes) (s : Bindings) (next : ℕ) (z : Closing) (y : IsOpenReadin
   ended_key (abs c) e = refl
   ended_key (app t u) e = head_key t e
 
--- what was looked at is what the definition's look at the top comes to
-pub looked_top : (m n : Machine) (t u : TermId) (z : Closing) → LooksAt m n t (Some u) → IsOpenReading m.bank m.bindings m.branch.next z → (k : ℕ) →
-    1000000 < k → top_normal k (closed z (tree m.bank t.0)) ≡ Some (closed z (tree n.bank u.0))
-looked_top m n t u z h y k l =
-    let r = h.2 z y.reading in
-    top_reached r.0 k (closed z (tree m.bank t.0)) (closed z (tree n.bank u.0)) (let q = r.1 in omega (arith, l, q)) r.2 (ended_stays m.bank m.bindings m.branch.next z y (tree n.bank u.0) h.1)
-
 pub closed_apply : (z : Closing) (ts : List Term) (h : Term) → closed z (apply h ts) ≡ apply (closed z h) (map (closed z) ts)
 closed_apply z [] h = refl
 closed_apply z (t ∷ ts) h = closed_apply z ts (app h t)
@@ -105,13 +94,3 @@ module _ (m n : Machine) (call : Call) (z : Closing) (k : ℕ) (goal : Term) (sa
   alone_looked none empty =
       let made : goal_of n call ≡ head_of goal = (λ i. apply (head_of (same' i)) (with_first_term (term_at n.bank (none i)) (arguments (same' i)))) ∙ ap (apply (head_of goal)) empty in
       (λ i. first_looked k (head_closes z goal head i) ((arguments_closed z goal [] head ∙ ap (map (closed z)) empty) i)) ∙ ap (λ t. Some (closed z t)) (sym made)
-
-  pub first_looked_at : (a u : TermId) (more : List Term) → call.first ≡ Some u → arguments goal ≡ tree m.bank a.0 ∷ more → LooksAt m n a (Some u) →
-      IsOpenReading m.bank m.bindings m.branch.next z → 1000000 < k →
-      goal_looked k (closed z goal) ≡ Some (closed z (goal_of n call))
-  first_looked_at a u more first given looks y l =
-      let made : goal_of n call ≡ apply (head_of goal) (tree n.bank u.0 ∷ more) =
-      (λ i. apply (head_of (same' i)) (with_first_term (term_at n.bank (first i)) (arguments (same' i)))) ∙ ap (λ ts. apply (head_of goal) (with_first_term (Some (tree n.bank u.0)) ts)) given in
-      (λ i. first_looked k (head_closes z goal head i) ((arguments_closed z goal [] head ∙ ap (map (closed z)) given) i)) ∙
-      ap (option_map (λ s. apply (closed z (head_of goal)) (s ∷ map (closed z) more))) (looked_top m n a u z looks y k l) ∙
-      ap (λ t. Some t) (sym (closed_apply z (tree n.bank u.0 ∷ more) (head_of goal)) ∙ ap (closed z) (sym made))

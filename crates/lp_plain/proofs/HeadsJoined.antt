@@ -8,7 +8,6 @@ use Rattle.lp_model.specs.Index.{instantiate}
 use Rattle.lp_model.specs.Pair.{Pair}
 use Rattle.lp_model.specs.Search.{are_absent, is_new, slot_of, slots_of, slotted, Slot, pairs_of}
 use Rattle.lp_term.specs.Nodes.{Nodes}
-use Rattle.lp_term.specs.Spine.{LooseBelow}
 use Rattle.lp_term.specs.declared.node.TermId.{TermId}
 use Rattle.lp_plain.specs.Heads.{trees_of, IsDone, is_index, is_first, slot_place, pair_places, slot_term, pairs_at, HasBecome, HaveBecome}
 
@@ -177,7 +176,3 @@ pub are_paired : (b : Nodes) (n place : ℕ) (args : List TermId) (seen : List B
     (hs ts : List Term) (σ : ℕ → Term) (level : ℕ) → HaveBecome n (trees_of b args) hs → pairs_of σ level [] hs ts ≡ pairs_at σ level hs ts pairs
 are_paired b n place args seen slots pairs l D hs ts σ level h =
     pairs_joined n level 0 σ [] [] (trees_of b args) hs [] [] ts tt h refl refl ∙ ap (pairs_at σ level hs ts) (sym (all_taken b n place args seen slots pairs l D).pairs_are)
-
--- a clause without variables around it
-pub become_same : (n : ℕ) (t : Term) → LooseBelow n 0 t → HasBecome n t t
-become_same n t l = record { own = λ k h. refl; absent = λ k h. refl; closed = λ k e. let m = transport (LooseBelow n 0) e l in omega (arith, m) }

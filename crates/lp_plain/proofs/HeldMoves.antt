@@ -1,8 +1,8 @@
 -- An answer of a negated goal's search: the search that waited is to go back, or the goal is open.
-use Rattle.std.proofs.Common.{◌≡◌, ℕ, zero, suc, ◌-◌, List, [], ◌∷◌, length, take, refl, sym, ap, ◌∙◌, subst, arith, Bool, true, false, true≢false, nat_eq, Option, None, Some}
+use Rattle.std.proofs.Common.{◌≡◌, ℕ, suc, ◌-◌, List, [], ◌∷◌, length, take, refl, sym, ap, ◌∙◌, subst, arith, Bool, true, false, true≢false, nat_eq, Option, None, Some}
 use Rattle.std.specs.Prelude.{IfSome, slice_get}
 use Rattle.std.proofs.lemmas.Bool.{eq-eqb, eqb-true, ne_eqb}
-use Rattle.lp_model.specs.Branch.{Answer, Go, Task}
+use Rattle.lp_model.specs.Branch.{Task}
 use Rattle.lp_model.specs.Pair.{Closing, Pair}
 use Rattle.lp_model.specs.Search.{has_no_pairs}
 use Rattle.lp_model.specs.Skeleton.{State}

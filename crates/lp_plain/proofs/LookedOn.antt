@@ -58,10 +58,6 @@ module _ (m n : Machine) (b : OnlyBank m n) where
     unfolding running_on running_still
     closing_on = refl
 
-    pub work_on : running_on.at_work ≡ h.at_work
-    unfolding running_on running_still
-    work_on = refl
-
     pub looked_on : (t u : TermId) (o : Option ℕ) → LooksAt m n t (Some u) → IsAtTerm m a p t o raw → IsAtLooked n h.closing a p u o raw
     looked_on t u o l at = record {
       before = tree m.bank t.0;

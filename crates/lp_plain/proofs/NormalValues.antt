@@ -2,7 +2,7 @@
 use Rattle.std.proofs.Common.{◌≡◌, ℕ, zero, suc, ◌+◌, ◌≤◌, List, [], ◌∷◌, length, map, refl, sym, ap, ◌∙◌, subst, arith, true, false, if◌then◌else◌, Option, Some, None}
 use Rattle.std.specs.Prelude.{IsSome, option_map}
 use Rattle.std.proofs.lemmas.List.{length-map}
-use Rattle.lp_calculus.specs.Convert.{leftmost_step, steps}
+use Rattle.lp_calculus.specs.Convert.{steps}
 use Rattle.lp_calculus.specs.Normal.{eta_normal, nodes}
 use Rattle.lp_calculus.specs.Types.{Ty, instance}
 use Rattle.lp_calculus.specs.Term.{Term, index, atom, abs, app, apply, constant, integer, text, eigen, logic, param}
@@ -11,12 +11,12 @@ use Rattle.lp_term.specs.Nodes.{Nodes}
 use Rattle.lp_model.specs.Eigens.{beta_normal}
 use Rattle.lp_model.specs.Look.{weak_step}
 use Rattle.lp_model.specs.Pair.{Closing, closed}
-use Rattle.lp_model.specs.Values.{Faults, Outcome, both, is_one_place, is_two_place, single, value}
+use Rattle.lp_model.specs.Values.{Faults, both, is_one_place, is_two_place, single, value}
 use Rattle.lp_model.specs.declared.ending.Fault.TheVariants.{NotClosed}
 use Rattle.lp_pattern.specs.Seen.{IsEnded, IsEndedHead}
 use Rattle.lp_pattern.specs.Under.{IsReading, ValueIs}
 use Rattle.lp_pattern.specs.declared.bindings.Bindings.{Bindings}
-use Rattle.lp_pattern.proofs.BetaForms.{Forms, beta_abs, leaf_form, leaf_on_arguments, more, none, weak_leftmost}
+use Rattle.lp_pattern.proofs.BetaForms.{Forms, beta_abs, leaf_on_arguments, more, none, weak_leftmost}
 use Rattle.lp_pattern.proofs.Naming.{IsLeaf}
 use Rattle.lp_plain.specs.Evaluated.{IsNoFunction}
 use Rattle.lp_plain.specs.inner.Evaluating.{fits}

@@ -1,5 +1,5 @@
 -- A flattened goal that is taken apart is one move of the definition, all bindings put in.
-use Rattle.std.proofs.Common.{◌≡◌, ℕ, suc, ◌+◌, ◌-◌, ◌≤◌, List, [], ◌∷◌, length, refl, sym, ap, ◌∙◌, subst, arith, Bool, Option}
+use Rattle.std.proofs.Common.{◌≡◌, ℕ, suc, ◌≤◌, List, [], ◌∷◌, length, refl, sym, ap, subst, arith, Bool, Option}
 use Rattle.lp_calculus.specs.Term.{Term, atom, logic}
 use Rattle.lp_term.specs.Nodes.{Nodes}
 use Rattle.lp_model.specs.Branch.{Answer, Branch, Entry, Go, Task}

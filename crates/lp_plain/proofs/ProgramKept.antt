@@ -15,7 +15,7 @@ use Rattle.lp_plain.specs.HeadLooks.{OnlyBank}
 use Rattle.lp_plain.specs.Moving.{turn_for}
 use Rattle.lp_plain.specs.Restoring.{IsTaken}
 use Rattle.lp_plain.specs.Turns.{IsGoalTurn, KeepsProgram}
-use Rattle.lp_plain.specs.Unifying.{IsBoundIn, IsMore}
+use Rattle.lp_plain.specs.Unifying.{IsBoundIn}
 use Rattle.lp_plain.specs.WrittenSearch.{IsWrittenSearch}
 use Rattle.lp_plain.proofs.CallArm.{program_later}
 
@@ -33,9 +33,6 @@ goals_keep m n g = record { bank = subst (Extends m.bank) (sym g.known.bank) (ex
 
 pub bound_keeps : (m n : Machine) → IsBoundIn m n → KeepsProgram m n
 bound_keeps m n b = record { bank = b.bank; table = b.table; index = b.index }
-
-pub more_keeps : (m n : Machine) → IsMore m n → KeepsProgram m n
-more_keeps m n b = record { bank = b.bank; table = b.table; index = b.index }
 
 pub at_keeps : (m n : Machine) (p : Place) → GrowsAt m n p → KeepsProgram m n
 at_keeps m n p g = record { bank = g.lists.bank; table = g.lists.table; index = g.index }

@@ -1,6 +1,6 @@
 -- No alternative of a negated goal's search is left: the search that waited goes on behind the goal, or the goal is open, where a cut removed an alternative.
 use Rattle.std.specs.Global.{Global}
-use Rattle.std.proofs.Common.{◌≡◌, ℕ, zero, suc, ◌+◌, ◌-◌, ◌≤◌, List, [], ◌∷◌, ◌++◌, length, take, drop, inl, inr, refl, sym, ap, ◌∙◌, subst, arith, Bool, true, false, Option, None, Some}
+use Rattle.std.proofs.Common.{◌≡◌, ℕ, suc, ◌+◌, ◌≤◌, List, [], ◌∷◌, ◌++◌, length, take, drop, inl, inr, refl, sym, ap, ◌∙◌, subst, arith, Bool, true, false, Option, None, Some}
 use Rattle.std.specs.Prelude.{Vec, slice_get}
 use Rattle.std.proofs.lemmas.List.{length-append}
 use Rattle.lp_lemmas.proofs.Lists.{get_push}
@@ -17,7 +17,7 @@ use Rattle.lp_plain.specs.declared.choice.Denial.{Denial}
 use Rattle.lp_plain.specs.declared.choice.Untried.{Untried}
 use Rattle.lp_plain.specs.declared.machine.Machine.{Machine}
 use Rattle.lp_plain.specs.declared.outcome.Turn.{Turn}
-use Rattle.lp_plain.specs.Denials.{IsRefutedBy, IsRefutedTurn, goes_around, searching_as, waiting_query, woken}
+use Rattle.lp_plain.specs.Denials.{IsRefutedBy, IsRefutedTurn, goes_around, waiting_query, woken}
 use Rattle.lp_plain.specs.Moving.{AreAlternatives, IsBack, IsOuter, IsState, Query, Waiting, mark_in, way_back}
 use Rattle.lp_plain.specs.Restoring.{IsTaken}
 use Rattle.lp_plain.specs.Searching.{StandForAll, StandsFor, a_side, last_ending, some_tries}

@@ -2,19 +2,18 @@
 use Rattle.std.proofs.Common.{◌≡◌, ℕ, zero, suc, ◌+◌, List, [], ◌∷◌, map, length, refl, sym, ap, ◌∙◌}
 use Rattle.lp_calculus.specs.Types.{Ty, Tys, var, param, con, arrow, no_types, types, instance, instances}
 use Rattle.lp_calculus.specs.Term.{Term, atom, constant}
-use Rattle.lp_calculus.specs.Fill.{Within, Binding, put, put_all}
+use Rattle.lp_calculus.specs.Fill.{Binding, put, put_all}
 use Rattle.lp_model.specs.Branch.{Entry, put_entries, type_entries}
 use Rattle.lp_model.specs.Flat.{Written, Goal, Atomic, Cut, Either, Exists, Forall, Assume, Not, Goals, no_goals, goals, Clause, clause, Clauses, no_clauses, clauses, map_written, map_goal, map_goals, map_clause, map_clauses, same_type, under_all}
-use Rattle.lp_model.specs.Pair.{Closing, closed, put_type_in, put_types_in}
+use Rattle.lp_model.specs.Pair.{Closing, put_type_in, put_types_in}
 use Rattle.lp_model.specs.Types.{TypeBinding, put_type, put_types}
 use Rattle.lp_model.specs.Unify.{State}
 use Rattle.lp_model.specs.declared.answer.Pair.{Pair as Numbers}
 use Rattle.lp_calculus.proofs.TypeLaws.{instance-instance}
 use Rattle.lp_term.specs.Nodes.{Nodes}
-use Rattle.lp_pattern.specs.Putting.{Known}
 use Rattle.lp_pattern.specs.Unifying.{IsFound}
 use Rattle.lp_pattern.proofs.TypesSolved.{put_is}
-use Rattle.lp_plain.specs.Resuming.{clause_with, entry_with, entries_under, AllTerms, AllOfGoal, AllOfGoals, AllOfClause, AllOfClauses, AllOfAssumed, AllOfEntries, AreKnownEntries}
+use Rattle.lp_plain.specs.Resuming.{clause_with, entry_with, AllTerms, AllOfGoal, AllOfGoals, AllOfClause, AllOfClauses, AllOfAssumed}
 use Rattle.lp_plain.proofs.Mapped.{assume_same, clause_same, clauses_same, either_same, goals_same, not_same}
 
 -- one change after another is one change
@@ -99,15 +98,6 @@ module _ (P : ℕ → Term → Type 0) (f g : Term → Term) (t u : Ty → Ty) (
   assumed_agree [] w = refl
   assumed_agree (c ∷ cs) w = let p = clause_agree 0 zero zero c w.0 in let q = assumed_agree cs w.1 in λ i. p i ∷ q i
 
-  entries_agree : (es : List Entry) → AllOfEntries P es → map (entry_with f t) es ≡ map (entry_with g u) es
-  entries_agree [] w = refl
-  entries_agree (x ∷ es) w =
-      let p = goal_agree 0 zero zero x.goal w.0.0 in
-      let q = assumed_agree x.assumed w.0.1 in
-      let r = written_agree 0 x.written w.0.2 in
-      let s = entries_agree es w.1 in
-      λ i. record { goal = p i; assumed = q i; written = r i; level = x.level; mark = x.mark } ∷ s i
-
 -- all bindings, and all types
 
 all_fused : (f g : Term → Term) (t u : Ty → Ty) (es : List Entry) → map (entry_with f t) (map (entry_with g u) es) ≡ map (entry_with (λ y. f (g y)) (λ T. t (u T))) es
@@ -153,8 +143,3 @@ module _ (lv : ℕ → ℕ) (n : ℕ) (c : Closing) (b : Nodes) (next : ℕ) (re
   type_behind T =
       by_variables z.types (λ x. instance (λ y. put_types s.types (var y)) (c.types x)) (λ x. variable_behind x ∙ put_is s.types (c.types x)) T ∙ sym (instance-instance c.types (λ y. put_types s.types (var y)) T) ∙
       sym (put_is s.types (instance c.types T))
-
-  pub entries_resumed : (es : List Entry) → AreKnownEntries lv n c es → entries_under z es ≡ type_entries s.types (put_entries s.bindings (entries_under c es))
-  entries_resumed es k =
-      entries_agree (λ d t. Within (Known lv n) d (closed c t)) (closed z) (λ t. put_types_in s.types (put_all s.bindings (closed c t))) (instance z.types) (λ T. put_types s.types (instance c.types T)) f.puts type_behind es k ∙
-      sym (ap (type_entries s.types) (bindings_put s.bindings (closed c) (instance c.types) es) ∙ types_put s.types (λ t. put_all s.bindings (closed c t)) (instance c.types) es)

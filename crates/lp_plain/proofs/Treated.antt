@@ -1,31 +1,18 @@
 -- The first goal of a search, its newest alternative, and whether a search waits for it.
-use Rattle.std.proofs.Common.{◌≡◌, ℕ, ◌+◌, ◌≤◌, List, [], ◌∷◌, ◌++◌, length, drop, refl, sym, ap, ◌∙◌, subst, arith, Option, None, Some}
-use Rattle.std.specs.Prelude.{slice_get}
-use Rattle.lp_calculus.specs.Term.{Term}
-use Rattle.lp_model.specs.Branch.{Branch, Entry, Task}
+use Rattle.std.proofs.Common.{◌≡◌, ℕ, ◌≤◌, List, [], ◌∷◌, ◌++◌, length, refl, sym, ap, ◌∙◌, arith, Option, None, Some}
+use Rattle.lp_model.specs.Branch.{Branch, Task}
 use Rattle.lp_model.specs.Flat.{Goals, no_goals, goals, goal_list}
 use Rattle.lp_model.specs.Skeleton.{State}
-use Rattle.lp_plain.specs.declared.choice.Choice.{Choice}
-use Rattle.lp_plain.specs.declared.choice.Denial.{Denial}
-use Rattle.lp_plain.specs.declared.choice.Untried.{Untried}
-use Rattle.lp_plain.specs.declared.frame.Frame.{Frame}
 use Rattle.lp_plain.specs.declared.frame.Place.{Place}
-use Rattle.lp_plain.specs.declared.frame.Todo.{Todo}
 use Rattle.lp_plain.specs.declared.machine.Machine.{Machine}
 use Rattle.lp_plain.specs.declared.outcome.Turn.{Turn}
 use Rattle.lp_plain.specs.declared.table.Span.{Span}
-use Rattle.lp_term.specs.declared.node.TermId.{TermId}
-use Rattle.lp_plain.specs.Entries.{AreTodo, Around, Reads, a_frame, in_scope, no_frame, placed}
-use Rattle.lp_plain.specs.Moving.{AreAlternatives, AreOuter, HasAlternatives, IsAtGoals, IsBack, IsState, Query, Waiting, mark_in}
-use Rattle.lp_plain.specs.Scopes.{blocks_of}
-use Rattle.lp_plain.specs.Searching.{StandForAll, StandsFor, a_side, some_tries}
+use Rattle.lp_plain.specs.Entries.{Around, in_scope, placed}
+use Rattle.lp_plain.specs.Moving.{AreOuter, IsAtGoals, IsBack, Query, Waiting}
 use Rattle.lp_plain.specs.Stacks.{base_of}
 use Rattle.lp_plain.specs.Tables.{AreGoals, Never, shown}
 use Rattle.lp_plain.specs.Turns.{IsGoalTurn}
-use Rattle.lp_plain.specs.inner.Following.{Course}
-use Rattle.lp_plain.proofs.Bounds.{split_newest}
 use Rattle.lp_plain.proofs.Following.{IsInnerTurn}
-use Rattle.lp_plain.proofs.QuietMoves.{drop_push}
 
 pub goals_some : (m : Machine) (a : Around) (p : Place) (span : Span) (o : Option ℕ) (raw : Branch) → IsAtGoals m a p span o raw → raw.goals ≡ [] → ⊥
 goals_some m a p span o raw h e = go h.goals_of h.are h.goals
@@ -33,20 +20,6 @@ goals_some m a p span o raw h e = go h.goals_of h.are h.goals
     go : (gs : Goals) → AreGoals m.bank Never (shown m.table) span.from span.to gs → raw.goals ≡ placed a p (goal_list (in_scope h.values p.values.types gs)) ++ h.rest → ⊥
     go no_goals ag w = let l = h.some in absurd (omega (arith, ag, l))
     go (goals g gs) ag w = let q = sym e ∙ w in cc
-
-pub term_some : (qv : Query) (m : Machine) (s : State Task) (h : IsState qv m s) (number : ℕ) (f : Frame) → m.branch.goals ≡ Some number → slice_get
-    m.frames.items number ≡ Some f → (u : TermId) → f.todo ≡ Todo.Term u → h.raw.goals ≡ [] → ⊥
-term_some qv m s h number f front got u t e = go (subst (λ o. Reads m h.around o h.raw.goals) front h.goals) e
-  where
-    go : {es : List Entry} → Reads m h.around (Some number) es → es ≡ [] → ⊥
-    go (no_frame q z) k = absurd (cc)
-    go (a_frame i g gs rest q x w r z) k =
-        let n : number ≡ i = cc in
-        let same : g ≡ f = (let y : Some g ≡ Some f = sym x ∙ ap (slice_get m.frames.items) (sym n) ∙ got in cc) in
-        let todo : AreTodo m.bank (shown m.table) (blocks_of m.scopes) f.place (Todo.Term u) gs =
-        subst (λ x. AreTodo m.bank (shown m.table) (blocks_of m.scopes) f.place x gs) t (subst (λ (x : Frame). AreTodo m.bank (shown m.table) (blocks_of m.scopes) x.place x.todo gs) same w) in
-        let q = sym k ∙ z ∙ ap (λ l. placed h.around g.place l ++ rest) todo.2 in
-        cc
 
 -- no search waits where none is inside of a negated goal
 pub none_waits : (ar : ℕ → ℕ) (m : Machine) (a : Around) (o : Option ℕ) (ws : List Waiting) → o ≡ None → AreOuter ar m a o ws → ws ≡ []

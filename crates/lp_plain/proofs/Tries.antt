@@ -1,6 +1,5 @@
 -- What is left to try: all candidates of a call, those behind one of them, and those of an alternative to which the search goes back.
-use Rattle.std.proofs.Common.{◌≡◌, ℕ, List, [], ◌∷◌, refl, sym, subst, Option, Some, nat_eq}
-use Rattle.std.specs.HashMap.{get}
+use Rattle.std.proofs.Common.{◌≡◌, ℕ, List, [], ◌∷◌, refl, sym, subst, Option, Some}
 use Rattle.std.specs.Prelude.{filter}
 use Rattle.lp_calculus.specs.Term.{Term}
 use Rattle.lp_model.specs.Flat.{Clause, Clauses}
@@ -13,7 +12,7 @@ use Rattle.lp_plain.specs.declared.head.Head.TheVariants as head
 use Rattle.lp_plain.specs.declared.head.Key.{Key}
 use Rattle.lp_plain.specs.declared.machine.Machine.{Machine}
 use Rattle.lp_plain.specs.Assuming.{Lists, HasAssumed, links, lists_of}
-use Rattle.lp_plain.specs.Candidates.{AreLeft, IsChain, first_for, in_turn, nexts, numbers, passes as meeting}
+use Rattle.lp_plain.specs.Candidates.{AreLeft, IsChain, in_turn, nexts, numbers, passes as meeting}
 use Rattle.lp_plain.specs.Newest.{IsNewest}
 use Rattle.lp_plain.specs.Restoring.{IsTaken}
 use Rattle.lp_plain.specs.Trying.{AreApplied, AreCandidates, AreOfProgram, AreTries, AreTriesApart, HasProgram, IsCallOf, IsNext, IsTried, all_clauses, first_in, lists_at}
@@ -80,8 +79,3 @@ lists_back m n c rest t = λ i. record {
   newest = sym t.newest i;
   standings = sym t.standings i;
 }
-
-pub tries_back : (m n : Machine) (c : Choice) (rest : List Choice) (h : Head) (key : Option Key) (found : Option Candidate) (cs : List Clause) →
-    IsTaken m n c rest → AreTries (lists_at c m) (first_in m h) key found cs → AreTries (lists_of n) (first_in n h) key found cs
-tries_back m n c rest h key found cs t a =
-    subst (λ l. AreTries l (first_in n h) key found cs) (lists_back m n c rest t) (subst (λ x. AreTries (lists_at c m) (first_for (λ d. get nat_eq x d) h) key found cs) (sym t.index) a)

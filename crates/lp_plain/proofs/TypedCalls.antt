@@ -1,6 +1,6 @@
 -- A typed branch: the constant at the head of the goal in front has as many types as it takes, and so have the heads of the clauses that are assumed there, which name their clauses.
-use Rattle.std.proofs.Common.{◌≡◌, Bool, true, false, ℕ, zero, suc, List, [], ◌∷◌, ◌++◌, map, length, Option, Some, None, refl, sym, subst, ◌∙◌, nat_eq}
-use Rattle.std.specs.Prelude.{if◌then◌else◌, slice_index_or}
+use Rattle.std.proofs.Common.{◌≡◌, Bool, true, false, ℕ, List, [], ◌∷◌, length, Option, Some, None, refl, sym, subst, nat_eq}
+use Rattle.std.specs.Prelude.{if◌then◌else◌}
 use Rattle.lp_calculus.specs.Closed.{AllAtoms}
 use Rattle.lp_calculus.specs.Spine.{head_of}
 use Rattle.lp_calculus.specs.Types.{Ty, arrow}
@@ -18,11 +18,10 @@ use Rattle.lp_model.specs.Skeleton.{State}
 use Rattle.lp_unify_laws.proofs.Looks.{head_reduces}
 use Rattle.lp_unify_laws.proofs.Sames.{same_number}
 use Rattle.lp_unify_laws.proofs.TypedBindings.{HasAtomType}
-use Rattle.lp_search_laws.specs.Branches.{ArePlainEntries, AreTypedEntries, IsAssumable, IsClauseHead, IsPlainEntry, IsTypedEntry}
+use Rattle.lp_search_laws.specs.Branches.{ArePlainEntries, AreTypedEntries, IsPlainEntry, IsTypedEntry}
 use Rattle.lp_search_laws.specs.Holds.{IsTyped}
 use Rattle.lp_search_laws.proofs.AtomsKept.{atoms_reduces}
 use Rattle.lp_plain.specs.ProgramClauses.{arity_in, count_of}
-use Rattle.lp_plain.specs.Trials.{IsCallHead}
 use Rattle.lp_plain.specs.Trying.{AreApplied, HasArity, head_in}
 use Rattle.lp_plain.specs.TypedStates.{IsTaskTyped, IsTypedOver}
 
@@ -84,27 +83,6 @@ module _ (d : Declared) (E : List Ty) (V : List Variable) where
   clauses_many [] w = tt
   clauses_many (c ∷ cs) w = (clause_many c w.0, clauses_many cs w.1)
 
--- heads of assumed clauses
-all_false : (vs : List Ty) (i : ℕ) → slice_index_or (map (λ v. false) vs ++ []) i false ≡ false
-all_false [] i = refl
-all_false (v ∷ vs) zero = refl
-all_false (v ∷ vs) (suc i) = all_false vs i
-
-head_named : (vs : List Ty) (t : Term) → IsClauseHead (map (λ v. false) vs ++ []) t → IsCallHead t
-head_named vs (index i) h = absurd (let q = sym (all_false vs i) ∙ h in cc)
-head_named vs (atom (constant c ts)) h = tt
-head_named vs (atom (integer z)) h = absurd h
-head_named vs (atom (text s)) h = absurd h
-head_named vs (atom (eigen k)) h = tt
-head_named vs (atom (logic x l)) h = absurd h
-head_named vs (atom (param k T)) h = absurd h
-head_named vs (abs b) h = absurd h
-head_named vs (app f t) h = absurd h
-
-clauses_named : (k : ℕ) (cs : List Clause) → EachOf (IsAssumable k) cs → EachOf (λ c. IsCallHead (head_in c)) cs
-clauses_named k [] w = tt
-clauses_named k (clause n vs h b ∷ cs) w = (head_named vs (head_of h) w.0.1.1, clauses_named k cs w.1)
-
 -- of the entry in front
 module _ (arity : ℕ → ℕ) (n : ℕ) (P : List Clause) (s : State Task) (ty : IsTypedOver arity n P s) (b : Branch) (rest : List Task)
     (stack : s.stack ≡ Go b ∷ rest) (e : Entry) (es : List Entry) (first : b.goals ≡ e ∷ es) where
@@ -131,6 +109,3 @@ module _ (arity : ℕ → ℕ) (n : ℕ) (P : List Clause) (s : State Task) (ty 
 
   pub front_applied : AreApplied arity e.assumed
   front_applied = subst (λ f. AreApplied f e.assumed) (sym ty.takes) (clauses_many ty.declared entry_typed.0 branch_typed.0.answer.variables e.assumed entry_typed.1.assumed)
-
-  pub front_heads : EachOf (λ c. IsCallHead (head_in c)) e.assumed
-  front_heads = clauses_named b.next_type e.assumed entry_plain.1.assumed

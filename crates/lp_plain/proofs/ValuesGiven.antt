@@ -1,7 +1,7 @@
 -- What an operation gives on values, by what it gives on numbers and texts.
 use Rattle.std.proofs.Common.{◌≡◌, ◌<◌, ℕ, List, ◌++◌, length, refl, sym, ap, ◌∙◌, subst, Ok, Err}
 use Rattle.std.specs.Prelude.{ℤ, Result}
-use Rattle.lp_calculus.specs.Term.{Term, Atom, atom, integer, text}
+use Rattle.lp_calculus.specs.Term.{Term, atom, integer, text}
 use Rattle.lp_standard.specs.Constants.{number}
 use Rattle.lp_standard.specs.declared.constant.Constant.{Constant}
 use Rattle.lp_standard.specs.declared.constant.Constant.TheVariants as fixed

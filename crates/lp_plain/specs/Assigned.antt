@@ -1,7 +1,7 @@
 -- What `is` and the orders leave: their expressions evaluated, and then two terms made one, or two numbers compared.
 use Rattle.std.specs.Prelude.{◌≡◌, ◌<◌, ℕ, Bool, true, false, ℤ, length, Result, Ok, Err}
 use Rattle.lp_base.specs.declared.compare.Compare.{Compare}
-use Rattle.lp_term.specs.Nodes.{Nodes, tree}
+use Rattle.lp_term.specs.Nodes.{tree}
 use Rattle.lp_term.specs.declared.node.TermId.{TermId}
 use Rattle.lp_model.specs.Pair.{Closing, closed}
 use Rattle.lp_model.specs.Values as model

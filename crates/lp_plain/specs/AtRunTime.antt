@@ -1,7 +1,7 @@
 -- Goals that are known at run time: at hand, and as they were looked at.
 use Rattle.std.specs.Prelude.{◌≡◌, ◌⊎◌, ◌<◌, ◌≤◌, ℕ, List, [], ◌∷◌, length, Option, Some}
 use Rattle.lp_calculus.specs.Normal.{nodes}
-use Rattle.lp_calculus.specs.Term.{Term, atom}
+use Rattle.lp_calculus.specs.Term.{Term}
 use Rattle.lp_standard.specs.Connectives.{connective_of}
 use Rattle.lp_standard.specs.Connectives as connective
 use Rattle.lp_term.specs.Nodes.{Nodes, tree}

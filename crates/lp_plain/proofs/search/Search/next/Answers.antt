@@ -1,4 +1,4 @@
-use Rattle.std.proofs.Common.{refl, sym, true, false}
+use Rattle.std.proofs.Common.{refl, true, false}
 use Rattle.lp_plain.specs.Held.{ended}
 use Rattle.lp_plain.proofs.Between.{failed_between, is_over_still, over_told}
 use Rattle.lp_plain.proofs.search.Search.next.Goals as goal

@@ -1,5 +1,4 @@
 use Rattle.std.proofs.Common.{refl}
-use Rattle.lp_plain.specs.Begun.{Begins}
 use Rattle.lp_plain.specs.ProgramClauses.{arity_in}
 use Rattle.lp_plain.proofs.Begun.{begun_between, clauses_there, goals_written, no_variable, program_there}
 use Rattle.lp_plain.proofs.search.Search.start.Goals as goal
