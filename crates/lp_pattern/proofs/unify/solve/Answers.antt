@@ -1,4 +1,4 @@
-use Rattle.std.proofs.Common.{◌≡◌, ℕ, List, Some, map, length}
+use Rattle.std.proofs.Common.{◌≡◌, ℕ, List, Some, map, length, subst, sym}
 use Rattle.lp_calculus.specs.Types.{var}
 use Rattle.lp_term.proofs.Moves.{passed_up}
 use Rattle.lp_model.specs.Pair.{Closing}
@@ -67,3 +67,13 @@ returns-in_err-residual-clause-typed_refused c =
     (λ d V t lv k m. typed_comes d V c.args.limit c.args.bank.now c.args.types.now c.args.pairs.now c.args.delayed.now c.args.next.now t (IsRefusedAs c.in_err-residual.field-0.0)
     (λ n u h. c.in_err-residual.ensures.refused unbound (unbound_reading c.args.bank.now c.new-bindings.result c.args.next.now c.new-bindings.ensures.terms c.new-bindings.ensures.types) lv (pairs_at c.args.bank.now c.args.pairs.now) (pairs_at c.args.bank.now c.args.delayed.now)
     (pairs_unbound c.args.bank.now c.args.pairs.now) (pairs_unbound c.args.bank.now c.args.delayed.now) k m n u h))
+
+pub returns-in_err-term_entries-clause-typed_refused : goal.returns-in_err-term_entries-clause-typed_refused
+returns-in_err-term_entries-clause-typed_refused c = λ d V t lv k m.
+    typed_comes d V c.args.limit c.args.bank.now c.args.types.now c.args.pairs.now c.args.delayed.now c.args.next.now t (IsRefusedAs c.from_term_entries.result)
+    (λ n u h. subst (λ e. IsRefusedAs e n u) (sym c.from_term_entries.ensures) tt)
+
+pub returns-in_err-type_entries-clause-typed_refused : goal.returns-in_err-type_entries-clause-typed_refused
+returns-in_err-type_entries-clause-typed_refused c = λ d V t lv k m.
+    typed_comes d V c.args.limit c.args.bank.now c.args.types.now c.args.pairs.now c.args.delayed.now c.args.next.now t (IsRefusedAs c.from_type_entries.result)
+    (λ n u h. subst (λ e. IsRefusedAs e n u) (sym c.from_type_entries.ensures) tt)
