@@ -177,7 +177,7 @@ unfolding first_variables numbered_type
 same_count T =
     let N = met [] (type_variables T) in
     sym (renamed_same (λ x y. (list_any (nat_eq x) N ≡ true) × (y ≡ place N x)) (λ x y z p q. p.1 ∙ sym q.1)
-        (λ x y z p q. place_once N x y p.0 q.0 (sym p.1 ∙ q.1)) T (instance (λ x. var (place N x)) T)
+    (λ x y z p q. place_once N x y p.0 q.0 (sym p.1 ∙ q.1)) T (instance (λ x. var (place N x)) T)
     (numbered_renames N T (all_met (type_variables T) []))).0
 
 numbered_whole : (κ : ℕ → Option (List ℕ)) (T : Ty) → KindsKnown κ T → IsWhole (named κ (numbered_type T))
@@ -209,8 +209,8 @@ module _ (s : Signature) (said : List (Row Said)) (defs : List (Row Definition))
   each_whole names n (r ∷ rs) (e ∷ es) (h, hs) =
       All-cons (λ e. IsWhole (named_in s e.scheme)) e es
       (subst (λ ns. IsWhole (named (kind_name ns) (type_tree s.bank e.scheme.0))) (sym names)
-          (subst (λ T. IsWhole (named (kind_name (said_kinds said)) T)) (sym h.scheme.numbered)
-          (numbered_whole (kind_name (said_kinds said)) h.scheme.replaced (type_known said defs h.scheme.is))))
+      (subst (λ T. IsWhole (named (kind_name (said_kinds said)) T)) (sym h.scheme.numbered)
+      (numbered_whole (kind_name (said_kinds said)) h.scheme.replaced (type_known said defs h.scheme.is))))
       (each_whole names (suc n) rs es hs)
 
 pub signature_ordered : (names : List (String Global)) (sources : List (Vec ℕ Global)) (texts : List SignatureText) (root : ℕ) (fixities : List (Row (Fixity × ℕ))) (s : Signature) →

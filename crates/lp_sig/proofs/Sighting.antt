@@ -201,7 +201,7 @@ module _ (there here : Nodes) (names new : List (List ℕ)) (made : List TypeId)
   parts_seen (t ∷ ts) [] e = absurd (cc)
   parts_seen (t ∷ ts) (p ∷ ps) e =
       two_named (named (kind_name new) (type_tree here p.0)) (named (kind_name names) (type_tree there t.0)) _ _
-          (seen t.0 p (first_is (slice_get made t.0) p (map (λ t. slice_get made t.0) ts) (map (λ t. Some t) ps) e)).1
+      (seen t.0 p (first_is (slice_get made t.0) p (map (λ t. slice_get made t.0) ts) (map (λ t. Some t) ps) e)).1
       (parts_seen ts ps (rest_is (slice_get made t.0) (Some p) (map (λ t. slice_get made t.0) ts) (map (λ t. Some t) ps) e))
 
   module _ (id : ℕ) (shape : TypeShape) (tree : type_node_tree there shape ≡ type_tree there id) where
@@ -214,7 +214,7 @@ module _ (there here : Nodes) (names new : List (List ℕ)) (made : List TypeId)
         (kind_name new) (arrow (type_tree here l.0) (type_tree here r.0)) ≡ named (kind_name names) (type_tree there id)
     arrow_seen f t l r is e g =
         two_arrows (named (kind_name new) (type_tree here l.0)) (named (kind_name names) (type_tree there f.0))
-            (named (kind_name new) (type_tree here r.0)) (named (kind_name names) (type_tree there t.0)) (seen f.0 l e).1 (seen t.0 r g).1 ∙
+        (named (kind_name new) (type_tree here r.0)) (named (kind_name names) (type_tree there t.0)) (seen f.0 l e).1 (seen t.0 r g).1 ∙
         ap (named (kind_name names)) (sym (sym tree ∙ ap (type_node_tree there) is))
 
     pub var_seen : (n : ℕ) → shape ≡ var_node n → named (kind_name new) (var n) ≡ named (kind_name names) (type_tree there id)

@@ -162,4 +162,4 @@ has_named m s said bank entries kinds u o seen e has = let (T, tree, same) = see
         let count = subst (λ e. e.type_vars ≡ length (first_variables (type_tree u.bank e.scheme.0))) has.2 (o.counts has.0 e has.1) in
         declared_one x there (name ∙ is) (vars ∙ n ∙ ap length (same_first (kind_name (said_kinds said)) (kind_name (kind_names u)) T (type_tree u.bank e.scheme.0) same) ∙ sym count)
         (ap (λ t. named (kind_name (kind_names s)) (type_tree s.bank t.0)) scheme ∙ ap (λ b. named (kind_name (kind_names s)) (type_tree b d.scheme.0)) bank ∙
-          ap (named (kind_name (kind_names s))) t ∙ ap (λ l. named (kind_name l) T) kinds ∙ same)
+        ap (named (kind_name (kind_names s))) t ∙ ap (λ l. named (kind_name l) T) kinds ∙ same)

@@ -52,11 +52,11 @@ returns-clause-theirs c =
     let kinds = their_kinds m.names said s k c.in_ok-signature.ensures.kinds in
     let room = their_room m.names said k c.in_ok-signature.ensures.room in
     let here = λ apart. own_kinds own (of_each said_of used ++ said_in text ds) apart
-        (subst (λ r. 8 + length (said_kinds r) ≤ END_OF_NUMBERS) (append_assoc (said_of own) (of_each said_of used) (said_in text ds)) room) in
+    (subst (λ r. 8 + length (said_kinds r) ≤ END_OF_NUMBERS) (append_assoc (said_of own) (of_each said_of used) (said_in text ds)) room) in
     let g = making_then c.see_all.new.making c.announce_all.new.making m c.in_ok-announce_all.ensures.grown c.in_ok-declare_all.ensures.grown in
     let none = counted_none c.new-making.result.bodies.types.bank c.new-making.result.constants c.new-making.ensures.empty in
     let alike = all_alike c.in_ok-sights.sights.items text ds (subst (λ ss. AreWordsAlike ss text (signature_words text ds) (module_words text ds) ds) c.as_slice.ensures.value
-        (c.in_ok-declare_all.ensures.alike (signature_words text ds) (module_words text ds) c.in_ok-said.ensures.signatures c.in_ok-said.ensures.modules)) in
+    (c.in_ok-declare_all.ensures.alike (signature_words text ds) (module_words text ds) c.in_ok-said.ensures.signatures c.in_ok-said.ensures.modules)) in
     record {
       own_ones = λ apart ordered. has_named m s said c.in_ok-signature.ensures.bank c.in_ok-signature.ensures.typed kinds own ordered
           (seen_stays c.see_all.new.making m (said_of own ++ of_each said_of used) (said_in text ds) own ordered g.bank g.constants
@@ -67,5 +67,5 @@ returns-clause-theirs c =
           has_named m s said c.in_ok-signature.ensures.bank c.in_ok-signature.ensures.typed kinds u o
           (seen_stays c.see_all.new.making m (said_of own ++ of_each said_of used) (said_in text ds) u o g.bank g.constants
           (c.in_ok-sights.ensures.seen [] [] c.new-making.ensures.names c.new-making.ensures.words none ordered (here apart) (own_new own apart) all
-              (i + 1) (omega (arith, l)) (λ j h. alike j (omega (arith, h, below))) i (omega arith) u at));
+          (i + 1) (omega (arith, l)) (λ j h. alike j (omega (arith, h, below))) i (omega arith) u at));
     }

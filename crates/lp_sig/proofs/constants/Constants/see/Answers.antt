@@ -45,5 +45,5 @@ returns-in-Typed-clause-seen c = λ words h all counted. (
   counted_later c.args.types.now.bank c.known_as.new.types.bank c.args.self.now c.known_as.ensures.kept all,
   seen_known c.known_as.new.types.bank c.args.self.now c.args.made.now c.args.entry.now words (c.in_ok-known_as.ensures.met words h)
       c.as_slice-name.ensures.value (ap is_met c.in-Typed.is) c.in_ok-scheme.scheme c.in-Typed.known c.in_ok-scheme.ensures
-      (subst (IsTreeOf c.known_as.new.types.bank c.args.self.now c.as_slice-name.result.now) c.in-Typed.is (c.in_ok-known_as.ensures.tree words h all)) (λ q. ? ),
+      (subst (IsTreeOf c.known_as.new.types.bank c.args.self.now c.as_slice-name.result.now) c.in-Typed.is (c.in_ok-known_as.ensures.tree words h all)) (λ q. ?),
 )
