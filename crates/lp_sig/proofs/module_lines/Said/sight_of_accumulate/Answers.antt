@@ -6,7 +6,7 @@ pub returns-in_err-number : goal.returns-in_err-number
 returns-in_err-number c = λ signatures modules k h alike. let z = sym c.from_residual.ensures ∙ alike in absurd (cc)
 
 pub returns-in_err-place : goal.returns-in_err-place
-returns-in_err-place c = λ signatures modules k h alike. let z = sym c.from_residual-2.ensures ∙ alike in absurd (cc)
+returns-in_err-place c = λ signatures modules k h alike. let z = sym c.from_residual-in_err-place.ensures ∙ alike in absurd (cc)
 
 pub returns : goal.returns
 returns c = λ signatures modules k h. module_at c.args.self.now.accumulates c.args.self.now.accum_sigs c.args.sights.now signatures modules
