@@ -46,6 +46,23 @@ fn note(
     Ok(())
 }
 
+// Numbers a word, if it is new.
+fn number_word(
+    alloc: Global,
+    name: &[u8],
+    numbers: &mut IndexMap<Vec<u8>, usize>,
+) -> Result<(), Memory>
+    ensures { OnOk result ((before : List (List ℕ)) → HasNumbers numbers.old before → HasNumbers numbers.new (before ++ name.now ∷ [])) }
+{
+    if numbers.contains_key(name) {
+        return Ok(());
+    }
+    let key = Vec::from_slice(alloc, name)?;
+    let next = numbers.len();
+    numbers.insert(key, next)?;
+    Ok(())
+}
+
 // Numbers words by first place.
 fn number(
     alloc: Global,
@@ -56,12 +73,7 @@ fn number(
     ensures { OnOk result ((before : List (List ℕ)) → HasNumbers numbers.old before → HasNumbers numbers.new (before ++ map (λ s. spelled source.now s) words.now)) }
 {
     for word in words {
-        let name = spelled_at(source, *word);
-        if !numbers.contains_key(name) {
-            let key = Vec::from_slice(alloc, name)?;
-            let next = numbers.len();
-            numbers.insert(key, next)?;
-        }
+        number_word(alloc, spelled_at(source, *word), numbers)?;
     }
     Ok(())
 }
