@@ -16,4 +16,5 @@ loop-word-preserved c = λ before h.
     (c.in_ok-number_word.ensures so (c.loop-word.invariant before h))
 
 pub returns : goal.returns
-returns c = λ before h. subst (λ ws. HasNumbers c.loop-word.numbers (before ++ map (λ s. spelled c.args.source.now s) ws)) (take_all c.loop-word.word-index c.args.words.now c.loop-word-test.false) (c.loop-word.invariant before h)
+returns c = λ before h. subst (λ ws. HasNumbers c.loop-word.numbers (before ++ map (λ s. spelled c.args.source.now s) ws))
+    (take_all c.loop-word.word-index c.args.words.now c.loop-word-test.false) (c.loop-word.invariant before h)

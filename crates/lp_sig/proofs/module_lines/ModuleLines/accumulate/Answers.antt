@@ -12,7 +12,8 @@ loop-word-init c = λ signatures modules h k. All-nil (IsAlike c.args.self.now.s
 
 pub loop-word-preserved : goal.loop-word-preserved
 loop-word-preserved c = λ signatures modules h k.
-    alike_more (IsAlike c.args.self.now.sights.now (length (first_names [] signatures)) modules) (λ s. spelled c.args.self.now.source.now s) c.args.words.now c.loop-word.word-index _ c.spelled_at.result.now c.loop-word-test.true c.spelled_at.ensures
+    alike_more (IsAlike c.args.self.now.sights.now (length (first_names [] signatures)) modules) (λ s. spelled c.args.self.now.source.now s)
+    c.args.words.now c.loop-word.word-index _ c.spelled_at.result.now c.loop-word-test.true c.spelled_at.ensures
     (c.loop-word.invariant signatures modules h k) (c.sight_of_accumulate-sight.ensures signatures modules h k c.in_ok-check_word.ensures)
 
 pub returns : goal.returns
