@@ -1,7 +1,10 @@
 // What the declarations of a module say, line by line.
-ghost use Rattle.std.specs.Prelude.{◌≡◌, ◌++◌, ℕ, List, [], ◌∷◌, map, OnOk};
+ghost use Rattle.std.specs.Prelude.{◌≡◌, ◌++◌, ℕ, List, [], ◌∷◌, length, map, Some, All, IfOk, OnOk};
 ghost use Rattle.lp_sig.specs.Pieces.{spelled};
-ghost use Rattle.lp_sig.specs.Modules.{constant_names_by, local_names};
+ghost use Rattle.lp_sig.specs.Modules.{declarations, constant_names_by, first_names, local_names};
+ghost use Rattle.lp_sig.specs.Sighted.{Grows};
+ghost use Rattle.lp_sig.specs.Sights.{HasNumbers, IsAlike, AreWordsAlike, signature_words, module_words};
+ghost use Rattle.lp_sig.specs.declared.see.Sight.TheVariants.{Alike};
 ghost use Rattle.lp_sig.specs.Worded.{HasWords};
 
 use crate::constants::DeclaredType;
@@ -43,78 +46,158 @@ fn note(
     Ok(())
 }
 
+// Numbers a word, if it is new.
+fn number_word(
+    alloc: Global,
+    name: &[u8],
+    numbers: &mut IndexMap<Vec<u8>, usize>,
+) -> Result<(), Memory>
+    ensures { OnOk result ((before : List (List ℕ)) → HasNumbers numbers.old before → HasNumbers numbers.new (before ++ name.now ∷ [])) }
+{
+    if numbers.contains_key(name) {
+        return Ok(());
+    }
+    let key = Vec::from_slice(alloc, name)?;
+    let next = numbers.len();
+    numbers.insert(key, next)?;
+    Ok(())
+}
+
 // Numbers words by first place.
 fn number(
     alloc: Global,
     source: &[u8],
     words: &[Spot],
     numbers: &mut IndexMap<Vec<u8>, usize>,
-) -> Result<(), Memory> {
+) -> Result<(), Memory>
+    ensures { OnOk result ((before : List (List ℕ)) → HasNumbers numbers.old before → HasNumbers numbers.new (before ++ map (λ s. spelled source.now s) words.now)) }
+{
     for word in words {
-        let name = spelled_at(source, *word);
-        if !numbers.contains_key(name) {
-            let key = Vec::from_slice(alloc, name)?;
-            let next = numbers.len();
-            numbers.insert(key, next)?;
-        }
+        number_word(alloc, spelled_at(source, *word), numbers)?;
     }
     Ok(())
 }
 
-impl Said {
-    fn hear(&mut self, source: &[u8], declaration: &Declaration) -> Result<(), Memory> {
-        match declaration {
-            Declaration::Kinds(names, _) => note(self.alloc, source, names, &mut self.kinds),
-            Declaration::LocalKinds(names, Some(_)) => {
-                note(self.alloc, source, names, &mut self.kinds)
-            }
-            Declaration::Constants(names, _) => {
-                note(self.alloc, source, names, &mut self.constants)
-            }
-            Declaration::Locals(names, Some(_)) => {
-                note(self.alloc, source, names, &mut self.constants)
-            }
-            Declaration::Accumulate(words) => {
-                number(self.alloc, source, words, &mut self.accumulates)
-            }
-            Declaration::AccumSig(words) => number(self.alloc, source, words, &mut self.accum_sigs),
-            _ => Ok(()),
-        }
-    }
+// A table with no words.
+fn no_words(alloc: Global) -> IndexMap<Vec<u8>, usize>
+    ensures { HasNumbers result [] }
+{
+    IndexMap::new(alloc)
+}
 
-    pub(crate) fn of(alloc: Global, source: &[u8], text: &ModuleText) -> Result<Said, Memory> {
-        let mut said = Said {
+// Notes names that are declared with a kind or a type.
+fn note_if(
+    alloc: Global,
+    source: &[u8],
+    names: &[Spot],
+    is_declared: bool,
+    set: &mut IndexSet<Vec<u8>>,
+) -> Result<(), Memory> {
+    if !is_declared {
+        return Ok(());
+    }
+    note(alloc, source, names, set)
+}
+
+impl Said {
+    fn new(alloc: Global) -> Said
+        ensures signatures { HasNumbers result.accum_sigs [] }
+        ensures modules { HasNumbers result.accumulates [] }
+    {
+        Said {
             alloc,
             kinds: IndexSet::new(alloc),
             constants: IndexSet::new(alloc),
-            accum_sigs: IndexMap::new(alloc),
-            accumulates: IndexMap::new(alloc),
-        };
-        for line in &text.lines {
-            if let Sentence::Declares(declaration) = line {
-                said.hear(source, declaration)?;
+            accum_sigs: no_words(alloc),
+            accumulates: no_words(alloc),
+        }
+    }
+
+    fn hear(&mut self, source: &[u8], declaration: &Declaration) -> Result<(), Memory>
+        ensures signatures { OnOk result ((before : List (List ℕ)) → HasNumbers self.old.accum_sigs before → HasNumbers self.new.accum_sigs (before ++ signature_words source.now (declaration.now ∷ []))) }
+        ensures modules { OnOk result ((before : List (List ℕ)) → HasNumbers self.old.accumulates before → HasNumbers self.new.accumulates (before ++ module_words source.now (declaration.now ∷ []))) }
+    {
+        match declaration {
+            Declaration::Kinds(names, _) => {
+                note(self.alloc, source, names.as_slice(), &mut self.kinds)
             }
+            Declaration::LocalKinds(names, count) => {
+                let is_declared = count.is_some();
+                note_if(
+                    self.alloc,
+                    source,
+                    names.as_slice(),
+                    is_declared,
+                    &mut self.kinds,
+                )
+            }
+            Declaration::Constants(names, _) => {
+                note(self.alloc, source, names.as_slice(), &mut self.constants)
+            }
+            Declaration::Locals(names, raw) => {
+                let is_declared = raw.is_some();
+                note_if(
+                    self.alloc,
+                    source,
+                    names.as_slice(),
+                    is_declared,
+                    &mut self.constants,
+                )
+            }
+            Declaration::Abbreviation(_, _, _) => Ok(()),
+            Declaration::Accumulate(words) => {
+                number(self.alloc, source, words.as_slice(), &mut self.accumulates)
+            }
+            Declaration::AccumSig(words) => {
+                number(self.alloc, source, words.as_slice(), &mut self.accum_sigs)
+            }
+            Declaration::Fixities(_, _, _) => Ok(()),
+        }
+    }
+
+    fn hear_sentence(&mut self, source: &[u8], sentence: &Sentence) -> Result<(), Memory>
+        ensures signatures { OnOk result ((before : List (List ℕ)) → HasNumbers self.old.accum_sigs before → HasNumbers self.new.accum_sigs (before ++ signature_words source.now (declarations (sentence.now ∷ [])))) }
+        ensures modules { OnOk result ((before : List (List ℕ)) → HasNumbers self.old.accumulates before → HasNumbers self.new.accumulates (before ++ module_words source.now (declarations (sentence.now ∷ [])))) }
+    {
+        match sentence {
+            Sentence::Declares(declaration) => self.hear(source, declaration),
+            Sentence::Says(_) => Ok(()),
+        }
+    }
+
+    pub(crate) fn of(alloc: Global, source: &[u8], text: &ModuleText) -> Result<Said, Memory>
+        ensures signatures { IfOk result (λ s. HasNumbers s.accum_sigs (signature_words source.now (declarations text.now.lines.items))) }
+        ensures modules { IfOk result (λ s. HasNumbers s.accumulates (module_words source.now (declarations text.now.lines.items))) }
+    {
+        let mut said = Said::new(alloc);
+        for at in 0..text.lines.len() {
+            said.hear_sentence(source, &text.lines[at])?;
         }
         Ok(said)
     }
 
     // How the signature that a word of accum_sig names goes with those before it.
-    fn sight_of_accum_sig(&self, sights: &[Sight], word: &[u8]) -> Option<Sight> {
+    fn sight_of_accum_sig(&self, sights: &[Sight], word: &[u8]) -> Option<Sight>
+        ensures { (signatures : List (List ℕ)) → HasNumbers self.now.accum_sigs signatures → result ≡ Some Alike → IsAlike sights.now 0 signatures word.now }
+    {
         let number = self.accum_sigs.get(word)?;
         sights.get(*number).copied()
     }
 
     // How the signature that a word of accumulate names goes with those before it.
-    fn sight_of_accumulate(&self, sights: &[Sight], word: &[u8]) -> Option<Sight> {
+    fn sight_of_accumulate(&self, sights: &[Sight], word: &[u8]) -> Option<Sight>
+        ensures { (signatures modules : List (List ℕ)) → HasNumbers self.now.accum_sigs signatures → HasNumbers self.now.accumulates modules → result ≡ Some Alike → IsAlike sights.now (length (first_names [] signatures)) modules word.now }
+    {
         let number = self.accumulates.get(word)?;
-        sights
-            .get(number.saturating_add(self.accum_sigs.len()))
-            .copied()
+        let place = number.checked_add(self.accum_sigs.len())?;
+        sights.get(place).copied()
     }
 }
 
 // A word that names a signature.
-fn check_word(word: Spot, sight: Option<Sight>) -> Result<(), ModuleSigFault> {
+fn check_word(word: Spot, sight: Option<Sight>) -> Result<(), ModuleSigFault>
+    ensures { OnOk result (sight ≡ Some Alike) }
+{
     match sight {
         Some(Sight::Alike) => Ok(()),
         Some(Sight::Otherwise) => Err(ModuleSigFault::Sig(SigFault::Differ(word))),
@@ -237,6 +320,7 @@ impl<'a> ModuleLines<'a> {
     ) -> Result<(), ModuleSigFault>
         ensures names { making.new.names ≡ making.old.names }
         ensures operators { making.new.operators ≡ making.old.operators }
+        ensures grown { OnOk result (Grows making.old making.new) }
         ensures words { OnOk result ((words : List (List ℕ)) → HasWords making.old.constants words → HasWords making.new.constants (words ++ map (λ s. spelled self.now.source.now s) names.now)) }
     {
         let outcome = declare_constants(
@@ -272,6 +356,7 @@ impl<'a> ModuleLines<'a> {
     ) -> Result<(), ModuleSigFault>
         ensures names { making.new.names ≡ making.old.names }
         ensures operators { making.new.operators ≡ making.old.operators }
+        ensures grown { OnOk result (Grows making.old making.new) }
         ensures words { OnOk result ((words : List (List ℕ)) → HasWords making.old.constants words → HasWords making.new.constants (words ++ spelled self.now.source.now name ∷ [])) }
     {
         if self.exports_constant(name) {
@@ -293,6 +378,7 @@ impl<'a> ModuleLines<'a> {
     ) -> Result<(), ModuleSigFault>
         ensures names { making.new.names ≡ making.old.names }
         ensures operators { making.new.operators ≡ making.old.operators }
+        ensures grown { OnOk result (Grows making.old making.new) }
         ensures words { OnOk result ((words : List (List ℕ)) → HasWords making.old.constants words → HasWords making.new.constants (words ++ map (λ s. spelled self.now.source.now s) names.now)) }
     {
         for name in names {
@@ -310,6 +396,7 @@ impl<'a> ModuleLines<'a> {
     ) -> Result<(), ModuleSigFault>
         ensures names { making.new.names ≡ making.old.names }
         ensures operators { making.new.operators ≡ making.old.operators }
+        ensures grown { OnOk result (Grows making.old making.new) }
         ensures words { OnOk result ((words : List (List ℕ)) → HasWords making.old.constants words → HasWords making.new.constants (words ++ map (λ s. spelled self.now.source.now s) names.now)) }
     {
         match making.bodies.scheme(&making.names, self.source, raw) {
@@ -344,6 +431,7 @@ impl<'a> ModuleLines<'a> {
     ) -> Result<(), ModuleSigFault>
         ensures names { making.new.names ≡ making.old.names }
         ensures operators { making.new.operators ≡ making.old.operators }
+        ensures grown { OnOk result (Grows making.old making.new) }
         ensures words { OnOk result ((words : List (List ℕ)) → HasWords making.old.constants words → HasWords making.new.constants (words ++ local_names self.now.source.now names.now raw.now)) }
     {
         match raw {
@@ -361,6 +449,7 @@ impl<'a> ModuleLines<'a> {
     ) -> Result<(), ModuleSigFault>
         ensures names { making.new.names ≡ making.old.names }
         ensures operators { making.new.operators ≡ making.old.operators }
+        ensures grown { OnOk result (Grows making.old making.new) }
         ensures constants { making.new.constants ≡ making.old.constants }
     {
         match making.declare_abbreviation(self.source, name, parameters, raw) {
@@ -369,7 +458,9 @@ impl<'a> ModuleLines<'a> {
         }
     }
 
-    fn accumulate(&self, words: &[Spot]) -> Result<(), ModuleSigFault> {
+    fn accumulate(&self, words: &[Spot]) -> Result<(), ModuleSigFault>
+        ensures { OnOk result ((signatures modules : List (List ℕ)) → HasNumbers self.now.said.now.accum_sigs signatures → HasNumbers self.now.said.now.accumulates modules → All (IsAlike self.now.sights.now (length (first_names [] signatures)) modules) (map (λ s. spelled self.now.source.now s) words.now)) }
+    {
         for word in words {
             let sight = self
                 .said
@@ -379,7 +470,9 @@ impl<'a> ModuleLines<'a> {
         Ok(())
     }
 
-    fn accum_sig(&self, words: &[Spot]) -> Result<(), ModuleSigFault> {
+    fn accum_sig(&self, words: &[Spot]) -> Result<(), ModuleSigFault>
+        ensures { OnOk result ((signatures : List (List ℕ)) → HasNumbers self.now.said.now.accum_sigs signatures → All (IsAlike self.now.sights.now 0 signatures) (map (λ s. spelled self.now.source.now s) words.now)) }
+    {
         for word in words {
             let sight = self
                 .said
@@ -397,7 +490,9 @@ impl<'a> ModuleLines<'a> {
     ) -> Result<(), ModuleSigFault>
         ensures names { making.new.names ≡ making.old.names }
         ensures operators { making.new.operators ≡ making.old.operators }
+        ensures grown { OnOk result (Grows making.old making.new) }
         ensures words { OnOk result ((words : List (List ℕ)) → HasWords making.old.constants words → HasWords making.new.constants (words ++ constant_names_by self.now.source.now declaration.now)) }
+        ensures alike { OnOk result ((signatures modules : List (List ℕ)) → HasNumbers self.now.said.now.accum_sigs signatures → HasNumbers self.now.said.now.accumulates modules → AreWordsAlike self.now.sights.now self.now.source.now signatures modules (declaration.now ∷ [])) }
     {
         match declaration {
             Declaration::Kinds(names, arity) => self.kinds(making, names.as_slice(), *arity),
