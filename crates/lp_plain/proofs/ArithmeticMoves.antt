@@ -78,7 +78,7 @@ came m q t o e l z y fine n = go (beta_normal n (closed z (tree m.bank t.0))) re
 module _ (qv : Query) (c : Machine) (a : Around) (rest work : Branch) (below : List Task) (g : IsGoingOn qv c a rest work below) (p : Place)
     (pl : IsPlaceAt (lists_of c) a p) (s : State Task) (w j : ℕ) (ea : s.answers ≡ suc w) (es : s.steps ≡ suc j)
     (go : (Answer → Bool) → State Task → Inner) (enough : ℕ) (P : List Clause) (name : GoalName) (task : Task) (stack : s.stack ≡ task ∷ below)
-    (counted : (n : Machine) → n.counts ≡ c.counts → (ts : List Task) → IsCounted n
+    (counted : (n : Machine) → n.counts ≡ c.counts → (ts : List Task) → IsCounted qv n
     (record { steps = j; answers = suc w; given = s.given; rows = s.rows; row = s.rows; lost = s.lost; stack = ts ++ below })) where
   abbrev see : ℕ → Task → View Task Answer
   see = look unit_limit enough P

@@ -1,5 +1,5 @@
 -- An atom that takes its step, as moves of the definition, by the tasks that it leaves.
-use Rattle.std.proofs.Common.{◌≡◌, ℕ, suc, List, [], ◌∷◌, ◌++◌, length, refl, sym, ap, inl, inr, ◌∙◌, Bool}
+use Rattle.std.proofs.Common.{◌+◌, ◌≡◌, ℕ, suc, List, [], ◌∷◌, ◌++◌, length, refl, sym, ap, inl, inr, ◌∙◌, Bool}
 use Rattle.lp_model.specs.Branch.{Answer, Branch, Go, Lack, Stop, Task}
 use Rattle.lp_model.specs.Flat.{Clause}
 use Rattle.lp_model.specs.Search.{look}
