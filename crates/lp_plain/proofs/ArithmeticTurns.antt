@@ -143,7 +143,7 @@ module _ (qv : Query) (m c : Machine) (a : Around) (raw : Branch) (s : State Tas
       (subst IsSmallExpression (same_closed l) z.0, subst IsSmallExpression (same_closed r) z.1) in
       order_leads qv c a rest work h.rest (stepped qv m c a raw s h p u o at k ch ct there) p (place_stepped qv m c a raw s h p u o at k ch ct there)
       s w (left qv m c a raw s h p u o at k ch ct there) ea
-      (steps_are qv m c a raw s h p u o at k ch ct there) go enough P (named (order_number v)) (Go h.at_work) h.stack (counted w) n v l r turn e (λ d. (few d).0) small
+      (steps_are qv m c a raw s h p u o at k ch ct there) go enough P (named (order_number v)) (Go h.at_work) h.stack (counted w) n v l r turn e sc (λ d. (few d).0) small
       (subst (λ b. l.0 < length b.terms) (sym kept) st.0) (subst (λ b. r.0 < length b.terms) (sym kept) st.1) (subst IsEvaluable (same_closed l) no.0) (subst IsEvaluable (same_closed r) no.1.0)
       (named_view qv m a raw s h p u o at enough P t q (order_number v) l r y.0 y.1 ∙
       ap (Takes (named (order_number v))) (order_tasks v P enough (length h.rest) t (closed h.closing (tree m.bank l.0)) (closed h.closing (tree m.bank r.0)) ∙
