@@ -197,7 +197,7 @@ module _ (P : List Clause) (n : ℕ) (s u : Search) (t : State Task) (x : Event 
   later_told z f (is_over e q o) = absurd (cc)
 
   -- the steps between two events
-  abbrev taken : ℕ
+  abbrev pub taken : ℕ
   taken = steps_until (look unit_limit n P) d.inner_moves d.moves t
 
   abbrev AreCounted : Query → Type 0

@@ -163,7 +163,11 @@ module _ (c : Course) (w : Waiting) (ws : List Waiting) (s : State Task) where
   is_held x ns t f e h = subst (λ i. Comes c ws (goes_on w i s.row w.rest)) none_left (by_end (Tells x ns t) (Held 0 [] s.row) (λ j. ap (λ z. if z then Held 0 [] s.row else Broke 0 [] OpenNot) f) e h)
 
   pub is_open : (x : Answer) (ns : List Note) (t : State Task) → has_no_pairs x ≡ false → ((j : ℕ) → move (inner seeing j) seeing s ≡ Tells x ns t) → Comes c (w ∷ ws) s → (c.event ≡ Over OpenNot) × (s.steps ≡ c.rest)
-  is_open x ns t f e h = by_end (Tells x ns t) (Broke 0 [] OpenNot) (λ j. ap (λ z. if z then Held 0 [] s.row else Broke 0 [] OpenNot) f) e h
+  is_open x ns t f e h =
+      let o = by_end (Tells x ns t) (Broke 0 [] OpenNot) (λ j. ap (λ z. if z then Held 0 [] s.row else Broke 0 [] OpenNot) f) e h in
+      (o.0, (let q = o.1 in omega (arith, q)))
 
   pub is_cut : ((j : ℕ) → move (inner seeing j) seeing s ≡ Stops NoMoreCut) → Comes c (w ∷ ws) s → (c.event ≡ Over OpenNot) × (s.steps ≡ c.rest)
-  is_cut e h = by_end (Stops NoMoreCut) (Broke 0 [] OpenNot) (λ j. refl) e h
+  is_cut e h =
+      let o = by_end (Stops NoMoreCut) (Broke 0 [] OpenNot) (λ j. refl) e h in
+      (o.0, (let q = o.1 in omega (arith, q)))

@@ -41,12 +41,12 @@ later_comes c behind w n m j ns (Lasts k ms) e h = h
 end_comes : (c : Course) (behind : State Task → Type 0) (w : Waiting) (n p : ℕ) (e : Ending) → EndsAll e → ComesOf c behind w n (inner_end p e) → (c.event ≡ Over e) × (n ≡ c.rest)
 end_comes c behind w n p NoMore h x = absurd h
 end_comes c behind w n p NoMoreCut h x = absurd h
-end_comes c behind w n p Enough h x = x
-end_comes c behind w n p Steps h x = x
-end_comes c behind w n p Flexible h x = x
-end_comes c behind w n p (Arithmetic f) h x = x
-end_comes c behind w n p OpenNot h x = x
-end_comes c behind w n p Deep h x = x
+end_comes c behind w n p Enough h x = (x.0, (let q = x.1 in omega (arith, q)))
+end_comes c behind w n p Steps h x = (x.0, (let q = x.1 in omega (arith, q)))
+end_comes c behind w n p Flexible h x = (x.0, (let q = x.1 in omega (arith, q)))
+end_comes c behind w n p (Arithmetic f) h x = (x.0, (let q = x.1 in omega (arith, q)))
+end_comes c behind w n p OpenNot h x = (x.0, (let q = x.1 in omega (arith, q)))
+end_comes c behind w n p Deep h x = (x.0, (let q = x.1 in omega (arith, q)))
 
 -- a turn does not answer, and ends with no such end, where a search waits
 abbrev pub IsInnerTurn : List Waiting → Turn → Type 0
