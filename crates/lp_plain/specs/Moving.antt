@@ -80,8 +80,8 @@ AreEntriesUnder z m l u [] (d ∷ ds) = ⊥
 AreEntriesUnder z m l u (e ∷ es) [] = ⊥
 AreEntriesUnder z m l u (e ∷ es) (d ∷ ds) = IsEntryUnder z m l u e d × AreEntriesUnder z m l e.mark es ds
 
--- a search that waits for that of a negated goal: how many type variables and variables its query has, how many steps may be taken in all, the answers that are left behind the next one and those that were
--- given, whether a cut removed an alternative, the branch to go on with where the goal is refuted, and the tasks below it
+-- a search that waits for that of a negated goal: how many type variables and variables its query has, how many steps may be taken in all, the answers that are left
+-- behind the next one and those that were given, whether a cut removed an alternative, the branch to go on with where the goal is refuted, and the tasks below it
 pub record Waiting : Type 0 where
   pub types : ℕ
   pub vars : ℕ
@@ -92,7 +92,8 @@ pub record Waiting : Type 0 where
   pub branch : Branch
   pub rest : List Task
 
--- how many type variables and variables the query of the search at work has, how many types a constant takes, how many steps may be taken in all, and the searches that wait, the innermost first
+-- how many type variables and variables the query of the search at work has, how many types a constant takes, how many steps may be taken in all, and the searches that
+-- wait, the innermost first
 pub record Query : Type 0 where
   pub types : ℕ
   pub vars : ℕ
