@@ -174,9 +174,9 @@ module _ (qv : Query) (m : Machine) (a : Around) (raw : Branch) (s : State Task)
       no_step : (name : GoalName) (ts : List Task) → m.counts.limit ≤ m.counts.steps → n.counts.steps ≡ m.counts.steps → seen ≡ Takes name ts → IsMoved qv (Turn.Ended Steps) n (move go see s) s
       no_step name ts l c e =
           let none : s.steps ≡ 0 = (let q = h.counted.steps in omega (arith, q, l)) in (
-          (λ i. move_at go see (none i) (ea i) s.given s.rows s.row s.lost (h.stack i)) ∙ by_lost go see 0 w s.given s.rows s.row s.lost (Go h.at_work) h.rest ∙
-          ap (move_view go 0 w s.given s.rows s.row s.lost h.rest) e,
-          (let t = h.counted.total in omega (arith, t, c)),
+            (λ i. move_at go see (none i) (ea i) s.given s.rows s.row s.lost (h.stack i)) ∙ by_lost go see 0 w s.given s.rows s.row s.lost (Go h.at_work) h.rest ∙
+                ap (move_view go 0 w s.given s.rows s.row s.lost h.rest) e,
+            (let t = h.counted.total in omega (arith, t, c)),
           )
 
       pub spent_leads : (c : Form) → IsAtomForm m.bank x c → m.counts.limit ≤ m.counts.steps → n.counts.steps ≡ m.counts.steps → Leads 1 qv (Turn.Ended Steps) n go see s

@@ -122,7 +122,8 @@ side_state qv m n q c rest from e u l t g k ka fr qp s h =
             (subst (λ z. IsBranchUnder qv st.levels m.bank sp.is.closing f' b (b + length xs) z sd.side st.branch) (sym pairs)
             (branch_marked qv st.levels m.bank sp.is.closing b (b + length xs) c.pairs.items f f' agree sd.side st.branch st.under))));
         counted = record {
-          steps = h.counted.steps ∙ ap (λ z. z.limit - z.steps) (sym g.counts); total = (let q = h.counted.total in let e = ap (λ z. z.steps) (g.counts) in omega (arith, q, e));
+          steps = h.counted.steps ∙ ap (λ z. z.limit - z.steps) (sym g.counts);
+          total = (let q = h.counted.total in let e = ap (λ z. z.steps) (g.counts) in omega (arith, q, e));
           rows = h.counted.rows;
           row = h.counted.row ∙ ap (λ z. 1000000 - z.row) (sym g.counts);
           lost = h.counted.lost ∙ ap (λ z. z.lost) (sym g.counts);
@@ -142,6 +143,6 @@ none_moved qv m n s b e l c h k ea go enough P =
     let d = base_of m.denied in
     let none = no_tasks qv m (mark_in d h.above.raws) d d (drop d m.choices.items) h.above.raws h.above.others (drop_none d m.choices.items e) h.above.are in
     let st : s.stack ≡ [] = h.above.is ∙ ap stack_of none in (
-    (λ i. move_at go (look unit_limit enough P) s.steps (ea i) s.given s.rows s.row ((h.counted.lost ∙ l) i) (st i)) ∙ stops_so go (look unit_limit enough P) s.steps k s.given s.rows s.row b,
-    (let t = h.counted.total in omega (arith, t, c)),
+      (λ i. move_at go (look unit_limit enough P) s.steps (ea i) s.given s.rows s.row ((h.counted.lost ∙ l) i) (st i)) ∙ stops_so go (look unit_limit enough P) s.steps k s.given s.rows s.row b,
+      (let t = h.counted.total in omega (arith, t, c)),
     )

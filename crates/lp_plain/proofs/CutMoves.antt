@@ -242,7 +242,7 @@ cut_stops qv m n p o l c a raw s h at w ea go enough P =
     ap (look_branch unit_limit enough P (length h.rest) h.at_work) sp.whole ∙ ap (look_goal unit_limit enough P (length h.rest) sp.first behind)
     (subst (λ g. IsGoalUnder h.closing g sp.first.goal) (ap (goal_in at.values p.values.types) (cut_is m at.goal at.is)) sp.entry.goal) in
     let none : s.steps ≡ 0 = (let q = h.counted.steps in omega (arith, q, l)) in (
-    (λ i. move_at go (look unit_limit enough P) (none i) (ea i) s.given s.rows s.row s.lost (h.stack i)) ∙ by_lost go (look unit_limit enough P) 0 w s.given s.rows s.row s.lost (Go h.at_work) h.rest ∙
-    ap (move_view go 0 w s.given s.rows s.row s.lost h.rest) seen,
-    (let t = h.counted.total in omega (arith, t, c)),
+      (λ i. move_at go (look unit_limit enough P) (none i) (ea i) s.given s.rows s.row s.lost (h.stack i)) ∙ by_lost go (look unit_limit enough P) 0 w s.given s.rows s.row s.lost (Go h.at_work) h.rest ∙
+          ap (move_view go 0 w s.given s.rows s.row s.lost h.rest) seen,
+      (let t = h.counted.total in omega (arith, t, c)),
     )

@@ -144,12 +144,16 @@ module _ (qv : Query) (m : Machine) (a : Around) (raw : Branch) (s : State Task)
   steps_at : (n : Machine) → n.counts.steps ≡ m.counts.steps → s.steps ≡ 0 → (go : (Answer → Bool) → State Task → Inner) (enough : ℕ) (P : List Clause) (k : ℕ) → s.answers ≡ suc k →
       (o : Option Bool) → has_variables enough asked ≡ o → Leads 1 qv (Turn.Ended Steps) n go (look unit_limit enough P) s
   steps_at n c z go enough P k ea None q = inr (inl (waiting go enough P k ea q))
-  steps_at n c z go enough P k ea (Some true) q = inl
-      (((λ i. move_at go (look unit_limit enough P) (z i) (ea i) s.given s.rows s.row s.lost (h.stack i)) ∙ by_lost go (look unit_limit enough P) 0 k s.given s.rows s.row s.lost (Go h.at_work) h.rest ∙
-      ap (move_view go 0 k s.given s.rows s.row s.lost h.rest) (seen_is enough P (Some true) q)), (let t = h.counted.total in omega (arith, t, c)))
-  steps_at n c z go enough P k ea (Some false) q = inl
-      (((λ i. move_at go (look unit_limit enough P) (z i) (ea i) s.given s.rows s.row s.lost (h.stack i)) ∙ by_lost go (look unit_limit enough P) 0 k s.given s.rows s.row s.lost (Go h.at_work) h.rest ∙
-      ap (move_view go 0 k s.given s.rows s.row s.lost h.rest) (seen_is enough P (Some false) q)), (let t = h.counted.total in omega (arith, t, c)))
+  steps_at n c z go enough P k ea (Some true) q = inl (
+    ((λ i. move_at go (look unit_limit enough P) (z i) (ea i) s.given s.rows s.row s.lost (h.stack i)) ∙ by_lost go (look unit_limit enough P) 0 k s.given s.rows s.row s.lost (Go h.at_work) h.rest ∙
+        ap (move_view go 0 k s.given s.rows s.row s.lost h.rest) (seen_is enough P (Some true) q)),
+    (let t = h.counted.total in omega (arith, t, c)),
+  )
+  steps_at n c z go enough P k ea (Some false) q = inl (
+    ((λ i. move_at go (look unit_limit enough P) (z i) (ea i) s.given s.rows s.row s.lost (h.stack i)) ∙ by_lost go (look unit_limit enough P) 0 k s.given s.rows s.row s.lost (Go h.at_work) h.rest ∙
+        ap (move_view go 0 k s.given s.rows s.row s.lost h.rest) (seen_is enough P (Some false) q)),
+    (let t = h.counted.total in omega (arith, t, c)),
+  )
 
   pub ends_at_steps : (n : Machine) → n.counts.steps ≡ m.counts.steps → m.counts.limit ≤ m.counts.steps → EndsDenied qv (Turn.Ended Steps) n s h.at_work.goals
   ends_at_steps n c l k ea go enough few P = steps_at n c (let q = h.counted.steps in omega (arith, q, l)) go enough P k ea (has_variables enough asked) refl

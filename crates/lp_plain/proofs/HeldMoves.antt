@@ -91,7 +91,8 @@ module _ (qv : Query) (m : Machine) (s : State Task) (h : IsState qv m s) (none 
       around = h.around;
       above = held_alternatives qv m n h.around h.running.rest h.running.above number within.denial w within.others within.is within.more cut is_around.0;
       counted = record {
-        steps = h.running.counted.steps ∙ ap (λ z. z.limit - z.steps) (sym counts_are); total = (let q = h.running.counted.total in let e = ap (λ z. z.steps) (counts_are) in omega (arith, q, e, l));
+        steps = h.running.counted.steps ∙ ap (λ z. z.limit - z.steps) (sym counts_are);
+        total = (let q = h.running.counted.total in let e = ap (λ z. z.steps) (counts_are) in omega (arith, q, e, l));
         rows = refl;
         row = h.running.counted.row ∙ ap (λ z. 1000000 - z.row) (sym counts_are);
         lost = within.is.lost ∙ ap (λ z. z.lost) (sym counts_are);

@@ -47,7 +47,8 @@ module _ (m n : Machine) (b : OnlyBank m n) where
         running_still qv m n a a raw s h (bank_still h.above.done.stands) (placed_on m n a p (bank_grown p) h.above.done.stands h.placed pl) (grown_on m n p (bank_grown p))
         (same_around (length m.newest.items) (length m.standings.items) a) (record { bindings = ap (λ z. z.bindings) b.same; pairs = ap (λ z. z.pairs) branch }) (ap (λ z. z.choices.items) b.same) h.levels raw h.at_work s h.under
         (omega (arith, next)) (next ∙ h.next) (ap (λ z. z.next_type) branch ∙ h.next_type) h.stack (record {
-          steps = h.counted.steps ∙ ap (λ x. x.limit - x.steps) (sym c); total = (let q = h.counted.total in let e = ap (λ z. z.steps) (c) in omega (arith, q, e));
+          steps = h.counted.steps ∙ ap (λ x. x.limit - x.steps) (sym c);
+          total = (let q = h.counted.total in let e = ap (λ z. z.steps) (c) in omega (arith, q, e));
           rows = h.counted.rows;
           row = h.counted.row ∙ ap (λ x. 1000000 - x.row) (sym c);
           lost = h.counted.lost ∙ ap (λ x. x.lost) (sym c);

@@ -226,7 +226,8 @@ module _ (qv : Query) (m n : Machine) (a : Around) (call : Call) (one : Candidat
 
   counted : (ts : List Task) → IsCounted qv n (after ts)
   counted ts = record {
-    steps = h.counted.steps ∙ ap (λ x. x.limit - x.steps) (sym g.counts); total = (let q = h.counted.total in let e = ap (λ z. z.steps) (g.counts) in omega (arith, q, e));
+    steps = h.counted.steps ∙ ap (λ x. x.limit - x.steps) (sym g.counts);
+    total = (let q = h.counted.total in let e = ap (λ z. z.steps) (g.counts) in omega (arith, q, e));
     rows = h.counted.rows;
     row = h.counted.row ∙ ap (λ x. row_limit - x.row) (sym g.counts);
     lost = h.counted.lost ∙ ap (λ x. x.lost) (sym g.counts);

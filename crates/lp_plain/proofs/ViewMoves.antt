@@ -33,7 +33,8 @@ module _ (qv : Query) (m n : Machine) (a : Around) (raw : Branch) (s : State Tas
 
     counted : (stack : List Task) → IsCounted qv n (after_parts go (look unit_limit enough P) s w left stack)
     counted stack = record {
-      steps = h.counted.steps ∙ ap (λ x. x.limit - x.steps) (sym t.quiet.counts); total = (let q = h.counted.total in let e = ap (λ z. z.steps) (t.quiet.counts) in omega (arith, q, e));
+      steps = h.counted.steps ∙ ap (λ x. x.limit - x.steps) (sym t.quiet.counts);
+      total = (let q = h.counted.total in let e = ap (λ z. z.steps) (t.quiet.counts) in omega (arith, q, e));
       rows = h.counted.rows;
       row = refl;
       lost = h.counted.lost ∙ ap (λ x. x.lost) (sym t.quiet.counts);
@@ -96,7 +97,7 @@ module _ (qv : Query) (m n : Machine) (a : Around) (raw : Branch) (s : State Tas
       let r = h.counted.row in
       let zero_row : s.row ≡ 0 = omega (arith, r, l) in
       let q = some_parts views in (
-      (λ i. move_at go (look unit_limit enough P) s.steps (ea i) s.given s.rows (zero_row i) s.lost (h.stack i)) ∙
-      at_limit go (look unit_limit enough P) s.steps w s.given s.rows s.lost (Go h.at_work) h.rest q.0 (looked ∙ q.1),
-      (let t = h.counted.total in omega (arith, t, c)),
+        (λ i. move_at go (look unit_limit enough P) s.steps (ea i) s.given s.rows (zero_row i) s.lost (h.stack i)) ∙
+            at_limit go (look unit_limit enough P) s.steps w s.given s.rows s.lost (Go h.at_work) h.rest q.0 (looked ∙ q.1),
+        (let t = h.counted.total in omega (arith, t, c)),
       )
