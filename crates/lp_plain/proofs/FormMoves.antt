@@ -19,7 +19,6 @@ use Rattle.lp_pattern.specs.Putting.{Known}
 use Rattle.lp_pattern.specs.Seen.{IsEndedHead}
 use Rattle.lp_pattern.specs.Under.{ValueIs}
 use Rattle.lp_plain.specs.declared.frame.Place.{Place}
-use Rattle.lp_plain.specs.declared.machine.Counts.{Counts}
 use Rattle.lp_plain.specs.declared.machine.Machine.{Machine}
 use Rattle.lp_plain.specs.declared.outcome.Turn.{Turn}
 use Rattle.lp_plain.specs.Apart.{IsApart}
