@@ -108,7 +108,7 @@ module _ (c : Course) (qv : Query) (n : Machine) (s : State Task) (of : IsOfQuer
     by_final true e Turn.Back f y = (
       waiting_query qv.arity h.waiting h.others,
       woken h.waiting s.steps s.row h.waiting.rest,
-      (of.0, of_waiting h.waiting h.others h.outer),
+      (of.0, (of_waiting h.waiting h.others h.outer).0, (of_waiting h.waiting h.others h.outer).1),
       y,
       is_held c h.waiting h.others s h.answer told_held.0 told_held.1 e (λ j. told_held.2 (inner (seen_in c) j) c.enough c.program) inside_held,
       f refl,
@@ -142,7 +142,7 @@ module _ (c : Course) (qv : Query) (n : Machine) (s : State Task) (of : IsOfQuer
     by_loss false e Turn.On f y = (
       waiting_query qv.arity h.waiting h.others,
       woken h.waiting s.steps s.row (Go h.waiting.branch ∷ h.waiting.rest),
-      (of.0, of_waiting h.waiting h.others h.outer),
+      (of.0, (of_waiting h.waiting h.others h.outer).0, (of_waiting h.waiting h.others h.outer).1),
       y,
       is_refuted c h.waiting h.others s (λ j. h.stops 0 inside_refuted.0 (inner (seen_in c) j) c.enough c.program ∙ ap (λ b. Stops (last_ending b)) e) inside_refuted,
       f refl,

@@ -1,5 +1,5 @@
 -- An atom that took its step: the search is to go on with the goals behind it.
-use Rattle.std.proofs.Common.{◌<◌, ◌≡◌, ℕ, ◌+◌, ◌-◌, List, length, sym, ap, ◌∙◌, subst, Option}
+use Rattle.std.proofs.Common.{◌<◌, arith, ◌≡◌, ℕ, ◌+◌, ◌-◌, List, length, sym, ap, ◌∙◌, subst, Option}
 use Rattle.std.specs.Prelude.{All}
 use Rattle.lp_calculus.specs.Term.{Term}
 use Rattle.lp_term.specs.Nodes.{Extends}

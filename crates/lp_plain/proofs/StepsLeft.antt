@@ -79,7 +79,7 @@ module _ {T A : Type 0} where
 
   module _ (look : ℕ → T → View T A) where
     pub inner_most : (j : ℕ) (f : A → Bool) (s : State T) → TakesAtMost s.steps (inner look j f s)
-    inner_most zero f s = tt
+    inner_most zero f s = omega arith
     inner_most (suc j) f s =
         after_most (inner look j f) f s.steps s.row (λ t. inner_most j f t) (move (inner look j) look s)
         (at_leaves (inner look j) (λ g t. inner_most j g t) look s.steps s.answers s.given s.rows s.row s.lost s.stack)
