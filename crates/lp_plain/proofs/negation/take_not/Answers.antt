@@ -69,11 +69,11 @@ pub returns-then-not-take_step-clause-program : goal.returns-then-not-take_step-
 returns-then-not-take_step-clause-program g c = program_same c.args.machine.now c.take_step.new.machine (c.if-not-take_step.ensures.spent refl).0
 
 pub returns-in-Deep-clause-program : goal.returns-in-Deep-clause-program
-returns-in-Deep-clause-program g c = program_then c.args.machine.now c.take_step.new.machine c.openness_at.new.machine (ap (λ z. z.steps) c.openness_at.ensures.counts ∙ ap (λ z. z.steps) (c.take_step.ensures.counts c.if-not-take_step.false))
+returns-in-Deep-clause-program g c = program_then c.args.machine.now c.take_step.new.machine c.openness_at.new.machine
     (goals_keep c.args.machine.now c.take_step.new.machine c.take_step.ensures.goals) c.in_ok-openness_at.ensures.program
 
 pub returns-in-Open-clause-program : goal.returns-in-Open-clause-program
-returns-in-Open-clause-program g c = program_then c.args.machine.now c.take_step.new.machine c.openness_at.new.machine (ap (λ z. z.steps) c.openness_at.ensures.counts ∙ ap (λ z. z.steps) (c.take_step.ensures.counts c.if-not-take_step.false))
+returns-in-Open-clause-program g c = program_then c.args.machine.now c.take_step.new.machine c.openness_at.new.machine
     (goals_keep c.args.machine.now c.take_step.new.machine c.take_step.ensures.goals) c.in_ok-openness_at.ensures.program
 
 pub returns-in_ok-begin-in-Closed-clause-program : goal.returns-in_ok-begin-in-Closed-clause-program
@@ -85,7 +85,8 @@ returns-in_ok-begin-in-Closed-clause-program g c =
 
 pub returns-then-not-take_step-clause-denies : goal.returns-then-not-take_step-clause-denies
 returns-then-not-take_step-clause-denies g c = λ qv a raw s h at.
-    ends_at_steps qv c.args.machine.now a raw s h c.args.place c.args.goals c.args.free c.args.behind at c.args.machine.now refl (c.if-not-take_step.ensures.spent refl).1
+    ends_at_steps qv c.args.machine.now a raw s h c.args.place c.args.goals c.args.free c.args.behind at c.take_step.new.machine
+    (ap (λ z. z.counts.steps) (c.if-not-take_step.ensures.spent refl).0) (c.if-not-take_step.ensures.spent refl).1
 
 pub returns-in-Deep-clause-denies : goal.returns-in-Deep-clause-denies
 returns-in-Deep-clause-denies g c = λ qv a raw s h at.
