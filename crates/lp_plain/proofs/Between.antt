@@ -172,7 +172,7 @@ module _ (k : Course) (s u : Search) (m : Machine) (b : Nodes) (it : IsToTell s 
       goes_on st.0 (ue ∙ it.goes_on) (record { alone = st.3; are = ap (λ v. length v.items) uv ∙ same_count }) (record { given = ag ∙ ap suc g ∙ sym ug; left = omega (arith, al, ug, ua, l) })
       (answered (omega (arith, ug)) (answered_back st.0 m u.machine b x um k.after st.6))
       (subst (λ ar. HasClauses k.program ar u.machine) (sym st.2.0) (clauses_later k.program k.query.arity m u.machine b x um st.6.above.done.stands
-      st.10)) (subst (λ ar. IsTypedOver ar k.enough k.program k.after) (sym st.2.0) st.9.1)
+      st.10)) (subst (λ ar. IsTypedOver ar k.enough k.program k.after) (sym st.2.0) st.9)
 
 pub answer_told : (k : Course) (m : Machine) (st : Stands k Turn.Answered m) (a : CodeAnswer) → IsAnswerOf st.1 a → IsEventOf k.event (told.Answer a)
 answer_told k m st a h = subst (λ z. IsEventOf z (told.Answer a)) (sym st.4) h

@@ -17,7 +17,7 @@ use Rattle.lp_plain.specs.declared.outcome.Turn.{Turn}
 use Rattle.lp_plain.specs.Between.{HasClauses}
 use Rattle.lp_plain.specs.Calling.{AreFewAt, LeadsOver, LeadsWith, WrittenBehind}
 use Rattle.lp_plain.specs.Moving.{IsAnswered, IsMoved, IsWaiting, MovesTo, Query, Waiting}
-use Rattle.lp_plain.specs.Reached.{at_once, behind_answer, behind_move}
+use Rattle.lp_plain.specs.Reached.{at_once, behind_move}
 use Rattle.lp_plain.specs.Stepping.{steps_after, steps_until}
 use Rattle.lp_plain.specs.Turns.{EndsAll, IsNoEnd}
 use Rattle.lp_plain.specs.TypedStates.{IsTypedOver, IsTypedState}
@@ -77,12 +77,8 @@ kept_on c j k ns s t e h =
       typed_on c.query.arity c.enough c.program go s t (Goes k ns t) (λ d q w. w) e h.1,
     )
 
-kept_behind : (c : Course) (j : ℕ) (a : Answer) (ns : List Note) (s t : State Task) → move (inner (seen_in c) j) (seen_in c) s ≡ Tells a ns t → Kept c s → Kept c t
-kept_behind c j a ns s t e h =
-    let go = inner (seen_in c) j in (
-      λ u r. h.0 u (behind_answer j a ns t e r),
-      typed_on c.query.arity c.enough c.program go s t (Tells a ns t) (λ d q w. w) e h.1,
-    )
+typed_behind : (c : Course) (j : ℕ) (a : Answer) (ns : List Note) (s t : State Task) → move (inner (seen_in c) j) (seen_in c) s ≡ Tells a ns t → Kept c s → IsTypedOver c.query.arity c.enough c.program t
+typed_behind c j a ns s t e h = typed_on c.query.arity c.enough c.program (inner (seen_in c) j) s t (Tells a ns t) (λ d q w. w) e h.1
 
 module _ (c : Course) (qv : Query) (n : Machine) (within : IsOfQuery c.query qv) (W : Turn → Type 0) (serves : (turn : Turn) → IsNoEnd turn → W turn → HasClauses c.program c.query.arity n) where
   abbrev see : ℕ → Task → View Task Answer
@@ -131,7 +127,7 @@ module _ (c : Course) (qv : Query) (n : Machine) (within : IsOfQuery c.query qv)
           subst (IsAnswered qv n) q.1 h.5,
           subst (λ (t : State Task). t.answers ≡ c.left) q.1 left,
           subst (λ (t : State Task). t.given ≡ suc c.given) q.1 (h.7 ∙ ap suc g),
-          subst (Kept c) q.1 (kept_behind c j h.1 h.0 s h.2 h.3 v),
+          subst (IsTypedOver c.query.arity c.enough c.program) q.1 (typed_behind c j h.1 h.0 s h.2 h.3 v),
           serves Turn.Answered tt w,
           (let t = h.5.total in let r = left_told i h.1 h.0 s h.2 h.3 l in let k = within.1 in omega (arith, t, r, k)),
         )

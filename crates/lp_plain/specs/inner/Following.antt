@@ -70,7 +70,7 @@ abbrev pub Stands : Course → Turn → Machine → Type 0
 Stands c Turn.On m = (qv : Query) × (s : State Task) × IsOfQuery c.query qv × IsState qv m s × Comes c qv.outer s × HasClauses c.program c.query.arity m
 Stands c Turn.Back m = (qv : Query) × (s : State Task) × IsOfQuery c.query qv × IsBack qv m s × Comes c qv.outer s × HasClauses c.program c.query.arity m
 Stands c Turn.Answered m = (qv : Query) × (x : Answer) × IsOfQuery c.query qv × (qv.outer ≡ []) × (c.event ≡ Gave x) × IsAnswer qv m x × IsAnswered qv
-    m c.after × (c.after.answers ≡ c.left) × (c.after.given ≡ suc c.given) × Kept c c.after × HasClauses c.program c.query.arity m ×
+    m c.after × (c.after.answers ≡ c.left) × (c.after.given ≡ suc c.given) × IsTypedOver c.query.arity c.enough c.program c.after × HasClauses c.program c.query.arity m ×
     (m.counts.steps + c.rest ≡ c.query.limit)
 Stands c (Turn.Ended e) m = AreFewOn c (Turn.Ended e) → (c.event ≡ Over e) × (m.counts.steps + c.rest ≡ c.query.limit)
 
