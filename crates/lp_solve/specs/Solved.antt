@@ -25,7 +25,7 @@ use Rattle.lp_solve.specs.Written.{IsBegun, IsWritten}
 -- first. And it is right: in proofs from the source clauses, in which a negated goal is proved by a search that fails.
 pub record IsAnswered (told : Option Held) (name query : List ℕ) (q : IsQuery told name query) (watched : Bool) (steps answers : ℕ) (status : Status) (text : List ℕ) : Type 0 where
   pub some : Told Answer
-  pub written : IsWritten (Unit {0}) (entries q) (names q) watched some status text
+  pub written : IsWritten (λ k. Unit {0}) (entries q) (names q) watched some status text
   pub search : (d : Declared) (P : List Clause) (gs : Goals) → IsFlat q d P gs → (n j m : ℕ) →
       IsWritten (IsExact P n (first_state q gs steps answers)) (entries q) (names q) watched (told_by P n j m (first_state q gs steps answers)) status text
       ⊎ IsBegun (entries q) (names q) (told_by P n j m (first_state q gs steps answers)) text
