@@ -58,3 +58,5 @@ pub mod Worded
 pub mod Sayings
 pub mod OwnNames
 pub mod Apart
+pub mod Sighting
+pub mod KnownConstants

@@ -27,3 +27,5 @@ pub mod Standing
 pub mod Announced
 pub mod Modules
 pub mod Worded
+pub mod Named
+pub mod Sighted

@@ -14,6 +14,7 @@ ghost use Rattle.lp_sig.specs.Standing.{TypeStands};
 ghost use Rattle.lp_sig.specs.Constants.{Written, IsNoted, IsConstant, IsTyped, IfTyped, KnowsConstants, AreTyped, AreTypedIf, FirstStands, IsTakenConstant, AreTakenConstants, IsKnownAs, AreConstants, HaveNumbers, IsConstantFault, IsFirstConstant};
 ghost use Rattle.lp_sig.specs.Modules.{numbered_names};
 ghost use Rattle.lp_sig.specs.Worded.{HasWords, is_met_word, is_met, names_so_far};
+ghost use Rattle.lp_sig.specs.Sighted.{AreCounted, PutsBehind, IsTreeOf};
 ghost use Rattle.lp_sig.specs.declared.constants.Known.TheVariants as known;
 
 use crate::entries::ConstantEntry;
@@ -152,7 +153,8 @@ impl Constants {
 
     // A constant of a signature behind the others. Says whether there is a number for it.
     pub(crate) fn put(&mut self, word: &[u8], declared: DeclaredType) -> Result<bool, Memory>
-        ensures { OnOk result ((words : List (List ℕ)) → is_met_word word.now words ≡ false → HasWords self.old words → HasWords self.new (words ++ word.now ∷ [])) }
+        ensures words { OnOk result ((words : List (List ℕ)) → is_met_word word.now words ≡ false → HasWords self.old words → HasWords self.new (words ++ word.now ∷ [])) }
+        ensures put { OnOk result (PutsBehind self.old self.new word.now declared) }
     {
         let place = self.constants.len();
         let name = Vec::from_slice(self.alloc, word)?;
@@ -170,6 +172,7 @@ impl Constants {
         ensures is { IfOk result (λ k. (said : List (Row Said)) (defs : List (Row Definition)) (rows : List (Row Written)) → KnowsConstants types.old.bank self.now said defs rows → IsKnownAs types.new.bank said defs rows word.now k) }
         ensures untyped { IfOk result (λ k. k ≡ known.Untyped → (from : ℕ) (z : Seen) (rows : List (Row Written)) → KnowsConstants types.old.bank self.now z.said z.definitions rows → AreTypedIf from z rows self.now → FirstStands from z rows word.now → ⊥) }
         ensures met { IfOk result (λ k. (words : List (List ℕ)) → HasWords self.now words → is_met_word word.now words ≡ is_met k) }
+        ensures tree { IfOk result (λ k. (words : List (List ℕ)) → HasWords self.now words → AreCounted types.old.bank self.now → IsTreeOf types.new.bank self.now word.now k) }
     {
         if let Some(number) = standard_constant(word) {
             let known = standard_type(types, number)?;

@@ -1,0 +1,105 @@
+-- Constants with their types, while more of them are known.
+use Rattle.std.proofs.Common.{◌≡◌, ℕ, zero, suc, ◌<◌, List, [], ◌∷◌, ◌++◌, length, map, get_or, refl, sym, ap, subst, ◌∙◌, arith, Bool, true, false, Option, Some, None, inl, inr}
+use Rattle.std.specs.Prelude.{◌⊎◌, if◌then◌else◌, option_map, slice_get, Contains, All}
+use Rattle.std.specs.Str.{bytes_eq}
+use Rattle.std.proofs.lemmas.List.{append-nil}
+use Rattle.std.proofs.lemmas.List.Elements.{Contains-append_left, Contains-append_right, Contains-append_cases}
+use Rattle.std.proofs.lemmas.Option.{same_Some}
+use Rattle.std.proofs.lemmas.Slice.Eq.{bytes_eq-Decides}
+use Rattle.lp_lemmas.proofs.Elements.{Contains_head, Contains_tail, Contains_single}
+use Rattle.lp_calculus.specs.Types.{Ty}
+use Rattle.lp_term.specs.Nodes.{Nodes, Extends, type_tree}
+use Rattle.lp_term.specs.declared.node.TypeId.{TypeId}
+use Rattle.lp_sig.specs.Holding.{IsTree}
+use Rattle.lp_sig.specs.Places.{first_place, place_of}
+use Rattle.lp_sig.specs.Rows.{found}
+use Rattle.lp_sig.specs.Schemes.{first_variables}
+use Rattle.lp_sig.specs.Standard.{standard_constants}
+use Rattle.lp_sig.specs.Constants.{standard_tree}
+use Rattle.lp_sig.specs.Worded.{HasWords}
+use Rattle.lp_sig.specs.Sighted.{HasTree, standard_one, known_one, AreCounted, GrowsBehind, PutsBehind, IsTreeOf, IsCountedEntry, IsSeenEntry}
+use Rattle.lp_sig.specs.declared.entries.ConstantEntry.{ConstantEntry}
+use Rattle.lp_sig.specs.declared.constants.Constant.{Constant}
+use Rattle.lp_sig.specs.declared.constants.Constants.{Constants}
+use Rattle.lp_sig.specs.declared.constants.DeclaredType.{DeclaredType}
+use Rattle.lp_sig.specs.declared.constants.Known.TheVariants as known
+
+pub grows_same : (c : Constants) → GrowsBehind c c
+grows_same c = ([], sym (append-nil c.constants.items))
+
+pub grows_then : (a b c : Constants) → GrowsBehind a b → GrowsBehind b c → GrowsBehind a c
+grows_then a b c (xs, e) (ys, f) = (xs ++ ys, f ∙ ap (λ l. l ++ ys) e ∙ append_assoc_at a.constants.items)
+  where
+    append_assoc_at : (zs : List Constant) → (zs ++ xs) ++ ys ≡ zs ++ (xs ++ ys)
+    append_assoc_at [] = refl
+    append_assoc_at (z ∷ zs) = ap (λ l. z ∷ l) (append_assoc_at zs)
+
+pub grows_put : (old new : Constants) (name : List ℕ) (d : DeclaredType) → PutsBehind old new name d → GrowsBehind old new
+grows_put old new name d (k, n, is, e) = (k ∷ [], e)
+
+-- what is known stays
+pub tree_later : (b now : Nodes) (old new : Constants) (name : List ℕ) (T : Ty) → Extends b now → GrowsBehind old new → HasTree b old name T → HasTree now new name T
+tree_later b now old new name T x g (standard_one n e t) = standard_one n e t
+tree_later b now old new name T x (more, g) (known_one k has is d declared l t) =
+    let m = x.more_types in
+    known_one k (subst (λ l. Contains l k) (sym g) (Contains-append_left old.constants.items more k has)) is d declared (omega (arith, l, m)) (x.same_types d.scheme.0 l ∙ t)
+
+pub counted_later : (b now : Nodes) (c : Constants) → Extends b now → AreCounted b c → AreCounted now c
+counted_later b now c x all k has d is =
+    let h = all k has d is in
+    let l = h.0 in
+    let m = x.more_types in
+    (omega (arith, l, m), h.1 ∙ ap (λ T. length (first_variables T)) (sym (x.same_types d.scheme.0 h.0)))
+
+-- one more
+pub counted_put : (b : Nodes) (old new : Constants) (name : List ℕ) (d : DeclaredType) → PutsBehind old new name d → (d.scheme.0 < length b.types) × (d.type_vars ≡ length (first_variables (type_tree b d.scheme.0))) → AreCounted b old → AreCounted b new
+counted_put b old new name d (k, n, is, e) h all j has c there = by (Contains-append_cases old.constants.items (k ∷ []) j (subst (λ l. Contains l j) e has))
+  where
+    by : Contains old.constants.items j ⊎ Contains (k ∷ []) j → (c.scheme.0 < length b.types) × (c.type_vars ≡ length (first_variables (type_tree b c.scheme.0)))
+    by (inl x) = all j x c there
+    by (inr x) =
+        let same : d ≡ c = same_Some d c (sym is ∙ ap (λ k. k.declared) (Contains_single k j x) ∙ there) in
+        subst (λ c. (c.scheme.0 < length b.types) × (c.type_vars ≡ length (first_variables (type_tree b c.scheme.0)))) same h
+
+pub tree_put : (b : Nodes) (old new : Constants) (name : List ℕ) (d : DeclaredType) → PutsBehind old new name d → d.scheme.0 < length b.types → HasTree b new name (type_tree b d.scheme.0)
+tree_put b old new name d (k, n, is, e) l = known_one k (subst (λ l. Contains l k) (sym e) (Contains-append_right old.constants.items (k ∷ []) k (Contains_head k []))) n d is l refl
+
+-- what is known of a name
+pub tree_standard : (b : Nodes) (c : Constants) (name : List ℕ) (n : ℕ) (t : TypeId) → Some n ≡ found name standard_constants → IsTree b (λ t. t ≡ standard_tree n) t → HasTree b c name (type_tree b t.0)
+tree_standard b c name n t e h = standard_one n (sym e) h.1
+
+named_at : (name : List ℕ) (ks : List Constant) (i : ℕ) (k : Constant) → first_place name (map (λ k. k.name.items) ks) ≡ Some i → k ≡ get_or ks i k → Contains ks k × (k.name.items ≡ name)
+named_at name [] i k e at = absurd (cc)
+named_at name (x ∷ xs) i k e at = by (bytes_eq name x.name.items) refl (first_place name (map (λ k. k.name.items) xs)) refl (λ j f g. named_at name xs j k f g) e at
+  where
+    by : (t : Bool) → bytes_eq name x.name.items ≡ t → (o : Option ℕ) → first_place name (map (λ k. k.name.items) xs) ≡ o → ((j : ℕ) → first_place name (map (λ k. k.name.items) xs) ≡ Some j → k ≡ get_or xs j k → Contains xs k × (k.name.items ≡ name)) →
+        (if t then Some 0 else option_map (λ i. suc i) o) ≡ Some i → k ≡ get_or (x ∷ xs) i k → Contains (x ∷ xs) k × (k.name.items ≡ name)
+    by true s o f h e at =
+        let z : 0 ≡ i = same_Some 0 i e in
+        let is : k ≡ x = at ∙ ap (λ j. get_or (x ∷ xs) j k) (sym z) in
+        (subst (Contains (x ∷ xs)) (sym is) (Contains_head x xs), ap (λ k. k.name.items) is ∙ sym ((bytes_eq-Decides name x.name.items).0 s))
+    by false s None f h e at = absurd (cc)
+    by false s (Some j) f h e at =
+        let z : suc j ≡ i = same_Some (suc j) i e in
+        let m = h j f (at ∙ ap (λ j. get_or (x ∷ xs) j k) (sym z)) in
+        (Contains_tail x k xs m.0, m.1)
+
+pub tree_declared : (b now : Nodes) (c : Constants) (name : List ℕ) (words : List (List ℕ)) (i : ℕ) (k : Constant) (d : DeclaredType) → HasWords c words → Some i ≡ place_of c.places name → k ≡ get_or c.constants.items i k → k.declared ≡ Some d → AreCounted b c → Extends b now → HasTree now c name (type_tree now d.scheme.0)
+tree_declared b now c name words i k d h e at is all x =
+    let m = named_at name c.constants.items i k (sym (e ∙ h.places name)) at in
+    let l = (all k m.0 d is).0 in
+    let y = x.more_types in
+    known_one k m.0 m.1 d is (omega (arith, l, y)) refl
+
+-- an entry that is seen, and all of them
+pub entry_new : (b : Nodes) (old new : Constants) (made : List TypeId) (e : ConstantEntry) (name : List ℕ) (s : TypeId) → slice_get made e.scheme.0 ≡ Some s → name ≡ e.name.items → PutsBehind old new name (record { type_vars = e.type_vars; scheme = s }) →
+    IsCountedEntry b made e → AreCounted b old → AreCounted b new × IsSeenEntry b new made e
+entry_new b old new made e name s at is put counted all =
+    let h = counted s at in (
+      counted_put b old new name (record { type_vars = e.type_vars; scheme = s }) put h all,
+      λ t u. subst (λ t. HasTree b new e.name.items (type_tree b t.0)) (same_Some s t (sym at ∙ u)) (subst (λ n. HasTree b new n (type_tree b s.0)) is (tree_put b old new name (record { type_vars = e.type_vars; scheme = s }) put h.0)),
+    )
+
+pub entry_known : (b : Nodes) (c : Constants) (made : List TypeId) (e : ConstantEntry) (name : List ℕ) (s t : TypeId) → slice_get made e.scheme.0 ≡ Some s → name ≡ e.name.items → t ≡ s → HasTree b c name (type_tree b t.0) → IsSeenEntry b c made e
+entry_known b c made e name s t at is same h u v =
+    subst (λ t. HasTree b c e.name.items (type_tree b t.0)) (same ∙ same_Some s u (sym at ∙ v)) (subst (λ n. HasTree b c n (type_tree b t.0)) is h)
