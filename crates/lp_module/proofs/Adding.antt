@@ -19,8 +19,9 @@ use Rattle.lp_module.specs.declared.copies.Making.{Making}
 use Rattle.lp_module.specs.declared.module.Module.{Module}
 use Rattle.lp_module.specs.declared.numbers.Open.{Open}
 use Rattle.lp_module.specs.declared.tree.Hidden.{Hidden}
-use Rattle.lp_module.specs.inner.Assembling.{copy_of, next_of, IsOpen, AddsClauses, Opens, Leaves}
-use Rattle.lp_module.proofs.Composing.{formulas_later, within_later, typed_later}
+use Rattle.lp_module.specs.inner.Assembling.{copy_of, next_of, IsOpen, AddsClauses, Opens, Leaves, LeavesNames}
+use Rattle.lp_module.proofs.Tabled.{with_clauses, within_later, typed_later}
+use Rattle.lp_module.proofs.Composing.{formulas_later}
 
 pub names_none : (m : Making) → MakesNames m m
 names_none m = ((λ x. x), refl, extends_same m.bank, refl)
@@ -28,9 +29,6 @@ names_none m = ((λ x. x), refl, extends_same m.bank, refl)
 -- the map of a copy
 pub is_map : (o : Open) (b d : Nodes) → IsMap (renumbered o.names) (map_of (copy_of 0 o)) b d
 is_map o b d = record { kinds = λ k. refl; constants = λ k. refl; types = λ x. refl; terms = λ x l. refl }
-
-abbrev pub with_clauses : Making → Nodes → Vec code.ClauseFormula Global → Making
-with_clauses m b ks = record { alloc = m.alloc; bank = b; declared = m.declared; clauses = ks; kinds = m.kinds; constants = m.constants; hidden_kinds = m.hidden_kinds; hidden_constants = m.hidden_constants; next = m.next }
 
 -- one more clause
 module _ (old self : Making) (to : Nodes) (ks : Vec code.ClauseFormula Global) (o : Open) (clause k : code.ClauseFormula) (at : ℕ) (grown : Extends self.bank to) (pushed : ks.items ≡ self.clauses.items ++ k ∷ []) where
@@ -85,17 +83,18 @@ adds_then a b c o (made, same, grown, next) adds = record {
 }
 
 -- the last open copy is left
-pub copy_left : (old new : Making) (next : Hidden) (around less : List Open) (o : Open) → around ≡ less ++ o ∷ [] → AddsClauses old new o → next_of next ≡ behind o.module.now (next_of new.next) → Leaves old (record new { next = next }) around less
-copy_left old new next around less o is adds then = record {
+pub copy_left : (old new : Making) (next : Hidden) (around less : List Open) (o : Open) → around ≡ less ++ o ∷ [] → AddsClauses old new o → LeavesNames old new o → next_of next ≡ behind o.module.now (next_of new.next) → Leaves old (record new { next = next }) around less
+copy_left old new next around less o is adds names then = record {
   left = o;
   inside = ap reverse is ∙ reverse-append less (o ∷ []);
   made = adds.made;
   next = then ∙ ap (λ h. behind o.module.now (next_of h)) adds.next;
+  names = record { kinds_are = names.kinds_are; constants_are = names.constants_are; schemes_are = names.schemes_are };
   clause_list = adds.clause_list;
 }
 
 -- a copy is opened
-last_none : (xs : List Open) → None ≡ slice_get xs (length xs - 1) → xs ≡ []
+pub last_none : (xs : List Open) → None ≡ slice_get xs (length xs - 1) → xs ≡ []
 last_none [] e = refl
 last_none (y ∷ ys) e =
     let z : length (y ∷ ys) - 1 ≡ length ys = omega arith in
@@ -111,7 +110,7 @@ last_some (y ∷ ys) x e =
     let w = take_all (suc (length ys)) (y ∷ ys) (omega arith) in
     (reverse (take (length ys) (y ∷ ys)), ap reverse (sym w ∙ t) ∙ reverse-append (take (length ys) (y ∷ ys)) (x ∷ []))
 
-pub opens_root : (old new l : List Open) (o : Open) (m : Module) (from : Next) → l ≡ old → None ≡ slice_get l (length l - 1) → new ≡ old ++ o ∷ [] → o.module.now ≡ m → IsRoot m from (copy_of 0 o) → Opens old new m from
+unfoldable pub opens_root : (old new l : List Open) (o : Open) (m : Module) (from : Next) → l ≡ old → None ≡ slice_get l (length l - 1) → new ≡ old ++ o ∷ [] → o.module.now ≡ m → IsRoot m from (copy_of 0 o) → Opens old new m from
 opens_root old new l o m from same none is of root = record {
   opened = o;
   inside = ap reverse is ∙ reverse-append old (o ∷ []);
@@ -119,7 +118,7 @@ opens_root old new l o m from same none is of root = record {
   is_open = subst (λ os. IsOpen (reverse os) m from (copy_of 0 o)) (sym (last_none l none) ∙ same) root;
 }
 
-pub opens_below : (old new l : List Open) (o p : Open) (m : Module) (from : Next) → l ≡ old → Some p ≡ slice_get l (length l - 1) → new ≡ old ++ o ∷ [] → o.module.now ≡ m → IsBelow p.module.now (copy_of 0 p) m from (copy_of 0 o) → Opens old new m from
+unfoldable pub opens_below : (old new l : List Open) (o p : Open) (m : Module) (from : Next) → l ≡ old → Some p ≡ slice_get l (length l - 1) → new ≡ old ++ o ∷ [] → o.module.now ≡ m → IsBelow p.module.now (copy_of 0 p) m from (copy_of 0 o) → Opens old new m from
 opens_below old new l o p m from same some is of below =
     let (rest, at) = last_some l p some in
     record {

@@ -4,11 +4,11 @@ use Rattle.std.specs.Prelude.{sum_by, slice_get}
 use Rattle.std.proofs.lemmas.List.Sums.{sum_by-cons}
 use Rattle.lp_model.specs.Flatten.{ClauseFormula}
 use Rattle.lp_module.specs.Copies.{uses_of}
-use Rattle.lp_module.specs.Program.{Copy, Next, first_of, behind, IsRoot, IsBelow, CopiesBelow, none_below, one_below, AreCopies, in_copy, clauses_in, clauses_of}
+use Rattle.lp_module.specs.Program.{Copy, Next, first_of, behind, IsRoot, IsBelow, CopiesBelow, none_below, one_below, in_copy, clauses_in, clauses_of}
 use Rattle.lp_module.specs.declared.module.Module.{Module}
 use Rattle.lp_module.specs.declared.numbers.Open.{Open}
 use Rattle.lp_module.specs.declared.tree.Hidden.{Hidden}
-use Rattle.lp_module.specs.inner.Assembling.{in_all, past, copy_of, IsOpen, AreOpen, RestOf}
+use Rattle.lp_module.specs.inner.Assembling.{in_all, past, copy_of, IsOpen, AreOpen, RestOf, AreCopiesOf}
 
 -- nothing is left below
 past_none : (ts : List Hidden) (n : Next) (ms : List ℕ) → ms ≡ [] → past ts n ms ≡ n
@@ -34,17 +34,21 @@ module _ (modules : List Module) (ts : List Hidden) (n : Next) where
   pub open_first : (root : ℕ) (o : Open) → slice_get modules root ≡ Some o.module.now → IsRoot o.module.now (past ts n (get_or (uses_of modules) root [])) (copy_of root o) → AreOpen modules ts n ((root, 0) ∷ []) (o ∷ [])
   open_first root o at is = (at, is, tt)
 
-  pub whole_first : (root : ℕ) (o : Open) (all : List Copy) → slice_get modules root ≡ Some o.module.now → n ≡ first_of o.module.now → RestOf modules n [] ((root, 0) ∷ []) (o ∷ []) all → AreCopies modules root all
+  pub whole_first : (root : ℕ) (o : Open) (all : List Copy) → slice_get modules root ≡ Some o.module.now → n ≡ first_of o.module.now → RestOf modules n [] ((root, 0) ∷ []) (o ∷ []) all → AreCopiesOf modules root o.module.now (copy_of root o) all
   whole_first root o all at first (below, middle, copies, is, whole) = record {
-    top = o.module.now;
-    at = at;
-    copy = copy_of root o;
-    below = below;
-    middle = middle;
-    of_root = refl;
-    copies = subst (λ k. CopiesBelow modules o.module.now (copy_of root o) k (get_or (uses_of modules) root []) below middle) first copies;
-    is_root = is;
-    whole = sym whole;
+    are = record {
+        top = o.module.now;
+        at = at;
+        copy = copy_of root o;
+        below = below;
+        middle = middle;
+        of_root = refl;
+        copies = subst (λ k. CopiesBelow modules o.module.now (copy_of root o) k (get_or (uses_of modules) root []) below middle) first copies;
+        is_root = is;
+        whole = sym whole;
+      };
+    top_is = refl;
+    copy_is = refl;
   }
 
   module _ (at i m : ℕ) (fs : List (ℕ × ℕ)) (o p : Open) (os : List Open) (next : drop i (get_or (uses_of modules) at []) ≡ m ∷ drop (i + 1) (get_or (uses_of modules) at [])) (there : slice_get modules m ≡ Some o.module.now) where
@@ -56,8 +60,8 @@ module _ (modules : List Module) (ts : List Hidden) (n : Next) where
         let e = past_more ts n o.module.now m (get_or (uses_of modules) m []) (drop (i + 1) (get_or (uses_of modules) at [])) (drop i (get_or (uses_of modules) at [])) next kinds constants in
         (there, is, (a.0, subst (λ k. IsOpen os p.module.now k (copy_of at p)) e a.1, subst (λ k. AreOpen modules ts (behind p.module.now k) fs os) e a.2))
 
-    pub whole_more : (root : ℕ) (done all : List Copy) → ((every : List Copy) → RestOf modules n done ((at, i) ∷ fs) (p ∷ os) every → AreCopies modules root every) → RestOf modules n done ((m, 0) ∷ (at, i + 1) ∷ fs) (o ∷ p ∷ os) all → AreCopies modules root all
-    whole_more root done all w (below, middle, copies, is, (others, after, more, outer, rest)) =
+    pub whole_more : (P : List Copy → Type 0) (done all : List Copy) → ((every : List Copy) → RestOf modules n done ((at, i) ∷ fs) (p ∷ os) every → P every) → RestOf modules n done ((m, 0) ∷ (at, i + 1) ∷ fs) (o ∷ p ∷ os) all → P all
+    whole_more P done all w (below, middle, copies, is, (others, after, more, outer, rest)) =
         w all (
           below ++ copy_of m o ∷ others,
           after,
@@ -77,8 +81,8 @@ module _ (modules : List Module) (ts : List Hidden) (n : Next) where
     pub open_less : AreOpen modules ts (behind o.module.now n) fs os
     open_less = subst (λ k. AreOpen modules ts (behind o.module.now k) fs os) (past_none ts n (drop i (get_or (uses_of modules) m [])) none) a.2
 
-    pub whole_less : (root : ℕ) (done all : List Copy) → ((every : List Copy) → RestOf modules n done ((m, i) ∷ fs) (o ∷ os) every → AreCopies modules root every) → RestOf modules (behind o.module.now n) (done ++ copy_of m o ∷ []) fs os all → AreCopies modules root all
-    whole_less root done all w rest =
+    pub whole_less : (P : List Copy → Type 0) (done all : List Copy) → ((every : List Copy) → RestOf modules n done ((m, i) ∷ fs) (o ∷ os) every → P every) → RestOf modules (behind o.module.now n) (done ++ copy_of m o ∷ []) fs os all → P all
+    whole_less P done all w rest =
         w all (
           [],
           n,

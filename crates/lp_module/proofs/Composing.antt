@@ -14,14 +14,15 @@ use Rattle.lp_copies.specs.Trees.{IsCopying, frames_of}
 use Rattle.lp_copies.specs.declared.copying.Copying.{Copying}
 use Rattle.lp_module.specs.Copies.{uses_of}
 use Rattle.lp_module.specs.Making.{AreTyped, IsSoFar, MakesNames}
-use Rattle.lp_module.specs.Program.{Copy, Next, first_of, IsRoot, IsBelow, AreCopies, in_copy, clauses_in, clauses_of}
+use Rattle.lp_module.specs.Program.{Copy, Next, first_of, IsRoot, IsBelow, in_copy, clauses_in, clauses_of, exported_kinds, exported_constants, exported_schemes}
 use Rattle.lp_module.specs.Sentences.{AreWithin}
 use Rattle.lp_module.specs.declared.copies.Making.{Making}
 use Rattle.lp_module.specs.declared.module.Module.{Module}
 use Rattle.lp_module.specs.declared.numbers.Open.{Open}
 use Rattle.lp_module.specs.declared.tree.Hidden.{Hidden}
-use Rattle.lp_module.specs.inner.Assembling.{in_all, past, copy_of, IsOpen, AreOpen, RestOf, next_of, own_kinds, own_constants, Opens, Leaves, IsMaking, IsPlanned}
+use Rattle.lp_module.specs.inner.Assembling.{in_all, past, copy_of, IsOpen, AreOpen, RestOf, next_of, own_kinds, own_constants, AddsNames, AreTabled, AreCopiesOf, Opens, EntersNames, Leaves, IsMaking, IsPlanned}
 use Rattle.lp_module.proofs.Totals.{Fits, fits}
+use Rattle.lp_module.proofs.Tabled.{with_bank, within_later, typed_later, tabled_first, tabled_still, tabled_more}
 use Rattle.lp_module.proofs.Assembling.{open_first, whole_first, open_more, whole_more, open_less, whole_less, clauses_push}
 
 -- names, and more of them
@@ -49,17 +50,20 @@ own_at f (x ∷ xs) (suc k) m e = own_at f xs k m e
 module _ (modules : List Module) (root : ℕ) (ts : List Hidden) where
   -- the root is open
   pub making_begun : (old new : Making) (around : List Open) (left : List ℕ) (top : Module) (from : Next) → slice_get modules root ≡ Some top →
-      IsSoFar old → old.clauses.items ≡ [] → next_of old.next ≡ first_of top → MakesNames old new → left ≡ [] → Opens [] around top from → from ≡ past
-      ts (first_of top) (get_or (uses_of modules) root []) →
+      IsSoFar old → old.clauses.items ≡ [] → next_of old.next ≡ first_of top → (old.kinds.items ≡ []) × (old.constants.items ≡ []) × (old.declared.items ≡ []) → MakesNames old new → left ≡ [] → (opens : Opens [] around top from) →
+      EntersNames [] old new opens.opened → from ≡ past ts (first_of top) (get_or (uses_of modules) root []) →
       IsMaking modules root ts ((root, 0) ∷ []) left new around
-  making_begun old new around left top from at sofar none first names empty opens is = record {
+  making_begun old new around left top from at sofar none first unnamed names empty opens put is = record {
     sofar = names.0 sofar;
     done = [];
     members = sym empty;
     clause_list = ap (map (formula_of new.bank)) (names.1 ∙ none);
     next = record { top = top; at = at; kinds = ap (λ n. n.kinds) begun ∙ nothing (own_kinds modules) (first_of top).kinds; constants = ap (λ n. n.constants) begun ∙ nothing (own_constants modules) (first_of top).constants };
     open_ones = subst (AreOpen modules ts (next_of new.next) ((root, 0) ∷ [])) (sym opens.inside) (open_first modules ts (next_of new.next) root opens.opened there (root_at opens.opened root opens.opened.module.now (past ts (next_of new.next) (get_or (uses_of modules) root [])) opened));
-    whole = λ all r. whole_first modules ts (next_of new.next) root opens.opened all there (begun ∙ ap first_of (sym opens.of)) (subst (λ os. RestOf modules (next_of new.next) [] ((root, 0) ∷ []) os all) opens.inside r);
+    copy = copy_of root opens.opened;
+    tables = tabled_first modules top (copy_of root opens.opened) old new unnamed sofar (subst (λ m. AddsNames old new (exported_kinds m) (exported_constants m) (exported_schemes (copy_of root opens.opened) m)) opens.of put);
+    whole = λ all r. subst (λ m. AreCopiesOf modules root m (copy_of root opens.opened) all) opens.of
+        (whole_first modules ts (next_of new.next) root opens.opened all there (begun ∙ ap first_of (sym opens.of)) (subst (λ os. RestOf modules (next_of new.next) [] ((root, 0) ∷ []) os all) opens.inside r));
   }
     where
       begun : next_of new.next ≡ first_of top
@@ -76,7 +80,7 @@ module _ (modules : List Module) (root : ℕ) (ts : List Hidden) where
           (subst (λ n. IsRoot top n (copy_of 0 opens.opened)) (is ∙ ap (λ n. past ts n (get_or (uses_of modules) root [])) (sym begun)) opens.is_open)
 
   -- one more copy is open
-  module _ (old new : Making) (around more : List Open) (left : List ℕ) (m : ℕ) (member : Module) (from : Next) (names : MakesNames old new) (opens : Opens around more member from) (at : slice_get modules m ≡ Some member) (is : from ≡ past ts (next_of old.next) (get_or (uses_of modules) m []))
+  module _ (old new : Making) (around more : List Open) (left : List ℕ) (m : ℕ) (member : Module) (from : Next) (names : MakesNames old new) (opens : Opens around more member from) (put : EntersNames around old new opens.opened) (at : slice_get modules m ≡ Some member) (is : from ≡ past ts (next_of old.next) (get_or (uses_of modules) m []))
       (kinds : in_all (λ h. h.kinds) ts m ≡ length member.hidden_kinds.items + sum_by (in_all (λ h. h.kinds) ts) (get_or (uses_of modules) m []))
       (constants : in_all (λ h. h.constants) ts m ≡ length member.hidden_constants.items + sum_by (in_all (λ h. h.constants) ts)
       (get_or (uses_of modules) m [])) where
@@ -89,6 +93,10 @@ module _ (modules : List Module) (root : ℕ) (ts : List Hidden) where
         (subst (λ k. IsBelow p.module.now (copy_of 0 p) k (past ts (next_of old.next) (get_or (uses_of modules) m [])) (copy_of 0 opens.opened)) (sym opens.of)
         (subst (λ n. IsBelow p.module.now (copy_of 0 p) member n (copy_of 0 opens.opened)) is (subst (λ os. IsOpen os member from (copy_of 0 opens.opened)) e opens.is_open)))
 
+    none_put : (f : ℕ × ℕ) (fs : List (ℕ × ℕ)) (os : List Open) → AreOpen modules ts (next_of old.next) (f ∷ fs) (reverse os) → EntersNames os old new opens.opened → AddsNames old new [] [] []
+    none_put f fs [] a x = absurd a
+    none_put f fs (p ∷ os) a x = x
+
     pub making_entered : (fs fs' : List (ℕ × ℕ)) → IsMaking modules root ts fs left old around → IsOpened (uses_of modules) fs m fs' → IsMaking modules root ts fs' left new more
     making_entered fs fs' i o = record {
       sofar = names.0 i.sofar;
@@ -97,6 +105,8 @@ module _ (modules : List Module) (root : ℕ) (ts : List Hidden) where
       clause_list = ap (map (formula_of new.bank)) names.1 ∙ formulas_later old.bank new.bank old.clauses.items names.2 i.sofar.0 ∙ i.clause_list;
       next = record { top = i.next.top; at = i.next.at; kinds = ap (λ n. n.kinds) names.3 ∙ i.next.kinds; constants = ap (λ n. n.constants) names.3 ∙ i.next.constants };
       open_ones = subst (λ n. AreOpen modules ts n fs' (reverse more)) (sym same) (subst (λ l. AreOpen modules ts (next_of old.next) l (reverse more)) (sym o.after) (opened_by (reverse around) refl (subst (λ l. AreOpen modules ts (next_of old.next) l (reverse around)) o.before i.open_ones)));
+      copy = i.copy;
+      tables = tabled_still modules i.next.top i.copy i.done old new i.tables i.sofar (none_put (o.at, o.next) o.around around (subst (λ l. AreOpen modules ts (next_of old.next) l (reverse around)) o.before i.open_ones) put);
       whole = λ all r. whole_by all (reverse around) refl (subst (λ l. AreOpen modules ts (next_of old.next) l (reverse around)) o.before i.open_ones)
           (subst (λ n. RestOf modules n i.done ((m, 0) ∷ (o.at, o.next + 1) ∷ o.around) (reverse more) all) same
           (subst (λ l. RestOf modules (next_of new.next) i.done l (reverse more) all) o.after r));
@@ -114,10 +124,10 @@ module _ (modules : List Module) (root : ℕ) (ts : List Hidden) where
             counted_by : (f : Hidden → ℕ) (g : Module → ℕ) → in_all f ts m ≡ g member + sum_by (in_all f ts) (get_or (uses_of modules) m []) → in_all f ts m ≡ g opens.opened.module.now + sum_by (in_all f ts) (get_or (uses_of modules) m [])
             counted_by f g e = e ∙ ap (λ k. g k + sum_by (in_all f ts) (get_or (uses_of modules) m [])) (sym opens.of)
 
-        whole_by : (all : List Copy) (os : List Open) → reverse around ≡ os → AreOpen modules ts (next_of old.next) ((o.at, o.next) ∷ o.around) os → RestOf modules (next_of old.next) i.done ((m, 0) ∷ (o.at, o.next + 1) ∷ o.around) (reverse more) all → AreCopies modules root all
+        whole_by : (all : List Copy) (os : List Open) → reverse around ≡ os → AreOpen modules ts (next_of old.next) ((o.at, o.next) ∷ o.around) os → RestOf modules (next_of old.next) i.done ((m, 0) ∷ (o.at, o.next + 1) ∷ o.around) (reverse more) all → AreCopiesOf modules root i.next.top i.copy all
         whole_by all [] e a r = absurd a
         whole_by all (p ∷ os) e a r =
-            whole_more modules ts (next_of old.next) o.at o.next m o.around opens.opened p os o.entry there root i.done all
+            whole_more modules ts (next_of old.next) o.at o.next m o.around opens.opened p os o.entry there (AreCopiesOf modules root i.next.top i.copy) i.done all
             (λ every s. i.whole every (subst (λ l. RestOf modules (next_of old.next) i.done l (reverse around) every) (sym o.before) (subst (λ l. RestOf modules (next_of old.next) i.done ((o.at, o.next) ∷ o.around) l every) (sym e) s)))
             (subst (λ l. RestOf modules (next_of old.next) i.done ((m, 0) ∷ (o.at, o.next + 1) ∷ o.around) l all) (opens.inside ∙ ap (λ l. opens.opened ∷ l) e) r)
 
@@ -137,8 +147,10 @@ module _ (modules : List Module) (root : ℕ) (ts : List Hidden) where
       constants = next_by (λ m. length m.hidden_constants.items) old.next.constants new.next.constants (first_of i.next.top).constants i.next.constants (ap (λ n. n.constants) leaves.next);
     };
     open_ones = subst (λ n. AreOpen modules ts n fs' (reverse less)) (sym leaves.next) (open_less modules ts (next_of old.next) m o.next fs' leaves.left (reverse less) o.entry a);
+    copy = i.copy;
+    tables = tabled_more modules i.next.top i.copy i.done old new i.tables i.sofar (copy_of m leaves.left) leaves.left.module.now a.0 leaves.names;
     whole = λ all r.
-        whole_less modules ts (next_of old.next) m o.next fs' leaves.left (reverse less) o.entry a root i.done all
+        whole_less modules ts (next_of old.next) m o.next fs' leaves.left (reverse less) o.entry a (AreCopiesOf modules root i.next.top i.copy) i.done all
         (λ every s. i.whole every (subst (λ l. RestOf modules (next_of old.next) i.done l (reverse around) every) (sym o.before) (subst (λ l. RestOf modules (next_of old.next) i.done ((m, o.next) ∷ fs') l every) (sym leaves.inside) s)))
         (subst (λ n. RestOf modules n (i.done ++ copy_of m leaves.left ∷ []) fs' (reverse less) all) leaves.next r);
   }
@@ -152,8 +164,9 @@ module _ (modules : List Module) (root : ℕ) (ts : List Hidden) where
           let u = own_at f modules m leaves.left.module.now a.0 in
           omega (arith, e, e', s, u)
 
-  pub making_ended : (left : List ℕ) (made : Making) (around : List Open) → IsMaking modules root ts [] left made around → (copied : List Copy) × AreCopies modules root copied × (map (λ c. c.member) copied ≡ left) × (map (formula_of made.bank) made.clauses.items ≡ clauses_of modules copied)
-  making_ended left made around i = (i.done, i.whole i.done refl, i.members, i.clause_list)
+  pub making_ended : (left : List ℕ) (made : Making) (around : List Open) → IsMaking modules root ts [] left made around →
+      (copied : List Copy) × (top : Module) × (copy : Copy) × AreCopiesOf modules root top copy copied × (map (λ c. c.member) copied ≡ left) × (map (formula_of made.bank) made.clauses.items ≡ clauses_of modules copied) × AreTabled modules top copy copied made
+  making_ended left made around i = (i.done, i.next.top, i.copy, i.whole i.done refl, i.members, i.clause_list, i.tables)
 
 -- as many clauses as the copies have
 pub clauses_count : (modules : List Module) (cs : List Copy) → length (clauses_of modules cs) ≡ sum_by (λ m. get_or (map (λ m. length m.clauses.items) modules) m 0) (map (λ c. c.member) cs)
@@ -170,16 +183,6 @@ clauses_count modules (c ∷ cs) =
     of_member [] k = refl
     of_member (m ∷ ms) zero = length-map m.clauses.items (formula_of m.bank)
     of_member (m ∷ ms) (suc k) = of_member ms k
-
--- only the bank has grown
-abbrev pub with_bank : Making → Nodes → Making
-with_bank m b = record { alloc = m.alloc; bank = b; declared = m.declared; clauses = m.clauses; kinds = m.kinds; constants = m.constants; hidden_kinds = m.hidden_kinds; hidden_constants = m.hidden_constants; next = m.next }
-
-pub within_later : (b c : Nodes) (ks : List code.ClauseFormula) → Extends b c → AreWithin b ks → AreWithin c ks
-within_later b c ks e w = λ i d h. let q = w i d h in omega (arith, q, e.more_terms)
-
-pub typed_later : (b c : Nodes) (ds : List Declared) → Extends b c → AreTyped b ds → AreTyped c ds
-typed_later b c ds e w = λ i d h. let q = w i d h in omega (arith, q, e.more_types)
 
 pub bank_grown : (m : Making) (b : Nodes) → Extends m.bank b → MakesNames m (with_bank m b)
 bank_grown m b e = ((λ x. (within_later m.bank b m.clauses.items e x.0, x.1, x.2, x.3, x.4, x.5, typed_later m.bank b m.declared.items e x.6)), refl, e, refl)

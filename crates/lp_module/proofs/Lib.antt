@@ -24,3 +24,6 @@ pub mod Summing
 pub mod Stepping
 pub mod Adding
 pub mod NoLoose
+pub mod Tabled
+pub mod Entering
+pub mod Lookups

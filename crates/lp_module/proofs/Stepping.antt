@@ -15,13 +15,13 @@ use Rattle.lp_copies.proofs.Copied.{row_is, rows_are, copies_begin}
 use Rattle.lp_model.specs.Readings.{formula_of}
 use Rattle.lp_module.specs.Copies.{IsOrder, IsTooMany, uses_of}
 use Rattle.lp_module.specs.Making.{IsSoFar, MakesNames}
-use Rattle.lp_module.specs.Program.{Copy, Next, first_of, AreCopies, clauses_of}
+use Rattle.lp_module.specs.Program.{Copy, Next, first_of, clauses_of}
 use Rattle.lp_module.specs.Trees.{fault_of}
 use Rattle.lp_module.specs.declared.copies.Making.{Making}
 use Rattle.lp_module.specs.declared.module.Module.{Module}
 use Rattle.lp_module.specs.declared.numbers.Open.{Open}
 use Rattle.lp_module.specs.declared.tree.Hidden.{Hidden}
-use Rattle.lp_module.specs.inner.Assembling.{counted, in_all, past, AreOpen, next_of, own_kinds, own_constants, Opens, Leaves, IsMaking, IsPlanned}
+use Rattle.lp_module.specs.inner.Assembling.{counted, in_all, past, AreOpen, next_of, own_kinds, own_constants, AreTabled, AreCopiesOf, Enters, Leaves, IsMaking, IsPlanned}
 use Rattle.lp_module.proofs.Uses.{uses_count}
 use Rattle.lp_module.proofs.Totals.{Fits, fits, rest_more}
 use Rattle.lp_module.proofs.Composing.{own_at, making_begun, making_entered, making_left, making_ended, plan_fits}
@@ -93,13 +93,13 @@ module _ (modules : List Module) (root : ℕ) (ts : List Hidden) (uses : List (V
         (own_at (λ m. length m.hidden_constants.items) modules root top (module_at modules root top h is))
 
     pub root_begun : (old new : Making) (around : List Open) (out : Vec ℕ Global) (below : Hidden) (c : Copying) → out ≡ get_or uses root out → below.kinds ≡ counted (sum_by (in_all (λ h. h.kinds) ts) out.items) → below.constants ≡ counted (sum_by (in_all (λ h. h.constants) ts) out.items) →
-        IsSoFar old → old.clauses.items ≡ [] → next_of old.next ≡ first_of top → MakesNames old new → Opens [] around top (record { kinds = old.next.kinds + below.kinds; constants = old.next.constants + below.constants }) → c.left.items ≡ [] → frames_of c ≡ (root, 0) ∷ [] →
+        IsSoFar old → old.clauses.items ≡ [] → next_of old.next ≡ first_of top → (old.kinds.items ≡ []) × (old.constants.items ≡ []) × (old.declared.items ≡ []) → MakesNames old new → Enters old new [] around top (record { kinds = old.next.kinds + below.kinds; constants = old.next.constants + below.constants }) → c.left.items ≡ [] → frames_of c ≡ (root, 0) ∷ [] →
         IsMaking modules root ts (frames_of c) c.left.items new around
-    root_begun old new around out below c at k n sofar none first names opens empty frames =
+    root_begun old new around out below c at k n sofar none first unnamed names enters empty frames =
         let (fk, fc) = root_fits in
         let o = row_is uses root out (omega (arith, h, uses_count modules uses us)) at ∙ ap (λ u. get_or u root []) us in
         subst (λ fs. IsMaking modules root ts fs c.left.items new around) (sym frames)
-        (making_begun modules root ts old new around c.left.items top (record { kinds = old.next.kinds + below.kinds; constants = old.next.constants + below.constants }) (module_at modules root top h is) sofar none first names empty opens
+        (making_begun modules root ts old new around c.left.items top (record { kinds = old.next.kinds + below.kinds; constants = old.next.constants + below.constants }) (module_at modules root top h is) sofar none first unnamed names empty enters.opens enters.names
         (from_is ts (next_of old.next) below out.items (get_or (uses_of modules) root []) o k n fk.below fc.below ∙ ap (λ x. past ts x (get_or (uses_of modules) root [])) first))
 
   -- a turn
@@ -165,13 +165,13 @@ module _ (modules : List Module) (root : ℕ) (ts : List Hidden) (uses : List (V
             enter_fits (own_constants modules) (in_all (λ h. h.constants) ts) (first_of making.next.top).constants c'.left.items m (get_or (uses_of modules) m []) out.items old.next.constants below.constants (length member.hidden_constants.items) entered_bounds.1 inside
             (making.next.constants ∙ ap (λ l. (first_of making.next.top).constants + sum_by (own_constants modules) l) (sym turns.3)) n (own_at (λ m. length m.hidden_constants.items) modules m member (module_at modules m member entered_within is))
 
-        pub turn_entered : (new : Making) (more : List Open) → MakesNames old new → Opens around more member (record { kinds = old.next.kinds + below.kinds; constants = old.next.constants + below.constants }) → IsMaking modules root ts (frames_of c') c'.left.items new more
-        turn_entered new more names opens =
+        pub turn_entered : (new : Making) (more : List Open) → MakesNames old new → Enters old new around more member (record { kinds = old.next.kinds + below.kinds; constants = old.next.constants + below.constants }) → IsMaking modules root ts (frames_of c') c'.left.items new more
+        turn_entered new more names enters =
             let there = module_at modules m member entered_within is in
             let hk = own_at (λ m. length m.hidden_kinds.items) modules m member there in
             let hc = own_at (λ m. length m.hidden_constants.items) modules m member there in
             subst (λ l. IsMaking modules root ts (frames_of c') l new more) (sym turns.3)
-            (making_entered modules root ts old new around more c.left.items m member (record { kinds = old.next.kinds + below.kinds; constants = old.next.constants + below.constants }) names opens there
+            (making_entered modules root ts old new around more c.left.items m member (record { kinds = old.next.kinds + below.kinds; constants = old.next.constants + below.constants }) names enters.opens enters.names there
             (from_is ts (next_of old.next) below out.items (get_or (uses_of modules) m []) inside k n entered_bounds.0.below entered_bounds.1.below)
             (entered_bounds.0.total ∙ ap (λ x. x + sum_by (in_all (λ h. h.kinds) ts) (get_or (uses_of modules) m [])) hk)
             (entered_bounds.1.total ∙ ap (λ x. x + sum_by (in_all (λ h. h.constants) ts) (get_or (uses_of modules) m [])) hc)
@@ -181,8 +181,8 @@ module _ (modules : List Module) (root : ℕ) (ts : List Hidden) (uses : List (V
     turn_left m turns moves new less leaves = making_left modules root ts old new around less c.left.items c'.left.items m (frames_of c) (frames_of c') making (subst (λ u. IsClosed u (frames_of c) m (frames_of c')) us moves) leaves turns.3
 
     pub turn_ended : (m : ℕ) → Turns (lists_in uses) c c' (Ended m) → Moves (lists_in uses) (frames_of c) (frames_of c') (Ended m) → (new : Making) (less : List Open) → Leaves old new around less →
-        (copied : List Copy) × AreCopies modules root copied × IsOrder modules root (map (λ c. c.member) copied) × (map (formula_of new.bank) new.clauses.items ≡ clauses_of modules copied)
+        (copied : List Copy) × (top : Module) × (copy : Copy) × AreCopiesOf modules root top copy copied × IsOrder modules root (map (λ c. c.member) copied) × (map (formula_of new.bank) new.clauses.items ≡ clauses_of modules copied) × AreTabled modules top copy copied new
     turn_ended m turns moves new less leaves =
         let i = making_left modules root ts old new around less c.left.items c'.left.items m (frames_of c) [] making (subst (λ u. IsClosed u (frames_of c) m []) us moves) leaves turns.2 in
-        let (copied, are, members, clauses) = making_ended modules root ts c'.left.items new less i in
-        (copied, are, subst (IsOrder modules root) (sym members) (subst (λ r. Copies (uses_of modules) (r ∷ []) c'.left.items) of_root (subst (λ u. Copies u (c.root ∷ []) c'.left.items) us turns.0)), clauses)
+        let (copied, top, copy, are, members, clauses, tables) = making_ended modules root ts c'.left.items new less i in
+        (copied, top, copy, are, subst (IsOrder modules root) (sym members) (subst (λ r. Copies (uses_of modules) (r ∷ []) c'.left.items) of_root (subst (λ u. Copies u (c.root ∷ []) c'.left.items) us turns.0)), clauses, tables)

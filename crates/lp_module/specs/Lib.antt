@@ -18,3 +18,4 @@ pub mod Schemes
 pub mod Clauses
 pub mod inner
 pub mod Closed
+pub mod Orderly

@@ -1,19 +1,24 @@
 -- The program of a set of modules: the tree of copies, the numbers that the names of each copy have, and the clauses.
-use Rattle.std.specs.Prelude.{◌≡◌, ℕ, zero, suc, ◌+◌, ◌-◌, ◌<◌, ◌≤◌, nat_eq, if◌then◌else◌, List, [], ◌∷◌, ◌++◌, map, length, get_or, Option, Some, None, option_map, slice_get}
+use Rattle.std.specs.Prelude.{◌≡◌, ℕ, zero, suc, ◌+◌, ◌-◌, ◌<◌, ◌≤◌, nat_eq, if◌then◌else◌, List, [], ◌∷◌, ◌++◌, map, length, get_or, Option, Some, None, option_map, option_to_list, slice_get}
 use Rattle.lp_base.specs.declared.limits.TheConstants.{MAX_COPIES}
 use Rattle.lp_calculus.specs.Types.{var}
 use Rattle.lp_calculus.specs.Term.{atom, logic}
+use Rattle.lp_calculus.specs.Typing.{Scheme}
 use Rattle.lp_copies.specs.declared.names.TheConstants.{END_OF_IMAGE_NUMBERS}
-use Rattle.lp_term.specs.Mapped.{Map, mapped}
+use Rattle.lp_term.specs.Mapped.{Map, mapped, mapped_type}
 use Rattle.lp_model.specs.Flatten.{ClauseFormula}
-use Rattle.lp_model.specs.Readings.{formula_of}
-use Rattle.lp_sig.specs.Rows.{found, kind_row, number_row}
+use Rattle.lp_model.specs.Readings.{formula_of, scheme_of}
+use Rattle.lp_sig.specs.Rows.{Row, found, kind_row, number_row}
 use Rattle.lp_sig.specs.Standard.{standard_kinds, standard_constants}
+use Rattle.lp_sig.specs.declared.entries.ConstantEntry.{ConstantEntry}
+use Rattle.lp_sig.specs.declared.entries.KindEntry.{KindEntry}
+use Rattle.lp_infer.specs.Texts.{entry_scheme}
 use Rattle.lp_module.specs.Copies.{IsOrder, uses_of, counts_of, total, kinds_end, constants_end}
 use Rattle.lp_module.specs.Making.{AreTyped}
-use Rattle.lp_module.specs.Numbering.{AreNumbered, or_none}
+use Rattle.lp_module.specs.Numbering.{AreNumbered, hidden_one, or_none}
 use Rattle.lp_module.specs.Sentences.{AreWithin}
 use Rattle.lp_module.specs.declared.copies.Assembled.{Assembled}
+use Rattle.lp_module.specs.declared.copies.GlobalName.{GlobalName}
 use Rattle.lp_module.specs.declared.module.Module.{Module}
 
 -- numbers
@@ -126,11 +131,77 @@ abbrev pub clauses_of : List Module → List Copy → List ClauseFormula
 clauses_of modules [] = []
 clauses_of modules (c ∷ cs) = map (in_copy c) (get_or (map clauses_in modules) c.member []) ++ clauses_of modules cs
 
--- A program is that of the modules that the root accumulates: its clauses are those of all copies, in order, and its hidden names have the next numbers of their names.
+-- tables
+
+-- the entries of a table that are exported, in order: those whose numbers, from the first on, are none of the hidden ones
+abbrev pub one_if_exported : {A : Type 0} → Option ℕ → A → List A
+one_if_exported None x = x ∷ []
+one_if_exported (Some j) x = []
+
+abbrev pub exported_among : {A : Type 0} → (first : ℕ) → (hidden : List ℕ) → List A → List A
+exported_among first hidden [] = []
+exported_among first hidden (x ∷ xs) = one_if_exported (place_in hidden first) x ++ exported_among (suc first) hidden xs
+
+-- those of the hidden numbers, in the order of these
+abbrev pub hidden_among : {A : Type 0} → (first : ℕ) → (hidden : List ℕ) → List A → List A
+hidden_among first [] xs = []
+hidden_among first (k ∷ ks) xs = option_to_list (slice_get xs (k - first)) ++ hidden_among first ks xs
+
+-- what stands in a table: a name, 1 where it is hidden and 0 where it is global, and the arity
+abbrev pub row_of : GlobalName → Row (ℕ × ℕ)
+row_of g = (g.name.items, (hidden_one g.hidden, g.arity))
+
+abbrev pub kind_as : (hidden : ℕ) → KindEntry → Row (ℕ × ℕ)
+kind_as hidden e = (e.name.items, (hidden, e.arity))
+
+abbrev pub constant_as : (hidden : ℕ) → ConstantEntry → Row (ℕ × ℕ)
+constant_as hidden e = (e.name.items, (hidden, e.type_vars))
+
+-- the type of a constant of a module as it stands in a copy: kinds have their numbers there
+abbrev pub scheme_in : Copy → Scheme → Scheme
+scheme_in c s = record { count = s.count; body = mapped_type (map_of c) s.body }
+
+-- the names that a module exports, and its hidden ones
+abbrev pub exported_kinds : Module → List (Row (ℕ × ℕ))
+exported_kinds m = map (kind_as 0) (exported_among 8 m.hidden_kinds.items m.signature.kinds.items)
+
+abbrev pub hidden_kinds : Module → List (Row (ℕ × ℕ))
+hidden_kinds m = map (kind_as 1) (hidden_among 8 m.hidden_kinds.items m.signature.kinds.items)
+
+abbrev pub exported_constants : Module → List (Row (ℕ × ℕ))
+exported_constants m = map (constant_as 0) (exported_among 32 m.hidden_constants.items m.signature.constants.items)
+
+abbrev pub hidden_constants : Module → List (Row (ℕ × ℕ))
+hidden_constants m = map (constant_as 1) (hidden_among 32 m.hidden_constants.items m.signature.constants.items)
+
+-- the types of these constants in a copy
+abbrev pub exported_schemes : Copy → Module → List Scheme
+exported_schemes c m = map (λ e. scheme_in c (entry_scheme m.signature.bank e)) (exported_among 32 m.hidden_constants.items m.signature.constants.items)
+
+abbrev pub hidden_schemes : Copy → Module → List Scheme
+hidden_schemes c m = map (λ e. scheme_in c (entry_scheme m.signature.bank e)) (hidden_among 32 m.hidden_constants.items m.signature.constants.items)
+
+-- what the modules of copies have, one copy behind the other
+abbrev pub of_module : {A : Type 0} → (Module → List A) → Option Module → List A
+of_module f None = []
+of_module f (Some m) = f m
+
+abbrev pub of_copies : {A : Type 0} → (Copy → Module → List A) → List Module → List Copy → List A
+of_copies f modules [] = []
+of_copies f modules (c ∷ cs) = of_module (f c) (slice_get modules c.member) ++ of_copies f modules cs
+
+-- The tables of a program: its kinds and constants are those that the root exports, in order, and behind them the hidden ones of each copy, with their names, their arities, and the types that they have in their copy.
+pub record HasTables (modules : List Module) (top : Module) (root : Copy) (copied : List Copy) (a : Assembled) : Type 0 where
+  pub kinds : map row_of a.kinds.items ≡ exported_kinds top ++ of_copies (λ c m. hidden_kinds m) modules copied
+  pub constants : map row_of a.constants.items ≡ exported_constants top ++ of_copies (λ c m. hidden_constants m) modules copied
+  pub schemes : map (scheme_of a.program.bank) a.program.constants.items ≡ exported_schemes root top ++ of_copies hidden_schemes modules copied
+
+-- A program is that of the modules that the root accumulates: its clauses are those of all copies, in order, its tables have the names of all copies, and its hidden names have the next numbers of their names.
 pub record IsProgram (modules : List Module) (root : ℕ) (a : Assembled) : Type 0 where
   pub copied : List Copy
   pub are : AreCopies modules root copied
   pub clause_list : map (formula_of a.program.bank) a.program.clauses.items ≡ clauses_of modules copied
+  pub tables : HasTables modules are.top are.copy copied a
   pub order : List ℕ
   pub members : map (λ c. c.member) copied ≡ order
   pub copies : IsOrder modules root order

@@ -5,13 +5,14 @@ ghost use Rattle.lp_base.specs.declared.limits.TheConstants.{MAX_COPIES};
 ghost use Rattle.lp_copies.specs.declared.names.TheConstants.{END_OF_IMAGE_NUMBERS};
 ghost use Rattle.lp_copies.specs.Trees.{lists_in};
 ghost use Rattle.lp_model.specs.Readings.{formula_of};
+ghost use Rattle.lp_term.specs.Nodes.{type_tree};
 ghost use Rattle.lp_module.specs.Copies.{IsOrder, IsTooMany, IsProgramRefusal, counts_of, total, kinds_end, constants_end, uses_of};
 ghost use Rattle.lp_module.specs.Making.{AreTyped, IsSoFar, MakesNames};
 ghost use Rattle.lp_module.specs.Numbering.{AreNumbered, count_in, following};
-ghost use Rattle.lp_module.specs.Program.{Copy, IsProgram, AreCopies, first_of, clauses_of as program_clauses};
+ghost use Rattle.lp_module.specs.Program.{Copy, IsProgram, AreCopies, HasTables, first_of, clauses_of as program_clauses, constant_as, exported_kinds, hidden_kinds, exported_constants, hidden_constants, exported_schemes, hidden_schemes};
 ghost use Rattle.lp_module.specs.Sentences.{AreWithin};
 ghost use Rattle.lp_module.specs.declared.numbers.Open.{Open};
-ghost use Rattle.lp_module.specs.inner.Assembling.{next_of, AddsClauses, Opens, Leaves, IsPlanned};
+ghost use Rattle.lp_module.specs.inner.Assembling.{next_of, copy_of, AddsClauses, AddsNames, Enters, Leaves, LeavesNames, IsPlanned};
 
 use crate::fault::ModuleFault;
 use crate::module::Module;
@@ -107,6 +108,7 @@ impl Making {
         ensures made { IsSoFar result }
         ensures none { result.clauses.items ≡ [] }
         ensures next { next_of result.next ≡ first_of top.now }
+        ensures named { (result.kinds.items ≡ []) × (result.constants.items ≡ []) × (result.declared.items ≡ []) }
     {
         let kinds = top
             .signature
@@ -136,7 +138,8 @@ impl Making {
     }
 
     fn add_global_kind(&mut self, name: &[u8], arity: u8) -> Result<(), Memory>
-        ensures { OnOk result (MakesNames self.old self.new) }
+        ensures made { OnOk result (MakesNames self.old self.new) }
+        ensures names { OnOk result (AddsNames self.old self.new ((name.now, (0, arity)) ∷ []) [] []) }
     {
         let name = Vec::from_slice(self.alloc, name)?;
         self.kinds.push(GlobalName {
@@ -148,7 +151,8 @@ impl Making {
     }
 
     fn add_hidden_kind(&mut self, name: &[u8], arity: u8) -> Result<(), Memory>
-        ensures { OnOk result (MakesNames self.old self.new) }
+        ensures made { OnOk result (MakesNames self.old self.new) }
+        ensures names { OnOk result (AddsNames self.old self.new ((name.now, (1, arity)) ∷ []) [] []) }
     {
         let hidden = next_hidden(self.alloc, &mut self.hidden_kinds, name)?;
         let name = Vec::from_slice(self.alloc, name)?;
@@ -162,7 +166,8 @@ impl Making {
 
     fn add_global_constant(&mut self, entry: &ConstantEntry, scheme: TypeId) -> Result<(), Memory>
         requires { scheme.0 < length self.old.bank.types }
-        ensures { OnOk result (MakesNames self.old self.new) }
+        ensures made { OnOk result (MakesNames self.old self.new) }
+        ensures names { OnOk result (AddsNames self.old self.new [] (constant_as 0 entry.now ∷ []) (record { count = entry.now.type_vars; body = type_tree self.old.bank scheme.0 } ∷ [])) }
     {
         let name = Vec::from_slice(self.alloc, entry.name.as_slice())?;
         let shown = shown(self.alloc, entry.name.as_slice(), 0)?;
@@ -181,7 +186,8 @@ impl Making {
 
     fn add_hidden_constant(&mut self, entry: &ConstantEntry, scheme: TypeId) -> Result<(), Memory>
         requires { scheme.0 < length self.old.bank.types }
-        ensures { OnOk result (MakesNames self.old self.new) }
+        ensures made { OnOk result (MakesNames self.old self.new) }
+        ensures names { OnOk result (AddsNames self.old self.new [] (constant_as 1 entry.now ∷ []) (record { count = entry.now.type_vars; body = type_tree self.old.bank scheme.0 } ∷ [])) }
     {
         let hidden = next_hidden(
             self.alloc,
@@ -205,7 +211,8 @@ impl Making {
 
     // The global kinds, which are those that the root exports.
     fn add_global_kinds(&mut self, root: &Open<'_>) -> Result<(), Memory>
-        ensures { OnOk result (MakesNames self.old self.new) }
+        ensures made { OnOk result (MakesNames self.old self.new) }
+        ensures names { OnOk result (AddsNames self.old self.new (exported_kinds root.now.module.now) [] []) }
     {
         let kinds = root.module.signature.kinds();
         let hidden = root.module.hidden_kinds.as_slice();
@@ -224,7 +231,8 @@ impl Making {
 
     // The global constants.
     fn add_global_constants(&mut self, root: &Open<'_>) -> Result<(), Memory>
-        ensures { OnOk result (MakesNames self.old self.new) }
+        ensures made { OnOk result (MakesNames self.old self.new) }
+        ensures names { OnOk result (AddsNames self.old self.new [] (exported_constants root.now.module.now) (exported_schemes (copy_of 0 root.now) root.now.module.now)) }
     {
         let signature = &root.module.signature;
         let hidden = root.module.hidden_constants.as_slice();
@@ -256,7 +264,8 @@ impl Making {
 
     // The hidden kinds of a copy.
     fn add_hidden_kinds(&mut self, copy: &Open<'_>) -> Result<(), Memory>
-        ensures { OnOk result (MakesNames self.old self.new) }
+        ensures made { OnOk result (MakesNames self.old self.new) }
+        ensures names { OnOk result (AddsNames self.old self.new (hidden_kinds copy.now.module.now) [] []) }
     {
         let kinds = copy.module.signature.kinds();
         for number in copy.module.hidden_kinds.iter().copied() {
@@ -270,7 +279,8 @@ impl Making {
 
     // The hidden constants of a copy.
     fn add_hidden_constants(&mut self, copy: &Open<'_>) -> Result<(), Memory>
-        ensures { OnOk result (MakesNames self.old self.new) }
+        ensures made { OnOk result (MakesNames self.old self.new) }
+        ensures names { OnOk result (AddsNames self.old self.new [] (hidden_constants copy.now.module.now) (hidden_schemes (copy_of 0 copy.now) copy.now.module.now)) }
     {
         let signature = &copy.module.signature;
         let mut types = Changed::new(self.alloc);
@@ -293,7 +303,8 @@ impl Making {
 
     // The clauses of a copy.
     fn add_clauses(&mut self, copy: &Open<'_>) -> Result<(), Memory>
-        ensures { OnOk result (AddsClauses self.old self.new copy.now) }
+        ensures clauses { OnOk result (AddsClauses self.old self.new copy.now) }
+        ensures names { OnOk result (AddsNames self.old self.new [] [] []) }
     {
         let mut terms = Changed::new(self.alloc);
         let clauses = &copy.module.clauses;
@@ -316,7 +327,8 @@ impl Making {
 
     // A copy, behind those below it.
     fn add_copy(&mut self, copy: &Open<'_>) -> Result<(), Memory>
-        ensures { OnOk result (AddsClauses self.old self.new copy.now) }
+        ensures clauses { OnOk result (AddsClauses self.old self.new copy.now) }
+        ensures names { OnOk result (LeavesNames self.old self.new copy.now) }
     {
         self.add_hidden_kinds(copy)?;
         self.add_hidden_constants(copy)?;
@@ -333,6 +345,7 @@ impl Making {
         ensures same { result.program.clauses.items ≡ self.clauses.items }
         ensures kinds { AreNumbered result.kinds.items }
         ensures numbers { AreNumbered result.constants.items }
+        ensures named { (result.kinds ≡ self.kinds) × (result.constants ≡ self.constants) × (result.program.constants ≡ self.declared) }
     {
         Assembled {
             program: Program {
@@ -358,7 +371,7 @@ impl Making {
         requires kinds { around.old.items ≡ [] → 8 + length member.now.signature.kinds.items ≤ 1048576 }
         requires constants { around.old.items ≡ [] → 32 + length member.now.signature.constants.items ≤ 1048576 }
         ensures made { OnOk result (MakesNames self.old self.new) }
-        ensures opened { OnOk result (Opens around.old.items around.new.items member.now (record { kinds = self.old.next.kinds + below.kinds; constants = self.old.next.constants + below.constants })) }
+        ensures opened { OnOk result (Enters self.old self.new around.old.items around.new.items member.now (record { kinds = self.old.next.kinds + below.kinds; constants = self.old.next.constants + below.constants })) }
     {
         let firsts = Firsts {
             kind: (self.next.kinds + below.kinds) as u32,
@@ -422,7 +435,7 @@ fn make(
     ensures typed { IfOk result (λ a. AreTyped a.program.bank a.program.constants.items) }
     ensures hidden_kinds { IfOk result (λ a. AreNumbered a.kinds.items) }
     ensures hidden_constants { IfOk result (λ a. AreNumbered a.constants.items) }
-    ensures copied { IfOk result (λ a. (copied : List Copy) × AreCopies modules.now root copied × IsOrder modules.now root (map (λ c. c.member) copied) × (map (formula_of a.program.bank) a.program.clauses.items ≡ program_clauses modules.now copied)) }
+    ensures copied { IfOk result (λ a. (copied : List Copy) × (are : AreCopies modules.now root copied) × IsOrder modules.now root (map (λ c. c.member) copied) × (map (formula_of a.program.bank) a.program.clauses.items ≡ program_clauses modules.now copied) × HasTables modules.now are.top are.copy copied a) }
     ensures refused { IfErr result (IsTooMany (lists_in uses.now.items) root) }
 {
     let top = &modules[root];

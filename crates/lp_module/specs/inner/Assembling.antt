@@ -1,9 +1,11 @@
 -- How far a program has come, copy by copy.
 use Rattle.std.specs.Prelude.{◌≡◌, ◌≢◌, ℕ, ◌+◌, ◌≤◌, min, List, [], ◌∷◌, ◌++◌, map, length, reverse, drop, get_or, sum_by, Contains, Some, slice_get}
-use Rattle.lp_model.specs.Readings.{formula_of}
+use Rattle.lp_calculus.specs.Typing.{Scheme}
+use Rattle.lp_model.specs.Readings.{formula_of, scheme_of}
+use Rattle.lp_sig.specs.Rows.{Row}
 use Rattle.lp_module.specs.Copies.{IsOrder, uses_of, kinds_end, constants_end}
 use Rattle.lp_module.specs.Making.{IsSoFar, IsMade}
-use Rattle.lp_module.specs.Program.{Copy, Next, first_of, behind, IsRoot, IsBelow, CopiesBelow, AreCopies, in_copy, clauses_in, clauses_of}
+use Rattle.lp_module.specs.Program.{Copy, Next, first_of, behind, IsRoot, IsBelow, CopiesBelow, AreCopies, in_copy, clauses_in, clauses_of, row_of, exported_kinds, hidden_kinds, exported_constants, hidden_constants, exported_schemes, hidden_schemes, of_copies}
 use Rattle.lp_module.specs.Renumbering.{number_in}
 use Rattle.lp_module.specs.declared.copies.Making.{Making}
 use Rattle.lp_module.specs.declared.module.Module.{Module}
@@ -71,6 +73,24 @@ pub record AreNext (modules : List Module) (root : ℕ) (left : List ℕ) (n : H
 abbrev pub next_of : Hidden → Next
 next_of h = record { kinds = h.kinds; constants = h.constants }
 
+-- a program in the making got these kinds, constants and types of constants behind those that it had
+pub record AddsNames (old new : Making) (kinds constants : List (Row (ℕ × ℕ))) (schemes : List Scheme) : Type 0 where
+  pub kinds_are : map row_of new.kinds.items ≡ map row_of old.kinds.items ++ kinds
+  pub constants_are : map row_of new.constants.items ≡ map row_of old.constants.items ++ constants
+  pub schemes_are : IsSoFar old → map (scheme_of new.bank) new.declared.items ≡ map (scheme_of old.bank) old.declared.items ++ schemes
+
+-- it has those that the root exports, in the root's own copy, and the hidden ones of the copies that are done
+pub record AreTabled (modules : List Module) (top : Module) (root : Copy) (done : List Copy) (m : Making) : Type 0 where
+  pub kinds_are : map row_of m.kinds.items ≡ exported_kinds top ++ of_copies (λ c m. hidden_kinds m) modules done
+  pub constants_are : map row_of m.constants.items ≡ exported_constants top ++ of_copies (λ c m. hidden_constants m) modules done
+  pub schemes_are : map (scheme_of m.bank) m.declared.items ≡ exported_schemes root top ++ of_copies hidden_schemes modules done
+
+-- the copies of a root, with the root's module and its own copy
+pub record AreCopiesOf (modules : List Module) (root : ℕ) (top : Module) (copy : Copy) (all : List Copy) : Type 0 where
+  pub are : AreCopies modules root all
+  pub top_is : are.top ≡ top
+  pub copy_is : are.copy ≡ copy
+
 -- the program so far
 pub record IsMaking (modules : List Module) (root : ℕ) (ts : List Hidden) (frames : List (ℕ × ℕ)) (left : List ℕ) (m : Making) (around : List Open) : Type 0 where
   pub sofar : IsSoFar m
@@ -79,7 +99,9 @@ pub record IsMaking (modules : List Module) (root : ℕ) (ts : List Hidden) (fra
   pub clause_list : map (formula_of m.bank) m.clauses.items ≡ clauses_of modules done
   pub next : AreNext modules root left m.next
   pub open_ones : AreOpen modules ts (next_of m.next) frames (reverse around)
-  pub whole : (all : List Copy) → RestOf modules (next_of m.next) done frames (reverse around) all → AreCopies modules root all
+  pub copy : Copy
+  pub tables : AreTabled modules next.top copy done m
+  pub whole : (all : List Copy) → RestOf modules (next_of m.next) done frames (reverse around) all → AreCopiesOf modules root next.top copy all
 
 -- each of these modules comes behind all that it accumulates, where some come before
 abbrev pub AreBehind : List (List ℕ) → List ℕ → List ℕ → Type 0
@@ -105,12 +127,27 @@ pub record Opens (old new : List Open) (m : Module) (from : Next) : Type 0 where
   pub of : opened.module.now ≡ m
   pub is_open : IsOpen (reverse old) m from (copy_of 0 opened)
 
+-- the names that the root exports were put, where the copy is the root's; else none were
+abbrev pub EntersNames : (inside : List Open) → Making → Making → Open → Type 0
+EntersNames [] old new o = AddsNames old new (exported_kinds o.module.now) (exported_constants o.module.now) (exported_schemes (copy_of 0 o) o.module.now)
+EntersNames (p ∷ ps) old new o = AddsNames old new [] [] []
+
+-- a copy of a module was opened, and its names were put
+pub record Enters (old new : Making) (open_old open_new : List Open) (m : Module) (from : Next) : Type 0 where
+  pub opens : Opens open_old open_new m from
+  pub names : EntersNames open_old old new opens.opened
+
+-- the names of a copy of a module that is left: the hidden ones
+abbrev pub LeavesNames : Making → Making → Open → Type 0
+LeavesNames old new o = AddsNames old new (hidden_kinds o.module.now) (hidden_constants o.module.now) (hidden_schemes (copy_of 0 o) o.module.now)
+
 -- the innermost copy was left
 pub record Leaves (old new : Making) (open_old open_new : List Open) : Type 0 where
   pub left : Open
   pub inside : reverse open_old ≡ left ∷ reverse open_new
   pub made : IsMade old new
   pub next : next_of new.next ≡ behind left.module.now (next_of old.next)
+  pub names : LeavesNames old new left
   pub clause_list : IsSoFar old → map (formula_of new.bank) new.clauses.items ≡ map (formula_of old.bank) old.clauses.items ++ map (in_copy (copy_of 0 left)) (clauses_in left.module.now)
 
 -- what is known of the modules before their program is made

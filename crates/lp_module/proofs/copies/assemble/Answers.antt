@@ -43,7 +43,7 @@ make-requires-clause-plan c =
 pub returns-clause-program : goal.returns-clause-program
 returns-clause-program c =
     let us = c.in_ok-uses.ensures.uses in
-    let (copied, are, copies, clauses) = c.in_ok-made.ensures.copied in
+    let (copied, are, copies, clauses, tables) = c.in_ok-made.ensures.copied in
     let (is_kinds, kinds) = c.in_ok-end_of_kinds.ensures.sum in
     let (is_constants, constants) = c.in_ok-end_of_constants.ensures.sum in
     let same = c.in_ok-order.ensures.only (map (λ c. c.member) copied) (subst (λ u. Copies u (c.args.root ∷ []) (map (λ c. c.member) copied)) (sym us) copies) in
@@ -51,6 +51,7 @@ returns-clause-program c =
       copied = copied;
       are = are;
       clause_list = clauses;
+      tables = tables;
       order = c.in_ok-order.order.items;
       members = same;
       copies = subst (λ u. Copies u (c.args.root ∷ []) c.in_ok-order.order.items) us c.in_ok-order.ensures.copies;
@@ -68,7 +69,7 @@ returns-clause-program c =
 pub returns-clause-copies : goal.returns-clause-copies
 returns-clause-copies c =
     let us = c.in_ok-uses.ensures.uses in
-    let (copied, are, copies, clauses) = c.in_ok-made.ensures.copied in
+    let (copied, are, copies, clauses, tables) = c.in_ok-made.ensures.copied in
     let (is_kinds, kinds) = c.in_ok-end_of_kinds.ensures.sum in
     let (is_constants, constants) = c.in_ok-end_of_constants.ensures.sum in
     let same = c.in_ok-order.ensures.only (map (λ c. c.member) copied) (subst (λ u. Copies u (c.args.root ∷ []) (map (λ c. c.member) copied)) (sym us) copies) in (

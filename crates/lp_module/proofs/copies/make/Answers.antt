@@ -6,10 +6,11 @@ use Rattle.lp_copies.proofs.Copied.{rows_are}
 use Rattle.lp_model.specs.Readings.{formula_of}
 use Rattle.lp_module.specs.Copies.{IsTooMany}
 use Rattle.lp_module.specs.Trees.{fault_of}
-use Rattle.lp_module.specs.inner.Assembling.{Opens}
+use Rattle.lp_module.specs.inner.Assembling.{Enters}
 use Rattle.lp_module.proofs.Summing.{within_totals}
 use Rattle.lp_module.proofs.Uses.{uses_count}
 use Rattle.lp_module.proofs.Stepping.{tree_told, root_names, root_kinds, root_constants, root_begun, never_empty, left_within, ended_within, entered_kinds, entered_constants, turn_entered, turn_left, turn_ended}
+use Rattle.lp_module.proofs.Tabled.{tables_are}
 use Rattle.lp_module.proofs.copies.make.Goals as goal
 
 pub new-making-requires-clause-kinds : goal.new-making-requires-clause-kinds
@@ -41,8 +42,8 @@ copies-init c = (
   root_begun c.args.modules.now c.args.root c.args.totals.now.items c.args.uses.now.items c.requires.uses c.requires.plan.0 c.requires.plan.1
       c.index-modules-root.result c.requires.root c.index-modules-root.is c.new-making.result c.enter.new.self c.enter.new.around.items
       c.index.result.now c.below_of.result c.new-copying.result c.index.ensures c.below_of.ensures.kinds c.below_of.ensures.constants
-      c.new-making.ensures.made c.new-making.ensures.none c.new-making.ensures.next c.in_ok-enter.ensures.made
-      (subst (λ l. Opens l c.enter.new.around.items c.index-modules-root.result (record {
+      c.new-making.ensures.made c.new-making.ensures.none c.new-making.ensures.next c.new-making.ensures.named c.in_ok-enter.ensures.made
+      (subst (λ l. Enters c.new-making.result c.enter.new.self l c.enter.new.around.items c.index-modules-root.result (record {
         kinds = c.new-making.result.next.kinds + c.below_of.result.kinds;
         constants = c.new-making.result.next.constants +
             c.below_of.result.constants;
@@ -138,10 +139,10 @@ pub returns-in-Ended-clause-copied : goal.returns-in-Ended-clause-copied
 returns-in-Ended-clause-copied c =
     let t = subst (Turns (lists_in c.args.uses.now.items) c.copies.copying c.go_on.new.self) c.in-Ended.is c.in_ok-at.ensures.turns in
     let m = subst (Moves (lists_in c.args.uses.now.items) (frames_of c.copies.copying) (frames_of c.go_on.new.self)) c.in-Ended.is c.in_ok-at.ensures.moves in
-    let (copied, are, order, clauses) = turn_ended c.args.modules.now c.args.root c.args.totals.now.items c.args.uses.now.items c.requires.uses
+    let (copied, top, copy, are, order, clauses, tables) = turn_ended c.args.modules.now c.args.root c.args.totals.now.items c.args.uses.now.items c.requires.uses
     c.requires.plan.0 c.requires.plan.1 c.copies.copying c.go_on.new.self c.copies.making c.copies.around.items c.copies.invariant.2
     c.copies.invariant.1 c.in-Ended.field-0 t m c.leave-in-Ended.new.self c.leave-in-Ended.new.around.items c.in_ok-leave-in-Ended.ensures in
-    (copied, are, order, ap (λ b. map (formula_of b) c.finish.result.program.clauses.items) c.finish.ensures.bank ∙ ap (map (formula_of c.leave-in-Ended.new.self.bank)) c.finish.ensures.same ∙ clauses)
+    (copied, are.are, order, ap (λ b. map (formula_of b) c.finish.result.program.clauses.items) c.finish.ensures.bank ∙ ap (map (formula_of c.leave-in-Ended.new.self.bank)) c.finish.ensures.same ∙ clauses, tables_are c.args.modules.now c.args.root top copy copied c.leave-in-Ended.new.self c.finish.result are tables c.finish.ensures.bank c.finish.ensures.named)
 
 pub below_of-requires : goal.below_of-requires
 below_of-requires c =

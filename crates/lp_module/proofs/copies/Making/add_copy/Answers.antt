@@ -1,7 +1,16 @@
+use Rattle.std.proofs.Common.{[], ◌++◌}
+use Rattle.lp_module.specs.Program.{hidden_kinds, hidden_constants, hidden_schemes}
+use Rattle.lp_module.specs.inner.Assembling.{copy_of}
 use Rattle.lp_module.proofs.Adding.{adds_then}
+use Rattle.lp_module.proofs.Tabled.{adds_copy}
 use Rattle.lp_module.proofs.copies.Making.add_copy.Goals as goal
 
-pub returns : goal.returns
-returns c =
-    adds_then c.args.self.now c.add_hidden_kinds.new.self c.add_clauses.new.self c.args.copy.now c.in_ok-add_hidden_kinds.ensures
-    (adds_then c.add_hidden_kinds.new.self c.add_hidden_constants.new.self c.add_clauses.new.self c.args.copy.now c.in_ok-add_hidden_constants.ensures c.in_ok-add_clauses.ensures)
+pub returns-clause-clauses : goal.returns-clause-clauses
+returns-clause-clauses c =
+    adds_then c.args.self.now c.add_hidden_kinds.new.self c.add_clauses.new.self c.args.copy.now c.in_ok-add_hidden_kinds.ensures.made
+    (adds_then c.add_hidden_kinds.new.self c.add_hidden_constants.new.self c.add_clauses.new.self c.args.copy.now c.in_ok-add_hidden_constants.ensures.made c.in_ok-add_clauses.ensures.clauses)
+
+pub returns-clause-names : goal.returns-clause-names
+returns-clause-names c =
+    adds_copy c.args.self.now c.add_hidden_kinds.new.self c.add_hidden_constants.new.self c.add_clauses.new.self c.args.copy.now c.in_ok-add_hidden_kinds.ensures.made.0 c.in_ok-add_hidden_constants.ensures.made.0
+    c.in_ok-add_hidden_kinds.ensures.names c.in_ok-add_hidden_constants.ensures.names c.in_ok-add_clauses.ensures.names

@@ -18,3 +18,6 @@ returns-clause-made c = (
   none_numbered c.new-5.result.items c.new-5.ensures.items,
   subst (All (λ d. d.scheme.0 < length c.new.result.types)) (sym c.new-2.ensures.items) (All-nil (λ d. d.scheme.0 < length c.new.result.types)),
 )
+
+pub returns-clause-named : goal.returns-clause-named
+returns-clause-named c = (c.new-4.ensures.items, c.new-5.ensures.items, c.new-2.ensures.items)
