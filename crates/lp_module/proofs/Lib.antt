@@ -27,3 +27,4 @@ pub mod NoLoose
 pub mod Tabled
 pub mod Entering
 pub mod Lookups
+pub mod Joining

@@ -60,3 +60,4 @@ pub mod OwnNames
 pub mod Apart
 pub mod Sighting
 pub mod KnownConstants
+pub mod OneSignature

@@ -29,3 +29,4 @@ pub mod Modules
 pub mod Worded
 pub mod Named
 pub mod Sighted
+pub mod Same
