@@ -19,7 +19,7 @@ found_more {A} name (x ∷ xs) back a some = by (found_more name xs back a) (byt
     by h true e = e
     by h false e = h e
 
-firsts_front : {A : Type 0} (known : List (List ℕ)) (xs ys : List (Row A)) → (rest : List (Row A)) × (firsts known (xs ++ ys) ≡ firsts known xs ++ rest)
+pub firsts_front : {A : Type 0} (known : List (List ℕ)) (xs ys : List (Row A)) → (rest : List (Row A)) × (firsts known (xs ++ ys) ≡ firsts known xs ++ rest)
 firsts_front known [] ys = (firsts known ys, refl)
 firsts_front {A} known (x ∷ xs) ys = by (is_among x.0 known) (firsts_front known xs ys) (firsts_front (x.0 ∷ known) xs ys)
   where
@@ -28,7 +28,7 @@ firsts_front {A} known (x ∷ xs) ys = by (is_among x.0 known) (firsts_front kno
     by true h k = h
     by false h k = (k.0, ap (λ l. x ∷ l) k.1)
 
-kinds_append : (xs ys : List (Row Said)) → kinds_among (xs ++ ys) ≡ kinds_among xs ++ kinds_among ys
+pub kinds_append : (xs ys : List (Row Said)) → kinds_among (xs ++ ys) ≡ kinds_among xs ++ kinds_among ys
 kinds_append [] ys = refl
 kinds_append ((n, a_kind c) ∷ rs) ys = ap (λ l. (n, c) ∷ l) (kinds_append rs ys)
 kinds_append ((n, an_abbreviation p) ∷ rs) ys = kinds_append rs ys

@@ -1,9 +1,9 @@
 -- Constants with their types, while more of them are known.
-use Rattle.std.proofs.Common.{◌≡◌, ℕ, zero, suc, ◌<◌, List, [], ◌∷◌, ◌++◌, length, map, get_or, refl, sym, ap, subst, ◌∙◌, arith, Bool, true, false, Option, Some, None, inl, inr}
+use Rattle.std.proofs.Common.{◌≡◌, ℕ, zero, suc, ◌<◌, List, [], ◌∷◌, ◌++◌, length, map, get_or, take, append_assoc, ◌+◌, refl, sym, ap, subst, ◌∙◌, arith, Bool, true, false, Option, Some, None, inl, inr}
 use Rattle.std.specs.Prelude.{◌⊎◌, if◌then◌else◌, option_map, slice_get, Contains, All}
 use Rattle.std.specs.Str.{bytes_eq}
-use Rattle.std.proofs.lemmas.List.{append-nil}
-use Rattle.std.proofs.lemmas.List.Elements.{Contains-append_left, Contains-append_right, Contains-append_cases}
+use Rattle.std.proofs.lemmas.List.{append-nil, take_more}
+use Rattle.std.proofs.lemmas.List.Elements.{All-push, All-take, Contains-append_left, Contains-append_right, Contains-append_cases}
 use Rattle.std.proofs.lemmas.Option.{same_Some}
 use Rattle.std.proofs.lemmas.Slice.Eq.{bytes_eq-Decides}
 use Rattle.lp_lemmas.proofs.Elements.{Contains_head, Contains_tail, Contains_single}
@@ -16,13 +16,14 @@ use Rattle.lp_sig.specs.Rows.{found}
 use Rattle.lp_sig.specs.Schemes.{first_variables}
 use Rattle.lp_sig.specs.Standard.{standard_constants}
 use Rattle.lp_sig.specs.Constants.{standard_tree}
-use Rattle.lp_sig.specs.Worded.{HasWords}
-use Rattle.lp_sig.specs.Sighted.{HasTree, standard_one, known_one, AreCounted, GrowsBehind, PutsBehind, IsTreeOf, IsCountedEntry, IsSeenEntry}
+use Rattle.lp_sig.specs.Worded.{HasWords, is_met_word}
+use Rattle.lp_sig.specs.Sighted.{HasTree, standard_one, known_one, AreCounted, GrowsBehind, PutsBehind, IsCountedEntry, IsSeenEntry, AreNew}
 use Rattle.lp_sig.specs.declared.entries.ConstantEntry.{ConstantEntry}
 use Rattle.lp_sig.specs.declared.constants.Constant.{Constant}
 use Rattle.lp_sig.specs.declared.constants.Constants.{Constants}
 use Rattle.lp_sig.specs.declared.constants.DeclaredType.{DeclaredType}
-use Rattle.lp_sig.specs.declared.constants.Known.TheVariants as known
+use Rattle.lp_sig.specs.declared.see.Sight.{Sight}
+use Rattle.lp_sig.specs.declared.see.Sight.TheVariants.{Alike}
 
 pub grows_same : (c : Constants) → GrowsBehind c c
 grows_same c = ([], sym (append-nil c.constants.items))
@@ -103,3 +104,42 @@ entry_new b old new made e name s at is put counted all =
 pub entry_known : (b : Nodes) (c : Constants) (made : List TypeId) (e : ConstantEntry) (name : List ℕ) (s t : TypeId) → slice_get made e.scheme.0 ≡ Some s → name ≡ e.name.items → t ≡ s → HasTree b c name (type_tree b t.0) → IsSeenEntry b c made e
 entry_known b c made e name s t at is same h u v =
     subst (λ t. HasTree b c e.name.items (type_tree b t.0)) (same ∙ same_Some s u (sym at ∙ v)) (subst (λ n. HasTree b c n (type_tree b t.0)) is h)
+
+-- entries, while more is known
+pub counted_entry_later : (b now : Nodes) (made : List TypeId) (e : ConstantEntry) → Extends b now → IsCountedEntry b made e → IsCountedEntry now made e
+counted_entry_later b now made e x h t at =
+    let k = h t at in
+    let l = k.0 in
+    let m = x.more_types in
+    (omega (arith, l, m), k.1 ∙ ap (λ T. length (first_variables T)) (sym (x.same_types t.0 k.0)))
+
+pub seen_entry_later : (b now : Nodes) (old new : Constants) (made : List TypeId) (e : ConstantEntry) → Extends b now → GrowsBehind old new → IsCountedEntry b made e → IsSeenEntry b old made e → IsSeenEntry now new made e
+seen_entry_later b now old new made e x g counted h t at = subst (HasTree now new e.name.items) (sym (x.same_types t.0 (counted t at).0)) (tree_later b now old new e.name.items (type_tree b t.0) x g (h t at))
+
+seen_list_later : (b now : Nodes) (old new : Constants) (made : List TypeId) (es : List ConstantEntry) → Extends b now → GrowsBehind old new → All (IsCountedEntry b made) es → All (IsSeenEntry b old made) es → All (IsSeenEntry now new made) es
+seen_list_later b now old new made es x g counted h = λ k e l. seen_entry_later b now old new made (get_or es k e) x g (counted k e l) (h k e l)
+
+-- the next of new ones is new
+pub new_at : (words : List (List ℕ)) (es : List ConstantEntry) (i : ℕ) (e : ConstantEntry) → i < length es → e ≡ get_or es i e → AreNew words es → is_met_word e.name.items (words ++ map (λ e. e.name.items) (take i es)) ≡ false
+new_at words [] i e h at n = absurd (omega (arith, h))
+new_at words (x ∷ xs) zero e h at (n, more) = ap (λ e. is_met_word e.name.items (words ++ [])) at ∙ ap (is_met_word x.name.items) (append-nil words) ∙ n
+new_at words (x ∷ xs) (suc i) e h at (n, more) =
+    ap (is_met_word e.name.items) (sym (append_assoc words (x.name.items ∷ []) (map (λ e. e.name.items) (take i xs)))) ∙ new_at (words ++ x.name.items ∷ []) xs i e (omega (arith, h)) at more
+
+-- one more entry was seen
+pub one_seen : (first b now : Nodes) (old new : Constants) (made : List TypeId) (es : List ConstantEntry) (i : ℕ) (e : ConstantEntry) (all all_then s : Sight) (words : List (List ℕ)) → i < length es → e ≡ get_or es i e → Extends first b → Extends b now → GrowsBehind old new →
+    (all_then ≡ Alike → (all ≡ Alike) × (s ≡ Alike)) → All (IsCountedEntry first made) es →
+    ((all ≡ Alike) ⊎ AreNew words es → All (IsSeenEntry b old made) (take i es)) →
+    ((s ≡ Alike) ⊎ (is_met_word e.name.items (words ++ map (λ e. e.name.items) (take i es)) ≡ false) → IsSeenEntry now new made e) →
+    (all_then ≡ Alike) ⊎ AreNew words es → All (IsSeenEntry now new made) (take (i + 1) es)
+one_seen first b now old new made es i e all all_then s words h at x y g both counted before this premise =
+    subst (All (IsSeenEntry now new made)) (sym (take_more es i e h ∙ ap (λ e. take i es ++ e ∷ []) (sym at)))
+    (All-push (IsSeenEntry now new made) (take i es) e (seen_list_later b now old new made (take i es) y g (λ k d l. counted_entry_later first b made (get_or (take i es) k d) x (All-take (IsCountedEntry first made) i es counted k d l)) (before (left premise))) (this (right premise)))
+  where
+    left : (all_then ≡ Alike) ⊎ AreNew words es → (all ≡ Alike) ⊎ AreNew words es
+    left (inl q) = inl (both q).0
+    left (inr n) = inr n
+
+    right : (all_then ≡ Alike) ⊎ AreNew words es → (s ≡ Alike) ⊎ (is_met_word e.name.items (words ++ map (λ e. e.name.items) (take i es)) ≡ false)
+    right (inl q) = inl (both q).1
+    right (inr n) = inr (new_at words es i e h at n)

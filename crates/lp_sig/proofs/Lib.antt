@@ -61,3 +61,4 @@ pub mod Apart
 pub mod Sighting
 pub mod KnownConstants
 pub mod OneSignature
+pub mod Viewing

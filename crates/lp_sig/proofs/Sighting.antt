@@ -1,8 +1,9 @@
 -- Kinds, types and constants of a signature that is seen.
-use Rattle.std.proofs.Common.{◌≡◌, ℕ, zero, suc, ◌+◌, ◌-◌, ◌<◌, ◌≤◌, min, List, [], ◌∷◌, ◌++◌, length, map, refl, sym, ap, subst, ◌∙◌, arith, Bool, true, false, Option, Some, None, inl, inr, cond, append_assoc}
+use Rattle.std.proofs.Common.{◌≡◌, ℕ, zero, suc, ◌+◌, ◌-◌, ◌<◌, ◌≤◌, min, List, [], ◌∷◌, ◌++◌, length, map, refl, sym, ap, subst, ◌∙◌, arith, Bool, true, false, true≢false, Option, Some, None, inl, inr, cond, append_assoc}
 use Rattle.std.specs.Prelude.{◌⊎◌, nat_lt, if◌then◌else◌, option_map, slice_get}
 use Rattle.std.specs.Str.{bytes_eq}
 use Rattle.std.proofs.lemmas.Bool.{le-ltb, lt-ltb}
+use Rattle.std.proofs.lemmas.List.{length-append}
 use Rattle.std.proofs.lemmas.Option.{same_Some, slice_get_within}
 use Rattle.std.proofs.lemmas.Slice.Eq.{bytes_eq-Decides}
 use Rattle.lp_base.specs.declared.limits.TheConstants.{END_OF_NUMBERS}
@@ -13,12 +14,13 @@ use Rattle.lp_term.specs.declared.node.TypeId.{TypeId}
 use Rattle.lp_sig.specs.Rows.{Row, found}
 use Rattle.lp_sig.specs.Said.{Said, a_kind, names_in, kinds_among, declared_names, numbered}
 use Rattle.lp_sig.specs.Standard.{standard_kinds}
-use Rattle.lp_sig.specs.Words.{meaning_of, number_said}
+use Rattle.lp_sig.specs.Words.{standard_said, meaning_of, number_said}
 use Rattle.lp_sig.specs.Types.{one_or, kind_number_of}
 use Rattle.lp_sig.specs.Named.{NamedTy, NamedTys, no_named, more_named, named_con, named_arrow, named, all_named, kind_name}
-use Rattle.lp_sig.specs.Sighted.{said_kinds, HasItsNumber, AreSeenTypes}
+use Rattle.lp_sig.specs.Sighted.{said_kinds, IsKind, HasItsNumber, AreSeenTypes}
 use Rattle.lp_sig.specs.declared.see.Sight.{Sight}
 use Rattle.lp_sig.specs.declared.see.Sight.TheVariants.{Alike, Otherwise}
+use Rattle.lp_sig.proofs.Growing.{firsts_front, kinds_append, meaning_more}
 
 -- rows that have their numbers by their places
 abbrev InPlace : ℕ → List (Row (ℕ × ℕ)) → Type 0
@@ -107,6 +109,64 @@ name_stays names more k name e = by (nat_lt k 8) refl e
     by : (t : Bool) → nat_lt k 8 ≡ t → (if t then slice_get (names_in standard_kinds) k else slice_get names (k - 8)) ≡ Some name → kind_name (names ++ more) k ≡ Some name
     by true s e = ap (λ b. if b then slice_get (names_in standard_kinds) k else slice_get (names ++ more) (k - 8)) s ∙ e
     by false s e = ap (λ b. if b then slice_get (names_in standard_kinds) k else slice_get (names ++ more) (k - 8)) s ∙ front names (k - 8) e
+
+-- more that is said brings more kinds
+names_append : {A : Type 0} (xs ys : List (Row A)) → names_in (xs ++ ys) ≡ names_in xs ++ names_in ys
+names_append [] ys = refl
+names_append (x ∷ xs) ys = ap (λ l. x.0 ∷ l) (names_append xs ys)
+
+pub kinds_more : (said more : List (Row Said)) → (rest : List (List ℕ)) × (said_kinds (said ++ more) ≡ said_kinds said ++ rest)
+kinds_more said more =
+    let f = firsts_front (names_in standard_kinds) said more in
+    (names_in (kinds_among f.0), ap (λ z. names_in (kinds_among z)) f.1 ∙ ap names_in (kinds_append (declared_names said) f.0) ∙ names_append (kinds_among (declared_names said)) (kinds_among f.0))
+
+pub name_later : (said more : List (Row Said)) (k : ℕ) (name : List ℕ) → kind_name (said_kinds said) k ≡ Some name → kind_name (said_kinds (said ++ more)) k ≡ Some name
+name_later said more k name e = let (rest, f) = kinds_more said more in ap (λ l. kind_name l k) f ∙ name_stays (said_kinds said) rest k name e
+
+-- what was said last of a name, or something before it, is what it means
+found_last : {A : Type 0} (name : List ℕ) (rows : List (Row A)) (a : A) → (b : A) × (found name (rows ++ (name, a) ∷ []) ≡ Some b)
+found_last name [] a = (a, ap (λ t. cond t (Some a) None) ((bytes_eq-Decides name name).1 refl))
+found_last {A} name (x ∷ xs) a = by (found_last name xs a) (bytes_eq name x.0)
+  where
+    by : (b : A) × (found name (xs ++ (name, a) ∷ []) ≡ Some b) → (t : Bool) → (b : A) × (cond t (Some x.1) (found name (xs ++ (name, a) ∷ [])) ≡ Some b)
+    by h true = (x.1, refl)
+    by h false = h
+
+kind_earlier : (said more : List (Row Said)) (name : List ℕ) (b : Said) → meaning_of name said ≡ Some b → IsKind (said ++ more) name → IsKind said name
+kind_earlier said more name b now h =
+    let later = meaning_more said more name b now in
+    let same : b ≡ a_kind h.arity = same_Some b (a_kind h.arity) (sym later ∙ h.means) in
+    let (rest, f) = kinds_more said more in
+    let l = ap length f ∙ length-append (said_kinds said) rest in
+    let fits = h.fits in
+    record { arity = h.arity; means = now ∙ ap (λ s. Some s) same; fits = omega (arith, fits, l) }
+
+pub kind_then : (said more : List (Row Said)) (name : List ℕ) (m : Said) → IsKind ((said ++ (name, m) ∷ []) ++ more) name → IsKind (said ++ (name, m) ∷ []) name
+unfolding meaning_of
+kind_then said more name m h =
+    let (b, e) = found_last name (standard_said ++ said) m in
+    kind_earlier (said ++ (name, m) ∷ []) more name b (ap (found name) (sym (append_assoc standard_said said ((name, m) ∷ []))) ∙ e) h
+
+-- kinds of which something was said are kinds by then
+found_among : {A : Type 0} (name : List ℕ) (front : List (Row A)) (rows back : List (Row A)) (i : ℕ) → slice_get (names_in rows) i ≡ Some name → (b : A) × (found name (front ++ (rows ++ back)) ≡ Some b)
+found_among name [] [] back i e = absurd (cc)
+found_among {A} name [] (x ∷ xs) back i e = by (bytes_eq name x.0) refl i e
+  where
+    by : (t : Bool) → bytes_eq name x.0 ≡ t → (i : ℕ) → slice_get (x.0 ∷ names_in xs) i ≡ Some name → (b : A) × (cond t (Some x.1) (found name (xs ++ back)) ≡ Some b)
+    by true s i e = (x.1, refl)
+    by false s zero e = absurd (true≢false (sym ((bytes_eq-Decides name x.0).1 (sym (same_Some x.0 name e))) ∙ s))
+    by false s (suc i) e = found_among name [] xs back i e
+found_among {A} name (x ∷ xs) rows back i e = by (found_among name xs rows back i e) (bytes_eq name x.0)
+  where
+    by : (b : A) × (found name (xs ++ (rows ++ back)) ≡ Some b) → (t : Bool) → (b : A) × (cond t (Some x.1) (found name (xs ++ (rows ++ back))) ≡ Some b)
+    by h true = (x.1, refl)
+    by h false = h
+
+pub kind_among : (said rows back more : List (Row Said)) (name : List ℕ) (i : ℕ) → slice_get (names_in rows) i ≡ Some name → IsKind ((said ++ (rows ++ back)) ++ more) name → IsKind (said ++ (rows ++ back)) name
+unfolding meaning_of
+kind_among said rows back more name i e h =
+    let (b, f) = found_among name (standard_said ++ said) rows back i e in
+    kind_earlier (said ++ (rows ++ back)) more name b (ap (found name) (sym (append_assoc standard_said said (rows ++ back))) ∙ f) h
 
 -- kinds of the language have their names everywhere
 pub low_name : (names here : List (List ℕ)) (k : ℕ) → k < 8 → kind_name here k ≡ kind_name names k

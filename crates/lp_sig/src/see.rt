@@ -1,5 +1,5 @@
 // What a text sees of other signatures. A name that is seen again otherwise keeps its first declaration.
-ghost use Rattle.std.specs.Prelude.{◌≡◌, ◌<◌, ◌⊎◌, ◌++◌, ℕ, List, [], ◌∷◌, map, length, false, nat_eq, Some, OnOk, IfOk, All, slice_get};
+ghost use Rattle.std.specs.Prelude.{◌≡◌, ◌<◌, ◌⊎◌, ◌++◌, ℕ, List, [], ◌∷◌, map, length, true, false, nat_eq, Some, OnOk, IfOk, All, slice_get};
 ghost use Rattle.std.specs.List.{range_with_len};
 ghost use Rattle.indexmap.specs.IndexMap.{get};
 ghost use Rattle.lp_term.specs.Nodes.{Extends, type_tree};
@@ -39,14 +39,18 @@ pub(crate) enum Sight {
 
 impl Sight {
     // The first thing that is wrong.
-    fn and(self, other: Sight) -> Sight {
+    fn and(self, other: Sight) -> Sight
+        ensures { result ≡ Alike → (self ≡ Alike) × (other ≡ Alike) }
+    {
         match self {
             Sight::Alike => other,
             _ => self,
         }
     }
 
-    fn if_alike(alike: bool) -> Sight {
+    fn if_alike(alike: bool) -> Sight
+        ensures { result ≡ Alike → alike ≡ true }
+    {
         if alike {
             Sight::Alike
         } else {
@@ -318,7 +322,7 @@ impl Making {
         ensures kept { Extends self.old.bodies.types.bank self.new.bodies.types.bank }
         ensures grown { OnOk result (GrowsBehind self.old.constants self.new.constants) }
         ensures seen { IfOk result (λ s. (said : List (Row Said)) (words : List (List ℕ)) → Knows self.old.names said → HasWords self.old.constants words → AreCounted self.old.bodies.types.bank self.old.constants → IsOrdered signature.now →
-            AreCounted self.new.bodies.types.bank self.new.constants × ((s ≡ Alike) ⊎ (AreKinds (said ++ said_of signature.now) (kind_names signature.now) × AreNew words signature.now.constants.items) → SeenSo self.new (said ++ said_of signature.now) signature.now)) }
+            (s ≡ Alike) ⊎ (AreKinds (said ++ said_of signature.now) (kind_names signature.now) × AreNew words signature.now.constants.items) → AreCounted self.new.bodies.types.bank self.new.constants × SeenSo self.new (said ++ said_of signature.now) signature.now) }
     {
         let mut numbers = IndexMap::new(self.alloc);
         let of_kinds = self.names.see_kinds(signature.kinds(), &mut numbers)?;
