@@ -1,22 +1,26 @@
 -- A signature that is seen as a whole: each of its constants is known with its type, by the names of kinds.
-use Rattle.std.proofs.Common.{◌≡◌, ℕ, ◌<◌, List, [], ◌∷◌, ◌++◌, length, map, get_or, refl, sym, ap, subst, ◌∙◌, arith, Option, Some, inl, inr}
+use Rattle.std.proofs.Common.{◌≡◌, ℕ, ◌<◌, List, [], ◌∷◌, ◌++◌, length, map, get_or, append_assoc, refl, sym, ap, subst, ◌∙◌, arith, Option, Some, inl, inr}
 use Rattle.std.specs.Prelude.{◌⊎◌, slice_get, Contains, All}
 use Rattle.std.proofs.lemmas.Option.{slice_get-get_or}
-use Rattle.std.proofs.lemmas.List.{get_or_default}
+use Rattle.std.proofs.lemmas.List.{append-nil}
 use Rattle.lp_calculus.specs.Types.{Ty, Tys, var, param, con, arrow, no_types, types}
 use Rattle.lp_term.specs.Nodes.{Nodes, Extends, type_tree}
 use Rattle.lp_term.specs.declared.node.TypeId.{TypeId}
 use Rattle.lp_sig.specs.Schemes.{type_variables, types_variables, met, first_variables}
 use Rattle.lp_sig.specs.Named.{NamedTy, NamedTys, named_var, named_param, named_con, named_arrow, no_named, more_named, named, all_named, kind_name, kind_names, named_in, IsWhole, AreWhole, IsOrdered}
 use Rattle.lp_sig.specs.Rows.{Row}
-use Rattle.lp_sig.specs.Said.{Said}
-use Rattle.lp_sig.specs.Sighted.{said_kinds, AreSeenTypes, HasTree, IsCountedEntry, IsSeenEntry, GrowsBehind, SeenSo}
+use Rattle.lp_sig.specs.Said.{Said, names_in}
+use Rattle.lp_sig.specs.Modules.{kind_said, abbreviation_said, said_of}
+use Rattle.lp_sig.specs.Sighted.{said_kinds, IsKind, AreKinds, AreSeenTypes, HasTree, AreCounted, IsCountedEntry, IsSeenEntry, AreNew, GrowsBehind, SeenSo}
 use Rattle.lp_sig.specs.declared.constants.Constants.{Constants}
 use Rattle.lp_sig.specs.declared.entries.ConstantEntry.{ConstantEntry}
+use Rattle.lp_sig.specs.declared.entries.KindEntry.{KindEntry}
+use Rattle.lp_sig.specs.declared.see.Sight.{Sight}
+use Rattle.lp_sig.specs.declared.see.Sight.TheVariants.{Alike}
 use Rattle.lp_sig.specs.declared.making.Making.{Making}
 use Rattle.lp_sig.specs.declared.signature.Signature.{Signature}
 use Rattle.lp_sig.proofs.KnownConstants.{tree_later}
-use Rattle.lp_sig.proofs.Sighting.{name_stays, kinds_more}
+use Rattle.lp_sig.proofs.Sighting.{name_stays, kinds_more, kind_among}
 
 -- types that are the same by names have the same variables
 con_parts : (k j : Option (List ℕ)) (ts us : NamedTys) → named_con k ts ≡ named_con j us → ts ≡ us
@@ -104,3 +108,52 @@ seen_stays old new said more u o x g h e has =
     let (rest, f) = kinds_more said more in
     let whole = subst IsWhole (sym same) (subst (λ e. IsWhole (named_in u e.scheme)) has.1.1 (o.whole has.0 e has.1.0)) in
     (T, tree_later old.bodies.types.bank new.bodies.types.bank old.constants new.constants e.name.items T x g tree, ap (λ l. named (kind_name l) T) f ∙ whole_stays (said_kinds said) rest T whole ∙ same)
+
+-- kinds that are so in the end are so when all kinds were seen
+names_are : (es : List KindEntry) → names_in (map kind_said es) ≡ map (λ e. e.name.items) es
+names_are [] = refl
+names_are (e ∷ es) = ap (λ l. e.name.items ∷ l) (names_are es)
+
+kinds_by_then : (said : List (Row Said)) (u : Signature) → AreKinds (said ++ said_of u) (kind_names u) → AreKinds (said ++ map kind_said u.kinds.items) (kind_names u)
+kinds_by_then said u all k d l =
+    let rows = map kind_said u.kinds.items in
+    let back = map abbreviation_said u.abbreviations.items in
+    let name = get_or (kind_names u) k d in
+    let at : slice_get (names_in rows) k ≡ Some name = ap (λ ns. slice_get ns k) (names_are u.kinds.items) ∙ slice_get-get_or (kind_names u) k d l in
+    let whole : IsKind ((said ++ (rows ++ [])) ++ back) name = subst (λ s. IsKind s name) (sym (ap (λ r. (said ++ r) ++ back) (append-nil rows) ∙ append_assoc said rows back)) (all k d l) in
+    subst (λ r. IsKind (said ++ r) name) (append-nil rows) (kind_among said rows [] back name k at whole)
+
+-- all of it
+pub seen_whole : (u : Signature) (here now : Nodes) (old new : Constants) (said : List (Row Said)) (words : List (List ℕ)) (made : List TypeId) (sk sc : Sight) → IsOrdered u →
+    ((sk ≡ Alike) ⊎ AreKinds (said ++ map kind_said u.kinds.items) (kind_names u) → AreSeenTypes u.bank here (kind_names u) (said_kinds (said ++ map kind_said u.kinds.items)) made) → length made ≡ length u.bank.types → Extends here now →
+    (All (IsCountedEntry here made) u.constants.items → AreCounted now new × ((sc ≡ Alike) ⊎ AreNew words u.constants.items → All (IsSeenEntry now new made) u.constants.items)) →
+    ((sk ≡ Alike) × (sc ≡ Alike)) ⊎ (AreKinds (said ++ said_of u) (kind_names u) × AreNew words u.constants.items) →
+    AreCounted now new × ((e : ConstantEntry) → Contains u.constants.items e → (T : Ty) × HasTree now new e.name.items T × (named (kind_name (said_kinds (said ++ said_of u))) T ≡ named_in u e.scheme))
+seen_whole u here now old new said words made sk sc o types_seen count x constants premise = (result.0, entries)
+  where
+    kinds : (sk ≡ Alike) ⊎ AreKinds (said ++ map kind_said u.kinds.items) (kind_names u)
+    kinds = by premise
+      where
+        by : ((sk ≡ Alike) × (sc ≡ Alike)) ⊎ (AreKinds (said ++ said_of u) (kind_names u) × AreNew words u.constants.items) → (sk ≡ Alike) ⊎ AreKinds (said ++ map kind_said u.kinds.items) (kind_names u)
+        by (inl q) = inl q.0
+        by (inr q) = inr (kinds_by_then said u q.0)
+
+    seen : AreSeenTypes u.bank here (kind_names u) (said_kinds (said ++ map kind_said u.kinds.items)) made
+    seen = types_seen kinds
+
+    result : AreCounted now new × ((sc ≡ Alike) ⊎ AreNew words u.constants.items → All (IsSeenEntry now new made) u.constants.items)
+    result = constants (entries_counted u here (said_kinds (said ++ map kind_said u.kinds.items)) made o seen)
+
+    all : All (IsSeenEntry now new made) u.constants.items
+    all = result.1 (by premise)
+      where
+        by : ((sk ≡ Alike) × (sc ≡ Alike)) ⊎ (AreKinds (said ++ said_of u) (kind_names u) × AreNew words u.constants.items) → (sc ≡ Alike) ⊎ AreNew words u.constants.items
+        by (inl q) = inl q.1
+        by (inr q) = inr q.1
+
+    entries : (e : ConstantEntry) → Contains u.constants.items e → (T : Ty) × HasTree now new e.name.items T × (named (kind_name (said_kinds (said ++ said_of u))) T ≡ named_in u e.scheme)
+    entries e has =
+        let (T, tree, same) = entries_seen u here now new (said_kinds (said ++ map kind_said u.kinds.items)) made o seen count x all e has in
+        let (rest, f) = kinds_more (said ++ map kind_said u.kinds.items) (map abbreviation_said u.abbreviations.items) in
+        let whole = subst IsWhole (sym same) (subst (λ e. IsWhole (named_in u e.scheme)) has.1.1 (o.whole has.0 e has.1.0)) in
+        (T, tree, ap (λ l. named (kind_name l) T) (ap said_kinds (sym (append_assoc said (map kind_said u.kinds.items) (map abbreviation_said u.abbreviations.items))) ∙ f) ∙ whole_stays (said_kinds (said ++ map kind_said u.kinds.items)) rest T whole ∙ same)
