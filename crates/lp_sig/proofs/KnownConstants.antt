@@ -41,9 +41,9 @@ grows_put old new name d (k, n, is, e) = (k ∷ [], e)
 -- what is known stays
 pub tree_later : (b now : Nodes) (old new : Constants) (name : List ℕ) (T : Ty) → Extends b now → GrowsBehind old new → HasTree b old name T → HasTree now new name T
 tree_later b now old new name T x g (standard_one n e t) = standard_one n e t
-tree_later b now old new name T x (more, g) (known_one k has is d declared l t) =
+tree_later b now old new name T x (more, g) (known_one k has is d declared l t n) =
     let m = x.more_types in
-    known_one k (subst (λ l. Contains l k) (sym g) (Contains-append_left old.constants.items more k has)) is d declared (omega (arith, l, m)) (x.same_types d.scheme.0 l ∙ t)
+    known_one k (subst (λ l. Contains l k) (sym g) (Contains-append_left old.constants.items more k has)) is d declared (omega (arith, l, m)) (x.same_types d.scheme.0 l ∙ t) n
 
 pub counted_later : (b now : Nodes) (c : Constants) → Extends b now → AreCounted b c → AreCounted now c
 counted_later b now c x all k has d is =
@@ -62,8 +62,8 @@ counted_put b old new name d (k, n, is, e) h all j has c there = by (Contains-ap
         let same : d ≡ c = same_Some d c (sym is ∙ ap (λ k. k.declared) (Contains_single k j x) ∙ there) in
         subst (λ c. (c.scheme.0 < length b.types) × (c.type_vars ≡ length (first_variables (type_tree b c.scheme.0)))) same h
 
-pub tree_put : (b : Nodes) (old new : Constants) (name : List ℕ) (d : DeclaredType) → PutsBehind old new name d → d.scheme.0 < length b.types → HasTree b new name (type_tree b d.scheme.0)
-tree_put b old new name d (k, n, is, e) l = known_one k (subst (λ l. Contains l k) (sym e) (Contains-append_right old.constants.items (k ∷ []) k (Contains_head k []))) n d is l refl
+pub tree_put : (b : Nodes) (old new : Constants) (name : List ℕ) (d : DeclaredType) → PutsBehind old new name d → d.scheme.0 < length b.types → d.type_vars ≡ length (first_variables (type_tree b d.scheme.0)) → HasTree b new name (type_tree b d.scheme.0)
+tree_put b old new name d (k, n, is, e) l count = known_one k (subst (λ l. Contains l k) (sym e) (Contains-append_right old.constants.items (k ∷ []) k (Contains_head k []))) n d is l refl count
 
 -- what is known of a name
 pub tree_standard : (b : Nodes) (c : Constants) (name : List ℕ) (n : ℕ) (t : TypeId) → Some n ≡ found name standard_constants → IsTree b (λ t. t ≡ standard_tree n) t → HasTree b c name (type_tree b t.0)
@@ -88,9 +88,10 @@ named_at name (x ∷ xs) i k e at = by (bytes_eq name x.name.items) refl (first_
 pub tree_declared : (b now : Nodes) (c : Constants) (name : List ℕ) (words : List (List ℕ)) (i : ℕ) (k : Constant) (d : DeclaredType) → HasWords c words → Some i ≡ place_of c.places name → k ≡ get_or c.constants.items i k → k.declared ≡ Some d → AreCounted b c → Extends b now → HasTree now c name (type_tree now d.scheme.0)
 tree_declared b now c name words i k d h e at is all x =
     let m = named_at name c.constants.items i k (sym (e ∙ h.places name)) at in
-    let l = (all k m.0 d is).0 in
+    let h = all k m.0 d is in
+    let l = h.0 in
     let y = x.more_types in
-    known_one k m.0 m.1 d is (omega (arith, l, y)) refl
+    known_one k m.0 m.1 d is (omega (arith, l, y)) refl (h.1 ∙ ap (λ T. length (first_variables T)) (sym (x.same_types d.scheme.0 h.0)))
 
 -- an entry that is seen, and all of them
 pub entry_new : (b : Nodes) (old new : Constants) (made : List TypeId) (e : ConstantEntry) (name : List ℕ) (s : TypeId) → slice_get made e.scheme.0 ≡ Some s → name ≡ e.name.items → PutsBehind old new name (record { type_vars = e.type_vars; scheme = s }) →
@@ -98,7 +99,7 @@ pub entry_new : (b : Nodes) (old new : Constants) (made : List TypeId) (e : Cons
 entry_new b old new made e name s at is put counted all =
     let h = counted s at in (
       counted_put b old new name (record { type_vars = e.type_vars; scheme = s }) put h all,
-      λ t u. subst (λ t. HasTree b new e.name.items (type_tree b t.0)) (same_Some s t (sym at ∙ u)) (subst (λ n. HasTree b new n (type_tree b s.0)) is (tree_put b old new name (record { type_vars = e.type_vars; scheme = s }) put h.0)),
+      λ t u. subst (λ t. HasTree b new e.name.items (type_tree b t.0)) (same_Some s t (sym at ∙ u)) (subst (λ n. HasTree b new n (type_tree b s.0)) is (tree_put b old new name (record { type_vars = e.type_vars; scheme = s }) put h.0 h.1)),
     )
 
 pub entry_known : (b : Nodes) (c : Constants) (made : List TypeId) (e : ConstantEntry) (name : List ℕ) (s t : TypeId) → slice_get made e.scheme.0 ≡ Some s → name ≡ e.name.items → t ≡ s → HasTree b c name (type_tree b t.0) → IsSeenEntry b c made e

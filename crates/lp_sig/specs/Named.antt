@@ -1,9 +1,16 @@
 -- Types by the names of their kinds, and which constants of one signature another one has with the same types.
-use Rattle.std.specs.Prelude.{◌≡◌, ◌-◌, ◌<◌, ℕ, List, map, length, nat_lt, Option, Some, slice_get, Contains, All, if◌then◌else◌}
+use Rattle.std.specs.Prelude.{◌≡◌, ◌-◌, ◌+◌, ◌<◌, ℕ, List, [], ◌∷◌, ◌++◌, map, length, nat_lt, Option, Some, slice_get, Contains, All, if◌then◌else◌}
 use Rattle.std.specs.List.{range_with_len}
 use Rattle.lp_calculus.specs.Types.{Ty, Tys, var, param, con, arrow, no_types, types}
+use Rattle.lp_base.specs.declared.place.Spot.{Spot}
+use Rattle.lp_syntax.specs.declared.text.Declaration.{Declaration}
+use Rattle.lp_syntax.specs.declared.text.Declaration.TheVariants.{Accumulate}
+use Rattle.lp_syntax.specs.declared.text.Sentence.{Sentence}
 use Rattle.lp_term.specs.Nodes.{type_tree}
 use Rattle.lp_term.specs.declared.node.TypeId.{TypeId}
+use Rattle.lp_sig.specs.Loading.{accum_words}
+use Rattle.lp_sig.specs.Modules.{declarations, first_names, IsApart}
+use Rattle.lp_sig.specs.Pieces.{spelled}
 use Rattle.lp_sig.specs.Rows.{found}
 use Rattle.lp_sig.specs.Said.{names_in}
 use Rattle.lp_sig.specs.Schemes.{first_variables}
@@ -74,3 +81,18 @@ pub record IsOrdered (s : Signature) : Type 0 where
   pub inside : All (λ e. e.scheme.0 < length s.bank.types) s.constants.items
   pub counts : All (λ e. e.type_vars ≡ length (first_variables (type_tree s.bank e.scheme.0))) s.constants.items
   pub whole : All (λ e. IsWhole (named_in s e.scheme)) s.constants.items
+
+-- the words of accumulate in a text
+abbrev pub accumulate_in : List Declaration → List Spot
+accumulate_in [] = []
+accumulate_in (Accumulate words ∷ ds) = words.items ++ accumulate_in ds
+accumulate_in (_ ∷ ds) = accumulate_in ds
+
+-- how many different words of accum_sig it has, and of accumulate
+abbrev pub many_words : List ℕ → List Declaration → ℕ
+many_words text ds = length (first_names [] (map (spelled text) (accum_words ds))) + length (first_names [] (map (spelled text) (accumulate_in ds)))
+
+-- The signature of a module has the constants of the module's own signature, and of each signature that a word of its text names, with the same types by the names of kinds, where kinds have their numbers by places and types have as many variables as is said.
+pub record SeesTheirs (own : Signature) (used : List Signature) (text : List ℕ) (lines : List Sentence) (s : Signature) : Type 0 where
+  pub own_ones : IsApart own → IsOrdered own → SeesAlike own s
+  pub used_ones : IsApart own → IsOrdered own → All IsOrdered used → (i : ℕ) (u : Signature) → slice_get used i ≡ Some u → i < many_words text (declarations lines) → SeesAlike u s

@@ -47,10 +47,10 @@ abbrev pub AreSeenTypes : (there here : Nodes) → (names here_names : List (Lis
 AreSeenTypes there here names here_names made =
     (i : ℕ) (t : TypeId) → slice_get made i ≡ Some t → (t.0 < length here.types) × (named (kind_name here_names) (type_tree here t.0) ≡ named (kind_name names) (type_tree there i))
 
--- constants so far: one of the name has this type
+-- constants so far: one of the name has this type, and as many type variables
 pub data HasTree (b : Nodes) (c : Constants) (name : List ℕ) (T : Ty) : Type 0 where
   standard_one : (n : ℕ) → found name standard_constants ≡ Some n → T ≡ standard_tree n → HasTree b c name T
-  known_one : (k : Constant) → Contains c.constants.items k → k.name.items ≡ name → (d : DeclaredType) → k.declared ≡ Some d → d.scheme.0 < length b.types → type_tree b d.scheme.0 ≡ T → HasTree b c name T
+  known_one : (k : Constant) → Contains c.constants.items k → k.name.items ≡ name → (d : DeclaredType) → k.declared ≡ Some d → d.scheme.0 < length b.types → type_tree b d.scheme.0 ≡ T → d.type_vars ≡ length (first_variables T) → HasTree b c name T
 
 -- their types stand in the bank, and have as many variables as is said
 abbrev pub AreCounted : Nodes → Constants → Type 0
