@@ -17,7 +17,7 @@ use Rattle.lp_model.specs.declared.program.Declared.{Declared}
 use Rattle.lp_sig.specs.declared.entries.ConstantEntry.{ConstantEntry}
 use Rattle.lp_infer.specs.Texts.{entry_scheme}
 use Rattle.lp_module.specs.Orderly.{IsOrderly, AreOrderly, HasType}
-use Rattle.lp_module.specs.Program.{Copy, Next, place_in, hidden_or, one_if_none, exported_before, one_if_exported, exported_among, hidden_among, scheme_in, exported_schemes, hidden_schemes, of_module, of_copies, first_of, behind, CopiesBelow, none_below, one_below, AreCopies, IsProgram}
+use Rattle.lp_module.specs.Program.{Copy, Next, place_in, hidden_or, one_if_none, exported_before, one_if_exported, exported_among, hidden_among, scheme_in, exported_schemes, hidden_schemes, of_module, of_copies, constant_at, constant_in, first_of, behind, CopiesBelow, none_below, one_below, AreCopies, IsProgram}
 use Rattle.lp_module.specs.declared.copies.Assembled.{Assembled}
 use Rattle.lp_module.specs.declared.module.Module.{Module}
 
@@ -39,12 +39,12 @@ place_at a (suc n) (suc i) k l e =
 
 place_back : (a n k j : ℕ) → place_in (range_with_len a n) k ≡ Some j → k ≡ a + j
 place_back a zero k j e = absurd (cc)
-place_back a (suc n) k j e = by (nat_eq a k) refl (place_in (range_with_len (a + 1) n) k) refl e
+place_back a (suc n) k j e = by (nat_eq a k) refl (place_in (range_with_len (a + 1) n) k) refl (λ i p. place_back (a + 1) n k i p) e
   where
-    by : (t : Bool) → nat_eq a k ≡ t → (o : Option ℕ) → place_in (range_with_len (a + 1) n) k ≡ o → (if t then Some 0 else option_map (λ j. suc j) o) ≡ Some j → k ≡ a + j
-    by true s o p q = let z : 0 ≡ j = same_Some 0 j q in let f = eqb-true a k s in omega (arith, z, f)
-    by false s None p q = absurd (cc)
-    by false s (Some i) p q = let z : suc i ≡ j = same_Some (suc i) j q in let f = place_back (a + 1) n k i p in omega (arith, z, f)
+    by : (t : Bool) → nat_eq a k ≡ t → (o : Option ℕ) → place_in (range_with_len (a + 1) n) k ≡ o → ((i : ℕ) → place_in (range_with_len (a + 1) n) k ≡ Some i → k ≡ (a + 1) + i) → (if t then Some 0 else option_map (λ j. suc j) o) ≡ Some j → k ≡ a + j
+    by true s o p h q = let z : 0 ≡ j = same_Some 0 j q in let f = eqb-true a k s in omega (arith, z, f)
+    by false s None p h q = absurd (cc)
+    by false s (Some i) p h q = let z : suc i ≡ j = same_Some (suc i) j q in let f = h i p in omega (arith, z, f)
 
 range_length : (a n : ℕ) → length (range_with_len a n) ≡ n
 range_length a zero = refl
@@ -127,7 +127,7 @@ declared_at b ds k n s e f =
 
 -- the types of a module's constants in a copy
 module _ (c : Copy) (m : Module) (o : IsOrderly m) where
-  of_entry : ConstantEntry → Scheme
+  abbrev of_entry : ConstantEntry → Scheme
   of_entry e = scheme_in c (entry_scheme m.signature.bank e)
 
   hidden_are : hidden_schemes c m ≡ map of_entry (drop o.exported_constants m.signature.constants.items)
@@ -165,7 +165,7 @@ module _ (c : Copy) (m : Module) (o : IsOrderly m) where
       by (inr l) =
           let w = slice_get_within m.signature.constants.items i e at in
           let q = place_at (32 + o.exported_constants) (length m.signature.constants.items - o.exported_constants) (i - o.exported_constants) (32 + i) (omega (arith, l, w)) (omega (arith, l)) in
-          let f = sym p ∙ ap (λ h. place_in h (32 + i)) o.constants ∙ q in
+          let f : None ≡ Some (i - o.exported_constants) = sym p ∙ ap (λ h. place_in h (32 + i)) o.constants ∙ q in
           absurd (cc)
 
   exported_found : (i : ℕ) (e : ConstantEntry) → slice_get m.signature.constants.items i ≡ Some e → place_in m.hidden_constants.items (32 + i) ≡ None → slice_get (exported_schemes c m) i ≡ Some (of_entry e)
@@ -224,7 +224,7 @@ module _ (modules : List Module) (all : AreOrderly modules) (table : List Scheme
       t ∙ ap (λ l. front ++ (l ++ rest)) split ∙ ap (λ l. front ++ l) (append_assoc lower (hs ++ upper) rest) ∙ ap (λ l. front ++ (lower ++ l)) (append_assoc hs upper rest) in
       let first = below_finds b front (hs ++ (upper ++ rest)) f t1 in
       let t2 : table ≡ (front ++ lower) ++ (hs ++ (upper ++ rest)) = t1 ∙ sym (append_assoc front lower (hs ++ (upper ++ rest))) in
-      let own = copy_finds c m middle.constants _ at is.constants.named (front ++ lower) (upper ++ rest) first.0 t2 in
+      let own = copy_finds c m middle.constants (λ i. constant_in above a.constants (constant_at m i)) at is.constants.named (front ++ lower) (upper ++ rest) first.0 t2 in
       let many = many_hidden c m (orderly_at modules c.member m all at) in
       let l = length-append (front ++ lower) hs in
       let f0 = first.0 in
@@ -237,7 +237,7 @@ module _ (modules : List Module) (all : AreOrderly modules) (table : List Scheme
 
 -- all copies of a program
 module _ (modules : List Module) (root : ℕ) (a : Assembled) (p : IsProgram modules root a) (all : AreOrderly modules) where
-  table : List Scheme
+  abbrev table : List Scheme
   table = map (scheme_of a.program.bank) a.program.constants.items
 
   top_orderly : IsOrderly p.are.top
@@ -253,7 +253,7 @@ module _ (modules : List Module) (root : ℕ) (a : Assembled) (p : IsProgram mod
       p.tables.schemes ∙ ap (λ cs. front ++ of_copies hidden_schemes modules cs) p.are.whole ∙ ap (λ l. front ++ l) (copies_split hidden_schemes modules p.are.below p.are.copy [] p.are.top at) in
       let n = many_exported p.are.copy p.are.top top_orderly in
       let first = below_finds modules all table p.are.copies front (hs ++ []) (ap (λ k. 32 + k) (sym n)) t1 in
-      let own = copy_finds modules all table p.are.copy p.are.top p.are.middle.constants _ at p.are.is_root.constants.named (front ++ lower) [] first.0 (t1 ∙ sym (append_assoc front lower (hs ++ []))) in
+      let own = copy_finds modules all table p.are.copy p.are.top p.are.middle.constants (λ i. 32 + exported_before 32 p.are.top.hidden_constants.items i) at p.are.is_root.constants.named (front ++ lower) [] first.0 (t1 ∙ sym (append_assoc front lower (hs ++ []))) in
       subst (EachOf (Finds modules table)) (sym p.are.whole) (each_append (Finds modules table) p.are.below (p.are.copy ∷ []) first.1 (own, tt))
 
   pub hidden_have_types :
@@ -263,7 +263,7 @@ module _ (modules : List Module) (root : ℕ) (a : Assembled) (p : IsProgram mod
     where
       told : (cs : List Copy) → EachOf (Finds modules table) cs → EachOf (λ c. (m : Module) → slice_get modules c.member ≡ Some m → (i : ℕ) (e : ConstantEntry) → slice_get m.signature.constants.items i ≡ Some e → (j : ℕ) → place_in m.hidden_constants.items (32 + i) ≡ Some j → HasType a c m i e) cs
       told [] h = tt
-      told (c ∷ cs) (h, more) = ((λ m at i e has j q. let f = h m at i e has j q in declared_at a.program.bank a.program.constants.items (c.constants (32 + i)) f.0 _ f.1.0 f.1.1), told cs more)
+      told (c ∷ cs) (h, more) = ((λ m at i e has j q. let f = h m at i e has j q in declared_at a.program.bank a.program.constants.items (c.constants (32 + i)) f.0 _ f.1 f.2), told cs more)
 
   pub exported_have_types : (i : ℕ) (e : ConstantEntry) → slice_get p.are.top.signature.constants.items i ≡ Some e → place_in p.are.top.hidden_constants.items (32 + i) ≡ None → HasType a p.are.copy p.are.top i e
   exported_have_types i e has q =

@@ -10,6 +10,7 @@ use Rattle.lp_lemmas.proofs.Elements.{Contains_head, Contains_tail, Contains_sin
 use Rattle.lp_calculus.specs.Types.{Ty}
 use Rattle.lp_term.specs.Nodes.{Nodes, Extends, type_tree}
 use Rattle.lp_term.specs.declared.node.TypeId.{TypeId}
+use Rattle.lp_term.proofs.Trees.{extends_same, extends-trans}
 use Rattle.lp_sig.specs.Holding.{IsTree}
 use Rattle.lp_sig.specs.Places.{first_place, place_of}
 use Rattle.lp_sig.specs.Rows.{found}
@@ -17,11 +18,12 @@ use Rattle.lp_sig.specs.Schemes.{first_variables}
 use Rattle.lp_sig.specs.Standard.{standard_constants}
 use Rattle.lp_sig.specs.Constants.{standard_tree}
 use Rattle.lp_sig.specs.Worded.{HasWords, is_met_word}
-use Rattle.lp_sig.specs.Sighted.{HasTree, standard_one, known_one, AreCounted, GrowsBehind, PutsBehind, IsCountedEntry, IsSeenEntry, AreNew}
+use Rattle.lp_sig.specs.Sighted.{HasTree, standard_one, known_one, AreCounted, GrowsBehind, Grows, PutsBehind, IsCountedEntry, IsSeenEntry, AreNew}
 use Rattle.lp_sig.specs.declared.entries.ConstantEntry.{ConstantEntry}
 use Rattle.lp_sig.specs.declared.constants.Constant.{Constant}
 use Rattle.lp_sig.specs.declared.constants.Constants.{Constants}
 use Rattle.lp_sig.specs.declared.constants.DeclaredType.{DeclaredType}
+use Rattle.lp_sig.specs.declared.making.Making.{Making}
 use Rattle.lp_sig.specs.declared.see.Sight.{Sight}
 use Rattle.lp_sig.specs.declared.see.Sight.TheVariants.{Alike}
 
@@ -144,3 +146,10 @@ one_seen first b now old new made es i e all all_then s words h at x y g both co
     right : (all_then ≡ Alike) ⊎ AreNew words es → (s ≡ Alike) ⊎ (is_met_word e.name.items (words ++ map (λ e. e.name.items) (take i es)) ≡ false)
     right (inl q) = inl (both q).1
     right (inr n) = inr (new_at words es i e h at n)
+
+-- a text, sentence by sentence
+pub making_same : (m : Making) → Grows m m
+making_same m = record { bank = extends_same m.bodies.types.bank; constants = grows_same m.constants }
+
+pub making_then : (a b c : Making) → Grows a b → Grows b c → Grows a c
+making_then a b c x y = record { bank = extends-trans a.bodies.types.bank b.bodies.types.bank c.bodies.types.bank x.bank y.bank; constants = grows_then a.constants b.constants c.constants x.constants y.constants }

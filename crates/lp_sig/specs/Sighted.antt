@@ -91,3 +91,8 @@ SeenSo making said u =
 -- each of these names means a kind
 abbrev pub AreKinds : List (Row Said) → List (List ℕ) → Type 0
 AreKinds said names = All (IsKind said) names
+
+-- types stay in their bank, and more constants stand behind
+pub record Grows (old new : Making) : Type 0 where
+  pub bank : Extends old.bodies.types.bank new.bodies.types.bank
+  pub constants : GrowsBehind old.constants new.constants

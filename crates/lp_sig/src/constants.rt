@@ -14,7 +14,7 @@ ghost use Rattle.lp_sig.specs.Standing.{TypeStands};
 ghost use Rattle.lp_sig.specs.Constants.{Written, IsNoted, IsConstant, IsTyped, IfTyped, KnowsConstants, AreTyped, AreTypedIf, FirstStands, IsTakenConstant, AreTakenConstants, IsKnownAs, AreConstants, HaveNumbers, IsConstantFault, IsFirstConstant};
 ghost use Rattle.lp_sig.specs.Modules.{numbered_names};
 ghost use Rattle.lp_sig.specs.Worded.{HasWords, is_met_word, is_met, names_so_far};
-ghost use Rattle.lp_sig.specs.Sighted.{AreCounted, PutsBehind, IsTreeOf};
+ghost use Rattle.lp_sig.specs.Sighted.{AreCounted, GrowsBehind, PutsBehind, IsTreeOf};
 ghost use Rattle.lp_sig.specs.declared.constants.Known.TheVariants as known;
 
 use crate::entries::ConstantEntry;
@@ -140,6 +140,7 @@ impl Constants {
         ensures full { IfErr result (λ e. (e ≡ fault.Memory) ⊎ ((e ≡ fault.Limit limit.Names) × ((d : DeclaredType) × (declared ≡ Some d)) × (END_OF_NUMBERS ≤ 32 + length self.old.constants.items))) }
         ensures added { OnOk result ((b : Nodes) (said : List (Row Said)) (defs : List (Row Definition)) (rows : List (Row Written)) (w : Written) → KnowsConstants b self.old said defs rows → (found word.now standard_constants ≡ None) × (found word.now rows ≡ None) → IfTyped declared (IsTyped b said defs w) → KnowsConstants b self.new said defs (rows ++ (word.now, w) ∷ [])) }
         ensures typed { OnOk result ((from : ℕ) (z : Seen) (rows : List (Row Written)) (w : Written) → (found word.now standard_constants ≡ None) × (found word.now rows ≡ None) → AreTypedIf from z rows self.old → (TypeStands from z w.text w.raw → is_some declared ≡ true) → AreTypedIf from z (rows ++ (word.now, w) ∷ []) self.new) }
+        ensures grown { OnOk result (GrowsBehind self.old self.new) }
         ensures room { OnOk result (IfTyped declared (λ d. 32 + length self.old.constants.items < END_OF_NUMBERS)) }
         ensures words { OnOk result ((words : List (List ℕ)) → is_met_word word.now words ≡ false → HasWords self.old words → HasWords self.new (words ++ word.now ∷ [])) }
     {
@@ -199,6 +200,7 @@ impl Constants {
         declared: Option<DeclaredType>,
     ) -> Result<(), SigFault>
         ensures kept { Extends types.old.bank types.new.bank }
+        ensures grown { OnOk result (GrowsBehind self.old self.new) }
         ensures why { IfErr result (λ e. (e ≡ fault.Memory) ⊎ ((d : DeclaredType) × (declared ≡ Some d) × ((said : List (Row Said)) (defs : List (Row Definition)) (rows : List (Row Written)) → KnowsConstants types.old.bank self.old said defs rows → d.scheme.0 < length types.old.bank.types → IsConstantFault said defs rows (spelled source.now name) (type_tree types.old.bank d.scheme.0) name e))) }
         ensures known { OnOk result ((said : List (Row Said)) (defs : List (Row Definition)) (rows : List (Row Written)) (w : Written) → KnowsConstants types.old.bank self.old said defs rows → IfTyped declared (IsTyped types.old.bank said defs w) → KnowsConstants types.new.bank self.new said defs (rows ++ (spelled source.now name, w) ∷ [])) }
         ensures typed { OnOk result ((from : ℕ) (z : Seen) (rows : List (Row Written)) (w : Written) → KnowsConstants types.old.bank self.old z.said z.definitions rows → AreTypedIf from z rows self.old → (TypeStands from z w.text w.raw → is_some declared ≡ true) → AreTypedIf from z (rows ++ (spelled source.now name, w) ∷ []) self.new) }
@@ -229,6 +231,7 @@ impl Constants {
         declared: Option<DeclaredType>,
     ) -> Result<(), SigFault>
         ensures kept { Extends types.old.bank types.new.bank }
+        ensures grown { OnOk result (GrowsBehind self.old self.new) }
         ensures why { IfErr result (λ e. (e ≡ fault.Memory) ⊎ ((d : DeclaredType) × (declared ≡ Some d) × ((from : ℕ) (z : Seen) (rows : List (Row Written)) (w : Written) → KnowsConstants types.old.bank self.old z.said z.definitions rows → IsTyped types.old.bank z.said z.definitions w d → d.type_vars ≤ 255 → AreTypedIf from z rows self.old → IsFirstConstant from source.now z rows names.now w e))) }
         ensures known { OnOk result ((said : List (Row Said)) (defs : List (Row Definition)) (rows : List (Row Written)) (w : Written) → KnowsConstants types.old.bank self.old said defs rows → IfTyped declared (IsTyped types.old.bank said defs w) → KnowsConstants types.new.bank self.new said defs (rows ++ each source.now w names.now)) }
         ensures typed { OnOk result ((from : ℕ) (z : Seen) (rows : List (Row Written)) (w : Written) → KnowsConstants types.old.bank self.old z.said z.definitions rows → IfTyped declared (IsTyped types.old.bank z.said z.definitions w) → AreTypedIf from z rows self.old → (TypeStands from z w.text w.raw → is_some declared ≡ true) → AreTypedIf from z (rows ++ each source.now w names.now) self.new) }

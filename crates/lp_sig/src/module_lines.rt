@@ -1,7 +1,9 @@
 // What the declarations of a module say, line by line.
-ghost use Rattle.std.specs.Prelude.{◌≡◌, ◌++◌, ℕ, List, [], ◌∷◌, map, OnOk};
+ghost use Rattle.std.specs.Prelude.{◌≡◌, ◌++◌, ℕ, List, [], ◌∷◌, map, Some, OnOk};
 ghost use Rattle.lp_sig.specs.Pieces.{spelled};
 ghost use Rattle.lp_sig.specs.Modules.{constant_names_by, local_names};
+ghost use Rattle.lp_sig.specs.Sighted.{Grows};
+ghost use Rattle.lp_sig.specs.declared.see.Sight.TheVariants.{Alike};
 ghost use Rattle.lp_sig.specs.Worded.{HasWords};
 
 use crate::constants::DeclaredType;
@@ -114,7 +116,9 @@ impl Said {
 }
 
 // A word that names a signature.
-fn check_word(word: Spot, sight: Option<Sight>) -> Result<(), ModuleSigFault> {
+fn check_word(word: Spot, sight: Option<Sight>) -> Result<(), ModuleSigFault>
+    ensures { OnOk result (sight ≡ Some Alike) }
+{
     match sight {
         Some(Sight::Alike) => Ok(()),
         Some(Sight::Otherwise) => Err(ModuleSigFault::Sig(SigFault::Differ(word))),
@@ -237,6 +241,7 @@ impl<'a> ModuleLines<'a> {
     ) -> Result<(), ModuleSigFault>
         ensures names { making.new.names ≡ making.old.names }
         ensures operators { making.new.operators ≡ making.old.operators }
+        ensures grown { OnOk result (Grows making.old making.new) }
         ensures words { OnOk result ((words : List (List ℕ)) → HasWords making.old.constants words → HasWords making.new.constants (words ++ map (λ s. spelled self.now.source.now s) names.now)) }
     {
         let outcome = declare_constants(
@@ -272,6 +277,7 @@ impl<'a> ModuleLines<'a> {
     ) -> Result<(), ModuleSigFault>
         ensures names { making.new.names ≡ making.old.names }
         ensures operators { making.new.operators ≡ making.old.operators }
+        ensures grown { OnOk result (Grows making.old making.new) }
         ensures words { OnOk result ((words : List (List ℕ)) → HasWords making.old.constants words → HasWords making.new.constants (words ++ spelled self.now.source.now name ∷ [])) }
     {
         if self.exports_constant(name) {
@@ -293,6 +299,7 @@ impl<'a> ModuleLines<'a> {
     ) -> Result<(), ModuleSigFault>
         ensures names { making.new.names ≡ making.old.names }
         ensures operators { making.new.operators ≡ making.old.operators }
+        ensures grown { OnOk result (Grows making.old making.new) }
         ensures words { OnOk result ((words : List (List ℕ)) → HasWords making.old.constants words → HasWords making.new.constants (words ++ map (λ s. spelled self.now.source.now s) names.now)) }
     {
         for name in names {
@@ -310,6 +317,7 @@ impl<'a> ModuleLines<'a> {
     ) -> Result<(), ModuleSigFault>
         ensures names { making.new.names ≡ making.old.names }
         ensures operators { making.new.operators ≡ making.old.operators }
+        ensures grown { OnOk result (Grows making.old making.new) }
         ensures words { OnOk result ((words : List (List ℕ)) → HasWords making.old.constants words → HasWords making.new.constants (words ++ map (λ s. spelled self.now.source.now s) names.now)) }
     {
         match making.bodies.scheme(&making.names, self.source, raw) {
@@ -344,6 +352,7 @@ impl<'a> ModuleLines<'a> {
     ) -> Result<(), ModuleSigFault>
         ensures names { making.new.names ≡ making.old.names }
         ensures operators { making.new.operators ≡ making.old.operators }
+        ensures grown { OnOk result (Grows making.old making.new) }
         ensures words { OnOk result ((words : List (List ℕ)) → HasWords making.old.constants words → HasWords making.new.constants (words ++ local_names self.now.source.now names.now raw.now)) }
     {
         match raw {
@@ -361,6 +370,7 @@ impl<'a> ModuleLines<'a> {
     ) -> Result<(), ModuleSigFault>
         ensures names { making.new.names ≡ making.old.names }
         ensures operators { making.new.operators ≡ making.old.operators }
+        ensures grown { OnOk result (Grows making.old making.new) }
         ensures constants { making.new.constants ≡ making.old.constants }
     {
         match making.declare_abbreviation(self.source, name, parameters, raw) {
@@ -397,6 +407,7 @@ impl<'a> ModuleLines<'a> {
     ) -> Result<(), ModuleSigFault>
         ensures names { making.new.names ≡ making.old.names }
         ensures operators { making.new.operators ≡ making.old.operators }
+        ensures grown { OnOk result (Grows making.old making.new) }
         ensures words { OnOk result ((words : List (List ℕ)) → HasWords making.old.constants words → HasWords making.new.constants (words ++ constant_names_by self.now.source.now declaration.now)) }
     {
         match declaration {

@@ -5,6 +5,7 @@ ghost use Rattle.lp_sig.specs.Rows.{Row, fixity_row};
 ghost use Rattle.lp_sig.specs.Said.{Said as IsSaid, said_in};
 ghost use Rattle.lp_sig.specs.Knowing.{Knows, KnowsOperators};
 ghost use Rattle.lp_sig.specs.Modules.{declarations, of_each, said_of, constants_of, constant_names_in, HasSeen};
+ghost use Rattle.lp_sig.specs.Sighted.{Grows};
 ghost use Rattle.lp_sig.specs.Worded.{HasWords};
 
 use crate::making::Making;
@@ -47,6 +48,7 @@ fn announce_all(making: &mut Making, source: &[u8], text: &ModuleText) -> Result
     ensures names { OnOk result ((said : List (Row IsSaid)) → Knows making.old.names said → Knows making.new.names (said ++ said_in source.now (declarations text.now.lines.items))) }
     ensures constants { making.new.constants ≡ making.old.constants }
     ensures operators { making.new.operators ≡ making.old.operators }
+    ensures grown { OnOk result (Grows making.old making.new) }
 {
     let from = making.names.heads.len();
     making.announce_module(source, text)?;
@@ -65,6 +67,7 @@ fn declare_sentence(
 ) -> Result<(), ModuleSigFault>
     ensures names { making.new.names ≡ making.old.names }
     ensures operators { making.new.operators ≡ making.old.operators }
+    ensures grown { OnOk result (Grows making.old making.new) }
     ensures words { OnOk result ((words : List (List ℕ)) → HasWords making.old.constants words → HasWords making.new.constants (words ++ constant_names_in lines.now.source.now (declarations (sentence.now ∷ [])))) }
 {
     match sentence {
@@ -81,6 +84,7 @@ fn declare_all(
 ) -> Result<(), ModuleSigFault>
     ensures names { making.new.names ≡ making.old.names }
     ensures operators { making.new.operators ≡ making.old.operators }
+    ensures grown { OnOk result (Grows making.old making.new) }
     ensures words { OnOk result ((words : List (List ℕ)) → HasWords making.old.constants words → HasWords making.new.constants (words ++ constant_names_in lines.now.source.now (declarations text.now.lines.items))) }
 {
     for at in 0..text.lines.len() {
