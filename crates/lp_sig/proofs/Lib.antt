@@ -62,3 +62,4 @@ pub mod Sighting
 pub mod KnownConstants
 pub mod OneSignature
 pub mod Viewing
+pub mod OrderedSignatures

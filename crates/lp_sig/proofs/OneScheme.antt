@@ -25,7 +25,7 @@ use Rattle.lp_sig.proofs.InOrder.{in_order_numbers, in_order_some}
 module _ (R : ℕ → ℕ → Type 0) where
   -- two types of one shape, their variables related
   abbrev mutual
-    Renames : Ty → Ty → Type 0
+    pub Renames : Ty → Ty → Type 0
     Renames (var x) (var y) = R x y
     Renames (var x) (param k) = ⊥
     Renames (var x) (con c ts) = ⊥
@@ -43,7 +43,7 @@ module _ (R : ℕ → ℕ → Type 0) where
     Renames (arrow a b) (con c ts) = ⊥
     Renames (arrow a b) (arrow c d) = Renames a c × Renames b d
 
-    RenamesAll : Tys → Tys → Type 0
+    pub RenamesAll : Tys → Tys → Type 0
     RenamesAll no_types no_types = Unit {0}
     RenamesAll no_types (types u us) = ⊥
     RenamesAll (types t ts) no_types = ⊥
@@ -155,7 +155,7 @@ module _ (R : ℕ → ℕ → Type 0) where
         all_numbered (types t ts) no_types r = absurd r
         all_numbered (types t ts) (types u us) r = ap (λ x. types x (instances (λ x. var (place N x)) ts)) (numbered_same t u r.0) ∙ ap (types (instance (λ y. var (place M y)) u)) (all_numbered ts us r.1)
 
-    renamed_same : (t u : Ty) → Renames t u → (length (first_variables t) ≡ length (first_variables u)) × (numbered_type t ≡ numbered_type u)
+    pub renamed_same : (t u : Ty) → Renames t u → (length (first_variables t) ≡ length (first_variables u)) × (numbered_type t ≡ numbered_type u)
     unfolding first_variables numbered_type
     renamed_same t u r =
         let p = met_paired (type_variables t) (type_variables u) [] [] (variables_paired t u r) tt in

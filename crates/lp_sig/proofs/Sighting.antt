@@ -23,19 +23,19 @@ use Rattle.lp_sig.specs.declared.see.Sight.TheVariants.{Alike, Otherwise}
 use Rattle.lp_sig.proofs.Growing.{firsts_front, kinds_append, meaning_more}
 
 -- rows that have their numbers by their places
-abbrev InPlace : ℕ → List (Row (ℕ × ℕ)) → Type 0
+abbrev pub InPlace : ℕ → List (Row (ℕ × ℕ)) → Type 0
 InPlace k [] = Unit {0}
 InPlace k (r ∷ rs) = (r.1.0 ≡ k) × InPlace (suc k) rs
 
-numbered_in_place : (k : ℕ) (rows : List (Row ℕ)) → InPlace k (numbered k rows)
+pub numbered_in_place : (k : ℕ) (rows : List (Row ℕ)) → InPlace k (numbered k rows)
 numbered_in_place k [] = tt
 numbered_in_place k (r ∷ rs) = (refl, numbered_in_place (suc k) rs)
 
-numbered_names : (k : ℕ) (rows : List (Row ℕ)) → names_in (numbered k rows) ≡ names_in rows
+pub numbered_names : (k : ℕ) (rows : List (Row ℕ)) → names_in (numbered k rows) ≡ names_in rows
 numbered_names k [] = refl
 numbered_names k (r ∷ rs) = ap (λ l. r.0 ∷ l) (numbered_names (suc k) rs)
 
-found_in_place : (name : List ℕ) (k : ℕ) (rows : List (Row (ℕ × ℕ))) (r : ℕ × ℕ) → InPlace k rows → found name rows ≡ Some r → (i : ℕ) × (r.0 ≡ k + i) × (slice_get (names_in rows) i ≡ Some name)
+pub found_in_place : (name : List ℕ) (k : ℕ) (rows : List (Row (ℕ × ℕ))) (r : ℕ × ℕ) → InPlace k rows → found name rows ≡ Some r → (i : ℕ) × (r.0 ≡ k + i) × (slice_get (names_in rows) i ≡ Some name)
 found_in_place name k [] r are e = absurd (cc)
 found_in_place name k (x ∷ xs) r (at, are) e = by (bytes_eq name x.0) refl (found_in_place name (suc k) xs r are) e
   where
@@ -46,13 +46,13 @@ found_in_place name k (x ∷ xs) r (at, are) e = by (bytes_eq name x.0) refl (fo
         (0, (let z : r.0 ≡ k + 0 = omega (arith, n) in z), ap (λ w. Some w) (sym ((bytes_eq-Decides name x.0).0 s)))
     by false s h e = let (i, n, there) = h e in (suc i, (let z : r.0 ≡ k + suc i = omega (arith, n) in z), there)
 
-name_below : (names : List (List ℕ)) (k i : ℕ) (name : List ℕ) → k ≡ 0 + i → i < 8 → slice_get (names_in standard_kinds) i ≡ Some name → kind_name names k ≡ Some name
+pub name_below : (names : List (List ℕ)) (k i : ℕ) (name : List ℕ) → k ≡ 0 + i → i < 8 → slice_get (names_in standard_kinds) i ≡ Some name → kind_name names k ≡ Some name
 name_below names k i name e l at =
     let z : i ≡ k = omega (arith, e) in
     let t = lt-ltb k 8 (omega (arith, e, l)) in
     ap (λ b. if b then slice_get (names_in standard_kinds) k else slice_get names (k - 8)) t ∙ ap (slice_get (names_in standard_kinds)) (sym z) ∙ at
 
-name_above : (names : List (List ℕ)) (k i : ℕ) (name : List ℕ) → k ≡ 8 + i → slice_get names i ≡ Some name → kind_name names k ≡ Some name
+pub name_above : (names : List (List ℕ)) (k i : ℕ) (name : List ℕ) → k ≡ 8 + i → slice_get names i ≡ Some name → kind_name names k ≡ Some name
 name_above names k i name e at =
     let z : k - 8 ≡ i = omega (arith, e) in
     ap (λ b. if b then slice_get (names_in standard_kinds) k else slice_get names (k - 8)) (le-ltb k 8 (omega (arith, e))) ∙ ap (slice_get names) z ∙ at
