@@ -53,8 +53,7 @@ kind_names_are n (x ∷ xs) (r ∷ rs) e =
 
 -- a kind of a type has a name
 kind_known : (name : List ℕ) (said : List (Row Said)) (k : ℕ) → kind_number_of name said ≡ Some k → (w : List ℕ) × (kind_name (said_kinds said) k ≡ Some w)
-unfolding kind_number_of
-unfolding number_said
+unfolding kind_number_of number_said
 kind_known name said k e = standard (found name standard_kinds) refl e
   where
     there_at : (ns : List (List ℕ)) (i : ℕ) → i < length ns → (w : List ℕ) × (slice_get ns i ≡ Some w)
@@ -168,8 +167,7 @@ module _ (N : List ℕ) where
     all_renames (types t ts) h = let r = met_front (type_variables t) (types_variables ts) h in (numbered_renames t r.0, all_renames ts r.1)
 
 same_count : (T : Ty) → length (first_variables (numbered_type T)) ≡ length (first_variables T)
-unfolding first_variables
-unfolding numbered_type
+unfolding first_variables numbered_type
 same_count T =
     let N = met [] (type_variables T) in
     sym (renamed_same (λ x y. (list_any (nat_eq x) N ≡ true) × (y ≡ place N x)) (λ x y z p q. p.1 ∙ sym q.1) (λ x y z p q. place_once N x y p.0 q.0 (sym p.1 ∙ q.1)) T (instance (λ x. var (place N x)) T)

@@ -59,8 +59,7 @@ name_above names k i name e at =
 
 -- the number of a kind is that of its name, where numbers do not end before
 pub kind_numbered : (name : List ℕ) (said : List (Row Said)) (n : ℕ) → kind_number_of name said ≡ Some n → (n < END_OF_NUMBERS) ⊎ (8 + length (said_kinds said) ≤ END_OF_NUMBERS) → kind_name (said_kinds said) n ≡ Some name
-unfolding kind_number_of
-unfolding number_said
+unfolding kind_number_of number_said
 kind_numbered name said n e fits = standard (found name standard_kinds) refl e
   where
     declared : (o : Option (ℕ × ℕ)) → found name (numbered 8 (kinds_among (declared_names said))) ≡ o → option_map (λ n. min n 4294967295) (option_map (λ r. r.0) o) ≡ Some n → kind_name (said_kinds said) n ≡ Some name

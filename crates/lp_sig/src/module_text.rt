@@ -5,6 +5,7 @@ ghost use Rattle.lp_sig.specs.Rows.{Row, fixity_row};
 ghost use Rattle.lp_sig.specs.Said.{Said as IsSaid, said_in};
 ghost use Rattle.lp_sig.specs.Knowing.{Knows, KnowsOperators};
 ghost use Rattle.lp_sig.specs.Modules.{declarations, of_each, said_of, constants_of, constant_names_in, HasSeen};
+ghost use Rattle.lp_sig.specs.Named.{SeesTheirs};
 ghost use Rattle.lp_sig.specs.Sighted.{Grows};
 ghost use Rattle.lp_sig.specs.Worded.{HasWords};
 
@@ -108,6 +109,7 @@ pub fn module_signature(
     used: &[Signature],
 ) -> Result<Signature, ModuleSigFault>
     ensures seen { IfOk result (HasSeen own.now used.now source.now text.now.lines.items) }
+    ensures theirs { IfOk result (SeesTheirs own.now used.now source.now text.now.lines.items) }
 {
     let mut making = Making::new(alloc);
     let sights = see_all(&mut making, own, used)?;
