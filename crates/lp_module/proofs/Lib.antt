@@ -28,3 +28,4 @@ pub mod Tabled
 pub mod Entering
 pub mod Lookups
 pub mod Joining
+pub mod NumberedSignatures
