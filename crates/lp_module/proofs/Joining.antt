@@ -42,7 +42,7 @@ high names i =
     ap (λ b. if b then slice_get (names_in standard_kinds) (8 + i) else slice_get names ((8 + i) - 8)) (le-ltb (8 + i) 8 (omega arith)) ∙ ap (slice_get names) z
 
 -- a name of the language is found at its number
-standard_number : (k : ℕ) (n : List ℕ) (rows : List (Row (ℕ × ℕ))) → slice_get (names_in standard_kinds) k ≡ Some n → (r : ℕ × ℕ) × (found n (standard_kinds ++ rows) ≡ Some r) × (r.0 ≡ k) × (k < 4)
+pub standard_number : (k : ℕ) (n : List ℕ) (rows : List (Row (ℕ × ℕ))) → slice_get (names_in standard_kinds) k ≡ Some n → (r : ℕ × ℕ) × (found n (standard_kinds ++ rows) ≡ Some r) × (r.0 ≡ k) × (k < 4)
 standard_number zero n rows e = subst (λ n. (r : ℕ × ℕ) × (found n (standard_kinds ++ rows) ≡ Some r) × (r.0 ≡ 0) × (0 < 4)) (same_Some _ n e) ((0, 0), refl, refl, omega arith)
 standard_number (suc zero) n rows e = subst (λ n. (r : ℕ × ℕ) × (found n (standard_kinds ++ rows) ≡ Some r) × (r.0 ≡ 1) × (1 < 4)) (same_Some _ n e) ((1, 0), refl, refl, omega arith)
 standard_number (suc (suc zero)) n rows e = subst (λ n. (r : ℕ × ℕ) × (found n (standard_kinds ++ rows) ≡ Some r) × (r.0 ≡ 2) × (2 < 4)) (same_Some _ n e) ((2, 0), refl, refl, omega arith)
@@ -50,11 +50,11 @@ standard_number (suc (suc (suc zero))) n rows e = subst (λ n. (r : ℕ × ℕ) 
 standard_number (suc (suc (suc (suc k)))) n rows e = absurd (cc)
 
 -- a kind that has a name in a signature: one of the language, or one of its own
-data IsNamedKind (s : Signature) (n : List ℕ) (k : ℕ) : Type 0 where
+pub data IsNamedKind (s : Signature) (n : List ℕ) (k : ℕ) : Type 0 where
   of_language : k < 8 → slice_get (names_in standard_kinds) k ≡ Some n → IsNamedKind s n k
   of_signature : (i : ℕ) (e : KindEntry) → k ≡ 8 + i → slice_get s.kinds.items i ≡ Some e → e.name.items ≡ n → IsNamedKind s n k
 
-named_kind : (s : Signature) (n : List ℕ) (k : ℕ) → kind_name (kind_names s) k ≡ Some n → IsNamedKind s n k
+pub named_kind : (s : Signature) (n : List ℕ) (k : ℕ) → kind_name (kind_names s) k ≡ Some n → IsNamedKind s n k
 named_kind s n k e = by (cases_lt k 8)
   where
     entry_of : (es : List KindEntry) (i : ℕ) → slice_get (map (λ e. e.name.items) es) i ≡ Some n → (e : KindEntry) × (slice_get es i ≡ Some e) × (e.name.items ≡ n)
@@ -69,13 +69,13 @@ named_kind s n k e = by (cases_lt k 8)
         let (x, at, is) = entry_of s.kinds.items (k - 8) (sym (high (kind_names s) (k - 8)) ∙ ap (kind_name (kind_names s)) (sym z) ∙ e) in
         of_signature (k - 8) x z at is
 
-con_name : (k j : Option (List ℕ)) (ts us : NamedTys) → named_con k ts ≡ named_con j us → (k ≡ j) × (ts ≡ us)
+pub con_name : (k j : Option (List ℕ)) (ts us : NamedTys) → named_con k ts ≡ named_con j us → (k ≡ j) × (ts ≡ us)
 con_name k j ts us e = (cc, cc)
 
-arrow_parts : (a b c d : NamedTy) → named_arrow a b ≡ named_arrow c d → (a ≡ c) × (b ≡ d)
+pub arrow_parts : (a b c d : NamedTy) → named_arrow a b ≡ named_arrow c d → (a ≡ c) × (b ≡ d)
 arrow_parts a b c d e = (cc, cc)
 
-list_parts : (t u : NamedTy) (ts us : NamedTys) → more_named t ts ≡ more_named u us → (t ≡ u) × (ts ≡ us)
+pub list_parts : (t u : NamedTy) (ts us : NamedTys) → more_named t ts ≡ more_named u us → (t ≡ u) × (ts ≡ us)
 list_parts t u ts us e = (cc, cc)
 
 -- the numbers of one name in a copy and in the copy above

@@ -29,3 +29,4 @@ pub mod Entering
 pub mod Lookups
 pub mod Joining
 pub mod NumberedSignatures
+pub mod Joins

@@ -22,7 +22,7 @@ use Rattle.lp_module.specs.declared.copies.Assembled.{Assembled}
 use Rattle.lp_module.specs.declared.module.Module.{Module}
 
 -- numbers in a row
-place_none : (a n k : ℕ) → k < a → place_in (range_with_len a n) k ≡ None
+pub place_none : (a n k : ℕ) → k < a → place_in (range_with_len a n) k ≡ None
 place_none a zero k l = refl
 place_none a (suc n) k l =
     ap (λ b. if b then Some 0 else option_map (λ j. suc j) (place_in (range_with_len (a + 1) n) k)) (ne_eqb a k (λ e. omega (arith, l, e))) ∙
@@ -125,6 +125,19 @@ declared_at b ds k n s e f =
     let z : k - 32 ≡ n = omega (arith, e) in
     ap (λ t. if t then entry standard_schemes k else entry (map (λ d. Some (scheme_of b d)) ds) (k - 32)) (le-ltb k 32 (omega (arith, e))) ∙ ap (entry (map (λ d. Some (scheme_of b d)) ds)) z ∙ entry_is b ds n ∙ f
 
+-- the exported constants of a module
+module _ (m : Module) (o : IsOrderly m) where
+  pub exported_below : (i : ℕ) (e : ConstantEntry) → slice_get m.signature.constants.items i ≡ Some e → place_in m.hidden_constants.items (32 + i) ≡ None → i < o.exported_constants
+  exported_below i e at p = by (cases_lt i o.exported_constants)
+    where
+      by : (i < o.exported_constants) ⊎ (o.exported_constants ≤ i) → i < o.exported_constants
+      by (inl l) = l
+      by (inr l) =
+          let w = slice_get_within m.signature.constants.items i e at in
+          let q = place_at (32 + o.exported_constants) (length m.signature.constants.items - o.exported_constants) (i - o.exported_constants) (32 + i) (omega (arith, l, w)) (omega (arith, l)) in
+          let f : None ≡ Some (i - o.exported_constants) = sym p ∙ ap (λ h. place_in h (32 + i)) o.constants ∙ q in
+          absurd (cc)
+
 -- the types of a module's constants in a copy
 module _ (c : Copy) (m : Module) (o : IsOrderly m) where
   abbrev of_entry : ConstantEntry → Scheme
@@ -157,21 +170,10 @@ module _ (c : Copy) (m : Module) (o : IsOrderly m) where
       ap (λ l. slice_get l j) hidden_are ∙ slice_get-map of_entry (drop o.exported_constants m.signature.constants.items) j ∙
       ap (option_map of_entry) (found_drop o.exported_constants m.signature.constants.items j ∙ ap (slice_get m.signature.constants.items) z ∙ at)
 
-  exported_below : (i : ℕ) (e : ConstantEntry) → slice_get m.signature.constants.items i ≡ Some e → place_in m.hidden_constants.items (32 + i) ≡ None → i < o.exported_constants
-  exported_below i e at p = by (cases_lt i o.exported_constants)
-    where
-      by : (i < o.exported_constants) ⊎ (o.exported_constants ≤ i) → i < o.exported_constants
-      by (inl l) = l
-      by (inr l) =
-          let w = slice_get_within m.signature.constants.items i e at in
-          let q = place_at (32 + o.exported_constants) (length m.signature.constants.items - o.exported_constants) (i - o.exported_constants) (32 + i) (omega (arith, l, w)) (omega (arith, l)) in
-          let f : None ≡ Some (i - o.exported_constants) = sym p ∙ ap (λ h. place_in h (32 + i)) o.constants ∙ q in
-          absurd (cc)
-
   exported_found : (i : ℕ) (e : ConstantEntry) → slice_get m.signature.constants.items i ≡ Some e → place_in m.hidden_constants.items (32 + i) ≡ None → slice_get (exported_schemes c m) i ≡ Some (of_entry e)
   exported_found i e at p =
       ap (λ l. slice_get l i) exported_are ∙ slice_get-map of_entry (take o.exported_constants m.signature.constants.items) i ∙
-      ap (option_map of_entry) (found_take o.exported_constants m.signature.constants.items i e (exported_below i e at p) at)
+      ap (option_map of_entry) (found_take o.exported_constants m.signature.constants.items i e (exported_below m o i e at p) at)
 
   before_all : (i : ℕ) → i ≤ o.exported_constants → exported_before 32 m.hidden_constants.items i ≡ i
   before_all zero l = refl
@@ -267,7 +269,7 @@ module _ (modules : List Module) (root : ℕ) (a : Assembled) (p : IsProgram mod
 
   pub exported_have_types : (i : ℕ) (e : ConstantEntry) → slice_get p.are.top.signature.constants.items i ≡ Some e → place_in p.are.top.hidden_constants.items (32 + i) ≡ None → HasType a p.are.copy p.are.top i e
   exported_have_types i e has q =
-      let l = exported_below p.are.copy p.are.top top_orderly i e has q in
+      let l = exported_below p.are.top top_orderly i e has q in
       let n =
       p.are.is_root.constants.named i (slice_get_within p.are.top.signature.constants.items i e has) ∙ ap (λ o. hidden_or p.are.middle.constants o (32 + exported_before 32 p.are.top.hidden_constants.items i)) q ∙
       ap (λ k. 32 + k) (before_all p.are.copy p.are.top top_orderly i (omega (arith, l))) in

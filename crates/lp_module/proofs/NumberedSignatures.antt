@@ -15,7 +15,7 @@ use Rattle.lp_syntax.specs.declared.text.Sentence.{Sentence}
 use Rattle.lp_module.specs.Joined.{IsNumberedSignature}
 
 -- names none of which is known, and no two of which are the same
-abbrev Apart : List (List ℕ) → List (List ℕ) → Type 0
+abbrev pub Apart : List (List ℕ) → List (List ℕ) → Type 0
 Apart known [] = Unit {0}
 Apart known (n ∷ ns) = (is_among n known ≡ false) × Apart (n ∷ known) ns
 
@@ -29,7 +29,7 @@ drop_known n w known e = by (bytes_eq n w) refl (is_among n known) refl e
     by false f false g e = (f, g)
 
 -- each is none of those that are known
-unknown : (known ns : List (List ℕ)) → Apart known ns → (i : ℕ) (n : List ℕ) → slice_get ns i ≡ Some n → is_among n known ≡ false
+pub unknown : (known ns : List (List ℕ)) → Apart known ns → (i : ℕ) (n : List ℕ) → slice_get ns i ≡ Some n → is_among n known ≡ false
 unknown known [] a i n e = absurd (cc)
 unknown known (x ∷ xs) (a, more) zero n e = ap (λ n. is_among n known) (sym (same_Some x n e)) ∙ a
 unknown known (x ∷ xs) (a, more) (suc i) n e = (drop_known n x known (unknown (x ∷ known) xs more i n e)).1
@@ -99,7 +99,7 @@ kind_at_place n (x ∷ xs) (r ∷ rs) (suc i) e f at =
     kind_at_place (suc n) xs rs i e t at ∙ ap (λ k. Some (e.name.items, (k, e.arity))) z
 
 -- constants
-names_apart : (known : List (List ℕ)) (ns : List (List ℕ)) → Apart known (first_names known ns)
+pub names_apart : (known : List (List ℕ)) (ns : List (List ℕ)) → Apart known (first_names known ns)
 names_apart known [] = tt
 names_apart known (n ∷ ns) = by (is_among n known) refl (names_apart known ns) (names_apart (n ∷ known) ns)
   where
