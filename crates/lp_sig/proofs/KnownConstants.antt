@@ -153,3 +153,18 @@ making_same m = record { bank = extends_same m.bodies.types.bank; constants = gr
 
 pub making_then : (a b c : Making) → Grows a b → Grows b c → Grows a c
 making_then a b c x y = record { bank = extends-trans a.bodies.types.bank b.bodies.types.bank c.bodies.types.bank x.bank y.bank; constants = grows_then a.constants b.constants c.constants x.constants y.constants }
+
+pub making_parts : (a b : Making) → b.bodies ≡ a.bodies → b.constants ≡ a.constants → Grows a b
+making_parts a b e f = record {
+  bank = subst (λ x. Extends a.bodies.types.bank x.types.bank) (sym e) (extends_same a.bodies.types.bank);
+  constants = subst (GrowsBehind a.constants) (sym f) (grows_same a.constants);
+}
+
+pub counted_parts : (a b : Making) → b.bodies ≡ a.bodies → b.constants ≡ a.constants → AreCounted a.bodies.types.bank a.constants → AreCounted b.bodies.types.bank b.constants
+counted_parts a b e f all = subst (λ x. AreCounted x.types.bank b.constants) (sym e) (subst (AreCounted a.bodies.types.bank) (sym f) all)
+
+pub counted_none : (b : Nodes) (c : Constants) → c.constants.items ≡ [] → AreCounted b c
+counted_none b c e k has d is = none (subst (λ l. Contains l k) e has)
+  where
+    none : Contains [] k → (d.scheme.0 < length b.types) × (d.type_vars ≡ length (first_variables (type_tree b d.scheme.0)))
+    none (i, l, at) = absurd (omega (arith, l))

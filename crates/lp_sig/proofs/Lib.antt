@@ -63,3 +63,5 @@ pub mod KnownConstants
 pub mod OneSignature
 pub mod Viewing
 pub mod OrderedSignatures
+pub mod Sights
+pub mod TheirTypes

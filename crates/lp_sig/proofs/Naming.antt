@@ -41,7 +41,7 @@ word_named ns text words i d old now new to h at so more = more ∙ words_more n
 pub word_passed : (ns : List (List ℕ)) (text : List ℕ) (words : List Spot) (i : ℕ) (d : Spot) (old now : List Way) → i < length words → None ≡ first_place (spelled text (get_or words i d)) ns → now ≡ old ++ ways_in ns text (take i words) → now ≡ old ++ ways_in ns text (take (i + 1) words)
 word_passed ns text words i d old now h at so = here ns text words i (get_or words i d) old now h (sym (get_or_default words i (get_or words i d) d h)) at so
 
-accum_append : (xs ys : List Declaration) → accum_words (xs ++ ys) ≡ accum_words xs ++ accum_words ys
+pub accum_append : (xs ys : List Declaration) → accum_words (xs ++ ys) ≡ accum_words xs ++ accum_words ys
 accum_append [] ys = refl
 accum_append (Kinds a b ∷ ds) ys = accum_append ds ys
 accum_append (LocalKinds a b ∷ ds) ys = accum_append ds ys

@@ -110,7 +110,7 @@ seen_stays old new said more u o x g h e has =
     (T, tree_later old.bodies.types.bank new.bodies.types.bank old.constants new.constants e.name.items T x g tree, ap (λ l. named (kind_name l) T) f ∙ whole_stays (said_kinds said) rest T whole ∙ same)
 
 -- kinds that are so in the end are so when all kinds were seen
-names_are : (es : List KindEntry) → names_in (map kind_said es) ≡ map (λ e. e.name.items) es
+pub names_are : (es : List KindEntry) → names_in (map kind_said es) ≡ map (λ e. e.name.items) es
 names_are [] = refl
 names_are (e ∷ es) = ap (λ l. e.name.items ∷ l) (names_are es)
 

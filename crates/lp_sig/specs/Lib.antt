@@ -30,3 +30,4 @@ pub mod Worded
 pub mod Named
 pub mod Sighted
 pub mod Same
+pub mod Sights

@@ -15,6 +15,8 @@ ghost use Rattle.lp_sig.specs.Constants.{Written, IsNoted, IsConstant, IsTyped, 
 ghost use Rattle.lp_sig.specs.Modules.{numbered_names};
 ghost use Rattle.lp_sig.specs.Worded.{HasWords, is_met_word, is_met, names_so_far};
 ghost use Rattle.lp_sig.specs.Sighted.{AreCounted, GrowsBehind, PutsBehind, IsTreeOf};
+ghost use Rattle.lp_sig.specs.Sights.{AreTheirEntries};
+ghost use Rattle.lp_sig.specs.declared.constants.DeclaredType.{DeclaredType as IsDeclaredType};
 ghost use Rattle.lp_sig.specs.declared.constants.Known.TheVariants as known;
 
 use crate::entries::ConstantEntry;
@@ -88,6 +90,7 @@ fn entry_of(alloc: Global, constant: &Constant, place: usize) -> Result<Constant
     ensures is { IfOk result (λ e. (b : Nodes) (said : List (Row Said)) (defs : List (Row Definition)) (row : Row Written) → IsNoted b said defs (32 + place) row constant.now → IsConstant b said defs (32 + place) row e) }
     ensures number { IfOk result (λ e. 32 + place < END_OF_NUMBERS) }
     ensures row { IfOk result (λ e. number_row e ≡ (constant.now.name.items, 32 + place)) }
+    ensures typed { IfOk result (λ e. (d : IsDeclaredType) → constant.now.declared ≡ Some d → (e.type_vars ≡ d.type_vars) × (e.scheme ≡ d.scheme)) }
 {
     let Some(declared) = constant.declared else {
         return Err(Memory);
@@ -109,6 +112,7 @@ impl Constants {
         ensures typed { AreTyped result }
         ensures known { (b : Nodes) (said : List (Row Said)) (defs : List (Row Definition)) → KnowsConstants b result said defs [] }
         ensures words { HasWords result [] }
+        ensures empty { result.constants.items ≡ [] }
     {
         Constants {
             alloc,
@@ -122,6 +126,7 @@ impl Constants {
         ensures are { IfOk result (λ entries. (b : Nodes) (said : List (Row Said)) (defs : List (Row Definition)) (rows : List (Row Written)) → KnowsConstants b self.now said defs rows → AreConstants b said defs rows entries.items) }
         ensures numbers { IfOk result (λ entries. (b : Nodes) (said : List (Row Said)) (defs : List (Row Definition)) (rows : List (Row Written)) → KnowsConstants b self.now said defs rows → HaveNumbers rows) }
         ensures rows { IfOk result (λ entries. map number_row entries.items ≡ numbered_names 32 (names_so_far self.now)) }
+        ensures typed { IfOk result (λ entries. AreTheirEntries self.now.constants.items entries.items) }
     {
         let mut entries = Vec::new(self.alloc);
         for (place, constant) in self.constants.iter().enumerate() {

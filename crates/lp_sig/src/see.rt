@@ -339,6 +339,7 @@ impl Making {
     // Takes up the fixities of a signature.
     pub(crate) fn see_fixities(&mut self, signature: &Signature) -> Result<(), Memory>
         ensures names { self.new.names ≡ self.old.names }
+        ensures bodies { self.new.bodies ≡ self.old.bodies }
         ensures constants { self.new.constants ≡ self.old.constants }
         ensures operators { OnOk result ((said : List (Row (IsFixity × ℕ))) → KnowsOperators self.old.operators said → KnowsOperators self.new.operators (said ++ map fixity_row signature.now.fixities.items)) }
     {
