@@ -1,6 +1,6 @@
 -- Constants with their types, while more of them are known.
-use Rattle.std.proofs.Common.{◌≡◌, ℕ, zero, suc, ◌<◌, List, [], ◌∷◌, ◌++◌, length, map, get_or, take, append_assoc, ◌+◌, refl, sym, ap, subst, ◌∙◌, arith, Bool, true, false, Option, Some, None, inl, inr}
-use Rattle.std.specs.Prelude.{◌⊎◌, if◌then◌else◌, option_map, slice_get, Contains, All}
+use Rattle.std.proofs.Common.{◌≡◌, ℕ, zero, suc, ◌<◌, List, [], ◌∷◌, ◌++◌, length, map, get_or, take, append_assoc, ◌+◌, refl, sym, ap, subst, ◌∙◌, arith, Bool, true, false, true≢false, Result, Ok, Err, Option, Some, None, inl, inr}
+use Rattle.std.specs.Prelude.{◌⊎◌, if◌then◌else◌, option_map, slice_get, Contains, All, IfOk, OnOk}
 use Rattle.std.specs.Str.{bytes_eq}
 use Rattle.std.proofs.lemmas.List.{append-nil, take_more}
 use Rattle.std.proofs.lemmas.List.Elements.{All-push, All-take, Contains-append_left, Contains-append_right, Contains-append_cases}
@@ -168,3 +168,26 @@ counted_none b c e k has d is = none (subst (λ l. Contains l k) e has)
   where
     none : Contains [] k → (d.scheme.0 < length b.types) × (d.type_vars ≡ length (first_variables (type_tree b d.scheme.0)))
     none (i, l, at) = absurd (omega (arith, l))
+
+-- a constant of a signature: a new one, one whose type has a fault, and one with a type
+pub seen_new : {E : Type 0} (r : Result Sight E) (b now : Nodes) (old new : Constants) (made : List TypeId) (e : ConstantEntry) (name : List ℕ) (s : TypeId) → slice_get made e.scheme.0 ≡ Some s → name ≡ e.name.items → Extends b now → OnOk r (PutsBehind old new name (record { type_vars = e.type_vars; scheme = s })) →
+    IfOk r (λ sight. (words : List (List ℕ)) → HasWords old words → AreCounted b old → IsCountedEntry b made e → AreCounted now new × ((sight ≡ Alike) ⊎ (is_met_word e.name.items words ≡ false) → IsSeenEntry now new made e))
+seen_new (Ok sight) b now old new made e name s at is x put =
+    λ words h all counted.
+    let f = entry_new now old new made e name s at is put (counted_entry_later b now made e x counted) (counted_later b now old x all) in
+    (f.0, λ premise. f.1)
+seen_new (Err m) b now old new made e name s at is x put = tt
+
+never_new : (t : Bool) → t ≡ true → t ≡ false → ⊥
+never_new true e f = absurd (true≢false f)
+never_new false e f = absurd (true≢false (sym e))
+
+pub seen_never : (b : Nodes) (c : Constants) (made : List TypeId) (e : ConstantEntry) (words : List (List ℕ)) {name : List ℕ} {met : Bool} {sight : Sight} → is_met_word name words ≡ met → name ≡ e.name.items → met ≡ true → (sight ≡ Alike → ⊥) →
+    (sight ≡ Alike) ⊎ (is_met_word e.name.items words ≡ false) → IsSeenEntry b c made e
+seen_never b c made e words m is met never (inl q) = absurd (never q)
+seen_never b c made e words {name} m is met never (inr n) = absurd (never_new (is_met_word name words) (m ∙ met) (ap (λ w. is_met_word w words) is ∙ n))
+
+pub seen_known : (b : Nodes) (c : Constants) (made : List TypeId) (e : ConstantEntry) (words : List (List ℕ)) {name : List ℕ} {met : Bool} {sight : Sight} → is_met_word name words ≡ met → name ≡ e.name.items → met ≡ true → (s t : TypeId) → slice_get made e.scheme.0 ≡ Some s → HasTree b c name (type_tree b t.0) →
+    (sight ≡ Alike → t ≡ s) → (sight ≡ Alike) ⊎ (is_met_word e.name.items words ≡ false) → IsSeenEntry b c made e
+seen_known b c made e words {name} m is met s t at tree same (inl q) = entry_known b c made e name s t at is (same q) tree
+seen_known b c made e words {name} m is met s t at tree same (inr n) = absurd (never_new (is_met_word name words) (m ∙ met) (ap (λ w. is_met_word w words) is ∙ n))

@@ -65,3 +65,5 @@ pub mod Viewing
 pub mod OrderedSignatures
 pub mod Sights
 pub mod TheirTypes
+pub mod SeenKinds
+pub mod SeenTypes

@@ -157,3 +157,8 @@ seen_whole u here now old new said words made sk sc o types_seen count x constan
         let (rest, f) = kinds_more (said ++ map kind_said u.kinds.items) (map abbreviation_said u.abbreviations.items) in
         let whole = subst IsWhole (sym same) (subst (λ e. IsWhole (named_in u e.scheme)) has.1.1 (o.whole has.0 e has.1.0)) in
         (T, tree, ap (λ l. named (kind_name l) T) (ap said_kinds (sym (append_assoc said (map kind_said u.kinds.items) (map abbreviation_said u.abbreviations.items))) ∙ f) ∙ whole_stays (said_kinds (said ++ map kind_said u.kinds.items)) rest T whole ∙ same)
+
+-- a premise by its first case
+pub left_by : {A B C : Type 0} → (A → C) → A ⊎ B → C ⊎ B
+left_by f (inl a) = inl (f a)
+left_by f (inr b) = inr b

@@ -1,5 +1,5 @@
 // What a text sees of other signatures. A name that is seen again otherwise keeps its first declaration.
-ghost use Rattle.std.specs.Prelude.{◌≡◌, ◌<◌, ◌⊎◌, ◌++◌, ℕ, List, [], ◌∷◌, map, length, true, false, nat_eq, Some, OnOk, IfOk, All, slice_get};
+ghost use Rattle.std.specs.Prelude.{◌≡◌, ◌<◌, ◌⊎◌, ◌++◌, ℕ, List, [], ◌∷◌, map, length, true, false, nat_eq, Some, OnOk, IfOk, All, slice_get, if◌then◌else◌};
 ghost use Rattle.std.specs.List.{range_with_len};
 ghost use Rattle.indexmap.specs.IndexMap.{get};
 ghost use Rattle.lp_term.specs.Nodes.{Extends, type_tree};
@@ -82,6 +82,13 @@ fn type_here(made: &[TypeId], id: TypeId) -> Result<TypeId, Memory>
     }
 }
 
+fn note_kind(kinds: &mut IndexMap<u32, u32>, there: u32, here: u32) -> Result<(), Memory>
+    ensures { OnOk result ((k : ℕ) → get nat_eq kinds.new k ≡ (if nat_eq there k then Some here else get nat_eq kinds.old k)) }
+{
+    kinds.insert(there, here)?;
+    Ok(())
+}
+
 fn types_here(alloc: Global, made: &[TypeId], ids: &[TypeId]) -> Result<Vec<TypeId>, Memory>
     ensures { IfOk result (λ here. map (λ t. slice_get made.now t.0) ids.now ≡ map (λ t. Some t) here.items) }
 {
@@ -135,7 +142,7 @@ impl Names {
         for at in 0..entries.len() {
             let entry = &entries[at];
             let (number, sight) = self.see_kind(entry)?;
-            kinds.insert(entry.number, number)?;
+            note_kind(kinds, entry.number, number)?;
             all = all.and(sight);
         }
         Ok(all)
@@ -180,6 +187,7 @@ impl Types {
         kinds: &IndexMap<u32, u32>,
     ) -> Result<Vec<TypeId>, Memory>
         ensures kept { Extends self.old.bank self.new.bank }
+        ensures count { IfOk result (λ made. length made.items ≡ length bank.now.types) }
         ensures seen { IfOk result (λ made. (names here : List (List ℕ)) → ((k n : ℕ) → get nat_eq kinds.now k ≡ Some n → kind_name here n ≡ kind_name names k) → AreSeenTypes bank.now self.new.bank names here made.items) }
     {
         let mut made = Vec::new(self.alloc);

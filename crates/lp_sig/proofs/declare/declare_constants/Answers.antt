@@ -45,3 +45,6 @@ returns-clause-declared c = λ from z rows k b s kc t.
     let ty = c.args.raw.now in
     declared_all from text z rows c.args.spots.now ty c.args.bodies.now.types.bank c.scheme.new.self.types.bank c.args.constants.now c.in_ok-declared.declared c.scheme.ensures.kept kc (c.in_ok-declared.ensures.typed z.said z.definitions k b) t
     c.declare_all.result c.declare_all.new.self (λ stands. c.in_ok-declared.ensures.settled z.said k (uses_settled from z c.args.bodies.now.bodies.items text ty s stands)) c.declare_all.ensures.typed c.declare_all.ensures.taken
+
+pub returns-clause-grown : goal.returns-clause-grown
+returns-clause-grown c = c.declare_all.ensures.grown
