@@ -9,3 +9,4 @@ pub mod Fits
 pub mod RaisedForms
 pub mod Raising
 pub mod Flattens
+pub mod Referred
