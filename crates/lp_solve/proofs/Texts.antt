@@ -10,3 +10,4 @@ pub mod RaisedForms
 pub mod Raising
 pub mod Flattens
 pub mod Referred
+pub mod Joined
