@@ -27,7 +27,7 @@ use Rattle.lp_module.proofs.Lookups.{exported_below, place_none}
 use Rattle.lp_module.proofs.NumberedSignatures.{Apart, unknown, names_apart}
 
 -- names at places
-named_at : {E : Type 0} (name : E → List ℕ) (es : List E) (i : ℕ) (e : E) → slice_get es i ≡ Some e → slice_get (map name es) i ≡ Some (name e)
+pub named_at : {E : Type 0} (name : E → List ℕ) (es : List E) (i : ℕ) (e : E) → slice_get es i ≡ Some e → slice_get (map name es) i ≡ Some (name e)
 named_at name es i e at = slice_get-map name es i ∙ ap (option_map name) at
 
 taken_at : {A : Type 0} (n : ℕ) (xs : List A) (i : ℕ) (x : A) → i < n → slice_get xs i ≡ Some x → slice_get (take n xs) i ≡ Some x
@@ -37,7 +37,7 @@ taken_at (suc n) (y ∷ ys) zero x l e = e
 taken_at (suc n) (y ∷ ys) (suc i) x l e = taken_at n ys i x (omega (arith, l)) e
 
 -- the name at a place of the first names
-first_name : {E F : Type 0} (name : E → List ℕ) (other : F → List ℕ) (es : List E) (fs : List F) (i : ℕ) (e : E) (f : F) → take (length fs) (map name es) ≡ map other fs → slice_get es i ≡ Some e → slice_get fs i ≡ Some f → name e ≡ other f
+pub first_name : {E F : Type 0} (name : E → List ℕ) (other : F → List ℕ) (es : List E) (fs : List F) (i : ℕ) (e : E) (f : F) → take (length fs) (map name es) ≡ map other fs → slice_get es i ≡ Some e → slice_get fs i ≡ Some f → name e ≡ other f
 first_name name other es fs i e f same at there =
     same_Some (name e) (other f)
     (sym (taken_at (length fs) (map name es) i (name e) (slice_get_within fs i f there) (named_at name es i e at)) ∙ ap (λ l. slice_get l i) same ∙ named_at other fs i f there)
@@ -51,21 +51,21 @@ found_among n (r ∷ rs) a e = by (bytes_eq n r.0) (found_among n rs a) e
     by true h e = refl
     by false h e = h e
 
-not_standard : (own : Signature) → IsApart own → (i : ℕ) (x : ConstantEntry) → slice_get own.constants.items i ≡ Some x → (n : ℕ) → found x.name.items standard_constants ≡ Some n → ⊥
+pub not_standard : (own : Signature) → IsApart own → (i : ℕ) (x : ConstantEntry) → slice_get own.constants.items i ≡ Some x → (n : ℕ) → found x.name.items standard_constants ≡ Some n → ⊥
 not_standard own apart i x at n e =
     true≢false (sym (found_among x.name.items standard_constants n e) ∙
     unknown (names_in standard_constants) (constants_of own) (subst (Apart (names_in standard_constants)) apart.constants (names_apart (names_in standard_constants) (constants_of own))) i x.name.items (named_at (λ e. e.name.items) own.constants.items i x at))
 
 -- where an element stands
-place_of : {E : Type 0} (es : List E) (e : E) → Contains es e → (i : ℕ) × (slice_get es i ≡ Some e)
+pub place_of : {E : Type 0} (es : List E) (e : E) → Contains es e → (i : ℕ) × (slice_get es i ≡ Some e)
 place_of es e (i, l, is) = (i, slice_get_read es (length es) i e refl l (sym is))
 
-stands : {E : Type 0} (es : List E) (i : ℕ) (e : E) → slice_get es i ≡ Some e → Contains es e
+pub stands : {E : Type 0} (es : List E) (i : ℕ) (e : E) → slice_get es i ≡ Some e → Contains es e
 stands es i e at = (i, slice_get_within es i e at, get_or_from_slice_get es i e e at)
 
 -- the kinds of an exported type
 module _ (m : Module) (own : Signature) (o : IsOrderly m) (kinds_are : o.exported_kinds ≡ length own.kinds.items) (sm : IsNumberedSignature m.signature) (first : HasOwnFirst own m.signature) where
-  first_within : (p : ℕ) → p < length own.kinds.items → p < length m.signature.kinds.items
+  pub first_within : (p : ℕ) → p < length own.kinds.items → p < length m.signature.kinds.items
   first_within p l =
       let e = ap length first.kinds ∙ length-map own.kinds.items (λ e. e.name.items) in
       let t = length-take (length own.kinds.items) (map (λ e. e.name.items) m.signature.kinds.items) in
@@ -121,7 +121,7 @@ module _ (m : Module) (own : Signature) (o : IsOrderly m) (kinds_are : o.exporte
         (type_exported t u p.0 v, all_exported ts us p.1 w)
 
 -- the same entries of two signatures that say the same
-same_entry : (u own : Signature) → AreSameSignatures u own → (i : ℕ) (x : ConstantEntry) → slice_get own.constants.items i ≡ Some x →
+pub same_entry : (u own : Signature) → AreSameSignatures u own → (i : ℕ) (x : ConstantEntry) → slice_get own.constants.items i ≡ Some x →
     (y : ConstantEntry) × (slice_get u.constants.items i ≡ Some y) × (y.name.items ≡ x.name.items) × (y.type_vars ≡ x.type_vars) × (named_in u y.scheme ≡ named_in own x.scheme)
 same_entry u own same i x at =
     let row : slice_get (map (typed_row u.bank) u.constants.items) i ≡ Some (typed_row own.bank x) = ap (λ l. slice_get l i) same.constants ∙ slice_get-map (typed_row own.bank) own.constants.items i ∙ ap (option_map (typed_row own.bank)) at in
@@ -144,6 +144,17 @@ same_entry u own same i x at =
         let r = same_Some (typed_row u.bank y) (typed_row own.bank x) f in
         let ns = names u.kinds.items own.kinds.items same.kinds in
         (y, e, ap (λ r. r.0) r, ap (λ r. r.1.1) r, (λ i. named (kind_name (ns i)) (r i).1.2))
+
+-- the entry of a module for a constant of its own signature
+pub own_entry : (m : Module) (own : Signature) → IsNumberedSignature m.signature → IsApart own → (i : ℕ) (e : ConstantEntry) → slice_get m.signature.constants.items i ≡ Some e → (x : ConstantEntry) → slice_get own.constants.items i ≡ Some x → e.name.items ≡ x.name.items →
+    HasNamed m.signature x.name.items x.type_vars (named_in own x.scheme) → (e.type_vars ≡ x.type_vars) × (named_in m.signature e.scheme ≡ named_in own x.scheme)
+own_entry m own sm apart i e at x at_x name (standard_one n f t) = absurd (not_standard own apart i x at_x n f)
+own_entry m own sm apart i e at x at_x name (declared_one f has name_f count named_f) =
+    let (j, at_f) = place_of m.signature.constants.items f has in
+    let g = same_Some (32 + j) (32 + i) (sym (sm.constants j f at_f).1 ∙ ap (λ w. found w (standard_constants ++ map number_row m.signature.constants.items)) (name_f ∙ sym name) ∙ (sm.constants i e at).1) in
+    let z : j ≡ i = omega (arith, g) in
+    let is : f ≡ e = same_Some f e (sym at_f ∙ ap (slice_get m.signature.constants.items) z ∙ at) in
+    (ap (λ (e : ConstantEntry). e.type_vars) (sym is) ∙ count, ap (λ (e : ConstantEntry). named_in m.signature e.scheme) (sym is) ∙ named_f)
 
 -- joined
 pub joined_by : (above m : Module) (own u : Signature) (o : IsOrderly m) → o.exported_kinds ≡ length own.kinds.items → o.exported_constants ≡ length own.constants.items → IsNumberedSignature m.signature → HasOwnFirst own m.signature → IsApart own → IsOrdered own →
@@ -170,13 +181,7 @@ joined_by above m own u o kinds_are constants_are sm first apart ordered own_see
     whole_at x at_x = subst (λ x. IsWhole (named_in own x.scheme)) (get_or_from_slice_get own.constants.items i x x at_x) (ordered.whole i x (slice_get_within own.constants.items i x at_x))
 
     of_own : (x : ConstantEntry) → slice_get own.constants.items i ≡ Some x → e.name.items ≡ x.name.items → HasNamed m.signature x.name.items x.type_vars (named_in own x.scheme) → (e.type_vars ≡ x.type_vars) × (named_in m.signature e.scheme ≡ named_in own x.scheme)
-    of_own x at_x name (standard_one n f t) = absurd (not_standard own apart i x at_x n f)
-    of_own x at_x name (declared_one f has name_f count named_f) =
-        let (j, at_f) = place_of m.signature.constants.items f has in
-        let g = same_Some (32 + j) (32 + i) (sym (sm.constants j f at_f).1 ∙ ap (λ w. found w (standard_constants ++ map number_row m.signature.constants.items)) (name_f ∙ sym name) ∙ (sm.constants i e at).1) in
-        let z : j ≡ i = omega (arith, g) in
-        let is : f ≡ e = same_Some f e (sym at_f ∙ ap (slice_get m.signature.constants.items) z ∙ at) in
-        (ap (λ (e : ConstantEntry). e.type_vars) (sym is) ∙ count, ap (λ (e : ConstantEntry). named_in m.signature e.scheme) (sym is) ∙ named_f)
+    of_own x at_x name h = own_entry m own sm apart i e at x at_x name h
 
     of_above : (x y : ConstantEntry) → slice_get own.constants.items i ≡ Some x → y.name.items ≡ x.name.items → HasNamed above.signature y.name.items y.type_vars (named_in u y.scheme) →
         (z : ℕ × ConstantEntry) × (slice_get above.signature.constants.items z.0 ≡ Some z.1) × (z.1.name.items ≡ y.name.items) × (z.1.type_vars ≡ y.type_vars) × (named_in above.signature z.1.scheme ≡ named_in u y.scheme)

@@ -62,7 +62,7 @@ module _ {A : Type 0} where
       ap (λ o. one_if_exported o x ++ exported_among (suc f) (range_with_len b n) xs) (place_at b n i f (omega (arith, l)) e) ∙
       none_left b n (suc f) (suc i) xs (omega (arith, e)) (omega (arith, l))
 
-  exported_first : (b n f k : ℕ) (xs : List A) → b ≡ f + k → length xs ≤ k + n → exported_among f (range_with_len b n) xs ≡ take k xs
+  pub exported_first : (b n f k : ℕ) (xs : List A) → b ≡ f + k → length xs ≤ k + n → exported_among f (range_with_len b n) xs ≡ take k xs
   exported_first b n f k [] e l = sym (taken_none k)
   exported_first b n f zero (x ∷ xs) e l = none_left b n f 0 (x ∷ xs) (omega (arith, e)) (omega (arith, l))
   exported_first b n f (suc k) (x ∷ xs) e l =

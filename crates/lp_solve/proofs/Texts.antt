@@ -11,3 +11,5 @@ pub mod Raising
 pub mod Flattens
 pub mod Referred
 pub mod Joined
+pub mod Queried
+pub mod DeclaredTypes

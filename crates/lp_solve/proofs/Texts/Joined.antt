@@ -55,7 +55,7 @@ use Rattle.lp_solve.proofs.Texts.Referred.{words_referred}
 stands : {A : Type 0} (xs : List A) (i : ℕ) (x : A) → slice_get xs i ≡ Some x → Contains xs x
 stands xs i x e = (i, slice_get_within xs i x e, get_or_from_slice_get xs i x x e)
 
-last_or : {A : Type 0} (xs : List A) (y x : A) (i : ℕ) → slice_get (xs ++ y ∷ []) i ≡ Some x → (slice_get xs i ≡ Some x) ⊎ ((i ≡ length xs) × (y ≡ x))
+pub last_or : {A : Type 0} (xs : List A) (y x : A) (i : ℕ) → slice_get (xs ++ y ∷ []) i ≡ Some x → (slice_get xs i ≡ Some x) ⊎ ((i ≡ length xs) × (y ≡ x))
 last_or [] y x zero e = inr (refl, same_Some y x e)
 last_or [] y x (suc i) e = absurd (cc)
 last_or (z ∷ zs) y x zero e = inl e
@@ -65,7 +65,7 @@ last_or (z ∷ zs) y x (suc i) e = next (last_or zs y x i e)
     next (inl h) = inl h
     next (inr h) = inr (ap (λ n. suc n) h.0, h.1)
 
-get_at : {A : Type 0} (xs : List A) (i : ℕ) (x : A) → IsAt xs i x → slice_get xs i ≡ Some x
+pub get_at : {A : Type 0} (xs : List A) (i : ℕ) (x : A) → IsAt xs i x → slice_get xs i ≡ Some x
 get_at [] i x (l, e) = absurd (omega (arith, l))
 get_at (y ∷ ys) zero x (l, e) = ap (λ y. Some y) e
 get_at (y ∷ ys) (suc i) x (l, e) = get_at ys i x (omega (arith, l), e)
@@ -320,19 +320,19 @@ module _ (sources : Sources) (modules : List Module) (read : AreRead sources) (a
   t = are.texts
 
   -- signatures that texts give
-  apart : (n : ℕ) (s : Signature) → IsSignatureOf g n s → IsApart s
+  pub apart : (n : ℕ) (s : Signature) → IsSignatureOf g n s → IsApart s
   apart n s is = names_apart g.names.items g.sources.items g.texts.items is.place (map fixity_row s.fixities.items) s is.declared
 
-  ordered : (n : ℕ) (s : Signature) → IsSignatureOf g n s → IsOrdered s
+  pub ordered : (n : ℕ) (s : Signature) → IsSignatureOf g n s → IsOrdered s
   ordered n s is = signature_ordered g.names.items g.sources.items g.texts.items is.place (map fixity_row s.fixities.items) s is.declared
 
-  same_signature : (n : ℕ) (s u : Signature) → IsSignatureOf g n s → IsSignatureOf g n u → AreSameSignatures s u
+  pub same_signature : (n : ℕ) (s u : Signature) → IsSignatureOf g n s → IsSignatureOf g n u → AreSameSignatures s u
   same_signature n s u a b =
       let e = one_place part.Signature IsSignatureTree files (length files) g.numbers.items g.names.items g.sources.items g.texts.items are.signature_texts a.place b.place n (get_at g.numbers.items a.place n a.there) (get_at g.numbers.items b.place n b.there) in
       one_signature g.names.items g.sources.items g.texts.items a.place (map fixity_row s.fixities.items) (map fixity_row u.fixities.items) s u a.declared (subst (λ p. IsDeclaredAt g p u) (sym e) b.declared)
 
   -- a module's meaning
-  meaning_at : (k : ℕ) (m : Module) → slice_get modules k ≡ Some m → (p : ℕ) × IsModuleAt files g t p m
+  pub meaning_at : (k : ℕ) (m : Module) → slice_get modules k ≡ Some m → (p : ℕ) × IsModuleAt files g t p m
   meaning_at k m at = module_at files g t are.meanings.order modules are.meanings.meanings k m at
 
   -- what its file names by its words
