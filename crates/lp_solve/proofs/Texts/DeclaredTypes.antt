@@ -53,7 +53,7 @@ last_same (z ∷ zs) (w ∷ ws) x y e = let f : zs ++ x ∷ [] ≡ ws ++ y ∷ [
 
 last_module : (files : List File) (g : Group SignatureText) (t : Group ModuleText) (ps before : List ℕ) (ms : List Module) (root : ℕ) (m : Module) → AreModulesAt files g t ps ms → ps ≡ before ++ 0 ∷ [] → root + 1 ≡ length ms → slice_get ms root ≡ Some m → IsModuleAt files g t 0 m
 last_module files g t ps before ms root m no_module e n at = absurd (cc)
-last_module files g t ps before ms root m (one_module qs ps ns ms p last earlier is e f) first n at =
+last_module files g t ps before ms root m (one_module qs _ ns _ p last earlier is e f) first n at =
     let zero_is : p ≡ 0 = last_same qs before p 0 (sym e ∙ first) in
     let l = ap length f ∙ length-append ns (last ∷ []) in
     by zero_is (last_or ns last m root (ap (λ l. slice_get l root) (sym f) ∙ at)) (omega (arith, n, l))

@@ -74,7 +74,7 @@ get_at (y ∷ ys) (suc i) x (l, e) = get_at ys i x (omega (arith, l), e)
 module _ (files : List File) (g : Group SignatureText) (t : Group ModuleText) where
   module_at : (ps : List ℕ) (ms : List Module) → AreModulesAt files g t ps ms → (k : ℕ) (m : Module) → slice_get ms k ≡ Some m → (p : ℕ) × IsModuleAt files g t p m
   module_at ps ms no_module k m e = absurd (cc)
-  module_at ps ms (one_module qs ps ns ms p n before is e f) k m at = by (last_or ns n m k (ap (λ l. slice_get l k) (sym f) ∙ at))
+  module_at ps ms (one_module qs _ ns _ p n before is e f) k m at = by (last_or ns n m k (ap (λ l. slice_get l k) (sym f) ∙ at))
     where
       by : (slice_get ns k ≡ Some m) ⊎ ((k ≡ length ns) × (n ≡ m)) → (p : ℕ) × IsModuleAt files g t p m
       by (inl h) = module_at qs ns before k m h
@@ -83,11 +83,11 @@ module _ (files : List File) (g : Group SignatureText) (t : Group ModuleText) wh
   -- the signature at a place
   signature_at : (ns : List ℕ) (ss : List Signature) → AreSignaturesOf g ns ss → (i n : ℕ) → slice_get ns i ≡ Some n → (s : Signature) × (slice_get ss i ≡ Some s) × IsSignatureOf g n s
   signature_at ns ss no_signature i n e = absurd (cc)
-  signature_at ns ss (one_signature_more ms ns ts ss m s before is e f) i n at = by (last_or ms m n i (ap (λ l. slice_get l i) (sym e) ∙ at))
+  signature_at ns ss (one_signature_more ms _ ts _ m s before is e f) i n at = by (last_or ms m n i (ap (λ l. slice_get l i) (sym e) ∙ at))
     where
       same_length : (ms : List ℕ) (ts : List Signature) → AreSignaturesOf g ms ts → length ms ≡ length ts
       same_length ms ts no_signature = refl
-      same_length ms ts (one_signature_more ks ms us ts k u before is e f) =
+      same_length ms ts (one_signature_more ks _ us _ k u before is e f) =
           ap length e ∙ length-append ks (k ∷ []) ∙ ap (λ n. n + 1) (same_length ks us before) ∙ sym (length-append us (u ∷ [])) ∙ sym (ap length f)
 
       front : (ts : List Signature) (x : Signature) (i : ℕ) → slice_get ts i ≡ Some x → slice_get (ts ++ s ∷ []) i ≡ Some x
@@ -105,18 +105,30 @@ module _ (files : List File) (g : Group SignatureText) (t : Group ModuleText) wh
 
   all_signatures : (P : Signature → Type 0) → ((n : ℕ) (s : Signature) → IsSignatureOf g n s → P s) → (ns : List ℕ) (ss : List Signature) → AreSignaturesOf g ns ss → (i : ℕ) (s : Signature) → slice_get ss i ≡ Some s → P s
   all_signatures P each ns ss no_signature i s e = absurd (cc)
-  all_signatures P each ns ss (one_signature_more ms ns ts ss m u before is e f) i s at = by (last_or ts u s i (ap (λ l. slice_get l i) (sym f) ∙ at))
+  all_signatures P each ns ss (one_signature_more ms _ ts _ m u before is e f) i s at = by (last_or ts u s i (ap (λ l. slice_get l i) (sym f) ∙ at))
     where
       by : (slice_get ts i ≡ Some s) ⊎ ((i ≡ length ts) × (u ≡ s)) → P s
       by (inl h) = all_signatures P each ms ts before i s h
       by (inr h) = subst P h.1 (each m u is)
 
+-- a text is that of a file
+record IsFileText {T : Type 0} (IsTree : ℕ → File → T → Type 0) (files : List File) (number : ℕ) (source : Vec ℕ Global) (tree : T) : Type 0 where
+  pub file : File
+  pub at : IsAt files number file
+  pub bytes : source.items ≡ file.text.bytes.items
+  pub tree_is : IsTree number file tree
+
+-- what a file names by the words of its text
+record NamesFiles (files : List File) (number : ℕ) (source : List ℕ) (text : ModuleText) : Type 0 where
+  pub accum_sig : accum_sig_at files number ≡ each_once (filter_map (signature_of files) (map (spelled source) (accum_words (declarations text.lines.items))))
+  pub accumulate : accumulate_at files number ≡ each_once (filter_map (signature_of files) (map (spelled source) (accumulate_in (declarations text.lines.items))))
+
 -- numbers of texts are apart, and each is that of its file
 module _ {T : Type 0} (p : Part) (IsTree : ℕ → File → T → Type 0) (files : List File) where
   numbers_below : (n : ℕ) (numbers : List ℕ) (names : List (String Global)) (sources : List (Vec ℕ Global)) (trees : List T) → AreTexts p IsTree files n numbers names sources trees → (i k : ℕ) → slice_get numbers i ≡ Some k → k < n
   numbers_below n numbers names sources trees no_text i k e = absurd (cc)
-  numbers_below n numbers names sources trees (other_text m n f ns ms ss ts before at_f part e) i k at = let h = numbers_below m ns ms ss ts before i k at in omega (arith, h, e)
-  numbers_below n numbers names sources trees (one_text m n f name source tree ns as ms bs ss cs ts ds before at_f part same_name same_source is e a b c d) i k at = by (last_or ns m k i (ap (λ l. slice_get l i) (sym a) ∙ at))
+  numbers_below n numbers names sources trees (other_text m _ f _ _ _ _ before at_f part e) i k at = let h = numbers_below m numbers names sources trees before i k at in omega (arith, h, e)
+  numbers_below n numbers names sources trees (one_text m _ f name source tree ns _ ms _ ss _ ts _ before at_f part same_name same_source is e a b c d) i k at = by (last_or ns m k i (ap (λ l. slice_get l i) (sym a) ∙ at))
     where
       by : (slice_get ns i ≡ Some k) ⊎ ((i ≡ length ns) × (m ≡ k)) → k < n
       by (inl h) = let l = numbers_below m ns ms ss ts before i k h in omega (arith, l, e)
@@ -124,8 +136,8 @@ module _ {T : Type 0} (p : Part) (IsTree : ℕ → File → T → Type 0) (files
 
   one_place : (n : ℕ) (numbers : List ℕ) (names : List (String Global)) (sources : List (Vec ℕ Global)) (trees : List T) → AreTexts p IsTree files n numbers names sources trees → (i j k : ℕ) → slice_get numbers i ≡ Some k → slice_get numbers j ≡ Some k → i ≡ j
   one_place n numbers names sources trees no_text i j k e f = absurd (cc)
-  one_place n numbers names sources trees (other_text m n f ns ms ss ts before at_f part e) i j k a b = one_place m ns ms ss ts before i j k a b
-  one_place n numbers names sources trees (one_text m n f name source tree ns as ms bs ss cs ts ds before at_f part same_name same_source is e a b c d) i j k at_i at_j =
+  one_place n numbers names sources trees (other_text m _ f _ _ _ _ before at_f part e) i j k a b = one_place m numbers names sources trees before i j k a b
+  one_place n numbers names sources trees (one_text m _ f name source tree ns _ ms _ ss _ ts _ before at_f part same_name same_source is e a b c d) i j k at_i at_j =
       by (last_or ns m k i (ap (λ l. slice_get l i) (sym a) ∙ at_i)) (last_or ns m k j (ap (λ l. slice_get l j) (sym a) ∙ at_j))
     where
       by : (slice_get ns i ≡ Some k) ⊎ ((i ≡ length ns) × (m ≡ k)) → (slice_get ns j ≡ Some k) ⊎ ((j ≡ length ns) × (m ≡ k)) → i ≡ j
@@ -134,33 +146,26 @@ module _ {T : Type 0} (p : Part) (IsTree : ℕ → File → T → Type 0) (files
       by (inr x) (inl y) = let l = numbers_below m ns ms ss ts before j k y in let z = x.1 in absurd (omega (arith, l, z))
       by (inr x) (inr y) = x.0 ∙ sym y.0
 
-  -- the text at a place is that of a file
-  record IsFileText (number : ℕ) (source : Vec ℕ Global) (tree : T) : Type 0 where
-    file : File
-    at : IsAt files number file
-    bytes : source.items ≡ file.text.bytes.items
-    tree_is : IsTree number file tree
-
   same_lengths : (n : ℕ) (numbers : List ℕ) (names : List (String Global)) (sources : List (Vec ℕ Global)) (trees : List T) → AreTexts p IsTree files n numbers names sources trees → (length sources ≡ length numbers) × (length trees ≡ length numbers)
   same_lengths n numbers names sources trees no_text = (refl, refl)
-  same_lengths n numbers names sources trees (other_text m n f ns ms ss ts before at_f part e) = same_lengths m ns ms ss ts before
-  same_lengths n numbers names sources trees (one_text m n f name source tree ns as ms bs ss cs ts ds before at_f part same_name same_source is e a b c d) =
+  same_lengths n numbers names sources trees (other_text m _ f _ _ _ _ before at_f part e) = same_lengths m numbers names sources trees before
+  same_lengths n numbers names sources trees (one_text m _ f name source tree ns _ ms _ ss _ ts _ before at_f part same_name same_source is e a b c d) =
       let h = same_lengths m ns ms ss ts before in
       let x = ap length a ∙ length-append ns (m ∷ []) in
       let y = ap length c ∙ length-append ss (source ∷ []) in
       let z = ap length d ∙ length-append ts (tree ∷ []) in (y ∙ ap (λ n. n + 1) h.0 ∙ sym x, z ∙ ap (λ n. n + 1) h.1 ∙ sym x)
 
   text_at : (n : ℕ) (numbers : List ℕ) (names : List (String Global)) (sources : List (Vec ℕ Global)) (trees : List T) → AreTexts p IsTree files n numbers names sources trees → (i number : ℕ) (source : Vec ℕ Global) (tree : T) →
-      slice_get numbers i ≡ Some number → slice_get sources i ≡ Some source → slice_get trees i ≡ Some tree → IsFileText number source tree
+      slice_get numbers i ≡ Some number → slice_get sources i ≡ Some source → slice_get trees i ≡ Some tree → IsFileText IsTree files number source tree
   text_at n numbers names sources trees no_text i number source tree x y z = absurd (cc)
-  text_at n numbers names sources trees (other_text m n f ns ms ss ts before at_f part e) i number source tree x y z = text_at m ns ms ss ts before i number source tree x y z
-  text_at n numbers names sources trees (one_text m n f name s t ns as ms bs ss cs ts ds before at_f part same_name same_source is e a b c d) i number source tree x y z =
+  text_at n numbers names sources trees (other_text m _ f _ _ _ _ before at_f part e) i number source tree x y z = text_at m numbers names sources trees before i number source tree x y z
+  text_at n numbers names sources trees (one_text m _ f name s t ns _ ms _ ss _ ts _ before at_f part same_name same_source is e a b c d) i number source tree x y z =
       by (last_or ns m number i (ap (λ l. slice_get l i) (sym a) ∙ x)) (last_or ss s source i (ap (λ l. slice_get l i) (sym c) ∙ y)) (last_or ts t tree i (ap (λ l. slice_get l i) (sym d) ∙ z))
     where
       long : (length ss ≡ length ns) × (length ts ≡ length ns)
       long = same_lengths m ns ms ss ts before
 
-      by : (slice_get ns i ≡ Some number) ⊎ ((i ≡ length ns) × (m ≡ number)) → (slice_get ss i ≡ Some source) ⊎ ((i ≡ length ss) × (s ≡ source)) → (slice_get ts i ≡ Some tree) ⊎ ((i ≡ length ts) × (t ≡ tree)) → IsFileText number source tree
+      by : (slice_get ns i ≡ Some number) ⊎ ((i ≡ length ns) × (m ≡ number)) → (slice_get ss i ≡ Some source) ⊎ ((i ≡ length ss) × (s ≡ source)) → (slice_get ts i ≡ Some tree) ⊎ ((i ≡ length ts) × (t ≡ tree)) → IsFileText IsTree files number source tree
       by (inl u) (inl v) (inl w) = text_at m ns ms ss ts before i number source tree u v w
       by (inl u) (inr v) w = let l = slice_get_within ns i number u in let e = v.0 in let q = long.0 in absurd (omega (arith, l, e, q))
       by (inl u) v (inr w) = let l = slice_get_within ns i number u in let e = w.0 in let q = long.1 in absurd (omega (arith, l, e, q))
@@ -336,11 +341,7 @@ module _ (sources : Sources) (modules : List Module) (read : AreRead sources) (a
   meaning_at k m at = module_at files g t are.meanings.order modules are.meanings.meanings k m at
 
   -- what its file names by its words
-  record NamesFiles (number : ℕ) (source : List ℕ) (text : ModuleText) : Type 0 where
-    accum_sig : accum_sig_at files number ≡ each_once (filter_map (signature_of files) (map (spelled source) (accum_words (declarations text.lines.items))))
-    accumulate : accumulate_at files number ≡ each_once (filter_map (signature_of files) (map (spelled source) (accumulate_in (declarations text.lines.items))))
-
-  names_files : (p : ℕ) (m : Module) (a : IsModuleAt files g t p m) → NamesFiles a.number a.source.items a.text
+  names_files : (p : ℕ) (m : Module) (a : IsModuleAt files g t p m) → NamesFiles files a.number a.source.items a.text
   names_files p m a =
       let h = text_at part.Module (IsModuleTree files) files (length files) t.numbers.items t.names.items t.sources.items t.texts.items are.module_texts p a.number a.source a.text
           (get_at t.numbers.items p a.number a.at_number) (get_at t.sources.items p a.source a.at_source) (get_at t.texts.items p a.text a.at_text) in

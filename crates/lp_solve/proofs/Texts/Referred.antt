@@ -47,8 +47,8 @@ cut (suc m) (suc j) = next (cut m j)
 
 -- no full stop stands at these tokens
 record Clear (ls : List Lexeme) (i j : ℕ) : Type 0 where
-  up : i ≤ j
-  none : (m : ℕ) → i ≤ m → m < j → class_at ls m ≡ class.Dot → ⊥
+  pub up : i ≤ j
+  pub none : (m : ℕ) → i ≤ m → m < j → class_at ls m ≡ class.Dot → ⊥
 
 empty : (ls : List Lexeme) (i : ℕ) → Clear ls i i
 empty ls i = record { up = omega arith; none = λ m a b e. omega (arith, a, b) }
@@ -73,7 +73,7 @@ listed_clear ls words i j fits e = record { up = omega (arith, e); none = λ m a
 
 commas_clear : (ls : List Lexeme) (words : Bool) (i j : ℕ) (ns : List ℕ) → WithCommas ls words i j ns → Clear ls i j
 commas_clear ls words i j ns none_listed = empty ls i
-commas_clear ls words i j ns (one_listed k j ms ns w fits comma e f) =
+commas_clear ls words i j ns (one_listed k _ ms _ w fits comma e f) =
     join ls i k j (commas_clear ls words i k ms w) (join ls k (k + 1) j (listed_clear ls words k (k + 1) fits refl) (one ls (k + 1) j class.Comma comma (λ q. absurd (cc)) e))
 
 names_clear : (ls : List Lexeme) (words : Bool) (i j : ℕ) (ns : List ℕ) → AreNames ls words i j ns → Clear ls i j
@@ -81,7 +81,7 @@ names_clear ls words i j ns a = join ls i a.final j (commas_clear ls words i a.f
 
 front_clear : (ls : List Lexeme) (i j n : ℕ) → KindFront ls i j n → Clear ls i j
 front_clear ls i j n no_argument = empty ls i
-front_clear ls i j n (argument k j m n f type arrow e g) =
+front_clear ls i j n (argument k _ m _ f type arrow e g) =
     join ls i k j (front_clear ls i k m f) (join ls k (k + 1) j (one ls k (k + 1) (class.Keyword keyword.Type) type (λ q. absurd (cc)) refl) (one ls (k + 1) j class.Arrow arrow (λ q. absurd (cc)) e))
 
 kind_clear : (ls : List Lexeme) (i j n : ℕ) → IsKindText ls i j n → Clear ls i j
@@ -89,11 +89,11 @@ kind_clear ls i j n k = join ls i k.final j (front_clear ls i k.final n k.front)
 
 parameters_clear : (ls : List Lexeme) (i j : ℕ) (ns : List ℕ) → Parameters ls i j ns → Clear ls i j
 parameters_clear ls i j ns no_parameter = empty ls i
-parameters_clear ls i j ns (parameter k j ms ns p upper e f) = join ls i k j (parameters_clear ls i k ms p) (one ls k j class.Upper upper (λ q. absurd (cc)) e)
+parameters_clear ls i j ns (parameter k _ ms _ p upper e f) = join ls i k j (parameters_clear ls i k ms p) (one ls k j class.Upper upper (λ q. absurd (cc)) e)
 
 head_clear : (ls : List Lexeme) (i j n : ℕ) (ns : List ℕ) → IsHeadAt ls i j n ns → Clear ls i j
-head_clear ls i j n ns (bare i j n ns lower e f g) = one ls i j class.Lower lower (λ q. absurd (cc)) e
-head_clear ls i j n ns (bracketed i k j n ns open lower e p close f) =
+head_clear ls i j n ns (bare _ _ _ _ lower e f g) = one ls i j class.Lower lower (λ q. absurd (cc)) e
+head_clear ls i j n ns (bracketed _ k _ _ _ open lower e p close f) =
     join ls i (i + 1) j (one ls i (i + 1) class.Open open (λ q. absurd (cc)) refl)
     (join ls (i + 1) (i + 1 + 1) j (one ls (i + 1) (i + 1 + 1) class.Lower lower (λ q. absurd (cc)) refl)
     (join ls (i + 1 + 1) k j (parameters_clear ls (i + 1 + 1) k ns p) (one ls k j class.Close close (λ q. absurd (cc)) f)))
@@ -102,36 +102,36 @@ one_on : (i : ℕ) → suc i ≡ i + 1
 one_on i = omega arith
 
 type_clear : (ls : List Lexeme) (l : Level) (i j : ℕ) (t : TypeTree) → IsType ls l i j t → Clear ls i j
-type_clear ls l i j t (word i lower) = one ls i (suc i) class.Lower lower (λ q. absurd (cc)) (one_on i)
-type_clear ls l i j t (variable i upper) = one ls i (suc i) class.Upper upper (λ q. absurd (cc)) (one_on i)
-type_clear ls l i j t (group i k t open inner close) =
+type_clear ls l i j t (word _ lower) = one ls i (suc i) class.Lower lower (λ q. absurd (cc)) (one_on i)
+type_clear ls l i j t (variable _ upper) = one ls i (suc i) class.Upper upper (λ q. absurd (cc)) (one_on i)
+type_clear ls l i j t (group _ k _ open inner close) =
     join ls i (suc i) (suc k) (one ls i (suc i) class.Open open (λ q. absurd (cc)) (one_on i)) (join ls (suc i) k (suc k) (type_clear ls _ (suc i) k t inner) (one ls k (suc k) class.Close close (λ q. absurd (cc)) (one_on k)))
-type_clear ls l i j t (head i lower) = one ls i (suc i) class.Lower lower (λ q. absurd (cc)) (one_on i)
-type_clear ls l i j t (applied i k j u v f a) = join ls i k j (type_clear ls _ i k u f) (type_clear ls _ k j v a)
-type_clear ls l i j t (side_head i j t h) = type_clear ls _ i j t h
-type_clear ls l i j t (side_argument i j t h) = type_clear ls _ i j t h
-type_clear ls l i j t (target i j t h) = type_clear ls _ i j t h
-type_clear ls l i j t (arrow i k j u v s is r) =
+type_clear ls l i j t (head _ lower) = one ls i (suc i) class.Lower lower (λ q. absurd (cc)) (one_on i)
+type_clear ls l i j t (applied _ k _ u v f a) = join ls i k j (type_clear ls _ i k u f) (type_clear ls _ k j v a)
+type_clear ls l i j t (side_head _ _ _ h) = type_clear ls _ i j t h
+type_clear ls l i j t (side_argument _ _ _ h) = type_clear ls _ i j t h
+type_clear ls l i j t (target _ _ _ h) = type_clear ls _ i j t h
+type_clear ls l i j t (arrow _ k _ u v s is r) =
     join ls i k j (type_clear ls _ i k u s) (join ls k (suc k) j (one ls k (suc k) class.Arrow is (λ q. absurd (cc)) (one_on k)) (type_clear ls _ (suc k) j v r))
 
 -- a sentence ends at its first full stop
 record EndsFirst (ls : List Lexeme) (i j : ℕ) : Type 0 where
-  at : ℕ
-  clear : Clear ls i at
-  dot : class_at ls at ≡ class.Dot
-  end : j ≡ at + 1
+  pub at : ℕ
+  pub clear : Clear ls i at
+  pub dot : class_at ls at ≡ class.Dot
+  pub end : j ≡ at + 1
 
 body_stops : (ls : List Lexeme) (k : Keyword) (i e : ℕ) (l : Line) → IsBody ls k i e l → EndsFirst ls i e
-body_stops ls k i e l (kinds i j m e n ns a b (d, f)) = record { at = m; clear = join ls i j m (names_clear ls false i j ns a) (kind_clear ls j m n b); dot = d; end = f }
-body_stops ls k i e l (local_kinds i j e ns a (d, f)) = record { at = j; clear = names_clear ls false i j ns a; dot = d; end = f }
-body_stops ls k i e l (local_kinds_of i j m e n ns a b (d, f)) = record { at = m; clear = join ls i j m (names_clear ls false i j ns a) (kind_clear ls j m n b); dot = d; end = f }
-body_stops ls k i e l (constants i j m e ns t a b (d, f)) = record { at = m; clear = join ls i j m (names_clear ls false i j ns a) (type_clear ls _ j m t b); dot = d; end = f }
-body_stops ls k i e l (locals i j e ns a (d, f)) = record { at = j; clear = names_clear ls false i j ns a; dot = d; end = f }
-body_stops ls k i e l (locals_of i j m e ns t a b (d, f)) = record { at = m; clear = join ls i j m (names_clear ls false i j ns a) (type_clear ls _ j m t b); dot = d; end = f }
-body_stops ls k i e l (abbreviation i j m e n ns t a b (d, f)) = record { at = m; clear = join ls i j m (head_clear ls i j n ns a) (type_clear ls _ j m t b); dot = d; end = f }
-body_stops ls k i e l (accumulate i j e ns a (d, f)) = record { at = j; clear = names_clear ls true i j ns a; dot = d; end = f }
-body_stops ls k i e l (accum_sig i j e ns a (d, f)) = record { at = j; clear = names_clear ls true i j ns a; dot = d; end = f }
-body_stops ls k i e l (fixities i j e n x ns a b (d, f)) =
+body_stops ls k i e l (kinds _ j m _ n ns a b (d, f)) = record { at = m; clear = join ls i j m (names_clear ls false i j ns a) (kind_clear ls j m n b); dot = d; end = f }
+body_stops ls k i e l (local_kinds _ j _ ns a (d, f)) = record { at = j; clear = names_clear ls false i j ns a; dot = d; end = f }
+body_stops ls k i e l (local_kinds_of _ j m _ n ns a b (d, f)) = record { at = m; clear = join ls i j m (names_clear ls false i j ns a) (kind_clear ls j m n b); dot = d; end = f }
+body_stops ls k i e l (constants _ j m _ ns t a b (d, f)) = record { at = m; clear = join ls i j m (names_clear ls false i j ns a) (type_clear ls _ j m t b); dot = d; end = f }
+body_stops ls k i e l (locals _ j _ ns a (d, f)) = record { at = j; clear = names_clear ls false i j ns a; dot = d; end = f }
+body_stops ls k i e l (locals_of _ j m _ ns t a b (d, f)) = record { at = m; clear = join ls i j m (names_clear ls false i j ns a) (type_clear ls _ j m t b); dot = d; end = f }
+body_stops ls k i e l (abbreviation _ j m _ n ns t a b (d, f)) = record { at = m; clear = join ls i j m (head_clear ls i j n ns a) (type_clear ls _ j m t b); dot = d; end = f }
+body_stops ls k i e l (accumulate _ j _ ns a (d, f)) = record { at = j; clear = names_clear ls true i j ns a; dot = d; end = f }
+body_stops ls k i e l (accum_sig _ j _ ns a (d, f)) = record { at = j; clear = names_clear ls true i j ns a; dot = d; end = f }
+body_stops ls k i e l (fixities _ j _ n x ns a b (d, f)) =
     record { at = j + 1; clear = join ls i j (j + 1) (names_clear ls false i j ns a) (one ls j (j + 1) (class.Number b.written) b.there (λ q. absurd (cc)) refl); dot = d; end = f }
 
 line_stops : (ls : List Lexeme) (i j : ℕ) (l : Line) → IsLine ls i j l → EndsFirst ls i j
@@ -148,14 +148,14 @@ run_on s t c cs e = by (step s c) e
     by (Stops f) e = absurd (cc)
 
 spelled_clear : (ops : Operators) (ls : List Lexeme) (i j : ℕ) (cs : List Sym) → Spells ops ls i j cs → (s t : State) → run s cs ≡ Reached t → Clear ls i j
-spelled_clear ops ls i j cs (done i) s t e = empty ls i
-spelled_clear ops ls i j cs (token i j ds colon more) s t e =
+spelled_clear ops ls i j cs (done _) s t e = empty ls i
+spelled_clear ops ls i j cs (token _ _ ds colon more) s t e =
     let (u, f) = run_on s t (symbol_at ops ls i) ds e in
     join ls i (suc i) j (record { up = omega arith; none = λ m a b d. let z : m ≡ i = omega (arith, a, b) in stuck (sym (ap (class_at ls) z) ∙ d) }) (spelled_clear ops ls (suc i) j ds more u t f)
   where
     stuck : class_at ls i ≡ class.Dot → ⊥
     stuck d = let f = sym (ap (λ c. run s (c ∷ ds)) (dot_symbol ops ls i d) ∙ ap (go_on (λ t. run t ds) symbol.Other ds) (other_stops s.frames s.mode)) ∙ e in absurd (cc)
-spelled_clear ops ls i j cs (note i k j t ds colon type backslash more) s u e =
+spelled_clear ops ls i j cs (note _ k _ t ds colon type backslash more) s u e =
     let (v, f) = run_on s u (symbol.Binds (Some i)) ds e in
     join ls i (suc i) j (one ls i (suc i) class.Colon colon (λ q. absurd (cc)) (one_on i)) (join ls (suc i) k j (type_clear ls _ (suc i) k t type)
     (join ls k (suc k) j (one ls k (suc k) class.Backslash backslash (λ q. absurd (cc)) (one_on k)) (spelled_clear ops ls (suc k) j ds more v u f)))
@@ -172,10 +172,10 @@ no_keyword_there : (ops : Operators) (ls : List Lexeme) (i e : ℕ) (t : Tree) (
 no_keyword_there ops ls i e t k h d is = let (s, r) = term_read ops ls i e t h in by i e r.symbols r.spells s r.runs d is
   where
     by : (i e : ℕ) (cs : List Sym) → Spells ops ls i e cs → (s : State) → run (st [] Wants) cs ≡ Reached s → class_at ls e ≡ class.Dot → class_at ls i ≡ class.Keyword k → ⊥
-    by i e cs (done i) s run_is d is = let z = sym d ∙ is in absurd (cc)
-    by i e cs (token i e ds colon more) s run_is d is =
+    by i e cs (done _) s run_is d is = let z = sym d ∙ is in absurd (cc)
+    by i e cs (token _ _ ds colon more) s run_is d is =
         let f = sym (ap (λ c. run (st [] Wants) (c ∷ ds)) (keyword_symbol ops ls i k is) ∙ ap (go_on (λ t. run t ds) symbol.Other ds) (other_stops [] Wants)) ∙ run_is in absurd (cc)
-    by i e cs (note i m e t ds colon type backslash more) s run_is d is = let z = sym colon ∙ is in absurd (cc)
+    by i e cs (note _ m _ t ds colon type backslash more) s run_is d is = let z = sym colon ∙ is in absurd (cc)
 
 sentence_ends : (ops : Operators) (ls : List Lexeme) (i j : ℕ) (c : Clause) → IsSentence ops ls i j c → EndsFirst ls i j
 sentence_ends ops ls i j c (declares l h) = line_stops ls i j l h
@@ -199,13 +199,13 @@ past ls i l = ap class_in (slice_get_past ls i l)
 
 -- the next sentence begins behind it
 next_from : (ls : List Lexeme) (at i j : ℕ) → class_at ls at ≡ class.Dot → ((m : ℕ) → i ≤ m → m < at → class_at ls m ≡ class.Dot → ⊥) → i ≤ at → NextSentence ls i j → j ≡ at + 1
-next_from ls at i j d none low (stop_here i j e f) = by (cut i at)
+next_from ls at i j d none low (stop_here _ _ e f) = by (cut i at)
   where
     by : (i < at) ⊎ (at ≤ i) → j ≡ at + 1
     by (inl h) = absurd (none i (omega arith) h e)
     by (inr h) = omega (arith, f, h, low)
-next_from ls at i j d none low (at_last i l) = let z = sym (past ls at (omega (arith, l, low))) ∙ d in absurd (cc)
-next_from ls at i j d none low (later i j k never e more) =
+next_from ls at i j d none low (at_last _ l) = let z = sym (past ls at (omega (arith, l, low))) ∙ d in absurd (cc)
+next_from ls at i j d none low (later _ _ k never e more) =
     let up : k ≤ at = by (cut at k) in next_from ls at k j d (λ m a b. none m (omega (arith, a, e)) b) up more
   where
     by : (at < k) ⊎ (k ≤ at) → k ≤ at
@@ -216,9 +216,9 @@ next_is : (ls : List Lexeme) (i k j : ℕ) → EndsFirst ls i k → NextSentence
 next_is ls i k j s n = next_from ls s.at i j s.dot s.clear.none s.clear.up n ∙ sym s.end
 
 next_up : (ls : List Lexeme) (i j : ℕ) → NextSentence ls i j → i ≤ j
-next_up ls i j (stop_here i j e f) = omega (arith, f)
-next_up ls i j (at_last i l) = omega arith
-next_up ls i j (later i j k never e more) = let h = next_up ls k j more in omega (arith, h, e)
+next_up ls i j (stop_here _ _ e f) = omega (arith, f)
+next_up ls i j (at_last _ l) = omega arith
+next_up ls i j (later _ _ k never e more) = let h = next_up ls k j more in omega (arith, h, e)
 
 -- sentences one after the other, from the first on
 data Chain (ls : List Lexeme) : ℕ → List Clause → ℕ → Type 0 where
@@ -226,16 +226,16 @@ data Chain (ls : List Lexeme) : ℕ → List Clause → ℕ → Type 0 where
   onward : (i k n : ℕ) (s : Clause) (ss : List Clause) (now : Operators) → IsSentence now ls i k s → Chain ls k ss n → Chain ls i (s ∷ ss) n
 
 chain_last : (ls : List Lexeme) (i k j : ℕ) (ss : List Clause) (s : Clause) (now : Operators) → Chain ls i ss k → IsSentence now ls k j s → Chain ls i (ss ++ s ∷ []) j
-chain_last ls i k j ss s now (stopped i k e) h = subst (λ i. Chain ls i (s ∷ []) j) (sym e) (onward k j j s [] now h (stopped j j refl))
-chain_last ls i k j ss s now (onward i m k t ts now' sentence more) h = onward i m j t (ts ++ s ∷ []) now' sentence (chain_last ls m k j ts s now more h)
+chain_last ls i k j ss s now (stopped _ _ e) h = subst (λ i. Chain ls i (s ∷ []) j) (sym e) (onward k j j s [] now h (stopped j j refl))
+chain_last ls i k j ss s now (onward _ m _ t ts now' sentence more) h = onward i m j t (ts ++ s ∷ []) now' sentence (chain_last ls m k j ts s now more h)
 
 chain_of : (ls : List Lexeme) (ops after : Operators) (i j : ℕ) (ss : List Clause) → AreSentences ls ops i after j ss → Chain ls i ss j
 chain_of ls ops after i j ss no_sentence = stopped i i refl
-chain_of ls ops after i j ss (one_sentence now after k j us ss s before h follows e) = subst (λ l. Chain ls i l j) (sym e) (chain_last ls i k j us s now (chain_of ls ops now i k us before) h)
+chain_of ls ops after i j ss (one_sentence now _ k _ us _ s before h follows e) = subst (λ l. Chain ls i l j) (sym e) (chain_last ls i k j us s now (chain_of ls ops now i k us before) h)
 
 chain_up : (ls : List Lexeme) (i n : ℕ) (ss : List Clause) → Chain ls i ss n → i ≤ n
-chain_up ls i n ss (stopped i n e) = omega (arith, e)
-chain_up ls i n ss (onward i k n s ts now h more) =
+chain_up ls i n ss (stopped _ _ e) = omega (arith, e)
+chain_up ls i n ss (onward _ k _ s ts now h more) =
     let a = sentence_ends now ls i k s h in
     let up = a.clear.up in
     let e = a.end in
@@ -268,8 +268,8 @@ module _ (ls : List Lexeme) (all : List Clause) (header : IsHeader ls keyword.Mo
   no_line i j l h line = let z = sym (past ls i h) ∙ line.there in absurd (cc)
 
   one_read : (i e j : ℕ) (ds es : List Line) (l : Line) → Read ls all i ds → IsLine ls i e l → refers l ≡ true → NextSentence ls i j → es ≡ ds ++ l ∷ [] → Read ls all j es
-  one_read i e j ds es l (at_start i ds z none) line r next is = absurd (other_keyword ls 0 keyword.Module header.first refl e l (subst (λ i. IsLine ls i e l) z line) r)
-  one_read i e j ds es l (between i ds ps rest whole so chain) line r next is = by rest whole chain
+  one_read i e j ds es l (at_start _ _ z none) line r next is = absurd (other_keyword ls 0 keyword.Module header.first refl e l (subst (λ i. IsLine ls i e l) z line) r)
+  one_read i e j ds es l (between _ _ ps rest whole so chain) line r next is = by rest whole chain
     where
       sentence : (k : ℕ) (s : Clause) (ss : List Clause) (now : Operators) → all ≡ ps ++ s ∷ ss → IsSentence now ls i k s → Chain ls k ss (length ls) → Read ls all j es
       sentence k s ss now whole (declares m h) more =
@@ -281,15 +281,15 @@ module _ (ls : List Lexeme) (all : List Clause) (header : IsHeader ls keyword.Mo
       sentence k s ss now whole (says d t h dot f) more = absurd (no_keyword_there now ls i d t line.word h dot line.there)
 
       by : (rest : List Clause) → all ≡ ps ++ rest → Chain ls i rest (length ls) → Read ls all j es
-      by rest whole (stopped i n e2) = absurd (no_line i e l (omega (arith, e2)) line)
-      by rest whole (onward i k n s ss now h more) = sentence k s ss now whole h more
-  one_read i e j ds es l (behind i ds h so) line r next is = absurd (no_line i e l h line)
+      by rest whole (stopped _ _ e2) = absurd (no_line i e l (omega (arith, e2)) line)
+      by rest whole (onward _ k _ s ss now h more) = sentence k s ss now whole h more
+  one_read i e j ds es l (behind _ _ h so) line r next is = absurd (no_line i e l h line)
 
   none_read : (i j : ℕ) (ds : List Line) → Read ls all i ds → NoReference ls i → NextSentence ls i j → Read ls all j ds
-  none_read i j ds (at_start i ds z none) no next =
+  none_read i j ds (at_start _ _ z none) no next =
       let end : j ≡ 3 = next_is ls 0 3 j (header_ends ls keyword.Module header) (subst (λ i. NextSentence ls i j) z next) in
       between j ds [] all refl none (subst (λ k. Chain ls k all (length ls)) (sym end) chain)
-  none_read i j ds (between i ds ps rest whole so chain) no next = by rest whole chain
+  none_read i j ds (between _ _ ps rest whole so chain) no next = by rest whole chain
     where
       quiet : (k : ℕ) (s : Clause) (now : Operators) → IsSentence now ls i k s → referring (s ∷ []) ≡ []
       quiet k s now (declares m h) = line (refers m) refl
@@ -300,35 +300,35 @@ module _ (ls : List Lexeme) (all : List Clause) (header : IsHeader ls keyword.Mo
       quiet k s now (says d t h dot f) = refl
 
       by : (rest : List Clause) → all ≡ ps ++ rest → Chain ls i rest (length ls) → Read ls all j ds
-      by rest whole (stopped i n e2) = let up = next_up ls i j next in behind j ds (omega (arith, e2, up)) (so ∙ ap referring (sym (append-nil ps) ∙ sym whole))
-      by rest whole (onward i k n s ss now h more) =
+      by rest whole (stopped _ _ e2) = let up = next_up ls i j next in behind j ds (omega (arith, e2, up)) (so ∙ ap referring (sym (append-nil ps) ∙ sym whole))
+      by rest whole (onward _ k _ s ss now h more) =
           let end : j ≡ k = next_is ls i k j (sentence_ends now ls i k s h) next in
           between j ds (ps ++ s ∷ []) ss (whole ∙ sym (append_assoc ps (s ∷ []) ss)) (so ∙ sym (append-nil (referring ps)) ∙ ap (λ ls. referring ps ++ ls) (sym (quiet k s now h)) ∙ sym (referring_last ps s))
           (subst (λ k. Chain ls k ss (length ls)) (sym end) more)
-  none_read i j ds (behind i ds h so) no next = let up = next_up ls i j next in behind j ds (omega (arith, h, up)) so
+  none_read i j ds (behind _ _ h so) no next = let up = next_up ls i j next in behind j ds (omega (arith, h, up)) so
 
   lines_read : (j : ℕ) (es : List Line) → Refer ls j es → Read ls all j es
   lines_read j es none_yet = at_start 0 [] refl refl
-  lines_read j es (one_refers i e j ds es l before line r next is) = one_read i e j ds es l (lines_read i ds before) line r next is
-  lines_read j es (none_refers i j ds before no next) = none_read i j ds (lines_read i ds before) no next
+  lines_read j es (one_refers i e _ ds _ l before line r next is) = one_read i e j ds es l (lines_read i ds before) line r next is
+  lines_read j es (none_refers i _ _ before no next) = none_read i j es (lines_read i es before) no next
 
   -- at the end of the text they are all
   all_read : (es : List Line) → Refer ls (length ls) es → es ≡ referring all
   all_read es r = by (lines_read (length ls) es r)
     where
       by : Read ls all (length ls) es → es ≡ referring all
-      by (at_start j es z none) = let f = sym (past ls 0 (omega (arith, z))) ∙ header.first in absurd (cc)
-      by (between j es ps rest whole so chain) = last rest whole chain
+      by (at_start _ _ z none) = let f = sym (past ls 0 (omega (arith, z))) ∙ header.first in absurd (cc)
+      by (between _ _ ps rest whole so chain) = last rest whole chain
         where
           last : (rest : List Clause) → all ≡ ps ++ rest → Chain ls (length ls) rest (length ls) → es ≡ referring all
-          last rest whole (stopped i n e) = so ∙ ap referring (sym (append-nil ps) ∙ sym whole)
-          last rest whole (onward i k n s ss now h more) =
+          last rest whole (stopped _ _ e) = so ∙ ap referring (sym (append-nil ps) ∙ sym whole)
+          last rest whole (onward _ k _ s ss now h more) =
               let a = sentence_ends now ls (length ls) k s h in
               let up = a.clear.up in
               let e = a.end in
               let b = chain_up ls k (length ls) ss more in
               absurd (omega (arith, up, e, b))
-      by (behind j es h so) = so
+      by (behind _ _ h so) = so
 
 -- what declarations hand out
 shown_words : (spot : ℕ → Spot) (d : Declaration) (l : Line) → IsShown spot d l → named_words d ≡ map spot (words_of l)
