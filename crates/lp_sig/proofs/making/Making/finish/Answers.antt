@@ -1,4 +1,4 @@
-use Rattle.std.proofs.Common.{◌≡◌, map, ap, List, subst, sym, ◌∙◌}
+use Rattle.std.proofs.Common.{◌≡◌, ◌+◌, ◌≤◌, length, map, ap, List, subst, sym, ◌∙◌}
 use Rattle.std.proofs.lemmas.Result.{IfOk-weaker}
 use Rattle.lp_sig.specs.Rows.{Row, number_row}
 use Rattle.lp_sig.specs.Constants.{Written, KnowsConstants, AreConstants, HaveNumbers}
@@ -6,6 +6,8 @@ use Rattle.lp_sig.specs.Abbreviations.{Seen}
 use Rattle.lp_sig.specs.Entries.{parameters_row, AreAbbreviations}
 use Rattle.lp_sig.specs.Knowing.{head_row}
 use Rattle.lp_sig.specs.Modules.{numbered_names}
+use Rattle.lp_base.specs.declared.limits.TheConstants.{END_OF_NUMBERS}
+use Rattle.lp_sig.specs.Sights.{AreTheirEntries}
 use Rattle.lp_sig.specs.Worded.{names_so_far}
 use Rattle.lp_sig.specs.Holding.{KnowsSeen}
 use Rattle.lp_sig.proofs.Blame.{both_ok}
