@@ -1,4 +1,4 @@
-use Rattle.std.proofs.Common.{◌≡◌, length, map, arith}
+use Rattle.std.proofs.Common.{◌≡◌, length, map, arith, ◌∷◌, []}
 use Rattle.std.proofs.lemmas.List.{length-map}
 use Rattle.lp_sig.proofs.Constancy.{known_more, typed_if_more}
 use Rattle.lp_sig.proofs.Worded.{words_new}
