@@ -42,7 +42,8 @@ high names i =
     ap (λ b. if b then slice_get (names_in standard_kinds) (8 + i) else slice_get names ((8 + i) - 8)) (le-ltb (8 + i) 8 (omega arith)) ∙ ap (slice_get names) z
 
 -- a name of the language is found at its number
-pub standard_number : (k : ℕ) (n : List ℕ) (rows : List (Row (ℕ × ℕ))) → slice_get (names_in standard_kinds) k ≡ Some n → (r : ℕ × ℕ) × (found n (standard_kinds ++ rows) ≡ Some r) × (r.0 ≡ k) × (k < 4)
+pub standard_number : (k : ℕ) (n : List ℕ) (rows : List (Row (ℕ × ℕ))) → slice_get (names_in standard_kinds) k ≡ Some n → (r : ℕ × ℕ) ×
+    (found n (standard_kinds ++ rows) ≡ Some r) × (r.0 ≡ k) × (k < 4)
 standard_number zero n rows e = subst (λ n. (r : ℕ × ℕ) × (found n (standard_kinds ++ rows) ≡ Some r) × (r.0 ≡ 0) × (0 < 4)) (same_Some _ n e) ((0, 0), refl, refl, omega arith)
 standard_number (suc zero) n rows e = subst (λ n. (r : ℕ × ℕ) × (found n (standard_kinds ++ rows) ≡ Some r) × (r.0 ≡ 1) × (1 < 4)) (same_Some _ n e) ((1, 0), refl, refl, omega arith)
 standard_number (suc (suc zero)) n rows e = subst (λ n. (r : ℕ × ℕ) × (found n (standard_kinds ++ rows) ≡ Some r) × (r.0 ≡ 2) × (2 < 4)) (same_Some _ n e) ((2, 0), refl, refl, omega arith)
@@ -79,7 +80,8 @@ pub list_parts : (t u : NamedTy) (ts us : NamedTys) → more_named t ts ≡ more
 list_parts t u ts us e = (cc, cc)
 
 -- the numbers of one name in a copy and in the copy above
-module _ (above m : Module) (a c : Copy) (from : Next) (sa : IsNumberedSignature above.signature) (sm : IsNumberedSignature m.signature) (is : IsBelow above a m from c) (ka : (k : ℕ) → k < 8 → a.kinds k ≡ k) where
+module _ (above m : Module) (a c : Copy) (from : Next) (sa : IsNumberedSignature above.signature) (sm : IsNumberedSignature m.signature)
+    (is : IsBelow above a m from c) (ka : (k : ℕ) → k < 8 → a.kinds k ≡ k) where
   kinds_agree : (n : List ℕ) (k j : ℕ) → kind_name (kind_names above.signature) k ≡ Some n → kind_name (kind_names m.signature) j ≡ Some n → IsExportedKind m j → a.kinds k ≡ c.kinds j
   kinds_agree n k j e f (inl l) = by (named_kind above.signature n k e)
     where
@@ -101,7 +103,8 @@ module _ (above m : Module) (a c : Copy) (from : Next) (sa : IsNumberedSignature
       own : (x : KindEntry) × (slice_get m.signature.kinds.items i ≡ Some x)
       own = get_below m.signature.kinds.items i l
 
-      name_own : (names : List (List ℕ)) (es : List KindEntry) (x : KindEntry) (i : ℕ) → names ≡ map (λ e. e.name.items) es → slice_get es i ≡ Some x → (slice_get names i ≡ Some x.name.items) × (get_or names i [] ≡ x.name.items)
+      name_own : (names : List (List ℕ)) (es : List KindEntry) (x : KindEntry) (i : ℕ) → names ≡ map (λ e. e.name.items) es → slice_get es i ≡ Some x
+          → (slice_get names i ≡ Some x.name.items) × (get_or names i [] ≡ x.name.items)
       name_own names es x i e at = (ap (λ l. slice_get l i) e ∙ there es i at, ap (λ l. get_or l i []) e ∙ got es i at)
         where
           there : (es : List KindEntry) (i : ℕ) → slice_get es i ≡ Some x → slice_get (map (λ e. e.name.items) es) i ≡ Some x.name.items
@@ -130,10 +133,12 @@ module _ (above m : Module) (a c : Copy) (from : Next) (sa : IsNumberedSignature
           let g = ap (λ p. p.0) (same_Some r (8 + i, own.0.arity) (sym found_r ∙ ap (λ w. found w (standard_kinds ++ map kind_row m.signature.kinds.items)) (sym is_n) ∙ sm.kinds i own.0 own.1)) in
           absurd (omega (arith, g, is_r, small))
       by (of_signature q x y at_q name) =
-          ap a.kinds y ∙ sym (number ∙ ap (λ o. or_none (option_map (λ r. a.kinds r.0) o)) (ap (λ w. found w (standard_kinds ++ map kind_row above.signature.kinds.items)) (sym name) ∙ sa.kinds q x at_q))
+          ap a.kinds y ∙ sym (number ∙ ap (λ o. or_none (option_map (λ r. a.kinds r.0) o))
+              (ap (λ w. found w (standard_kinds ++ map kind_row above.signature.kinds.items)) (sym name) ∙ sa.kinds q x at_q))
 
   mutual
-    types_agree : (T U : Ty) → named (kind_name (kind_names above.signature)) T ≡ named (kind_name (kind_names m.signature)) U → IsWhole (named (kind_name (kind_names m.signature)) U) → IsExportedType m U → mapped_type (map_of a) T ≡ mapped_type (map_of c) U
+    types_agree : (T U : Ty) → named (kind_name (kind_names above.signature)) T ≡ named (kind_name (kind_names m.signature)) U → IsWhole
+        (named (kind_name (kind_names m.signature)) U) → IsExportedType m U → mapped_type (map_of a) T ≡ mapped_type (map_of c) U
     types_agree (var x) (var y) e w o = let z : x ≡ y = cc in ap var z
     types_agree (var x) (param k) e w o = absurd (cc)
     types_agree (var x) (con k us) e w o = absurd (cc)
@@ -145,7 +150,8 @@ module _ (above m : Module) (a c : Copy) (from : Next) (sa : IsNumberedSignature
     types_agree (con k ts) (var y) e w o = absurd (cc)
     types_agree (con k ts) (param j) e w o = absurd (cc)
     types_agree (con k ts) (con j us) e ((n, h), w) (o, os) =
-        let names = con_name (kind_name (kind_names above.signature) k) (kind_name (kind_names m.signature) j) (all_named (kind_name (kind_names above.signature)) ts) (all_named (kind_name (kind_names m.signature)) us) e in
+        let names = con_name (kind_name (kind_names above.signature) k) (kind_name (kind_names m.signature) j)
+            (all_named (kind_name (kind_names above.signature)) ts) (all_named (kind_name (kind_names m.signature)) us) e in
         let f = kinds_agree n k j (names.0 ∙ h) h o in
         let g = all_agree ts us names.1 w os in
         cc
@@ -154,17 +160,20 @@ module _ (above m : Module) (a c : Copy) (from : Next) (sa : IsNumberedSignature
     types_agree (arrow b d) (param j) e w o = absurd (cc)
     types_agree (arrow b d) (con j us) e w o = absurd (cc)
     types_agree (arrow b d) (arrow f g) e (v, w) (o, p) =
-        let parts = arrow_parts (named (kind_name (kind_names above.signature)) b) (named (kind_name (kind_names above.signature)) d) (named (kind_name (kind_names m.signature)) f) (named (kind_name (kind_names m.signature)) g) e in
+        let parts = arrow_parts (named (kind_name (kind_names above.signature)) b) (named (kind_name (kind_names above.signature)) d)
+            (named (kind_name (kind_names m.signature)) f) (named (kind_name (kind_names m.signature)) g) e in
         let x = types_agree b f parts.0 v o in
         let y = types_agree d g parts.1 w p in
         cc
 
-    all_agree : (ts us : Tys) → all_named (kind_name (kind_names above.signature)) ts ≡ all_named (kind_name (kind_names m.signature)) us → AreWhole (all_named (kind_name (kind_names m.signature)) us) → AreExportedTypes m us → mapped_types (map_of a) ts ≡ mapped_types (map_of c) us
+    all_agree : (ts us : Tys) → all_named (kind_name (kind_names above.signature)) ts ≡ all_named (kind_name (kind_names m.signature)) us → AreWhole
+        (all_named (kind_name (kind_names m.signature)) us) → AreExportedTypes m us → mapped_types (map_of a) ts ≡ mapped_types (map_of c) us
     all_agree no_types no_types e w o = refl
     all_agree no_types (types u us) e w o = absurd (cc)
     all_agree (types t ts) no_types e w o = absurd (cc)
     all_agree (types t ts) (types u us) e (v, w) (o, p) =
-        let parts = list_parts (named (kind_name (kind_names above.signature)) t) (named (kind_name (kind_names m.signature)) u) (all_named (kind_name (kind_names above.signature)) ts) (all_named (kind_name (kind_names m.signature)) us) e in
+        let parts = list_parts (named (kind_name (kind_names above.signature)) t) (named (kind_name (kind_names m.signature)) u)
+            (all_named (kind_name (kind_names above.signature)) ts) (all_named (kind_name (kind_names m.signature)) us) e in
         let x = types_agree t u parts.0 v o in
         let y = all_agree ts us parts.1 w p in
         cc
@@ -173,8 +182,11 @@ module _ (above m : Module) (a c : Copy) (from : Next) (sa : IsNumberedSignature
 abbrev IsFull : Declared → Copy → Module → Type 0
 IsFull d c m = (i : ℕ) (e : ConstantEntry) → slice_get m.signature.constants.items i ≡ Some e → d (c.constants (32 + i)) ≡ Some (scheme_in c (entry_scheme m.signature.bank e))
 
-module _ (d : Declared) (above m : Module) (a c : Copy) (from : Next) (sa : IsNumberedSignature above.signature) (sm : IsNumberedSignature m.signature) (is : IsBelow above a m from c) (ka : (k : ℕ) → k < 8 → a.kinds k ≡ k) (joined : IsJoined above m) (full : IsFull d a above)
-    (hidden : (i : ℕ) (e : ConstantEntry) → slice_get m.signature.constants.items i ≡ Some e → (j : ℕ) → place_in m.hidden_constants.items (32 + i) ≡ Some j → d (c.constants (32 + i)) ≡ Some (scheme_in c (entry_scheme m.signature.bank e))) where
+module _ (d : Declared) (above m : Module) (a c : Copy) (from : Next) (sa : IsNumberedSignature above.signature)
+    (sm : IsNumberedSignature m.signature) (is : IsBelow above a m from c) (ka : (k : ℕ) → k < 8 → a.kinds k ≡ k) (joined : IsJoined above m)
+    (full : IsFull d a above)
+    (hidden : (i : ℕ) (e : ConstantEntry) → slice_get m.signature.constants.items i ≡ Some e → (j : ℕ) → place_in m.hidden_constants.items (32 + i) ≡
+        Some j → d (c.constants (32 + i)) ≡ Some (scheme_in c (entry_scheme m.signature.bank e))) where
   full_below : IsFull d c m
   full_below i e at = by (place_in m.hidden_constants.items (32 + i)) refl
     where
@@ -204,19 +216,22 @@ each_right P (x ∷ xs) ys (h, more) = each_right P xs ys more
 
 abbrev HasHidden : List Module → Declared → Copy → Type 0
 HasHidden modules d c =
-    (m : Module) → slice_get modules c.member ≡ Some m → (i : ℕ) (e : ConstantEntry) → slice_get m.signature.constants.items i ≡ Some e → (j : ℕ) → place_in m.hidden_constants.items (32 + i) ≡ Some j → d (c.constants (32 + i)) ≡ Some (scheme_in c (entry_scheme m.signature.bank e))
+    (m : Module) → slice_get modules c.member ≡ Some m → (i : ℕ) (e : ConstantEntry) → slice_get m.signature.constants.items i ≡ Some e → (j : ℕ) →
+        place_in m.hidden_constants.items (32 + i) ≡ Some j → d (c.constants (32 + i)) ≡ Some (scheme_in c (entry_scheme m.signature.bank e))
 
 abbrev HasAll : List Module → Declared → Copy → Type 0
 HasAll modules d c = (m : Module) → slice_get modules c.member ≡ Some m → IsFull d c m
 
 module _ (modules : List Module) (j : AreJoined modules) (d : Declared) where
-  all_full : {above : Module} {a : Copy} {before after : Next} {ks : List ℕ} {cs : List Copy} → CopiesBelow modules above a before ks cs after → (k : ℕ) → slice_get modules k ≡ Some above → ((u : ℕ) → Contains ks u → Contains (get_or (uses_of modules) k []) u) →
+  all_full : {above : Module} {a : Copy} {before after : Next} {ks : List ℕ} {cs : List Copy} → CopiesBelow modules above a before ks cs after →
+      (k : ℕ) → slice_get modules k ≡ Some above → ((u : ℕ) → Contains ks u → Contains (get_or (uses_of modules) k []) u) →
       IsFull d a above → ((k : ℕ) → k < 8 → a.kinds k ≡ k) → EachOf (HasHidden modules d) cs → EachOf (HasAll modules d) cs
   all_full (none_below above a n) k at uses full ka hidden = tt
   all_full (one_below above a before middle after m c ks below others cs at_m b is more e) k at uses full ka hidden =
       let split = subst (EachOf (HasHidden modules d)) e hidden in
       let own = each_right (HasHidden modules d) below (c ∷ others) split in
-      let full_c = full_below d above m a c middle (j.numbered k above at) (j.numbered c.member m at_m) is ka (j.joined k c.member above m at (uses c.member (Contains_head c.member ks)) at_m) full (own.0 m at_m) in
+      let full_c = full_below d above m a c middle (j.numbered k above at) (j.numbered c.member m at_m) is ka
+          (j.joined k c.member above m at (uses c.member (Contains_head c.member ks)) at_m) full (own.0 m at_m) in
       let lower = all_full b c.member at_m (λ u h. h) full_c is.kinds.standard (each_left (HasHidden modules d) below (c ∷ others) split) in
       let upper = all_full more k at (λ u h. uses u (Contains_tail c.member u ks h)) full ka own.1 in
       subst (EachOf (HasAll modules d)) (sym e) (each_append (HasAll modules d) below (c ∷ others) lower ((λ q at_q. subst (IsFull d c) (same_Some m q (sym at_m ∙ at_q)) full_c), upper))

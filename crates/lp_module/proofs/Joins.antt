@@ -37,7 +37,8 @@ taken_at (suc n) (y ∷ ys) zero x l e = e
 taken_at (suc n) (y ∷ ys) (suc i) x l e = taken_at n ys i x (omega (arith, l)) e
 
 -- the name at a place of the first names
-pub first_name : {E F : Type 0} (name : E → List ℕ) (other : F → List ℕ) (es : List E) (fs : List F) (i : ℕ) (e : E) (f : F) → take (length fs) (map name es) ≡ map other fs → slice_get es i ≡ Some e → slice_get fs i ≡ Some f → name e ≡ other f
+pub first_name : {E F : Type 0} (name : E → List ℕ) (other : F → List ℕ) (es : List E) (fs : List F) (i : ℕ) (e : E) (f : F) → take (length fs)
+    (map name es) ≡ map other fs → slice_get es i ≡ Some e → slice_get fs i ≡ Some f → name e ≡ other f
 first_name name other es fs i e f same at there =
     same_Some (name e) (other f)
     (sym (taken_at (length fs) (map name es) i (name e) (slice_get_within fs i f there) (named_at name es i e at)) ∙ ap (λ l. slice_get l i) same ∙ named_at other fs i f there)
@@ -54,7 +55,8 @@ found_among n (r ∷ rs) a e = by (bytes_eq n r.0) (found_among n rs a) e
 pub not_standard : (own : Signature) → IsApart own → (i : ℕ) (x : ConstantEntry) → slice_get own.constants.items i ≡ Some x → (n : ℕ) → found x.name.items standard_constants ≡ Some n → ⊥
 not_standard own apart i x at n e =
     true≢false (sym (found_among x.name.items standard_constants n e) ∙
-    unknown (names_in standard_constants) (constants_of own) (subst (Apart (names_in standard_constants)) apart.constants (names_apart (names_in standard_constants) (constants_of own))) i x.name.items (named_at (λ e. e.name.items) own.constants.items i x at))
+    unknown (names_in standard_constants) (constants_of own) (subst (Apart (names_in standard_constants)) apart.constants
+        (names_apart (names_in standard_constants) (constants_of own))) i x.name.items (named_at (λ e. e.name.items) own.constants.items i x at))
 
 -- where an element stands
 pub place_of : {E : Type 0} (es : List E) (e : E) → Contains es e → (i : ℕ) × (slice_get es i ≡ Some e)
@@ -110,21 +112,25 @@ module _ (m : Module) (own : Signature) (o : IsOrderly m) (kinds_are : o.exporte
     type_exported (arrow a b) (param j) e w = absurd (cc)
     type_exported (arrow a b) (con j us) e w = absurd (cc)
     type_exported (arrow a b) (arrow c d) e (v, w) =
-        let p = arrow_parts (named (kind_name (kind_names m.signature)) a) (named (kind_name (kind_names m.signature)) b) (named (kind_name (kind_names own)) c) (named (kind_name (kind_names own)) d) e in
+        let p = arrow_parts (named (kind_name (kind_names m.signature)) a) (named (kind_name (kind_names m.signature)) b)
+            (named (kind_name (kind_names own)) c) (named (kind_name (kind_names own)) d) e in
         (type_exported a c p.0 v, type_exported b d p.1 w)
 
-    all_exported : (ts us : Tys) → all_named (kind_name (kind_names m.signature)) ts ≡ all_named (kind_name (kind_names own)) us → AreWhole (all_named (kind_name (kind_names own)) us) → AreExportedTypes m ts
+    all_exported : (ts us : Tys) → all_named (kind_name (kind_names m.signature)) ts ≡ all_named (kind_name (kind_names own)) us → AreWhole
+        (all_named (kind_name (kind_names own)) us) → AreExportedTypes m ts
     all_exported no_types us e w = tt
     all_exported (types t ts) no_types e w = absurd (cc)
     all_exported (types t ts) (types u us) e (v, w) =
-        let p = list_parts (named (kind_name (kind_names m.signature)) t) (named (kind_name (kind_names own)) u) (all_named (kind_name (kind_names m.signature)) ts) (all_named (kind_name (kind_names own)) us) e in
+        let p = list_parts (named (kind_name (kind_names m.signature)) t) (named (kind_name (kind_names own)) u)
+            (all_named (kind_name (kind_names m.signature)) ts) (all_named (kind_name (kind_names own)) us) e in
         (type_exported t u p.0 v, all_exported ts us p.1 w)
 
 -- the same entries of two signatures that say the same
 pub same_entry : (u own : Signature) → AreSameSignatures u own → (i : ℕ) (x : ConstantEntry) → slice_get own.constants.items i ≡ Some x →
     (y : ConstantEntry) × (slice_get u.constants.items i ≡ Some y) × (y.name.items ≡ x.name.items) × (y.type_vars ≡ x.type_vars) × (named_in u y.scheme ≡ named_in own x.scheme)
 same_entry u own same i x at =
-    let row : slice_get (map (typed_row u.bank) u.constants.items) i ≡ Some (typed_row own.bank x) = ap (λ l. slice_get l i) same.constants ∙ slice_get-map (typed_row own.bank) own.constants.items i ∙ ap (option_map (typed_row own.bank)) at in
+    let row : slice_get (map (typed_row u.bank) u.constants.items) i ≡ Some (typed_row own.bank x) = ap (λ l. slice_get l i) same.constants ∙
+        slice_get-map (typed_row own.bank) own.constants.items i ∙ ap (option_map (typed_row own.bank)) at in
     by (slice_get u.constants.items i) refl (sym (slice_get-map (typed_row u.bank) u.constants.items i) ∙ row)
   where
     names : (es fs : List KindEntry) → map kind_row es ≡ map kind_row fs → map (λ e. e.name.items) es ≡ map (λ e. e.name.items) fs
@@ -146,23 +152,27 @@ same_entry u own same i x at =
         (y, e, ap (λ r. r.0) r, ap (λ r. r.1.1) r, (λ i. named (kind_name (ns i)) (r i).1.2))
 
 -- the entry of a module for a constant of its own signature
-pub own_entry : (m : Module) (own : Signature) → IsNumberedSignature m.signature → IsApart own → (i : ℕ) (e : ConstantEntry) → slice_get m.signature.constants.items i ≡ Some e → (x : ConstantEntry) → slice_get own.constants.items i ≡ Some x → e.name.items ≡ x.name.items →
+pub own_entry : (m : Module) (own : Signature) → IsNumberedSignature m.signature → IsApart own → (i : ℕ) (e : ConstantEntry) → slice_get
+    m.signature.constants.items i ≡ Some e → (x : ConstantEntry) → slice_get own.constants.items i ≡ Some x → e.name.items ≡ x.name.items →
     HasNamed m.signature x.name.items x.type_vars (named_in own x.scheme) → (e.type_vars ≡ x.type_vars) × (named_in m.signature e.scheme ≡ named_in own x.scheme)
 own_entry m own sm apart i e at x at_x name (standard_one n f t) = absurd (not_standard own apart i x at_x n f)
 own_entry m own sm apart i e at x at_x name (declared_one f has name_f count named_f) =
     let (j, at_f) = place_of m.signature.constants.items f has in
-    let g = same_Some (32 + j) (32 + i) (sym (sm.constants j f at_f).1 ∙ ap (λ w. found w (standard_constants ++ map number_row m.signature.constants.items)) (name_f ∙ sym name) ∙ (sm.constants i e at).1) in
+    let g = same_Some (32 + j) (32 + i) (sym (sm.constants j f at_f).1 ∙ ap (λ w. found w
+        (standard_constants ++ map number_row m.signature.constants.items)) (name_f ∙ sym name) ∙ (sm.constants i e at).1) in
     let z : j ≡ i = omega (arith, g) in
     let is : f ≡ e = same_Some f e (sym at_f ∙ ap (slice_get m.signature.constants.items) z ∙ at) in
     (ap (λ (e : ConstantEntry). e.type_vars) (sym is) ∙ count, ap (λ (e : ConstantEntry). named_in m.signature e.scheme) (sym is) ∙ named_f)
 
 -- joined
-pub joined_by : (above m : Module) (own u : Signature) (o : IsOrderly m) → o.exported_kinds ≡ length own.kinds.items → o.exported_constants ≡ length own.constants.items → IsNumberedSignature m.signature → HasOwnFirst own m.signature → IsApart own → IsOrdered own →
+pub joined_by : (above m : Module) (own u : Signature) (o : IsOrderly m) → o.exported_kinds ≡ length own.kinds.items → o.exported_constants ≡ length
+    own.constants.items → IsNumberedSignature m.signature → HasOwnFirst own m.signature → IsApart own → IsOrdered own →
     SeesAlike own m.signature → AreSameSignatures u own → SeesAlike u above.signature → IsJoined above m
 joined_by above m own u o kinds_are constants_are sm first apart ordered own_seen same seen i e at free =
     let l = exported_below m o i e at free in
     let (x, at_x) = get_below own.constants.items i (omega (arith, l, constants_are)) in
-    let name : e.name.items ≡ x.name.items = first_name (λ (e : ConstantEntry). e.name.items) (λ (e : ConstantEntry). e.name.items) m.signature.constants.items own.constants.items i e x first.constants at at_x in
+    let name : e.name.items ≡ x.name.items = first_name (λ (e : ConstantEntry). e.name.items) (λ (e : ConstantEntry). e.name.items)
+        m.signature.constants.items own.constants.items i e x first.constants at at_x in
     let (y, at_y, name_y, count_y, named_y) = same_entry u own same i x at_x in
     let here = of_own x at_x name (own_seen x (stands own.constants.items i x at_x)) in
     let (z, at_z, name_z, count_z, named_z) = of_above x y at_x name_y (seen y (stands u.constants.items i y at_y)) in
@@ -180,11 +190,13 @@ joined_by above m own u o kinds_are constants_are sm first apart ordered own_see
     whole_at : (x : ConstantEntry) → slice_get own.constants.items i ≡ Some x → IsWhole (named_in own x.scheme)
     whole_at x at_x = subst (λ x. IsWhole (named_in own x.scheme)) (get_or_from_slice_get own.constants.items i x x at_x) (ordered.whole i x (slice_get_within own.constants.items i x at_x))
 
-    of_own : (x : ConstantEntry) → slice_get own.constants.items i ≡ Some x → e.name.items ≡ x.name.items → HasNamed m.signature x.name.items x.type_vars (named_in own x.scheme) → (e.type_vars ≡ x.type_vars) × (named_in m.signature e.scheme ≡ named_in own x.scheme)
+    of_own : (x : ConstantEntry) → slice_get own.constants.items i ≡ Some x → e.name.items ≡ x.name.items → HasNamed m.signature x.name.items
+        x.type_vars (named_in own x.scheme) → (e.type_vars ≡ x.type_vars) × (named_in m.signature e.scheme ≡ named_in own x.scheme)
     of_own x at_x name h = own_entry m own sm apart i e at x at_x name h
 
     of_above : (x y : ConstantEntry) → slice_get own.constants.items i ≡ Some x → y.name.items ≡ x.name.items → HasNamed above.signature y.name.items y.type_vars (named_in u y.scheme) →
-        (z : ℕ × ConstantEntry) × (slice_get above.signature.constants.items z.0 ≡ Some z.1) × (z.1.name.items ≡ y.name.items) × (z.1.type_vars ≡ y.type_vars) × (named_in above.signature z.1.scheme ≡ named_in u y.scheme)
+        (z : ℕ × ConstantEntry) × (slice_get above.signature.constants.items z.0 ≡ Some z.1) × (z.1.name.items ≡ y.name.items) ×
+            (z.1.type_vars ≡ y.type_vars) × (named_in above.signature z.1.scheme ≡ named_in u y.scheme)
     of_above x y at_x name_y (standard_one n f t) = absurd (not_standard own apart i x at_x n (ap (λ w. found w standard_constants) (sym name_y) ∙ f))
     of_above x y at_x name_y (declared_one f has name_f count named_f) =
         let (j, at_f) = place_of above.signature.constants.items f has in

@@ -41,7 +41,9 @@ place_back : (a n k j : ℕ) → place_in (range_with_len a n) k ≡ Some j → 
 place_back a zero k j e = absurd (cc)
 place_back a (suc n) k j e = by (nat_eq a k) refl (place_in (range_with_len (a + 1) n) k) refl (λ i p. place_back (a + 1) n k i p) e
   where
-    by : (t : Bool) → nat_eq a k ≡ t → (o : Option ℕ) → place_in (range_with_len (a + 1) n) k ≡ o → ((i : ℕ) → place_in (range_with_len (a + 1) n) k ≡ Some i → k ≡ (a + 1) + i) → (if t then Some 0 else option_map (λ j. suc j) o) ≡ Some j → k ≡ a + j
+    by : (t : Bool) → nat_eq a k ≡ t → (o : Option ℕ) → place_in (range_with_len (a + 1) n) k ≡ o →
+        ((i : ℕ) → place_in (range_with_len (a + 1) n) k ≡ Some i → k ≡ (a + 1) + i) → (if t then Some 0 else option_map (λ j. suc j) o) ≡ Some j → k
+        ≡ a + j
     by true s o p h q = let z : 0 ≡ j = same_Some 0 j q in let f = eqb-true a k s in omega (arith, z, f)
     by false s None p h q = absurd (cc)
     by false s (Some i) p h q = let z : suc i ≡ j = same_Some (suc i) j q in let f = h i p in omega (arith, z, f)
@@ -123,7 +125,8 @@ entry_is b (d ∷ ds) (suc n) = entry_is b ds n
 declared_at : (b : Nodes) (ds : List Declared) (k n : ℕ) (s : Scheme) → k ≡ 32 + n → slice_get (map (scheme_of b) ds) n ≡ Some s → declared_by b ds k ≡ Some s
 declared_at b ds k n s e f =
     let z : k - 32 ≡ n = omega (arith, e) in
-    ap (λ t. if t then entry standard_schemes k else entry (map (λ d. Some (scheme_of b d)) ds) (k - 32)) (le-ltb k 32 (omega (arith, e))) ∙ ap (entry (map (λ d. Some (scheme_of b d)) ds)) z ∙ entry_is b ds n ∙ f
+    ap (λ t. if t then entry standard_schemes k else entry (map (λ d. Some (scheme_of b d)) ds) (k - 32)) (le-ltb k 32 (omega (arith, e))) ∙ ap
+        (entry (map (λ d. Some (scheme_of b d)) ds)) z ∙ entry_is b ds n ∙ f
 
 -- the exported constants of a module
 module _ (m : Module) (o : IsOrderly m) where
@@ -161,16 +164,19 @@ module _ (c : Copy) (m : Module) (o : IsOrderly m) where
   many_exported : length (exported_schemes c m) ≡ length m.signature.constants.items - length m.hidden_constants.items
   many_exported =
       let r = ap length o.constants ∙ range_length (32 + o.exported_constants) (length m.signature.constants.items - o.exported_constants) in
-      ap length exported_are ∙ length-map (take o.exported_constants m.signature.constants.items) of_entry ∙ taken_length o.exported_constants m.signature.constants.items ∙ ap (λ n. length m.signature.constants.items - n) (sym r)
+      ap length exported_are ∙ length-map (take o.exported_constants m.signature.constants.items) of_entry ∙ taken_length o.exported_constants
+          m.signature.constants.items ∙ ap (λ n. length m.signature.constants.items - n) (sym r)
 
-  hidden_found : (i j : ℕ) (e : ConstantEntry) → slice_get m.signature.constants.items i ≡ Some e → place_in m.hidden_constants.items (32 + i) ≡ Some j → slice_get (hidden_schemes c m) j ≡ Some (of_entry e)
+  hidden_found : (i j : ℕ) (e : ConstantEntry) → slice_get m.signature.constants.items i ≡ Some e → place_in m.hidden_constants.items (32 + i) ≡ Some
+      j → slice_get (hidden_schemes c m) j ≡ Some (of_entry e)
   hidden_found i j e at p =
       let q = place_back (32 + o.exported_constants) (length m.signature.constants.items - o.exported_constants) (32 + i) j (ap (λ h. place_in h (32 + i)) (sym o.constants) ∙ p) in
       let z : o.exported_constants + j ≡ i = omega (arith, q) in
       ap (λ l. slice_get l j) hidden_are ∙ slice_get-map of_entry (drop o.exported_constants m.signature.constants.items) j ∙
       ap (option_map of_entry) (found_drop o.exported_constants m.signature.constants.items j ∙ ap (slice_get m.signature.constants.items) z ∙ at)
 
-  exported_found : (i : ℕ) (e : ConstantEntry) → slice_get m.signature.constants.items i ≡ Some e → place_in m.hidden_constants.items (32 + i) ≡ None → slice_get (exported_schemes c m) i ≡ Some (of_entry e)
+  exported_found : (i : ℕ) (e : ConstantEntry) → slice_get m.signature.constants.items i ≡ Some e → place_in m.hidden_constants.items (32 + i) ≡ None
+      → slice_get (exported_schemes c m) i ≡ Some (of_entry e)
   exported_found i e at p =
       ap (λ l. slice_get l i) exported_are ∙ slice_get-map of_entry (take o.exported_constants m.signature.constants.items) i ∙
       ap (option_map of_entry) (found_take o.exported_constants m.signature.constants.items i e (exported_below m o i e at p) at)
@@ -178,20 +184,24 @@ module _ (c : Copy) (m : Module) (o : IsOrderly m) where
   before_all : (i : ℕ) → i ≤ o.exported_constants → exported_before 32 m.hidden_constants.items i ≡ i
   before_all zero l = refl
   before_all (suc i) l =
-      let p : place_in m.hidden_constants.items (32 + i) ≡ None = ap (λ h. place_in h (32 + i)) o.constants ∙ place_none (32 + o.exported_constants) (length m.signature.constants.items - o.exported_constants) (32 + i) (omega (arith, l)) in
+      let p : place_in m.hidden_constants.items (32 + i) ≡ None = ap (λ h. place_in h (32 + i)) o.constants ∙ place_none (32 + o.exported_constants)
+          (length m.signature.constants.items - o.exported_constants) (32 + i) (omega (arith, l)) in
       let q : i + 1 ≡ suc i = omega arith in
       (λ j. before_all i (omega (arith, l)) j + ap one_if_none p j) ∙ q
 
 -- a table has each hidden constant of a copy
 abbrev Finds : List Module → List Scheme → Copy → Type 0
 Finds modules table c =
-    (m : Module) → slice_get modules c.member ≡ Some m → (i : ℕ) (e : ConstantEntry) → slice_get m.signature.constants.items i ≡ Some e → (j : ℕ) → place_in m.hidden_constants.items (32 + i) ≡ Some j →
+    (m : Module) → slice_get modules c.member ≡ Some m → (i : ℕ) (e : ConstantEntry) → slice_get m.signature.constants.items i ≡ Some e → (j : ℕ) →
+        place_in m.hidden_constants.items (32 + i) ≡ Some j →
     (n : ℕ) × (c.constants (32 + i) ≡ 32 + n) × (slice_get table n ≡ Some (scheme_in c (entry_scheme m.signature.bank e)))
 
 orderly_at : (modules : List Module) (k : ℕ) (m : Module) → AreOrderly modules → slice_get modules k ≡ Some m → IsOrderly m
 orderly_at modules k m all at = subst IsOrderly (get_or_from_slice_get modules k m m at) (all k m (slice_get_within modules k m at))
 
-copies_split : {A : Type 0} (f : Copy → Module → List A) (modules : List Module) (below : List Copy) (c : Copy) (others : List Copy) (m : Module) → slice_get modules c.member ≡ Some m → of_copies f modules (below ++ c ∷ others) ≡ of_copies f modules below ++ (f c m ++ of_copies f modules others)
+copies_split : {A : Type 0} (f : Copy → Module → List A) (modules : List Module) (below : List Copy) (c : Copy) (others : List Copy) (m : Module) →
+    slice_get modules c.member ≡ Some m → of_copies f modules (below ++ c ∷ others) ≡ of_copies f modules below ++
+    (f c m ++ of_copies f modules others)
 copies_split f modules [] c others m at = ap (λ o. of_module (f c) o ++ of_copies f modules others) at
 copies_split f modules (d ∷ below) c others m at =
     ap (λ l. of_module (f d) (slice_get modules d.member) ++ l) (copies_split f modules below c others m at) ∙
@@ -214,7 +224,8 @@ module _ (modules : List Module) (all : AreOrderly modules) (table : List Scheme
             (hidden_found c m (orderly_at modules c.member m all at) i j e has_m p_m ∙ ap (λ k. Some (scheme_in c (entry_scheme k.signature.bank e))) same)),
       )
 
-  below_finds : {above : Module} {a : Copy} {before after : Next} {ks : List ℕ} {cs : List Copy} → CopiesBelow modules above a before ks cs after → (front rest : List Scheme) → before.constants ≡ 32 + length front →
+  below_finds : {above : Module} {a : Copy} {before after : Next} {ks : List ℕ} {cs : List Copy} → CopiesBelow modules above a before ks cs after →
+      (front rest : List Scheme) → before.constants ≡ 32 + length front →
       table ≡ front ++ (of_copies hidden_schemes modules cs ++ rest) → (after.constants ≡ 32 + length (front ++ of_copies hidden_schemes modules cs)) × EachOf (Finds modules table) cs
   below_finds (none_below above a n) front rest f t = (f ∙ ap (λ l. 32 + length l) (sym (append-nil front)), tt)
   below_finds (one_below above a before middle after m c ks below others cs at b is more e) front rest f t =
@@ -255,23 +266,30 @@ module _ (modules : List Module) (root : ℕ) (a : Assembled) (p : IsProgram mod
       p.tables.schemes ∙ ap (λ cs. front ++ of_copies hidden_schemes modules cs) p.are.whole ∙ ap (λ l. front ++ l) (copies_split hidden_schemes modules p.are.below p.are.copy [] p.are.top at) in
       let n = many_exported p.are.copy p.are.top top_orderly in
       let first = below_finds modules all table p.are.copies front (hs ++ []) (ap (λ k. 32 + k) (sym n)) t1 in
-      let own = copy_finds modules all table p.are.copy p.are.top p.are.middle.constants (λ i. 32 + exported_before 32 p.are.top.hidden_constants.items i) at p.are.is_root.constants.named (front ++ lower) [] first.0 (t1 ∙ sym (append_assoc front lower (hs ++ []))) in
+      let own = copy_finds modules all table p.are.copy p.are.top p.are.middle.constants
+          (λ i. 32 + exported_before 32 p.are.top.hidden_constants.items i) at p.are.is_root.constants.named (front ++ lower) [] first.0
+          (t1 ∙ sym (append_assoc front lower (hs ++ []))) in
       subst (EachOf (Finds modules table)) (sym p.are.whole) (each_append (Finds modules table) p.are.below (p.are.copy ∷ []) first.1 (own, tt))
 
   pub hidden_have_types :
-      EachOf (λ c. (m : Module) → slice_get modules c.member ≡ Some m → (i : ℕ) (e : ConstantEntry) → slice_get m.signature.constants.items i ≡ Some e → (j : ℕ) → place_in m.hidden_constants.items (32 + i) ≡ Some j → HasType a c m i e)
+      EachOf (λ c. (m : Module) → slice_get modules c.member ≡ Some m → (i : ℕ) (e : ConstantEntry) → slice_get m.signature.constants.items i ≡ Some e
+          → (j : ℕ) → place_in m.hidden_constants.items (32 + i) ≡ Some j → HasType a c m i e)
       p.copied
   hidden_have_types = told p.copied copies_find
     where
-      told : (cs : List Copy) → EachOf (Finds modules table) cs → EachOf (λ c. (m : Module) → slice_get modules c.member ≡ Some m → (i : ℕ) (e : ConstantEntry) → slice_get m.signature.constants.items i ≡ Some e → (j : ℕ) → place_in m.hidden_constants.items (32 + i) ≡ Some j → HasType a c m i e) cs
+      told : (cs : List Copy) → EachOf (Finds modules table) cs → EachOf (λ c. (m : Module) → slice_get modules c.member ≡ Some m → (i : ℕ)
+          (e : ConstantEntry) → slice_get m.signature.constants.items i ≡ Some e → (j : ℕ) → place_in m.hidden_constants.items (32 + i) ≡ Some j →
+          HasType a c m i e) cs
       told [] h = tt
       told (c ∷ cs) (h, more) = ((λ m at i e has j q. let f = h m at i e has j q in declared_at a.program.bank a.program.constants.items (c.constants (32 + i)) f.0 _ f.1 f.2), told cs more)
 
-  pub exported_have_types : (i : ℕ) (e : ConstantEntry) → slice_get p.are.top.signature.constants.items i ≡ Some e → place_in p.are.top.hidden_constants.items (32 + i) ≡ None → HasType a p.are.copy p.are.top i e
+  pub exported_have_types : (i : ℕ) (e : ConstantEntry) → slice_get p.are.top.signature.constants.items i ≡ Some e → place_in
+      p.are.top.hidden_constants.items (32 + i) ≡ None → HasType a p.are.copy p.are.top i e
   exported_have_types i e has q =
       let l = exported_below p.are.top top_orderly i e has q in
       let n =
-      p.are.is_root.constants.named i (slice_get_within p.are.top.signature.constants.items i e has) ∙ ap (λ o. hidden_or p.are.middle.constants o (32 + exported_before 32 p.are.top.hidden_constants.items i)) q ∙
+      p.are.is_root.constants.named i (slice_get_within p.are.top.signature.constants.items i e has) ∙ ap
+          (λ o. hidden_or p.are.middle.constants o (32 + exported_before 32 p.are.top.hidden_constants.items i)) q ∙
       ap (λ k. 32 + k) (before_all p.are.copy p.are.top top_orderly i (omega (arith, l))) in
       declared_at a.program.bank a.program.constants.items (p.are.copy.constants (32 + i)) i _ n
       (ap (λ l. slice_get l i) p.tables.schemes ∙ found_front (exported_schemes p.are.copy p.are.top) _ i _ (exported_found p.are.copy p.are.top top_orderly i e has q))

@@ -61,7 +61,8 @@ firsts_apart : (known : List (List ℕ)) (said : List (Row Said)) → Apart know
 firsts_apart known [] = tt
 firsts_apart known (r ∷ rs) = by (is_among r.0 known) refl (firsts_apart known rs) (firsts_apart (r.0 ∷ known) rs)
   where
-    by : (t : Bool) → is_among r.0 known ≡ t → Apart known (names_in (firsts known rs)) → Apart (r.0 ∷ known) (names_in (firsts (r.0 ∷ known) rs)) → Apart known (names_in (if t then firsts known rs else r ∷ firsts (r.0 ∷ known) rs))
+    by : (t : Bool) → is_among r.0 known ≡ t → Apart known (names_in (firsts known rs)) → Apart (r.0 ∷ known) (names_in (firsts (r.0 ∷ known) rs)) →
+        Apart known (names_in (if t then firsts known rs else r ∷ firsts (r.0 ∷ known) rs))
     by true e h k = h
     by false e h k = (e, k)
 
@@ -85,7 +86,8 @@ numbered_names_are : (n : ℕ) (rows : List (Row ℕ)) → names_in (numbered n 
 numbered_names_are n [] = refl
 numbered_names_are n (r ∷ rs) = ap (λ l. r.0 ∷ l) (numbered_names_are (suc n) rs)
 
-kind_at_place : (n : ℕ) (es : List KindEntry) (rows : List (Row ℕ)) (i : ℕ) (e : KindEntry) → map kind_row es ≡ numbered n rows → slice_get es i ≡ Some e → slice_get (map kind_row es) i ≡ Some (e.name.items, (n + i, e.arity))
+kind_at_place : (n : ℕ) (es : List KindEntry) (rows : List (Row ℕ)) (i : ℕ) (e : KindEntry) → map kind_row es ≡ numbered n rows → slice_get es i ≡
+    Some e → slice_get (map kind_row es) i ≡ Some (e.name.items, (n + i, e.arity))
 kind_at_place n [] rows i e f at = absurd (cc)
 kind_at_place n (x ∷ xs) [] i e f at = absurd (cc)
 kind_at_place n (x ∷ xs) (r ∷ rs) zero e f at =
@@ -103,7 +105,8 @@ pub names_apart : (known : List (List ℕ)) (ns : List (List ℕ)) → Apart kno
 names_apart known [] = tt
 names_apart known (n ∷ ns) = by (is_among n known) refl (names_apart known ns) (names_apart (n ∷ known) ns)
   where
-    by : (t : Bool) → is_among n known ≡ t → Apart known (first_names known ns) → Apart (n ∷ known) (first_names (n ∷ known) ns) → Apart known (if t then first_names known ns else n ∷ first_names (n ∷ known) ns)
+    by : (t : Bool) → is_among n known ≡ t → Apart known (first_names known ns) → Apart (n ∷ known) (first_names (n ∷ known) ns) → Apart known
+        (if t then first_names known ns else n ∷ first_names (n ∷ known) ns)
     by true e h k = h
     by false e h k = (e, k)
 
@@ -111,7 +114,8 @@ names_numbered : (n : ℕ) (ns : List (List ℕ)) → names_in (numbered_names n
 names_numbered n [] = refl
 names_numbered n (x ∷ xs) = ap (λ l. x ∷ l) (names_numbered (suc n) xs)
 
-constant_at_place : (n : ℕ) (es : List ConstantEntry) (ns : List (List ℕ)) (i : ℕ) (e : ConstantEntry) → map number_row es ≡ numbered_names n ns → slice_get es i ≡ Some e → (e.number ≡ n + i) × (slice_get (map number_row es) i ≡ Some (e.name.items, n + i))
+constant_at_place : (n : ℕ) (es : List ConstantEntry) (ns : List (List ℕ)) (i : ℕ) (e : ConstantEntry) → map number_row es ≡ numbered_names n ns →
+    slice_get es i ≡ Some e → (e.number ≡ n + i) × (slice_get (map number_row es) i ≡ Some (e.name.items, n + i))
 constant_at_place n [] ns i e f at = absurd (cc)
 constant_at_place n (x ∷ xs) [] i e f at = absurd (cc)
 constant_at_place n (x ∷ xs) (w ∷ ws) zero e f at =
@@ -144,7 +148,8 @@ signature_numbered own used text lines s h =
     record {
       kinds = λ i e at.
           behind_standard standard_kinds (map kind_row s.kinds.items)
-          (subst (Apart (names_in standard_kinds)) kinds_names (kinds_apart (names_in standard_kinds) (declared_names said) (firsts_apart (names_in standard_kinds) said))) i (e.name.items, (8 + i, e.arity)) (kind_at_place 8 s.kinds.items rows i e h.kinds at);
+          (subst (Apart (names_in standard_kinds)) kinds_names (kinds_apart (names_in standard_kinds) (declared_names said)
+              (firsts_apart (names_in standard_kinds) said))) i (e.name.items, (8 + i, e.arity)) (kind_at_place 8 s.kinds.items rows i e h.kinds at);
       constants = λ i e at.
           let there = constant_at_place 32 s.constants.items names i e h.constants at in
           (there.0, behind_standard standard_constants (map number_row s.constants.items)

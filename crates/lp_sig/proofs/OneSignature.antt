@@ -58,7 +58,8 @@ said_together z (t ∷ ts) =
 row_is : (b : Nodes) (e : ConstantEntry) (name : List ℕ) (n k : ℕ) (T : Ty) → e.name.items ≡ name → e.number ≡ n → e.type_vars ≡ k → type_tree b e.scheme.0 ≡ T → typed_row b e ≡ (name, (n, k, T))
 row_is b e name n k T f g h j = λ i. (f i, (g i, h i, j i))
 
-same_entries : (ts : List Text) (b c : Nodes) (n : ℕ) (rows : List (Row Written)) (es fs : List ConstantEntry) → AreInStep (IsConstant b (all_said ts) (all_definitions ts)) n rows es → AreInStep (IsConstant c (all_said ts) (all_definitions ts)) n rows fs →
+same_entries : (ts : List Text) (b c : Nodes) (n : ℕ) (rows : List (Row Written)) (es fs : List ConstantEntry) → AreInStep
+    (IsConstant b (all_said ts) (all_definitions ts)) n rows es → AreInStep (IsConstant c (all_said ts) (all_definitions ts)) n rows fs →
     map (typed_row b) es ≡ map (typed_row c) fs
 same_entries ts b c n [] [] [] h k = refl
 same_entries ts b c n [] [] (f ∷ fs) h k = absurd k
@@ -67,10 +68,12 @@ same_entries ts b c n (r ∷ rs) [] fs h k = absurd h
 same_entries ts b c n (r ∷ rs) (e ∷ es) [] h k = absurd k
 same_entries ts b c n (r ∷ rs) (e ∷ es) (f ∷ fs) (h, hs) (k, ks) =
     let o = one_scheme (all_said ts) (all_definitions ts) (texts_agree ts) r.1 e.type_vars f.type_vars (type_tree b e.scheme.0) (type_tree c f.scheme.0) h.scheme k.scheme in
-    λ i. (row_is b e r.0 n f.type_vars (type_tree c f.scheme.0) h.name h.number o.0 o.1 ∙ sym (row_is c f r.0 n f.type_vars (type_tree c f.scheme.0) k.name k.number refl refl)) i ∷ same_entries ts b c (suc n) rs es fs hs ks i
+    λ i. (row_is b e r.0 n f.type_vars (type_tree c f.scheme.0) h.name h.number o.0 o.1 ∙ sym
+        (row_is c f r.0 n f.type_vars (type_tree c f.scheme.0) k.name k.number refl refl)) i ∷ same_entries ts b c (suc n) rs es fs hs ks i
 
 pub one_signature : (names : List (String Global)) (sources : List (Vec ℕ Global)) (texts : List SignatureText) (root : ℕ) (fixities others : List (Row (Fixity × ℕ))) (s t : Signature) →
-    IsAccepted names sources texts root (map kind_row s.kinds.items) fixities s.bank s.abbreviations.items s.constants.items → IsAccepted names sources texts root (map kind_row t.kinds.items) others t.bank t.abbreviations.items t.constants.items → AreSameSignatures s t
+    IsAccepted names sources texts root (map kind_row s.kinds.items) fixities s.bank s.abbreviations.items s.constants.items → IsAccepted names
+        sources texts root (map kind_row t.kinds.items) others t.bank t.abbreviations.items t.constants.items → AreSameSignatures s t
 one_signature names sources texts root fixities others s t x y =
     let W = ways names sources texts in
     let order = one_load W x.loaded.order.1 y.loaded.order.1 in
@@ -78,9 +81,14 @@ one_signature names sources texts root fixities others s t x y =
     let ts = of_steps one_text sources texts x.steps in
     let together = said_together nothing_seen ts in
     let rows = declared_constants (constants_of_steps names sources texts x.steps) in
-    let here = subst (λ said. AreInStep (IsConstant s.bank said (all_definitions ts)) 32 rows s.constants.items) together.0 (subst (λ defs. AreInStep (IsConstant s.bank (seen_in names sources texts x.steps).said defs) 32 rows s.constants.items) together.1 x.constants_are) in
-    let there_steps = subst (λ ss. AreInStep (IsConstant t.bank (seen_in names sources texts ss).said (seen_in names sources texts ss).definitions) 32 (declared_constants (constants_of_steps names sources texts ss)) t.constants.items) same y.constants_are in
-    let there = subst (λ said. AreInStep (IsConstant t.bank said (all_definitions ts)) 32 rows t.constants.items) together.0 (subst (λ defs. AreInStep (IsConstant t.bank (seen_in names sources texts x.steps).said defs) 32 rows t.constants.items) together.1 there_steps) in
+    let here = subst (λ said. AreInStep (IsConstant s.bank said (all_definitions ts)) 32 rows s.constants.items) together.0
+        (subst (λ defs. AreInStep (IsConstant s.bank (seen_in names sources texts x.steps).said defs) 32 rows s.constants.items) together.1
+        x.constants_are) in
+    let there_steps = subst (λ ss. AreInStep (IsConstant t.bank (seen_in names sources texts ss).said (seen_in names sources texts ss).definitions) 32
+        (declared_constants (constants_of_steps names sources texts ss)) t.constants.items) same y.constants_are in
+    let there = subst (λ said. AreInStep (IsConstant t.bank said (all_definitions ts)) 32 rows t.constants.items) together.0
+        (subst (λ defs. AreInStep (IsConstant t.bank (seen_in names sources texts x.steps).said defs) 32 rows t.constants.items) together.1
+        there_steps) in
     record {
       kinds = x.kinds_are ∙ ap (λ ss. numbered 8 (kinds_among (declared_names (seen_in names sources texts ss).said))) (sym same) ∙ sym y.kinds_are;
       constants = same_entries ts s.bank t.bank 32 rows s.constants.items t.constants.items here there;

@@ -61,7 +61,8 @@ kind_known name said k e = standard (found name standard_kinds) refl e
     there_at (n ∷ ns) zero l = (n, refl)
     there_at (n ∷ ns) (suc i) l = there_at ns i (omega (arith, l))
 
-    declared : (o : Option (ℕ × ℕ)) → found name (numbered 8 (kinds_among (declared_names said))) ≡ o → option_map (λ n. min n 4294967295) (option_map (λ r. r.0) o) ≡ Some k → (w : List ℕ) × (kind_name (said_kinds said) k ≡ Some w)
+    declared : (o : Option (ℕ × ℕ)) → found name (numbered 8 (kinds_among (declared_names said))) ≡ o → option_map (λ n. min n 4294967295)
+        (option_map (λ r. r.0) o) ≡ Some k → (w : List ℕ) × (kind_name (said_kinds said) k ≡ Some w)
     declared None s e = absurd (cc)
     declared (Some r) s e =
         let (i, at, there) = found_in_place name 8 (numbered 8 (kinds_among (declared_names said))) r (numbered_in_place 8 (kinds_among (declared_names said))) s in
@@ -72,7 +73,8 @@ kind_known name said k e = standard (found name standard_kinds) refl e
         let z : k ≡ 8 + (k - 8) = omega (arith, at, m) in
         (w, name_above (said_kinds said) k (k - 8) w z here)
 
-    standard : (o : Option (ℕ × ℕ)) → found name standard_kinds ≡ o → one_or (option_map (λ r. r.0) o) (option_map (λ n. min n 4294967295) (option_map (λ r. r.0) (found name (numbered 8 (kinds_among (declared_names said)))))) ≡ Some k →
+    standard : (o : Option (ℕ × ℕ)) → found name standard_kinds ≡ o → one_or (option_map (λ r. r.0) o)
+        (option_map (λ n. min n 4294967295) (option_map (λ r. r.0) (found name (numbered 8 (kinds_among (declared_names said)))))) ≡ Some k →
         (w : List ℕ) × (kind_name (said_kinds said) k ≡ Some w)
     standard None s e = declared (found name (numbered 8 (kinds_among (declared_names said)))) refl e
     standard (Some r) s e =
@@ -134,7 +136,8 @@ module _ (said : List (Row Said)) (defs : List (Row Definition)) where
         (instance_known (kind_name (said_kinds said)) (λ n. given_for ts n (var n)) (λ n. given_known (kind_name (said_kinds said)) ts n (var n) all tt) body (type_known inner))
     type_known (an_arrow a b x y at left right e) = subst (KindsKnown (kind_name (said_kinds said))) (sym e) (type_known left, type_known right)
 
-    list_known : {text : List ℕ} {ν : ℕ → Spot → Option ℕ} {nodes : List RawTypeNode} {places : List ℕ} {ts : List Ty} → AreTypesOf said defs text ν nodes places ts → AllKindsKnown (kind_name (said_kinds said)) (tys ts)
+    list_known : {text : List ℕ} {ν : ℕ → Spot → Option ℕ} {nodes : List RawTypeNode} {places : List ℕ} {ts : List Ty} → AreTypesOf said defs text ν
+        nodes places ts → AllKindsKnown (kind_name (said_kinds said)) (tys ts)
     list_known (no_more e f) = subst (λ ts. AllKindsKnown (kind_name (said_kinds said)) (tys ts)) (sym f) tt
     list_known (one_more i rest t us e f first later) = subst (λ ts. AllKindsKnown (kind_name (said_kinds said)) (tys ts)) (sym f) (type_known first, list_known later)
 
@@ -143,7 +146,8 @@ place_once : (N : List ℕ) (x y : ℕ) → list_any (nat_eq x) N ≡ true → l
 place_once [] x y h k e = absurd (cc)
 place_once (n ∷ N) x y h k e = by (nat_eq x n) refl (nat_eq y n) refl (place_once N x y) h k e
   where
-    by : (t : Bool) → nat_eq x n ≡ t → (u : Bool) → nat_eq y n ≡ u → (list_any (nat_eq x) N ≡ true → list_any (nat_eq y) N ≡ true → place N x ≡ place N y → x ≡ y) → (if t then true else list_any (nat_eq x) N) ≡ true →
+    by : (t : Bool) → nat_eq x n ≡ t → (u : Bool) → nat_eq y n ≡ u → (list_any (nat_eq x) N ≡ true → list_any (nat_eq y) N ≡ true → place N x ≡ place
+        N y → x ≡ y) → (if t then true else list_any (nat_eq x) N) ≡ true →
         (if u then true else list_any (nat_eq y) N) ≡ true → (if t then 0 else suc (place N x)) ≡ (if u then 0 else suc (place N y)) → x ≡ y
     by true a true b ih h k e = eqb-true x n a ∙ sym (eqb-true y n b)
     by true a false b ih h k e = absurd (omega (arith, e))
@@ -170,7 +174,8 @@ same_count : (T : Ty) → length (first_variables (numbered_type T)) ≡ length 
 unfolding first_variables numbered_type
 same_count T =
     let N = met [] (type_variables T) in
-    sym (renamed_same (λ x y. (list_any (nat_eq x) N ≡ true) × (y ≡ place N x)) (λ x y z p q. p.1 ∙ sym q.1) (λ x y z p q. place_once N x y p.0 q.0 (sym p.1 ∙ q.1)) T (instance (λ x. var (place N x)) T)
+    sym (renamed_same (λ x y. (list_any (nat_eq x) N ≡ true) × (y ≡ place N x)) (λ x y z p q. p.1 ∙ sym q.1)
+        (λ x y z p q. place_once N x y p.0 q.0 (sym p.1 ∙ q.1)) T (instance (λ x. var (place N x)) T)
     (numbered_renames N T (all_met (type_variables T) []))).0
 
 numbered_whole : (κ : ℕ → Option (List ℕ)) (T : Ty) → KindsKnown κ T → IsWhole (named κ (numbered_type T))
@@ -185,7 +190,8 @@ module _ (s : Signature) (said : List (Row Said)) (defs : List (Row Definition))
   each_inside n (r ∷ rs) [] h = All-nil (λ e. e.scheme.0 < length s.bank.types)
   each_inside n (r ∷ rs) (e ∷ es) (h, hs) = All-cons (λ e. e.scheme.0 < length s.bank.types) e es h.inside (each_inside (suc n) rs es hs)
 
-  each_counted : (n : ℕ) (rows : List (Row Written)) (es : List ConstantEntry) → AreInStep (IsConstant s.bank said defs) n rows es → All (λ e. e.type_vars ≡ length (first_variables (type_tree s.bank e.scheme.0))) es
+  each_counted : (n : ℕ) (rows : List (Row Written)) (es : List ConstantEntry) → AreInStep (IsConstant s.bank said defs) n rows es → All
+      (λ e. e.type_vars ≡ length (first_variables (type_tree s.bank e.scheme.0))) es
   each_counted n [] [] h = All-nil (λ e. e.type_vars ≡ length (first_variables (type_tree s.bank e.scheme.0)))
   each_counted n [] (e ∷ es) h = absurd h
   each_counted n (r ∷ rs) [] h = All-nil (λ e. e.type_vars ≡ length (first_variables (type_tree s.bank e.scheme.0)))
@@ -193,13 +199,16 @@ module _ (s : Signature) (said : List (Row Said)) (defs : List (Row Definition))
       All-cons (λ e. e.type_vars ≡ length (first_variables (type_tree s.bank e.scheme.0))) e es
       (h.scheme.counted ∙ sym (same_count h.scheme.replaced) ∙ ap (λ T. length (first_variables T)) (sym h.scheme.numbered)) (each_counted (suc n) rs es hs)
 
-  each_whole : kind_names s ≡ said_kinds said → (n : ℕ) (rows : List (Row Written)) (es : List ConstantEntry) → AreInStep (IsConstant s.bank said defs) n rows es → All (λ e. IsWhole (named_in s e.scheme)) es
+  each_whole : kind_names s ≡ said_kinds said → (n : ℕ) (rows : List (Row Written)) (es : List ConstantEntry) → AreInStep
+      (IsConstant s.bank said defs) n rows es → All (λ e. IsWhole (named_in s e.scheme)) es
   each_whole names n [] [] h = All-nil (λ e. IsWhole (named_in s e.scheme))
   each_whole names n [] (e ∷ es) h = absurd h
   each_whole names n (r ∷ rs) [] h = All-nil (λ e. IsWhole (named_in s e.scheme))
   each_whole names n (r ∷ rs) (e ∷ es) (h, hs) =
       All-cons (λ e. IsWhole (named_in s e.scheme)) e es
-      (subst (λ ns. IsWhole (named (kind_name ns) (type_tree s.bank e.scheme.0))) (sym names) (subst (λ T. IsWhole (named (kind_name (said_kinds said)) T)) (sym h.scheme.numbered) (numbered_whole (kind_name (said_kinds said)) h.scheme.replaced (type_known said defs h.scheme.is))))
+      (subst (λ ns. IsWhole (named (kind_name ns) (type_tree s.bank e.scheme.0))) (sym names)
+          (subst (λ T. IsWhole (named (kind_name (said_kinds said)) T)) (sym h.scheme.numbered)
+          (numbered_whole (kind_name (said_kinds said)) h.scheme.replaced (type_known said defs h.scheme.is))))
       (each_whole names (suc n) rs es hs)
 
 pub signature_ordered : (names : List (String Global)) (sources : List (Vec ℕ Global)) (texts : List SignatureText) (root : ℕ) (fixities : List (Row (Fixity × ℕ))) (s : Signature) →

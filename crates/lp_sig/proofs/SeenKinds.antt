@@ -35,7 +35,8 @@ module _ (said : List (Row Said)) (es : List KindEntry) (i : ℕ) (e : KindEntry
   -- what is said by then, and what is said later
   all_said : said ++ map kind_said es ≡ (said ++ map kind_said (take (i + 1) es)) ++ map kind_said (drop (i + 1) es)
   all_said =
-      sym (append_assoc said (map kind_said (take (i + 1) es)) (map kind_said (drop (i + 1) es)) ∙ ap (λ r. said ++ r) (sym (map-append kind_said (take (i + 1) es) (drop (i + 1) es)) ∙ ap (map kind_said) (take-append-drop (i + 1) es)))
+      sym (append_assoc said (map kind_said (take (i + 1) es)) (map kind_said (drop (i + 1) es)) ∙ ap (λ r. said ++ r)
+          (sym (map-append kind_said (take (i + 1) es) (drop (i + 1) es)) ∙ ap (map kind_said) (take-append-drop (i + 1) es)))
 
   -- a kind at last is one by then
   kind_by_then : AreKinds (said ++ map kind_said es) (map (λ e. e.name.items) es) → IsKind (said ++ map kind_said (take (i + 1) es)) e.name.items
@@ -43,7 +44,9 @@ module _ (said : List (Row Said)) (es : List KindEntry) (i : ℕ) (e : KindEntry
       let rows = map kind_said (take (i + 1) es) in
       let more = map kind_said (drop (i + 1) es) in
       let n = length-map es (λ e. e.name.items) in
-      let whole : IsKind (said ++ map kind_said es) e.name.items = subst (IsKind (said ++ map kind_said es)) (same_Some (get_or (map (λ e. e.name.items) es) i e.name.items) e.name.items (sym (slice_get-get_or (map (λ e. e.name.items) es) i e.name.items (omega (arith, l, n))) ∙ name_at es i e l at))
+      let whole : IsKind (said ++ map kind_said es) e.name.items = subst (IsKind (said ++ map kind_said es))
+          (same_Some (get_or (map (λ e. e.name.items) es) i e.name.items) e.name.items
+          (sym (slice_get-get_or (map (λ e. e.name.items) es) i e.name.items (omega (arith, l, n))) ∙ name_at es i e l at))
       (all i e.name.items (omega (arith, l, n))) in
       let there : slice_get (names_in rows) i ≡ Some e.name.items = ap (λ ns. slice_get ns i) (names_are (take (i + 1) es)) ∙ taken es i l at in
       subst (λ r. IsKind (said ++ r) e.name.items) (append-nil rows)
@@ -55,10 +58,13 @@ module _ (said : List (Row Said)) (es : List KindEntry) (i : ℕ) (e : KindEntry
       taken (x ∷ xs) (suc i) l at = taken xs i (omega (arith, l)) at
 
   -- one more kind has its number
-  pub kinds_step : map (λ e. e.number) es ≡ range_with_len 8 (length es) → (old new : ℕ → Option ℕ) (number : ℕ) (s all all_then : Sight) → ((k : ℕ) → new k ≡ (if nat_eq e.number k then Some number else old k)) →
+  pub kinds_step : map (λ e. e.number) es ≡ range_with_len 8 (length es) → (old new : ℕ → Option ℕ) (number : ℕ) (s all all_then : Sight) →
+      ((k : ℕ) → new k ≡ (if nat_eq e.number k then Some number else old k)) →
       (all_then ≡ Alike → (all ≡ Alike) × (s ≡ Alike)) → HasItsNumber (said ++ map kind_said (take (i + 1) es)) e.name.items (number, s) →
-      ((all ≡ Alike) ⊎ AreKinds (said ++ map kind_said es) (map (λ e. e.name.items) es) → (k n : ℕ) → old k ≡ Some n → (k < 8 + i) × (kind_name (said_kinds (said ++ map kind_said es)) n ≡ kind_name (map (λ e. e.name.items) es) k)) →
-      (all_then ≡ Alike) ⊎ AreKinds (said ++ map kind_said es) (map (λ e. e.name.items) es) → (k n : ℕ) → new k ≡ Some n → (k < 8 + (i + 1)) × (kind_name (said_kinds (said ++ map kind_said es)) n ≡ kind_name (map (λ e. e.name.items) es) k)
+      ((all ≡ Alike) ⊎ AreKinds (said ++ map kind_said es) (map (λ e. e.name.items) es) → (k n : ℕ) → old k ≡ Some n → (k < 8 + i) ×
+          (kind_name (said_kinds (said ++ map kind_said es)) n ≡ kind_name (map (λ e. e.name.items) es) k)) →
+      (all_then ≡ Alike) ⊎ AreKinds (said ++ map kind_said es) (map (λ e. e.name.items) es) → (k n : ℕ) → new k ≡ Some n → (k < 8 + (i + 1)) ×
+          (kind_name (said_kinds (said ++ map kind_said es)) n ≡ kind_name (map (λ e. e.name.items) es) k)
   kinds_step numbers old new number s all all_then put both this before premise k n found = by (nat_eq e.number k) refl (sym (put k) ∙ found)
     where
       place : e.number ≡ 8 + i
@@ -72,7 +78,8 @@ module _ (said : List (Row Said)) (es : List KindEntry) (i : ℕ) (e : KindEntry
       right (inl q) = inl (both q).1
       right (inr q) = inr (kind_by_then q)
 
-      by : (t : Bool) → nat_eq e.number k ≡ t → (if t then Some number else old k) ≡ Some n → (k < 8 + (i + 1)) × (kind_name (said_kinds (said ++ map kind_said es)) n ≡ kind_name (map (λ e. e.name.items) es) k)
+      by : (t : Bool) → nat_eq e.number k ≡ t → (if t then Some number else old k) ≡ Some n → (k < 8 + (i + 1)) ×
+          (kind_name (said_kinds (said ++ map kind_said es)) n ≡ kind_name (map (λ e. e.name.items) es) k)
       by true t f =
           let z : e.number ≡ k = eqb-true e.number k t in
           let m : number ≡ n = same_Some number n f in

@@ -39,7 +39,8 @@ pub found_in_place : (name : List ℕ) (k : ℕ) (rows : List (Row (ℕ × ℕ))
 found_in_place name k [] r are e = absurd (cc)
 found_in_place name k (x ∷ xs) r (at, are) e = by (bytes_eq name x.0) refl (found_in_place name (suc k) xs r are) e
   where
-    by : (t : Bool) → bytes_eq name x.0 ≡ t → (found name xs ≡ Some r → (i : ℕ) × (r.0 ≡ suc k + i) × (slice_get (names_in xs) i ≡ Some name)) → cond t (Some x.1) (found name xs) ≡ Some r → (i : ℕ) × (r.0 ≡ k + i) × (slice_get (x.0 ∷ names_in xs) i ≡ Some name)
+    by : (t : Bool) → bytes_eq name x.0 ≡ t → (found name xs ≡ Some r → (i : ℕ) × (r.0 ≡ suc k + i) × (slice_get (names_in xs) i ≡ Some name)) → cond
+        t (Some x.1) (found name xs) ≡ Some r → (i : ℕ) × (r.0 ≡ k + i) × (slice_get (x.0 ∷ names_in xs) i ≡ Some name)
     by true s h e =
         let same : x.1 ≡ r = same_Some x.1 r e in
         let n : r.0 ≡ k = ap (λ p. p.0) (sym same) ∙ at in
@@ -58,11 +59,13 @@ name_above names k i name e at =
     ap (λ b. if b then slice_get (names_in standard_kinds) k else slice_get names (k - 8)) (le-ltb k 8 (omega (arith, e))) ∙ ap (slice_get names) z ∙ at
 
 -- the number of a kind is that of its name, where numbers do not end before
-pub kind_numbered : (name : List ℕ) (said : List (Row Said)) (n : ℕ) → kind_number_of name said ≡ Some n → (n < END_OF_NUMBERS) ⊎ (8 + length (said_kinds said) ≤ END_OF_NUMBERS) → kind_name (said_kinds said) n ≡ Some name
+pub kind_numbered : (name : List ℕ) (said : List (Row Said)) (n : ℕ) → kind_number_of name said ≡ Some n → (n < END_OF_NUMBERS) ⊎
+    (8 + length (said_kinds said) ≤ END_OF_NUMBERS) → kind_name (said_kinds said) n ≡ Some name
 unfolding kind_number_of number_said
 kind_numbered name said n e fits = standard (found name standard_kinds) refl e
   where
-    declared : (o : Option (ℕ × ℕ)) → found name (numbered 8 (kinds_among (declared_names said))) ≡ o → option_map (λ n. min n 4294967295) (option_map (λ r. r.0) o) ≡ Some n → kind_name (said_kinds said) n ≡ Some name
+    declared : (o : Option (ℕ × ℕ)) → found name (numbered 8 (kinds_among (declared_names said))) ≡ o → option_map (λ n. min n 4294967295)
+        (option_map (λ r. r.0) o) ≡ Some n → kind_name (said_kinds said) n ≡ Some name
     declared None s e = absurd (cc)
     declared (Some r) s e =
         let (i, at, there) = found_in_place name 8 (numbered 8 (kinds_among (declared_names said))) r (numbered_in_place 8 (kinds_among (declared_names said))) s in
@@ -75,7 +78,9 @@ kind_numbered name said n e fits = standard (found name standard_kinds) refl e
         small k i at l m (inl f) = omega (arith, at, m, f)
         small k i at l m (inr f) = omega (arith, at, m, f, l)
 
-    standard : (o : Option (ℕ × ℕ)) → found name standard_kinds ≡ o → one_or (option_map (λ r. r.0) o) (option_map (λ n. min n 4294967295) (option_map (λ r. r.0) (found name (numbered 8 (kinds_among (declared_names said)))))) ≡ Some n → kind_name (said_kinds said) n ≡ Some name
+    standard : (o : Option (ℕ × ℕ)) → found name standard_kinds ≡ o → one_or (option_map (λ r. r.0) o)
+        (option_map (λ n. min n 4294967295) (option_map (λ r. r.0) (found name (numbered 8 (kinds_among (declared_names said)))))) ≡ Some n →
+        kind_name (said_kinds said) n ≡ Some name
     standard None s e = declared (found name (numbered 8 (kinds_among (declared_names said)))) refl e
     standard (Some r) s e =
         let (i, at, there) = found_in_place name 0 standard_kinds r (refl, refl, refl, refl, tt) s in
@@ -147,7 +152,8 @@ kind_then said more name m h =
     kind_earlier (said ++ (name, m) ∷ []) more name b (ap (found name) (sym (append_assoc standard_said said ((name, m) ∷ []))) ∙ e) h
 
 -- kinds of which something was said are kinds by then
-found_among : {A : Type 0} (name : List ℕ) (front : List (Row A)) (rows back : List (Row A)) (i : ℕ) → slice_get (names_in rows) i ≡ Some name → (b : A) × (found name (front ++ (rows ++ back)) ≡ Some b)
+found_among : {A : Type 0} (name : List ℕ) (front : List (Row A)) (rows back : List (Row A)) (i : ℕ) → slice_get (names_in rows) i ≡ Some name →
+    (b : A) × (found name (front ++ (rows ++ back)) ≡ Some b)
 found_among name [] [] back i e = absurd (cc)
 found_among {A} name [] (x ∷ xs) back i e = by (bytes_eq name x.0) refl i e
   where
@@ -161,7 +167,8 @@ found_among {A} name (x ∷ xs) rows back i e = by (found_among name xs rows bac
     by h true = (x.1, refl)
     by h false = h
 
-pub kind_among : (said rows back more : List (Row Said)) (name : List ℕ) (i : ℕ) → slice_get (names_in rows) i ≡ Some name → IsKind ((said ++ (rows ++ back)) ++ more) name → IsKind (said ++ (rows ++ back)) name
+pub kind_among : (said rows back more : List (Row Said)) (name : List ℕ) (i : ℕ) → slice_get (names_in rows) i ≡ Some name → IsKind
+    ((said ++ (rows ++ back)) ++ more) name → IsKind (said ++ (rows ++ back)) name
 unfolding meaning_of
 kind_among said rows back more name i e h =
     let (b, f) = found_among name (standard_said ++ said) rows back i e in
@@ -193,7 +200,8 @@ module _ (there here : Nodes) (names new : List (List ℕ)) (made : List TypeId)
   parts_seen [] (p ∷ ps) e = absurd (cc)
   parts_seen (t ∷ ts) [] e = absurd (cc)
   parts_seen (t ∷ ts) (p ∷ ps) e =
-      two_named (named (kind_name new) (type_tree here p.0)) (named (kind_name names) (type_tree there t.0)) _ _ (seen t.0 p (first_is (slice_get made t.0) p (map (λ t. slice_get made t.0) ts) (map (λ t. Some t) ps) e)).1
+      two_named (named (kind_name new) (type_tree here p.0)) (named (kind_name names) (type_tree there t.0)) _ _
+          (seen t.0 p (first_is (slice_get made t.0) p (map (λ t. slice_get made t.0) ts) (map (λ t. Some t) ps) e)).1
       (parts_seen ts ps (rest_is (slice_get made t.0) (Some p) (map (λ t. slice_get made t.0) ts) (map (λ t. Some t) ps) e))
 
   module _ (id : ℕ) (shape : TypeShape) (tree : type_node_tree there shape ≡ type_tree there id) where
@@ -202,9 +210,11 @@ module _ (there here : Nodes) (names new : List (List ℕ)) (made : List TypeId)
     con_seen k n ids parts is e name =
         (λ i. named_con (name i) (parts_seen ids parts e i)) ∙ ap (named (kind_name names)) (sym (sym tree ∙ ap (type_node_tree there) is))
 
-    pub arrow_seen : (f t l r : TypeId) → shape ≡ arrow_node f.0 t.0 → slice_get made f.0 ≡ Some l → slice_get made t.0 ≡ Some r → named (kind_name new) (arrow (type_tree here l.0) (type_tree here r.0)) ≡ named (kind_name names) (type_tree there id)
+    pub arrow_seen : (f t l r : TypeId) → shape ≡ arrow_node f.0 t.0 → slice_get made f.0 ≡ Some l → slice_get made t.0 ≡ Some r → named
+        (kind_name new) (arrow (type_tree here l.0) (type_tree here r.0)) ≡ named (kind_name names) (type_tree there id)
     arrow_seen f t l r is e g =
-        two_arrows (named (kind_name new) (type_tree here l.0)) (named (kind_name names) (type_tree there f.0)) (named (kind_name new) (type_tree here r.0)) (named (kind_name names) (type_tree there t.0)) (seen f.0 l e).1 (seen t.0 r g).1 ∙
+        two_arrows (named (kind_name new) (type_tree here l.0)) (named (kind_name names) (type_tree there f.0))
+            (named (kind_name new) (type_tree here r.0)) (named (kind_name names) (type_tree there t.0)) (seen f.0 l e).1 (seen t.0 r g).1 ∙
         ap (named (kind_name names)) (sym (sym tree ∙ ap (type_node_tree there) is))
 
     pub var_seen : (n : ℕ) → shape ≡ var_node n → named (kind_name new) (var n) ≡ named (kind_name names) (type_tree there id)
@@ -218,7 +228,8 @@ seen_later there here now names new made x s i t e =
     let m = x.more_types in
     (omega (arith, l, m), ap (named (kind_name new)) (x.same_types t.0 h.0) ∙ h.1)
 
-pub seen_push : (there here : Nodes) (names new : List (List ℕ)) (made made_then : List TypeId) (i : ℕ) (t : TypeId) → made_then ≡ made ++ t ∷ [] → length made ≡ i → (t.0 < length here.types) × (named (kind_name new) (type_tree here t.0) ≡ named (kind_name names) (type_tree there i)) →
+pub seen_push : (there here : Nodes) (names new : List (List ℕ)) (made made_then : List TypeId) (i : ℕ) (t : TypeId) → made_then ≡ made ++ t ∷ [] →
+    length made ≡ i → (t.0 < length here.types) × (named (kind_name new) (type_tree here t.0) ≡ named (kind_name names) (type_tree there i)) →
     AreSeenTypes there here names new made → AreSeenTypes there here names new made_then
 seen_push there here names new made made_then i t e n h s j u at = by (last_or made j (ap (λ l. slice_get l j) (sym e) ∙ at))
   where
@@ -234,4 +245,6 @@ seen_push there here names new made made_then i t e n h s j u at = by (last_or m
 
     by : (slice_get made j ≡ Some u) ⊎ ((j ≡ length made) × (t ≡ u)) → (u.0 < length here.types) × (named (kind_name new) (type_tree here u.0) ≡ named (kind_name names) (type_tree there j))
     by (inl a) = s j u a
-    by (inr b) = subst (λ u. (u.0 < length here.types) × (named (kind_name new) (type_tree here u.0) ≡ named (kind_name names) (type_tree there j))) b.1 (subst (λ k. (t.0 < length here.types) × (named (kind_name new) (type_tree here t.0) ≡ named (kind_name names) (type_tree there k))) (sym (b.0 ∙ n)) h)
+    by (inr b) = subst (λ u. (u.0 < length here.types) × (named (kind_name new) (type_tree here u.0) ≡ named (kind_name names) (type_tree there j)))
+        b.1 (subst (λ k. (t.0 < length here.types) × (named (kind_name new) (type_tree here t.0) ≡ named (kind_name names) (type_tree there k)))
+        (sym (b.0 ∙ n)) h)

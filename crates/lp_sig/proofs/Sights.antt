@@ -53,14 +53,17 @@ module _ {S : Type 0} (numbers : IndexMap (Vec ℕ Global) ℕ S) (words : List 
       let f = sym (same_first words w (word_known w true e)) in
       ((λ name. h.0 name ∙ ap (first_place name) f), h.1 ∙ ap length f)
 
-  pub numbers_more : (w : List ℕ) (key : Vec ℕ Global) (next : ℕ) (new : IndexMap (Vec ℕ Global) ℕ S) → is_some (lookup (λ k. bytes_eq w k.items) numbers.entries) ≡ false → key.items ≡ w → next ≡ length numbers.entries →
-      ((name : List ℕ) → lookup (λ k. bytes_eq name k.items) new.entries ≡ (if bytes_eq name key.items then Some next else lookup (λ k. bytes_eq name k.items) numbers.entries)) → length new.entries ≡ length numbers.entries + 1 → HasNumbers new (words ++ w ∷ [])
+  pub numbers_more : (w : List ℕ) (key : Vec ℕ Global) (next : ℕ) (new : IndexMap (Vec ℕ Global) ℕ S) → is_some
+      (lookup (λ k. bytes_eq w k.items) numbers.entries) ≡ false → key.items ≡ w → next ≡ length numbers.entries →
+      ((name : List ℕ) → lookup (λ k. bytes_eq name k.items) new.entries ≡ (if bytes_eq name key.items then Some next else lookup
+          (λ k. bytes_eq name k.items) numbers.entries)) → length new.entries ≡ length numbers.entries + 1 → HasNumbers new (words ++ w ∷ [])
   numbers_more w key next new e is n added count =
       let among = word_known w false e in
       let f = sym (more_first words w among) in
       let l = length-append (first_names [] words) (w ∷ []) in (
         (λ name. added name ∙ ap (λ k. if bytes_eq name k then Some next else lookup (λ k. bytes_eq name k.items) numbers.entries) is ∙
-            first_new w name (first_names [] words) next (lookup (λ k. bytes_eq name k.items) numbers.entries) (first_place w (first_names [] words)) (n ∙ h.1) (h.0 name) (ap is_some (sym (h.0 w)) ∙ e) refl ∙
+            first_new w name (first_names [] words) next (lookup (λ k. bytes_eq name k.items) numbers.entries) (first_place w (first_names [] words))
+                (n ∙ h.1) (h.0 name) (ap is_some (sym (h.0 w)) ∙ e) refl ∙
             ap (first_place name) f),
         count ∙ ap (λ n. n + 1) h.1 ∙ sym l ∙ ap length f,
       )
@@ -91,10 +94,12 @@ no_numbers numbers words more e h = subst (HasNumbers numbers) (sym (append-nil 
 pub none_alike : (P : List ℕ → Type 0) (more : List (List ℕ)) → more ≡ [] → All P more
 none_alike P more e = subst (All P) (sym e) (All-nil P)
 
-pub both_alike : (sights : List Sight) (text : List ℕ) (signatures modules : List (List ℕ)) (xs ys : List Declaration) → AreWordsAlike sights text signatures modules xs → AreWordsAlike sights text signatures modules ys → AreWordsAlike sights text signatures modules (xs ++ ys)
+pub both_alike : (sights : List Sight) (text : List ℕ) (signatures modules : List (List ℕ)) (xs ys : List Declaration) → AreWordsAlike sights text
+    signatures modules xs → AreWordsAlike sights text signatures modules ys → AreWordsAlike sights text signatures modules (xs ++ ys)
 both_alike sights text signatures modules xs ys a b = (
   subst (All (IsAlike sights 0 signatures)) (sym (signature_words_append text xs ys)) (All-append (IsAlike sights 0 signatures) (signature_words text xs) (signature_words text ys) a.0 b.0),
-  subst (All (IsAlike sights (length (first_names [] signatures)) modules)) (sym (module_words_append text xs ys)) (All-append (IsAlike sights (length (first_names [] signatures)) modules) (module_words text xs) (module_words text ys) a.1 b.1),
+  subst (All (IsAlike sights (length (first_names [] signatures)) modules)) (sym (module_words_append text xs ys))
+      (All-append (IsAlike sights (length (first_names [] signatures)) modules) (module_words text xs) (module_words text ys) a.1 b.1),
 )
 
 -- first names are apart
@@ -122,7 +127,8 @@ pub place_first : (known ws : List (List ℕ)) (i : ℕ) (w : List ℕ) → slic
 place_first known [] i w e = absurd (cc)
 place_first known (n ∷ ns) i w e = by (is_among n known) i e
   where
-    by : (t : Bool) → (i : ℕ) → slice_get (if t then first_names known ns else n ∷ first_names (n ∷ known) ns) i ≡ Some w → first_place w (if t then first_names known ns else n ∷ first_names (n ∷ known) ns) ≡ Some i
+    by : (t : Bool) → (i : ℕ) → slice_get (if t then first_names known ns else n ∷ first_names (n ∷ known) ns) i ≡ Some w → first_place w
+        (if t then first_names known ns else n ∷ first_names (n ∷ known) ns) ≡ Some i
     by true i e = place_first known ns i w e
     by false zero e = ap (λ t. if t then Some 0 else option_map (λ i. suc i) (first_place w (first_names (n ∷ known) ns))) ((bytes_eq-Decides w n).1 (sym (same_Some n w e)))
     by false (suc i) e =
@@ -166,15 +172,18 @@ all_alike sights text ds (s, m) i l = by (cut i (length (first_names [] (signatu
 pub alike_signature : (sights : List Sight) (all : List (List ℕ)) (word : List ℕ) (n : ℕ) → first_place word (first_names [] all) ≡ Some n → slice_get sights n ≡ Some Alike → IsAlike sights 0 all word
 alike_signature sights all word n e at i f = ap (slice_get sights) (sym (same_Some n i (sym e ∙ f))) ∙ at
 
-pub alike_module : (sights : List Sight) (from : ℕ) (all : List (List ℕ)) (word : List ℕ) (n place : ℕ) → first_place word (first_names [] all) ≡ Some n → place ≡ from + n → slice_get sights place ≡ Some Alike → IsAlike sights from all word
+pub alike_module : (sights : List Sight) (from : ℕ) (all : List (List ℕ)) (word : List ℕ) (n place : ℕ) → first_place word (first_names [] all) ≡ Some
+    n → place ≡ from + n → slice_get sights place ≡ Some Alike → IsAlike sights from all word
 alike_module sights from all word n place e is at i f =
     let z : n ≡ i = same_Some n i (sym e ∙ f) in
     ap (slice_get sights) (ap (λ i. from + i) (sym z) ∙ sym is) ∙ at
 
 -- one more entry
-pub entries_more : (ks : List Constant) (i : ℕ) (k : Constant) (now new : List ConstantEntry) (e : ConstantEntry) → i < length ks → k ≡ get_or ks i k → new ≡ now ++ e ∷ [] → AreTheirEntries (take i ks) now →
+pub entries_more : (ks : List Constant) (i : ℕ) (k : Constant) (now new : List ConstantEntry) (e : ConstantEntry) → i < length ks → k ≡ get_or ks i k
+    → new ≡ now ++ e ∷ [] → AreTheirEntries (take i ks) now →
     e.name.items ≡ k.name.items → ((d : DeclaredType) → k.declared ≡ Some d → (e.type_vars ≡ d.type_vars) × (e.scheme ≡ d.scheme)) → AreTheirEntries (take (i + 1) ks) new
-entries_more ks i k now new e l at is before name typed j has d declared = by (Contains-append_cases (take i ks) (k ∷ []) j (subst (λ l. Contains l j) (take_more ks i k l ∙ ap (λ k. take i ks ++ k ∷ []) (sym at)) has))
+entries_more ks i k now new e l at is before name typed j has d declared = by (Contains-append_cases (take i ks) (k ∷ []) j
+    (subst (λ l. Contains l j) (take_more ks i k l ∙ ap (λ k. take i ks ++ k ∷ []) (sym at)) has))
   where
     by : Contains (take i ks) j ⊎ Contains (k ∷ []) j → (e : ConstantEntry) × Contains new e × (e.name.items ≡ j.name.items) × (e.type_vars ≡ d.type_vars) × (e.scheme ≡ d.scheme)
     by (inl c) = let (x, h, same) = before j c d declared in (x, subst (λ l. Contains l x) (sym is) (Contains-append_left now (e ∷ []) x h), same)
@@ -197,13 +206,16 @@ sights_front now new s n is l alike i h = sym (front now i (omega (arith, h, l))
     front (x ∷ xs) (suc i) h = front xs i (omega (arith, h))
 
 pub last_alike : (now new : List Sight) (s : Sight) (n : ℕ) → new ≡ now ++ s ∷ [] → length now ≡ n → AreAlike new (n + 1) → AreAlike now n × (s ≡ Alike)
-last_alike now new s n is l alike = (sights_front now new s n is (omega (arith, l)) (λ i h. alike i (omega (arith, h))), same_Some s Alike (sym (last now) ∙ ap (λ l. slice_get l (length now)) (sym is) ∙ alike (length now) (omega (arith, l))))
+last_alike now new s n is l alike = (sights_front now new s n is (omega (arith, l)) (λ i h. alike i (omega (arith, h))), same_Some s Alike
+    (sym (last now) ∙ ap (λ l. slice_get l (length now)) (sym is) ∙ alike (length now) (omega (arith, l))))
   where
     last : (xs : List Sight) → slice_get (xs ++ s ∷ []) (length xs) ≡ Some s
     last [] = refl
     last (x ∷ xs) = last xs
 
-module _ (old new : Making) (said : List (Row Said)) (used : List Signature) (at : ℕ) (x : Signature) (now then : List Sight) (s : Sight) (l : at < length used) (is : x ≡ get_or used at x) (pushed : then ≡ now ++ s ∷ []) (count : length now ≡ at) (g : Grows old new) (ordered : All IsOrdered used)
+module _ (old new : Making) (said : List (Row Said)) (used : List Signature) (at : ℕ) (x : Signature) (now then : List Sight) (s : Sight)
+    (l : at < length used) (is : x ≡ get_or used at x) (pushed : then ≡ now ++ s ∷ []) (count : length now ≡ at) (g : Grows old new)
+    (ordered : All IsOrdered used)
     (before : (n : ℕ) → n ≤ at → AreAlike now n → (i : ℕ) → i < n → (u : Signature) → slice_get used i ≡ Some u → SeenSo old (said ++ of_each said_of (take at used)) u)
     (this : AreAlike now at → s ≡ Alike → SeenSo new ((said ++ of_each said_of (take at used)) ++ said_of x) x) where
   -- the signatures that were seen before, and this one
@@ -237,7 +249,8 @@ module _ (old new : Making) (said : List (Row Said)) (used : List Signature) (at
       by (inr high) = later high
 
 -- the words of a declaration
-pub none_words : (sights : List Sight) (text : List ℕ) (signatures modules : List (List ℕ)) (l d : Declaration) → l ≡ d → accum_words (d ∷ []) ≡ [] → accumulate_in (d ∷ []) ≡ [] → AreWordsAlike sights text signatures modules (l ∷ [])
+pub none_words : (sights : List Sight) (text : List ℕ) (signatures modules : List (List ℕ)) (l d : Declaration) → l ≡ d → accum_words (d ∷ []) ≡ [] →
+    accumulate_in (d ∷ []) ≡ [] → AreWordsAlike sights text signatures modules (l ∷ [])
 none_words sights text signatures modules l d is a b = subst (λ l. AreWordsAlike sights text signatures modules (l ∷ [])) (sym is) (
   none_alike (IsAlike sights 0 signatures) (signature_words text (d ∷ [])) (ap (map (λ s. spelled text s)) a),
   none_alike (IsAlike sights (length (first_names [] signatures)) modules) (module_words text (d ∷ [])) (ap (map (λ s. spelled text s)) b),

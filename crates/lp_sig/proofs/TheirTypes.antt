@@ -58,7 +58,8 @@ later_new {A} known (r ∷ rs) n (suc i) d l (e, new) = later_new (r.0 ∷ known
         turn false true c = refl
         turn false false c = refl
 
-new_found : {A : Type 0} (known : List (List ℕ)) (rows : List (Row A)) (i : ℕ) (d : Row A) → AreNew known rows → i < length rows → (found (get_or rows i d).0 rows ≡ Some (get_or rows i d).1) × (is_among (get_or rows i d).0 known ≡ false)
+new_found : {A : Type 0} (known : List (List ℕ)) (rows : List (Row A)) (i : ℕ) (d : Row A) → AreNew known rows → i < length rows →
+    (found (get_or rows i d).0 rows ≡ Some (get_or rows i d).1) × (is_among (get_or rows i d).0 known ≡ false)
 new_found known [] i d new l = absurd (omega (arith, l))
 new_found known (r ∷ rs) zero d (e, new) l = (ap (λ t. cond t (Some r.1) (found r.0 rs)) ((bytes_eq-Decides r.0 r.0).1 refl), e)
 new_found known (r ∷ rs) (suc i) d (e, new) l =
@@ -71,7 +72,8 @@ new_found known (r ∷ rs) (suc i) d (e, new) l =
     right false b e = e
 
 -- the kinds of a signature whose names are apart are kinds
-kind_row_at : (es : List KindEntry) (back : List (Row Said)) (i : ℕ) (d : List ℕ) (c : Row Said) → i < length es → (a : ℕ) × (get_or (map kind_said es ++ back) i c ≡ (get_or (map (λ e. e.name.items) es) i d, a_kind a)) × (i < length (map kind_said es ++ back))
+kind_row_at : (es : List KindEntry) (back : List (Row Said)) (i : ℕ) (d : List ℕ) (c : Row Said) → i < length es → (a : ℕ) ×
+    (get_or (map kind_said es ++ back) i c ≡ (get_or (map (λ e. e.name.items) es) i d, a_kind a)) × (i < length (map kind_said es ++ back))
 kind_row_at [] back i d c l = absurd (omega (arith, l))
 kind_row_at (e ∷ es) back zero d c l = (e.arity, refl, omega arith)
 kind_row_at (e ∷ es) back (suc i) d c l = let (a, is, h) = kind_row_at es back i d c (omega (arith, l)) in (a, is, omega (arith, h))
@@ -93,12 +95,14 @@ own_kinds own more apart fits k d l =
     })
 
 -- its constants are new ones
-names_new : (known words : List (List ℕ)) (es : List ConstantEntry) → ((w : List ℕ) → is_among w known ≡ is_met_word w words) → first_names known (map (λ e. e.name.items) es) ≡ map (λ e. e.name.items) es → sighted.AreNew words es
+names_new : (known words : List (List ℕ)) (es : List ConstantEntry) → ((w : List ℕ) → is_among w known ≡ is_met_word w words) → first_names known
+    (map (λ e. e.name.items) es) ≡ map (λ e. e.name.items) es → sighted.AreNew words es
 names_new known words [] same e = tt
 names_new known words (x ∷ xs) same e = by (is_among x.name.items known) refl e
   where
     more : (w : List ℕ) → is_among w (x.name.items ∷ known) ≡ is_met_word w (words ++ x.name.items ∷ [])
-    more w = ap (λ b. bytes_eq w x.name.items || b) (same w) ∙ turn (bytes_eq w x.name.items) (is_among w (names_in standard_constants)) (is_among w words) ∙ ap (λ b. is_among w (names_in standard_constants) || b) (sym (behind w words))
+    more w = ap (λ b. bytes_eq w x.name.items || b) (same w) ∙ turn (bytes_eq w x.name.items) (is_among w (names_in standard_constants))
+        (is_among w words) ∙ ap (λ b. is_among w (names_in standard_constants) || b) (sym (behind w words))
       where
         behind : (w : List ℕ) (ws : List (List ℕ)) → is_among w (ws ++ x.name.items ∷ []) ≡ (bytes_eq w x.name.items || is_among w ws)
         behind w [] = refl
@@ -116,7 +120,8 @@ names_new known words (x ∷ xs) same e = by (is_among x.name.items known) refl 
         turn false true c = refl
         turn false false c = refl
 
-    by : (t : Bool) → is_among x.name.items known ≡ t → (if t then first_names known (map (λ e. e.name.items) xs) else x.name.items ∷ first_names (x.name.items ∷ known) (map (λ e. e.name.items) xs)) ≡ x.name.items ∷ map (λ e. e.name.items) xs → sighted.AreNew words (x ∷ xs)
+    by : (t : Bool) → is_among x.name.items known ≡ t → (if t then first_names known (map (λ e. e.name.items) xs) else x.name.items ∷ first_names
+        (x.name.items ∷ known) (map (λ e. e.name.items) xs)) ≡ x.name.items ∷ map (λ e. e.name.items) xs → sighted.AreNew words (x ∷ xs)
     by true s f = let l = names_few known (map (λ e. e.name.items) xs) in let z = ap length f in absurd (omega (arith, l, z))
     by false s f =
         let g : first_names (x.name.items ∷ known) (map (λ e. e.name.items) xs) ≡ map (λ e. e.name.items) xs = cc in
@@ -134,7 +139,8 @@ kind_names_of : (es : List KindEntry) → names_in (map kind_row es) ≡ map (λ
 kind_names_of [] = refl
 kind_names_of (e ∷ es) = ap (λ l. e.name.items ∷ l) (kind_names_of es)
 
-pub their_kinds : (names : Names) (said : List (Row Said)) (s : Signature) → Knows names said → map kind_row s.kinds.items ≡ numbered 8 (map kinded_row names.kinds.items) → kind_names s ≡ said_kinds said
+pub their_kinds : (names : Names) (said : List (Row Said)) (s : Signature) → Knows names said → map kind_row s.kinds.items ≡ numbered 8
+    (map kinded_row names.kinds.items) → kind_names s ≡ said_kinds said
 their_kinds names said s k e = sym (kind_names_of s.kinds.items) ∙ ap names_in (e ∙ ap (numbered 8) k.kinds) ∙ numbered_names 8 (kinds_among (declared_names said))
 
 pub their_room : (names : Names) (said : List (Row Said)) → Knows names said → 8 + length names.kinds.items ≤ END_OF_NUMBERS → 8 + length (said_kinds said) ≤ END_OF_NUMBERS
@@ -145,7 +151,8 @@ their_room names said k room =
     omega (arith, room, a, b, c)
 
 -- constants that are known are constants of the signature that is made
-pub has_named : (m : Making) (s : Signature) (said : List (Row Said)) → s.bank ≡ m.bodies.types.bank → AreTheirEntries m.constants.constants.items s.constants.items → kind_names s ≡ said_kinds said → (u : Signature) → IsOrdered u → SeenSo m said u → SeesAlike u s
+pub has_named : (m : Making) (s : Signature) (said : List (Row Said)) → s.bank ≡ m.bodies.types.bank → AreTheirEntries m.constants.constants.items
+    s.constants.items → kind_names s ≡ said_kinds said → (u : Signature) → IsOrdered u → SeenSo m said u → SeesAlike u s
 has_named m s said bank entries kinds u o seen e has = let (T, tree, same) = seen e has in by T tree same
   where
     by : (T : Ty) → HasTree m.bodies.types.bank m.constants e.name.items T → named (kind_name (said_kinds said)) T ≡ named_in u e.scheme → HasNamed s e.name.items e.type_vars (named_in u e.scheme)

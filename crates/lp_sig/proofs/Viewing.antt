@@ -71,14 +71,16 @@ module _ (κ μ : ℕ → Option (List ℕ)) where
   same_first T U e = ap (met []) (same_variables T U e)
 
 -- the entries of a signature whose types were made
-pub entries_counted : (u : Signature) (here : Nodes) (names : List (List ℕ)) (made : List TypeId) → IsOrdered u → AreSeenTypes u.bank here (kind_names u) names made → All (IsCountedEntry here made) u.constants.items
+pub entries_counted : (u : Signature) (here : Nodes) (names : List (List ℕ)) (made : List TypeId) → IsOrdered u → AreSeenTypes u.bank here
+    (kind_names u) names made → All (IsCountedEntry here made) u.constants.items
 entries_counted u here names made o seen k e l t at =
     let entry = get_or u.constants.items k e in
     let h = seen entry.scheme.0 t at in
     (h.0, o.counts k e l ∙ ap length (sym (same_first (kind_name names) (kind_name (kind_names u)) (type_tree here t.0) (type_tree u.bank entry.scheme.0) h.1)))
 
 -- what is known of them, when all types were made that stand in the bank
-pub entries_seen : (u : Signature) (here now : Nodes) (c : Constants) (names : List (List ℕ)) (made : List TypeId) → IsOrdered u → AreSeenTypes u.bank here (kind_names u) names made → length made ≡ length u.bank.types → Extends here now → All (IsSeenEntry now c made) u.constants.items →
+pub entries_seen : (u : Signature) (here now : Nodes) (c : Constants) (names : List (List ℕ)) (made : List TypeId) → IsOrdered u → AreSeenTypes u.bank
+    here (kind_names u) names made → length made ≡ length u.bank.types → Extends here now → All (IsSeenEntry now c made) u.constants.items →
     (e : ConstantEntry) → Contains u.constants.items e → (T : Ty) × HasTree now c e.name.items T × (named (kind_name names) T ≡ named_in u e.scheme)
 entries_seen u here now c names made o seen count x all e (k, l, is) =
     let entry = get_or u.constants.items k e in
@@ -102,12 +104,14 @@ module _ (names more : List (List ℕ)) where
     whole_all (types t ts) (v, w) = let f = whole_stays t v in let g = whole_all ts w in λ i. more_named (f i) (g i)
 
 -- a signature that was seen stays so
-pub seen_stays : (old new : Making) (said more : List (Row Said)) (u : Signature) → IsOrdered u → Extends old.bodies.types.bank new.bodies.types.bank → GrowsBehind old.constants new.constants → SeenSo old said u → SeenSo new (said ++ more) u
+pub seen_stays : (old new : Making) (said more : List (Row Said)) (u : Signature) → IsOrdered u → Extends old.bodies.types.bank new.bodies.types.bank
+    → GrowsBehind old.constants new.constants → SeenSo old said u → SeenSo new (said ++ more) u
 seen_stays old new said more u o x g h e has =
     let (T, tree, same) = h e has in
     let (rest, f) = kinds_more said more in
     let whole = subst IsWhole (sym same) (subst (λ e. IsWhole (named_in u e.scheme)) has.1.1 (o.whole has.0 e has.1.0)) in
-    (T, tree_later old.bodies.types.bank new.bodies.types.bank old.constants new.constants e.name.items T x g tree, ap (λ l. named (kind_name l) T) f ∙ whole_stays (said_kinds said) rest T whole ∙ same)
+    (T, tree_later old.bodies.types.bank new.bodies.types.bank old.constants new.constants e.name.items T x g tree, ap (λ l. named (kind_name l) T) f
+        ∙ whole_stays (said_kinds said) rest T whole ∙ same)
 
 -- kinds that are so in the end are so when all kinds were seen
 pub names_are : (es : List KindEntry) → names_in (map kind_said es) ≡ map (λ e. e.name.items) es
@@ -125,7 +129,8 @@ kinds_by_then said u all k d l =
 
 -- all of it
 pub seen_whole : (u : Signature) (here now : Nodes) (old new : Constants) (said : List (Row Said)) (words : List (List ℕ)) (made : List TypeId) (sk sc : Sight) → IsOrdered u →
-    ((sk ≡ Alike) ⊎ AreKinds (said ++ map kind_said u.kinds.items) (kind_names u) → AreSeenTypes u.bank here (kind_names u) (said_kinds (said ++ map kind_said u.kinds.items)) made) → length made ≡ length u.bank.types → Extends here now →
+    ((sk ≡ Alike) ⊎ AreKinds (said ++ map kind_said u.kinds.items) (kind_names u) → AreSeenTypes u.bank here (kind_names u)
+        (said_kinds (said ++ map kind_said u.kinds.items)) made) → length made ≡ length u.bank.types → Extends here now →
     (All (IsCountedEntry here made) u.constants.items → AreCounted now new × ((sc ≡ Alike) ⊎ AreNew words u.constants.items → All (IsSeenEntry now new made) u.constants.items)) →
     ((sk ≡ Alike) × (sc ≡ Alike)) ⊎ (AreKinds (said ++ said_of u) (kind_names u) × AreNew words u.constants.items) →
     AreCounted now new × ((e : ConstantEntry) → Contains u.constants.items e → (T : Ty) × HasTree now new e.name.items T × (named (kind_name (said_kinds (said ++ said_of u))) T ≡ named_in u e.scheme))
@@ -134,7 +139,8 @@ seen_whole u here now old new said words made sk sc o types_seen count x constan
     kinds : (sk ≡ Alike) ⊎ AreKinds (said ++ map kind_said u.kinds.items) (kind_names u)
     kinds = by premise
       where
-        by : ((sk ≡ Alike) × (sc ≡ Alike)) ⊎ (AreKinds (said ++ said_of u) (kind_names u) × AreNew words u.constants.items) → (sk ≡ Alike) ⊎ AreKinds (said ++ map kind_said u.kinds.items) (kind_names u)
+        by : ((sk ≡ Alike) × (sc ≡ Alike)) ⊎ (AreKinds (said ++ said_of u) (kind_names u) × AreNew words u.constants.items) → (sk ≡ Alike) ⊎ AreKinds
+            (said ++ map kind_said u.kinds.items) (kind_names u)
         by (inl q) = inl q.0
         by (inr q) = inr (kinds_by_then said u q.0)
 
@@ -156,7 +162,8 @@ seen_whole u here now old new said words made sk sc o types_seen count x constan
         let (T, tree, same) = entries_seen u here now new (said_kinds (said ++ map kind_said u.kinds.items)) made o seen count x all e has in
         let (rest, f) = kinds_more (said ++ map kind_said u.kinds.items) (map abbreviation_said u.abbreviations.items) in
         let whole = subst IsWhole (sym same) (subst (λ e. IsWhole (named_in u e.scheme)) has.1.1 (o.whole has.0 e has.1.0)) in
-        (T, tree, ap (λ l. named (kind_name l) T) (ap said_kinds (sym (append_assoc said (map kind_said u.kinds.items) (map abbreviation_said u.abbreviations.items))) ∙ f) ∙ whole_stays (said_kinds (said ++ map kind_said u.kinds.items)) rest T whole ∙ same)
+        (T, tree, ap (λ l. named (kind_name l) T) (ap said_kinds (sym (append_assoc said (map kind_said u.kinds.items)
+            (map abbreviation_said u.abbreviations.items))) ∙ f) ∙ whole_stays (said_kinds (said ++ map kind_said u.kinds.items)) rest T whole ∙ same)
 
 -- a premise by its first case
 pub left_by : {A B C : Type 0} → (A → C) → A ⊎ B → C ⊎ B

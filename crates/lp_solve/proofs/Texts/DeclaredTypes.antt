@@ -51,7 +51,8 @@ last_same (z ∷ []) [] x y e = absurd (cc)
 last_same (z ∷ w ∷ ws) [] x y e = absurd (cc)
 last_same (z ∷ zs) (w ∷ ws) x y e = let f : zs ++ x ∷ [] ≡ ws ++ y ∷ [] = cc in last_same zs ws x y f
 
-last_module : (files : List File) (g : Group SignatureText) (t : Group ModuleText) (ps before : List ℕ) (ms : List Module) (root : ℕ) (m : Module) → AreModulesAt files g t ps ms → ps ≡ before ++ 0 ∷ [] → root + 1 ≡ length ms → slice_get ms root ≡ Some m → IsModuleAt files g t 0 m
+last_module : (files : List File) (g : Group SignatureText) (t : Group ModuleText) (ps before : List ℕ) (ms : List Module) (root : ℕ) (m : Module) →
+    AreModulesAt files g t ps ms → ps ≡ before ++ 0 ∷ [] → root + 1 ≡ length ms → slice_get ms root ≡ Some m → IsModuleAt files g t 0 m
 last_module files g t ps before ms root m no_module e n at = absurd (cc)
 last_module files g t ps before ms root m (one_module qs _ ns _ p last earlier is e f) first n at =
     let zero_is : p ≡ 0 = last_same qs before p 0 (sym e ∙ first) in
@@ -88,8 +89,10 @@ same_first u own s same first =
     let ks = kind_names_same u.kinds.items own.kinds.items same.kinds in
     let cs = constant_names_same u.bank own.bank u.constants.items own.constants.items same.constants in
     record {
-      kinds = ap (λ n. take n (map (λ e. e.name.items) s.kinds.items)) (sym (length-map own.kinds.items (λ e. e.name.items)) ∙ ap length (sym ks) ∙ length-map u.kinds.items (λ e. e.name.items)) ∙ first.kinds ∙ ks;
-      constants = ap (λ n. take n (map (λ e. e.name.items) s.constants.items)) (sym (length-map own.constants.items (λ e. e.name.items)) ∙ ap length (sym cs) ∙ length-map u.constants.items (λ e. e.name.items)) ∙ first.constants ∙ cs;
+      kinds = ap (λ n. take n (map (λ e. e.name.items) s.kinds.items)) (sym (length-map own.kinds.items (λ e. e.name.items)) ∙ ap length (sym ks) ∙
+          length-map u.kinds.items (λ e. e.name.items)) ∙ first.kinds ∙ ks;
+      constants = ap (λ n. take n (map (λ e. e.name.items) s.constants.items)) (sym (length-map own.constants.items (λ e. e.name.items)) ∙ ap length
+          (sym cs) ∙ length-map u.constants.items (λ e. e.name.items)) ∙ first.constants ∙ cs;
     }
 
 same_seen : (u own s : Signature) → AreSameSignatures u own → SeesAlike u s → SeesAlike own s
@@ -109,19 +112,29 @@ declared_types sources built p read =
     let program = is.program.program in
     let j = modules_joined sources modules read is.are in
     let top = program.are.top in
-    let m = last_module files is.are.signatures is.are.texts is.are.meanings.order is.are.meanings.before modules is.program.root top is.are.meanings.meanings is.are.meanings.last is.program.last program.are.at in
-    let name : string_bytes m.name ≡ string_bytes is.name = ap string_bytes (same_Some m.name is.name (sym (get_at is.are.texts.names.items 0 m.name m.at_name) ∙ get_at is.are.texts.names.items 0 is.name is.first)) in
+    let m = last_module files is.are.signatures is.are.texts is.are.meanings.order is.are.meanings.before modules is.program.root top
+        is.are.meanings.meanings is.are.meanings.last is.program.last program.are.at in
+    let name : string_bytes m.name ≡ string_bytes is.name = ap string_bytes (same_Some m.name is.name
+        (sym (get_at is.are.texts.names.items 0 m.name m.at_name) ∙ get_at is.are.texts.names.items 0 is.name is.first)) in
     let number : m.own_is.number ≡ is.own_is.number = same_Some m.own_is.number is.own_is.number (sym m.own_is.first ∙ ap (signature_of files) name ∙ is.own_is.first) in
-    let same : AreSameSignatures m.own is.own = same_signature sources modules read is.are is.own_is.number m.own is.own (subst (λ n. IsSignatureOf is.are.signatures n m.own) number m.own_is.is) is.own_is.is in
+    let same : AreSameSignatures m.own is.own = same_signature sources modules read is.are is.own_is.number m.own is.own
+        (subst (λ n. IsSignatureOf is.are.signatures n m.own) number m.own_is.is) is.own_is.is in
     let own_apart = apart sources modules read is.are m.own_is.number m.own m.own_is.is in
     let own_ordered = ordered sources modules read is.are m.own_is.number m.own m.own_is.is in
-    let counts_kinds = sym (length-map m.own.kinds.items (λ e. e.name.items)) ∙ ap length (kind_names_same m.own.kinds.items is.own.kinds.items same.kinds) ∙ length-map is.own.kinds.items (λ e. e.name.items) in
-    let counts_constants = sym (length-map m.own.constants.items (λ e. e.name.items)) ∙ ap length (constant_names_same m.own.bank is.own.bank m.own.constants.items is.own.constants.items same.constants) ∙ length-map is.own.constants.items (λ e. e.name.items) in
+    let counts_kinds = sym (length-map m.own.kinds.items (λ e. e.name.items)) ∙ ap length
+        (kind_names_same m.own.kinds.items is.own.kinds.items same.kinds) ∙ length-map is.own.kinds.items (λ e. e.name.items) in
+    let counts_constants = sym (length-map m.own.constants.items (λ e. e.name.items)) ∙ ap length
+        (constant_names_same m.own.bank is.own.bank m.own.constants.items is.own.constants.items same.constants) ∙ length-map is.own.constants.items
+        (λ e. e.name.items) in
     let d = declared_by a.program.bank a.program.constants.items in
     let queries : DeclaresSeen d first.signature =
-    queries_declared modules is.program.root a program j is.own first.signature is.program.seen (apart sources modules read is.are is.own_is.number is.own is.own_is.is) (ordered sources modules read is.are is.own_is.number is.own is.own_is.is)
-    (same_first m.own is.own top.signature same (own_first m.own m.used m.source.items m.text.lines.items top.signature own_apart m.meaning.names)) (same_seen m.own is.own top.signature same (m.meaning.theirs.own_ones own_apart own_ordered))
-    (record { exported_kinds = length m.own.kinds.items; exported_constants = length m.own.constants.items; kinds = m.meaning.hidden_kinds; constants = m.meaning.hidden_constants }) counts_kinds counts_constants in
+    queries_declared modules is.program.root a program j is.own first.signature is.program.seen
+        (apart sources modules read is.are is.own_is.number is.own is.own_is.is) (ordered sources modules read is.are is.own_is.number is.own
+        is.own_is.is)
+    (same_first m.own is.own top.signature same (own_first m.own m.used m.source.items m.text.lines.items top.signature own_apart m.meaning.names))
+        (same_seen m.own is.own top.signature same (m.meaning.theirs.own_ones own_apart own_ordered))
+    (record { exported_kinds = length m.own.kinds.items; exported_constants = length m.own.constants.items; kinds = m.meaning.hidden_kinds;
+        constants = m.meaning.hidden_constants }) counts_kinds counts_constants in
     (
       d,
       record {

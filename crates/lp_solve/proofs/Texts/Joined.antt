@@ -103,7 +103,8 @@ module _ (files : List File) (g : Group SignatureText) (t : Group ModuleText) wh
       by (inl h) = let (x, at_x, is_x) = signature_at ms ts before i n h in (x, ap (λ l. slice_get l i) f ∙ front ts x i at_x, is_x)
       by (inr h) = (s, ap (λ l. slice_get l i) f ∙ ap (slice_get (ts ++ s ∷ [])) (h.0 ∙ same_length ms ts before) ∙ end ts, subst (λ n. IsSignatureOf g n s) h.1 is)
 
-  all_signatures : (P : Signature → Type 0) → ((n : ℕ) (s : Signature) → IsSignatureOf g n s → P s) → (ns : List ℕ) (ss : List Signature) → AreSignaturesOf g ns ss → (i : ℕ) (s : Signature) → slice_get ss i ≡ Some s → P s
+  all_signatures : (P : Signature → Type 0) → ((n : ℕ) (s : Signature) → IsSignatureOf g n s → P s) → (ns : List ℕ) (ss : List Signature) →
+      AreSignaturesOf g ns ss → (i : ℕ) (s : Signature) → slice_get ss i ≡ Some s → P s
   all_signatures P each ns ss no_signature i s e = absurd (cc)
   all_signatures P each ns ss (one_signature_more ms _ ts _ m u before is e f) i s at = by (last_or ts u s i (ap (λ l. slice_get l i) (sym f) ∙ at))
     where
@@ -125,16 +126,19 @@ record NamesFiles (files : List File) (number : ℕ) (source : List ℕ) (text :
 
 -- numbers of texts are apart, and each is that of its file
 module _ {T : Type 0} (p : Part) (IsTree : ℕ → File → T → Type 0) (files : List File) where
-  numbers_below : (n : ℕ) (numbers : List ℕ) (names : List (String Global)) (sources : List (Vec ℕ Global)) (trees : List T) → AreTexts p IsTree files n numbers names sources trees → (i k : ℕ) → slice_get numbers i ≡ Some k → k < n
+  numbers_below : (n : ℕ) (numbers : List ℕ) (names : List (String Global)) (sources : List (Vec ℕ Global)) (trees : List T) → AreTexts p IsTree files
+      n numbers names sources trees → (i k : ℕ) → slice_get numbers i ≡ Some k → k < n
   numbers_below n numbers names sources trees no_text i k e = absurd (cc)
   numbers_below n numbers names sources trees (other_text m _ f _ _ _ _ before at_f part e) i k at = let h = numbers_below m numbers names sources trees before i k at in omega (arith, h, e)
-  numbers_below n numbers names sources trees (one_text m _ f name source tree ns _ ms _ ss _ ts _ before at_f part same_name same_source is e a b c d) i k at = by (last_or ns m k i (ap (λ l. slice_get l i) (sym a) ∙ at))
+  numbers_below n numbers names sources trees (one_text m _ f name source tree ns _ ms _ ss _ ts _ before at_f part same_name same_source is e a b c
+      d) i k at = by (last_or ns m k i (ap (λ l. slice_get l i) (sym a) ∙ at))
     where
       by : (slice_get ns i ≡ Some k) ⊎ ((i ≡ length ns) × (m ≡ k)) → k < n
       by (inl h) = let l = numbers_below m ns ms ss ts before i k h in omega (arith, l, e)
       by (inr h) = let z = h.1 in omega (arith, z, e)
 
-  one_place : (n : ℕ) (numbers : List ℕ) (names : List (String Global)) (sources : List (Vec ℕ Global)) (trees : List T) → AreTexts p IsTree files n numbers names sources trees → (i j k : ℕ) → slice_get numbers i ≡ Some k → slice_get numbers j ≡ Some k → i ≡ j
+  one_place : (n : ℕ) (numbers : List ℕ) (names : List (String Global)) (sources : List (Vec ℕ Global)) (trees : List T) → AreTexts p IsTree files n
+      numbers names sources trees → (i j k : ℕ) → slice_get numbers i ≡ Some k → slice_get numbers j ≡ Some k → i ≡ j
   one_place n numbers names sources trees no_text i j k e f = absurd (cc)
   one_place n numbers names sources trees (other_text m _ f _ _ _ _ before at_f part e) i j k a b = one_place m numbers names sources trees before i j k a b
   one_place n numbers names sources trees (one_text m _ f name source tree ns _ ms _ ss _ ts _ before at_f part same_name same_source is e a b c d) i j k at_i at_j =
@@ -146,7 +150,8 @@ module _ {T : Type 0} (p : Part) (IsTree : ℕ → File → T → Type 0) (files
       by (inr x) (inl y) = let l = numbers_below m ns ms ss ts before j k y in let z = x.1 in absurd (omega (arith, l, z))
       by (inr x) (inr y) = x.0 ∙ sym y.0
 
-  same_lengths : (n : ℕ) (numbers : List ℕ) (names : List (String Global)) (sources : List (Vec ℕ Global)) (trees : List T) → AreTexts p IsTree files n numbers names sources trees → (length sources ≡ length numbers) × (length trees ≡ length numbers)
+  same_lengths : (n : ℕ) (numbers : List ℕ) (names : List (String Global)) (sources : List (Vec ℕ Global)) (trees : List T) → AreTexts p IsTree files
+      n numbers names sources trees → (length sources ≡ length numbers) × (length trees ≡ length numbers)
   same_lengths n numbers names sources trees no_text = (refl, refl)
   same_lengths n numbers names sources trees (other_text m _ f _ _ _ _ before at_f part e) = same_lengths m numbers names sources trees before
   same_lengths n numbers names sources trees (one_text m _ f name source tree ns _ ms _ ss _ ts _ before at_f part same_name same_source is e a b c d) =
@@ -155,7 +160,8 @@ module _ {T : Type 0} (p : Part) (IsTree : ℕ → File → T → Type 0) (files
       let y = ap length c ∙ length-append ss (source ∷ []) in
       let z = ap length d ∙ length-append ts (tree ∷ []) in (y ∙ ap (λ n. n + 1) h.0 ∙ sym x, z ∙ ap (λ n. n + 1) h.1 ∙ sym x)
 
-  text_at : (n : ℕ) (numbers : List ℕ) (names : List (String Global)) (sources : List (Vec ℕ Global)) (trees : List T) → AreTexts p IsTree files n numbers names sources trees → (i number : ℕ) (source : Vec ℕ Global) (tree : T) →
+  text_at : (n : ℕ) (numbers : List ℕ) (names : List (String Global)) (sources : List (Vec ℕ Global)) (trees : List T) → AreTexts p IsTree files n
+      numbers names sources trees → (i number : ℕ) (source : Vec ℕ Global) (tree : T) →
       slice_get numbers i ≡ Some number → slice_get sources i ≡ Some source → slice_get trees i ≡ Some tree → IsFileText IsTree files number source tree
   text_at n numbers names sources trees no_text i number source tree x y z = absurd (cc)
   text_at n numbers names sources trees (other_text m _ f _ _ _ _ before at_f part e) i number source tree x y z = text_at m numbers names sources trees before i number source tree x y z
@@ -165,7 +171,8 @@ module _ {T : Type 0} (p : Part) (IsTree : ℕ → File → T → Type 0) (files
       long : (length ss ≡ length ns) × (length ts ≡ length ns)
       long = same_lengths m ns ms ss ts before
 
-      by : (slice_get ns i ≡ Some number) ⊎ ((i ≡ length ns) × (m ≡ number)) → (slice_get ss i ≡ Some source) ⊎ ((i ≡ length ss) × (s ≡ source)) → (slice_get ts i ≡ Some tree) ⊎ ((i ≡ length ts) × (t ≡ tree)) → IsFileText IsTree files number source tree
+      by : (slice_get ns i ≡ Some number) ⊎ ((i ≡ length ns) × (m ≡ number)) → (slice_get ss i ≡ Some source) ⊎ ((i ≡ length ss) × (s ≡ source)) →
+          (slice_get ts i ≡ Some tree) ⊎ ((i ≡ length ts) × (t ≡ tree)) → IsFileText IsTree files number source tree
       by (inl u) (inl v) (inl w) = text_at m ns ms ss ts before i number source tree u v w
       by (inl u) (inr v) w = let l = slice_get_within ns i number u in let e = v.0 in let q = long.0 in absurd (omega (arith, l, e, q))
       by (inl u) v (inr w) = let l = slice_get_within ns i number u in let e = w.0 in let q = long.1 in absurd (omega (arith, l, e, q))
@@ -222,18 +229,21 @@ some_first f w ws x e = ap (λ o. cons_option o (filter_map f ws)) e
 
 -- there are no more of them than different words
 module _ (f : List ℕ → Option ℕ) where
-  few : (es : List ℕ) (known ws : List (List ℕ)) → ((n : List ℕ) (x : ℕ) → is_among n known ≡ true → f n ≡ Some x → Contains es x) → length (insert_all nat_eq es (filter_map f ws)) ≤ length es + length (first_names known ws)
+  few : (es : List ℕ) (known ws : List (List ℕ)) → ((n : List ℕ) (x : ℕ) → is_among n known ≡ true → f n ≡ Some x → Contains es x) → length
+      (insert_all nat_eq es (filter_map f ws)) ≤ length es + length (first_names known ws)
   few es known [] old = omega arith
   few es known (w ∷ ws) old = by (f w) refl (is_among w known) refl
     where
-      later : (es : List ℕ) → ((n : List ℕ) (x : ℕ) → is_among n known ≡ true → f n ≡ Some x → Contains es x) → ((x : ℕ) → f w ≡ Some x → Contains es x) → (n : List ℕ) (x : ℕ) → is_among n (w ∷ known) ≡ true → f n ≡ Some x → Contains es x
+      later : (es : List ℕ) → ((n : List ℕ) (x : ℕ) → is_among n known ≡ true → f n ≡ Some x → Contains es x) →
+          ((x : ℕ) → f w ≡ Some x → Contains es x) → (n : List ℕ) (x : ℕ) → is_among n (w ∷ known) ≡ true → f n ≡ Some x → Contains es x
       later es old this n x among is = go (bytes_eq n w) refl among
         where
           go : (t : Bool) → bytes_eq n w ≡ t → (t || is_among n known) ≡ true → Contains es x
           go true s a = this x (ap f (sym ((bytes_eq-Decides n w).0 s)) ∙ is)
           go false s a = old n x a is
 
-      by : (o : Option ℕ) → f w ≡ o → (t : Bool) → is_among w known ≡ t → length (insert_all nat_eq es (filter_map f (w ∷ ws))) ≤ length es + length (if t then first_names known ws else w ∷ first_names (w ∷ known) ws)
+      by : (o : Option ℕ) → f w ≡ o → (t : Bool) → is_among w known ≡ t → length (insert_all nat_eq es (filter_map f (w ∷ ws))) ≤ length es + length
+          (if t then first_names known ws else w ∷ first_names (w ∷ known) ws)
       by None e true s = subst (λ xs. length (insert_all nat_eq es xs) ≤ length es + length (first_names known ws)) (sym (none_first f w ws e)) (few es known ws old)
       by None e false s =
           let h = few es (w ∷ known) ws (later es old (λ x is. let z = sym e ∙ is in absurd (cc))) in
@@ -241,9 +251,11 @@ module _ (f : List ℕ → Option ℕ) where
       by (Some x) e true s =
           let same : insert_key nat_eq es x ≡ es = ap (λ t. if t then es else es ++ x ∷ []) (of_any es x (old w x s e)) in
           let h = few es known ws old in
-          subst (λ xs. length (insert_all nat_eq es xs) ≤ length es + length (first_names known ws)) (sym (some_first f w ws x e)) (subst (λ ks. length (insert_all nat_eq ks (filter_map f ws)) ≤ length es + length (first_names known ws)) (sym same) h)
+          subst (λ xs. length (insert_all nat_eq es xs) ≤ length es + length (first_names known ws)) (sym (some_first f w ws x e))
+              (subst (λ ks. length (insert_all nat_eq ks (filter_map f ws)) ≤ length es + length (first_names known ws)) (sym same) h)
       by (Some x) e false s =
-          let h = few (insert_key nat_eq es x) (w ∷ known) ws (later (insert_key nat_eq es x) (λ n y a is. kept es (x ∷ []) y (old n y a is)) (λ y is. subst (Contains (insert_key nat_eq es x)) (same_Some x y (sym e ∙ is)) (inserted es (x ∷ []) x (Contains_head x [])))) in
+          let h = few (insert_key nat_eq es x) (w ∷ known) ws (later (insert_key nat_eq es x) (λ n y a is. kept es (x ∷ []) y (old n y a is))
+              (λ y is. subst (Contains (insert_key nat_eq es x)) (same_Some x y (sym e ∙ is)) (inserted es (x ∷ []) x (Contains_head x [])))) in
           let l = one_longer (list_any (nat_eq x) es) in
           subst (λ xs. length (insert_all nat_eq es xs) ≤ length es + suc (length (first_names (w ∷ known) ws))) (sym (some_first f w ws x e)) (omega (arith, h, l))
         where
@@ -333,8 +345,10 @@ module _ (sources : Sources) (modules : List Module) (read : AreRead sources) (a
 
   pub same_signature : (n : ℕ) (s u : Signature) → IsSignatureOf g n s → IsSignatureOf g n u → AreSameSignatures s u
   same_signature n s u a b =
-      let e = one_place part.Signature IsSignatureTree files (length files) g.numbers.items g.names.items g.sources.items g.texts.items are.signature_texts a.place b.place n (get_at g.numbers.items a.place n a.there) (get_at g.numbers.items b.place n b.there) in
-      one_signature g.names.items g.sources.items g.texts.items a.place (map fixity_row s.fixities.items) (map fixity_row u.fixities.items) s u a.declared (subst (λ p. IsDeclaredAt g p u) (sym e) b.declared)
+      let e = one_place part.Signature IsSignatureTree files (length files) g.numbers.items g.names.items g.sources.items g.texts.items
+          are.signature_texts a.place b.place n (get_at g.numbers.items a.place n a.there) (get_at g.numbers.items b.place n b.there) in
+      one_signature g.names.items g.sources.items g.texts.items a.place (map fixity_row s.fixities.items) (map fixity_row u.fixities.items) s u
+          a.declared (subst (λ p. IsDeclaredAt g p u) (sym e) b.declared)
 
   -- a module's meaning
   pub meaning_at : (k : ℕ) (m : Module) → slice_get modules k ≡ Some m → (p : ℕ) × IsModuleAt files g t p m
@@ -355,7 +369,8 @@ module _ (sources : Sources) (modules : List Module) (read : AreRead sources) (a
       let at = get_at files a.number f h.at in
       let one = λ (of_file : File → List ℕ). get_or_from_slice_get (map of_file files) a.number (of_file f) [] (mapped_at of_file files a.number f at) in
       let named = λ (words : List Spot) (text_words : List Spot) (e : words ≡ text_words).
-          ap each_once (ap (filter_map (λ w. signature_of files (spelled bytes w))) e ∙ by_spots (signature_of files) bytes text_words ∙ ap (λ s. filter_map (signature_of files) (map (spelled s) text_words)) (sym h.bytes)) in
+          ap each_once (ap (filter_map (λ w. signature_of files (spelled bytes w))) e ∙ by_spots (signature_of files) bytes text_words ∙ ap
+              (λ s. filter_map (signature_of files) (map (spelled s) text_words)) (sym h.bytes)) in
       record {
         accum_sig = one (accum_sig_of files) ∙ named f.text.references.accum_sig.items (accum_words (declarations a.text.lines.items)) w.1;
         accumulate = one (accumulate_of files) ∙ named f.text.references.accumulate.items (accumulate_in (declarations a.text.lines.items)) (w.0 ∙ words_same a.text.lines.items);
@@ -384,17 +399,21 @@ module _ (sources : Sources) (modules : List Module) (read : AreRead sources) (a
       let word : Contains words m.name.items = subst (λ ws. Contains ws m.name.items) (a.meaning.uses ∙ ap (map (spelled a.source.items)) (words_same a.text.lines.items)) uses in
       let number : signature_of files m.name.items ≡ Some b.own_is.number = ap (signature_of files) b.meaning.name ∙ b.own_is.first in
       let among : Contains numbers b.own_is.number = Contains-append_right (accum_sig_at files a.number) (accumulate_at files a.number) b.own_is.number
-          (subst (λ ns. Contains ns b.own_is.number) (sym n.accumulate) (inserted [] (filter_map (signature_of files) words) b.own_is.number (has_number (signature_of files) words m.name.items b.own_is.number word number))) in
+          (subst (λ ns. Contains ns b.own_is.number) (sym n.accumulate) (inserted [] (filter_map (signature_of files) words) b.own_is.number
+              (has_number (signature_of files) words m.name.items b.own_is.number word number))) in
       let (i, at) = in_list numbers b.own_is.number among in
       let (u, at_u, is_u) = signature_at files g t numbers a.used a.used_are i b.own_is.number at in
       let few_l = few_named p above a in
       let l = slice_get_within numbers i b.own_is.number at in
       let all_ordered : All IsOrdered a.used = λ k d h. all_signatures files g t IsOrdered ordered numbers a.used a.used_are k (get_or a.used k d) (slice_get-get_or a.used k d h) in
-      let seen : SeesAlike u above.signature = a.meaning.theirs.used_ones (apart a.own_is.number a.own a.own_is.is) (ordered a.own_is.number a.own a.own_is.is) all_ordered i u at_u (omega (arith, few_l, l)) in
+      let seen : SeesAlike u above.signature = a.meaning.theirs.used_ones (apart a.own_is.number a.own a.own_is.is)
+          (ordered a.own_is.number a.own a.own_is.is) all_ordered i u at_u (omega (arith, few_l, l)) in
       let own_apart = apart b.own_is.number b.own b.own_is.is in
       let own_ordered = ordered b.own_is.number b.own b.own_is.is in
-      joined_by above m b.own u (record { exported_kinds = length b.own.kinds.items; exported_constants = length b.own.constants.items; kinds = b.meaning.hidden_kinds; constants = b.meaning.hidden_constants }) refl refl
-      (signature_numbered b.own b.used b.source.items b.text.lines.items m.signature b.meaning.names) (own_first b.own b.used b.source.items b.text.lines.items m.signature own_apart b.meaning.names) own_apart own_ordered
+      joined_by above m b.own u (record { exported_kinds = length b.own.kinds.items; exported_constants = length b.own.constants.items;
+          kinds = b.meaning.hidden_kinds; constants = b.meaning.hidden_constants }) refl refl
+      (signature_numbered b.own b.used b.source.items b.text.lines.items m.signature b.meaning.names)
+          (own_first b.own b.used b.source.items b.text.lines.items m.signature own_apart b.meaning.names) own_apart own_ordered
       (b.meaning.theirs.own_ones own_apart own_ordered) (same_signature b.own_is.number u b.own is_u b.own_is.is) seen
 
   pub modules_joined : AreJoined modules
@@ -407,7 +426,8 @@ module _ (sources : Sources) (modules : List Module) (read : AreRead sources) (a
     joined = λ k j above m at_k used at_j.
         let (p, a) = meaning_at k above at_k in
         let (q, b) = meaning_at j m at_j in
-        let uses = get_or_from_slice_get (uses_of modules) k (numbers_of (names_of modules) (map (λ u. u.items) above.uses.items)) [] (mapped_at (λ m. numbers_of (names_of modules) (map (λ u. u.items) m.uses.items)) modules k above at_k) in
+        let uses = get_or_from_slice_get (uses_of modules) k (numbers_of (names_of modules) (map (λ u. u.items) above.uses.items)) []
+            (mapped_at (λ m. numbers_of (names_of modules) (map (λ u. u.items) m.uses.items)) modules k above at_k) in
         let (w, has, first) = named_one (names_of modules) (map (λ u. u.items) above.uses.items) j (subst (λ ns. Contains ns j) uses used) in
         let name : m.name.items ≡ w = same_Some m.name.items w (sym (mapped_at (λ m. m.name.items) modules j m at_j) ∙ place_name (names_of modules) w j first) in
         joined_at above m p q a b (subst (Contains (map (λ u. u.items) above.uses.items)) (sym name) has);

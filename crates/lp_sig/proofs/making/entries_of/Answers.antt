@@ -9,7 +9,8 @@ loop-place-init c = (refl, omega arith)
 
 pub loop-place-preserved : goal.loop-place-preserved
 loop-place-preserved c = (
-  entry_more c.args.kinds.now c.loop-place.place c.index-kinds-place.result c.loop-place.entries.items c.push.new.self.items c.in_ok-entry.entry c.loop-place-test.true c.index-kinds-place.is c.loop-place.invariant.0 c.in_ok-push.ensures.items c.in_ok-entry.ensures.row,
+  entry_more c.args.kinds.now c.loop-place.place c.index-kinds-place.result c.loop-place.entries.items c.push.new.self.items c.in_ok-entry.entry
+      c.loop-place-test.true c.index-kinds-place.is c.loop-place.invariant.0 c.in_ok-push.ensures.items c.in_ok-entry.ensures.row,
   (let r = c.in_ok-entry.ensures.room in omega (arith, r)),
 )
 

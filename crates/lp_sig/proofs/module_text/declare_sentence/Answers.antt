@@ -21,8 +21,11 @@ pub returns-in-Says-clause-grown : goal.returns-in-Says-clause-grown
 returns-in-Says-clause-grown c = making_same c.args.making.now
 
 pub returns-in-Declares-clause-alike : goal.returns-in-Declares-clause-alike
-returns-in-Declares-clause-alike c = on_ok_weaker c.declare.result (λ f signatures modules h k. subst (λ l. AreWordsAlike c.args.lines.now.sights.now c.args.lines.now.source.now signatures modules (declarations (l ∷ []))) (sym c.in-Declares.is) (f signatures modules h k)) c.declare.ensures.alike
+returns-in-Declares-clause-alike c = on_ok_weaker c.declare.result (λ f signatures modules h k. subst
+    (λ l. AreWordsAlike c.args.lines.now.sights.now c.args.lines.now.source.now signatures modules (declarations (l ∷ []))) (sym c.in-Declares.is)
+    (f signatures modules h k)) c.declare.ensures.alike
 
 pub returns-in-Says-clause-alike : goal.returns-in-Says-clause-alike
-returns-in-Says-clause-alike c = λ signatures modules h k. subst (λ l. AreWordsAlike c.args.lines.now.sights.now c.args.lines.now.source.now signatures modules (declarations (l ∷ []))) (sym c.in-Says.is)
+returns-in-Says-clause-alike c = λ signatures modules h k. subst (λ l. AreWordsAlike c.args.lines.now.sights.now c.args.lines.now.source.now
+    signatures modules (declarations (l ∷ []))) (sym c.in-Says.is)
     (All-nil (IsAlike c.args.lines.now.sights.now 0 signatures), All-nil (IsAlike c.args.lines.now.sights.now (length (first_names [] signatures)) modules))

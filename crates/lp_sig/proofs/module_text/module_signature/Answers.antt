@@ -66,5 +66,6 @@ returns-clause-theirs c =
           let o : IsOrdered u = subst IsOrdered (same_Some (get_or used i u) u (sym (slice_get-get_or used i u l) ∙ at)) (all i u l) in
           has_named m s said c.in_ok-signature.ensures.bank c.in_ok-signature.ensures.typed kinds u o
           (seen_stays c.see_all.new.making m (said_of own ++ of_each said_of used) (said_in text ds) u o g.bank g.constants
-          (c.in_ok-sights.ensures.seen [] [] c.new-making.ensures.names c.new-making.ensures.words none ordered (here apart) (own_new own apart) all (i + 1) (omega (arith, l)) (λ j h. alike j (omega (arith, h, below))) i (omega arith) u at));
+          (c.in_ok-sights.ensures.seen [] [] c.new-making.ensures.names c.new-making.ensures.words none ordered (here apart) (own_new own apart) all
+              (i + 1) (omega (arith, l)) (λ j h. alike j (omega (arith, h, below))) i (omega arith) u at));
     }

@@ -18,7 +18,10 @@ invariant-loop-at l = record {
   operators : l.making.operators ≡ l.fn.making.operators;
   grown : Grows l.fn.making l.making;
   count : length l.sights.items ≡ l.at;
-  counted : (said : List (Row Said)) (words : List (List ℕ)) → Knows l.fn.making.names said → HasWords l.fn.making.constants words → AreCounted l.fn.making.bodies.types.bank l.fn.making.constants → All IsOrdered l.used → AreAlike l.sights.items l.at → AreCounted l.making.bodies.types.bank l.making.constants;
-  seen : (said : List (Row Said)) (words : List (List ℕ)) → Knows l.fn.making.names said → HasWords l.fn.making.constants words → AreCounted l.fn.making.bodies.types.bank l.fn.making.constants → All IsOrdered l.used →
+  counted : (said : List (Row Said)) (words : List (List ℕ)) → Knows l.fn.making.names said → HasWords l.fn.making.constants words → AreCounted
+      l.fn.making.bodies.types.bank l.fn.making.constants → All IsOrdered l.used → AreAlike l.sights.items l.at → AreCounted
+      l.making.bodies.types.bank l.making.constants;
+  seen : (said : List (Row Said)) (words : List (List ℕ)) → Knows l.fn.making.names said → HasWords l.fn.making.constants words → AreCounted
+      l.fn.making.bodies.types.bank l.fn.making.constants → All IsOrdered l.used →
       (n : ℕ) → n ≤ l.at → AreAlike l.sights.items n → (i : ℕ) → i < n → (u : Signature) → slice_get l.used i ≡ Some u → SeenSo l.making (said ++ of_each said_of (take l.at l.used)) u;
 }

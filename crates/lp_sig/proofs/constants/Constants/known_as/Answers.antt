@@ -45,10 +45,12 @@ pub returns-in-None-clause-met : goal.returns-in-None-clause-met
 returns-in-None-clause-met c = λ words h. met_declared c.args.self.now c.args.word.now words c.in-Some-of.place c.in-Some-of.ensures h
 
 pub returns-in-Some-clause-tree : goal.returns-in-Some-clause-tree
-returns-in-Some-clause-tree c = λ words h all. tree_standard c.standard_type.new.types.bank c.args.self.now c.args.word.now c.in-Some.number c.in_ok-known.known c.in-Some.ensures c.in_ok-known.ensures.tree
+returns-in-Some-clause-tree c = λ words h all. tree_standard c.standard_type.new.types.bank c.args.self.now c.args.word.now c.in-Some.number
+    c.in_ok-known.known c.in-Some.ensures c.in_ok-known.ensures.tree
 
 pub returns-in-Some-declared-clause-tree : goal.returns-in-Some-declared-clause-tree
 returns-in-Some-declared-clause-tree c = λ words h all.
     let x = c.in-Some-get.constant.now in
     let at : x ≡ get_or c.args.self.now.constants.items c.in-Some-of.place x = c.in-Some-get.ensures.lookup.1 ∙ ap (λ xs. get_or xs c.in-Some-of.place x) c.deref.ensures.value in
-    tree_declared c.args.types.now.bank c.args.types.now.bank c.args.self.now c.args.word.now words c.in-Some-of.place x c.in-Some-declared.declared h c.in-Some-of.ensures at c.in-Some-declared.is all (extends_same c.args.types.now.bank)
+    tree_declared c.args.types.now.bank c.args.types.now.bank c.args.self.now c.args.word.now words c.in-Some-of.place x c.in-Some-declared.declared h
+        c.in-Some-of.ensures at c.in-Some-declared.is all (extends_same c.args.types.now.bank)

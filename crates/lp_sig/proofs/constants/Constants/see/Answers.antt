@@ -29,18 +29,21 @@ pub returns-in-Typed-clause-grown : goal.returns-in-Typed-clause-grown
 returns-in-Typed-clause-grown c = grows_same c.args.self.now
 
 pub returns-in-New-clause-seen : goal.returns-in-New-clause-seen
-returns-in-New-clause-seen c = seen_new c.see_new.result c.args.types.now.bank c.known_as.new.types.bank c.args.self.now c.see_new.new.self c.args.made.now c.args.entry.now c.as_slice-name.result.now c.in_ok-scheme.scheme
+returns-in-New-clause-seen c = seen_new c.see_new.result c.args.types.now.bank c.known_as.new.types.bank c.args.self.now c.see_new.new.self
+    c.args.made.now c.args.entry.now c.as_slice-name.result.now c.in_ok-scheme.scheme
     c.in_ok-scheme.ensures c.as_slice-name.ensures.value c.known_as.ensures.kept c.see_new.ensures.put
 
 pub returns-in-Untyped-clause-seen : goal.returns-in-Untyped-clause-seen
 returns-in-Untyped-clause-seen c = λ words h all counted. (
   counted_later c.args.types.now.bank c.known_as.new.types.bank c.args.self.now c.known_as.ensures.kept all,
-  seen_never c.known_as.new.types.bank c.args.self.now c.args.made.now c.args.entry.now words (c.in_ok-known_as.ensures.met words h) c.as_slice-name.ensures.value (ap is_met c.in-Untyped.is) (λ q. absurd (cc)),
+  seen_never c.known_as.new.types.bank c.args.self.now c.args.made.now c.args.entry.now words (c.in_ok-known_as.ensures.met words h)
+      c.as_slice-name.ensures.value (ap is_met c.in-Untyped.is) (λ q. absurd (cc)),
 )
 
 pub returns-in-Typed-clause-seen : goal.returns-in-Typed-clause-seen
 returns-in-Typed-clause-seen c = λ words h all counted. (
   counted_later c.args.types.now.bank c.known_as.new.types.bank c.args.self.now c.known_as.ensures.kept all,
-  seen_known c.known_as.new.types.bank c.args.self.now c.args.made.now c.args.entry.now words (c.in_ok-known_as.ensures.met words h) c.as_slice-name.ensures.value (ap is_met c.in-Typed.is) c.in_ok-scheme.scheme c.in-Typed.known c.in_ok-scheme.ensures
+  seen_known c.known_as.new.types.bank c.args.self.now c.args.made.now c.args.entry.now words (c.in_ok-known_as.ensures.met words h)
+      c.as_slice-name.ensures.value (ap is_met c.in-Typed.is) c.in_ok-scheme.scheme c.in-Typed.known c.in_ok-scheme.ensures
       (subst (IsTreeOf c.known_as.new.types.bank c.args.self.now c.as_slice-name.result.now) c.in-Typed.is (c.in_ok-known_as.ensures.tree words h all)) (λ q. ? ),
 )

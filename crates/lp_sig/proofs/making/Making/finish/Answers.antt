@@ -52,7 +52,8 @@ pub returns-clause-bank : goal.returns-clause-bank
 returns-clause-bank c = IfOk-weaker c.of.result (λ s. s.bank ≡ c.into_bank.result) (λ s. s.bank ≡ c.args.self.bodies.types.bank) (λ s e. e ∙ c.into_bank.ensures) c.of.ensures.bank
 
 pub returns-clause-room : goal.returns-clause-room
-returns-clause-room c = IfOk-weaker c.of.result (λ s. s.bank ≡ c.into_bank.result) (λ s. 8 + length c.args.self.names.kinds.items ≤ END_OF_NUMBERS) (λ s e. subst (λ ks. 8 + length ks ≤ END_OF_NUMBERS) c.as_slice.ensures.value c.in_ok-kinds.ensures.room) c.of.ensures.bank
+returns-clause-room c = IfOk-weaker c.of.result (λ s. s.bank ≡ c.into_bank.result) (λ s. 8 + length c.args.self.names.kinds.items ≤ END_OF_NUMBERS)
+    (λ s e. subst (λ ks. 8 + length ks ≤ END_OF_NUMBERS) c.as_slice.ensures.value c.in_ok-kinds.ensures.room) c.of.ensures.bank
 
 pub returns-clause-typed : goal.returns-clause-typed
 returns-clause-typed c = IfOk-weaker c.of.result (λ s. s.constants ≡ c.in_ok-constants.constants) (λ s. AreTheirEntries c.args.self.constants.constants.items s.constants.items)

@@ -6,4 +6,5 @@ use Rattle.lp_sig.specs.Sights.{HasNumbers, IsAlike}
 use Rattle.lp_sig.proofs.module_lines.ModuleLines.accum_sig.Given as goal
 
 abbrev pub invariant-loop-word : goal.invariant-loop-word
-invariant-loop-word l = (signatures : List (List ℕ)) → HasNumbers l.self.said.now.accum_sigs signatures → All (IsAlike l.self.sights.now 0 signatures) (map (λ s. spelled l.self.source.now s) (take l.word-index l.words))
+invariant-loop-word l = (signatures : List (List ℕ)) → HasNumbers l.self.said.now.accum_sigs signatures → All (IsAlike l.self.sights.now 0 signatures)
+    (map (λ s. spelled l.self.source.now s) (take l.word-index l.words))

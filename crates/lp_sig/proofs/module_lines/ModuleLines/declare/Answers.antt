@@ -64,27 +64,34 @@ pub returns-in-Fixities-clause-grown : goal.returns-in-Fixities-clause-grown
 returns-in-Fixities-clause-grown c = making_same c.args.making.now
 
 pub returns-in-Kinds-clause-alike : goal.returns-in-Kinds-clause-alike
-returns-in-Kinds-clause-alike c = on_ok_always c.kinds.result _ (λ signatures modules h k. none_words c.args.self.now.sights.now c.args.self.now.source.now signatures modules c.args.declaration.now _ c.in-Kinds.is refl refl)
+returns-in-Kinds-clause-alike c = on_ok_always c.kinds.result _ (λ signatures modules h k. none_words c.args.self.now.sights.now
+    c.args.self.now.source.now signatures modules c.args.declaration.now _ c.in-Kinds.is refl refl)
 
 pub returns-in-LocalKinds-clause-alike : goal.returns-in-LocalKinds-clause-alike
-returns-in-LocalKinds-clause-alike c = on_ok_always c.local_kinds_of.result _ (λ signatures modules h k. none_words c.args.self.now.sights.now c.args.self.now.source.now signatures modules c.args.declaration.now _ c.in-LocalKinds.is refl refl)
+returns-in-LocalKinds-clause-alike c = on_ok_always c.local_kinds_of.result _ (λ signatures modules h k. none_words c.args.self.now.sights.now
+    c.args.self.now.source.now signatures modules c.args.declaration.now _ c.in-LocalKinds.is refl refl)
 
 pub returns-in-Abbreviation-clause-alike : goal.returns-in-Abbreviation-clause-alike
-returns-in-Abbreviation-clause-alike c = on_ok_always c.abbreviation.result _ (λ signatures modules h k. none_words c.args.self.now.sights.now c.args.self.now.source.now signatures modules c.args.declaration.now _ c.in-Abbreviation.is refl refl)
+returns-in-Abbreviation-clause-alike c = on_ok_always c.abbreviation.result _ (λ signatures modules h k. none_words c.args.self.now.sights.now
+    c.args.self.now.source.now signatures modules c.args.declaration.now _ c.in-Abbreviation.is refl refl)
 
 pub returns-in-Constants-clause-alike : goal.returns-in-Constants-clause-alike
-returns-in-Constants-clause-alike c = on_ok_always c.constants.result _ (λ signatures modules h k. none_words c.args.self.now.sights.now c.args.self.now.source.now signatures modules c.args.declaration.now _ c.in-Constants.is refl refl)
+returns-in-Constants-clause-alike c = on_ok_always c.constants.result _ (λ signatures modules h k. none_words c.args.self.now.sights.now
+    c.args.self.now.source.now signatures modules c.args.declaration.now _ c.in-Constants.is refl refl)
 
 pub returns-in-Locals-clause-alike : goal.returns-in-Locals-clause-alike
-returns-in-Locals-clause-alike c = on_ok_always c.locals_typed.result _ (λ signatures modules h k. none_words c.args.self.now.sights.now c.args.self.now.source.now signatures modules c.args.declaration.now _ c.in-Locals.is refl refl)
+returns-in-Locals-clause-alike c = on_ok_always c.locals_typed.result _ (λ signatures modules h k. none_words c.args.self.now.sights.now
+    c.args.self.now.source.now signatures modules c.args.declaration.now _ c.in-Locals.is refl refl)
 
 pub returns-in-Fixities-clause-alike : goal.returns-in-Fixities-clause-alike
 returns-in-Fixities-clause-alike c = λ signatures modules h k. none_words c.args.self.now.sights.now c.args.self.now.source.now signatures modules c.args.declaration.now _ c.in-Fixities.is refl refl
 
 pub returns-in-Accumulate-clause-alike : goal.returns-in-Accumulate-clause-alike
 returns-in-Accumulate-clause-alike c = on_ok_weaker c.accumulate.result (λ f signatures modules h k.
-    its_modules c.args.self.now.sights.now c.args.self.now.source.now signatures modules c.args.declaration.now _ _ c.in-Accumulate.is c.as_slice-in-Accumulate.ensures.value (f signatures modules h k)) c.accumulate.ensures
+    its_modules c.args.self.now.sights.now c.args.self.now.source.now signatures modules c.args.declaration.now _ _ c.in-Accumulate.is
+        c.as_slice-in-Accumulate.ensures.value (f signatures modules h k)) c.accumulate.ensures
 
 pub returns-in-AccumSig-clause-alike : goal.returns-in-AccumSig-clause-alike
 returns-in-AccumSig-clause-alike c = on_ok_weaker c.accum_sig.result (λ f signatures modules h k.
-    its_signatures c.args.self.now.sights.now c.args.self.now.source.now signatures modules c.args.declaration.now _ _ c.in-AccumSig.is c.as_slice-in-AccumSig.ensures.value (f signatures h)) c.accum_sig.ensures
+    its_signatures c.args.self.now.sights.now c.args.self.now.source.now signatures modules c.args.declaration.now _ _ c.in-AccumSig.is
+        c.as_slice-in-AccumSig.ensures.value (f signatures h)) c.accum_sig.ensures
