@@ -1,12 +1,13 @@
 -- How each thing that is asked for is carried out, by what its command shows.
 use Rattle.std.proofs.Common.{◌≡◌, ◌≢◌, ℕ, List, ◌++◌, Option, Some, None, refl, sym, ap, ◌∙◌, subst, inl, inr, Bool, true, false}
-use Rattle.std.specs.Prelude.{◌⊎◌, IfSome, if◌then◌else◌, ◌&&◌, not, is_none}
-use Rattle.lp_lemmas.proofs.Booleans.{and_true_right}
+use Rattle.std.specs.Prelude.{◌⊎◌, IfSome, if◌then◌else◌, ◌&&◌, not, is_none, unwrap_or}
+use Rattle.lp_lemmas.proofs.Booleans.{and_true_left, and_true_right}
 use Rattle.lp_base.specs.Held.{Held}
+use Rattle.lp_base.specs.declared.limits.TheConstants.{DEFAULT_ANSWERS, DEFAULT_STEPS}
 use Rattle.lp_base.specs.declared.status.Status.{Status}
 use Rattle.lp_base.specs.declared.status.Status.TheVariants as variant
 use Rattle.lp_cli.specs.Does.{Does}
-use Rattle.lp_cli.specs.Fulfils.{Fulfils, IsWhole, Solves}
+use Rattle.lp_cli.specs.Fulfils.{Fulfils, IsWhole, Solves, answer_limit, step_limit}
 use Rattle.lp_files.specs.Made.{WritesMade}
 use Rattle.lp_judge.specs.Checked.{Checks}
 use Rattle.lp_judge.specs.Judged.{Judges}
@@ -65,8 +66,8 @@ module _ (name query : List ℕ) (options : Options) (plain : is_plain options �
 
 -- a query without options is not watched
 module _ (name query : List ℕ) (options : Options) (plain : is_plain options ≡ true) (told : Option Held) (old new : Option (List ℕ)) (result : Status)
-    (writes : (h : Held) → told ≡ Some h → order_of name query h ≡ Beyond → result ≢ variant.WriteFault → WritesSolved told name query false result old new)
-    (begins : (h : Held) → told ≡ Some h → order_of name query h ≡ Beyond → result ≡ variant.WriteFault → BeginsSolved told name query false old new) where
+    (writes : (h : Held) → told ≡ Some h → order_of name query h ≡ Beyond → result ≢ variant.WriteFault → WritesSolved told name query false DEFAULT_STEPS DEFAULT_ANSWERS result old new)
+    (begins : (h : Held) → told ≡ Some h → order_of name query h ≡ Beyond → result ≡ variant.WriteFault → BeginsSolved told name query false DEFAULT_STEPS DEFAULT_ANSWERS old new) where
   unwatched : options.watch ≡ false
   unwatched = by options.watch (and_true_right (is_none options.steps && is_none options.answers) (not options.watch) plain)
     where
@@ -78,19 +79,43 @@ module _ (name query : List ℕ) (options : Options) (plain : is_plain options �
   beyond_told (inl other) f = absurd (let e : true ≡ false = sym plain ∙ other in cc)
   beyond_told (inr (h, is, beyond)) f = f h is beyond
 
+  no_steps : options.steps ≡ None
+  no_steps = by options.steps (and_true_left (is_none options.steps) (is_none options.answers) (and_true_left (is_none options.steps && is_none options.answers) (not options.watch) plain))
+    where
+      by : (o : Option ℕ) → is_none o ≡ true → o ≡ None
+      by None e = refl
+      by (Some x) e = absurd (cc)
+
+  no_answers : options.answers ≡ None
+  no_answers = by options.answers (and_true_right (is_none options.steps) (is_none options.answers) (and_true_left (is_none options.steps && is_none options.answers) (not options.watch) plain))
+    where
+      by : (o : Option ℕ) → is_none o ≡ true → o ≡ None
+      by None e = refl
+      by (Some x) e = absurd (cc)
+
+  -- what is said of the usual limits, and of a query that is not watched
+  as_asked : (Q : Bool → ℕ → ℕ → Type 0) → Q false DEFAULT_STEPS DEFAULT_ANSWERS → Q options.watch (step_limit options) (answer_limit options)
+  as_asked Q h = subst (λ w. Q w (step_limit options) (answer_limit options)) (sym unwatched)
+      (subst (λ s. Q false s (answer_limit options)) (ap (λ o. unwrap_or o DEFAULT_STEPS) (sym no_steps)) (subst (λ a. Q false DEFAULT_STEPS a) (ap (λ o. unwrap_or o DEFAULT_ANSWERS) (sym no_answers)) h))
+
   pub solves_plain : Solves told name query options old new result
   solves_plain = record {
-    writes = λ w n. subst (λ b. WritesSolved told name query b result old new) (sym unwatched) (beyond_told w (λ h is beyond. writes h is beyond n));
-    begins = λ w e. subst (λ b. BeginsSolved told name query b old new) (sym unwatched) (beyond_told w (λ h is beyond. begins h is beyond e));
+    writes = λ w n. as_asked (λ b s a. WritesSolved told name query b s a result old new) (beyond_told w (λ h is beyond. writes h is beyond n));
+    begins = λ w e. as_asked (λ b s a. BeginsSolved told name query b s a old new) (beyond_told w (λ h is beyond. begins h is beyond e));
   }
 
--- a query with options, under its name and text as they are handed on
-pub solves_within : (told : Option Held) (old new : Option (List ℕ)) (result : Status) (options : Options) {name' name query' query : List ℕ} → name' ≡ name → query' ≡ query →
-    (result ≢ variant.WriteFault → WritesSolved told name' query' options.watch result old new) →
-    (result ≡ variant.WriteFault → BeginsSolved told name' query' options.watch old new) → Solves told name query options old new result
-solves_within told old new result options {name' = name'} {query = query} n q writes begins = record {
-  writes = λ w k. subst (λ x. WritesSolved told x query options.watch result old new) n (subst (λ y. WritesSolved told name' y options.watch result old new) q (writes k));
-  begins = λ w k. subst (λ x. BeginsSolved told x query options.watch old new) n (subst (λ y. BeginsSolved told name' y options.watch old new) q (begins k));
+-- a query with options, under its name, text and limits as they are handed on
+pub solves_within : (told : Option Held) (old new : Option (List ℕ)) (result : Status) (options : Options) {name' name query' query : List ℕ} {steps answers : ℕ} → name' ≡ name → query' ≡ query →
+    steps ≡ step_limit options → answers ≡ answer_limit options →
+    (result ≢ variant.WriteFault → WritesSolved told name' query' options.watch steps answers result old new) →
+    (result ≡ variant.WriteFault → BeginsSolved told name' query' options.watch steps answers old new) → Solves told name query options old new result
+solves_within told old new result options {name' = name'} {name = name} {query' = query'} {query = query} {steps = steps} {answers = answers} n q s a writes begins = record {
+  writes = λ w k. subst (λ x. WritesSolved told x query options.watch (step_limit options) (answer_limit options) result old new) n
+      (subst (λ y. WritesSolved told name' y options.watch (step_limit options) (answer_limit options) result old new) q
+      (subst (λ z. WritesSolved told name' query' options.watch z (answer_limit options) result old new) s (subst (λ z. WritesSolved told name' query' options.watch steps z result old new) a (writes k))));
+  begins = λ w k. subst (λ x. BeginsSolved told x query options.watch (step_limit options) (answer_limit options) old new) n
+      (subst (λ y. BeginsSolved told name' y options.watch (step_limit options) (answer_limit options) old new) q
+      (subst (λ z. BeginsSolved told name' query' options.watch z (answer_limit options) old new) s (subst (λ z. BeginsSolved told name' query' options.watch steps z old new) a (begins k))));
 }
 
 module _ {F K : Type 0} {rf ms ov wf : F → ℕ} {held : F → Option Held} {faults : K → ℕ} {written : K → Option (List ℕ)} {a b : F} {o p : K} where
@@ -182,8 +207,8 @@ module _ {F K : Type 0} {rf ms ov wf : F → ℕ} {held : F → Option Held} {fa
       → (result ≡ variant.ReadFault → WritesQueryFault (held a) name query (written o) (written p))
       → (result ≡ variant.Source → WritesPlaced (held a) query (written o) (written p))
       → Ran rf ms ov written a b o p result → KeepsFiles wf held faults a b o p result
-      → ((h : Held) → held a ≡ Some h → order_of name query h ≡ Beyond → result ≢ variant.WriteFault → WritesSolved (held a) name query false result (written o) (written p))
-      → ((h : Held) → held a ≡ Some h → order_of name query h ≡ Beyond → result ≡ variant.WriteFault → BeginsSolved (held a) name query false (written o) (written p))
+      → ((h : Held) → held a ≡ Some h → order_of name query h ≡ Beyond → result ≢ variant.WriteFault → WritesSolved (held a) name query false DEFAULT_STEPS DEFAULT_ANSWERS result (written o) (written p))
+      → ((h : Held) → held a ≡ Some h → order_of name query h ≡ Beyond → result ≡ variant.WriteFault → BeginsSolved (held a) name query false DEFAULT_STEPS DEFAULT_ANSWERS (written o) (written p))
       → Does rf ms ov wf held faults written (solve name query options) a b o p result
   does_plain name query options plain result told prefix fault placed r k writes begins = record {
     told = λ no other. for_told (held a) (λ h w. subst (λ x. Writes x result (written o) (written p)) (sym (order_so name query options plain h)) w) (told no other);

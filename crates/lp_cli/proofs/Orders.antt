@@ -164,7 +164,7 @@ wanting_solves : (told : Option Held) (before after : Option (List ℕ)) (result
     (result ≡ variant.WriteFault → AppendsPrefix before after memory_line) → (name query : List ℕ) (options : Options) → Solves told name query options before after result
 wanting_solves told before after result wrote began name query options = record {
   writes = λ w n. record { text = memory_line; is = solved.refused Memory (solved.of_texts Memory tt tt) (wrote n).0 refl; appended = (wrote n).1 };
-  begins = λ w e. solved.a_line Memory (solved.of_texts Memory tt tt) (began e);
+  begins = λ w e. record { status = variant.Memory; text = memory_line; is = solved.refused Memory (solved.of_texts Memory tt tt) refl refl; appended = began e };
 }
 
 pub fulfils_memory : (told now : Option Held) (before after : Option (List ℕ)) (result : Status) →

@@ -1,6 +1,7 @@
 -- What a run of a command says or leaves that is true of the texts, the certificates and the files that it is asked for.
-use Rattle.std.specs.Prelude.{◌≡◌, ◌≢◌, ◌⊎◌, List, ℕ, Option, Some, true, false}
+use Rattle.std.specs.Prelude.{◌≡◌, ◌≢◌, ◌⊎◌, List, ℕ, Option, Some, true, false, unwrap_or}
 use Rattle.lp_base.specs.Held.{Held}
+use Rattle.lp_base.specs.declared.limits.TheConstants.{DEFAULT_ANSWERS, DEFAULT_STEPS}
 use Rattle.lp_base.specs.declared.status.Status.{Status}
 use Rattle.lp_base.specs.declared.status.Status.TheVariants as variant
 use Rattle.lp_files.specs.Made.{WritesMade}
@@ -16,13 +17,20 @@ use Rattle.lp_words.specs.declared.asked.Options.{Options}
 abbrev pub IsWhole : Option Held → (name query : List ℕ) → Options → Type 0
 IsWhole told name query options = (is_plain options ≡ false) ⊎ ((held : Held) × (told ≡ Some held) × (order_of name query held ≡ Beyond))
 
--- what is written of such a query: the line of the first refusal, or what the search tells; where the output fails, a beginning of that
+-- the most steps and answers of its search
+abbrev pub step_limit : Options → ℕ
+step_limit o = unwrap_or o.steps DEFAULT_STEPS
+
+abbrev pub answer_limit : Options → ℕ
+answer_limit o = unwrap_or o.answers DEFAULT_ANSWERS
+
+-- what is written of such a query: the line of a refusal, or the answers of the definition's search within these limits, which are right; where the output fails, a beginning of that
 pub record Solves (told : Option Held) (name query : List ℕ) (options : Options) (before after : Option (List ℕ)) (result : Status) : Type 0 where
-  pub writes : IsWhole told name query options → result ≢ variant.WriteFault → WritesSolved told name query options.watch result before after
-  pub begins : IsWhole told name query options → result ≡ variant.WriteFault → BeginsSolved told name query options.watch before after
+  pub writes : IsWhole told name query options → result ≢ variant.WriteFault → WritesSolved told name query options.watch (step_limit options) (answer_limit options) result before after
+  pub begins : IsWhole told name query options → result ≡ variant.WriteFault → BeginsSolved told name query options.watch (step_limit options) (answer_limit options) before after
 
 -- A verdict on the texts of a module and a query is right; so is one on certificates over the program of a module; where certificates are written, they are proofs from that program; and where a file
--- of a module is written, its bytes are of the kind that is asked for. Of a query on texts the lines of answers are those that its search tells. Of a search on an image nothing is said here.
+-- of a module is written, its bytes are of the kind that is asked for. The answers that are written of a query on texts are those of the definition's search, and right. Of a search on an image nothing is said here.
 abbrev pub Fulfils : (told now : Option Held) → (before after : Option (List ℕ)) → Asked → Status → Type 0
 Fulfils told now before after (lambda name query) result = Judges told name query before after result
 Fulfils told now before after (check name query) result = Checks told name query before after result

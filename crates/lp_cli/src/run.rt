@@ -15,10 +15,10 @@ ghost use Rattle.lp_files.specs.Target.{done_line, ending_of};
 ghost use Rattle.lp_cli.specs.Order.{order};
 ghost use Rattle.lp_cli.specs.Ends.{WritesReadFault, BeginsReadFault};
 ghost use Rattle.lp_cli.specs.Does.{Does};
-ghost use Rattle.lp_cli.specs.Fulfils.{Fulfils};
+ghost use Rattle.lp_cli.specs.Fulfils.{Fulfils, answer_limit as answers_asked, step_limit as steps_asked};
 
 use lp_ask::{query, session};
-use lp_base::{Folder, Sink, Status};
+use lp_base::{DEFAULT_ANSWERS, DEFAULT_STEPS, Folder, Sink, Status};
 use lp_files::write_file;
 use lp_judge::{Claim, check_certificates, lambda, prove};
 use lp_lines::{memory, say};
@@ -27,16 +27,38 @@ use lp_watch::Watch;
 use lp_words::{Asked, Options, WordsFault, read_words, usage};
 use std::alloc::Global;
 
+// The most steps of a search: those that an option gives, and else the usual ones.
+fn step_limit(options: Options) -> u64
+    ensures { result ≡ steps_asked options }
+{
+    match options.steps {
+        Some(steps) => steps as u64,
+        None => DEFAULT_STEPS,
+    }
+}
+
+// So its most answers.
+fn answer_limit(options: Options) -> u64
+    ensures { result ≡ answers_asked options }
+{
+    match options.answers {
+        Some(answers) => answers as u64,
+        None => DEFAULT_ANSWERS,
+    }
+}
+
 // The question of a module and a query, within these limits.
 fn question<'a>(name: &'a str, query: &'a str, options: Options) -> Question<'a>
     ensures name { result.name.now ≡ name.now }
     ensures query { result.query.now ≡ query.now }
+    ensures steps { result.steps ≡ steps_asked options }
+    ensures answers { result.answers ≡ answers_asked options }
 {
     Question {
         name,
         query,
-        steps: options.step_limit(),
-        answers: options.answer_limit(),
+        steps: step_limit(options),
+        answers: answer_limit(options),
     }
 }
 
@@ -141,7 +163,7 @@ pub fn run<F: Folder, K: Sink>(
     // A command that writes a file leaves all others as they are, and after a refusal this one too.
     ensures leaves { (command : FileCommand) (name : List ℕ) → asked (map string_bytes words.now) ≡ Some (OnFiles command name)
         → Leaves F.write_faults F.held K.faults K.written folder.old folder.new out.old out.new (name ++ ending_of command) (done_line command (name ++ ending_of command)) result }
-    // What a command says of texts, certificates and files is true of them; of a query on texts the refusal, or what its search tells, is written.
+    // What a command says of texts, certificates and files is true of them; of a query on texts a refusal is written, or the answers of the definition's search, which are right.
     ensures fulfils { (a : Asking) → asked (map string_bytes words.now) ≡ Some a → Fulfils (F.held folder.old) (F.held folder.new) (K.written out.old) (K.written out.new) a result }
     ensures certifies { (name query : List ℕ) (options : Options) → asked (map string_bytes words.now) ≡ Some (Proving name query options)
         → Proves F.write_faults F.held K.faults K.written folder.old folder.new out.old out.new name result }

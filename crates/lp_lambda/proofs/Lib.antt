@@ -7,3 +7,5 @@ mod Taking
 mod Judging
 mod Running
 mod Surveying
+mod InsideTexts
+mod Accepted

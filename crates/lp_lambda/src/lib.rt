@@ -11,6 +11,8 @@ mod names;
 mod parts;
 // The bodies of quantifiers.
 mod reading;
+// No run of pattern text leaves an equation.
+mod runs;
 // Clauses and queries.
 mod text;
 // What is left of a walk over the parts of a formula.
@@ -18,4 +20,5 @@ mod walk;
 
 pub use first::{Verdict, survey};
 pub use laws::{arguments_are_judged, examples_are_judged, quantifiers_are_judged};
+pub use runs::accepted_texts_leave_no_equation;
 pub use text::{clause_is_pattern, query_is_pattern};

@@ -5,7 +5,6 @@ use Rattle.lp_lemmas.proofs.Booleans.{and_true_right}
 use Rattle.lp_calculus.specs.Term.{Term, index, atom, abs, app, Atom, eigen, logic, constant, integer, text, param, shift}
 use Rattle.lp_calculus.specs.Fill.{Within, Binding, raise, fill, at_variables, one, put, indexed, abstraction, abstracted}
 use Rattle.lp_calculus.specs.Types.{Ty}
-use Rattle.lp_lemmas.specs.Each.{EachOf}
 use Rattle.lp_calculus.specs.Instance.{instance_atom, instance_term}
 use Rattle.lp_calculus.proofs.Sigma.{rename}
 use Rattle.lp_calculus.proofs.Commutations.{instance_fill}
@@ -87,10 +86,6 @@ atoms_new P k f d (app t u) w = (atoms_new P k f d t w.0, atoms_new P k f d u w.
 
 pub above_new : (next l d : ℕ) (t : Term) → Within (IsPairAtom next l) d t → (k : ℕ) → l < k → IsNewTo (free k) t
 above_new next l d t w k h = atoms_new (IsPairAtom next l) k (λ a g. above_new_atom next l k a g h) d t w
-
--- values that are such terms
-abbrev pub HavePatterns : List Binding → Type 0
-HavePatterns bs = EachOf (λ b. IsPatternTerm b.value) bs
 
 -- a value for a variable
 pub record IsPatternBinding (next : ℕ) (b : Binding) : Type 0 where

@@ -1,17 +1,35 @@
-mod Naming
-mod Renamed
-mod Reduced
-mod Looked
-mod Filled
-mod Scanned
-mod Pruned
-mod Ruled
-mod Turned
-mod Opened
-mod Parted
-mod Tried
-mod Staying
-mod Carried
-mod GoalsMapped
-mod TextStays
-mod Resumed
+pub mod Naming
+pub mod Renamed
+pub mod Reduced
+pub mod Apart
+pub mod Comes
+pub mod Looked
+pub mod Filled
+pub mod PutForms
+pub mod Scanned
+pub mod Pruned
+pub mod Ruled
+pub mod Turned
+pub mod Opened
+pub mod Parted
+pub mod Tried
+pub mod Staying
+pub mod Carried
+pub mod GoalsMapped
+pub mod TextStays
+pub mod Resumed
+pub mod ClosedPatterns
+pub mod GoalLists
+pub mod PatternTasks
+pub mod AtomLooks
+pub mod NoSigma
+pub mod GoalLooks
+pub mod TryLooks
+pub mod PatternRuns
+pub mod TextRenamed
+pub mod FormulaRenamed
+pub mod TextsRaised
+pub mod PlainTerms
+pub mod FormulaReduced
+pub mod FormulaFlat
+pub mod FormulaRuns

@@ -1,63 +1,56 @@
--- What a look sees of a pattern term, and the eigenconstants on which a variable stands there.
-use Rattle.std.proofs.Common.{◌≡◌, ℕ, zero, suc, ◌<◌, List, [], ◌∷◌, Option, Some, None, Bool, true, false, refl, sym, ap, ◌∙◌, subst as transport, arith}
+-- What a look sees of a term that reduces to a pattern term, and the eigenconstants on which a variable stands there.
+use Rattle.std.proofs.Common.{◌≡◌, ℕ, suc, ◌<◌, List, [], ◌∷◌, Option, Some, None, Bool, true, false, refl, sym, ap, ◌∙◌, subst as transport, arith}
 use Rattle.std.specs.Prelude.{◌&&◌, ◌||◌, not, nat_eq, nat_lt, if◌then◌else◌, option_map, option_and_then}
 use Rattle.std.proofs.lemmas.Option.{same_Some}
 use Rattle.std.proofs.lemmas.Bool.Decides.{nat_tests}
 use Rattle.lp_lemmas.proofs.Booleans.{and_true_left, and_true_right}
-use Rattle.lp_calculus.specs.Term.{Term, index, atom, abs, app, apply, Atom, eigen, logic, constant, integer, text, param, substitute}
-use Rattle.lp_calculus.specs.Convert.{leftmost_step, option_term}
-use Rattle.lp_calculus.specs.Normal.{contracted, eta_normal}
+use Rattle.lp_calculus.specs.Term.{Term, index, atom, abs, app, apply, Atom, eigen, logic, constant, integer, text, param, shift}
+use Rattle.lp_calculus.specs.Convert.{Converts, same, here, by_eta}
+use Rattle.lp_calculus.specs.Normal.{IsNormal, eta_normal}
 use Rattle.lp_calculus.specs.Fill.{Within}
-use Rattle.lp_calculus.proofs.Plain.{substitute-subst}
+use Rattle.lp_calculus.proofs.BetaEta.{normal_same, shift_one}
+use Rattle.lp_calculus.proofs.Steps.{converts_abs, converts_app, converts_on, converts_step, converts_sym, converts_reduces, within_reduces}
+use Rattle.lp_term.proofs.EtaForms.{form_is}
 use Rattle.lp_unify_laws.proofs.Sames.{both_on}
-use Rattle.lp_unify_laws.proofs.Looks.{beta_reduces}
+use Rattle.lp_unify_laws.proofs.Termination.SemiForms.{normal_of}
 use Rattle.lp_model.specs.Patterns.{eigens, member}
 use Rattle.lp_model.specs.Eigens.{beta_normal, eigen_of, as_eigen}
 use Rattle.lp_model.specs.Look.{as_eigens, are_distinct, are_above, only_if, pattern_of}
-use Rattle.lp_pattern_laws.specs.Patterns.{Name, bound, free, under, IsNewTo, Names, an_index, an_eigen, expanded, IsRigid, rigid_atom, rigid_name, rigid_on, IsPatternTerm, of_atom, rigid, on_name}
+use Rattle.lp_search_laws.proofs.Reducts.{atom_reduces}
+use Rattle.lp_pattern_laws.specs.Patterns.{Name, bound, free, under, IsNewTo, Names, an_index, an_eigen, expanded, IsRigid, rigid_atom, rigid_name, rigid_on, IsPatternTerm, of_atom, rigid, on_name, IsPattern}
+use Rattle.lp_pattern_laws.proofs.Comes.{EachReduces, none_reduce, more_reduce, spine_reduces}
 use Rattle.lp_pattern_laws.proofs.Naming.{own_not_new}
-use Rattle.lp_pattern_laws.proofs.Reduced.{names_reduce, front_pattern}
+use Rattle.lp_pattern_laws.proofs.Reduced.{front_pattern}
 
 -- a name as a term
-abbrev pub name_term : Name → Term
+abbrev name_term : Name → Term
 name_term (bound i) = index i
 name_term (free k) = atom (eigen k)
 
--- the form of what is a name is it
-no_step : (f : Term → Term) (o : Option Term) → option_term f o ≡ None → o ≡ None
-no_step f None e = refl
-no_step f (Some t) e = absurd (cc)
+-- what is a name converts to it
+raised_term : (n : Name) → name_term (under n) ≡ shift 0 1 (name_term n)
+raised_term (bound i) = sym (shift_one (index i))
+raised_term (free k) = refl
 
-eta_applied : {m : Name} {f : Term} (u : Term) → Names m f → leftmost_step (app f u) ≡ None → (leftmost_step u ≡ None → eta_normal u ≡ index 0) → eta_normal (app f u) ≡ app (name_term m) (index 0)
-eta_applied u (an_index i) e h = ap (app (index i)) (h (no_step (app (index i)) (leftmost_step u) e))
-eta_applied u (an_eigen k) e h = ap (app (atom (eigen k))) (h (no_step (app (atom (eigen k))) (leftmost_step u) e))
-eta_applied u (expanded p q) e h = absurd (cc)
+names_convert : {n : Name} {t : Term} → Names n t → Converts t (name_term n)
+names_convert (an_index i) = same (index i)
+names_convert (an_eigen k) = same (atom (eigen k))
+names_convert (expanded {n = n} p q) =
+    converts_on (converts_abs (converts_app (names_convert p) (names_convert q)))
+    (transport (λ x. Converts (abs (app x (index 0))) (name_term n)) (sym (raised_term n)) (converts_step (here (by_eta (name_term n)))))
 
-contracts : (n : Name) → contracted (app (name_term (under n)) (index 0)) ≡ name_term n
-contracts (bound i) =
-    let t : nat_eq (suc i) 0 ≡ false = grind (arith, nat_tests) in
-    ap (λ b. if not b then substitute (index 0) (index (suc i)) else abs (app (index (suc i)) (index 0))) t ∙ substitute-subst (index 0) (index (suc i))
-contracts (free k) = refl
+-- and what converts to an eigenconstant is seen to be it
+eigen_normal : (k : ℕ) → IsNormal (atom (eigen k))
+eigen_normal k s (here x) = elim x [ ]
 
-names_eta : {n : Name} {s : Term} → Names n s → leftmost_step s ≡ None → eta_normal s ≡ name_term n
-names_eta (an_index i) e = refl
-names_eta (an_eigen k) e = refl
-names_eta (expanded {n = n} {f = f} {u = u} p q) e = ap contracted (eta_applied u p (no_step abs (leftmost_step (app f u)) e) (names_eta q)) ∙ contracts n
-
-normal_end : (j : ℕ) (t s : Term) → beta_normal j t ≡ Some s → leftmost_step s ≡ None
-normal_end zero t s e = absurd (cc)
-normal_end (suc j) t s e = elim (leftmost_step t) as (λ o. leftmost_step t ≡ o → (elim o [ None ↦ Some t | Some r ↦ beta_normal j r ]) ≡ Some s → leftmost_step s ≡ None) [
-  | None ↦ λ p q. transport (λ x. leftmost_step x ≡ None) (same_Some t s q) p
-  | Some r ↦ λ p q. normal_end j r s q
-] refl e
-
-names_normal : (j : ℕ) {n : Name} (t s : Term) → Names n t → beta_normal j t ≡ Some s → eta_normal s ≡ name_term n
-names_normal j t s h e = names_eta (names_reduce (beta_reduces j t s e) h) (normal_end j t s e)
-
-pub eigen_is : (j k : ℕ) (t : Term) (o : Option ℕ) → Names (free k) t → as_eigen j t ≡ Some o → o ≡ Some k
+eigen_is : (j k : ℕ) (t : Term) (o : Option ℕ) → Converts t (atom (eigen k)) → as_eigen j t ≡ Some o → o ≡ Some k
 eigen_is j k t o h e = elim (beta_normal j t) as (λ x. beta_normal j t ≡ x → option_map (λ s. eigen_of (eta_normal s)) x ≡ Some o → o ≡ Some k) [
   | None ↦ λ p q. absurd (cc)
-  | Some s ↦ λ p q. sym (same_Some (eigen_of (eta_normal s)) o q) ∙ ap eigen_of (names_normal j t s h p)
+  | Some s ↦ λ p q.
+      let z = normal_of j t s p in
+      let f = form_is z.0 t s z.1 in
+      let n : eta_normal s ≡ atom (eigen k) = normal_same (eta_normal s) (atom (eigen k)) f.1 (eigen_normal k) (converts_on (converts_sym (converts_reduces f.0)) h) in
+      sym (same_Some (eigen_of (eta_normal s)) o q) ∙ ap eigen_of n
 ] refl e
 
 -- in a term without loose indices a name is an eigenconstant
@@ -132,27 +125,31 @@ named_argument P f t x (on_name {n = n} p q new) w =
     let (k, e) = names_free P n q w in
     (k, transport (λ m. Names m t) e q, transport (λ m. IsNewTo m f) e new)
 
-pub arguments_are : (P : Atom → Type 0) (n : ℕ) (ts : List Term) (f : Term) → IsFlexible f → IsPatternTerm (apply f ts) → Within P 0 (apply f ts) → (r : Option (List ℕ)) → as_eigens n ts ≡ Some r → AreArguments f r
-arguments_are P n [] f x h w r e = record { names = []; is = sym (same_Some (Some []) r e); new = tt; distinct = refl }
-arguments_are P n (t ∷ ts) f x h w r e = elim (as_eigen n t) as (λ o. as_eigen n t ≡ o → option_and_then (λ o'. elim o' [ None ↦ Some None | Some k ↦ option_map (option_map (λ ks. k ∷ ks)) (as_eigens n ts) ]) o ≡ Some r → AreArguments f r) [
-  | None ↦ λ p q. absurd (cc)
-  | Some o ↦ λ p q.
-      let (k, named, new) = named_argument P f t x (apply_front (app f t) ts h) (within_front P (app f t) ts w).1 in
-      let same : o ≡ Some k = eigen_is n k t o named p in
-      let rest : option_map (option_map (λ ks. k ∷ ks)) (as_eigens n ts) ≡ Some r =
-      sym (ap (λ (o' : Option ℕ). elim o' as (λ z. Option (Option (List ℕ))) [ None ↦ Some None | Some k ↦ option_map (option_map (λ ks. k ∷ ks)) (as_eigens n ts) ]) same) ∙ q in
-      go k named new (as_eigens n ts) (λ js d. arguments_are P n ts (app f t) x h w js d) rest
-] refl e
+arguments_are : (P : Atom → Type 0) (n : ℕ) {ts us : List Term} → EachReduces ts us → (f : Term) → IsFlexible f → IsPatternTerm (apply f us) → Within
+    P 0 (apply f us) → (r : Option (List ℕ)) → as_eigens n ts ≡ Some r → AreArguments f r
+arguments_are P n none_reduce f x h w r e = record { names = []; is = sym (same_Some (Some []) r e); new = tt; distinct = refl }
+arguments_are P n (more_reduce {t = t} {u = u} {ts = ts} {us = us} c cs) f x h w r e = elim (as_eigen n t) as
+    (λ o. as_eigen n t ≡ o → option_and_then (λ o'. elim o' [ None ↦ Some None | Some k ↦ option_map (option_map (λ ks. k ∷ ks)) (as_eigens n ts) ]) o
+    ≡ Some r → AreArguments f r) [
+      | None ↦ λ p q. absurd (cc)
+      | Some o ↦ λ p q.
+          let (k, named, new) = named_argument P f u x (apply_front (app f u) us h) (within_front P (app f u) us w).1 in
+          let same : o ≡ Some k = eigen_is n k t o (converts_on (converts_reduces c) (names_convert named)) p in
+          let rest : option_map (option_map (λ ks. k ∷ ks)) (as_eigens n ts) ≡ Some r =
+          sym (ap (λ (o' : Option ℕ). elim o' as (λ z. Option (Option (List ℕ))) [ None ↦ Some None | Some k ↦ option_map (option_map (λ ks. k ∷ ks)) (as_eigens n ts) ]) same) ∙ q in
+          go k named new (as_eigens n ts) (λ js d. arguments_are P n cs (app f u) x h w js d) rest
+    ] refl e
   where
-    go : (k : ℕ) → Names (free k) t → IsNewTo (free k) f → (o : Option (Option (List ℕ))) → ((js : Option (List ℕ)) → o ≡ Some js → AreArguments (app f t) js) → option_map (option_map (λ ks. k ∷ ks)) o ≡ Some r → AreArguments f r
+    go : (k : ℕ) → Names (free k) u → IsNewTo (free k) f → (o : Option (Option (List ℕ))) →
+        ((js : Option (List ℕ)) → o ≡ Some js → AreArguments (app f u) js) → option_map (option_map (λ ks. k ∷ ks)) o ≡ Some r → AreArguments f r
     go k named new None ih e = absurd (cc)
     go k named new (Some js) ih e =
         let a = ih js refl in
         record {
           names = k ∷ a.names;
           is = sym (same_Some (option_map (λ ks. k ∷ ks) js) r e) ∙ ap (option_map (λ ks. k ∷ ks)) a.is;
-          new = (new, fronts_new f t a.names a.new);
-          distinct = both_on (not (member k a.names)) (are_distinct a.names) (ap not (no_member f t k named a.names a.new)) a.distinct;
+          new = (new, fronts_new f u a.names a.new);
+          distinct = both_on (not (member k a.names)) (are_distinct a.names) (ap not (no_member f u k named a.names a.new)) a.distinct;
         }
 
 above_all : (x l : ℕ) (ks : List ℕ) → AreNew (atom (logic x l)) ks → are_above l ks ≡ true
@@ -162,21 +159,25 @@ above_all x l (k ∷ ks) h =
     let test : nat_lt l k ≡ true = grind (arith, nat_tests) in
     both_on (nat_lt l k) (are_above l ks) test (above_all x l ks h.1)
 
--- so a variable in a pattern term stands on a pattern
-pub stands_on_pattern : (P : Atom → Type 0) (n x l : ℕ) (ts : List Term) → IsPatternTerm (apply (atom (logic x l)) ts) → Within P 0 (apply (atom (logic x l)) ts) →
+-- so a variable in a term that reduces to a pattern term stands on a pattern
+pub stands_on_pattern : (P : Atom → Type 0) (n x l : ℕ) (ts : List Term) → IsPattern (apply (atom (logic x l)) ts) → Within P 0 (apply (atom (logic x l)) ts) →
     (r : Option (List ℕ)) → pattern_of n l ts ≡ Some r → (ks : List ℕ) × (r ≡ Some ks) × (are_distinct ks ≡ true) × (are_above l ks ≡ true)
-stands_on_pattern P n x l ts h w r e = elim (as_eigens n ts) as (λ o. as_eigens n ts ≡ o → option_map (only_if (λ ks. are_distinct ks && are_above l ks)) o ≡ Some r → (ks : List ℕ) × (r ≡ Some ks) × (are_distinct ks ≡ true) × (are_above l ks ≡ true)) [
-  | None ↦ λ p q. absurd (cc)
-  | Some js ↦ λ p q.
-      let a = arguments_are P n ts (atom (logic x l)) tt h w js p in
-      let above = above_all x l a.names a.new in
-      let test = both_on (are_distinct a.names) (are_above l a.names) a.distinct above in (
-        a.names,
-        sym (same_Some (only_if (λ ks. are_distinct ks && are_above l ks) js) r q) ∙ ap (only_if (λ ks. are_distinct ks && are_above l ks)) a.is ∙ ap (λ b. if b then Some a.names else None) test,
-        a.distinct,
-        above,
-      )
-] refl e
+stands_on_pattern P n x l ts h w r e = elim (as_eigens n ts) as (λ o. as_eigens n ts ≡ o → option_map
+    (only_if (λ ks. are_distinct ks && are_above l ks)) o ≡ Some r → (ks : List ℕ) × (r ≡ Some ks) × (are_distinct ks ≡ true) ×
+    (are_above l ks ≡ true)) [
+      | None ↦ λ p q. absurd (cc)
+      | Some js ↦ λ p q.
+          let s = spine_reduces ts (atom (logic x l)) h.form tt h.reduces in
+          let form : h.form ≡ apply (atom (logic x l)) s.arguments = s.is ∙ ap (λ z. apply z s.arguments) (atom_reduces s.leads) in
+          let a = arguments_are P n s.each (atom (logic x l)) tt (transport IsPatternTerm form h.pattern) (transport (Within P 0) form (within_reduces P 0 h.reduces w)) js p in
+          let above = above_all x l a.names a.new in
+          let test = both_on (are_distinct a.names) (are_above l a.names) a.distinct above in (
+            a.names,
+            sym (same_Some (only_if (λ ks. are_distinct ks && are_above l ks) js) r q) ∙ ap (only_if (λ ks. are_distinct ks && are_above l ks)) a.is ∙ ap (λ b. if b then Some a.names else None) test,
+            a.distinct,
+            above,
+          )
+    ] refl e
 
 -- and what stands on a pattern is a pattern term
 later_new : (f : Term) (k : ℕ) (ks : List ℕ) → member k ks ≡ false → AreNew f ks → AreNew (app f (atom (eigen k))) ks

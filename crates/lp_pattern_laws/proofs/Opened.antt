@@ -16,23 +16,23 @@ use Rattle.lp_model.specs.Index.{instantiate}
 use Rattle.lp_proof_laws.proofs.Uniform.Openings.{instantiate_subst}
 use Rattle.lp_search_laws.proofs.ClosedTerms.{closed_atom, closed_fill}
 use Rattle.lp_pattern_laws.specs.Patterns.{Name, bound, free, under, IsNewToAtom, IsNewTo, Names, an_index, an_eigen, expanded, IsRigidAtom, IsRigid, rigid_atom, rigid_name, rigid_on, IsPatternTerm, of_atom, of_abs, rigid, on_name}
-use Rattle.lp_pattern_laws.specs.Kinds.{Kind, universal, existential, IsNewAt, IsNewIn, IsUniversal, IsRigidIn, atom_head, name_head, more_on, IsPatternIn, index_in, atom_in, abs_in, rigid_in, name_in, IsAtLevel, IsPatternText, IsOpening, HasPatternValues}
+use Rattle.lp_pattern_laws.specs.Binders.{Binder, universal, existential, IsNewAt, IsNewIn, IsUniversal, IsRigidIn, atom_head, name_head, more_on, IsPatternIn, index_in, atom_in, abs_in, rigid_in, name_in, IsAtLevel, IsPatternText, IsOpening, HasPatternValues}
 use Rattle.lp_pattern_laws.proofs.Naming.{names_raised, new_below_index, new_first, new_raised, first_new, at, at_under}
 use Rattle.lp_pattern_laws.proofs.Filled.{Fills, fills_raise, level_new, atoms_new, new_instance, types_fill}
 use Rattle.lp_pattern_laws.proofs.Renamed.{image, lifted, names_pattern, pattern_raised}
 
 -- what is new one binder further out
-new_out : (o : Option Kind) (n : Name) (i : ℕ) → IsNewAt o (under n) (suc i) → IsNewAt o n i
+new_out : (o : Option Binder) (n : Name) (i : ℕ) → IsNewAt o (under n) (suc i) → IsNewAt o n i
 new_out None n i h = h
 new_out (Some universal) n i h = new_below_index n i h
 new_out (Some existential) (bound j) i h = let q : suc j < suc i = h in omega (arith, q)
 new_out (Some existential) (free k) i h = h
 
 -- names for universal variables, which are above the level where they are eigenconstants, and pattern terms for existential ones
-pub record Opens (level : ℕ) (Γ : List Kind) (σ : ℕ → Term) (ν : ℕ → Name) : Type 0 where
+pub record Opens (level : ℕ) (Γ : List Binder) (σ : ℕ → Term) (ν : ℕ → Name) : Type 0 where
   pub names : (i : ℕ) → slice_get Γ i ≡ Some universal → Names (ν i) (σ i)
   pub patterns : (i : ℕ) → slice_get Γ i ≡ Some existential → IsPatternTerm (σ i)
-  pub apart : (i j : ℕ) (b : Kind) → slice_get Γ i ≡ Some b → slice_get Γ j ≡ Some universal → IsNewAt (Some b) (bound j) i → IsNewTo (ν j) (σ i)
+  pub apart : (i j : ℕ) (b : Binder) → slice_get Γ i ≡ Some b → slice_get Γ j ≡ Some universal → IsNewAt (Some b) (bound j) i → IsNewTo (ν j) (σ i)
   pub others : (i k : ℕ) → slice_get Γ i ≡ Some universal → k ≤ level → IsNewTo (free k) (σ i)
   pub atoms : (j : ℕ) (a : Atom) → slice_get Γ j ≡ Some universal → IsAtLevel level a → IsNewToAtom (ν j) a
 
@@ -59,7 +59,7 @@ names_both σ f g (expanded {n = n} q r) p h =
     expanded (names_both (up σ) (raise f) (fills_raise f g) q (under p) (transport (Names (under p)) (sym (at_under σ n)) (names_raised h)))
     (names_both (up σ) (raise f) (fills_raise f g) r (bound 0) (an_index 0))
 
-module _ (l : ℕ) (Γ : List Kind) (σ : ℕ → Term) (ν : ℕ → Name) (h : Opens l Γ σ ν) where
+module _ (l : ℕ) (Γ : List Binder) (σ : ℕ → Term) (ν : ℕ → Name) (h : Opens l Γ σ ν) where
   opens_up : Opens l (universal ∷ Γ) (up σ) (lifted ν)
   opens_up = record { names = names; patterns = patterns; apart = apart; others = others; atoms = atoms }
     where
@@ -71,7 +71,7 @@ module _ (l : ℕ) (Γ : List Kind) (σ : ℕ → Term) (ν : ℕ → Name) (h :
       patterns zero e = absurd (cc)
       patterns (suc i) e = pattern_raised (h.patterns i e)
 
-      apart : (i j : ℕ) (b : Kind) → slice_get (universal ∷ Γ) i ≡ Some b → slice_get (universal ∷ Γ) j ≡ Some universal → IsNewAt (Some b) (bound j) i → IsNewTo (lifted ν j) (up σ i)
+      apart : (i j : ℕ) (b : Binder) → slice_get (universal ∷ Γ) i ≡ Some b → slice_get (universal ∷ Γ) j ≡ Some universal → IsNewAt (Some b) (bound j) i → IsNewTo (lifted ν j) (up σ i)
       apart zero zero universal e g n = absurd (n refl)
       apart zero zero existential e g n = absurd (cc)
       apart (suc i) zero b e g n = first_new (σ i)
@@ -113,17 +113,18 @@ name_level l (an_index i) h = tt
 name_level l (an_eigen k) h = h
 name_level l (expanded {n = n} p q) h = name_out l n (name_level l p h.0)
 
-new_index : (l : ℕ) (Γ : List Kind) (σ : ℕ → Term) (ν : ℕ → Name) → Opens l Γ σ ν → (n : Name) → IsUniversal Γ n → IsNameAt l n → (i : ℕ) (o : Option Kind) → slice_get Γ i ≡ o → IsNewAt o n i → IsNewTo (image ν n) (σ i)
+new_index : (l : ℕ) (Γ : List Binder) (σ : ℕ → Term) (ν : ℕ → Name) → Opens l Γ σ ν → (n : Name) → IsUniversal Γ n → IsNameAt l n → (i : ℕ)
+    (o : Option Binder) → slice_get Γ i ≡ o → IsNewAt o n i → IsNewTo (image ν n) (σ i)
 new_index l Γ σ ν h n u m i None e k = absurd k
 new_index l Γ σ ν h (bound j) u m i (Some b) e k = h.apart i j b e u k
 new_index l Γ σ ν h (free j) u m i (Some universal) e k = h.others i j e m
 new_index l Γ σ ν h (free j) u m i (Some existential) e k = absurd k
 
-new_atom : (l : ℕ) (Γ : List Kind) (σ : ℕ → Term) (ν : ℕ → Name) → Opens l Γ σ ν → (n : Name) → IsUniversal Γ n → (a : Atom) → IsAtLevel l a → IsNewToAtom n a → IsNewToAtom (image ν n) a
+new_atom : (l : ℕ) (Γ : List Binder) (σ : ℕ → Term) (ν : ℕ → Name) → Opens l Γ σ ν → (n : Name) → IsUniversal Γ n → (a : Atom) → IsAtLevel l a → IsNewToAtom n a → IsNewToAtom (image ν n) a
 new_atom l Γ σ ν h (bound j) u a m k = h.atoms j a u m
 new_atom l Γ σ ν h (free j) u a m k = k
 
-pub universal_under : (Γ : List Kind) (n : Name) → IsUniversal Γ n → IsUniversal (universal ∷ Γ) (under n)
+pub universal_under : (Γ : List Binder) (n : Name) → IsUniversal Γ n → IsUniversal (universal ∷ Γ) (under n)
 universal_under Γ (bound j) u = u
 universal_under Γ (free k) u = tt
 
@@ -135,7 +136,8 @@ image_under : (ν : ℕ → Name) (n : Name) → image (lifted ν) (under n) ≡
 image_under ν (bound j) = refl
 image_under ν (free k) = refl
 
-new_opens : (l : ℕ) (Γ : List Kind) (σ : ℕ → Term) (ν : ℕ → Name) → Opens l Γ σ ν → (f : Atom → Term) → Fills f → (n : Name) → IsUniversal Γ n → IsNameAt l n → (t : Term) → AllAtoms (IsAtLevel l) t → IsNewIn Γ n t → IsNewTo (image ν n) (put_both σ f t)
+new_opens : (l : ℕ) (Γ : List Binder) (σ : ℕ → Term) (ν : ℕ → Name) → Opens l Γ σ ν → (f : Atom → Term) → Fills f → (n : Name) → IsUniversal Γ n →
+    IsNameAt l n → (t : Term) → AllAtoms (IsAtLevel l) t → IsNewIn Γ n t → IsNewTo (image ν n) (put_both σ f t)
 new_opens l Γ σ ν h f g n u m (index i) w k = new_index l Γ σ ν h n u m i (slice_get Γ i) refl k
 new_opens l Γ σ ν h f g n u m (atom a) w k = g.new (image ν n) a (new_atom l Γ σ ν h n u a w k)
 new_opens l Γ σ ν h f g n u m (abs b) w k =
@@ -143,11 +145,12 @@ new_opens l Γ σ ν h f g n u m (abs b) w k =
     (new_opens l (universal ∷ Γ) (up σ) (lifted ν) (opens_up l Γ σ ν h) (raise f) (fills_raise f g) (under n) (universal_under Γ n u) (level_under l n m) b w k)
 new_opens l Γ σ ν h f g n u m (app t s) w k = (new_opens l Γ σ ν h f g n u m t w.0 k.0, new_opens l Γ σ ν h f g n u m s w.1 k.1)
 
-index_opens : (l : ℕ) (Γ : List Kind) (σ : ℕ → Term) (ν : ℕ → Name) → Opens l Γ σ ν → (i : ℕ) (k : Kind) → slice_get Γ i ≡ Some k → IsPatternTerm (σ i)
+index_opens : (l : ℕ) (Γ : List Binder) (σ : ℕ → Term) (ν : ℕ → Name) → Opens l Γ σ ν → (i : ℕ) (k : Binder) → slice_get Γ i ≡ Some k → IsPatternTerm (σ i)
 index_opens l Γ σ ν h i universal e = names_pattern (h.names i e)
 index_opens l Γ σ ν h i existential e = h.patterns i e
 
-pattern_opens : (l : ℕ) (Γ : List Kind) (σ : ℕ → Term) (ν : ℕ → Name) → Opens l Γ σ ν → (f : Atom → Term) → Fills f → {t : Term} → IsPatternIn Γ t → AllAtoms (IsAtLevel l) t → IsPatternTerm (put_both σ f t)
+pattern_opens : (l : ℕ) (Γ : List Binder) (σ : ℕ → Term) (ν : ℕ → Name) → Opens l Γ σ ν → (f : Atom → Term) → Fills f → {t : Term} → IsPatternIn Γ t →
+    AllAtoms (IsAtLevel l) t → IsPatternTerm (put_both σ f t)
 pattern_opens l Γ σ ν h f g (index_in {k = k} i e) w = index_opens l Γ σ ν h i k e
 pattern_opens l Γ σ ν h f g (atom_in a) w = g.pattern a
 pattern_opens l Γ σ ν h f g (abs_in p) w = of_abs (pattern_opens l (universal ∷ Γ) (up σ) (lifted ν) (opens_up l Γ σ ν h) (raise f) (fills_raise f g) p w)
@@ -169,7 +172,7 @@ abbrev name_of : Term → Name
 name_of (atom (eigen k)) = free k
 name_of t = bound 0
 
-opening_opens : (l : ℕ) (Γ : List Kind) (σ : ℕ → Term) → IsOpening l Γ σ → Opens l Γ σ (λ i. name_of (σ i))
+opening_opens : (l : ℕ) (Γ : List Binder) (σ : ℕ → Term) → IsOpening l Γ σ → Opens l Γ σ (λ i. name_of (σ i))
 opening_opens l Γ σ o = record { names = names; patterns = o.existentials; apart = apart; others = others; atoms = atoms }
   where
     is_name : (i k : ℕ) → σ i ≡ atom (eigen k) → name_of (σ i) ≡ free k
@@ -178,11 +181,11 @@ opening_opens l Γ σ o = record { names = names; patterns = o.existentials; apa
     names : (i : ℕ) → slice_get Γ i ≡ Some universal → Names (name_of (σ i)) (σ i)
     names i e = let u = o.universals i e in transport (λ t. Names (name_of t) t) (sym u.1) (an_eigen u.0)
 
-    each : (i j k : ℕ) (b : Kind) → slice_get Γ i ≡ Some b → slice_get Γ j ≡ Some universal → σ j ≡ atom (eigen k) → IsNewAt (Some b) (bound j) i → IsNewTo (free k) (σ i)
+    each : (i j k : ℕ) (b : Binder) → slice_get Γ i ≡ Some b → slice_get Γ j ≡ Some universal → σ j ≡ atom (eigen k) → IsNewAt (Some b) (bound j) i → IsNewTo (free k) (σ i)
     each i j k universal e g is n = o.apart i j k e g is n
     each i j k existential e g is n = o.new i j k e g is n
 
-    apart : (i j : ℕ) (b : Kind) → slice_get Γ i ≡ Some b → slice_get Γ j ≡ Some universal → IsNewAt (Some b) (bound j) i → IsNewTo (name_of (σ j)) (σ i)
+    apart : (i j : ℕ) (b : Binder) → slice_get Γ i ≡ Some b → slice_get Γ j ≡ Some universal → IsNewAt (Some b) (bound j) i → IsNewTo (name_of (σ j)) (σ i)
     apart i j b e g n = let u = o.universals j g in transport (λ m. IsNewTo m (σ i)) (sym (is_name j u.0 u.1)) (each i j u.0 b e g u.1 n)
 
     others : (i k : ℕ) → slice_get Γ i ≡ Some universal → k ≤ l → IsNewTo (free k) (σ i)
@@ -194,7 +197,7 @@ opening_opens l Γ σ o = record { names = names; patterns = o.existentials; apa
     atoms j a e m = let u = o.universals j e in transport (λ n. IsNewToAtom n a) (sym (is_name j u.0 u.1)) (level_above l u.0 a u.2 m)
 
 -- with types for type variables alone
-pub types_open : (l : ℕ) (Γ : List Kind) (θ : ℕ → Ty) (t : Term) → IsPatternText l Γ t → (σ : ℕ → Term) → IsOpening l Γ σ → IsPatternTerm (instantiate σ (instance_term θ t))
+pub types_open : (l : ℕ) (Γ : List Binder) (θ : ℕ → Ty) (t : Term) → IsPatternText l Γ t → (σ : ℕ → Term) → IsOpening l Γ σ → IsPatternTerm (instantiate σ (instance_term θ t))
 types_open l Γ θ t h σ o =
     let f = λ (a : Atom). atom (instance_atom θ a) in
     let e : instantiate σ (instance_term θ t) ≡ put_both σ f t = instantiate_subst σ (instance_term θ t) ∙ ap (subst σ) (instance_fill θ t) ∙ both_are_put σ f t in
@@ -232,7 +235,7 @@ closing_fills c v = record { pattern = pattern; new = new; rigid = rigids; eigen
     rigids (eigen k) r = rigid_atom _ tt
     rigids (param k T) r = rigid_atom _ tt
 
-pub text_opens : (l : ℕ) (Γ : List Kind) (t : Term) → IsPatternText l Γ t → (c : Closing) → HasPatternValues c → (σ : ℕ → Term) → IsOpening l Γ σ → IsPatternTerm (instantiate σ (closed c t))
+pub text_opens : (l : ℕ) (Γ : List Binder) (t : Term) → IsPatternText l Γ t → (c : Closing) → HasPatternValues c → (σ : ℕ → Term) → IsOpening l Γ σ → IsPatternTerm (instantiate σ (closed c t))
 text_opens l Γ t h c v σ o = transport IsPatternTerm (sym put) (pattern_opens l Γ σ (λ i. name_of (σ i)) (opening_opens l Γ σ o) (closed_atom c) (closing_fills c v) h.0 h.1)
   where
     -- values are closed

@@ -3,20 +3,17 @@ use Rattle.std.proofs.Common.{◌≡◌, ℕ, List, [], ◌∷◌, Bool, true, f
 use Rattle.std.specs.Prelude.{nat_eq, if◌then◌else◌}
 use Rattle.lp_calculus.specs.Types.{Ty}
 use Rattle.lp_calculus.specs.Term.{Term, index, atom, abs, app, substitute, eigen, logic, constant, integer, text, param}
+use Rattle.lp_calculus.specs.Normal.{IsHead}
 use Rattle.lp_calculus.specs.Spine.{head_of, arguments, arguments_and}
 use Rattle.lp_lemmas.specs.Each.{EachOf}
 use Rattle.lp_standard.specs.Connectives.{Connective, body_of, connective_of, connective_at, connective_of_constant}
 use Rattle.lp_search_laws.proofs.Closed.{body_opens}
-use Rattle.lp_pattern_laws.specs.Patterns.{Name, bound, free, under, IsNewToIndex, IsNewTo, Names, an_index, an_eigen, expanded, IsPatternTerm, rigid, on_name}
-use Rattle.lp_pattern_laws.specs.Kinds.{Kind, universal, IsNewAt, IsNewIn, IsUniversal, IsPatternIn, index_in, atom_in, abs_in, rigid_in, name_in, IsPatternText}
+use Rattle.lp_pattern_laws.specs.Patterns.{Name, bound, free, under, IsNewToIndex, IsNewTo, Names, an_index, an_eigen, expanded, IsPatternTerm, on_name}
+use Rattle.lp_pattern_laws.specs.Binders.{Binder, universal, IsNewAt, IsNewIn, IsUniversal, IsPatternIn, index_in, atom_in, abs_in, rigid_in, name_in, IsPatternText}
 use Rattle.lp_pattern_laws.specs.Parts.{IsPatternForm}
 use Rattle.lp_pattern_laws.proofs.Naming.{same_under, under_not}
-use Rattle.lp_pattern_laws.proofs.Renamed.{names_pattern}
+use Rattle.lp_pattern_laws.proofs.Apart.{pattern_apart}
 use Rattle.lp_pattern_laws.proofs.Reduced.{pattern_reduces}
-
-pub pattern_apart : {t u : Term} → IsPatternTerm (app t u) → IsPatternTerm t × IsPatternTerm u
-pattern_apart (rigid r p q) = (p, q)
-pattern_apart (on_name p q new) = (p, names_pattern q)
 
 -- what goes apart with applications holds of arguments
 arguments_each : (P : Term → Type 0) → ((f a : Term) → P (app f a) → P f × P a) → (t : Term) (more : List Term) → P t → EachOf P more → EachOf P (arguments_and t more)
@@ -24,6 +21,14 @@ arguments_each P apart (index i) more p h = h
 arguments_each P apart (atom a) more p h = h
 arguments_each P apart (abs b) more p h = h
 arguments_each P apart (app f a) more p h = let q = apart f a p in arguments_each P apart f (a ∷ more) q.0 (q.1, h)
+
+-- and so does what goes apart where there is a head
+pub headed_each : (P : Term → Type 0) → ((f a : Term) → IsHead (head_of f) → P (app f a) → P f × P a) → (t : Term) (more : List Term) → IsHead
+    (head_of t) → P t → EachOf P more → EachOf P (arguments_and t more)
+headed_each P apart (index i) more h p w = w
+headed_each P apart (atom a) more h p w = w
+headed_each P apart (abs b) more h p w = w
+headed_each P apart (app f a) more h p w = let q = apart f a h p in headed_each P apart f (a ∷ more) h q.0 (q.1, w)
 
 pub pattern_arguments : (t : Term) → IsPatternTerm t → EachOf IsPatternTerm (arguments t)
 pattern_arguments t p = arguments_each IsPatternTerm (λ f a q. pattern_apart q) t [] p tt
@@ -65,7 +70,7 @@ index_new : (p : Name) (i : ℕ) → (bound i ≡ p → ⊥) → IsNewToIndex p 
 index_new (bound j) i h = λ e. h (ap bound e)
 index_new (free k) i h = tt
 
-new_name : (Γ : List Kind) {m : Name} {t : Term} → Names m t → IsUniversal Γ m → (p : Name) → (m ≡ p → ⊥) → IsNewIn Γ p t
+new_name : (Γ : List Binder) {m : Name} {t : Term} → Names m t → IsUniversal Γ m → (p : Name) → (m ≡ p → ⊥) → IsNewIn Γ p t
 new_name Γ (an_index i) u p h = transport (λ o. IsNewAt o p i) (sym u) (index_new p i h)
 new_name Γ (an_eigen k) u (bound j) h = tt
 new_name Γ (an_eigen k) u (free j) h = λ e. h (ap free e)
@@ -75,7 +80,7 @@ new_name Γ (expanded {n = n} q r) u p h = (new_name (universal ∷ Γ) q (raise
     raised (bound i) u = u
     raised (free k) u = tt
 
-names_in : (Γ : List Kind) {n : Name} {t : Term} → Names n t → IsUniversal Γ n → IsPatternIn Γ t
+names_in : (Γ : List Binder) {n : Name} {t : Term} → Names n t → IsUniversal Γ n → IsPatternIn Γ t
 names_in Γ (an_index i) u = index_in i u
 names_in Γ (an_eigen k) u = atom_in (eigen k)
 names_in Γ (expanded {n = n} q r) u =
@@ -85,9 +90,9 @@ names_in Γ (expanded {n = n} q r) u =
     raised (bound i) u = u
     raised (free k) u = tt
 
-text_apart : (Γ : List Kind) {t u : Term} → IsPatternIn Γ (app t u) → IsPatternIn Γ t × IsPatternIn Γ u
+text_apart : (Γ : List Binder) {t u : Term} → IsPatternIn Γ (app t u) → IsPatternIn Γ t × IsPatternIn Γ u
 text_apart Γ (rigid_in r p q) = (p, q)
 text_apart Γ (name_in u p q new) = (p, names_in Γ q u)
 
-pub text_arguments : (l : ℕ) (Γ : List Kind) (t : Term) → IsPatternText l Γ t → EachOf (IsPatternText l Γ) (arguments t)
+pub text_arguments : (l : ℕ) (Γ : List Binder) (t : Term) → IsPatternText l Γ t → EachOf (IsPatternText l Γ) (arguments t)
 text_arguments l Γ t h = arguments_each (IsPatternText l Γ) (λ f a q. let p = text_apart Γ q.0 in ((p.0, q.1.0), (p.1, q.1.1))) t [] h tt

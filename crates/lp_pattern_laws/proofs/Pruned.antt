@@ -16,10 +16,10 @@ use Rattle.lp_unify_laws.proofs.Prunings.{pair_seen, renewal_scoped}
 use Rattle.lp_unify_laws.proofs.Sames.{both_on}
 use Rattle.lp_unify_laws.proofs.Scans.{Seen}
 use Rattle.lp_unify_laws.proofs.Throughs.{put_within, pair_next_term}
-use Rattle.lp_pattern_laws.specs.Patterns.{IsPatternTerm}
-use Rattle.lp_pattern_laws.proofs.Filled.{HavePatterns}
+use Rattle.lp_pattern_laws.specs.Patterns.{IsPattern}
+use Rattle.lp_pattern_laws.proofs.Comes.{of_term}
 use Rattle.lp_pattern_laws.proofs.Looked.{not_true, variable_pattern}
-use Rattle.lp_pattern_laws.proofs.Filled.{pattern_put, pattern_abstracted}
+use Rattle.lp_pattern_laws.proofs.PutForms.{HavePatterns, pattern_put, pattern_abstracted}
 use Rattle.lp_pattern_laws.proofs.Scanned.{IsGood, AreGood, IsWell, scan_well, mapped}
 
 -- lists of eigenconstants out of others
@@ -75,11 +75,13 @@ distinct_given : (m : ℕ) (cs js : List ℕ) → are_distinct cs ≡ true → a
 distinct_given m [] js d e a = e
 distinct_given m (c ∷ cs) js d e a = by (distinct_given m cs js (and_true_right (not (member c cs)) (are_distinct cs) d) e a) (nat_le c m) refl
   where
-    by : are_distinct (chosen (λ k. nat_le k m) cs ++ js) ≡ true → (t : Bool) → nat_le c m ≡ t → are_distinct ((if t then c ∷ chosen (λ k. nat_le k m) cs else chosen (λ k. nat_le k m) cs) ++ js) ≡ true
+    by : are_distinct (chosen (λ k. nat_le k m) cs ++ js) ≡ true → (t : Bool) → nat_le c m ≡ t → are_distinct
+        ((if t then c ∷ chosen (λ k. nat_le k m) cs else chosen (λ k. nat_le k m) cs) ++ js) ≡ true
     by rest true q =
         let low : c ≤ m = grind (arith, nat_tests) in
         both_on (not (member c (chosen (λ k. nat_le k m) cs ++ js))) (are_distinct (chosen (λ k. nat_le k m) cs ++ js))
-        (ap not (no_append c (chosen (λ k. nat_le k m) cs) js (no_chosen c (λ k. nat_le k m) cs (not_true (member c cs) (and_true_left (not (member c cs)) (are_distinct cs) d))) (no_above m c js low a))) rest
+        (ap not (no_append c (chosen (λ k. nat_le k m) cs) js (no_chosen c (λ k. nat_le k m) cs
+        (not_true (member c cs) (and_true_left (not (member c cs)) (are_distinct cs) d))) (no_above m c js low a))) rest
     by rest false q = rest
 
 no_agreeing : (k : ℕ) (ks js : List ℕ) → member k ks ≡ false → member k (agreeing ks js) ≡ false
@@ -97,7 +99,8 @@ distinct_agreeing (a ∷ ks) [] d = refl
 distinct_agreeing (a ∷ ks) (b ∷ js) d = by (distinct_agreeing ks js (and_true_right (not (member a ks)) (are_distinct ks) d)) (nat_eq a b)
   where
     by : are_distinct (agreeing ks js) ≡ true → (t : Bool) → are_distinct (if t then a ∷ agreeing ks js else agreeing ks js) ≡ true
-    by rest true = both_on (not (member a (agreeing ks js))) (are_distinct (agreeing ks js)) (ap not (no_agreeing a ks js (not_true (member a ks) (and_true_left (not (member a ks)) (are_distinct ks) d)))) rest
+    by rest true = both_on (not (member a (agreeing ks js))) (are_distinct (agreeing ks js))
+        (ap not (no_agreeing a ks js (not_true (member a ks) (and_true_left (not (member a ks)) (are_distinct ks) d)))) rest
     by rest false = rest
 
 above_agreeing : (l : ℕ) (ks js : List ℕ) → are_above l ks ≡ true → are_above l (agreeing ks js) ≡ true
@@ -117,14 +120,14 @@ any_eigens : (cs : List ℕ) → WithinAll Any (eigens cs)
 any_eigens [] = tt
 any_eigens (c ∷ cs) = (tt, any_eigens cs)
 
-pub abstracted_variable : (js cs : List ℕ) (x l : ℕ) → are_distinct cs ≡ true → are_above l cs ≡ true → IsPatternTerm (abstracted js (apply (atom (logic x l)) (eigens cs)))
+pub abstracted_variable : (js cs : List ℕ) (x l : ℕ) → are_distinct cs ≡ true → are_above l cs ≡ true → IsPattern (abstracted js (apply (atom (logic x l)) (eigens cs)))
 abstracted_variable js cs x l d a =
-    (pattern_abstracted Any js (apply (atom (logic x l)) (eigens cs)) (variable_pattern x l cs d a) (apply_within Any (eigens cs) (atom (logic x l)) tt (any_eigens cs))).0
+    pattern_abstracted Any js (apply (atom (logic x l)) (eigens cs)) (of_term (variable_pattern x l cs d a)) (apply_within Any (eigens cs) (atom (logic x l)) tt (any_eigens cs))
 
-pub joined_pattern : (ks js : List ℕ) (x l : ℕ) → are_distinct ks ≡ true → are_above l ks ≡ true → IsPatternTerm (abstracted ks (apply (atom (logic x l)) (eigens (agreeing ks js))))
+pub joined_pattern : (ks js : List ℕ) (x l : ℕ) → are_distinct ks ≡ true → are_above l ks ≡ true → IsPattern (abstracted ks (apply (atom (logic x l)) (eigens (agreeing ks js))))
 joined_pattern ks js x l d a = abstracted_variable ks (agreeing ks js) x l (distinct_agreeing ks js d) (above_agreeing l ks js a)
 
-pub patterns_last : (js : List Binding) (b : Binding) → HavePatterns js → IsPatternTerm b.value → HavePatterns (js ++ b ∷ [])
+pub patterns_last : (js : List Binding) (b : Binding) → HavePatterns js → IsPattern b.value → HavePatterns (js ++ b ∷ [])
 patterns_last [] b h p = (p, tt)
 patterns_last (c ∷ cs) b h p = (h.0, patterns_last cs b h.1 p)
 
@@ -134,7 +137,7 @@ least_left a b = omega arith
 least_right : (a b : ℕ) → min a b ≤ b
 least_right a b = omega arith
 
-renewal_pattern : (s : Side) (next : ℕ) (p : Pattern) → are_distinct s.arguments ≡ true → are_above s.level s.arguments ≡ true → IsGood p → IsPatternTerm (renewal s next p).value
+renewal_pattern : (s : Side) (next : ℕ) (p : Pattern) → are_distinct s.arguments ≡ true → are_above s.level s.arguments ≡ true → IsGood p → IsPattern (renewal s next p).value
 renewal_pattern s next p d a g =
     abstracted_variable p.arguments (chosen (λ k. nat_le k p.level) s.arguments ++ chosen (allows s) p.arguments) next (min s.level p.level)
     (distinct_given p.level s.arguments (chosen (allows s) p.arguments) d (distinct_chosen (allows s) p.arguments g.0) (above_chosen p.level p.level (allows s) p.arguments (omega arith) g.1))
@@ -153,19 +156,21 @@ misfit_good s (q ∷ qs) g p e = by (λ x. misfit_good s qs g.1 p x) (fits s q) 
 -- what pruning leads to
 pub record IsPrunedWell (s : Side) (r : Pruned) : Type 0 where
   pub bindings : HavePatterns r.bindings
-  pub term : IsPatternTerm r.term
+  pub term : IsPattern r.term
   pub within : Within (IsPairAtom r.next s.pair) 0 r.term
 
 module _ (s : Side) (d : are_distinct s.arguments ≡ true) (a : are_above s.level s.arguments ≡ true) where
-  pub prune_well : (n next : ℕ) (t : Term) (r : Pruned) → IsPatternTerm t → Within (IsPairAtom next s.pair) 0 t → prune n s next t ≡ Some r → IsPrunedWell s r
+  pub prune_well : (n next : ℕ) (t : Term) (r : Pruned) → IsPattern t → Within (IsPairAtom next s.pair) 0 t → prune n s next t ≡ Some r → IsPrunedWell s r
   prune_well zero next t r p w e = absurd (cc)
   prune_well (suc n) next t r p w e = option_and_then_some _ (scan n s false s.pair t) r e λ x i q.
-      by_scan (λ u x. prune_well n (suc next) u x) x (scan_well n s next s.pair t x (omega arith) p (within_more (IsPairAtom next s.pair) (Seen next s.pair s.pair) 0 0 (pair_seen next s.pair) (omega arith) t w) i) q
+      by_scan (λ u x. prune_well n (suc next) u x) x (scan_well n s next s.pair t x (omega arith) p
+      (within_more (IsPairAtom next s.pair) (Seen next s.pair s.pair) 0 0 (pair_seen next s.pair) (omega arith) t w) i) q
     where
-      by_misfit : ((u : Term) (x : Pruned) → IsPatternTerm u → Within (IsPairAtom (suc next) s.pair) 0 u → prune n s (suc next) u ≡ Some x → IsPrunedWell s x) → (ps : List Pattern) → AreGood ps → (o : Option Pattern) → first_misfit s ps ≡ o → (elim o [
-        | None ↦ Some (record { bindings = []; next = next; term = t })
-        | Some p ↦ option_map (led_by (renewal s next p)) (prune n s (suc next) (put (renewal s next p) t))
-      ]) ≡ Some r → IsPrunedWell s r
+      by_misfit : ((u : Term) (x : Pruned) → IsPattern u → Within (IsPairAtom (suc next) s.pair) 0 u → prune n s (suc next) u ≡ Some x → IsPrunedWell
+          s x) → (ps : List Pattern) → AreGood ps → (o : Option Pattern) → first_misfit s ps ≡ o → (elim o [
+            | None ↦ Some (record { bindings = []; next = next; term = t })
+            | Some p ↦ option_map (led_by (renewal s next p)) (prune n s (suc next) (put (renewal s next p) t))
+          ]) ≡ Some r → IsPrunedWell s r
       by_misfit ih ps g None i q = transport (IsPrunedWell s) (same_Some (record { bindings = []; next = next; term = t }) r q) (record { bindings = tt; term = p; within = w })
       by_misfit ih ps g (Some o) i q =
           let b = renewal s next o in
@@ -176,7 +181,7 @@ module _ (s : Side) (d : are_distinct s.arguments ≡ true) (a : are_above s.lev
           (put_within (suc next) s.pair b scoped t (pair_next_term next (suc next) s.pair (omega arith) t w)) j in
           record { bindings = (value, h.bindings); term = h.term; within = h.within })
 
-      by_scan : ((u : Term) (x : Pruned) → IsPatternTerm u → Within (IsPairAtom (suc next) s.pair) 0 u → prune n s (suc next) u ≡ Some x → IsPrunedWell s x) → (x : Scanned) → IsWell x → (elim x [
+      by_scan : ((u : Term) (x : Pruned) → IsPattern u → Within (IsPairAtom (suc next) s.pair) 0 u → prune n s (suc next) u ≡ Some x → IsPrunedWell s x) → (x : Scanned) → IsWell x → (elim x [
         | broken u ↦ None
         | whole u true ps ↦ None
         | whole u false ps ↦ elim (first_misfit s ps) [

@@ -194,7 +194,3 @@ pattern_step (in_argument t s) h = argument_step h (pattern_step s) (λ n q. nam
 pub pattern_reduces : {t s : Term} → ReducesTo t s → IsPatternTerm t → IsPatternTerm s
 pattern_reduces (done t) h = h
 pattern_reduces (then_step p ps) h = pattern_reduces ps (pattern_step p h)
-
-pub names_reduce : {t s : Term} → ReducesTo t s → {m : Name} → Names m t → Names m s
-names_reduce (done t) h = h
-names_reduce (then_step p ps) h = names_reduce ps (names_step p h)

@@ -32,10 +32,10 @@ use Rattle.lp_unify_laws.proofs.Unifications.{AddsTypes, after_turn, unify_adds}
 use Rattle.lp_lemmas.specs.Each.{EachOf}
 use Rattle.lp_lemmas.proofs.Each.{each_append}
 use Rattle.lp_calculus.proofs.Fills.{within_more}
-use Rattle.lp_pattern_laws.specs.Kinds.{IsAtLevel}
+use Rattle.lp_pattern_laws.specs.Binders.{IsAtLevel}
 use Rattle.lp_pattern_laws.specs.Goals.{IsPatternValue}
 use Rattle.lp_pattern_laws.specs.Patterns.{ArePatternPairs}
-use Rattle.lp_pattern_laws.proofs.Filled.{HavePatterns, IsPatternBinding, pattern_put, pattern_instance}
+use Rattle.lp_pattern_laws.proofs.PutForms.{HavePatterns, IsPatternBinding, pattern_put, pattern_instance}
 use Rattle.lp_pattern_laws.proofs.Ruled.{IsRuledWell, SameLength, rule_well}
 
 -- a variable of a type stands on as many arguments on both sides of a typed pair
@@ -158,7 +158,8 @@ IsTurnedWell (Fails u) = Unit {0}
 IsTurnedWell (Solved s) = IsPatternState s
 
 module _ (θ : ℕ → Ty) (d : Declared) where
-  judged_well : (V : List Variable) (s : State) (p : Pair) (rest : List Pair) (u : ℕ) (v : Verdict) → IsRuledWell v → IsRightAt θ d V s.next p v → ArePatternPairs rest → s.delayed ≡ [] → EachOf IsPatternValue s.bindings → IsTurnedWell (judged s p rest u v)
+  judged_well : (V : List Variable) (s : State) (p : Pair) (rest : List Pair) (u : ℕ) (v : Verdict) → IsRuledWell v → IsRightAt θ d V s.next p v →
+      ArePatternPairs rest → s.delayed ≡ [] → EachOf IsPatternValue s.bindings → IsTurnedWell (judged s p rest u v)
   judged_well V s p rest u fails h i k empty b = tt
   judged_well V s p rest u (gives ts ps) h i k empty b = record {
     pairs = pairs_append ps (type_pairs_in ts rest) h (pairs_typed ts rest k);
@@ -201,7 +202,8 @@ module _ (θ : ℕ → Ty) (d : Declared) where
         | true ↦ Some (Goes (record s { pairs = s.delayed; delayed = []; changed = false }))
         | false ↦ Some (Solved s)
       ]) ≡ Some t → IsTurnedWell t) [
-        | true ↦ λ j. transport IsTurnedWell (same_Some (Goes (record s { pairs = s.delayed; delayed = []; changed = false })) t j) (record { pairs = transport ArePatternPairs (sym h.delayed) tt; delayed = refl; bindings = h.bindings })
+        | true ↦ λ j. transport IsTurnedWell (same_Some (Goes (record s { pairs = s.delayed; delayed = []; changed = false })) t j)
+            (record { pairs = transport ArePatternPairs (sym h.delayed) tt; delayed = refl; bindings = h.bindings })
         | false ↦ λ j. transport IsTurnedWell (same_Some (Solved s) t j) h
       ] i
 
@@ -216,9 +218,12 @@ module _ (θ : ℕ → Ty) (d : Declared) where
 
   unify_well : (m n limit : ℕ) (V : List Variable) (s s' : State) → IsStateAt θ d V s → IsPatternState s → unify m n limit s ≡ Some (Solution s') → Satisfies θ s'.types → IsPatternState s'
   unify_well zero n limit V s s' w h e all = absurd (cc)
-  unify_well (suc m) n limit V s s' w h e all = option_and_then_some _ (turn n s) (Solution s') e λ t i j. by_turn t (turn_right θ d V n s t w i) (turn_well V n s t w h i) j (λ W x y k q. unify_well m n limit W x s' y k q all)
+  unify_well (suc m) n limit V s s' w h e all = option_and_then_some _ (turn n s) (Solution s') e λ t i j. by_turn t (turn_right θ d V n s t w i)
+      (turn_well V n s t w h i) j (λ W x y k q. unify_well m n limit W x s' y k q all)
     where
-      by_turn : (t : Turn) → TurnRight θ d V s t → IsTurnedWell t → after_turn m n limit t ≡ Some (Solution s') → ((W : List Variable) (x : State) → IsStateAt θ d W x → IsPatternState x → unify m n limit x ≡ Some (Solution s') → IsPatternState s') → IsPatternState s'
+      by_turn : (t : Turn) → TurnRight θ d V s t → IsTurnedWell t → after_turn m n limit t ≡ Some (Solution s') →
+          ((W : List Variable) (x : State) → IsStateAt θ d W x → IsPatternState x → unify m n limit x ≡ Some (Solution s') → IsPatternState s') →
+          IsPatternState s'
       by_turn _ (right_goes {s' = x} l) k q ih = elim (nat_lt limit x.units) as (λ b. (elim b [ true ↦ Some Spent | false ↦ unify m n limit x ]) ≡ Some (Solution s') → IsPatternState s') [
         | true ↦ λ j. absurd (cc)
         | false ↦ λ j. let r = l.reaches (falls_back x s' (adds_of m n limit x s' j) all) in ih r.after x r.is_state k j
@@ -230,7 +235,8 @@ module _ (θ : ℕ → Ty) (d : Declared) where
       → ArePatternPairs ps → solve n limit eqs ps [] (length V) ≡ Some (Solution s) → Satisfies θ s.types → (s.delayed ≡ []) × EachOf IsPatternValue s.bindings
   solve_well V n limit eqs ps s w h e all = option_and_then_some _ (solve_types n eqs [] 0) (Solution s) e λ t i j. by_types t (types_right n eqs [] 0 t i) j
     where
-      started : (ts : List TypeBinding) (u : ℕ) → AreSolved eqs [] (solved ts u) → unify n n limit (begun ps [] (length V) (solved ts u)) ≡ Some (Solution s) → (s.delayed ≡ []) × EachOf IsPatternValue s.bindings
+      started : (ts : List TypeBinding) (u : ℕ) → AreSolved eqs [] (solved ts u) → unify n n limit (begun ps [] (length V) (solved ts u)) ≡ Some
+          (Solution s) → (s.delayed ≡ []) × EachOf IsPatternValue s.bindings
       started ts u t j =
           let first = begun ps [] (length V) (solved ts u) in
           let m : Satisfies θ ts = falls_back first s (adds_of n n limit first s j) all in

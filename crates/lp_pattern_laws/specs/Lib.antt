@@ -1,5 +1,6 @@
 pub mod Patterns
-pub mod Kinds
+pub mod Binders
 pub mod Parts
 pub mod Goals
 pub mod Tasks
+pub mod Formulas

@@ -5,7 +5,7 @@ use Rattle.lp_calculus.specs.Term.{atom, eigen, substitute}
 use Rattle.lp_standard.specs.Connectives.{Connective}
 use Rattle.lp_standard.specs.Connectives as connective
 use Rattle.lp_pattern_laws.specs.Patterns.{IsPatternTerm}
-use Rattle.lp_pattern_laws.specs.Kinds.{Kind, existential}
+use Rattle.lp_pattern_laws.specs.Binders.{Binder, existential}
 
 -- pattern terms; that of a `pi` with this eigenconstant for its variable. Of a `sigma`, whose variable may stand on anything, nothing is said
 abbrev pub IsPatternForm : (eigen : ℕ) → Connective → Type 0
@@ -20,5 +20,5 @@ IsPatternForm k (connective.Not g) = IsPatternTerm g
 IsPatternForm k connective.Atomic = Unit {0}
 
 -- the variables of a clause are existential
-abbrev pub existentials : List Ty → List Kind
+abbrev pub existentials : List Ty → List Binder
 existentials Ts = map (λ T. existential) Ts

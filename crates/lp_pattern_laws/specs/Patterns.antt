@@ -2,6 +2,7 @@
 -- logic variable stands on distinct bound indices and eigenconstants that are new to it.
 use Rattle.std.specs.Prelude.{◌≡◌, ℕ, suc, ◌<◌, List, [], ◌∷◌}
 use Rattle.lp_calculus.specs.Term.{Term, index, atom, abs, app, Atom, constant, integer, text, eigen, logic, param}
+use Rattle.lp_calculus.specs.Convert.{ReducesTo}
 use Rattle.lp_model.specs.Pair.{Pair}
 
 -- a universal variable: the index of an abstraction around, or an eigenconstant
@@ -64,7 +65,13 @@ pub data IsPatternTerm : Term → Type 0 where
   rigid : {t u : Term} → IsRigid t → IsPatternTerm t → IsPatternTerm u → IsPatternTerm (app t u)
   on_name : {n : Name} {t u : Term} → IsPatternTerm t → Names n u → IsNewTo n t → IsPatternTerm (app t u)
 
--- pairs of such terms
+-- a term that reduces to such a term
+pub record IsPattern (t : Term) : Type 0 where
+  pub form : Term
+  pub reduces : ReducesTo t form
+  pub pattern : IsPatternTerm form
+
+-- pairs of terms that reduce to such terms
 abbrev pub ArePatternPairs : List Pair → Type 0
 ArePatternPairs [] = Unit {0}
-ArePatternPairs (p ∷ ps) = (IsPatternTerm p.left × IsPatternTerm p.right) × ArePatternPairs ps
+ArePatternPairs (p ∷ ps) = (IsPattern p.left × IsPattern p.right) × ArePatternPairs ps

@@ -1,11 +1,11 @@
 -- The turns of `is` and of the orders.
-use Rattle.std.proofs.Common.{◌≡◌, ◌⊎◌, ℕ, suc, ◌+◌, ◌-◌, ◌<◌, List, [], ◌∷◌, ◌++◌, length, refl, sym, ap, inl, inr, ◌∙◌, subst, arith, Bool, Option, Some}
+use Rattle.std.proofs.Common.{◌≡◌, ℕ, suc, ◌+◌, ◌-◌, ◌<◌, List, [], ◌∷◌, ◌++◌, length, refl, sym, ap, inl, inr, ◌∙◌, subst, arith, Bool, Option, Some}
 use Rattle.lp_base.specs.declared.compare.Compare.{Compare}
 use Rattle.lp_base.specs.declared.compare.Compare.TheVariants.{Less, Greater, AtMost, AtLeast}
 use Rattle.lp_calculus.specs.Fill.{Within}
 use Rattle.lp_calculus.specs.Types.{Ty}
 use Rattle.lp_calculus.specs.Term.{Term, atom, constant}
-use Rattle.lp_calculus.specs.Spine.{arguments, head_of}
+use Rattle.lp_calculus.specs.Spine.{arguments}
 use Rattle.lp_standard.specs.Connectives.{connective_of}
 use Rattle.lp_standard.specs.Connectives as connective
 use Rattle.lp_standard.specs.Constants.{IsOrder}
@@ -21,6 +21,7 @@ use Rattle.lp_model.specs.Search.{assigned, compared, look, look_constant, with_
 use Rattle.lp_model.specs.Skeleton.{Inner, State, Takes, named}
 use Rattle.lp_model.specs.Unify.{unit_limit}
 use Rattle.lp_model.specs.Values.{evaluate}
+use Rattle.lp_model.specs.declared.ending.Ending.TheVariants.{Deep}
 use Rattle.lp_lemmas.specs.Each.{EachOf}
 use Rattle.lp_search_laws.specs.Branches.{IsPlainTerm}
 use Rattle.lp_pattern.specs.Putting.{Known}
@@ -29,23 +30,25 @@ use Rattle.lp_plain.specs.declared.frame.Place.{Place}
 use Rattle.lp_plain.specs.declared.machine.Machine.{Machine}
 use Rattle.lp_plain.specs.declared.outcome.Turn.{Turn}
 use Rattle.lp_plain.specs.Assigned.{Assigns, Compares}
-use Rattle.lp_plain.specs.AtRunTime.{HasNoCall, IsAtLooked, IsAtomForm, IsNoCall, IsSmallExpression}
+use Rattle.lp_plain.specs.AtRunTime.{IsAtLooked, IsAtomForm, IsSmallExpression}
+use Rattle.lp_plain.specs.Calling.{AreFewAt}
 use Rattle.lp_plain.specs.Cuts.{one_step}
 use Rattle.lp_plain.specs.Entries.{Around}
 use Rattle.lp_plain.specs.Evaluated.{IsEvaluable, IsNoFunction}
 use Rattle.lp_plain.specs.Forms.{IsRelation, order_number}
-use Rattle.lp_plain.specs.Moving.{IsCounted, IsRunning, KeepsSearch, Leads, LeadsTo, Query}
+use Rattle.lp_plain.specs.Moving.{IsCounted, IsRunning, KeepsSearch, Leads, Query}
+use Rattle.lp_plain.specs.Reached.{HasSmallFirst, HasSmallGoal, IsSmallAtom, IsSmallGoal}
 use Rattle.lp_plain.proofs.ArithmeticMoves.{is_leads, order_leads}
 use Rattle.lp_plain.proofs.AtomMoves.{behind, by_seen, f, named_known, named_same, named_view, waits}
 use Rattle.lp_plain.proofs.AtomTurns.{left, place_stepped, stepped, steps_are}
 use Rattle.lp_plain.proofs.GoingOn.{step_counted}
-use Rattle.lp_plain.proofs.LeftOut.{comes}
 use Rattle.lp_plain.proofs.TypedGoals.{front_arguments, front_pairs}
 use Rattle.lp_plain.proofs.TypedOperands.{front_operands}
 use Rattle.lp_plain.specs.TypedStates.{IsTypedOver}
 
-module _ (qv : Query) (m c : Machine) (a : Around) (raw : Branch) (s : State Task) (h : IsRunning qv m a raw s) (p : Place) (u : TermId) (o : Option ℕ) (at : IsAtLooked m h.closing a p u o raw) (k : KeepsSearch m c o) (ch : c.choices ≡ m.choices)
-    (ct : c.counts ≡ one_step m.counts) (there : m.counts.steps < m.counts.limit) (kept : c.bank ≡ m.bank) (none : HasNoCall h.at_work.goals) (n : Machine) (turn : Turn) where
+module _ (qv : Query) (m c : Machine) (a : Around) (raw : Branch) (s : State Task) (h : IsRunning qv m a raw s) (p : Place) (u : TermId)
+    (o : Option ℕ) (at : IsAtLooked m h.closing a p u o raw) (k : KeepsSearch m c o) (ch : c.choices ≡ m.choices)
+    (ct : c.counts ≡ one_step m.counts) (there : m.counts.steps < m.counts.limit) (kept : c.bank ≡ m.bank) (n : Machine) (turn : Turn) where
   abbrev rest : Branch
   rest = with_goals raw at.rest
 
@@ -54,6 +57,11 @@ module _ (qv : Query) (m c : Machine) (a : Around) (raw : Branch) (s : State Tas
 
   abbrev x : Term
   x = tree m.bank u.0
+
+  -- the turn, over one program
+  abbrev LeadsNext : List Clause → Type 0
+  LeadsNext P = (k : ℕ) → s.answers ≡ suc k → (go : (Answer → Bool) → State Task → Inner) (enough : ℕ) → AreFewAt turn enough s.stack → IsTypedOver
+      qv.arity enough P s → Leads 1 qv turn n go (look unit_limit enough P) s
 
   counted : (w : ℕ) (q : Machine) → q.counts ≡ c.counts → (ts : List Task) →
       IsCounted q (record { steps = m.counts.limit - (m.counts.steps + 1); answers = suc w; given = s.given; rows = s.rows; row = s.rows; lost = s.lost; stack = ts ++ h.rest })
@@ -66,44 +74,41 @@ module _ (qv : Query) (m c : Machine) (a : Around) (raw : Branch) (s : State Tas
   level_is : (f qv m a raw s h p u o at).first.level ≡ p.level
   level_is = (f qv m a raw s h p u o at).entry.place.level
 
-  relation_of : (v : ℕ) (l r : TermId) → ((connective_of x ≡ connective.Atomic) × IsRelation m.bank x v l r) → (enough : ℕ) (P : List Clause) (t : Term) → head_normal enough (f qv m a raw s h p u o at).goal ≡ Some t → (ts : List Ty) ×
-      IsNoCall (atom (constant v ts)) (closed h.closing (tree m.bank l.0) ∷ closed h.closing (tree m.bank r.0) ∷ [])
-  relation_of v l r i enough P t q =
+  -- the expressions are small where the goal's are
+  small_of : (v : ℕ) (l r : TermId) → ((connective_of x ≡ connective.Atomic) × IsRelation m.bank x v l r) → (enough : ℕ) (P : List Clause) (t : Term)
+      → head_normal enough (f qv m a raw s h p u o at).goal ≡ Some t → HasSmallGoal s.stack → (ts : List Ty) ×
+      IsSmallAtom (atom (constant v ts)) (closed h.closing (tree m.bank l.0) ∷ closed h.closing (tree m.bank r.0) ∷ [])
+  small_of v l r i enough P t q sm =
       let g = named_same qv m a raw s h p u o at enough P t q v l r i.0 i.1 in
-      (g.1.0, subst (λ us. IsNoCall (atom (constant v g.1.0)) us) g.2 (subst (λ y. IsNoCall y (arguments t)) g.1.1 (comes qv m a raw s h p u o at none n turn enough t q g.0)))
+      let y = f qv m a raw s h p u o at in
+      let here = subst HasSmallFirst y.whole (subst HasSmallGoal h.stack sm) in
+      let goal = subst (λ z. IsSmallGoal z y.first.written) y.is here in
+      (g.1.0, subst (λ us. IsSmallAtom (atom (constant v g.1.0)) us) g.2 (subst (λ y. IsSmallAtom y (arguments t)) g.1.1 (goal enough t q g.0)))
 
   -- no abstraction in them has a value, since they are typed
-  operands_of : (v : ℕ) (l r : TermId) → ((connective_of x ≡ connective.Atomic) × IsRelation m.bank x v l r) → (enough : ℕ) (P : List Clause) → IsTypedOver qv.arity enough P s → (t : Term) → head_normal enough (f qv m a raw s h p u o at).goal ≡ Some t →
+  operands_of : (v : ℕ) (l r : TermId) → ((connective_of x ≡ connective.Atomic) × IsRelation m.bank x v l r) → (enough : ℕ) (P : List Clause) →
+      IsTypedOver qv.arity enough P s → (t : Term) → head_normal enough (f qv m a raw s h p u o at).goal ≡ Some t →
       EachOf (λ y. (i : ℕ) (z : Term) → beta_normal i y ≡ Some z → IsNoFunction z) (closed h.closing (tree m.bank l.0) ∷ closed h.closing (tree m.bank r.0) ∷ [])
   operands_of v l r i enough P ty t q =
       let y = f qv m a raw s h p u o at in
       subst (EachOf (λ y. (i : ℕ) (z : Term) → beta_normal i y ≡ Some z → IsNoFunction z)) (named_same qv m a raw s h p u o at enough P t q v l r i.0 i.1).2
       (front_operands qv.arity enough P s ty h.at_work h.rest h.stack y.first y.rest y.whole y.goal t enough y.is q)
 
-  small_right : (y z : Term) → (number.Is ≡ number.Equal) ⊎ (((number.Is ≡ number.Is) × IsSmallExpression z) ⊎ (IsOrder number.Is × IsSmallExpression y × IsSmallExpression z)) → IsSmallExpression z
-  small_right y z (inl e) = absurd (cc)
-  small_right y z (inr (inl e)) = e.1
-  small_right y z (inr (inr e)) = e.2
+  order_is : (o : Compare) → IsOrder (order_number o)
+  order_is Less = (omega arith, omega arith)
+  order_is Greater = (omega arith, omega arith)
+  order_is AtMost = (omega arith, omega arith)
+  order_is AtLeast = (omega arith, omega arith)
 
-  small_both : (v : Compare) (y z : Term) → (order_number v ≡ number.Equal) ⊎ (((order_number v ≡ number.Is) × IsSmallExpression z) ⊎ (IsOrder (order_number v) × IsSmallExpression y × IsSmallExpression z)) → IsSmallExpression y × IsSmallExpression z
-  small_both Less y z (inl e) = absurd (cc)
-  small_both Greater y z (inl e) = absurd (cc)
-  small_both AtMost y z (inl e) = absurd (cc)
-  small_both AtLeast y z (inl e) = absurd (cc)
-  small_both Less y z (inr (inl e)) = absurd (let q = e.0 in cc)
-  small_both Greater y z (inr (inl e)) = absurd (let q = e.0 in cc)
-  small_both AtMost y z (inr (inl e)) = absurd (let q = e.0 in cc)
-  small_both AtLeast y z (inr (inl e)) = absurd (let q = e.0 in cc)
-  small_both v y z (inr (inr e)) = (e.1, e.2)
-
-  order_tasks : (v : Compare) (P : List Clause) (enough height : ℕ) (t l r : Term) → look_constant unit_limit enough P height (f qv m a raw s h p u o at).first work t (order_number v) (l ∷ r ∷ []) ≡ compared (order_number v) work (evaluate enough l) (evaluate enough r)
+  order_tasks : (v : Compare) (P : List Clause) (enough height : ℕ) (t l r : Term) → look_constant unit_limit enough P height
+      (f qv m a raw s h p u o at).first work t (order_number v) (l ∷ r ∷ []) ≡ compared (order_number v) work (evaluate enough l) (evaluate enough r)
   order_tasks Less P enough height t l r = refl
   order_tasks Greater P enough height t l r = refl
   order_tasks AtMost P enough height t l r = refl
   order_tasks AtLeast P enough height t l r = refl
 
-  pub is_turn : (l r : TermId) → IsAtomForm m.bank x (form.Is l r) → (l.0 < length m.bank.terms) × (r.0 < length m.bank.terms) → Assigns c n l r p.level turn → LeadsTo 1 qv turn n s
-  is_turn l r i st e w ea go enough few P ty =
+  pub is_turn : (l r : TermId) → IsAtomForm m.bank x (form.Is l r) → (l.0 < length m.bank.terms) × (r.0 < length m.bank.terms) → Assigns c n l r p.level turn → (P : List Clause) → LeadsNext P
+  is_turn l r i st e P w ea go enough few ty =
       by_seen qv m a raw s h p u o at enough P (Leads 1 qv turn n go (look unit_limit enough P) s) (waits qv m a raw s h p u o at enough P n w ea go turn) (λ t q.
       let v = of i in
       let known = named_known qv m a raw s h p u o at enough P t q number.Is l r v.0 v.1 in
@@ -112,10 +117,14 @@ module _ (qv : Query) (m c : Machine) (a : Around) (raw : Branch) (s : State Tas
       subst (EachOf (IsPlainTerm h.at_work.next_type)) (named_same qv m a raw s h p u o at enough P t q number.Is l r v.0 v.1).2
       (front_arguments qv.arity enough P s ty h.at_work h.rest h.stack y.first y.rest y.whole y.goal t enough y.is q) in
       let no = operands_of number.Is l r v enough P ty t q in
-      let small = small_right (closed h.closing (tree m.bank l.0)) (closed h.closing (tree m.bank r.0)) (relation_of number.Is l r v enough P t q).1 in
+      let small : turn ≡ Turn.Ended Deep → IsSmallExpression (closed h.closing (tree c.bank r.0)) = λ d. subst IsSmallExpression (same_closed r)
+      ((small_of number.Is l r v enough P t q (few d).1).1.0 refl) in
       is_leads qv c a rest work h.rest (stepped qv m c a raw s h p u o at k ch ct there) p (place_stepped qv m c a raw s h p u o at k ch ct there) s w (left qv m c a raw s h p u o at k ch ct there) ea
-      (steps_are qv m c a raw s h p u o at k ch ct there) go enough P (named number.Is) (Go h.at_work) h.stack (counted w) n l r turn e few (subst (IsPlainTerm h.at_work.next_type) (same_closed l) args.0) (front_pairs qv.arity enough P s ty h.at_work h.rest h.stack y.first y.rest y.whole)
-      (subst (λ b. l.0 < length b.terms) (sym kept) st.0) (subst (λ b. r.0 < length b.terms) (sym kept) st.1) (subst (Within (Known h.levels raw.next) 0) (same_closed l) known.0) (subst IsEvaluable (same_closed r) (λ i z j. (no.1.0 i z j, small i z j)))
+      (steps_are qv m c a raw s h p u o at k ch ct there) go enough P (named number.Is) (Go h.at_work) h.stack (counted w) n l r turn e
+      (λ d. (few d).0) small (subst (IsPlainTerm h.at_work.next_type) (same_closed l) args.0)
+      (front_pairs qv.arity enough P s ty h.at_work h.rest h.stack y.first y.rest y.whole)
+      (subst (λ b. l.0 < length b.terms) (sym kept) st.0) (subst (λ b. r.0 < length b.terms) (sym kept) st.1)
+      (subst (Within (Known h.levels raw.next) 0) (same_closed l) known.0) (subst IsEvaluable (same_closed r) no.1.0)
       (named_view qv m a raw s h p u o at enough P t q number.Is l r v.0 v.1 ∙
       (λ j. Takes (named number.Is) (assigned unit_limit enough (level_is j) (same_closed l j) work (evaluate enough (same_closed r j))))))
     where
@@ -123,15 +132,19 @@ module _ (qv : Query) (m c : Machine) (a : Around) (raw : Branch) (s : State Tas
       of (inl y) = (y.0, y.1)
       of (inr y) = absurd (let z = y.1 in cc)
 
-  pub order_turn : (v : Compare) (l r : TermId) → IsAtomForm m.bank x (form.Order v l r) → (l.0 < length m.bank.terms) × (r.0 < length m.bank.terms) → Compares c n v l r turn → LeadsTo 1 qv turn n s
-  order_turn v l r i st e w ea go enough few P ty =
+  pub order_turn : (v : Compare) (l r : TermId) → IsAtomForm m.bank x (form.Order v l r) → (l.0 < length m.bank.terms) × (r.0 < length m.bank.terms) →
+      Compares c n v l r turn → (P : List Clause) → LeadsNext P
+  order_turn v l r i st e P w ea go enough few ty =
       by_seen qv m a raw s h p u o at enough P (Leads 1 qv turn n go (look unit_limit enough P) s) (waits qv m a raw s h p u o at enough P n w ea go turn) (λ t q.
       let y = of i in
       let no = operands_of (order_number v) l r y enough P ty t q in
-      let small = small_both v (closed h.closing (tree m.bank l.0)) (closed h.closing (tree m.bank r.0)) (relation_of (order_number v) l r y enough P t q).1 in
-      order_leads qv c a rest work h.rest (stepped qv m c a raw s h p u o at k ch ct there) p (place_stepped qv m c a raw s h p u o at k ch ct there) s w (left qv m c a raw s h p u o at k ch ct there) ea
-      (steps_are qv m c a raw s h p u o at k ch ct there) go enough P (named (order_number v)) (Go h.at_work) h.stack (counted w) n v l r turn e few
-      (subst (λ b. l.0 < length b.terms) (sym kept) st.0) (subst (λ b. r.0 < length b.terms) (sym kept) st.1) (subst IsEvaluable (same_closed l) (λ i z j. (no.0 i z j, small.0 i z j))) (subst IsEvaluable (same_closed r) (λ i z j. (no.1.0 i z j, small.1 i z j)))
+      let small : turn ≡ Turn.Ended Deep → IsSmallExpression (closed h.closing (tree c.bank l.0)) × IsSmallExpression
+      (closed h.closing (tree c.bank r.0)) = λ d. let z = (small_of (order_number v) l r y enough P t q (few d).1).1.1 (order_is v) in
+      (subst IsSmallExpression (same_closed l) z.0, subst IsSmallExpression (same_closed r) z.1) in
+      order_leads qv c a rest work h.rest (stepped qv m c a raw s h p u o at k ch ct there) p (place_stepped qv m c a raw s h p u o at k ch ct there)
+      s w (left qv m c a raw s h p u o at k ch ct there) ea
+      (steps_are qv m c a raw s h p u o at k ch ct there) go enough P (named (order_number v)) (Go h.at_work) h.stack (counted w) n v l r turn e (λ d. (few d).0) small
+      (subst (λ b. l.0 < length b.terms) (sym kept) st.0) (subst (λ b. r.0 < length b.terms) (sym kept) st.1) (subst IsEvaluable (same_closed l) no.0) (subst IsEvaluable (same_closed r) no.1.0)
       (named_view qv m a raw s h p u o at enough P t q (order_number v) l r y.0 y.1 ∙
       ap (Takes (named (order_number v))) (order_tasks v P enough (length h.rest) t (closed h.closing (tree m.bank l.0)) (closed h.closing (tree m.bank r.0)) ∙
       (λ j. compared (order_number v) work (evaluate enough (same_closed l j)) (evaluate enough (same_closed r j))))))

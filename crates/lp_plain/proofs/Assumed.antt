@@ -80,13 +80,18 @@ module _ (k l : Lists) (i : IsTableIn (length k.bank.terms) k.table) (v : AreVal
       (subst (λ xs. IsChain xs o ns) (sym (map-append (λ (x : Assumption). x.older) k.assumptions g.assumptions.0)) (chain_longer (links k.assumptions) (links g.assumptions.0) o ns h))
 
   pub has_on : (o : Option ℕ) (cs : List Clause) → HasAssumed k o cs → HasAssumed l o cs
-  has_on o cs h = λ e. let u = h e in record {
-    newest = u.newest;
-    numbers = u.numbers;
-    found = finds_on k.newest l.newest e g.newest u.found;
-    chain = links_on u.newest u.numbers u.chain;
-    clauses = all_on u.numbers (filter (is_for e) cs) u.clauses;
-  }
+  has_on o cs h = (
+    h.0,
+    λ e.
+        let u = h.1 e in
+        record {
+          newest = u.newest;
+          numbers = u.numbers;
+          found = finds_on k.newest l.newest e g.newest u.found;
+          chain = links_on u.newest u.numbers u.chain;
+          clauses = all_on u.numbers (filter (is_for e) cs) u.clauses;
+        },
+  )
 
   numbered_on : (n : ℕ) (cs : Clauses) → IsNumbered (shown k.table).frees n (λ f. collect_clauses f 0 cs) → IsNumbered (shown l.table).frees n (λ f. collect_clauses f 0 cs)
   numbered_on n cs h = subst (λ t. IsNumbered (shown t).frees n (λ f. collect_clauses f 0 cs)) (sym g.table) h
@@ -181,7 +186,7 @@ module _ (m n : Machine) (rule : ℕ) (values : Values) (before : Option ℕ) (h
   pub has_more : (cs : List Clause) (w c : Clause) (σ : ℕ → Term) → HasAssumed (lists_of m) before cs → IsRule m.bank Never (shown m.table) rule w →
       HasValues m.bank (blocks_of m.scopes) values.scope σ → c ≡ clause_in σ values.types w → head_at c ≡ Some h → HasAssumed (lists_of n) (Some root)
       (c ∷ cs)
-  has_more cs w c σ u r v e q = λ other. go other (is_head other (Some h)) refl
+  has_more cs w c σ u r v e q = (((h, q), u.0), λ other. go other (is_head other (Some h)) refl)
     where
       for_it : (other : Head) (t : Bool) → is_head other (Some h) ≡ t → is_for other c ≡ t
       for_it other t z = ap (is_head other) q ∙ z
@@ -199,7 +204,7 @@ module _ (m n : Machine) (rule : ℕ) (values : Values) (before : Option ℕ) (h
 
       of_it : is_head h (Some h) ≡ true → AreUnder (lists_of n) (Some root) h (c ∷ cs)
       of_it z =
-          let o = u h in
+          let o = u.1 h in
           let same : o.newest ≡ one.older = finds_one m.newest.items h o.found one.before in
           record {
             newest = Some (length m.assumptions.items);
@@ -218,7 +223,7 @@ module _ (m n : Machine) (rule : ℕ) (values : Values) (before : Option ℕ) (h
       go : (other : Head) (t : Bool) → is_head other (Some h) ≡ t → AreUnder (lists_of n) (Some root) other (c ∷ cs)
       go other true z = subst (λ x. AreUnder (lists_of n) (Some root) x (c ∷ cs)) (sym (heads_same other h z)) (of_it (head_itself h))
       go other false z =
-          let o = u other in
+          let o = u.1 other in
           record {
             newest = o.newest;
             numbers = o.numbers;

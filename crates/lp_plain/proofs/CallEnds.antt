@@ -1,13 +1,12 @@
 -- What a call comes to behind its step.
-use Rattle.std.proofs.Common.{◌≡◌, ◌⊎◌, ℕ, suc, ◌<◌, ◌≤◌, List, [], ◌∷◌, ◌++◌, length, refl, sym, ap, inl, inr, ◌∙◌, subst, arith, Option, None, Some}
-use Rattle.std.specs.Prelude.{Bool, filter}
+use Rattle.std.proofs.Common.{◌≡◌, ℕ, List, ◌++◌, length, refl, sym, ap, inl, inr, ◌∙◌, subst, arith, Option, None, Some}
+use Rattle.std.specs.Prelude.{filter}
 use Rattle.lp_calculus.specs.Term.{Term}
-use Rattle.lp_term.specs.Nodes.{Nodes, Extends, tree}
+use Rattle.lp_term.specs.Nodes.{Nodes, Extends}
 use Rattle.lp_term.specs.declared.node.TermId.{TermId}
 use Rattle.lp_model.specs.Branch.{Branch, Entry, Task}
 use Rattle.lp_model.specs.Flat.{Clause, Clauses}
-use Rattle.lp_model.specs.Pair.{closed}
-use Rattle.lp_model.specs.Search.{goal_looked, has_head, passes, tries}
+use Rattle.lp_model.specs.Search.{has_head, look, passes, tries}
 use Rattle.lp_model.specs.Skeleton.{State}
 use Rattle.lp_model.specs.declared.ending.Ending.TheVariants.{Deep}
 use Rattle.lp_model.specs.Unify.{unit_limit}
@@ -19,16 +18,18 @@ use Rattle.lp_plain.specs.declared.head.Key.{Key}
 use Rattle.lp_plain.specs.declared.machine.Machine.{Machine}
 use Rattle.lp_plain.specs.declared.outcome.Turn.{Turn}
 use Rattle.lp_plain.specs.Assuming.{HasAssumed, lists_of}
-use Rattle.lp_plain.specs.Calling.{CallLeads, IsAtCall, IsLookedAs, IsProgramIn}
+use Rattle.lp_plain.specs.Calling.{CallLeads, IsAtCall, IsLookedAs, IsProgramIn, WrittenBehind}
 use Rattle.lp_plain.specs.Entries.{Around}
-use Rattle.lp_plain.specs.HeadLooks.{LooksAt, OnlyBank, with_bank}
+use Rattle.lp_plain.specs.HeadLooks.{OnlyBank, with_bank}
 use Rattle.lp_plain.specs.Moving.{IsGoingOn, IsTrying, LeadsTo, Query}
-use Rattle.lp_plain.specs.Trials.{goal_of}
 use Rattle.lp_plain.specs.Trying.{AreApplied, AreOfProgram, AreTriesApart, HasProgram, IsCallOf, all_clauses, first_in}
+use Rattle.lp_plain.specs.Within.{StandsIn}
+use Rattle.lp_plain.specs.WrittenSearch.{IsWrittenSearch}
 use Rattle.lp_plain.specs.WrittenTable.{StandsWritten}
+use Rattle.lp_plain.proofs.CallArm.{leads_with, written_behind}
 use Rattle.lp_plain.proofs.CallMoves.{IsSeen, bank_goals, deep_looked, seen_alone, seen_first}
 use Rattle.lp_plain.proofs.CallTurns.{found_by, lacks_on, none_back, some_trying}
-use Rattle.lp_plain.proofs.WrittenSearches.{same_lists}
+use Rattle.lp_plain.proofs.WrittenSearches.{search_same}
 
 abbrev pub plain_call : Place → TermId → Head → Option ℕ → Call
 plain_call p goal hd behind = record { goal = goal; head = hd; first = None; key = None; place = p; behind = behind }
@@ -36,11 +37,17 @@ plain_call p goal hd behind = record { goal = goal; head = hd; first = None; key
 -- what the first candidate of a call is found by, apart
 abbrev pub IsApart : Machine → Call → Option Candidate → Type 0
 IsApart n call found =
-    (ar : ℕ → ℕ) (css : List Clauses) (before : List Clause) (t : Term) → HasProgram n css → HasAssumed (lists_of n) call.place.assumed before → IsCallOf ar n.bank call t → AreOfProgram ar (all_clauses css) → AreApplied ar before →
+    (ar : ℕ → ℕ) (css : List Clauses) (before : List Clause) (t : Term) → HasProgram n css → HasAssumed (lists_of n) call.place.assumed before →
+    IsCallOf ar n.bank call t → AreOfProgram ar (all_clauses css) → AreApplied ar before →
     AreTriesApart (lists_of n) (first_in n call.head) call.key found (filter (has_head t) before) (filter (passes t) (all_clauses css))
 
+-- the bank alone grew
+bank_written : (m : Machine) (b : Nodes) → Extends m.bank b → StandsIn m → (ar : ℕ → ℕ) → IsWrittenSearch m ar → IsWrittenSearch (with_bank m b) ar
+bank_written m b x st ar w = search_same m (with_bank m b) st (bank_goals m b x) refl (record { assumptions = refl; newest = refl }) refl ar w
+
 -- its first argument is too deep
-pub deep_leads : (m n : Machine) (b : Nodes) → Extends m.bank b → (p : Place) (goal : TermId) (hd : Head) (first : Option TermId) (behind : Option ℕ) → IsLookedAs m n (plain_call p goal hd behind) first None → CallLeads m n p goal hd first behind (Turn.Ended Deep)
+pub deep_leads : (m n : Machine) (b : Nodes) → Extends m.bank b → (p : Place) (goal : TermId) (hd : Head) (first : Option TermId) (behind : Option ℕ)
+    → IsLookedAs m n (plain_call p goal hd behind) first None → CallLeads m n p goal hd first behind (Turn.Ended Deep)
 deep_leads m n b x p goal hd None behind h = absurd h
 deep_leads m n b x p goal hd (Some u) behind h = λ eb qv a rest work below g e c css pr sw s k ea ct go enough few ty es.
     let l = few refl in
@@ -57,12 +64,19 @@ module _ (m : Machine) (b : Nodes) (x : Extends m.bank b) (p : Place) (goal : Te
     pub looked : Option TermId
     pub key : Option Key
     pub is : call ≡ record { goal = goal; head = hd; first = looked; key = key; place = p; behind = behind }
-    pub seen : (qv : Query) (a : Around) (rest work : Branch) (below : List Task) (g : IsGoingOn qv m a rest work below) (e : Entry) (c : IsAtCall qv m a p goal hd first g.closing g.levels rest.next e) (css : List Clauses) (pr : IsProgramIn m qv.arity css) →
+    pub seen : (qv : Query) (a : Around) (rest work : Branch) (below : List Task) (g : IsGoingOn qv m a rest work below) (e : Entry)
+        (c : IsAtCall qv m a p goal hd first g.closing g.levels rest.next e) (css : List Clauses) (pr : IsProgramIn m qv.arity css) →
         IsSeen qv m b x a rest work below g p goal hd first e c css pr looked key
 
   made_by : (o : Option TermId) → first ≡ o → IsLookedAs m n (plain_call p goal hd behind) o (Some call) → IsMade
   made_by None f h = record { looked = None; key = None; is = h; seen = λ qv a rest work below g e c css pr. seen_alone qv m b x a rest work below g p goal hd first e c css pr None None f refl refl }
-  made_by (Some u) f h = record { looked = Some h.0; key = h.1; is = h.2; seen = λ qv a rest work below g e c css pr. seen_first qv m b x a rest work below g p goal hd first e c css pr (Some h.0) h.1 u f h.0 refl h.3 h.4 h.5 }
+  made_by (Some u) f h = record {
+    looked = Some h.0;
+    key = h.1;
+    is = h.2;
+    seen = λ qv a rest work below g e c css pr. seen_first qv m b x a rest work
+        below g p goal hd first e c css pr (Some h.0) h.1 u f h.0 refl h.3 h.4 h.5;
+  }
 
   pub made : IsLookedAs m n (plain_call p goal hd behind) first (Some call) → IsMade
   made h = made_by first refl h
@@ -74,28 +88,41 @@ module _ (m : Machine) (b : Nodes) (x : Extends m.bank b) (p : Place) (goal : Te
     pub none_leads : found ≡ None → CallLeads m n p goal hd first behind Turn.Back
     none_leads none eb qv a rest work below g e c css pr sw s k ea ct go enough few ty es =
         let seen = d.seen qv a rest work below g e c css pr in
-        let same : call ≡ record { goal = goal; head = hd; first = d.looked; key = d.key; place = p; behind = m.branch.goals } = d.is ∙ ap (λ o. record { goal = goal; head = hd; first = d.looked; key = d.key; place = p; behind = o }) (sym eb) in
+        let same : call ≡ record { goal = goal; head = hd; first = d.looked; key = d.key; place = p; behind = m.branch.goals } = d.is ∙ ap
+        (λ o. record { goal = goal; head = hd; first = d.looked; key = d.key; place = p; behind = o }) (sym eb) in
         let f = found_by qv m b x a rest work below g p goal hd first e c css pr d.looked d.key seen found (subst (λ y. IsApart n y found) same apart) in
         elim (seen.goal_is enough) [
           | inl q ↦ inl (lacks_on qv Turn.Back n go enough (all_clauses css) s k below ea (es ∙ ap (λ o. tries (all_clauses css) e work (length below) o ++ below) q))
           | inr q ↦
-              inr (refl, none_back qv m b x a rest work below g p goal hd first e c css pr d.looked d.key seen found f s (es ∙ ap (λ o. tries (all_clauses css) e work (length below) o ++ below) q) ct none)
+              inr (
+                refl,
+                none_back qv m b x a rest work below g p goal hd first e c css pr d.looked d.key seen found f s (es ∙ ap (λ o. tries (all_clauses css) e work (length below) o ++ below) q) ct none,
+                bank_written m b x g.above.done.stands qv.arity sw,
+              )
         ]
 
-    pub some_leads : (one : Candidate) → found ≡ Some one → (r : Machine) (turn : Turn) → ((qv : Query) (a : Around) (s : State Task) → IsTrying qv n a call one s → StandsWritten n qv.arity → LeadsTo 1 qv turn r s) → CallLeads m r p goal hd first behind turn
-    some_leads one some r turn leads eb qv a rest work below g e c css pr sw s k ea ct go enough few ty es =
+    pub some_leads : (one : Candidate) → found ≡ Some one → (r : Machine) (turn : Turn) →
+        ((qv : Query) (a : Around) (s : State Task) → IsTrying qv n a call one s → StandsWritten n qv.arity → LeadsTo 1 qv turn r s) →
+        ((qv : Query) (a : Around) (s : State Task) → IsTrying qv n a call one s → IsWrittenSearch n qv.arity → IsWrittenSearch r qv.arity) → CallLeads m r p goal hd first behind turn
+    some_leads one some r turn leads writes eb qv a rest work below g e c css pr sw s k ea ct go enough few ty es =
         let seen = d.seen qv a rest work below g e c css pr in
-        let same : call ≡ record { goal = goal; head = hd; first = d.looked; key = d.key; place = p; behind = m.branch.goals } = d.is ∙ ap (λ o. record { goal = goal; head = hd; first = d.looked; key = d.key; place = p; behind = o }) (sym eb) in
+        let same : call ≡ record { goal = goal; head = hd; first = d.looked; key = d.key; place = p; behind = m.branch.goals } = d.is ∙ ap
+        (λ o. record { goal = goal; head = hd; first = d.looked; key = d.key; place = p; behind = o }) (sym eb) in
         let f = found_by qv m b x a rest work below g p goal hd first e c css pr d.looked d.key seen found (subst (λ y. IsApart n y found) same apart) in
         elim (seen.goal_is enough) [
           | inl q ↦ inl (lacks_on qv turn r go enough (all_clauses css) s k below ea (es ∙ ap (λ o. tries (all_clauses css) e work (length below) o ++ below) q))
           | inr q ↦
-              (let trying = some_trying qv m b x a rest work below g p goal hd first e c css pr d.looked d.key seen found f s (es ∙ ap (λ o. tries (all_clauses css) e work (length below) o ++ below) q) ct one some in
-              inl (leads qv a s (subst (λ y. IsTrying qv n a y one s) (sym same) trying) (same_lists m n g.above.done.stands (bank_goals m b x) refl refl qv.arity sw) k ea go enough few (all_clauses css) ty))
+              (let trying = some_trying qv m b x a rest work below g p goal hd first e c css pr d.looked d.key seen found f s
+              (es ∙ ap (λ o. tries (all_clauses css) e work (length below) o ++ below) q) ct one some in
+              let now = subst (λ y. IsTrying qv n a y one s) (sym same) trying in
+              let wn = bank_written m b x g.above.done.stands qv.arity sw in
+              inl (leads_with (WrittenBehind turn r qv.arity) (written_behind turn r qv.arity (writes qv a s now wn)) qv turn r go
+              (look unit_limit enough (all_clauses css)) s (leads qv a s now wn.at_work k ea go enough few (all_clauses css) ty)))
         ]
 
 -- the same where the machine is known to have grown in its bank alone
-module _ (m n : Machine) (o : OnlyBank m n) (p : Place) (goal : TermId) (hd : Head) (first : Option TermId) (behind : Option ℕ) (call : Call) (lk : IsLookedAs m n (plain_call p goal hd behind) first (Some call)) (found : Option Candidate) (apart : IsApart n call found) where
+module _ (m n : Machine) (o : OnlyBank m n) (p : Place) (goal : TermId) (hd : Head) (first : Option TermId) (behind : Option ℕ) (call : Call)
+    (lk : IsLookedAs m n (plain_call p goal hd behind) first (Some call)) (found : Option Candidate) (apart : IsApart n call found) where
   looked_on : IsLookedAs m (with_bank m n.bank) (plain_call p goal hd behind) first (Some call)
   looked_on = subst (λ y. IsLookedAs m y (plain_call p goal hd behind) first (Some call)) o.same lk
 
@@ -105,7 +132,10 @@ module _ (m n : Machine) (o : OnlyBank m n) (p : Place) (goal : TermId) (hd : He
   pub none_on : found ≡ None → CallLeads m n p goal hd first behind Turn.Back
   none_on none = subst (λ y. CallLeads m y p goal hd first behind Turn.Back) (sym o.same) (none_leads m n.bank o.bank p goal hd first behind call looked_on found apart_on none)
 
-  pub some_on : (one : Candidate) → found ≡ Some one → (r : Machine) (turn : Turn) → ((qv : Query) (a : Around) (s : State Task) → IsTrying qv n a call one s → StandsWritten n qv.arity → LeadsTo 1 qv turn r s) → CallLeads m r p goal hd first behind turn
-  some_on one some r turn leads =
+  pub some_on : (one : Candidate) → found ≡ Some one → (r : Machine) (turn : Turn) →
+      ((qv : Query) (a : Around) (s : State Task) → IsTrying qv n a call one s → StandsWritten n qv.arity → LeadsTo 1 qv turn r s) →
+      ((qv : Query) (a : Around) (s : State Task) → IsTrying qv n a call one s → IsWrittenSearch n qv.arity → IsWrittenSearch r qv.arity) → CallLeads m r p goal hd first behind turn
+  some_on one some r turn leads writes =
       some_leads m n.bank o.bank p goal hd first behind call looked_on found apart_on one some r turn
       (subst (λ y. (qv : Query) (a : Around) (s : State Task) → IsTrying qv y a call one s → StandsWritten y qv.arity → LeadsTo 1 qv turn r s) o.same leads)
+      (subst (λ y. (qv : Query) (a : Around) (s : State Task) → IsTrying qv y a call one s → IsWrittenSearch y qv.arity → IsWrittenSearch r qv.arity) o.same writes)

@@ -1,32 +1,25 @@
 -- What is written, and the program, on the way to an atom at hand.
-use Rattle.std.proofs.Common.{◌≡◌, ℕ, suc, ◌+◌, ◌<◌, List, [], ◌∷◌, ◌++◌, length, refl, sym, ap, ◌∙◌, subst, arith, Bool, Option, Some}
-use Rattle.std.specs.Prelude.{All, slice_get}
+use Rattle.std.proofs.Common.{◌≡◌, ℕ, suc, ◌+◌, ◌<◌, List, sym, ap, subst, arith}
 use Rattle.lp_term.specs.Nodes.{Extends}
 use Rattle.lp_term.proofs.Trees.{extends_same}
 use Rattle.lp_model.specs.Flat.{Clauses}
-use Rattle.lp_plain.specs.declared.frame.Frame.{Frame}
 use Rattle.lp_plain.specs.declared.frame.Place.{Place}
-use Rattle.lp_plain.specs.declared.frame.Todo.{Todo}
 use Rattle.lp_plain.specs.declared.machine.Machine.{Machine}
-use Rattle.lp_plain.specs.declared.table.Flat.{Flat}
 use Rattle.lp_plain.specs.declared.table.Span.{Span}
-use Rattle.lp_plain.specs.Assuming.{KeepsAssumed}
 use Rattle.lp_plain.specs.AtRunTime.{AreWrittenGoals}
 use Rattle.lp_plain.specs.Calling.{IsProgramIn}
 use Rattle.lp_plain.specs.Entries.{KeepsGoals}
-use Rattle.lp_plain.specs.HeadLooks.{OnlyBank, with_bank}
-use Rattle.lp_plain.specs.Scopes.{blocks_of}
+use Rattle.lp_plain.specs.HeadLooks.{OnlyBank}
 use Rattle.lp_plain.specs.Tables.{shown}
 use Rattle.lp_plain.specs.Within.{StandsIn}
-use Rattle.lp_plain.specs.WrittenTable.{AreWritten, IsWrittenTodo, StandsWritten, WrittenGoals, a_goal, no_goal}
-use Rattle.lp_plain.proofs.AnswerTerms.{one_more}
+use Rattle.lp_plain.specs.WrittenSearch.{IsWrittenSearch}
+use Rattle.lp_plain.specs.WrittenTable.{WrittenGoals, a_goal, no_goal}
 use Rattle.lp_plain.proofs.CallArm.{program_later}
-use Rattle.lp_plain.proofs.CallMoves.{bank_goals}
-use Rattle.lp_plain.proofs.WrittenSearches.{same_lists}
+use Rattle.lp_plain.proofs.WrittenTurns.{bound_written, only_bound}
 
 -- the bank alone grew
-pub only_written : (m n : Machine) → OnlyBank m n → StandsIn m → (ar : ℕ → ℕ) → StandsWritten m ar → StandsWritten n ar
-only_written m n o st ar w = subst (λ (y : Machine). StandsWritten y ar) (sym o.same) (same_lists m (with_bank m n.bank) st (bank_goals m n.bank o.bank) refl refl ar w)
+pub only_written : (m n : Machine) → OnlyBank m n → StandsIn m → (ar : ℕ → ℕ) → IsWrittenSearch m ar → IsWrittenSearch n ar
+only_written m n o st ar w = bound_written m n (only_bound m n o) st ar w
 
 pub only_program : (m n : Machine) → OnlyBank m n → (ar : ℕ → ℕ) (css : List Clauses) → IsProgramIn m ar css → IsProgramIn n ar css
 only_program m n o ar css r = program_later m n o.bank (ap (λ (y : Machine). y.table) o.same) (ap (λ (y : Machine). y.index) o.same) ar css r
@@ -35,19 +28,9 @@ only_program m n o ar css r = program_later m n o.bank (ap (λ (y : Machine). y.
 pub framed_program : (m q : Machine) → KeepsGoals m q → (ar : ℕ → ℕ) (css : List Clauses) → IsProgramIn m ar css → IsProgramIn q ar css
 framed_program m q g ar css r = program_later m q (subst (Extends m.bank) (sym g.known.bank) (extends_same m.bank)) g.known.table g.known.index ar css r
 
-pub framed_written : (m q : Machine) → KeepsGoals m q → KeepsAssumed m q → (ar : ℕ → ℕ) (f : Frame) → q.frames.items ≡ m.frames.items ++ f ∷ [] → IsWrittenTodo m.bank (shown m.table) ar (blocks_of m.scopes) f.place.values.scope f.todo → StandsWritten m ar →
-    StandsWritten q ar
-framed_written m q g k ar f e i w =
-    subst (λ b. AreWritten b (shown q.table) ar (blocks_of q.scopes) q.frames.items q.assumptions.items) (sym g.known.bank)
-    (subst (λ t. AreWritten m.bank (shown t) ar (blocks_of q.scopes) q.frames.items q.assumptions.items) (sym g.known.table)
-    (subst (λ z. AreWritten m.bank (shown m.table) ar (blocks_of z) q.frames.items q.assumptions.items) (sym g.known.scopes)
-    (subst (λ v. AreWritten m.bank (shown m.table) ar (blocks_of m.scopes) q.frames.items v.items) (sym k.assumptions) (subst (λ fs. AreWritten m.bank (shown m.table) ar (blocks_of m.scopes) fs m.assumptions.items) (sym e) (record {
-      goals = one_more (λ (x : Frame). IsWrittenTodo m.bank (shown m.table) ar (blocks_of m.scopes) x.place.values.scope x.todo) m.frames.items f w.goals i;
-      clauses = w.clauses;
-    })))))
-
 -- the goals behind the first are written where all are
-pub rest_written : (m : Machine) (ar : ℕ → ℕ) (p : Place) (s : Span) (second : ℕ) → second ≡ s.from + 1 → s.from < s.to → AreWrittenGoals m ar p s → AreWrittenGoals m ar p (record { from = second; to = s.to })
+pub rest_written : (m : Machine) (ar : ℕ → ℕ) (p : Place) (s : Span) (second : ℕ) → second ≡ s.from + 1 → s.from < s.to → AreWrittenGoals m ar p s →
+    AreWrittenGoals m ar p (record { from = second; to = s.to })
 rest_written m ar p s second e l w = record { type_vars = w.type_vars; binders = w.binders; values = w.values; scope_holds = w.scope_holds; have = w.have; is = go w.is }
   where
     go : WrittenGoals m.bank (shown m.table) ar w.type_vars w.binders s.from s.to → WrittenGoals m.bank (shown m.table) ar w.type_vars w.binders second s.to

@@ -1,27 +1,25 @@
 -- A call behind its step: about to try its first candidate, or without one, or too deep.
-use Rattle.std.proofs.Common.{◌≡◌, ◌⊎◌, ℕ, zero, suc, ◌+◌, ◌-◌, ◌<◌, ◌≤◌, List, [], ◌∷◌, ◌++◌, cond, map, length, refl, sym, ap, inl, inr, ◌∙◌, subst, arith, Option, None, Some, true, false}
-use Rattle.std.specs.Prelude.{All, Bool, filter}
+use Rattle.std.proofs.Common.{◌≡◌, ℕ, suc, ◌+◌, ◌-◌, List, [], ◌∷◌, ◌++◌, cond, map, length, refl, sym, ap, inl, inr, ◌∙◌, subst, arith, Option, None, Some, true, false}
+use Rattle.std.specs.Prelude.{Bool, filter}
 use Rattle.lp_calculus.specs.Fill.{Within}
-use Rattle.lp_calculus.specs.Spine.{arguments, head_of}
+use Rattle.lp_calculus.specs.Spine.{head_of}
 use Rattle.lp_calculus.specs.Term.{Term, Atom, constant, eigen, integer, logic, param, text}
 use Rattle.lp_calculus.specs.Types.{instance}
 use Rattle.lp_calculus.proofs.Fills.{within_more}
 use Rattle.lp_lemmas.specs.Each.{EachOf}
-use Rattle.lp_term.specs.Nodes.{Nodes, Extends, tree}
+use Rattle.lp_term.specs.Nodes.{Nodes, Extends}
 use Rattle.lp_term.specs.declared.node.TermId.{TermId}
 use Rattle.lp_model.specs.Branch.{Answer, Branch, Entry, Lack, Task, Try}
 use Rattle.lp_model.specs.Flat.{Clause, Clauses}
 use Rattle.lp_model.specs.Pair.{Closing, closed}
-use Rattle.lp_model.specs.Search.{candidates, goal_looked, has_head, look, passes, tries}
+use Rattle.lp_model.specs.Search.{candidates, has_head, look, passes, tries}
 use Rattle.lp_model.specs.Skeleton.{Inner, State, move_at}
 use Rattle.lp_model.specs.Unify.{unit_limit}
-use Rattle.lp_pattern.specs.Growing.{IsPairOf}
 use Rattle.lp_pattern.specs.Putting.{Known}
 use Rattle.lp_pattern.proofs.Walking.{open_kept}
 use Rattle.lp_plain.specs.declared.candidates.Candidate.{Candidate}
 use Rattle.lp_plain.specs.declared.candidates.Candidate.TheVariants as candidate
 use Rattle.lp_plain.specs.declared.choice.Call.{Call}
-use Rattle.lp_plain.specs.declared.frame.Frame.{Frame}
 use Rattle.lp_plain.specs.declared.frame.Place.{Place}
 use Rattle.lp_plain.specs.declared.head.Head.{Head}
 use Rattle.lp_plain.specs.declared.head.Key.{Key}
@@ -29,12 +27,12 @@ use Rattle.lp_plain.specs.declared.machine.Machine.{Machine}
 use Rattle.lp_plain.specs.declared.outcome.Turn.{Turn}
 use Rattle.lp_plain.specs.Assuming.{HasAssumed, IsPlaceAt, Lists, head_term, links, lists_of}
 use Rattle.lp_plain.specs.Candidates.{AreLeft}
-use Rattle.lp_plain.specs.Calling.{IsAtCall, IsProgramIn, LeadsOn}
+use Rattle.lp_plain.specs.Calling.{IsAtCall, IsProgramIn, LeadsWith, WrittenBehind}
 use Rattle.lp_plain.specs.Entries.{Around}
 use Rattle.lp_plain.specs.HeadLooks.{with_bank}
-use Rattle.lp_plain.specs.Moving.{AreClausesWritten, AreKnownTries, HasAlternatives, HasNoVariable, IsBack, IsCounted, IsGoingOn, IsTrying, Leads, Query, mark_in, tries_under}
+use Rattle.lp_plain.specs.Moving.{AreClausesWritten, AreKnownTries, HasAlternatives, HasNoVariable, IsBack, IsCounted, IsGoingOn, IsTrying, Query, mark_in, tries_under}
 use Rattle.lp_plain.specs.Stacks.{base_of}
-use Rattle.lp_plain.specs.Resuming.{AllOfAssumed, AllOfClause, clause_with}
+use Rattle.lp_plain.specs.Resuming.{AllOfAssumed, AllOfClause}
 use Rattle.lp_plain.specs.Trials.{IsCallHead, goal_of}
 use Rattle.lp_plain.specs.Trying.{AreApplied, AreCandidates, AreOfProgram, AreTriesApart, HasArity, HasProgram, IsCallOf, all_clauses, first_in}
 use Rattle.lp_plain.specs.WrittenGoals.{IsProgramClause}
@@ -50,7 +48,9 @@ use Rattle.lp_plain.proofs.Under.{branch_on}
 use Rattle.lp_plain.proofs.WrittenPut.{clause_put}
 
 -- a look that takes too many steps waits
-pub lacks_on : (qv : Query) (turn : Turn) (n : Machine) (go : (Answer → Bool) → State Task → Inner) (enough : ℕ) (P : List Clause) (s : State Task) (k : ℕ) (below : List Task) → s.answers ≡ suc k → s.stack ≡ Lack ∷ below → Leads 1 qv turn n go (look unit_limit enough P) s
+pub lacks_on : (qv : Query) (turn : Turn) (n : Machine) (go : (Answer → Bool) → State Task → Inner) (enough : ℕ) (P : List Clause) (s : State Task)
+    (k : ℕ) (below : List Task) → s.answers ≡ suc k → s.stack ≡ Lack ∷ below → LeadsWith (WrittenBehind turn n qv.arity) 1 qv turn n go
+    (look unit_limit enough P) s
 lacks_on qv turn n go enough P s k below ea es =
     let see = look unit_limit enough P in
     inr (inl (0, [], (λ i. move_at go see s.steps (ea i) s.given s.rows s.row s.lost (es i)) ∙ by_lost go see s.steps k s.given s.rows s.row s.lost Lack below))
@@ -70,13 +70,15 @@ known_each P (c ∷ cs) h = (h.0, known_each P cs h.1)
 
 -- of the program's clauses, and then of all
 module _ (m : Machine) (ar : ℕ → ℕ) where
-  program_written : (ks : List ℕ) (ps : List Clause) → AreCandidates (lists_of m) (map (λ i. candidate.Program i) ks) ps → EachOf (IsProgramClause ar) ps → AreClausesWritten m ar (map (λ i. candidate.Program i) ks) ps
+  program_written : (ks : List ℕ) (ps : List Clause) → AreCandidates (lists_of m) (map (λ i. candidate.Program i) ks) ps → EachOf (IsProgramClause ar)
+      ps → AreClausesWritten m ar (map (λ i. candidate.Program i) ks) ps
   program_written [] [] h w = tt
   program_written [] (p ∷ ps) h w = absurd h
   program_written (k ∷ ks) [] h w = absurd h
   program_written (k ∷ ks) (p ∷ ps) h w = (clause_put m ar k p w.0 h.0, program_written ks ps h.1 w.1)
 
-  all_written : (ns : List ℕ) (cs : List Clause) → AreCandidates (lists_of m) (map (λ i. candidate.Assumed i) ns) cs → (ks : List Candidate) (ps : List Clause) → AreClausesWritten m ar ks ps → AreClausesWritten m ar (map (λ i. candidate.Assumed i) ns ++ ks) (cs ++ ps)
+  all_written : (ns : List ℕ) (cs : List Clause) → AreCandidates (lists_of m) (map (λ i. candidate.Assumed i) ns) cs → (ks : List Candidate)
+      (ps : List Clause) → AreClausesWritten m ar ks ps → AreClausesWritten m ar (map (λ i. candidate.Assumed i) ns ++ ks) (cs ++ ps)
   all_written [] [] h ks ps w = w
   all_written [] (c ∷ cs) h ks ps w = absurd h
   all_written (n ∷ ns) [] h ks ps w = absurd h
@@ -94,21 +96,24 @@ module _ (l : Lists) (z : Closing) (lv : ℕ → ℕ) (next : ℕ) where
   any_known (logic x k) h = let y = h.0 in absurd (omega (arith, y))
   any_known (param k T) h = tt
 
-  program_known : (ks : List ℕ) (ps : List Clause) → AreCandidates l (map (λ i. candidate.Program i) ks) ps → EachOf (AllOfClause HasNoVariable 0) ps → AreKnownTries z lv next (map (λ i. candidate.Program i) ks) ps
+  program_known : (ks : List ℕ) (ps : List Clause) → AreCandidates l (map (λ i. candidate.Program i) ks) ps → EachOf (AllOfClause HasNoVariable 0) ps
+      → AreKnownTries z lv next (map (λ i. candidate.Program i) ks) ps
   program_known [] [] h w = tt
   program_known [] (p ∷ ps) h w = absurd h
   program_known (k ∷ ks) [] h w = absurd h
   program_known (k ∷ ks) (p ∷ ps) h w =
       (clause_weaker HasNoVariable K (λ d t v. within_more (Known (λ x. 0) 0) (Known lv next) d d any_known (omega arith) t v) 0 p w.0, program_known ks ps h.1 w.1)
 
-  all_known : (ns : List ℕ) (cs : List Clause) → AreCandidates l (map (λ i. candidate.Assumed i) ns) cs → EachOf (AllOfClause (λ d t. K d (closed z t)) 0) cs → (ks : List Candidate) (ps : List Clause) → AreKnownTries z lv next ks ps →
+  all_known : (ns : List ℕ) (cs : List Clause) → AreCandidates l (map (λ i. candidate.Assumed i) ns) cs → EachOf
+      (AllOfClause (λ d t. K d (closed z t)) 0) cs → (ks : List Candidate) (ps : List Clause) → AreKnownTries z lv next ks ps →
       AreKnownTries z lv next (map (λ i. candidate.Assumed i) ns ++ ks) (cs ++ ps)
   all_known [] [] h w ks ps v = v
   all_known [] (c ∷ cs) h w ks ps v = absurd h
   all_known (n ∷ ns) [] h w ks ps v = absurd h
   all_known (n ∷ ns) (c ∷ cs) h w ks ps v = (clause_on (λ d t. K d (closed z t)) K (closed z) (instance z.types) (λ d t y. y) 0 0 c w.0, all_known ns cs h.1 w.1 ks ps v)
 
-module _ (qv : Query) (m : Machine) (b : Nodes) (x : Extends m.bank b) (a : Around) (rest work : Branch) (below : List Task) (g : IsGoingOn qv m a rest work below) (p : Place) (goal : TermId) (hd : Head) (first : Option TermId) (e : Entry)
+module _ (qv : Query) (m : Machine) (b : Nodes) (x : Extends m.bank b) (a : Around) (rest work : Branch) (below : List Task)
+    (g : IsGoingOn qv m a rest work below) (p : Place) (goal : TermId) (hd : Head) (first : Option TermId) (e : Entry)
     (c : IsAtCall qv m a p goal hd first g.closing g.levels rest.next e) (css : List Clauses) (pr : IsProgramIn m qv.arity css) (looked : Option TermId) (key : Option Key)
     (seen : IsSeen qv m b x a rest work below g p goal hd first e c css pr looked key) where
   abbrev n : Machine
@@ -133,7 +138,8 @@ module _ (qv : Query) (m : Machine) (b : Nodes) (x : Extends m.bank b) (a : Arou
   head_is = subst IsCallHead (sym seen.head_same) c.called
 
   place_now : IsPlaceAt (lists_of n) a p
-  place_now = place_on (lists_of m) (lists_of n) g.above.done.stands.table g.above.done.stands.values (bank_grown m b x).lists a a p (same_around (length m.newest.items) (length m.standings.items) a) c.place
+  place_now = place_on (lists_of m) (lists_of n) g.above.done.stands.table g.above.done.stands.values (bank_grown m b x).lists a a p
+      (same_around (length m.newest.items) (length m.standings.items) a) c.place
 
   -- what the first candidate is found by
   pub of_call : IsCallOf qv.arity n.bank call now
@@ -143,7 +149,8 @@ module _ (qv : Query) (m : Machine) (b : Nodes) (x : Extends m.bank b) (a : Arou
   Found o = AreTriesApart (lists_of n) (first_in n hd) key o (filter (has_head now) A) (filter (passes now) P)
 
   pub found_by : (o : Option Candidate) →
-      ((ar : ℕ → ℕ) (css : List Clauses) (before : List Clause) (t : Term) → HasProgram n css → HasAssumed (lists_of n) p.assumed before → IsCallOf ar n.bank call t → AreOfProgram ar (all_clauses css) → AreApplied ar before →
+      ((ar : ℕ → ℕ) (css : List Clauses) (before : List Clause) (t : Term) → HasProgram n css → HasAssumed (lists_of n) p.assumed before → IsCallOf ar
+      n.bank call t → AreOfProgram ar (all_clauses css) → AreApplied ar before →
       AreTriesApart (lists_of n) (first_in n hd) key o (filter (has_head t) before) (filter (passes t) (all_clauses css))) → Found o
   found_by o f = f qv.arity css A now (pr.has b x) place_now.assumed of_call pr.heads c.applied
 
@@ -157,7 +164,8 @@ module _ (qv : Query) (m : Machine) (b : Nodes) (x : Extends m.bank b) (a : Arou
 
     tasks_are : tries P e work (length below) (Some (closed z now)) ≡ tries_under z left clauses (closed z now) e work (length below)
     tasks_are =
-        ap (λ cs. map (λ c. Try c (closed z now) e work (length below)) (candidates P cs (closed z now))) c.at_place.assumed ∙ ap (map (λ c. Try c (closed z now) e work (length below))) (candidates_kept z now head_is seen.key_kept P A c.heads) ∙
+        ap (λ cs. map (λ c. Try c (closed z now) e work (length below)) (candidates P cs (closed z now))) c.at_place.assumed ∙ ap
+        (map (λ c. Try c (closed z now) e work (length below))) (candidates_kept z now head_is seen.key_kept P A c.heads) ∙
         sym (all_tasks z (lists_of n) (closed z now) e work (length below) f.numbers_assumed (filter (has_head now) A) f.assumed_are f.numbers_program (filter (passes now) P) f.program_are)
 
     module _ (s : State Task) (stack : s.stack ≡ tries P e work (length below) (Some (closed z now)) ++ below) (counted : IsCounted m s) where
@@ -168,7 +176,12 @@ module _ (qv : Query) (m : Machine) (b : Nodes) (x : Extends m.bank b) (a : Arou
       counted_now = record { steps = counted.steps; rows = counted.rows; row = counted.row; lost = counted.lost }
 
       pub none_back : o ≡ None → IsBack qv n s
-      none_back none = record { around = a; above = subst (HasAlternatives qv n a) (sym (stack_now ∙ ap (λ ts. ts ++ below) empty)) (bank_alternatives m b x qv a below g.above); counted = counted_now }
+      none_back none = record {
+        around = a;
+        above = subst (HasAlternatives qv n a) (sym (stack_now ∙ ap (λ ts. ts ++ below) empty))
+            (bank_alternatives m b x qv a below g.above);
+        counted = counted_now;
+      }
         where
           no_tasks : (ks : List Candidate) → ks ≡ [] → tries_under z ks clauses (closed z now) e work (length below) ≡ []
           no_tasks [] q = refl
@@ -183,13 +196,15 @@ module _ (qv : Query) (m : Machine) (b : Nodes) (x : Extends m.bank b) (a : Arou
           let gr = bank_grown m b x in
           let written = program_written n qv.arity f.numbers_program (filter (passes now) P) f.program_are (kept_each (IsProgramClause qv.arity) (passes now) P pr.written) in
           let known = program_known (lists_of n) z g.levels rest.next f.numbers_program (filter (passes now) P) f.program_are (kept_each (AllOfClause HasNoVariable 0) (passes now) P pr.known) in
-          let assumed = kept_each (AllOfClause (λ d t. Within (Known g.levels rest.next) d (closed z t)) 0) (has_head now) A (known_each (λ d t. Within (Known g.levels rest.next) d (closed z t)) A c.assumed_known) in
+          let assumed = kept_each (AllOfClause (λ d t. Within (Known g.levels rest.next) d (closed z t)) 0) (has_head now) A
+          (known_each (λ d t. Within (Known g.levels rest.next) d (closed z t)) A c.assumed_known) in
           record {
             tags = left;
             clauses = clauses;
             candidates = record {
               found = subst (λ y. AreLeft n.bank n.table.rules.items (links n.assumptions.items) (first_in n hd) key y left) some f.found_left;
-              are = candidates_append (lists_of n) (map (λ i. candidate.Assumed i) f.numbers_assumed) (map (λ i. candidate.Program i) f.numbers_program) (filter (has_head now) A) (filter (passes now) P) f.assumed_are f.program_are;
+              are = candidates_append (lists_of n) (map (λ i. candidate.Assumed i) f.numbers_assumed)
+                  (map (λ i. candidate.Program i) f.numbers_program) (filter (has_head now) A) (filter (passes now) P) f.assumed_are f.program_are;
               known_goal = (let l = c.within in let k = x.more_terms in omega (arith, l, k));
               known_first = seen.first_in_bank;
               known_key = seen.key_in;
@@ -216,7 +231,8 @@ module _ (qv : Query) (m : Machine) (b : Nodes) (x : Extends m.bank b) (a : Arou
               goal_known = seen.known;
               assumed = c.assumed_known;
               written = c.written_known;
-              tries = all_known (lists_of n) z g.levels rest.next f.numbers_assumed (filter (has_head now) A) f.assumed_are assumed (map (λ i. candidate.Program i) f.numbers_program) (filter (passes now) P) known;
+              tries = all_known (lists_of n) z g.levels rest.next f.numbers_assumed (filter (has_head now) A) f.assumed_are assumed
+                  (map (λ i. candidate.Program i) f.numbers_program) (filter (passes now) P) known;
             };
             under = branch_on qv g.levels m.bank z (base_of m.denied) (length m.choices.items) m.branch.pairs.items b x g.left (mark_in (base_of m.denied) g.above.raws) rest work g.under;
             counted = counted_now;

@@ -7,8 +7,13 @@ use Rattle.lp_model.specs.Branch.{Answer, Branch, Go, Task}
 use Rattle.lp_model.specs.Events.{Advances, Event, Over, first, first_after}
 use Rattle.lp_model.specs.Search.{has_no_pairs}
 use Rattle.lp_model.specs.Skeleton.{Broke, Breaks, Denies, GoalNote, Goes, Held, Inner, Lasts, Move, Note, Refuted, State, Stops, Tells, View, Waits, back, inner, inner_after, later, move, move_at, move_denied, move_view, named, not_constant, row_limit, starts_within}
+use Rattle.lp_lemmas.specs.Each.{EachOf}
+use Rattle.lp_search_laws.specs.Branches.{no_query}
 use Rattle.lp_plain.specs.Moving.{Waiting}
-use Rattle.lp_plain.specs.inner.Following.{Comes, ComesOf, Course, Kept, goes_on, inside_denied, seen_in}
+use Rattle.lp_plain.specs.Reached.{inside_denied}
+use Rattle.lp_plain.specs.TypedStates.{IsTaskTyped, IsTypedOver}
+use Rattle.lp_plain.proofs.TypedMoves.{IsViewTyped, typed_look}
+use Rattle.lp_plain.specs.inner.Following.{Comes, ComesOf, Course, Kept, goes_on, seen_in}
 use Rattle.lp_plain.proofs.Following.{kept_on, later_comes, pair_left}
 use Rattle.lp_plain.proofs.QuietMoves.{by_lost}
 use Rattle.lp_plain.proofs.StepsLeft.{TakesAtMost, inner_most}
@@ -30,8 +35,15 @@ module _ (c : Course) (s : State Task) (n k : ℕ) (task i : Task) (b : Branch) 
       (λ x. move_at (inner see j) see (et x) (ea x) s.given s.rows s.row s.lost (es x)) ∙ by_lost (inner see j) see (suc n) k s.given s.rows s.row s.lost task rest ∙
       ap (move_view (inner see j) (suc n) k s.given s.rows s.row s.lost rest) seen
 
+  -- its search is one of no query
+  typed_inside : IsTypedOver c.query.arity c.enough c.program s → IsTypedOver c.query.arity c.enough c.program begun
+  typed_inside ty =
+      let w = subst (EachOf (IsTaskTyped c.enough ty.declared c.program ty.query)) es ty.typed in
+      let v = subst (IsViewTyped c.enough ty.declared c.program ty.query) seen (typed_look c.enough ty.declared c.program ty.query ty.standard ty.program (length rest) task w.0) in
+      record { declared = ty.declared; takes = ty.takes; standard = ty.standard; program = ty.program; query = no_query; typed = (v.0, tt) }
+
   kept_inside : Kept c s → Kept c begun
-  kept_inside v = λ u r. v u (inside_denied n task i has_no_pairs (Go b ∷ []) rest es et seen r)
+  kept_inside v = (λ u r. v.0 u (inside_denied n task i has_no_pairs (Go b ∷ []) rest es et seen r), typed_inside v.1)
 
   abbrev on : (m p : ℕ) (ts : List Task) → State Task
   on m p ts = record { steps = m; answers = suc k; given = s.given; rows = s.rows; row = p; lost = s.lost; stack = ts }
@@ -41,10 +53,12 @@ module _ (c : Course) (s : State Task) (n k : ℕ) (task i : Task) (b : Branch) 
 
   -- by what comes of its search
   module _ (j : ℕ) where
-    refuted_is : (m p : ℕ) (ns : List Note) → inner see j has_no_pairs begun ≡ Refuted m ns p → move (inner see j) see s ≡ Goes (suc m) (GoalNote (named not_constant) ∷ ns ++ back (Go b ∷ []) rest) (on (n - m) p (Go b ∷ rest))
+    refuted_is : (m p : ℕ) (ns : List Note) → inner see j has_no_pairs begun ≡ Refuted m ns p → move (inner see j) see s ≡ Goes (suc m)
+        (GoalNote (named not_constant) ∷ ns ++ back (Go b ∷ []) rest) (on (n - m) p (Go b ∷ rest))
     refuted_is m p ns q = move_is j ∙ ap (move_denied n k s.given s.rows s.lost (Go b ∷ []) rest) q
 
-    held_is : (m p : ℕ) (ns : List Note) → inner see j has_no_pairs begun ≡ Held m ns p → move (inner see j) see s ≡ Goes (suc m) (GoalNote (named not_constant) ∷ ns ++ back [] rest) (on (n - m) p rest)
+    held_is : (m p : ℕ) (ns : List Note) → inner see j has_no_pairs begun ≡ Held m ns p → move (inner see j) see s ≡ Goes (suc m)
+        (GoalNote (named not_constant) ∷ ns ++ back [] rest) (on (n - m) p rest)
     held_is m p ns q = move_is j ∙ ap (move_denied n k s.given s.rows s.lost (Go b ∷ []) rest) q
 
     broke_is : (m : ℕ) (ns : List Note) (e : Ending) → inner see j has_no_pairs begun ≡ Broke m ns e → move (inner see j) see s ≡ Breaks (suc m) (GoalNote (named not_constant) ∷ ns) e
@@ -62,7 +76,13 @@ module _ (c : Course) (s : State Task) (n k : ℕ) (task i : Task) (b : Branch) 
         (sym ea ∙ a, g, kept_on c j (suc x) _ s (on (n - x) p (Go b ∷ rest)) e v, record { inner_moves = j; moves = m; gives = sym (ap (first_after s (first see j m)) e) ∙ h })
     at_first j m (Held x ns p) q h =
         let e = held_is j x p ns q in
-        subst (Comes c []) (same_on (n - x) p rest) (sym ea ∙ a, g, kept_on c j (suc x) _ s (on (n - x) p rest) e v, record { inner_moves = j; moves = m; gives = sym (ap (first_after s (first see j m)) e) ∙ h })
+        subst (Comes c []) (same_on (n - x) p rest) (
+          sym ea ∙ a,
+          g,
+          kept_on c j (suc x) _ s (on (n - x) p rest) e v,
+          record
+              { inner_moves = j; moves = m; gives = sym (ap (first_after s (first see j m)) e) ∙ h },
+        )
     at_first j m (Broke x ns e) q h = sym (pair_left (Over e) c.event s c.after (sym (ap (first_after s (first see j m)) (broke_is j x ns e q)) ∙ h)).0
     at_first j m (Lasts x ns) q h = absurd (let y = sym (ap (first_after s (first see j m)) (lasts_is j x ns q)) ∙ h in cc)
 
@@ -83,7 +103,9 @@ module _ (c : Course) (s : State Task) (n k : ℕ) (task i : Task) (b : Branch) 
           ap suc one,
           kept_on c j (suc x) _ s t e v,
           j,
-          later_comes c (Comes c ws) w s.steps (n - x) (suc x) (GoalNote (named not_constant) ∷ ns ++ back (Go b ∷ []) rest) (inner see j has_no_pairs t) (omega (arith, et, l)) (subst (λ y. ComesOf c (Comes c ws) w s.steps (inner_after (inner see j has_no_pairs) has_no_pairs s.row y)) e h),
+          later_comes c (Comes c ws) w s.steps (n - x) (suc x) (GoalNote (named not_constant) ∷ ns ++ back (Go b ∷ []) rest)
+              (inner see j has_no_pairs t) (omega (arith, et, l)) (subst (λ y. ComesOf c (Comes c ws) w s.steps
+              (inner_after (inner see j has_no_pairs) has_no_pairs s.row y)) e h),
         )
     at_inner j (Held x ns p) q l h =
         let e = held_is j x p ns q in
@@ -92,7 +114,9 @@ module _ (c : Course) (s : State Task) (n k : ℕ) (task i : Task) (b : Branch) 
           ap suc one,
           kept_on c j (suc x) _ s t e v,
           j,
-          later_comes c (Comes c ws) w s.steps (n - x) (suc x) (GoalNote (named not_constant) ∷ ns ++ back [] rest) (inner see j has_no_pairs t) (omega (arith, et, l)) (subst (λ y. ComesOf c (Comes c ws) w s.steps (inner_after (inner see j has_no_pairs) has_no_pairs s.row y)) e h),
+          later_comes c (Comes c ws) w s.steps (n - x) (suc x) (GoalNote (named not_constant) ∷ ns ++ back [] rest) (inner see j has_no_pairs t)
+              (omega (arith, et, l)) (subst (λ y. ComesOf c (Comes c ws) w s.steps (inner_after (inner see j has_no_pairs) has_no_pairs s.row y)) e
+              h),
         )
     at_inner j (Broke x ns e) q l h = subst (λ y. ComesOf c (Comes c ws) w s.steps (inner_after (inner see j has_no_pairs) has_no_pairs s.row y)) (broke_is j x ns e q) h
     at_inner j (Lasts x ns) q l h = subst (λ y. ComesOf c (Comes c ws) w s.steps (inner_after (inner see j has_no_pairs) has_no_pairs s.row y)) (lasts_is j x ns q) h
@@ -110,7 +134,8 @@ module _ (c : Course) (w : Waiting) (ws : List Waiting) (s : State Task) where
   abbrev seeing : ℕ → Task → View Task Answer
   seeing = seen_in c
 
-  by_end : (v : Move Task Answer) (r : Inner) → ((j : ℕ) → inner_after (inner seeing j has_no_pairs) has_no_pairs s.row v ≡ r) → ((j : ℕ) → move (inner seeing j) seeing s ≡ v) → Comes c (w ∷ ws) s → ComesOf c (Comes c ws) w s.steps r
+  by_end : (v : Move Task Answer) (r : Inner) → ((j : ℕ) → inner_after (inner seeing j has_no_pairs) has_no_pairs s.row v ≡ r) →
+      ((j : ℕ) → move (inner seeing j) seeing s ≡ v) → Comes c (w ∷ ws) s → ComesOf c (Comes c ws) w s.steps r
   by_end v r f e h = go h.2 h.3
     where
       go : (j : ℕ) → ComesOf c (Comes c ws) w s.steps (inner seeing j has_no_pairs s) → ComesOf c (Comes c ws) w s.steps r
@@ -123,7 +148,8 @@ module _ (c : Course) (w : Waiting) (ws : List Waiting) (s : State Task) where
   pub is_refuted : ((j : ℕ) → move (inner seeing j) seeing s ≡ Stops NoMore) → Comes c (w ∷ ws) s → Comes c ws (goes_on w s.steps s.row (Go w.branch ∷ w.rest))
   is_refuted e h = subst (λ i. Comes c ws (goes_on w i s.row (Go w.branch ∷ w.rest))) none_left (by_end (Stops NoMore) (Refuted 0 [] s.row) (λ j. refl) e h)
 
-  pub is_held : (x : Answer) (ns : List Note) (t : State Task) → has_no_pairs x ≡ true → ((j : ℕ) → move (inner seeing j) seeing s ≡ Tells x ns t) → Comes c (w ∷ ws) s → Comes c ws (goes_on w s.steps s.row w.rest)
+  pub is_held : (x : Answer) (ns : List Note) (t : State Task) → has_no_pairs x ≡ true → ((j : ℕ) → move (inner seeing j) seeing s ≡ Tells x ns t) →
+      Comes c (w ∷ ws) s → Comes c ws (goes_on w s.steps s.row w.rest)
   is_held x ns t f e h = subst (λ i. Comes c ws (goes_on w i s.row w.rest)) none_left (by_end (Tells x ns t) (Held 0 [] s.row) (λ j. ap (λ z. if z then Held 0 [] s.row else Broke 0 [] OpenNot) f) e h)
 
   pub is_open : (x : Answer) (ns : List Note) (t : State Task) → has_no_pairs x ≡ false → ((j : ℕ) → move (inner seeing j) seeing s ≡ Tells x ns t) → Comes c (w ∷ ws) s → c.event ≡ Over OpenNot

@@ -13,6 +13,7 @@ use Rattle.lp_plain.specs.declared.choice.Choice.{Choice}
 use Rattle.lp_plain.specs.declared.choice.Denial.{Denial}
 use Rattle.lp_plain.specs.declared.machine.Machine.{Machine}
 use Rattle.lp_plain.specs.Assuming.{Lists}
+use Rattle.lp_plain.specs.Denials.{searching_as, waiting_query}
 use Rattle.lp_plain.specs.Entries.{Around, IsChoiceAt}
 use Rattle.lp_plain.specs.Followed.{IsClauseWritten}
 use Rattle.lp_plain.specs.Moving.{AreAlternatives, AreBoundInTurn, AreCandidatesOf, AreClausesWritten, AreOuter, HasAlternatives, IsAlternative, IsOuter, IsTasksOf, Query, Waiting, mark_in, of_call, of_side, outer_choices, way_back}
@@ -27,9 +28,8 @@ use Rattle.lp_plain.proofs.Inside.{all_carried}
 use Rattle.lp_plain.proofs.QuietMoves.{drop_push, stack_push}
 
 module _ (m x : Machine) where
-  -- the search with the alternatives, the search at work and the counts of another one
   abbrev pub elsewhere : Machine
-  elsewhere = record m { choices = x.choices; denied = x.denied; counts = x.counts }
+  elsewhere = searching_as m x
 
   module _ (a : Around) where
     kept_else : (c : Choice) → IsKept m a c → IsKept elsewhere a c
@@ -76,7 +76,8 @@ module _ (m x : Machine) where
   written_else ar (y ∷ xs) [] h = tt
   written_else ar (y ∷ xs) (c ∷ cs) h = (clause_else ar y c h.0, written_else ar xs cs h.1)
 
-  candidates_else : (ar : ℕ → ℕ) (l : Lists) (call : Call) (one : Candidate) (xs : List Candidate) (cs : List Clause) → AreCandidatesOf ar m l call one xs cs → AreCandidatesOf ar elsewhere l call one xs cs
+  candidates_else : (ar : ℕ → ℕ) (l : Lists) (call : Call) (one : Candidate) (xs : List Candidate) (cs : List Clause) → AreCandidatesOf ar m l call
+      one xs cs → AreCandidatesOf ar elsewhere l call one xs cs
   candidates_else ar l call one xs cs h =
       record { found = h.found; are = h.are; known_goal = h.known_goal; known_first = h.known_first; known_key = h.known_key; head_is = h.head_is; written = written_else ar xs cs h.written }
 
@@ -122,13 +123,14 @@ turn_dropped (suc k) (c ∷ []) h = turn_dropped k [] tt
 turn_dropped (suc k) (c ∷ d ∷ cs) h = turn_dropped k (d ∷ cs) h.2
 
 -- the alternatives of the search that waited, where that of the negated goal is left with all of its alternatives, and with the one that led back
-module _ (qv : Query) (m x : Machine) (a : Around) (stack : List Task) (h : HasAlternatives qv m a stack) (i : ℕ) (d : Denial) (w : Waiting) (ws : List Waiting) (o : IsOuter qv.arity m a i d w ws) (more : AreOuter qv.arity m a d.around ws)
+module _ (qv : Query) (m x : Machine) (a : Around) (stack : List Task) (h : HasAlternatives qv m a stack) (i : ℕ) (d : Denial) (w : Waiting)
+    (ws : List Waiting) (o : IsOuter qv.arity m a i d w ws) (more : AreOuter qv.arity m a d.around ws)
     (cut : x.choices.items ≡ take i m.choices.items) (xd : x.denied ≡ d.around) where
   abbrev pub n : Machine
   n = elsewhere m x
 
   abbrev pub outer_query : Query
-  outer_query = record { types = w.types; vars = w.vars; arity = qv.arity; outer = ws }
+  outer_query = waiting_query qv.arity w ws
 
   abbrev b : ℕ
   b = base_of d.around
@@ -150,7 +152,8 @@ module _ (qv : Query) (m x : Machine) (a : Around) (stack : List Task) (h : HasA
       let rest_is : stack_of sp.others ≡ w.rest = cc in
       let counts = counts_same outer_query m f b b ys sp.raws sp.others sp.are in
       let f' = mark_in b sp.raws in
-      let agree : (j : ℕ) → b ≤ j → j < b + length ys → f' j ≡ f j = (λ j p r. (let q = counts.0 in sym (ap (λ z. mark_in b z j) sp.whole_raw ∙ marks_more b sp.raws sp.raw j (omega (arith, p, r, q))))) in
+      let agree : (j : ℕ) → b ≤ j → j < b + length ys → f' j ≡ f j = (λ j p r. (let q = counts.0 in sym
+      (ap (λ z. mark_in b z j) sp.whole_raw ∙ marks_more b sp.raws sp.raw j (omega (arith, p, r, q))))) in
       let older = alternatives_else m x outer_query f' b b ys sp.raws sp.others (alternatives_marked outer_query m f f' b b ys sp.raws sp.others agree sp.are) in
       let are_ys : drop (base_of n.denied) n.choices.items ≡ ys = (λ j. drop (base_of (xd j)) (cut j)) in
       record {
@@ -169,7 +172,8 @@ module _ (qv : Query) (m x : Machine) (a : Around) (stack : List Task) (h : HasA
         is = sym rest_is;
         inside = record {
           outer = subst (λ e. AreOuter qv.arity n a e ws) (sym xd)
-              (all_carried qv.arity m n a a (take i m.choices.items) (drop i m.choices.items) [] (sym (take-append-drop i m.choices.items)) (cut ∙ sym (append-nil (take i m.choices.items))) (λ cs. Unit {0})
+              (all_carried qv.arity m n a a (take i m.choices.items) (drop i m.choices.items) [] (sym (take-append-drop i m.choices.items))
+              (cut ∙ sym (append-nil (take i m.choices.items))) (λ cs. Unit {0})
               (λ q g l k cs rss tss u s y. (all_else m x a cs 0 rss s, alternatives_else m x q g l k cs rss tss y)) (λ j dn y p e. tt) d.around ws long more);
           nested = subst AreNested (sym cut) (nested_taken i m.choices.items h.inside.nested);
           in_turn = subst AreBoundInTurn (sym cut) (in_turn_taken i m.choices.items h.inside.in_turn);
@@ -188,13 +192,14 @@ turn_swap c e q (y ∷ []) h = (subst (λ b. y.bindings.terms ≤ b.terms) (sym 
 turn_swap c e q (y ∷ z ∷ xs) h = (h.0, h.1, turn_swap c e q (z ∷ xs) h.2)
 
 -- so where the one that led back is left as one that goes on with the goals behind the negated one
-module _ (qv : Query) (m x : Machine) (a : Around) (stack : List Task) (h : HasAlternatives qv m a stack) (i : ℕ) (d : Denial) (w : Waiting) (ws : List Waiting) (o : IsOuter qv.arity m a i d w ws) (more : AreOuter qv.arity m a d.around ws)
+module _ (qv : Query) (m x : Machine) (a : Around) (stack : List Task) (h : HasAlternatives qv m a stack) (i : ℕ) (d : Denial) (w : Waiting)
+    (ws : List Waiting) (o : IsOuter qv.arity m a i d w ws) (more : AreOuter qv.arity m a d.around ws)
     (left : x.choices.items ≡ take i m.choices.items ++ way_back o.choice d ∷ []) (xd : x.denied ≡ d.around) where
   abbrev here : Machine
   here = elsewhere m x
 
   abbrev pub back_query : Query
-  back_query = record { types = w.types; vars = w.vars; arity = qv.arity; outer = ws }
+  back_query = waiting_query qv.arity w ws
 
   abbrev base_is : ℕ
   base_is = base_of d.around

@@ -1,20 +1,33 @@
 -- A turn that is some moves of the definition: what is told next comes of the state behind it.
-use Rattle.std.proofs.Common.{◌≡◌, ◌⊎◌, ℕ, zero, suc, ◌+◌, ◌-◌, ◌≤◌, List, [], ◌∷◌, refl, sym, ap, inl, inr, ◌∙◌, subst, arith, Option, Some, None}
-use Rattle.std.specs.Prelude.{Bool, true, false}
+use Rattle.std.proofs.Common.{◌≡◌, ◌⊎◌, ℕ, zero, suc, ◌+◌, ◌-◌, ◌≤◌, List, [], ◌∷◌, length, refl, sym, ap, inl, inr, ◌∙◌, subst, arith, Option, Some}
+use Rattle.std.specs.Prelude.{Bool, true, false, drop}
 use Rattle.lp_model.specs.declared.ending.Ending.{Ending}
 use Rattle.lp_model.specs.declared.ending.Ending.TheVariants.{NoMore, NoMoreCut, Enough, Steps, Flexible, Arithmetic, OpenNot, Deep}
 use Rattle.lp_model.specs.Branch.{Answer, Go, Task}
-use Rattle.lp_model.specs.Events.{Advances, Event, Gave, Over, first, first_after}
-use Rattle.lp_model.specs.Search.{has_no_pairs}
-use Rattle.lp_model.specs.Skeleton.{Broke, Breaks, Goes, Held, Inner, Lasts, Move, Note, Refuted, State, Stops, Tells, View, Waits, inner, inner_after, inner_end, later, move}
+use Rattle.lp_model.specs.Events.{Event, Gave, Over, first, first_after}
+use Rattle.lp_lemmas.specs.Each.{EachOf}
+use Rattle.lp_lemmas.proofs.Each.{each_append, each_drop}
+use Rattle.lp_model.specs.Answers.{Query as Proved}
+use Rattle.lp_model.specs.Flat.{Clause}
+use Rattle.lp_model.specs.Proofs.{Declared}
+use Rattle.lp_model.specs.Search.{has_no_pairs, look}
+use Rattle.lp_model.specs.Skeleton.{Broke, Breaks, Cuts, Denies, Gives, Goes, Halts, Held, Inner, Lacks, Lasts, Move, Note, Opens, Parts, Refuted, State, Stops, Takes, Tells, View, Waits, inner, inner_after, inner_end, later, move, move_at, move_view}
+use Rattle.lp_model.specs.Unify.{unit_limit}
+use Rattle.lp_search_laws.specs.Unnegated.{IsUnnegatedClause}
 use Rattle.lp_search_laws.proofs.Stack.Inners.{IsMade, move_more}
+use Rattle.lp_search_laws.proofs.Unnegated.{IsUnnegatedTask, IsUnnegatedView, unnegated_look}
 use Rattle.lp_plain.specs.declared.machine.Machine.{Machine}
 use Rattle.lp_plain.specs.declared.outcome.Turn.{Turn}
-use Rattle.lp_plain.specs.Calling.{LeadsOver}
-use Rattle.lp_plain.specs.Moving.{AreFew, IsAnswer, IsAnswered, IsBack, IsMoved, IsState, IsWaiting, Leads, MovesTo, Query, Waiting}
-use Rattle.lp_plain.specs.TypedStates.{IsTypedOver}
-use Rattle.lp_plain.specs.inner.Following.{Comes, ComesOf, Course, IsOfQuery, Kept, Stands, behind_answer, behind_move, goes_on, seen_in}
+use Rattle.lp_plain.specs.Between.{HasClauses}
+use Rattle.lp_plain.specs.Calling.{AreFewAt, LeadsOver, LeadsWith, WrittenBehind}
+use Rattle.lp_plain.specs.Moving.{IsAnswered, IsMoved, IsWaiting, MovesTo, Query, Waiting}
+use Rattle.lp_plain.specs.Reached.{at_once, behind_answer, behind_move}
+use Rattle.lp_plain.specs.Turns.{EndsAll, IsNoEnd}
+use Rattle.lp_plain.specs.TypedStates.{IsTypedOver, IsTypedState}
+use Rattle.lp_plain.specs.WrittenSearch.{IsWrittenSearch}
+use Rattle.lp_plain.specs.inner.Following.{AreFewOn, Comes, ComesOf, Course, IsOfQuery, Kept, Stands, goes_on, seen_in}
 use Rattle.lp_plain.proofs.StepsLeft.{LeavesSteps, move_leaves}
+use Rattle.lp_plain.proofs.TypedMoves.{IsMoveTyped, typed_move}
 
 pub pair_left : (x y : Event Answer) (s t : State Task) → ◌≡◌ {A = Option (Event Answer × State Task)} (Some (x, s)) (Some (y, t)) → (x ≡ y) × (s ≡ t)
 pair_left x y s t h =
@@ -27,17 +40,6 @@ later_comes c behind w n m j ns (Refuted k ms p) e h = let q : n - (j + k) ≡ m
 later_comes c behind w n m j ns (Held k ms p) e h = let q : n - (j + k) ≡ m - k = omega (arith, e) in subst (λ i. behind (goes_on w i p w.rest)) q h
 later_comes c behind w n m j ns (Broke k ms x) e h = h
 later_comes c behind w n m j ns (Lasts k ms) e h = h
-
--- an end other than that no alternative is left
-abbrev pub EndsAll : Ending → Type 0
-EndsAll NoMore = ⊥
-EndsAll NoMoreCut = ⊥
-EndsAll Enough = Unit {0}
-EndsAll Steps = Unit {0}
-EndsAll Flexible = Unit {0}
-EndsAll (Arithmetic f) = Unit {0}
-EndsAll OpenNot = Unit {0}
-EndsAll Deep = Unit {0}
 
 end_comes : (c : Course) (behind : State Task → Type 0) (w : Waiting) (n p : ℕ) (e : Ending) → EndsAll e → ComesOf c behind w n (inner_end p e) → c.event ≡ Over e
 end_comes c behind w n p NoMore h x = absurd h
@@ -57,11 +59,35 @@ IsInnerTurn (w ∷ ws) Turn.Back = Unit {0}
 IsInnerTurn (w ∷ ws) Turn.Answered = ⊥
 IsInnerTurn (w ∷ ws) (Turn.Ended e) = EndsAll e
 
+-- the next state is typed
+pub typed_on : (ar : ℕ → ℕ) (n : ℕ) (P : List Clause) (go : (Answer → Bool) → State Task → Inner) (s t : State Task) → (v : Move Task Answer) →
+    ((d : Declared) (q : Proved) → IsMoveTyped n d P q v → IsTypedState n d P q t) →
+    move go (look unit_limit n P) s ≡ v → IsTypedOver ar n P s → IsTypedOver ar n P t
+typed_on ar n P go s t v f e ty = record {
+  declared = ty.declared;
+  takes = ty.takes;
+  standard = ty.standard;
+  program = ty.program;
+  query = ty.query;
+  typed = f ty.declared ty.query (subst (IsMoveTyped n ty.declared P ty.query) e (typed_move n ty.declared P ty.query ty.standard ty.program go s ty.typed));
+}
+
 -- what each state has, the next one has
 pub kept_on : (c : Course) (j k : ℕ) (ns : List Note) (s t : State Task) → move (inner (seen_in c) j) (seen_in c) s ≡ Goes k ns t → Kept c s → Kept c t
-kept_on c j k ns s t e h = λ u r. h u (behind_move j k ns t e r)
+kept_on c j k ns s t e h =
+    let go = inner (seen_in c) j in (
+      λ u r. h.0 u (behind_move j k ns t e r),
+      typed_on c.query.arity c.enough c.program go s t (Goes k ns t) (λ d q w. w) e h.1,
+    )
 
-module _ (c : Course) (qv : Query) (n : Machine) (within : IsOfQuery c.query qv) where
+kept_behind : (c : Course) (j : ℕ) (a : Answer) (ns : List Note) (s t : State Task) → move (inner (seen_in c) j) (seen_in c) s ≡ Tells a ns t → Kept c s → Kept c t
+kept_behind c j a ns s t e h =
+    let go = inner (seen_in c) j in (
+      λ u r. h.0 u (behind_answer j a ns t e r),
+      typed_on c.query.arity c.enough c.program go s t (Tells a ns t) (λ d q w. w) e h.1,
+    )
+
+module _ (c : Course) (qv : Query) (n : Machine) (within : IsOfQuery c.query qv) (W : Turn → Type 0) (serves : (turn : Turn) → IsNoEnd turn → W turn → HasClauses c.program c.query.arity n) where
   abbrev see : ℕ → Task → View Task Answer
   see = seen_in c
 
@@ -70,14 +96,15 @@ module _ (c : Course) (qv : Query) (n : Machine) (within : IsOfQuery c.query qv)
     here : (s : State Task) → s.answers ≡ suc c.left → s.given ≡ c.given → Kept c s → (i : ℕ) → first see j i s ≡ Some (c.event, c.after) → Comes c qv.outer s
     here s a g v i e = subst (λ ws. Comes c ws s) (sym none) (a, g, v, record { inner_moves = j; moves = i; gives = e })
 
-    first_moved : (turn : Turn) (i : ℕ) (s : State Task) → s.answers ≡ suc c.left → s.given ≡ c.given → Kept c s → IsMoved qv turn n (move (inner see j) see s) s → first see j (suc i) s ≡ Some (c.event, c.after) → Stands c turn n
-    first_moved Turn.On i s a g v h e =
+    first_moved : (turn : Turn) (i : ℕ) (s : State Task) → s.answers ≡ suc c.left → s.given ≡ c.given → Kept c s → IsMoved qv turn n
+        (move (inner see j) see s) s → W turn → first see j (suc i) s ≡ Some (c.event, c.after) → Stands c turn n
+    first_moved Turn.On i s a g v h w e =
         let q = sym (ap (first_after s (first see j i)) h.3) ∙ e in
-        (qv, h.2, within, h.4, here h.2 (h.5 ∙ a) (h.6 ∙ g) (kept_on c j h.0 h.1 s h.2 h.3 v) i q)
-    first_moved Turn.Back i s a g v h e =
+        (qv, h.2, within, h.4, here h.2 (h.5 ∙ a) (h.6 ∙ g) (kept_on c j h.0 h.1 s h.2 h.3 v) i q, serves Turn.On tt w)
+    first_moved Turn.Back i s a g v h w e =
         let q = sym (ap (first_after s (first see j i)) h.3) ∙ e in
-        (qv, h.2, within, h.4, here h.2 (h.5 ∙ a) (h.6 ∙ g) (kept_on c j h.0 h.1 s h.2 h.3 v) i q)
-    first_moved Turn.Answered i s a g v h e =
+        (qv, h.2, within, h.4, here h.2 (h.5 ∙ a) (h.6 ∙ g) (kept_on c j h.0 h.1 s h.2 h.3 v) i q, serves Turn.Back tt w)
+    first_moved Turn.Answered i s a g v h w e =
         let q = pair_left (Gave h.1) c.event h.2 c.after (sym (ap (first_after s (first see j i)) h.3) ∙ e) in
         let left : h.2.answers ≡ c.left = (let x : suc h.2.answers ≡ suc c.left = sym h.6 ∙ a in omega (arith, x)) in (
           qv,
@@ -89,18 +116,20 @@ module _ (c : Course) (qv : Query) (n : Machine) (within : IsOfQuery c.query qv)
           subst (IsAnswered qv n) q.1 h.5,
           subst (λ (t : State Task). t.answers ≡ c.left) q.1 left,
           subst (λ (t : State Task). t.given ≡ suc c.given) q.1 (h.7 ∙ ap suc g),
-          subst (Kept c) q.1 (λ u r. v u (behind_answer j h.1 h.0 h.2 h.3 r)),
+          subst (Kept c) q.1 (kept_behind c j h.1 h.0 s h.2 h.3 v),
+          serves Turn.Answered tt w,
         )
-    first_moved (Turn.Ended f) i s a g v h e = λ few. sym (pair_left (Over f) c.event s c.after (sym (ap (first_after s (first see j i)) h) ∙ e)).0
+    first_moved (Turn.Ended f) i s a g v h w e = λ few. sym (pair_left (Over f) c.event s c.after (sym (ap (first_after s (first see j i)) h) ∙ e)).0
 
     first_waits : (i : ℕ) (s : State Task) → IsWaiting (move (inner see j) see s) → first see j (suc i) s ≡ Some (c.event, c.after) → ⊥
     first_waits i s h e = let q = sym (ap (first_after s (first see j i)) h.2) ∙ e in absurd (cc)
 
-    first_leads : (k : ℕ) (turn : Turn) (i : ℕ) (s : State Task) → s.answers ≡ suc c.left → s.given ≡ c.given → Kept c s → Leads k qv turn n (inner see j) see s → first see j i s ≡ Some (c.event, c.after) → Stands c turn n
+    first_leads : (k : ℕ) (turn : Turn) (i : ℕ) (s : State Task) → s.answers ≡ suc c.left → s.given ≡ c.given → Kept c s → LeadsWith (W turn) k qv
+        turn n (inner see j) see s → first see j i s ≡ Some (c.event, c.after) → Stands c turn n
     first_leads k turn zero s a g v h e = absurd (cc)
-    first_leads zero turn (suc i) s a g v (inl h) e = first_moved turn i s a g v h e
+    first_leads zero turn (suc i) s a g v (inl h) e = first_moved turn i s a g v h.0 h.1 e
     first_leads zero turn (suc i) s a g v (inr h) e = absurd (first_waits i s h e)
-    first_leads (suc k) turn (suc i) s a g v (inl h) e = first_moved turn i s a g v h e
+    first_leads (suc k) turn (suc i) s a g v (inl h) e = first_moved turn i s a g v h.0 h.1 e
     first_leads (suc k) turn (suc i) s a g v (inr (inl h)) e = absurd (first_waits i s h e)
     first_leads (suc k) turn (suc i) s a g v (inr (inr h)) e =
         let q = sym (ap (first_after s (first see j i)) h.3) ∙ e in
@@ -139,25 +168,28 @@ module _ (c : Course) (qv : Query) (n : Machine) (within : IsOfQuery c.query qv)
       on_goes : (k : ℕ) (ns : List Note) (t : State Task) → move (inner see m) see s ≡ Goes k ns t → of s.steps (inner see (suc i) has_no_pairs s) → of t.steps (inner see i has_no_pairs t)
       on_goes k ns t e h = let r = by_move (Goes k ns t) e h in later_comes c (Comes c ws) w s.steps t.steps k ns (inner see i has_no_pairs t) r.1 r.0
 
-      inner_moved : (turn : Turn) → IsInnerTurn (w ∷ ws) turn → s.answers ≡ 1 → Kept c s → IsMoved qv turn n (move (inner see m) see s) s → of s.steps (inner see (suc i) has_no_pairs s) → Stands c turn n
-      inner_moved Turn.On x a v h o = (qv, h.2, within, h.4, inside h.2 (h.5 ∙ a) (kept_on c m h.0 h.1 s h.2 h.3 v) i (on_goes h.0 h.1 h.2 h.3 o))
-      inner_moved Turn.Back x a v h o = (qv, h.2, within, h.4, inside h.2 (h.5 ∙ a) (kept_on c m h.0 h.1 s h.2 h.3 v) i (on_goes h.0 h.1 h.2 h.3 o))
-      inner_moved Turn.Answered x a v h o = absurd x
-      inner_moved (Turn.Ended f) x a v h o = λ few. end_comes c (Comes c ws) w s.steps s.row f x (by_move (Stops f) h o).0
+      inner_moved : (turn : Turn) → IsInnerTurn (w ∷ ws) turn → s.answers ≡ 1 → Kept c s → IsMoved qv turn n (move (inner see m) see s) s → W turn →
+          of s.steps (inner see (suc i) has_no_pairs s) → Stands c turn n
+      inner_moved Turn.On x a v h y o = (qv, h.2, within, h.4, inside h.2 (h.5 ∙ a) (kept_on c m h.0 h.1 s h.2 h.3 v) i (on_goes h.0 h.1 h.2 h.3 o), serves Turn.On tt y)
+      inner_moved Turn.Back x a v h y o = (qv, h.2, within, h.4, inside h.2 (h.5 ∙ a) (kept_on c m h.0 h.1 s h.2 h.3 v) i (on_goes h.0 h.1 h.2 h.3 o), serves Turn.Back tt y)
+      inner_moved Turn.Answered x a v h y o = absurd x
+      inner_moved (Turn.Ended f) x a v h y o = λ few. end_comes c (Comes c ws) w s.steps s.row f x (by_move (Stops f) h o).0
 
       inner_waits : IsWaiting (move (inner see m) see s) → of s.steps (inner see (suc i) has_no_pairs s) → ⊥
       inner_waits h o = (by_move (Waits h.0 h.1) h.2 o).0
 
-    inner_leads : (k : ℕ) (turn : Turn) → IsInnerTurn (w ∷ ws) turn → (i : ℕ) → i ≤ suc m → (s : State Task) → s.answers ≡ 1 → Kept c s → Leads k qv turn n (inner see m) see s → of s.steps (inner see i has_no_pairs s) → Stands c turn n
+    inner_leads : (k : ℕ) (turn : Turn) → IsInnerTurn (w ∷ ws) turn → (i : ℕ) → i ≤ suc m → (s : State Task) → s.answers ≡ 1 → Kept c s → LeadsWith
+        (W turn) k qv turn n (inner see m) see s → of s.steps (inner see i has_no_pairs s) → Stands c turn n
     inner_leads k turn x zero l s a v h o = absurd o
-    inner_leads zero turn x (suc i) l s a v (inl h) o = inner_moved i (omega (arith, l)) s turn x a v h o
+    inner_leads zero turn x (suc i) l s a v (inl h) o = inner_moved i (omega (arith, l)) s turn x a v h.0 h.1 o
     inner_leads zero turn x (suc i) l s a v (inr h) o = absurd (inner_waits i (omega (arith, l)) s h o)
-    inner_leads (suc k) turn x (suc i) l s a v (inl h) o = inner_moved i (omega (arith, l)) s turn x a v h o
+    inner_leads (suc k) turn x (suc i) l s a v (inl h) o = inner_moved i (omega (arith, l)) s turn x a v h.0 h.1 o
     inner_leads (suc k) turn x (suc i) l s a v (inr (inl h)) o = absurd (inner_waits i (omega (arith, l)) s h o)
-    inner_leads (suc k) turn x (suc i) l s a v (inr (inr h)) o = inner_leads k turn x i (omega (arith, l)) h.2 (h.4 ∙ a) (kept_on c m h.0 h.1 s h.2 h.3 v) h.6 (on_goes i (omega (arith, l)) s h.0 h.1 h.2 h.3 o)
+    inner_leads (suc k) turn x (suc i) l s a v (inr (inr h)) o = inner_leads k turn x i (omega (arith, l)) h.2 (h.4 ∙ a)
+        (kept_on c m h.0 h.1 s h.2 h.3 v) h.6 (on_goes i (omega (arith, l)) s h.0 h.1 h.2 h.3 o)
 
   -- a turn that leads there
-  pub leads_stands : (k : ℕ) (turn : Turn) (s : State Task) → IsInnerTurn qv.outer turn → ((j : ℕ) → Leads k qv turn n (inner see j) see s) → Comes c qv.outer s → Stands c turn n
+  pub leads_stands : (k : ℕ) (turn : Turn) (s : State Task) → IsInnerTurn qv.outer turn → ((j : ℕ) → LeadsWith (W turn) k qv turn n (inner see j) see s) → Comes c qv.outer s → Stands c turn n
   leads_stands k turn s x h o = go qv.outer refl x o
     where
       go : (ws : List Waiting) → qv.outer ≡ ws → IsInnerTurn ws turn → Comes c ws s → Stands c turn n
@@ -173,17 +205,36 @@ pub kept_of : (c : Course) (ws : List Waiting) (s : State Task) → Comes c ws s
 kept_of c [] s h = h.2
 kept_of c (w ∷ ws) s h = h.1
 
-pub moved_stands : (c : Course) (qv : Query) (n : Machine) → IsOfQuery c.query qv → (turn : Turn) (s : State Task) → IsInnerTurn qv.outer turn → MovesTo qv turn n s → Comes c qv.outer s → Stands c turn n
-moved_stands c qv n q turn s x h o =
+pub moved_stands : (c : Course) (qv : Query) (n : Machine) → IsOfQuery c.query qv → (turn : Turn) →
+    (IsNoEnd turn → HasClauses c.program c.query.arity n) → (s : State Task) → IsInnerTurn qv.outer turn → MovesTo qv turn n s → Comes c qv.outer s →
+    Stands c turn n
+moved_stands c qv n q turn cl s x h o =
     let w = wanted c qv.outer s o in
-    leads_stands c qv n q 0 turn s x (λ j. inl (h w.0 w.1 (inner (seen_in c) j) c.enough c.program)) o
+    leads_stands c qv n q (λ t. IsNoEnd t → HasClauses c.program c.query.arity n) (λ t k f. f k) 0 turn s x (λ j. inl (h w.0 w.1 (inner (seen_in c) j) c.enough c.program, cl)) o
 
 -- so is one that leads there, over the program
-pub led_over : (c : Course) (qv : Query) (n : Machine) → IsOfQuery c.query qv → (k : ℕ) (turn : Turn) (s : State Task) → IsInnerTurn qv.outer turn → IsTypedOver qv.arity c.enough c.program s → LeadsOver k qv turn n s c.program → Comes c qv.outer s → Stands c turn n
-led_over c qv n q k turn s x ty h o = go turn x h
+few_at : (c : Course) (qv : Query) (s : State Task) → Comes c qv.outer s → (e : Ending) → AreFewOn c (Turn.Ended e) → AreFewAt (Turn.Ended e) c.enough s.stack
+few_at c qv s o e few = λ q. let f = few q in (f.0, f.1 s ((kept_of c qv.outer s o).0 s (at_once refl)))
+
+pub led_over : (c : Course) (qv : Query) (n : Machine) → IsOfQuery c.query qv → (IsWrittenSearch n qv.arity → HasClauses c.program c.query.arity n) →
+    (k : ℕ) (turn : Turn) (s : State Task) → IsInnerTurn qv.outer turn → LeadsOver k qv turn n s c.program →
+    Comes c qv.outer s → Stands c turn n
+led_over c qv n q cl k turn s x h o = go turn x h
   where
+    serves : (turn : Turn) → IsNoEnd turn → WrittenBehind turn n qv.arity → HasClauses c.program c.query.arity n
+    serves Turn.On k w = cl w
+    serves Turn.Back k w = cl w
+    serves Turn.Answered k w = cl w
+    serves (Turn.Ended e) k w = absurd k
+
+    ty : IsTypedOver qv.arity c.enough c.program s
+    ty = subst (λ ar. IsTypedOver ar c.enough c.program s) (sym q.0) (kept_of c qv.outer s o).1
+
+    by : (turn : Turn) → IsInnerTurn qv.outer turn → LeadsOver k qv turn n s c.program → AreFewAt turn c.enough s.stack → Stands c turn n
+    by turn x h few = let w = wanted c qv.outer s o in leads_stands c qv n q (λ t. WrittenBehind t n qv.arity) serves k turn s x (λ j. h w.0 w.1 (inner (seen_in c) j) c.enough few ty) o
+
     go : (turn : Turn) → IsInnerTurn qv.outer turn → LeadsOver k qv turn n s c.program → Stands c turn n
-    go Turn.On x h = let w = wanted c qv.outer s o in leads_stands c qv n q k Turn.On s x (λ j. h w.0 w.1 (inner (seen_in c) j) c.enough (λ e. cc) ty) o
-    go Turn.Back x h = let w = wanted c qv.outer s o in leads_stands c qv n q k Turn.Back s x (λ j. h w.0 w.1 (inner (seen_in c) j) c.enough (λ e. cc) ty) o
-    go Turn.Answered x h = let w = wanted c qv.outer s o in leads_stands c qv n q k Turn.Answered s x (λ j. h w.0 w.1 (inner (seen_in c) j) c.enough (λ e. cc) ty) o
-    go (Turn.Ended e) x h = λ few. (let w = wanted c qv.outer s o in leads_stands c qv n q k (Turn.Ended e) s x (λ j. h w.0 w.1 (inner (seen_in c) j) c.enough few ty) o few)
+    go Turn.On x h = by Turn.On x h (λ e. cc)
+    go Turn.Back x h = by Turn.Back x h (λ e. cc)
+    go Turn.Answered x h = by Turn.Answered x h (λ e. cc)
+    go (Turn.Ended e) x h = λ few. by (Turn.Ended e) x h (few_at c qv s o e few) few

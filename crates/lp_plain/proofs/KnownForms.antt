@@ -70,7 +70,7 @@ module _ (P : Atom → Type 0) where
   if_known true x y h g = h
   if_known false x y h g = g
 
-  body_known : (t : Term) → Within P 0 t → Within P 1 (body_of t)
+  pub body_known : (t : Term) → Within P 0 t → Within P 1 (body_of t)
   body_known (abs b) w = w
   body_known (index i) w = absurd (omega (arith, w))
   body_known (atom a) w = (w, omega arith)

@@ -13,6 +13,7 @@ pub mod Scoped
 pub mod Spines
 pub mod Workings
 pub mod WrittenTerms
+pub mod WrittenTurns
 pub mod Looks
 pub mod OpenGoals
 pub mod OpenNodes
@@ -25,9 +26,11 @@ pub mod Frames
 pub mod Placed
 pub mod Taken
 pub mod Within
+pub mod Led
 pub mod Later
 pub mod Mapped
 pub mod Programs
+pub mod ProgramKept
 pub mod Starts
 pub mod Growing
 pub mod Opening
@@ -54,6 +57,7 @@ pub mod Trials
 pub mod Grown
 pub mod TakenApart
 pub mod FirstGoals
+pub mod FirstKinds
 pub mod Alternatives
 pub mod QuietMoves
 pub mod Backwards
@@ -101,6 +105,7 @@ pub mod TryMoves
 pub mod TaskMoves
 pub mod EqualMoves
 pub mod KnownForms
+pub mod ShutForms
 pub mod ClosedForms
 pub mod SeenGoals
 pub mod FormsUnder
@@ -114,7 +119,6 @@ pub mod LookedOn
 pub mod BesideForms
 pub mod FormStands
 pub mod StepTaken
-pub mod LeftOut
 pub mod TermTurns
 pub mod Operations
 pub mod NormalValues
@@ -126,6 +130,7 @@ pub mod ValuesGiven
 pub mod GoingBank
 pub mod ArithmeticMoves
 pub mod ArithmeticTurns
+pub mod ArithmeticEnds
 pub mod AtomAtHand
 pub mod TryWritten
 pub mod WrittenSearches
@@ -140,6 +145,7 @@ mod Following
 mod Treated
 mod EventMoves
 mod Between
+pub mod Begun
 mod AnswerTerms
 mod CallLooks
 mod CallTries
@@ -153,8 +159,13 @@ mod RefutedMoves
 mod CallArm
 mod CallEnds
 mod CallForms
-mod TypedRuns
 pub mod ProgramTypes
 pub mod ProgramsWritten
 pub mod KnownPrograms
 pub mod TypedPrograms
+mod ClosingTests
+mod OpenTests
+mod DenyBegins
+mod DenyTurns
+mod DenyFirst
+mod DenyStands

@@ -1,7 +1,6 @@
 -- The clauses of a program are put into the table, formula by formula, while the bank grows.
 use Rattle.std.proofs.Common.{◌≡◌, ℕ, suc, ◌<◌, ◌≤◌, List, [], ◌∷◌, ◌++◌, map, length, take, inl, inr, refl, sym, ap, ◌∙◌, subst, arith, Option, Some}
 use Rattle.std.specs.Prelude.{All, slice_get}
-use Rattle.std.proofs.lemmas.List.{map-append}
 use Rattle.std.proofs.lemmas.List.Elements.{All-cons, All-head, All-tail, All-weaker}
 use Rattle.lp_lemmas.proofs.Elements.{All_empty, All_pushed}
 use Rattle.lp_lemmas.proofs.Lists.{get_map, get_from_map, take_suc}
@@ -34,73 +33,80 @@ empty_within n t g r = record { goals = All_empty (IsFlatIn n) t.goals.items g; 
 
 -- clauses list by list
 
-pub program_on : (b d : Nodes) (t u : Table) → ((s : Span) (cs : Clauses) → AreClausesOf b t s cs → AreClausesOf d u s cs) → (ss : List Span) (css : List Clauses) → AreProgramOf b t ss css → AreProgramOf d u ss css
+pub program_on : (b d : Nodes) (t u : Table) → ((s : Span) (cs : Clauses) → AreClausesOf b t s cs → AreClausesOf d u s cs) → (ss : List Span)
+    (css : List Clauses) → AreProgramOf b t ss css → AreProgramOf d u ss css
 program_on b d t u f [] [] p = p
 program_on b d t u f [] (cs ∷ css) p = p
 program_on b d t u f (s ∷ ss) [] p = p
 program_on b d t u f (s ∷ ss) (cs ∷ css) p = (f s cs p.0, program_on b d t u f ss css p.1)
 
-program_push : (b : Nodes) (t : Table) (ss : List Span) (css : List Clauses) (s : Span) (cs : Clauses) → AreProgramOf b t ss css → AreClausesOf b t s cs → AreProgramOf b t (ss ++ s ∷ []) (css ++ cs ∷ [])
+program_push : (b : Nodes) (t : Table) (ss : List Span) (css : List Clauses) (s : Span) (cs : Clauses) → AreProgramOf b t ss css → AreClausesOf b t s
+    cs → AreProgramOf b t (ss ++ s ∷ []) (css ++ cs ∷ [])
 program_push b t [] [] s cs p h = (h, tt)
 program_push b t [] (ds ∷ css) s cs p h = absurd p
 program_push b t (r ∷ ss) [] s cs p h = absurd p
 program_push b t (r ∷ ss) (ds ∷ css) s cs p h = (p.0, program_push b t ss css s cs p.1 h)
 
 -- the last of those that are there
-record EndsIn {A : Type 0} (xs : List (Option A)) (x : Option A) (ys : List A) : Type 0 where
-  pub front : List A
-  pub last : A
-  pub whole : ys ≡ front ++ last ∷ []
-  pub fronts : xs ≡ map Some front
-  pub is_last : x ≡ Some last
+record EndsIn (d : ℕ → Option Scheme) (b : Nodes) (fs : List ClauseFormula) (f : ClauseFormula) (css : List Clauses) : Type 0 where
+  pub front : List Clauses
+  pub last : Clauses
+  pub whole : css ≡ front ++ last ∷ []
+  pub fronts : AreFlat d b fs front
+  pub is_last : (n : ℕ) × (flatten n d (formula_of b f) ≡ Some last)
 
-ends_in : {A : Type 0} (xs : List (Option A)) (x : Option A) (ys : List A) → xs ++ x ∷ [] ≡ map Some ys → EndsIn xs x ys
-ends_in [] x [] e = absurd (let q = ap length e in omega (arith, q))
-ends_in [] x (y ∷ []) e = record { front = []; last = y; whole = refl; fronts = refl; is_last = (let q : x ≡ Some y = cc in q) }
-ends_in [] x (y ∷ z ∷ ys) e = absurd (let q = ap length e in omega (arith, q))
-ends_in (w ∷ xs) x [] e = absurd (let q = ap length e in omega (arith, q))
-ends_in (w ∷ xs) x (y ∷ ys) e =
-    let h : w ≡ Some y = cc in
-    let t : xs ++ x ∷ [] ≡ map Some ys = cc in
-    let r = ends_in xs x ys t in
-    let k = r.fronts in
-    record { front = y ∷ r.front; last = r.last; whole = ap (λ l. y ∷ l) r.whole; fronts = (λ i. h i ∷ k i); is_last = r.is_last }
+ends_in : (d : ℕ → Option Scheme) (b : Nodes) (fs : List ClauseFormula) (f : ClauseFormula) (css : List Clauses) → AreFlat d b (fs ++ f ∷ []) css → EndsIn d b fs f css
+ends_in d b [] f [] h = absurd h
+ends_in d b [] f (cs ∷ []) h = record { front = []; last = cs; whole = refl; fronts = tt; is_last = h.0 }
+ends_in d b [] f (cs ∷ ds ∷ css) h = absurd h.1
+ends_in d b (g ∷ fs) f [] h = absurd h
+ends_in d b (g ∷ fs) f (cs ∷ css) h =
+    let r = ends_in d b fs f css h.1 in
+    record { front = cs ∷ r.front; last = r.last; whole = ap (λ l. cs ∷ l) r.whole; fronts = (h.0, r.fronts); is_last = r.is_last }
 
 -- nothing is put yet
 pub none_put : (fs : List ClauseFormula) (b : Nodes) (t : Table) (spans : List Span) → spans ≡ [] → ArePut fs b b t t spans 0
-none_put fs b t spans e = record { kept = extends_same b; ends = All_empty (λ (s : Span). s.to ≤ length t.rules.items) spans e; within = λ i. i; spans_are = λ i f n d css h. subst (λ ss. AreProgramOf b t ss css) (sym e) (go css h) }
+none_put fs b t spans e = record {
+  kept = extends_same b;
+  ends = All_empty (λ (s : Span). s.to ≤ length t.rules.items) spans e;
+  within = λ i. i;
+  spans_are = λ i f d css h. subst (λ ss. AreProgramOf b t ss css) (sym e) (go d css h);
+}
   where
-    go : (css : List Clauses) → [] ≡ map Some css → AreProgramOf b t [] css
-    go [] h = tt
-    go (cs ∷ css) h = absurd (let q = ap length h in omega (arith, q))
+    go : (d : ℕ → Option Scheme) (css : List Clauses) → AreFlat d b [] css → AreProgramOf b t [] css
+    go d [] h = tt
+    go d (cs ∷ css) h = absurd h
 
 -- the clauses of one formula more
-module _ (fs : List ClauseFormula) (a b d : Nodes) (t u v : Table) (spans spans' : List Span) (k k' : ℕ) (f : ClauseFormula) (cs : List CodeClause) (s : Span) (p : ArePut fs a b t u spans k) (x : Extends b d) (got : slice_get fs k ≡ Some f)
+module _ (fs : List ClauseFormula) (a b d : Nodes) (t u v : Table) (spans spans' : List Span) (k k' : ℕ) (f : ClauseFormula) (cs : List CodeClause)
+    (s : Span) (p : ArePut fs a b t u spans k) (x : Extends b d) (got : slice_get fs k ≡ Some f)
     (flat : (n : ℕ) (e : ℕ → Option Scheme) (g : Clauses) (later : Nodes) → flatten n e (formula_of b f) ≡ Some g → Extends d later → clauses_of later cs ≡ g)
-    (inside : IsTableIn (length b.terms) u → IsTableIn (length d.terms) v) (means : AreClausesOf d v s (clauses_of d cs)) (leads : LeadsTo d Never Never (shown u) (shown v)) (more : spans' ≡ spans ++ s ∷ []) (next : k' ≡ suc k) (end : s.to ≤ length v.rules.items) where
-  same_formula : f.formula.0 < length a.terms → formula_of b f ≡ formula_of a f
-  same_formula l = ap (λ z. record { type_vars = f.type_vars; formula = z }) (p.kept.same_terms f.formula.0 l)
+    (inside : IsTableIn (length b.terms) u → IsTableIn (length d.terms) v) (means : AreClausesOf d v s (clauses_of d cs))
+    (leads : LeadsTo d Never Never (shown u) (shown v)) (more : spans' ≡ spans ++ s ∷ []) (next : k' ≡ suc k) (end : s.to ≤ length v.rules.items)
+  where
+    same_formula : f.formula.0 < length a.terms → formula_of b f ≡ formula_of a f
+    same_formula l = ap (λ z. record { type_vars = f.type_vars; formula = z }) (p.kept.same_terms f.formula.0 l)
 
-  older : (css : List Clauses) → IsTableIn (length b.terms) u → AreProgramOf b u spans css → AreProgramOf d v spans css
-  older css i h = program_on b d u v (λ r gs c. rules_on d Never Never (shown u) (shown v) leads r.from r.to gs (rules_later b d x u i r.from r.to gs c)) spans css h
+    older : (css : List Clauses) → IsTableIn (length b.terms) u → AreProgramOf b u spans css → AreProgramOf d v spans css
+    older css i h = program_on b d u v (λ r gs c. rules_on d Never Never (shown u) (shown v) leads r.from r.to gs (rules_later b d x u i r.from r.to gs c)) spans css h
 
-  spans_more : IsTableIn (length a.terms) t → AreFormulasIn a fs → (n : ℕ) (e : ℕ → Option Scheme) (css : List Clauses) → AreFlat n e a (take k' fs) css → AreProgramOf d v spans' css
-  spans_more i j n e css h =
-      let F = λ (g : ClauseFormula). flatten n e (formula_of a g) in
-      let z : map F (take k fs) ++ F f ∷ [] ≡ map Some css = sym (map-append F (take k fs) (f ∷ [])) ∙ ap (map F) (sym (ap (λ m. take m fs) next ∙ take_suc fs k f got)) ∙ h in
-      let r = ends_in (map F (take k fs)) (F f) css z in
-      let l : f.formula.0 < length a.terms = all_at (λ (g : ClauseFormula). g.formula.0 < length a.terms) fs k f got j in
-      let q : clauses_of d cs ≡ r.last = flat n e r.last d (ap (flatten n e) (same_formula l) ∙ r.is_last) (extends_same d) in
-      subst (λ ss. AreProgramOf d v ss css) (sym more)
-      (subst (AreProgramOf d v (spans ++ s ∷ [])) (sym r.whole) (program_push d v spans r.front s r.last (older r.front (p.within i) (p.spans_are i j n e r.front r.fronts)) (subst (AreClausesOf d v s) q means)))
+    spans_more : IsTableIn (length a.terms) t → AreFormulasIn a fs → (e : ℕ → Option Scheme) (css : List Clauses) → AreFlat e a (take k' fs) css → AreProgramOf d v spans' css
+    spans_more i j e css h =
+        let r = ends_in e a (take k fs) f css (subst (λ l. AreFlat e a l css) (ap (λ m. take m fs) next ∙ take_suc fs k f got) h) in
+        let l : f.formula.0 < length a.terms = all_at (λ (g : ClauseFormula). g.formula.0 < length a.terms) fs k f got j in
+        let q : clauses_of d cs ≡ r.last = flat r.is_last.0 e r.last d (ap (flatten r.is_last.0 e) (same_formula l) ∙ r.is_last.1) (extends_same d) in
+        subst (λ ss. AreProgramOf d v ss css) (sym more)
+        (subst (AreProgramOf d v (spans ++ s ∷ [])) (sym r.whole) (program_push d v spans r.front s r.last
+        (older r.front (p.within i) (p.spans_are i j e r.front r.fronts)) (subst (AreClausesOf d v s) q means)))
 
-  ends_more : All (λ s. s.to ≤ length v.rules.items) spans'
-  ends_more =
-      let l = longer_list u.rules.items v.rules.items leads.rules in
-      All_pushed (λ (s : Span). s.to ≤ length v.rules.items) spans' spans s more (All-weaker (λ (s : Span). s.to ≤ length u.rules.items) (λ (s : Span). s.to ≤ length v.rules.items) (λ r h. omega (arith, h, l)) spans p.ends) end
+    ends_more : All (λ s. s.to ≤ length v.rules.items) spans'
+    ends_more =
+        let l = longer_list u.rules.items v.rules.items leads.rules in
+        All_pushed (λ (s : Span). s.to ≤ length v.rules.items) spans' spans s more (All-weaker (λ (s : Span). s.to ≤ length u.rules.items)
+        (λ (s : Span). s.to ≤ length v.rules.items) (λ r h. omega (arith, h, l)) spans p.ends) end
 
-  pub one_put : ArePut fs a d t v spans' k'
-  one_put = record { kept = extends-trans a b d p.kept x; ends = ends_more; within = λ i. inside (p.within i); spans_are = spans_more }
+    pub one_put : ArePut fs a d t v spans' k'
+    one_put = record { kept = extends-trans a b d p.kept x; ends = ends_more; within = λ i. inside (p.within i); spans_are = spans_more }
 
 -- clauses whose links are others
 
@@ -125,8 +131,16 @@ module _ (b : Nodes) (t u : Table) (eg : u.goals ≡ t.goals) (el : u.lists ≡ 
     goal_relinked f (Either gs hs) h = (h.0, h.1, h.2, listed h.0 gs (λ i j. goals_relinked i j gs) h.3, listed h.1 hs (λ i j. goals_relinked i j hs) h.4)
     goal_relinked f (Exists T gs) h = (h.0, h.1, listed h.0 gs (λ i j. goals_relinked i j gs) h.2)
     goal_relinked f (Forall T gs) h = (h.0, h.1, listed h.0 gs (λ i j. goals_relinked i j gs) h.2)
-    goal_relinked f (Assume w cs gs) h =
-        (h.0, h.1, h.2, h.3, h.4, rules_relinked h.0.from h.0.to cs h.5, listed h.1 gs (λ i j. goals_relinked i j gs) h.6, (h.7.0, subst (λ v. slice_get v.items h.2 ≡ Some h.7.0) (sym ef) h.7.1, h.7.2))
+    goal_relinked f (Assume w cs gs) h = (
+      h.0,
+      h.1,
+      h.2,
+      h.3,
+      h.4,
+      rules_relinked h.0.from h.0.to cs h.5,
+      listed h.1 gs (λ i j. goals_relinked i j gs) h.6,
+      (h.7.0, subst (λ v. slice_get v.items h.2 ≡ Some h.7.0) (sym ef) h.7.1, h.7.2),
+    )
     goal_relinked f (Not w gs) h = (h.0, h.1, h.2, h.3, listed h.0 gs (λ i j. goals_relinked i j gs) h.4, (h.5.0, subst (λ v. slice_get v.items h.1 ≡ Some h.5.0) (sym ef) h.5.1, h.5.2))
 
     goals_relinked : (from to : ℕ) (gs : Goals) → AreGoals b Never (shown t) from to gs → AreGoals b Never (shown u) from to gs
@@ -136,8 +150,14 @@ module _ (b : Nodes) (t u : Table) (eg : u.goals ≡ t.goals) (el : u.lists ≡ 
     clause_relinked : (i : ℕ) (c : Clause) → IsRule b Never (shown t) i c → IsRule b Never (shown u) i c
     clause_relinked i (clause n vs h body) r =
         let q = rule_there i r.0 r.1 in
-        let e = q.2 in
-        (q.0, q.1, sym (ap (λ z. z.type_vars) e) ∙ r.2, rule_relinked b (length vs) r.0 q.0 h (sym e) r.3, subst (λ z. IsListOf b u z body) (ap (λ z. z.body) e) (listed r.0.body body (λ i j. goals_relinked i j body) r.4))
+        let e = q.2 in (
+          q.0,
+          q.1,
+          sym (ap (λ z. z.type_vars) e) ∙ r.2,
+          rule_relinked b (length vs) r.0 q.0 h (sym e) r.3,
+          subst (λ z. IsListOf b u z body)
+              (ap (λ z. z.body) e) (listed r.0.body body (λ i j. goals_relinked i j body) r.4),
+        )
 
     pub rules_relinked : (from to : ℕ) (cs : Clauses) → AreRules b Never (shown t) from to cs → AreRules b Never (shown u) from to cs
     rules_relinked from to no_clauses h = h

@@ -21,7 +21,7 @@ pub stack_push : (tss : List (List Task)) (ts : List Task) → stack_of (tss ++ 
 stack_push [] ts = sym (append-nil ts)
 stack_push (us ∷ tss) ts = ap (λ l. l ++ us) (stack_push tss ts) ∙ append_assoc ts (stack_of tss) us
 
-stand_push : (m : Machine) (a : Around) (cs : List Choice) (c : Choice) (below : ℕ) (tss : List (List Task)) (ts : List Task) → StandForAll m a cs
+pub stand_push : (m : Machine) (a : Around) (cs : List Choice) (c : Choice) (below : ℕ) (tss : List (List Task)) (ts : List Task) → StandForAll m a cs
     below tss → ((n : ℕ) → StandsFor m a c n ts) → StandForAll m a (cs ++ c ∷ []) below (tss ++ ts ∷ [])
 stand_push m a [] c below [] ts h f = (f below, tt)
 stand_push m a [] c below (us ∷ tss) ts h f = absurd h

@@ -109,7 +109,7 @@ outside_entries a p σ gs h o =
 
 -- nothing is assumed outside of all goals
 no_clauses_found : (l : Lists) → HasAssumed l None []
-no_clauses_found l h = record { newest = None; numbers = []; found = nothing refl refl; chain = refl; clauses = tt }
+no_clauses_found l = (tt, λ h. record { newest = None; numbers = []; found = nothing refl refl; chain = refl; clauses = tt })
 
 outside_place : (l : Lists) (a : Around) (p : Place) → IsOutermost a → IsOutside p → IsPlaceAt l a p
 outside_place l a p i o = record {

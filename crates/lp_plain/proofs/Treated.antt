@@ -1,14 +1,10 @@
--- TO VANISH: what is told of a turn where the definition's search meets only goals whose turns are known to be its moves.
-use Rattle.std.proofs.Common.{◌≡◌, ℕ, zero, suc, ◌+◌, ◌<◌, ◌≤◌, List, [], ◌∷◌, ◌++◌, length, take, drop, refl, sym, ap, ◌∙◌, subst, arith, Option, None, Some}
+-- The first goal of a search, its newest alternative, and whether a search waits for it.
+use Rattle.std.proofs.Common.{◌≡◌, ℕ, ◌+◌, ◌≤◌, List, [], ◌∷◌, ◌++◌, length, drop, refl, sym, ap, ◌∙◌, subst, arith, Option, None, Some}
 use Rattle.std.specs.Prelude.{slice_get}
-use Rattle.lp_lemmas.specs.Each.{EachOf}
 use Rattle.lp_calculus.specs.Term.{Term}
-use Rattle.lp_model.specs.Branch.{Branch, Entry, Go, Task, Try}
-use Rattle.lp_model.specs.Flat.{Atomic, Assume, Clause, Cut, Either, Exists, Forall, Goal, Goals, Not, no_goals, goals, goal_list}
-use Rattle.lp_model.specs.Pair.{Closing, closed}
+use Rattle.lp_model.specs.Branch.{Branch, Entry, Task}
+use Rattle.lp_model.specs.Flat.{Goals, no_goals, goals, goal_list}
 use Rattle.lp_model.specs.Skeleton.{State}
-use Rattle.lp_plain.specs.declared.candidates.Candidate.{Candidate}
-use Rattle.lp_plain.specs.declared.choice.Call.{Call}
 use Rattle.lp_plain.specs.declared.choice.Choice.{Choice}
 use Rattle.lp_plain.specs.declared.choice.Denial.{Denial}
 use Rattle.lp_plain.specs.declared.choice.Untried.{Untried}
@@ -20,37 +16,16 @@ use Rattle.lp_plain.specs.declared.outcome.Turn.{Turn}
 use Rattle.lp_plain.specs.declared.table.Span.{Span}
 use Rattle.lp_term.specs.declared.node.TermId.{TermId}
 use Rattle.lp_plain.specs.Entries.{AreTodo, Around, Reads, a_frame, in_scope, no_frame, placed}
-use Rattle.lp_plain.specs.Moving.{AreAlternatives, AreEntriesUnder, AreOuter, HasAlternatives, IsAtGoals, IsBack, IsGoalUnder, IsPlain, IsPlainFirst, IsState, IsTasksOf, Query, Waiting, mark_in, of_call, of_side, tries_under}
+use Rattle.lp_plain.specs.Moving.{AreAlternatives, AreOuter, HasAlternatives, IsAtGoals, IsBack, IsState, Query, Waiting, mark_in}
 use Rattle.lp_plain.specs.Scopes.{blocks_of}
 use Rattle.lp_plain.specs.Searching.{StandForAll, StandsFor, a_side, some_tries}
-use Rattle.lp_plain.specs.Stacks.{base_of, stack_of}
+use Rattle.lp_plain.specs.Stacks.{base_of}
 use Rattle.lp_plain.specs.Tables.{AreGoals, Never, shown}
-use Rattle.lp_plain.specs.inner.Following.{Course, IsTreated, IsTreatedFirst, Kept, at_once}
+use Rattle.lp_plain.specs.Turns.{IsGoalTurn}
+use Rattle.lp_plain.specs.inner.Following.{Course}
 use Rattle.lp_plain.proofs.Bounds.{split_newest}
-use Rattle.lp_plain.proofs.CallsUnder.{tasks_count}
 use Rattle.lp_plain.proofs.Following.{IsInnerTurn}
-use Rattle.lp_plain.proofs.QuietMoves.{drop_push, stack_push}
-
-plain_goal : (z : Closing) (g d : Goal) → IsGoalUnder z g d → IsPlain d → IsPlain g
-plain_goal z (Atomic t) d h p = subst IsPlain h.2 p
-plain_goal z Cut d h p = tt
-plain_goal z (Either gs hs) d h p = tt
-plain_goal z (Exists T gs) d h p = tt
-plain_goal z (Forall T gs) d h p = tt
-plain_goal z (Assume w cs gs) d h p = tt
-plain_goal z (Not w gs) d h p = subst IsPlain h p
-
-plain_there : (z : Closing) (f : ℕ → ℕ) (l u : ℕ) (es ds : List Entry) → AreEntriesUnder z f l u es ds → IsTreatedFirst ds → (es ≡ [] → ⊥) → IsPlainFirst es
-plain_there z f l u [] ds h p n = absurd (n refl)
-plain_there z f l u (e ∷ es) [] h p n = absurd h
-plain_there z f l u (e ∷ es) (d ∷ ds) h p n = plain_goal z e.goal d.goal h.0.goal p
-
--- the first goal of the branch at work
-pub plain_first : (c : Course) (qv : Query) (m : Machine) (s : State Task) (h : IsState qv m s) → Kept c s → (h.raw.goals ≡ [] → ⊥) → IsPlainFirst h.raw.goals
-plain_first c qv m s h v n =
-    let r = h.running in
-    let b = base_of m.denied in
-    plain_there r.closing (mark_in b r.above.raws) b (length m.choices.items) h.raw.goals r.at_work.goals r.under.goals (subst (EachOf IsTreated) r.stack (v s (at_once refl))).0 n
+use Rattle.lp_plain.proofs.QuietMoves.{drop_push}
 
 pub goals_some : (m : Machine) (a : Around) (p : Place) (span : Span) (o : Option ℕ) (raw : Branch) → IsAtGoals m a p span o raw → raw.goals ≡ [] → ⊥
 goals_some m a p span o raw h e = go h.goals_of h.are h.goals
@@ -59,7 +34,8 @@ goals_some m a p span o raw h e = go h.goals_of h.are h.goals
     go no_goals ag w = let l = h.some in absurd (omega (arith, ag, l))
     go (goals g gs) ag w = let q = sym e ∙ w in cc
 
-pub term_some : (qv : Query) (m : Machine) (s : State Task) (h : IsState qv m s) (number : ℕ) (f : Frame) → m.branch.goals ≡ Some number → slice_get m.frames.items number ≡ Some f → (u : TermId) → f.todo ≡ Todo.Term u → h.raw.goals ≡ [] → ⊥
+pub term_some : (qv : Query) (m : Machine) (s : State Task) (h : IsState qv m s) (number : ℕ) (f : Frame) → m.branch.goals ≡ Some number → slice_get
+    m.frames.items number ≡ Some f → (u : TermId) → f.todo ≡ Todo.Term u → h.raw.goals ≡ [] → ⊥
 term_some qv m s h number f front got u t e = go (subst (λ o. Reads m h.around o h.raw.goals) front h.goals) e
   where
     go : {es : List Entry} → Reads m h.around (Some number) es → es ≡ [] → ⊥
@@ -72,58 +48,28 @@ term_some qv m s h number f front got u t e = go (subst (λ o. Reads m h.around 
         let q = sym k ∙ z ∙ ap (λ l. placed h.around g.place l ++ rest) todo.2 in
         cc
 
--- no search waits
-pub none_denied : (ar : ℕ → ℕ) (m : Machine) (a : Around) (o : Option ℕ) (ws : List Waiting) → ws ≡ [] → AreOuter ar m a o ws → o ≡ None
-none_denied ar m a None ws e h = refl
-none_denied ar m a (Some i) [] e h = absurd h
-none_denied ar m a (Some i) (w ∷ ws) e h = absurd (cc)
+-- no search waits where none is inside of a negated goal
+pub none_waits : (ar : ℕ → ℕ) (m : Machine) (a : Around) (o : Option ℕ) (ws : List Waiting) → o ≡ None → AreOuter ar m a o ws → ws ≡ []
+none_waits ar m a None [] e h = refl
+none_waits ar m a None (w ∷ ws) e h = absurd h
+none_waits ar m a (Some i) ws e h = absurd (cc)
 
-pub none_below : (qv : Query) (m : Machine) (a : Around) (stack : List Task) → qv.outer ≡ [] → HasAlternatives qv m a stack → base_of m.denied ≡ 0
-none_below qv m a stack e h = ap base_of (none_denied qv.arity m a m.denied qv.outer e h.inside.outer)
+none_base : (o : Option ℕ) → base_of o ≤ 0 → o ≡ None
+none_base None l = refl
+none_base (Some i) l = absurd (omega (arith, l))
 
--- the newest alternative of a search that is to go back
-module _ (c : Course) (qv : Query) (m : Machine) (s : State Task) (h : IsBack qv m s) (k : Choice) (rest : List Choice) (e : m.choices.items ≡ rest ++ k ∷ []) (l : base_of m.denied ≤ length rest) where
-  abbrev base : ℕ
-  base = base_of m.denied
+-- nor where there is no alternative
+pub back_alone : (qv : Query) (m : Machine) (s : State Task) (h : IsBack qv m s) → m.choices.items ≡ [] → qv.outer ≡ []
+back_alone qv m s h e = none_waits qv.arity m h.around m.denied qv.outer (none_base m.denied (let l = h.above.done.base in let c = ap length e in omega (arith, l, c))) h.above.inside.outer
 
-  whole : drop base m.choices.items ≡ drop base rest ++ k ∷ []
-  whole = ap (drop base) e ∙ drop_push base rest k l
+-- a number is there or not
+pub data HasNumber (o : Option ℕ) : Type 0 where
+  no_number : o ≡ None → HasNumber o
+  a_number : (i : ℕ) → o ≡ Some i → HasNumber o
 
-  abbrev f : ℕ → ℕ
-  f = mark_in base h.above.raws
-
-  module _ (call : Call) (one : Candidate) (u : k.untried ≡ Untried.Clauses call one) (v : Kept c s) where
-    tried : (z : Closing) (xs : List Candidate) (cs : List Clause) (g : Term) (x : Entry) (d : Branch) (j : ℕ) (below : List Task) → 0 < length (tries_under z xs cs g x d j) → EachOf IsTreated (tries_under z xs cs g x d j ++ below) → ⊥
-    tried z [] cs g x d j below p t = omega (arith, p)
-    tried z (y ∷ xs) [] g x d j below p t = omega (arith, p)
-    tried z (y ∷ xs) (w ∷ cs) g x d j below p t = t.0
-
-    no_tasks : (below : ℕ) (rs ts : List Task) (z : Closing) (low high : ℕ) → StandsFor m h.around k below rs → IsTasksOf qv m k z f low high rs ts → length ts ≡ length rs → (others : List Task) → EachOf IsTreated (ts ++ others) → ⊥
-    no_tasks below rs ts z low high (a_side b x y w) t n others q = absurd (let j = y.left in cc)
-    no_tasks below rs ts z low high (some_tries t' x b y cs kp at w) (of_side lv b' d p q' under) n others q = absurd (let j = sym w ∙ p in cc)
-    no_tasks below rs ts z low high (some_tries t' x b y cs kp at w) (of_call lv call' one' xs ks t x' y' b' d j o are p q' place under known) n others q =
-        let some : 0 < length ts = (let i = ap length w in omega (arith, n, i)) in
-        tried z xs ks (closed z _) y' d j others (subst (λ us. 0 < length us) q' some) (subst (λ us. EachOf IsTreated (us ++ others)) q' q)
-
-  -- has no candidates
-  pub not_clauses : (call : Call) (one : Candidate) → k.untried ≡ Untried.Clauses call one → Kept c s → ⊥
-  not_clauses call one u v =
-      let sp = split_newest qv m h.around f base base (drop base rest) k 0 h.above.raws h.above.others (subst (λ z. StandForAll m h.around z 0 h.above.raws) whole h.above.done.alternatives)
-      (subst (λ z. AreAlternatives qv m f base base z h.above.raws h.above.others) whole h.above.are) in
-      let stack : s.stack ≡ sp.tasks ++ stack_of sp.others = h.above.is ∙ ap stack_of sp.whole ∙ stack_push sp.others sp.tasks in
-      no_tasks call one u v sp.under sp.raw sp.tasks sp.is.closing base (base + length (drop base rest)) sp.last sp.is.tasks (tasks_count qv m k sp.is.closing base (base + length (drop base rest)) f sp.raw sp.tasks sp.is.tasks)
-      (stack_of sp.others) (subst (EachOf IsTreated) stack (v s (at_once refl)))
-
-  -- is none of a negated goal
-  pub not_denied : (d : Denial) → k.untried ≡ Untried.Denied d → ⊥
-  not_denied d u =
-      let sp = split_newest qv m h.around f base base (drop base rest) k 0 h.above.raws h.above.others (subst (λ z. StandForAll m h.around z 0 h.above.raws) whole h.above.done.alternatives)
-      (subst (λ z. AreAlternatives qv m f base base z h.above.raws h.above.others) whole h.above.are) in
-      go sp.last
-    where
-      go : {n : ℕ} {ts : List Task} → StandsFor m h.around k n ts → ⊥
-      go (a_side b x y w) = let j = y.left in cc
-      go (some_tries t x b y cs kp at w) = let j = at.left in cc
+pub number_of : (o : Option ℕ) → HasNumber o
+number_of None = no_number refl
+number_of (Some i) = a_number i refl
 
 -- a list is empty or has a last one
 pub data HasLast {X : Type 0} (xs : List X) : Type 0 where
@@ -139,6 +85,14 @@ last_of (x ∷ xs) = go (last_of xs)
     go (has_last ys y e) = has_last (x ∷ ys) y (ap (λ l. x ∷ l) e)
 
 -- the turn of a search for which none waits
-pub inner_turn : (ws : List Waiting) (turn : Turn) → ws ≡ [] → IsInnerTurn ws turn
-inner_turn [] turn e = tt
-inner_turn (w ∷ ws) turn e = absurd (cc)
+pub alone_turn : (ws : List Waiting) (turn : Turn) → ws ≡ [] → IsInnerTurn ws turn
+alone_turn [] turn e = tt
+alone_turn (w ∷ ws) turn e = absurd (cc)
+
+-- that of a goal
+pub inner_turn : (ws : List Waiting) (turn : Turn) → IsGoalTurn turn → IsInnerTurn ws turn
+inner_turn [] turn h = tt
+inner_turn (w ∷ ws) Turn.On h = tt
+inner_turn (w ∷ ws) Turn.Back h = tt
+inner_turn (w ∷ ws) Turn.Answered h = absurd h
+inner_turn (w ∷ ws) (Turn.Ended e) h = h

@@ -34,7 +34,7 @@ pub first_tries : (m : Machine) (call : Call) (found : Option Candidate) → IsF
     (before : List Clause) (t : Term) → HasProgram m css → HasAssumed (lists_of m) call.place.assumed before →
     IsCallOf ar m.bank call t → AreOfProgram ar (all_clauses css) → AreApplied ar before → AreTries (lists_of m) (first_in m call.head) call.key found (candidates (all_clauses css) before t)
 first_tries m call found f ar css before t p a c wp wb =
-    let u = a call.head in
+    let u = a.1 call.head in
     let ks = program_for m.bank m.table.rules.items call.head (numbers p.spans) in
     record {
       left = in_turn m.bank m.table.rules.items call.key u.numbers ks;
@@ -47,7 +47,7 @@ pub first_apart : (m : Machine) (call : Call) (found : Option Candidate) → IsF
     IsCallOf ar m.bank call t → AreOfProgram ar (all_clauses css) → AreApplied ar before →
     AreTriesApart (lists_of m) (first_in m call.head) call.key found (filter (has_head t) before) (filter (passes t) (all_clauses css))
 first_apart m call found f ar css before t p a c wp wb =
-    let u = a call.head in
+    let u = a.1 call.head in
     let ks = program_for m.bank m.table.rules.items call.head (numbers p.spans) in
     record {
       numbers_assumed = u.numbers;

@@ -4,6 +4,7 @@ use Rattle.lp_calculus.specs.Instance.{instance_term}
 use Rattle.lp_calculus.specs.Spine.{head_of}
 use Rattle.lp_calculus.specs.Term.{Term, atom, constant, eigen}
 use Rattle.lp_calculus.specs.Types.{instance}
+use Rattle.lp_lemmas.specs.Each.{EachOf}
 use Rattle.lp_term.specs.Nodes.{Nodes, Extends}
 use Rattle.lp_model.specs.Branch.{Answer, Task, both_written, nothing_written}
 use Rattle.lp_model.specs.Flat.{Clause, clause, Clauses, Written, collect_clauses, instantiate_clauses, map_clause, map_written, same_type, type_clause, type_clauses, written_in_clauses}
@@ -110,14 +111,19 @@ pub record AreUnder (l : Lists) (tree : Option ℕ) (h : Head) (cs : List Clause
   pub chain : IsChain (links l.assumptions) newest numbers
   pub clauses : AreAssumed l numbers (filter (is_for h) cs)
 
--- so for each head
+-- the head of a clause is a constant or an eigenconstant
+abbrev pub HasHead : Clause → Type 0
+HasHead c = (h : Head) × (head_at c ≡ Some h)
+
+-- each clause has such a head, and under each head the tree finds those that have it
 abbrev pub HasAssumed : Lists → (tree : Option ℕ) → List Clause → Type 0
-HasAssumed l tree cs = (h : Head) → AreUnder l tree h cs
+HasAssumed l tree cs = EachOf HasHead cs × ((h : Head) → AreUnder l tree h cs)
 
 -- what is written in the clauses of a standing, and in those before it
 pub data HasWritten (l : Lists) : Option ℕ → Written → Type 0 where
   no_standing : {o : Option ℕ} {w : Written} → o ≡ None → w ≡ nothing_written → HasWritten l o w
-  a_standing : {o : Option ℕ} {w : Written} (i : ℕ) (s : Standing) (cs : Clauses) (σ : ℕ → Term) (before : Written) → o ≡ Some i → slice_get l.standings i ≡ Some s → IsNumbered (shown l.table).frees s.free (λ f. collect_clauses f 0 cs) →
+  a_standing : {o : Option ℕ} {w : Written} (i : ℕ) (s : Standing) (cs : Clauses) (σ : ℕ → Term) (before : Written) → o ≡ Some i → slice_get
+      l.standings i ≡ Some s → IsNumbered (shown l.table).frees s.free (λ f. collect_clauses f 0 cs) →
       HasValues l.bank l.blocks s.values.scope σ → HasWritten l s.older before → w ≡ both_written (written_at σ s.values.types (written_in_clauses cs)) before → HasWritten l o w
 
 -- a number is one of the first n, where there is one

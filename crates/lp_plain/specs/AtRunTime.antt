@@ -1,18 +1,14 @@
 -- Goals that are known at run time: at hand, and as they were looked at.
 use Rattle.std.specs.Prelude.{◌≡◌, ◌⊎◌, ◌<◌, ◌≤◌, ℕ, List, [], ◌∷◌, length, Option, Some}
 use Rattle.lp_calculus.specs.Normal.{nodes}
-use Rattle.lp_calculus.specs.Spine.{arguments, head_of}
-use Rattle.lp_calculus.specs.Term.{Term, index, atom, abs, app, constant, integer, text, eigen, logic, param}
+use Rattle.lp_calculus.specs.Term.{Term, atom}
 use Rattle.lp_standard.specs.Connectives.{connective_of}
-use Rattle.lp_standard.specs.Constants.{IsOrder}
 use Rattle.lp_standard.specs.Connectives as connective
-use Rattle.lp_standard.specs.Numbers as number
 use Rattle.lp_term.specs.Nodes.{Nodes, tree}
 use Rattle.lp_term.specs.declared.node.TermId.{TermId}
 use Rattle.lp_model.specs.Branch.{Branch, Entry}
 use Rattle.lp_model.specs.Eigens.{beta_normal}
 use Rattle.lp_model.specs.Flat.{Goal, Atomic, Cut, Either, Exists, Forall, Assume, Not}
-use Rattle.lp_model.specs.Look.{head_normal}
 use Rattle.lp_model.specs.Pair.{Closing, closed}
 use Rattle.lp_pattern.specs.Seen.{IsEnded, IsReachedWithin}
 use Rattle.lp_plain.specs.declared.form.Form.{Form}
@@ -89,36 +85,9 @@ IsAtomForm b t f = ((connective_of t ≡ connective.Atomic) × IsForm b t f) ⊎
 abbrev pub IsSmallExpression : Term → Type 0
 IsSmallExpression t = (n : ℕ) (s : Term) → beta_normal n t ≡ Some s → nodes s ≤ 1000000
 
--- an atom by its head and arguments, that is no call; its expressions are small
-abbrev pub IsNoCall : (head : Term) → List Term → Type 0
-IsNoCall (atom (constant c ts)) (l ∷ r ∷ []) = (c ≡ number.Equal) ⊎ (((c ≡ number.Is) × IsSmallExpression r) ⊎ (IsOrder c × IsSmallExpression l × IsSmallExpression r))
-IsNoCall (atom (constant c ts)) us = ⊥
-IsNoCall (atom (eigen k)) us = ⊥
-IsNoCall (atom (integer z)) us = Unit {0}
-IsNoCall (atom (text s)) us = Unit {0}
-IsNoCall (atom (logic x l)) us = Unit {0}
-IsNoCall (atom (param k T)) us = Unit {0}
-IsNoCall (index i) us = Unit {0}
-IsNoCall (abs b) us = Unit {0}
-IsNoCall (app t u) us = Unit {0}
-
 -- a goal of the table, or goals, are written in a place of the search
 abbrev pub IsWrittenFlat : Machine → (arity : ℕ → ℕ) → Place → Flat → Type 0
 IsWrittenFlat m ar p f = IsWrittenIn m.bank (blocks_of m.scopes) p.values.scope (λ k bs. WrittenFlat m.bank (shown m.table) ar k bs f)
 
 abbrev pub AreWrittenGoals : Machine → (arity : ℕ → ℕ) → Place → Span → Type 0
 AreWrittenGoals m ar p s = IsWrittenIn m.bank (blocks_of m.scopes) p.values.scope (λ k bs. WrittenGoals m.bank (shown m.table) ar k bs s.from s.to)
-
--- no look at the goal in front comes to a call
-abbrev pub ComesToNoCall : Goal → Type 0
-ComesToNoCall (Atomic w) = (n : ℕ) (t : Term) → head_normal n w ≡ Some t → connective_of t ≡ connective.Atomic → IsNoCall (head_of t) (arguments t)
-ComesToNoCall Cut = Unit {0}
-ComesToNoCall (Either gs hs) = Unit {0}
-ComesToNoCall (Exists T gs) = Unit {0}
-ComesToNoCall (Forall T gs) = Unit {0}
-ComesToNoCall (Assume w cs gs) = Unit {0}
-ComesToNoCall (Not w gs) = Unit {0}
-
-abbrev pub HasNoCall : List Entry → Type 0
-HasNoCall [] = Unit {0}
-HasNoCall (e ∷ es) = ComesToNoCall e.goal

@@ -1,22 +1,17 @@
 -- A call that is at hand: its step is taken, and its clauses are to be tried.
-use Rattle.std.specs.Prelude.{◌≡◌, ◌⊎◌, Bool, ◌<◌, ◌++◌, ℕ, suc, List, [], ◌∷◌, length, Option, None, Some}
+use Rattle.std.specs.Prelude.{◌≡◌, ◌⊎◌, Bool, ◌<◌, ◌++◌, ℕ, zero, suc, List, length, Option, None, Some}
 use Rattle.lp_calculus.specs.Fill.{Within}
 use Rattle.lp_calculus.specs.Spine.{arguments, head_of}
-use Rattle.lp_calculus.specs.Term.{Term, atom, constant}
 use Rattle.lp_lemmas.specs.Each.{EachOf}
-use Rattle.lp_standard.specs.Connectives.{connective_of}
-use Rattle.lp_standard.specs.Connectives as connective
-use Rattle.lp_standard.specs.Constants.{IsOrder}
-use Rattle.lp_standard.specs.Numbers as number
 use Rattle.lp_term.specs.Nodes.{Nodes, Extends, tree}
 use Rattle.lp_term.specs.declared.node.TermId.{TermId}
 use Rattle.lp_model.specs.Branch.{Answer, Branch, Entry, Task}
-use Rattle.lp_model.specs.Flat.{Goal, Atomic, Cut, Either, Exists, Forall, Assume, Not, Clause, Clauses}
-use Rattle.lp_model.specs.Look.{head_normal}
+use Rattle.lp_model.specs.Flat.{Atomic, Clause, Clauses}
 use Rattle.lp_model.specs.Pair.{Closing, closed}
 use Rattle.lp_model.specs.Search.{goal_looked, key_of, look, tries}
-use Rattle.lp_model.specs.Skeleton.{Inner, State}
+use Rattle.lp_model.specs.Skeleton.{Goes, Inner, Note, State, View, move}
 use Rattle.lp_model.specs.Unify.{unit_limit}
+use Rattle.lp_model.specs.declared.ending.Ending.TheVariants.{Deep}
 use Rattle.lp_pattern.specs.Putting.{Known}
 use Rattle.lp_plain.specs.declared.choice.Call.{Call}
 use Rattle.lp_plain.specs.declared.form.Form.{Form}
@@ -29,17 +24,18 @@ use Rattle.lp_plain.specs.declared.outcome.Turn.{Turn}
 use Rattle.lp_plain.specs.Assuming.{IsPlaceAt, head_term, lists_of}
 use Rattle.lp_plain.specs.AtRunTime.{IsAtLooked, IsAtTerm, IsAtomForm}
 use Rattle.lp_plain.specs.Entries.{Around, entry_at}
-use Rattle.lp_plain.specs.Forms.{IsFirst}
+use Rattle.lp_plain.specs.Forms.{IsFirst, StandsForm}
 use Rattle.lp_plain.specs.HeadLooks.{LooksAt, with_bank}
 use Rattle.lp_plain.specs.Heads.{IsKey}
-use Rattle.lp_plain.specs.Moving.{AreFew, HasNoVariable, IsBack, IsCounted, IsGoingOn, IsPlaceUnder, IsRunning, Leads, Query}
+use Rattle.lp_plain.specs.Moving.{AreFew, HasNoVariable, IsBack, IsCounted, IsGoingOn, IsMoved, IsPlaceUnder, IsRunning, IsWaiting, Query}
+use Rattle.lp_plain.specs.Reached.{HasSmallGoal}
 use Rattle.lp_plain.specs.Resuming.{AllOfAssumed, AllOfClause, AllTerms}
 use Rattle.lp_plain.specs.Trials.{IsCallHead}
 use Rattle.lp_plain.specs.TypedStates.{IsTypedOver}
 use Rattle.lp_plain.specs.Trying.{AreApplied, AreOfProgram, HasArity, HasProgram, all_clauses, head_in}
 use Rattle.lp_plain.specs.Within.{IsKeyIn}
 use Rattle.lp_plain.specs.WrittenGoals.{IsProgramClause}
-use Rattle.lp_plain.specs.WrittenTable.{StandsWritten}
+use Rattle.lp_plain.specs.WrittenSearch.{IsWrittenSearch}
 
 -- clauses with heads that name their clauses
 abbrev pub HaveHeads : List Clause → Type 0
@@ -74,57 +70,60 @@ IsLookedAs m n call None None = ⊥
 IsLookedAs m n call None (Some made) = made ≡ call
 IsLookedAs m n call (Some u) None = LooksAt m n u None
 IsLookedAs m n call (Some u) (Some made) =
-    (v : TermId) × (key : Option Key) × (made ≡ record call { first = Some v; key = key }) × LooksAt m n u (Some v) × IsKey n.bank key (key_of (tree n.bank v.0)) × (v.0 < length n.bank.terms → IsKeyIn (length n.bank.terms) key)
+    (v : TermId) × (key : Option Key) × (made ≡ record call { first = Some v; key = key }) × LooksAt m n u (Some v) × IsKey n.bank key
+    (key_of (tree n.bank v.0)) × (v.0 < length n.bank.terms → IsKeyIn (length n.bank.terms) key)
+
+-- where the turn is too deep, fewer than a million steps are allowed for each look, and the expressions of the goal in front are small
+abbrev pub AreFewAt : Turn → (enough : ℕ) → List Task → Type 0
+AreFewAt turn enough ts = turn ≡ Turn.Ended Deep → (enough < 1000000) × HasSmallGoal ts
+
+-- a turn is at most so many moves of the definition more, the last of which is this turn's, and W holds behind it; or it waits
+abbrev pub LeadsWith : (W : Type 0) → ℕ → Query → Turn → (new : Machine) → (go : (Answer → Bool) → State Task → Inner) → (ℕ → Task → View Task Answer) → (before : State Task) → Type 0
+LeadsWith W zero qv turn n go see s = (IsMoved qv turn n (move go see s) s × W) ⊎ IsWaiting (move go see s)
+LeadsWith W (suc j) qv turn n go see s =
+    (IsMoved qv turn n (move go see s) s × W) ⊎ (IsWaiting (move go see s) ⊎ ((k : ℕ) × (ns : List Note) × (t : State Task) ×
+    (move go see s ≡ Goes k ns t) × (t.answers ≡ s.answers) × (t.given ≡ s.given) × LeadsWith W j qv turn n go see t))
+
+-- all in the search is written behind a turn that does not end it
+abbrev pub WrittenBehind : Turn → (new : Machine) → (arity : ℕ → ℕ) → Type 0
+WrittenBehind Turn.On n ar = IsWrittenSearch n ar
+WrittenBehind Turn.Back n ar = IsWrittenSearch n ar
+WrittenBehind Turn.Answered n ar = IsWrittenSearch n ar
+WrittenBehind (Turn.Ended e) n ar = Unit {0}
 
 -- behind its step the call leads there: the tries that the definition leaves of it come to this turn, in at most two moves; or there is none
 abbrev pub LeadsOn : Query → Turn → (new : Machine) → (go : (Answer → Bool) → State Task → Inner) → (enough : ℕ) → List Clause → State Task → Type 0
-LeadsOn qv turn n go enough P s = Leads 1 qv turn n go (look unit_limit enough P) s ⊎ ((turn ≡ Turn.Back) × IsBack qv n s)
+LeadsOn qv turn n go enough P s = LeadsWith (WrittenBehind turn n qv.arity) 1 qv turn n go (look unit_limit enough P) s ⊎ ((turn ≡ Turn.Back) × IsBack qv n s × IsWrittenSearch n qv.arity)
 
 abbrev pub CallLeads : (old new : Machine) → Place → (goal : TermId) → Head → (first : Option TermId) → (behind : Option ℕ) → Turn → Type 0
 CallLeads m n p goal head first behind turn =
-    m.branch.goals ≡ behind → (qv : Query) (a : Around) (rest work : Branch) (below : List Task) (g : IsGoingOn qv m a rest work below) (e : Entry) → IsAtCall qv m a p goal head first g.closing g.levels rest.next e → (css : List Clauses) → IsProgramIn m qv.arity css →
-    StandsWritten m qv.arity → (s : State Task) (k : ℕ) → s.answers ≡ suc k → IsCounted m s → (go : (Answer → Bool) → State Task → Inner) (enough : ℕ) → AreFew turn enough → IsTypedOver qv.arity enough (all_clauses css) s →
+    m.branch.goals ≡ behind → (qv : Query) (a : Around) (rest work : Branch) (below : List Task) (g : IsGoingOn qv m a rest work below) (e : Entry) →
+    IsAtCall qv m a p goal head first g.closing g.levels rest.next e → (css : List Clauses) → IsProgramIn m qv.arity css →
+    IsWrittenSearch m qv.arity → (s : State Task) (k : ℕ) → s.answers ≡ suc k → IsCounted m s → (go : (Answer → Bool) → State Task → Inner)
+    (enough : ℕ) → AreFew turn enough → IsTypedOver qv.arity enough (all_clauses css) s →
     s.stack ≡ tries (all_clauses css) e work (length below) (goal_looked enough (closed g.closing (tree m.bank goal.0))) ++ below → LeadsOn qv turn n go enough (all_clauses css) s
 
 -- so over one program, for a turn that may be too deep
 abbrev pub LeadsOver : ℕ → Query → Turn → (new : Machine) → (before : State Task) → List Clause → Type 0
-LeadsOver j qv turn n s P = (k : ℕ) → s.answers ≡ suc k → (go : (Answer → Bool) → State Task → Inner) (enough : ℕ) → AreFew turn enough → IsTypedOver qv.arity enough P s → Leads j qv turn n go (look unit_limit enough P) s
-
--- TO VANISH: no arithmetic, by the head and the arguments
-abbrev pub IsNoArithmetic : (head : Term) → List Term → Type 0
-IsNoArithmetic (atom (constant c ts)) (l ∷ r ∷ []) = (c ≡ number.Is → ⊥) × (IsOrder c → ⊥)
-IsNoArithmetic t us = Unit {0}
-
--- TO VANISH: a goal that comes to an atom comes to one that is no arithmetic
-abbrev pub ComesToCallable : Goal → Type 0
-ComesToCallable (Atomic w) = (n : ℕ) (t : Term) → head_normal n w ≡ Some t → connective_of t ≡ connective.Atomic → IsNoArithmetic (head_of t) (arguments t)
-ComesToCallable Cut = Unit {0}
-ComesToCallable (Either gs hs) = Unit {0}
-ComesToCallable (Exists T gs) = Unit {0}
-ComesToCallable (Forall T gs) = Unit {0}
-ComesToCallable (Assume w cs gs) = Unit {0}
-ComesToCallable (Not w gs) = Unit {0}
-
--- TO VANISH: so the goal in front, with no assumed clauses
-abbrev pub IsCallable : List Entry → Type 0
-IsCallable [] = Unit {0}
-IsCallable (e ∷ es) = (e.assumed ≡ []) × ComesToCallable e.goal
+LeadsOver j qv turn n s P = (k : ℕ) → s.answers ≡ suc k → (go : (Answer → Bool) → State Task → Inner) (enough : ℕ) → AreFewAt turn enough s.stack →
+    IsTypedOver qv.arity enough P s → LeadsWith (WrittenBehind turn n qv.arity) j qv turn n go (look unit_limit enough P) s
 
 -- the first argument of a call is in the bank
 abbrev pub IsFirstIn : (terms : ℕ) → Form → Type 0
 IsFirstIn k (form.Call hd (Some u)) = u.0 < k
 IsFirstIn k f = Unit {0}
 
--- over the clauses of the search's program, which are written, this leads to the turn in three moves of the definition's search at most
+-- over the clauses of the search's program, where all in it is written, this leads to the turn in three moves of the definition's search at most
 abbrev pub LeadsOf : (old new : Machine) → Query → Turn → (before : State Task) → Type 0
-LeadsOf m n qv turn s = (css : List Clauses) → IsProgramIn m qv.arity css → StandsWritten m qv.arity → LeadsOver 2 qv turn n s (all_clauses css)
+LeadsOf m n qv turn s = (css : List Clauses) → IsProgramIn m qv.arity css → IsWrittenSearch m qv.arity → LeadsOver 2 qv turn n s (all_clauses css)
 
 -- the turn of an atom, as it was looked at
 abbrev pub AtomTurns : (old new : Machine) → Place → (goal : TermId) → Form → (behind : Option ℕ) → Turn → Type 0
 AtomTurns m n p goal f behind turn =
-    (qv : Query) (a : Around) (raw : Branch) (s : State Task) (h : IsRunning qv m a raw s) → IsAtLooked m h.closing a p goal behind raw → IsAtomForm m.bank (tree m.bank goal.0) f → IsFirstIn (length m.bank.terms) f → IsCallable h.at_work.goals →
+    (qv : Query) (a : Around) (raw : Branch) (s : State Task) (h : IsRunning qv m a raw s) → IsAtLooked m h.closing a p goal behind raw → IsAtomForm
+    m.bank (tree m.bank goal.0) f → StandsForm (length m.bank.terms) f → IsFirstIn (length m.bank.terms) f →
     LeadsOf m n qv turn s
 
 -- that of a goal that is known at run time
 abbrev pub TermTurns : (old new : Machine) → Place → (term : TermId) → (behind : Option ℕ) → Turn → Type 0
-TermTurns m n p term behind turn = (qv : Query) (a : Around) (raw : Branch) (s : State Task) (h : IsRunning qv m a raw s) → IsAtTerm m a p term behind raw → IsCallable h.at_work.goals → LeadsOf m n qv turn s
+TermTurns m n p term behind turn = (qv : Query) (a : Around) (raw : Branch) (s : State Task) → IsRunning qv m a raw s → IsAtTerm m a p term behind raw → LeadsOf m n qv turn s

@@ -12,6 +12,10 @@ use Rattle.lp_plain.specs.Entries.{Around, IsBehind, IsBranchAt}
 abbrev pub one_step : Counts → Counts
 one_step c = record { limit = c.limit; steps = c.steps + 1; row = 0; lost = c.lost }
 
+-- a search with one step more
+abbrev pub stepped : Machine → Machine
+stepped m = record m { counts = one_step m.counts }
+
 -- whether an alternative was removed now or before
 abbrev pub cut_off : Counts → Bool → Counts
 cut_off c b = record { limit = c.limit; steps = c.steps; row = c.row; lost = c.lost || b }

@@ -58,6 +58,6 @@ EvaluatesTo b (code.Is v) t = (n : ℕ) (s : Term) → beta_normal n t ≡ Some 
 EvaluatesTo b (code.Faults f) t = (n : ℕ) (s : Term) → beta_normal n t ≡ Some s → IsNoFunction s → model.value (eta_normal s) ≡ Faults f
 EvaluatesTo b code.Deep t = (n : ℕ) (s : Term) → beta_normal n t ≡ Some s → IsNoFunction s → n ≤ 1000000 → nodes s ≤ 1000000 → ⊥
 
--- no abstraction in the normal form has a value, and it has at most a million nodes
+-- no abstraction in the normal form has a value
 abbrev pub IsEvaluable : Term → Type 0
-IsEvaluable t = (n : ℕ) (s : Term) → beta_normal n t ≡ Some s → IsNoFunction s × (nodes s ≤ 1000000)
+IsEvaluable t = (n : ℕ) (s : Term) → beta_normal n t ≡ Some s → IsNoFunction s

@@ -1,5 +1,5 @@
 -- What a search begins with: the flattened clauses of the program in its table, and the branch of the query.
-use Rattle.std.specs.Prelude.{◌≡◌, ℕ, suc, ◌-◌, ◌<◌, List, [], ◌∷◌, map, All, length, Option, None, Some}
+use Rattle.std.specs.Prelude.{◌≡◌, ℕ, suc, ◌-◌, ◌<◌, List, [], ◌∷◌, All, length, Option, None, Some}
 use Rattle.lp_calculus.specs.Term.{Term, atom, logic}
 use Rattle.lp_calculus.specs.Typing.{Scheme}
 use Rattle.lp_term.specs.Nodes.{Nodes}
@@ -19,9 +19,12 @@ use Rattle.lp_plain.specs.Tables.{AreClausesOf}
 abbrev pub AreFormulasIn : Nodes → List ClauseFormula → Type 0
 AreFormulasIn b fs = All (λ f. f.formula.0 < length b.terms) fs
 
--- the flattened clauses of each formula, with enough steps
-abbrev pub AreFlat : (n : ℕ) → (ℕ → Option Scheme) → Nodes → List ClauseFormula → List Clauses → Type 0
-AreFlat n d b fs css = map (λ f. flatten n d (formula_of b f)) fs ≡ map Some css
+-- the flattened clauses of each formula, each with enough steps
+abbrev pub AreFlat : (ℕ → Option Scheme) → Nodes → List ClauseFormula → List Clauses → Type 0
+AreFlat d b [] [] = Unit {0}
+AreFlat d b [] (cs ∷ css) = ⊥
+AreFlat d b (f ∷ fs) [] = ⊥
+AreFlat d b (f ∷ fs) (cs ∷ css) = ((n : ℕ) × (flatten n d (formula_of b f) ≡ Some cs)) × AreFlat d b fs css
 
 -- the clauses of these numbers are these, formula by formula
 abbrev pub AreProgramOf : Nodes → Table → List Span → List Clauses → Type 0

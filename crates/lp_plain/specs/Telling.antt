@@ -1,5 +1,5 @@
 -- What `next` tells, as the definition's search tells it.
-use Rattle.std.specs.Prelude.{◌≡◌, ℕ, ◌<◌, List, [], ◌∷◌, map, Some}
+use Rattle.std.specs.Prelude.{◌≡◌, ℕ, List, [], ◌∷◌, map, Some}
 use Rattle.lp_calculus.specs.Convert.{steps}
 use Rattle.lp_calculus.specs.Term.{Term}
 use Rattle.lp_term.specs.Nodes.{tree}
@@ -11,7 +11,6 @@ use Rattle.lp_model.specs.Readings.{pair_of}
 use Rattle.lp_model.specs.declared.answer.Answer.{Answer}
 use Rattle.lp_model.specs.declared.answer.Event.{Event}
 use Rattle.lp_model.specs.declared.answer.Event.TheVariants as told
-use Rattle.lp_model.specs.declared.ending.Ending.TheVariants.{Deep}
 
 -- some steps of reduction at its head lead from the one term to the other
 abbrev pub IsReduct : Term → Term → Type 0
@@ -35,7 +34,3 @@ IsEventOf (definition_events.Gave x) (told.Answer a) = IsAnswerOf x a
 IsEventOf (definition_events.Gave x) (told.Ended f) = ⊥
 IsEventOf (definition_events.Over e) (told.Answer a) = ⊥
 IsEventOf (definition_events.Over e) (told.Ended f) = f ≡ e
-
--- the event may be told before the definition's, where a look of the definition's search takes a million steps: that the search is too deep
-abbrev pub AreEnough : Event → (steps : ℕ) → Type 0
-AreEnough event n = event ≡ told.Ended Deep → n < 1000000

@@ -5,15 +5,14 @@ ghost use Rattle.lp_model.specs.Skeleton.{State};
 ghost use Rattle.lp_plain.specs.declared.arithmetic.Outcome.TheVariants as code;
 ghost use Rattle.lp_plain.specs.declared.outcome.Turn.{Turn};
 ghost use Rattle.lp_plain.specs.declared.table.Flat.{Flat};
-ghost use Rattle.lp_term.specs.Nodes.{tree};
 ghost use Rattle.lp_plain.specs.Assigned.{Assigns, Compares, ComparesBy, IsAssigned, IsNumber, IsNumberOr, turn_if};
-ghost use Rattle.lp_plain.specs.AtRunTime.{HasNoCall, IsAtLooked, IsAtomForm};
 ghost use Rattle.lp_plain.specs.Cuts.{CutsOff};
 ghost use Rattle.lp_plain.specs.Assuming.{KeepsAssumed};
 ghost use Rattle.lp_plain.specs.Calling.{AtomTurns, CallLeads, IsLookedAs};
 ghost use Rattle.lp_plain.specs.Entries.{Around, KeepsGoals};
-ghost use Rattle.lp_plain.specs.Forms.{StandsForm};
 ghost use Rattle.lp_plain.specs.HeadLooks.{OnlyBank};
+ghost use Rattle.lp_plain.specs.Turns.{IsGoalTurn, KeepsProgram};
+ghost use Rattle.lp_plain.specs.Unifying.{IsBoundIn};
 ghost use Rattle.lp_plain.specs.Moving.{IsAtGoal, IsAtTry, IsRunning, IsTrying, LeadsTo, MovesTo, Query};
 ghost use Rattle.lp_plain.specs.Stacks.{CutsTasks, HaveTasks, IsMarkOf};
 ghost use Rattle.lp_plain.specs.Within.{StandsIn};
@@ -63,7 +62,8 @@ fn tell_goal<W: Watch>(
 }
 
 fn assign(machine: &mut Machine, left: TermId, right: TermId, level: u64) -> Result<Turn, Memory>
-    ensures { IfOk result (Assigns machine.old machine.new left right level) }
+    ensures assigns { IfOk result (Assigns machine.old machine.new left right level) }
+    ensures bound { OnOk result (IsBoundIn machine.old machine.new) }
 {
     match evaluate(machine, right)? {
         Outcome::Deep => Ok(Turn::Ended(Ending::Deep)),
@@ -122,7 +122,8 @@ fn compare(
     left: TermId,
     right: TermId,
 ) -> Result<Turn, Memory>
-    ensures { IfOk result (Compares machine.old machine.new order left right) }
+    ensures compares { IfOk result (Compares machine.old machine.new order left right) }
+    ensures only { OnOk result (OnlyBank machine.old machine.new) }
 {
     match number(machine, left)? {
         Ok(one) => {
@@ -182,6 +183,8 @@ pub(crate) fn try_candidate(
 ) -> Result<Turn, Memory>
     ensures written { OnOk result ((qv : Query) (a : Around) (s : State Task) → IsTrying qv machine.old a call.now candidate s → IsWrittenSearch machine.old qv.arity → IsWrittenSearch machine.new qv.arity) }
     ensures leads { IfOk result (λ turn. (qv : Query) (a : Around) (s : State Task) → IsTrying qv machine.old a call.now candidate s → StandsWritten machine.old qv.arity → LeadsTo 1 qv turn machine.new s) }
+    ensures program { OnOk result (KeepsProgram machine.old machine.new) }
+    ensures ends { IfOk result IsGoalTurn }
 {
     let mark = machine.choices.len();
     put_others(machine, call, candidate)?;
@@ -236,6 +239,8 @@ fn take_call(
     behind: Option<usize>,
 ) -> Result<Turn, Memory>
     ensures leads { IfOk result (CallLeads machine.old machine.new place goal head first behind) }
+    ensures program { OnOk result (KeepsProgram machine.old machine.new) }
+    ensures ends { IfOk result IsGoalTurn }
 {
     let looked = looked_call(machine, goal, head, first, place, behind)?;
     let Some(call) = looked else {
@@ -258,9 +263,9 @@ pub(crate) fn take_atom<W: Watch>(
     place: Place,
     behind: Option<usize>,
 ) -> Result<Turn, Memory>
-    ensures leads { IfOk result (λ turn. (qv : Query) (a : Around) (raw : Branch) (s : State Task) (h : IsRunning qv machine.old a raw s) → IsAtLooked machine.old h.closing a place goal behind raw → IsAtomForm machine.old.bank (tree machine.old.bank goal.0) form →
-        StandsForm (length machine.old.bank.terms) form → HasNoCall h.at_work.goals → LeadsTo 1 qv turn machine.new s) }
-    ensures calls { IfOk result (AtomTurns machine.old machine.new place goal form behind) }
+    ensures leads { IfOk result (AtomTurns machine.old machine.new place goal form behind) }
+    ensures program { OnOk result (KeepsProgram machine.old machine.new) }
+    ensures ends { IfOk result IsGoalTurn }
 {
     if !take_step(machine) {
         return Ok(Turn::Ended(Ending::Steps));
@@ -300,6 +305,8 @@ pub(crate) fn take_cut<W: Watch>(
     ensures moved { IfOk result (λ turn. (qv : Query) (a : Around) (raw : Branch) (s : State Task) → IsRunning qv machine.old a raw s → IsAtGoal machine.old a place Flat.Cut behind raw → MovesTo qv turn machine.new s) }
     ensures written { OnOk result ((ar : ℕ → ℕ) → StandsIn machine.old → IsWrittenSearch machine.old ar → IsWrittenSearch machine.new ar) }
     ensures tasks { IfOk result (λ turn. turn ≡ Turn.On → (tss : List (List Task)) (keep : ℕ) → HaveTasks machine.old tss → IsMarkOf machine.old tss place.mark keep → CutsTasks machine.old machine.new place.mark keep tss) }
+    ensures program { OnOk result (KeepsProgram machine.old machine.new) }
+    ensures ends { IfOk result IsGoalTurn }
 {
     if !take_step(machine) {
         return Ok(Turn::Ended(Ending::Steps));

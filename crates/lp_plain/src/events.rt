@@ -2,16 +2,19 @@
 ghost use Rattle.std.specs.Prelude.{◌≡◌, ℕ, List, true, false, length, Ok, None, Some, IfOk, OnOk, OnErr, IsErr};
 ghost use Rattle.lp_model.specs.Branch.{Answer, Task};
 ghost use Rattle.lp_model.specs.Events.{Advances, Event as Happens};
-ghost use Rattle.lp_model.specs.Flat.{Clause};
-ghost use Rattle.lp_model.specs.Search.{look};
+ghost use Rattle.lp_model.specs.Flat.{Clause, Goals};
+ghost use Rattle.lp_model.specs.Proofs.{Declared};
+ghost use Rattle.lp_model.specs.Search.{look, start as first_state};
 ghost use Rattle.lp_model.specs.Skeleton.{State};
 ghost use Rattle.lp_model.specs.Unify.{unit_limit};
 ghost use Rattle.lp_model.specs.declared.ending.Ending.{Ending};
 ghost use Rattle.lp_model.specs.declared.answer.Event.TheVariants as told;
 ghost use Rattle.lp_model.specs.Whole.{IsTold, Keeps};
 ghost use Rattle.lp_plain.specs.Held.{variables_of, query_of, ended, failed};
-ghost use Rattle.lp_plain.specs.Telling.{AreEnough, IsEventOf};
-ghost use Rattle.lp_plain.specs.inner.Between.{IsBetween, IsNoted, IsToTell};
+ghost use Rattle.lp_plain.specs.Begun.{Begins};
+ghost use Rattle.lp_plain.specs.Between.{AreEnough, IsBetween};
+ghost use Rattle.lp_plain.specs.Telling.{IsEventOf};
+ghost use Rattle.lp_plain.specs.inner.Between.{IsNoted, IsToTell};
 ghost use Rattle.lp_plain.specs.inner.Following.{Course, Stands, turn_told};
 
 use crate::answer::answer_of;
@@ -99,6 +102,7 @@ impl Search {
     ) -> Result<Search, Memory>
         ensures variables { IfOk result (λ s. variables_of s ≡ length query.vars.items) }
         ensures query { IfOk result (λ s. query_of s ≡ query) }
+        ensures begins { IfOk result (λ s. (d : Declared) (P : List Clause) (gs : Goals) → Begins d program query P gs → (n : ℕ) → IsBetween P n s (first_state query.type_vars (length query.vars.items) gs steps answers)) }
     {
         let Started {
             machine,
@@ -156,7 +160,7 @@ impl Search {
         ensures told { IfOk result (IsTold (variables_of self.old)) }
         ensures ended { ended self.old ≡ None → IfOk result (λ event. Keeps event (ended self.new)) }
         ensures failed { failed self.new ≡ failed self.old }
-        ensures search { IfOk result (λ event. (c : Course) → IsToTell self.old c → Stands c first self.old.machine → AreEnough event c.enough → IsEventOf c.event event × IsBetween c.program c.enough self.new c.after) }
+        ensures search { IfOk result (λ event. (c : Course) → IsToTell self.old c → Stands c first self.old.machine → AreEnough c.program c.enough c.begin event → IsEventOf c.event event × IsBetween c.program c.enough self.new c.after) }
     {
         let found = run(&mut self.machine, crowd, first)?;
         match found {
@@ -177,7 +181,7 @@ impl Search {
         ensures told { IfOk result (IsTold (variables_of self.old)) }
         ensures ended { ended self.old ≡ None → IfOk result (λ event. Keeps event (ended self.new)) }
         ensures failed { failed self.new ≡ failed self.old }
-        ensures search { IfOk result (λ event. ended self.old ≡ None → (P : List Clause) (n : ℕ) (s : State Task) → IsBetween P n self.old s → AreEnough event n → (x : Happens Answer) (t : State Task) → Advances (look unit_limit n P) s x t → IsEventOf x event × IsBetween P n self.new t) }
+        ensures search { IfOk result (λ event. ended self.old ≡ None → (P : List Clause) (n : ℕ) (s : State Task) → IsBetween P n self.old s → AreEnough P n s event → (x : Happens Answer) (t : State Task) → Advances (look unit_limit n P) s x t → IsEventOf x event × IsBetween P n self.new t) }
     {
         if self.given >= self.answers {
             return Ok(self.end(Ending::Enough));
@@ -200,6 +204,7 @@ impl Search {
         ensures failed { failed self.old ≡ true → IsErr result }
         ensures going { OnOk result (failed self.new ≡ false) }
         ensures ended { IfOk result (λ event. Keeps event (ended self.new)) }
+        ensures search { IfOk result (λ event. (P : List Clause) (n : ℕ) (s : State Task) → IsBetween P n self.old s → AreEnough P n s event → (x : Happens Answer) (t : State Task) → Advances (look unit_limit n P) s x t → IsEventOf x event × IsBetween P n self.new t) }
         ensures stays { failed self.old ≡ false → (e : Ending) → ended self.old ≡ Some e → result ≡ Ok (told.Ended e) }
     {
         if self.failed {

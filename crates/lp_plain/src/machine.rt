@@ -8,6 +8,7 @@ ghost use Rattle.lp_model.specs.Flat.{Clause, Clauses, Goal};
 ghost use Rattle.lp_model.specs.Search.{candidates, has_head, passes};
 ghost use Rattle.lp_plain.specs.Assuming.{HasAssumed, HasFrameAt, KeepsAssumed, lists_of};
 ghost use Rattle.lp_plain.specs.Cuts.{cut_off};
+ghost use Rattle.lp_plain.specs.Denials.{searching_as};
 ghost use Rattle.lp_plain.specs.Entries.{Around, AreTodo, IsListAt, HasAlternative, KeepsGoals, Reads, placed};
 ghost use Rattle.lp_calculus.specs.Instance.{instance_term};
 ghost use Rattle.lp_model.specs.Index.{instantiate};
@@ -302,6 +303,8 @@ impl Machine {
         ensures frames { self.new.frames ≡ self.old.frames }
         ensures assumed { KeepsAssumed self.old self.new }
         ensures around { IfSome (slice_get self.old.choices.items number) (λ c. IsAround c.untried self.new) }
+        ensures only { self.new ≡ searching_as self.old self.new }
+        ensures counts { self.new.counts ≡ record self.old.counts { lost = self.new.counts.lost } }
     {
         if let Some(
             Choice {

@@ -2,14 +2,20 @@
 ghost use Rattle.std.specs.Prelude.{◌≡◌, ◌≢◌, ◌+◌, ◌≤◌, ℕ, [], length, take, true, false, None, Some, OnOk, IfOk};
 ghost use Rattle.lp_model.specs.declared.ending.Ending.{Ending};
 ghost use Rattle.lp_plain.specs.declared.choice.Untried.{Untried};
+ghost use Rattle.lp_plain.specs.declared.table.Flat.{Flat};
 ghost use Rattle.lp_plain.specs.declared.outcome.Turn.{Turn};
 ghost use Rattle.lp_calculus.specs.Term.{Term};
-ghost use Rattle.lp_model.specs.Branch.{Branch};
+ghost use Rattle.lp_model.specs.Branch.{Branch, Task};
 ghost use Rattle.lp_model.specs.Flat.{Goals, Written, Not as Denied};
 ghost use Rattle.lp_model.specs.Search.{look_not};
+ghost use Rattle.lp_model.specs.Skeleton.{State};
+ghost use Rattle.lp_plain.specs.Denials.{IsBegun, IsHeldBy, TakesDenied, goes_around};
 ghost use Rattle.lp_plain.specs.Entries.{Around as Reading, GrowsGoals, IsBehind, IsOf, entry_at, in_scope};
+ghost use Rattle.lp_plain.specs.HeadLooks.{OnlyBank};
 ghost use Rattle.lp_plain.specs.Keeping.{HasOneMore};
+ghost use Rattle.lp_plain.specs.Moving.{IsAtGoal, IsRunning, IsState, Query};
 ghost use Rattle.lp_plain.specs.Negations.{denial, AreFound, IsDenied, Takes};
+ghost use Rattle.lp_plain.specs.Turns.{IsGoalTurn, KeepsProgram};
 ghost use Rattle.lp_plain.specs.Within.{StandsIn};
 ghost use Rattle.lp_plain.specs.WrittenSearch.{IsWrittenSearch, WritesList};
 
@@ -35,7 +41,9 @@ fn begin(
     ensures lost { OnOk result (machine.new.counts.lost ≡ false) }
     ensures steps { OnOk result (machine.new.counts.steps ≡ machine.old.counts.steps) }
     ensures pairs { OnOk result (machine.new.branch.pairs.items ≡ []) }
+    ensures program { OnOk result (KeepsProgram machine.old machine.new) }
     ensures written { OnOk result (WritesList machine.old machine.new place [] goals) }
+    ensures begun { OnOk result (IsBegun machine.old machine.new place goals behind) }
     ensures inner { OnOk result ((a : Reading) (hs : Goals) (σ : ℕ → Term) (b : Branch) (w : Written) → IsOf machine.old place goals hs σ → machine.old.branch.next ≡ b.next → machine.old.branch.next_type ≡ b.next_type → a.mark (length machine.new.choices.items) ≡ 0 →
         let gs : Goals = in_scope σ place.values.types hs in IsDenied machine.new a (look_not (entry_at a place (Denied w gs)) b gs (Some false))) }
 {
@@ -57,6 +65,7 @@ fn begin(
 
 // Whether a negated goal is open in which this is written.
 fn openness_at(machine: &mut Machine, free: usize, place: Place) -> Result<Openness, Memory>
+    ensures bank { OnOk result (OnlyBank machine.old machine.new) }
     ensures counts { machine.new.counts ≡ machine.old.counts }
     ensures choices { machine.new.choices ≡ machine.old.choices }
     ensures denied { machine.new.denied ≡ machine.old.denied }
@@ -65,6 +74,7 @@ fn openness_at(machine: &mut Machine, free: usize, place: Place) -> Result<Openn
     ensures assumptions { machine.new.assumptions ≡ machine.old.assumptions }
     ensures newest { machine.new.newest ≡ machine.old.newest }
     ensures grows { OnOk result (GrowsGoals machine.old machine.new) }
+    ensures program { OnOk result (KeepsProgram machine.old machine.new) }
     ensures stands { OnOk result (StandsIn machine.old → StandsIn machine.new) }
     ensures found { IfOk result (AreFound machine.old (record { free = free; values = place.values; older = place.standing })) }
 {
@@ -93,7 +103,10 @@ pub(crate) fn take_not<W: Watch>(
     behind: Option<usize>,
 ) -> Result<Turn, Memory>
     ensures takes { IfOk result (λ turn. Takes turn (record { free = free; values = place.values; older = place.standing }) machine.old machine.new behind) }
+    ensures denies { IfOk result (λ turn. (qv : Query) (a : Reading) (raw : Branch) (s : State Task) (h : IsRunning qv machine.old a raw s) → IsAtGoal machine.old a place (Flat.Not goals free) behind raw → TakesDenied turn qv machine.new s h.at_work.goals) }
     ensures written { IfOk result (λ turn. turn ≡ Turn.On → WritesList machine.old machine.new place [] goals) }
+    ensures program { OnOk result (KeepsProgram machine.old machine.new) }
+    ensures ends { IfOk result IsGoalTurn }
     ensures inner { IfOk result (λ turn. turn ≡ Turn.On → (a : Reading) (hs : Goals) (σ : ℕ → Term) (b : Branch) (w : Written) → StandsIn machine.old → IsOf machine.old place goals hs σ → IsBehind machine.old a behind b → a.mark (length machine.new.choices.items) ≡ 0 →
         let gs : Goals = in_scope σ place.values.types hs in IsDenied machine.new a (look_not (entry_at a place (Denied w gs)) b gs (Some false))) }
 {
@@ -119,6 +132,8 @@ pub(crate) fn end_branch(machine: &mut Machine) -> Turn
     ensures written { (ar : ℕ → ℕ) → StandsIn machine.old → IsWrittenSearch machine.old ar → IsWrittenSearch machine.new ar }
     ensures fails { (number : ℕ) → machine.old.denied ≡ Some number → machine.old.branch.pairs.items ≡ [] → (result ≡ Turn.Back) × (machine.new.choices.items ≡ take number machine.old.choices.items) }
     ensures steps { machine.new.counts.steps ≡ machine.old.counts.steps }
+    ensures program { KeepsProgram machine.old machine.new }
+    ensures held { (qv : Query) (s : State Task) → IsState qv machine.old s → machine.old.branch.goals ≡ None → (number : ℕ) → machine.old.denied ≡ Some number → IsHeldBy qv result machine.new s }
 {
     let Some(number) = machine.denied else {
         return Turn::Answered;
@@ -140,6 +155,8 @@ pub(crate) fn end_denial(machine: &mut Machine, denial: Denial) -> Turn
     ensures written { (ar : ℕ → ℕ) → IsWrittenSearch machine.old ar → IsWrittenSearch machine.new ar }
     ensures behind { machine.new.branch.goals ≡ denial.behind }
     ensures steps { machine.new.counts.steps ≡ machine.old.counts.steps }
+    ensures program { KeepsProgram machine.old machine.new }
+    ensures only { machine.new ≡ goes_around machine.old denial }
 {
     let lost = machine.counts.lost;
     machine.denied = denial.around;

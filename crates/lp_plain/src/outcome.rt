@@ -2,7 +2,7 @@
 ghost use Rattle.std.specs.Prelude.{◌≡◌, ◌+◌, ◌<◌, ◌≤◌, true, false};
 ghost use Rattle.lp_plain.specs.Apart.{apart, one_apart};
 ghost use Rattle.lp_plain.specs.Assuming.{KeepsAssumed};
-ghost use Rattle.lp_plain.specs.Cuts.{one_step};
+ghost use Rattle.lp_plain.specs.Cuts.{one_step, stepped};
 ghost use Rattle.lp_plain.specs.Entries.{KeepsGoals};
 ghost use Rattle.lp_plain.specs.Keeping.{KeepsKnown};
 ghost use Rattle.lp_plain.specs.Moving.{turn_for};
@@ -60,6 +60,7 @@ pub(crate) fn take_step(machine: &mut Machine) -> bool
     ensures there { result ≡ true → machine.old.counts.steps < machine.old.counts.limit }
     ensures frames { machine.new.frames ≡ machine.old.frames }
     ensures assumed { KeepsAssumed machine.old machine.new }
+    ensures stepped { result ≡ true → machine.new ≡ stepped machine.old }
 {
     if machine.counts.steps >= machine.counts.limit {
         return false;

@@ -25,6 +25,7 @@ ghost use Rattle.lp_plain.specs.Moving.{BindsNone, PutsWith};
 ghost use Rattle.lp_plain.specs.Opening.{IsBoundBy, IsNewVariable, IsRaised};
 ghost use Rattle.lp_plain.specs.Tables.{AreClausesOf, IsNumbered, shown};
 ghost use Rattle.lp_plain.specs.Taking.{IsApartFlat, IsApartForm, KeepsNew, TakesApart, TakesKnown};
+ghost use Rattle.lp_plain.specs.Turns.{IsGoalTurn, KeepsProgram};
 ghost use Rattle.lp_plain.specs.Within.{StandsIn};
 ghost use Rattle.lp_plain.specs.WrittenSearch.{IsShut, IsShutIn, WritesBoth, WritesFlat, WritesList, WritesWhere};
 
@@ -176,6 +177,8 @@ pub(crate) fn put_parts(
     ensures aside_with { IfOk result (λ turn. turn ≡ Turn.On → IsApartFlat goal → PutsWith machine.old machine.new) }
     ensures marks { IfOk result (λ turn. turn ≡ Turn.On → IsApartFlat goal → PutsMarks machine.old machine.new place behind machine.new.branch.goals) }
     ensures aside { IfOk result (λ turn. turn ≡ Turn.On → IsApartFlat goal → PutsAside machine.old machine.new place behind) }
+    ensures program { OnOk result (KeepsProgram machine.old machine.new) }
+    ensures ends { IfOk result IsGoalTurn }
     ensures assume { IfOk result (λ turn. turn ≡ Turn.On → (s : Span) (l free : ℕ) → goal ≡ Flat.Assume s l free → (a : Around) (cs : Clauses) (hs : Goals) (σ : ℕ → Term) (b : Branch) → StandsIn machine.old → ArePlaced machine.old a → IsPlaceAt (lists_of machine.old) a place →
         AreClausesOf machine.old.bank machine.old.table s cs → IsNumbered (shown machine.old.table).frees free (λ f. collect_clauses f 0 cs) → IsOf machine.old place l hs σ → IsBehind machine.old a behind b → (u n height : ℕ) (P : List Clause) →
         let g : Goal = Assume (written_at σ place.values.types (written_in_clauses cs)) (clauses_in σ place.values.types cs) (in_scope σ place.values.types hs) in AssumesFor machine.old machine.new a (look_goal u n P height (entry_at a place g) b g)) }
@@ -361,6 +364,8 @@ pub(crate) fn put_connective(
     behind: Option<usize>,
 ) -> Result<Turn, Memory>
     ensures counted { IfOk result (λ turn. IsApart turn machine.old.counts machine.new.counts) }
+    ensures program { OnOk result (KeepsProgram machine.old machine.new) }
+    ensures ends { IfOk result IsGoalTurn }
     ensures none { IfOk result (λ turn. turn ≡ Turn.On → IsApartForm connective → BindsNone machine.old machine.new) }
     ensures aside_with { IfOk result (λ turn. turn ≡ Turn.On → IsApartForm connective → PutsWith machine.old machine.new) }
     ensures written { IfOk result (λ turn. turn ≡ Turn.On → IsApartForm connective → WritesWhere machine.old machine.new (IsShutIn machine.old.bank connective)) }

@@ -94,7 +94,7 @@ fn put_program(
     ensures kept { OnOk result (Extends bank.old bank.new) }
     ensures within { OnOk result (IsTableIn (length bank.old.terms) table.old → IsTableIn (length bank.new.terms) table.new) }
     ensures ends { IfOk result (λ spans. All (λ s. s.to ≤ length table.new.rules.items) spans.items) }
-    ensures program { IfOk result (λ spans. IsTableIn (length bank.old.terms) table.old → AreFormulasIn bank.old formulas.now.items → (n : ℕ) (d : ℕ → Option Scheme) (css : List Clauses) → AreFlat n d bank.old formulas.now.items css → AreProgramOf bank.new table.new spans.items css) }
+    ensures program { IfOk result (λ spans. IsTableIn (length bank.old.terms) table.old → AreFormulasIn bank.old formulas.now.items → (d : ℕ → Option Scheme) (css : List Clauses) → AreFlat d bank.old formulas.now.items css → AreProgramOf bank.new table.new spans.items css) }
 {
     let mut spans = Vec::new(alloc);
     'formulas: for at in 0..formulas.len() {
@@ -124,7 +124,7 @@ fn put_all(
     ensures within { IfOk result (λ made. IsTableIn (length bank.new.terms) made.table) }
     ensures ends { IfOk result (λ made. All (λ k. k < length made.table.rules.items) (numbers made.spans.items)) }
     ensures index { IfOk result (λ made. IsIndex bank.new made.table.rules.items (λ c. get nat_eq made.index c) (numbers made.spans.items)) }
-    ensures program { IfOk result (λ made. AreFormulasIn bank.old formulas.now.items → (n : ℕ) (d : ℕ → Option Scheme) (css : List Clauses) → AreFlat n d bank.old formulas.now.items css → AreProgramOf bank.new made.table made.spans.items css) }
+    ensures program { IfOk result (λ made. AreFormulasIn bank.old formulas.now.items → (d : ℕ → Option Scheme) (css : List Clauses) → AreFlat d bank.old formulas.now.items css → AreProgramOf bank.new made.table made.spans.items css) }
     ensures query { IfOk result (λ made. query.now.formula.0 < length bank.old.terms → (n : ℕ) (d : ℕ → Option Scheme) (flat : Goals) → flatten_query n d (tree bank.old query.now.formula.0) ≡ Some flat → IsListOf bank.new made.table made.list flat) }
 {
     let mut table = Table::new(alloc);
@@ -189,7 +189,8 @@ pub(crate) fn begin(
     ensures query { IfOk result (λ s. s.source.query ≡ query) }
     ensures stands { IfOk result (λ s. StandsIn s.machine) }
     ensures index { IfOk result (λ s. IsIndex s.machine.bank s.machine.table.rules.items (λ c. get nat_eq s.machine.index c) (numbers s.source.spans.items)) }
-    ensures program { IfOk result (λ s. AreFormulasIn program.bank program.clauses.items → (n : ℕ) (d : ℕ → Option Scheme) (css : List Clauses) → AreFlat n d program.bank program.clauses.items css → AreProgramOf s.machine.bank s.machine.table s.source.spans.items css) }
+    ensures ends { IfOk result (λ s. All (λ k. k < length s.machine.table.rules.items) (numbers s.source.spans.items)) }
+    ensures program { IfOk result (λ s. AreFormulasIn program.bank program.clauses.items → (d : ℕ → Option Scheme) (css : List Clauses) → AreFlat d program.bank program.clauses.items css → AreProgramOf s.machine.bank s.machine.table s.source.spans.items css) }
     ensures starts { IfOk result (λ s. query.formula.0 < length program.bank.terms → (n : ℕ) (d : ℕ → Option Scheme) (flat : Goals) → flatten_query n d (tree program.bank query.formula.0) ≡ Some flat → (a : Around) → IsOutermost a → (answers : ℕ) →
         IsAlone s.machine a (start query.type_vars (length query.vars.items) flat limit answers).stack) }
     ensures state { IfOk result (λ s. query.formula.0 < length program.bank.terms → (n : ℕ) (d : ℕ → Option Scheme) (flat : Goals) → flatten_query n d (tree program.bank query.formula.0) ≡ Some flat → (a : Around) → IsOutermost a → (answers : ℕ) →

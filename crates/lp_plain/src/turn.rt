@@ -15,8 +15,9 @@ ghost use Rattle.lp_plain.specs.Assuming.{KeepsAssumed};
 ghost use Rattle.lp_standard.specs.Connectives.{connective_of};
 ghost use Rattle.lp_term.specs.Nodes.{Nodes, tree};
 ghost use Rattle.lp_model.specs.Connected.{connective_in};
-ghost use Rattle.lp_plain.specs.AtRunTime.{AreWrittenGoals, HasNoCall, IsAtomFirst, IsAtomForm, IsAtomOrNoForm, IsAtTerm, IsWrittenFlat};
-ghost use Rattle.lp_plain.specs.Calling.{IsCallable, IsFirstIn, LeadsOf, TermTurns};
+ghost use Rattle.lp_plain.specs.AtRunTime.{AreWrittenGoals, IsAtomFirst, IsAtomForm, IsAtomOrNoForm, IsWrittenFlat};
+ghost use Rattle.lp_plain.specs.Calling.{IsFirstIn, LeadsOf, TermTurns, WrittenBehind};
+ghost use Rattle.lp_plain.specs.Denials.{IsDeniedFirst, IsHeldBy, IsRefutedBy, TakesDenied};
 ghost use Rattle.lp_plain.specs.Entries.{Around, KeepsGoals};
 ghost use Rattle.lp_plain.specs.Forms.{StandsForm};
 ghost use Rattle.lp_plain.specs.Marks.{AreMarked, IsMarked, Marks, PutsAside, PutsMarks, SetsAside};
@@ -26,6 +27,7 @@ ghost use Rattle.lp_plain.specs.Searching.{EndsSo, GoesOnOrStops, IsBackOf, IsQu
 ghost use Rattle.lp_plain.specs.Stacks.{base_of};
 ghost use Rattle.lp_plain.specs.Tables.{AreGoals, Never, shown};
 ghost use Rattle.lp_plain.specs.Taking.{FirstIsApart, IsApartFirst, IsApartFlat, IsApartForm, TakesApart, TakesGoals};
+ghost use Rattle.lp_plain.specs.Turns.{IsGoalTurn, KeepsProgram};
 ghost use Rattle.lp_plain.specs.Within.{StandsIn};
 ghost use Rattle.lp_plain.specs.WrittenSearch.{IsApartAtHand, IsWrittenSearch, WritesFlat, WritesGoals};
 ghost use Rattle.lp_plain.specs.inner.Following.{Course, Stands};
@@ -59,8 +61,12 @@ fn take_flat<W: Watch>(
     ensures aside { IfOk result (λ turn. turn ≡ Turn.On → IsApartFlat goal → PutsAside machine.old machine.new place behind) }
     ensures counted { IfOk result (λ turn. IsApartFlat goal → IsApart turn machine.old.counts machine.new.counts) }
     ensures moved { IfOk result (λ turn. (qv : Query) (a : Around) (raw : Branch) (s : State Task) → IsRunning qv machine.old a raw s → IsAtGoal machine.old a place goal behind raw → IsPlainFirst raw.goals → MovesTo qv turn machine.new s) }
-    ensures leads { IfOk result (λ turn. (qv : Query) (a : Around) (raw : Branch) (s : State Task) (h : IsRunning qv machine.old a raw s) → IsAtGoal machine.old a place goal behind raw → IsAtomFirst raw.goals → IsWrittenFlat machine.old qv.arity place goal → HasNoCall h.at_work.goals → LeadsTo 1 qv turn machine.new s) }
-    ensures calls { IfOk result (λ turn. (qv : Query) (a : Around) (raw : Branch) (s : State Task) (h : IsRunning qv machine.old a raw s) → IsAtGoal machine.old a place goal behind raw → IsAtomFirst raw.goals → IsWrittenFlat machine.old qv.arity place goal → IsCallable h.at_work.goals → LeadsOf machine.old machine.new qv turn s) }
+    ensures leads { IfOk result (λ turn. (qv : Query) (a : Around) (raw : Branch) (s : State Task) → IsRunning qv machine.old a raw s → IsAtGoal machine.old a place goal behind raw → IsAtomFirst raw.goals → IsWrittenFlat machine.old qv.arity place goal → LeadsOf machine.old machine.new qv turn s) }
+    ensures stays { IfOk result (λ turn. (a : Around) (raw : Branch) → IsAtGoal machine.old a place goal behind raw → IsPlainFirst raw.goals → (ar : ℕ → ℕ) → StandsIn machine.old → IsWrittenFlat machine.old ar place goal → IsWrittenSearch machine.old ar → WrittenBehind turn machine.new ar) }
+    ensures program { OnOk result (KeepsProgram machine.old machine.new) }
+    ensures ends { IfOk result IsGoalTurn }
+    ensures denied_stays { IfOk result (λ turn. (a : Around) (raw : Branch) → IsAtGoal machine.old a place goal behind raw → IsDeniedFirst raw.goals → (ar : ℕ → ℕ) → StandsIn machine.old → IsWrittenFlat machine.old ar place goal → IsWrittenSearch machine.old ar → turn ≡ Turn.On → IsWrittenSearch machine.new ar) }
+    ensures denies { IfOk result (λ turn. (qv : Query) (a : Around) (raw : Branch) (s : State Task) (h : IsRunning qv machine.old a raw s) → IsAtGoal machine.old a place goal behind raw → IsDeniedFirst raw.goals → TakesDenied turn qv machine.new s h.at_work.goals) }
 {
     match goal {
         Flat::Atom(term) => {
@@ -125,8 +131,9 @@ fn take_term<W: Watch>(
     place: Place,
     behind: Option<usize>,
 ) -> Result<Turn, Memory>
-    ensures leads { IfOk result (λ turn. (qv : Query) (a : Around) (raw : Branch) (s : State Task) (h : IsRunning qv machine.old a raw s) → IsAtTerm machine.old a place term behind raw → HasNoCall h.at_work.goals → LeadsTo 1 qv turn machine.new s) }
-    ensures calls { IfOk result (TermTurns machine.old machine.new place term behind) }
+    ensures leads { IfOk result (TermTurns machine.old machine.new place term behind) }
+    ensures program { OnOk result (KeepsProgram machine.old machine.new) }
+    ensures ends { IfOk result IsGoalTurn }
 {
     let Some(goal) = head_normal(machine, term)? else {
         return Ok(Turn::Ended(Ending::Deep));
@@ -155,8 +162,12 @@ fn take_first<W: Watch>(
     ensures aside { IfOk result (λ turn. turn ≡ Turn.On → (hs : Goals) → goals.from < goals.to → AreGoals machine.old.bank Never (shown machine.old.table) goals.from goals.to hs → FirstIsApart hs → PutsAside machine.old machine.new place behind) }
     ensures counted { IfOk result (λ turn. (hs : Goals) → goals.from < goals.to → AreGoals machine.old.bank Never (shown machine.old.table) goals.from goals.to hs → FirstIsApart hs → IsApart turn machine.old.counts machine.new.counts) }
     ensures moved { IfOk result (λ turn. (qv : Query) (a : Around) (raw : Branch) (s : State Task) → IsRunning qv machine.old a raw s → IsAtGoals machine.old a place goals behind raw → IsPlainFirst raw.goals → MovesTo qv turn machine.new s) }
-    ensures leads { IfOk result (λ turn. (qv : Query) (a : Around) (raw : Branch) (s : State Task) (h : IsRunning qv machine.old a raw s) → IsAtGoals machine.old a place goals behind raw → IsAtomFirst raw.goals → AreWrittenGoals machine.old qv.arity place goals → HasNoCall h.at_work.goals → LeadsTo 1 qv turn machine.new s) }
-    ensures calls { IfOk result (λ turn. (qv : Query) (a : Around) (raw : Branch) (s : State Task) (h : IsRunning qv machine.old a raw s) → IsAtGoals machine.old a place goals behind raw → IsAtomFirst raw.goals → AreWrittenGoals machine.old qv.arity place goals → IsCallable h.at_work.goals → LeadsOf machine.old machine.new qv turn s) }
+    ensures leads { IfOk result (λ turn. (qv : Query) (a : Around) (raw : Branch) (s : State Task) → IsRunning qv machine.old a raw s → IsAtGoals machine.old a place goals behind raw → IsAtomFirst raw.goals → AreWrittenGoals machine.old qv.arity place goals → LeadsOf machine.old machine.new qv turn s) }
+    ensures stays { IfOk result (λ turn. (a : Around) (raw : Branch) → IsAtGoals machine.old a place goals behind raw → IsPlainFirst raw.goals → (ar : ℕ → ℕ) → StandsIn machine.old → AreWrittenGoals machine.old ar place goals → IsWrittenSearch machine.old ar → WrittenBehind turn machine.new ar) }
+    ensures program { OnOk result (KeepsProgram machine.old machine.new) }
+    ensures ends { IfOk result IsGoalTurn }
+    ensures denied_stays { IfOk result (λ turn. (a : Around) (raw : Branch) → IsAtGoals machine.old a place goals behind raw → IsDeniedFirst raw.goals → (ar : ℕ → ℕ) → StandsIn machine.old → AreWrittenGoals machine.old ar place goals → IsWrittenSearch machine.old ar → turn ≡ Turn.On → IsWrittenSearch machine.new ar) }
+    ensures denies { IfOk result (λ turn. (qv : Query) (a : Around) (raw : Branch) (s : State Task) (h : IsRunning qv machine.old a raw s) → IsAtGoals machine.old a place goals behind raw → IsDeniedFirst raw.goals → TakesDenied turn qv machine.new s h.at_work.goals) }
 {
     let goal = machine.table.goal(goals.from)?;
     let Some(second) = goals.from.checked_add(1) else {
@@ -189,8 +200,9 @@ pub(crate) fn take_goal<W: Watch>(
     ensures answered { IfOk result (λ turn. (qv : Query) (s : State Task) → IsState qv machine.old s → machine.old.branch.goals ≡ None → machine.old.denied ≡ None → (turn ≡ Turn.Answered) × MovesTo qv turn machine.new s) }
     ensures moved { IfOk result (λ turn. (qv : Query) (s : State Task) (h : IsState qv machine.old s) → IsPlainFirst h.raw.goals → MovesTo qv turn machine.new s) }
     ensures stands { IfOk result (λ turn. (c : Course) → Stands c Turn.On machine.old → Stands c turn machine.new) }
-    ensures leads { IfOk result (λ turn. (qv : Query) (s : State Task) (h : IsState qv machine.old s) → IsAtomFirst h.raw.goals → IsWrittenSearch machine.old qv.arity → HasNoCall h.running.at_work.goals → LeadsTo 1 qv turn machine.new s) }
-    ensures calls { IfOk result (λ turn. (qv : Query) (s : State Task) (h : IsState qv machine.old s) → IsAtomFirst h.raw.goals → IsWrittenSearch machine.old qv.arity → IsCallable h.running.at_work.goals → LeadsOf machine.old machine.new qv turn s) }
+    ensures leads { IfOk result (λ turn. (qv : Query) (s : State Task) (h : IsState qv machine.old s) → IsAtomFirst h.raw.goals → IsWrittenSearch machine.old qv.arity → LeadsOf machine.old machine.new qv turn s) }
+    ensures denies { IfOk result (λ turn. (qv : Query) (s : State Task) (h : IsState qv machine.old s) → IsDeniedFirst h.raw.goals → TakesDenied turn qv machine.new s h.running.at_work.goals) }
+    ensures held { IfOk result (λ turn. (qv : Query) (s : State Task) → IsState qv machine.old s → machine.old.branch.goals ≡ None → (number : ℕ) → machine.old.denied ≡ Some number → IsHeldBy qv turn machine.new s) }
 {
     let Some(number) = machine.branch.goals else {
         return Ok(end_branch(machine));
@@ -250,6 +262,7 @@ pub(crate) fn go_back(machine: &mut Machine) -> Result<Turn, Memory>
     ensures tries_written { OnOk result ((c : Choice) (rest : List Choice) (call : Called) (one : Tried) → machine.old.choices.items ≡ rest ++ c ∷ [] → c.untried ≡ Untried.Clauses call one → base_of machine.old.denied ≤ length rest → (qv : Query) (s : State Task) → IsBack qv machine.old s →
         IsWrittenSearch machine.old qv.arity → IsWrittenSearch machine.new qv.arity) }
     ensures denied_written { OnOk result ((c : Choice) (rest : List Choice) (d : Denial) → machine.old.choices.items ≡ rest ++ c ∷ [] → c.untried ≡ Untried.Denied d → (ar : ℕ → ℕ) → IsWrittenSearch machine.old ar → IsWrittenSearch machine.new ar) }
+    ensures refuted { IfOk result (λ turn. (c : Choice) (rest : List Choice) (d : Denial) → machine.old.choices.items ≡ rest ++ c ∷ [] → c.untried ≡ Untried.Denied d → (qv : Query) (s : State Task) → IsBack qv machine.old s → IsRefutedBy qv turn machine.new s) }
     ensures ends { IfOk result (λ turn. machine.old.choices.items ≡ [] → (a : Around) (s : State Task) → IsBackOf machine.old a s → EndsSo turn machine.old.counts.lost s) }
     ensures stands { IfOk result (λ turn. (c : Course) → Stands c Turn.Back machine.old → Stands c turn machine.new) }
 {

@@ -16,10 +16,10 @@ at_told P told held e h = subst (λ o. IfSome o P) e h
 pub not_meant : (told : Option Held) (held : Held) (order : Held → Order) (m : Meaning) → told ≡ Some held → order held ≡ Beyond → IfSome told (λ held. order held ≡ Search m) → ⊥
 not_meant told held order m e b h = let f : order held ≡ Search m = at_told (λ x. order x ≡ Search m) told held e h in let g : Beyond ≡ Search m = sym b ∙ f in cc
 
--- a refusal is the first one
-pub first_refusal : (told : Option Held) (name query : List ℕ) (held : Held) (order : Held → Order) (r : Refusal) → told ≡ Some held → order held ≡
+-- a refusal of them is one of the whole language
+pub is_refusal : (told : Option Held) (name query : List ℕ) (held : Held) (order : Held → Order) (r : Refusal) → told ≡ Some held → order held ≡
     Beyond → Loads name order told (Err r) → IsRefusal told name query r
-first_refusal told name query held order Memory e b h = of_texts Memory tt tt
-first_refusal told name query held order (Line said line) e b (inl (f, own)) = of_texts (Line said line) (inr (inr (inr (f, (own.file, own.wrote))))) (λ s. absurd (cc))
-first_refusal told name query held order (Line said line) e b (inr (f, h)) = let g : order held ≡ Refuse said line.items = at_told (λ x. order x ≡ Refuse said line.items) told held e h in
+is_refusal told name query held order Memory e b h = of_texts Memory tt tt
+is_refusal told name query held order (Line said line) e b (inl (f, own)) = of_texts (Line said line) (inr (inr (inr (f, (own.file, own.wrote))))) (λ s. absurd (cc))
+is_refusal told name query held order (Line said line) e b (inr (f, h)) = let g : order held ≡ Refuse said line.items = at_told (λ x. order x ≡ Refuse said line.items) told held e h in
     let k : Beyond ≡ Refuse said line.items = sym b ∙ g in absurd (cc)

@@ -1,4 +1,4 @@
--- The first refusal of a query, and a search that is ready, as the stages give them.
+-- A refusal of a query, and a search that is ready, as the stages give them.
 use Rattle.std.proofs.Common.{◌≡◌, ◌≢◌, ℕ, List, Option, Bool, refl, ap, ◌∙◌, subst, sym, map, length}
 use Rattle.std.proofs.lemmas.List.{length-map}
 use Rattle.std.specs.Prelude.{IfErr, Result, Ok, Err, codes}
@@ -6,14 +6,23 @@ use Rattle.lp_base.specs.Held.{Held}
 use Rattle.lp_base.specs.Written.{Appends, AppendsPrefix}
 use Rattle.lp_base.specs.declared.status.Status.{Status}
 use Rattle.lp_base.specs.declared.status.Status.TheVariants as variant
+use Rattle.lp_model.specs.Flat.{Clause, Goals}
+use Rattle.lp_model.specs.Proofs.{Declared}
 use Rattle.lp_model.specs.declared.program.Typed.{Typed}
+use Rattle.lp_plain.specs.Between.{IsBetween}
+use Rattle.lp_plain.specs.declared.search.Search.{Search}
 use Rattle.lp_sig.specs.Pieces.{spelled}
 use Rattle.lp_build.specs.declared.build.Built.{Built}
 use Rattle.lp_lines.specs.Placed.{IsOfText, IfSource}
 use Rattle.lp_lines.specs.Refusals.{IsTextRefusal, line_of, status_of}
 use Rattle.lp_lines.specs.declared.refusal.Refusal.{Refusal}
 use Rattle.lp_load.specs.Loaded.{IsLoaded}
-use Rattle.lp_solve.specs.Solved.{BeginsSearch, BeginsSolved, IsReady, IsRefusal, WritesSearch, WritesSolved, a_line, a_search, of_query, refused, searched}
+use Rattle.lp_solve.specs.Queries.{IsFlat, IsQuery, entries, first_state, names}
+use Rattle.lp_solve.specs.Solved.{BeginsSolved, IsAnswered, IsRefusal, WritesSolved, answered, of_query, refused}
+use Rattle.lp_solve.specs.inner.Searched.{BeginsSearch, IsReady, IsSearched, WritesSearch}
+use Rattle.lp_solve.proofs.Answering.{some_search}
+use Rattle.lp_solve.proofs.Followed.{written_by}
+use Rattle.lp_solve.proofs.Truth.{truth}
 use Rattle.lp_solve.specs.Shown.{IsShownWith, all_constants, constants_in, constants_shown, names_in}
 use Rattle.lp_solve.specs.declared.prepare.Prepared.{Prepared}
 use Rattle.lp_solve.specs.declared.shown.Shown.{Shown}
@@ -35,23 +44,42 @@ pub named : (text : List ℕ) (q : Typed) (built : Built) (shown : Shown) → Is
 named text q built shown h =
     sym (length-map q.vars.items (λ v. v.0)) ∙ sym (length-map (map (λ v. v.0) q.vars.items) (spelled text)) ∙ sym (ap length h.names) ∙ length-map shown.names.items (λ n. n.items)
 
-module _ (told : Option Held) (name query : List ℕ) (watched : Bool) (status : Status) (a b : Option (List ℕ)) where
+-- what is written of a search that begins as the definition's
+answered_by : {told : Option Held} {name query : List ℕ} {steps answers : ℕ} (q : IsQuery told name query) (first : Search) →
+    ((d : Declared) (P : List Clause) (gs : Goals) → IsFlat q d P gs → (n : ℕ) → IsBetween P n first (first_state q gs steps answers)) → (watched : Bool) (status : Status) (text : List ℕ) →
+    IsSearched (entries q) (names q) watched first status text → IsAnswered told name query q watched steps answers status text
+answered_by {steps = steps} {answers = answers} q first begins watched status text w =
+    let x = some_search (entries q) (names q) watched first status text w in
+    let search = λ (d : Declared) (P : List Clause) (gs : Goals) (f : IsFlat q d P gs) (n j m : ℕ). written_by P n first
+    (first_state q gs steps answers) (begins d P gs f n) (entries q) (names q) watched status text w j m in
+    record {
+      some = x.0;
+      written = x.1;
+      search = search;
+      right = λ d P gs f. truth q (entries q) (names q) watched steps answers status text d P gs f (search d P gs f);
+    }
+
+module _ (told : Option Held) (name query : List ℕ) (watched : Bool) (steps answers : ℕ) (status : Status) (a b : Option (List ℕ)) where
   pub line_written : (r : Refusal) → IsRefusal told name query r → (status ≢ variant.WriteFault → (status ≡ status_of r) × Appends a b (line_of r)) →
-      status ≢ variant.WriteFault → WritesSolved told name query watched status a b
+      status ≢ variant.WriteFault → WritesSolved told name query watched steps answers status a b
   line_written r is h n = let k = h n in record { text = line_of r; is = refused r is k.0 refl; appended = k.1 }
 
-  pub line_begun : (r : Refusal) → IsRefusal told name query r → (status ≡ variant.WriteFault → AppendsPrefix a b (line_of r)) → status ≡ variant.WriteFault → BeginsSolved told name query watched a b
-  line_begun r is h e = a_line r is (h e)
+  pub line_begun : (r : Refusal) → IsRefusal told name query r → (status ≡ variant.WriteFault → AppendsPrefix a b (line_of r)) → status ≡
+      variant.WriteFault → BeginsSolved told name query watched steps answers a b
+  line_begun r is h e = record { status = status_of r; text = line_of r; is = refused r is refl refl; appended = h e }
 
-  pub search_solved : (p : Prepared) → IsReady told name query p → (status ≢ variant.WriteFault → WritesSearch (constants_in p.shown)
-      (names_in p.shown) watched p.search status a b) → status ≢ variant.WriteFault → WritesSolved told name query watched status a b
+  pub search_solved : (p : Prepared) → IsReady told name query steps answers p → (status ≢ variant.WriteFault → WritesSearch (constants_in p.shown)
+      (names_in p.shown) watched p.search status a b) → status ≢ variant.WriteFault → WritesSolved told name query watched steps answers status a b
   search_solved p ready h n =
-      let w = subst (λ ns. WritesSearch (all_constants ready.built) ns watched p.search status a b) ready.shown.names
+      let q = ready.asks in
+      let w = subst (λ ns. WritesSearch (all_constants q.built) ns watched p.search status a b) ready.shown.names
       (subst (λ es. WritesSearch es (names_in p.shown) watched p.search status a b) ready.shown.constants (h n)) in
-      record { text = w.text; is = searched p ready w.is; appended = w.appended }
+      record { text = w.text; is = answered q (answered_by q p.search ready.begins watched status w.text w.is); appended = w.appended }
 
-  pub search_begun : (p : Prepared) → IsReady told name query p → (status ≡ variant.WriteFault → BeginsSearch (constants_in p.shown)
-      (names_in p.shown) watched p.search a b) → status ≡ variant.WriteFault → BeginsSolved told name query watched a b
+  pub search_begun : (p : Prepared) → IsReady told name query steps answers p → (status ≡ variant.WriteFault → BeginsSearch (constants_in p.shown)
+      (names_in p.shown) watched p.search a b) → status ≡ variant.WriteFault → BeginsSolved told name query watched steps answers a b
   search_begun p ready h e =
-      a_search p ready (subst (λ ns. BeginsSearch (all_constants ready.built) ns watched p.search a b) ready.shown.names
-      (subst (λ es. BeginsSearch es (names_in p.shown) watched p.search a b) ready.shown.constants (h e)))
+      let q = ready.asks in
+      let w = subst (λ ns. BeginsSearch (all_constants q.built) ns watched p.search a b) ready.shown.names
+      (subst (λ es. BeginsSearch es (names_in p.shown) watched p.search a b) ready.shown.constants (h e)) in
+      record { status = w.status; text = w.text; is = answered q (answered_by q p.search ready.begins watched w.status w.text w.is); appended = w.appended }

@@ -1,49 +1,34 @@
 -- What was written of a search so far, and at its end.
-use Rattle.std.proofs.Common.{◌≡◌, ◌≢◌, ℕ, suc, List, [], ◌∷◌, ◌++◌, length, Option, Some, Bool, refl, sym, ap, ◌∙◌, subst, inl, inr}
-use Rattle.std.specs.Prelude.{IfOk, OnOk, Result, Ok, Err, false, Vec, IfErr}
+use Rattle.std.proofs.Common.{◌≡◌, ◌≢◌, ℕ, suc, List, [], ◌∷◌, ◌++◌, length, map, Option, Bool, refl, sym, ap, ◌∙◌, subst, inl, inr}
+use Rattle.std.specs.Prelude.{IfOk, Result, Ok, Err, Vec}
 use Rattle.std.specs.Global.{Global}
 use Rattle.lp_base.specs.Written.{Appends, AppendsPrefix}
 use Rattle.lp_base.specs.declared.memory.Memory.{Memory as Want}
 use Rattle.lp_base.specs.declared.status.Status.{Status}
 use Rattle.lp_base.specs.declared.status.Status.TheVariants as variant
 use Rattle.lp_lemmas.proofs.Lists.{length_push_suc}
-use Rattle.lp_calculus.specs.Term.{Term}
-use Rattle.lp_term.specs.declared.reduce.TermRefusal.{TermRefusal}
-use Rattle.lp_term.specs.declared.reduce.TermRefusal.TheVariants as refusal
-use Rattle.lp_show.specs.Forms.{IsFirstDeep}
 use Rattle.lp_model.specs.Shown.{Entry}
 use Rattle.lp_model.specs.Whole as whole
 use Rattle.lp_model.specs.declared.answer.Answer.{Answer}
 use Rattle.lp_model.specs.declared.answer.Event.{Event}
-use Rattle.lp_model.specs.declared.answer.Event.TheVariants as event
 use Rattle.lp_model.specs.declared.ending.Ending.{Ending}
-use Rattle.lp_plain.specs.Held.{ended, failed, query_of, variables_of}
+use Rattle.lp_plain.specs.Held.{variables_of}
 use Rattle.lp_plain.specs.declared.search.Search.{Search}
 use Rattle.lp_lines.specs.Ends.{Grows}
 use Rattle.lp_lines.specs.Lines.{ending_line, ending_status, memory_line}
-use Rattle.lp_lines.proofs.Appending.{appends_nothing, appends_both, prefix_behind, prefix_grows}
+use Rattle.lp_lines.proofs.Appending.{appends_nothing, appends_both, prefix_behind, prefix_grows, prefix_longer}
 use Rattle.lp_lines.proofs.Statuses.{is_fault}
-use Rattle.lp_solve.specs.Events.{AreLines, IfDeep, Ends, IsLines, IsPiece, IsTold, Tells, more_lines, no_answer, no_lines, one_answer}
-use Rattle.lp_solve.specs.Solved.{BeginsLast, BeginsSearch, MayReport, WritesLast, WritesSearch, an_ending, no_memory}
+use Rattle.lp_solve.specs.Written.{AreLines, IsLines, MayReport}
+use Rattle.lp_solve.specs.inner.Events.{Ends, Follows, IsPiece, IsTold, Tells, no_answer, one_answer, plain}
+use Rattle.lp_solve.specs.inner.Searched.{BeginsLast, BeginsSearch, WritesLast, WritesSearch, an_ending, no_memory}
+use Rattle.lp_solve.proofs.Lines.{told_more}
 use Rattle.lp_solve.specs.declared.piece.Piece.{Piece}
 use Rattle.lp_solve.specs.declared.piece.Piece.TheVariants as piece
 
 -- one event
-abbrev event_or : Event → Result Event Want → Event
-event_or d (Ok x) = x
-event_or d (Err e) = d
-
-pub told_by : (old new : Search) (r : Result Event Want) → variables_of new ≡ variables_of old → query_of new ≡ query_of old → IfOk r
-    (whole.IsTold (variables_of old)) → OnOk r (failed new ≡ false) → IfOk r (λ e. whole.Keeps e (ended new)) →
-    (failed old ≡ false → (e : Ending) → ended old ≡ Some e → r ≡ Ok (event.Ended e)) → IfOk r (λ e. IsTold old e new)
-told_by old new (Ok x) v q t f k s = record { variables = v; query = q; told = t; keeps = k; goes_on = f; stays = λ g e h. ap (event_or x) (s g e h) }
-told_by old new (Err e) v q t f k s = tt
-
--- a refusal to show an answer
-pub deep_told : {T : Type 0} (ts : List Term) (r : Result T TermRefusal) → IfErr r (IsFirstDeep ts) → IfErr r (IfDeep ((k : ℕ) × IsFirstDeep ts (refusal.Deep k)))
-deep_told ts (Ok x) h = tt
-deep_told ts (Err (refusal.Deep k)) h = (k, h)
-deep_told ts (Err refusal.Memory) h = tt
+pub told_by : (old new : Search) (r : Result Event Want) → variables_of new ≡ variables_of old → IfOk r (whole.IsTold (variables_of old)) → IfOk r (λ e. Follows old e new) → IfOk r (λ e. IsTold old e new)
+told_by old new (Ok x) v t f = record { variables = v; told = t; search = f }
+told_by old new (Err e) v t f = tt
 
 -- the search keeps the number of its variables
 pub told_variables : (first now : Search) (answers : List Answer) → Tells first answers now → variables_of now ≡ variables_of first
@@ -56,12 +41,12 @@ module _ (es : List Entry) (ns : List (List ℕ)) (first : Search) where
     pub answers : List Answer
     pub lines : List ℕ
     pub told : Tells first answers now
-    pub are : AreLines es ns answers lines
+    pub are : AreLines es ns 1 (map plain answers) lines
     pub number : length answers ≡ count
     pub appended : Appends old new lines
 
   pub none_so_far : (o : Option (List ℕ)) → SoFar first 0 o o
-  none_so_far o = record { answers = []; lines = []; told = no_answer; are = no_lines; number = refl; appended = appends_nothing o }
+  none_so_far o = record { answers = []; lines = []; told = no_answer; are = refl; number = refl; appended = appends_nothing o }
 
   pub one_so_far : (s t : Search) (k number : ℕ) (a b c : Option (List ℕ)) (p : Piece) (lines : Vec ℕ Global) → SoFar s k a b → number ≡ suc k → p ≡
       piece.Answer lines → IsPiece es ns number s p t → Appends b c lines.items → SoFar t number a c
@@ -72,7 +57,7 @@ module _ (es : List Entry) (ns : List (List ℕ)) (first : Search) where
         answers = h.answers ++ x.0 ∷ [];
         lines = h.lines ++ lines.items;
         told = one_answer h.answers _ s t x.0 h.told x.1 refl;
-        are = more_lines h.answers _ x.0 h.lines lines.items _ h.are (subst (λ n. IsLines es ns n x.0 lines.items) numbered x.2) refl refl;
+        are = told_more es ns h.answers x.0 h.lines lines.items h.are (subst (λ n. IsLines es ns n (plain x.0) lines.items) numbered x.2);
         number = length_push_suc h.answers x.0 ∙ sym numbered;
         appended = appends_both a b c h.lines lines.items h.appended more;
       }
@@ -84,14 +69,21 @@ module _ (es : List Entry) (ns : List (List ℕ)) (first : Search) where
       let x = subst (λ p. IsPiece es ns number s p t) is told in
       let numbered : number ≡ suc (length h.answers) = e ∙ ap suc (sym h.number) in
       record {
-        text = h.lines ++ lines.items;
-        is = inl (record {
-          answers = h.answers ++ x.0 ∷ [];
-          now = t;
-          told = one_answer h.answers _ s t x.0 h.told x.1 refl;
-          lines = more_lines h.answers _ x.0 h.lines lines.items _ h.are (subst (λ n. IsLines es ns n x.0 lines.items) numbered x.2) refl refl;
-        });
-        appended = prefix_behind a b c h.lines lines.items h.appended more;
+        status = variant.Memory;
+        text = (h.lines ++ lines.items) ++ memory_line;
+        is = record {
+          lines = h.lines ++ lines.items;
+          last = memory_line;
+          answers = record {
+            answers = h.answers ++ x.0 ∷ [];
+            now = t;
+            told = one_answer h.answers _ s t x.0 h.told x.1 refl;
+            lines = told_more es ns h.answers x.0 h.lines lines.items h.are (subst (λ n. IsLines es ns n (plain x.0) lines.items) numbered x.2);
+          };
+          is_last = no_memory refl refl;
+          wrote = refl;
+        };
+        appended = prefix_longer a c (h.lines ++ lines.items) memory_line (prefix_behind a b c h.lines lines.items h.appended more);
       }
 
   -- the last line
@@ -105,8 +97,9 @@ module _ (es : List Entry) (ns : List (List ℕ)) (first : Search) where
 
   pub searched_part : (s : Search) (k : ℕ) (a b c : Option (List ℕ)) (watched : Bool) → SoFar s k a b → BeginsLast ns watched s b c → BeginsSearch es ns watched first a c
   searched_part s k a b c watched h w = record {
+    status = w.status;
     text = h.lines ++ w.text;
-    is = inr (w.status, record { lines = h.lines; last = w.text; answers = record { answers = h.answers; now = s; told = h.told; lines = h.are }; is_last = w.is; wrote = refl });
+    is = record { lines = h.lines; last = w.text; answers = record { answers = h.answers; now = s; told = h.told; lines = h.are }; is_last = w.is; wrote = refl };
     appended = prefix_behind a b c h.lines w.text h.appended w.appended;
   }
 

@@ -5,6 +5,7 @@ pub mod Closing
 pub mod Program
 pub mod Query
 pub mod Grown
+pub mod Named
 pub mod Fits
 pub mod RaisedForms
 pub mod Raising

@@ -7,5 +7,8 @@ pub mod Prepared
 pub mod Schemes
 pub mod Sources
 pub mod Shown
-pub mod Events
+pub mod Written
+pub mod Queries
+pub mod Right
 pub mod Solved
+pub mod inner

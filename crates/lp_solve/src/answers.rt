@@ -6,10 +6,12 @@ ghost use Rattle.lp_lines.specs.Ends.{KeepsFiles, Ran};
 ghost use Rattle.lp_lines.specs.Lines.{ending_line, is_of_search};
 ghost use Rattle.lp_load.specs.Placed.{WritesPlaced};
 ghost use Rattle.lp_plain.specs.Held.{variables_of};
-ghost use Rattle.lp_solve.specs.Events.{Ends, IsPiece, IsTold};
 ghost use Rattle.lp_solve.specs.Prepared.{IsPrepared};
 ghost use Rattle.lp_solve.specs.Shown.{constants_in, names_in};
-ghost use Rattle.lp_solve.specs.Solved.{BeginsLast, BeginsSearch, BeginsSolved, MayReport, WritesLast, WritesSearch, WritesSolved};
+ghost use Rattle.lp_solve.specs.Solved.{BeginsSolved, WritesSolved};
+ghost use Rattle.lp_solve.specs.Written.{MayReport};
+ghost use Rattle.lp_solve.specs.inner.Events.{Ends, IsPiece, IsTold};
+ghost use Rattle.lp_solve.specs.inner.Searched.{BeginsLast, BeginsSearch, WritesLast, WritesSearch};
 
 use crate::piece::Piece;
 use crate::prepare::{Prepared, Question, prepare};
@@ -139,8 +141,8 @@ pub fn solve<F: Folder, K: Sink, W: Watch>(
     out: &mut K,
     watchers: &mut Vec<W>,
 ) -> Status
-    ensures writes { AreKnown (F.held folder.old) known.items → result ≢ Status.WriteFault → WritesSolved (F.held folder.old) question.entry.name.now question.entry.query.now watched result (K.written out.old) (K.written out.new) }
-    ensures begins { AreKnown (F.held folder.old) known.items → result ≡ Status.WriteFault → BeginsSolved (F.held folder.old) question.entry.name.now question.entry.query.now watched (K.written out.old) (K.written out.new) }
+    ensures writes { AreKnown (F.held folder.old) known.items → result ≢ Status.WriteFault → WritesSolved (F.held folder.old) question.entry.name.now question.entry.query.now watched question.entry.steps question.entry.answers result (K.written out.old) (K.written out.new) }
+    ensures begins { AreKnown (F.held folder.old) known.items → result ≡ Status.WriteFault → BeginsSolved (F.held folder.old) question.entry.name.now question.entry.query.now watched question.entry.steps question.entry.answers (K.written out.old) (K.written out.new) }
     ensures ran { Ran F.read_faults F.misses F.overs K.written folder.old folder.new out.old out.new result }
     ensures keeps { KeepsFiles F.write_faults F.held K.faults folder.old folder.new out.old out.new result }
     ensures placed { AreKnown (F.held folder.old) known.items → result ≡ Status.Source → WritesPlaced (F.held folder.old) question.entry.query.now (K.written out.old) (K.written out.new) }

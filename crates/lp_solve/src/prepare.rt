@@ -8,7 +8,8 @@ ghost use Rattle.lp_lines.specs.Refusals.{IsTextRefusal};
 ghost use Rattle.lp_load.specs.Loaded.{IsLoaded};
 ghost use Rattle.lp_load.specs.Placed.{IsPlaced};
 ghost use Rattle.lp_solve.specs.Prepared.{IsPrepared};
-ghost use Rattle.lp_solve.specs.Solved.{IsReady, IsRefusal as IsFirst};
+ghost use Rattle.lp_solve.specs.Solved.{IsRefusal};
+ghost use Rattle.lp_solve.specs.inner.Searched.{IsReady};
 
 use crate::shown::{Shown, shown_with};
 use lp_base::Folder;
@@ -40,7 +41,7 @@ pub struct Prepared {
 
 fn start(alloc: Global, question: Question<'_>, mut built: Built) -> Result<Prepared, Refusal>
     ensures prepared { IfOk result IsPrepared }
-    ensures ready { (told : Option Held) → IsLoaded told question.entry.name.now built → IfOk result (IsReady told question.entry.name.now question.entry.query.now) }
+    ensures ready { (told : Option Held) → IsLoaded told question.entry.name.now built → IfOk result (IsReady told question.entry.name.now question.entry.query.now question.entry.steps question.entry.answers) }
     ensures refused { IfErr result IsTextRefusal }
     ensures placed { IfErr result (IfSource (IsOfText (codes "query") question.entry.query.now)) }
 {
@@ -69,8 +70,8 @@ pub fn prepare<F: Folder>(
     folder: &mut F,
 ) -> Result<Prepared, Refusal>
     ensures prepared { IfOk result IsPrepared }
-    ensures ready { AreKnown (F.held folder.old) known.items → IfOk result (IsReady (F.held folder.old) question.entry.name.now question.entry.query.now) }
-    ensures first { AreKnown (F.held folder.old) known.items → IfErr result (IsFirst (F.held folder.old) question.entry.name.now question.entry.query.now) }
+    ensures ready { AreKnown (F.held folder.old) known.items → IfOk result (IsReady (F.held folder.old) question.entry.name.now question.entry.query.now question.entry.steps question.entry.answers) }
+    ensures refusal { AreKnown (F.held folder.old) known.items → IfErr result (IsRefusal (F.held folder.old) question.entry.name.now question.entry.query.now) }
     ensures looked { Looked F.read_faults F.misses F.overs F.write_faults F.held folder.old folder.new (refusal_of result) }
     ensures placed { AreKnown (F.held folder.old) known.items → IfErr result (IfSource (IsPlaced (F.held folder.old) question.entry.query.now)) }
 {

@@ -2,8 +2,9 @@
 ghost use Rattle.std.specs.Prelude.{◌≡◌, length, map, IfErr, IfOk};
 ghost use Rattle.lp_model.specs.Whole.{IsWhole};
 ghost use Rattle.lp_show.specs.Glossary.{entries_of, entry_of as shown_entry};
-ghost use Rattle.lp_solve.specs.Events.{CannotBeShown, IfDeep, IsLines};
 ghost use Rattle.lp_solve.specs.Shown.{IsShownWith, all_constants, constant_shown, constants_in, names_in, names_written};
+ghost use Rattle.lp_solve.specs.Written.{CannotBeShown, IsLines};
+ghost use Rattle.lp_solve.specs.inner.Events.{IfDeep, plain};
 
 use lp_base::Memory;
 use lp_build::Built;
@@ -93,8 +94,8 @@ impl Shown {
         answer: &mut Answer,
     ) -> Result<Vec<u8>, TermRefusal>
         requires { IsWhole (length self.now.names.items) answer.old }
-        ensures text { IfOk result (λ text. IsLines (constants_in self.now) (names_in self.now) number answer.old text.items) }
-        ensures refused { IfErr result (IfDeep (CannotBeShown (names_in self.now) answer.old)) }
+        ensures text { IfOk result (λ text. IsLines (constants_in self.now) (names_in self.now) number (plain answer.old) text.items) }
+        ensures refused { IfErr result (IfDeep (CannotBeShown (names_in self.now) (plain answer.old))) }
     {
         lp_show::answer(alloc, number, &self.names, answer, &self.glossary)
     }

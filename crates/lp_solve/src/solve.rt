@@ -1,6 +1,7 @@
 // The answers of a query without options.
 ghost use Rattle.std.specs.Prelude.{◌≡◌, ◌≢◌, ◌⊎◌, IfSome, Some, false};
 ghost use Rattle.lp_base.specs.Held.{Held};
+ghost use Rattle.lp_base.specs.declared.limits.TheConstants.{DEFAULT_ANSWERS, DEFAULT_STEPS};
 ghost use Rattle.lp_build.specs.Told.{AreKnown};
 ghost use Rattle.lp_lines.specs.Ends.{KeepsFiles, Ran};
 ghost use Rattle.lp_load.specs.Placed.{WritesPlaced};
@@ -22,6 +23,8 @@ use std::alloc::Global;
 fn plain<'a>(name: &'a str, query: &'a str) -> Question<'a>
     ensures query { result.query.now ≡ query.now }
     ensures name { result.name.now ≡ name.now }
+    ensures steps { result.steps ≡ DEFAULT_STEPS }
+    ensures answers { result.answers ≡ DEFAULT_ANSWERS }
 {
     Question {
         name,
@@ -39,8 +42,8 @@ fn solve_known<F: Folder, K: Sink>(
     folder: &mut F,
     out: &mut K,
 ) -> Status
-    ensures writes { AreKnown (F.held folder.old) known.items → result ≢ Status.WriteFault → WritesSolved (F.held folder.old) question.entry.name.now question.entry.query.now false result (K.written out.old) (K.written out.new) }
-    ensures begins { AreKnown (F.held folder.old) known.items → result ≡ Status.WriteFault → BeginsSolved (F.held folder.old) question.entry.name.now question.entry.query.now false (K.written out.old) (K.written out.new) }
+    ensures writes { AreKnown (F.held folder.old) known.items → result ≢ Status.WriteFault → WritesSolved (F.held folder.old) question.entry.name.now question.entry.query.now false question.entry.steps question.entry.answers result (K.written out.old) (K.written out.new) }
+    ensures begins { AreKnown (F.held folder.old) known.items → result ≡ Status.WriteFault → BeginsSolved (F.held folder.old) question.entry.name.now question.entry.query.now false question.entry.steps question.entry.answers (K.written out.old) (K.written out.new) }
     ensures ran { Ran F.read_faults F.misses F.overs K.written folder.old folder.new out.old out.new result }
     ensures keeps { KeepsFiles F.write_faults F.held K.faults folder.old folder.new out.old out.new result }
     ensures placed { AreKnown (F.held folder.old) known.items → result ≡ Status.Source → WritesPlaced (F.held folder.old) question.entry.query.now (K.written out.old) (K.written out.new) }
@@ -59,8 +62,8 @@ pub fn solve_within<F: Folder, K: Sink, W: Watch>(
     out: &mut K,
     watchers: &mut Vec<W>,
 ) -> Status
-    ensures writes { result ≢ Status.WriteFault → WritesSolved (F.held folder.old) question.entry.name.now question.entry.query.now watch result (K.written out.old) (K.written out.new) }
-    ensures begins { result ≡ Status.WriteFault → BeginsSolved (F.held folder.old) question.entry.name.now question.entry.query.now watch (K.written out.old) (K.written out.new) }
+    ensures writes { result ≢ Status.WriteFault → WritesSolved (F.held folder.old) question.entry.name.now question.entry.query.now watch question.entry.steps question.entry.answers result (K.written out.old) (K.written out.new) }
+    ensures begins { result ≡ Status.WriteFault → BeginsSolved (F.held folder.old) question.entry.name.now question.entry.query.now watch question.entry.steps question.entry.answers (K.written out.old) (K.written out.new) }
     ensures ran { Ran F.read_faults F.misses F.overs K.written folder.old folder.new out.old out.new result }
     ensures keeps { KeepsFiles F.write_faults F.held K.faults folder.old folder.new out.old out.new result }
     ensures placed { result ≡ Status.Source → WritesPlaced (F.held folder.old) question.entry.query.now (K.written out.old) (K.written out.new) }
@@ -89,8 +92,8 @@ pub fn solve_plain<F: Folder, K: Sink>(
     ensures prefix { result ≡ Status.WriteFault
         → IfSome (F.held folder.old) (λ held. WritesPrefix (order_of name.now query.now held) (K.written out.old) (K.written out.new)
         ⊎ BeginsQueryFault (F.held folder.old) name.now query.now (K.written out.old) (K.written out.new)) }
-    ensures writes { (held : Held) → F.held folder.old ≡ Some held → order_of name.now query.now held ≡ Beyond → result ≢ Status.WriteFault → WritesSolved (F.held folder.old) name.now query.now false result (K.written out.old) (K.written out.new) }
-    ensures begins { (held : Held) → F.held folder.old ≡ Some held → order_of name.now query.now held ≡ Beyond → result ≡ Status.WriteFault → BeginsSolved (F.held folder.old) name.now query.now false (K.written out.old) (K.written out.new) }
+    ensures writes { (held : Held) → F.held folder.old ≡ Some held → order_of name.now query.now held ≡ Beyond → result ≢ Status.WriteFault → WritesSolved (F.held folder.old) name.now query.now false DEFAULT_STEPS DEFAULT_ANSWERS result (K.written out.old) (K.written out.new) }
+    ensures begins { (held : Held) → F.held folder.old ≡ Some held → order_of name.now query.now held ≡ Beyond → result ≡ Status.WriteFault → BeginsSolved (F.held folder.old) name.now query.now false DEFAULT_STEPS DEFAULT_ANSWERS (K.written out.old) (K.written out.new) }
     ensures read_fault { result ≡ Status.ReadFault → WritesQueryFault (F.held folder.old) name.now query.now (K.written out.old) (K.written out.new) }
     ensures placed { result ≡ Status.Source → WritesPlaced (F.held folder.old) query.now (K.written out.old) (K.written out.new) }
     ensures ran { Ran F.read_faults F.misses F.overs K.written folder.old folder.new out.old out.new result }

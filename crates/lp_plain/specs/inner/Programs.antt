@@ -14,4 +14,4 @@ pub record ArePut (fs : List ClauseFormula) (b c : Nodes) (t u : Table) (spans :
   pub kept : Extends b c
   pub ends : All (λ s. s.to ≤ length u.rules.items) spans
   pub within : IsTableIn (length b.terms) t → IsTableIn (length c.terms) u
-  pub spans_are : IsTableIn (length b.terms) t → AreFormulasIn b fs → (n : ℕ) (d : ℕ → Option Scheme) (css : List Clauses) → AreFlat n d b (take k fs) css → AreProgramOf c u spans css
+  pub spans_are : IsTableIn (length b.terms) t → AreFormulasIn b fs → (d : ℕ → Option Scheme) (css : List Clauses) → AreFlat d b (take k fs) css → AreProgramOf c u spans css

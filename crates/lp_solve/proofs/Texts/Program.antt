@@ -145,7 +145,7 @@ clause_typed d std c f sig t source raw b k x =
           (subst (λ n. Within (IsQueryAtom k.type_vars) n (mapped m formula)) (sym (length-map free (mapped_type m))) inside));
     }
 
-each_clause : (Q : ClauseFormula → Type 0) (sig : Signature) (source : List ℕ) (b : Nodes) →
+pub each_clause : (Q : ClauseFormula → Type 0) (sig : Signature) (source : List ℕ) (b : Nodes) →
     ((raw : RawTerm) (k : code.ClauseFormula) → IsClause sig source raw b k → Q (formula_of b k)) → (raws : List RawTerm)
     (ks : List code.ClauseFormula) → AreClauses sig source b raws ks →
     EachOf Q (map (formula_of b) ks)
@@ -162,7 +162,7 @@ last_or (z ∷ zs) y zero x e = inl e
 last_or (z ∷ zs) y (suc k) x e = last_or zs y k x e
 
 module _ (sources : Sources) (all : List Module) (are : AreModules sources all) where
-  module_at : {ps : List ℕ} {ms : List Module} → AreModulesAt sources.files.items are.signatures are.texts ps ms → (k : ℕ) (m : Module) → slice_get ms
+  pub module_at : {ps : List ℕ} {ms : List Module} → AreModulesAt sources.files.items are.signatures are.texts ps ms → (k : ℕ) (m : Module) → slice_get ms
       k ≡ Some m → (p : ℕ) × IsModuleAt sources.files.items are.signatures are.texts p m
   module_at no_module k m e = absurd (cc)
   module_at (one_module ps all_ps ms all_ms p last before is e f) k m at = by (module_at before k m) (last_or ms last k m (subst (λ l. slice_get l k ≡ Some m) f at))
@@ -173,7 +173,7 @@ module _ (sources : Sources) (all : List Module) (are : AreModules sources all) 
       by ih (inr h) = (p, subst (IsModuleAt sources.files.items are.signatures are.texts p) h is)
 
 -- all copies
-member_each : (Q : ClauseFormula → Type 0) (modules : List Module) (k : ℕ) → ((m : Module) → slice_get modules k ≡ Some m → EachOf Q (clauses_in m)) → EachOf Q (get_or (map clauses_in modules) k [])
+pub member_each : (Q : ClauseFormula → Type 0) (modules : List Module) (k : ℕ) → ((m : Module) → slice_get modules k ≡ Some m → EachOf Q (clauses_in m)) → EachOf Q (get_or (map clauses_in modules) k [])
 member_each Q [] k h = tt
 member_each Q (m ∷ ms) zero h = h m refl
 member_each Q (m ∷ ms) (suc k) h = member_each Q ms k h

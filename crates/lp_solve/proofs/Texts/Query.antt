@@ -28,7 +28,7 @@ use Rattle.lp_solve.proofs.Texts.Numbers.{numbered_below, all_below, front_types
 use Rattle.lp_solve.proofs.Texts.Program.{have_moved}
 
 -- where nothing is renumbered, nothing changes
-abbrev as_it_is : Map
+abbrev pub as_it_is : Map
 as_it_is = record { kinds = λ k. k; constants = λ k. k; types = λ x. var x; terms = λ x l. atom (logic x l) }
 
 is_plain : IsPlain as_it_is
@@ -49,7 +49,7 @@ same_list : (ts : List Ty) → map (mapped_type as_it_is) ts ≡ ts
 same_list [] = refl
 same_list (t ∷ ts) = let e = same_type t in let f = same_list ts in cc
 
-same_term : (t : Term) → mapped as_it_is t ≡ t
+pub same_term : (t : Term) → mapped as_it_is t ≡ t
 same_term (index i) = refl
 same_term (atom (constant c ts)) = ap (λ us. atom (constant c us)) (same_list ts)
 same_term (atom (integer z)) = refl

@@ -60,7 +60,7 @@ returns-else-are_none-clause-does g c =
     (λ e. subst (λ q. WritesPlaced (g.F.Folder.held c.args.folder.now) q (g.K.Sink.written c.args.out.now) (g.K.Sink.written c.solve_within.new.out))
     c.question.ensures.query (c.solve_within.ensures.placed e))
     (solves_within (g.F.Folder.held c.args.folder.now) (g.K.Sink.written c.args.out.now) (g.K.Sink.written c.solve_within.new.out) c.solve_within.result c.in-Solve.options
-    c.question.ensures.name c.question.ensures.query c.solve_within.ensures.writes c.solve_within.ensures.begins))
+    c.question.ensures.name c.question.ensures.query c.question.ensures.steps c.question.ensures.answers c.solve_within.ensures.writes c.solve_within.ensures.begins))
 
 pub returns-in-Query-clause-silent : goal.returns-in-Query-clause-silent
 returns-in-Query-clause-silent g c = watching_or _ (asked_of c.args.asked) _ _ (ap asked_of c.in-Query.is) c.query.ensures.silent

@@ -1,4 +1,4 @@
-use Rattle.std.proofs.Common.{◌≡◌, ◌∙◌, ap, length, map, refl}
+use Rattle.std.proofs.Common.{◌∙◌, ap, refl}
 use Rattle.lp_term.proofs.Trees.{extends-trans}
 use Rattle.lp_term.specs.Same.{same_map}
 use Rattle.lp_model.specs.Search.{vars_from}

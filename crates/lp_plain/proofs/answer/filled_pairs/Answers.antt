@@ -1,4 +1,4 @@
-use Rattle.std.proofs.Common.{◌≡◌, suc, ◌<◌, ◌≤◌, ◌∙◌, ap, length, refl, sym, subst, arith, add-one, map}
+use Rattle.std.proofs.Common.{suc, ◌<◌, ◌∙◌, ap, length, refl, sym, subst, arith, add-one, map}
 use Rattle.std.proofs.lemmas.List.{take_all}
 use Rattle.lp_lemmas.proofs.Lists.{get_read}
 use Rattle.lp_plain.specs.inner.Answering.{ArePairsFilled, pair_under}

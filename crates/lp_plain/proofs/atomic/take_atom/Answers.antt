@@ -1,142 +1,190 @@
 use Rattle.std.proofs.Common.{length, refl, subst, sym}
-use Rattle.lp_standard.specs.Numbers as number
 use Rattle.lp_term.specs.Nodes.{tree}
 use Rattle.lp_model.specs.declared.ending.Ending.TheVariants.{Flexible, Steps}
 use Rattle.lp_plain.specs.declared.outcome.Turn.{Turn}
 use Rattle.lp_plain.specs.AtRunTime.{IsAtomForm}
 use Rattle.lp_plain.specs.Calling.{IsFirstIn, LeadsOver}
 use Rattle.lp_plain.specs.Forms.{StandsForm}
-use Rattle.lp_plain.specs.Moving.{LeadsTo, turn_for}
+use Rattle.lp_plain.specs.Moving.{turn_for}
 use Rattle.lp_plain.specs.Trying.{all_clauses}
+use Rattle.lp_plain.specs.Turns.{IsGoalTurn}
+use Rattle.lp_plain.proofs.ArithmeticTurns.{is_turn, order_turn}
+use Rattle.lp_plain.proofs.ArithmeticEnds.{assigned_ends, compared_ends}
 use Rattle.lp_plain.proofs.AtomMoves.{spent_leads}
 use Rattle.lp_plain.proofs.AtomTurns.{bound_same, equal_leads, flexible_leads, other_leads}
-use Rattle.lp_plain.proofs.ArithmeticTurns.{is_turn, order_turn}
-use Rattle.lp_plain.proofs.CallArm.{over_one}
-use Rattle.lp_plain.proofs.CallForms.{call_turn, is_out, order_out}
-use Rattle.lp_plain.proofs.LeftOut.{call_left}
+use Rattle.lp_plain.proofs.CallArm.{over_next, over_one, written_behind}
+use Rattle.lp_plain.proofs.CallForms.{call_turn}
+use Rattle.lp_plain.proofs.ProgramKept.{bound_keeps, goals_keep, only_keeps, program_same, program_then, unified_ends}
 use Rattle.lp_plain.proofs.StepTaken.{going_behind, step_kept}
+use Rattle.lp_plain.proofs.WrittenTurns.{bound_written, only_bound, step_stands, step_written}
 use Rattle.lp_plain.proofs.atomic.take_atom.Goals as goal
 
 pub returns-then-not-take_step-clause-leads : goal.returns-then-not-take_step-clause-leads
-returns-then-not-take_step-clause-leads g c = λ qv a raw s h at i sf nc w ea go enough few P ty.
+returns-then-not-take_step-clause-leads g c = λ qv a raw s h at i sf inside css pr sw.
     let m = c.args.machine.now in
-    spent_leads qv m a raw s h c.args.place c.args.goal c.args.behind at enough P m w ea go c.args.form i (c.if-not-take_step.ensures.spent refl).1
+    let e = c.if-not-take_step.ensures.spent refl in
+    over_one qv (Turn.Ended Steps) c.take_step.new.machine s (λ w ea go enough few P ty. spent_leads qv m a raw s h c.args.place c.args.goal
+    c.args.behind at enough P c.take_step.new.machine w ea go c.args.form i e.1)
+    tt (all_clauses css)
 
 pub returns-in_ok-unified-in-Equal-clause-leads : goal.returns-in_ok-unified-in-Equal-clause-leads
-returns-in_ok-unified-in-Equal-clause-leads g c = λ qv a raw s h at i sf nc.
+returns-in_ok-unified-in-Equal-clause-leads g c = λ qv a raw s h at i sf inside css pr sw.
     let m = c.args.machine.now in
     let k = c.take_step.new.machine in
     let o = c.args.behind in
+    let b = going_behind k o in
+    let t = c.if-not-take_step.ensures in
+    let ks = step_kept m k o t.goals t.assumed t.frames t.denied t.branch in
+    let st = h.above.done.stands in
+    let wb = step_written m b o ks t.choices st qv.arity sw in
     let n = c.equate.new.machine in
-    let t = c.if-not-take_step.ensures in
-    let e = c.in_ok-unified-in-Equal.ensures in
-    subst (λ x. LeadsTo 1 qv x n s) (sym c.turn_of.ensures)
-    (equal_leads qv m (going_behind k o) a raw s h c.args.place c.args.goal o at (step_kept m k o t.goals t.assumed t.frames t.denied t.branch) t.choices (t.counts refl) (t.there refl) n e.bound e.residual
-    c.in-Equal.left c.in-Equal.right c.in_ok-unified-in-Equal.unified (subst (IsAtomForm m.bank (tree m.bank c.args.goal.0)) c.in-Equal.is i) t.goals.known.bank e.equated)
-
-pub returns-in_ok-turn-in-Is-clause-leads : goal.returns-in_ok-turn-in-Is-clause-leads
-returns-in_ok-turn-in-Is-clause-leads g c = λ qv a raw s h at i sf nc.
-    let m = c.args.machine.now in
-    let k = c.take_step.new.machine in
-    let o = c.args.behind in
-    let t = c.if-not-take_step.ensures in
-    is_turn qv m (going_behind k o) a raw s h c.args.place c.args.goal o at (step_kept m k o t.goals t.assumed t.frames t.denied t.branch) t.choices (t.counts refl) (t.there refl) t.goals.known.bank nc c.assign.new.machine
-    c.in_ok-turn-in-Is.turn c.in-Is.left c.in-Is.right (subst (IsAtomForm m.bank (tree m.bank c.args.goal.0)) c.in-Is.is i) (subst (StandsForm (length m.bank.terms)) c.in-Is.is sf) c.in_ok-turn-in-Is.ensures
-
-pub returns-in_ok-turn-in-Order-clause-leads : goal.returns-in_ok-turn-in-Order-clause-leads
-returns-in_ok-turn-in-Order-clause-leads g c = λ qv a raw s h at i sf nc.
-    let m = c.args.machine.now in
-    let k = c.take_step.new.machine in
-    let o = c.args.behind in
-    let t = c.if-not-take_step.ensures in
-    order_turn qv m (going_behind k o) a raw s h c.args.place c.args.goal o at (step_kept m k o t.goals t.assumed t.frames t.denied t.branch) t.choices (t.counts refl) (t.there refl) t.goals.known.bank nc c.compare.new.machine
-    c.in_ok-turn-in-Order.turn c.in-Order.order c.in-Order.left c.in-Order.right (subst (IsAtomForm m.bank (tree m.bank c.args.goal.0)) c.in-Order.is i) (subst (StandsForm (length m.bank.terms)) c.in-Order.is sf) c.in_ok-turn-in-Order.ensures
-
-pub returns-in_ok-turn-in-Call-clause-leads : goal.returns-in_ok-turn-in-Call-clause-leads
-returns-in_ok-turn-in-Call-clause-leads g c = λ qv a raw s h at i sf nc.
-    let m = c.args.machine.now in
-    call_left qv m a raw s h c.args.place c.args.goal c.args.behind at nc c.take_call.new.machine c.in_ok-turn-in-Call.turn c.in-Call.head c.in-Call.first (subst (IsAtomForm m.bank (tree m.bank c.args.goal.0)) c.in-Call.is i)
-
-pub returns-in-Flexible-clause-leads : goal.returns-in-Flexible-clause-leads
-returns-in-Flexible-clause-leads g c = λ qv a raw s h at i sf nc.
-    let m = c.args.machine.now in
-    let k = c.take_step.new.machine in
-    let o = c.args.behind in
-    let n = going_behind k o in
-    let t = c.if-not-take_step.ensures in
-    flexible_leads qv m n a raw s h c.args.place c.args.goal o at (step_kept m k o t.goals t.assumed t.frames t.denied t.branch) t.choices (t.counts refl) (t.there refl) n (bound_same n) (λ x. x)
-    (subst (IsAtomForm m.bank (tree m.bank c.args.goal.0)) c.in-Flexible.is i)
-
-pub returns-in-Other-clause-leads : goal.returns-in-Other-clause-leads
-returns-in-Other-clause-leads g c = λ qv a raw s h at i sf nc.
-    let m = c.args.machine.now in
-    let k = c.take_step.new.machine in
-    let o = c.args.behind in
-    let n = going_behind k o in
-    let t = c.if-not-take_step.ensures in
-    other_leads qv m n a raw s h c.args.place c.args.goal o at (step_kept m k o t.goals t.assumed t.frames t.denied t.branch) t.choices (t.counts refl) (t.there refl) n (bound_same n) (λ x. x)
-    (subst (IsAtomForm m.bank (tree m.bank c.args.goal.0)) c.in-Other.is i)
-
-pub returns-then-not-take_step-clause-calls : goal.returns-then-not-take_step-clause-calls
-returns-then-not-take_step-clause-calls g c = λ qv a raw s h at i inside callable css pr sw.
-    let m = c.args.machine.now in
-    over_one qv (Turn.Ended Steps) m s (λ w ea go enough few P ty. spent_leads qv m a raw s h c.args.place c.args.goal c.args.behind at enough P m w ea go c.args.form i (c.if-not-take_step.ensures.spent refl).1) (all_clauses css)
-
-pub returns-in_ok-unified-in-Equal-clause-calls : goal.returns-in_ok-unified-in-Equal-clause-calls
-returns-in_ok-unified-in-Equal-clause-calls g c = λ qv a raw s h at i inside callable css pr sw.
-    let m = c.args.machine.now in
-    let k = c.take_step.new.machine in
-    let o = c.args.behind in
-    let n = c.equate.new.machine in
-    let t = c.if-not-take_step.ensures in
     let e = c.in_ok-unified-in-Equal.ensures in
     subst (λ x. LeadsOver 2 qv x n s (all_clauses css)) (sym c.turn_of.ensures)
     (over_one qv (turn_for c.in_ok-unified-in-Equal.unified) n s
-    (equal_leads qv m (going_behind k o) a raw s h c.args.place c.args.goal o at (step_kept m k o t.goals t.assumed t.frames t.denied t.branch) t.choices (t.counts refl) (t.there refl) n e.bound e.residual
-    c.in-Equal.left c.in-Equal.right c.in_ok-unified-in-Equal.unified (subst (IsAtomForm m.bank (tree m.bank c.args.goal.0)) c.in-Equal.is i) t.goals.known.bank e.equated) (all_clauses css))
+    (equal_leads qv m b a raw s h c.args.place c.args.goal o at ks t.choices (t.counts refl) (t.there refl) n e.bound e.residual
+    c.in-Equal.left c.in-Equal.right c.in_ok-unified-in-Equal.unified (subst (IsAtomForm m.bank (tree m.bank c.args.goal.0)) c.in-Equal.is i) t.goals.known.bank e.equated)
+    (written_behind (turn_for c.in_ok-unified-in-Equal.unified) n qv.arity (bound_written b n e.bound (step_stands m b o ks st) qv.arity wb)) (all_clauses css))
 
-pub returns-in_ok-turn-in-Is-clause-calls : goal.returns-in_ok-turn-in-Is-clause-calls
-returns-in_ok-turn-in-Is-clause-calls g c = λ qv a raw s h at i inside callable css pr sw.
+pub returns-in_ok-turn-in-Is-clause-leads : goal.returns-in_ok-turn-in-Is-clause-leads
+returns-in_ok-turn-in-Is-clause-leads g c = λ qv a raw s h at i sf inside css pr sw.
     let m = c.args.machine.now in
+    let k = c.take_step.new.machine in
+    let o = c.args.behind in
+    let b = going_behind k o in
+    let t = c.if-not-take_step.ensures in
+    let ks = step_kept m k o t.goals t.assumed t.frames t.denied t.branch in
+    let st = h.above.done.stands in
+    let wb = step_written m b o ks t.choices st qv.arity sw in
     let n = c.assign.new.machine in
     let turn = c.in_ok-turn-in-Is.turn in
-    over_one qv turn n s (is_out qv m a raw s h c.args.place c.args.goal c.args.behind at callable n turn c.in-Is.left c.in-Is.right (subst (IsAtomForm m.bank (tree m.bank c.args.goal.0)) c.in-Is.is i)) (all_clauses css)
+    let e = c.in_ok-turn-in-Is.ensures in
+    over_next qv turn n s (all_clauses css) (written_behind turn n qv.arity (bound_written b n e.bound (step_stands m b o ks st) qv.arity wb))
+    (is_turn qv m b a raw s h c.args.place c.args.goal o at ks t.choices (t.counts refl) (t.there refl) t.goals.known.bank n
+    turn c.in-Is.left c.in-Is.right (subst (IsAtomForm m.bank (tree m.bank c.args.goal.0)) c.in-Is.is i) (subst (StandsForm (length m.bank.terms)) c.in-Is.is sf) e.assigns (all_clauses css))
 
-pub returns-in_ok-turn-in-Order-clause-calls : goal.returns-in_ok-turn-in-Order-clause-calls
-returns-in_ok-turn-in-Order-clause-calls g c = λ qv a raw s h at i inside callable css pr sw.
+pub returns-in_ok-turn-in-Order-clause-leads : goal.returns-in_ok-turn-in-Order-clause-leads
+returns-in_ok-turn-in-Order-clause-leads g c = λ qv a raw s h at i sf inside css pr sw.
     let m = c.args.machine.now in
+    let k = c.take_step.new.machine in
+    let o = c.args.behind in
+    let b = going_behind k o in
+    let t = c.if-not-take_step.ensures in
+    let ks = step_kept m k o t.goals t.assumed t.frames t.denied t.branch in
+    let st = h.above.done.stands in
+    let wb = step_written m b o ks t.choices st qv.arity sw in
     let n = c.compare.new.machine in
     let turn = c.in_ok-turn-in-Order.turn in
-    over_one qv turn n s
-    (order_out qv m a raw s h c.args.place c.args.goal c.args.behind at callable n turn c.in-Order.order c.in-Order.left c.in-Order.right (subst (IsAtomForm m.bank (tree m.bank c.args.goal.0)) c.in-Order.is i)) (all_clauses css)
+    let e = c.in_ok-turn-in-Order.ensures in
+    over_next qv turn n s (all_clauses css) (written_behind turn n qv.arity (bound_written b n (only_bound b n e.only) (step_stands m b o ks st) qv.arity wb))
+    (order_turn qv m b a raw s h c.args.place c.args.goal o at ks t.choices (t.counts refl) (t.there refl) t.goals.known.bank n
+    turn c.in-Order.order c.in-Order.left c.in-Order.right (subst (IsAtomForm m.bank (tree m.bank c.args.goal.0)) c.in-Order.is i)
+    (subst (StandsForm (length m.bank.terms)) c.in-Order.is sf) e.compares (all_clauses css))
 
-pub returns-in_ok-turn-in-Call-clause-calls : goal.returns-in_ok-turn-in-Call-clause-calls
-returns-in_ok-turn-in-Call-clause-calls g c = λ qv a raw s h at i inside callable.
+pub returns-in_ok-turn-in-Call-clause-leads : goal.returns-in_ok-turn-in-Call-clause-leads
+returns-in_ok-turn-in-Call-clause-leads g c = λ qv a raw s h at i sf inside.
     let m = c.args.machine.now in
     let k = c.take_step.new.machine in
     let o = c.args.behind in
     let t = c.if-not-take_step.ensures in
-    call_turn qv m a raw s h c.args.place c.args.goal o at callable c.take_call.new.machine c.in_ok-turn-in-Call.turn (going_behind k o) (step_kept m k o t.goals t.assumed t.frames t.denied t.branch) t.choices (t.counts refl) (t.there refl) c.in-Call.head c.in-Call.first
+    call_turn qv m a raw s h c.args.place c.args.goal o at c.take_call.new.machine c.in_ok-turn-in-Call.turn (going_behind k o)
+    (step_kept m k o t.goals t.assumed t.frames t.denied t.branch) t.choices (t.counts refl) (t.there refl) c.in-Call.head c.in-Call.first
     (subst (IsAtomForm m.bank (tree m.bank c.args.goal.0)) c.in-Call.is i) (subst (IsFirstIn (length m.bank.terms)) c.in-Call.is inside) c.in_ok-turn-in-Call.ensures.leads refl
 
-pub returns-in-Flexible-clause-calls : goal.returns-in-Flexible-clause-calls
-returns-in-Flexible-clause-calls g c = λ qv a raw s h at i inside callable css pr sw.
+pub returns-in-Flexible-clause-leads : goal.returns-in-Flexible-clause-leads
+returns-in-Flexible-clause-leads g c = λ qv a raw s h at i sf inside css pr sw.
     let m = c.args.machine.now in
     let k = c.take_step.new.machine in
     let o = c.args.behind in
-    let n = going_behind k o in
+    let b = going_behind k o in
     let t = c.if-not-take_step.ensures in
-    over_one qv (Turn.Ended Flexible) n s
-    (flexible_leads qv m n a raw s h c.args.place c.args.goal o at (step_kept m k o t.goals t.assumed t.frames t.denied t.branch) t.choices (t.counts refl) (t.there refl) n (bound_same n) (λ x. x)
-    (subst (IsAtomForm m.bank (tree m.bank c.args.goal.0)) c.in-Flexible.is i)) (all_clauses css)
+    let ks = step_kept m k o t.goals t.assumed t.frames t.denied t.branch in
+    let st = h.above.done.stands in
+    let wb = step_written m b o ks t.choices st qv.arity sw in
+    over_one qv (Turn.Ended Flexible) b s
+    (flexible_leads qv m b a raw s h c.args.place c.args.goal o at ks t.choices (t.counts refl) (t.there refl) b (bound_same b) (λ x. x)
+    (subst (IsAtomForm m.bank (tree m.bank c.args.goal.0)) c.in-Flexible.is i)) tt (all_clauses css)
 
-pub returns-in-Other-clause-calls : goal.returns-in-Other-clause-calls
-returns-in-Other-clause-calls g c = λ qv a raw s h at i inside callable css pr sw.
+pub returns-in-Other-clause-leads : goal.returns-in-Other-clause-leads
+returns-in-Other-clause-leads g c = λ qv a raw s h at i sf inside css pr sw.
     let m = c.args.machine.now in
     let k = c.take_step.new.machine in
     let o = c.args.behind in
-    let n = going_behind k o in
+    let b = going_behind k o in
     let t = c.if-not-take_step.ensures in
-    over_one qv Turn.Back n s
-    (other_leads qv m n a raw s h c.args.place c.args.goal o at (step_kept m k o t.goals t.assumed t.frames t.denied t.branch) t.choices (t.counts refl) (t.there refl) n (bound_same n) (λ x. x)
-    (subst (IsAtomForm m.bank (tree m.bank c.args.goal.0)) c.in-Other.is i)) (all_clauses css)
+    let ks = step_kept m k o t.goals t.assumed t.frames t.denied t.branch in
+    let st = h.above.done.stands in
+    let wb = step_written m b o ks t.choices st qv.arity sw in
+    over_one qv Turn.Back b s
+    (other_leads qv m b a raw s h c.args.place c.args.goal o at ks t.choices (t.counts refl) (t.there refl) b (bound_same b) (λ x. x)
+    (subst (IsAtomForm m.bank (tree m.bank c.args.goal.0)) c.in-Other.is i)) wb (all_clauses css)
+
+pub returns-then-not-take_step-clause-program : goal.returns-then-not-take_step-clause-program
+returns-then-not-take_step-clause-program g c = program_same c.args.machine.now c.take_step.new.machine (c.if-not-take_step.ensures.spent refl).0
+
+pub returns-in_ok-unified-in-Equal-clause-program : goal.returns-in_ok-unified-in-Equal-clause-program
+returns-in_ok-unified-in-Equal-clause-program g c =
+    let m = c.args.machine.now in
+    let k = c.take_step.new.machine in
+    let b = going_behind k c.args.behind in
+    let t = c.if-not-take_step.ensures in
+    let z = goals_keep m k t.goals in
+    program_then m b c.equate.new.machine (record { bank = z.bank; table = z.table; index = z.index }) (bound_keeps b c.equate.new.machine c.in_ok-unified-in-Equal.ensures.bound)
+
+pub returns-in_ok-turn-in-Is-clause-program : goal.returns-in_ok-turn-in-Is-clause-program
+returns-in_ok-turn-in-Is-clause-program g c =
+    let m = c.args.machine.now in
+    let k = c.take_step.new.machine in
+    let b = going_behind k c.args.behind in
+    let t = c.if-not-take_step.ensures in
+    let z = goals_keep m k t.goals in
+    program_then m b c.assign.new.machine (record { bank = z.bank; table = z.table; index = z.index }) (bound_keeps b c.assign.new.machine c.in_ok-turn-in-Is.ensures.bound)
+
+pub returns-in_ok-turn-in-Order-clause-program : goal.returns-in_ok-turn-in-Order-clause-program
+returns-in_ok-turn-in-Order-clause-program g c =
+    let m = c.args.machine.now in
+    let k = c.take_step.new.machine in
+    let b = going_behind k c.args.behind in
+    let t = c.if-not-take_step.ensures in
+    let z = goals_keep m k t.goals in
+    program_then m b c.compare.new.machine (record { bank = z.bank; table = z.table; index = z.index }) (only_keeps b c.compare.new.machine c.in_ok-turn-in-Order.ensures.only)
+
+pub returns-in_ok-turn-in-Call-clause-program : goal.returns-in_ok-turn-in-Call-clause-program
+returns-in_ok-turn-in-Call-clause-program g c =
+    let m = c.args.machine.now in
+    let k = c.take_step.new.machine in
+    let b = going_behind k c.args.behind in
+    let t = c.if-not-take_step.ensures in
+    let z = goals_keep m k t.goals in
+    program_then m b c.take_call.new.machine (record { bank = z.bank; table = z.table; index = z.index }) c.in_ok-turn-in-Call.ensures.program
+
+pub returns-in-Flexible-clause-program : goal.returns-in-Flexible-clause-program
+returns-in-Flexible-clause-program g c =
+    let m = c.args.machine.now in
+    let k = c.take_step.new.machine in
+    let b = going_behind k c.args.behind in
+    let t = c.if-not-take_step.ensures in
+    let z = goals_keep m k t.goals in
+    record { bank = z.bank; table = z.table; index = z.index }
+
+pub returns-in-Other-clause-program : goal.returns-in-Other-clause-program
+returns-in-Other-clause-program g c =
+    let m = c.args.machine.now in
+    let k = c.take_step.new.machine in
+    let b = going_behind k c.args.behind in
+    let t = c.if-not-take_step.ensures in
+    let z = goals_keep m k t.goals in
+    record { bank = z.bank; table = z.table; index = z.index }
+
+pub returns-in_ok-unified-in-Equal-clause-ends : goal.returns-in_ok-unified-in-Equal-clause-ends
+returns-in_ok-unified-in-Equal-clause-ends g c = subst IsGoalTurn (sym c.turn_of.ensures) (unified_ends c.in_ok-unified-in-Equal.unified)
+
+pub returns-in_ok-turn-in-Is-clause-ends : goal.returns-in_ok-turn-in-Is-clause-ends
+returns-in_ok-turn-in-Is-clause-ends g c = let e = c.in_ok-turn-in-Is.ensures.assigns in assigned_ends e.outcome e.between c.assign.new.machine
+    c.in-Is.left c.args.place.level c.in_ok-turn-in-Is.turn e.by
+
+pub returns-in_ok-turn-in-Order-clause-ends : goal.returns-in_ok-turn-in-Order-clause-ends
+returns-in_ok-turn-in-Order-clause-ends g c = compared_ends (going_behind c.take_step.new.machine c.args.behind) c.compare.new.machine
+    c.in-Order.order c.in-Order.left c.in-Order.right c.in_ok-turn-in-Order.turn c.in_ok-turn-in-Order.ensures.compares
+
+pub returns-in_ok-turn-in-Call-clause-ends : goal.returns-in_ok-turn-in-Call-clause-ends
+returns-in_ok-turn-in-Call-clause-ends g c = c.in_ok-turn-in-Call.ensures.ends

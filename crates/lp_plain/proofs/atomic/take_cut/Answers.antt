@@ -10,6 +10,7 @@ use Rattle.lp_plain.specs.WrittenSearch.{IsWrittenSearch}
 use Rattle.lp_plain.proofs.Growing.{grows_kept}
 use Rattle.lp_plain.proofs.Opening.{same_stands}
 use Rattle.lp_plain.proofs.WrittenSearches.{search_cut, search_same}
+use Rattle.lp_plain.proofs.ProgramKept.{goals_keep, program_same}
 use Rattle.lp_plain.proofs.atomic.take_cut.Goals as goal
 
 pub returns-clause-cuts : goal.returns-clause-cuts
@@ -46,7 +47,17 @@ returns-clause-moved g c = λ qv.
     let branch = d.branch ∙ s.branch in
     let keeps : KeepsSearch m _ c.args.behind =
     record {
-      goals = record { known = record { bank = k.known.bank; bindings = k.known.bindings; scopes = k.known.scopes; table = k.known.table; standings = k.known.standings; index = k.known.index }; frames = k.frames };
+      goals = record {
+        known = record {
+          bank = k.known.bank;
+          bindings = k.known.bindings;
+          scopes = k.known.scopes;
+          table = k.known.table;
+          standings = k.known.standings;
+          index = k.known.index;
+        };
+        frames = k.frames;
+      };
       assumed = record { assumptions = d.assumed.assumptions ∙ s.assumed.assumptions; newest = d.assumed.newest ∙ s.assumed.newest };
       frames = d.frames ∙ s.frames;
       denied = d.denied ∙ s.denied;
@@ -73,3 +84,11 @@ returns-clause-written g c = λ ar i w.
 
 pub returns-then-not-take_step-clause-written : goal.returns-then-not-take_step-clause-written
 returns-then-not-take_step-clause-written g c = λ ar i w. subst (λ x. IsWrittenSearch x ar) (sym (c.if-not-take_step.ensures.spent refl).0) w
+
+pub returns-clause-program : goal.returns-clause-program
+returns-clause-program g c =
+    let z = goals_keep c.args.machine.now c.cut.new.self (keeps_then c.args.machine.now c.take_step.new.machine c.cut.new.self c.if-not-take_step.ensures.goals c.cut.ensures.goals) in
+    record { bank = z.bank; table = z.table; index = z.index }
+
+pub returns-then-not-take_step-clause-program : goal.returns-then-not-take_step-clause-program
+returns-then-not-take_step-clause-program g c = program_same c.args.machine.now c.take_step.new.machine (c.if-not-take_step.ensures.spent refl).0

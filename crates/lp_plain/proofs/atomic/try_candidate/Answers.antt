@@ -3,7 +3,9 @@ use Rattle.lp_model.specs.Search.{look}
 use Rattle.lp_model.specs.Unify.{unit_limit}
 use Rattle.lp_plain.specs.Followed.{IsTryOf}
 use Rattle.lp_plain.specs.Moving.{Leads}
+use Rattle.lp_plain.specs.Turns.{IsGoalTurn}
 use Rattle.lp_plain.proofs.Growing.{grows_kept}
+use Rattle.lp_plain.proofs.ProgramKept.{at_keeps, goals_keep, program_then, unified_ends}
 use Rattle.lp_plain.proofs.TrialsFound.{candidate_written}
 use Rattle.lp_plain.proofs.TryMoves.{goal_ready, trial_ready, try_leads}
 use Rattle.lp_plain.proofs.WrittenSearches.{same_lists}
@@ -38,3 +40,11 @@ returns-clause-written c = λ qv a s h w.
     let tr = trial_ready qv k a call one (length m.choices.items) s at wk.at_work in
     c.in_ok-unified.ensures.written qv.arity tr.vars tr.head tr.values tr.around tr.trial at.above.done.stands (goal_ready qv k a call one (length m.choices.items) s at)
     (candidate_written k qv.arity one at.tried at.tried_written) wk
+
+pub returns-clause-program : goal.returns-clause-program
+returns-clause-program c = program_then c.args.machine.now c.put_others.new.machine c.attempt.new.machine
+    (goals_keep c.args.machine.now c.put_others.new.machine c.in_ok-put_others.ensures.goals)
+    (at_keeps c.put_others.new.machine c.attempt.new.machine c.args.call.now.place c.in_ok-unified.ensures.grows.grows)
+
+pub returns-clause-ends : goal.returns-clause-ends
+returns-clause-ends c = subst IsGoalTurn (sym c.turn_of.ensures) (unified_ends c.in_ok-unified.unified)

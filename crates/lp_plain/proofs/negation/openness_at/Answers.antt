@@ -15,3 +15,9 @@ returns-clause-grows c = bank_grows c.args.machine.now _ c.in_ok-openness.ensure
 
 pub returns-clause-stands : goal.returns-clause-stands
 returns-clause-stands c = bank_stands c.args.machine.now _ c.in_ok-openness.ensures.kept refl refl refl
+
+pub returns-clause-program : goal.returns-clause-program
+returns-clause-program c = record { bank = c.in_ok-openness.ensures.kept; table = refl; index = refl }
+
+pub returns-clause-bank : goal.returns-clause-bank
+returns-clause-bank c = record { bank = c.in_ok-openness.ensures.kept; same = refl }

@@ -1,4 +1,4 @@
-use Rattle.std.proofs.Common.{subst, ap, ◌∙◌}
+use Rattle.std.proofs.Common.{refl, subst, ap, ◌∙◌}
 use Rattle.lp_plain.specs.Negations.{AreFound}
 use Rattle.lp_plain.specs.declared.openness.Openness.TheVariants.{Closed, Open, Deep}
 use Rattle.lp_plain.specs.declared.openness.Standing.{Standing}
@@ -9,6 +9,13 @@ use Rattle.std.proofs.Common.{[]}
 use Rattle.lp_plain.proofs.Opening.{same_stands}
 use Rattle.lp_plain.proofs.WrittenGrows.{list_in_later}
 use Rattle.lp_plain.proofs.WrittenSearches.{search_same}
+use Rattle.lp_plain.proofs.ProgramKept.{goals_keep, program_same, program_then}
+use Rattle.std.proofs.Common.{◌≡◌, refl}
+use Rattle.lp_term.specs.Nodes.{Extends}
+use Rattle.lp_plain.specs.Cuts.{one_step, stepped}
+use Rattle.lp_plain.specs.Denials.{IsBegun}
+use Rattle.lp_plain.specs.HeadLooks.{with_bank}
+use Rattle.lp_plain.proofs.DenyTurns.{ends_at_steps, ends_deep, ends_open, search_begins}
 use Rattle.lp_plain.proofs.negation.take_not.Goals as goal
 
 pub returns-in-Deep-clause-takes : goal.returns-in-Deep-clause-takes
@@ -57,3 +64,52 @@ returns-in_ok-begin-in-Closed-clause-written g c = λ on ar i w s.
     let two = search_same k n j grown o.frames (record { assumptions = o.assumptions; newest = o.newest }) (ap (λ v. v.items) o.choices) ar one in
     c.in_ok-begin-in-Closed.ensures.written ar (c.in_ok-openness_at.ensures.stands j)
     (list_in_later m n i (grows_then m k n (grows_kept m k t.goals) grown) ar c.args.place.values.scope [] c.args.goals w) two
+
+pub returns-then-not-take_step-clause-program : goal.returns-then-not-take_step-clause-program
+returns-then-not-take_step-clause-program g c = program_same c.args.machine.now c.take_step.new.machine (c.if-not-take_step.ensures.spent refl).0
+
+pub returns-in-Deep-clause-program : goal.returns-in-Deep-clause-program
+returns-in-Deep-clause-program g c = program_then c.args.machine.now c.take_step.new.machine c.openness_at.new.machine
+    (goals_keep c.args.machine.now c.take_step.new.machine c.take_step.ensures.goals) c.in_ok-openness_at.ensures.program
+
+pub returns-in-Open-clause-program : goal.returns-in-Open-clause-program
+returns-in-Open-clause-program g c = program_then c.args.machine.now c.take_step.new.machine c.openness_at.new.machine
+    (goals_keep c.args.machine.now c.take_step.new.machine c.take_step.ensures.goals) c.in_ok-openness_at.ensures.program
+
+pub returns-in_ok-begin-in-Closed-clause-program : goal.returns-in_ok-begin-in-Closed-clause-program
+returns-in_ok-begin-in-Closed-clause-program g c =
+    let m = c.args.machine.now in
+    let k = c.take_step.new.machine in
+    let n = c.openness_at.new.machine in
+    program_then m n c.begin.new.machine (program_then m k n (goals_keep m k c.take_step.ensures.goals) c.in_ok-openness_at.ensures.program) c.in_ok-begin-in-Closed.ensures.program
+
+pub returns-then-not-take_step-clause-denies : goal.returns-then-not-take_step-clause-denies
+returns-then-not-take_step-clause-denies g c = λ qv a raw s h at.
+    ends_at_steps qv c.args.machine.now a raw s h c.args.place c.args.goals c.args.free c.args.behind at c.args.machine.now (c.if-not-take_step.ensures.spent refl).1
+
+pub returns-in-Deep-clause-denies : goal.returns-in-Deep-clause-denies
+returns-in-Deep-clause-denies g c = λ qv a raw s h at.
+    let goals : Standing = record { free = c.args.free; values = c.args.place.values; older = c.args.place.standing } in
+    ends_deep qv c.args.machine.now a raw s h c.args.place c.args.goals c.args.free c.args.behind at (c.take_step.ensures.there c.if-not-take_step.false) c.openness_at.new.machine
+    (found_before c.args.machine.now c.take_step.new.machine goals Deep c.take_step.ensures.known (subst (AreFound c.take_step.new.machine goals) c.in-Deep.is c.in_ok-openness_at.ensures.found))
+
+pub returns-in-Open-clause-denies : goal.returns-in-Open-clause-denies
+returns-in-Open-clause-denies g c = λ qv a raw s h at.
+    let goals : Standing = record { free = c.args.free; values = c.args.place.values; older = c.args.place.standing } in
+    ends_open qv c.args.machine.now a raw s h c.args.place c.args.goals c.args.free c.args.behind at (c.take_step.ensures.there c.if-not-take_step.false) c.openness_at.new.machine
+    (found_before c.args.machine.now c.take_step.new.machine goals Open c.take_step.ensures.known (subst (AreFound c.take_step.new.machine goals) c.in-Open.is c.in_ok-openness_at.ensures.found))
+
+pub returns-in_ok-begin-in-Closed-clause-denies : goal.returns-in_ok-begin-in-Closed-clause-denies
+returns-in_ok-begin-in-Closed-clause-denies g c = λ qv a raw s h at.
+    let m = c.args.machine.now in
+    let t = c.take_step.new.machine in
+    let o = c.openness_at.new.machine in
+    let n = c.begin.new.machine in
+    let goals : Standing = record { free = c.args.free; values = c.args.place.values; older = c.args.place.standing } in
+    let st : t ≡ stepped m = c.take_step.ensures.stepped c.if-not-take_step.false in
+    let ob = c.in_ok-openness_at.ensures.bank in
+    let x : Extends m.bank o.bank = subst (λ z. Extends z.bank o.bank) st ob.bank in
+    let same : o ≡ record m { counts = one_step m.counts; bank = o.bank } = ob.same ∙ ap (λ z. with_bank z o.bank) st in
+    search_begins qv m a raw s h c.args.place c.args.goals c.args.free c.args.behind at (c.take_step.ensures.there c.if-not-take_step.false) o.bank x n
+    (subst (λ z. IsBegun z n c.args.place c.args.goals c.args.behind) same c.in_ok-begin-in-Closed.ensures.begun)
+    (found_before m t goals Closed c.take_step.ensures.known (subst (AreFound t goals) c.in-Closed.is c.in_ok-openness_at.ensures.found))

@@ -13,6 +13,7 @@ use Rattle.lp_plain.proofs.Opening.{same_stands}
 use Rattle.lp_plain.proofs.TakenApart.{known_taken, no_other, stands_known}
 use Rattle.lp_plain.proofs.WrittenParts.{behind_writes, connective_writes}
 use Rattle.lp_plain.proofs.NoneBound.{none_apart, none_with, with_apart}
+use Rattle.lp_plain.proofs.ProgramKept.{apart_at, apart_goals, program_same}
 use Rattle.lp_plain.proofs.parts.put_connective.Goals as goal
 
 pub returns-in_ok-put_and-in-And-clause-and : goal.returns-in_ok-put_and-in-And-clause-and
@@ -138,35 +139,69 @@ returns-in-True-clause-written c = λ e h. behind_writes c.args.machine.now c.ta
     c.go_behind.ensures.choices
 
 pub returns-in_ok-put_and-in-And-clause-none : goal.returns-in_ok-put_and-in-And-clause-none
-returns-in_ok-put_and-in-And-clause-none c = λ e af. none_apart c.args.machine.now c.take_apart.new.machine c.put_and.new.machine (c.if-not-take_apart.ensures.apart refl) c.in_ok-put_and-in-And.ensures.none
+returns-in_ok-put_and-in-And-clause-none c = λ e af. none_apart c.args.machine.now c.take_apart.new.machine c.put_and.new.machine
+    (c.if-not-take_apart.ensures.apart refl) c.in_ok-put_and-in-And.ensures.none
 
 pub returns-in_ok-put_or-in-Or-clause-none : goal.returns-in_ok-put_or-in-Or-clause-none
-returns-in_ok-put_or-in-Or-clause-none c = λ e af. none_apart c.args.machine.now c.take_apart.new.machine c.put_or.new.machine (c.if-not-take_apart.ensures.apart refl) c.in_ok-put_or-in-Or.ensures.none
+returns-in_ok-put_or-in-Or-clause-none c = λ e af. none_apart c.args.machine.now c.take_apart.new.machine c.put_or.new.machine
+    (c.if-not-take_apart.ensures.apart refl) c.in_ok-put_or-in-Or.ensures.none
 
 pub returns-in_ok-put_for_all-in-ForAll-clause-none : goal.returns-in_ok-put_for_all-in-ForAll-clause-none
-returns-in_ok-put_for_all-in-ForAll-clause-none c = λ e af. none_apart c.args.machine.now c.take_apart.new.machine c.put_for_all.new.machine (c.if-not-take_apart.ensures.apart refl) c.in_ok-put_for_all-in-ForAll.ensures.none
+returns-in_ok-put_for_all-in-ForAll-clause-none c = λ e af. none_apart c.args.machine.now c.take_apart.new.machine c.put_for_all.new.machine
+    (c.if-not-take_apart.ensures.apart refl) c.in_ok-put_for_all-in-ForAll.ensures.none
 
 pub returns-in_ok-put_exists-in-Exists-clause-none : goal.returns-in_ok-put_exists-in-Exists-clause-none
-returns-in_ok-put_exists-in-Exists-clause-none c = λ e af. none_apart c.args.machine.now c.take_apart.new.machine c.put_exists.new.machine (c.if-not-take_apart.ensures.apart refl) c.in_ok-put_exists-in-Exists.ensures.none
+returns-in_ok-put_exists-in-Exists-clause-none c = λ e af. none_apart c.args.machine.now c.take_apart.new.machine c.put_exists.new.machine
+    (c.if-not-take_apart.ensures.apart refl) c.in_ok-put_exists-in-Exists.ensures.none
 
 pub returns-in-True-clause-none : goal.returns-in-True-clause-none
 returns-in-True-clause-none c = λ e af. none_apart c.args.machine.now c.take_apart.new.machine c.go_behind.new.machine (c.if-not-take_apart.ensures.apart refl) c.go_behind.ensures.none
 
 pub returns-in_ok-put_and-in-And-clause-aside_with : goal.returns-in_ok-put_and-in-And-clause-aside_with
 returns-in_ok-put_and-in-And-clause-aside_with c = λ e af.
-    with_apart c.args.machine.now c.take_apart.new.machine c.put_and.new.machine (c.if-not-take_apart.ensures.apart refl) (none_with c.take_apart.new.machine c.put_and.new.machine c.in_ok-put_and-in-And.ensures.choices)
+    with_apart c.args.machine.now c.take_apart.new.machine c.put_and.new.machine (c.if-not-take_apart.ensures.apart refl)
+    (none_with c.take_apart.new.machine c.put_and.new.machine c.in_ok-put_and-in-And.ensures.choices)
 
 pub returns-in_ok-put_or-in-Or-clause-aside_with : goal.returns-in_ok-put_or-in-Or-clause-aside_with
-returns-in_ok-put_or-in-Or-clause-aside_with c = λ e af. with_apart c.args.machine.now c.take_apart.new.machine c.put_or.new.machine (c.if-not-take_apart.ensures.apart refl) c.in_ok-put_or-in-Or.ensures.aside_with
+returns-in_ok-put_or-in-Or-clause-aside_with c = λ e af. with_apart c.args.machine.now c.take_apart.new.machine c.put_or.new.machine
+    (c.if-not-take_apart.ensures.apart refl) c.in_ok-put_or-in-Or.ensures.aside_with
 
 pub returns-in_ok-put_for_all-in-ForAll-clause-aside_with : goal.returns-in_ok-put_for_all-in-ForAll-clause-aside_with
 returns-in_ok-put_for_all-in-ForAll-clause-aside_with c = λ e af.
-    with_apart c.args.machine.now c.take_apart.new.machine c.put_for_all.new.machine (c.if-not-take_apart.ensures.apart refl) (none_with c.take_apart.new.machine c.put_for_all.new.machine c.in_ok-put_for_all-in-ForAll.ensures.choices)
+    with_apart c.args.machine.now c.take_apart.new.machine c.put_for_all.new.machine (c.if-not-take_apart.ensures.apart refl)
+    (none_with c.take_apart.new.machine c.put_for_all.new.machine c.in_ok-put_for_all-in-ForAll.ensures.choices)
 
 pub returns-in_ok-put_exists-in-Exists-clause-aside_with : goal.returns-in_ok-put_exists-in-Exists-clause-aside_with
 returns-in_ok-put_exists-in-Exists-clause-aside_with c = λ e af.
-    with_apart c.args.machine.now c.take_apart.new.machine c.put_exists.new.machine (c.if-not-take_apart.ensures.apart refl) (none_with c.take_apart.new.machine c.put_exists.new.machine c.in_ok-put_exists-in-Exists.ensures.choices)
+    with_apart c.args.machine.now c.take_apart.new.machine c.put_exists.new.machine (c.if-not-take_apart.ensures.apart refl)
+    (none_with c.take_apart.new.machine c.put_exists.new.machine c.in_ok-put_exists-in-Exists.ensures.choices)
 
 pub returns-in-True-clause-aside_with : goal.returns-in-True-clause-aside_with
 returns-in-True-clause-aside_with c = λ e af.
-    with_apart c.args.machine.now c.take_apart.new.machine c.go_behind.new.machine (c.if-not-take_apart.ensures.apart refl) (none_with c.take_apart.new.machine c.go_behind.new.machine (ap (λ v. v.items) c.go_behind.ensures.choices))
+    with_apart c.args.machine.now c.take_apart.new.machine c.go_behind.new.machine (c.if-not-take_apart.ensures.apart refl)
+    (none_with c.take_apart.new.machine c.go_behind.new.machine (ap (λ v. v.items) c.go_behind.ensures.choices))
+
+pub returns-then-not-take_apart-clause-program : goal.returns-then-not-take_apart-clause-program
+returns-then-not-take_apart-clause-program c = program_same c.args.machine.now c.take_apart.new.machine (c.if-not-take_apart.ensures.spent refl).0
+
+pub returns-in_ok-put_and-in-And-clause-program : goal.returns-in_ok-put_and-in-And-clause-program
+returns-in_ok-put_and-in-And-clause-program c = apart_at c.args.machine.now c.take_apart.new.machine c.put_and.new.machine c.args.place
+    (c.if-not-take_apart.ensures.apart refl) c.in_ok-put_and-in-And.ensures.grown
+
+pub returns-in_ok-put_or-in-Or-clause-program : goal.returns-in_ok-put_or-in-Or-clause-program
+returns-in_ok-put_or-in-Or-clause-program c = apart_at c.args.machine.now c.take_apart.new.machine c.put_or.new.machine c.args.place
+    (c.if-not-take_apart.ensures.apart refl) c.in_ok-put_or-in-Or.ensures.grown
+
+pub returns-in_ok-put_for_all-in-ForAll-clause-program : goal.returns-in_ok-put_for_all-in-ForAll-clause-program
+returns-in_ok-put_for_all-in-ForAll-clause-program c = apart_at c.args.machine.now c.take_apart.new.machine c.put_for_all.new.machine c.args.place
+    (c.if-not-take_apart.ensures.apart refl) c.in_ok-put_for_all-in-ForAll.ensures.grown
+
+pub returns-in_ok-put_exists-in-Exists-clause-program : goal.returns-in_ok-put_exists-in-Exists-clause-program
+returns-in_ok-put_exists-in-Exists-clause-program c = apart_at c.args.machine.now c.take_apart.new.machine c.put_exists.new.machine c.args.place
+    (c.if-not-take_apart.ensures.apart refl) c.in_ok-put_exists-in-Exists.ensures.grown
+
+pub returns-in-True-clause-program : goal.returns-in-True-clause-program
+returns-in-True-clause-program c = apart_goals c.args.machine.now c.take_apart.new.machine c.go_behind.new.machine (c.if-not-take_apart.ensures.apart refl) c.go_behind.ensures.known
+
+pub returns-in-Cut-clause-program : goal.returns-in-Cut-clause-program
+returns-in-Cut-clause-program c = apart_goals c.args.machine.now c.take_apart.new.machine c.go_behind-in-Cut.new.machine (c.if-not-take_apart.ensures.apart refl) c.go_behind-in-Cut.ensures.known

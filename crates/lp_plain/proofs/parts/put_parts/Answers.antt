@@ -11,6 +11,7 @@ use Rattle.lp_plain.specs.Taking.{IsApartFlat}
 use Rattle.lp_plain.proofs.Marked.{aside_apart, marks_apart, none_aside}
 use Rattle.lp_plain.proofs.TakenApart.{all_taken, assume_taken, either_taken, none_taken, some_taken}
 use Rattle.lp_plain.proofs.WrittenParts.{all_writes, assume_writes, either_writes, some_writes}
+use Rattle.lp_plain.proofs.ProgramKept.{apart_at, apart_keeps, apart_on, program_same}
 use Rattle.lp_plain.proofs.parts.put_parts.Goals as goal
 
 pub returns-in_ok-put_either-in-Either-clause-either : goal.returns-in_ok-put_either-in-Either-clause-either
@@ -256,3 +257,31 @@ returns-in-Cut-clause-written c = λ e h. absurd (subst IsApartFlat c.in-Cut.is 
 
 pub returns-in-Not-clause-written : goal.returns-in-Not-clause-written
 returns-in-Not-clause-written c = λ e h. absurd (subst IsApartFlat c.in-Not.is h)
+
+pub returns-then-not-take_apart-clause-program : goal.returns-then-not-take_apart-clause-program
+returns-then-not-take_apart-clause-program c = program_same c.args.machine.now c.take_apart.new.machine (c.if-not-take_apart.ensures.spent refl).0
+
+pub returns-in_ok-put_either-in-Either-clause-program : goal.returns-in_ok-put_either-in-Either-clause-program
+returns-in_ok-put_either-in-Either-clause-program c = apart_at c.args.machine.now c.take_apart.new.machine c.put_either.new.machine c.args.place
+    (c.if-not-take_apart.ensures.apart refl) c.in_ok-put_either-in-Either.ensures.grown
+
+pub returns-in_ok-put_some-in-Some-clause-program : goal.returns-in_ok-put_some-in-Some-clause-program
+returns-in_ok-put_some-in-Some-clause-program c = apart_at c.args.machine.now c.take_apart.new.machine c.put_some.new.machine c.args.place
+    (c.if-not-take_apart.ensures.apart refl) c.in_ok-put_some-in-Some.ensures.grown
+
+pub returns-in_ok-put_all-in-All-clause-program : goal.returns-in_ok-put_all-in-All-clause-program
+returns-in_ok-put_all-in-All-clause-program c = apart_at c.args.machine.now c.take_apart.new.machine c.put_all.new.machine c.args.place
+    (c.if-not-take_apart.ensures.apart refl) c.in_ok-put_all-in-All.ensures.grown
+
+pub returns-in_ok-put_assume-in-Assume-clause-program : goal.returns-in_ok-put_assume-in-Assume-clause-program
+returns-in_ok-put_assume-in-Assume-clause-program c = apart_on c.args.machine.now c.take_apart.new.machine c.put_assume.new.machine
+    (c.if-not-take_apart.ensures.apart refl) c.in_ok-put_assume-in-Assume.ensures.grown
+
+pub returns-in-Atom-clause-program : goal.returns-in-Atom-clause-program
+returns-in-Atom-clause-program c = apart_keeps c.args.machine.now c.take_apart.new.machine (c.if-not-take_apart.ensures.apart refl)
+
+pub returns-in-Cut-clause-program : goal.returns-in-Cut-clause-program
+returns-in-Cut-clause-program c = apart_keeps c.args.machine.now c.take_apart.new.machine (c.if-not-take_apart.ensures.apart refl)
+
+pub returns-in-Not-clause-program : goal.returns-in-Not-clause-program
+returns-in-Not-clause-program c = apart_keeps c.args.machine.now c.take_apart.new.machine (c.if-not-take_apart.ensures.apart refl)

@@ -1,5 +1,5 @@
 use Rattle.std.proofs.Common.{◌≡◌, [], ◌++◌, map, reverse, length, refl, sym, ap, ◌∙◌, subst, arith}
-use Rattle.std.specs.Prelude.{nat_eq}
+use Rattle.std.specs.Prelude.{◌<◌, All, nat_eq}
 use Rattle.std.specs.HashMap.{get}
 use Rattle.lp_lemmas.proofs.Elements.{All_empty}
 use Rattle.lp_pattern.proofs.Keeps.{goes_on_same}
@@ -44,7 +44,7 @@ returns-clause-stands c =
     record { table = z.table; values = z.values; frames = z.frames }
 
 pub returns-clause-program : goal.returns-clause-program
-returns-clause-program c = λ j n k css h.
+returns-clause-program c = λ j k css h.
     let b = c.put_all.new.bank in
     let d = c.query_variables.new.bank in
     let t = c.in_ok-made.made.table in
@@ -53,7 +53,7 @@ returns-clause-program c = λ j n k css h.
     let ss = c.in_ok-made.made.spans.items in
     let known = c.in_ok-front.ensures.goals.known in
     subst (λ z. AreProgramOf z c.put_list.new.self.table ss css) (sym known.bank)
-    (subst (λ z. AreProgramOf d z ss css) (sym known.table) (program_on b d t t (λ s cs p. rules_later b d x t m.within s.from s.to cs p) ss css (m.program j n k css h)))
+    (subst (λ z. AreProgramOf d z ss css) (sym known.table) (program_on b d t t (λ s cs p. rules_later b d x t m.within s.from s.to cs p) ss css (m.program j k css h)))
 
 pub returns-clause-starts : goal.returns-clause-starts
 returns-clause-starts c = λ l n k flat h a o answers.
@@ -91,6 +91,9 @@ returns-clause-starts c = λ l n k flat h a o answers.
       },
       f.course.choices ∙ c.new-choices.ensures.items,
     )
+
+pub returns-clause-ends : goal.returns-clause-ends
+returns-clause-ends c = subst (λ t. All (λ k. k < length t.rules.items) (numbers c.in_ok-made.made.spans.items)) (sym c.in_ok-front.ensures.goals.known.table) c.in_ok-made.ensures.ends
 
 pub returns-clause-index : goal.returns-clause-index
 returns-clause-index c =

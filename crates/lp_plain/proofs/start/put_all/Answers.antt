@@ -30,7 +30,7 @@ returns-clause-within c =
     c.in_ok-list.ensures.within c.in_ok-goals.ensures.within (table_later b d c.in_ok-goals.ensures.kept u (table_relinked (length b.terms) t u refl c.in_ok-index.ensures.same i))
 
 pub returns-clause-program : goal.returns-clause-program
-returns-clause-program c = λ j n k css h.
+returns-clause-program c = λ j k css h.
     let a = c.args.bank.now in
     let b = c.put_program.new.bank in
     let d = c.flat_query.new.bank in
@@ -42,7 +42,7 @@ returns-clause-program c = λ j n k css h.
     let i : IsTableIn (length b.terms) t = c.in_ok-spans.ensures.within z in
     let r = table_relinked (length b.terms) t u refl c.in_ok-index.ensures.same i in
     program_on b d t v (λ s cs p. rules_on d Never Never (shown u) (shown v) c.in_ok-list.ensures.kept s.from s.to cs
-    (rules_later b d c.in_ok-goals.ensures.kept u r s.from s.to cs (rules_relinked b t u refl refl refl c.in_ok-index.ensures.same s.from s.to cs p))) c.in_ok-spans.spans.items css (c.in_ok-spans.ensures.program z j n k css h)
+    (rules_later b d c.in_ok-goals.ensures.kept u r s.from s.to cs (rules_relinked b t u refl refl refl c.in_ok-index.ensures.same s.from s.to cs p))) c.in_ok-spans.spans.items css (c.in_ok-spans.ensures.program z j k css h)
 
 pub returns-clause-query : goal.returns-clause-query
 returns-clause-query c = λ l n k flat h.

@@ -1,15 +1,20 @@
-use Rattle.std.proofs.Common.{◌≡◌, ◌∙◌, true, false, refl, sym, ap, subst, arith}
+use Rattle.std.proofs.Common.{◌≡◌, ◌∙◌, true, false, refl, sym, ap, subst}
 use Rattle.lp_model.specs.declared.ending.Ending.TheVariants.{NoMore, NoMoreCut}
 use Rattle.lp_plain.specs.declared.choice.Untried.{Untried}
 use Rattle.lp_plain.specs.declared.outcome.Turn.{Turn}
 use Rattle.lp_plain.specs.Moving.{IsTrying}
 use Rattle.lp_plain.proofs.Backwards.{back_marked, back_state, ends_so}
 use Rattle.lp_plain.proofs.Restored.{goes_back}
-use Rattle.lp_plain.proofs.Following.{kept_of, moved_stands}
-use Rattle.lp_plain.proofs.Treated.{has_last, has_none, inner_turn, last_of, none_below, not_clauses, not_denied}
+use Rattle.lp_plain.specs.WrittenSearch.{IsWrittenSearch}
+use Rattle.lp_plain.proofs.Following.{moved_stands}
+use Rattle.lp_plain.proofs.Led.{led_to}
+use Rattle.lp_plain.proofs.ProgramKept.{clauses_on, goals_keep, program_then, taken_keeps}
+use Rattle.lp_plain.proofs.Treated.{alone_turn, back_alone, has_last, has_none, inner_turn, last_of}
 use Rattle.lp_plain.proofs.BackMoves.{none_moved, side_state}
 use Rattle.lp_plain.proofs.WrittenFirst.{back_written}
 use Rattle.lp_plain.proofs.WrittenSearches.{search_back}
+use Rattle.lp_plain.proofs.RefutedMoves.{by_end, last_above}
+use Rattle.lp_plain.proofs.DenyStands.{refuted_stands}
 use Rattle.lp_plain.proofs.turn.go_back.Goals as goal
 
 pub returns-in_ok-go_right-in-Goals-clause-goes : goal.returns-in_ok-go_right-in-Goals-clause-goes
@@ -181,79 +186,6 @@ returns-in-Denied-clause-written c = λ k rest from e u ar i w.
     let y = c.in-Denied.is in
     absurd (cc)
 
-pub returns-then-machine-clause-stands : goal.returns-then-machine-clause-stands
-returns-then-machine-clause-stands c = λ k h.
-    let m = c.args.machine.now in
-    let qv = h.0 in
-    let s = h.1 in
-    let none = h.2.2 in
-    elim (last_of m.choices.items) [
-      | has_none e ↦ moved_stands k qv m h.2 (Turn.Ended NoMoreCut) s (inner_turn qv.outer (Turn.Ended NoMoreCut) none) (returns-then-machine-clause-moved c qv e s h.3) h.4
-      | has_last ys y e ↦ absurd (let z = (c.in_ok-untried.ensures.taken y ys e).0 in let w = c.in_default.is in cc)
-    ]
-
-pub returns-in_default-clause-stands : goal.returns-in_default-clause-stands
-returns-in_default-clause-stands c = λ k h.
-    let m = c.args.machine.now in
-    let qv = h.0 in
-    let s = h.1 in
-    let none = h.2.2 in
-    elim (last_of m.choices.items) [
-      | has_none e ↦ moved_stands k qv m h.2 (Turn.Ended NoMore) s (inner_turn qv.outer (Turn.Ended NoMore) none) (returns-in_default-clause-moved c qv e s h.3) h.4
-      | has_last ys y e ↦ absurd (let z = (c.in_ok-untried.ensures.taken y ys e).0 in let w = c.in_default.is in cc)
-    ]
-
-pub returns-in_ok-go_right-in-Goals-clause-stands : goal.returns-in_ok-go_right-in-Goals-clause-stands
-returns-in_ok-go_right-in-Goals-clause-stands c = λ k h.
-    let m = c.args.machine.now in
-    let qv = h.0 in
-    let s = h.1 in
-    let none = h.2.2 in
-    let low = none_below qv m h.3.around s.stack none h.3.above in
-    elim (last_of m.choices.items) [
-      | has_none e ↦ absurd (let z = c.in_ok-untried.ensures.none e in let w = c.in-Some.is in cc)
-      | has_last ys y e ↦
-          (let z = (c.in_ok-untried.ensures.taken y ys e).0 in
-          let w = c.in-Goals.is in
-          let v = c.in-Some.is in
-          let u : y.untried ≡ Untried.Goals c.in-Goals.goals = cc in
-          (qv, s, h.2, returns-in_ok-go_right-in-Goals-clause-resumed c qv y ys c.in-Goals.goals e u (omega (arith, low)) s h.3, h.4))
-    ]
-
-pub returns-in_ok-turn-in-Clauses-clause-stands : goal.returns-in_ok-turn-in-Clauses-clause-stands
-returns-in_ok-turn-in-Clauses-clause-stands c = λ k h.
-    let m = c.args.machine.now in
-    let qv = h.0 in
-    let s = h.1 in
-    let none = h.2.2 in
-    let low = none_below qv m h.3.around s.stack none h.3.above in
-    elim (last_of m.choices.items) [
-      | has_none e ↦ absurd (let z = c.in_ok-untried.ensures.none e in let w = c.in-Some.is in cc)
-      | has_last ys y e ↦
-          (let z = (c.in_ok-untried.ensures.taken y ys e).0 in
-          let w = c.in-Clauses.is in
-          let v = c.in-Some.is in
-          let u : y.untried ≡ Untried.Clauses c.in-Clauses.call c.in-Clauses.candidate = cc in
-          absurd (not_clauses k qv m s h.3 y ys e (omega (arith, low)) c.in-Clauses.call c.in-Clauses.candidate u (kept_of k qv.outer s h.4)))
-    ]
-
-pub returns-in-Denied-clause-stands : goal.returns-in-Denied-clause-stands
-returns-in-Denied-clause-stands c = λ k h.
-    let m = c.args.machine.now in
-    let qv = h.0 in
-    let s = h.1 in
-    let none = h.2.2 in
-    let low = none_below qv m h.3.around s.stack none h.3.above in
-    elim (last_of m.choices.items) [
-      | has_none e ↦ absurd (let z = c.in_ok-untried.ensures.none e in let w = c.in-Some.is in cc)
-      | has_last ys y e ↦
-          (let z = (c.in_ok-untried.ensures.taken y ys e).0 in
-          let w = c.in-Denied.is in
-          let v = c.in-Some.is in
-          let u : y.untried ≡ Untried.Denied c.in-Denied.denial = cc in
-          absurd (not_denied k qv m s h.3 y ys e (omega (arith, low)) c.in-Denied.denial u))
-    ]
-
 pub returns-in_ok-turn-in-Clauses-clause-tries_written : goal.returns-in_ok-turn-in-Clauses-clause-tries_written
 returns-in_ok-turn-in-Clauses-clause-tries_written c = λ k rest call one e u l qv s h w.
     let n = c.take_choice.new.self in
@@ -265,6 +197,111 @@ returns-in_ok-turn-in-Clauses-clause-tries_written c = λ k rest call one e u l 
     c.in_ok-turn-in-Clauses.ensures.written qv h.around s
     (subst (λ x. IsTrying qv n h.around x c.in-Clauses.candidate s) (sym sc) (subst (λ x. IsTrying qv n h.around call x s) (sym so) (o.trying qv k rest call one e u l s h)))
     (search_back c.args.machine.now n k rest e t.1 qv.arity w)
+
+pub returns-then-machine-clause-stands : goal.returns-then-machine-clause-stands
+returns-then-machine-clause-stands c = λ k h.
+    let m = c.args.machine.now in
+    let qv = h.0 in
+    let s = h.1 in
+    elim (last_of m.choices.items) [
+      | has_none e ↦ moved_stands k qv m h.2 (Turn.Ended NoMoreCut) (λ y. absurd y) s
+          (alone_turn qv.outer (Turn.Ended NoMoreCut) (back_alone qv m s h.3 e)) (returns-then-machine-clause-moved c qv e s h.3) h.4
+      | has_last ys y e ↦ absurd (let z = (c.in_ok-untried.ensures.taken y ys e).0 in let w = c.in_default.is in cc)
+    ]
+
+pub returns-in_default-clause-stands : goal.returns-in_default-clause-stands
+returns-in_default-clause-stands c = λ k h.
+    let m = c.args.machine.now in
+    let qv = h.0 in
+    let s = h.1 in
+    elim (last_of m.choices.items) [
+      | has_none e ↦ moved_stands k qv m h.2 (Turn.Ended NoMore) (λ y. absurd y) s (alone_turn qv.outer (Turn.Ended NoMore) (back_alone qv m s h.3 e))
+          (returns-in_default-clause-moved c qv e s h.3) h.4
+      | has_last ys y e ↦ absurd (let z = (c.in_ok-untried.ensures.taken y ys e).0 in let w = c.in_default.is in cc)
+    ]
+
+pub returns-in_ok-go_right-in-Goals-clause-stands : goal.returns-in_ok-go_right-in-Goals-clause-stands
+returns-in_ok-go_right-in-Goals-clause-stands c = λ k h.
+    let m = c.args.machine.now in
+    let n = c.take_choice.new.self in
+    let q = c.go_right.new.machine in
+    let qv = h.0 in
+    let s = h.1 in
+    elim (last_of m.choices.items) [
+      | has_none e ↦ absurd (let z = c.in_ok-untried.ensures.none e in let w = c.in-Some.is in cc)
+      | has_last ys y e ↦
+          (let o = c.in_ok-untried.ensures.taken y ys e in
+          let z = o.0 in
+          let w = c.in-Goals.is in
+          let v = c.in-Some.is in
+          let u : y.untried ≡ Untried.Goals c.in-Goals.goals = cc in
+          let low = last_above qv m s h.3 ys y e (λ d x. (let p : Untried.Denied d ≡ Untried.Goals c.in-Goals.goals = sym x ∙ u in absurd (cc))) in
+          let written = returns-in_ok-go_right-in-Goals-clause-written c y ys c.in-Goals.goals e u k.query.arity h.3.above.done.stands h.5.written in (
+            qv,
+            s,
+            h.2,
+            returns-in_ok-go_right-in-Goals-clause-resumed c qv y ys c.in-Goals.goals e u low s h.3,
+            h.4,
+            clauses_on k.program k.query.arity m q (program_then m n q (taken_keeps m n y ys o.1) (goals_keep n q c.in_ok-go_right-in-Goals.ensures.known)) written h.5,
+          ))
+    ]
+
+pub returns-in_ok-turn-in-Clauses-clause-stands : goal.returns-in_ok-turn-in-Clauses-clause-stands
+returns-in_ok-turn-in-Clauses-clause-stands c = λ k h.
+    let m = c.args.machine.now in
+    let n = c.take_choice.new.self in
+    let q = c.try_candidate.new.machine in
+    let qv = h.0 in
+    let s = h.1 in
+    let turn = c.in_ok-turn-in-Clauses.turn in
+    elim (last_of m.choices.items) [
+      | has_none e ↦ absurd (let z = c.in_ok-untried.ensures.none e in let w = c.in-Some.is in cc)
+      | has_last ys y e ↦
+          (let o = c.in_ok-untried.ensures.taken y ys e in
+          let z = o.0 in
+          let w = c.in-Clauses.is in
+          let v = c.in-Some.is in
+          let u : y.untried ≡ Untried.Clauses c.in-Clauses.call c.in-Clauses.candidate = cc in
+          let low = last_above qv m s h.3 ys y e (λ d x. (let p : Untried.Denied d ≡ Untried.Clauses c.in-Clauses.call c.in-Clauses.candidate = sym x ∙ u in absurd (cc))) in
+          let sw = subst (IsWrittenSearch m) (sym h.2.0) h.5.written in
+          led_to k qv m q h.2 (program_then m n q (taken_keeps m n y ys o.1) c.in_ok-turn-in-Clauses.ensures.program) h.5 turn s (inner_turn qv.outer turn c.in_ok-turn-in-Clauses.ensures.ends)
+          (returns-in_ok-turn-in-Clauses-clause-leads c y ys c.in-Clauses.call c.in-Clauses.candidate e u low qv s h.3 sw)
+          (returns-in_ok-turn-in-Clauses-clause-tries_written c y ys c.in-Clauses.call c.in-Clauses.candidate e u low qv s h.3 sw) h.4)
+    ]
+
+pub returns-in-Denied-clause-denied_written : goal.returns-in-Denied-clause-denied_written
+returns-in-Denied-clause-denied_written c = λ k rest d e u ar w.
+    let t = c.in_ok-untried.ensures.taken k rest e in
+    c.end_denial.ensures.written ar (search_back c.args.machine.now c.take_choice.new.self k rest e t.1 ar w)
+
+pub returns-in-Denied-clause-refuted : goal.returns-in-Denied-clause-refuted
+returns-in-Denied-clause-refuted c = λ k rest d e u qv s h.
+    let m = c.args.machine.now in
+    let t = c.in_ok-untried.ensures.taken k rest e in
+    let v : k.untried ≡ Untried.Denied c.in-Denied.denial = (let z = t.0 in let y = c.in-Denied.is in let x = c.in-Some.is in cc) in
+    let r = c.end_denial.ensures in
+    by_end qv m s h k rest e c.take_choice.new.self t.1 c.end_denial.new.machine c.in-Denied.denial v r.only c.end_denial.result
+    c.take_choice.new.self.counts.lost refl (ap (λ z. z.lost) (sym t.1.counts)) r.cut r.holds
+
+pub returns-in-Denied-clause-stands : goal.returns-in-Denied-clause-stands
+returns-in-Denied-clause-stands c = λ k h.
+    let m = c.args.machine.now in
+    let n = c.take_choice.new.self in
+    let q = c.end_denial.new.machine in
+    let qv = h.0 in
+    let s = h.1 in
+    elim (last_of m.choices.items) [
+      | has_none e ↦ absurd (let z = c.in_ok-untried.ensures.none e in let w = c.in-Some.is in cc)
+      | has_last ys y e ↦
+          (let o = c.in_ok-untried.ensures.taken y ys e in
+          let z = o.0 in
+          let w = c.in-Denied.is in
+          let v = c.in-Some.is in
+          let u : y.untried ≡ Untried.Denied c.in-Denied.denial = cc in
+          refuted_stands k qv q s h.2 h.4 c.end_denial.result (returns-in-Denied-clause-refuted c y ys c.in-Denied.denial e u qv s h.3)
+          (λ x. clauses_on k.program k.query.arity m q (program_then m n q (taken_keeps m n y ys o.1) c.end_denial.ensures.program)
+          (returns-in-Denied-clause-denied_written c y ys c.in-Denied.denial e u k.query.arity h.5.written) h.5))
+    ]
 
 pub returns-in_ok-go_right-in-Goals-clause-tries_written : goal.returns-in_ok-go_right-in-Goals-clause-tries_written
 returns-in_ok-go_right-in-Goals-clause-tries_written c = λ k rest call one e u l qv s h w.
@@ -280,11 +317,6 @@ returns-in-Denied-clause-tries_written c = λ k rest call one e u l qv s h w.
     let y = c.in-Denied.is in
     absurd (cc)
 
-pub returns-in-Denied-clause-denied_written : goal.returns-in-Denied-clause-denied_written
-returns-in-Denied-clause-denied_written c = λ k rest d e u ar w.
-    let t = c.in_ok-untried.ensures.taken k rest e in
-    c.end_denial.ensures.written ar (search_back c.args.machine.now c.take_choice.new.self k rest e t.1 ar w)
-
 pub returns-in_ok-turn-in-Clauses-clause-denied_written : goal.returns-in_ok-turn-in-Clauses-clause-denied_written
 returns-in_ok-turn-in-Clauses-clause-denied_written c = λ k rest d e u ar w.
     let t = c.in_ok-untried.ensures.taken k rest e in
@@ -297,4 +329,22 @@ returns-in_ok-go_right-in-Goals-clause-denied_written c = λ k rest d e u ar w.
     let t = c.in_ok-untried.ensures.taken k rest e in
     let z = t.0 in
     let y = c.in-Goals.is in
+    absurd (cc)
+
+pub returns-then-machine-clause-refuted : goal.returns-then-machine-clause-refuted
+returns-then-machine-clause-refuted c = λ k rest d e u. absurd (let z = (c.in_ok-untried.ensures.taken k rest e).0 in let w = c.in_default.is in cc)
+
+pub returns-in_default-clause-refuted : goal.returns-in_default-clause-refuted
+returns-in_default-clause-refuted c = λ k rest d e u. absurd (let z = (c.in_ok-untried.ensures.taken k rest e).0 in let w = c.in_default.is in cc)
+
+pub returns-in_ok-go_right-in-Goals-clause-refuted : goal.returns-in_ok-go_right-in-Goals-clause-refuted
+returns-in_ok-go_right-in-Goals-clause-refuted c = λ k rest d e u.
+    let z = (c.in_ok-untried.ensures.taken k rest e).0 in
+    let y = c.in-Goals.is in
+    absurd (cc)
+
+pub returns-in_ok-turn-in-Clauses-clause-refuted : goal.returns-in_ok-turn-in-Clauses-clause-refuted
+returns-in_ok-turn-in-Clauses-clause-refuted c = λ k rest d e u.
+    let z = (c.in_ok-untried.ensures.taken k rest e).0 in
+    let y = c.in-Clauses.is in
     absurd (cc)

@@ -1,4 +1,4 @@
-use Rattle.lp_plain.proofs.AtGoals.{at_last, at_more, running_framed}
+use Rattle.lp_plain.proofs.AtGoals.{at_last, at_more, framed_work, running_framed}
 use Rattle.std.proofs.Common.{◌≡◌, ◌∙◌, ◌+◌, [], ◌∷◌, ◌++◌, add-one, ap, arith, refl, subst, sym}
 use Rattle.lp_plain.specs.Apart.{IsApart}
 use Rattle.lp_plain.proofs.Counted.{counted_first}
@@ -6,15 +6,15 @@ use Rattle.lp_plain.proofs.FirstGoals.{last_taken, more_taken}
 use Rattle.lp_plain.specs.Taking.{IsApartFlat}
 use Rattle.lp_plain.proofs.OwnValues.{one_read}
 use Rattle.lp_plain.proofs.WrittenFirst.{last_writes, more_writes}
-use Rattle.lp_plain.specs.AtRunTime.{HasNoCall, IsWrittenFlat}
-use Rattle.lp_model.specs.Branch.{Branch}
-use Rattle.lp_plain.proofs.AtGoals.{framed_work}
 use Rattle.lp_plain.proofs.AtomAtHand.{first_written, flat_framed}
 use Rattle.lp_plain.specs.declared.frame.Frame.{Frame}
 use Rattle.lp_plain.specs.declared.frame.Todo.{Todo}
 use Rattle.lp_plain.specs.declared.table.Span.{Span}
-use Rattle.lp_plain.specs.Calling.{IsCallable}
-use Rattle.lp_plain.proofs.CallTerms.{framed_program, framed_written, rest_written}
+use Rattle.lp_plain.proofs.CallTerms.{framed_program, rest_written}
+use Rattle.lp_plain.proofs.ProgramKept.{goals_keep, program_then}
+use Rattle.lp_plain.proofs.WrittenSearches.{search_frame}
+use Rattle.lp_model.specs.Branch.{Branch}
+use Rattle.lp_plain.specs.Denials.{TakesDenied}
 use Rattle.lp_plain.proofs.turn.take_first.Goals as goal
 
 pub returns-then-second-goals-clause-taken : goal.returns-then-second-goals-clause-taken
@@ -56,7 +56,8 @@ returns-clause-aside g c = λ e hs l h f d q from r least most k i j.
 
 pub returns-then-second-goals-clause-moved : goal.returns-then-second-goals-clause-moved
 returns-then-second-goals-clause-moved g c = λ qv a raw s h at pf.
-    c.in_ok-turn.ensures.moved qv a raw s h (at_last c.args.machine.now a c.args.place c.args.goals c.args.behind raw c.in_ok-goal.goal c.in_ok-goal.ensures (omega (arith, c.if-second-goals.true, c.in-Some.ensures.1)) at) pf
+    c.in_ok-turn.ensures.moved qv a raw s h (at_last c.args.machine.now a c.args.place c.args.goals c.args.behind raw c.in_ok-goal.goal
+    c.in_ok-goal.ensures (omega (arith, c.if-second-goals.true, c.in-Some.ensures.1)) at) pf
 
 pub returns-clause-moved : goal.returns-clause-moved
 returns-clause-moved g c = λ qv a raw s h at pf.
@@ -65,7 +66,8 @@ returns-clause-moved g c = λ qv a raw s h at pf.
     let p = c.args.place in
     let f = c.in_ok-rest.ensures in
     c.in_ok-turn-2.ensures.moved qv a raw s (running_framed qv m q a p raw s f.goals f.course f.assumed f.frame (f.stands c.if-second-goals.false h.above.done.stands) at.place h)
-    (at_more m q a p c.args.goals (record { from = c.in-Some.second; to = c.args.goals.to }) c.args.behind c.in_ok-rest.rest raw c.in_ok-goal.goal c.in_ok-goal.ensures (c.in-Some.ensures.1 ∙ add-one c.args.goals.from) refl
+    (at_more m q a p c.args.goals (record { from = c.in-Some.second; to = c.args.goals.to }) c.args.behind c.in_ok-rest.rest raw c.in_ok-goal.goal
+    c.in_ok-goal.ensures (c.in-Some.ensures.1 ∙ add-one c.args.goals.from) refl
     f.goals f.assumed f.reads at) pf
 
 pub returns-then-second-goals-clause-written : goal.returns-then-second-goals-clause-written
@@ -85,43 +87,106 @@ returns-clause-written g c = λ e f got h l.
     (c.in_ok-turn-2.ensures.written e (subst IsApartFlat same h))
 
 pub returns-then-second-goals-clause-leads : goal.returns-then-second-goals-clause-leads
-returns-then-second-goals-clause-leads g c = λ qv a raw s h at af w nc.
+returns-then-second-goals-clause-leads g c = λ qv a raw s h at af w.
     let m = c.args.machine.now in
-    c.in_ok-turn.ensures.leads qv a raw s h (at_last m a c.args.place c.args.goals c.args.behind raw c.in_ok-goal.goal c.in_ok-goal.ensures (omega (arith, c.if-second-goals.true, c.in-Some.ensures.1)) at) af
-    (first_written m qv.arity c.args.place c.args.goals c.in_ok-goal.goal c.in_ok-goal.ensures at.some w) nc
+    c.in_ok-turn.ensures.leads qv a raw s h (at_last m a c.args.place c.args.goals c.args.behind raw c.in_ok-goal.goal c.in_ok-goal.ensures
+    (omega (arith, c.if-second-goals.true, c.in-Some.ensures.1)) at) af
+    (first_written m qv.arity c.args.place c.args.goals c.in_ok-goal.goal c.in_ok-goal.ensures at.some w)
 
 pub returns-clause-leads : goal.returns-clause-leads
-returns-clause-leads g c = λ qv a raw s h at af w nc.
+returns-clause-leads g c = λ qv a raw s h at af w css pr sw.
     let m = c.args.machine.now in
     let q = c.put_frame.new.self in
     let p = c.args.place in
     let f = c.in_ok-rest.ensures in
-    let st = f.stands c.if-second-goals.false h.above.done.stands in
-    c.in_ok-turn-2.ensures.leads qv a raw s (running_framed qv m q a p raw s f.goals f.course f.assumed f.frame st at.place h)
-    (at_more m q a p c.args.goals (record { from = c.in-Some.second; to = c.args.goals.to }) c.args.behind c.in_ok-rest.rest raw c.in_ok-goal.goal c.in_ok-goal.ensures (c.in-Some.ensures.1 ∙ add-one c.args.goals.from) refl
-    f.goals f.assumed f.reads at) af
-    (flat_framed m q f.goals qv.arity p c.in_ok-goal.goal (first_written m qv.arity p c.args.goals c.in_ok-goal.goal c.in_ok-goal.ensures at.some w))
-    (subst (λ (z : Branch). HasNoCall z.goals) (sym (framed_work qv m q a p raw s f.goals f.course f.assumed f.frame st at.place h)) nc)
-
-pub returns-then-second-goals-clause-calls : goal.returns-then-second-goals-clause-calls
-returns-then-second-goals-clause-calls g c = λ qv a raw s h at af w callable css pr sw.
-    let m = c.args.machine.now in
-    c.in_ok-turn.ensures.calls qv a raw s h (at_last m a c.args.place c.args.goals c.args.behind raw c.in_ok-goal.goal c.in_ok-goal.ensures (omega (arith, c.if-second-goals.true, c.in-Some.ensures.1)) at) af
-    (first_written m qv.arity c.args.place c.args.goals c.in_ok-goal.goal c.in_ok-goal.ensures at.some w) callable css pr sw
-
-pub returns-clause-calls : goal.returns-clause-calls
-returns-clause-calls g c = λ qv a raw s h at af w callable css pr sw.
-    let m = c.args.machine.now in
-    let q = c.put_frame.new.self in
-    let p = c.args.place in
-    let f = c.in_ok-rest.ensures in
-    let st = f.stands c.if-second-goals.false h.above.done.stands in
+    let i = h.above.done.stands in
+    let st = f.stands c.if-second-goals.false i in
     let others : Span = record { from = c.in-Some.second; to = c.args.goals.to } in
     let frame : Frame = record { todo = Todo.Goals others; place = p; behind = c.args.behind } in
     let later = c.in-Some.ensures.1 ∙ add-one c.args.goals.from in
     let next : c.in-Some.second ≡ c.args.goals.from + 1 = (let z = c.in-Some.ensures.1 in omega (arith, z)) in
     let w' = rest_written m qv.arity p c.args.goals c.in-Some.second next at.some w in
-    c.in_ok-turn-2.ensures.calls qv a raw s (running_framed qv m q a p raw s f.goals f.course f.assumed f.frame st at.place h)
+    c.in_ok-turn-2.ensures.leads qv a raw s (running_framed qv m q a p raw s f.goals f.course f.assumed f.frame st at.place h)
     (at_more m q a p c.args.goals others c.args.behind c.in_ok-rest.rest raw c.in_ok-goal.goal c.in_ok-goal.ensures later refl f.goals f.assumed f.reads at) af
     (flat_framed m q f.goals qv.arity p c.in_ok-goal.goal (first_written m qv.arity p c.args.goals c.in_ok-goal.goal c.in_ok-goal.ensures at.some w))
-    (subst (λ (z : Branch). IsCallable z.goals) (sym (framed_work qv m q a p raw s f.goals f.course f.assumed f.frame st at.place h)) callable) css (framed_program m q f.goals qv.arity css pr) (framed_written m q f.goals f.assumed qv.arity frame f.pushed w' sw)
+    css (framed_program m q f.goals qv.arity css pr) (search_frame m q frame i f.goals f.assumed f.course.choices f.pushed c.if-second-goals.false qv.arity w' sw)
+
+pub returns-then-second-goals-clause-stays : goal.returns-then-second-goals-clause-stays
+returns-then-second-goals-clause-stays g c = λ a raw at pf ar st w sw.
+    let m = c.args.machine.now in
+    c.in_ok-turn.ensures.stays a raw (at_last m a c.args.place c.args.goals c.args.behind raw c.in_ok-goal.goal c.in_ok-goal.ensures
+    (omega (arith, c.if-second-goals.true, c.in-Some.ensures.1)) at) pf ar st
+    (first_written m ar c.args.place c.args.goals c.in_ok-goal.goal c.in_ok-goal.ensures at.some w) sw
+
+pub returns-clause-stays : goal.returns-clause-stays
+returns-clause-stays g c = λ a raw at pf ar i w sw.
+    let m = c.args.machine.now in
+    let q = c.put_frame.new.self in
+    let p = c.args.place in
+    let f = c.in_ok-rest.ensures in
+    let others : Span = record { from = c.in-Some.second; to = c.args.goals.to } in
+    let frame : Frame = record { todo = Todo.Goals others; place = p; behind = c.args.behind } in
+    let later = c.in-Some.ensures.1 ∙ add-one c.args.goals.from in
+    let next : c.in-Some.second ≡ c.args.goals.from + 1 = (let z = c.in-Some.ensures.1 in omega (arith, z)) in
+    let w' = rest_written m ar p c.args.goals c.in-Some.second next at.some w in
+    c.in_ok-turn-2.ensures.stays a raw (at_more m q a p c.args.goals others c.args.behind c.in_ok-rest.rest raw c.in_ok-goal.goal c.in_ok-goal.ensures
+    later refl f.goals f.assumed f.reads at) pf ar (f.stands c.if-second-goals.false i)
+    (flat_framed m q f.goals ar p c.in_ok-goal.goal (first_written m ar p c.args.goals c.in_ok-goal.goal c.in_ok-goal.ensures at.some w))
+    (search_frame m q frame i f.goals f.assumed f.course.choices f.pushed c.if-second-goals.false ar w' sw)
+
+pub returns-then-second-goals-clause-program : goal.returns-then-second-goals-clause-program
+returns-then-second-goals-clause-program g c = c.in_ok-turn.ensures.program
+
+pub returns-clause-program : goal.returns-clause-program
+returns-clause-program g c =
+    let m = c.args.machine.now in
+    let q = c.put_frame.new.self in
+    program_then m q c.take_flat-2.new.machine (goals_keep m q c.in_ok-rest.ensures.goals) c.in_ok-turn-2.ensures.program
+
+pub returns-then-second-goals-clause-ends : goal.returns-then-second-goals-clause-ends
+returns-then-second-goals-clause-ends g c = c.in_ok-turn.ensures.ends
+
+pub returns-clause-ends : goal.returns-clause-ends
+returns-clause-ends g c = c.in_ok-turn-2.ensures.ends
+
+pub returns-then-second-goals-clause-denies : goal.returns-then-second-goals-clause-denies
+returns-then-second-goals-clause-denies g c = λ qv a raw s h at df.
+    let m = c.args.machine.now in
+    c.in_ok-turn.ensures.denies qv a raw s h (at_last m a c.args.place c.args.goals c.args.behind raw c.in_ok-goal.goal c.in_ok-goal.ensures
+    (omega (arith, c.if-second-goals.true, c.in-Some.ensures.1)) at) df
+
+pub returns-clause-denies : goal.returns-clause-denies
+returns-clause-denies g c = λ qv a raw s h at df.
+    let m = c.args.machine.now in
+    let q = c.put_frame.new.self in
+    let p = c.args.place in
+    let f = c.in_ok-rest.ensures in
+    let st = f.stands c.if-second-goals.false h.above.done.stands in
+    subst (λ (z : Branch). TakesDenied c.in_ok-turn-2.turn qv c.take_flat-2.new.machine s z.goals) (framed_work qv m q a p raw s f.goals f.course f.assumed f.frame st at.place h)
+    (c.in_ok-turn-2.ensures.denies qv a raw s (running_framed qv m q a p raw s f.goals f.course f.assumed f.frame st at.place h)
+    (at_more m q a p c.args.goals (record { from = c.in-Some.second; to = c.args.goals.to }) c.args.behind c.in_ok-rest.rest raw c.in_ok-goal.goal
+    c.in_ok-goal.ensures (c.in-Some.ensures.1 ∙ add-one c.args.goals.from) refl
+    f.goals f.assumed f.reads at) df)
+
+pub returns-then-second-goals-clause-denied_stays : goal.returns-then-second-goals-clause-denied_stays
+returns-then-second-goals-clause-denied_stays g c = λ a raw at df ar st w sw.
+    let m = c.args.machine.now in
+    c.in_ok-turn.ensures.denied_stays a raw (at_last m a c.args.place c.args.goals c.args.behind raw c.in_ok-goal.goal c.in_ok-goal.ensures
+    (omega (arith, c.if-second-goals.true, c.in-Some.ensures.1)) at) df ar st
+    (first_written m ar c.args.place c.args.goals c.in_ok-goal.goal c.in_ok-goal.ensures at.some w) sw
+
+pub returns-clause-denied_stays : goal.returns-clause-denied_stays
+returns-clause-denied_stays g c = λ a raw at df ar i w sw.
+    let m = c.args.machine.now in
+    let q = c.put_frame.new.self in
+    let p = c.args.place in
+    let f = c.in_ok-rest.ensures in
+    let others : Span = record { from = c.in-Some.second; to = c.args.goals.to } in
+    let frame : Frame = record { todo = Todo.Goals others; place = p; behind = c.args.behind } in
+    let later = c.in-Some.ensures.1 ∙ add-one c.args.goals.from in
+    let next : c.in-Some.second ≡ c.args.goals.from + 1 = (let z = c.in-Some.ensures.1 in omega (arith, z)) in
+    let w' = rest_written m ar p c.args.goals c.in-Some.second next at.some w in
+    c.in_ok-turn-2.ensures.denied_stays a raw (at_more m q a p c.args.goals others c.args.behind c.in_ok-rest.rest raw c.in_ok-goal.goal
+    c.in_ok-goal.ensures later refl f.goals f.assumed f.reads at) df ar (f.stands c.if-second-goals.false i)
+    (flat_framed m q f.goals ar p c.in_ok-goal.goal (first_written m ar p c.args.goals c.in_ok-goal.goal c.in_ok-goal.ensures at.some w))
+    (search_frame m q frame i f.goals f.assumed f.course.choices f.pushed c.if-second-goals.false ar w' sw)

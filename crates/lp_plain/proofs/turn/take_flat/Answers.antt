@@ -4,13 +4,14 @@ use Rattle.lp_plain.specs.Moving.{IsAtGoal}
 use Rattle.std.proofs.Common.{subst}
 use Rattle.lp_plain.specs.Taking.{IsApartFlat}
 use Rattle.lp_plain.proofs.TakenApart.{none_taken}
-use Rattle.lp_plain.specs.AtRunTime.{HasNoCall, IsWrittenFlat}
-use Rattle.std.proofs.Common.{sym, ap}
-use Rattle.lp_model.specs.Branch.{Branch}
+use Rattle.lp_plain.specs.AtRunTime.{IsWrittenFlat}
 use Rattle.lp_plain.proofs.AtomAtHand.{instance_at, no_atom_first}
-use Rattle.lp_plain.proofs.LookedOn.{running_on, work_on}
-use Rattle.lp_plain.specs.Calling.{IsCallable}
+use Rattle.lp_plain.proofs.CallArm.{written_behind}
+use Rattle.lp_plain.proofs.LookedOn.{running_on}
+use Rattle.lp_plain.proofs.ProgramKept.{only_keeps, program_then}
+use Rattle.lp_plain.proofs.FirstKinds.{apart_behind, apart_flat}
 use Rattle.lp_plain.proofs.CallTerms.{only_program, only_written}
+use Rattle.lp_plain.proofs.DenyFirst.{no_denied_first, not_written}
 use Rattle.lp_plain.proofs.turn.take_flat.Goals as goal
 
 pub returns-in_ok-turn-in-Atom-clause-taken : goal.returns-in_ok-turn-in-Atom-clause-taken
@@ -56,10 +57,12 @@ pub returns-in_ok-turn-in-Not-clause-aside : goal.returns-in_ok-turn-in-Not-clau
 returns-in_ok-turn-in-Not-clause-aside g c = λ e h. absurd (subst IsApartFlat c.in-Not.is h)
 
 pub returns-in_ok-turn-in-Atom-clause-moved : goal.returns-in_ok-turn-in-Atom-clause-moved
-returns-in_ok-turn-in-Atom-clause-moved g c = λ qv a raw s h at pf. absurd (atom_first c.args.machine.now a c.args.place c.in-Atom.term c.args.behind raw (subst (λ f. IsAtGoal c.args.machine.now a c.args.place f c.args.behind raw) c.in-Atom.is at) pf)
+returns-in_ok-turn-in-Atom-clause-moved g c = λ qv a raw s h at pf. absurd (atom_first c.args.machine.now a c.args.place c.in-Atom.term c.args.behind
+    raw (subst (λ f. IsAtGoal c.args.machine.now a c.args.place f c.args.behind raw) c.in-Atom.is at) pf)
 
 pub returns-in_ok-turn-in-Cut-clause-moved : goal.returns-in_ok-turn-in-Cut-clause-moved
-returns-in_ok-turn-in-Cut-clause-moved g c = λ qv a raw s h at pf. c.in_ok-turn-in-Cut.ensures.moved qv a raw s h (subst (λ f. IsAtGoal c.args.machine.now a c.args.place f c.args.behind raw) c.in-Cut.is at)
+returns-in_ok-turn-in-Cut-clause-moved g c = λ qv a raw s h at pf. c.in_ok-turn-in-Cut.ensures.moved qv a raw s h
+    (subst (λ f. IsAtGoal c.args.machine.now a c.args.place f c.args.behind raw) c.in-Cut.is at)
 
 pub returns-in_ok-turn-in-Not-clause-moved : goal.returns-in_ok-turn-in-Not-clause-moved
 returns-in_ok-turn-in-Not-clause-moved g c = λ qv a raw s h at pf.
@@ -84,7 +87,7 @@ pub returns-in_ok-turn-in_default-clause-written : goal.returns-in_ok-turn-in_de
 returns-in_ok-turn-in_default-clause-written g c = c.in_ok-turn-in_default.ensures.written
 
 pub returns-in_ok-turn-in-Atom-clause-leads : goal.returns-in_ok-turn-in-Atom-clause-leads
-returns-in_ok-turn-in-Atom-clause-leads g c = λ qv a raw s h at af w nc.
+returns-in_ok-turn-in-Atom-clause-leads g c = λ qv a raw s h at af w css pr sw.
     let m = c.args.machine.now in
     let n = c.instance.new.self in
     let p = c.args.place in
@@ -94,45 +97,100 @@ returns-in_ok-turn-in-Atom-clause-leads g c = λ qv a raw s h at af w nc.
     let w' = subst (IsWrittenFlat m qv.arity p) c.in-Atom.is w in
     c.in_ok-turn-in-Atom.ensures.leads qv a raw s (running_on m n e.bank qv a raw s h p at'.place)
     (instance_at m n e.bank p u c.in_ok-atom-in-Atom.atom e.within e.tree a c.args.behind raw h.above.done.stands at' qv.arity w')
-    (subst (λ (z : Branch). HasNoCall z.goals) (sym (work_on m n e.bank qv a raw s h p at'.place)) nc)
+    css (only_program m n e.bank qv.arity css pr) (only_written m n e.bank h.above.done.stands qv.arity sw)
 
 pub returns-in_ok-turn-in-Cut-clause-leads : goal.returns-in_ok-turn-in-Cut-clause-leads
-returns-in_ok-turn-in-Cut-clause-leads g c = λ qv a raw s h at af w nc.
+returns-in_ok-turn-in-Cut-clause-leads g c = λ qv a raw s h at af w.
     let y = c.in-Cut.is in
     absurd (no_atom_first c.args.machine.now a c.args.place c.args.goal c.args.behind raw at (λ u z. cc) af)
 
 pub returns-in_ok-turn-in-Not-clause-leads : goal.returns-in_ok-turn-in-Not-clause-leads
-returns-in_ok-turn-in-Not-clause-leads g c = λ qv a raw s h at af w nc.
+returns-in_ok-turn-in-Not-clause-leads g c = λ qv a raw s h at af w.
     let y = c.in-Not.is in
     absurd (no_atom_first c.args.machine.now a c.args.place c.args.goal c.args.behind raw at (λ u z. cc) af)
 
 pub returns-in_ok-turn-in_default-clause-leads : goal.returns-in_ok-turn-in_default-clause-leads
-returns-in_ok-turn-in_default-clause-leads g c = λ qv a raw s h at af w nc.
+returns-in_ok-turn-in_default-clause-leads g c = λ qv a raw s h at af w.
     absurd (no_atom_first c.args.machine.now a c.args.place c.args.goal c.args.behind raw at c.in_default.not-Atom af)
 
-pub returns-in_ok-turn-in-Atom-clause-calls : goal.returns-in_ok-turn-in-Atom-clause-calls
-returns-in_ok-turn-in-Atom-clause-calls g c = λ qv a raw s h at af w callable css pr sw.
+pub returns-in_ok-turn-in-Atom-clause-stays : goal.returns-in_ok-turn-in-Atom-clause-stays
+returns-in_ok-turn-in-Atom-clause-stays g c = λ a raw at pf ar st w sw. absurd (atom_first c.args.machine.now a c.args.place c.in-Atom.term
+    c.args.behind raw (subst (λ f. IsAtGoal c.args.machine.now a c.args.place f c.args.behind raw) c.in-Atom.is at) pf)
+
+pub returns-in_ok-turn-in-Cut-clause-stays : goal.returns-in_ok-turn-in-Cut-clause-stays
+returns-in_ok-turn-in-Cut-clause-stays g c = λ a raw at pf ar st w sw. written_behind c.in_ok-turn-in-Cut.turn c.take_cut.new.machine ar (c.in_ok-turn-in-Cut.ensures.written ar st sw)
+
+pub returns-in_ok-turn-in-Not-clause-stays : goal.returns-in_ok-turn-in-Not-clause-stays
+returns-in_ok-turn-in-Not-clause-stays g c = λ a raw at pf ar st w sw.
+    absurd (not_first c.args.machine.now a c.args.place c.in-Not.goals c.in-Not.free c.args.behind raw (subst (λ f. IsAtGoal c.args.machine.now a c.args.place f c.args.behind raw) c.in-Not.is at) pf)
+
+pub returns-in_ok-turn-in_default-clause-stays : goal.returns-in_ok-turn-in_default-clause-stays
+returns-in_ok-turn-in_default-clause-stays g c = λ a raw at pf ar st w sw.
+    let n = c.put_parts.new.machine in
+    let e = c.in_ok-turn-in_default.ensures in
+    apart_behind c.in_ok-turn-in_default.turn n ar c.args.machine.now.counts n.counts e.counted
+    (λ q. e.written q (apart_flat c.args.goal c.in_default.not-Atom c.in_default.not-Cut c.in_default.not-Not) ar st w sw)
+
+pub returns-in_ok-turn-in-Atom-clause-program : goal.returns-in_ok-turn-in-Atom-clause-program
+returns-in_ok-turn-in-Atom-clause-program g c =
     let m = c.args.machine.now in
     let n = c.instance.new.self in
-    let p = c.args.place in
-    let u = c.in-Atom.term in
-    let e = c.in_ok-atom-in-Atom.ensures in
-    let at' = subst (λ f. IsAtGoal m a p f c.args.behind raw) c.in-Atom.is at in
-    let w' = subst (IsWrittenFlat m qv.arity p) c.in-Atom.is w in
-    c.in_ok-turn-in-Atom.ensures.calls qv a raw s (running_on m n e.bank qv a raw s h p at'.place)
-    (instance_at m n e.bank p u c.in_ok-atom-in-Atom.atom e.within e.tree a c.args.behind raw h.above.done.stands at' qv.arity w')
-    (subst (λ (z : Branch). IsCallable z.goals) (sym (work_on m n e.bank qv a raw s h p at'.place)) callable) css (only_program m n e.bank qv.arity css pr) (only_written m n e.bank h.above.done.stands qv.arity sw)
+    program_then m n c.take_term.new.machine (only_keeps m n c.in_ok-atom-in-Atom.ensures.bank) c.in_ok-turn-in-Atom.ensures.program
 
-pub returns-in_ok-turn-in-Cut-clause-calls : goal.returns-in_ok-turn-in-Cut-clause-calls
-returns-in_ok-turn-in-Cut-clause-calls g c = λ qv a raw s h at af w callable css pr sw.
+pub returns-in_ok-turn-in-Cut-clause-program : goal.returns-in_ok-turn-in-Cut-clause-program
+returns-in_ok-turn-in-Cut-clause-program g c = c.in_ok-turn-in-Cut.ensures.program
+
+pub returns-in_ok-turn-in-Not-clause-program : goal.returns-in_ok-turn-in-Not-clause-program
+returns-in_ok-turn-in-Not-clause-program g c = c.in_ok-turn-in-Not.ensures.program
+
+pub returns-in_ok-turn-in_default-clause-program : goal.returns-in_ok-turn-in_default-clause-program
+returns-in_ok-turn-in_default-clause-program g c = c.in_ok-turn-in_default.ensures.program
+
+pub returns-in_ok-turn-in-Atom-clause-ends : goal.returns-in_ok-turn-in-Atom-clause-ends
+returns-in_ok-turn-in-Atom-clause-ends g c = c.in_ok-turn-in-Atom.ensures.ends
+
+pub returns-in_ok-turn-in-Cut-clause-ends : goal.returns-in_ok-turn-in-Cut-clause-ends
+returns-in_ok-turn-in-Cut-clause-ends g c = c.in_ok-turn-in-Cut.ensures.ends
+
+pub returns-in_ok-turn-in-Not-clause-ends : goal.returns-in_ok-turn-in-Not-clause-ends
+returns-in_ok-turn-in-Not-clause-ends g c = c.in_ok-turn-in-Not.ensures.ends
+
+pub returns-in_ok-turn-in_default-clause-ends : goal.returns-in_ok-turn-in_default-clause-ends
+returns-in_ok-turn-in_default-clause-ends g c = c.in_ok-turn-in_default.ensures.ends
+
+pub returns-in_ok-turn-in-Atom-clause-denies : goal.returns-in_ok-turn-in-Atom-clause-denies
+returns-in_ok-turn-in-Atom-clause-denies g c = λ qv a raw s h at df.
+    let y = c.in-Atom.is in
+    absurd (no_denied_first c.args.machine.now a c.args.place c.args.goal c.args.behind raw at (λ l f z. cc) df)
+
+pub returns-in_ok-turn-in-Cut-clause-denies : goal.returns-in_ok-turn-in-Cut-clause-denies
+returns-in_ok-turn-in-Cut-clause-denies g c = λ qv a raw s h at df.
     let y = c.in-Cut.is in
-    absurd (no_atom_first c.args.machine.now a c.args.place c.args.goal c.args.behind raw at (λ u z. cc) af)
+    absurd (no_denied_first c.args.machine.now a c.args.place c.args.goal c.args.behind raw at (λ l f z. cc) df)
 
-pub returns-in_ok-turn-in-Not-clause-calls : goal.returns-in_ok-turn-in-Not-clause-calls
-returns-in_ok-turn-in-Not-clause-calls g c = λ qv a raw s h at af w callable css pr sw.
-    let y = c.in-Not.is in
-    absurd (no_atom_first c.args.machine.now a c.args.place c.args.goal c.args.behind raw at (λ u z. cc) af)
+pub returns-in_ok-turn-in-Not-clause-denies : goal.returns-in_ok-turn-in-Not-clause-denies
+returns-in_ok-turn-in-Not-clause-denies g c = λ qv a raw s h at df.
+    c.in_ok-turn-in-Not.ensures.denies qv a raw s h (subst (λ f. IsAtGoal c.args.machine.now a c.args.place f c.args.behind raw) c.in-Not.is at)
 
-pub returns-in_ok-turn-in_default-clause-calls : goal.returns-in_ok-turn-in_default-clause-calls
-returns-in_ok-turn-in_default-clause-calls g c = λ qv a raw s h at af w callable css pr sw.
-    absurd (no_atom_first c.args.machine.now a c.args.place c.args.goal c.args.behind raw at c.in_default.not-Atom af)
+pub returns-in_ok-turn-in_default-clause-denies : goal.returns-in_ok-turn-in_default-clause-denies
+returns-in_ok-turn-in_default-clause-denies g c = λ qv a raw s h at df.
+    absurd (no_denied_first c.args.machine.now a c.args.place c.args.goal c.args.behind raw at c.in_default.not-Not df)
+
+pub returns-in_ok-turn-in-Atom-clause-denied_stays : goal.returns-in_ok-turn-in-Atom-clause-denied_stays
+returns-in_ok-turn-in-Atom-clause-denied_stays g c = λ a raw at df.
+    let y = c.in-Atom.is in
+    absurd (no_denied_first c.args.machine.now a c.args.place c.args.goal c.args.behind raw at (λ l f z. cc) df)
+
+pub returns-in_ok-turn-in-Cut-clause-denied_stays : goal.returns-in_ok-turn-in-Cut-clause-denied_stays
+returns-in_ok-turn-in-Cut-clause-denied_stays g c = λ a raw at df.
+    let y = c.in-Cut.is in
+    absurd (no_denied_first c.args.machine.now a c.args.place c.args.goal c.args.behind raw at (λ l f z. cc) df)
+
+pub returns-in_ok-turn-in-Not-clause-denied_stays : goal.returns-in_ok-turn-in-Not-clause-denied_stays
+returns-in_ok-turn-in-Not-clause-denied_stays g c = λ a raw at df ar st w sw on.
+    c.in_ok-turn-in-Not.ensures.written on ar st (not_written c.args.machine.now ar c.args.place c.in-Not.goals c.in-Not.free
+    (subst (IsWrittenFlat c.args.machine.now ar c.args.place) c.in-Not.is w)) sw
+
+pub returns-in_ok-turn-in_default-clause-denied_stays : goal.returns-in_ok-turn-in_default-clause-denied_stays
+returns-in_ok-turn-in_default-clause-denied_stays g c = λ a raw at df.
+    absurd (no_denied_first c.args.machine.now a c.args.place c.args.goal c.args.behind raw at c.in_default.not-Not df)

@@ -12,11 +12,18 @@ use Rattle.lp_plain.proofs.Marked.{branch_aside, branch_marked}
 use Rattle.lp_plain.proofs.Marking.{marked_turn}
 use Rattle.lp_plain.proofs.FirstGoals.{branch_taken, term_first, term_taken}
 use Rattle.lp_plain.proofs.QuietMoves.{quiet_move}
-use Rattle.lp_plain.proofs.Following.{kept_of, moved_stands}
-use Rattle.lp_plain.proofs.Treated.{goals_some, inner_turn, none_denied, plain_first, term_some}
+use Rattle.lp_plain.proofs.Following.{moved_stands}
+use Rattle.lp_plain.specs.Between.{HasClauses}
+use Rattle.lp_plain.specs.WrittenSearch.{IsWrittenSearch}
+use Rattle.lp_plain.proofs.FirstKinds.{a_not, a_plain, an_atom, first_kind}
+use Rattle.lp_plain.proofs.Led.{behind_written, led_stands}
+use Rattle.lp_plain.proofs.ProgramKept.{clauses_on}
+use Rattle.lp_plain.proofs.Treated.{a_number, alone_turn, goals_some, inner_turn, no_number, none_waits, number_of}
 use Rattle.lp_plain.proofs.WrittenFirst.{branch_written, none_at_hand, term_at_hand}
 use Rattle.lp_plain.specs.AtRunTime.{IsAtomFirst}
 use Rattle.lp_plain.proofs.AtomAtHand.{frame_written, none_atom, term_at}
+use Rattle.lp_plain.proofs.DenyFirst.{none_denied_first, term_denied}
+use Rattle.lp_plain.proofs.DenyStands.{denied_stands, held_stands}
 use Rattle.lp_plain.proofs.turn.take_goal.Goals as goal
 
 pub returns-in_ok-turn-in-Goals-clause-moves : goal.returns-in_ok-turn-in-Goals-clause-moves
@@ -99,7 +106,8 @@ returns-in_ok-turn-in-Goals-clause-moved g c = λ qv s h pf.
     c.in_ok-turn-in-Goals.ensures.moved qv h.around h.raw s h.running (at_frame qv m s h c.in-Some.number c.in_ok-frame.frame c.in-Some.is c.in_ok-frame.ensures c.in-Goals.goals c.in-Goals.is) pf
 
 pub returns-in_ok-turn-in-Term-clause-moved : goal.returns-in_ok-turn-in-Term-clause-moved
-returns-in_ok-turn-in-Term-clause-moved g c = λ qv s h pf. absurd (term_plain qv c.args.machine.now s h c.in-Some.number c.in_ok-frame.frame c.in-Some.is c.in_ok-frame.ensures c.in-Term.term c.in-Term.is pf)
+returns-in_ok-turn-in-Term-clause-moved g c = λ qv s h pf. absurd (term_plain qv c.args.machine.now s h c.in-Some.number c.in_ok-frame.frame
+    c.in-Some.is c.in_ok-frame.ensures c.in-Term.term c.in-Term.is pf)
 
 pub returns-in_default-clause-answered : goal.returns-in_default-clause-answered
 returns-in_default-clause-answered g c = λ qv s h e d.
@@ -125,14 +133,37 @@ returns-in_ok-turn-in-Term-clause-written g c = λ e h ar i w. absurd (term_at_h
 pub returns-in_default-clause-written : goal.returns-in_default-clause-written
 returns-in_default-clause-written g c = λ e h ar i w. absurd (none_at_hand c.args.machine.now c.in_default.is h)
 
+pub returns-in_default-clause-leads : goal.returns-in_default-clause-leads
+returns-in_default-clause-leads g c = λ qv s h af w. absurd (none_atom qv c.args.machine.now s h c.in_default.is af)
+
+pub returns-in_ok-turn-in-Goals-clause-leads : goal.returns-in_ok-turn-in-Goals-clause-leads
+returns-in_ok-turn-in-Goals-clause-leads g c = λ qv s h af w.
+    let m = c.args.machine.now in
+    c.in_ok-turn-in-Goals.ensures.leads qv h.around h.raw s h.running (at_frame qv m s h c.in-Some.number c.in_ok-frame.frame c.in-Some.is c.in_ok-frame.ensures c.in-Goals.goals c.in-Goals.is) af
+    (frame_written qv m s h c.in-Some.number c.in_ok-frame.frame c.in-Some.is c.in_ok-frame.ensures c.in-Goals.goals c.in-Goals.is qv.arity w)
+
+pub returns-in_ok-turn-in-Term-clause-leads : goal.returns-in_ok-turn-in-Term-clause-leads
+returns-in_ok-turn-in-Term-clause-leads g c = λ qv s h af w.
+    c.in_ok-turn-in-Term.ensures.leads qv h.around h.raw s h.running (term_at qv c.args.machine.now s h c.in-Some.number c.in_ok-frame.frame
+    c.in-Some.is c.in_ok-frame.ensures c.in-Term.term c.in-Term.is)
+
 pub returns-in_default-clause-stands : goal.returns-in_default-clause-stands
 returns-in_default-clause-stands g c = λ k h.
     let m = c.args.machine.now in
+    let n = c.end_branch.new.machine in
     let qv = h.0 in
+    let s = h.1 in
     let st = h.3 in
-    let none = h.2.2 in
-    let a = returns-in_default-clause-answered g c qv h.1 st c.in_default.is (none_denied qv.arity m st.around m.denied qv.outer none st.running.above.inside.outer) in
-    moved_stands k qv c.end_branch.new.machine h.2 c.end_branch.result h.1 (inner_turn qv.outer c.end_branch.result none) a.1 h.4
+    let e = c.end_branch.ensures in
+    elim (number_of m.denied) [
+      | no_number d ↦
+          (let a = returns-in_default-clause-answered g c qv s st c.in_default.is d in
+          let alone = none_waits qv.arity m st.around m.denied qv.outer d st.running.above.inside.outer in
+          moved_stands k qv n h.2 c.end_branch.result (λ y. subst (HasClauses k.program k.query.arity) (sym (e.same d)) h.5) s (alone_turn qv.outer c.end_branch.result alone) a.1 h.4)
+      | a_number i d ↦
+          held_stands k qv n s h.2 h.4 c.end_branch.result (e.held qv s st c.in_default.is i d)
+          (λ y. clauses_on k.program k.query.arity m n e.program (e.written k.query.arity st.running.above.done.stands h.5.written) h.5)
+    ]
 
 pub returns-in_ok-turn-in-Goals-clause-stands : goal.returns-in_ok-turn-in-Goals-clause-stands
 returns-in_ok-turn-in-Goals-clause-stands g c = λ k h.
@@ -141,42 +172,54 @@ returns-in_ok-turn-in-Goals-clause-stands g c = λ k h.
     let qv = h.0 in
     let s = h.1 in
     let st = h.3 in
+    let cl = h.5 in
     let turn = c.in_ok-turn-in-Goals.turn in
+    let e = c.in_ok-turn-in-Goals.ensures in
     let at = at_frame qv m s st c.in-Some.number c.in_ok-frame.frame c.in-Some.is c.in_ok-frame.ensures c.in-Goals.goals c.in-Goals.is in
-    let pf = plain_first k qv m s st (kept_of k qv.outer s h.4) (goals_some m st.around c.in_ok-frame.frame.place c.in-Goals.goals c.in_ok-frame.frame.behind st.raw at) in
-    moved_stands k qv n h.2 turn s (inner_turn qv.outer turn h.2.2) (returns-in_ok-turn-in-Goals-clause-moved g c qv s st pf) h.4
+    let w = subst (IsWrittenSearch m) (sym h.2.0) cl.written in
+    elim (first_kind st.raw.goals (goals_some m st.around c.in_ok-frame.frame.place c.in-Goals.goals c.in_ok-frame.frame.behind st.raw at)) [
+      | a_plain pf ↦
+          moved_stands k qv n h.2 turn
+          (λ y. clauses_on k.program k.query.arity m n e.program
+          (behind_written turn n k.query.arity y (e.stays st.around st.raw at pf k.query.arity st.running.above.done.stands
+          (frame_written qv m s st c.in-Some.number c.in_ok-frame.frame c.in-Some.is c.in_ok-frame.ensures c.in-Goals.goals c.in-Goals.is k.query.arity cl.written) cl.written)) cl)
+          s (inner_turn qv.outer turn e.ends) (returns-in_ok-turn-in-Goals-clause-moved g c qv s st pf) h.4
+      | an_atom af ↦ led_stands k qv m n h.2 e.program cl turn s (inner_turn qv.outer turn e.ends) (returns-in_ok-turn-in-Goals-clause-leads g c qv s st af w) h.4
+      | a_not nf ↦
+          denied_stands k qv n s h.2 h.4 m st turn (e.denies qv st.around st.raw s st.running at nf) e.ends
+          (λ y. clauses_on k.program k.query.arity m n e.program (e.denied_stays st.around st.raw at nf k.query.arity st.running.above.done.stands
+          (frame_written qv m s st c.in-Some.number c.in_ok-frame.frame c.in-Some.is c.in_ok-frame.ensures c.in-Goals.goals c.in-Goals.is k.query.arity cl.written) cl.written y) cl)
+    ]
 
 pub returns-in_ok-turn-in-Term-clause-stands : goal.returns-in_ok-turn-in-Term-clause-stands
 returns-in_ok-turn-in-Term-clause-stands g c = λ k h.
     let m = c.args.machine.now in
+    let n = c.take_term.new.machine in
     let qv = h.0 in
     let s = h.1 in
     let st = h.3 in
-    let pf = plain_first k qv m s st (kept_of k qv.outer s h.4) (term_some qv m s st c.in-Some.number c.in_ok-frame.frame c.in-Some.is c.in_ok-frame.ensures c.in-Term.term c.in-Term.is) in
-    absurd (term_plain qv m s st c.in-Some.number c.in_ok-frame.frame c.in-Some.is c.in_ok-frame.ensures c.in-Term.term c.in-Term.is pf)
+    let turn = c.in_ok-turn-in-Term.turn in
+    let at = term_at qv m s st c.in-Some.number c.in_ok-frame.frame c.in-Some.is c.in_ok-frame.ensures c.in-Term.term c.in-Term.is in
+    led_stands k qv m n h.2 c.in_ok-turn-in-Term.ensures.program h.5 turn s (inner_turn qv.outer turn c.in_ok-turn-in-Term.ensures.ends)
+    (returns-in_ok-turn-in-Term-clause-leads g c qv s st (subst IsAtomFirst (sym at.goals) tt) (subst (IsWrittenSearch m) (sym h.2.0) h.5.written)) h.4
 
-pub returns-in_default-clause-leads : goal.returns-in_default-clause-leads
-returns-in_default-clause-leads g c = λ qv s h af w nc. absurd (none_atom qv c.args.machine.now s h c.in_default.is af)
+pub returns-in_default-clause-denies : goal.returns-in_default-clause-denies
+returns-in_default-clause-denies g c = λ qv s h df. absurd (none_denied_first qv c.args.machine.now s h c.in_default.is df)
 
-pub returns-in_ok-turn-in-Goals-clause-leads : goal.returns-in_ok-turn-in-Goals-clause-leads
-returns-in_ok-turn-in-Goals-clause-leads g c = λ qv s h af w nc.
+pub returns-in_ok-turn-in-Goals-clause-denies : goal.returns-in_ok-turn-in-Goals-clause-denies
+returns-in_ok-turn-in-Goals-clause-denies g c = λ qv s h df.
     let m = c.args.machine.now in
-    c.in_ok-turn-in-Goals.ensures.leads qv h.around h.raw s h.running (at_frame qv m s h c.in-Some.number c.in_ok-frame.frame c.in-Some.is c.in_ok-frame.ensures c.in-Goals.goals c.in-Goals.is) af
-    (frame_written qv m s h c.in-Some.number c.in_ok-frame.frame c.in-Some.is c.in_ok-frame.ensures c.in-Goals.goals c.in-Goals.is qv.arity w) nc
+    c.in_ok-turn-in-Goals.ensures.denies qv h.around h.raw s h.running (at_frame qv m s h c.in-Some.number c.in_ok-frame.frame c.in-Some.is c.in_ok-frame.ensures c.in-Goals.goals c.in-Goals.is) df
 
-pub returns-in_ok-turn-in-Term-clause-leads : goal.returns-in_ok-turn-in-Term-clause-leads
-returns-in_ok-turn-in-Term-clause-leads g c = λ qv s h af w nc.
-    c.in_ok-turn-in-Term.ensures.leads qv h.around h.raw s h.running (term_at qv c.args.machine.now s h c.in-Some.number c.in_ok-frame.frame c.in-Some.is c.in_ok-frame.ensures c.in-Term.term c.in-Term.is) nc
+pub returns-in_ok-turn-in-Term-clause-denies : goal.returns-in_ok-turn-in-Term-clause-denies
+returns-in_ok-turn-in-Term-clause-denies g c = λ qv s h df. absurd (term_denied qv c.args.machine.now s h c.in-Some.number c.in_ok-frame.frame
+    c.in-Some.is c.in_ok-frame.ensures c.in-Term.term c.in-Term.is df)
 
-pub returns-in_default-clause-calls : goal.returns-in_default-clause-calls
-returns-in_default-clause-calls g c = λ qv s h af w callable. absurd (none_atom qv c.args.machine.now s h c.in_default.is af)
+pub returns-in_default-clause-held : goal.returns-in_default-clause-held
+returns-in_default-clause-held g c = λ qv s h none number inside. c.end_branch.ensures.held qv s h none number inside
 
-pub returns-in_ok-turn-in-Goals-clause-calls : goal.returns-in_ok-turn-in-Goals-clause-calls
-returns-in_ok-turn-in-Goals-clause-calls g c = λ qv s h af w callable.
-    let m = c.args.machine.now in
-    c.in_ok-turn-in-Goals.ensures.calls qv h.around h.raw s h.running (at_frame qv m s h c.in-Some.number c.in_ok-frame.frame c.in-Some.is c.in_ok-frame.ensures c.in-Goals.goals c.in-Goals.is) af
-    (frame_written qv m s h c.in-Some.number c.in_ok-frame.frame c.in-Some.is c.in_ok-frame.ensures c.in-Goals.goals c.in-Goals.is qv.arity w) callable
+pub returns-in_ok-turn-in-Goals-clause-held : goal.returns-in_ok-turn-in-Goals-clause-held
+returns-in_ok-turn-in-Goals-clause-held g c = λ qv s h none number inside. let y = c.in-Some.is in absurd (cc)
 
-pub returns-in_ok-turn-in-Term-clause-calls : goal.returns-in_ok-turn-in-Term-clause-calls
-returns-in_ok-turn-in-Term-clause-calls g c = λ qv s h af w callable.
-    c.in_ok-turn-in-Term.ensures.calls qv h.around h.raw s h.running (term_at qv c.args.machine.now s h c.in-Some.number c.in_ok-frame.frame c.in-Some.is c.in_ok-frame.ensures c.in-Term.term c.in-Term.is) callable
+pub returns-in_ok-turn-in-Term-clause-held : goal.returns-in_ok-turn-in-Term-clause-held
+returns-in_ok-turn-in-Term-clause-held g c = λ qv s h none number inside. let y = c.in-Some.is in absurd (cc)

@@ -1,4 +1,4 @@
-use Rattle.std.proofs.Common.{[], ◌∷◌, refl, sym, ap, Some}
+use Rattle.std.proofs.Common.{[], ◌∷◌, refl, ap, Some}
 use Rattle.lp_plain.proofs.unified.equate.Goals as goal
 
 pub returns-clause-equated : goal.returns-clause-equated

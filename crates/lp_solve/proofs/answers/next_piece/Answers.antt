@@ -1,6 +1,7 @@
 use Rattle.std.proofs.Common.{subst}
-use Rattle.lp_solve.specs.Events.{CannotBeShown, IfDeep, IsTold, as_told, too_deep}
 use Rattle.lp_solve.specs.Shown.{names_in}
+use Rattle.lp_solve.specs.Written.{CannotBeShown}
+use Rattle.lp_solve.specs.inner.Events.{IfDeep, IsTold, as_told, plain, too_deep}
 use Rattle.lp_solve.proofs.answers.next_piece.Goals as goal
 
 pub returns-in-Ended : goal.returns-in-Ended
@@ -12,4 +13,4 @@ returns-in-Ok g c = (c.in-Answer.answer, subst (λ e. IsTold c.args.search.now e
 pub returns-in-Err-Deep : goal.returns-in-Err-Deep
 returns-in-Err-Deep g c =
     too_deep c.in-Answer.answer c.next_event.new.search (subst (λ e. IsTold c.args.search.now e c.next_event.new.search) c.in-Answer.is c.in_ok-why.ensures)
-    (subst (IfDeep (CannotBeShown (names_in c.args.shown.now) c.in-Answer.answer)) c.in-Err-Deep.field-0-is c.in-Err-Deep.ensures.refused)
+    (subst (IfDeep (CannotBeShown (names_in c.args.shown.now) (plain c.in-Answer.answer))) c.in-Err-Deep.field-0-is c.in-Err-Deep.ensures.refused)

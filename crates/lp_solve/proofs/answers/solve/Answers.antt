@@ -9,13 +9,13 @@ use Rattle.lp_solve.proofs.answers.solve.Goals as goal
 
 pub returns-in-Ok-clause-writes : goal.returns-in-Ok-clause-writes
 returns-in-Ok-clause-writes g c =
-    λ known. search_solved (g.F.Folder.held c.args.folder.now) c.args.question.name.now c.args.question.query.now c.args.watched
+    λ known. search_solved (g.F.Folder.held c.args.folder.now) c.args.question.name.now c.args.question.query.now c.args.watched c.args.question.steps c.args.question.answers
     c.write_answers.result (g.K.Sink.written c.args.out.now) (g.K.Sink.written c.write_answers.new.out)
     c.in-Ok.prepared (c.in-Ok.ensures.ready known) c.write_answers.ensures.writes
 
 pub returns-in-Ok-clause-begins : goal.returns-in-Ok-clause-begins
 returns-in-Ok-clause-begins g c =
-    λ known. search_begun (g.F.Folder.held c.args.folder.now) c.args.question.name.now c.args.question.query.now c.args.watched c.write_answers.result
+    λ known. search_begun (g.F.Folder.held c.args.folder.now) c.args.question.name.now c.args.question.query.now c.args.watched c.args.question.steps c.args.question.answers c.write_answers.result
     (g.K.Sink.written c.args.out.now) (g.K.Sink.written c.write_answers.new.out)
     c.in-Ok.prepared (c.in-Ok.ensures.ready known) c.write_answers.ensures.begins
 
@@ -38,15 +38,15 @@ tell-requires g c = never_write_fault c.in-Err.refusal c.in-Err.ensures.looked.k
 
 pub returns-in-Err-clause-writes : goal.returns-in-Err-clause-writes
 returns-in-Err-clause-writes g c =
-    λ known. line_written (g.F.Folder.held c.args.folder.now) c.args.question.name.now c.args.question.query.now c.args.watched c.tell.result
+    λ known. line_written (g.F.Folder.held c.args.folder.now) c.args.question.name.now c.args.question.query.now c.args.watched c.args.question.steps c.args.question.answers c.tell.result
     (g.K.Sink.written c.args.out.now) (g.K.Sink.written c.tell.new.out)
-    c.in-Err.refusal (c.in-Err.ensures.first known) c.tell.ensures.said
+    c.in-Err.refusal (c.in-Err.ensures.refusal known) c.tell.ensures.said
 
 pub returns-in-Err-clause-begins : goal.returns-in-Err-clause-begins
 returns-in-Err-clause-begins g c =
-    λ known. line_begun (g.F.Folder.held c.args.folder.now) c.args.question.name.now c.args.question.query.now c.args.watched c.tell.result
+    λ known. line_begun (g.F.Folder.held c.args.folder.now) c.args.question.name.now c.args.question.query.now c.args.watched c.args.question.steps c.args.question.answers c.tell.result
     (g.K.Sink.written c.args.out.now) (g.K.Sink.written c.tell.new.out)
-    c.in-Err.refusal (c.in-Err.ensures.first known) c.tell.ensures.prefix
+    c.in-Err.refusal (c.in-Err.ensures.refusal known) c.tell.ensures.prefix
 
 pub returns-in-Err-clause-ran : goal.returns-in-Err-clause-ran
 returns-in-Err-clause-ran g c = ran_told c.in-Err.refusal c.tell.result c.in-Err.ensures.looked c.tell.ensures.said c.tell.ensures.prefix

@@ -4,8 +4,8 @@ use Rattle.lp_base.specs.Written.{Appends, AppendsPrefix}
 use Rattle.lp_base.specs.declared.status.Status.TheVariants as variant
 use Rattle.lp_lines.proofs.Counting.{same_count}
 use Rattle.lp_lines.proofs.Statuses.{memory_of_search}
-use Rattle.lp_solve.specs.Events.{IsPiece}
 use Rattle.lp_solve.specs.Shown.{constants_in, names_in}
+use Rattle.lp_solve.specs.inner.Events.{IsPiece}
 use Rattle.lp_solve.proofs.Telling.{cut_in_answer, lacked, lacked_part, none_so_far, one_so_far, searched_part, searched_whole, told_variables}
 use Rattle.lp_solve.proofs.answers.write_answers.Goals as goal
 

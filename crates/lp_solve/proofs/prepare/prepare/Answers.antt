@@ -8,13 +8,13 @@ use Rattle.lp_solve.proofs.prepare.prepare.Goals as goal
 pub returns-in-Ok-clause-ready : goal.returns-in-Ok-clause-ready
 returns-in-Ok-clause-ready g c = λ known. c.start.ensures.ready (g.F.Folder.held c.args.folder.now) (c.in-Ok.ensures.program known)
 
-pub returns-in-Ok-clause-first : goal.returns-in-Ok-clause-first
-returns-in-Ok-clause-first g c =
+pub returns-in-Ok-clause-refusal : goal.returns-in-Ok-clause-refusal
+returns-in-Ok-clause-refusal g c =
     λ known. refused_by_query (g.F.Folder.held c.args.folder.now) c.args.question.name.now c.args.question.query.now c.in-Ok.built c.start.result
     (c.in-Ok.ensures.program known) c.start.ensures.refused c.start.ensures.placed
 
-pub returns-in-Err-clause-first : goal.returns-in-Err-clause-first
-returns-in-Err-clause-first g c = λ known. of_texts c.in-Err.refusal c.in-Err.ensures.refused (c.in-Err.ensures.placed known)
+pub returns-in-Err-clause-refusal : goal.returns-in-Err-clause-refusal
+returns-in-Err-clause-refusal g c = λ known. of_texts c.in-Err.refusal c.in-Err.ensures.refused (c.in-Err.ensures.placed known)
 
 pub returns-in-Ok-clause-looked : goal.returns-in-Ok-clause-looked
 returns-in-Ok-clause-looked g c = looked_judged c.start.result c.in-Ok.ensures.looked (text_judged c.start.result c.start.ensures.refused)

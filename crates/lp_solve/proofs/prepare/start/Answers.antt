@@ -1,11 +1,13 @@
-use Rattle.std.proofs.Common.{◌∙◌, subst}
+use Rattle.std.proofs.Common.{◌∙◌, refl, subst}
 use Rattle.std.specs.Prelude.{codes}
 use Rattle.lp_lemmas.proofs.Results.{passed_up}
 use Rattle.lp_lines.specs.declared.refusal.Refusal.TheVariants.{Memory}
 use Rattle.lp_lines.specs.Placed.{IsOfText, IfSource}
 use Rattle.lp_lines.specs.Refusals.{IsTextRefusal}
 use Rattle.lp_load.specs.Asked.{IsAsked}
+use Rattle.lp_solve.specs.Queries.{IsQuery}
 use Rattle.lp_solve.specs.Shown.{IsShownWith}
+use Rattle.lp_solve.proofs.Beginning.{begins_so}
 use Rattle.lp_solve.proofs.Refused.{named, shown_before}
 use Rattle.lp_solve.proofs.prepare.start.Goals as goal
 
@@ -17,14 +19,17 @@ returns-clause-ready c =
     let typed = c.in-Ok.typed in
     let same = c.as_bytes-text.ensures.value in
     let query = c.args.question.query.now in
-    record {
+    let asks : IsQuery told c.args.question.name.now query = record {
       built = old;
       loaded = loaded;
       bank = now.assembled.program.bank;
       grown = c.in-Ok.ensures.kept;
       typed = typed;
       asked = subst (λ t. IsAsked old.table old.signature t now.assembled.program.bank typed) same c.in-Ok.ensures.asked;
-      begun = c.in_ok-search.ensures.query;
+    } in
+    record {
+      asks = asks;
+      begins = λ d P gs f. c.in_ok-search.ensures.begins d P gs (begins_so asks now.assembled.program refl c.in-Ok.ensures.clauses d P gs f);
       shown = shown_before query typed old now c.in_ok-shown.shown c.in-Ok.ensures.signature c.in-Ok.ensures.names
           (subst (λ t. IsShownWith t typed now c.in_ok-shown.shown) same c.in_ok-shown.ensures);
     }

@@ -1,4 +1,5 @@
 use Rattle.std.proofs.Common.{sym, subst, false}
+use Rattle.lp_base.specs.declared.limits.TheConstants.{DEFAULT_ANSWERS, DEFAULT_STEPS}
 use Rattle.lp_base.specs.declared.status.Status.TheVariants as variant
 use Rattle.lp_build.specs.Told.{AreKnown}
 use Rattle.lp_lines.proofs.Refusing.{never_write_fault}
@@ -8,7 +9,7 @@ use Rattle.lp_load.specs.Placed.{WritesPlaced}
 use Rattle.lp_solve.specs.Order.{order_of}
 use Rattle.lp_solve.proofs.Orders.{beyond_began, beyond_fault, beyond_told, refusal_began, refusal_fault, refusal_not_source, refusal_told, searched_began, searched_told}
 use Rattle.lp_solve.specs.Solved.{BeginsSolved, WritesSolved}
-use Rattle.lp_solve.proofs.Beyond.{first_refusal, not_meant}
+use Rattle.lp_solve.proofs.Beyond.{is_refusal, not_meant}
 use Rattle.lp_solve.proofs.Refused.{line_begun, line_written}
 use Rattle.lp_solve.proofs.Searched.{search_ends_so, search_grows}
 use Rattle.lp_solve.proofs.solve.solve_plain.Goals as goal
@@ -80,9 +81,12 @@ returns-in-Ok-Beyond-clause-writes g c =
     let known = subst (λ h. AreKnown h c.in-Ok-Beyond.known.items) (sym same) (rw c.in-Ok-Beyond.field-0-is at c.in-Ok-Beyond.ensures.known) in
     let old = g.K.Sink.written c.args.out.now in
     let new = g.K.Sink.written c.solve_known.new.out in
-    subst (λ n. WritesSolved (g.F.Folder.held c.args.folder.now) n c.args.query.now false c.solve_known.result old new) c.plain.ensures.name
-    (subst (λ q. WritesSolved (g.F.Folder.held c.args.folder.now) c.plain.result.name.now q false c.solve_known.result old new) c.plain.ensures.query
-    (subst (λ h. WritesSolved h c.plain.result.name.now c.plain.result.query.now false c.solve_known.result old new) same (c.solve_known.ensures.writes known no)))
+    let p = c.plain.result in
+    subst (λ a. WritesSolved (g.F.Folder.held c.args.folder.now) c.args.name.now c.args.query.now false DEFAULT_STEPS a c.solve_known.result old new) c.plain.ensures.answers
+    (subst (λ s. WritesSolved (g.F.Folder.held c.args.folder.now) c.args.name.now c.args.query.now false s p.answers c.solve_known.result old new) c.plain.ensures.steps
+    (subst (λ n. WritesSolved (g.F.Folder.held c.args.folder.now) n c.args.query.now false p.steps p.answers c.solve_known.result old new) c.plain.ensures.name
+    (subst (λ q. WritesSolved (g.F.Folder.held c.args.folder.now) p.name.now q false p.steps p.answers c.solve_known.result old new) c.plain.ensures.query
+    (subst (λ h. WritesSolved h p.name.now p.query.now false p.steps p.answers c.solve_known.result old new) same (c.solve_known.ensures.writes known no)))))
 
 pub returns-in-Ok-Beyond-clause-begins : goal.returns-in-Ok-Beyond-clause-begins
 returns-in-Ok-Beyond-clause-begins g c =
@@ -91,9 +95,12 @@ returns-in-Ok-Beyond-clause-begins g c =
     let known = subst (λ h. AreKnown h c.in-Ok-Beyond.known.items) (sym same) (rw c.in-Ok-Beyond.field-0-is at c.in-Ok-Beyond.ensures.known) in
     let old = g.K.Sink.written c.args.out.now in
     let new = g.K.Sink.written c.solve_known.new.out in
-    subst (λ n. BeginsSolved (g.F.Folder.held c.args.folder.now) n c.args.query.now false old new) c.plain.ensures.name
-    (subst (λ q. BeginsSolved (g.F.Folder.held c.args.folder.now) c.plain.result.name.now q false old new) c.plain.ensures.query
-    (subst (λ h. BeginsSolved h c.plain.result.name.now c.plain.result.query.now false old new) same (c.solve_known.ensures.begins known is)))
+    let p = c.plain.result in
+    subst (λ a. BeginsSolved (g.F.Folder.held c.args.folder.now) c.args.name.now c.args.query.now false DEFAULT_STEPS a old new) c.plain.ensures.answers
+    (subst (λ s. BeginsSolved (g.F.Folder.held c.args.folder.now) c.args.name.now c.args.query.now false s p.answers old new) c.plain.ensures.steps
+    (subst (λ n. BeginsSolved (g.F.Folder.held c.args.folder.now) n c.args.query.now false p.steps p.answers old new) c.plain.ensures.name
+    (subst (λ q. BeginsSolved (g.F.Folder.held c.args.folder.now) p.name.now q false p.steps p.answers old new) c.plain.ensures.query
+    (subst (λ h. BeginsSolved h p.name.now p.query.now false p.steps p.answers old new) same (c.solve_known.ensures.begins known is)))))
 
 -- a refusal
 pub tell-requires : goal.tell-requires
@@ -123,14 +130,14 @@ returns-in-Err-clause-keeps g c = keeps_told c.in-Err.refusal c.tell.result c.in
 
 pub returns-in-Err-clause-writes : goal.returns-in-Err-clause-writes
 returns-in-Err-clause-writes g c =
-    λ held told beyond. line_written (g.F.Folder.held c.args.folder.now) c.args.name.now c.args.query.now false c.tell.result
+    λ held told beyond. line_written (g.F.Folder.held c.args.folder.now) c.args.name.now c.args.query.now false DEFAULT_STEPS DEFAULT_ANSWERS c.tell.result
     (g.K.Sink.written c.args.out.now) (g.K.Sink.written c.tell.new.out) c.in-Err.refusal
-    (first_refusal (g.F.Folder.held c.args.folder.now) c.args.name.now c.args.query.now held (order_of c.args.name.now c.args.query.now)
+    (is_refusal (g.F.Folder.held c.args.folder.now) c.args.name.now c.args.query.now held (order_of c.args.name.now c.args.query.now)
     c.in-Err.refusal told beyond c.in-Err.ensures.loads) c.tell.ensures.said
 
 pub returns-in-Err-clause-begins : goal.returns-in-Err-clause-begins
 returns-in-Err-clause-begins g c =
-    λ held told beyond. line_begun (g.F.Folder.held c.args.folder.now) c.args.name.now c.args.query.now false c.tell.result
+    λ held told beyond. line_begun (g.F.Folder.held c.args.folder.now) c.args.name.now c.args.query.now false DEFAULT_STEPS DEFAULT_ANSWERS c.tell.result
     (g.K.Sink.written c.args.out.now) (g.K.Sink.written c.tell.new.out) c.in-Err.refusal
-    (first_refusal (g.F.Folder.held c.args.folder.now) c.args.name.now c.args.query.now held (order_of c.args.name.now c.args.query.now)
+    (is_refusal (g.F.Folder.held c.args.folder.now) c.args.name.now c.args.query.now held (order_of c.args.name.now c.args.query.now)
     c.in-Err.refusal told beyond c.in-Err.ensures.loads) c.tell.ensures.prefix

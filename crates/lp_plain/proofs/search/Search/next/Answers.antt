@@ -1,0 +1,16 @@
+use Rattle.std.proofs.Common.{refl, sym, true, false}
+use Rattle.lp_plain.specs.Held.{ended}
+use Rattle.lp_plain.proofs.Between.{failed_between, is_over_still, over_told}
+use Rattle.lp_plain.proofs.search.Search.next.Goals as goal
+
+pub returns-in-Some-clause-search : goal.returns-in-Some-clause-search
+unfolding ended
+returns-in-Some-clause-search g c = λ P n s h en x t d.
+    let r = is_over_still P n c.args.self.now s c.in-Some.ending c.in-Some.is h x t d in
+    (over_told x _ c.in-Some.ending r.0 refl, r.1)
+
+pub returns-clause-search : goal.returns-clause-search
+unfolding ended
+returns-clause-search g c = λ P n s h en x t d.
+    let r = c.in_ok-event.ensures.search c.in_default.is P n s (failed_between P n c.args.self.now true s h) en x t d in
+    (r.0, failed_between P n c.advance.new.self false t r.1)

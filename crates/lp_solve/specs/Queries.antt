@@ -1,0 +1,56 @@
+-- A query on the program of texts, and the definition's search of it.
+use Rattle.std.specs.Prelude.{◌≡◌, ◌<◌, ℕ, List, length, Option, Some}
+use Rattle.lp_base.specs.Held.{Held}
+use Rattle.lp_term.specs.Nodes.{Nodes, Extends, tree}
+use Rattle.lp_model.specs.Branch.{Answer, Task}
+use Rattle.lp_model.specs.Flat.{Clause, Goals}
+use Rattle.lp_model.specs.Flatten.{flatten_query}
+use Rattle.lp_model.specs.Proofs.{AreFlattened, Declared}
+use Rattle.lp_model.specs.Search.{look, start}
+use Rattle.lp_model.specs.Shown.{Entry}
+use Rattle.lp_model.specs.Skeleton.{State, Told, run}
+use Rattle.lp_model.specs.Unify.{unit_limit}
+use Rattle.lp_model.specs.declared.program.Typed.{Typed}
+use Rattle.lp_plain.specs.Reached.{HasSmallGoal, IsReached}
+use Rattle.lp_build.specs.declared.build.Built.{Built}
+use Rattle.lp_load.specs.Asked.{IsAsked}
+use Rattle.lp_load.specs.Loaded.{IsLoaded}
+use Rattle.lp_solve.specs.Shown.{all_constants, names_written}
+use Rattle.lp_solve.specs.Sources.{HasTypes, source_clauses}
+
+-- a query, as its text says it, on the program of a module, as the folder tells its texts
+pub record IsQuery (told : Option Held) (name text : List ℕ) : Type 0 where
+  pub built : Built
+  pub loaded : IsLoaded told name built
+  pub bank : Nodes
+  pub grown : Extends built.assembled.program.bank bank
+  pub typed : Typed
+  pub asked : IsAsked built.table built.signature text bank typed
+
+-- the constants of its program, and the names of its variables as they are written
+abbrev pub entries : {told : Option Held} {name text : List ℕ} → IsQuery told name text → List Entry
+entries q = all_constants q.built
+
+abbrev pub names : {told : Option Held} {name text : List ℕ} → IsQuery told name text → List (List ℕ)
+names {text = text} q = names_written text q.typed
+
+-- by the declared types d of the program, its source clauses flatten to P, and the query to gs
+pub record IsFlat {told : Option Held} {name text : List ℕ} (q : IsQuery told name text) (d : Declared) (P : List Clause) (gs : Goals) : Type 0 where
+  pub types : HasTypes q.loaded.program d
+  pub clauses : AreFlattened d (source_clauses q.loaded.program) P
+  pub depth : ℕ
+  pub goals : flatten_query depth d (tree q.bank q.typed.formula.0) ≡ Some gs
+
+-- the definition's search of it begins so, with these limits of steps and of answers
+abbrev pub first_state : {told : Option Held} {name text : List ℕ} → IsQuery told name text → Goals → (steps answers : ℕ) → State Task
+first_state q gs steps answers = start q.typed.type_vars (length q.typed.vars.items) gs steps answers
+
+-- what it tells in so many moves, with so many in each search of a negated goal, and with so many steps for each look
+abbrev pub told_by : List Clause → (looks inner_moves moves : ℕ) → State Task → Told Answer
+told_by P n j m s = run (look unit_limit n P) j m s
+
+-- it is told to be too deep only where it is so by itself: each look takes fewer than 1,000,000 steps, and no expression that it evaluates, and no term that is written in a negated goal, has a normal form of more than
+-- 1,000,000 nodes
+pub record IsExact (P : List Clause) (looks : ℕ) (s : State Task) : Type 0 where
+  pub few : looks < 1000000
+  pub small : (u : State Task) → IsReached (look unit_limit looks P) s u → HasSmallGoal u.stack

@@ -1,0 +1,3 @@
+-- What only the writing of answers keeps.
+pub mod Events
+pub mod Searched
