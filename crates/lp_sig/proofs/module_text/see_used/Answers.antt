@@ -16,7 +16,7 @@ loop-at-init c = record {
   words = λ words h. subst (HasWords c.args.making.now.constants) (sym (append-nil words)) h;
   operators = refl;
   grown = making_same c.args.making.now;
-  count = ap length c.new-sights.ensures;
+  count = ap length c.new-sights.ensures.items;
   counted = λ said words k h all ordered alike. all;
   seen = λ said words k h all ordered n low alike i below. absurd (omega (arith, low, below));
 }

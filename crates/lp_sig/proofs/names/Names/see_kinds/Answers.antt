@@ -18,14 +18,14 @@ loop-at-preserved c =
     let e = c.index-entries-at.result in (
       (λ said k.
           subst (Knows c.see_kind.new.self) (mapped_at kind_said es i e said c.loop-at-test.true c.index-entries-at.is)
-          (c.in_ok-field-0.ensures.names (said ++ map kind_said (take i es)) (c.loop-at.invariant.0 said k))),
+          (c.in_ok-number.ensures.names (said ++ map kind_said (take i es)) (c.loop-at.invariant.0 said k))),
       (λ said k numbers none.
           let e_is = c.index-entries-at.is in
           kinds_step said es i e c.loop-at-test.true e_is numbers (get nat_eq c.loop-at.kinds) (get nat_eq c.note_kind.new.kinds)
-              c.in_ok-field-0.field-0.0 c.in_ok-field-0.field-0.1 c.loop-at.all c.and.result
+              c.in_ok-number.number c.in_ok-number.sight c.loop-at.all c.and.result
           c.in_ok-note_kind.ensures c.and.ensures
-          (subst (λ r. HasItsNumber r e.name.items c.in_ok-field-0.field-0) (mapped_at kind_said es i e said c.loop-at-test.true e_is)
-              (c.in_ok-field-0.ensures.number (said ++ map kind_said (take i es)) (c.loop-at.invariant.0 said k)))
+          (subst (λ r. HasItsNumber r e.name.items (c.in_ok-number.number, c.in_ok-number.sight)) (mapped_at kind_said es i e said c.loop-at-test.true e_is)
+              (c.in_ok-number.ensures.number (said ++ map kind_said (take i es)) (c.loop-at.invariant.0 said k)))
           (λ premise. c.loop-at.invariant.1 said k numbers none premise)),
     )
 

@@ -6,8 +6,8 @@ use Rattle.lp_sig.proofs.Sighting.{seen_later, seen_push}
 use Rattle.lp_sig.proofs.store.Types.see_types.Goals as goal
 
 pub loop-number-init : goal.loop-number-init
-loop-number-init c = record { kept = extends_same c.args.self.now.bank; count = ap length c.new-made.ensures; seen = λ names here all. subst
-    (AreSeenTypes c.args.bank.now c.args.self.now.bank names here) (sym c.new-made.ensures) (λ i t e. absurd (cc)) }
+loop-number-init c = record { kept = extends_same c.args.self.now.bank; count = ap length c.new-made.ensures.items; seen = λ names here all. subst
+    (AreSeenTypes c.args.bank.now c.args.self.now.bank names here) (sym c.new-made.ensures.items) (λ i t e. absurd (cc)) }
 
 pub loop-number-preserved : goal.loop-number-preserved
 loop-number-preserved c = record {
