@@ -1,7 +1,7 @@
 -- The signature of texts: kinds by their places, types of constants with as many variables as is said and with kinds that have names.
 use Rattle.std.specs.Global.{Global}
 use Rattle.std.proofs.Common.{◌≡◌, ℕ, zero, suc, ◌+◌, ◌-◌, ◌<◌, ◌≤◌, min, List, [], ◌∷◌, ◌++◌, map, length, get_or, refl, sym, ap, subst, ◌∙◌, arith, Bool, true, false, Option, Some, None, inl, inr}
-use Rattle.std.specs.Prelude.{String, Vec, ◌⊎◌, nat_eq, nat_lt, if◌then◌else◌, option_map, slice_get, All}
+use Rattle.std.specs.Prelude.{◌||◌, String, Vec, ◌⊎◌, nat_eq, nat_lt, if◌then◌else◌, option_map, slice_get, All}
 use Rattle.std.specs.List.{list_any, range_with_len}
 use Rattle.std.proofs.lemmas.Bool.{eqb-true}
 use Rattle.std.proofs.lemmas.List.Elements.{All-nil, All-cons}
@@ -35,7 +35,8 @@ numbers_by_place : (n k : ℕ) (es : List KindEntry) (rows : List (Row ℕ)) →
 numbers_by_place n k [] rows same e = refl
 numbers_by_place n k (x ∷ xs) [] same e = absurd (cc)
 numbers_by_place n k (x ∷ xs) (r ∷ rs) same e =
-    let h : x.number ≡ n = cc in
+    let row : kind_row x ≡ (r.0, (n, r.1)) = cc in
+    let h : x.number ≡ n = ap (λ p. p.1.0) row in
     let t : map kind_row xs ≡ numbered (suc n) rs = cc in
     let z : suc n ≡ k + 1 = omega (arith, same) in
     let rest = numbers_by_place (suc n) (k + 1) xs rs z t in
@@ -46,7 +47,8 @@ kind_names_are n [] [] e = refl
 kind_names_are n [] (r ∷ rs) e = absurd (cc)
 kind_names_are n (x ∷ xs) [] e = absurd (cc)
 kind_names_are n (x ∷ xs) (r ∷ rs) e =
-    let h : x.name.items ≡ r.0 = cc in
+    let row : kind_row x ≡ (r.0, (n, r.1)) = cc in
+    let h : x.name.items ≡ r.0 = ap (λ p. p.0) row in
     let t : map kind_row xs ≡ numbered (suc n) rs = cc in
     let rest = kind_names_are (suc n) xs rs t in
     λ i. h i ∷ rest i
@@ -78,7 +80,7 @@ kind_known name said k e = standard (found name standard_kinds) refl e
         (w : List ℕ) × (kind_name (said_kinds said) k ≡ Some w)
     standard None s e = declared (found name (numbered 8 (kinds_among (declared_names said)))) refl e
     standard (Some r) s e =
-        let (i, at, there) = found_in_place name 0 standard_kinds r (refl, refl, refl, refl, tt) s in
+        let (i, at, there) = found_in_place name 0 standard_kinds r (refl, (refl, (refl, (refl, tt)))) s in
         let l = slice_get_within (names_in standard_kinds) i name there in
         let m : r.0 ≡ k = same_Some r.0 k e in
         let four : length (names_in standard_kinds) ≡ 4 = refl in
@@ -147,8 +149,8 @@ place_once [] x y h k e = absurd (cc)
 place_once (n ∷ N) x y h k e = by (nat_eq x n) refl (nat_eq y n) refl (place_once N x y) h k e
   where
     by : (t : Bool) → nat_eq x n ≡ t → (u : Bool) → nat_eq y n ≡ u → (list_any (nat_eq x) N ≡ true → list_any (nat_eq y) N ≡ true → place N x ≡ place
-        N y → x ≡ y) → (if t then true else list_any (nat_eq x) N) ≡ true →
-        (if u then true else list_any (nat_eq y) N) ≡ true → (if t then 0 else suc (place N x)) ≡ (if u then 0 else suc (place N y)) → x ≡ y
+        N y → x ≡ y) → (t || list_any (nat_eq x) N) ≡ true →
+        (u || list_any (nat_eq y) N) ≡ true → (if t then 0 else suc (place N x)) ≡ (if u then 0 else suc (place N y)) → x ≡ y
     by true a true b ih h k e = eqb-true x n a ∙ sym (eqb-true y n b)
     by true a false b ih h k e = absurd (omega (arith, e))
     by false a true b ih h k e = absurd (omega (arith, e))

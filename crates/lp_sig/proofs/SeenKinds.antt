@@ -55,7 +55,7 @@ module _ (said : List (Row Said)) (es : List KindEntry) (i : ℕ) (e : KindEntry
       taken : (es : List KindEntry) (i : ℕ) → i < length es → e ≡ get_or es i e → slice_get (map (λ e. e.name.items) (take (i + 1) es)) i ≡ Some e.name.items
       taken [] i l at = absurd (omega (arith, l))
       taken (x ∷ xs) zero l at = ap (λ e. Some e.name.items) (sym at)
-      taken (x ∷ xs) (suc i) l at = taken xs i (omega (arith, l)) at
+      taken (x ∷ xs) (suc i) l at = let z : suc i + 1 ≡ suc (i + 1) = omega arith in ap (λ n. slice_get (map (λ e. e.name.items) (take n (x ∷ xs))) (suc i)) z ∙ taken xs i (omega (arith, l)) at
 
   -- one more kind has its number
   pub kinds_step : map (λ e. e.number) es ≡ range_with_len 8 (length es) → (old new : ℕ → Option ℕ) (number : ℕ) (s all all_then : Sight) →

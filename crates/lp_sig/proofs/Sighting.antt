@@ -83,7 +83,7 @@ kind_numbered name said n e fits = standard (found name standard_kinds) refl e
         kind_name (said_kinds said) n ≡ Some name
     standard None s e = declared (found name (numbered 8 (kinds_among (declared_names said)))) refl e
     standard (Some r) s e =
-        let (i, at, there) = found_in_place name 0 standard_kinds r (refl, refl, refl, refl, tt) s in
+        let (i, at, there) = found_in_place name 0 standard_kinds r (refl, (refl, (refl, (refl, tt)))) s in
         let l = slice_get_within (names_in standard_kinds) i name there in
         let m : r.0 ≡ n = same_Some r.0 n e in
         let four : length (names_in standard_kinds) ≡ 4 = refl in
@@ -155,12 +155,12 @@ kind_then said more name m h =
 found_among : {A : Type 0} (name : List ℕ) (front : List (Row A)) (rows back : List (Row A)) (i : ℕ) → slice_get (names_in rows) i ≡ Some name →
     (b : A) × (found name (front ++ (rows ++ back)) ≡ Some b)
 found_among name [] [] back i e = absurd (cc)
-found_among {A} name [] (x ∷ xs) back i e = by (bytes_eq name x.0) refl i e
+found_among {A} name [] (x ∷ xs) back i e = by (bytes_eq name x.0) refl (λ j f. found_among name [] xs back j f) i e
   where
-    by : (t : Bool) → bytes_eq name x.0 ≡ t → (i : ℕ) → slice_get (x.0 ∷ names_in xs) i ≡ Some name → (b : A) × (cond t (Some x.1) (found name (xs ++ back)) ≡ Some b)
-    by true s i e = (x.1, refl)
-    by false s zero e = absurd (true≢false (sym ((bytes_eq-Decides name x.0).1 (sym (same_Some x.0 name e))) ∙ s))
-    by false s (suc i) e = found_among name [] xs back i e
+    by : (t : Bool) → bytes_eq name x.0 ≡ t → ((j : ℕ) → slice_get (names_in xs) j ≡ Some name → (b : A) × (found name (xs ++ back) ≡ Some b)) → (i : ℕ) → slice_get (x.0 ∷ names_in xs) i ≡ Some name → (b : A) × (cond t (Some x.1) (found name (xs ++ back)) ≡ Some b)
+    by true s h i e = (x.1, refl)
+    by false s h zero e = absurd (true≢false (sym ((bytes_eq-Decides name x.0).1 (sym (same_Some x.0 name e))) ∙ s))
+    by false s h (suc i) e = h i e
 found_among {A} name (x ∷ xs) rows back i e = by (found_among name xs rows back i e) (bytes_eq name x.0)
   where
     by : (b : A) × (found name (xs ++ (rows ++ back)) ≡ Some b) → (t : Bool) → (b : A) × (cond t (Some x.1) (found name (xs ++ (rows ++ back))) ≡ Some b)

@@ -105,16 +105,17 @@ both_alike sights text signatures modules xs ys a b = (
 -- first names are apart
 new_name : (known ws : List (List ℕ)) (i : ℕ) (w : List ℕ) → slice_get (first_names known ws) i ≡ Some w → is_among w known ≡ false
 new_name known [] i w e = absurd (cc)
-new_name known (n ∷ ns) i w e = by (is_among n known) refl i e
+new_name known (n ∷ ns) i w e = by (λ j f. new_name known ns j w f) (λ j f. new_name (n ∷ known) ns j w f) (is_among n known) refl i e
   where
     or_right : (a b : Bool) → (a || b) ≡ false → b ≡ false
     or_right true b f = absurd (true≢false f)
     or_right false b f = f
 
-    by : (t : Bool) → is_among n known ≡ t → (i : ℕ) → slice_get (if t then first_names known ns else n ∷ first_names (n ∷ known) ns) i ≡ Some w → is_among w known ≡ false
-    by true s i e = new_name known ns i w e
-    by false s zero e = ap (λ w. is_among w known) (sym (same_Some n w e)) ∙ s
-    by false s (suc i) e = or_right (bytes_eq w n) (is_among w known) (new_name (n ∷ known) ns i w e)
+    by : ((j : ℕ) → slice_get (first_names known ns) j ≡ Some w → is_among w known ≡ false) → ((j : ℕ) → slice_get (first_names (n ∷ known) ns) j ≡ Some w → is_among w (n ∷ known) ≡ false) → (t : Bool) → is_among n known ≡ t → (i : ℕ) →
+        slice_get (if t then first_names known ns else n ∷ first_names (n ∷ known) ns) i ≡ Some w → is_among w known ≡ false
+    by g h true s i e = g i e
+    by g h false s zero e = ap (λ w. is_among w known) (sym (same_Some n w e)) ∙ s
+    by g h false s (suc i) e = or_right (bytes_eq w n) (is_among w known) (h i e)
 
 apart_head : (n w : List ℕ) (known : List (List ℕ)) → is_among w (n ∷ known) ≡ false → bytes_eq w n ≡ false
 apart_head n w known e = by (bytes_eq w n) e
@@ -125,24 +126,25 @@ apart_head n w known e = by (bytes_eq w n) e
 
 pub place_first : (known ws : List (List ℕ)) (i : ℕ) (w : List ℕ) → slice_get (first_names known ws) i ≡ Some w → first_place w (first_names known ws) ≡ Some i
 place_first known [] i w e = absurd (cc)
-place_first known (n ∷ ns) i w e = by (is_among n known) i e
+place_first known (n ∷ ns) i w e = by (λ j f. place_first known ns j w f) (λ j f. place_first (n ∷ known) ns j w f) (is_among n known) i e
   where
-    by : (t : Bool) → (i : ℕ) → slice_get (if t then first_names known ns else n ∷ first_names (n ∷ known) ns) i ≡ Some w → first_place w
-        (if t then first_names known ns else n ∷ first_names (n ∷ known) ns) ≡ Some i
-    by true i e = place_first known ns i w e
-    by false zero e = ap (λ t. if t then Some 0 else option_map (λ i. suc i) (first_place w (first_names (n ∷ known) ns))) ((bytes_eq-Decides w n).1 (sym (same_Some n w e)))
-    by false (suc i) e =
+    by : ((j : ℕ) → slice_get (first_names known ns) j ≡ Some w → first_place w (first_names known ns) ≡ Some j) → ((j : ℕ) → slice_get (first_names (n ∷ known) ns) j ≡ Some w → first_place w (first_names (n ∷ known) ns) ≡ Some j) →
+        (t : Bool) → (i : ℕ) → slice_get (if t then first_names known ns else n ∷ first_names (n ∷ known) ns) i ≡ Some w → first_place w (if t then first_names known ns else n ∷ first_names (n ∷ known) ns) ≡ Some i
+    by g h true i e = g i e
+    by g h false zero e = ap (λ t. if t then Some 0 else option_map (λ i. suc i) (first_place w (first_names (n ∷ known) ns))) ((bytes_eq-Decides w n).1 (sym (same_Some n w e)))
+    by g h false (suc i) e =
         ap (λ t. if t then Some 0 else option_map (λ i. suc i) (first_place w (first_names (n ∷ known) ns))) (apart_head n w known (new_name (n ∷ known) ns i w e)) ∙
-        ap (option_map (λ i. suc i)) (place_first (n ∷ known) ns i w e)
+        ap (option_map (λ i. suc i)) (h i e)
 
 pub first_among : (known ws : List (List ℕ)) (i : ℕ) (w : List ℕ) → slice_get (first_names known ws) i ≡ Some w → Contains ws w
 first_among known [] i w e = absurd (cc)
-first_among known (n ∷ ns) i w e = by (is_among n known) i e
+first_among known (n ∷ ns) i w e = by (λ j f. first_among known ns j w f) (λ j f. first_among (n ∷ known) ns j w f) (is_among n known) i e
   where
-    by : (t : Bool) → (i : ℕ) → slice_get (if t then first_names known ns else n ∷ first_names (n ∷ known) ns) i ≡ Some w → Contains (n ∷ ns) w
-    by true i e = Contains_tail n w ns (first_among known ns i w e)
-    by false zero e = subst (Contains (n ∷ ns)) (same_Some n w e) (Contains_head n ns)
-    by false (suc i) e = Contains_tail n w ns (first_among (n ∷ known) ns i w e)
+    by : ((j : ℕ) → slice_get (first_names known ns) j ≡ Some w → Contains ns w) → ((j : ℕ) → slice_get (first_names (n ∷ known) ns) j ≡ Some w → Contains ns w) → (t : Bool) → (i : ℕ) →
+        slice_get (if t then first_names known ns else n ∷ first_names (n ∷ known) ns) i ≡ Some w → Contains (n ∷ ns) w
+    by g h true i e = Contains_tail n w ns (g i e)
+    by g h false zero e = subst (Contains (n ∷ ns)) (same_Some n w e) (Contains_head n ns)
+    by g h false (suc i) e = Contains_tail n w ns (h i e)
 
 -- where the words of a text are alike, the signatures that they name are
 alike_at : (sights : List Sight) (from : ℕ) (all : List (List ℕ)) → All (IsAlike sights from all) all → (i : ℕ) → i < length (first_names [] all) → slice_get sights (from + i) ≡ Some Alike
@@ -150,27 +152,27 @@ alike_at sights from all alike i l =
     let w = get_or (first_names [] all) i [] in
     let at = slice_get-get_or (first_names [] all) i [] l in
     let c = first_among [] all i w at in
-    subst (IsAlike sights from all) c.1.1 (alike c.0 w c.1.0) i (place_first [] all i w at)
+    subst (IsAlike sights from all) c.2 (alike c.0 w c.1) i (place_first [] all i w at)
 
 pub all_alike : (sights : List Sight) (text : List ℕ) (ds : List Declaration) → AreWordsAlike sights text (signature_words text ds) (module_words text ds) ds → AreAlike sights (many_words text ds)
 all_alike sights text ds (s, m) i l = by (cut i (length (first_names [] (signature_words text ds))))
   where
     cut : (i n : ℕ) → (i < n) ⊎ ((j : ℕ) × (i ≡ n + j))
-    cut i zero = inr (i, refl)
+    cut i zero = inr (i, omega arith)
     cut zero (suc n) = inl (omega arith)
     cut (suc i) (suc n) = next (cut i n)
       where
         next : (i < n) ⊎ ((j : ℕ) × (i ≡ n + j)) → (suc i < suc n) ⊎ ((j : ℕ) × (suc i ≡ suc n + j))
         next (inl h) = inl (omega (arith, h))
-        next (inr (j, h)) = inr (j, ap (λ n. suc n) h)
+        next (inr (j, h)) = inr (j, omega (arith, h))
 
     by : (i < length (first_names [] (signature_words text ds))) ⊎ ((j : ℕ) × (i ≡ length (first_names [] (signature_words text ds)) + j)) → slice_get sights i ≡ Some Alike
-    by (inl h) = alike_at sights 0 (signature_words text ds) s i h
+    by (inl h) = let z : i ≡ 0 + i = omega arith in ap (slice_get sights) z ∙ alike_at sights 0 (signature_words text ds) s i h
     by (inr (j, h)) = ap (slice_get sights) h ∙ alike_at sights (length (first_names [] (signature_words text ds))) (module_words text ds) m j (omega (arith, h, l))
 
 -- a word with a number whose sight is known
 pub alike_signature : (sights : List Sight) (all : List (List ℕ)) (word : List ℕ) (n : ℕ) → first_place word (first_names [] all) ≡ Some n → slice_get sights n ≡ Some Alike → IsAlike sights 0 all word
-alike_signature sights all word n e at i f = ap (slice_get sights) (sym (same_Some n i (sym e ∙ f))) ∙ at
+alike_signature sights all word n e at i f = let q = same_Some n i (sym e ∙ f) in let z : 0 + i ≡ n = omega (arith, q) in ap (slice_get sights) z ∙ at
 
 pub alike_module : (sights : List Sight) (from : ℕ) (all : List (List ℕ)) (word : List ℕ) (n place : ℕ) → first_place word (first_names [] all) ≡ Some
     n → place ≡ from + n → slice_get sights place ≡ Some Alike → IsAlike sights from all word
@@ -186,7 +188,7 @@ entries_more ks i k now new e l at is before name typed j has d declared = by (C
     (subst (λ l. Contains l j) (take_more ks i k l ∙ ap (λ k. take i ks ++ k ∷ []) (sym at)) has))
   where
     by : Contains (take i ks) j ⊎ Contains (k ∷ []) j → (e : ConstantEntry) × Contains new e × (e.name.items ≡ j.name.items) × (e.type_vars ≡ d.type_vars) × (e.scheme ≡ d.scheme)
-    by (inl c) = let (x, h, same) = before j c d declared in (x, subst (λ l. Contains l x) (sym is) (Contains-append_left now (e ∷ []) x h), same)
+    by (inl c) = let r = before j c d declared in (r.0, subst (λ l. Contains l r.0) (sym is) (Contains-append_left now (e ∷ []) r.0 r.1), r.2, r.3, r.4)
     by (inr c) =
         let z : k ≡ j = Contains_single k j c in
         let t = typed d (ap (λ k. k.declared) z ∙ declared) in
@@ -213,13 +215,13 @@ last_alike now new s n is l alike = (sights_front now new s n is (omega (arith, 
     last [] = refl
     last (x ∷ xs) = last xs
 
-module _ (old new : Making) (said : List (Row Said)) (used : List Signature) (at : ℕ) (x : Signature) (now then : List Sight) (s : Sight)
-    (l : at < length used) (is : x ≡ get_or used at x) (pushed : then ≡ now ++ s ∷ []) (count : length now ≡ at) (g : Grows old new)
+module _ (old new : Making) (said : List (Row Said)) (used : List Signature) (at : ℕ) (x : Signature) (now news : List Sight) (s : Sight)
+    (l : at < length used) (is : x ≡ get_or used at x) (pushed : news ≡ now ++ s ∷ []) (count : length now ≡ at) (g : Grows old new)
     (ordered : All IsOrdered used)
     (before : (n : ℕ) → n ≤ at → AreAlike now n → (i : ℕ) → i < n → (u : Signature) → slice_get used i ≡ Some u → SeenSo old (said ++ of_each said_of (take at used)) u)
     (this : AreAlike now at → s ≡ Alike → SeenSo new ((said ++ of_each said_of (take at used)) ++ said_of x) x) where
   -- the signatures that were seen before, and this one
-  pub seen_so_far : (n : ℕ) → n ≤ at + 1 → AreAlike then n → (i : ℕ) → i < n → (u : Signature) → slice_get used i ≡ Some u → SeenSo new ((said ++ of_each said_of (take at used)) ++ said_of x) u
+  pub seen_so_far : (n : ℕ) → n ≤ at + 1 → AreAlike news n → (i : ℕ) → i < n → (u : Signature) → slice_get used i ≡ Some u → SeenSo new ((said ++ of_each said_of (take at used)) ++ said_of x) u
   seen_so_far n h alike i below u found = by (cut i at)
     where
       cut : (i n : ℕ) → (i < n) ⊎ (n ≤ i)
@@ -235,12 +237,12 @@ module _ (old new : Making) (said : List (Row Said)) (used : List Signature) (at
       earlier low =
           let o : IsOrdered u = subst IsOrdered (same_Some (get_or used i u) u (sym (slice_get-get_or used i u (omega (arith, low, l))) ∙ found)) (ordered i u (omega (arith, low, l))) in
           seen_stays old new (said ++ of_each said_of (take at used)) (said_of x) u o g.bank g.constants
-          (before (i + 1) (omega (arith, low)) (sights_front now then s (i + 1) pushed (omega (arith, low, count)) (λ j m. alike j (omega (arith, m, below)))) i (omega arith) u found)
+          (before (i + 1) (omega (arith, low)) (sights_front now news s (i + 1) pushed (omega (arith, low, count)) (λ j m. alike j (omega (arith, m, below)))) i (omega arith) u found)
 
       later : at ≤ i → SeenSo new ((said ++ of_each said_of (take at used)) ++ said_of x) u
       later high =
           let z : i ≡ at = omega (arith, high, below, h) in
-          let y = last_alike now then s at pushed count (λ j m. alike j (omega (arith, m, z, below))) in
+          let y = last_alike now news s at pushed count (λ j m. alike j (omega (arith, m, z, below))) in
           let same : x ≡ u = same_Some x u (ap (λ y. Some y) is ∙ sym (slice_get-get_or used at x l) ∙ ap (slice_get used) (sym z) ∙ found) in
           subst (SeenSo new ((said ++ of_each said_of (take at used)) ++ said_of x)) same (this y.0 y.1)
 

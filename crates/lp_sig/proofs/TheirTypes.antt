@@ -34,11 +34,11 @@ use Rattle.lp_sig.proofs.Viewing.{same_first, names_are}
 -- a row of names that are new is what its name means
 found_past : {A : Type 0} (name : List ℕ) (front rows : List (Row A)) → is_among name (names_in front) ≡ false → found name (front ++ rows) ≡ found name rows
 found_past name [] rows e = refl
-found_past {A} name (x ∷ xs) rows e = by (bytes_eq name x.0) e
+found_past {A} name (x ∷ xs) rows e = by (found_past name xs rows) (bytes_eq name x.0) e
   where
-    by : (t : Bool) → (t || is_among name (names_in xs)) ≡ false → cond t (Some x.1) (found name (xs ++ rows)) ≡ found name rows
-    by true e = absurd (true≢false e)
-    by false e = found_past name xs rows e
+    by : (is_among name (names_in xs) ≡ false → found name (xs ++ rows) ≡ found name rows) → (t : Bool) → (t || is_among name (names_in xs)) ≡ false → cond t (Some x.1) (found name (xs ++ rows)) ≡ found name rows
+    by h true e = absurd (true≢false e)
+    by h false e = h e
 
 later_new : {A : Type 0} (known : List (List ℕ)) (rows : List (Row A)) (n : List ℕ) (i : ℕ) (d : Row A) → i < length rows → AreNew (n ∷ known) rows → bytes_eq (get_or rows i d).0 n ≡ false
 later_new known [] n i d l new = absurd (omega (arith, l))
@@ -98,7 +98,7 @@ own_kinds own more apart fits k d l =
 names_new : (known words : List (List ℕ)) (es : List ConstantEntry) → ((w : List ℕ) → is_among w known ≡ is_met_word w words) → first_names known
     (map (λ e. e.name.items) es) ≡ map (λ e. e.name.items) es → sighted.AreNew words es
 names_new known words [] same e = tt
-names_new known words (x ∷ xs) same e = by (is_among x.name.items known) refl e
+names_new known words (x ∷ xs) same e = by (names_new (x.name.items ∷ known) (words ++ x.name.items ∷ []) xs more) (is_among x.name.items known) refl e
   where
     more : (w : List ℕ) → is_among w (x.name.items ∷ known) ≡ is_met_word w (words ++ x.name.items ∷ [])
     more w = ap (λ b. bytes_eq w x.name.items || b) (same w) ∙ turn (bytes_eq w x.name.items) (is_among w (names_in standard_constants))
@@ -120,12 +120,12 @@ names_new known words (x ∷ xs) same e = by (is_among x.name.items known) refl 
         turn false true c = refl
         turn false false c = refl
 
-    by : (t : Bool) → is_among x.name.items known ≡ t → (if t then first_names known (map (λ e. e.name.items) xs) else x.name.items ∷ first_names
+    by : (first_names (x.name.items ∷ known) (map (λ e. e.name.items) xs) ≡ map (λ e. e.name.items) xs → sighted.AreNew (words ++ x.name.items ∷ []) xs) → (t : Bool) → is_among x.name.items known ≡ t → (if t then first_names known (map (λ e. e.name.items) xs) else x.name.items ∷ first_names
         (x.name.items ∷ known) (map (λ e. e.name.items) xs)) ≡ x.name.items ∷ map (λ e. e.name.items) xs → sighted.AreNew words (x ∷ xs)
-    by true s f = let l = names_few known (map (λ e. e.name.items) xs) in let z = ap length f in absurd (omega (arith, l, z))
-    by false s f =
+    by h true s f = let l = names_few known (map (λ e. e.name.items) xs) in let z = ap length f in absurd (omega (arith, l, z))
+    by h false s f =
         let g : first_names (x.name.items ∷ known) (map (λ e. e.name.items) xs) ≡ map (λ e. e.name.items) xs = cc in
-        (sym (same x.name.items) ∙ s, names_new (x.name.items ∷ known) (words ++ x.name.items ∷ []) xs more g)
+        (sym (same x.name.items) ∙ s, h g)
 
 pub own_new : (own : Signature) → IsApart own → sighted.AreNew [] own.constants.items
 own_new own apart = names_new (names_in standard_constants) [] own.constants.items (λ w. sym (or_false (is_among w (names_in standard_constants)))) apart.constants
@@ -159,7 +159,7 @@ has_named m s said bank entries kinds u o seen e has = let (T, tree, same) = see
     by T (sighted.standard_one n f t) same = standard_one n f (sym same ∙ ap (named (kind_name (said_kinds said))) t ∙ ap (λ l. named (kind_name l) (standard_tree n)) (sym kinds))
     by T (sighted.known_one k c is d declared l t n) same =
         let (x, there, name, vars, scheme) = entries k c d declared in
-        let count = subst (λ e. e.type_vars ≡ length (first_variables (type_tree u.bank e.scheme.0))) has.1.1 (o.counts has.0 e has.1.0) in
+        let count = subst (λ e. e.type_vars ≡ length (first_variables (type_tree u.bank e.scheme.0))) has.2 (o.counts has.0 e has.1) in
         declared_one x there (name ∙ is) (vars ∙ n ∙ ap length (same_first (kind_name (said_kinds said)) (kind_name (kind_names u)) T (type_tree u.bank e.scheme.0) same) ∙ sym count)
         (ap (λ t. named (kind_name (kind_names s)) (type_tree s.bank t.0)) scheme ∙ ap (λ b. named (kind_name (kind_names s)) (type_tree b d.scheme.0)) bank ∙
           ap (named (kind_name (kind_names s))) t ∙ ap (λ l. named (kind_name l) T) kinds ∙ same)

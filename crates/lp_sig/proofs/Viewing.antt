@@ -109,7 +109,7 @@ pub seen_stays : (old new : Making) (said more : List (Row Said)) (u : Signature
 seen_stays old new said more u o x g h e has =
     let (T, tree, same) = h e has in
     let (rest, f) = kinds_more said more in
-    let whole = subst IsWhole (sym same) (subst (λ e. IsWhole (named_in u e.scheme)) has.1.1 (o.whole has.0 e has.1.0)) in
+    let whole = subst IsWhole (sym same) (subst (λ e. IsWhole (named_in u e.scheme)) has.2 (o.whole has.0 e has.1)) in
     (T, tree_later old.bodies.types.bank new.bodies.types.bank old.constants new.constants e.name.items T x g tree, ap (λ l. named (kind_name l) T) f
         ∙ whole_stays (said_kinds said) rest T whole ∙ same)
 
@@ -161,7 +161,7 @@ seen_whole u here now old new said words made sk sc o types_seen count x constan
     entries e has =
         let (T, tree, same) = entries_seen u here now new (said_kinds (said ++ map kind_said u.kinds.items)) made o seen count x all e has in
         let (rest, f) = kinds_more (said ++ map kind_said u.kinds.items) (map abbreviation_said u.abbreviations.items) in
-        let whole = subst IsWhole (sym same) (subst (λ e. IsWhole (named_in u e.scheme)) has.1.1 (o.whole has.0 e has.1.0)) in
+        let whole = subst IsWhole (sym same) (subst (λ e. IsWhole (named_in u e.scheme)) has.2 (o.whole has.0 e has.1)) in
         (T, tree, ap (λ l. named (kind_name l) T) (ap said_kinds (sym (append_assoc said (map kind_said u.kinds.items)
             (map abbreviation_said u.abbreviations.items))) ∙ f) ∙ whole_stays (said_kinds (said ++ map kind_said u.kinds.items)) rest T whole ∙ same)
 

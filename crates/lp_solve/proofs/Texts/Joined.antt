@@ -74,16 +74,16 @@ get_at (y ∷ ys) (suc i) x (l, e) = get_at ys i x (omega (arith, l), e)
 module _ (files : List File) (g : Group SignatureText) (t : Group ModuleText) where
   module_at : (ps : List ℕ) (ms : List Module) → AreModulesAt files g t ps ms → (k : ℕ) (m : Module) → slice_get ms k ≡ Some m → (p : ℕ) × IsModuleAt files g t p m
   module_at ps ms no_module k m e = absurd (cc)
-  module_at ps ms (one_module qs _ ns _ p n before is e f) k m at = by (last_or ns n m k (ap (λ l. slice_get l k) (sym f) ∙ at))
+  module_at ps ms (one_module qs _ ns _ p n before is e f) k m at = by (module_at qs ns before k m) (last_or ns n m k (ap (λ l. slice_get l k) (sym f) ∙ at))
     where
-      by : (slice_get ns k ≡ Some m) ⊎ ((k ≡ length ns) × (n ≡ m)) → (p : ℕ) × IsModuleAt files g t p m
-      by (inl h) = module_at qs ns before k m h
-      by (inr h) = (p, subst (IsModuleAt files g t p) h.1 is)
+      by : (slice_get ns k ≡ Some m → (p : ℕ) × IsModuleAt files g t p m) → (slice_get ns k ≡ Some m) ⊎ ((k ≡ length ns) × (n ≡ m)) → (p : ℕ) × IsModuleAt files g t p m
+      by g (inl h) = g h
+      by g (inr h) = (p, subst (IsModuleAt files g t p) h.1 is)
 
   -- the signature at a place
   signature_at : (ns : List ℕ) (ss : List Signature) → AreSignaturesOf g ns ss → (i n : ℕ) → slice_get ns i ≡ Some n → (s : Signature) × (slice_get ss i ≡ Some s) × IsSignatureOf g n s
   signature_at ns ss no_signature i n e = absurd (cc)
-  signature_at ns ss (one_signature_more ms _ ts _ m s before is e f) i n at = by (last_or ms m n i (ap (λ l. slice_get l i) (sym e) ∙ at))
+  signature_at ns ss (one_signature_more ms _ ts _ m s before is e f) i n at = by (signature_at ms ts before i n) (last_or ms m n i (ap (λ l. slice_get l i) (sym e) ∙ at))
     where
       same_length : (ms : List ℕ) (ts : List Signature) → AreSignaturesOf g ms ts → length ms ≡ length ts
       same_length ms ts no_signature = refl
@@ -99,18 +99,18 @@ module _ (files : List File) (g : Group SignatureText) (t : Group ModuleText) wh
       end [] = refl
       end (t ∷ ts) = end ts
 
-      by : (slice_get ms i ≡ Some n) ⊎ ((i ≡ length ms) × (m ≡ n)) → (s : Signature) × (slice_get ss i ≡ Some s) × IsSignatureOf g n s
-      by (inl h) = let (x, at_x, is_x) = signature_at ms ts before i n h in (x, ap (λ l. slice_get l i) f ∙ front ts x i at_x, is_x)
-      by (inr h) = (s, ap (λ l. slice_get l i) f ∙ ap (slice_get (ts ++ s ∷ [])) (h.0 ∙ same_length ms ts before) ∙ end ts, subst (λ n. IsSignatureOf g n s) h.1 is)
+      by : (slice_get ms i ≡ Some n → (s : Signature) × (slice_get ts i ≡ Some s) × IsSignatureOf g n s) → (slice_get ms i ≡ Some n) ⊎ ((i ≡ length ms) × (m ≡ n)) → (s : Signature) × (slice_get ss i ≡ Some s) × IsSignatureOf g n s
+      by r (inl h) = let (x, at_x, is_x) = r h in (x, ap (λ l. slice_get l i) f ∙ front ts x i at_x, is_x)
+      by r (inr h) = (s, ap (λ l. slice_get l i) f ∙ ap (slice_get (ts ++ s ∷ [])) (h.0 ∙ same_length ms ts before) ∙ end ts, subst (λ n. IsSignatureOf g n s) h.1 is)
 
   all_signatures : (P : Signature → Type 0) → ((n : ℕ) (s : Signature) → IsSignatureOf g n s → P s) → (ns : List ℕ) (ss : List Signature) →
       AreSignaturesOf g ns ss → (i : ℕ) (s : Signature) → slice_get ss i ≡ Some s → P s
   all_signatures P each ns ss no_signature i s e = absurd (cc)
-  all_signatures P each ns ss (one_signature_more ms _ ts _ m u before is e f) i s at = by (last_or ts u s i (ap (λ l. slice_get l i) (sym f) ∙ at))
+  all_signatures P each ns ss (one_signature_more ms _ ts _ m u before is e f) i s at = by (all_signatures P each ms ts before i s) (last_or ts u s i (ap (λ l. slice_get l i) (sym f) ∙ at))
     where
-      by : (slice_get ts i ≡ Some s) ⊎ ((i ≡ length ts) × (u ≡ s)) → P s
-      by (inl h) = all_signatures P each ms ts before i s h
-      by (inr h) = subst P h.1 (each m u is)
+      by : (slice_get ts i ≡ Some s → P s) → (slice_get ts i ≡ Some s) ⊎ ((i ≡ length ts) × (u ≡ s)) → P s
+      by r (inl h) = r h
+      by r (inr h) = subst P h.1 (each m u is)
 
 -- a text is that of a file
 record IsFileText {T : Type 0} (IsTree : ℕ → File → T → Type 0) (files : List File) (number : ℕ) (source : Vec ℕ Global) (tree : T) : Type 0 where
@@ -131,24 +131,24 @@ module _ {T : Type 0} (p : Part) (IsTree : ℕ → File → T → Type 0) (files
   numbers_below n numbers names sources trees no_text i k e = absurd (cc)
   numbers_below n numbers names sources trees (other_text m _ f _ _ _ _ before at_f part e) i k at = let h = numbers_below m numbers names sources trees before i k at in omega (arith, h, e)
   numbers_below n numbers names sources trees (one_text m _ f name source tree ns _ ms _ ss _ ts _ before at_f part same_name same_source is e a b c
-      d) i k at = by (last_or ns m k i (ap (λ l. slice_get l i) (sym a) ∙ at))
+      d) i k at = by (numbers_below m ns ms ss ts before i k) (last_or ns m k i (ap (λ l. slice_get l i) (sym a) ∙ at))
     where
-      by : (slice_get ns i ≡ Some k) ⊎ ((i ≡ length ns) × (m ≡ k)) → k < n
-      by (inl h) = let l = numbers_below m ns ms ss ts before i k h in omega (arith, l, e)
-      by (inr h) = let z = h.1 in omega (arith, z, e)
+      by : (slice_get ns i ≡ Some k → k < m) → (slice_get ns i ≡ Some k) ⊎ ((i ≡ length ns) × (m ≡ k)) → k < n
+      by r (inl h) = let l = r h in omega (arith, l, e)
+      by r (inr h) = let z = h.1 in omega (arith, z, e)
 
   one_place : (n : ℕ) (numbers : List ℕ) (names : List (String Global)) (sources : List (Vec ℕ Global)) (trees : List T) → AreTexts p IsTree files n
       numbers names sources trees → (i j k : ℕ) → slice_get numbers i ≡ Some k → slice_get numbers j ≡ Some k → i ≡ j
   one_place n numbers names sources trees no_text i j k e f = absurd (cc)
   one_place n numbers names sources trees (other_text m _ f _ _ _ _ before at_f part e) i j k a b = one_place m numbers names sources trees before i j k a b
   one_place n numbers names sources trees (one_text m _ f name source tree ns _ ms _ ss _ ts _ before at_f part same_name same_source is e a b c d) i j k at_i at_j =
-      by (last_or ns m k i (ap (λ l. slice_get l i) (sym a) ∙ at_i)) (last_or ns m k j (ap (λ l. slice_get l j) (sym a) ∙ at_j))
+      by (one_place m ns ms ss ts before i j k) (last_or ns m k i (ap (λ l. slice_get l i) (sym a) ∙ at_i)) (last_or ns m k j (ap (λ l. slice_get l j) (sym a) ∙ at_j))
     where
-      by : (slice_get ns i ≡ Some k) ⊎ ((i ≡ length ns) × (m ≡ k)) → (slice_get ns j ≡ Some k) ⊎ ((j ≡ length ns) × (m ≡ k)) → i ≡ j
-      by (inl x) (inl y) = one_place m ns ms ss ts before i j k x y
-      by (inl x) (inr y) = let l = numbers_below m ns ms ss ts before i k x in let z = y.1 in absurd (omega (arith, l, z))
-      by (inr x) (inl y) = let l = numbers_below m ns ms ss ts before j k y in let z = x.1 in absurd (omega (arith, l, z))
-      by (inr x) (inr y) = x.0 ∙ sym y.0
+      by : (slice_get ns i ≡ Some k → slice_get ns j ≡ Some k → i ≡ j) → (slice_get ns i ≡ Some k) ⊎ ((i ≡ length ns) × (m ≡ k)) → (slice_get ns j ≡ Some k) ⊎ ((j ≡ length ns) × (m ≡ k)) → i ≡ j
+      by r (inl x) (inl y) = r x y
+      by r (inl x) (inr y) = let l = numbers_below m ns ms ss ts before i k x in let z = y.1 in absurd (omega (arith, l, z))
+      by r (inr x) (inl y) = let l = numbers_below m ns ms ss ts before j k y in let z = x.1 in absurd (omega (arith, l, z))
+      by r (inr x) (inr y) = x.0 ∙ sym y.0
 
   same_lengths : (n : ℕ) (numbers : List ℕ) (names : List (String Global)) (sources : List (Vec ℕ Global)) (trees : List T) → AreTexts p IsTree files
       n numbers names sources trees → (length sources ≡ length numbers) × (length trees ≡ length numbers)
@@ -166,19 +166,19 @@ module _ {T : Type 0} (p : Part) (IsTree : ℕ → File → T → Type 0) (files
   text_at n numbers names sources trees no_text i number source tree x y z = absurd (cc)
   text_at n numbers names sources trees (other_text m _ f _ _ _ _ before at_f part e) i number source tree x y z = text_at m numbers names sources trees before i number source tree x y z
   text_at n numbers names sources trees (one_text m _ f name s t ns _ ms _ ss _ ts _ before at_f part same_name same_source is e a b c d) i number source tree x y z =
-      by (last_or ns m number i (ap (λ l. slice_get l i) (sym a) ∙ x)) (last_or ss s source i (ap (λ l. slice_get l i) (sym c) ∙ y)) (last_or ts t tree i (ap (λ l. slice_get l i) (sym d) ∙ z))
+      by (text_at m ns ms ss ts before i number source tree) (last_or ns m number i (ap (λ l. slice_get l i) (sym a) ∙ x)) (last_or ss s source i (ap (λ l. slice_get l i) (sym c) ∙ y)) (last_or ts t tree i (ap (λ l. slice_get l i) (sym d) ∙ z))
     where
       long : (length ss ≡ length ns) × (length ts ≡ length ns)
       long = same_lengths m ns ms ss ts before
 
-      by : (slice_get ns i ≡ Some number) ⊎ ((i ≡ length ns) × (m ≡ number)) → (slice_get ss i ≡ Some source) ⊎ ((i ≡ length ss) × (s ≡ source)) →
+      by : (slice_get ns i ≡ Some number → slice_get ss i ≡ Some source → slice_get ts i ≡ Some tree → IsFileText IsTree files number source tree) → (slice_get ns i ≡ Some number) ⊎ ((i ≡ length ns) × (m ≡ number)) → (slice_get ss i ≡ Some source) ⊎ ((i ≡ length ss) × (s ≡ source)) →
           (slice_get ts i ≡ Some tree) ⊎ ((i ≡ length ts) × (t ≡ tree)) → IsFileText IsTree files number source tree
-      by (inl u) (inl v) (inl w) = text_at m ns ms ss ts before i number source tree u v w
-      by (inl u) (inr v) w = let l = slice_get_within ns i number u in let e = v.0 in let q = long.0 in absurd (omega (arith, l, e, q))
-      by (inl u) v (inr w) = let l = slice_get_within ns i number u in let e = w.0 in let q = long.1 in absurd (omega (arith, l, e, q))
-      by (inr u) (inl v) w = let l = slice_get_within ss i source v in let e = u.0 in let q = long.0 in absurd (omega (arith, l, e, q))
-      by (inr u) v (inl w) = let l = slice_get_within ts i tree w in let e = u.0 in let q = long.1 in absurd (omega (arith, l, e, q))
-      by (inr u) (inr v) (inr w) = record {
+      by r (inl u) (inl v) (inl w) = r u v w
+      by r (inl u) (inr v) w = let l = slice_get_within ns i number u in let e = v.0 in let q = long.0 in absurd (omega (arith, l, e, q))
+      by r (inl u) v (inr w) = let l = slice_get_within ns i number u in let e = w.0 in let q = long.1 in absurd (omega (arith, l, e, q))
+      by r (inr u) (inl v) w = let l = slice_get_within ss i source v in let e = u.0 in let q = long.0 in absurd (omega (arith, l, e, q))
+      by r (inr u) v (inl w) = let l = slice_get_within ts i tree w in let e = u.0 in let q = long.1 in absurd (omega (arith, l, e, q))
+      by r (inr u) (inr v) (inr w) = record {
         file = f;
         at = subst (λ n. IsAt files n f) u.1 at_f;
         bytes = ap (λ s. s.items) (sym v.1) ∙ same_source;
@@ -196,20 +196,20 @@ kept es (y ∷ ys) x h = kept (insert_key nat_eq es y) ys x (by (list_any (nat_e
 
 any_of : (es : List ℕ) (y : ℕ) → list_any (nat_eq y) es ≡ true → Contains es y
 any_of [] y e = absurd (cc)
-any_of (x ∷ xs) y e = by (nat_eq y x) refl e
+any_of (x ∷ xs) y e = by (any_of xs y) (nat_eq y x) refl e
   where
-    by : (t : Bool) → nat_eq y x ≡ t → (t || list_any (nat_eq y) xs) ≡ true → Contains (x ∷ xs) y
-    by true s f = subst (Contains (x ∷ xs)) (sym (eqb-true y x s)) (Contains_head x xs)
-    by false s f = Contains_tail x y xs (any_of xs y f)
+    by : (list_any (nat_eq y) xs ≡ true → Contains xs y) → (t : Bool) → nat_eq y x ≡ t → (t || list_any (nat_eq y) xs) ≡ true → Contains (x ∷ xs) y
+    by h true s f = subst (Contains (x ∷ xs)) (sym (eqb-true y x s)) (Contains_head x xs)
+    by h false s f = Contains_tail x y xs (h f)
 
 of_any : (es : List ℕ) (y : ℕ) → Contains es y → list_any (nat_eq y) es ≡ true
 of_any [] y (i, l, e) = absurd (omega (arith, l))
 of_any (x ∷ xs) y (zero, l, e) = ap (λ t. t || list_any (nat_eq y) xs) (eq-eqb y x (sym e))
-of_any (x ∷ xs) y (suc i, l, e) = by (nat_eq y x)
+of_any (x ∷ xs) y (suc i, l, e) = by (of_any xs y (i, omega (arith, l), e)) (nat_eq y x)
   where
-    by : (t : Bool) → (t || list_any (nat_eq y) xs) ≡ true
-    by true = refl
-    by false = of_any xs y (i, omega (arith, l), e)
+    by : list_any (nat_eq y) xs ≡ true → (t : Bool) → (t || list_any (nat_eq y) xs) ≡ true
+    by h true = refl
+    by h false = h
 
 inserted : (es xs : List ℕ) (x : ℕ) → Contains xs x → Contains (insert_all nat_eq es xs) x
 inserted es [] x (i, l, e) = absurd (omega (arith, l))
@@ -267,14 +267,11 @@ module _ (f : List ℕ → Option ℕ) where
 has_number : (f : List ℕ → Option ℕ) (ws : List (List ℕ)) (w : List ℕ) (n : ℕ) → Contains ws w → f w ≡ Some n → Contains (filter_map f ws) n
 has_number f [] w n (i, l, at) e = absurd (omega (arith, l))
 has_number f (x ∷ xs) w n (zero, l, at) e = subst (λ ns. Contains ns n) (sym (some_first f x xs n (ap f at ∙ e))) (Contains_head n (filter_map f xs))
-has_number f (x ∷ xs) w n (suc i, l, at) e = by (f x) refl
+has_number f (x ∷ xs) w n (suc i, l, at) e = by (has_number f xs w n (i, omega (arith, l), at) e) (f x) refl
   where
-    more : Contains (filter_map f xs) n
-    more = has_number f xs w n (i, omega (arith, l), at) e
-
-    by : (o : Option ℕ) → f x ≡ o → Contains (filter_map f (x ∷ xs)) n
-    by None g = subst (λ ns. Contains ns n) (sym (none_first f x xs g)) more
-    by (Some m) g = subst (λ ns. Contains ns n) (sym (some_first f x xs m g)) (Contains_tail m n (filter_map f xs) more)
+    by : Contains (filter_map f xs) n → (o : Option ℕ) → f x ≡ o → Contains (filter_map f (x ∷ xs)) n
+    by more None g = subst (λ ns. Contains ns n) (sym (none_first f x xs g)) more
+    by more (Some m) g = subst (λ ns. Contains ns n) (sym (some_first f x xs m g)) (Contains_tail m n (filter_map f xs) more)
 
 -- words by their spots
 by_spots : (f : List ℕ → Option ℕ) (text : List ℕ) (words : List Spot) → filter_map (λ w. f (spelled text w)) words ≡ filter_map f (map (spelled text) words)
@@ -284,24 +281,24 @@ by_spots f text (w ∷ ws) = ap (cons_option (f (spelled text w))) (by_spots f t
 -- the module that a word names
 named_one : (names words : List (List ℕ)) (j : ℕ) → Contains (numbers_of names words) j → (w : List ℕ) × Contains words w × (first_place w names ≡ Some j)
 named_one names [] j (i, l, at) = absurd (omega (arith, l))
-named_one names (u ∷ us) j has = by (first_place u names) refl has
+named_one names (u ∷ us) j has = by (named_one names us j) (first_place u names) refl has
   where
-    by : (o : Option ℕ) → first_place u names ≡ o → Contains (number_list o ++ numbers_of names us) j → (w : List ℕ) × Contains (u ∷ us) w × (first_place w names ≡ Some j)
-    by None e h = let (w, c, f) = named_one names us j h in (w, Contains_tail u w us c, f)
-    by (Some m) e h = one (Contains-append_cases (m ∷ []) (numbers_of names us) j h)
+    by : (Contains (numbers_of names us) j → (w : List ℕ) × Contains us w × (first_place w names ≡ Some j)) → (o : Option ℕ) → first_place u names ≡ o → Contains (number_list o ++ numbers_of names us) j → (w : List ℕ) × Contains (u ∷ us) w × (first_place w names ≡ Some j)
+    by r None e h = let (w, c, f) = r h in (w, Contains_tail u w us c, f)
+    by r (Some m) e h = one (Contains-append_cases (m ∷ []) (numbers_of names us) j h)
       where
         one : Contains (m ∷ []) j ⊎ Contains (numbers_of names us) j → (w : List ℕ) × Contains (u ∷ us) w × (first_place w names ≡ Some j)
         one (inl c) = (u, Contains_head u us, e ∙ ap (λ m. Some m) (Contains_single m j c))
-        one (inr c) = let (w, d, f) = named_one names us j c in (w, Contains_tail u w us d, f)
+        one (inr c) = let (w, d, f) = r c in (w, Contains_tail u w us d, f)
 
 place_name : (names : List (List ℕ)) (w : List ℕ) (j : ℕ) → first_place w names ≡ Some j → slice_get names j ≡ Some w
 place_name [] w j e = absurd (cc)
-place_name (n ∷ ns) w j e = by (bytes_eq w n) refl (first_place w ns) refl e
+place_name (n ∷ ns) w j e = by (place_name ns w) (bytes_eq w n) refl (first_place w ns) refl e
   where
-    by : (t : Bool) → bytes_eq w n ≡ t → (o : Option ℕ) → first_place w ns ≡ o → (if t then Some 0 else option_map (λ i. suc i) o) ≡ Some j → slice_get (n ∷ ns) j ≡ Some w
-    by true s o f e = let z : 0 ≡ j = same_Some 0 j e in ap (slice_get (n ∷ ns)) (sym z) ∙ ap (λ w. Some w) (sym ((bytes_eq-Decides w n).0 s))
-    by false s None f e = absurd (cc)
-    by false s (Some i) f e = let z : suc i ≡ j = same_Some (suc i) j e in ap (slice_get (n ∷ ns)) (sym z) ∙ place_name ns w i f
+    by : ((i : ℕ) → first_place w ns ≡ Some i → slice_get ns i ≡ Some w) → (t : Bool) → bytes_eq w n ≡ t → (o : Option ℕ) → first_place w ns ≡ o → (if t then Some 0 else option_map (λ i. suc i) o) ≡ Some j → slice_get (n ∷ ns) j ≡ Some w
+    by r true s o f e = let z : 0 ≡ j = same_Some 0 j e in ap (slice_get (n ∷ ns)) (sym z) ∙ ap (λ w. Some w) (sym ((bytes_eq-Decides w n).0 s))
+    by r false s None f e = absurd (cc)
+    by r false s (Some i) f e = let z : suc i ≡ j = same_Some (suc i) j e in ap (slice_get (n ∷ ns)) (sym z) ∙ r i f
 
 mapped_at : {A B : Type 0} (f : A → B) (xs : List A) (i : ℕ) (x : A) → slice_get xs i ≡ Some x → slice_get (map f xs) i ≡ Some (f x)
 mapped_at f [] i x e = absurd (cc)

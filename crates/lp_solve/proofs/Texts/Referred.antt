@@ -254,11 +254,11 @@ referring (Said t ∷ ss) = referring ss
 
 referring_last : (ss : List Clause) (s : Clause) → referring (ss ++ s ∷ []) ≡ referring ss ++ referring (s ∷ [])
 referring_last [] s = refl
-referring_last (Declared l ∷ ss) s = by (refers l)
+referring_last (Declared l ∷ ss) s = by (referring_last ss s) (refers l)
   where
-    by : (t : Bool) → (if t then l ∷ referring (ss ++ s ∷ []) else referring (ss ++ s ∷ [])) ≡ (if t then l ∷ referring ss else referring ss) ++ referring (s ∷ [])
-    by true = ap (λ ls. l ∷ ls) (referring_last ss s)
-    by false = referring_last ss s
+    by : referring (ss ++ s ∷ []) ≡ referring ss ++ referring (s ∷ []) → (t : Bool) → (if t then l ∷ referring (ss ++ s ∷ []) else referring (ss ++ s ∷ [])) ≡ (if t then l ∷ referring ss else referring ss) ++ referring (s ∷ [])
+    by h true = ap (λ ls. l ∷ ls) h
+    by h false = h
 referring_last (Said t ∷ ss) s = referring_last ss s
 
 -- how far the sentences that refer are read
@@ -520,11 +520,11 @@ module _ (spot : ℕ → Spot) (ls : List Lexeme) where
   text_words [] [] h = refl
   text_words [] (s ∷ ss) h = absurd h
   text_words (d ∷ ds) [] h = absurd h
-  text_words (Declares d ∷ ds) (Declared l ∷ ss) (h, more) = by (refers l) refl
+  text_words (Declares d ∷ ds) (Declared l ∷ ss) (h, more) = by (text_words ds ss more) (refers l) refl
     where
-      by : (t : Bool) → refers l ≡ t → named_words d ++ accumulate_words ds ≡ map spot (all_of words_of (if t then l ∷ referring ss else referring ss))
-      by true r = (λ i. shown_words spot d l h i ++ text_words ds ss more i) ∙ sym (map-append spot (words_of l) (all_of words_of (referring ss)))
-      by false r = ap (λ ws. ws ++ accumulate_words ds) (shown_words spot d l h ∙ ap (map spot) (quiet_words l r).0) ∙ text_words ds ss more
+      by : accumulate_words ds ≡ map spot (all_of words_of (referring ss)) → (t : Bool) → refers l ≡ t → named_words d ++ accumulate_words ds ≡ map spot (all_of words_of (if t then l ∷ referring ss else referring ss))
+      by g true r = (λ i. shown_words spot d l h i ++ g i) ∙ sym (map-append spot (words_of l) (all_of words_of (referring ss)))
+      by g false r = ap (λ ws. ws ++ accumulate_words ds) (shown_words spot d l h ∙ ap (map spot) (quiet_words l r).0) ∙ g
   text_words (Declares d ∷ ds) (Said t ∷ ss) (h, more) = absurd h
   text_words (Says raw ∷ ds) (Declared l ∷ ss) (h, more) = absurd h
   text_words (Says raw ∷ ds) (Said t ∷ ss) (h, more) = text_words ds ss more
@@ -533,11 +533,11 @@ module _ (spot : ℕ → Spot) (ls : List Lexeme) where
   text_sig_words [] [] h = refl
   text_sig_words [] (s ∷ ss) h = absurd h
   text_sig_words (d ∷ ds) [] h = absurd h
-  text_sig_words (Declares d ∷ ds) (Declared l ∷ ss) (h, more) = accum_append (d ∷ []) (declarations ds) ∙ by (refers l) refl
+  text_sig_words (Declares d ∷ ds) (Declared l ∷ ss) (h, more) = accum_append (d ∷ []) (declarations ds) ∙ by (text_sig_words ds ss more) (refers l) refl
     where
-      by : (t : Bool) → refers l ≡ t → accum_words (d ∷ []) ++ accum_words (declarations ds) ≡ map spot (all_of sig_words_of (if t then l ∷ referring ss else referring ss))
-      by true r = (λ i. shown_sig_words spot d l h i ++ text_sig_words ds ss more i) ∙ sym (map-append spot (sig_words_of l) (all_of sig_words_of (referring ss)))
-      by false r = ap (λ ws. ws ++ accum_words (declarations ds)) (shown_sig_words spot d l h ∙ ap (map spot) (quiet_words l r).1) ∙ text_sig_words ds ss more
+      by : accum_words (declarations ds) ≡ map spot (all_of sig_words_of (referring ss)) → (t : Bool) → refers l ≡ t → accum_words (d ∷ []) ++ accum_words (declarations ds) ≡ map spot (all_of sig_words_of (if t then l ∷ referring ss else referring ss))
+      by g true r = (λ i. shown_sig_words spot d l h i ++ g i) ∙ sym (map-append spot (sig_words_of l) (all_of sig_words_of (referring ss)))
+      by g false r = ap (λ ws. ws ++ accum_words (declarations ds)) (shown_sig_words spot d l h ∙ ap (map spot) (quiet_words l r).1) ∙ g
   text_sig_words (Declares d ∷ ds) (Said t ∷ ss) (h, more) = absurd h
   text_sig_words (Says raw ∷ ds) (Declared l ∷ ss) (h, more) = absurd h
   text_sig_words (Says raw ∷ ds) (Said t ∷ ss) (h, more) = text_sig_words ds ss more
