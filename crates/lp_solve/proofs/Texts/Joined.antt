@@ -232,7 +232,7 @@ module _ (f : List ℕ → Option ℕ) where
   few : (es : List ℕ) (known ws : List (List ℕ)) → ((n : List ℕ) (x : ℕ) → is_among n known ≡ true → f n ≡ Some x → Contains es x) → length
       (insert_all nat_eq es (filter_map f ws)) ≤ length es + length (first_names known ws)
   few es known [] old = omega arith
-  few es known (w ∷ ws) old = by (f w) refl (is_among w known) refl
+  few es known (w ∷ ws) old = by (λ es. few es known ws) (λ es. few es (w ∷ known) ws) (f w) refl (is_among w known) refl
     where
       later : (es : List ℕ) → ((n : List ℕ) (x : ℕ) → is_among n known ≡ true → f n ≡ Some x → Contains es x) →
           ((x : ℕ) → f w ≡ Some x → Contains es x) → (n : List ℕ) (x : ℕ) → is_among n (w ∷ known) ≡ true → f n ≡ Some x → Contains es x
@@ -242,26 +242,26 @@ module _ (f : List ℕ → Option ℕ) where
           go true s a = this x (ap f (sym ((bytes_eq-Decides n w).0 s)) ∙ is)
           go false s a = old n x a is
 
-      by : (o : Option ℕ) → f w ≡ o → (t : Bool) → is_among w known ≡ t → length (insert_all nat_eq es (filter_map f (w ∷ ws))) ≤ length es + length
-          (if t then first_names known ws else w ∷ first_names (w ∷ known) ws)
-      by None e true s = subst (λ xs. length (insert_all nat_eq es xs) ≤ length es + length (first_names known ws)) (sym (none_first f w ws e)) (few es known ws old)
-      by None e false s =
-          let h = few es (w ∷ known) ws (later es old (λ x is. let z = sym e ∙ is in absurd (cc))) in
+      one_longer : (x : ℕ) (t : Bool) → length (if t then es else es ++ x ∷ []) ≤ length es + 1
+      one_longer x true = omega arith
+      one_longer x false = let z = length-append es (x ∷ []) in omega (arith, z)
+
+      by : ((es : List ℕ) → ((n : List ℕ) (x : ℕ) → is_among n known ≡ true → f n ≡ Some x → Contains es x) → length (insert_all nat_eq es (filter_map f ws)) ≤ length es + length (first_names known ws)) →
+          ((es : List ℕ) → ((n : List ℕ) (x : ℕ) → is_among n (w ∷ known) ≡ true → f n ≡ Some x → Contains es x) → length (insert_all nat_eq es (filter_map f ws)) ≤ length es + length (first_names (w ∷ known) ws)) →
+          (o : Option ℕ) → f w ≡ o → (t : Bool) → is_among w known ≡ t → length (insert_all nat_eq es (filter_map f (w ∷ ws))) ≤ length es + length (if t then first_names known ws else w ∷ first_names (w ∷ known) ws)
+      by p q None e true s = subst (λ xs. length (insert_all nat_eq es xs) ≤ length es + length (first_names known ws)) (sym (none_first f w ws e)) (p es old)
+      by p q None e false s =
+          let h = q es (later es old (λ x is. let z = sym e ∙ is in absurd (cc))) in
           subst (λ xs. length (insert_all nat_eq es xs) ≤ length es + suc (length (first_names (w ∷ known) ws))) (sym (none_first f w ws e)) (omega (arith, h))
-      by (Some x) e true s =
+      by p q (Some x) e true s =
           let same : insert_key nat_eq es x ≡ es = ap (λ t. if t then es else es ++ x ∷ []) (of_any es x (old w x s e)) in
-          let h = few es known ws old in
           subst (λ xs. length (insert_all nat_eq es xs) ≤ length es + length (first_names known ws)) (sym (some_first f w ws x e))
-              (subst (λ ks. length (insert_all nat_eq ks (filter_map f ws)) ≤ length es + length (first_names known ws)) (sym same) h)
-      by (Some x) e false s =
-          let h = few (insert_key nat_eq es x) (w ∷ known) ws (later (insert_key nat_eq es x) (λ n y a is. kept es (x ∷ []) y (old n y a is))
+              (subst (λ ks. length (insert_all nat_eq ks (filter_map f ws)) ≤ length es + length (first_names known ws)) (sym same) (p es old))
+      by p q (Some x) e false s =
+          let h = q (insert_key nat_eq es x) (later (insert_key nat_eq es x) (λ n y a is. kept es (x ∷ []) y (old n y a is))
               (λ y is. subst (Contains (insert_key nat_eq es x)) (same_Some x y (sym e ∙ is)) (inserted es (x ∷ []) x (Contains_head x [])))) in
-          let l = one_longer (list_any (nat_eq x) es) in
+          let l = one_longer x (list_any (nat_eq x) es) in
           subst (λ xs. length (insert_all nat_eq es xs) ≤ length es + suc (length (first_names (w ∷ known) ws))) (sym (some_first f w ws x e)) (omega (arith, h, l))
-        where
-          one_longer : (t : Bool) → length (if t then es else es ++ x ∷ []) ≤ length es + 1
-          one_longer true = omega arith
-          one_longer false = let z = length-append es (x ∷ []) in omega (arith, z)
 
 -- a word that has a number
 has_number : (f : List ℕ → Option ℕ) (ws : List (List ℕ)) (w : List ℕ) (n : ℕ) → Contains ws w → f w ≡ Some n → Contains (filter_map f ws) n

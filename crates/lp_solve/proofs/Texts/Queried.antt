@@ -44,7 +44,7 @@ front_global : (n : List ℕ) (gs : List GlobalName) (front back : List (Row (�
     front → first_place n (names_in front) ≡ Some q → global_of gs n ≡ Some q
 front_global n gs [] back q e none at = absurd (cc)
 front_global n [] (r ∷ rs) back q e none at = absurd (cc)
-front_global n (g ∷ gs) (r ∷ rs) back q e none at = here ∙ at
+front_global n (g ∷ gs) (r ∷ rs) back q e none at = here (λ i m k. front_global n gs rs back i m k) ∙ at
   where
     row : row_of g ≡ r
     row = cc
@@ -62,12 +62,12 @@ front_global n (g ∷ gs) (r ∷ rs) back q e none at = here ∙ at
     test : is_global_of n g ≡ bytes_eq n r.0
     test = ap (λ t. t && bytes_eq n g.name.items) (eq-eqb g.hidden 0 global) ∙ ap (λ r. bytes_eq n r.0) row
 
-    here : global_of (g ∷ gs) n ≡ first_place n (r.0 ∷ names_in rs)
-    here = ap (λ t. if t then Some 0 else option_map (λ i. suc i) (global_of gs n)) test ∙ by (bytes_eq n r.0) refl
+    here : ((i : ℕ) → map row_of gs ≡ rs ++ back → All (λ r. r.1.0 ≡ 0) rs → first_place n (names_in rs) ≡ Some i → global_of gs n ≡ Some i) → global_of (g ∷ gs) n ≡ first_place n (r.0 ∷ names_in rs)
+    here h = ap (λ t. if t then Some 0 else option_map (λ i. suc i) (global_of gs n)) test ∙ by (bytes_eq n r.0) refl
       where
         rest : (o : Option ℕ) → first_place n (names_in rs) ≡ o → bytes_eq n r.0 ≡ false → option_map (λ i. suc i) (global_of gs n) ≡ option_map (λ i. suc i) (first_place n (names_in rs))
         rest None f s = absurd (let z = sym (ap (λ t. if t then Some 0 else option_map (λ i. suc i) (first_place n (names_in rs))) s ∙ ap (option_map (λ i. suc i)) f) ∙ at in cc)
-        rest (Some i) f s = ap (option_map (λ i. suc i)) (front_global n gs rs back i more (λ k d l. none (suc k) d (omega (arith, l))) f ∙ sym f)
+        rest (Some i) f s = ap (option_map (λ i. suc i)) (h i more (λ k d l. none (suc k) d (omega (arith, l))) f ∙ sym f)
 
         by : (t : Bool) → bytes_eq n r.0 ≡ t → (if t then Some 0 else option_map (λ i. suc i) (global_of gs n)) ≡ (if t then Some 0 else option_map (λ i. suc i) (first_place n (names_in rs)))
         by true s = refl
