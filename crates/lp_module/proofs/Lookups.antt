@@ -54,9 +54,10 @@ range_length a (suc n) = let r = range_length (a + 1) n in omega (arith, r)
 
 -- the exported entries are the first ones
 module _ {A : Type 0} where
-  taken_none : (k : ℕ) → take k [] ≡ []
-  taken_none zero = refl
-  taken_none (suc k) = refl
+  taken_none : (k : ℕ) (xs : List A) → xs ≡ [] → take k xs ≡ []
+  taken_none zero xs e = refl
+  taken_none (suc k) [] e = refl
+  taken_none (suc k) (x ∷ xs) e = absurd (cc)
 
   none_left : (b n f i : ℕ) (xs : List A) → f ≡ b + i → i + length xs ≤ n → exported_among f (range_with_len b n) xs ≡ []
   none_left b n f i [] e l = refl
@@ -65,7 +66,7 @@ module _ {A : Type 0} where
       none_left b n (suc f) (suc i) xs (omega (arith, e)) (omega (arith, l))
 
   pub exported_first : (b n f k : ℕ) (xs : List A) → b ≡ f + k → length xs ≤ k + n → exported_among f (range_with_len b n) xs ≡ take k xs
-  exported_first b n f k [] e l = sym (taken_none k)
+  exported_first b n f k [] e l = sym (taken_none k [] refl)
   exported_first b n f zero (x ∷ xs) e l = none_left b n f 0 (x ∷ xs) (omega (arith, e)) (omega (arith, l))
   exported_first b n f (suc k) (x ∷ xs) e l =
       ap (λ o. one_if_exported o x ++ exported_among (suc f) (range_with_len b n) xs) (place_none b n f (omega (arith, e))) ∙

@@ -82,8 +82,8 @@ names_clear ls words i j ns a = join ls i a.final j (commas_clear ls words i a.f
 
 front_clear : (ls : List Lexeme) (i j n : ℕ) → KindFront ls i j n → Clear ls i j
 front_clear ls i j n no_argument = empty ls i
-front_clear ls i j n (argument k _ m _ f type arrow e g) =
-    join ls i k j (front_clear ls i k m f) (join ls k (k + 1) j (one ls k (k + 1) (class.Keyword keyword.Type) type (λ q. absurd (cc)) refl) (one ls (k + 1) j class.Arrow arrow (λ q. absurd (cc)) e))
+front_clear ls i j n (argument k _ m _ f type arr e g) =
+    join ls i k j (front_clear ls i k m f) (join ls k (k + 1) j (one ls k (k + 1) (class.Keyword keyword.Type) type (λ q. absurd (cc)) refl) (one ls (k + 1) j class.Arrow arr (λ q. absurd (cc)) e))
 
 kind_clear : (ls : List Lexeme) (i j n : ℕ) → IsKindText ls i j n → Clear ls i j
 kind_clear ls i j n k = join ls i k.final j (front_clear ls i k.final n k.front) (one ls k.final j (class.Keyword keyword.Type) k.target (λ q. absurd (cc)) k.end)
@@ -94,10 +94,10 @@ parameters_clear ls i j ns (parameter k _ ms _ p upper e f) = join ls i k j (par
 
 head_clear : (ls : List Lexeme) (i j n : ℕ) (ns : List ℕ) → IsHeadAt ls i j n ns → Clear ls i j
 head_clear ls i j n ns (bare _ _ _ _ lower e f g) = one ls i j class.Lower lower (λ q. absurd (cc)) e
-head_clear ls i j n ns (bracketed _ k _ _ _ open lower e p close f) =
-    join ls i (i + 1) j (one ls i (i + 1) class.Open open (λ q. absurd (cc)) refl)
+head_clear ls i j n ns (bracketed _ k _ _ _ opens lower e p closes f) =
+    join ls i (i + 1) j (one ls i (i + 1) class.Open opens (λ q. absurd (cc)) refl)
     (join ls (i + 1) (i + 1 + 1) j (one ls (i + 1) (i + 1 + 1) class.Lower lower (λ q. absurd (cc)) refl)
-    (join ls (i + 1 + 1) k j (parameters_clear ls (i + 1 + 1) k ns p) (one ls k j class.Close close (λ q. absurd (cc)) f)))
+    (join ls (i + 1 + 1) k j (parameters_clear ls (i + 1 + 1) k ns p) (one ls k j class.Close closes (λ q. absurd (cc)) f)))
 
 one_on : (i : ℕ) → suc i ≡ i + 1
 one_on i = omega arith
@@ -105,9 +105,9 @@ one_on i = omega arith
 type_clear : (ls : List Lexeme) (l : Level) (i j : ℕ) (t : TypeTree) → IsType ls l i j t → Clear ls i j
 type_clear ls l i j t (word _ lower) = one ls i (suc i) class.Lower lower (λ q. absurd (cc)) (one_on i)
 type_clear ls l i j t (variable _ upper) = one ls i (suc i) class.Upper upper (λ q. absurd (cc)) (one_on i)
-type_clear ls l i j t (group _ k _ open inner close) =
-    join ls i (suc i) (suc k) (one ls i (suc i) class.Open open (λ q. absurd (cc)) (one_on i))
-        (join ls (suc i) k (suc k) (type_clear ls _ (suc i) k t inner) (one ls k (suc k) class.Close close (λ q. absurd (cc)) (one_on k)))
+type_clear ls l i j t (group _ k _ opens inner closes) =
+    join ls i (suc i) (suc k) (one ls i (suc i) class.Open opens (λ q. absurd (cc)) (one_on i))
+        (join ls (suc i) k (suc k) (type_clear ls _ (suc i) k t inner) (one ls k (suc k) class.Close closes (λ q. absurd (cc)) (one_on k)))
 type_clear ls l i j t (head _ lower) = one ls i (suc i) class.Lower lower (λ q. absurd (cc)) (one_on i)
 type_clear ls l i j t (applied _ k _ u v f a) = join ls i k j (type_clear ls _ i k u f) (type_clear ls _ k j v a)
 type_clear ls l i j t (side_head _ _ _ h) = type_clear ls _ i j t h
@@ -233,9 +233,9 @@ chain_last : (ls : List Lexeme) (i k j : ℕ) (ss : List Clause) (s : Clause) (n
 chain_last ls i k j ss s now (stopped _ _ e) h = subst (λ i. Chain ls i (s ∷ []) j) (sym e) (onward k j j s [] now h (stopped j j refl))
 chain_last ls i k j ss s now (onward _ m _ t ts now' sentence more) h = onward i m j t (ts ++ s ∷ []) now' sentence (chain_last ls m k j ts s now more h)
 
-chain_of : (ls : List Lexeme) (ops after : Operators) (i j : ℕ) (ss : List Clause) → AreSentences ls ops i after j ss → Chain ls i ss j
-chain_of ls ops after i j ss no_sentence = stopped i i refl
-chain_of ls ops after i j ss (one_sentence now _ k _ us _ s before h follows e) = subst (λ l. Chain ls i l j) (sym e) (chain_last ls i k j us s now (chain_of ls ops now i k us before) h)
+chain_of : (ls : List Lexeme) (ops : Operators) (i : ℕ) (after : Operators) (j : ℕ) (ss : List Clause) → AreSentences ls ops i after j ss → Chain ls i ss j
+chain_of ls ops i after j ss no_sentence = stopped i i refl
+chain_of ls ops i after j ss (one_sentence now _ k _ us _ s before h follows e) = subst (λ l. Chain ls i l j) (sym e) (chain_last ls i k j us s now (chain_of ls ops i now k us before) h)
 
 chain_up : (ls : List Lexeme) (i n : ℕ) (ss : List Clause) → Chain ls i ss n → i ≤ n
 chain_up ls i n ss (stopped _ _ e) = omega (arith, e)
@@ -247,7 +247,7 @@ chain_up ls i n ss (onward _ k _ s ts now h more) =
     omega (arith, up, e, b)
 
 -- the lines among sentences that refer to files
-referring : List Clause → List Line
+abbrev referring : List Clause → List Line
 referring [] = []
 referring (Declared l ∷ ss) = if refers l then l ∷ referring ss else referring ss
 referring (Said t ∷ ss) = referring ss
@@ -291,16 +291,16 @@ module _ (ls : List Lexeme) (all : List Clause) (header : IsHeader ls keyword.Mo
   one_read i e j ds es l (behind _ _ h so) line r next is = absurd (no_line i e l h line)
 
   none_read : (i j : ℕ) (ds : List Line) → Read ls all i ds → NoReference ls i → NextSentence ls i j → Read ls all j ds
-  none_read i j ds (at_start _ _ z none) no next =
+  none_read i j ds (at_start _ _ z none) silent next =
       let end : j ≡ 3 = next_is ls 0 3 j (header_ends ls keyword.Module header) (subst (λ i. NextSentence ls i j) z next) in
       between j ds [] all refl none (subst (λ k. Chain ls k all (length ls)) (sym end) chain)
-  none_read i j ds (between _ _ ps rest whole so chain) no next = by rest whole chain
+  none_read i j ds (between _ _ ps rest whole so chain) silent next = by rest whole chain
     where
       quiet : (k : ℕ) (s : Clause) (now : Operators) → IsSentence now ls i k s → referring (s ∷ []) ≡ []
       quiet k s now (declares m h) = line (refers m) refl
         where
           line : (t : Bool) → refers m ≡ t → (if t then m ∷ [] else []) ≡ []
-          line true r = absurd (no k m h r)
+          line true r = absurd (silent k m h r)
           line false r = refl
       quiet k s now (says d t h dot f) = refl
 
@@ -311,12 +311,12 @@ module _ (ls : List Lexeme) (all : List Clause) (header : IsHeader ls keyword.Mo
           between j ds (ps ++ s ∷ []) ss (whole ∙ sym (append_assoc ps (s ∷ []) ss))
               (so ∙ sym (append-nil (referring ps)) ∙ ap (λ ls. referring ps ++ ls) (sym (quiet k s now h)) ∙ sym (referring_last ps s))
           (subst (λ k. Chain ls k ss (length ls)) (sym end) more)
-  none_read i j ds (behind _ _ h so) no next = let up = next_up ls i j next in behind j ds (omega (arith, h, up)) so
+  none_read i j ds (behind _ _ h so) silent next = let up = next_up ls i j next in behind j ds (omega (arith, h, up)) so
 
   lines_read : (j : ℕ) (es : List Line) → Refer ls j es → Read ls all j es
   lines_read j es none_yet = at_start 0 [] refl refl
   lines_read j es (one_refers i e _ ds _ l before line r next is) = one_read i e j ds es l (lines_read i ds before) line r next is
-  lines_read j es (none_refers i _ _ before no next) = none_read i j es (lines_read i es before) no next
+  lines_read j es (none_refers i _ _ before silent next) = none_read i j es (lines_read i es before) silent next
 
   -- at the end of the text they are all
   all_read : (es : List Line) → Refer ls (length ls) es → es ≡ referring all
@@ -548,6 +548,6 @@ pub words_referred : (spot : ℕ → Spot) (ops after : Operators) (ls : List Le
     (found.accumulate.items ≡ accumulate_words text.lines.items) × (found.accum_sig.items ≡ accum_words (declarations text.lines.items))
 words_referred spot ops after ls text found m r =
     let clauses = m.read.before in
-    let e = all_read ls clauses m.header (chain_of ls ops after 3 (length ls) clauses m.read.sentences) r.lines r.refer in
+    let e = all_read ls clauses m.header (chain_of ls ops 3 after (length ls) clauses m.read.sentences) r.lines r.refer in
     (r.accumulate ∙ ap (λ es. map spot (all_of words_of es)) e ∙ sym (text_words spot ls text.lines.items clauses m.read.said), r.accum_sig ∙ ap
         (λ es. map spot (all_of sig_words_of es)) e ∙ sym (text_sig_words spot ls text.lines.items clauses m.read.said))
