@@ -111,7 +111,7 @@ last_none (y ∷ ys) e =
     let f : None ≡ Some x = e ∙ ap (slice_get (y ∷ ys)) z ∙ is in
     absurd (cc)
 
-last_some : (xs : List Open) (x : Open) → Some x ≡ slice_get xs (length xs - 1) → (ys : List Open) × (reverse xs ≡ x ∷ ys)
+pub last_some : (xs : List Open) (x : Open) → Some x ≡ slice_get xs (length xs - 1) → (ys : List Open) × (reverse xs ≡ x ∷ ys)
 last_some [] x e = absurd (cc)
 last_some (y ∷ ys) x e =
     let z : length (y ∷ ys) - 1 ≡ length ys = omega arith in
