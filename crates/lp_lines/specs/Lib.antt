@@ -4,3 +4,4 @@ pub mod Refusals
 pub mod Placed
 pub mod Looked
 pub mod Left
+pub mod Causes

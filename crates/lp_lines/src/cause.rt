@@ -25,7 +25,8 @@ pub enum Cause {
 /// A text that is said of a place alone.
 pub fn at(text: &'static str, spot: Spot) -> Cause
     requires { is_message false text.now ≡ true }
-    ensures { (said : List ℕ) → IsCauseOf said result }
+    ensures message { (said : List ℕ) → IsCauseOf said result }
+    ensures text { result ≡ Cause.Text (record { text = text.entry; spot = spot; is_named = false }) }
 {
     Cause::Text(Blame {
         text,

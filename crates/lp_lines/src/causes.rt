@@ -1,5 +1,6 @@
 // What is said of each fault of a text.
 ghost use Rattle.std.specs.Prelude.{List, ℕ};
+ghost use Rattle.lp_lines.specs.Causes.{TellsDeclarations, TellsModule, TellsOperator, TellsSyntax, TellsTyping};
 ghost use Rattle.lp_lines.specs.Placed.{IsCauseOf};
 
 use crate::cause::{Cause, at, named};
@@ -11,7 +12,8 @@ use lp_sig::SigFault;
 use lp_syntax::SyntaxFault;
 
 fn of_operator(fault: FixFault, spot: Spot) -> Cause
-    ensures { (text : List ℕ) → IsCauseOf text result }
+    ensures cause { (text : List ℕ) → IsCauseOf text result }
+    ensures tells { TellsOperator fault spot result }
 {
     match fault {
         FixFault::TooHigh(_) => at("operator number above 255", spot),
@@ -22,7 +24,8 @@ fn of_operator(fault: FixFault, spot: Spot) -> Cause
 
 /// A fault of syntax.
 pub fn of_syntax(fault: SyntaxFault) -> Cause
-    ensures { (text : List ℕ) → IsCauseOf text result }
+    ensures cause { (text : List ℕ) → IsCauseOf text result }
+    ensures tells { TellsSyntax fault result }
 {
     match fault {
         SyntaxFault::Unexpected(spot) => at("unexpected token", spot),
@@ -37,7 +40,8 @@ pub fn of_syntax(fault: SyntaxFault) -> Cause
 
 /// A fault of declarations.
 pub fn of_declarations(fault: SigFault) -> Cause
-    ensures { (text : List ℕ) → IsCauseOf text result }
+    ensures cause { (text : List ℕ) → IsCauseOf text result }
+    ensures tells { TellsDeclarations fault result }
 {
     match fault {
         SigFault::UnknownKind(spot) => named("unknown kind", spot),
@@ -53,7 +57,8 @@ pub fn of_declarations(fault: SigFault) -> Cause
 
 /// A fault of typing.
 pub fn of_typing(fault: InferFault) -> Cause
-    ensures { (text : List ℕ) → IsCauseOf text result }
+    ensures cause { (text : List ℕ) → IsCauseOf text result }
+    ensures tells { TellsTyping fault result }
 {
     match fault {
         InferFault::Undeclared(spot) => named("undeclared name", spot),
@@ -64,7 +69,8 @@ pub fn of_typing(fault: InferFault) -> Cause
 
 /// A fault of a module, or of the form of a query.
 pub fn of_module(fault: ModuleFault) -> Cause
-    ensures { (text : List ℕ) → IsCauseOf text result }
+    ensures cause { (text : List ℕ) → IsCauseOf text result }
+    ensures tells { TellsModule fault result }
 {
     match fault {
         ModuleFault::Cyclic(spot) => named("cyclic accumulate", spot),

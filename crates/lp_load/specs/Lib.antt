@@ -2,3 +2,4 @@ pub mod Placed
 pub mod Tells
 pub mod Asked
 pub mod Loaded
+pub mod Refused

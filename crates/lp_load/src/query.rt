@@ -7,6 +7,7 @@ ghost use Rattle.lp_module.specs.Clauses.{IsFormed};
 ghost use Rattle.lp_module.specs.Refusals.{IsShort};
 ghost use Rattle.lp_module.specs.Schemes.{declared_schemes};
 ghost use Rattle.lp_load.specs.Asked.{IsAsked, IsRead};
+ghost use Rattle.lp_load.specs.Refused.{IsOverArguments, IsOverClauses, IsRefusedFor, IsRefusedQuery, IsUnformed, IsUnread};
 ghost use Rattle.lp_lines.specs.Placed.{IsCauseOf, IsOfText, IfSource};
 ghost use Rattle.lp_lines.specs.Refusals.{IsTextRefusal};
 
@@ -27,6 +28,7 @@ use std::alloc::Global;
 fn read(alloc: Global, text: &[u8], built: &Built) -> Result<RawQuery, Cause>
     ensures refused { IfErr result (IsCauseOf text.now) }
     ensures read { IfOk result (IsRead built.now.table text.now) }
+    ensures cause { IfErr result (IsUnread built.now.table text.now) }
 {
     let tokens = match tokens(alloc, text) {
         Ok(tokens) => tokens,
@@ -41,6 +43,7 @@ fn read(alloc: Global, text: &[u8], built: &Built) -> Result<RawQuery, Cause>
 fn within_arguments(alloc: Global, raw: &RawQuery) -> Result<(), Cause>
     ensures refused { (text : List ℕ) → IfErr result (IsCauseOf text) }
     ensures few { OnOk result (HasManyArguments raw.now.term → ⊥) }
+    ensures cause { IfErr result (IsOverArguments raw.now.term) }
 {
     match has_many_arguments(alloc, &raw.term) {
         Ok(false) => Ok(()),
@@ -61,6 +64,7 @@ fn within_form(
     ensures short { OnOk result (IsShort (tree bank.old typed.now.formula.0)) }
     ensures variables { OnOk result (typed.now.type_vars ≤ MAX_ARGUMENTS) }
     ensures formed { OnOk result (IsFormed (declared_schemes names.now) true typed.now.type_vars (tree bank.old typed.now.formula.0)) }
+    ensures cause { IfErr result (IsUnformed names.now bank.old typed.now first) }
 {
     match query_form_under(alloc, bank, names, typed, first) {
         Ok(()) => Ok(()),
@@ -70,6 +74,7 @@ fn within_form(
 
 fn within_clauses(alloc: Global, bank: &mut Bank, typed: &Typed) -> Result<(), Cause>
     ensures refused { (text : List ℕ) → IfErr result (IsCauseOf text) }
+    ensures cause { IfErr result IsOverClauses }
     ensures kept { Extends bank.old bank.new }
 {
     match query_body(alloc, bank, typed) {
@@ -82,6 +87,7 @@ fn within_clauses(alloc: Global, bank: &mut Bank, typed: &Typed) -> Result<(), C
 // The typed query, in the program's bank.
 fn type_of(alloc: Global, text: &[u8], built: &mut Built) -> Result<Typed, Cause>
     ensures refused { IfErr result (IsCauseOf text.now) }
+    ensures cause { IfErr result (IsRefusedFor built.old.table built.old.signature text.now) }
     ensures asked { IfOk result (IsAsked built.old.table built.old.signature text.now built.new.assembled.program.bank) }
     ensures kept { Extends built.old.assembled.program.bank built.new.assembled.program.bank }
     ensures table { built.new.table ≡ built.old.table }
@@ -109,6 +115,7 @@ fn type_of(alloc: Global, text: &[u8], built: &mut Built) -> Result<Typed, Cause
 pub fn ask(alloc: Global, text: &[u8], built: &mut Built) -> Result<Typed, Refusal>
     ensures refused { IfErr result IsTextRefusal }
     ensures placed { IfErr result (IfSource (IsOfText (codes "query") text.now)) }
+    ensures cause { IfErr result (IsRefusedQuery built.old.table built.old.signature text.now) }
     ensures asked { IfOk result (IsAsked built.old.table built.old.signature text.now built.new.assembled.program.bank) }
     ensures kept { Extends built.old.assembled.program.bank built.new.assembled.program.bank }
     ensures table { built.new.table ≡ built.old.table }

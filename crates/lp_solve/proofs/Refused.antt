@@ -17,6 +17,7 @@ use Rattle.lp_lines.specs.Placed.{IsOfText, IfSource}
 use Rattle.lp_lines.specs.Refusals.{IsTextRefusal, line_of, status_of}
 use Rattle.lp_lines.specs.declared.refusal.Refusal.{Refusal}
 use Rattle.lp_load.specs.Loaded.{IsLoaded}
+use Rattle.lp_load.specs.Refused.{IsRefusedQuery}
 use Rattle.lp_solve.specs.Queries.{IsFlat, IsQuery, entries, first_state, names}
 use Rattle.lp_solve.specs.Solved.{BeginsSolved, IsAnswered, IsRefusal, WritesSolved, answered, of_query, refused}
 use Rattle.lp_solve.specs.inner.Searched.{BeginsSearch, IsReady, IsSearched, WritesSearch}
@@ -27,9 +28,9 @@ use Rattle.lp_solve.specs.Shown.{IsShownWith, all_constants, constants_in, const
 use Rattle.lp_solve.specs.declared.prepare.Prepared.{Prepared}
 use Rattle.lp_solve.specs.declared.shown.Shown.{Shown}
 
-pub refused_by_query : {T : Type 0} (told : Option Held) (name query : List ℕ) (built : Built) (r : Result T Refusal) → IsLoaded told name built → IfErr r IsTextRefusal → IfErr r (IfSource (IsOfText (codes "query") query)) → IfErr r (IsRefusal told name query)
-refused_by_query told name query built (Ok x) l h p = tt
-refused_by_query told name query built (Err r) l h p = of_query r built l h p
+pub refused_by_query : {T : Type 0} (told : Option Held) (name query : List ℕ) (built : Built) (r : Result T Refusal) → IsLoaded told name built → IfErr r IsTextRefusal → IfErr r (IfSource (IsOfText (codes "query") query)) → IfErr r (IsRefusedQuery built.table built.signature query) → IfErr r (IsRefusal told name query)
+refused_by_query told name query built (Ok x) l h p c = tt
+refused_by_query told name query built (Err r) l h p c = of_query r built l h p c
 
 -- the program's bank has grown, and nothing else of it was changed
 pub shown_before : (text : List ℕ) (q : Typed) (old new : Built) (shown : Shown) → new.signature ≡ old.signature → new.assembled.constants ≡

@@ -7,6 +7,7 @@ ghost use Rattle.lp_lines.specs.Placed.{IsOfText, IfSource};
 ghost use Rattle.lp_lines.specs.Refusals.{IsTextRefusal};
 ghost use Rattle.lp_load.specs.Loaded.{IsLoaded};
 ghost use Rattle.lp_load.specs.Placed.{IsPlaced};
+ghost use Rattle.lp_load.specs.Refused.{IsRefusedQuery};
 ghost use Rattle.lp_solve.specs.Prepared.{IsPrepared};
 ghost use Rattle.lp_solve.specs.Solved.{IsRefusal};
 ghost use Rattle.lp_solve.specs.inner.Searched.{IsReady};
@@ -43,6 +44,7 @@ fn start(alloc: Global, question: Question<'_>, mut built: Built) -> Result<Prep
     ensures prepared { IfOk result IsPrepared }
     ensures ready { (told : Option Held) → IsLoaded told question.entry.name.now built → IfOk result (IsReady told question.entry.name.now question.entry.query.now question.entry.steps question.entry.answers) }
     ensures refused { IfErr result IsTextRefusal }
+    ensures cause { IfErr result (IsRefusedQuery built.table built.signature question.entry.query.now) }
     ensures placed { IfErr result (IfSource (IsOfText (codes "query") question.entry.query.now)) }
 {
     let text = question.query.as_bytes();

@@ -1,4 +1,8 @@
+use Rattle.lp_lemmas.proofs.Results.{passed_up}
 use Rattle.lp_lines.proofs.Placing.{cause_passed}
+use Rattle.lp_load.specs.Refused.{IsRefusedFor, of_form, of_typing, unread}
+use Rattle.lp_load.proofs.Refusing.{over_arguments, over_clauses}
+use Rattle.lp_term.proofs.Trees.{extends_same}
 use Rattle.lp_load.proofs.Asking.{asked_later}
 use Rattle.lp_load.proofs.query.type_of.Goals as goal
 
@@ -7,7 +11,7 @@ returns-in_err-within_arguments-clause-refused g = cause_passed g.from_residual-
     g.args.text.now g.from_residual-in_err-within_arguments.ensures.1 (g.in_err-within_arguments.ensures.refused g.args.text.now)
 
 pub returns-in-Err-clause-refused : goal.returns-in-Err-clause-refused
-returns-in-Err-clause-refused g = g.of_typing.ensures g.args.text.now
+returns-in-Err-clause-refused g = g.of_typing.ensures.cause g.args.text.now
 
 pub returns-in_err-within_form-clause-refused : goal.returns-in_err-within_form-clause-refused
 returns-in_err-within_form-clause-refused g = cause_passed g.from_residual-in_err-within_form.result g.in_err-within_form.field-0.0 g.args.text.now
@@ -21,3 +25,32 @@ pub returns-clause-asked : goal.returns-clause-asked
 returns-clause-asked g = asked_later _ _ _ _ _ _ g.in_ok-raw.raw _ g.in_ok-within_form.ensures.kept g.in_ok-within_clauses.ensures.kept
     g.in_ok-raw.ensures.read g.in_ok-within_arguments.ensures.few g.in-Ok.ensures.stands g.in-Ok.ensures.typed g.in_ok-within_form.ensures.short
     g.in_ok-within_form.ensures.variables g.in_ok-within_form.ensures.formed
+
+pub returns-in_err-raw-clause-cause : goal.returns-in_err-raw-clause-cause
+returns-in_err-raw-clause-cause g = passed_up g.from_residual.result g.in_err-raw.field-0.0 (IsRefusedFor g.args.built.now.table g.args.built.now.signature g.args.text.now)
+    g.from_residual.ensures.1 (unread g.in_err-raw.field-0.0 g.in_err-raw.ensures.cause)
+
+pub returns-in_err-within_arguments-clause-cause : goal.returns-in_err-within_arguments-clause-cause
+returns-in_err-within_arguments-clause-cause g = passed_up g.from_residual-in_err-within_arguments.result g.in_err-within_arguments.field-0.0
+    (IsRefusedFor g.args.built.now.table g.args.built.now.signature g.args.text.now) g.from_residual-in_err-within_arguments.ensures.1
+    (over_arguments g.args.built.now.table g.args.built.now.signature g.args.text.now g.in_ok-raw.raw g.in_err-within_arguments.field-0.0 g.in_ok-raw.ensures.read g.in_err-within_arguments.ensures.cause)
+
+pub returns-in-Err-clause-cause : goal.returns-in-Err-clause-cause
+returns-in-Err-clause-cause g =
+    of_typing g.in_ok-raw.raw g.in-Err.fault g.of_typing.result g.in_ok-raw.ensures.read g.in_ok-within_arguments.ensures.few g.in-Err.ensures.refused g.of_typing.ensures.tells
+
+pub returns-in_err-within_form-clause-cause : goal.returns-in_err-within_form-clause-cause
+returns-in_err-within_form-clause-cause g =
+    let why = g.in_err-within_form.ensures.cause in
+    passed_up g.from_residual-in_err-within_form.result g.in_err-within_form.field-0.0 (IsRefusedFor g.args.built.now.table g.args.built.now.signature g.args.text.now)
+    g.from_residual-in_err-within_form.ensures.1
+    (of_form g.in_ok-raw.raw _ g.in-Ok.typed why.0 g.in_err-within_form.field-0.0 g.in_ok-raw.ensures.read g.in_ok-within_arguments.ensures.few g.in-Ok.ensures.typed why.1 why.2)
+
+pub returns-in_err-within_clauses-clause-cause : goal.returns-in_err-within_clauses-clause-cause
+returns-in_err-within_clauses-clause-cause g =
+    passed_up g.from_residual-in_err-within_clauses.result g.in_err-within_clauses.field-0.0 (IsRefusedFor g.args.built.now.table g.args.built.now.signature g.args.text.now)
+    g.from_residual-in_err-within_clauses.ensures.1
+    (over_clauses g.args.built.now.table g.args.built.now.signature g.args.text.now _ g.in-Ok.typed g.in_err-within_clauses.field-0.0
+    (asked_later _ _ _ _ _ _ g.in_ok-raw.raw _ g.in_ok-within_form.ensures.kept (extends_same _)
+    g.in_ok-raw.ensures.read g.in_ok-within_arguments.ensures.few g.in-Ok.ensures.stands g.in-Ok.ensures.typed g.in_ok-within_form.ensures.short
+    g.in_ok-within_form.ensures.variables g.in_ok-within_form.ensures.formed) g.in_err-within_clauses.ensures.cause)

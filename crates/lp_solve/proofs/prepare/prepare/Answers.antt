@@ -11,7 +11,7 @@ returns-in-Ok-clause-ready g c = λ known. c.start.ensures.ready (g.F.Folder.hel
 pub returns-in-Ok-clause-refusal : goal.returns-in-Ok-clause-refusal
 returns-in-Ok-clause-refusal g c =
     λ known. refused_by_query (g.F.Folder.held c.args.folder.now) c.args.question.name.now c.args.question.query.now c.in-Ok.built c.start.result
-    (c.in-Ok.ensures.program known) c.start.ensures.refused c.start.ensures.placed
+    (c.in-Ok.ensures.program known) c.start.ensures.refused c.start.ensures.placed c.start.ensures.cause
 
 pub returns-in-Err-clause-refusal : goal.returns-in-Err-clause-refusal
 returns-in-Err-clause-refusal g c = λ known. of_texts c.in-Err.refusal c.in-Err.ensures.refused (c.in-Err.ensures.placed known)

@@ -4,7 +4,9 @@ use Rattle.lp_lemmas.proofs.Results.{passed_up}
 use Rattle.lp_lines.specs.declared.refusal.Refusal.TheVariants.{Memory}
 use Rattle.lp_lines.specs.Placed.{IsOfText, IfSource}
 use Rattle.lp_lines.specs.Refusals.{IsTextRefusal}
+use Rattle.lp_lines.specs.declared.cause.Cause.TheVariants as cause
 use Rattle.lp_load.specs.Asked.{IsAsked}
+use Rattle.lp_load.specs.Refused.{IsRefusedQuery, no_memory}
 use Rattle.lp_solve.specs.Queries.{IsQuery}
 use Rattle.lp_solve.specs.Shown.{IsShownWith}
 use Rattle.lp_solve.proofs.Beginning.{begins_so}
@@ -48,3 +50,12 @@ returns-in_err-search-clause-refused c = passed_up c.from_residual-in_err-search
 
 pub returns-in_err-search-clause-placed : goal.returns-in_err-search-clause-placed
 returns-in_err-search-clause-placed c = passed_up c.from_residual-in_err-search.result Memory (IfSource (IsOfText (codes "query") c.args.question.query.now)) c.from_residual-in_err-search.ensures.1 tt
+
+pub returns-in-Err-clause-cause : goal.returns-in-Err-clause-cause
+returns-in-Err-clause-cause c = subst (λ t. IsRefusedQuery c.args.built.table c.args.built.signature t c.in-Err.refusal) c.as_bytes-text.ensures.value c.in-Err.ensures.cause
+
+pub returns-in_err-shown-clause-cause : goal.returns-in_err-shown-clause-cause
+returns-in_err-shown-clause-cause c = passed_up c.from_residual.result Memory (IsRefusedQuery c.args.built.table c.args.built.signature c.args.question.query.now) c.from_residual.ensures.1 (cause.Memory, no_memory, tt)
+
+pub returns-in_err-search-clause-cause : goal.returns-in_err-search-clause-cause
+returns-in_err-search-clause-cause c = passed_up c.from_residual-in_err-search.result Memory (IsRefusedQuery c.args.built.table c.args.built.signature c.args.question.query.now) c.from_residual-in_err-search.ensures.1 (cause.Memory, no_memory, tt)
