@@ -41,16 +41,16 @@ module _ (modules : List Module) (ts : List Hidden) (n : Next) where
       n [] ((root, 0) ∷ []) (o ∷ []) all → AreCopiesOf modules root o.module.now (copy_of root o) all
   whole_first root o all at first (below, middle, copies, is, whole) = record {
     are = record {
-        top = o.module.now;
-        at = at;
-        copy = copy_of root o;
-        below = below;
-        middle = middle;
-        of_root = refl;
-        copies = subst (λ k. CopiesBelow modules o.module.now (copy_of root o) k (get_or (uses_of modules) root []) below middle) first copies;
-        is_root = is;
-        whole = sym whole;
-      };
+      top = o.module.now;
+      at = at;
+      copy = copy_of root o;
+      below = below;
+      middle = middle;
+      of_root = refl;
+      copies = subst (λ k. CopiesBelow modules o.module.now (copy_of root o) k (get_or (uses_of modules) root []) below middle) first copies;
+      is_root = is;
+      whole = sym whole;
+    };
     top_is = refl;
     copy_is = refl;
   }

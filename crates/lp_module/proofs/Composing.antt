@@ -8,12 +8,11 @@ use Rattle.lp_term.specs.Nodes.{Nodes, Extends}
 use Rattle.lp_term.proofs.Trees.{extends-trans}
 use Rattle.lp_model.specs.Readings.{formula_of}
 use Rattle.lp_model.specs.declared.program.ClauseFormula as code
-use Rattle.lp_model.specs.declared.program.Declared.{Declared}
 use Rattle.lp_copies.specs.Copies.{Copies, RestOfCopies, IsOpened, IsClosed}
 use Rattle.lp_copies.specs.Trees.{IsCopying, frames_of}
 use Rattle.lp_copies.specs.declared.copying.Copying.{Copying}
 use Rattle.lp_module.specs.Copies.{uses_of}
-use Rattle.lp_module.specs.Making.{AreTyped, IsSoFar, MakesNames}
+use Rattle.lp_module.specs.Making.{IsSoFar, MakesNames}
 use Rattle.lp_module.specs.Program.{Copy, Next, first_of, IsRoot, IsBelow, in_copy, clauses_in, clauses_of, exported_kinds, exported_constants, exported_schemes}
 use Rattle.lp_module.specs.Sentences.{AreWithin}
 use Rattle.lp_module.specs.declared.copies.Making.{Making}

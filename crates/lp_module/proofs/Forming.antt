@@ -1,5 +1,5 @@
 -- From what is wrong with the parts of a formula to its first fault.
-use Rattle.std.proofs.Common.{◌≡◌, ℕ, zero, suc, ◌+◌, ◌-◌, ◌<◌, ◌≤◌, List, [], ◌∷◌, ◌++◌, length, map, take, get_or, Bool, true, false, true≢false, Option, Some, refl, sym, ap, subst, ◌∙◌, arith, inl, inr}
+use Rattle.std.proofs.Common.{◌≡◌, ℕ, zero, suc, ◌+◌, ◌-◌, ◌<◌, ◌≤◌, List, [], ◌∷◌, ◌++◌, length, map, take, get_or, Bool, true, false, true≢false, Option, refl, sym, ap, subst, ◌∙◌, arith, inl, inr}
 use Rattle.std.specs.Prelude.{◌⊎◌, ◌&&◌, nat_lt, if◌then◌else◌, option_map, slice_get}
 use Rattle.std.proofs.lemmas.Bool.{cases_lt}
 use Rattle.std.proofs.lemmas.Bool.Decides.{nat_tests}
@@ -17,7 +17,7 @@ use Rattle.lp_sig.specs.declared.entries.ConstantEntry.{ConstantEntry}
 use Rattle.lp_sig.specs.declared.signature.Signature.{Signature}
 use Rattle.lp_infer.specs.Texts.{entry_scheme}
 use Rattle.lp_module.specs.Clauses.{IsShortForm, IsWithin, IsFormed}
-use Rattle.lp_module.specs.Form.{Part, IsPart, HasPart, HasNoPart, is_deep, is_wide, is_in_term, is_other, whole}
+use Rattle.lp_module.specs.Form.{HasNoPart, is_deep, is_wide, is_in_term, is_other, whole}
 use Rattle.lp_module.specs.Refusals.{IsFormFault, IsShort}
 use Rattle.lp_module.specs.Schemes.{any_schemes, declared_schemes}
 use Rattle.lp_module.specs.declared.fault.ModuleFault.TheVariants as fault

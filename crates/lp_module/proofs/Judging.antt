@@ -1,26 +1,24 @@
 -- What is found of a formula, part by part.
-use Rattle.std.proofs.Common.{◌≡◌, ℕ, zero, suc, ◌+◌, ◌<◌, ◌≤◌, List, [], ◌∷◌, ◌++◌, length, get_or, Bool, true, false, true≢false, Option, Some, None, refl, sym, ap, subst, ◌∙◌, arith, inl, inr}
-use Rattle.std.specs.Prelude.{◌⊎◌, ◌||◌, ◌&&◌, not, nat_lt, Contains, slice_get}
-use Rattle.std.proofs.lemmas.List.{append-nil}
+use Rattle.std.proofs.Common.{◌≡◌, ℕ, ◌+◌, ◌<◌, ◌≤◌, List, [], ◌∷◌, ◌++◌, length, Bool, true, false, true≢false, Option, refl, sym, ap, subst, ◌∙◌, arith, inl, inr}
+use Rattle.std.specs.Prelude.{◌⊎◌, ◌||◌, not, nat_lt, Contains}
 use Rattle.std.proofs.lemmas.List.Elements.{Contains-append_left, Contains-append_right, Contains-append_cases}
 use Rattle.std.proofs.lemmas.Bool.{cases_lt}
 use Rattle.lp_lemmas.proofs.Booleans.{or_false_left, or_false_right}
-use Rattle.lp_lemmas.proofs.Elements.{Contains_head, Contains_tail, Contains_single}
-use Rattle.lp_calculus.specs.Term.{Term}
+use Rattle.lp_lemmas.proofs.Elements.{Contains_head, Contains_single}
 use Rattle.lp_calculus.specs.Typing.{Scheme}
 use Rattle.lp_standard.specs.Connectives.{Connective, connective_of}
 use Rattle.lp_standard.specs.Connectives as connective
 use Rattle.lp_term.specs.Nodes.{Nodes, Extends, tree}
 use Rattle.lp_model.specs.Connected.{connective_in}
 use Rattle.lp_model.specs.declared.connective.Connective.{Connective as Code}
-use Rattle.lp_module.specs.Form.{Part, below, inside, in_goal, parts_by, parts_of, IsPart, itself, deeper, is_deep, is_wide, is_in_term, is_other, HasPart, is_term, depth}
+use Rattle.lp_module.specs.Form.{Part, below, inside, in_goal, parts_by, parts_of, IsPart, itself, deeper, is_deep, is_wide, is_in_term, is_other, HasPart}
 use Rattle.lp_module.specs.declared.heads.Heads.{Heads}
 use Rattle.lp_module.specs.declared.judge.Binder.{Binder}
 use Rattle.lp_module.specs.declared.judge.Parts.{Parts}
 use Rattle.lp_module.specs.declared.judge.Task.{Task}
 use Rattle.lp_module.specs.declared.judge.Verdict.{Verdict}
 use Rattle.lp_module.proofs.Owning.{is_below}
-use Rattle.lp_module.specs.inner.Judging.{AreHeads, IsAround, none_around, one_around, IsTask, AreTasks, Pushes, IsOwn, AreJoined, IsCovered, IsFound, IsVerdict, Judges, Judging}
+use Rattle.lp_module.specs.inner.Judging.{AreHeads, IsAround, IsTask, AreTasks, Pushes, IsOwn, AreJoined, IsCovered, IsFound, IsVerdict, Judging}
 
 -- parts of parts
 pub part_in : (p r q : Part) → IsPart p r → IsPart r q → IsPart p q

@@ -1,5 +1,5 @@
 -- Where the tables of a program have the hidden constants of each copy, and those that the root exports.
-use Rattle.std.proofs.Common.{◌≡◌, ℕ, zero, suc, ◌+◌, ◌-◌, ◌<◌, ◌≤◌, List, [], ◌∷◌, ◌++◌, length, map, take, drop, get_or, refl, sym, ap, subst, ◌∙◌, arith, Bool, true, false, Option, Some, None, inl, inr, append_assoc}
+use Rattle.std.proofs.Common.{◌≡◌, ℕ, zero, suc, ◌+◌, ◌-◌, ◌<◌, ◌≤◌, List, [], ◌∷◌, ◌++◌, length, map, take, drop, refl, sym, ap, subst, ◌∙◌, arith, Bool, true, false, Option, Some, None, inl, inr, append_assoc}
 use Rattle.std.specs.Prelude.{◌⊎◌, nat_eq, if◌then◌else◌, option_map, option_to_list, slice_get}
 use Rattle.std.specs.List.{range_with_len}
 use Rattle.std.proofs.lemmas.Bool.{cases_lt, ne_eqb, eqb-true, le-ltb}
@@ -17,7 +17,7 @@ use Rattle.lp_model.specs.declared.program.Declared.{Declared}
 use Rattle.lp_sig.specs.declared.entries.ConstantEntry.{ConstantEntry}
 use Rattle.lp_infer.specs.Texts.{entry_scheme}
 use Rattle.lp_module.specs.Orderly.{IsOrderly, AreOrderly, HasType}
-use Rattle.lp_module.specs.Program.{Copy, Next, place_in, hidden_or, one_if_none, exported_before, one_if_exported, exported_among, hidden_among, scheme_in, exported_schemes, hidden_schemes, of_module, of_copies, constant_at, constant_in, first_of, behind, CopiesBelow, none_below, one_below, AreCopies, IsProgram}
+use Rattle.lp_module.specs.Program.{Copy, Next, place_in, hidden_or, one_if_none, exported_before, one_if_exported, exported_among, hidden_among, scheme_in, exported_schemes, hidden_schemes, of_module, of_copies, constant_at, constant_in, CopiesBelow, none_below, one_below, IsProgram}
 use Rattle.lp_module.specs.declared.copies.Assembled.{Assembled}
 use Rattle.lp_module.specs.declared.module.Module.{Module}
 
@@ -127,7 +127,7 @@ declared_at : (b : Nodes) (ds : List Declared) (k n : ℕ) (s : Scheme) → k �
 declared_at b ds k n s e f =
     let z : k - 32 ≡ n = omega (arith, e) in
     ap (λ t. if t then entry standard_schemes k else entry (map (λ d. Some (scheme_of b d)) ds) (k - 32)) (le-ltb k 32 (omega (arith, e))) ∙ ap
-        (entry (map (λ d. Some (scheme_of b d)) ds)) z ∙ entry_is b ds n ∙ f
+    (entry (map (λ d. Some (scheme_of b d)) ds)) z ∙ entry_is b ds n ∙ f
 
 -- the exported constants of a module
 module _ (m : Module) (o : IsOrderly m) where
@@ -166,7 +166,7 @@ module _ (c : Copy) (m : Module) (o : IsOrderly m) where
   many_exported =
       let r = ap length o.constants ∙ range_length (32 + o.exported_constants) (length m.signature.constants.items - o.exported_constants) in
       ap length exported_are ∙ length-map (take o.exported_constants m.signature.constants.items) of_entry ∙ taken_length o.exported_constants
-          m.signature.constants.items ∙ ap (λ n. length m.signature.constants.items - n) (sym r)
+      m.signature.constants.items ∙ ap (λ n. length m.signature.constants.items - n) (sym r)
 
   hidden_found : (i j : ℕ) (e : ConstantEntry) → slice_get m.signature.constants.items i ≡ Some e → place_in m.hidden_constants.items (32 + i) ≡ Some
       j → slice_get (hidden_schemes c m) j ≡ Some (of_entry e)
@@ -186,7 +186,7 @@ module _ (c : Copy) (m : Module) (o : IsOrderly m) where
   before_all zero l = refl
   before_all (suc i) l =
       let p : place_in m.hidden_constants.items (32 + i) ≡ None = ap (λ h. place_in h (32 + i)) o.constants ∙ place_none (32 + o.exported_constants)
-          (length m.signature.constants.items - o.exported_constants) (32 + i) (omega (arith, l)) in
+      (length m.signature.constants.items - o.exported_constants) (32 + i) (omega (arith, l)) in
       let q : i + 1 ≡ suc i = omega arith in
       (λ j. before_all i (omega (arith, l)) j + ap one_if_none p j) ∙ q
 
@@ -194,7 +194,7 @@ module _ (c : Copy) (m : Module) (o : IsOrderly m) where
 abbrev Finds : List Module → List Scheme → Copy → Type 0
 Finds modules table c =
     (m : Module) → slice_get modules c.member ≡ Some m → (i : ℕ) (e : ConstantEntry) → slice_get m.signature.constants.items i ≡ Some e → (j : ℕ) →
-        place_in m.hidden_constants.items (32 + i) ≡ Some j →
+    place_in m.hidden_constants.items (32 + i) ≡ Some j →
     (n : ℕ) × (c.constants (32 + i) ≡ 32 + n) × (slice_get table n ≡ Some (scheme_in c (entry_scheme m.signature.bank e)))
 
 orderly_at : (modules : List Module) (k : ℕ) (m : Module) → AreOrderly modules → slice_get modules k ≡ Some m → IsOrderly m
@@ -268,13 +268,13 @@ module _ (modules : List Module) (root : ℕ) (a : Assembled) (p : IsProgram mod
       let n = many_exported p.are.copy p.are.top top_orderly in
       let first = below_finds modules all table p.are.copies front (hs ++ []) (ap (λ k. 32 + k) (sym n)) t1 in
       let own = copy_finds modules all table p.are.copy p.are.top p.are.middle.constants
-          (λ i. 32 + exported_before 32 p.are.top.hidden_constants.items i) at p.are.is_root.constants.named (front ++ lower) [] first.0
-          (t1 ∙ sym (append_assoc front lower (hs ++ []))) in
+      (λ i. 32 + exported_before 32 p.are.top.hidden_constants.items i) at p.are.is_root.constants.named (front ++ lower) [] first.0
+      (t1 ∙ sym (append_assoc front lower (hs ++ []))) in
       subst (EachOf (Finds modules table)) (sym p.are.whole) (each_append (Finds modules table) p.are.below (p.are.copy ∷ []) first.1 (own, tt))
 
   pub hidden_have_types :
       EachOf (λ c. (m : Module) → slice_get modules c.member ≡ Some m → (i : ℕ) (e : ConstantEntry) → slice_get m.signature.constants.items i ≡ Some e
-          → (j : ℕ) → place_in m.hidden_constants.items (32 + i) ≡ Some j → HasType a c m i e)
+      → (j : ℕ) → place_in m.hidden_constants.items (32 + i) ≡ Some j → HasType a c m i e)
       p.copied
   hidden_have_types = told p.copied copies_find
     where
@@ -290,7 +290,7 @@ module _ (modules : List Module) (root : ℕ) (a : Assembled) (p : IsProgram mod
       let l = exported_below p.are.top top_orderly i e has q in
       let n =
       p.are.is_root.constants.named i (slice_get_within p.are.top.signature.constants.items i e has) ∙ ap
-          (λ o. hidden_or p.are.middle.constants o (32 + exported_before 32 p.are.top.hidden_constants.items i)) q ∙
+      (λ o. hidden_or p.are.middle.constants o (32 + exported_before 32 p.are.top.hidden_constants.items i)) q ∙
       ap (λ k. 32 + k) (before_all p.are.copy p.are.top top_orderly i (omega (arith, l))) in
       declared_at a.program.bank a.program.constants.items (p.are.copy.constants (32 + i)) i _ n
       (ap (λ l. slice_get l i) p.tables.schemes ∙ found_front (exported_schemes p.are.copy p.are.top) _ i _ (exported_found p.are.copy p.are.top top_orderly i e has q))

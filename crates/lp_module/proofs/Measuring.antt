@@ -1,11 +1,11 @@
 -- Measures of terms, and which types end in `o`.
-use Rattle.std.proofs.Common.{◌≡◌, ℕ, zero, suc, ◌+◌, ◌<◌, ◌≤◌, List, [], ◌∷◌, ◌++◌, length, get_or, Bool, true, false, refl, sym, ap, subst, ◌∙◌, arith, inl, inr}
+use Rattle.std.proofs.Common.{◌≡◌, ℕ, zero, suc, ◌+◌, ◌<◌, [], ◌∷◌, ◌++◌, length, get_or, Bool, true, false, refl, sym, ap, subst, ◌∙◌, arith, inl, inr}
 use Rattle.std.specs.Prelude.{◌⊎◌, not, ◌&&◌, ◌||◌, nat_eq}
 use Rattle.std.proofs.lemmas.List.{get_or_append_left, length-append}
 use Rattle.std.proofs.Math.Seq.{get_or-append_seam}
 use Rattle.std.proofs.lemmas.Bool.Decides.{nat_tests}
 use Rattle.lp_lemmas.proofs.Numbers.{below_suc}
-use Rattle.lp_calculus.specs.Types.{Ty, Tys, con}
+use Rattle.lp_calculus.specs.Types.{Tys, con}
 use Rattle.lp_calculus.specs.Term.{Term, index, atom, abs, app}
 use Rattle.lp_calculus.specs.Spine.{head_of}
 use Rattle.lp_term.specs.Spine.{head}

@@ -5,7 +5,7 @@ use Rattle.std.proofs.lemmas.Bool.{cases_lt}
 use Rattle.std.proofs.lemmas.Bool.Decides.{nat_tests}
 use Rattle.lp_calculus.specs.Typing.{Scheme}
 use Rattle.lp_standard.specs.Positive.{is_positive}
-use Rattle.lp_module.specs.Form.{Part, depth, widest, is_term, is_deep, is_wide, is_in_term, is_other}
+use Rattle.lp_module.specs.Form.{Part, depth, widest, is_term, is_other}
 use Rattle.lp_module.specs.declared.heads.Heads.{Heads}
 use Rattle.lp_module.specs.declared.judge.Verdict.{Verdict}
 use Rattle.lp_module.specs.declared.measure.Measure.{Measure}

@@ -1,20 +1,20 @@
 -- The parts of a formula, put behind the others; and the quantifiers around them.
-use Rattle.std.proofs.Common.{◌≡◌, ◌≢◌, ℕ, zero, suc, ◌+◌, ◌-◌, ◌<◌, ◌≤◌, List, [], ◌∷◌, ◌++◌, length, map, drop, get_or, Bool, true, false, Option, Some, None, refl, sym, ap, subst, ◌∙◌, arith, inl, inr, append_assoc}
+use Rattle.std.proofs.Common.{◌≡◌, ◌≢◌, ℕ, zero, suc, ◌+◌, ◌-◌, ◌<◌, ◌≤◌, List, [], ◌∷◌, ◌++◌, length, map, drop, get_or, Bool, true, false, Some, refl, sym, ap, subst, ◌∙◌, arith, inl, inr, append_assoc}
 use Rattle.std.specs.Prelude.{not, slice_get, ◌⊎◌}
 use Rattle.std.proofs.lemmas.Bool.{cases_lt}
-use Rattle.std.proofs.lemmas.List.{drop_more, drop_all, get_or_past, append-nil, length-append}
-use Rattle.std.proofs.lemmas.Option.{slice_get_within, slice_get-get_or, slice_get_read}
+use Rattle.std.proofs.lemmas.List.{drop_more, drop_all, get_or_past, append-nil}
+use Rattle.std.proofs.lemmas.Option.{slice_get_within, slice_get_read}
 use Rattle.lp_calculus.specs.Term.{Term, index, atom, abs, app, apply, shift}
 use Rattle.lp_standard.specs.Connectives.{Connective, body_of}
 use Rattle.lp_standard.specs.Connectives as connective
 use Rattle.lp_term.specs.Facts.{IsNoAbstraction}
-use Rattle.lp_term.specs.Nodes.{Nodes, Extends, tree}
+use Rattle.lp_term.specs.Nodes.{Nodes, tree}
 use Rattle.lp_term.specs.declared.node.TermId.{TermId}
 use Rattle.lp_module.specs.Form.{Part, below, inside, in_goal, parts_by, is_term_by}
 use Rattle.lp_module.specs.declared.judge.Binder.{Binder}
 use Rattle.lp_module.specs.declared.judge.Parts.{Parts}
 use Rattle.lp_module.specs.declared.judge.Task.{Task}
-use Rattle.lp_module.specs.inner.Judging.{IsAround, none_around, one_around, IsTask, AreTasks, PushesTask, PushesBody, Pushes}
+use Rattle.lp_module.specs.inner.Judging.{IsAround, none_around, one_around, IsTask, PushesTask, PushesBody, Pushes}
 
 -- what holds of each application holds of a head on arguments
 pub applied : (P : Term → Type 0) → ((t u : Term) → P (app t u)) → (h : Term) (ts : List Term) → ts ≢ [] → P (apply h ts)

@@ -17,7 +17,7 @@ use Rattle.lp_sig.specs.declared.entries.ConstantEntry.{ConstantEntry}
 use Rattle.lp_sig.specs.declared.entries.KindEntry.{KindEntry}
 use Rattle.lp_module.specs.Making.{AreTyped, IsSoFar, IsMade}
 use Rattle.lp_module.specs.Numbering.{hidden_one, following}
-use Rattle.lp_module.specs.Program.{Copy, place_in, one_if_exported, exported_among, hidden_among, row_of, exported_kinds, hidden_kinds, exported_constants, hidden_constants, exported_schemes, hidden_schemes, of_module, of_copies, AreCopies, HasTables}
+use Rattle.lp_module.specs.Program.{Copy, place_in, one_if_exported, exported_among, hidden_among, row_of, exported_kinds, hidden_kinds, exported_constants, hidden_constants, exported_schemes, hidden_schemes, of_module, of_copies, HasTables}
 use Rattle.lp_module.specs.Sentences.{AreWithin}
 use Rattle.lp_module.specs.declared.copies.Assembled.{Assembled}
 use Rattle.lp_module.specs.declared.copies.GlobalName.{GlobalName}

@@ -1,10 +1,9 @@
 -- Sentences on the way to clauses: typed, closed and judged.
-use Rattle.std.proofs.Common.{◌≡◌, ℕ, zero, suc, ◌+◌, ◌-◌, ◌<◌, ◌≤◌, List, [], ◌∷◌, ◌++◌, length, map, take, drop, reverse, get_or, Result, Ok, Err, refl, sym, ap, subst, ◌∙◌, arith, append_assoc}
-use Rattle.std.specs.Prelude.{min, false, Option, All, OnOk}
+use Rattle.std.proofs.Common.{◌≡◌, ℕ, suc, ◌+◌, ◌-◌, ◌<◌, ◌≤◌, List, [], ◌∷◌, ◌++◌, length, map, take, drop, reverse, get_or, Result, Ok, Err, refl, sym, ap, subst, ◌∙◌, arith, append_assoc}
+use Rattle.std.specs.Prelude.{false, Option, All, OnOk}
 use Rattle.std.specs.Result.{IsErrAnd}
-use Rattle.std.proofs.lemmas.List.{drop_more, drop_all, take_more, take_all, append-nil, length-map, get_or-map, reverse-append, map-append, take-append-drop}
+use Rattle.std.proofs.lemmas.List.{drop_more, drop_all, take_more, take_all, append-nil, get_or-map, reverse-append, take-append-drop}
 use Rattle.std.proofs.lemmas.List.Elements.{All-nil, All-head, All-tail, All-cons, All-push}
-use Rattle.lp_lemmas.proofs.Elements.{All_front, All_back}
 use Rattle.lp_base.specs.declared.place.Spot.{Spot}
 use Rattle.lp_calculus.specs.Types.{Ty}
 use Rattle.lp_calculus.specs.Term.{Term, abs}
@@ -12,7 +11,7 @@ use Rattle.lp_calculus.specs.Typing.{Scheme}
 use Rattle.lp_standard.specs.Connectives.{pi_of}
 use Rattle.lp_syntax.specs.declared.text.RawTerm.{RawTerm}
 use Rattle.lp_syntax.specs.declared.text.Sentence.{Sentence}
-use Rattle.lp_syntax.specs.declared.text.Sentence.TheVariants.{Declares, Says}
+use Rattle.lp_syntax.specs.declared.text.Sentence.TheVariants.{Says}
 use Rattle.lp_term.specs.Nodes.{Nodes, Extends, tree, type_tree}
 use Rattle.lp_term.specs.declared.node.TypeId.{TypeId}
 use Rattle.lp_model.specs.Flat.{all_of}

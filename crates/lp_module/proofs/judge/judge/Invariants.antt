@@ -1,4 +1,3 @@
-use Rattle.std.proofs.Common.{◌≡◌}
 use Rattle.lp_term.specs.Nodes.{Extends, tree}
 use Rattle.lp_module.specs.Form.{whole}
 use Rattle.lp_module.specs.inner.Judging.{AreMeasured, Judging}

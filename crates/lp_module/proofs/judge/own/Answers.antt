@@ -1,7 +1,6 @@
 use Rattle.std.proofs.Common.{◌∙◌, sym, ap, refl, subst}
 use Rattle.std.specs.Prelude.{not}
 use Rattle.lp_standard.specs.Connectives.{connective_of}
-use Rattle.lp_model.specs.Connected.{connective_in}
 use Rattle.lp_module.specs.Form.{has_form_by, is_term_by}
 use Rattle.lp_module.specs.inner.Judging.{IsMeasure}
 use Rattle.lp_module.proofs.Owning.{own_plain, own_term}

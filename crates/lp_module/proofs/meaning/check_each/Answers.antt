@@ -1,4 +1,4 @@
-use Rattle.std.proofs.Common.{ℕ, Option, ◌≡◌, ◌∙◌, false, inl, inr, sym, subst, arith}
+use Rattle.std.proofs.Common.{ℕ, Option, ◌≡◌, ◌∙◌, false, inr, subst, arith}
 use Rattle.std.specs.Prelude.{◌⊎◌, All}
 use Rattle.std.proofs.lemmas.List.{take_all}
 use Rattle.lp_calculus.specs.Typing.{Scheme}

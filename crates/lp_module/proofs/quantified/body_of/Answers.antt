@@ -1,5 +1,4 @@
 use Rattle.std.proofs.Common.{◌∙◌, sym, ap, refl}
-use Rattle.lp_calculus.specs.Term.{app, index, shift}
 use Rattle.lp_standard.specs.Connectives.{body_of}
 use Rattle.lp_term.specs.Nodes.{tree}
 use Rattle.lp_module.proofs.Parting.{body_applied}

@@ -1,4 +1,4 @@
-use Rattle.std.proofs.Common.{◌∙◌, ◌-◌, ◌<◌, ap, sym, arith, length, map}
+use Rattle.std.proofs.Common.{◌∙◌, ◌-◌, ap, sym, arith, map}
 use Rattle.std.proofs.lemmas.List.{length-map}
 use Rattle.lp_calculus.specs.Term.{abs}
 use Rattle.lp_standard.specs.Connectives.{pi_of}

@@ -1,5 +1,4 @@
-use Rattle.std.proofs.Common.{◌≡◌, ◌<◌, ◌-◌, List, length, map, take, reverse}
-use Rattle.lp_calculus.specs.Types.{Ty}
+use Rattle.std.proofs.Common.{◌≡◌, ◌<◌, ◌-◌, length, map, take, reverse}
 use Rattle.lp_term.specs.Nodes.{Extends, tree, type_tree}
 use Rattle.lp_model.specs.Flat.{all_of}
 use Rattle.lp_module.proofs.sentences.closed.Given as goal

@@ -1,4 +1,4 @@
-use Rattle.std.proofs.Common.{sym, subst, take, get_or, []}
+use Rattle.std.proofs.Common.{sym, subst, get_or, []}
 use Rattle.std.proofs.lemmas.List.{take_all}
 use Rattle.lp_term.proofs.Trees.{extends_same, extends-trans}
 use Rattle.lp_module.specs.inner.Typed.{IsClosed, AreClosed}

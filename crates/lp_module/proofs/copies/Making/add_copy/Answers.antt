@@ -1,6 +1,3 @@
-use Rattle.std.proofs.Common.{[], ◌++◌}
-use Rattle.lp_module.specs.Program.{hidden_kinds, hidden_constants, hidden_schemes}
-use Rattle.lp_module.specs.inner.Assembling.{copy_of}
 use Rattle.lp_module.proofs.Adding.{adds_then}
 use Rattle.lp_module.proofs.Tabled.{adds_copy}
 use Rattle.lp_module.proofs.copies.Making.add_copy.Goals as goal

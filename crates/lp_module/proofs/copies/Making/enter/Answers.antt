@@ -1,5 +1,4 @@
 use Rattle.std.proofs.Common.{refl}
-use Rattle.lp_module.proofs.Adding.{opens_root, opens_below}
 use Rattle.lp_module.proofs.Entering.{enters_root, enters_below}
 use Rattle.lp_module.proofs.copies.Making.enter.Goals as goal
 

@@ -1,4 +1,3 @@
-use Rattle.std.proofs.Common.{arith}
 use Rattle.lp_module.proofs.Parting.{none_around_zero, none_past, outer_at}
 use Rattle.lp_module.proofs.judge.Parts.binder.Goals as goal
 

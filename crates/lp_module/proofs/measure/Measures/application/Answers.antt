@@ -1,4 +1,4 @@
-use Rattle.std.proofs.Common.{sym, subst, arith, length, map, add-one}
+use Rattle.std.proofs.Common.{sym, subst, length, map, add-one}
 use Rattle.lp_calculus.specs.Term.{apply}
 use Rattle.lp_term.specs.Nodes.{tree}
 use Rattle.lp_term.proofs.Knowing.{applied_next, take_whole, id_below}

@@ -1,4 +1,4 @@
-use Rattle.std.proofs.Common.{◌≡◌, ◌≤◌, ◌+◌, length}
+use Rattle.std.proofs.Common.{◌≡◌, length}
 use Rattle.lp_module.specs.inner.Judging.{AreMeasured}
 use Rattle.lp_module.proofs.measure.Measures.of.Given as goal
 
