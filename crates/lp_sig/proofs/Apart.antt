@@ -39,7 +39,7 @@ new_firsts known [] n = refl
 new_firsts known (r ∷ rs) (e, n) = ap (λ t. if t then firsts known rs else r ∷ firsts (r.0 ∷ known) rs) e ∙ ap (λ l. r ∷ l) (new_firsts (r.0 ∷ known) rs n)
 
 -- which names are known does not hang on their order
-new_same : {A : Type 0} (known other : List (List ℕ)) (rows : List (Row A)) → ((n : List ℕ) → is_among n known ≡ is_among n other) → AreNew known rows → AreNew other rows
+pub new_same : {A : Type 0} (known other : List (List ℕ)) (rows : List (Row A)) → ((n : List ℕ) → is_among n known ≡ is_among n other) → AreNew known rows → AreNew other rows
 new_same known other [] same n = tt
 new_same known other (r ∷ rs) same (e, n) = (sym (same r.0) ∙ e, new_same (r.0 ∷ known) (r.0 ∷ other) rs (λ m. ap (λ b. bytes_eq m r.0 || b) (same m)) n)
 

@@ -19,7 +19,7 @@ found_more {A} name (x ∷ xs) back a some = by (found_more name xs back a) (byt
     by h true e = e
     by h false e = h e
 
-firsts_front : {A : Type 0} (known : List (List ℕ)) (xs ys : List (Row A)) → (rest : List (Row A)) × (firsts known (xs ++ ys) ≡ firsts known xs ++ rest)
+pub firsts_front : {A : Type 0} (known : List (List ℕ)) (xs ys : List (Row A)) → (rest : List (Row A)) × (firsts known (xs ++ ys) ≡ firsts known xs ++ rest)
 firsts_front known [] ys = (firsts known ys, refl)
 firsts_front {A} known (x ∷ xs) ys = by (is_among x.0 known) (firsts_front known xs ys) (firsts_front (x.0 ∷ known) xs ys)
   where
@@ -28,7 +28,7 @@ firsts_front {A} known (x ∷ xs) ys = by (is_among x.0 known) (firsts_front kno
     by true h k = h
     by false h k = (k.0, ap (λ l. x ∷ l) k.1)
 
-kinds_append : (xs ys : List (Row Said)) → kinds_among (xs ++ ys) ≡ kinds_among xs ++ kinds_among ys
+pub kinds_append : (xs ys : List (Row Said)) → kinds_among (xs ++ ys) ≡ kinds_among xs ++ kinds_among ys
 kinds_append [] ys = refl
 kinds_append ((n, a_kind c) ∷ rs) ys = ap (λ l. (n, c) ∷ l) (kinds_append rs ys)
 kinds_append ((n, an_abbreviation p) ∷ rs) ys = kinds_append rs ys
@@ -49,7 +49,8 @@ number_said_more said more name k e =
     ap (λ rows. option_map (λ r. r.0) (found name (numbered 8 rows))) (ap kinds_among f.1 ∙ kinds_append (declared_names said) f.0) ∙ ap (λ rows. option_map (λ r. r.0) (found name rows)) n.1 ∙
     by (found name (numbered 8 (kinds_among (declared_names said)))) n.0 refl e
   where
-    by : (o : Option (ℕ × ℕ)) (rest : List (Row (ℕ × ℕ))) → found name (numbered 8 (kinds_among (declared_names said))) ≡ o → option_map (λ r. r.0) o ≡ Some k → option_map (λ r. r.0) (found name (numbered 8 (kinds_among (declared_names said)) ++ rest)) ≡ Some k
+    by : (o : Option (ℕ × ℕ)) (rest : List (Row (ℕ × ℕ))) → found name (numbered 8 (kinds_among (declared_names said))) ≡ o → option_map (λ r. r.0) o
+        ≡ Some k → option_map (λ r. r.0) (found name (numbered 8 (kinds_among (declared_names said)) ++ rest)) ≡ Some k
     by None rest p e = absurd (cc)
     by (Some r) rest p e = ap (option_map (λ r. r.0)) (found_more name (numbered 8 (kinds_among (declared_names said))) rest r p) ∙ e
 
@@ -57,22 +58,27 @@ pub kind_number_more : (said more : List (Row Said)) (name : List ℕ) (k : ℕ)
 unfolding kind_number_of
 kind_number_more said more name k e = by (option_map (λ r. r.0) (found name standard_kinds)) (number_said name said) refl e
   where
-    by : (s o : Option ℕ) → number_said name said ≡ o → one_or s (option_map (λ n. min n 4294967295) o) ≡ Some k → one_or s (option_map (λ n. min n 4294967295) (number_said name (said ++ more))) ≡ Some k
+    by : (s o : Option ℕ) → number_said name said ≡ o → one_or s (option_map (λ n. min n 4294967295) o) ≡ Some k → one_or s
+        (option_map (λ n. min n 4294967295) (number_said name (said ++ more))) ≡ Some k
     by (Some n) o p e = e
     by None None p e = absurd (cc)
     by None (Some n) p e = ap (option_map (λ n. min n 4294967295)) (number_said_more said more name n p) ∙ e
 
 module _ (said more : List (Row Said)) (defs others : List (Row Definition)) where
   mutual
-    pub type_stays : (text : List ℕ) (ν : ℕ → Spot → Option ℕ) (nodes : List RawTypeNode) (i : ℕ) (t : Ty) → IsTypeOf said defs text ν nodes i t → IsTypeOf (said ++ more) (defs ++ others) text ν nodes i t
+    pub type_stays : (text : List ℕ) (ν : ℕ → Spot → Option ℕ) (nodes : List RawTypeNode) (i : ℕ) (t : Ty) → IsTypeOf said defs text ν nodes i t →
+        IsTypeOf (said ++ more) (defs ++ others) text ν nodes i t
     type_stays text ν nodes i t (a_variable s a n at v is e) = a_variable s a n at v is e
     type_stays text ν nodes i t (kind_on s a k ts at v means number parts e) =
         kind_on s a k ts at v (meaning_more said more _ _ means) (kind_number_more said more _ k number) (list_stays text ν nodes a.items ts parts) e
     type_stays text ν nodes i t (abbreviation_on s a d body ts at v means declared apart inner parts e) =
-        abbreviation_on s a d body ts at v (meaning_more said more _ _ means) (found_more _ defs others d declared) apart (type_stays d.text (by_parameters d.text d.parameters) d.body.nodes.items d.body.root body inner) (list_stays text ν nodes a.items ts parts) e
+        abbreviation_on s a d body ts at v (meaning_more said more _ _ means) (found_more _ defs others d declared) apart
+            (type_stays d.text (by_parameters d.text d.parameters) d.body.nodes.items d.body.root body inner)
+            (list_stays text ν nodes a.items ts parts) e
     type_stays text ν nodes i t (an_arrow a b x y at left right e) = an_arrow a b x y at (type_stays text ν nodes a x left) (type_stays text ν nodes b y right) e
 
-    list_stays : (text : List ℕ) (ν : ℕ → Spot → Option ℕ) (nodes : List RawTypeNode) (is : List ℕ) (ts : List Ty) → AreTypesOf said defs text ν nodes is ts → AreTypesOf (said ++ more) (defs ++ others) text ν nodes is ts
+    list_stays : (text : List ℕ) (ν : ℕ → Spot → Option ℕ) (nodes : List RawTypeNode) (is : List ℕ) (ts : List Ty) → AreTypesOf said defs text ν nodes
+        is ts → AreTypesOf (said ++ more) (defs ++ others) text ν nodes is ts
     list_stays text ν nodes is ts (no_more e f) = no_more e f
     list_stays text ν nodes is ts (one_more i rest t us e f first later) = one_more i rest t us e f (type_stays text ν nodes i t first) (list_stays text ν nodes rest us later)
 

@@ -58,3 +58,12 @@ pub mod Worded
 pub mod Sayings
 pub mod OwnNames
 pub mod Apart
+pub mod Sighting
+pub mod KnownConstants
+pub mod OneSignature
+pub mod Viewing
+pub mod OrderedSignatures
+pub mod Sights
+pub mod TheirTypes
+pub mod SeenKinds
+pub mod SeenTypes

@@ -25,7 +25,7 @@ use Rattle.lp_sig.proofs.InOrder.{in_order_numbers, in_order_some}
 module _ (R : ℕ → ℕ → Type 0) where
   -- two types of one shape, their variables related
   abbrev mutual
-    Renames : Ty → Ty → Type 0
+    pub Renames : Ty → Ty → Type 0
     Renames (var x) (var y) = R x y
     Renames (var x) (param k) = ⊥
     Renames (var x) (con c ts) = ⊥
@@ -43,7 +43,7 @@ module _ (R : ℕ → ℕ → Type 0) where
     Renames (arrow a b) (con c ts) = ⊥
     Renames (arrow a b) (arrow c d) = Renames a c × Renames b d
 
-    RenamesAll : Tys → Tys → Type 0
+    pub RenamesAll : Tys → Tys → Type 0
     RenamesAll no_types no_types = Unit {0}
     RenamesAll no_types (types u us) = ⊥
     RenamesAll (types t ts) no_types = ⊥
@@ -153,9 +153,10 @@ module _ (R : ℕ → ℕ → Type 0) where
         all_numbered no_types no_types r = refl
         all_numbered no_types (types u us) r = absurd r
         all_numbered (types t ts) no_types r = absurd r
-        all_numbered (types t ts) (types u us) r = ap (λ x. types x (instances (λ x. var (place N x)) ts)) (numbered_same t u r.0) ∙ ap (types (instance (λ y. var (place M y)) u)) (all_numbered ts us r.1)
+        all_numbered (types t ts) (types u us) r = ap (λ x. types x (instances (λ x. var (place N x)) ts)) (numbered_same t u r.0) ∙ ap
+            (types (instance (λ y. var (place M y)) u)) (all_numbered ts us r.1)
 
-    renamed_same : (t u : Ty) → Renames t u → (length (first_variables t) ≡ length (first_variables u)) × (numbered_type t ≡ numbered_type u)
+    pub renamed_same : (t u : Ty) → Renames t u → (length (first_variables t) ≡ length (first_variables u)) × (numbered_type t ≡ numbered_type u)
     unfolding first_variables numbered_type
     renamed_same t u r =
         let p = met_paired (type_variables t) (type_variables u) [] [] (variables_paired t u r) tt in
@@ -210,7 +211,8 @@ module _ (ts : List Ty) (k : ℕ) (all : AllBelow k (tys ts)) where
     all_fill_below (types t bs) b = (fill_below t b.0, all_fill_below bs b.1)
 
 -- where one numbering has one number another has one
-linked : (text : List ℕ) (nodes : List RawTypeNode) (ν μ : ℕ → Spot → Option ℕ) → IsNumbering text nodes ν → IsNumbering text nodes μ → (i j : ℕ) (s z : Spot) (x a b : ℕ) → IsVariable text nodes i s → IsVariable text nodes j z →
+linked : (text : List ℕ) (nodes : List RawTypeNode) (ν μ : ℕ → Spot → Option ℕ) → IsNumbering text nodes ν → IsNumbering text nodes μ → (i j : ℕ)
+    (s z : Spot) (x a b : ℕ) → IsVariable text nodes i s → IsVariable text nodes j z →
     ν i s ≡ Some x → ν j z ≡ Some x → μ i s ≡ Some a → μ j z ≡ Some b → a ≡ b
 linked text nodes ν μ h k i j s z x a b v w e f g l = by (h.apart i j s z x v w e f)
   where
@@ -241,17 +243,22 @@ module _ (said : List (Row Said)) (defs : List (Row Definition)) (agree : Agree 
   list_length text ν nodes places ts (one_more i rest t us e f first later) = ap length f ∙ ap (λ n. suc n) (list_length text ν nodes rest us later) ∙ sym (ap length e)
 
   mutual
-    type_below : (text : List ℕ) (ν : ℕ → Spot → Option ℕ) (nodes : List RawTypeNode) (i : ℕ) (t : Ty) (k : ℕ) → ((i : ℕ) (s : Spot) (n : ℕ) → ν i s ≡ Some n → n < k) → IsTypeOf said defs text ν nodes i t → Below k t
+    type_below : (text : List ℕ) (ν : ℕ → Spot → Option ℕ) (nodes : List RawTypeNode) (i : ℕ) (t : Ty) (k : ℕ) →
+        ((i : ℕ) (s : Spot) (n : ℕ) → ν i s ≡ Some n → n < k) → IsTypeOf said defs text ν nodes i t → Below k t
     type_below text ν nodes i t k f (a_variable s a n at v is e) = subst (Below k) (sym e) (f i s n is)
     type_below text ν nodes i t k f (kind_on s a c ts at v means number parts e) = subst (Below k) (sym e) (list_below text ν nodes a.items ts k f parts)
     type_below text ν nodes i t k f (abbreviation_on s a d body ts at v means declared apart inner parts e) =
         let inside = type_below d.text (by_parameters d.text d.parameters) d.body.nodes.items d.body.root body (length d.parameters) (parameters_below d) inner in
-        subst (Below k) (sym e) (fill_below ts k (list_below text ν nodes a.items ts k f parts) body (subst (λ n. Below n body) (agree (spelled text s) d (length a.items) declared means ∙ sym (list_length text ν nodes a.items ts parts)) inside))
+        subst (Below k) (sym e) (fill_below ts k (list_below text ν nodes a.items ts k f parts) body
+            (subst (λ n. Below n body) (agree (spelled text s) d (length a.items) declared means ∙ sym (list_length text ν nodes a.items ts parts))
+            inside))
     type_below text ν nodes i t k f (an_arrow a b x y at left right e) = subst (Below k) (sym e) (type_below text ν nodes a x k f left, type_below text ν nodes b y k f right)
 
-    list_below : (text : List ℕ) (ν : ℕ → Spot → Option ℕ) (nodes : List RawTypeNode) (places : List ℕ) (ts : List Ty) (k : ℕ) → ((i : ℕ) (s : Spot) (n : ℕ) → ν i s ≡ Some n → n < k) → AreTypesOf said defs text ν nodes places ts → AllBelow k (tys ts)
+    list_below : (text : List ℕ) (ν : ℕ → Spot → Option ℕ) (nodes : List RawTypeNode) (places : List ℕ) (ts : List Ty) (k : ℕ) →
+        ((i : ℕ) (s : Spot) (n : ℕ) → ν i s ≡ Some n → n < k) → AreTypesOf said defs text ν nodes places ts → AllBelow k (tys ts)
     list_below text ν nodes places ts k f (no_more e g) = subst (λ ts. AllBelow k (tys ts)) (sym g) tt
-    list_below text ν nodes places ts k f (one_more i rest t us e g first later) = subst (λ ts. AllBelow k (tys ts)) (sym g) (type_below text ν nodes i t k f first, list_below text ν nodes rest us k f later)
+    list_below text ν nodes places ts k f (one_more i rest t us e g first later) = subst (λ ts. AllBelow k (tys ts)) (sym g)
+        (type_below text ν nodes i t k f first, list_below text ν nodes rest us k f later)
 
   module _ (text : List ℕ) (nodes : List RawTypeNode) (ν : ℕ → Spot → Option ℕ) where
     abbrev Canon : ℕ → Ty → Type 0
@@ -274,7 +281,8 @@ module _ (said : List (Row Said)) (defs : List (Row Definition)) (agree : Agree 
             on_arguments l.0 body,
             abbreviation_on s a d body l.0 at v means declared apart inner l.1 refl,
             subst (λ t. Renames (IsPair text nodes ν) t (on_arguments l.0 body)) (sym e)
-                (fill_renames (IsPair text nodes ν) ts l.0 l.2 body (subst (λ n. Below n body) (agree (spelled text s) d (length a.items) declared means ∙ sym (list_length text ν nodes a.items ts parts)) inside)),
+                (fill_renames (IsPair text nodes ν) ts l.0 l.2 body (subst (λ n. Below n body)
+                    (agree (spelled text s) d (length a.items) declared means ∙ sym (list_length text ν nodes a.items ts parts)) inside)),
           )
       in_canon i t (an_arrow a b x y at left right e) =
           let l = in_canon a x left in

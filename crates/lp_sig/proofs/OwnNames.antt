@@ -32,7 +32,7 @@ firsts_front {A} known (x ∷ xs) ys e = by (is_among x.0 known) (λ f. firsts_f
         let (more, h) = f g in
         (more, ap (λ l. x ∷ l) h)
 
-names_few : (known ns : List (List ℕ)) → length (first_names known ns) ≤ length ns
+pub names_few : (known ns : List (List ℕ)) → length (first_names known ns) ≤ length ns
 names_few known [] = omega arith
 names_few known (n ∷ ns) = by (is_among n known) (names_few known ns) (names_few (n ∷ known) ns)
   where

@@ -31,6 +31,9 @@ module _ {A : Type 0} (f : List Declaration → List A) (both : (xs ys : List De
       ap (λ l. rows ++ l) (sym (both (declarations (take i ls)) (declarations (x ∷ []))) ∙ ap f
       (sym (declared_append (take i ls) (x ∷ [])) ∙ ap (λ y. declarations (take i ls ++ y ∷ [])) is ∙ ap declarations (sym (take_more ls i x h))))
 
+pub lines_at : (ls : List Sentence) (i : ℕ) (x : Sentence) → i < length ls → x ≡ get_or ls i x → declarations (take i ls) ++ declarations (x ∷ []) ≡ declarations (take (i + 1) ls)
+lines_at ls i x h is = sym (declared_append (take i ls) (x ∷ [])) ∙ ap (λ y. declarations (take i ls ++ y ∷ [])) is ∙ ap declarations (sym (take_more ls i x h))
+
 pub constants_append : (text : List ℕ) (xs ys : List Declaration) → constant_names_in text (xs ++ ys) ≡ constant_names_in text xs ++ constant_names_in text ys
 constants_append text [] ys = refl
 constants_append text (x ∷ xs) ys = ap (λ z. constant_names_by text x ++ z) (constants_append text xs ys) ∙ sym

@@ -27,3 +27,7 @@ pub mod Standing
 pub mod Announced
 pub mod Modules
 pub mod Worded
+pub mod Named
+pub mod Sighted
+pub mod Same
+pub mod Sights

@@ -105,6 +105,7 @@ impl Making {
     ) -> Result<(), Memory>
         ensures names { OnOk result ((said : List (Row Said)) → Knows self.old.names said → Knows self.new.names (said ++ said_in source.now (declarations (sentence.now ∷ [])))) }
         ensures constants { self.new.constants ≡ self.old.constants }
+        ensures types { self.new.bodies.types ≡ self.old.bodies.types }
         ensures operators { self.new.operators ≡ self.old.operators }
     {
         match sentence {
@@ -117,6 +118,7 @@ impl Making {
     pub(crate) fn announce_module(&mut self, source: &[u8], text: &ModuleText) -> Result<(), Memory>
         ensures names { OnOk result ((said : List (Row Said)) → Knows self.old.names said → Knows self.new.names (said ++ said_in source.now (declarations text.now.lines.items))) }
         ensures constants { self.new.constants ≡ self.old.constants }
+        ensures types { self.new.bodies.types ≡ self.old.bodies.types }
         ensures operators { self.new.operators ≡ self.old.operators }
     {
         for at in 0..text.lines.len() {

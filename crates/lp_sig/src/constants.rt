@@ -14,6 +14,9 @@ ghost use Rattle.lp_sig.specs.Standing.{TypeStands};
 ghost use Rattle.lp_sig.specs.Constants.{Written, IsNoted, IsConstant, IsTyped, IfTyped, KnowsConstants, AreTyped, AreTypedIf, FirstStands, IsTakenConstant, AreTakenConstants, IsKnownAs, AreConstants, HaveNumbers, IsConstantFault, IsFirstConstant};
 ghost use Rattle.lp_sig.specs.Modules.{numbered_names};
 ghost use Rattle.lp_sig.specs.Worded.{HasWords, is_met_word, is_met, names_so_far};
+ghost use Rattle.lp_sig.specs.Sighted.{AreCounted, GrowsBehind, PutsBehind, IsTreeOf};
+ghost use Rattle.lp_sig.specs.Sights.{AreTheirEntries};
+ghost use Rattle.lp_sig.specs.declared.constants.DeclaredType.{DeclaredType as IsDeclaredType};
 ghost use Rattle.lp_sig.specs.declared.constants.Known.TheVariants as known;
 
 use crate::entries::ConstantEntry;
@@ -87,6 +90,7 @@ fn entry_of(alloc: Global, constant: &Constant, place: usize) -> Result<Constant
     ensures is { IfOk result (λ e. (b : Nodes) (said : List (Row Said)) (defs : List (Row Definition)) (row : Row Written) → IsNoted b said defs (32 + place) row constant.now → IsConstant b said defs (32 + place) row e) }
     ensures number { IfOk result (λ e. 32 + place < END_OF_NUMBERS) }
     ensures row { IfOk result (λ e. number_row e ≡ (constant.now.name.items, 32 + place)) }
+    ensures typed { IfOk result (λ e. (d : IsDeclaredType) → constant.now.declared ≡ Some d → (e.type_vars ≡ d.type_vars) × (e.scheme ≡ d.scheme)) }
 {
     let Some(declared) = constant.declared else {
         return Err(Memory);
@@ -108,6 +112,7 @@ impl Constants {
         ensures typed { AreTyped result }
         ensures known { (b : Nodes) (said : List (Row Said)) (defs : List (Row Definition)) → KnowsConstants b result said defs [] }
         ensures words { HasWords result [] }
+        ensures empty { result.constants.items ≡ [] }
     {
         Constants {
             alloc,
@@ -121,6 +126,7 @@ impl Constants {
         ensures are { IfOk result (λ entries. (b : Nodes) (said : List (Row Said)) (defs : List (Row Definition)) (rows : List (Row Written)) → KnowsConstants b self.now said defs rows → AreConstants b said defs rows entries.items) }
         ensures numbers { IfOk result (λ entries. (b : Nodes) (said : List (Row Said)) (defs : List (Row Definition)) (rows : List (Row Written)) → KnowsConstants b self.now said defs rows → HaveNumbers rows) }
         ensures rows { IfOk result (λ entries. map number_row entries.items ≡ numbered_names 32 (names_so_far self.now)) }
+        ensures typed { IfOk result (λ entries. AreTheirEntries self.now.constants.items entries.items) }
     {
         let mut entries = Vec::new(self.alloc);
         for (place, constant) in self.constants.iter().enumerate() {
@@ -139,6 +145,7 @@ impl Constants {
         ensures full { IfErr result (λ e. (e ≡ fault.Memory) ⊎ ((e ≡ fault.Limit limit.Names) × ((d : DeclaredType) × (declared ≡ Some d)) × (END_OF_NUMBERS ≤ 32 + length self.old.constants.items))) }
         ensures added { OnOk result ((b : Nodes) (said : List (Row Said)) (defs : List (Row Definition)) (rows : List (Row Written)) (w : Written) → KnowsConstants b self.old said defs rows → (found word.now standard_constants ≡ None) × (found word.now rows ≡ None) → IfTyped declared (IsTyped b said defs w) → KnowsConstants b self.new said defs (rows ++ (word.now, w) ∷ [])) }
         ensures typed { OnOk result ((from : ℕ) (z : Seen) (rows : List (Row Written)) (w : Written) → (found word.now standard_constants ≡ None) × (found word.now rows ≡ None) → AreTypedIf from z rows self.old → (TypeStands from z w.text w.raw → is_some declared ≡ true) → AreTypedIf from z (rows ++ (word.now, w) ∷ []) self.new) }
+        ensures grown { OnOk result (GrowsBehind self.old self.new) }
         ensures room { OnOk result (IfTyped declared (λ d. 32 + length self.old.constants.items < END_OF_NUMBERS)) }
         ensures words { OnOk result ((words : List (List ℕ)) → is_met_word word.now words ≡ false → HasWords self.old words → HasWords self.new (words ++ word.now ∷ [])) }
     {
@@ -152,7 +159,8 @@ impl Constants {
 
     // A constant of a signature behind the others. Says whether there is a number for it.
     pub(crate) fn put(&mut self, word: &[u8], declared: DeclaredType) -> Result<bool, Memory>
-        ensures { OnOk result ((words : List (List ℕ)) → is_met_word word.now words ≡ false → HasWords self.old words → HasWords self.new (words ++ word.now ∷ [])) }
+        ensures words { OnOk result ((words : List (List ℕ)) → is_met_word word.now words ≡ false → HasWords self.old words → HasWords self.new (words ++ word.now ∷ [])) }
+        ensures put { OnOk result (PutsBehind self.old self.new word.now declared) }
     {
         let place = self.constants.len();
         let name = Vec::from_slice(self.alloc, word)?;
@@ -170,6 +178,7 @@ impl Constants {
         ensures is { IfOk result (λ k. (said : List (Row Said)) (defs : List (Row Definition)) (rows : List (Row Written)) → KnowsConstants types.old.bank self.now said defs rows → IsKnownAs types.new.bank said defs rows word.now k) }
         ensures untyped { IfOk result (λ k. k ≡ known.Untyped → (from : ℕ) (z : Seen) (rows : List (Row Written)) → KnowsConstants types.old.bank self.now z.said z.definitions rows → AreTypedIf from z rows self.now → FirstStands from z rows word.now → ⊥) }
         ensures met { IfOk result (λ k. (words : List (List ℕ)) → HasWords self.now words → is_met_word word.now words ≡ is_met k) }
+        ensures tree { IfOk result (λ k. (words : List (List ℕ)) → HasWords self.now words → AreCounted types.old.bank self.now → IsTreeOf types.new.bank self.now word.now k) }
     {
         if let Some(number) = standard_constant(word) {
             let known = standard_type(types, number)?;
@@ -196,6 +205,7 @@ impl Constants {
         declared: Option<DeclaredType>,
     ) -> Result<(), SigFault>
         ensures kept { Extends types.old.bank types.new.bank }
+        ensures grown { OnOk result (GrowsBehind self.old self.new) }
         ensures why { IfErr result (λ e. (e ≡ fault.Memory) ⊎ ((d : DeclaredType) × (declared ≡ Some d) × ((said : List (Row Said)) (defs : List (Row Definition)) (rows : List (Row Written)) → KnowsConstants types.old.bank self.old said defs rows → d.scheme.0 < length types.old.bank.types → IsConstantFault said defs rows (spelled source.now name) (type_tree types.old.bank d.scheme.0) name e))) }
         ensures known { OnOk result ((said : List (Row Said)) (defs : List (Row Definition)) (rows : List (Row Written)) (w : Written) → KnowsConstants types.old.bank self.old said defs rows → IfTyped declared (IsTyped types.old.bank said defs w) → KnowsConstants types.new.bank self.new said defs (rows ++ (spelled source.now name, w) ∷ [])) }
         ensures typed { OnOk result ((from : ℕ) (z : Seen) (rows : List (Row Written)) (w : Written) → KnowsConstants types.old.bank self.old z.said z.definitions rows → AreTypedIf from z rows self.old → (TypeStands from z w.text w.raw → is_some declared ≡ true) → AreTypedIf from z (rows ++ (spelled source.now name, w) ∷ []) self.new) }
@@ -226,6 +236,7 @@ impl Constants {
         declared: Option<DeclaredType>,
     ) -> Result<(), SigFault>
         ensures kept { Extends types.old.bank types.new.bank }
+        ensures grown { OnOk result (GrowsBehind self.old self.new) }
         ensures why { IfErr result (λ e. (e ≡ fault.Memory) ⊎ ((d : DeclaredType) × (declared ≡ Some d) × ((from : ℕ) (z : Seen) (rows : List (Row Written)) (w : Written) → KnowsConstants types.old.bank self.old z.said z.definitions rows → IsTyped types.old.bank z.said z.definitions w d → d.type_vars ≤ 255 → AreTypedIf from z rows self.old → IsFirstConstant from source.now z rows names.now w e))) }
         ensures known { OnOk result ((said : List (Row Said)) (defs : List (Row Definition)) (rows : List (Row Written)) (w : Written) → KnowsConstants types.old.bank self.old said defs rows → IfTyped declared (IsTyped types.old.bank said defs w) → KnowsConstants types.new.bank self.new said defs (rows ++ each source.now w names.now)) }
         ensures typed { OnOk result ((from : ℕ) (z : Seen) (rows : List (Row Written)) (w : Written) → KnowsConstants types.old.bank self.old z.said z.definitions rows → IfTyped declared (IsTyped types.old.bank z.said z.definitions w) → AreTypedIf from z rows self.old → (TypeStands from z w.text w.raw → is_some declared ≡ true) → AreTypedIf from z (rows ++ each source.now w names.now) self.new) }

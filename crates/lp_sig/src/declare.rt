@@ -20,6 +20,7 @@ ghost use Rattle.lp_sig.specs.Places.{first_place};
 ghost use Rattle.lp_sig.specs.Abbreviations.{abbreviation_names, Seen, seen_text};
 ghost use Rattle.lp_sig.specs.Holding.{Sees, KnowsSeen, HoldsBodies};
 ghost use Rattle.lp_sig.specs.Types.{Definition};
+ghost use Rattle.lp_sig.specs.Sighted.{GrowsBehind};
 ghost use Rattle.lp_sig.specs.Worded.{HasWords};
 ghost use Rattle.lp_sig.specs.Constants.{Written, written_in, constants_by, constants_in, KnowsConstants, AreSettledIf, AreTypedIf, AreTakenConstants, HasFewVariables, IsConstantsFault};
 
@@ -139,6 +140,7 @@ pub(crate) fn declare_constants(
     ensures taken { IfOk result (λ done. AreShort source.now spots.now) }
     ensures stand { (said : List (Row Said)) → Knows names.now said → IfOk result (λ done. IsSoundType source.now said raw.now) }
     ensures kept { Extends bodies.old.types.bank bodies.new.types.bank }
+    ensures grown { OnOk result (GrowsBehind constants.old constants.new) }
     ensures bodies { bodies.new.bodies ≡ bodies.old.bodies }
     ensures constants { OnOk result ((said : List (Row Said)) (defs : List (Row Definition)) (rows : List (Row Written)) → Knows names.now said → HoldsBodies bodies.old.types.bank bodies.old.bodies.items said defs → KnowsConstants bodies.old.types.bank constants.old said defs rows → KnowsConstants bodies.new.types.bank constants.new said defs (rows ++ each source.now (written_in source.now raw.now) spots.now)) }
     ensures exact { (from : ℕ) (z : Seen) (rows : List (Row Written)) → Knows names.now z.said → HoldsBodies bodies.old.types.bank bodies.old.bodies.items z.said z.definitions → AreSettledIf from z bodies.old.bodies.items → KnowsConstants bodies.old.types.bank constants.old z.said z.definitions rows → AreTypedIf from z rows constants.old → IfErr result (IsConstantsFault from source.now z rows spots.now raw.now) }

@@ -12,6 +12,8 @@ ghost use Rattle.lp_sig.specs.Refusals.{IsAccepted};
 ghost use Rattle.lp_sig.specs.Modules.{HasSeen, IsApart, HasOwnFirst};
 ghost use Rattle.lp_sig.specs.declared.signature.Signature.{Signature};
 ghost use Rattle.lp_sig.specs.Laws.{all_said, all_definitions};
+ghost use Rattle.lp_sig.specs.Named.{IsOrdered};
+ghost use Rattle.lp_sig.specs.Same.{AreSameSignatures};
 ghost use Rattle.lp_sig.specs.Worked.{IsWorked};
 
 /// A declared type has one scheme under what texts say, whatever numbers its variables are given.
@@ -32,4 +34,15 @@ pub fn names_are_apart()
 /// The names of a module's own signature come first in the signature of what it sees.
 pub fn own_names_come_first()
     ensures { (own : Signature) (used : List Signature) (text : List ℕ) (lines : List Sentence) (s : Signature) → IsApart own → HasSeen own used text lines s → HasOwnFirst own s }
+{}
+
+/// Two signatures that the same texts give have the same kinds, and the same constants with the same types.
+pub fn texts_have_one_signature()
+    ensures { (names : List (String Global)) (sources : List (Vec ℕ Global)) (texts : List SignatureText) (root : ℕ) (fixities others : List (Row (Fixity × ℕ))) (s t : Signature) →
+        IsAccepted names sources texts root (map kind_row s.kinds.items) fixities s.bank s.abbreviations.items s.constants.items → IsAccepted names sources texts root (map kind_row t.kinds.items) others t.bank t.abbreviations.items t.constants.items → AreSameSignatures s t }
+{}
+
+/// The signature of texts has kinds by their places, and types of constants with as many variables as is said, whose kinds have names.
+pub fn signatures_are_ordered()
+    ensures { (names : List (String Global)) (sources : List (Vec ℕ Global)) (texts : List SignatureText) (root : ℕ) (fixities : List (Row (Fixity × ℕ))) (s : Signature) → IsAccepted names sources texts root (map kind_row s.kinds.items) fixities s.bank s.abbreviations.items s.constants.items → IsOrdered s }
 {}

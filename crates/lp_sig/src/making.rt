@@ -1,5 +1,6 @@
 // The declarations so far.
-ghost use Rattle.std.specs.Prelude.{◌≡◌, ◌+◌, List, [], map, IfOk, Some};
+ghost use Rattle.std.specs.Prelude.{◌≡◌, ◌+◌, ◌<◌, ◌≤◌, List, [], length, map, IfOk, Some};
+ghost use Rattle.lp_base.specs.declared.limits.TheConstants.{END_OF_NUMBERS};
 ghost use Rattle.lp_sig.specs.Rows.{kind_row, number_row};
 ghost use Rattle.lp_sig.specs.Said.{numbered};
 ghost use Rattle.lp_sig.specs.Knowing.{Knows, kinded_row, head_row, KnowsOperators};
@@ -10,6 +11,7 @@ ghost use Rattle.lp_sig.specs.Constants.{Written, KnowsConstants, AreTyped, AreC
 ghost use Rattle.lp_sig.specs.Rows.{Row};
 ghost use Rattle.lp_sig.specs.Modules.{numbered_names};
 ghost use Rattle.lp_sig.specs.Worded.{HasWords, names_so_far};
+ghost use Rattle.lp_sig.specs.Sights.{AreTheirEntries};
 
 use crate::bodies::Bodies;
 use crate::constants::Constants;
@@ -35,7 +37,8 @@ pub(crate) struct Making {
 
 // The entry of the kind at a place. One that passes a limit was refused where it is declared.
 fn entry_of(alloc: Global, kind: &Kinded, place: usize) -> Result<KindEntry, Memory>
-    ensures { IfOk result (λ e. kind_row e ≡ (kind.now.name.items, (8 + place, kind.now.arity))) }
+    ensures row { IfOk result (λ e. kind_row e ≡ (kind.now.name.items, (8 + place, kind.now.arity))) }
+    ensures room { IfOk result (λ e. 8 + place < END_OF_NUMBERS) }
 {
     let number = kind_number(place);
     if number >= END_OF_NUMBERS {
@@ -77,7 +80,8 @@ fn abbreviation_of(
 
 // The kinds with their numbers.
 fn entries_of(alloc: Global, kinds: &[Kinded]) -> Result<Vec<KindEntry>, Memory>
-    ensures { IfOk result (λ entries. map kind_row entries.items ≡ numbered 8 (map kinded_row kinds.now)) }
+    ensures rows { IfOk result (λ entries. map kind_row entries.items ≡ numbered 8 (map kinded_row kinds.now)) }
+    ensures room { IfOk result (λ entries. 8 + length kinds.now ≤ END_OF_NUMBERS) }
 {
     let mut entries = Vec::new(alloc);
     for (place, kind) in kinds.iter().enumerate() {
@@ -96,6 +100,7 @@ impl Making {
         ensures constants { KnowsConstants result.bodies.types.bank result.constants [] [] [] }
         ensures typed { AreTyped result.constants }
         ensures words { HasWords result.constants [] }
+        ensures empty { result.constants.constants.items ≡ [] }
     {
         Making {
             alloc,
@@ -126,6 +131,9 @@ impl Making {
         ensures fixities { IfOk result (λ s. s.fixities ≡ self.operators.fixities) }
         ensures heads { IfOk result (λ s. map parameters_row s.abbreviations.items ≡ map head_row self.names.heads.items) }
         ensures words { IfOk result (λ s. map number_row s.constants.items ≡ numbered_names 32 (names_so_far self.constants)) }
+        ensures bank { IfOk result (λ s. s.bank ≡ self.bodies.types.bank) }
+        ensures room { IfOk result (λ s. 8 + length self.names.kinds.items ≤ END_OF_NUMBERS) }
+        ensures typed { IfOk result (λ s. AreTheirEntries self.constants.constants.items s.constants.items) }
         ensures abbreviations { IfOk result (λ s. (z : Seen) → KnowsSeen self z → AreAbbreviations s.bank z s.abbreviations.items) }
         ensures constants { IfOk result (λ s. (z : Seen) (rows : List (Row Written)) → KnowsConstants self.bodies.types.bank self.constants z.said z.definitions rows → AreConstants s.bank z.said z.definitions rows s.constants.items × HaveNumbers rows) }
     {

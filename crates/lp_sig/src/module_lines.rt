@@ -1,7 +1,10 @@
 // What the declarations of a module say, line by line.
-ghost use Rattle.std.specs.Prelude.{◌≡◌, ◌++◌, ℕ, List, [], ◌∷◌, map, OnOk};
+ghost use Rattle.std.specs.Prelude.{◌≡◌, ◌++◌, ℕ, List, [], ◌∷◌, length, map, Some, All, IfOk, OnOk};
 ghost use Rattle.lp_sig.specs.Pieces.{spelled};
-ghost use Rattle.lp_sig.specs.Modules.{constant_names_by, local_names};
+ghost use Rattle.lp_sig.specs.Modules.{declarations, constant_names_by, first_names, local_names};
+ghost use Rattle.lp_sig.specs.Sighted.{Grows};
+ghost use Rattle.lp_sig.specs.Sights.{HasNumbers, IsAlike, AreWordsAlike, signature_words, module_words};
+ghost use Rattle.lp_sig.specs.declared.see.Sight.TheVariants.{Alike};
 ghost use Rattle.lp_sig.specs.Worded.{HasWords};
 
 use crate::constants::DeclaredType;
@@ -49,7 +52,9 @@ fn number(
     source: &[u8],
     words: &[Spot],
     numbers: &mut IndexMap<Vec<u8>, usize>,
-) -> Result<(), Memory> {
+) -> Result<(), Memory>
+    ensures { OnOk result ((before : List (List ℕ)) → HasNumbers numbers.old before → HasNumbers numbers.new (before ++ map (λ s. spelled source.now s) words.now)) }
+{
     for word in words {
         let name = spelled_at(source, *word);
         if !numbers.contains_key(name) {
@@ -62,7 +67,10 @@ fn number(
 }
 
 impl Said {
-    fn hear(&mut self, source: &[u8], declaration: &Declaration) -> Result<(), Memory> {
+    fn hear(&mut self, source: &[u8], declaration: &Declaration) -> Result<(), Memory>
+        ensures signatures { OnOk result ((before : List (List ℕ)) → HasNumbers self.old.accum_sigs before → HasNumbers self.new.accum_sigs (before ++ signature_words source.now (declaration.now ∷ []))) }
+        ensures modules { OnOk result ((before : List (List ℕ)) → HasNumbers self.old.accumulates before → HasNumbers self.new.accumulates (before ++ module_words source.now (declaration.now ∷ []))) }
+    {
         match declaration {
             Declaration::Kinds(names, _) => note(self.alloc, source, names, &mut self.kinds),
             Declaration::LocalKinds(names, Some(_)) => {
@@ -82,7 +90,10 @@ impl Said {
         }
     }
 
-    pub(crate) fn of(alloc: Global, source: &[u8], text: &ModuleText) -> Result<Said, Memory> {
+    pub(crate) fn of(alloc: Global, source: &[u8], text: &ModuleText) -> Result<Said, Memory>
+        ensures signatures { IfOk result (λ s. HasNumbers s.accum_sigs (signature_words source.now (declarations text.now.lines.items))) }
+        ensures modules { IfOk result (λ s. HasNumbers s.accumulates (module_words source.now (declarations text.now.lines.items))) }
+    {
         let mut said = Said {
             alloc,
             kinds: IndexSet::new(alloc),
@@ -99,13 +110,17 @@ impl Said {
     }
 
     // How the signature that a word of accum_sig names goes with those before it.
-    fn sight_of_accum_sig(&self, sights: &[Sight], word: &[u8]) -> Option<Sight> {
+    fn sight_of_accum_sig(&self, sights: &[Sight], word: &[u8]) -> Option<Sight>
+        ensures { (signatures : List (List ℕ)) → HasNumbers self.now.accum_sigs signatures → result ≡ Some Alike → IsAlike sights.now 0 signatures word.now }
+    {
         let number = self.accum_sigs.get(word)?;
         sights.get(*number).copied()
     }
 
     // How the signature that a word of accumulate names goes with those before it.
-    fn sight_of_accumulate(&self, sights: &[Sight], word: &[u8]) -> Option<Sight> {
+    fn sight_of_accumulate(&self, sights: &[Sight], word: &[u8]) -> Option<Sight>
+        ensures { (signatures modules : List (List ℕ)) → HasNumbers self.now.accum_sigs signatures → HasNumbers self.now.accumulates modules → result ≡ Some Alike → IsAlike sights.now (length (first_names [] signatures)) modules word.now }
+    {
         let number = self.accumulates.get(word)?;
         sights
             .get(number.saturating_add(self.accum_sigs.len()))
@@ -114,7 +129,9 @@ impl Said {
 }
 
 // A word that names a signature.
-fn check_word(word: Spot, sight: Option<Sight>) -> Result<(), ModuleSigFault> {
+fn check_word(word: Spot, sight: Option<Sight>) -> Result<(), ModuleSigFault>
+    ensures { OnOk result (sight ≡ Some Alike) }
+{
     match sight {
         Some(Sight::Alike) => Ok(()),
         Some(Sight::Otherwise) => Err(ModuleSigFault::Sig(SigFault::Differ(word))),
@@ -237,6 +254,7 @@ impl<'a> ModuleLines<'a> {
     ) -> Result<(), ModuleSigFault>
         ensures names { making.new.names ≡ making.old.names }
         ensures operators { making.new.operators ≡ making.old.operators }
+        ensures grown { OnOk result (Grows making.old making.new) }
         ensures words { OnOk result ((words : List (List ℕ)) → HasWords making.old.constants words → HasWords making.new.constants (words ++ map (λ s. spelled self.now.source.now s) names.now)) }
     {
         let outcome = declare_constants(
@@ -272,6 +290,7 @@ impl<'a> ModuleLines<'a> {
     ) -> Result<(), ModuleSigFault>
         ensures names { making.new.names ≡ making.old.names }
         ensures operators { making.new.operators ≡ making.old.operators }
+        ensures grown { OnOk result (Grows making.old making.new) }
         ensures words { OnOk result ((words : List (List ℕ)) → HasWords making.old.constants words → HasWords making.new.constants (words ++ spelled self.now.source.now name ∷ [])) }
     {
         if self.exports_constant(name) {
@@ -293,6 +312,7 @@ impl<'a> ModuleLines<'a> {
     ) -> Result<(), ModuleSigFault>
         ensures names { making.new.names ≡ making.old.names }
         ensures operators { making.new.operators ≡ making.old.operators }
+        ensures grown { OnOk result (Grows making.old making.new) }
         ensures words { OnOk result ((words : List (List ℕ)) → HasWords making.old.constants words → HasWords making.new.constants (words ++ map (λ s. spelled self.now.source.now s) names.now)) }
     {
         for name in names {
@@ -310,6 +330,7 @@ impl<'a> ModuleLines<'a> {
     ) -> Result<(), ModuleSigFault>
         ensures names { making.new.names ≡ making.old.names }
         ensures operators { making.new.operators ≡ making.old.operators }
+        ensures grown { OnOk result (Grows making.old making.new) }
         ensures words { OnOk result ((words : List (List ℕ)) → HasWords making.old.constants words → HasWords making.new.constants (words ++ map (λ s. spelled self.now.source.now s) names.now)) }
     {
         match making.bodies.scheme(&making.names, self.source, raw) {
@@ -344,6 +365,7 @@ impl<'a> ModuleLines<'a> {
     ) -> Result<(), ModuleSigFault>
         ensures names { making.new.names ≡ making.old.names }
         ensures operators { making.new.operators ≡ making.old.operators }
+        ensures grown { OnOk result (Grows making.old making.new) }
         ensures words { OnOk result ((words : List (List ℕ)) → HasWords making.old.constants words → HasWords making.new.constants (words ++ local_names self.now.source.now names.now raw.now)) }
     {
         match raw {
@@ -361,6 +383,7 @@ impl<'a> ModuleLines<'a> {
     ) -> Result<(), ModuleSigFault>
         ensures names { making.new.names ≡ making.old.names }
         ensures operators { making.new.operators ≡ making.old.operators }
+        ensures grown { OnOk result (Grows making.old making.new) }
         ensures constants { making.new.constants ≡ making.old.constants }
     {
         match making.declare_abbreviation(self.source, name, parameters, raw) {
@@ -369,7 +392,9 @@ impl<'a> ModuleLines<'a> {
         }
     }
 
-    fn accumulate(&self, words: &[Spot]) -> Result<(), ModuleSigFault> {
+    fn accumulate(&self, words: &[Spot]) -> Result<(), ModuleSigFault>
+        ensures { OnOk result ((signatures modules : List (List ℕ)) → HasNumbers self.now.said.now.accum_sigs signatures → HasNumbers self.now.said.now.accumulates modules → All (IsAlike self.now.sights.now (length (first_names [] signatures)) modules) (map (λ s. spelled self.now.source.now s) words.now)) }
+    {
         for word in words {
             let sight = self
                 .said
@@ -379,7 +404,9 @@ impl<'a> ModuleLines<'a> {
         Ok(())
     }
 
-    fn accum_sig(&self, words: &[Spot]) -> Result<(), ModuleSigFault> {
+    fn accum_sig(&self, words: &[Spot]) -> Result<(), ModuleSigFault>
+        ensures { OnOk result ((signatures : List (List ℕ)) → HasNumbers self.now.said.now.accum_sigs signatures → All (IsAlike self.now.sights.now 0 signatures) (map (λ s. spelled self.now.source.now s) words.now)) }
+    {
         for word in words {
             let sight = self
                 .said
@@ -397,7 +424,9 @@ impl<'a> ModuleLines<'a> {
     ) -> Result<(), ModuleSigFault>
         ensures names { making.new.names ≡ making.old.names }
         ensures operators { making.new.operators ≡ making.old.operators }
+        ensures grown { OnOk result (Grows making.old making.new) }
         ensures words { OnOk result ((words : List (List ℕ)) → HasWords making.old.constants words → HasWords making.new.constants (words ++ constant_names_by self.now.source.now declaration.now)) }
+        ensures alike { OnOk result ((signatures modules : List (List ℕ)) → HasNumbers self.now.said.now.accum_sigs signatures → HasNumbers self.now.said.now.accumulates modules → AreWordsAlike self.now.sights.now self.now.source.now signatures modules (declaration.now ∷ [])) }
     {
         match declaration {
             Declaration::Kinds(names, arity) => self.kinds(making, names.as_slice(), *arity),

@@ -1,10 +1,14 @@
 // From a module's declarations to the signature of what it sees.
-ghost use Rattle.std.specs.Prelude.{◌≡◌, ◌++◌, ℕ, List, [], ◌∷◌, map, IfOk, OnOk};
+ghost use Rattle.std.specs.Prelude.{◌≡◌, ◌++◌, ◌<◌, ◌≤◌, ℕ, List, [], ◌∷◌, length, map, Some, All, slice_get, IfOk, OnOk};
 ghost use Rattle.lp_standard.specs.declared.fixity.Fixity.{Fixity as IsFixity};
 ghost use Rattle.lp_sig.specs.Rows.{Row, fixity_row};
 ghost use Rattle.lp_sig.specs.Said.{Said as IsSaid, said_in};
 ghost use Rattle.lp_sig.specs.Knowing.{Knows, KnowsOperators};
 ghost use Rattle.lp_sig.specs.Modules.{declarations, of_each, said_of, constants_of, constant_names_in, HasSeen};
+ghost use Rattle.lp_sig.specs.Named.{IsOrdered, SeesTheirs, kind_names};
+ghost use Rattle.lp_sig.specs.Sighted.{Grows, AreCounted, AreKinds, AreNew, SeenSo};
+ghost use Rattle.lp_sig.specs.Sights.{HasNumbers, AreAlike, AreWordsAlike};
+ghost use Rattle.lp_sig.specs.declared.signature.Signature.{Signature as IsSignature};
 ghost use Rattle.lp_sig.specs.Worded.{HasWords};
 
 use crate::making::Making;
@@ -21,6 +25,9 @@ fn see_used(making: &mut Making, used: &[Signature]) -> Result<Vec<Sight>, Memor
     ensures names { OnOk result ((said : List (Row IsSaid)) → Knows making.old.names said → Knows making.new.names (said ++ of_each said_of used.now)) }
     ensures words { OnOk result ((words : List (List ℕ)) → HasWords making.old.constants words → HasWords making.new.constants (words ++ of_each constants_of used.now)) }
     ensures operators { making.new.operators ≡ making.old.operators }
+    ensures grown { OnOk result (Grows making.old making.new) }
+    ensures seen { IfOk result (λ sights. (said : List (Row IsSaid)) (words : List (List ℕ)) → Knows making.old.names said → HasWords making.old.constants words → AreCounted making.old.bodies.types.bank making.old.constants → All IsOrdered used.now →
+        (n : ℕ) → n ≤ length used.now → AreAlike sights.items n → (i : ℕ) → i < n → (u : IsSignature) → slice_get used.now i ≡ Some u → SeenSo making.new (said ++ of_each said_of used.now) u) }
 {
     let mut sights = Vec::new(making.alloc);
     for at in 0..used.len() {
@@ -35,6 +42,12 @@ fn see_all(making: &mut Making, own: &Signature, used: &[Signature]) -> Result<V
     ensures names { OnOk result ((said : List (Row IsSaid)) → Knows making.old.names said → Knows making.new.names ((said ++ said_of own.now) ++ of_each said_of used.now)) }
     ensures words { OnOk result ((words : List (List ℕ)) → HasWords making.old.constants words → HasWords making.new.constants ((words ++ constants_of own.now) ++ of_each constants_of used.now)) }
     ensures operators { OnOk result ((said : List (Row (IsFixity × ℕ))) → KnowsOperators making.old.operators said → KnowsOperators making.new.operators (said ++ map fixity_row own.now.fixities.items)) }
+    ensures grown { OnOk result (Grows making.old making.new) }
+    ensures own { OnOk result ((said : List (Row IsSaid)) (words : List (List ℕ)) → Knows making.old.names said → HasWords making.old.constants words → AreCounted making.old.bodies.types.bank making.old.constants → IsOrdered own.now →
+        AreKinds (said ++ said_of own.now) (kind_names own.now) → AreNew words own.now.constants.items → SeenSo making.new ((said ++ said_of own.now) ++ of_each said_of used.now) own.now) }
+    ensures seen { IfOk result (λ sights. (said : List (Row IsSaid)) (words : List (List ℕ)) → Knows making.old.names said → HasWords making.old.constants words → AreCounted making.old.bodies.types.bank making.old.constants → IsOrdered own.now →
+        AreKinds (said ++ said_of own.now) (kind_names own.now) → AreNew words own.now.constants.items → All IsOrdered used.now →
+        (n : ℕ) → n ≤ length used.now → AreAlike sights.items n → (i : ℕ) → i < n → (u : IsSignature) → slice_get used.now i ≡ Some u → SeenSo making.new ((said ++ said_of own.now) ++ of_each said_of used.now) u) }
 {
     making.see(own)?;
     making.see_fixities(own)?;
@@ -47,6 +60,7 @@ fn announce_all(making: &mut Making, source: &[u8], text: &ModuleText) -> Result
     ensures names { OnOk result ((said : List (Row IsSaid)) → Knows making.old.names said → Knows making.new.names (said ++ said_in source.now (declarations text.now.lines.items))) }
     ensures constants { making.new.constants ≡ making.old.constants }
     ensures operators { making.new.operators ≡ making.old.operators }
+    ensures grown { OnOk result (Grows making.old making.new) }
 {
     let from = making.names.heads.len();
     making.announce_module(source, text)?;
@@ -65,7 +79,9 @@ fn declare_sentence(
 ) -> Result<(), ModuleSigFault>
     ensures names { making.new.names ≡ making.old.names }
     ensures operators { making.new.operators ≡ making.old.operators }
+    ensures grown { OnOk result (Grows making.old making.new) }
     ensures words { OnOk result ((words : List (List ℕ)) → HasWords making.old.constants words → HasWords making.new.constants (words ++ constant_names_in lines.now.source.now (declarations (sentence.now ∷ [])))) }
+    ensures alike { OnOk result ((signatures modules : List (List ℕ)) → HasNumbers lines.now.said.now.accum_sigs signatures → HasNumbers lines.now.said.now.accumulates modules → AreWordsAlike lines.now.sights.now lines.now.source.now signatures modules (declarations (sentence.now ∷ []))) }
 {
     match sentence {
         Sentence::Declares(declaration) => lines.declare(making, declaration),
@@ -81,7 +97,9 @@ fn declare_all(
 ) -> Result<(), ModuleSigFault>
     ensures names { making.new.names ≡ making.old.names }
     ensures operators { making.new.operators ≡ making.old.operators }
+    ensures grown { OnOk result (Grows making.old making.new) }
     ensures words { OnOk result ((words : List (List ℕ)) → HasWords making.old.constants words → HasWords making.new.constants (words ++ constant_names_in lines.now.source.now (declarations text.now.lines.items))) }
+    ensures alike { OnOk result ((signatures modules : List (List ℕ)) → HasNumbers lines.now.said.now.accum_sigs signatures → HasNumbers lines.now.said.now.accumulates modules → AreWordsAlike lines.now.sights.now lines.now.source.now signatures modules (declarations text.now.lines.items)) }
 {
     for at in 0..text.lines.len() {
         declare_sentence(making, lines, &text.lines[at])?;
@@ -104,6 +122,7 @@ pub fn module_signature(
     used: &[Signature],
 ) -> Result<Signature, ModuleSigFault>
     ensures seen { IfOk result (HasSeen own.now used.now source.now text.now.lines.items) }
+    ensures theirs { IfOk result (SeesTheirs own.now used.now source.now text.now.lines.items) }
 {
     let mut making = Making::new(alloc);
     let sights = see_all(&mut making, own, used)?;

@@ -1,11 +1,18 @@
 // What a text sees of other signatures. A name that is seen again otherwise keeps its first declaration.
-ghost use Rattle.std.specs.Prelude.{◌≡◌, ◌++◌, ℕ, List, [], ◌∷◌, map, false, OnOk};
+ghost use Rattle.std.specs.Prelude.{◌≡◌, ◌<◌, ◌⊎◌, ◌++◌, ℕ, List, [], ◌∷◌, map, length, true, false, nat_eq, Some, OnOk, IfOk, All, slice_get, if◌then◌else◌};
+ghost use Rattle.std.specs.List.{range_with_len};
+ghost use Rattle.indexmap.specs.IndexMap.{get};
+ghost use Rattle.lp_term.specs.Nodes.{Extends, type_tree};
+ghost use Rattle.lp_term.specs.declared.node.TypeId.{TypeId};
 ghost use Rattle.lp_standard.specs.declared.fixity.Fixity.{Fixity as IsFixity};
 ghost use Rattle.lp_sig.specs.Rows.{Row, fixity_row};
 ghost use Rattle.lp_sig.specs.Said.{Said};
 ghost use Rattle.lp_sig.specs.Knowing.{Knows, KnowsOperators};
 ghost use Rattle.lp_sig.specs.Modules.{kind_said, abbreviation_said, said_of, constants_of};
 ghost use Rattle.lp_sig.specs.Worded.{HasWords, is_met_word};
+ghost use Rattle.lp_sig.specs.Named.{named, kind_name, kind_names, IsOrdered};
+ghost use Rattle.lp_sig.specs.Sighted.{HasItsNumber, AreKinds, AreKindsHere, AreSeenTypes, AreCounted, GrowsBehind, PutsBehind, IsCountedEntry, IsSeenEntry, AreNew, SeenSo};
+ghost use Rattle.lp_sig.specs.declared.see.Sight.TheVariants.{Alike};
 
 use crate::constants::{Constants, DeclaredType, Known};
 use crate::entries::{AbbreviationEntry, ConstantEntry, FixityEntry, KindEntry};
@@ -32,14 +39,18 @@ pub(crate) enum Sight {
 
 impl Sight {
     // The first thing that is wrong.
-    fn and(self, other: Sight) -> Sight {
+    fn and(self, other: Sight) -> Sight
+        ensures { result ≡ Alike → (self ≡ Alike) × (other ≡ Alike) }
+    {
         match self {
             Sight::Alike => other,
             _ => self,
         }
     }
 
-    fn if_alike(alike: bool) -> Sight {
+    fn if_alike(alike: bool) -> Sight
+        ensures { result ≡ Alike → alike ≡ true }
+    {
         if alike {
             Sight::Alike
         } else {
@@ -49,7 +60,9 @@ impl Sight {
 }
 
 // The number here of a kind that is seen.
-fn kind_here(kinds: &IndexMap<u32, u32>, number: u32) -> Result<u32, Memory> {
+fn kind_here(kinds: &IndexMap<u32, u32>, number: u32) -> Result<u32, Memory>
+    ensures { IfOk result (λ here. ((number < 8) × (here ≡ number)) ⊎ (get nat_eq kinds.now number ≡ Some here)) }
+{
     if number < FIRST_KIND {
         return Ok(number);
     }
@@ -60,14 +73,25 @@ fn kind_here(kinds: &IndexMap<u32, u32>, number: u32) -> Result<u32, Memory> {
 }
 
 // A type here, which was made before.
-fn type_here(made: &[TypeId], id: TypeId) -> Result<TypeId, Memory> {
+fn type_here(made: &[TypeId], id: TypeId) -> Result<TypeId, Memory>
+    ensures { IfOk result (λ here. slice_get made.now id.0 ≡ Some here) }
+{
     match made.get(id.0) {
         Some(here) => Ok(*here),
         None => Err(Memory),
     }
 }
 
-fn types_here(alloc: Global, made: &[TypeId], ids: &[TypeId]) -> Result<Vec<TypeId>, Memory> {
+fn note_kind(kinds: &mut IndexMap<u32, u32>, there: u32, here: u32) -> Result<(), Memory>
+    ensures { OnOk result ((k : ℕ) → get nat_eq kinds.new k ≡ (if nat_eq there k then Some here else get nat_eq kinds.old k)) }
+{
+    kinds.insert(there, here)?;
+    Ok(())
+}
+
+fn types_here(alloc: Global, made: &[TypeId], ids: &[TypeId]) -> Result<Vec<TypeId>, Memory>
+    ensures { IfOk result (λ here. map (λ t. slice_get made.now t.0) ids.now ≡ map (λ t. Some t) here.items) }
+{
     let mut here = Vec::new(alloc);
     for id in ids.iter().copied() {
         let made = type_here(made, id)?;
@@ -81,7 +105,9 @@ const NO_KIND: u32 = u32::MAX;
 
 impl Names {
     // A kind that was announced, with its number here.
-    fn kind_seen(&self, name: &[u8], arity: u32) -> (u32, Sight) {
+    fn kind_seen(&self, name: &[u8], arity: u32) -> (u32, Sight)
+        ensures { (said : List (Row Said)) → Knows self.now said → HasItsNumber said name.now result }
+    {
         match self.meaning(name) {
             Some(Meaning::Kind(number, known)) => {
                 let sight = Sight::if_alike(known == arity);
@@ -97,7 +123,8 @@ impl Names {
 
     // A kind that is seen, with its number here.
     fn see_kind(&mut self, entry: &KindEntry) -> Result<(u32, Sight), Memory>
-        ensures { OnOk result ((said : List (Row Said)) → Knows self.old said → Knows self.new (said ++ kind_said entry.now ∷ [])) }
+        ensures names { OnOk result ((said : List (Row Said)) → Knows self.old said → Knows self.new (said ++ kind_said entry.now ∷ [])) }
+        ensures number { IfOk result (λ r. (said : List (Row Said)) → Knows self.old said → HasItsNumber (said ++ kind_said entry.now ∷ []) entry.now.name.items r) }
     {
         self.announce_kind(entry.name.as_slice(), entry.arity as u32)?;
         Ok(self.kind_seen(entry.name.as_slice(), entry.arity as u32))
@@ -108,13 +135,14 @@ impl Names {
         entries: &[KindEntry],
         kinds: &mut IndexMap<u32, u32>,
     ) -> Result<Sight, Memory>
-        ensures { OnOk result ((said : List (Row Said)) → Knows self.old said → Knows self.new (said ++ map kind_said entries.now)) }
+        ensures names { OnOk result ((said : List (Row Said)) → Knows self.old said → Knows self.new (said ++ map kind_said entries.now)) }
+        ensures here { IfOk result (λ s. (said : List (Row Said)) → Knows self.old said → map (λ e. e.number) entries.now ≡ range_with_len 8 (length entries.now) → ((k n : ℕ) → get nat_eq kinds.old k ≡ Some n → ⊥) → (s ≡ Alike) ⊎ AreKinds (said ++ map kind_said entries.now) (map (λ e. e.name.items) entries.now) → AreKindsHere (said ++ map kind_said entries.now) (map (λ e. e.name.items) entries.now) kinds.new) }
     {
         let mut all = Sight::Alike;
         for at in 0..entries.len() {
             let entry = &entries[at];
             let (number, sight) = self.see_kind(entry)?;
-            kinds.insert(entry.number, number)?;
+            note_kind(kinds, entry.number, number)?;
             all = all.and(sight);
         }
         Ok(all)
@@ -129,7 +157,10 @@ impl Types {
         id: TypeId,
         kinds: &IndexMap<u32, u32>,
         made: &[TypeId],
-    ) -> Result<TypeId, Memory> {
+    ) -> Result<TypeId, Memory>
+        ensures kept { Extends self.old.bank self.new.bank }
+        ensures seen { IfOk result (λ t. (names here : List (List ℕ)) → ((k n : ℕ) → get nat_eq kinds.now k ≡ Some n → kind_name here n ≡ kind_name names k) → AreSeenTypes bank.now self.old.bank names here made.now → (t.0 < length self.new.bank.types) × (named (kind_name here) (type_tree self.new.bank t.0) ≡ named (kind_name names) (type_tree bank.now id.0))) }
+    {
         if id.0 >= bank.type_count() {
             return Err(Memory);
         }
@@ -154,7 +185,11 @@ impl Types {
         &mut self,
         bank: &Bank,
         kinds: &IndexMap<u32, u32>,
-    ) -> Result<Vec<TypeId>, Memory> {
+    ) -> Result<Vec<TypeId>, Memory>
+        ensures kept { Extends self.old.bank self.new.bank }
+        ensures count { IfOk result (λ made. length made.items ≡ length bank.now.types) }
+        ensures seen { IfOk result (λ made. (names here : List (List ℕ)) → ((k n : ℕ) → get nat_eq kinds.now k ≡ Some n → kind_name here n ≡ kind_name names k) → AreSeenTypes bank.now self.new.bank names here made.items) }
+    {
         let mut made = Vec::new(self.alloc);
         for number in 0..bank.type_count() {
             let here = self.see_type(bank, TypeId(number), kinds, made.as_slice())?;
@@ -166,7 +201,8 @@ impl Types {
 
 impl Constants {
     fn see_new(&mut self, name: &[u8], type_vars: u8, scheme: TypeId) -> Result<Sight, Memory>
-        ensures { OnOk result ((words : List (List ℕ)) → is_met_word name.now words ≡ false → HasWords self.old words → HasWords self.new (words ++ name.now ∷ [])) }
+        ensures words { OnOk result ((words : List (List ℕ)) → is_met_word name.now words ≡ false → HasWords self.old words → HasWords self.new (words ++ name.now ∷ [])) }
+        ensures put { OnOk result (PutsBehind self.old self.new name.now (record { type_vars = type_vars; scheme = scheme })) }
     {
         if self.put(name, DeclaredType { type_vars, scheme })? {
             return Ok(Sight::Alike);
@@ -180,7 +216,10 @@ impl Constants {
         entry: &ConstantEntry,
         made: &[TypeId],
     ) -> Result<Sight, Memory>
-        ensures { OnOk result ((words : List (List ℕ)) → HasWords self.old words → HasWords self.new (words ++ entry.now.name.items ∷ [])) }
+        ensures words { OnOk result ((words : List (List ℕ)) → HasWords self.old words → HasWords self.new (words ++ entry.now.name.items ∷ [])) }
+        ensures kept { Extends types.old.bank types.new.bank }
+        ensures grown { OnOk result (GrowsBehind self.old self.new) }
+        ensures seen { IfOk result (λ s. (words : List (List ℕ)) → HasWords self.old words → AreCounted types.old.bank self.old → IsCountedEntry types.old.bank made.now entry.now → AreCounted types.new.bank self.new × ((s ≡ Alike) ⊎ (is_met_word entry.now.name.items words ≡ false) → IsSeenEntry types.new.bank self.new made.now entry.now)) }
     {
         let name = entry.name.as_slice();
         let scheme = type_here(made, entry.scheme)?;
@@ -197,7 +236,10 @@ impl Constants {
         entries: &[ConstantEntry],
         made: &[TypeId],
     ) -> Result<Sight, Memory>
-        ensures { OnOk result ((words : List (List ℕ)) → HasWords self.old words → HasWords self.new (words ++ map (λ e. e.name.items) entries.now)) }
+        ensures words { OnOk result ((words : List (List ℕ)) → HasWords self.old words → HasWords self.new (words ++ map (λ e. e.name.items) entries.now)) }
+        ensures kept { Extends types.old.bank types.new.bank }
+        ensures grown { OnOk result (GrowsBehind self.old self.new) }
+        ensures seen { IfOk result (λ s. (words : List (List ℕ)) → HasWords self.old words → AreCounted types.old.bank self.old → All (IsCountedEntry types.old.bank made.now) entries.now → AreCounted types.new.bank self.new × ((s ≡ Alike) ⊎ AreNew words entries.now → All (IsSeenEntry types.new.bank self.new made.now) entries.now)) }
     {
         let mut all = Sight::Alike;
         for at in 0..entries.len() {
@@ -248,6 +290,7 @@ impl Making {
     ) -> Result<Sight, Memory>
         ensures names { OnOk result ((said : List (Row Said)) → Knows self.old.names said → Knows self.new.names (said ++ abbreviation_said entry.now ∷ [])) }
         ensures constants { self.new.constants ≡ self.old.constants }
+        ensures types { self.new.bodies.types ≡ self.old.bodies.types }
         ensures operators { self.new.operators ≡ self.old.operators }
     {
         let parameters = entry.type_vars as usize;
@@ -268,6 +311,7 @@ impl Making {
     ) -> Result<Sight, Memory>
         ensures names { OnOk result ((said : List (Row Said)) → Knows self.old.names said → Knows self.new.names (said ++ map abbreviation_said entries.now)) }
         ensures constants { self.new.constants ≡ self.old.constants }
+        ensures types { self.new.bodies.types ≡ self.old.bodies.types }
         ensures operators { self.new.operators ≡ self.old.operators }
     {
         let mut all = Sight::Alike;
@@ -283,6 +327,10 @@ impl Making {
         ensures names { OnOk result ((said : List (Row Said)) → Knows self.old.names said → Knows self.new.names (said ++ said_of signature.now)) }
         ensures words { OnOk result ((words : List (List ℕ)) → HasWords self.old.constants words → HasWords self.new.constants (words ++ constants_of signature.now)) }
         ensures operators { self.new.operators ≡ self.old.operators }
+        ensures kept { Extends self.old.bodies.types.bank self.new.bodies.types.bank }
+        ensures grown { OnOk result (GrowsBehind self.old.constants self.new.constants) }
+        ensures seen { IfOk result (λ s. (said : List (Row Said)) (words : List (List ℕ)) → Knows self.old.names said → HasWords self.old.constants words → AreCounted self.old.bodies.types.bank self.old.constants → IsOrdered signature.now →
+            (s ≡ Alike) ⊎ (AreKinds (said ++ said_of signature.now) (kind_names signature.now) × AreNew words signature.now.constants.items) → AreCounted self.new.bodies.types.bank self.new.constants × SeenSo self.new (said ++ said_of signature.now) signature.now) }
     {
         let mut numbers = IndexMap::new(self.alloc);
         let of_kinds = self.names.see_kinds(signature.kinds(), &mut numbers)?;
@@ -299,6 +347,7 @@ impl Making {
     // Takes up the fixities of a signature.
     pub(crate) fn see_fixities(&mut self, signature: &Signature) -> Result<(), Memory>
         ensures names { self.new.names ≡ self.old.names }
+        ensures bodies { self.new.bodies ≡ self.old.bodies }
         ensures constants { self.new.constants ≡ self.old.constants }
         ensures operators { OnOk result ((said : List (Row (IsFixity × ℕ))) → KnowsOperators self.old.operators said → KnowsOperators self.new.operators (said ++ map fixity_row signature.now.fixities.items)) }
     {

@@ -50,6 +50,11 @@ pub fn searches_of_texts_are_right()
         IsRightBy (IsFailedSearch InAny d P) (IsGiven n d P (query_of b query) gs) d (source_clauses l.program) (query_of b query) (run (look unit_limit n P) j m (start query.type_vars (length (query_of b query).vars) gs steps answers)) }
 {}
 
+/// Of each loaded program there is a map of declared types: that of its own table.
+pub fn declared_types_exist()
+    ensures { (told : Option Held) (name : List ℕ) (built : Built) (l : IsLoaded told name built) → (d : Declared) × HasTypes l.program d }
+{}
+
 /// A formula that has the form of a clause, closed over variables, comes to flattened clauses, and one that has the form of a goal to flattened goals; so does each
 /// clause of a module.
 pub fn formulas_flatten()

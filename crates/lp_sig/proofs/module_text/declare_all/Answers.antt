@@ -1,11 +1,17 @@
-use Rattle.std.proofs.Common.{◌++◌, ◌∙◌, refl, sym, subst, take, take_all, append-nil, arith}
-use Rattle.lp_sig.specs.Modules.{declarations, constant_names_in}
+use Rattle.std.proofs.Common.{[], ◌∷◌, ◌++◌, ◌∙◌, length, refl, sym, subst, take, take_all, append-nil, arith}
+use Rattle.std.proofs.lemmas.List.Elements.{All-nil}
+use Rattle.lp_sig.specs.Modules.{declarations, constant_names_in, first_names}
+use Rattle.lp_sig.specs.Sights.{IsAlike, AreWordsAlike}
 use Rattle.lp_sig.specs.Worded.{HasWords}
-use Rattle.lp_sig.proofs.Sayings.{lines_more, constants_append}
+use Rattle.lp_sig.proofs.KnownConstants.{making_same, making_then}
+use Rattle.lp_sig.proofs.Sayings.{lines_more, lines_at, constants_append}
+use Rattle.lp_sig.proofs.Sights.{both_alike}
 use Rattle.lp_sig.proofs.module_text.declare_all.Goals as goal
 
 pub loop-at-init : goal.loop-at-init
-loop-at-init c = record { words = λ words h. subst (HasWords c.args.making.now.constants) (sym (append-nil words)) h; names = refl; operators = refl }
+loop-at-init c = record { words = λ words h. subst (HasWords c.args.making.now.constants) (sym (append-nil words)) h; grown = making_same
+    c.args.making.now; alike = λ signatures modules h k. (All-nil (IsAlike c.args.lines.now.sights.now 0 signatures), All-nil
+    (IsAlike c.args.lines.now.sights.now (length (first_names [] signatures)) modules)); names = refl; operators = refl }
 
 pub loop-at-preserved : goal.loop-at-preserved
 loop-at-preserved c =
@@ -16,6 +22,14 @@ loop-at-preserved c =
           subst (HasWords c.declare_sentence.new.making.constants) (lines_more (constant_names_in text) (constants_append text) lines c.loop-at.at
           c.index.result.now words (omega (arith, c.loop-at-test.true, c.len-at-end.ensures, c.args.text.now.lines.ok)) c.index.ensures)
           (c.in_ok-declare_sentence.ensures.words (words ++ constant_names_in text (declarations (take c.loop-at.at lines))) (c.loop-at.invariant.words words h));
+      grown = making_then c.args.making.now c.loop-at.making c.declare_sentence.new.making c.loop-at.invariant.grown c.in_ok-declare_sentence.ensures.grown;
+      alike = λ signatures modules h k.
+          subst (AreWordsAlike c.args.lines.now.sights.now text signatures modules)
+              (lines_at lines c.loop-at.at c.index.result.now (omega (arith, c.loop-at-test.true, c.len-at-end.ensures, c.args.text.now.lines.ok))
+              c.index.ensures)
+          (both_alike c.args.lines.now.sights.now text signatures modules (declarations (take c.loop-at.at lines))
+              (declarations (c.index.result.now ∷ [])) (c.loop-at.invariant.alike signatures modules h k)
+              (c.in_ok-declare_sentence.ensures.alike signatures modules h k));
       names = c.declare_sentence.ensures.names ∙ c.loop-at.invariant.names;
       operators = c.declare_sentence.ensures.operators ∙ c.loop-at.invariant.operators;
     }
@@ -25,3 +39,12 @@ returns-clause-words c = λ words h.
     subst (λ ls. HasWords c.loop-at.making.constants (words ++ constant_names_in c.args.lines.now.source.now (declarations ls)))
     (take_all c.loop-at.at c.args.text.now.lines.items (omega (arith, c.loop-at-test.false, c.len-at-end.ensures, c.args.text.now.lines.ok)))
     (c.loop-at.invariant.words words h)
+
+pub returns-clause-grown : goal.returns-clause-grown
+returns-clause-grown c = c.loop-at.invariant.grown
+
+pub returns-clause-alike : goal.returns-clause-alike
+returns-clause-alike c = λ signatures modules h k.
+    subst (λ ls. AreWordsAlike c.args.lines.now.sights.now c.args.lines.now.source.now signatures modules (declarations ls))
+    (take_all c.loop-at.at c.args.text.now.lines.items (omega (arith, c.loop-at-test.false, c.len-at-end.ensures, c.args.text.now.lines.ok)))
+    (c.loop-at.invariant.alike signatures modules h k)

@@ -1,11 +1,16 @@
 use Rattle.std.proofs.Common.{◌≡◌, ℕ, List, take, ◌++◌}
 use Rattle.lp_sig.specs.Modules.{declarations, constant_names_in}
+use Rattle.lp_sig.specs.Sighted.{Grows}
+use Rattle.lp_sig.specs.Sights.{HasNumbers, AreWordsAlike}
 use Rattle.lp_sig.specs.Worded.{HasWords}
 use Rattle.lp_sig.proofs.module_text.declare_all.Given as goal
 
 abbrev pub invariant-loop-at : goal.invariant-loop-at
 invariant-loop-at l = record {
   words : (words : List (List ℕ)) → HasWords l.fn.making.constants words → HasWords l.making.constants (words ++ constant_names_in l.lines.source.now (declarations (take l.at l.text.lines.items)));
+  grown : Grows l.fn.making l.making;
+  alike : (signatures modules : List (List ℕ)) → HasNumbers l.lines.said.now.accum_sigs signatures → HasNumbers l.lines.said.now.accumulates modules →
+      AreWordsAlike l.lines.sights.now l.lines.source.now signatures modules (declarations (take l.at l.text.lines.items));
   names : l.making.names ≡ l.fn.making.names;
   operators : l.making.operators ≡ l.fn.making.operators;
 }

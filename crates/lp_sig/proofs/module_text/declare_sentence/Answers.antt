@@ -1,5 +1,10 @@
+use Rattle.std.proofs.Common.{[], ◌∷◌, length, sym, subst}
+use Rattle.std.proofs.lemmas.List.Elements.{All-nil}
 use Rattle.std.proofs.lemmas.Result.{on_ok_weaker}
+use Rattle.lp_sig.specs.Modules.{declarations, first_names}
+use Rattle.lp_sig.specs.Sights.{IsAlike, AreWordsAlike}
 use Rattle.lp_sig.proofs.Sayings.{its_line, no_line}
+use Rattle.lp_sig.proofs.KnownConstants.{making_same}
 use Rattle.lp_sig.proofs.module_text.declare_sentence.Goals as goal
 
 pub returns-in-Declares-clause-words : goal.returns-in-Declares-clause-words
@@ -8,3 +13,19 @@ returns-in-Declares-clause-words c = on_ok_weaker c.declare.result (λ f words h
 
 pub returns-in-Says-clause-words : goal.returns-in-Says-clause-words
 returns-in-Says-clause-words c = no_line c.args.making.now.constants c.args.lines.now.source.now c.args.sentence.now _ c.in-Says.is
+
+pub returns-in-Declares-clause-grown : goal.returns-in-Declares-clause-grown
+returns-in-Declares-clause-grown c = c.declare.ensures.grown
+
+pub returns-in-Says-clause-grown : goal.returns-in-Says-clause-grown
+returns-in-Says-clause-grown c = making_same c.args.making.now
+
+pub returns-in-Declares-clause-alike : goal.returns-in-Declares-clause-alike
+returns-in-Declares-clause-alike c = on_ok_weaker c.declare.result (λ f signatures modules h k. subst
+    (λ l. AreWordsAlike c.args.lines.now.sights.now c.args.lines.now.source.now signatures modules (declarations (l ∷ []))) (sym c.in-Declares.is)
+    (f signatures modules h k)) c.declare.ensures.alike
+
+pub returns-in-Says-clause-alike : goal.returns-in-Says-clause-alike
+returns-in-Says-clause-alike c = λ signatures modules h k. subst (λ l. AreWordsAlike c.args.lines.now.sights.now c.args.lines.now.source.now
+    signatures modules (declarations (l ∷ []))) (sym c.in-Says.is)
+    (All-nil (IsAlike c.args.lines.now.sights.now 0 signatures), All-nil (IsAlike c.args.lines.now.sights.now (length (first_names [] signatures)) modules))

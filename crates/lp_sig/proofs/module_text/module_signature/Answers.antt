@@ -1,13 +1,22 @@
-use Rattle.std.proofs.Common.{[], ◌++◌, ◌∙◌, sym, ap, subst, map}
+use Rattle.std.proofs.Common.{◌≡◌, ◌+◌, ◌≤◌, [], ◌++◌, ◌∙◌, length, get_or, sym, ap, subst, map, append_assoc, arith}
+use Rattle.std.proofs.lemmas.Option.{same_Some, slice_get-get_or, slice_get_within}
+use Rattle.lp_base.specs.declared.limits.TheConstants.{END_OF_NUMBERS}
 use Rattle.lp_sig.specs.Rows.{fixity_row}
 use Rattle.lp_sig.specs.Knowing.{Knows, KnowsOperators}
-use Rattle.lp_sig.specs.Said.{numbered}
-use Rattle.lp_sig.specs.Modules.{said_of, constants_of, of_each, said_in_module, constant_names, numbered_names}
+use Rattle.lp_sig.specs.Said.{numbered, said_in}
+use Rattle.lp_sig.specs.Named.{IsOrdered}
+use Rattle.lp_sig.specs.Sighted.{said_kinds}
+use Rattle.lp_sig.specs.Sights.{AreWordsAlike, signature_words, module_words}
+use Rattle.lp_sig.specs.Modules.{declarations, said_of, constants_of, of_each, said_in_module, constant_names, numbered_names}
 use Rattle.lp_sig.specs.Worded.{HasWords}
+use Rattle.lp_sig.proofs.KnownConstants.{making_then, counted_none}
+use Rattle.lp_sig.proofs.Sights.{all_alike}
+use Rattle.lp_sig.proofs.TheirTypes.{own_kinds, own_new, their_kinds, their_room, has_named}
+use Rattle.lp_sig.proofs.Viewing.{seen_stays}
 use Rattle.lp_sig.proofs.module_text.module_signature.Goals as goal
 
-pub returns : goal.returns
-returns c =
+pub returns-clause-seen : goal.returns-clause-seen
+returns-clause-seen c =
     let own = c.args.own.now in
     let used = c.args.used.now in
     let text = c.args.source.now in
@@ -22,10 +31,41 @@ returns c =
     subst (λ o. KnowsOperators o (map fixity_row own.fixities.items)) (sym (c.declare_all.ensures.operators ∙ c.announce_all.ensures.operators))
     (c.in_ok-sights.ensures.operators [] c.new-making.ensures.operators) in
     record {
-      seen = record {
-        kinds = c.in_ok-signature.ensures.kinds ∙ ap (numbered 8) k.kinds;
-        abbreviations = c.in_ok-signature.ensures.heads ∙ k.heads;
-        constants = c.in_ok-signature.ensures.words ∙ ap (numbered_names 32) w.are;
-        fixities = ap (λ v. map fixity_row v.items) c.in_ok-signature.ensures.fixities ∙ o.rows;
-      };
+      kinds = c.in_ok-signature.ensures.kinds ∙ ap (numbered 8) k.kinds;
+      abbreviations = c.in_ok-signature.ensures.heads ∙ k.heads;
+      constants = c.in_ok-signature.ensures.words ∙ ap (numbered_names 32) w.are;
+      fixities = ap (λ v. map fixity_row v.items) c.in_ok-signature.ensures.fixities ∙ o.rows;
+    }
+
+pub returns-clause-theirs : goal.returns-clause-theirs
+returns-clause-theirs c =
+    let own = c.args.own.now in
+    let used = c.args.used.now in
+    let text = c.args.source.now in
+    let lines = c.args.text.now.lines.items in
+    let ds = declarations lines in
+    let said = said_in_module own used text lines in
+    let m = c.declare_all.new.making in
+    let s = c.in_ok-signature.signature in
+    let k : Knows m.names said = subst (λ n. Knows n said) (sym c.declare_all.ensures.names)
+    (c.in_ok-announce_all.ensures.names (said_of own ++ of_each said_of used) (c.in_ok-sights.ensures.names [] c.new-making.ensures.names)) in
+    let kinds = their_kinds m.names said s k c.in_ok-signature.ensures.kinds in
+    let room = their_room m.names said k c.in_ok-signature.ensures.room in
+    let here = λ apart. own_kinds own (of_each said_of used ++ said_in text ds) apart
+        (subst (λ r. 8 + length (said_kinds r) ≤ END_OF_NUMBERS) (append_assoc (said_of own) (of_each said_of used) (said_in text ds)) room) in
+    let g = making_then c.see_all.new.making c.announce_all.new.making m c.in_ok-announce_all.ensures.grown c.in_ok-declare_all.ensures.grown in
+    let none = counted_none c.new-making.result.bodies.types.bank c.new-making.result.constants c.new-making.ensures.empty in
+    let alike = all_alike c.in_ok-sights.sights.items text ds (subst (λ ss. AreWordsAlike ss text (signature_words text ds) (module_words text ds) ds) c.as_slice.ensures.value
+        (c.in_ok-declare_all.ensures.alike (signature_words text ds) (module_words text ds) c.in_ok-said.ensures.signatures c.in_ok-said.ensures.modules)) in
+    record {
+      own_ones = λ apart ordered. has_named m s said c.in_ok-signature.ensures.bank c.in_ok-signature.ensures.typed kinds own ordered
+          (seen_stays c.see_all.new.making m (said_of own ++ of_each said_of used) (said_in text ds) own ordered g.bank g.constants
+          (c.in_ok-sights.ensures.own [] [] c.new-making.ensures.names c.new-making.ensures.words none ordered (here apart) (own_new own apart)));
+      used_ones = λ apart ordered all i u at below.
+          let l = slice_get_within used i u at in
+          let o : IsOrdered u = subst IsOrdered (same_Some (get_or used i u) u (sym (slice_get-get_or used i u l) ∙ at)) (all i u l) in
+          has_named m s said c.in_ok-signature.ensures.bank c.in_ok-signature.ensures.typed kinds u o
+          (seen_stays c.see_all.new.making m (said_of own ++ of_each said_of used) (said_in text ds) u o g.bank g.constants
+          (c.in_ok-sights.ensures.seen [] [] c.new-making.ensures.names c.new-making.ensures.words none ordered (here apart) (own_new own apart) all
+              (i + 1) (omega (arith, l)) (λ j h. alike j (omega (arith, h, below))) i (omega arith) u at));
     }

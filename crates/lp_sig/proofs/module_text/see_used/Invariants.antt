@@ -1,9 +1,14 @@
-use Rattle.std.proofs.Common.{◌≡◌, ℕ, List, take, ◌++◌}
+use Rattle.std.proofs.Common.{◌≡◌, ℕ, ◌<◌, ◌≤◌, List, length, take, Some, ◌++◌}
+use Rattle.std.specs.Prelude.{slice_get, All}
 use Rattle.lp_sig.specs.Rows.{Row}
 use Rattle.lp_sig.specs.Said.{Said}
 use Rattle.lp_sig.specs.Knowing.{Knows}
 use Rattle.lp_sig.specs.Modules.{of_each, said_of, constants_of}
+use Rattle.lp_sig.specs.Named.{IsOrdered}
+use Rattle.lp_sig.specs.Sighted.{Grows, AreCounted, SeenSo}
+use Rattle.lp_sig.specs.Sights.{AreAlike}
 use Rattle.lp_sig.specs.Worded.{HasWords}
+use Rattle.lp_sig.specs.declared.signature.Signature.{Signature}
 use Rattle.lp_sig.proofs.module_text.see_used.Given as goal
 
 abbrev pub invariant-loop-at : goal.invariant-loop-at
@@ -11,4 +16,12 @@ invariant-loop-at l = record {
   names : (said : List (Row Said)) → Knows l.fn.making.names said → Knows l.making.names (said ++ of_each said_of (take l.at l.used));
   words : (words : List (List ℕ)) → HasWords l.fn.making.constants words → HasWords l.making.constants (words ++ of_each constants_of (take l.at l.used));
   operators : l.making.operators ≡ l.fn.making.operators;
+  grown : Grows l.fn.making l.making;
+  count : length l.sights.items ≡ l.at;
+  counted : (said : List (Row Said)) (words : List (List ℕ)) → Knows l.fn.making.names said → HasWords l.fn.making.constants words → AreCounted
+      l.fn.making.bodies.types.bank l.fn.making.constants → All IsOrdered l.used → AreAlike l.sights.items l.at → AreCounted
+      l.making.bodies.types.bank l.making.constants;
+  seen : (said : List (Row Said)) (words : List (List ℕ)) → Knows l.fn.making.names said → HasWords l.fn.making.constants words → AreCounted
+      l.fn.making.bodies.types.bank l.fn.making.constants → All IsOrdered l.used →
+      (n : ℕ) → n ≤ l.at → AreAlike l.sights.items n → (i : ℕ) → i < n → (u : Signature) → slice_get l.used i ≡ Some u → SeenSo l.making (said ++ of_each said_of (take l.at l.used)) u;
 }

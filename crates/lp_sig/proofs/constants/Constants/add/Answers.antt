@@ -1,4 +1,4 @@
-use Rattle.std.proofs.Common.{◌≡◌, length, map, arith}
+use Rattle.std.proofs.Common.{◌≡◌, length, map, arith, ◌∷◌, []}
 use Rattle.std.proofs.lemmas.List.{length-map}
 use Rattle.lp_sig.proofs.Constancy.{known_more, typed_if_more}
 use Rattle.lp_sig.proofs.Worded.{words_new}
@@ -21,3 +21,6 @@ returns-clause-words c = λ words new h.
     let l = length-map old (λ k. k.name.items) in
     let n : c.len-place.result ≡ length (map (λ k. k.name.items) old) = omega (arith, c.len-place.ensures, c.args.self.now.constants.ok, l) in
     words_new c.args.self.now _ words c.args.word.now _ new c.in_ok-name.ensures.items c.in_ok-push.ensures.items (c.in_ok-add.ensures.added (map (λ k. k.name.items) old) n h.places) h
+
+pub returns-clause-grown : goal.returns-clause-grown
+returns-clause-grown c = (record { name = c.in_ok-name.name; declared = c.args.declared } ∷ [], c.in_ok-push.ensures.items)

@@ -4,6 +4,7 @@ use Rattle.lp_sig.proofs.Declaring.{new_refused, new_known, new_typed, new_taken
 use Rattle.lp_sig.specs.Pieces.{spelled}
 use Rattle.lp_sig.specs.Worded.{is_met}
 use Rattle.lp_sig.proofs.Worded.{word_new, word_again}
+use Rattle.lp_sig.proofs.KnownConstants.{grows_same}
 use Rattle.lp_sig.proofs.constants.Constants.declare.Goals as goal
 
 pub returns-in-New-clause-why : goal.returns-in-New-clause-why
@@ -96,3 +97,15 @@ returns-in_default-clause-words c = word_again c.spelled_at-word.result.now (spe
 pub returns-else-not-are_equal-clause-words : goal.returns-else-not-are_equal-clause-words
 returns-else-not-are_equal-clause-words c = word_again c.spelled_at-word.result.now (spelled c.args.source.now c.args.name) c.in_ok-known_as.field-0
     c.spelled_at-word.ensures c.args.self.now c.in_ok-known_as.ensures.met (ap is_met c.in-Typed.is)
+
+pub returns-in-New-clause-grown : goal.returns-in-New-clause-grown
+returns-in-New-clause-grown c = c.add.ensures.grown
+
+pub returns-in-Untyped-clause-grown : goal.returns-in-Untyped-clause-grown
+returns-in-Untyped-clause-grown c = grows_same c.args.self.now
+
+pub returns-in_default-clause-grown : goal.returns-in_default-clause-grown
+returns-in_default-clause-grown c = grows_same c.args.self.now
+
+pub returns-else-not-are_equal-clause-grown : goal.returns-else-not-are_equal-clause-grown
+returns-else-not-are_equal-clause-grown c = grows_same c.args.self.now

@@ -10,12 +10,14 @@ use Rattle.lp_sig.proofs.TakenConstants.{taken_one_more}
 use Rattle.lp_sig.proofs.Declaring.{name_refused}
 use Rattle.lp_sig.specs.Pieces.{spelled}
 use Rattle.lp_sig.specs.Worded.{HasWords}
+use Rattle.lp_sig.proofs.KnownConstants.{grows_same, grows_then}
 use Rattle.lp_sig.proofs.Worded.{mapped_more}
 use Rattle.lp_sig.proofs.constants.Constants.declare_all.Goals as goal
 
 pub loop-name-init : goal.loop-name-init
 loop-name-init c = record {
   kept = extends_same c.args.types.now.bank;
+  grown = grows_same c.args.self.now;
   known = λ said defs rows w k t. subst (KnowsConstants c.args.types.now.bank c.args.self.now said defs) (sym (append-nil rows)) k;
   typed = λ from z rows w k t all some. subst (λ r. AreTypedIf from z r c.args.self.now) (sym (append-nil rows)) all;
   taken = λ from z rows w k t all some. tt;
@@ -31,6 +33,7 @@ loop-name-preserved c =
     let text = c.args.source.now in
     let names = c.args.names.now in
     record {
+      grown = grows_then c.args.self.now c.loop-name.self c.declare.new.self inv.grown c.in_ok-declare.ensures.grown;
       kept = kept_then b here c.declare.new.types.bank inv.kept c.declare.ensures.kept;
       known = λ said defs rows w k t.
           subst (KnowsConstants c.declare.new.types.bank c.declare.new.self said defs) (each_more text w names i _ rows c.loop-name-test.true)
@@ -80,3 +83,6 @@ pub returns-clause-words : goal.returns-clause-words
 returns-clause-words c = λ words h.
     subst (λ names. HasWords c.loop-name.self (words ++ map (λ s. spelled c.args.source.now s) names))
     (take_all c.loop-name.name-index c.args.names.now c.loop-name-test.false) (c.loop-name.invariant.words words h)
+
+pub returns-clause-grown : goal.returns-clause-grown
+returns-clause-grown c = c.loop-name.invariant.grown

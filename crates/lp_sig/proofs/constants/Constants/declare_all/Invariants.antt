@@ -8,12 +8,14 @@ use Rattle.lp_sig.specs.Abbreviations.{Seen}
 use Rattle.lp_sig.specs.Standing.{TypeStands}
 use Rattle.lp_sig.specs.Constants.{Written, IsTyped, IfTyped, AreTypedIf, AreTakenConstants, KnowsConstants}
 use Rattle.lp_sig.specs.Pieces.{spelled}
+use Rattle.lp_sig.specs.Sighted.{GrowsBehind}
 use Rattle.lp_sig.specs.Worded.{HasWords}
 use Rattle.lp_sig.proofs.constants.Constants.declare_all.Given as goal
 
 abbrev pub invariant-loop-name : goal.invariant-loop-name
 invariant-loop-name l = record {
   kept : Extends l.fn.types.bank l.types.bank;
+  grown : GrowsBehind l.fn.self l.self;
   known : (said : List (Row Said)) (defs : List (Row Definition)) (rows : List (Row Written)) (w : Written) → KnowsConstants l.fn.types.bank l.fn.self
       said defs rows → IfTyped l.declared (IsTyped l.fn.types.bank said defs w) →
       KnowsConstants l.types.bank l.self said defs (rows ++ each l.source w (take l.name-index l.names));

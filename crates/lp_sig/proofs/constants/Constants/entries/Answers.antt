@@ -2,7 +2,9 @@ use Rattle.std.proofs.Common.{◌<◌, ◌≤◌, take_all, map, length, subst, 
 use Rattle.lp_sig.specs.Constants.{declared_constants}
 use Rattle.lp_sig.proofs.Listing.{entry_listed, all_listed, numbers_for_all}
 use Rattle.lp_sig.specs.Modules.{numbered_names}
+use Rattle.lp_sig.specs.Sights.{AreTheirEntries}
 use Rattle.lp_sig.proofs.Worded.{number_more}
+use Rattle.lp_sig.proofs.Sights.{entries_more}
 use Rattle.lp_sig.proofs.constants.Constants.entries.Goals as goal
 
 pub loop-place-preserved : goal.loop-place-preserved
@@ -20,6 +22,10 @@ loop-place-preserved c =
       rows = number_more c.args.self.now.constants.items i _ c.loop-place.entries.items c.push.new.self.items c.in_ok-entry.entry
           (subst (λ xs. i < length xs) c.deref-constant-items.ensures.value c.loop-place-test.true)
           (c.constant-item.is ∙ ap (λ xs. get_or xs i c.constant-item.result) c.deref-constant-items.ensures.value) c.loop-place.invariant.rows c.in_ok-push.ensures.items c.in_ok-entry.ensures.row;
+      typed = entries_more c.args.self.now.constants.items i _ c.loop-place.entries.items c.push.new.self.items c.in_ok-entry.entry
+          (subst (λ xs. i < length xs) c.deref-constant-items.ensures.value c.loop-place-test.true)
+          (c.constant-item.is ∙ ap (λ xs. get_or xs i c.constant-item.result) c.deref-constant-items.ensures.value) c.in_ok-push.ensures.items c.loop-place.invariant.typed
+          (ap (λ r. r.0) c.in_ok-entry.ensures.row) c.in_ok-entry.ensures.typed;
     }
 
 pub returns-clause-are : goal.returns-clause-are
@@ -37,3 +43,7 @@ returns-clause-rows c =
     c.loop-place.invariant.rows ∙
     ap (λ xs. numbered_names 32 (map (λ k. k.name.items) xs)) (take_all c.loop-place.place c.args.self.now.constants.items
     (subst (λ xs. length xs ≤ c.loop-place.place) c.deref-constant-items.ensures.value c.loop-place-test.false))
+
+pub returns-clause-typed : goal.returns-clause-typed
+returns-clause-typed c = subst (λ ks. AreTheirEntries ks c.loop-place.entries.items) (take_all c.loop-place.place c.args.self.now.constants.items
+    (subst (λ xs. length xs ≤ c.loop-place.place) c.deref-constant-items.ensures.value c.loop-place-test.false)) c.loop-place.invariant.typed

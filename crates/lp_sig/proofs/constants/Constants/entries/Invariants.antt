@@ -3,6 +3,7 @@ use Rattle.lp_term.specs.Nodes.{Nodes}
 use Rattle.lp_sig.specs.Rows.{Row, number_row}
 use Rattle.lp_sig.specs.Modules.{numbered_names}
 use Rattle.lp_sig.specs.Said.{Said}
+use Rattle.lp_sig.specs.Sights.{AreTheirEntries}
 use Rattle.lp_sig.specs.Types.{Definition}
 use Rattle.lp_sig.specs.Constants.{Written, AreInStep, IsNoted, IsConstant}
 use Rattle.lp_sig.proofs.constants.Constants.entries.Given as goal
@@ -13,4 +14,5 @@ invariant-loop-place l = record {
   listed : (b : Nodes) (said : List (Row Said)) (defs : List (Row Definition)) (rows : List (Row Written)) → AreInStep (IsNoted b said defs) 32 rows
       l.self.constants.items → AreInStep (IsConstant b said defs) 32 (take l.place rows) l.entries.items;
   rows : map number_row l.entries.items ≡ numbered_names 32 (map (λ k. k.name.items) (take l.place l.self.constants.items));
+  typed : AreTheirEntries (take l.place l.self.constants.items) l.entries.items;
 }

@@ -1,4 +1,6 @@
 use Rattle.std.proofs.Common.{◌≡◌, get_or, ap, ◌∙◌}
+use Rattle.lp_term.proofs.Trees.{extends_same}
+use Rattle.lp_sig.proofs.KnownConstants.{tree_standard, tree_declared}
 use Rattle.lp_sig.proofs.Constancy.{known_standard, known_new, known_typed, known_untyped, never_untyped}
 use Rattle.lp_sig.proofs.Worded.{met_standard, met_new, met_declared}
 use Rattle.lp_sig.proofs.constants.Constants.known_as.Goals as goal
@@ -41,3 +43,14 @@ returns-in-Some-declared-clause-met c = λ words h. met_declared c.args.self.now
 
 pub returns-in-None-clause-met : goal.returns-in-None-clause-met
 returns-in-None-clause-met c = λ words h. met_declared c.args.self.now c.args.word.now words c.in-Some-of.place c.in-Some-of.ensures h
+
+pub returns-in-Some-clause-tree : goal.returns-in-Some-clause-tree
+returns-in-Some-clause-tree c = λ words h all. tree_standard c.standard_type.new.types.bank c.args.self.now c.args.word.now c.in-Some.number
+    c.in_ok-known.known c.in-Some.ensures c.in_ok-known.ensures.tree
+
+pub returns-in-Some-declared-clause-tree : goal.returns-in-Some-declared-clause-tree
+returns-in-Some-declared-clause-tree c = λ words h all.
+    let x = c.in-Some-get.constant.now in
+    let at : x ≡ get_or c.args.self.now.constants.items c.in-Some-of.place x = c.in-Some-get.ensures.lookup.1 ∙ ap (λ xs. get_or xs c.in-Some-of.place x) c.deref.ensures.value in
+    tree_declared c.args.types.now.bank c.args.types.now.bank c.args.self.now c.args.word.now words c.in-Some-of.place x c.in-Some-declared.declared h
+        c.in-Some-of.ensures at c.in-Some-declared.is all (extends_same c.args.types.now.bank)

@@ -1,17 +1,49 @@
-use Rattle.std.proofs.Common.{ap}
+use Rattle.std.proofs.Common.{◌≡◌, ◌∙◌, Some, ap, sym, subst, inl, inr, true}
+use Rattle.std.specs.Prelude.{slice_get}
 use Rattle.std.proofs.lemmas.Result.{on_ok_weaker}
+use Rattle.lp_sig.specs.Sighted.{IsTreeOf}
 use Rattle.lp_sig.specs.Worded.{is_met}
+use Rattle.lp_sig.proofs.KnownConstants.{grows_same, grows_put, counted_later, seen_new, seen_never, seen_known}
 use Rattle.lp_sig.proofs.Worded.{word_new, word_again}
 use Rattle.lp_sig.proofs.constants.Constants.see.Goals as goal
 
-pub returns-in-New : goal.returns-in-New
-returns-in-New c = on_ok_weaker c.see_new.result (λ h. word_new c.as_slice-name.result.now c.args.entry.now.name.items c.in_ok-known_as.field-0
-    c.as_slice-name.ensures.value c.args.self.now c.in_ok-known_as.ensures.met c.see_new.new.self (ap is_met c.in-New.is) h) c.see_new.ensures
+pub returns-in-New-clause-words : goal.returns-in-New-clause-words
+returns-in-New-clause-words c = on_ok_weaker c.see_new.result (λ h. word_new c.as_slice-name.result.now c.args.entry.now.name.items c.in_ok-known_as.field-0
+    c.as_slice-name.ensures.value c.args.self.now c.in_ok-known_as.ensures.met c.see_new.new.self (ap is_met c.in-New.is) h) c.see_new.ensures.words
 
-pub returns-in-Untyped : goal.returns-in-Untyped
-returns-in-Untyped c = word_again c.as_slice-name.result.now c.args.entry.now.name.items c.in_ok-known_as.field-0 c.as_slice-name.ensures.value
+pub returns-in-Untyped-clause-words : goal.returns-in-Untyped-clause-words
+returns-in-Untyped-clause-words c = word_again c.as_slice-name.result.now c.args.entry.now.name.items c.in_ok-known_as.field-0 c.as_slice-name.ensures.value
     c.args.self.now c.in_ok-known_as.ensures.met (ap is_met c.in-Untyped.is)
 
-pub returns-in-Typed : goal.returns-in-Typed
-returns-in-Typed c = word_again c.as_slice-name.result.now c.args.entry.now.name.items c.in_ok-known_as.field-0 c.as_slice-name.ensures.value
+pub returns-in-Typed-clause-words : goal.returns-in-Typed-clause-words
+returns-in-Typed-clause-words c = word_again c.as_slice-name.result.now c.args.entry.now.name.items c.in_ok-known_as.field-0 c.as_slice-name.ensures.value
     c.args.self.now c.in_ok-known_as.ensures.met (ap is_met c.in-Typed.is)
+
+pub returns-in-New-clause-grown : goal.returns-in-New-clause-grown
+returns-in-New-clause-grown c = on_ok_weaker c.see_new.result (λ h. grows_put c.args.self.now c.see_new.new.self c.as_slice-name.result.now _ h) c.see_new.ensures.put
+
+pub returns-in-Untyped-clause-grown : goal.returns-in-Untyped-clause-grown
+returns-in-Untyped-clause-grown c = grows_same c.args.self.now
+
+pub returns-in-Typed-clause-grown : goal.returns-in-Typed-clause-grown
+returns-in-Typed-clause-grown c = grows_same c.args.self.now
+
+pub returns-in-New-clause-seen : goal.returns-in-New-clause-seen
+returns-in-New-clause-seen c = seen_new c.see_new.result c.args.types.now.bank c.known_as.new.types.bank c.args.self.now c.see_new.new.self
+    c.args.made.now c.args.entry.now c.as_slice-name.result.now c.in_ok-scheme.scheme
+    c.in_ok-scheme.ensures c.as_slice-name.ensures.value c.known_as.ensures.kept c.see_new.ensures.put
+
+pub returns-in-Untyped-clause-seen : goal.returns-in-Untyped-clause-seen
+returns-in-Untyped-clause-seen c = λ words h all counted. (
+  counted_later c.args.types.now.bank c.known_as.new.types.bank c.args.self.now c.known_as.ensures.kept all,
+  seen_never c.known_as.new.types.bank c.args.self.now c.args.made.now c.args.entry.now words (c.in_ok-known_as.ensures.met words h)
+      c.as_slice-name.ensures.value (ap is_met c.in-Untyped.is) (λ q. absurd (cc)),
+)
+
+pub returns-in-Typed-clause-seen : goal.returns-in-Typed-clause-seen
+returns-in-Typed-clause-seen c = λ words h all counted. (
+  counted_later c.args.types.now.bank c.known_as.new.types.bank c.args.self.now c.known_as.ensures.kept all,
+  seen_known c.known_as.new.types.bank c.args.self.now c.args.made.now c.args.entry.now words (c.in_ok-known_as.ensures.met words h)
+      c.as_slice-name.ensures.value (ap is_met c.in-Typed.is) c.in_ok-scheme.scheme c.in-Typed.known c.in_ok-scheme.ensures
+      (subst (IsTreeOf c.known_as.new.types.bank c.args.self.now c.as_slice-name.result.now) c.in-Typed.is (c.in_ok-known_as.ensures.tree words h all)) (λ q. ? ),
+)

@@ -1,15 +1,54 @@
-use Rattle.std.proofs.Common.{◌++◌, sym, subst, map, take, take_all, append-nil}
+use Rattle.std.proofs.Common.{◌++◌, [], sym, subst, map, take, take_all, append-nil}
+use Rattle.std.specs.Prelude.{All}
+use Rattle.std.proofs.lemmas.List.Elements.{All-nil}
+use Rattle.lp_term.proofs.Trees.{extends_same, extends-trans}
+use Rattle.lp_sig.specs.Sighted.{IsSeenEntry, IsCountedEntry}
 use Rattle.lp_sig.specs.Worded.{HasWords}
+use Rattle.lp_sig.proofs.KnownConstants.{grows_same, grows_then, counted_entry_later, one_seen}
 use Rattle.lp_sig.proofs.Worded.{mapped_at}
 use Rattle.lp_sig.proofs.constants.Constants.see_all.Goals as goal
 
 pub loop-at-init : goal.loop-at-init
-loop-at-init c = λ words h. subst (HasWords c.args.self.now) (sym (append-nil words)) h
+loop-at-init c = (
+  (λ words h. subst (HasWords c.args.self.now) (sym (append-nil words)) h),
+  extends_same c.args.types.now.bank,
+  grows_same c.args.self.now,
+  (λ words h all counted. (all, λ premise. All-nil (IsSeenEntry c.args.types.now.bank c.args.self.now c.args.made.now))),
+)
 
 pub loop-at-preserved : goal.loop-at-preserved
-loop-at-preserved c = λ words h.
-    subst (HasWords c.see.new.self) (mapped_at (λ e. e.name.items) c.args.entries.now c.loop-at.at c.index-entries-at.result words c.loop-at-test.true c.index-entries-at.is)
-    (c.in_ok-sight.ensures (words ++ map (λ e. e.name.items) (take c.loop-at.at c.args.entries.now)) (c.loop-at.invariant words h))
+loop-at-preserved c =
+    let es = c.args.entries.now in
+    let before = take c.loop-at.at es in
+    let i = c.loop-at.invariant in (
+      (λ words h.
+          subst (HasWords c.see.new.self) (mapped_at (λ e. e.name.items) es c.loop-at.at c.index-entries-at.result words c.loop-at-test.true c.index-entries-at.is)
+          (c.in_ok-sight.ensures.words (words ++ map (λ e. e.name.items) before) (i.0 words h))),
+      extends-trans c.args.types.now.bank c.loop-at.types.bank c.see.new.types.bank i.1 c.see.ensures.kept,
+      grows_then c.args.self.now c.loop-at.self c.see.new.self i.2 c.in_ok-sight.ensures.grown,
+      (λ words h all counted.
+          let now = i.3 words h all counted in
+          let e = c.index-entries-at.result in
+          let here = counted_entry_later c.args.types.now.bank c.loop-at.types.bank c.args.made.now e i.1
+              (subst (IsCountedEntry c.args.types.now.bank c.args.made.now) (sym c.index-entries-at.is) (counted c.loop-at.at e c.loop-at-test.true))
+              in
+          let step = c.in_ok-sight.ensures.seen (words ++ map (λ e. e.name.items) before) (i.0 words h) now.0 here in
+          (step.0, one_seen c.args.types.now.bank c.loop-at.types.bank c.see.new.types.bank c.loop-at.self c.see.new.self c.args.made.now es
+              c.loop-at.at e c.loop-at.all c.and.result c.in_ok-sight.sight words c.loop-at-test.true c.index-entries-at.is i.1 c.see.ensures.kept
+              c.in_ok-sight.ensures.grown c.and.ensures counted now.1 step.1)),
+    )
 
-pub returns : goal.returns
-returns c = λ words h. subst (λ es. HasWords c.loop-at.self (words ++ map (λ e. e.name.items) es)) (take_all c.loop-at.at c.args.entries.now c.loop-at-test.false) (c.loop-at.invariant words h)
+pub returns-clause-words : goal.returns-clause-words
+returns-clause-words c = λ words h. subst (λ es. HasWords c.loop-at.self (words ++ map (λ e. e.name.items) es))
+    (take_all c.loop-at.at c.args.entries.now c.loop-at-test.false) (c.loop-at.invariant.0 words h)
+
+pub returns-clause-kept : goal.returns-clause-kept
+returns-clause-kept c = c.loop-at.invariant.1
+
+pub returns-clause-grown : goal.returns-clause-grown
+returns-clause-grown c = c.loop-at.invariant.2
+
+pub returns-clause-seen : goal.returns-clause-seen
+returns-clause-seen c = λ words h all counted.
+    let now = c.loop-at.invariant.3 words h all counted in
+    (now.0, λ premise. subst (All (IsSeenEntry c.loop-at.types.bank c.loop-at.self c.args.made.now)) (take_all c.loop-at.at c.args.entries.now c.loop-at-test.false) (now.1 premise))

@@ -7,7 +7,7 @@ use Rattle.lp_sig.proofs.Sayings.{lines_more}
 use Rattle.lp_sig.proofs.making.Making.announce_module.Goals as goal
 
 pub loop-at-init : goal.loop-at-init
-loop-at-init c = record { names = λ said k. subst (Knows c.args.self.now.names) (sym (append-nil said)) k; constants = refl; operators = refl }
+loop-at-init c = record { names = λ said k. subst (Knows c.args.self.now.names) (sym (append-nil said)) k; constants = refl; types = refl; operators = refl }
 
 pub loop-at-preserved : goal.loop-at-preserved
 loop-at-preserved c =
@@ -19,6 +19,7 @@ loop-at-preserved c =
           (omega (arith, c.loop-at-test.true, c.len-at-end.ensures, c.args.text.now.lines.ok)) c.index.ensures)
           (c.in_ok-announce_sentence.ensures.names (said ++ said_in text (declarations (take c.loop-at.at lines))) (c.loop-at.invariant.names said k));
       constants = c.announce_sentence.ensures.constants ∙ c.loop-at.invariant.constants;
+      types = c.announce_sentence.ensures.types ∙ c.loop-at.invariant.types;
       operators = c.announce_sentence.ensures.operators ∙ c.loop-at.invariant.operators;
     }
 

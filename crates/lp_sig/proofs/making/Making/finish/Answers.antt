@@ -1,4 +1,4 @@
-use Rattle.std.proofs.Common.{◌≡◌, map, ap, List, subst, sym, ◌∙◌}
+use Rattle.std.proofs.Common.{◌≡◌, ◌+◌, ◌≤◌, length, map, ap, List, subst, sym, ◌∙◌}
 use Rattle.std.proofs.lemmas.Result.{IfOk-weaker}
 use Rattle.lp_sig.specs.Rows.{Row, number_row}
 use Rattle.lp_sig.specs.Constants.{Written, KnowsConstants, AreConstants, HaveNumbers}
@@ -6,6 +6,8 @@ use Rattle.lp_sig.specs.Abbreviations.{Seen}
 use Rattle.lp_sig.specs.Entries.{parameters_row, AreAbbreviations}
 use Rattle.lp_sig.specs.Knowing.{head_row}
 use Rattle.lp_sig.specs.Modules.{numbered_names}
+use Rattle.lp_base.specs.declared.limits.TheConstants.{END_OF_NUMBERS}
+use Rattle.lp_sig.specs.Sights.{AreTheirEntries}
 use Rattle.lp_sig.specs.Worded.{names_so_far}
 use Rattle.lp_sig.specs.Holding.{KnowsSeen}
 use Rattle.lp_sig.proofs.Blame.{both_ok}
@@ -45,3 +47,14 @@ pub returns-clause-words : goal.returns-clause-words
 returns-clause-words c = IfOk-weaker c.of.result (λ s. s.constants ≡ c.in_ok-constants.constants)
     (λ s. map number_row s.constants.items ≡ numbered_names 32 (names_so_far c.args.self.constants))
     (λ s e. ap (λ v. map number_row v.items) e ∙ c.in_ok-constants.ensures.rows) c.of.ensures.constants
+
+pub returns-clause-bank : goal.returns-clause-bank
+returns-clause-bank c = IfOk-weaker c.of.result (λ s. s.bank ≡ c.into_bank.result) (λ s. s.bank ≡ c.args.self.bodies.types.bank) (λ s e. e ∙ c.into_bank.ensures) c.of.ensures.bank
+
+pub returns-clause-room : goal.returns-clause-room
+returns-clause-room c = IfOk-weaker c.of.result (λ s. s.bank ≡ c.into_bank.result) (λ s. 8 + length c.args.self.names.kinds.items ≤ END_OF_NUMBERS)
+    (λ s e. subst (λ ks. 8 + length ks ≤ END_OF_NUMBERS) c.as_slice.ensures.value c.in_ok-kinds.ensures.room) c.of.ensures.bank
+
+pub returns-clause-typed : goal.returns-clause-typed
+returns-clause-typed c = IfOk-weaker c.of.result (λ s. s.constants ≡ c.in_ok-constants.constants) (λ s. AreTheirEntries c.args.self.constants.constants.items s.constants.items)
+    (λ s e. subst (λ v. AreTheirEntries c.args.self.constants.constants.items v.items) (sym e) c.in_ok-constants.ensures.typed) c.of.ensures.constants

@@ -9,5 +9,6 @@ abbrev pub invariant-loop-at : goal.invariant-loop-at
 invariant-loop-at l = record {
   names : (said : List (Row Said)) → Knows l.fn.self.names said → Knows l.self.names (said ++ map abbreviation_said (take l.at l.entries));
   constants : l.self.constants ≡ l.fn.self.constants;
+  types : l.self.bodies.types ≡ l.fn.self.bodies.types;
   operators : l.self.operators ≡ l.fn.self.operators;
 }

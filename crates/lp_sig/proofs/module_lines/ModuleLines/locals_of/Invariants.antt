@@ -1,11 +1,13 @@
 use Rattle.std.proofs.Common.{◌≡◌, ℕ, List, map, take, ◌++◌}
 use Rattle.lp_sig.specs.Pieces.{spelled}
+use Rattle.lp_sig.specs.Sighted.{Grows}
 use Rattle.lp_sig.specs.Worded.{HasWords}
 use Rattle.lp_sig.proofs.module_lines.ModuleLines.locals_of.Given as goal
 
 abbrev pub invariant-loop-name : goal.invariant-loop-name
 invariant-loop-name l = record {
   words : (words : List (List ℕ)) → HasWords l.fn.making.constants words → HasWords l.making.constants (words ++ map (λ s. spelled l.self.source.now s) (take l.name-index l.names));
+  grown : Grows l.fn.making l.making;
   names : l.making.names ≡ l.fn.making.names;
   operators : l.making.operators ≡ l.fn.making.operators;
 }

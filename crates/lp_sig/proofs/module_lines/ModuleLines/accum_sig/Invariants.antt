@@ -1,0 +1,10 @@
+use Rattle.std.proofs.Common.{ℕ, List, [], length, map, take}
+use Rattle.std.specs.Prelude.{All}
+use Rattle.lp_sig.specs.Pieces.{spelled}
+use Rattle.lp_sig.specs.Modules.{first_names}
+use Rattle.lp_sig.specs.Sights.{HasNumbers, IsAlike}
+use Rattle.lp_sig.proofs.module_lines.ModuleLines.accum_sig.Given as goal
+
+abbrev pub invariant-loop-word : goal.invariant-loop-word
+invariant-loop-word l = (signatures : List (List ℕ)) → HasNumbers l.self.said.now.accum_sigs signatures → All (IsAlike l.self.sights.now 0 signatures)
+    (map (λ s. spelled l.self.source.now s) (take l.word-index l.words))
