@@ -178,6 +178,18 @@ module _ (above m : Module) (a c : Copy) (from : Next) (sa : IsNumberedSignature
         let y = all_agree ts us parts.1 w p in
         cc
 
+-- the number of an exported constant in a copy is that of the constant in the copy above
+pub joined_number : (above m : Module) (a c : Copy) (from : Next) → IsNumberedSignature above.signature → IsBelow above a m from c → (i : ℕ) (e : ConstantEntry) →
+    slice_get m.signature.constants.items i ≡ Some e → place_in m.hidden_constants.items (32 + i) ≡ None → (s : SeesExported above m e) → c.constants (32 + i) ≡ a.constants (32 + s.place)
+joined_number above m a c from sa is i e at p s =
+    is.constants.named i (slice_get_within m.signature.constants.items i e at) ∙ ap (λ o. hidden_or from.constants o (constant_in above a.constants (constant_at m i))) p ∙
+    ap (constant_in above a.constants) (got m.signature.constants.items i at ∙ sym s.name) ∙ ap (λ o. or_none (option_map a.constants o)) (sa.constants s.place s.seen s.at).1
+  where
+    got : (es : List ConstantEntry) (i : ℕ) → slice_get es i ≡ Some e → get_or (map (λ e. e.name.items) es) i [] ≡ e.name.items
+    got [] i at = absurd (cc)
+    got (y ∷ ys) zero at = ap (λ (e : ConstantEntry). e.name.items) (same_Some y e at)
+    got (y ∷ ys) (suc i) at = got ys i at
+
 -- a copy below another one, of whose constants the table has the types
 abbrev IsFull : Declared → Copy → Module → Type 0
 IsFull d c m = (i : ℕ) (e : ConstantEntry) → slice_get m.signature.constants.items i ≡ Some e → d (c.constants (32 + i)) ≡ Some (scheme_in c (entry_scheme m.signature.bank e))
@@ -190,18 +202,11 @@ module _ (d : Declared) (above m : Module) (a c : Copy) (from : Next) (sa : IsNu
   full_below : IsFull d c m
   full_below i e at = by (place_in m.hidden_constants.items (32 + i)) refl
     where
-      got : (es : List ConstantEntry) (i : ℕ) → slice_get es i ≡ Some e → get_or (map (λ e. e.name.items) es) i [] ≡ e.name.items
-      got [] i at = absurd (cc)
-      got (y ∷ ys) zero at = ap (λ (e : ConstantEntry). e.name.items) (same_Some y e at)
-      got (y ∷ ys) (suc i) at = got ys i at
-
       by : (o : Option ℕ) → place_in m.hidden_constants.items (32 + i) ≡ o → d (c.constants (32 + i)) ≡ Some (scheme_in c (entry_scheme m.signature.bank e))
       by (Some j) p = hidden i e at j p
       by None p =
           let s = joined i e at p in
-          let number : c.constants (32 + i) ≡ a.constants (32 + s.place) =
-          is.constants.named i (slice_get_within m.signature.constants.items i e at) ∙ ap (λ o. hidden_or from.constants o (constant_in above a.constants (constant_at m i))) p ∙
-          ap (constant_in above a.constants) (got m.signature.constants.items i at ∙ sym s.name) ∙ ap (λ o. or_none (option_map a.constants o)) (sa.constants s.place s.seen s.at).1 in
+          let number = joined_number above m a c from sa is i e at p s in
           let same = types_agree above m a c from sa sm is ka (type_tree above.signature.bank s.seen.scheme.0) (type_tree m.signature.bank e.scheme.0) s.same s.whole s.exported in
           ap d number ∙ full s.place s.seen s.at ∙ (λ t. Some (record { count = s.count t; body = same t }))
 

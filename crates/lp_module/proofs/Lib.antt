@@ -28,5 +28,6 @@ pub mod Tabled
 pub mod Entering
 pub mod Lookups
 pub mod Joining
+pub mod HighNumbers
 pub mod NumberedSignatures
 pub mod Joins

@@ -14,3 +14,5 @@ pub mod Referred
 pub mod Joined
 pub mod Queried
 pub mod DeclaredTypes
+pub mod Flattened
+pub mod Flattening

@@ -22,6 +22,8 @@ use Rattle.lp_sig.specs.declared.entries.ConstantEntry.{ConstantEntry}
 use Rattle.lp_sig.specs.declared.entries.KindEntry.{KindEntry}
 use Rattle.lp_sig.specs.declared.signature.Signature.{Signature}
 use Rattle.lp_sig.proofs.OwnNames.{own_first}
+use Rattle.lp_module.specs.Joined.{AreJoined}
+use Rattle.lp_module.specs.Orderly.{IsOrderly}
 use Rattle.lp_module.specs.declared.module.Module.{Module}
 use Rattle.lp_module.proofs.Joining.{program_declares}
 use Rattle.lp_module.proofs.Joins.{same_entry}
@@ -36,7 +38,7 @@ use Rattle.lp_load.specs.Loaded.{IsBuiltFrom}
 use Rattle.lp_solve.specs.Schemes.{DeclaresSeen}
 use Rattle.lp_solve.specs.Sources.{HasTypes}
 use Rattle.lp_solve.proofs.Texts.Joined.{get_at, last_or, apart, ordered, same_signature, modules_joined}
-use Rattle.lp_solve.proofs.Texts.Queried.{queries_declared}
+use Rattle.lp_solve.proofs.Texts.Queried.{queries_declared, queries_placed}
 
 -- the table has the types of the language
 table_standard : (b : Nodes) (ds : List code.Declared) → IsStandard (declared_by b ds)
@@ -102,7 +104,14 @@ same_seen u own s same seen e (i, l, is) =
     let h = seen y (i, slice_get_within u.constants.items i y at_y, get_or_from_slice_get u.constants.items i y y at_y) in
     subst (λ t. HasNamed s e.name.items e.type_vars t) type (subst (λ n. HasNamed s e.name.items n (named_in u y.scheme)) count (subst (λ w. HasNamed s w y.type_vars (named_in u y.scheme)) name h))
 
-pub declared_types : (sources : Sources) (built : Built) (p : IsBuiltFrom sources built) → AreRead sources → (d : Declared) × HasTypes p d
+-- what the program of texts declares: types of all copies and of what queries see, whose constants have their numbers by their places
+pub record HasDeclared {sources : Sources} {built : Built} (p : IsBuiltFrom sources built) : Type 0 where
+  pub types : Declared
+  pub are : HasTypes p types
+  pub joined : AreJoined p.is.modules
+  pub placed : (i : ℕ) (e : ConstantEntry) → slice_get built.signature.constants.items i ≡ Some e → e.number ≡ 32 + i
+
+pub declared_types : (sources : Sources) (built : Built) (p : IsBuiltFrom sources built) → AreRead sources → HasDeclared p
 declared_types sources built p read =
     let first = p.first in
     let is = p.is in
@@ -127,19 +136,22 @@ declared_types sources built p read =
         (constant_names_same m.own.bank is.own.bank m.own.constants.items is.own.constants.items same.constants) ∙ length-map is.own.constants.items
         (λ e. e.name.items) in
     let d = declared_by a.program.bank a.program.constants.items in
-    let queries : DeclaresSeen d first.signature =
-    queries_declared modules is.program.root a program j is.own first.signature is.program.seen
-        (apart sources modules read is.are is.own_is.number is.own is.own_is.is) (ordered sources modules read is.are is.own_is.number is.own
-        is.own_is.is)
-    (same_first m.own is.own top.signature same (own_first m.own m.used m.source.items m.text.lines.items top.signature own_apart m.meaning.names))
-        (same_seen m.own is.own top.signature same (m.meaning.theirs.own_ones own_apart own_ordered))
-    (record { exported_kinds = length m.own.kinds.items; exported_constants = length m.own.constants.items; kinds = m.meaning.hidden_kinds;
-        constants = m.meaning.hidden_constants }) counts_kinds counts_constants in
-    (
-      d,
-      record {
+    let is_apart = apart sources modules read is.are is.own_is.number is.own is.own_is.is in
+    let is_ordered = ordered sources modules read is.are is.own_is.number is.own is.own_is.is in
+    let its_first = same_first m.own is.own top.signature same (own_first m.own m.used m.source.items m.text.lines.items top.signature own_apart m.meaning.names) in
+    let its_types = same_seen m.own is.own top.signature same (m.meaning.theirs.own_ones own_apart own_ordered) in
+    let orderly : IsOrderly top = record { exported_kinds = length m.own.kinds.items; exported_constants = length m.own.constants.items; kinds = m.meaning.hidden_kinds;
+        constants = m.meaning.hidden_constants } in
+    let queries : DeclaresSeen d first.signature = queries_declared modules is.program.root a program j is.own first.signature is.program.seen is_apart is_ordered its_first its_types
+        orderly counts_kinds counts_constants in
+    let placed = queries_placed modules is.program.root a program j is.own first.signature is.program.seen is_apart is_ordered its_first its_types orderly counts_kinds counts_constants in
+    record {
+      types = d;
+      are = record {
         standard = table_standard a.program.bank a.program.constants.items;
         copies = program_declares modules is.program.root a program j;
         queries = subst (DeclaresSeen d) (sym p.grown.signature) queries;
-      },
-    )
+      };
+      joined = j;
+      placed = subst (λ (s : Signature). (i : ℕ) (e : ConstantEntry) → slice_get s.constants.items i ≡ Some e → e.number ≡ 32 + i) (sym p.grown.signature) placed;
+    }

@@ -268,7 +268,12 @@ module _ (modules : List Module) (root : ℕ) (a : Assembled) (p : IsProgram mod
           ap (λ n. 8 + n) (before_hidden 8 o.exported_kinds (length top.signature.kinds.items - o.exported_kinds) q top.hidden_kinds.items o.kinds (omega (arith, low, kinds_are))) in
           there ∙ sym (fold_at a.kinds.items own.kinds.items 8 q (λ k. k) l x ordered.kinds at z ∙ ap (λ w. unwrap_or (option_map (λ i. 8 + i) w) l) (global_kind q x at))
 
-  -- what queries see
+  -- what queries see: the numbers of constants are those of their places
+  pub queries_placed : (i : ℕ) (e : ConstantEntry) → slice_get s.constants.items i ≡ Some e → e.number ≡ 32 + i
+  queries_placed i e at_e =
+      let (x, at, same) = zip_at (IsConstantOf a.constants.items) constant_row constant_row own.constants.items s.constants.items seen.constants_are i e at_e in
+      same_Some e.number (32 + i) (sym same.number ∙ ap (option_map (λ i. 32 + i)) (global_constant i x at))
+
   pub queries_declared : DeclaresSeen (declared_by a.program.bank a.program.constants.items) s
   queries_declared e (i, l, is) =
       let at_e = slice_get_read s.constants.items (length s.constants.items) i e refl l (sym is) in
@@ -285,7 +290,7 @@ module _ (modules : List Module) (root : ℕ) (a : Assembled) (p : IsProgram mod
           (λ w. hidden_or p.are.middle.constants w (32 + exported_before 32 top.hidden_constants.items i)) free ∙
       ap (λ n. 32 + n) (before_hidden 32 o.exported_constants (length top.signature.constants.items - o.exported_constants) i
           top.hidden_constants.items o.constants (omega (arith, low, constants_are))) in
-      let e_number : e.number ≡ 32 + i = same_Some e.number (32 + i) (sym same.number ∙ ap (option_map (λ i. 32 + i)) (global_constant i x at)) in
+      let e_number = queries_placed i e at_e in
       let whole = subst (λ x. IsWhole (named_in own x.scheme)) (get_or_from_slice_get own.constants.items i x x at) (ordered.whole i x low) in
       let inside = subst (λ x. x.scheme.0 < length own.bank.types) (get_or_from_slice_get own.constants.items i x x at) (ordered.inside i x low) in
       let body : mapped_type (map_of p.are.copy) (type_tree top.signature.bank t.scheme.0) ≡ type_tree s.bank e.scheme.0 =
