@@ -1,7 +1,7 @@
 -- The clauses of the program of texts, and a query that is asked on it, flatten by the declared types of the program.
-use Rattle.std.proofs.Common.{◌≡◌, ℕ, zero, suc, ◌+◌, ◌-◌, ◌<◌, ◌≤◌, List, [], ◌∷◌, ◌++◌, map, length, get_or, Option, Some, None, Bool, true, false, true≢false, refl, sym, ap, ◌∙◌, subst, inl, inr, arith, nat_eq}
-use Rattle.std.specs.Prelude.{◌⊎◌, ◌&&◌, not, nat_le, nat_lt, if◌then◌else◌, option_map, slice_get, Contains}
-use Rattle.std.proofs.lemmas.Bool.{cases_lt, le-leb, le-ltb, leb-true, lt-leb, ne_eqb}
+use Rattle.std.proofs.Common.{◌≡◌, ℕ, zero, suc, ◌+◌, ◌-◌, ◌<◌, ◌≤◌, List, [], ◌∷◌, ◌++◌, map, get_or, Option, Some, None, Bool, true, false, true≢false, refl, sym, ap, ◌∙◌, inl, inr, arith, nat_eq}
+use Rattle.std.specs.Prelude.{◌⊎◌, ◌&&◌, not, if◌then◌else◌, option_map, slice_get}
+use Rattle.std.proofs.lemmas.Bool.{cases_lt, le-leb, le-ltb, leb-true, ne_eqb}
 use Rattle.std.proofs.lemmas.Option.{slice_get_within, get_or_from_slice_get}
 use Rattle.lp_lemmas.specs.Each.{EachOf}
 use Rattle.lp_lemmas.proofs.Booleans.{and_true_left, and_true_right}
@@ -15,7 +15,7 @@ use Rattle.lp_standard.specs.Connectives.{Connective, connective_of}
 use Rattle.lp_standard.specs.Connectives as connective
 use Rattle.lp_standard.specs.Schemes.{entry, standard_schemes}
 use Rattle.lp_syntax.specs.declared.text.RawTerm.{RawTerm}
-use Rattle.lp_term.specs.Mapped.{mapped_type, mapped_types}
+use Rattle.lp_term.specs.Mapped.{mapped, mapped_type, mapped_types}
 use Rattle.lp_term.specs.Nodes.{Nodes}
 use Rattle.lp_model.specs.Flat.{Clause, Clauses, all_of, clause_list}
 use Rattle.lp_model.specs.Flatten.{ClauseFormula, ends_in_o, flatten, heads_clauses, is_clause_head, is_goal_head}
@@ -26,7 +26,7 @@ use Rattle.lp_sig.specs.declared.entries.ConstantEntry.{ConstantEntry}
 use Rattle.lp_sig.specs.declared.signature.Signature.{Signature}
 use Rattle.lp_infer.specs.Texts.{entry_scheme}
 use Rattle.lp_module.specs.Clauses.{IsClause, IsFormed}
-use Rattle.lp_module.specs.Form.{Part, has_form_by, is_other}
+use Rattle.lp_module.specs.Form.{Part, has_form_by}
 use Rattle.lp_module.specs.Joined.{IsNumberedSignature}
 use Rattle.lp_module.specs.Program.{Copy, map_of, in_copy, clauses_in, clauses_of}
 use Rattle.lp_module.specs.Schemes.{declared_schemes}
@@ -40,6 +40,10 @@ use Rattle.lp_solve.specs.Schemes.{DeclaresCopy, DeclaresSeen}
 use Rattle.lp_solve.proofs.Texts.Fits.{both}
 use Rattle.lp_solve.proofs.Texts.Flattens.{clause_flattens, once_flattened}
 use Rattle.lp_solve.proofs.Texts.Program.{IsFair, each_clause, member_each, module_at}
+
+not_kept : (x y : Bool) → (x ≡ true → y ≡ true) → not x ≡ false → not y ≡ false
+not_kept true y h e = ap not (h refl)
+not_kept false y h e = absurd (true≢false e)
 
 -- a formula that has its form has it by other declared types too, by which the constants that head clauses still do
 module _ (d e : ℕ → Option Scheme) (more : (c : ℕ) → (is_declared c && heads_clauses (d c)) ≡ true → heads_clauses (e c) ≡ true) where
@@ -74,12 +78,8 @@ module _ (d e : ℕ → Option Scheme) (more : (c : ℕ) → (is_declared c && h
     form = f.form;
     within = f.within;
     positive = f.positive;
-    formed = λ p is. kept (has_form_by d p (connective_of p.formula)) (has_form_by e p (connective_of p.formula)) (part_more p (connective_of p.formula)) (f.formed p is);
+    formed = λ p is. not_kept (has_form_by d p (connective_of p.formula)) (has_form_by e p (connective_of p.formula)) (part_more p (connective_of p.formula)) (f.formed p is);
   }
-    where
-      kept : (x y : Bool) → (x ≡ true → y ≡ true) → not x ≡ false → not y ≡ false
-      kept true y h e = ap not (h refl)
-      kept false y h e = absurd (true≢false e)
 
 -- a declared type that ends in `o` does so in a copy
 ends_kept : (c : Copy) → c.kinds 0 ≡ 0 → (T : Ty) → ends_in_o T ≡ true → ends_in_o (mapped_type (map_of c) T) ≡ true
@@ -103,6 +103,13 @@ module _ (sig : Signature) where
           (e : ConstantEntry) × (slice_get sig.constants.items (k - 32) ≡ Some e) × (32 ≤ k) × (ends_in_o (entry_scheme sig.bank e).body ≡ true)
       by l None at h = absurd (true≢false (sym h ∙ ap (λ o. heads_clauses (option_map (entry_scheme sig.bank) o)) at))
       by l (Some e) at h = (e, at, l, sym (ap (λ o. heads_clauses (option_map (entry_scheme sig.bank) o)) at) ∙ h)
+
+-- the numbers of a copy, as flattening takes them
+no_more : (l : ℕ) → l + 0 ≡ l
+no_more l = omega arith
+
+same_map : (c : Copy) → moving c.kinds c.constants 0 ≡ map_of c
+same_map c = λ i. record { kinds = c.kinds; constants = c.constants; types = λ x. var x; terms = λ x l. atom (logic x (no_more l i)) }
 
 -- the clauses of a copy
 module _ (d : Declared) (c : Copy) (fair : IsFair c) (high : IsHigh c) (sig : Signature) (numbered : IsNumberedSignature sig) (declared : DeclaresCopy d c sig) where
@@ -138,6 +145,7 @@ module _ (d : Declared) (c : Copy) (fair : IsFair c) (high : IsHigh c) (sig : Si
       let (depth, cs, is) = once_flattened (clause_flattens here k.type_vars x.typing.free x.typing.formula formed) in
       let D : ClauseFormula = record { type_vars = k.type_vars; formula = all_of x.typing.free x.typing.formula } in
       let there : flatten depth d (in_copy c D) ≡ option_map (moved_clauses (moving c.kinds c.constants 0) 0) (flatten depth here D) =
+          ap (λ m. flatten depth d (record { type_vars = D.type_vars; formula = mapped m D.formula })) (sym (same_map c)) ∙
           flatten_to c.kinds c.constants 0 here d language_kept (λ j. ap (λ t. t && heads_clauses (here j)) (declared_kept j)) depth D in
       (
         depth,
@@ -150,7 +158,7 @@ abbrev Flat : Declared → ClauseFormula → Type 0
 Flat d D = (depth : ℕ) × (cs : Clauses) × (flatten depth d D ≡ Some cs)
 
 module _ (sources : Sources) (modules : List Module) (are : AreModules sources modules) (numbered : (k : ℕ) (m : Module) → slice_get modules k ≡ Some m → IsNumberedSignature m.signature) (d : Declared) where
-  all_flat : (cs : List Copy) → EachOf IsFair cs → EachOf IsHigh cs → EachOf (λ c. (m : Module) → slice_get modules c.member ≡ Some m → DeclaresCopy d c m.signature) cs → EachOf (Flat d) (clauses_of modules cs)
+  pub all_flat : (cs : List Copy) → EachOf IsFair cs → EachOf IsHigh cs → EachOf (λ c. (m : Module) → slice_get modules c.member ≡ Some m → DeclaresCopy d c m.signature) cs → EachOf (Flat d) (clauses_of modules cs)
   all_flat [] fair high declared = tt
   all_flat (c ∷ cs) (f, fair) (h, high) (s, declared) =
       each_append (Flat d) (map (in_copy c) (get_or (map clauses_in modules) c.member [])) (clauses_of modules cs)
@@ -165,7 +173,7 @@ module _ (sources : Sources) (modules : List Module) (are : AreModules sources m
 
 pub all_flattened : (d : Declared) (Ds : List ClauseFormula) → EachOf (Flat d) Ds → (P : List Clause) × AreFlattened d Ds P
 all_flattened d [] h = ([], refl)
-all_flattened d (D ∷ Ds) ((depth, cs, is), more) = let (Q, are) = all_flattened d Ds more in (clause_list cs ++ Q, depth, cs, Q, is, are, refl)
+all_flattened d (D ∷ Ds) ((depth, cs, is), more) = let (Q, are) = all_flattened d Ds more in (clause_list cs ++ Q, (depth, cs, Q, is, are, refl))
 
 -- a query on names that have their numbers by their places
 pub heads_seen : (d : Declared) (sig : Signature) → DeclaresSeen d sig → ((i : ℕ) (e : ConstantEntry) → slice_get sig.constants.items i ≡ Some e → e.number ≡ 32 + i) →

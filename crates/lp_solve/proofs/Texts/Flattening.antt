@@ -1,5 +1,5 @@
 -- Each query that is asked on the program of texts flattens with it, by the declared types of the program.
-use Rattle.std.proofs.Common.{ℕ, List, Option}
+use Rattle.std.proofs.Common.{ℕ, List, Option, true}
 use Rattle.lp_base.specs.Held.{Held}
 use Rattle.lp_term.specs.Nodes.{tree}
 use Rattle.lp_module.specs.Schemes.{declared_schemes}
