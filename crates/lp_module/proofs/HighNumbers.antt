@@ -39,7 +39,8 @@ below_high above m a c from sa is joined high l = high_by (length m.signature.co
         omega (arith, number, h))
 
 -- the numbers of hidden constants go up from copy to copy
-next_high : {modules : List Module} {above : Module} {a : Copy} {before after : Next} {ks : List ℕ} {cs : List Copy} → CopiesBelow modules above a before ks cs after → 32 ≤ before.constants → 32 ≤ after.constants
+next_high : {modules : List Module} {above : Module} {a : Copy} {before after : Next} {ks : List ℕ} {cs : List Copy} → CopiesBelow modules above a
+    before ks cs after → 32 ≤ before.constants → 32 ≤ after.constants
 next_high (none_below above a n) l = l
 next_high (one_below above a before middle after m c ks below others cs at_m b is more e) l = let n = next_high b l in next_high more (omega (arith, n))
 

@@ -61,7 +61,8 @@ module _ (d e : ℕ → Option Scheme) (more : (c : ℕ) → (is_declared c && h
   part_more : (p : Part) (f : Connective) → has_form_by d p f ≡ true → has_form_by e p f ≡ true
   part_more p connective.Atomic x = by p.goal x
     where
-      by : (g : Bool) → (if g then is_goal_head (head_of p.formula) else is_clause_head d p.binders (head_of p.formula)) ≡ true → (if g then is_goal_head (head_of p.formula) else is_clause_head e p.binders (head_of p.formula)) ≡ true
+      by : (g : Bool) → (if g then is_goal_head (head_of p.formula) else is_clause_head d p.binders (head_of p.formula)) ≡ true →
+          (if g then is_goal_head (head_of p.formula) else is_clause_head e p.binders (head_of p.formula)) ≡ true
       by true x = x
       by false x = head_more p.binders (head_of p.formula) x
   part_more p (connective.And a b) x = x
@@ -157,8 +158,10 @@ module _ (d : Declared) (c : Copy) (fair : IsFair c) (high : IsHigh c) (sig : Si
 abbrev Flat : Declared → ClauseFormula → Type 0
 Flat d D = (depth : ℕ) × (cs : Clauses) × (flatten depth d D ≡ Some cs)
 
-module _ (sources : Sources) (modules : List Module) (are : AreModules sources modules) (numbered : (k : ℕ) (m : Module) → slice_get modules k ≡ Some m → IsNumberedSignature m.signature) (d : Declared) where
-  pub all_flat : (cs : List Copy) → EachOf IsFair cs → EachOf IsHigh cs → EachOf (λ c. (m : Module) → slice_get modules c.member ≡ Some m → DeclaresCopy d c m.signature) cs → EachOf (Flat d) (clauses_of modules cs)
+module _ (sources : Sources) (modules : List Module) (are : AreModules sources modules)
+    (numbered : (k : ℕ) (m : Module) → slice_get modules k ≡ Some m → IsNumberedSignature m.signature) (d : Declared) where
+  pub all_flat : (cs : List Copy) → EachOf IsFair cs → EachOf IsHigh cs → EachOf (λ c. (m : Module) → slice_get modules c.member ≡ Some m →
+      DeclaresCopy d c m.signature) cs → EachOf (Flat d) (clauses_of modules cs)
   all_flat [] fair high declared = tt
   all_flat (c ∷ cs) (f, fair) (h, high) (s, declared) =
       each_append (Flat d) (map (in_copy c) (get_or (map clauses_in modules) c.member [])) (clauses_of modules cs)

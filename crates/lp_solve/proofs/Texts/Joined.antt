@@ -99,7 +99,8 @@ module _ (files : List File) (g : Group SignatureText) (t : Group ModuleText) wh
       end [] = refl
       end (t ∷ ts) = end ts
 
-      by : (slice_get ms i ≡ Some n → (s : Signature) × (slice_get ts i ≡ Some s) × IsSignatureOf g n s) → (slice_get ms i ≡ Some n) ⊎ ((i ≡ length ms) × (m ≡ n)) → (s : Signature) × (slice_get ss i ≡ Some s) × IsSignatureOf g n s
+      by : (slice_get ms i ≡ Some n → (s : Signature) × (slice_get ts i ≡ Some s) × IsSignatureOf g n s) → (slice_get ms i ≡ Some n) ⊎
+          ((i ≡ length ms) × (m ≡ n)) → (s : Signature) × (slice_get ss i ≡ Some s) × IsSignatureOf g n s
       by r (inl h) = let (x, at_x, is_x) = r h in (x, ap (λ l. slice_get l i) f ∙ front ts x i at_x, is_x)
       by r (inr h) = (s, ap (λ l. slice_get l i) f ∙ ap (slice_get (ts ++ s ∷ [])) (h.0 ∙ same_length ms ts before) ∙ end ts, subst (λ n. IsSignatureOf g n s) h.1 is)
 
@@ -166,12 +167,14 @@ module _ {T : Type 0} (p : Part) (IsTree : ℕ → File → T → Type 0) (files
   text_at n numbers names sources trees no_text i number source tree x y z = absurd (cc)
   text_at n numbers names sources trees (other_text m _ f _ _ _ _ before at_f part e) i number source tree x y z = text_at m numbers names sources trees before i number source tree x y z
   text_at n numbers names sources trees (one_text m _ f name s t ns _ ms _ ss _ ts _ before at_f part same_name same_source is e a b c d) i number source tree x y z =
-      by (text_at m ns ms ss ts before i number source tree) (last_or ns m number i (ap (λ l. slice_get l i) (sym a) ∙ x)) (last_or ss s source i (ap (λ l. slice_get l i) (sym c) ∙ y)) (last_or ts t tree i (ap (λ l. slice_get l i) (sym d) ∙ z))
+      by (text_at m ns ms ss ts before i number source tree) (last_or ns m number i (ap (λ l. slice_get l i) (sym a) ∙ x))
+          (last_or ss s source i (ap (λ l. slice_get l i) (sym c) ∙ y)) (last_or ts t tree i (ap (λ l. slice_get l i) (sym d) ∙ z))
     where
       long : (length ss ≡ length ns) × (length ts ≡ length ns)
       long = same_lengths m ns ms ss ts before
 
-      by : (slice_get ns i ≡ Some number → slice_get ss i ≡ Some source → slice_get ts i ≡ Some tree → IsFileText IsTree files number source tree) → (slice_get ns i ≡ Some number) ⊎ ((i ≡ length ns) × (m ≡ number)) → (slice_get ss i ≡ Some source) ⊎ ((i ≡ length ss) × (s ≡ source)) →
+      by : (slice_get ns i ≡ Some number → slice_get ss i ≡ Some source → slice_get ts i ≡ Some tree → IsFileText IsTree files number source tree) →
+          (slice_get ns i ≡ Some number) ⊎ ((i ≡ length ns) × (m ≡ number)) → (slice_get ss i ≡ Some source) ⊎ ((i ≡ length ss) × (s ≡ source)) →
           (slice_get ts i ≡ Some tree) ⊎ ((i ≡ length ts) × (t ≡ tree)) → IsFileText IsTree files number source tree
       by r (inl u) (inl v) (inl w) = r u v w
       by r (inl u) (inr v) w = let l = slice_get_within ns i number u in let e = v.0 in let q = long.0 in absurd (omega (arith, l, e, q))
@@ -246,9 +249,12 @@ module _ (f : List ℕ → Option ℕ) where
       one_longer x true = omega arith
       one_longer x false = let z = length-append es (x ∷ []) in omega (arith, z)
 
-      by : ((es : List ℕ) → ((n : List ℕ) (x : ℕ) → is_among n known ≡ true → f n ≡ Some x → Contains es x) → length (insert_all nat_eq es (filter_map f ws)) ≤ length es + length (first_names known ws)) →
-          ((es : List ℕ) → ((n : List ℕ) (x : ℕ) → is_among n (w ∷ known) ≡ true → f n ≡ Some x → Contains es x) → length (insert_all nat_eq es (filter_map f ws)) ≤ length es + length (first_names (w ∷ known) ws)) →
-          (o : Option ℕ) → f w ≡ o → (t : Bool) → is_among w known ≡ t → length (insert_all nat_eq es (filter_map f (w ∷ ws))) ≤ length es + length (if t then first_names known ws else w ∷ first_names (w ∷ known) ws)
+      by : ((es : List ℕ) → ((n : List ℕ) (x : ℕ) → is_among n known ≡ true → f n ≡ Some x → Contains es x) → length
+          (insert_all nat_eq es (filter_map f ws)) ≤ length es + length (first_names known ws)) →
+          ((es : List ℕ) → ((n : List ℕ) (x : ℕ) → is_among n (w ∷ known) ≡ true → f n ≡ Some x → Contains es x) → length
+              (insert_all nat_eq es (filter_map f ws)) ≤ length es + length (first_names (w ∷ known) ws)) →
+          (o : Option ℕ) → f w ≡ o → (t : Bool) → is_among w known ≡ t → length (insert_all nat_eq es (filter_map f (w ∷ ws))) ≤ length es + length
+              (if t then first_names known ws else w ∷ first_names (w ∷ known) ws)
       by p q None e true s = subst (λ xs. length (insert_all nat_eq es xs) ≤ length es + length (first_names known ws)) (sym (none_first f w ws e)) (p es old)
       by p q None e false s =
           let h = q es (later es old (λ x is. let z = sym e ∙ is in absurd (cc))) in
@@ -283,7 +289,8 @@ named_one : (names words : List (List ℕ)) (j : ℕ) → Contains (numbers_of n
 named_one names [] j (i, l, at) = absurd (omega (arith, l))
 named_one names (u ∷ us) j has = by (named_one names us j) (first_place u names) refl has
   where
-    by : (Contains (numbers_of names us) j → (w : List ℕ) × Contains us w × (first_place w names ≡ Some j)) → (o : Option ℕ) → first_place u names ≡ o → Contains (number_list o ++ numbers_of names us) j → (w : List ℕ) × Contains (u ∷ us) w × (first_place w names ≡ Some j)
+    by : (Contains (numbers_of names us) j → (w : List ℕ) × Contains us w × (first_place w names ≡ Some j)) → (o : Option ℕ) → first_place u names ≡ o
+        → Contains (number_list o ++ numbers_of names us) j → (w : List ℕ) × Contains (u ∷ us) w × (first_place w names ≡ Some j)
     by r None e h = let (w, c, f) = r h in (w, Contains_tail u w us c, f)
     by r (Some m) e h = one (Contains-append_cases (m ∷ []) (numbers_of names us) j h)
       where
@@ -295,7 +302,8 @@ place_name : (names : List (List ℕ)) (w : List ℕ) (j : ℕ) → first_place 
 place_name [] w j e = absurd (cc)
 place_name (n ∷ ns) w j e = by (place_name ns w) (bytes_eq w n) refl (first_place w ns) refl e
   where
-    by : ((i : ℕ) → first_place w ns ≡ Some i → slice_get ns i ≡ Some w) → (t : Bool) → bytes_eq w n ≡ t → (o : Option ℕ) → first_place w ns ≡ o → (if t then Some 0 else option_map (λ i. suc i) o) ≡ Some j → slice_get (n ∷ ns) j ≡ Some w
+    by : ((i : ℕ) → first_place w ns ≡ Some i → slice_get ns i ≡ Some w) → (t : Bool) → bytes_eq w n ≡ t → (o : Option ℕ) → first_place w ns ≡ o →
+        (if t then Some 0 else option_map (λ i. suc i) o) ≡ Some j → slice_get (n ∷ ns) j ≡ Some w
     by r true s o f e = let z : 0 ≡ j = same_Some 0 j e in ap (slice_get (n ∷ ns)) (sym z) ∙ ap (λ w. Some w) (sym ((bytes_eq-Decides w n).0 s))
     by r false s None f e = absurd (cc)
     by r false s (Some i) f e = let z : suc i ≡ j = same_Some (suc i) j e in ap (slice_get (n ∷ ns)) (sym z) ∙ r i f

@@ -256,7 +256,8 @@ referring_last : (ss : List Clause) (s : Clause) → referring (ss ++ s ∷ []) 
 referring_last [] s = refl
 referring_last (Declared l ∷ ss) s = by (referring_last ss s) (refers l)
   where
-    by : referring (ss ++ s ∷ []) ≡ referring ss ++ referring (s ∷ []) → (t : Bool) → (if t then l ∷ referring (ss ++ s ∷ []) else referring (ss ++ s ∷ [])) ≡ (if t then l ∷ referring ss else referring ss) ++ referring (s ∷ [])
+    by : referring (ss ++ s ∷ []) ≡ referring ss ++ referring (s ∷ []) → (t : Bool) →
+        (if t then l ∷ referring (ss ++ s ∷ []) else referring (ss ++ s ∷ [])) ≡ (if t then l ∷ referring ss else referring ss) ++ referring (s ∷ [])
     by h true = ap (λ ls. l ∷ ls) h
     by h false = h
 referring_last (Said t ∷ ss) s = referring_last ss s
@@ -522,7 +523,8 @@ module _ (spot : ℕ → Spot) (ls : List Lexeme) where
   text_words (d ∷ ds) [] h = absurd h
   text_words (Declares d ∷ ds) (Declared l ∷ ss) (h, more) = by (text_words ds ss more) (refers l) refl
     where
-      by : accumulate_words ds ≡ map spot (all_of words_of (referring ss)) → (t : Bool) → refers l ≡ t → named_words d ++ accumulate_words ds ≡ map spot (all_of words_of (if t then l ∷ referring ss else referring ss))
+      by : accumulate_words ds ≡ map spot (all_of words_of (referring ss)) → (t : Bool) → refers l ≡ t → named_words d ++ accumulate_words ds ≡ map
+          spot (all_of words_of (if t then l ∷ referring ss else referring ss))
       by g true r = (λ i. shown_words spot d l h i ++ g i) ∙ sym (map-append spot (words_of l) (all_of words_of (referring ss)))
       by g false r = ap (λ ws. ws ++ accumulate_words ds) (shown_words spot d l h ∙ ap (map spot) (quiet_words l r).0) ∙ g
   text_words (Declares d ∷ ds) (Said t ∷ ss) (h, more) = absurd h
@@ -535,7 +537,8 @@ module _ (spot : ℕ → Spot) (ls : List Lexeme) where
   text_sig_words (d ∷ ds) [] h = absurd h
   text_sig_words (Declares d ∷ ds) (Declared l ∷ ss) (h, more) = accum_append (d ∷ []) (declarations ds) ∙ by (text_sig_words ds ss more) (refers l) refl
     where
-      by : accum_words (declarations ds) ≡ map spot (all_of sig_words_of (referring ss)) → (t : Bool) → refers l ≡ t → accum_words (d ∷ []) ++ accum_words (declarations ds) ≡ map spot (all_of sig_words_of (if t then l ∷ referring ss else referring ss))
+      by : accum_words (declarations ds) ≡ map spot (all_of sig_words_of (referring ss)) → (t : Bool) → refers l ≡ t → accum_words (d ∷ []) ++
+          accum_words (declarations ds) ≡ map spot (all_of sig_words_of (if t then l ∷ referring ss else referring ss))
       by g true r = (λ i. shown_sig_words spot d l h i ++ g i) ∙ sym (map-append spot (sig_words_of l) (all_of sig_words_of (referring ss)))
       by g false r = ap (λ ws. ws ++ accum_words (declarations ds)) (shown_sig_words spot d l h ∙ ap (map spot) (quiet_words l r).1) ∙ g
   text_sig_words (Declares d ∷ ds) (Said t ∷ ss) (h, more) = absurd h
