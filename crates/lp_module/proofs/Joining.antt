@@ -117,6 +117,7 @@ module _ (above m : Module) (a c : Copy) (from : Next) (sa : IsNumberedSignature
           got (y ∷ ys) zero at = ap (λ (e : KindEntry). e.name.items) (same_Some y x at)
           got (y ∷ ys) (suc i) at = got ys i at
 
+      names : (slice_get (kind_names m.signature) i ≡ Some own.0.name.items) × (get_or (kind_names m.signature) i [] ≡ own.0.name.items)
       names = name_own (kind_names m.signature) m.signature.kinds.items own.0 i refl own.1
 
       is_n : own.0.name.items ≡ n

@@ -138,7 +138,8 @@ same_entry u own same i x at =
     names [] (f ∷ fs) e = absurd (cc)
     names (x ∷ xs) [] e = absurd (cc)
     names (x ∷ xs) (f ∷ fs) e =
-        let h : x.name.items ≡ f.name.items = cc in
+        let row : kind_row x ≡ kind_row f = cc in
+        let h = ap (λ z. z.0) row in
         let t : map kind_row xs ≡ map kind_row fs = cc in
         let rest = names xs fs t in
         λ i. h i ∷ rest i
@@ -174,18 +175,7 @@ joined_by above m own u o kinds_are constants_are sm first apart ordered own_see
     let name : e.name.items ≡ x.name.items = first_name (λ (e : ConstantEntry). e.name.items) (λ (e : ConstantEntry). e.name.items)
         m.signature.constants.items own.constants.items i e x first.constants at at_x in
     let (y, at_y, name_y, count_y, named_y) = same_entry u own same i x at_x in
-    let here = of_own x at_x name (own_seen x (stands own.constants.items i x at_x)) in
-    let (z, at_z, name_z, count_z, named_z) = of_above x y at_x name_y (seen y (stands u.constants.items i y at_y)) in
-    record {
-      whole = subst IsWhole (sym here.1) (whole_at x at_x);
-      exported = type_exported m own o kinds_are sm first (type_tree m.signature.bank e.scheme.0) (type_tree own.bank x.scheme.0) here.1 (whole_at x at_x);
-      place = z.0;
-      seen = z.1;
-      at = at_z;
-      name = name_z ∙ name_y ∙ sym name;
-      count = count_z ∙ count_y ∙ sym here.0;
-      same = named_z ∙ named_y ∙ sym here.1;
-    }
+    made x y at_x name name_y count_y named_y (of_own x at_x name (own_seen x (stands own.constants.items i x at_x))) (of_above x y at_x name_y (seen y (stands u.constants.items i y at_y)))
   where
     whole_at : (x : ConstantEntry) → slice_get own.constants.items i ≡ Some x → IsWhole (named_in own x.scheme)
     whole_at x at_x = subst (λ x. IsWhole (named_in own x.scheme)) (get_or_from_slice_get own.constants.items i x x at_x) (ordered.whole i x (slice_get_within own.constants.items i x at_x))
@@ -201,3 +191,18 @@ joined_by above m own u o kinds_are constants_are sm first apart ordered own_see
     of_above x y at_x name_y (declared_one f has name_f count named_f) =
         let (j, at_f) = place_of above.signature.constants.items f has in
         ((j, f), at_f, name_f, count, named_f)
+
+    made : (x y : ConstantEntry) → slice_get own.constants.items i ≡ Some x → e.name.items ≡ x.name.items → y.name.items ≡ x.name.items → y.type_vars ≡ x.type_vars →
+        named_in u y.scheme ≡ named_in own x.scheme → (e.type_vars ≡ x.type_vars) × (named_in m.signature e.scheme ≡ named_in own x.scheme) →
+        (z : ℕ × ConstantEntry) × (slice_get above.signature.constants.items z.0 ≡ Some z.1) × (z.1.name.items ≡ y.name.items) × (z.1.type_vars ≡ y.type_vars) ×
+            (named_in above.signature z.1.scheme ≡ named_in u y.scheme) → SeesExported above m e
+    made x y at_x name name_y count_y named_y here (z, at_z, name_z, count_z, named_z) = record {
+      whole = subst IsWhole (sym here.1) (whole_at x at_x);
+      exported = type_exported m own o kinds_are sm first (type_tree m.signature.bank e.scheme.0) (type_tree own.bank x.scheme.0) here.1 (whole_at x at_x);
+      place = z.0;
+      seen = z.1;
+      at = at_z;
+      name = name_z ∙ name_y ∙ sym name;
+      count = count_z ∙ count_y ∙ sym here.0;
+      same = named_z ∙ named_y ∙ sym here.1;
+    }

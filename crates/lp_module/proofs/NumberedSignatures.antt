@@ -34,6 +34,12 @@ unknown known [] a i n e = absurd (cc)
 unknown known (x ∷ xs) (a, more) zero n e = ap (λ n. is_among n known) (sym (same_Some x n e)) ∙ a
 unknown known (x ∷ xs) (a, more) (suc i) n e = (drop_known n x known (unknown (x ∷ known) xs more i n e)).1
 
+-- the name of a row
+row_name : {A : Type 0} (rows : List (Row A)) (i : ℕ) (r : Row A) → slice_get rows i ≡ Some r → slice_get (names_in rows) i ≡ Some r.0
+row_name [] i r e = absurd (cc)
+row_name (y ∷ ys) zero r e = ap (λ r. Some r.0) (same_Some y r e)
+row_name (y ∷ ys) (suc i) r e = row_name ys i r e
+
 -- what stands beside one of them is found
 beside : {A : Type 0} (known : List (List ℕ)) (rows : List (Row A)) → Apart known (names_in rows) → (i : ℕ) (r : Row A) → slice_get rows i ≡ Some r → found r.0 rows ≡ Some r.1
 beside known [] a i r e = absurd (cc)
@@ -41,13 +47,8 @@ beside known (x ∷ xs) (a, more) zero r e =
     let same : x ≡ r = same_Some x r e in
     ap (λ t. cond t (Some x.1) (found r.0 xs)) ((bytes_eq-Decides r.0 x.0).1 (ap (λ r. r.0) (sym same))) ∙ ap (λ r. Some r.1) same
 beside known (x ∷ xs) (a, more) (suc i) r e =
-    let name : slice_get (names_in xs) i ≡ Some r.0 = name_at xs i r e in
+    let name = row_name xs i r e in
     ap (λ t. cond t (Some x.1) (found r.0 xs)) (drop_known r.0 x.0 known (unknown (x.0 ∷ known) (names_in xs) more i r.0 name)).0 ∙ beside (x.0 ∷ known) xs more i r e
-  where
-    name_at : (ys : List (Row A)) (i : ℕ) (r : Row A) → slice_get ys i ≡ Some r → slice_get (names_in ys) i ≡ Some r.0
-    name_at [] i r e = absurd (cc)
-    name_at (y ∷ ys) zero r e = ap (λ r. Some r.0) (same_Some y r e)
-    name_at (y ∷ ys) (suc i) r e = name_at ys i r e
 
 -- a name that stands in no row is not found
 not_there : {A : Type 0} (n : List ℕ) (rows more : List (Row A)) → is_among n (names_in rows) ≡ false → found n (rows ++ more) ≡ found n more
@@ -66,16 +67,16 @@ firsts_apart known (r ∷ rs) = by (is_among r.0 known) refl (firsts_apart known
     by true e h k = h
     by false e h k = (e, k)
 
-weaker : (w : List ℕ) (known ns : List (List ℕ)) → Apart (w ∷ known) ns → Apart known ns
-weaker w known ns a = fewer ns (λ n e. (drop_known n w known e).1) a
+fewer : (more less ns : List (List ℕ)) → ((n : List ℕ) → is_among n more ≡ false → is_among n less ≡ false) → Apart more ns → Apart less ns
+fewer more less [] f a = tt
+fewer more less (n ∷ ns) f (a, rest) = (f n a, fewer (n ∷ more) (n ∷ less) ns (λ m e. let d = drop_known m n more e in by (bytes_eq m n) (is_among m less) d.0 (f m d.1)) rest)
   where
-    fewer : {more less : List (List ℕ)} (ns : List (List ℕ)) → ((n : List ℕ) → is_among n more ≡ false → is_among n less ≡ false) → Apart more ns → Apart less ns
-    fewer [] f a = tt
-    fewer {more} {less} (n ∷ ns) f (a, rest) = (f n a, fewer ns (λ m e. let d = drop_known m n more e in by (bytes_eq m n) (is_among m less) d.0 (f m d.1)) rest)
-      where
-        by : (a b : Bool) → a ≡ false → b ≡ false → (a || b) ≡ false
-        by true b e f = absurd (true≢false e)
-        by false b e f = f
+    by : (a b : Bool) → a ≡ false → b ≡ false → (a || b) ≡ false
+    by true b e f = absurd (true≢false e)
+    by false b e f = f
+
+weaker : (w : List ℕ) (known ns : List (List ℕ)) → Apart (w ∷ known) ns → Apart known ns
+weaker w known ns a = fewer (w ∷ known) known ns (λ n e. (drop_known n w known e).1) a
 
 kinds_apart : (known : List (List ℕ)) (said : List (Row Said)) → Apart known (names_in said) → Apart known (names_in (kinds_among said))
 kinds_apart known [] a = tt
@@ -92,8 +93,10 @@ kind_at_place n [] rows i e f at = absurd (cc)
 kind_at_place n (x ∷ xs) [] i e f at = absurd (cc)
 kind_at_place n (x ∷ xs) (r ∷ rs) zero e f at =
     let same : x ≡ e = same_Some x e at in
-    let h : x.number ≡ n = cc in
-    let z : e.number ≡ n + 0 = omega (arith, h, ap (λ e. e.number) same) in
+    let row : kind_row x ≡ (r.0, (n, r.1)) = cc in
+    let h = ap (λ z. z.1.0) row in
+    let number = ap (λ (e : KindEntry). e.number) same in
+    let z : e.number ≡ n + 0 = omega (arith, h, number) in
     ap (λ e. Some (kind_row e)) same ∙ (λ i. Some (e.name.items, (z i, e.arity)))
 kind_at_place n (x ∷ xs) (r ∷ rs) (suc i) e f at =
     let t : map kind_row xs ≡ numbered (suc n) rs = cc in
@@ -120,19 +123,16 @@ constant_at_place n [] ns i e f at = absurd (cc)
 constant_at_place n (x ∷ xs) [] i e f at = absurd (cc)
 constant_at_place n (x ∷ xs) (w ∷ ws) zero e f at =
     let same : x ≡ e = same_Some x e at in
-    let h : x.number ≡ n = cc in
-    let z : e.number ≡ n + 0 = omega (arith, h, ap (λ e. e.number) same) in
+    let row : number_row x ≡ (w, n) = cc in
+    let h = ap (λ z. z.1) row in
+    let number = ap (λ (e : ConstantEntry). e.number) same in
+    let z : e.number ≡ n + 0 = omega (arith, h, number) in
     (z, ap (λ e. Some (number_row e)) same ∙ ap (λ k. Some (e.name.items, k)) z)
 constant_at_place n (x ∷ xs) (w ∷ ws) (suc i) e f at =
     let t : map number_row xs ≡ numbered_names (suc n) ws = cc in
     let z : suc n + i ≡ n + suc i = omega arith in
     let h = constant_at_place (suc n) xs ws i e t at in
     (h.0 ∙ z, h.1 ∙ ap (λ k. Some (e.name.items, k)) z)
-
-row_name : {A : Type 0} (rows : List (Row A)) (i : ℕ) (r : Row A) → slice_get rows i ≡ Some r → slice_get (names_in rows) i ≡ Some r.0
-row_name [] i r e = absurd (cc)
-row_name (y ∷ ys) zero r e = ap (λ r. Some r.0) (same_Some y r e)
-row_name (y ∷ ys) (suc i) r e = row_name ys i r e
 
 -- behind the standard names
 behind_standard : {A : Type 0} (standard rows : List (Row A)) → Apart (names_in standard) (names_in rows) → (i : ℕ) (r : Row A) → slice_get rows i ≡ Some r → found r.0 (standard ++ rows) ≡ Some r.1

@@ -71,7 +71,8 @@ kind_names_same [] [] e = refl
 kind_names_same [] (f ∷ fs) e = absurd (cc)
 kind_names_same (x ∷ xs) [] e = absurd (cc)
 kind_names_same (x ∷ xs) (f ∷ fs) e =
-    let h : x.name.items ≡ f.name.items = cc in
+    let row : kind_row x ≡ kind_row f = cc in
+    let h = ap (λ z. z.0) row in
     let t : map kind_row xs ≡ map kind_row fs = cc in
     let rest = kind_names_same xs fs t in
     λ i. h i ∷ rest i
@@ -81,7 +82,8 @@ constant_names_same b c [] [] e = refl
 constant_names_same b c [] (f ∷ fs) e = absurd (cc)
 constant_names_same b c (x ∷ xs) [] e = absurd (cc)
 constant_names_same b c (x ∷ xs) (f ∷ fs) e =
-    let h : x.name.items ≡ f.name.items = cc in
+    let row : typed_row b x ≡ typed_row c f = cc in
+    let h = ap (λ z. z.0) row in
     let t : map (typed_row b) xs ≡ map (typed_row c) fs = cc in
     let rest = constant_names_same b c xs fs t in
     λ i. h i ∷ rest i

@@ -1,7 +1,8 @@
 -- The modules of texts go with one another: each sees what those export that it accumulates, with the same types.
 use Rattle.std.specs.Global.{Global}
-use Rattle.std.proofs.Common.{◌≡◌, ◌≢◌, ℕ, zero, suc, ◌+◌, ◌<◌, ◌≤◌, List, [], ◌∷◌, ◌++◌, length, map, filter_map, cons_option, get_or, option_map, Bool, true, false, Option, Some, None, String, Vec, refl, sym, ap, subst, ◌∙◌, arith, inl, inr, true≢false}
-use Rattle.std.specs.Prelude.{◌⊎◌, ◌||◌, if◌then◌else◌, nat_eq, slice_get, slice_index_or, Contains, All, string_bytes, fold, list_any}
+use Rattle.std.proofs.Common.{◌≡◌, ◌≢◌, ℕ, zero, suc, ◌+◌, ◌<◌, ◌≤◌, List, [], ◌∷◌, ◌++◌, length, map, filter_map, get_or, option_map, Bool, true, false, Option, Some, None, String, Vec, refl, sym, ap, subst, ◌∙◌, arith, inl, inr, true≢false}
+use Rattle.std.specs.Prelude.{◌⊎◌, ◌||◌, if◌then◌else◌, nat_eq, slice_get, slice_index_or, Contains, All, string_bytes, fold}
+use Rattle.std.specs.List.{cons_option, list_any}
 use Rattle.std.specs.Str.{bytes_eq}
 use Rattle.std.proofs.lemmas.Bool.{eqb-true, eq-eqb}
 use Rattle.std.proofs.lemmas.List.{length-append, length-map}
@@ -77,8 +78,8 @@ module _ (files : List File) (g : Group SignatureText) (t : Group ModuleText) wh
   module_at ps ms (one_module qs _ ns _ p n before is e f) k m at = by (module_at qs ns before k m) (last_or ns n m k (ap (λ l. slice_get l k) (sym f) ∙ at))
     where
       by : (slice_get ns k ≡ Some m → (p : ℕ) × IsModuleAt files g t p m) → (slice_get ns k ≡ Some m) ⊎ ((k ≡ length ns) × (n ≡ m)) → (p : ℕ) × IsModuleAt files g t p m
-      by g (inl h) = g h
-      by g (inr h) = (p, subst (IsModuleAt files g t p) h.1 is)
+      by r (inl h) = r h
+      by r (inr h) = (p, subst (IsModuleAt files g t p) h.1 is)
 
   -- the signature at a place
   signature_at : (ns : List ℕ) (ss : List Signature) → AreSignaturesOf g ns ss → (i n : ℕ) → slice_get ns i ≡ Some n → (s : Signature) × (slice_get ss i ≡ Some s) × IsSignatureOf g n s
@@ -332,13 +333,13 @@ words_same (Declares (Fixities a b n) ∷ ls) = words_same ls
 words_same (Says raw ∷ ls) = words_same ls
 
 module _ (sources : Sources) (modules : List Module) (read : AreRead sources) (are : AreModules sources modules) where
-  files : List File
+  abbrev files : List File
   files = sources.files.items
 
-  g : Group SignatureText
+  abbrev g : Group SignatureText
   g = are.signatures
 
-  t : Group ModuleText
+  abbrev t : Group ModuleText
   t = are.texts
 
   -- signatures that texts give

@@ -173,9 +173,9 @@ zip_at : {A B C D : Type 0} (R : C → D → Type 0) (f : A → C) (g : B → D)
     (y : B) → slice_get ys i ≡ Some y → (x : A) × (slice_get xs i ≡ Some x) × R (f x) (g y)
 zip_at R f g [] [] z i y e = absurd (cc)
 zip_at R f g [] (b ∷ bs) z i y e = absurd z
-zip_at R f g (a ∷ as) [] z i y e = absurd z
-zip_at R f g (a ∷ as) (b ∷ bs) (r, z) zero y e = (a, refl, subst (λ b. R (f a) (g b)) (same_Some b y e) r)
-zip_at R f g (a ∷ as) (b ∷ bs) (r, z) (suc i) y e = zip_at R f g as bs z i y e
+zip_at R f g (a ∷ more) [] z i y e = absurd z
+zip_at R f g (a ∷ more) (b ∷ bs) (r, z) zero y e = (a, refl, subst (λ b. R (f a) (g b)) (same_Some b y e) r)
+zip_at R f g (a ∷ more) (b ∷ bs) (r, z) (suc i) y e = zip_at R f g more bs z i y e
 
 module _ (modules : List Module) (root : ℕ) (a : Assembled) (p : IsProgram modules root a) (j : AreJoined modules) (own s : Signature)
     (seen : IsSeenByQueries own a.kinds.items a.constants.items s) (apart : IsApart own) (ordered : IsOrdered own)
