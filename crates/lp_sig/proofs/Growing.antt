@@ -73,8 +73,8 @@ module _ (said more : List (Row Said)) (defs others : List (Row Definition)) whe
         kind_on s a k ts at v (meaning_more said more _ _ means) (kind_number_more said more _ k number) (list_stays text ν nodes a.items ts parts) e
     type_stays text ν nodes i t (abbreviation_on s a d body ts at v means declared apart inner parts e) =
         abbreviation_on s a d body ts at v (meaning_more said more _ _ means) (found_more _ defs others d declared) apart
-            (type_stays d.text (by_parameters d.text d.parameters) d.body.nodes.items d.body.root body inner)
-            (list_stays text ν nodes a.items ts parts) e
+        (type_stays d.text (by_parameters d.text d.parameters) d.body.nodes.items d.body.root body inner)
+        (list_stays text ν nodes a.items ts parts) e
     type_stays text ν nodes i t (an_arrow a b x y at left right e) = an_arrow a b x y at (type_stays text ν nodes a x left) (type_stays text ν nodes b y right) e
 
     list_stays : (text : List ℕ) (ν : ℕ → Spot → Option ℕ) (nodes : List RawTypeNode) (is : List ℕ) (ts : List Ty) → AreTypesOf said defs text ν nodes

@@ -152,8 +152,8 @@ pub one_seen : (first b now : Nodes) (old new : Constants) (made : List TypeId) 
 one_seen first b now old new made es i e all all_then s words h at x y g both counted before this premise =
     subst (All (IsSeenEntry now new made)) (sym (take_more es i e h ∙ ap (λ e. take i es ++ e ∷ []) (sym at)))
     (All-push (IsSeenEntry now new made) (take i es) e (seen_list_later b now old new made (take i es) y g
-        (λ k d l. counted_entry_later first b made (get_or (take i es) k d) x (All-take (IsCountedEntry first made) i es counted k d l))
-        (before (left premise))) (this (right premise)))
+    (λ k d l. counted_entry_later first b made (get_or (take i es) k d) x (All-take (IsCountedEntry first made) i es counted k d l))
+    (before (left premise))) (this (right premise)))
   where
     left : (all_then ≡ Alike) ⊎ AreNew words es → (all ≡ Alike) ⊎ AreNew words es
     left (inl q) = inl (both q).0
@@ -168,8 +168,10 @@ pub making_same : (m : Making) → Grows m m
 making_same m = record { bank = extends_same m.bodies.types.bank; constants = grows_same m.constants }
 
 pub making_then : (a b c : Making) → Grows a b → Grows b c → Grows a c
-making_then a b c x y = record { bank = extends-trans a.bodies.types.bank b.bodies.types.bank c.bodies.types.bank x.bank y.bank;
-    constants = grows_then a.constants b.constants c.constants x.constants y.constants }
+making_then a b c x y = record {
+  bank = extends-trans a.bodies.types.bank b.bodies.types.bank c.bodies.types.bank x.bank y.bank;
+  constants = grows_then a.constants b.constants c.constants x.constants y.constants;
+}
 
 pub making_parts : (a b : Making) → b.bodies ≡ a.bodies → b.constants ≡ a.constants → Grows a b
 making_parts a b e f = record {
@@ -186,12 +188,19 @@ counted_none b c e k has d is = none (subst (λ l. Contains l k) e has)
     none : Contains [] k → (d.scheme.0 < length b.types) × (d.type_vars ≡ length (first_variables (type_tree b d.scheme.0)))
     none (i, l, at) = absurd (omega (arith, l))
 
+-- types of one number are one
+abbrev type_of : ℕ → TypeId
+type_of n = record { 0 = n }
+
+pub same_type : (a b : TypeId) → a.0 ≡ b.0 → a ≡ b
+same_type a b e = ap type_of e
+
 -- a constant of a signature: a new one, one whose type has a fault, and one with a type
 pub seen_new : {E : Type 0} (r : Result Sight E) (b now : Nodes) (old new : Constants) (made : List TypeId) (e : ConstantEntry) (name : List ℕ)
     (s : TypeId) → slice_get made e.scheme.0 ≡ Some s → name ≡ e.name.items → Extends b now → OnOk r
     (PutsBehind old new name (record { type_vars = e.type_vars; scheme = s })) →
     IfOk r (λ sight. (words : List (List ℕ)) → HasWords old words → AreCounted b old → IsCountedEntry b made e → AreCounted now new ×
-        ((sight ≡ Alike) ⊎ (is_met_word e.name.items words ≡ false) → IsSeenEntry now new made e))
+    ((sight ≡ Alike) ⊎ (is_met_word e.name.items words ≡ false) → IsSeenEntry now new made e))
 seen_new (Ok sight) b now old new made e name s at is x put =
     λ words h all counted.
     let f = entry_new now old new made e name s at is put (counted_entry_later b now made e x counted) (counted_later b now old x all) in

@@ -250,8 +250,8 @@ module _ (said : List (Row Said)) (defs : List (Row Definition)) (agree : Agree 
     type_below text ν nodes i t k f (abbreviation_on s a d body ts at v means declared apart inner parts e) =
         let inside = type_below d.text (by_parameters d.text d.parameters) d.body.nodes.items d.body.root body (length d.parameters) (parameters_below d) inner in
         subst (Below k) (sym e) (fill_below ts k (list_below text ν nodes a.items ts k f parts) body
-            (subst (λ n. Below n body) (agree (spelled text s) d (length a.items) declared means ∙ sym (list_length text ν nodes a.items ts parts))
-            inside))
+        (subst (λ n. Below n body) (agree (spelled text s) d (length a.items) declared means ∙ sym (list_length text ν nodes a.items ts parts))
+        inside))
     type_below text ν nodes i t k f (an_arrow a b x y at left right e) = subst (Below k) (sym e) (type_below text ν nodes a x k f left, type_below text ν nodes b y k f right)
 
     list_below : (text : List ℕ) (ν : ℕ → Spot → Option ℕ) (nodes : List RawTypeNode) (places : List ℕ) (ts : List Ty) (k : ℕ) →
@@ -282,7 +282,7 @@ module _ (said : List (Row Said)) (defs : List (Row Definition)) (agree : Agree 
             abbreviation_on s a d body l.0 at v means declared apart inner l.1 refl,
             subst (λ t. Renames (IsPair text nodes ν) t (on_arguments l.0 body)) (sym e)
                 (fill_renames (IsPair text nodes ν) ts l.0 l.2 body (subst (λ n. Below n body)
-                    (agree (spelled text s) d (length a.items) declared means ∙ sym (list_length text ν nodes a.items ts parts)) inside)),
+                (agree (spelled text s) d (length a.items) declared means ∙ sym (list_length text ν nodes a.items ts parts)) inside)),
           )
       in_canon i t (an_arrow a b x y at left right e) =
           let l = in_canon a x left in

@@ -1,6 +1,6 @@
 -- Texts have one signature: the same steps, kinds, constants and types.
 use Rattle.std.specs.Global.{Global}
-use Rattle.std.proofs.Common.{◌≡◌, ℕ, suc, List, [], ◌∷◌, ◌++◌, map, refl, sym, ap, subst, ◌∙◌, Bool, true, false, true≢false, append_assoc}
+use Rattle.std.proofs.Common.{◌≡◌, ℕ, suc, List, [], ◌∷◌, ◌++◌, map, refl, sym, ap, subst, ◌∙◌, Bool, true≢false, append_assoc}
 use Rattle.std.specs.Prelude.{String, Vec}
 use Rattle.std.proofs.lemmas.List.{append-nil}
 use Rattle.lp_calculus.specs.Types.{Ty}
@@ -69,11 +69,11 @@ same_entries ts b c n (r ∷ rs) (e ∷ es) [] h k = absurd k
 same_entries ts b c n (r ∷ rs) (e ∷ es) (f ∷ fs) (h, hs) (k, ks) =
     let o = one_scheme (all_said ts) (all_definitions ts) (texts_agree ts) r.1 e.type_vars f.type_vars (type_tree b e.scheme.0) (type_tree c f.scheme.0) h.scheme k.scheme in
     λ i. (row_is b e r.0 n f.type_vars (type_tree c f.scheme.0) h.name h.number o.0 o.1 ∙ sym
-        (row_is c f r.0 n f.type_vars (type_tree c f.scheme.0) k.name k.number refl refl)) i ∷ same_entries ts b c (suc n) rs es fs hs ks i
+    (row_is c f r.0 n f.type_vars (type_tree c f.scheme.0) k.name k.number refl refl)) i ∷ same_entries ts b c (suc n) rs es fs hs ks i
 
 pub one_signature : (names : List (String Global)) (sources : List (Vec ℕ Global)) (texts : List SignatureText) (root : ℕ) (fixities others : List (Row (Fixity × ℕ))) (s t : Signature) →
     IsAccepted names sources texts root (map kind_row s.kinds.items) fixities s.bank s.abbreviations.items s.constants.items → IsAccepted names
-        sources texts root (map kind_row t.kinds.items) others t.bank t.abbreviations.items t.constants.items → AreSameSignatures s t
+    sources texts root (map kind_row t.kinds.items) others t.bank t.abbreviations.items t.constants.items → AreSameSignatures s t
 one_signature names sources texts root fixities others s t x y =
     let W = ways names sources texts in
     let order = one_load W x.loaded.order.1 y.loaded.order.1 in
@@ -82,13 +82,13 @@ one_signature names sources texts root fixities others s t x y =
     let together = said_together nothing_seen ts in
     let rows = declared_constants (constants_of_steps names sources texts x.steps) in
     let here = subst (λ said. AreInStep (IsConstant s.bank said (all_definitions ts)) 32 rows s.constants.items) together.0
-        (subst (λ defs. AreInStep (IsConstant s.bank (seen_in names sources texts x.steps).said defs) 32 rows s.constants.items) together.1
-        x.constants_are) in
+    (subst (λ defs. AreInStep (IsConstant s.bank (seen_in names sources texts x.steps).said defs) 32 rows s.constants.items) together.1
+    x.constants_are) in
     let there_steps = subst (λ ss. AreInStep (IsConstant t.bank (seen_in names sources texts ss).said (seen_in names sources texts ss).definitions) 32
-        (declared_constants (constants_of_steps names sources texts ss)) t.constants.items) same y.constants_are in
+    (declared_constants (constants_of_steps names sources texts ss)) t.constants.items) same y.constants_are in
     let there = subst (λ said. AreInStep (IsConstant t.bank said (all_definitions ts)) 32 rows t.constants.items) together.0
-        (subst (λ defs. AreInStep (IsConstant t.bank (seen_in names sources texts x.steps).said defs) 32 rows t.constants.items) together.1
-        there_steps) in
+    (subst (λ defs. AreInStep (IsConstant t.bank (seen_in names sources texts x.steps).said defs) 32 rows t.constants.items) together.1
+    there_steps) in
     record {
       kinds = x.kinds_are ∙ ap (λ ss. numbered 8 (kinds_among (declared_names (seen_in names sources texts ss).said))) (sym same) ∙ sym y.kinds_are;
       constants = same_entries ts s.bank t.bank 32 rows s.constants.items t.constants.items here there;

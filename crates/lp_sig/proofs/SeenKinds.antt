@@ -1,8 +1,8 @@
 -- The kinds of a signature that is seen, one after the other, with their numbers here.
-use Rattle.std.proofs.Common.{◌≡◌, ℕ, zero, suc, ◌+◌, ◌<◌, List, [], ◌∷◌, ◌++◌, length, map, get_or, take, drop, Bool, true, false, Option, Some, None, refl, sym, ap, subst, ◌∙◌, arith, inl, inr, append_assoc, append-nil}
-use Rattle.std.specs.Prelude.{◌⊎◌, nat_eq, if◌then◌else◌, slice_get, All}
+use Rattle.std.proofs.Common.{◌≡◌, ℕ, zero, suc, ◌+◌, ◌<◌, List, [], ◌∷◌, ◌++◌, length, map, get_or, take, drop, Bool, true, false, Option, Some, refl, sym, ap, subst, ◌∙◌, arith, inl, inr, append_assoc, append-nil}
+use Rattle.std.specs.Prelude.{◌⊎◌, nat_eq, if◌then◌else◌, slice_get}
 use Rattle.std.specs.List.{range_with_len}
-use Rattle.std.proofs.lemmas.List.{map-append, take-append-drop, length-map, take_more}
+use Rattle.std.proofs.lemmas.List.{map-append, take-append-drop, length-map}
 use Rattle.std.proofs.lemmas.List.FromFn.{get_or-range_with_len}
 use Rattle.std.proofs.lemmas.Option.{same_Some, slice_get-get_or}
 use Rattle.std.proofs.lemmas.Bool.{eqb-true}
@@ -36,7 +36,7 @@ module _ (said : List (Row Said)) (es : List KindEntry) (i : ℕ) (e : KindEntry
   all_said : said ++ map kind_said es ≡ (said ++ map kind_said (take (i + 1) es)) ++ map kind_said (drop (i + 1) es)
   all_said =
       sym (append_assoc said (map kind_said (take (i + 1) es)) (map kind_said (drop (i + 1) es)) ∙ ap (λ r. said ++ r)
-          (sym (map-append kind_said (take (i + 1) es) (drop (i + 1) es)) ∙ ap (map kind_said) (take-append-drop (i + 1) es)))
+      (sym (map-append kind_said (take (i + 1) es) (drop (i + 1) es)) ∙ ap (map kind_said) (take-append-drop (i + 1) es)))
 
   -- a kind at last is one by then
   kind_by_then : AreKinds (said ++ map kind_said es) (map (λ e. e.name.items) es) → IsKind (said ++ map kind_said (take (i + 1) es)) e.name.items
@@ -45,8 +45,8 @@ module _ (said : List (Row Said)) (es : List KindEntry) (i : ℕ) (e : KindEntry
       let more = map kind_said (drop (i + 1) es) in
       let n = length-map es (λ e. e.name.items) in
       let whole : IsKind (said ++ map kind_said es) e.name.items = subst (IsKind (said ++ map kind_said es))
-          (same_Some (get_or (map (λ e. e.name.items) es) i e.name.items) e.name.items
-          (sym (slice_get-get_or (map (λ e. e.name.items) es) i e.name.items (omega (arith, l, n))) ∙ name_at es i e l at))
+      (same_Some (get_or (map (λ e. e.name.items) es) i e.name.items) e.name.items
+      (sym (slice_get-get_or (map (λ e. e.name.items) es) i e.name.items (omega (arith, l, n))) ∙ name_at es i e l at))
       (all i e.name.items (omega (arith, l, n))) in
       let there : slice_get (names_in rows) i ≡ Some e.name.items = ap (λ ns. slice_get ns i) (names_are (take (i + 1) es)) ∙ taken es i l at in
       subst (λ r. IsKind (said ++ r) e.name.items) (append-nil rows)
@@ -62,9 +62,9 @@ module _ (said : List (Row Said)) (es : List KindEntry) (i : ℕ) (e : KindEntry
       ((k : ℕ) → new k ≡ (if nat_eq e.number k then Some number else old k)) →
       (all_then ≡ Alike → (all ≡ Alike) × (s ≡ Alike)) → HasItsNumber (said ++ map kind_said (take (i + 1) es)) e.name.items (number, s) →
       ((all ≡ Alike) ⊎ AreKinds (said ++ map kind_said es) (map (λ e. e.name.items) es) → (k n : ℕ) → old k ≡ Some n → (k < 8 + i) ×
-          (kind_name (said_kinds (said ++ map kind_said es)) n ≡ kind_name (map (λ e. e.name.items) es) k)) →
+      (kind_name (said_kinds (said ++ map kind_said es)) n ≡ kind_name (map (λ e. e.name.items) es) k)) →
       (all_then ≡ Alike) ⊎ AreKinds (said ++ map kind_said es) (map (λ e. e.name.items) es) → (k n : ℕ) → new k ≡ Some n → (k < 8 + (i + 1)) ×
-          (kind_name (said_kinds (said ++ map kind_said es)) n ≡ kind_name (map (λ e. e.name.items) es) k)
+      (kind_name (said_kinds (said ++ map kind_said es)) n ≡ kind_name (map (λ e. e.name.items) es) k)
   kinds_step numbers old new number s all all_then put both this before premise k n found = by (nat_eq e.number k) refl (sym (put k) ∙ found)
     where
       place : e.number ≡ 8 + i

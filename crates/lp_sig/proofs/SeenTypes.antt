@@ -1,9 +1,9 @@
 -- Types of a signature that is seen, by their nodes.
-use Rattle.std.proofs.Common.{◌≡◌, ℕ, ◌<◌, ◌≤◌, List, [], ◌∷◌, ◌++◌, length, map, Option, Some, sym, ap, ◌∙◌, arith, inl, inr}
+use Rattle.std.proofs.Common.{◌≡◌, ℕ, ◌<◌, List, length, map, Option, Some, ap, ◌∙◌, inl, inr}
 use Rattle.std.specs.Prelude.{◌⊎◌, slice_get}
-use Rattle.lp_calculus.specs.Types.{Ty, var, con, arrow, tys}
+use Rattle.lp_calculus.specs.Types.{var, con, arrow, tys}
 use Rattle.lp_term.specs.Node.{TypeShape, var_node, con_node, arrow_node}
-use Rattle.lp_term.specs.Nodes.{Nodes, Extends, type_tree, type_node_tree}
+use Rattle.lp_term.specs.Nodes.{Nodes, type_tree, type_node_tree}
 use Rattle.lp_term.specs.declared.node.TypeId.{TypeId}
 use Rattle.lp_sig.specs.Named.{named, kind_name}
 use Rattle.lp_sig.specs.Sighted.{AreSeenTypes}
@@ -26,7 +26,7 @@ module _ (there old new : Nodes) (kinds : ℕ → Option ℕ) (made : List TypeI
   pub con_type : (k n : ℕ) (ids parts : List TypeId) → shape ≡ con_node k (map (λ t. t.0) ids) → map (λ t. slice_get made t.0) ids ≡ map (λ t. Some t)
       parts → ((k < 8) × (n ≡ k)) ⊎ (kinds k ≡ Some n) → (t : TypeId) →
       (t.0 < length new.types) × (type_tree new t.0 ≡ con n (tys (map (type_tree old) (map (λ t. t.0) parts)))) → (names here : List (List ℕ)) →
-          AreNamed kinds names here → AreSeenTypes there old names here made →
+      AreNamed kinds names here → AreSeenTypes there old names here made →
       (t.0 < length new.types) × (named (kind_name here) (type_tree new t.0) ≡ named (kind_name names) (type_tree there id))
   con_type k n ids parts is e number t h names here all seen =
       (h.0, ap (named (kind_name here)) h.1 ∙ con_seen there old names here made seen id shape tree k n ids parts is e (number_here kinds names here k n number all))
@@ -34,5 +34,5 @@ module _ (there old new : Nodes) (kinds : ℕ → Option ℕ) (made : List TypeI
   pub arrow_type : (f g l r : TypeId) → shape ≡ arrow_node f.0 g.0 → slice_get made f.0 ≡ Some l → slice_get made g.0 ≡ Some r → (t : TypeId) →
       (t.0 < length new.types) × (type_tree new t.0 ≡ arrow (type_tree old l.0) (type_tree old r.0)) →
       (names here : List (List ℕ)) → AreNamed kinds names here → AreSeenTypes there old names here made → (t.0 < length new.types) ×
-          (named (kind_name here) (type_tree new t.0) ≡ named (kind_name names) (type_tree there id))
+      (named (kind_name here) (type_tree new t.0) ≡ named (kind_name names) (type_tree there id))
   arrow_type f g l r is a b t h names here all seen = (h.0, ap (named (kind_name here)) h.1 ∙ arrow_seen there old names here made seen id shape tree f g l r is a b)

@@ -7,7 +7,7 @@ use Rattle.std.proofs.lemmas.List.{length-append}
 use Rattle.std.proofs.lemmas.Option.{same_Some, slice_get_within}
 use Rattle.std.proofs.lemmas.Slice.Eq.{bytes_eq-Decides}
 use Rattle.lp_base.specs.declared.limits.TheConstants.{END_OF_NUMBERS}
-use Rattle.lp_calculus.specs.Types.{Ty, Tys, var, param, con, arrow, tys, no_types, types}
+use Rattle.lp_calculus.specs.Types.{var, con, arrow, tys}
 use Rattle.lp_term.specs.Node.{TypeShape, var_node, con_node, arrow_node}
 use Rattle.lp_term.specs.Nodes.{Nodes, Extends, type_tree, type_node_tree}
 use Rattle.lp_term.specs.declared.node.TypeId.{TypeId}
@@ -16,7 +16,7 @@ use Rattle.lp_sig.specs.Said.{Said, a_kind, names_in, kinds_among, declared_name
 use Rattle.lp_sig.specs.Standard.{standard_kinds}
 use Rattle.lp_sig.specs.Words.{standard_said, meaning_of, number_said}
 use Rattle.lp_sig.specs.Types.{one_or, kind_number_of}
-use Rattle.lp_sig.specs.Named.{NamedTy, NamedTys, no_named, more_named, named_con, named_arrow, named, all_named, kind_name}
+use Rattle.lp_sig.specs.Named.{NamedTy, NamedTys, more_named, named_con, named_arrow, named, all_named, kind_name}
 use Rattle.lp_sig.specs.Sighted.{said_kinds, IsKind, HasItsNumber, AreSeenTypes}
 use Rattle.lp_sig.specs.declared.see.Sight.{Sight}
 use Rattle.lp_sig.specs.declared.see.Sight.TheVariants.{Alike, Otherwise}
@@ -157,7 +157,8 @@ found_among : {A : Type 0} (name : List ℕ) (front : List (Row A)) (rows back :
 found_among name [] [] back i e = absurd (cc)
 found_among {A} name [] (x ∷ xs) back i e = by (bytes_eq name x.0) refl (λ j f. found_among name [] xs back j f) i e
   where
-    by : (t : Bool) → bytes_eq name x.0 ≡ t → ((j : ℕ) → slice_get (names_in xs) j ≡ Some name → (b : A) × (found name (xs ++ back) ≡ Some b)) → (i : ℕ) → slice_get (x.0 ∷ names_in xs) i ≡ Some name → (b : A) × (cond t (Some x.1) (found name (xs ++ back)) ≡ Some b)
+    by : (t : Bool) → bytes_eq name x.0 ≡ t → ((j : ℕ) → slice_get (names_in xs) j ≡ Some name → (b : A) × (found name (xs ++ back) ≡ Some b)) →
+        (i : ℕ) → slice_get (x.0 ∷ names_in xs) i ≡ Some name → (b : A) × (cond t (Some x.1) (found name (xs ++ back)) ≡ Some b)
     by true s h i e = (x.1, refl)
     by false s h zero e = absurd (true≢false (sym ((bytes_eq-Decides name x.0).1 (sym (same_Some x.0 name e))) ∙ s))
     by false s h (suc i) e = h i e
@@ -201,7 +202,7 @@ module _ (there here : Nodes) (names new : List (List ℕ)) (made : List TypeId)
   parts_seen (t ∷ ts) [] e = absurd (cc)
   parts_seen (t ∷ ts) (p ∷ ps) e =
       two_named (named (kind_name new) (type_tree here p.0)) (named (kind_name names) (type_tree there t.0)) _ _
-          (seen t.0 p (first_is (slice_get made t.0) p (map (λ t. slice_get made t.0) ts) (map (λ t. Some t) ps) e)).1
+      (seen t.0 p (first_is (slice_get made t.0) p (map (λ t. slice_get made t.0) ts) (map (λ t. Some t) ps) e)).1
       (parts_seen ts ps (rest_is (slice_get made t.0) (Some p) (map (λ t. slice_get made t.0) ts) (map (λ t. Some t) ps) e))
 
   module _ (id : ℕ) (shape : TypeShape) (tree : type_node_tree there shape ≡ type_tree there id) where
@@ -214,7 +215,7 @@ module _ (there here : Nodes) (names new : List (List ℕ)) (made : List TypeId)
         (kind_name new) (arrow (type_tree here l.0) (type_tree here r.0)) ≡ named (kind_name names) (type_tree there id)
     arrow_seen f t l r is e g =
         two_arrows (named (kind_name new) (type_tree here l.0)) (named (kind_name names) (type_tree there f.0))
-            (named (kind_name new) (type_tree here r.0)) (named (kind_name names) (type_tree there t.0)) (seen f.0 l e).1 (seen t.0 r g).1 ∙
+        (named (kind_name new) (type_tree here r.0)) (named (kind_name names) (type_tree there t.0)) (seen f.0 l e).1 (seen t.0 r g).1 ∙
         ap (named (kind_name names)) (sym (sym tree ∙ ap (type_node_tree there) is))
 
     pub var_seen : (n : ℕ) → shape ≡ var_node n → named (kind_name new) (var n) ≡ named (kind_name names) (type_tree there id)

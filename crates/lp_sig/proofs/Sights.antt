@@ -1,15 +1,15 @@
 -- Words with their numbers, and the signatures that they name, which go with those before them.
 use Rattle.std.specs.Global.{Global}
-use Rattle.std.proofs.Common.{◌≡◌, ℕ, zero, suc, ◌+◌, ◌<◌, ◌≤◌, List, [], ◌∷◌, ◌++◌, length, map, get_or, take, Bool, true, false, Option, Some, None, Vec, refl, sym, ap, subst, ◌∙◌, arith, true≢false, inl, inr, append_assoc, append-nil}
-use Rattle.std.specs.Prelude.{◌⊎◌, if◌then◌else◌, is_some, option_map, slice_get, Contains, All, ◌||◌}
+use Rattle.std.proofs.Common.{◌≡◌, ℕ, zero, suc, ◌+◌, ◌<◌, ◌≤◌, List, [], ◌∷◌, ◌++◌, length, map, get_or, take, Bool, true, false, Option, Some, None, Vec, Bor, refl, sym, ap, subst, ◌∙◌, arith, true≢false, inl, inr, append_assoc, append-nil}
+use Rattle.std.specs.Prelude.{◌⊎◌, if◌then◌else◌, is_some, option_map, option_copied, slice_get, Contains, All, ◌||◌}
+use Rattle.std.specs.Slice.{IsItemAt}
 use Rattle.std.specs.Str.{bytes_eq}
 use Rattle.std.specs.Map.{lookup}
 use Rattle.std.proofs.lemmas.List.{length-append, map-append, take_more}
-use Rattle.std.proofs.lemmas.List.Elements.{All-nil, All-append, Contains-append_cases, Contains-append_left, Contains-append_right}
-use Rattle.std.proofs.lemmas.Option.{same_Some, slice_get-get_or, slice_get_within}
+use Rattle.std.proofs.lemmas.List.Elements.{All-nil, All-append, All-push, Contains-append_cases, Contains-append_left, Contains-append_right}
+use Rattle.std.proofs.lemmas.Option.{same_Some, slice_get-get_or, slice_get_past}
 use Rattle.std.proofs.lemmas.Slice.Eq.{bytes_eq-Decides}
 use Rattle.indexmap.specs.IndexMap.{IndexMap}
-use Rattle.lp_fixity.proofs.Lookups.{lookup_put}
 use Rattle.lp_lemmas.proofs.Elements.{Contains_head, Contains_tail, Contains_single}
 use Rattle.lp_base.specs.declared.place.Spot.{Spot}
 use Rattle.lp_syntax.specs.declared.text.Declaration.{Declaration}
@@ -34,7 +34,7 @@ use Rattle.lp_sig.proofs.Finding.{first_new}
 use Rattle.lp_sig.proofs.Firsts.{place_among}
 use Rattle.lp_sig.proofs.Naming.{accum_append}
 use Rattle.lp_sig.proofs.Viewing.{seen_stays}
-use Rattle.lp_sig.proofs.Worded.{names_more, names_among}
+use Rattle.lp_sig.proofs.Worded.{names_more, names_among, mapped_more}
 
 -- one more word: one that has a number, and a new one
 same_first : (words : List (List ℕ)) (w : List ℕ) → is_among w words ≡ true → first_names [] (words ++ w ∷ []) ≡ first_names [] words
@@ -56,14 +56,14 @@ module _ {S : Type 0} (numbers : IndexMap (Vec ℕ Global) ℕ S) (words : List 
   pub numbers_more : (w : List ℕ) (key : Vec ℕ Global) (next : ℕ) (new : IndexMap (Vec ℕ Global) ℕ S) → is_some
       (lookup (λ k. bytes_eq w k.items) numbers.entries) ≡ false → key.items ≡ w → next ≡ length numbers.entries →
       ((name : List ℕ) → lookup (λ k. bytes_eq name k.items) new.entries ≡ (if bytes_eq name key.items then Some next else lookup
-          (λ k. bytes_eq name k.items) numbers.entries)) → length new.entries ≡ length numbers.entries + 1 → HasNumbers new (words ++ w ∷ [])
+      (λ k. bytes_eq name k.items) numbers.entries)) → length new.entries ≡ length numbers.entries + 1 → HasNumbers new (words ++ w ∷ [])
   numbers_more w key next new e is n added count =
       let among = word_known w false e in
       let f = sym (more_first words w among) in
       let l = length-append (first_names [] words) (w ∷ []) in (
         (λ name. added name ∙ ap (λ k. if bytes_eq name k then Some next else lookup (λ k. bytes_eq name k.items) numbers.entries) is ∙
             first_new w name (first_names [] words) next (lookup (λ k. bytes_eq name k.items) numbers.entries) (first_place w (first_names [] words))
-                (n ∙ h.1) (h.0 name) (ap is_some (sym (h.0 w)) ∙ e) refl ∙
+            (n ∙ h.1) (h.0 name) (ap is_some (sym (h.0 w)) ∙ e) refl ∙
             ap (first_place name) f),
         count ∙ ap (λ n. n + 1) h.1 ∙ sym l ∙ ap length f,
       )
@@ -111,7 +111,8 @@ new_name known (n ∷ ns) i w e = by (λ j f. new_name known ns j w f) (λ j f. 
     or_right true b f = absurd (true≢false f)
     or_right false b f = f
 
-    by : ((j : ℕ) → slice_get (first_names known ns) j ≡ Some w → is_among w known ≡ false) → ((j : ℕ) → slice_get (first_names (n ∷ known) ns) j ≡ Some w → is_among w (n ∷ known) ≡ false) → (t : Bool) → is_among n known ≡ t → (i : ℕ) →
+    by : ((j : ℕ) → slice_get (first_names known ns) j ≡ Some w → is_among w known ≡ false) →
+        ((j : ℕ) → slice_get (first_names (n ∷ known) ns) j ≡ Some w → is_among w (n ∷ known) ≡ false) → (t : Bool) → is_among n known ≡ t → (i : ℕ) →
         slice_get (if t then first_names known ns else n ∷ first_names (n ∷ known) ns) i ≡ Some w → is_among w known ≡ false
     by g h true s i e = g i e
     by g h false s zero e = ap (λ w. is_among w known) (sym (same_Some n w e)) ∙ s
@@ -128,8 +129,10 @@ pub place_first : (known ws : List (List ℕ)) (i : ℕ) (w : List ℕ) → slic
 place_first known [] i w e = absurd (cc)
 place_first known (n ∷ ns) i w e = by (λ j f. place_first known ns j w f) (λ j f. place_first (n ∷ known) ns j w f) (is_among n known) i e
   where
-    by : ((j : ℕ) → slice_get (first_names known ns) j ≡ Some w → first_place w (first_names known ns) ≡ Some j) → ((j : ℕ) → slice_get (first_names (n ∷ known) ns) j ≡ Some w → first_place w (first_names (n ∷ known) ns) ≡ Some j) →
-        (t : Bool) → (i : ℕ) → slice_get (if t then first_names known ns else n ∷ first_names (n ∷ known) ns) i ≡ Some w → first_place w (if t then first_names known ns else n ∷ first_names (n ∷ known) ns) ≡ Some i
+    by : ((j : ℕ) → slice_get (first_names known ns) j ≡ Some w → first_place w (first_names known ns) ≡ Some j) →
+        ((j : ℕ) → slice_get (first_names (n ∷ known) ns) j ≡ Some w → first_place w (first_names (n ∷ known) ns) ≡ Some j) →
+        (t : Bool) → (i : ℕ) → slice_get (if t then first_names known ns else n ∷ first_names (n ∷ known) ns) i ≡ Some w → first_place w
+        (if t then first_names known ns else n ∷ first_names (n ∷ known) ns) ≡ Some i
     by g h true i e = g i e
     by g h false zero e = ap (λ t. if t then Some 0 else option_map (λ i. suc i) (first_place w (first_names (n ∷ known) ns))) ((bytes_eq-Decides w n).1 (sym (same_Some n w e)))
     by g h false (suc i) e =
@@ -208,8 +211,11 @@ sights_front now new s n is l alike i h = sym (front now i (omega (arith, h, l))
     front (x ∷ xs) (suc i) h = front xs i (omega (arith, h))
 
 pub last_alike : (now new : List Sight) (s : Sight) (n : ℕ) → new ≡ now ++ s ∷ [] → length now ≡ n → AreAlike new (n + 1) → AreAlike now n × (s ≡ Alike)
-last_alike now new s n is l alike = (sights_front now new s n is (omega (arith, l)) (λ i h. alike i (omega (arith, h))), same_Some s Alike
-    (sym (last now) ∙ ap (λ l. slice_get l (length now)) (sym is) ∙ alike (length now) (omega (arith, l))))
+last_alike now new s n is l alike = (
+  sights_front now new s n is (omega (arith, l)) (λ i h. alike i (omega (arith, h))),
+  same_Some s Alike
+      (sym (last now) ∙ ap (λ l. slice_get l (length now)) (sym is) ∙ alike (length now) (omega (arith, l))),
+)
   where
     last : (xs : List Sight) → slice_get (xs ++ s ∷ []) (length xs) ≡ Some s
     last [] = refl
@@ -271,3 +277,46 @@ its_signatures sights text signatures modules l words ws is same all = subst (λ
   subst (λ ws. All (IsAlike sights 0 signatures) (map (λ s. spelled text s) ws)) (same ∙ sym (append-nil words.items)) all,
   All-nil (IsAlike sights (length (first_names [] signatures)) modules),
 )
+
+-- words of a declaration that have numbers
+pub more_modules : {S : Type 0} (numbers : IndexMap (Vec ℕ Global) ℕ S) (text : List ℕ) (l : Declaration) (words : Vec Spot Global) (ws : List Spot) → l ≡ Accumulate words → ws ≡ words.items →
+    (before : List (List ℕ)) → HasNumbers numbers (before ++ map (λ s. spelled text s) ws) → HasNumbers numbers (before ++ module_words text (l ∷ []))
+more_modules numbers text l words ws is same before h = subst (λ l. HasNumbers numbers (before ++ module_words text (l ∷ []))) (sym is)
+    (subst (λ ws. HasNumbers numbers (before ++ map (λ s. spelled text s) ws)) (same ∙ sym (append-nil words.items)) h)
+
+pub more_signatures : {S : Type 0} (numbers : IndexMap (Vec ℕ Global) ℕ S) (text : List ℕ) (l : Declaration) (words : Vec Spot Global) (ws : List Spot) → l ≡ AccumSig words → ws ≡ words.items →
+    (before : List (List ℕ)) → HasNumbers numbers (before ++ map (λ s. spelled text s) ws) → HasNumbers numbers (before ++ signature_words text (l ∷ []))
+more_signatures numbers text l words ws is same before h = subst (λ l. HasNumbers numbers (before ++ signature_words text (l ∷ []))) (sym is)
+    (subst (λ ws. HasNumbers numbers (before ++ map (λ s. spelled text s) ws)) (same ∙ sym (append-nil words.items)) h)
+
+-- one that has none
+pub nothing_heard : {S : Type 0} (numbers : IndexMap (Vec ℕ Global) ℕ S) (words : List ℕ → List Declaration → List (List ℕ)) (text : List ℕ) (l d : Declaration) → l ≡ d → words text (d ∷ []) ≡ [] →
+    (before : List (List ℕ)) → HasNumbers numbers before → HasNumbers numbers (before ++ words text (l ∷ []))
+nothing_heard numbers words text l d is none before h = no_numbers numbers before (words text (l ∷ [])) (ap (λ l. words text (l ∷ [])) is ∙ none) h
+
+-- what a look at a list gives
+copied_at : {X : Type 0} (xs : List X) (i : ℕ) (r : Option (Bor X)) → IsItemAt xs i r → option_copied r ≡ slice_get xs i
+copied_at xs i None h = sym (slice_get_past xs i h.3)
+copied_at xs i (Some x) h = sym (slice_get-get_or xs i x.now h.3.0 ∙ ap (λ y. Some y) (sym h.1))
+
+-- how the signature that a word names goes with those before it
+pub signature_at : {S : Type 0} (numbers : IndexMap (Vec ℕ Global) ℕ S) (sights : List Sight) (all : List (List ℕ)) (word : List ℕ)
+    (r : Option (Bor ℕ)) (n : Bor ℕ) (there : Option (Bor Sight)) (sight : Option Sight) →
+    HasNumbers numbers all → option_copied r ≡ lookup (λ k. bytes_eq word k.items) numbers.entries → r ≡ Some n → IsItemAt sights n.now there → sight
+    ≡ option_copied there → sight ≡ Some Alike → IsAlike sights 0 all word
+signature_at numbers sights all word r n there sight h looked is at copied alike =
+    alike_signature sights all word n.now (sym (h.0 word) ∙ sym looked ∙ ap option_copied is) (sym (copied_at sights n.now there at) ∙ sym copied ∙ alike)
+
+pub module_at : {S T : Type 0} (numbers : IndexMap (Vec ℕ Global) ℕ S) (signatures : IndexMap (Vec ℕ Global) ℕ T) (sights : List Sight)
+    (words all : List (List ℕ)) (word : List ℕ) (r : Option (Bor ℕ)) (n : Bor ℕ) (place many : ℕ)
+    (there : Option (Bor Sight)) (sight : Option Sight) → HasNumbers signatures words → HasNumbers numbers all → option_copied r ≡ lookup (λ k. bytes_eq word k.items) numbers.entries → r ≡ Some n →
+    many ≡ length signatures.entries → place ≡ n.now + many → IsItemAt sights place there → sight ≡ option_copied there → sight ≡ Some Alike → IsAlike sights (length (first_names [] words)) all word
+module_at numbers signatures sights words all word r n place many there sight k h looked is count sum at copied alike =
+    let m = k.1 in
+    alike_module sights (length (first_names [] words)) all word n.now place (sym (h.0 word) ∙ sym looked ∙ ap option_copied is)
+    (omega (arith, sum, count, m)) (sym (copied_at sights place there at) ∙ sym copied ∙ alike)
+
+-- one more word that is alike
+pub alike_more : (P : List ℕ → Type 0) (f : Spot → List ℕ) (xs : List Spot) (i : ℕ) (d : Spot) (w : List ℕ) → i < length xs → w ≡ f (get_or xs i d) →
+    All P (map f (take i xs)) → P w → All P (map f (take (i + 1) xs))
+alike_more P f xs i d w l is all this = subst (All P) (ap (λ w. map f (take i xs) ++ w ∷ []) is ∙ mapped_more f xs i d [] l) (All-push P (map f (take i xs)) w all this)

@@ -7,7 +7,7 @@ use Rattle.lp_calculus.specs.Types.{Ty, Tys, var, param, con, arrow, no_types, t
 use Rattle.lp_term.specs.Nodes.{Nodes, Extends, type_tree}
 use Rattle.lp_term.specs.declared.node.TypeId.{TypeId}
 use Rattle.lp_sig.specs.Schemes.{type_variables, types_variables, met, first_variables}
-use Rattle.lp_sig.specs.Named.{NamedTy, NamedTys, named_var, named_param, named_con, named_arrow, no_named, more_named, named, all_named, kind_name, kind_names, named_in, IsWhole, AreWhole, IsOrdered}
+use Rattle.lp_sig.specs.Named.{NamedTy, NamedTys, named_con, named_arrow, more_named, named, all_named, kind_name, kind_names, named_in, IsWhole, AreWhole, IsOrdered}
 use Rattle.lp_sig.specs.Rows.{Row}
 use Rattle.lp_sig.specs.Said.{Said, names_in}
 use Rattle.lp_sig.specs.Modules.{kind_said, abbreviation_said, said_of}
@@ -109,9 +109,12 @@ pub seen_stays : (old new : Making) (said more : List (Row Said)) (u : Signature
 seen_stays old new said more u o x g h e has =
     let (T, tree, same) = h e has in
     let (rest, f) = kinds_more said more in
-    let whole = subst IsWhole (sym same) (subst (λ e. IsWhole (named_in u e.scheme)) has.2 (o.whole has.0 e has.1)) in
-    (T, tree_later old.bodies.types.bank new.bodies.types.bank old.constants new.constants e.name.items T x g tree, ap (λ l. named (kind_name l) T) f
-        ∙ whole_stays (said_kinds said) rest T whole ∙ same)
+    let whole = subst IsWhole (sym same) (subst (λ e. IsWhole (named_in u e.scheme)) has.2 (o.whole has.0 e has.1)) in (
+      T,
+      tree_later old.bodies.types.bank new.bodies.types.bank old.constants new.constants e.name.items T x g tree,
+      ap (λ l. named (kind_name l) T) f
+          ∙ whole_stays (said_kinds said) rest T whole ∙ same,
+    )
 
 -- kinds that are so in the end are so when all kinds were seen
 pub names_are : (es : List KindEntry) → names_in (map kind_said es) ≡ map (λ e. e.name.items) es
@@ -130,7 +133,7 @@ kinds_by_then said u all k d l =
 -- all of it
 pub seen_whole : (u : Signature) (here now : Nodes) (old new : Constants) (said : List (Row Said)) (words : List (List ℕ)) (made : List TypeId) (sk sc : Sight) → IsOrdered u →
     ((sk ≡ Alike) ⊎ AreKinds (said ++ map kind_said u.kinds.items) (kind_names u) → AreSeenTypes u.bank here (kind_names u)
-        (said_kinds (said ++ map kind_said u.kinds.items)) made) → length made ≡ length u.bank.types → Extends here now →
+    (said_kinds (said ++ map kind_said u.kinds.items)) made) → length made ≡ length u.bank.types → Extends here now →
     (All (IsCountedEntry here made) u.constants.items → AreCounted now new × ((sc ≡ Alike) ⊎ AreNew words u.constants.items → All (IsSeenEntry now new made) u.constants.items)) →
     ((sk ≡ Alike) × (sc ≡ Alike)) ⊎ (AreKinds (said ++ said_of u) (kind_names u) × AreNew words u.constants.items) →
     AreCounted now new × ((e : ConstantEntry) → Contains u.constants.items e → (T : Ty) × HasTree now new e.name.items T × (named (kind_name (said_kinds (said ++ said_of u))) T ≡ named_in u e.scheme))
@@ -161,9 +164,12 @@ seen_whole u here now old new said words made sk sc o types_seen count x constan
     entries e has =
         let (T, tree, same) = entries_seen u here now new (said_kinds (said ++ map kind_said u.kinds.items)) made o seen count x all e has in
         let (rest, f) = kinds_more (said ++ map kind_said u.kinds.items) (map abbreviation_said u.abbreviations.items) in
-        let whole = subst IsWhole (sym same) (subst (λ e. IsWhole (named_in u e.scheme)) has.2 (o.whole has.0 e has.1)) in
-        (T, tree, ap (λ l. named (kind_name l) T) (ap said_kinds (sym (append_assoc said (map kind_said u.kinds.items)
-            (map abbreviation_said u.abbreviations.items))) ∙ f) ∙ whole_stays (said_kinds (said ++ map kind_said u.kinds.items)) rest T whole ∙ same)
+        let whole = subst IsWhole (sym same) (subst (λ e. IsWhole (named_in u e.scheme)) has.2 (o.whole has.0 e has.1)) in (
+          T,
+          tree,
+          ap (λ l. named (kind_name l) T) (ap said_kinds (sym (append_assoc said (map kind_said u.kinds.items)
+              (map abbreviation_said u.abbreviations.items))) ∙ f) ∙ whole_stays (said_kinds (said ++ map kind_said u.kinds.items)) rest T whole ∙ same,
+        )
 
 -- a premise by its first case
 pub left_by : {A B C : Type 0} → (A → C) → A ⊎ B → C ⊎ B

@@ -56,7 +56,10 @@ mod walk;
 
 pub use entries::{AbbreviationEntry, ConstantEntry, FixityEntry, KindEntry};
 pub use fault::SigFault;
-pub use laws::{a_type_has_one_scheme, names_are_apart, own_names_come_first, signatures_are_ordered, texts_have_one_signature, worked_signature};
+pub use laws::{
+    a_type_has_one_scheme, names_are_apart, own_names_come_first, signatures_are_ordered,
+    texts_have_one_signature, worked_signature,
+};
 pub use module_fault::ModuleSigFault;
 pub use module_text::module_signature;
 pub use pieces::{is_variable, spelled_at};

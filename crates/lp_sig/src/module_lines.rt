@@ -46,6 +46,23 @@ fn note(
     Ok(())
 }
 
+// Numbers a word, if it is new.
+fn number_word(
+    alloc: Global,
+    name: &[u8],
+    numbers: &mut IndexMap<Vec<u8>, usize>,
+) -> Result<(), Memory>
+    ensures { OnOk result ((before : List (List ℕ)) → HasNumbers numbers.old before → HasNumbers numbers.new (before ++ name.now ∷ [])) }
+{
+    if numbers.contains_key(name) {
+        return Ok(());
+    }
+    let key = Vec::from_slice(alloc, name)?;
+    let next = numbers.len();
+    numbers.insert(key, next)?;
+    Ok(())
+}
+
 // Numbers words by first place.
 fn number(
     alloc: Global,
@@ -56,37 +73,95 @@ fn number(
     ensures { OnOk result ((before : List (List ℕ)) → HasNumbers numbers.old before → HasNumbers numbers.new (before ++ map (λ s. spelled source.now s) words.now)) }
 {
     for word in words {
-        let name = spelled_at(source, *word);
-        if !numbers.contains_key(name) {
-            let key = Vec::from_slice(alloc, name)?;
-            let next = numbers.len();
-            numbers.insert(key, next)?;
-        }
+        number_word(alloc, spelled_at(source, *word), numbers)?;
     }
     Ok(())
 }
 
+// A table with no words.
+fn no_words(alloc: Global) -> IndexMap<Vec<u8>, usize>
+    ensures { HasNumbers result [] }
+{
+    IndexMap::new(alloc)
+}
+
+// Notes names that are declared with a kind or a type.
+fn note_if(
+    alloc: Global,
+    source: &[u8],
+    names: &[Spot],
+    is_declared: bool,
+    set: &mut IndexSet<Vec<u8>>,
+) -> Result<(), Memory> {
+    if !is_declared {
+        return Ok(());
+    }
+    note(alloc, source, names, set)
+}
+
 impl Said {
+    fn new(alloc: Global) -> Said
+        ensures signatures { HasNumbers result.accum_sigs [] }
+        ensures modules { HasNumbers result.accumulates [] }
+    {
+        Said {
+            alloc,
+            kinds: IndexSet::new(alloc),
+            constants: IndexSet::new(alloc),
+            accum_sigs: no_words(alloc),
+            accumulates: no_words(alloc),
+        }
+    }
+
     fn hear(&mut self, source: &[u8], declaration: &Declaration) -> Result<(), Memory>
         ensures signatures { OnOk result ((before : List (List ℕ)) → HasNumbers self.old.accum_sigs before → HasNumbers self.new.accum_sigs (before ++ signature_words source.now (declaration.now ∷ []))) }
         ensures modules { OnOk result ((before : List (List ℕ)) → HasNumbers self.old.accumulates before → HasNumbers self.new.accumulates (before ++ module_words source.now (declaration.now ∷ []))) }
     {
         match declaration {
-            Declaration::Kinds(names, _) => note(self.alloc, source, names, &mut self.kinds),
-            Declaration::LocalKinds(names, Some(_)) => {
-                note(self.alloc, source, names, &mut self.kinds)
+            Declaration::Kinds(names, _) => {
+                note(self.alloc, source, names.as_slice(), &mut self.kinds)
+            }
+            Declaration::LocalKinds(names, count) => {
+                let is_declared = count.is_some();
+                note_if(
+                    self.alloc,
+                    source,
+                    names.as_slice(),
+                    is_declared,
+                    &mut self.kinds,
+                )
             }
             Declaration::Constants(names, _) => {
-                note(self.alloc, source, names, &mut self.constants)
+                note(self.alloc, source, names.as_slice(), &mut self.constants)
             }
-            Declaration::Locals(names, Some(_)) => {
-                note(self.alloc, source, names, &mut self.constants)
+            Declaration::Locals(names, raw) => {
+                let is_declared = raw.is_some();
+                note_if(
+                    self.alloc,
+                    source,
+                    names.as_slice(),
+                    is_declared,
+                    &mut self.constants,
+                )
             }
+            Declaration::Abbreviation(_, _, _) => Ok(()),
             Declaration::Accumulate(words) => {
-                number(self.alloc, source, words, &mut self.accumulates)
+                number(self.alloc, source, words.as_slice(), &mut self.accumulates)
             }
-            Declaration::AccumSig(words) => number(self.alloc, source, words, &mut self.accum_sigs),
-            _ => Ok(()),
+            Declaration::AccumSig(words) => {
+                number(self.alloc, source, words.as_slice(), &mut self.accum_sigs)
+            }
+            Declaration::Fixities(_, _, _) => Ok(()),
+        }
+    }
+
+    fn hear_sentence(&mut self, source: &[u8], sentence: &Sentence) -> Result<(), Memory>
+        ensures signatures { OnOk result ((before : List (List ℕ)) → HasNumbers self.old.accum_sigs before → HasNumbers self.new.accum_sigs (before ++ signature_words source.now (declarations (sentence.now ∷ [])))) }
+        ensures modules { OnOk result ((before : List (List ℕ)) → HasNumbers self.old.accumulates before → HasNumbers self.new.accumulates (before ++ module_words source.now (declarations (sentence.now ∷ [])))) }
+    {
+        match sentence {
+            Sentence::Declares(declaration) => self.hear(source, declaration),
+            Sentence::Says(_) => Ok(()),
         }
     }
 
@@ -94,17 +169,9 @@ impl Said {
         ensures signatures { IfOk result (λ s. HasNumbers s.accum_sigs (signature_words source.now (declarations text.now.lines.items))) }
         ensures modules { IfOk result (λ s. HasNumbers s.accumulates (module_words source.now (declarations text.now.lines.items))) }
     {
-        let mut said = Said {
-            alloc,
-            kinds: IndexSet::new(alloc),
-            constants: IndexSet::new(alloc),
-            accum_sigs: IndexMap::new(alloc),
-            accumulates: IndexMap::new(alloc),
-        };
-        for line in &text.lines {
-            if let Sentence::Declares(declaration) = line {
-                said.hear(source, declaration)?;
-            }
+        let mut said = Said::new(alloc);
+        for at in 0..text.lines.len() {
+            said.hear_sentence(source, &text.lines[at])?;
         }
         Ok(said)
     }
@@ -122,9 +189,8 @@ impl Said {
         ensures { (signatures modules : List (List ℕ)) → HasNumbers self.now.accum_sigs signatures → HasNumbers self.now.accumulates modules → result ≡ Some Alike → IsAlike sights.now (length (first_names [] signatures)) modules word.now }
     {
         let number = self.accumulates.get(word)?;
-        sights
-            .get(number.saturating_add(self.accum_sigs.len()))
-            .copied()
+        let place = number.checked_add(self.accum_sigs.len())?;
+        sights.get(place).copied()
     }
 }
 

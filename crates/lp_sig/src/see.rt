@@ -181,11 +181,7 @@ impl Types {
     }
 
     // The types of a bank, in order.
-    fn see_types(
-        &mut self,
-        bank: &Bank,
-        kinds: &IndexMap<u32, u32>,
-    ) -> Result<Vec<TypeId>, Memory>
+    fn see_types(&mut self, bank: &Bank, kinds: &IndexMap<u32, u32>) -> Result<Vec<TypeId>, Memory>
         ensures kept { Extends self.old.bank self.new.bank }
         ensures count { IfOk result (λ made. length made.items ≡ length bank.now.types) }
         ensures seen { IfOk result (λ made. (names here : List (List ℕ)) → ((k n : ℕ) → get nat_eq kinds.now k ≡ Some n → kind_name here n ≡ kind_name names k) → AreSeenTypes bank.now self.new.bank names here made.items) }

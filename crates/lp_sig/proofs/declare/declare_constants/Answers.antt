@@ -15,9 +15,9 @@ returns-in_err-check_lengths-clause-exact c = λ from z rows k b s kc t.
 pub returns-in_err-declared-clause-exact : goal.returns-in_err-declared-clause-exact
 returns-in_err-declared-clause-exact c = λ from z rows k b s kc t.
     passed_up c.from_residual-in_err-declared.result c.in_err-declared.field-0.0 (IsConstantsFault from c.args.source.now z rows c.args.spots.now
-        c.args.raw.now) c.from_residual-in_err-declared.ensures.1
+    c.args.raw.now) c.from_residual-in_err-declared.ensures.1
     (refused_type from c.args.source.now z rows c.args.spots.now c.args.raw.now c.in_err-declared.field-0.0 c.in_ok-check_lengths.ensures.taken
-        (c.in_err-declared.ensures.exact z.said z.definitions k b))
+    (c.in_err-declared.ensures.exact z.said z.definitions k b))
 
 pub returns-clause-constants : goal.returns-clause-constants
 returns-clause-constants c = on_ok_weaker c.declare_all.result (λ h said defs rows k b kc.
@@ -32,7 +32,7 @@ returns-clause-exact c = λ from z rows k b s kc t.
     let ty = c.args.raw.now in
     IfErr-weaker c.declare_all.result _ (IsConstantsFault from text z rows c.args.spots.now ty)
     (λ e f. refused_name from text z rows c.args.spots.now ty c.args.bodies.now.types.bank c.scheme.new.self.types.bank c.args.constants.now
-        c.in_ok-declared.declared c.scheme.ensures.kept kc (c.in_ok-declared.ensures.typed z.said z.definitions k b) t e
+    c.in_ok-declared.declared c.scheme.ensures.kept kc (c.in_ok-declared.ensures.typed z.said z.definitions k b) t e
     c.in_ok-check_lengths.ensures.taken (c.in_ok-declared.ensures.stand z.said k) c.in_ok-declared.ensures.few f) c.declare_all.ensures.why
 
 pub returns-clause-few : goal.returns-clause-few
@@ -41,16 +41,16 @@ returns-clause-few c = λ from z k b s.
     let ty = c.args.raw.now in
     ok_with c.declare_all.result _ (λ stands. few_variables c.scheme.new.self.types.bank z.said z.definitions (written_in text ty) c.in_ok-declared.declared
     (c.in_ok-declared.ensures.settled z.said k (uses_settled from z c.args.bodies.now.bodies.items text ty s stands)) c.in_ok-declared.ensures.few
-        (c.in_ok-declared.ensures.typed z.said z.definitions k b))
+    (c.in_ok-declared.ensures.typed z.said z.definitions k b))
 
 pub returns-clause-declared : goal.returns-clause-declared
 returns-clause-declared c = λ from z rows k b s kc t.
     let text = c.args.source.now in
     let ty = c.args.raw.now in
     declared_all from text z rows c.args.spots.now ty c.args.bodies.now.types.bank c.scheme.new.self.types.bank c.args.constants.now
-        c.in_ok-declared.declared c.scheme.ensures.kept kc (c.in_ok-declared.ensures.typed z.said z.definitions k b) t
+    c.in_ok-declared.declared c.scheme.ensures.kept kc (c.in_ok-declared.ensures.typed z.said z.definitions k b) t
     c.declare_all.result c.declare_all.new.self (λ stands. c.in_ok-declared.ensures.settled z.said k
-        (uses_settled from z c.args.bodies.now.bodies.items text ty s stands)) c.declare_all.ensures.typed c.declare_all.ensures.taken
+    (uses_settled from z c.args.bodies.now.bodies.items text ty s stands)) c.declare_all.ensures.typed c.declare_all.ensures.taken
 
 pub returns-clause-grown : goal.returns-clause-grown
 returns-clause-grown c = c.declare_all.ensures.grown

@@ -9,9 +9,18 @@ use Rattle.lp_sig.proofs.Sights.{both_alike}
 use Rattle.lp_sig.proofs.module_text.declare_all.Goals as goal
 
 pub loop-at-init : goal.loop-at-init
-loop-at-init c = record { words = λ words h. subst (HasWords c.args.making.now.constants) (sym (append-nil words)) h; grown = making_same
-    c.args.making.now; alike = λ signatures modules h k. (All-nil (IsAlike c.args.lines.now.sights.now 0 signatures), All-nil
-    (IsAlike c.args.lines.now.sights.now (length (first_names [] signatures)) modules)); names = refl; operators = refl }
+loop-at-init c = record {
+  words = λ words h. subst (HasWords c.args.making.now.constants) (sym (append-nil words)) h;
+  grown = making_same
+      c.args.making.now;
+  alike = λ signatures modules h k. (
+    All-nil (IsAlike c.args.lines.now.sights.now 0 signatures),
+    All-nil
+        (IsAlike c.args.lines.now.sights.now (length (first_names [] signatures)) modules),
+  );
+  names = refl;
+  operators = refl;
+}
 
 pub loop-at-preserved : goal.loop-at-preserved
 loop-at-preserved c =
@@ -25,11 +34,11 @@ loop-at-preserved c =
       grown = making_then c.args.making.now c.loop-at.making c.declare_sentence.new.making c.loop-at.invariant.grown c.in_ok-declare_sentence.ensures.grown;
       alike = λ signatures modules h k.
           subst (AreWordsAlike c.args.lines.now.sights.now text signatures modules)
-              (lines_at lines c.loop-at.at c.index.result.now (omega (arith, c.loop-at-test.true, c.len-at-end.ensures, c.args.text.now.lines.ok))
-              c.index.ensures)
+          (lines_at lines c.loop-at.at c.index.result.now (omega (arith, c.loop-at-test.true, c.len-at-end.ensures, c.args.text.now.lines.ok))
+          c.index.ensures)
           (both_alike c.args.lines.now.sights.now text signatures modules (declarations (take c.loop-at.at lines))
-              (declarations (c.index.result.now ∷ [])) (c.loop-at.invariant.alike signatures modules h k)
-              (c.in_ok-declare_sentence.ensures.alike signatures modules h k));
+          (declarations (c.index.result.now ∷ [])) (c.loop-at.invariant.alike signatures modules h k)
+          (c.in_ok-declare_sentence.ensures.alike signatures modules h k));
       names = c.declare_sentence.ensures.names ∙ c.loop-at.invariant.names;
       operators = c.declare_sentence.ensures.operators ∙ c.loop-at.invariant.operators;
     }

@@ -1,13 +1,13 @@
-use Rattle.std.proofs.Common.{◌≡◌, ◌+◌, ◌≤◌, [], ◌++◌, ◌∙◌, length, get_or, sym, ap, subst, map, append_assoc, arith}
+use Rattle.std.proofs.Common.{◌+◌, ◌≤◌, [], ◌++◌, ◌∙◌, length, get_or, sym, ap, subst, map, append_assoc, arith}
 use Rattle.std.proofs.lemmas.Option.{same_Some, slice_get-get_or, slice_get_within}
 use Rattle.lp_base.specs.declared.limits.TheConstants.{END_OF_NUMBERS}
 use Rattle.lp_sig.specs.Rows.{fixity_row}
 use Rattle.lp_sig.specs.Knowing.{Knows, KnowsOperators}
 use Rattle.lp_sig.specs.Said.{numbered, said_in}
-use Rattle.lp_sig.specs.Named.{IsOrdered}
-use Rattle.lp_sig.specs.Sighted.{said_kinds}
+use Rattle.lp_sig.specs.Named.{IsOrdered, kind_names}
+use Rattle.lp_sig.specs.Sighted.{said_kinds, AreKinds}
 use Rattle.lp_sig.specs.Sights.{AreWordsAlike, signature_words, module_words}
-use Rattle.lp_sig.specs.Modules.{declarations, said_of, constants_of, of_each, said_in_module, constant_names, numbered_names}
+use Rattle.lp_sig.specs.Modules.{declarations, said_of, constants_of, of_each, said_in_module, constant_names, numbered_names, IsApart}
 use Rattle.lp_sig.specs.Worded.{HasWords}
 use Rattle.lp_sig.proofs.KnownConstants.{making_then, counted_none}
 use Rattle.lp_sig.proofs.Sights.{all_alike}
@@ -51,12 +51,12 @@ returns-clause-theirs c =
     (c.in_ok-announce_all.ensures.names (said_of own ++ of_each said_of used) (c.in_ok-sights.ensures.names [] c.new-making.ensures.names)) in
     let kinds = their_kinds m.names said s k c.in_ok-signature.ensures.kinds in
     let room = their_room m.names said k c.in_ok-signature.ensures.room in
-    let here = λ apart. own_kinds own (of_each said_of used ++ said_in text ds) apart
-        (subst (λ r. 8 + length (said_kinds r) ≤ END_OF_NUMBERS) (append_assoc (said_of own) (of_each said_of used) (said_in text ds)) room) in
+    let here : IsApart own → AreKinds (said_of own) (kind_names own) = λ apart. own_kinds own (of_each said_of used ++ said_in text ds) apart
+    (subst (λ r. 8 + length (said_kinds r) ≤ END_OF_NUMBERS) (append_assoc (said_of own) (of_each said_of used) (said_in text ds)) room) in
     let g = making_then c.see_all.new.making c.announce_all.new.making m c.in_ok-announce_all.ensures.grown c.in_ok-declare_all.ensures.grown in
     let none = counted_none c.new-making.result.bodies.types.bank c.new-making.result.constants c.new-making.ensures.empty in
     let alike = all_alike c.in_ok-sights.sights.items text ds (subst (λ ss. AreWordsAlike ss text (signature_words text ds) (module_words text ds) ds) c.as_slice.ensures.value
-        (c.in_ok-declare_all.ensures.alike (signature_words text ds) (module_words text ds) c.in_ok-said.ensures.signatures c.in_ok-said.ensures.modules)) in
+    (c.in_ok-declare_all.ensures.alike (signature_words text ds) (module_words text ds) c.in_ok-said.ensures.signatures c.in_ok-said.ensures.modules)) in
     record {
       own_ones = λ apart ordered. has_named m s said c.in_ok-signature.ensures.bank c.in_ok-signature.ensures.typed kinds own ordered
           (seen_stays c.see_all.new.making m (said_of own ++ of_each said_of used) (said_in text ds) own ordered g.bank g.constants
@@ -67,5 +67,5 @@ returns-clause-theirs c =
           has_named m s said c.in_ok-signature.ensures.bank c.in_ok-signature.ensures.typed kinds u o
           (seen_stays c.see_all.new.making m (said_of own ++ of_each said_of used) (said_in text ds) u o g.bank g.constants
           (c.in_ok-sights.ensures.seen [] [] c.new-making.ensures.names c.new-making.ensures.words none ordered (here apart) (own_new own apart) all
-              (i + 1) (omega (arith, l)) (λ j h. alike j (omega (arith, h, below))) i (omega arith) u at));
+          (i + 1) (omega (arith, l)) (λ j h. alike j (omega (arith, h, below))) i (omega arith) u at));
     }

@@ -19,19 +19,19 @@ returns-clause-words c = λ words h.
 pub returns-clause-operators : goal.returns-clause-operators
 returns-clause-operators c = λ said k.
     subst (λ o. KnowsOperators o (said ++ map fixity_row c.args.own.now.fixities.items)) (sym c.see_used.ensures.operators)
-        (c.in_ok-see_fixities.ensures.operators said (subst (λ o. KnowsOperators o said) (sym c.see.ensures.operators) k))
+    (c.in_ok-see_fixities.ensures.operators said (subst (λ o. KnowsOperators o said) (sym c.see.ensures.operators) k))
 
 pub returns-clause-grown : goal.returns-clause-grown
 returns-clause-grown c =
     making_then c.args.making.now c.see.new.self c.see_used.new.making (record { bank = c.see.ensures.kept; constants = c.in_ok-see.ensures.grown })
     (making_then c.see.new.self c.see_fixities.new.self c.see_used.new.making (making_parts c.see.new.self c.see_fixities.new.self
-        c.see_fixities.ensures.bodies c.see_fixities.ensures.constants) c.in_ok-sights.ensures.grown)
+    c.see_fixities.ensures.bodies c.see_fixities.ensures.constants) c.in_ok-sights.ensures.grown)
 
 pub returns-clause-own : goal.returns-clause-own
 returns-clause-own c = λ said words k h all ordered kinds new.
     let g = making_then c.see.new.self c.see_fixities.new.self c.see_used.new.making
-        (making_parts c.see.new.self c.see_fixities.new.self c.see_fixities.ensures.bodies c.see_fixities.ensures.constants)
-        c.in_ok-sights.ensures.grown in
+    (making_parts c.see.new.self c.see_fixities.new.self c.see_fixities.ensures.bodies c.see_fixities.ensures.constants)
+    c.in_ok-sights.ensures.grown in
     seen_stays c.see.new.self c.see_used.new.making (said ++ said_of c.args.own.now) (of_each said_of c.args.used.now) c.args.own.now ordered g.bank g.constants
     (c.in_ok-see.ensures.seen said words k h all ordered (inr (kinds, new))).1
 
@@ -41,4 +41,4 @@ returns-clause-seen c = λ said words k h all ordered kinds new used.
     (subst (λ n. Knows n (said ++ said_of c.args.own.now)) (sym c.see_fixities.ensures.names) (c.in_ok-see.ensures.names said k))
     (subst (λ n. HasWords n (words ++ constants_of c.args.own.now)) (sym c.see_fixities.ensures.constants) (c.in_ok-see.ensures.words words h))
     (counted_parts c.see.new.self c.see_fixities.new.self c.see_fixities.ensures.bodies c.see_fixities.ensures.constants
-        (c.in_ok-see.ensures.seen said words k h all ordered (inr (kinds, new))).0) used
+    (c.in_ok-see.ensures.seen said words k h all ordered (inr (kinds, new))).0) used

@@ -35,19 +35,19 @@ loop-at-preserved c = record {
   counted = λ said words k h all ordered alike.
       let y = last_alike c.loop-at.sights.items c.push.new.self.items c.in_ok-sight.sight c.loop-at.at c.in_ok-push.ensures.items c.loop-at.invariant.count alike in
       (c.in_ok-sight.ensures.seen (said ++ of_each said_of (take c.loop-at.at c.args.used.now))
-          (words ++ of_each constants_of (take c.loop-at.at c.args.used.now)) (c.loop-at.invariant.names said k) (c.loop-at.invariant.words words h)
-          (c.loop-at.invariant.counted said words k h all ordered y.0) (at_is IsOrdered c.args.used.now c.loop-at.at c.index-used-at.result
-              c.loop-at-test.true c.index-used-at.is ordered) (inl y.1)).0;
+      (words ++ of_each constants_of (take c.loop-at.at c.args.used.now)) (c.loop-at.invariant.names said k) (c.loop-at.invariant.words words h)
+      (c.loop-at.invariant.counted said words k h all ordered y.0) (at_is IsOrdered c.args.used.now c.loop-at.at c.index-used-at.result
+      c.loop-at-test.true c.index-used-at.is ordered) (inl y.1)).0;
   seen = λ said words k h all ordered n low alike i below u found.
       let before = said ++ of_each said_of (take c.loop-at.at c.args.used.now) in
       subst (λ r. SeenSo c.see.new.self r u) (signatures_more said_of c.args.used.now c.loop-at.at c.index-used-at.result said c.loop-at-test.true c.index-used-at.is)
       (seen_so_far c.loop-at.making c.see.new.self said c.args.used.now c.loop-at.at c.index-used-at.result c.loop-at.sights.items
-          c.push.new.self.items c.in_ok-sight.sight c.loop-at-test.true c.index-used-at.is c.in_ok-push.ensures.items c.loop-at.invariant.count
-          (record { bank = c.see.ensures.kept; constants = c.in_ok-sight.ensures.grown }) ordered
+      c.push.new.self.items c.in_ok-sight.sight c.loop-at-test.true c.index-used-at.is c.in_ok-push.ensures.items c.loop-at.invariant.count
+      (record { bank = c.see.ensures.kept; constants = c.in_ok-sight.ensures.grown }) ordered
       (λ n. c.loop-at.invariant.seen said words k h all ordered n)
       (λ alike s. (c.in_ok-sight.ensures.seen before (words ++ of_each constants_of (take c.loop-at.at c.args.used.now)) (c.loop-at.invariant.names said k) (c.loop-at.invariant.words words h)
-          (c.loop-at.invariant.counted said words k h all ordered alike) (at_is IsOrdered c.args.used.now c.loop-at.at c.index-used-at.result
-              c.loop-at-test.true c.index-used-at.is ordered) (inl s)).1)
+      (c.loop-at.invariant.counted said words k h all ordered alike) (at_is IsOrdered c.args.used.now c.loop-at.at c.index-used-at.result
+      c.loop-at-test.true c.index-used-at.is ordered) (inl s)).1)
       n low alike i below u found);
 }
 

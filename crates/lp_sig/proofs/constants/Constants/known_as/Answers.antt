@@ -53,4 +53,4 @@ returns-in-Some-declared-clause-tree c = λ words h all.
     let x = c.in-Some-get.constant.now in
     let at : x ≡ get_or c.args.self.now.constants.items c.in-Some-of.place x = c.in-Some-get.ensures.lookup.1 ∙ ap (λ xs. get_or xs c.in-Some-of.place x) c.deref.ensures.value in
     tree_declared c.args.types.now.bank c.args.types.now.bank c.args.self.now c.args.word.now words c.in-Some-of.place x c.in-Some-declared.declared h
-        c.in-Some-of.ensures at c.in-Some-declared.is all (extends_same c.args.types.now.bank)
+    c.in-Some-of.ensures at c.in-Some-declared.is all (extends_same c.args.types.now.bank)

@@ -1,4 +1,4 @@
-use Rattle.std.proofs.Common.{◌++◌, [], sym, subst, map, take, take_all, append-nil}
+use Rattle.std.proofs.Common.{◌++◌, sym, subst, map, take, take_all, append-nil}
 use Rattle.std.specs.Prelude.{All}
 use Rattle.std.proofs.lemmas.List.Elements.{All-nil}
 use Rattle.lp_term.proofs.Trees.{extends_same, extends-trans}
@@ -30,12 +30,14 @@ loop-at-preserved c =
           let now = i.3 words h all counted in
           let e = c.index-entries-at.result in
           let here = counted_entry_later c.args.types.now.bank c.loop-at.types.bank c.args.made.now e i.1
-              (subst (IsCountedEntry c.args.types.now.bank c.args.made.now) (sym c.index-entries-at.is) (counted c.loop-at.at e c.loop-at-test.true))
-              in
-          let step = c.in_ok-sight.ensures.seen (words ++ map (λ e. e.name.items) before) (i.0 words h) now.0 here in
-          (step.0, one_seen c.args.types.now.bank c.loop-at.types.bank c.see.new.types.bank c.loop-at.self c.see.new.self c.args.made.now es
-              c.loop-at.at e c.loop-at.all c.and.result c.in_ok-sight.sight words c.loop-at-test.true c.index-entries-at.is i.1 c.see.ensures.kept
-              c.in_ok-sight.ensures.grown c.and.ensures counted now.1 step.1)),
+          (subst (IsCountedEntry c.args.types.now.bank c.args.made.now) (sym c.index-entries-at.is) (counted c.loop-at.at e c.loop-at-test.true))
+          in
+          let step = c.in_ok-sight.ensures.seen (words ++ map (λ e. e.name.items) before) (i.0 words h) now.0 here in (
+            step.0,
+            one_seen c.args.types.now.bank c.loop-at.types.bank c.see.new.types.bank c.loop-at.self c.see.new.self c.args.made.now es
+                c.loop-at.at e c.loop-at.all c.and-all.result c.in_ok-sight.sight words c.loop-at-test.true c.index-entries-at.is i.1 c.see.ensures.kept
+                c.in_ok-sight.ensures.grown c.and-all.ensures counted now.1 step.1,
+          )),
     )
 
 pub returns-clause-words : goal.returns-clause-words

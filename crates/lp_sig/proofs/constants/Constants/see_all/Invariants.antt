@@ -9,6 +9,6 @@ use Rattle.lp_sig.proofs.constants.Constants.see_all.Given as goal
 abbrev pub invariant-loop-at : goal.invariant-loop-at
 invariant-loop-at l =
     ((words : List (List ℕ)) → HasWords l.fn.self words → HasWords l.self (words ++ map (λ e. e.name.items) (take l.at l.entries))) × Extends
-        l.fn.types.bank l.types.bank × GrowsBehind l.fn.self l.self ×
+    l.fn.types.bank l.types.bank × GrowsBehind l.fn.self l.self ×
     ((words : List (List ℕ)) → HasWords l.fn.self words → AreCounted l.fn.types.bank l.fn.self → All (IsCountedEntry l.fn.types.bank l.made) l.entries →
     AreCounted l.types.bank l.self × ((l.all ≡ Alike) ⊎ AreNew words l.entries → All (IsSeenEntry l.types.bank l.self l.made) (take l.at l.entries)))

@@ -1,7 +1,8 @@
-use Rattle.std.proofs.Common.{◌≡◌, ◌×◌, ◌++◌, ◌∙◌, sym, ap, subst, map, length, append_assoc, inl, inr}
+use Rattle.std.proofs.Common.{◌≡◌, ℕ, Some, ◌++◌, ◌∙◌, sym, ap, subst, map, length, append_assoc}
 use Rattle.std.specs.Prelude.{◌⊎◌, nat_eq, All}
 use Rattle.std.specs.List.{range_with_len}
 use Rattle.std.specs.Map.{lookup}
+use Rattle.indexmap.specs.IndexMap.{get}
 use Rattle.lp_term.specs.Nodes.{Extends}
 use Rattle.lp_term.proofs.Trees.{extends-trans}
 use Rattle.lp_sig.specs.Knowing.{Knows}
@@ -47,19 +48,19 @@ returns-clause-seen c = λ said words k h all ordered premise.
     let sk = c.in_ok-of_kinds.of_kinds in
     let sc = c.in_ok-of_constants.of_constants in
     let there = c.see_abbreviations.new.self in
-    let none = λ j n f. let g = ap (lookup (λ i. nat_eq i j)) (sym c.new-numbers.ensures.empty) ∙ f in absurd (cc) in
+    let none : (j n : ℕ) → get nat_eq c.new-numbers.result j ≡ Some n → ⊥ = λ j n f. let g = ap (lookup (λ i. nat_eq j i)) (sym c.new-numbers.ensures.empty) ∙ f in absurd (cc) in
     let of_kinds = subst (λ es. (sk ≡ Alike) ⊎ AreKinds (said ++ map kind_said es) (map (λ e. e.name.items) es) → AreKindsHere
-        (said ++ map kind_said es) (map (λ e. e.name.items) es) c.see_kinds.new.kinds) c.kinds.ensures
-        (c.in_ok-of_kinds.ensures.here said k (subst (λ es. map (λ e. e.number) es ≡ range_with_len 8 (length es)) (sym c.kinds.ensures) ordered.kinds) none) in
+    (said ++ map kind_said es) (map (λ e. e.name.items) es) c.see_kinds.new.kinds) c.kinds.ensures
+    (c.in_ok-of_kinds.ensures.here said k (subst (λ es. map (λ e. e.number) es ≡ range_with_len 8 (length es)) (sym c.kinds.ensures) ordered.kinds) none) in
     let names = said_kinds (said ++ map kind_said u.kinds.items) in
     let known = subst (λ t. AreCounted t.bank there.constants) (sym c.see_abbreviations.ensures.types)
-        (subst (AreCounted here) (sym c.see_abbreviations.ensures.constants) (counted_later c.args.self.now.bodies.types.bank here constants c.see_types.ensures.kept all)) in
+    (subst (AreCounted here) (sym c.see_abbreviations.ensures.constants) (counted_later c.args.self.now.bodies.types.bank here constants c.see_types.ensures.kept all)) in
     let words_then = subst (λ k. HasWords k words) (sym c.see_abbreviations.ensures.constants) h in
     let of_constants = subst (λ es. All (IsCountedEntry here made) es → AreCounted now new × ((sc ≡ Alike) ⊎ AreNew words es → All (IsSeenEntry now new made) es)) c.constants.ensures
-        (subst (λ ms. All (IsCountedEntry here ms) c.constants.result.now → AreCounted now new ×
-            ((sc ≡ Alike) ⊎ AreNew words c.constants.result.now → All (IsSeenEntry now new ms) c.constants.result.now)) c.as_slice-2.ensures.value
-        (λ counted. c.in_ok-of_constants.ensures.seen words words_then known (subst
-            (λ t. All (IsCountedEntry t.bank c.as_slice-2.result.now) c.constants.result.now) (sym c.see_abbreviations.ensures.types) counted))) in
+    (subst (λ ms. All (IsCountedEntry here ms) c.constants.result.now → AreCounted now new ×
+    ((sc ≡ Alike) ⊎ AreNew words c.constants.result.now → All (IsSeenEntry now new ms) c.constants.result.now)) c.as_slice-2.ensures.value
+    (λ counted. c.in_ok-of_constants.ensures.seen words words_then known (subst
+    (λ t. All (IsCountedEntry t.bank c.as_slice-2.result.now) c.constants.result.now) (sym c.see_abbreviations.ensures.types) counted))) in
     seen_whole u here now constants new said words made sk sc ordered
     (λ q. subst (λ b. AreSeenTypes b here (kind_names u) names made) c.bank.ensures (c.in_ok-made.ensures.seen (kind_names u) names (of_kinds q)))
     (c.in_ok-made.ensures.count ∙ ap (λ b. length b.types) c.bank.ensures)

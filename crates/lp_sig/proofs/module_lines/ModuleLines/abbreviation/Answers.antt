@@ -1,4 +1,3 @@
-
 use Rattle.std.proofs.Common.{sym, subst}
 use Rattle.lp_sig.specs.Sighted.{GrowsBehind}
 use Rattle.lp_sig.proofs.KnownConstants.{grows_same}

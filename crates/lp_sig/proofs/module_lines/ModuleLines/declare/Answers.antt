@@ -89,9 +89,9 @@ returns-in-Fixities-clause-alike c = λ signatures modules h k. none_words c.arg
 pub returns-in-Accumulate-clause-alike : goal.returns-in-Accumulate-clause-alike
 returns-in-Accumulate-clause-alike c = on_ok_weaker c.accumulate.result (λ f signatures modules h k.
     its_modules c.args.self.now.sights.now c.args.self.now.source.now signatures modules c.args.declaration.now _ _ c.in-Accumulate.is
-        c.as_slice-in-Accumulate.ensures.value (f signatures modules h k)) c.accumulate.ensures
+    c.as_slice-in-Accumulate.ensures.value (f signatures modules h k)) c.accumulate.ensures
 
 pub returns-in-AccumSig-clause-alike : goal.returns-in-AccumSig-clause-alike
 returns-in-AccumSig-clause-alike c = on_ok_weaker c.accum_sig.result (λ f signatures modules h k.
     its_signatures c.args.self.now.sights.now c.args.self.now.source.now signatures modules c.args.declaration.now _ _ c.in-AccumSig.is
-        c.as_slice-in-AccumSig.ensures.value (f signatures h)) c.accum_sig.ensures
+    c.as_slice-in-AccumSig.ensures.value (f signatures h)) c.accum_sig.ensures

@@ -1,4 +1,3 @@
-
 use Rattle.lp_sig.proofs.module_lines.ModuleLines.local.Goals as goal
 
 pub returns-clause-grown : goal.returns-clause-grown

@@ -9,19 +9,19 @@ use Rattle.lp_sig.proofs.store.Types.see_type.Goals as goal
 pub returns-in-Var-clause-seen : goal.returns-in-Var-clause-seen
 returns-in-Var-clause-seen c = IfOk-weaker c.var.result _ _
     (λ t h. var_type c.args.bank.now c.args.self.now.bank c.var.new.self.bank (get nat_eq c.args.kinds.now) c.args.made.now c.args.id.0
-        (type_shape c.type_node.result) c.type_node.ensures.tree c.in-Var.number (ap type_shape c.in-Var.is) t h)
+    (type_shape c.type_node.result) c.type_node.ensures.tree c.in-Var.number (ap type_shape c.in-Var.is) t h)
     c.var.ensures.tree
 
 pub returns-in_ok-parts-in-Con-clause-seen : goal.returns-in_ok-parts-in-Con-clause-seen
 returns-in_ok-parts-in-Con-clause-seen c = IfOk-weaker c.con.result _ _
     (λ t h. con_type c.args.bank.now c.args.self.now.bank c.con.new.self.bank (get nat_eq c.args.kinds.now) c.args.made.now c.args.id.0
-        (type_shape c.type_node.result) c.type_node.ensures.tree c.in-Con.kind c.in_ok-number-in-Con.number
+    (type_shape c.type_node.result) c.type_node.ensures.tree c.in-Con.kind c.in_ok-number-in-Con.number
     c.in-Con.ids.now c.as_slice.result.now (ap type_shape c.in-Con.is) (c.in_ok-parts-in-Con.ensures ∙ ap (map (λ t. Some t)) (sym c.as_slice.ensures.value)) c.in_ok-number-in-Con.ensures t h)
     c.con.ensures.tree
 
 pub returns-in_ok-right-in-Arrow-clause-seen : goal.returns-in_ok-right-in-Arrow-clause-seen
 returns-in_ok-right-in-Arrow-clause-seen c = IfOk-weaker c.arrow.result _ _
     (λ t h. arrow_type c.args.bank.now c.args.self.now.bank c.arrow.new.self.bank (get nat_eq c.args.kinds.now) c.args.made.now c.args.id.0
-        (type_shape c.type_node.result) c.type_node.ensures.tree c.in-Arrow.from c.in-Arrow.to
+    (type_shape c.type_node.result) c.type_node.ensures.tree c.in-Arrow.from c.in-Arrow.to
     c.in_ok-left-in-Arrow.left c.in_ok-right-in-Arrow.right (ap type_shape c.in-Arrow.is) c.in_ok-left-in-Arrow.ensures c.in_ok-right-in-Arrow.ensures t h)
     c.arrow.ensures.tree

@@ -1,4 +1,4 @@
-use Rattle.std.proofs.Common.{◌≡◌, ◌++◌, ◌∷◌, [], ◌+◌, ◌∙◌, length, sym, ap, subst, arith}
+use Rattle.std.proofs.Common.{◌∷◌, [], ◌+◌, ◌∙◌, length, sym, ap, subst, arith}
 use Rattle.std.proofs.lemmas.List.{length-append}
 use Rattle.lp_term.proofs.Trees.{extends_same, extends-trans}
 use Rattle.lp_sig.specs.Sighted.{AreSeenTypes}
@@ -6,8 +6,12 @@ use Rattle.lp_sig.proofs.Sighting.{seen_later, seen_push}
 use Rattle.lp_sig.proofs.store.Types.see_types.Goals as goal
 
 pub loop-number-init : goal.loop-number-init
-loop-number-init c = record { kept = extends_same c.args.self.now.bank; count = ap length c.new-made.ensures.items; seen = λ names here all. subst
-    (AreSeenTypes c.args.bank.now c.args.self.now.bank names here) (sym c.new-made.ensures.items) (λ i t e. absurd (cc)) }
+loop-number-init c = record {
+  kept = extends_same c.args.self.now.bank;
+  count = ap length c.new-made.ensures.items;
+  seen = λ names here all. subst
+      (AreSeenTypes c.args.bank.now c.args.self.now.bank names here) (sym c.new-made.ensures.items) (λ i t e. absurd (cc));
+}
 
 pub loop-number-preserved : goal.loop-number-preserved
 loop-number-preserved c = record {
@@ -29,4 +33,4 @@ pub returns-clause-seen : goal.returns-clause-seen
 returns-clause-seen c = c.loop-number.invariant.seen
 
 pub returns-clause-count : goal.returns-clause-count
-returns-clause-count c = let n = c.loop-number.invariant.count in omega (arith, n, c.loop-number-test.false, c.loop-number.auto.at-end, c.type_count.ensures.count)
+returns-clause-count c = let n = c.loop-number.invariant.count in omega (arith, n, c.loop-number-test.false, c.loop-number.auto.number-end, c.type_count-number-end.ensures.count)

@@ -1,0 +1,29 @@
+use Rattle.std.proofs.Common.{[], length, ◌<◌, subst, take, take_all, arith}
+use Rattle.lp_sig.specs.Modules.{declarations}
+use Rattle.lp_sig.specs.Sights.{HasNumbers, signature_words, module_words}
+use Rattle.lp_sig.proofs.Sayings.{lines_more}
+use Rattle.lp_sig.proofs.Sights.{signature_words_append, module_words_append}
+use Rattle.lp_sig.proofs.module_lines.Said.of.Goals as goal
+
+pub loop-at-init : goal.loop-at-init
+loop-at-init c = record { signatures = c.new-said.ensures.signatures; modules = c.new-said.ensures.modules }
+
+pub loop-at-preserved : goal.loop-at-preserved
+loop-at-preserved c =
+    let text = c.args.source.now in
+    let lines = c.args.text.now.lines.items in
+    let low : c.loop-at.at < length lines = omega (arith, c.loop-at-test.true, c.len-at-end.ensures, c.args.text.now.lines.ok) in
+    record {
+      signatures = subst (HasNumbers c.hear_sentence.new.self.accum_sigs) (lines_more (signature_words text) (signature_words_append text) lines c.loop-at.at c.index.result.now [] low c.index.ensures)
+          (c.in_ok-hear_sentence.ensures.signatures (signature_words text (declarations (take c.loop-at.at lines))) c.loop-at.invariant.signatures);
+      modules = subst (HasNumbers c.hear_sentence.new.self.accumulates) (lines_more (module_words text) (module_words_append text) lines c.loop-at.at c.index.result.now [] low c.index.ensures)
+          (c.in_ok-hear_sentence.ensures.modules (module_words text (declarations (take c.loop-at.at lines))) c.loop-at.invariant.modules);
+    }
+
+pub returns-clause-signatures : goal.returns-clause-signatures
+returns-clause-signatures c = subst (λ ls. HasNumbers c.loop-at.said.accum_sigs (signature_words c.args.source.now (declarations ls)))
+    (take_all c.loop-at.at c.args.text.now.lines.items (omega (arith, c.loop-at-test.false, c.len-at-end.ensures, c.args.text.now.lines.ok))) c.loop-at.invariant.signatures
+
+pub returns-clause-modules : goal.returns-clause-modules
+returns-clause-modules c = subst (λ ls. HasNumbers c.loop-at.said.accumulates (module_words c.args.source.now (declarations ls)))
+    (take_all c.loop-at.at c.args.text.now.lines.items (omega (arith, c.loop-at-test.false, c.len-at-end.ensures, c.args.text.now.lines.ok))) c.loop-at.invariant.modules
