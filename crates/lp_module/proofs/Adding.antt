@@ -31,8 +31,7 @@ pub is_map : (o : Open) (b d : Nodes) → IsMap (renumbered o.names) (map_of (co
 is_map o b d = record { kinds = λ k. refl; constants = λ k. refl; types = λ x. refl; terms = λ x l. refl }
 
 -- one more clause
-module _ (old self : Making) (to : Nodes) (ks : Vec code.ClauseFormula Global) (o : Open) (clause k : code.ClauseFormula) (at : ℕ)
-    (grown : Extends self.bank to) (pushed : ks.items ≡ self.clauses.items ++ k ∷ []) where
+module _ (old self : Making) (to : Nodes) (ks : Vec code.ClauseFormula Global) (o : Open) (clause k : code.ClauseFormula) (at : ℕ) (grown : Extends self.bank to) (pushed : ks.items ≡ self.clauses.items ++ k ∷ []) where
   pub clause_made : k.formula.0 < length to.terms → IsMade old self → IsMade old (with_clauses self to ks)
   clause_made within made s =
       let x = made s in (
@@ -45,12 +44,9 @@ module _ (old self : Making) (to : Nodes) (ks : Vec code.ClauseFormula Global) (
         typed_later self.bank to self.declared.items grown x.6,
       )
 
-  pub clause_next : at < length o.module.now.clauses.items → clause ≡ get_or o.module.now.clauses.items at clause → IsMade old self → formula_of to k
-      ≡ in_copy (copy_of 0 o) (formula_of o.module.now.bank clause) →
-      (IsSoFar old → map (formula_of self.bank) self.clauses.items ≡ map (formula_of old.bank) old.clauses.items ++ map (in_copy (copy_of 0 o))
-          (map (formula_of o.module.now.bank) (take at o.module.now.clauses.items))) →
-      IsSoFar old → map (formula_of to) ks.items ≡ map (formula_of old.bank) old.clauses.items ++ map (in_copy (copy_of 0 o))
-          (map (formula_of o.module.now.bank) (take (at + 1) o.module.now.clauses.items))
+  pub clause_next : at < length o.module.now.clauses.items → clause ≡ get_or o.module.now.clauses.items at clause → IsMade old self → formula_of to k ≡ in_copy (copy_of 0 o) (formula_of o.module.now.bank clause) →
+      (IsSoFar old → map (formula_of self.bank) self.clauses.items ≡ map (formula_of old.bank) old.clauses.items ++ map (in_copy (copy_of 0 o)) (map (formula_of o.module.now.bank) (take at o.module.now.clauses.items))) →
+      IsSoFar old → map (formula_of to) ks.items ≡ map (formula_of old.bank) old.clauses.items ++ map (in_copy (copy_of 0 o)) (map (formula_of o.module.now.bank) (take (at + 1) o.module.now.clauses.items))
   clause_next h is made f e s =
       ap (map (formula_of to)) pushed ∙ map-append (formula_of to) self.clauses.items (k ∷ []) ∙
       ap (λ l. l ++ formula_of to k ∷ []) (formulas_later self.bank to self.clauses.items grown (made s).0 ∙ e s) ∙
@@ -60,21 +56,18 @@ module _ (old self : Making) (to : Nodes) (ks : Vec code.ClauseFormula Global) (
       g : ClauseFormula → ClauseFormula
       g = in_copy (copy_of 0 o)
 
-      more : map g (map (formula_of o.module.now.bank) (take (at + 1) o.module.now.clauses.items)) ≡ map g
-          (map (formula_of o.module.now.bank) (take at o.module.now.clauses.items)) ++ formula_of to k ∷ []
+      more : map g (map (formula_of o.module.now.bank) (take (at + 1) o.module.now.clauses.items)) ≡ map g (map (formula_of o.module.now.bank) (take at o.module.now.clauses.items)) ++ formula_of to k ∷ []
       more =
           ap (λ l. map g (map (formula_of o.module.now.bank) l)) (take_more o.module.now.clauses.items at clause h ∙ ap (λ x. take at o.module.now.clauses.items ++ x ∷ []) (sym is)) ∙
           ap (map g) (map-append (formula_of o.module.now.bank) (take at o.module.now.clauses.items) (clause ∷ [])) ∙
           map-append g (map (formula_of o.module.now.bank) (take at o.module.now.clauses.items)) (formula_of o.module.now.bank clause ∷ []) ∙
           ap (λ x. map g (map (formula_of o.module.now.bank) (take at o.module.now.clauses.items)) ++ x ∷ []) (sym f)
 
-pub clauses_none : (old : Making) (o : Open) → IsSoFar old → map (formula_of old.bank) old.clauses.items ≡ map (formula_of old.bank) old.clauses.items
-    ++ map (in_copy (copy_of 0 o)) (map (formula_of o.module.now.bank) (take 0 o.module.now.clauses.items))
+pub clauses_none : (old : Making) (o : Open) → IsSoFar old → map (formula_of old.bank) old.clauses.items ≡ map (formula_of old.bank) old.clauses.items ++ map (in_copy (copy_of 0 o)) (map (formula_of o.module.now.bank) (take 0 o.module.now.clauses.items))
 clauses_none old o s = sym (append-nil (map (formula_of old.bank) old.clauses.items))
 
 pub clauses_all : (old new : Making) (o : Open) (at : ℕ) → length o.module.now.clauses.items ≤ at → IsMade old new → new.next ≡ old.next →
-    (IsSoFar old → map (formula_of new.bank) new.clauses.items ≡ map (formula_of old.bank) old.clauses.items ++ map (in_copy (copy_of 0 o))
-        (map (formula_of o.module.now.bank) (take at o.module.now.clauses.items))) → AddsClauses old new o
+    (IsSoFar old → map (formula_of new.bank) new.clauses.items ≡ map (formula_of old.bank) old.clauses.items ++ map (in_copy (copy_of 0 o)) (map (formula_of o.module.now.bank) (take at o.module.now.clauses.items))) → AddsClauses old new o
 clauses_all old new o at h made next e = record {
   made = made;
   next = next;
@@ -86,13 +79,11 @@ pub adds_then : (a b c : Making) (o : Open) → MakesNames a b → AddsClauses b
 adds_then a b c o (made, same, grown, next) adds = record {
   made = λ x. adds.made (made x);
   next = adds.next ∙ next;
-  clause_list = λ s. adds.clause_list (made s) ∙ ap (λ l. l ++ map (in_copy (copy_of 0 o)) (clauses_in o.module.now))
-      (ap (map (formula_of b.bank)) same ∙ formulas_later a.bank b.bank a.clauses.items grown s.0);
+  clause_list = λ s. adds.clause_list (made s) ∙ ap (λ l. l ++ map (in_copy (copy_of 0 o)) (clauses_in o.module.now)) (ap (map (formula_of b.bank)) same ∙ formulas_later a.bank b.bank a.clauses.items grown s.0);
 }
 
 -- the last open copy is left
-pub copy_left : (old new : Making) (next : Hidden) (around less : List Open) (o : Open) → around ≡ less ++ o ∷ [] → AddsClauses old new o →
-    LeavesNames old new o → next_of next ≡ behind o.module.now (next_of new.next) → Leaves old (record new { next = next }) around less
+pub copy_left : (old new : Making) (next : Hidden) (around less : List Open) (o : Open) → around ≡ less ++ o ∷ [] → AddsClauses old new o → LeavesNames old new o → next_of next ≡ behind o.module.now (next_of new.next) → Leaves old (record new { next = next }) around less
 copy_left old new next around less o is adds names then = record {
   left = o;
   inside = ap reverse is ∙ reverse-append less (o ∷ []);
@@ -119,8 +110,7 @@ last_some (y ∷ ys) x e =
     let w = take_all (suc (length ys)) (y ∷ ys) (omega arith) in
     (reverse (take (length ys) (y ∷ ys)), ap reverse (sym w ∙ t) ∙ reverse-append (take (length ys) (y ∷ ys)) (x ∷ []))
 
-unfoldable pub opens_root : (old new l : List Open) (o : Open) (m : Module) (from : Next) → l ≡ old → None ≡ slice_get l (length l - 1) → new ≡ old ++
-    o ∷ [] → o.module.now ≡ m → IsRoot m from (copy_of 0 o) → Opens old new m from
+unfoldable pub opens_root : (old new l : List Open) (o : Open) (m : Module) (from : Next) → l ≡ old → None ≡ slice_get l (length l - 1) → new ≡ old ++ o ∷ [] → o.module.now ≡ m → IsRoot m from (copy_of 0 o) → Opens old new m from
 opens_root old new l o m from same none is of root = record {
   opened = o;
   inside = ap reverse is ∙ reverse-append old (o ∷ []);
@@ -128,8 +118,7 @@ opens_root old new l o m from same none is of root = record {
   is_open = subst (λ os. IsOpen (reverse os) m from (copy_of 0 o)) (sym (last_none l none) ∙ same) root;
 }
 
-unfoldable pub opens_below : (old new l : List Open) (o p : Open) (m : Module) (from : Next) → l ≡ old → Some p ≡ slice_get l (length l - 1) → new ≡
-    old ++ o ∷ [] → o.module.now ≡ m → IsBelow p.module.now (copy_of 0 p) m from (copy_of 0 o) → Opens old new m from
+unfoldable pub opens_below : (old new l : List Open) (o p : Open) (m : Module) (from : Next) → l ≡ old → Some p ≡ slice_get l (length l - 1) → new ≡ old ++ o ∷ [] → o.module.now ≡ m → IsBelow p.module.now (copy_of 0 p) m from (copy_of 0 o) → Opens old new m from
 opens_below old new l o p m from same some is of below =
     let (rest, at) = last_some l p some in
     record {

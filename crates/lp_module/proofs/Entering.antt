@@ -10,8 +10,7 @@ use Rattle.lp_module.specs.inner.Assembling.{copy_of, AddsNames, Enters, EntersN
 use Rattle.lp_module.proofs.Adding.{last_none, opens_root, opens_below}
 use Rattle.lp_module.proofs.Tabled.{adds_none, adds_root}
 
-pub enters_root : (a b c : Making) (old new l : List Open) (o : Open) (m : Module) (from : Next) → l ≡ old → None ≡ slice_get l (length l - 1) → new ≡
-    old ++ o ∷ [] → o.module.now ≡ m → IsRoot m from (copy_of 0 o) → IsMade a b →
+pub enters_root : (a b c : Making) (old new l : List Open) (o : Open) (m : Module) (from : Next) → l ≡ old → None ≡ slice_get l (length l - 1) → new ≡ old ++ o ∷ [] → o.module.now ≡ m → IsRoot m from (copy_of 0 o) → IsMade a b →
     AddsNames a b (exported_kinds o.module.now) [] [] → AddsNames b c [] (exported_constants o.module.now) (exported_schemes (copy_of 0 o) o.module.now) → Enters a c old new m from
 unfolding opens_root
 enters_root a b c old new l o m from same none is of root made x y = record {
@@ -19,8 +18,7 @@ enters_root a b c old new l o m from same none is of root made x y = record {
   names = subst (λ os. EntersNames os a c o) (sym (last_none l none) ∙ same) (adds_root a b c o made x y);
 }
 
-pub enters_below : (a : Making) (old new l : List Open) (o p : Open) (m : Module) (from : Next) → l ≡ old → Some p ≡ slice_get l (length l - 1) → new
-    ≡ old ++ o ∷ [] → o.module.now ≡ m → IsBelow p.module.now (copy_of 0 p) m from (copy_of 0 o) → Enters a a old new m from
+pub enters_below : (a : Making) (old new l : List Open) (o p : Open) (m : Module) (from : Next) → l ≡ old → Some p ≡ slice_get l (length l - 1) → new ≡ old ++ o ∷ [] → o.module.now ≡ m → IsBelow p.module.now (copy_of 0 p) m from (copy_of 0 o) → Enters a a old new m from
 unfolding opens_below
 enters_below a old new l o p m from same some is of below = record {
   opens = opens_below old new l o p m from same some is of below;

@@ -1,5 +1,5 @@
 -- The constants of a module's text have no numbers of the language in any copy.
-use Rattle.std.proofs.Common.{◌≡◌, ℕ, ◌+◌, ◌-◌, ◌<◌, ◌≤◌, List, [], ◌∷◌, ◌++◌, length, get_or, refl, sym, ap, subst, ◌∙◌, arith, Option, Some, None, inl, inr}
+use Rattle.std.proofs.Common.{◌≡◌, ℕ, ◌+◌, ◌-◌, ◌<◌, ◌≤◌, List, [], ◌∷◌, length, get_or, refl, sym, ap, subst, ◌∙◌, arith, Option, Some, None, inl, inr}
 use Rattle.std.specs.Prelude.{◌⊎◌, slice_get, Contains}
 use Rattle.std.proofs.lemmas.Bool.{cases_lt}
 use Rattle.lp_lemmas.specs.Each.{EachOf}
@@ -32,11 +32,11 @@ high_by count hidden from exported number is l shown k h = by (cases_lt k (32 + 
 below_high : (above m : Module) (a c : Copy) (from : Next) → IsNumberedSignature above.signature → IsBelow above a m from c → IsJoined above m → IsHigh a → 32 ≤ from.constants → IsHigh c
 below_high above m a c from sa is joined high l = high_by (length m.signature.constants.items) m.hidden_constants.items from.constants _ c.constants is.constants l
     (λ i n p.
-        let (e, at) = get_below m.signature.constants.items i n in
-        let s = joined i e at p in
-        let number = joined_number above m a c from sa is i e at p s in
-        let h = high (32 + s.place) (omega arith) in
-        omega (arith, number, h))
+    let (e, at) = get_below m.signature.constants.items i n in
+    let s = joined i e at p in
+    let number = joined_number above m a c from sa is i e at p s in
+    let h = high (32 + s.place) (omega arith) in
+    omega (arith, number, h))
 
 -- the numbers of hidden constants go up from copy to copy
 next_high : {modules : List Module} {above : Module} {a : Copy} {before after : Next} {ks : List ℕ} {cs : List Copy} → CopiesBelow modules above a
@@ -61,8 +61,8 @@ module _ (modules : List Module) (j : AreJoined modules) where
   copies_high root all are =
       let low : 32 ≤ 32 + (length are.top.signature.constants.items - length are.top.hidden_constants.items) = omega arith in
       let root_high : IsHigh are.copy = high_by (length are.top.signature.constants.items) are.top.hidden_constants.items are.middle.constants _ are.copy.constants are.is_root.constants
-          (next_high are.copies low) (λ i n p.
-              let number = are.is_root.constants.named i n ∙ ap (λ o. hidden_or are.middle.constants o (32 + exported_before 32 are.top.hidden_constants.items i)) p in
-              omega (arith, number)) in
+      (next_high are.copies low) (λ i n p.
+      let number = are.is_root.constants.named i n ∙ ap (λ o. hidden_or are.middle.constants o (32 + exported_before 32 are.top.hidden_constants.items i)) p in
+      omega (arith, number)) in
       let lower = all_high are.copies root are.at (λ u h. h) root_high low in
       subst (EachOf IsHigh) (sym are.whole) (each_append IsHigh are.below (are.copy ∷ []) lower (root_high, tt))

@@ -1,7 +1,6 @@
 -- The table of a program has the types of all copies, where modules see what others export with the same types.
-use Rattle.std.proofs.Common.{◌≡◌, ℕ, zero, suc, ◌+◌, ◌-◌, ◌<◌, ◌≤◌, List, [], ◌∷◌, ◌++◌, length, map, get_or, refl, sym, ap, subst, ◌∙◌, arith, Bool, true, false, Option, Some, None, inl, inr, cond}
-use Rattle.std.specs.Prelude.{◌⊎◌, nat_lt, if◌then◌else◌, option_map, slice_get, Contains}
-use Rattle.std.specs.Str.{bytes_eq}
+use Rattle.std.proofs.Common.{◌≡◌, ℕ, zero, suc, ◌+◌, ◌-◌, ◌<◌, ◌≤◌, List, [], ◌∷◌, ◌++◌, length, map, get_or, refl, sym, ap, subst, ◌∙◌, arith, Option, Some, None, inl, inr}
+use Rattle.std.specs.Prelude.{◌⊎◌, if◌then◌else◌, option_map, slice_get, Contains}
 use Rattle.std.proofs.lemmas.Bool.{cases_lt, le-ltb, lt-ltb}
 use Rattle.std.proofs.lemmas.Option.{same_Some, slice_get_within, slice_get_read}
 use Rattle.lp_lemmas.specs.Each.{EachOf}
@@ -9,15 +8,14 @@ use Rattle.lp_lemmas.proofs.Each.{each_append}
 use Rattle.lp_lemmas.proofs.Elements.{Contains_head, Contains_tail}
 use Rattle.lp_lemmas.proofs.Lists.{get_below}
 use Rattle.lp_calculus.specs.Types.{Ty, Tys, var, param, con, arrow, no_types, types}
-use Rattle.lp_calculus.specs.Typing.{Scheme}
 use Rattle.lp_term.specs.Mapped.{mapped_type, mapped_types}
 use Rattle.lp_term.specs.Nodes.{type_tree}
 use Rattle.lp_model.specs.Proofs.{Declared}
 use Rattle.lp_model.specs.Readings.{declared_by}
-use Rattle.lp_sig.specs.Named.{NamedTy, NamedTys, named_var, named_param, named_con, named_arrow, no_named, more_named, named, all_named, kind_name, kind_names, IsWhole, AreWhole}
-use Rattle.lp_sig.specs.Rows.{Row, found, kind_row, number_row}
+use Rattle.lp_sig.specs.Named.{NamedTy, NamedTys, named_con, named_arrow, more_named, named, all_named, kind_name, kind_names, IsWhole, AreWhole}
+use Rattle.lp_sig.specs.Rows.{Row, found, kind_row}
 use Rattle.lp_sig.specs.Said.{names_in}
-use Rattle.lp_sig.specs.Standard.{standard_kinds, standard_constants}
+use Rattle.lp_sig.specs.Standard.{standard_kinds}
 use Rattle.lp_sig.specs.declared.entries.ConstantEntry.{ConstantEntry}
 use Rattle.lp_sig.specs.declared.entries.KindEntry.{KindEntry}
 use Rattle.lp_sig.specs.declared.signature.Signature.{Signature}
@@ -25,8 +23,7 @@ use Rattle.lp_infer.specs.Texts.{entry_scheme}
 use Rattle.lp_module.specs.Copies.{uses_of}
 use Rattle.lp_module.specs.Joined.{IsNumberedSignature, IsExportedKind, IsExportedType, AreExportedTypes, SeesExported, IsJoined, AreJoined, DeclaresCopy}
 use Rattle.lp_module.specs.Numbering.{or_none}
-use Rattle.lp_module.specs.Orderly.{AreOrderly}
-use Rattle.lp_module.specs.Program.{Copy, Next, place_in, hidden_or, map_of, scheme_in, kind_at, constant_at, kind_in, constant_in, IsBelow, IsNumbered, CopiesBelow, none_below, one_below, IsProgram}
+use Rattle.lp_module.specs.Program.{Copy, Next, place_in, hidden_or, map_of, scheme_in, kind_at, constant_at, kind_in, constant_in, IsBelow, CopiesBelow, none_below, one_below, IsProgram}
 use Rattle.lp_module.specs.declared.copies.Assembled.{Assembled}
 use Rattle.lp_module.specs.declared.module.Module.{Module}
 use Rattle.lp_module.proofs.Lookups.{hidden_have_types, exported_have_types}
@@ -135,7 +132,7 @@ module _ (above m : Module) (a c : Copy) (from : Next) (sa : IsNumberedSignature
           absurd (omega (arith, g, is_r, small))
       by (of_signature q x y at_q name) =
           ap a.kinds y ∙ sym (number ∙ ap (λ o. or_none (option_map (λ r. a.kinds r.0) o))
-              (ap (λ w. found w (standard_kinds ++ map kind_row above.signature.kinds.items)) (sym name) ∙ sa.kinds q x at_q))
+          (ap (λ w. found w (standard_kinds ++ map kind_row above.signature.kinds.items)) (sym name) ∙ sa.kinds q x at_q))
 
   mutual
     types_agree : (T U : Ty) → named (kind_name (kind_names above.signature)) T ≡ named (kind_name (kind_names m.signature)) U → IsWhole
@@ -152,7 +149,7 @@ module _ (above m : Module) (a c : Copy) (from : Next) (sa : IsNumberedSignature
     types_agree (con k ts) (param j) e w o = absurd (cc)
     types_agree (con k ts) (con j us) e ((n, h), w) (o, os) =
         let names = con_name (kind_name (kind_names above.signature) k) (kind_name (kind_names m.signature) j)
-            (all_named (kind_name (kind_names above.signature)) ts) (all_named (kind_name (kind_names m.signature)) us) e in
+        (all_named (kind_name (kind_names above.signature)) ts) (all_named (kind_name (kind_names m.signature)) us) e in
         let f = kinds_agree n k j (names.0 ∙ h) h o in
         let g = all_agree ts us names.1 w os in
         cc
@@ -162,7 +159,7 @@ module _ (above m : Module) (a c : Copy) (from : Next) (sa : IsNumberedSignature
     types_agree (arrow b d) (con j us) e w o = absurd (cc)
     types_agree (arrow b d) (arrow f g) e (v, w) (o, p) =
         let parts = arrow_parts (named (kind_name (kind_names above.signature)) b) (named (kind_name (kind_names above.signature)) d)
-            (named (kind_name (kind_names m.signature)) f) (named (kind_name (kind_names m.signature)) g) e in
+        (named (kind_name (kind_names m.signature)) f) (named (kind_name (kind_names m.signature)) g) e in
         let x = types_agree b f parts.0 v o in
         let y = types_agree d g parts.1 w p in
         cc
@@ -174,7 +171,7 @@ module _ (above m : Module) (a c : Copy) (from : Next) (sa : IsNumberedSignature
     all_agree (types t ts) no_types e w o = absurd (cc)
     all_agree (types t ts) (types u us) e (v, w) (o, p) =
         let parts = list_parts (named (kind_name (kind_names above.signature)) t) (named (kind_name (kind_names m.signature)) u)
-            (all_named (kind_name (kind_names above.signature)) ts) (all_named (kind_name (kind_names m.signature)) us) e in
+        (all_named (kind_name (kind_names above.signature)) ts) (all_named (kind_name (kind_names m.signature)) us) e in
         let x = types_agree t u parts.0 v o in
         let y = all_agree ts us parts.1 w p in
         cc
@@ -199,7 +196,7 @@ module _ (d : Declared) (above m : Module) (a c : Copy) (from : Next) (sa : IsNu
     (sm : IsNumberedSignature m.signature) (is : IsBelow above a m from c) (ka : (k : ℕ) → k < 8 → a.kinds k ≡ k) (joined : IsJoined above m)
     (full : IsFull d a above)
     (hidden : (i : ℕ) (e : ConstantEntry) → slice_get m.signature.constants.items i ≡ Some e → (j : ℕ) → place_in m.hidden_constants.items (32 + i) ≡
-        Some j → d (c.constants (32 + i)) ≡ Some (scheme_in c (entry_scheme m.signature.bank e))) where
+    Some j → d (c.constants (32 + i)) ≡ Some (scheme_in c (entry_scheme m.signature.bank e))) where
   full_below : IsFull d c m
   full_below i e at = by (place_in m.hidden_constants.items (32 + i)) refl
     where
@@ -223,7 +220,7 @@ each_right P (x ∷ xs) ys (h, more) = each_right P xs ys more
 abbrev HasHidden : List Module → Declared → Copy → Type 0
 HasHidden modules d c =
     (m : Module) → slice_get modules c.member ≡ Some m → (i : ℕ) (e : ConstantEntry) → slice_get m.signature.constants.items i ≡ Some e → (j : ℕ) →
-        place_in m.hidden_constants.items (32 + i) ≡ Some j → d (c.constants (32 + i)) ≡ Some (scheme_in c (entry_scheme m.signature.bank e))
+    place_in m.hidden_constants.items (32 + i) ≡ Some j → d (c.constants (32 + i)) ≡ Some (scheme_in c (entry_scheme m.signature.bank e))
 
 abbrev HasAll : List Module → Declared → Copy → Type 0
 HasAll modules d c = (m : Module) → slice_get modules c.member ≡ Some m → IsFull d c m
@@ -237,7 +234,7 @@ module _ (modules : List Module) (j : AreJoined modules) (d : Declared) where
       let split = subst (EachOf (HasHidden modules d)) e hidden in
       let own = each_right (HasHidden modules d) below (c ∷ others) split in
       let full_c = full_below d above m a c middle (j.numbered k above at) (j.numbered c.member m at_m) is ka
-          (j.joined k c.member above m at (uses c.member (Contains_head c.member ks)) at_m) full (own.0 m at_m) in
+      (j.joined k c.member above m at (uses c.member (Contains_head c.member ks)) at_m) full (own.0 m at_m) in
       let lower = all_full b c.member at_m (λ u h. h) full_c is.kinds.standard (each_left (HasHidden modules d) below (c ∷ others) split) in
       let upper = all_full more k at (λ u h. uses u (Contains_tail c.member u ks h)) full ka own.1 in
       subst (EachOf (HasAll modules d)) (sym e) (each_append (HasAll modules d) below (c ∷ others) lower ((λ q at_q. subst (IsFull d c) (same_Some m q (sym at_m ∙ at_q)) full_c), upper))

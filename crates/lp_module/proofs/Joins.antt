@@ -1,16 +1,14 @@
 -- A module that sees the signature of another one is joined with it.
-use Rattle.std.proofs.Common.{◌≡◌, ℕ, zero, suc, ◌+◌, ◌-◌, ◌<◌, ◌≤◌, List, [], ◌∷◌, ◌++◌, length, map, take, refl, sym, ap, subst, ◌∙◌, arith, Bool, true, false, true≢false, Option, Some, None, inl, inr, cond}
-use Rattle.std.specs.Prelude.{◌⊎◌, if◌then◌else◌, ◌||◌, option_map, slice_get, Contains, All}
+use Rattle.std.proofs.Common.{◌≡◌, ℕ, zero, suc, ◌+◌, ◌-◌, ◌<◌, List, [], ◌∷◌, ◌++◌, length, map, take, refl, sym, ap, subst, ◌∙◌, arith, Bool, true, false, true≢false, Option, Some, None, inl, inr, cond}
+use Rattle.std.specs.Prelude.{◌||◌, option_map, slice_get, Contains}
 use Rattle.std.specs.Str.{bytes_eq}
-use Rattle.std.specs.List.{range_with_len}
-use Rattle.std.proofs.lemmas.Bool.{cases_lt}
 use Rattle.std.proofs.lemmas.List.{length-map, length-take}
-use Rattle.std.proofs.lemmas.Option.{same_Some, slice_get-map, slice_get-get_or, slice_get_within, slice_get_read, get_or_from_slice_get}
+use Rattle.std.proofs.lemmas.Option.{same_Some, slice_get-map, slice_get_within, slice_get_read, get_or_from_slice_get}
 use Rattle.lp_lemmas.proofs.Lists.{get_below}
 use Rattle.lp_calculus.specs.Types.{Ty, Tys, var, param, con, arrow, no_types, types}
 use Rattle.lp_term.specs.Nodes.{type_tree}
-use Rattle.lp_sig.specs.Modules.{constants_of, first_names, IsApart, HasOwnFirst}
-use Rattle.lp_sig.specs.Named.{NamedTy, NamedTys, named_con, named_arrow, more_named, named, all_named, kind_name, kind_names, named_in, IsWhole, AreWhole, HasNamed, standard_one, declared_one, SeesAlike, IsOrdered}
+use Rattle.lp_sig.specs.Modules.{constants_of, IsApart, HasOwnFirst}
+use Rattle.lp_sig.specs.Named.{named, all_named, kind_name, kind_names, named_in, IsWhole, AreWhole, HasNamed, standard_one, declared_one, SeesAlike, IsOrdered}
 use Rattle.lp_sig.specs.Rows.{Row, found, kind_row, number_row}
 use Rattle.lp_sig.specs.Said.{is_among, names_in}
 use Rattle.lp_sig.specs.Same.{typed_row, AreSameSignatures}
@@ -56,7 +54,7 @@ pub not_standard : (own : Signature) → IsApart own → (i : ℕ) (x : Constant
 not_standard own apart i x at n e =
     true≢false (sym (found_among x.name.items standard_constants n e) ∙
     unknown (names_in standard_constants) (constants_of own) (subst (Apart (names_in standard_constants)) apart.constants
-        (names_apart (names_in standard_constants) (constants_of own))) i x.name.items (named_at (λ e. e.name.items) own.constants.items i x at))
+    (names_apart (names_in standard_constants) (constants_of own))) i x.name.items (named_at (λ e. e.name.items) own.constants.items i x at))
 
 -- where an element stands
 pub place_of : {E : Type 0} (es : List E) (e : E) → Contains es e → (i : ℕ) × (slice_get es i ≡ Some e)
@@ -113,7 +111,7 @@ module _ (m : Module) (own : Signature) (o : IsOrderly m) (kinds_are : o.exporte
     type_exported (arrow a b) (con j us) e w = absurd (cc)
     type_exported (arrow a b) (arrow c d) e (v, w) =
         let p = arrow_parts (named (kind_name (kind_names m.signature)) a) (named (kind_name (kind_names m.signature)) b)
-            (named (kind_name (kind_names own)) c) (named (kind_name (kind_names own)) d) e in
+        (named (kind_name (kind_names own)) c) (named (kind_name (kind_names own)) d) e in
         (type_exported a c p.0 v, type_exported b d p.1 w)
 
     all_exported : (ts us : Tys) → all_named (kind_name (kind_names m.signature)) ts ≡ all_named (kind_name (kind_names own)) us → AreWhole
@@ -122,7 +120,7 @@ module _ (m : Module) (own : Signature) (o : IsOrderly m) (kinds_are : o.exporte
     all_exported (types t ts) no_types e w = absurd (cc)
     all_exported (types t ts) (types u us) e (v, w) =
         let p = list_parts (named (kind_name (kind_names m.signature)) t) (named (kind_name (kind_names own)) u)
-            (all_named (kind_name (kind_names m.signature)) ts) (all_named (kind_name (kind_names own)) us) e in
+        (all_named (kind_name (kind_names m.signature)) ts) (all_named (kind_name (kind_names own)) us) e in
         (type_exported t u p.0 v, all_exported ts us p.1 w)
 
 -- the same entries of two signatures that say the same
@@ -130,7 +128,7 @@ pub same_entry : (u own : Signature) → AreSameSignatures u own → (i : ℕ) (
     (y : ConstantEntry) × (slice_get u.constants.items i ≡ Some y) × (y.name.items ≡ x.name.items) × (y.type_vars ≡ x.type_vars) × (named_in u y.scheme ≡ named_in own x.scheme)
 same_entry u own same i x at =
     let row : slice_get (map (typed_row u.bank) u.constants.items) i ≡ Some (typed_row own.bank x) = ap (λ l. slice_get l i) same.constants ∙
-        slice_get-map (typed_row own.bank) own.constants.items i ∙ ap (option_map (typed_row own.bank)) at in
+    slice_get-map (typed_row own.bank) own.constants.items i ∙ ap (option_map (typed_row own.bank)) at in
     by (slice_get u.constants.items i) refl (sym (slice_get-map (typed_row u.bank) u.constants.items i) ∙ row)
   where
     names : (es fs : List KindEntry) → map kind_row es ≡ map kind_row fs → map (λ e. e.name.items) es ≡ map (λ e. e.name.items) fs
@@ -160,7 +158,7 @@ own_entry m own sm apart i e at x at_x name (standard_one n f t) = absurd (not_s
 own_entry m own sm apart i e at x at_x name (declared_one f has name_f count named_f) =
     let (j, at_f) = place_of m.signature.constants.items f has in
     let g = same_Some (32 + j) (32 + i) (sym (sm.constants j f at_f).1 ∙ ap (λ w. found w
-        (standard_constants ++ map number_row m.signature.constants.items)) (name_f ∙ sym name) ∙ (sm.constants i e at).1) in
+    (standard_constants ++ map number_row m.signature.constants.items)) (name_f ∙ sym name) ∙ (sm.constants i e at).1) in
     let z : j ≡ i = omega (arith, g) in
     let is : f ≡ e = same_Some f e (sym at_f ∙ ap (slice_get m.signature.constants.items) z ∙ at) in
     (ap (λ (e : ConstantEntry). e.type_vars) (sym is) ∙ count, ap (λ (e : ConstantEntry). named_in m.signature e.scheme) (sym is) ∙ named_f)
@@ -173,7 +171,7 @@ joined_by above m own u o kinds_are constants_are sm first apart ordered own_see
     let l = exported_below m o i e at free in
     let (x, at_x) = get_below own.constants.items i (omega (arith, l, constants_are)) in
     let name : e.name.items ≡ x.name.items = first_name (λ (e : ConstantEntry). e.name.items) (λ (e : ConstantEntry). e.name.items)
-        m.signature.constants.items own.constants.items i e x first.constants at at_x in
+    m.signature.constants.items own.constants.items i e x first.constants at at_x in
     let (y, at_y, name_y, count_y, named_y) = same_entry u own same i x at_x in
     made x y at_x name name_y count_y named_y (of_own x at_x name (own_seen x (stands own.constants.items i x at_x))) (of_above x y at_x name_y (seen y (stands u.constants.items i y at_y)))
   where
@@ -186,7 +184,7 @@ joined_by above m own u o kinds_are constants_are sm first apart ordered own_see
 
     of_above : (x y : ConstantEntry) → slice_get own.constants.items i ≡ Some x → y.name.items ≡ x.name.items → HasNamed above.signature y.name.items y.type_vars (named_in u y.scheme) →
         (z : ℕ × ConstantEntry) × (slice_get above.signature.constants.items z.0 ≡ Some z.1) × (z.1.name.items ≡ y.name.items) ×
-            (z.1.type_vars ≡ y.type_vars) × (named_in above.signature z.1.scheme ≡ named_in u y.scheme)
+        (z.1.type_vars ≡ y.type_vars) × (named_in above.signature z.1.scheme ≡ named_in u y.scheme)
     of_above x y at_x name_y (standard_one n f t) = absurd (not_standard own apart i x at_x n (ap (λ w. found w standard_constants) (sym name_y) ∙ f))
     of_above x y at_x name_y (declared_one f has name_f count named_f) =
         let (j, at_f) = place_of above.signature.constants.items f has in
@@ -195,7 +193,7 @@ joined_by above m own u o kinds_are constants_are sm first apart ordered own_see
     made : (x y : ConstantEntry) → slice_get own.constants.items i ≡ Some x → e.name.items ≡ x.name.items → y.name.items ≡ x.name.items → y.type_vars ≡ x.type_vars →
         named_in u y.scheme ≡ named_in own x.scheme → (e.type_vars ≡ x.type_vars) × (named_in m.signature e.scheme ≡ named_in own x.scheme) →
         (z : ℕ × ConstantEntry) × (slice_get above.signature.constants.items z.0 ≡ Some z.1) × (z.1.name.items ≡ y.name.items) × (z.1.type_vars ≡ y.type_vars) ×
-            (named_in above.signature z.1.scheme ≡ named_in u y.scheme) → SeesExported above m e
+        (named_in above.signature z.1.scheme ≡ named_in u y.scheme) → SeesExported above m e
     made x y at_x name name_y count_y named_y here (z, at_z, name_z, count_z, named_z) = record {
       whole = subst IsWhole (sym here.1) (whole_at x at_x);
       exported = type_exported m own o kinds_are sm first (type_tree m.signature.bank e.scheme.0) (type_tree own.bank x.scheme.0) here.1 (whole_at x at_x);

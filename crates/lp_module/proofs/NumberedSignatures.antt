@@ -1,5 +1,5 @@
 -- Kinds and constants of a module's signature have their numbers by their places, and are found by their names.
-use Rattle.std.proofs.Common.{◌≡◌, ℕ, zero, suc, ◌+◌, List, [], ◌∷◌, ◌++◌, map, refl, sym, ap, subst, ◌∙◌, arith, Bool, true, false, true≢false, Option, Some, None, cond}
+use Rattle.std.proofs.Common.{◌≡◌, ℕ, zero, suc, ◌+◌, List, [], ◌∷◌, ◌++◌, map, refl, sym, ap, subst, ◌∙◌, arith, Bool, true, false, true≢false, Some, cond}
 use Rattle.std.specs.Prelude.{if◌then◌else◌, ◌||◌, slice_get}
 use Rattle.std.specs.Str.{bytes_eq}
 use Rattle.std.proofs.lemmas.Option.{same_Some}
@@ -149,9 +149,11 @@ signature_numbered own used text lines s h =
       kinds = λ i e at.
           behind_standard standard_kinds (map kind_row s.kinds.items)
           (subst (Apart (names_in standard_kinds)) kinds_names (kinds_apart (names_in standard_kinds) (declared_names said)
-              (firsts_apart (names_in standard_kinds) said))) i (e.name.items, (8 + i, e.arity)) (kind_at_place 8 s.kinds.items rows i e h.kinds at);
+          (firsts_apart (names_in standard_kinds) said))) i (e.name.items, (8 + i, e.arity)) (kind_at_place 8 s.kinds.items rows i e h.kinds at);
       constants = λ i e at.
-          let there = constant_at_place 32 s.constants.items names i e h.constants at in
-          (there.0, behind_standard standard_constants (map number_row s.constants.items)
-              (subst (Apart (names_in standard_constants)) constants_names (names_apart (names_in standard_constants) (constant_names own used text lines))) i (e.name.items, 32 + i) there.1);
+          let there = constant_at_place 32 s.constants.items names i e h.constants at in (
+            there.0,
+            behind_standard standard_constants (map number_row s.constants.items)
+                (subst (Apart (names_in standard_constants)) constants_names (names_apart (names_in standard_constants) (constant_names own used text lines))) i (e.name.items, 32 + i) there.1,
+          );
     }

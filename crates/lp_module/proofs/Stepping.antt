@@ -31,8 +31,7 @@ tree_told uses root refusal.TooMany h = h
 tree_told uses root refusal.Memory h = tt
 
 -- the bounds of what is entered
-pub enter_fits : (own T : ℕ → ℕ) (first : ℕ) (left : List ℕ) (m : ℕ) (inside out : List ℕ) (next below mine : ℕ) → Fits own T first left m inside →
-    out ≡ inside → next ≡ first + sum_by own left → below ≡ counted (sum_by T out) → own m ≡ mine → next + below + mine ≤ 1048576
+pub enter_fits : (own T : ℕ → ℕ) (first : ℕ) (left : List ℕ) (m : ℕ) (inside out : List ℕ) (next below mine : ℕ) → Fits own T first left m inside → out ≡ inside → next ≡ first + sum_by own left → below ≡ counted (sum_by T out) → own m ≡ mine → next + below + mine ≤ 1048576
 enter_fits own T first left m inside out next below mine f o n b e =
     let s = b ∙ ap (λ l. counted (sum_by T l)) o ∙ f.below in
     let l = f.limit in
@@ -41,10 +40,8 @@ enter_fits own T first left m inside out next below mine f o n b e =
 abbrev pub next_by : Next → Hidden → Next
 next_by n below = record { kinds = n.kinds + below.kinds; constants = n.constants + below.constants }
 
-pub from_is : (ts : List Hidden) (n : Next) (below : Hidden) (out inside : List ℕ) → out ≡ inside → below.kinds ≡ counted
-    (sum_by (in_all (λ h. h.kinds) ts) out) → below.constants ≡ counted (sum_by (in_all (λ h. h.constants) ts) out) →
-    counted (sum_by (in_all (λ h. h.kinds) ts) inside) ≡ sum_by (in_all (λ h. h.kinds) ts) inside → counted
-        (sum_by (in_all (λ h. h.constants) ts) inside) ≡ sum_by (in_all (λ h. h.constants) ts) inside →
+pub from_is : (ts : List Hidden) (n : Next) (below : Hidden) (out inside : List ℕ) → out ≡ inside → below.kinds ≡ counted (sum_by (in_all (λ h. h.kinds) ts) out) → below.constants ≡ counted (sum_by (in_all (λ h. h.constants) ts) out) →
+    counted (sum_by (in_all (λ h. h.kinds) ts) inside) ≡ sum_by (in_all (λ h. h.kinds) ts) inside → counted (sum_by (in_all (λ h. h.constants) ts) inside) ≡ sum_by (in_all (λ h. h.constants) ts) inside →
     next_by n below ≡ past ts n inside
 from_is ts n below out inside o k c fk fc =
     let a = k ∙ ap (λ l. counted (sum_by (in_all (λ h. h.kinds) ts) l)) o ∙ fk in
@@ -58,11 +55,9 @@ module _ (modules : List Module) (root : ℕ) (ts : List Hidden) (uses : List (V
   -- the root
   module _ (top : Module) (h : root < length modules) (is : top ≡ get_or modules root top) where
     root_rest : RestOfCopies (uses_of modules) [] ((root, 0) ∷ []) order
-    root_rest = (subst (λ u. (all : List ℕ) → Copies u (root ∷ []) all → RestOfCopies u [] ((root, 0) ∷ []) all) us
-        (λ all c. (copies_begin (lists_in uses) root (omega (arith, h, rows_are uses, uses_count modules uses us))).each all c)) order plan.copies
+    root_rest = (subst (λ u. (all : List ℕ) → Copies u (root ∷ []) all → RestOfCopies u [] ((root, 0) ∷ []) all) us (λ all c. (copies_begin (lists_in uses) root (omega (arith, h, rows_are uses, uses_count modules uses us))).each all c)) order plan.copies
 
-    pub root_fits : Fits (own_kinds modules) (in_all (λ h. h.kinds) ts) (first_of top).kinds [] root (get_or (uses_of modules) root []) × Fits
-        (own_constants modules) (in_all (λ h. h.constants) ts) (first_of top).constants [] root (get_or (uses_of modules) root [])
+    pub root_fits : Fits (own_kinds modules) (in_all (λ h. h.kinds) ts) (first_of top).kinds [] root (get_or (uses_of modules) root []) × Fits (own_constants modules) (in_all (λ h. h.constants) ts) (first_of top).constants [] root (get_or (uses_of modules) root [])
     root_fits = (
       fits (uses_of modules) (own_kinds modules) (in_all (λ h. h.kinds) ts) (first_of top).kinds [] root [] order root_rest plan.kinds
           (let z = own_at (λ m. length m.signature.kinds.items - length m.hidden_kinds.items) modules root top (module_at modules root top h is) in
@@ -81,40 +76,30 @@ module _ (modules : List Module) (root : ℕ) (ts : List Hidden) (uses : List (V
         let m = c.limit in
         (omega (arith, a, l), omega (arith, b, m))
 
-    pub root_kinds : (next below : Hidden) (out : Vec ℕ Global) → out ≡ get_or uses root out → next_of next ≡ first_of top → below.kinds ≡ counted
-        (sum_by (in_all (λ h. h.kinds) ts) out.items) → next.kinds + below.kinds + length top.hidden_kinds.items ≤ 1048576
+    pub root_kinds : (next below : Hidden) (out : Vec ℕ Global) → out ≡ get_or uses root out → next_of next ≡ first_of top → below.kinds ≡ counted (sum_by (in_all (λ h. h.kinds) ts) out.items) → next.kinds + below.kinds + length top.hidden_kinds.items ≤ 1048576
     root_kinds next below out at first k =
         let o = row_is uses root out (omega (arith, h, uses_count modules uses us)) at ∙ ap (λ u. get_or u root []) us in
         let e = ap (λ n. n.kinds) first in
         let z : sum_by (own_kinds modules) [] ≡ 0 = refl in
-        enter_fits (own_kinds modules) (in_all (λ h. h.kinds) ts) (first_of top).kinds [] root (get_or (uses_of modules) root []) out.items next.kinds
-            below.kinds (length top.hidden_kinds.items) root_fits.0 o (omega (arith, e, z)) k
+        enter_fits (own_kinds modules) (in_all (λ h. h.kinds) ts) (first_of top).kinds [] root (get_or (uses_of modules) root []) out.items next.kinds below.kinds (length top.hidden_kinds.items) root_fits.0 o (omega (arith, e, z)) k
         (own_at (λ m. length m.hidden_kinds.items) modules root top (module_at modules root top h is))
 
-    pub root_constants : (next below : Hidden) (out : Vec ℕ Global) → out ≡ get_or uses root out → next_of next ≡ first_of top → below.constants ≡
-        counted (sum_by (in_all (λ h. h.constants) ts) out.items) → next.constants + below.constants + length top.hidden_constants.items ≤ 1048576
+    pub root_constants : (next below : Hidden) (out : Vec ℕ Global) → out ≡ get_or uses root out → next_of next ≡ first_of top → below.constants ≡ counted (sum_by (in_all (λ h. h.constants) ts) out.items) → next.constants + below.constants + length top.hidden_constants.items ≤ 1048576
     root_constants next below out at first k =
         let o = row_is uses root out (omega (arith, h, uses_count modules uses us)) at ∙ ap (λ u. get_or u root []) us in
         let e = ap (λ n. n.constants) first in
         let z : sum_by (own_constants modules) [] ≡ 0 = refl in
-        enter_fits (own_constants modules) (in_all (λ h. h.constants) ts) (first_of top).constants [] root (get_or (uses_of modules) root [])
-            out.items next.constants below.constants (length top.hidden_constants.items) root_fits.1 o (omega (arith, e, z)) k
+        enter_fits (own_constants modules) (in_all (λ h. h.constants) ts) (first_of top).constants [] root (get_or (uses_of modules) root []) out.items next.constants below.constants (length top.hidden_constants.items) root_fits.1 o (omega (arith, e, z)) k
         (own_at (λ m. length m.hidden_constants.items) modules root top (module_at modules root top h is))
 
-    pub root_begun : (old new : Making) (around : List Open) (out : Vec ℕ Global) (below : Hidden) (c : Copying) → out ≡ get_or uses root out →
-        below.kinds ≡ counted (sum_by (in_all (λ h. h.kinds) ts) out.items) → below.constants ≡ counted
-        (sum_by (in_all (λ h. h.constants) ts) out.items) →
-        IsSoFar old → old.clauses.items ≡ [] → next_of old.next ≡ first_of top → (old.kinds.items ≡ []) × (old.constants.items ≡ []) ×
-            (old.declared.items ≡ []) → MakesNames old new → Enters old new [] around top
-            (record { kinds = old.next.kinds + below.kinds; constants = old.next.constants + below.constants }) → c.left.items ≡ [] → frames_of c ≡
-            (root, 0) ∷ [] →
+    pub root_begun : (old new : Making) (around : List Open) (out : Vec ℕ Global) (below : Hidden) (c : Copying) → out ≡ get_or uses root out → below.kinds ≡ counted (sum_by (in_all (λ h. h.kinds) ts) out.items) → below.constants ≡ counted (sum_by (in_all (λ h. h.constants) ts) out.items) →
+        IsSoFar old → old.clauses.items ≡ [] → next_of old.next ≡ first_of top → (old.kinds.items ≡ []) × (old.constants.items ≡ []) × (old.declared.items ≡ []) → MakesNames old new → Enters old new [] around top (record { kinds = old.next.kinds + below.kinds; constants = old.next.constants + below.constants }) → c.left.items ≡ [] → frames_of c ≡ (root, 0) ∷ [] →
         IsMaking modules root ts (frames_of c) c.left.items new around
     root_begun old new around out below c at k n sofar none first unnamed names enters empty frames =
         let (fk, fc) = root_fits in
         let o = row_is uses root out (omega (arith, h, uses_count modules uses us)) at ∙ ap (λ u. get_or u root []) us in
         subst (λ fs. IsMaking modules root ts fs c.left.items new around) (sym frames)
-        (making_begun modules root ts old new around c.left.items top (record { kinds = old.next.kinds + below.kinds; constants = old.next.constants +
-            below.constants }) (module_at modules root top h is) sofar none first unnamed names empty enters.opens enters.names
+        (making_begun modules root ts old new around c.left.items top (record { kinds = old.next.kinds + below.kinds; constants = old.next.constants + below.constants }) (module_at modules root top h is) sofar none first unnamed names empty enters.opens enters.names
         (from_is ts (next_of old.next) below out.items (get_or (uses_of modules) root []) o k n fk.below fc.below ∙ ap (λ x. past ts x (get_or (uses_of modules) root [])) first))
 
   -- a turn
@@ -122,12 +107,10 @@ module _ (modules : List Module) (root : ℕ) (ts : List Hidden) (uses : List (V
     pub never_empty : around ≡ [] → ⊥
     never_empty e = subst (λ l. AreOpen modules ts (next_of old.next) (frames_of c) (reverse l)) e making.open_ones
 
-    leaves_within : (m next : ℕ) (fs : List (ℕ × ℕ)) → frames_of c ≡ (m, next) ∷ fs → (left more : List ℕ) → left ≡ c.left.items ++ m ∷ [] → order ≡
-        left ++ more → (o : Open) (rest : List Open) → around ≡ rest ++ o ∷ [] →
+    leaves_within : (m next : ℕ) (fs : List (ℕ × ℕ)) → frames_of c ≡ (m, next) ∷ fs → (left more : List ℕ) → left ≡ c.left.items ++ m ∷ [] → order ≡ left ++ more → (o : Open) (rest : List Open) → around ≡ rest ++ o ∷ [] →
         (old.next.kinds + length o.module.now.hidden_kinds.items ≤ 1048576) × (old.next.constants + length o.module.now.hidden_constants.items ≤ 1048576)
     leaves_within m next fs before left more is all o rest last =
-        let opened = subst (λ l. AreOpen modules ts (next_of old.next) l (o ∷ reverse rest)) before
-            (subst (AreOpen modules ts (next_of old.next) (frames_of c)) (ap reverse last ∙ reverse-append rest (o ∷ [])) making.open_ones) in
+        let opened = subst (λ l. AreOpen modules ts (next_of old.next) l (o ∷ reverse rest)) before (subst (AreOpen modules ts (next_of old.next) (frames_of c)) (ap reverse last ∙ reverse-append rest (o ∷ [])) making.open_ones) in
         let hk = own_at (λ m. length m.hidden_kinds.items) modules m o.module.now opened.0 in
         let hc = own_at (λ m. length m.hidden_constants.items) modules m o.module.now opened.0 in
         let s = ap (sum_by (own_kinds modules)) (all ∙ ap (λ l. l ++ more) is) ∙ sum_by-append (own_kinds modules) (c.left.items ++ m ∷ []) more in
@@ -144,9 +127,7 @@ module _ (modules : List Module) (root : ℕ) (ts : List Hidden) (uses : List (V
         (rest : List Open) → around ≡ rest ++ o ∷ [] → (old.next.kinds + length o.module.now.hidden_kinds.items ≤ 1048576) ×
         (old.next.constants + length o.module.now.hidden_constants.items ≤ 1048576)
     left_within m turns moves =
-        let (more, e) = rest_more (uses_of modules) c'.left.items (frames_of c') order
-            ((subst (λ u. IsCopying u c') us turns.0).each order (subst (λ k. Copies (uses_of modules) (k ∷ []) order) (sym (turns.1 ∙ of_root))
-            plan.copies)) in
+        let (more, e) = rest_more (uses_of modules) c'.left.items (frames_of c') order ((subst (λ u. IsCopying u c') us turns.0).each order (subst (λ k. Copies (uses_of modules) (k ∷ []) order) (sym (turns.1 ∙ of_root)) plan.copies)) in
         leaves_within m moves.next (frames_of c') moves.before c'.left.items more turns.3 e
 
     pub ended_within : (m : ℕ) → Turns (lists_in uses) c c' (Ended m) → Moves (lists_in uses) (frames_of c) (frames_of c') (Ended m) → (o : Open)
@@ -166,8 +147,7 @@ module _ (modules : List Module) (root : ℕ) (ts : List Hidden) (uses : List (V
       pub entered_bounds : Fits (own_kinds modules) (in_all (λ h. h.kinds) ts) (first_of making.next.top).kinds c'.left.items m
           (get_or (uses_of modules) m []) × Fits (own_constants modules) (in_all (λ h. h.constants) ts) (first_of making.next.top).constants
           c'.left.items m (get_or (uses_of modules) m [])
-      entered_bounds = plan_fits modules root ts order making.next.top making.next.at plan c' (subst (λ u. IsCopying u c') us turns.0)
-          (turns.1 ∙ of_root) m ((opened_here.at, opened_here.next + 1) ∷ opened_here.around) opened_here.after
+      entered_bounds = plan_fits modules root ts order making.next.top making.next.at plan c' (subst (λ u. IsCopying u c') us turns.0) (turns.1 ∙ of_root) m ((opened_here.at, opened_here.next + 1) ∷ opened_here.around) opened_here.after
 
       module _ (member : Module) (out : Vec ℕ Global) (below : Hidden) (is : member ≡ get_or modules m member) (at : out ≡ get_or uses m out)
           (k : below.kinds ≡ counted (sum_by (in_all (λ h. h.kinds) ts) out.items))
@@ -177,46 +157,32 @@ module _ (modules : List Module) (root : ℕ) (ts : List Hidden) (uses : List (V
 
         pub entered_kinds : old.next.kinds + below.kinds + length member.hidden_kinds.items ≤ 1048576
         entered_kinds =
-            enter_fits (own_kinds modules) (in_all (λ h. h.kinds) ts) (first_of making.next.top).kinds c'.left.items m (get_or (uses_of modules) m [])
-                out.items old.next.kinds below.kinds (length member.hidden_kinds.items) entered_bounds.0 inside
-            (making.next.kinds ∙ ap (λ l. (first_of making.next.top).kinds + sum_by (own_kinds modules) l) (sym turns.3)) k
-                (own_at (λ m. length m.hidden_kinds.items) modules m member (module_at modules m member entered_within is))
+            enter_fits (own_kinds modules) (in_all (λ h. h.kinds) ts) (first_of making.next.top).kinds c'.left.items m (get_or (uses_of modules) m []) out.items old.next.kinds below.kinds (length member.hidden_kinds.items) entered_bounds.0 inside
+            (making.next.kinds ∙ ap (λ l. (first_of making.next.top).kinds + sum_by (own_kinds modules) l) (sym turns.3)) k (own_at (λ m. length m.hidden_kinds.items) modules m member (module_at modules m member entered_within is))
 
         pub entered_constants : old.next.constants + below.constants + length member.hidden_constants.items ≤ 1048576
         entered_constants =
-            enter_fits (own_constants modules) (in_all (λ h. h.constants) ts) (first_of making.next.top).constants c'.left.items m
-                (get_or (uses_of modules) m []) out.items old.next.constants below.constants (length member.hidden_constants.items) entered_bounds.1
-                inside
-            (making.next.constants ∙ ap (λ l. (first_of making.next.top).constants + sum_by (own_constants modules) l) (sym turns.3)) n
-                (own_at (λ m. length m.hidden_constants.items) modules m member (module_at modules m member entered_within is))
+            enter_fits (own_constants modules) (in_all (λ h. h.constants) ts) (first_of making.next.top).constants c'.left.items m (get_or (uses_of modules) m []) out.items old.next.constants below.constants (length member.hidden_constants.items) entered_bounds.1 inside
+            (making.next.constants ∙ ap (λ l. (first_of making.next.top).constants + sum_by (own_constants modules) l) (sym turns.3)) n (own_at (λ m. length m.hidden_constants.items) modules m member (module_at modules m member entered_within is))
 
-        pub turn_entered : (new : Making) (more : List Open) → MakesNames old new → Enters old new around more member
-            (record { kinds = old.next.kinds + below.kinds; constants = old.next.constants + below.constants }) → IsMaking modules root ts
-            (frames_of c') c'.left.items new more
+        pub turn_entered : (new : Making) (more : List Open) → MakesNames old new → Enters old new around more member (record { kinds = old.next.kinds + below.kinds; constants = old.next.constants + below.constants }) → IsMaking modules root ts (frames_of c') c'.left.items new more
         turn_entered new more names enters =
             let there = module_at modules m member entered_within is in
             let hk = own_at (λ m. length m.hidden_kinds.items) modules m member there in
             let hc = own_at (λ m. length m.hidden_constants.items) modules m member there in
             subst (λ l. IsMaking modules root ts (frames_of c') l new more) (sym turns.3)
-            (making_entered modules root ts old new around more c.left.items m member
-                (record { kinds = old.next.kinds + below.kinds; constants = old.next.constants + below.constants }) names enters.opens enters.names
-                there
+            (making_entered modules root ts old new around more c.left.items m member (record { kinds = old.next.kinds + below.kinds; constants = old.next.constants + below.constants }) names enters.opens enters.names there
             (from_is ts (next_of old.next) below out.items (get_or (uses_of modules) m []) inside k n entered_bounds.0.below entered_bounds.1.below)
             (entered_bounds.0.total ∙ ap (λ x. x + sum_by (in_all (λ h. h.kinds) ts) (get_or (uses_of modules) m [])) hk)
             (entered_bounds.1.total ∙ ap (λ x. x + sum_by (in_all (λ h. h.constants) ts) (get_or (uses_of modules) m [])) hc)
             (frames_of c) (frames_of c') making opened_here)
 
-    pub turn_left : (m : ℕ) → Turns (lists_in uses) c c' (Left m) → Moves (lists_in uses) (frames_of c) (frames_of c') (Left m) → (new : Making)
-        (less : List Open) → Leaves old new around less → IsMaking modules root ts (frames_of c') c'.left.items new less
-    turn_left m turns moves new less leaves = making_left modules root ts old new around less c.left.items c'.left.items m (frames_of c)
-        (frames_of c') making (subst (λ u. IsClosed u (frames_of c) m (frames_of c')) us moves) leaves turns.3
+    pub turn_left : (m : ℕ) → Turns (lists_in uses) c c' (Left m) → Moves (lists_in uses) (frames_of c) (frames_of c') (Left m) → (new : Making) (less : List Open) → Leaves old new around less → IsMaking modules root ts (frames_of c') c'.left.items new less
+    turn_left m turns moves new less leaves = making_left modules root ts old new around less c.left.items c'.left.items m (frames_of c) (frames_of c') making (subst (λ u. IsClosed u (frames_of c) m (frames_of c')) us moves) leaves turns.3
 
     pub turn_ended : (m : ℕ) → Turns (lists_in uses) c c' (Ended m) → Moves (lists_in uses) (frames_of c) (frames_of c') (Ended m) → (new : Making) (less : List Open) → Leaves old new around less →
-        (copied : List Copy) × (top : Module) × (copy : Copy) × AreCopiesOf modules root top copy copied × IsOrder modules root
-            (map (λ c. c.member) copied) × (map (formula_of new.bank) new.clauses.items ≡ clauses_of modules copied) × AreTabled modules top copy
-            copied new
+        (copied : List Copy) × (top : Module) × (copy : Copy) × AreCopiesOf modules root top copy copied × IsOrder modules root (map (λ c. c.member) copied) × (map (formula_of new.bank) new.clauses.items ≡ clauses_of modules copied) × AreTabled modules top copy copied new
     turn_ended m turns moves new less leaves =
         let i = making_left modules root ts old new around less c.left.items c'.left.items m (frames_of c) [] making (subst (λ u. IsClosed u (frames_of c) m []) us moves) leaves turns.2 in
         let (copied, top, copy, are, members, clauses, tables) = making_ended modules root ts c'.left.items new less i in
-        (copied, top, copy, are, subst (IsOrder modules root) (sym members) (subst (λ r. Copies (uses_of modules) (r ∷ []) c'.left.items) of_root
-            (subst (λ u. Copies u (c.root ∷ []) c'.left.items) us turns.0)), clauses, tables)
+        (copied, top, copy, are, subst (IsOrder modules root) (sym members) (subst (λ r. Copies (uses_of modules) (r ∷ []) c'.left.items) of_root (subst (λ u. Copies u (c.root ∷ []) c'.left.items) us turns.0)), clauses, tables)

@@ -32,14 +32,12 @@ pub none_more : {A : Type 0} (xs : List A) → xs ≡ xs ++ []
 none_more xs = sym (append-nil xs)
 
 pub adds_none : (m : Making) → AddsNames m m [] [] []
-adds_none m = record { kinds_are = none_more (map row_of m.kinds.items); constants_are = none_more (map row_of m.constants.items); schemes_are = λ s.
-    none_more (map (scheme_of m.bank) m.declared.items) }
+adds_none m = record { kinds_are = none_more (map row_of m.kinds.items); constants_are = none_more (map row_of m.constants.items); schemes_are = λ s. none_more (map (scheme_of m.bank) m.declared.items) }
 
 -- types of a bank that grows
 pub schemes_later : (b c : Nodes) (ds : List Declared) → Extends b c → AreTyped b ds → map (scheme_of c) ds ≡ map (scheme_of b) ds
 schemes_later b c [] e w = refl
-schemes_later b c (d ∷ ds) e w = λ i. record { count = d.type_vars; body = e.same_types d.scheme.0
-    (All-head (λ d. d.scheme.0 < length b.types) d ds w) i } ∷ schemes_later b c ds e (All-tail (λ d. d.scheme.0 < length b.types) d ds w) i
+schemes_later b c (d ∷ ds) e w = λ i. record { count = d.type_vars; body = e.same_types d.scheme.0 (All-head (λ d. d.scheme.0 < length b.types) d ds w) i } ∷ schemes_later b c ds e (All-tail (λ d. d.scheme.0 < length b.types) d ds w) i
 
 -- what stands in a bank stands there when it has grown
 pub within_later : (b c : Nodes) (ks : List code.ClauseFormula) → Extends b c → AreWithin b ks → AreWithin c ks
@@ -50,8 +48,7 @@ typed_later b c ds e w = λ i d h. let q = w i d h in omega (arith, q, e.more_ty
 
 -- only the bank has grown
 abbrev pub with_bank : Making → Nodes → Making
-with_bank m b = record { alloc = m.alloc; bank = b; declared = m.declared; clauses = m.clauses; kinds = m.kinds; constants = m.constants;
-    hidden_kinds = m.hidden_kinds; hidden_constants = m.hidden_constants; next = m.next }
+with_bank m b = record { alloc = m.alloc; bank = b; declared = m.declared; clauses = m.clauses; kinds = m.kinds; constants = m.constants; hidden_kinds = m.hidden_kinds; hidden_constants = m.hidden_constants; next = m.next }
 
 pub bank_adds : (m : Making) (b : Nodes) → Extends m.bank b → AddsNames m (with_bank m b) [] [] []
 bank_adds m b e = record {
@@ -62,8 +59,7 @@ bank_adds m b e = record {
 
 -- only clauses were put
 abbrev pub with_clauses : Making → Nodes → Vec code.ClauseFormula Global → Making
-with_clauses m b ks = record { alloc = m.alloc; bank = b; declared = m.declared; clauses = ks; kinds = m.kinds; constants = m.constants;
-    hidden_kinds = m.hidden_kinds; hidden_constants = m.hidden_constants; next = m.next }
+with_clauses m b ks = record { alloc = m.alloc; bank = b; declared = m.declared; clauses = ks; kinds = m.kinds; constants = m.constants; hidden_kinds = m.hidden_kinds; hidden_constants = m.hidden_constants; next = m.next }
 
 pub clauses_add : (m : Making) (b : Nodes) (ks : Vec code.ClauseFormula Global) → Extends m.bank b → AddsNames m (with_clauses m b ks) [] [] []
 clauses_add m b ks e = record {
@@ -73,8 +69,7 @@ clauses_add m b ks e = record {
 }
 
 -- one after the other
-pub adds_more : (a b c : Making) (ks ks' cs cs' : List (Row (ℕ × ℕ))) (ss ss' : List Scheme) → IsMade a b → AddsNames a b ks cs ss → AddsNames b c ks'
-    cs' ss' → AddsNames a c (ks ++ ks') (cs ++ cs') (ss ++ ss')
+pub adds_more : (a b c : Making) (ks ks' cs cs' : List (Row (ℕ × ℕ))) (ss ss' : List Scheme) → IsMade a b → AddsNames a b ks cs ss → AddsNames b c ks' cs' ss' → AddsNames a c (ks ++ ks') (cs ++ cs') (ss ++ ss')
 adds_more a b c ks ks' cs cs' ss ss' made x y = record {
   kinds_are = y.kinds_are ∙ ap (λ l. l ++ ks') x.kinds_are ∙ append_assoc (map row_of a.kinds.items) ks ks';
   constants_are = y.constants_are ∙ ap (λ l. l ++ cs') x.constants_are ∙ append_assoc (map row_of a.constants.items) cs cs';
@@ -116,23 +111,20 @@ pub some_entry : {A : Type 0} (xs ys : List A) (i : ℕ) (x : A) → ys ≡ xs �
 some_entry xs ys i x e h is = subst (λ l. slice_get l i ≡ Some x) e (slice_get-get_or ys i x h ∙ ap (λ y. Some y) (sym is))
 
 -- the exported entries of one more place
-exported_push : {A : Type 0} (first : ℕ) (hidden : List ℕ) (xs : List A) (x : A) → exported_among first hidden (xs ++ x ∷ []) ≡ exported_among first
-    hidden xs ++ one_if_exported (place_in hidden (first + length xs)) x
+exported_push : {A : Type 0} (first : ℕ) (hidden : List ℕ) (xs : List A) (x : A) → exported_among first hidden (xs ++ x ∷ []) ≡ exported_among first hidden xs ++ one_if_exported (place_in hidden (first + length xs)) x
 exported_push first hidden [] x =
     append-nil (one_if_exported (place_in hidden first) x) ∙ ap (λ k. one_if_exported (place_in hidden k) x) (let e : first ≡ first + 0 = omega arith in e)
 exported_push first hidden (y ∷ ys) x =
     ap (λ l. one_if_exported (place_in hidden first) y ++ l) (exported_push (suc first) hidden ys x) ∙
     sym (append_assoc (one_if_exported (place_in hidden first) y) (exported_among (suc first) hidden ys) (one_if_exported (place_in hidden (suc first + length ys)) x)) ∙
-    ap (λ k. (one_if_exported (place_in hidden first) y ++ exported_among (suc first) hidden ys) ++ one_if_exported (place_in hidden k) x)
-        (let e : suc first + length ys ≡ first + suc (length ys) = omega arith in e)
+    ap (λ k. (one_if_exported (place_in hidden first) y ++ exported_among (suc first) hidden ys) ++ one_if_exported (place_in hidden k) x) (let e : suc first + length ys ≡ first + suc (length ys) = omega arith in e)
 
 taken : {A : Type 0} (xs : List A) (i : ℕ) (x : A) → slice_get xs i ≡ Some x → length (take i xs) ≡ i
 taken [] i x e = absurd (cc)
 taken (y ∷ ys) zero x e = refl
 taken (y ∷ ys) (suc i) x e = ap (λ n. suc n) (taken ys i x e)
 
-pub exported_more : {A : Type 0} (first : ℕ) (hidden : List ℕ) (xs : List A) (i : ℕ) (x : A) → slice_get xs i ≡ Some x → exported_among first hidden
-    (take (i + 1) xs) ≡ exported_among first hidden (take i xs) ++ one_if_exported (place_in hidden (first + i)) x
+pub exported_more : {A : Type 0} (first : ℕ) (hidden : List ℕ) (xs : List A) (i : ℕ) (x : A) → slice_get xs i ≡ Some x → exported_among first hidden (take (i + 1) xs) ≡ exported_among first hidden (take i xs) ++ one_if_exported (place_in hidden (first + i)) x
 exported_more first hidden xs i x e =
     ap (λ n. exported_among first hidden (take n xs)) (let n : i + 1 ≡ suc i = omega arith in n) ∙ ap (exported_among first hidden) (take_suc xs i x e) ∙ exported_push first hidden (take i xs) x ∙
     ap (λ n. exported_among first hidden (take i xs) ++ one_if_exported (place_in hidden (first + n)) x) (taken xs i x e)
@@ -163,15 +155,13 @@ module _ {A : Type 0} (first count : ℕ) (hidden : List ℕ) (xs : List A) (pla
 hidden_push : {A : Type 0} (first : ℕ) (ks : List ℕ) (k : ℕ) (xs : List A) → hidden_among first (ks ++ k ∷ []) xs ≡ hidden_among first ks xs ++ option_to_list (slice_get xs (k - first))
 hidden_push first [] k xs = append-nil (option_to_list (slice_get xs (k - first)))
 hidden_push first (j ∷ ks) k xs =
-    ap (λ l. option_to_list (slice_get xs (j - first)) ++ l) (hidden_push first ks k xs) ∙ sym
-        (append_assoc (option_to_list (slice_get xs (j - first))) (hidden_among first ks xs) (option_to_list (slice_get xs (k - first))))
+    ap (λ l. option_to_list (slice_get xs (j - first)) ++ l) (hidden_push first ks k xs) ∙ sym (append_assoc (option_to_list (slice_get xs (j - first))) (hidden_among first ks xs) (option_to_list (slice_get xs (k - first))))
 
 pub one_hidden : {A : Type 0} (first : ℕ) (ks : List ℕ) (k : ℕ) (xs : List A) (x : A) → slice_get xs (k - first) ≡ Some x → hidden_among first (ks ++ k ∷ []) xs ≡ hidden_among first ks xs ++ x ∷ []
 one_hidden first ks k xs x e = hidden_push first ks k xs ∙ ap (λ o. hidden_among first ks xs ++ option_to_list o) e
 
 -- the hidden names of one more copy
-copies_push : {A : Type 0} (f : Copy → Module → List A) (modules : List Module) (done : List Copy) (c : Copy) (m : Module) → slice_get modules
-    c.member ≡ Some m → of_copies f modules (done ++ c ∷ []) ≡ of_copies f modules done ++ f c m
+copies_push : {A : Type 0} (f : Copy → Module → List A) (modules : List Module) (done : List Copy) (c : Copy) (m : Module) → slice_get modules c.member ≡ Some m → of_copies f modules (done ++ c ∷ []) ≡ of_copies f modules done ++ f c m
 copies_push f modules [] c m at = append-nil (of_module (f c) (slice_get modules c.member)) ∙ ap (of_module (f c)) at
 copies_push f modules (d ∷ ds) c m at =
     ap (λ l. of_module (f d) (slice_get modules d.member) ++ l) (copies_push f modules ds c m at) ∙ sym (append_assoc (of_module (f d) (slice_get modules d.member)) (of_copies f modules ds) (f c m))
@@ -185,8 +175,7 @@ module _ (modules : List Module) (top : Module) (root : Copy) (done : List Copy)
     schemes_are = x.schemes_are s ∙ append-nil (map (scheme_of old.bank) old.declared.items) ∙ t.schemes_are;
   }
 
-  pub tabled_more : (c : Copy) (m : Module) → slice_get modules c.member ≡ Some m → AddsNames old new (hidden_kinds m) (hidden_constants m)
-      (hidden_schemes c m) → AreTabled modules top root (done ++ c ∷ []) new
+  pub tabled_more : (c : Copy) (m : Module) → slice_get modules c.member ≡ Some m → AddsNames old new (hidden_kinds m) (hidden_constants m) (hidden_schemes c m) → AreTabled modules top root (done ++ c ∷ []) new
   tabled_more c m at x = record {
     kinds_are = x.kinds_are ∙ ap (λ l. l ++ hidden_kinds m) t.kinds_are ∙ put (exported_kinds top) (λ c m. hidden_kinds m);
     constants_are = x.constants_are ∙ ap (λ l. l ++ hidden_constants m) t.constants_are ∙ put (exported_constants top) (λ c m. hidden_constants m);
@@ -197,8 +186,7 @@ module _ (modules : List Module) (top : Module) (root : Copy) (done : List Copy)
       put xs f = append_assoc xs (of_copies f modules done) (f c m) ∙ ap (λ l. xs ++ l) (sym (copies_push f modules done c m at))
 
 -- the exported names of a root
-pub tabled_first : (modules : List Module) (top : Module) (root : Copy) (old new : Making) → (old.kinds.items ≡ []) × (old.constants.items ≡ []) ×
-    (old.declared.items ≡ []) → IsSoFar old → AddsNames old new (exported_kinds top) (exported_constants top) (exported_schemes root top) →
+pub tabled_first : (modules : List Module) (top : Module) (root : Copy) (old new : Making) → (old.kinds.items ≡ []) × (old.constants.items ≡ []) × (old.declared.items ≡ []) → IsSoFar old → AddsNames old new (exported_kinds top) (exported_constants top) (exported_schemes root top) →
     AreTabled modules top root [] new
 tabled_first modules top root old new (k, c, d) s x = record {
   kinds_are = x.kinds_are ∙ ap (λ l. map row_of l ++ exported_kinds top) k ∙ none_more (exported_kinds top);
@@ -207,8 +195,7 @@ tabled_first modules top root old new (k, c, d) s x = record {
 }
 
 -- the tables of a program that was made
-pub tables_are : (modules : List Module) (root : ℕ) (top : Module) (copy : Copy) (all : List Copy) (m : Making) (a : Assembled) →
-    (w : AreCopiesOf modules root top copy all) → AreTabled modules top copy all m → a.program.bank ≡ m.bank →
+pub tables_are : (modules : List Module) (root : ℕ) (top : Module) (copy : Copy) (all : List Copy) (m : Making) (a : Assembled) → (w : AreCopiesOf modules root top copy all) → AreTabled modules top copy all m → a.program.bank ≡ m.bank →
     (a.kinds ≡ m.kinds) × (a.constants ≡ m.constants) × (a.program.constants ≡ m.declared) → HasTables modules w.are.top w.are.copy all a
 tables_are modules root top copy all m a w t b (k, c, d) = record {
   kinds = ap (λ v. map row_of v.items) k ∙ t.kinds_are ∙ ap (λ x. exported_kinds x ++ of_copies (λ c m. hidden_kinds m) modules all) (sym w.top_is);
@@ -219,8 +206,7 @@ tables_are modules root top copy all m a w t b (k, c, d) = record {
 }
 
 -- the names of a copy: its kinds, then its constants
-pub adds_copy : (a b c d : Making) (o : Open) → IsMade a b → IsMade b c → AddsNames a b (hidden_kinds o.module.now) [] [] → AddsNames b c []
-    (hidden_constants o.module.now) (hidden_schemes (copy_of 0 o) o.module.now) → AddsNames c d [] [] [] → LeavesNames a d o
+pub adds_copy : (a b c d : Making) (o : Open) → IsMade a b → IsMade b c → AddsNames a b (hidden_kinds o.module.now) [] [] → AddsNames b c [] (hidden_constants o.module.now) (hidden_schemes (copy_of 0 o) o.module.now) → AddsNames c d [] [] [] → LeavesNames a d o
 adds_copy a b c d o first second x y z =
     let ks = hidden_kinds o.module.now in
     let cs = hidden_constants o.module.now in
@@ -229,8 +215,7 @@ adds_copy a b c d o first second x y z =
     (adds_more a b d ks ([] ++ []) [] (cs ++ []) [] (ss ++ []) first x (adds_more b c d [] [] cs [] ss [] second y z))
 
 -- those that a root exports
-pub adds_root : (a b c : Making) (o : Open) → IsMade a b → AddsNames a b (exported_kinds o.module.now) [] [] → AddsNames b c []
-    (exported_constants o.module.now) (exported_schemes (copy_of 0 o) o.module.now) →
+pub adds_root : (a b c : Making) (o : Open) → IsMade a b → AddsNames a b (exported_kinds o.module.now) [] [] → AddsNames b c [] (exported_constants o.module.now) (exported_schemes (copy_of 0 o) o.module.now) →
     AddsNames a c (exported_kinds o.module.now) (exported_constants o.module.now) (exported_schemes (copy_of 0 o) o.module.now)
 adds_root a b c o made x y =
     let ks = exported_kinds o.module.now in
@@ -242,18 +227,15 @@ abbrev pub with_body : ℕ → Ty → Scheme
 with_body n T = record { count = n; body = T }
 
 -- one more kind, and one more constant
-pub adds_kind : (a b c : Making) (f : KindEntry → Row (ℕ × ℕ)) (es es_then : List KindEntry) (e : KindEntry) (r : Row (ℕ × ℕ)) → IsMade a b → es_then
-    ≡ es ++ e ∷ [] → r ≡ f e → AddsNames a b (map f es) [] [] → AddsNames b c (r ∷ []) [] [] → AddsNames a c (map f es_then) [] []
+pub adds_kind : (a b c : Making) (f : KindEntry → Row (ℕ × ℕ)) (es es_then : List KindEntry) (e : KindEntry) (r : Row (ℕ × ℕ)) → IsMade a b → es_then ≡ es ++ e ∷ [] → r ≡ f e → AddsNames a b (map f es) [] [] → AddsNames b c (r ∷ []) [] [] → AddsNames a c (map f es_then) [] []
 adds_kind a b c f es es_then e r made is same x y =
     adds_same a c (map f es ++ r ∷ []) (map f es_then) ([] ++ []) [] ([] ++ []) [] (ap (λ r. map f es ++ r ∷ []) same ∙ sym (map-append f es (e ∷ [])) ∙ ap (map f) (sym is)) refl refl
     (adds_more a b c (map f es) (r ∷ []) [] [] [] [] made x y)
 
-pub adds_constant : (a b c : Making) (to : Nodes) (f : ConstantEntry → Row (ℕ × ℕ)) (g : ConstantEntry → Scheme) (es es_then : List ConstantEntry)
-    (e : ConstantEntry) (s : Scheme) → IsMade a b → Extends b.bank to → es_then ≡ es ++ e ∷ [] → s ≡ g e →
+pub adds_constant : (a b c : Making) (to : Nodes) (f : ConstantEntry → Row (ℕ × ℕ)) (g : ConstantEntry → Scheme) (es es_then : List ConstantEntry) (e : ConstantEntry) (s : Scheme) → IsMade a b → Extends b.bank to → es_then ≡ es ++ e ∷ [] → s ≡ g e →
     AddsNames a b [] (map f es) (map g es) → AddsNames (with_bank b to) c [] (f e ∷ []) (s ∷ []) → AddsNames a c [] (map f es_then) (map g es_then)
 adds_constant a b c to f g es es_then e s made grown is same x y =
     adds_same a c ([] ++ ([] ++ [])) [] (map f es ++ ([] ++ f e ∷ [])) (map f es_then) (map g es ++ ([] ++ s ∷ [])) (map g es_then) refl (sym (map-append f es (e ∷ [])) ∙ ap (map f) (sym is))
     (ap (λ s. map g es ++ s ∷ []) same ∙ sym (map-append g es (e ∷ [])) ∙ ap (map g) (sym is))
     (adds_more a b c [] ([] ++ []) (map f es) ([] ++ f e ∷ []) (map g es) ([] ++ s ∷ []) made x
-    (adds_more b (with_bank b to) c [] [] [] (f e ∷ []) [] (s ∷ []) (λ z. (within_later b.bank to b.clauses.items grown z.0, z.1, z.2, z.3, z.4, z.5,
-        typed_later b.bank to b.declared.items grown z.6)) (bank_adds b to grown) y))
+    (adds_more b (with_bank b to) c [] [] [] (f e ∷ []) [] (s ∷ []) (λ z. (within_later b.bank to b.clauses.items grown z.0, z.1, z.2, z.3, z.4, z.5, typed_later b.bank to b.declared.items grown z.6)) (bank_adds b to grown) y))

@@ -1,7 +1,6 @@
 -- Of the program of texts there is a map of declared types: its own table.
-use Rattle.std.specs.Global.{Global}
-use Rattle.std.proofs.Common.{◌≡◌, ℕ, zero, suc, ◌+◌, ◌-◌, ◌<◌, List, [], ◌∷◌, ◌++◌, length, map, take, get_or, Option, Some, None, String, refl, sym, ap, subst, ◌∙◌, arith, inl, inr}
-use Rattle.std.specs.Prelude.{◌⊎◌, if◌then◌else◌, slice_get, Contains, string_bytes}
+use Rattle.std.proofs.Common.{◌≡◌, ℕ, ◌+◌, ◌-◌, List, [], ◌∷◌, ◌++◌, length, map, take, Some, refl, sym, ap, subst, ◌∙◌, arith, inl, inr}
+use Rattle.std.specs.Prelude.{◌⊎◌, if◌then◌else◌, slice_get, string_bytes}
 use Rattle.std.proofs.lemmas.Bool.{lt-ltb}
 use Rattle.std.proofs.lemmas.List.{length-append, length-map}
 use Rattle.std.proofs.lemmas.Option.{same_Some, slice_get_within, get_or_from_slice_get, slice_get_read}
@@ -15,7 +14,6 @@ use Rattle.lp_model.specs.Readings.{scheme_of, declared_by}
 use Rattle.lp_model.specs.declared.program.Declared as code
 use Rattle.lp_sig.specs.Modules.{HasOwnFirst}
 use Rattle.lp_sig.specs.Named.{SeesAlike, HasNamed, named_in}
-use Rattle.lp_sig.specs.Refusals.{IsAt}
 use Rattle.lp_sig.specs.Rows.{kind_row}
 use Rattle.lp_sig.specs.Same.{typed_row, AreSameSignatures}
 use Rattle.lp_sig.specs.declared.entries.ConstantEntry.{ConstantEntry}
@@ -27,7 +25,7 @@ use Rattle.lp_module.specs.Orderly.{IsOrderly}
 use Rattle.lp_module.specs.declared.module.Module.{Module}
 use Rattle.lp_module.proofs.Joining.{program_declares}
 use Rattle.lp_module.proofs.Joins.{same_entry}
-use Rattle.lp_build.specs.Meant.{IsSignatureOf, IsOwnSignature, IsModuleAt, AreModulesAt, no_module, one_module}
+use Rattle.lp_build.specs.Meant.{IsSignatureOf, IsModuleAt, AreModulesAt, no_module, one_module}
 use Rattle.lp_build.specs.Reads.{AreRead}
 use Rattle.lp_build.specs.Sights.{signature_of}
 use Rattle.lp_build.specs.declared.build.Built.{Built}

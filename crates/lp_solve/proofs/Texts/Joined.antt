@@ -1,7 +1,7 @@
 -- The modules of texts go with one another: each sees what those export that it accumulates, with the same types.
 use Rattle.std.specs.Global.{Global}
 use Rattle.std.proofs.Common.{◌≡◌, ◌≢◌, ℕ, zero, suc, ◌+◌, ◌<◌, ◌≤◌, List, [], ◌∷◌, ◌++◌, length, map, filter_map, get_or, option_map, Bool, true, false, Option, Some, None, String, Vec, refl, sym, ap, subst, ◌∙◌, arith, inl, inr, true≢false}
-use Rattle.std.specs.Prelude.{◌⊎◌, ◌||◌, if◌then◌else◌, nat_eq, slice_get, slice_index_or, Contains, All, string_bytes, fold}
+use Rattle.std.specs.Prelude.{◌⊎◌, ◌||◌, if◌then◌else◌, nat_eq, slice_get, Contains, All}
 use Rattle.std.specs.List.{cons_option, list_any}
 use Rattle.std.specs.Str.{bytes_eq}
 use Rattle.std.proofs.lemmas.Bool.{eqb-true, eq-eqb}
@@ -25,7 +25,7 @@ use Rattle.lp_sig.specs.Named.{IsOrdered, SeesAlike, accumulate_in, many_words}
 use Rattle.lp_sig.specs.Pieces.{spelled}
 use Rattle.lp_sig.specs.Places.{first_place}
 use Rattle.lp_sig.specs.Refusals.{IsAt}
-use Rattle.lp_sig.specs.Rows.{kind_row, fixity_row}
+use Rattle.lp_sig.specs.Rows.{fixity_row}
 use Rattle.lp_sig.specs.Said.{is_among}
 use Rattle.lp_sig.specs.Same.{AreSameSignatures}
 use Rattle.lp_sig.specs.declared.signature.Signature.{Signature}
@@ -35,15 +35,13 @@ use Rattle.lp_sig.proofs.OrderedSignatures.{signature_ordered}
 use Rattle.lp_sig.proofs.OwnNames.{own_first}
 use Rattle.lp_module.specs.Copies.{numbers_of, number_list, names_of, uses_of}
 use Rattle.lp_module.specs.Joined.{IsJoined, AreJoined}
-use Rattle.lp_module.specs.Meaning.{IsMeaning}
-use Rattle.lp_module.specs.Orderly.{IsOrderly, AreOrderly}
-use Rattle.lp_module.specs.Words.{accumulate_words, line_words}
+use Rattle.lp_module.specs.Words.{accumulate_words}
 use Rattle.lp_module.specs.declared.module.Module.{Module}
 use Rattle.lp_module.proofs.Joins.{joined_by}
 use Rattle.lp_module.proofs.NumberedSignatures.{signature_numbered}
-use Rattle.lp_build.specs.Meant.{IsDeclaredAt, IsSignatureOf, AreSignaturesOf, no_signature, one_signature as one_signature_more, IsOwnSignature, IsModuleAt, AreModulesAt, no_module, one_module, AreModulesOf, AreModules}
+use Rattle.lp_build.specs.Meant.{IsDeclaredAt, IsSignatureOf, AreSignaturesOf, no_signature, one_signature as one_signature_more, IsModuleAt, AreModulesAt, no_module, one_module, AreModules}
 use Rattle.lp_build.specs.Reads.{AreRead}
-use Rattle.lp_build.specs.Sights.{signature_of, named_by, each_once, accum_sig_of, accumulate_of, accum_sig_at, accumulate_at}
+use Rattle.lp_build.specs.Sights.{signature_of, each_once, accum_sig_of, accumulate_of, accum_sig_at, accumulate_at}
 use Rattle.lp_build.specs.Trees.{IsSignatureTree, IsModuleTree, AreTexts, no_text, other_text, one_text}
 use Rattle.lp_build.specs.declared.sources.File.{File}
 use Rattle.lp_build.specs.declared.sources.Part.{Part}

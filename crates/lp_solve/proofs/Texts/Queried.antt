@@ -1,23 +1,21 @@
 -- The names that queries see have, in the table of the program, the types that their signature gives.
-use Rattle.std.proofs.Common.{◌≡◌, ℕ, zero, suc, ◌+◌, ◌-◌, ◌<◌, ◌≤◌, List, [], ◌∷◌, ◌++◌, length, map, take, get_or, option_map, Bool, true, false, Option, Some, None, refl, sym, ap, subst, ◌∙◌, arith, inl, inr}
-use Rattle.std.specs.Prelude.{◌⊎◌, ◌&&◌, if◌then◌else◌, nat_eq, slice_get, Contains, All, fold, unwrap_or}
+use Rattle.std.proofs.Common.{◌≡◌, ℕ, zero, suc, ◌+◌, ◌-◌, ◌<◌, ◌≤◌, List, [], ◌∷◌, ◌++◌, length, map, take, option_map, Bool, true, false, Option, Some, None, refl, sym, ap, subst, ◌∙◌, arith}
+use Rattle.std.specs.Prelude.{◌&&◌, if◌then◌else◌, slice_get, All, fold, unwrap_or}
 use Rattle.std.specs.List.{AllZip, range_with_len}
 use Rattle.std.specs.Str.{bytes_eq}
-use Rattle.std.proofs.lemmas.Bool.{cases_lt, ne_eqb, eq-eqb}
+use Rattle.std.proofs.lemmas.Bool.{ne_eqb, eq-eqb}
 use Rattle.std.proofs.lemmas.List.{take-map, length-map, length-take}
-use Rattle.std.proofs.lemmas.Option.{same_Some, slice_get-get_or, slice_get_within, get_or_from_slice_get, slice_get_read}
+use Rattle.std.proofs.lemmas.Option.{same_Some, slice_get_within, get_or_from_slice_get, slice_get_read}
 use Rattle.lp_lemmas.proofs.Lists.{get_below}
 use Rattle.lp_calculus.specs.Types.{Ty, Tys, var, param, con, arrow, no_types, types}
-use Rattle.lp_calculus.specs.Typing.{Scheme}
 use Rattle.lp_term.specs.Mapped.{Map, mapped_type, mapped_types}
 use Rattle.lp_term.specs.Nodes.{type_tree}
-use Rattle.lp_model.specs.Proofs.{Declared}
 use Rattle.lp_model.specs.Readings.{declared_by}
 use Rattle.lp_sig.specs.Modules.{kind_said, abbreviation_said, said_of, constants_of, first_names, IsApart, HasOwnFirst}
 use Rattle.lp_sig.specs.Named.{named, all_named, named_in, kind_name, kind_names, IsWhole, AreWhole, IsOrdered, SeesAlike}
 use Rattle.lp_sig.specs.Places.{first_place}
 use Rattle.lp_sig.specs.Rows.{Row, found, kind_row, constant_row}
-use Rattle.lp_sig.specs.Said.{Said, names_in, declared_names}
+use Rattle.lp_sig.specs.Said.{names_in}
 use Rattle.lp_sig.specs.Standard.{standard_kinds, standard_constants}
 use Rattle.lp_sig.specs.declared.entries.ConstantEntry.{ConstantEntry}
 use Rattle.lp_sig.specs.declared.entries.KindEntry.{KindEntry}
@@ -25,18 +23,17 @@ use Rattle.lp_sig.specs.declared.signature.Signature.{Signature}
 use Rattle.lp_sig.proofs.Apart.{AreNew, firsts_new, names_again}
 use Rattle.lp_sig.proofs.Sights.{place_first}
 use Rattle.lp_sig.proofs.Viewing.{names_are}
-use Rattle.lp_infer.specs.Texts.{entry_scheme}
 use Rattle.lp_module.specs.Joined.{IsNumberedSignature, AreJoined}
 use Rattle.lp_module.specs.Numbering.{hidden_one}
 use Rattle.lp_module.specs.Orderly.{IsOrderly}
-use Rattle.lp_module.specs.Program.{place_in, hidden_or, one_if_none, exported_before, exported_among, row_of, kind_as, constant_as, map_of, scheme_in, IsProgram}
+use Rattle.lp_module.specs.Program.{place_in, hidden_or, one_if_none, exported_before, exported_among, row_of, kind_as, constant_as, map_of, IsProgram}
 use Rattle.lp_module.specs.declared.copies.Assembled.{Assembled}
 use Rattle.lp_module.specs.declared.copies.GlobalName.{GlobalName}
 use Rattle.lp_module.specs.declared.module.Module.{Module}
 use Rattle.lp_module.proofs.Joining.{standard_number, IsNamedKind, of_language, of_signature, named_kind, con_name, arrow_parts, list_parts}
 use Rattle.lp_module.proofs.Joins.{first_name, first_within, own_entry}
 use Rattle.lp_module.proofs.Lookups.{exported_first, place_none, exported_have_types}
-use Rattle.lp_build.specs.Queried.{is_global_of, global_of, number_among, IsKindOf, IsConstantOf, as_row, kind_numbers, with_kinds, IsSeenByQueries}
+use Rattle.lp_build.specs.Queried.{is_global_of, global_of, number_among, IsConstantOf, as_row, kind_numbers, with_kinds, IsSeenByQueries}
 use Rattle.lp_solve.specs.Schemes.{DeclaresSeen}
 
 -- global names in front of a table
@@ -181,7 +178,7 @@ module _ (modules : List Module) (root : ℕ) (a : Assembled) (p : IsProgram mod
     (seen : IsSeenByQueries own a.kinds.items a.constants.items s) (apart : IsApart own) (ordered : IsOrdered own)
     (first : HasOwnFirst own p.are.top.signature) (theirs : SeesAlike own p.are.top.signature) (o : IsOrderly p.are.top)
         (kinds_are : o.exported_kinds ≡ length own.kinds.items) (constants_are : o.exported_constants ≡ length own.constants.items) where
-  top : Module
+  abbrev top : Module
   top = p.are.top
 
   sm : IsNumberedSignature p.are.top.signature
@@ -231,7 +228,7 @@ module _ (modules : List Module) (root : ℕ) (a : Assembled) (p : IsProgram mod
       name_at (y ∷ ys) (suc q) e = name_at ys q e
 
   -- kinds of one name have one number in the program
-  new_kinds : ℕ → ℕ
+  abbrev new_kinds : ℕ → ℕ
   new_kinds = kind_numbers a.kinds.items (map kind_row own.kinds.items)
 
   kinds_agree : (n : List ℕ) (k l : ℕ) → kind_name (kind_names top.signature) k ≡ Some n → kind_name (kind_names own) l ≡ Some n → p.are.copy.kinds k ≡ new_kinds l

@@ -1,10 +1,9 @@
 -- The words that a module's text names other files by are those of the sentences that refer to files.
-use Rattle.std.proofs.Common.{◌≡◌, ◌≢◌, ℕ, zero, suc, ◌+◌, ◌<◌, ◌≤◌, List, [], ◌∷◌, ◌++◌, length, map, Bool, true, false, Option, Some, None, refl, sym, ap, subst, ◌∙◌, arith, inl, inr, append_assoc, append-nil}
+use Rattle.std.proofs.Common.{◌≡◌, ℕ, zero, suc, ◌+◌, ◌<◌, ◌≤◌, List, [], ◌∷◌, ◌++◌, length, map, Bool, true, false, Some, None, refl, sym, ap, subst, ◌∙◌, arith, inl, inr, append_assoc, append-nil}
 use Rattle.std.specs.Prelude.{◌⊎◌, if◌then◌else◌}
 use Rattle.std.proofs.lemmas.List.{map-append}
 use Rattle.std.proofs.lemmas.Option.{slice_get_past}
 use Rattle.lp_base.specs.declared.place.Spot.{Spot}
-use Rattle.lp_standard.specs.declared.fixity.Fixity.{Fixity}
 use Rattle.lp_syntax.specs.declared.class.Class.{Class}
 use Rattle.lp_syntax.specs.declared.class.Class.TheVariants as class
 use Rattle.lp_syntax.specs.declared.class.Keyword.{Keyword}
@@ -20,19 +19,19 @@ use Rattle.lp_syntax.specs.declared.text.Sentence.TheVariants.{Declares, Says}
 use Rattle.lp_syntax.specs.Tokens.{Lexeme, Operators, class_at, class_in, bytes_at, symbol_of, symbol_at}
 use Rattle.lp_syntax.specs.Symbols.{Tree}
 use Rattle.lp_syntax.specs.Types.{TypeTree, Level, IsType, word, variable, group, head, applied, side_head, side_argument, target, arrow}
-use Rattle.lp_syntax.specs.Machine.{State, Move, Goes, Stops, Run, Reached, run, go_on, step, st, Wants}
+use Rattle.lp_syntax.specs.Machine.{State, Move, Goes, Stops, Reached, run, go_on, step, st, Wants}
 use Rattle.lp_syntax.specs.Terms.{Spells, done, token, note, TermAt}
-use Rattle.lp_syntax.specs.Declarations.{is_name, is_word, is_listed, WithCommas, none_listed, one_listed, AreNames, KindFront, no_argument, argument, IsKindText, Parameters, no_parameter, parameter, IsHeadAt, bare, bracketed, HasNumber, EndsAt, Line, KindLine, LocalKindLine, ConstantLine, LocalLine, AbbreviationLine, AccumulateLine, AccumSigLine, FixityLine, IsShown, IsBody, kinds, local_kinds, local_kinds_of, constants, locals, locals_of, abbreviation, accumulate, accum_sig, fixities}
+use Rattle.lp_syntax.specs.Declarations.{is_word, is_listed, WithCommas, none_listed, one_listed, AreNames, KindFront, no_argument, argument, IsKindText, Parameters, no_parameter, parameter, IsHeadAt, bare, bracketed, Line, KindLine, LocalKindLine, ConstantLine, LocalLine, AbbreviationLine, AccumulateLine, AccumSigLine, FixityLine, IsShown, IsBody, kinds, local_kinds, local_kinds_of, constants, locals, locals_of, abbreviation, accumulate, accum_sig, fixities}
 use Rattle.lp_syntax.specs.Signatures.{IsHeader, IsLine}
-use Rattle.lp_syntax.specs.Modules.{Clause, Declared, Said, IsSentence, declares, says, AreSentences, no_sentence, one_sentence, IsSaid, AreSaid, IsModuleText}
+use Rattle.lp_syntax.specs.Modules.{Clause, Declared, Said, IsSentence, declares, says, AreSentences, no_sentence, one_sentence, AreSaid, IsModuleText}
 use Rattle.lp_syntax.specs.References.{refers, words_of, sig_words_of, all_of, NextSentence, stop_here, at_last, later, NoReference, Refer, none_yet, one_refers, none_refers, AreReferences}
 use Rattle.lp_syntax.proofs.LineUnique.{same_line}
 use Rattle.lp_syntax.proofs.Referring.{other_keyword}
-use Rattle.lp_syntax.proofs.TermSteps.{dot_symbol, dot_no_colon, other_stops}
+use Rattle.lp_syntax.proofs.TermSteps.{dot_symbol, other_stops}
 use Rattle.lp_syntax.proofs.TermFaults.{term_read}
 use Rattle.lp_sig.specs.Loading.{accum_words}
 use Rattle.lp_sig.specs.Modules.{declarations}
-use Rattle.lp_module.specs.Words.{named_words, line_words, accumulate_words}
+use Rattle.lp_module.specs.Words.{named_words, accumulate_words}
 use Rattle.lp_sig.proofs.Naming.{accum_append}
 
 -- two numbers

@@ -11,19 +11,16 @@ use Rattle.lp_module.proofs.Composing.{clauses_count}
 use Rattle.lp_module.proofs.copies.assemble.Goals as goal
 
 pub end_of_kinds-requires-clause-order : goal.end_of_kinds-requires-clause-order
-end_of_kinds-requires-clause-order c = order_within c.in_ok-uses.uses.items c.args.modules.now c.args.root c.in_ok-order.order.items
-    c.in_ok-uses.ensures.uses (omega (arith, c.if-root-modules.false)) c.in_ok-order.ensures.copies
+end_of_kinds-requires-clause-order c = order_within c.in_ok-uses.uses.items c.args.modules.now c.args.root c.in_ok-order.order.items c.in_ok-uses.ensures.uses (omega (arith, c.if-root-modules.false)) c.in_ok-order.ensures.copies
 
 pub end_of_constants-requires-clause-order : goal.end_of_constants-requires-clause-order
-end_of_constants-requires-clause-order c = order_within c.in_ok-uses.uses.items c.args.modules.now c.args.root c.in_ok-order.order.items
-    c.in_ok-uses.ensures.uses (omega (arith, c.if-root-modules.false)) c.in_ok-order.ensures.copies
+end_of_constants-requires-clause-order c = order_within c.in_ok-uses.uses.items c.args.modules.now c.args.root c.in_ok-order.order.items c.in_ok-uses.ensures.uses (omega (arith, c.if-root-modules.false)) c.in_ok-order.ensures.copies
 
 pub totals_of-requires-clause-modules : goal.totals_of-requires-clause-modules
 totals_of-requires-clause-modules c = sym (uses_count c.args.modules.now c.in_ok-uses.uses.items c.in_ok-uses.ensures.uses)
 
 pub totals_of-requires-clause-order : goal.totals_of-requires-clause-order
-totals_of-requires-clause-order c = order_within c.in_ok-uses.uses.items c.args.modules.now c.args.root c.in_ok-order.order.items
-    c.in_ok-uses.ensures.uses (omega (arith, c.if-root-modules.false)) c.in_ok-order.ensures.copies
+totals_of-requires-clause-order c = order_within c.in_ok-uses.uses.items c.args.modules.now c.args.root c.in_ok-order.order.items c.in_ok-uses.ensures.uses (omega (arith, c.if-root-modules.false)) c.in_ok-order.ensures.copies
 
 pub totals_of-requires-clause-behind : goal.totals_of-requires-clause-behind
 totals_of-requires-clause-behind c = copies_behind _ (c.args.root ∷ []) c.in_ok-order.order.items c.in_ok-order.ensures.copies []
@@ -61,8 +58,7 @@ returns-clause-program c =
       few = c.in_ok-order.ensures.few;
       kinds_fit = subst (λ n. n ≤ END_OF_IMAGE_NUMBERS) is_kinds kinds;
       constants_fit = subst (λ n. n ≤ END_OF_IMAGE_NUMBERS) is_constants constants;
-      count = sym (length-map c.in_ok-made.made.program.clauses.items (formula_of c.in_ok-made.made.program.bank)) ∙ ap length clauses ∙ clauses_count
-          c.args.modules.now copied ∙ ap (total counts_of c.args.modules.now) same;
+      count = sym (length-map c.in_ok-made.made.program.clauses.items (formula_of c.in_ok-made.made.program.bank)) ∙ ap length clauses ∙ clauses_count c.args.modules.now copied ∙ ap (total counts_of c.args.modules.now) same;
       clauses = c.in_ok-made.ensures.clauses;
       constants = c.in_ok-made.ensures.constants;
       typed = c.in_ok-made.ensures.typed;
@@ -82,6 +78,5 @@ returns-clause-copies c =
       c.in_ok-order.ensures.few,
       subst (λ n. n ≤ END_OF_IMAGE_NUMBERS) is_kinds kinds,
       subst (λ n. n ≤ END_OF_IMAGE_NUMBERS) is_constants constants,
-      sym (length-map c.in_ok-made.made.program.clauses.items (formula_of c.in_ok-made.made.program.bank)) ∙ ap length clauses ∙ clauses_count
-          c.args.modules.now copied ∙ ap (total counts_of c.args.modules.now) same,
+      sym (length-map c.in_ok-made.made.program.clauses.items (formula_of c.in_ok-made.made.program.bank)) ∙ ap length clauses ∙ clauses_count c.args.modules.now copied ∙ ap (total counts_of c.args.modules.now) same,
     )

@@ -14,12 +14,10 @@ use Rattle.lp_module.proofs.Tabled.{tables_are}
 use Rattle.lp_module.proofs.copies.make.Goals as goal
 
 pub new-making-requires-clause-kinds : goal.new-making-requires-clause-kinds
-new-making-requires-clause-kinds c = (root_names c.args.modules.now c.args.root c.args.totals.now.items c.args.uses.now.items c.requires.uses
-    c.requires.plan.0 c.requires.plan.1 c.index-modules-root.result c.requires.root c.index-modules-root.is).0
+new-making-requires-clause-kinds c = (root_names c.args.modules.now c.args.root c.args.totals.now.items c.args.uses.now.items c.requires.uses c.requires.plan.0 c.requires.plan.1 c.index-modules-root.result c.requires.root c.index-modules-root.is).0
 
 pub new-making-requires-clause-constants : goal.new-making-requires-clause-constants
-new-making-requires-clause-constants c = (root_names c.args.modules.now c.args.root c.args.totals.now.items c.args.uses.now.items c.requires.uses
-    c.requires.plan.0 c.requires.plan.1 c.index-modules-root.result c.requires.root c.index-modules-root.is).1
+new-making-requires-clause-constants c = (root_names c.args.modules.now c.args.root c.args.totals.now.items c.args.uses.now.items c.requires.uses c.requires.plan.0 c.requires.plan.1 c.index-modules-root.result c.requires.root c.index-modules-root.is).1
 
 pub enter-requires-clause-hidden_kinds : goal.enter-requires-clause-hidden_kinds
 enter-requires-clause-hidden_kinds c = root_kinds c.args.modules.now c.args.root c.args.totals.now.items c.args.uses.now.items c.requires.uses
@@ -32,12 +30,10 @@ enter-requires-clause-hidden_constants c = root_constants c.args.modules.now c.a
     c.index.result.now c.index.ensures c.new-making.ensures.next c.below_of.ensures.constants
 
 pub enter-requires-clause-kinds : goal.enter-requires-clause-kinds
-enter-requires-clause-kinds c = λ e. (root_names c.args.modules.now c.args.root c.args.totals.now.items c.args.uses.now.items c.requires.uses
-    c.requires.plan.0 c.requires.plan.1 c.index-modules-root.result c.requires.root c.index-modules-root.is).0
+enter-requires-clause-kinds c = λ e. (root_names c.args.modules.now c.args.root c.args.totals.now.items c.args.uses.now.items c.requires.uses c.requires.plan.0 c.requires.plan.1 c.index-modules-root.result c.requires.root c.index-modules-root.is).0
 
 pub enter-requires-clause-constants : goal.enter-requires-clause-constants
-enter-requires-clause-constants c = λ e. (root_names c.args.modules.now c.args.root c.args.totals.now.items c.args.uses.now.items c.requires.uses
-    c.requires.plan.0 c.requires.plan.1 c.index-modules-root.result c.requires.root c.index-modules-root.is).1
+enter-requires-clause-constants c = λ e. (root_names c.args.modules.now c.args.root c.args.totals.now.items c.args.uses.now.items c.requires.uses c.requires.plan.0 c.requires.plan.1 c.index-modules-root.result c.requires.root c.index-modules-root.is).1
 
 pub copies-init : goal.copies-init
 copies-init c = (
@@ -146,29 +142,24 @@ returns-in-Ended-clause-copied c =
     let (copied, top, copy, are, order, clauses, tables) = turn_ended c.args.modules.now c.args.root c.args.totals.now.items c.args.uses.now.items c.requires.uses
     c.requires.plan.0 c.requires.plan.1 c.copies.copying c.go_on.new.self c.copies.making c.copies.around.items c.copies.invariant.2
     c.copies.invariant.1 c.in-Ended.field-0 t m c.leave-in-Ended.new.self c.leave-in-Ended.new.around.items c.in_ok-leave-in-Ended.ensures in
-    (copied, are.are, order, ap (λ b. map (formula_of b) c.finish.result.program.clauses.items) c.finish.ensures.bank ∙ ap
-        (map (formula_of c.leave-in-Ended.new.self.bank)) c.finish.ensures.same ∙ clauses, tables_are c.args.modules.now c.args.root top copy copied
-        c.leave-in-Ended.new.self c.finish.result are tables c.finish.ensures.bank c.finish.ensures.named)
+    (copied, are.are, order, ap (λ b. map (formula_of b) c.finish.result.program.clauses.items) c.finish.ensures.bank ∙ ap (map (formula_of c.leave-in-Ended.new.self.bank)) c.finish.ensures.same ∙ clauses, tables_are c.args.modules.now c.args.root top copy copied c.leave-in-Ended.new.self c.finish.result are tables c.finish.ensures.bank c.finish.ensures.named)
 
 pub below_of-requires : goal.below_of-requires
 below_of-requires c =
     let n = uses_count c.args.modules.now c.args.uses.now.items c.requires.uses in
-    within_totals c.args.uses.now.items c.args.root c.index.result.now (length c.args.totals.now.items) (omega (arith, c.requires.root, n))
-        c.index.ensures (c.requires.totals ∙ sym n) c.requires.within
+    within_totals c.args.uses.now.items c.args.root c.index.result.now (length c.args.totals.now.items) (omega (arith, c.requires.root, n)) c.index.ensures (c.requires.totals ∙ sym n) c.requires.within
 
 pub below_of-below-requires : goal.below_of-below-requires
 below_of-below-requires c =
     let n = uses_count c.args.modules.now c.args.uses.now.items c.requires.uses in
     let r = rows_are c.args.uses.now.items in
     let t = subst (Turns (lists_in c.args.uses.now.items) c.copies.copying c.go_on.new.self) c.in-Entered.is c.in_ok-at.ensures.turns in
-    within_totals c.args.uses.now.items c.in-Entered.at c.index-in-Entered.result.now (length c.args.totals.now.items) (omega (arith, t.4, r))
-        c.index-in-Entered.ensures (c.requires.totals ∙ sym n) c.requires.within
+    within_totals c.args.uses.now.items c.in-Entered.at c.index-in-Entered.result.now (length c.args.totals.now.items) (omega (arith, t.4, r)) c.index-in-Entered.ensures (c.requires.totals ∙ sym n) c.requires.within
 
 pub returns-in_err-at-clause-refused : goal.returns-in_err-at-clause-refused
 returns-in_err-at-clause-refused c =
     passed_up c.from_residual-in_err-at.result (fault_of c.in_err-at.field-0.0) (IsTooMany (lists_in c.args.uses.now.items) c.args.root) c.from_residual-in_err-at.ensures.1
-    (tree_told (lists_in c.args.uses.now.items) c.args.root c.in_err-at.field-0.0 (subst
-        (λ m. AreTooMany (lists_in c.args.uses.now.items) m c.in_err-at.field-0.0) c.copies.invariant.1 c.in_err-at.ensures.refused))
+    (tree_told (lists_in c.args.uses.now.items) c.args.root c.in_err-at.field-0.0 (subst (λ m. AreTooMany (lists_in c.args.uses.now.items) m c.in_err-at.field-0.0) c.copies.invariant.1 c.in_err-at.ensures.refused))
 
 pub finish-requires : goal.finish-requires
 finish-requires c = c.in_ok-leave-in-Ended.ensures.made c.copies.invariant.2.sofar

@@ -31,29 +31,19 @@ returns-in_err-check_clauses-clause-refused c =
     ))
 
 pub returns-in_err-clauses-clause-refused : goal.returns-in_err-clauses-clause-refused
-returns-in_err-clauses-clause-refused c = passed_up c.from_residual-in_err-clauses.result fault.Memory
-    (IsRefusal c.args.source.now c.args.text.now c.args.expected.now) c.from_residual-in_err-clauses.ensures.1
-    (inr (c.in_ok-check_header.ensures.same, inl refl))
+returns-in_err-clauses-clause-refused c = passed_up c.from_residual-in_err-clauses.result fault.Memory (IsRefusal c.args.source.now c.args.text.now c.args.expected.now) c.from_residual-in_err-clauses.ensures.1 (inr (c.in_ok-check_header.ensures.same, inl refl))
 
 pub returns-in_err-name-clause-refused : goal.returns-in_err-name-clause-refused
-returns-in_err-name-clause-refused c = passed_up c.from_residual-in_err-name.result fault.Memory
-    (IsRefusal c.args.source.now c.args.text.now c.args.expected.now) c.from_residual-in_err-name.ensures.1
-    (inr (c.in_ok-check_header.ensures.same, inl refl))
+returns-in_err-name-clause-refused c = passed_up c.from_residual-in_err-name.result fault.Memory (IsRefusal c.args.source.now c.args.text.now c.args.expected.now) c.from_residual-in_err-name.ensures.1 (inr (c.in_ok-check_header.ensures.same, inl refl))
 
 pub returns-in_err-uses-clause-refused : goal.returns-in_err-uses-clause-refused
-returns-in_err-uses-clause-refused c = passed_up c.from_residual-in_err-uses.result fault.Memory
-    (IsRefusal c.args.source.now c.args.text.now c.args.expected.now) c.from_residual-in_err-uses.ensures.1
-    (inr (c.in_ok-check_header.ensures.same, inl refl))
+returns-in_err-uses-clause-refused c = passed_up c.from_residual-in_err-uses.result fault.Memory (IsRefusal c.args.source.now c.args.text.now c.args.expected.now) c.from_residual-in_err-uses.ensures.1 (inr (c.in_ok-check_header.ensures.same, inl refl))
 
 pub returns-in_err-hidden_kinds-clause-refused : goal.returns-in_err-hidden_kinds-clause-refused
-returns-in_err-hidden_kinds-clause-refused c = passed_up c.from_residual-in_err-hidden_kinds.result fault.Memory
-    (IsRefusal c.args.source.now c.args.text.now c.args.expected.now) c.from_residual-in_err-hidden_kinds.ensures.1
-    (inr (c.in_ok-check_header.ensures.same, inl refl))
+returns-in_err-hidden_kinds-clause-refused c = passed_up c.from_residual-in_err-hidden_kinds.result fault.Memory (IsRefusal c.args.source.now c.args.text.now c.args.expected.now) c.from_residual-in_err-hidden_kinds.ensures.1 (inr (c.in_ok-check_header.ensures.same, inl refl))
 
 pub returns-in_err-hidden_constants-clause-refused : goal.returns-in_err-hidden_constants-clause-refused
-returns-in_err-hidden_constants-clause-refused c = passed_up c.from_residual-in_err-hidden_constants.result fault.Memory
-    (IsRefusal c.args.source.now c.args.text.now c.args.expected.now) c.from_residual-in_err-hidden_constants.ensures.1
-    (inr (c.in_ok-check_header.ensures.same, inl refl))
+returns-in_err-hidden_constants-clause-refused c = passed_up c.from_residual-in_err-hidden_constants.result fault.Memory (IsRefusal c.args.source.now c.args.text.now c.args.expected.now) c.from_residual-in_err-hidden_constants.ensures.1 (inr (c.in_ok-check_header.ensures.same, inl refl))
 
 pub closed_sentences-requires : goal.closed_sentences-requires
 closed_sentences-requires c =
@@ -78,8 +68,7 @@ returns-clause-meaning c =
       hidden_constants = c.in_ok-hidden_constants.ensures ∙ (λ i. range_with_len (32 + length (c.constants.ensures i)) (length (c.constants-2.ensures i) - length (c.constants.ensures i)));
       count = closed_count b ss ks closed ∙ sentences_count names c.args.source.now c.typed_sentences.new.bank raws ss c.in_ok-sentences.ensures.sentences;
       clauses = closed_within b ss ks closed;
-      sentences = are_clauses names c.args.source.now b raws ss ks (sentences_later c.typed_sentences.new.bank b c.in_ok-clauses.ensures.kept names
-          c.args.source.now raws ss c.in_ok-sentences.ensures.sentences) closed
+      sentences = are_clauses names c.args.source.now b raws ss ks (sentences_later c.typed_sentences.new.bank b c.in_ok-clauses.ensures.kept names c.args.source.now raws ss c.in_ok-sentences.ensures.sentences) closed
           (subst (All (IsFormedIn (declared_schemes names) b)) c.as_slice-2.ensures.value c.in_ok-check_clauses.ensures.formed);
     }
 

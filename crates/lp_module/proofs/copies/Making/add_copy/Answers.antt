@@ -9,6 +9,5 @@ returns-clause-clauses c =
 
 pub returns-clause-names : goal.returns-clause-names
 returns-clause-names c =
-    adds_copy c.args.self.now c.add_hidden_kinds.new.self c.add_hidden_constants.new.self c.add_clauses.new.self c.args.copy.now
-        c.in_ok-add_hidden_kinds.ensures.made.0 c.in_ok-add_hidden_constants.ensures.made.0
+    adds_copy c.args.self.now c.add_hidden_kinds.new.self c.add_hidden_constants.new.self c.add_clauses.new.self c.args.copy.now c.in_ok-add_hidden_kinds.ensures.made.0 c.in_ok-add_hidden_constants.ensures.made.0
     c.in_ok-add_hidden_kinds.ensures.names c.in_ok-add_hidden_constants.ensures.names c.in_ok-add_clauses.ensures.names

@@ -30,8 +30,7 @@ loop-at-preserved-then-index-ne0 c =
       c.loop-at.invariant.0,
       c.loop-at.invariant.1,
       subst (λ l. AddsNames c.args.self.now c.loop-at.self [] (map (constant_as 0) l) (map (λ e. scheme_in (copy_of 0 c.args.root.now) (entry_scheme b e)) l))
-          (sym (none_exported 32 (length c.constants.result.now) hidden xs c.in_ok-places.places.items are c.loop-at.at c.index.result.now h
-              c.index.ensures m (λ z. omega (arith, z, c.if-index-ne0.true)))) c.loop-at.invariant.2,
+          (sym (none_exported 32 (length c.constants.result.now) hidden xs c.in_ok-places.places.items are c.loop-at.at c.index.result.now h c.index.ensures m (λ z. omega (arith, z, c.if-index-ne0.true)))) c.loop-at.invariant.2,
     )
 
 pub loop-at-preserved : goal.loop-at-preserved
@@ -52,11 +51,9 @@ loop-at-preserved c =
           (names_then c.args.self.now c.loop-at.self (with_bank c.loop-at.self c.copy_type.new.to) c.loop-at.invariant.0
           (bank_grown c.loop-at.self c.copy_type.new.to c.copy_type.ensures.kept)) c.in_ok-add_global_constant.ensures.made,
       made_later m b c.copy_type.new.to c.add_global_constant.new.self.bank c.copy_type.new.self c.in_ok-add_global_constant.ensures.made.2 memo,
-      adds_constant c.args.self.now c.loop-at.self c.add_global_constant.new.self c.copy_type.new.to (constant_as 0)
-          (λ e. scheme_in (copy_of 0 c.args.root.now) (entry_scheme b e)) (exported_among 32 hidden (take c.loop-at.at xs))
+      adds_constant c.args.self.now c.loop-at.self c.add_global_constant.new.self c.copy_type.new.to (constant_as 0) (λ e. scheme_in (copy_of 0 c.args.root.now) (entry_scheme b e)) (exported_among 32 hidden (take c.loop-at.at xs))
           (exported_among 32 hidden (take (c.loop-at.at + 1) xs)) entry _ c.loop-at.invariant.0.0 c.copy_type.ensures.kept
-          (one_exported 32 (length c.constants.result.now) hidden xs c.in_ok-places.places.items are c.loop-at.at c.index.result.now h c.index.ensures
-              entry there c.if-index-ne0.false) (ap (with_body entry.type_vars) made)
+          (one_exported 32 (length c.constants.result.now) hidden xs c.in_ok-places.places.items are c.loop-at.at c.index.result.now h c.index.ensures entry there c.if-index-ne0.false) (ap (with_body entry.type_vars) made)
           c.loop-at.invariant.2 c.in_ok-add_global_constant.ensures.names,
     )
 
@@ -70,5 +67,4 @@ returns-clause-names c =
     subst
     (λ l. AddsNames c.args.self.now c.loop-at.self [] (map (constant_as 0) (exported_among 32 c.args.root.now.module.now.hidden_constants.items l))
     (map (λ e. scheme_in (copy_of 0 c.args.root.now) (entry_scheme b e)) (exported_among 32 c.args.root.now.module.now.hidden_constants.items l)))
-    (take_all c.loop-at.at c.args.root.now.module.now.signature.constants.items (omega
-        (arith, m, c.loop-at-test.false, c.len-at-end.ensures, c.in_ok-places.places.ok, c.in_ok-places.ensures.count))) c.loop-at.invariant.2
+    (take_all c.loop-at.at c.args.root.now.module.now.signature.constants.items (omega (arith, m, c.loop-at-test.false, c.len-at-end.ensures, c.in_ok-places.places.ok, c.in_ok-places.ensures.count))) c.loop-at.invariant.2

@@ -20,8 +20,7 @@ loop-at-preserved-then-index-ne0 c =
     let are = subst (λ l. ArePlaces 8 (length c.kinds-kinds.result.now) l 0 c.in_ok-places.places.items) c.as_slice-hidden.ensures.value c.in_ok-places.ensures in (
       c.loop-at.invariant.0,
       subst (λ l. AddsNames c.args.self.now c.loop-at.self (map (kind_as 0) l) [] [])
-          (sym (none_exported 8 (length c.kinds-kinds.result.now) hidden xs c.in_ok-places.places.items are c.loop-at.at c.index.result.now h
-              c.index.ensures m (λ z. omega (arith, z, c.if-index-ne0.true)))) c.loop-at.invariant.1,
+          (sym (none_exported 8 (length c.kinds-kinds.result.now) hidden xs c.in_ok-places.places.items are c.loop-at.at c.index.result.now h c.index.ensures m (λ z. omega (arith, z, c.if-index-ne0.true)))) c.loop-at.invariant.1,
     )
 
 pub loop-at-preserved : goal.loop-at-preserved
@@ -32,8 +31,7 @@ loop-at-preserved c =
     let are = subst (λ l. ArePlaces 8 (length c.kinds-kinds.result.now) l 0 c.in_ok-places.places.items) c.as_slice-hidden.ensures.value c.in_ok-places.ensures in
     let there = some_entry xs c.kinds-kinds.result.now c.loop-at.at c.in-Some.entry.now c.kinds-kinds.ensures c.in-Some.ensures.lookup.3.0 c.in-Some.ensures.lookup.1 in (
       names_then c.args.self.now c.loop-at.self c.add_global_kind.new.self c.loop-at.invariant.0 c.in_ok-add_global_kind.ensures.made,
-      adds_kind c.args.self.now c.loop-at.self c.add_global_kind.new.self (kind_as 0) (exported_among 8 hidden (take c.loop-at.at xs))
-          (exported_among 8 hidden (take (c.loop-at.at + 1) xs)) c.in-Some.entry.now _ c.loop-at.invariant.0.0
+      adds_kind c.args.self.now c.loop-at.self c.add_global_kind.new.self (kind_as 0) (exported_among 8 hidden (take c.loop-at.at xs)) (exported_among 8 hidden (take (c.loop-at.at + 1) xs)) c.in-Some.entry.now _ c.loop-at.invariant.0.0
           (one_exported 8 (length c.kinds-kinds.result.now) hidden xs c.in_ok-places.places.items are c.loop-at.at c.index.result.now h c.index.ensures c.in-Some.entry.now there c.if-index-ne0.false)
           (ap (λ n. (n, (0, c.in-Some.entry.now.arity))) c.as_slice.ensures.value) c.loop-at.invariant.1 c.in_ok-add_global_kind.ensures.names,
     )
@@ -45,5 +43,4 @@ pub returns-clause-names : goal.returns-clause-names
 returns-clause-names c =
     let m = ap length c.kinds-kinds.ensures in
     subst (λ l. AddsNames c.args.self.now c.loop-at.self (map (kind_as 0) (exported_among 8 c.args.root.now.module.now.hidden_kinds.items l)) [] [])
-    (take_all c.loop-at.at c.args.root.now.module.now.signature.kinds.items (omega (arith, m, c.loop-at-test.false, c.len-at-end.ensures,
-        c.in_ok-places.places.ok, c.in_ok-places.ensures.count))) c.loop-at.invariant.1
+    (take_all c.loop-at.at c.args.root.now.module.now.signature.kinds.items (omega (arith, m, c.loop-at-test.false, c.len-at-end.ensures, c.in_ok-places.places.ok, c.in_ok-places.ensures.count))) c.loop-at.invariant.1

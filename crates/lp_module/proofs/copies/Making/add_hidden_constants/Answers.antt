@@ -32,16 +32,13 @@ loop-number-preserved c =
     let memo = subst (λ b. AreMade m b c.copy_type.new.to c.copy_type.new.self) c.bank.ensures (c.in_ok-scheme.ensures.memo m is old) in
     let made = c.in_ok-scheme.ensures.made m is old ∙ ap (λ b. mapped_type m (type_tree b entry.scheme.0)) c.bank.ensures in
     let there : slice_get xs (c.in-Some.number - 32) ≡ Some entry =
-    subst (λ p. slice_get xs p ≡ Some entry) c.saturating_sub-place.ensures (some_entry xs c.constants.result.now c.saturating_sub-place.result entry
-        c.constants.ensures c.in-Some-get.ensures.lookup.3.0 c.in-Some-get.ensures.lookup.1) in (
+    subst (λ p. slice_get xs p ≡ Some entry) c.saturating_sub-place.ensures (some_entry xs c.constants.result.now c.saturating_sub-place.result entry c.constants.ensures c.in-Some-get.ensures.lookup.3.0 c.in-Some-get.ensures.lookup.1) in (
       names_then c.args.self.now (with_bank c.loop-number.self c.copy_type.new.to) c.add_hidden_constant.new.self
           (names_then c.args.self.now c.loop-number.self (with_bank c.loop-number.self c.copy_type.new.to) c.loop-number.invariant.0
           (bank_grown c.loop-number.self c.copy_type.new.to c.copy_type.ensures.kept)) c.in_ok-add_hidden_constant.ensures.made,
       made_later m b c.copy_type.new.to c.add_hidden_constant.new.self.bank c.copy_type.new.self c.in_ok-add_hidden_constant.ensures.made.2 memo,
-      adds_constant c.args.self.now c.loop-number.self c.add_hidden_constant.new.self c.copy_type.new.to (constant_as 1)
-          (λ e. scheme_in (copy_of 0 c.args.copy.now) (entry_scheme b e)) (hidden_among 32 c.loop-number.yielded xs)
-          (hidden_among 32 (c.loop-number.yielded ++ c.in-Some.number ∷ []) xs) entry _ c.loop-number.invariant.0.0 c.copy_type.ensures.kept
-              (one_hidden 32 c.loop-number.yielded c.in-Some.number xs entry there) (ap (with_body entry.type_vars) made)
+      adds_constant c.args.self.now c.loop-number.self c.add_hidden_constant.new.self c.copy_type.new.to (constant_as 1) (λ e. scheme_in (copy_of 0 c.args.copy.now) (entry_scheme b e)) (hidden_among 32 c.loop-number.yielded xs)
+          (hidden_among 32 (c.loop-number.yielded ++ c.in-Some.number ∷ []) xs) entry _ c.loop-number.invariant.0.0 c.copy_type.ensures.kept (one_hidden 32 c.loop-number.yielded c.in-Some.number xs entry there) (ap (with_body entry.type_vars) made)
           c.loop-number.invariant.2 c.in_ok-add_hidden_constant.ensures.names,
     )
 
@@ -53,8 +50,6 @@ returns-clause-names c =
     let b = c.args.copy.now.module.now.signature.bank in
     let xs = c.args.copy.now.module.now.signature.constants.items in
     let whole : c.loop-number.yielded ≡ c.deref.result.now =
-    sym (map-id c.loop-number.yielded) ∙ (YieldsList-end (YieldsList-from_copied (YieldsList-from_slice c.deref.result.now cc)) c.loop-number.yielded
-        _ c.loop-number.yielded_by _ _ c.in-None.is c.next.ensures.steps).0 in
-    subst (λ l. AddsNames c.args.self.now c.loop-number.self [] (map (constant_as 1) (hidden_among 32 l xs))
-        (map (λ e. scheme_in (copy_of 0 c.args.copy.now) (entry_scheme b e)) (hidden_among 32 l xs))) (whole ∙ c.deref.ensures.value)
+    sym (map-id c.loop-number.yielded) ∙ (YieldsList-end (YieldsList-from_copied (YieldsList-from_slice c.deref.result.now cc)) c.loop-number.yielded _ c.loop-number.yielded_by _ _ c.in-None.is c.next.ensures.steps).0 in
+    subst (λ l. AddsNames c.args.self.now c.loop-number.self [] (map (constant_as 1) (hidden_among 32 l xs)) (map (λ e. scheme_in (copy_of 0 c.args.copy.now) (entry_scheme b e)) (hidden_among 32 l xs))) (whole ∙ c.deref.ensures.value)
     c.loop-number.invariant.2

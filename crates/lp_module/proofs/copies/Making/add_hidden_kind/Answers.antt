@@ -10,8 +10,7 @@ use Rattle.lp_module.proofs.copies.Making.add_hidden_kind.Goals as goal
 pub returns-clause-made : goal.returns-clause-made
 returns-clause-made c = (
   (λ (within, lengths, counted, numbered, others_counted, others_numbered, typed).
-      let a = hidden_added (count_in c.args.self.now.hidden_kinds) (count_in c.next_hidden.new.counts) c.args.self.now.kinds.items
-          c.push.new.self.items (record { name = c.in_ok-name.name; hidden = c.in_ok-hidden.hidden; arity = c.args.arity }) c.args.name.now
+      let a = hidden_added (count_in c.args.self.now.hidden_kinds) (count_in c.next_hidden.new.counts) c.args.self.now.kinds.items c.push.new.self.items (record { name = c.in_ok-name.name; hidden = c.in_ok-hidden.hidden; arity = c.args.arity }) c.args.name.now
       c.in_ok-push.ensures.items c.in_ok-name.ensures.items c.in_ok-hidden.ensures.number c.in_ok-hidden.ensures.counted counted numbered in
       (within, lengths, a.0, a.1, others_counted, others_numbered, typed)),
   refl,
@@ -21,10 +20,7 @@ returns-clause-made c = (
 
 pub returns-clause-names : goal.returns-clause-names
 returns-clause-names c = record {
-  kinds_are = row_pushed c.args.self.now.kinds.items c.push.new.self.items (record { name = c.in_ok-name.name; hidden = c.in_ok-hidden.hidden;
-      arity = c.args.arity }) (c.args.name.now, (1, c.args.arity)) c.in_ok-push.ensures.items
-      (hidden_row (record { name = c.in_ok-name.name; hidden = c.in_ok-hidden.hidden; arity = c.args.arity }) c.args.name.now
-      (count_in c.args.self.now.hidden_kinds c.args.name.now) c.in_ok-name.ensures.items c.in_ok-hidden.ensures.number);
+  kinds_are = row_pushed c.args.self.now.kinds.items c.push.new.self.items (record { name = c.in_ok-name.name; hidden = c.in_ok-hidden.hidden; arity = c.args.arity }) (c.args.name.now, (1, c.args.arity)) c.in_ok-push.ensures.items (hidden_row (record { name = c.in_ok-name.name; hidden = c.in_ok-hidden.hidden; arity = c.args.arity }) c.args.name.now (count_in c.args.self.now.hidden_kinds c.args.name.now) c.in_ok-name.ensures.items c.in_ok-hidden.ensures.number);
   constants_are = none_more (map row_of c.args.self.now.constants.items);
   schemes_are = λ s. none_more (map (scheme_of c.args.self.now.bank) c.args.self.now.declared.items);
 }
