@@ -1,5 +1,5 @@
 -- Modules that go with one another: what one exports, those that accumulate it see with the same types.
-use Rattle.std.specs.Prelude.{◌≡◌, ◌+◌, ◌<◌, ◌⊎◌, ℕ, List, [], ◌++◌, map, length, get_or, Option, None, Some, slice_get, Contains}
+use Rattle.std.specs.Prelude.{◌≡◌, ◌+◌, ◌<◌, ◌⊎◌, ℕ, List, [], ◌++◌, map, length, get_or, None, Some, slice_get, Contains}
 use Rattle.lp_calculus.specs.Types.{Ty, Tys, var, param, con, arrow, no_types, types}
 use Rattle.lp_term.specs.Nodes.{type_tree}
 use Rattle.lp_model.specs.Proofs.{Declared}
