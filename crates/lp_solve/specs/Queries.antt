@@ -42,6 +42,13 @@ pub record IsFlat {told : Option Held} {name text : List ℕ} (q : IsQuery told 
   pub depth : ℕ
   pub goals : flatten_query depth d (tree q.bank q.typed.formula.0) ≡ Some gs
 
+-- there are declared types of the program by which its source clauses and the query flatten
+pub record Flattens {told : Option Held} {name text : List ℕ} (q : IsQuery told name text) : Type 0 where
+  pub types : Declared
+  pub clauses : List Clause
+  pub goals : Goals
+  pub flat : IsFlat q types clauses goals
+
 -- the definition's search of it begins so, with these limits of steps and of answers
 abbrev pub first_state : {told : Option Held} {name text : List ℕ} → IsQuery told name text → Goals → (steps answers : ℕ) → State Task
 first_state q gs steps answers = start q.typed.type_vars (length q.typed.vars.items) gs steps answers
