@@ -146,9 +146,8 @@ module _ (d : Declared) (c : Copy) (fair : IsFair c) (high : IsHigh c) (sig : Si
       let (depth, cs, is) = once_flattened (clause_flattens here k.type_vars x.typing.free x.typing.formula formed) in
       let D : ClauseFormula = record { type_vars = k.type_vars; formula = all_of x.typing.free x.typing.formula } in
       let there : flatten depth d (in_copy c D) ≡ option_map (moved_clauses (moving c.kinds c.constants 0) 0) (flatten depth here D) =
-          ap (λ m. flatten depth d (record { type_vars = D.type_vars; formula = mapped m D.formula })) (sym (same_map c)) ∙
-          flatten_to c.kinds c.constants 0 here d language_kept (λ j. ap (λ t. t && heads_clauses (here j)) (declared_kept j)) depth D in
-      (
+      ap (λ m. flatten depth d (record { type_vars = D.type_vars; formula = mapped m D.formula })) (sym (same_map c)) ∙
+      flatten_to c.kinds c.constants 0 here d language_kept (λ j. ap (λ t. t && heads_clauses (here j)) (declared_kept j)) depth D in (
         depth,
         moved_clauses (moving c.kinds c.constants 0) 0 cs,
         ap (λ t. flatten depth d (in_copy c (record { type_vars = k.type_vars; formula = t }))) x.closed ∙ there ∙ ap (option_map (moved_clauses (moving c.kinds c.constants 0) 0)) is,

@@ -21,7 +21,7 @@ query_flat q =
     let are = is.program.program.are in
     let copied = is.program.program.copied in
     let clauses = all_flat l.sources is.modules is.are h.joined.numbered d copied (copies_fair is.modules is.program.root copied are)
-        (copies_high is.modules h.joined is.program.root copied are) h.are.copies in
+    (copies_high is.modules h.joined is.program.root copied are) h.are.copies in
     let (P, flattened) = all_flattened d (source_clauses p) clauses in
     let formed = formed_more (declared_schemes q.built.signature) d (heads_seen d q.built.signature h.are.queries h.placed) true q.typed.type_vars (tree q.bank q.typed.formula.0) q.asked.formed in
     let (depth, gs, is_flat) = once_flattened (query_flattens d q.typed.type_vars (tree q.bank q.typed.formula.0) formed) in

@@ -167,7 +167,7 @@ module _ {T : Type 0} (p : Part) (IsTree : ℕ → File → T → Type 0) (files
   text_at n numbers names sources trees (other_text m _ f _ _ _ _ before at_f part e) i number source tree x y z = text_at m numbers names sources trees before i number source tree x y z
   text_at n numbers names sources trees (one_text m _ f name s t ns _ ms _ ss _ ts _ before at_f part same_name same_source is e a b c d) i number source tree x y z =
       by (text_at m ns ms ss ts before i number source tree) (last_or ns m number i (ap (λ l. slice_get l i) (sym a) ∙ x))
-          (last_or ss s source i (ap (λ l. slice_get l i) (sym c) ∙ y)) (last_or ts t tree i (ap (λ l. slice_get l i) (sym d) ∙ z))
+      (last_or ss s source i (ap (λ l. slice_get l i) (sym c) ∙ y)) (last_or ts t tree i (ap (λ l. slice_get l i) (sym d) ∙ z))
     where
       long : (length ss ≡ length ns) × (length ts ≡ length ns)
       long = same_lengths m ns ms ss ts before
@@ -251,9 +251,9 @@ module _ (f : List ℕ → Option ℕ) where
       by : ((es : List ℕ) → ((n : List ℕ) (x : ℕ) → is_among n known ≡ true → f n ≡ Some x → Contains es x) → length
           (insert_all nat_eq es (filter_map f ws)) ≤ length es + length (first_names known ws)) →
           ((es : List ℕ) → ((n : List ℕ) (x : ℕ) → is_among n (w ∷ known) ≡ true → f n ≡ Some x → Contains es x) → length
-              (insert_all nat_eq es (filter_map f ws)) ≤ length es + length (first_names (w ∷ known) ws)) →
+          (insert_all nat_eq es (filter_map f ws)) ≤ length es + length (first_names (w ∷ known) ws)) →
           (o : Option ℕ) → f w ≡ o → (t : Bool) → is_among w known ≡ t → length (insert_all nat_eq es (filter_map f (w ∷ ws))) ≤ length es + length
-              (if t then first_names known ws else w ∷ first_names (w ∷ known) ws)
+          (if t then first_names known ws else w ∷ first_names (w ∷ known) ws)
       by p q None e true s = subst (λ xs. length (insert_all nat_eq es xs) ≤ length es + length (first_names known ws)) (sym (none_first f w ws e)) (p es old)
       by p q None e false s =
           let h = q es (later es old (λ x is. let z = sym e ∙ is in absurd (cc))) in
@@ -261,10 +261,10 @@ module _ (f : List ℕ → Option ℕ) where
       by p q (Some x) e true s =
           let same : insert_key nat_eq es x ≡ es = ap (λ t. if t then es else es ++ x ∷ []) (of_any es x (old w x s e)) in
           subst (λ xs. length (insert_all nat_eq es xs) ≤ length es + length (first_names known ws)) (sym (some_first f w ws x e))
-              (subst (λ ks. length (insert_all nat_eq ks (filter_map f ws)) ≤ length es + length (first_names known ws)) (sym same) (p es old))
+          (subst (λ ks. length (insert_all nat_eq ks (filter_map f ws)) ≤ length es + length (first_names known ws)) (sym same) (p es old))
       by p q (Some x) e false s =
           let h = q (insert_key nat_eq es x) (later (insert_key nat_eq es x) (λ n y a is. kept es (x ∷ []) y (old n y a is))
-              (λ y is. subst (Contains (insert_key nat_eq es x)) (same_Some x y (sym e ∙ is)) (inserted es (x ∷ []) x (Contains_head x [])))) in
+          (λ y is. subst (Contains (insert_key nat_eq es x)) (same_Some x y (sym e ∙ is)) (inserted es (x ∷ []) x (Contains_head x [])))) in
           let l = one_longer x (list_any (nat_eq x) es) in
           subst (λ xs. length (insert_all nat_eq es xs) ≤ length es + suc (length (first_names (w ∷ known) ws))) (sym (some_first f w ws x e)) (omega (arith, h, l))
 
@@ -350,9 +350,9 @@ module _ (sources : Sources) (modules : List Module) (read : AreRead sources) (a
   pub same_signature : (n : ℕ) (s u : Signature) → IsSignatureOf g n s → IsSignatureOf g n u → AreSameSignatures s u
   same_signature n s u a b =
       let e = one_place part.Signature IsSignatureTree files (length files) g.numbers.items g.names.items g.sources.items g.texts.items
-          are.signature_texts a.place b.place n (get_at g.numbers.items a.place n a.there) (get_at g.numbers.items b.place n b.there) in
+      are.signature_texts a.place b.place n (get_at g.numbers.items a.place n a.there) (get_at g.numbers.items b.place n b.there) in
       one_signature g.names.items g.sources.items g.texts.items a.place (map fixity_row s.fixities.items) (map fixity_row u.fixities.items) s u
-          a.declared (subst (λ p. IsDeclaredAt g p u) (sym e) b.declared)
+      a.declared (subst (λ p. IsDeclaredAt g p u) (sym e) b.declared)
 
   -- a module's meaning
   pub meaning_at : (k : ℕ) (m : Module) → slice_get modules k ≡ Some m → (p : ℕ) × IsModuleAt files g t p m
@@ -362,19 +362,19 @@ module _ (sources : Sources) (modules : List Module) (read : AreRead sources) (a
   names_files : (p : ℕ) (m : Module) (a : IsModuleAt files g t p m) → NamesFiles files a.number a.source.items a.text
   names_files p m a =
       let h = text_at part.Module (IsModuleTree files) files (length files) t.numbers.items t.names.items t.sources.items t.texts.items are.module_texts p a.number a.source a.text
-          (get_at t.numbers.items p a.number a.at_number) (get_at t.sources.items p a.source a.at_source) (get_at t.texts.items p a.text a.at_text) in
+      (get_at t.numbers.items p a.number a.at_number) (get_at t.sources.items p a.source a.at_source) (get_at t.texts.items p a.text a.at_text) in
       let f = h.file in
       let r = (read.each a.number f h.at).text in
       let bytes = f.text.bytes.items in
       let tokens = f.text.tokens.items in
       let l = length-map tokens (lexeme bytes) in
       let w = words_referred (spot_at a.number bytes tokens) h.tree_is.before h.tree_is.after (lexemes bytes tokens) a.text f.text.references h.tree_is.tree
-          (subst (λ n. AreReferences (spot_at a.number bytes tokens) (lexemes bytes tokens) n f.text.references) (sym l) r.references) in
+      (subst (λ n. AreReferences (spot_at a.number bytes tokens) (lexemes bytes tokens) n f.text.references) (sym l) r.references) in
       let at = get_at files a.number f h.at in
       let one = λ (of_file : File → List ℕ). get_or_from_slice_get (map of_file files) a.number (of_file f) [] (mapped_at of_file files a.number f at) in
       let named = λ (words : List Spot) (text_words : List Spot) (e : words ≡ text_words).
-          ap each_once (ap (filter_map (λ w. signature_of files (spelled bytes w))) e ∙ by_spots (signature_of files) bytes text_words ∙ ap
-              (λ s. filter_map (signature_of files) (map (spelled s) text_words)) (sym h.bytes)) in
+      ap each_once (ap (filter_map (λ w. signature_of files (spelled bytes w))) e ∙ by_spots (signature_of files) bytes text_words ∙ ap
+      (λ s. filter_map (signature_of files) (map (spelled s) text_words)) (sym h.bytes)) in
       record {
         accum_sig = one (accum_sig_of files) ∙ named f.text.references.accum_sig.items (accum_words (declarations a.text.lines.items)) w.1;
         accumulate = one (accumulate_of files) ∙ named f.text.references.accumulate.items (accumulate_in (declarations a.text.lines.items)) (w.0 ∙ words_same a.text.lines.items);
@@ -403,21 +403,25 @@ module _ (sources : Sources) (modules : List Module) (read : AreRead sources) (a
       let word : Contains words m.name.items = subst (λ ws. Contains ws m.name.items) (a.meaning.uses ∙ ap (map (spelled a.source.items)) (words_same a.text.lines.items)) uses in
       let number : signature_of files m.name.items ≡ Some b.own_is.number = ap (signature_of files) b.meaning.name ∙ b.own_is.first in
       let among : Contains numbers b.own_is.number = Contains-append_right (accum_sig_at files a.number) (accumulate_at files a.number) b.own_is.number
-          (subst (λ ns. Contains ns b.own_is.number) (sym n.accumulate) (inserted [] (filter_map (signature_of files) words) b.own_is.number
-              (has_number (signature_of files) words m.name.items b.own_is.number word number))) in
+      (subst (λ ns. Contains ns b.own_is.number) (sym n.accumulate) (inserted [] (filter_map (signature_of files) words) b.own_is.number
+      (has_number (signature_of files) words m.name.items b.own_is.number word number))) in
       let (i, at) = in_list numbers b.own_is.number among in
       let (u, at_u, is_u) = signature_at files g t numbers a.used a.used_are i b.own_is.number at in
       let few_l = few_named p above a in
       let l = slice_get_within numbers i b.own_is.number at in
       let all_ordered : All IsOrdered a.used = λ k d h. all_signatures files g t IsOrdered ordered numbers a.used a.used_are k (get_or a.used k d) (slice_get-get_or a.used k d h) in
       let seen : SeesAlike u above.signature = a.meaning.theirs.used_ones (apart a.own_is.number a.own a.own_is.is)
-          (ordered a.own_is.number a.own a.own_is.is) all_ordered i u at_u (omega (arith, few_l, l)) in
+      (ordered a.own_is.number a.own a.own_is.is) all_ordered i u at_u (omega (arith, few_l, l)) in
       let own_apart = apart b.own_is.number b.own b.own_is.is in
       let own_ordered = ordered b.own_is.number b.own b.own_is.is in
-      joined_by above m b.own u (record { exported_kinds = length b.own.kinds.items; exported_constants = length b.own.constants.items;
-          kinds = b.meaning.hidden_kinds; constants = b.meaning.hidden_constants }) refl refl
+      joined_by above m b.own u (record {
+        exported_kinds = length b.own.kinds.items;
+        exported_constants = length b.own.constants.items;
+        kinds = b.meaning.hidden_kinds;
+        constants = b.meaning.hidden_constants;
+      }) refl refl
       (signature_numbered b.own b.used b.source.items b.text.lines.items m.signature b.meaning.names)
-          (own_first b.own b.used b.source.items b.text.lines.items m.signature own_apart b.meaning.names) own_apart own_ordered
+      (own_first b.own b.used b.source.items b.text.lines.items m.signature own_apart b.meaning.names) own_apart own_ordered
       (b.meaning.theirs.own_ones own_apart own_ordered) (same_signature b.own_is.number u b.own is_u b.own_is.is) seen
 
   pub modules_joined : AreJoined modules
@@ -431,7 +435,7 @@ module _ (sources : Sources) (modules : List Module) (read : AreRead sources) (a
         let (p, a) = meaning_at k above at_k in
         let (q, b) = meaning_at j m at_j in
         let uses = get_or_from_slice_get (uses_of modules) k (numbers_of (names_of modules) (map (λ u. u.items) above.uses.items)) []
-            (mapped_at (λ m. numbers_of (names_of modules) (map (λ u. u.items) m.uses.items)) modules k above at_k) in
+        (mapped_at (λ m. numbers_of (names_of modules) (map (λ u. u.items) m.uses.items)) modules k above at_k) in
         let (w, has, first) = named_one (names_of modules) (map (λ u. u.items) above.uses.items) j (subst (λ ns. Contains ns j) uses used) in
         let name : m.name.items ≡ w = same_Some m.name.items w (sym (mapped_at (λ m. m.name.items) modules j m at_j) ∙ place_name (names_of modules) w j first) in
         joined_at above m p q a b (subst (Contains (map (λ u. u.items) above.uses.items)) (sym name) has);

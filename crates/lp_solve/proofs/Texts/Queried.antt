@@ -149,7 +149,7 @@ apart_kinds : (own : Signature) → IsApart own → first_names (names_in standa
 apart_kinds own apart =
     let rows = map kind_said own.kinds.items in
     let new = new_front (names_in standard_kinds) rows (map abbreviation_said own.abbreviations.items)
-        (subst (AreNew (names_in standard_kinds)) apart.kinds (firsts_new (names_in standard_kinds) (said_of own))) in
+    (subst (AreNew (names_in standard_kinds)) apart.kinds (firsts_new (names_in standard_kinds) (said_of own))) in
     subst (λ ns. first_names (names_in standard_kinds) ns ≡ ns) (names_are own.kinds.items) (names_again (names_in standard_kinds) rows new)
 
 -- names of the rows in front
@@ -177,7 +177,7 @@ zip_at R f g (a ∷ more) (b ∷ bs) (r, z) (suc i) y e = zip_at R f g more bs z
 module _ (modules : List Module) (root : ℕ) (a : Assembled) (p : IsProgram modules root a) (j : AreJoined modules) (own s : Signature)
     (seen : IsSeenByQueries own a.kinds.items a.constants.items s) (apart : IsApart own) (ordered : IsOrdered own)
     (first : HasOwnFirst own p.are.top.signature) (theirs : SeesAlike own p.are.top.signature) (o : IsOrderly p.are.top)
-        (kinds_are : o.exported_kinds ≡ length own.kinds.items) (constants_are : o.exported_constants ≡ length own.constants.items) where
+    (kinds_are : o.exported_kinds ≡ length own.kinds.items) (constants_are : o.exported_constants ≡ length own.constants.items) where
   abbrev top : Module
   top = p.are.top
 
@@ -188,7 +188,7 @@ module _ (modules : List Module) (root : ℕ) (a : Assembled) (p : IsProgram mod
   kinds_front : exported_among 8 top.hidden_kinds.items top.signature.kinds.items ≡ take (length own.kinds.items) top.signature.kinds.items
   kinds_front =
       ap (λ h. exported_among 8 h top.signature.kinds.items) o.kinds ∙ exported_first (8 + o.exported_kinds)
-          (length top.signature.kinds.items - o.exported_kinds) 8 o.exported_kinds top.signature.kinds.items refl (omega arith) ∙
+      (length top.signature.kinds.items - o.exported_kinds) 8 o.exported_kinds top.signature.kinds.items refl (omega arith) ∙
       ap (λ n. take n top.signature.kinds.items) kinds_are
 
   constants_front : exported_among 32 top.hidden_constants.items top.signature.constants.items ≡ take (length own.constants.items) top.signature.constants.items
@@ -205,7 +205,7 @@ module _ (modules : List Module) (root : ℕ) (a : Assembled) (p : IsProgram mod
       let known = names_in standard_kinds in
       front_global x.name.items a.kinds.items (map (kind_as 0) es) _ q p.tables.kinds (all_global (kind_as 0) (λ e. refl) es)
       (ap (first_place x.name.items) (names ∙ sym (apart_kinds own apart)) ∙ place_first known (kind_names own) q x.name.items
-          (ap (λ l. slice_get l q) (apart_kinds own apart) ∙ name_at own.kinds.items q at))
+      (ap (λ l. slice_get l q) (apart_kinds own apart) ∙ name_at own.kinds.items q at))
     where
       name_at : (es : List KindEntry) (q : ℕ) → slice_get es q ≡ Some x → slice_get (map (λ e. e.name.items) es) q ≡ Some x.name.items
       name_at [] q e = absurd (cc)
@@ -217,7 +217,7 @@ module _ (modules : List Module) (root : ℕ) (a : Assembled) (p : IsProgram mod
       let es = exported_among 32 top.hidden_constants.items top.signature.constants.items in
       let names : names_in (map (constant_as 0) es) ≡ constants_of own =
       constant_rows es ∙ ap (map (λ e. e.name.items)) constants_front ∙ sym (take-map (λ (e : ConstantEntry). e.name.items)
-          (length own.constants.items) top.signature.constants.items) ∙ first.constants in
+      (length own.constants.items) top.signature.constants.items) ∙ first.constants in
       let known = names_in standard_constants in
       front_global x.name.items a.constants.items (map (constant_as 0) es) _ q p.tables.constants (all_global (constant_as 0) (λ e. refl) es)
       (ap (first_place x.name.items) (names ∙ sym apart.constants) ∙ place_first known (constants_of own) q x.name.items (ap (λ l. slice_get l q) apart.constants ∙ name_at own.constants.items q at))
@@ -255,13 +255,13 @@ module _ (modules : List Module) (root : ℕ) (a : Assembled) (p : IsProgram mod
           let (v, at_v) = get_below top.signature.kinds.items q (first_within top own o kinds_are sm first q low) in
           let name_v : v.name.items ≡ n = first_name (λ (e : KindEntry). e.name.items) (λ (e : KindEntry). e.name.items) top.signature.kinds.items own.kinds.items q v x first.kinds at_v at ∙ name in
           let one = ap (λ r. r.0) (same_Some (8 + i, y.arity) (8 + q, v.arity) (sym (sm.kinds i y at_i) ∙ ap
-              (λ w. found w (standard_kinds ++ map kind_row top.signature.kinds.items)) (name_y ∙ sym name_v) ∙ sm.kinds q v at_v)) in
+          (λ w. found w (standard_kinds ++ map kind_row top.signature.kinds.items)) (name_y ∙ sym name_v) ∙ sm.kinds q v at_v)) in
           let k_is : k ≡ 8 + q = omega (arith, w, one) in
           let free : place_in top.hidden_kinds.items (8 + q) ≡ None = ap (λ h. place_in h (8 + q)) o.kinds ∙ place_none (8 + o.exported_kinds)
-              (length top.signature.kinds.items - o.exported_kinds) (8 + q) (omega (arith, low, kinds_are)) in
+          (length top.signature.kinds.items - o.exported_kinds) (8 + q) (omega (arith, low, kinds_are)) in
           let there : p.are.copy.kinds k ≡ 8 + q =
           ap p.are.copy.kinds k_is ∙ p.are.is_root.kinds.named q (slice_get_within top.signature.kinds.items q v at_v) ∙ ap
-              (λ w. hidden_or p.are.middle.kinds w (8 + exported_before 8 top.hidden_kinds.items q)) free ∙
+          (λ w. hidden_or p.are.middle.kinds w (8 + exported_before 8 top.hidden_kinds.items q)) free ∙
           ap (λ n. 8 + n) (before_hidden 8 o.exported_kinds (length top.signature.kinds.items - o.exported_kinds) q top.hidden_kinds.items o.kinds (omega (arith, low, kinds_are))) in
           there ∙ sym (fold_at a.kinds.items own.kinds.items 8 q (λ k. k) l x ordered.kinds at z ∙ ap (λ w. unwrap_or (option_map (λ i. 8 + i) w) l) (global_kind q x at))
 
@@ -278,25 +278,25 @@ module _ (modules : List Module) (root : ℕ) (a : Assembled) (p : IsProgram mod
       let low = slice_get_within own.constants.items i x at in
       let (t, at_t) = get_below top.signature.constants.items i (within i low) in
       let name : t.name.items ≡ x.name.items = first_name (λ (e : ConstantEntry). e.name.items) (λ (e : ConstantEntry). e.name.items)
-          top.signature.constants.items own.constants.items i t x first.constants at_t at in
+      top.signature.constants.items own.constants.items i t x first.constants at_t at in
       let entry = own_entry top own sm apart i t at_t x at name (theirs x (i, low, get_or_from_slice_get own.constants.items i x x at)) in
       let free : place_in top.hidden_constants.items (32 + i) ≡ None = ap (λ h. place_in h (32 + i)) o.constants ∙ place_none
-          (32 + o.exported_constants) (length top.signature.constants.items - o.exported_constants) (32 + i) (omega (arith, low, constants_are)) in
+      (32 + o.exported_constants) (length top.signature.constants.items - o.exported_constants) (32 + i) (omega (arith, low, constants_are)) in
       let number : p.are.copy.constants (32 + i) ≡ 32 + i =
       p.are.is_root.constants.named i (slice_get_within top.signature.constants.items i t at_t) ∙ ap
-          (λ w. hidden_or p.are.middle.constants w (32 + exported_before 32 top.hidden_constants.items i)) free ∙
+      (λ w. hidden_or p.are.middle.constants w (32 + exported_before 32 top.hidden_constants.items i)) free ∙
       ap (λ n. 32 + n) (before_hidden 32 o.exported_constants (length top.signature.constants.items - o.exported_constants) i
-          top.hidden_constants.items o.constants (omega (arith, low, constants_are))) in
+      top.hidden_constants.items o.constants (omega (arith, low, constants_are))) in
       let e_number = queries_placed i e at_e in
       let whole = subst (λ x. IsWhole (named_in own x.scheme)) (get_or_from_slice_get own.constants.items i x x at) (ordered.whole i x low) in
       let inside = subst (λ x. x.scheme.0 < length own.bank.types) (get_or_from_slice_get own.constants.items i x x at) (ordered.inside i x low) in
       let body : mapped_type (map_of p.are.copy) (type_tree top.signature.bank t.scheme.0) ≡ type_tree s.bank e.scheme.0 =
       same_mapped (map_of p.are.copy) (with_kinds new_kinds) (kind_name (kind_names top.signature)) (kind_name (kind_names own)) (λ x. refl)
-          kinds_agree (type_tree top.signature.bank t.scheme.0) (type_tree own.bank x.scheme.0) entry.1 whole ∙
+      kinds_agree (type_tree top.signature.bank t.scheme.0) (type_tree own.bank x.scheme.0) entry.1 whole ∙
       sym (seen.types_are x.scheme.0 inside) ∙ ap (type_tree s.bank) (sym same.scheme) in
       let count : t.type_vars ≡ e.type_vars = entry.0 ∙ sym same.variables in
       ap (declared_by a.program.bank a.program.constants.items) (e_number ∙ sym number) ∙ exported_have_types modules root a p j.orderly i t at_t free
-          ∙ (λ k. Some (record { count = count k; body = body k }))
+      ∙ (λ k. Some (record { count = count k; body = body k }))
     where
       within : (i : ℕ) → i < length own.constants.items → i < length top.signature.constants.items
       within i l =

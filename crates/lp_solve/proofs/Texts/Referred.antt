@@ -64,8 +64,11 @@ join ls i j k a b = record { up = let x = a.up in let y = b.up in omega (arith, 
 
 -- names, kinds and types have none
 listed_clear : (ls : List Lexeme) (words : Bool) (i j : ℕ) → is_listed words (class_at ls i) ≡ true → j ≡ i + 1 → Clear ls i j
-listed_clear ls words i j fits e = record { up = omega (arith, e); none = λ m a b d. let z : m ≡ i = omega (arith, a, b, e) in no words
-    (sym (ap (is_listed words) (sym (ap (class_at ls) z) ∙ d)) ∙ fits) }
+listed_clear ls words i j fits e = record {
+  up = omega (arith, e);
+  none = λ m a b d. let z : m ≡ i = omega (arith, a, b, e) in no words
+      (sym (ap (is_listed words) (sym (ap (class_at ls) z) ∙ d)) ∙ fits);
+}
   where
     no : (w : Bool) → is_listed w class.Dot ≡ true → ⊥
     no true f = absurd (cc)
@@ -106,7 +109,7 @@ type_clear ls l i j t (word _ lower) = one ls i (suc i) class.Lower lower (λ q.
 type_clear ls l i j t (variable _ upper) = one ls i (suc i) class.Upper upper (λ q. absurd (cc)) (one_on i)
 type_clear ls l i j t (group _ k _ opens inner closes) =
     join ls i (suc i) (suc k) (one ls i (suc i) class.Open opens (λ q. absurd (cc)) (one_on i))
-        (join ls (suc i) k (suc k) (type_clear ls _ (suc i) k t inner) (one ls k (suc k) class.Close closes (λ q. absurd (cc)) (one_on k)))
+    (join ls (suc i) k (suc k) (type_clear ls _ (suc i) k t inner) (one ls k (suc k) class.Close closes (λ q. absurd (cc)) (one_on k)))
 type_clear ls l i j t (head _ lower) = one ls i (suc i) class.Lower lower (λ q. absurd (cc)) (one_on i)
 type_clear ls l i j t (applied _ k _ u v f a) = join ls i k j (type_clear ls _ i k u f) (type_clear ls _ k j v a)
 type_clear ls l i j t (side_head _ _ _ h) = type_clear ls _ i j t h
@@ -186,8 +189,11 @@ header_ends : (ls : List Lexeme) (k : Keyword) → IsHeader ls k → EndsFirst l
 header_ends ls k h = record {
   at = 2;
   clear = join ls 0 1 2 (one ls 0 1 (class.Keyword k) h.first (λ q. absurd (cc)) refl)
-      (record { up = omega arith; none = λ m a b d. let z : m ≡ 1 = omega (arith, a, b) in no
-      (sym (ap is_word (sym (ap (class_at ls) z) ∙ d)) ∙ h.second) });
+      (record {
+        up = omega arith;
+        none = λ m a b d. let z : m ≡ 1 = omega (arith, a, b) in no
+            (sym (ap is_word (sym (ap (class_at ls) z) ∙ d)) ∙ h.second);
+      });
   dot = h.third;
   end = refl;
 }
@@ -281,7 +287,7 @@ module _ (ls : List Lexeme) (all : List Clause) (header : IsHeader ls keyword.Mo
           let end : j ≡ k = next_is ls i k j (line_stops ls i k m h) next in
           let one_more : referring (ps ++ Declared m ∷ []) ≡ ds ++ l ∷ [] =
           referring_last ps (Declared m) ∙ ap (λ l. referring ps ++ referring (Declared l ∷ [])) (sym same) ∙ ap
-              (λ t. referring ps ++ (if t then l ∷ [] else [])) r ∙ ap (λ ls. ls ++ l ∷ []) (sym so) in
+          (λ t. referring ps ++ (if t then l ∷ [] else [])) r ∙ ap (λ ls. ls ++ l ∷ []) (sym so) in
           between j es (ps ++ Declared m ∷ []) ss (whole ∙ sym (append_assoc ps (Declared m ∷ []) ss)) (is ∙ sym one_more) (subst (λ k. Chain ls k ss (length ls)) (sym end) more)
       sentence k s ss now whole (says d t h dot f) more = absurd (no_keyword_there now ls i d t line.word h dot line.there)
 
@@ -309,7 +315,7 @@ module _ (ls : List Lexeme) (all : List Clause) (header : IsHeader ls keyword.Mo
       by rest whole (onward _ k _ s ss now h more) =
           let end : j ≡ k = next_is ls i k j (sentence_ends now ls i k s h) next in
           between j ds (ps ++ s ∷ []) ss (whole ∙ sym (append_assoc ps (s ∷ []) ss))
-              (so ∙ sym (append-nil (referring ps)) ∙ ap (λ ls. referring ps ++ ls) (sym (quiet k s now h)) ∙ sym (referring_last ps s))
+          (so ∙ sym (append-nil (referring ps)) ∙ ap (λ ls. referring ps ++ ls) (sym (quiet k s now h)) ∙ sym (referring_last ps s))
           (subst (λ k. Chain ls k ss (length ls)) (sym end) more)
   none_read i j ds (behind _ _ h so) silent next = let up = next_up ls i j next in behind j ds (omega (arith, h, up)) so
 
@@ -550,6 +556,8 @@ pub words_referred : (spot : ℕ → Spot) (ops after : Operators) (ls : List Le
     (found.accumulate.items ≡ accumulate_words text.lines.items) × (found.accum_sig.items ≡ accum_words (declarations text.lines.items))
 words_referred spot ops after ls text found m r =
     let clauses = m.read.before in
-    let e = all_read ls clauses m.header (chain_of ls ops 3 after (length ls) clauses m.read.sentences) r.lines r.refer in
-    (r.accumulate ∙ ap (λ es. map spot (all_of words_of es)) e ∙ sym (text_words spot ls text.lines.items clauses m.read.said), r.accum_sig ∙ ap
-        (λ es. map spot (all_of sig_words_of es)) e ∙ sym (text_sig_words spot ls text.lines.items clauses m.read.said))
+    let e = all_read ls clauses m.header (chain_of ls ops 3 after (length ls) clauses m.read.sentences) r.lines r.refer in (
+      r.accumulate ∙ ap (λ es. map spot (all_of words_of es)) e ∙ sym (text_words spot ls text.lines.items clauses m.read.said),
+      r.accum_sig ∙ ap
+          (λ es. map spot (all_of sig_words_of es)) e ∙ sym (text_sig_words spot ls text.lines.items clauses m.read.said),
+    )
