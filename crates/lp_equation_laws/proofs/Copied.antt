@@ -35,11 +35,10 @@ member_accepted (m ∷ ms) h zero = each_accepted m.bank m.clauses.items (All-he
 member_accepted (m ∷ ms) h (suc k) = member_accepted ms (All-tail ArePatternClauses (formulas_of m) (map formulas_of ms) h) k
 
 module _
-  (accepted : (D : ClauseFormula) → Within (IsQueryAtom D.type_vars) 0 D.formula → IsPatternClause D.formula → IsPatternSentence D)
-  (renumbered : (m : Map) → IsRenumbering m → (D : ClauseFormula) → IsPatternSentence D → IsPatternSentence (record { type_vars = D.type_vars; formula = mapped m D.formula }))
-  (own : (m : Map) → IsRenumbering m → ((x : ℕ) → m.types x ≡ var x) → (D : ClauseFormula) → Within (IsQueryAtom D.type_vars) 0 (mapped m D.formula) → Within (IsQueryAtom D.type_vars) 0 D.formula)
-  (d : Declared) (modules : List Module) (yes : All ArePatternClauses (map formulas_of modules)) where
-
+    (accepted : (D : ClauseFormula) → Within (IsQueryAtom D.type_vars) 0 D.formula → IsPatternClause D.formula → IsPatternSentence D)
+    (renumbered : (m : Map) → IsRenumbering m → (D : ClauseFormula) → IsPatternSentence D → IsPatternSentence (record { type_vars = D.type_vars; formula = mapped m D.formula }))
+    (own : (m : Map) → IsRenumbering m → ((x : ℕ) → m.types x ≡ var x) → (D : ClauseFormula) → Within (IsQueryAtom D.type_vars) 0 (mapped m D.formula) → Within (IsQueryAtom D.type_vars) 0 D.formula)
+    (d : Declared) (modules : List Module) (judged : All ArePatternClauses (map formulas_of modules)) where
   in_front : (c : Copy) → IsRenumbering (map_of c) → (fs more : List ClauseFormula) → EachOf (IsTypedSentence d) (map (in_copy c) fs ++ more) → EachOf (λ f. IsPatternClause f.formula) fs
       → (EachOf (IsTypedSentence d) more → EachOf IsPatternSentence more) → EachOf IsPatternSentence (map (in_copy c) fs ++ more)
   in_front c r [] more t h go = go t
@@ -50,4 +49,4 @@ module _
 
   pub copied : (cs : List Copy) → EachOf (λ c. IsRenumbering (map_of c)) cs → EachOf (IsTypedSentence d) (clauses_of modules cs) → EachOf IsPatternSentence (clauses_of modules cs)
   copied [] r t = tt
-  copied (c ∷ cs) (x, r) t = in_front c x (get_or (map clauses_in modules) c.member []) (clauses_of modules cs) t (member_accepted modules yes c.member) (copied cs r)
+  copied (c ∷ cs) (x, r) t = in_front c x (get_or (map clauses_in modules) c.member []) (clauses_of modules cs) t (member_accepted modules judged c.member) (copied cs r)

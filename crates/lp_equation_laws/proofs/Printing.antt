@@ -39,15 +39,14 @@ use Rattle.lp_equation_laws.specs.Printed.{IsPatternText, PrintsValues, value_li
 use Rattle.lp_equation_laws.proofs.Copied.{copied, renumberings}
 
 module _
-  (accepted : (D : ClauseFormula) → Within (IsQueryAtom D.type_vars) 0 D.formula → IsPatternClause D.formula → IsPatternSentence D)
-  (asked : (q : Query) → Within (IsQueryAtom q.type_vars) (length q.vars) q.formula → IsPatternQuery q.formula → formulas.IsPatternQuery q)
-  (renumbered : (m : Map) → IsRenumbering m → (D : ClauseFormula) → IsPatternSentence D → IsPatternSentence (record { type_vars = D.type_vars; formula = mapped m D.formula }))
-  (own : (m : Map) → IsRenumbering m → ((x : ℕ) → m.types x ≡ var x) → (D : ClauseFormula) → Within (IsQueryAtom D.type_vars) 0 (mapped m D.formula) → Within (IsQueryAtom D.type_vars) 0 D.formula) where
-
+    (accepted : (D : ClauseFormula) → Within (IsQueryAtom D.type_vars) 0 D.formula → IsPatternClause D.formula → IsPatternSentence D)
+    (asked : (q : Query) → Within (IsQueryAtom q.type_vars) (length q.vars) q.formula → IsPatternQuery q.formula → formulas.IsPatternQuery q)
+    (renumbered : (m : Map) → IsRenumbering m → (D : ClauseFormula) → IsPatternSentence D → IsPatternSentence (record { type_vars = D.type_vars; formula = mapped m D.formula }))
+    (own : (m : Map) → IsRenumbering m → ((x : ℕ) → m.types x ≡ var x) → (D : ClauseFormula) → Within (IsQueryAtom D.type_vars) 0 (mapped m D.formula) → Within (IsQueryAtom D.type_vars) 0 D.formula) where
   -- the search leaves no equation
   pub no_equation : {told : Option Held} {name text : List ℕ} (q : IsQuery told name text) → IsPatternText q → (d : Declared) (P : List Clause) (gs : Goals) → IsFlat q d P gs →
       (n j m steps answers : ℕ) → EachOf HasNoPair (told_by P n j m (first_state q gs steps answers)).answers
-  no_equation {text = text} q (yes, query_yes) d P gs f n j m steps answers =
+  no_equation {text = text} q (judged, query_judged) d P gs f n j m steps answers =
       let l = q.loaded in
       let p = l.program in
       let is = p.is in
@@ -56,11 +55,11 @@ module _
       let sentences = program_typed l.sources q.built p d f.types in
       let typed = query_typed d f.types.standard q.built.signature f.types.queries text q.asked.raw.term q.bank q.typed q.asked.typed in
       let numbers = renumberings program.copied (copies_fair is.modules is.program.root program.copied program.are) (copies_high is.modules h.joined is.program.root program.copied program.are) in
-      let patterns = copied accepted renumbered own d is.modules yes program.copied numbers sentences in
+      let patterns = copied accepted renumbered own d is.modules judged program.copied numbers sentences in
       let query = query_of q.bank q.typed in
       let same : start query.type_vars (length query.vars) gs steps answers ≡ first_state q gs steps answers = ap (λ k. start q.typed.type_vars k gs steps answers) (length-map q.typed.vars.items _) in
       subst (λ s. EachOf HasNoPair (told_by P n j m s).answers) same
-      (formulas_no_pairs d f.types.standard f.depth (source_clauses p) P sentences f.clauses patterns query gs typed f.goals (asked query typed.within query_yes) n j m steps answers)
+      (formulas_no_pairs d f.types.standard f.depth (source_clauses p) P sentences f.clauses patterns query gs typed f.goals (asked query typed.within query_judged) n j m steps answers)
 
 -- the lines of answers without an equation
 no_sides : (ps : List Pair) (sides : List (Term × Term)) → ps ≡ [] → ArePairsShown ps sides → sides ≡ []
