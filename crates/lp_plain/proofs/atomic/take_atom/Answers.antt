@@ -1,4 +1,4 @@
-use Rattle.std.proofs.Common.{length, refl, subst, sym}
+use Rattle.std.proofs.Common.{ap, length, refl, subst, sym}
 use Rattle.lp_term.specs.Nodes.{tree}
 use Rattle.lp_model.specs.declared.ending.Ending.TheVariants.{Flexible, Steps}
 use Rattle.lp_plain.specs.declared.outcome.Turn.{Turn}
