@@ -68,7 +68,7 @@ get_at (y ∷ ys) zero x (l, e) = ap (λ y. Some y) e
 get_at (y ∷ ys) (suc i) x (l, e) = get_at ys i x (omega (arith, l), e)
 
 -- the module at a place of the order
-module _ (sources : Sources) (all_modules : List Module) (are : AreModules sources all_modules) where
+module _ {sources : Sources} {every : List Module} (are : AreModules sources every) where
   module_at : (ps : List ℕ) (ms : List Module) → AreModulesAt sources.files.items are.signatures are.texts ps ms → (k : ℕ) (m : Module) → slice_get ms k ≡ Some m → (p : ℕ) × IsModuleAt sources.files.items are.signatures are.texts p m
   module_at ps ms no_module k m e = absurd (cc)
   module_at ps ms (one_module qs _ ns _ p n before is e f) k m at = by (module_at qs ns before k m) (last_or ns n m k (ap (λ l. slice_get l k) (sym f) ∙ at))
@@ -348,7 +348,7 @@ module _ (sources : Sources) (modules : List Module) (read : AreRead sources) (a
 
   -- a module's meaning
   pub meaning_at : (k : ℕ) (m : Module) → slice_get modules k ≡ Some m → (p : ℕ) × IsModuleAt files are.signatures are.texts p m
-  meaning_at k m at = module_at sources modules are are.meanings.order modules are.meanings.meanings k m at
+  meaning_at k m at = module_at are are.meanings.order modules are.meanings.meanings k m at
 
   -- what its file names by its words
   names_files : (p : ℕ) (m : Module) (a : IsModuleAt files are.signatures are.texts p m) → NamesFiles files a.number a.source.items a.text
@@ -398,10 +398,10 @@ module _ (sources : Sources) (modules : List Module) (read : AreRead sources) (a
       (subst (λ ns. Contains ns b.own_is.number) (sym n.accumulate) (inserted [] (filter_map (signature_of files) words) b.own_is.number
       (has_number (signature_of files) words m.name.items b.own_is.number word number))) in
       let (i, at) = in_list numbers b.own_is.number among in
-      let (u, at_u, is_u) = signature_at sources modules are numbers a.used a.used_are i b.own_is.number at in
+      let (u, at_u, is_u) = signature_at are numbers a.used a.used_are i b.own_is.number at in
       let few_l = few_named p above a in
       let l = slice_get_within numbers i b.own_is.number at in
-      let all_ordered : All IsOrdered a.used = λ k d h. all_signatures sources modules are IsOrdered ordered numbers a.used a.used_are k (get_or a.used k d) (slice_get-get_or a.used k d h) in
+      let all_ordered : All IsOrdered a.used = λ k d h. all_signatures are IsOrdered ordered numbers a.used a.used_are k (get_or a.used k d) (slice_get-get_or a.used k d h) in
       let seen : SeesAlike u above.signature = a.meaning.theirs.used_ones (apart a.own_is.number a.own a.own_is.is)
       (ordered a.own_is.number a.own a.own_is.is) all_ordered i u at_u (omega (arith, few_l, l)) in
       let own_apart = apart b.own_is.number b.own b.own_is.is in
