@@ -14,4 +14,4 @@ mod Truth
 mod Refused
 mod Naming
 mod Beyond
-mod Texts
+pub mod Texts
