@@ -27,16 +27,24 @@ exports_kind own name = if is_among name (names_in standard_kinds) then false el
 abbrev pub exports_constant : Signature → List ℕ → Bool
 exports_constant own name = if is_among name (names_in standard_constants) then false else is_among name (constants_of own)
 
--- a name that is declared otherwise is blamed as exported where the own signature has it
+-- the name that a fault calls declared otherwise
+abbrev pub differs_at : SigFault → Option Spot
+differs_at (fault.Differ s) = Some s
+differs_at (fault.UnknownKind s) = None
+differs_at (fault.Arity s) = None
+differs_at (fault.CyclicAbbreviation s) = None
+differs_at (fault.CyclicSignature s) = None
+differs_at (fault.Limit l) = None
+differs_at fault.Memory = None
+differs_at (fault.Header s) = None
+
+-- such a name is blamed as exported where the own signature has it
+abbrev pub blamed_at : (List ℕ → Bool) → List ℕ → SigFault → Option Spot → ModuleSigFault
+blamed_at exports text f None = wrong.Sig f
+blamed_at exports text f (Some s) = if exports (spelled text s) then wrong.Exported s else wrong.Sig f
+
 abbrev pub blamed_by : (List ℕ → Bool) → List ℕ → SigFault → ModuleSigFault
-blamed_by exports text (fault.Differ s) = if exports (spelled text s) then wrong.Exported s else wrong.Sig (fault.Differ s)
-blamed_by exports text (fault.UnknownKind s) = wrong.Sig (fault.UnknownKind s)
-blamed_by exports text (fault.Arity s) = wrong.Sig (fault.Arity s)
-blamed_by exports text (fault.CyclicAbbreviation s) = wrong.Sig (fault.CyclicAbbreviation s)
-blamed_by exports text (fault.CyclicSignature s) = wrong.Sig (fault.CyclicSignature s)
-blamed_by exports text (fault.Limit l) = wrong.Sig (fault.Limit l)
-blamed_by exports text fault.Memory = wrong.Sig fault.Memory
-blamed_by exports text (fault.Header s) = wrong.Sig (fault.Header s)
+blamed_by exports text f = blamed_at exports text f (differs_at f)
 
 -- the kinds that sentences declare with a count of arguments, local ones too
 abbrev pub kind_names_by : List ℕ → Declaration → List (List ℕ)

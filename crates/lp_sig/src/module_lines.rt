@@ -11,7 +11,7 @@ ghost use Rattle.lp_syntax.specs.declared.text.RawType.{RawType as IsRawType};
 ghost use Rattle.lp_sig.specs.Limits.{IsShort, AreShort};
 ghost use Rattle.lp_sig.specs.Words.{IsMeant, AreMeant, IsNumbered, AreNumbered, IsKindsFault, IsSoundType, IsHead, WordsStand, parameters_of, IsNameFault};
 ghost use Rattle.lp_sig.specs.Modules.{declarations, constant_names_by, constant_names_in, first_names, local_names};
-ghost use Rattle.lp_sig.specs.ModuleFaults.{exports_kind, exports_constant, blamed_by, kind_names_by, kind_names_in, IsFirstOf, IsLocalFault, IsLocal, IsLocalKindsFault, IsKnownFault, IsNewFault, AreConstantsWrong, AreLocalsWrong, IsAbbreviationWrong, IsWordFault, IsLineFault, IsLineTaken, IsNewLocal, IsTypeFault, AreLocalKindsRefused, AreLocalKindsTaken, AreLocalsRefused, AreLocalsTaken};
+ghost use Rattle.lp_sig.specs.ModuleFaults.{exports_kind, exports_constant, differs_at, blamed_by, kind_names_by, kind_names_in, IsFirstOf, IsLocalFault, IsLocal, IsLocalKindsFault, IsKnownFault, IsNewFault, AreConstantsWrong, AreLocalsWrong, IsAbbreviationWrong, IsWordFault, IsLineFault, IsLineTaken, IsNewLocal, IsTypeFault, AreLocalKindsRefused, AreLocalKindsTaken, AreLocalsRefused, AreLocalsTaken};
 ghost use Rattle.lp_sig.specs.declared.fault.SigFault.{SigFault as IsFault};
 ghost use Rattle.lp_sig.specs.declared.fault.SigFault.TheVariants as fault;
 ghost use Rattle.lp_sig.specs.declared.module_fault.ModuleSigFault.TheVariants as wrong;
@@ -61,6 +61,23 @@ fn note(
     Ok(())
 }
 
+// Numbers a word, if it is new.
+fn number_word(
+    alloc: Global,
+    name: &[u8],
+    numbers: &mut IndexMap<Vec<u8>, usize>,
+) -> Result<(), Memory>
+    ensures { OnOk result ((before : List (List ℕ)) → HasNumbers numbers.old before → HasNumbers numbers.new (before ++ name.now ∷ [])) }
+{
+    if numbers.contains_key(name) {
+        return Ok(());
+    }
+    let key = Vec::from_slice(alloc, name)?;
+    let next = numbers.len();
+    numbers.insert(key, next)?;
+    Ok(())
+}
+
 // Numbers words by first place.
 fn number(
     alloc: Global,
@@ -71,12 +88,7 @@ fn number(
     ensures { OnOk result ((before : List (List ℕ)) → HasNumbers numbers.old before → HasNumbers numbers.new (before ++ map (λ s. spelled source.now s) words.now)) }
 {
     for word in words {
-        let name = spelled_at(source, *word);
-        if !numbers.contains_key(name) {
-            let key = Vec::from_slice(alloc, name)?;
-            let next = numbers.len();
-            numbers.insert(key, next)?;
-        }
+        number_word(alloc, spelled_at(source, *word), numbers)?;
     }
     Ok(())
 }
@@ -220,6 +232,38 @@ fn check_word(word: Spot, sight: Option<Sight>) -> Result<(), ModuleSigFault>
     }
 }
 
+// The name that a fault calls declared otherwise.
+fn differing(fault: SigFault) -> Option<Spot>
+    ensures { result ≡ differs_at fault }
+{
+    match fault {
+        SigFault::Differ(name) => Some(name),
+        SigFault::UnknownKind(_) => None,
+        SigFault::Arity(_) => None,
+        SigFault::CyclicAbbreviation(_) => None,
+        SigFault::CyclicSignature(_) => None,
+        SigFault::Limit(_) => None,
+        SigFault::Memory => None,
+        SigFault::Header(_) => None,
+    }
+}
+
+fn is_memory(fault: SigFault) -> bool
+    ensures memory { result ≡ true → fault ≡ fault.Memory }
+    ensures another { result ≡ false → fault ≡ fault.Memory → ⊥ }
+{
+    match fault {
+        SigFault::Memory => true,
+        SigFault::Differ(_) => false,
+        SigFault::UnknownKind(_) => false,
+        SigFault::Arity(_) => false,
+        SigFault::CyclicAbbreviation(_) => false,
+        SigFault::CyclicSignature(_) => false,
+        SigFault::Limit(_) => false,
+        SigFault::Header(_) => false,
+    }
+}
+
 // The lines of a module: its text, its own signature, what the text says of names and words, and how the signatures that it sees go with
 // one another.
 #[derive(Drop)]
@@ -239,7 +283,10 @@ impl<'a> ModuleLines<'a> {
         if standard_kind(word).is_some() {
             return false;
         }
-        self.own.kind(word).is_some() || self.own.abbreviation(word).is_some()
+        if self.own.kind(word).is_some() {
+            return true;
+        }
+        self.own.abbreviation(word).is_some()
     }
 
     // Whether the own signature declares a constant.
@@ -257,29 +304,25 @@ impl<'a> ModuleLines<'a> {
     fn kinds_blamed(&self, fault: SigFault) -> ModuleSigFault
         ensures { result ≡ blamed_by (exports_kind self.now.own.now) self.now.source.now fault }
     {
-        match fault {
-            SigFault::Differ(name) => {
-                if self.exports_kind(name) {
-                    return ModuleSigFault::Exported(name);
-                }
-                ModuleSigFault::Sig(fault)
-            }
-            _ => ModuleSigFault::Sig(fault),
+        let Some(name) = differing(fault) else {
+            return ModuleSigFault::Sig(fault);
+        };
+        if self.exports_kind(name) {
+            return ModuleSigFault::Exported(name);
         }
+        ModuleSigFault::Sig(fault)
     }
 
     fn constants_blamed(&self, fault: SigFault) -> ModuleSigFault
         ensures { result ≡ blamed_by (exports_constant self.now.own.now) self.now.source.now fault }
     {
-        match fault {
-            SigFault::Differ(name) => {
-                if self.exports_constant(name) {
-                    return ModuleSigFault::Exported(name);
-                }
-                ModuleSigFault::Sig(fault)
-            }
-            _ => ModuleSigFault::Sig(fault),
+        let Some(name) = differing(fault) else {
+            return ModuleSigFault::Sig(fault);
+        };
+        if self.exports_constant(name) {
+            return ModuleSigFault::Exported(name);
         }
+        ModuleSigFault::Sig(fault)
     }
 
     fn kinds(&self, making: &Making, names: &[Spot], arity: u32) -> Result<(), ModuleSigFault>
@@ -448,17 +491,27 @@ impl<'a> ModuleLines<'a> {
         Ok(())
     }
 
-    // Local constants of a type that has a fault: that one is exported goes first, then a long name.
-    fn wrong_locals(&self, names: &[Spot], fault: SigFault) -> Result<(), ModuleSigFault>
-        ensures refused { (said : List (Row IsSaid)) (raw : IsRawType) → (fault ≡ fault.Memory) ⊎ IsTypeFault self.now.source.now said raw fault → IfErr result (λ e. (e ≡ wrong.Sig fault.Memory) ⊎ AreLocalsWrong self.now.own.now self.now.source.now said names.now raw e) }
-        ensures fails { IfOk result (λ done. ⊥) }
+    // A fault of the type of local constants, none of which is exported: a long name goes first.
+    fn wrong_type(&self, names: &[Spot], fault: SigFault) -> ModuleSigFault
+        ensures { (said : List (Row IsSaid)) (raw : IsRawType) → IsTypeFault self.now.source.now said raw fault → All (λ s. exports_constant self.now.own.now (spelled self.now.source.now s) ≡ false) names.now → AreLocalsWrong self.now.own.now self.now.source.now said names.now raw result }
     {
-        if fault == SigFault::Memory {
-            return Err(ModuleSigFault::Sig(SigFault::Memory));
+        match check_lengths(self.source, names) {
+            Err(long) => ModuleSigFault::Sig(long),
+            Ok(()) => ModuleSigFault::Sig(fault),
         }
-        self.check_locals(names)?;
-        check_lengths(self.source, names)?;
-        Err(ModuleSigFault::Sig(fault))
+    }
+
+    // A fault of the type of local constants: that one is exported goes first.
+    fn wrong_locals(&self, names: &[Spot], fault: SigFault) -> ModuleSigFault
+        ensures { (said : List (Row IsSaid)) (raw : IsRawType) → (fault ≡ fault.Memory) ⊎ IsTypeFault self.now.source.now said raw fault → (result ≡ wrong.Sig fault.Memory) ⊎ AreLocalsWrong self.now.own.now self.now.source.now said names.now raw result }
+    {
+        if is_memory(fault) {
+            return ModuleSigFault::Sig(SigFault::Memory);
+        }
+        match self.check_locals(names) {
+            Err(exported) => exported,
+            Ok(()) => self.wrong_type(names, fault),
+        }
     }
 
     // Local constants of a type. That one is exported goes before a fault of the type.
@@ -476,7 +529,7 @@ impl<'a> ModuleLines<'a> {
         ensures taken { (said : List (Row IsSaid)) → Knows making.old.names said → IfOk result (λ done. All (IsLocal (exports_constant self.now.own.now) self.now.source.now (IsShort self.now.source.now)) names.now × IsSoundType self.now.source.now said raw.now) }
     {
         match making.bodies.scheme(&making.names, self.source, raw) {
-            Err(fault) => self.wrong_locals(names, fault),
+            Err(fault) => Err(self.wrong_locals(names, fault)),
             Ok(declared) => self.locals_of(making, names, declared),
         }
     }

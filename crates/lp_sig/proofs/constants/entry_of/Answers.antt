@@ -8,4 +8,4 @@ returns-clause-is c = λ b said defs row h. as_entry b said defs _ row c.args.co
     (c.in_ok-name.ensures.items ∙ c.as_slice.ensures.value) c.in-Some-constant_number.ensures.some.0 refl refl h
 
 pub returns-clause-typed : goal.returns-clause-typed
-returns-clause-typed c = λ d is. let same : c.in-Some.declared ≡ d = same_Some c.in-Some.declared d (c.in-Some.is ∙ is) in (ap (λ d. d.type_vars) same, ap (λ d. d.scheme) same)
+returns-clause-typed c = λ d is. let same : c.in-Some.declared ≡ d = same_Some c.in-Some.declared d (sym c.in-Some.is ∙ is) in (ap (λ d. d.type_vars) same, ap (λ d. d.scheme) same)

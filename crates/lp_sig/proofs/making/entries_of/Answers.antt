@@ -1,11 +1,12 @@
-use Rattle.std.proofs.Common.{◌≤◌, ◌+◌, map, length, take_all, refl, ap, ◌∙◌, arith}
+use Rattle.std.proofs.Common.{◌≤◌, ◌+◌, map, length, take_all, ap, ◌∙◌, arith}
+use Rattle.lp_sig.specs.Rows.{kind_row}
 use Rattle.lp_sig.specs.Said.{numbered}
 use Rattle.lp_sig.specs.Knowing.{kinded_row}
 use Rattle.lp_sig.proofs.Knowledge.{entry_more}
 use Rattle.lp_sig.proofs.making.entries_of.Goals as goal
 
 pub loop-place-init : goal.loop-place-init
-loop-place-init c = (refl, omega arith)
+loop-place-init c = (ap (map kind_row) c.new-entries.ensures.items, omega arith)
 
 pub loop-place-preserved : goal.loop-place-preserved
 loop-place-preserved c = (

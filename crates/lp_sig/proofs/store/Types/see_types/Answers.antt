@@ -33,4 +33,4 @@ pub returns-clause-seen : goal.returns-clause-seen
 returns-clause-seen c = c.loop-number.invariant.seen
 
 pub returns-clause-count : goal.returns-clause-count
-returns-clause-count c = let n = c.loop-number.invariant.count in omega (arith, n, c.loop-number-test.false, c.loop-number.auto.at-end, c.type_count.ensures.count)
+returns-clause-count c = let n = c.loop-number.invariant.count in omega (arith, n, c.loop-number-test.false, c.loop-number.auto.number-end, c.type_count-number-end.ensures.count)
