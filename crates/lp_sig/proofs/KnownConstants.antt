@@ -188,6 +188,13 @@ counted_none b c e k has d is = none (subst (λ l. Contains l k) e has)
     none : Contains [] k → (d.scheme.0 < length b.types) × (d.type_vars ≡ length (first_variables (type_tree b d.scheme.0)))
     none (i, l, at) = absurd (omega (arith, l))
 
+-- types of one number are one
+type_of : ℕ → TypeId
+type_of n = record { 0 = n }
+
+pub same_type : (a b : TypeId) → a.0 ≡ b.0 → a ≡ b
+same_type a b e = ap type_of e
+
 -- a constant of a signature: a new one, one whose type has a fault, and one with a type
 pub seen_new : {E : Type 0} (r : Result Sight E) (b now : Nodes) (old new : Constants) (made : List TypeId) (e : ConstantEntry) (name : List ℕ)
     (s : TypeId) → slice_get made e.scheme.0 ≡ Some s → name ≡ e.name.items → Extends b now → OnOk r

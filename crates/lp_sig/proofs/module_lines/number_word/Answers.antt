@@ -15,5 +15,5 @@ returns c = λ before h.
     (sym c.contains_key.ensures ∙ c.if-contains_key.false) c.in_ok-key.ensures.items c.len-next.ensures.len
     (λ name. ap (lookup (λ k. bytes_eq name k.items)) c.in_ok-insert.ensures.entries ∙ lookup_put (λ k. k.items) c.in_ok-key.key c.len-next.result name c.args.numbers.now.entries)
     (c.in_ok-insert.ensures.len ∙ ap (λ t. length c.args.numbers.now.entries + (if t then 0 else 1))
-      (ap is_some c.in_ok-insert.ensures.old ∙ ap (λ w. is_some (lookup (λ k. bytes_eq w k.items) c.args.numbers.now.entries)) c.in_ok-key.ensures.items ∙
-        sym c.contains_key.ensures ∙ c.if-contains_key.false))
+    (ap is_some c.in_ok-insert.ensures.old ∙ ap (λ w. is_some (lookup (λ k. bytes_eq w k.items) c.args.numbers.now.entries)) c.in_ok-key.ensures.items ∙
+    sym c.contains_key.ensures ∙ c.if-contains_key.false))

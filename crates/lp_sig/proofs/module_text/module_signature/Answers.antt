@@ -4,10 +4,10 @@ use Rattle.lp_base.specs.declared.limits.TheConstants.{END_OF_NUMBERS}
 use Rattle.lp_sig.specs.Rows.{fixity_row}
 use Rattle.lp_sig.specs.Knowing.{Knows, KnowsOperators}
 use Rattle.lp_sig.specs.Said.{numbered, said_in}
-use Rattle.lp_sig.specs.Named.{IsOrdered}
-use Rattle.lp_sig.specs.Sighted.{said_kinds}
+use Rattle.lp_sig.specs.Named.{IsOrdered, kind_names}
+use Rattle.lp_sig.specs.Sighted.{said_kinds, AreKinds}
 use Rattle.lp_sig.specs.Sights.{AreWordsAlike, signature_words, module_words}
-use Rattle.lp_sig.specs.Modules.{declarations, said_of, constants_of, of_each, said_in_module, constant_names, numbered_names}
+use Rattle.lp_sig.specs.Modules.{declarations, said_of, constants_of, of_each, said_in_module, constant_names, numbered_names, IsApart}
 use Rattle.lp_sig.specs.Worded.{HasWords}
 use Rattle.lp_sig.proofs.KnownConstants.{making_then, counted_none}
 use Rattle.lp_sig.proofs.Sights.{all_alike}
@@ -51,7 +51,7 @@ returns-clause-theirs c =
     (c.in_ok-announce_all.ensures.names (said_of own ++ of_each said_of used) (c.in_ok-sights.ensures.names [] c.new-making.ensures.names)) in
     let kinds = their_kinds m.names said s k c.in_ok-signature.ensures.kinds in
     let room = their_room m.names said k c.in_ok-signature.ensures.room in
-    let here = λ apart. own_kinds own (of_each said_of used ++ said_in text ds) apart
+    let here : IsApart own → AreKinds (said_of own) (kind_names own) = λ apart. own_kinds own (of_each said_of used ++ said_in text ds) apart
     (subst (λ r. 8 + length (said_kinds r) ≤ END_OF_NUMBERS) (append_assoc (said_of own) (of_each said_of used) (said_in text ds)) room) in
     let g = making_then c.see_all.new.making c.announce_all.new.making m c.in_ok-announce_all.ensures.grown c.in_ok-declare_all.ensures.grown in
     let none = counted_none c.new-making.result.bodies.types.bank c.new-making.result.constants c.new-making.ensures.empty in

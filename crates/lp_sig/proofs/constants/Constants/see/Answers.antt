@@ -1,9 +1,10 @@
 use Rattle.std.proofs.Common.{◌≡◌, ◌∙◌, Some, ap, sym, subst, inl, inr, true}
 use Rattle.std.specs.Prelude.{slice_get}
+use Rattle.std.proofs.lemmas.Bool.{eqb-true}
 use Rattle.std.proofs.lemmas.Result.{on_ok_weaker}
 use Rattle.lp_sig.specs.Sighted.{IsTreeOf}
 use Rattle.lp_sig.specs.Worded.{is_met}
-use Rattle.lp_sig.proofs.KnownConstants.{grows_same, grows_put, counted_later, seen_new, seen_never, seen_known}
+use Rattle.lp_sig.proofs.KnownConstants.{grows_same, grows_put, counted_later, seen_new, seen_never, seen_known, same_type}
 use Rattle.lp_sig.proofs.Worded.{word_new, word_again}
 use Rattle.lp_sig.proofs.constants.Constants.see.Goals as goal
 
@@ -45,5 +46,5 @@ returns-in-Typed-clause-seen c = λ words h all counted. (
   counted_later c.args.types.now.bank c.known_as.new.types.bank c.args.self.now c.known_as.ensures.kept all,
   seen_known c.known_as.new.types.bank c.args.self.now c.args.made.now c.args.entry.now words (c.in_ok-known_as.ensures.met words h)
       c.as_slice-name.ensures.value (ap is_met c.in-Typed.is) c.in_ok-scheme.scheme c.in-Typed.known c.in_ok-scheme.ensures
-      (subst (IsTreeOf c.known_as.new.types.bank c.args.self.now c.as_slice-name.result.now) c.in-Typed.is (c.in_ok-known_as.ensures.tree words h all)) (λ q. ?),
+      (subst (IsTreeOf c.known_as.new.types.bank c.args.self.now c.as_slice-name.result.now) c.in-Typed.is (c.in_ok-known_as.ensures.tree words h all)) (λ q. same_type c.in-Typed.known c.in_ok-scheme.scheme (eqb-true _ _ (sym c.eq.ensures ∙ c.if_alike.ensures q))),
 )

@@ -35,8 +35,8 @@ loop-at-preserved c =
           let step = c.in_ok-sight.ensures.seen (words ++ map (λ e. e.name.items) before) (i.0 words h) now.0 here in (
             step.0,
             one_seen c.args.types.now.bank c.loop-at.types.bank c.see.new.types.bank c.loop-at.self c.see.new.self c.args.made.now es
-                c.loop-at.at e c.loop-at.all c.and.result c.in_ok-sight.sight words c.loop-at-test.true c.index-entries-at.is i.1 c.see.ensures.kept
-                c.in_ok-sight.ensures.grown c.and.ensures counted now.1 step.1,
+                c.loop-at.at e c.loop-at.all c.and-all.result c.in_ok-sight.sight words c.loop-at-test.true c.index-entries-at.is i.1 c.see.ensures.kept
+                c.in_ok-sight.ensures.grown c.and-all.ensures counted now.1 step.1,
           )),
     )
 

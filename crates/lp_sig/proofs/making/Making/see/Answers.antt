@@ -1,7 +1,8 @@
-use Rattle.std.proofs.Common.{◌≡◌, ◌×◌, ◌++◌, ◌∙◌, sym, ap, subst, map, length, append_assoc, inl, inr}
+use Rattle.std.proofs.Common.{◌≡◌, ℕ, Some, ◌++◌, ◌∙◌, sym, ap, subst, map, length, append_assoc, inl, inr}
 use Rattle.std.specs.Prelude.{◌⊎◌, nat_eq, All}
 use Rattle.std.specs.List.{range_with_len}
 use Rattle.std.specs.Map.{lookup}
+use Rattle.indexmap.specs.IndexMap.{get}
 use Rattle.lp_term.specs.Nodes.{Extends}
 use Rattle.lp_term.proofs.Trees.{extends-trans}
 use Rattle.lp_sig.specs.Knowing.{Knows}
@@ -47,7 +48,7 @@ returns-clause-seen c = λ said words k h all ordered premise.
     let sk = c.in_ok-of_kinds.of_kinds in
     let sc = c.in_ok-of_constants.of_constants in
     let there = c.see_abbreviations.new.self in
-    let none = λ j n f. let g = ap (lookup (λ i. nat_eq i j)) (sym c.new-numbers.ensures.empty) ∙ f in absurd (cc) in
+    let none : (j n : ℕ) → get nat_eq c.new-numbers.result j ≡ Some n → ⊥ = λ j n f. let g = ap (lookup (λ i. nat_eq j i)) (sym c.new-numbers.ensures.empty) ∙ f in absurd (cc) in
     let of_kinds = subst (λ es. (sk ≡ Alike) ⊎ AreKinds (said ++ map kind_said es) (map (λ e. e.name.items) es) → AreKindsHere
     (said ++ map kind_said es) (map (λ e. e.name.items) es) c.see_kinds.new.kinds) c.kinds.ensures
     (c.in_ok-of_kinds.ensures.here said k (subst (λ es. map (λ e. e.number) es ≡ range_with_len 8 (length es)) (sym c.kinds.ensures) ordered.kinds) none) in
