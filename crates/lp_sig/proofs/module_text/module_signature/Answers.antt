@@ -13,6 +13,8 @@ use Rattle.lp_sig.proofs.KnownConstants.{making_then, counted_none}
 use Rattle.lp_sig.proofs.Sights.{all_alike}
 use Rattle.lp_sig.proofs.TheirTypes.{own_kinds, own_new, their_kinds, their_room, has_named}
 use Rattle.lp_sig.proofs.Viewing.{seen_stays}
+use Rattle.lp_lemmas.proofs.Results.{passed_up}
+use Rattle.lp_sig.specs.ModuleFaults.{IsDeclarationRefusal}
 use Rattle.lp_sig.proofs.module_text.module_signature.Goals as goal
 
 pub returns-clause-seen : goal.returns-clause-seen
@@ -69,3 +71,10 @@ returns-clause-theirs c =
           (c.in_ok-sights.ensures.seen [] [] c.new-making.ensures.names c.new-making.ensures.words none ordered (here apart) (own_new own apart) all
           (i + 1) (omega (arith, l)) (λ j h. alike j (omega (arith, h, below))) i (omega arith) u at));
     }
+
+pub returns-in_err-declare_all-clause-refused : goal.returns-in_err-declare_all-clause-refused
+returns-in_err-declare_all-clause-refused c =
+    passed_up c.from_residual-in_err-declare_all.result c.in_err-declare_all.field-0.0 (IsDeclarationRefusal c.args.own.now c.args.used.now c.args.source.now c.args.text.now.lines.items) c.from_residual-in_err-declare_all.ensures.1
+    (c.in_err-declare_all.ensures.refused (said_in_module c.args.own.now c.args.used.now c.args.source.now c.args.text.now.lines.items)
+      (c.in_ok-announce_all.ensures.names (said_of c.args.own.now ++ of_each said_of c.args.used.now) (c.in_ok-sights.ensures.names [] c.new-making.ensures.names))
+      c.in_ok-said.ensures.kinds c.in_ok-said.ensures.constants)
