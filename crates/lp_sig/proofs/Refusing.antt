@@ -1,7 +1,8 @@
 -- Why a module's declarations are refused: sets of names, exported names, names one after the other, and sentences.
 use Rattle.std.specs.Global.{Global}
 use Rattle.std.proofs.Common.{◌≡◌, ℕ, zero, suc, ◌+◌, ◌<◌, ◌≤◌, List, [], ◌∷◌, ◌++◌, length, map, get_or, take, Bool, true, false, Option, Some, None, Result, Ok, Err, Vec, Bor, refl, sym, ap, subst, ◌∙◌, arith, true≢false, inl, inr, append-nil, append_assoc}
-use Rattle.std.specs.Prelude.{◌⊎◌, if◌then◌else◌, is_some, option_map, list_any, find, All, Contains, IfOk, slice_index_or, ◌||◌}
+use Rattle.std.specs.Prelude.{◌⊎◌, if◌then◌else◌, is_some, option_map, find, All, Contains, IfOk, slice_index_or, ◌||◌}
+use Rattle.std.specs.List.{list_any}
 use Rattle.std.specs.Str.{bytes_eq}
 use Rattle.std.proofs.lemmas.List.{length-append, get_or_default, take_more}
 use Rattle.std.proofs.lemmas.List.Elements.{Contains-get_or, All-nil}
@@ -199,7 +200,7 @@ module _ (exports : List ℕ → Bool) (text : List ℕ) (f : SigFault) (o : Opt
 pub abbreviation_found : (w : List ℕ) (es : List AbbreviationEntry) (r : Option (ℕ × TypeId)) → option_map (λ a. (a.0, a.1.0)) r ≡ found w (map abbreviation_row es) → is_some r ≡ is_among w (names_in (map abbreviation_said es))
 abbreviation_found w es r e = some r ∙ ap is_some e ∙ found_among w (map abbreviation_row es) ∙ ap (is_among w) (rows es)
   where
-    some : (r : Option (ℕ × TypeId)) → is_some r ≡ is_some (option_map (λ a. (a.0, a.1.0)) r)
+    some : (r : Option (ℕ × TypeId)) → is_some r ≡ is_some {T = ℕ × ℕ} (option_map (λ a. (a.0, a.1.0)) r)
     some None = refl
     some (Some a) = refl
 

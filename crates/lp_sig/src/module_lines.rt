@@ -13,7 +13,7 @@ ghost use Rattle.lp_sig.specs.Words.{IsMeant, AreMeant, IsNumbered, AreNumbered,
 ghost use Rattle.lp_sig.specs.Modules.{declarations, constant_names_by, constant_names_in, first_names, local_names};
 ghost use Rattle.lp_sig.specs.ModuleFaults.{exports_kind, exports_constant, differs_at, blamed_by, kind_names_by, kind_names_in, IsFirstOf, IsLocalFault, IsLocal, IsLocalKindsFault, IsKnownFault, IsNewFault, AreConstantsWrong, AreLocalsWrong, IsAbbreviationWrong, IsWordFault, IsLineFault, IsLineTaken, IsNewLocal, IsTypeFault, AreLocalKindsRefused, AreLocalKindsTaken, AreLocalsRefused, AreLocalsTaken};
 ghost use Rattle.lp_sig.specs.declared.fault.SigFault.{SigFault as IsFault};
-ghost use Rattle.lp_sig.specs.declared.fault.SigFault.TheVariants as fault;
+ghost use Rattle.lp_sig.specs.declared.fault.SigFault.TheVariants as reason;
 ghost use Rattle.lp_sig.specs.declared.module_fault.ModuleSigFault.TheVariants as wrong;
 ghost use Rattle.lp_sig.specs.Sighted.{Grows};
 ghost use Rattle.lp_sig.specs.Sights.{HasKeys, HasNumbers, IsAlike, AreWordsAlike, signature_words, module_words};
@@ -222,7 +222,7 @@ impl Said {
 // A word that names a signature.
 fn check_word(word: Spot, sight: Option<Sight>) -> Result<(), ModuleSigFault>
     ensures alike { OnOk result (sight ≡ Some Alike) }
-    ensures refused { IfErr result (λ e. (e ≡ wrong.Sig fault.Memory) ⊎ IsWordFault (word ∷ []) e) }
+    ensures refused { IfErr result (λ e. (e ≡ wrong.Sig reason.Memory) ⊎ IsWordFault (word ∷ []) e) }
 {
     match sight {
         Some(Sight::Alike) => Ok(()),
@@ -249,8 +249,8 @@ fn differing(fault: SigFault) -> Option<Spot>
 }
 
 fn is_memory(fault: SigFault) -> bool
-    ensures memory { result ≡ true → fault ≡ fault.Memory }
-    ensures another { result ≡ false → fault ≡ fault.Memory → ⊥ }
+    ensures memory { result ≡ true → fault ≡ reason.Memory }
+    ensures another { result ≡ false → fault ≡ reason.Memory → ⊥ }
 {
     match fault {
         SigFault::Memory => true,
@@ -349,12 +349,7 @@ impl<'a> ModuleLines<'a> {
         }
     }
 
-    fn local_kinds(
-        &self,
-        making: &Making,
-        names: &[Spot],
-        arity: u32,
-    ) -> Result<(), ModuleSigFault>
+    fn local_kinds(&self, making: &Making, names: &[Spot], arity: u32) -> Result<(), ModuleSigFault>
         ensures refused { (said : List (Row IsSaid)) → Knows making.now.names said → IfErr result (IsLocalKindsFault self.now.own.now self.now.source.now said names.now arity) }
         ensures taken { (said : List (Row IsSaid)) → Knows making.now.names said → IfOk result (λ done. All (IsLocal (exports_kind self.now.own.now) self.now.source.now (λ s. IsMeant self.now.source.now said (a_kind arity) s × IsNumbered self.now.source.now said s)) names.now × (arity ≤ MAX_ARGUMENTS)) }
     {
@@ -368,7 +363,7 @@ impl<'a> ModuleLines<'a> {
     }
 
     fn known_kind(&self, name: Spot) -> Result<(), ModuleSigFault>
-        ensures refused { (known : List (List ℕ)) → HasKeys self.now.said.now.kinds known → IfErr result (IsLocalFault (exports_kind self.now.own.now) self.now.source.now (λ s e. (is_among (spelled self.now.source.now s) known ≡ false) × (e ≡ wrong.Sig (fault.UnknownKind s))) name) }
+        ensures refused { (known : List (List ℕ)) → HasKeys self.now.said.now.kinds known → IfErr result (IsLocalFault (exports_kind self.now.own.now) self.now.source.now (λ s e. (is_among (spelled self.now.source.now s) known ≡ false) × (e ≡ wrong.Sig (reason.UnknownKind s))) name) }
         ensures taken { (known : List (List ℕ)) → HasKeys self.now.said.now.kinds known → IfOk result (λ done. IsLocal (exports_kind self.now.own.now) self.now.source.now (λ s. is_among (spelled self.now.source.now s) known ≡ true) name) }
     {
         if self.exports_kind(name) {
@@ -382,7 +377,7 @@ impl<'a> ModuleLines<'a> {
 
     // Local kinds without a count of arguments are declared elsewhere in the text.
     fn known_kinds(&self, names: &[Spot]) -> Result<(), ModuleSigFault>
-        ensures refused { (known : List (List ℕ)) → HasKeys self.now.said.now.kinds known → IfErr result (IsKnownFault (exports_kind self.now.own.now) (λ s. wrong.Sig (fault.UnknownKind s)) self.now.source.now known names.now) }
+        ensures refused { (known : List (List ℕ)) → HasKeys self.now.said.now.kinds known → IfErr result (IsKnownFault (exports_kind self.now.own.now) (λ s. wrong.Sig (reason.UnknownKind s)) self.now.source.now known names.now) }
         ensures taken { (known : List (List ℕ)) → HasKeys self.now.said.now.kinds known → IfOk result (λ done. All (IsLocal (exports_kind self.now.own.now) self.now.source.now (λ s. is_among (spelled self.now.source.now s) known ≡ true)) names.now) }
     {
         for name in names {
@@ -417,7 +412,7 @@ impl<'a> ModuleLines<'a> {
         ensures operators { making.new.operators ≡ making.old.operators }
         ensures grown { OnOk result (Grows making.old making.new) }
         ensures words { OnOk result ((words : List (List ℕ)) → HasWords making.old.constants words → HasWords making.new.constants (words ++ map (λ s. spelled self.now.source.now s) names.now)) }
-        ensures refused { (said : List (Row IsSaid)) → Knows making.old.names said → IfErr result (λ e. (e ≡ wrong.Sig fault.Memory) ⊎ ((f : IsFault) × AreConstantsWrong self.now.source.now said names.now raw.now f × (e ≡ blamed_by (exports_constant self.now.own.now) self.now.source.now f))) }
+        ensures refused { (said : List (Row IsSaid)) → Knows making.old.names said → IfErr result (λ e. (e ≡ wrong.Sig reason.Memory) ⊎ ((f : IsFault) × AreConstantsWrong self.now.source.now said names.now raw.now f × (e ≡ blamed_by (exports_constant self.now.own.now) self.now.source.now f))) }
         ensures taken { (said : List (Row IsSaid)) → Knows making.old.names said → IfOk result (λ done. AreShort self.now.source.now names.now × IsSoundType self.now.source.now said raw.now) }
     {
         let outcome = declare_constants(
@@ -458,7 +453,7 @@ impl<'a> ModuleLines<'a> {
         ensures operators { making.new.operators ≡ making.old.operators }
         ensures grown { OnOk result (Grows making.old making.new) }
         ensures words { OnOk result ((words : List (List ℕ)) → HasWords making.old.constants words → HasWords making.new.constants (words ++ spelled self.now.source.now name ∷ [])) }
-        ensures refused { IfErr result (λ e. (e ≡ wrong.Sig fault.Memory) ⊎ IsLocalFault (exports_constant self.now.own.now) self.now.source.now (IsNewLocal self.now.source.now) name e) }
+        ensures refused { IfErr result (λ e. (e ≡ wrong.Sig reason.Memory) ⊎ IsLocalFault (exports_constant self.now.own.now) self.now.source.now (IsNewLocal self.now.source.now) name e) }
         ensures taken { IfOk result (λ done. IsLocal (exports_constant self.now.own.now) self.now.source.now (IsShort self.now.source.now) name) }
     {
         if self.exports_constant(name) {
@@ -482,7 +477,7 @@ impl<'a> ModuleLines<'a> {
         ensures operators { making.new.operators ≡ making.old.operators }
         ensures grown { OnOk result (Grows making.old making.new) }
         ensures words { OnOk result ((words : List (List ℕ)) → HasWords making.old.constants words → HasWords making.new.constants (words ++ map (λ s. spelled self.now.source.now s) names.now)) }
-        ensures refused { IfErr result (λ e. (e ≡ wrong.Sig fault.Memory) ⊎ IsFirstOf (IsLocalFault (exports_constant self.now.own.now) self.now.source.now (IsNewLocal self.now.source.now)) (IsLocal (exports_constant self.now.own.now) self.now.source.now (IsShort self.now.source.now)) names.now e) }
+        ensures refused { IfErr result (λ e. (e ≡ wrong.Sig reason.Memory) ⊎ IsFirstOf (IsLocalFault (exports_constant self.now.own.now) self.now.source.now (IsNewLocal self.now.source.now)) (IsLocal (exports_constant self.now.own.now) self.now.source.now (IsShort self.now.source.now)) names.now e) }
         ensures taken { IfOk result (λ done. All (IsLocal (exports_constant self.now.own.now) self.now.source.now (IsShort self.now.source.now)) names.now) }
     {
         for name in names {
@@ -503,7 +498,7 @@ impl<'a> ModuleLines<'a> {
 
     // A fault of the type of local constants: that one is exported goes first.
     fn wrong_locals(&self, names: &[Spot], fault: SigFault) -> ModuleSigFault
-        ensures { (said : List (Row IsSaid)) (raw : IsRawType) → (fault ≡ fault.Memory) ⊎ IsTypeFault self.now.source.now said raw fault → (result ≡ wrong.Sig fault.Memory) ⊎ AreLocalsWrong self.now.own.now self.now.source.now said names.now raw result }
+        ensures { (said : List (Row IsSaid)) (raw : IsRawType) → (fault ≡ reason.Memory) ⊎ IsTypeFault self.now.source.now said raw fault → (result ≡ wrong.Sig reason.Memory) ⊎ AreLocalsWrong self.now.own.now self.now.source.now said names.now raw result }
     {
         if is_memory(fault) {
             return ModuleSigFault::Sig(SigFault::Memory);
@@ -525,7 +520,7 @@ impl<'a> ModuleLines<'a> {
         ensures operators { making.new.operators ≡ making.old.operators }
         ensures grown { OnOk result (Grows making.old making.new) }
         ensures words { OnOk result ((words : List (List ℕ)) → HasWords making.old.constants words → HasWords making.new.constants (words ++ map (λ s. spelled self.now.source.now s) names.now)) }
-        ensures refused { (said : List (Row IsSaid)) → Knows making.old.names said → IfErr result (λ e. (e ≡ wrong.Sig fault.Memory) ⊎ AreLocalsWrong self.now.own.now self.now.source.now said names.now raw.now e) }
+        ensures refused { (said : List (Row IsSaid)) → Knows making.old.names said → IfErr result (λ e. (e ≡ wrong.Sig reason.Memory) ⊎ AreLocalsWrong self.now.own.now self.now.source.now said names.now raw.now e) }
         ensures taken { (said : List (Row IsSaid)) → Knows making.old.names said → IfOk result (λ done. All (IsLocal (exports_constant self.now.own.now) self.now.source.now (IsShort self.now.source.now)) names.now × IsSoundType self.now.source.now said raw.now) }
     {
         match making.bodies.scheme(&making.names, self.source, raw) {
@@ -569,7 +564,7 @@ impl<'a> ModuleLines<'a> {
         ensures operators { making.new.operators ≡ making.old.operators }
         ensures grown { OnOk result (Grows making.old making.new) }
         ensures words { OnOk result ((words : List (List ℕ)) → HasWords making.old.constants words → HasWords making.new.constants (words ++ local_names self.now.source.now names.now raw.now)) }
-        ensures refused { (said : List (Row IsSaid)) (known : List (List ℕ)) → Knows making.old.names said → HasKeys self.now.said.now.constants known → IfErr result (λ e. (e ≡ wrong.Sig fault.Memory) ⊎ AreLocalsRefused self.now.own.now self.now.source.now said known names.now raw.now e) }
+        ensures refused { (said : List (Row IsSaid)) (known : List (List ℕ)) → Knows making.old.names said → HasKeys self.now.said.now.constants known → IfErr result (λ e. (e ≡ wrong.Sig reason.Memory) ⊎ AreLocalsRefused self.now.own.now self.now.source.now said known names.now raw.now e) }
         ensures taken { (said : List (Row IsSaid)) (known : List (List ℕ)) → Knows making.old.names said → HasKeys self.now.said.now.constants known → IfOk result (λ done. AreLocalsTaken self.now.own.now self.now.source.now said known names.now raw.now) }
     {
         match raw {
@@ -589,7 +584,7 @@ impl<'a> ModuleLines<'a> {
         ensures operators { making.new.operators ≡ making.old.operators }
         ensures grown { OnOk result (Grows making.old making.new) }
         ensures constants { making.new.constants ≡ making.old.constants }
-        ensures refused { (said : List (Row IsSaid)) → Knows making.old.names said → IfErr result (λ e. (e ≡ wrong.Sig fault.Memory) ⊎ ((f : IsFault) × IsAbbreviationWrong self.now.source.now said name parameters.now raw.now f × (e ≡ blamed_by (exports_kind self.now.own.now) self.now.source.now f))) }
+        ensures refused { (said : List (Row IsSaid)) → Knows making.old.names said → IfErr result (λ e. (e ≡ wrong.Sig reason.Memory) ⊎ ((f : IsFault) × IsAbbreviationWrong self.now.source.now said name parameters.now raw.now f × (e ≡ blamed_by (exports_kind self.now.own.now) self.now.source.now f))) }
         ensures taken { (said : List (Row IsSaid)) → Knows making.old.names said → IfOk result (λ done. IsHead self.now.source.now said name parameters.now × WordsStand self.now.source.now said (parameters_of self.now.source.now parameters.now) raw.now.nodes.items) }
     {
         match making.declare_abbreviation(self.source, name, parameters, raw) {
@@ -600,7 +595,7 @@ impl<'a> ModuleLines<'a> {
 
     fn accumulate(&self, words: &[Spot]) -> Result<(), ModuleSigFault>
         ensures alike { OnOk result ((signatures modules : List (List ℕ)) → HasNumbers self.now.said.now.accum_sigs signatures → HasNumbers self.now.said.now.accumulates modules → All (IsAlike self.now.sights.now (length (first_names [] signatures)) modules) (map (λ s. spelled self.now.source.now s) words.now)) }
-        ensures refused { IfErr result (λ e. (e ≡ wrong.Sig fault.Memory) ⊎ IsWordFault words.now e) }
+        ensures refused { IfErr result (λ e. (e ≡ wrong.Sig reason.Memory) ⊎ IsWordFault words.now e) }
     {
         for word in words {
             let sight = self
@@ -613,7 +608,7 @@ impl<'a> ModuleLines<'a> {
 
     fn accum_sig(&self, words: &[Spot]) -> Result<(), ModuleSigFault>
         ensures alike { OnOk result ((signatures : List (List ℕ)) → HasNumbers self.now.said.now.accum_sigs signatures → All (IsAlike self.now.sights.now 0 signatures) (map (λ s. spelled self.now.source.now s) words.now)) }
-        ensures refused { IfErr result (λ e. (e ≡ wrong.Sig fault.Memory) ⊎ IsWordFault words.now e) }
+        ensures refused { IfErr result (λ e. (e ≡ wrong.Sig reason.Memory) ⊎ IsWordFault words.now e) }
     {
         for word in words {
             let sight = self
@@ -635,7 +630,7 @@ impl<'a> ModuleLines<'a> {
         ensures grown { OnOk result (Grows making.old making.new) }
         ensures words { OnOk result ((words : List (List ℕ)) → HasWords making.old.constants words → HasWords making.new.constants (words ++ constant_names_by self.now.source.now declaration.now)) }
         ensures alike { OnOk result ((signatures modules : List (List ℕ)) → HasNumbers self.now.said.now.accum_sigs signatures → HasNumbers self.now.said.now.accumulates modules → AreWordsAlike self.now.sights.now self.now.source.now signatures modules (declaration.now ∷ [])) }
-        ensures refused { (said : List (Row IsSaid)) (ds : List IsDeclaration) → Knows making.old.names said → HasKeys self.now.said.now.kinds (kind_names_in self.now.source.now ds) → HasKeys self.now.said.now.constants (constant_names_in self.now.source.now ds) → IfErr result (λ e. (e ≡ wrong.Sig fault.Memory) ⊎ IsLineFault self.now.own.now self.now.source.now said ds declaration.now e) }
+        ensures refused { (said : List (Row IsSaid)) (ds : List IsDeclaration) → Knows making.old.names said → HasKeys self.now.said.now.kinds (kind_names_in self.now.source.now ds) → HasKeys self.now.said.now.constants (constant_names_in self.now.source.now ds) → IfErr result (λ e. (e ≡ wrong.Sig reason.Memory) ⊎ IsLineFault self.now.own.now self.now.source.now said ds declaration.now e) }
         ensures taken { (said : List (Row IsSaid)) (ds : List IsDeclaration) → Knows making.old.names said → HasKeys self.now.said.now.kinds (kind_names_in self.now.source.now ds) → HasKeys self.now.said.now.constants (constant_names_in self.now.source.now ds) → IfOk result (λ done. IsLineTaken self.now.own.now self.now.source.now said ds declaration.now) }
     {
         match declaration {

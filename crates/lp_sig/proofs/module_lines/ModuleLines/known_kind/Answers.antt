@@ -11,5 +11,7 @@ returns-then-not-contains-clause-refused c = λ known h. another (sym c.exports_
     (ap (λ w. is_among w known) (sym c.spelled_at.ensures) ∙ sym (h c.spelled_at.result.now) ∙ sym c.contains.ensures ∙ c.if-not-contains.true, refl)
 
 pub returns-clause-taken : goal.returns-clause-taken
-returns-clause-taken c = λ known h. (sym c.exports_kind.ensures ∙ c.if-exports_kind.false,
-    ap (λ w. is_among w known) (sym c.spelled_at.ensures) ∙ sym (h c.spelled_at.result.now) ∙ sym c.contains.ensures ∙ c.if-not-contains.false)
+returns-clause-taken c = λ known h. (
+  sym c.exports_kind.ensures ∙ c.if-exports_kind.false,
+  ap (λ w. is_among w known) (sym c.spelled_at.ensures) ∙ sym (h c.spelled_at.result.now) ∙ sym c.contains.ensures ∙ c.if-not-contains.false,
+)

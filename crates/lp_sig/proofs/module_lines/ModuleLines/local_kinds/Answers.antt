@@ -20,7 +20,7 @@ pub returns-in_err-local_kind-clause-refused : goal.returns-in_err-local_kind-cl
 returns-in_err-local_kind-clause-refused c = λ said k.
     passed_up c.from_residual.result c.in_err-local_kind.field-0.0 (IsLocalKindsFault c.args.self.now.own.now c.args.self.now.source.now said c.args.names.now c.args.arity) c.from_residual.ensures.1
     (a_name (first_of (IsLocalFault (exports_kind c.args.self.now.own.now) c.args.self.now.source.now (λ s e. (f : SigFault) × IsNameFault c.args.self.now.source.now said (a_kind c.args.arity) s f × (e ≡ wrong.Sig f))) (IsLocal (exports_kind c.args.self.now.own.now) c.args.self.now.source.now (λ s. IsMeant c.args.self.now.source.now said (a_kind c.args.arity) s × IsNumbered c.args.self.now.source.now said s))
-      c.args.names.now c.loop-name.name-index _ c.in_err-local_kind.field-0.0 c.loop-name-test.true (c.loop-name.invariant said k) (c.in_err-local_kind.ensures.refused said k)))
+    c.args.names.now c.loop-name.name-index _ c.in_err-local_kind.field-0.0 c.loop-name-test.true (c.loop-name.invariant said k) (c.in_err-local_kind.ensures.refused said k)))
 
 pub returns-then-arity-clause-refused : goal.returns-then-arity-clause-refused
 returns-then-arity-clause-refused c = λ said k. arguments (subst (All (IsLocal (exports_kind c.args.self.now.own.now) c.args.self.now.source.now (λ s. IsMeant c.args.self.now.source.now said (a_kind c.args.arity) s × IsNumbered c.args.self.now.source.now said s))) (take_all c.loop-name.name-index c.args.names.now c.loop-name-test.false) (c.loop-name.invariant said k)) c.if-arity.true refl
