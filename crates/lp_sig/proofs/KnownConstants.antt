@@ -189,7 +189,7 @@ counted_none b c e k has d is = none (subst (λ l. Contains l k) e has)
     none (i, l, at) = absurd (omega (arith, l))
 
 -- types of one number are one
-type_of : ℕ → TypeId
+abbrev type_of : ℕ → TypeId
 type_of n = record { 0 = n }
 
 pub same_type : (a b : TypeId) → a.0 ≡ b.0 → a ≡ b

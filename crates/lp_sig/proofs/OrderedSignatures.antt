@@ -1,7 +1,7 @@
 -- The signature of texts: kinds by their places, types of constants with as many variables as is said and with kinds that have names.
 use Rattle.std.specs.Global.{Global}
-use Rattle.std.proofs.Common.{◌≡◌, ℕ, zero, suc, ◌+◌, ◌-◌, ◌<◌, ◌≤◌, min, List, [], ◌∷◌, ◌++◌, map, length, get_or, refl, sym, ap, subst, ◌∙◌, arith, Bool, true, false, Option, Some, None, inl, inr}
-use Rattle.std.specs.Prelude.{◌||◌, String, Vec, ◌⊎◌, nat_eq, nat_lt, if◌then◌else◌, option_map, slice_get, All}
+use Rattle.std.proofs.Common.{◌≡◌, ℕ, zero, suc, ◌+◌, ◌-◌, ◌<◌, min, List, [], ◌∷◌, ◌++◌, map, length, refl, sym, ap, subst, ◌∙◌, arith, Bool, true, false, Option, Some, None}
+use Rattle.std.specs.Prelude.{◌||◌, String, Vec, nat_eq, if◌then◌else◌, option_map, slice_get, All}
 use Rattle.std.specs.List.{list_any, range_with_len}
 use Rattle.std.proofs.lemmas.Bool.{eqb-true}
 use Rattle.std.proofs.lemmas.List.Elements.{All-nil, All-cons}
@@ -11,14 +11,14 @@ use Rattle.lp_calculus.specs.Types.{Ty, Tys, var, param, con, arrow, tys, no_typ
 use Rattle.lp_standard.specs.declared.fixity.Fixity.{Fixity}
 use Rattle.lp_syntax.specs.declared.text.RawTypeNode.{RawTypeNode}
 use Rattle.lp_syntax.specs.declared.text.SignatureText.{SignatureText}
-use Rattle.lp_term.specs.Nodes.{Nodes, type_tree}
+use Rattle.lp_term.specs.Nodes.{type_tree}
 use Rattle.lp_sig.specs.Rows.{Row, found, kind_row}
 use Rattle.lp_sig.specs.Said.{Said, names_in, kinds_among, declared_names, numbered}
 use Rattle.lp_sig.specs.Schemes.{type_variables, types_variables, met, AllMet, first_variables, place, numbered_type}
 use Rattle.lp_sig.specs.Standard.{standard_kinds}
 use Rattle.lp_sig.specs.Words.{number_said}
-use Rattle.lp_sig.specs.Types.{Definition, given_for, on_arguments, one_or, kind_number_of, IsTypeOf, AreTypesOf, a_variable, kind_on, abbreviation_on, an_arrow, no_more, one_more}
-use Rattle.lp_sig.specs.Constants.{Written, IsSchemeOf, IsConstant, AreInStep, declared_constants}
+use Rattle.lp_sig.specs.Types.{Definition, given_for, one_or, kind_number_of, IsTypeOf, AreTypesOf, a_variable, kind_on, abbreviation_on, an_arrow, no_more, one_more}
+use Rattle.lp_sig.specs.Constants.{Written, IsConstant, AreInStep, declared_constants}
 use Rattle.lp_sig.specs.Named.{named, all_named, kind_name, kind_names, named_in, IsWhole, AreWhole, IsOrdered}
 use Rattle.lp_sig.specs.Refusals.{IsAccepted, seen_in}
 use Rattle.lp_sig.specs.Refusals.{constants_of as constants_of_steps}

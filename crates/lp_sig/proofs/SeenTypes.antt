@@ -1,9 +1,9 @@
 -- Types of a signature that is seen, by their nodes.
-use Rattle.std.proofs.Common.{◌≡◌, ℕ, ◌<◌, ◌≤◌, List, [], ◌∷◌, ◌++◌, length, map, Option, Some, sym, ap, ◌∙◌, arith, inl, inr}
+use Rattle.std.proofs.Common.{◌≡◌, ℕ, ◌<◌, List, length, map, Option, Some, ap, ◌∙◌, inl, inr}
 use Rattle.std.specs.Prelude.{◌⊎◌, slice_get}
-use Rattle.lp_calculus.specs.Types.{Ty, var, con, arrow, tys}
+use Rattle.lp_calculus.specs.Types.{var, con, arrow, tys}
 use Rattle.lp_term.specs.Node.{TypeShape, var_node, con_node, arrow_node}
-use Rattle.lp_term.specs.Nodes.{Nodes, Extends, type_tree, type_node_tree}
+use Rattle.lp_term.specs.Nodes.{Nodes, type_tree, type_node_tree}
 use Rattle.lp_term.specs.declared.node.TypeId.{TypeId}
 use Rattle.lp_sig.specs.Named.{named, kind_name}
 use Rattle.lp_sig.specs.Sighted.{AreSeenTypes}

@@ -7,7 +7,7 @@ use Rattle.std.proofs.lemmas.List.{length-append}
 use Rattle.std.proofs.lemmas.Option.{same_Some, slice_get_within}
 use Rattle.std.proofs.lemmas.Slice.Eq.{bytes_eq-Decides}
 use Rattle.lp_base.specs.declared.limits.TheConstants.{END_OF_NUMBERS}
-use Rattle.lp_calculus.specs.Types.{Ty, Tys, var, param, con, arrow, tys, no_types, types}
+use Rattle.lp_calculus.specs.Types.{var, con, arrow, tys}
 use Rattle.lp_term.specs.Node.{TypeShape, var_node, con_node, arrow_node}
 use Rattle.lp_term.specs.Nodes.{Nodes, Extends, type_tree, type_node_tree}
 use Rattle.lp_term.specs.declared.node.TypeId.{TypeId}
@@ -16,7 +16,7 @@ use Rattle.lp_sig.specs.Said.{Said, a_kind, names_in, kinds_among, declared_name
 use Rattle.lp_sig.specs.Standard.{standard_kinds}
 use Rattle.lp_sig.specs.Words.{standard_said, meaning_of, number_said}
 use Rattle.lp_sig.specs.Types.{one_or, kind_number_of}
-use Rattle.lp_sig.specs.Named.{NamedTy, NamedTys, no_named, more_named, named_con, named_arrow, named, all_named, kind_name}
+use Rattle.lp_sig.specs.Named.{NamedTy, NamedTys, more_named, named_con, named_arrow, named, all_named, kind_name}
 use Rattle.lp_sig.specs.Sighted.{said_kinds, IsKind, HasItsNumber, AreSeenTypes}
 use Rattle.lp_sig.specs.declared.see.Sight.{Sight}
 use Rattle.lp_sig.specs.declared.see.Sight.TheVariants.{Alike, Otherwise}
@@ -157,7 +157,8 @@ found_among : {A : Type 0} (name : List ℕ) (front : List (Row A)) (rows back :
 found_among name [] [] back i e = absurd (cc)
 found_among {A} name [] (x ∷ xs) back i e = by (bytes_eq name x.0) refl (λ j f. found_among name [] xs back j f) i e
   where
-    by : (t : Bool) → bytes_eq name x.0 ≡ t → ((j : ℕ) → slice_get (names_in xs) j ≡ Some name → (b : A) × (found name (xs ++ back) ≡ Some b)) → (i : ℕ) → slice_get (x.0 ∷ names_in xs) i ≡ Some name → (b : A) × (cond t (Some x.1) (found name (xs ++ back)) ≡ Some b)
+    by : (t : Bool) → bytes_eq name x.0 ≡ t → ((j : ℕ) → slice_get (names_in xs) j ≡ Some name → (b : A) × (found name (xs ++ back) ≡ Some b)) →
+        (i : ℕ) → slice_get (x.0 ∷ names_in xs) i ≡ Some name → (b : A) × (cond t (Some x.1) (found name (xs ++ back)) ≡ Some b)
     by true s h i e = (x.1, refl)
     by false s h zero e = absurd (true≢false (sym ((bytes_eq-Decides name x.0).1 (sym (same_Some x.0 name e))) ∙ s))
     by false s h (suc i) e = h i e

@@ -10,7 +10,6 @@ use Rattle.std.proofs.lemmas.List.Elements.{All-nil, All-append, All-push, Conta
 use Rattle.std.proofs.lemmas.Option.{same_Some, slice_get-get_or, slice_get_past}
 use Rattle.std.proofs.lemmas.Slice.Eq.{bytes_eq-Decides}
 use Rattle.indexmap.specs.IndexMap.{IndexMap}
-use Rattle.lp_fixity.proofs.Lookups.{lookup_put}
 use Rattle.lp_lemmas.proofs.Elements.{Contains_head, Contains_tail, Contains_single}
 use Rattle.lp_base.specs.declared.place.Spot.{Spot}
 use Rattle.lp_syntax.specs.declared.text.Declaration.{Declaration}
@@ -112,7 +111,8 @@ new_name known (n ∷ ns) i w e = by (λ j f. new_name known ns j w f) (λ j f. 
     or_right true b f = absurd (true≢false f)
     or_right false b f = f
 
-    by : ((j : ℕ) → slice_get (first_names known ns) j ≡ Some w → is_among w known ≡ false) → ((j : ℕ) → slice_get (first_names (n ∷ known) ns) j ≡ Some w → is_among w (n ∷ known) ≡ false) → (t : Bool) → is_among n known ≡ t → (i : ℕ) →
+    by : ((j : ℕ) → slice_get (first_names known ns) j ≡ Some w → is_among w known ≡ false) →
+        ((j : ℕ) → slice_get (first_names (n ∷ known) ns) j ≡ Some w → is_among w (n ∷ known) ≡ false) → (t : Bool) → is_among n known ≡ t → (i : ℕ) →
         slice_get (if t then first_names known ns else n ∷ first_names (n ∷ known) ns) i ≡ Some w → is_among w known ≡ false
     by g h true s i e = g i e
     by g h false s zero e = ap (λ w. is_among w known) (sym (same_Some n w e)) ∙ s
@@ -129,8 +129,10 @@ pub place_first : (known ws : List (List ℕ)) (i : ℕ) (w : List ℕ) → slic
 place_first known [] i w e = absurd (cc)
 place_first known (n ∷ ns) i w e = by (λ j f. place_first known ns j w f) (λ j f. place_first (n ∷ known) ns j w f) (is_among n known) i e
   where
-    by : ((j : ℕ) → slice_get (first_names known ns) j ≡ Some w → first_place w (first_names known ns) ≡ Some j) → ((j : ℕ) → slice_get (first_names (n ∷ known) ns) j ≡ Some w → first_place w (first_names (n ∷ known) ns) ≡ Some j) →
-        (t : Bool) → (i : ℕ) → slice_get (if t then first_names known ns else n ∷ first_names (n ∷ known) ns) i ≡ Some w → first_place w (if t then first_names known ns else n ∷ first_names (n ∷ known) ns) ≡ Some i
+    by : ((j : ℕ) → slice_get (first_names known ns) j ≡ Some w → first_place w (first_names known ns) ≡ Some j) →
+        ((j : ℕ) → slice_get (first_names (n ∷ known) ns) j ≡ Some w → first_place w (first_names (n ∷ known) ns) ≡ Some j) →
+        (t : Bool) → (i : ℕ) → slice_get (if t then first_names known ns else n ∷ first_names (n ∷ known) ns) i ≡ Some w → first_place w
+        (if t then first_names known ns else n ∷ first_names (n ∷ known) ns) ≡ Some i
     by g h true i e = g i e
     by g h false zero e = ap (λ t. if t then Some 0 else option_map (λ i. suc i) (first_place w (first_names (n ∷ known) ns))) ((bytes_eq-Decides w n).1 (sym (same_Some n w e)))
     by g h false (suc i) e =
@@ -298,18 +300,23 @@ copied_at xs i None h = sym (slice_get_past xs i h.3)
 copied_at xs i (Some x) h = sym (slice_get-get_or xs i x.now h.3.0 ∙ ap (λ y. Some y) (sym h.1))
 
 -- how the signature that a word names goes with those before it
-pub signature_at : {S : Type 0} (numbers : IndexMap (Vec ℕ Global) ℕ S) (sights : List Sight) (all : List (List ℕ)) (word : List ℕ) (r : Option (Bor ℕ)) (n : Bor ℕ) (there : Option (Bor Sight)) (sight : Option Sight) →
-    HasNumbers numbers all → option_copied r ≡ lookup (λ k. bytes_eq word k.items) numbers.entries → r ≡ Some n → IsItemAt sights n.now there → sight ≡ option_copied there → sight ≡ Some Alike → IsAlike sights 0 all word
+pub signature_at : {S : Type 0} (numbers : IndexMap (Vec ℕ Global) ℕ S) (sights : List Sight) (all : List (List ℕ)) (word : List ℕ)
+    (r : Option (Bor ℕ)) (n : Bor ℕ) (there : Option (Bor Sight)) (sight : Option Sight) →
+    HasNumbers numbers all → option_copied r ≡ lookup (λ k. bytes_eq word k.items) numbers.entries → r ≡ Some n → IsItemAt sights n.now there → sight
+    ≡ option_copied there → sight ≡ Some Alike → IsAlike sights 0 all word
 signature_at numbers sights all word r n there sight h looked is at copied alike =
     alike_signature sights all word n.now (sym (h.0 word) ∙ sym looked ∙ ap option_copied is) (sym (copied_at sights n.now there at) ∙ sym copied ∙ alike)
 
-pub module_at : {S T : Type 0} (numbers : IndexMap (Vec ℕ Global) ℕ S) (signatures : IndexMap (Vec ℕ Global) ℕ T) (sights : List Sight) (words all : List (List ℕ)) (word : List ℕ) (r : Option (Bor ℕ)) (n : Bor ℕ) (place many : ℕ)
+pub module_at : {S T : Type 0} (numbers : IndexMap (Vec ℕ Global) ℕ S) (signatures : IndexMap (Vec ℕ Global) ℕ T) (sights : List Sight)
+    (words all : List (List ℕ)) (word : List ℕ) (r : Option (Bor ℕ)) (n : Bor ℕ) (place many : ℕ)
     (there : Option (Bor Sight)) (sight : Option Sight) → HasNumbers signatures words → HasNumbers numbers all → option_copied r ≡ lookup (λ k. bytes_eq word k.items) numbers.entries → r ≡ Some n →
     many ≡ length signatures.entries → place ≡ n.now + many → IsItemAt sights place there → sight ≡ option_copied there → sight ≡ Some Alike → IsAlike sights (length (first_names [] words)) all word
 module_at numbers signatures sights words all word r n place many there sight k h looked is count sum at copied alike =
     let m = k.1 in
-    alike_module sights (length (first_names [] words)) all word n.now place (sym (h.0 word) ∙ sym looked ∙ ap option_copied is) (omega (arith, sum, count, m)) (sym (copied_at sights place there at) ∙ sym copied ∙ alike)
+    alike_module sights (length (first_names [] words)) all word n.now place (sym (h.0 word) ∙ sym looked ∙ ap option_copied is)
+    (omega (arith, sum, count, m)) (sym (copied_at sights place there at) ∙ sym copied ∙ alike)
 
 -- one more word that is alike
-pub alike_more : (P : List ℕ → Type 0) (f : Spot → List ℕ) (xs : List Spot) (i : ℕ) (d : Spot) (w : List ℕ) → i < length xs → w ≡ f (get_or xs i d) → All P (map f (take i xs)) → P w → All P (map f (take (i + 1) xs))
+pub alike_more : (P : List ℕ → Type 0) (f : Spot → List ℕ) (xs : List Spot) (i : ℕ) (d : Spot) (w : List ℕ) → i < length xs → w ≡ f (get_or xs i d) →
+    All P (map f (take i xs)) → P w → All P (map f (take (i + 1) xs))
 alike_more P f xs i d w l is all this = subst (All P) (ap (λ w. map f (take i xs) ++ w ∷ []) is ∙ mapped_more f xs i d [] l) (All-push P (map f (take i xs)) w all this)

@@ -1,9 +1,8 @@
 -- The constants of the signatures that a module sees have their types in the module's signature.
-use Rattle.std.proofs.Common.{◌≡◌, ℕ, zero, suc, ◌+◌, ◌<◌, ◌≤◌, List, [], ◌∷◌, ◌++◌, length, map, get_or, Bool, true, false, Option, Some, None, refl, sym, ap, subst, ◌∙◌, cond, arith, true≢false, append-nil}
-use Rattle.std.specs.Prelude.{if◌then◌else◌, slice_get, Contains, All, ◌||◌}
+use Rattle.std.proofs.Common.{◌≡◌, ℕ, zero, suc, ◌+◌, ◌<◌, ◌≤◌, List, [], ◌∷◌, ◌++◌, length, map, get_or, Bool, true, false, Some, refl, sym, ap, subst, ◌∙◌, cond, arith, true≢false}
+use Rattle.std.specs.Prelude.{if◌then◌else◌, ◌||◌}
 use Rattle.std.specs.Str.{bytes_eq}
 use Rattle.std.proofs.lemmas.List.{length-append, length-map}
-use Rattle.std.proofs.lemmas.Option.{same_Some, slice_get-get_or}
 use Rattle.std.proofs.lemmas.Slice.Eq.{bytes_eq-Decides}
 use Rattle.lp_base.specs.declared.limits.TheConstants.{END_OF_NUMBERS}
 use Rattle.lp_calculus.specs.Types.{Ty}
@@ -15,7 +14,7 @@ use Rattle.lp_sig.specs.Standard.{standard_kinds, standard_constants}
 use Rattle.lp_sig.specs.Words.{standard_said, meaning_of}
 use Rattle.lp_sig.specs.Constants.{standard_tree}
 use Rattle.lp_sig.specs.Knowing.{Knows, kinded_row}
-use Rattle.lp_sig.specs.Modules.{kind_said, abbreviation_said, said_of, constants_of, first_names, IsApart}
+use Rattle.lp_sig.specs.Modules.{kind_said, abbreviation_said, said_of, first_names, IsApart}
 use Rattle.lp_sig.specs.Worded.{is_met_word}
 use Rattle.lp_sig.specs.Named.{named, named_in, kind_name, kind_names, HasNamed, standard_one, declared_one, IsOrdered, SeesAlike}
 use Rattle.lp_sig.specs.Sighted.{said_kinds, IsKind, AreKinds, HasTree, SeenSo}
@@ -29,14 +28,15 @@ use Rattle.lp_sig.specs.declared.signature.Signature.{Signature}
 use Rattle.lp_sig.proofs.Apart.{AreNew, firsts_new, new_same}
 use Rattle.lp_sig.proofs.OwnNames.{names_few}
 use Rattle.lp_sig.proofs.Sighting.{kinds_more, numbered_names}
-use Rattle.lp_sig.proofs.Viewing.{same_first, names_are}
+use Rattle.lp_sig.proofs.Viewing.{same_first}
 
 -- a row of names that are new is what its name means
 found_past : {A : Type 0} (name : List ℕ) (front rows : List (Row A)) → is_among name (names_in front) ≡ false → found name (front ++ rows) ≡ found name rows
 found_past name [] rows e = refl
 found_past {A} name (x ∷ xs) rows e = by (found_past name xs rows) (bytes_eq name x.0) e
   where
-    by : (is_among name (names_in xs) ≡ false → found name (xs ++ rows) ≡ found name rows) → (t : Bool) → (t || is_among name (names_in xs)) ≡ false → cond t (Some x.1) (found name (xs ++ rows)) ≡ found name rows
+    by : (is_among name (names_in xs) ≡ false → found name (xs ++ rows) ≡ found name rows) → (t : Bool) → (t || is_among name (names_in xs)) ≡ false →
+        cond t (Some x.1) (found name (xs ++ rows)) ≡ found name rows
     by h true e = absurd (true≢false e)
     by h false e = h e
 
@@ -120,7 +120,8 @@ names_new known words (x ∷ xs) same e = by (names_new (x.name.items ∷ known)
         turn false true c = refl
         turn false false c = refl
 
-    by : (first_names (x.name.items ∷ known) (map (λ e. e.name.items) xs) ≡ map (λ e. e.name.items) xs → sighted.AreNew (words ++ x.name.items ∷ []) xs) → (t : Bool) → is_among x.name.items known ≡ t → (if t then first_names known (map (λ e. e.name.items) xs) else x.name.items ∷ first_names
+    by : (first_names (x.name.items ∷ known) (map (λ e. e.name.items) xs) ≡ map (λ e. e.name.items) xs → sighted.AreNew (words ++ x.name.items ∷ [])
+        xs) → (t : Bool) → is_among x.name.items known ≡ t → (if t then first_names known (map (λ e. e.name.items) xs) else x.name.items ∷ first_names
         (x.name.items ∷ known) (map (λ e. e.name.items) xs)) ≡ x.name.items ∷ map (λ e. e.name.items) xs → sighted.AreNew words (x ∷ xs)
     by h true s f = let l = names_few known (map (λ e. e.name.items) xs) in let z = ap length f in absurd (omega (arith, l, z))
     by h false s f =

@@ -7,7 +7,7 @@ use Rattle.lp_calculus.specs.Types.{Ty, Tys, var, param, con, arrow, no_types, t
 use Rattle.lp_term.specs.Nodes.{Nodes, Extends, type_tree}
 use Rattle.lp_term.specs.declared.node.TypeId.{TypeId}
 use Rattle.lp_sig.specs.Schemes.{type_variables, types_variables, met, first_variables}
-use Rattle.lp_sig.specs.Named.{NamedTy, NamedTys, named_var, named_param, named_con, named_arrow, no_named, more_named, named, all_named, kind_name, kind_names, named_in, IsWhole, AreWhole, IsOrdered}
+use Rattle.lp_sig.specs.Named.{NamedTy, NamedTys, named_con, named_arrow, more_named, named, all_named, kind_name, kind_names, named_in, IsWhole, AreWhole, IsOrdered}
 use Rattle.lp_sig.specs.Rows.{Row}
 use Rattle.lp_sig.specs.Said.{Said, names_in}
 use Rattle.lp_sig.specs.Modules.{kind_said, abbreviation_said, said_of}

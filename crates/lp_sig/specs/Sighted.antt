@@ -1,5 +1,5 @@
 -- What is made of the kinds, types and constants of a signature that is seen: kinds have the numbers of their names, types are the same by these names, and constants are known with them.
-use Rattle.std.specs.Prelude.{◌≡◌, ◌+◌, ◌<◌, ◌≤◌, ◌⊎◌, ℕ, List, [], ◌∷◌, ◌++◌, map, length, nat_eq, false, Option, Some, slice_get, Contains, All}
+use Rattle.std.specs.Prelude.{◌≡◌, ◌+◌, ◌<◌, ◌≤◌, ◌⊎◌, ℕ, List, [], ◌∷◌, ◌++◌, length, nat_eq, false, Some, slice_get, Contains, All}
 use Rattle.indexmap.specs.IndexMap.{IndexMap, get}
 use Rattle.lp_base.specs.declared.limits.TheConstants.{END_OF_NUMBERS}
 use Rattle.lp_calculus.specs.Types.{Ty}
@@ -12,7 +12,7 @@ use Rattle.lp_sig.specs.Standard.{standard_constants}
 use Rattle.lp_sig.specs.Words.{meaning_of}
 use Rattle.lp_sig.specs.Constants.{standard_tree}
 use Rattle.lp_sig.specs.Worded.{is_met_word}
-use Rattle.lp_sig.specs.Named.{named, kind_name, kind_names, named_in}
+use Rattle.lp_sig.specs.Named.{named, kind_name, named_in}
 use Rattle.lp_sig.specs.declared.entries.ConstantEntry.{ConstantEntry}
 use Rattle.lp_sig.specs.declared.constants.Constant.{Constant}
 use Rattle.lp_sig.specs.declared.constants.Constants.{Constants}

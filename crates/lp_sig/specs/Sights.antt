@@ -1,6 +1,6 @@
 -- How the signatures that a module's text names go with one another: words have numbers by first place, and each word is that of a signature that goes with those before it.
 use Rattle.std.specs.Global.{Global}
-use Rattle.std.specs.Prelude.{◌≡◌, ◌+◌, ◌<◌, ℕ, List, [], ◌∷◌, map, length, Some, Vec, slice_get, Contains, All}
+use Rattle.std.specs.Prelude.{◌≡◌, ◌+◌, ◌<◌, ℕ, List, [], map, length, Some, Vec, slice_get, Contains, All}
 use Rattle.std.specs.Str.{bytes_eq}
 use Rattle.std.specs.Map.{lookup}
 use Rattle.indexmap.specs.IndexMap.{IndexMap}

@@ -1,4 +1,4 @@
-use Rattle.std.proofs.Common.{◌≤◌, ◌+◌, map, length, take_all, ap, ◌∙◌, arith}
+use Rattle.std.proofs.Common.{map, take_all, ap, ◌∙◌, arith}
 use Rattle.lp_sig.specs.Rows.{kind_row}
 use Rattle.lp_sig.specs.Said.{numbered}
 use Rattle.lp_sig.specs.Knowing.{kinded_row}

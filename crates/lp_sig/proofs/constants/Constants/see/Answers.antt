@@ -1,5 +1,4 @@
-use Rattle.std.proofs.Common.{◌≡◌, ◌∙◌, Some, ap, sym, subst, inl, inr, true}
-use Rattle.std.specs.Prelude.{slice_get}
+use Rattle.std.proofs.Common.{◌∙◌, ap, sym, subst}
 use Rattle.std.proofs.lemmas.Bool.{eqb-true}
 use Rattle.std.proofs.lemmas.Result.{on_ok_weaker}
 use Rattle.lp_sig.specs.Sighted.{IsTreeOf}
@@ -46,5 +45,7 @@ returns-in-Typed-clause-seen c = λ words h all counted. (
   counted_later c.args.types.now.bank c.known_as.new.types.bank c.args.self.now c.known_as.ensures.kept all,
   seen_known c.known_as.new.types.bank c.args.self.now c.args.made.now c.args.entry.now words (c.in_ok-known_as.ensures.met words h)
       c.as_slice-name.ensures.value (ap is_met c.in-Typed.is) c.in_ok-scheme.scheme c.in-Typed.known c.in_ok-scheme.ensures
-      (subst (IsTreeOf c.known_as.new.types.bank c.args.self.now c.as_slice-name.result.now) c.in-Typed.is (c.in_ok-known_as.ensures.tree words h all)) (λ q. same_type c.in-Typed.known c.in_ok-scheme.scheme (eqb-true _ _ (sym c.eq.ensures ∙ c.if_alike.ensures q))),
+      (subst (IsTreeOf c.known_as.new.types.bank c.args.self.now c.as_slice-name.result.now) c.in-Typed.is
+      (c.in_ok-known_as.ensures.tree words h all)) (λ q. same_type c.in-Typed.known c.in_ok-scheme.scheme
+      (eqb-true _ _ (sym c.eq.ensures ∙ c.if_alike.ensures q))),
 )

@@ -1,4 +1,4 @@
-use Rattle.std.proofs.Common.{◌++◌, [], sym, subst, map, take, take_all, append-nil}
+use Rattle.std.proofs.Common.{◌++◌, sym, subst, map, take, take_all, append-nil}
 use Rattle.std.specs.Prelude.{All}
 use Rattle.std.proofs.lemmas.List.Elements.{All-nil}
 use Rattle.lp_term.proofs.Trees.{extends_same, extends-trans}

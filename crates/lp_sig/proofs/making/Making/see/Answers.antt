@@ -1,4 +1,4 @@
-use Rattle.std.proofs.Common.{◌≡◌, ℕ, Some, ◌++◌, ◌∙◌, sym, ap, subst, map, length, append_assoc, inl, inr}
+use Rattle.std.proofs.Common.{◌≡◌, ℕ, Some, ◌++◌, ◌∙◌, sym, ap, subst, map, length, append_assoc}
 use Rattle.std.specs.Prelude.{◌⊎◌, nat_eq, All}
 use Rattle.std.specs.List.{range_with_len}
 use Rattle.std.specs.Map.{lookup}

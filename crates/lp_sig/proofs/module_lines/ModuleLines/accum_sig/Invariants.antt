@@ -1,7 +1,6 @@
-use Rattle.std.proofs.Common.{ℕ, List, [], length, map, take}
+use Rattle.std.proofs.Common.{ℕ, List, map, take}
 use Rattle.std.specs.Prelude.{All}
 use Rattle.lp_sig.specs.Pieces.{spelled}
-use Rattle.lp_sig.specs.Modules.{first_names}
 use Rattle.lp_sig.specs.Sights.{HasNumbers, IsAlike}
 use Rattle.lp_sig.proofs.module_lines.ModuleLines.accum_sig.Given as goal
 

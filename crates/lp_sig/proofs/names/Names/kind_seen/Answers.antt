@@ -17,9 +17,9 @@ returns-else-number-ge-END_OF_NUMBERS c = λ said k. number_alike said c.args.na
     (let l = c.if-number-ge-END_OF_NUMBERS.false in omega (arith, l))
 
 pub returns-in-Some-Abbreviation : goal.returns-in-Some-Abbreviation
-returns-in-Some-Abbreviation c = λ said k. number_none said c.args.name.now _ _ (sym
+returns-in-Some-Abbreviation c = λ said k. number_none said c.args.name.now 4294967295 _ (sym
     (ap (λ m. Some (said_as c.args.self.now m)) (sym c.in-Some-Abbreviation.field-0-is) ∙ c.in-Some-Abbreviation.ensures.means said k))
     (λ n e. absurd (cc))
 
 pub returns-in-None : goal.returns-in-None
-returns-in-None c = λ said k. number_none said c.args.name.now _ _ (sym (ap (option_map (said_as c.args.self.now)) (sym c.in-None.is) ∙ c.meaning.ensures.means said k)) (λ n e. absurd (cc))
+returns-in-None c = λ said k. number_none said c.args.name.now 4294967295 _ (sym (ap (option_map (said_as c.args.self.now)) (sym c.in-None.is) ∙ c.meaning.ensures.means said k)) (λ n e. absurd (cc))

@@ -1,4 +1,4 @@
-use Rattle.std.proofs.Common.{◌≡◌, ◌++◌, map, sym, ap, subst, take, take_all, append-nil}
+use Rattle.std.proofs.Common.{◌++◌, map, sym, subst, take, take_all, append-nil}
 use Rattle.std.specs.Prelude.{nat_eq}
 use Rattle.indexmap.specs.IndexMap.{get}
 use Rattle.lp_sig.specs.Knowing.{Knows}

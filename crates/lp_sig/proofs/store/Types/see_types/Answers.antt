@@ -1,4 +1,4 @@
-use Rattle.std.proofs.Common.{◌≡◌, ◌++◌, ◌∷◌, [], ◌+◌, ◌∙◌, length, sym, ap, subst, arith}
+use Rattle.std.proofs.Common.{◌∷◌, [], ◌+◌, ◌∙◌, length, sym, ap, subst, arith}
 use Rattle.std.proofs.lemmas.List.{length-append}
 use Rattle.lp_term.proofs.Trees.{extends_same, extends-trans}
 use Rattle.lp_sig.specs.Sighted.{AreSeenTypes}
