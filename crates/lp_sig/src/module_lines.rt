@@ -100,6 +100,13 @@ fn no_words(alloc: Global) -> IndexMap<Vec<u8>, usize>
     IndexMap::new(alloc)
 }
 
+// A set with no names.
+fn no_names(alloc: Global) -> IndexSet<Vec<u8>>
+    ensures { HasKeys result [] }
+{
+    IndexSet::new(alloc)
+}
+
 // Notes names that are declared with a kind or a type.
 fn note_if(
     alloc: Global,
@@ -125,8 +132,8 @@ impl Said {
     {
         Said {
             alloc,
-            kinds: IndexSet::new(alloc),
-            constants: IndexSet::new(alloc),
+            kinds: no_names(alloc),
+            constants: no_names(alloc),
             accum_sigs: no_words(alloc),
             accumulates: no_words(alloc),
         }
