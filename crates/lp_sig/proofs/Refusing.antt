@@ -1,7 +1,7 @@
 -- Why a module's declarations are refused: sets of names, exported names, names one after the other, and sentences.
 use Rattle.std.specs.Global.{Global}
-use Rattle.std.proofs.Common.{◌≡◌, ℕ, zero, suc, ◌+◌, ◌<◌, ◌≤◌, List, [], ◌∷◌, ◌++◌, length, map, get_or, take, Bool, true, false, Option, Some, None, Result, Ok, Err, Vec, Bor, refl, sym, ap, subst, ◌∙◌, arith, true≢false, inl, inr, append-nil, append_assoc}
-use Rattle.std.specs.Prelude.{◌⊎◌, if◌then◌else◌, is_some, option_map, find, All, Contains, IfOk, slice_index_or, ◌||◌}
+use Rattle.std.proofs.Common.{◌≡◌, ℕ, zero, suc, ◌+◌, ◌<◌, ◌≤◌, List, [], ◌∷◌, ◌++◌, length, map, get_or, take, Bool, true, false, Option, Some, None, Vec, Bor, refl, sym, ap, subst, ◌∙◌, arith, true≢false, inl, inr, append-nil, append_assoc}
+use Rattle.std.specs.Prelude.{◌⊎◌, if◌then◌else◌, is_some, option_map, find, All, Contains, slice_index_or, ◌||◌}
 use Rattle.std.specs.List.{list_any}
 use Rattle.std.specs.Str.{bytes_eq}
 use Rattle.std.proofs.lemmas.List.{length-append, get_or_default, take_more}
@@ -220,7 +220,3 @@ blamed_or exports text P f e is (inr p) = inr (f, p, is)
 pub its_reason : (f : SigFault) (A : Type 0) → (f ≡ fault.Memory → ⊥) → (f ≡ fault.Memory) ⊎ A → A
 its_reason f A no_memory (inl m) = absurd (no_memory m)
 its_reason f A no_memory (inr a) = a
-
-pub ok_always : {A E : Type 0} (r : Result A E) (P : Type 0) → P → IfOk r (λ done. P)
-ok_always (Ok x) P p = p
-ok_always (Err e) P p = tt
