@@ -73,17 +73,17 @@ pub record IsFirstOf (P : Spot → ModuleSigFault → Type 0) (Q : Spot → Type
 
 -- a local name is exported, or something else is wrong with it
 pub data IsLocalFault (exports : List ℕ → Bool) (text : List ℕ) (P : Spot → ModuleSigFault → Type 0) (s : Spot) (e : ModuleSigFault) : Type 0 where
-  exported : exports (spelled text s) ≡ true → e ≡ wrong.Exported s → IsLocalFault exports text P s e
-  another : exports (spelled text s) ≡ false → P s e → IsLocalFault exports text P s e
+  is_exported : exports (spelled text s) ≡ true → e ≡ wrong.Exported s → IsLocalFault exports text P s e
+  its_fault : exports (spelled text s) ≡ false → P s e → IsLocalFault exports text P s e
 
 abbrev pub IsLocal : (List ℕ → Bool) → List ℕ → (Spot → Type 0) → Spot → Type 0
 IsLocal exports text Q s = (exports (spelled text s) ≡ false) × Q s
 
 -- local kinds with a count of arguments: a name of them, then the count
 pub data IsLocalKindsFault (own : Signature) (text : List ℕ) (said : List (Row Said)) (names : List Spot) (n : ℕ) (e : ModuleSigFault) : Type 0 where
-  a_name : IsFirstOf (IsLocalFault (exports_kind own) text (λ s e. (f : SigFault) × IsNameFault text said (a_kind n) s f × (e ≡ wrong.Sig f))) (IsLocal (exports_kind own) text (λ s. IsMeant text said (a_kind n) s × IsNumbered text said s)) names e →
+  a_local_kind : IsFirstOf (IsLocalFault (exports_kind own) text (λ s e. (f : SigFault) × IsNameFault text said (a_kind n) s f × (e ≡ wrong.Sig f))) (IsLocal (exports_kind own) text (λ s. IsMeant text said (a_kind n) s × IsNumbered text said s)) names e →
       IsLocalKindsFault own text said names n e
-  arguments : All (IsLocal (exports_kind own) text (λ s. IsMeant text said (a_kind n) s × IsNumbered text said s)) names → MAX_ARGUMENTS < n → e ≡ wrong.Sig (fault.Limit limit.Arguments) → IsLocalKindsFault own text said names n e
+  many_arguments : All (IsLocal (exports_kind own) text (λ s. IsMeant text said (a_kind n) s × IsNumbered text said s)) names → MAX_ARGUMENTS < n → e ≡ wrong.Sig (fault.Limit limit.Arguments) → IsLocalKindsFault own text said names n e
 
 -- local names without a count or a type: one that is exported, or that no sentence of the text declares with one
 abbrev pub IsKnownFault : (List ℕ → Bool) → (Spot → ModuleSigFault) → List ℕ → List (List ℕ) → List Spot → ModuleSigFault → Type 0
@@ -103,9 +103,9 @@ pub data IsNewFault (names : List Spot) (e : SigFault) : Type 0 where
 
 -- constants: a long name, then the type, then a name
 pub data AreConstantsWrong (text : List ℕ) (said : List (Row Said)) (names : List Spot) (ty : RawType) (e : SigFault) : Type 0 where
-  long_name : e ≡ fault.Limit limit.NameLength → (s : Spot) → Contains names s → MAX_NAME_BYTES < length (spelled text s) → AreConstantsWrong text said names ty e
-  bad_type : AreShort text names → IsTypeFault text said ty e → AreConstantsWrong text said names ty e
-  bad_name : AreShort text names → IsSoundType text said ty → IsNewFault names e → AreConstantsWrong text said names ty e
+  a_long_name : e ≡ fault.Limit limit.NameLength → (s : Spot) → Contains names s → MAX_NAME_BYTES < length (spelled text s) → AreConstantsWrong text said names ty e
+  a_bad_type : AreShort text names → IsTypeFault text said ty e → AreConstantsWrong text said names ty e
+  a_bad_name : AreShort text names → IsSoundType text said ty → IsNewFault names e → AreConstantsWrong text said names ty e
 
 -- a local name that is not exported, of a sentence with a sound type: it is long, or declared otherwise, or no number is left for it
 abbrev pub IsNewLocal : List ℕ → Spot → ModuleSigFault → Type 0
@@ -113,10 +113,10 @@ IsNewLocal text s e = ((e ≡ wrong.Sig (fault.Limit limit.NameLength)) × (MAX_
 
 -- local constants: where the type has a fault an exported name goes first, then a long one, then the type; else the names in order
 pub data AreLocalsWrong (own : Signature) (text : List ℕ) (said : List (Row Said)) (names : List Spot) (ty : RawType) (e : ModuleSigFault) : Type 0 where
-  exported : (f : SigFault) → IsTypeFault text said ty f → IsFirstOf (λ s e. (exports_constant own (spelled text s) ≡ true) × (e ≡ wrong.Exported s)) (λ s. exports_constant own (spelled text s) ≡ false) names e → AreLocalsWrong own text said names ty e
-  long_name : (f : SigFault) → IsTypeFault text said ty f → All (λ s. exports_constant own (spelled text s) ≡ false) names → (s : Spot) → Contains names s → MAX_NAME_BYTES < length (spelled text s) → e ≡ wrong.Sig (fault.Limit limit.NameLength) → AreLocalsWrong own text said names ty e
-  bad_type : (f : SigFault) → IsTypeFault text said ty f → All (λ s. exports_constant own (spelled text s) ≡ false) names → AreShort text names → e ≡ wrong.Sig f → AreLocalsWrong own text said names ty e
-  bad_name : IsSoundType text said ty → IsFirstOf (IsLocalFault (exports_constant own) text (IsNewLocal text)) (IsLocal (exports_constant own) text (IsShort text)) names e → AreLocalsWrong own text said names ty e
+  local_exported : (f : SigFault) → IsTypeFault text said ty f → IsFirstOf (λ s e. (exports_constant own (spelled text s) ≡ true) × (e ≡ wrong.Exported s)) (λ s. exports_constant own (spelled text s) ≡ false) names e → AreLocalsWrong own text said names ty e
+  local_long : (f : SigFault) → IsTypeFault text said ty f → All (λ s. exports_constant own (spelled text s) ≡ false) names → (s : Spot) → Contains names s → MAX_NAME_BYTES < length (spelled text s) → e ≡ wrong.Sig (fault.Limit limit.NameLength) → AreLocalsWrong own text said names ty e
+  local_type : (f : SigFault) → IsTypeFault text said ty f → All (λ s. exports_constant own (spelled text s) ≡ false) names → AreShort text names → e ≡ wrong.Sig f → AreLocalsWrong own text said names ty e
+  local_name : IsSoundType text said ty → IsFirstOf (IsLocalFault (exports_constant own) text (IsNewLocal text)) (IsLocal (exports_constant own) text (IsShort text)) names e → AreLocalsWrong own text said names ty e
 
 -- local kinds and local constants, where the text declares these names with a count, or a type
 abbrev pub AreLocalKindsRefused : Signature → List ℕ → List (Row Said) → List (List ℕ) → List Spot → Option ℕ → ModuleSigFault → Type 0
