@@ -1,8 +1,8 @@
 -- Why the text of a query is refused: its first fault, in the order of tokens, tree, arguments, typing, form and clauses.
 use Rattle.std.specs.Prelude.{◌≡◌, ◌⊎◌, ℕ, List, codes, true}
-use Rattle.lp_base.specs.declared.limit.Limit.{Limit}
 use Rattle.lp_base.specs.declared.limit.Limit.TheVariants as limit
 use Rattle.lp_base.specs.declared.place.Spot.{Spot}
+use Rattle.lp_calculus.specs.Term.{Term}
 use Rattle.lp_lexer.specs.Lexis.{HasFault, HasTokens}
 use Rattle.lp_lexer.specs.declared.token.LexFault.{LexFault}
 use Rattle.lp_lexer.specs.declared.token.Token.{Token}
@@ -15,6 +15,7 @@ use Rattle.lp_syntax.specs.declared.text.RawQuery.{RawQuery}
 use Rattle.lp_syntax.specs.declared.text.RawTerm.{RawTerm}
 use Rattle.lp_term.specs.Nodes.{Nodes, tree}
 use Rattle.lp_model.specs.declared.program.Typed.{Typed}
+use Rattle.lp_normal.specs.Counted.{AssumesManyClauses}
 use Rattle.lp_sig.specs.declared.signature.Signature.{Signature}
 use Rattle.lp_infer.specs.Numbering.{IsTyped}
 use Rattle.lp_infer.specs.Refusals.{IsRefusal}
@@ -43,18 +44,18 @@ IsOverArguments raw c = (c ≡ cause.Memory) ⊎ ((c ≡ cause.Limit limit.Argum
 abbrev pub IsUnformed : Signature → Nodes → Typed → (first : Spot) → Cause → Type 0
 IsUnformed names b q first c = (f : ModuleFault) × IsFormFault (declared_schemes names) true q.type_vars (tree b q.formula.0) first f × TellsModule f c
 
--- a limit of its flattened clauses was passed, or memory is wanting
-abbrev pub IsOverClauses : Cause → Type 0
-IsOverClauses c = (c ≡ cause.Memory) ⊎ ((l : Limit) × (c ≡ cause.Limit l))
+-- more clauses are assumed in what a query is flattened to than the limit allows, or memory is wanting
+abbrev pub IsOverClauses : Term → Cause → Type 0
+IsOverClauses t c = (c ≡ cause.Memory) ⊎ ((c ≡ cause.Limit limit.Clauses) × AssumesManyClauses t)
 
--- each stage has its fault where those before it have none. Of the limit on clauses it is not said where it is passed
+-- each stage has its fault where those before it have none
 pub data IsRefusedFor (operators : Table) (names : Signature) (text : List ℕ) : Cause → Type 0 where
   unread : (c : Cause) → IsUnread operators text c → IsRefusedFor operators names text c
   of_arguments : (raw : RawQuery) → IsRead operators text raw → HasManyArguments raw.term → IsRefusedFor operators names text (cause.Limit limit.Arguments)
   of_typing : (raw : RawQuery) (f : InferFault) (c : Cause) → IsRead operators text raw → (HasManyArguments raw.term → ⊥) → IsRefusal names text raw.term f → TellsTyping f c → IsRefusedFor operators names text c
   of_form : (raw : RawQuery) (b : Nodes) (q : Typed) (f : ModuleFault) (c : Cause) → IsRead operators text raw → (HasManyArguments raw.term → ⊥) → IsTyped names text raw.term b q →
       IsFormFault (declared_schemes names) true q.type_vars (tree b q.formula.0) raw.term.first f → TellsModule f c → IsRefusedFor operators names text c
-  of_clauses : (b : Nodes) (q : Typed) (l : Limit) → IsAsked operators names text b q → IsRefusedFor operators names text (cause.Limit l)
+  of_clauses : (b : Nodes) (q : Typed) → IsAsked operators names text b q → AssumesManyClauses (tree b q.formula.0) → IsRefusedFor operators names text (cause.Limit limit.Clauses)
   no_memory : IsRefusedFor operators names text cause.Memory
 
 -- the refusal of a query says its cause

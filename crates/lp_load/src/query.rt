@@ -1,11 +1,13 @@
 // A query, from its text to its typed formula.
 ghost use Rattle.std.specs.Prelude.{◌≡◌, ◌≢◌, ◌≤◌, ◌⊎◌, ℕ, List, IfOk, IfErr, OnOk, codes, true};
 ghost use Rattle.lp_base.specs.declared.limits.TheConstants.{MAX_ARGUMENTS};
+ghost use Rattle.lp_calculus.specs.Term.{Term};
 ghost use Rattle.lp_term.specs.Nodes.{Extends, tree};
 ghost use Rattle.lp_module.specs.Arguments.{HasManyArguments};
 ghost use Rattle.lp_module.specs.Clauses.{IsFormed};
 ghost use Rattle.lp_module.specs.Refusals.{IsShort};
 ghost use Rattle.lp_module.specs.Schemes.{declared_schemes};
+ghost use Rattle.lp_normal.specs.Counted.{AssumesFewClauses, AssumesManyClauses, IsOver};
 ghost use Rattle.lp_load.specs.Asked.{IsAsked, IsRead};
 ghost use Rattle.lp_load.specs.Refused.{IsOverArguments, IsOverClauses, IsRefusedFor, IsRefusedQuery, IsUnformed, IsUnread};
 ghost use Rattle.lp_lines.specs.Placed.{IsCauseOf, IsOfText, IfSource};
@@ -72,15 +74,26 @@ fn within_form(
     }
 }
 
+// What is said where the flattened goals are refused.
+fn of_flattening(refusal: NormalRefusal) -> Cause
+    ensures refused { (text : List ℕ) → IsCauseOf text result }
+    ensures cause { (t : Term) → IsOver (AssumesManyClauses t) refusal → IsOverClauses t result }
+{
+    match refusal {
+        NormalRefusal::Limit(limit) => Cause::Limit(limit),
+        NormalRefusal::Memory => Cause::Memory,
+    }
+}
+
 fn within_clauses(alloc: Global, bank: &mut Bank, typed: &Typed) -> Result<(), Cause>
     ensures refused { (text : List ℕ) → IfErr result (IsCauseOf text) }
-    ensures cause { IfErr result IsOverClauses }
+    ensures cause { IfErr result (IsOverClauses (tree bank.old typed.now.formula.0)) }
+    ensures few { OnOk result (AssumesFewClauses (tree bank.old typed.now.formula.0)) }
     ensures kept { Extends bank.old bank.new }
 {
     match query_body(alloc, bank, typed) {
         Ok(_) => Ok(()),
-        Err(NormalRefusal::Limit(limit)) => Err(Cause::Limit(limit)),
-        Err(NormalRefusal::Memory) => Err(Cause::Memory),
+        Err(refusal) => Err(of_flattening(refusal)),
     }
 }
 
@@ -89,6 +102,7 @@ fn type_of(alloc: Global, text: &[u8], built: &mut Built) -> Result<Typed, Cause
     ensures refused { IfErr result (IsCauseOf text.now) }
     ensures cause { IfErr result (IsRefusedFor built.old.table built.old.signature text.now) }
     ensures asked { IfOk result (IsAsked built.old.table built.old.signature text.now built.new.assembled.program.bank) }
+    ensures few { IfOk result (λ q. AssumesFewClauses (tree built.new.assembled.program.bank q.formula.0)) }
     ensures kept { Extends built.old.assembled.program.bank built.new.assembled.program.bank }
     ensures table { built.new.table ≡ built.old.table }
     ensures signature { built.new.signature ≡ built.old.signature }
@@ -117,6 +131,7 @@ pub fn ask(alloc: Global, text: &[u8], built: &mut Built) -> Result<Typed, Refus
     ensures placed { IfErr result (IfSource (IsOfText (codes "query") text.now)) }
     ensures cause { IfErr result (IsRefusedQuery built.old.table built.old.signature text.now) }
     ensures asked { IfOk result (IsAsked built.old.table built.old.signature text.now built.new.assembled.program.bank) }
+    ensures few { IfOk result (λ q. AssumesFewClauses (tree built.new.assembled.program.bank q.formula.0)) }
     ensures kept { Extends built.old.assembled.program.bank built.new.assembled.program.bank }
     ensures table { built.new.table ≡ built.old.table }
     ensures signature { built.new.signature ≡ built.old.signature }

@@ -84,7 +84,7 @@ impl<'i> Machine<'i> {
         Event::Ended(ending)
     }
 
-    // Tells of an answer, and that the search goes back from it where more are wanted.
+    // Tells of an answer. That the search goes back from it is told by the next event's search.
     #[tactic(auto, unfolding(crate::specs::Held::variables_of, crate::specs::Held::ended, crate::specs::Held::failed))]
     fn tell_answer<W: Watch>(&mut self, crowd: &mut Crowd<'_, W>) -> Result<(), Memory>
         ensures variables { variables_of self.new ≡ variables_of self.old }
@@ -93,28 +93,17 @@ impl<'i> Machine<'i> {
     {
         self.given = self.given.saturating_add(1);
         self.state.counts.row = 0;
-        crowd.tell(Note::Answer(self.given))?;
-        if self.given >= self.answers {
-            return Ok(());
-        }
-        self.state.tell_back(crowd)
+        crowd.tell(Note::Answer(self.given))
     }
 
+    // Goes on to the next event from this turn on.
     #[tactic(auto, unfolding(crate::specs::Held::variables_of, crate::specs::Held::ended, crate::specs::Held::failed))]
-    fn advance<W: Watch>(&mut self, crowd: &mut Crowd<'_, W>) -> Result<Event, Memory>
+    fn go_on<W: Watch>(&mut self, crowd: &mut Crowd<'_, W>, first: Turn) -> Result<Event, Memory>
         ensures variables { variables_of self.new ≡ variables_of self.old }
         ensures told { IfOk result (IsTold (variables_of self.old)) }
         ensures ended { ended self.old ≡ None → IfOk result (λ event. Keeps event (ended self.new)) }
         ensures failed { failed self.new ≡ failed self.old }
     {
-        if self.given >= self.answers {
-            return Ok(self.end(Ending::Enough));
-        }
-        let first = if self.given == 0 {
-            Turn::On
-        } else {
-            Turn::Back
-        };
         match run(&mut self.state, crowd, first)? {
             Told::Ended(ending) => Ok(self.end(ending)),
             Told::Answered => {
@@ -125,6 +114,24 @@ impl<'i> Machine<'i> {
                 }
             }
         }
+    }
+
+    // The next event, where more answers are wanted: from the beginning on, or behind an answer from the newest alternative on.
+    #[tactic(auto, unfolding(crate::specs::Held::variables_of, crate::specs::Held::ended, crate::specs::Held::failed))]
+    fn advance<W: Watch>(&mut self, crowd: &mut Crowd<'_, W>) -> Result<Event, Memory>
+        ensures variables { variables_of self.new ≡ variables_of self.old }
+        ensures told { IfOk result (IsTold (variables_of self.old)) }
+        ensures ended { ended self.old ≡ None → IfOk result (λ event. Keeps event (ended self.new)) }
+        ensures failed { failed self.new ≡ failed self.old }
+    {
+        if self.given >= self.answers {
+            return Ok(self.end(Ending::Enough));
+        }
+        if self.given == 0 {
+            return self.go_on(crowd, Turn::On);
+        }
+        self.state.tell_back(crowd)?;
+        self.go_on(crowd, Turn::Back)
     }
 
     #[tactic(auto, unfolding(crate::specs::Held::variables_of, crate::specs::Held::ended, crate::specs::Held::failed))]

@@ -27,3 +27,7 @@ pub mod NoLoose
 pub mod Tabled
 pub mod Entering
 pub mod Lookups
+pub mod Joining
+pub mod HighNumbers
+pub mod NumberedSignatures
+pub mod Joins

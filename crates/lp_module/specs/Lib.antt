@@ -19,3 +19,4 @@ pub mod Clauses
 pub mod inner
 pub mod Closed
 pub mod Orderly
+pub mod Joined

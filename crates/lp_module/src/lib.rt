@@ -43,7 +43,10 @@ mod words;
 pub use copies::{Assembled, GlobalName, assemble};
 pub use fault::ModuleFault;
 pub use form::{query_form, query_form_under};
-pub use laws::{clauses_are_closed, modules_are_orderly, program_is_closed, programs_have_types};
+pub use laws::{
+    clauses_are_closed, modules_are_orderly, program_is_closed, programs_declare,
+    programs_have_types,
+};
 pub use meaning::elaborate;
 pub use module::Module;
 pub use sentences::has_many_arguments;

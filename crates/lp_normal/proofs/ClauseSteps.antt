@@ -31,7 +31,7 @@ use Rattle.lp_normal.proofs.Steps.{empty_reads, add_clauses_assoc}
 pub no_clauses_read : (b : Nodes) (l : List Clause) → l ≡ [] → ReadsClauses b l no_clauses
 no_clauses_read b l e = λ later x. ap (clauses_of later) e
 
-clauses_of_push : (b : Nodes) (l : List Clause) (c : Clause) → clauses_of b (l ++ c ∷ []) ≡ add_clauses (clauses_of b l) (clauses (clause_of b c) no_clauses)
+pub clauses_of_push : (b : Nodes) (l : List Clause) (c : Clause) → clauses_of b (l ++ c ∷ []) ≡ add_clauses (clauses_of b l) (clauses (clause_of b c) no_clauses)
 clauses_of_push b [] c = refl
 clauses_of_push b (d ∷ l) c = ap (clauses (clause_of b d)) (clauses_of_push b l c)
 

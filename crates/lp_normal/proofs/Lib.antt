@@ -8,5 +8,6 @@ mod Comings
 mod Steps
 mod Scopes
 pub mod Meanings
+mod Counts
 mod ClauseSteps
 mod Turnings

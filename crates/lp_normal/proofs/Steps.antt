@@ -53,7 +53,7 @@ add_clauses_assoc (clauses x xs) ys zs = ap (clauses x) (add_clauses_assoc xs ys
 pub empty_reads : (b : Nodes) (l : List Goal) → l ≡ [] → Reads b l no_goals
 empty_reads b l e = λ later x. ap (goals_of later) e
 
-goals_of_push : (b : Nodes) (l : List Goal) (g : Goal) → goals_of b (l ++ g ∷ []) ≡ add_goals (goals_of b l) (goals (goal_of b g) no_goals)
+pub goals_of_push : (b : Nodes) (l : List Goal) (g : Goal) → goals_of b (l ++ g ∷ []) ≡ add_goals (goals_of b l) (goals (goal_of b g) no_goals)
 goals_of_push b [] g = refl
 goals_of_push b (h ∷ l) g = ap (goals (goal_of b h)) (goals_of_push b l g)
 

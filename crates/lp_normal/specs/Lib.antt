@@ -1,3 +1,5 @@
 pub mod Flats
 pub mod Within
 pub mod Making
+pub mod Counted
+pub mod inner

@@ -1,5 +1,6 @@
 // The flattening of sentences and queries.
-ghost use Rattle.std.specs.Prelude.{◌≡◌, ◌<◌, ℕ, ◌^◌, length, [], IfOk, Option, Some, true};
+ghost use Rattle.std.specs.Prelude.{◌≡◌, ◌<◌, ◌≤◌, ℕ, ◌^◌, length, [], IfErr, IfOk, OnOk, Option, Some, true};
+ghost use Rattle.lp_base.specs.declared.limits.TheConstants.{MAX_CLAUSES};
 ghost use Rattle.lp_calculus.specs.Typing.{Scheme};
 ghost use Rattle.lp_term.specs.Nodes.{Nodes, Extends, tree};
 ghost use Rattle.lp_term.specs.Spine.{LooseBelow};
@@ -8,6 +9,8 @@ ghost use Rattle.lp_model.specs.Flat.{Clauses, Goals};
 ghost use Rattle.lp_model.specs.Flatten.{flatten, flatten_query};
 ghost use Rattle.lp_model.specs.Flattened.{clauses_of, goals_of};
 ghost use Rattle.lp_model.specs.Readings.{formula_of};
+ghost use Rattle.lp_normal.specs.Counted.{HasManyClauses, HasFewClauses, AssumesManyClauses, AssumesFewClauses, IsOver};
+ghost use Rattle.lp_normal.specs.inner.Met.{inner_met, made_met, Passes};
 ghost use Rattle.lp_normal.specs.Within.{AreGoalsIn, AreClausesIn, IsInnerIn, IsMadeIn};
 ghost use Rattle.lp_normal.specs.Making.{Flat, InnerComesTo, IsMadeOf};
 
@@ -54,10 +57,13 @@ fn form(alloc: Global, bank: &mut Bank, formula: TermId) -> Result<TermId, Memor
 
 // The list in the making, made.
 fn run(alloc: Global, bank: &mut Bank, first: Inner) -> Result<Made, NormalRefusal>
-    requires { IsInnerIn bank.old first }
+    requires inner { IsInnerIn bank.old first }
+    requires empty { (b : Nodes) → inner_met b first ≡ 0 }
     ensures kept { Extends bank.old bank.new }
     ensures within { IfOk result (IsMadeIn bank.new) }
     ensures made { IfOk result (λ made. (whole : Flat) → InnerComesTo bank.old first [] whole → IsMadeOf bank.new made whole) }
+    ensures few { IfOk result (λ made. (b : Nodes) → made_met b made ≤ MAX_CLAUSES) }
+    ensures over { IfErr result (IsOver (Passes bank.old first [] 0)) }
 {
     let mut frames = Vec::new(alloc);
     let mut count = 0;
@@ -80,6 +86,8 @@ pub fn normalise(
     ensures kept { Extends bank.old bank.new }
     ensures within { IfOk result (λ cs. AreClausesIn bank.new cs.items) }
     ensures flattened { IfOk result (λ cs. (n : ℕ) (d : ℕ → Option Scheme) (flat : Clauses) (later : Nodes) → flatten n d (formula_of bank.old formula) ≡ Some flat → Extends bank.new later → clauses_of later cs.items ≡ flat) }
+    ensures limit { IfErr result (IsOver (HasManyClauses (formula_of bank.old formula))) }
+    ensures few { OnOk result (HasFewClauses (formula_of bank.old formula)) }
 {
     let id = form(alloc, bank, formula.formula)?;
     let list = ClauseList::of(alloc, id, formula.type_vars, None)?;
@@ -94,6 +102,8 @@ pub fn query_body(alloc: Global, bank: &mut Bank, query: &Typed) -> Result<Vec<G
     ensures kept { Extends bank.old bank.new }
     ensures within { IfOk result (λ gs. AreGoalsIn bank.new gs.items) }
     ensures flattened { IfOk result (λ gs. (n : ℕ) (d : ℕ → Option Scheme) (flat : Goals) (later : Nodes) → flatten_query n d (tree bank.old query.now.formula.0) ≡ Some flat → Extends bank.new later → goals_of later gs.items ≡ flat) }
+    ensures limit { IfErr result (IsOver (AssumesManyClauses (tree bank.old query.now.formula.0))) }
+    ensures few { OnOk result (AssumesFewClauses (tree bank.old query.now.formula.0)) }
 {
     let formula = form(alloc, bank, query.formula)?;
     let list = GoalList::of(alloc, Waiting { formula, level: 0 }, 0)?;

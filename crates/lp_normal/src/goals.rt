@@ -2,6 +2,9 @@
 ghost use Rattle.std.specs.Prelude.{◌≡◌, ℕ, suc, ◌-◌, length, [], ◌∷◌, ◌++◌, IfOk, reverse};
 ghost use Rattle.lp_term.specs.Nodes.{Nodes};
 ghost use Rattle.lp_model.specs.Flat.{Goals};
+ghost use Rattle.lp_model.specs.Flattened.{goals_of};
+ghost use Rattle.lp_normal.specs.Counted.{count_in_goals};
+ghost use Rattle.lp_normal.specs.inner.Met.{list_met};
 ghost use Rattle.lp_normal.specs.Within.{AreGoalsIn, IsGoalListIn};
 ghost use Rattle.lp_normal.specs.Making.{Reads, Closes};
 
@@ -139,6 +142,7 @@ impl GoalList {
     pub(crate) fn close(self) -> Result<Vec<Goal>, Memory>
         ensures within { IfOk result (λ made. (b : Nodes) → IsGoalListIn b self → AreGoalsIn b made.items) }
         ensures closes { IfOk result (λ made. (b : Nodes) (gs out : Goals) → IsGoalListIn b self → Reads b self.done.items gs → Closes b (reverse self.opened.items) gs out → Reads b made.items out) }
+        ensures met { IfOk result (λ made. (b : Nodes) → count_in_goals (goals_of b made.items) ≡ list_met b self) }
     {
         let GoalList {
             mut opened,

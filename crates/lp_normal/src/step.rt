@@ -1,10 +1,15 @@
 // The moves of the flattening.
-ghost use Rattle.std.specs.Prelude.{◌≡◌, ◌<◌, length, [], All, IfOk, OnOk, reverse};
+ghost use Rattle.std.specs.Prelude.{◌≡◌, ◌+◌, ◌<◌, ◌≤◌, suc, length, [], All, IfErr, IfOk, OnOk, reverse};
+ghost use Rattle.lp_base.specs.declared.limits.TheConstants.{MAX_CLAUSES};
 ghost use Rattle.lp_calculus.specs.Term.{shift};
 ghost use Rattle.lp_term.specs.Nodes.{Nodes, Extends, tree, type_tree};
 ghost use Rattle.lp_standard.specs.Connectives.{body_of, connective_of};
 ghost use Rattle.lp_standard.specs.Connectives as connective;
 ghost use Rattle.lp_model.specs.Flat.{Goals, no_goals, no_clauses};
+ghost use Rattle.lp_model.specs.Flattened.{goals_of};
+ghost use Rattle.lp_normal.specs.Counted.{count_in_goals, PassesLimit, IsOver};
+ghost use Rattle.lp_normal.specs.declared.fault.NormalRefusal.TheVariants as refusal;
+ghost use Rattle.lp_normal.specs.inner.Met.{list_met, clause_list_met, frame_met, frames_met, inner_met, move_met, flat_count, Passes};
 ghost use Rattle.lp_normal.specs.Within.{AreGoalsIn, IsWaitingIn, IsGoalListIn, IsClauseListIn, IsFrameIn, IsInnerIn, IsMoveIn};
 ghost use Rattle.lp_normal.specs.Making.{Flat, these_goals, Reads, NextComesTo, PartComesTo, ComesTo, ClausesComeTo, Turns, AllTurn, InnerComesTo, MoveComesTo};
 
@@ -13,13 +18,10 @@ use crate::fault::NormalRefusal;
 use crate::frame::{Frame, Inner, Made, Move};
 use crate::goals::{GoalList, Waiting};
 use crate::raising::{body, raised};
-use lp_base::{Limit, Memory};
+use lp_base::{Limit, MAX_CLAUSES, Memory};
 use lp_model::{Clause, Connective, Goal, connective_of};
 use lp_term::{Bank, TermId, TypeId};
 use std::alloc::Global;
-
-/// The most clauses that come of one sentence, assumed ones counted.
-const MOST_CLAUSES: u64 = 65_535;
 
 // The body of a quantifier on a term that is raised first.
 fn raised_body(alloc: Global, bank: &mut Bank, on: TermId, by: u64) -> Result<TermId, Memory>
@@ -41,6 +43,7 @@ fn atom(alloc: Global, bank: &mut Bank, list: GoalList, next: Waiting) -> Result
     ensures kept { Extends bank.old bank.new }
     ensures within { IfOk result (IsGoalListIn bank.new) }
     ensures comes { IfOk result (λ l. (out : Goals) → NextComesTo bank.old list next out → ComesTo bank.new l no_goals out) }
+    ensures met { IfOk result (λ l. (b : Nodes) → list_met b l ≡ list_met b list) }
 {
     let by = list.raise_from(next.level);
     let id = raised(alloc, bank, next.formula, by)?;
@@ -65,6 +68,7 @@ fn exists(
     ensures kept { Extends bank.old bank.new }
     ensures within { IfOk result (IsGoalListIn bank.new) }
     ensures comes { IfOk result (λ l. (out : Goals) → NextComesTo bank.old list next out → ComesTo bank.new l no_goals out) }
+    ensures met { IfOk result (λ l. (b : Nodes) → list_met b l ≡ list_met b list) }
 {
     let by = list.raise_from(next.level);
     let inside = raised_body(alloc, bank, on, by)?;
@@ -92,6 +96,7 @@ fn for_all(
     ensures frames { OnOk result (All (IsFrameIn bank.new) frames.new.items) }
     ensures within { IfOk result (IsGoalListIn bank.new) }
     ensures comes { IfOk result (λ l. (out : Goals) (whole : Flat) → NextComesTo bank.old list next out → AllTurn bank.old (reverse frames.old.items) (these_goals out) whole → InnerComesTo bank.new (Inner.Goals l) frames.new.items whole) }
+    ensures met { IfOk result (λ l. (b : Nodes) → list_met b l + frames_met b frames.new.items ≡ list_met b list + frames_met b frames.old.items) }
 {
     let by = list.raise_from(next.level);
     let formula = raised_body(alloc, bank, on, by)?;
@@ -119,6 +124,7 @@ fn either(
     ensures frames { OnOk result (All (IsFrameIn bank.now) frames.new.items) }
     ensures within { IfOk result (IsGoalListIn bank.now) }
     ensures comes { IfOk result (λ l. (out : Goals) (whole : Flat) → NextComesTo bank.now list next out → AllTurn bank.now (reverse frames.old.items) (these_goals out) whole → InnerComesTo bank.now (Inner.Goals l) frames.new.items whole) }
+    ensures met { IfOk result (λ l. (b : Nodes) → list_met b l + frames_met b frames.new.items ≡ list_met b list + frames_met b frames.old.items) }
 {
     let first = Waiting {
         formula: left,
@@ -150,6 +156,7 @@ fn assume(
     ensures kept { Extends bank.old bank.new }
     ensures within { IfOk result (IsClauseListIn bank.new) }
     ensures comes { IfOk result (λ l. (out : Goals) → NextComesTo bank.old list next out → ClausesComeTo bank.new l no_clauses (these_goals out)) }
+    ensures met { IfOk result (λ l. (b : Nodes) → clause_list_met b l ≡ list_met b list) }
 {
     let by = list.raise_from(next.level);
     let formula = raised(alloc, bank, clause, by)?;
@@ -178,6 +185,7 @@ fn negated(
     ensures frames { OnOk result (All (IsFrameIn bank.now) frames.new.items) }
     ensures within { IfOk result (IsGoalListIn bank.now) }
     ensures comes { IfOk result (λ l. (out : Goals) (whole : Flat) → NextComesTo bank.now list next out → AllTurn bank.now (reverse frames.old.items) (these_goals out) whole → InnerComesTo bank.now (Inner.Goals l) frames.new.items whole) }
+    ensures met { IfOk result (λ l. (b : Nodes) → list_met b l + frames_met b frames.new.items ≡ list_met b list + frames_met b frames.old.items) }
 {
     let first = Waiting {
         formula: on,
@@ -203,6 +211,7 @@ fn next_goal(
     ensures frames { OnOk result (All (IsFrameIn bank.new) frames.new.items) }
     ensures within { IfOk result (IsInnerIn bank.new) }
     ensures comes { IfOk result (λ inner. (out : Goals) (whole : Flat) → NextComesTo bank.old list next out → AllTurn bank.old (reverse frames.old.items) (these_goals out) whole → InnerComesTo bank.new inner frames.new.items whole) }
+    ensures met { IfOk result (λ inner. (b : Nodes) → inner_met b inner + frames_met b frames.new.items ≡ list_met b list + frames_met b frames.old.items) }
 {
     match connective_of(bank, next.formula) {
         Connective::True => Ok(Inner::Goals(list)),
@@ -251,6 +260,7 @@ fn take_goals(
     ensures frames { OnOk result ((b : Nodes) → All (IsFrameIn b) frames.old.items → IsFrameIn b frame → AreGoalsIn b goals.items → All (IsFrameIn b) frames.new.items) }
     ensures within { IfOk result (λ inner. (b : Nodes) → IsFrameIn b frame → AreGoalsIn b goals.items → IsInnerIn b inner) }
     ensures comes { IfOk result (λ inner. (b : Nodes) (gs : Goals) (next whole : Flat) → IsFrameIn b frame → Reads b goals.items gs → Turns b frame gs next → AllTurn b (reverse frames.old.items) next whole → InnerComesTo b inner frames.new.items whole) }
+    ensures met { IfOk result (λ inner. (b : Nodes) → inner_met b inner + frames_met b frames.new.items ≡ frame_met b frame + frames_met b frames.old.items + count_in_goals (goals_of b goals.items)) }
 {
     match frame {
         Frame::Left(outer, right) => {
@@ -300,6 +310,7 @@ fn end_goals(
     ensures frames { OnOk result (All (IsFrameIn bank.now) frames.new.items) }
     ensures within { IfOk result (IsMoveIn bank.now) }
     ensures comes { IfOk result (λ m. (whole : Flat) → InnerComesTo bank.now (Inner.Goals list) frames.old.items whole → MoveComesTo bank.now m frames.new.items whole) }
+    ensures met { IfOk result (λ m. (b : Nodes) → move_met b m + frames_met b frames.new.items ≡ list_met b list + frames_met b frames.old.items) }
 {
     let goals = list.close()?;
     let Some(frame) = frames.pop() else {
@@ -322,6 +333,7 @@ fn goals_move(
     ensures frames { OnOk result (All (IsFrameIn bank.new) frames.new.items) }
     ensures within { IfOk result (IsMoveIn bank.new) }
     ensures comes { IfOk result (λ m. (whole : Flat) → InnerComesTo bank.old (Inner.Goals list) frames.old.items whole → MoveComesTo bank.new m frames.new.items whole) }
+    ensures met { IfOk result (λ m. (b : Nodes) → move_met b m + frames_met b frames.new.items ≡ list_met b list + frames_met b frames.old.items) }
 {
     let Some(next) = list.waiting.pop() else {
         let ended = end_goals(alloc, bank, frames, list)?;
@@ -347,8 +359,12 @@ fn clause_body(
     ensures frames { OnOk result (All (IsFrameIn bank.now) frames.new.items) }
     ensures within { IfOk result (IsGoalListIn bank.now) }
     ensures comes { IfOk result (λ l. (out whole : Flat) → PartComesTo bank.now list head.0 out → AllTurn bank.now (reverse frames.old.items) out whole → InnerComesTo bank.now (Inner.Goals l) frames.new.items whole) }
+    ensures met { IfOk result (λ l. (b : Nodes) → list_met b l + frames_met b frames.new.items ≡ suc (clause_list_met b list + frames_met b frames.old.items)) }
+    ensures count { OnOk result (count.new ≡ suc count.old) }
+    ensures few { OnOk result (count.new ≤ MAX_CLAUSES) }
+    ensures over { IfErr result (IsOver (MAX_CLAUSES ≤ count.old)) }
 {
-    if *count >= MOST_CLAUSES {
+    if *count >= MAX_CLAUSES {
         return Err(NormalRefusal::Limit(Limit::Clauses));
     }
     *count += 1;
@@ -360,7 +376,9 @@ fn clause_body(
 }
 
 // The refusal of what is no clause, which is never met in a sentence that has clause form.
-fn no_clause() -> NormalRefusal {
+fn no_clause() -> NormalRefusal
+    ensures { result ≡ refusal.Memory }
+{
     NormalRefusal::Memory
 }
 
@@ -380,6 +398,9 @@ fn next_part(
     ensures frames { OnOk result (All (IsFrameIn bank.new) frames.new.items) }
     ensures within { IfOk result (IsInnerIn bank.new) }
     ensures comes { IfOk result (λ inner. (out whole : Flat) → PartComesTo bank.old list part.0 out → AllTurn bank.old (reverse frames.old.items) out whole → InnerComesTo bank.new inner frames.new.items whole) }
+    ensures met { IfOk result (λ inner. (b : Nodes) → clause_list_met b list + frames_met b frames.old.items ≡ count.old → inner_met b inner + frames_met b frames.new.items ≡ count.new) }
+    ensures few { OnOk result (count.old ≤ MAX_CLAUSES → count.new ≤ MAX_CLAUSES) }
+    ensures over { IfErr result (IsOver ((out whole : Flat) → clause_list_met bank.old list + frames_met bank.old frames.old.items ≡ count.old → PartComesTo bank.old list part.0 out → AllTurn bank.old (reverse frames.old.items) out whole → PassesLimit (flat_count whole))) }
 {
     match connective_of(bank, part) {
         Connective::And(left, right) => {
@@ -420,6 +441,7 @@ fn end_clauses(
     ensures frames { OnOk result (All (IsFrameIn bank.now) frames.new.items) }
     ensures within { IfOk result (IsMoveIn bank.now) }
     ensures comes { IfOk result (λ m. (whole : Flat) → InnerComesTo bank.now (Inner.Clauses list) frames.old.items whole → MoveComesTo bank.now m frames.new.items whole) }
+    ensures met { IfOk result (λ m. (b : Nodes) → move_met b m + frames_met b frames.new.items ≡ clause_list_met b list + frames_met b frames.old.items) }
 {
     let ClauseList {
         type_vars: _,
@@ -453,6 +475,9 @@ fn clauses_move(
     ensures frames { OnOk result (All (IsFrameIn bank.new) frames.new.items) }
     ensures within { IfOk result (IsMoveIn bank.new) }
     ensures comes { IfOk result (λ m. (whole : Flat) → InnerComesTo bank.old (Inner.Clauses list) frames.old.items whole → MoveComesTo bank.new m frames.new.items whole) }
+    ensures met { IfOk result (λ m. (b : Nodes) → clause_list_met b list + frames_met b frames.old.items ≡ count.old → move_met b m + frames_met b frames.new.items ≡ count.new) }
+    ensures few { OnOk result (count.old ≤ MAX_CLAUSES → count.new ≤ MAX_CLAUSES) }
+    ensures over { IfErr result (IsOver (Passes bank.old (Inner.Clauses list) frames.old.items count.old)) }
 {
     let Some(next) = list.waiting.pop() else {
         let ended = end_clauses(alloc, bank, frames, list)?;
@@ -484,6 +509,9 @@ pub(crate) fn step(
     ensures frames { OnOk result (All (IsFrameIn bank.new) frames.new.items) }
     ensures within { IfOk result (IsMoveIn bank.new) }
     ensures comes { IfOk result (λ m. (whole : Flat) → InnerComesTo bank.old inner frames.old.items whole → MoveComesTo bank.new m frames.new.items whole) }
+    ensures met { IfOk result (λ m. (b : Nodes) → inner_met b inner + frames_met b frames.old.items ≡ count.old → move_met b m + frames_met b frames.new.items ≡ count.new) }
+    ensures few { OnOk result (count.old ≤ MAX_CLAUSES → count.new ≤ MAX_CLAUSES) }
+    ensures over { IfErr result (IsOver (Passes bank.old inner frames.old.items count.old)) }
 {
     match inner {
         Inner::Goals(list) => {

@@ -64,7 +64,7 @@ module _ (qv : Query) (m : Machine) (s : State Task) (h : IsState qv m s) (e : m
           pairs = r.under.pairs;
           left = r.left;
         },
-        record { around = h.around; above = r.above; steps = r.counted.steps; rows = r.counted.rows; row = r.counted.rows; lost = r.counted.lost },
+        record { around = h.around; above = r.above; steps = r.counted.steps; total = r.counted.total; rows = r.counted.rows; row = r.counted.rows; lost = r.counted.lost },
         ea,
         refl,
       )

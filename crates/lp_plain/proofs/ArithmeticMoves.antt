@@ -78,7 +78,7 @@ came m q t o e l z y fine n = go (beta_normal n (closed z (tree m.bank t.0))) re
 module _ (qv : Query) (c : Machine) (a : Around) (rest work : Branch) (below : List Task) (g : IsGoingOn qv c a rest work below) (p : Place)
     (pl : IsPlaceAt (lists_of c) a p) (s : State Task) (w j : ℕ) (ea : s.answers ≡ suc w) (es : s.steps ≡ suc j)
     (go : (Answer → Bool) → State Task → Inner) (enough : ℕ) (P : List Clause) (name : GoalName) (task : Task) (stack : s.stack ≡ task ∷ below)
-    (counted : (n : Machine) → n.counts ≡ c.counts → (ts : List Task) → IsCounted n
+    (counted : (n : Machine) → n.counts ≡ c.counts → (ts : List Task) → IsCounted qv n
     (record { steps = j; answers = suc w; given = s.given; rows = s.rows; row = s.rows; lost = s.lost; stack = ts ++ below })) where
   abbrev see : ℕ → Task → View Task Answer
   see = look unit_limit enough P
@@ -101,14 +101,14 @@ module _ (qv : Query) (c : Machine) (a : Around) (rest work : Branch) (below : L
       (sym (ap (closed g.closing) (h.term_is m i) ∙ value_closed g.closing m)) known (value_known g.levels rest.next m) h.equated s w j ea es go
       enough (subst (λ t. AreFew t enough) h.is few) plain (value_plain work.next_type m) pairs P name task tasks stack seen is (counted n same))
 
-  pub is_leads : (n : Machine) (l r : TermId) (turn : Turn) → Assigns c n l r p.level turn → AreFew turn enough →
+  pub is_leads : (n : Machine) (l r : TermId) (turn : Turn) → Assigns c n l r p.level turn → n.counts ≡ c.counts → AreFew turn enough →
       (turn ≡ Turn.Ended Deep → IsSmallExpression (closed g.closing (tree c.bank r.0))) → IsPlainTerm work.next_type
       (closed g.closing (tree c.bank l.0)) → EachOf (IsPlainPair work.next_type) work.pairs → l.0 < length c.bank.terms → r.0 < length c.bank.terms →
       Within (Known g.levels rest.next) 0 (closed g.closing (tree c.bank l.0)) →
       IsEvaluable (closed g.closing (tree c.bank r.0)) → look unit_limit enough P (length below) task ≡ Takes name
       (assigned unit_limit enough p.level (closed g.closing (tree c.bank l.0)) work (evaluate enough (closed g.closing (tree c.bank r.0)))) →
       Leads 1 qv turn n go see s
-  is_leads n l r turn h few small plain pairs il ir known fine seen =
+  is_leads n l r turn h sc few small plain pairs il ir known fine seen =
       by h.outcome (evaluate enough (closed g.closing (tree c.bank r.0))) refl h.by (came c h.between r h.outcome h.evaluated ir g.closing g.reading fine enough)
     where
       by : (o : Outcome) (x : Option model.Outcome) → evaluate enough (closed g.closing (tree c.bank r.0)) ≡ x → AssignsBy o h.between n l p.level
@@ -123,7 +123,7 @@ module _ (qv : Query) (c : Machine) (a : Around) (rest work : Branch) (below : L
           subst (λ t. Leads 1 qv t n go see s) (sym k)
           (stops qv n below s w j ea es go enough P name task (Stop (Arithmetic f) ∷ []) stack
           (seen ∙ ap (λ y. Takes name (assigned unit_limit enough p.level (closed g.closing (tree c.bank l.0)) work y))
-          (e ∙ ap (λ y. Some y) came)) (Arithmetic f) refl)
+          (e ∙ ap (λ y. Some y) came)) (Arithmetic f) refl (counted n sc (Stop (Arithmetic f) ∷ [])).total)
       by code.Deep (Some x) e k came = absurd (came (let i = few k in omega (arith, i)) (small k))
 
   -- two numbers are compared
@@ -165,26 +165,26 @@ module _ (qv : Query) (c : Machine) (a : Around) (rest work : Branch) (below : L
             subst (λ t. Leads 1 qv t n go see s) (sym (subst (λ k. ComparesWith x k o turn) i cw))
             (stops qv n below s w j ea es go enough P name task (Stop (Arithmetic NotClosed) ∷ []) stack
             (seen ∙ ap (λ u. Takes name (compared order work (Some (Is (Number x))) (Some u))) (came.1 ∙ ap (λ z. Is z) a.1))
-            (Arithmetic NotClosed) refl)
+            (Arithmetic NotClosed) refl (counted n (ap (λ z. z.counts) inside.same) (Stop (Arithmetic NotClosed) ∷ [])).total)
         by (code.Faults f) k i cw (Some u) came seen =
             subst (λ t. Leads 1 qv t n go see s) (sym (subst (λ k. ComparesWith x k o turn) i cw))
             (stops qv n below s w j ea es go enough P name task (Stop (Arithmetic f) ∷ []) stack
-            (seen ∙ ap (λ u. Takes name (compared order work (Some (Is (Number x))) (Some u))) came) (Arithmetic f) refl)
+            (seen ∙ ap (λ u. Takes name (compared order work (Some (Is (Number x))) (Some u))) came) (Arithmetic f) refl (counted n (ap (λ z. z.counts) inside.same) (Stop (Arithmetic f) ∷ [])).total)
         by code.Deep k i cw (Some u) came seen =
             let e = subst (λ k. ComparesWith x k o turn) i cw in
             absurd (came (let z = few e in omega (arith, z)) (small e))
 
-  first_leads : (n : Machine) (o : Compare) (turn : Turn) → AreFew turn enough → (q : Machine) → OnlyBank c q → (l r : TermId) →
+  first_leads : (n : Machine) (o : Compare) (turn : Turn) → n.counts ≡ c.counts → AreFew turn enough → (q : Machine) → OnlyBank c q → (l r : TermId) →
       (turn ≡ Turn.Ended Deep → IsSmallExpression (closed g.closing (tree c.bank l.0)) × IsSmallExpression (closed g.closing (tree c.bank r.0))) →
       (k : Result ℤ Ending) → (h : IsNumber c q l k) → ComparesBy k q n o r turn → r.0 < length c.bank.terms → IsEvaluable
       (closed g.closing (tree c.bank r.0)) →
       (x : Option model.Outcome) → CameTo h.outcome enough x (IsValueIn q.bank) (IsSmallExpression (closed g.closing (tree c.bank l.0))) → look
       unit_limit enough P (length below) task ≡ Takes name (compared (order_number o) work x
       (evaluate enough (closed g.closing (tree c.bank r.0)))) → Leads 1 qv turn n go see s
-  first_leads n o turn few q b l r small k h cb ir fine x came' seen = by h.outcome k h.is cb x came' seen
+  first_leads n o turn sc few q b l r small k h cb ir fine x came' seen = by h.outcome k h.is cb x came' seen
     where
       stopped : (e : Ending) → turn ≡ Turn.Ended e → look unit_limit enough P (length below) task ≡ Takes name (Stop e ∷ []) → Leads 1 qv turn n go see s
-      stopped e i y = subst (λ t. Leads 1 qv t n go see s) (sym i) (stops qv n below s w j ea es go enough P name task (Stop e ∷ []) stack y e refl)
+      stopped e i y = subst (λ t. Leads 1 qv t n go see s) (sym i) (stops qv n below s w j ea es go enough P name task (Stop e ∷ []) stack y e refl (counted n sc (Stop e ∷ [])).total)
 
       by : (oc : Outcome) (k : Result ℤ Ending) → IsNumberOr oc k → ComparesBy k q n o r turn → (x : Option model.Outcome) → CameTo oc enough x
           (IsValueIn q.bank) (IsSmallExpression (closed g.closing (tree c.bank l.0))) → look unit_limit enough P (length below) task ≡ Takes name
@@ -215,13 +215,13 @@ module _ (qv : Query) (c : Machine) (a : Around) (rest work : Branch) (below : L
           let e = subst (λ k. ComparesBy k q n o r turn) i cb in
           absurd (came' (let z = few e in omega (arith, z)) (small e).0)
 
-  pub order_leads : (n : Machine) (o : Compare) (l r : TermId) (turn : Turn) → Compares c n o l r turn → AreFew turn enough →
+  pub order_leads : (n : Machine) (o : Compare) (l r : TermId) (turn : Turn) → Compares c n o l r turn → n.counts ≡ c.counts → AreFew turn enough →
       (turn ≡ Turn.Ended Deep → IsSmallExpression (closed g.closing (tree c.bank l.0)) × IsSmallExpression (closed g.closing (tree c.bank r.0))) → l.0
       < length c.bank.terms → r.0 < length c.bank.terms → IsEvaluable (closed g.closing (tree c.bank l.0)) →
       IsEvaluable (closed g.closing (tree c.bank r.0)) →
       look unit_limit enough P (length below) task ≡ Takes name (compared (order_number o) work (evaluate enough (closed g.closing (tree c.bank l.0)))
       (evaluate enough (closed g.closing (tree c.bank r.0)))) → Leads 1 qv turn n go see s
-  order_leads n o l r turn h few small il ir sl sr seen =
-      first_leads n o turn few h.between h.number.evaluated.bank l r small h.first h.number h.by ir sr
+  order_leads n o l r turn h sc few small il ir sl sr seen =
+      first_leads n o turn sc few h.between h.number.evaluated.bank l r small h.first h.number h.by ir sr
       (evaluate enough (closed g.closing (tree c.bank l.0))) (came c h.between l h.number.outcome h.number.evaluated il g.closing g.reading sl
       enough) seen

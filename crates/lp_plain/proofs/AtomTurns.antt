@@ -86,7 +86,7 @@ module _ (qv : Query) (c n : Machine) (a : Around) (rest work : Branch) (below :
 
   pub equate_leads : (s : State Task) (w j : ℕ) (ea : s.answers ≡ suc w) → s.steps ≡ suc j → (go : (Answer → Bool) → State Task → Inner) (enough : ℕ) → AreFew (turn_for same) enough → IsPlainTerm work.next_type x → IsPlainTerm work.next_type y → EachOf (IsPlainPair work.next_type) work.pairs → (P : List Clause) (name : GoalName) (task : Task) (tasks : List Task) →
       s.stack ≡ task ∷ below → look unit_limit enough P (length below) task ≡ Takes name tasks → tasks ≡ equated unit_limit enough p.level x y work →
-      ((ts : List Task) → IsCounted n (record { steps = j; answers = suc w; given = s.given; rows = s.rows; row = s.rows; lost = s.lost; stack = ts ++ below })) → Leads 1 qv (turn_for same) n go (look unit_limit enough P) s
+      ((ts : List Task) → IsCounted qv n (record { steps = j; answers = suc w; given = s.given; rows = s.rows; row = s.rows; lost = s.lost; stack = ts ++ below })) → Leads 1 qv (turn_for same) n go (look unit_limit enough P) s
   equate_leads s w j ea es go enough few px py pp P name task tasks stack seen is counted =
       unified_leads qv c n a rest work below g p pl b residual s w j ea es go enough P name task tasks stack seen counted same few
       (solve enough unit_limit [] (record { left = x; right = y; level = p.level } ∷ []) work.pairs work.next) is (solved_as enough) (stays enough px py pp)
@@ -113,15 +113,15 @@ module _ (qv : Query) (m c : Machine) (a : Around) (raw : Branch) (s : State Tas
   steps_are = let q = h.counted.steps in let l = there in omega (arith, q, l)
 
   module _ (n : Machine) (b : IsBoundIn c n) (residual : StandPairs c → StandPairs n) where
-    pub counted_after : (w : ℕ) (stack : List Task) → IsCounted n (record { steps = left; answers = w; given = s.given; rows = s.rows; row = s.rows; lost = s.lost; stack = stack })
-    counted_after w stack = step_counted qv m n a raw s h (b.counts ∙ ct) w stack
+    pub counted_after : (w : ℕ) (stack : List Task) → IsCounted qv n (record { steps = left; answers = w; given = s.given; rows = s.rows; row = s.rows; lost = s.lost; stack = stack })
+    counted_after w stack = step_counted qv m n a raw s h (b.counts ∙ ct) there w stack
 
     -- what no clause meets
     pub flexible_leads : IsAtomForm m.bank (tree m.bank u.0) form.Flexible → LeadsTo 1 qv (Turn.Ended Flexible) n s
     flexible_leads i w ea go enough few P ty =
         by_seen qv m a raw s h p u o at enough P (Leads 1 qv (Turn.Ended Flexible) n go (look unit_limit enough P) s) (waits qv m a raw s h p u o at enough P n w ea go (Turn.Ended Flexible)) (λ t q.
         let v = variable_of i in
-        stops qv n h.rest s w left ea steps_are go enough P variable (Go h.at_work) (Stop Flexible ∷ []) h.stack (flexible_view qv m a raw s h p u o at enough P t q v.1.0 v.1.1 v.0 v.1.2) Flexible refl)
+        stops qv n h.rest s w left ea steps_are go enough P variable (Go h.at_work) (Stop Flexible ∷ []) h.stack (flexible_view qv m a raw s h p u o at enough P t q v.1.0 v.1.1 v.0 v.1.2) Flexible refl (counted_after (suc w) (Stop Flexible ∷ h.rest)).total)
       where
         variable_of : IsAtomForm m.bank (tree m.bank u.0) form.Flexible → (connective_of (tree m.bank u.0) ≡ connective.Atomic) × ((j : ℕ) × (l : ℕ) × (head_of (tree m.bank u.0) ≡ atom (logic j l)))
         variable_of (inl e) = (e.0, e.1)

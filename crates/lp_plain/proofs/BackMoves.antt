@@ -123,6 +123,7 @@ side_state qv m n q c rest from e u l t g k ka fr qp s h =
             (branch_marked qv st.levels m.bank sp.is.closing b (b + length xs) c.pairs.items f f' agree sd.side st.branch st.under))));
         counted = record {
           steps = h.counted.steps ∙ ap (λ z. z.limit - z.steps) (sym g.counts);
+          total = (let q = h.counted.total in let e = ap (λ z. z.steps) (g.counts) in omega (arith, q, e));
           rows = h.counted.rows;
           row = h.counted.row ∙ ap (λ z. 1000000 - z.row) (sym g.counts);
           lost = h.counted.lost ∙ ap (λ z. z.lost) (sym g.counts);
@@ -137,9 +138,11 @@ no_tasks qv m f l k [] [] (ts ∷ tss) e h = absurd h
 no_tasks qv m f l k [] (rs ∷ rss) tss e h = absurd h
 no_tasks qv m f l k (c ∷ cs) rss tss e h = absurd (cc)
 
-pub none_moved : (qv : Query) (m n : Machine) (s : State Task) (b : Bool) → m.choices.items ≡ [] → m.counts.lost ≡ b → IsBack qv m s → MovesTo qv (Turn.Ended (last_ending b)) n s
-none_moved qv m n s b e l h k ea go enough P =
+pub none_moved : (qv : Query) (m n : Machine) (s : State Task) (b : Bool) → m.choices.items ≡ [] → m.counts.lost ≡ b → n.counts.steps ≡ m.counts.steps → IsBack qv m s → MovesTo qv (Turn.Ended (last_ending b)) n s
+none_moved qv m n s b e l c h k ea go enough P =
     let d = base_of m.denied in
     let none = no_tasks qv m (mark_in d h.above.raws) d d (drop d m.choices.items) h.above.raws h.above.others (drop_none d m.choices.items e) h.above.are in
-    let st : s.stack ≡ [] = h.above.is ∙ ap stack_of none in
-    (λ i. move_at go (look unit_limit enough P) s.steps (ea i) s.given s.rows s.row ((h.counted.lost ∙ l) i) (st i)) ∙ stops_so go (look unit_limit enough P) s.steps k s.given s.rows s.row b
+    let st : s.stack ≡ [] = h.above.is ∙ ap stack_of none in (
+      (λ i. move_at go (look unit_limit enough P) s.steps (ea i) s.given s.rows s.row ((h.counted.lost ∙ l) i) (st i)) ∙ stops_so go (look unit_limit enough P) s.steps k s.given s.rows s.row b,
+      (let t = h.counted.total in omega (arith, t, c)),
+    )

@@ -317,6 +317,6 @@ module _ (qv : Query) (m c : Machine) (a : Around) (raw : Branch) (s : State Tas
         (program_later m c (subst (Extends m.bank) (sym k.goals.known.bank) (extends_same m.bank)) k.goals.known.table k.goals.known.index
         qv.arity css r)
         (search_same m c h.above.done.stands (grows_kept m c k.goals) k.frames k.assumed (ap (λ v. v.items) ch) qv.arity sw) after w refl
-        (step_counted qv m c a raw s h ct (suc w) (ts ++ h.rest)) go enough (λ d. (few d).0)
+        (step_counted qv m c a raw s h ct there (suc w) (ts ++ h.rest)) go enough (λ d. (few d).0)
         (typed_after qv.arity enough P go s after 1 (GoalNote seen.name ∷ back ts h.rest) first_move ty)
         (ap (λ y. tries P F.first work (length h.rest) (goal_looked enough y) ++ h.rest) (seen.same ∙ moved))))

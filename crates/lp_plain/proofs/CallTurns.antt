@@ -168,12 +168,12 @@ module _ (qv : Query) (m : Machine) (b : Nodes) (x : Extends m.bank b) (a : Arou
         (map (λ c. Try c (closed z now) e work (length below))) (candidates_kept z now head_is seen.key_kept P A c.heads) ∙
         sym (all_tasks z (lists_of n) (closed z now) e work (length below) f.numbers_assumed (filter (has_head now) A) f.assumed_are f.numbers_program (filter (passes now) P) f.program_are)
 
-    module _ (s : State Task) (stack : s.stack ≡ tries P e work (length below) (Some (closed z now)) ++ below) (counted : IsCounted m s) where
+    module _ (s : State Task) (stack : s.stack ≡ tries P e work (length below) (Some (closed z now)) ++ below) (counted : IsCounted qv m s) where
       stack_now : s.stack ≡ tries_under z left clauses (closed z now) e work (length below) ++ below
       stack_now = stack ∙ ap (λ ts. ts ++ below) tasks_are
 
-      counted_now : IsCounted n s
-      counted_now = record { steps = counted.steps; rows = counted.rows; row = counted.row; lost = counted.lost }
+      counted_now : IsCounted qv n s
+      counted_now = record { steps = counted.steps; total = counted.total; rows = counted.rows; row = counted.row; lost = counted.lost }
 
       pub none_back : o ≡ None → IsBack qv n s
       none_back none = record {

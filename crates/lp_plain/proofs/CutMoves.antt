@@ -189,6 +189,7 @@ module _ (qv : Query) (m n : Machine) (a : Around) (raw : Branch) (s : State Tas
       under = under;
       counted = record {
         steps = ap (λ x. x.limit - x.steps) (sym c.counts);
+        total = (let q = h.counted.steps in let t = h.counted.total in let e = ap (λ z. z.steps) c.counts in let l = there in omega (arith, q, t, e, l));
         rows = h.counted.rows;
         row = h.counted.rows ∙ ap (λ x. 1000000 - x.row) (sym c.counts);
         lost = ap (λ x. x || nat_lt sp.first.mark (length h.rest)) h.counted.lost ∙ ap (λ x. m.counts.lost || nat_lt sp.first.mark (length x)) h.above.is ∙ sym tasks.lost;
@@ -230,8 +231,8 @@ cut_moved qv m n p o k c l a raw s h at w ea go enough P =
     cut_moves qv m n a raw s h o (entry_at a p (goal_in at.values p.values.types at.goal)) at.rest k at.reads at.goals q (subst (λ i. Cuts m n i o) (sym (h.above.numbers p.mark)) c) l w ea go enough P
 
 -- no step is left
-pub cut_stops : (qv : Query) (m n : Machine) (p : Place) (o : Option ℕ) → m.counts.limit ≤ m.counts.steps → (a : Around) (raw : Branch) (s : State Task) → IsRunning qv m a raw s → IsAtGoal m a p Flat.Cut o raw → MovesTo qv (Turn.Ended Steps) n s
-cut_stops qv m n p o l a raw s h at w ea go enough P =
+pub cut_stops : (qv : Query) (m n : Machine) (p : Place) (o : Option ℕ) → m.counts.limit ≤ m.counts.steps → n.counts.steps ≡ m.counts.steps → (a : Around) (raw : Branch) (s : State Task) → IsRunning qv m a raw s → IsAtGoal m a p Flat.Cut o raw → MovesTo qv (Turn.Ended Steps) n s
+cut_stops qv m n p o l c a raw s h at w ea go enough P =
     let e = entry_at a p (goal_in at.values p.values.types at.goal) in
     let b = base_of m.denied in
     let sp = split_under h.closing (mark_in b h.above.raws) b (length m.choices.items) e at.rest h.at_work.goals
@@ -240,6 +241,8 @@ cut_stops qv m n p o l a raw s h at w ea go enough P =
     let seen : look unit_limit enough P (length h.rest) (Go h.at_work) ≡ View_Cuts sp.first.mark (Go behind ∷ []) =
     ap (look_branch unit_limit enough P (length h.rest) h.at_work) sp.whole ∙ ap (look_goal unit_limit enough P (length h.rest) sp.first behind)
     (subst (λ g. IsGoalUnder h.closing g sp.first.goal) (ap (goal_in at.values p.values.types) (cut_is m at.goal at.is)) sp.entry.goal) in
-    let none : s.steps ≡ 0 = (let q = h.counted.steps in omega (arith, q, l)) in
-    (λ i. move_at go (look unit_limit enough P) (none i) (ea i) s.given s.rows s.row s.lost (h.stack i)) ∙ by_lost go (look unit_limit enough P) 0 w s.given s.rows s.row s.lost (Go h.at_work) h.rest ∙
-    ap (move_view go 0 w s.given s.rows s.row s.lost h.rest) seen
+    let none : s.steps ≡ 0 = (let q = h.counted.steps in omega (arith, q, l)) in (
+      (λ i. move_at go (look unit_limit enough P) (none i) (ea i) s.given s.rows s.row s.lost (h.stack i)) ∙ by_lost go (look unit_limit enough P) 0 w s.given s.rows s.row s.lost (Go h.at_work) h.rest ∙
+          ap (move_view go 0 w s.given s.rows s.row s.lost h.rest) seen,
+      (let t = h.counted.total in omega (arith, t, c)),
+    )

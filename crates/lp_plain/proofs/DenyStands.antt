@@ -1,5 +1,5 @@
 -- The turns of a negated goal and of its search, followed to the event that is told next.
-use Rattle.std.proofs.Common.{◌≡◌, ℕ, zero, suc, List, [], ◌∷◌, length, refl, ap, inl, inr, ◌∙◌, subst, Bool, true, false}
+use Rattle.std.proofs.Common.{◌≡◌, ℕ, zero, suc, List, [], ◌∷◌, length, refl, sym, ap, inl, inr, ◌∙◌, subst, arith, Bool, true, false}
 use Rattle.lp_model.specs.Branch.{Answer, Go, Task}
 use Rattle.lp_model.specs.Flat.{Clause}
 use Rattle.lp_model.specs.Search.{has_no_pairs, look}
@@ -38,6 +38,13 @@ module _ (c : Course) (qv : Query) (n : Machine) (s : State Task) (of : IsOfQuer
   serves : (turn : Turn) → IsNoEnd turn → (IsNoEnd turn → HasClauses c.program c.query.arity n) → HasClauses c.program c.query.arity n
   serves turn k f = f k
 
+  -- a search that waits
+  of_waiting : (w : Waiting) (ws : List Waiting) → qv.outer ≡ w ∷ ws → (w.limit ≡ c.query.limit) × IsInQuery c.query w.types w.vars ws
+  of_waiting w ws e = let z = subst (IsInQuery c.query qv.types qv.vars) e of.2 in (z.2, z.3)
+
+  limits : (w : Waiting) (ws : List Waiting) → qv.outer ≡ w ∷ ws → w.limit ≡ qv.limit
+  limits w ws e = (of_waiting w ws e).0 ∙ sym of.1
+
   -- the search of the goal begins
   module _ (d : IsDenying qv n s) (clauses : HasClauses c.program c.query.arity n) where
     k : (i : ℕ) × (s.answers ≡ suc i)
@@ -60,10 +67,10 @@ module _ (c : Course) (qv : Query) (n : Machine) (s : State Task) (of : IsOfQuer
       | inl e ↦ (
         inner_query qv w,
         starts_within s.rows d.inside d.steps 1,
-        (of.0, (refl, refl, of.1)),
+        (of.0, of.1, (refl, refl, of.1, of.2)),
         d.begun k.0,
         begins_inside c s d.steps k.0
-            d.task d.inside d.branch d.rest d.stack d.there k.1 d.rows e qv.types qv.vars qv.outer o,
+            d.task d.inside d.branch d.rest d.stack d.there k.1 d.rows e qv.types qv.vars qv.limit qv.outer o,
         clauses,
       )
       | inr e ↦ leads_stands c qv n of W serves 0 Turn.On s (inner_turn qv.outer Turn.On tt) (λ j. inr (lacking j e)) o
@@ -101,7 +108,7 @@ module _ (c : Course) (qv : Query) (n : Machine) (s : State Task) (of : IsOfQuer
     by_final true e Turn.Back f y = (
       waiting_query qv.arity h.waiting h.others,
       woken h.waiting s.steps s.row h.waiting.rest,
-      (of.0, (subst (IsInQuery c.query qv.types qv.vars) h.outer of.1).2),
+      (of.0, (of_waiting h.waiting h.others h.outer).0, (of_waiting h.waiting h.others h.outer).1),
       y,
       is_held c h.waiting h.others s h.answer told_held.0 told_held.1 e (λ j. told_held.2 (inner (seen_in c) j) c.enough c.program) inside_held,
       f refl,
@@ -116,10 +123,12 @@ module _ (c : Course) (qv : Query) (n : Machine) (s : State Task) (of : IsOfQuer
     by_final false e (Turn.Ended Flexible) f y = absurd y
     by_final false e (Turn.Ended (Arithmetic x)) f y = absurd y
     by_final false e (Turn.Ended Deep) f y = absurd y
-    by_final false e (Turn.Ended OpenNot) f y = λ few. is_open c h.waiting h.others s h.answer told_held.0 told_held.1 e (λ j. told_held.2 (inner (seen_in c) j) c.enough c.program) inside_held
+    by_final false e (Turn.Ended OpenNot) f y = λ few.
+        let r = is_open c h.waiting h.others s h.answer told_held.0 told_held.1 e (λ j. told_held.2 (inner (seen_in c) j) c.enough c.program) inside_held in
+        (r.0, (let k = (of_waiting h.waiting h.others h.outer).0 in let z = r.1 in omega (arith, y, z, k)))
 
     pub held_stands : Stands c turn n
-    held_stands = by_final (has_no_pairs h.answer) refl turn clauses h.comes
+    held_stands = by_final (has_no_pairs h.answer) refl turn clauses (h.comes (limits h.waiting h.others h.outer))
 
   -- no alternative of its search is left
   module _ (turn : Turn) (h : IsRefutedBy qv turn n s) (clauses : turn ≡ Turn.On → HasClauses c.program c.query.arity n) where
@@ -133,7 +142,7 @@ module _ (c : Course) (qv : Query) (n : Machine) (s : State Task) (of : IsOfQuer
     by_loss false e Turn.On f y = (
       waiting_query qv.arity h.waiting h.others,
       woken h.waiting s.steps s.row (Go h.waiting.branch ∷ h.waiting.rest),
-      (of.0, (subst (IsInQuery c.query qv.types qv.vars) h.outer of.1).2),
+      (of.0, (of_waiting h.waiting h.others h.outer).0, (of_waiting h.waiting h.others h.outer).1),
       y,
       is_refuted c h.waiting h.others s (λ j. h.stops 0 inside_refuted.0 (inner (seen_in c) j) c.enough c.program ∙ ap (λ b. Stops (last_ending b)) e) inside_refuted,
       f refl,
@@ -148,8 +157,9 @@ module _ (c : Course) (qv : Query) (n : Machine) (s : State Task) (of : IsOfQuer
     by_loss true e (Turn.Ended Flexible) f y = absurd y
     by_loss true e (Turn.Ended (Arithmetic x)) f y = absurd y
     by_loss true e (Turn.Ended Deep) f y = absurd y
-    by_loss true e (Turn.Ended OpenNot) f y = λ few. is_cut c h.waiting h.others s (λ j. h.stops 0 inside_refuted.0 (inner (seen_in c) j) c.enough
-        c.program ∙ ap (λ b. Stops (last_ending b)) e) inside_refuted
+    by_loss true e (Turn.Ended OpenNot) f y = λ few.
+        let r = is_cut c h.waiting h.others s (λ j. h.stops 0 inside_refuted.0 (inner (seen_in c) j) c.enough c.program ∙ ap (λ b. Stops (last_ending b)) e) inside_refuted in
+        (r.0, (let k = (of_waiting h.waiting h.others h.outer).0 in let z = r.1 in omega (arith, y, z, k)))
 
     pub refuted_stands : Stands c turn n
-    refuted_stands = by_loss h.lost refl turn clauses h.comes
+    refuted_stands = by_loss h.lost refl turn clauses (h.comes (limits h.waiting h.others h.outer))

@@ -2,7 +2,7 @@
 use Rattle.std.proofs.Common.{◌≡◌, ◌≤◌, ℕ, suc, List, [], ◌∷◌, ◌++◌, length, refl, sym, ap, ◌∙◌, subst, arith, Option, None, Some, Bool}
 use Rattle.lp_calculus.specs.Fill.{Within}
 use Rattle.lp_calculus.specs.Types.{var}
-use Rattle.lp_model.specs.Branch.{Answer, Branch, Go, Task, resume}
+use Rattle.lp_model.specs.Branch.{Stop, Answer, Branch, Go, Task, resume}
 use Rattle.lp_model.specs.Flat.{Clause}
 use Rattle.lp_model.specs.Pair.{Closing, closed}
 use Rattle.lp_model.specs.Search.{follow, look, types_from, vars_from}
@@ -101,7 +101,7 @@ module _ (qv : Query) (m n : Machine) (a : Around) (raw rest : Branch) (below : 
       };
     }
 
-    goes_on : (t : State Task) → t.stack ≡ Go (resume rest st) ∷ below → IsCounted n t → IsState qv n t
+    goes_on : (t : State Task) → t.stack ≡ Go (resume rest st) ∷ below → IsCounted qv n t → IsState qv n t
     goes_on t et ct = record {
       around = a;
       raw = now;
@@ -132,7 +132,7 @@ module _ (qv : Query) (m n : Machine) (a : Around) (raw rest : Branch) (below : 
     abbrev after : List Task → State Task
     after ts = record { steps = j; answers = suc w; given = s.given; rows = s.rows; row = s.rows; lost = s.lost; stack = ts ++ below }
 
-    module _ (counted : (ts : List Task) → IsCounted n (after ts)) where
+    module _ (counted : (ts : List Task) → IsCounted qv n (after ts)) where
       pub none_left : tasks ≡ [] → Leads 1 qv Turn.Back n go see s
       none_left e = fails qv n below s w j ea es go enough P name task tasks stack seen e (record { around = a; above = above; counted = counted [] })
 
@@ -145,7 +145,7 @@ module _ (qv : Query) (m n : Machine) (a : Around) (raw rest : Branch) (below : 
           let y = k (Solution st) refl in
           goes qv n below s w j ea es go enough P name task tasks stack seen (resume rest st) e (goes_on st y.0 y.1 y.2 (free st refl y.0 (variable_behind h.levels m.branch.next h.closing n.bank n.branch.next n.branch.pairs.items y.0 st y.2)) (after (Go (resume rest st) ∷ [])) refl (counted (Go (resume rest st) ∷ [])))
       by_outcome Unified.Fails (Some y) few e k free = none_left (e ∙ ap (λ q. follow rest (Some q)) (k y refl))
-      by_outcome Unified.Deep (Some y) few e k free = stops qv n below s w j ea es go enough P name task tasks stack seen Deep (e ∙ ap (λ q. follow rest (Some q)) (k y refl (let l = few refl in omega (arith, l))))
+      by_outcome Unified.Deep (Some y) few e k free = stops qv n below s w j ea es go enough P name task tasks stack seen Deep (e ∙ ap (λ q. follow rest (Some q)) (k y refl (let l = few refl in omega (arith, l)))) (counted (Stop Deep ∷ [])).total
 
       pub unified_leads : (u : Unified) → AreFew (turn_for u) enough → (o : Option Outcome) → tasks ≡ follow rest o → ((y : Outcome) → o ≡ Some y → IsUnifiedAs u h.levels m.branch.next h.closing n enough y) → ((st : Solved) → o ≡ Some (Solution st) → StaysFree st) →
           Leads 1 qv (turn_for u) n go see s

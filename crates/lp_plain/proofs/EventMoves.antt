@@ -7,6 +7,7 @@ use Rattle.lp_model.specs.Branch.{Answer, Task}
 use Rattle.lp_model.specs.Events.{Advances, Event, Gave, Over, first, first_after}
 use Rattle.lp_model.specs.Skeleton.{Breaks, Goes, Inner, Move, Note, State, Stops, Tells, View, Waits, inner, move, move_at}
 use Rattle.lp_search_laws.proofs.Stack.Inners.{IsMade, move_more}
+use Rattle.lp_plain.specs.Stepping.{steps_after, steps_until}
 use Rattle.lp_plain.proofs.Following.{pair_left}
 
 in_order : (a b : ℕ) → (a ≤ b) ⊎ (b ≤ a)
@@ -29,6 +30,10 @@ module _ (see : ℕ → Task → View Task Answer) where
           let j = d.inner_moves in
           let r = pair_left (Over Enough) x s u (sym (ap (first_after s (first see j i)) (stops_enough (inner see j) s.steps s.answers s.given s.rows s.row s.lost s.stack e)) ∙ q) in
           (sym r.0, sym r.1)
+
+  pub enough_steps : (s : State Task) → s.answers ≡ 0 → (j i : ℕ) → steps_until see j i s ≡ 0
+  enough_steps s e j zero = refl
+  enough_steps s e j (suc i) = ap (steps_after (steps_until see j i)) (stops_enough (inner see j) s.steps s.answers s.given s.rows s.row s.lost s.stack e)
 
   -- a move that ends all
   pub data EndsWith (e : Ending) (v : Move Task Answer) : Type 0 where

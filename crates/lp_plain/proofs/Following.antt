@@ -17,7 +17,8 @@ use Rattle.lp_plain.specs.declared.outcome.Turn.{Turn}
 use Rattle.lp_plain.specs.Between.{HasClauses}
 use Rattle.lp_plain.specs.Calling.{AreFewAt, LeadsOver, LeadsWith, WrittenBehind}
 use Rattle.lp_plain.specs.Moving.{IsAnswered, IsMoved, IsWaiting, MovesTo, Query, Waiting}
-use Rattle.lp_plain.specs.Reached.{at_once, behind_answer, behind_move}
+use Rattle.lp_plain.specs.Reached.{at_once, behind_move}
+use Rattle.lp_plain.specs.Stepping.{steps_after, steps_until}
 use Rattle.lp_plain.specs.Turns.{EndsAll, IsNoEnd}
 use Rattle.lp_plain.specs.TypedStates.{IsTypedOver, IsTypedState}
 use Rattle.lp_plain.specs.WrittenSearch.{IsWrittenSearch}
@@ -34,18 +35,18 @@ pair_left x y s t h =
 pub later_comes : (c : Course) (behind : State Task → Type 0) (w : Waiting) (n m j : ℕ) (ns : List Note) (r : Inner) → n ≡ j + m → ComesOf c behind w n (later j ns r) → ComesOf c behind w m r
 later_comes c behind w n m j ns (Refuted k ms p) e h = let q : n - (j + k) ≡ m - k = omega (arith, e) in subst (λ i. behind (goes_on w i p (Go w.branch ∷ w.rest))) q h
 later_comes c behind w n m j ns (Held k ms p) e h = let q : n - (j + k) ≡ m - k = omega (arith, e) in subst (λ i. behind (goes_on w i p w.rest)) q h
-later_comes c behind w n m j ns (Broke k ms x) e h = h
+later_comes c behind w n m j ns (Broke k ms x) e h = let q = h.1 in (h.0, omega (arith, e, q))
 later_comes c behind w n m j ns (Lasts k ms) e h = h
 
-end_comes : (c : Course) (behind : State Task → Type 0) (w : Waiting) (n p : ℕ) (e : Ending) → EndsAll e → ComesOf c behind w n (inner_end p e) → c.event ≡ Over e
+end_comes : (c : Course) (behind : State Task → Type 0) (w : Waiting) (n p : ℕ) (e : Ending) → EndsAll e → ComesOf c behind w n (inner_end p e) → (c.event ≡ Over e) × (n ≡ c.rest)
 end_comes c behind w n p NoMore h x = absurd h
 end_comes c behind w n p NoMoreCut h x = absurd h
-end_comes c behind w n p Enough h x = x
-end_comes c behind w n p Steps h x = x
-end_comes c behind w n p Flexible h x = x
-end_comes c behind w n p (Arithmetic f) h x = x
-end_comes c behind w n p OpenNot h x = x
-end_comes c behind w n p Deep h x = x
+end_comes c behind w n p Enough h x = (x.0, (let q = x.1 in omega (arith, q)))
+end_comes c behind w n p Steps h x = (x.0, (let q = x.1 in omega (arith, q)))
+end_comes c behind w n p Flexible h x = (x.0, (let q = x.1 in omega (arith, q)))
+end_comes c behind w n p (Arithmetic f) h x = (x.0, (let q = x.1 in omega (arith, q)))
+end_comes c behind w n p OpenNot h x = (x.0, (let q = x.1 in omega (arith, q)))
+end_comes c behind w n p Deep h x = (x.0, (let q = x.1 in omega (arith, q)))
 
 -- a turn does not answer, and ends with no such end, where a search waits
 abbrev pub IsInnerTurn : List Waiting → Turn → Type 0
@@ -76,12 +77,8 @@ kept_on c j k ns s t e h =
       typed_on c.query.arity c.enough c.program go s t (Goes k ns t) (λ d q w. w) e h.1,
     )
 
-kept_behind : (c : Course) (j : ℕ) (a : Answer) (ns : List Note) (s t : State Task) → move (inner (seen_in c) j) (seen_in c) s ≡ Tells a ns t → Kept c s → Kept c t
-kept_behind c j a ns s t e h =
-    let go = inner (seen_in c) j in (
-      λ u r. h.0 u (behind_answer j a ns t e r),
-      typed_on c.query.arity c.enough c.program go s t (Tells a ns t) (λ d q w. w) e h.1,
-    )
+typed_behind : (c : Course) (j : ℕ) (a : Answer) (ns : List Note) (s t : State Task) → move (inner (seen_in c) j) (seen_in c) s ≡ Tells a ns t → Kept c s → IsTypedOver c.query.arity c.enough c.program t
+typed_behind c j a ns s t e h = typed_on c.query.arity c.enough c.program (inner (seen_in c) j) s t (Tells a ns t) (λ d q w. w) e h.1
 
 module _ (c : Course) (qv : Query) (n : Machine) (within : IsOfQuery c.query qv) (W : Turn → Type 0) (serves : (turn : Turn) → IsNoEnd turn → W turn → HasClauses c.program c.query.arity n) where
   abbrev see : ℕ → Task → View Task Answer
@@ -89,18 +86,36 @@ module _ (c : Course) (qv : Query) (n : Machine) (within : IsOfQuery c.query qv)
 
   -- in the outermost search
   module _ (none : qv.outer ≡ []) (j : ℕ) where
-    here : (s : State Task) → s.answers ≡ suc c.left → s.given ≡ c.given → Kept c s → (i : ℕ) → first see j i s ≡ Some (c.event, c.after) → Comes c qv.outer s
-    here s a g v i e = subst (λ ws. Comes c ws s) (sym none) (a, g, v, record { inner_moves = j; moves = i; gives = e })
+    abbrev Left : ℕ → State Task → Type 0
+    Left i s = s.steps ≡ steps_until see j i s + c.rest
+
+    here : (s : State Task) → s.answers ≡ suc c.left → s.given ≡ c.given → Kept c s → (i : ℕ) → first see j i s ≡ Some (c.event, c.after) → Left i s → Comes c qv.outer s
+    here s a g v i e l = subst (λ ws. Comes c ws s) (sym none) (a, g, v, record { inner_moves = j; moves = i; gives = e }, l)
+
+    left_on : (i k : ℕ) (ns : List Note) (s t : State Task) → move (inner see j) see s ≡ Goes k ns t → Left (suc i) s → Left i t
+    left_on i k ns s t e l =
+        let p : s.steps ≡ k + t.steps = subst (LeavesSteps s.steps) e (move_leaves see j s) in
+        let q : steps_until see j (suc i) s ≡ k + steps_until see j i t = ap (steps_after (steps_until see j i)) e in
+        omega (arith, l, p, q)
+
+    left_told : (i : ℕ) (x : Answer) (ns : List Note) (s t : State Task) → move (inner see j) see s ≡ Tells x ns t → Left (suc i) s → t.steps ≡ c.rest
+    left_told i x ns s t e l =
+        let p : s.steps ≡ t.steps = subst (LeavesSteps s.steps) e (move_leaves see j s) in
+        let q : steps_until see j (suc i) s ≡ 0 = ap (steps_after (steps_until see j i)) e in
+        omega (arith, l, p, q)
+
+    left_over : (i : ℕ) (f : Ending) (s : State Task) → move (inner see j) see s ≡ Stops f → Left (suc i) s → s.steps ≡ c.rest
+    left_over i f s e l = let q : steps_until see j (suc i) s ≡ 0 = ap (steps_after (steps_until see j i)) e in omega (arith, l, q)
 
     first_moved : (turn : Turn) (i : ℕ) (s : State Task) → s.answers ≡ suc c.left → s.given ≡ c.given → Kept c s → IsMoved qv turn n
-        (move (inner see j) see s) s → W turn → first see j (suc i) s ≡ Some (c.event, c.after) → Stands c turn n
-    first_moved Turn.On i s a g v h w e =
+        (move (inner see j) see s) s → W turn → first see j (suc i) s ≡ Some (c.event, c.after) → Left (suc i) s → Stands c turn n
+    first_moved Turn.On i s a g v h w e l =
         let q = sym (ap (first_after s (first see j i)) h.3) ∙ e in
-        (qv, h.2, within, h.4, here h.2 (h.5 ∙ a) (h.6 ∙ g) (kept_on c j h.0 h.1 s h.2 h.3 v) i q, serves Turn.On tt w)
-    first_moved Turn.Back i s a g v h w e =
+        (qv, h.2, within, h.4, here h.2 (h.5 ∙ a) (h.6 ∙ g) (kept_on c j h.0 h.1 s h.2 h.3 v) i q (left_on i h.0 h.1 s h.2 h.3 l), serves Turn.On tt w)
+    first_moved Turn.Back i s a g v h w e l =
         let q = sym (ap (first_after s (first see j i)) h.3) ∙ e in
-        (qv, h.2, within, h.4, here h.2 (h.5 ∙ a) (h.6 ∙ g) (kept_on c j h.0 h.1 s h.2 h.3 v) i q, serves Turn.Back tt w)
-    first_moved Turn.Answered i s a g v h w e =
+        (qv, h.2, within, h.4, here h.2 (h.5 ∙ a) (h.6 ∙ g) (kept_on c j h.0 h.1 s h.2 h.3 v) i q (left_on i h.0 h.1 s h.2 h.3 l), serves Turn.Back tt w)
+    first_moved Turn.Answered i s a g v h w e l =
         let q = pair_left (Gave h.1) c.event h.2 c.after (sym (ap (first_after s (first see j i)) h.3) ∙ e) in
         let left : h.2.answers ≡ c.left = (let x : suc h.2.answers ≡ suc c.left = sym h.6 ∙ a in omega (arith, x)) in (
           qv,
@@ -112,24 +127,26 @@ module _ (c : Course) (qv : Query) (n : Machine) (within : IsOfQuery c.query qv)
           subst (IsAnswered qv n) q.1 h.5,
           subst (λ (t : State Task). t.answers ≡ c.left) q.1 left,
           subst (λ (t : State Task). t.given ≡ suc c.given) q.1 (h.7 ∙ ap suc g),
-          subst (Kept c) q.1 (kept_behind c j h.1 h.0 s h.2 h.3 v),
+          subst (IsTypedOver c.query.arity c.enough c.program) q.1 (typed_behind c j h.1 h.0 s h.2 h.3 v),
           serves Turn.Answered tt w,
+          (let t = h.5.total in let r = left_told i h.1 h.0 s h.2 h.3 l in let k = within.1 in omega (arith, t, r, k)),
         )
-    first_moved (Turn.Ended f) i s a g v h w e = λ few. sym (pair_left (Over f) c.event s c.after (sym (ap (first_after s (first see j i)) h) ∙ e)).0
+    first_moved (Turn.Ended f) i s a g v h w e l = λ few.
+        (sym (pair_left (Over f) c.event s c.after (sym (ap (first_after s (first see j i)) h.0) ∙ e)).0, (let t = h.1 in let r = left_over i f s h.0 l in let k = within.1 in omega (arith, t, r, k)))
 
     first_waits : (i : ℕ) (s : State Task) → IsWaiting (move (inner see j) see s) → first see j (suc i) s ≡ Some (c.event, c.after) → ⊥
     first_waits i s h e = let q = sym (ap (first_after s (first see j i)) h.2) ∙ e in absurd (cc)
 
     first_leads : (k : ℕ) (turn : Turn) (i : ℕ) (s : State Task) → s.answers ≡ suc c.left → s.given ≡ c.given → Kept c s → LeadsWith (W turn) k qv
-        turn n (inner see j) see s → first see j i s ≡ Some (c.event, c.after) → Stands c turn n
-    first_leads k turn zero s a g v h e = absurd (cc)
-    first_leads zero turn (suc i) s a g v (inl h) e = first_moved turn i s a g v h.0 h.1 e
-    first_leads zero turn (suc i) s a g v (inr h) e = absurd (first_waits i s h e)
-    first_leads (suc k) turn (suc i) s a g v (inl h) e = first_moved turn i s a g v h.0 h.1 e
-    first_leads (suc k) turn (suc i) s a g v (inr (inl h)) e = absurd (first_waits i s h e)
-    first_leads (suc k) turn (suc i) s a g v (inr (inr h)) e =
+        turn n (inner see j) see s → first see j i s ≡ Some (c.event, c.after) → Left i s → Stands c turn n
+    first_leads k turn zero s a g v h e l = absurd (cc)
+    first_leads zero turn (suc i) s a g v (inl h) e l = first_moved turn i s a g v h.0 h.1 e l
+    first_leads zero turn (suc i) s a g v (inr h) e l = absurd (first_waits i s h e)
+    first_leads (suc k) turn (suc i) s a g v (inl h) e l = first_moved turn i s a g v h.0 h.1 e l
+    first_leads (suc k) turn (suc i) s a g v (inr (inl h)) e l = absurd (first_waits i s h e)
+    first_leads (suc k) turn (suc i) s a g v (inr (inr h)) e l =
         let q = sym (ap (first_after s (first see j i)) h.3) ∙ e in
-        first_leads k turn i h.2 (h.4 ∙ a) (h.5 ∙ g) (kept_on c j h.0 h.1 s h.2 h.3 v) h.6 q
+        first_leads k turn i h.2 (h.4 ∙ a) (h.5 ∙ g) (kept_on c j h.0 h.1 s h.2 h.3 v) h.6 q (left_on i h.0 h.1 s h.2 h.3 l)
 
   -- in that of a negated goal
   module _ (w : Waiting) (ws : List Waiting) (some : qv.outer ≡ w ∷ ws) (m : ℕ) where
@@ -169,7 +186,9 @@ module _ (c : Course) (qv : Query) (n : Machine) (within : IsOfQuery c.query qv)
       inner_moved Turn.On x a v h y o = (qv, h.2, within, h.4, inside h.2 (h.5 ∙ a) (kept_on c m h.0 h.1 s h.2 h.3 v) i (on_goes h.0 h.1 h.2 h.3 o), serves Turn.On tt y)
       inner_moved Turn.Back x a v h y o = (qv, h.2, within, h.4, inside h.2 (h.5 ∙ a) (kept_on c m h.0 h.1 s h.2 h.3 v) i (on_goes h.0 h.1 h.2 h.3 o), serves Turn.Back tt y)
       inner_moved Turn.Answered x a v h y o = absurd x
-      inner_moved (Turn.Ended f) x a v h y o = λ few. end_comes c (Comes c ws) w s.steps s.row f x (by_move (Stops f) h o).0
+      inner_moved (Turn.Ended f) x a v h y o = λ few.
+          let e = end_comes c (Comes c ws) w s.steps s.row f x (by_move (Stops f) h.0 o).0 in
+          (e.0, (let r = e.1 in let t = h.1 in let k = within.1 in omega (arith, r, t, k)))
 
       inner_waits : IsWaiting (move (inner see m) see s) → of s.steps (inner see (suc i) has_no_pairs s) → ⊥
       inner_waits h o = (by_move (Waits h.0 h.1) h.2 o).0
@@ -189,7 +208,7 @@ module _ (c : Course) (qv : Query) (n : Machine) (within : IsOfQuery c.query qv)
   leads_stands k turn s x h o = go qv.outer refl x o
     where
       go : (ws : List Waiting) → qv.outer ≡ ws → IsInnerTurn ws turn → Comes c ws s → Stands c turn n
-      go [] e x o = first_leads e o.3.inner_moves k turn o.3.moves s o.0 o.1 o.2 (h o.3.inner_moves) o.3.gives
+      go [] e x o = first_leads e o.3.inner_moves k turn o.3.moves s o.0 o.1 o.2 (h o.3.inner_moves) o.3.gives o.4
       go (w ∷ ws) e x o = inner_leads w ws e o.2 k turn x o.2 (omega arith) s o.0 o.1 (h o.2) o.3
 
 -- answers are wanted

@@ -48,6 +48,7 @@ module _ (m n : Machine) (b : OnlyBank m n) where
         (same_around (length m.newest.items) (length m.standings.items) a) (record { bindings = ap (λ z. z.bindings) b.same; pairs = ap (λ z. z.pairs) branch }) (ap (λ z. z.choices.items) b.same) h.levels raw h.at_work s h.under
         (omega (arith, next)) (next ∙ h.next) (ap (λ z. z.next_type) branch ∙ h.next_type) h.stack (record {
           steps = h.counted.steps ∙ ap (λ x. x.limit - x.steps) (sym c);
+          total = (let q = h.counted.total in let e = ap (λ z. z.steps) (c) in omega (arith, q, e));
           rows = h.counted.rows;
           row = h.counted.row ∙ ap (λ x. 1000000 - x.row) (sym c);
           lost = h.counted.lost ∙ ap (λ x. x.lost) (sym c);

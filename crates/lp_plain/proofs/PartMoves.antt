@@ -11,7 +11,6 @@ use Rattle.lp_model.specs.Unify.{unit_limit}
 use Rattle.lp_model.specs.declared.ending.Ending.TheVariants.{NoMore, NoMoreCut, Enough, Steps, Flexible, Arithmetic, OpenNot, Deep}
 use Rattle.lp_pattern.specs.Under.{ValueIs}
 use Rattle.lp_plain.specs.declared.frame.Place.{Place}
-use Rattle.lp_plain.specs.declared.machine.Counts.{Counts}
 use Rattle.lp_plain.specs.declared.machine.Machine.{Machine}
 use Rattle.lp_plain.specs.declared.outcome.Turn.{Turn}
 use Rattle.lp_plain.specs.declared.table.Flat.{Flat}
@@ -94,7 +93,7 @@ module _ (qv : Query) (m n : Machine) (a : Around) (raw : Branch) (s : State Tas
   apart_moves = view_moves qv m n a raw s h rest refl w ea go enough P (look_goal 0 0 [] 0 e rest e.goal) seen looked views
 
   -- a million were taken apart
-  pub apart_stops : 1000000 ≤ m.counts.row → IsMoved qv (Turn.Ended Deep) n (move go (look unit_limit enough P) s) s
+  pub apart_stops : 1000000 ≤ m.counts.row → n.counts.steps ≡ m.counts.steps → IsMoved qv (Turn.Ended Deep) n (move go (look unit_limit enough P) s) s
   apart_stops = view_stops qv m n a raw s h rest refl w ea go enough P (look_goal 0 0 [] 0 e rest e.goal) seen looked views
 
 -- by what the goal is in the table
@@ -119,18 +118,18 @@ module _ (qv : Query) (m n : Machine) (p : Place) (flat : Flat) (o : Option ℕ)
       (taken e a at.goal at.values (with_goals raw at.rest) h.above.done.stands h.placed at.place (kind_in at.values p.values.types at.goal kind) at.is at.at
       (record { goals = at.reads; next = h.next; next_type = h.next_type }) 0 0 0 []) (none e flat_is) (aside e flat_is)
 
-  by_count : (x : Turn) → x ≡ turn → (new : Counts) → IsApart x m.counts new → MovesTo qv x n s
-  by_count Turn.On e new c = goes_on (sym e)
-  by_count Turn.Back e new c = absurd c
-  by_count Turn.Answered e new c = absurd c
-  by_count (Turn.Ended Deep) e new c = λ k ea go enough P. apart_stops qv m n a raw s h (entry_at a p goal) at.rest at.goals kind k ea go enough P c.0
-  by_count (Turn.Ended NoMore) e new c = absurd c
-  by_count (Turn.Ended NoMoreCut) e new c = absurd c
-  by_count (Turn.Ended Enough) e new c = absurd c
-  by_count (Turn.Ended Steps) e new c = absurd c
-  by_count (Turn.Ended Flexible) e new c = absurd c
-  by_count (Turn.Ended (Arithmetic x)) e new c = absurd c
-  by_count (Turn.Ended OpenNot) e new c = absurd c
+  by_count : (x : Turn) → x ≡ turn → IsApart x m.counts n.counts → MovesTo qv x n s
+  by_count Turn.On e c = goes_on (sym e)
+  by_count Turn.Back e c = absurd c
+  by_count Turn.Answered e c = absurd c
+  by_count (Turn.Ended Deep) e c = λ k ea go enough P. apart_stops qv m n a raw s h (entry_at a p goal) at.rest at.goals kind k ea go enough P c.0 (ap (λ z. z.steps) c.1)
+  by_count (Turn.Ended NoMore) e c = absurd c
+  by_count (Turn.Ended NoMoreCut) e c = absurd c
+  by_count (Turn.Ended Enough) e c = absurd c
+  by_count (Turn.Ended Steps) e c = absurd c
+  by_count (Turn.Ended Flexible) e c = absurd c
+  by_count (Turn.Ended (Arithmetic x)) e c = absurd c
+  by_count (Turn.Ended OpenNot) e c = absurd c
 
-  pub part_moves : (new : Counts) → IsApart turn m.counts new → MovesTo qv turn n s
-  part_moves new c = by_count turn refl new c
+  pub part_moves : IsApart turn m.counts n.counts → MovesTo qv turn n s
+  part_moves c = by_count turn refl c

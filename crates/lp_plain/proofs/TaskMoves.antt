@@ -1,5 +1,5 @@
 -- An atom that takes its step, as moves of the definition, by the tasks that it leaves.
-use Rattle.std.proofs.Common.{◌≡◌, ℕ, suc, List, [], ◌∷◌, ◌++◌, length, refl, sym, ap, inl, inr, ◌∙◌, Bool}
+use Rattle.std.proofs.Common.{◌+◌, ◌≡◌, ℕ, suc, List, [], ◌∷◌, ◌++◌, length, refl, sym, ap, inl, inr, ◌∙◌, Bool}
 use Rattle.lp_model.specs.Branch.{Answer, Branch, Go, Lack, Stop, Task}
 use Rattle.lp_model.specs.Flat.{Clause}
 use Rattle.lp_model.specs.Search.{look}
@@ -33,8 +33,8 @@ module _ (qv : Query) (n : Machine) (below : List Task) (s : State Task) (w j : 
   pub fails : tasks ≡ [] → IsBack qv n (after []) → Leads 1 qv Turn.Back n go see s
   fails e b = inl (1, GoalNote name ∷ back [] below, after [], first_move [] e, b, sym ea, refl)
 
-  pub stops : (f : Ending) → tasks ≡ Stop f ∷ [] → Leads 1 qv (Turn.Ended f) n go see s
-  stops f e = inr (inr (1, GoalNote name ∷ [], after (Stop f ∷ []), first_move (Stop f ∷ []) e, sym ea, refl, inl (second (Stop f) [])))
+  pub stops : (f : Ending) → tasks ≡ Stop f ∷ [] → j + n.counts.steps ≡ qv.limit → Leads 1 qv (Turn.Ended f) n go see s
+  stops f e c = inr (inr (1, GoalNote name ∷ [], after (Stop f ∷ []), first_move (Stop f ∷ []) e, sym ea, refl, inl (second (Stop f) [], c)))
 
   pub goes : (b : Branch) → tasks ≡ Go b ∷ [] → IsState qv n (after (Go b ∷ [])) → Leads 1 qv Turn.On n go see s
   goes b e h = inl (1, GoalNote name ∷ [], after (Go b ∷ []), first_move (Go b ∷ []) e, h, sym ea, refl)

@@ -154,7 +154,7 @@ module _ (qv : Query) (m n : Machine) (a : Around) (call : Call) (one : Candidat
     stands : StandsIn n
     stands = g.stands h.above.done.stands goal
 
-    pub goes_on : (t : State Task) → t.stack ≡ Go (resume tried st) ∷ h.below → IsCounted n t → IsState qv n t
+    pub goes_on : (t : State Task) → t.stack ≡ Go (resume tried st) ∷ h.below → IsCounted qv n t → IsState qv n t
     goes_on t et ct =
         let gr = grown_on m n call.place g.grows in
         let lt = same_around (length m.newest.items) (length m.standings.items) a in
@@ -224,9 +224,10 @@ module _ (qv : Query) (m n : Machine) (a : Around) (call : Call) (one : Candidat
   abbrev after : List Task → State Task
   after ts = record { steps = s.steps; answers = suc w; given = s.given; rows = s.rows; row = s.row; lost = s.lost; stack = ts ++ h.below }
 
-  counted : (ts : List Task) → IsCounted n (after ts)
+  counted : (ts : List Task) → IsCounted qv n (after ts)
   counted ts = record {
     steps = h.counted.steps ∙ ap (λ x. x.limit - x.steps) (sym g.counts);
+    total = (let q = h.counted.total in let e = ap (λ z. z.steps) (g.counts) in omega (arith, q, e));
     rows = h.counted.rows;
     row = h.counted.row ∙ ap (λ x. row_limit - x.row) (sym g.counts);
     lost = h.counted.lost ∙ ap (λ x. x.lost) (sym g.counts);
@@ -274,7 +275,7 @@ module _ (qv : Query) (m n : Machine) (a : Around) (call : Call) (one : Candidat
       )
 
   deep : tasks ≡ Stop Deep ∷ [] → Leads 1 qv (Turn.Ended Deep) n go see s
-  deep e = inr (inr (0, [], after (Stop Deep ∷ []), first_move (Stop Deep ∷ []) e, sym ea, refl, inl (second (Stop Deep) [])))
+  deep e = inr (inr (0, [], after (Stop Deep ∷ []), first_move (Stop Deep ∷ []) e, sym ea, refl, inl (second (Stop Deep) [], (counted (Stop Deep ∷ [])).total)))
 
   abbrev there : Branch
   there = tried_branch call.place.level tr.trial.type_vars (length tr.vars) written_head t body_there h.entry.assumed h.entry.written h.height h.rest

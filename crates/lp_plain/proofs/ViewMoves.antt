@@ -31,9 +31,10 @@ module _ (qv : Query) (m n : Machine) (a : Around) (raw : Branch) (s : State Tas
         let c : n.counts.row ≡ m.counts.row + 1 = ap (λ x. x.row) t.quiet.counts in
         omega (arith, r, l, c)
 
-    counted : (stack : List Task) → IsCounted n (after_parts go (look unit_limit enough P) s w left stack)
+    counted : (stack : List Task) → IsCounted qv n (after_parts go (look unit_limit enough P) s w left stack)
     counted stack = record {
       steps = h.counted.steps ∙ ap (λ x. x.limit - x.steps) (sym t.quiet.counts);
+      total = (let q = h.counted.total in let e = ap (λ z. z.steps) (t.quiet.counts) in omega (arith, q, e));
       rows = h.counted.rows;
       row = refl;
       lost = h.counted.lost ∙ ap (λ x. x.lost) (sym t.quiet.counts);
@@ -91,10 +92,12 @@ module _ (qv : Query) (m n : Machine) (a : Around) (raw : Branch) (s : State Tas
   some_parts (one_part lv b d x y l u) = (Go d ∷ [], y)
   some_parts (two_parts lv b d c c' x y p r u o) = (Go d ∷ Go c' ∷ [], y)
 
-  pub view_stops : 1000000 ≤ m.counts.row → IsMoved qv (Turn.Ended Deep) n (move go (look unit_limit enough P) s) s
-  view_stops l =
+  pub view_stops : 1000000 ≤ m.counts.row → n.counts.steps ≡ m.counts.steps → IsMoved qv (Turn.Ended Deep) n (move go (look unit_limit enough P) s) s
+  view_stops l c =
       let r = h.counted.row in
       let zero_row : s.row ≡ 0 = omega (arith, r, l) in
-      let q = some_parts views in
-      (λ i. move_at go (look unit_limit enough P) s.steps (ea i) s.given s.rows (zero_row i) s.lost (h.stack i)) ∙
-      at_limit go (look unit_limit enough P) s.steps w s.given s.rows s.lost (Go h.at_work) h.rest q.0 (looked ∙ q.1)
+      let q = some_parts views in (
+        (λ i. move_at go (look unit_limit enough P) s.steps (ea i) s.given s.rows (zero_row i) s.lost (h.stack i)) ∙
+            at_limit go (look unit_limit enough P) s.steps w s.given s.rows s.lost (Go h.at_work) h.rest q.0 (looked ∙ q.1),
+        (let t = h.counted.total in omega (arith, t, c)),
+      )

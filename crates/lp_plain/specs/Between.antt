@@ -50,7 +50,7 @@ pub data IsBetween (P : List Clause) (n : ℕ) (s : Search) (t : State Task) : T
   goes_on : (qv : Query) → s.ended ≡ None → HasVariables qv s → HasGiven s t → IsGoing qv s t → HasClauses P qv.arity s.machine → IsTypedOver qv.arity n P t → IsBetween P n s t
   is_over : (e : Ending) → s.ended ≡ Some e → IsOver P n e t → IsBetween P n s t
 
--- that the search is too deep may be told before the definition's search tells something, where a look takes a million steps, or what is evaluated, or tested for variables at a
--- negated goal, has more than a million nodes
+-- that the search is too deep may be told before the definition's search tells something, where on the way to its next event a look takes a million steps, or what is evaluated, or
+-- tested for variables at a negated goal, has more than a million nodes
 abbrev pub AreEnough : List Clause → (steps : ℕ) → State Task → Told → Type 0
 AreEnough P n s event = event ≡ told.Ended Deep → (n < 1000000) × ((u : State Task) → IsReached (look unit_limit n P) s u → HasSmallGoal u.stack)

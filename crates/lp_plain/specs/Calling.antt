@@ -99,7 +99,7 @@ abbrev pub CallLeads : (old new : Machine) → Place → (goal : TermId) → Hea
 CallLeads m n p goal head first behind turn =
     m.branch.goals ≡ behind → (qv : Query) (a : Around) (rest work : Branch) (below : List Task) (g : IsGoingOn qv m a rest work below) (e : Entry) →
     IsAtCall qv m a p goal head first g.closing g.levels rest.next e → (css : List Clauses) → IsProgramIn m qv.arity css →
-    IsWrittenSearch m qv.arity → (s : State Task) (k : ℕ) → s.answers ≡ suc k → IsCounted m s → (go : (Answer → Bool) → State Task → Inner)
+    IsWrittenSearch m qv.arity → (s : State Task) (k : ℕ) → s.answers ≡ suc k → IsCounted qv m s → (go : (Answer → Bool) → State Task → Inner)
     (enough : ℕ) → AreFew turn enough → IsTypedOver qv.arity enough (all_clauses css) s →
     s.stack ≡ tries (all_clauses css) e work (length below) (goal_looked enough (closed g.closing (tree m.bank goal.0))) ++ below → LeadsOn qv turn n go enough (all_clauses css) s
 

@@ -26,6 +26,10 @@ value_of s x = get nat_eq s.machine.bindings.terms x
 unfoldable pub type_value_of : Search → ℕ → Option TypeId
 type_value_of s x = get nat_eq s.machine.bindings.types x
 
+-- the steps that were taken
+unfoldable pub steps_of : Search → ℕ
+steps_of s = s.machine.counts.steps
+
 -- the query
 unfoldable pub query_of : Search → Typed
 query_of s = s.source.query

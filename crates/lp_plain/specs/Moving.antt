@@ -1,6 +1,6 @@
 -- A search between two turns as the definition's state, all bindings put in, and turns as moves of the definition. The goals of a branch are read as they stand in the bank
 -- (specs/Entries); the entries of the definition are these as the bindings of the branch read them. An alternative has the bindings of then.
-use Rattle.std.specs.Prelude.{◌≡◌, ◌⊎◌, Bool, ℕ, zero, suc, ◌-◌, ◌<◌, ◌≤◌, List, [], ◌∷◌, ◌++◌, All, map, length, take, drop, Option, None, Some, slice_get}
+use Rattle.std.specs.Prelude.{◌≡◌, ◌⊎◌, Bool, ℕ, zero, suc, ◌+◌, ◌-◌, ◌<◌, ◌≤◌, List, [], ◌∷◌, ◌++◌, All, map, length, take, drop, Option, None, Some, slice_get}
 use Rattle.lp_calculus.specs.Fill.{Within}
 use Rattle.lp_calculus.specs.Types.{instance, var}
 use Rattle.lp_calculus.specs.Spine.{head_of}
@@ -80,22 +80,25 @@ AreEntriesUnder z m l u [] (d ∷ ds) = ⊥
 AreEntriesUnder z m l u (e ∷ es) [] = ⊥
 AreEntriesUnder z m l u (e ∷ es) (d ∷ ds) = IsEntryUnder z m l u e d × AreEntriesUnder z m l e.mark es ds
 
--- a search that waits for that of a negated goal: how many type variables and variables its query has, the answers that are left behind the next one and those that were
--- given, whether a cut removed an alternative, the branch to go on with where the goal is refuted, and the tasks below it
+-- a search that waits for that of a negated goal: how many type variables and variables its query has, how many steps may be taken in all, the answers that are left
+-- behind the next one and those that were given, whether a cut removed an alternative, the branch to go on with where the goal is refuted, and the tasks below it
 pub record Waiting : Type 0 where
   pub types : ℕ
   pub vars : ℕ
+  pub limit : ℕ
   pub left : ℕ
   pub given : ℕ
   pub lost : Bool
   pub branch : Branch
   pub rest : List Task
 
--- how many type variables and variables the query of the search at work has, how many types a constant takes, and the searches that wait, the innermost first
+-- how many type variables and variables the query of the search at work has, how many types a constant takes, how many steps may be taken in all, and the searches that
+-- wait, the innermost first
 pub record Query : Type 0 where
   pub types : ℕ
   pub vars : ℕ
   pub arity : ℕ → ℕ
+  pub limit : ℕ
   pub outer : List Waiting
 
 -- each variable that is read in a branch has a level, and a number below the next one; no type variable from the next one on is bound
@@ -203,7 +206,7 @@ pub record IsOuter (arity : ℕ → ℕ) (m : Machine) (a : Around) (number : �
   pub raws : List (List Task)
   pub others : List (List Task)
   pub stand : StandForAll m a (outer_choices m number choice d) 0 raws
-  pub are : AreAlternatives (record { types = w.types; vars = w.vars; arity = arity; outer = ws }) m (mark_in (base_of d.around) raws) (base_of d.around) (base_of d.around) (outer_choices m number choice d) raws others
+  pub are : AreAlternatives (record { types = w.types; vars = w.vars; arity = arity; limit = w.limit; outer = ws }) m (mark_in (base_of d.around) raws) (base_of d.around) (base_of d.around) (outer_choices m number choice d) raws others
   pub is : stack_of others ≡ Go w.branch ∷ w.rest
   pub lost : w.lost ≡ d.lost
 
@@ -221,8 +224,9 @@ pub record IsInside (qv : Query) (m : Machine) (a : Around) : Type 0 where
   pub in_turn : AreBoundInTurn m.choices.items
 
 -- what is counted, as the definition counts what is left
-pub record IsCounted (m : Machine) (s : State Task) : Type 0 where
+pub record IsCounted (qv : Query) (m : Machine) (s : State Task) : Type 0 where
   pub steps : s.steps ≡ m.counts.limit - m.counts.steps
+  pub total : s.steps + m.counts.steps ≡ qv.limit
   pub rows : s.rows ≡ row_limit
   pub row : s.row ≡ row_limit - m.counts.row
   pub lost : s.lost ≡ m.counts.lost
@@ -252,7 +256,7 @@ pub record IsRunning (qv : Query) (m : Machine) (a : Around) (raw : Branch) (s :
   pub left : All (IsPairOf (length m.bank.terms)) m.branch.pairs.items
   pub levels : ℕ → ℕ
   pub under : IsBranchUnder qv levels m.bank closing (mark_in (base_of m.denied) above.raws) (base_of m.denied) (length m.choices.items) m.branch.pairs.items raw at_work
-  pub counted : IsCounted m s
+  pub counted : IsCounted qv m s
 
 -- a search between two turns
 pub record IsState (qv : Query) (m : Machine) (s : State Task) : Type 0 where
@@ -284,7 +288,7 @@ pub record IsTrying (qv : Query) (m : Machine) (a : Around) (call : Call) (one :
   pub levels : ℕ → ℕ
   pub known : IsKnownCall closing levels raw.next (closed closing (goal_of m call)) (a.assumed call.place.assumed) (a.written call.place.standing) tags clauses
   pub under : IsBranchUnder qv levels m.bank closing (mark_in (base_of m.denied) above.raws) (base_of m.denied) (length m.choices.items) m.branch.pairs.items raw rest
-  pub counted : IsCounted m s
+  pub counted : IsCounted qv m s
 
 -- the first of the definition's tasks is this candidate's; the others are alternatives. A cut in the clause's body keeps the oldest so many alternatives
 pub record IsAtTry (qv : Query) (m : Machine) (a : Around) (call : Call) (one : Candidate) (mark : ℕ) (s : State Task) : Type 0 where
@@ -316,7 +320,7 @@ pub record IsAtTry (qv : Query) (m : Machine) (a : Around) (call : Call) (one : 
   pub levels : ℕ → ℕ
   pub known : IsKnownCall closing levels raw.next (closed closing (goal_of m call)) (a.assumed call.place.assumed) (a.written call.place.standing) (one ∷ []) (tried ∷ [])
   pub under : IsBranchUnder qv levels m.bank closing (mark_in (base_of m.denied) above.raws) (base_of m.denied) mark m.branch.pairs.items raw rest
-  pub counted : IsCounted m s
+  pub counted : IsCounted qv m s
 
 -- the goal in front was taken: the branch is to go on with the goals behind it
 pub record IsGoingOn (qv : Query) (m : Machine) (a : Around) (raw rest : Branch) (below : List Task) : Type 0 where
@@ -335,7 +339,7 @@ pub record IsGoingOn (qv : Query) (m : Machine) (a : Around) (raw rest : Branch)
 pub record IsBack (qv : Query) (m : Machine) (s : State Task) : Type 0 where
   pub around : Around
   pub above : HasAlternatives qv m around s.stack
-  pub counted : IsCounted m s
+  pub counted : IsCounted qv m s
 
 -- the goal of the table that is at hand: in its place, in front of those from a frame on
 pub record IsAtGoal (m : Machine) (a : Around) (p : Place) (flat : Flat) (behind : Option ℕ) (raw : Branch) : Type 0 where
@@ -416,17 +420,18 @@ pub record IsAnswered (qv : Query) (m : Machine) (s : State Task) : Type 0 where
   pub around : Around
   pub above : HasAlternatives qv m around s.stack
   pub steps : s.steps ≡ m.counts.limit - m.counts.steps
+  pub total : s.steps + m.counts.steps ≡ qv.limit
   pub rows : s.rows ≡ row_limit
   pub row : s.row ≡ row_limit
   pub lost : s.lost ≡ m.counts.lost
 
--- a turn is this move of the definition: to a search that goes on or is to go back, to an answer, or to the same end
+-- a turn is this move of the definition: to a search that goes on or is to go back, to an answer, or to the same end, with as many steps taken
 abbrev pub IsMoved : Query → Turn → (new : Machine) → Move Task Answer → (before : State Task) → Type 0
 IsMoved qv Turn.On n v s = (k : ℕ) × (ns : List Note) × (t : State Task) × (v ≡ Goes k ns t) × IsState qv n t × (t.answers ≡ s.answers) × (t.given ≡ s.given)
 IsMoved qv Turn.Back n v s = (k : ℕ) × (ns : List Note) × (t : State Task) × (v ≡ Goes k ns t) × IsBack qv n t × (t.answers ≡ s.answers) × (t.given ≡ s.given)
 IsMoved qv Turn.Answered n v s =
     (ns : List Note) × (x : Answer) × (t : State Task) × (v ≡ Tells x ns t) × IsAnswer qv n x × IsAnswered qv n t × (s.answers ≡ suc t.answers) × (t.given ≡ suc s.given)
-IsMoved qv (Turn.Ended e) n v s = v ≡ Stops e
+IsMoved qv (Turn.Ended e) n v s = (v ≡ Stops e) × (s.steps + n.counts.steps ≡ qv.limit)
 
 -- so while answers are wanted, over each program, with any number of steps for each look
 abbrev pub MovesTo : Query → Turn → (new : Machine) → (before : State Task) → Type 0

@@ -10,16 +10,15 @@ use Rattle.lp_standard.specs.Numbers as number
 use Rattle.lp_model.specs.Branch.{Answer, Entry, Task, Go, Try, Stop, Lack, both_written}
 use Rattle.lp_model.specs.Flat.{Goal, Atomic, Cut, Either, Exists, Forall, Assume, Not, Written}
 use Rattle.lp_model.specs.Look.{head_normal}
-use Rattle.lp_model.specs.Skeleton.{Denies, Goes, Note, State, Tells, View, inner, move, starts_within}
+use Rattle.lp_model.specs.Skeleton.{Denies, Goes, Note, State, View, inner, move, starts_within}
 use Rattle.lp_plain.specs.AtRunTime.{IsSmallExpression}
 
--- from the one state moves lead to the other, behind answers and inside of negated goals, too
+-- from the one state moves lead to the other before anything is told, inside of negated goals, too
 pub data IsReached (see : ℕ → Task → View Task Answer) : State Task → State Task → Type 0 where
   at_once : {s u : State Task} → s ≡ u → IsReached see s u
   behind_move : {s u : State Task} (j k : ℕ) (ns : List Note) (t : State Task) → move (inner see j) see s ≡ Goes k ns t → IsReached see t u → IsReached see s u
   inside_denied : {s u : State Task} (n : ℕ) (t i : Task) (f : Answer → Bool) (ts rest : List Task) → s.stack ≡ t ∷ rest → s.steps ≡ suc n → see
       (length rest) t ≡ Denies i f ts → IsReached see (starts_within s.rows i n 1) u → IsReached see s u
-  behind_answer : {s u : State Task} (j : ℕ) (a : Answer) (ns : List Note) (t : State Task) → move (inner see j) see s ≡ Tells a ns t → IsReached see t u → IsReached see s u
 
 -- an atom by its head and arguments: the expressions of an `is` or of an order have normal forms of at most a million nodes
 abbrev pub IsSmallAtom : (head : Term) → List Term → Type 0

@@ -1,5 +1,5 @@
 // A search, from one event to the next.
-ghost use Rattle.std.specs.Prelude.{◌≡◌, ℕ, List, true, false, length, Ok, None, Some, IfOk, OnOk, OnErr, IsErr};
+ghost use Rattle.std.specs.Prelude.{◌≡◌, ◌+◌, ℕ, List, true, false, length, Ok, None, Some, IfOk, OnOk, OnErr, IsErr};
 ghost use Rattle.lp_model.specs.Branch.{Answer, Task};
 ghost use Rattle.lp_model.specs.Events.{Advances, Event as Happens};
 ghost use Rattle.lp_model.specs.Flat.{Clause, Goals};
@@ -10,7 +10,8 @@ ghost use Rattle.lp_model.specs.Unify.{unit_limit};
 ghost use Rattle.lp_model.specs.declared.ending.Ending.{Ending};
 ghost use Rattle.lp_model.specs.declared.answer.Event.TheVariants as told;
 ghost use Rattle.lp_model.specs.Whole.{IsTold, Keeps};
-ghost use Rattle.lp_plain.specs.Held.{variables_of, query_of, ended, failed};
+ghost use Rattle.lp_plain.specs.Held.{variables_of, query_of, ended, failed, steps_of};
+ghost use Rattle.lp_plain.specs.Stepping.{steps_until};
 ghost use Rattle.lp_plain.specs.Begun.{Begins};
 ghost use Rattle.lp_plain.specs.Between.{AreEnough, IsBetween};
 ghost use Rattle.lp_plain.specs.Telling.{IsEventOf};
@@ -120,7 +121,7 @@ impl Search {
         })
     }
 
-    #[tactic(auto, unfolding(crate::specs::Held::variables_of, crate::specs::Held::query_of, crate::specs::Held::ended, crate::specs::Held::failed))]
+    #[tactic(auto, unfolding(crate::specs::Held::variables_of, crate::specs::Held::query_of, crate::specs::Held::ended, crate::specs::Held::failed, crate::specs::Held::steps_of))]
     fn end(&mut self, ending: Ending) -> Event
         ensures variables { variables_of self.new ≡ variables_of self.old }
         ensures query { query_of self.new ≡ query_of self.old }
@@ -128,6 +129,7 @@ impl Search {
         ensures ended { Keeps result (ended self.new) }
         ensures failed { failed self.new ≡ failed self.old }
         ensures is { result ≡ told.Ended ending }
+        ensures steps { steps_of self.new ≡ steps_of self.old }
         ensures now { ended self.new ≡ Some ending }
     {
         self.ended = Some(ending);
@@ -135,7 +137,7 @@ impl Search {
     }
 
     // Tells of an answer, and that the search goes back from it where more are wanted.
-    #[tactic(auto, unfolding(crate::specs::Held::variables_of, crate::specs::Held::query_of, crate::specs::Held::ended, crate::specs::Held::failed))]
+    #[tactic(auto, unfolding(crate::specs::Held::variables_of, crate::specs::Held::query_of, crate::specs::Held::ended, crate::specs::Held::failed, crate::specs::Held::steps_of))]
     fn tell_answer<W: Watch>(&mut self, crowd: &mut Crowd<'_, W>) -> Result<(), Memory>
         ensures variables { variables_of self.new ≡ variables_of self.old }
         ensures query { query_of self.new ≡ query_of self.old }
@@ -153,7 +155,7 @@ impl Search {
     }
 
     // Goes on to the next event, where answers are wanted.
-    #[tactic(auto, unfolding(crate::specs::Held::variables_of, crate::specs::Held::query_of, crate::specs::Held::ended, crate::specs::Held::failed))]
+    #[tactic(auto, unfolding(crate::specs::Held::variables_of, crate::specs::Held::query_of, crate::specs::Held::ended, crate::specs::Held::failed, crate::specs::Held::steps_of))]
     fn go_on<W: Watch>(&mut self, crowd: &mut Crowd<'_, W>, first: Turn) -> Result<Event, Memory>
         ensures variables { variables_of self.new ≡ variables_of self.old }
         ensures query { query_of self.new ≡ query_of self.old }
@@ -161,6 +163,7 @@ impl Search {
         ensures ended { ended self.old ≡ None → IfOk result (λ event. Keeps event (ended self.new)) }
         ensures failed { failed self.new ≡ failed self.old }
         ensures search { IfOk result (λ event. (c : Course) → IsToTell self.old c → Stands c first self.old.machine → AreEnough c.program c.enough c.begin event → IsEventOf c.event event × IsBetween c.program c.enough self.new c.after) }
+        ensures steps { IfOk result (λ event. (c : Course) → IsToTell self.old c → Stands c first self.old.machine → AreEnough c.program c.enough c.begin event → steps_of self.new + c.rest ≡ c.query.limit) }
     {
         let found = run(&mut self.machine, crowd, first)?;
         match found {
@@ -174,7 +177,7 @@ impl Search {
         }
     }
 
-    #[tactic(auto, unfolding(crate::specs::Held::variables_of, crate::specs::Held::query_of, crate::specs::Held::ended, crate::specs::Held::failed))]
+    #[tactic(auto, unfolding(crate::specs::Held::variables_of, crate::specs::Held::query_of, crate::specs::Held::ended, crate::specs::Held::failed, crate::specs::Held::steps_of))]
     fn advance<W: Watch>(&mut self, crowd: &mut Crowd<'_, W>) -> Result<Event, Memory>
         ensures variables { variables_of self.new ≡ variables_of self.old }
         ensures query { query_of self.new ≡ query_of self.old }
@@ -182,6 +185,7 @@ impl Search {
         ensures ended { ended self.old ≡ None → IfOk result (λ event. Keeps event (ended self.new)) }
         ensures failed { failed self.new ≡ failed self.old }
         ensures search { IfOk result (λ event. ended self.old ≡ None → (P : List Clause) (n : ℕ) (s : State Task) → IsBetween P n self.old s → AreEnough P n s event → (x : Happens Answer) (t : State Task) → Advances (look unit_limit n P) s x t → IsEventOf x event × IsBetween P n self.new t) }
+        ensures steps { IfOk result (λ event. ended self.old ≡ None → (P : List Clause) (n : ℕ) (s : State Task) → IsBetween P n self.old s → AreEnough P n s event → (x : Happens Answer) (t : State Task) (d : Advances (look unit_limit n P) s x t) → steps_of self.new ≡ steps_of self.old + steps_until (look unit_limit n P) d.inner_moves d.moves s) }
     {
         if self.given >= self.answers {
             return Ok(self.end(Ending::Enough));
@@ -195,7 +199,7 @@ impl Search {
     }
 
     /// The next answer, or how the search ended. After an end the same end, after `Memory` always `Memory`.
-    #[tactic(auto, unfolding(crate::specs::Held::variables_of, crate::specs::Held::query_of, crate::specs::Held::ended, crate::specs::Held::failed))]
+    #[tactic(auto, unfolding(crate::specs::Held::variables_of, crate::specs::Held::query_of, crate::specs::Held::ended, crate::specs::Held::failed, crate::specs::Held::steps_of))]
     pub fn next<W: Watch>(&mut self, crowd: &mut Crowd<'_, W>) -> Result<Event, Memory>
         ensures variables { variables_of self.new ≡ variables_of self.old }
         ensures query { query_of self.new ≡ query_of self.old }
@@ -205,6 +209,7 @@ impl Search {
         ensures going { OnOk result (failed self.new ≡ false) }
         ensures ended { IfOk result (λ event. Keeps event (ended self.new)) }
         ensures search { IfOk result (λ event. (P : List Clause) (n : ℕ) (s : State Task) → IsBetween P n self.old s → AreEnough P n s event → (x : Happens Answer) (t : State Task) → Advances (look unit_limit n P) s x t → IsEventOf x event × IsBetween P n self.new t) }
+        ensures steps { IfOk result (λ event. ended self.old ≡ None → (P : List Clause) (n : ℕ) (s : State Task) → IsBetween P n self.old s → AreEnough P n s event → (x : Happens Answer) (t : State Task) (d : Advances (look unit_limit n P) s x t) → steps_of self.new ≡ steps_of self.old + steps_until (look unit_limit n P) d.inner_moves d.moves s) }
         ensures stays { failed self.old ≡ false → (e : Ending) → ended self.old ≡ Some e → result ≡ Ok (told.Ended e) }
     {
         if self.failed {
@@ -220,7 +225,10 @@ impl Search {
     }
 
     /// The steps taken.
-    pub fn steps(&self) -> u64 {
+    #[tactic(auto, unfolding(crate::specs::Held::steps_of))]
+    pub fn steps(&self) -> u64
+        ensures { result ≡ steps_of self.now }
+    {
         self.machine.counts.steps
     }
 }

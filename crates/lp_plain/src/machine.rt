@@ -287,6 +287,7 @@ impl Machine {
         ensures trying { OnOk result ((qv : Query) (c : Choice) (rest : List Choice) (call : Called) (one : Tried) → self.old.choices.items ≡ rest ++ c ∷ [] → c.untried ≡ Left.Clauses call one → base_of self.old.denied ≤ length rest → (s : State Task) (h : IsBack qv self.old s) → IsTrying qv self.new h.around call one s) }
         ensures none { IfOk result (λ o. self.old.choices.items ≡ [] → o ≡ None) }
         ensures lost { OnOk result (self.new.counts.lost ≡ self.old.counts.lost) }
+        ensures steps { OnOk result (self.new.counts.steps ≡ self.old.counts.steps) }
     {
         let Some(choice) = self.choices.pop() else {
             return Ok(None);

@@ -196,7 +196,7 @@ pub(crate) fn begin(
     ensures state { IfOk result (λ s. query.formula.0 < length program.bank.terms → (n : ℕ) (d : ℕ → Option Scheme) (flat : Goals) → flatten_query n d (tree program.bank query.formula.0) ≡ Some flat → (a : Around) → IsOutermost a → (answers : ℕ) →
         IsStateOf s.machine a (start query.type_vars (length query.vars.items) flat limit answers)) }
     ensures begun { IfOk result (λ s. query.formula.0 < length program.bank.terms → (n : ℕ) (d : ℕ → Option Scheme) (flat : Goals) → flatten_query n d (tree program.bank query.formula.0) ≡ Some flat → AllOfGoals HasNoVariable (length query.vars.items) flat → (arity : ℕ → ℕ) (answers : ℕ) →
-        IsState (record { types = query.type_vars; vars = length query.vars.items; arity = arity; outer = [] }) s.machine (start query.type_vars (length query.vars.items) flat limit answers)) }
+        IsState (record { types = query.type_vars; vars = length query.vars.items; arity = arity; limit = limit; outer = [] }) s.machine (start query.type_vars (length query.vars.items) flat limit answers)) }
     ensures written { IfOk result (λ s. query.formula.0 < length program.bank.terms → (n : ℕ) (d : ℕ → Option Scheme) (flat : Goals) → flatten_query n d (tree program.bank query.formula.0) ≡ Some flat → (ar : ℕ → ℕ) (k : ℕ) →
         GoalsWritten ar k (own_and (length query.vars.items) []) flat → IsWrittenSearch s.machine ar) }
     ensures marked { IfOk result (λ s. IsMarked s.machine) }

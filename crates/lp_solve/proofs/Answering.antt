@@ -22,7 +22,7 @@ module _ (ns : List (List ℕ)) (s : Search) where
   last_of watched status text (no_memory st is) = ([], None, written.no_memory st is)
 
 pub some_search : (es : List Entry) (ns : List (List ℕ)) (watched : Bool) (first : Search) (status : Status) (text : List ℕ) → IsSearched es ns
-    watched first status text → (t : Told Answer) × IsWritten (Unit {0}) es ns watched t status text
+    watched first status text → (t : Told Answer) × IsWritten (λ k. Unit {0}) es ns watched t status text
 some_search es ns watched first status text w =
     let x = last_of ns w.answers.now watched status w.last w.is_last in
     let shown = map plain w.answers.answers in (

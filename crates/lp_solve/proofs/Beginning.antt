@@ -11,7 +11,7 @@ use Rattle.lp_model.specs.Proofs.{AreFlattened, Declared}
 use Rattle.lp_model.specs.Readings.{formula_of}
 use Rattle.lp_model.specs.declared.program.ClauseFormula.{ClauseFormula}
 use Rattle.lp_model.specs.declared.program.Program.{Program}
-use Rattle.lp_module.proofs.Composing.{within_later}
+use Rattle.lp_module.proofs.Tabled.{within_later}
 use Rattle.lp_search_laws.specs.Started.{IsTypedSentence}
 use Rattle.lp_plain.specs.Begun.{Begins}
 use Rattle.lp_plain.specs.ProgramClauses.{IsNamedAtom}

@@ -1,5 +1,5 @@
 -- The answers that a search tells, and its last line, are those of the definition's search.
-use Rattle.std.proofs.Common.{◌≡◌, ◌⊎◌, ℕ, List, [], ◌∷◌, ◌++◌, map, Option, Some, None, Bool, refl, sym, ap, ◌∙◌, subst, inl, inr, append_assoc, append-nil}
+use Rattle.std.proofs.Common.{◌≡◌, ◌⊎◌, ℕ, suc, List, [], ◌∷◌, ◌++◌, map, length, Option, Some, None, Bool, refl, sym, ap, ◌∙◌, subst, inl, inr, arith, append_assoc, append-nil, length-append}
 use Rattle.std.proofs.lemmas.List.{map-append}
 use Rattle.lp_base.specs.declared.status.Status.{Status}
 use Rattle.lp_model.specs.Branch.{Answer, Task}
@@ -14,10 +14,9 @@ use Rattle.lp_model.specs.declared.answer.Event.TheVariants as event
 use Rattle.lp_model.specs.declared.ending.Ending.{Ending}
 use Rattle.lp_model.specs.declared.ending.Ending.TheVariants.{NoMore, NoMoreCut, Enough, Steps, Flexible, Arithmetic, OpenNot, Deep}
 use Rattle.lp_plain.specs.Between.{IsBetween}
-use Rattle.lp_plain.specs.Reached.{IsReached}
 use Rattle.lp_plain.specs.Telling.{IsEventOf}
 use Rattle.lp_plain.specs.declared.search.Search.{Search}
-use Rattle.lp_solve.specs.Queries.{IsExact, told_by}
+use Rattle.lp_solve.specs.Queries.{IsBehind, IsExact, at_first, one_more, told_by}
 use Rattle.lp_solve.specs.Written as written
 use Rattle.lp_solve.specs.Written.{AreLines, IsBegun, IsEnd, IsWritten}
 use Rattle.lp_solve.specs.inner.Events.{Ends, IsTold, Tells, as_told, no_answer, one_answer, plain, too_deep}
@@ -43,14 +42,14 @@ ended_deep e h = cc
 pub data Followed (P : List Clause) (n j m : ℕ) (start : State Task) (now : Search) (bs : List code.Answer) : Type 0 where
   still : (xs : List Answer) (k : ℕ) (s : State Task) → AreAnswersOf xs bs → (told_by P n j m start).answers ≡ xs ++ (told_by P n j k s).answers →
       (told_by P n j m start).ending ≡ (told_by P n j k s).ending →
-      IsBetween P n now s → ((u : State Task) → IsReached (look unit_limit n P) s u → IsReached (look unit_limit n P) start u) → Followed P n j m start now bs
+      IsBetween P n now s → IsBehind (look unit_limit n P) (length xs) start s → Followed P n j m start now bs
   passed : (before behind : List code.Answer) → bs ≡ before ++ behind → AreAnswersOf (told_by P n j m start).answers before → (told_by P n j m start).ending ≡ None → Followed P n j m start now bs
 
 module _ (P : List Clause) (n j m : ℕ) (start : State Task) where
   -- one answer more
   next_answer : (s t : Search) (before all : List code.Answer) (a : code.Answer) → IsTold s (event.Answer a) t → all ≡ before ++ a ∷ [] → Followed P n j m start s before → Followed P n j m start t all
   next_answer s t before all a told e (passed b c eq are none) = passed b (c ++ a ∷ []) (e ∙ ap (λ w. w ++ a ∷ []) eq ∙ append_assoc b c (a ∷ [])) are none
-  next_answer s t before all a told e (still xs k st are answers ending between reach) = go (first (look unit_limit n P) j k st) refl
+  next_answer s t before all a told e (still xs k st are answers ending between behind) = go (first (look unit_limit n P) j k st) refl
     where
       go : (o : Option (Event Answer × State Task)) → first (look unit_limit n P) j k st ≡ o → Followed P n j m start t all
       go None h =
@@ -59,16 +58,18 @@ module _ (P : List Clause) (n j m : ℕ) (start : State Task) where
       go (Some (Gave x, u)) h =
           let got = told.search P n st between (λ d. absurd (cc)) (Gave x) u (record { inner_moves = j; moves = k; gives = h }) in
           let r = gave_first (look unit_limit n P) j k st u x h in
-          still (xs ++ x ∷ []) r.0.0 u (subst (AreAnswersOf (xs ++ x ∷ [])) (sym e) (answers_more xs before x a are got.0))
-          (answers ∙ ap (λ ys. xs ++ ys) r.0.1 ∙ sym (append_assoc xs (x ∷ []) (told_by P n j r.0.0 u).answers)) (ending ∙ r.0.2) got.1 (λ w q. reach w (r.1 w q))
+          let longer : length (xs ++ x ∷ []) ≡ suc (length xs) = (let l = length-append xs (x ∷ []) in omega (arith, l)) in
+          still (xs ++ x ∷ []) r.0 u (subst (AreAnswersOf (xs ++ x ∷ [])) (sym e) (answers_more xs before x a are got.0))
+          (answers ∙ ap (λ ys. xs ++ ys) r.1 ∙ sym (append_assoc xs (x ∷ []) (told_by P n j r.0 u).answers)) (ending ∙ r.2) got.1
+          (subst (λ i. IsBehind (look unit_limit n P) i start u) (sym longer) (one_more st x behind (record { inner_moves = j; moves = k; gives = h })))
       go (Some (Over o, u)) h = absurd ((told.search P n st between (λ d. absurd (cc)) (Over o) u (record { inner_moves = j; moves = k; gives = h })).0)
 
   pub follow : (first_search now : Search) (bs : List code.Answer) → IsBetween P n first_search start → Tells first_search bs now → Followed P n j m start now bs
-  follow first_search now bs begun no_answer = still [] m start tt refl refl begun (λ u r. r)
+  follow first_search now bs begun no_answer = still [] m start tt refl refl begun (at_first refl)
   follow first_search now bs begun (one_answer before all s t a more told e) = next_answer s t before bs a told e (follow first_search s before begun more)
 
 -- what is written of it
-abbrev Comes : (exact : Type 0) (es : List Entry) (ns : List (List ℕ)) (watched : Bool) (told : Told Answer) (status : Status) (text : List ℕ) → Type 0
+abbrev Comes : (exact : ℕ → Type 0) (es : List Entry) (ns : List (List ℕ)) (watched : Bool) (told : Told Answer) (status : Status) (text : List ℕ) → Type 0
 Comes exact es ns watched told status text = IsWritten exact es ns watched told status text ⊎ IsBegun es ns told text
 
 module _ (P : List Clause) (n j m : ℕ) (start : State Task) (es : List Entry) (ns : List (List ℕ)) (watched : Bool) (now : Search) (status : Status) where
@@ -89,7 +90,7 @@ module _ (P : List Clause) (n j m : ℕ) (start : State Task) (es : List Entry) 
     })
 
     -- the last line stands here
-    here : written.IsLast (IsExact P n start) ns watched (told_by P n j k st).answers (told_by P n j k st).ending status last → Done text
+    here : written.IsLast (IsExact P n start (length xs)) ns watched (told_by P n j k st).answers (told_by P n j k st).ending status last → Done text
     here l = inl (record {
       shown = xs;
       left = (told_by P n j k st).answers;
@@ -97,36 +98,36 @@ module _ (P : List Clause) (n j m : ℕ) (start : State Task) (es : List Entry) 
       lines = lines;
       are_lines = are;
       last = last;
-      is_last = subst (λ o. written.IsLast (IsExact P n start) ns watched (told_by P n j k st).answers o status last) (sym ending) l;
+      is_last = subst (λ o. written.IsLast (IsExact P n start (length xs)) ns watched (told_by P n j k st).answers o status last) (sym ending) l;
       wrote = wrote;
     })
 
-    module _ (between : IsBetween P n now st) (reach : (u : State Task) → IsReached (look unit_limit n P) st u → IsReached (look unit_limit n P) start u) where
+    module _ (between : IsBetween P n now st) (behind : IsBehind (look unit_limit n P) (length xs) start st) where
       -- the ending that is told
       abbrev IsEndHere : Ending → Type 0
-      IsEndHere e = IsEnd (IsExact P n start) ns (told_by P n j k st).answers (told_by P n j k st).ending e
+      IsEndHere e = IsEnd (IsExact P n start (length xs)) ns (told_by P n j k st).answers (told_by P n j k st).ending e
 
       end_told : (e : Ending) (t : Search) → IsTold now (event.Ended e) t → HasNone (look unit_limit n P) j k st ⊎ IsEndHere e
       end_told e t told = go (first (look unit_limit n P) j k st) refl
         where
-          enough : (x : Event Answer) (u : State Task) → first (look unit_limit n P) j k st ≡ Some (x, u) → IsExact P n start → IsEventOf x (event.Ended e)
-          enough x u h exact = (told.search P n st between (λ d. (exact.few, λ w r. exact.small w (reach w r))) x u (record { inner_moves = j; moves = k; gives = h })).0
+          enough : (x : Event Answer) (u : State Task) → first (look unit_limit n P) j k st ≡ Some (x, u) → IsExact P n start (length xs) → IsEventOf x (event.Ended e)
+          enough x u h exact = (told.search P n st between (λ d. (exact.few, λ w r. exact.small st w behind r)) x u (record { inner_moves = j; moves = k; gives = h })).0
 
           otherwise : (x : Event Answer) (u : State Task) → first (look unit_limit n P) j k st ≡ Some (x, u) → (e ≡ Deep → ⊥) → IsEventOf x (event.Ended e)
           otherwise x u h other = (told.search P n st between (λ d. absurd (other (ended_deep e d))) x u (record { inner_moves = j; moves = k; gives = h })).0
 
           go : (o : Option (Event Answer × State Task)) → first (look unit_limit n P) j k st ≡ o → HasNone (look unit_limit n P) j k st ⊎ IsEnd
-              (IsExact P n start) ns (told_by P n j k st).answers (told_by P n j k st).ending e
+              (IsExact P n start (length xs)) ns (told_by P n j k st).answers (told_by P n j k st).ending e
           go None h = inl (none_first (look unit_limit n P) j k st h)
           go (Some (Gave x, u)) h = elim (is_deep e) [
-            | inl d ↦ inr (subst (λ e. IsEnd (IsExact P n start) ns (told_by P n j k st).answers (told_by P n j k st).ending e) (sym d)
+            | inl d ↦ inr (subst (λ e. IsEnd (IsExact P n start (length xs)) ns (told_by P n j k st).answers (told_by P n j k st).ending e) (sym d)
                 (written.too_deep (λ exact. absurd (enough (Gave x) u h exact))))
             | inr other ↦ absurd (otherwise (Gave x) u h other)
           ]
           go (Some (Over o, u)) h =
               let over = over_first (look unit_limit n P) j k st u o h in
               elim (is_deep e) [
-                | inl d ↦ inr (subst (λ e. IsEnd (IsExact P n start) ns (told_by P n j k st).answers (told_by P n j k st).ending e) (sym d)
+                | inl d ↦ inr (subst (λ e. IsEnd (IsExact P n start (length xs)) ns (told_by P n j k st).answers (told_by P n j k st).ending e) (sym d)
                     (written.too_deep (λ exact. (over.0, over.1 ∙ ap Some (sym (enough (Over o) u h exact) ∙ d)))))
                 | inr other ↦ inr (written.as_told e over.0 (over.1 ∙ ap Some (sym (otherwise (Over o) u h other))))
               ]
@@ -135,12 +136,12 @@ module _ (P : List Clause) (n j m : ℕ) (start : State Task) (es : List Entry) 
       end_large a t told c = go (first (look unit_limit n P) j k st) refl
         where
           go : (o : Option (Event Answer × State Task)) → first (look unit_limit n P) j k st ≡ o → HasNone (look unit_limit n P) j k st ⊎ IsEnd
-              (IsExact P n start) ns (told_by P n j k st).answers (told_by P n j k st).ending Deep
+              (IsExact P n start (length xs)) ns (told_by P n j k st).answers (told_by P n j k st).ending Deep
           go None h = inl (none_first (look unit_limit n P) j k st h)
           go (Some (Gave x, u)) h =
               let got = told.search P n st between (λ d. absurd (cc)) (Gave x) u (record { inner_moves = j; moves = k; gives = h }) in
               let r = gave_first (look unit_limit n P) j k st u x h in
-              inr (written.too_large x (told_by P n j r.0.0 u).answers r.0.1 (large_answer ns x a got.0 c))
+              inr (written.too_large x (told_by P n j r.0 u).answers r.1 (large_answer ns x a got.0 c))
           go (Some (Over o, u)) h = absurd ((told.search P n st between (λ d. absurd (cc)) (Over o) u (record { inner_moves = j; moves = k; gives = h })).0)
 
       end_here : (e : Ending) → Ends ns now e → HasNone (look unit_limit n P) j k st ⊎ IsEndHere e
@@ -156,8 +157,8 @@ module _ (P : List Clause) (n j m : ℕ) (start : State Task) (es : List Entry) 
 
   pub written_of : (bs : List code.Answer) (lines last text : List ℕ) → Followed P n j m start now bs → AreLines es ns 1 (map plain bs) lines →
       HasLast ns watched now status last → text ≡ lines ++ last → Done text
-  written_of bs lines last text (still xs k st are answers ending between reach) ls l w =
-      last_here xs k st answers ending lines last text (all_lines_before es ns 1 xs bs lines are ls) w between reach l
+  written_of bs lines last text (still xs k st are answers ending between behind) ls l w =
+      last_here xs k st answers ending lines last text (all_lines_before es ns 1 xs bs lines are ls) w between behind l
   written_of bs lines last text (passed before behind e are none) ls l w =
       let split = first_lines es ns 1 (map plain before) (map plain behind) lines (subst (λ ys. AreLines es ns 1 ys lines) (ap (map plain) e ∙ map-append plain before behind) ls) in
       inr (record {

@@ -1,10 +1,9 @@
 -- A run by its next event.
-use Rattle.std.proofs.Common.{◌≡◌, ℕ, zero, suc, [], ◌∷◌, Option, Some, None, refl, sym, ap, ◌∙◌, subst}
+use Rattle.std.proofs.Common.{◌≡◌, ℕ, zero, suc, [], ◌∷◌, Option, Some, None, refl, ap, ◌∙◌}
 use Rattle.lp_model.specs.declared.ending.Ending.{Ending}
 use Rattle.lp_model.specs.Branch.{Answer, Task}
 use Rattle.lp_model.specs.Events.{Event, Gave, Over, first, first_after}
 use Rattle.lp_model.specs.Skeleton.{View, State, Move, Goes, Tells, Stops, Breaks, Waits, move, inner, run, told_after}
-use Rattle.lp_plain.specs.Reached.{IsReached, behind_answer, behind_move}
 
 abbrev One : Type 0
 One = Event Answer × State Task
@@ -31,28 +30,23 @@ module _ (look : ℕ → Task → View Task Answer) (j : ℕ) where
 
   -- an answer comes first, and leaves this state
   abbrev pub HasFirst : ℕ → State Task → Answer → State Task → Type 0
-  HasFirst n s a t =
-      ((k : ℕ) × ((run look j n s).answers ≡ a ∷ (run look j k t).answers) × ((run look j n s).ending ≡ (run look j k t).ending))
-      × ((u : State Task) → IsReached look t u → IsReached look s u)
+  HasFirst n s a t = (k : ℕ) × ((run look j n s).answers ≡ a ∷ (run look j k t).answers) × ((run look j n s).ending ≡ (run look j k t).ending)
 
-  gave_by : (n : ℕ) (s t : State Task) (a : Answer) (v : Move Task Answer) → move (inner look j) look s ≡ v →
-      ((u : State Task) → first look j n u ≡ Some (Gave a, t) → HasFirst n u a t) → first_after s (first look j n) v ≡ Some (Gave a, t) →
-      ((k : ℕ) × ((told_after (run look j n) v).answers ≡ a ∷ (run look j k t).answers) × ((told_after (run look j n) v).ending ≡ (run look j k t).ending))
-      × ((u : State Task) → IsReached look t u → IsReached look s u)
-  gave_by n s t a (Goes k ns w) e ih h = let r = ih w h in (r.0, λ u x. behind_move j k ns w e (r.1 u x))
-  gave_by n s t a (Tells b ns w) e ih h =
+  gave_by : (n : ℕ) (s t : State Task) (a : Answer) (v : Move Task Answer) → ((u : State Task) → first look j n u ≡ Some (Gave a, t) → HasFirst n u a t) →
+      first_after s (first look j n) v ≡ Some (Gave a, t) →
+      (k : ℕ) × ((told_after (run look j n) v).answers ≡ a ∷ (run look j k t).answers) × ((told_after (run look j n) v).ending ≡ (run look j k t).ending)
+  gave_by n s t a (Goes k ns w) ih h = ih w h
+  gave_by n s t a (Tells b ns w) ih h =
       let p = pair_left _ _ _ _ h in
-      let f : b ≡ a = cc in (
-        (n, ap (λ (x : Answer). x ∷ (run look j n w).answers) f ∙ ap (λ (x : State Task). a ∷ (run look j n x).answers) p.1, ap (λ (x : State Task). (run look j n x).ending) p.1),
-        λ u x. behind_answer j b ns w e (subst (λ z. IsReached look z u) (sym p.1) x),
-      )
-  gave_by n s t a (Stops b) e ih h = let p = pair_left _ _ _ _ h in let q = p.0 in absurd (cc)
-  gave_by n s t a (Breaks k ns b) e ih h = let p = pair_left _ _ _ _ h in let q = p.0 in absurd (cc)
-  gave_by n s t a (Waits k ns) e ih h = absurd (cc)
+      let f : b ≡ a = cc in
+      (n, ap (λ (x : Answer). x ∷ (run look j n w).answers) f ∙ ap (λ (x : State Task). a ∷ (run look j n x).answers) p.1, ap (λ (x : State Task). (run look j n x).ending) p.1)
+  gave_by n s t a (Stops b) ih h = let p = pair_left _ _ _ _ h in let q = p.0 in absurd (cc)
+  gave_by n s t a (Breaks k ns b) ih h = let p = pair_left _ _ _ _ h in let q = p.0 in absurd (cc)
+  gave_by n s t a (Waits k ns) ih h = absurd (cc)
 
   pub gave_first : (n : ℕ) (s t : State Task) (a : Answer) → first look j n s ≡ Some (Gave a, t) → HasFirst n s a t
   gave_first zero s t a h = absurd (cc)
-  gave_first (suc n) s t a h = gave_by n s t a (move (inner look j) look s) refl (λ u e. gave_first n u t a e) h
+  gave_first (suc n) s t a h = gave_by n s t a (move (inner look j) look s) (λ u e. gave_first n u t a e) h
 
   -- the search is over
   abbrev pub HasEnd : ℕ → State Task → Ending → Type 0

@@ -23,6 +23,7 @@ use Rattle.lp_solve.specs.Solved.{BeginsSolved, IsAnswered, IsRefusal, WritesSol
 use Rattle.lp_solve.specs.inner.Searched.{BeginsSearch, IsReady, IsSearched, WritesSearch}
 use Rattle.lp_solve.proofs.Answering.{some_search}
 use Rattle.lp_solve.proofs.Followed.{written_by}
+use Rattle.lp_solve.proofs.Texts.Flattening.{query_flat}
 use Rattle.lp_solve.proofs.Truth.{truth}
 use Rattle.lp_solve.specs.Shown.{IsShownWith, all_constants, constants_in, constants_shown, names_in}
 use Rattle.lp_solve.specs.declared.prepare.Prepared.{Prepared}
@@ -56,6 +57,7 @@ answered_by {steps = steps} {answers = answers} q first begins watched status te
     record {
       some = x.0;
       written = x.1;
+      flat = query_flat q;
       search = search;
       right = λ d P gs f. truth q (entries q) (names q) watched steps answers status text d P gs f (search d P gs f);
     }

@@ -107,7 +107,7 @@ module _ {exact : Type 0} {ns : List (List ℕ)} {left : List Answer} {ending : 
 
 -- a search that is right, and what is written of it
 true_by : (L : Leaves) (G : TypedAnswer → Type 0) (d : Declared) (F : List ClauseFormula) (q : Query) (es : List Entry) (ns : List (List ℕ))
-    (watched : Bool) (exact : Type 0) (status : Status) (text : List ℕ) (t : Told Answer) →
+    (watched : Bool) (exact : ℕ → Type 0) (status : Status) (text : List ℕ) (t : Told Answer) →
     IsRightBy L G d F q t → IsWritten exact es ns watched t status text → IsTrue L d F q es ns text
 true_by L G d F q es ns watched exact status text t right w =
     let p = parts right.typed w.shown w.left (right.is ∙ w.answers) in

@@ -1,14 +1,15 @@
 -- A query on the program of texts, and the definition's search of it.
-use Rattle.std.specs.Prelude.{◌≡◌, ◌<◌, ℕ, List, length, Option, Some}
+use Rattle.std.specs.Prelude.{◌≡◌, ◌<◌, ℕ, suc, List, length, Option, Some}
 use Rattle.lp_base.specs.Held.{Held}
 use Rattle.lp_term.specs.Nodes.{Nodes, Extends, tree}
 use Rattle.lp_model.specs.Branch.{Answer, Task}
+use Rattle.lp_model.specs.Events.{Advances, Gave}
 use Rattle.lp_model.specs.Flat.{Clause, Goals}
 use Rattle.lp_model.specs.Flatten.{flatten_query}
 use Rattle.lp_model.specs.Proofs.{AreFlattened, Declared}
 use Rattle.lp_model.specs.Search.{look, start}
 use Rattle.lp_model.specs.Shown.{Entry}
-use Rattle.lp_model.specs.Skeleton.{State, Told, run}
+use Rattle.lp_model.specs.Skeleton.{State, Told, View, run}
 use Rattle.lp_model.specs.Unify.{unit_limit}
 use Rattle.lp_model.specs.declared.program.Typed.{Typed}
 use Rattle.lp_plain.specs.Reached.{HasSmallGoal, IsReached}
@@ -41,6 +42,13 @@ pub record IsFlat {told : Option Held} {name text : List ℕ} (q : IsQuery told 
   pub depth : ℕ
   pub goals : flatten_query depth d (tree q.bank q.typed.formula.0) ≡ Some gs
 
+-- there are declared types of the program by which its source clauses and the query flatten
+pub record Flattens {told : Option Held} {name text : List ℕ} (q : IsQuery told name text) : Type 0 where
+  pub types : Declared
+  pub clauses : List Clause
+  pub goals : Goals
+  pub flat : IsFlat q types clauses goals
+
 -- the definition's search of it begins so, with these limits of steps and of answers
 abbrev pub first_state : {told : Option Held} {name text : List ℕ} → IsQuery told name text → Goals → (steps answers : ℕ) → State Task
 first_state q gs steps answers = start q.typed.type_vars (length q.typed.vars.items) gs steps answers
@@ -49,8 +57,13 @@ first_state q gs steps answers = start q.typed.type_vars (length q.typed.vars.it
 abbrev pub told_by : List Clause → (looks inner_moves moves : ℕ) → State Task → Told Answer
 told_by P n j m s = run (look unit_limit n P) j m s
 
--- it is told to be too deep only where it is so by itself: each look takes fewer than 1,000,000 steps, and no expression that it evaluates, and no term that is written in a negated goal, has a normal form of more than
--- 1,000,000 nodes
-pub record IsExact (P : List Clause) (looks : ℕ) (s : State Task) : Type 0 where
+-- behind so many answers a search is in this state
+pub data IsBehind (see : ℕ → Task → View Task Answer) : (count : ℕ) → State Task → State Task → Type 0 where
+  at_first : {s t : State Task} → s ≡ t → IsBehind see 0 s t
+  one_more : {k : ℕ} {s t : State Task} (u : State Task) (a : Answer) → IsBehind see k s u → Advances see u (Gave a) t → IsBehind see (suc k) s t
+
+-- behind so many answers it is told to be too deep only where it is so by itself: on the way to what is told next each look takes fewer than 1,000,000 steps, and no expression that it
+-- evaluates, and no term that is written in a negated goal, has a normal form of more than 1,000,000 nodes
+pub record IsExact (P : List Clause) (looks : ℕ) (s : State Task) (answers : ℕ) : Type 0 where
   pub few : looks < 1000000
-  pub small : (u : State Task) → IsReached (look unit_limit looks P) s u → HasSmallGoal u.stack
+  pub small : (t u : State Task) → IsBehind (look unit_limit looks P) answers s t → IsReached (look unit_limit looks P) t u → HasSmallGoal u.stack

@@ -15,17 +15,18 @@ use Rattle.lp_lines.specs.declared.refusal.Refusal.{Refusal}
 use Rattle.lp_load.specs.Loaded.{IsLoaded}
 use Rattle.lp_load.specs.Placed.{IsOfFile}
 use Rattle.lp_load.specs.Refused.{IsRefusedQuery}
-use Rattle.lp_solve.specs.Queries.{IsExact, IsFlat, IsQuery, entries, first_state, names, told_by}
+use Rattle.lp_solve.specs.Queries.{Flattens, IsExact, IsFlat, IsQuery, entries, first_state, names, told_by}
 use Rattle.lp_solve.specs.Right.{IsTrue}
 use Rattle.lp_solve.specs.Sources.{query_of, source_clauses}
 use Rattle.lp_solve.specs.Written.{IsBegun, IsWritten}
 
--- What is written of a query: lines of answers in order, each shown by its definition, and a last line. It is what the definition's search tells, within these limits, whatever the
--- declared types are by which clauses and query flatten, and however many moves and steps are looked at: its answers and its ending, or, where it is not over yet, its answers
--- first. And it is right: in proofs from the source clauses, in which a negated goal is proved by a search that fails.
+-- What is written of a query: lines of answers in order, each shown by its definition, and a last line. The texts have declared types by which their clauses and the query flatten.
+-- What is written is what the definition's search tells, within these limits, whatever such types are taken, and however many moves and steps are looked at: its answers and its
+-- ending, or, where it is not over yet, its answers first. And it is right: in proofs from the source clauses, in which a negated goal is proved by a search that fails.
 pub record IsAnswered (told : Option Held) (name query : List ℕ) (q : IsQuery told name query) (watched : Bool) (steps answers : ℕ) (status : Status) (text : List ℕ) : Type 0 where
   pub some : Told Answer
-  pub written : IsWritten (Unit {0}) (entries q) (names q) watched some status text
+  pub written : IsWritten (λ k. Unit {0}) (entries q) (names q) watched some status text
+  pub flat : Flattens q
   pub search : (d : Declared) (P : List Clause) (gs : Goals) → IsFlat q d P gs → (n j m : ℕ) →
       IsWritten (IsExact P n (first_state q gs steps answers)) (entries q) (names q) watched (told_by P n j m (first_state q gs steps answers)) status text
       ⊎ IsBegun (entries q) (names q) (told_by P n j m (first_state q gs steps answers)) text

@@ -28,6 +28,7 @@ ghost use Rattle.lp_module.specs.declared.module.Module.{Module};
 ghost use Rattle.lp_build.specs.declared.build.Built.{Built};
 ghost use Rattle.lp_load.specs.Asked.{IsAsked};
 ghost use Rattle.lp_load.specs.Loaded.{IsLoaded};
+ghost use Rattle.lp_solve.specs.Queries.{Flattens, IsQuery};
 ghost use Rattle.lp_solve.specs.Sources.{HasTypes, query_of, source_clauses};
 
 /// The source clauses of texts are typed sentences, by the declared types.
@@ -50,10 +51,20 @@ pub fn searches_of_texts_are_right()
         IsRightBy (IsFailedSearch InAny d P) (IsGiven n d P (query_of b query) gs) d (source_clauses l.program) (query_of b query) (run (look unit_limit n P) j m (start query.type_vars (length (query_of b query).vars) gs steps answers)) }
 {}
 
+/// Of each loaded program there is a map of declared types: that of its own table.
+pub fn declared_types_exist()
+    ensures { (told : Option Held) (name : List ℕ) (built : Built) (l : IsLoaded told name built) → (d : Declared) × HasTypes l.program d }
+{}
+
 /// A formula that has the form of a clause, closed over variables, comes to flattened clauses, and one that has the form of a goal to flattened goals; so does each
 /// clause of a module.
 pub fn formulas_flatten()
     ensures clauses { (d : Declared) (type_vars : ℕ) (Ts : List Ty) (t : Term) → IsFormed d false type_vars t → (depth : ℕ) × (cs : Clauses) × (flatten depth d (record { type_vars = type_vars; formula = all_of Ts t }) ≡ Some cs) }
     ensures goals { (d : Declared) (type_vars : ℕ) (t : Term) → IsFormed d true type_vars t → (depth : ℕ) × (gs : Goals) × (flatten_query depth d t ≡ Some gs) }
     ensures modules { (source : List ℕ) (text : ModuleText) (expected : List ℕ) (own : Signature) (used : List Signature) (m : Module) → IsMeaning source text expected own used m → EachOf (λ f. (depth : ℕ) × (cs : Clauses) × (flatten depth (declared_schemes m.signature) f ≡ Some cs)) (clauses_in m) }
+{}
+
+/// Each query on the program of texts flattens with it, by some declared types of the program.
+pub fn texts_flatten()
+    ensures { (told : Option Held) (name text : List ℕ) (q : IsQuery told name text) → Flattens q }
 {}

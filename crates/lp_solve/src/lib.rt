@@ -20,7 +20,8 @@ mod laws;
 
 pub use generated::trial;
 pub use laws::{
-    formulas_flatten, programs_are_typed, queries_are_typed, searches_of_texts_are_right,
+    declared_types_exist, formulas_flatten, programs_are_typed, queries_are_typed,
+    searches_of_texts_are_right, texts_flatten,
 };
 pub use prepare::Question;
 pub use solve::{solve_plain, solve_within};

@@ -1,5 +1,5 @@
 -- What the definition's search tells next, followed by the turns of the search: what stands at each turn until it is told.
-use Rattle.std.specs.Prelude.{◌≡◌, ℕ, suc, ◌-◌, ◌<◌, List, [], ◌∷◌}
+use Rattle.std.specs.Prelude.{◌≡◌, ℕ, suc, ◌+◌, ◌-◌, ◌<◌, List, [], ◌∷◌}
 use Rattle.lp_model.specs.Branch.{Answer, Go, Task}
 use Rattle.lp_model.specs.Events.{Advances, Event, Gave, Over}
 use Rattle.lp_model.specs.Flat.{Clause}
@@ -13,10 +13,11 @@ use Rattle.lp_plain.specs.declared.outcome.Turn.{Turn}
 use Rattle.lp_plain.specs.Between.{HasClauses}
 use Rattle.lp_plain.specs.Moving.{IsAnswer, IsAnswered, IsBack, IsState, Query, Waiting}
 use Rattle.lp_plain.specs.Reached.{HasSmallGoal, IsReached}
+use Rattle.lp_plain.specs.Stepping.{steps_until}
 use Rattle.lp_plain.specs.TypedStates.{IsTypedOver}
 
 -- the next event of the definition's search of a query over these clauses, with so many steps for each look, where so many answers are left behind it and were given
--- before it, the state from which it comes, and the state behind it
+-- before it, the state from which it comes, the state behind it, and the steps that are left then
 pub record Course : Type 0 where
   pub query : Query
   pub program : List Clause
@@ -26,6 +27,7 @@ pub record Course : Type 0 where
   pub begin : State Task
   pub event : Event Answer
   pub after : State Task
+  pub rest : ℕ
 
 abbrev pub seen_in : Course → ℕ → Task → View Task Answer
 seen_in c = look unit_limit c.enough c.program
@@ -38,7 +40,7 @@ goes_on w n p ts = record { steps = n; answers = suc w.left; given = w.given; ro
 abbrev pub ComesOf : Course → (behind : State Task → Type 0) → Waiting → (steps : ℕ) → Inner → Type 0
 ComesOf c behind w n (Refuted k ns p) = behind (goes_on w (n - k) p (Go w.branch ∷ w.rest))
 ComesOf c behind w n (Held k ns p) = behind (goes_on w (n - k) p w.rest)
-ComesOf c behind w n (Broke k ns e) = c.event ≡ Over e
+ComesOf c behind w n (Broke k ns e) = (c.event ≡ Over e) × (n ≡ k + c.rest)
 ComesOf c behind w n (Lasts k ns) = ⊥
 
 -- what each state that is followed has: what is reached from it is reached from the first one, and it is typed
@@ -51,24 +53,26 @@ AreFewOn c turn = turn ≡ Turn.Ended Deep → (c.enough < 1000000) × ((u : Sta
 
 -- the event is what comes of the search at work, and then of those that wait for it
 abbrev pub Comes : Course → List Waiting → State Task → Type 0
-Comes c [] s = (s.answers ≡ suc c.left) × (s.given ≡ c.given) × Kept c s × Advances (seen_in c) s c.event c.after
+Comes c [] s =
+    (s.answers ≡ suc c.left) × (s.given ≡ c.given) × Kept c s × (d : Advances (seen_in c) s c.event c.after) × (s.steps ≡ steps_until (seen_in c) d.inner_moves d.moves s + c.rest)
 Comes c (w ∷ ws) s = (s.answers ≡ 1) × Kept c s × (j : ℕ) × ComesOf c (Comes c ws) w s.steps (inner (seen_in c) j has_no_pairs s)
 
 -- the outermost search is that of the query; one of a negated goal has no variables to answer for
 abbrev pub IsInQuery : Query → (types vars : ℕ) → List Waiting → Type 0
 IsInQuery q j k [] = (j ≡ q.types) × (k ≡ q.vars)
-IsInQuery q j k (w ∷ ws) = (j ≡ 0) × (k ≡ 0) × IsInQuery q w.types w.vars ws
+IsInQuery q j k (w ∷ ws) = (j ≡ 0) × (k ≡ 0) × (w.limit ≡ q.limit) × IsInQuery q w.types w.vars ws
 
 abbrev pub IsOfQuery : Query → Query → Type 0
-IsOfQuery q qv = (qv.arity ≡ q.arity) × IsInQuery q qv.types qv.vars qv.outer
+IsOfQuery q qv = (qv.arity ≡ q.arity) × (qv.limit ≡ q.limit) × IsInQuery q qv.types qv.vars qv.outer
 
 -- what stands at a turn: the search is in a state of the definition's, or is to go back, and the event comes of it; or it is told. All in the search is written, and the program's clauses stand in it
 abbrev pub Stands : Course → Turn → Machine → Type 0
 Stands c Turn.On m = (qv : Query) × (s : State Task) × IsOfQuery c.query qv × IsState qv m s × Comes c qv.outer s × HasClauses c.program c.query.arity m
 Stands c Turn.Back m = (qv : Query) × (s : State Task) × IsOfQuery c.query qv × IsBack qv m s × Comes c qv.outer s × HasClauses c.program c.query.arity m
 Stands c Turn.Answered m = (qv : Query) × (x : Answer) × IsOfQuery c.query qv × (qv.outer ≡ []) × (c.event ≡ Gave x) × IsAnswer qv m x × IsAnswered qv
-    m c.after × (c.after.answers ≡ c.left) × (c.after.given ≡ suc c.given) × Kept c c.after × HasClauses c.program c.query.arity m
-Stands c (Turn.Ended e) m = AreFewOn c (Turn.Ended e) → c.event ≡ Over e
+    m c.after × (c.after.answers ≡ c.left) × (c.after.given ≡ suc c.given) × IsTypedOver c.query.arity c.enough c.program c.after × HasClauses c.program c.query.arity m ×
+    (m.counts.steps + c.rest ≡ c.query.limit)
+Stands c (Turn.Ended e) m = AreFewOn c (Turn.Ended e) → (c.event ≡ Over e) × (m.counts.steps + c.rest ≡ c.query.limit)
 
 -- the turn behind which something is told
 abbrev pub turn_told : Told → Turn

@@ -14,7 +14,7 @@ use Rattle.lp_standard.specs.Positive.{is_positive, are_positive}
 use Rattle.lp_model.specs.Look.{◌>>=◌}
 use Rattle.lp_model.specs.Eigens.{beta_normal}
 use Rattle.lp_model.specs.Flat.{Goals, no_goals, goals, Atomic, Cut, Either, Exists, Forall, assuming, denied, Clauses, clause, clauses, no_clauses, add_clauses, raise_goals, all_of}
-use Rattle.lp_model.specs.Flatten.{ClauseFormula, only, is_goal_head, is_clause_head, flat_goal, flat_goal_form, flat_list, flat_clause, flat_clause_form, flatten, flatten_query, with_type_vars}
+use Rattle.lp_model.specs.Flatten.{only, is_goal_head, is_clause_head, flat_goal, flat_goal_form, flat_list, flat_clause, flat_clause_form, flatten, flatten_query, with_type_vars}
 use Rattle.lp_lemmas.specs.Each.{EachOf}
 use Rattle.lp_syntax.specs.declared.text.RawTerm.{RawTerm}
 use Rattle.lp_term.specs.Nodes.{Nodes}

@@ -1,5 +1,7 @@
+use Rattle.std.proofs.Common.{arith, subst, sym}
 use Rattle.lp_lemmas.proofs.Results.{passed_up}
 use Rattle.lp_lines.proofs.Placing.{cause_passed}
+use Rattle.lp_normal.specs.Counted.{AssumesFewClauses}
 use Rattle.lp_load.specs.Refused.{IsRefusedFor, of_form, of_typing, unread}
 use Rattle.lp_load.proofs.Refusing.{over_arguments, over_clauses}
 use Rattle.lp_term.proofs.Trees.{extends_same}
@@ -54,3 +56,8 @@ returns-in_err-within_clauses-clause-cause g =
     (asked_later _ _ _ _ _ _ g.in_ok-raw.raw _ g.in_ok-within_form.ensures.kept (extends_same _)
     g.in_ok-raw.ensures.read g.in_ok-within_arguments.ensures.few g.in-Ok.ensures.stands g.in-Ok.ensures.typed g.in_ok-within_form.ensures.short
     g.in_ok-within_form.ensures.variables g.in_ok-within_form.ensures.formed) g.in_err-within_clauses.ensures.cause)
+
+pub returns-clause-few : goal.returns-clause-few
+returns-clause-few g =
+    subst AssumesFewClauses
+    (sym (g.in_ok-within_clauses.ensures.kept.same_terms g.in-Ok.typed.formula.0 (omega (arith, g.in-Ok.ensures.stands.formula, g.in_ok-within_form.ensures.kept.more_terms)))) g.in_ok-within_clauses.ensures.few

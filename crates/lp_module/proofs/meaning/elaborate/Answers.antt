@@ -62,6 +62,7 @@ returns-clause-meaning c =
       header = c.in_ok-check_header.ensures.same;
       name = c.in_ok-name.ensures.items ∙ c.as_bytes.ensures.value;
       names = c.in-Ok.ensures.seen;
+      theirs = c.in-Ok.ensures.theirs;
       uses = c.in_ok-uses.ensures;
       hidden_kinds = c.in_ok-hidden_kinds.ensures ∙ (λ i. range_with_len (8 + length (c.kinds.ensures i)) (length (c.kinds-2.ensures i) - length (c.kinds.ensures i)));
       hidden_constants = c.in_ok-hidden_constants.ensures ∙ (λ i. range_with_len (32 + length (c.constants.ensures i)) (length (c.constants-2.ensures i) - length (c.constants.ensures i)));

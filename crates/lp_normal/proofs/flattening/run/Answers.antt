@@ -1,8 +1,12 @@
-use Rattle.std.proofs.Common.{subst, sym}
+use Rattle.std.proofs.Common.{ap, arith, subst, sym, []}
+use Rattle.lp_lemmas.proofs.Results.{passed_up}
 use Rattle.lp_term.proofs.Trees.{extends_same, extends-trans}
 use Rattle.lp_normal.specs.Within.{IsFrameIn}
 use Rattle.lp_normal.specs.Making.{InnerComesTo}
+use Rattle.lp_normal.specs.Counted.{IsOver}
+use Rattle.lp_normal.specs.inner.Met.{frames_met, move_met, Passes}
 use Rattle.lp_normal.proofs.Bounds.{All-empty}
+use Rattle.lp_normal.proofs.Counts.{over_then}
 use Rattle.lp_normal.proofs.flattening.run.Goals as goal
 
 pub moves-init : goal.moves-init
@@ -11,8 +15,10 @@ moves-init c =
     record {
       kept = extends_same b;
       frames = All-empty (IsFrameIn b) c.new-frames.result.items c.new-frames.ensures.items;
-      inner = c.requires;
+      inner = c.requires.inner;
       comes = λ whole h. subst (λ z. InnerComesTo b c.args.first z whole) (sym c.new-frames.ensures.items) h;
+      met = λ k. omega (arith, c.requires.empty k, ap (frames_met k) c.new-frames.ensures.items);
+      few = omega arith;
     }
 
 pub moves-preserved : goal.moves-preserved
@@ -23,6 +29,8 @@ moves-preserved c =
       frames = e.frames;
       inner = rw c.in-On.is at e.within;
       comes = λ whole h. rw c.in-On.is at (e.comes whole (c.moves.invariant.comes whole h));
+      met = λ b. rw c.in-On.is at (e.met b (c.moves.invariant.met b));
+      few = e.few c.moves.invariant.few;
     }
 
 pub returns-in-Done-clause-kept : goal.returns-in-Done-clause-kept
@@ -33,3 +41,13 @@ returns-in-Done-clause-within c = rw c.in-Done.is at c.in_ok-next.ensures.within
 
 pub returns-in-Done-clause-made : goal.returns-in-Done-clause-made
 returns-in-Done-clause-made c = λ whole h. rw c.in-Done.is at (c.in_ok-next.ensures.comes whole (c.moves.invariant.comes whole h))
+
+pub returns-in-Done-clause-few : goal.returns-in-Done-clause-few
+returns-in-Done-clause-few c = λ b.
+    let e = c.in_ok-next.ensures in
+    omega (arith, e.met b (c.moves.invariant.met b), e.few c.moves.invariant.few, ap (move_met b) c.in-Done.is)
+
+pub returns-in_err-next-clause-over : goal.returns-in_err-next-clause-over
+returns-in_err-next-clause-over c =
+    passed_up c.from_residual.result c.in_err-next.field-0.0 (IsOver (Passes c.args.bank.now c.args.first [] 0)) c.from_residual.ensures.1
+    (over_then c.in_err-next.field-0.0 (λ p whole m h. p whole (c.moves.invariant.met c.moves.bank) (c.moves.invariant.comes whole h)) c.in_err-next.ensures.over)

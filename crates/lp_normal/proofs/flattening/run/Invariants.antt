@@ -1,8 +1,10 @@
-use Rattle.std.proofs.Common.{[]}
+use Rattle.std.proofs.Common.{◌≡◌, ◌+◌, ◌≤◌, []}
 use Rattle.std.specs.Prelude.{All}
-use Rattle.lp_term.specs.Nodes.{Extends}
+use Rattle.lp_base.specs.declared.limits.TheConstants.{MAX_CLAUSES}
+use Rattle.lp_term.specs.Nodes.{Nodes, Extends}
 use Rattle.lp_normal.specs.Within.{IsFrameIn, IsInnerIn}
 use Rattle.lp_normal.specs.Making.{Flat, InnerComesTo}
+use Rattle.lp_normal.specs.inner.Met.{inner_met, frames_met}
 use Rattle.lp_normal.proofs.flattening.run.Given as goal
 
 abbrev pub invariant-moves : goal.invariant-moves
@@ -11,4 +13,6 @@ invariant-moves l = record {
   frames : All (IsFrameIn l.bank) l.frames.items;
   inner : IsInnerIn l.bank l.inner;
   comes : (whole : Flat) → InnerComesTo l.fn.bank l.fn.first [] whole → InnerComesTo l.bank l.inner l.frames.items whole;
+  met : (b : Nodes) → inner_met b l.inner + frames_met b l.frames.items ≡ l.count;
+  few : l.count ≤ MAX_CLAUSES;
 }

@@ -1,10 +1,11 @@
-use Rattle.std.proofs.Common.{◌∙◌, ap, sym, refl}
+use Rattle.std.proofs.Common.{◌∙◌, ap, sym, refl, Some}
 use Rattle.lp_calculus.specs.Term.{shift}
 use Rattle.lp_term.specs.Nodes.{tree}
 use Rattle.lp_standard.specs.Connectives.{connective_of}
 use Rattle.lp_standard.specs.Connectives as connective
 use Rattle.lp_normal.proofs.Steps.{implies_next}
 use Rattle.lp_normal.proofs.Comings.{next_later}
+use Rattle.lp_normal.proofs.Counts.{new_clauses_met}
 use Rattle.lp_normal.proofs.step.assume.Goals as goal
 
 pub returns-clause-comes : goal.returns-clause-comes
@@ -20,3 +21,8 @@ returns-clause-comes c = λ out h.
     (c.in_ok-formula.ensures.tree ∙ ap (λ k. shift 0 k u) c.raise_from-by.ensures)
     (ap connective_of (x.same_terms w.formula.0 c.requires.next.formula) ∙ c.requires.form ∙ ap (connective.Implies u) (sym (x.same_terms c.args.goal.0 c.requires.goal)))
     (next_later b n x l w out c.requires.list c.requires.next h)
+
+pub returns-clause-met : goal.returns-clause-met
+returns-clause-met c = λ b.
+    let e = c.in_ok-inner.ensures in
+    new_clauses_met b c.in_ok-inner.inner (Some (record { outer = c.args.list; goal = record { formula = c.args.goal; level = c.args.next.level } })) e.assumed e.done

@@ -8,6 +8,7 @@ use Rattle.lp_normal.proofs.Bounds.{with_goal, grown_list}
 use Rattle.lp_normal.proofs.Meanings.{atom_is, atom_terms, atom_types}
 use Rattle.lp_normal.proofs.Steps.{with_comes, plain_next}
 use Rattle.lp_normal.proofs.Comings.{comes_later}
+use Rattle.lp_normal.proofs.Counts.{with_met, atom_counts}
 use Rattle.lp_normal.proofs.step.atom.Goals as goal
 
 pub returns-clause-within : goal.returns-clause-within
@@ -27,3 +28,8 @@ returns-clause-comes c = λ out h.
     with_comes n c.args.list c.in_ok-made.made (code.Atom id) (Atomic t) out e.opened e.done e.waiting e.level
     (λ later y. atom_is later id ∙ ap Atomic (y.same_terms id.0 c.in_ok-id.ensures.within ∙ c.in_ok-id.ensures.tree ∙ ap (λ k. shift 0 k (tree b c.args.next.formula.0)) c.raise_from-by.ensures))
     (comes_later b n c.in_ok-id.ensures.kept c.args.list (goals (Atomic t) no_goals) out c.requires.list (plain_next b c.args.list c.args.next out c.requires.form h))
+
+pub returns-clause-met : goal.returns-clause-met
+returns-clause-met c = λ b.
+    let e = c.in_ok-made.ensures in
+    omega (arith, with_met b c.in_ok-made.made c.args.list (code.Atom c.in_ok-id.id) e.opened e.done, atom_counts b c.in_ok-id.id)

@@ -2,6 +2,11 @@ use Rattle.std.proofs.Common.{arith}
 use Rattle.std.specs.Prelude.{option_to_list}
 use Rattle.lp_term.proofs.Moves.{nothing}
 use Rattle.lp_normal.proofs.Turnings.{part_popped_in, part_popped, left_in, left_comes}
+use Rattle.lp_lemmas.proofs.Results.{passed_up}
+use Rattle.lp_normal.specs.Counted.{IsOver}
+use Rattle.lp_normal.specs.inner.Met.{Passes}
+use Rattle.lp_normal.specs.declared.frame.Inner.{Inner}
+use Rattle.lp_normal.proofs.Counts.{over_then}
 use Rattle.lp_normal.proofs.step.clauses_move.Goals as goal
 
 pub next_part-requires-clause-list : goal.next_part-requires-clause-list
@@ -30,3 +35,20 @@ returns-in-Leave-clause-comes c = λ whole h.
           (λ e. let k = rw e at c.pop-link.ensures.cases in nothing c.args.list.around.items (omega (arith, k.0, c.args.list.around.ok))) q h.1,
       h.2,
     )
+
+pub returns-in_default-clause-met : goal.returns-in_default-clause-met
+returns-in_default-clause-met c = λ b h. omega (arith, h, c.in_ok-ended.ensures.met b)
+
+pub returns-in_ok-inner-in-Visit-clause-met : goal.returns-in_ok-inner-in-Visit-clause-met
+returns-in_ok-inner-in-Visit-clause-met c = λ b h. c.in_ok-inner-in-Visit.ensures.met b h
+
+pub returns-in-Leave-clause-met : goal.returns-in-Leave-clause-met
+returns-in-Leave-clause-met c = λ b h. h
+
+pub returns-in_err-inner-in-Visit-clause-over : goal.returns-in_err-inner-in-Visit-clause-over
+returns-in_err-inner-in-Visit-clause-over c =
+    let b = c.args.bank.now in
+    let q = rw c.in-Visit.is at c.in-Some.ensures.items in
+    passed_up c.from_residual-in_err-inner-in-Visit.result c.in_err-inner-in-Visit.field-0.0 (IsOver (Passes b (Inner.Clauses c.args.list) c.args.frames.now.items c.args.count.now))
+    c.from_residual-in_err-inner-in-Visit.ensures.1
+    (over_then c.in_err-inner-in-Visit.field-0.0 (λ p whole m h. p h.0 whole m (part_popped b c.args.list c.pop.new.self c.in-Visit.part h.0 q h.1) h.2) c.in_err-inner-in-Visit.ensures.over)

@@ -1,6 +1,9 @@
-use Rattle.std.proofs.Common.{sym, subst, reverse}
+use Rattle.std.proofs.Common.{sym, subst, reverse, arith, ap}
 use Rattle.lp_normal.specs.Making.{AssumedComesTo, AllTurn}
 use Rattle.lp_normal.proofs.Turnings.{ends_made, clauses_made, assumed_made}
+use Rattle.lp_normal.specs.inner.Met.{assumed_met}
+use Rattle.lp_normal.specs.declared.frame.Frame.{Frame}
+use Rattle.lp_normal.proofs.Counts.{new_met, frames_pushed}
 use Rattle.lp_normal.proofs.step.end_clauses.Goals as goal
 
 pub returns-in-None-clause-comes : goal.returns-in-None-clause-comes
@@ -19,3 +22,16 @@ returns-clause-comes c = λ whole h.
     let q = subst (λ z. AssumedComesTo b z p.0 h.0) c.in-Some.is p.2 in
     let e = c.in_ok-inner-in-Some.ensures in
     assumed_made b c.in-Some.assumed p.0 l.done c.in_ok-inner-in-Some.inner c.args.frames.now.items c.push.new.self.items h.0 whole p.1 q e.opened e.done e.waiting e.level c.in_ok-push-in-Some.ensures.items h.2
+
+pub returns-in-None-clause-met : goal.returns-in-None-clause-met
+returns-in-None-clause-met c = λ b. omega (arith, ap (assumed_met b) c.in-None.is)
+
+pub returns-clause-met : goal.returns-clause-met
+returns-clause-met c = λ b.
+    let e = c.in_ok-inner-in-Some.ensures in
+    omega (
+      arith,
+      ap (assumed_met b) c.in-Some.is,
+      new_met b c.in_ok-inner-in-Some.inner e.opened e.done,
+      frames_pushed b c.push.new.self.items c.args.frames.now.items (Frame.Assume c.in-Some.assumed.outer c.args.list.done) c.in_ok-push-in-Some.ensures.items,
+    )

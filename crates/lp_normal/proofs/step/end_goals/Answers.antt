@@ -1,8 +1,10 @@
-use Rattle.std.proofs.Common.{arith}
+use Rattle.std.proofs.Common.{arith, ap}
 use Rattle.lp_term.proofs.Moves.{nothing}
 use Rattle.lp_normal.specs.Within.{IsFrameIn}
-use Rattle.lp_normal.proofs.Bounds.{All-last}
+use Rattle.lp_normal.proofs.Bounds.{All-last, all_popped}
 use Rattle.lp_normal.proofs.Turnings.{popped_none, goals_made, frame_popped}
+use Rattle.lp_normal.specs.inner.Met.{frames_met}
+use Rattle.lp_normal.proofs.Counts.{frames_pushed}
 use Rattle.lp_normal.proofs.step.end_goals.Goals as goal
 
 pub returns-in_default-clause-comes : goal.returns-in_default-clause-comes
@@ -33,3 +35,10 @@ returns-clause-comes c = λ whole h.
     let p = popped_none b l l.waiting h.0 c.requires.waiting h.1 in
     let f = frame_popped b c.args.frames.now.items c.pop.new.self.items c.in-Some.frame h.0 whole c.in-Some.ensures.items h.2 in
     c.in_ok-inner.ensures.comes b h.0 f.0 whole k.1 (c.in_ok-goals.ensures.closes b p.0 h.0 c.requires.list p.1 p.2) f.1 f.2
+
+pub returns-in_default-clause-met : goal.returns-in_default-clause-met
+returns-in_default-clause-met c = λ b. omega (arith, c.in_ok-goals.ensures.met b, ap (frames_met b) (all_popped c.args.frames.now.items c.pop.new.self.items c.in_default.ensures.items))
+
+pub returns-clause-met : goal.returns-clause-met
+returns-clause-met c = λ b.
+    omega (arith, c.in_ok-goals.ensures.met b, c.in_ok-inner.ensures.met b, frames_pushed b c.args.frames.now.items c.pop.new.self.items c.in-Some.frame c.in-Some.ensures.items)

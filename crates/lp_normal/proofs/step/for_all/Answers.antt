@@ -1,4 +1,4 @@
-use Rattle.std.proofs.Common.{◌∙◌, ap, sym, reverse}
+use Rattle.std.proofs.Common.{◌∙◌, ap, sym, reverse, arith}
 use Rattle.lp_calculus.specs.Term.{shift}
 use Rattle.lp_term.specs.Nodes.{tree}
 use Rattle.lp_standard.specs.Connectives.{body_of, connective_of}
@@ -8,6 +8,8 @@ use Rattle.lp_normal.specs.Making.{these_goals}
 use Rattle.lp_normal.proofs.Bounds.{All-reverse}
 use Rattle.lp_normal.proofs.Steps.{every_next}
 use Rattle.lp_normal.proofs.Comings.{next_later, all_turn_later}
+use Rattle.lp_normal.specs.declared.frame.Frame.{Frame}
+use Rattle.lp_normal.proofs.Counts.{new_met, frames_pushed}
 use Rattle.lp_normal.proofs.step.for_all.Goals as goal
 
 pub returns-clause-comes : goal.returns-clause-comes
@@ -24,3 +26,8 @@ returns-clause-comes c = λ out whole h t.
     (c.in_ok-formula.ensures.tree ∙ ap (λ k. body_of (shift 0 k u)) c.raise_from-by.ensures)
     (ap connective_of (x.same_terms w.formula.0 c.requires.next.formula) ∙ c.requires.form ∙ ap (λ T. connective.ForAll T (body_of u)) (sym (x.same_types c.args.bound.0 c.requires.bound)))
     (next_later b n x l w out c.requires.list c.requires.next h) (all_turn_later b n x (reverse fs) (these_goals out) whole (All-reverse (IsFrameIn b) fs c.requires.frames) t)
+
+pub returns-clause-met : goal.returns-clause-met
+returns-clause-met c = λ b.
+    let e = c.in_ok-inner.ensures in
+    omega (arith, new_met b c.in_ok-inner.inner e.opened e.done, frames_pushed b c.push.new.self.items c.args.frames.now.items (Frame.All c.args.list c.args.bound) c.in_ok-push.ensures.items)

@@ -1,7 +1,15 @@
 use Rattle.lp_normal.proofs.Steps.{not_next}
+use Rattle.std.proofs.Common.{arith}
+use Rattle.lp_normal.specs.declared.frame.Frame.{Frame}
+use Rattle.lp_normal.proofs.Counts.{new_met, frames_pushed}
 use Rattle.lp_normal.proofs.step.negated.Goals as goal
 
 pub returns-clause-comes : goal.returns-clause-comes
 returns-clause-comes c = λ out whole h t.
     let e = c.in_ok-inner.ensures in
     not_next c.args.bank.now c.args.list c.args.next out whole c.in_ok-inner.inner c.args.frames.now.items c.push.new.self.items c.args.on e.opened e.done e.waiting e.level c.in_ok-push.ensures.items c.requires.form h t
+
+pub returns-clause-met : goal.returns-clause-met
+returns-clause-met c = λ b.
+    let e = c.in_ok-inner.ensures in
+    omega (arith, new_met b c.in_ok-inner.inner e.opened e.done, frames_pushed b c.push.new.self.items c.args.frames.now.items (Frame.Not c.args.list) c.in_ok-push.ensures.items)

@@ -1,4 +1,4 @@
-use Rattle.std.proofs.Common.{reverse, arith}
+use Rattle.std.proofs.Common.{reverse, arith, refl}
 use Rattle.lp_model.specs.declared.clause.Goal as code
 use Rattle.lp_model.specs.Flat.{Cut}
 use Rattle.lp_normal.specs.Within.{IsFrameIn}
@@ -7,6 +7,7 @@ use Rattle.lp_normal.proofs.Bounds.{All-reverse, with_goal, join_list}
 use Rattle.lp_normal.proofs.Meanings.{cut_is, cut_terms, cut_types}
 use Rattle.lp_normal.proofs.Steps.{truth_next, cut_next, both_next, with_comes}
 use Rattle.lp_normal.proofs.Comings.{all_turn_later}
+use Rattle.lp_normal.proofs.Counts.{with_met, cut_counts, same_met}
 use Rattle.lp_normal.proofs.step.next_goal.Goals as goal
 
 pub returns-in-True-clause-comes : goal.returns-in-True-clause-comes
@@ -50,3 +51,34 @@ returns-in_ok-made-in-Atomic-clause-comes c = λ out whole h t.
     let b = c.args.bank.now in
     let fs = c.args.frames.now.items in
     (out, c.in_ok-made-in-Atomic.ensures.comes out h, all_turn_later b c.atom.new.bank c.in_ok-made-in-Atomic.ensures.kept (reverse fs) (these_goals out) whole (All-reverse (IsFrameIn b) fs c.requires.frames) t)
+
+pub returns-in-True-clause-met : goal.returns-in-True-clause-met
+returns-in-True-clause-met c = λ b. refl
+
+pub returns-in_ok-made-in-Cut-clause-met : goal.returns-in_ok-made-in-Cut-clause-met
+returns-in_ok-made-in-Cut-clause-met c = λ b.
+    let e = c.in_ok-made-in-Cut.ensures in
+    omega (arith, with_met b c.in_ok-made-in-Cut.made c.args.list code.Cut e.opened e.done, cut_counts b)
+
+pub returns-in_ok-made-in-And-clause-met : goal.returns-in_ok-made-in-And-clause-met
+returns-in_ok-made-in-And-clause-met c = λ b.
+    let e = c.in_ok-made-in-And.ensures in
+    omega (arith, same_met b c.in_ok-made-in-And.made c.args.list e.opened e.done)
+
+pub returns-in_ok-made-in-Or-clause-met : goal.returns-in_ok-made-in-Or-clause-met
+returns-in_ok-made-in-Or-clause-met c = λ b. c.in_ok-made-in-Or.ensures.met b
+
+pub returns-in_ok-made-in-Implies-clause-met : goal.returns-in_ok-made-in-Implies-clause-met
+returns-in_ok-made-in-Implies-clause-met c = λ b. omega (arith, c.in_ok-made-in-Implies.ensures.met b)
+
+pub returns-in_ok-made-in-ForAll-clause-met : goal.returns-in_ok-made-in-ForAll-clause-met
+returns-in_ok-made-in-ForAll-clause-met c = λ b. c.in_ok-made-in-ForAll.ensures.met b
+
+pub returns-in_ok-made-in-Exists-clause-met : goal.returns-in_ok-made-in-Exists-clause-met
+returns-in_ok-made-in-Exists-clause-met c = λ b. omega (arith, c.in_ok-made-in-Exists.ensures.met b)
+
+pub returns-in_ok-made-in-Not-clause-met : goal.returns-in_ok-made-in-Not-clause-met
+returns-in_ok-made-in-Not-clause-met c = λ b. c.in_ok-made-in-Not.ensures.met b
+
+pub returns-in_ok-made-in-Atomic-clause-met : goal.returns-in_ok-made-in-Atomic-clause-met
+returns-in_ok-made-in-Atomic-clause-met c = λ b. omega (arith, c.in_ok-made-in-Atomic.ensures.met b)

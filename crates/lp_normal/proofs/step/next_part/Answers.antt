@@ -1,4 +1,4 @@
-use Rattle.std.proofs.Common.{◌∙◌, ap, sym, reverse, arith}
+use Rattle.std.proofs.Common.{◌∙◌, ap, sym, reverse, arith, ◌≡◌, ◌+◌}
 use Rattle.lp_term.specs.Nodes.{tree}
 use Rattle.lp_standard.specs.Connectives.{body_of, connective_of}
 use Rattle.lp_standard.specs.Connectives as connective
@@ -7,6 +7,11 @@ use Rattle.lp_normal.specs.declared.clauses.Link.{Link}
 use Rattle.lp_normal.proofs.Bounds.{All-reverse, join_parts, enter_part, grown_clause_list}
 use Rattle.lp_normal.proofs.ClauseSteps.{both_parts, guard_comes, variable_comes}
 use Rattle.lp_normal.proofs.Comings.{part_later, all_turn_later}
+use Rattle.lp_lemmas.proofs.Results.{passed_up}
+use Rattle.lp_normal.proofs.Counts.{same_clauses_met, head_passes, over_then}
+use Rattle.lp_normal.specs.inner.Met.{flat_count, clause_list_met, frames_met}
+use Rattle.lp_normal.specs.Counted.{PassesLimit, IsOver}
+use Rattle.lp_normal.specs.Making.{Flat, PartComesTo, AllTurn}
 use Rattle.lp_normal.proofs.step.next_part.Goals as goal
 
 pub returns-in_ok-made-in-And-clause-within : goal.returns-in_ok-made-in-And-clause-within
@@ -58,3 +63,34 @@ returns-in_ok-made-in-ForAll-clause-comes c = λ out whole h t.
 
 pub returns-in_ok-made-in-Atomic-clause-comes : goal.returns-in_ok-made-in-Atomic-clause-comes
 returns-in_ok-made-in-Atomic-clause-comes c = λ out whole h t. c.in_ok-made-in-Atomic.ensures.comes out whole h t
+
+pub returns-in_ok-made-in-And-clause-met : goal.returns-in_ok-made-in-And-clause-met
+returns-in_ok-made-in-And-clause-met c = λ b h.
+    let e = c.in_ok-made-in-And.ensures in
+    omega (arith, h, same_clauses_met b c.in_ok-made-in-And.made c.args.list e.assumed e.done)
+
+pub returns-in_ok-made-in-Implies-clause-met : goal.returns-in_ok-made-in-Implies-clause-met
+returns-in_ok-made-in-Implies-clause-met c = λ b h.
+    let e = c.in_ok-made-in-Implies.ensures in
+    omega (arith, h, same_clauses_met b c.in_ok-made-in-Implies.made c.args.list e.assumed e.done)
+
+pub returns-in_ok-made-in-ForAll-clause-met : goal.returns-in_ok-made-in-ForAll-clause-met
+returns-in_ok-made-in-ForAll-clause-met c = λ b h.
+    let e = c.in_ok-made-in-ForAll.ensures in
+    omega (arith, h, same_clauses_met b c.in_ok-made-in-ForAll.made c.args.list e.assumed e.done)
+
+pub returns-in_ok-made-in-Atomic-clause-met : goal.returns-in_ok-made-in-Atomic-clause-met
+returns-in_ok-made-in-Atomic-clause-met c = λ b h.
+    let e = c.in_ok-made-in-Atomic.ensures in
+    omega (arith, h, e.met b, e.count)
+
+pub returns-in_err-made-in-Atomic-clause-over : goal.returns-in_err-made-in-Atomic-clause-over
+returns-in_err-made-in-Atomic-clause-over c =
+    let b = c.args.bank.now in
+    let l = c.args.list in
+    let t = c.args.part.0 in
+    let fs = c.args.frames.now.items in
+    passed_up c.from_residual-in_err-made-in-Atomic.result c.in_err-made-in-Atomic.field-0.0
+    (IsOver ((out whole : Flat) → clause_list_met b l + frames_met b fs ≡ c.args.count.now → PartComesTo b l t out → AllTurn b (reverse fs) out whole → PassesLimit (flat_count whole)))
+    c.from_residual-in_err-made-in-Atomic.ensures.1
+    (over_then c.in_err-made-in-Atomic.field-0.0 (λ full out whole m h u. omega (arith, full, m, head_passes b l t fs out whole c.in-Atomic.ensures.tree h u)) c.in_err-made-in-Atomic.ensures.over)

@@ -1,3 +1,7 @@
+use Rattle.std.proofs.Common.{arith, ap, sym, subst}
+use Rattle.lp_lemmas.proofs.Results.{passed_up}
+use Rattle.lp_normal.specs.Counted.{IsOver}
+use Rattle.lp_normal.specs.inner.Met.{inner_met, Passes}
 use Rattle.lp_normal.proofs.step.step.Goals as goal
 
 pub goals_move-requires-clause-list : goal.goals_move-requires-clause-list
@@ -11,3 +15,15 @@ returns-in_ok-next-in-Goals-clause-comes c = λ whole h. c.in_ok-next-in-Goals.e
 
 pub returns-in_ok-next-in-Clauses-clause-comes : goal.returns-in_ok-next-in-Clauses-clause-comes
 returns-in_ok-next-in-Clauses-clause-comes c = λ whole h. c.in_ok-next-in-Clauses.ensures.comes whole (rw c.in-Clauses.is at h)
+
+pub returns-in_ok-next-in-Goals-clause-met : goal.returns-in_ok-next-in-Goals-clause-met
+returns-in_ok-next-in-Goals-clause-met c = λ b h. omega (arith, h, ap (inner_met b) c.in-Goals.is, c.in_ok-next-in-Goals.ensures.met b)
+
+pub returns-in_ok-next-in-Clauses-clause-met : goal.returns-in_ok-next-in-Clauses-clause-met
+returns-in_ok-next-in-Clauses-clause-met c = λ b h. c.in_ok-next-in-Clauses.ensures.met b (omega (arith, h, ap (inner_met b) c.in-Clauses.is))
+
+pub returns-in_err-next-in-Clauses-clause-over : goal.returns-in_err-next-in-Clauses-clause-over
+returns-in_err-next-in-Clauses-clause-over c =
+    passed_up c.from_residual-in_err-next-in-Clauses.result c.in_err-next-in-Clauses.field-0.0 (IsOver (Passes c.args.bank.now c.args.inner c.args.frames.now.items c.args.count.now))
+    c.from_residual-in_err-next-in-Clauses.ensures.1
+    (subst (λ z. IsOver (Passes c.args.bank.now z c.args.frames.now.items c.args.count.now) c.in_err-next-in-Clauses.field-0.0) (sym c.in-Clauses.is) c.in_err-next-in-Clauses.ensures.over)

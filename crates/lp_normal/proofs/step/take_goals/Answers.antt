@@ -1,4 +1,4 @@
-use Rattle.std.proofs.Common.{length, arith, refl}
+use Rattle.std.proofs.Common.{length, arith, refl, ap}
 use Rattle.lp_model.specs.declared.clause.Goal as code
 use Rattle.lp_model.specs.declared.clause.Clause.{Clause}
 use Rattle.lp_normal.specs.Within.{IsFrameIn}
@@ -6,6 +6,8 @@ use Rattle.lp_normal.specs.declared.frame.Frame.{Frame}
 use Rattle.lp_normal.proofs.Bounds.{All-pushed, new_list, with_goal, with_clause, types_high}
 use Rattle.lp_normal.proofs.Meanings.{either_terms, either_types, all_terms, all_types, assume_terms, assume_types, not_terms, not_types, clause_terms, clause_types}
 use Rattle.lp_normal.proofs.Turnings.{left_turns, right_turns, all_turns, assume_turns, not_turns, body_turns}
+use Rattle.lp_normal.specs.inner.Met.{frame_met}
+use Rattle.lp_normal.proofs.Counts.{new_met, frames_pushed, with_met, with_clause_met, either_counts, all_counts, assume_counts, not_counts}
 use Rattle.lp_normal.proofs.step.take_goals.Goals as goal
 
 pub returns-in_ok-push-in-Left-clause-frames : goal.returns-in_ok-push-in-Left-clause-frames
@@ -23,7 +25,8 @@ pub returns-in_ok-push-in-Left-clause-comes : goal.returns-in_ok-push-in-Left-cl
 returns-in_ok-push-in-Left-clause-comes c = λ b gs next whole i r u t.
     let v = rw c.in-Left.is at u in
     let e = c.in_ok-inner-in-Left.ensures in
-    left_turns b c.args.frames.now.items c.push.new.self.items c.args.goals.items gs next whole r t c.in-Left.outer c.in_ok-inner-in-Left.inner c.in-Left.right c.args.goals refl c.in_ok-push-in-Left.ensures.items e.opened e.done e.waiting e.level v
+    left_turns b c.args.frames.now.items c.push.new.self.items c.args.goals.items gs next whole r t c.in-Left.outer c.in_ok-inner-in-Left.inner
+    c.in-Left.right c.args.goals refl c.in_ok-push-in-Left.ensures.items e.opened e.done e.waiting e.level v
 
 pub returns-in_ok-made-in-Right-clause-within : goal.returns-in_ok-made-in-Right-clause-within
 returns-in_ok-made-in-Right-clause-within c = λ b i g.
@@ -72,7 +75,8 @@ pub returns-in_ok-made-in-Not-clause-within : goal.returns-in_ok-made-in-Not-cla
 returns-in_ok-made-in-Not-clause-within c = λ b i g.
     let j = rw c.in-Not.is at i in
     let e = c.in_ok-made-in-Not.ensures in
-    with_goal b c.in-Not.outer c.in_ok-made-in-Not.made (code.Not c.args.goals) e.opened e.done e.waiting e.level j (omega (arith, not_terms c.args.goals, g.terms)) (omega (arith, not_types c.args.goals, g.types))
+    with_goal b c.in-Not.outer c.in_ok-made-in-Not.made (code.Not c.args.goals) e.opened e.done e.waiting e.level j
+    (omega (arith, not_terms c.args.goals, g.terms)) (omega (arith, not_types c.args.goals, g.types))
 
 pub returns-in_ok-made-in-Not-clause-comes : goal.returns-in_ok-made-in-Not-clause-comes
 returns-in_ok-made-in-Not-clause-comes c = λ b gs next whole i r u t.
@@ -96,4 +100,53 @@ returns-in_ok-made-in-Body-clause-comes c = λ b gs next whole i r u t.
     let e = c.in_ok-made-in-Body.ensures in
     let fs = c.args.frames.now.items in
     let x : Clause = record { type_vars = c.in-Body.outer.type_vars; vars = c.in-Body.vars; head = c.in-Body.head; body = c.args.goals } in
-    body_turns b fs fs c.args.goals.items gs next whole r t c.in-Body.outer c.in_ok-made-in-Body.made c.in-Body.vars c.in-Body.head c.args.goals x refl refl refl j.1 j.2 e.type_vars e.assumed e.done e.waiting e.around v
+    body_turns b fs fs c.args.goals.items gs next whole r t c.in-Body.outer c.in_ok-made-in-Body.made c.in-Body.vars c.in-Body.head c.args.goals x
+    refl refl refl j.1 j.2 e.type_vars e.assumed e.done e.waiting e.around v
+
+pub returns-in_ok-push-in-Left-clause-met : goal.returns-in_ok-push-in-Left-clause-met
+returns-in_ok-push-in-Left-clause-met c = λ b.
+    let e = c.in_ok-inner-in-Left.ensures in
+    omega (
+      arith,
+      ap (frame_met b) c.in-Left.is,
+      new_met b c.in_ok-inner-in-Left.inner e.opened e.done,
+      frames_pushed b c.push.new.self.items c.args.frames.now.items (Frame.Right c.in-Left.outer c.args.goals) c.in_ok-push-in-Left.ensures.items,
+    )
+
+pub returns-in_ok-made-in-Right-clause-met : goal.returns-in_ok-made-in-Right-clause-met
+returns-in_ok-made-in-Right-clause-met c = λ b.
+    let e = c.in_ok-made-in-Right.ensures in
+    omega (
+      arith,
+      ap (frame_met b) c.in-Right.is,
+      with_met b c.in_ok-made-in-Right.made c.in-Right.outer (code.Either c.in-Right.left c.args.goals)
+          e.opened e.done,
+      either_counts b c.in-Right.left c.args.goals,
+    )
+
+pub returns-in_ok-made-in-All-clause-met : goal.returns-in_ok-made-in-All-clause-met
+returns-in_ok-made-in-All-clause-met c = λ b.
+    let e = c.in_ok-made-in-All.ensures in
+    omega (arith, ap (frame_met b) c.in-All.is, with_met b c.in_ok-made-in-All.made c.in-All.outer (code.All c.in-All.bound c.args.goals) e.opened e.done, all_counts b c.in-All.bound c.args.goals)
+
+pub returns-in_ok-made-in-Assume-clause-met : goal.returns-in_ok-made-in-Assume-clause-met
+returns-in_ok-made-in-Assume-clause-met c = λ b.
+    let e = c.in_ok-made-in-Assume.ensures in
+    omega (
+      arith,
+      ap (frame_met b) c.in-Assume.is,
+      with_met b c.in_ok-made-in-Assume.made c.in-Assume.outer
+          (code.Assume c.in-Assume.clauses c.args.goals) e.opened e.done,
+      assume_counts b c.in-Assume.clauses c.args.goals,
+    )
+
+pub returns-in_ok-made-in-Not-clause-met : goal.returns-in_ok-made-in-Not-clause-met
+returns-in_ok-made-in-Not-clause-met c = λ b.
+    let e = c.in_ok-made-in-Not.ensures in
+    omega (arith, ap (frame_met b) c.in-Not.is, with_met b c.in_ok-made-in-Not.made c.in-Not.outer (code.Not c.args.goals) e.opened e.done, not_counts b c.args.goals)
+
+pub returns-in_ok-made-in-Body-clause-met : goal.returns-in_ok-made-in-Body-clause-met
+returns-in_ok-made-in-Body-clause-met c = λ b.
+    let e = c.in_ok-made-in-Body.ensures in
+    let x : Clause = record { type_vars = c.in-Body.outer.type_vars; vars = c.in-Body.vars; head = c.in-Body.head; body = c.args.goals } in
+    omega (arith, ap (frame_met b) c.in-Body.is, with_clause_met b c.in_ok-made-in-Body.made c.in-Body.outer x e.assumed e.done)

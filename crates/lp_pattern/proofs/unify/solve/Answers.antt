@@ -7,6 +7,7 @@ use Rattle.lp_model.specs.Answers.{Variable}
 use Rattle.lp_model.specs.Unify.{Unified, Solution, solve}
 use Rattle.lp_unify_laws.specs.Solutions.{IsTypedInput, IsSolution as SolvesInput}
 use Rattle.lp_pattern.specs.declared.fault.PatternRefusal.TheVariants.{Fails}
+use Rattle.lp_pattern.specs.declared.fault.PatternRefusal.TheVariants as PatternRefusal
 use Rattle.lp_pattern.proofs.SolutionsFound.{right_found, none_found}
 use Rattle.lp_pattern.specs.Reading.{type_pairs_of}
 use Rattle.lp_pattern.specs.Turning.{AreKnownPairs}
@@ -67,3 +68,19 @@ returns-in_err-residual-clause-typed_refused c =
     (λ d V t lv k m. typed_comes d V c.args.limit c.args.bank.now c.args.types.now c.args.pairs.now c.args.delayed.now c.args.next.now t (IsRefusedAs c.in_err-residual.field-0.0)
     (λ n u h. c.in_err-residual.ensures.refused unbound (unbound_reading c.args.bank.now c.new-bindings.result c.args.next.now c.new-bindings.ensures.terms c.new-bindings.ensures.types) lv (pairs_at c.args.bank.now c.args.pairs.now) (pairs_at c.args.bank.now c.args.delayed.now)
     (pairs_unbound c.args.bank.now c.args.pairs.now) (pairs_unbound c.args.bank.now c.args.delayed.now) k m n u h))
+
+pub returns-in_err-term_entries-clause-typed_refused : goal.returns-in_err-term_entries-clause-typed_refused
+returns-in_err-term_entries-clause-typed_refused c =
+    passed_up c.from_residual-in_err-term_entries.result PatternRefusal.Memory
+    (λ e. (d : Declared) (V : List Variable) → IsTypedRun d V c.args.bank.now c.args.types.now c.args.pairs.now c.args.delayed.now c.args.next.now → (levels : ℕ → ℕ) → AreKnownPairs levels c.args.next.now (pairs_at c.args.bank.now c.args.pairs.now) →
+    AreKnownPairs levels c.args.next.now (pairs_at c.args.bank.now c.args.delayed.now) → ComesToOutcome c.args.limit c.args.bank.now c.args.types.now c.args.pairs.now c.args.delayed.now c.args.next.now (IsRefusedAs e))
+    c.from_residual-in_err-term_entries.ensures.1
+    (λ d V t lv k m. typed_comes d V c.args.limit c.args.bank.now c.args.types.now c.args.pairs.now c.args.delayed.now c.args.next.now t (IsRefusedAs PatternRefusal.Memory) (λ n u h. tt))
+
+pub returns-in_err-type_entries-clause-typed_refused : goal.returns-in_err-type_entries-clause-typed_refused
+returns-in_err-type_entries-clause-typed_refused c =
+    passed_up c.from_residual-in_err-type_entries.result PatternRefusal.Memory
+    (λ e. (d : Declared) (V : List Variable) → IsTypedRun d V c.args.bank.now c.args.types.now c.args.pairs.now c.args.delayed.now c.args.next.now → (levels : ℕ → ℕ) → AreKnownPairs levels c.args.next.now (pairs_at c.args.bank.now c.args.pairs.now) →
+    AreKnownPairs levels c.args.next.now (pairs_at c.args.bank.now c.args.delayed.now) → ComesToOutcome c.args.limit c.args.bank.now c.args.types.now c.args.pairs.now c.args.delayed.now c.args.next.now (IsRefusedAs e))
+    c.from_residual-in_err-type_entries.ensures.1
+    (λ d V t lv k m. typed_comes d V c.args.limit c.args.bank.now c.args.types.now c.args.pairs.now c.args.delayed.now c.args.next.now t (IsRefusedAs PatternRefusal.Memory) (λ n u h. tt))

@@ -1,4 +1,4 @@
-use Rattle.std.proofs.Common.{length, refl, subst, sym}
+use Rattle.std.proofs.Common.{ap, length, refl, subst, sym}
 use Rattle.lp_term.specs.Nodes.{tree}
 use Rattle.lp_model.specs.declared.ending.Ending.TheVariants.{Flexible, Steps}
 use Rattle.lp_plain.specs.declared.outcome.Turn.{Turn}
@@ -24,7 +24,7 @@ returns-then-not-take_step-clause-leads g c = λ qv a raw s h at i sf inside css
     let m = c.args.machine.now in
     let e = c.if-not-take_step.ensures.spent refl in
     over_one qv (Turn.Ended Steps) c.take_step.new.machine s (λ w ea go enough few P ty. spent_leads qv m a raw s h c.args.place c.args.goal
-    c.args.behind at enough P c.take_step.new.machine w ea go c.args.form i e.1)
+    c.args.behind at enough P c.take_step.new.machine w ea go c.args.form i e.1 (ap (λ z. z.counts.steps) e.0))
     tt (all_clauses css)
 
 pub returns-in_ok-unified-in-Equal-clause-leads : goal.returns-in_ok-unified-in-Equal-clause-leads
@@ -60,7 +60,7 @@ returns-in_ok-turn-in-Is-clause-leads g c = λ qv a raw s h at i sf inside css p
     let e = c.in_ok-turn-in-Is.ensures in
     over_next qv turn n s (all_clauses css) (written_behind turn n qv.arity (bound_written b n e.bound (step_stands m b o ks st) qv.arity wb))
     (is_turn qv m b a raw s h c.args.place c.args.goal o at ks t.choices (t.counts refl) (t.there refl) t.goals.known.bank n
-    turn c.in-Is.left c.in-Is.right (subst (IsAtomForm m.bank (tree m.bank c.args.goal.0)) c.in-Is.is i) (subst (StandsForm (length m.bank.terms)) c.in-Is.is sf) e.assigns (all_clauses css))
+    turn c.in-Is.left c.in-Is.right (subst (IsAtomForm m.bank (tree m.bank c.args.goal.0)) c.in-Is.is i) (subst (StandsForm (length m.bank.terms)) c.in-Is.is sf) e.assigns (e.bound.counts) (all_clauses css))
 
 pub returns-in_ok-turn-in-Order-clause-leads : goal.returns-in_ok-turn-in-Order-clause-leads
 returns-in_ok-turn-in-Order-clause-leads g c = λ qv a raw s h at i sf inside css pr sw.
@@ -78,7 +78,7 @@ returns-in_ok-turn-in-Order-clause-leads g c = λ qv a raw s h at i sf inside cs
     over_next qv turn n s (all_clauses css) (written_behind turn n qv.arity (bound_written b n (only_bound b n e.only) (step_stands m b o ks st) qv.arity wb))
     (order_turn qv m b a raw s h c.args.place c.args.goal o at ks t.choices (t.counts refl) (t.there refl) t.goals.known.bank n
     turn c.in-Order.order c.in-Order.left c.in-Order.right (subst (IsAtomForm m.bank (tree m.bank c.args.goal.0)) c.in-Order.is i)
-    (subst (StandsForm (length m.bank.terms)) c.in-Order.is sf) e.compares (all_clauses css))
+    (subst (StandsForm (length m.bank.terms)) c.in-Order.is sf) e.compares (ap (λ z. z.counts) e.only.same) (all_clauses css))
 
 pub returns-in_ok-turn-in-Call-clause-leads : goal.returns-in_ok-turn-in-Call-clause-leads
 returns-in_ok-turn-in-Call-clause-leads g c = λ qv a raw s h at i sf inside.

@@ -69,7 +69,9 @@ returns-clause-moved g c = λ qv.
     cut_moved qv m _ c.args.place c.args.behind keeps (returns-clause-cuts g c) (s.there refl)
 
 pub returns-then-not-take_step-clause-moved : goal.returns-then-not-take_step-clause-moved
-returns-then-not-take_step-clause-moved g c = λ qv. cut_stops qv c.args.machine.now c.args.machine.now c.args.place c.args.behind (c.if-not-take_step.ensures.spent refl).1
+returns-then-not-take_step-clause-moved g c = λ qv.
+    cut_stops qv c.args.machine.now c.take_step.new.machine c.args.place c.args.behind (c.if-not-take_step.ensures.spent refl).1
+    (ap (λ z. z.counts.steps) (c.if-not-take_step.ensures.spent refl).0)
 
 pub returns-clause-written : goal.returns-clause-written
 returns-clause-written g c = λ ar i w.

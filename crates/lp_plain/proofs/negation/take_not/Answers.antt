@@ -85,7 +85,8 @@ returns-in_ok-begin-in-Closed-clause-program g c =
 
 pub returns-then-not-take_step-clause-denies : goal.returns-then-not-take_step-clause-denies
 returns-then-not-take_step-clause-denies g c = λ qv a raw s h at.
-    ends_at_steps qv c.args.machine.now a raw s h c.args.place c.args.goals c.args.free c.args.behind at c.args.machine.now (c.if-not-take_step.ensures.spent refl).1
+    ends_at_steps qv c.args.machine.now a raw s h c.args.place c.args.goals c.args.free c.args.behind at c.take_step.new.machine
+    (ap (λ z. z.counts.steps) (c.if-not-take_step.ensures.spent refl).0) (c.if-not-take_step.ensures.spent refl).1
 
 pub returns-in-Deep-clause-denies : goal.returns-in-Deep-clause-denies
 returns-in-Deep-clause-denies g c = λ qv a raw s h at.
@@ -96,7 +97,7 @@ returns-in-Deep-clause-denies g c = λ qv a raw s h at.
 pub returns-in-Open-clause-denies : goal.returns-in-Open-clause-denies
 returns-in-Open-clause-denies g c = λ qv a raw s h at.
     let goals : Standing = record { free = c.args.free; values = c.args.place.values; older = c.args.place.standing } in
-    ends_open qv c.args.machine.now a raw s h c.args.place c.args.goals c.args.free c.args.behind at (c.take_step.ensures.there c.if-not-take_step.false) c.openness_at.new.machine
+    ends_open qv c.args.machine.now a raw s h c.args.place c.args.goals c.args.free c.args.behind at (c.take_step.ensures.there c.if-not-take_step.false) c.openness_at.new.machine (ap (λ z. z.steps) c.openness_at.ensures.counts ∙ ap (λ z. z.steps) (c.take_step.ensures.counts c.if-not-take_step.false))
     (found_before c.args.machine.now c.take_step.new.machine goals Open c.take_step.ensures.known (subst (AreFound c.take_step.new.machine goals) c.in-Open.is c.in_ok-openness_at.ensures.found))
 
 pub returns-in_ok-begin-in-Closed-clause-denies : goal.returns-in_ok-begin-in-Closed-clause-denies

@@ -135,10 +135,10 @@ pub returns-in-Denied-clause-moved : goal.returns-in-Denied-clause-moved
 returns-in-Denied-clause-moved c = λ qv e s h. let y = c.in_ok-untried.ensures.none e in absurd (cc)
 
 pub returns-then-machine-clause-moved : goal.returns-then-machine-clause-moved
-returns-then-machine-clause-moved c = λ qv e s h. none_moved qv c.args.machine.now c.args.machine.now s true e (sym c.in_ok-untried.ensures.lost ∙ c.if-machine.true) h
+returns-then-machine-clause-moved c = λ qv e s h. none_moved qv c.args.machine.now c.take_choice.new.self s true e (sym c.in_ok-untried.ensures.lost ∙ c.if-machine.true) c.in_ok-untried.ensures.steps h
 
 pub returns-in_default-clause-moved : goal.returns-in_default-clause-moved
-returns-in_default-clause-moved c = λ qv e s h. none_moved qv c.args.machine.now c.args.machine.now s false e (sym c.in_ok-untried.ensures.lost ∙ c.if-machine.false) h
+returns-in_default-clause-moved c = λ qv e s h. none_moved qv c.args.machine.now c.take_choice.new.self s false e (sym c.in_ok-untried.ensures.lost ∙ c.if-machine.false) c.in_ok-untried.ensures.steps h
 
 pub returns-in_ok-turn-in-Clauses-clause-leads : goal.returns-in_ok-turn-in-Clauses-clause-leads
 returns-in_ok-turn-in-Clauses-clause-leads c = λ k rest call one e u l qv s h w.
@@ -204,7 +204,7 @@ returns-then-machine-clause-stands c = λ k h.
     let qv = h.0 in
     let s = h.1 in
     elim (last_of m.choices.items) [
-      | has_none e ↦ moved_stands k qv m h.2 (Turn.Ended NoMoreCut) (λ y. absurd y) s
+      | has_none e ↦ moved_stands k qv c.take_choice.new.self h.2 (Turn.Ended NoMoreCut) (λ y. absurd y) s
           (alone_turn qv.outer (Turn.Ended NoMoreCut) (back_alone qv m s h.3 e)) (returns-then-machine-clause-moved c qv e s h.3) h.4
       | has_last ys y e ↦ absurd (let z = (c.in_ok-untried.ensures.taken y ys e).0 in let w = c.in_default.is in cc)
     ]
@@ -215,7 +215,7 @@ returns-in_default-clause-stands c = λ k h.
     let qv = h.0 in
     let s = h.1 in
     elim (last_of m.choices.items) [
-      | has_none e ↦ moved_stands k qv m h.2 (Turn.Ended NoMore) (λ y. absurd y) s (alone_turn qv.outer (Turn.Ended NoMore) (back_alone qv m s h.3 e))
+      | has_none e ↦ moved_stands k qv c.take_choice.new.self h.2 (Turn.Ended NoMore) (λ y. absurd y) s (alone_turn qv.outer (Turn.Ended NoMore) (back_alone qv m s h.3 e))
           (returns-in_default-clause-moved c qv e s h.3) h.4
       | has_last ys y e ↦ absurd (let z = (c.in_ok-untried.ensures.taken y ys e).0 in let w = c.in_default.is in cc)
     ]
@@ -280,7 +280,7 @@ returns-in-Denied-clause-refuted c = λ k rest d e u qv s h.
     let t = c.in_ok-untried.ensures.taken k rest e in
     let v : k.untried ≡ Untried.Denied c.in-Denied.denial = (let z = t.0 in let y = c.in-Denied.is in let x = c.in-Some.is in cc) in
     let r = c.end_denial.ensures in
-    by_end qv m s h k rest e c.take_choice.new.self t.1 c.end_denial.new.machine c.in-Denied.denial v r.only c.end_denial.result
+    by_end qv m s h k rest e c.take_choice.new.self t.1 c.end_denial.new.machine c.in-Denied.denial (r.steps ∙ ap (λ z. z.steps) t.1.counts) v r.only c.end_denial.result
     c.take_choice.new.self.counts.lost refl (ap (λ z. z.lost) (sym t.1.counts)) r.cut r.holds
 
 pub returns-in-Denied-clause-stands : goal.returns-in-Denied-clause-stands

@@ -72,7 +72,7 @@ pub returns-in_ok-turn-in_default-clause-moved : goal.returns-in_ok-turn-in_defa
 returns-in_ok-turn-in_default-clause-moved g c = λ qv a raw s h at pf.
     let e = c.in_ok-turn-in_default.ensures in
     let n = c.put_parts.new.machine in
-    part_moves qv c.args.machine.now n c.args.place c.args.goal c.args.behind c.in_ok-turn-in_default.turn e.taken e.none e.aside_with c.in_default.not-Cut a raw s h at pf n.counts e.counted
+    part_moves qv c.args.machine.now n c.args.place c.args.goal c.args.behind c.in_ok-turn-in_default.turn e.taken e.none e.aside_with c.in_default.not-Cut a raw s h at pf e.counted
 
 pub returns-in_ok-turn-in-Atom-clause-written : goal.returns-in_ok-turn-in-Atom-clause-written
 returns-in_ok-turn-in-Atom-clause-written g c = λ e h. absurd (subst IsApartFlat c.in-Atom.is h)

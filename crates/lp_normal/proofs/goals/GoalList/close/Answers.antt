@@ -1,11 +1,13 @@
-use Rattle.std.proofs.Common.{◌≡◌, ap, subst, length, reverse, arith, [], ◌∙◌}
+use Rattle.std.proofs.Common.{◌≡◌, refl, ap, subst, length, reverse, arith, [], ◌∙◌}
 use Rattle.lp_term.proofs.Moves.{nothing}
 use Rattle.lp_normal.specs.Making.{Closes}
 use Rattle.lp_normal.proofs.Scopes.{length_push, sigma_within, sigma_closes}
+use Rattle.lp_normal.proofs.Counts.{sigma_met}
+use Rattle.lp_normal.specs.inner.Met.{opened_met}
 use Rattle.lp_normal.proofs.goals.GoalList.close.Goals as goal
 
 pub sigmas-init : goal.sigmas-init
-sigmas-init c = record { within = λ b i. (i.opened, i.done); closes = λ b gs out i r k. (gs, r, k) }
+sigmas-init c = record { within = λ b i. (i.opened, i.done); closes = λ b gs out i r k. (gs, r, k); met = λ b. refl }
 
 pub sigmas-smaller : goal.sigmas-smaller
 sigmas-smaller c =
@@ -21,6 +23,12 @@ sigmas-preserved c = record {
       let k = c.sigmas.invariant.within b i in
       let h = c.sigmas.invariant.closes b gs out i r q in
       sigma_closes b c.sigmas.opened.items c.pop.new.self.items c.in-Some.outer c.sigmas.goals c.push.new.self c.in-Some.ensures.items c.in_ok-push.ensures.items h.0 out k.0 h.1 h.2;
+  met = λ b. omega (
+    arith,
+    c.sigmas.invariant.met b,
+    sigma_met b c.sigmas.opened.items c.pop.new.self.items c.in-Some.outer c.sigmas.goals
+        c.push.new.self c.in-Some.ensures.items c.in_ok-push.ensures.items,
+  );
 }
 
 pub returns-clause-within : goal.returns-clause-within
@@ -31,3 +39,8 @@ returns-clause-closes c = λ b gs out i r q later x.
     let h = c.sigmas.invariant.closes b gs out i r q in
     let e : c.sigmas.opened.items ≡ [] = nothing c.sigmas.opened.items (omega (arith, c.in_default.ensures.cases.0, c.sigmas.opened.ok)) in
     h.1 later x ∙ subst (λ z. Closes b (reverse z) h.0 out) e h.2
+
+pub returns-clause-met : goal.returns-clause-met
+returns-clause-met c = λ b.
+    let e : c.sigmas.opened.items ≡ [] = nothing c.sigmas.opened.items (omega (arith, c.in_default.ensures.cases.0, c.sigmas.opened.ok)) in
+    omega (arith, c.sigmas.invariant.met b, ap (opened_met b) e)

@@ -38,3 +38,6 @@ returns-clause-lost c = ap (λ z. z.lost) c.in_ok-restore.ensures.counts
 
 pub returns-clause-trying : goal.returns-clause-trying
 returns-clause-trying c = λ qv k rest call one e u l s h. call_state qv c.args.self.now _ k rest call one e u l (returns-clause-taken c k rest e).1 s h
+
+pub returns-clause-steps : goal.returns-clause-steps
+returns-clause-steps c = ap (λ z. z.steps) c.in_ok-restore.ensures.counts

@@ -1,18 +1,34 @@
 use Rattle.std.proofs.Common.{◌<◌, ◌≡◌, ◌∙◌, ap, arith, length, subst, sym}
 use Rattle.lp_term.specs.Nodes.{Extends}
 use Rattle.lp_plain.specs.HeadLooks.{with_bank}
-use Rattle.lp_plain.specs.Held.{ended}
+use Rattle.lp_plain.specs.Held.{ended, steps_of}
 use Rattle.lp_plain.specs.Moving.{IsAnswer}
 use Rattle.lp_plain.specs.inner.Between.{rested}
 use Rattle.lp_plain.specs.inner.Following.{Stands, turn_told}
-use Rattle.lp_plain.proofs.Between.{answer_between, answer_rested, answer_told, over_is, same_count}
+use Rattle.lp_plain.proofs.Between.{answer_between, answer_rested, answer_told, over_counted, over_is, same_count}
 use Rattle.lp_plain.proofs.search.Search.go_on.Goals as goal
 
 pub returns-in-Ended-clause-search : goal.returns-in-Ended-clause-search
 unfolding ended
 returns-in-Ended-clause-search g c = λ k it st en.
-    over_is k c.args.self.now c.end.new.self c.end.result c.in-Ended.ending c.end.ensures.is c.end.ensures.now it
+    over_is k c.run.new.machine c.args.self.now c.end.new.self c.end.result c.in-Ended.ending c.end.ensures.is c.end.ensures.now it
     (subst (λ z. Stands k (turn_told z) c.run.new.machine) c.in-Ended.is (c.in_ok-found.ensures.stands k st)) en
+
+pub returns-in-Ended-clause-steps : goal.returns-in-Ended-clause-steps
+unfolding steps_of
+returns-in-Ended-clause-steps g c = λ k it st en.
+    let a = over_counted k c.run.new.machine c.end.result c.in-Ended.ending c.end.ensures.is (subst (λ z. Stands k (turn_told z) c.run.new.machine) c.in-Ended.is (c.in_ok-found.ensures.stands k st)) en in
+    let b = c.end.ensures.steps in
+    omega (arith, a, b)
+
+pub returns-in_ok-answer-in-Answered-clause-steps : goal.returns-in_ok-answer-in-Answered-clause-steps
+unfolding steps_of
+returns-in_ok-answer-in-Answered-clause-steps g c = λ k it st en.
+    let stands = subst (λ z. Stands k (turn_told z) c.run.new.machine) c.in-Answered.is (c.in_ok-found.ensures.stands k st) in
+    let note = ap (λ z. z.counts.steps) c.in_ok-tell_answer-in-Answered.ensures.rests.machine in
+    let made = ap (λ z. z.counts.steps) c.in_ok-answer-in-Answered.ensures.only.same in
+    let a = stands.11 in
+    omega (arith, a, note, made)
 
 pub returns-in_ok-answer-in-Answered-clause-search : goal.returns-in_ok-answer-in-Answered-clause-search
 returns-in_ok-answer-in-Answered-clause-search g c = λ k it st en.

@@ -1,5 +1,5 @@
-use Rattle.std.proofs.Common.{refl, true, false}
-use Rattle.lp_plain.specs.Held.{ended}
+use Rattle.std.proofs.Common.{Some, None, ◌≡◌, ◌∙◌, sym, refl, true, false}
+use Rattle.lp_plain.specs.Held.{ended, steps_of}
 use Rattle.lp_plain.proofs.Between.{failed_between, is_over_still, over_told}
 use Rattle.lp_plain.proofs.search.Search.next.Goals as goal
 
@@ -14,3 +14,11 @@ unfolding ended
 returns-clause-search g c = λ P n s h en x t d.
     let r = c.in_ok-event.ensures.search c.in_default.is P n s (failed_between P n c.args.self.now true s h) en x t d in
     (r.0, failed_between P n c.advance.new.self false t r.1)
+
+pub returns-in-Some-clause-steps : goal.returns-in-Some-clause-steps
+unfolding ended
+returns-in-Some-clause-steps g c = λ none P n s h en x t d. absurd (let z : Some c.in-Some.ending ≡ None = sym c.in-Some.is ∙ none in cc)
+
+pub returns-clause-steps : goal.returns-clause-steps
+unfolding ended steps_of
+returns-clause-steps g c = λ none P n s h en x t d. c.in_ok-event.ensures.steps c.in_default.is P n s (failed_between P n c.args.self.now true s h) en x t d

@@ -1,0 +1,2 @@
+-- What only the making of lists keeps.
+pub mod Met
