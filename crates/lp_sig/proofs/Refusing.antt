@@ -59,7 +59,8 @@ any_more keys k n = by (list_any (λ x. bytes_eq k.items x.items) keys) refl
     there false s e false f = refl
     there true s e false f = absurd (true≢false (sym e ∙ ap (λ m. list_any (λ x. bytes_eq m x.items) keys) (sym ((bytes_eq-Decides n k.items).0 s)) ∙ f))
 
-    by : (t : Bool) → list_any (λ x. bytes_eq k.items x.items) keys ≡ t → list_any (λ x. bytes_eq n x.items) (if t then keys else keys ++ k ∷ []) ≡ (list_any (λ x. bytes_eq n x.items) keys || (bytes_eq n k.items || false))
+    by : (t : Bool) → list_any (λ x. bytes_eq k.items x.items) keys ≡ t → list_any (λ x. bytes_eq n x.items) (if t then keys else keys ++ k ∷ []) ≡
+        (list_any (λ x. bytes_eq n x.items) keys || (bytes_eq n k.items || false))
     by true e = there (bytes_eq n k.items) refl e (list_any (λ x. bytes_eq n x.items) keys) refl
     by false e = any_last (λ x. bytes_eq n x.items) keys k
 
@@ -122,7 +123,8 @@ module _ (own : Signature) (w : List ℕ) where
     pub kind_kept : is_some (found w (standard_kinds ++ map kind_row own.kinds.items)) ≡ true → true ≡ exports_kind own w
     kind_kept e = ap (λ t. t || is_among w (names_in (map abbreviation_said own.abbreviations.items))) (sym e ∙ own_kind) ∙ sym among_said ∙ other_kind
 
-    pub abbreviation_kept : (b : Bool) → is_some (found w (standard_kinds ++ map kind_row own.kinds.items)) ≡ false → b ≡ is_among w (names_in (map abbreviation_said own.abbreviations.items)) → b ≡ exports_kind own w
+    pub abbreviation_kept : (b : Bool) → is_some (found w (standard_kinds ++ map kind_row own.kinds.items)) ≡ false → b ≡ is_among w
+        (names_in (map abbreviation_said own.abbreviations.items)) → b ≡ exports_kind own w
     abbreviation_kept b e is = is ∙ ap (λ t. t || is_among w (names_in (map abbreviation_said own.abbreviations.items))) (sym e ∙ own_kind) ∙ sym among_said ∙ other_kind
 
   pub standard_constant_kept : is_some (found w standard_constants) ≡ true → false ≡ exports_constant own w
@@ -132,7 +134,8 @@ module _ (own : Signature) (w : List ℕ) where
   found_constant [] = refl
   found_constant (e ∷ es) = by (bytes_eq w e.name.items) (found_constant es)
     where
-      by : (t : Bool) → is_some (find (λ e. bytes_eq w e.name.items) es) ≡ is_among w (map (λ e. e.name.items) es) → is_some (if t then Some e else find (λ e. bytes_eq w e.name.items) es) ≡ (t || is_among w (map (λ e. e.name.items) es))
+      by : (t : Bool) → is_some (find (λ e. bytes_eq w e.name.items) es) ≡ is_among w (map (λ e. e.name.items) es) → is_some
+          (if t then Some e else find (λ e. bytes_eq w e.name.items) es) ≡ (t || is_among w (map (λ e. e.name.items) es))
       by true h = refl
       by false h = h
 
@@ -140,10 +143,12 @@ module _ (own : Signature) (w : List ℕ) where
   constant_kept b new is = is ∙ found_constant own.constants.items ∙ ap (λ t. if t then false else is_among w (constants_of own)) (sym (sym (found_among w standard_constants) ∙ new))
 
 -- the first of names that is refused
-pub first_of : (P : Spot → ModuleSigFault → Type 0) (Q : Spot → Type 0) (names : List Spot) (i : ℕ) (d : Spot) (e : ModuleSigFault) → i < length names → All Q (take i names) → P (get_or names i d) e → IsFirstOf P Q names e
+pub first_of : (P : Spot → ModuleSigFault → Type 0) (Q : Spot → Type 0) (names : List Spot) (i : ℕ) (d : Spot) (e : ModuleSigFault) → i < length names
+    → All Q (take i names) → P (get_or names i d) e → IsFirstOf P Q names e
 first_of P Q names i d e h before this = record { k = i; name = get_or names i d; inside = h; at_name = get_or_default names i (get_or names i d) d h; refused = this; before = before }
 
-pub first_or : (P : Spot → ModuleSigFault → Type 0) (Q : Spot → Type 0) (names : List Spot) (i : ℕ) (d : Spot) (e m : ModuleSigFault) → i < length names → All Q (take i names) → (e ≡ m) ⊎ P (get_or names i d) e → (e ≡ m) ⊎ IsFirstOf P Q names e
+pub first_or : (P : Spot → ModuleSigFault → Type 0) (Q : Spot → Type 0) (names : List Spot) (i : ℕ) (d : Spot) (e m : ModuleSigFault) → i < length
+    names → All Q (take i names) → (e ≡ m) ⊎ P (get_or names i d) e → (e ≡ m) ⊎ IsFirstOf P Q names e
 first_or P Q names i d e m h before (inl is) = inl is
 first_or P Q names i d e m h before (inr this) = inr (first_of P Q names i d e h before this)
 
@@ -161,12 +166,14 @@ new_or names i d e m h (inr f) = inr (new_among names i d e h f)
 
 pub word_or : (names : List Spot) (i : ℕ) (d : Spot) (e m : ModuleSigFault) → i < length names → (e ≡ m) ⊎ IsWordFault (get_or names i d ∷ []) e → (e ≡ m) ⊎ IsWordFault names e
 word_or names i d e m h (inl is) = inl is
-word_or names i d e m h (inr (otherwise s c is)) = inr (otherwise (get_or names i d) (Contains-get_or names i d h) (is ∙ ap (λ s. wrong.Sig (fault.Differ s)) (sym (Contains_single (get_or names i d) s c))))
+word_or names i d e m h (inr (otherwise s c is)) = inr (otherwise (get_or names i d) (Contains-get_or names i d h)
+    (is ∙ ap (λ s. wrong.Sig (fault.Differ s)) (sym (Contains_single (get_or names i d) s c))))
 word_or names i d e m h (inr (many is)) = inr (many is)
 
 -- sentences
 declared_more : (ls : List Sentence) (i : ℕ) (d : Declaration) (l : Sentence) → i < length ls → l ≡ get_or ls i l → l ≡ Declares d →
-    (length (declarations (take i ls)) < length (declarations ls)) × (slice_index_or (declarations ls) (length (declarations (take i ls))) d ≡ d) × (take (length (declarations (take i ls))) (declarations ls) ≡ declarations (take i ls))
+    (length (declarations (take i ls)) < length (declarations ls)) × (slice_index_or (declarations ls) (length (declarations (take i ls))) d ≡ d) ×
+    (take (length (declarations (take i ls))) (declarations ls) ≡ declarations (take i ls))
 declared_more [] i d l h at is = absurd (omega (arith, h))
 declared_more (Declares x ∷ ls) zero d l h at is =
     let z : Declares x ≡ Declares d = sym at ∙ is in
@@ -182,7 +189,9 @@ declared_more (Declares x ∷ ls) (suc i) d l h at is =
 declared_more (Says raw ∷ ls) (suc i) d l h at is = declared_more ls i d l (omega (arith, h)) at is
 
 pub fault_among : (own : Signature) (text : List ℕ) (said : List (Row Said)) (ls : List Sentence) (i : ℕ) (l : Sentence) (e m : ModuleSigFault) → i < length ls → l ≡ get_or ls i l →
-    All (IsLineTaken own text said (declarations ls)) (declarations (take i ls)) → (e ≡ m) ⊎ ((d : Declaration) × (l ≡ Declares d) × IsLineFault own text said (declarations ls) d e) → (e ≡ m) ⊎ IsFaultAmong own text said (declarations ls) e
+    All (IsLineTaken own text said (declarations ls)) (declarations (take i ls)) → (e ≡ m) ⊎
+    ((d : Declaration) × (l ≡ Declares d) × IsLineFault own text said (declarations ls) d e) → (e ≡ m) ⊎ IsFaultAmong own text said
+    (declarations ls) e
 fault_among own text said ls i l e m h at before (inl is) = inl is
 fault_among own text said ls i l e m h at before (inr (d, is, why)) =
     let r = declared_more ls i d l h at is in
@@ -197,7 +206,8 @@ module _ (exports : List ℕ → Bool) (text : List ℕ) (f : SigFault) (o : Opt
   blamed_some s e b same = ap (λ t. if t then wrong.Exported s else wrong.Sig f) same ∙ ap (blamed_at exports text f) (sym e ∙ is)
 
 -- an abbreviation that the own signature has
-pub abbreviation_found : (w : List ℕ) (es : List AbbreviationEntry) (r : Option (ℕ × TypeId)) → option_map (λ a. (a.0, a.1.0)) r ≡ found w (map abbreviation_row es) → is_some r ≡ is_among w (names_in (map abbreviation_said es))
+pub abbreviation_found : (w : List ℕ) (es : List AbbreviationEntry) (r : Option (ℕ × TypeId)) → option_map (λ a. (a.0, a.1.0)) r ≡ found w
+    (map abbreviation_row es) → is_some r ≡ is_among w (names_in (map abbreviation_said es))
 abbreviation_found w es r e = some r ∙ ap is_some e ∙ found_among w (map abbreviation_row es) ∙ ap (is_among w) (rows es)
   where
     some : (r : Option (ℕ × TypeId)) → is_some r ≡ is_some {T = ℕ × ℕ} (option_map (λ a. (a.0, a.1.0)) r)
@@ -208,11 +218,13 @@ abbreviation_found w es r e = some r ∙ ap is_some e ∙ found_among w (map abb
     rows [] = refl
     rows (e ∷ es) = ap (λ l. e.name.items ∷ l) (rows es)
 
-pub constant_found : (w : List ℕ) (es : List ConstantEntry) (r : Option (Bor ConstantEntry)) → option_map (λ e. e.now) r ≡ find (λ e. bytes_eq w e.name.items) es → is_some r ≡ is_some (find (λ e. bytes_eq w e.name.items) es)
+pub constant_found : (w : List ℕ) (es : List ConstantEntry) (r : Option (Bor ConstantEntry)) → option_map (λ e. e.now) r ≡ find
+    (λ e. bytes_eq w e.name.items) es → is_some r ≡ is_some (find (λ e. bytes_eq w e.name.items) es)
 constant_found w es None e = ap is_some e
 constant_found w es (Some x) e = ap is_some e
 
-pub blamed_or : (exports : List ℕ → Bool) (text : List ℕ) (P : SigFault → Type 0) (f : SigFault) (e : ModuleSigFault) → e ≡ blamed_by exports text f → (f ≡ fault.Memory) ⊎ P f → (e ≡ wrong.Sig fault.Memory) ⊎ ((g : SigFault) × P g × (e ≡ blamed_by exports text g))
+pub blamed_or : (exports : List ℕ → Bool) (text : List ℕ) (P : SigFault → Type 0) (f : SigFault) (e : ModuleSigFault) → e ≡ blamed_by exports text f →
+    (f ≡ fault.Memory) ⊎ P f → (e ≡ wrong.Sig fault.Memory) ⊎ ((g : SigFault) × P g × (e ≡ blamed_by exports text g))
 blamed_or exports text P f e is (inl m) = inl (is ∙ ap (blamed_by exports text) m)
 blamed_or exports text P f e is (inr p) = inr (f, p, is)
 

@@ -62,12 +62,14 @@ returns-clause-grown c = c.declare_all.ensures.grown
 pub returns-in_err-check_lengths-clause-reason : goal.returns-in_err-check_lengths-clause-reason
 returns-in_err-check_lengths-clause-reason c = λ said k.
     let l = c.in_err-check_lengths.ensures.long in
-    passed_up c.from_residual.result c.in_err-check_lengths.field-0.0 (λ e. (e ≡ fault.Memory) ⊎ faults.AreConstantsWrong c.args.source.now said c.args.spots.now c.args.raw.now e) c.from_residual.ensures.1
+    passed_up c.from_residual.result c.in_err-check_lengths.field-0.0 (λ e. (e ≡ fault.Memory) ⊎ faults.AreConstantsWrong c.args.source.now said
+    c.args.spots.now c.args.raw.now e) c.from_residual.ensures.1
     (inr (faults.a_long_name l.0 l.1.0 l.1.1 l.1.2))
 
 pub returns-in_err-declared-clause-reason : goal.returns-in_err-declared-clause-reason
 returns-in_err-declared-clause-reason c = λ said k.
-    passed_up c.from_residual-in_err-declared.result c.in_err-declared.field-0.0 (λ e. (e ≡ fault.Memory) ⊎ faults.AreConstantsWrong c.args.source.now said c.args.spots.now c.args.raw.now e) c.from_residual-in_err-declared.ensures.1
+    passed_up c.from_residual-in_err-declared.result c.in_err-declared.field-0.0 (λ e. (e ≡ fault.Memory) ⊎ faults.AreConstantsWrong c.args.source.now
+    said c.args.spots.now c.args.raw.now e) c.from_residual-in_err-declared.ensures.1
     (⊎_elim (λ m. inl m) (λ f. inr (faults.a_bad_type c.in_ok-check_lengths.ensures.taken f)) (c.in_err-declared.ensures.reason said k))
 
 pub returns-clause-reason : goal.returns-clause-reason

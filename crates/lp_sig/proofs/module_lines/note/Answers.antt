@@ -17,4 +17,5 @@ loop-name-preserved c = λ before h.
     (key_more c.loop-name.set c.insert.new.self so c.in_ok-key.key c.spelled_at.result.now c.in_ok-key.ensures.items c.in_ok-insert.ensures.keys (c.loop-name.invariant before h))
 
 pub returns : goal.returns
-returns c = λ before h. subst (λ ws. HasKeys c.loop-name.set (before ++ map (λ s. spelled c.args.source.now s) ws)) (take_all c.loop-name.name-index c.args.names.now c.loop-name-test.false) (c.loop-name.invariant before h)
+returns c = λ before h. subst (λ ws. HasKeys c.loop-name.set (before ++ map (λ s. spelled c.args.source.now s) ws))
+    (take_all c.loop-name.name-index c.args.names.now c.loop-name-test.false) (c.loop-name.invariant before h)

@@ -10,4 +10,6 @@ pub returns-then-not-is_declared : goal.returns-then-not-is_declared
 returns-then-not-is_declared c = λ before h. no_keys c.args.set.now before _ (ap (λ t. if t then map (λ s. spelled c.args.source.now s) c.args.names.now else []) c.if-not-is_declared.true) h
 
 pub returns : goal.returns
-returns c = on_ok_weaker c.note.result (λ f before h. subst (λ t. HasKeys c.note.new.set (before ++ (if t then map (λ s. spelled c.args.source.now s) c.args.names.now else []))) (sym c.if-not-is_declared.false) (f before h)) c.note.ensures
+returns c = on_ok_weaker c.note.result (λ f before h. subst (λ t. HasKeys c.note.new.set
+    (before ++ (if t then map (λ s. spelled c.args.source.now s) c.args.names.now else []))) (sym c.if-not-is_declared.false) (f before h))
+    c.note.ensures

@@ -17,7 +17,8 @@ invariant-loop-at l = record {
   grown : Grows l.fn.making l.making;
   alike : (signatures modules : List (List ℕ)) → HasNumbers l.lines.said.now.accum_sigs signatures → HasNumbers l.lines.said.now.accumulates modules →
       AreWordsAlike l.lines.sights.now l.lines.source.now signatures modules (declarations (take l.at l.text.lines.items));
-  taken : (said : List (Row Said)) (ds : List Declaration) → Knows l.fn.making.names said → HasKeys l.lines.said.now.kinds (kind_names_in l.lines.source.now ds) → HasKeys l.lines.said.now.constants (constant_names_in l.lines.source.now ds) →
+  taken : (said : List (Row Said)) (ds : List Declaration) → Knows l.fn.making.names said → HasKeys l.lines.said.now.kinds
+      (kind_names_in l.lines.source.now ds) → HasKeys l.lines.said.now.constants (constant_names_in l.lines.source.now ds) →
       All (IsLineTaken l.lines.own.now l.lines.source.now said ds) (declarations (take l.at l.text.lines.items));
   names : l.making.names ≡ l.fn.making.names;
   operators : l.making.operators ≡ l.fn.making.operators;

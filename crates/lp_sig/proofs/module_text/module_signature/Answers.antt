@@ -74,7 +74,9 @@ returns-clause-theirs c =
 
 pub returns-in_err-declare_all-clause-refused : goal.returns-in_err-declare_all-clause-refused
 returns-in_err-declare_all-clause-refused c =
-    passed_up c.from_residual-in_err-declare_all.result c.in_err-declare_all.field-0.0 (IsDeclarationRefusal c.args.own.now c.args.used.now c.args.source.now c.args.text.now.lines.items) c.from_residual-in_err-declare_all.ensures.1
+    passed_up c.from_residual-in_err-declare_all.result c.in_err-declare_all.field-0.0
+    (IsDeclarationRefusal c.args.own.now c.args.used.now c.args.source.now c.args.text.now.lines.items)
+    c.from_residual-in_err-declare_all.ensures.1
     (c.in_err-declare_all.ensures.refused (said_in_module c.args.own.now c.args.used.now c.args.source.now c.args.text.now.lines.items)
     (c.in_ok-announce_all.ensures.names (said_of c.args.own.now ++ of_each said_of c.args.used.now) (c.in_ok-sights.ensures.names [] c.new-making.ensures.names))
     c.in_ok-said.ensures.kinds c.in_ok-said.ensures.constants)

@@ -18,7 +18,8 @@ loop-word-init c = λ signatures h. All-nil (IsAlike c.args.self.now.sights.now 
 
 pub loop-word-preserved : goal.loop-word-preserved
 loop-word-preserved c = λ signatures h.
-    alike_more (IsAlike c.args.self.now.sights.now 0 signatures) (λ s. spelled c.args.self.now.source.now s) c.args.words.now c.loop-word.word-index _ c.spelled_at.result.now c.loop-word-test.true c.spelled_at.ensures
+    alike_more (IsAlike c.args.self.now.sights.now 0 signatures) (λ s. spelled c.args.self.now.source.now s) c.args.words.now c.loop-word.word-index _
+    c.spelled_at.result.now c.loop-word-test.true c.spelled_at.ensures
     (c.loop-word.invariant signatures h) (c.sight_of_accum_sig-sight.ensures signatures h c.in_ok-check_word.ensures.alike)
 
 pub returns-clause-alike : goal.returns-clause-alike

@@ -19,11 +19,13 @@ loop-word-init c = λ signatures modules h k. All-nil (IsAlike c.args.self.now.s
 
 pub loop-word-preserved : goal.loop-word-preserved
 loop-word-preserved c = λ signatures modules h k.
-    alike_more (IsAlike c.args.self.now.sights.now (length (first_names [] signatures)) modules) (λ s. spelled c.args.self.now.source.now s) c.args.words.now c.loop-word.word-index _ c.spelled_at.result.now c.loop-word-test.true c.spelled_at.ensures
+    alike_more (IsAlike c.args.self.now.sights.now (length (first_names [] signatures)) modules) (λ s. spelled c.args.self.now.source.now s)
+    c.args.words.now c.loop-word.word-index _ c.spelled_at.result.now c.loop-word-test.true c.spelled_at.ensures
     (c.loop-word.invariant signatures modules h k) (c.sight_of_accumulate-sight.ensures signatures modules h k c.in_ok-check_word.ensures.alike)
 
 pub returns-clause-alike : goal.returns-clause-alike
-returns-clause-alike c = λ signatures modules h k. subst (λ ws. All (IsAlike c.args.self.now.sights.now (length (first_names [] signatures)) modules) (map (λ s. spelled c.args.self.now.source.now s) ws))
+returns-clause-alike c = λ signatures modules h k. subst (λ ws. All (IsAlike c.args.self.now.sights.now (length (first_names [] signatures)) modules)
+    (map (λ s. spelled c.args.self.now.source.now s) ws))
     (take_all c.loop-word.word-index c.args.words.now c.loop-word-test.false) (c.loop-word.invariant signatures modules h k)
 
 pub returns-in_err-check_word-clause-refused : goal.returns-in_err-check_word-clause-refused

@@ -10,8 +10,10 @@ returns-in_default c = blamed_none (exports_constant c.args.self.now.own.now) c.
 
 pub returns-then-exports_constant : goal.returns-then-exports_constant
 returns-then-exports_constant c = ap (λ t. if t then wrong.Exported c.in-Some.name else wrong.Sig c.args.fault) (sym c.if-exports_constant.true) ∙
-    blamed_some (exports_constant c.args.self.now.own.now) c.args.self.now.source.now c.args.fault c.differing.result c.differing.ensures c.in-Some.name c.in-Some.is c.exports_constant.result c.exports_constant.ensures
+    blamed_some (exports_constant c.args.self.now.own.now) c.args.self.now.source.now c.args.fault c.differing.result c.differing.ensures
+    c.in-Some.name c.in-Some.is c.exports_constant.result c.exports_constant.ensures
 
 pub returns : goal.returns
 returns c = ap (λ t. if t then wrong.Exported c.in-Some.name else wrong.Sig c.args.fault) (sym c.if-exports_constant.false) ∙
-    blamed_some (exports_constant c.args.self.now.own.now) c.args.self.now.source.now c.args.fault c.differing.result c.differing.ensures c.in-Some.name c.in-Some.is c.exports_constant.result c.exports_constant.ensures
+    blamed_some (exports_constant c.args.self.now.own.now) c.args.self.now.source.now c.args.fault c.differing.result c.differing.ensures
+    c.in-Some.name c.in-Some.is c.exports_constant.result c.exports_constant.ensures

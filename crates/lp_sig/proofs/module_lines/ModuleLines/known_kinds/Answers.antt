@@ -14,13 +14,21 @@ pub loop-name-init : goal.loop-name-init
 loop-name-init c = λ known h. All-nil (IsLocal (exports_kind c.args.self.now.own.now) c.args.self.now.source.now (λ s. is_among (spelled c.args.self.now.source.now s) known ≡ true))
 
 pub loop-name-preserved : goal.loop-name-preserved
-loop-name-preserved c = λ known h. All-more (IsLocal (exports_kind c.args.self.now.own.now) c.args.self.now.source.now (λ s. is_among (spelled c.args.self.now.source.now s) known ≡ true)) c.args.names.now c.loop-name.name-index _ c.loop-name-test.true (c.loop-name.invariant known h) (c.in_ok-known_kind.ensures.taken known h)
+loop-name-preserved c = λ known h. All-more (IsLocal (exports_kind c.args.self.now.own.now) c.args.self.now.source.now
+    (λ s. is_among (spelled c.args.self.now.source.now s) known ≡ true)) c.args.names.now c.loop-name.name-index _ c.loop-name-test.true
+    (c.loop-name.invariant known h) (c.in_ok-known_kind.ensures.taken known h)
 
 pub returns-in_err-known_kind-clause-refused : goal.returns-in_err-known_kind-clause-refused
 returns-in_err-known_kind-clause-refused c = λ known h.
-    passed_up c.from_residual.result c.in_err-known_kind.field-0.0 (IsKnownFault (exports_kind c.args.self.now.own.now) (λ s. wrong.Sig (fault.UnknownKind s)) c.args.self.now.source.now known c.args.names.now) c.from_residual.ensures.1
-    (first_of (IsLocalFault (exports_kind c.args.self.now.own.now) c.args.self.now.source.now (λ s e. (is_among (spelled c.args.self.now.source.now s) known ≡ false) × (e ≡ (λ s. wrong.Sig (fault.UnknownKind s)) s))) (IsLocal (exports_kind c.args.self.now.own.now) c.args.self.now.source.now (λ s. is_among (spelled c.args.self.now.source.now s) known ≡ true))
+    passed_up c.from_residual.result c.in_err-known_kind.field-0.0 (IsKnownFault (exports_kind c.args.self.now.own.now)
+    (λ s. wrong.Sig (fault.UnknownKind s)) c.args.self.now.source.now known c.args.names.now) c.from_residual.ensures.1
+    (first_of (IsLocalFault (exports_kind c.args.self.now.own.now) c.args.self.now.source.now
+    (λ s e. (is_among (spelled c.args.self.now.source.now s) known ≡ false) × (e ≡ (λ s. wrong.Sig (fault.UnknownKind s)) s)))
+    (IsLocal (exports_kind c.args.self.now.own.now) c.args.self.now.source.now (λ s. is_among (spelled c.args.self.now.source.now s) known ≡
+    true))
     c.args.names.now c.loop-name.name-index _ c.in_err-known_kind.field-0.0 c.loop-name-test.true (c.loop-name.invariant known h) (c.in_err-known_kind.ensures.refused known h))
 
 pub returns-clause-taken : goal.returns-clause-taken
-returns-clause-taken c = λ known h. subst (All (IsLocal (exports_kind c.args.self.now.own.now) c.args.self.now.source.now (λ s. is_among (spelled c.args.self.now.source.now s) known ≡ true))) (take_all c.loop-name.name-index c.args.names.now c.loop-name-test.false) (c.loop-name.invariant known h)
+returns-clause-taken c = λ known h. subst (All (IsLocal (exports_kind c.args.self.now.own.now) c.args.self.now.source.now
+    (λ s. is_among (spelled c.args.self.now.source.now s) known ≡ true))) (take_all c.loop-name.name-index c.args.names.now c.loop-name-test.false)
+    (c.loop-name.invariant known h)

@@ -17,7 +17,8 @@ pub returns-in-Err-clause-refused : goal.returns-in-Err-clause-refused
 returns-in-Err-clause-refused c = λ said k. c.wrong_locals.ensures said c.args.raw.now (c.in-Err.ensures.reason said k)
 
 pub returns-in-Ok-clause-refused : goal.returns-in-Ok-clause-refused
-returns-in-Ok-clause-refused c = λ said k. IfErr-weaker c.locals_of.result _ _ (λ e f. ⊎_elim (λ m. inl m) (λ g. inr (faults.local_name (c.in-Ok.ensures.stand said k) g)) f) c.locals_of.ensures.refused
+returns-in-Ok-clause-refused c = λ said k. IfErr-weaker c.locals_of.result _ _ (λ e f. ⊎_elim (λ m. inl m)
+    (λ g. inr (faults.local_name (c.in-Ok.ensures.stand said k) g)) f) c.locals_of.ensures.refused
 
 pub returns-in-Ok-clause-taken : goal.returns-in-Ok-clause-taken
 returns-in-Ok-clause-taken c = λ said k. IfOk-weaker c.locals_of.result _ _ (λ done t. (t, c.in-Ok.ensures.stand said k)) c.locals_of.ensures.taken

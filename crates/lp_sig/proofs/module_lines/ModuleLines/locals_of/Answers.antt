@@ -14,7 +14,15 @@ use Rattle.lp_sig.proofs.Refusing.{first_or}
 use Rattle.lp_sig.proofs.module_lines.ModuleLines.locals_of.Goals as goal
 
 pub loop-name-init : goal.loop-name-init
-loop-name-init c = record { words = λ words h. subst (HasWords c.args.making.now.constants) (sym (append-nil words)) h; grown = making_same c.args.making.now; taken = All-nil (IsLocal (exports_constant c.args.self.now.own.now) c.args.self.now.source.now (IsShort c.args.self.now.source.now)); names = refl; operators = refl }
+loop-name-init c = record {
+  words = λ words h. subst (HasWords c.args.making.now.constants) (sym (append-nil words)) h;
+  grown = making_same
+      c.args.making.now;
+  taken = All-nil (IsLocal (exports_constant c.args.self.now.own.now) c.args.self.now.source.now
+      (IsShort c.args.self.now.source.now));
+  names = refl;
+  operators = refl;
+}
 
 pub loop-name-preserved : goal.loop-name-preserved
 loop-name-preserved c =
@@ -23,7 +31,8 @@ loop-name-preserved c =
       words = λ words h.
           subst (HasWords c.local.new.making.constants) (mapped_more (λ s. spelled text s) c.args.names.now c.loop-name.name-index _ words c.loop-name-test.true)
           (c.in_ok-local.ensures.words (words ++ map (λ s. spelled text s) (take c.loop-name.name-index c.args.names.now)) (c.loop-name.invariant.words words h));
-      taken = All-more (IsLocal (exports_constant c.args.self.now.own.now) c.args.self.now.source.now (IsShort c.args.self.now.source.now)) c.args.names.now c.loop-name.name-index _ c.loop-name-test.true c.loop-name.invariant.taken c.in_ok-local.ensures.taken;
+      taken = All-more (IsLocal (exports_constant c.args.self.now.own.now) c.args.self.now.source.now (IsShort c.args.self.now.source.now))
+          c.args.names.now c.loop-name.name-index _ c.loop-name-test.true c.loop-name.invariant.taken c.in_ok-local.ensures.taken;
       grown = making_then c.args.making.now c.loop-name.making c.local.new.making c.loop-name.invariant.grown c.in_ok-local.ensures.grown;
       names = c.local.ensures.names ∙ c.loop-name.invariant.names;
       operators = c.local.ensures.operators ∙ c.loop-name.invariant.operators;
@@ -39,8 +48,15 @@ returns-clause-grown c = c.loop-name.invariant.grown
 
 pub returns-in_err-local-clause-refused : goal.returns-in_err-local-clause-refused
 returns-in_err-local-clause-refused c =
-    passed_up c.from_residual.result c.in_err-local.field-0.0 (λ e. (e ≡ wrong.Sig fault.Memory) ⊎ IsFirstOf (IsLocalFault (exports_constant c.args.self.now.own.now) c.args.self.now.source.now (IsNewLocal c.args.self.now.source.now)) (IsLocal (exports_constant c.args.self.now.own.now) c.args.self.now.source.now (IsShort c.args.self.now.source.now)) c.args.names.now e) c.from_residual.ensures.1
-    (first_or (IsLocalFault (exports_constant c.args.self.now.own.now) c.args.self.now.source.now (IsNewLocal c.args.self.now.source.now)) (IsLocal (exports_constant c.args.self.now.own.now) c.args.self.now.source.now (IsShort c.args.self.now.source.now)) c.args.names.now c.loop-name.name-index _ c.in_err-local.field-0.0 (wrong.Sig fault.Memory) c.loop-name-test.true c.loop-name.invariant.taken c.in_err-local.ensures.refused)
+    passed_up c.from_residual.result c.in_err-local.field-0.0 (λ e. (e ≡ wrong.Sig fault.Memory) ⊎ IsFirstOf
+    (IsLocalFault (exports_constant c.args.self.now.own.now) c.args.self.now.source.now (IsNewLocal c.args.self.now.source.now))
+    (IsLocal (exports_constant c.args.self.now.own.now) c.args.self.now.source.now (IsShort c.args.self.now.source.now)) c.args.names.now e)
+    c.from_residual.ensures.1
+    (first_or (IsLocalFault (exports_constant c.args.self.now.own.now) c.args.self.now.source.now (IsNewLocal c.args.self.now.source.now))
+    (IsLocal (exports_constant c.args.self.now.own.now) c.args.self.now.source.now (IsShort c.args.self.now.source.now)) c.args.names.now
+    c.loop-name.name-index _ c.in_err-local.field-0.0 (wrong.Sig fault.Memory) c.loop-name-test.true c.loop-name.invariant.taken
+    c.in_err-local.ensures.refused)
 
 pub returns-clause-taken : goal.returns-clause-taken
-returns-clause-taken c = subst (All (IsLocal (exports_constant c.args.self.now.own.now) c.args.self.now.source.now (IsShort c.args.self.now.source.now))) (take_all c.loop-name.name-index c.args.names.now c.loop-name-test.false) c.loop-name.invariant.taken
+returns-clause-taken c = subst (All (IsLocal (exports_constant c.args.self.now.own.now) c.args.self.now.source.now
+    (IsShort c.args.self.now.source.now))) (take_all c.loop-name.name-index c.args.names.now c.loop-name-test.false) c.loop-name.invariant.taken

@@ -8,7 +8,9 @@ pub returns-then-is_memory : goal.returns-then-is_memory
 returns-then-is_memory c = λ said raw why. inl refl
 
 pub returns-in-Err : goal.returns-in-Err
-returns-in-Err c = λ said raw why. inr (faults.local_exported c.args.fault (its_reason c.args.fault (IsTypeFault c.args.self.now.source.now said raw c.args.fault) (c.is_memory.ensures.another c.if-is_memory.false) why) c.in-Err.ensures.refused)
+returns-in-Err c = λ said raw why. inr (faults.local_exported c.args.fault (its_reason c.args.fault
+    (IsTypeFault c.args.self.now.source.now said raw c.args.fault) (c.is_memory.ensures.another c.if-is_memory.false) why) c.in-Err.ensures.refused)
 
 pub returns-in-Ok : goal.returns-in-Ok
-returns-in-Ok c = λ said raw why. inr (c.wrong_type.ensures said raw (its_reason c.args.fault (IsTypeFault c.args.self.now.source.now said raw c.args.fault) (c.is_memory.ensures.another c.if-is_memory.false) why) c.in-Ok.ensures.taken)
+returns-in-Ok c = λ said raw why. inr (c.wrong_type.ensures said raw (its_reason c.args.fault
+    (IsTypeFault c.args.self.now.source.now said raw c.args.fault) (c.is_memory.ensures.another c.if-is_memory.false) why) c.in-Ok.ensures.taken)
