@@ -22,7 +22,7 @@ returns-in_err-known_constant-clause-refused c = λ known h.
     passed_up c.from_residual.result c.in_err-known_constant.field-0.0 (IsKnownFault (exports_constant c.args.self.now.own.now)
     (λ s. wrong.Undeclared s) c.args.self.now.source.now known c.args.names.now) c.from_residual.ensures.1
     (first_of (IsLocalFault (exports_constant c.args.self.now.own.now) c.args.self.now.source.now
-    (λ s e. (is_among (spelled c.args.self.now.source.now s) known ≡ false) × (e ≡ (λ s. wrong.Undeclared s) s)))
+    (λ s e. (is_among (spelled c.args.self.now.source.now s) known ≡ false) × (e ≡ wrong.Undeclared s)))
     (IsLocal (exports_constant c.args.self.now.own.now) c.args.self.now.source.now
     (λ s. is_among (spelled c.args.self.now.source.now s) known ≡ true))
     c.args.names.now c.loop-name.name-index _ c.in_err-known_constant.field-0.0 c.loop-name-test.true (c.loop-name.invariant known h) (c.in_err-known_constant.ensures.refused known h))

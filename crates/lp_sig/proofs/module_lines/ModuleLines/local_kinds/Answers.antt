@@ -1,4 +1,4 @@
-use Rattle.std.proofs.Common.{refl, subst, take_all}
+use Rattle.std.proofs.Common.{◌≡◌, refl, subst, take_all}
 use Rattle.std.specs.Prelude.{All}
 use Rattle.std.proofs.lemmas.List.Elements.{All-nil, All-more}
 use Rattle.lp_lemmas.proofs.Results.{passed_up}
