@@ -1,6 +1,6 @@
 use Rattle.std.proofs.Common.{◌≡◌, ◌≤◌, refl, sym, ap, subst, map, inl, inr, ⊎_elim}
 use Rattle.std.proofs.lemmas.Result.{on_ok_weaker}
-use Rattle.lp_lemmas.proofs.Results.{on_ok_with}
+use Rattle.lp_lemmas.proofs.Results.{on_ok_always}
 use Rattle.lp_sig.specs.Pieces.{spelled}
 use Rattle.lp_sig.specs.Modules.{local_names}
 use Rattle.lp_sig.specs.Worded.{HasWords}
@@ -20,19 +20,19 @@ use Rattle.lp_sig.proofs.Sentences.{ok_with}
 use Rattle.lp_sig.proofs.module_lines.ModuleLines.declare.Goals as goal
 
 pub returns-in-Kinds-clause-words : goal.returns-in-Kinds-clause-words
-returns-in-Kinds-clause-words c = on_ok_with c.kinds.result _ (no_words c.args.making.now.constants c.args.self.now.source.now c.args.declaration.now _ c.in-Kinds.is refl)
+returns-in-Kinds-clause-words c = on_ok_always c.kinds.result _ (no_words c.args.making.now.constants c.args.self.now.source.now c.args.declaration.now _ c.in-Kinds.is refl)
 
 pub returns-in-LocalKinds-clause-words : goal.returns-in-LocalKinds-clause-words
-returns-in-LocalKinds-clause-words c = on_ok_with c.local_kinds_of.result _ (no_words c.args.making.now.constants c.args.self.now.source.now c.args.declaration.now _ c.in-LocalKinds.is refl)
+returns-in-LocalKinds-clause-words c = on_ok_always c.local_kinds_of.result _ (no_words c.args.making.now.constants c.args.self.now.source.now c.args.declaration.now _ c.in-LocalKinds.is refl)
 
 pub returns-in-Accumulate-clause-words : goal.returns-in-Accumulate-clause-words
-returns-in-Accumulate-clause-words c = on_ok_with c.accumulate.result _ (no_words c.args.making.now.constants c.args.self.now.source.now c.args.declaration.now _ c.in-Accumulate.is refl)
+returns-in-Accumulate-clause-words c = on_ok_always c.accumulate.result _ (no_words c.args.making.now.constants c.args.self.now.source.now c.args.declaration.now _ c.in-Accumulate.is refl)
 
 pub returns-in-AccumSig-clause-words : goal.returns-in-AccumSig-clause-words
-returns-in-AccumSig-clause-words c = on_ok_with c.accum_sig.result _ (no_words c.args.making.now.constants c.args.self.now.source.now c.args.declaration.now _ c.in-AccumSig.is refl)
+returns-in-AccumSig-clause-words c = on_ok_always c.accum_sig.result _ (no_words c.args.making.now.constants c.args.self.now.source.now c.args.declaration.now _ c.in-AccumSig.is refl)
 
 pub returns-in-Abbreviation-clause-words : goal.returns-in-Abbreviation-clause-words
-returns-in-Abbreviation-clause-words c = on_ok_with c.abbreviation.result _ (λ words h. no_words c.abbreviation.new.making.constants
+returns-in-Abbreviation-clause-words c = on_ok_always c.abbreviation.result _ (λ words h. no_words c.abbreviation.new.making.constants
     c.args.self.now.source.now c.args.declaration.now _ c.in-Abbreviation.is refl words
     (subst (λ k. HasWords k words) (sym c.abbreviation.ensures.constants) h))
 
@@ -50,16 +50,16 @@ returns-in-Locals-clause-words c = on_ok_weaker c.locals_typed.result (λ f word
     c.as_slice-in-Locals.ensures.value) words (f words h)) c.locals_typed.ensures.words
 
 pub returns-in-Kinds-clause-grown : goal.returns-in-Kinds-clause-grown
-returns-in-Kinds-clause-grown c = on_ok_with c.kinds.result _ (making_same c.args.making.now)
+returns-in-Kinds-clause-grown c = on_ok_always c.kinds.result _ (making_same c.args.making.now)
 
 pub returns-in-LocalKinds-clause-grown : goal.returns-in-LocalKinds-clause-grown
-returns-in-LocalKinds-clause-grown c = on_ok_with c.local_kinds_of.result _ (making_same c.args.making.now)
+returns-in-LocalKinds-clause-grown c = on_ok_always c.local_kinds_of.result _ (making_same c.args.making.now)
 
 pub returns-in-Accumulate-clause-grown : goal.returns-in-Accumulate-clause-grown
-returns-in-Accumulate-clause-grown c = on_ok_with c.accumulate.result _ (making_same c.args.making.now)
+returns-in-Accumulate-clause-grown c = on_ok_always c.accumulate.result _ (making_same c.args.making.now)
 
 pub returns-in-AccumSig-clause-grown : goal.returns-in-AccumSig-clause-grown
-returns-in-AccumSig-clause-grown c = on_ok_with c.accum_sig.result _ (making_same c.args.making.now)
+returns-in-AccumSig-clause-grown c = on_ok_always c.accum_sig.result _ (making_same c.args.making.now)
 
 pub returns-in-Abbreviation-clause-grown : goal.returns-in-Abbreviation-clause-grown
 returns-in-Abbreviation-clause-grown c = c.abbreviation.ensures.grown
@@ -74,23 +74,23 @@ pub returns-in-Fixities-clause-grown : goal.returns-in-Fixities-clause-grown
 returns-in-Fixities-clause-grown c = making_same c.args.making.now
 
 pub returns-in-Kinds-clause-alike : goal.returns-in-Kinds-clause-alike
-returns-in-Kinds-clause-alike c = on_ok_with c.kinds.result _ (λ signatures modules h k. none_words c.args.self.now.sights.now
+returns-in-Kinds-clause-alike c = on_ok_always c.kinds.result _ (λ signatures modules h k. none_words c.args.self.now.sights.now
     c.args.self.now.source.now signatures modules c.args.declaration.now _ c.in-Kinds.is refl refl)
 
 pub returns-in-LocalKinds-clause-alike : goal.returns-in-LocalKinds-clause-alike
-returns-in-LocalKinds-clause-alike c = on_ok_with c.local_kinds_of.result _ (λ signatures modules h k. none_words c.args.self.now.sights.now
+returns-in-LocalKinds-clause-alike c = on_ok_always c.local_kinds_of.result _ (λ signatures modules h k. none_words c.args.self.now.sights.now
     c.args.self.now.source.now signatures modules c.args.declaration.now _ c.in-LocalKinds.is refl refl)
 
 pub returns-in-Abbreviation-clause-alike : goal.returns-in-Abbreviation-clause-alike
-returns-in-Abbreviation-clause-alike c = on_ok_with c.abbreviation.result _ (λ signatures modules h k. none_words c.args.self.now.sights.now
+returns-in-Abbreviation-clause-alike c = on_ok_always c.abbreviation.result _ (λ signatures modules h k. none_words c.args.self.now.sights.now
     c.args.self.now.source.now signatures modules c.args.declaration.now _ c.in-Abbreviation.is refl refl)
 
 pub returns-in-Constants-clause-alike : goal.returns-in-Constants-clause-alike
-returns-in-Constants-clause-alike c = on_ok_with c.constants.result _ (λ signatures modules h k. none_words c.args.self.now.sights.now
+returns-in-Constants-clause-alike c = on_ok_always c.constants.result _ (λ signatures modules h k. none_words c.args.self.now.sights.now
     c.args.self.now.source.now signatures modules c.args.declaration.now _ c.in-Constants.is refl refl)
 
 pub returns-in-Locals-clause-alike : goal.returns-in-Locals-clause-alike
-returns-in-Locals-clause-alike c = on_ok_with c.locals_typed.result _ (λ signatures modules h k. none_words c.args.self.now.sights.now
+returns-in-Locals-clause-alike c = on_ok_always c.locals_typed.result _ (λ signatures modules h k. none_words c.args.self.now.sights.now
     c.args.self.now.source.now signatures modules c.args.declaration.now _ c.in-Locals.is refl refl)
 
 pub returns-in-Fixities-clause-alike : goal.returns-in-Fixities-clause-alike
