@@ -25,6 +25,7 @@ loop-at-init c = record {
     All-nil
         (IsAlike c.args.lines.now.sights.now (length (first_names [] signatures)) modules),
   );
+  taken = λ said ds k hk hc. All-nil (IsLineTaken c.args.lines.now.own.now c.args.lines.now.source.now said ds);
   names = refl;
   operators = refl;
 }
