@@ -7,7 +7,6 @@ use Rattle.lp_sig.specs.Worded.{HasWords}
 use Rattle.lp_sig.proofs.Sayings.{no_words, its_words}
 use Rattle.lp_sig.proofs.KnownConstants.{making_same}
 use Rattle.lp_sig.proofs.Sights.{none_words, its_modules, its_signatures}
-use Rattle.std.specs.Prelude.{◌⊎◌}
 use Rattle.std.proofs.lemmas.Result.{IfErr-weaker, IfOk-weaker}
 use Rattle.lp_base.specs.declared.limits.TheConstants.{MAX_ARGUMENTS}
 use Rattle.lp_sig.specs.Said.{a_kind}
