@@ -67,3 +67,4 @@ pub mod Sights
 pub mod TheirTypes
 pub mod SeenKinds
 pub mod SeenTypes
+pub mod Refusing

@@ -31,3 +31,4 @@ pub mod Named
 pub mod Sighted
 pub mod Same
 pub mod Sights
+pub mod ModuleFaults

@@ -4,9 +4,11 @@ use Rattle.std.specs.Prelude.{◌≡◌, ◌+◌, ◌<◌, ℕ, List, [], map, l
 use Rattle.std.specs.Str.{bytes_eq}
 use Rattle.std.specs.Map.{lookup}
 use Rattle.indexmap.specs.IndexMap.{IndexMap}
+use Rattle.indexmap.specs.IndexSet.{IndexSet, contains_by}
 use Rattle.lp_syntax.specs.declared.text.Declaration.{Declaration}
 use Rattle.lp_sig.specs.Pieces.{spelled}
 use Rattle.lp_sig.specs.Places.{first_place}
+use Rattle.lp_sig.specs.Said.{is_among}
 use Rattle.lp_sig.specs.Loading.{accum_words}
 use Rattle.lp_sig.specs.Modules.{first_names}
 use Rattle.lp_sig.specs.Named.{accumulate_in}
@@ -19,6 +21,10 @@ use Rattle.lp_sig.specs.declared.see.Sight.TheVariants.{Alike}
 -- a table has the first places of these words among them
 abbrev pub HasNumbers : {S : Type 0} → IndexMap (Vec ℕ Global) ℕ S → List (List ℕ) → Type 0
 HasNumbers numbers words = ((name : List ℕ) → lookup (λ k. bytes_eq name k.items) numbers.entries ≡ first_place name (first_names [] words)) × (length numbers.entries ≡ length (first_names [] words))
+
+-- a set has these names
+abbrev pub HasKeys : {S : Type 0} → IndexSet (Vec ℕ Global) S → List (List ℕ) → Type 0
+HasKeys set names = (name : List ℕ) → contains_by (λ k. bytes_eq name k.items) set ≡ is_among name names
 
 -- what the words of a kind of sentence are
 abbrev pub signature_words : List ℕ → List Declaration → List (List ℕ)

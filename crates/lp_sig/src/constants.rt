@@ -14,6 +14,7 @@ ghost use Rattle.lp_sig.specs.Standing.{TypeStands};
 ghost use Rattle.lp_sig.specs.Constants.{Written, IsNoted, IsConstant, IsTyped, IfTyped, KnowsConstants, AreTyped, AreTypedIf, FirstStands, IsTakenConstant, AreTakenConstants, IsKnownAs, AreConstants, HaveNumbers, IsConstantFault, IsFirstConstant};
 ghost use Rattle.lp_sig.specs.Modules.{numbered_names};
 ghost use Rattle.lp_sig.specs.Worded.{HasWords, is_met_word, is_met, names_so_far};
+ghost use Rattle.lp_sig.specs.ModuleFaults.{IsNewFault};
 ghost use Rattle.lp_sig.specs.Sighted.{AreCounted, GrowsBehind, PutsBehind, IsTreeOf};
 ghost use Rattle.lp_sig.specs.Sights.{AreTheirEntries};
 ghost use Rattle.lp_sig.specs.declared.constants.DeclaredType.{DeclaredType as IsDeclaredType};
@@ -205,6 +206,7 @@ impl Constants {
         declared: Option<DeclaredType>,
     ) -> Result<(), SigFault>
         ensures kept { Extends types.old.bank types.new.bank }
+        ensures reason { IfErr result (λ e. (e ≡ fault.Memory) ⊎ IsNewFault (name ∷ []) e) }
         ensures grown { OnOk result (GrowsBehind self.old self.new) }
         ensures why { IfErr result (λ e. (e ≡ fault.Memory) ⊎ ((d : DeclaredType) × (declared ≡ Some d) × ((said : List (Row Said)) (defs : List (Row Definition)) (rows : List (Row Written)) → KnowsConstants types.old.bank self.old said defs rows → d.scheme.0 < length types.old.bank.types → IsConstantFault said defs rows (spelled source.now name) (type_tree types.old.bank d.scheme.0) name e))) }
         ensures known { OnOk result ((said : List (Row Said)) (defs : List (Row Definition)) (rows : List (Row Written)) (w : Written) → KnowsConstants types.old.bank self.old said defs rows → IfTyped declared (IsTyped types.old.bank said defs w) → KnowsConstants types.new.bank self.new said defs (rows ++ (spelled source.now name, w) ∷ [])) }
@@ -236,6 +238,7 @@ impl Constants {
         declared: Option<DeclaredType>,
     ) -> Result<(), SigFault>
         ensures kept { Extends types.old.bank types.new.bank }
+        ensures reason { IfErr result (λ e. (e ≡ fault.Memory) ⊎ IsNewFault names.now e) }
         ensures grown { OnOk result (GrowsBehind self.old self.new) }
         ensures why { IfErr result (λ e. (e ≡ fault.Memory) ⊎ ((d : DeclaredType) × (declared ≡ Some d) × ((from : ℕ) (z : Seen) (rows : List (Row Written)) (w : Written) → KnowsConstants types.old.bank self.old z.said z.definitions rows → IsTyped types.old.bank z.said z.definitions w d → d.type_vars ≤ 255 → AreTypedIf from z rows self.old → IsFirstConstant from source.now z rows names.now w e))) }
         ensures known { OnOk result ((said : List (Row Said)) (defs : List (Row Definition)) (rows : List (Row Written)) (w : Written) → KnowsConstants types.old.bank self.old said defs rows → IfTyped declared (IsTyped types.old.bank said defs w) → KnowsConstants types.new.bank self.new said defs (rows ++ each source.now w names.now)) }

@@ -1,5 +1,5 @@
 // What the declarations of a text say, line by line.
-ghost use Rattle.std.specs.Prelude.{◌<◌, ◌≤◌, ◌≡◌, ◌++◌, ℕ, List, length, Contains, IfErr, IfOk, OnOk, Some, map};
+ghost use Rattle.std.specs.Prelude.{◌<◌, ◌≤◌, ◌≡◌, ◌⊎◌, ◌++◌, ℕ, List, length, Contains, IfErr, IfOk, OnOk, Some, map};
 ghost use Rattle.lp_base.specs.declared.limit.Limit.TheVariants as limit;
 ghost use Rattle.lp_sig.specs.declared.fault.SigFault.TheVariants as fault;
 ghost use Rattle.lp_sig.specs.Pieces.{spelled};
@@ -7,7 +7,7 @@ ghost use Rattle.lp_sig.specs.Refusals.{IsFaultIn};
 ghost use Rattle.lp_standard.specs.declared.fixity.Fixity.{Fixity as IsFixity};
 ghost use Rattle.lp_sig.specs.Rows.{Row};
 ghost use Rattle.lp_sig.specs.Said.{Said, a_kind, an_abbreviation, each, fixities_by, fixities_in};
-ghost use Rattle.lp_sig.specs.Words.{IsNameFault, IsMeant, AreMeant, IsNumbered, AreNumbered, IsKindsFault, IsSoundType};
+ghost use Rattle.lp_sig.specs.Words.{IsNameFault, IsMeant, AreMeant, IsNumbered, AreNumbered, IsHead, WordsStand, parameters_of, IsKindsFault, IsSoundType};
 ghost use Rattle.lp_sig.specs.Standing.{seen_count, AllStand, TypeStands};
 ghost use Rattle.lp_sig.specs.Faults.{IsAbbreviationFault, IsSoundAbbreviation, HasFirstBody, IsSentenceFault, IsSound, AreSound};
 ghost use Rattle.lp_sig.specs.Declares.{AreAllTyped};
@@ -21,6 +21,7 @@ ghost use Rattle.lp_sig.specs.Abbreviations.{abbreviation_names, Seen, seen_text
 ghost use Rattle.lp_sig.specs.Holding.{Sees, KnowsSeen, HoldsBodies};
 ghost use Rattle.lp_sig.specs.Types.{Definition};
 ghost use Rattle.lp_sig.specs.Sighted.{GrowsBehind};
+ghost use Rattle.lp_sig.specs.ModuleFaults.{AreConstantsWrong, IsAbbreviationWrong};
 ghost use Rattle.lp_sig.specs.Worded.{HasWords};
 ghost use Rattle.lp_sig.specs.Constants.{Written, written_in, constants_by, constants_in, KnowsConstants, AreSettledIf, AreTypedIf, AreTakenConstants, HasFewVariables, IsConstantsFault};
 
@@ -138,6 +139,7 @@ pub(crate) fn declare_constants(
     raw: &RawType,
 ) -> Result<(), SigFault>
     ensures taken { IfOk result (λ done. AreShort source.now spots.now) }
+    ensures reason { (said : List (Row Said)) → Knows names.now said → IfErr result (λ e. (e ≡ fault.Memory) ⊎ AreConstantsWrong source.now said spots.now raw.now e) }
     ensures stand { (said : List (Row Said)) → Knows names.now said → IfOk result (λ done. IsSoundType source.now said raw.now) }
     ensures kept { Extends bodies.old.types.bank bodies.new.types.bank }
     ensures grown { OnOk result (GrowsBehind constants.old constants.new) }
@@ -166,6 +168,8 @@ impl Bodies {
         raw: &RawType,
     ) -> Result<(), SigFault>
         ensures why { (z : Seen) → Sees names.now (map (λ out. out.items) uses.now.ways.items) self.old.types.bank self.old.bodies.items z → IfErr result (IsAbbreviationFault source.now z name parameters.now raw.now) }
+        ensures reason { (said : List (Row Said)) → Knows names.now said → IfErr result (λ e. (e ≡ fault.Memory) ⊎ IsAbbreviationWrong source.now said name parameters.now raw.now e) }
+        ensures sound { (said : List (Row Said)) → Knows names.now said → IfOk result (λ done. IsHead source.now said name parameters.now × WordsStand source.now said (parameters_of source.now parameters.now) raw.now.nodes.items) }
         ensures taken { IfOk result (λ done. IsShort source.now name × AreApart source.now parameters.now × (length parameters.now ≤ MAX_ARGUMENTS)) }
         ensures stand { (z : Seen) → Sees names.now (map (λ out. out.items) uses.now.ways.items) self.old.types.bank self.old.bodies.items z → IfOk result (λ done. IsSoundAbbreviation source.now z name parameters.now raw.now) }
         ensures same { (from : ℕ) (z : Seen) → Sees names.now (map (λ out. out.items) uses.now.ways.items) self.old.types.bank self.old.bodies.items z → AreSettledIf from z self.old.bodies.items → IfOk result (λ done. HasFirstBody from source.now z name parameters.now raw.now) }
@@ -198,6 +202,8 @@ impl Making {
         raw: &RawType,
     ) -> Result<(), SigFault>
         ensures why { (z : Seen) → Sees self.old.names (map (λ out. out.items) self.old.uses.ways.items) self.old.bodies.types.bank self.old.bodies.bodies.items z → IfErr result (IsAbbreviationFault source.now z name parameters.now raw.now) }
+        ensures reason { (said : List (Row Said)) → Knows self.old.names said → IfErr result (λ e. (e ≡ fault.Memory) ⊎ IsAbbreviationWrong source.now said name parameters.now raw.now e) }
+        ensures sound { (said : List (Row Said)) → Knows self.old.names said → IfOk result (λ done. IsHead source.now said name parameters.now × WordsStand source.now said (parameters_of source.now parameters.now) raw.now.nodes.items) }
         ensures taken { IfOk result (λ done. IsShort source.now name × AreApart source.now parameters.now × (length parameters.now ≤ MAX_ARGUMENTS)) }
         ensures stand { (z : Seen) → Sees self.old.names (map (λ out. out.items) self.old.uses.ways.items) self.old.bodies.types.bank self.old.bodies.bodies.items z → IfOk result (λ done. IsSoundAbbreviation source.now z name parameters.now raw.now) }
         ensures same { (from : ℕ) (z : Seen) → Sees self.old.names (map (λ out. out.items) self.old.uses.ways.items) self.old.bodies.types.bank self.old.bodies.bodies.items z → AreSettledIf from z self.old.bodies.bodies.items → IfOk result (λ done. HasFirstBody from source.now z name parameters.now raw.now) }

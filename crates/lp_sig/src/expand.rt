@@ -6,6 +6,7 @@ ghost use Rattle.lp_sig.specs.declared.fault.SigFault.TheVariants as fault;
 ghost use Rattle.lp_sig.specs.declared.names.Meaning.TheVariants as meaning;
 ghost use Rattle.lp_sig.specs.Rows.{Row};
 ghost use Rattle.lp_sig.specs.Said.{Said};
+ghost use Rattle.lp_sig.specs.ModuleFaults.{IsTypeFault};
 ghost use Rattle.lp_sig.specs.Words.{may_stand, on_count, fault_of_word, word_fault, beginning, WordsStand, IsFirstFault, parameters_of, earlier_of, IsLongType, IsSoundType};
 ghost use Rattle.lp_sig.specs.Knowing.{Knows, Holds, number_of, blamed, said_as};
 ghost use Rattle.lp_term.specs.Nodes.{Extends};
@@ -390,6 +391,7 @@ impl Bodies {
         source: &[u8],
         raw: &RawType,
     ) -> Result<Option<DeclaredType>, SigFault>
+        ensures reason { (said : List (Row Said)) → Knows names.now said → IfErr result (λ e. (e ≡ fault.Memory) ⊎ IsTypeFault source.now said raw.now e) }
         ensures stand { (said : List (Row Said)) → Knows names.now said → IfOk result (λ made. IsSoundType source.now said raw.now) }
         ensures kept { Extends self.old.types.bank self.new.types.bank }
         ensures bodies { self.new.bodies ≡ self.old.bodies }

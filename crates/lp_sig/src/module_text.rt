@@ -1,5 +1,5 @@
 // From a module's declarations to the signature of what it sees.
-ghost use Rattle.std.specs.Prelude.{◌≡◌, ◌++◌, ◌<◌, ◌≤◌, ℕ, List, [], ◌∷◌, length, map, Some, All, slice_get, IfOk, OnOk};
+ghost use Rattle.std.specs.Prelude.{◌≡◌, ◌⊎◌, ◌++◌, ◌<◌, ◌≤◌, ℕ, List, [], ◌∷◌, length, map, Some, All, slice_get, IfOk, IfErr, OnOk};
 ghost use Rattle.lp_standard.specs.declared.fixity.Fixity.{Fixity as IsFixity};
 ghost use Rattle.lp_sig.specs.Rows.{Row, fixity_row};
 ghost use Rattle.lp_sig.specs.Said.{Said as IsSaid, said_in};
@@ -7,7 +7,12 @@ ghost use Rattle.lp_sig.specs.Knowing.{Knows, KnowsOperators};
 ghost use Rattle.lp_sig.specs.Modules.{declarations, of_each, said_of, constants_of, constant_names_in, HasSeen};
 ghost use Rattle.lp_sig.specs.Named.{IsOrdered, SeesTheirs, kind_names};
 ghost use Rattle.lp_sig.specs.Sighted.{Grows, AreCounted, AreKinds, AreNew, SeenSo};
-ghost use Rattle.lp_sig.specs.Sights.{HasNumbers, AreAlike, AreWordsAlike};
+ghost use Rattle.lp_sig.specs.Sights.{HasKeys, HasNumbers, AreAlike, AreWordsAlike};
+ghost use Rattle.lp_sig.specs.ModuleFaults.{kind_names_in, IsLineFault, IsLineTaken, IsFaultAmong, IsDeclarationRefusal};
+ghost use Rattle.lp_sig.specs.declared.fault.SigFault.TheVariants as fault;
+ghost use Rattle.lp_sig.specs.declared.module_fault.ModuleSigFault.TheVariants as wrong;
+ghost use Rattle.lp_syntax.specs.declared.text.Declaration.{Declaration as IsDeclaration};
+ghost use Rattle.lp_syntax.specs.declared.text.Sentence.TheVariants.{Declares};
 ghost use Rattle.lp_sig.specs.declared.signature.Signature.{Signature as IsSignature};
 ghost use Rattle.lp_sig.specs.Worded.{HasWords};
 
@@ -82,6 +87,8 @@ fn declare_sentence(
     ensures grown { OnOk result (Grows making.old making.new) }
     ensures words { OnOk result ((words : List (List ℕ)) → HasWords making.old.constants words → HasWords making.new.constants (words ++ constant_names_in lines.now.source.now (declarations (sentence.now ∷ [])))) }
     ensures alike { OnOk result ((signatures modules : List (List ℕ)) → HasNumbers lines.now.said.now.accum_sigs signatures → HasNumbers lines.now.said.now.accumulates modules → AreWordsAlike lines.now.sights.now lines.now.source.now signatures modules (declarations (sentence.now ∷ []))) }
+    ensures refused { (said : List (Row IsSaid)) (ds : List IsDeclaration) → Knows making.old.names said → HasKeys lines.now.said.now.kinds (kind_names_in lines.now.source.now ds) → HasKeys lines.now.said.now.constants (constant_names_in lines.now.source.now ds) → IfErr result (λ e. (e ≡ wrong.Sig fault.Memory) ⊎ ((d : IsDeclaration) × (sentence.now ≡ Declares d) × IsLineFault lines.now.own.now lines.now.source.now said ds d e)) }
+    ensures taken { (said : List (Row IsSaid)) (ds : List IsDeclaration) → Knows making.old.names said → HasKeys lines.now.said.now.kinds (kind_names_in lines.now.source.now ds) → HasKeys lines.now.said.now.constants (constant_names_in lines.now.source.now ds) → IfOk result (λ done. All (IsLineTaken lines.now.own.now lines.now.source.now said ds) (declarations (sentence.now ∷ []))) }
 {
     match sentence {
         Sentence::Declares(declaration) => lines.declare(making, declaration),
@@ -100,6 +107,7 @@ fn declare_all(
     ensures grown { OnOk result (Grows making.old making.new) }
     ensures words { OnOk result ((words : List (List ℕ)) → HasWords making.old.constants words → HasWords making.new.constants (words ++ constant_names_in lines.now.source.now (declarations text.now.lines.items))) }
     ensures alike { OnOk result ((signatures modules : List (List ℕ)) → HasNumbers lines.now.said.now.accum_sigs signatures → HasNumbers lines.now.said.now.accumulates modules → AreWordsAlike lines.now.sights.now lines.now.source.now signatures modules (declarations text.now.lines.items)) }
+    ensures refused { (said : List (Row IsSaid)) → Knows making.old.names said → HasKeys lines.now.said.now.kinds (kind_names_in lines.now.source.now (declarations text.now.lines.items)) → HasKeys lines.now.said.now.constants (constant_names_in lines.now.source.now (declarations text.now.lines.items)) → IfErr result (λ e. (e ≡ wrong.Sig fault.Memory) ⊎ IsFaultAmong lines.now.own.now lines.now.source.now said (declarations text.now.lines.items) e) }
 {
     for at in 0..text.lines.len() {
         declare_sentence(making, lines, &text.lines[at])?;
@@ -123,6 +131,7 @@ pub fn module_signature(
 ) -> Result<Signature, ModuleSigFault>
     ensures seen { IfOk result (HasSeen own.now used.now source.now text.now.lines.items) }
     ensures theirs { IfOk result (SeesTheirs own.now used.now source.now text.now.lines.items) }
+    ensures refused { IfErr result (IsDeclarationRefusal own.now used.now source.now text.now.lines.items) }
 {
     let mut making = Making::new(alloc);
     let sights = see_all(&mut making, own, used)?;

@@ -5,6 +5,10 @@ use Rattle.lp_sig.proofs.Constancy.{constants_kept}
 use Rattle.lp_sig.proofs.Sentences.{ok_with}
 use Rattle.lp_sig.proofs.SoundSentences.{uses_settled}
 use Rattle.lp_sig.proofs.Declarations.{as_typed, few_variables, refused_long, refused_type, refused_name, declared_all}
+use Rattle.std.proofs.Common.{◌≡◌, inl, inr, ⊎_elim}
+use Rattle.std.specs.Prelude.{◌⊎◌}
+use Rattle.lp_sig.specs.ModuleFaults as faults
+use Rattle.lp_sig.specs.declared.fault.SigFault.TheVariants as fault
 use Rattle.lp_sig.proofs.declare.declare_constants.Goals as goal
 
 pub returns-in_err-check_lengths-clause-exact : goal.returns-in_err-check_lengths-clause-exact
@@ -54,3 +58,20 @@ returns-clause-declared c = λ from z rows k b s kc t.
 
 pub returns-clause-grown : goal.returns-clause-grown
 returns-clause-grown c = c.declare_all.ensures.grown
+
+pub returns-in_err-check_lengths-clause-reason : goal.returns-in_err-check_lengths-clause-reason
+returns-in_err-check_lengths-clause-reason c = λ said k.
+    let l = c.in_err-check_lengths.ensures.long in
+    passed_up c.from_residual.result c.in_err-check_lengths.field-0.0 (λ e. (e ≡ fault.Memory) ⊎ faults.AreConstantsWrong c.args.source.now said
+    c.args.spots.now c.args.raw.now e) c.from_residual.ensures.1
+    (inr (faults.a_long_name l.0 l.1.0 l.1.1 l.1.2))
+
+pub returns-in_err-declared-clause-reason : goal.returns-in_err-declared-clause-reason
+returns-in_err-declared-clause-reason c = λ said k.
+    passed_up c.from_residual-in_err-declared.result c.in_err-declared.field-0.0 (λ e. (e ≡ fault.Memory) ⊎ faults.AreConstantsWrong c.args.source.now
+    said c.args.spots.now c.args.raw.now e) c.from_residual-in_err-declared.ensures.1
+    (⊎_elim (λ m. inl m) (λ f. inr (faults.a_bad_type c.in_ok-check_lengths.ensures.taken f)) (c.in_err-declared.ensures.reason said k))
+
+pub returns-clause-reason : goal.returns-clause-reason
+returns-clause-reason c = λ said k. IfErr-weaker c.declare_all.result _ (λ e. (e ≡ fault.Memory) ⊎ faults.AreConstantsWrong c.args.source.now said c.args.spots.now c.args.raw.now e)
+    (λ e f. ⊎_elim (λ m. inl m) (λ n. inr (faults.a_bad_name c.in_ok-check_lengths.ensures.taken (c.in_ok-declared.ensures.stand said k) n)) f) c.declare_all.ensures.reason

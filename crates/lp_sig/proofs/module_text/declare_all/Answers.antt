@@ -1,11 +1,18 @@
-use Rattle.std.proofs.Common.{[], ◌∷◌, ◌++◌, ◌∙◌, length, refl, sym, subst, take, take_all, append-nil, arith}
-use Rattle.std.proofs.lemmas.List.Elements.{All-nil}
+use Rattle.std.proofs.Common.{◌≡◌, [], ◌∷◌, ◌++◌, ◌∙◌, length, refl, sym, subst, take, take_all, append-nil, arith}
+use Rattle.std.proofs.lemmas.List.Elements.{All-nil, All-append}
 use Rattle.lp_sig.specs.Modules.{declarations, constant_names_in, first_names}
 use Rattle.lp_sig.specs.Sights.{IsAlike, AreWordsAlike}
 use Rattle.lp_sig.specs.Worded.{HasWords}
 use Rattle.lp_sig.proofs.KnownConstants.{making_same, making_then}
 use Rattle.lp_sig.proofs.Sayings.{lines_more, lines_at, constants_append}
 use Rattle.lp_sig.proofs.Sights.{both_alike}
+use Rattle.std.specs.Prelude.{◌⊎◌, All}
+use Rattle.lp_lemmas.proofs.Results.{passed_up}
+use Rattle.lp_sig.specs.Knowing.{Knows}
+use Rattle.lp_sig.specs.ModuleFaults.{IsLineTaken, IsFaultAmong}
+use Rattle.lp_sig.specs.declared.fault.SigFault.TheVariants as fault
+use Rattle.lp_sig.specs.declared.module_fault.ModuleSigFault.TheVariants as wrong
+use Rattle.lp_sig.proofs.Refusing.{fault_among}
 use Rattle.lp_sig.proofs.module_text.declare_all.Goals as goal
 
 pub loop-at-init : goal.loop-at-init
@@ -18,6 +25,7 @@ loop-at-init c = record {
     All-nil
         (IsAlike c.args.lines.now.sights.now (length (first_names [] signatures)) modules),
   );
+  taken = λ said ds k hk hc. All-nil (IsLineTaken c.args.lines.now.own.now c.args.lines.now.source.now said ds);
   names = refl;
   operators = refl;
 }
@@ -39,6 +47,13 @@ loop-at-preserved c =
           (both_alike c.args.lines.now.sights.now text signatures modules (declarations (take c.loop-at.at lines))
           (declarations (c.index.result.now ∷ [])) (c.loop-at.invariant.alike signatures modules h k)
           (c.in_ok-declare_sentence.ensures.alike signatures modules h k));
+      taken = λ said ds k hk hc.
+          subst (All (IsLineTaken c.args.lines.now.own.now c.args.lines.now.source.now said ds))
+          (lines_at lines c.loop-at.at c.index.result.now (omega (arith, c.loop-at-test.true, c.len-at-end.ensures, c.args.text.now.lines.ok))
+          c.index.ensures)
+          (All-append (IsLineTaken c.args.lines.now.own.now c.args.lines.now.source.now said ds) (declarations (take c.loop-at.at lines))
+          (declarations (c.index.result.now ∷ [])) (c.loop-at.invariant.taken said ds k hk hc)
+          (c.in_ok-declare_sentence.ensures.taken said ds (subst (λ n. Knows n said) (sym c.loop-at.invariant.names) k) hk hc));
       names = c.declare_sentence.ensures.names ∙ c.loop-at.invariant.names;
       operators = c.declare_sentence.ensures.operators ∙ c.loop-at.invariant.operators;
     }
@@ -57,3 +72,12 @@ returns-clause-alike c = λ signatures modules h k.
     subst (λ ls. AreWordsAlike c.args.lines.now.sights.now c.args.lines.now.source.now signatures modules (declarations ls))
     (take_all c.loop-at.at c.args.text.now.lines.items (omega (arith, c.loop-at-test.false, c.len-at-end.ensures, c.args.text.now.lines.ok)))
     (c.loop-at.invariant.alike signatures modules h k)
+
+pub returns-in_err-declare_sentence-clause-refused : goal.returns-in_err-declare_sentence-clause-refused
+returns-in_err-declare_sentence-clause-refused c = λ said k hk hc.
+    let lines = c.args.text.now.lines.items in
+    passed_up c.from_residual.result c.in_err-declare_sentence.field-0.0 (λ e. (e ≡ wrong.Sig fault.Memory) ⊎ IsFaultAmong c.args.lines.now.own.now
+    c.args.lines.now.source.now said (declarations lines) e) c.from_residual.ensures.1
+    (fault_among c.args.lines.now.own.now c.args.lines.now.source.now said lines c.loop-at.at c.index.result.now c.in_err-declare_sentence.field-0.0 (wrong.Sig fault.Memory)
+    (omega (arith, c.loop-at-test.true, c.len-at-end.ensures, c.args.text.now.lines.ok)) c.index.ensures (c.loop-at.invariant.taken said (declarations lines) k hk hc)
+    (c.in_err-declare_sentence.ensures.refused said (declarations lines) (subst (λ n. Knows n said) (sym c.loop-at.invariant.names) k) hk hc))

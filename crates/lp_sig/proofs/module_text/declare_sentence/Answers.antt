@@ -5,6 +5,11 @@ use Rattle.lp_sig.specs.Modules.{declarations, first_names}
 use Rattle.lp_sig.specs.Sights.{IsAlike, AreWordsAlike}
 use Rattle.lp_sig.proofs.Sayings.{its_line, no_line}
 use Rattle.lp_sig.proofs.KnownConstants.{making_same}
+use Rattle.std.proofs.Common.{inl, inr, ⊎_elim}
+use Rattle.std.specs.Prelude.{All}
+use Rattle.std.proofs.lemmas.List.Elements.{All-push}
+use Rattle.std.proofs.lemmas.Result.{IfErr-weaker, IfOk-weaker}
+use Rattle.lp_sig.specs.ModuleFaults.{IsLineTaken}
 use Rattle.lp_sig.proofs.module_text.declare_sentence.Goals as goal
 
 pub returns-in-Declares-clause-words : goal.returns-in-Declares-clause-words
@@ -29,3 +34,17 @@ pub returns-in-Says-clause-alike : goal.returns-in-Says-clause-alike
 returns-in-Says-clause-alike c = λ signatures modules h k. subst (λ l. AreWordsAlike c.args.lines.now.sights.now c.args.lines.now.source.now
     signatures modules (declarations (l ∷ []))) (sym c.in-Says.is)
     (All-nil (IsAlike c.args.lines.now.sights.now 0 signatures), All-nil (IsAlike c.args.lines.now.sights.now (length (first_names [] signatures)) modules))
+
+pub returns-in-Declares-clause-refused : goal.returns-in-Declares-clause-refused
+returns-in-Declares-clause-refused c = λ said ds k hk hc. IfErr-weaker c.declare.result _ _
+    (λ e f. ⊎_elim (λ m. inl m) (λ g. inr (c.in-Declares.declaration, c.in-Declares.is, g)) f) (c.declare.ensures.refused said ds k hk hc)
+
+pub returns-in-Declares-clause-taken : goal.returns-in-Declares-clause-taken
+returns-in-Declares-clause-taken c = λ said ds k hk hc. IfOk-weaker c.declare.result _ _
+    (λ done t. subst (λ l. All (IsLineTaken c.args.lines.now.own.now c.args.lines.now.source.now said ds) (declarations (l ∷ []))) (sym c.in-Declares.is)
+    (All-push (IsLineTaken c.args.lines.now.own.now c.args.lines.now.source.now said ds) [] c.in-Declares.declaration
+    (All-nil (IsLineTaken c.args.lines.now.own.now c.args.lines.now.source.now said ds)) t)) (c.declare.ensures.taken said ds k hk hc)
+
+pub returns-in-Says-clause-taken : goal.returns-in-Says-clause-taken
+returns-in-Says-clause-taken c = λ said ds k hk hc. subst (λ l. All (IsLineTaken c.args.lines.now.own.now c.args.lines.now.source.now said ds)
+    (declarations (l ∷ []))) (sym c.in-Says.is) (All-nil (IsLineTaken c.args.lines.now.own.now c.args.lines.now.source.now said ds))

@@ -1,4 +1,4 @@
-use Rattle.std.proofs.Common.{◌+◌, ◌≤◌, [], ◌++◌, ◌∙◌, length, get_or, sym, ap, subst, map, append_assoc, arith}
+use Rattle.std.proofs.Common.{◌+◌, ◌≤◌, refl, inl, [], ◌++◌, ◌∙◌, length, get_or, sym, ap, subst, map, append_assoc, arith}
 use Rattle.std.proofs.lemmas.Option.{same_Some, slice_get-get_or, slice_get_within}
 use Rattle.lp_base.specs.declared.limits.TheConstants.{END_OF_NUMBERS}
 use Rattle.lp_sig.specs.Rows.{fixity_row}
@@ -13,6 +13,10 @@ use Rattle.lp_sig.proofs.KnownConstants.{making_then, counted_none}
 use Rattle.lp_sig.proofs.Sights.{all_alike}
 use Rattle.lp_sig.proofs.TheirTypes.{own_kinds, own_new, their_kinds, their_room, has_named}
 use Rattle.lp_sig.proofs.Viewing.{seen_stays}
+use Rattle.lp_lemmas.proofs.Results.{passed_up}
+use Rattle.lp_sig.specs.ModuleFaults.{IsDeclarationRefusal}
+use Rattle.lp_sig.specs.declared.fault.SigFault.TheVariants as fault
+use Rattle.lp_sig.specs.declared.module_fault.ModuleSigFault.TheVariants as wrong
 use Rattle.lp_sig.proofs.module_text.module_signature.Goals as goal
 
 pub returns-clause-seen : goal.returns-clause-seen
@@ -69,3 +73,18 @@ returns-clause-theirs c =
           (c.in_ok-sights.ensures.seen [] [] c.new-making.ensures.names c.new-making.ensures.words none ordered (here apart) (own_new own apart) all
           (i + 1) (omega (arith, l)) (λ j h. alike j (omega (arith, h, below))) i (omega arith) u at));
     }
+
+pub returns-in_err-declare_all-clause-refused : goal.returns-in_err-declare_all-clause-refused
+returns-in_err-declare_all-clause-refused c =
+    passed_up c.from_residual-in_err-declare_all.result c.in_err-declare_all.field-0.0
+    (IsDeclarationRefusal c.args.own.now c.args.used.now c.args.source.now c.args.text.now.lines.items)
+    c.from_residual-in_err-declare_all.ensures.1
+    (c.in_err-declare_all.ensures.refused (said_in_module c.args.own.now c.args.used.now c.args.source.now c.args.text.now.lines.items)
+    (c.in_ok-announce_all.ensures.names (said_of c.args.own.now ++ of_each said_of c.args.used.now) (c.in_ok-sights.ensures.names [] c.new-making.ensures.names))
+    c.in_ok-said.ensures.kinds c.in_ok-said.ensures.constants)
+
+pub returns-in_err-signature-clause-refused : goal.returns-in_err-signature-clause-refused
+returns-in_err-signature-clause-refused c =
+    passed_up c.from_residual-in_err-signature.result (wrong.Sig fault.Memory)
+    (IsDeclarationRefusal c.args.own.now c.args.used.now c.args.source.now c.args.text.now.lines.items)
+    c.from_residual-in_err-signature.ensures.1 (inl refl)

@@ -1,4 +1,4 @@
-use Rattle.std.proofs.Common.{refl, ap, ◌∙◌, map}
+use Rattle.std.proofs.Common.{◌≡◌, refl, ap, ◌∙◌, map, inl, inr, ⊎_elim}
 use Rattle.lp_lemmas.proofs.Options.{some_from_is_some}
 use Rattle.lp_lemmas.proofs.Results.{passed_up}
 use Rattle.lp_sig.specs.Faults.{IsAbbreviationFault, a_name, circle, arguments, other, memory}
@@ -14,6 +14,8 @@ use Rattle.lp_sig.proofs.Alike.{same_body}
 use Rattle.lp_sig.proofs.Leading.{leads_back, never_back}
 use Rattle.lp_sig.proofs.SoundSentences.{uses_settled}
 use Rattle.lp_sig.proofs.Sentences.{abbreviation_repeated, abbreviation_word}
+use Rattle.std.specs.Prelude.{◌⊎◌}
+use Rattle.lp_sig.specs.ModuleFaults as faults
 use Rattle.lp_sig.proofs.bodies.Bodies.declare_abbreviation.Goals as goal
 
 pub returns-in_err-place-clause-why : goal.returns-in_err-place-clause-why
@@ -111,3 +113,44 @@ returns-clause-same c = λ from z s settled stands first_stands.
     same_body b.types.bank b.bodies.items z.said z.definitions text c.args.name ps ty place known.0 new.0 c.in_ok-body.body
     (bodies_stay old.types.bank b.types.bank old.bodies.items b.bodies.items z.said z.definitions c.expand.ensures.kept (ap (λ v. v.items) c.expand.ensures.bodies) s.holds) there at new.1
     (c.in_ok-body.ensures.body z.said z.definitions ps s.known s.holds c.in_ok-variables.ensures.numbered) (c.has_other_body.ensures.same c.if-has_other_body.false known.0 new.0 at new.1)
+
+pub returns-in_err-place-clause-reason : goal.returns-in_err-place-clause-reason
+returns-in_err-place-clause-reason c = λ said k.
+    passed_up c.from_residual.result c.in_err-place.field-0.0 (λ e. (e ≡ fault.Memory) ⊎ faults.IsAbbreviationWrong c.args.source.now said c.args.name c.args.parameters.now c.args.raw.now e) c.from_residual.ensures.1
+    (inr (faults.a_name (c.in_err-place.ensures.why said k)))
+
+pub returns-in_err-words-clause-reason : goal.returns-in_err-words-clause-reason
+returns-in_err-words-clause-reason c = λ said k.
+    passed_up c.from_residual-in_err-words.result fault.Memory (λ e. (e ≡ fault.Memory) ⊎ faults.IsAbbreviationWrong c.args.source.now said c.args.name c.args.parameters.now c.args.raw.now e) c.from_residual-in_err-words.ensures.1
+    (inl refl)
+
+pub returns-in_err-lead_to-clause-reason : goal.returns-in_err-lead_to-clause-reason
+returns-in_err-lead_to-clause-reason c = λ said k.
+    passed_up c.from_residual-in_err-lead_to.result fault.Memory (λ e. (e ≡ fault.Memory) ⊎ faults.IsAbbreviationWrong c.args.source.now said c.args.name c.args.parameters.now c.args.raw.now e) c.from_residual-in_err-lead_to.ensures.1
+    (inl refl)
+
+pub returns-then-branch-clause-reason : goal.returns-then-branch-clause-reason
+returns-then-branch-clause-reason c = λ said k.
+    inr (faults.circle refl (c.in_ok-place.ensures.meant said k))
+
+pub returns-in_err-variables-clause-reason : goal.returns-in_err-variables-clause-reason
+returns-in_err-variables-clause-reason c = λ said k.
+    passed_up c.from_residual-in_err-variables.result c.in_err-variables.field-0.0 (λ e. (e ≡ fault.Memory) ⊎ faults.IsAbbreviationWrong c.args.source.now said c.args.name c.args.parameters.now c.args.raw.now e) c.from_residual-in_err-variables.ensures.1
+    (⊎_elim (λ m. inl m) (λ r. inr (faults.repeated r.0 r.1 (c.in_ok-place.ensures.meant said k) r.2)) c.in_err-variables.ensures.repeated)
+
+pub returns-then-parameters-gt-MAX_ARGUMENTS-clause-reason : goal.returns-then-parameters-gt-MAX_ARGUMENTS-clause-reason
+returns-then-parameters-gt-MAX_ARGUMENTS-clause-reason c = λ said k.
+    inr (faults.arguments refl (c.in_ok-place.ensures.meant said k) c.in_ok-variables.ensures.taken c.if-parameters-gt-MAX_ARGUMENTS.true)
+
+pub returns-in_err-body-clause-reason : goal.returns-in_err-body-clause-reason
+returns-in_err-body-clause-reason c = λ said k.
+    passed_up c.from_residual-in_err-body.result c.in_err-body.field-0.0 (λ e. (e ≡ fault.Memory) ⊎ faults.IsAbbreviationWrong c.args.source.now said c.args.name c.args.parameters.now c.args.raw.now e) c.from_residual-in_err-body.ensures.1
+    (⊎_elim (λ m. inl m) (λ f. inr (faults.a_word (c.in_ok-place.ensures.meant said k, c.in_ok-variables.ensures.taken, c.if-parameters-gt-MAX_ARGUMENTS.false) f)) (c.in_err-body.ensures.first said (parameters_of c.args.source.now c.args.parameters.now) k c.in_ok-variables.ensures.held))
+
+pub returns-then-has_other_body-clause-reason : goal.returns-then-has_other_body-clause-reason
+returns-then-has_other_body-clause-reason c = λ said k.
+    inr (faults.other refl (c.in_ok-place.ensures.meant said k, c.in_ok-variables.ensures.taken, c.if-parameters-gt-MAX_ARGUMENTS.false) (c.in_ok-body.ensures.stand said (parameters_of c.args.source.now c.args.parameters.now) k c.in_ok-variables.ensures.held))
+
+pub returns-clause-sound : goal.returns-clause-sound
+returns-clause-sound c = λ said k.
+    ((c.in_ok-place.ensures.meant said k, c.in_ok-variables.ensures.taken, c.if-parameters-gt-MAX_ARGUMENTS.false), (c.in_ok-body.ensures.stand said (parameters_of c.args.source.now c.args.parameters.now) k c.in_ok-variables.ensures.held))

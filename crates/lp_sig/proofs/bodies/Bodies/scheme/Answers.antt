@@ -11,6 +11,7 @@ use Rattle.lp_sig.specs.Ordering.{in_order}
 use Rattle.lp_sig.specs.Constants.{IsWrittenFault, long_type, word_of_type, many_variables}
 use Rattle.lp_sig.specs.declared.fault.SigFault.TheVariants as fault
 use Rattle.lp_sig.proofs.Renaming.{renamed, scheme_made}
+use Rattle.lp_sig.specs.ModuleFaults as faults
 use Rattle.lp_sig.proofs.bodies.Bodies.scheme.Goals as goal
 
 pub returns-then-has_many_arguments-clause-exact : goal.returns-then-has_many_arguments-clause-exact
@@ -51,3 +52,15 @@ returns-clause-typed c = λ said defs k b.
 
 pub returns-in_default-clause-settled : goal.returns-in_default-clause-settled
 returns-in_default-clause-settled c = λ said k s. sym (ap is_some c.in_default.is) ∙ c.in_ok-whole.ensures.settled said k s
+
+pub returns-then-has_many_arguments-clause-reason : goal.returns-then-has_many_arguments-clause-reason
+returns-then-has_many_arguments-clause-reason c = λ said k. inr (faults.long_type refl (c.has_many_arguments.ensures.many c.if-has_many_arguments.true))
+
+pub returns-in_err-whole-clause-reason : goal.returns-in_err-whole-clause-reason
+returns-in_err-whole-clause-reason c = λ said k.
+    passed_up c.from_residual.result c.in_err-whole.field-0.0 (λ e. (e ≡ fault.Memory) ⊎ faults.IsTypeFault c.args.source.now said c.args.raw.now e) c.from_residual.ensures.1
+    (⊎_elim (λ m. inl m) (λ f. inr (faults.word_of_type (c.has_many_arguments.ensures.few c.if-has_many_arguments.false) f)) (c.in_err-whole.ensures.first said None k c.open-variables.ensures.open))
+
+pub returns-then-len-gt-MAX_ARGUMENTS-clause-reason : goal.returns-then-len-gt-MAX_ARGUMENTS-clause-reason
+returns-then-len-gt-MAX_ARGUMENTS-clause-reason c = λ said k.
+    inr (faults.many_variables refl (c.has_many_arguments.ensures.few c.if-has_many_arguments.false, c.in_ok-whole.ensures.stand said None k c.open-variables.ensures.open))

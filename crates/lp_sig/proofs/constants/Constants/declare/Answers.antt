@@ -1,10 +1,12 @@
-use Rattle.std.proofs.Common.{ap, inr, refl}
+use Rattle.std.proofs.Common.{[], ap, inl, inr, refl, ⊎_elim}
 use Rattle.std.proofs.lemmas.Result.{IfErr-weaker, on_ok_weaker}
 use Rattle.lp_sig.proofs.Declaring.{new_refused, new_known, new_typed, new_taken, untyped_known, untyped_typed, untyped_taken, typed_known, typed_again, typed_refused, typed_taken, missing_taken}
 use Rattle.lp_sig.specs.Pieces.{spelled}
 use Rattle.lp_sig.specs.Worded.{is_met}
 use Rattle.lp_sig.proofs.Worded.{word_new, word_again}
 use Rattle.lp_sig.proofs.KnownConstants.{grows_same}
+use Rattle.lp_lemmas.proofs.Elements.{Contains_head}
+use Rattle.lp_sig.specs.ModuleFaults as faults
 use Rattle.lp_sig.proofs.constants.Constants.declare.Goals as goal
 
 pub returns-in-New-clause-why : goal.returns-in-New-clause-why
@@ -109,3 +111,9 @@ returns-in_default-clause-grown c = grows_same c.args.self.now
 
 pub returns-else-not-are_equal-clause-grown : goal.returns-else-not-are_equal-clause-grown
 returns-else-not-are_equal-clause-grown c = grows_same c.args.self.now
+
+pub returns-in-New-clause-reason : goal.returns-in-New-clause-reason
+returns-in-New-clause-reason c = IfErr-weaker c.add.result _ _ (λ e f. ⊎_elim (λ m. inl m) (λ g. inr (faults.no_number g.0)) f) c.add.ensures.full
+
+pub returns-then-not-are_equal-clause-reason : goal.returns-then-not-are_equal-clause-reason
+returns-then-not-are_equal-clause-reason c = inr (faults.other_type c.args.name (Contains_head c.args.name []) refl)

@@ -1,4 +1,5 @@
-use Rattle.std.proofs.Common.{◌++◌, map, sym, subst, take, append-nil, take_all, []}
+use Rattle.std.specs.Prelude.{◌⊎◌}
+use Rattle.std.proofs.Common.{◌≡◌, ◌++◌, map, sym, subst, take, append-nil, take_all, []}
 use Rattle.lp_term.proofs.Within.{kept_then}
 use Rattle.lp_term.proofs.Trees.{extends_same}
 use Rattle.lp_lemmas.proofs.Results.{passed_up}
@@ -12,6 +13,9 @@ use Rattle.lp_sig.specs.Pieces.{spelled}
 use Rattle.lp_sig.specs.Worded.{HasWords}
 use Rattle.lp_sig.proofs.KnownConstants.{grows_same, grows_then}
 use Rattle.lp_sig.proofs.Worded.{mapped_more}
+use Rattle.lp_sig.specs.ModuleFaults.{IsNewFault}
+use Rattle.lp_sig.specs.declared.fault.SigFault.TheVariants as fault
+use Rattle.lp_sig.proofs.Refusing.{new_or}
 use Rattle.lp_sig.proofs.constants.Constants.declare_all.Goals as goal
 
 pub loop-name-init : goal.loop-name-init
@@ -86,3 +90,8 @@ returns-clause-words c = λ words h.
 
 pub returns-clause-grown : goal.returns-clause-grown
 returns-clause-grown c = c.loop-name.invariant.grown
+
+pub returns-in_err-declare-clause-reason : goal.returns-in_err-declare-clause-reason
+returns-in_err-declare-clause-reason c =
+    passed_up c.from_residual.result c.in_err-declare.field-0.0 (λ e. (e ≡ fault.Memory) ⊎ IsNewFault c.args.names.now e) c.from_residual.ensures.1
+    (new_or c.args.names.now c.loop-name.name-index _ c.in_err-declare.field-0.0 fault.Memory c.loop-name-test.true c.in_err-declare.ensures.reason)

@@ -1,6 +1,8 @@
 use Rattle.std.proofs.Common.{sym, subst}
 use Rattle.lp_sig.specs.Sighted.{GrowsBehind}
 use Rattle.lp_sig.proofs.KnownConstants.{grows_same}
+use Rattle.lp_sig.specs.ModuleFaults.{exports_kind, IsAbbreviationWrong}
+use Rattle.lp_sig.proofs.Refusing.{blamed_or}
 use Rattle.lp_sig.proofs.module_lines.ModuleLines.abbreviation.Goals as goal
 
 pub returns-in-Ok-clause-grown : goal.returns-in-Ok-clause-grown
@@ -8,3 +10,11 @@ returns-in-Ok-clause-grown c = record {
   bank = c.declare_abbreviation.ensures.kept;
   constants = subst (GrowsBehind c.args.making.now.constants) (sym c.declare_abbreviation.ensures.constants) (grows_same c.args.making.now.constants);
 }
+
+pub returns-in-Err-clause-refused : goal.returns-in-Err-clause-refused
+returns-in-Err-clause-refused c = λ said k. blamed_or (exports_kind c.args.self.now.own.now) c.args.self.now.source.now
+    (IsAbbreviationWrong c.args.self.now.source.now said c.args.name c.args.parameters.now c.args.raw.now) c.in-Err.fault c.kinds_blamed.result
+    c.kinds_blamed.ensures (c.in-Err.ensures.reason said k)
+
+pub returns-in-Ok-clause-taken : goal.returns-in-Ok-clause-taken
+returns-in-Ok-clause-taken c = λ said k. c.in-Ok.ensures.sound said k

@@ -1,3 +1,5 @@
+use Rattle.lp_sig.specs.ModuleFaults.{exports_constant, AreConstantsWrong}
+use Rattle.lp_sig.proofs.Refusing.{blamed_or}
 use Rattle.lp_sig.proofs.module_lines.ModuleLines.constants.Goals as goal
 
 pub returns-in-Ok-clause-words : goal.returns-in-Ok-clause-words
@@ -5,3 +7,11 @@ returns-in-Ok-clause-words c = c.in-Ok.ensures.words
 
 pub returns-in-Ok-clause-grown : goal.returns-in-Ok-clause-grown
 returns-in-Ok-clause-grown c = record { bank = c.in-Ok.ensures.kept; constants = c.in-Ok.ensures.grown }
+
+pub returns-in-Err-clause-refused : goal.returns-in-Err-clause-refused
+returns-in-Err-clause-refused c = λ said k. blamed_or (exports_constant c.args.self.now.own.now) c.args.self.now.source.now
+    (AreConstantsWrong c.args.self.now.source.now said c.args.names.now c.args.raw.now) c.in-Err.fault c.constants_blamed.result
+    c.constants_blamed.ensures (c.in-Err.ensures.reason said k)
+
+pub returns-in-Ok-clause-taken : goal.returns-in-Ok-clause-taken
+returns-in-Ok-clause-taken c = λ said k. (c.in-Ok.ensures.taken, c.in-Ok.ensures.stand said k)

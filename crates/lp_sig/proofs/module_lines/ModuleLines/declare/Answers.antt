@@ -1,4 +1,4 @@
-use Rattle.std.proofs.Common.{refl, sym, ap, subst, map}
+use Rattle.std.proofs.Common.{◌≡◌, ◌≤◌, refl, sym, ap, subst, map, inl, inr, ⊎_elim}
 use Rattle.std.proofs.lemmas.Result.{on_ok_weaker}
 use Rattle.lp_lemmas.proofs.Results.{on_ok_always}
 use Rattle.lp_sig.specs.Pieces.{spelled}
@@ -7,6 +7,15 @@ use Rattle.lp_sig.specs.Worded.{HasWords}
 use Rattle.lp_sig.proofs.Sayings.{no_words, its_words}
 use Rattle.lp_sig.proofs.KnownConstants.{making_same}
 use Rattle.lp_sig.proofs.Sights.{none_words, its_modules, its_signatures}
+use Rattle.std.proofs.lemmas.Result.{IfErr-weaker, IfOk-weaker}
+use Rattle.lp_base.specs.declared.limits.TheConstants.{MAX_ARGUMENTS}
+use Rattle.lp_sig.specs.Said.{a_kind}
+use Rattle.lp_sig.specs.Limits.{AreShort}
+use Rattle.lp_sig.specs.Words.{IsKindsFault, AreMeant, AreNumbered, IsSoundType, IsHead, WordsStand, parameters_of}
+use Rattle.lp_sig.specs.Modules.{constant_names_in}
+use Rattle.lp_sig.specs.ModuleFaults.{exports_kind, exports_constant, blamed_by, kind_names_in, AreLocalKindsRefused, AreLocalKindsTaken, AreConstantsWrong, AreLocalsRefused, AreLocalsTaken, IsAbbreviationWrong, IsWordFault, IsLineFault, IsLineTaken}
+use Rattle.lp_sig.specs.declared.fault.SigFault.{SigFault}
+use Rattle.lp_sig.proofs.Sentences.{ok_with}
 use Rattle.lp_sig.proofs.module_lines.ModuleLines.declare.Goals as goal
 
 pub returns-in-Kinds-clause-words : goal.returns-in-Kinds-clause-words
@@ -89,9 +98,96 @@ returns-in-Fixities-clause-alike c = λ signatures modules h k. none_words c.arg
 pub returns-in-Accumulate-clause-alike : goal.returns-in-Accumulate-clause-alike
 returns-in-Accumulate-clause-alike c = on_ok_weaker c.accumulate.result (λ f signatures modules h k.
     its_modules c.args.self.now.sights.now c.args.self.now.source.now signatures modules c.args.declaration.now _ _ c.in-Accumulate.is
-    c.as_slice-in-Accumulate.ensures.value (f signatures modules h k)) c.accumulate.ensures
+    c.as_slice-in-Accumulate.ensures.value (f signatures modules h k)) c.accumulate.ensures.alike
 
 pub returns-in-AccumSig-clause-alike : goal.returns-in-AccumSig-clause-alike
 returns-in-AccumSig-clause-alike c = on_ok_weaker c.accum_sig.result (λ f signatures modules h k.
     its_signatures c.args.self.now.sights.now c.args.self.now.source.now signatures modules c.args.declaration.now _ _ c.in-AccumSig.is
-    c.as_slice-in-AccumSig.ensures.value (f signatures h)) c.accum_sig.ensures
+    c.as_slice-in-AccumSig.ensures.value (f signatures h)) c.accum_sig.ensures.alike
+
+pub returns-in-Kinds-clause-refused : goal.returns-in-Kinds-clause-refused
+returns-in-Kinds-clause-refused c = λ said ds k hk hc. IfErr-weaker c.kinds.result _ _
+    (λ e f. inr (subst (λ d. IsLineFault c.args.self.now.own.now c.args.self.now.source.now said ds d e) (sym c.in-Kinds.is)
+    (subst (λ ns. (f : SigFault) × IsKindsFault c.args.self.now.source.now said ns c.in-Kinds.arity f ×
+    (e ≡ blamed_by (exports_kind c.args.self.now.own.now) c.args.self.now.source.now f)) c.as_slice.ensures.value f)))
+    (c.kinds.ensures.refused said k)
+
+pub returns-in-Kinds-clause-taken : goal.returns-in-Kinds-clause-taken
+returns-in-Kinds-clause-taken c = λ said ds k hk hc. IfOk-weaker c.kinds.result _ _
+    (λ done t. subst (λ d. IsLineTaken c.args.self.now.own.now c.args.self.now.source.now said ds d) (sym c.in-Kinds.is)
+    (subst (λ ns. AreMeant c.args.self.now.source.now said (a_kind c.in-Kinds.arity) ns × AreNumbered c.args.self.now.source.now said ns ×
+    (c.in-Kinds.arity ≤ MAX_ARGUMENTS)) c.as_slice.ensures.value t)) (c.kinds.ensures.taken said k)
+
+pub returns-in-LocalKinds-clause-refused : goal.returns-in-LocalKinds-clause-refused
+returns-in-LocalKinds-clause-refused c = λ said ds k hk hc. IfErr-weaker c.local_kinds_of.result _ _
+    (λ e f. inr (subst (λ d. IsLineFault c.args.self.now.own.now c.args.self.now.source.now said ds d e) (sym c.in-LocalKinds.is)
+    (subst (λ ns. AreLocalKindsRefused c.args.self.now.own.now c.args.self.now.source.now said (kind_names_in c.args.self.now.source.now ds) ns
+    c.in-LocalKinds.count e) c.as_slice-in-LocalKinds.ensures.value f))) (c.local_kinds_of.ensures.refused said
+    (kind_names_in c.args.self.now.source.now ds) k hk)
+
+pub returns-in-LocalKinds-clause-taken : goal.returns-in-LocalKinds-clause-taken
+returns-in-LocalKinds-clause-taken c = λ said ds k hk hc. IfOk-weaker c.local_kinds_of.result _ _
+    (λ done t. subst (λ d. IsLineTaken c.args.self.now.own.now c.args.self.now.source.now said ds d) (sym c.in-LocalKinds.is)
+    (subst (λ ns. AreLocalKindsTaken c.args.self.now.own.now c.args.self.now.source.now said (kind_names_in c.args.self.now.source.now ds) ns
+    c.in-LocalKinds.count) c.as_slice-in-LocalKinds.ensures.value t)) (c.local_kinds_of.ensures.taken said
+    (kind_names_in c.args.self.now.source.now ds) k hk)
+
+pub returns-in-Constants-clause-refused : goal.returns-in-Constants-clause-refused
+returns-in-Constants-clause-refused c = λ said ds k hk hc. IfErr-weaker c.constants.result _ _
+    (λ e f. ⊎_elim (λ m. inl m) (λ f. inr (subst (λ d. IsLineFault c.args.self.now.own.now c.args.self.now.source.now said ds d e)
+    (sym c.in-Constants.is) (subst (λ ns. (f : SigFault) × AreConstantsWrong c.args.self.now.source.now said ns c.in-Constants.raw f ×
+    (e ≡ blamed_by (exports_constant c.args.self.now.own.now) c.args.self.now.source.now f)) c.as_slice-in-Constants.ensures.value f))) f)
+    (c.constants.ensures.refused said k)
+
+pub returns-in-Constants-clause-taken : goal.returns-in-Constants-clause-taken
+returns-in-Constants-clause-taken c = λ said ds k hk hc. IfOk-weaker c.constants.result _ _
+    (λ done t. subst (λ d. IsLineTaken c.args.self.now.own.now c.args.self.now.source.now said ds d) (sym c.in-Constants.is)
+    (subst (λ ns. AreShort c.args.self.now.source.now ns × IsSoundType c.args.self.now.source.now said c.in-Constants.raw)
+    c.as_slice-in-Constants.ensures.value t)) (c.constants.ensures.taken said k)
+
+pub returns-in-Locals-clause-refused : goal.returns-in-Locals-clause-refused
+returns-in-Locals-clause-refused c = λ said ds k hk hc. IfErr-weaker c.locals_typed.result _ _
+    (λ e f. ⊎_elim (λ m. inl m) (λ f. inr (subst (λ d. IsLineFault c.args.self.now.own.now c.args.self.now.source.now said ds d e)
+    (sym c.in-Locals.is) (subst (λ ns. AreLocalsRefused c.args.self.now.own.now c.args.self.now.source.now said
+    (constant_names_in c.args.self.now.source.now ds) ns c.in-Locals.raw e) c.as_slice-in-Locals.ensures.value f))) f)
+    (c.locals_typed.ensures.refused said (constant_names_in c.args.self.now.source.now ds) k hc)
+
+pub returns-in-Locals-clause-taken : goal.returns-in-Locals-clause-taken
+returns-in-Locals-clause-taken c = λ said ds k hk hc. IfOk-weaker c.locals_typed.result _ _
+    (λ done t. subst (λ d. IsLineTaken c.args.self.now.own.now c.args.self.now.source.now said ds d) (sym c.in-Locals.is)
+    (subst (λ ns. AreLocalsTaken c.args.self.now.own.now c.args.self.now.source.now said (constant_names_in c.args.self.now.source.now ds) ns
+    c.in-Locals.raw) c.as_slice-in-Locals.ensures.value t)) (c.locals_typed.ensures.taken said (constant_names_in c.args.self.now.source.now ds) k hc)
+
+pub returns-in-Abbreviation-clause-refused : goal.returns-in-Abbreviation-clause-refused
+returns-in-Abbreviation-clause-refused c = λ said ds k hk hc. IfErr-weaker c.abbreviation.result _ _
+    (λ e f. ⊎_elim (λ m. inl m) (λ f. inr (subst (λ d. IsLineFault c.args.self.now.own.now c.args.self.now.source.now said ds d e)
+    (sym c.in-Abbreviation.is) (subst (λ ns. (f : SigFault) × IsAbbreviationWrong c.args.self.now.source.now said c.in-Abbreviation.name ns
+    c.in-Abbreviation.raw f × (e ≡ blamed_by (exports_kind c.args.self.now.own.now) c.args.self.now.source.now f))
+    c.as_slice-in-Abbreviation.ensures.value f))) f) (c.abbreviation.ensures.refused said k)
+
+pub returns-in-Abbreviation-clause-taken : goal.returns-in-Abbreviation-clause-taken
+returns-in-Abbreviation-clause-taken c = λ said ds k hk hc. IfOk-weaker c.abbreviation.result _ _
+    (λ done t. subst (λ d. IsLineTaken c.args.self.now.own.now c.args.self.now.source.now said ds d) (sym c.in-Abbreviation.is)
+    (subst (λ ns. IsHead c.args.self.now.source.now said c.in-Abbreviation.name ns × WordsStand c.args.self.now.source.now said
+    (parameters_of c.args.self.now.source.now ns) c.in-Abbreviation.raw.nodes.items) c.as_slice-in-Abbreviation.ensures.value t))
+    (c.abbreviation.ensures.taken said k)
+
+pub returns-in-Accumulate-clause-refused : goal.returns-in-Accumulate-clause-refused
+returns-in-Accumulate-clause-refused c = λ said ds k hk hc. IfErr-weaker c.accumulate.result _ _
+    (λ e f. ⊎_elim (λ m. inl m) (λ f. inr (subst (λ d. IsLineFault c.args.self.now.own.now c.args.self.now.source.now said ds d e)
+    (sym c.in-Accumulate.is) (subst (λ ns. IsWordFault ns e) c.as_slice-in-Accumulate.ensures.value f))) f) (c.accumulate.ensures.refused)
+
+pub returns-in-Accumulate-clause-taken : goal.returns-in-Accumulate-clause-taken
+returns-in-Accumulate-clause-taken c = λ said ds k hk hc. ok_with c.accumulate.result _
+    (subst (λ d. IsLineTaken c.args.self.now.own.now c.args.self.now.source.now said ds d) (sym c.in-Accumulate.is) tt)
+
+pub returns-in-AccumSig-clause-refused : goal.returns-in-AccumSig-clause-refused
+returns-in-AccumSig-clause-refused c = λ said ds k hk hc. IfErr-weaker c.accum_sig.result _ _
+    (λ e f. ⊎_elim (λ m. inl m) (λ f. inr (subst (λ d. IsLineFault c.args.self.now.own.now c.args.self.now.source.now said ds d e)
+    (sym c.in-AccumSig.is) (subst (λ ns. IsWordFault ns e) c.as_slice-in-AccumSig.ensures.value f))) f) (c.accum_sig.ensures.refused)
+
+pub returns-in-AccumSig-clause-taken : goal.returns-in-AccumSig-clause-taken
+returns-in-AccumSig-clause-taken c = λ said ds k hk hc. ok_with c.accum_sig.result _ (subst (λ d. IsLineTaken c.args.self.now.own.now c.args.self.now.source.now said ds d) (sym c.in-AccumSig.is) tt)
+
+pub returns-in-Fixities-clause-taken : goal.returns-in-Fixities-clause-taken
+returns-in-Fixities-clause-taken c = λ said ds k hk hc. subst (λ d. IsLineTaken c.args.self.now.own.now c.args.self.now.source.now said ds d) (sym c.in-Fixities.is) tt

@@ -1,5 +1,8 @@
 use Rattle.std.proofs.lemmas.Result.{on_ok_weaker}
 use Rattle.lp_term.proofs.Trees.{extends-trans}
+use Rattle.std.proofs.Common.{inl, inr, ⊎_elim}
+use Rattle.std.proofs.lemmas.Result.{IfErr-weaker, IfOk-weaker}
+use Rattle.lp_sig.specs.ModuleFaults as faults
 use Rattle.lp_sig.proofs.module_lines.ModuleLines.locals.Goals as goal
 
 pub returns-in-Ok-clause-grown : goal.returns-in-Ok-clause-grown
@@ -9,3 +12,13 @@ returns-in-Ok-clause-grown c =
           c.locals_of.new.making.bodies.types.bank c.scheme.ensures.kept g.bank;
       constants = g.constants;
     }) c.locals_of.ensures.grown
+
+pub returns-in-Err-clause-refused : goal.returns-in-Err-clause-refused
+returns-in-Err-clause-refused c = λ said k. c.wrong_locals.ensures said c.args.raw.now (c.in-Err.ensures.reason said k)
+
+pub returns-in-Ok-clause-refused : goal.returns-in-Ok-clause-refused
+returns-in-Ok-clause-refused c = λ said k. IfErr-weaker c.locals_of.result _ _ (λ e f. ⊎_elim (λ m. inl m)
+    (λ g. inr (faults.local_name (c.in-Ok.ensures.stand said k) g)) f) c.locals_of.ensures.refused
+
+pub returns-in-Ok-clause-taken : goal.returns-in-Ok-clause-taken
+returns-in-Ok-clause-taken c = λ said k. IfOk-weaker c.locals_of.result _ _ (λ done t. (t, c.in-Ok.ensures.stand said k)) c.locals_of.ensures.taken

@@ -1,12 +1,28 @@
-use Rattle.std.proofs.Common.{◌++◌, ◌∙◌, map, refl, sym, subst, take, take_all, append-nil}
+use Rattle.std.proofs.Common.{◌≡◌, ◌++◌, ◌∙◌, map, refl, sym, subst, take, take_all, append-nil}
 use Rattle.lp_sig.specs.Pieces.{spelled}
 use Rattle.lp_sig.specs.Worded.{HasWords}
 use Rattle.lp_sig.proofs.KnownConstants.{making_same, making_then}
 use Rattle.lp_sig.proofs.Worded.{mapped_more}
+use Rattle.std.specs.Prelude.{◌⊎◌, All}
+use Rattle.std.proofs.lemmas.List.Elements.{All-nil, All-more}
+use Rattle.lp_lemmas.proofs.Results.{passed_up}
+use Rattle.lp_sig.specs.Limits.{IsShort}
+use Rattle.lp_sig.specs.ModuleFaults.{exports_constant, IsFirstOf, IsLocalFault, IsLocal, IsNewLocal}
+use Rattle.lp_sig.specs.declared.fault.SigFault.TheVariants as fault
+use Rattle.lp_sig.specs.declared.module_fault.ModuleSigFault.TheVariants as wrong
+use Rattle.lp_sig.proofs.Refusing.{first_or}
 use Rattle.lp_sig.proofs.module_lines.ModuleLines.locals_of.Goals as goal
 
 pub loop-name-init : goal.loop-name-init
-loop-name-init c = record { words = λ words h. subst (HasWords c.args.making.now.constants) (sym (append-nil words)) h; grown = making_same c.args.making.now; names = refl; operators = refl }
+loop-name-init c = record {
+  words = λ words h. subst (HasWords c.args.making.now.constants) (sym (append-nil words)) h;
+  grown = making_same
+      c.args.making.now;
+  taken = All-nil (IsLocal (exports_constant c.args.self.now.own.now) c.args.self.now.source.now
+      (IsShort c.args.self.now.source.now));
+  names = refl;
+  operators = refl;
+}
 
 pub loop-name-preserved : goal.loop-name-preserved
 loop-name-preserved c =
@@ -15,6 +31,8 @@ loop-name-preserved c =
       words = λ words h.
           subst (HasWords c.local.new.making.constants) (mapped_more (λ s. spelled text s) c.args.names.now c.loop-name.name-index _ words c.loop-name-test.true)
           (c.in_ok-local.ensures.words (words ++ map (λ s. spelled text s) (take c.loop-name.name-index c.args.names.now)) (c.loop-name.invariant.words words h));
+      taken = All-more (IsLocal (exports_constant c.args.self.now.own.now) c.args.self.now.source.now (IsShort c.args.self.now.source.now))
+          c.args.names.now c.loop-name.name-index _ c.loop-name-test.true c.loop-name.invariant.taken c.in_ok-local.ensures.taken;
       grown = making_then c.args.making.now c.loop-name.making c.local.new.making c.loop-name.invariant.grown c.in_ok-local.ensures.grown;
       names = c.local.ensures.names ∙ c.loop-name.invariant.names;
       operators = c.local.ensures.operators ∙ c.loop-name.invariant.operators;
@@ -27,3 +45,18 @@ returns-clause-words c = λ words h.
 
 pub returns-clause-grown : goal.returns-clause-grown
 returns-clause-grown c = c.loop-name.invariant.grown
+
+pub returns-in_err-local-clause-refused : goal.returns-in_err-local-clause-refused
+returns-in_err-local-clause-refused c =
+    passed_up c.from_residual.result c.in_err-local.field-0.0 (λ e. (e ≡ wrong.Sig fault.Memory) ⊎ IsFirstOf
+    (IsLocalFault (exports_constant c.args.self.now.own.now) c.args.self.now.source.now (IsNewLocal c.args.self.now.source.now))
+    (IsLocal (exports_constant c.args.self.now.own.now) c.args.self.now.source.now (IsShort c.args.self.now.source.now)) c.args.names.now e)
+    c.from_residual.ensures.1
+    (first_or (IsLocalFault (exports_constant c.args.self.now.own.now) c.args.self.now.source.now (IsNewLocal c.args.self.now.source.now))
+    (IsLocal (exports_constant c.args.self.now.own.now) c.args.self.now.source.now (IsShort c.args.self.now.source.now)) c.args.names.now
+    c.loop-name.name-index _ c.in_err-local.field-0.0 (wrong.Sig fault.Memory) c.loop-name-test.true c.loop-name.invariant.taken
+    c.in_err-local.ensures.refused)
+
+pub returns-clause-taken : goal.returns-clause-taken
+returns-clause-taken c = subst (All (IsLocal (exports_constant c.args.self.now.own.now) c.args.self.now.source.now
+    (IsShort c.args.self.now.source.now))) (take_all c.loop-name.name-index c.args.names.now c.loop-name-test.false) c.loop-name.invariant.taken

@@ -1,5 +1,8 @@
 use Rattle.std.proofs.Common.{◌≡◌, ℕ, List, map, take, ◌++◌}
+use Rattle.std.specs.Prelude.{All}
 use Rattle.lp_sig.specs.Pieces.{spelled}
+use Rattle.lp_sig.specs.Limits.{IsShort}
+use Rattle.lp_sig.specs.ModuleFaults.{exports_constant, IsLocal}
 use Rattle.lp_sig.specs.Sighted.{Grows}
 use Rattle.lp_sig.specs.Worded.{HasWords}
 use Rattle.lp_sig.proofs.module_lines.ModuleLines.locals_of.Given as goal
@@ -7,6 +10,7 @@ use Rattle.lp_sig.proofs.module_lines.ModuleLines.locals_of.Given as goal
 abbrev pub invariant-loop-name : goal.invariant-loop-name
 invariant-loop-name l = record {
   words : (words : List (List ℕ)) → HasWords l.fn.making.constants words → HasWords l.making.constants (words ++ map (λ s. spelled l.self.source.now s) (take l.name-index l.names));
+  taken : All (IsLocal (exports_constant l.self.own.now) l.self.source.now (IsShort l.self.source.now)) (take l.name-index l.names);
   grown : Grows l.fn.making l.making;
   names : l.making.names ≡ l.fn.making.names;
   operators : l.making.operators ≡ l.fn.making.operators;

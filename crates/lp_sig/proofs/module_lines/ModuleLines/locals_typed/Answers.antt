@@ -2,6 +2,12 @@ use Rattle.std.proofs.lemmas.Result.{on_ok_weaker}
 use Rattle.lp_lemmas.proofs.Results.{on_ok_always}
 use Rattle.lp_sig.proofs.Sayings.{its_locals, no_locals}
 use Rattle.lp_sig.proofs.KnownConstants.{making_same}
+use Rattle.std.proofs.Common.{◌≡◌, sym, subst, inr}
+use Rattle.std.specs.Prelude.{◌⊎◌}
+use Rattle.std.proofs.lemmas.Result.{IfErr-weaker, IfOk-weaker}
+use Rattle.lp_sig.specs.ModuleFaults.{AreLocalsRefused, AreLocalsTaken}
+use Rattle.lp_sig.specs.declared.fault.SigFault.TheVariants as fault
+use Rattle.lp_sig.specs.declared.module_fault.ModuleSigFault.TheVariants as wrong
 use Rattle.lp_sig.proofs.module_lines.ModuleLines.locals_typed.Goals as goal
 
 pub returns-in-Some-clause-words : goal.returns-in-Some-clause-words
@@ -16,3 +22,23 @@ returns-in-Some-clause-grown c = c.locals.ensures.grown
 
 pub returns-in-None-clause-grown : goal.returns-in-None-clause-grown
 returns-in-None-clause-grown c = on_ok_always c.known_constants.result _ (making_same c.args.making.now)
+
+pub returns-in-Some-clause-refused : goal.returns-in-Some-clause-refused
+returns-in-Some-clause-refused c = λ said known k h. IfErr-weaker c.locals.result _ _
+    (λ e f. subst (λ o. (e ≡ wrong.Sig fault.Memory) ⊎ AreLocalsRefused c.args.self.now.own.now c.args.self.now.source.now said known c.args.names.now
+    o e) (sym c.in-Some.is) f) (c.locals.ensures.refused said k)
+
+pub returns-in-None-clause-refused : goal.returns-in-None-clause-refused
+returns-in-None-clause-refused c = λ said known k h. IfErr-weaker c.known_constants.result _ _
+    (λ e f. inr (subst (λ o. AreLocalsRefused c.args.self.now.own.now c.args.self.now.source.now said known c.args.names.now o e) (sym c.in-None.is)
+    f)) (c.known_constants.ensures.refused known h)
+
+pub returns-in-Some-clause-taken : goal.returns-in-Some-clause-taken
+returns-in-Some-clause-taken c = λ said known k h. IfOk-weaker c.locals.result _ _ (λ done t. subst
+    (λ o. AreLocalsTaken c.args.self.now.own.now c.args.self.now.source.now said known c.args.names.now o) (sym c.in-Some.is) t)
+    (c.locals.ensures.taken said k)
+
+pub returns-in-None-clause-taken : goal.returns-in-None-clause-taken
+returns-in-None-clause-taken c = λ said known k h. IfOk-weaker c.known_constants.result _ _
+    (λ done t. subst (λ o. AreLocalsTaken c.args.self.now.own.now c.args.self.now.source.now said known c.args.names.now o) (sym c.in-None.is) t)
+    (c.known_constants.ensures.taken known h)
