@@ -1,5 +1,5 @@
 -- Each move keeps how many clauses were met, and what all comes to has as many or more.
-use Rattle.std.proofs.Common.{◌≡◌, ℕ, suc, ◌+◌, ◌≤◌, List, [], ◌∷◌, ◌++◌, map, reverse, refl, ap, ◌∙◌, arith, inl, inr, Option, Some, None, Vec, Global}
+use Rattle.std.proofs.Common.{◌≡◌, ℕ, suc, ◌+◌, ◌-◌, ◌<◌, ◌≤◌, ◌⊎◌, List, [], ◌∷◌, ◌++◌, map, reverse, refl, ap, ◌∙◌, arith, inl, inr, Option, Some, None, Vec, Global}
 use Rattle.std.proofs.lemmas.List.{reverse-append}
 use Rattle.lp_term.specs.Nodes.{Nodes, tree, type_tree}
 use Rattle.lp_term.specs.declared.node.TermId.{TermId}
@@ -213,3 +213,7 @@ module _ (b : Nodes) where
 pub over_then : {P Q : Type 0} (e : NormalRefusal) → (P → Q) → IsOver P e → IsOver Q e
 over_then e f (inl m) = inl m
 over_then e f (inr l) = inr (l.0, f l.1)
+
+pub count_falls : (most before after : ℕ) → after ≤ most → ⊥ ⊎ (before < after) → suc most - after < suc most - before
+count_falls most before after few (inl e) = absurd e
+count_falls most before after few (inr l) = omega (arith, few, l)

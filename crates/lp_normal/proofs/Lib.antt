@@ -9,5 +9,6 @@ mod Steps
 mod Scopes
 pub mod Meanings
 mod Counts
+mod Works
 mod ClauseSteps
 mod Turnings

@@ -1,2 +1,3 @@
 -- What only the making of lists keeps.
 pub mod Met
+pub mod Work

@@ -1,5 +1,5 @@
 // The flattening of sentences and queries.
-ghost use Rattle.std.specs.Prelude.{◌≡◌, ◌<◌, ◌≤◌, ℕ, ◌^◌, length, [], IfErr, IfOk, OnOk, Option, Some, true};
+ghost use Rattle.std.specs.Prelude.{◌≡◌, ◌+◌, ◌<◌, ◌≤◌, ◌⊎◌, ℕ, ◌^◌, length, [], All, IfErr, IfOk, OnOk, Option, Some, true};
 ghost use Rattle.lp_base.specs.declared.limits.TheConstants.{MAX_CLAUSES};
 ghost use Rattle.lp_calculus.specs.Typing.{Scheme};
 ghost use Rattle.lp_term.specs.Nodes.{Nodes, Extends, tree};
@@ -10,13 +10,13 @@ ghost use Rattle.lp_model.specs.Flatten.{flatten, flatten_query};
 ghost use Rattle.lp_model.specs.Flattened.{clauses_of, goals_of};
 ghost use Rattle.lp_model.specs.Readings.{formula_of};
 ghost use Rattle.lp_normal.specs.Counted.{HasManyClauses, HasFewClauses, AssumesManyClauses, AssumesFewClauses, IsOver};
-ghost use Rattle.lp_normal.specs.inner.Met.{inner_met, made_met, Passes};
-ghost use Rattle.lp_normal.specs.Within.{AreGoalsIn, AreClausesIn, IsInnerIn, IsMadeIn};
-ghost use Rattle.lp_normal.specs.Making.{Flat, InnerComesTo, IsMadeOf};
+ghost use Rattle.lp_normal.specs.inner.Met.{inner_met, frames_met, made_met, move_met, Passes, IsMade};
+ghost use Rattle.lp_normal.specs.Within.{AreGoalsIn, AreClausesIn, IsFrameIn, IsInnerIn, IsMadeIn, IsMoveIn};
+ghost use Rattle.lp_normal.specs.Making.{Flat, InnerComesTo, IsMadeOf, MoveComesTo};
 
 use crate::clauses::ClauseList;
 use crate::fault::NormalRefusal;
-use crate::frame::{Inner, Made, Move};
+use crate::frame::{Frame, Inner, Made, Move};
 use crate::goals::{GoalList, Waiting};
 use crate::step::step;
 use lp_base::Memory;
@@ -55,6 +55,40 @@ fn form(alloc: Global, bank: &mut Bank, formula: TermId) -> Result<TermId, Memor
     }
 }
 
+// Goes on until one more clause is met, or all is made.
+fn until_clause(
+    alloc: Global,
+    bank: &mut Bank,
+    frames: &mut Vec<Frame>,
+    count: &mut u64,
+    first: Inner,
+) -> Result<Move, NormalRefusal>
+    requires frames { All (IsFrameIn bank.old) frames.old.items }
+    requires inner { IsInnerIn bank.old first }
+    ensures kept { Extends bank.old bank.new }
+    ensures frames { OnOk result (All (IsFrameIn bank.new) frames.new.items) }
+    ensures within { IfOk result (IsMoveIn bank.new) }
+    ensures comes { IfOk result (λ m. (whole : Flat) → InnerComesTo bank.old first frames.old.items whole → MoveComesTo bank.new m frames.new.items whole) }
+    ensures met { IfOk result (λ m. ((b : Nodes) → inner_met b first + frames_met b frames.old.items ≡ count.old) → (b : Nodes) → move_met b m + frames_met b frames.new.items ≡ count.new) }
+    ensures few { OnOk result (count.old ≤ MAX_CLAUSES → count.new ≤ MAX_CLAUSES) }
+    ensures over { IfErr result (IsOver (((b : Nodes) → inner_met b first + frames_met b frames.old.items ≡ count.old) → Passes bank.old first frames.old.items count.old)) }
+    ensures later { IfOk result (λ m. IsMade m ⊎ (count.old < count.new)) }
+{
+    let before = *count;
+    let mut inner = first;
+    'moves: loop {
+        match step(alloc, bank, frames, count, inner)? {
+            Move::On(next) => {
+                if *count != before {
+                    return Ok(Move::On(next));
+                }
+                inner = next;
+            }
+            Move::Done(made) => return Ok(Move::Done(made)),
+        }
+    }
+}
+
 // The list in the making, made.
 fn run(alloc: Global, bank: &mut Bank, first: Inner) -> Result<Made, NormalRefusal>
     requires inner { IsInnerIn bank.old first }
@@ -68,13 +102,12 @@ fn run(alloc: Global, bank: &mut Bank, first: Inner) -> Result<Made, NormalRefus
     let mut frames = Vec::new(alloc);
     let mut count = 0;
     let mut inner = first;
-    'moves: for _ in 0..u64::MAX {
-        match step(alloc, bank, &mut frames, &mut count, inner)? {
+    'clauses: loop {
+        match until_clause(alloc, bank, &mut frames, &mut count, inner)? {
             Move::On(next) => inner = next,
             Move::Done(made) => return Ok(made),
         }
     }
-    Err(NormalRefusal::Memory)
 }
 
 /// The flattened clauses of a closed clause formula, in written order.

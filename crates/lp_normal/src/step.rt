@@ -1,5 +1,5 @@
 // The moves of the flattening.
-ghost use Rattle.std.specs.Prelude.{◌≡◌, ◌+◌, ◌<◌, ◌≤◌, suc, length, [], All, IfErr, IfOk, OnOk, reverse};
+ghost use Rattle.std.specs.Prelude.{◌≡◌, ◌+◌, ◌<◌, ◌≤◌, ◌⊎◌, suc, length, [], All, IfErr, IfOk, OnOk, reverse};
 ghost use Rattle.lp_base.specs.declared.limits.TheConstants.{MAX_CLAUSES};
 ghost use Rattle.lp_calculus.specs.Term.{shift};
 ghost use Rattle.lp_term.specs.Nodes.{Nodes, Extends, tree, type_tree};
@@ -10,6 +10,7 @@ ghost use Rattle.lp_model.specs.Flattened.{goals_of};
 ghost use Rattle.lp_normal.specs.Counted.{count_in_goals, PassesLimit, IsOver};
 ghost use Rattle.lp_normal.specs.declared.fault.NormalRefusal.TheVariants as refusal;
 ghost use Rattle.lp_normal.specs.inner.Met.{list_met, clause_list_met, frame_met, frames_met, inner_met, move_met, flat_count, Passes};
+ghost use Rattle.lp_normal.specs.inner.Work.{formula_work, list_work, part_work, clause_list_work, frame_work, frames_work, inner_work, move_work};
 ghost use Rattle.lp_normal.specs.Within.{AreGoalsIn, IsWaitingIn, IsGoalListIn, IsClauseListIn, IsFrameIn, IsInnerIn, IsMoveIn};
 ghost use Rattle.lp_normal.specs.Making.{Flat, these_goals, Reads, NextComesTo, PartComesTo, ComesTo, ClausesComeTo, Turns, AllTurn, InnerComesTo, MoveComesTo};
 
@@ -44,6 +45,7 @@ fn atom(alloc: Global, bank: &mut Bank, list: GoalList, next: Waiting) -> Result
     ensures within { IfOk result (IsGoalListIn bank.new) }
     ensures comes { IfOk result (λ l. (out : Goals) → NextComesTo bank.old list next out → ComesTo bank.new l no_goals out) }
     ensures met { IfOk result (λ l. (b : Nodes) → list_met b l ≡ list_met b list) }
+    ensures less { IfOk result (λ l. (c : Nodes) → Extends bank.new c → list_work c l < list_work c list + formula_work c next) }
 {
     let by = list.raise_from(next.level);
     let id = raised(alloc, bank, next.formula, by)?;
@@ -69,6 +71,7 @@ fn exists(
     ensures within { IfOk result (IsGoalListIn bank.new) }
     ensures comes { IfOk result (λ l. (out : Goals) → NextComesTo bank.old list next out → ComesTo bank.new l no_goals out) }
     ensures met { IfOk result (λ l. (b : Nodes) → list_met b l ≡ list_met b list) }
+    ensures less { IfOk result (λ l. (c : Nodes) → Extends bank.new c → list_work c l < list_work c list + formula_work c next) }
 {
     let by = list.raise_from(next.level);
     let inside = raised_body(alloc, bank, on, by)?;
@@ -97,6 +100,7 @@ fn for_all(
     ensures within { IfOk result (IsGoalListIn bank.new) }
     ensures comes { IfOk result (λ l. (out : Goals) (whole : Flat) → NextComesTo bank.old list next out → AllTurn bank.old (reverse frames.old.items) (these_goals out) whole → InnerComesTo bank.new (Inner.Goals l) frames.new.items whole) }
     ensures met { IfOk result (λ l. (b : Nodes) → list_met b l + frames_met b frames.new.items ≡ list_met b list + frames_met b frames.old.items) }
+    ensures less { IfOk result (λ l. (c : Nodes) → Extends bank.new c → list_work c l + frames_work c frames.new.items < list_work c list + formula_work c next + frames_work c frames.old.items) }
 {
     let by = list.raise_from(next.level);
     let formula = raised_body(alloc, bank, on, by)?;
@@ -125,6 +129,7 @@ fn either(
     ensures within { IfOk result (IsGoalListIn bank.now) }
     ensures comes { IfOk result (λ l. (out : Goals) (whole : Flat) → NextComesTo bank.now list next out → AllTurn bank.now (reverse frames.old.items) (these_goals out) whole → InnerComesTo bank.now (Inner.Goals l) frames.new.items whole) }
     ensures met { IfOk result (λ l. (b : Nodes) → list_met b l + frames_met b frames.new.items ≡ list_met b list + frames_met b frames.old.items) }
+    ensures less { IfOk result (λ l. (c : Nodes) → Extends bank.now c → list_work c l + frames_work c frames.new.items < list_work c list + formula_work c next + frames_work c frames.old.items) }
 {
     let first = Waiting {
         formula: left,
@@ -157,6 +162,7 @@ fn assume(
     ensures within { IfOk result (IsClauseListIn bank.new) }
     ensures comes { IfOk result (λ l. (out : Goals) → NextComesTo bank.old list next out → ClausesComeTo bank.new l no_clauses (these_goals out)) }
     ensures met { IfOk result (λ l. (b : Nodes) → clause_list_met b l ≡ list_met b list) }
+    ensures less { IfOk result (λ l. (c : Nodes) → Extends bank.new c → clause_list_work c l < list_work c list + formula_work c next) }
 {
     let by = list.raise_from(next.level);
     let formula = raised(alloc, bank, clause, by)?;
@@ -186,6 +192,7 @@ fn negated(
     ensures within { IfOk result (IsGoalListIn bank.now) }
     ensures comes { IfOk result (λ l. (out : Goals) (whole : Flat) → NextComesTo bank.now list next out → AllTurn bank.now (reverse frames.old.items) (these_goals out) whole → InnerComesTo bank.now (Inner.Goals l) frames.new.items whole) }
     ensures met { IfOk result (λ l. (b : Nodes) → list_met b l + frames_met b frames.new.items ≡ list_met b list + frames_met b frames.old.items) }
+    ensures less { IfOk result (λ l. (c : Nodes) → Extends bank.now c → list_work c l + frames_work c frames.new.items < list_work c list + formula_work c next + frames_work c frames.old.items) }
 {
     let first = Waiting {
         formula: on,
@@ -212,6 +219,7 @@ fn next_goal(
     ensures within { IfOk result (IsInnerIn bank.new) }
     ensures comes { IfOk result (λ inner. (out : Goals) (whole : Flat) → NextComesTo bank.old list next out → AllTurn bank.old (reverse frames.old.items) (these_goals out) whole → InnerComesTo bank.new inner frames.new.items whole) }
     ensures met { IfOk result (λ inner. (b : Nodes) → inner_met b inner + frames_met b frames.new.items ≡ list_met b list + frames_met b frames.old.items) }
+    ensures less { IfOk result (λ inner. (c : Nodes) → Extends bank.new c → inner_work c inner + frames_work c frames.new.items < list_work c list + formula_work c next + frames_work c frames.old.items) }
 {
     match connective_of(bank, next.formula) {
         Connective::True => Ok(Inner::Goals(list)),
@@ -261,6 +269,7 @@ fn take_goals(
     ensures within { IfOk result (λ inner. (b : Nodes) → IsFrameIn b frame → AreGoalsIn b goals.items → IsInnerIn b inner) }
     ensures comes { IfOk result (λ inner. (b : Nodes) (gs : Goals) (next whole : Flat) → IsFrameIn b frame → Reads b goals.items gs → Turns b frame gs next → AllTurn b (reverse frames.old.items) next whole → InnerComesTo b inner frames.new.items whole) }
     ensures met { IfOk result (λ inner. (b : Nodes) → inner_met b inner + frames_met b frames.new.items ≡ frame_met b frame + frames_met b frames.old.items + count_in_goals (goals_of b goals.items)) }
+    ensures less { IfOk result (λ inner. (c : Nodes) → inner_work c inner + frames_work c frames.new.items ≤ frame_work c frame + frames_work c frames.old.items) }
 {
     match frame {
         Frame::Left(outer, right) => {
@@ -311,6 +320,7 @@ fn end_goals(
     ensures within { IfOk result (IsMoveIn bank.now) }
     ensures comes { IfOk result (λ m. (whole : Flat) → InnerComesTo bank.now (Inner.Goals list) frames.old.items whole → MoveComesTo bank.now m frames.new.items whole) }
     ensures met { IfOk result (λ m. (b : Nodes) → move_met b m + frames_met b frames.new.items ≡ list_met b list + frames_met b frames.old.items) }
+    ensures less { IfOk result (λ m. (c : Nodes) → move_work c m + frames_work c frames.new.items < list_work c list + frames_work c frames.old.items) }
 {
     let goals = list.close()?;
     let Some(frame) = frames.pop() else {
@@ -334,6 +344,7 @@ fn goals_move(
     ensures within { IfOk result (IsMoveIn bank.new) }
     ensures comes { IfOk result (λ m. (whole : Flat) → InnerComesTo bank.old (Inner.Goals list) frames.old.items whole → MoveComesTo bank.new m frames.new.items whole) }
     ensures met { IfOk result (λ m. (b : Nodes) → move_met b m + frames_met b frames.new.items ≡ list_met b list + frames_met b frames.old.items) }
+    ensures less { IfOk result (λ m. (c : Nodes) → Extends bank.new c → move_work c m + frames_work c frames.new.items < list_work c list + frames_work c frames.old.items) }
 {
     let Some(next) = list.waiting.pop() else {
         let ended = end_goals(alloc, bank, frames, list)?;
@@ -363,6 +374,7 @@ fn clause_body(
     ensures count { OnOk result (count.new ≡ suc count.old) }
     ensures few { OnOk result (count.new ≤ MAX_CLAUSES) }
     ensures over { IfErr result (IsOver (MAX_CLAUSES ≤ count.old)) }
+    ensures more { count.old ≤ count.new }
 {
     if *count >= MAX_CLAUSES {
         return Err(NormalRefusal::Limit(Limit::Clauses));
@@ -401,6 +413,8 @@ fn next_part(
     ensures met { IfOk result (λ inner. (b : Nodes) → clause_list_met b list + frames_met b frames.old.items ≡ count.old → inner_met b inner + frames_met b frames.new.items ≡ count.new) }
     ensures few { OnOk result (count.old ≤ MAX_CLAUSES → count.new ≤ MAX_CLAUSES) }
     ensures over { IfErr result (IsOver ((out whole : Flat) → clause_list_met bank.old list + frames_met bank.old frames.old.items ≡ count.old → PartComesTo bank.old list part.0 out → AllTurn bank.old (reverse frames.old.items) out whole → PassesLimit (flat_count whole))) }
+    ensures less { IfOk result (λ inner. (count.old < count.new) ⊎ ((c : Nodes) → Extends bank.new c → inner_work c inner + frames_work c frames.new.items < clause_list_work c list + part_work c (Part.Visit part) + frames_work c frames.old.items)) }
+    ensures more { count.old ≤ count.new }
 {
     match connective_of(bank, part) {
         Connective::And(left, right) => {
@@ -442,6 +456,7 @@ fn end_clauses(
     ensures within { IfOk result (IsMoveIn bank.now) }
     ensures comes { IfOk result (λ m. (whole : Flat) → InnerComesTo bank.now (Inner.Clauses list) frames.old.items whole → MoveComesTo bank.now m frames.new.items whole) }
     ensures met { IfOk result (λ m. (b : Nodes) → move_met b m + frames_met b frames.new.items ≡ clause_list_met b list + frames_met b frames.old.items) }
+    ensures less { IfOk result (λ m. (c : Nodes) → move_work c m + frames_work c frames.new.items < clause_list_work c list + frames_work c frames.old.items) }
 {
     let ClauseList {
         type_vars: _,
@@ -478,6 +493,8 @@ fn clauses_move(
     ensures met { IfOk result (λ m. (b : Nodes) → clause_list_met b list + frames_met b frames.old.items ≡ count.old → move_met b m + frames_met b frames.new.items ≡ count.new) }
     ensures few { OnOk result (count.old ≤ MAX_CLAUSES → count.new ≤ MAX_CLAUSES) }
     ensures over { IfErr result (IsOver (Passes bank.old (Inner.Clauses list) frames.old.items count.old)) }
+    ensures less { IfOk result (λ m. (count.old < count.new) ⊎ ((c : Nodes) → Extends bank.new c → move_work c m + frames_work c frames.new.items < clause_list_work c list + frames_work c frames.old.items)) }
+    ensures more { count.old ≤ count.new }
 {
     let Some(next) = list.waiting.pop() else {
         let ended = end_clauses(alloc, bank, frames, list)?;
@@ -512,6 +529,8 @@ pub(crate) fn step(
     ensures met { IfOk result (λ m. (b : Nodes) → inner_met b inner + frames_met b frames.old.items ≡ count.old → move_met b m + frames_met b frames.new.items ≡ count.new) }
     ensures few { OnOk result (count.old ≤ MAX_CLAUSES → count.new ≤ MAX_CLAUSES) }
     ensures over { IfErr result (IsOver (Passes bank.old inner frames.old.items count.old)) }
+    ensures less { IfOk result (λ m. (count.old < count.new) ⊎ ((c : Nodes) → Extends bank.new c → move_work c m + frames_work c frames.new.items < inner_work c inner + frames_work c frames.old.items)) }
+    ensures more { count.old ≤ count.new }
 {
     match inner {
         Inner::Goals(list) => {

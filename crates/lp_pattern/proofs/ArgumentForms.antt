@@ -187,13 +187,6 @@ more_wanted b d n ids old new e a k q =
     transport (All (λ w. w.term.0 < length d.terms)) (sym q)
     (All-append (λ w. w.term.0 < length d.terms) old (wanted_at n ids) (All-weaker (λ w. w.term.0 < length b.terms) (λ w. w.term.0 < length d.terms) (λ w l. omega (arith, l, e.more_terms)) old a) (wanted_known (length d.terms) n ids k))
 
-pub one_fewer : {A : Type 0} (n place : ℕ) (xs : List A) (t : A) → place ≡ n - length xs → place - 1 ≡ n - length (xs ++ t ∷ [])
-one_fewer {A = A} n place xs t e = omega (arith, e, longer xs)
-  where
-    longer : (xs : List A) → length (xs ++ t ∷ []) ≡ suc (length xs)
-    longer [] = refl
-    longer (x ∷ xs) = ap suc (longer xs)
-
 pub fewer_left : (n place : ℕ) (xs : List TermId) (t : TermId) → place ≡ n - length xs → place - 1 ≡ n - length (xs ++ t ∷ [])
 fewer_left n place xs t e = omega (arith, e, longer xs)
   where

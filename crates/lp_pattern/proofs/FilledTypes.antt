@@ -2,6 +2,7 @@
 use Rattle.std.proofs.Common.{◌≡◌, ℕ, ◌<◌, List, [], ◌∷◌, map, length, Option, Some, inl, inr, refl, sym, ap, subst as transport, ◌∙◌, arith, nat_eq, if◌then◌else◌, ◌≤◌, slice_index_or}
 use Rattle.std.specs.Prelude.{IfSome}
 use Rattle.std.proofs.lemmas.Bool.{eq-eqb, ne_eqb, cases_eq}
+use Rattle.std.proofs.lemmas.List.{length-map}
 use Rattle.indexmap.specs.IndexMap.{get}
 use Rattle.lp_calculus.specs.Types.{Ty, con, arrow, tys, types, instance, instances}
 use Rattle.lp_term.specs.Nodes.{Nodes, type_tree, Extends}
@@ -58,6 +59,11 @@ both (x ∷ y ∷ z ∷ zs) h k d = absurd (omega (arith, k))
 pub two_filled : (b : Nodes) (θ : ℕ → Ty) (i j : ℕ) (parts made : List TypeId) (d : TypeId) (T : Ty) → 2 ≤ length made → length made < 3 → arrow (type_tree b i) (type_tree b j) ≡ T → map (λ t. t.0) parts ≡ i ∷ j ∷ [] →
     HaveBecome b θ parts made → arrow (type_tree b (slice_index_or made 0 d).0) (type_tree b (slice_index_or made 1 d).0) ≡ instance θ T
 two_filled b θ i j parts made d T l k e f h = arrow_filled b θ i j parts (slice_index_or made 0 d) (slice_index_or made 1 d) T e f (transport (HaveBecome b θ parts) (both made l k d) h)
+
+-- an arrow has become two parts
+pub two_made : (b : Nodes) (θ : ℕ → Ty) (i j : ℕ) (parts made : List TypeId) → map (λ t. t.0) parts ≡ i ∷ j ∷ [] → HaveBecome b θ parts made → length made ≡ 2
+two_made b θ i j parts made e h =
+    sym (length-map made (λ t. type_tree b t.0)) ∙ ap length h ∙ length-map parts (λ t. instance θ (type_tree b t.0)) ∙ sym (length-map parts (λ t. t.0)) ∙ ap length e
 
 pub two_stay : (b : Nodes) (θ : ℕ → Ty) (i j : ℕ) (parts made : List TypeId) (d : TypeId) (T : Ty) → 2 ≤ length made → length made < 3 → arrow (type_tree b i) (type_tree b j) ≡ T → map (λ t. t.0) parts ≡ i ∷ j ∷ [] →
     HaveBecome b θ parts made → map (λ t. t.0) parts ≡ map (λ t. t.0) made → T ≡ instance θ T

@@ -64,3 +64,4 @@ pub mod RuledOut
 pub mod SolutionsFound
 pub mod TypedRuns
 mod Grounds
+mod Enough

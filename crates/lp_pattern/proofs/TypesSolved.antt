@@ -1,7 +1,8 @@
 -- Type equations under bindings: what the code solves with the bindings put in, and adds to them, is what the definition solves.
-use Rattle.std.proofs.Common.{◌≡◌, ℕ, zero, suc, ◌+◌, ◌<◌, ◌≤◌, List, [], ◌∷◌, ◌++◌, map, reverse, length, Option, Some, None, refl, sym, ap, subst as transport, ◌∙◌, arith, nat_eq, if◌then◌else◌, Bool, true, false, take, slice_get}
+use Rattle.std.proofs.Common.{◌≡◌, ℕ, zero, suc, ◌+◌, ◌<◌, ◌≤◌, List, [], ◌∷◌, ◌++◌, map, reverse, length, Option, Some, None, refl, sym, ap, subst as transport, ◌∙◌, arith, nat_eq, if◌then◌else◌, Bool, true, false, take, slice_get, get_or, ◌⊎◌, inl, inr}
 use Rattle.std.specs.Prelude.{All}
 use Rattle.std.proofs.lemmas.List.{append_assoc, map-append, reverse-reverse}
+use Rattle.std.proofs.lemmas.Option.{slice_get_cases}
 use Rattle.std.proofs.lemmas.List.Elements.{All-head, All-tail, All-weaker}
 use Rattle.lp_lemmas.proofs.Elements.{All_pushed}
 use Rattle.std.specs.List.{IsDistinct, AllByRecursion}
@@ -316,3 +317,11 @@ general_there τ ρ ps qs es ι e f g h = transport (λ l. IsMostGeneralFrom var
 
 pub refused_there : (τ ρ : ℕ → Ty) (ps qs : List Pair) (es : List Equation) (limit : ℕ) (q : EquationRefusal) → ρ ≡ var → ps ≡ qs → read_pairs τ var qs ≡ es → IsRefused q (solve_within limit (read_pairs τ ρ ps) ρ) → IsRefused q (solve_within limit es var)
 refused_there τ ρ ps qs es limit q e f g h = transport (IsRefused q) ((λ i. solve_within limit (read_pairs τ (e i) (f i)) (e i)) ∙ ap (λ l. solve_within limit l var) g) h
+
+-- there is an element at each place inside
+pub some_inside : {X : Type 0} (xs : List X) (i : ℕ) → i < length xs → slice_get xs i ≡ None → ⊥
+some_inside {X = X} xs i l e = go (slice_get_cases xs i).1
+  where
+    go : ((x : X) × (i < length xs) × (slice_get xs i ≡ Some x) × (get_or xs i x ≡ x)) ⊎ ((length xs ≤ i) × (slice_get xs i ≡ None)) → ⊥
+    go (inl h) = let z : ◌≡◌ {A = Option X} None (Some h.0) = sym e ∙ h.2 in absurd (cc)
+    go (inr h) = absurd (omega (arith, l, h.0))

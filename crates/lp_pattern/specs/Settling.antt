@@ -1,5 +1,5 @@
 -- Settled forms by looks at the top, with indices for eigenconstants, and what the tasks that are left lead to.
-use Rattle.std.specs.Prelude.{◌≡◌, ℕ, suc, ◌+◌, ◌-◌, ◌<◌, nat_eq, nat_le, nat_lt, if◌then◌else◌, false, List, [], ◌∷◌, ◌++◌, map, reverse, length, All, Option, Some, None, option_map}
+use Rattle.std.specs.Prelude.{◌≡◌, ℕ, suc, ◌+◌, ◌-◌, ◌<◌, ◌≤◌, nat_eq, nat_le, nat_lt, if◌then◌else◌, false, List, [], ◌∷◌, ◌++◌, map, reverse, length, All, Option, Some, None, option_map}
 use Rattle.lp_calculus.specs.Term.{Term, index, atom, abs, apply, substitute, eigen, logic}
 use Rattle.lp_calculus.specs.Fill.{fill, at_eigens, abstraction}
 use Rattle.lp_term.specs.Nodes.{Nodes}
@@ -78,6 +78,13 @@ Ends m b c cs (Task.Apply a ∷ ts) made r =
 pub record IsLeft (limit : ℕ) (b : Nodes) (c : Closing) (cs : List ℕ) (tasks : List Task) (made : List TermId) (r : Term) : Type 0 where
   pub known : All (λ t. t.0 < length b.terms) made
   pub ends : Ends limit b c cs (reverse tasks) (map (under b c) (reverse made)) r
+
+-- each task, the next one first, finds as many terms made as it takes, and one is there at the end
+abbrev pub AreEnough : List Task → (made : ℕ) → Type 0
+AreEnough [] n = 0 < n
+AreEnough (Task.Visit t o ∷ ts) n = AreEnough ts (suc n)
+AreEnough (Task.Abstract old body ∷ ts) n = (0 < n) × AreEnough ts n
+AreEnough (Task.Apply a ∷ ts) n = (length a.arguments.items ≤ n) × AreEnough ts (suc (n - length a.arguments.items))
 
 -- what the earlier tasks lead to the later ones lead to
 abbrev pub Moves : (b d : Nodes) → Bindings → List ℕ → List Task → List TermId → List Task → List TermId → Type 0

@@ -132,7 +132,7 @@ fn rebuilt(bank: &mut Bank, id: TypeId, parts: &[TypeId], made: &[TypeId]) -> Re
                 }
                 put_arrow(bank, *from, *to)
             }
-            _ => Err(Memory),
+            _ => Ok(id),
         },
         TypeNode::Var(_) => Ok(id),
         TypeNode::Param(_) => Ok(id),

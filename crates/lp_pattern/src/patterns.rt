@@ -315,6 +315,7 @@ pub(crate) fn pattern_of(
     ensures kept { Extends bank.old bank.new }
     ensures pattern { IfOk result (λ o. (c : Closing) → IsReading bank.old bindings.now c → IsShut c → (m : ℕ) → IsPattern m level (map (read_at bank.old c opened.level opened.depth) arguments.now) o) }
     ensures distinct { IfOk result (λ o. IfSome o (λ a. (are_distinct a.eigens.items && are_above level a.eigens.items) ≡ true)) }
+    ensures many { IfOk result (λ o. IfSome o (λ a. length a.eigens.items ≡ length arguments.now)) }
     ensures refused { IfErr result (λ e. (c : Closing) → IsReading bank.old bindings.now c → IsShut c → (m : ℕ) → m ≤ 1000000 → HasNoPattern m level (map (read_at bank.old c opened.level opened.depth) arguments.now) e) }
 {
     let mut eigens = Vec::new(alloc);

@@ -92,13 +92,9 @@ fn put_allowed(
     for k in side.eigens.iter().copied() {
         push_low(bank, level, k, &mut arguments)?;
     }
-    let mut left = eigens.len() as u64;
-    for k in eigens.iter().copied() {
-        if left == 0 {
-            return Err(Memory);
-        }
-        left -= 1;
-        push_place(bank, side, k, left, &mut arguments)?;
+    for at in 0..eigens.len() {
+        let place = (eigens.len() - 1 - at) as u64;
+        push_place(bank, side, eigens[at], place, &mut arguments)?;
     }
     Ok(arguments)
 }

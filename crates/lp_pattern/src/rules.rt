@@ -1,5 +1,6 @@
 // The rules for one pair: the first that applies is taken.
-ghost use Rattle.std.specs.Prelude.{◌≡◌, ◌≤◌, ◌<◌, ◌+◌, ◌++◌, ℕ, suc, nat_eq, length, map, reverse, true, false, All, Some, IfOk, OnOk, IfErr};
+ghost use Rattle.std.specs.Prelude.{◌≡◌, ◌≤◌, ◌<◌, ◌+◌, ◌++◌, ℕ, suc, nat_eq, length, map, reverse, true, false, All, None, Some, IfSome, IfOk, OnOk, IfErr};
+ghost use Rattle.indexmap.specs.IndexMap.{get};
 ghost use Rattle.lp_calculus.specs.Convert.{steps};
 ghost use Rattle.lp_calculus.specs.Term.{Term, atom, apply, index, logic};
 ghost use Rattle.lp_calculus.specs.Fill.{Within, abstracted};
@@ -139,6 +140,7 @@ fn join(
     ones: &[u64],
     others: &[u64],
 ) -> Result<(), Memory>
+    requires { get nat_eq bindings.old.terms id ≡ None }
     ensures kept { Extends bank.old bank.new }
     ensures more { next.old ≤ next.new }
     ensures next { OnOk result (next.new ≡ suc next.old) }
@@ -151,7 +153,7 @@ fn join(
     let variable = put_variable(bank, next, level)?;
     let body = put_application(bank, variable, arguments.as_slice())?;
     let value = put_abstractions(bank, ones.len() as u64, body)?;
-    bindings.bind(id, value)
+    bindings.put_term(id, value)
 }
 
 // The side that a term is, if it is a pattern.
@@ -165,6 +167,7 @@ fn side_of(
     requires looked { IsLooked bank.old bindings.now looked.now }
     ensures kept { Extends bank.old bank.new }
     ensures side { IfOk result (λ o. (c : Closing) → IsReading bank.old bindings.now c → IsShut c → (m : ℕ) → IsSideOf m (view bank.old c looked.now) pair o) }
+    ensures free { IfOk result (λ o. IfSome o (λ s. get nat_eq bindings.now.terms s.id ≡ None)) }
     ensures refused { IfErr result (λ e. (c : Closing) → IsReading bank.old bindings.now c → IsShut c → (m : ℕ) → IsNoSide m (view bank.old c looked.now) pair e) }
 {
     let Head::Variable { id, level } = looked.head else {

@@ -1,6 +1,6 @@
 // What the variable of a side becomes: the beta-normal form of the other side, its patterns standing on the eigenconstants themselves,
 // with the side's eigenconstants abstracted. A part that stays as it is keeps its number.
-ghost use Rattle.std.specs.Prelude.{◌≡◌, ◌∷◌, ◌++◌, ◌<◌, ℕ, [], length, map, reverse, true, false, Some, IfOk, OnOk, IfErr};
+ghost use Rattle.std.specs.Prelude.{◌≡◌, ◌∷◌, ◌++◌, ◌-◌, ◌<◌, ◌≤◌, ℕ, [], suc, length, map, reverse, true, false, Some, IfOk, OnOk, IfErr};
 ghost use Rattle.lp_calculus.specs.Term.{Term, apply};
 ghost use Rattle.lp_calculus.specs.Fill.{abstracted};
 ghost use Rattle.lp_term.specs.Nodes.{Extends, tree};
@@ -12,7 +12,7 @@ ghost use Rattle.lp_pattern.specs.declared.settle.Task.TheVariants.{Visit, Abstr
 ghost use Rattle.lp_pattern.specs.Refusing.{IsNoFailure, IsNothing};
 ghost use Rattle.lp_pattern.specs.Scanning.{AreTerms};
 ghost use Rattle.lp_pattern.specs.Seen.{IsLooked, IsRigid};
-ghost use Rattle.lp_pattern.specs.Settling.{index_in, eigen_or, eigens_in, visit_tasks, IsHeadIn, IsPushed, Moves, StopsSettling};
+ghost use Rattle.lp_pattern.specs.Settling.{AreEnough, index_in, eigen_or, eigens_in, visit_tasks, IsHeadIn, IsPushed, Moves, StopsSettling};
 ghost use Rattle.lp_pattern.specs.Stripping.{IsShut};
 ghost use Rattle.lp_pattern.specs.Under.{IsReading, under};
 
@@ -186,16 +186,13 @@ fn put_stand_ins(
     olds: &[TermId],
     eigens: &[u64],
 ) -> Result<Vec<TermId>, Memory>
+    requires { length eigens.now ≡ length olds.now }
     ensures kept { Extends bank.old bank.new }
     ensures terms { IfOk result (λ ids. AreTerms bank.new ids.items (eigens_in side.now.eigens.items opened.level opened.depth eigens.now)) }
 {
     let mut ids = Vec::new(alloc);
-    for k in eigens.iter().copied() {
-        let at = ids.len();
-        if at >= olds.len() {
-            return Err(Memory);
-        }
-        let id = put_stand_in(bank, side, opened, k, olds[at])?;
+    for at in 0..eigens.len() {
+        let id = put_stand_in(bank, side, opened, eigens[at], olds[at])?;
         ids.push(id)?;
     }
     Ok(ids)
@@ -246,6 +243,7 @@ fn visit_body(
     requires looked { IsLooked bank.now bindings.now looked.now }
     requires head { looked.now.head ≡ Abstraction body }
     ensures moves { OnOk result (Moves bank.now bank.now bindings.now side.now.eigens.items (work.old.tasks.items ++ Visit looked.now.whole opened ∷ []) work.old.made.items work.new.tasks.items work.new.made.items) }
+    ensures enough { OnOk result (AreEnough (Visit looked.now.whole opened ∷ reverse work.old.tasks.items) (length work.old.made.items) → AreEnough (reverse work.new.tasks.items) (length work.new.made.items)) }
 {
     let inner = opened.one_more()?;
     work.tasks.push(Task::Abstract(looked.whole, body))?;
@@ -266,6 +264,7 @@ fn visit_rigid(
     requires head { looked.now.head ≡ Rigid }
     ensures kept { Extends bank.old bank.new }
     ensures moves { OnOk result (Moves bank.old bank.new bindings.now side.now.eigens.items (work.old.tasks.items ++ Visit looked.now.whole opened ∷ []) work.old.made.items work.new.tasks.items work.new.made.items) }
+    ensures enough { OnOk result (AreEnough (Visit looked.now.whole opened ∷ reverse work.old.tasks.items) (length work.old.made.items) → AreEnough (reverse work.new.tasks.items) (length work.new.made.items)) }
 {
     let head = head_in(bank, side, opened, looked.top)?;
     push_application(alloc, work, looked, head, opened)
@@ -288,6 +287,7 @@ fn visit_variable(
     ensures moves { OnOk result (Moves bank.old bank.new bindings.now side.now.eigens.items (work.old.tasks.items ++ Visit looked.now.whole opened ∷ []) work.old.made.items work.new.tasks.items work.new.made.items) }
     ensures unfailing { IfErr result IsNoFailure }
     ensures refused { IfErr result (λ e. StopsSettling e bank.old bindings.now side.now.eigens.items (work.old.tasks.items ++ Visit looked.now.whole opened ∷ []) work.old.made.items) }
+    ensures enough { OnOk result (AreEnough (Visit looked.now.whole opened ∷ reverse work.old.tasks.items) (length work.old.made.items) → AreEnough (reverse work.new.tasks.items) (length work.new.made.items)) }
 {
     let arguments = looked.arguments.as_slice();
     let pattern = pattern_of(alloc, bank, bindings, opened, level, arguments)?;
@@ -317,6 +317,7 @@ fn visit_seen(
     ensures moves { OnOk result (Moves bank.old bank.new bindings.now side.now.eigens.items (work.old.tasks.items ++ Visit looked.now.whole opened ∷ []) work.old.made.items work.new.tasks.items work.new.made.items) }
     ensures unfailing { IfErr result IsNoFailure }
     ensures refused { IfErr result (λ e. StopsSettling e bank.old bindings.now side.now.eigens.items (work.old.tasks.items ++ Visit looked.now.whole opened ∷ []) work.old.made.items) }
+    ensures enough { OnOk result (AreEnough (Visit looked.now.whole opened ∷ reverse work.old.tasks.items) (length work.old.made.items) → AreEnough (reverse work.new.tasks.items) (length work.new.made.items)) }
 {
     match looked.head {
         Head::Abstraction(body) => {
@@ -346,6 +347,7 @@ fn visit(
     ensures moves { OnOk result (Moves bank.old bank.new bindings.now side.now.eigens.items (work.old.tasks.items ++ Visit term opened ∷ []) work.old.made.items work.new.tasks.items work.new.made.items) }
     ensures unfailing { IfErr result IsNoFailure }
     ensures refused { IfErr result (λ e. StopsSettling e bank.old bindings.now side.now.eigens.items (work.old.tasks.items ++ Visit term opened ∷ []) work.old.made.items) }
+    ensures enough { OnOk result (AreEnough (Visit term opened ∷ reverse work.old.tasks.items) (length work.old.made.items) → AreEnough (reverse work.new.tasks.items) (length work.new.made.items)) }
 {
     // A ground term is settled as it stands.
     if let Some(_nodes) = bank.ground_nodes(term) {
@@ -365,11 +367,14 @@ fn abstracted(
     old: TermId,
     body: TermId,
 ) -> Result<(), Memory>
+    requires { 0 < length work.old.made.items }
     ensures kept { Extends bank.old bank.new }
     ensures moves { OnOk result (Moves bank.old bank.new bindings.now side.now.eigens.items (work.old.tasks.items ++ Abstract old body ∷ []) work.old.made.items work.new.tasks.items work.new.made.items) }
+    ensures tasks { work.new.tasks ≡ work.old.tasks }
+    ensures count { OnOk result (length work.new.made.items ≡ length work.old.made.items) }
 {
     let Some(made) = work.made.pop() else {
-        return Err(Memory);
+        unreachable!()
     };
     if made.0 == body.0 {
         work.made.push(old)?;
@@ -382,14 +387,13 @@ fn abstracted(
 
 // As many of the terms that were made last, in their order.
 fn popped(alloc: Global, count: usize, made: &mut Vec<TermId>) -> Result<Vec<TermId>, Memory>
+    requires { count ≤ length made.old.items }
     ensures made { IfOk result (λ ids. made.old.items ≡ made.new.items ++ ids.items) }
     ensures count { IfOk result (λ ids. length ids.items ≡ count) }
 {
     let mut ids = Vec::new(alloc);
     for _ in 0..count {
-        let Some(id) = made.pop() else {
-            return Err(Memory);
-        };
+        let Some(id) = made.pop() else { unreachable!() };
         ids.push(id)?;
     }
     ids.reverse();
@@ -405,8 +409,11 @@ fn applied(
     work: &mut Work,
     application: Application,
 ) -> Result<(), Memory>
+    requires { length application.arguments.items ≤ length work.old.made.items }
     ensures kept { Extends bank.old bank.new }
     ensures moves { OnOk result (Moves bank.old bank.new bindings.now side.now.eigens.items (work.old.tasks.items ++ Apply application ∷ []) work.old.made.items work.new.tasks.items work.new.made.items) }
+    ensures tasks { work.new.tasks ≡ work.old.tasks }
+    ensures count { OnOk result (length work.new.made.items ≡ suc (length work.old.made.items - length application.arguments.items)) }
 {
     let arguments = popped(alloc, application.arguments.len(), &mut work.made)?;
     if !application.is_new && are_same(arguments.as_slice(), application.arguments.as_slice()) {
@@ -426,10 +433,12 @@ fn step(
     work: &mut Work,
     task: Task,
 ) -> Result<(), PatternRefusal>
+    requires { AreEnough (task ∷ reverse work.old.tasks.items) (length work.old.made.items) }
     ensures kept { Extends bank.old bank.new }
     ensures moves { OnOk result (Moves bank.old bank.new bindings.now side.now.eigens.items (work.old.tasks.items ++ task ∷ []) work.old.made.items work.new.tasks.items work.new.made.items) }
     ensures unfailing { IfErr result IsNoFailure }
     ensures refused { IfErr result (λ e. StopsSettling e bank.old bindings.now side.now.eigens.items (work.old.tasks.items ++ task ∷ []) work.old.made.items) }
+    ensures enough { OnOk result (AreEnough (reverse work.new.tasks.items) (length work.new.made.items)) }
 {
     match task {
         Task::Visit(term, opened) => visit(alloc, bank, bindings, side, work, term, opened),
@@ -466,7 +475,7 @@ pub(crate) fn settled(
     'tasks: for _ in 0..u64::MAX {
         let Some(task) = work.tasks.pop() else {
             let Some(body) = work.made.pop() else {
-                return Err(PatternRefusal::Memory);
+                unreachable!()
             };
             let id = put_abstractions(bank, side.eigens.len() as u64, body)?;
             return Ok(id);

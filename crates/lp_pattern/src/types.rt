@@ -60,7 +60,7 @@ fn adopt(bindings: &mut Bindings, solution: &Solution) -> Result<(), Memory>
 {
     for place in 0..solution.len() {
         let Some((variable, to)) = solution.entry(place) else {
-            return Err(Memory);
+            unreachable!()
         };
         bindings.bind_type(variable, to)?;
     }

@@ -59,3 +59,7 @@ flat_count (these_clauses cs) = count_in_clauses cs
 -- where so many were met, what all comes to passes the limit
 abbrev pub Passes : Nodes → Inner → List Frame → (count : ℕ) → Type 0
 Passes b inner frames count = (whole : Flat) → inner_met b inner + frames_met b frames ≡ count → InnerComesTo b inner frames whole → PassesLimit (flat_count whole)
+
+abbrev pub IsMade : Move → Type 0
+IsMade (Move.On inner) = ⊥
+IsMade (Move.Done made) = Unit {0}

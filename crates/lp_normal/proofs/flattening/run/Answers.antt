@@ -1,16 +1,17 @@
-use Rattle.std.proofs.Common.{ap, arith, subst, sym, []}
+use Rattle.lp_base.specs.declared.limits.TheConstants.{MAX_CLAUSES}
+use Rattle.std.proofs.Common.{◌<◌, ◌⊎◌, ap, arith, subst, sym, []}
 use Rattle.lp_lemmas.proofs.Results.{passed_up}
 use Rattle.lp_term.proofs.Trees.{extends_same, extends-trans}
 use Rattle.lp_normal.specs.Within.{IsFrameIn}
 use Rattle.lp_normal.specs.Making.{InnerComesTo}
 use Rattle.lp_normal.specs.Counted.{IsOver}
-use Rattle.lp_normal.specs.inner.Met.{frames_met, move_met, Passes}
+use Rattle.lp_normal.specs.inner.Met.{IsMade, frames_met, move_met, Passes}
 use Rattle.lp_normal.proofs.Bounds.{All-empty}
-use Rattle.lp_normal.proofs.Counts.{over_then}
+use Rattle.lp_normal.proofs.Counts.{over_then, count_falls}
 use Rattle.lp_normal.proofs.flattening.run.Goals as goal
 
-pub moves-init : goal.moves-init
-moves-init c =
+pub clauses-init : goal.clauses-init
+clauses-init c =
     let b = c.args.bank.now in
     record {
       kept = extends_same b;
@@ -21,33 +22,39 @@ moves-init c =
       few = omega arith;
     }
 
-pub moves-preserved : goal.moves-preserved
-moves-preserved c =
+pub clauses-preserved : goal.clauses-preserved
+clauses-preserved c =
     let e = c.in_ok-next.ensures in
     record {
-      kept = extends-trans c.args.bank.now c.moves.bank c.step.new.bank c.moves.invariant.kept e.kept;
+      kept = extends-trans c.args.bank.now c.clauses.bank c.until_clause.new.bank c.clauses.invariant.kept e.kept;
       frames = e.frames;
       inner = rw c.in-On.is at e.within;
-      comes = λ whole h. rw c.in-On.is at (e.comes whole (c.moves.invariant.comes whole h));
-      met = λ b. rw c.in-On.is at (e.met b (c.moves.invariant.met b));
-      few = e.few c.moves.invariant.few;
+      comes = λ whole h. rw c.in-On.is at (e.comes whole (c.clauses.invariant.comes whole h));
+      met = λ b. rw c.in-On.is at (e.met c.clauses.invariant.met b);
+      few = e.few c.clauses.invariant.few;
     }
 
 pub returns-in-Done-clause-kept : goal.returns-in-Done-clause-kept
-returns-in-Done-clause-kept c = extends-trans c.args.bank.now c.moves.bank c.step.new.bank c.moves.invariant.kept c.in_ok-next.ensures.kept
+returns-in-Done-clause-kept c = extends-trans c.args.bank.now c.clauses.bank c.until_clause.new.bank c.clauses.invariant.kept c.in_ok-next.ensures.kept
 
 pub returns-in-Done-clause-within : goal.returns-in-Done-clause-within
 returns-in-Done-clause-within c = rw c.in-Done.is at c.in_ok-next.ensures.within
 
 pub returns-in-Done-clause-made : goal.returns-in-Done-clause-made
-returns-in-Done-clause-made c = λ whole h. rw c.in-Done.is at (c.in_ok-next.ensures.comes whole (c.moves.invariant.comes whole h))
+returns-in-Done-clause-made c = λ whole h. rw c.in-Done.is at (c.in_ok-next.ensures.comes whole (c.clauses.invariant.comes whole h))
 
 pub returns-in-Done-clause-few : goal.returns-in-Done-clause-few
 returns-in-Done-clause-few c = λ b.
     let e = c.in_ok-next.ensures in
-    omega (arith, e.met b (c.moves.invariant.met b), e.few c.moves.invariant.few, ap (move_met b) c.in-Done.is)
+    omega (arith, e.met c.clauses.invariant.met b, e.few c.clauses.invariant.few, ap (move_met b) c.in-Done.is)
 
 pub returns-in_err-next-clause-over : goal.returns-in_err-next-clause-over
 returns-in_err-next-clause-over c =
     passed_up c.from_residual.result c.in_err-next.field-0.0 (IsOver (Passes c.args.bank.now c.args.first [] 0)) c.from_residual.ensures.1
-    (over_then c.in_err-next.field-0.0 (λ p whole m h. p whole (c.moves.invariant.met c.moves.bank) (c.moves.invariant.comes whole h)) c.in_err-next.ensures.over)
+    (over_then c.in_err-next.field-0.0 (λ p whole m h. p c.clauses.invariant.met whole (c.clauses.invariant.met c.clauses.bank) (c.clauses.invariant.comes whole h)) c.in_err-next.ensures.over)
+
+pub clauses-smaller : goal.clauses-smaller
+clauses-smaller c =
+    let e = c.in_ok-next.ensures in
+    let l = subst (λ m. IsMade m ⊎ (c.clauses.count < c.until_clause.new.count)) c.in-On.is e.later in
+    count_falls MAX_CLAUSES c.clauses.count c.until_clause.new.count (e.few c.clauses.invariant.few) l

@@ -1,4 +1,4 @@
-use Rattle.std.proofs.Common.{◌≡◌, ◌+◌, ◌≤◌, []}
+use Rattle.std.proofs.Common.{◌≡◌, ◌+◌, ◌≤◌, ◌-◌, suc, []}
 use Rattle.std.specs.Prelude.{All}
 use Rattle.lp_base.specs.declared.limits.TheConstants.{MAX_CLAUSES}
 use Rattle.lp_term.specs.Nodes.{Nodes, Extends}
@@ -7,8 +7,8 @@ use Rattle.lp_normal.specs.Making.{Flat, InnerComesTo}
 use Rattle.lp_normal.specs.inner.Met.{inner_met, frames_met}
 use Rattle.lp_normal.proofs.flattening.run.Given as goal
 
-abbrev pub invariant-moves : goal.invariant-moves
-invariant-moves l = record {
+abbrev pub invariant-clauses : goal.invariant-clauses
+invariant-clauses l = record {
   kept : Extends l.fn.bank l.bank;
   frames : All (IsFrameIn l.bank) l.frames.items;
   inner : IsInnerIn l.bank l.inner;
@@ -16,3 +16,6 @@ invariant-moves l = record {
   met : (b : Nodes) → inner_met b l.inner + frames_met b l.frames.items ≡ l.count;
   few : l.count ≤ MAX_CLAUSES;
 }
+
+abbrev pub decreases-clauses : goal.decreases-clauses
+decreases-clauses l = suc MAX_CLAUSES - l.count

@@ -1,4 +1,4 @@
-use Rattle.std.proofs.Common.{◌∙◌, ap, sym, refl, Some}
+use Rattle.std.proofs.Common.{◌∙◌, ap, sym, refl, Some, arith}
 use Rattle.lp_calculus.specs.Term.{shift}
 use Rattle.lp_term.specs.Nodes.{tree}
 use Rattle.lp_standard.specs.Connectives.{connective_of}
@@ -6,6 +6,9 @@ use Rattle.lp_standard.specs.Connectives as connective
 use Rattle.lp_normal.proofs.Steps.{implies_next}
 use Rattle.lp_normal.proofs.Comings.{next_later}
 use Rattle.lp_normal.proofs.Counts.{new_clauses_met}
+use Rattle.lp_term.proofs.Trees.{extends-trans}
+use Rattle.lp_normal.specs.inner.Work.{weight}
+use Rattle.lp_normal.proofs.Works.{new_clauses_work, lighter, shift_weight}
 use Rattle.lp_normal.proofs.step.assume.Goals as goal
 
 pub returns-clause-comes : goal.returns-clause-comes
@@ -26,3 +29,20 @@ pub returns-clause-met : goal.returns-clause-met
 returns-clause-met c = λ b.
     let e = c.in_ok-inner.ensures in
     new_clauses_met b c.in_ok-inner.inner (Some (record { outer = c.args.list; goal = record { formula = c.args.goal; level = c.args.next.level } })) e.assumed e.done
+
+pub returns-clause-less : goal.returns-clause-less
+returns-clause-less c = λ d x.
+    let e = c.in_ok-inner.ensures in
+    let i = c.in_ok-formula.ensures in
+    let b = c.args.bank.now in
+    let y = extends-trans b c.raised.new.bank d i.kept x in
+    let u = tree b c.args.clause.0 in
+    let form = ap connective_of (y.same_terms c.args.next.formula.0 c.requires.next.formula) ∙ c.requires.form in
+    let raised = ap weight (x.same_terms c.in_ok-formula.formula.0 i.within ∙ i.tree) ∙ shift_weight 0 c.raise_from-by.result u in
+    omega (
+      arith,
+      new_clauses_work d c.in_ok-inner.inner c.in_ok-formula.formula (Some (record { outer = c.args.list; goal = record { formula = c.args.goal; level = c.args.next.level } })) e.assumed e.waiting,
+      lighter (tree d c.args.next.formula.0) (connective.Implies u (tree b c.args.goal.0)) form,
+      raised,
+      ap weight (y.same_terms c.args.goal.0 c.requires.goal),
+    )

@@ -9,6 +9,7 @@ use Rattle.lp_normal.proofs.Meanings.{atom_is, atom_terms, atom_types}
 use Rattle.lp_normal.proofs.Steps.{with_comes, plain_next}
 use Rattle.lp_normal.proofs.Comings.{comes_later}
 use Rattle.lp_normal.proofs.Counts.{with_met, atom_counts}
+use Rattle.lp_normal.proofs.Works.{same_work}
 use Rattle.lp_normal.proofs.step.atom.Goals as goal
 
 pub returns-clause-within : goal.returns-clause-within
@@ -33,3 +34,7 @@ pub returns-clause-met : goal.returns-clause-met
 returns-clause-met c = λ b.
     let e = c.in_ok-made.ensures in
     omega (arith, with_met b c.in_ok-made.made c.args.list (code.Atom c.in_ok-id.id) e.opened e.done, atom_counts b c.in_ok-id.id)
+
+pub returns-clause-less : goal.returns-clause-less
+returns-clause-less c = λ d x.
+    omega (arith, same_work d c.in_ok-made.made c.args.list c.in_ok-made.ensures.waiting)

@@ -1,4 +1,4 @@
-use Rattle.std.proofs.Common.{arith}
+use Rattle.std.proofs.Common.{arith, inl, inr}
 use Rattle.std.specs.Prelude.{option_to_list}
 use Rattle.lp_term.proofs.Moves.{nothing}
 use Rattle.lp_normal.proofs.Turnings.{part_popped_in, part_popped, left_in, left_comes}
@@ -7,6 +7,8 @@ use Rattle.lp_normal.specs.Counted.{IsOver}
 use Rattle.lp_normal.specs.inner.Met.{Passes}
 use Rattle.lp_normal.specs.declared.frame.Inner.{Inner}
 use Rattle.lp_normal.proofs.Counts.{over_then}
+use Rattle.lp_normal.specs.declared.clauses.Part.{Part}
+use Rattle.lp_normal.proofs.Works.{parts_pushed, parts_popped}
 use Rattle.lp_normal.proofs.step.clauses_move.Goals as goal
 
 pub next_part-requires-clause-list : goal.next_part-requires-clause-list
@@ -52,3 +54,19 @@ returns-in_err-inner-in-Visit-clause-over c =
     passed_up c.from_residual-in_err-inner-in-Visit.result c.in_err-inner-in-Visit.field-0.0 (IsOver (Passes b (Inner.Clauses c.args.list) c.args.frames.now.items c.args.count.now))
     c.from_residual-in_err-inner-in-Visit.ensures.1
     (over_then c.in_err-inner-in-Visit.field-0.0 (λ p whole m h. p h.0 whole m (part_popped b c.args.list c.pop.new.self c.in-Visit.part h.0 q h.1) h.2) c.in_err-inner-in-Visit.ensures.over)
+
+pub returns-in_default-clause-less : goal.returns-in_default-clause-less
+returns-in_default-clause-less c = inr (λ d x. omega (arith, c.in_ok-ended.ensures.less d, parts_popped d c.args.list.waiting.items c.pop.new.self.items c.in_default.ensures.items))
+
+pub returns-in_ok-inner-in-Visit-clause-less : goal.returns-in_ok-inner-in-Visit-clause-less
+returns-in_ok-inner-in-Visit-clause-less c =
+    let q = rw c.in-Visit.is at c.in-Some.ensures.items in
+    elim c.in_ok-inner-in-Visit.ensures.less [
+      | inl l ↦ inl l
+      | inr f ↦ inr (λ d x. omega (arith, f d x, parts_pushed d c.args.list.waiting.items c.pop.new.self.items (Part.Visit c.in-Visit.part) q))
+    ]
+
+pub returns-in-Leave-clause-less : goal.returns-in-Leave-clause-less
+returns-in-Leave-clause-less c =
+    let q = rw c.in-Leave.is at c.in-Some.ensures.items in
+    inr (λ d x. omega (arith, parts_pushed d c.args.list.waiting.items c.pop.new.self.items Part.Leave q))

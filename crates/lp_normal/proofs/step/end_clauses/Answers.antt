@@ -4,6 +4,8 @@ use Rattle.lp_normal.proofs.Turnings.{ends_made, clauses_made, assumed_made}
 use Rattle.lp_normal.specs.inner.Met.{assumed_met}
 use Rattle.lp_normal.specs.declared.frame.Frame.{Frame}
 use Rattle.lp_normal.proofs.Counts.{new_met, frames_pushed}
+use Rattle.lp_normal.specs.inner.Work.{assumed_work}
+use Rattle.lp_normal.proofs.Works.{new_work, frames_work_pushed}
 use Rattle.lp_normal.proofs.step.end_clauses.Goals as goal
 
 pub returns-in-None-clause-comes : goal.returns-in-None-clause-comes
@@ -34,4 +36,17 @@ returns-clause-met c = λ b.
       ap (assumed_met b) c.in-Some.is,
       new_met b c.in_ok-inner-in-Some.inner e.opened e.done,
       frames_pushed b c.push.new.self.items c.args.frames.now.items (Frame.Assume c.in-Some.assumed.outer c.args.list.done) c.in_ok-push-in-Some.ensures.items,
+    )
+
+pub returns-in-None-clause-less : goal.returns-in-None-clause-less
+returns-in-None-clause-less c = λ d. omega arith
+
+pub returns-clause-less : goal.returns-clause-less
+returns-clause-less c = λ d.
+    let e = c.in_ok-inner-in-Some.ensures in
+    omega (
+      arith,
+      ap (assumed_work d) c.in-Some.is,
+      new_work d c.in_ok-inner-in-Some.inner c.in-Some.assumed.goal e.waiting,
+      frames_work_pushed d c.push.new.self.items c.args.frames.now.items (Frame.Assume c.in-Some.assumed.outer c.args.list.done) c.in_ok-push-in-Some.ensures.items,
     )

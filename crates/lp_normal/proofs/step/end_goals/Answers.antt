@@ -5,6 +5,8 @@ use Rattle.lp_normal.proofs.Bounds.{All-last, all_popped}
 use Rattle.lp_normal.proofs.Turnings.{popped_none, goals_made, frame_popped}
 use Rattle.lp_normal.specs.inner.Met.{frames_met}
 use Rattle.lp_normal.proofs.Counts.{frames_pushed}
+use Rattle.lp_normal.specs.inner.Work.{frames_work}
+use Rattle.lp_normal.proofs.Works.{frames_work_pushed}
 use Rattle.lp_normal.proofs.step.end_goals.Goals as goal
 
 pub returns-in_default-clause-comes : goal.returns-in_default-clause-comes
@@ -42,3 +44,10 @@ returns-in_default-clause-met c = λ b. omega (arith, c.in_ok-goals.ensures.met 
 pub returns-clause-met : goal.returns-clause-met
 returns-clause-met c = λ b.
     omega (arith, c.in_ok-goals.ensures.met b, c.in_ok-inner.ensures.met b, frames_pushed b c.args.frames.now.items c.pop.new.self.items c.in-Some.frame c.in-Some.ensures.items)
+
+pub returns-in_default-clause-less : goal.returns-in_default-clause-less
+returns-in_default-clause-less c = λ d. omega (arith, ap (frames_work d) (all_popped c.args.frames.now.items c.pop.new.self.items c.in_default.ensures.items))
+
+pub returns-clause-less : goal.returns-clause-less
+returns-clause-less c = λ d.
+    omega (arith, c.in_ok-inner.ensures.less d, frames_work_pushed d c.args.frames.now.items c.pop.new.self.items c.in-Some.frame c.in-Some.ensures.items)

@@ -1,4 +1,6 @@
 use Rattle.lp_normal.proofs.Turnings.{popped_in, popped_next}
+use Rattle.std.proofs.Common.{arith}
+use Rattle.lp_normal.proofs.Works.{waiting_pushed, waiting_popped}
 use Rattle.lp_normal.proofs.step.goals_move.Goals as goal
 
 pub next_goal-requires-clause-list : goal.next_goal-requires-clause-list
@@ -16,3 +18,9 @@ returns-in_default-clause-met c = λ b. c.in_ok-ended.ensures.met b
 
 pub returns-clause-met : goal.returns-clause-met
 returns-clause-met c = λ b. c.in_ok-inner.ensures.met b
+
+pub returns-in_default-clause-less : goal.returns-in_default-clause-less
+returns-in_default-clause-less c = λ d x. omega (arith, c.in_ok-ended.ensures.less d, waiting_popped d c.args.list.waiting.items c.pop.new.self.items c.in_default.ensures.items)
+
+pub returns-clause-less : goal.returns-clause-less
+returns-clause-less c = λ d x. omega (arith, c.in_ok-inner.ensures.less d x, waiting_pushed d c.args.list.waiting.items c.pop.new.self.items c.in-Some.next c.in-Some.ensures.items)

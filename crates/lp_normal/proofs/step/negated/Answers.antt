@@ -1,7 +1,12 @@
 use Rattle.lp_normal.proofs.Steps.{not_next}
-use Rattle.std.proofs.Common.{arith}
+use Rattle.std.proofs.Common.{arith, ◌∙◌, ap}
 use Rattle.lp_normal.specs.declared.frame.Frame.{Frame}
 use Rattle.lp_normal.proofs.Counts.{new_met, frames_pushed}
+use Rattle.lp_term.specs.Nodes.{tree}
+use Rattle.lp_standard.specs.Connectives.{connective_of}
+use Rattle.lp_standard.specs.Connectives as connective
+use Rattle.lp_normal.specs.inner.Work.{weight}
+use Rattle.lp_normal.proofs.Works.{new_work, frames_work_pushed, lighter}
 use Rattle.lp_normal.proofs.step.negated.Goals as goal
 
 pub returns-clause-comes : goal.returns-clause-comes
@@ -13,3 +18,15 @@ pub returns-clause-met : goal.returns-clause-met
 returns-clause-met c = λ b.
     let e = c.in_ok-inner.ensures in
     omega (arith, new_met b c.in_ok-inner.inner e.opened e.done, frames_pushed b c.push.new.self.items c.args.frames.now.items (Frame.Not c.args.list) c.in_ok-push.ensures.items)
+
+pub returns-clause-less : goal.returns-clause-less
+returns-clause-less c = λ d x.
+    let e = c.in_ok-inner.ensures in
+    let form = ap connective_of (x.same_terms c.args.next.formula.0 c.requires.next.formula) ∙ c.requires.form in
+    omega (
+      arith,
+      new_work d c.in_ok-inner.inner (record { formula = c.args.on; level = c.args.next.level }) e.waiting,
+      frames_work_pushed d c.push.new.self.items c.args.frames.now.items (Frame.Not c.args.list) c.in_ok-push.ensures.items,
+      lighter (tree d c.args.next.formula.0) (connective.Not (tree c.args.bank.now c.args.on.0)) form,
+      ap weight (x.same_terms c.args.on.0 c.requires.on),
+    )

@@ -1,4 +1,4 @@
-use Rattle.std.proofs.Common.{reverse, arith, refl}
+use Rattle.std.proofs.Common.{reverse, arith, refl, ◌∙◌, ap}
 use Rattle.lp_model.specs.declared.clause.Goal as code
 use Rattle.lp_model.specs.Flat.{Cut}
 use Rattle.lp_normal.specs.Within.{IsFrameIn}
@@ -8,6 +8,11 @@ use Rattle.lp_normal.proofs.Meanings.{cut_is, cut_terms, cut_types}
 use Rattle.lp_normal.proofs.Steps.{truth_next, cut_next, both_next, with_comes}
 use Rattle.lp_normal.proofs.Comings.{all_turn_later}
 use Rattle.lp_normal.proofs.Counts.{with_met, cut_counts, same_met}
+use Rattle.lp_term.specs.Nodes.{tree}
+use Rattle.lp_standard.specs.Connectives.{connective_of}
+use Rattle.lp_standard.specs.Connectives as connective
+use Rattle.lp_normal.specs.inner.Work.{weight}
+use Rattle.lp_normal.proofs.Works.{same_work, two_more_work, lighter}
 use Rattle.lp_normal.proofs.step.next_goal.Goals as goal
 
 pub returns-in-True-clause-comes : goal.returns-in-True-clause-comes
@@ -82,3 +87,40 @@ returns-in_ok-made-in-Not-clause-met c = λ b. c.in_ok-made-in-Not.ensures.met b
 
 pub returns-in_ok-made-in-Atomic-clause-met : goal.returns-in_ok-made-in-Atomic-clause-met
 returns-in_ok-made-in-Atomic-clause-met c = λ b. omega (arith, c.in_ok-made-in-Atomic.ensures.met b)
+
+pub returns-in-True-clause-less : goal.returns-in-True-clause-less
+returns-in-True-clause-less c = λ d x. omega arith
+
+pub returns-in_ok-made-in-Cut-clause-less : goal.returns-in_ok-made-in-Cut-clause-less
+returns-in_ok-made-in-Cut-clause-less c = λ d x. omega (arith, same_work d c.in_ok-made-in-Cut.made c.args.list c.in_ok-made-in-Cut.ensures.waiting)
+
+pub returns-in_ok-made-in-And-clause-less : goal.returns-in_ok-made-in-And-clause-less
+returns-in_ok-made-in-And-clause-less c = λ d x.
+    let b = c.args.bank.now in
+    let i = c.in-And.ensures.within in
+    let form = ap connective_of (x.same_terms c.args.next.formula.0 c.requires.next.formula) ∙ c.in-And.ensures.tree in
+    omega (
+      arith,
+      two_more_work d c.in_ok-made-in-And.made c.args.list (record { formula = c.in-And.right; level = c.args.next.level }) (record { formula = c.in-And.left; level = c.args.next.level }) c.in_ok-made-in-And.ensures.waiting,
+      lighter (tree d c.args.next.formula.0) (connective.And (tree b c.in-And.left.0) (tree b c.in-And.right.0)) form,
+      ap weight (x.same_terms c.in-And.left.0 i.0),
+      ap weight (x.same_terms c.in-And.right.0 i.1),
+    )
+
+pub returns-in_ok-made-in-Or-clause-less : goal.returns-in_ok-made-in-Or-clause-less
+returns-in_ok-made-in-Or-clause-less c = λ d x. c.in_ok-made-in-Or.ensures.less d x
+
+pub returns-in_ok-made-in-Implies-clause-less : goal.returns-in_ok-made-in-Implies-clause-less
+returns-in_ok-made-in-Implies-clause-less c = λ d x. omega (arith, c.in_ok-made-in-Implies.ensures.less d x)
+
+pub returns-in_ok-made-in-ForAll-clause-less : goal.returns-in_ok-made-in-ForAll-clause-less
+returns-in_ok-made-in-ForAll-clause-less c = λ d x. c.in_ok-made-in-ForAll.ensures.less d x
+
+pub returns-in_ok-made-in-Exists-clause-less : goal.returns-in_ok-made-in-Exists-clause-less
+returns-in_ok-made-in-Exists-clause-less c = λ d x. omega (arith, c.in_ok-made-in-Exists.ensures.less d x)
+
+pub returns-in_ok-made-in-Not-clause-less : goal.returns-in_ok-made-in-Not-clause-less
+returns-in_ok-made-in-Not-clause-less c = λ d x. c.in_ok-made-in-Not.ensures.less d x
+
+pub returns-in_ok-made-in-Atomic-clause-less : goal.returns-in_ok-made-in-Atomic-clause-less
+returns-in_ok-made-in-Atomic-clause-less c = λ d x. omega (arith, c.in_ok-made-in-Atomic.ensures.less d x)

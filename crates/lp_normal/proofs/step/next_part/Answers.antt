@@ -1,5 +1,5 @@
-use Rattle.std.proofs.Common.{◌∙◌, ap, sym, reverse, arith, ◌≡◌, ◌+◌}
-use Rattle.lp_term.specs.Nodes.{tree}
+use Rattle.std.proofs.Common.{◌∙◌, ap, sym, reverse, arith, ◌≡◌, ◌+◌, inl, inr}
+use Rattle.lp_term.specs.Nodes.{tree, type_tree}
 use Rattle.lp_standard.specs.Connectives.{body_of, connective_of}
 use Rattle.lp_standard.specs.Connectives as connective
 use Rattle.lp_normal.specs.Within.{IsFrameIn}
@@ -12,6 +12,10 @@ use Rattle.lp_normal.proofs.Counts.{same_clauses_met, head_passes, over_then}
 use Rattle.lp_normal.specs.inner.Met.{flat_count, clause_list_met, frames_met}
 use Rattle.lp_normal.specs.Counted.{PassesLimit, IsOver}
 use Rattle.lp_normal.specs.Making.{Flat, PartComesTo, AllTurn}
+use Rattle.lp_term.proofs.Trees.{extends-trans}
+use Rattle.lp_normal.specs.inner.Work.{weight}
+use Rattle.lp_normal.specs.declared.clauses.Part.{Part}
+use Rattle.lp_normal.proofs.Works.{two_parts_work, lighter}
 use Rattle.lp_normal.proofs.step.next_part.Goals as goal
 
 pub returns-in_ok-made-in-And-clause-within : goal.returns-in_ok-made-in-And-clause-within
@@ -94,3 +98,48 @@ returns-in_err-made-in-Atomic-clause-over c =
     (IsOver ((out whole : Flat) → clause_list_met b l + frames_met b fs ≡ c.args.count.now → PartComesTo b l t out → AllTurn b (reverse fs) out whole → PassesLimit (flat_count whole)))
     c.from_residual-in_err-made-in-Atomic.ensures.1
     (over_then c.in_err-made-in-Atomic.field-0.0 (λ full out whole m h u. omega (arith, full, m, head_passes b l t fs out whole c.in-Atomic.ensures.tree h u)) c.in_err-made-in-Atomic.ensures.over)
+
+pub returns-in_ok-made-in-And-clause-less : goal.returns-in_ok-made-in-And-clause-less
+returns-in_ok-made-in-And-clause-less c = inr (λ d x.
+    let b = c.args.bank.now in
+    let e = c.in_ok-made-in-And.ensures in
+    let i = c.in-And.ensures.within in
+    let form = ap connective_of (x.same_terms c.args.part.0 c.requires.part) ∙ c.in-And.ensures.tree in
+    omega (
+      arith,
+      two_parts_work d c.in_ok-made-in-And.made c.args.list (Part.Visit c.in-And.right) (Part.Visit c.in-And.left) e.assumed e.waiting,
+      lighter (tree d c.args.part.0) (connective.And (tree b c.in-And.left.0) (tree b c.in-And.right.0)) form,
+      ap weight (x.same_terms c.in-And.left.0 i.0),
+      ap weight (x.same_terms c.in-And.right.0 i.1),
+    ))
+
+pub returns-in_ok-made-in-Implies-clause-less : goal.returns-in_ok-made-in-Implies-clause-less
+returns-in_ok-made-in-Implies-clause-less c = inr (λ d x.
+    let b = c.args.bank.now in
+    let e = c.in_ok-made-in-Implies.ensures in
+    let i = c.in-Implies.ensures.within in
+    let form = ap connective_of (x.same_terms c.args.part.0 c.requires.part) ∙ c.in-Implies.ensures.tree in
+    omega (
+      arith,
+      two_parts_work d c.in_ok-made-in-Implies.made c.args.list Part.Leave (Part.Visit c.in-Implies.clause) e.assumed e.waiting,
+      lighter (tree d c.args.part.0) (connective.Implies (tree b c.in-Implies.goal.0) (tree b c.in-Implies.clause.0)) form,
+      ap weight (x.same_terms c.in-Implies.clause.0 i.1),
+    ))
+
+pub returns-in_ok-made-in-ForAll-clause-less : goal.returns-in_ok-made-in-ForAll-clause-less
+returns-in_ok-made-in-ForAll-clause-less c = inr (λ d x.
+    let b = c.args.bank.now in
+    let e = c.in_ok-made-in-ForAll.ensures in
+    let k = c.in_ok-inside-in-ForAll.ensures in
+    let y = extends-trans b c.body.new.bank d k.kept x in
+    let u = body_of (tree b c.in-ForAll.on.0) in
+    let form = ap connective_of (y.same_terms c.args.part.0 c.requires.part) ∙ c.in-ForAll.ensures.tree in
+    omega (
+      arith,
+      two_parts_work d c.in_ok-made-in-ForAll.made c.args.list Part.Leave (Part.Visit c.in_ok-inside-in-ForAll.inside) e.assumed e.waiting,
+      lighter (tree d c.args.part.0) (connective.ForAll (type_tree b c.in-ForAll.bound.0) u) form,
+      ap weight (x.same_terms c.in_ok-inside-in-ForAll.inside.0 k.within ∙ k.tree),
+    ))
+
+pub returns-in_ok-made-in-Atomic-clause-less : goal.returns-in_ok-made-in-Atomic-clause-less
+returns-in_ok-made-in-Atomic-clause-less c = let e = c.in_ok-made-in-Atomic.ensures in inl (omega (arith, e.count))

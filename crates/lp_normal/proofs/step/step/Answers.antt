@@ -1,7 +1,8 @@
-use Rattle.std.proofs.Common.{arith, ap, sym, subst}
+use Rattle.std.proofs.Common.{arith, ap, sym, subst, inl, inr}
 use Rattle.lp_lemmas.proofs.Results.{passed_up}
 use Rattle.lp_normal.specs.Counted.{IsOver}
 use Rattle.lp_normal.specs.inner.Met.{inner_met, Passes}
+use Rattle.lp_normal.specs.inner.Work.{inner_work}
 use Rattle.lp_normal.proofs.step.step.Goals as goal
 
 pub goals_move-requires-clause-list : goal.goals_move-requires-clause-list
@@ -27,3 +28,13 @@ returns-in_err-next-in-Clauses-clause-over c =
     passed_up c.from_residual-in_err-next-in-Clauses.result c.in_err-next-in-Clauses.field-0.0 (IsOver (Passes c.args.bank.now c.args.inner c.args.frames.now.items c.args.count.now))
     c.from_residual-in_err-next-in-Clauses.ensures.1
     (subst (λ z. IsOver (Passes c.args.bank.now z c.args.frames.now.items c.args.count.now) c.in_err-next-in-Clauses.field-0.0) (sym c.in-Clauses.is) c.in_err-next-in-Clauses.ensures.over)
+
+pub returns-in_ok-next-in-Goals-clause-less : goal.returns-in_ok-next-in-Goals-clause-less
+returns-in_ok-next-in-Goals-clause-less c = inr (λ d x. omega (arith, c.in_ok-next-in-Goals.ensures.less d x, ap (inner_work d) c.in-Goals.is))
+
+pub returns-in_ok-next-in-Clauses-clause-less : goal.returns-in_ok-next-in-Clauses-clause-less
+returns-in_ok-next-in-Clauses-clause-less c =
+    elim c.in_ok-next-in-Clauses.ensures.less [
+      | inl l ↦ inl l
+      | inr f ↦ inr (λ d x. omega (arith, f d x, ap (inner_work d) c.in-Clauses.is))
+    ]

@@ -8,6 +8,8 @@ use Rattle.lp_normal.proofs.Meanings.{either_terms, either_types, all_terms, all
 use Rattle.lp_normal.proofs.Turnings.{left_turns, right_turns, all_turns, assume_turns, not_turns, body_turns}
 use Rattle.lp_normal.specs.inner.Met.{frame_met}
 use Rattle.lp_normal.proofs.Counts.{new_met, frames_pushed, with_met, with_clause_met, either_counts, all_counts, assume_counts, not_counts}
+use Rattle.lp_normal.specs.inner.Work.{frame_work}
+use Rattle.lp_normal.proofs.Works.{new_work, frames_work_pushed, same_work, same_clauses_work}
 use Rattle.lp_normal.proofs.step.take_goals.Goals as goal
 
 pub returns-in_ok-push-in-Left-clause-frames : goal.returns-in_ok-push-in-Left-clause-frames
@@ -150,3 +152,30 @@ returns-in_ok-made-in-Body-clause-met c = λ b.
     let e = c.in_ok-made-in-Body.ensures in
     let x : Clause = record { type_vars = c.in-Body.outer.type_vars; vars = c.in-Body.vars; head = c.in-Body.head; body = c.args.goals } in
     omega (arith, ap (frame_met b) c.in-Body.is, with_clause_met b c.in_ok-made-in-Body.made c.in-Body.outer x e.assumed e.done)
+
+pub returns-in_ok-push-in-Left-clause-less : goal.returns-in_ok-push-in-Left-clause-less
+returns-in_ok-push-in-Left-clause-less c = λ d.
+    let e = c.in_ok-inner-in-Left.ensures in
+    omega (
+      arith,
+      ap (frame_work d) c.in-Left.is,
+      new_work d c.in_ok-inner-in-Left.inner c.in-Left.right e.waiting,
+      frames_work_pushed d c.push.new.self.items c.args.frames.now.items (Frame.Right c.in-Left.outer c.args.goals) c.in_ok-push-in-Left.ensures.items,
+    )
+
+pub returns-in_ok-made-in-Right-clause-less : goal.returns-in_ok-made-in-Right-clause-less
+returns-in_ok-made-in-Right-clause-less c = λ d. omega (arith, ap (frame_work d) c.in-Right.is, same_work d c.in_ok-made-in-Right.made c.in-Right.outer c.in_ok-made-in-Right.ensures.waiting)
+
+pub returns-in_ok-made-in-All-clause-less : goal.returns-in_ok-made-in-All-clause-less
+returns-in_ok-made-in-All-clause-less c = λ d. omega (arith, ap (frame_work d) c.in-All.is, same_work d c.in_ok-made-in-All.made c.in-All.outer c.in_ok-made-in-All.ensures.waiting)
+
+pub returns-in_ok-made-in-Assume-clause-less : goal.returns-in_ok-made-in-Assume-clause-less
+returns-in_ok-made-in-Assume-clause-less c = λ d. omega (arith, ap (frame_work d) c.in-Assume.is, same_work d c.in_ok-made-in-Assume.made c.in-Assume.outer c.in_ok-made-in-Assume.ensures.waiting)
+
+pub returns-in_ok-made-in-Not-clause-less : goal.returns-in_ok-made-in-Not-clause-less
+returns-in_ok-made-in-Not-clause-less c = λ d. omega (arith, ap (frame_work d) c.in-Not.is, same_work d c.in_ok-made-in-Not.made c.in-Not.outer c.in_ok-made-in-Not.ensures.waiting)
+
+pub returns-in_ok-made-in-Body-clause-less : goal.returns-in_ok-made-in-Body-clause-less
+returns-in_ok-made-in-Body-clause-less c = λ d.
+    let e = c.in_ok-made-in-Body.ensures in
+    omega (arith, ap (frame_work d) c.in-Body.is, same_clauses_work d c.in_ok-made-in-Body.made c.in-Body.outer e.assumed e.waiting)

@@ -1,10 +1,10 @@
-use Rattle.std.proofs.Common.{◌∙◌, sym, ap}
+use Rattle.std.proofs.Common.{◌∙◌, sym, ap, arith}
 use Rattle.std.proofs.lemmas.Bool.{eqb-true}
 use Rattle.std.proofs.lemmas.Result.{IfOk-weaker}
 use Rattle.lp_term.specs.Nodes.{type_tree}
 use Rattle.lp_term.proofs.Rebuilding.{same_types}
 use Rattle.lp_pattern.specs.Filling.{part_numbers}
-use Rattle.lp_pattern.proofs.FilledTypes.{constructor_filled, constructor_stays, two_filled, two_stay}
+use Rattle.lp_pattern.proofs.FilledTypes.{constructor_filled, constructor_stays, two_filled, two_made, two_stay}
 use Rattle.lp_pattern.proofs.fill_types.rebuilt.Goals as goal
 
 pub returns-then-eq-clause-filled : goal.returns-then-eq-clause-filled
@@ -31,3 +31,8 @@ returns-else-eq-2-clause-filled c =
     two_filled c.args.bank.now θ c.in-Arrow.field-0.0 c.in-Arrow.field-1.0 c.args.parts.now c.args.made.now _ (type_tree c.args.bank.now c.args.id.0) c.in-len2.len_at_least c.in-len2.len_below c.in-Arrow.ensures.tree
     (p ∙ ap part_numbers (sym c.in-Arrow.ensures.node)) h)
     c.put_arrow.ensures.tree
+
+pub returns-in_default-clause-filled : goal.returns-in_default-clause-filled
+returns-in_default-clause-filled c = λ θ l p h.
+    let two = two_made c.args.bank.now θ c.in-Arrow.field-0.0 c.in-Arrow.field-1.0 c.args.parts.now c.args.made.now (p ∙ ap part_numbers (sym c.in-Arrow.ensures.node)) h in
+    absurd (c.in_default.not-len2 (omega (arith, two)) (omega (arith, two)))

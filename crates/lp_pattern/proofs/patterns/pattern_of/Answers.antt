@@ -1,4 +1,5 @@
-use Rattle.std.proofs.Common.{ℕ, ◌≤◌, arith, map, None, Some}
+use Rattle.std.proofs.Common.{ℕ, ◌≤◌, [], ◌∷◌, ap, arith, length, map, None, Some}
+use Rattle.std.proofs.lemmas.List.{length-append}
 use Rattle.lp_term.proofs.Trees.{extends-trans}
 use Rattle.lp_term.proofs.Moves.{passed_up}
 use Rattle.lp_model.specs.Pair.{Closing}
@@ -27,9 +28,13 @@ returns-in_default-clause-pattern c = λ r i h m.
 pub loop-place-preserved : goal.loop-place-preserved
 loop-place-preserved c = record {
   kept = extends-trans c.args.bank.now c.loop-place.bank c.as_eigen.new.bank c.loop-place.invariant.kept c.in_ok-found.ensures.kept;
+  count = omega (arith, ap length c.in_ok-push.ensures.items, length-append c.loop-place.eigens.items (c.in-Some.eigen ∷ []), c.loop-place.invariant.count);
   rest = λ r i h m.
       pushed_eigens m _ _ c.push.new.self.items _ c.in_ok-push.ensures.items
       (next_at c.args.bank.now c.loop-place.bank r c.args.opened.level c.args.opened.depth m c.args.level c.args.arguments.now c.loop-place.place _ c.loop-place.eigens.items c.loop-place.invariant.kept c.requires.known
       (omega (arith, c.loop-place-test.true)) (c.loop-place.invariant.rest r i h m) c.in-Some.eigen
       (at_eigen m _ c.in_ok-found.found (Some c.in-Some.eigen) c.in-Some.is (c.in_ok-found.ensures.eigen r (reading_kept c.args.bank.now c.loop-place.bank c.args.bindings.now r c.loop-place.invariant.kept i) h m)));
 }
+
+pub returns-clause-many : goal.returns-clause-many
+returns-clause-many c = omega (arith, c.loop-place.invariant.count, c.loop-place-test.false)

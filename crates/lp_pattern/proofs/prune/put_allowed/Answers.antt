@@ -1,8 +1,10 @@
-use Rattle.std.proofs.Common.{arith, length, ◌-◌}
+use Rattle.std.proofs.Common.{arith, length, ◌-◌, ◌++◌, sym, subst, take}
+use Rattle.std.proofs.Math.Seq.{take-suc}
+use Rattle.std.proofs.lemmas.List.{length-take}
 use Rattle.lp_term.proofs.Trees.{extends-trans}
 use Rattle.lp_pattern.specs.Reading.{side_of}
-use Rattle.lp_pattern.specs.Scanning.{low_eigens}
-use Rattle.lp_pattern.proofs.ArgumentForms.{one_fewer}
+use Rattle.lp_pattern.specs.Scanning.{AreTerms, low_eigens, allowed_places}
+use Rattle.lp_term.proofs.Knowing.{take_whole}
 use Rattle.lp_pattern.proofs.Pushing.{low_pushed, places_pushed}
 use Rattle.lp_pattern.proofs.prune.put_allowed.Goals as goal
 
@@ -12,10 +14,20 @@ loop-k-preserved c = record {
   terms = low_pushed c.loop-k.bank c.push_low.new.bank c.loop-k.arguments.items c.push_low.new.arguments.items c.args.level c.in-Some.k c.loop-k.yielded c.in_ok-push_low.ensures.pushed c.loop-k.invariant.terms;
 }
 
-pub loop-k-2-preserved : goal.loop-k-2-preserved
-loop-k-2-preserved c = record {
-  kept = extends-trans c.args.bank.now c.loop-k-2.bank c.push_place.new.bank c.loop-k-2.invariant.kept c.in_ok-push_place.ensures.kept;
-  left = one_fewer (length c.args.eigens.now) c.loop-k-2.left c.loop-k-2.yielded c.in-Some-k.k c.loop-k-2.invariant.left;
-  terms = places_pushed c.loop-k-2.bank c.push_place.new.bank c.loop-k-2.arguments.items c.push_place.new.arguments.items (side_of c.args.side.now) (length c.args.eigens.now) (c.loop-k-2.left - 1) c.in-Some-k.k
-      (low_eigens c.args.level c.args.side.now.eigens.items) c.loop-k-2.yielded (omega (arith, c.loop-k-2.invariant.left, c.if-left-eq0.false)) c.in_ok-push_place.ensures.pushed c.loop-k-2.invariant.terms;
-}
+pub loop-at-preserved : goal.loop-at-preserved
+loop-at-preserved c =
+    let n = length c.args.eigens.now in
+    let low = low_eigens c.args.level c.args.side.now.eigens.items in
+    let s = side_of c.args.side.now in
+    let l = c.loop-at-test.true in
+    let all = length-take c.loop-at.at c.args.eigens.now in
+    record {
+      kept = extends-trans c.args.bank.now c.loop-at.bank c.push_place.new.bank c.loop-at.invariant.kept c.in_ok-push_place.ensures.kept;
+      terms = subst (λ ks. AreTerms c.push_place.new.bank c.push_place.new.arguments.items (low ++ allowed_places s n ks)) (sym (take-suc c.args.eigens.now c.loop-at.at _ l))
+          (places_pushed c.loop-at.bank c.push_place.new.bank c.loop-at.arguments.items c.push_place.new.arguments.items s n (n - 1 - c.loop-at.at) _ low (take c.loop-at.at c.args.eigens.now) (omega (arith, all, l)) c.in_ok-push_place.ensures.pushed c.loop-at.invariant.terms);
+    }
+
+pub returns-clause-terms : goal.returns-clause-terms
+returns-clause-terms c =
+    let low = low_eigens c.args.level c.args.side.now.eigens.items in
+    subst (λ ks. AreTerms c.loop-at.bank c.loop-at.arguments.items (low ++ allowed_places (side_of c.args.side.now) (length c.args.eigens.now) ks)) (take_whole c.args.eigens.now c.loop-at.at (omega (arith, c.loop-at-test.false))) c.loop-at.invariant.terms

@@ -1,4 +1,4 @@
-use Rattle.std.proofs.Common.{◌≡◌, ◌-◌, ◌++◌, length}
+use Rattle.std.proofs.Common.{◌++◌, length, take}
 use Rattle.lp_term.specs.Nodes.{Extends}
 use Rattle.lp_pattern.specs.Reading.{side_of}
 use Rattle.lp_pattern.specs.Scanning.{AreTerms, low_eigens, allowed_places}
@@ -10,9 +10,8 @@ invariant-loop-k l = record {
   terms : AreTerms l.bank l.arguments.items (low_eigens l.level l.yielded);
 }
 
-abbrev pub invariant-loop-k-2 : goal.invariant-loop-k-2
-invariant-loop-k-2 l = record {
+abbrev pub invariant-loop-at : goal.invariant-loop-at
+invariant-loop-at l = record {
   kept : Extends l.fn.bank l.bank;
-  left : l.left ≡ length l.eigens - length l.yielded;
-  terms : AreTerms l.bank l.arguments.items (low_eigens l.level l.side.eigens.items ++ allowed_places (side_of l.side) (length l.eigens) l.yielded);
+  terms : AreTerms l.bank l.arguments.items (low_eigens l.level l.side.eigens.items ++ allowed_places (side_of l.side) (length l.eigens) (take l.at l.eigens));
 }

@@ -9,7 +9,7 @@ use Rattle.lp_pattern.proofs.rules.join.Goals as goal
 
 pub returns-clause-bound : goal.returns-clause-bound
 returns-clause-bound c =
-    on_ok c.bind.result _ _
+    on_ok c.put_term.result _ _
     (λ m d. (
       c.in_ok-value.value,
       m,
@@ -21,4 +21,4 @@ returns-clause-bound c =
           ((ap (map (λ t. tree c.put_variable.new.bank t.0)) c.as_slice.ensures.value ∙ (terms_stay c.put_agreeing.new.bank c.put_variable.new.bank c.in_ok-arguments.arguments.items _ c.in_ok-variable.ensures.kept c.in_ok-arguments.ensures.terms).trees) i))) ∙
           sym (joined_value c.args.next.now c.args.id c.args.level c.args.ones.now c.args.others.now d),
     ))
-    c.bind.ensures.made
+    c.put_term.ensures.made

@@ -1,4 +1,6 @@
-use Rattle.std.proofs.Common.{◌≡◌, ℕ, Some, None, subst as transport, map}
+use Rattle.std.proofs.Common.{◌≡◌, ℕ, Some, None, nat_eq, subst as transport, map}
+use Rattle.std.specs.Prelude.{IfSome}
+use Rattle.indexmap.specs.IndexMap.{get}
 use Rattle.lp_term.proofs.Moves.{passed_up}
 use Rattle.lp_term.proofs.Trees.{extends-trans}
 use Rattle.lp_model.specs.Pair.{Closing, Pair as Equation}
@@ -180,3 +182,6 @@ returns-clause-done c = λ r o levels n p h w x l y z.
     (side_before c.args.bank.now c.side_of.new.bank c.args.bindings.now r c.args.one.now c.args.other.now c.args.level n c.args.next.now c.args.units.now p c.in_ok-left.ensures.kept c.requires.one c.requires.other h c.args.other.now (Some c.in-Some-right.right) c.requires.other
     (transport (λ z. IsSideOf n (view c.side_of.new.bank r c.args.other.now) c.args.level z) c.in-Some-right.is (c.in_ok-right.ensures.side r i o.shut n)))
     c.as_slice-ones.ensures.value c.as_slice-others.ensures.value c.in_ok-join.ensures.kept c.in_ok-join.ensures.next c.in_ok-join.ensures.bound c.in_ok-join.ensures.types
+
+pub join-requires : goal.join-requires
+join-requires c = transport (λ o. IfSome o (λ s. get nat_eq c.args.bindings.now.terms s.id ≡ None)) c.in-Some.is c.in_ok-left.ensures.free

@@ -1,4 +1,6 @@
 use Rattle.std.proofs.Common.{refl, map, subst as transport}
+use Rattle.lp_term.specs.Nodes.{tree}
+use Rattle.lp_pattern.specs.Seen.{IsHead}
 use Rattle.lp_pattern.specs.Refusing.{IsOfTerm}
 use Rattle.lp_pattern.specs.Stripping.{IsPattern, HasNoPattern, read_at}
 use Rattle.lp_pattern.proofs.Results.{err_and}
@@ -33,3 +35,7 @@ returns-clause-side c = λ r i h m.
     (transport (λ o. IsPattern m c.in-Variable.level (map (read_at c.args.bank.now r c.none-opened.result.level c.none-opened.result.depth) c.args.looked.now.arguments.items) o) c.in-Some.is
     (transport (λ l. IsPattern m c.in-Variable.level (map (read_at c.args.bank.now r c.none-opened.result.level c.none-opened.result.depth) l) c.in_ok-pattern.pattern) c.as_slice-arguments.ensures.value (c.in_ok-pattern.ensures.pattern r i h m)))
     refl refl refl refl
+
+pub returns-clause-free : goal.returns-clause-free
+returns-clause-free c =
+    (transport (λ y. IsHead c.args.bank.now c.args.bindings.now y (tree c.args.bank.now c.args.looked.now.top.0) c.args.looked.now.arguments.items) c.in-Variable.is c.requires.looked.head).1

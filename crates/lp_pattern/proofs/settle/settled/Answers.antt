@@ -1,21 +1,24 @@
-use Rattle.std.proofs.Common.{◌≡◌, ◌<◌, ◌∙◌, ◌++◌, ◌∷◌, [], ap, arith, ℕ, length, Some, subst as transport}
+use Rattle.std.proofs.Common.{◌≡◌, ◌<◌, ◌∙◌, ◌++◌, ◌∷◌, [], ap, arith, ℕ, length, reverse, Some, sym, subst as transport}
 use Rattle.lp_term.proofs.Moves.{nothing, passed_up}
 use Rattle.lp_term.proofs.Trees.{extends_same, extends-trans}
 use Rattle.lp_pattern.specs.declared.settle.Task.TheVariants.{Visit}
 use Rattle.lp_model.specs.Pair.{Closing}
 use Rattle.lp_model.specs.Scan.{settle}
 use Rattle.lp_pattern.specs.Refusing.{IsNothing}
-use Rattle.lp_pattern.specs.Settling.{IsLeft, indexed_in}
+use Rattle.lp_pattern.specs.Settling.{AreEnough, IsLeft, indexed_in}
 use Rattle.lp_pattern.specs.Stripping.{IsShut}
 use Rattle.lp_pattern.specs.Under.{IsReading, under}
 use Rattle.lp_pattern.proofs.GivenUp.{given_before, nothing_given}
 use Rattle.lp_pattern.proofs.Walking.{reading_kept}
+use Rattle.lp_pattern.proofs.Enough.{first_enough, last_enough, popped_enough}
 use Rattle.lp_pattern.proofs.SettleMoves.{settle_begins, settle_ends, settle_goes}
 use Rattle.lp_pattern.proofs.settle.settled.Goals as goal
 
 pub tasks-init : goal.tasks-init
 tasks-init c = record {
   kept = extends_same c.args.bank.now;
+  enough = transport (AreEnough (reverse c.push.new.self.items)) (sym (ap length c.new-made.ensures.items))
+      (first_enough c.push.new.self.items c.args.term c.closed.result (c.in_ok-push.ensures.items ∙ ap (λ l. l ++ Visit c.args.term c.closed.result ∷ []) c.new-tasks.ensures.items));
   leads = λ l r i h n t e.
       settle_begins c.args.bank.now r c.args.side.now.eigens.items c.args.term c.closed.result c.args.side.now.pair c.push.new.self.items c.new-made.result.items n t l c.closed.ensures.level c.closed.ensures.depth
       (c.in_ok-push.ensures.items ∙ ap (λ l. l ++ Visit c.args.term c.closed.result ∷ []) c.new-tasks.ensures.items) c.new-made.ensures.items e;
@@ -30,6 +33,7 @@ returns-in_default-clause-value c = λ l e r i h n t q.
 pub tasks-preserved : goal.tasks-preserved
 tasks-preserved c = record {
   kept = extends-trans c.args.bank.now c.tasks.bank c.step.new.bank c.tasks.invariant.kept c.in_ok-step.ensures.kept;
+  enough = c.in_ok-step.ensures.enough;
   leads = λ l r i h n t e.
       settle_goes n c.args.bank.now c.tasks.bank c.step.new.bank c.args.bindings.now r c.args.side.now.eigens.items c.args.side.now.pair c.tasks.work.tasks.items c.pop.new.self.items c.step.new.work.tasks.items c.in-Some.task
       c.tasks.work.made.items c.step.new.work.made.items t c.tasks.invariant.kept i h c.in-Some.ensures.items (c.tasks.invariant.leads l r i h n t e) c.in_ok-step.ensures.moves;
@@ -47,3 +51,11 @@ returns-in_err-step-clause-refused c =
     (IsLeft n c.tasks.bank r c.args.side.now.eigens.items (c.pop.new.self.items ++ c.in-Some.task ∷ []) c.tasks.work.made.items (indexed_in c.args.side.now.eigens.items c.args.side.now.pair 0 t))
     (λ z. transport (λ x. IsLeft n c.tasks.bank r c.args.side.now.eigens.items x c.tasks.work.made.items (indexed_in c.args.side.now.eigens.items c.args.side.now.pair 0 t)) c.in-Some.ensures.items (c.tasks.invariant.leads l r i h n t z))
     (c.in_err-step.ensures.refused r (reading_kept c.args.bank.now c.tasks.bank c.args.bindings.now r c.tasks.invariant.kept i) h n (indexed_in c.args.side.now.eigens.items c.args.side.now.pair 0 t))))
+
+pub step-requires : goal.step-requires
+step-requires c = popped_enough c.tasks.work.tasks.items c.pop.new.self.items c.in-Some.task (length c.tasks.work.made.items) c.in-Some.ensures.items c.tasks.invariant.enough
+
+pub unreachable-requires : goal.unreachable-requires
+unreachable-requires c =
+    let some = last_enough c.tasks.work.tasks.items (length c.tasks.work.made.items) (nothing c.tasks.work.tasks.items (omega (arith, c.in_default.ensures.cases.0, c.tasks.work.tasks.ok))) c.tasks.invariant.enough in
+    omega (arith, some, c.in_default-pop.ensures.cases.0, c.tasks.work.made.ok)

@@ -4,6 +4,8 @@ use Rattle.lp_pattern.specs.Refusing.{IsOfTerm}
 use Rattle.lp_pattern.proofs.GivenUp.{settle_far, settle_seen}
 use Rattle.lp_pattern.proofs.Results.{err_and, if_err}
 use Rattle.lp_pattern.proofs.Grounds.{ground_moves}
+use Rattle.std.proofs.Common.{reverse}
+use Rattle.lp_pattern.proofs.Enough.{made_enough}
 use Rattle.lp_pattern.proofs.settle.visit.Goals as goal
 
 pub returns-in-Some-clause-moves : goal.returns-in-Some-clause-moves
@@ -29,3 +31,9 @@ returns-clause-refused c =
     (λ e f. settle_seen c.args.bank.now c.look.new.bank c.args.bindings.now c.args.side.now.eigens.items c.args.term c.in_ok-looked.looked c.args.opened c.args.work.now.tasks.items c.args.work.now.made.items e c.in_ok-looked.ensures.kept
     c.in_ok-looked.ensures.looked c.in_ok-looked.ensures.reached f)
     c.visit_seen.ensures.refused
+
+pub returns-in-Some-clause-enough : goal.returns-in-Some-clause-enough
+returns-in-Some-clause-enough c = λ h. made_enough (reverse c.args.work.now.tasks.items) c.args.work.now.made.items c.push.new.self.items c.args.term c.in_ok-push.ensures.items h
+
+pub returns-clause-enough : goal.returns-clause-enough
+returns-clause-enough c = c.visit_seen.ensures.enough

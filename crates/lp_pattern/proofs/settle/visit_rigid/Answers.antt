@@ -3,6 +3,9 @@ use Rattle.lp_term.proofs.Walking.{on_ok}
 use Rattle.lp_pattern.specs.declared.settle.Task.TheVariants.{Visit}
 use Rattle.lp_pattern.specs.Settling.{Moves}
 use Rattle.lp_pattern.proofs.SettleMoves.{rigid_moves}
+use Rattle.std.proofs.Common.{◌≡◌, ap, length, reverse}
+use Rattle.lp_pattern.specs.Settling.{AreEnough}
+use Rattle.lp_pattern.proofs.Enough.{pushed_enough}
 use Rattle.lp_pattern.proofs.settle.visit_rigid.Goals as goal
 
 pub returns-clause-moves : goal.returns-clause-moves
@@ -15,4 +18,12 @@ returns-clause-moves c =
     (sym c.push_application.ensures.made)
     (rigid_moves c.args.bank.now c.head_in.new.bank c.args.bindings.now c.args.side.now.eigens.items c.args.opened c.args.looked.now c.in_ok-head.head c.args.work.now.tasks.items c.push_application.new.work.tasks.items c.args.work.now.made.items
     c.in_ok-head.ensures.kept c.requires.looked c.requires.head c.in_ok-head.ensures.within c.in_ok-head.ensures.head p))
+    c.push_application.ensures.pushed
+
+pub returns-clause-enough : goal.returns-clause-enough
+returns-clause-enough c =
+    on_ok c.push_application.result _ _
+    (λ p h.
+    transport (AreEnough (reverse c.push_application.new.work.tasks.items)) (sym (ap length c.push_application.ensures.made))
+    (pushed_enough c.args.looked.now c.in_ok-head.head c.args.opened c.args.work.now.tasks.items c.push_application.new.work.tasks.items (length c.args.work.now.made.items) p h))
     c.push_application.ensures.pushed

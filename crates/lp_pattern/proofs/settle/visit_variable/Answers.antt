@@ -1,4 +1,5 @@
-use Rattle.std.proofs.Common.{[], ◌∷◌, ◌++◌, ◌∙◌, sym, ap, map, None, Some, subst as transport}
+use Rattle.std.specs.Prelude.{IfSome}
+use Rattle.std.proofs.Common.{◌≡◌, length, [], ◌∷◌, ◌++◌, ◌∙◌, sym, ap, map, None, Some, subst as transport}
 use Rattle.lp_pattern.specs.declared.settle.Task.TheVariants.{Visit}
 use Rattle.lp_pattern.specs.Settling.{Moves, eigens_in}
 use Rattle.lp_pattern.specs.Stripping.{IsPattern, HasNoPattern, read_at}
@@ -10,6 +11,9 @@ use Rattle.lp_pattern.proofs.GivenUp.{settle_open_far}
 use Rattle.lp_pattern.proofs.Results.{err_and}
 use Rattle.lp_pattern.proofs.Walking.{looked_stays}
 use Rattle.lp_pattern.proofs.SettleMoves.{open_moves, pattern_moves}
+use Rattle.std.proofs.Common.{reverse}
+use Rattle.lp_pattern.specs.Settling.{AreEnough}
+use Rattle.lp_pattern.proofs.Enough.{made_enough, pushed_enough}
 use Rattle.lp_pattern.proofs.settle.visit_variable.Goals as goal
 
 pub returns-in_default-clause-moves : goal.returns-in_default-clause-moves
@@ -51,3 +55,16 @@ returns-in_err-pattern-clause-refused c =
     (λ y o r i h m x.
     settle_open_far c.args.bank.now c.args.bindings.now r c.args.side.now.eigens.items c.args.looked.now c.args.id c.args.level c.args.opened c.args.work.now.tasks.items c.args.work.now.made.items m x c.in_err-pattern.field-0.0 y i c.requires.looked c.requires.head o
     (λ l. transport (λ z. HasNoPattern m c.args.level (map (read_at c.args.bank.now r c.args.opened.level c.args.opened.depth) z) c.in_err-pattern.field-0.0) c.as_slice-arguments.ensures.value (c.in_err-pattern.ensures.refused r i h m l)))
+
+pub put_stand_ins-requires : goal.put_stand_ins-requires
+put_stand_ins-requires c =
+    let many = transport (λ o. IfSome o (λ a. length a.eigens.items ≡ length c.as_slice-arguments.result.now)) c.in-Some.is c.in_ok-pattern.ensures.many in
+    ap length c.as_slice-eigens.ensures.value ∙ many
+
+pub returns-in_default-clause-enough : goal.returns-in_default-clause-enough
+returns-in_default-clause-enough c = λ h.
+    transport (AreEnough (reverse c.push_application.new.work.tasks.items)) (sym (ap length c.push_application.ensures.made))
+    (pushed_enough c.args.looked.now c.args.looked.now.top c.args.opened c.args.work.now.tasks.items c.push_application.new.work.tasks.items (length c.args.work.now.made.items) c.in_ok-push_application.ensures.pushed h)
+
+pub returns-clause-enough : goal.returns-clause-enough
+returns-clause-enough c = λ h. made_enough (reverse c.args.work.now.tasks.items) c.args.work.now.made.items c.push.new.self.items c.in_ok-made.made c.in_ok-push.ensures.items h

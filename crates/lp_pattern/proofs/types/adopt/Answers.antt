@@ -1,7 +1,7 @@
-use Rattle.std.proofs.Common.{◌∙◌, sym, refl}
+use Rattle.std.proofs.Common.{◌∙◌, sym, refl, arith}
 use Rattle.std.proofs.lemmas.List.{append-nil}
 use Rattle.lp_pattern.proofs.Keeps.{grows_same, grows_then}
-use Rattle.lp_pattern.proofs.TypesSolved.{one_taken, keys_distinct, none_distinct}
+use Rattle.lp_pattern.proofs.TypesSolved.{one_taken, keys_distinct, none_distinct, some_inside}
 use Rattle.lp_pattern.proofs.types.adopt.Goals as goal
 
 pub loop-place-preserved : goal.loop-place-preserved
@@ -15,3 +15,6 @@ loop-place-preserved c = (
 
 pub loop-place-init : goal.loop-place-init
 loop-place-init c = (grows_same c.args.bindings.now, sym (append-nil c.args.bindings.now.types.entries), refl, none_distinct)
+
+pub unreachable-requires : goal.unreachable-requires
+unreachable-requires c = some_inside c.args.solution.now.made.entries c.loop-place.place (omega (arith, c.loop-place-test.true)) (sym c.entry.ensures ∙ c.in_default.is)
