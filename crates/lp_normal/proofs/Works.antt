@@ -1,5 +1,5 @@
 -- Each move that meets no clause leaves less to do.
-use Rattle.std.proofs.Common.{◌≡◌, ℕ, suc, ◌+◌, ◌*◌, ◌<◌, ◌≤◌, List, [], ◌∷◌, ◌++◌, refl, sym, ap, ◌∙◌, subst, arith, Option, Some, None, ◌⊎◌, inl, inr}
+use Rattle.std.proofs.Common.{◌≡◌, ℕ, suc, ◌+◌, ◌<◌, ◌≤◌, List, [], ◌∷◌, ◌++◌, refl, ap, ◌∙◌, subst, arith, Option, Some, None, ◌⊎◌, inl, inr}
 use Rattle.std.specs.Prelude.{All, IfSome, Bool, true, false, nat_eq, nat_lt, if◌then◌else◌}
 use Rattle.std.proofs.lemmas.List.Elements.{All-head, All-tail}
 use Rattle.lp_calculus.specs.Types.{Ty}
@@ -8,7 +8,7 @@ use Rattle.lp_calculus.specs.Spine.{head_of, arguments_and}
 use Rattle.lp_standard.specs.Connectives.{body_of, Connective, connective_at, connective_of}
 use Rattle.lp_standard.specs.Connectives as connective
 use Rattle.lp_standard.specs.Numbers as number
-use Rattle.lp_term.specs.Nodes.{Nodes, Extends, tree}
+use Rattle.lp_term.specs.Nodes.{Nodes, Extends}
 use Rattle.lp_term.specs.declared.node.TermId.{TermId}
 use Rattle.lp_term.proofs.Trees.{extends_same}
 use Rattle.lp_normal.specs.Within.{IsWaitingIn, IsGoalListIn, IsPartIn, IsAssumedIn, IsClauseListIn, IsFrameIn, IsInnerIn}

@@ -1,5 +1,5 @@
 use Rattle.lp_normal.proofs.Steps.{one_of_next}
-use Rattle.std.proofs.Common.{arith, ◌∙◌, ap, sym}
+use Rattle.std.proofs.Common.{arith, ◌∙◌, ap}
 use Rattle.lp_normal.specs.declared.frame.Frame.{Frame}
 use Rattle.lp_normal.proofs.Counts.{new_met, frames_pushed}
 use Rattle.lp_term.specs.Nodes.{tree}
