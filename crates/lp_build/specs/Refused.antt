@@ -13,11 +13,10 @@ use Rattle.lp_syntax.specs.declared.text.FixityLine.{FixityLine}
 use Rattle.lp_syntax.specs.declared.text.ModuleText.{ModuleText}
 use Rattle.lp_syntax.specs.declared.text.SignatureText.{SignatureText}
 use Rattle.lp_sig.specs.Pieces.{spelled}
-use Rattle.lp_sig.specs.Refusals.{IsAt, IsCircleFrom, IsFreeOfCircles, IsRefusal as IsSignatureRefused}
+use Rattle.lp_sig.specs.Refusals.{IsAt, IsCircleFrom, IsRefusedFrom}
 use Rattle.lp_sig.specs.declared.fault.SigFault.{SigFault}
 use Rattle.lp_sig.specs.declared.fault.SigFault.TheVariants as sig
 use Rattle.lp_sig.specs.declared.signature.Signature.{Signature}
-use Rattle.lp_sig.specs.declared.walk.Step.{Step}
 use Rattle.lp_infer.specs.declared.fault.InferFault.TheVariants as infer
 use Rattle.lp_module.specs.Copies.{IsProgramRefusal}
 use Rattle.lp_module.specs.Order.{Visits}
@@ -109,9 +108,9 @@ pub record IsFirstText (files : List File) (e : BuildFault) : Type 0 where
 
 -- signatures
 
--- no word of accum_sig leads back to its signature, on the ways from a text
+-- no word of accum_sig leads back to its signature, on the ways from a text: it is declared, or refused for another fault
 abbrev pub IsFreeFrom : Group SignatureText → (place : ℕ) → Type 0
-IsFreeFrom g place = (steps : List Step) × IsFreeOfCircles g.names.items g.sources.items g.texts.items place steps
+IsFreeFrom g place = ((s : Signature) × IsDeclaredAt g place s) ⊎ ((f : SigFault) × IsRefusedFrom g.names.items g.sources.items g.texts.items place f)
 
 -- a circle goes before all other faults; the first one in load order
 pub record IsFirstCircle (g : Group SignatureText) (e : BuildFault) : Type 0 where
@@ -129,8 +128,14 @@ pub record IsFirstSignature (g : Group SignatureText) (e : BuildFault) : Type 0 
   pub inside : place < length g.texts.items
   pub free : (p : ℕ) → p < length g.texts.items → IsFreeFrom g p
   pub before : (p : ℕ) → p < place → (s : Signature) × IsDeclaredAt g p s
-  pub refused : IsSignatureRefused g.names.items g.sources.items g.texts.items place cause
+  pub refused : IsRefusedFrom g.names.items g.sources.items g.texts.items place cause
   pub is : e ≡ of_signature cause
+
+-- why not all signatures are declared
+pub data IsSignaturesFault (g : Group SignatureText) (e : BuildFault) : Type 0 where
+  a_circle : IsFirstCircle g e → IsSignaturesFault g e
+  a_signature : IsFirstSignature g e → IsSignaturesFault g e
+  wanting : e ≡ fault.Memory → IsSignaturesFault g e
 
 -- modules
 
@@ -180,8 +185,7 @@ AreDeclared g = (p : ℕ) → p < length g.texts.items → (s : Signature) × Is
 -- The layers: each has its fault where those before it have none.
 pub data IsRefusedWhole (sources : Sources) (e : BuildFault) : Type 0 where
   of_text : IsFirstText sources.files.items e → IsRefusedWhole sources e
-  of_circle : (g : Group SignatureText) (t : Group ModuleText) → AreWhole sources g t → IsFirstCircle g e → IsRefusedWhole sources e
-  of_declarations : (g : Group SignatureText) (t : Group ModuleText) → AreWhole sources g t → IsFirstSignature g e → IsRefusedWhole sources e
+  of_signatures : (g : Group SignatureText) (t : Group ModuleText) → AreWhole sources g t → IsSignaturesFault g e → IsRefusedWhole sources e
   no_memory : e ≡ fault.Memory → IsRefusedWhole sources e
 
 pub data IsRefusedModules (sources : Sources) (e : BuildFault) : Type 0 where
