@@ -67,7 +67,7 @@ fn is_other(fault: SigFault) -> bool
 
 // A fault of a signature as it is told.
 fn signature_fault(fault: SigFault) -> BuildFault
-    ensures { result ≡ of_signature fault }
+    ensures same { result ≡ of_signature fault }
     ensures texts { IsOfTexts result }
 {
     match fault {
