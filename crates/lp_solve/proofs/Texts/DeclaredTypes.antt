@@ -6,8 +6,6 @@ use Rattle.std.proofs.lemmas.List.{length-append, length-map}
 use Rattle.std.proofs.lemmas.Option.{same_Some, slice_get_within, get_or_from_slice_get, slice_get_read}
 use Rattle.lp_standard.specs.Schemes.{IsStandard, entry, standard_schemes}
 use Rattle.lp_standard.specs.Constants.{first_declared}
-use Rattle.lp_syntax.specs.declared.text.ModuleText.{ModuleText}
-use Rattle.lp_syntax.specs.declared.text.SignatureText.{SignatureText}
 use Rattle.lp_term.specs.Nodes.{Nodes}
 use Rattle.lp_model.specs.Proofs.{Declared}
 use Rattle.lp_model.specs.Readings.{scheme_of, declared_by}
@@ -25,13 +23,11 @@ use Rattle.lp_module.specs.Orderly.{IsOrderly}
 use Rattle.lp_module.specs.declared.module.Module.{Module}
 use Rattle.lp_module.proofs.Joining.{program_declares}
 use Rattle.lp_module.proofs.Joins.{same_entry}
-use Rattle.lp_build.specs.Meant.{IsSignatureOf, IsModuleAt, AreModulesAt, no_module, one_module}
+use Rattle.lp_build.specs.Meant.{AreModules, IsSignatureOf, IsModuleAt, AreModulesAt, no_module, one_module}
 use Rattle.lp_build.specs.Reads.{AreRead}
 use Rattle.lp_build.specs.Sights.{signature_of}
 use Rattle.lp_build.specs.declared.build.Built.{Built}
-use Rattle.lp_build.specs.declared.sources.File.{File}
 use Rattle.lp_build.specs.declared.sources.Sources.{Sources}
-use Rattle.lp_build.specs.declared.texts.Group.{Group}
 use Rattle.lp_load.specs.Loaded.{IsBuiltFrom}
 use Rattle.lp_solve.specs.Schemes.{DeclaresSeen}
 use Rattle.lp_solve.specs.Sources.{HasTypes}
@@ -51,17 +47,18 @@ last_same (z ∷ []) [] x y e = absurd (cc)
 last_same (z ∷ w ∷ ws) [] x y e = absurd (cc)
 last_same (z ∷ zs) (w ∷ ws) x y e = let f : zs ++ x ∷ [] ≡ ws ++ y ∷ [] = cc in last_same zs ws x y f
 
-last_module : (files : List File) (g : Group SignatureText) (t : Group ModuleText) (ps before : List ℕ) (ms : List Module) (root : ℕ) (m : Module) →
-    AreModulesAt files g t ps ms → ps ≡ before ++ 0 ∷ [] → root + 1 ≡ length ms → slice_get ms root ≡ Some m → IsModuleAt files g t 0 m
-last_module files g t ps before ms root m no_module e n at = absurd (cc)
-last_module files g t ps before ms root m (one_module qs _ ns _ p last earlier is e f) first n at =
-    let zero_is : p ≡ 0 = last_same qs before p 0 (sym e ∙ first) in
-    let l = ap length f ∙ length-append ns (last ∷ []) in
-    by zero_is (last_or ns last m root (ap (λ l. slice_get l root) (sym f) ∙ at)) (omega (arith, n, l))
-  where
-    by : p ≡ 0 → (slice_get ns root ≡ Some m) ⊎ ((root ≡ length ns) × (last ≡ m)) → root ≡ length ns → IsModuleAt files g t 0 m
-    by z (inl h) same = let low = slice_get_within ns root m h in absurd (omega (arith, low, same))
-    by z (inr h) same = subst (λ p. IsModuleAt files g t p m) z (subst (IsModuleAt files g t p) h.1 is)
+module _ {sources : Sources} {every : List Module} (are : AreModules sources every) where
+  last_module : (ps before : List ℕ) (ms : List Module) (root : ℕ) (m : Module) →
+      AreModulesAt sources.files.items are.signatures are.texts ps ms → ps ≡ before ++ 0 ∷ [] → root + 1 ≡ length ms → slice_get ms root ≡ Some m → IsModuleAt sources.files.items are.signatures are.texts 0 m
+  last_module ps before ms root m no_module e n at = absurd (cc)
+  last_module ps before ms root m (one_module qs _ ns _ p last earlier is e f) first n at =
+      let zero_is : p ≡ 0 = last_same qs before p 0 (sym e ∙ first) in
+      let l = ap length f ∙ length-append ns (last ∷ []) in
+      by zero_is (last_or ns last m root (ap (λ l. slice_get l root) (sym f) ∙ at)) (omega (arith, n, l))
+    where
+      by : p ≡ 0 → (slice_get ns root ≡ Some m) ⊎ ((root ≡ length ns) × (last ≡ m)) → root ≡ length ns → IsModuleAt sources.files.items are.signatures are.texts 0 m
+      by z (inl h) same = let low = slice_get_within ns root m h in absurd (omega (arith, low, same))
+      by z (inr h) same = subst (λ p. IsModuleAt sources.files.items are.signatures are.texts p m) z (subst (IsModuleAt sources.files.items are.signatures are.texts p) h.1 is)
 
 -- two signatures that say the same
 kind_names_same : (es fs : List KindEntry) → map kind_row es ≡ map kind_row fs → map (λ e. e.name.items) es ≡ map (λ e. e.name.items) fs
@@ -121,7 +118,7 @@ declared_types sources built p read =
     let program = is.program.program in
     let j = modules_joined sources modules read is.are in
     let top = program.are.top in
-    let m = last_module files is.are.signatures is.are.texts is.are.meanings.order is.are.meanings.before modules is.program.root top
+    let m = last_module is.are is.are.meanings.order is.are.meanings.before modules is.program.root top
     is.are.meanings.meanings is.are.meanings.last is.program.last program.are.at in
     let name : string_bytes m.name ≡ string_bytes is.name = ap string_bytes (same_Some m.name is.name
     (sym (get_at is.are.texts.names.items 0 m.name m.at_name) ∙ get_at is.are.texts.names.items 0 is.name is.first)) in

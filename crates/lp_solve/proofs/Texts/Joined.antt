@@ -18,7 +18,6 @@ use Rattle.lp_syntax.specs.declared.text.Declaration.TheVariants.{Kinds, LocalKi
 use Rattle.lp_syntax.specs.declared.text.Sentence.{Sentence}
 use Rattle.lp_syntax.specs.declared.text.Sentence.TheVariants.{Declares, Says}
 use Rattle.lp_syntax.specs.declared.text.ModuleText.{ModuleText}
-use Rattle.lp_syntax.specs.declared.text.SignatureText.{SignatureText}
 use Rattle.lp_sig.specs.Loading.{accum_words}
 use Rattle.lp_sig.specs.Modules.{declarations, first_names, IsApart}
 use Rattle.lp_sig.specs.Named.{IsOrdered, SeesAlike, accumulate_in, many_words}
@@ -47,7 +46,6 @@ use Rattle.lp_build.specs.declared.sources.File.{File}
 use Rattle.lp_build.specs.declared.sources.Part.{Part}
 use Rattle.lp_build.specs.declared.sources.Part.TheVariants as part
 use Rattle.lp_build.specs.declared.sources.Sources.{Sources}
-use Rattle.lp_build.specs.declared.texts.Group.{Group}
 use Rattle.lp_solve.proofs.Texts.Referred.{words_referred}
 
 -- lists
@@ -70,21 +68,21 @@ get_at (y ∷ ys) zero x (l, e) = ap (λ y. Some y) e
 get_at (y ∷ ys) (suc i) x (l, e) = get_at ys i x (omega (arith, l), e)
 
 -- the module at a place of the order
-module _ (files : List File) (g : Group SignatureText) (t : Group ModuleText) where
-  module_at : (ps : List ℕ) (ms : List Module) → AreModulesAt files g t ps ms → (k : ℕ) (m : Module) → slice_get ms k ≡ Some m → (p : ℕ) × IsModuleAt files g t p m
+module _ {sources : Sources} {every : List Module} (are : AreModules sources every) where
+  module_at : (ps : List ℕ) (ms : List Module) → AreModulesAt sources.files.items are.signatures are.texts ps ms → (k : ℕ) (m : Module) → slice_get ms k ≡ Some m → (p : ℕ) × IsModuleAt sources.files.items are.signatures are.texts p m
   module_at ps ms no_module k m e = absurd (cc)
   module_at ps ms (one_module qs _ ns _ p n before is e f) k m at = by (module_at qs ns before k m) (last_or ns n m k (ap (λ l. slice_get l k) (sym f) ∙ at))
     where
-      by : (slice_get ns k ≡ Some m → (p : ℕ) × IsModuleAt files g t p m) → (slice_get ns k ≡ Some m) ⊎ ((k ≡ length ns) × (n ≡ m)) → (p : ℕ) × IsModuleAt files g t p m
+      by : (slice_get ns k ≡ Some m → (p : ℕ) × IsModuleAt sources.files.items are.signatures are.texts p m) → (slice_get ns k ≡ Some m) ⊎ ((k ≡ length ns) × (n ≡ m)) → (p : ℕ) × IsModuleAt sources.files.items are.signatures are.texts p m
       by r (inl h) = r h
-      by r (inr h) = (p, subst (IsModuleAt files g t p) h.1 is)
+      by r (inr h) = (p, subst (IsModuleAt sources.files.items are.signatures are.texts p) h.1 is)
 
   -- the signature at a place
-  signature_at : (ns : List ℕ) (ss : List Signature) → AreSignaturesOf g ns ss → (i n : ℕ) → slice_get ns i ≡ Some n → (s : Signature) × (slice_get ss i ≡ Some s) × IsSignatureOf g n s
+  signature_at : (ns : List ℕ) (ss : List Signature) → AreSignaturesOf are.signatures ns ss → (i n : ℕ) → slice_get ns i ≡ Some n → (s : Signature) × (slice_get ss i ≡ Some s) × IsSignatureOf are.signatures n s
   signature_at ns ss no_signature i n e = absurd (cc)
   signature_at ns ss (one_signature_more ms _ ts _ m s before is e f) i n at = by (signature_at ms ts before i n) (last_or ms m n i (ap (λ l. slice_get l i) (sym e) ∙ at))
     where
-      same_length : (ms : List ℕ) (ts : List Signature) → AreSignaturesOf g ms ts → length ms ≡ length ts
+      same_length : (ms : List ℕ) (ts : List Signature) → AreSignaturesOf are.signatures ms ts → length ms ≡ length ts
       same_length ms ts no_signature = refl
       same_length ms ts (one_signature_more ks _ us _ k u before is e f) =
           ap length e ∙ length-append ks (k ∷ []) ∙ ap (λ n. n + 1) (same_length ks us before) ∙ sym (length-append us (u ∷ [])) ∙ sym (ap length f)
@@ -98,13 +96,13 @@ module _ (files : List File) (g : Group SignatureText) (t : Group ModuleText) wh
       end [] = refl
       end (t ∷ ts) = end ts
 
-      by : (slice_get ms i ≡ Some n → (s : Signature) × (slice_get ts i ≡ Some s) × IsSignatureOf g n s) → (slice_get ms i ≡ Some n) ⊎
-          ((i ≡ length ms) × (m ≡ n)) → (s : Signature) × (slice_get ss i ≡ Some s) × IsSignatureOf g n s
+      by : (slice_get ms i ≡ Some n → (s : Signature) × (slice_get ts i ≡ Some s) × IsSignatureOf are.signatures n s) → (slice_get ms i ≡ Some n) ⊎
+          ((i ≡ length ms) × (m ≡ n)) → (s : Signature) × (slice_get ss i ≡ Some s) × IsSignatureOf are.signatures n s
       by r (inl h) = let (x, at_x, is_x) = r h in (x, ap (λ l. slice_get l i) f ∙ front ts x i at_x, is_x)
-      by r (inr h) = (s, ap (λ l. slice_get l i) f ∙ ap (slice_get (ts ++ s ∷ [])) (h.0 ∙ same_length ms ts before) ∙ end ts, subst (λ n. IsSignatureOf g n s) h.1 is)
+      by r (inr h) = (s, ap (λ l. slice_get l i) f ∙ ap (slice_get (ts ++ s ∷ [])) (h.0 ∙ same_length ms ts before) ∙ end ts, subst (λ n. IsSignatureOf are.signatures n s) h.1 is)
 
-  all_signatures : (P : Signature → Type 0) → ((n : ℕ) (s : Signature) → IsSignatureOf g n s → P s) → (ns : List ℕ) (ss : List Signature) →
-      AreSignaturesOf g ns ss → (i : ℕ) (s : Signature) → slice_get ss i ≡ Some s → P s
+  all_signatures : (P : Signature → Type 0) → ((n : ℕ) (s : Signature) → IsSignatureOf are.signatures n s → P s) → (ns : List ℕ) (ss : List Signature) →
+      AreSignaturesOf are.signatures ns ss → (i : ℕ) (s : Signature) → slice_get ss i ≡ Some s → P s
   all_signatures P each ns ss no_signature i s e = absurd (cc)
   all_signatures P each ns ss (one_signature_more ms _ ts _ m u before is e f) i s at = by (all_signatures P each ms ts before i s) (last_or ts u s i (ap (λ l. slice_get l i) (sym f) ∙ at))
     where
@@ -334,35 +332,29 @@ module _ (sources : Sources) (modules : List Module) (read : AreRead sources) (a
   abbrev files : List File
   files = sources.files.items
 
-  abbrev g : Group SignatureText
-  g = are.signatures
-
-  abbrev t : Group ModuleText
-  t = are.texts
-
   -- signatures that texts give
-  pub apart : (n : ℕ) (s : Signature) → IsSignatureOf g n s → IsApart s
-  apart n s is = names_apart g.names.items g.sources.items g.texts.items is.place (map fixity_row s.fixities.items) s is.declared
+  pub apart : (n : ℕ) (s : Signature) → IsSignatureOf are.signatures n s → IsApart s
+  apart n s is = names_apart are.signatures.names.items are.signatures.sources.items are.signatures.texts.items is.place (map fixity_row s.fixities.items) s is.declared
 
-  pub ordered : (n : ℕ) (s : Signature) → IsSignatureOf g n s → IsOrdered s
-  ordered n s is = signature_ordered g.names.items g.sources.items g.texts.items is.place (map fixity_row s.fixities.items) s is.declared
+  pub ordered : (n : ℕ) (s : Signature) → IsSignatureOf are.signatures n s → IsOrdered s
+  ordered n s is = signature_ordered are.signatures.names.items are.signatures.sources.items are.signatures.texts.items is.place (map fixity_row s.fixities.items) s is.declared
 
-  pub same_signature : (n : ℕ) (s u : Signature) → IsSignatureOf g n s → IsSignatureOf g n u → AreSameSignatures s u
+  pub same_signature : (n : ℕ) (s u : Signature) → IsSignatureOf are.signatures n s → IsSignatureOf are.signatures n u → AreSameSignatures s u
   same_signature n s u a b =
-      let e = one_place part.Signature IsSignatureTree files (length files) g.numbers.items g.names.items g.sources.items g.texts.items
-      are.signature_texts a.place b.place n (get_at g.numbers.items a.place n a.there) (get_at g.numbers.items b.place n b.there) in
-      one_signature g.names.items g.sources.items g.texts.items a.place (map fixity_row s.fixities.items) (map fixity_row u.fixities.items) s u
-      a.declared (subst (λ p. IsDeclaredAt g p u) (sym e) b.declared)
+      let e = one_place part.Signature IsSignatureTree files (length files) are.signatures.numbers.items are.signatures.names.items are.signatures.sources.items are.signatures.texts.items
+      are.signature_texts a.place b.place n (get_at are.signatures.numbers.items a.place n a.there) (get_at are.signatures.numbers.items b.place n b.there) in
+      one_signature are.signatures.names.items are.signatures.sources.items are.signatures.texts.items a.place (map fixity_row s.fixities.items) (map fixity_row u.fixities.items) s u
+      a.declared (subst (λ p. IsDeclaredAt are.signatures p u) (sym e) b.declared)
 
   -- a module's meaning
-  pub meaning_at : (k : ℕ) (m : Module) → slice_get modules k ≡ Some m → (p : ℕ) × IsModuleAt files g t p m
-  meaning_at k m at = module_at files g t are.meanings.order modules are.meanings.meanings k m at
+  pub meaning_at : (k : ℕ) (m : Module) → slice_get modules k ≡ Some m → (p : ℕ) × IsModuleAt files are.signatures are.texts p m
+  meaning_at k m at = module_at are are.meanings.order modules are.meanings.meanings k m at
 
   -- what its file names by its words
-  names_files : (p : ℕ) (m : Module) (a : IsModuleAt files g t p m) → NamesFiles files a.number a.source.items a.text
+  names_files : (p : ℕ) (m : Module) (a : IsModuleAt files are.signatures are.texts p m) → NamesFiles files a.number a.source.items a.text
   names_files p m a =
-      let h = text_at part.Module (IsModuleTree files) files (length files) t.numbers.items t.names.items t.sources.items t.texts.items are.module_texts p a.number a.source a.text
-      (get_at t.numbers.items p a.number a.at_number) (get_at t.sources.items p a.source a.at_source) (get_at t.texts.items p a.text a.at_text) in
+      let h = text_at part.Module (IsModuleTree files) files (length files) are.texts.numbers.items are.texts.names.items are.texts.sources.items are.texts.texts.items are.module_texts p a.number a.source a.text
+      (get_at are.texts.numbers.items p a.number a.at_number) (get_at are.texts.sources.items p a.source a.at_source) (get_at are.texts.texts.items p a.text a.at_text) in
       let f = h.file in
       let r = (read.each a.number f h.at).text in
       let bytes = f.text.bytes.items in
@@ -384,7 +376,7 @@ module _ (sources : Sources) (modules : List Module) (read : AreRead sources) (a
   few_of : (ws : List (List ℕ)) → length (each_once (filter_map (signature_of files) ws)) ≤ length (first_names [] ws)
   few_of ws = let h = few (signature_of files) [] [] ws (λ n x a is. absurd (true≢false (sym a))) in omega (arith, h)
 
-  few_named : (p : ℕ) (m : Module) (a : IsModuleAt files g t p m) → length (accum_sig_at files a.number ++ accumulate_at files a.number) ≤ many_words a.source.items (declarations a.text.lines.items)
+  few_named : (p : ℕ) (m : Module) (a : IsModuleAt files are.signatures are.texts p m) → length (accum_sig_at files a.number ++ accumulate_at files a.number) ≤ many_words a.source.items (declarations a.text.lines.items)
   few_named p m a =
       let n = names_files p m a in
       let x = ap length n.accum_sig in
@@ -395,7 +387,7 @@ module _ (sources : Sources) (modules : List Module) (read : AreRead sources) (a
       omega (arith, x, y, z, u, v)
 
   -- two modules, one of which accumulates the other
-  joined_at : (above m : Module) (p q : ℕ) (a : IsModuleAt files g t p above) (b : IsModuleAt files g t q m) → Contains (map (λ u. u.items) above.uses.items) m.name.items → IsJoined above m
+  joined_at : (above m : Module) (p q : ℕ) (a : IsModuleAt files are.signatures are.texts p above) (b : IsModuleAt files are.signatures are.texts q m) → Contains (map (λ u. u.items) above.uses.items) m.name.items → IsJoined above m
   joined_at above m p q a b uses =
       let numbers = accum_sig_at files a.number ++ accumulate_at files a.number in
       let n = names_files p above a in
@@ -406,10 +398,10 @@ module _ (sources : Sources) (modules : List Module) (read : AreRead sources) (a
       (subst (λ ns. Contains ns b.own_is.number) (sym n.accumulate) (inserted [] (filter_map (signature_of files) words) b.own_is.number
       (has_number (signature_of files) words m.name.items b.own_is.number word number))) in
       let (i, at) = in_list numbers b.own_is.number among in
-      let (u, at_u, is_u) = signature_at files g t numbers a.used a.used_are i b.own_is.number at in
+      let (u, at_u, is_u) = signature_at are numbers a.used a.used_are i b.own_is.number at in
       let few_l = few_named p above a in
       let l = slice_get_within numbers i b.own_is.number at in
-      let all_ordered : All IsOrdered a.used = λ k d h. all_signatures files g t IsOrdered ordered numbers a.used a.used_are k (get_or a.used k d) (slice_get-get_or a.used k d h) in
+      let all_ordered : All IsOrdered a.used = λ k d h. all_signatures are IsOrdered ordered numbers a.used a.used_are k (get_or a.used k d) (slice_get-get_or a.used k d h) in
       let seen : SeesAlike u above.signature = a.meaning.theirs.used_ones (apart a.own_is.number a.own a.own_is.is)
       (ordered a.own_is.number a.own a.own_is.is) all_ordered i u at_u (omega (arith, few_l, l)) in
       let own_apart = apart b.own_is.number b.own b.own_is.is in
