@@ -1,5 +1,5 @@
 -- Why texts that were read have no program: the first of their faults, layer by layer. Want of memory alone is free.
-use Rattle.std.specs.Prelude.{◌≡◌, ℕ, ◌+◌, ◌<◌, List, [], ◌∷◌, ◌++◌, map, length, String, Vec, string_bytes}
+use Rattle.std.specs.Prelude.{◌≡◌, ◌⊎◌, ℕ, ◌+◌, ◌<◌, List, [], ◌∷◌, ◌++◌, map, length, String, Vec, string_bytes}
 use Rattle.std.specs.Global.{Global}
 use Rattle.lp_base.specs.declared.place.Spot.{Spot}
 use Rattle.lp_fixity.specs.declared.fault.FixFault.{FixFault}

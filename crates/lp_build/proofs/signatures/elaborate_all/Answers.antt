@@ -1,5 +1,7 @@
-use Rattle.std.proofs.Common.{◌≡◌, ◌<◌, length, subst, arith}
+use Rattle.std.proofs.Common.{◌≡◌, ◌<◌, ◌≤◌, length, sym, subst, arith}
 use Rattle.std.specs.Prelude.{◌^◌}
+use Rattle.lp_lemmas.proofs.Results.{passed_up}
+use Rattle.lp_build.specs.Refused.{IsSignaturesFault}
 use Rattle.lp_build.specs.inner.Linked.{AreMade}
 use Rattle.lp_build.specs.inner.Refusing.{AreLookedAt}
 use Rattle.lp_build.proofs.Growing.{made_none, made_more, declared_at, ok_at}
@@ -33,10 +35,22 @@ loop-root-preserved c =
     )
 
 pub returns-in_err-note-clause-cause : goal.returns-in_err-note-clause-cause
-returns-in_err-note-clause-cause c = ?
+returns-in_err-note-clause-cause c = λ few.
+    let g = c.args.group.now in
+    let lt : c.loop-root.root < 2 ^ 32 = omega (arith, few, c.loop-root-test.true, c.len-root-end.ensures, c.args.group.now.texts.ok) in
+    passed_up c.from_residual.result c.in_err-note.field-0.0 (IsSignaturesFault g) c.from_residual.ensures.1
+    (circle_told g c.loop-root.root c.loop-root.refused c.elaborate-answer.result c.in_err-note.field-0.0 (c.loop-root.invariant.1 few)
+    (omega (arith, c.loop-root-test.true, c.len-root-end.ensures, c.args.group.now.texts.ok))
+    (refused_at g c.loop-root.root c.as_number.result c.elaborate-answer.result c.as_slice-names.result.now c.as_slice-sources.result.now c.as_slice-texts.result.now
+        (c.as_number.ensures.same lt) c.as_slice-names.ensures.value c.as_slice-sources.ensures.value c.as_slice-texts.ensures.value c.elaborate-answer.ensures.refused)
+    c.in_err-note.ensures.told)
 
 pub returns-in-Some-clause-cause : goal.returns-in-Some-clause-cause
-returns-in-Some-clause-cause c = ?
+returns-in-Some-clause-cause c = λ few.
+    let g = c.args.group.now in
+    let n : c.loop-root.root ≡ length c.args.group.now.texts.items = omega (arith, c.loop-root-test.false, c.loop-root.auto.root-end, c.len-root-end.ensures, c.args.group.now.texts.ok) in
+    subst (IsSignaturesFault g) (sym c.signature_fault.ensures.same)
+    (first_told g c.in-Some.fault c.loop-root.refused c.in-Some.is (subst (λ n. AreLookedAt g n c.loop-root.refused) n (c.loop-root.invariant.1 few)))
 
 pub returns-in-None-clause-made : goal.returns-in-None-clause-made
 returns-in-None-clause-made c = λ few.
