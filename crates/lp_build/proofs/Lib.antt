@@ -25,3 +25,4 @@ pub mod CopyClauses
 pub mod CopyNumbering
 pub mod ImageClauses
 pub mod Refusing
+pub mod Texting

@@ -68,28 +68,34 @@ of_module e = fault.Module e
 
 -- texts
 
--- an operator of a signature that a module sees cannot be declared behind those of the files before it and of the sentences before it
-pub record IsUndeclarable (files : List File) (n : ℕ) (f : File) (e : SyntaxFault) : Type 0 where
-  pub k : ℕ
-  pub seen : File
-  pub ops : Operators
-  pub now : Operators
+-- the operator of a sentence cannot be declared
+abbrev pub IsLineFault : Operators → (text : List ℕ) → FixityLine → SyntaxFault → Type 0
+IsLineFault ops text line e = (c : FixFault) × IsFixFault ops (spelled text line.name) (line.fixity, line.number) c × (e ≡ syntax.Operator c line.name)
+
+-- one of a file cannot, behind those of the sentences before it
+pub record IsFileFault (ops : Operators) (f : File) (e : SyntaxFault) : Type 0 where
   pub front : List FixityLine
   pub line : FixityLine
   pub back : List FixityLine
-  pub cause : FixFault
-  pub at : IsAt files k seen
-  pub sees : Sees files n (string_bytes f.module) k
-  pub force : InForce files (Sees files n (string_bytes f.module)) k ops
-  pub lines : seen.text.references.fixities.items ≡ front ++ line ∷ back
-  pub declared : DeclareAll seen.text.bytes.items ops front now
-  pub is_cause : IsFixFault now (spelled seen.text.bytes.items line.name) (line.fixity, line.number) cause
-  pub is : e ≡ syntax.Operator cause line.name
+  pub now : Operators
+  pub lines : f.text.references.fixities.items ≡ front ++ line ∷ back
+  pub declared : DeclareAll f.text.bytes.items ops front now
+  pub refused : IsLineFault now f.text.bytes.items line e
+
+-- one of a signature that is seen cannot, behind those of the files before it
+pub record IsUndeclarable (files : List File) (IsSeen : ℕ → Type 0) (e : SyntaxFault) : Type 0 where
+  pub k : ℕ
+  pub file : File
+  pub ops : Operators
+  pub at : IsAt files k file
+  pub seen : IsSeen k
+  pub force : InForce files IsSeen k ops
+  pub refused : IsFileFault ops file e
 
 -- a text is no signature, or no module under the operators of the signatures that it sees
 pub data IsTextRefused (files : List File) (n : ℕ) (f : File) (e : SyntaxFault) : Type 0 where
   no_signature : f.part ≡ part.Signature → IsSignatureRefusal (spot_at n f.text.bytes.items f.text.tokens.items) (lexemes f.text.bytes.items f.text.tokens.items) e → IsTextRefused files n f e
-  no_operators : f.part ≡ part.Module → IsUndeclarable files n f e → IsTextRefused files n f e
+  no_operators : f.part ≡ part.Module → IsUndeclarable files (Sees files n (string_bytes f.module)) e → IsTextRefused files n f e
   no_module : f.part ≡ part.Module → (before : Operators) → InForce files (Sees files n (string_bytes f.module)) (length files) before →
       IsModuleRefusal (spot_at n f.text.bytes.items f.text.tokens.items) before (lexemes f.text.bytes.items f.text.tokens.items) e → IsTextRefused files n f e
 
