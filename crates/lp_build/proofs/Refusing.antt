@@ -52,7 +52,8 @@ free_more g n h here p l = by (cases_lt p n)
     by (inr m) = let e : n ≡ p = omega (arith, l, m) in subst (IsFreeFrom g) e here
 
 pub looked_more : (g : Group SignatureText) (n : ℕ) (old new : Option SigFault) (answer : Result Signature SigFault) → AreLookedAt g n old → IsTaken answer old new →
-    (old ≡ None → (p : ℕ) → p < n → (s : Signature) × IsDeclaredAt g p s) → IfOk answer (IsDeclaredAt g n) → IfErr answer (IsRefusal g.names.items g.sources.items g.texts.items n) → AreLookedAt g (n + 1) new
+    (old ≡ None → (p : ℕ) → p < n → (s : Signature) × IsDeclaredAt g p s) → IfOk answer (IsDeclaredAt g n) → IfErr answer
+    (IsRefusal g.names.items g.sources.items g.texts.items n) → AreLookedAt g (n + 1) new
 looked_more g n old new (Ok s) h same made ok err = record {
   free = free_more g n h.free (inl (s, ok));
   first = λ f e. wider g n f (h.first f (sym same ∙ e));
@@ -91,13 +92,15 @@ first_told g f refused e h =
 
 -- the lists that are lent
 pub refused_at : (g : Group SignatureText) (place k : ℕ) (answer : Result Signature SigFault) (names : List (String Global)) (sources : List (Vec ℕ Global)) (texts : List SignatureText) →
-    k ≡ place → names ≡ g.names.items → sources ≡ g.sources.items → texts ≡ g.texts.items → IfErr answer (IsRefusal names sources texts k) → IfErr answer (IsRefusal g.names.items g.sources.items g.texts.items place)
+    k ≡ place → names ≡ g.names.items → sources ≡ g.sources.items → texts ≡ g.texts.items → IfErr answer (IsRefusal names sources texts k) → IfErr
+    answer (IsRefusal g.names.items g.sources.items g.texts.items place)
 refused_at g place k answer names sources texts p a b c h =
     subst (λ x. IfErr answer (IsRefusal g.names.items g.sources.items g.texts.items x)) p
     (subst (λ x. IfErr answer (IsRefusal x g.sources.items g.texts.items k)) a
     (subst (λ x. IfErr answer (IsRefusal names x g.texts.items k)) b
     (subst (λ x. IfErr answer (IsRefusal names sources x k)) c h)))
 
-pub answered_at : (g : Group SignatureText) (place : ℕ) (answer : Result Signature SigFault) (P : Signature → Type 0) → ((s : Signature) → P s → IsDeclaredAt g place s) → IfOk answer P → IfOk answer (IsDeclaredAt g place)
+pub answered_at : (g : Group SignatureText) (place : ℕ) (answer : Result Signature SigFault) (P : Signature → Type 0) →
+    ((s : Signature) → P s → IsDeclaredAt g place s) → IfOk answer P → IfOk answer (IsDeclaredAt g place)
 answered_at g place (Ok s) P f h = f s h
 answered_at g place (Err e) P f h = h

@@ -45,7 +45,8 @@ split_at [] i x l e = absurd (omega (arith, l))
 split_at (y ∷ ys) zero x l e = ap (λ z. z ∷ ys) (sym e)
 split_at (y ∷ ys) (suc i) x l e = ap (λ zs. y ∷ zs) (split_at ys i x (omega (arith, l)) e)
 
-pub file_told : (ops now : Operators) (f : File) (i : ℕ) (line : FixityLine) (text : List ℕ) (e : BuildFault) → i < length f.text.references.fixities.items → line ≡ get_or f.text.references.fixities.items i line →
+pub file_told : (ops now : Operators) (f : File) (i : ℕ) (line : FixityLine) (text : List ℕ) (e : BuildFault) → i < length
+    f.text.references.fixities.items → line ≡ get_or f.text.references.fixities.items i line →
     text ≡ f.text.bytes.items → DeclareAll f.text.bytes.items ops (take i f.text.references.fixities.items) now → IsTold (IsLineFault now text line) e → IsTold (IsFileFault ops f) e
 file_told ops now f i line text e l at b declared h =
     told_as (IsLineFault now text line) (IsFileFault ops f) e (λ c p. record {
@@ -59,17 +60,27 @@ file_told ops now f i line text e l at b declared h =
     }) h
 
 -- the files that are seen
-pub seen_told : (files : List File) (IsSeen : ℕ → Type 0) (k : ℕ) (f : File) (ops : Operators) (e : BuildFault) → IsAt files k f → IsSeen k → InForce files IsSeen k ops → IsTold (IsFileFault ops f) e →
+pub seen_told : (files : List File) (IsSeen : ℕ → Type 0) (k : ℕ) (f : File) (ops : Operators) (e : BuildFault) → IsAt files k f → IsSeen k → InForce
+    files IsSeen k ops → IsTold (IsFileFault ops f) e →
     IsTold (IsUndeclarable files IsSeen) e
 seen_told files IsSeen k f ops e at seen force h =
     told_as (IsFileFault ops f) (IsUndeclarable files IsSeen) e (λ c p. record { k = k; file = f; ops = ops; at = at; seen = seen; force = force; refused = p }) h
 
 pub undeclarable_same : {files : List File} {P Q : ℕ → Type 0} {e : BuildFault} → ((k : ℕ) → P k → Q k) → ((k : ℕ) → Q k → P k) → IsTold (IsUndeclarable files P) e → IsTold (IsUndeclarable files Q) e
 undeclarable_same {files} {P} {Q} {e} f g h =
-    told_as (IsUndeclarable files P) (IsUndeclarable files Q) e (λ c p. record { k = p.k; file = p.file; ops = p.ops; at = p.at; seen = f p.k p.seen; force = force_same f g p.force; refused = p.refused }) h
+    told_as (IsUndeclarable files P) (IsUndeclarable files Q) e (λ c p. record {
+      k = p.k;
+      file = p.file;
+      ops = p.ops;
+      at = p.at;
+      seen = f p.k p.seen;
+      force = force_same f g p.force;
+      refused = p.refused;
+    }) h
 
 -- one text
-pub signature_told : (files : List File) (n k : ℕ) (f : File) (bytes : List ℕ) (tokens : List Token) (c : SyntaxFault) (e : BuildFault) → f.part ≡ part.Signature → k ≡ n → bytes ≡ f.text.bytes.items → tokens ≡ f.text.tokens.items →
+pub signature_told : (files : List File) (n k : ℕ) (f : File) (bytes : List ℕ) (tokens : List Token) (c : SyntaxFault) (e : BuildFault) → f.part ≡
+    part.Signature → k ≡ n → bytes ≡ f.text.bytes.items → tokens ≡ f.text.tokens.items →
     IsSignatureRefusal (spot_at k bytes tokens) (lexemes bytes tokens) c → e ≡ of_syntax c → IsTold (IsTextRefused files n f) e
 signature_told files n k f bytes tokens c e p a b d h is = inr (
   c,
@@ -79,11 +90,13 @@ signature_told files n k f bytes tokens c e p a b d h is = inr (
   is,
 )
 
-pub operators_told : (files : List File) (n : ℕ) (f : File) (name : List ℕ) (e : BuildFault) → f.part ≡ part.Module → name ≡ string_bytes f.module → IsTold (IsUndeclarable files (Sees files n name)) e → IsTold (IsTextRefused files n f) e
+pub operators_told : (files : List File) (n : ℕ) (f : File) (name : List ℕ) (e : BuildFault) → f.part ≡ part.Module → name ≡ string_bytes f.module →
+    IsTold (IsUndeclarable files (Sees files n name)) e → IsTold (IsTextRefused files n f) e
 operators_told files n f name e p m h =
     told_as (IsUndeclarable files (Sees files n name)) (IsTextRefused files n f) e (λ c u. no_operators p (subst (λ x. IsUndeclarable files (Sees files n x) c) m u)) h
 
-pub module_told : (files : List File) (n k : ℕ) (f : File) (name bytes : List ℕ) (tokens : List Token) (before : Operators) (c : SyntaxFault) (e : BuildFault) → f.part ≡ part.Module → k ≡ n → name ≡ string_bytes f.module →
+pub module_told : (files : List File) (n k : ℕ) (f : File) (name bytes : List ℕ) (tokens : List Token) (before : Operators) (c : SyntaxFault)
+    (e : BuildFault) → f.part ≡ part.Module → k ≡ n → name ≡ string_bytes f.module →
     bytes ≡ f.text.bytes.items → tokens ≡ f.text.tokens.items → InForce files (Sees files n name) (length files) before → IsModuleRefusal (spot_at k bytes tokens) before (lexemes bytes tokens) c →
     e ≡ of_syntax c → IsTold (IsTextRefused files n f) e
 module_told files n k f name bytes tokens before c e p a m b d force h is = inr (
@@ -96,7 +109,8 @@ module_told files n k f name bytes tokens before c e p a m b d force h is = inr 
 )
 
 -- the first one
-pub first_text : (files : List File) (n : ℕ) (f : File) (texts : Texts) (e : BuildFault) → AreTextsSoFar files n texts → IsAt files n f → IsTold (IsTextRefused files n f) e → (e ≡ fault.Memory) ⊎ IsFirstText files e
+pub first_text : (files : List File) (n : ℕ) (f : File) (texts : Texts) (e : BuildFault) → AreTextsSoFar files n texts → IsAt files n f → IsTold
+    (IsTextRefused files n f) e → (e ≡ fault.Memory) ⊎ IsFirstText files e
 first_text files n f texts e so at (inl m) = inl m
 first_text files n f texts e so at (inr (c, h, is)) = inr (record {
   n = n;

@@ -185,8 +185,8 @@ pub record AreWhole (sources : Sources) (g : Group SignatureText) (t : Group Mod
   pub modules : AreModuleTexts sources.files.items (length sources.files.items) t
 
 -- each signature is declared
-abbrev pub AreDeclared : Group SignatureText → Type 0
-AreDeclared g = (p : ℕ) → p < length g.texts.items → (s : Signature) × IsDeclaredAt g p s
+abbrev pub AreAllDeclared : Group SignatureText → Type 0
+AreAllDeclared g = (p : ℕ) → p < length g.texts.items → (s : Signature) × IsDeclaredAt g p s
 
 -- The layers: each has its fault where those before it have none.
 pub data IsRefusedWhole (sources : Sources) (e : BuildFault) : Type 0 where
@@ -196,8 +196,8 @@ pub data IsRefusedWhole (sources : Sources) (e : BuildFault) : Type 0 where
 
 pub data IsRefusedModules (sources : Sources) (e : BuildFault) : Type 0 where
   of_whole : IsRefusedWhole sources e → IsRefusedModules sources e
-  of_order : (g : Group SignatureText) (t : Group ModuleText) → AreWhole sources g t → AreDeclared g → IsOrderFault t e → IsRefusedModules sources e
-  of_meaning : (g : Group SignatureText) (t : Group ModuleText) → AreWhole sources g t → AreDeclared g → IsFirstModule sources.files.items g t e → IsRefusedModules sources e
+  of_order : (g : Group SignatureText) (t : Group ModuleText) → AreWhole sources g t → AreAllDeclared g → IsOrderFault t e → IsRefusedModules sources e
+  of_meaning : (g : Group SignatureText) (t : Group ModuleText) → AreWhole sources g t → AreAllDeclared g → IsFirstModule sources.files.items g t e → IsRefusedModules sources e
 
 pub data IsRefusedProgram (sources : Sources) (e : BuildFault) : Type 0 where
   of_modules : IsRefusedModules sources e → IsRefusedProgram sources e

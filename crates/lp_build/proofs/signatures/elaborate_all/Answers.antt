@@ -17,8 +17,7 @@ loop-root-init c = (
 pub loop-root-preserved : goal.loop-root-preserved
 loop-root-preserved c =
     let g = c.args.group.now in
-    let lt = λ (few : length c.args.group.now.texts.items ≤ 2 ^ 32). (let l : c.loop-root.root < 2 ^ 32 = omega (arith, few, c.loop-root-test.true, c.len-root-end.ensures, c.args.group.now.texts.ok) in l) in
-    (
+    let lt = λ (few : length c.args.group.now.texts.items ≤ 2 ^ 32). (let l : c.loop-root.root < 2 ^ 32 = omega (arith, few, c.loop-root-test.true, c.len-root-end.ensures, c.args.group.now.texts.ok) in l) in (
       λ few none.
           let noted = c.in_ok-note.ensures.noted none in
           made_more g c.loop-root.made.items c.note.new.made.items c.loop-root.root noted.1.0 (c.loop-root.invariant.0 few noted.0) noted.1.2
@@ -28,10 +27,10 @@ loop-root-preserved c =
       λ few. looked_more g c.loop-root.root c.loop-root.refused c.note.new.refused c.elaborate-answer.result (c.loop-root.invariant.1 few) c.in_ok-note.ensures.taken
           (λ none. made_all g c.loop-root.made.items c.loop-root.root (c.loop-root.invariant.0 few none))
           (answered_at g c.loop-root.root c.elaborate-answer.result _ (λ s h. declared_at g c.loop-root.root c.as_number.result s c.as_slice-names.result.now c.as_slice-sources.result.now
-              c.as_slice-texts.result.now (c.as_number.ensures.same (lt few)) c.as_slice-names.ensures.value c.as_slice-sources.ensures.value
-              c.as_slice-texts.ensures.value h) c.elaborate-answer.ensures.accepted)
+          c.as_slice-texts.result.now (c.as_number.ensures.same (lt few)) c.as_slice-names.ensures.value c.as_slice-sources.ensures.value
+          c.as_slice-texts.ensures.value h) c.elaborate-answer.ensures.accepted)
           (refused_at g c.loop-root.root c.as_number.result c.elaborate-answer.result c.as_slice-names.result.now c.as_slice-sources.result.now c.as_slice-texts.result.now
-              (c.as_number.ensures.same (lt few)) c.as_slice-names.ensures.value c.as_slice-sources.ensures.value c.as_slice-texts.ensures.value c.elaborate-answer.ensures.refused),
+          (c.as_number.ensures.same (lt few)) c.as_slice-names.ensures.value c.as_slice-sources.ensures.value c.as_slice-texts.ensures.value c.elaborate-answer.ensures.refused),
     )
 
 pub returns-in_err-note-clause-cause : goal.returns-in_err-note-clause-cause
@@ -42,7 +41,7 @@ returns-in_err-note-clause-cause c = λ few.
     (circle_told g c.loop-root.root c.loop-root.refused c.elaborate-answer.result c.in_err-note.field-0.0 (c.loop-root.invariant.1 few)
     (omega (arith, c.loop-root-test.true, c.len-root-end.ensures, c.args.group.now.texts.ok))
     (refused_at g c.loop-root.root c.as_number.result c.elaborate-answer.result c.as_slice-names.result.now c.as_slice-sources.result.now c.as_slice-texts.result.now
-        (c.as_number.ensures.same lt) c.as_slice-names.ensures.value c.as_slice-sources.ensures.value c.as_slice-texts.ensures.value c.elaborate-answer.ensures.refused)
+    (c.as_number.ensures.same lt) c.as_slice-names.ensures.value c.as_slice-sources.ensures.value c.as_slice-texts.ensures.value c.elaborate-answer.ensures.refused)
     c.in_err-note.ensures.told)
 
 pub returns-in-Some-clause-cause : goal.returns-in-Some-clause-cause
