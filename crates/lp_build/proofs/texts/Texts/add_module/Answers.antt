@@ -1,7 +1,6 @@
-use Rattle.std.proofs.Common.{refl}
+use Rattle.std.proofs.Common.{inl, refl}
 use Rattle.lp_fixity.specs.Table.{entry_of}
 use Rattle.lp_build.proofs.Growing.{module_tree, module_text_more}
-use Rattle.std.proofs.Common.{inl}
 use Rattle.lp_lemmas.proofs.Results.{passed_up}
 use Rattle.lp_build.specs.Refused.{IsTextRefused}
 use Rattle.lp_build.specs.declared.fault.BuildFault.TheVariants as fault

@@ -1,6 +1,5 @@
-use Rattle.std.proofs.Common.{refl}
+use Rattle.std.proofs.Common.{inl, refl}
 use Rattle.lp_build.proofs.Growing.{signature_tree, signature_text_more}
-use Rattle.std.proofs.Common.{inl}
 use Rattle.lp_lemmas.proofs.Results.{passed_up}
 use Rattle.lp_build.specs.Refused.{IsTextRefused}
 use Rattle.lp_build.specs.declared.fault.BuildFault.TheVariants as fault
