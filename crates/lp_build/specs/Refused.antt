@@ -159,7 +159,7 @@ pub record IsModuleFault (files : List File) (g : Group SignatureText) (t : Grou
   pub at_text : IsAt t.texts.items place text
   pub own_is : IsOwnSignature files g (string_bytes name) own
   pub used_are : AreSignaturesOf g (accum_sig_at files number ++ accumulate_at files number) used
-  pub refused : IsModuleRefused source.items text (string_bytes name) e
+  pub refused : IsModuleRefused source.items text (string_bytes name) own used e
 
 -- the ways of accumulate between the modules
 abbrev pub IsOrderFault : Group ModuleText → BuildFault → Type 0
@@ -188,17 +188,19 @@ pub record AreWhole (sources : Sources) (g : Group SignatureText) (t : Group Mod
 abbrev pub AreAllDeclared : Group SignatureText → Type 0
 AreAllDeclared g = (p : ℕ) → p < length g.texts.items → (s : Signature) × IsDeclaredAt g p s
 
--- The layers: each has its fault where those before it have none.
+-- Why the files have no texts with signatures that are declared: each layer has its fault where those before it have none.
 pub data IsRefusedWhole (sources : Sources) (e : BuildFault) : Type 0 where
   of_text : IsFirstText sources.files.items e → IsRefusedWhole sources e
   of_signatures : (g : Group SignatureText) (t : Group ModuleText) → AreWhole sources g t → IsSignaturesFault g e → IsRefusedWhole sources e
   no_memory : e ≡ fault.Memory → IsRefusedWhole sources e
 
+-- why they have no modules: that, or a circle of accumulate, or else the first module in the order of the walk that is refused
 pub data IsRefusedModules (sources : Sources) (e : BuildFault) : Type 0 where
   of_whole : IsRefusedWhole sources e → IsRefusedModules sources e
   of_order : (g : Group SignatureText) (t : Group ModuleText) → AreWhole sources g t → AreAllDeclared g → IsOrderFault t e → IsRefusedModules sources e
   of_meaning : (g : Group SignatureText) (t : Group ModuleText) → AreWhole sources g t → AreAllDeclared g → IsFirstModule sources.files.items g t e → IsRefusedModules sources e
 
+-- Why they have no program: they have no modules, or the program of all modules, the root last, passes a limit.
 pub data IsRefusedProgram (sources : Sources) (e : BuildFault) : Type 0 where
   of_modules : IsRefusedModules sources e → IsRefusedProgram sources e
   of_program : (all : List Module) (root : ℕ) (f : ModuleFault) → AreModules sources all → root + 1 ≡ length all → IsProgramRefusal all root f → e ≡ of_module f → IsRefusedProgram sources e

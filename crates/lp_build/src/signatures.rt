@@ -6,7 +6,7 @@ ghost use Rattle.lp_sig.specs.Refusals.{IsAt};
 ghost use Rattle.lp_base.specs.declared.place.Spot.{Spot};
 ghost use Rattle.lp_sig.specs.declared.fault.SigFault.TheVariants as sig;
 ghost use Rattle.lp_build.specs.Faults.{IsOfTexts};
-ghost use Rattle.lp_build.specs.Refused.{IsSignaturesFault, of_signature};
+ghost use Rattle.lp_build.specs.Refused.{AreAllDeclared, IsSignaturesFault, of_signature};
 ghost use Rattle.lp_build.specs.declared.fault.BuildFault.TheVariants as fault;
 ghost use Rattle.lp_build.specs.Meant.{AreSignaturesOf, IsSignatureOf};
 ghost use Rattle.lp_build.specs.declared.texts.Group.{Group};
@@ -154,6 +154,7 @@ impl Signatures {
         ensures refused { IfErr result IsOfTexts }
         ensures cause { length group.now.texts.items ≤ 2 ^ 32 → IfErr result (IsSignaturesFault group.now) }
         ensures declared { length group.now.texts.items ≤ 2 ^ 32 → IfOk result (AreDeclared group.now) }
+        ensures every { length group.now.texts.items ≤ 2 ^ 32 → IfOk result (λ _. AreAllDeclared group.now) }
     {
         let made = elaborate_all(alloc, group)?;
         let places = places_of(alloc, &group.numbers)?;
