@@ -26,3 +26,4 @@ pub mod CopyNumbering
 pub mod ImageClauses
 pub mod Refusing
 pub mod Texting
+pub mod Causing

@@ -40,7 +40,7 @@ line_told table text word line fix.Otherwise e w h is =
 line_told table text word line fix.Memory e w h is = inl is
 
 -- a file
-split_at : {A : Type 0} (xs : List A) (i : ℕ) (x : A) → i < length xs → x ≡ get_or xs i x → xs ≡ take i xs ++ x ∷ drop (suc i) xs
+pub split_at : {A : Type 0} (xs : List A) (i : ℕ) (x : A) → i < length xs → x ≡ get_or xs i x → xs ≡ take i xs ++ x ∷ drop (suc i) xs
 split_at [] i x l e = absurd (omega (arith, l))
 split_at (y ∷ ys) zero x l e = ap (λ z. z ∷ ys) (sym e)
 split_at (y ∷ ys) (suc i) x l e = ap (λ zs. y ∷ zs) (split_at ys i x (omega (arith, l)) e)

@@ -17,7 +17,8 @@ loop-root-init c = (
 pub loop-root-preserved : goal.loop-root-preserved
 loop-root-preserved c =
     let g = c.args.group.now in
-    let lt = λ (few : length c.args.group.now.texts.items ≤ 2 ^ 32). (let l : c.loop-root.root < 2 ^ 32 = omega (arith, few, c.loop-root-test.true, c.len-root-end.ensures, c.args.group.now.texts.ok) in l) in (
+    let lt = λ (few : length c.args.group.now.texts.items ≤ 2 ^ 32). (let l : c.loop-root.root < 2 ^ 32 = omega
+    (arith, few, c.loop-root-test.true, c.len-root-end.ensures, c.args.group.now.texts.ok) in l) in (
       λ few none.
           let noted = c.in_ok-note.ensures.noted none in
           made_more g c.loop-root.made.items c.note.new.made.items c.loop-root.root noted.1.0 (c.loop-root.invariant.0 few noted.0) noted.1.2

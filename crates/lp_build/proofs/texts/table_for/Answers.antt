@@ -14,7 +14,8 @@ returns-clause-force c = λ links. force_same (c.in_ok-seen.ensures.seen c.args.
 
 pub returns-in_err-table-clause-cause : goal.returns-in_err-table-clause-cause
 returns-in_err-table-clause-cause c = λ links.
-    passed_up c.from_residual.result fault.Memory (IsTold (IsUndeclarable c.args.sources.now.files.items (Sees c.args.sources.now.files.items c.args.place c.args.name.now))) c.from_residual.ensures.1 (inl refl)
+    passed_up c.from_residual.result fault.Memory (IsTold (IsUndeclarable c.args.sources.now.files.items
+    (Sees c.args.sources.now.files.items c.args.place c.args.name.now))) c.from_residual.ensures.1 (inl refl)
 
 pub returns-in_err-seen-clause-cause : goal.returns-in_err-seen-clause-cause
 returns-in_err-seen-clause-cause c = λ links.
@@ -25,4 +26,5 @@ pub returns-in_err-declare_seen-clause-cause : goal.returns-in_err-declare_seen-
 returns-in_err-declare_seen-clause-cause c = λ links.
     passed_up c.from_residual-in_err-declare_seen.result c.in_err-declare_seen.field-0.0
     (IsTold (IsUndeclarable c.args.sources.now.files.items (Sees c.args.sources.now.files.items c.args.place c.args.name.now))) c.from_residual-in_err-declare_seen.ensures.1
-    (undeclarable_same (c.in_ok-seen.ensures.seen c.args.sources.now.files.items links) (c.in_ok-seen.ensures.all c.args.sources.now.files.items links) (c.in_err-declare_seen.ensures.cause c.in_ok-table.ensures))
+    (undeclarable_same (c.in_ok-seen.ensures.seen c.args.sources.now.files.items links)
+    (c.in_ok-seen.ensures.all c.args.sources.now.files.items links) (c.in_err-declare_seen.ensures.cause c.in_ok-table.ensures))

@@ -24,7 +24,8 @@ returns-in_err-table-clause-cause c = λ p lt links.
 
 pub returns-in-Err-clause-cause : goal.returns-in-Err-clause-cause
 returns-in-Err-clause-cause c = λ p lt links.
-    module_told c.args.sources.now.files.items c.args.place c.as_number.result c.args.file.now c.as_str.result.now c.as_slice-source.result.now c.as_slice-tokens.result.now (entry_of c.in_ok-table.table)
+    module_told c.args.sources.now.files.items c.args.place c.as_number.result c.args.file.now c.as_str.result.now c.as_slice-source.result.now
+    c.as_slice-tokens.result.now (entry_of c.in_ok-table.table)
     c.in-Err.fault c.syntax_fault.result p (c.as_number.ensures.same lt) c.as_str.ensures.value c.as_slice-source.ensures.value c.as_slice-tokens.ensures.value (c.in_ok-table.ensures.force links)
     c.in-Err.ensures.fault c.syntax_fault.ensures.same
 
