@@ -1,10 +1,9 @@
 -- The first module that is refused, and why there is no program, layer by layer.
 use Rattle.std.specs.Global.{Global}
-use Rattle.std.proofs.Common.{◌≡◌, ℕ, suc, ◌+◌, ◌<◌, List, [], ◌∷◌, length, map, take, drop, get_or, subst, inl, inr}
+use Rattle.std.proofs.Common.{◌≡◌, ℕ, suc, ◌<◌, List, [], ◌∷◌, length, map, take, drop, get_or, subst, inl, inr}
 use Rattle.std.specs.Prelude.{◌⊎◌, Result, Ok, Err, IfErr, String, Vec, string_bytes}
 use Rattle.lp_syntax.specs.declared.text.ModuleText.{ModuleText}
 use Rattle.lp_syntax.specs.declared.text.SignatureText.{SignatureText}
-use Rattle.lp_module.specs.Copies.{IsProgramRefusal}
 use Rattle.lp_module.specs.Order.{Visits}
 use Rattle.lp_module.specs.Refusals.{IsOrderRefusal}
 use Rattle.lp_module.specs.Words.{all_ways}

@@ -1,8 +1,7 @@
 -- The first signature that is refused, and circles before all other faults.
 use Rattle.std.specs.Global.{Global}
-use Rattle.std.proofs.Common.{◌≡◌, ℕ, zero, suc, ◌+◌, ◌<◌, ◌≤◌, List, [], ◌∷◌, length, Option, Some, None, String, Vec, refl, sym, ap, subst, ◌∙◌, inl, inr, arith}
+use Rattle.std.proofs.Common.{◌≡◌, ℕ, zero, suc, ◌+◌, ◌<◌, ◌≤◌, List, [], ◌∷◌, length, Option, Some, None, String, Vec, refl, sym, subst, ◌∙◌, inl, inr, arith}
 use Rattle.std.specs.Prelude.{◌⊎◌, Result, Ok, Err, IfOk, IfErr}
-use Rattle.std.specs.Option.{option_or}
 use Rattle.std.proofs.lemmas.Bool.{cases_lt}
 use Rattle.std.proofs.lemmas.Option.{same_Some}
 use Rattle.lp_base.specs.declared.place.Spot.{Spot}
@@ -12,7 +11,7 @@ use Rattle.lp_sig.specs.declared.fault.SigFault.{SigFault}
 use Rattle.lp_sig.specs.declared.fault.SigFault.TheVariants as sig
 use Rattle.lp_sig.specs.declared.signature.Signature.{Signature}
 use Rattle.lp_build.specs.Meant.{IsDeclaredAt}
-use Rattle.lp_build.specs.Refused.{IsFirstCircle, IsFirstSignature, IsFreeFrom, IsSignaturesFault, a_circle, a_signature, of_signature, wanting}
+use Rattle.lp_build.specs.Refused.{IsFreeFrom, IsSignaturesFault, a_circle, a_signature, of_signature, wanting}
 use Rattle.lp_build.specs.declared.fault.BuildFault.{BuildFault}
 use Rattle.lp_build.specs.declared.fault.BuildFault.TheVariants as fault
 use Rattle.lp_build.specs.declared.texts.Group.{Group}

@@ -1,4 +1,4 @@
-use Rattle.std.proofs.Common.{inl, inr, refl, subst}
+use Rattle.std.proofs.Common.{inr, subst}
 use Rattle.lp_module.specs.Copies.{IsProgramRefusal}
 use Rattle.lp_module.specs.Program.{IsProgram}
 use Rattle.lp_build.proofs.Building.{program_is}

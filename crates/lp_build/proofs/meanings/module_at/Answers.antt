@@ -30,8 +30,8 @@ returns-in-Ok-clause-meaning c = λ files g links declared. record {
       c.in-Ok.module) c.as_slice-seen.ensures.value c.in-Ok.ensures.meaning));
 }
 
-pub returns-in-Err-clause-cause : goal.returns-in-Err-clause-cause
-returns-in-Err-clause-cause c = λ files g links declared. inr (
+pub returns-clause-cause : goal.returns-clause-cause
+returns-clause-cause c = λ files g links declared. inr (
   c.in-Err.fault,
   record {
     number = c.in-Some-found_at-3.number.now;
