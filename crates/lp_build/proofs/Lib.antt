@@ -24,3 +24,6 @@ pub mod ImageCopies
 pub mod CopyClauses
 pub mod CopyNumbering
 pub mod ImageClauses
+pub mod Refusing
+pub mod Texting
+pub mod Causing

@@ -8,6 +8,7 @@ pub mod Trees
 pub mod Meant
 pub mod Queried
 pub mod Programs
+pub mod Refused
 pub mod Compiled
 pub mod Copied
 pub mod Images

@@ -9,13 +9,15 @@ ghost use Rattle.lp_build.specs.Images.{IsImage};
 ghost use Rattle.lp_build.specs.Meant.{AreModules, AreModulesOf};
 ghost use Rattle.lp_build.specs.Programs.{IsBuilt, IsProgramOf};
 ghost use Rattle.lp_build.specs.Reads.{AreRead};
+ghost use Rattle.lp_build.specs.Refused.{IsRefusedModules, IsRefusedProgram, IsRefusedWhole};
 ghost use Rattle.lp_build.specs.declared.sources.File.{File};
+ghost use Rattle.lp_build.specs.inner.Refusing.{IsRefusedAmong, IsRefusedOf};
 ghost use Rattle.lp_build.specs.inner.Wholes.{IsRootSignature, IsSeenOf, IsWhole};
 
 use crate::fault::BuildFault;
 use crate::images::image_of;
 use crate::links::Links;
-use crate::meanings::{module_at, modules_of, own_of};
+use crate::meanings::{module_at, module_fault, modules_of, own_of};
 use crate::objects::{check_names, names_of, with_code};
 use crate::queries::{query_signature, query_table};
 use crate::signatures::Signatures;
@@ -48,6 +50,7 @@ struct Whole {
 
 fn whole_of(alloc: Global, sources: &Sources) -> Result<Whole, BuildFault>
     ensures refused { IfErr result IsOfTexts }
+    ensures cause { AreRead sources.now → IfErr result (IsRefusedWhole sources.now) }
     ensures whole { AreRead sources.now → IfOk result (IsWhole sources.now.files.items) }
 {
     let links = Links::of(alloc, sources)?;
@@ -63,6 +66,7 @@ fn whole_of(alloc: Global, sources: &Sources) -> Result<Whole, BuildFault>
 // The modules of texts, the accumulated ones first, the root last.
 fn modules_in(alloc: Global, whole: &Whole) -> Result<Vec<Module>, BuildFault>
     ensures refused { IfErr result IsOfTexts }
+    ensures cause { (files : List File) → IsWhole files whole.now → IfErr result (IsRefusedAmong files whole.now.texts.signatures whole.now.texts.modules) }
     ensures meanings { (files : List File) → IsWhole files whole.now → IfOk result (λ modules. AreModulesOf files whole.now.texts.signatures whole.now.texts.modules modules.items) }
 {
     modules_of(alloc, &whole.links, &whole.signatures, &whole.texts.modules)
@@ -107,13 +111,17 @@ fn root_of(modules: &Vec<Module>) -> Option<u32>
 // The program of modules, the root last.
 fn program_of(alloc: Global, modules: &Vec<Module>, own: &Signature) -> Result<Built, BuildFault>
     ensures refused { IfErr result IsOfTexts }
+    ensures cause { IfErr result (IsRefusedOf modules.now.items) }
     ensures program { IfOk result (IsProgramOf modules.now.items own.now) }
 {
     let Some(root) = root_of(modules) else {
         return Err(BuildFault::Memory);
     };
     let list = modules.as_slice();
-    let assembled = assemble(alloc, list, root)?;
+    let assembled = match assemble(alloc, list, root) {
+        Ok(assembled) => assembled,
+        Err(fault) => return Err(module_fault(fault)),
+    };
     match seen_of(alloc, own, assembled) {
         Ok(built) => Ok(built),
         Err(Memory) => Err(BuildFault::Memory),
@@ -127,6 +135,7 @@ fn program_of(alloc: Global, modules: &Vec<Module>, own: &Signature) -> Result<B
 /// accumulate, then the first fault of a module, accumulated ones first; then the limits of the program.
 pub fn build_program(alloc: Global, sources: &Sources) -> Result<Built, BuildFault>
     ensures refused { IfErr result IsOfTexts }
+    ensures cause { AreRead sources.now → IfErr result (IsRefusedProgram sources.now) }
     ensures program { AreRead sources.now → IfOk result (IsBuilt sources.now) }
 {
     let whole = whole_of(alloc, sources)?;
@@ -196,6 +205,7 @@ pub fn build_object(alloc: Global, sources: &Sources, module: u32) -> Result<Obj
 /// accumulate, then the first fault of a module, accumulated ones first.
 pub fn modules(alloc: Global, sources: &Sources) -> Result<Vec<Module>, BuildFault>
     ensures refused { IfErr result IsOfTexts }
+    ensures cause { AreRead sources.now → IfErr result (IsRefusedModules sources.now) }
     ensures meanings { AreRead sources.now → IfOk result (λ modules. AreModules sources.now modules.items) }
 {
     let whole = whole_of(alloc, sources)?;

@@ -1,9 +1,7 @@
 // Why files have no program.
 
 use lp_base::{Limit, Memory};
-use lp_fixity::FixFault;
 use lp_gen::GenRefusal;
-use lp_infer::InferFault;
 use lp_lexer::LexFault;
 use lp_link::LinkRefusal;
 use lp_module::ModuleFault;
@@ -61,63 +59,6 @@ impl<T: Drop> From<AllocFailed<T>> for BuildFault {
 
     fn from(_: AllocFailed<T>) -> BuildFault {
         BuildFault::Memory
-    }
-}
-
-impl From<SyntaxFault> for BuildFault {
-    ghost use Rattle.lp_build.specs.Faults.{IsOfTexts};
-
-    ghost from_gives = { λ _ e. IsOfTexts e };
-
-    fn from(fault: SyntaxFault) -> BuildFault {
-        match fault {
-            SyntaxFault::Unexpected(_)
-            | SyntaxFault::Ambiguous(_)
-            | SyntaxFault::Unclosed(_)
-            | SyntaxFault::Unsupported(_) => BuildFault::Syntax(fault),
-            SyntaxFault::Operator(FixFault::TooHigh(_) | FixFault::Otherwise, _) => {
-                BuildFault::Syntax(fault)
-            }
-            SyntaxFault::Operator(FixFault::Memory, _) | SyntaxFault::Memory => BuildFault::Memory,
-            SyntaxFault::Limit(limit) => BuildFault::Limit(limit),
-        }
-    }
-}
-
-impl From<SigFault> for BuildFault {
-    ghost use Rattle.lp_build.specs.Faults.{IsOfTexts};
-
-    ghost from_gives = { λ _ e. IsOfTexts e };
-
-    fn from(fault: SigFault) -> BuildFault {
-        match fault {
-            SigFault::Limit(limit) => BuildFault::Limit(limit),
-            SigFault::Memory => BuildFault::Memory,
-            SigFault::UnknownKind(_)
-            | SigFault::Arity(_)
-            | SigFault::Differ(_)
-            | SigFault::CyclicAbbreviation(_)
-            | SigFault::CyclicSignature(_)
-            | SigFault::Header(_) => BuildFault::Sig(fault),
-        }
-    }
-}
-
-impl From<ModuleFault> for BuildFault {
-    ghost use Rattle.lp_build.specs.Faults.{IsOfTexts};
-
-    ghost from_gives = { λ _ e. IsOfTexts e };
-
-    fn from(fault: ModuleFault) -> BuildFault {
-        match fault {
-            ModuleFault::Limit(limit) | ModuleFault::Sig(SigFault::Limit(limit)) => {
-                BuildFault::Limit(limit)
-            }
-            ModuleFault::Memory
-            | ModuleFault::Sig(SigFault::Memory)
-            | ModuleFault::Infer(InferFault::Memory) => BuildFault::Memory,
-            _ => BuildFault::Module(fault),
-        }
     }
 }
 

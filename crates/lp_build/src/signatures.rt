@@ -1,12 +1,17 @@
 // What all signatures mean.
-ghost use Rattle.std.specs.Prelude.{◌≡◌, ◌<◌, ◌≤◌, ◌^◌, ◌++◌, ◌∷◌, [], ℕ, List, length, nat_eq, Some, IfErr, IfOk, IfSome, OnOk, if◌then◌else◌};
+ghost use Rattle.std.specs.Prelude.{◌≡◌, ◌⊎◌, ◌<◌, ◌≤◌, ◌^◌, ◌++◌, ◌∷◌, [], ℕ, List, length, nat_eq, Some, Err, true, false, IfErr, IfOk, IfSome, OnOk, if◌then◌else◌};
 ghost use Rattle.indexmap.specs.IndexMap.{get};
 ghost use Rattle.lp_syntax.specs.declared.text.SignatureText.{SignatureText};
 ghost use Rattle.lp_sig.specs.Refusals.{IsAt};
+ghost use Rattle.lp_base.specs.declared.place.Spot.{Spot};
+ghost use Rattle.lp_sig.specs.declared.fault.SigFault.TheVariants as sig;
 ghost use Rattle.lp_build.specs.Faults.{IsOfTexts};
+ghost use Rattle.lp_build.specs.Refused.{AreAllDeclared, IsSignaturesFault, of_signature};
+ghost use Rattle.lp_build.specs.declared.fault.BuildFault.TheVariants as fault;
 ghost use Rattle.lp_build.specs.Meant.{AreSignaturesOf, IsSignatureOf};
 ghost use Rattle.lp_build.specs.declared.texts.Group.{Group};
 ghost use Rattle.lp_build.specs.inner.Linked.{AreDeclared, AreMade, IsCopy, IsNoted};
+ghost use Rattle.lp_build.specs.inner.Refusing.{IsOther, IsTaken};
 
 use crate::fault::BuildFault;
 use crate::sources::as_number;
@@ -44,6 +49,41 @@ fn places_of(alloc: Global, numbers: &Vec<usize>) -> Result<IndexMap<usize, usiz
     Ok(places)
 }
 
+// Whether a fault is neither a circle nor want of memory.
+fn is_other(fault: SigFault) -> bool
+    ensures other { result ≡ true → IsOther fault }
+    ensures circle { result ≡ false → (fault ≡ sig.Memory) ⊎ ((w : Spot) × (fault ≡ sig.CyclicSignature w)) }
+{
+    match fault {
+        SigFault::Memory | SigFault::CyclicSignature(_) => false,
+        SigFault::UnknownKind(_)
+        | SigFault::Arity(_)
+        | SigFault::Differ(_)
+        | SigFault::CyclicAbbreviation(_)
+        | SigFault::Limit(_)
+        | SigFault::Header(_) => true,
+    }
+}
+
+// A fault of a signature as it is told.
+fn signature_fault(fault: SigFault) -> BuildFault
+    ensures same { result ≡ of_signature fault }
+    ensures texts { IsOfTexts result }
+{
+    match fault {
+        SigFault::Limit(limit) => BuildFault::Limit(limit),
+        SigFault::Memory => BuildFault::Memory,
+        SigFault::UnknownKind(spot) => BuildFault::Sig(SigFault::UnknownKind(spot)),
+        SigFault::Arity(spot) => BuildFault::Sig(SigFault::Arity(spot)),
+        SigFault::Differ(spot) => BuildFault::Sig(SigFault::Differ(spot)),
+        SigFault::CyclicAbbreviation(spot) => {
+            BuildFault::Sig(SigFault::CyclicAbbreviation(spot))
+        }
+        SigFault::CyclicSignature(spot) => BuildFault::Sig(SigFault::CyclicSignature(spot)),
+        SigFault::Header(spot) => BuildFault::Sig(SigFault::Header(spot)),
+    }
+}
+
 // Takes what was answered of a signature. A circle of accum_sig is refused at once, of the other faults the first one at the end.
 fn note(
     made: &mut Vec<Signature>,
@@ -51,6 +91,8 @@ fn note(
     answer: Result<Signature, SigFault>,
 ) -> Result<(), BuildFault>
     ensures refused { IfErr result IsOfTexts }
+    ensures told { IfErr result (λ e. (e ≡ fault.Memory) ⊎ ((w : Spot) × (answer ≡ Err (sig.CyclicSignature w)) × (e ≡ fault.Sig (sig.CyclicSignature w)))) }
+    ensures taken { OnOk result (IsTaken answer refused.old refused.new) }
     ensures noted { OnOk result (IsNoted answer made.old.items made.new.items refused.old refused.new) }
 {
     match answer {
@@ -58,10 +100,10 @@ fn note(
             made.push(signature)?;
             Ok(())
         }
-        Err(SigFault::CyclicSignature(word)) => {
-            Err(BuildFault::Sig(SigFault::CyclicSignature(word)))
-        }
         Err(fault) => {
+            if !is_other(fault) {
+                return Err(signature_fault(fault));
+            }
             if refused.is_some() {
                 return Ok(());
             }
@@ -74,6 +116,7 @@ fn note(
 // What the signatures mean, in load order. A circle of accum_sig goes before all other faults; else the first fault is refused.
 fn elaborate_all(alloc: Global, group: &Group<SignatureText>) -> Result<Vec<Signature>, BuildFault>
     ensures refused { IfErr result IsOfTexts }
+    ensures cause { length group.now.texts.items ≤ 2 ^ 32 → IfErr result (IsSignaturesFault group.now) }
     ensures made { length group.now.texts.items ≤ 2 ^ 32 → IfOk result (λ made. AreMade group.now made.items (length group.now.texts.items)) }
 {
     let names = group.names.as_slice();
@@ -86,7 +129,7 @@ fn elaborate_all(alloc: Global, group: &Group<SignatureText>) -> Result<Vec<Sign
         note(&mut made, &mut refused, answer)?;
     }
     match refused {
-        Some(fault) => Err(BuildFault::from(fault)),
+        Some(fault) => Err(signature_fault(fault)),
         None => Ok(made),
     }
 }
@@ -109,7 +152,9 @@ fn copy_of(alloc: Global, signature: &Signature) -> Result<Signature, Memory>
 impl Signatures {
     pub(crate) fn of(alloc: Global, group: &Group<SignatureText>) -> Result<Signatures, BuildFault>
         ensures refused { IfErr result IsOfTexts }
+        ensures cause { length group.now.texts.items ≤ 2 ^ 32 → IfErr result (IsSignaturesFault group.now) }
         ensures declared { length group.now.texts.items ≤ 2 ^ 32 → IfOk result (AreDeclared group.now) }
+        ensures every { length group.now.texts.items ≤ 2 ^ 32 → IfOk result (λ _. AreAllDeclared group.now) }
     {
         let made = elaborate_all(alloc, group)?;
         let places = places_of(alloc, &group.numbers)?;

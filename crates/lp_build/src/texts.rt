@@ -1,20 +1,23 @@
 // The syntax of all files.
-ghost use Rattle.std.specs.Prelude.{◌≡◌, ◌+◌, ◌<◌, ◌≤◌, ◌^◌, ℕ, List, [], length, IfErr, IfOk, IfSome, OnOk, Contains};
+ghost use Rattle.std.specs.Prelude.{◌≡◌, ◌⊎◌, ◌+◌, ◌<◌, ◌≤◌, ◌^◌, ℕ, List, [], length, IfErr, IfOk, IfSome, OnOk, Contains};
 ghost use Rattle.lp_base.specs.declared.limits.TheConstants.{MAX_MODULES};
 ghost use Rattle.lp_fixity.specs.Table.{entry_of, standard};
 ghost use Rattle.lp_syntax.specs.Modules.{DeclaresOne};
 ghost use Rattle.lp_sig.specs.Pieces.{spelled};
 ghost use Rattle.lp_sig.specs.Refusals.{IsAt};
 ghost use Rattle.lp_build.specs.Faults.{IsOfTexts};
+ghost use Rattle.lp_build.specs.Refused.{IsFileFault, IsFirstText, IsLineFault, IsTextRefused, IsUndeclarable, of_syntax};
 ghost use Rattle.lp_build.specs.Sights.{DeclareAll, InForce, Sees};
+ghost use Rattle.lp_build.specs.declared.fault.BuildFault.TheVariants as fault;
 ghost use Rattle.lp_build.specs.inner.Linked.{AreLinks, AreTextsSoFar, IsOneMore};
+ghost use Rattle.lp_build.specs.inner.Refusing.{IsTold};
 
 use crate::fault::BuildFault;
 use crate::links::Links;
 use crate::sources::{File, Part, Sources, as_number};
 use indexmap::IndexSet;
 use lp_base::Memory;
-use lp_fixity::Table;
+use lp_fixity::{FixFault, Table};
 use lp_sig::spelled_at;
 use lp_syntax::{FixityLine, ModuleText, SignatureText, SyntaxFault, module_text, signature_text};
 use std::alloc::Global;
@@ -74,8 +77,31 @@ pub(crate) struct Texts {
     pub modules: Group<ModuleText>,
 }
 
+// A fault of syntax as it is told.
+fn syntax_fault(fault: SyntaxFault) -> BuildFault
+    ensures same { result ≡ of_syntax fault }
+    ensures texts { IsOfTexts result }
+{
+    match fault {
+        SyntaxFault::Unexpected(spot) => BuildFault::Syntax(SyntaxFault::Unexpected(spot)),
+        SyntaxFault::Ambiguous(spot) => BuildFault::Syntax(SyntaxFault::Ambiguous(spot)),
+        SyntaxFault::Unclosed(spot) => BuildFault::Syntax(SyntaxFault::Unclosed(spot)),
+        SyntaxFault::Unsupported(spot) => BuildFault::Syntax(SyntaxFault::Unsupported(spot)),
+        SyntaxFault::Operator(FixFault::TooHigh(number), spot) => {
+            BuildFault::Syntax(SyntaxFault::Operator(FixFault::TooHigh(number), spot))
+        }
+        SyntaxFault::Operator(FixFault::Otherwise, spot) => {
+            BuildFault::Syntax(SyntaxFault::Operator(FixFault::Otherwise, spot))
+        }
+        SyntaxFault::Operator(FixFault::Memory, _) => BuildFault::Memory,
+        SyntaxFault::Memory => BuildFault::Memory,
+        SyntaxFault::Limit(limit) => BuildFault::Limit(limit),
+    }
+}
+
 fn declare_one(table: &mut Table, source: &[u8], line: FixityLine) -> Result<(), BuildFault>
     ensures refused { IfErr result IsOfTexts }
+    ensures cause { IfErr result (IsTold (IsLineFault (entry_of table.old) source.now line)) }
     ensures declared { OnOk result (DeclaresOne (spelled source.now line.name) (line.fixity, line.number) (entry_of table.old) (entry_of table.new)) }
 {
     match table.declare(spelled_at(source, line.name), line.fixity, line.number) {
@@ -83,7 +109,7 @@ fn declare_one(table: &mut Table, source: &[u8], line: FixityLine) -> Result<(),
             return Ok(());
         }
         Err(fault) => {
-            return Err(BuildFault::from(SyntaxFault::Operator(fault, line.name)));
+            return Err(syntax_fault(SyntaxFault::Operator(fault, line.name)));
         }
     }
 }
@@ -91,6 +117,7 @@ fn declare_one(table: &mut Table, source: &[u8], line: FixityLine) -> Result<(),
 // Adds the fixities of a file to a table.
 fn declare_all(table: &mut Table, file: &File) -> Result<(), BuildFault>
     ensures refused { IfErr result IsOfTexts }
+    ensures cause { IfErr result (IsTold (IsFileFault (entry_of table.old) file.now)) }
     ensures declared { OnOk result (DeclareAll file.now.text.bytes.items (entry_of table.old) file.now.text.references.fixities.items (entry_of table.new)) }
 {
     for at in 0..file.text.references.fixities.len() {
@@ -107,6 +134,7 @@ fn declare_seen(
     seen: &IndexSet<usize>,
 ) -> Result<(), BuildFault>
     ensures refused { IfErr result IsOfTexts }
+    ensures cause { ((name : List ℕ) → entry_of table.old name ≡ standard name) → IfErr result (IsTold (IsUndeclarable sources.now.files.items (Contains seen.now.keys))) }
     ensures force { ((name : List ℕ) → entry_of table.old name ≡ standard name) → OnOk result (InForce sources.now.files.items (Contains seen.now.keys) (length sources.now.files.items) (entry_of table.new)) }
 {
     for other in 0..sources.files.len() {
@@ -129,6 +157,7 @@ fn table_for(
     name: &str,
 ) -> Result<Table, BuildFault>
     ensures refused { IfErr result IsOfTexts }
+    ensures cause { AreLinks sources.now.files.items links.now → IfErr result (IsTold (IsUndeclarable sources.now.files.items (Sees sources.now.files.items place name.now))) }
     ensures force { AreLinks sources.now.files.items links.now → IfOk result (λ table. InForce sources.now.files.items (Sees sources.now.files.items place name.now) (length sources.now.files.items) (entry_of table)) }
 {
     let mut table = Table::standard(alloc)?;
@@ -150,11 +179,15 @@ impl Texts {
     // Reads the text of a signature.
     fn add_signature(&mut self, alloc: Global, place: usize, file: &File) -> Result<(), BuildFault>
         ensures refused { IfErr result IsOfTexts }
+        ensures cause { (files : List File) → file.now.part ≡ Part.Signature → place < 2 ^ 32 → IfErr result (IsTold (IsTextRefused files place file.now)) }
         ensures texts { (files : List File) → IsAt files place file.now → file.now.part ≡ Part.Signature → place < 2 ^ 32 → AreTextsSoFar files place self.old → OnOk result (AreTextsSoFar files (place + 1) self.new) }
     {
         let source = file.text.bytes.as_slice();
         let tokens = file.text.tokens.as_slice();
-        let text = signature_text(alloc, source, tokens, as_number(place))?;
+        let text = match signature_text(alloc, source, tokens, as_number(place)) {
+            Ok(text) => text,
+            Err(fault) => return Err(syntax_fault(fault)),
+        };
         self.signatures.add(alloc, place, file, text)?;
         Ok(())
     }
@@ -169,12 +202,16 @@ impl Texts {
         file: &File,
     ) -> Result<(), BuildFault>
         ensures refused { IfErr result IsOfTexts }
+        ensures cause { file.now.part ≡ Part.Module → place < 2 ^ 32 → AreLinks sources.now.files.items links.now → IfErr result (IsTold (IsTextRefused sources.now.files.items place file.now)) }
         ensures texts { IsAt sources.now.files.items place file.now → file.now.part ≡ Part.Module → place < 2 ^ 32 → AreLinks sources.now.files.items links.now → AreTextsSoFar sources.now.files.items place self.old → OnOk result (AreTextsSoFar sources.now.files.items (place + 1) self.new) }
     {
         let source = file.text.bytes.as_slice();
         let tokens = file.text.tokens.as_slice();
         let mut table = table_for(alloc, sources, links, place, file.module.as_str())?;
-        let text = module_text(alloc, source, tokens, as_number(place), &mut table)?;
+        let text = match module_text(alloc, source, tokens, as_number(place), &mut table) {
+            Ok(text) => text,
+            Err(fault) => return Err(syntax_fault(fault)),
+        };
         self.modules.add(alloc, place, file, text)?;
         Ok(())
     }
@@ -189,6 +226,7 @@ impl Texts {
         file: &File,
     ) -> Result<(), BuildFault>
         ensures refused { IfErr result IsOfTexts }
+        ensures cause { place < 2 ^ 32 → AreLinks sources.now.files.items links.now → IfErr result (IsTold (IsTextRefused sources.now.files.items place file.now)) }
         ensures texts { IsAt sources.now.files.items place file.now → place < 2 ^ 32 → AreLinks sources.now.files.items links.now → AreTextsSoFar sources.now.files.items place self.old → OnOk result (AreTextsSoFar sources.now.files.items (place + 1) self.new) }
     {
         match file.part {
@@ -201,6 +239,7 @@ impl Texts {
 // The texts of all files, or the first fault in load order.
 pub(crate) fn texts_of(alloc: Global, sources: &Sources, links: &Links) -> Result<Texts, BuildFault>
     ensures refused { IfErr result IsOfTexts }
+    ensures cause { length sources.now.files.items ≤ MAX_MODULES → AreLinks sources.now.files.items links.now → IfErr result (λ e. (e ≡ fault.Memory) ⊎ IsFirstText sources.now.files.items e) }
     ensures texts { length sources.now.files.items ≤ MAX_MODULES → AreLinks sources.now.files.items links.now → IfOk result (AreTextsSoFar sources.now.files.items (length sources.now.files.items)) }
 {
     let mut texts = Texts::new(alloc);

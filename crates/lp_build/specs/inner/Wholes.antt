@@ -7,6 +7,7 @@ use Rattle.lp_sig.specs.declared.signature.Signature.{Signature}
 use Rattle.lp_module.specs.declared.copies.Assembled.{Assembled}
 use Rattle.lp_build.specs.Meant.{IsOwnSignature}
 use Rattle.lp_build.specs.Queried.{AreOperatorsOf, IsSeenByQueries}
+use Rattle.lp_build.specs.Refused.{AreAllDeclared}
 use Rattle.lp_build.specs.inner.Linked.{AreDeclared, AreLinks, AreTextsSoFar}
 use Rattle.lp_build.specs.declared.build.Built.{Built}
 use Rattle.lp_build.specs.declared.build.Whole.{Whole}
@@ -17,6 +18,7 @@ pub record IsWhole (files : List File) (w : Whole) : Type 0 where
   pub links : AreLinks files w.links
   pub texts : AreTextsSoFar files (length files) w.texts
   pub declared : AreDeclared w.texts.signatures w.signatures
+  pub every : AreAllDeclared w.texts.signatures
 
 -- the own signature of the first module
 pub record IsRootSignature (files : List File) (w : Whole) (own : Signature) : Type 0 where
