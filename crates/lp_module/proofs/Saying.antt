@@ -2,7 +2,9 @@
 use Rattle.std.proofs.Common.{◌≡◌, ℕ, zero, suc, ◌+◌, List, [], ◌∷◌, ◌++◌, sym, ap, ◌∙◌, arith, inl, inr}
 use Rattle.std.specs.Prelude.{◌⊎◌}
 use Rattle.std.specs.List.{range_with_len}
-use Rattle.lp_syntax.specs.declared.text.ModuleText.{ModuleText}
+use Rattle.lp_syntax.specs.declared.text.Sentence.{Sentence}
+use Rattle.lp_sig.specs.Modules.{HasSeen}
+use Rattle.lp_sig.specs.Named.{SeesTheirs}
 use Rattle.lp_sig.specs.declared.signature.Signature.{Signature}
 use Rattle.lp_term.specs.Nodes.{Nodes}
 use Rattle.lp_module.specs.Refusals.{IsUntyped, IsWrongInside}
@@ -27,10 +29,14 @@ range_more a n numbers numbers_then last same pushed is =
     pushed ∙ ap (λ l. l ++ last ∷ []) same ∙ ap (λ x. range_with_len a n ++ x ∷ []) is ∙ sym (range_last a n) ∙ ap (range_with_len a) z
 
 -- a refusal of typing or of form, as one of the module
-pub untyped_inside : (text : List ℕ) (m : ModuleText) (names : Signature) (e : ModuleFault) → (e ≡ fault.Memory) ⊎ IsUntyped names text m.lines.items e → IsWrongInside text m e
-untyped_inside text m names e (inl is) = inl is
-untyped_inside text m names e (inr u) = inr (inr (names, inl u))
+pub untyped_inside : (own : Signature) (used : List Signature) (text : List ℕ) (lines : List Sentence) (names : Signature) (e : ModuleFault) → HasSeen
+    own used text lines names → SeesTheirs own used text lines names →
+    (e ≡ fault.Memory) ⊎ IsUntyped names text lines e → IsWrongInside own used text lines e
+untyped_inside own used text lines names e seen theirs (inl is) = inl is
+untyped_inside own used text lines names e seen theirs (inr u) = inr (inr (names, seen, theirs, inl u))
 
-pub unformed_inside : (text : List ℕ) (m : ModuleText) (names : Signature) (b : Nodes) (ss : List TypedSentence) (e : ModuleFault) → AreSentences names text b (said m.lines.items) ss → (e ≡ fault.Memory) ⊎ IsFirstUnformed (declared_schemes names) b ss e → IsWrongInside text m e
-unformed_inside text m names b ss e a (inl is) = inl is
-unformed_inside text m names b ss e a (inr u) = inr (inr (names, inr (unformed names text b m.lines.items ss e a u)))
+pub unformed_inside : (own : Signature) (used : List Signature) (text : List ℕ) (lines : List Sentence) (names : Signature) (b : Nodes)
+    (ss : List TypedSentence) (e : ModuleFault) → HasSeen own used text lines names → SeesTheirs own used text lines names →
+    AreSentences names text b (said lines) ss → (e ≡ fault.Memory) ⊎ IsFirstUnformed (declared_schemes names) b ss e → IsWrongInside own used text lines e
+unformed_inside own used text lines names b ss e seen theirs a (inl is) = inl is
+unformed_inside own used text lines names b ss e seen theirs a (inr u) = inr (inr (names, seen, theirs, inr (unformed names text b lines ss e a u)))

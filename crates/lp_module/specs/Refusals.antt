@@ -12,6 +12,9 @@ use Rattle.lp_syntax.specs.declared.text.RawTerm.{RawTerm}
 use Rattle.lp_syntax.specs.declared.text.Sentence.{Sentence}
 use Rattle.lp_term.specs.Frame.{IsBetaForm, IsDeepBeta}
 use Rattle.lp_term.specs.declared.reduce.TermRefusal.TheVariants.{Deep}
+use Rattle.lp_sig.specs.ModuleFaults.{IsDeclarationRefusal}
+use Rattle.lp_sig.specs.Modules.{HasSeen}
+use Rattle.lp_sig.specs.Named.{SeesTheirs}
 use Rattle.lp_sig.specs.Pieces.{spelled}
 use Rattle.lp_sig.specs.declared.fault.SigFault.TheVariants as sig
 use Rattle.lp_sig.specs.declared.module_fault.ModuleSigFault.{ModuleSigFault}
@@ -92,14 +95,18 @@ declaration_fault (declared_wrong.Sig (sig.Header s)) = fault.Sig (sig.Header s)
 declaration_fault (declared_wrong.Exported s) = fault.Otherwise s
 declaration_fault (declared_wrong.Undeclared s) = fault.Infer (infer.Undeclared s)
 
--- a declaration of a module is refused
-abbrev pub IsUndeclared : ModuleFault → Type 0
-IsUndeclared e = (f : ModuleSigFault) × (e ≡ declaration_fault f)
+-- a declaration of a module is refused, the first one that is
+abbrev pub IsUndeclared : (own : Signature) (used : List Signature) → List ℕ → List Sentence → ModuleFault → Type 0
+IsUndeclared own used text lines e = (f : ModuleSigFault) × IsDeclarationRefusal own used text lines f × (e ≡ declaration_fault f)
+
+-- all declarations are taken: of the names that the module sees a sentence has no typing, or not the form of a clause
+abbrev pub IsUnsaid : (own : Signature) (used : List Signature) → List ℕ → List Sentence → ModuleFault → Type 0
+IsUnsaid own used text lines e = (names : Signature) × HasSeen own used text lines names × SeesTheirs own used text lines names × (IsUntyped names text lines e ⊎ IsUnformed names text lines e)
 
 -- why a module with the right header is refused: a declaration, the typing of a sentence or the form of one
-abbrev pub IsWrongInside : List ℕ → ModuleText → ModuleFault → Type 0
-IsWrongInside text m e = (e ≡ fault.Memory) ⊎ (IsUndeclared e ⊎ ((names : Signature) × (IsUntyped names text m.lines.items e ⊎ IsUnformed names text m.lines.items e)))
+abbrev pub IsWrongInside : (own : Signature) (used : List Signature) → List ℕ → List Sentence → ModuleFault → Type 0
+IsWrongInside own used text lines e = (e ≡ fault.Memory) ⊎ (IsUndeclared own used text lines e ⊎ IsUnsaid own used text lines e)
 
--- why a module is refused: a header that is another word than the name of the file goes first
-abbrev pub IsRefusal : List ℕ → ModuleText → (name : List ℕ) → ModuleFault → Type 0
-IsRefusal text m name e = ((spelled text m.header ≢ name) × (e ≡ fault.Header m.header)) ⊎ ((spelled text m.header ≡ name) × IsWrongInside text m e)
+-- why a module is refused, where its own signature and those that it names are these: a header that is another word than the name of the file goes first
+abbrev pub IsRefusal : List ℕ → ModuleText → (name : List ℕ) → (own : Signature) (used : List Signature) → ModuleFault → Type 0
+IsRefusal text m name own used e = ((spelled text m.header ≢ name) × (e ≡ fault.Header m.header)) ⊎ ((spelled text m.header ≡ name) × IsWrongInside own used text m.lines.items e)

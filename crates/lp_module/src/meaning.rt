@@ -163,7 +163,7 @@ pub fn elaborate(
     ensures hidden_constants { IfOk result (λ m. m.hidden_constants.items ≡ range_with_len (32 + length own.now.constants.items) (length m.signature.constants.items - length own.now.constants.items)) }
     ensures count { IfOk result (λ m. length m.clauses.items ≡ length (said text.now.lines.items)) }
     ensures clauses { IfOk result (λ m. AreWithin m.bank m.clauses.items) }
-    ensures refused { IfErr result (IsRefusal source.now text.now expected.now) }
+    ensures refused { IfErr result (IsRefusal source.now text.now expected.now own.now used.now) }
 {
     check_header(source, text, expected)?;
     let signature = match module_signature(alloc, source, text, own, used) {
