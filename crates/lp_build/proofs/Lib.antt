@@ -24,3 +24,4 @@ pub mod ImageCopies
 pub mod CopyClauses
 pub mod CopyNumbering
 pub mod ImageClauses
+pub mod Walking

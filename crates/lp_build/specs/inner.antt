@@ -3,3 +3,4 @@ pub mod Placed
 pub mod Wholes
 pub mod Waiting
 pub mod Coded
+pub mod Walking

@@ -1,0 +1,5 @@
+use Rattle.lp_build.proofs.Walking.{names_signature}
+use Rattle.lp_build.proofs.walk.Loading.named.Goals as goal
+
+pub returns-clause-wanted : goal.returns-clause-wanted
+returns-clause-wanted c = λ root. names_signature root c.args.self.now.sources.files.items c.in-Some.found.now c.in-Some-word.word.now c.name_of.result c.in-Some.ensures.lookup c.in-Some-word.ensures.lookup c.name_of.ensures.spelled
