@@ -3,7 +3,7 @@ use Rattle.std.specs.Global.{Global}
 use Rattle.std.proofs.Common.{◌≡◌, ℕ, ◌<◌, List, [], ◌∷◌, ◌++◌, Option, Some, None, Result, Ok, Err, length, take, refl, sym, ap, subst, ◌∙◌, inl, inr, append_assoc, append-nil, arith}
 use Rattle.std.specs.Prelude.{Contains, IfErr, IfOk, IfSome, String, string_bytes}
 use Rattle.std.specs.List.{All}
-use Rattle.std.proofs.lemmas.List.Elements.{All-cons, All-head, All-nil, All-push, All-tail, Contains-append_left, Contains-append_right}
+use Rattle.std.proofs.lemmas.List.Elements.{All-cons, All-head, All-nil, All-push, All-tail, Contains-append_left, Contains-append_right, Contains-get_or}
 use Rattle.lp_base.specs.Held.{Held}
 use Rattle.lp_base.specs.declared.place.Spot.{Spot}
 use Rattle.lp_lexer.specs.Lexis.{HasFault}
@@ -177,9 +177,30 @@ walk_begun root l e r w = record {
 
 -- what a file names
 
-pub named_signature : (root : List ℕ) (fs : List File) (f : File) (w : Spot) (name : List ℕ) → Contains fs f → Contains f.text.references.accum_sig.items w → name ≡ spelled f.text.bytes.items w → IsWanted root fs (name ++ ending part.Signature)
+named_signature : (root : List ℕ) (fs : List File) (f : File) (w : Spot) (name : List ℕ) → Contains fs f → Contains f.text.references.accum_sig.items w → name ≡ spelled f.text.bytes.items w → IsWanted root fs (name ++ ending part.Signature)
 named_signature root fs f w name h k e = a_signature f w h (Contains-append_left f.text.references.accum_sig.items f.text.references.accumulate.items w k) (ap (λ n. n ++ ending part.Signature) e)
 
-pub accumulated_both : (root : List ℕ) (fs : List File) (f : File) (w : Spot) (name : List ℕ) → Contains fs f → Contains f.text.references.accumulate.items w → name ≡ spelled f.text.bytes.items w → (p : Part) → IsWanted root fs (name ++ ending p)
+accumulated_both : (root : List ℕ) (fs : List File) (f : File) (w : Spot) (name : List ℕ) → Contains fs f → Contains f.text.references.accumulate.items w → name ≡ spelled f.text.bytes.items w → (p : Part) → IsWanted root fs (name ++ ending p)
 accumulated_both root fs f w name h k e part.Signature = a_signature f w h (Contains-append_right f.text.references.accum_sig.items f.text.references.accumulate.items w k) (ap (λ n. n ++ ending part.Signature) e)
 accumulated_both root fs f w name h k e part.Module = a_module f w h k (ap (λ n. n ++ ending part.Module) e)
+
+-- a word of a file at a place
+
+pub names_by : {X : Type 0} (xs : List X) (k : ℕ) (x : X) → IsAt xs k x → Contains xs x
+names_by xs k x at = subst (Contains xs) at.1 (Contains-get_or xs k x at.0)
+
+pub names_signature : (root : List ℕ) (fs : List File) (f : File) (w : Spot) (r : Result (Option (String Global)) BuildFault) → Contains fs f → Contains f.text.references.accum_sig.items w →
+    IfOk r (λ found. IfSome found (λ name. string_bytes name ≡ spelled f.text.bytes.items w)) → IfOk r (λ found. IfSome found (λ name. IsWanted root fs (string_bytes name ++ ending part.Signature)))
+names_signature root fs f w (Ok None) h k e = tt
+names_signature root fs f w (Ok (Some name)) h k e = named_signature root fs f w (string_bytes name) h k e
+names_signature root fs f w (Err x) h k e = tt
+
+pub names_module : (root : List ℕ) (fs : List File) (f : File) (w : Spot) (r : Result (Option (String Global)) BuildFault) → Contains fs f → Contains f.text.references.accumulate.items w →
+    IfOk r (λ found. IfSome found (λ name. string_bytes name ≡ spelled f.text.bytes.items w)) → IfOk r (λ found. IfSome found (λ name. (p : Part) → IsWanted root fs (string_bytes name ++ ending p)))
+names_module root fs f w (Ok None) h k e = tt
+names_module root fs f w (Ok (Some name)) h k e = accumulated_both root fs f w (string_bytes name) h k e
+names_module root fs f w (Err x) h k e = tt
+
+-- nothing waits any more
+pub walk_emptied : (root : List ℕ) (old new : Loading) → new.sources ≡ old.sources → old.work.items ≡ new.work.items ++ [] → IsWalk root old → IsWalk root new
+walk_emptied root old new s e h = (walks_still root old new s (sym (e ∙ append-nil new.work.items))).walk h
