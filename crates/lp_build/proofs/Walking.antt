@@ -1,6 +1,6 @@
 -- Files that are needed stay so while more are loaded.
 use Rattle.std.specs.Global.{Global}
-use Rattle.std.proofs.Common.{◌≡◌, ℕ, ◌<◌, List, [], ◌∷◌, ◌++◌, Option, Some, None, Result, Ok, Err, length, take, refl, sym, ap, subst, ◌∙◌, inl, inr, append_assoc, append-nil, arith}
+use Rattle.std.proofs.Common.{◌≡◌, ℕ, zero, suc, ◌<◌, List, [], ◌∷◌, ◌++◌, Option, Some, None, Result, Ok, Err, length, take, refl, sym, ap, subst, ◌∙◌, inl, inr, append_assoc, append-nil, arith}
 use Rattle.std.specs.Prelude.{Contains, IfErr, IfOk, IfSome, String, string_bytes}
 use Rattle.std.specs.List.{All}
 use Rattle.std.proofs.lemmas.List.Elements.{All-cons, All-head, All-nil, All-push, All-tail, Contains-append_left, Contains-append_right, Contains-get_or}
@@ -61,7 +61,7 @@ waits_later root fs gs (work.Module n) m h = wanted_later root fs gs (string_byt
 waits_later root fs gs (work.Accumulated f a) m h = tt
 
 waiting_later : (root : List ℕ) (fs gs : List File) (ws : List Work) → Follows fs gs → All (IsWaiting root fs) ws → All (IsWaiting root gs) ws
-waiting_later root fs gs ws m h = λ i x lt e. waits_later root fs gs x m (h i x lt e)
+waiting_later root fs gs ws m h = λ i x lt. waits_later root fs gs _ m (h i x lt)
 
 -- one file
 

@@ -16,6 +16,7 @@ use Rattle.lp_normal.specs.declared.fault.NormalRefusal.TheVariants as normal
 use Rattle.lp_build.specs.Loads.{BeginsWith, modules_among, names_of}
 use Rattle.lp_build.specs.Reads.{AreRead}
 use Rattle.lp_build.specs.Told.{AreLoaded}
+use Rattle.lp_build.specs.Wanted.{AreWanted}
 use Rattle.lp_build.specs.declared.build.Built.{Built}
 use Rattle.lp_build.specs.declared.fault.BuildFault.{BuildFault}
 use Rattle.lp_build.specs.declared.fault.BuildFault.TheVariants as build
@@ -65,6 +66,6 @@ none_told (Some s) f = wanting (string_bytes s) f
 
 -- the files were loaded, and their texts have no program
 pub unbuilt_is : (told : Option Held) (root : List ℕ) (sources : Sources) (r : Result Built Refusal) → BeginsWith (root ++ codes ".sig") (names_of sources.files.items)
-    → BeginsWith root (modules_among sources.files.items) → AreLoaded told sources → AreRead sources → IfErr r (IsRefusedTexts sources) → IfErr r (IsUnbuilt told root)
-unbuilt_is told root sources (Ok built) begins first files read h = tt
-unbuilt_is told root sources (Err e) begins first files read h = of_loaded sources begins first files read h
+    → BeginsWith root (modules_among sources.files.items) → AreLoaded told sources → AreRead sources → AreWanted root sources → IfErr r (IsRefusedTexts sources) → IfErr r (IsUnbuilt told root)
+unbuilt_is told root sources (Ok built) begins first files read wanted h = tt
+unbuilt_is told root sources (Err e) begins first files read wanted h = of_loaded sources begins first files read wanted h

@@ -1,16 +1,17 @@
 -- Why texts have no program: a file is not loaded, or the first fault of the texts, or what one clause is flattened to passes the limit on clauses.
-use Rattle.std.specs.Prelude.{◌≡◌, ◌++◌, ℕ, List, Option, Contains, IfSome, codes, string_bytes}
+use Rattle.std.specs.Prelude.{◌≡◌, ◌++◌, ℕ, List, Option, Contains, IfSome, codes, length, string_bytes}
 use Rattle.lp_base.specs.Held.{Held}
 use Rattle.lp_base.specs.declared.limit.Limit.TheVariants as limit
 use Rattle.lp_term.specs.Nodes.{Nodes}
 use Rattle.lp_model.specs.Readings.{formula_of}
 use Rattle.lp_model.specs.declared.program.ClauseFormula.{ClauseFormula}
 use Rattle.lp_normal.specs.Counted.{HasManyClauses}
-use Rattle.lp_build.specs.Loads.{BeginsWith, modules_among, names_of}
+use Rattle.lp_build.specs.Loads.{BeginsWith, IsOfLoading, modules_among, names_of}
 use Rattle.lp_build.specs.Programs.{IsBuilt}
 use Rattle.lp_build.specs.Reads.{AreRead}
 use Rattle.lp_build.specs.Refused.{IsRefusedProgram}
 use Rattle.lp_build.specs.Told.{AreLoaded, IsFaultIn}
+use Rattle.lp_build.specs.Wanted.{AreWanted}
 use Rattle.lp_build.specs.declared.build.Built.{Built}
 use Rattle.lp_build.specs.declared.fault.BuildFault.{BuildFault}
 use Rattle.lp_build.specs.declared.fault.BuildFault.TheVariants as build
@@ -50,8 +51,9 @@ pub data IsRefusedTexts (sources : Sources) (r : Refusal) : Type 0 where
   of_clauses : (built : Built) → IsBuilt sources built → HasManyIn built.assembled.program.bank built.assembled.program.clauses.items → TellsLimit limit.Clauses r → IsRefusedTexts sources r
   no_memory : r ≡ refusal.Memory → IsRefusedTexts sources r
 
--- a module has no program: behind those that were loaded a file is at fault; or all are loaded, in the order of loading, and their texts have none
+-- a module has no program: behind files that it needs, which were loaded, one that it needs is at fault; or all are loaded, and their texts have none
 pub data IsUnbuilt (told : Option Held) (root : List ℕ) (r : Refusal) : Type 0 where
-  of_files : (sources : Sources) (e : BuildFault) → IsFaultIn told sources e → IfSome sources.refused (λ name. TellsOfFile (string_bytes name) e r) → IsUnbuilt told root r
+  of_files : (sources : Sources) (e : BuildFault) → AreLoaded told sources → AreRead sources → AreWanted root sources → IsOfLoading (length sources.files.items) e → IsFaultIn told sources e →
+      IfSome sources.refused (λ name. TellsOfFile (string_bytes name) e r) → IsUnbuilt told root r
   of_loaded : (sources : Sources) → BeginsWith (root ++ codes ".sig") (names_of sources.files.items) → BeginsWith root (modules_among sources.files.items) →
-      AreLoaded told sources → AreRead sources → IsRefusedTexts sources r → IsUnbuilt told root r
+      AreLoaded told sources → AreRead sources → AreWanted root sources → IsRefusedTexts sources r → IsUnbuilt told root r

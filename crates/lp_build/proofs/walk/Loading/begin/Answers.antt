@@ -17,22 +17,22 @@ returns-clause-awaits g c = λ files empty. on_ok_weaker c.load_signature.result
     (c.load_signature.ensures.awaits c.args.root.now)
 
 pub returns-in_err-is_new_module-clause-walked : goal.returns-in_err-is_new_module-clause-walked
-returns-in_err-is_new_module-clause-walked g c = (walks_still c.args.root.now c.args.self.now c.is_new_module.new.self c.is_new_module.ensures.sources (ap (λ v. v.items) c.is_new_module.ensures.work)).walk
+returns-in_err-is_new_module-clause-walked g c = walks_still c.args.root.now c.args.self.now c.is_new_module.new.self c.is_new_module.ensures.sources (ap (λ v. v.items) c.is_new_module.ensures.work)
 
 pub returns-in_err-is_new_signature-clause-walked : goal.returns-in_err-is_new_signature-clause-walked
 returns-in_err-is_new_signature-clause-walked g c =
-    (walks_still c.args.root.now c.args.self.now c.is_new_signature.new.self (c.is_new_signature.ensures.sources ∙ c.is_new_module.ensures.sources) (ap (λ v. v.items) (c.is_new_signature.ensures.work ∙ c.is_new_module.ensures.work))).walk
+    walks_still c.args.root.now c.args.self.now c.is_new_signature.new.self (c.is_new_signature.ensures.sources ∙ c.is_new_module.ensures.sources) (ap (λ v. v.items) (c.is_new_signature.ensures.work ∙ c.is_new_module.ensures.work))
 
 pub returns-in_err-await_module-clause-walked : goal.returns-in_err-await_module-clause-walked
 returns-in_err-await_module-clause-walked g c =
-    (walks_then c.args.root.now c.args.self.now c.is_new_signature.new.self c.await_module.new.self
+    walks_then c.args.root.now c.args.self.now c.is_new_signature.new.self c.await_module.new.self
     (walks_still c.args.root.now c.args.self.now c.is_new_signature.new.self (c.is_new_signature.ensures.sources ∙ c.is_new_module.ensures.sources) (ap (λ v. v.items) (c.is_new_signature.ensures.work ∙ c.is_new_module.ensures.work)))
-    (c.await_module.ensures.walked c.args.root.now (of_root part.Module refl))).walk
+    (c.await_module.ensures.walked c.args.root.now (of_root part.Module refl))
 
 pub returns-clause-walked : goal.returns-clause-walked
 returns-clause-walked g c =
-    (walks_then c.args.root.now c.args.self.now c.await_module.new.self _
+    walks_then c.args.root.now c.args.self.now c.await_module.new.self _
     (walks_then c.args.root.now c.args.self.now c.is_new_signature.new.self c.await_module.new.self
     (walks_still c.args.root.now c.args.self.now c.is_new_signature.new.self (c.is_new_signature.ensures.sources ∙ c.is_new_module.ensures.sources) (ap (λ v. v.items) (c.is_new_signature.ensures.work ∙ c.is_new_module.ensures.work)))
     (c.await_module.ensures.walked c.args.root.now (of_root part.Module refl)))
-    (c.load_signature.ensures.walked c.args.root.now (of_root part.Signature refl))).walk
+    (c.load_signature.ensures.walked c.args.root.now (of_root part.Signature refl))

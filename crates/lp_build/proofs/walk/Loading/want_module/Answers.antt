@@ -13,8 +13,8 @@ returns-clause-modules g c = rw (c.await_module.ensures.sources, c.is_new_module
 pub returns-in_err-is_new_module-clause-walked : goal.returns-in_err-is_new_module-clause-walked
 returns-in_err-is_new_module-clause-walked g c = λ root w v. walks_still root c.args.self.now c.is_new_module.new.self c.is_new_module.ensures.sources (ap (λ v. v.items) c.is_new_module.ensures.work)
 
-pub returns-then-not-is_new_module-clause-walked : goal.returns-then-not-is_new_module-clause-walked
-returns-then-not-is_new_module-clause-walked g c = λ root w v. walks_still root c.args.self.now c.is_new_module.new.self c.is_new_module.ensures.sources (ap (λ v. v.items) c.is_new_module.ensures.work)
+pub returns-then-not-branch-clause-walked : goal.returns-then-not-branch-clause-walked
+returns-then-not-branch-clause-walked g c = λ root w v. walks_still root c.args.self.now c.is_new_module.new.self c.is_new_module.ensures.sources (ap (λ v. v.items) c.is_new_module.ensures.work)
 
 pub returns-in_err-await_module-clause-walked : goal.returns-in_err-await_module-clause-walked
 returns-in_err-await_module-clause-walked g c = λ root w v. walks_then root c.args.self.now c.is_new_module.new.self c.await_module.new.self

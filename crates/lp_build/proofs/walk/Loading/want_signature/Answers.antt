@@ -22,8 +22,8 @@ returns-clause-awaits g c = rw (c.is_new_signature.ensures.sources, c.is_new_sig
 pub returns-in_err-is_new_signature-clause-walked : goal.returns-in_err-is_new_signature-clause-walked
 returns-in_err-is_new_signature-clause-walked g c = λ root w. walks_still root c.args.self.now c.is_new_signature.new.self c.is_new_signature.ensures.sources (ap (λ v. v.items) c.is_new_signature.ensures.work)
 
-pub returns-then-not-is_new_signature-clause-walked : goal.returns-then-not-is_new_signature-clause-walked
-returns-then-not-is_new_signature-clause-walked g c = λ root w. walks_still root c.args.self.now c.is_new_signature.new.self c.is_new_signature.ensures.sources (ap (λ v. v.items) c.is_new_signature.ensures.work)
+pub returns-then-not-branch-clause-walked : goal.returns-then-not-branch-clause-walked
+returns-then-not-branch-clause-walked g c = λ root w. walks_still root c.args.self.now c.is_new_signature.new.self c.is_new_signature.ensures.sources (ap (λ v. v.items) c.is_new_signature.ensures.work)
 
 pub returns-clause-walked : goal.returns-clause-walked
 returns-clause-walked g c = λ root w. walks_then root c.args.self.now c.is_new_signature.new.self _
