@@ -9,7 +9,7 @@ use Rattle.lp_base.specs.declared.place.Spot.{Spot}
 use Rattle.lp_lexer.specs.Lexis.{HasFault}
 use Rattle.lp_sig.specs.Pieces.{spelled}
 use Rattle.lp_sig.specs.Refusals.{IsAt}
-use Rattle.lp_build.specs.Loads.{IsOfText, ending}
+use Rattle.lp_build.specs.Loads.{BeginsWith, IsOfText, ending, names_of}
 use Rattle.lp_build.specs.Told.{IsFaultAt, IsFaultOf, IsTold}
 use Rattle.lp_build.specs.Wanted.{AreWanted, IsWanted, a_module, a_signature, of_root}
 use Rattle.lp_build.specs.declared.fault.BuildFault.{BuildFault}
@@ -204,3 +204,24 @@ names_module root fs f w (Err x) h k e = tt
 -- nothing waits any more
 pub walk_emptied : (root : List ℕ) (old new : Loading) → new.sources ≡ old.sources → old.work.items ≡ new.work.items ++ [] → IsWalk root old → IsWalk root new
 walk_emptied root old new s e h = (walks_still root old new s (sym (e ∙ append-nil new.work.items))).walk h
+
+-- none was at fault, and none is
+
+pub none_blamed : (o : Option (String Global)) (is : List ℕ) → IfSome o (λ file. o ≡ None → string_bytes file ≡ is)
+none_blamed None is = tt
+none_blamed (Some s) is = λ e. absurd (cc)
+
+pub still_none : (o p : Option (String Global)) (is : List ℕ) → p ≡ o → IfSome p (λ file. o ≡ None → string_bytes file ≡ is)
+still_none o p is e = subst (λ x. IfSome x (λ file. o ≡ None → string_bytes file ≡ is)) (sym e) (none_blamed o is)
+
+pub blamed_after : (o m p : Option (String Global)) (is : List ℕ) → m ≡ o → IfSome p (λ file. m ≡ None → string_bytes file ≡ is) → IfSome p (λ file. o ≡ None → string_bytes file ≡ is)
+blamed_after o m p is e h = subst (λ x. IfSome p (λ file. x ≡ None → string_bytes file ≡ is)) e h
+
+pub blamed_is : (o p : Option (String Global)) (is : List ℕ) → IfSome p (λ file. o ≡ None → string_bytes file ≡ is) → o ≡ None → IfSome p (λ file. string_bytes file ≡ is)
+blamed_is o None is h e = tt
+blamed_is o (Some s) is h e = h e
+
+-- the first name stays where files are loaded
+pub begins_follow : (fs gs : List File) (name : List ℕ) → Follows fs gs → BeginsWith name (names_of fs) → BeginsWith name (names_of gs)
+begins_follow [] gs name m b = absurd b
+begins_follow (f ∷ fs) gs name (m, e) b = subst (λ l. BeginsWith name (names_of l)) (sym e) b

@@ -1,5 +1,5 @@
 // The loading of files.
-ghost use Rattle.std.specs.Prelude.{◌++◌, codes, IfOk, IfErr, length};
+ghost use Rattle.std.specs.Prelude.{◌≡◌, ◌⊎◌, ◌++◌, codes, IfOk, IfErr, IfSome, length, string_bytes};
 ghost use Rattle.lp_build.specs.Loads.{Outside, fault_beside, IsOfLoading, BeginsWith, modules_among, names_of};
 ghost use Rattle.lp_build.specs.Reads.{AreRead};
 ghost use Rattle.lp_build.specs.Told.{AreKnown, AreLoaded, IsFaultIn};
@@ -25,6 +25,7 @@ pub fn gather<F: Folder>(
     ensures read_so_far { IfErr result (λ r. AreRead r.0) }
     ensures wanted { IfOk result (AreWanted root.now) }
     ensures wanted_so_far { IfErr result (λ r. AreWanted root.now r.0) }
+    ensures begins_so_far { IfErr result (λ r. BeginsWith (root.now ++ codes ".sig") (names_of r.0.files.items) ⊎ IfSome r.0.refused (λ file. string_bytes file ≡ root.now ++ codes ".sig")) }
     ensures refused { IfErr result (λ r. IsOfLoading (length r.0.files.items) r.1) }
     ensures outside { Outside F.read_faults F.misses F.overs F.write_faults F.held folder.old folder.new (fault_beside result) }
     ensures files { IfOk result (AreLoaded (F.held folder.old)) }
@@ -48,6 +49,7 @@ pub fn gather_with<F: Folder>(
     ensures read_so_far { IfErr result (λ r. AreRead r.0) }
     ensures wanted { IfOk result (AreWanted root.now) }
     ensures wanted_so_far { IfErr result (λ r. AreWanted root.now r.0) }
+    ensures begins_so_far { IfErr result (λ r. BeginsWith (root.now ++ codes ".sig") (names_of r.0.files.items) ⊎ IfSome r.0.refused (λ file. string_bytes file ≡ root.now ++ codes ".sig")) }
     ensures refused { IfErr result (λ r. IsOfLoading (length r.0.files.items) r.1) }
     ensures outside { Outside F.read_faults F.misses F.overs F.write_faults F.held folder.old folder.new (fault_beside result) }
     ensures files { AreKnown (F.held folder.old) known.items → IfOk result (AreLoaded (F.held folder.old)) }

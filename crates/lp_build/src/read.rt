@@ -127,6 +127,7 @@ pub(crate) fn load_file<F: Folder>(
     ensures names { OnOk result (names_of sources.new.files.items ≡ names_of sources.old.files.items ++ (stem.now ++ ending part) ∷ []) }
     ensures modules { OnOk result (modules_among sources.new.files.items ≡ modules_among sources.old.files.items ++ of_module part stem.now) }
     ensures told { HoldsTold (F.held folder.old) known.old.items sources.old None → HoldsTold (F.held folder.old) known.new.items sources.new (fault_of result) }
+    ensures blames { IfSome sources.new.refused (λ file. sources.old.refused ≡ None → string_bytes file ≡ stem.now ++ ending part) }
     ensures loaded { (root : List ℕ) → IsWanted root sources.old.files.items (stem.now ++ ending part) → AreLoadedAs root sources.old sources.new }
 {
     let at = sources.files.len();

@@ -1,5 +1,5 @@
 // The order in which files are loaded.
-ghost use Rattle.std.specs.Prelude.{◌≡◌, ◌++◌, ◌∷◌, [], ◌<◌, ◌^◌, ℕ, List, codes, IfOk, OnOk, IfErr, length};
+ghost use Rattle.std.specs.Prelude.{◌≡◌, ◌⊎◌, ◌++◌, ◌∷◌, [], ◌<◌, ◌^◌, ℕ, List, codes, IfOk, OnOk, IfErr, length};
 ghost use Rattle.std.specs.Prelude.{IfSome, None, String, string_bytes};
 ghost use Rattle.std.specs.Global.{Global};
 ghost use Rattle.lp_build.specs.Loads.{Outside, fault_of, IsOfLoading, IsOfWord, names_of, modules_among, of_module, BeginsWith, Keeps, ending};
@@ -79,6 +79,7 @@ impl Loading {
         ensures modules { OnOk result (modules_among self.new.sources.files.items ≡ modules_among self.old.sources.files.items ++ of_module part name.now) }
         ensures work { self.new.work ≡ self.old.work }
         ensures walked { (root : List ℕ) → IsWanted root self.old.sources.files.items (name.now ++ ending part) → Walks root self.old self.new }
+        ensures blames { IfSome self.new.sources.refused (λ file. self.old.sources.refused ≡ None → string_bytes file ≡ name.now ++ ending part) }
     {
         load_file(
             self.alloc,
@@ -100,6 +101,7 @@ impl Loading {
         ensures modules { OnOk result (modules_among self.new.sources.files.items ≡ modules_among self.old.sources.files.items) }
         ensures awaits { (root : List ℕ) → OnOk result (Awaits root self.old.work.items (modules_among self.old.sources.files.items) → Awaits root self.new.work.items (modules_among self.new.sources.files.items)) }
         ensures walked { (root : List ℕ) → IsWanted root self.old.sources.files.items (name.now ++ codes ".sig") → Walks root self.old self.new }
+        ensures blames { IfSome self.new.sources.refused (λ file. self.old.sources.refused ≡ None → string_bytes file ≡ name.now ++ codes ".sig") }
     {
         let file = self.load(folder, name, Part::Signature)?;
         self.work.push(Work::Signatures(file, 0))?;
@@ -264,6 +266,7 @@ impl Loading {
         ensures names { OnOk result (names_of self.new.sources.files.items ≡ names_of self.old.sources.files.items ++ (root.now ++ codes ".sig") ∷ []) }
         ensures awaits { self.old.sources.files.items ≡ [] → self.old.work.items ≡ [] → OnOk result (Awaits root.now self.new.work.items (modules_among self.new.sources.files.items)) }
         ensures walked { Walks root.now self.old self.new }
+        ensures blames { IfSome self.new.sources.refused (λ file. self.old.sources.refused ≡ None → string_bytes file ≡ root.now ++ codes ".sig") }
     {
         self.is_new_module(root)?;
         self.is_new_signature(root)?;
@@ -281,6 +284,7 @@ impl Loading {
         ensures begins { OnOk result (BeginsWith (root.now ++ codes ".sig") (names_of self.new.sources.files.items)) }
         ensures first { self.old.work.items ≡ [] → OnOk result (BeginsWith root.now (modules_among self.new.sources.files.items)) }
         ensures walked { IsWalk root.now self.old → IsWalk root.now self.new }
+        ensures blames { IsWalk root.now self.old → self.old.sources.refused ≡ None → BeginsWith (root.now ++ codes ".sig") (names_of self.new.sources.files.items) ⊎ IfSome self.new.sources.refused (λ file. string_bytes file ≡ root.now ++ codes ".sig") }
     {
         self.begin(folder, root)?;
         for _ in 0..u64::MAX {

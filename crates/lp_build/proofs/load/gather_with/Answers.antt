@@ -16,3 +16,6 @@ returns-in-Ok-clause-wanted g c = (c.in-Ok.ensures.walked (walk_begun c.args.roo
 
 pub returns-clause-wanted_so_far : goal.returns-clause-wanted_so_far
 returns-clause-wanted_so_far g c = (c.in-Err.ensures.walked (walk_begun c.args.root.now c.new-loading.result c.new-loading.ensures.files c.new-loading.ensures.refused c.new-loading.ensures.work)).files
+
+pub returns-clause-begins_so_far : goal.returns-clause-begins_so_far
+returns-clause-begins_so_far g c = c.in-Err.ensures.blames (walk_begun c.args.root.now c.new-loading.result c.new-loading.ensures.files c.new-loading.ensures.refused c.new-loading.ensures.work) c.new-loading.ensures.refused

@@ -2,7 +2,7 @@ use Rattle.std.proofs.Common.{◌≡◌, ◌∙◌, ◌++◌, length, ap, sym, a
 use Rattle.lp_build.specs.Loads.{ending, modules_among, of_module}
 use Rattle.lp_build.proofs.Awaiting.{modules_more}
 use Rattle.lp_build.proofs.Reading.{one_read}
-use Rattle.lp_build.proofs.Walking.{loaded_more, loaded_none, loaded_not, loaded_same}
+use Rattle.lp_build.proofs.Walking.{loaded_more, loaded_none, loaded_not, loaded_same, none_blamed}
 use Rattle.lp_build.proofs.read.load_file.Goals as goal
 
 pub returns-in_ok-push-in-Ok-clause-read : goal.returns-in_ok-push-in-Ok-clause-read
@@ -34,3 +34,21 @@ returns-in_ok-push-in-Ok-clause-loaded g c = λ root w. loaded_more root c.args.
 
 pub returns-in-Err-clause-loaded : goal.returns-in-Err-clause-loaded
 returns-in-Err-clause-loaded g c = λ root w. loaded_not root c.args.sources.now _ c.in_ok-name.name (c.args.stem.now ++ ending c.args.part) refl refl c.in_ok-name.ensures w
+
+pub returns-then-at-ge-MAX_MODULES-clause-blames : goal.returns-then-at-ge-MAX_MODULES-clause-blames
+returns-then-at-ge-MAX_MODULES-clause-blames g c = none_blamed c.args.sources.now.refused (c.args.stem.now ++ ending c.args.part)
+
+pub returns-in_err-name-clause-blames : goal.returns-in_err-name-clause-blames
+returns-in_err-name-clause-blames g c = none_blamed c.args.sources.now.refused (c.args.stem.now ++ ending c.args.part)
+
+pub returns-in_err-module-clause-blames : goal.returns-in_err-module-clause-blames
+returns-in_err-module-clause-blames g c = none_blamed c.args.sources.now.refused (c.args.stem.now ++ ending c.args.part)
+
+pub returns-in_err-push-in-Ok-clause-blames : goal.returns-in_err-push-in-Ok-clause-blames
+returns-in_err-push-in-Ok-clause-blames g c = none_blamed c.args.sources.now.refused (c.args.stem.now ++ ending c.args.part)
+
+pub returns-in_ok-push-in-Ok-clause-blames : goal.returns-in_ok-push-in-Ok-clause-blames
+returns-in_ok-push-in-Ok-clause-blames g c = none_blamed c.args.sources.now.refused (c.args.stem.now ++ ending c.args.part)
+
+pub returns-in-Err-clause-blames : goal.returns-in-Err-clause-blames
+returns-in-Err-clause-blames g c = λ e. c.in_ok-name.ensures

@@ -21,3 +21,12 @@ returns-in_err-push-clause-walked g c = λ root w. walks_then root c.args.self.n
 
 pub returns-clause-walked : goal.returns-clause-walked
 returns-clause-walked g c = λ root w. walks_then root c.args.self.now c.load.new.self _ (c.load.ensures.walked root w) (walks_waits root c.load.new.self _ _ refl c.in_ok-push.ensures.items tt)
+
+pub returns-in_err-file-clause-blames : goal.returns-in_err-file-clause-blames
+returns-in_err-file-clause-blames g c = c.load.ensures.blames
+
+pub returns-in_err-push-clause-blames : goal.returns-in_err-push-clause-blames
+returns-in_err-push-clause-blames g c = c.load.ensures.blames
+
+pub returns-clause-blames : goal.returns-clause-blames
+returns-clause-blames g c = c.load.ensures.blames

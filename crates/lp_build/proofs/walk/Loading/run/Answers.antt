@@ -1,11 +1,12 @@
-use Rattle.std.proofs.Common.{sym, subst, arith, refl}
+use Rattle.std.proofs.Common.{sym, subst, arith, refl, ◌++◌, inl, inr}
 use Rattle.std.proofs.lemmas.List.{nil_from_length}
 use Rattle.lp_build.specs.Loads.{modules_among}
 use Rattle.lp_build.specs.inner.Waiting.{Awaits}
 use Rattle.lp_build.proofs.Awaiting.{awaits_ended}
 use Rattle.lp_build.proofs.Counting.{outside_then}
 use Rattle.lp_build.proofs.Telling.{told_memory, told_passed, told_still}
-use Rattle.lp_build.proofs.Walking.{walk_emptied, walk_popped}
+use Rattle.lp_build.proofs.Walking.{walk_emptied, walk_popped, begins_follow, blamed_is}
+use Rattle.std.specs.Prelude.{codes}
 use Rattle.lp_build.proofs.walk.Loading.run.Goals as goal
 
 pub loop-preserved : goal.loop-preserved
@@ -48,3 +49,17 @@ returns-in-None-clause-walked g c = λ h. walk_emptied c.args.root.now c.loop.se
 
 pub returns-clause-walked : goal.returns-clause-walked
 returns-clause-walked g c = c.loop.invariant.walked
+
+pub returns-in_err-begin-clause-blames : goal.returns-in_err-begin-clause-blames
+returns-in_err-begin-clause-blames g c = λ w e. inr (blamed_is c.args.self.now.sources.refused _ (c.args.root.now ++ codes ".sig") c.begin.ensures.blames e)
+
+pub returns-in_err-step-in-Some-clause-blames : goal.returns-in_err-step-in-Some-clause-blames
+returns-in_err-step-in-Some-clause-blames g c = λ w e.
+    let p = walk_popped c.args.root.now c.loop.self (record c.loop.self { work = c.pop.new.self }) c.in-Some.work refl c.in-Some.ensures.items (c.loop.invariant.walked w) in
+    inl (begins_follow _ _ (c.args.root.now ++ codes ".sig") (c.in_err-step-in-Some.ensures.walked c.args.root.now p.1).more c.loop.invariant.begins)
+
+pub returns-in-None-clause-blames : goal.returns-in-None-clause-blames
+returns-in-None-clause-blames g c = λ w e. inl c.loop.invariant.begins
+
+pub returns-clause-blames : goal.returns-clause-blames
+returns-clause-blames g c = λ w e. inl c.loop.invariant.begins
