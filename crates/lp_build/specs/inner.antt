@@ -4,3 +4,4 @@ pub mod Wholes
 pub mod Waiting
 pub mod Coded
 pub mod Refusing
+pub mod Walking

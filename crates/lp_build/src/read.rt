@@ -1,10 +1,12 @@
 // The reading of one file.
 ghost use Rattle.std.specs.Prelude.{◌≡◌, ◌++◌, ◌+◌, ◌∷◌, [], ◌<◌, codes, IfOk, OnOk, IfErr, length, string_bytes};
-ghost use Rattle.std.specs.Prelude.{IfSome, Option, None, true};
+ghost use Rattle.std.specs.Prelude.{IfSome, List, Option, None, true, ℕ};
 ghost use Rattle.lp_base.specs.Held.{Held};
 ghost use Rattle.lp_build.specs.Loads.{Outside, fault_of, IsOfText, IsOfRead, IsOfLoading, names_of, modules_among, of_module, ending};
 ghost use Rattle.lp_build.specs.Reads.{AreRead, IsReadText};
 ghost use Rattle.lp_build.specs.Told.{IsTold, AreKnown, IsFaultOf, IsFaultAt, HoldsTold};
+ghost use Rattle.lp_build.specs.Wanted.{IsWanted};
+ghost use Rattle.lp_build.specs.inner.Walking.{AreLoadedAs};
 
 use crate::fault::BuildFault;
 use crate::sources::{File, Part, Sources, Text};
@@ -43,6 +45,7 @@ fn read_bytes<F: Folder>(
     ensures outside { Outside F.read_faults F.misses F.overs F.write_faults F.held folder.old folder.new (fault_of result) }
     ensures refused { IfErr result (IsOfRead number) }
     ensures told { IfOk result (λ bytes. IsTold (F.held folder.old) name.now bytes.items) }
+    ensures fault { IfErr result (IsFaultAt (F.held folder.old) name.now) }
 {
     match folder.read(alloc, name, MAX_FILE_BYTES) {
         Ok(bytes) => Ok(bytes),
@@ -120,10 +123,12 @@ pub(crate) fn load_file<F: Folder>(
 ) -> Result<usize, BuildFault>
     ensures outside { Outside F.read_faults F.misses F.overs F.write_faults F.held folder.old folder.new (fault_of result) }
     ensures refused { IfErr result (IsOfLoading (length sources.new.files.items)) }
-    ensures read { OnOk result (AreRead sources.old → AreRead sources.new) }
+    ensures read { AreRead sources.old → AreRead sources.new }
     ensures names { OnOk result (names_of sources.new.files.items ≡ names_of sources.old.files.items ++ (stem.now ++ ending part) ∷ []) }
     ensures modules { OnOk result (modules_among sources.new.files.items ≡ modules_among sources.old.files.items ++ of_module part stem.now) }
     ensures told { HoldsTold (F.held folder.old) known.old.items sources.old None → HoldsTold (F.held folder.old) known.new.items sources.new (fault_of result) }
+    ensures blames { IfSome sources.new.refused (λ file. sources.old.refused ≡ None → string_bytes file ≡ stem.now ++ ending part) }
+    ensures loaded { (root : List ℕ) → IsWanted root sources.old.files.items (stem.now ++ ending part) → AreLoadedAs root sources.old sources.new }
 {
     let at = sources.files.len();
     if at >= MAX_MODULES {

@@ -1,12 +1,16 @@
 // The order in which files are loaded.
-ghost use Rattle.std.specs.Prelude.{◌≡◌, ◌++◌, ◌∷◌, [], ◌<◌, ◌^◌, ℕ, List, codes, IfOk, OnOk, IfErr, length};
-ghost use Rattle.std.specs.Prelude.{None, String, string_bytes};
+ghost use Rattle.std.specs.Prelude.{◌≡◌, ◌⊎◌, ◌++◌, ◌∷◌, [], ◌<◌, ◌^◌, ℕ, List, codes, IfOk, OnOk, IfErr, length};
+ghost use Rattle.std.specs.Prelude.{IfSome, None, String, string_bytes};
 ghost use Rattle.std.specs.Global.{Global};
 ghost use Rattle.lp_build.specs.Loads.{Outside, fault_of, IsOfLoading, IsOfWord, names_of, modules_among, of_module, BeginsWith, Keeps, ending};
 ghost use Rattle.lp_build.specs.Reads.{AreRead};
+ghost use Rattle.lp_sig.specs.Pieces.{spelled};
 ghost use Rattle.lp_build.specs.Told.{HoldsTold};
+ghost use Rattle.lp_build.specs.Wanted.{IsWanted};
+ghost use Rattle.lp_build.specs.declared.sources.Part.{Part as IsPart};
 ghost use Rattle.lp_build.specs.declared.walk.Work.TheVariants as work;
 ghost use Rattle.lp_build.specs.inner.Waiting.{Awaits};
+ghost use Rattle.lp_build.specs.inner.Walking.{IsWaiting, IsWalk, Walks};
 
 use crate::fault::BuildFault;
 use crate::read::load_file;
@@ -44,6 +48,7 @@ impl Loading {
         ensures files { result.sources.files.items ≡ [] }
         ensures known { result.known ≡ known }
         ensures work { result.work.items ≡ [] }
+        ensures refused { result.sources.refused ≡ None }
     {
         Loading {
             alloc,
@@ -68,11 +73,13 @@ impl Loading {
     ) -> Result<usize, BuildFault>
         ensures outside { Outside F.read_faults F.misses F.overs F.write_faults F.held folder.old folder.new (fault_of result) }
         ensures refused { IfErr result (IsOfLoading (length self.new.sources.files.items)) }
-        ensures read { OnOk result (AreRead self.old.sources → AreRead self.new.sources) }
+        ensures read { AreRead self.old.sources → AreRead self.new.sources }
         ensures told { HoldsTold (F.held folder.old) self.old.known.items self.old.sources None → HoldsTold (F.held folder.old) self.new.known.items self.new.sources (fault_of result) }
         ensures names { OnOk result (names_of self.new.sources.files.items ≡ names_of self.old.sources.files.items ++ (name.now ++ ending part) ∷ []) }
         ensures modules { OnOk result (modules_among self.new.sources.files.items ≡ modules_among self.old.sources.files.items ++ of_module part name.now) }
         ensures work { self.new.work ≡ self.old.work }
+        ensures walked { (root : List ℕ) → IsWanted root self.old.sources.files.items (name.now ++ ending part) → Walks root self.old self.new }
+        ensures blames { IfSome self.new.sources.refused (λ file. self.old.sources.refused ≡ None → string_bytes file ≡ name.now ++ ending part) }
     {
         load_file(
             self.alloc,
@@ -88,11 +95,13 @@ impl Loading {
     fn load_signature<F: Folder>(&mut self, folder: &mut F, name: &str) -> Result<(), BuildFault>
         ensures outside { Outside F.read_faults F.misses F.overs F.write_faults F.held folder.old folder.new (fault_of result) }
         ensures refused { IfErr result (IsOfLoading (length self.new.sources.files.items)) }
-        ensures read { OnOk result (AreRead self.old.sources → AreRead self.new.sources) }
+        ensures read { AreRead self.old.sources → AreRead self.new.sources }
         ensures told { HoldsTold (F.held folder.old) self.old.known.items self.old.sources None → HoldsTold (F.held folder.old) self.new.known.items self.new.sources (fault_of result) }
         ensures names { OnOk result (names_of self.new.sources.files.items ≡ names_of self.old.sources.files.items ++ (name.now ++ codes ".sig") ∷ []) }
         ensures modules { OnOk result (modules_among self.new.sources.files.items ≡ modules_among self.old.sources.files.items) }
         ensures awaits { (root : List ℕ) → OnOk result (Awaits root self.old.work.items (modules_among self.old.sources.files.items) → Awaits root self.new.work.items (modules_among self.new.sources.files.items)) }
+        ensures walked { (root : List ℕ) → IsWanted root self.old.sources.files.items (name.now ++ codes ".sig") → Walks root self.old self.new }
+        ensures blames { IfSome self.new.sources.refused (λ file. self.old.sources.refused ≡ None → string_bytes file ≡ name.now ++ codes ".sig") }
     {
         let file = self.load(folder, name, Part::Signature)?;
         self.work.push(Work::Signatures(file, 0))?;
@@ -103,10 +112,11 @@ impl Loading {
     fn load_module<F: Folder>(&mut self, folder: &mut F, name: &str) -> Result<(), BuildFault>
         ensures outside { Outside F.read_faults F.misses F.overs F.write_faults F.held folder.old folder.new (fault_of result) }
         ensures refused { IfErr result (IsOfLoading (length self.new.sources.files.items)) }
-        ensures read { OnOk result (AreRead self.old.sources → AreRead self.new.sources) }
+        ensures read { AreRead self.old.sources → AreRead self.new.sources }
         ensures told { HoldsTold (F.held folder.old) self.old.known.items self.old.sources None → HoldsTold (F.held folder.old) self.new.known.items self.new.sources (fault_of result) }
         ensures keeps { OnOk result (Keeps (names_of self.old.sources.files.items) (names_of self.new.sources.files.items)) }
         ensures modules { OnOk result (modules_among self.new.sources.files.items ≡ modules_among self.old.sources.files.items ++ name.now ∷ []) }
+        ensures walked { (root : List ℕ) → IsWanted root self.old.sources.files.items (name.now ++ codes ".mod") → Walks root self.old self.new }
     {
         let file = self.load(folder, name, Part::Module)?;
         self.work.push(Work::Accumulated(file, 0))?;
@@ -139,6 +149,7 @@ impl Loading {
         ensures sources { self.new.sources ≡ self.old.sources }
         ensures known { self.new.known ≡ self.old.known }
         ensures work { OnOk result ((m : String Global) × (string_bytes m ≡ name.now) × (self.new.work.items ≡ self.old.work.items ++ work.Module m ∷ [])) }
+        ensures walked { (root : List ℕ) → IsWanted root self.old.sources.files.items (name.now ++ codes ".mod") → Walks root self.old self.new }
     {
         let module = String::from_str(self.alloc, name)?;
         self.work.push(Work::Module(module))?;
@@ -149,11 +160,12 @@ impl Loading {
     fn want_signature<F: Folder>(&mut self, folder: &mut F, name: &str) -> Result<(), BuildFault>
         ensures outside { Outside F.read_faults F.misses F.overs F.write_faults F.held folder.old folder.new (fault_of result) }
         ensures refused { IfErr result (IsOfLoading (length self.new.sources.files.items)) }
-        ensures read { OnOk result (AreRead self.old.sources → AreRead self.new.sources) }
+        ensures read { AreRead self.old.sources → AreRead self.new.sources }
         ensures told { HoldsTold (F.held folder.old) self.old.known.items self.old.sources None → HoldsTold (F.held folder.old) self.new.known.items self.new.sources (fault_of result) }
         ensures keeps { OnOk result (Keeps (names_of self.old.sources.files.items) (names_of self.new.sources.files.items)) }
         ensures modules { OnOk result (modules_among self.new.sources.files.items ≡ modules_among self.old.sources.files.items) }
         ensures awaits { (root : List ℕ) → OnOk result (Awaits root self.old.work.items (modules_among self.old.sources.files.items) → Awaits root self.new.work.items (modules_among self.new.sources.files.items)) }
+        ensures walked { (root : List ℕ) → IsWanted root self.old.sources.files.items (name.now ++ codes ".sig") → Walks root self.old self.new }
     {
         if !self.is_new_signature(name)? {
             return Ok(());
@@ -165,10 +177,11 @@ impl Loading {
     fn want_module<F: Folder>(&mut self, folder: &mut F, name: &str) -> Result<(), BuildFault>
         ensures outside { Outside F.read_faults F.misses F.overs F.write_faults F.held folder.old folder.new (fault_of result) }
         ensures refused { IfErr result (IsOfLoading (length self.new.sources.files.items)) }
-        ensures read { OnOk result (AreRead self.old.sources → AreRead self.new.sources) }
+        ensures read { AreRead self.old.sources → AreRead self.new.sources }
         ensures told { HoldsTold (F.held folder.old) self.old.known.items self.old.sources None → HoldsTold (F.held folder.old) self.new.known.items self.new.sources (fault_of result) }
         ensures keeps { OnOk result (Keeps (names_of self.old.sources.files.items) (names_of self.new.sources.files.items)) }
         ensures modules { OnOk result (modules_among self.new.sources.files.items ≡ modules_among self.old.sources.files.items) }
+        ensures walked { (root : List ℕ) → IsWanted root self.old.sources.files.items (name.now ++ codes ".sig") → IsWanted root self.old.sources.files.items (name.now ++ codes ".mod") → Walks root self.old self.new }
     {
         if !self.is_new_module(name)? {
             return Ok(());
@@ -186,11 +199,12 @@ impl Loading {
     ) -> Result<(), BuildFault>
         ensures outside { Outside F.read_faults F.misses F.overs F.write_faults F.held folder.old folder.new (fault_of result) }
         ensures refused { IfErr result (IsOfLoading (length self.new.sources.files.items)) }
-        ensures read { OnOk result (AreRead self.old.sources → AreRead self.new.sources) }
+        ensures read { AreRead self.old.sources → AreRead self.new.sources }
         ensures told { HoldsTold (F.held folder.old) self.old.known.items self.old.sources None → HoldsTold (F.held folder.old) self.new.known.items self.new.sources (fault_of result) }
         ensures keeps { OnOk result (Keeps (names_of self.old.sources.files.items) (names_of self.new.sources.files.items)) }
         ensures modules { OnOk result (modules_among self.new.sources.files.items ≡ modules_among self.old.sources.files.items) }
         ensures awaits { (root : List ℕ) → OnOk result (Awaits root self.old.work.items (modules_among self.old.sources.files.items) → Awaits root self.new.work.items (modules_among self.new.sources.files.items)) }
+        ensures walked { (root : List ℕ) → Walks root self.old self.new }
     {
         let Some(name) = self.named(file, at)? else {
             return Ok(());
@@ -209,10 +223,11 @@ impl Loading {
     ) -> Result<(), BuildFault>
         ensures outside { Outside F.read_faults F.misses F.overs F.write_faults F.held folder.old folder.new (fault_of result) }
         ensures refused { IfErr result (IsOfLoading (length self.new.sources.files.items)) }
-        ensures read { OnOk result (AreRead self.old.sources → AreRead self.new.sources) }
+        ensures read { AreRead self.old.sources → AreRead self.new.sources }
         ensures told { HoldsTold (F.held folder.old) self.old.known.items self.old.sources None → HoldsTold (F.held folder.old) self.new.known.items self.new.sources (fault_of result) }
         ensures keeps { OnOk result (Keeps (names_of self.old.sources.files.items) (names_of self.new.sources.files.items)) }
         ensures modules { OnOk result (modules_among self.new.sources.files.items ≡ modules_among self.old.sources.files.items) }
+        ensures walked { (root : List ℕ) → Walks root self.old self.new }
     {
         let Some(name) = self.accumulated(file, at)? else {
             return Ok(());
@@ -229,10 +244,11 @@ impl Loading {
     fn step<F: Folder>(&mut self, folder: &mut F, work: Work) -> Result<(), BuildFault>
         ensures outside { Outside F.read_faults F.misses F.overs F.write_faults F.held folder.old folder.new (fault_of result) }
         ensures refused { IfErr result (IsOfLoading (length self.new.sources.files.items)) }
-        ensures read { OnOk result (AreRead self.old.sources → AreRead self.new.sources) }
+        ensures read { AreRead self.old.sources → AreRead self.new.sources }
         ensures told { HoldsTold (F.held folder.old) self.old.known.items self.old.sources None → HoldsTold (F.held folder.old) self.new.known.items self.new.sources (fault_of result) }
         ensures keeps { OnOk result (Keeps (names_of self.old.sources.files.items) (names_of self.new.sources.files.items)) }
         ensures awaits { (root : List ℕ) → OnOk result (Awaits root (self.old.work.items ++ work ∷ []) (modules_among self.old.sources.files.items) → Awaits root self.new.work.items (modules_among self.new.sources.files.items)) }
+        ensures walked { (root : List ℕ) → IsWaiting root self.old.sources.files.items work → Walks root self.old self.new }
     {
         match work {
             Work::Signatures(file, at) => self.next_signature(folder, file, at),
@@ -245,10 +261,12 @@ impl Loading {
     fn begin<F: Folder>(&mut self, folder: &mut F, root: &str) -> Result<(), BuildFault>
         ensures outside { Outside F.read_faults F.misses F.overs F.write_faults F.held folder.old folder.new (fault_of result) }
         ensures refused { IfErr result (IsOfLoading (length self.new.sources.files.items)) }
-        ensures read { OnOk result (AreRead self.old.sources → AreRead self.new.sources) }
+        ensures read { AreRead self.old.sources → AreRead self.new.sources }
         ensures told { HoldsTold (F.held folder.old) self.old.known.items self.old.sources None → HoldsTold (F.held folder.old) self.new.known.items self.new.sources (fault_of result) }
         ensures names { OnOk result (names_of self.new.sources.files.items ≡ names_of self.old.sources.files.items ++ (root.now ++ codes ".sig") ∷ []) }
         ensures awaits { self.old.sources.files.items ≡ [] → self.old.work.items ≡ [] → OnOk result (Awaits root.now self.new.work.items (modules_among self.new.sources.files.items)) }
+        ensures walked { Walks root.now self.old self.new }
+        ensures blames { IfSome self.new.sources.refused (λ file. self.old.sources.refused ≡ None → string_bytes file ≡ root.now ++ codes ".sig") }
     {
         self.is_new_module(root)?;
         self.is_new_signature(root)?;
@@ -261,10 +279,12 @@ impl Loading {
         requires { self.old.sources.files.items ≡ [] }
         ensures outside { Outside F.read_faults F.misses F.overs F.write_faults F.held folder.old folder.new (fault_of result) }
         ensures refused { IfErr result (IsOfLoading (length self.new.sources.files.items)) }
-        ensures read { OnOk result (AreRead self.old.sources → AreRead self.new.sources) }
+        ensures read { AreRead self.old.sources → AreRead self.new.sources }
         ensures told { HoldsTold (F.held folder.old) self.old.known.items self.old.sources None → HoldsTold (F.held folder.old) self.new.known.items self.new.sources (fault_of result) }
         ensures begins { OnOk result (BeginsWith (root.now ++ codes ".sig") (names_of self.new.sources.files.items)) }
         ensures first { self.old.work.items ≡ [] → OnOk result (BeginsWith root.now (modules_among self.new.sources.files.items)) }
+        ensures walked { IsWalk root.now self.old → IsWalk root.now self.new }
+        ensures blames { IsWalk root.now self.old → self.old.sources.refused ≡ None → BeginsWith (root.now ++ codes ".sig") (names_of self.new.sources.files.items) ⊎ IfSome self.new.sources.refused (λ file. string_bytes file ≡ root.now ++ codes ".sig") }
     {
         self.begin(folder, root)?;
         for _ in 0..u64::MAX {
@@ -278,7 +298,8 @@ impl Loading {
 
     // The word of a file's accum_sig sentences at a place.
     fn named(&self, file: usize, at: usize) -> Result<Option<String>, BuildFault>
-        ensures { IfErr result IsOfWord }
+        ensures refused { IfErr result IsOfWord }
+        ensures wanted { (root : List ℕ) → IfOk result (λ found. IfSome found (λ name. IsWanted root self.now.sources.files.items (string_bytes name ++ codes ".sig"))) }
     {
         let Some(found) = self.sources.files.get(file) else {
             return Ok(None);
@@ -291,7 +312,8 @@ impl Loading {
 
     // The word of a file's accumulate sentences at a place.
     fn accumulated(&self, file: usize, at: usize) -> Result<Option<String>, BuildFault>
-        ensures { IfErr result IsOfWord }
+        ensures refused { IfErr result IsOfWord }
+        ensures wanted { (root : List ℕ) → IfOk result (λ found. IfSome found (λ name. (part : IsPart) → IsWanted root self.now.sources.files.items (string_bytes name ++ ending part))) }
     {
         let Some(found) = self.sources.files.get(file) else {
             return Ok(None);
@@ -305,7 +327,8 @@ impl Loading {
 
 // A word as a name of a file.
 fn name_of(alloc: Global, source: &[u8], word: Spot) -> Result<Option<String>, BuildFault>
-    ensures { IfErr result IsOfWord }
+    ensures refused { IfErr result IsOfWord }
+    ensures spelled { IfOk result (λ found. IfSome found (λ name. string_bytes name ≡ spelled source.now word)) }
 {
     let spelled = spelled_at(source, word);
     if spelled.len() > MAX_NAME_BYTES {

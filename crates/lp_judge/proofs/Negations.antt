@@ -23,7 +23,7 @@ use Rattle.lp_lines.specs.declared.cause.Blame.{Blame}
 use Rattle.lp_lines.specs.declared.cause.Cause.{Cause}
 use Rattle.lp_lines.specs.declared.cause.Cause.TheVariants as cause
 use Rattle.lp_lines.specs.declared.refusal.Refusal.{Refusal}
-use Rattle.lp_lines.proofs.Placing.{source_weaker}
+use Rattle.lp_lines.proofs.Placing.{line_is_source, source_weaker}
 use Rattle.lp_load.specs.Placed.{SaysOfFile}
 use Rattle.lp_judge.specs.Negated.{AreWithoutNot, HasFirst, HasNone, TellsFirstNot, Text, first_among, is_word, texts_of}
 use Rattle.lp_judge.specs.inner.Negations.{AreFilesWithout, HasFirstFile, spot_of}
@@ -155,13 +155,13 @@ query_tells files query t b c r is m named spot first says none =
       token = t;
       first = first;
       wrote = line_says (codes "query") query line t b m named (ap (λ s. s.from) spot) (ap (λ s. s.to) spot) first w;
-    }) r (subst (λ d. SaysOf (codes "query") query d r) is says)
+    }) r (line_is_source (IsBlamed (codes "query") query b) r (subst (λ d. SaysOf (codes "query") query d r) is says))
 
 -- the refusal of a file tells of the first token of the first file that has one
 pub file_tells : (files : List File) (query : List ℕ) (b : Blame) (c : Cause) (r : Refusal) → c ≡ cause.Text b → b.text.now ≡ codes "unsupported" → b.is_named ≡ true → HasFirstFile files b.spot →
     SaysOfFile files c r → IfSource (TellsFirstNot (texts_of files query)) r
 file_tells files query b c r is m named found says =
-    source_weaker _ _ (λ line w. tells line w) r (subst (λ d. SaysOfFile files d r) is says)
+    source_weaker _ _ (λ line w. tells line w) r (line_is_source _ r (subst (λ d. SaysOfFile files d r) is says))
   where
     tells : (line : List ℕ) → ((name text : List ℕ) × IsFileAt files b.spot.file name text × IsBlamed name text b line) → TellsFirstNot (texts_of files query) line
     tells line w =

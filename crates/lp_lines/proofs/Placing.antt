@@ -10,7 +10,7 @@ use Rattle.lp_lexer.specs.declared.token.Token.{Token}
 use Rattle.lp_lexer.specs.declared.token.LexFault.{LexFault}
 use Rattle.lp_lexer.specs.declared.token.LexFault.TheVariants as fault
 use Rattle.lp_lexer.specs.Lexis.{Lexes, ends, skips, takes, bad, open_text, open_comment, big_number, HasFault, place_at, moved}
-use Rattle.lp_lines.specs.Placed.{IsBlamed, IsOfText, IfSource, IsSaid, IsCauseOf, is_message, said_as, source_line}
+use Rattle.lp_lines.specs.Placed.{IsBlamed, IsOfText, IsSourceLine, IfSource, IsSaid, IsCauseOf, is_message, said_as, source_line}
 use Rattle.lp_lines.specs.declared.cause.Blame.{Blame}
 use Rattle.lp_lines.specs.declared.cause.Cause.{Cause}
 use Rattle.lp_lines.specs.declared.refusal.Refusal.{Refusal}
@@ -75,6 +75,15 @@ place_behind text before from e =
 pub source_weaker : (P Q : List ℕ → Type 0) → ((line : List ℕ) → P line → Q line) → (r : Refusal) → IfSource P r → IfSource Q r
 source_weaker P Q f (Line said line) h = λ e. f line.items (h e)
 source_weaker P Q f Memory h = tt
+
+-- so too where it is such a line, or want of memory
+pub line_weaker : (P Q : List ℕ → Type 0) → ((line : List ℕ) → P line → Q line) → (r : Refusal) → IsSourceLine P r → IsSourceLine Q r
+line_weaker P Q f (Line said line) h = (h.0, f line.items h.1)
+line_weaker P Q f Memory h = tt
+
+pub line_is_source : (P : List ℕ → Type 0) (r : Refusal) → IsSourceLine P r → IfSource P r
+line_is_source P (Line said line) h = λ e. h.1
+line_is_source P Memory h = tt
 
 pub sources_weaker : {T : Type 0} (P Q : List ℕ → Type 0) → ((line : List ℕ) → P line → Q line) → (r : Result T Refusal) → IfErr r (IfSource P) → IfErr r (IfSource Q)
 sources_weaker P Q f (Ok x) h = tt

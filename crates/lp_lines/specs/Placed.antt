@@ -5,6 +5,9 @@ use Rattle.std.specs.Str.{bytes_eq}
 use Rattle.lp_base.specs.declared.place.Place.{Place}
 use Rattle.lp_base.specs.declared.status.Status.TheVariants as variant
 use Rattle.lp_lexer.specs.Lexis.{HasFault, place_at}
+use Rattle.lp_lexer.specs.declared.token.LexFault.{LexFault}
+use Rattle.lp_lexer.specs.declared.token.LexFault.TheVariants as lex
+use Rattle.lp_lines.specs.Refusals.{TellsLimit}
 use Rattle.lp_lines.specs.declared.cause.Blame.{Blame}
 use Rattle.lp_lines.specs.declared.cause.Cause.{Cause}
 use Rattle.lp_lines.specs.declared.cause.Cause.TheVariants as cause
@@ -75,7 +78,22 @@ abbrev pub IfSource : (List ℕ → Type 0) → Refusal → Type 0
 IfSource P (Line said line) = said ≡ variant.Source → P line.items
 IfSource P Memory = Unit {0}
 
+-- the refusal is a line of sources of which this holds, or want of memory
+abbrev pub IsSourceLine : (List ℕ → Type 0) → Refusal → Type 0
+IsSourceLine P (Line said line) = (said ≡ variant.Source) × P line.items
+IsSourceLine P Memory = Unit {0}
+
+-- the line of a fault of tokens
+abbrev pub IsTokenLine : (file : List ℕ) → LexFault → (line : List ℕ) → Type 0
+IsTokenLine file (lex.BadByte at) line = line ≡ source_line file at (codes "bad byte")
+IsTokenLine file (lex.OpenText at) line = line ≡ source_line file at (codes "unclosed string")
+IsTokenLine file (lex.OpenComment at) line = line ≡ source_line file at (codes "unclosed comment")
+IsTokenLine file (lex.BigNumber at) line = line ≡ source_line file at (codes "number past 64 bits")
+IsTokenLine file lex.Memory line = ⊥
+
 -- what is refused for a cause in a text says this cause
 abbrev pub SaysOf : (file text : List ℕ) → Cause → Refusal → Type 0
-SaysOf file text (cause.Text b) r = IfSource (IsBlamed file text b) r
-SaysOf file text _ r = Unit {0}
+SaysOf file text (cause.Tokens e) r = IsSourceLine (IsTokenLine file e) r
+SaysOf file text (cause.Text b) r = IsSourceLine (IsBlamed file text b) r
+SaysOf file text (cause.Limit l) r = TellsLimit l r
+SaysOf file text cause.Memory r = r ≡ Memory

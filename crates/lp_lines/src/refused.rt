@@ -4,8 +4,8 @@ ghost use Rattle.std.specs.Fmt.{decimal};
 ghost use Rattle.lp_lexer.specs.Lexis.{HasFault};
 ghost use Rattle.lp_lines.specs.Lines.{limit_line};
 ghost use Rattle.lp_lines.specs.Ends.{IsOtherLimit};
-ghost use Rattle.lp_lines.specs.Placed.{IsBlamed, IsCauseOf, IsOfText, IfSource, SaysOf, is_message, piece_of, said_as, source_line};
-ghost use Rattle.lp_lines.specs.Refusals.{IsTextRefusal};
+ghost use Rattle.lp_lines.specs.Placed.{IsBlamed, IsCauseOf, IsOfText, IsSourceLine, IsTokenLine, IfSource, SaysOf, is_message, piece_of, said_as, source_line};
+ghost use Rattle.lp_lines.specs.Refusals.{IsTextRefusal, TellsLimit};
 
 use crate::cause::{Blame, Cause};
 use crate::lines::limit;
@@ -92,7 +92,7 @@ pub fn blamed(alloc: Global, file: &str, text: &[u8], blame: &Blame) -> Refusal
     requires { is_message blame.now.is_named blame.now.text.now ≡ true }
     ensures refusal { IsTextRefusal result }
     ensures placed { IfSource (IsOfText file.now text.now) result }
-    ensures says { IfSource (IsBlamed file.now text.now blame.now) result }
+    ensures says { IsSourceLine (IsBlamed file.now text.now blame.now) result }
 {
     match blamed_line(alloc, file, text, blame) {
         Ok(line) => Refusal::Line(Status::Source, line),
@@ -102,7 +102,8 @@ pub fn blamed(alloc: Global, file: &str, text: &[u8], blame: &Blame) -> Refusal
 
 // The line of a fault of tokens.
 fn token_line(alloc: Global, file: &str, fault: LexFault) -> Result<Vec<u8>, Memory>
-    ensures { (text : List ℕ) → HasFault text fault → IfOk result (λ line. IsOfText file.now text line.items) }
+    ensures placed { (text : List ℕ) → HasFault text fault → IfOk result (λ line. IsOfText file.now text line.items) }
+    ensures says { IfOk result (λ line. IsTokenLine file.now fault line.items) }
 {
     match fault {
         LexFault::BadByte(place) => source_line(alloc, file, place, b"bad byte"),
@@ -117,6 +118,7 @@ fn token_line(alloc: Global, file: &str, fault: LexFault) -> Result<Vec<u8>, Mem
 pub fn without_tokens(alloc: Global, file: &str, fault: LexFault) -> Refusal
     ensures refusal { IsTextRefusal result }
     ensures placed { (text : List ℕ) → HasFault text fault → IfSource (IsOfText file.now text) result }
+    ensures says { IsSourceLine (IsTokenLine file.now fault) result }
 {
     match token_line(alloc, file, fault) {
         Ok(line) => Refusal::Line(Status::Source, line),
@@ -128,6 +130,7 @@ pub fn without_tokens(alloc: Global, file: &str, fault: LexFault) -> Refusal
 pub fn limited(alloc: Global, passed: Limit) -> Refusal
     ensures refusal { IsTextRefusal result }
     ensures placed { IfSource (λ line. ⊥) result }
+    ensures says { TellsLimit passed result }
 {
     if passed == Limit::File {
         return Refusal::Memory;

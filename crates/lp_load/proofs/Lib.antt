@@ -2,3 +2,4 @@ pub mod Telling
 pub mod Asking
 pub mod Programs
 pub mod Refusing
+pub mod Unbuilding

@@ -3,3 +3,4 @@ pub mod Tells
 pub mod Asked
 pub mod Loaded
 pub mod Refused
+pub mod Unbuilt

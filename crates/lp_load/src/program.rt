@@ -1,7 +1,10 @@
 // The program of a module's files.
-ghost use Rattle.std.specs.Prelude.{◌≡◌, List, ℕ, Option, IfErr, IfOk};
+ghost use Rattle.std.specs.Prelude.{◌≡◌, List, ℕ, Option, IfErr, IfOk, IfSome, OnOk, string_bytes};
 ghost use Rattle.lp_base.specs.Held.{Held};
 ghost use Rattle.lp_term.specs.Nodes.{Extends};
+ghost use Rattle.lp_module.specs.Sentences.{AreWithin};
+ghost use Rattle.lp_normal.specs.Counted.{IsOver};
+ghost use Rattle.lp_build.specs.Refused.{IsRefusedProgram};
 ghost use Rattle.lp_build.specs.Reads.{AreRead};
 ghost use Rattle.lp_build.specs.Told.{AreKnown, AreLoaded, IsFaultIn};
 ghost use Rattle.lp_lines.specs.Looked.{Looked, refusal_of};
@@ -10,6 +13,7 @@ ghost use Rattle.lp_lines.specs.Refusals.{IsSourceRefusal, IsTextRefusal};
 ghost use Rattle.lp_load.specs.Loaded.{HasGrown, IsBuiltFrom, IsLoaded};
 ghost use Rattle.lp_load.specs.Placed.{IsOfFile, SaysOfFile};
 ghost use Rattle.lp_load.specs.Tells.{Tells};
+ghost use Rattle.lp_load.specs.Unbuilt.{HasManyIn, IsRefusedTexts, IsUnbuilt, TellsOfFile, TellsTexts};
 
 use lp_base::Folder;
 use lp_build::{BuildFault, Built, Sources, build_program, gather_with};
@@ -42,7 +46,8 @@ pub fn text_refused(alloc: Global, sources: &Sources, cause: Cause) -> Refusal
 
 /// What is said of a fault of texts that have tokens. The building of a program reads no file: a fault of reading is want of memory there.
 pub fn cause_of(fault: BuildFault) -> Cause
-    ensures { (text : List ℕ) → IsCauseOf text result }
+    ensures cause { (text : List ℕ) → IsCauseOf text result }
+    ensures tells { TellsTexts fault result }
 {
     match fault {
         BuildFault::Syntax(fault) => of_syntax(fault),
@@ -58,6 +63,7 @@ pub fn cause_of(fault: BuildFault) -> Cause
 pub fn load_refused(alloc: Global, sources: &Sources, fault: BuildFault) -> Refusal
     ensures tells { Tells fault result }
     ensures placed { (told : Option Held) → IsFaultIn told sources.now fault → IfSource (IsOfFile told) result }
+    ensures file { IfSome sources.now.refused (λ name. TellsOfFile (string_bytes name) fault result) }
 {
     match fault {
         BuildFault::Read(_) => not_read(alloc, sources.fault_name()),
@@ -75,17 +81,19 @@ fn within_clauses(
     bank: &mut Bank,
     clauses: &Vec<ClauseFormula>,
 ) -> Result<(), NormalRefusal>
-    ensures { Extends bank.old bank.new }
+    ensures kept { Extends bank.old bank.new }
+    ensures limit { AreWithin bank.old clauses.now.items → IfErr result (IsOver (HasManyIn bank.old clauses.now.items)) }
 {
     for at in 0..clauses.len() {
-        let _flat = normalise(alloc, bank, clauses[at])?;
+        normalise(alloc, bank, clauses[at])?;
     }
     Ok(())
 }
 
 // The program, where the clauses of each sentence are within their limit.
 fn checked(alloc: Global, built: Built) -> Result<Built, NormalRefusal>
-    ensures { IfOk result (HasGrown built) }
+    ensures grown { IfOk result (HasGrown built) }
+    ensures limit { AreWithin built.assembled.program.bank built.assembled.program.clauses.items → IfErr result (IsOver (HasManyIn built.assembled.program.bank built.assembled.program.clauses.items)) }
 {
     let Built {
         assembled,
@@ -114,6 +122,7 @@ pub fn build(alloc: Global, sources: &Sources) -> Result<Built, Refusal>
     ensures refused { IfErr result IsTextRefusal }
     ensures placed { (told : Option Held) → AreLoaded told sources.now → IfErr result (IfSource (IsOfFile told)) }
     ensures program { AreRead sources.now → IfOk result (IsBuiltFrom sources.now) }
+    ensures cause { AreRead sources.now → IfErr result (IsRefusedTexts sources.now) }
 {
     match build_program(alloc, sources) {
         Ok(built) => match checked(alloc, built) {
@@ -137,6 +146,7 @@ pub fn load<F: Folder>(
     ensures refused { IfErr result IsSourceRefusal }
     ensures placed { AreKnown (F.held folder.old) known.items → IfErr result (IfSource (IsOfFile (F.held folder.old))) }
     ensures program { AreKnown (F.held folder.old) known.items → IfOk result (IsLoaded (F.held folder.old) name.now) }
+    ensures cause { AreKnown (F.held folder.old) known.items → IfErr result (IsUnbuilt (F.held folder.old) name.now) }
 {
     match gather_with(alloc, folder, name, true, known) {
         Ok(sources) => build(alloc, &sources),

@@ -2,6 +2,8 @@ use Rattle.lp_lines.proofs.Looking.{looked_judged, text_judged}
 use Rattle.lp_lines.proofs.Refusing.{texts_are_source}
 use Rattle.lp_load.proofs.Programs.{loaded_is}
 use Rattle.lp_load.proofs.Telling.{looked_gathered, looked_ungathered, tells_source}
+use Rattle.lp_load.specs.Unbuilt.{of_files}
+use Rattle.lp_load.proofs.Unbuilding.{unbuilt_is}
 use Rattle.lp_load.proofs.program.load.Goals as goal
 
 pub returns-in-Ok-clause-looked : goal.returns-in-Ok-clause-looked
@@ -25,3 +27,10 @@ returns-in-Err-clause-placed g c = λ known. c.load_refused.ensures.placed _ (c.
 pub returns-in-Ok-clause-program : goal.returns-in-Ok-clause-program
 returns-in-Ok-clause-program g c = λ known. loaded_is _ c.args.name.now c.in-Ok.sources c.build.result c.in-Ok.ensures.begins c.in-Ok.ensures.first
     (c.in-Ok.ensures.files known) c.in-Ok.ensures.read (c.build.ensures.program c.in-Ok.ensures.read)
+
+pub returns-in-Err-clause-cause : goal.returns-in-Err-clause-cause
+returns-in-Err-clause-cause g c = λ known. of_files c.in-Err.sources c.in-Err.fault (c.in-Err.ensures.files_so_far known) c.in-Err.ensures.read_so_far c.in-Err.ensures.wanted_so_far c.in-Err.ensures.begins_so_far c.in-Err.ensures.refused (c.in-Err.ensures.fault known) c.load_refused.ensures.file
+
+pub returns-in-Ok-clause-cause : goal.returns-in-Ok-clause-cause
+returns-in-Ok-clause-cause g c = λ known. unbuilt_is _ c.args.name.now c.in-Ok.sources c.build.result c.in-Ok.ensures.begins c.in-Ok.ensures.first
+    (c.in-Ok.ensures.files known) c.in-Ok.ensures.read c.in-Ok.ensures.wanted (c.build.ensures.cause c.in-Ok.ensures.read)

@@ -1,0 +1,71 @@
+-- Why texts have no program.
+use Rattle.std.proofs.Common.{◌≡◌, ◌<◌, ◌++◌, ℕ, List, Option, Some, None, Result, Ok, Err, length, refl, sym, subst, inl, inr}
+use Rattle.std.specs.Global.{Global}
+use Rattle.std.specs.Prelude.{Contains, IfErr, IfSome, String, codes, get_or, string_bytes}
+use Rattle.std.proofs.lemmas.List.Elements.{All-contains, Contains-get_or}
+use Rattle.lp_base.specs.Held.{Held}
+use Rattle.lp_base.specs.declared.limit.Limit.{Limit}
+use Rattle.lp_base.specs.declared.limit.Limit.TheVariants as limit
+use Rattle.lp_term.specs.Nodes.{Extends, Nodes}
+use Rattle.lp_model.specs.Readings.{formula_of}
+use Rattle.lp_model.specs.declared.program.ClauseFormula.{ClauseFormula}
+use Rattle.lp_module.specs.Sentences.{AreWithin}
+use Rattle.lp_normal.specs.Counted.{HasManyClauses, IsOver}
+use Rattle.lp_normal.specs.declared.fault.NormalRefusal.{NormalRefusal}
+use Rattle.lp_normal.specs.declared.fault.NormalRefusal.TheVariants as normal
+use Rattle.lp_build.specs.Loads.{BeginsWith, modules_among, names_of}
+use Rattle.lp_build.specs.Reads.{AreRead}
+use Rattle.lp_build.specs.Told.{AreLoaded}
+use Rattle.lp_build.specs.Wanted.{AreWanted}
+use Rattle.lp_build.specs.declared.build.Built.{Built}
+use Rattle.lp_build.specs.declared.fault.BuildFault.{BuildFault}
+use Rattle.lp_build.specs.declared.fault.BuildFault.TheVariants as build
+use Rattle.lp_build.specs.declared.sources.Sources.{Sources}
+use Rattle.lp_lines.specs.Refusals.{TellsLimit}
+use Rattle.lp_lines.specs.declared.refusal.Refusal.{Refusal}
+use Rattle.lp_lines.specs.declared.refusal.Refusal.TheVariants.{Memory}
+use Rattle.lp_load.specs.Unbuilt.{HasManyIn, IsRefusedTexts, IsUnbuilt, TellsOfFile, of_loaded}
+
+-- one of the clauses passes the limit in a bank that has grown: so it does in the first one
+pub over_later : (b c : Nodes) (ks : List ClauseFormula) (i : ℕ) (k : ClauseFormula) (e : NormalRefusal) → i < length ks → k ≡ get_or ks i k → Extends b c → AreWithin b ks → IsOver (HasManyClauses (formula_of c k)) e → IsOver (HasManyIn b ks) e
+over_later b c ks i k e l at x w (inl m) = inl m
+over_later b c ks i k e l at x w (inr (is, many)) =
+    let has : Contains ks k = subst (Contains ks) (sym at) (Contains-get_or ks i k l) in
+    let same : formula_of c k ≡ formula_of b k = λ j. record { type_vars = k.type_vars; formula = x.same_terms k.formula.0 (All-contains (λ c. c.formula.0 < length b.terms) ks k w has) j } in
+    inr (is, (k, has, subst HasManyClauses same many))
+
+-- a limit of flattening is that on clauses
+pub limit_of_clauses : (P : Type 0) (l : Limit) (r : Refusal) → IsOver P (normal.Limit l) → TellsLimit l r → P × TellsLimit limit.Clauses r
+limit_of_clauses P l r (inl e) t = absurd (cc)
+limit_of_clauses P l r (inr (e, p)) t = let q : l ≡ limit.Clauses = cc in (p, subst (λ x. TellsLimit x r) q t)
+
+-- what is told of the file of a name
+pub named_so : (refused : Option (String Global)) (file : List ℕ) (e f : BuildFault) (r : Refusal) → IfSome refused (λ s. file ≡ string_bytes s) → f ≡ e → TellsOfFile file e r → IfSome refused (λ s. TellsOfFile (string_bytes s) f r)
+named_so None file e f r is same t = tt
+named_so (Some s) file e f r is same t = subst (λ g. TellsOfFile (string_bytes s) g r) (sym same) (subst (λ w. TellsOfFile w e r) is t)
+
+-- what is told of a limit has no name
+pub limit_so : (refused : Option (String Global)) (l : Limit) (f : BuildFault) (r : Refusal) → f ≡ build.Limit l → TellsLimit l r → IfSome refused (λ s. TellsOfFile (string_bytes s) f r)
+limit_so None l f r same t = tt
+limit_so (Some s) l f r same t = subst (λ g. TellsOfFile (string_bytes s) g r) (sym same) t
+
+-- want of memory is told of any fault
+wanting : (file : List ℕ) (f : BuildFault) → TellsOfFile file f Memory
+wanting file (build.Read n) = tt
+wanting file (build.Missing n) = tt
+wanting file (build.Lex n e) = tt
+wanting file (build.Limit l) = tt
+wanting file (build.Syntax e) = refl
+wanting file (build.Sig e) = refl
+wanting file (build.Module e) = refl
+wanting file build.Memory = refl
+
+pub none_told : (refused : Option (String Global)) (f : BuildFault) → IfSome refused (λ s. TellsOfFile (string_bytes s) f Memory)
+none_told None f = tt
+none_told (Some s) f = wanting (string_bytes s) f
+
+-- the files were loaded, and their texts have no program
+pub unbuilt_is : (told : Option Held) (root : List ℕ) (sources : Sources) (r : Result Built Refusal) → BeginsWith (root ++ codes ".sig") (names_of sources.files.items)
+    → BeginsWith root (modules_among sources.files.items) → AreLoaded told sources → AreRead sources → AreWanted root sources → IfErr r (IsRefusedTexts sources) → IfErr r (IsUnbuilt told root)
+unbuilt_is told root sources (Ok built) begins first files read wanted h = tt
+unbuilt_is told root sources (Err e) begins first files read wanted h = of_loaded sources begins first files read wanted h

@@ -1,0 +1,63 @@
+-- Why texts have no program: a file is not loaded, or the first fault of the texts, or what one clause is flattened to passes the limit on clauses.
+use Rattle.std.specs.Prelude.{◌≡◌, ◌⊎◌, ◌++◌, ℕ, List, Option, Contains, IfSome, codes, length, string_bytes}
+use Rattle.lp_base.specs.Held.{Held}
+use Rattle.lp_base.specs.declared.limit.Limit.TheVariants as limit
+use Rattle.lp_term.specs.Nodes.{Nodes}
+use Rattle.lp_model.specs.Readings.{formula_of}
+use Rattle.lp_model.specs.declared.program.ClauseFormula.{ClauseFormula}
+use Rattle.lp_normal.specs.Counted.{HasManyClauses}
+use Rattle.lp_build.specs.Loads.{BeginsWith, IsOfLoading, modules_among, names_of}
+use Rattle.lp_build.specs.Programs.{IsBuilt}
+use Rattle.lp_build.specs.Reads.{AreRead}
+use Rattle.lp_build.specs.Refused.{IsRefusedProgram}
+use Rattle.lp_build.specs.Told.{AreLoaded, IsFaultIn}
+use Rattle.lp_build.specs.Wanted.{AreWanted}
+use Rattle.lp_build.specs.declared.build.Built.{Built}
+use Rattle.lp_build.specs.declared.fault.BuildFault.{BuildFault}
+use Rattle.lp_build.specs.declared.fault.BuildFault.TheVariants as build
+use Rattle.lp_build.specs.declared.sources.Sources.{Sources}
+use Rattle.lp_lines.specs.Causes.{TellsDeclarations, TellsModule, TellsSyntax}
+use Rattle.lp_lines.specs.Placed.{IsSourceLine, IsTokenLine}
+use Rattle.lp_lines.specs.Refusals.{TellsFault, TellsLimit, TellsMissing}
+use Rattle.lp_lines.specs.declared.cause.Cause.{Cause}
+use Rattle.lp_lines.specs.declared.cause.Cause.TheVariants as cause
+use Rattle.lp_lines.specs.declared.refusal.Refusal.{Refusal}
+use Rattle.lp_lines.specs.declared.refusal.Refusal.TheVariants as refusal
+use Rattle.lp_load.specs.Placed.{SaysOfFile}
+
+-- what is said of a fault of texts that have tokens
+abbrev pub TellsTexts : BuildFault → Cause → Type 0
+TellsTexts (build.Syntax f) c = TellsSyntax f c
+TellsTexts (build.Sig f) c = TellsDeclarations f c
+TellsTexts (build.Module f) c = TellsModule f c
+TellsTexts (build.Limit l) c = c ≡ cause.Limit l
+TellsTexts _ c = c ≡ cause.Memory
+
+-- what is said of a file of this name that was not loaded
+abbrev pub TellsOfFile : (file : List ℕ) → BuildFault → Refusal → Type 0
+TellsOfFile file (build.Read n) r = TellsFault file r
+TellsOfFile file (build.Missing n) r = TellsMissing file r
+TellsOfFile file (build.Lex n e) r = IsSourceLine (IsTokenLine file e) r
+TellsOfFile file (build.Limit l) r = TellsLimit l r
+TellsOfFile file _ r = r ≡ refusal.Memory
+
+-- the root's signature is the first file, or the one at fault
+abbrev pub BeginsSoFar : (root : List ℕ) → Sources → Type 0
+BeginsSoFar root sources = BeginsWith (root ++ codes ".sig") (names_of sources.files.items) ⊎ IfSome sources.refused (λ name. string_bytes name ≡ root ++ codes ".sig")
+
+-- what one of these clauses is flattened to passes the limit on clauses
+abbrev pub HasManyIn : Nodes → List ClauseFormula → Type 0
+HasManyIn b clauses = (c : ClauseFormula) × Contains clauses c × HasManyClauses (formula_of b c)
+
+-- the texts of these files have no program: the first of their faults, or of the program's clauses one passes the limit
+pub data IsRefusedTexts (sources : Sources) (r : Refusal) : Type 0 where
+  of_texts : (e : BuildFault) (c : Cause) → IsRefusedProgram sources e → TellsTexts e c → SaysOfFile sources.files.items c r → IsRefusedTexts sources r
+  of_clauses : (built : Built) → IsBuilt sources built → HasManyIn built.assembled.program.bank built.assembled.program.clauses.items → TellsLimit limit.Clauses r → IsRefusedTexts sources r
+  no_memory : r ≡ refusal.Memory → IsRefusedTexts sources r
+
+-- a module has no program: behind files that it needs, which were loaded, one that it needs is at fault; or all are loaded, and their texts have none
+pub data IsUnbuilt (told : Option Held) (root : List ℕ) (r : Refusal) : Type 0 where
+  of_files : (sources : Sources) (e : BuildFault) → AreLoaded told sources → AreRead sources → AreWanted root sources → BeginsSoFar root sources → IsOfLoading (length sources.files.items) e → IsFaultIn told sources e →
+      IfSome sources.refused (λ name. TellsOfFile (string_bytes name) e r) → IsUnbuilt told root r
+  of_loaded : (sources : Sources) → BeginsWith (root ++ codes ".sig") (names_of sources.files.items) → BeginsWith root (modules_among sources.files.items) →
+      AreLoaded told sources → AreRead sources → AreWanted root sources → IsRefusedTexts sources r → IsUnbuilt told root r
