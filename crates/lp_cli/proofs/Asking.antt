@@ -80,8 +80,8 @@ no_file_of said result none kept f = elim (is_fault result) [
 wanting_solves : (told : Option Held) (before after : Option (List ℕ)) (result : Status) → (result ≢ variant.WriteFault → (result ≡ variant.Memory) × Appends before after memory_line) →
     (result ≡ variant.WriteFault → AppendsPrefix before after memory_line) → (name query : List ℕ) (options : Options) → Solves told name query options before after result
 wanting_solves told before after result wrote began name query options = record {
-  writes = λ n. record { text = memory_line; is = solved.refused Memory (solved.of_texts Memory tt tt) (wrote n).0 refl; appended = (wrote n).1 };
-  begins = λ e. record { status = variant.Memory; text = memory_line; is = solved.refused Memory (solved.of_texts Memory tt tt) refl refl; appended = began e };
+  writes = λ n. record { text = memory_line; is = solved.refused Memory solved.no_memory (wrote n).0 refl; appended = (wrote n).1 };
+  begins = λ e. record { status = variant.Memory; text = memory_line; is = solved.refused Memory solved.no_memory refl refl; appended = began e };
 }
 
 pub fulfils_memory : (told now : Option Held) (before after : Option (List ℕ)) (result : Status) →
