@@ -1,5 +1,5 @@
 -- What a run of a command says or leaves that is true of the texts, the certificates and the files that it is asked for.
-use Rattle.std.specs.Prelude.{◌≡◌, ◌≢◌, ◌⊎◌, List, ℕ, Option, Some, true, false, unwrap_or}
+use Rattle.std.specs.Prelude.{◌≡◌, ◌≢◌, List, ℕ, Option, true, unwrap_or}
 use Rattle.lp_base.specs.Held.{Held}
 use Rattle.lp_base.specs.declared.limits.TheConstants.{DEFAULT_ANSWERS, DEFAULT_STEPS}
 use Rattle.lp_base.specs.declared.status.Status.{Status}
@@ -8,26 +8,21 @@ use Rattle.lp_files.specs.Made.{WritesMade}
 use Rattle.lp_judge.specs.Checked.{Checks}
 use Rattle.lp_judge.specs.Judged.{Judges}
 use Rattle.lp_judge.specs.Proofs.{WritesProofs, has_file}
-use Rattle.lp_solve.specs.Order.{Beyond, order_of}
 use Rattle.lp_solve.specs.Solved.{BeginsSolved, WritesSolved}
-use Rattle.lp_words.specs.Asked.{Asked, check, files, is_plain, lambda, prove, query_image, session, solve, trial}
+use Rattle.lp_words.specs.Asked.{Asked, check, files, lambda, prove, query_image, session, solve, trial}
 use Rattle.lp_words.specs.declared.asked.Options.{Options}
 
--- a query of the whole language: an option is given, or the texts that the folder tells, or the query, are beyond the first fragment
-abbrev pub IsWhole : Option Held → (name query : List ℕ) → Options → Type 0
-IsWhole told name query options = (is_plain options ≡ false) ⊎ ((held : Held) × (told ≡ Some held) × (order_of name query held ≡ Beyond))
-
--- the most steps and answers of its search
+-- the most steps and answers of the search of a query
 abbrev pub step_limit : Options → ℕ
 step_limit o = unwrap_or o.steps DEFAULT_STEPS
 
 abbrev pub answer_limit : Options → ℕ
 answer_limit o = unwrap_or o.answers DEFAULT_ANSWERS
 
--- what is written of such a query: the line of a refusal, or the answers of the definition's search within these limits, which are right; where the output fails, a beginning of that
+-- what is written of a query: the line of a refusal, or the answers of the definition's search within these limits, which are right; where the output fails, a beginning of that
 pub record Solves (told : Option Held) (name query : List ℕ) (options : Options) (before after : Option (List ℕ)) (result : Status) : Type 0 where
-  pub writes : IsWhole told name query options → result ≢ variant.WriteFault → WritesSolved told name query options.watch (step_limit options) (answer_limit options) result before after
-  pub begins : IsWhole told name query options → result ≡ variant.WriteFault → BeginsSolved told name query options.watch (step_limit options) (answer_limit options) before after
+  pub writes : result ≢ variant.WriteFault → WritesSolved told name query options.watch (step_limit options) (answer_limit options) result before after
+  pub begins : result ≡ variant.WriteFault → BeginsSolved told name query options.watch (step_limit options) (answer_limit options) before after
 
 -- A verdict on the texts of a module and a query is right; so is one on certificates over the program of a module; where certificates are written, they are proofs from that program; and where a file
 -- of a module is written, its bytes are of the kind that is asked for. The answers that are written of a query on texts are those of the definition's search, and right. Of a search on an image nothing is said here.

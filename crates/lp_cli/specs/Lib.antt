@@ -1,4 +1,3 @@
-pub mod Order
-pub mod Ends
+pub mod Usage
 pub mod Fulfils
 pub mod Does

@@ -1,19 +1,17 @@
 // The top call.
-ghost use Rattle.std.specs.Prelude.{◌≡◌, ◌≢◌, ◌+◌, ◌^◌, ◌<◌, ◌≤◌, ◌⊎◌, ◌++◌, ℕ, List, map, string_bytes, IfSome, Some, false, true};
+ghost use Rattle.std.specs.Prelude.{◌≡◌, ◌≢◌, ◌+◌, ◌^◌, ◌<◌, ◌≤◌, ◌⊎◌, ◌++◌, ℕ, List, map, string_bytes, Some, true};
 ghost use Rattle.std.specs.Option.{option_and_then};
 ghost use Rattle.lp_base.specs.Counts.{HasRisen, Counts};
 ghost use Rattle.lp_base.specs.Written.{Appends};
 ghost use Rattle.lp_words.specs.Asked.{Asked as Asking, IsCommand, IsWatched, WritesNone, asked, asked_of, files as OnFiles, prove as Proving, query_on_texts, watches};
 ghost use Rattle.lp_words.specs.declared.asked.FileCommand.{FileCommand};
 ghost use Rattle.lp_words.specs.declared.asked.Options.{Options};
-ghost use Rattle.lp_lines.specs.Ends.{Caused, CausedLong};
+ghost use Rattle.lp_lines.specs.Ends.{Caused, CausedLong, Grows, IsFault};
 ghost use Rattle.lp_judge.specs.Proved.{Proves};
 ghost use Rattle.lp_lines.specs.Left.{Leaves};
 ghost use Rattle.lp_load.specs.Placed.{WritesPlaced};
-ghost use Rattle.lp_solve.specs.Ends.{Writes, WritesPrefix};
 ghost use Rattle.lp_files.specs.Target.{done_line, ending_of};
-ghost use Rattle.lp_cli.specs.Order.{order};
-ghost use Rattle.lp_cli.specs.Ends.{WritesReadFault, BeginsReadFault};
+ghost use Rattle.lp_cli.specs.Usage.{BeginsUsage, WritesUsage};
 ghost use Rattle.lp_cli.specs.Does.{Does};
 ghost use Rattle.lp_cli.specs.Fulfils.{Fulfils, answer_limit as answers_asked, step_limit as steps_asked};
 
@@ -22,7 +20,7 @@ use lp_base::{DEFAULT_ANSWERS, DEFAULT_STEPS, Folder, Sink, Status};
 use lp_files::write_file;
 use lp_judge::{Claim, check_certificates, lambda, prove};
 use lp_lines::{memory, say};
-use lp_solve::{Question, solve_plain, solve_within, trial};
+use lp_solve::{Question, solve_within, trial};
 use lp_watch::Watch;
 use lp_words::{Asked, Options, WordsFault, read_words, usage};
 use std::alloc::Global;
@@ -111,20 +109,14 @@ fn perform<F: Folder, K: Sink, W: Watch>(
         Asked::Check(name, text) => check_certificates(alloc, name, text, folder, out),
         Asked::Prove(name, text, options) => prove(alloc, claim(name, text, options), folder, out),
         Asked::Files(command, name) => write_file(alloc, command, name, folder, out),
-        Asked::Solve(name, query, options) => {
-            if options.are_none() {
-                solve_plain(alloc, name, query, folder, out)
-            } else {
-                solve_within(
-                    alloc,
-                    question(name, query, options),
-                    options.watch,
-                    folder,
-                    out,
-                    watchers,
-                )
-            }
-        }
+        Asked::Solve(name, query, options) => solve_within(
+            alloc,
+            question(name, query, options),
+            options.watch,
+            folder,
+            out,
+            watchers,
+        ),
     }
 }
 
@@ -137,16 +129,14 @@ pub fn run<F: Folder, K: Sink>(
     out: &mut K,
     watchers: &mut Vec<Box<dyn Watch>>,
 ) -> Status
-    // What the words and the files come to is done, to the last byte; with it comes that the answers are sound and exhaust the query. Of what is
-    // beyond the first fragment `fulfils` tells.
-    ensures told { result ≢ Status.WriteFault → result ≢ Status.ReadFault
-        → IfSome (F.held folder.old) (λ held. Writes (order (map string_bytes words.now) held) result (K.written out.old) (K.written out.new)) }
-    // Where the output failed, a prefix of what would have been written stands.
-    ensures prefix { result ≡ Status.WriteFault
-        → IfSome (F.held folder.old) (λ held. WritesPrefix (order (map string_bytes words.now) held) (K.written out.old) (K.written out.new)
-        ⊎ BeginsReadFault (F.held folder.old) (map string_bytes words.now) (K.written out.old) (K.written out.new)) }
-    ensures read_fault { result ≡ Status.ReadFault
-        → WritesReadFault (F.held folder.old) (map string_bytes words.now) (K.written out.old) (K.written out.new) }
+    // What a command says of texts, certificates and files is true of them; of a query on texts a refusal is written, or the answers of the definition's search, which are right.
+    ensures fulfils { (a : Asking) → asked (map string_bytes words.now) ≡ Some a → Fulfils (F.held folder.old) (F.held folder.new) (K.written out.old) (K.written out.new) a result }
+    // Where the words are no command, the usage line is all that is written; where the output failed, a beginning of it.
+    ensures told { (IsCommand (map string_bytes words.now) → ⊥) → result ≢ Status.WriteFault → WritesUsage result (K.written out.old) (K.written out.new) }
+    ensures prefix { (IsCommand (map string_bytes words.now) → ⊥) → result ≡ Status.WriteFault → BeginsUsage (K.written out.old) (K.written out.new) }
+    // Whatever is done, what was written before stays, and a file that could not be read has its line.
+    ensures grows { Grows (K.written out.old) (K.written out.new) }
+    ensures read_fault { result ≡ Status.ReadFault → (text : List ℕ) × (IsFault text × Appends (K.written out.old) (K.written out.new) text) }
     // Where texts are refused, the line tells of a byte of a file that the folder holds, or of the query, and is all that is written.
     ensures placed { result ≡ Status.Source → (query : List ℕ) → option_and_then query_on_texts (asked (map string_bytes words.now)) ≡ Some query
         → WritesPlaced (F.held folder.old) query (K.written out.old) (K.written out.new) }
@@ -163,8 +153,6 @@ pub fn run<F: Folder, K: Sink>(
     // A command that writes a file leaves all others as they are, and after a refusal this one too.
     ensures leaves { (command : FileCommand) (name : List ℕ) → asked (map string_bytes words.now) ≡ Some (OnFiles command name)
         → Leaves F.write_faults F.held K.faults K.written folder.old folder.new out.old out.new (name ++ ending_of command) (done_line command (name ++ ending_of command)) result }
-    // What a command says of texts, certificates and files is true of them; of a query on texts a refusal is written, or the answers of the definition's search, which are right.
-    ensures fulfils { (a : Asking) → asked (map string_bytes words.now) ≡ Some a → Fulfils (F.held folder.old) (F.held folder.new) (K.written out.old) (K.written out.new) a result }
     ensures certifies { (name query : List ℕ) (options : Options) → asked (map string_bytes words.now) ≡ Some (Proving name query options)
         → Proves F.write_faults F.held K.faults K.written folder.old folder.new out.old out.new name result }
 {

@@ -1,8 +1,3 @@
-mod FilesRead
-mod Loading
-pub mod Orders
-mod Progress
-mod Searched
 mod Telling
 mod Lines
 mod Answering
@@ -13,5 +8,4 @@ mod Beginning
 mod Truth
 mod Refused
 mod Naming
-mod Beyond
 pub mod Texts

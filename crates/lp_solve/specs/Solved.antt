@@ -12,9 +12,11 @@ use Rattle.lp_build.specs.declared.build.Built.{Built}
 use Rattle.lp_lines.specs.Placed.{IsOfText, IfSource}
 use Rattle.lp_lines.specs.Refusals.{IsSourceRefusal, IsTextRefusal, line_of, status_of}
 use Rattle.lp_lines.specs.declared.refusal.Refusal.{Refusal}
+use Rattle.lp_lines.specs.declared.refusal.Refusal.TheVariants.{Memory}
 use Rattle.lp_load.specs.Loaded.{IsLoaded}
 use Rattle.lp_load.specs.Placed.{IsOfFile}
 use Rattle.lp_load.specs.Refused.{IsRefusedQuery}
+use Rattle.lp_load.specs.Unbuilt.{IsUnbuilt}
 use Rattle.lp_solve.specs.Queries.{Flattens, IsExact, IsFlat, IsQuery, entries, first_state, names, told_by}
 use Rattle.lp_solve.specs.Right.{IsTrue}
 use Rattle.lp_solve.specs.Sources.{query_of, source_clauses}
@@ -32,10 +34,11 @@ pub record IsAnswered (told : Option Held) (name query : List ℕ) (q : IsQuery 
       ⊎ IsBegun (entries q) (names q) (told_by P n j m (first_state q gs steps answers)) text
   pub right : (d : Declared) (P : List Clause) (gs : Goals) → IsFlat q d P gs → IsTrue (IsFailedSearch InAny d P) d (source_clauses q.loaded.program) (query_of q.bank q.typed) (entries q) (names q) text
 
--- a refusal: of files and what their texts say, or, where these have a program, of the query's text, for its first fault. It is not said which of the texts is refused, nor for which of its faults
+-- a refusal: a file is not loaded, or the texts have no program, for their first fault; or, where they have one, that of the query's text, for its first fault; or want of memory
 pub data IsRefusal (told : Option Held) (name query : List ℕ) : Refusal → Type 0 where
-  of_texts : (r : Refusal) → IsSourceRefusal r → IfSource (IsOfFile told) r → IsRefusal told name query r
+  of_texts : (r : Refusal) → IsUnbuilt told name r → IsSourceRefusal r → IfSource (IsOfFile told) r → IsRefusal told name query r
   of_query : (r : Refusal) (built : Built) → IsLoaded told name built → IsTextRefusal r → IfSource (IsOfText (codes "query") query) r → IsRefusedQuery built.table built.signature query r → IsRefusal told name query r
+  no_memory : IsRefusal told name query Memory
 
 -- the status and all that is written, where the outside has no fault
 pub data IsSolved (told : Option Held) (name query : List ℕ) (watched : Bool) (steps answers : ℕ) (status : Status) (text : List ℕ) : Type 0 where

@@ -1,7 +1,6 @@
-// The search of a query of the whole language, and the writing of its answers.
+// The search of a query, and the writing of its answers.
 ghost use Rattle.std.specs.Prelude.{◌≡◌, ◌≢◌, ◌++◌, ℕ, List, length, true, IfOk};
 ghost use Rattle.lp_base.specs.Counts.{Counts};
-ghost use Rattle.lp_build.specs.Told.{AreKnown};
 ghost use Rattle.lp_lines.specs.Ends.{KeepsFiles, Ran};
 ghost use Rattle.lp_lines.specs.Lines.{ending_line, is_of_search};
 ghost use Rattle.lp_load.specs.Placed.{WritesPlaced};
@@ -129,25 +128,24 @@ fn write_answers<K: Sink, W: Watch>(
     tell(out, Refusal::Memory)
 }
 
-/// Loads a module, of which these files are known, searches for the answers of a query on it, and writes them, each as it is found. Behind the last
-/// line stand the reports of the watchers, where they watch, who have each note of the search; one that is done is taken out of the list. Of a refusal
-/// its line is written.
+/// Loads a module, searches for the answers of a query on it, and writes them, each as it is found. Behind the last line stand the reports of the
+/// watchers, where they watch, who have each note of the search; one that is done is taken out of the list. Of a refusal its line is written.
 pub fn solve<F: Folder, K: Sink, W: Watch>(
     alloc: Global,
     question: Question<'_>,
-    known: Vec<(String, Vec<u8>)>,
     watched: bool,
     folder: &mut F,
     out: &mut K,
     watchers: &mut Vec<W>,
 ) -> Status
-    ensures writes { AreKnown (F.held folder.old) known.items → result ≢ Status.WriteFault → WritesSolved (F.held folder.old) question.entry.name.now question.entry.query.now watched question.entry.steps question.entry.answers result (K.written out.old) (K.written out.new) }
-    ensures begins { AreKnown (F.held folder.old) known.items → result ≡ Status.WriteFault → BeginsSolved (F.held folder.old) question.entry.name.now question.entry.query.now watched question.entry.steps question.entry.answers (K.written out.old) (K.written out.new) }
+    ensures writes { result ≢ Status.WriteFault → WritesSolved (F.held folder.old) question.entry.name.now question.entry.query.now watched question.entry.steps question.entry.answers result (K.written out.old) (K.written out.new) }
+    ensures begins { result ≡ Status.WriteFault → BeginsSolved (F.held folder.old) question.entry.name.now question.entry.query.now watched question.entry.steps question.entry.answers (K.written out.old) (K.written out.new) }
     ensures ran { Ran F.read_faults F.misses F.overs K.written folder.old folder.new out.old out.new result }
     ensures keeps { KeepsFiles F.write_faults F.held K.faults folder.old folder.new out.old out.new result }
-    ensures placed { AreKnown (F.held folder.old) known.items → result ≡ Status.Source → WritesPlaced (F.held folder.old) question.entry.query.now (K.written out.old) (K.written out.new) }
+    ensures placed { result ≡ Status.Source → WritesPlaced (F.held folder.old) question.entry.query.now (K.written out.old) (K.written out.new) }
 {
-    match prepare(alloc, question, known, folder) {
+    let unknown = Vec::new(alloc);
+    match prepare(alloc, question, unknown, folder) {
         Ok(prepared) => {
             let mut crowd = Crowd::new(alloc, watchers);
             write_answers(alloc, prepared, watched, &mut crowd, out)

@@ -1,17 +1,15 @@
-//! The answers of a query on the texts of a module: in the first fragment by its own search, and else as one of the whole language.
+//! The answers of a query on the texts of a module.
 #![tactic(auto)]
 
-// The search of a query of the whole language, and the writing of its answers.
+// The search of a query, and the writing of its answers.
 mod answers;
-// The first fragment.
-mod first;
 // What a search tells from one event to the next.
 mod piece;
 // A query on a module, ready to be searched for.
 mod prepare;
 // What answers are shown with.
 mod shown;
-// The answers of a query, with and without options.
+// The answers of a query within its limits, watched or not.
 mod solve;
 // A generated query, and the summary of its search.
 mod generated;
@@ -24,4 +22,4 @@ pub use laws::{
     searches_of_texts_are_right, texts_flatten,
 };
 pub use prepare::Question;
-pub use solve::{solve_plain, solve_within};
+pub use solve::solve_within;

@@ -1,14 +1,31 @@
 // Queries on files in memory, each with its status and what it writes.
 
-use lp_base::{MemFolder, MemSink, Memory, Status};
+use lp_base::{DEFAULT_ANSWERS, DEFAULT_STEPS, MemFolder, MemSink, Memory, Status};
 use lp_given::{FILES, folder};
-use lp_solve::{Question, solve_plain, solve_within, trial};
+use lp_solve::{Question, solve_within, trial};
 use lp_watch::Counter;
 use std::alloc::Global;
 use std::process::Abort;
 
 fn sink(alloc: Global) -> Result<MemSink, Memory> {
     Ok(MemSink::new(Vec::with_capacity(alloc, 8192)?, Vec::new(alloc)))
+}
+
+// Asks a query of a module of the folder within these limits, with nobody who watches.
+fn asked(
+    rt: &impl Abort,
+    alloc: Global,
+    folder: &mut MemFolder,
+    question: Question<'_>,
+    status: Status,
+    written: &str,
+) -> Result<(), Memory> {
+    let mut out = sink(alloc)?;
+    let mut nobody: Vec<Counter> = Vec::new(alloc);
+    let got = solve_within(alloc, question, false, folder, &mut out, &mut nobody);
+    assert_eq!(rt; out.bytes(), written.as_bytes());
+    assert_eq!(rt; got, status);
+    Ok(())
 }
 
 /// Asks a query of a module of the folder.
@@ -21,11 +38,13 @@ pub(crate) fn ask(
     status: Status,
     written: &str,
 ) -> Result<(), Memory> {
-    let mut out = sink(alloc)?;
-    let got = solve_plain(alloc, module, query, folder, &mut out);
-    assert_eq!(rt; out.bytes(), written.as_bytes());
-    assert_eq!(rt; got, status);
-    Ok(())
+    let question = Question {
+        name: module,
+        query,
+        steps: DEFAULT_STEPS,
+        answers: DEFAULT_ANSWERS,
+    };
+    asked(rt, alloc, folder, question, status, written)
 }
 
 /// The same of these files.
@@ -54,16 +73,16 @@ pub(crate) fn check(
     with_files(rt, alloc, &FILES, module, query, status, written)
 }
 
-/// Asks a query of a module of these files within so many steps, as one of the whole language.
+/// Asks a query of a module of these files within so many steps.
 pub(crate) fn within(
     rt: &impl Abort,
     alloc: Global,
     files: &[(&str, &str)],
-    asked: (&str, &str, u64),
+    asks: (&str, &str, u64),
     status: Status,
     written: &str,
 ) -> Result<(), Memory> {
-    let (name, query, steps) = asked;
+    let (name, query, steps) = asks;
     let question = Question {
         name,
         query,
@@ -71,12 +90,7 @@ pub(crate) fn within(
         answers: 1000,
     };
     let mut folder = folder(alloc, files, &[])?;
-    let mut out = sink(alloc)?;
-    let mut nobody: Vec<Counter> = Vec::new(alloc);
-    let got = solve_within(alloc, question, false, &mut folder, &mut out, &mut nobody);
-    assert_eq!(rt; out.bytes(), written.as_bytes());
-    assert_eq!(rt; got, status);
-    Ok(())
+    asked(rt, alloc, &mut folder, question, status, written)
 }
 
 /// Searches for the copies of a generated term of this size.

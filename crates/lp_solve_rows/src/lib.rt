@@ -7,6 +7,9 @@ mod asking;
 // The examples, each with its queries.
 #[cfg(test)]
 mod examples;
+// Facts and rules on constants and variables.
+#[cfg(test)]
+mod facts;
 // Limits of texts and of sets.
 #[cfg(test)]
 mod limits;
@@ -16,9 +19,6 @@ mod module_texts;
 // Negated goals.
 #[cfg(test)]
 mod negation;
-// The first path beside that of the whole language.
-#[cfg(test)]
-mod paths;
 // Why texts are refused.
 #[cfg(test)]
 mod refusals;

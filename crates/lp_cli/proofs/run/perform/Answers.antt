@@ -1,9 +1,9 @@
-use Rattle.std.proofs.Common.{◌∙◌, sym, ap, subst, inr, refl}
+use Rattle.std.proofs.Common.{ap, subst, inr, refl}
 use Rattle.lp_judge.specs.Proofs.{WritesProofs}
 use Rattle.lp_judge.specs.Proved.{Proves}
 use Rattle.lp_load.specs.Placed.{WritesPlaced}
 use Rattle.lp_words.specs.Asked.{asked_of}
-use Rattle.lp_cli.proofs.Doing.{becomes, does_check, does_files, does_lambda, does_plain, does_prove, does_query, does_session, does_trial, does_within, solves_within, watching_or}
+use Rattle.lp_cli.proofs.Doing.{becomes, does_check, does_files, does_lambda, does_prove, does_query, does_session, does_solve, does_trial, solves, watching_or}
 use Rattle.lp_cli.proofs.run.perform.Goals as goal
 
 pub returns-in-Trial-clause-does : goal.returns-in-Trial-clause-does
@@ -45,28 +45,20 @@ returns-in-Files-clause-does g c =
     (does_files c.in-Files.command c.in-Files.name.now c.write_file.result c.write_file.ensures.ran c.write_file.ensures.leaves
     c.write_file.ensures.made)
 
-pub returns-then-are_none-clause-does : goal.returns-then-are_none-clause-does
-returns-then-are_none-clause-does g c =
-    becomes _ (asked_of c.args.asked) c.solve_plain.result (ap asked_of c.in-Solve.is)
-    (does_plain c.in-Solve.name.now c.in-Solve.query.now c.in-Solve.options (sym c.are_none.ensures ∙ c.if-are_none.true) c.solve_plain.result
-    c.solve_plain.ensures.told c.solve_plain.ensures.prefix c.solve_plain.ensures.read_fault
-    c.solve_plain.ensures.placed c.solve_plain.ensures.ran c.solve_plain.ensures.keeps c.solve_plain.ensures.writes c.solve_plain.ensures.begins)
-
-pub returns-else-are_none-clause-does : goal.returns-else-are_none-clause-does
-returns-else-are_none-clause-does g c =
+pub returns-in-Solve-clause-does : goal.returns-in-Solve-clause-does
+returns-in-Solve-clause-does g c =
     becomes _ (asked_of c.args.asked) c.solve_within.result (ap asked_of c.in-Solve.is)
-    (does_within c.in-Solve.name.now c.in-Solve.query.now c.in-Solve.options c.solve_within.result (sym c.are_none.ensures ∙ c.if-are_none.false)
-    c.solve_within.ensures.ran c.solve_within.ensures.keeps
+    (does_solve c.in-Solve.name.now c.in-Solve.query.now c.in-Solve.options c.solve_within.result c.solve_within.ensures.ran c.solve_within.ensures.keeps
     (λ e. subst (λ q. WritesPlaced (g.F.Folder.held c.args.folder.now) q (g.K.Sink.written c.args.out.now) (g.K.Sink.written c.solve_within.new.out))
     c.question.ensures.query (c.solve_within.ensures.placed e))
-    (solves_within (g.F.Folder.held c.args.folder.now) (g.K.Sink.written c.args.out.now) (g.K.Sink.written c.solve_within.new.out) c.solve_within.result c.in-Solve.options
+    (solves (g.F.Folder.held c.args.folder.now) (g.K.Sink.written c.args.out.now) (g.K.Sink.written c.solve_within.new.out) c.solve_within.result c.in-Solve.options
     c.question.ensures.name c.question.ensures.query c.question.ensures.steps c.question.ensures.answers c.solve_within.ensures.writes c.solve_within.ensures.begins))
 
 pub returns-in-Query-clause-silent : goal.returns-in-Query-clause-silent
 returns-in-Query-clause-silent g c = watching_or _ (asked_of c.args.asked) _ _ (ap asked_of c.in-Query.is) c.query.ensures.silent
 
-pub returns-else-are_none-clause-silent : goal.returns-else-are_none-clause-silent
-returns-else-are_none-clause-silent g c = watching_or _ (asked_of c.args.asked) _ _ (ap asked_of c.in-Solve.is) c.solve_within.ensures.silent
+pub returns-in-Solve-clause-silent : goal.returns-in-Solve-clause-silent
+returns-in-Solve-clause-silent g c = watching_or _ (asked_of c.args.asked) _ _ (ap asked_of c.in-Solve.is) c.solve_within.ensures.silent
 
 pub returns-in-Trial-clause-silent : goal.returns-in-Trial-clause-silent
 returns-in-Trial-clause-silent g c = inr refl
@@ -85,6 +77,3 @@ returns-in-Prove-clause-silent g c = inr refl
 
 pub returns-in-Files-clause-silent : goal.returns-in-Files-clause-silent
 returns-in-Files-clause-silent g c = inr refl
-
-pub returns-then-are_none-clause-silent : goal.returns-then-are_none-clause-silent
-returns-then-are_none-clause-silent g c = inr refl

@@ -3,28 +3,37 @@ use Rattle.lp_base.specs.Written.{Appends, AppendsPrefix}
 use Rattle.lp_base.specs.declared.status.Status.TheVariants as variant
 use Rattle.lp_model.specs.declared.ending.Ending.TheVariants as ending
 use Rattle.lp_lines.proofs.Leaving.{leaves_untouched}
+use Rattle.lp_lines.proofs.Refusing.{line_grows}
 use Rattle.lp_lines.proofs.Statuses.{is_fault, still, long_still, not_otherwise}
+use Rattle.lp_lines.specs.Lines.{memory_line}
 use Rattle.lp_words.specs.Asked.{asked_of}
-use Rattle.lp_cli.proofs.Orders.{Wrote, usage_told, usage_began, wanting_told, wanting_began, told_asked, prefix_asked, fault_asked, placed_asked, keeps_asked, leaves_asked, certifies_asked, fulfils_asked, fulfils_memory, command_asked, watched_asked}
+use Rattle.lp_words.specs.Commands.{usage_line}
+use Rattle.lp_cli.specs.Usage.{no_memory, with_line}
+use Rattle.lp_cli.proofs.Asking.{placed_asked, keeps_asked, leaves_asked, certifies_asked, fulfils_asked, fulfils_memory, command_asked, watched_asked}
 use Rattle.lp_cli.proofs.run.run.Goals as goal
 
 -- words that are no command, and want of memory for them
 pub returns-in-Err-Usage-clause-told : goal.returns-in-Err-Usage-clause-told
 returns-in-Err-Usage-clause-told g c =
-    λ no other.
+    λ none no.
     let said = c.say.ensures.said no in
-    subst (Wrote (g.F.Folder.held c.args.folder.now) (map string_bytes c.args.words.now) (g.K.Sink.written c.args.out.now) (g.K.Sink.written c.say.new.out)) (sym said.0)
-    (usage_told (g.F.Folder.held c.args.folder.now) (map string_bytes c.args.words.now) (g.K.Sink.written c.args.out.now)
-    (g.K.Sink.written c.say.new.out) (c.in-Err-Usage.ensures.usage (ap Err c.in-Err-Usage.field-0-is))
-    (subst (Appends (g.K.Sink.written c.args.out.now) (g.K.Sink.written c.say.new.out)) (c.as_bytes.ensures.value ∙ c.usage.ensures) said.1))
+    record {
+      text = usage_line;
+      is = with_line said.0 refl;
+      appended = subst (Appends (g.K.Sink.written c.args.out.now) (g.K.Sink.written c.say.new.out)) (c.as_bytes.ensures.value ∙ c.usage.ensures) said.1;
+    }
 
 pub returns-in-Err-Usage-clause-prefix : goal.returns-in-Err-Usage-clause-prefix
 returns-in-Err-Usage-clause-prefix g c =
-    λ is.
-    usage_began (g.F.Folder.held c.args.folder.now) (map string_bytes c.args.words.now) (g.K.Sink.written c.args.out.now)
-    (g.K.Sink.written c.say.new.out) (c.in-Err-Usage.ensures.usage (ap Err c.in-Err-Usage.field-0-is))
-    (subst (AppendsPrefix (g.K.Sink.written c.args.out.now) (g.K.Sink.written c.say.new.out)) (c.as_bytes.ensures.value ∙ c.usage.ensures)
-    (c.say.ensures.prefix is))
+    λ none is. record {
+      status = variant.Usage;
+      text = usage_line;
+      is = with_line refl refl;
+      appended = subst (AppendsPrefix (g.K.Sink.written c.args.out.now) (g.K.Sink.written c.say.new.out)) (c.as_bytes.ensures.value ∙ c.usage.ensures) (c.say.ensures.prefix is);
+    }
+
+pub returns-in-Err-Usage-clause-grows : goal.returns-in-Err-Usage-clause-grows
+returns-in-Err-Usage-clause-grows g c = line_grows c.say.result variant.Usage _ (g.K.Sink.written c.args.out.now) (g.K.Sink.written c.say.new.out) c.say.ensures.said c.say.ensures.prefix
 
 pub returns-in-Err-Usage-clause-read_fault : goal.returns-in-Err-Usage-clause-read_fault
 returns-in-Err-Usage-clause-read_fault g c =
@@ -52,20 +61,27 @@ returns-in-Err-Usage-clause-overs g c =
 
 pub returns-in-Err-Memory-clause-told : goal.returns-in-Err-Memory-clause-told
 returns-in-Err-Memory-clause-told g c =
-    λ no other.
+    λ none no.
     let said = c.say-in-Err-Memory.ensures.said no in
-    subst (Wrote (g.F.Folder.held c.args.folder.now) (map string_bytes c.args.words.now) (g.K.Sink.written c.args.out.now) (g.K.Sink.written c.say-in-Err-Memory.new.out)) (sym said.0)
-    (wanting_told (g.F.Folder.held c.args.folder.now) (map string_bytes c.args.words.now) (g.K.Sink.written c.args.out.now)
-    (g.K.Sink.written c.say-in-Err-Memory.new.out) (subst (Appends (g.K.Sink.written c.args.out.now)
-    (g.K.Sink.written c.say-in-Err-Memory.new.out)) (c.as_bytes-in-Err-Memory.ensures.value ∙ c.memory.ensures) said.1))
+    record {
+      text = memory_line;
+      is = no_memory said.0 refl;
+      appended = subst (Appends (g.K.Sink.written c.args.out.now) (g.K.Sink.written c.say-in-Err-Memory.new.out)) (c.as_bytes-in-Err-Memory.ensures.value ∙ c.memory.ensures) said.1;
+    }
 
 pub returns-in-Err-Memory-clause-prefix : goal.returns-in-Err-Memory-clause-prefix
 returns-in-Err-Memory-clause-prefix g c =
-    λ is.
-    wanting_began (g.F.Folder.held c.args.folder.now) (map string_bytes c.args.words.now) (g.K.Sink.written c.args.out.now)
-    (g.K.Sink.written c.say-in-Err-Memory.new.out) (subst (AppendsPrefix (g.K.Sink.written c.args.out.now)
-    (g.K.Sink.written c.say-in-Err-Memory.new.out)) (c.as_bytes-in-Err-Memory.ensures.value ∙ c.memory.ensures)
-    (c.say-in-Err-Memory.ensures.prefix is))
+    λ none is. record {
+      status = variant.Memory;
+      text = memory_line;
+      is = no_memory refl refl;
+      appended = subst (AppendsPrefix (g.K.Sink.written c.args.out.now) (g.K.Sink.written c.say-in-Err-Memory.new.out))
+          (c.as_bytes-in-Err-Memory.ensures.value ∙ c.memory.ensures) (c.say-in-Err-Memory.ensures.prefix is);
+    }
+
+pub returns-in-Err-Memory-clause-grows : goal.returns-in-Err-Memory-clause-grows
+returns-in-Err-Memory-clause-grows g c = line_grows c.say-in-Err-Memory.result variant.Memory _ (g.K.Sink.written c.args.out.now)
+    (g.K.Sink.written c.say-in-Err-Memory.new.out) c.say-in-Err-Memory.ensures.said c.say-in-Err-Memory.ensures.prefix
 
 pub returns-in-Err-Memory-clause-read_fault : goal.returns-in-Err-Memory-clause-read_fault
 returns-in-Err-Memory-clause-read_fault g c =
@@ -135,13 +151,16 @@ returns-in-Err-Memory-clause-held g c = λ none. refl
 
 -- what the words ask for
 pub returns-in-Ok-clause-told : goal.returns-in-Ok-clause-told
-returns-in-Ok-clause-told g c = told_asked (map string_bytes c.args.words.now) (asked_of c.in-Ok.asked) c.in-Ok.ensures.ok c.perform.ensures.does
+returns-in-Ok-clause-told g c = λ none. absurd (none (command_asked (map string_bytes c.args.words.now) (asked_of c.in-Ok.asked) c.in-Ok.ensures.ok))
 
 pub returns-in-Ok-clause-prefix : goal.returns-in-Ok-clause-prefix
-returns-in-Ok-clause-prefix g c = prefix_asked (map string_bytes c.args.words.now) (asked_of c.in-Ok.asked) c.in-Ok.ensures.ok c.perform.ensures.does
+returns-in-Ok-clause-prefix g c = λ none. absurd (none (command_asked (map string_bytes c.args.words.now) (asked_of c.in-Ok.asked) c.in-Ok.ensures.ok))
+
+pub returns-in-Ok-clause-grows : goal.returns-in-Ok-clause-grows
+returns-in-Ok-clause-grows g c = c.perform.ensures.does.ran.grows
 
 pub returns-in-Ok-clause-read_fault : goal.returns-in-Ok-clause-read_fault
-returns-in-Ok-clause-read_fault g c = fault_asked (map string_bytes c.args.words.now) (asked_of c.in-Ok.asked) c.in-Ok.ensures.ok c.perform.ensures.does
+returns-in-Ok-clause-read_fault g c = c.perform.ensures.does.ran.fault
 
 pub returns-in-Ok-clause-placed : goal.returns-in-Ok-clause-placed
 returns-in-Ok-clause-placed g c = placed_asked (map string_bytes c.args.words.now) (asked_of c.in-Ok.asked) c.in-Ok.ensures.ok c.perform.ensures.does

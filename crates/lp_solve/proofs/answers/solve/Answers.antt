@@ -1,7 +1,9 @@
+use Rattle.std.proofs.Common.{subst, sym}
+use Rattle.lp_build.specs.Told.{AreKnown}
 use Rattle.lp_lines.proofs.Refusing.{never_write_fault}
 use Rattle.lp_lines.proofs.Running.{keeps_behind, keeps_told, ran_searched, ran_told}
 use Rattle.lp_lines.proofs.Statuses.{not_source}
-use Rattle.lp_load.proofs.Telling.{placed_told}
+use Rattle.lp_load.proofs.Telling.{none_known, placed_told}
 use Rattle.lp_solve.specs.Shown.{constants_in, names_in}
 use Rattle.lp_solve.proofs.Refused.{line_begun, line_written, search_begun, search_solved}
 use Rattle.lp_solve.proofs.Telling.{search_written}
@@ -9,13 +11,15 @@ use Rattle.lp_solve.proofs.answers.solve.Goals as goal
 
 pub returns-in-Ok-clause-writes : goal.returns-in-Ok-clause-writes
 returns-in-Ok-clause-writes g c =
-    λ known. search_solved (g.F.Folder.held c.args.folder.now) c.args.question.name.now c.args.question.query.now c.args.watched c.args.question.steps c.args.question.answers
+    let known = subst (λ xs. AreKnown (g.F.Folder.held c.args.folder.now) xs) (sym c.new-unknown.ensures.items) (none_known (g.F.Folder.held c.args.folder.now)) in
+    search_solved (g.F.Folder.held c.args.folder.now) c.args.question.name.now c.args.question.query.now c.args.watched c.args.question.steps c.args.question.answers
     c.write_answers.result (g.K.Sink.written c.args.out.now) (g.K.Sink.written c.write_answers.new.out)
     c.in-Ok.prepared (c.in-Ok.ensures.ready known) c.write_answers.ensures.writes
 
 pub returns-in-Ok-clause-begins : goal.returns-in-Ok-clause-begins
 returns-in-Ok-clause-begins g c =
-    λ known. search_begun (g.F.Folder.held c.args.folder.now) c.args.question.name.now c.args.question.query.now c.args.watched c.args.question.steps c.args.question.answers c.write_answers.result
+    let known = subst (λ xs. AreKnown (g.F.Folder.held c.args.folder.now) xs) (sym c.new-unknown.ensures.items) (none_known (g.F.Folder.held c.args.folder.now)) in
+    search_begun (g.F.Folder.held c.args.folder.now) c.args.question.name.now c.args.question.query.now c.args.watched c.args.question.steps c.args.question.answers c.write_answers.result
     (g.K.Sink.written c.args.out.now) (g.K.Sink.written c.write_answers.new.out)
     c.in-Ok.prepared (c.in-Ok.ensures.ready known) c.write_answers.ensures.begins
 
@@ -31,20 +35,22 @@ pub returns-in-Ok-clause-keeps : goal.returns-in-Ok-clause-keeps
 returns-in-Ok-clause-keeps g c = keeps_behind c.write_answers.result c.in-Ok.ensures.looked c.write_answers.ensures.write_faults
 
 pub returns-in-Ok-clause-placed : goal.returns-in-Ok-clause-placed
-returns-in-Ok-clause-placed g c = λ known e. absurd (not_source c.write_answers.result c.write_answers.ensures.of_search e)
+returns-in-Ok-clause-placed g c = λ e. absurd (not_source c.write_answers.result c.write_answers.ensures.of_search e)
 
 pub tell-requires : goal.tell-requires
 tell-requires g c = never_write_fault c.in-Err.refusal c.in-Err.ensures.looked.kind
 
 pub returns-in-Err-clause-writes : goal.returns-in-Err-clause-writes
 returns-in-Err-clause-writes g c =
-    λ known. line_written (g.F.Folder.held c.args.folder.now) c.args.question.name.now c.args.question.query.now c.args.watched c.args.question.steps c.args.question.answers c.tell.result
+    let known = subst (λ xs. AreKnown (g.F.Folder.held c.args.folder.now) xs) (sym c.new-unknown.ensures.items) (none_known (g.F.Folder.held c.args.folder.now)) in
+    line_written (g.F.Folder.held c.args.folder.now) c.args.question.name.now c.args.question.query.now c.args.watched c.args.question.steps c.args.question.answers c.tell.result
     (g.K.Sink.written c.args.out.now) (g.K.Sink.written c.tell.new.out)
     c.in-Err.refusal (c.in-Err.ensures.refusal known) c.tell.ensures.said
 
 pub returns-in-Err-clause-begins : goal.returns-in-Err-clause-begins
 returns-in-Err-clause-begins g c =
-    λ known. line_begun (g.F.Folder.held c.args.folder.now) c.args.question.name.now c.args.question.query.now c.args.watched c.args.question.steps c.args.question.answers c.tell.result
+    let known = subst (λ xs. AreKnown (g.F.Folder.held c.args.folder.now) xs) (sym c.new-unknown.ensures.items) (none_known (g.F.Folder.held c.args.folder.now)) in
+    line_begun (g.F.Folder.held c.args.folder.now) c.args.question.name.now c.args.question.query.now c.args.watched c.args.question.steps c.args.question.answers c.tell.result
     (g.K.Sink.written c.args.out.now) (g.K.Sink.written c.tell.new.out)
     c.in-Err.refusal (c.in-Err.ensures.refusal known) c.tell.ensures.prefix
 
@@ -56,4 +62,5 @@ returns-in-Err-clause-keeps g c = keeps_told c.in-Err.refusal c.tell.result c.in
 
 pub returns-in-Err-clause-placed : goal.returns-in-Err-clause-placed
 returns-in-Err-clause-placed g c =
-    λ known. placed_told (g.F.Folder.held c.args.folder.now) c.args.question.query.now c.in-Err.refusal c.tell.result _ _ (c.in-Err.ensures.placed known) c.tell.ensures.said
+    let known = subst (λ xs. AreKnown (g.F.Folder.held c.args.folder.now) xs) (sym c.new-unknown.ensures.items) (none_known (g.F.Folder.held c.args.folder.now)) in
+    placed_told (g.F.Folder.held c.args.folder.now) c.args.question.query.now c.in-Err.refusal c.tell.result _ _ (c.in-Err.ensures.placed known) c.tell.ensures.said

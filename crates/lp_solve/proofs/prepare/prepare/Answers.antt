@@ -14,7 +14,7 @@ returns-in-Ok-clause-refusal g c =
     (c.in-Ok.ensures.program known) c.start.ensures.refused c.start.ensures.placed c.start.ensures.cause
 
 pub returns-in-Err-clause-refusal : goal.returns-in-Err-clause-refusal
-returns-in-Err-clause-refusal g c = λ known. of_texts c.in-Err.refusal c.in-Err.ensures.refused (c.in-Err.ensures.placed known)
+returns-in-Err-clause-refusal g c = λ known. of_texts c.in-Err.refusal (c.in-Err.ensures.cause known) c.in-Err.ensures.refused (c.in-Err.ensures.placed known)
 
 pub returns-in-Ok-clause-looked : goal.returns-in-Ok-clause-looked
 returns-in-Ok-clause-looked g c = looked_judged c.start.result c.in-Ok.ensures.looked (text_judged c.start.result c.start.ensures.refused)

@@ -1,11 +1,10 @@
-// Texts of the first fragment, by the first path and by that of the whole language, which options take even where they change nothing.
+// Facts and rules on constants and variables.
 
-use crate::asking::{check, within};
+use crate::asking::check;
 use lp_base::{Memory, Status};
-use lp_given::FILES;
 
 #[test]
-fn both_paths_agree(rt: HostRuntime) -> Result<(), Memory> {
+fn facts_and_rules(rt: HostRuntime) -> Result<(), Memory> {
     let alloc = rt.alloc();
     for (module, query, status, written) in [
         (
@@ -38,14 +37,6 @@ fn both_paths_agree(rt: HostRuntime) -> Result<(), Memory> {
         ("loop", "q, q.", Status::Done, "answer 1\nno more answers\n"),
     ] {
         check(&rt, alloc, module, query, status, written)?;
-        within(
-            &rt,
-            alloc,
-            &FILES,
-            (module, query, 1_000_000),
-            status,
-            written,
-        )?;
     }
     Ok(())
 }

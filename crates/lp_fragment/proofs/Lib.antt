@@ -1,4 +1,0 @@
-pub mod Lexed
-pub mod Ways
-pub mod Places
-pub mod WellKinded

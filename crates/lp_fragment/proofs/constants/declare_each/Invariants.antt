@@ -1,7 +1,0 @@
-use Rattle.std.proofs.Common.{◌≡◌, map, drop}
-use Rattle.lp_fragment.specs.Lists.{along}
-use Rattle.lp_fragment.specs.Declarations.{declare_constant}
-use Rattle.lp_fragment.proofs.constants.declare_each.Given as goal
-
-abbrev pub invariant-loop-i : goal.invariant-loop-i
-invariant-loop-i l = along (declare_constant l.profile) l.constants (map (λ n. n.now) (drop l.i l.names)) ≡ along (declare_constant l.profile) l.fn.constants (map (λ n. n.now) l.names)

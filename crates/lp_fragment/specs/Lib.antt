@@ -1,9 +1,0 @@
-pub mod Words
-pub mod Lists
-pub mod Names
-pub mod Declarations
-pub mod Sentences
-pub mod Arguments
-pub mod Meaning
-pub mod Views
-pub mod Kinds

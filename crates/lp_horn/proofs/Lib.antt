@@ -1,5 +1,0 @@
-pub mod Zips
-pub mod Standing
-pub mod Puts
-pub mod Lines
-pub mod Typed

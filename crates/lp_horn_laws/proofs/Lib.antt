@@ -1,6 +1,0 @@
-pub mod Branches
-pub mod Correct
-pub mod Ends
-pub mod Terms
-pub mod Typed
-pub mod Unifies

@@ -1,9 +1,0 @@
-use Rattle.std.proofs.Common.{◌≤◌, length, ◌∙◌, arith}
-use Rattle.std.proofs.lemmas.Grind.{common_steps}
-use Rattle.lp_horn_search.proofs.Lists.{whole}
-use Rattle.lp_horn_search.proofs.branch.values_under.Goals as goal
-
-pub returns : goal.returns
-returns c =
-    let h : length c.args.values.now.items ≤ c.loop-value.value-index = grind (arith, common_steps) in
-    c.loop-value.invariant ∙ whole _ _ _ _ h
