@@ -1,12 +1,11 @@
 -- Files that are needed stay so while more are loaded.
 use Rattle.std.specs.Global.{Global}
-use Rattle.std.proofs.Common.{◌≡◌, ℕ, zero, suc, ◌<◌, List, [], ◌∷◌, ◌++◌, Option, Some, None, Result, Ok, Err, length, take, refl, sym, ap, subst, ◌∙◌, inl, inr, append_assoc, append-nil, arith}
+use Rattle.std.proofs.Common.{◌≡◌, ℕ, zero, suc, ◌<◌, List, [], ◌∷◌, ◌++◌, Option, Some, None, Result, Ok, Err, length, take, refl, sym, ap, subst, ◌∙◌, append_assoc, append-nil, arith}
 use Rattle.std.specs.Prelude.{Contains, IfErr, IfOk, IfSome, String, string_bytes}
 use Rattle.std.specs.List.{All}
 use Rattle.std.proofs.lemmas.List.Elements.{All-cons, All-head, All-nil, All-push, All-tail, Contains-append_left, Contains-append_right, Contains-get_or}
 use Rattle.lp_base.specs.Held.{Held}
 use Rattle.lp_base.specs.declared.place.Spot.{Spot}
-use Rattle.lp_lexer.specs.Lexis.{HasFault}
 use Rattle.lp_sig.specs.Pieces.{spelled}
 use Rattle.lp_sig.specs.Refusals.{IsAt}
 use Rattle.lp_build.specs.Loads.{BeginsWith, IsOfText, ending, names_of}
