@@ -17,9 +17,12 @@ returns-in-Err-clause-refused c = inr (c.in_ok-check_header.ensures.same, inr (i
 pub returns-in_err-sentences-clause-refused : goal.returns-in_err-sentences-clause-refused
 returns-in_err-sentences-clause-refused c =
     passed_up c.from_residual-in_err-sentences.result c.in_err-sentences.field-0.0 (IsRefusal c.args.source.now c.args.text.now c.args.expected.now
-        c.args.own.now c.args.used.now) c.from_residual-in_err-sentences.ensures.1
-    (inr (c.in_ok-check_header.ensures.same, untyped_inside c.args.own.now c.args.used.now c.args.source.now c.args.text.now.lines.items
-        c.in-Ok.signature c.in_err-sentences.field-0.0 c.in-Ok.ensures.seen c.in-Ok.ensures.theirs c.in_err-sentences.ensures.refused))
+    c.args.own.now c.args.used.now) c.from_residual-in_err-sentences.ensures.1
+    (inr (
+      c.in_ok-check_header.ensures.same,
+      untyped_inside c.args.own.now c.args.used.now c.args.source.now c.args.text.now.lines.items
+          c.in-Ok.signature c.in_err-sentences.field-0.0 c.in-Ok.ensures.seen c.in-Ok.ensures.theirs c.in_err-sentences.ensures.refused,
+    ))
 
 pub returns-in_err-check_clauses-clause-refused : goal.returns-in_err-check_clauses-clause-refused
 returns-in_err-check_clauses-clause-refused c =
@@ -28,7 +31,7 @@ returns-in_err-check_clauses-clause-refused c =
     let ss = c.in_ok-sentences.sentences.items in
     let e = c.in_err-check_clauses.field-0.0 in
     passed_up c.from_residual-in_err-check_clauses.result e (IsRefusal c.args.source.now c.args.text.now c.args.expected.now c.args.own.now
-        c.args.used.now) c.from_residual-in_err-check_clauses.ensures.1
+    c.args.used.now) c.from_residual-in_err-check_clauses.ensures.1
     (inr (
       c.in_ok-check_header.ensures.same,
       unformed_inside c.args.own.now c.args.used.now c.args.source.now c.args.text.now.lines.items names b ss e c.in-Ok.ensures.seen c.in-Ok.ensures.theirs
