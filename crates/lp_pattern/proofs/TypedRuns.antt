@@ -1,5 +1,5 @@
 -- On typed input the definition comes to an outcome, so what the code says of each outcome holds of it.
-use Rattle.std.proofs.Common.{◌≡◌, ℕ, List, map, length, Some, subst as transport}
+use Rattle.std.proofs.Common.{◌≡◌, ℕ, List, Some, subst as transport}
 use Rattle.lp_calculus.specs.Types.{var}
 use Rattle.lp_term.specs.Nodes.{Nodes}
 use Rattle.lp_term.specs.declared.node.TypeId.{TypeId}

@@ -35,4 +35,4 @@ returns-else-eq-2-clause-filled c =
 pub returns-in_default-clause-filled : goal.returns-in_default-clause-filled
 returns-in_default-clause-filled c = λ θ l p h.
     let two = two_made c.args.bank.now θ c.in-Arrow.field-0.0 c.in-Arrow.field-1.0 c.args.parts.now c.args.made.now (p ∙ ap part_numbers (sym c.in-Arrow.ensures.node)) h in
-    absurd (c.in_default.not-len2 (omega (arith, two)) (omega (arith, two)))
+    absurd (omega (arith, two, c.in_default.len_below))

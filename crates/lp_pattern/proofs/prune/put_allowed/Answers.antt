@@ -1,4 +1,4 @@
-use Rattle.std.proofs.Common.{arith, length, ◌-◌, ◌++◌, sym, subst, take}
+use Rattle.std.proofs.Common.{◌≡◌, suc, ◌+◌, ◌∙◌, ap, arith, length, ◌-◌, ◌++◌, sym, subst, take}
 use Rattle.std.proofs.Math.Seq.{take-suc}
 use Rattle.std.proofs.lemmas.List.{length-take}
 use Rattle.lp_term.proofs.Trees.{extends-trans}
@@ -20,10 +20,11 @@ loop-at-preserved c =
     let low = low_eigens c.args.level c.args.side.now.eigens.items in
     let s = side_of c.args.side.now in
     let l = c.loop-at-test.true in
+    let next : c.loop-at.at + 1 ≡ suc c.loop-at.at = omega arith in
     let all = length-take c.loop-at.at c.args.eigens.now in
     record {
       kept = extends-trans c.args.bank.now c.loop-at.bank c.push_place.new.bank c.loop-at.invariant.kept c.in_ok-push_place.ensures.kept;
-      terms = subst (λ ks. AreTerms c.push_place.new.bank c.push_place.new.arguments.items (low ++ allowed_places s n ks)) (sym (take-suc c.args.eigens.now c.loop-at.at _ l))
+      terms = subst (λ ks. AreTerms c.push_place.new.bank c.push_place.new.arguments.items (low ++ allowed_places s n ks)) (sym (ap (λ k. take k c.args.eigens.now) next ∙ take-suc c.args.eigens.now c.loop-at.at _ l))
           (places_pushed c.loop-at.bank c.push_place.new.bank c.loop-at.arguments.items c.push_place.new.arguments.items s n (n - 1 - c.loop-at.at) _ low (take c.loop-at.at c.args.eigens.now) (omega (arith, all, l)) c.in_ok-push_place.ensures.pushed c.loop-at.invariant.terms);
     }
 

@@ -3,7 +3,7 @@ use Rattle.lp_term.proofs.Walking.{on_ok}
 use Rattle.lp_pattern.specs.declared.settle.Task.TheVariants.{Visit}
 use Rattle.lp_pattern.specs.Settling.{Moves}
 use Rattle.lp_pattern.proofs.SettleMoves.{rigid_moves}
-use Rattle.std.proofs.Common.{◌≡◌, ap, length, reverse}
+use Rattle.std.proofs.Common.{ap, length, reverse}
 use Rattle.lp_pattern.specs.Settling.{AreEnough}
 use Rattle.lp_pattern.proofs.Enough.{pushed_enough}
 use Rattle.lp_pattern.proofs.settle.visit_rigid.Goals as goal
