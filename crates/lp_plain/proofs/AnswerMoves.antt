@@ -9,7 +9,7 @@ use Rattle.lp_model.specs.Unify.{unit_limit}
 use Rattle.lp_plain.specs.declared.machine.Machine.{Machine}
 use Rattle.lp_plain.specs.declared.outcome.Turn.{Turn}
 use Rattle.lp_plain.specs.Entries.{Around, Reads, no_frame, a_frame}
-use Rattle.lp_plain.specs.Moving.{AreEntriesUnder, IsState, MovesTo, Query, mark_in}
+use Rattle.lp_plain.specs.Moving.{AreEntriesUnder, IsState, MovesTo, Query, mark_in, quiet}
 use Rattle.lp_plain.specs.Stacks.{base_of}
 use Rattle.lp_plain.proofs.QuietMoves.{by_lost}
 
@@ -40,17 +40,18 @@ module _ (qv : Query) (m : Machine) (s : State Task) (h : IsState qv m s) (e : m
   abbrev pub answer_after : ℕ → State Task
   answer_after k = record { steps = s.steps; answers = k; given = suc s.given; rows = s.rows; row = s.rows; lost = s.lost; stack = h.running.rest }
 
-  pub answer_tells : (k : ℕ) → s.answers ≡ suc k → (go : (Answer → Bool) → State Task → Inner) (enough : ℕ) (P : List Clause) → move go (look unit_limit enough P) s ≡ Tells answer (answer_notes k) (answer_after k)
+  pub answer_tells : (k : ℕ) → s.answers ≡ suc k → (go : (Answer → Bool) → State Task → Inner) (enough : ℕ) (P : List Clause) → move go
+      (look unit_limit enough P) s ≡ Tells answer (answer_notes k) (answer_after k)
   answer_tells k ea go enough P =
       let r = h.running in
       let see = look unit_limit enough P in
       (λ i. move_at go see s.steps (ea i) s.given s.rows s.row s.lost (r.stack i)) ∙ by_lost go see s.steps k s.given s.rows s.row s.lost (Go work) r.rest ∙
       ap (move_view go s.steps k s.given s.rows s.row s.lost r.rest) (ap (look_branch unit_limit enough P (length r.rest) work) none)
 
-  pub answer_moved : MovesTo qv Turn.Answered m s
+  pub answer_moved : MovesTo quiet qv Turn.Answered m s
   answer_moved k ea go enough P =
       let r = h.running in (
-        answer_notes k,
+        refl,
         answer,
         answer_after k,
         answer_tells k ea go enough P,
@@ -64,7 +65,7 @@ module _ (qv : Query) (m : Machine) (s : State Task) (h : IsState qv m s) (e : m
           pairs = r.under.pairs;
           left = r.left;
         },
-        record { around = h.around; above = r.above; steps = r.counted.steps; total = r.counted.total; rows = r.counted.rows; row = r.counted.rows; lost = r.counted.lost },
+        record { around = h.around; above = r.above; steps = r.counted.steps; rows = r.counted.rows; row = r.counted.rows; lost = r.counted.lost },
         ea,
         refl,
       )

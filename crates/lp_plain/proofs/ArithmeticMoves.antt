@@ -12,7 +12,7 @@ use Rattle.lp_model.specs.Eigens.{beta_normal}
 use Rattle.lp_model.specs.Flat.{Clause}
 use Rattle.lp_model.specs.Pair.{Closing, closed}
 use Rattle.lp_model.specs.Search.{assigned, compared, equated, look}
-use Rattle.lp_model.specs.Skeleton.{GoalName, Inner, State, Takes, View}
+use Rattle.lp_model.specs.Skeleton.{GoalName, Inner, State, Takes, View, GoalNote}
 use Rattle.lp_model.specs.Unify.{unit_limit}
 use Rattle.lp_model.specs.Values as model
 use Rattle.lp_model.specs.Values.{Bytes, Faults, Is, Number, evaluate, ordered, term_of}
@@ -37,7 +37,7 @@ use Rattle.lp_plain.specs.Entries.{Around}
 use Rattle.lp_plain.specs.Evaluated.{EvaluatesTo, IsEvaluable, IsValueIn}
 use Rattle.lp_plain.specs.Forms.{order_number}
 use Rattle.lp_plain.specs.HeadLooks.{OnlyBank}
-use Rattle.lp_plain.specs.Moving.{AreFew, IsCounted, IsGoingOn, Leads, Query}
+use Rattle.lp_plain.specs.Moving.{AreFew, IsCounted, IsGoingOn, Leads, Query, taking}
 use Rattle.lp_plain.proofs.AtomTurns.{equate_leads}
 use Rattle.lp_plain.proofs.GoingBank.{above_bank, bank_then, going_bank, going_state, place_bank, reading_bank}
 use Rattle.lp_plain.proofs.TaskMoves.{fails, goes, lacks, stops}
@@ -78,7 +78,7 @@ came m q t o e l z y fine n = go (beta_normal n (closed z (tree m.bank t.0))) re
 module _ (qv : Query) (c : Machine) (a : Around) (rest work : Branch) (below : List Task) (g : IsGoingOn qv c a rest work below) (p : Place)
     (pl : IsPlaceAt (lists_of c) a p) (s : State Task) (w j : ℕ) (ea : s.answers ≡ suc w) (es : s.steps ≡ suc j)
     (go : (Answer → Bool) → State Task → Inner) (enough : ℕ) (P : List Clause) (name : GoalName) (task : Task) (stack : s.stack ≡ task ∷ below)
-    (counted : (n : Machine) → n.counts ≡ c.counts → (ts : List Task) → IsCounted qv n
+    (counted : (n : Machine) → n.counts ≡ c.counts → (ts : List Task) → IsCounted n
     (record { steps = j; answers = suc w; given = s.given; rows = s.rows; row = s.rows; lost = s.lost; stack = ts ++ below })) where
   abbrev see : ℕ → Task → View Task Answer
   see = look unit_limit enough P
@@ -88,31 +88,31 @@ module _ (qv : Query) (c : Machine) (a : Around) (rest work : Branch) (below : L
       (closed g.closing (tree c.bank l.0)) → (v : Value) (m : model.Value) → IsValueIn q.bank v m → (turn : Turn) → AreFew turn enough →
       IsPlainTerm work.next_type (closed g.closing (tree c.bank l.0)) → EachOf (IsPlainPair work.next_type) work.pairs → IsAssigned q n l p.level v
       turn → (tasks : List Task) → look unit_limit enough P (length below) task ≡ Takes name tasks → tasks ≡ equated unit_limit enough p.level
-      (closed g.closing (tree c.bank l.0)) (term_of m) work → Leads 1 qv turn n go see s
+      (closed g.closing (tree c.bank l.0)) (term_of m) work → Leads 1 (taking (GoalNote name)) qv turn n go see s
   value_leads q n b l inside known v m i turn few plain pairs h tasks seen is =
       let r = h.between in
       let d = bank_then c q r b h.bank in
       let g' = going_bank qv c r d a rest work below g p pl in
       let x = closed g.closing (tree c.bank l.0) in
       let same : n.counts ≡ c.counts = h.bound.counts ∙ ap (λ z. z.counts) d.same in
-      subst (λ t. Leads 1 qv t n go see s) (sym h.is)
+      subst (λ t. Leads 1 (taking (GoalNote name)) qv t n go see s) (sym h.is)
       (equate_leads qv r n a rest work below g' p (place_bank qv c r d a rest work below g p pl) h.bound h.residual l h.term h.same x (term_of m)
       (ap (closed g.closing) (sym (d.bank.same_terms l.0 inside)))
       (sym (ap (closed g.closing) (h.term_is m i) ∙ value_closed g.closing m)) known (value_known g.levels rest.next m) h.equated s w j ea es go
       enough (subst (λ t. AreFew t enough) h.is few) plain (value_plain work.next_type m) pairs P name task tasks stack seen is (counted n same))
 
-  pub is_leads : (n : Machine) (l r : TermId) (turn : Turn) → Assigns c n l r p.level turn → n.counts ≡ c.counts → AreFew turn enough →
+  pub is_leads : (n : Machine) (l r : TermId) (turn : Turn) → Assigns c n l r p.level turn → AreFew turn enough →
       (turn ≡ Turn.Ended Deep → IsSmallExpression (closed g.closing (tree c.bank r.0))) → IsPlainTerm work.next_type
       (closed g.closing (tree c.bank l.0)) → EachOf (IsPlainPair work.next_type) work.pairs → l.0 < length c.bank.terms → r.0 < length c.bank.terms →
       Within (Known g.levels rest.next) 0 (closed g.closing (tree c.bank l.0)) →
       IsEvaluable (closed g.closing (tree c.bank r.0)) → look unit_limit enough P (length below) task ≡ Takes name
       (assigned unit_limit enough p.level (closed g.closing (tree c.bank l.0)) work (evaluate enough (closed g.closing (tree c.bank r.0)))) →
-      Leads 1 qv turn n go see s
-  is_leads n l r turn h sc few small plain pairs il ir known fine seen =
+      Leads 1 (taking (GoalNote name)) qv turn n go see s
+  is_leads n l r turn h few small plain pairs il ir known fine seen =
       by h.outcome (evaluate enough (closed g.closing (tree c.bank r.0))) refl h.by (came c h.between r h.outcome h.evaluated ir g.closing g.reading fine enough)
     where
       by : (o : Outcome) (x : Option model.Outcome) → evaluate enough (closed g.closing (tree c.bank r.0)) ≡ x → AssignsBy o h.between n l p.level
-          turn → CameTo o enough x (IsValueIn h.between.bank) (IsSmallExpression (closed g.closing (tree c.bank r.0))) → Leads 1 qv turn n go see s
+          turn → CameTo o enough x (IsValueIn h.between.bank) (IsSmallExpression (closed g.closing (tree c.bank r.0))) → Leads 1 (taking (GoalNote name)) qv turn n go see s
       by o None e k came = lacks qv n below s w j ea es go enough P name task (Lack ∷ []) stack
           (seen ∙ ap (λ y. Takes name (assigned unit_limit enough p.level (closed g.closing (tree c.bank l.0)) work y)) e) refl turn
       by (code.Is v) (Some x) e k came =
@@ -120,10 +120,10 @@ module _ (qv : Query) (c : Machine) (a : Around) (rest work : Branch) (below : L
           (seen ∙ ap (λ y. Takes name (assigned unit_limit enough p.level (closed g.closing (tree c.bank l.0)) work y))
           (e ∙ ap (λ y. Some y) came.1)) refl
       by (code.Faults f) (Some x) e k came =
-          subst (λ t. Leads 1 qv t n go see s) (sym k)
+          subst (λ t. Leads 1 (taking (GoalNote name)) qv t n go see s) (sym k)
           (stops qv n below s w j ea es go enough P name task (Stop (Arithmetic f) ∷ []) stack
           (seen ∙ ap (λ y. Takes name (assigned unit_limit enough p.level (closed g.closing (tree c.bank l.0)) work y))
-          (e ∙ ap (λ y. Some y) came)) (Arithmetic f) refl (counted n sc (Stop (Arithmetic f) ∷ [])).total)
+          (e ∙ ap (λ y. Some y) came)) (Arithmetic f) refl)
       by code.Deep (Some x) e k came = absurd (came (let i = few k in omega (arith, i)) (small k))
 
   -- two numbers are compared
@@ -132,16 +132,16 @@ module _ (qv : Query) (c : Machine) (a : Around) (rest work : Branch) (below : L
     order = order_number o
 
     numbers_lead : (x y : ℤ) → turn ≡ turn_if (ordered order x y) → look unit_limit enough P (length below) task ≡ Takes name
-        (if ordered order x y then Go work ∷ [] else []) → Leads 1 qv turn n go see s
-    numbers_lead x y e seen = subst (λ t. Leads 1 qv t n go see s) (sym e) (by (ordered order x y) refl)
+        (if ordered order x y then Go work ∷ [] else []) → Leads 1 (taking (GoalNote name)) qv turn n go see s
+    numbers_lead x y e seen = subst (λ t. Leads 1 (taking (GoalNote name)) qv t n go see s) (sym e) (by (ordered order x y) refl)
       where
-        by : (b : Bool) → ordered order x y ≡ b → Leads 1 qv (turn_if (ordered order x y)) n go see s
+        by : (b : Bool) → ordered order x y ≡ b → Leads 1 (taking (GoalNote name)) qv (turn_if (ordered order x y)) n go see s
         by true q =
-            subst (λ b. Leads 1 qv (turn_if b) n go see s) (sym q)
+            subst (λ b. Leads 1 (taking (GoalNote name)) qv (turn_if b) n go see s) (sym q)
             (goes qv n below s w j ea es go enough P name task (Go work ∷ []) stack (seen ∙ ap (λ b. Takes name (if b then Go work ∷ [] else [])) q) work refl
             (going_state qv n a rest work below (going_bank qv c n inside a rest work below g p pl) _ refl (counted n (ap (λ z. z.counts) inside.same) (Go work ∷ []))))
         by false q =
-            subst (λ b. Leads 1 qv (turn_if b) n go see s) (sym q)
+            subst (λ b. Leads 1 (taking (GoalNote name)) qv (turn_if b) n go see s) (sym q)
             (fails qv n below s w j ea es go enough P name task [] stack (seen ∙ ap (λ b. Takes name (if b then Go work ∷ [] else [])) q) refl
             (record { around = a; above = above_bank qv c n inside a rest work below g p pl; counted = counted n (ap (λ z. z.counts) inside.same) [] }))
 
@@ -150,46 +150,45 @@ module _ (qv : Query) (c : Machine) (a : Around) (rest work : Branch) (below : L
     Seen x y = look unit_limit enough P (length below) task ≡ Takes name (compared order work x y)
 
     second_leads : (S : Type 0) → (turn ≡ Turn.Ended Deep → S) → (x : ℤ) (m q : Machine) (r : TermId) (k : Result ℤ Ending) → (h : IsNumber m q r k) →
-        ComparesWith x k o turn → (y : Option model.Outcome) → CameTo h.outcome enough y (IsValueIn q.bank) S → Seen (Some (Is (Number x))) y → Leads
-        1 qv turn n go see s
+        ComparesWith x k o turn → (y : Option model.Outcome) → CameTo h.outcome enough y (IsValueIn q.bank) S → Seen (Some (Is (Number x))) y → Leads 1 (taking (GoalNote name)) qv turn n go see s
     second_leads S small x m q r k h cw y came seen = by h.outcome k h.is cw y came seen
       where
         by : (oc : Outcome) (k : Result ℤ Ending) → IsNumberOr oc k → ComparesWith x k o turn → (y : Option model.Outcome) → CameTo oc enough y
-            (IsValueIn q.bank) S → Seen (Some (Is (Number x))) y → Leads 1 qv turn n go see s
+            (IsValueIn q.bank) S → Seen (Some (Is (Number x))) y → Leads 1 (taking (GoalNote name)) qv turn n go see s
         by oc k i cw None came seen = lacks qv n below s w j ea es go enough P name task (Lack ∷ []) stack seen refl turn
         by (code.Is (kept.Number v)) k i cw (Some u) came seen =
             let a = came.2 in
             numbers_lead x v (subst (λ k. ComparesWith x k o turn) i cw) (seen ∙ ap (λ u. Takes name (compared order work (Some (Is (Number x))) (Some u))) (came.1 ∙ ap (λ z. Is z) a))
         by (code.Is (kept.Text t)) k i cw (Some u) came seen =
             let a = came.2 in
-            subst (λ t. Leads 1 qv t n go see s) (sym (subst (λ k. ComparesWith x k o turn) i cw))
+            subst (λ t. Leads 1 (taking (GoalNote name)) qv t n go see s) (sym (subst (λ k. ComparesWith x k o turn) i cw))
             (stops qv n below s w j ea es go enough P name task (Stop (Arithmetic NotClosed) ∷ []) stack
             (seen ∙ ap (λ u. Takes name (compared order work (Some (Is (Number x))) (Some u))) (came.1 ∙ ap (λ z. Is z) a.1))
-            (Arithmetic NotClosed) refl (counted n (ap (λ z. z.counts) inside.same) (Stop (Arithmetic NotClosed) ∷ [])).total)
+            (Arithmetic NotClosed) refl)
         by (code.Faults f) k i cw (Some u) came seen =
-            subst (λ t. Leads 1 qv t n go see s) (sym (subst (λ k. ComparesWith x k o turn) i cw))
+            subst (λ t. Leads 1 (taking (GoalNote name)) qv t n go see s) (sym (subst (λ k. ComparesWith x k o turn) i cw))
             (stops qv n below s w j ea es go enough P name task (Stop (Arithmetic f) ∷ []) stack
-            (seen ∙ ap (λ u. Takes name (compared order work (Some (Is (Number x))) (Some u))) came) (Arithmetic f) refl (counted n (ap (λ z. z.counts) inside.same) (Stop (Arithmetic f) ∷ [])).total)
+            (seen ∙ ap (λ u. Takes name (compared order work (Some (Is (Number x))) (Some u))) came) (Arithmetic f) refl)
         by code.Deep k i cw (Some u) came seen =
             let e = subst (λ k. ComparesWith x k o turn) i cw in
             absurd (came (let z = few e in omega (arith, z)) (small e))
 
-  first_leads : (n : Machine) (o : Compare) (turn : Turn) → n.counts ≡ c.counts → AreFew turn enough → (q : Machine) → OnlyBank c q → (l r : TermId) →
+  first_leads : (n : Machine) (o : Compare) (turn : Turn) → AreFew turn enough → (q : Machine) → OnlyBank c q → (l r : TermId) →
       (turn ≡ Turn.Ended Deep → IsSmallExpression (closed g.closing (tree c.bank l.0)) × IsSmallExpression (closed g.closing (tree c.bank r.0))) →
       (k : Result ℤ Ending) → (h : IsNumber c q l k) → ComparesBy k q n o r turn → r.0 < length c.bank.terms → IsEvaluable
       (closed g.closing (tree c.bank r.0)) →
       (x : Option model.Outcome) → CameTo h.outcome enough x (IsValueIn q.bank) (IsSmallExpression (closed g.closing (tree c.bank l.0))) → look
       unit_limit enough P (length below) task ≡ Takes name (compared (order_number o) work x
-      (evaluate enough (closed g.closing (tree c.bank r.0)))) → Leads 1 qv turn n go see s
-  first_leads n o turn sc few q b l r small k h cb ir fine x came' seen = by h.outcome k h.is cb x came' seen
+      (evaluate enough (closed g.closing (tree c.bank r.0)))) → Leads 1 (taking (GoalNote name)) qv turn n go see s
+  first_leads n o turn few q b l r small k h cb ir fine x came' seen = by h.outcome k h.is cb x came' seen
     where
-      stopped : (e : Ending) → turn ≡ Turn.Ended e → look unit_limit enough P (length below) task ≡ Takes name (Stop e ∷ []) → Leads 1 qv turn n go see s
-      stopped e i y = subst (λ t. Leads 1 qv t n go see s) (sym i) (stops qv n below s w j ea es go enough P name task (Stop e ∷ []) stack y e refl (counted n sc (Stop e ∷ [])).total)
+      stopped : (e : Ending) → turn ≡ Turn.Ended e → look unit_limit enough P (length below) task ≡ Takes name (Stop e ∷ []) → Leads 1 (taking (GoalNote name)) qv turn n go see s
+      stopped e i y = subst (λ t. Leads 1 (taking (GoalNote name)) qv t n go see s) (sym i) (stops qv n below s w j ea es go enough P name task (Stop e ∷ []) stack y e refl)
 
       by : (oc : Outcome) (k : Result ℤ Ending) → IsNumberOr oc k → ComparesBy k q n o r turn → (x : Option model.Outcome) → CameTo oc enough x
           (IsValueIn q.bank) (IsSmallExpression (closed g.closing (tree c.bank l.0))) → look unit_limit enough P (length below) task ≡ Takes name
           (compared (order_number o) work x (evaluate enough (closed g.closing (tree c.bank r.0)))) →
-          Leads 1 qv turn n go see s
+          Leads 1 (taking (GoalNote name)) qv turn n go see s
       by oc k i cb None came' seen = lacks qv n below s w j ea es go enough P name task (Lack ∷ []) stack seen refl turn
       by (code.Is (kept.Number v)) k i cb (Some u) came' seen =
           let m = came'.2 in
@@ -215,13 +214,13 @@ module _ (qv : Query) (c : Machine) (a : Around) (rest work : Branch) (below : L
           let e = subst (λ k. ComparesBy k q n o r turn) i cb in
           absurd (came' (let z = few e in omega (arith, z)) (small e).0)
 
-  pub order_leads : (n : Machine) (o : Compare) (l r : TermId) (turn : Turn) → Compares c n o l r turn → n.counts ≡ c.counts → AreFew turn enough →
+  pub order_leads : (n : Machine) (o : Compare) (l r : TermId) (turn : Turn) → Compares c n o l r turn → AreFew turn enough →
       (turn ≡ Turn.Ended Deep → IsSmallExpression (closed g.closing (tree c.bank l.0)) × IsSmallExpression (closed g.closing (tree c.bank r.0))) → l.0
       < length c.bank.terms → r.0 < length c.bank.terms → IsEvaluable (closed g.closing (tree c.bank l.0)) →
       IsEvaluable (closed g.closing (tree c.bank r.0)) →
       look unit_limit enough P (length below) task ≡ Takes name (compared (order_number o) work (evaluate enough (closed g.closing (tree c.bank l.0)))
-      (evaluate enough (closed g.closing (tree c.bank r.0)))) → Leads 1 qv turn n go see s
-  order_leads n o l r turn h sc few small il ir sl sr seen =
-      first_leads n o turn sc few h.between h.number.evaluated.bank l r small h.first h.number h.by ir sr
+      (evaluate enough (closed g.closing (tree c.bank r.0)))) → Leads 1 (taking (GoalNote name)) qv turn n go see s
+  order_leads n o l r turn h few small il ir sl sr seen =
+      first_leads n o turn few h.between h.number.evaluated.bank l r small h.first h.number h.by ir sr
       (evaluate enough (closed g.closing (tree c.bank l.0))) (came c h.between l h.number.outcome h.number.evaluated il g.closing g.reading sl
       enough) seen

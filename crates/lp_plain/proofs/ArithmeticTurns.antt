@@ -18,7 +18,7 @@ use Rattle.lp_model.specs.Flat.{Clause}
 use Rattle.lp_model.specs.Look.{head_normal}
 use Rattle.lp_model.specs.Pair.{closed}
 use Rattle.lp_model.specs.Search.{assigned, compared, look, look_constant, with_goals}
-use Rattle.lp_model.specs.Skeleton.{Inner, State, Takes, named}
+use Rattle.lp_model.specs.Skeleton.{Inner, State, Takes, named, GoalNote}
 use Rattle.lp_model.specs.Unify.{unit_limit}
 use Rattle.lp_model.specs.Values.{evaluate}
 use Rattle.lp_model.specs.declared.ending.Ending.TheVariants.{Deep}
@@ -36,7 +36,7 @@ use Rattle.lp_plain.specs.Cuts.{one_step}
 use Rattle.lp_plain.specs.Entries.{Around}
 use Rattle.lp_plain.specs.Evaluated.{IsEvaluable, IsNoFunction}
 use Rattle.lp_plain.specs.Forms.{IsRelation, order_number}
-use Rattle.lp_plain.specs.Moving.{IsCounted, IsRunning, KeepsSearch, Leads, Query}
+use Rattle.lp_plain.specs.Moving.{IsCounted, IsRunning, KeepsSearch, Leads, Query, Tally, taking}
 use Rattle.lp_plain.specs.Reached.{HasSmallFirst, HasSmallGoal, IsSmallAtom, IsSmallGoal}
 use Rattle.lp_plain.proofs.ArithmeticMoves.{is_leads, order_leads}
 use Rattle.lp_plain.proofs.AtomMoves.{behind, by_seen, f, named_known, named_same, named_view, waits}
@@ -59,13 +59,13 @@ module _ (qv : Query) (m c : Machine) (a : Around) (raw : Branch) (s : State Tas
   x = tree m.bank u.0
 
   -- the turn, over one program
-  abbrev LeadsNext : List Clause → Type 0
-  LeadsNext P = (k : ℕ) → s.answers ≡ suc k → (go : (Answer → Bool) → State Task → Inner) (enough : ℕ) → AreFewAt turn enough s.stack → IsTypedOver
-      qv.arity enough P s → Leads 1 qv turn n go (look unit_limit enough P) s
+  abbrev LeadsNext : Tally → List Clause → Type 0
+  LeadsNext y P = (k : ℕ) → s.answers ≡ suc k → (go : (Answer → Bool) → State Task → Inner) (enough : ℕ) → AreFewAt turn enough s.stack → IsTypedOver
+      qv.arity enough P s → Leads 1 y qv turn n go (look unit_limit enough P) s
 
   counted : (w : ℕ) (q : Machine) → q.counts ≡ c.counts → (ts : List Task) →
-      IsCounted qv q (record { steps = m.counts.limit - (m.counts.steps + 1); answers = suc w; given = s.given; rows = s.rows; row = s.rows; lost = s.lost; stack = ts ++ h.rest })
-  counted w q e ts = step_counted qv m q a raw s h (e ∙ ct) there (suc w) (ts ++ h.rest)
+      IsCounted q (record { steps = m.counts.limit - (m.counts.steps + 1); answers = suc w; given = s.given; rows = s.rows; row = s.rows; lost = s.lost; stack = ts ++ h.rest })
+  counted w q e ts = step_counted qv m q a raw s h (e ∙ ct) (suc w) (ts ++ h.rest)
 
   -- a term of the goal, in the bank behind the step
   same_closed : (t : TermId) → closed h.closing (tree m.bank t.0) ≡ closed h.closing (tree c.bank t.0)
@@ -107,9 +107,11 @@ module _ (qv : Query) (m c : Machine) (a : Around) (raw : Branch) (s : State Tas
   order_tasks AtMost P enough height t l r = refl
   order_tasks AtLeast P enough height t l r = refl
 
-  pub is_turn : (l r : TermId) → IsAtomForm m.bank x (form.Is l r) → (l.0 < length m.bank.terms) × (r.0 < length m.bank.terms) → Assigns c n l r p.level turn → n.counts ≡ c.counts → (P : List Clause) → LeadsNext P
-  is_turn l r i st e sc P w ea go enough few ty =
-      by_seen qv m a raw s h p u o at enough P (Leads 1 qv turn n go (look unit_limit enough P) s) (waits qv m a raw s h p u o at enough P n w ea go turn) (λ t q.
+  pub is_turn : (l r : TermId) → IsAtomForm m.bank x (form.Is l r) → (l.0 < length m.bank.terms) × (r.0 < length m.bank.terms) → Assigns c n l r
+      p.level turn → (P : List Clause) → LeadsNext (taking (GoalNote (named number.Is))) P
+  is_turn l r i st e P w ea go enough few ty =
+      by_seen qv m a raw s h p u o at enough P (Leads 1 (taking (GoalNote (named number.Is))) qv turn n go (look unit_limit enough P) s)
+      (waits qv m a raw s h p u o at enough P n w ea go turn (taking (GoalNote (named number.Is)))) (λ t q.
       let v = of i in
       let known = named_known qv m a raw s h p u o at enough P t q number.Is l r v.0 v.1 in
       let y = f qv m a raw s h p u o at in
@@ -120,7 +122,7 @@ module _ (qv : Query) (m c : Machine) (a : Around) (raw : Branch) (s : State Tas
       let small : turn ≡ Turn.Ended Deep → IsSmallExpression (closed h.closing (tree c.bank r.0)) = λ d. subst IsSmallExpression (same_closed r)
       ((small_of number.Is l r v enough P t q (few d).1).1.0 refl) in
       is_leads qv c a rest work h.rest (stepped qv m c a raw s h p u o at k ch ct there) p (place_stepped qv m c a raw s h p u o at k ch ct there) s w (left qv m c a raw s h p u o at k ch ct there) ea
-      (steps_are qv m c a raw s h p u o at k ch ct there) go enough P (named number.Is) (Go h.at_work) h.stack (counted w) n l r turn e sc
+      (steps_are qv m c a raw s h p u o at k ch ct there) go enough P (named number.Is) (Go h.at_work) h.stack (counted w) n l r turn e
       (λ d. (few d).0) small (subst (IsPlainTerm h.at_work.next_type) (same_closed l) args.0)
       (front_pairs qv.arity enough P s ty h.at_work h.rest h.stack y.first y.rest y.whole)
       (subst (λ b. l.0 < length b.terms) (sym kept) st.0) (subst (λ b. r.0 < length b.terms) (sym kept) st.1)
@@ -133,9 +135,10 @@ module _ (qv : Query) (m c : Machine) (a : Around) (raw : Branch) (s : State Tas
       of (inr y) = absurd (let z = y.1 in cc)
 
   pub order_turn : (v : Compare) (l r : TermId) → IsAtomForm m.bank x (form.Order v l r) → (l.0 < length m.bank.terms) × (r.0 < length m.bank.terms) →
-      Compares c n v l r turn → n.counts ≡ c.counts → (P : List Clause) → LeadsNext P
-  order_turn v l r i st e sc P w ea go enough few ty =
-      by_seen qv m a raw s h p u o at enough P (Leads 1 qv turn n go (look unit_limit enough P) s) (waits qv m a raw s h p u o at enough P n w ea go turn) (λ t q.
+      Compares c n v l r turn → (P : List Clause) → LeadsNext (taking (GoalNote (named (order_number v)))) P
+  order_turn v l r i st e P w ea go enough few ty =
+      by_seen qv m a raw s h p u o at enough P (Leads 1 (taking (GoalNote (named (order_number v)))) qv turn n go (look unit_limit enough P) s)
+      (waits qv m a raw s h p u o at enough P n w ea go turn (taking (GoalNote (named (order_number v))))) (λ t q.
       let y = of i in
       let no = operands_of (order_number v) l r y enough P ty t q in
       let small : turn ≡ Turn.Ended Deep → IsSmallExpression (closed h.closing (tree c.bank l.0)) × IsSmallExpression
@@ -143,7 +146,7 @@ module _ (qv : Query) (m c : Machine) (a : Around) (raw : Branch) (s : State Tas
       (subst IsSmallExpression (same_closed l) z.0, subst IsSmallExpression (same_closed r) z.1) in
       order_leads qv c a rest work h.rest (stepped qv m c a raw s h p u o at k ch ct there) p (place_stepped qv m c a raw s h p u o at k ch ct there)
       s w (left qv m c a raw s h p u o at k ch ct there) ea
-      (steps_are qv m c a raw s h p u o at k ch ct there) go enough P (named (order_number v)) (Go h.at_work) h.stack (counted w) n v l r turn e sc (λ d. (few d).0) small
+      (steps_are qv m c a raw s h p u o at k ch ct there) go enough P (named (order_number v)) (Go h.at_work) h.stack (counted w) n v l r turn e (λ d. (few d).0) small
       (subst (λ b. l.0 < length b.terms) (sym kept) st.0) (subst (λ b. r.0 < length b.terms) (sym kept) st.1) (subst IsEvaluable (same_closed l) no.0) (subst IsEvaluable (same_closed r) no.1.0)
       (named_view qv m a raw s h p u o at enough P t q (order_number v) l r y.0 y.1 ∙
       ap (Takes (named (order_number v))) (order_tasks v P enough (length h.rest) t (closed h.closing (tree m.bank l.0)) (closed h.closing (tree m.bank r.0)) ∙

@@ -78,7 +78,6 @@ running_framed qv m q a p raw s k c ka f st pl h =
     running_still qv m q a a raw s h st (placed_on m q a p g h.above.done.stands h.placed pl) (grown_on m q p g) (same_around (length m.newest.items) (length m.standings.items) a) (none_kept m q k c) c.choices
     h.levels raw h.at_work s h.under (omega (arith, n)) (n ∙ h.next) (ap (λ b. b.next_type) c.branch ∙ h.next_type) h.stack (record {
       steps = h.counted.steps ∙ ap (λ x. x.limit - x.steps) (sym c.counts);
-      total = (let q = h.counted.total in let e = ap (λ z. z.steps) (c.counts) in omega (arith, q, e));
       rows = h.counted.rows;
       row = h.counted.row ∙ ap (λ x. 1000000 - x.row) (sym c.counts);
       lost = h.counted.lost ∙ ap (λ x. x.lost) (sym c.counts);

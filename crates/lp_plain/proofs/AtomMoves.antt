@@ -26,7 +26,7 @@ use Rattle.lp_plain.specs.declared.outcome.Turn.{Turn}
 use Rattle.lp_plain.specs.AtRunTime.{IsAtLooked, IsAtomForm, IsNoForm}
 use Rattle.lp_plain.specs.Entries.{Around}
 use Rattle.lp_plain.specs.Forms.{IsRelation, is_named}
-use Rattle.lp_plain.specs.Moving.{IsMoved, IsRunning, Leads, Query}
+use Rattle.lp_plain.specs.Moving.{IsMoved, IsRunning, Leads, Query, Tally, quiet}
 use Rattle.lp_plain.specs.Trials.{IsCallHead}
 use Rattle.lp_plain.proofs.AtomViews.{atom_stays, atom_taken, constant_closed, free_closed, no_form_stays, no_form_taken, two_closed, unnamed_closed, unnamed_taken}
 use Rattle.lp_plain.proofs.ClosedForms.{form_under}
@@ -167,17 +167,17 @@ module _ (qv : Query) (m : Machine) (a : Around) (raw : Branch) (s : State Task)
         go (Some t) e = l t e
 
     module _ (n : Machine) (w : ℕ) (ea : s.answers ≡ suc w) (go : (Answer → Bool) → State Task → Inner) where
-      pub waits : (turn : Turn) → head_normal enough f.goal ≡ None → Leads 1 qv turn n go see s
-      waits turn e = inr (inl (front_waits qv m a raw s h p at.value at.rest f enough P w ea go e))
+      pub waits : (turn : Turn) (y : Tally) → head_normal enough f.goal ≡ None → Leads 1 y qv turn n go see s
+      waits turn y e = inr (inl (front_waits qv m a raw s h p at.value at.rest f enough P w ea go e))
 
       -- no step is left
-      no_step : (name : GoalName) (ts : List Task) → m.counts.limit ≤ m.counts.steps → n.counts.steps ≡ m.counts.steps → seen ≡ Takes name ts → IsMoved qv (Turn.Ended Steps) n (move go see s) s
-      no_step name ts l c e =
+      no_step : (name : GoalName) (ts : List Task) → m.counts.limit ≤ m.counts.steps → seen ≡ Takes name ts → IsMoved quiet qv (Turn.Ended Steps) n (move go see s) s
+      no_step name ts l e =
           let none : s.steps ≡ 0 = (let q = h.counted.steps in omega (arith, q, l)) in (
+            refl,
             (λ i. move_at go see (none i) (ea i) s.given s.rows s.row s.lost (h.stack i)) ∙ by_lost go see 0 w s.given s.rows s.row s.lost (Go h.at_work) h.rest ∙
                 ap (move_view go 0 w s.given s.rows s.row s.lost h.rest) e,
-            (let t = h.counted.total in omega (arith, t, c)),
           )
 
-      pub spent_leads : (c : Form) → IsAtomForm m.bank x c → m.counts.limit ≤ m.counts.steps → n.counts.steps ≡ m.counts.steps → Leads 1 qv (Turn.Ended Steps) n go see s
-      spent_leads c e l k = by_seen (Leads 1 qv (Turn.Ended Steps) n go see s) (waits (Turn.Ended Steps)) (λ t q. let v = some_view t q c e in inl (no_step v.0 v.1 l k v.2))
+      pub spent_leads : (c : Form) → IsAtomForm m.bank x c → m.counts.limit ≤ m.counts.steps → Leads 1 quiet qv (Turn.Ended Steps) n go see s
+      spent_leads c e l = by_seen (Leads 1 quiet qv (Turn.Ended Steps) n go see s) (waits (Turn.Ended Steps) quiet) (λ t q. let v = some_view t q c e in inl (no_step v.0 v.1 l v.2))

@@ -16,7 +16,7 @@ use Rattle.lp_plain.specs.declared.machine.Machine.{Machine}
 use Rattle.lp_plain.specs.declared.outcome.Turn.{Turn}
 use Rattle.lp_plain.specs.Assuming.{IsPlaceAt, KeepsAssumed, lists_of}
 use Rattle.lp_plain.specs.Entries.{KeepsGoals}
-use Rattle.lp_plain.specs.Moving.{Query, AreAlternatives, AreBoundInTurn, IsBack, IsBranchUnder, IsState, IsTasksOf, MovesTo, mark_in, of_call, of_side}
+use Rattle.lp_plain.specs.Moving.{Query, AreAlternatives, AreBoundInTurn, IsBack, IsBranchUnder, IsState, IsTasksOf, MovesTo, mark_in, of_call, of_side, quiet}
 use Rattle.lp_plain.specs.Restoring.{GoesBack, IsTaken}
 use Rattle.lp_plain.specs.Searching.{AreNested, StandForAll, last_ending}
 use Rattle.lp_plain.specs.Stacks.{base_of, stack_of}
@@ -41,14 +41,16 @@ pub record IsSideTask (qv : Query) (m : Machine) (c : Choice) (z : Closing) (f :
   pub is : ts ≡ Go branch ∷ []
   pub under : IsBranchUnder qv levels m.bank z f l u c.pairs.items b branch
 
-pub side_task : (qv : Query) (m : Machine) (c : Choice) (z : Closing) (f : ℕ → ℕ) (l u : ℕ) (b : Branch) (from : Option ℕ) (rs ts : List Task) → c.untried ≡ Untried.Goals from → rs ≡ Go b ∷ [] → IsTasksOf qv m c z f l u rs ts →
+pub side_task : (qv : Query) (m : Machine) (c : Choice) (z : Closing) (f : ℕ → ℕ) (l u : ℕ) (b : Branch) (from : Option ℕ) (rs ts : List Task) →
+    c.untried ≡ Untried.Goals from → rs ≡ Go b ∷ [] → IsTasksOf qv m c z f l u rs ts →
     IsSideTask qv m c z f l u b ts
 side_task qv m c z f l u b from rs ts e r (of_side lv x d p q w) =
     let same : x ≡ b = (let y : Go x ∷ [] ≡ Go b ∷ [] = sym p ∙ r in cc) in
     record { levels = lv; branch = d; is = q; under = subst (λ o. IsBranchUnder qv lv m.bank z f l u c.pairs.items o d) same w }
 side_task qv m c z f l u b from rs ts e r (of_call lv call one xs cs t y e' x d k o a p q w v kc) = absurd (let j : Untried.Goals from ≡ Untried.Clauses call one = sym e ∙ o in cc)
 
-pub side_state : (qv : Query) (m n q : Machine) (c : Choice) (rest : List Choice) (from : Option ℕ) → m.choices.items ≡ rest ++ c ∷ [] → c.untried ≡ Untried.Goals from → base_of m.denied ≤ length rest → IsTaken m n c rest → GoesBack m q c rest →
+pub side_state : (qv : Query) (m n q : Machine) (c : Choice) (rest : List Choice) (from : Option ℕ) → m.choices.items ≡ rest ++ c ∷ [] → c.untried ≡
+    Untried.Goals from → base_of m.denied ≤ length rest → IsTaken m n c rest → GoesBack m q c rest →
     KeepsGoals n q → KeepsAssumed n q → q.frames ≡ n.frames → q.branch.pairs ≡ n.branch.pairs → (s : State Task) → IsBack qv m s → IsState qv q s
 side_state qv m n q c rest from e u l t g k ka fr qp s h =
     let b = base_of m.denied in
@@ -78,7 +80,8 @@ side_state qv m n q c rest from e u l t g k ka fr qp s h =
     let backs = all_back m n a c rest t sd.kept xs nest.0 0 sp.raws sp.stand in
     let gb = subst (Grows n.bindings) (sym k.known.bindings) (grows_same n.bindings) in
     let older = alternatives_marked qv q f f' b b xs sp.raws sp.others (λ i p r. agree i p (omega (arith, r)))
-    (alternatives_on qv n q a a sn ga sa gb f b b 0 xs sp.raws sp.others backs (all_older_back qv m n a c rest t sd.kept sp.is.bound_terms sp.is.bound_types f b b xs sp.raws sp.others nest.0 turn.0 sp.are)) in
+    (alternatives_on qv n q a a sn ga sa gb f b b 0 xs sp.raws sp.others backs (all_older_back qv m n a c rest t sd.kept sp.is.bound_terms
+    sp.is.bound_types f b b xs sp.raws sp.others nest.0 turn.0 sp.are)) in
     let stands = all_stand_on n q a a sn ga sa xs 0 sp.raws backs in
     let at = g.branch a sd.side sd.at in
     record {
@@ -123,7 +126,6 @@ side_state qv m n q c rest from e u l t g k ka fr qp s h =
             (branch_marked qv st.levels m.bank sp.is.closing b (b + length xs) c.pairs.items f f' agree sd.side st.branch st.under))));
         counted = record {
           steps = h.counted.steps ∙ ap (λ z. z.limit - z.steps) (sym g.counts);
-          total = (let q = h.counted.total in let e = ap (λ z. z.steps) (g.counts) in omega (arith, q, e));
           rows = h.counted.rows;
           row = h.counted.row ∙ ap (λ z. 1000000 - z.row) (sym g.counts);
           lost = h.counted.lost ∙ ap (λ z. z.lost) (sym g.counts);
@@ -138,11 +140,9 @@ no_tasks qv m f l k [] [] (ts ∷ tss) e h = absurd h
 no_tasks qv m f l k [] (rs ∷ rss) tss e h = absurd h
 no_tasks qv m f l k (c ∷ cs) rss tss e h = absurd (cc)
 
-pub none_moved : (qv : Query) (m n : Machine) (s : State Task) (b : Bool) → m.choices.items ≡ [] → m.counts.lost ≡ b → n.counts.steps ≡ m.counts.steps → IsBack qv m s → MovesTo qv (Turn.Ended (last_ending b)) n s
-none_moved qv m n s b e l c h k ea go enough P =
+pub none_moved : (qv : Query) (m n : Machine) (s : State Task) (b : Bool) → m.choices.items ≡ [] → m.counts.lost ≡ b → IsBack qv m s → MovesTo quiet qv (Turn.Ended (last_ending b)) n s
+none_moved qv m n s b e l h k ea go enough P =
     let d = base_of m.denied in
     let none = no_tasks qv m (mark_in d h.above.raws) d d (drop d m.choices.items) h.above.raws h.above.others (drop_none d m.choices.items e) h.above.are in
-    let st : s.stack ≡ [] = h.above.is ∙ ap stack_of none in (
-      (λ i. move_at go (look unit_limit enough P) s.steps (ea i) s.given s.rows s.row ((h.counted.lost ∙ l) i) (st i)) ∙ stops_so go (look unit_limit enough P) s.steps k s.given s.rows s.row b,
-      (let t = h.counted.total in omega (arith, t, c)),
-    )
+    let st : s.stack ≡ [] = h.above.is ∙ ap stack_of none in
+    (refl, (λ i. move_at go (look unit_limit enough P) s.steps (ea i) s.given s.rows s.row ((h.counted.lost ∙ l) i) (st i)) ∙ stops_so go (look unit_limit enough P) s.steps k s.given s.rows s.row b)

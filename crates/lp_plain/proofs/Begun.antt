@@ -113,10 +113,10 @@ module _ (d : Declared) (p : Program) (q : Typed) (P : List Clause) (gs : Goals)
   }
 
   pub begun_between : (s : Search) (steps answers n : ℕ) → s.ended ≡ None → s.given ≡ 0 → s.answers ≡ answers → length s.variables.items ≡ k →
-      IsState (record { types = q.type_vars; vars = k; arity = ar; limit = steps; outer = [] }) s.machine (start q.type_vars k gs steps answers) → HasClauses P ar
+      IsState (record { types = q.type_vars; vars = k; arity = ar; outer = [] }) s.machine (start q.type_vars k gs steps answers) → HasClauses P ar
       s.machine → IsBetween P n s (start q.type_vars k gs steps answers)
   begun_between s steps answers n e g a v st cl =
-      goes_on (record { types = q.type_vars; vars = k; arity = ar; limit = steps; outer = [] }) e (record { alone = refl; are = v })
+      goes_on (record { types = q.type_vars; vars = k; arity = ar; outer = [] }) e (record { alone = refl; are = v })
       (record { given = sym g; left = omega (arith, a, g) }) (begins g st) cl (typed n steps answers)
 
 -- while the bank grows

@@ -1,5 +1,5 @@
 -- The turn of a call: its step, and then its first candidate.
-use Rattle.std.proofs.Common.{◌≡◌, ◌⊎◌, ℕ, suc, ◌<◌, ◌≤◌, List, [], ◌∷◌, ◌++◌, map, length, refl, sym, ap, inl, inr, ◌∙◌, subst, arith, Bool, false, Option, Some, nat_eq}
+use Rattle.std.proofs.Common.{◌≡◌, ℕ, suc, ◌<◌, ◌≤◌, List, [], ◌∷◌, ◌++◌, map, length, refl, sym, ap, inl, inr, ◌∙◌, subst, arith, Bool, false, Option, Some, nat_eq}
 use Rattle.std.specs.Prelude.{if◌then◌else◌, ◌&&◌, nat_le, true}
 use Rattle.std.proofs.lemmas.List.{length-map}
 use Rattle.std.proofs.lemmas.Bool.{ne_eqb}
@@ -34,12 +34,13 @@ use Rattle.lp_plain.specs.declared.machine.Machine.{Machine}
 use Rattle.lp_plain.specs.declared.outcome.Turn.{Turn}
 use Rattle.lp_plain.specs.AtRunTime.{IsAtLooked, IsAtomForm}
 use Rattle.lp_plain.specs.Assuming.{HasHead, head_term}
-use Rattle.lp_plain.specs.Calling.{AreFewAt, CallLeads, HaveHeads, IsAtCall, IsProgramIn, LeadsOf, LeadsOver, LeadsWith, WrittenBehind}
+use Rattle.lp_plain.specs.Calling.{AreFewAt, CallLeads, HaveHeads, IsAtCall, IsProgramIn, LeadsOf, LeadsOver, LeadsWith, LeavesTries, WrittenBehind, no_tries, some_tries}
 use Rattle.lp_plain.specs.Candidates.{IsIndex, numbers}
 use Rattle.lp_plain.specs.Entries.{Around}
 use Rattle.lp_plain.specs.Cuts.{one_step}
 use Rattle.lp_plain.specs.Forms.{IsCall, IsFirst}
-use Rattle.lp_plain.specs.Moving.{IsBack, IsGoingOn, IsRunning, KeepsSearch, Leads, LeadsTo, Query}
+use Rattle.lp_plain.specs.Moving.{IsGoingOn, IsRunning, KeepsSearch, Leads, LeadsTo, Query, Tally, quiet, taking}
+use Rattle.lp_plain.specs.Hearing.{form_name}
 use Rattle.lp_plain.specs.Resuming.{clause_with}
 use Rattle.lp_plain.specs.Starts.{AreProgramOf}
 use Rattle.lp_plain.specs.Trials.{IsCallHead}
@@ -100,27 +101,27 @@ program_later m n x et ei ar css r = record {
 }
 
 -- what one move leads to two lead to, and W holds behind it
-with_left : (W : Type 0) → W → (qv : Query) (turn : Turn) (n : Machine) (go : (Answer → Bool) → State Task → Inner)
-    (see : ℕ → Task → View Task Answer) (s : State Task) → Leads 0 qv turn n go see s → LeadsWith W 0 qv turn n go see s
-with_left W w qv turn n go see s (inl h) = inl (h, w)
-with_left W w qv turn n go see s (inr h) = inr h
+with_left : (W : Type 0) → W → (x : Tally) (qv : Query) (turn : Turn) (n : Machine) (go : (Answer → Bool) → State Task → Inner)
+    (see : ℕ → Task → View Task Answer) (s : State Task) → Leads 0 x qv turn n go see s → LeadsWith W 0 x qv turn n go see s
+with_left W w x qv turn n go see s (inl h) = inl (h, w)
+with_left W w x qv turn n go see s (inr h) = inr h
 
-pub leads_with : (W : Type 0) → W → (qv : Query) (turn : Turn) (n : Machine) (go : (Answer → Bool) → State Task → Inner)
-    (see : ℕ → Task → View Task Answer) (s : State Task) → Leads 1 qv turn n go see s → LeadsWith W 1 qv turn n go see s
-leads_with W w qv turn n go see s (inl h) = inl (h, w)
-leads_with W w qv turn n go see s (inr (inl h)) = inr (inl h)
-leads_with W w qv turn n go see s (inr (inr (k, ns, t, e, a, g, h))) = inr (inr (k, ns, t, e, a, g, with_left W w qv turn n go see t h))
+pub leads_with : (W : Type 0) → W → (x : Tally) (qv : Query) (turn : Turn) (n : Machine) (go : (Answer → Bool) → State Task → Inner)
+    (see : ℕ → Task → View Task Answer) (s : State Task) → Leads 1 x qv turn n go see s → LeadsWith W 1 x qv turn n go see s
+leads_with W w x qv turn n go see s (inl h) = inl (h, w)
+leads_with W w x qv turn n go see s (inr (inl h)) = inr (inl h)
+leads_with W w x qv turn n go see s (inr (inr (y, z, t, q, e, a, g, h))) = inr (inr (y, z, t, q, e, a, g, with_left W w z qv turn n go see t h))
 
-more_left : (W : Type 0) (qv : Query) (turn : Turn) (n : Machine) (go : (Answer → Bool) → State Task → Inner) (see : ℕ → Task → View Task Answer)
-    (s : State Task) → LeadsWith W 0 qv turn n go see s → LeadsWith W 1 qv turn n go see s
-more_left W qv turn n go see s (inl h) = inl h
-more_left W qv turn n go see s (inr h) = inr (inl h)
+more_left : (W : Type 0) (x : Tally) (qv : Query) (turn : Turn) (n : Machine) (go : (Answer → Bool) → State Task → Inner) (see : ℕ → Task → View Task Answer)
+    (s : State Task) → LeadsWith W 0 x qv turn n go see s → LeadsWith W 1 x qv turn n go see s
+more_left W x qv turn n go see s (inl h) = inl h
+more_left W x qv turn n go see s (inr h) = inr (inl h)
 
-pub leads_more : (W : Type 0) (qv : Query) (turn : Turn) (n : Machine) (go : (Answer → Bool) → State Task → Inner) (see : ℕ → Task → View Task Answer)
-    (s : State Task) → LeadsWith W 1 qv turn n go see s → LeadsWith W 2 qv turn n go see s
-leads_more W qv turn n go see s (inl h) = inl h
-leads_more W qv turn n go see s (inr (inl h)) = inr (inl h)
-leads_more W qv turn n go see s (inr (inr (k, ns, t, e, a, g, h))) = inr (inr (k, ns, t, e, a, g, more_left W qv turn n go see t h))
+pub leads_more : (W : Type 0) (x : Tally) (qv : Query) (turn : Turn) (n : Machine) (go : (Answer → Bool) → State Task → Inner) (see : ℕ → Task → View Task Answer)
+    (s : State Task) → LeadsWith W 1 x qv turn n go see s → LeadsWith W 2 x qv turn n go see s
+leads_more W x qv turn n go see s (inl h) = inl h
+leads_more W x qv turn n go see s (inr (inl h)) = inr (inl h)
+leads_more W x qv turn n go see s (inr (inr (y, z, t, q, e, a, g, h))) = inr (inr (y, z, t, q, e, a, g, more_left W z qv turn n go see t h))
 
 pub written_behind : (turn : Turn) (n : Machine) (ar : ℕ → ℕ) → IsWrittenSearch n ar → WrittenBehind turn n ar
 written_behind Turn.On n ar w = w
@@ -129,15 +130,15 @@ written_behind Turn.Answered n ar w = w
 written_behind (Turn.Ended e) n ar w = tt
 
 -- over one program, where all in the search is written behind it
-pub over_next : (qv : Query) (turn : Turn) (n : Machine) (s : State Task) (P : List Clause) → WrittenBehind turn n qv.arity →
+pub over_next : (x : Tally) (qv : Query) (turn : Turn) (n : Machine) (s : State Task) (P : List Clause) → WrittenBehind turn n qv.arity →
     ((k : ℕ) → s.answers ≡ suc k → (go : (Answer → Bool) → State Task → Inner) (enough : ℕ) → AreFewAt turn enough s.stack → IsTypedOver qv.arity
-    enough P s → Leads 1 qv turn n go (look unit_limit enough P) s) → LeadsOver 2 qv turn n s P
-over_next qv turn n s P wr l =
-    λ w ea go enough few ty. leads_more (WrittenBehind turn n qv.arity) qv turn n go (look unit_limit enough P) s
-    (leads_with (WrittenBehind turn n qv.arity) wr qv turn n go (look unit_limit enough P) s (l w ea go enough few ty))
+    enough P s → Leads 1 x qv turn n go (look unit_limit enough P) s) → LeadsOver 2 x qv turn n s P
+over_next x qv turn n s P wr l =
+    λ w ea go enough few ty. leads_more (WrittenBehind turn n qv.arity) x qv turn n go (look unit_limit enough P) s
+    (leads_with (WrittenBehind turn n qv.arity) wr x qv turn n go (look unit_limit enough P) s (l w ea go enough few ty))
 
-pub over_one : (qv : Query) (turn : Turn) (n : Machine) (s : State Task) → LeadsTo 1 qv turn n s → WrittenBehind turn n qv.arity → (P : List Clause) → LeadsOver 2 qv turn n s P
-over_one qv turn n s l wr P = over_next qv turn n s P wr (λ w ea go enough few ty. l w ea go enough (λ e. (few e).0) P ty)
+pub over_one : (x : Tally) (qv : Query) (turn : Turn) (n : Machine) (s : State Task) → LeadsTo 1 x qv turn n s → WrittenBehind turn n qv.arity → (P : List Clause) → LeadsOver 2 x qv turn n s P
+over_one x qv turn n s l wr P = over_next x qv turn n s P wr (λ w ea go enough few ty. l w ea go enough (λ e. (few e).0) P ty)
 
 -- a move leads from a typed state to a typed one
 typed_after : (ar : ℕ → ℕ) (enough : ℕ) (P : List Clause) (go : (Answer → Bool) → State Task → Inner) (s t : State Task) (k : ℕ) (ns : List Note) →
@@ -151,12 +152,15 @@ typed_after ar enough P go s t k ns e ty = record {
   typed = subst (IsMoveTyped enough ty.declared P ty.query) e (typed_move enough ty.declared P ty.query ty.standard ty.program go s ty.typed);
 }
 
--- two moves, the first of which is the step
+-- two moves, the first of which is the step: it leaves tries, or the search is to go back
 step_then : (qv : Query) (turn : Turn) (n : Machine) (go : (Answer → Bool) → State Task → Inner) (see : ℕ → Task → View Task Answer)
-    (s t : State Task) (k : ℕ) (ns : List Note) → move go see s ≡ Goes k ns t → t.answers ≡ s.answers → t.given ≡ s.given →
-    LeadsWith (WrittenBehind turn n qv.arity) 1 qv turn n go see t ⊎ ((turn ≡ Turn.Back) × IsBack qv n t × IsWrittenSearch n qv.arity) → LeadsWith (WrittenBehind turn n qv.arity) 2 qv turn n go see s
-step_then qv turn n go see s t k ns e a g (inl h) = inr (inr (k, ns, t, e, a, g, h))
-step_then qv turn n go see s t k ns e a g (inr h) = subst (λ x. LeadsWith (WrittenBehind x n qv.arity) 2 qv x n go see s) (sym h.0) (inl ((k, ns, t, e, h.1, a, g), h.2))
+    (s t : State Task) (note : Note) (ts rest : List Task) → t.stack ≡ ts ++ rest → move go see s ≡ Goes 1 (note ∷ back ts rest) t → t.answers ≡ s.answers → t.given ≡ s.given →
+    LeavesTries qv turn n go see t ts → LeadsWith (WrittenBehind turn n qv.arity) 2 (taking note) qv turn n go see s
+step_then qv turn n go see s t note [] rest st e a g (some_tries b bs q h) = absurd (cc)
+step_then qv turn n go see s t note (b ∷ bs) rest st e a g (some_tries c cs q h) = inr (inr (taking note, quiet, t, refl, e, a, g, h))
+step_then qv turn n go see s t note [] rest st e a g (no_tries q i h w) =
+    subst (λ x. LeadsWith (WrittenBehind x n qv.arity) 2 (taking note) qv x n go see s) (sym i) (inl ((t, e ∙ ap (λ l. Goes 1 (note ∷ back [] l) t) (sym st), h, a, g), w))
+step_then qv turn n go see s t note (b ∷ bs) rest st e a g (no_tries q i h w) = absurd (cc)
 
 -- a call is one as the bindings read it
 call_mapped : (g : Term → Term) (c : ℕ) (us : List Term) → IsCall c us → IsCall c (map g us)
@@ -206,6 +210,7 @@ module _ (qv : Query) (m c : Machine) (a : Around) (raw : Branch) (s : State Tas
   module _ (enough : ℕ) (P : List Clause) (t : Term) (q : head_normal enough F.goal ≡ Some t) where
     pub record IsSeenCall : Type 0 where
       pub name : GoalName
+      pub named : name ≡ form_name (form.Call hd first)
       pub view : look unit_limit enough P (length h.rest) (Go h.at_work) ≡ Takes name (tries P F.first (behind qv m a raw s h p u o at) (length h.rest) (goal_looked enough t))
       pub same : t ≡ closed h.closing (tree m.bank u.0)
       pub arity_is : HasArity qv.arity (head_of t) → HasArity qv.arity (head_of (tree m.bank u.0))
@@ -226,24 +231,31 @@ module _ (qv : Query) (m c : Machine) (a : Around) (raw : Branch) (s : State Tas
         ap (look_atom unit_limit enough P (length h.rest) F.first (behind qv m a raw s h p u o at) t) w
 
     pub call_seen : IsSeenCall
-    call_seen = by hd i
+    call_seen = by hd refl i
       where
-        by : (hd : Head) → IsAtomForm m.bank (tree m.bank u.0) (form.Call hd first) → IsSeenCall
-        by (head.Constant c) (inl k) =
+        by : (v : Head) → v ≡ hd → IsAtomForm m.bank (tree m.bank u.0) (form.Call v first) → IsSeenCall
+        by (head.Constant c) e (inl k) =
             let g = called_same qv m a raw s h p u o at enough P t q (atom (constant c k.1.0)) k.0 k.1.1 tt in
             record {
               name = named c;
+              named = ap (λ v. form_name (form.Call v first)) e;
               view = form_view (closed h.closing (atom (constant c k.1.0))) g.0 g.1 ∙
                   ap (Takes (named c)) (tried unit_limit enough P (length h.rest) F.first (behind qv m a raw s h p u o at) t c (arguments t)
                   (subst (IsCall c) (sym g.2) (call_mapped (closed h.closing) c (arguments (tree m.bank u.0)) k.1.2)));
               same = same_term (atom (constant c k.1.0)) k.1.1 tt;
               arity_is = λ y. subst (HasArity qv.arity) (sym k.1.1) (sym (length-map k.1.0 (instance h.closing.types)) ∙ subst (HasArity qv.arity) g.1 y);
             }
-        by (head.Eigen j) (inl k) =
+        by (head.Eigen j) e (inl k) =
             let g = called_same qv m a raw s h p u o at enough P t q (atom (eigen j)) k.0 k.1.0 tt in
-            record { name = eigenconstant j; view = form_view (atom (eigen j)) g.0 g.1; same = same_term (atom (eigen j)) k.1.0 tt; arity_is = λ y. subst (HasArity qv.arity) (sym k.1.0) tt }
-        by (head.Constant c) (inr k) = absurd (let z = k.1 in cc)
-        by (head.Eigen j) (inr k) = absurd (let z = k.1 in cc)
+            record {
+              name = eigenconstant j;
+              named = ap (λ v. form_name (form.Call v first)) e;
+              view = form_view (atom (eigen j)) g.0 g.1;
+              same = same_term (atom (eigen j)) k.1.0 tt;
+              arity_is = λ y. subst (HasArity qv.arity) (sym k.1.0) tt;
+            }
+        by (head.Constant c) e (inr k) = absurd (let z = k.1 in cc)
+        by (head.Eigen j) e (inr k) = absurd (let z = k.1 in cc)
 
   -- the call behind its step
   abbrev OfBank : Nodes → Type 0
@@ -290,13 +302,13 @@ module _ (qv : Query) (m c : Machine) (a : Around) (raw : Branch) (s : State Tas
         }
 
     -- the turn of the call, over the program of the search
-    pub call_leads : (n : Machine) (turn : Turn) → CallLeads c n p u hd first o turn → c.branch.goals ≡ o → LeadsOf m n qv turn s
+    pub call_leads : (n : Machine) (turn : Turn) → CallLeads c n p u hd first o turn → c.branch.goals ≡ o → LeadsOf (taking (GoalNote (form_name (form.Call hd first)))) m n qv turn s
     call_leads n turn leads front css r sw = λ w ea go enough few ty.
         let P = all_clauses css in
         let see = look unit_limit enough P in
         let work = behind qv m a raw s h p u o at in
         let l = left qv m c a raw s h p u o at k ch ct there in
-        by_seen qv m a raw s h p u o at enough P (LeadsWith (WrittenBehind turn n qv.arity) 2 qv turn n go see s)
+        by_seen qv m a raw s h p u o at enough P (LeadsWith (WrittenBehind turn n qv.arity) 2 (taking (GoalNote (form_name (form.Call hd first)))) qv turn n go see s)
         (λ e. inr (inl (front_waits qv m a raw s h p at.value at.rest F enough P w ea go e))) (λ t q.
         let seen = call_seen enough P t q in
         let x = tree m.bank u.0 in
@@ -311,12 +323,12 @@ module _ (qv : Query) (m c : Machine) (a : Around) (raw : Branch) (s : State Tas
         (suc l) w s.given s.rows s.row s.lost (Go h.at_work) h.rest ∙
         ap (move_view go (suc l) w s.given s.rows s.row s.lost h.rest) seen.view in
         let moved : closed h.closing x ≡ closed h.closing (tree c.bank u.0) = ap (λ b. closed h.closing (tree b u.0)) (sym k.goals.known.bank) in
-        step_then qv turn n go see s after 1 (GoalNote seen.name ∷ back ts h.rest) first_move (sym ea) refl
+        step_then qv turn n go see s after (GoalNote (form_name (form.Call hd first))) ts h.rest refl (first_move ∙ ap (λ v. Goes 1 (GoalNote v ∷ back ts h.rest) after) seen.named) (sym ea) refl
         (leads front qv a (with_goals raw at.rest) work h.rest g F.first (at_call applied
         (seen.arity_is (front_arity qv.arity enough P s ty h.at_work h.rest h.stack F.first F.rest F.whole F.goal t enough F.is q)) known) css
         (program_later m c (subst (Extends m.bank) (sym k.goals.known.bank) (extends_same m.bank)) k.goals.known.table k.goals.known.index
         qv.arity css r)
         (search_same m c h.above.done.stands (grows_kept m c k.goals) k.frames k.assumed (ap (λ v. v.items) ch) qv.arity sw) after w refl
-        (step_counted qv m c a raw s h ct there (suc w) (ts ++ h.rest)) go enough (λ d. (few d).0)
+        (step_counted qv m c a raw s h ct (suc w) (ts ++ h.rest)) go enough (λ d. (few d).0)
         (typed_after qv.arity enough P go s after 1 (GoalNote seen.name ∷ back ts h.rest) first_move ty)
-        (ap (λ y. tries P F.first work (length h.rest) (goal_looked enough y) ++ h.rest) (seen.same ∙ moved))))
+        ts (ap (λ y. tries P F.first work (length h.rest) (goal_looked enough y)) (seen.same ∙ moved)) refl))

@@ -175,7 +175,6 @@ call_state qv m n c rest call one e u l t s h =
           (subst (λ o. IsBranchUnder qv ct.levels m.bank z f' b (b + length xs) o ca.rest ct.rest) (sym t.pairs) (branch_marked qv ct.levels m.bank z b (b + length xs) c.pairs.items f f' agree ca.rest ct.rest ct.under))));
       counted = record {
         steps = h.counted.steps ∙ ap (λ o. o.limit - o.steps) (sym t.counts);
-        total = (let q = h.counted.total in let e = ap (λ z. z.steps) (t.counts) in omega (arith, q, e));
         rows = h.counted.rows;
         row = h.counted.row ∙ ap (λ o. 1000000 - o.row) (sym t.counts);
         lost = h.counted.lost ∙ ap (λ o. o.lost) (sym t.counts);

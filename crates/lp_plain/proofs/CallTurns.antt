@@ -1,6 +1,6 @@
 -- A call behind its step: about to try its first candidate, or without one, or too deep.
 use Rattle.std.proofs.Common.{◌≡◌, ℕ, suc, List, [], ◌∷◌, ◌++◌, cond, map, length, refl, sym, ap, inl, inr, ◌∙◌, subst, arith, Option, None, Some, true, false}
-use Rattle.std.specs.Prelude.{Bool, filter}
+use Rattle.std.specs.Prelude.{Bool, filter, if◌then◌else◌}
 use Rattle.lp_calculus.specs.Fill.{Within}
 use Rattle.lp_calculus.specs.Spine.{head_of}
 use Rattle.lp_calculus.specs.Term.{Term, Atom, constant, eigen, integer, logic, param, text}
@@ -26,11 +26,13 @@ use Rattle.lp_plain.specs.declared.head.Key.{Key}
 use Rattle.lp_plain.specs.declared.machine.Machine.{Machine}
 use Rattle.lp_plain.specs.declared.outcome.Turn.{Turn}
 use Rattle.lp_plain.specs.Assuming.{HasAssumed, IsPlaceAt, Lists, head_term, links, lists_of}
-use Rattle.lp_plain.specs.Candidates.{AreLeft}
+use Rattle.lp_plain.specs.Followed.{clause_by}
+use Rattle.lp_plain.specs.Candidates.{AreLeft, IsChain, nexts}
+use Rattle.lp_plain.specs.Candidates.{passes as kept_clause}
 use Rattle.lp_plain.specs.Calling.{IsAtCall, IsProgramIn, LeadsWith, WrittenBehind}
 use Rattle.lp_plain.specs.Entries.{Around}
 use Rattle.lp_plain.specs.HeadLooks.{with_bank}
-use Rattle.lp_plain.specs.Moving.{AreClausesWritten, AreKnownTries, HasAlternatives, HasNoVariable, IsBack, IsCounted, IsGoingOn, IsTrying, Query, mark_in, tries_under}
+use Rattle.lp_plain.specs.Moving.{AreClausesWritten, AreKnownTries, HasAlternatives, HasNoVariable, IsBack, IsCounted, IsGoingOn, IsTrying, Query, mark_in, tries_under, quiet}
 use Rattle.lp_plain.specs.Stacks.{base_of}
 use Rattle.lp_plain.specs.Resuming.{AllOfAssumed, AllOfClause}
 use Rattle.lp_plain.specs.Trials.{IsCallHead, goal_of}
@@ -49,7 +51,7 @@ use Rattle.lp_plain.proofs.WrittenPut.{clause_put}
 
 -- a look that takes too many steps waits
 pub lacks_on : (qv : Query) (turn : Turn) (n : Machine) (go : (Answer → Bool) → State Task → Inner) (enough : ℕ) (P : List Clause) (s : State Task)
-    (k : ℕ) (below : List Task) → s.answers ≡ suc k → s.stack ≡ Lack ∷ below → LeadsWith (WrittenBehind turn n qv.arity) 1 qv turn n go
+    (k : ℕ) (below : List Task) → s.answers ≡ suc k → s.stack ≡ Lack ∷ below → LeadsWith (WrittenBehind turn n qv.arity) 1 quiet qv turn n go
     (look unit_limit enough P) s
 lacks_on qv turn n go enough P s k below ea es =
     let see = look unit_limit enough P in
@@ -168,27 +170,65 @@ module _ (qv : Query) (m : Machine) (b : Nodes) (x : Extends m.bank b) (a : Arou
         (map (λ c. Try c (closed z now) e work (length below))) (candidates_kept z now head_is seen.key_kept P A c.heads) ∙
         sym (all_tasks z (lists_of n) (closed z now) e work (length below) f.numbers_assumed (filter (has_head now) A) f.assumed_are f.numbers_program (filter (passes now) P) f.program_are)
 
-    module _ (s : State Task) (stack : s.stack ≡ tries P e work (length below) (Some (closed z now)) ++ below) (counted : IsCounted qv m s) where
+    no_tasks : (ks : List Candidate) → ks ≡ [] → tries_under z ks clauses (closed z now) e work (length below) ≡ []
+    no_tasks [] q = refl
+    no_tasks (k ∷ ks) q = absurd (cc)
+
+    empty : o ≡ None → tries_under z left clauses (closed z now) e work (length below) ≡ []
+    empty none = no_tasks left (subst (λ y. AreLeft n.bank n.table.rules.items (links n.assumptions.items) (first_in n hd) key y left) none f.found_left)
+
+    pub none_left : o ≡ None → tries P e work (length below) (Some (closed z now)) ≡ []
+    none_left none = tasks_are ∙ empty none
+
+    -- a candidate that was found is the first of them
+    chain_some : (ns : List ℕ) (o : List (Option ℕ)) (i : ℕ) → IsChain o (Some i) ns → (ks : List ℕ) × (ns ≡ i ∷ ks)
+    chain_some [] o i h = absurd (cc)
+    chain_some (k ∷ ks) o i h = let a = h.1 in let e : k ≡ i = cc in (ks, ap (λ j. j ∷ ks) e)
+
+    left_some : (one : Candidate) (ks : List Candidate) → AreLeft n.bank n.table.rules.items (links n.assumptions.items) (first_in n hd) key
+        (Some one) ks → (k : Candidate) × (rest : List Candidate) × (ks ≡ k ∷ rest)
+    left_some (candidate.Assumed i) ks h =
+        let e = chain_some h.0 (links n.assumptions.items) i h.2 in (
+          candidate.Assumed i,
+          map (λ j. candidate.Assumed j) e.0 ++ map (λ j. candidate.Program j) (filter (kept_clause n.bank n.table.rules.items key) h.1),
+          h.4 ∙ ap (λ l. map (λ j. candidate.Assumed j) l ++ map (λ j. candidate.Program j) (filter (kept_clause n.bank n.table.rules.items key) h.1)) e.1,
+        )
+    left_some (candidate.Program i) ks h =
+        let p = kept_clause n.bank n.table.rules.items key in
+        let w = h.1 in
+        let e = chain_some w.0 (nexts n.table.rules.items) i w.1 in (
+          candidate.Program i,
+          map (λ j. candidate.Program j) (filter p e.0),
+          h.2 ∙ ap (map (λ j. candidate.Program j)) (w.2 ∙ ap (filter p) e.1 ∙ ap (λ b. if b then i ∷ filter p e.0 else filter p e.0) w.3),
+        )
+
+    tasks_some : (ks : List Candidate) (cs : List Clause) → AreCandidates (lists_of n) ks cs → (k : Candidate) (rest : List Candidate) → ks ≡ k ∷ rest →
+        (t : Task) × (ts : List Task) × (tries_under z ks cs (closed z now) e work (length below) ≡ t ∷ ts)
+    tasks_some [] cs h k rest q = absurd (cc)
+    tasks_some (x ∷ ks) [] h k rest q = absurd h
+    tasks_some (x ∷ ks) (c ∷ cs) h k rest q = (Try (clause_by z x c) (closed z now) e work (length below), tries_under z ks cs (closed z now) e work (length below), refl)
+
+    pub some_left : (one : Candidate) → o ≡ Some one → (t : Task) × (ts : List Task) × (tries P e work (length below) (Some (closed z now)) ≡ t ∷ ts)
+    some_left one some =
+        let k = left_some one left (subst (λ y. AreLeft n.bank n.table.rules.items (links n.assumptions.items) (first_in n hd) key y left) some f.found_left) in
+        let r = tasks_some left clauses (candidates_append (lists_of n) (map (λ i. candidate.Assumed i) f.numbers_assumed)
+        (map (λ i. candidate.Program i) f.numbers_program) (filter (has_head now) A) (filter (passes now) P) f.assumed_are f.program_are) k.0 k.1 k.2 in
+        (r.0, r.1, tasks_are ∙ r.2)
+
+    module _ (s : State Task) (stack : s.stack ≡ tries P e work (length below) (Some (closed z now)) ++ below) (counted : IsCounted m s) where
       stack_now : s.stack ≡ tries_under z left clauses (closed z now) e work (length below) ++ below
       stack_now = stack ∙ ap (λ ts. ts ++ below) tasks_are
 
-      counted_now : IsCounted qv n s
-      counted_now = record { steps = counted.steps; total = counted.total; rows = counted.rows; row = counted.row; lost = counted.lost }
+      counted_now : IsCounted n s
+      counted_now = record { steps = counted.steps; rows = counted.rows; row = counted.row; lost = counted.lost }
 
       pub none_back : o ≡ None → IsBack qv n s
       none_back none = record {
         around = a;
-        above = subst (HasAlternatives qv n a) (sym (stack_now ∙ ap (λ ts. ts ++ below) empty))
+        above = subst (HasAlternatives qv n a) (sym (stack_now ∙ ap (λ ts. ts ++ below) (empty none)))
             (bank_alternatives m b x qv a below g.above);
         counted = counted_now;
       }
-        where
-          no_tasks : (ks : List Candidate) → ks ≡ [] → tries_under z ks clauses (closed z now) e work (length below) ≡ []
-          no_tasks [] q = refl
-          no_tasks (k ∷ ks) q = absurd (cc)
-
-          empty : tries_under z left clauses (closed z now) e work (length below) ≡ []
-          empty = no_tasks left (subst (λ y. AreLeft n.bank n.table.rules.items (links n.assumptions.items) (first_in n hd) key y left) none f.found_left)
 
       pub some_trying : (one : Candidate) → o ≡ Some one → IsTrying qv n a call one s
       some_trying one some =

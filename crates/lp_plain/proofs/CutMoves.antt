@@ -21,7 +21,7 @@ use Rattle.lp_plain.specs.declared.table.Flat.{Flat}
 use Rattle.lp_plain.specs.Assuming.{ArePlaced, GrowsOn, IsLaterAround, IsPlaceAt, lists_of}
 use Rattle.lp_plain.specs.Cuts.{Cuts}
 use Rattle.lp_plain.specs.Entries.{Around, Reads, entry_at}
-use Rattle.lp_plain.specs.Moving.{Query, IsGoalUnder, AreEntriesUnder, IsBranchUnder, IsEntryUnder, IsAtGoal, IsMoved, IsRunning, IsState, KeepsSearch, MovesTo, mark_in}
+use Rattle.lp_plain.specs.Moving.{Query, IsGoalUnder, AreEntriesUnder, IsBranchUnder, IsEntryUnder, IsAtGoal, IsMoved, IsRunning, IsState, KeepsSearch, MovesTo, mark_in, quiet, taking}
 use Rattle.lp_plain.specs.Resuming.{AreKnownEntries}
 use Rattle.lp_plain.specs.Stacks.{base_of, stack_of, CutsTasks}
 use Rattle.lp_plain.specs.Tables.{IsGoal, Never, shown}
@@ -77,7 +77,8 @@ module _ (qv : Query) (m n : Machine) (a : Around) (raw : Branch) (s : State Tas
   stands : StandsIn n
   stands = same_stands m n k.goals k.frames h.above.done.stands
 
-  counted : (length h.above.raws ≡ length (drop base m.choices.items)) × (length h.above.others ≡ length (drop base m.choices.items)) × (length (stack_of h.above.others) ≡ length (stack_of h.above.raws))
+  counted : (length h.above.raws ≡ length (drop base m.choices.items)) × (length h.above.others ≡ length (drop base m.choices.items)) ×
+      (length (stack_of h.above.others) ≡ length (stack_of h.above.raws))
   counted = counts_same qv m f base base (drop base m.choices.items) h.above.raws h.above.others h.above.are
 
   abbrev kept : List (List Task)
@@ -95,7 +96,8 @@ module _ (qv : Query) (m n : Machine) (a : Around) (raw : Branch) (s : State Tas
   mark_is : sp.first.mark ≡ length (stack_of kept)
   mark_is =
       let j = e.mark - base in
-      let r = counts_same qv m f base base (take j (drop base m.choices.items)) (take j h.above.raws) kept (alternatives_taken qv m f base j base (drop base m.choices.items) h.above.raws h.above.others h.above.are) in
+      let r = counts_same qv m f base base (take j (drop base m.choices.items)) (take j h.above.raws) kept
+      (alternatives_taken qv m f base j base (drop base m.choices.items) h.above.raws h.above.others h.above.are) in
       sp.entry.mark ∙ sym r.2
 
   tasks : CutsTasks m n e.mark sp.first.mark h.above.others
@@ -115,7 +117,8 @@ module _ (qv : Query) (m n : Machine) (a : Around) (raw : Branch) (s : State Tas
   here : IsBranchUnder qv h.levels n.bank h.closing (mark_in base raws) base e.mark m.branch.pairs.items after at_work
   here =
       branch_on qv h.levels m.bank h.closing base e.mark m.branch.pairs.items n.bank bank h.left (mark_in base raws) after at_work
-      (branch_marked qv h.levels m.bank h.closing base e.mark m.branch.pairs.items f (mark_in base raws) (λ i p q. marks_fewer base (e.mark - base) h.above.raws i (omega (arith, p, q))) after at_work (record {
+      (branch_marked qv h.levels m.bank h.closing base e.mark m.branch.pairs.items f (mark_in base raws)
+      (λ i p q. marks_fewer base (e.mark - base) h.above.raws i (omega (arith, p, q))) after at_work (record {
         goals = sp.others;
         next = h.under.next;
         next_type = h.under.next_type;
@@ -189,7 +192,6 @@ module _ (qv : Query) (m n : Machine) (a : Around) (raw : Branch) (s : State Tas
       under = under;
       counted = record {
         steps = ap (λ x. x.limit - x.steps) (sym c.counts);
-        total = (let q = h.counted.steps in let t = h.counted.total in let e = ap (λ z. z.steps) c.counts in let l = there in omega (arith, q, t, e, l));
         rows = h.counted.rows;
         row = h.counted.rows ∙ ap (λ x. 1000000 - x.row) (sym c.counts);
         lost = ap (λ x. x || nat_lt sp.first.mark (length h.rest)) h.counted.lost ∙ ap (λ x. m.counts.lost || nat_lt sp.first.mark (length x)) h.above.is ∙ sym tasks.lost;
@@ -211,8 +213,8 @@ module _ (qv : Query) (m n : Machine) (a : Around) (raw : Branch) (s : State Tas
         (λ i. move_at go (look unit_limit enough P) (steps_are i) (ea i) s.given s.rows s.row s.lost (h.stack i)) ∙
         by_lost go (look unit_limit enough P) (suc left) w s.given s.rows s.row s.lost (Go h.at_work) h.rest ∙ ap (move_view go (suc left) w s.given s.rows s.row s.lost h.rest) looked
 
-    pub cut_moves : IsMoved qv Turn.On n (move go (look unit_limit enough P) s) s
-    cut_moves = (1, CutNote ∷ [], next w, moved, is_state w, sym ea, refl)
+    pub cut_moves : IsMoved (taking CutNote) qv Turn.On n (move go (look unit_limit enough P) s) s
+    cut_moves = (next w, moved, is_state w, sym ea, refl)
 
 -- by the goal at hand
 cut_is : (m : Machine) (g : Goal) → IsGoal m.bank Never (shown m.table) Flat.Cut g → g ≡ Cut
@@ -224,15 +226,17 @@ cut_is m (Forall T gs) h = absurd (let z = h.1 in cc)
 cut_is m (Assume w cs gs) h = absurd (let z = h.3 in cc)
 cut_is m (Not w gs) h = absurd (let z = h.2 in cc)
 
-pub cut_moved : (qv : Query) (m n : Machine) (p : Place) (o : Option ℕ) → KeepsSearch m n o → Cuts m n p.mark o → m.counts.steps < m.counts.limit → (a : Around) (raw : Branch) (s : State Task) → IsRunning qv m a raw s → IsAtGoal m a p Flat.Cut o raw →
-    MovesTo qv Turn.On n s
+pub cut_moved : (qv : Query) (m n : Machine) (p : Place) (o : Option ℕ) → KeepsSearch m n o → Cuts m n p.mark o → m.counts.steps < m.counts.limit →
+    (a : Around) (raw : Branch) (s : State Task) → IsRunning qv m a raw s → IsAtGoal m a p Flat.Cut o raw →
+    MovesTo (taking CutNote) qv Turn.On n s
 cut_moved qv m n p o k c l a raw s h at w ea go enough P =
     let q = ap (goal_in at.values p.values.types) (cut_is m at.goal at.is) in
     cut_moves qv m n a raw s h o (entry_at a p (goal_in at.values p.values.types at.goal)) at.rest k at.reads at.goals q (subst (λ i. Cuts m n i o) (sym (h.above.numbers p.mark)) c) l w ea go enough P
 
 -- no step is left
-pub cut_stops : (qv : Query) (m n : Machine) (p : Place) (o : Option ℕ) → m.counts.limit ≤ m.counts.steps → n.counts.steps ≡ m.counts.steps → (a : Around) (raw : Branch) (s : State Task) → IsRunning qv m a raw s → IsAtGoal m a p Flat.Cut o raw → MovesTo qv (Turn.Ended Steps) n s
-cut_stops qv m n p o l c a raw s h at w ea go enough P =
+pub cut_stops : (qv : Query) (m n : Machine) (p : Place) (o : Option ℕ) → m.counts.limit ≤ m.counts.steps → (a : Around) (raw : Branch)
+    (s : State Task) → IsRunning qv m a raw s → IsAtGoal m a p Flat.Cut o raw → MovesTo quiet qv (Turn.Ended Steps) n s
+cut_stops qv m n p o l a raw s h at w ea go enough P =
     let e = entry_at a p (goal_in at.values p.values.types at.goal) in
     let b = base_of m.denied in
     let sp = split_under h.closing (mark_in b h.above.raws) b (length m.choices.items) e at.rest h.at_work.goals
@@ -242,7 +246,8 @@ cut_stops qv m n p o l c a raw s h at w ea go enough P =
     ap (look_branch unit_limit enough P (length h.rest) h.at_work) sp.whole ∙ ap (look_goal unit_limit enough P (length h.rest) sp.first behind)
     (subst (λ g. IsGoalUnder h.closing g sp.first.goal) (ap (goal_in at.values p.values.types) (cut_is m at.goal at.is)) sp.entry.goal) in
     let none : s.steps ≡ 0 = (let q = h.counted.steps in omega (arith, q, l)) in (
-      (λ i. move_at go (look unit_limit enough P) (none i) (ea i) s.given s.rows s.row s.lost (h.stack i)) ∙ by_lost go (look unit_limit enough P) 0 w s.given s.rows s.row s.lost (Go h.at_work) h.rest ∙
+      refl,
+      (λ i. move_at go (look unit_limit enough P) (none i) (ea i) s.given s.rows s.row s.lost (h.stack i)) ∙ by_lost go (look unit_limit enough P) 0 w
+          s.given s.rows s.row s.lost (Go h.at_work) h.rest ∙
           ap (move_view go 0 w s.given s.rows s.row s.lost h.rest) seen,
-      (let t = h.counted.total in omega (arith, t, c)),
     )

@@ -402,7 +402,6 @@ module _ (qv : Query) (m n : Machine) (a : Around) (raw : Branch) (s : State Tas
         under = under;
         counted = record {
           steps = h.counted.steps ∙ ap (λ z. z.limit - z.steps) (sym bg.counts);
-          total = (let q = h.counted.total in let e = ap (λ z. z.steps) (bg.counts) in omega (arith, q, e));
           rows = h.counted.rows;
           row = h.counted.rows ∙ (let e : 1000000 ≡ 1000000 - 0 = omega arith in e) ∙ ap (λ i. 1000000 - i) (sym row) ∙ ap (λ z. 1000000 - z.row) (sym bg.counts);
           lost = ap (λ z. z.lost) (sym bg.counts);

@@ -7,7 +7,7 @@ use Rattle.lp_model.specs.Branch.{Answer, Branch, Entry, Go, Stop, Task, both_wr
 use Rattle.lp_model.specs.Flat.{Clause, Goal, Atomic, Cut, Either, Exists, Forall, Assume, Not, Goals, Written, collect_goals, goal_list, map_goals, map_written, written_in_goals}
 use Rattle.lp_model.specs.Pair.{closed}
 use Rattle.lp_model.specs.Search.{has_no_pairs, has_variables, look, look_branch, look_goal, look_not, with_goals}
-use Rattle.lp_model.specs.Skeleton.{Denies, Inner, State, move, move_at, move_view, named, not_constant}
+use Rattle.lp_model.specs.Skeleton.{Denies, Inner, State, move, move_at, move_view, named, not_constant, GoalNote}
 use Rattle.lp_model.specs.Unify.{unit_limit}
 use Rattle.lp_model.specs.declared.ending.Ending.TheVariants.{Deep, OpenNot, Steps}
 use Rattle.lp_pattern.proofs.Walking.{open_kept}
@@ -23,7 +23,7 @@ use Rattle.lp_plain.specs.Cuts.{one_step}
 use Rattle.lp_plain.specs.Denials.{EndsDenied, IsBegun, IsDenying, IsSeenAs}
 use Rattle.lp_plain.specs.Reached.{HasSmallFirst, IsSmallGoal}
 use Rattle.lp_plain.specs.Entries.{Around, entry_at, in_scope}
-use Rattle.lp_plain.specs.Moving.{AreEntriesUnder, HasAlternatives, IsAtGoal, IsRunning, IsWaiting, Leads, Query, mark_in}
+use Rattle.lp_plain.specs.Moving.{AreEntriesUnder, HasAlternatives, IsAtGoal, IsRunning, IsWaiting, Leads, Query, mark_in, quiet, taking}
 use Rattle.lp_plain.specs.Negations.{AreFound}
 use Rattle.lp_plain.specs.Stacks.{base_of}
 use Rattle.lp_plain.specs.Tables.{IsGoal, IsListOf, IsNumbered, Never, shown}
@@ -141,22 +141,22 @@ module _ (qv : Query) (m : Machine) (a : Around) (raw : Branch) (s : State Task)
   )
 
   -- no step is left
-  steps_at : (n : Machine) → n.counts.steps ≡ m.counts.steps → s.steps ≡ 0 → (go : (Answer → Bool) → State Task → Inner) (enough : ℕ) (P : List Clause) (k : ℕ) → s.answers ≡ suc k →
-      (o : Option Bool) → has_variables enough asked ≡ o → Leads 1 qv (Turn.Ended Steps) n go (look unit_limit enough P) s
-  steps_at n c z go enough P k ea None q = inr (inl (waiting go enough P k ea q))
-  steps_at n c z go enough P k ea (Some true) q = inl (
-    ((λ i. move_at go (look unit_limit enough P) (z i) (ea i) s.given s.rows s.row s.lost (h.stack i)) ∙ by_lost go (look unit_limit enough P) 0 k s.given s.rows s.row s.lost (Go h.at_work) h.rest ∙
-        ap (move_view go 0 k s.given s.rows s.row s.lost h.rest) (seen_is enough P (Some true) q)),
-    (let t = h.counted.total in omega (arith, t, c)),
+  steps_at : (n : Machine) → s.steps ≡ 0 → (go : (Answer → Bool) → State Task → Inner) (enough : ℕ) (P : List Clause) (k : ℕ) → s.answers ≡ suc k →
+      (o : Option Bool) → has_variables enough asked ≡ o → Leads 1 quiet qv (Turn.Ended Steps) n go (look unit_limit enough P) s
+  steps_at n z go enough P k ea None q = inr (inl (waiting go enough P k ea q))
+  steps_at n z go enough P k ea (Some true) q = inl (
+    refl,
+    (λ i. move_at go (look unit_limit enough P) (z i) (ea i) s.given s.rows s.row s.lost (h.stack i)) ∙ by_lost go (look unit_limit enough P) 0 k s.given s.rows s.row s.lost (Go h.at_work) h.rest ∙
+        ap (move_view go 0 k s.given s.rows s.row s.lost h.rest) (seen_is enough P (Some true) q),
   )
-  steps_at n c z go enough P k ea (Some false) q = inl (
-    ((λ i. move_at go (look unit_limit enough P) (z i) (ea i) s.given s.rows s.row s.lost (h.stack i)) ∙ by_lost go (look unit_limit enough P) 0 k s.given s.rows s.row s.lost (Go h.at_work) h.rest ∙
-        ap (move_view go 0 k s.given s.rows s.row s.lost h.rest) (seen_is enough P (Some false) q)),
-    (let t = h.counted.total in omega (arith, t, c)),
+  steps_at n z go enough P k ea (Some false) q = inl (
+    refl,
+    (λ i. move_at go (look unit_limit enough P) (z i) (ea i) s.given s.rows s.row s.lost (h.stack i)) ∙ by_lost go (look unit_limit enough P) 0 k s.given s.rows s.row s.lost (Go h.at_work) h.rest ∙
+        ap (move_view go 0 k s.given s.rows s.row s.lost h.rest) (seen_is enough P (Some false) q),
   )
 
-  pub ends_at_steps : (n : Machine) → n.counts.steps ≡ m.counts.steps → m.counts.limit ≤ m.counts.steps → EndsDenied qv (Turn.Ended Steps) n s h.at_work.goals
-  ends_at_steps n c l k ea go enough few P = steps_at n c (let q = h.counted.steps in omega (arith, q, l)) go enough P k ea (has_variables enough asked) refl
+  pub ends_at_steps : (n : Machine) → m.counts.limit ≤ m.counts.steps → EndsDenied quiet qv (Turn.Ended Steps) n s h.at_work.goals
+  ends_at_steps n l k ea go enough few P = steps_at n (let q = h.counted.steps in omega (arith, q, l)) go enough P k ea (has_variables enough asked) refl
 
   module _ (there : m.counts.steps < m.counts.limit) where
     abbrev left : ℕ
@@ -166,22 +166,24 @@ module _ (qv : Query) (m : Machine) (a : Around) (raw : Branch) (s : State Task)
     steps_are = let q = h.counted.steps in let l = there in omega (arith, q, l)
 
     -- a variable is there
-    open_at : (n : Machine) → n.counts.steps ≡ m.counts.steps + 1 → (go : (Answer → Bool) → State Task → Inner) (enough : ℕ) (P : List Clause) (k : ℕ) → s.answers ≡ suc k → (o : Option Bool)
-        → has_variables enough asked ≡ o → IsGiven enough true o → Leads 1 qv (Turn.Ended OpenNot) n go (look unit_limit enough P) s
-    open_at n c go enough P k ea None q g = inr (inl (waiting go enough P k ea q))
-    open_at n c go enough P k ea (Some false) q g = absurd (cc)
-    open_at n c go enough P k ea (Some true) q g = stops qv n h.rest s k left ea steps_are go enough P (named not_constant) (Go h.at_work)
-        (Stop OpenNot ∷ []) h.stack (seen_is enough P (Some true) q) OpenNot refl (let t = h.counted.total in let e = steps_are in omega (arith, t, e, c))
+    open_at : (n : Machine) (go : (Answer → Bool) → State Task → Inner) (enough : ℕ) (P : List Clause) (k : ℕ) → s.answers ≡ suc k → (o : Option Bool)
+        → has_variables enough asked ≡ o → IsGiven enough true o → Leads 1 (taking (GoalNote (named not_constant))) qv (Turn.Ended OpenNot) n go (look unit_limit enough P) s
+    open_at n go enough P k ea None q g = inr (inl (waiting go enough P k ea q))
+    open_at n go enough P k ea (Some false) q g = absurd (cc)
+    open_at n go enough P k ea (Some true) q g = stops qv n h.rest s k left ea steps_are go enough P (named not_constant) (Go h.at_work)
+        (Stop OpenNot ∷ []) h.stack (seen_is enough P (Some true) q) OpenNot refl
 
-    pub ends_open : (n : Machine) → n.counts.steps ≡ m.counts.steps + 1 → AreFound m (record { free = free; values = p.values; older = p.standing }) found.Open → EndsDenied qv (Turn.Ended OpenNot) n s h.at_work.goals
-    ends_open n c k i ea go enough few P = open_at n c go enough P i ea (has_variables enough asked) refl (open_given enough asked (tested enough found.Open k))
+    pub ends_open : (n : Machine) → AreFound m (record { free = free; values = p.values; older = p.standing }) found.Open → EndsDenied
+        (taking (GoalNote (named not_constant))) qv (Turn.Ended OpenNot) n s h.at_work.goals
+    ends_open n k i ea go enough few P = open_at n go enough P i ea (has_variables enough asked) refl (open_given enough asked (tested enough found.Open k))
 
     small_asked : HasSmallFirst h.at_work.goals → EachOf IsSmallExpression asked.terms
     small_asked x =
         let y : IsSmallGoal sp.first.goal sp.first.written = subst HasSmallFirst sp.whole x in
         subst (λ g. IsSmallGoal g sp.first.written) goal_is y
 
-    pub ends_deep : (n : Machine) → AreFound m (record { free = free; values = p.values; older = p.standing }) found.Deep → EndsDenied qv (Turn.Ended Deep) n s h.at_work.goals
+    pub ends_deep : (n : Machine) → AreFound m (record { free = free; values = p.values; older = p.standing }) found.Deep → EndsDenied
+        (taking (GoalNote (named not_constant))) qv (Turn.Ended Deep) n s h.at_work.goals
     ends_deep n k i ea go enough few P =
         let r = few refl in
         inr (inl (waiting go enough P i ea (deep_given enough asked r.0 (small_asked r.1) (tested enough found.Deep k))))
@@ -237,7 +239,7 @@ module _ (qv : Query) (m : Machine) (a : Around) (raw : Branch) (s : State Task)
         left = pairs_more (length m.bank.terms) (length b.terms) m.branch.pairs.items x.more_terms h.left;
         levels = h.levels;
         under = branch_on qv h.levels m.bank h.closing (base_of m.denied) (length m.choices.items) m.branch.pairs.items b x h.left f raw h.at_work h.under;
-        counted = record { steps = refl; total = (let t = h.counted.total in let e = steps_are in omega (arith, t, e)); rows = h.counted.rows; row = h.counted.rows ∙ (let z : 1000000 ≡ 1000000 - 0 = omega arith in z); lost = h.counted.lost };
+        counted = record { steps = refl; rows = h.counted.rows; row = h.counted.rows ∙ (let z : 1000000 ≡ 1000000 - 0 = omega arith in z); lost = h.counted.lost };
       }
 
       pub search_begins : (n : Machine) → IsBegun o n p list behind → AreFound m (record { free = free; values = p.values; older = p.standing }) found.Closed → IsDenying qv n s

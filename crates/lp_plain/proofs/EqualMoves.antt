@@ -2,11 +2,11 @@
 use Rattle.std.proofs.Common.{◌≡◌, ◌≤◌, ℕ, suc, List, [], ◌∷◌, ◌++◌, length, refl, sym, ap, ◌∙◌, subst, arith, Option, None, Some, Bool}
 use Rattle.lp_calculus.specs.Fill.{Within}
 use Rattle.lp_calculus.specs.Types.{var}
-use Rattle.lp_model.specs.Branch.{Stop, Answer, Branch, Go, Task, resume}
+use Rattle.lp_model.specs.Branch.{Answer, Branch, Go, Task, resume}
 use Rattle.lp_model.specs.Flat.{Clause}
 use Rattle.lp_model.specs.Pair.{Closing, closed}
 use Rattle.lp_model.specs.Search.{follow, look, types_from, vars_from}
-use Rattle.lp_model.specs.Skeleton.{GoalName, Inner, State, Takes, View}
+use Rattle.lp_model.specs.Skeleton.{GoalName, GoalNote, Inner, State, Takes, View}
 use Rattle.lp_model.specs.Types.{put_types}
 use Rattle.lp_model.specs.Unify.{State as Solved, Unified as Outcome, Fail, Solution, Spent, unit_limit}
 use Rattle.lp_model.specs.declared.ending.Ending.TheVariants.{Deep}
@@ -20,7 +20,7 @@ use Rattle.lp_plain.specs.declared.outcome.Turn.{Turn}
 use Rattle.lp_plain.specs.declared.unified.Unified.{Unified}
 use Rattle.lp_plain.specs.Assuming.{GrowsAt, IsPlaceAt, lists_of}
 use Rattle.lp_plain.specs.Entries.{Around, GrowsGoals, Reads}
-use Rattle.lp_plain.specs.Moving.{AreEntriesUnder, AreFew, HasAlternatives, IsGoingOn, IsBranchUnder, IsCounted, IsState, Leads, Query, mark_in, turn_for}
+use Rattle.lp_plain.specs.Moving.{AreEntriesUnder, AreFew, HasAlternatives, IsGoingOn, IsBranchUnder, IsCounted, IsState, Leads, Query, mark_in, taking, turn_for}
 use Rattle.lp_plain.specs.Resuming.{AllTerms, AreKnownEntries}
 use Rattle.lp_plain.specs.Stacks.{base_of}
 use Rattle.lp_plain.specs.Unifying.{IsBoundIn, IsUnifiedAs, StandPairs}
@@ -35,7 +35,8 @@ use Rattle.lp_plain.proofs.ResumedUnder.{known_behind, resumed_under, terms_know
 use Rattle.lp_plain.proofs.TaskMoves.{fails, goes, lacks, stops}
 use Rattle.lp_plain.proofs.TryGrows.{bound_more}
 
-module _ (qv : Query) (m n : Machine) (a : Around) (raw rest : Branch) (below : List Task) (h : IsGoingOn qv m a raw rest below) (p : Place) (pl : IsPlaceAt (lists_of m) a p) (b : IsBoundIn m n) (residual : StandPairs m → StandPairs n) where
+module _ (qv : Query) (m n : Machine) (a : Around) (raw rest : Branch) (below : List Task) (h : IsGoingOn qv m a raw rest below) (p : Place)
+    (pl : IsPlaceAt (lists_of m) a p) (b : IsBoundIn m n) (residual : StandPairs m → StandPairs n) where
   grows : GrowsGoals m n
   grows =
       let g = bound_more m n b in
@@ -101,7 +102,7 @@ module _ (qv : Query) (m n : Machine) (a : Around) (raw rest : Branch) (below : 
       };
     }
 
-    goes_on : (t : State Task) → t.stack ≡ Go (resume rest st) ∷ below → IsCounted qv n t → IsState qv n t
+    goes_on : (t : State Task) → t.stack ≡ Go (resume rest st) ∷ below → IsCounted n t → IsState qv n t
     goes_on t et ct = record {
       around = a;
       raw = now;
@@ -118,13 +119,15 @@ module _ (qv : Query) (m n : Machine) (a : Around) (raw rest : Branch) (below : 
         reading = reading;
         left = residual h.left;
         levels = found.levels';
-        under = subst (λ d. IsBranchUnder qv found.levels' n.bank z (mark_in (base_of d) h.above.raws) (base_of d) (length n.choices.items) n.branch.pairs.items now (resume rest st)) (sym b.denied) under;
+        under = subst (λ d. IsBranchUnder qv found.levels' n.bank z (mark_in (base_of d) h.above.raws) (base_of d) (length n.choices.items)
+            n.branch.pairs.items now (resume rest st)) (sym b.denied) under;
         counted = ct;
       };
     }
 
   -- the atom takes a step
-  module _ (s : State Task) (w j : ℕ) (ea : s.answers ≡ suc w) (es : s.steps ≡ suc j) (go : (Answer → Bool) → State Task → Inner) (enough : ℕ) (P : List Clause) (name : GoalName) (task : Task) (tasks : List Task)
+  module _ (s : State Task) (w j : ℕ) (ea : s.answers ≡ suc w) (es : s.steps ≡ suc j) (go : (Answer → Bool) → State Task → Inner) (enough : ℕ)
+      (P : List Clause) (name : GoalName) (task : Task) (tasks : List Task)
       (stack : s.stack ≡ task ∷ below) (seen : look unit_limit enough P (length below) task ≡ Takes name tasks) where
     abbrev see : ℕ → Task → View Task Answer
     see = look unit_limit enough P
@@ -132,21 +135,28 @@ module _ (qv : Query) (m n : Machine) (a : Around) (raw rest : Branch) (below : 
     abbrev after : List Task → State Task
     after ts = record { steps = j; answers = suc w; given = s.given; rows = s.rows; row = s.rows; lost = s.lost; stack = ts ++ below }
 
-    module _ (counted : (ts : List Task) → IsCounted qv n (after ts)) where
-      pub none_left : tasks ≡ [] → Leads 1 qv Turn.Back n go see s
+    module _ (counted : (ts : List Task) → IsCounted n (after ts)) where
+      pub none_left : tasks ≡ [] → Leads 1 (taking (GoalNote name)) qv Turn.Back n go see s
       none_left e = fails qv n below s w j ea es go enough P name task tasks stack seen e (record { around = a; above = above; counted = counted [] })
 
-      by_outcome : (u : Unified) (x : Option Outcome) → AreFew (turn_for u) enough → tasks ≡ follow rest x → ((y : Outcome) → x ≡ Some y → IsUnifiedAs u h.levels m.branch.next h.closing n enough y) → ((st : Solved) → x ≡ Some (Solution st) → StaysFree st) →
-          Leads 1 qv (turn_for u) n go see s
+      by_outcome : (u : Unified) (x : Option Outcome) → AreFew (turn_for u) enough → tasks ≡ follow rest x →
+          ((y : Outcome) → x ≡ Some y → IsUnifiedAs u h.levels m.branch.next h.closing n enough y) →
+          ((st : Solved) → x ≡ Some (Solution st) → StaysFree st) →
+          Leads 1 (taking (GoalNote name)) qv (turn_for u) n go see s
       by_outcome u None few e k free = lacks qv n below s w j ea es go enough P name task tasks stack seen e (turn_for u)
       by_outcome Unified.Fits (Some Fail) few e k free = absurd (let z = k Fail refl in z)
       by_outcome Unified.Fits (Some Spent) few e k free = absurd (let z = k Spent refl in z)
       by_outcome Unified.Fits (Some (Solution st)) few e k free =
           let y = k (Solution st) refl in
-          goes qv n below s w j ea es go enough P name task tasks stack seen (resume rest st) e (goes_on st y.0 y.1 y.2 (free st refl y.0 (variable_behind h.levels m.branch.next h.closing n.bank n.branch.next n.branch.pairs.items y.0 st y.2)) (after (Go (resume rest st) ∷ [])) refl (counted (Go (resume rest st) ∷ [])))
+          goes qv n below s w j ea es go enough P name task tasks stack seen (resume rest st) e
+          (goes_on st y.0 y.1 y.2 (free st refl y.0 (variable_behind h.levels m.branch.next h.closing n.bank n.branch.next n.branch.pairs.items
+          y.0 st y.2)) (after (Go (resume rest st) ∷ [])) refl (counted (Go (resume rest st) ∷ [])))
       by_outcome Unified.Fails (Some y) few e k free = none_left (e ∙ ap (λ q. follow rest (Some q)) (k y refl))
-      by_outcome Unified.Deep (Some y) few e k free = stops qv n below s w j ea es go enough P name task tasks stack seen Deep (e ∙ ap (λ q. follow rest (Some q)) (k y refl (let l = few refl in omega (arith, l)))) (counted (Stop Deep ∷ [])).total
+      by_outcome Unified.Deep (Some y) few e k free = stops qv n below s w j ea es go enough P name task tasks stack seen Deep
+          (e ∙ ap (λ q. follow rest (Some q)) (k y refl (let l = few refl in omega (arith, l))))
 
-      pub unified_leads : (u : Unified) → AreFew (turn_for u) enough → (o : Option Outcome) → tasks ≡ follow rest o → ((y : Outcome) → o ≡ Some y → IsUnifiedAs u h.levels m.branch.next h.closing n enough y) → ((st : Solved) → o ≡ Some (Solution st) → StaysFree st) →
-          Leads 1 qv (turn_for u) n go see s
+      pub unified_leads : (u : Unified) → AreFew (turn_for u) enough → (o : Option Outcome) → tasks ≡ follow rest o →
+          ((y : Outcome) → o ≡ Some y → IsUnifiedAs u h.levels m.branch.next h.closing n enough y) →
+          ((st : Solved) → o ≡ Some (Solution st) → StaysFree st) →
+          Leads 1 (taking (GoalNote name)) qv (turn_for u) n go see s
       unified_leads u few o e k free = by_outcome u o few e k free

@@ -51,7 +51,8 @@ values_later b d x (v ∷ vs) [] h = absurd h
 values_later b d x (v ∷ vs) (m ∷ ms) h = (value_later b d x v m h.0, values_later b d x vs ms h.1)
 
 module _ (b d : Nodes) (x : Extends b d) (z : Closing) (n : ℕ) where
-  after_value : (o r : model.Outcome) (F G : model.Value → Type 0) → ((m : model.Value) → F m → G m) → (elim o as (λ o. Type 0) [ Is m ↦ F m | Faults f ↦ r ≡ Faults f ]) → (elim o as (λ o. Type 0) [ Is m ↦ G m | Faults f ↦ r ≡ Faults f ])
+  after_value : (o r : model.Outcome) (F G : model.Value → Type 0) → ((m : model.Value) → F m → G m) →
+      (elim o as (λ o. Type 0) [ Is m ↦ F m | Faults f ↦ r ≡ Faults f ]) → (elim o as (λ o. Type 0) [ Is m ↦ G m | Faults f ↦ r ≡ Faults f ])
   after_value (Is m) r F G g h = g m h
   after_value (Faults f) r F G g h = h
 
@@ -75,7 +76,9 @@ module _ (b d : Nodes) (x : Extends b d) (z : Closing) (n : ℕ) where
   comes_later (task.One c ∷ ts) (w ∷ ms) r k h = after_value (unary (number c) w) r (λ m. Comes b z n ts (m ∷ ms) r k) (λ m. Comes d z n ts (m ∷ ms) r k) (λ m. comes_later ts (m ∷ ms) r k) h
 
 -- a look at a part
-module _ (m q : Machine) (ob : OnlyBank m q) (t u : TermId) (looks : LooksAt m q t (Some u)) (z : Closing) (y : IsOpenReading m.bank m.bindings m.branch.next z) (n : ℕ) (ts : List Task) (vs : List Value) (ms : List model.Value) (r : model.Outcome) (k : ℕ)
+module _ (m q : Machine) (ob : OnlyBank m q) (t u : TermId) (looks : LooksAt m q t (Some u)) (z : Closing)
+    (y : IsOpenReading m.bank m.bindings m.branch.next z) (n : ℕ) (ts : List Task) (vs : List Value) (ms : List model.Value) (r : model.Outcome)
+    (k : ℕ)
     (av : AreValuesIn m.bank vs ms) (h : Comes m.bank z n (task.Visit t ∷ ts) ms r k) where
   abbrev form : Term
   form = h.0
@@ -109,10 +112,12 @@ module _ (m q : Machine) (ob : OnlyBank m q) (t u : TermId) (looks : LooksAt m q
 
   -- what comes behind it, in the bank of then
   behind : elim (model.value (eta_normal form)) as (λ o. Type 0) [ Is w ↦ Comes q.bank z n ts (w ∷ ms) r h.1 | Faults f ↦ r ≡ Faults f ]
-  behind = after_value m.bank q.bank ob.bank z n (model.value (eta_normal form)) r (λ w. Comes m.bank z n ts (w ∷ ms) r h.1) (λ w. Comes q.bank z n ts (w ∷ ms) r h.1) (λ w. comes_later m.bank q.bank ob.bank z n ts (w ∷ ms) r h.1) h.6
+  behind = after_value m.bank q.bank ob.bank z n (model.value (eta_normal form)) r (λ w. Comes m.bank z n ts (w ∷ ms) r h.1)
+      (λ w. Comes q.bank z n ts (w ∷ ms) r h.1) (λ w. comes_later m.bank q.bank ob.bank z n ts (w ∷ ms) r h.1) h.6
 
   -- the operands first
-  module _ (c : Constant) (a b : TermId) (ss : List Ty) (e : x ≡ app (app (atom (constant (number c) ss)) (tree q.bank a.0)) (tree q.bank b.0)) (two : model.is_two_place (number c) ≡ true) (la : a.0 < length q.bank.terms) (lb : b.0 < length q.bank.terms) where
+  module _ (c : Constant) (a b : TermId) (ss : List Ty) (e : x ≡ app (app (atom (constant (number c) ss)) (tree q.bank a.0)) (tree q.bank b.0))
+      (two : model.is_two_place (number c) ≡ true) (la : a.0 < length q.bank.terms) (lb : b.0 < length q.bank.terms) where
     operands : HasOperands n (number c) (closed z (tree q.bank a.0)) (closed z (tree q.bank b.0)) form
     operands = two_operands n (number c) _ (closed z (tree q.bank a.0)) (closed z (tree q.bank b.0)) form two (subst (λ w. beta_normal n (closed z w) ≡ Some form) e formed)
 
@@ -145,7 +150,8 @@ module _ (m q : Machine) (ob : OnlyBank m q) (t u : TermId) (looks : LooksAt m q
           ),
         )
 
-  module _ (c : Constant) (a : TermId) (ss : List Ty) (e : x ≡ app (atom (constant (number c) ss)) (tree q.bank a.0)) (one : model.is_one_place (number c) ≡ true) (la : a.0 < length q.bank.terms) where
+  module _ (c : Constant) (a : TermId) (ss : List Ty) (e : x ≡ app (atom (constant (number c) ss)) (tree q.bank a.0))
+      (one : model.is_one_place (number c) ≡ true) (la : a.0 < length q.bank.terms) where
     operand : HasOperand n (number c) (closed z (tree q.bank a.0)) form
     operand = one_operand n (number c) _ (closed z (tree q.bank a.0)) form one (subst (λ w. beta_normal n (closed z w) ≡ Some form) e formed)
 
@@ -182,7 +188,8 @@ module _ (m q : Machine) (ob : OnlyBank m q) (t u : TermId) (looks : LooksAt m q
 
 -- a look at a part, and what is put of it
 module _ (m q : Machine) (ob : OnlyBank m q) (t u : TermId) (looks : LooksAt m q t (Some u)) where
-  pub visit_taken : (e : Expression) → IsExpression q.bank e (tree q.bank u.0) → (u.0 < length q.bank.terms → StandsExpression (length q.bank.terms) e) → (o : Option Outcome) (ts us : List Task) (vs ws : List Value) → IsPut e o ts us vs ws →
+  pub visit_taken : (e : Expression) → IsExpression q.bank e (tree q.bank u.0) → (u.0 < length q.bank.terms → StandsExpression (length q.bank.terms)
+      e) → (o : Option Outcome) (ts us : List Task) (vs ws : List Value) → IsPut e o ts us vs ws →
       TakesTask m q o (task.Visit t) ts us vs ws
   visit_taken (expression.Leaf (kept.Number i)) is st o ts us vs ws put z y n ms r k av h =
       subst (λ o. After q.bank z n 1 o (reverse us) (reverse ws) r k) (sym put.0)
@@ -219,7 +226,8 @@ deep_taken m q t looks ts us vs ws z y n ms r k av h l =
 
 -- an operation on two values, the right one on top
 module _ (m q : Machine) (ob : OnlyBank m q) (c : Constant) (o : Outcome) (end : Option Outcome) (ts : List Task) where
-  value_taken : (w : model.Outcome) → GivesValue q.bank o w → (z : Closing) (n : ℕ) (us : List Task) (ys ws : List Value) (ms : List model.Value) (r : model.Outcome) (k : ℕ) → AreValuesIn m.bank (reverse ys) ms → IsKept o end ys ws →
+  value_taken : (w : model.Outcome) → GivesValue q.bank o w → (z : Closing) (n : ℕ) (us : List Task) (ys ws : List Value) (ms : List model.Value)
+      (r : model.Outcome) (k : ℕ) → AreValuesIn m.bank (reverse ys) ms → IsKept o end ys ws →
       (elim w as (λ o. Type 0) [ Is v ↦ Comes m.bank z n us (v ∷ ms) r k | Faults f ↦ r ≡ Faults f ]) → After q.bank z n 0 end us (reverse ws) r k
   value_taken w g z n us ys ws ms r k av kp h = go o g kp
     where
@@ -237,7 +245,8 @@ module _ (m q : Machine) (ob : OnlyBank m q) (c : Constant) (o : Outcome) (end :
           subst (λ e. After q.bank z n 0 e us (reverse ws) r k) (sym kp) (subst (λ o. elim o as (λ o. Type 0) [ Is v ↦ Comes m.bank z n us (v ∷ ms) r k | Faults f ↦ r ≡ Faults f ]) g h)
       go code.Deep g kp = absurd g
 
-  pub two_done : (left right : Value) (xs ys vs ws : List Value) → vs ≡ xs ++ right ∷ [] → xs ≡ ys ++ left ∷ [] → ((x y : model.Value) → IsValueIn m.bank left x → IsValueIn m.bank right y → GivesValue q.bank o (binary (number c) x y)) →
+  pub two_done : (left right : Value) (xs ys vs ws : List Value) → vs ≡ xs ++ right ∷ [] → xs ≡ ys ++ left ∷ [] →
+      ((x y : model.Value) → IsValueIn m.bank left x → IsValueIn m.bank right y → GivesValue q.bank o (binary (number c) x y)) →
       IsKept o end ys ws → TakesTask m q end (task.Two c) ts ts vs ws
   two_done left right xs ys vs ws e f g kp z y n ms r k av h =
       go ms (subst (λ l. AreValuesIn m.bank l ms) (reverse_pushed vs xs right e ∙ ap (λ l. right ∷ l) (reverse_pushed xs ys left f)) av) h
@@ -247,7 +256,8 @@ module _ (m q : Machine) (ob : OnlyBank m q) (c : Constant) (o : Outcome) (end :
       go (b ∷ []) av h = absurd h
       go (b ∷ a ∷ ms) av h = value_taken (binary (number c) a b) (g a b av.1.0 av.0) z n (reverse ts) ys ws ms r k av.1.1 kp h
 
-  pub one_done : (value : Value) (ys vs ws : List Value) → vs ≡ ys ++ value ∷ [] → ((x : model.Value) → IsValueIn m.bank value x → GivesValue q.bank o (unary (number c) x)) → IsKept o end ys ws → TakesTask m q end (task.One c) ts ts vs ws
+  pub one_done : (value : Value) (ys vs ws : List Value) → vs ≡ ys ++ value ∷ [] → ((x : model.Value) → IsValueIn m.bank value x → GivesValue q.bank o
+      (unary (number c) x)) → IsKept o end ys ws → TakesTask m q end (task.One c) ts ts vs ws
   one_done value ys vs ws e g kp z y n ms r k av h = go ms (subst (λ l. AreValuesIn m.bank l ms) (reverse_pushed vs ys value e) av) h
     where
       go : (ms : List model.Value) → AreValuesIn m.bank (value ∷ reverse ys) ms → Comes m.bank z n (task.One c ∷ reverse ts) ms r k → After q.bank z n 0 end (reverse ts) (reverse ws) r k
@@ -282,10 +292,12 @@ module _ (m q : Machine) (ob : OnlyBank m q) (t : TermId) (all ts : List Task) (
       let a = g z (reading_later m q ob z y) n w.0 (model.value (eta_normal s)) w.1 w.2 (subst (λ l. Comes q.bank z n l w.0 (model.value (eta_normal s)) w.1) (reverse_pushed all ts x top) w.4) in
       let p = w.3 in
       let o = a.3 in
-      (a.0, a.1, a.2, omega (arith, c, p, o), a.4)
+      let e = c.0 in
+      (a.0, a.1, a.2, omega (arith, e, p, o), a.4)
 
   -- the evaluation ends
-  pub way_ends : (r : Machine) (us : List Task) (ws : List Value) (o : Outcome) → TakesTask q r (Some o) x ts us vs ws → t.0 < length m.bank.terms → (z : Closing) → IsOpenReading m.bank m.bindings m.branch.next z → EvaluatesTo r.bank o (closed z (tree m.bank t.0))
+  pub way_ends : (r : Machine) (us : List Task) (ws : List Value) (o : Outcome) → TakesTask q r (Some o) x ts us vs ws → t.0 < length m.bank.terms →
+      (z : Closing) → IsOpenReading m.bank m.bindings m.branch.next z → EvaluatesTo r.bank o (closed z (tree m.bank t.0))
   way_ends r us ws o g l z y = go o g
     where
       at : (o : Outcome) → TakesTask q r (Some o) x ts us vs ws → (n : ℕ) (s : Term) → beta_normal n (closed z (tree m.bank t.0)) ≡ Some s → IsNoFunction s → IsEnd o (model.value (eta_normal s)) n
@@ -315,7 +327,8 @@ module _ (m q : Machine) (ob : OnlyBank m q) (t : TermId) (all ts : List Task) (
       by (task.One u) c ms d h p = let g = c.0 in omega (arith, g)
 
 -- no task is left
-pub way_done : (m q : Machine) (t : TermId) (ts : List Task) (vs us : List Value) (i : ℕ) (v : Value) → ts ≡ [] → vs ≡ us ++ v ∷ [] → IsOnWay m q t ts vs i → t.0 < length m.bank.terms → (z : Closing) → IsOpenReading m.bank m.bindings m.branch.next z →
+pub way_done : (m q : Machine) (t : TermId) (ts : List Task) (vs us : List Value) (i : ℕ) (v : Value) → ts ≡ [] → vs ≡ us ++ v ∷ [] → IsOnWay m q t ts
+    vs i → t.0 < length m.bank.terms → (z : Closing) → IsOpenReading m.bank m.bindings m.branch.next z →
     EvaluatesTo q.bank (code.Is v) (closed z (tree m.bank t.0))
 way_done m q t ts vs us i v et ev way l z y n s e f =
     let w = way l z y n s e f in
@@ -324,7 +337,8 @@ way_done m q t ts vs us i v et ev way l z y n s e f =
     (h.0, h.2, (subst (AreValuesIn q.bank (v ∷ reverse us)) h.1 a).0)
 
 -- a step, by what a task came to
-pub step_taken : (q r : Machine) (x : Task) (ts us : List Task) (vs ws : List Value) (i k : ℕ) (end : Option Outcome) (s : Step) → IsStep end k s → IsCounted x i (Some k) → TakesTask q r end x ts us vs ws → GoesFrom q r x ts us vs ws i s
+pub step_taken : (q r : Machine) (x : Task) (ts us : List Task) (vs ws : List Value) (i k : ℕ) (end : Option Outcome) (s : Step) → IsStep end k s →
+    IsCounted x i (Some k) → TakesTask q r end x ts us vs ws → GoesFrom q r x ts us vs ws i s
 step_taken q r x ts us vs ws i k None s e c g m t all top ob way = subst (λ s. IsStepOn s m r t us ws) (sym e) (way_on m q ob t all ts vs i x top way r us ws k c g)
 step_taken q r x ts us vs ws i k (Some o) s e c g m t all top ob way = subst (λ s. IsStepOn s m r t us ws) (sym e) (way_ends m q ob t all ts vs i x top way r us ws o g)
 

@@ -1,14 +1,16 @@
 -- The ends of a search: no answer is wanted, and a search that is over stays so.
-use Rattle.std.proofs.Common.{◌≡◌, ◌⊎◌, ℕ, zero, suc, ◌≤◌, List, refl, sym, ap, inl, inr, ◌∙◌, subst, arith, Option, Some}
+use Rattle.std.proofs.Common.{◌≡◌, ◌⊎◌, ℕ, zero, suc, ◌+◌, ◌<◌, ◌≤◌, List, [], ◌++◌, refl, sym, ap, inl, inr, ◌∙◌, subst, arith, Option, Some}
 use Rattle.std.specs.Prelude.{Bool}
 use Rattle.lp_model.specs.declared.ending.Ending.{Ending}
 use Rattle.lp_model.specs.declared.ending.Ending.TheVariants.{Enough}
 use Rattle.lp_model.specs.Branch.{Answer, Task}
 use Rattle.lp_model.specs.Events.{Advances, Event, Gave, Over, first, first_after}
-use Rattle.lp_model.specs.Skeleton.{Breaks, Goes, Inner, Move, Note, State, Stops, Tells, View, Waits, inner, move, move_at}
+use Rattle.lp_model.specs.Skeleton.{Breaks, Goes, Inner, Move, Note, State, Stops, Tells, View, Waits, back, inner, move, move_at}
 use Rattle.lp_search_laws.proofs.Stack.Inners.{IsMade, move_more}
-use Rattle.lp_plain.specs.Stepping.{steps_after, steps_until}
-use Rattle.lp_plain.proofs.Following.{pair_left}
+use Rattle.lp_plain.specs.Moving.{both, quiet}
+use Rattle.lp_plain.specs.Stepping.{notes_after, notes_told, notes_until, steps_after, steps_until, way_back}
+use Rattle.lp_plain.specs.inner.Following.{tally_told, until}
+use Rattle.lp_plain.proofs.Following.{pair_left, tally_is}
 
 in_order : (a b : ℕ) → (a ≤ b) ⊎ (b ≤ a)
 in_order zero b = inl (omega arith)
@@ -31,9 +33,35 @@ module _ (see : ℕ → Task → View Task Answer) where
           let r = pair_left (Over Enough) x s u (sym (ap (first_after s (first see j i)) (stops_enough (inner see j) s.steps s.answers s.given s.rows s.row s.lost s.stack e)) ∙ q) in
           (sym r.0, sym r.1)
 
-  pub enough_steps : (s : State Task) → s.answers ≡ 0 → (j i : ℕ) → steps_until see j i s ≡ 0
-  enough_steps s e j zero = refl
-  enough_steps s e j (suc i) = ap (steps_after (steps_until see j i)) (stops_enough (inner see j) s.steps s.answers s.given s.rows s.row s.lost s.stack e)
+  -- so nothing is told
+  way_none : (g : ℕ) (ts : List Task) → way_back g 0 ts ≡ []
+  way_none zero ts = refl
+  way_none (suc g) ts = refl
+
+  enough_until : (s : State Task) → s.answers ≡ 0 → (j i : ℕ) → until see j i s ≡ quiet
+  enough_until s e j zero = refl
+  enough_until s e j (suc i) = λ o.
+      let v = stops_enough (inner see j) s.steps s.answers s.given s.rows s.row s.lost s.stack e o in
+      record { steps = steps_after (steps_until see j i) v; notes = notes_after (notes_until see j i) v }
+
+  pub enough_told : (s : State Task) → s.answers ≡ 0 → (j i : ℕ) → tally_told see j i s ≡ quiet
+  enough_told s e j i =
+      ap (λ l. record { steps = steps_until see j i s; notes = l ++ notes_until see j i s }) (ap (λ n. way_back s.given n s.stack) e ∙ way_none s.given s.stack) ∙
+      enough_until s e j i
+
+  -- the way back from an answer comes first
+  pub told_first : (s : State Task) → s.given ≡ 0 → (j i : ℕ) → tally_told see j i s ≡ until see j i s
+  told_first s e j i = λ o. record { steps = steps_until see j i s; notes = way_back (e o) s.answers s.stack ++ notes_until see j i s }
+
+  way_some : (g n : ℕ) (ts : List Task) → 0 < g → 0 < n → way_back g n ts ≡ back [] ts
+  way_some zero n ts h k = absurd (omega (arith, h))
+  way_some (suc g) zero ts h k = absurd (omega (arith, k))
+  way_some (suc g) (suc n) ts h k = refl
+
+  pub told_later : (s : State Task) → 0 < s.given → 0 < s.answers → (j i : ℕ) → both (record { steps = 0; notes = back [] s.stack }) (until see j i s) ≡ tally_told see j i s
+  told_later s g k j i =
+      tally_is (0 + steps_until see j i s) (steps_until see j i s) (back [] s.stack ++ notes_until see j i s) (notes_told see j i s) (omega arith)
+      (ap (λ l. l ++ notes_until see j i s) (sym (way_some s.given s.answers s.stack g k)))
 
   -- a move that ends all
   pub data EndsWith (e : Ending) (v : Move Task Answer) : Type 0 where
@@ -49,7 +77,8 @@ module _ (see : ℕ → Task → View Task Answer) where
   over_event e f s t h = let r = pair_left (Over e) (Over f) s t h in ((let q = r.0 in cc), r.1)
 
   -- the move at the state behind an end
-  move_at_end : (j i : ℕ) (s t : State Task) (e : Ending) → ((u : State Task) → first see j i u ≡ Some (Over e, t) → EndsWith e (move (inner see j) see t)) → (v : Move Task Answer) → move (inner see j) see s ≡ v →
+  move_at_end : (j i : ℕ) (s t : State Task) (e : Ending) → ((u : State Task) → first see j i u ≡ Some (Over e, t) → EndsWith e
+      (move (inner see j) see t)) → (v : Move Task Answer) → move (inner see j) see s ≡ v →
       first_after s (first see j i) v ≡ Some (Over e, t) → EndsWith e (move (inner see j) see t)
   move_at_end j i s t e ih (Goes k ns u) q h = ih u h
   move_at_end j i s t e ih (Tells a ns u) q h = absurd (let r = (pair_left (Gave a) (Over e) u t h).0 in cc)

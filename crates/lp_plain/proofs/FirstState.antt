@@ -85,9 +85,9 @@ query_known k gs h =
     subst (AllOfEntries (λ d t. Within (Known (λ x. 0) k) d (closed unbound t))) (append-nil (entries (goal_list (instantiate_goals σ gs)) [] nothing_written 0 0))
     (entries_all (λ d t. Within (Known (λ x. 0) k) d (closed unbound t)) (goal_list (instantiate_goals σ gs)) [] nothing_written 0 0 [] (goals_in_list (λ d t. Within (Known (λ x. 0) k) d (closed unbound t)) (instantiate_goals σ gs) u) tt tt tt)
 
-pub start_known : (ar : ℕ → ℕ) (j k i : ℕ) (gs : Goals) → AllOfGoals HasNoVariable k gs → (b : Branch) → b.goals ≡ entries (goal_list (instantiate_goals (λ i. atom (logic (k - suc i) 0)) gs)) [] nothing_written 0 0 → b.next ≡ k → b.pairs ≡ [] →
-    IsKnownAs (record { types = j; vars = k; arity = ar; limit = i; outer = [] }) unbound (λ x. 0) b b
-start_known ar j k i gs h b eg en ep = record {
+pub start_known : (ar : ℕ → ℕ) (j k : ℕ) (gs : Goals) → AllOfGoals HasNoVariable k gs → (b : Branch) → b.goals ≡ entries (goal_list (instantiate_goals (λ i. atom (logic (k - suc i) 0)) gs)) [] nothing_written 0 0 → b.next ≡ k → b.pairs ≡ [] →
+    IsKnownAs (record { types = j; vars = k; arity = ar; outer = [] }) unbound (λ x. 0) b b
+start_known ar j k gs h b eg en ep = record {
   goals = subst (λ n. AllOfEntries (λ d t. Within (Known (λ x. 0) n) d (closed unbound t)) b.goals) (sym en) (subst (AllOfEntries (λ d t. Within (Known (λ x. 0) k) d (closed unbound t))) (sym eg) (query_known k gs h));
   values = subst (λ n. AllTerms (λ d t. Within (Known (λ x. 0) n) d (closed unbound t)) 0 (vars_from k 0)) (sym en) (vars_known k k 0 (omega arith));
   pairs = subst (AreKnownPairs (λ x. 0) b.next) (sym ep) tt;
@@ -116,8 +116,8 @@ module _ (qv : Query) (limit : ℕ) (m : Machine) (s : State Task) (b : Branch) 
         known = known;
       }))
 
-  pub begins_so : qv.outer ≡ [] → qv.limit ≡ limit → s.stack ≡ Go b ∷ [] → s.steps ≡ limit → s.rows ≡ row_limit → s.row ≡ row_limit → s.lost ≡ false → IsState qv m s
-  begins_so alone el' es et er eo el = record {
+  pub begins_so : qv.outer ≡ [] → s.stack ≡ Go b ∷ [] → s.steps ≡ limit → s.rows ≡ row_limit → s.row ≡ row_limit → s.lost ≡ false → IsState qv m s
+  begins_so alone es et er eo el = record {
     around = outermost;
     raw = b;
     goals = w.goals;
@@ -154,7 +154,6 @@ module _ (qv : Query) (limit : ℕ) (m : Machine) (s : State Task) (b : Branch) 
       under = under;
       counted = record {
         steps = (let e : limit ≡ limit - 0 = omega arith in et ∙ e ∙ ap (λ z. z.limit - z.steps) (sym k));
-        total = (let e = ap (λ z. z.steps) k in omega (arith, e, et, el'));
         rows = er;
         row = eo ∙ ap (λ z. row_limit - z.row) (sym k);
         lost = el ∙ ap (λ z. z.lost) (sym k);

@@ -19,13 +19,14 @@ use Rattle.lp_pattern.specs.Putting.{Known}
 use Rattle.lp_pattern.specs.Seen.{IsEndedHead}
 use Rattle.lp_pattern.specs.Under.{ValueIs}
 use Rattle.lp_plain.specs.declared.frame.Place.{Place}
+use Rattle.lp_plain.specs.declared.machine.Counts.{Counts}
 use Rattle.lp_plain.specs.declared.machine.Machine.{Machine}
 use Rattle.lp_plain.specs.declared.outcome.Turn.{Turn}
 use Rattle.lp_plain.specs.Apart.{IsApart}
 use Rattle.lp_plain.specs.AtRunTime.{IsAtLooked}
 use Rattle.lp_plain.specs.Entries.{Around, entry_at}
 use Rattle.lp_plain.specs.Calling.{LeadsOver, LeadsWith, WrittenBehind}
-use Rattle.lp_plain.specs.Moving.{BindsNone, IsMoved, IsRunning, PutsWith, Query, mark_in}
+use Rattle.lp_plain.specs.Moving.{BindsNone, IsMoved, IsRunning, PutsWith, Query, mark_in, quiet}
 use Rattle.lp_plain.specs.WrittenSearch.{IsShutIn, IsWrittenSearch}
 use Rattle.lp_plain.specs.Stacks.{base_of}
 use Rattle.lp_plain.specs.Taking.{IsApartForm, TakesKnown}
@@ -109,19 +110,19 @@ module _ (qv : Query) (m n : Machine) (a : Around) (raw : Branch) (s : State Tas
     looked : look unit_limit enough P (length h.rest) (Go h.at_work) ≡ look_form unit_limit enough P (length h.rest) f.first behind t (connective_of t)
     looked = front_look qv m a raw s h p at.value at.rest f enough P ∙ ap (look_normal unit_limit enough P (length h.rest) f.first behind) q
 
-    on : TakesKnown m n p k o → BindsNone m n → PutsWith m n → IsMoved qv Turn.On n (move go (look unit_limit enough P) s) s
+    on : TakesKnown m n p k o → BindsNone m n → PutsWith m n → IsMoved quiet qv Turn.On n (move go (look unit_limit enough P) s) s
     on tk bn pw =
         view_moves qv m n a raw s h rest refl w ea go enough P (look_form 0 0 [] 0 e rest x (connective_in m.bank k))
         (look_form unit_limit enough P (length h.rest) f.first behind t (connective_of t)) looked views
         (tk a rest h.above.done.stands h.placed at.place inside (record { goals = at.reads; next = h.next; next_type = h.next_type }) 0 0 0 [] x (Atomic at.value)) bn pw
 
-    stops : 1000000 ≤ m.counts.row → n.counts.steps ≡ m.counts.steps → IsMoved qv (Turn.Ended Deep) n (move go (look unit_limit enough P) s) s
+    stops : 1000000 ≤ m.counts.row → IsMoved quiet qv (Turn.Ended Deep) n (move go (look unit_limit enough P) s) s
     stops = view_stops qv m n a raw s h rest refl w ea go enough P (look_form 0 0 [] 0 e rest x (connective_in m.bank k))
         (look_form unit_limit enough P (length h.rest) f.first behind t (connective_of t)) looked views
 
   module _ (tk : TakesKnown m n p k o) (bn : BindsNone m n) (pw : PutsWith m n) (wr : IsShutIn m.bank k → IsWrittenSearch n qv.arity) where
-    on_leads : LeadsWith (IsWrittenSearch n qv.arity) 1 qv Turn.On n go (look unit_limit enough P) s
-    on_leads = elim (head_normal enough f.goal) as (λ y. head_normal enough f.goal ≡ y → LeadsWith (IsWrittenSearch n qv.arity) 1 qv Turn.On n go (look unit_limit enough P) s) [
+    on_leads : LeadsWith (IsWrittenSearch n qv.arity) 1 quiet qv Turn.On n go (look unit_limit enough P) s
+    on_leads = elim (head_normal enough f.goal) as (λ y. head_normal enough f.goal ≡ y → LeadsWith (IsWrittenSearch n qv.arity) 1 quiet qv Turn.On n go (look unit_limit enough P) s) [
       | None ↦ λ q. inr (inl (front_waits qv m a raw s h p at.value at.rest f enough P w ea go q))
       | Some t ↦ λ q. elim (seen_goal h.closing at.before at.value f.goal at.heads f.heads m.bank m.bindings h.reading.reading 1000000 enough t q x at.ended at.looked) [
         | inl y ↦ inl (on t q y.0 y.1 tk bn pw, wr (form_shut (Known h.levels raw.next) h.closing m.bank k (connective_of t) inside (form t q y.0 y.1) (form_is_known t q y.0 y.1)))
@@ -129,33 +130,33 @@ module _ (qv : Query) (m n : Machine) (a : Around) (raw : Branch) (s : State Tas
       ]
     ] refl
 
-  deep_leads : 1000000 ≤ m.counts.row → n.counts.steps ≡ m.counts.steps → LeadsWith (Unit {0}) 1 qv (Turn.Ended Deep) n go (look unit_limit enough P) s
-  deep_leads l c = elim (head_normal enough f.goal) as (λ y. head_normal enough f.goal ≡ y → LeadsWith (Unit {0}) 1 qv (Turn.Ended Deep) n go (look unit_limit enough P) s) [
+  deep_leads : 1000000 ≤ m.counts.row → LeadsWith (Unit {0}) 1 quiet qv (Turn.Ended Deep) n go (look unit_limit enough P) s
+  deep_leads l = elim (head_normal enough f.goal) as (λ y. head_normal enough f.goal ≡ y → LeadsWith (Unit {0}) 1 quiet qv (Turn.Ended Deep) n go (look unit_limit enough P) s) [
     | None ↦ λ q. inr (inl (front_waits qv m a raw s h p at.value at.rest f enough P w ea go q))
     | Some t ↦ λ q. elim (seen_goal h.closing at.before at.value f.goal at.heads f.heads m.bank m.bindings h.reading.reading 1000000 enough t q x at.ended at.looked) [
-      | inl y ↦ inl (stops t q y.0 y.1 l c, tt)
+      | inl y ↦ inl (stops t q y.0 y.1 l, tt)
       | inr y ↦ absurd (no_abs x y.0 apart_is)
     ]
   ] refl
 
-  by_count : (turn : Turn) → IsApart turn m.counts n.counts → (turn ≡ Turn.On → TakesKnown m n p k o) → (turn ≡ Turn.On → BindsNone m n) →
+  by_count : (turn : Turn) (new : Counts) → IsApart turn m.counts new → (turn ≡ Turn.On → TakesKnown m n p k o) → (turn ≡ Turn.On → BindsNone m n) →
       (turn ≡ Turn.On → PutsWith m n) → (turn ≡ Turn.On → IsShutIn m.bank k → IsWrittenSearch n qv.arity) →
-      LeadsWith (WrittenBehind turn n qv.arity) 1 qv turn n go (look unit_limit enough P) s
-  by_count Turn.On c tk bn pw wr = on_leads (tk refl) (bn refl) (pw refl) (wr refl)
-  by_count Turn.Back c tk bn pw wr = absurd c
-  by_count Turn.Answered c tk bn pw wr = absurd c
-  by_count (Turn.Ended Deep) c tk bn pw wr = deep_leads c.0 (ap (λ z. z.steps) c.1)
-  by_count (Turn.Ended NoMore) c tk bn pw wr = absurd c
-  by_count (Turn.Ended NoMoreCut) c tk bn pw wr = absurd c
-  by_count (Turn.Ended Enough) c tk bn pw wr = absurd c
-  by_count (Turn.Ended Steps) c tk bn pw wr = absurd c
-  by_count (Turn.Ended Flexible) c tk bn pw wr = absurd c
-  by_count (Turn.Ended (Arithmetic y)) c tk bn pw wr = absurd c
-  by_count (Turn.Ended OpenNot) c tk bn pw wr = absurd c
+      LeadsWith (WrittenBehind turn n qv.arity) 1 quiet qv turn n go (look unit_limit enough P) s
+  by_count Turn.On new c tk bn pw wr = on_leads (tk refl) (bn refl) (pw refl) (wr refl)
+  by_count Turn.Back new c tk bn pw wr = absurd c
+  by_count Turn.Answered new c tk bn pw wr = absurd c
+  by_count (Turn.Ended Deep) new c tk bn pw wr = deep_leads c.0
+  by_count (Turn.Ended NoMore) new c tk bn pw wr = absurd c
+  by_count (Turn.Ended NoMoreCut) new c tk bn pw wr = absurd c
+  by_count (Turn.Ended Enough) new c tk bn pw wr = absurd c
+  by_count (Turn.Ended Steps) new c tk bn pw wr = absurd c
+  by_count (Turn.Ended Flexible) new c tk bn pw wr = absurd c
+  by_count (Turn.Ended (Arithmetic y)) new c tk bn pw wr = absurd c
+  by_count (Turn.Ended OpenNot) new c tk bn pw wr = absurd c
 
 pub form_leads : (qv : Query) (m n : Machine) (a : Around) (raw : Branch) (s : State Task) (h : IsRunning qv m a raw s) (p : Place) (u : TermId) (o : Option ℕ) → IsAtLooked m h.closing a p u o raw →
     (k : Connective) → connective_of (tree m.bank u.0) ≡ connective_in m.bank k → IsConnectiveIn m.bank k → IsApartForm k → (turn : Turn) → IsApart
     turn m.counts n.counts → (turn ≡ Turn.On → TakesKnown m n p k o) →
-    (turn ≡ Turn.On → BindsNone m n) → (turn ≡ Turn.On → PutsWith m n) → (turn ≡ Turn.On → IsShutIn m.bank k → IsWrittenSearch n qv.arity) → (P : List Clause) → LeadsOver 2 qv turn n s P
+    (turn ≡ Turn.On → BindsNone m n) → (turn ≡ Turn.On → PutsWith m n) → (turn ≡ Turn.On → IsShutIn m.bank k → IsWrittenSearch n qv.arity) → (P : List Clause) → LeadsOver 2 quiet qv turn n s P
 form_leads qv m n a raw s h p u o at k is inside af turn c tk bn pw wr P w ea go enough few ty =
-    leads_more (WrittenBehind turn n qv.arity) qv turn n go (look unit_limit enough P) s (by_count qv m n a raw s h p u o at k is inside af w ea go enough P turn c tk bn pw wr)
+    leads_more (WrittenBehind turn n qv.arity) quiet qv turn n go (look unit_limit enough P) s (by_count qv m n a raw s h p u o at k is inside af w ea go enough P turn n.counts c tk bn pw wr)

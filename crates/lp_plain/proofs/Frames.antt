@@ -1,6 +1,6 @@
 -- Goals that are put in front of others, as entries of the definition.
-use Rattle.std.proofs.Common.{◌≡◌, ℕ, suc, ◌≤◌, List, [], ◌∷◌, ◌++◌, length, take, inl, inr, refl, sym, ap, ◌∙◌, subst, arith, Option, Some}
-use Rattle.std.specs.Prelude.{slice_get}
+use Rattle.std.proofs.Common.{◌≡◌, ℕ, suc, ◌<◌, ◌≤◌, List, [], ◌∷◌, ◌++◌, length, take, inl, inr, refl, sym, ap, ◌∙◌, subst, arith, Option, Some, None}
+use Rattle.std.specs.Prelude.{◌⊎◌, slice_get}
 use Rattle.std.proofs.Math.Seq.{take-append_seam}
 use Rattle.std.proofs.lemmas.List.{take-append-le, take_all}
 use Rattle.std.proofs.lemmas.Option.{slice_get_within}
@@ -31,7 +31,8 @@ module _ (b : Nodes) (t : Shown) (s : Blocks) (a : Around) where
       a_frame i f gs rest e (get_append fs more i f g) h (subst (λ l. AreEntries b t s a l f.behind rest) (sym (take-append-le i fs more (omega (arith, l)))) k) z
 
   -- a frame in front
-  pub frame_put : (fs gs : List Frame) (f : Frame) (hs : List Goal) (es : List Entry) → gs ≡ fs ++ f ∷ [] → AreTodo b t s f.place f.todo hs → AreEntries b t s a fs f.behind es → AreEntries b t s a gs (Some (length fs)) (placed a f.place hs ++ es)
+  pub frame_put : (fs gs : List Frame) (f : Frame) (hs : List Goal) (es : List Entry) → gs ≡ fs ++ f ∷ [] → AreTodo b t s f.place f.todo hs →
+      AreEntries b t s a fs f.behind es → AreEntries b t s a gs (Some (length fs)) (placed a f.place hs ++ es)
   frame_put fs gs f hs es e h k =
       subst (λ l. AreEntries b t s a l (Some (length fs)) (placed a f.place hs ++ es)) (sym e)
       (a_frame (length fs) f hs es refl (get_push fs f) h (subst (λ l. AreEntries b t s a l f.behind es) (sym (take-append_seam fs (f ∷ []))) k) refl)
@@ -72,15 +73,33 @@ keeps_then m n o k l = record {
 }
 
 -- a list of the table is what its numbers say
-pub list_todo : (m : Machine) (p : Place) (list : ℕ) (span : Span) (gs : List Goal) → slice_get m.table.lists.items list ≡ Some span → IsListAt m p list gs → AreTodo m.bank (shown m.table) (blocks_of m.scopes) p (Todo.Goals span) gs
+pub list_todo : (m : Machine) (p : Place) (list : ℕ) (span : Span) (gs : List Goal) → slice_get m.table.lists.items list ≡ Some span → IsListAt m p
+    list gs → AreTodo m.bank (shown m.table) (blocks_of m.scopes) p (Todo.Goals span) gs
 list_todo m p list span gs e h = go h.2
   where
     go : IsListOf m.bank m.table list h.0 → AreTodo m.bank (shown m.table) (blocks_of m.scopes) p (Todo.Goals span) gs
     go (inl x) = absurd x
     go (inr x) = let q : x.0 ≡ span = cc in (h.0, h.1, subst (λ z. AreGoals m.bank Never (shown m.table) z.from z.to h.0) q x.2, h.3, h.4)
 
+-- a number that is none stands for no list
+pub list_outside : (m : Machine) (p : Place) (list : ℕ) (gs : List Goal) → slice_get m.table.lists.items list ≡ None → IsListAt m p list gs → ⊥
+list_outside m p list gs e h = go h.2
+  where
+    go : IsListOf m.bank m.table list h.0 → ⊥
+    go (inl x) = x
+    go (inr x) = let q : None ≡ Some x.0 = sym e ∙ x.1 in cc
+
+-- the frame of a list's goals was put
+pub list_put : (m n : Machine) (p : Place) (o : Option ℕ) (there : Option Span) (span s : Span) → there ≡ Some span → there ≡ Some s → span.from < span.to →
+    n.frames.items ≡ m.frames.items ++ record { todo = Todo.Goals span; place = p; behind = o } ∷ [] →
+    (n.frames.items ≡ m.frames.items) ⊎ ((s.from < s.to) × (n.frames.items ≡ m.frames.items ++ record { todo = Todo.Goals s; place = p; behind = o } ∷ []))
+list_put m n p o there span s e f l h =
+    let q : span ≡ s = (let z : Some span ≡ Some s = sym e ∙ f in cc) in
+    subst (λ (x : Span). (n.frames.items ≡ m.frames.items) ⊎ ((x.from < x.to) × (n.frames.items ≡ m.frames.items ++ record { todo = Todo.Goals x; place = p; behind = o } ∷ []))) q (inr (l, h))
+
 -- an empty one leaves the goals behind it
-pub list_empty : (m : Machine) (a : Around) (p : Place) (list : ℕ) (span : Span) (gs : List Goal) (o : Option ℕ) (es : List Entry) → slice_get m.table.lists.items list ≡ Some span → span.to ≤ span.from → IsListAt m p list gs → Reads m a o es →
+pub list_empty : (m : Machine) (a : Around) (p : Place) (list : ℕ) (span : Span) (gs : List Goal) (o : Option ℕ) (es : List Entry) → slice_get
+    m.table.lists.items list ≡ Some span → span.to ≤ span.from → IsListAt m p list gs → Reads m a o es →
     Reads m a o (placed a p gs ++ es)
 list_empty m a p list span gs o es e l h r =
     let t = list_todo m p list span gs e h in
@@ -88,7 +107,8 @@ list_empty m a p list span gs o es e l h r =
     let z : gs ≡ [] = t.4 ∙ ap (λ x. goal_list (in_scope t.1 p.values.types x)) n in
     subst (λ x. Reads m a o (placed a p x ++ es)) (sym z) r
 
-pub keeps_same : (m n n' : Machine) → KeepsGoals m n → n'.bank ≡ n.bank → n'.bindings ≡ n.bindings → n'.scopes ≡ n.scopes → n'.table ≡ n.table → n'.standings ≡ n.standings → n'.index ≡ n.index → n'.frames ≡ n.frames → KeepsGoals m n'
+pub keeps_same : (m n n' : Machine) → KeepsGoals m n → n'.bank ≡ n.bank → n'.bindings ≡ n.bindings → n'.scopes ≡ n.scopes → n'.table ≡ n.table →
+    n'.standings ≡ n.standings → n'.index ≡ n.index → n'.frames ≡ n.frames → KeepsGoals m n'
 keeps_same m n n' k b d s t g i f = record {
   known = record { bank = b ∙ k.known.bank; bindings = d ∙ k.known.bindings; scopes = s ∙ k.known.scopes; table = t ∙ k.known.table; standings = g ∙ k.known.standings; index = i ∙ k.known.index };
   frames = subst (λ x. GoesOn m.frames.items x.items) (sym f) k.frames;
@@ -102,12 +122,15 @@ front_stays : {X : Type 0} (n : ℕ) (xs ys : List X) → GoesOn xs ys → n ≡
 front_stays n xs ys g e = ap (take n) g.1 ∙ ap (λ k. take k (xs ++ g.0)) e ∙ take-append_seam xs g.0
 
 -- goals of now read so in an alternative that is put now
-pub kept_choice : (m n : Machine) (a : Around) (o : Option ℕ) (es : List Entry) (c : Choice) → KeepsGoals m n → c.lengths.frames ≡ length m.frames.items → c.lengths.scopes.blocks ≡ block_count m.scopes → c.lengths.scopes.values ≡ value_count m.scopes → Reads m a o es →
+pub kept_choice : (m n : Machine) (a : Around) (o : Option ℕ) (es : List Entry) (c : Choice) → KeepsGoals m n → c.lengths.frames ≡ length
+    m.frames.items → c.lengths.scopes.blocks ≡ block_count m.scopes → c.lengths.scopes.values ≡ value_count m.scopes → Reads m a o es →
     AreEntries n.bank (shown n.table) (blocks_at c.lengths.scopes n.scopes) a (take c.lengths.frames n.frames.items) o es
 kept_choice m n a o es c k f b v r =
     let s = k.known.scopes in
-    let eb : take c.lengths.scopes.blocks n.scopes.blocks.items ≡ m.scopes.blocks.items = ap (λ z. take c.lengths.scopes.blocks z.blocks.items) s ∙ take_all c.lengths.scopes.blocks m.scopes.blocks.items (omega (arith, b)) in
-    let ev : take c.lengths.scopes.values n.scopes.values.items ≡ m.scopes.values.items = ap (λ z. take c.lengths.scopes.values z.values.items) s ∙ take_all c.lengths.scopes.values m.scopes.values.items (omega (arith, v)) in
+    let eb : take c.lengths.scopes.blocks n.scopes.blocks.items ≡ m.scopes.blocks.items = ap (λ z. take c.lengths.scopes.blocks z.blocks.items) s ∙
+    take_all c.lengths.scopes.blocks m.scopes.blocks.items (omega (arith, b)) in
+    let ev : take c.lengths.scopes.values n.scopes.values.items ≡ m.scopes.values.items = ap (λ z. take c.lengths.scopes.values z.values.items) s ∙
+    take_all c.lengths.scopes.values m.scopes.values.items (omega (arith, v)) in
     let z : blocks_of m.scopes ≡ blocks_at c.lengths.scopes n.scopes = (λ i. record { blocks = sym eb i; values = sym ev i }) in
     subst (λ b. AreEntries b (shown n.table) (blocks_at c.lengths.scopes n.scopes) a (take c.lengths.frames n.frames.items) o es) (sym k.known.bank)
     (subst (λ t. AreEntries m.bank (shown t) (blocks_at c.lengths.scopes n.scopes) a (take c.lengths.frames n.frames.items) o es) (sym k.known.table)
@@ -115,8 +138,10 @@ kept_choice m n a o es c k f b v r =
     (subst (λ fs. AreEntries m.bank (shown m.table) (blocks_of m.scopes) a fs o es) (sym (front_stays c.lengths.frames m.frames.items n.frames.items k.frames f)) r)))
 
 -- goals are put in front, and others are an alternative
-module _ (m n p q r : Machine) (a : Around) (b : Branch) (one other : List Entry) (o : Option ℕ) (k : KeepsGoals n p) (l : KeepsGoals p q) (j : KeepsGoals q r) (nb : n.branch ≡ m.branch) (pb : p.branch ≡ n.branch) (qb : q.branch ≡ p.branch)
-    (rn : r.branch.next ≡ q.branch.next) (rt : r.branch.next_type ≡ q.branch.next_type) (c : n.choices.items ≡ m.choices.items) (h : HasAlternative n p (Untried.Goals o)) (d : q.choices.items ≡ p.choices.items) (e : r.choices.items ≡ q.choices.items)
+module _ (m n p q r : Machine) (a : Around) (b : Branch) (one other : List Entry) (o : Option ℕ) (k : KeepsGoals n p) (l : KeepsGoals p q)
+    (j : KeepsGoals q r) (nb : n.branch ≡ m.branch) (pb : p.branch ≡ n.branch) (qb : q.branch ≡ p.branch)
+    (rn : r.branch.next ≡ q.branch.next) (rt : r.branch.next_type ≡ q.branch.next_type) (c : n.choices.items ≡ m.choices.items)
+    (h : HasAlternative n p (Untried.Goals o)) (d : q.choices.items ≡ p.choices.items) (e : r.choices.items ≡ q.choices.items)
     (bn : m.branch.next ≡ b.next) (bt : m.branch.next_type ≡ b.next_type) (x : Reads r a r.branch.goals one) (y : Reads n a o other) where
   pub split : AreTasks m r a (Go (with_goals b one) ∷ Go (with_goals b other) ∷ [])
   split = (

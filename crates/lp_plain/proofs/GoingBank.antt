@@ -75,7 +75,7 @@ module _ (qv : Query) (m n : Machine) (b : OnlyBank m n) (a : Around) (rest work
   }
 
 -- a search that goes on with the goals behind
-pub going_state : (qv : Query) (n : Machine) (a : Around) (rest work : Branch) (below : List Task) → IsGoingOn qv n a rest work below → (t : State Task) → t.stack ≡ Go work ∷ below → IsCounted qv n t → IsState qv n t
+pub going_state : (qv : Query) (n : Machine) (a : Around) (rest work : Branch) (below : List Task) → IsGoingOn qv n a rest work below → (t : State Task) → t.stack ≡ Go work ∷ below → IsCounted n t → IsState qv n t
 going_state qv n a rest work below g t e c = record {
   around = a;
   raw = rest;

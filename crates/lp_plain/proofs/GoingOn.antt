@@ -1,5 +1,5 @@
 -- An atom that took its step: the search is to go on with the goals behind it.
-use Rattle.std.proofs.Common.{◌<◌, arith, ◌≡◌, ℕ, ◌+◌, ◌-◌, List, length, sym, ap, ◌∙◌, subst, Option}
+use Rattle.std.proofs.Common.{◌≡◌, ℕ, ◌+◌, ◌-◌, List, length, sym, ap, ◌∙◌, subst, Option}
 use Rattle.std.specs.Prelude.{All}
 use Rattle.lp_calculus.specs.Term.{Term}
 use Rattle.lp_term.specs.Nodes.{Extends}
@@ -109,11 +109,10 @@ module _ (qv : Query) (m n : Machine) (a : Around) (raw : Branch) (s : State Tas
   }
 
 -- a step was counted
-pub step_counted : (qv : Query) (m n : Machine) (a : Around) (raw : Branch) (s : State Task) → IsRunning qv m a raw s → n.counts ≡ one_step m.counts → m.counts.steps < m.counts.limit → (w : ℕ) (stack : List Task) →
-    IsCounted qv n (record { steps = m.counts.limit - (m.counts.steps + 1); answers = w; given = s.given; rows = s.rows; row = s.rows; lost = s.lost; stack = stack })
-step_counted qv m n a raw s h c l w stack = record {
+pub step_counted : (qv : Query) (m n : Machine) (a : Around) (raw : Branch) (s : State Task) → IsRunning qv m a raw s → n.counts ≡ one_step m.counts → (w : ℕ) (stack : List Task) →
+    IsCounted n (record { steps = m.counts.limit - (m.counts.steps + 1); answers = w; given = s.given; rows = s.rows; row = s.rows; lost = s.lost; stack = stack })
+step_counted qv m n a raw s h c w stack = record {
   steps = ap (λ x. x.limit - x.steps) (sym c);
-  total = (let q = h.counted.steps in let t = h.counted.total in let e = ap (λ z. z.steps) c in omega (arith, q, t, e, l));
   rows = h.counted.rows;
   row = h.counted.rows ∙ ap (λ x. 1000000 - x.row) (sym c);
   lost = h.counted.lost ∙ ap (λ x. x.lost) (sym c);

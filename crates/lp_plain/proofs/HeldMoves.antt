@@ -59,19 +59,19 @@ module _ (qv : Query) (m : Machine) (s : State Task) (h : IsState qv m s) (none 
   within : IsWithin qv.arity m h.around number qv.outer
   within = within_of qv.arity m h.around m.denied number qv.outer inside h.running.above.inside.outer
 
-  by_pairs : (turn : Turn) (n : Machine) (b : Bool) → has_no_pairs (answer qv m s h none) ≡ b → (within.waiting.limit ≡ qv.limit → IsHeldTurn b turn n qv.arity s within.waiting within.others) → IsHeldBy qv turn n s
+  by_pairs : (turn : Turn) (n : Machine) (b : Bool) → has_no_pairs (answer qv m s h none) ≡ b → IsHeldTurn b turn n qv.arity s within.waiting within.others → IsHeldBy qv turn n s
   by_pairs turn n b e c = record {
     waiting = within.waiting;
     others = within.others;
     outer = within.outer;
     answer = answer qv m s h none;
     tells = λ k ea. (answer_notes qv m s h none k, answer_after qv m s h none k, λ go enough P. answer_tells qv m s h none k ea go enough P);
-    comes = λ l. subst (λ x. IsHeldTurn x turn n qv.arity s within.waiting within.others) (sym e) (c l);
+    comes = subst (λ x. IsHeldTurn x turn n qv.arity s within.waiting within.others) (sym e) c;
   }
 
   -- with residual pairs
-  pub held_open : (n : Machine) → n.counts.steps ≡ m.counts.steps → (m.branch.pairs.items ≡ [] → ⊥) → IsHeldBy qv (Turn.Ended OpenNot) n s
-  held_open n c some = let r = h.running in by_pairs (Turn.Ended OpenNot) n false (some_left m.bank r.closing m.branch.pairs.items r.at_work.pairs some r.under.pairs) (λ l. (let t = r.counted.total in omega (arith, t, c, l)))
+  pub held_open : (n : Machine) → (m.branch.pairs.items ≡ [] → ⊥) → IsHeldBy qv (Turn.Ended OpenNot) n s
+  held_open n some = let r = h.running in by_pairs (Turn.Ended OpenNot) n false (some_left m.bank r.closing m.branch.pairs.items r.at_work.pairs some r.under.pairs) tt
 
   -- without
   module _ (empty : m.branch.pairs.items ≡ []) (n : Machine) (cut : n.choices.items ≡ take number m.choices.items) (only : n ≡ searching_as m n)
@@ -86,13 +86,12 @@ module _ (qv : Query) (m : Machine) (s : State Task) (h : IsState qv m s) (none 
     counts_are : n.counts ≡ record m.counts { lost = within.denial.lost }
     counts_are = counts ∙ ap (λ b. record m.counts { lost = b }) is_around.1
 
-    back : w.limit ≡ qv.limit → IsBack (waiting_query qv.arity w within.others) n (woken w s.steps s.row w.rest)
-    back l = subst (λ z. IsBack (waiting_query qv.arity w within.others) z (woken w s.steps s.row w.rest)) (sym only) (record {
+    back : IsBack (waiting_query qv.arity w within.others) n (woken w s.steps s.row w.rest)
+    back = subst (λ z. IsBack (waiting_query qv.arity w within.others) z (woken w s.steps s.row w.rest)) (sym only) (record {
       around = h.around;
       above = held_alternatives qv m n h.around h.running.rest h.running.above number within.denial w within.others within.is within.more cut is_around.0;
       counted = record {
         steps = h.running.counted.steps ∙ ap (λ z. z.limit - z.steps) (sym counts_are);
-        total = (let q = h.running.counted.total in let e = ap (λ z. z.steps) (counts_are) in omega (arith, q, e, l));
         rows = refl;
         row = h.running.counted.row ∙ ap (λ z. 1000000 - z.row) (sym counts_are);
         lost = within.is.lost ∙ ap (λ z. z.lost) (sym counts_are);

@@ -1,9 +1,11 @@
 -- The links of the program's clauses lead from each to the next one with its constant; what is left of a chain behind a clause that passes the filter.
 use Rattle.std.proofs.Common.{◌≡◌, ℕ, zero, suc, ◌-◌, ◌<◌, ◌≤◌, List, [], ◌∷◌, ◌++◌, map, drop, length, cond, Option, Some, None, refl, sym, ap, ◌∙◌, subst, arith, inl, inr, append_assoc, append-nil}
-use Rattle.std.specs.Prelude.{filter, slice_get, slice_set, Bool, true, false, nat_eq, ◌⊎◌, option_map}
+use Rattle.std.specs.Prelude.{All, filter, slice_get, slice_set, Bool, true, false, nat_eq, ◌⊎◌, option_map}
 use Rattle.std.proofs.lemmas.Bool.{eqb-true}
+use Rattle.std.proofs.lemmas.List.{length-map}
 use Rattle.std.proofs.lemmas.Option.{slice_get-map}
 use Rattle.lp_calculus.specs.Term.{Term, atom, constant, text}
+use Rattle.lp_plain.proofs.Within.{all_at}
 use Rattle.lp_term.specs.Node.{TermBelow}
 use Rattle.lp_term.specs.Nodes.{Nodes, tree, node_tree}
 use Rattle.lp_term.specs.Shapes.{term_shape}
@@ -15,7 +17,7 @@ use Rattle.lp_plain.specs.declared.head.Key.{Key}
 use Rattle.lp_plain.specs.declared.frame.Assumption.{Assumption}
 use Rattle.lp_plain.specs.declared.candidates.Candidate.{Candidate}
 use Rattle.lp_plain.specs.declared.candidates.Candidate.TheVariants as candidate
-use Rattle.lp_plain.specs.Candidates.{IsChain, nexts, constant_of, constant_at, is_number, is_of, numbers_from, numbers_in, numbers, IsIndex, unlinked, set_next, AreFrom, IsLinked, passes, is_text_of, same_texts, meets, meets_at, IsLeft, in_turn, AreLeft}
+use Rattle.lp_plain.specs.Candidates.{AreInOrder, IsChain, nexts, constant_of, constant_at, is_number, is_of, numbers_from, numbers_in, numbers, IsIndex, unlinked, set_next, AreFrom, IsLinked, passes, is_text_of, same_texts, meets, meets_at, IsLeft, in_turn, AreLeft}
 
 -- one link is set
 
@@ -314,3 +316,71 @@ pub after_program : (b : Nodes) (rules : List Rule) (older : List (Option ℕ)) 
 after_program b rules older first k found which i r left e s f l =
     let p = behind_program b rules older first k found i r left s f (subst (λ z. AreLeft b rules older first k (Some z) left) e l) in
     (p.0, p.1 ∙ ap (λ z. z ∷ p.0) (sym e), p.2)
+
+-- links change no number of clauses
+pub same_rules : (old new : List Rule) → map unlinked new ≡ map unlinked old → length new ≡ length old
+same_rules old new e = sym (length-map new unlinked) ∙ ap length e ∙ length-map old unlinked
+
+-- a number that is none is in no chain
+
+outside : {X : Type 0} (g : X → Option ℕ) (xs : List X) (k : ℕ) (next : Option ℕ) → slice_get xs k ≡ None → slice_get (map g xs) k ≡ Some next → ⊥
+outside g xs k next e h = let q : None ≡ Some next = sym (ap (option_map g) e) ∙ sym (slice_get-map g xs k) ∙ h in absurd (cc)
+
+pub left_outside : (b : Nodes) (rules : List Rule) (k : Option Key) (o : Option ℕ) (ks js : List ℕ) (i : ℕ) → o ≡ Some i → slice_get rules i ≡ None →
+    IsChain (nexts rules) o js → filter (passes b rules k) ks ≡ filter (passes b rules k) js →
+    IsLeft b rules k None (filter (passes b rules k) ks)
+left_outside b rules k o ks [] i e s c f = let a : None ≡ Some i = sym c ∙ e in absurd (cc)
+left_outside b rules k o ks (j ∷ js) i e s c f =
+    let a : Some j ≡ Some i = sym c.1 ∙ e in
+    let same : j ≡ i = cc in
+    absurd (outside (λ (x : Rule). x.next) rules j c.0 (ap (slice_get rules) same ∙ s) c.2)
+
+pub assumed_outside : (b : Nodes) (rules : List Rule) (assumptions : List Assumption) (first : Option ℕ) (k : Option Key) (which : Candidate) (i : ℕ)
+    (left : List Candidate) → which ≡ candidate.Assumed i → slice_get assumptions i ≡ None →
+    AreLeft b rules (map (λ (x : Assumption). x.older) assumptions) first k (Some which) left → ⊥
+assumed_outside b rules assumptions first k which i left e s l = go (subst (λ z. AreLeft b rules (map (λ (x : Assumption). x.older) assumptions) first k (Some z) left) e l)
+  where
+    go : AreLeft b rules (map (λ (x : Assumption). x.older) assumptions) first k (Some (candidate.Assumed i)) left → ⊥
+    go ([], ks, c, d, q) = absurd (cc)
+    go (j ∷ ns, ks, c, d, q) =
+        let a = c.1 in
+        let same : j ≡ i = cc in
+        outside (λ (x : Assumption). x.older) assumptions j c.0 (ap (slice_get assumptions) same ∙ s) c.2
+
+pub program_outside : (b : Nodes) (rules : List Rule) (older : List (Option ℕ)) (first : Option ℕ) (k : Option Key) (which : Candidate) (i : ℕ)
+    (left : List Candidate) → which ≡ candidate.Program i → slice_get rules i ≡ None →
+    AreLeft b rules older first k (Some which) left → ⊥
+program_outside b rules older first k which i left e s l = go (subst (λ z. AreLeft b rules older first k (Some z) left) e l)
+  where
+    go : AreLeft b rules older first k (Some (candidate.Program i)) left → ⊥
+    go (program, ([], c, d, p), q) = absurd (cc)
+    go (program, (j ∷ ks, c, d, p), q) =
+        let a = c.1 in
+        let same : j ≡ i = cc in
+        outside (λ (x : Rule). x.next) rules j c.0 (ap (slice_get rules) same ∙ s) c.2
+
+-- spans in order
+
+pub span_forth : (ss : List Span) (low i : ℕ) (s : Span) → AreInOrder low ss → slice_get ss i ≡ Some s → s.from ≤ s.to
+span_forth [] low i s h e = absurd (cc)
+span_forth (r ∷ ss) low zero s h e = let f : r ≡ s = cc in subst (λ (z : Span). z.from ≤ z.to) f h.1
+span_forth (r ∷ ss) low (suc i) s h e = span_forth ss r.to i s h.2 e
+
+pub span_low : (ss : List Span) (low : ℕ) (rules : List Rule) (i : ℕ) (s : Span) (first : ℕ) → AreInOrder low ss → All
+    (λ (r : Span). r.to ≤ length rules) ss → slice_get ss i ≡ Some s → first ≡ s.from → first ≤ length rules
+span_low ss low rules i s first h a g e =
+    let f = span_forth ss low i s h g in
+    let t = all_at (λ (r : Span). r.to ≤ length rules) ss i s g a in
+    omega (arith, e, f, t)
+
+next_from : (ss : List Span) (low : ℕ) (r : Span) → AreInOrder low ss → slice_get ss 0 ≡ Some r → low ≤ r.from
+next_from [] low r h e = absurd (cc)
+next_from (q ∷ ss) low r h e = let f : q ≡ r = cc in subst (λ (z : Span). low ≤ z.from) f h.0
+
+pub spans_apart : (ss : List Span) (low i : ℕ) (s r : Span) → AreInOrder low ss → slice_get ss i ≡ Some s → slice_get ss (suc i) ≡ Some r → (first : ℕ) → first ≡ r.from → s.to ≤ first
+spans_apart [] low i s r h e g first q = absurd (cc)
+spans_apart (p ∷ ss) low zero s r h e g first q =
+    let f : p ≡ s = cc in
+    let l = next_from ss p.to r h.2 g in
+    subst (λ (z : Span). z.to ≤ first) f (omega (arith, l, q))
+spans_apart (p ∷ ss) low (suc i) s r h e g first q = spans_apart ss p.to i s r h.2 e g first q

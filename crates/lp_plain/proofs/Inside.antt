@@ -38,7 +38,7 @@ module _ (ar : ℕ → ℕ) (m n : Machine) (a d : Around) (xs ys zs : List Choi
   outer_carried : (i : ℕ) (dn : Denial) (w : Waiting) (ws : List Waiting) → i < length xs → IsOuter ar m a i dn w ws → IsOuter ar n d i dn w ws
   outer_carried i dn w ws l h =
       let b = base_of dn.around in
-      let qv : Query = record { types = w.types; vars = w.vars; arity = ar; limit = w.limit; outer = ws } in
+      let qv : Query = record { types = w.types; vars = w.vars; arity = ar; outer = ws } in
       let r = carry qv (mark_in b h.raws) b b (outer_choices m i h.choice dn) h.raws h.others (good i dn h.choice l h.there) h.stand h.are in
       let e = sym (same_choices i h.choice dn (omega (arith, l))) in
       record {
@@ -85,7 +85,7 @@ module _ (qv : Query) (m : Machine) (a : Around) (stack : List Task) (h : HasAlt
       let at : i ≡ length xs = omega (arith, b) in
       let same : o.choice ≡ x = (let p : Some o.choice ≡ Some x = sym o.there ∙ (λ j. slice_get (e j) (at j)) ∙ got_last xs x in cc) in
       let base = base_of dn.around in
-      let r = last_of (record { types = w.types; vars = w.vars; arity = qv.arity; limit = w.limit; outer = ws }) (mark_in base o.raws) base (drop base (take i m.choices.items)) (way_back o.choice dn) o.raws o.others o.stand o.are in
+      let r = last_of (record { types = w.types; vars = w.vars; arity = qv.arity; outer = ws }) (mark_in base o.raws) base (drop base (take i m.choices.items)) (way_back o.choice dn) o.raws o.others o.stand o.are in
       let kp = r.kept in
       subst (IsBefore m a) same (record {
         kept = record { frames = kp.frames; blocks = kp.blocks; values = kp.values; assumptions = kp.assumptions; newest = kp.newest; standings = kp.standings; placed = kp.placed };

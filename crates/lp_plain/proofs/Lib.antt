@@ -9,6 +9,8 @@ pub mod Instances
 pub mod ListReads
 pub mod NewestTrees
 pub mod RenewedTypes
+mod Fed
+mod Served
 pub mod Scoped
 pub mod Spines
 pub mod Workings
@@ -64,7 +66,8 @@ pub mod Backwards
 pub mod Marked
 pub mod Counted
 pub mod Marking
-pub mod Resumed
+pub mod Relayed
+mod Resumed
 pub mod ProgramHeads
 pub mod TryGrows
 pub mod GoalsUnder
@@ -169,3 +172,6 @@ mod DenyBegins
 mod DenyTurns
 mod DenyFirst
 mod DenyStands
+mod Hearing
+mod ChoicesBack
+mod Passing

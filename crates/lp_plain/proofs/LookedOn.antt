@@ -13,7 +13,7 @@ use Rattle.lp_plain.specs.Assuming.{GrowsAt, IsPlaceAt, lists_of}
 use Rattle.lp_plain.specs.AtRunTime.{IsAtLooked, IsAtTerm}
 use Rattle.lp_plain.specs.Entries.{Around, GrowsGoals}
 use Rattle.lp_plain.specs.HeadLooks.{LooksAt, OnlyBank}
-use Rattle.lp_plain.specs.Moving.{IsRunning, LeadsTo, Query}
+use Rattle.lp_plain.specs.Moving.{IsRunning, LeadsTo, Query, Tally}
 use Rattle.lp_plain.specs.Within.{StandsIn}
 use Rattle.lp_plain.proofs.Assumed.{place_on}
 use Rattle.lp_plain.proofs.FrontGoals.{front_of, front_waits}
@@ -32,7 +32,11 @@ module _ (m n : Machine) (b : OnlyBank m n) where
 
   pub bank_grown : (p : Place) → GrowsAt m n p
   bank_grown p =
-      grown_still m n p bank_goals (ap (λ z. z.frames) b.same) (record { assumptions = ap (λ z. z.assumptions) b.same; newest = ap (λ z. z.newest) b.same }) (ap (λ z. z.standings) b.same) (ap (λ z. z.index) b.same)
+      grown_still m n p bank_goals (ap (λ z. z.frames) b.same) (record {
+        assumptions = ap (λ z. z.assumptions) b.same;
+        newest = ap (λ z. z.newest)
+            b.same;
+      }) (ap (λ z. z.standings) b.same) (ap (λ z. z.index) b.same)
       (ap (λ z. z.denied) b.same)
 
   pub place_later : (a : Around) (p : Place) → StandsIn m → IsPlaceAt (lists_of m) a p → IsPlaceAt (lists_of n) a p
@@ -45,10 +49,13 @@ module _ (m n : Machine) (b : OnlyBank m n) where
         let next = ap (λ z. z.next) branch in
         let c = ap (λ z. z.counts) b.same in
         running_still qv m n a a raw s h (bank_still h.above.done.stands) (placed_on m n a p (bank_grown p) h.above.done.stands h.placed pl) (grown_on m n p (bank_grown p))
-        (same_around (length m.newest.items) (length m.standings.items) a) (record { bindings = ap (λ z. z.bindings) b.same; pairs = ap (λ z. z.pairs) branch }) (ap (λ z. z.choices.items) b.same) h.levels raw h.at_work s h.under
+        (same_around (length m.newest.items) (length m.standings.items) a) (record {
+          bindings = ap (λ z. z.bindings) b.same;
+          pairs = ap (λ z. z.pairs)
+              branch;
+        }) (ap (λ z. z.choices.items) b.same) h.levels raw h.at_work s h.under
         (omega (arith, next)) (next ∙ h.next) (ap (λ z. z.next_type) branch ∙ h.next_type) h.stack (record {
           steps = h.counted.steps ∙ ap (λ x. x.limit - x.steps) (sym c);
-          total = (let q = h.counted.total in let e = ap (λ z. z.steps) (c) in omega (arith, q, e));
           rows = h.counted.rows;
           row = h.counted.row ∙ ap (λ x. 1000000 - x.row) (sym c);
           lost = h.counted.lost ∙ ap (λ x. x.lost) (sym c);
@@ -74,8 +81,9 @@ module _ (m n : Machine) (b : OnlyBank m n) where
     }
 
 -- a look that is too deep
-pub deep_look : (qv : Query) (m n : Machine) (a : Around) (raw : Branch) (s : State Task) (h : IsRunning qv m a raw s) (p : Place) (t : TermId) (o : Option ℕ) → IsAtTerm m a p t o raw → LooksAt m n t None → LeadsTo 1 qv (Turn.Ended Deep) n s
-deep_look qv m n a raw s h p t o at l w ea go enough few P ty =
+pub deep_look : (qv : Query) (m n : Machine) (a : Around) (raw : Branch) (s : State Task) (h : IsRunning qv m a raw s) (p : Place) (t : TermId)
+    (o : Option ℕ) → IsAtTerm m a p t o raw → LooksAt m n t None → (x : Tally) → LeadsTo 1 x qv (Turn.Ended Deep) n s
+deep_look qv m n a raw s h p t o at l x w ea go enough few P ty =
     let f = front_of qv m a raw s h p at.value at.rest at.goals in
     inr (inl (front_waits qv m a raw s h p at.value at.rest f enough P w ea go
     (lacks_steps h.closing (tree m.bank t.0) at.value f.goal at.heads f.heads 1000000 (omega arith) (l h.closing h.reading.reading) enough (few refl))))

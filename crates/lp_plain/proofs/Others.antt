@@ -402,7 +402,6 @@ module _ (qv : Query) (m : Machine) (a : Around) (call : Call) (one : Candidate)
               (subst (λ z. IsBranchUnder qv h.levels n.bank h.closing (mark_in base more) base (length m.choices.items) z.pairs.items h.raw h.rest) (sym br) under_more);
           counted = record {
             steps = h.counted.steps ∙ ap (λ x. x.limit - x.steps) (sym ct);
-            total = (let q = h.counted.total in let e = ap (λ z. z.steps) (ct) in omega (arith, q, e));
             rows = h.counted.rows;
             row = h.counted.row ∙ ap (λ x. 1000000 - x.row) (sym ct);
             lost = h.counted.lost ∙ ap (λ x. x.lost) (sym ct);

@@ -11,12 +11,13 @@ use Rattle.lp_model.specs.Unify.{unit_limit}
 use Rattle.lp_model.specs.declared.ending.Ending.TheVariants.{NoMore, NoMoreCut, Enough, Steps, Flexible, Arithmetic, OpenNot, Deep}
 use Rattle.lp_pattern.specs.Under.{ValueIs}
 use Rattle.lp_plain.specs.declared.frame.Place.{Place}
+use Rattle.lp_plain.specs.declared.machine.Counts.{Counts}
 use Rattle.lp_plain.specs.declared.machine.Machine.{Machine}
 use Rattle.lp_plain.specs.declared.outcome.Turn.{Turn}
 use Rattle.lp_plain.specs.declared.table.Flat.{Flat}
 use Rattle.lp_plain.specs.Apart.{IsApart}
 use Rattle.lp_plain.specs.Entries.{Around, entry_at}
-use Rattle.lp_plain.specs.Moving.{Query, AreEntriesUnder, BindsNone, IsAtGoal, IsMoved, IsPlain, IsPlainFirst, IsRunning, MovesTo, PutsWith, mark_in}
+use Rattle.lp_plain.specs.Moving.{Query, AreEntriesUnder, BindsNone, IsAtGoal, IsMoved, IsPlain, IsPlainFirst, IsRunning, MovesTo, PutsWith, mark_in, quiet}
 use Rattle.lp_plain.specs.Resuming.{AreKnownEntries}
 use Rattle.lp_plain.specs.Stacks.{base_of}
 use Rattle.lp_plain.specs.Tables.{IsGoal, Never, Shown, shown}
@@ -79,7 +80,8 @@ module _ (qv : Query) (m n : Machine) (a : Around) (raw : Branch) (s : State Tas
 
   views : IsViewUnder qv m.bank h.closing f base (length m.choices.items) m.branch.pairs.items rest (look_goal 0 0 [] 0 e rest e.goal) seen
   views =
-      parts_under qv h.levels m.bank h.closing h.reading.shut f base (length m.choices.items) m.branch.pairs.items e sp.first rest behind sp.entry.place sp.entry.mark sp.entry.low sp.entry.high (record {
+      parts_under qv h.levels m.bank h.closing h.reading.shut f base (length m.choices.items) m.branch.pairs.items e sp.first rest behind
+      sp.entry.place sp.entry.mark sp.entry.low sp.entry.high (record {
         goals = sp.others;
         next = h.under.next;
         next_type = h.under.next_type;
@@ -89,15 +91,16 @@ module _ (qv : Query) (m n : Machine) (a : Around) (raw : Branch) (s : State Tas
         known = record { goals = known_all.1; values = h.under.known.values; pairs = h.under.known.pairs; free = h.under.known.free };
       }) known_all.0 0 0 0 unit_limit enough (length h.rest) [] P new_variable e.goal sp.first.goal known_all.0.0 k sp.entry.goal
 
-  pub apart_moves : TakesOne m n a (look_goal 0 0 [] 0 e rest e.goal) → BindsNone m n → PutsWith m n → IsMoved qv Turn.On n (move go (look unit_limit enough P) s) s
+  pub apart_moves : TakesOne m n a (look_goal 0 0 [] 0 e rest e.goal) → BindsNone m n → PutsWith m n → IsMoved quiet qv Turn.On n (move go (look unit_limit enough P) s) s
   apart_moves = view_moves qv m n a raw s h rest refl w ea go enough P (look_goal 0 0 [] 0 e rest e.goal) seen looked views
 
   -- a million were taken apart
-  pub apart_stops : 1000000 ≤ m.counts.row → n.counts.steps ≡ m.counts.steps → IsMoved qv (Turn.Ended Deep) n (move go (look unit_limit enough P) s) s
+  pub apart_stops : 1000000 ≤ m.counts.row → IsMoved quiet qv (Turn.Ended Deep) n (move go (look unit_limit enough P) s) s
   apart_stops = view_stops qv m n a raw s h rest refl w ea go enough P (look_goal 0 0 [] 0 e rest e.goal) seen looked views
 
 -- by what the goal is in the table
-module _ (qv : Query) (m n : Machine) (p : Place) (flat : Flat) (o : Option ℕ) (turn : Turn) (taken : turn ≡ Turn.On → TakesApart m n p flat o) (none : turn ≡ Turn.On → IsApartFlat flat → BindsNone m n)
+module _ (qv : Query) (m n : Machine) (p : Place) (flat : Flat) (o : Option ℕ) (turn : Turn) (taken : turn ≡ Turn.On → TakesApart m n p flat o)
+    (none : turn ≡ Turn.On → IsApartFlat flat → BindsNone m n)
     (aside : turn ≡ Turn.On → IsApartFlat flat → PutsWith m n) (nc : flat ≡ Flat.Cut → ⊥) (a : Around) (raw : Branch) (s : State Task) (h : IsRunning qv m a raw s) (at : IsAtGoal m a p flat o raw)
     (pf : IsPlainFirst raw.goals) where
   abbrev goal : Goal
@@ -112,24 +115,24 @@ module _ (qv : Query) (m n : Machine) (p : Place) (flat : Flat) (o : Option ℕ)
   flat_is : IsApartFlat flat
   flat_is = flat_kind m.bank (shown m.table) flat at.goal at.is (kind_in at.values p.values.types at.goal kind)
 
-  goes_on : turn ≡ Turn.On → MovesTo qv Turn.On n s
+  goes_on : turn ≡ Turn.On → MovesTo quiet qv Turn.On n s
   goes_on e k ea go enough P =
       apart_moves qv m n a raw s h (entry_at a p goal) at.rest at.goals kind k ea go enough P
       (taken e a at.goal at.values (with_goals raw at.rest) h.above.done.stands h.placed at.place (kind_in at.values p.values.types at.goal kind) at.is at.at
       (record { goals = at.reads; next = h.next; next_type = h.next_type }) 0 0 0 []) (none e flat_is) (aside e flat_is)
 
-  by_count : (x : Turn) → x ≡ turn → IsApart x m.counts n.counts → MovesTo qv x n s
-  by_count Turn.On e c = goes_on (sym e)
-  by_count Turn.Back e c = absurd c
-  by_count Turn.Answered e c = absurd c
-  by_count (Turn.Ended Deep) e c = λ k ea go enough P. apart_stops qv m n a raw s h (entry_at a p goal) at.rest at.goals kind k ea go enough P c.0 (ap (λ z. z.steps) c.1)
-  by_count (Turn.Ended NoMore) e c = absurd c
-  by_count (Turn.Ended NoMoreCut) e c = absurd c
-  by_count (Turn.Ended Enough) e c = absurd c
-  by_count (Turn.Ended Steps) e c = absurd c
-  by_count (Turn.Ended Flexible) e c = absurd c
-  by_count (Turn.Ended (Arithmetic x)) e c = absurd c
-  by_count (Turn.Ended OpenNot) e c = absurd c
+  by_count : (x : Turn) → x ≡ turn → (new : Counts) → IsApart x m.counts new → MovesTo quiet qv x n s
+  by_count Turn.On e new c = goes_on (sym e)
+  by_count Turn.Back e new c = absurd c
+  by_count Turn.Answered e new c = absurd c
+  by_count (Turn.Ended Deep) e new c = λ k ea go enough P. apart_stops qv m n a raw s h (entry_at a p goal) at.rest at.goals kind k ea go enough P c.0
+  by_count (Turn.Ended NoMore) e new c = absurd c
+  by_count (Turn.Ended NoMoreCut) e new c = absurd c
+  by_count (Turn.Ended Enough) e new c = absurd c
+  by_count (Turn.Ended Steps) e new c = absurd c
+  by_count (Turn.Ended Flexible) e new c = absurd c
+  by_count (Turn.Ended (Arithmetic x)) e new c = absurd c
+  by_count (Turn.Ended OpenNot) e new c = absurd c
 
-  pub part_moves : IsApart turn m.counts n.counts → MovesTo qv turn n s
-  part_moves c = by_count turn refl c
+  pub part_moves : (new : Counts) → IsApart turn m.counts new → MovesTo quiet qv turn n s
+  part_moves new c = by_count turn refl new c

@@ -18,7 +18,7 @@ use Rattle.lp_plain.specs.declared.table.Flat.{Flat}
 use Rattle.lp_plain.specs.declared.table.Rule.{Rule}
 use Rattle.lp_plain.specs.declared.table.Span.{Span}
 use Rattle.lp_plain.specs.declared.table.Table.{Table}
-use Rattle.lp_plain.specs.Candidates.{unlinked}
+use Rattle.lp_plain.specs.Candidates.{AreInOrder, unlinked}
 use Rattle.lp_plain.specs.Starts.{AreFormulasIn, AreFlat, AreProgramOf}
 use Rattle.lp_plain.specs.Tables.{shown, IsHeadOf, IsGoal, IsListOf, AreGoals, IsRule, AreRules, AreClausesOf, Never}
 use Rattle.lp_plain.specs.Within.{IsFlatIn, IsRuleIn, IsTableIn}
@@ -64,10 +64,17 @@ ends_in d b (g ∷ fs) f (cs ∷ css) h =
     let r = ends_in d b fs f css h.1 in
     record { front = cs ∷ r.front; last = r.last; whole = ap (λ l. cs ∷ l) r.whole; fronts = (h.0, r.fronts); is_last = r.is_last }
 
+-- a span behind those that there are
+ordered_more : (low n : ℕ) (ss : List Span) (s : Span) → AreInOrder low ss → All (λ (r : Span). r.to ≤ n) ss → low ≤ n → n ≤ s.from → s.from ≤ s.to → AreInOrder low (ss ++ s ∷ [])
+ordered_more low n [] s h a l m f = (omega (arith, l, m), f, tt)
+ordered_more low n (r ∷ ss) s h a l m f =
+    (h.0, h.1, ordered_more r.to n ss s h.2 (All-tail (λ (q : Span). q.to ≤ n) r ss a) (All-head (λ (q : Span). q.to ≤ n) r ss a) m f)
+
 -- nothing is put yet
 pub none_put : (fs : List ClauseFormula) (b : Nodes) (t : Table) (spans : List Span) → spans ≡ [] → ArePut fs b b t t spans 0
 none_put fs b t spans e = record {
   kept = extends_same b;
+  order = subst (AreInOrder 0) (sym e) tt;
   ends = All_empty (λ (s : Span). s.to ≤ length t.rules.items) spans e;
   within = λ i. i;
   spans_are = λ i f d css h. subst (λ ss. AreProgramOf b t ss css) (sym e) (go d css h);
@@ -83,6 +90,7 @@ module _ (fs : List ClauseFormula) (a b d : Nodes) (t u v : Table) (spans spans'
     (flat : (n : ℕ) (e : ℕ → Option Scheme) (g : Clauses) (later : Nodes) → flatten n e (formula_of b f) ≡ Some g → Extends d later → clauses_of later cs ≡ g)
     (inside : IsTableIn (length b.terms) u → IsTableIn (length d.terms) v) (means : AreClausesOf d v s (clauses_of d cs))
     (leads : LeadsTo d Never Never (shown u) (shown v)) (more : spans' ≡ spans ++ s ∷ []) (next : k' ≡ suc k) (end : s.to ≤ length v.rules.items)
+    (behind : length u.rules.items ≤ s.from) (forth : s.from ≤ s.to)
   where
     same_formula : f.formula.0 < length a.terms → formula_of b f ≡ formula_of a f
     same_formula l = ap (λ z. record { type_vars = f.type_vars; formula = z }) (p.kept.same_terms f.formula.0 l)
@@ -106,7 +114,15 @@ module _ (fs : List ClauseFormula) (a b d : Nodes) (t u v : Table) (spans spans'
         (λ (s : Span). s.to ≤ length v.rules.items) (λ r h. omega (arith, h, l)) spans p.ends) end
 
     pub one_put : ArePut fs a d t v spans' k'
-    one_put = record { kept = extends-trans a b d p.kept x; ends = ends_more; within = λ i. inside (p.within i); spans_are = spans_more }
+    one_put = record {
+      kept = extends-trans a b d p.kept x;
+      order = subst (AreInOrder 0) (sym more)
+          (ordered_more 0 (length u.rules.items) spans s p.order p.ends (omega arith) behind forth);
+      ends = ends_more;
+      within = λ i. inside
+          (p.within i);
+      spans_are = spans_more;
+    }
 
 -- clauses whose links are others
 

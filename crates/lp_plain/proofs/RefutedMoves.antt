@@ -103,12 +103,12 @@ module _ (qv : Query) (m : Machine) (s : State Task) (h : IsBack qv m s) (rest :
     abbrev w : Waiting
     w = within.waiting
 
-    by_lost : (turn : Turn) (n : Machine) (lost : Bool) → m.counts.lost ≡ lost → (within.waiting.limit ≡ qv.limit → IsRefutedTurn lost turn n qv.arity s within.waiting within.others) → IsRefutedBy qv turn n s
+    by_lost : (turn : Turn) (n : Machine) (lost : Bool) → m.counts.lost ≡ lost → IsRefutedTurn lost turn n qv.arity s within.waiting within.others → IsRefutedBy qv turn n s
     by_lost turn n lost l c = record { waiting = within.waiting; others = within.others; outer = within.outer; lost = lost; stops = stops_at lost l; comes = c }
 
     -- a cut removed one
-    pub refuted_open : (n : Machine) → n.counts.steps ≡ m.counts.steps → m.counts.lost ≡ true → IsRefutedBy qv (Turn.Ended OpenNot) n s
-    refuted_open n c l = by_lost (Turn.Ended OpenNot) n true l (λ k. (let t = h.counted.total in omega (arith, t, c, k)))
+    pub refuted_open : (n : Machine) → m.counts.lost ≡ true → IsRefutedBy qv (Turn.Ended OpenNot) n s
+    refuted_open n l = by_lost (Turn.Ended OpenNot) n true l tt
 
     -- none was removed: the search that waited goes back to the goals behind
     module _ (t : Machine) (taken : IsTaken m t last rest) where
@@ -138,11 +138,11 @@ module _ (qv : Query) (m : Machine) (s : State Task) (h : IsBack qv m s) (rest :
       abbrev x : Machine
       x = record m { choices = with_items m.choices (take (length rest) m.choices.items ++ led ∷ []) count; denied = within.denial.around; counts = record m.counts { lost = within.denial.lost } }
 
-      waiting_back : w.limit ≡ qv.limit → IsBack (waiting_query qv.arity w within.others) x (woken w s.steps s.row (Go w.branch ∷ w.rest))
-      waiting_back k = record {
+      waiting_back : IsBack (waiting_query qv.arity w within.others) x (woken w s.steps s.row (Go w.branch ∷ w.rest))
+      waiting_back = record {
         around = h.around;
         above = waiting_alternatives qv m x h.around s.stack h.above (length rest) within.denial w within.others within.is within.more refl refl;
-        counted = record { steps = h.counted.steps; total = (let t = h.counted.total in omega (arith, t, k)); rows = refl; row = h.counted.row; lost = within.is.lost };
+        counted = record { steps = h.counted.steps; rows = refl; row = h.counted.row; lost = within.is.lost };
       }
 
       -- back at it
@@ -179,10 +179,10 @@ module _ (qv : Query) (m : Machine) (s : State Task) (h : IsBack qv m s) (rest :
       assumes : KeepsAssumed back here
       assumes = record { assumptions = refl; newest = refl }
 
-      state : w.limit ≡ qv.limit → IsState (waiting_query qv.arity w within.others) here (woken w s.steps s.row (Go w.branch ∷ w.rest))
-      state k =
+      state : IsState (waiting_query qv.arity w within.others) here (woken w s.steps s.row (Go w.branch ∷ w.rest))
+      state =
           side_state (waiting_query qv.arity w within.others) x back here led rest within.denial.behind (ap (λ l. l ++ led ∷ []) older) refl (let l = within.is.low in l) led_taken
-          (goes_back x back here led rest within.denial.behind refl led_taken keeps refl refl refl refl refl refl) keeps assumes refl refl (woken w s.steps s.row (Go w.branch ∷ w.rest)) (waiting_back k)
+          (goes_back x back here led rest within.denial.behind refl led_taken keeps refl refl refl refl refl refl) keeps assumes refl refl (woken w s.steps s.row (Go w.branch ∷ w.rest)) waiting_back
 
       pub refuted_goes : (n : Machine) (v : Denial) → last.untried ≡ Untried.Denied v → n ≡ goes_around t v → m.counts.lost ≡ false → IsRefutedBy qv Turn.On n s
       refuted_goes n v u q l =
@@ -193,14 +193,14 @@ module _ (qv : Query) (m : Machine) (s : State Task) (h : IsBack qv m s) (rest :
                 { lost = within.denial.lost };
             branch = record t.branch { goals = within.denial.behind };
           }) (sym taken.counts) in
-          by_lost Turn.On n false l (λ f. subst (λ z. IsState (waiting_query qv.arity w within.others) z (woken w s.steps s.row (Go w.branch ∷ w.rest))) (k ∙ ap (goes_around t) (sym same) ∙ sym q) (state f))
+          by_lost Turn.On n false l (subst (λ z. IsState (waiting_query qv.arity w within.others) z (woken w s.steps s.row (Go w.branch ∷ w.rest))) (k ∙ ap (goes_around t) (sym same) ∙ sym q) state)
 
 -- by whether a cut had removed an alternative
 pub by_end : (qv : Query) (m : Machine) (s : State Task) (h : IsBack qv m s) (last : Choice) (rest : List Choice)
-    (e : m.choices.items ≡ rest ++ last ∷ []) (t : Machine) → IsTaken m t last rest → (n : Machine) (d : Denial) → n.counts.steps ≡ m.counts.steps →
+    (e : m.choices.items ≡ rest ++ last ∷ []) (t : Machine) → IsTaken m t last rest → (n : Machine) (d : Denial) →
     last.untried ≡ Untried.Denied d → n ≡ goes_around t d → (turn : Turn) (lost : Bool) → t.counts.lost ≡ lost → m.counts.lost ≡ t.counts.lost →
     (t.counts.lost ≡ true → turn ≡ Turn.Ended OpenNot) → (t.counts.lost ≡ false → turn ≡ Turn.On) → IsRefutedBy qv turn n s
-by_end qv m s h last rest e t tk n d c u only turn true l q cut holds =
-    subst (λ x. IsRefutedBy qv x n s) (sym (cut l)) (refuted_open qv m s h rest last e (inside_last qv m s h rest last e d u) n c (q ∙ l))
-by_end qv m s h last rest e t tk n d c u only turn false l q cut holds =
+by_end qv m s h last rest e t tk n d u only turn true l q cut holds =
+    subst (λ x. IsRefutedBy qv x n s) (sym (cut l)) (refuted_open qv m s h rest last e (inside_last qv m s h rest last e d u) n (q ∙ l))
+by_end qv m s h last rest e t tk n d u only turn false l q cut holds =
     subst (λ x. IsRefutedBy qv x n s) (sym (holds l)) (refuted_goes qv m s h rest last e (inside_last qv m s h rest last e d u) t tk n d u only (q ∙ l))

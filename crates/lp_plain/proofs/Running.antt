@@ -79,7 +79,7 @@ module _ (qv : Query) (m n : Machine) (a d : Around) (raw : Branch) (s : State T
       subst (λ q. IsBranchUnder qv lv n.bank h.closing f base u q.items b e) (sym bn.pairs) (branch_on qv lv m.bank h.closing base u m.branch.pairs.items n.bank g.lists.bank h.left f b e w)
 
   unfoldable pub running_still : n.choices.items ≡ m.choices.items → (lv : ℕ → ℕ) (b e : Branch) (t : State Task) → IsBranchUnder qv lv m.bank h.closing f base (length m.choices.items) m.branch.pairs.items b e →
-      m.branch.next ≤ n.branch.next → n.branch.next ≡ b.next → n.branch.next_type ≡ b.next_type → t.stack ≡ Go e ∷ h.rest → IsCounted qv n t → IsRunning qv n d b t
+      m.branch.next ≤ n.branch.next → n.branch.next ≡ b.next → n.branch.next_type ≡ b.next_type → t.stack ≡ Go e ∷ h.rest → IsCounted n t → IsRunning qv n d b t
   running_still ch lv b e t w l x y es ct = record {
     levels = lv;
     at_work = e;
@@ -153,7 +153,7 @@ module _ (qv : Query) (m n : Machine) (a d : Around) (raw : Branch) (s : State T
         let wy = w.types in
         in_turn_push qv m f base base (drop base m.choices.items) h.above.raws h.above.others c h.above.are h.above.in_turn (omega (arith, wt)) (omega (arith, wy))
 
-    pub running_more : (t : State Task) → m.branch.next ≤ n.branch.next → n.branch.next ≡ b.next → n.branch.next_type ≡ b.next_type → t.stack ≡ Go e ∷ Go y ∷ h.rest → IsCounted qv n t → IsRunning qv n d b t
+    pub running_more : (t : State Task) → m.branch.next ≤ n.branch.next → n.branch.next ≡ b.next → n.branch.next_type ≡ b.next_type → t.stack ≡ Go e ∷ Go y ∷ h.rest → IsCounted n t → IsRunning qv n d b t
     running_more t l nx ny es ct = record {
       levels = lv;
       at_work = e;

@@ -210,6 +210,10 @@ module _ (b : Nodes) (t : Shown) (ar : ℕ → ℕ) (k : ℕ) where
   denied_of {bs} (an_assume s l n e h j) x y q = absurd (let z : Flat.Not x y ≡ _ = sym q ∙ e in cc)
   denied_of {bs} (a_not l n e h) x y q = (let z : Flat.Not l n ≡ Flat.Not x y = sym e ∙ q in let p : l ≡ x = cc in subst (λ (i : ℕ). WrittenList b t ar k bs i) p h)
 
+  -- a list that is written is there
+  pub list_span : (bs : List Bool) (n : ℕ) → WrittenList b t ar k bs n → (s : Span) × (slice_get t.lists n ≡ Some s)
+  list_span bs n (a_list s e g) = (s, e)
+
   -- the goals of a list, the first of some goals and the others, a clause of some and the others
   pub list_goals : (bs : List Bool) (n : ℕ) (s : Span) → WrittenList b t ar k bs n → slice_get t.lists n ≡ Some s → WrittenGoals b t ar k bs s.from s.to
   list_goals bs n s (a_list x e w) q = subst (λ i. WrittenGoals b t ar k bs i.from i.to) (one_read t.lists n x s e q) w

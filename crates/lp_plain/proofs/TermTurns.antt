@@ -16,7 +16,7 @@ use Rattle.lp_plain.specs.AtRunTime.{IsAtLooked, IsAtTerm}
 use Rattle.lp_plain.specs.Calling.{LeadsOver}
 use Rattle.lp_plain.specs.Entries.{Around}
 use Rattle.lp_plain.specs.HeadLooks.{LooksAt, OnlyBank}
-use Rattle.lp_plain.specs.Moving.{BindsNone, IsRunning, PutsWith, Query}
+use Rattle.lp_plain.specs.Moving.{BindsNone, IsRunning, PutsWith, Query, quiet}
 use Rattle.lp_plain.specs.Taking.{IsApartForm, TakesKnown}
 use Rattle.lp_plain.specs.WrittenSearch.{IsShutIn, IsWrittenSearch}
 use Rattle.lp_plain.proofs.FormMoves.{form_leads}
@@ -33,7 +33,7 @@ module _ (qv : Query) (m n : Machine) (b : OnlyBank m n) (a : Around) (raw : Bra
   pub connective_turn : (q : Machine) (k : Connective) → connective_of (tree n.bank u.0) ≡ connective_in n.bank k → IsConnectiveIn n.bank k →
       IsApartForm k → (turn : Turn) → IsApart turn n.counts q.counts →
       (turn ≡ Turn.On → TakesKnown n q p k o) → (turn ≡ Turn.On → BindsNone n q) → (turn ≡ Turn.On → PutsWith n q) →
-      (turn ≡ Turn.On → IsShutIn n.bank k → IsWrittenSearch q qv.arity) → (P : List Clause) → LeadsOver 2 qv turn q s P
+      (turn ≡ Turn.On → IsShutIn n.bank k → IsWrittenSearch q qv.arity) → (P : List Clause) → LeadsOver 2 quiet qv turn q s P
   connective_turn q = form_leads qv n q a raw s now p u o looked
 
   -- any other goal, by what the turn says of it

@@ -26,7 +26,7 @@ use Rattle.lp_plain.specs.declared.outcome.Turn.{Turn}
 use Rattle.lp_plain.specs.declared.unified.Unified.{Unified}
 use Rattle.lp_plain.specs.Entries.{Around}
 use Rattle.lp_plain.specs.Followed.{IsTrialFor, clause_by, GoesOnAs, IsBranchFor, IsHeadRead, IsTryOf, LeavesFor, body_read, clause_read, levels_with, solved_try, tried_branch, tried_values}
-use Rattle.lp_plain.specs.Moving.{AreEntriesUnder, AreFew, IsAtTry, IsBranchUnder, IsCounted, IsState, Leads, Query, mark_in, turn_for}
+use Rattle.lp_plain.specs.Moving.{AreEntriesUnder, AreFew, IsAtTry, IsBranchUnder, IsCounted, IsState, Leads, Query, mark_in, quiet, turn_for}
 use Rattle.lp_plain.specs.Renewal.{renewing}
 use Rattle.lp_plain.specs.Resuming.{AllOfClause, AllTerms, AreKnownEntries, goal_with}
 use Rattle.lp_plain.specs.Stacks.{base_of}
@@ -154,7 +154,7 @@ module _ (qv : Query) (m n : Machine) (a : Around) (call : Call) (one : Candidat
     stands : StandsIn n
     stands = g.stands h.above.done.stands goal
 
-    pub goes_on : (t : State Task) → t.stack ≡ Go (resume tried st) ∷ h.below → IsCounted qv n t → IsState qv n t
+    pub goes_on : (t : State Task) → t.stack ≡ Go (resume tried st) ∷ h.below → IsCounted n t → IsState qv n t
     goes_on t et ct =
         let gr = grown_on m n call.place g.grows in
         let lt = same_around (length m.newest.items) (length m.standings.items) a in
@@ -224,10 +224,9 @@ module _ (qv : Query) (m n : Machine) (a : Around) (call : Call) (one : Candidat
   abbrev after : List Task → State Task
   after ts = record { steps = s.steps; answers = suc w; given = s.given; rows = s.rows; row = s.row; lost = s.lost; stack = ts ++ h.below }
 
-  counted : (ts : List Task) → IsCounted qv n (after ts)
+  counted : (ts : List Task) → IsCounted n (after ts)
   counted ts = record {
     steps = h.counted.steps ∙ ap (λ x. x.limit - x.steps) (sym g.counts);
-    total = (let q = h.counted.total in let e = ap (λ z. z.steps) (g.counts) in omega (arith, q, e));
     rows = h.counted.rows;
     row = h.counted.row ∙ ap (λ x. row_limit - x.row) (sym g.counts);
     lost = h.counted.lost ∙ ap (λ x. x.lost) (sym g.counts);
@@ -243,17 +242,15 @@ module _ (qv : Query) (m n : Machine) (a : Around) (call : Call) (one : Candidat
   second : (x : Task) (ts : List Task) → move go see (after (x ∷ ts)) ≡ move_view go s.steps w s.given s.rows s.row s.lost (ts ++ h.below) (see (length (ts ++ h.below)) x)
   second x ts = by_lost go see s.steps w s.given s.rows s.row s.lost x (ts ++ h.below)
 
-  lacks : tasks ≡ Lack ∷ [] → (turn : Turn) → Leads 1 qv turn n go see s
-  lacks e turn = inr (inr (0, [], after (Lack ∷ []), first_move (Lack ∷ []) e, sym ea, refl, inr (0, [], second Lack [])))
+  lacks : tasks ≡ Lack ∷ [] → (turn : Turn) → Leads 1 quiet qv turn n go see s
+  lacks e turn = inr (inr (quiet, quiet, after (Lack ∷ []), refl, first_move (Lack ∷ []) e, sym ea, refl, inr (0, [], second Lack [])))
 
-  fails : tasks ≡ [] → Leads 1 qv Turn.Back n go see s
+  fails : tasks ≡ [] → Leads 1 quiet qv Turn.Back n go see s
   fails e =
       let gr = grown_on m n call.place g.grows in
       let lt = same_around (length m.newest.items) (length m.standings.items) a in
       let sn = g.stands h.above.done.stands goal in
       inl (
-        0,
-        back [] h.below,
         after [],
         first_move [] e,
         record {
@@ -274,8 +271,8 @@ module _ (qv : Query) (m n : Machine) (a : Around) (call : Call) (one : Candidat
         refl,
       )
 
-  deep : tasks ≡ Stop Deep ∷ [] → Leads 1 qv (Turn.Ended Deep) n go see s
-  deep e = inr (inr (0, [], after (Stop Deep ∷ []), first_move (Stop Deep ∷ []) e, sym ea, refl, inl (second (Stop Deep) [], (counted (Stop Deep ∷ [])).total)))
+  deep : tasks ≡ Stop Deep ∷ [] → Leads 1 quiet qv (Turn.Ended Deep) n go see s
+  deep e = inr (inr (quiet, quiet, after (Stop Deep ∷ []), refl, first_move (Stop Deep ∷ []) e, sym ea, refl, inl (refl, second (Stop Deep) [])))
 
   abbrev there : Branch
   there = tried_branch call.place.level tr.trial.type_vars (length tr.vars) written_head t body_there h.entry.assumed h.entry.written h.height h.rest
@@ -312,11 +309,9 @@ module _ (qv : Query) (m n : Machine) (a : Around) (call : Call) (one : Candidat
       IsHeadRead tr.trial.type_vars h.rest.next_type written_head (clause_read h.closing tr.around tr.values.types one (clause tr.trial.type_vars tr.vars tr.head tr.trial.body)) →
       GoesOnAs m n call mark h.closing (levels_with h.levels m.branch.next call.place.level) (m.branch.next + length tr.vars) tr.trial.type_vars
       (instantiate_goals (tried_values m.branch.next call.place.level written_head t) body_there) st →
-      Leads 1 qv Turn.On n go see s
+      Leads 1 quiet qv Turn.On n go see s
   goes st e eq hr on =
       inl (
-        0,
-        [],
         after (Go (resume there st) ∷ []),
         first_move (Go (resume there st) ∷ []) e,
         goes_on qv m n a call one mark s h g goal tr.trial.type_vars (length tr.vars) written_head body_there st on
@@ -329,7 +324,7 @@ module _ (qv : Query) (m n : Machine) (a : Around) (call : Call) (one : Candidat
       IsHeadRead tr.trial.type_vars h.rest.next_type written_head (clause_read h.closing tr.around tr.values.types one (clause tr.trial.type_vars tr.vars tr.head tr.trial.body)) →
       LeavesFor u m n call mark enough h.closing (levels_with h.levels m.branch.next call.place.level) (m.branch.next + length tr.vars) tr.trial.type_vars
       (instantiate_goals (tried_values m.branch.next call.place.level written_head t) body_there) there o tasks →
-      Leads 1 qv (turn_for u) n go see s
+      Leads 1 quiet qv (turn_for u) n go see s
   by_outcome u None few q hr e = lacks e (turn_for u)
   by_outcome Unified.Fits (Some o) few q hr e = goes e.0 e.2 (q ∙ ap (λ x. Some x) e.1) hr e.3
   by_outcome Unified.Fails (Some o) few q hr e = fails e
@@ -346,7 +341,7 @@ module _ (qv : Query) (m n : Machine) (a : Around) (call : Call) (one : Candidat
     known = subst (λ i. AreKnownPairs h.levels i h.rest.pairs) (sym h.next) h.under.known.pairs;
   }
 
-  pub try_leads : (u : Unified) → AreFew (turn_for u) enough → IsTryOf m n call one mark u → Leads 1 qv (turn_for u) n go see s
+  pub try_leads : (u : Unified) → AreFew (turn_for u) enough → IsTryOf m n call one mark u → Leads 1 quiet qv (turn_for u) n go see s
   try_leads u few leaves =
       let r =
       leaves tr.vars tr.head tr.values tr.around tr.trial tr.own tr.terms tr.tys h.above.done.stands goal h.closing h.levels h.rest for_branch (tr.headed h.closing)

@@ -27,7 +27,7 @@ use Rattle.lp_plain.specs.Unifying.{IsMore}
 use Rattle.lp_plain.specs.WrittenTable.{HaveBinders, IsWrittenCandidate, IsWrittenClause, IsWrittenTodo, PutsList, StandsWritten, WrittenGoals, WrittenList, WrittenRule, a_rule, own_and}
 use Rattle.lp_plain.proofs.Growing.{grows_kept, grows_then}
 use Rattle.lp_plain.proofs.OwnValues.{one_read}
-use Rattle.lp_plain.proofs.TableWritten.{got_below, list_goals, own_many}
+use Rattle.lp_plain.proofs.TableWritten.{got_below, list_goals, list_span, own_many}
 use Rattle.lp_plain.proofs.TrialsFound.{one_scope}
 use Rattle.lp_plain.proofs.TryScopes.{more_grows}
 use Rattle.lp_plain.proofs.Within.{all_at}
@@ -104,28 +104,29 @@ body_written_on m k n o call candidate rule p g scope kn an fn nq ao same puts a
     let r = T.is.0 in
     let A = around_written m ar w.at_work candidate vs h values σ T c in
     let table : n.table ≡ m.table = kn.known.table ∙ g.table in
-    let P = puts r (ap (λ t. slice_get t.rules.items rule) table ∙ ap (slice_get m.table.rules.items) S.0 ∙ T.is.1) in
+    let W = body_written m.bank m ar A.0 A.1 T.rule r T.is.1 A.3 in
+    let Q = list_span m.bank (shown m.table) ar A.0 (own_and (length r.slots.items) A.1) r.body W in
+    let P = puts r (ap (λ t. slice_get t.rules.items rule) table ∙ ap (slice_get m.table.rules.items) S.0 ∙ T.is.1) Q.0 (subst (λ t. slice_get t.lists.items r.body ≡ Some Q.0) (sym table) Q.1) in
     let same_bank : o.bank ≡ k.bank = nq.known.bank ∙ kn.known.bank in
     let same_scopes : o.scopes ≡ k.scopes = nq.known.scopes ∙ kn.known.scopes in
     let grows : GrowsGoals m o = grows_then m k o (more_grows m k g) (grows_then k n o (grows_kept k n kn) (grows_kept n o nq)) in
     let assumptions : o.assumptions.items ≡ m.assumptions.items = ap (λ v. v.items) (ao.assumptions ∙ an.assumptions ∙ g.assumptions) in
     let old = older_written m o st grows ar m.frames.items m.assumptions.items st.frames w.at_work in
-    let goals : WrittenGoals m.bank (shown m.table) ar A.0 (own_and (length r.slots.items) A.1) P.0.from P.0.to =
-    list_goals m.bank (shown m.table) ar A.0 (own_and (length r.slots.items) A.1) r.body P.0 (body_written m.bank m ar A.0 A.1 T.rule r T.is.1 A.3)
-    (subst (λ t. slice_get t.lists.items r.body ≡ Some P.0) table P.1) in
+    let goals : WrittenGoals m.bank (shown m.table) ar A.0 (own_and (length r.slots.items) A.1) Q.0.from Q.0.to =
+    list_goals m.bank (shown m.table) ar A.0 (own_and (length r.slots.items) A.1) r.body Q.0 W Q.1 in
     let count : length r.slots.items ≡ length vs = T.is.3.count in
-    let new : IsWrittenTodo o.bank (shown o.table) ar (blocks_of o.scopes) p.values.scope (Todo.Goals P.0) = record {
+    let new : IsWrittenTodo o.bank (shown o.table) ar (blocks_of o.scopes) p.values.scope (Todo.Goals Q.0) = record {
       type_vars = A.0;
       binders = own_and (length vs) A.1;
       values = S.2;
       scope_holds = subst (λ x. Holds x.values.items x.blocks.items p.values.scope S.2) (sym same_scopes) S.3;
       have = own_binders m.bank o.bank (length vs) A.1 T.outer S.2 σ A.2 T.at S.4 (λ i v e. ap (λ b. tree b v.0) same_bank ∙ S.5 i v e);
-      is = subst (λ j. WrittenGoals o.bank (shown o.table) ar A.0 (own_and j A.1) P.0.from P.0.to) count
-          (subst (λ t. WrittenGoals o.bank (shown t) ar A.0 (own_and (length r.slots.items) A.1) P.0.from P.0.to) (sym grows.table)
+      is = subst (λ j. WrittenGoals o.bank (shown o.table) ar A.0 (own_and j A.1) Q.0.from Q.0.to) count
+          (subst (λ t. WrittenGoals o.bank (shown t) ar A.0 (own_and (length r.slots.items) A.1) Q.0.from Q.0.to) (sym grows.table)
           (goals_later m.bank o.bank grows.bank m.table st.table ar A.0 goals));
     } in
     search_grows m o st grows (goes_on_by m.assumptions.items o.assumptions.items assumptions) same ar (record {
-      goals = in_front P.0 P.2 old.goals new;
+      goals = in_front Q.0 P old.goals new;
       clauses = subst (λ xs. All (IsWrittenClause o.bank (shown o.table) ar (blocks_of o.scopes)) xs) (sym assumptions) old.clauses;
     }) w
   where

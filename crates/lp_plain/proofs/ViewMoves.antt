@@ -9,7 +9,7 @@ use Rattle.lp_model.specs.declared.ending.Ending.TheVariants.{Deep}
 use Rattle.lp_plain.specs.declared.machine.Machine.{Machine}
 use Rattle.lp_plain.specs.declared.outcome.Turn.{Turn}
 use Rattle.lp_plain.specs.Entries.{Around, ArePartsOf}
-use Rattle.lp_plain.specs.Moving.{Query, BindsNone, IsCounted, IsMoved, IsRunning, PutsWith, mark_in}
+use Rattle.lp_plain.specs.Moving.{Query, BindsNone, IsCounted, IsMoved, IsRunning, PutsWith, mark_in, quiet}
 use Rattle.lp_plain.specs.Stacks.{base_of}
 use Rattle.lp_plain.specs.Taking.{TakesOne}
 use Rattle.lp_plain.proofs.Counted.{at_limit}
@@ -31,24 +31,22 @@ module _ (qv : Query) (m n : Machine) (a : Around) (raw : Branch) (s : State Tas
         let c : n.counts.row ≡ m.counts.row + 1 = ap (λ x. x.row) t.quiet.counts in
         omega (arith, r, l, c)
 
-    counted : (stack : List Task) → IsCounted qv n (after_parts go (look unit_limit enough P) s w left stack)
+    counted : (stack : List Task) → IsCounted n (after_parts go (look unit_limit enough P) s w left stack)
     counted stack = record {
       steps = h.counted.steps ∙ ap (λ x. x.limit - x.steps) (sym t.quiet.counts);
-      total = (let q = h.counted.total in let e = ap (λ z. z.steps) (t.quiet.counts) in omega (arith, q, e));
       rows = h.counted.rows;
       row = refl;
       lost = h.counted.lost ∙ ap (λ x. x.lost) (sym t.quiet.counts);
     }
 
-    by_view : (v : View Task Answer) → v ≡ view → IsViewUnder qv m.bank h.closing (mark_in (base_of m.denied) h.above.raws) (base_of m.denied) (length m.choices.items) m.branch.pairs.items rest v seen →
-        IsMoved qv Turn.On n (move go (look unit_limit enough P) s) s
+    by_view : (v : View Task Answer) → v ≡ view → IsViewUnder qv m.bank h.closing (mark_in (base_of m.denied) h.above.raws) (base_of m.denied)
+        (length m.choices.items) m.branch.pairs.items rest v seen →
+        IsMoved quiet qv Turn.On n (move go (look unit_limit enough P) s) s
     by_view v q (one_part lv b d x y l u) =
         let parts = subst (ArePartsOf m n t.around) (sym q ∙ x) t.parts in
         let br = parts.0 in
         let bx = br.next in
         let mx = h.next ∙ sym same in (
-          0,
-          [],
           after_parts go (look unit_limit enough P) s w left (Go d ∷ h.rest),
           parts_move go (look unit_limit enough P) s w left (Go h.at_work) (Go d) h.rest [] ea row_is h.stack (looked ∙ y),
           record {
@@ -69,8 +67,6 @@ module _ (qv : Query) (m n : Machine) (a : Around) (raw : Branch) (s : State Tas
         let bx = br.next in
         let mx = h.next ∙ sym same in
         let kp = t.kept parts.1.0 ch in (
-          0,
-          [],
           after_parts go (look unit_limit enough P) s w left (Go d ∷ Go c' ∷ h.rest),
           parts_move go (look unit_limit enough P) s w left (Go h.at_work) (Go d) h.rest (Go c' ∷ []) ea row_is h.stack (looked ∙ y),
           record {
@@ -84,20 +80,21 @@ module _ (qv : Query) (m n : Machine) (a : Around) (raw : Branch) (s : State Tas
           refl,
         )
 
-    pub view_moves : IsMoved qv Turn.On n (move go (look unit_limit enough P) s) s
+    pub view_moves : IsMoved quiet qv Turn.On n (move go (look unit_limit enough P) s) s
     view_moves = by_view view refl views
 
   -- a million were taken apart
-  some_parts : IsViewUnder qv m.bank h.closing (mark_in (base_of m.denied) h.above.raws) (base_of m.denied) (length m.choices.items) m.branch.pairs.items rest view seen → (ts : List Task) × (seen ≡ Parts ts)
+  some_parts : IsViewUnder qv m.bank h.closing (mark_in (base_of m.denied) h.above.raws) (base_of m.denied) (length m.choices.items)
+      m.branch.pairs.items rest view seen → (ts : List Task) × (seen ≡ Parts ts)
   some_parts (one_part lv b d x y l u) = (Go d ∷ [], y)
   some_parts (two_parts lv b d c c' x y p r u o) = (Go d ∷ Go c' ∷ [], y)
 
-  pub view_stops : 1000000 ≤ m.counts.row → n.counts.steps ≡ m.counts.steps → IsMoved qv (Turn.Ended Deep) n (move go (look unit_limit enough P) s) s
-  view_stops l c =
+  pub view_stops : 1000000 ≤ m.counts.row → IsMoved quiet qv (Turn.Ended Deep) n (move go (look unit_limit enough P) s) s
+  view_stops l =
       let r = h.counted.row in
       let zero_row : s.row ≡ 0 = omega (arith, r, l) in
       let q = some_parts views in (
+        refl,
         (λ i. move_at go (look unit_limit enough P) s.steps (ea i) s.given s.rows (zero_row i) s.lost (h.stack i)) ∙
             at_limit go (look unit_limit enough P) s.steps w s.given s.rows s.lost (Go h.at_work) h.rest q.0 (looked ∙ q.1),
-        (let t = h.counted.total in omega (arith, t, c)),
       )

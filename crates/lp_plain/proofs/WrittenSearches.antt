@@ -1,6 +1,6 @@
 -- A search stays written: by what is put, by alternatives, and where it goes back.
 use Rattle.std.proofs.Common.{◌≡◌, ℕ, zero, suc, ◌<◌, ◌≤◌, Bool, true, List, [], ◌∷◌, ◌++◌, length, refl, sym, ap, ◌∙◌, subst, arith, Option, Some, inl, inr}
-use Rattle.std.specs.Prelude.{All, slice_get, take}
+use Rattle.std.specs.Prelude.{All, ◌⊎◌, slice_get, take}
 use Rattle.std.proofs.lemmas.List.{take-take, take_all}
 use Rattle.std.proofs.lemmas.List.Elements.{All-cons, All-head, All-nil, All-tail, All-weaker}
 use Rattle.lp_lemmas.proofs.Elements.{All_pushed}
@@ -10,6 +10,7 @@ use Rattle.lp_term.specs.Spine.{LooseBelow}
 use Rattle.lp_term.specs.declared.node.TermId.{TermId}
 use Rattle.lp_pattern.specs.Growing.{GoesOn}
 use Rattle.lp_pattern.proofs.Keeps.{goes_on_same}
+use Rattle.lp_plain.specs.declared.table.Span.{Span}
 use Rattle.lp_plain.specs.declared.choice.Choice.{Choice}
 use Rattle.lp_plain.specs.declared.choice.Untried.{Untried}
 use Rattle.lp_plain.specs.declared.frame.Frame.{Frame}
@@ -24,7 +25,7 @@ use Rattle.lp_plain.specs.Scopes.{Blocks, blocks_at, blocks_of}
 use Rattle.lp_plain.specs.Tables.{shown}
 use Rattle.lp_plain.specs.Within.{IsTodoIn, StandsIn}
 use Rattle.lp_plain.specs.WrittenSearch.{AreOlder, IsOlder, IsShut, IsWrittenAt, IsWrittenSearch, WritesList, WritesWhere}
-use Rattle.lp_plain.specs.WrittenTable.{AreWritten, HaveBinders, IsWrittenClause, IsWrittenIn, IsWrittenTodo, PutsList, StandsWritten, WrittenList}
+use Rattle.lp_plain.specs.WrittenTable.{AreWritten, HaveBinders, IsWrittenClause, IsWrittenIn, IsWrittenTodo, PutsList, StandsWritten, WrittenList, a_list}
 use Rattle.lp_plain.proofs.Alternatives.{taken_same}
 use Rattle.lp_plain.proofs.Growing.{all_taken, grows_kept}
 use Rattle.lp_plain.proofs.TableWritten.{list_goals}
@@ -153,20 +154,27 @@ search_frame m n f i k h c e l ar t w =
     }) w
 
 pub search_list : (m n : Machine) (l : ℕ) (p : Place) (behind : Option ℕ) → KeepsGoals m n → KeepsAssumed m n → n.choices.items ≡ m.choices.items → PutsList m n l p behind → WritesList m n p [] l
-search_list m n l p behind k h c (s, f, inl e) ar i t w =
-    let a : n.assumptions.items ≡ m.assumptions.items = ap (λ v. v.items) h.assumptions in
-    search_grows m n i (grows_kept m n k) (goes_on_by m.assumptions.items n.assumptions.items a) c ar (same_lists m n i (grows_kept m n k) e a ar w.at_work) w
-search_list m n l p behind k h c (s, f, inr (l1, e)) ar i t w =
-    search_frame m n _ i k h c e l1 ar
-    (record {
-      type_vars = t.type_vars;
-      binders = t.binders;
-      values = t.values;
-      scope_holds = t.scope_holds;
-      have = t.have;
-      is = list_goals m.bank
-          (shown m.table) ar t.type_vars t.binders l s t.is f;
-    }) w
+search_list m n l p behind k h c puts ar i t w = by t.is
+  where
+    from : (s : Span) → slice_get m.table.lists.items l ≡ Some s →
+        (n.frames.items ≡ m.frames.items) ⊎ ((s.from < s.to) × (n.frames.items ≡ m.frames.items ++ record { todo = Todo.Goals s; place = p; behind = behind } ∷ [])) → IsWrittenSearch n ar
+    from s f (inl e) =
+        let a : n.assumptions.items ≡ m.assumptions.items = ap (λ v. v.items) h.assumptions in
+        search_grows m n i (grows_kept m n k) (goes_on_by m.assumptions.items n.assumptions.items a) c ar (same_lists m n i (grows_kept m n k) e a ar w.at_work) w
+    from s f (inr (l1, e)) =
+        search_frame m n (record { todo = Todo.Goals s; place = p; behind = behind }) i k h c e l1 ar
+        (record {
+          type_vars = t.type_vars;
+          binders = t.binders;
+          values = t.values;
+          scope_holds = t.scope_holds;
+          have = t.have;
+          is = list_goals m.bank
+              (shown m.table) ar t.type_vars t.binders l s t.is f;
+        }) w
+
+    by : WrittenList m.bank (shown m.table) ar t.type_vars t.binders l → IsWrittenSearch n ar
+    by (a_list s f g) = from s f (puts s f)
 
 -- inside one more variable
 binders_more : (b : Nodes) (x : Bool) (bs : List Bool) (v : TermId) (vs : List TermId) → (x ≡ true → (j : ℕ) × (tree b v.0 ≡ atom (eigen j))) → HaveBinders b bs vs → HaveBinders b (x ∷ bs) (v ∷ vs)

@@ -15,7 +15,6 @@ abbrev pub apart : Machine → Machine
 apart m = record {
   alloc = m.alloc;
   bank = m.bank;
-  constants = m.constants;
   table = m.table;
   index = m.index;
   bindings = m.bindings;

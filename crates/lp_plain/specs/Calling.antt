@@ -1,5 +1,5 @@
 -- A call that is at hand: its step is taken, and its clauses are to be tried.
-use Rattle.std.specs.Prelude.{◌≡◌, ◌⊎◌, Bool, ◌<◌, ◌++◌, ℕ, zero, suc, List, length, Option, None, Some}
+use Rattle.std.specs.Prelude.{◌≡◌, ◌⊎◌, Bool, ◌<◌, ◌++◌, ℕ, zero, suc, List, length, Option, None, Some, ◌∷◌, []}
 use Rattle.lp_calculus.specs.Fill.{Within}
 use Rattle.lp_calculus.specs.Spine.{arguments, head_of}
 use Rattle.lp_lemmas.specs.Each.{EachOf}
@@ -9,7 +9,7 @@ use Rattle.lp_model.specs.Branch.{Answer, Branch, Entry, Task}
 use Rattle.lp_model.specs.Flat.{Atomic, Clause, Clauses}
 use Rattle.lp_model.specs.Pair.{Closing, closed}
 use Rattle.lp_model.specs.Search.{goal_looked, key_of, look, tries}
-use Rattle.lp_model.specs.Skeleton.{Goes, Inner, Note, State, View, move}
+use Rattle.lp_model.specs.Skeleton.{Goes, Inner, State, View, move}
 use Rattle.lp_model.specs.Unify.{unit_limit}
 use Rattle.lp_model.specs.declared.ending.Ending.TheVariants.{Deep}
 use Rattle.lp_pattern.specs.Putting.{Known}
@@ -27,7 +27,7 @@ use Rattle.lp_plain.specs.Entries.{Around, entry_at}
 use Rattle.lp_plain.specs.Forms.{IsFirst, StandsForm}
 use Rattle.lp_plain.specs.HeadLooks.{LooksAt, with_bank}
 use Rattle.lp_plain.specs.Heads.{IsKey}
-use Rattle.lp_plain.specs.Moving.{AreFew, HasNoVariable, IsBack, IsCounted, IsGoingOn, IsMoved, IsPlaceUnder, IsRunning, IsWaiting, Query}
+use Rattle.lp_plain.specs.Moving.{AreFew, HasNoVariable, IsBack, IsCounted, IsGoingOn, IsMoved, IsPlaceUnder, IsRunning, IsWaiting, Query, Tally, both, quiet}
 use Rattle.lp_plain.specs.Reached.{HasSmallGoal}
 use Rattle.lp_plain.specs.Resuming.{AllOfAssumed, AllOfClause, AllTerms}
 use Rattle.lp_plain.specs.Trials.{IsCallHead}
@@ -78,11 +78,11 @@ abbrev pub AreFewAt : Turn → (enough : ℕ) → List Task → Type 0
 AreFewAt turn enough ts = turn ≡ Turn.Ended Deep → (enough < 1000000) × HasSmallGoal ts
 
 -- a turn is at most so many moves of the definition more, the last of which is this turn's, and W holds behind it; or it waits
-abbrev pub LeadsWith : (W : Type 0) → ℕ → Query → Turn → (new : Machine) → (go : (Answer → Bool) → State Task → Inner) → (ℕ → Task → View Task Answer) → (before : State Task) → Type 0
-LeadsWith W zero qv turn n go see s = (IsMoved qv turn n (move go see s) s × W) ⊎ IsWaiting (move go see s)
-LeadsWith W (suc j) qv turn n go see s =
-    (IsMoved qv turn n (move go see s) s × W) ⊎ (IsWaiting (move go see s) ⊎ ((k : ℕ) × (ns : List Note) × (t : State Task) ×
-    (move go see s ≡ Goes k ns t) × (t.answers ≡ s.answers) × (t.given ≡ s.given) × LeadsWith W j qv turn n go see t))
+abbrev pub LeadsWith : (W : Type 0) → ℕ → Tally → Query → Turn → (new : Machine) → (go : (Answer → Bool) → State Task → Inner) → (ℕ → Task → View Task Answer) → (before : State Task) → Type 0
+LeadsWith W zero x qv turn n go see s = (IsMoved x qv turn n (move go see s) s × W) ⊎ IsWaiting (move go see s)
+LeadsWith W (suc j) x qv turn n go see s =
+    (IsMoved x qv turn n (move go see s) s × W) ⊎ (IsWaiting (move go see s) ⊎ ((y : Tally) × (z : Tally) × (t : State Task) × (x ≡ both y z) ×
+    (move go see s ≡ Goes y.steps y.notes t) × (t.answers ≡ s.answers) × (t.given ≡ s.given) × LeadsWith W j z qv turn n go see t))
 
 -- all in the search is written behind a turn that does not end it
 abbrev pub WrittenBehind : Turn → (new : Machine) → (arity : ℕ → ℕ) → Type 0
@@ -92,21 +92,22 @@ WrittenBehind Turn.Answered n ar = IsWrittenSearch n ar
 WrittenBehind (Turn.Ended e) n ar = Unit {0}
 
 -- behind its step the call leads there: the tries that the definition leaves of it come to this turn, in at most two moves; or there is none
-abbrev pub LeadsOn : Query → Turn → (new : Machine) → (go : (Answer → Bool) → State Task → Inner) → (enough : ℕ) → List Clause → State Task → Type 0
-LeadsOn qv turn n go enough P s = LeadsWith (WrittenBehind turn n qv.arity) 1 qv turn n go (look unit_limit enough P) s ⊎ ((turn ≡ Turn.Back) × IsBack qv n s × IsWrittenSearch n qv.arity)
+pub data LeavesTries (qv : Query) (turn : Turn) (n : Machine) (go : (Answer → Bool) → State Task → Inner) (see : ℕ → Task → View Task Answer) (s : State Task) (ts : List Task) : Type 0 where
+  some_tries : (t : Task) (rest : List Task) → ts ≡ t ∷ rest → LeadsWith (WrittenBehind turn n qv.arity) 1 quiet qv turn n go see s → LeavesTries qv turn n go see s ts
+  no_tries : ts ≡ [] → turn ≡ Turn.Back → IsBack qv n s → IsWrittenSearch n qv.arity → LeavesTries qv turn n go see s ts
 
 abbrev pub CallLeads : (old new : Machine) → Place → (goal : TermId) → Head → (first : Option TermId) → (behind : Option ℕ) → Turn → Type 0
 CallLeads m n p goal head first behind turn =
     m.branch.goals ≡ behind → (qv : Query) (a : Around) (rest work : Branch) (below : List Task) (g : IsGoingOn qv m a rest work below) (e : Entry) →
     IsAtCall qv m a p goal head first g.closing g.levels rest.next e → (css : List Clauses) → IsProgramIn m qv.arity css →
-    IsWrittenSearch m qv.arity → (s : State Task) (k : ℕ) → s.answers ≡ suc k → IsCounted qv m s → (go : (Answer → Bool) → State Task → Inner)
+    IsWrittenSearch m qv.arity → (s : State Task) (k : ℕ) → s.answers ≡ suc k → IsCounted m s → (go : (Answer → Bool) → State Task → Inner)
     (enough : ℕ) → AreFew turn enough → IsTypedOver qv.arity enough (all_clauses css) s →
-    s.stack ≡ tries (all_clauses css) e work (length below) (goal_looked enough (closed g.closing (tree m.bank goal.0))) ++ below → LeadsOn qv turn n go enough (all_clauses css) s
+    (ts : List Task) → ts ≡ tries (all_clauses css) e work (length below) (goal_looked enough (closed g.closing (tree m.bank goal.0))) → s.stack ≡ ts ++ below → LeavesTries qv turn n go (look unit_limit enough (all_clauses css)) s ts
 
 -- so over one program, for a turn that may be too deep
-abbrev pub LeadsOver : ℕ → Query → Turn → (new : Machine) → (before : State Task) → List Clause → Type 0
-LeadsOver j qv turn n s P = (k : ℕ) → s.answers ≡ suc k → (go : (Answer → Bool) → State Task → Inner) (enough : ℕ) → AreFewAt turn enough s.stack →
-    IsTypedOver qv.arity enough P s → LeadsWith (WrittenBehind turn n qv.arity) j qv turn n go (look unit_limit enough P) s
+abbrev pub LeadsOver : ℕ → Tally → Query → Turn → (new : Machine) → (before : State Task) → List Clause → Type 0
+LeadsOver j x qv turn n s P = (k : ℕ) → s.answers ≡ suc k → (go : (Answer → Bool) → State Task → Inner) (enough : ℕ) → AreFewAt turn enough s.stack →
+    IsTypedOver qv.arity enough P s → LeadsWith (WrittenBehind turn n qv.arity) j x qv turn n go (look unit_limit enough P) s
 
 -- the first argument of a call is in the bank
 abbrev pub IsFirstIn : (terms : ℕ) → Form → Type 0
@@ -114,16 +115,20 @@ IsFirstIn k (form.Call hd (Some u)) = u.0 < k
 IsFirstIn k f = Unit {0}
 
 -- over the clauses of the search's program, where all in it is written, this leads to the turn in three moves of the definition's search at most
-abbrev pub LeadsOf : (old new : Machine) → Query → Turn → (before : State Task) → Type 0
-LeadsOf m n qv turn s = (css : List Clauses) → IsProgramIn m qv.arity css → IsWrittenSearch m qv.arity → LeadsOver 2 qv turn n s (all_clauses css)
+abbrev pub LeadsOf : Tally → (old new : Machine) → Query → Turn → (before : State Task) → Type 0
+LeadsOf x m n qv turn s = (css : List Clauses) → IsProgramIn m qv.arity css → IsWrittenSearch m qv.arity → LeadsOver 2 x qv turn n s (all_clauses css)
+
+-- so much was heard, and with it this was told
+abbrev pub TellsOn : (Heard Told : Tally → Type 0) → Type 0
+TellsOn Heard Told = (x : Tally) × Heard x × Told x
 
 -- the turn of an atom, as it was looked at
-abbrev pub AtomTurns : (old new : Machine) → Place → (goal : TermId) → Form → (behind : Option ℕ) → Turn → Type 0
-AtomTurns m n p goal f behind turn =
+abbrev pub AtomTurns : (Heard : Tally → Type 0) → (old new : Machine) → Place → (goal : TermId) → Form → (behind : Option ℕ) → Turn → Type 0
+AtomTurns Heard m n p goal f behind turn =
     (qv : Query) (a : Around) (raw : Branch) (s : State Task) (h : IsRunning qv m a raw s) → IsAtLooked m h.closing a p goal behind raw → IsAtomForm
     m.bank (tree m.bank goal.0) f → StandsForm (length m.bank.terms) f → IsFirstIn (length m.bank.terms) f →
-    LeadsOf m n qv turn s
+    TellsOn Heard (λ x. LeadsOf x m n qv turn s)
 
 -- that of a goal that is known at run time
-abbrev pub TermTurns : (old new : Machine) → Place → (term : TermId) → (behind : Option ℕ) → Turn → Type 0
-TermTurns m n p term behind turn = (qv : Query) (a : Around) (raw : Branch) (s : State Task) → IsRunning qv m a raw s → IsAtTerm m a p term behind raw → LeadsOf m n qv turn s
+abbrev pub TermTurns : (Heard : Tally → Type 0) → (old new : Machine) → Place → (term : TermId) → (behind : Option ℕ) → Turn → Type 0
+TermTurns Heard m n p term behind turn = (qv : Query) (a : Around) (raw : Branch) (s : State Task) → IsRunning qv m a raw s → IsAtTerm m a p term behind raw → TellsOn Heard (λ x. LeadsOf x m n qv turn s)

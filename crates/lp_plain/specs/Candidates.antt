@@ -52,6 +52,11 @@ abbrev pub numbers : List Span → List ℕ
 numbers [] = []
 numbers (s ∷ ss) = numbers_in s ++ numbers ss
 
+-- each span begins where those before it have ended, or behind
+abbrev pub AreInOrder : (low : ℕ) → List Span → Type 0
+AreInOrder low [] = Unit {0}
+AreInOrder low (s ∷ ss) = (low ≤ s.from) × (s.from ≤ s.to) × AreInOrder s.to ss
+
 -- for each constant the table finds the first of these clauses that has it at its head, and the links lead to the others in order
 abbrev pub IsIndex : Nodes → List Rule → (first : ℕ → Option ℕ) → (clauses : List ℕ) → Type 0
 IsIndex b rules first ks = (c : ℕ) → IsChain (nexts rules) (first c) (filter (is_of b rules c) ks)
@@ -126,5 +131,6 @@ in_turn b rules k assumed program = map (λ i. candidate.Assumed i) assumed ++ m
 -- from the candidate that was found on these are left; first is the first program clause with the goal's head
 abbrev pub AreLeft : Nodes → List Rule → (older : List (Option ℕ)) → (first : Option ℕ) → Option Key → (found : Option Candidate) → (left : List Candidate) → Type 0
 AreLeft b rules older first k None left = left ≡ []
-AreLeft b rules older first k (Some (candidate.Assumed i)) left = (assumed program : List ℕ) × IsChain older (Some i) assumed × IsChain (nexts rules) first program × (left ≡ in_turn b rules k assumed program)
+AreLeft b rules older first k (Some (candidate.Assumed i)) left = (assumed program : List ℕ) × IsChain older (Some i) assumed × IsChain (nexts rules)
+    first program × (left ≡ in_turn b rules k assumed program)
 AreLeft b rules older first k (Some (candidate.Program i)) left = (program : List ℕ) × IsLeft b rules k (Some i) program × (left ≡ map (λ i. candidate.Program i) program)

@@ -1,9 +1,9 @@
 -- A negated goal in front: the search of it that begins inside of the search at work, and the ends to which the test on it leads.
-use Rattle.std.specs.Prelude.{◌≡◌, ◌⊎◌, ◌<◌, ℕ, suc, ◌+◌, true, false, Bool, List, [], ◌∷◌, length, Option, Some}
+use Rattle.std.specs.Prelude.{◌≡◌, ◌⊎◌, ◌<◌, ℕ, suc, true, false, Bool, List, [], ◌∷◌, length, Option, Some}
 use Rattle.lp_model.specs.Branch.{Answer, Branch, Entry, Go, Task}
 use Rattle.lp_model.specs.Flat.{Clause, Goal, Atomic, Cut, Either, Exists, Forall, Assume, Not}
 use Rattle.lp_model.specs.Search.{has_no_pairs, look}
-use Rattle.lp_model.specs.Skeleton.{Denies, Inner, Lacks, Note, State, Stops, Tells, View, move, row_limit, starts_within}
+use Rattle.lp_model.specs.Skeleton.{Denies, GoalNote, Inner, Lacks, Note, named, not_constant, State, Stops, Tells, View, move, row_limit, starts_within}
 use Rattle.lp_model.specs.Unify.{unit_limit}
 use Rattle.lp_model.specs.declared.ending.Ending.TheVariants.{Deep, OpenNot}
 use Rattle.lp_plain.specs.declared.choice.Denial.{Denial}
@@ -14,7 +14,7 @@ use Rattle.lp_plain.specs.declared.machine.Machine.{Machine}
 use Rattle.lp_plain.specs.declared.outcome.Turn.{Turn}
 use Rattle.lp_plain.specs.Assuming.{HasFrameAt, KeepsAssumed}
 use Rattle.lp_plain.specs.Entries.{Around, HasAlternative, IsListAt, KeepsGoals, Reads, placed}
-use Rattle.lp_plain.specs.Moving.{IsBack, IsState, Leads, Query, Waiting}
+use Rattle.lp_plain.specs.Moving.{IsBack, IsState, Leads, Query, Tally, Waiting, taking}
 use Rattle.lp_plain.specs.Negations.{denial}
 use Rattle.lp_plain.specs.Reached.{HasSmallFirst}
 use Rattle.lp_plain.specs.Searching.{last_ending}
@@ -43,11 +43,11 @@ pub record IsBegun (old new : Machine) (p : Place) (list : ℕ) (behind : Option
 
 -- the query of a negated goal's search: no variable is asked for
 abbrev pub inner_query : Query → Waiting → Query
-inner_query qv w = record { types = 0; vars = 0; arity = qv.arity; limit = qv.limit; outer = w ∷ qv.outer }
+inner_query qv w = record { types = 0; vars = 0; arity = qv.arity; outer = w ∷ qv.outer }
 
 -- the search of the state, as it waits to go on with the branch above the tasks below it
 abbrev pub waits_at : Query → State Task → (left : ℕ) → Branch → List Task → Waiting
-waits_at qv s left b rest = record { types = qv.types; vars = qv.vars; limit = qv.limit; left = left; given = s.given; lost = s.lost; branch = b; rest = rest }
+waits_at qv s left b rest = record { types = qv.types; vars = qv.vars; left = left; given = s.given; lost = s.lost; branch = b; rest = rest }
 
 -- a look comes to this view, or lacks steps
 abbrev pub IsSeenAs : (seen is : View Task Answer) → Type 0
@@ -85,16 +85,16 @@ abbrev pub AreFewDenied : Turn → (enough : ℕ) → List Entry → Type 0
 AreFewDenied turn enough es = turn ≡ Turn.Ended Deep → (enough < 1000000) × HasSmallFirst es
 
 -- the definition's search comes to this turn in at most two moves, while answers are wanted
-abbrev pub EndsDenied : Query → Turn → (new : Machine) → (before : State Task) → List Entry → Type 0
-EndsDenied qv turn n s es = (k : ℕ) → s.answers ≡ suc k → (go : (Answer → Bool) → State Task → Inner) (enough : ℕ) → AreFewDenied turn enough es →
-    (P : List Clause) → Leads 1 qv turn n go (look unit_limit enough P) s
+abbrev pub EndsDenied : Tally → Query → Turn → (new : Machine) → (before : State Task) → List Entry → Type 0
+EndsDenied x qv turn n s es = (k : ℕ) → s.answers ≡ suc k → (go : (Answer → Bool) → State Task → Inner) (enough : ℕ) → AreFewDenied turn enough es →
+    (P : List Clause) → Leads 1 x qv turn n go (look unit_limit enough P) s
 
--- the turn of a negated goal, in front of those of the definition's branch: its search begins, or the whole search ends
-abbrev pub TakesDenied : Turn → Query → (new : Machine) → (before : State Task) → List Entry → Type 0
-TakesDenied Turn.On qv n s es = IsDenying qv n s
-TakesDenied Turn.Back qv n s es = ⊥
-TakesDenied Turn.Answered qv n s es = ⊥
-TakesDenied (Turn.Ended e) qv n s es = EndsDenied qv (Turn.Ended e) n s es
+-- the turn of a negated goal, with so much told, in front of those of the definition's branch: its search begins, or the whole search ends
+abbrev pub TakesDenied : Tally → Turn → Query → (new : Machine) → (before : State Task) → List Entry → Type 0
+TakesDenied x Turn.On qv n s es = (x ≡ taking (GoalNote (named not_constant))) × IsDenying qv n s
+TakesDenied x Turn.Back qv n s es = ⊥
+TakesDenied x Turn.Answered qv n s es = ⊥
+TakesDenied x (Turn.Ended e) qv n s es = EndsDenied x qv (Turn.Ended e) n s es
 
 -- the search of a negated goal has come to its end
 
@@ -108,7 +108,7 @@ goes_around m d = record m { denied = d.around; counts = with_lost m.counts d.lo
 
 -- the query of a search that waited
 abbrev pub waiting_query : (arity : ℕ → ℕ) → Waiting → List Waiting → Query
-waiting_query ar w ws = record { types = w.types; vars = w.vars; arity = ar; limit = w.limit; outer = ws }
+waiting_query ar w ws = record { types = w.types; vars = w.vars; arity = ar; outer = ws }
 
 -- it goes on with these tasks, with the steps and the goals in a row that are left
 abbrev pub woken : Waiting → (steps row : ℕ) → List Task → State Task
@@ -117,7 +117,7 @@ woken w n p ts = record { steps = n; answers = suc w.left; given = w.given; rows
 -- a final answer: the search that waited is to go back; another one: the whole search ends
 abbrev pub IsHeldTurn : (final : Bool) → Turn → (new : Machine) → (arity : ℕ → ℕ) → State Task → Waiting → List Waiting → Type 0
 IsHeldTurn true Turn.Back n ar s w ws = IsBack (waiting_query ar w ws) n (woken w s.steps s.row w.rest)
-IsHeldTurn false (Turn.Ended OpenNot) n ar s w ws = s.steps + n.counts.steps ≡ w.limit
+IsHeldTurn false (Turn.Ended OpenNot) n ar s w ws = Unit {0}
 IsHeldTurn b turn n ar s w ws = ⊥
 
 -- in this state of the definition the search of a negated goal has an answer
@@ -128,12 +128,12 @@ pub record IsHeldBy (qv : Query) (turn : Turn) (n : Machine) (s : State Task) : 
   pub answer : Answer
   pub tells : (k : ℕ) → s.answers ≡ suc k → (ns : List Note) × (t : State Task) × ((go : (Answer → Bool) → State Task → Inner) (enough : ℕ)
       (P : List Clause) → move go (look unit_limit enough P) s ≡ Tells answer ns t)
-  pub comes : waiting.limit ≡ qv.limit → IsHeldTurn (has_no_pairs answer) turn n qv.arity s waiting others
+  pub comes : IsHeldTurn (has_no_pairs answer) turn n qv.arity s waiting others
 
 -- no alternative is left, and none was cut away: the search that waited goes on behind the goal; one was: the whole search ends
 abbrev pub IsRefutedTurn : (lost : Bool) → Turn → (new : Machine) → (arity : ℕ → ℕ) → State Task → Waiting → List Waiting → Type 0
 IsRefutedTurn false Turn.On n ar s w ws = IsState (waiting_query ar w ws) n (woken w s.steps s.row (Go w.branch ∷ w.rest))
-IsRefutedTurn true (Turn.Ended OpenNot) n ar s w ws = s.steps + n.counts.steps ≡ w.limit
+IsRefutedTurn true (Turn.Ended OpenNot) n ar s w ws = Unit {0}
 IsRefutedTurn b turn n ar s w ws = ⊥
 
 -- in this state of the definition the search of a negated goal has none left
@@ -143,4 +143,4 @@ pub record IsRefutedBy (qv : Query) (turn : Turn) (n : Machine) (s : State Task)
   pub outer : qv.outer ≡ waiting ∷ others
   pub lost : Bool
   pub stops : (k : ℕ) → s.answers ≡ suc k → (go : (Answer → Bool) → State Task → Inner) (enough : ℕ) (P : List Clause) → move go (look unit_limit enough P) s ≡ Stops (last_ending lost)
-  pub comes : waiting.limit ≡ qv.limit → IsRefutedTurn lost turn n qv.arity s waiting others
+  pub comes : IsRefutedTurn lost turn n qv.arity s waiting others

@@ -1,9 +1,10 @@
 -- What a contract sees of a search.
-use Rattle.std.specs.Prelude.{ℕ, Bool, Option, length, nat_eq}
+use Rattle.std.specs.Prelude.{ℕ, Bool, List, Option, length, nat_eq}
 use Rattle.indexmap.specs.IndexMap.{get}
 use Rattle.lp_term.specs.declared.node.TermId.{TermId}
 use Rattle.lp_term.specs.declared.node.TypeId.{TypeId}
 use Rattle.lp_model.specs.declared.ending.Ending.{Ending}
+use Rattle.lp_model.specs.declared.program.Declared.{Declared}
 use Rattle.lp_model.specs.declared.program.Typed.{Typed}
 use Rattle.lp_plain.specs.declared.search.Search.{Search}
 
@@ -26,10 +27,14 @@ value_of s x = get nat_eq s.machine.bindings.terms x
 unfoldable pub type_value_of : Search → ℕ → Option TypeId
 type_value_of s x = get nat_eq s.machine.bindings.types x
 
--- the steps that were taken
-unfoldable pub steps_of : Search → ℕ
-steps_of s = s.machine.counts.steps
-
 -- the query
 unfoldable pub query_of : Search → Typed
 query_of s = s.source.query
+
+-- the steps it took
+unfoldable pub steps_of : Search → ℕ
+steps_of s = s.machine.counts.steps
+
+-- the constants that its program declares
+unfoldable pub constants_of : Search → List Declared
+constants_of s = s.constants.items

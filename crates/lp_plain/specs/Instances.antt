@@ -57,17 +57,21 @@ IsBuiltTerm (typed_param_node k t) us v = ⊥
 IsBuiltTerm (abs_node b) us v = (u : Term) × (us ≡ u ∷ []) × (v ≡ abs u)
 IsBuiltTerm (app_node f ids) us v = (h : Term) × (ts : List Term) × (us ≡ h ∷ ts) × (length ts ≡ length ids) × (v ≡ apply h ts)
 
--- what a task takes and makes
-abbrev pub Instances : (σ : ℕ → Term) → (θ : ℕ → Ty) → Nodes → Task → List Term → Term → Type 0
-Instances σ θ b (Task.Visit t d) us v = (t.0 < length b.terms) × (us ≡ []) × AllAtoms IsNoParameter (tree b t.0) × (v ≡ instanced σ θ d (tree b t.0))
-Instances σ θ b (Task.Build t) us v = (t.0 < length b.terms) × IsBuiltTerm (term_at b t.0) us v
+-- a term below so many abstractions: no parameter stands in it, and no index that has none of so many values
+abbrev pub IsReadable : (vars depth : ℕ) → Term → Type 0
+IsReadable n d t = AllAtoms IsNoParameter t × LooseBelow n d t
 
-abbrev pub ToInstance : (σ : ℕ → Term) → (θ : ℕ → Ty) → Nodes → List Task → List TermId → Term → Type 0
-ToInstance σ θ b tasks made v = IsLeft (Instances σ θ b) (λ t. tree b t.0) (λ t. t.0 < length b.terms) tasks made v
+-- what a task takes and makes
+abbrev pub Instances : (vars : ℕ) → (σ : ℕ → Term) → (θ : ℕ → Ty) → Nodes → Task → List Term → Term → Type 0
+Instances n σ θ b (Task.Visit t d) us v = (t.0 < length b.terms) × (us ≡ []) × IsReadable n d (tree b t.0) × (v ≡ instanced σ θ d (tree b t.0))
+Instances n σ θ b (Task.Build t) us v = (t.0 < length b.terms) × IsBuiltTerm (term_at b t.0) us v
+
+abbrev pub ToInstance : (vars : ℕ) → (σ : ℕ → Term) → (θ : ℕ → Ty) → Nodes → List Task → List TermId → Term → Type 0
+ToInstance n σ θ b tasks made v = IsLeft (Instances n σ θ b) (λ t. tree b t.0) (λ t. t.0 < length b.terms) tasks made v
 
 -- what the earlier tasks lead to the later ones lead to
-abbrev pub KeepsInstancing : (σ : ℕ → Term) → (θ : ℕ → Ty) → (b d : Nodes) → (old new : List Task) → (made made' : List TermId) → Type 0
-KeepsInstancing σ θ b d old new made made' = (v : Term) → ToInstance σ θ b old made v → ToInstance σ θ d new made' v
+abbrev pub KeepsInstancing : (vars : ℕ) → (σ : ℕ → Term) → (θ : ℕ → Ty) → (b d : Nodes) → (old new : List Task) → (made made' : List TermId) → Type 0
+KeepsInstancing n σ θ b d old new made made' = (v : Term) → ToInstance n σ θ b old made v → ToInstance n σ θ d new made' v
 
 -- the terms that are to be visited
 abbrev pub visits_at : (depth : ℕ) → List TermId → List Task

@@ -11,7 +11,7 @@ use Rattle.lp_model.specs.Branch.{Answer, Branch, Entry, Task, Go, Try}
 use Rattle.lp_model.specs.Flat.{Clause, Goal, Goals, Atomic, Cut, Either, Exists, Forall, Assume, Not, Written, goal_list, map_written}
 use Rattle.lp_model.specs.Pair.{Closing, closed}
 use Rattle.lp_model.specs.Search.{look, types_from, vars_from}
-use Rattle.lp_model.specs.Skeleton.{Goes, Inner, Move, Note, State, Stops, Tells, View, Waits, move, row_limit}
+use Rattle.lp_model.specs.Skeleton.{AnswerNote, Goes, Inner, Move, Note, State, back, back_for_more, Stops, Tells, View, Waits, move, row_limit}
 use Rattle.lp_model.specs.Unify.{unit_limit}
 use Rattle.lp_model.specs.declared.answer.Pair.{Pair as Numbers}
 use Rattle.lp_model.specs.declared.ending.Ending.TheVariants.{Deep}
@@ -80,25 +80,22 @@ AreEntriesUnder z m l u [] (d ∷ ds) = ⊥
 AreEntriesUnder z m l u (e ∷ es) [] = ⊥
 AreEntriesUnder z m l u (e ∷ es) (d ∷ ds) = IsEntryUnder z m l u e d × AreEntriesUnder z m l e.mark es ds
 
--- a search that waits for that of a negated goal: how many type variables and variables its query has, how many steps may be taken in all, the answers that are left
--- behind the next one and those that were given, whether a cut removed an alternative, the branch to go on with where the goal is refuted, and the tasks below it
+-- a search that waits for that of a negated goal: how many type variables and variables its query has, the answers that are left behind the next one and those that were
+-- given, whether a cut removed an alternative, the branch to go on with where the goal is refuted, and the tasks below it
 pub record Waiting : Type 0 where
   pub types : ℕ
   pub vars : ℕ
-  pub limit : ℕ
   pub left : ℕ
   pub given : ℕ
   pub lost : Bool
   pub branch : Branch
   pub rest : List Task
 
--- how many type variables and variables the query of the search at work has, how many types a constant takes, how many steps may be taken in all, and the searches that
--- wait, the innermost first
+-- how many type variables and variables the query of the search at work has, how many types a constant takes, and the searches that wait, the innermost first
 pub record Query : Type 0 where
   pub types : ℕ
   pub vars : ℕ
   pub arity : ℕ → ℕ
-  pub limit : ℕ
   pub outer : List Waiting
 
 -- each variable that is read in a branch has a level, and a number below the next one; no type variable from the next one on is bound
@@ -206,7 +203,7 @@ pub record IsOuter (arity : ℕ → ℕ) (m : Machine) (a : Around) (number : �
   pub raws : List (List Task)
   pub others : List (List Task)
   pub stand : StandForAll m a (outer_choices m number choice d) 0 raws
-  pub are : AreAlternatives (record { types = w.types; vars = w.vars; arity = arity; limit = w.limit; outer = ws }) m (mark_in (base_of d.around) raws) (base_of d.around) (base_of d.around) (outer_choices m number choice d) raws others
+  pub are : AreAlternatives (record { types = w.types; vars = w.vars; arity = arity; outer = ws }) m (mark_in (base_of d.around) raws) (base_of d.around) (base_of d.around) (outer_choices m number choice d) raws others
   pub is : stack_of others ≡ Go w.branch ∷ w.rest
   pub lost : w.lost ≡ d.lost
 
@@ -224,9 +221,8 @@ pub record IsInside (qv : Query) (m : Machine) (a : Around) : Type 0 where
   pub in_turn : AreBoundInTurn m.choices.items
 
 -- what is counted, as the definition counts what is left
-pub record IsCounted (qv : Query) (m : Machine) (s : State Task) : Type 0 where
+pub record IsCounted (m : Machine) (s : State Task) : Type 0 where
   pub steps : s.steps ≡ m.counts.limit - m.counts.steps
-  pub total : s.steps + m.counts.steps ≡ qv.limit
   pub rows : s.rows ≡ row_limit
   pub row : s.row ≡ row_limit - m.counts.row
   pub lost : s.lost ≡ m.counts.lost
@@ -256,7 +252,7 @@ pub record IsRunning (qv : Query) (m : Machine) (a : Around) (raw : Branch) (s :
   pub left : All (IsPairOf (length m.bank.terms)) m.branch.pairs.items
   pub levels : ℕ → ℕ
   pub under : IsBranchUnder qv levels m.bank closing (mark_in (base_of m.denied) above.raws) (base_of m.denied) (length m.choices.items) m.branch.pairs.items raw at_work
-  pub counted : IsCounted qv m s
+  pub counted : IsCounted m s
 
 -- a search between two turns
 pub record IsState (qv : Query) (m : Machine) (s : State Task) : Type 0 where
@@ -288,7 +284,7 @@ pub record IsTrying (qv : Query) (m : Machine) (a : Around) (call : Call) (one :
   pub levels : ℕ → ℕ
   pub known : IsKnownCall closing levels raw.next (closed closing (goal_of m call)) (a.assumed call.place.assumed) (a.written call.place.standing) tags clauses
   pub under : IsBranchUnder qv levels m.bank closing (mark_in (base_of m.denied) above.raws) (base_of m.denied) (length m.choices.items) m.branch.pairs.items raw rest
-  pub counted : IsCounted qv m s
+  pub counted : IsCounted m s
 
 -- the first of the definition's tasks is this candidate's; the others are alternatives. A cut in the clause's body keeps the oldest so many alternatives
 pub record IsAtTry (qv : Query) (m : Machine) (a : Around) (call : Call) (one : Candidate) (mark : ℕ) (s : State Task) : Type 0 where
@@ -320,7 +316,7 @@ pub record IsAtTry (qv : Query) (m : Machine) (a : Around) (call : Call) (one : 
   pub levels : ℕ → ℕ
   pub known : IsKnownCall closing levels raw.next (closed closing (goal_of m call)) (a.assumed call.place.assumed) (a.written call.place.standing) (one ∷ []) (tried ∷ [])
   pub under : IsBranchUnder qv levels m.bank closing (mark_in (base_of m.denied) above.raws) (base_of m.denied) mark m.branch.pairs.items raw rest
-  pub counted : IsCounted qv m s
+  pub counted : IsCounted m s
 
 -- the goal in front was taken: the branch is to go on with the goals behind it
 pub record IsGoingOn (qv : Query) (m : Machine) (a : Around) (raw rest : Branch) (below : List Task) : Type 0 where
@@ -339,7 +335,7 @@ pub record IsGoingOn (qv : Query) (m : Machine) (a : Around) (raw rest : Branch)
 pub record IsBack (qv : Query) (m : Machine) (s : State Task) : Type 0 where
   pub around : Around
   pub above : HasAlternatives qv m around s.stack
-  pub counted : IsCounted qv m s
+  pub counted : IsCounted m s
 
 -- the goal of the table that is at hand: in its place, in front of those from a frame on
 pub record IsAtGoal (m : Machine) (a : Around) (p : Place) (flat : Flat) (behind : Option ℕ) (raw : Branch) : Type 0 where
@@ -420,40 +416,55 @@ pub record IsAnswered (qv : Query) (m : Machine) (s : State Task) : Type 0 where
   pub around : Around
   pub above : HasAlternatives qv m around s.stack
   pub steps : s.steps ≡ m.counts.limit - m.counts.steps
-  pub total : s.steps + m.counts.steps ≡ qv.limit
   pub rows : s.rows ≡ row_limit
   pub row : s.row ≡ row_limit
   pub lost : s.lost ≡ m.counts.lost
 
--- a turn is this move of the definition: to a search that goes on or is to go back, to an answer, or to the same end, with as many steps taken
-abbrev pub IsMoved : Query → Turn → (new : Machine) → Move Task Answer → (before : State Task) → Type 0
-IsMoved qv Turn.On n v s = (k : ℕ) × (ns : List Note) × (t : State Task) × (v ≡ Goes k ns t) × IsState qv n t × (t.answers ≡ s.answers) × (t.given ≡ s.given)
-IsMoved qv Turn.Back n v s = (k : ℕ) × (ns : List Note) × (t : State Task) × (v ≡ Goes k ns t) × IsBack qv n t × (t.answers ≡ s.answers) × (t.given ≡ s.given)
-IsMoved qv Turn.Answered n v s =
-    (ns : List Note) × (x : Answer) × (t : State Task) × (v ≡ Tells x ns t) × IsAnswer qv n x × IsAnswered qv n t × (s.answers ≡ suc t.answers) × (t.given ≡ suc s.given)
-IsMoved qv (Turn.Ended e) n v s = (v ≡ Stops e) × (s.steps + n.counts.steps ≡ qv.limit)
+-- what a turn counts and tells: steps, and notes beside that of a way back
+pub record Tally : Type 0 where
+  pub steps : ℕ
+  pub notes : List Note
+
+abbrev pub quiet : Tally
+quiet = record { steps = 0; notes = [] }
+
+-- a step with its note
+abbrev pub taking : Note → Tally
+taking n = record { steps = 1; notes = n ∷ [] }
+
+-- the one, then the other
+abbrev pub both : Tally → Tally → Tally
+both x y = record { steps = x.steps + y.steps; notes = x.notes ++ y.notes }
+
+-- a turn is this move of the definition, with so much told: to a search that goes on or is to go back, to an answer, or to the same end. Of the way back, and of an answer, the turn itself tells nothing
+abbrev pub IsMoved : Tally → Query → Turn → (new : Machine) → Move Task Answer → (before : State Task) → Type 0
+IsMoved x qv Turn.On n v s = (t : State Task) × (v ≡ Goes x.steps x.notes t) × IsState qv n t × (t.answers ≡ s.answers) × (t.given ≡ s.given)
+IsMoved x qv Turn.Back n v s = (t : State Task) × (v ≡ Goes x.steps (x.notes ++ back [] t.stack) t) × IsBack qv n t × (t.answers ≡ s.answers) × (t.given ≡ s.given)
+IsMoved x qv Turn.Answered n v s =
+    (x ≡ quiet) × (a : Answer) × (t : State Task) × (v ≡ Tells a (AnswerNote (suc s.given) ∷ back_for_more t.answers t.stack) t) × IsAnswer qv n a × IsAnswered qv n t × (s.answers ≡ suc t.answers) × (t.given ≡ suc s.given)
+IsMoved x qv (Turn.Ended e) n v s = (x ≡ quiet) × (v ≡ Stops e)
 
 -- so while answers are wanted, over each program, with any number of steps for each look
-abbrev pub MovesTo : Query → Turn → (new : Machine) → (before : State Task) → Type 0
-MovesTo qv turn n s = (k : ℕ) → s.answers ≡ suc k → (go : (Answer → Bool) → State Task → Inner) (enough : ℕ) (P : List Clause) → IsMoved qv turn n (move go (look unit_limit enough P) s) s
+abbrev pub MovesTo : Tally → Query → Turn → (new : Machine) → (before : State Task) → Type 0
+MovesTo x qv turn n s = (k : ℕ) → s.answers ≡ suc k → (go : (Answer → Bool) → State Task → Inner) (enough : ℕ) (P : List Clause) → IsMoved x qv turn n (move go (look unit_limit enough P) s) s
 
 -- the definition waits: a look needs more steps than it is allowed
 abbrev pub IsWaiting : Move Task Answer → Type 0
 IsWaiting v = (k : ℕ) × (ns : List Note) × (v ≡ Waits k ns)
 
 -- a turn is at most so many moves of the definition more, the last of which is this turn's, or it waits
-abbrev pub Leads : ℕ → Query → Turn → (new : Machine) → (go : (Answer → Bool) → State Task → Inner) → (ℕ → Task → View Task Answer) → (before : State Task) → Type 0
-Leads zero qv turn n go see s = IsMoved qv turn n (move go see s) s ⊎ IsWaiting (move go see s)
-Leads (suc j) qv turn n go see s =
-    IsMoved qv turn n (move go see s) s ⊎ (IsWaiting (move go see s) ⊎ ((k : ℕ) × (ns : List Note) × (t : State Task) × (move go see s ≡ Goes k ns t) × (t.answers ≡ s.answers) × (t.given ≡ s.given) × Leads j qv turn n go see t))
+abbrev pub Leads : ℕ → Tally → Query → Turn → (new : Machine) → (go : (Answer → Bool) → State Task → Inner) → (ℕ → Task → View Task Answer) → (before : State Task) → Type 0
+Leads zero x qv turn n go see s = IsMoved x qv turn n (move go see s) s ⊎ IsWaiting (move go see s)
+Leads (suc j) x qv turn n go see s =
+    IsMoved x qv turn n (move go see s) s ⊎ (IsWaiting (move go see s) ⊎ ((y : Tally) × (z : Tally) × (t : State Task) × (x ≡ both y z) × (move go see s ≡ Goes y.steps y.notes t) × (t.answers ≡ s.answers) × (t.given ≡ s.given) × Leads j z qv turn n go see t))
 
 -- where the turn is too deep, fewer than a million steps are allowed for each look
 abbrev pub AreFew : Turn → (enough : ℕ) → Type 0
 AreFew turn enough = turn ≡ Turn.Ended Deep → enough < 1000000
 
 -- so while answers are wanted, over each typed program and in a typed state, with any number of steps for each look, but for a turn that is too deep
-abbrev pub LeadsTo : ℕ → Query → Turn → (new : Machine) → (before : State Task) → Type 0
-LeadsTo j qv turn n s = (k : ℕ) → s.answers ≡ suc k → (go : (Answer → Bool) → State Task → Inner) (enough : ℕ) → AreFew turn enough → (P : List Clause) → IsTypedOver qv.arity enough P s → Leads j qv turn n go (look unit_limit enough P) s
+abbrev pub LeadsTo : ℕ → Tally → Query → Turn → (new : Machine) → (before : State Task) → Type 0
+LeadsTo j x qv turn n s = (k : ℕ) → s.answers ≡ suc k → (go : (Answer → Bool) → State Task → Inner) (enough : ℕ) → AreFew turn enough → (P : List Clause) → IsTypedOver qv.arity enough P s → Leads j x qv turn n go (look unit_limit enough P) s
 
 -- the turn of a unification
 abbrev pub turn_for : Unified → Turn

@@ -95,7 +95,7 @@ pub record AreWritten (b : Nodes) (t : Shown) (ar : ℕ → ℕ) (s : Blocks) (f
 
 -- the goals of a list are put in a place, in front of those from a frame on, if there are any
 abbrev pub PutsList : (old new : Machine) → (list : ℕ) → Place → (behind : Option ℕ) → Type 0
-PutsList m n list p o = (s : Span) × (slice_get m.table.lists.items list ≡ Some s) ×
+PutsList m n list p o = (s : Span) → slice_get m.table.lists.items list ≡ Some s →
     ((n.frames.items ≡ m.frames.items) ⊎ ((s.from < s.to) × (n.frames.items ≡ m.frames.items ++ record { todo = Todo.Goals s; place = p; behind = o } ∷ [])))
 
 -- a candidate of the program is written

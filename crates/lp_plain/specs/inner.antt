@@ -8,3 +8,4 @@ pub mod Between
 pub mod Answering
 pub mod Fitting
 pub mod Evaluating
+pub mod Building

@@ -1,5 +1,5 @@
 // The values of expressions.
-ghost use Rattle.std.specs.Prelude.{◌≡◌, ◌++◌, ◌<◌, ℕ, List, length, IfOk, OnOk};
+ghost use Rattle.std.specs.Prelude.{◌≡◌, ◌+◌, ◌*◌, ◌++◌, ◌∷◌, [], ◌<◌, ◌≤◌, ℕ, List, length, reverse, None, IfOk, OnOk};
 ghost use Rattle.lp_calculus.specs.Term.{atom, text};
 ghost use Rattle.lp_standard.specs.Constants.{number as number_of, numbered};
 ghost use Rattle.lp_term.specs.Nodes.{Extends, Nodes, tree};
@@ -13,7 +13,7 @@ ghost use Rattle.lp_plain.specs.declared.arithmetic.Task.TheVariants as todo;
 ghost use Rattle.lp_plain.specs.Evaluated.{EvaluatesTo, GivesNumber, GivesValue, IsValueIn};
 ghost use Rattle.lp_plain.specs.Forms.{order_number};
 ghost use Rattle.lp_plain.specs.HeadLooks.{OnlyBank};
-ghost use Rattle.lp_plain.specs.inner.Evaluating.{GoesFrom, IsCounted, IsExpression, IsKept, IsLast, IsOnWay, IsPut, IsStep, IsStepOn, StandsExpression, TakesTask, applied_by, leaf_by, one_by, operation_by, two_by};
+ghost use Rattle.lp_plain.specs.inner.Evaluating.{GoesFrom, GoesServed, IsCounted, IsExpression, IsKept, IsLast, IsOnWay, IsPut, IsStep, IsStepOn, Serves, StandsExpression, TakesTask, applied_by, cost_of, leaf_by, one_by, operation_by, two_by};
 
 use crate::machine::Machine;
 use crate::operation::{on_integer, on_integers, on_length};
@@ -287,6 +287,8 @@ fn visit(
 ) -> Result<Option<Outcome>, Memory>
     ensures bank { OnOk result (OnlyBank machine.old machine.new) }
     ensures takes { IfOk result (λ end. TakesTask machine.old machine.new end (todo.Visit term) tasks.old.items tasks.new.items values.old.items values.new.items) }
+    ensures served { IfOk result (λ end. end ≡ None → Serves (reverse tasks.old.items) (length values.old.items + 1) → Serves (reverse tasks.new.items) (length values.new.items)) }
+    ensures more { IfOk result (λ end. end ≡ None → length tasks.new.items ≤ length tasks.old.items + 3) }
 {
     let Some(form) = head_normal(machine, term)? else {
         return Ok(Some(Outcome::Deep));
@@ -315,14 +317,16 @@ fn operate_on_two(
     operation: Constant,
     values: &mut Vec<Value>,
 ) -> Result<Option<Outcome>, Memory>
+    requires { 2 ≤ length values.old.items }
     ensures bank { OnOk result (OnlyBank machine.old machine.new) }
     ensures takes { IfOk result (λ end. (ts : List Todo) → TakesTask machine.old machine.new end (todo.Two operation) ts ts values.old.items values.new.items) }
+    ensures left { IfOk result (λ end. end ≡ None → length values.new.items + 1 ≡ length values.old.items) }
 {
     let Some(right) = values.pop() else {
-        return Err(Memory);
+        unreachable!()
     };
     let Some(left) = values.pop() else {
-        return Err(Memory);
+        unreachable!()
     };
     let outcome = on_two(machine.alloc, &mut machine.bank, operation, left, right)?;
     let end = keep(outcome, values)?;
@@ -334,11 +338,13 @@ fn operate_on_one(
     operation: Constant,
     values: &mut Vec<Value>,
 ) -> Result<Option<Outcome>, Memory>
+    requires { 1 ≤ length values.old.items }
     ensures bank { OnOk result (OnlyBank machine.old machine.new) }
     ensures takes { IfOk result (λ end. (ts : List Todo) → TakesTask machine.old machine.new end (todo.One operation) ts ts values.old.items values.new.items) }
+    ensures left { IfOk result (λ end. end ≡ None → length values.new.items ≡ length values.old.items) }
 {
     let Some(value) = values.pop() else {
-        return Err(Memory);
+        unreachable!()
     };
     let outcome = on_one(&machine.bank, operation, value);
     let end = keep(outcome, values)?;
@@ -351,8 +357,11 @@ fn take_task(
     tasks: &mut Vec<Task>,
     values: &mut Vec<Value>,
 ) -> Result<Option<Outcome>, Memory>
+    requires { Serves (task ∷ reverse tasks.old.items) (length values.old.items) }
     ensures bank { OnOk result (OnlyBank machine.old machine.new) }
     ensures takes { IfOk result (λ end. TakesTask machine.old machine.new end task tasks.old.items tasks.new.items values.old.items values.new.items) }
+    ensures served { IfOk result (λ end. end ≡ None → Serves (reverse tasks.new.items) (length values.new.items)) }
+    ensures more { IfOk result (λ end. end ≡ None → length tasks.new.items ≤ length tasks.old.items + 3 * cost_of task) }
 {
     match task {
         Task::Visit(term) => {
@@ -404,8 +413,10 @@ fn take_counted(
     values: &mut Vec<Value>,
     visited: u64,
 ) -> Result<Step, Memory>
+    requires { Serves (task ∷ reverse tasks.old.items) (length values.old.items) }
     ensures bank { OnOk result (OnlyBank machine.old machine.new) }
     ensures goes { IfOk result (λ step. GoesFrom machine.old machine.new task tasks.old.items tasks.new.items values.old.items values.new.items visited step) }
+    ensures served { IfOk result (λ step. GoesServed step visited (tasks.old.items ++ task ∷ []) tasks.new.items values.new.items) }
 {
     match counted(task, visited) {
         None => Ok(Step::End(Outcome::Deep)),
@@ -417,13 +428,14 @@ fn take_counted(
 }
 
 // The value that is left.
-fn last_value(values: &mut Vec<Value>) -> Result<Outcome, Memory>
-    ensures { IfOk result (IsLast values.old.items) }
+fn last_value(values: &mut Vec<Value>) -> Outcome
+    requires { 1 ≤ length values.old.items }
+    ensures { IsLast values.old.items result }
 {
     let Some(last) = values.pop() else {
-        return Err(Memory);
+        unreachable!()
     };
-    Ok(Outcome::Is(last))
+    Outcome::Is(last)
 }
 
 // Takes the next task. So many parts were looked at.
@@ -433,11 +445,13 @@ fn go_on(
     values: &mut Vec<Value>,
     visited: u64,
 ) -> Result<Step, Memory>
+    requires { Serves (reverse tasks.old.items) (length values.old.items) }
     ensures bank { OnOk result (OnlyBank machine.old machine.new) }
+    ensures served { IfOk result (λ step. GoesServed step visited tasks.old.items tasks.new.items values.new.items) }
     ensures goes { IfOk result (λ step. (m : Machine) (term : TermId) → OnlyBank m machine.old → IsOnWay m machine.old term tasks.old.items values.old.items visited → IsStepOn step m machine.new term tasks.new.items values.new.items) }
 {
     let Some(task) = tasks.pop() else {
-        let outcome = last_value(values)?;
+        let outcome = last_value(values);
         return Ok(Step::End(outcome));
     };
     let step = take_counted(machine, task, tasks, values, visited)?;
@@ -453,13 +467,12 @@ pub(crate) fn evaluate(machine: &mut Machine, term: TermId) -> Result<Outcome, M
     let mut values = Vec::new(machine.alloc);
     let mut visited = 0u64;
     tasks.push(Task::Visit(term))?;
-    'tasks: for _ in 0..u64::MAX {
+    'tasks: loop {
         match go_on(machine, &mut tasks, &mut values, visited)? {
             Step::On(count) => visited = count,
             Step::End(outcome) => return Ok(outcome),
         }
     }
-    Err(Memory)
 }
 
 /// The term of a value.

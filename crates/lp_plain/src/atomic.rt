@@ -1,19 +1,23 @@
 // Atomic goals: a step each.
-ghost use Rattle.std.specs.Prelude.{◌≡◌, ℕ, List, None, length, IfOk, OnOk, Ok};
+ghost use Rattle.std.specs.Prelude.{◌≡◌, ℕ, List, [], ◌∷◌, map, None, Some, length, IfOk, OnOk, Ok};
+ghost use Rattle.lp_standard.specs.Constants.{numbered};
 ghost use Rattle.lp_model.specs.Branch.{Branch, Task};
-ghost use Rattle.lp_model.specs.Skeleton.{State};
+ghost use Rattle.lp_model.specs.Skeleton.{GoalNote, State};
 ghost use Rattle.lp_plain.specs.declared.arithmetic.Outcome.TheVariants as code;
 ghost use Rattle.lp_plain.specs.declared.outcome.Turn.{Turn};
 ghost use Rattle.lp_plain.specs.declared.table.Flat.{Flat};
 ghost use Rattle.lp_plain.specs.Assigned.{Assigns, Compares, ComparesBy, IsAssigned, IsNumber, IsNumberOr, turn_if};
 ghost use Rattle.lp_plain.specs.Cuts.{CutsOff};
 ghost use Rattle.lp_plain.specs.Assuming.{KeepsAssumed};
-ghost use Rattle.lp_plain.specs.Calling.{AtomTurns, CallLeads, IsLookedAs};
+ghost use Rattle.lp_plain.specs.Calling.{AtomTurns, CallLeads, IsLookedAs, TellsOn};
 ghost use Rattle.lp_plain.specs.Entries.{Around, KeepsGoals};
+ghost use Rattle.lp_plain.specs.Forms.{order_number};
 ghost use Rattle.lp_plain.specs.HeadLooks.{OnlyBank};
+ghost use Rattle.lp_plain.specs.Hearing.{HeardBy, Hears, form_name, head_name};
+ghost use Rattle.lp_model.specs.declared.program.Declared.{Declared as Named};
 ghost use Rattle.lp_plain.specs.Turns.{IsGoalTurn, KeepsProgram};
 ghost use Rattle.lp_plain.specs.Unifying.{IsBoundIn};
-ghost use Rattle.lp_plain.specs.Moving.{IsAtGoal, IsAtTry, IsRunning, IsTrying, LeadsTo, MovesTo, Query};
+ghost use Rattle.lp_plain.specs.Moving.{IsAtGoal, IsAtTry, IsRunning, IsTrying, LeadsTo, MovesTo, Query, quiet};
 ghost use Rattle.lp_plain.specs.Stacks.{CutsTasks, HaveTasks, IsMarkOf};
 ghost use Rattle.lp_plain.specs.Within.{StandsIn};
 ghost use Rattle.lp_plain.specs.WrittenSearch.{IsWrittenSearch};
@@ -31,12 +35,15 @@ use crate::name::{tell_constant, tell_eigen, tell_variable};
 use crate::outcome::{Turn, take_step, turn_of};
 use crate::unified::{equate, head_normal};
 use lp_base::{Compare, Memory};
-use lp_model::{Ending, Fault};
+use lp_model::{Declared, Ending, Fault};
 use lp_standard::Constant;
 use lp_term::TermId;
 use lp_watch::{Crowd, Note, Watch};
+use std::alloc::Global;
 
-fn order_constant(order: Compare) -> Constant {
+fn order_constant(order: Compare) -> Constant
+    ensures { numbered (order_number order) ≡ Some result }
+{
     match order {
         Compare::Less => Constant::Less,
         Compare::Greater => Constant::Greater,
@@ -45,19 +52,39 @@ fn order_constant(order: Compare) -> Constant {
     }
 }
 
+// Tells that a goal is taken which has this head.
+fn tell_head<W: Watch>(
+    alloc: Global,
+    crowd: &mut Crowd<'_, W>,
+    constants: &[Declared],
+    head: Head,
+) -> Result<(), Memory>
+    ensures told { OnOk result (Hears constants.now (GoalNote (head_name head) ∷ []) (map W.seen crowd.old.watchers.now.items) (map W.seen crowd.new.watchers.now.items)) }
+    ensures same { crowd.new.watchers.ghost_name ≡ crowd.old.watchers.ghost_name }
+{
+    match head {
+        Head::Constant(number) => tell_constant(crowd, constants, number),
+        Head::Eigen(level) => tell_eigen(alloc, crowd, level),
+    }
+}
+
 // Tells that an atomic goal is taken.
 fn tell_goal<W: Watch>(
-    machine: &Machine,
+    alloc: Global,
     crowd: &mut Crowd<'_, W>,
+    constants: &[Declared],
     form: Form,
-) -> Result<(), Memory> {
+) -> Result<(), Memory>
+    ensures told { OnOk result (Hears constants.now (GoalNote (form_name form) ∷ []) (map W.seen crowd.old.watchers.now.items) (map W.seen crowd.new.watchers.now.items)) }
+    ensures same { crowd.new.watchers.ghost_name ≡ crowd.old.watchers.ghost_name }
+{
     match form {
         Form::Equal(_, _) => crowd.tell(Note::Goal(Constant::Equal.name())),
         Form::Is(_, _) => crowd.tell(Note::Goal(Constant::Is.name())),
         Form::Order(order, _, _) => crowd.tell(Note::Goal(order_constant(order).name())),
-        Form::Call(Head::Constant(number), _) => tell_constant(machine, crowd, number),
-        Form::Call(Head::Eigen(level), _) => tell_eigen(machine.alloc, crowd, level),
-        _ => tell_variable(crowd),
+        Form::Call(head, _) => tell_head(alloc, crowd, constants, head),
+        Form::Flexible => tell_variable(crowd),
+        Form::Other => tell_variable(crowd),
     }
 }
 
@@ -164,6 +191,7 @@ fn put_others(machine: &mut Machine, call: &Call, candidate: Candidate) -> Resul
     ensures assumed { OnOk result (KeepsAssumed machine.old machine.new) }
     ensures branch { OnOk result (machine.new.branch ≡ machine.old.branch) }
     ensures frames { OnOk result (machine.new.frames ≡ machine.old.frames) }
+    ensures counts { OnOk result (machine.new.counts ≡ machine.old.counts) }
     ensures written { OnOk result ((ar : ℕ → ℕ) → StandsIn machine.old → IsWrittenSearch machine.old ar → IsWrittenSearch machine.new ar) }
     ensures at_try { OnOk result ((qv : Query) (a : Around) (s : State Task) → IsTrying qv machine.old a call.now candidate s → IsAtTry qv machine.new a call.now candidate (length machine.old.choices.items) s) }
 {
@@ -182,7 +210,8 @@ pub(crate) fn try_candidate(
     candidate: Candidate,
 ) -> Result<Turn, Memory>
     ensures written { OnOk result ((qv : Query) (a : Around) (s : State Task) → IsTrying qv machine.old a call.now candidate s → IsWrittenSearch machine.old qv.arity → IsWrittenSearch machine.new qv.arity) }
-    ensures leads { IfOk result (λ turn. (qv : Query) (a : Around) (s : State Task) → IsTrying qv machine.old a call.now candidate s → StandsWritten machine.old qv.arity → LeadsTo 1 qv turn machine.new s) }
+    ensures leads { IfOk result (λ turn. (qv : Query) (a : Around) (s : State Task) → IsTrying qv machine.old a call.now candidate s → StandsWritten machine.old qv.arity → LeadsTo 1 quiet qv turn machine.new s) }
+    ensures steps { OnOk result (machine.new.counts.steps ≡ machine.old.counts.steps) }
     ensures program { OnOk result (KeepsProgram machine.old machine.new) }
     ensures ends { IfOk result IsGoalTurn }
 {
@@ -239,6 +268,7 @@ fn take_call(
     behind: Option<usize>,
 ) -> Result<Turn, Memory>
     ensures leads { IfOk result (CallLeads machine.old machine.new place goal head first behind) }
+    ensures steps { OnOk result (machine.new.counts.steps ≡ machine.old.counts.steps) }
     ensures program { OnOk result (KeepsProgram machine.old machine.new) }
     ensures ends { IfOk result IsGoalTurn }
 {
@@ -258,19 +288,21 @@ fn take_call(
 pub(crate) fn take_atom<W: Watch>(
     machine: &mut Machine,
     crowd: &mut Crowd<'_, W>,
+    constants: &[Declared],
     goal: TermId,
     form: Form,
     place: Place,
     behind: Option<usize>,
 ) -> Result<Turn, Memory>
-    ensures leads { IfOk result (AtomTurns machine.old machine.new place goal form behind) }
+    ensures leads { IfOk result (AtomTurns (HeardBy constants.now machine.old machine.new (map W.seen crowd.old.watchers.now.items) (map W.seen crowd.new.watchers.now.items)) machine.old machine.new place goal form behind) }
+    ensures same { crowd.new.watchers.ghost_name ≡ crowd.old.watchers.ghost_name }
     ensures program { OnOk result (KeepsProgram machine.old machine.new) }
     ensures ends { IfOk result IsGoalTurn }
 {
     if !take_step(machine) {
         return Ok(Turn::Ended(Ending::Steps));
     }
-    tell_goal(machine, crowd, form)?;
+    tell_goal(machine.alloc, crowd, constants, form)?;
     machine.branch.goals = behind;
     match form {
         Form::Equal(left, right) => {
@@ -302,7 +334,8 @@ pub(crate) fn take_cut<W: Watch>(
     behind: Option<usize>,
 ) -> Result<Turn, Memory>
     ensures cuts { IfOk result (λ turn. CutsOff turn machine.old machine.new place.mark behind) }
-    ensures moved { IfOk result (λ turn. (qv : Query) (a : Around) (raw : Branch) (s : State Task) → IsRunning qv machine.old a raw s → IsAtGoal machine.old a place Flat.Cut behind raw → MovesTo qv turn machine.new s) }
+    ensures moved { IfOk result (λ turn. (qv : Query) (a : Around) (raw : Branch) (s : State Task) → IsRunning qv machine.old a raw s → IsAtGoal machine.old a place Flat.Cut behind raw → TellsOn (λ x. (cs : List Named) → HeardBy cs machine.old machine.new (map W.seen crowd.old.watchers.now.items) (map W.seen crowd.new.watchers.now.items) x) (λ x. MovesTo x qv turn machine.new s)) }
+    ensures same { crowd.new.watchers.ghost_name ≡ crowd.old.watchers.ghost_name }
     ensures written { OnOk result ((ar : ℕ → ℕ) → StandsIn machine.old → IsWrittenSearch machine.old ar → IsWrittenSearch machine.new ar) }
     ensures tasks { IfOk result (λ turn. turn ≡ Turn.On → (tss : List (List Task)) (keep : ℕ) → HaveTasks machine.old tss → IsMarkOf machine.old tss place.mark keep → CutsTasks machine.old machine.new place.mark keep tss) }
     ensures program { OnOk result (KeepsProgram machine.old machine.new) }

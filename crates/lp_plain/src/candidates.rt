@@ -1,9 +1,9 @@
 // The clauses that may meet a goal: first the assumed ones, the newest first, then those of the program that pass the
 // filter, in order.
-ghost use Rattle.std.specs.Prelude.{◌≡◌, ◌<◌, ◌-◌, ◌++◌, length, map, List, [], ◌∷◌, ℕ, suc, filter, drop, nat_eq, Option, Some, None, slice_get, IfOk};
+ghost use Rattle.std.specs.Prelude.{◌≡◌, ◌<◌, ◌≤◌, ◌-◌, ◌++◌, All, length, map, List, [], ◌∷◌, ℕ, suc, filter, drop, nat_eq, Option, Some, None, slice_get, IfOk};
 ghost use Rattle.std.specs.HashMap.{get};
 ghost use Rattle.lp_plain.specs.Newest.{IsNewest};
-ghost use Rattle.lp_plain.specs.Candidates.{constant_at, set_next, unlinked, IsLinked, IsIndex, IsChain, IsLeft, AreLeft, nexts, numbers, numbers_in, passes, first_for, in_turn};
+ghost use Rattle.lp_plain.specs.Candidates.{AreInOrder, constant_at, set_next, unlinked, IsLinked, IsIndex, IsChain, IsLeft, AreLeft, nexts, numbers, numbers_in, passes, first_for, in_turn};
 
 use crate::choice::Call;
 use crate::frame::Assumption;
@@ -26,33 +26,33 @@ pub(crate) enum Candidate {
 pub(crate) type Index = HashMap<u32, usize>;
 
 // The constant at the head of a clause.
-fn constant_of(bank: &Bank, rules: &Vec<Rule>, number: usize) -> Result<Option<u32>, Memory>
-    ensures { IfOk result (λ found. found ≡ constant_at bank.now (slice_get rules.now.items number)) }
+fn constant_of(bank: &Bank, rules: &Vec<Rule>, number: usize) -> Option<u32>
+    ensures { result ≡ constant_at bank.now (slice_get rules.now.items number) }
 {
     let Some(rule) = rules.get(number) else {
-        return Err(Memory);
+        return None;
     };
     match bank.term_node(rule.head) {
-        TermNode::Const(constant, _) => Ok(Some(constant)),
-        TermNode::Index(_) => Ok(None),
-        TermNode::Int(_) => Ok(None),
-        TermNode::Text(_) => Ok(None),
-        TermNode::Eigen(_) => Ok(None),
-        TermNode::Logic { .. } => Ok(None),
-        TermNode::Param(_, _) => Ok(None),
-        TermNode::Abs(_) => Ok(None),
-        TermNode::App(_, _) => Ok(None),
+        TermNode::Const(constant, _) => Some(constant),
+        TermNode::Index(_) => None,
+        TermNode::Int(_) => None,
+        TermNode::Text(_) => None,
+        TermNode::Eigen(_) => None,
+        TermNode::Logic { .. } => None,
+        TermNode::Param(_, _) => None,
+        TermNode::Abs(_) => None,
+        TermNode::App(_, _) => None,
     }
 }
 
-fn link(rules: &mut Vec<Rule>, number: usize, next: Option<usize>) -> Result<(), Memory>
-    ensures { IfOk result (λ done. (number < length rules.old.items) × (rules.new.items ≡ set_next rules.old.items number next)) }
+fn link(rules: &mut Vec<Rule>, number: usize, next: Option<usize>)
+    requires { number < length rules.old.items }
+    ensures { rules.new.items ≡ set_next rules.old.items number next }
 {
     let Some(rule) = rules.get_mut(number) else {
-        return Err(Memory);
+        unreachable!()
     };
     rule.next = next;
-    Ok(())
 }
 
 fn add_rule(
@@ -61,13 +61,14 @@ fn add_rule(
     number: usize,
     index: &mut Index,
 ) -> Result<(), Memory>
+    requires { number < length rules.old.items }
     ensures { IfOk result (λ done. IsLinked bank.now rules.old.items rules.new.items (λ c. get nat_eq index.old c) (λ c. get nat_eq index.new c) (number ∷ []) (suc number) number) }
 {
-    let Some(constant) = constant_of(bank, rules, number)? else {
+    let Some(constant) = constant_of(bank, rules, number) else {
         return Ok(());
     };
     let next = index.insert(constant, number)?;
-    link(rules, number, next)?;
+    link(rules, number, next);
     Ok(())
 }
 
@@ -79,12 +80,12 @@ fn add_span(
     behind: usize,
     index: &mut Index,
 ) -> Result<usize, Memory>
-    ensures { IfOk result (λ first. IsLinked bank.now rules.old.items rules.new.items (λ c. get nat_eq index.old c) (λ c. get nat_eq index.new c) (numbers_in span) behind first) }
+    requires within { behind ≤ length rules.old.items }
+    requires order { (span.from ≤ span.to) × (span.to ≤ behind) }
+    ensures first { IfOk result (λ first. first ≡ span.from) }
+    ensures linked { IfOk result (λ first. IsLinked bank.now rules.old.items rules.new.items (λ c. get nat_eq index.old c) (λ c. get nat_eq index.new c) (numbers_in span) behind first) }
 {
     let mut left = span.to;
-    if left > behind {
-        return Err(Memory);
-    }
     'rules: while left > span.from {
         left -= 1;
         add_rule(bank, rules, left, index)?;
@@ -99,6 +100,8 @@ pub(crate) fn index_of(
     rules: &mut Vec<Rule>,
     program: &Vec<Span>,
 ) -> Result<Index, Memory>
+    requires order { AreInOrder 0 program.now.items }
+    requires ends { All (λ s. s.to ≤ length rules.old.items) program.now.items }
     ensures same { IfOk result (λ index. map unlinked rules.new.items ≡ map unlinked rules.old.items) }
     ensures index { IfOk result (λ index. IsIndex bank.now rules.new.items (λ c. get nat_eq index c) (numbers program.now.items)) }
 {
@@ -127,7 +130,7 @@ fn program_from(
             return Ok(None);
         };
         let Some(rule) = rules.get(number) else {
-            return Err(Memory);
+            return Ok(None);
         };
         if may_meet(bank, rule.key, key) {
             return Ok(Some(number));
@@ -204,13 +207,13 @@ pub(crate) fn candidate_after(
     match candidate {
         Candidate::Assumed(number) => {
             let Some(assumption) = assumptions.get(number) else {
-                return Err(Memory);
+                return Ok(None);
             };
             assumed_or_first(bank, rules, index, call, assumption.older)
         }
         Candidate::Program(number) => {
             let Some(rule) = rules.get(number) else {
-                return Err(Memory);
+                return Ok(None);
             };
             program_candidate(bank, rules, call.key, rule.next)
         }

@@ -1,5 +1,5 @@
 // What is told of a clause's head before it is tried.
-ghost use Rattle.std.specs.Prelude.{◌≡◌, ◌<◌, ℕ, ◌+◌, ◌++◌, ◌||◌, ◌∷◌, [], nat_eq, true, None, Some, Option, List, All, get_or, set, length, map, IfOk, OnOk};
+ghost use Rattle.std.specs.Prelude.{◌≡◌, ◌<◌, ◌^◌, ℕ, ◌+◌, ◌++◌, ◌||◌, ◌∷◌, [], nat_eq, true, None, Some, Option, List, All, get_or, set, length, map, IfOk, OnOk};
 ghost use Rattle.lp_calculus.specs.Term.{Term, Atom, index, atom, constant, integer, text, eigen};
 ghost use Rattle.lp_term.specs.Nodes.{Nodes, tree};
 ghost use Rattle.lp_term.specs.Within.{AreTermsOf};
@@ -9,7 +9,7 @@ ghost use Rattle.lp_plain.specs.Candidates.{same_texts, same_keys, meets};
 ghost use Rattle.lp_plain.specs.declared.head.Key.TheVariants as kept;
 ghost use Rattle.lp_plain.specs.Heads.{IsKey, IsTextKey, trees_of, slot_place, pair_places, pair_in, new_among, with_slot, with_pair, places_of, stands, MarksMore, HaveBecome, slot_term, pairs_at};
 ghost use Rattle.lp_plain.specs.Within.{IsKeyIn};
-ghost use Rattle.lp_plain.specs.inner.Placing.{places_weight};
+ghost use Rattle.lp_plain.specs.inner.Placing.{IsShallow, places_weight};
 
 use lp_base::Memory;
 use lp_term::{Bank, TermId, TermNode, head_of};
@@ -86,14 +86,12 @@ fn push_parts(
 }
 
 fn push_body(body: TermId, depth: u64, places: &mut Vec<Place>) -> Result<(), Memory>
+    requires { depth < 2 ^ 62 }
     ensures { OnOk result (places.new.items ≡ places.old.items ++ record { term = body; depth = depth + 1 } ∷ []) }
 {
-    let Some(inner) = depth.checked_add(1) else {
-        return Err(Memory);
-    };
     places.push(Place {
         term: body,
-        depth: inner,
+        depth: depth + 1,
     })?;
     Ok(())
 }
@@ -104,9 +102,11 @@ fn mark_node(
     seen: &mut Vec<bool>,
     places: &mut Vec<Place>,
 ) -> Result<(), Memory>
+    requires { IsShallow bank.now place }
     ensures count { length seen.new.items ≡ length seen.old.items }
     ensures marks { OnOk result ((k : ℕ) → (get_or seen.new.items k true || stands bank.now k places.new.items) ≡ (get_or seen.old.items k true || stands bank.now k (places.old.items ++ place ∷ []))) }
     ensures lighter { OnOk result (places_weight bank.now places.new.items < places_weight bank.now (places.old.items ++ place ∷ [])) }
+    ensures shallow { OnOk result (All (IsShallow bank.now) places.old.items → All (IsShallow bank.now) places.new.items) }
 {
     let depth = place.depth;
     if bank.is_known_below(place.term, depth) {
@@ -138,6 +138,8 @@ fn mark_variables(
     ensures { OnOk result (MarksMore seen.old.items seen.new.items (tree bank.now term.0)) }
 {
     let mut places = Vec::new(alloc);
+    // The numbers of a bank are few: so is how deep a term stands.
+    let _count = bank.term_count();
     places.push(Place { term, depth: 0 })?;
     'places: while let Some(place) = places.pop() {
         mark_node(bank, place, seen, &mut places)?;

@@ -1,15 +1,16 @@
 // Terms of a clause with values for its variables and new type variables.
-ghost use Rattle.std.specs.Prelude.{◌≡◌, ℕ, ◌-◌, ◌<◌, ◌≤◌, List, [], ◌∷◌, ◌++◌, length, map, reverse, true, All, Some, slice_get, OnOk, IfOk};
+ghost use Rattle.std.specs.Prelude.{◌≡◌, ℕ, ◌+◌, ◌-◌, ◌<◌, ◌≤◌, List, [], ◌∷◌, ◌++◌, length, map, reverse, true, All, Some, slice_get, OnOk, IfOk};
 ghost use Rattle.lp_calculus.specs.Term.{Term, atom, constant};
 ghost use Rattle.lp_calculus.specs.Types.{Ty, instance};
 ghost use Rattle.lp_calculus.specs.Instance.{instance_term};
-ghost use Rattle.lp_term.specs.Nodes.{Extends, tree, type_tree};
+ghost use Rattle.lp_term.specs.Nodes.{Extends, term_at, tree, type_tree};
 ghost use Rattle.lp_term.specs.declared.node.TermId.{TermId};
 ghost use Rattle.lp_model.specs.Index.{instantiate};
 ghost use Rattle.lp_plain.specs.Instances.{values_of, AreValues, StandFor, IsRenewedAtom, KeepsInstancing, visits_at};
 ghost use Rattle.lp_plain.specs.Renewal.{renewing};
 ghost use Rattle.lp_plain.specs.Scopes.{IsScope};
 ghost use Rattle.lp_plain.specs.Written.{IsWritten};
+ghost use Rattle.lp_plain.specs.inner.Building.{GoesFed, IsAtomNode, IsFed, IsReady, parts_of};
 
 use crate::scope::Scopes;
 use crate::types::{Renewal, all_renewed};
@@ -32,24 +33,18 @@ enum Task {
     Build(TermId),
 }
 
-// What stands for the index of the node, below so many binders.
-fn value_of(
-    scopes: &Scopes,
-    values: Values,
-    id: TermId,
-    at: u64,
-    depth: u64,
-) -> Result<TermId, Memory>
-    ensures bound { IfOk result (λ new. at < depth → new ≡ id) }
-    ensures value { IfOk result (λ new. depth ≤ at → (nb nv : ℕ) → (vs : List TermId) → IsScope scopes.now nb nv values.scope vs → slice_get vs (at - depth) ≡ Some new) }
+// What stands for the index of the node, below so many binders. An index that has no value stays.
+fn value_of(scopes: &Scopes, values: Values, id: TermId, at: u64, depth: u64) -> TermId
+    ensures bound { at < depth → result ≡ id }
+    ensures value { depth ≤ at → (nb nv : ℕ) → (vs : List TermId) → IsScope scopes.now nb nv values.scope vs → (t : TermId) → slice_get vs (at - depth) ≡ Some t → result ≡ t }
 {
     if at < depth {
-        return Ok(id);
+        return id;
     }
     let Some(value) = scopes.value(values.scope, at - depth) else {
-        return Err(Memory);
+        return id;
     };
-    Ok(value)
+    value
 }
 
 // The constant with new type variables.
@@ -87,6 +82,7 @@ fn renewed_atom(
     id: TermId,
     types: Renewal,
 ) -> Result<TermId, Memory>
+    requires { IsAtomNode (term_at bank.old id.0) }
     ensures kept { Extends bank.old bank.new }
     ensures within { IfOk result (λ new. id.0 < length bank.old.terms → new.0 < length bank.new.terms) }
     ensures renewed { IfOk result (λ new. IsRenewedAtom (renewing types) (tree bank.old id.0) (tree bank.new new.0)) }
@@ -108,7 +104,7 @@ fn renewed_atom(
         TermNode::Eigen(_) => Ok(id),
         TermNode::Logic { .. } => Ok(id),
         TermNode::Param(_, _) => Ok(id),
-        _ => Err(Memory),
+        _ => unreachable!(),
     }
 }
 
@@ -122,9 +118,11 @@ fn visit(
     tasks: &mut Vec<Task>,
     made: &mut Vec<TermId>,
 ) -> Result<(), Memory>
+    requires { IsFed bank.old (Task.Visit id depth ∷ reverse tasks.old.items) (length made.old.items) }
     ensures kept { Extends bank.old bank.new }
+    ensures fed { OnOk result (GoesFed bank.old bank.new (Task.Visit id depth) tasks.old.items tasks.new.items (length made.new.items)) }
     ensures moves { OnOk result ((nb nv : ℕ) → (vs : List TermId) → IsScope scopes.now nb nv values.scope vs → (σ : ℕ → Term) → StandFor bank.old vs σ →
-        KeepsInstancing σ (renewing values.types) bank.old bank.new (tasks.old.items ++ Task.Visit id depth ∷ []) tasks.new.items made.old.items made.new.items) }
+        KeepsInstancing (length vs) σ (renewing values.types) bank.old bank.new (tasks.old.items ++ Task.Visit id depth ∷ []) tasks.new.items made.old.items made.new.items) }
 {
     if values.types.count == 0 {
         if bank.is_known_below(id, depth) {
@@ -134,14 +132,12 @@ fn visit(
     }
     match bank.term_node(id) {
         TermNode::Index(at) => {
-            let new = value_of(scopes, values, id, at, depth)?;
+            let new = value_of(scopes, values, id, at, depth);
             made.push(new)?;
             Ok(())
         }
         TermNode::Abs(body) => {
-            let Some(inner) = depth.checked_add(1) else {
-                return Err(Memory);
-            };
+            let inner = depth + 1;
             tasks.push(Task::Build(id))?;
             tasks.push(Task::Visit(body, inner))?;
             Ok(())
@@ -162,13 +158,14 @@ fn visit(
 
 // The last so many terms, in order.
 fn take_last(alloc: Global, made: &mut Vec<TermId>, count: usize) -> Result<Vec<TermId>, Memory>
+    requires { count ≤ length made.old.items }
     ensures taken { IfOk result (λ parts. made.old.items ≡ made.new.items ++ parts.items) }
     ensures many { IfOk result (λ parts. length parts.items ≡ count) }
 {
     let mut parts = Vec::new(alloc);
     for _ in 0..count {
         let Some(part) = made.pop() else {
-            return Err(Memory);
+            unreachable!()
         };
         parts.push(part)?;
     }
@@ -203,13 +200,15 @@ fn is_unchanged(head: TermId, old: TermId, args: &[TermId], parts: &[TermId]) ->
 }
 
 fn build(alloc: Global, bank: &mut Bank, id: TermId, made: &mut Vec<TermId>) -> Result<(), Memory>
+    requires { IsReady bank.old id.0 (length made.old.items) }
     ensures kept { Extends bank.old bank.new }
-    ensures moves { OnOk result ((σ : ℕ → Term) → (θ : ℕ → Ty) → (tasks : List Task) → KeepsInstancing σ θ bank.old bank.new (tasks ++ Task.Build id ∷ []) tasks made.old.items made.new.items) }
+    ensures left { OnOk result (length made.new.items ≡ length made.old.items - parts_of (term_at bank.old id.0) + 1) }
+    ensures moves { OnOk result ((n : ℕ) → (σ : ℕ → Term) → (θ : ℕ → Ty) → (tasks : List Task) → KeepsInstancing n σ θ bank.old bank.new (tasks ++ Task.Build id ∷ []) tasks made.old.items made.new.items) }
 {
     match bank.term_node(id) {
         TermNode::Abs(old) => {
             let Some(body) = made.pop() else {
-                return Err(Memory);
+                unreachable!()
             };
             if body.0 == old.0 {
                 made.push(id)?;
@@ -222,7 +221,7 @@ fn build(alloc: Global, bank: &mut Bank, id: TermId, made: &mut Vec<TermId>) -> 
         TermNode::App(old, parts) => {
             let args = take_last(alloc, made, parts.len())?;
             let Some(head) = made.pop() else {
-                return Err(Memory);
+                unreachable!()
             };
             if is_unchanged(head, old, args.as_slice(), parts) {
                 made.push(id)?;
@@ -232,7 +231,7 @@ fn build(alloc: Global, bank: &mut Bank, id: TermId, made: &mut Vec<TermId>) -> 
             made.push(put)?;
             Ok(())
         }
-        _ => Err(Memory),
+        _ => unreachable!(),
     }
 }
 
@@ -245,9 +244,11 @@ fn step(
     tasks: &mut Vec<Task>,
     made: &mut Vec<TermId>,
 ) -> Result<(), Memory>
+    requires { IsFed bank.old (task ∷ reverse tasks.old.items) (length made.old.items) }
     ensures kept { Extends bank.old bank.new }
+    ensures fed { OnOk result (GoesFed bank.old bank.new task tasks.old.items tasks.new.items (length made.new.items)) }
     ensures moves { OnOk result ((nb nv : ℕ) → (vs : List TermId) → IsScope scopes.now nb nv values.scope vs → (σ : ℕ → Term) → StandFor bank.old vs σ →
-        KeepsInstancing σ (renewing values.types) bank.old bank.new (tasks.old.items ++ task ∷ []) tasks.new.items made.old.items made.new.items) }
+        KeepsInstancing (length vs) σ (renewing values.types) bank.old bank.new (tasks.old.items ++ task ∷ []) tasks.new.items made.old.items made.new.items) }
 {
     match task {
         Task::Visit(id, depth) => {
@@ -275,18 +276,19 @@ pub(crate) fn instance(
         tree bank.new id.0 ≡ instantiate (values_of bank.old vs) (instance_term (renewing values.types) (tree bank.old term.0))) }
 {
     let root = bank.inside(term)?;
+    // The numbers of a bank are few: so is how deep a term stands.
+    let _count = bank.term_count();
     let mut tasks = Vec::new(alloc);
     let mut made = Vec::new(alloc);
     tasks.push(Task::Visit(root, 0))?;
-    'tasks: for _ in 0..u64::MAX {
+    'tasks: loop {
         let Some(task) = tasks.pop() else {
             let Some(last) = made.pop() else {
-                return Err(Memory);
+                unreachable!()
             };
             let new = bank.inside(last)?;
             return Ok(new);
         };
         step(alloc, bank, scopes, values, task, &mut tasks, &mut made)?;
     }
-    Err(Memory)
 }

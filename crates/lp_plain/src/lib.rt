@@ -21,6 +21,8 @@ mod below;
 mod choice;
 // A search, from one event to the next.
 mod events;
+/// What a search tells from event to event is what its run tells.
+pub mod laws;
 // An atomic goal by its head-normal form.
 mod form;
 // The variables that are written in goals and clauses.

@@ -1,6 +1,6 @@
 // What a search works on: one bank and one list of bindings for all branches. An alternative holds what leads back to
 // its branch.
-ghost use Rattle.std.specs.Prelude.{◌≡◌, ℕ, ◌∷◌, ◌++◌, [], List, OnOk, IfOk, IfSome, length, ◌<◌, ◌≤◌, nat_lt, take, filter, slice_get, Option, None, Some};
+ghost use Rattle.std.specs.Prelude.{◌≡◌, ℕ, ◌∷◌, ◌++◌, [], List, OnOk, IfOk, IfSome, length, ◌<◌, ◌≤◌, nat_lt, true, false, take, filter, slice_get, Option, None, Some};
 ghost use Rattle.lp_calculus.specs.Term.{Term};
 ghost use Rattle.lp_plain.specs.declared.choice.Choice.{Choice};
 ghost use Rattle.lp_model.specs.Branch.{Entry, Task};
@@ -44,7 +44,7 @@ use crate::openness::Standing;
 use crate::scope::Scopes;
 use crate::table::Table;
 use lp_base::Memory;
-use lp_model::{Declared, Pair};
+use lp_model::Pair;
 use lp_pattern::Bindings;
 use lp_term::{Bank, TermId, put_logic};
 use std::alloc::Global;
@@ -71,7 +71,6 @@ pub(crate) struct Counts {
 pub(crate) struct Machine {
     pub(crate) alloc: Global,
     pub(crate) bank: Bank,
-    pub(crate) constants: Vec<Declared>,
     pub(crate) table: Table,
     pub(crate) index: Index,
     pub(crate) bindings: Bindings,
@@ -90,7 +89,7 @@ pub(crate) struct Machine {
 }
 
 impl Machine {
-    /// A list of goals of the table in front of others.
+    /// A list of goals of the table in front of others. A number that is none has no goals.
     pub(crate) fn put_list(
         &mut self,
         list: usize,
@@ -106,7 +105,9 @@ impl Machine {
         ensures puts { OnOk result (PutsList self.old self.new list place behind) }
         ensures reads { IfOk result (λ o. (a : Around) (gs : List Goal) (es : List Entry) → IsListAt self.old place list gs → Reads self.old a behind es → Reads self.new a o (placed a place gs ++ es)) }
     {
-        let span = self.table.list(list)?;
+        let Some(span) = self.table.list(list) else {
+            return Ok(behind);
+        };
         if span.from >= span.to {
             return Ok(behind);
         }
@@ -321,7 +322,10 @@ impl Machine {
     }
 
     /// Whether the search at work has an alternative. That of a negated goal has its own.
-    pub(crate) fn has_choice(&self) -> bool {
+    pub(crate) fn has_choice(&self) -> bool
+        ensures some { result ≡ true → base_of self.now.denied < length self.now.choices.items }
+        ensures none { result ≡ false → length self.now.choices.items ≤ base_of self.now.denied }
+    {
         match self.denied {
             None => !self.choices.is_empty(),
             Some(number) => self.choices.len() > number.saturating_add(1),

@@ -1,5 +1,5 @@
 // Negated goals: the search of one stands on that of its branch.
-ghost use Rattle.std.specs.Prelude.{◌≡◌, ◌≢◌, ◌+◌, ◌≤◌, ℕ, [], length, take, true, false, None, Some, OnOk, IfOk};
+ghost use Rattle.std.specs.Prelude.{◌≡◌, ◌≢◌, ◌+◌, ◌≤◌, ℕ, List, map, [], length, take, true, false, None, Some, OnOk, IfOk};
 ghost use Rattle.lp_model.specs.declared.ending.Ending.{Ending};
 ghost use Rattle.lp_plain.specs.declared.choice.Untried.{Untried};
 ghost use Rattle.lp_plain.specs.declared.table.Flat.{Flat};
@@ -9,6 +9,9 @@ ghost use Rattle.lp_model.specs.Branch.{Branch, Task};
 ghost use Rattle.lp_model.specs.Flat.{Goals, Written, Not as Denied};
 ghost use Rattle.lp_model.specs.Search.{look_not};
 ghost use Rattle.lp_model.specs.Skeleton.{State};
+ghost use Rattle.lp_model.specs.declared.program.Declared.{Declared as Named};
+ghost use Rattle.lp_plain.specs.Calling.{TellsOn};
+ghost use Rattle.lp_plain.specs.Hearing.{HeardBy};
 ghost use Rattle.lp_plain.specs.Denials.{IsBegun, IsHeldBy, TakesDenied, goes_around};
 ghost use Rattle.lp_plain.specs.Entries.{Around as Reading, GrowsGoals, IsBehind, IsOf, entry_at, in_scope};
 ghost use Rattle.lp_plain.specs.HeadLooks.{OnlyBank};
@@ -103,7 +106,8 @@ pub(crate) fn take_not<W: Watch>(
     behind: Option<usize>,
 ) -> Result<Turn, Memory>
     ensures takes { IfOk result (λ turn. Takes turn (record { free = free; values = place.values; older = place.standing }) machine.old machine.new behind) }
-    ensures denies { IfOk result (λ turn. (qv : Query) (a : Reading) (raw : Branch) (s : State Task) (h : IsRunning qv machine.old a raw s) → IsAtGoal machine.old a place (Flat.Not goals free) behind raw → TakesDenied turn qv machine.new s h.at_work.goals) }
+    ensures denies { IfOk result (λ turn. (qv : Query) (a : Reading) (raw : Branch) (s : State Task) (h : IsRunning qv machine.old a raw s) → IsAtGoal machine.old a place (Flat.Not goals free) behind raw → TellsOn (λ x. (cs : List Named) → HeardBy cs machine.old machine.new (map W.seen crowd.old.watchers.now.items) (map W.seen crowd.new.watchers.now.items) x) (λ x. TakesDenied x turn qv machine.new s h.at_work.goals)) }
+    ensures same { crowd.new.watchers.ghost_name ≡ crowd.old.watchers.ghost_name }
     ensures written { IfOk result (λ turn. turn ≡ Turn.On → WritesList machine.old machine.new place [] goals) }
     ensures program { OnOk result (KeepsProgram machine.old machine.new) }
     ensures ends { IfOk result IsGoalTurn }

@@ -14,7 +14,7 @@ use lp_model::Ending;
 
 /// How the search goes on: with the branch at work, with the newest alternative, with the answer that the branch is, or
 /// not at all.
-#[derive(Clone, Copy, PartialEq, Eq)]
+#[derive(Clone, Copy)]
 pub(crate) enum Turn {
     On,
     Back,

@@ -11,7 +11,7 @@ ghost use Rattle.lp_model.specs.Readings.{formula_of};
 ghost use Rattle.lp_model.specs.Search.{start, vars_from};
 ghost use Rattle.lp_normal.specs.Within.{AreGoalsIn, AreClausesIn};
 ghost use Rattle.lp_plain.specs.Assuming.{ArePlaced};
-ghost use Rattle.lp_plain.specs.Candidates.{IsIndex, numbers};
+ghost use Rattle.lp_plain.specs.Candidates.{AreInOrder, IsIndex, numbers};
 ghost use Rattle.lp_plain.specs.Entries.{Around};
 ghost use Rattle.lp_plain.specs.Scopes.{IsScope, block_count, value_count};
 ghost use Rattle.lp_plain.specs.Searching.{IsStateOf};
@@ -33,7 +33,7 @@ use crate::scope::Scopes;
 use crate::table::{Span, Table};
 use crate::types::Renewal;
 use lp_base::Memory;
-use lp_model::{Clause, ClauseFormula, Goal, Program, Typed};
+use lp_model::{Clause, ClauseFormula, Declared, Goal, Program, Typed};
 use lp_normal::{NormalRefusal, normalise, query_body};
 use lp_pattern::Bindings;
 use lp_term::{Bank, TermId, put_logic};
@@ -51,6 +51,7 @@ pub(crate) struct Source {
 #[derive(Drop)]
 pub(crate) struct Started {
     pub(crate) machine: Machine,
+    pub(crate) constants: Vec<Declared>,
     pub(crate) source: Source,
     pub(crate) variables: Vec<TermId>,
 }
@@ -94,6 +95,7 @@ fn put_program(
     ensures kept { OnOk result (Extends bank.old bank.new) }
     ensures within { OnOk result (IsTableIn (length bank.old.terms) table.old → IsTableIn (length bank.new.terms) table.new) }
     ensures ends { IfOk result (λ spans. All (λ s. s.to ≤ length table.new.rules.items) spans.items) }
+    ensures order { IfOk result (λ spans. AreInOrder 0 spans.items) }
     ensures program { IfOk result (λ spans. IsTableIn (length bank.old.terms) table.old → AreFormulasIn bank.old formulas.now.items → (d : ℕ → Option Scheme) (css : List Clauses) → AreFlat d bank.old formulas.now.items css → AreProgramOf bank.new table.new spans.items css) }
 {
     let mut spans = Vec::new(alloc);
@@ -196,11 +198,13 @@ pub(crate) fn begin(
     ensures state { IfOk result (λ s. query.formula.0 < length program.bank.terms → (n : ℕ) (d : ℕ → Option Scheme) (flat : Goals) → flatten_query n d (tree program.bank query.formula.0) ≡ Some flat → (a : Around) → IsOutermost a → (answers : ℕ) →
         IsStateOf s.machine a (start query.type_vars (length query.vars.items) flat limit answers)) }
     ensures begun { IfOk result (λ s. query.formula.0 < length program.bank.terms → (n : ℕ) (d : ℕ → Option Scheme) (flat : Goals) → flatten_query n d (tree program.bank query.formula.0) ≡ Some flat → AllOfGoals HasNoVariable (length query.vars.items) flat → (arity : ℕ → ℕ) (answers : ℕ) →
-        IsState (record { types = query.type_vars; vars = length query.vars.items; arity = arity; limit = limit; outer = [] }) s.machine (start query.type_vars (length query.vars.items) flat limit answers)) }
+        IsState (record { types = query.type_vars; vars = length query.vars.items; arity = arity; outer = [] }) s.machine (start query.type_vars (length query.vars.items) flat limit answers)) }
     ensures written { IfOk result (λ s. query.formula.0 < length program.bank.terms → (n : ℕ) (d : ℕ → Option Scheme) (flat : Goals) → flatten_query n d (tree program.bank query.formula.0) ≡ Some flat → (ar : ℕ → ℕ) (k : ℕ) →
         GoalsWritten ar k (own_and (length query.vars.items) []) flat → IsWrittenSearch s.machine ar) }
     ensures marked { IfOk result (λ s. IsMarked s.machine) }
     ensures placed { IfOk result (λ s. (a : Around) → IsOutermost a → ArePlaced s.machine a) }
+    ensures steps { IfOk result (λ s. s.machine.counts.steps ≡ 0) }
+    ensures constants { IfOk result (λ s. s.constants ≡ program.constants) }
 {
     let Program {
         mut bank,
@@ -225,7 +229,6 @@ pub(crate) fn begin(
     let mut machine = Machine {
         alloc,
         bank,
-        constants,
         table,
         index,
         bindings,
@@ -259,6 +262,7 @@ pub(crate) fn begin(
     };
     Ok(Started {
         machine,
+        constants,
         source,
         variables,
     })

@@ -86,12 +86,12 @@ impl Table {
     }
 
     /// The numbers of the goals of a list.
-    pub(crate) fn list(&self, number: usize) -> Result<Span, Memory>
-        ensures { IfOk result (λ span. slice_get self.now.lists.items number ≡ Some span) }
+    pub(crate) fn list(&self, number: usize) -> Option<Span>
+        ensures { result ≡ slice_get self.now.lists.items number }
     {
         match self.lists.get(number) {
-            Some(span) => Ok(*span),
-            None => Err(Memory),
+            Some(span) => Some(*span),
+            None => None,
         }
     }
 
@@ -183,6 +183,7 @@ impl Table {
         ensures put { IfOk result (λ s. IsPut bank.now self.old self.new waiting.old.items waiting.new.items (clauses_weight (clauses_of bank.now clauses.now)) (λ c t. AreRules bank.now c t s.from s.to (clauses_of bank.now clauses.now))) }
         ensures within { OnOk result (Stays (length bank.now.terms) (highest (map clause_term_bound clauses.now)) self.old self.new waiting.old.items waiting.new.items) }
         ensures ends { IfOk result (λ s. s.to ≡ length self.new.rules.items) }
+        ensures from { IfOk result (λ s. (s.from ≡ length self.old.rules.items) × (s.from ≤ s.to)) }
     {
         let from = self.rules.len();
         let mut rest = clauses;
@@ -367,6 +368,7 @@ impl Table {
         ensures kept { OnOk result (LeadsTo bank.now Never Never (shown self.old) (shown self.new)) }
         ensures within { OnOk result (AreClausesIn bank.now clauses.now.items → IsTableIn (length bank.now.terms) self.old → IsTableIn (length bank.now.terms) self.new) }
         ensures ends { IfOk result (λ span. span.to ≤ length self.new.rules.items) }
+        ensures from { IfOk result (λ span. (length self.old.rules.items ≤ span.from) × (span.from ≤ span.to)) }
     {
         let first = self.lists.len();
         let mut waiting = Vec::new(alloc);

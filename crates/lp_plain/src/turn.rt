@@ -1,5 +1,5 @@
 // The next goal of the branch at work, and the way back to an alternative.
-ghost use Rattle.std.specs.Prelude.{◌≡◌, ℕ, suc, true, false, Bool, ◌∷◌, ◌++◌, ◌<◌, ◌≤◌, [], List, drop, length, Option, None, IfOk, OnOk, Some, slice_get};
+ghost use Rattle.std.specs.Prelude.{◌≡◌, ℕ, suc, true, false, Bool, ◌∷◌, ◌++◌, ◌<◌, ◌≤◌, [], List, map, drop, length, Option, None, IfOk, OnOk, Some, slice_get};
 ghost use Rattle.lp_model.specs.Branch.{Answer, Branch, Task};
 ghost use Rattle.lp_model.specs.Flat.{Clause, Goals};
 ghost use Rattle.lp_model.specs.Skeleton.{Inner, State};
@@ -16,12 +16,14 @@ ghost use Rattle.lp_standard.specs.Connectives.{connective_of};
 ghost use Rattle.lp_term.specs.Nodes.{Nodes, tree};
 ghost use Rattle.lp_model.specs.Connected.{connective_in};
 ghost use Rattle.lp_plain.specs.AtRunTime.{AreWrittenGoals, IsAtomFirst, IsAtomForm, IsAtomOrNoForm, IsWrittenFlat};
-ghost use Rattle.lp_plain.specs.Calling.{IsFirstIn, LeadsOf, TermTurns, WrittenBehind};
+ghost use Rattle.lp_plain.specs.Calling.{IsFirstIn, LeadsOf, TellsOn, TermTurns, WrittenBehind};
 ghost use Rattle.lp_plain.specs.Denials.{IsDeniedFirst, IsHeldBy, IsRefutedBy, TakesDenied};
 ghost use Rattle.lp_plain.specs.Entries.{Around, KeepsGoals};
 ghost use Rattle.lp_plain.specs.Forms.{StandsForm};
+ghost use Rattle.lp_plain.specs.Hearing.{HeardBy, Hears, back_in};
+ghost use Rattle.lp_model.specs.declared.program.Declared.{Declared as Named};
 ghost use Rattle.lp_plain.specs.Marks.{AreMarked, IsMarked, Marks, PutsAside, PutsMarks, SetsAside};
-ghost use Rattle.lp_plain.specs.Moving.{IsBack, IsAtGoal, IsAtGoals, IsPlainFirst, IsRunning, IsState, LeadsTo, MovesTo, Query};
+ghost use Rattle.lp_plain.specs.Moving.{IsBack, IsAtGoal, IsAtGoals, IsPlainFirst, IsRunning, IsState, LeadsTo, MovesTo, Query, Tally, quiet};
 ghost use Rattle.lp_plain.specs.Restoring.{GoesBack};
 ghost use Rattle.lp_plain.specs.Searching.{EndsSo, GoesOnOrStops, IsBackOf, IsQuietMove, IsStateOf};
 ghost use Rattle.lp_plain.specs.Stacks.{base_of};
@@ -30,7 +32,7 @@ ghost use Rattle.lp_plain.specs.Taking.{FirstIsApart, IsApartFirst, IsApartFlat,
 ghost use Rattle.lp_plain.specs.Turns.{IsGoalTurn, KeepsProgram};
 ghost use Rattle.lp_plain.specs.Within.{StandsIn};
 ghost use Rattle.lp_plain.specs.WrittenSearch.{IsApartAtHand, IsWrittenSearch, WritesFlat, WritesGoals};
-ghost use Rattle.lp_plain.specs.inner.Following.{Course, Stands};
+ghost use Rattle.lp_plain.specs.inner.Following.{Course, Follows, Leaves, Stands};
 
 use crate::act::Act;
 use crate::atomic::{take_atom, take_cut, try_candidate};
@@ -44,13 +46,14 @@ use crate::parts::{put_connective, put_parts};
 use crate::table::{Flat, Span};
 use crate::unified::head_normal;
 use lp_base::Memory;
-use lp_model::{Connective, Ending, connective_of};
+use lp_model::{Connective, Declared, Ending, connective_of};
 use lp_term::TermId;
 use lp_watch::{Crowd, Note, Watch};
 
 fn take_flat<W: Watch>(
     machine: &mut Machine,
     crowd: &mut Crowd<'_, W>,
+    constants: &[Declared],
     goal: Flat,
     place: Place,
     behind: Option<usize>,
@@ -60,18 +63,19 @@ fn take_flat<W: Watch>(
     ensures marks { IfOk result (λ turn. turn ≡ Turn.On → IsApartFlat goal → PutsMarks machine.old machine.new place behind machine.new.branch.goals) }
     ensures aside { IfOk result (λ turn. turn ≡ Turn.On → IsApartFlat goal → PutsAside machine.old machine.new place behind) }
     ensures counted { IfOk result (λ turn. IsApartFlat goal → IsApart turn machine.old.counts machine.new.counts) }
-    ensures moved { IfOk result (λ turn. (qv : Query) (a : Around) (raw : Branch) (s : State Task) → IsRunning qv machine.old a raw s → IsAtGoal machine.old a place goal behind raw → IsPlainFirst raw.goals → MovesTo qv turn machine.new s) }
-    ensures leads { IfOk result (λ turn. (qv : Query) (a : Around) (raw : Branch) (s : State Task) → IsRunning qv machine.old a raw s → IsAtGoal machine.old a place goal behind raw → IsAtomFirst raw.goals → IsWrittenFlat machine.old qv.arity place goal → LeadsOf machine.old machine.new qv turn s) }
+    ensures moved { IfOk result (λ turn. (qv : Query) (a : Around) (raw : Branch) (s : State Task) → IsRunning qv machine.old a raw s → IsAtGoal machine.old a place goal behind raw → IsPlainFirst raw.goals → TellsOn (HeardBy constants.now machine.old machine.new (map W.seen crowd.old.watchers.now.items) (map W.seen crowd.new.watchers.now.items)) (λ x. MovesTo x qv turn machine.new s)) }
+    ensures leads { IfOk result (λ turn. (qv : Query) (a : Around) (raw : Branch) (s : State Task) → IsRunning qv machine.old a raw s → IsAtGoal machine.old a place goal behind raw → IsAtomFirst raw.goals → IsWrittenFlat machine.old qv.arity place goal → TellsOn (HeardBy constants.now machine.old machine.new (map W.seen crowd.old.watchers.now.items) (map W.seen crowd.new.watchers.now.items)) (λ x. LeadsOf x machine.old machine.new qv turn s)) }
     ensures stays { IfOk result (λ turn. (a : Around) (raw : Branch) → IsAtGoal machine.old a place goal behind raw → IsPlainFirst raw.goals → (ar : ℕ → ℕ) → StandsIn machine.old → IsWrittenFlat machine.old ar place goal → IsWrittenSearch machine.old ar → WrittenBehind turn machine.new ar) }
     ensures program { OnOk result (KeepsProgram machine.old machine.new) }
     ensures ends { IfOk result IsGoalTurn }
     ensures denied_stays { IfOk result (λ turn. (a : Around) (raw : Branch) → IsAtGoal machine.old a place goal behind raw → IsDeniedFirst raw.goals → (ar : ℕ → ℕ) → StandsIn machine.old → IsWrittenFlat machine.old ar place goal → IsWrittenSearch machine.old ar → turn ≡ Turn.On → IsWrittenSearch machine.new ar) }
-    ensures denies { IfOk result (λ turn. (qv : Query) (a : Around) (raw : Branch) (s : State Task) (h : IsRunning qv machine.old a raw s) → IsAtGoal machine.old a place goal behind raw → IsDeniedFirst raw.goals → TakesDenied turn qv machine.new s h.at_work.goals) }
+    ensures denies { IfOk result (λ turn. (qv : Query) (a : Around) (raw : Branch) (s : State Task) (h : IsRunning qv machine.old a raw s) → IsAtGoal machine.old a place goal behind raw → IsDeniedFirst raw.goals → TellsOn (HeardBy constants.now machine.old machine.new (map W.seen crowd.old.watchers.now.items) (map W.seen crowd.new.watchers.now.items)) (λ x. TakesDenied x turn qv machine.new s h.at_work.goals)) }
+    ensures same { crowd.new.watchers.ghost_name ≡ crowd.old.watchers.ghost_name }
 {
     match goal {
         Flat::Atom(term) => {
             let atom = machine.instance(term, place)?;
-            let turn = take_term(machine, crowd, atom, place, behind)?;
+            let turn = take_term(machine, crowd, constants, atom, place, behind)?;
             Ok(turn)
         }
         Flat::Cut => {
@@ -127,13 +131,15 @@ fn form_beside(machine: &Machine, goal: TermId, connective: Connective) -> Resul
 fn take_term<W: Watch>(
     machine: &mut Machine,
     crowd: &mut Crowd<'_, W>,
+    constants: &[Declared],
     term: TermId,
     place: Place,
     behind: Option<usize>,
 ) -> Result<Turn, Memory>
-    ensures leads { IfOk result (TermTurns machine.old machine.new place term behind) }
+    ensures leads { IfOk result (TermTurns (HeardBy constants.now machine.old machine.new (map W.seen crowd.old.watchers.now.items) (map W.seen crowd.new.watchers.now.items)) machine.old machine.new place term behind) }
     ensures program { OnOk result (KeepsProgram machine.old machine.new) }
     ensures ends { IfOk result IsGoalTurn }
+    ensures same { crowd.new.watchers.ghost_name ≡ crowd.old.watchers.ghost_name }
 {
     let Some(goal) = head_normal(machine, term)? else {
         return Ok(Turn::Ended(Ending::Deep));
@@ -144,7 +150,7 @@ fn take_term<W: Watch>(
         return Ok(turn);
     }
     let form = form_beside(machine, goal, connective)?;
-    let turn = take_atom(machine, crowd, goal, form, place, behind)?;
+    let turn = take_atom(machine, crowd, constants, goal, form, place, behind)?;
     Ok(turn)
 }
 
@@ -152,6 +158,7 @@ fn take_term<W: Watch>(
 fn take_first<W: Watch>(
     machine: &mut Machine,
     crowd: &mut Crowd<'_, W>,
+    constants: &[Declared],
     goals: Span,
     place: Place,
     behind: Option<usize>,
@@ -161,28 +168,27 @@ fn take_first<W: Watch>(
     ensures marks { IfOk result (λ turn. turn ≡ Turn.On → (hs : Goals) → goals.from < goals.to → AreGoals machine.old.bank Never (shown machine.old.table) goals.from goals.to hs → FirstIsApart hs → PutsMarks machine.old machine.new place behind machine.new.branch.goals) }
     ensures aside { IfOk result (λ turn. turn ≡ Turn.On → (hs : Goals) → goals.from < goals.to → AreGoals machine.old.bank Never (shown machine.old.table) goals.from goals.to hs → FirstIsApart hs → PutsAside machine.old machine.new place behind) }
     ensures counted { IfOk result (λ turn. (hs : Goals) → goals.from < goals.to → AreGoals machine.old.bank Never (shown machine.old.table) goals.from goals.to hs → FirstIsApart hs → IsApart turn machine.old.counts machine.new.counts) }
-    ensures moved { IfOk result (λ turn. (qv : Query) (a : Around) (raw : Branch) (s : State Task) → IsRunning qv machine.old a raw s → IsAtGoals machine.old a place goals behind raw → IsPlainFirst raw.goals → MovesTo qv turn machine.new s) }
-    ensures leads { IfOk result (λ turn. (qv : Query) (a : Around) (raw : Branch) (s : State Task) → IsRunning qv machine.old a raw s → IsAtGoals machine.old a place goals behind raw → IsAtomFirst raw.goals → AreWrittenGoals machine.old qv.arity place goals → LeadsOf machine.old machine.new qv turn s) }
+    ensures moved { IfOk result (λ turn. (qv : Query) (a : Around) (raw : Branch) (s : State Task) → IsRunning qv machine.old a raw s → IsAtGoals machine.old a place goals behind raw → IsPlainFirst raw.goals → TellsOn (HeardBy constants.now machine.old machine.new (map W.seen crowd.old.watchers.now.items) (map W.seen crowd.new.watchers.now.items)) (λ x. MovesTo x qv turn machine.new s)) }
+    ensures leads { IfOk result (λ turn. (qv : Query) (a : Around) (raw : Branch) (s : State Task) → IsRunning qv machine.old a raw s → IsAtGoals machine.old a place goals behind raw → IsAtomFirst raw.goals → AreWrittenGoals machine.old qv.arity place goals → TellsOn (HeardBy constants.now machine.old machine.new (map W.seen crowd.old.watchers.now.items) (map W.seen crowd.new.watchers.now.items)) (λ x. LeadsOf x machine.old machine.new qv turn s)) }
     ensures stays { IfOk result (λ turn. (a : Around) (raw : Branch) → IsAtGoals machine.old a place goals behind raw → IsPlainFirst raw.goals → (ar : ℕ → ℕ) → StandsIn machine.old → AreWrittenGoals machine.old ar place goals → IsWrittenSearch machine.old ar → WrittenBehind turn machine.new ar) }
     ensures program { OnOk result (KeepsProgram machine.old machine.new) }
     ensures ends { IfOk result IsGoalTurn }
     ensures denied_stays { IfOk result (λ turn. (a : Around) (raw : Branch) → IsAtGoals machine.old a place goals behind raw → IsDeniedFirst raw.goals → (ar : ℕ → ℕ) → StandsIn machine.old → AreWrittenGoals machine.old ar place goals → IsWrittenSearch machine.old ar → turn ≡ Turn.On → IsWrittenSearch machine.new ar) }
-    ensures denies { IfOk result (λ turn. (qv : Query) (a : Around) (raw : Branch) (s : State Task) (h : IsRunning qv machine.old a raw s) → IsAtGoals machine.old a place goals behind raw → IsDeniedFirst raw.goals → TakesDenied turn qv machine.new s h.at_work.goals) }
+    ensures denies { IfOk result (λ turn. (qv : Query) (a : Around) (raw : Branch) (s : State Task) (h : IsRunning qv machine.old a raw s) → IsAtGoals machine.old a place goals behind raw → IsDeniedFirst raw.goals → TellsOn (HeardBy constants.now machine.old machine.new (map W.seen crowd.old.watchers.now.items) (map W.seen crowd.new.watchers.now.items)) (λ x. TakesDenied x turn qv machine.new s h.at_work.goals)) }
+    ensures same { crowd.new.watchers.ghost_name ≡ crowd.old.watchers.ghost_name }
 {
     let goal = machine.table.goal(goals.from)?;
-    let Some(second) = goals.from.checked_add(1) else {
-        return Err(Memory);
-    };
-    if second >= goals.to {
-        let turn = take_flat(machine, crowd, goal, place, behind)?;
+    let count = goals.to.saturating_sub(goals.from);
+    if count <= 1 {
+        let turn = take_flat(machine, crowd, constants, goal, place, behind)?;
         return Ok(turn);
     }
     let others = Span {
-        from: second,
+        from: goals.from + 1,
         to: goals.to,
     };
     let rest = machine.put_frame(Todo::Goals(others), place, behind)?;
-    let turn = take_flat(machine, crowd, goal, place, rest)?;
+    let turn = take_flat(machine, crowd, constants, goal, place, rest)?;
     Ok(turn)
 }
 
@@ -190,6 +196,7 @@ fn take_first<W: Watch>(
 pub(crate) fn take_goal<W: Watch>(
     machine: &mut Machine,
     crowd: &mut Crowd<'_, W>,
+    constants: &[Declared],
 ) -> Result<Turn, Memory>
     ensures written { IfOk result (λ turn. turn ≡ Turn.On → IsApartAtHand machine.old → (ar : ℕ → ℕ) → StandsIn machine.old → IsWrittenSearch machine.old ar → IsWrittenSearch machine.new ar) }
     ensures moves { IfOk result (λ turn. turn ≡ Turn.On → (a : Around) (s : State Task) (h : IsStateOf machine.old a s) → IsApartFirst h.at_work.goals → (k : ℕ) → s.answers ≡ suc k → (go : (Answer → Bool) → State Task → Inner) (u n : ℕ) (P : List Clause) → IsQuietMove machine.old machine.new a u n P go s) }
@@ -197,12 +204,13 @@ pub(crate) fn take_goal<W: Watch>(
     ensures marks { IfOk result (λ turn. turn ≡ Turn.On → (a : Around) (s : State Task) (h : IsStateOf machine.old a s) → IsApartFirst h.at_work.goals → (l u : ℕ) → Marks l u machine.old machine.old.branch.goals → Marks l u machine.new machine.new.branch.goals) }
     ensures aside { IfOk result (λ turn. turn ≡ Turn.On → (a : Around) (s : State Task) (h : IsStateOf machine.old a s) → IsApartFirst h.at_work.goals → SetsAside machine.old machine.new) }
     ensures marked { IfOk result (λ turn. turn ≡ Turn.On → (a : Around) (s : State Task) (h : IsStateOf machine.old a s) → IsApartFirst h.at_work.goals → IsMarked machine.old → IsMarked machine.new) }
-    ensures answered { IfOk result (λ turn. (qv : Query) (s : State Task) → IsState qv machine.old s → machine.old.branch.goals ≡ None → machine.old.denied ≡ None → (turn ≡ Turn.Answered) × MovesTo qv turn machine.new s) }
-    ensures moved { IfOk result (λ turn. (qv : Query) (s : State Task) (h : IsState qv machine.old s) → IsPlainFirst h.raw.goals → MovesTo qv turn machine.new s) }
-    ensures stands { IfOk result (λ turn. (c : Course) → Stands c Turn.On machine.old → Stands c turn machine.new) }
-    ensures leads { IfOk result (λ turn. (qv : Query) (s : State Task) (h : IsState qv machine.old s) → IsAtomFirst h.raw.goals → IsWrittenSearch machine.old qv.arity → LeadsOf machine.old machine.new qv turn s) }
-    ensures denies { IfOk result (λ turn. (qv : Query) (s : State Task) (h : IsState qv machine.old s) → IsDeniedFirst h.raw.goals → TakesDenied turn qv machine.new s h.running.at_work.goals) }
-    ensures held { IfOk result (λ turn. (qv : Query) (s : State Task) → IsState qv machine.old s → machine.old.branch.goals ≡ None → (number : ℕ) → machine.old.denied ≡ Some number → IsHeldBy qv turn machine.new s) }
+    ensures answered { IfOk result (λ turn. (qv : Query) (s : State Task) → IsState qv machine.old s → machine.old.branch.goals ≡ None → machine.old.denied ≡ None → (turn ≡ Turn.Answered) × HeardBy constants.now machine.old machine.new (map W.seen crowd.old.watchers.now.items) (map W.seen crowd.new.watchers.now.items) quiet × MovesTo quiet qv turn machine.new s) }
+    ensures moved { IfOk result (λ turn. (qv : Query) (s : State Task) (h : IsState qv machine.old s) → IsPlainFirst h.raw.goals → TellsOn (HeardBy constants.now machine.old machine.new (map W.seen crowd.old.watchers.now.items) (map W.seen crowd.new.watchers.now.items)) (λ x. MovesTo x qv turn machine.new s)) }
+    ensures stands { IfOk result (λ turn. (c : Course) (x : Tally) → Stands c x Turn.On machine.old → Follows c constants.now x machine.old machine.new (map W.seen crowd.old.watchers.now.items) (map W.seen crowd.new.watchers.now.items) turn) }
+    ensures leads { IfOk result (λ turn. (qv : Query) (s : State Task) (h : IsState qv machine.old s) → IsAtomFirst h.raw.goals → IsWrittenSearch machine.old qv.arity → TellsOn (HeardBy constants.now machine.old machine.new (map W.seen crowd.old.watchers.now.items) (map W.seen crowd.new.watchers.now.items)) (λ x. LeadsOf x machine.old machine.new qv turn s)) }
+    ensures denies { IfOk result (λ turn. (qv : Query) (s : State Task) (h : IsState qv machine.old s) → IsDeniedFirst h.raw.goals → TellsOn (HeardBy constants.now machine.old machine.new (map W.seen crowd.old.watchers.now.items) (map W.seen crowd.new.watchers.now.items)) (λ x. TakesDenied x turn qv machine.new s h.running.at_work.goals)) }
+    ensures held { IfOk result (λ turn. (qv : Query) (s : State Task) → IsState qv machine.old s → machine.old.branch.goals ≡ None → (number : ℕ) → machine.old.denied ≡ Some number → HeardBy constants.now machine.old machine.new (map W.seen crowd.old.watchers.now.items) (map W.seen crowd.new.watchers.now.items) quiet × IsHeldBy qv turn machine.new s) }
+    ensures same { crowd.new.watchers.ghost_name ≡ crowd.old.watchers.ghost_name }
 {
     let Some(number) = machine.branch.goals else {
         return Ok(end_branch(machine));
@@ -210,21 +218,21 @@ pub(crate) fn take_goal<W: Watch>(
     let frame = machine.frame(number)?;
     match frame.todo {
         Todo::Goals(goals) => {
-            let turn = take_first(machine, crowd, goals, frame.place, frame.behind)?;
+            let turn = take_first(machine, crowd, constants, goals, frame.place, frame.behind)?;
             Ok(turn)
         }
         Todo::Term(term) => {
-            let turn = take_term(machine, crowd, term, frame.place, frame.behind)?;
+            let turn = take_term(machine, crowd, constants, term, frame.place, frame.behind)?;
             Ok(turn)
         }
     }
 }
 
 /// Tells that the search goes back to an alternative, where there is one.
-pub(crate) fn tell_back<W: Watch>(
-    machine: &Machine,
-    crowd: &mut Crowd<'_, W>,
-) -> Result<(), Memory> {
+pub(crate) fn tell_back<W: Watch>(machine: &Machine, crowd: &mut Crowd<'_, W>) -> Result<(), Memory>
+    ensures told { OnOk result ((cs : List Named) → Hears cs (back_in machine.now) (map W.seen crowd.old.watchers.now.items) (map W.seen crowd.new.watchers.now.items)) }
+    ensures same { crowd.new.watchers.ghost_name ≡ crowd.old.watchers.ghost_name }
+{
     if machine.has_choice() {
         return crowd.tell(Note::Back);
     }
@@ -256,15 +264,16 @@ pub(crate) fn go_back(machine: &mut Machine) -> Result<Turn, Memory>
     ensures state { IfOk result (λ turn. (c : Choice) (rest : List Choice) (from : Option ℕ) → machine.old.choices.items ≡ rest ++ c ∷ [] → c.untried ≡ Untried.Goals from → base_of machine.old.denied ≤ length rest → (a : Around) (s : State Task) → IsBackOf machine.old a s → IsStateOf machine.new a s) }
     ensures marked { IfOk result (λ turn. (c : Choice) (rest : List Choice) (from : Option ℕ) → machine.old.choices.items ≡ rest ++ c ∷ [] → c.untried ≡ Untried.Goals from → base_of machine.old.denied ≤ length rest → (a : Around) (s : State Task) → IsBackOf machine.old a s → AreMarked machine.old (base_of machine.old.denied) (base_of machine.old.denied) (drop (base_of machine.old.denied) machine.old.choices.items) → IsMarked machine.new) }
     ensures resumed { IfOk result (λ turn. (qv : Query) (c : Choice) (rest : List Choice) (from : Option ℕ) → machine.old.choices.items ≡ rest ++ c ∷ [] → c.untried ≡ Untried.Goals from → base_of machine.old.denied ≤ length rest → (s : State Task) → IsBack qv machine.old s → IsState qv machine.new s) }
-    ensures moved { IfOk result (λ turn. (qv : Query) → machine.old.choices.items ≡ [] → (s : State Task) → IsBack qv machine.old s → MovesTo qv turn machine.new s) }
+    ensures moved { IfOk result (λ turn. (qv : Query) → machine.old.choices.items ≡ [] → (s : State Task) → IsBack qv machine.old s → MovesTo quiet qv turn machine.new s) }
     ensures leads { IfOk result (λ turn. (c : Choice) (rest : List Choice) (call : Called) (one : Tried) → machine.old.choices.items ≡ rest ++ c ∷ [] → c.untried ≡ Untried.Clauses call one → base_of machine.old.denied ≤ length rest → (qv : Query) (s : State Task) → IsBack qv machine.old s →
-        IsWrittenSearch machine.old qv.arity → LeadsTo 1 qv turn machine.new s) }
+        IsWrittenSearch machine.old qv.arity → LeadsTo 1 quiet qv turn machine.new s) }
     ensures tries_written { OnOk result ((c : Choice) (rest : List Choice) (call : Called) (one : Tried) → machine.old.choices.items ≡ rest ++ c ∷ [] → c.untried ≡ Untried.Clauses call one → base_of machine.old.denied ≤ length rest → (qv : Query) (s : State Task) → IsBack qv machine.old s →
         IsWrittenSearch machine.old qv.arity → IsWrittenSearch machine.new qv.arity) }
     ensures denied_written { OnOk result ((c : Choice) (rest : List Choice) (d : Denial) → machine.old.choices.items ≡ rest ++ c ∷ [] → c.untried ≡ Untried.Denied d → (ar : ℕ → ℕ) → IsWrittenSearch machine.old ar → IsWrittenSearch machine.new ar) }
     ensures refuted { IfOk result (λ turn. (c : Choice) (rest : List Choice) (d : Denial) → machine.old.choices.items ≡ rest ++ c ∷ [] → c.untried ≡ Untried.Denied d → (qv : Query) (s : State Task) → IsBack qv machine.old s → IsRefutedBy qv turn machine.new s) }
     ensures ends { IfOk result (λ turn. machine.old.choices.items ≡ [] → (a : Around) (s : State Task) → IsBackOf machine.old a s → EndsSo turn machine.old.counts.lost s) }
-    ensures stands { IfOk result (λ turn. (c : Course) → Stands c Turn.Back machine.old → Stands c turn machine.new) }
+    ensures stands { IfOk result (λ turn. (c : Course) (x : Tally) → Stands c x Turn.Back machine.old → Leaves c x quiet turn machine.new) }
+    ensures steps { OnOk result (machine.new.counts.steps ≡ machine.old.counts.steps) }
 {
     let Some(untried) = machine.take_choice()? else {
         if machine.counts.lost {

@@ -1,5 +1,5 @@
 -- An event that is to be told, and an answer that is noted.
-use Rattle.std.specs.Prelude.{◌≡◌, suc, ◌+◌, ◌<◌, None}
+use Rattle.std.specs.Prelude.{◌≡◌, suc, ◌+◌, ◌-◌, ◌^◌, ◌<◌, ◌≤◌, None}
 use Rattle.lp_model.specs.Events.{Advances}
 use Rattle.lp_model.specs.Search.{look}
 use Rattle.lp_model.specs.Unify.{unit_limit}
@@ -18,6 +18,7 @@ pub record IsToTell (s : Search) (c : Course) : Type 0 where
   pub variables : HasVariables c.query s
   pub given : c.given ≡ s.given
   pub left : s.answers ≡ s.given + suc c.left
+  pub fits : s.answers ≤ 2 ^ 64 - 1
   pub comes : Advances (look unit_limit c.enough c.program) c.begin c.event c.after
 
 -- one answer more is given, and a new row begins
@@ -26,4 +27,4 @@ pub record IsNoted (s t : Search) : Type 0 where
   pub variables : t.variables ≡ s.variables
   pub ended : t.ended ≡ s.ended
   pub answers : t.answers ≡ s.answers
-  pub given : s.given < s.answers → t.given ≡ suc s.given
+  pub given : s.given < s.answers → s.answers ≤ 2 ^ 64 - 1 → t.given ≡ suc s.given

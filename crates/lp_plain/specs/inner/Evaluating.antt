@@ -1,5 +1,5 @@
 -- An evaluation on its way: what the tasks that are left make of the values that there are.
-use Rattle.std.specs.Prelude.{◌≡◌, ℕ, zero, suc, ◌+◌, ◌<◌, ◌≤◌, Bool, true, false, List, [], ◌∷◌, ◌++◌, length, reverse, Option, Some, None}
+use Rattle.std.specs.Prelude.{◌≡◌, ℕ, zero, suc, ◌+◌, ◌-◌, ◌*◌, ◌<◌, ◌≤◌, Bool, true, false, List, [], ◌∷◌, ◌++◌, length, reverse, Option, Some, None}
 use Rattle.lp_calculus.specs.Normal.{eta_normal, nodes}
 use Rattle.lp_calculus.specs.Types.{Ty}
 use Rattle.lp_calculus.specs.Term.{Term, atom, app, apply, constant, integer, text}
@@ -123,7 +123,7 @@ cost_of (task.One c) = 0
 
 -- at most a million are
 abbrev pub IsCounted : Task → ℕ → Option ℕ → Type 0
-IsCounted t n (Some k) = k ≡ n + cost_of t
+IsCounted t n (Some k) = (k ≡ n + cost_of t) × (cost_of t ≤ 1000000 - n)
 IsCounted t n None = (cost_of t ≡ 1) × (1000000 ≤ n)
 
 -- the evaluation ends with this result
@@ -139,7 +139,8 @@ After b z n c (Some o) ts vs r k = IsEnd o r n
 
 abbrev pub TakesTask : (old new : Machine) → Option Outcome → Task → (tasks tasks' : List Task) → (values values' : List Value) → Type 0
 TakesTask m q o t ts us vs ws =
-    (z : Closing) → IsOpenReading m.bank m.bindings m.branch.next z → (n : ℕ) (ms : List model.Value) (r : model.Outcome) (k : ℕ) → AreValuesIn m.bank (reverse vs) ms → Comes m.bank z n (t ∷ reverse ts) ms r k →
+    (z : Closing) → IsOpenReading m.bank m.bindings m.branch.next z → (n : ℕ) (ms : List model.Value) (r : model.Outcome) (k : ℕ) → AreValuesIn m.bank
+    (reverse vs) ms → Comes m.bank z n (t ∷ reverse ts) ms r k →
     After q.bank z n (cost_of t) o (reverse us) (reverse ws) r k
 
 -- the evaluation is on its way: from the tasks and values that there are it comes to the value of the term's normal form
@@ -164,3 +165,19 @@ GoesFrom q r x ts us vs ws i s = (m : Machine) (t : TermId) (all : List Task) �
 -- the value that was the last one
 abbrev pub IsLast : List Value → Outcome → Type 0
 IsLast vs o = (v : Value) × (us : List Value) × (vs ≡ us ++ v ∷ []) × (o ≡ code.Is v)
+
+-- the tasks, the next one first, have the values that they need, and one is left behind them
+abbrev pub Serves : List Task → ℕ → Type 0
+Serves [] n = n ≡ 1
+Serves (task.Visit t ∷ ts) n = Serves ts (n + 1)
+Serves (task.Two c ∷ ts) n = (2 ≤ n) × Serves ts (n - 1)
+Serves (task.One c ∷ ts) n = (1 ≤ n) × Serves ts n
+
+-- what is left to do: three for each part that may be looked at, and one for each task
+abbrev pub toil : (visited : ℕ) → List Task → ℕ
+toil i ts = 3 * (1000000 - i) + length ts
+
+-- a step that goes on leaves less to do, and the values that the tasks need
+abbrev pub GoesServed : Step → (visited : ℕ) → (tasks tasks' : List Task) → List Value → Type 0
+GoesServed (step.On k) i ts us ws = Serves (reverse us) (length ws) × (toil k us < toil i ts)
+GoesServed (step.End o) i ts us ws = Unit {0}

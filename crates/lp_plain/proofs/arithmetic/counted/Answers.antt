@@ -6,10 +6,10 @@ pub returns-then-visited-ge-RUN_LIMIT : goal.returns-then-visited-ge-RUN_LIMIT
 returns-then-visited-ge-RUN_LIMIT c = subst (λ x. IsCounted x c.args.visited None) (sym c.in-Visit.is) (refl, omega (arith, c.if-visited-ge-RUN_LIMIT.true))
 
 pub returns-else-visited-ge-RUN_LIMIT : goal.returns-else-visited-ge-RUN_LIMIT
-returns-else-visited-ge-RUN_LIMIT c = subst (λ x. IsCounted x c.args.visited (Some (c.args.visited + 1))) (sym c.in-Visit.is) refl
+returns-else-visited-ge-RUN_LIMIT c = subst (λ x. IsCounted x c.args.visited (Some (c.args.visited + 1))) (sym c.in-Visit.is) (refl, omega (arith, c.if-visited-ge-RUN_LIMIT.false))
 
 pub returns-in-Two : goal.returns-in-Two
-returns-in-Two c = subst (λ x. IsCounted x c.args.visited (Some c.args.visited)) (sym c.in-Two.is) (omega arith)
+returns-in-Two c = subst (λ x. IsCounted x c.args.visited (Some c.args.visited)) (sym c.in-Two.is) (omega arith, omega arith)
 
 pub returns-in-One : goal.returns-in-One
-returns-in-One c = subst (λ x. IsCounted x c.args.visited (Some c.args.visited)) (sym c.in-One.is) (omega arith)
+returns-in-One c = subst (λ x. IsCounted x c.args.visited (Some c.args.visited)) (sym c.in-One.is) (omega arith, omega arith)

@@ -1,4 +1,10 @@
-use Rattle.std.proofs.Common.{ap, length, refl, subst, sym}
+use Rattle.std.proofs.Common.{◌∙◌, ap, map, refl}
+use Rattle.lp_model.specs.Skeleton.{GoalNote, variable}
+use Rattle.lp_plain.specs.declared.form.Form.TheVariants as form
+use Rattle.lp_plain.specs.Hearing.{form_name}
+use Rattle.lp_plain.specs.Moving.{quiet, taking}
+use Rattle.lp_plain.proofs.Hearing.{heard_as, plus_none}
+use Rattle.std.proofs.Common.{length, subst, sym}
 use Rattle.lp_term.specs.Nodes.{tree}
 use Rattle.lp_model.specs.declared.ending.Ending.TheVariants.{Flexible, Steps}
 use Rattle.lp_plain.specs.declared.outcome.Turn.{Turn}
@@ -19,16 +25,23 @@ use Rattle.lp_plain.proofs.StepTaken.{going_behind, step_kept}
 use Rattle.lp_plain.proofs.WrittenTurns.{bound_written, only_bound, step_stands, step_written}
 use Rattle.lp_plain.proofs.atomic.take_atom.Goals as goal
 
+-- with its step and note
 pub returns-then-not-take_step-clause-leads : goal.returns-then-not-take_step-clause-leads
-returns-then-not-take_step-clause-leads g c = λ qv a raw s h at i sf inside css pr sw.
+returns-then-not-take_step-clause-leads g c = λ qv a raw s h at i sf inside.
     let m = c.args.machine.now in
-    let e = c.if-not-take_step.ensures.spent refl in
-    over_one qv (Turn.Ended Steps) c.take_step.new.machine s (λ w ea go enough few P ty. spent_leads qv m a raw s h c.args.place c.args.goal
-    c.args.behind at enough P c.take_step.new.machine w ea go c.args.form i e.1 (ap (λ z. z.counts.steps) e.0))
-    tt (all_clauses css)
+    let e = c.if-not-take_step.ensures.spent refl in (
+      quiet,
+      (ap (λ z. z.counts.steps) e.0 ∙ plus_none m.counts.steps, refl),
+      λ css pr sw.
+          over_one quiet qv (Turn.Ended Steps) c.take_step.new.machine s (λ w ea go enough few P ty. spent_leads qv m a raw s h c.args.place c.args.goal
+          c.args.behind at enough P c.take_step.new.machine w ea go c.args.form i e.1)
+          tt (all_clauses css),
+    )
 
 pub returns-in_ok-unified-in-Equal-clause-leads : goal.returns-in_ok-unified-in-Equal-clause-leads
-returns-in_ok-unified-in-Equal-clause-leads g c = λ qv a raw s h at i sf inside css pr sw.
+returns-in_ok-unified-in-Equal-clause-leads g c = λ qv a raw s h at i sf inside.
+    let old = map g.W.Watch.seen c.args.crowd.now.watchers.now.items in
+    let new = map g.W.Watch.seen c.tell_goal.new.crowd.watchers.now.items in
     let m = c.args.machine.now in
     let k = c.take_step.new.machine in
     let o = c.args.behind in
@@ -36,17 +49,24 @@ returns-in_ok-unified-in-Equal-clause-leads g c = λ qv a raw s h at i sf inside
     let t = c.if-not-take_step.ensures in
     let ks = step_kept m k o t.goals t.assumed t.frames t.denied t.branch in
     let st = h.above.done.stands in
-    let wb = step_written m b o ks t.choices st qv.arity sw in
     let n = c.equate.new.machine in
     let e = c.in_ok-unified-in-Equal.ensures in
-    subst (λ x. LeadsOver 2 qv x n s (all_clauses css)) (sym c.turn_of.ensures)
-    (over_one qv (turn_for c.in_ok-unified-in-Equal.unified) n s
-    (equal_leads qv m b a raw s h c.args.place c.args.goal o at ks t.choices (t.counts refl) (t.there refl) n e.bound e.residual
-    c.in-Equal.left c.in-Equal.right c.in_ok-unified-in-Equal.unified (subst (IsAtomForm m.bank (tree m.bank c.args.goal.0)) c.in-Equal.is i) t.goals.known.bank e.equated)
-    (written_behind (turn_for c.in_ok-unified-in-Equal.unified) n qv.arity (bound_written b n e.bound (step_stands m b o ks st) qv.arity wb)) (all_clauses css))
+    let y = taking (GoalNote (form_name (form.Equal c.in-Equal.left c.in-Equal.right))) in (
+      y,
+      (ap (λ z. z.steps) (e.bound.counts ∙ t.counts refl), heard_as c.args.constants.now old new c.args.form _ c.in-Equal.is c.in_ok-tell_goal.ensures.told),
+      λ css pr sw.
+          let wb = step_written m b o ks t.choices st qv.arity sw in
+          subst (λ x. LeadsOver 2 y qv x n s (all_clauses css)) (sym c.turn_of.ensures)
+          (over_one y qv (turn_for c.in_ok-unified-in-Equal.unified) n s
+          (equal_leads qv m b a raw s h c.args.place c.args.goal o at ks t.choices (t.counts refl) (t.there refl) n e.bound e.residual
+          c.in-Equal.left c.in-Equal.right c.in_ok-unified-in-Equal.unified (subst (IsAtomForm m.bank (tree m.bank c.args.goal.0)) c.in-Equal.is i) t.goals.known.bank e.equated)
+          (written_behind (turn_for c.in_ok-unified-in-Equal.unified) n qv.arity (bound_written b n e.bound (step_stands m b o ks st) qv.arity wb)) (all_clauses css)),
+    )
 
 pub returns-in_ok-turn-in-Is-clause-leads : goal.returns-in_ok-turn-in-Is-clause-leads
-returns-in_ok-turn-in-Is-clause-leads g c = λ qv a raw s h at i sf inside css pr sw.
+returns-in_ok-turn-in-Is-clause-leads g c = λ qv a raw s h at i sf inside.
+    let old = map g.W.Watch.seen c.args.crowd.now.watchers.now.items in
+    let new = map g.W.Watch.seen c.tell_goal.new.crowd.watchers.now.items in
     let m = c.args.machine.now in
     let k = c.take_step.new.machine in
     let o = c.args.behind in
@@ -54,16 +74,23 @@ returns-in_ok-turn-in-Is-clause-leads g c = λ qv a raw s h at i sf inside css p
     let t = c.if-not-take_step.ensures in
     let ks = step_kept m k o t.goals t.assumed t.frames t.denied t.branch in
     let st = h.above.done.stands in
-    let wb = step_written m b o ks t.choices st qv.arity sw in
     let n = c.assign.new.machine in
     let turn = c.in_ok-turn-in-Is.turn in
     let e = c.in_ok-turn-in-Is.ensures in
-    over_next qv turn n s (all_clauses css) (written_behind turn n qv.arity (bound_written b n e.bound (step_stands m b o ks st) qv.arity wb))
-    (is_turn qv m b a raw s h c.args.place c.args.goal o at ks t.choices (t.counts refl) (t.there refl) t.goals.known.bank n
-    turn c.in-Is.left c.in-Is.right (subst (IsAtomForm m.bank (tree m.bank c.args.goal.0)) c.in-Is.is i) (subst (StandsForm (length m.bank.terms)) c.in-Is.is sf) e.assigns (e.bound.counts) (all_clauses css))
+    let y = taking (GoalNote (form_name (form.Is c.in-Is.left c.in-Is.right))) in (
+      y,
+      (ap (λ z. z.steps) (e.bound.counts ∙ t.counts refl), heard_as c.args.constants.now old new c.args.form _ c.in-Is.is c.in_ok-tell_goal.ensures.told),
+      λ css pr sw.
+          let wb = step_written m b o ks t.choices st qv.arity sw in
+          over_next y qv turn n s (all_clauses css) (written_behind turn n qv.arity (bound_written b n e.bound (step_stands m b o ks st) qv.arity wb))
+          (is_turn qv m b a raw s h c.args.place c.args.goal o at ks t.choices (t.counts refl) (t.there refl) t.goals.known.bank n
+          turn c.in-Is.left c.in-Is.right (subst (IsAtomForm m.bank (tree m.bank c.args.goal.0)) c.in-Is.is i) (subst (StandsForm (length m.bank.terms)) c.in-Is.is sf) e.assigns (all_clauses css)),
+    )
 
 pub returns-in_ok-turn-in-Order-clause-leads : goal.returns-in_ok-turn-in-Order-clause-leads
-returns-in_ok-turn-in-Order-clause-leads g c = λ qv a raw s h at i sf inside css pr sw.
+returns-in_ok-turn-in-Order-clause-leads g c = λ qv a raw s h at i sf inside.
+    let old = map g.W.Watch.seen c.args.crowd.now.watchers.now.items in
+    let new = map g.W.Watch.seen c.tell_goal.new.crowd.watchers.now.items in
     let m = c.args.machine.now in
     let k = c.take_step.new.machine in
     let o = c.args.behind in
@@ -71,52 +98,72 @@ returns-in_ok-turn-in-Order-clause-leads g c = λ qv a raw s h at i sf inside cs
     let t = c.if-not-take_step.ensures in
     let ks = step_kept m k o t.goals t.assumed t.frames t.denied t.branch in
     let st = h.above.done.stands in
-    let wb = step_written m b o ks t.choices st qv.arity sw in
     let n = c.compare.new.machine in
     let turn = c.in_ok-turn-in-Order.turn in
     let e = c.in_ok-turn-in-Order.ensures in
-    over_next qv turn n s (all_clauses css) (written_behind turn n qv.arity (bound_written b n (only_bound b n e.only) (step_stands m b o ks st) qv.arity wb))
-    (order_turn qv m b a raw s h c.args.place c.args.goal o at ks t.choices (t.counts refl) (t.there refl) t.goals.known.bank n
-    turn c.in-Order.order c.in-Order.left c.in-Order.right (subst (IsAtomForm m.bank (tree m.bank c.args.goal.0)) c.in-Order.is i)
-    (subst (StandsForm (length m.bank.terms)) c.in-Order.is sf) e.compares (ap (λ z. z.counts) e.only.same) (all_clauses css))
+    let y = taking (GoalNote (form_name (form.Order c.in-Order.order c.in-Order.left c.in-Order.right))) in (
+      y,
+      (ap (λ z. z.counts.steps) e.only.same ∙ ap (λ z. z.steps) (t.counts refl), heard_as c.args.constants.now old new c.args.form _ c.in-Order.is c.in_ok-tell_goal.ensures.told),
+      λ css pr sw.
+          let wb = step_written m b o ks t.choices st qv.arity sw in
+          over_next y qv turn n s (all_clauses css) (written_behind turn n qv.arity (bound_written b n (only_bound b n e.only) (step_stands m b o ks st) qv.arity wb))
+          (order_turn qv m b a raw s h c.args.place c.args.goal o at ks t.choices (t.counts refl) (t.there refl) t.goals.known.bank n
+          turn c.in-Order.order c.in-Order.left c.in-Order.right (subst (IsAtomForm m.bank (tree m.bank c.args.goal.0)) c.in-Order.is i)
+          (subst (StandsForm (length m.bank.terms)) c.in-Order.is sf) e.compares (all_clauses css)),
+    )
 
 pub returns-in_ok-turn-in-Call-clause-leads : goal.returns-in_ok-turn-in-Call-clause-leads
 returns-in_ok-turn-in-Call-clause-leads g c = λ qv a raw s h at i sf inside.
+    let old = map g.W.Watch.seen c.args.crowd.now.watchers.now.items in
+    let new = map g.W.Watch.seen c.tell_goal.new.crowd.watchers.now.items in
     let m = c.args.machine.now in
     let k = c.take_step.new.machine in
     let o = c.args.behind in
-    let t = c.if-not-take_step.ensures in
-    call_turn qv m a raw s h c.args.place c.args.goal o at c.take_call.new.machine c.in_ok-turn-in-Call.turn (going_behind k o)
-    (step_kept m k o t.goals t.assumed t.frames t.denied t.branch) t.choices (t.counts refl) (t.there refl) c.in-Call.head c.in-Call.first
-    (subst (IsAtomForm m.bank (tree m.bank c.args.goal.0)) c.in-Call.is i) (subst (IsFirstIn (length m.bank.terms)) c.in-Call.is inside) c.in_ok-turn-in-Call.ensures.leads refl
+    let t = c.if-not-take_step.ensures in (
+      taking (GoalNote (form_name (form.Call c.in-Call.head c.in-Call.first))),
+      (c.in_ok-turn-in-Call.ensures.steps ∙ ap (λ z. z.steps) (t.counts refl), heard_as c.args.constants.now old new c.args.form _ c.in-Call.is c.in_ok-tell_goal.ensures.told),
+      call_turn qv m a raw s h c.args.place c.args.goal o at c.take_call.new.machine c.in_ok-turn-in-Call.turn (going_behind k o)
+          (step_kept m k o t.goals t.assumed t.frames t.denied t.branch) t.choices (t.counts refl) (t.there refl) c.in-Call.head c.in-Call.first
+          (subst (IsAtomForm m.bank (tree m.bank c.args.goal.0)) c.in-Call.is i) (subst (IsFirstIn (length m.bank.terms)) c.in-Call.is inside) c.in_ok-turn-in-Call.ensures.leads refl,
+    )
 
 pub returns-in-Flexible-clause-leads : goal.returns-in-Flexible-clause-leads
-returns-in-Flexible-clause-leads g c = λ qv a raw s h at i sf inside css pr sw.
+returns-in-Flexible-clause-leads g c = λ qv a raw s h at i sf inside.
+    let old = map g.W.Watch.seen c.args.crowd.now.watchers.now.items in
+    let new = map g.W.Watch.seen c.tell_goal.new.crowd.watchers.now.items in
     let m = c.args.machine.now in
     let k = c.take_step.new.machine in
     let o = c.args.behind in
     let b = going_behind k o in
     let t = c.if-not-take_step.ensures in
-    let ks = step_kept m k o t.goals t.assumed t.frames t.denied t.branch in
-    let st = h.above.done.stands in
-    let wb = step_written m b o ks t.choices st qv.arity sw in
-    over_one qv (Turn.Ended Flexible) b s
-    (flexible_leads qv m b a raw s h c.args.place c.args.goal o at ks t.choices (t.counts refl) (t.there refl) b (bound_same b) (λ x. x)
-    (subst (IsAtomForm m.bank (tree m.bank c.args.goal.0)) c.in-Flexible.is i)) tt (all_clauses css)
+    let ks = step_kept m k o t.goals t.assumed t.frames t.denied t.branch in (
+      taking (GoalNote variable),
+      (ap (λ z. z.steps) (t.counts refl), heard_as c.args.constants.now old new c.args.form _ c.in-Flexible.is c.in_ok-tell_goal.ensures.told),
+      λ css pr sw.
+          over_one (taking (GoalNote variable)) qv (Turn.Ended Flexible) b s
+          (flexible_leads qv m b a raw s h c.args.place c.args.goal o at ks t.choices (t.counts refl) (t.there refl) b (bound_same b) (λ x. x)
+          (subst (IsAtomForm m.bank (tree m.bank c.args.goal.0)) c.in-Flexible.is i)) tt (all_clauses css),
+    )
 
 pub returns-in-Other-clause-leads : goal.returns-in-Other-clause-leads
-returns-in-Other-clause-leads g c = λ qv a raw s h at i sf inside css pr sw.
+returns-in-Other-clause-leads g c = λ qv a raw s h at i sf inside.
+    let old = map g.W.Watch.seen c.args.crowd.now.watchers.now.items in
+    let new = map g.W.Watch.seen c.tell_goal.new.crowd.watchers.now.items in
     let m = c.args.machine.now in
     let k = c.take_step.new.machine in
     let o = c.args.behind in
     let b = going_behind k o in
     let t = c.if-not-take_step.ensures in
     let ks = step_kept m k o t.goals t.assumed t.frames t.denied t.branch in
-    let st = h.above.done.stands in
-    let wb = step_written m b o ks t.choices st qv.arity sw in
-    over_one qv Turn.Back b s
-    (other_leads qv m b a raw s h c.args.place c.args.goal o at ks t.choices (t.counts refl) (t.there refl) b (bound_same b) (λ x. x)
-    (subst (IsAtomForm m.bank (tree m.bank c.args.goal.0)) c.in-Other.is i)) wb (all_clauses css)
+    let st = h.above.done.stands in (
+      taking (GoalNote variable),
+      (ap (λ z. z.steps) (t.counts refl), heard_as c.args.constants.now old new c.args.form _ c.in-Other.is c.in_ok-tell_goal.ensures.told),
+      λ css pr sw.
+          let wb = step_written m b o ks t.choices st qv.arity sw in
+          over_one (taking (GoalNote variable)) qv Turn.Back b s
+          (other_leads qv m b a raw s h c.args.place c.args.goal o at ks t.choices (t.counts refl) (t.there refl) b (bound_same b) (λ x. x)
+          (subst (IsAtomForm m.bank (tree m.bank c.args.goal.0)) c.in-Other.is i)) wb (all_clauses css),
+    )
 
 pub returns-then-not-take_step-clause-program : goal.returns-then-not-take_step-clause-program
 returns-then-not-take_step-clause-program g c = program_same c.args.machine.now c.take_step.new.machine (c.if-not-take_step.ensures.spent refl).0

@@ -1,4 +1,4 @@
-use Rattle.std.proofs.Common.{subst}
+use Rattle.std.proofs.Common.{◌∙◌, ap, subst}
 use Rattle.lp_plain.specs.Calling.{IsLookedAs}
 use Rattle.lp_plain.proofs.CallEnds.{deep_leads, none_on, plain_call, some_on}
 use Rattle.lp_plain.proofs.ProgramKept.{only_keeps, program_then}
@@ -42,3 +42,12 @@ returns-clause-program c = program_then c.args.machine.now c.looked_call.new.mac
 
 pub returns-clause-ends : goal.returns-clause-ends
 returns-clause-ends c = c.in_ok-turn.ensures.ends
+
+pub returns-in_default-clause-steps : goal.returns-in_default-clause-steps
+returns-in_default-clause-steps c = ap (λ z. z.counts.steps) c.in_ok-looked.ensures.only.same
+
+pub returns-in_default-found-clause-steps : goal.returns-in_default-found-clause-steps
+returns-in_default-found-clause-steps c = ap (λ z. z.counts.steps) c.in_ok-looked.ensures.only.same
+
+pub returns-clause-steps : goal.returns-clause-steps
+returns-clause-steps c = c.in_ok-turn.ensures.steps ∙ ap (λ z. z.counts.steps) c.in_ok-looked.ensures.only.same

@@ -1,3 +1,6 @@
+use Rattle.lp_model.specs.Skeleton.{CutNote}
+use Rattle.lp_plain.specs.Moving.{quiet, taking}
+use Rattle.lp_plain.proofs.Hearing.{plus_none}
 use Rattle.lp_plain.specs.Moving.{KeepsSearch}
 use Rattle.lp_plain.proofs.CutMoves.{cut_moved, cut_stops}
 use Rattle.std.proofs.Common.{◌∙◌, refl, ap, take, length}
@@ -66,12 +69,26 @@ returns-clause-moved g c = λ qv.
       next_type = ap (λ z. z.next_type) branch;
       pairs = ap (λ z. z.pairs) branch;
     } in
-    cut_moved qv m _ c.args.place c.args.behind keeps (returns-clause-cuts g c) (s.there refl)
+    λ a raw t h at. (
+      taking CutNote,
+      (λ cs. (
+        ap (λ z. z.steps) (c.cut.ensures.counts ∙ ap (λ z. cut_off z (nat_lt c.args.place.mark (length c.take_step.new.machine.choices.items))) (s.counts refl)),
+        c.in_ok-tell.ensures.told,
+      )),
+      cut_moved qv m _ c.args.place c.args.behind keeps (returns-clause-cuts g c) (s.there refl) a raw t h at,
+    )
 
 pub returns-then-not-take_step-clause-moved : goal.returns-then-not-take_step-clause-moved
-returns-then-not-take_step-clause-moved g c = λ qv.
-    cut_stops qv c.args.machine.now c.take_step.new.machine c.args.place c.args.behind (c.if-not-take_step.ensures.spent refl).1
-    (ap (λ z. z.counts.steps) (c.if-not-take_step.ensures.spent refl).0)
+returns-then-not-take_step-clause-moved g c = λ qv a raw s h at. (
+  quiet,
+  (λ cs. (
+    ap (λ z. z.counts.steps) (c.if-not-take_step.ensures.spent refl).0 ∙
+        plus_none c.args.machine.now.counts.steps,
+    refl,
+  )),
+  cut_stops qv c.args.machine.now c.args.machine.now c.args.place c.args.behind
+      (c.if-not-take_step.ensures.spent refl).1 a raw s h at,
+)
 
 pub returns-clause-written : goal.returns-clause-written
 returns-clause-written g c = λ ar i w.

@@ -2,7 +2,7 @@ use Rattle.std.proofs.Common.{◌≡◌, ◌∙◌, ap, length, sym, subst, arit
 use Rattle.lp_model.specs.Search.{look}
 use Rattle.lp_model.specs.Unify.{unit_limit}
 use Rattle.lp_plain.specs.Followed.{IsTryOf}
-use Rattle.lp_plain.specs.Moving.{Leads}
+use Rattle.lp_plain.specs.Moving.{Leads, quiet}
 use Rattle.lp_plain.specs.Turns.{IsGoalTurn}
 use Rattle.lp_plain.proofs.Growing.{grows_kept}
 use Rattle.lp_plain.proofs.ProgramKept.{at_keeps, goals_keep, program_then, unified_ends}
@@ -24,7 +24,7 @@ returns-clause-leads c = λ qv a s h sw w ea go enough few P ty.
     let same : c.len-mark.result ≡ length m.choices.items = omega (arith, c.len-mark.ensures, m.choices.ok) in
     let leaves = subst (λ i. IsTryOf k n call one i c.in_ok-unified.unified) same u.leaves in
     let written = same_lists m k h.above.done.stands (grows_kept m k p.goals) (ap (λ v. v.items) p.frames) (ap (λ v. v.items) p.assumed.assumptions) qv.arity sw in
-    subst (λ x. Leads 1 qv x n go (look unit_limit enough P) s) (sym c.turn_of.ensures)
+    subst (λ x. Leads 1 quiet qv x n go (look unit_limit enough P) s) (sym c.turn_of.ensures)
     (try_leads qv k n a call one (length m.choices.items) s at u.grows (goal_ready qv k a call one (length m.choices.items) s at) (trial_ready qv k a call one (length m.choices.items) s at written)
     w ea go enough P ty c.in_ok-unified.unified (λ e. few (c.turn_of.ensures ∙ e)) leaves)
 
@@ -48,3 +48,6 @@ returns-clause-program c = program_then c.args.machine.now c.put_others.new.mach
 
 pub returns-clause-ends : goal.returns-clause-ends
 returns-clause-ends c = subst IsGoalTurn (sym c.turn_of.ensures) (unified_ends c.in_ok-unified.unified)
+
+pub returns-clause-steps : goal.returns-clause-steps
+returns-clause-steps c = ap (λ z. z.steps) (c.in_ok-unified.ensures.grows.counts ∙ c.in_ok-put_others.ensures.counts)

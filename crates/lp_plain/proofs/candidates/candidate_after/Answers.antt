@@ -1,9 +1,10 @@
+use Rattle.lp_plain.proofs.Scoped.{get_none}
 use Rattle.std.specs.Prelude.{nat_eq}
 use Rattle.std.specs.HashMap.{get}
 use Rattle.std.proofs.lemmas.Result.{IfOk-weaker}
 use Rattle.lp_plain.specs.Candidates.{first_for}
 use Rattle.lp_plain.proofs.ListReads.{read_at}
-use Rattle.lp_plain.proofs.Indexes.{after_assumed, after_program}
+use Rattle.lp_plain.proofs.Indexes.{assumed_outside, program_outside, after_assumed, after_program}
 use Rattle.lp_plain.proofs.candidates.candidate_after.Goals as goal
 
 pub returns-in-Some : goal.returns-in-Some
@@ -17,7 +18,22 @@ returns-in-Some c =
 
 pub returns-in-Some-get : goal.returns-in-Some-get
 returns-in-Some-get c =
-    let s = read_at c.args.rules.now.items c.deref-in-Program.result.now c.in-Program.number c.in-Some-get.rule.now _ c.deref-in-Program.ensures.value c.in-Some-get.ensures.lookup.3.0 c.in-Some-get.ensures.lookup.1 in
+    let s = read_at c.args.rules.now.items c.deref-in-Program.result.now c.in-Program.number c.in-Some-get.rule.now _ c.deref-in-Program.ensures.value
+    c.in-Some-get.ensures.lookup.3.0 c.in-Some-get.ensures.lookup.1 in
     IfOk-weaker c.program_candidate.result _ _
-    (λ found e left l. after_program c.args.bank.now c.args.rules.now.items _ (first_for (λ k. get nat_eq c.args.index.now k) c.args.call.now.head) c.args.call.now.key found c.args.candidate c.in-Program.number c.in-Some-get.rule.now left c.in-Program.is s (λ ks h. e _ _ ks h) l)
+    (λ found e left l. after_program c.args.bank.now c.args.rules.now.items _ (first_for (λ k. get nat_eq c.args.index.now k) c.args.call.now.head)
+    c.args.call.now.key found c.args.candidate c.in-Program.number c.in-Some-get.rule.now left c.in-Program.is s (λ ks h. e _ _ ks h) l)
     c.program_candidate.ensures
+
+pub returns-in_default : goal.returns-in_default
+returns-in_default c = λ left l.
+    absurd (assumed_outside c.args.bank.now c.args.rules.now.items c.args.assumptions.now.items
+    (first_for (λ k. get nat_eq c.args.index.now k) c.args.call.now.head) c.args.call.now.key c.args.candidate c.in-Assumed.number left
+    c.in-Assumed.is
+    (get_none c.args.assumptions.now.items c.deref.result.now c.in-Assumed.number c.deref.ensures.value c.in_default.ensures.lookup.3) l)
+
+pub returns-in_default-get : goal.returns-in_default-get
+returns-in_default-get c = λ left l.
+    absurd (program_outside c.args.bank.now c.args.rules.now.items _ (first_for (λ k. get nat_eq c.args.index.now k) c.args.call.now.head)
+    c.args.call.now.key c.args.candidate c.in-Program.number left c.in-Program.is
+    (get_none c.args.rules.now.items c.deref-in-Program.result.now c.in-Program.number c.deref-in-Program.ensures.value c.in_default-get.ensures.lookup.3) l)

@@ -7,4 +7,4 @@ pub returns : goal.returns
 returns c =
     let v = c.in-Some.ensures.variant.0 refl in
     let l : c.args.number < length c.args.rules.now.items = omega (arith, v, c.args.rules.now.ok) in
-    (l, set_is c.args.rules.now.items c.args.number c.in-Some.rule.now c.args.next (read_at c.args.rules.now.items c.args.rules.now.items c.args.number c.in-Some.rule.now _ refl l c.in-Some.ensures.value))
+    set_is c.args.rules.now.items c.args.number c.in-Some.rule.now c.args.next (read_at c.args.rules.now.items c.args.rules.now.items c.args.number c.in-Some.rule.now _ refl l c.in-Some.ensures.value)

@@ -1,5 +1,11 @@
-use Rattle.lp_plain.specs.inner.Following.{Course, Stands}
+use Rattle.std.proofs.Common.{◌≡◌, map}
+use Rattle.lp_plain.specs.Moving.{Tally}
+use Rattle.lp_plain.specs.inner.Following.{Course, Passes, Stands}
 use Rattle.lp_plain.proofs.events.run.Given as goal
 
+-- l.fn.crowd and l.crowd: what is seen of the watchers at the beginning, and now
 abbrev pub invariant-turns : goal.invariant-turns
-invariant-turns g l = (c : Course) → Stands c l.fn.first l.fn.machine → Stands c l.turn l.machine
+invariant-turns g l =
+    ((c : Course) (x : Tally) → Stands c x l.fn.first l.fn.machine →
+    Passes c l.fn.constants x l.fn.machine l.machine (map g.W.Watch.seen l.fn.crowd.watchers.now.items) (map g.W.Watch.seen l.crowd.watchers.now.items) l.turn)
+    × (l.crowd.watchers.ghost_name ≡ l.fn.crowd.watchers.ghost_name)

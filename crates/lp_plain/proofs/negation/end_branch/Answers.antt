@@ -26,7 +26,7 @@ pub returns-in_default-clause-held : goal.returns-in_default-clause-held
 returns-in_default-clause-held c = λ qv s h none number inside. absurd (let y = c.in_default.is in cc)
 
 pub returns-then-not-is_empty-clause-held : goal.returns-then-not-is_empty-clause-held
-returns-then-not-is_empty-clause-held c = λ qv s h none number inside. let m = c.args.machine.now in held_open qv m s h none number inside m refl
+returns-then-not-is_empty-clause-held c = λ qv s h none number inside. let m = c.args.machine.now in held_open qv m s h none number inside m
     (some_items m.branch.pairs.len m.branch.pairs.items c.is_empty.result c.is_empty.ensures m.branch.pairs.ok.0 c.if-not-is_empty.true)
 
 pub returns-clause-held : goal.returns-clause-held

@@ -1,4 +1,9 @@
-use Rattle.std.proofs.Common.{refl, subst, ap, ◌∙◌}
+use Rattle.lp_model.specs.Skeleton.{GoalNote, named, not_constant}
+use Rattle.lp_plain.specs.Moving.{quiet, taking}
+use Rattle.lp_plain.proofs.Hearing.{plus_none}
+use Rattle.std.proofs.Common.{refl, subst, ap, map, ◌∙◌}
+use Rattle.lp_watch.specs.Crowd.{crowd_after}
+use Rattle.lp_watch.specs.Notes.{goal as told_goal}
 use Rattle.lp_plain.specs.Negations.{AreFound}
 use Rattle.lp_plain.specs.declared.openness.Openness.TheVariants.{Closed, Open, Deep}
 use Rattle.lp_plain.specs.declared.openness.Standing.{Standing}
@@ -10,7 +15,7 @@ use Rattle.lp_plain.proofs.Opening.{same_stands}
 use Rattle.lp_plain.proofs.WrittenGrows.{list_in_later}
 use Rattle.lp_plain.proofs.WrittenSearches.{search_same}
 use Rattle.lp_plain.proofs.ProgramKept.{goals_keep, program_same, program_then}
-use Rattle.std.proofs.Common.{◌≡◌, refl}
+use Rattle.std.proofs.Common.{◌≡◌}
 use Rattle.lp_term.specs.Nodes.{Extends}
 use Rattle.lp_plain.specs.Cuts.{one_step, stepped}
 use Rattle.lp_plain.specs.Denials.{IsBegun}
@@ -84,24 +89,38 @@ returns-in_ok-begin-in-Closed-clause-program g c =
     program_then m n c.begin.new.machine (program_then m k n (goals_keep m k c.take_step.ensures.goals) c.in_ok-openness_at.ensures.program) c.in_ok-begin-in-Closed.ensures.program
 
 pub returns-then-not-take_step-clause-denies : goal.returns-then-not-take_step-clause-denies
-returns-then-not-take_step-clause-denies g c = λ qv a raw s h at.
-    ends_at_steps qv c.args.machine.now a raw s h c.args.place c.args.goals c.args.free c.args.behind at c.take_step.new.machine
-    (ap (λ z. z.counts.steps) (c.if-not-take_step.ensures.spent refl).0) (c.if-not-take_step.ensures.spent refl).1
+returns-then-not-take_step-clause-denies g c = λ qv a raw s h at. (
+  quiet,
+  (λ cs. (ap (λ z. z.counts.steps) (c.if-not-take_step.ensures.spent refl).0 ∙ plus_none c.args.machine.now.counts.steps, refl)),
+  ends_at_steps qv c.args.machine.now a raw s h c.args.place c.args.goals c.args.free c.args.behind at c.args.machine.now
+      (c.if-not-take_step.ensures.spent refl).1,
+)
 
 pub returns-in-Deep-clause-denies : goal.returns-in-Deep-clause-denies
 returns-in-Deep-clause-denies g c = λ qv a raw s h at.
-    let goals : Standing = record { free = c.args.free; values = c.args.place.values; older = c.args.place.standing } in
-    ends_deep qv c.args.machine.now a raw s h c.args.place c.args.goals c.args.free c.args.behind at (c.take_step.ensures.there c.if-not-take_step.false) c.openness_at.new.machine
-    (found_before c.args.machine.now c.take_step.new.machine goals Deep c.take_step.ensures.known (subst (AreFound c.take_step.new.machine goals) c.in-Deep.is c.in_ok-openness_at.ensures.found))
+    let old = map g.W.Watch.seen c.args.crowd.now.watchers.now.items in
+    let goals : Standing = record { free = c.args.free; values = c.args.place.values; older = c.args.place.standing } in (
+      taking (GoalNote (named not_constant)),
+      (λ cs. ((ap (λ z. z.counts.steps) c.in_ok-openness_at.ensures.bank.same ∙ ap (λ z. z.counts.steps) (c.take_step.ensures.stepped c.if-not-take_step.false)), c.in_ok-tell.ensures.told ∙ ap (λ bs. crowd_after (told_goal bs) old) c.name.ensures)),
+      ends_deep qv c.args.machine.now a raw s h c.args.place c.args.goals c.args.free c.args.behind at (c.take_step.ensures.there c.if-not-take_step.false) c.openness_at.new.machine
+          (found_before c.args.machine.now c.take_step.new.machine goals Deep c.take_step.ensures.known
+          (subst (AreFound c.take_step.new.machine goals) c.in-Deep.is c.in_ok-openness_at.ensures.found)),
+    )
 
 pub returns-in-Open-clause-denies : goal.returns-in-Open-clause-denies
 returns-in-Open-clause-denies g c = λ qv a raw s h at.
-    let goals : Standing = record { free = c.args.free; values = c.args.place.values; older = c.args.place.standing } in
-    ends_open qv c.args.machine.now a raw s h c.args.place c.args.goals c.args.free c.args.behind at (c.take_step.ensures.there c.if-not-take_step.false) c.openness_at.new.machine (ap (λ z. z.steps) c.openness_at.ensures.counts ∙ ap (λ z. z.steps) (c.take_step.ensures.counts c.if-not-take_step.false))
-    (found_before c.args.machine.now c.take_step.new.machine goals Open c.take_step.ensures.known (subst (AreFound c.take_step.new.machine goals) c.in-Open.is c.in_ok-openness_at.ensures.found))
+    let old = map g.W.Watch.seen c.args.crowd.now.watchers.now.items in
+    let goals : Standing = record { free = c.args.free; values = c.args.place.values; older = c.args.place.standing } in (
+      taking (GoalNote (named not_constant)),
+      (λ cs. ((ap (λ z. z.counts.steps) c.in_ok-openness_at.ensures.bank.same ∙ ap (λ z. z.counts.steps) (c.take_step.ensures.stepped c.if-not-take_step.false)), c.in_ok-tell.ensures.told ∙ ap (λ bs. crowd_after (told_goal bs) old) c.name.ensures)),
+      ends_open qv c.args.machine.now a raw s h c.args.place c.args.goals c.args.free c.args.behind at (c.take_step.ensures.there c.if-not-take_step.false) c.openness_at.new.machine
+          (found_before c.args.machine.now c.take_step.new.machine goals Open c.take_step.ensures.known
+          (subst (AreFound c.take_step.new.machine goals) c.in-Open.is c.in_ok-openness_at.ensures.found)),
+    )
 
 pub returns-in_ok-begin-in-Closed-clause-denies : goal.returns-in_ok-begin-in-Closed-clause-denies
 returns-in_ok-begin-in-Closed-clause-denies g c = λ qv a raw s h at.
+    let old = map g.W.Watch.seen c.args.crowd.now.watchers.now.items in
     let m = c.args.machine.now in
     let t = c.take_step.new.machine in
     let o = c.openness_at.new.machine in
@@ -110,7 +129,17 @@ returns-in_ok-begin-in-Closed-clause-denies g c = λ qv a raw s h at.
     let st : t ≡ stepped m = c.take_step.ensures.stepped c.if-not-take_step.false in
     let ob = c.in_ok-openness_at.ensures.bank in
     let x : Extends m.bank o.bank = subst (λ z. Extends z.bank o.bank) st ob.bank in
-    let same : o ≡ record m { counts = one_step m.counts; bank = o.bank } = ob.same ∙ ap (λ z. with_bank z o.bank) st in
-    search_begins qv m a raw s h c.args.place c.args.goals c.args.free c.args.behind at (c.take_step.ensures.there c.if-not-take_step.false) o.bank x n
-    (subst (λ z. IsBegun z n c.args.place c.args.goals c.args.behind) same c.in_ok-begin-in-Closed.ensures.begun)
-    (found_before m t goals Closed c.take_step.ensures.known (subst (AreFound t goals) c.in-Closed.is c.in_ok-openness_at.ensures.found))
+    let same : o ≡ record m { counts = one_step m.counts; bank = o.bank } = ob.same ∙ ap (λ z. with_bank z o.bank) st in (
+      taking (GoalNote (named not_constant)),
+      (λ cs. (
+        ap (λ z. z.steps) c.in_ok-begin-in-Closed.ensures.begun.counts ∙ (ap (λ z. z.counts.steps) c.in_ok-openness_at.ensures.bank.same ∙ ap
+            (λ z. z.counts.steps) (c.take_step.ensures.stepped c.if-not-take_step.false)),
+        c.in_ok-tell.ensures.told ∙ ap (λ bs. crowd_after (told_goal bs) old) c.name.ensures,
+      )),
+      (
+        refl,
+        search_begins qv m a raw s h c.args.place c.args.goals c.args.free c.args.behind at (c.take_step.ensures.there c.if-not-take_step.false) o.bank x n
+            (subst (λ z. IsBegun z n c.args.place c.args.goals c.args.behind) same c.in_ok-begin-in-Closed.ensures.begun)
+            (found_before m t goals Closed c.take_step.ensures.known (subst (AreFound t goals) c.in-Closed.is c.in_ok-openness_at.ensures.found)),
+      ),
+    )

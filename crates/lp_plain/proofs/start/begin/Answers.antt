@@ -130,12 +130,12 @@ returns-clause-begun c = λ l n k flat h hv ar answers.
     let f = c.in_ok-front.ensures in
     let o : IsOutermost outermost = record { assumed = refl; written = refl; mark = refl } in
     let alone = returns-clause-starts c l n k flat h outermost o answers in
-    begins_so (record { types = c.args.query.type_vars; vars = length c.args.query.vars.items; arity = ar; limit = c.args.limit; outer = [] }) c.args.limit _
+    begins_so (record { types = c.args.query.type_vars; vars = length c.args.query.vars.items; arity = ar; outer = [] }) c.args.limit _
     (start c.args.query.type_vars (length c.args.query.vars.items) flat c.args.limit answers) _ _ alone.0 refl refl refl refl alone.1
     (returns-clause-stands c) (returns-clause-placed c outermost o)
     f.course.denied f.course.counts (ap (λ z. z.terms.entries) f.goals.known.bindings ∙ c.new-bindings.ensures.terms) (ap (λ z. z.types.entries) f.goals.known.bindings ∙ c.new-bindings.ensures.types)
     (ap (λ z. z.pairs.items) f.course.branch ∙ c.new-pairs.ensures.items)
-    (start_known ar c.args.query.type_vars (length c.args.query.vars.items) c.args.limit flat hv _ refl refl refl) refl refl refl refl refl refl refl
+    (start_known ar c.args.query.type_vars (length c.args.query.vars.items) flat hv _ refl refl refl) refl refl refl refl refl refl
 
 pub returns-clause-written : goal.returns-clause-written
 returns-clause-written c = λ l n j flat h ar k w.
@@ -167,3 +167,9 @@ returns-clause-written c = λ l n j flat h ar k w.
     })
     (first_written _ c.new-frames.ensures.items c.new.ensures.items c.new-choices.ensures.items ar) in
     record { at_work = z.at_work; alternatives = z.alternatives; older = z.older }
+
+pub returns-clause-steps : goal.returns-clause-steps
+returns-clause-steps c = ap (λ z. z.steps) c.in_ok-front.ensures.course.counts
+
+pub returns-clause-constants : goal.returns-clause-constants
+returns-clause-constants c = refl

@@ -20,7 +20,7 @@ formulas-preserved c =
     c.formulas.spans.items c.push.new.self.items c.formulas.at _ f c.in_ok-clauses.clauses.items c.in_ok-span.span
     c.formulas.invariant g.kept (get_read fs.items fs.items c.formulas.at f f refl lt c.index.ensures) g.flattened
     (λ i. h.within g.within (table_later c.formulas.bank c.flat_clauses.new.bank g.kept c.formulas.table i)) h.means h.kept
-    c.in_ok-push.ensures.items (add-one c.formulas.at) h.ends
+    c.in_ok-push.ensures.items (add-one c.formulas.at) h.ends h.from.0 h.from.1
 
 pub returns-clause-kept : goal.returns-clause-kept
 returns-clause-kept c = c.formulas.invariant.kept
@@ -36,3 +36,6 @@ returns-clause-program c = λ i j d css h.
 
 pub returns-clause-ends : goal.returns-clause-ends
 returns-clause-ends c = c.formulas.invariant.ends
+
+pub returns-clause-order : goal.returns-clause-order
+returns-clause-order c = c.formulas.invariant.order

@@ -1,3 +1,4 @@
+use Rattle.lp_plain.specs.Moving.{quiet}
 use Rattle.std.proofs.Common.{◌≡◌, ◌∙◌, true, false, refl, sym, ap, subst}
 use Rattle.lp_model.specs.declared.ending.Ending.TheVariants.{NoMore, NoMoreCut}
 use Rattle.lp_plain.specs.declared.choice.Untried.{Untried}
@@ -6,7 +7,7 @@ use Rattle.lp_plain.specs.Moving.{IsTrying}
 use Rattle.lp_plain.proofs.Backwards.{back_marked, back_state, ends_so}
 use Rattle.lp_plain.proofs.Restored.{goes_back}
 use Rattle.lp_plain.specs.WrittenSearch.{IsWrittenSearch}
-use Rattle.lp_plain.proofs.Following.{moved_stands}
+use Rattle.lp_plain.proofs.Following.{moved_stands, none_both}
 use Rattle.lp_plain.proofs.Led.{led_to}
 use Rattle.lp_plain.proofs.ProgramKept.{clauses_on, goals_keep, program_then, taken_keeps}
 use Rattle.lp_plain.proofs.Treated.{alone_turn, back_alone, has_last, has_none, inner_turn, last_of}
@@ -135,10 +136,10 @@ pub returns-in-Denied-clause-moved : goal.returns-in-Denied-clause-moved
 returns-in-Denied-clause-moved c = λ qv e s h. let y = c.in_ok-untried.ensures.none e in absurd (cc)
 
 pub returns-then-machine-clause-moved : goal.returns-then-machine-clause-moved
-returns-then-machine-clause-moved c = λ qv e s h. none_moved qv c.args.machine.now c.take_choice.new.self s true e (sym c.in_ok-untried.ensures.lost ∙ c.if-machine.true) c.in_ok-untried.ensures.steps h
+returns-then-machine-clause-moved c = λ qv e s h. none_moved qv c.args.machine.now c.args.machine.now s true e (sym c.in_ok-untried.ensures.lost ∙ c.if-machine.true) h
 
 pub returns-in_default-clause-moved : goal.returns-in_default-clause-moved
-returns-in_default-clause-moved c = λ qv e s h. none_moved qv c.args.machine.now c.take_choice.new.self s false e (sym c.in_ok-untried.ensures.lost ∙ c.if-machine.false) c.in_ok-untried.ensures.steps h
+returns-in_default-clause-moved c = λ qv e s h. none_moved qv c.args.machine.now c.args.machine.now s false e (sym c.in_ok-untried.ensures.lost ∙ c.if-machine.false) h
 
 pub returns-in_ok-turn-in-Clauses-clause-leads : goal.returns-in_ok-turn-in-Clauses-clause-leads
 returns-in_ok-turn-in-Clauses-clause-leads c = λ k rest call one e u l qv s h w.
@@ -199,29 +200,29 @@ returns-in_ok-turn-in-Clauses-clause-tries_written c = λ k rest call one e u l 
     (search_back c.args.machine.now n k rest e t.1 qv.arity w)
 
 pub returns-then-machine-clause-stands : goal.returns-then-machine-clause-stands
-returns-then-machine-clause-stands c = λ k h.
+returns-then-machine-clause-stands c = λ k x h.
     let m = c.args.machine.now in
     let qv = h.0 in
     let s = h.1 in
     elim (last_of m.choices.items) [
-      | has_none e ↦ moved_stands k qv c.take_choice.new.self h.2 (Turn.Ended NoMoreCut) (λ y. absurd y) s
+      | has_none e ↦ moved_stands k qv m h.2 (Turn.Ended NoMoreCut) quiet (λ y. absurd y) s x
           (alone_turn qv.outer (Turn.Ended NoMoreCut) (back_alone qv m s h.3 e)) (returns-then-machine-clause-moved c qv e s h.3) h.4
       | has_last ys y e ↦ absurd (let z = (c.in_ok-untried.ensures.taken y ys e).0 in let w = c.in_default.is in cc)
     ]
 
 pub returns-in_default-clause-stands : goal.returns-in_default-clause-stands
-returns-in_default-clause-stands c = λ k h.
+returns-in_default-clause-stands c = λ k x h.
     let m = c.args.machine.now in
     let qv = h.0 in
     let s = h.1 in
     elim (last_of m.choices.items) [
-      | has_none e ↦ moved_stands k qv c.take_choice.new.self h.2 (Turn.Ended NoMore) (λ y. absurd y) s (alone_turn qv.outer (Turn.Ended NoMore) (back_alone qv m s h.3 e))
+      | has_none e ↦ moved_stands k qv m h.2 (Turn.Ended NoMore) quiet (λ y. absurd y) s x (alone_turn qv.outer (Turn.Ended NoMore) (back_alone qv m s h.3 e))
           (returns-in_default-clause-moved c qv e s h.3) h.4
       | has_last ys y e ↦ absurd (let z = (c.in_ok-untried.ensures.taken y ys e).0 in let w = c.in_default.is in cc)
     ]
 
 pub returns-in_ok-go_right-in-Goals-clause-stands : goal.returns-in_ok-go_right-in-Goals-clause-stands
-returns-in_ok-go_right-in-Goals-clause-stands c = λ k h.
+returns-in_ok-go_right-in-Goals-clause-stands c = λ k x h.
     let m = c.args.machine.now in
     let n = c.take_choice.new.self in
     let q = c.go_right.new.machine in
@@ -237,17 +238,21 @@ returns-in_ok-go_right-in-Goals-clause-stands c = λ k h.
           let u : y.untried ≡ Untried.Goals c.in-Goals.goals = cc in
           let low = last_above qv m s h.3 ys y e (λ d x. (let p : Untried.Denied d ≡ Untried.Goals c.in-Goals.goals = sym x ∙ u in absurd (cc))) in
           let written = returns-in_ok-go_right-in-Goals-clause-written c y ys c.in-Goals.goals e u k.query.arity h.3.above.done.stands h.5.written in (
-            qv,
-            s,
-            h.2,
-            returns-in_ok-go_right-in-Goals-clause-resumed c qv y ys c.in-Goals.goals e u low s h.3,
-            h.4,
-            clauses_on k.program k.query.arity m q (program_then m n q (taken_keeps m n y ys o.1) (goals_keep n q c.in_ok-go_right-in-Goals.ensures.known)) written h.5,
+            x,
+            sym (none_both x),
+            (
+              qv,
+              s,
+              h.2,
+              returns-in_ok-go_right-in-Goals-clause-resumed c qv y ys c.in-Goals.goals e u low s h.3,
+              h.4,
+              clauses_on k.program k.query.arity m q (program_then m n q (taken_keeps m n y ys o.1) (goals_keep n q c.in_ok-go_right-in-Goals.ensures.known)) written h.5,
+            ),
           ))
     ]
 
 pub returns-in_ok-turn-in-Clauses-clause-stands : goal.returns-in_ok-turn-in-Clauses-clause-stands
-returns-in_ok-turn-in-Clauses-clause-stands c = λ k h.
+returns-in_ok-turn-in-Clauses-clause-stands c = λ k x h.
     let m = c.args.machine.now in
     let n = c.take_choice.new.self in
     let q = c.try_candidate.new.machine in
@@ -264,7 +269,7 @@ returns-in_ok-turn-in-Clauses-clause-stands c = λ k h.
           let u : y.untried ≡ Untried.Clauses c.in-Clauses.call c.in-Clauses.candidate = cc in
           let low = last_above qv m s h.3 ys y e (λ d x. (let p : Untried.Denied d ≡ Untried.Clauses c.in-Clauses.call c.in-Clauses.candidate = sym x ∙ u in absurd (cc))) in
           let sw = subst (IsWrittenSearch m) (sym h.2.0) h.5.written in
-          led_to k qv m q h.2 (program_then m n q (taken_keeps m n y ys o.1) c.in_ok-turn-in-Clauses.ensures.program) h.5 turn s (inner_turn qv.outer turn c.in_ok-turn-in-Clauses.ensures.ends)
+          led_to k qv m q h.2 (program_then m n q (taken_keeps m n y ys o.1) c.in_ok-turn-in-Clauses.ensures.program) h.5 turn quiet s x (inner_turn qv.outer turn c.in_ok-turn-in-Clauses.ensures.ends)
           (returns-in_ok-turn-in-Clauses-clause-leads c y ys c.in-Clauses.call c.in-Clauses.candidate e u low qv s h.3 sw)
           (returns-in_ok-turn-in-Clauses-clause-tries_written c y ys c.in-Clauses.call c.in-Clauses.candidate e u low qv s h.3 sw) h.4)
     ]
@@ -280,11 +285,11 @@ returns-in-Denied-clause-refuted c = λ k rest d e u qv s h.
     let t = c.in_ok-untried.ensures.taken k rest e in
     let v : k.untried ≡ Untried.Denied c.in-Denied.denial = (let z = t.0 in let y = c.in-Denied.is in let x = c.in-Some.is in cc) in
     let r = c.end_denial.ensures in
-    by_end qv m s h k rest e c.take_choice.new.self t.1 c.end_denial.new.machine c.in-Denied.denial (r.steps ∙ ap (λ z. z.steps) t.1.counts) v r.only c.end_denial.result
+    by_end qv m s h k rest e c.take_choice.new.self t.1 c.end_denial.new.machine c.in-Denied.denial v r.only c.end_denial.result
     c.take_choice.new.self.counts.lost refl (ap (λ z. z.lost) (sym t.1.counts)) r.cut r.holds
 
 pub returns-in-Denied-clause-stands : goal.returns-in-Denied-clause-stands
-returns-in-Denied-clause-stands c = λ k h.
+returns-in-Denied-clause-stands c = λ k x h.
     let m = c.args.machine.now in
     let n = c.take_choice.new.self in
     let q = c.end_denial.new.machine in
@@ -298,7 +303,7 @@ returns-in-Denied-clause-stands c = λ k h.
           let w = c.in-Denied.is in
           let v = c.in-Some.is in
           let u : y.untried ≡ Untried.Denied c.in-Denied.denial = cc in
-          refuted_stands k qv q s h.2 h.4 c.end_denial.result (returns-in-Denied-clause-refuted c y ys c.in-Denied.denial e u qv s h.3)
+          refuted_stands k qv q s h.2 x h.4 c.end_denial.result (returns-in-Denied-clause-refuted c y ys c.in-Denied.denial e u qv s h.3)
           (λ x. clauses_on k.program k.query.arity m q (program_then m n q (taken_keeps m n y ys o.1) c.end_denial.ensures.program)
           (returns-in-Denied-clause-denied_written c y ys c.in-Denied.denial e u k.query.arity h.5.written) h.5))
     ]
@@ -348,3 +353,12 @@ returns-in_ok-turn-in-Clauses-clause-refuted c = λ k rest d e u.
     let z = (c.in_ok-untried.ensures.taken k rest e).0 in
     let y = c.in-Clauses.is in
     absurd (cc)
+
+pub returns-in_ok-go_right-in-Goals-clause-steps : goal.returns-in_ok-go_right-in-Goals-clause-steps
+returns-in_ok-go_right-in-Goals-clause-steps c = ap (λ z. z.steps) c.in_ok-go_right-in-Goals.ensures.counts ∙ c.in_ok-untried.ensures.steps
+
+pub returns-in_ok-turn-in-Clauses-clause-steps : goal.returns-in_ok-turn-in-Clauses-clause-steps
+returns-in_ok-turn-in-Clauses-clause-steps c = c.in_ok-turn-in-Clauses.ensures.steps ∙ c.in_ok-untried.ensures.steps
+
+pub returns-in-Denied-clause-steps : goal.returns-in-Denied-clause-steps
+returns-in-Denied-clause-steps c = c.end_denial.ensures.steps ∙ c.in_ok-untried.ensures.steps

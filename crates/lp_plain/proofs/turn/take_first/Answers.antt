@@ -1,5 +1,6 @@
+use Rattle.std.proofs.Common.{◌+◌}
 use Rattle.lp_plain.proofs.AtGoals.{at_last, at_more, framed_work, running_framed}
-use Rattle.std.proofs.Common.{◌≡◌, ◌∙◌, ◌+◌, [], ◌∷◌, ◌++◌, add-one, ap, arith, refl, subst, sym}
+use Rattle.std.proofs.Common.{◌≡◌, ◌∙◌, [], ◌∷◌, ◌++◌, add-one, ap, arith, refl, subst, sym}
 use Rattle.lp_plain.specs.Apart.{IsApart}
 use Rattle.lp_plain.proofs.Counted.{counted_first}
 use Rattle.lp_plain.proofs.FirstGoals.{last_taken, more_taken}
@@ -17,36 +18,36 @@ use Rattle.lp_model.specs.Branch.{Branch}
 use Rattle.lp_plain.specs.Denials.{TakesDenied}
 use Rattle.lp_plain.proofs.turn.take_first.Goals as goal
 
-pub returns-then-second-goals-clause-taken : goal.returns-then-second-goals-clause-taken
-returns-then-second-goals-clause-taken g c = λ e.
+pub returns-then-count-le1-clause-taken : goal.returns-then-count-le1-clause-taken
+returns-then-count-le1-clause-taken g c = λ e.
     last_taken c.args.machine.now c.take_flat.new.machine c.args.place c.args.goals c.args.behind c.in_ok-goal.goal c.in_ok-goal.ensures
-    (omega (arith, c.if-second-goals.true, c.in-Some.ensures.1)) (c.in_ok-turn.ensures.taken e)
+    (omega (arith, c.if-count-le1.true, c.saturating_sub-count.ensures)) (c.in_ok-turn.ensures.taken e)
 
-pub returns-then-second-goals-clause-counted : goal.returns-then-second-goals-clause-counted
-returns-then-second-goals-clause-counted g c = λ hs l h f. c.in_ok-turn.ensures.counted (counted_first c.args.machine.now c.args.goals c.in_ok-goal.goal c.in_ok-goal.ensures hs l h f)
+pub returns-then-count-le1-clause-counted : goal.returns-then-count-le1-clause-counted
+returns-then-count-le1-clause-counted g c = λ hs l h f. c.in_ok-turn.ensures.counted (counted_first c.args.machine.now c.args.goals c.in_ok-goal.goal c.in_ok-goal.ensures hs l h f)
 
 pub returns-clause-taken : goal.returns-clause-taken
 returns-clause-taken g c = λ e.
     let f = c.in_ok-rest.ensures in
     more_taken c.args.machine.now c.put_frame.new.self c.take_flat-2.new.machine c.args.place c.args.goals
-    (record { from = c.in-Some.second; to = c.args.goals.to }) c.args.behind c.in_ok-rest.rest c.in_ok-goal.goal c.in_ok-goal.ensures
-    (c.in-Some.ensures.1 ∙ add-one c.args.goals.from) refl c.if-second-goals.false f.goals f.course f.assumed f.frame f.stands f.reads (c.in_ok-turn-2.ensures.taken e)
+    (record { from = c.args.goals.from + 1; to = c.args.goals.to }) c.args.behind c.in_ok-rest.rest c.in_ok-goal.goal c.in_ok-goal.ensures
+    (add-one c.args.goals.from) refl (omega (arith, c.if-count-le1.false, c.saturating_sub-count.ensures)) f.goals f.course f.assumed f.frame f.stands f.reads (c.in_ok-turn-2.ensures.taken e)
 
 pub returns-clause-counted : goal.returns-clause-counted
 returns-clause-counted g c = λ hs l h f.
     subst (λ z. IsApart c.in_ok-turn-2.turn z c.take_flat-2.new.machine.counts) c.in_ok-rest.ensures.course.counts
     (c.in_ok-turn-2.ensures.counted (counted_first c.args.machine.now c.args.goals c.in_ok-goal.goal c.in_ok-goal.ensures hs l h f))
 
-pub returns-then-second-goals-clause-marks : goal.returns-then-second-goals-clause-marks
-returns-then-second-goals-clause-marks g c = λ e hs l h f. c.in_ok-turn.ensures.marks e (counted_first c.args.machine.now c.args.goals c.in_ok-goal.goal c.in_ok-goal.ensures hs l h f)
+pub returns-then-count-le1-clause-marks : goal.returns-then-count-le1-clause-marks
+returns-then-count-le1-clause-marks g c = λ e hs l h f. c.in_ok-turn.ensures.marks e (counted_first c.args.machine.now c.args.goals c.in_ok-goal.goal c.in_ok-goal.ensures hs l h f)
 
 pub returns-clause-marks : goal.returns-clause-marks
 returns-clause-marks g c = λ e hs l h f least most k i j.
     c.in_ok-turn-2.ensures.marks e (counted_first c.args.machine.now c.args.goals c.in_ok-goal.goal c.in_ok-goal.ensures hs l h f) least most
     (c.in_ok-rest.ensures.marks least most k i j) i j
 
-pub returns-then-second-goals-clause-aside : goal.returns-then-second-goals-clause-aside
-returns-then-second-goals-clause-aside g c = λ e hs l h f.
+pub returns-then-count-le1-clause-aside : goal.returns-then-count-le1-clause-aside
+returns-then-count-le1-clause-aside g c = λ e hs l h f.
     c.in_ok-turn.ensures.aside e (counted_first c.args.machine.now c.args.goals c.in_ok-goal.goal c.in_ok-goal.ensures hs l h f)
 
 pub returns-clause-aside : goal.returns-clause-aside
@@ -54,10 +55,10 @@ returns-clause-aside g c = λ e hs l h f d q from r least most k i j.
     c.in_ok-turn-2.ensures.aside e (counted_first c.args.machine.now c.args.goals c.in_ok-goal.goal c.in_ok-goal.ensures hs l h f) d
     (q ∙ ap (λ z. z ++ d ∷ []) (sym c.in_ok-rest.ensures.course.choices)) from r least most (c.in_ok-rest.ensures.marks least most k i j) i j
 
-pub returns-then-second-goals-clause-moved : goal.returns-then-second-goals-clause-moved
-returns-then-second-goals-clause-moved g c = λ qv a raw s h at pf.
+pub returns-then-count-le1-clause-moved : goal.returns-then-count-le1-clause-moved
+returns-then-count-le1-clause-moved g c = λ qv a raw s h at pf.
     c.in_ok-turn.ensures.moved qv a raw s h (at_last c.args.machine.now a c.args.place c.args.goals c.args.behind raw c.in_ok-goal.goal
-    c.in_ok-goal.ensures (omega (arith, c.if-second-goals.true, c.in-Some.ensures.1)) at) pf
+    c.in_ok-goal.ensures (omega (arith, c.if-count-le1.true, c.saturating_sub-count.ensures)) at) pf
 
 pub returns-clause-moved : goal.returns-clause-moved
 returns-clause-moved g c = λ qv a raw s h at pf.
@@ -65,13 +66,14 @@ returns-clause-moved g c = λ qv a raw s h at pf.
     let q = c.put_frame.new.self in
     let p = c.args.place in
     let f = c.in_ok-rest.ensures in
-    c.in_ok-turn-2.ensures.moved qv a raw s (running_framed qv m q a p raw s f.goals f.course f.assumed f.frame (f.stands c.if-second-goals.false h.above.done.stands) at.place h)
-    (at_more m q a p c.args.goals (record { from = c.in-Some.second; to = c.args.goals.to }) c.args.behind c.in_ok-rest.rest raw c.in_ok-goal.goal
-    c.in_ok-goal.ensures (c.in-Some.ensures.1 ∙ add-one c.args.goals.from) refl
-    f.goals f.assumed f.reads at) pf
+    let r = c.in_ok-turn-2.ensures.moved qv a raw s (running_framed qv m q a p raw s f.goals f.course f.assumed f.frame (f.stands (omega (arith, c.if-count-le1.false, c.saturating_sub-count.ensures)) h.above.done.stands) at.place h)
+    (at_more m q a p c.args.goals (record { from = c.args.goals.from + 1; to = c.args.goals.to }) c.args.behind c.in_ok-rest.rest raw c.in_ok-goal.goal
+    c.in_ok-goal.ensures (add-one c.args.goals.from) refl
+    f.goals f.assumed f.reads at) pf in
+    (r.0, (r.1.0 ∙ ap (λ z. z.steps + r.0.steps) f.course.counts, r.1.1), r.2)
 
-pub returns-then-second-goals-clause-written : goal.returns-then-second-goals-clause-written
-returns-then-second-goals-clause-written g c = λ e f got h l.
+pub returns-then-count-le1-clause-written : goal.returns-then-count-le1-clause-written
+returns-then-count-le1-clause-written g c = λ e f got h l.
     let m = c.args.machine.now in
     let same : f ≡ c.in_ok-goal.goal = one_read m.table.goals.items c.args.goals.from f c.in_ok-goal.goal got c.in_ok-goal.ensures in
     last_writes m c.take_flat.new.machine c.args.place c.args.goals c.in_ok-goal.goal c.in_ok-goal.ensures l (c.in_ok-turn.ensures.written e (subst IsApartFlat same h))
@@ -81,41 +83,46 @@ returns-clause-written g c = λ e f got h l.
     let m = c.args.machine.now in
     let r = c.in_ok-rest.ensures in
     let same : f ≡ c.in_ok-goal.goal = one_read m.table.goals.items c.args.goals.from f c.in_ok-goal.goal got c.in_ok-goal.ensures in
-    more_writes m c.put_frame.new.self c.take_flat-2.new.machine c.args.place c.args.goals (record { from = c.in-Some.second; to = c.args.goals.to })
+    more_writes m c.put_frame.new.self c.take_flat-2.new.machine c.args.place c.args.goals (record { from = c.args.goals.from + 1; to = c.args.goals.to })
     c.in_ok-goal.goal c.args.behind r.goals r.assumed r.course.choices r.pushed
-    (λ i. r.stands c.if-second-goals.false i) c.in_ok-goal.ensures (c.in-Some.ensures.1 ∙ add-one c.args.goals.from) refl c.if-second-goals.false
+    (λ i. r.stands (omega (arith, c.if-count-le1.false, c.saturating_sub-count.ensures)) i) c.in_ok-goal.ensures (add-one c.args.goals.from) refl
+    (omega (arith, c.if-count-le1.false, c.saturating_sub-count.ensures))
     (c.in_ok-turn-2.ensures.written e (subst IsApartFlat same h))
 
-pub returns-then-second-goals-clause-leads : goal.returns-then-second-goals-clause-leads
-returns-then-second-goals-clause-leads g c = λ qv a raw s h at af w.
+pub returns-then-count-le1-clause-leads : goal.returns-then-count-le1-clause-leads
+returns-then-count-le1-clause-leads g c = λ qv a raw s h at af w.
     let m = c.args.machine.now in
     c.in_ok-turn.ensures.leads qv a raw s h (at_last m a c.args.place c.args.goals c.args.behind raw c.in_ok-goal.goal c.in_ok-goal.ensures
-    (omega (arith, c.if-second-goals.true, c.in-Some.ensures.1)) at) af
+    (omega (arith, c.if-count-le1.true, c.saturating_sub-count.ensures)) at) af
     (first_written m qv.arity c.args.place c.args.goals c.in_ok-goal.goal c.in_ok-goal.ensures at.some w)
 
 pub returns-clause-leads : goal.returns-clause-leads
-returns-clause-leads g c = λ qv a raw s h at af w css pr sw.
+returns-clause-leads g c = λ qv a raw s h at af w.
     let m = c.args.machine.now in
     let q = c.put_frame.new.self in
     let p = c.args.place in
     let f = c.in_ok-rest.ensures in
     let i = h.above.done.stands in
-    let st = f.stands c.if-second-goals.false i in
-    let others : Span = record { from = c.in-Some.second; to = c.args.goals.to } in
+    let st = f.stands (omega (arith, c.if-count-le1.false, c.saturating_sub-count.ensures)) i in
+    let others : Span = record { from = c.args.goals.from + 1; to = c.args.goals.to } in
     let frame : Frame = record { todo = Todo.Goals others; place = p; behind = c.args.behind } in
-    let later = c.in-Some.ensures.1 ∙ add-one c.args.goals.from in
-    let next : c.in-Some.second ≡ c.args.goals.from + 1 = (let z = c.in-Some.ensures.1 in omega (arith, z)) in
-    let w' = rest_written m qv.arity p c.args.goals c.in-Some.second next at.some w in
-    c.in_ok-turn-2.ensures.leads qv a raw s (running_framed qv m q a p raw s f.goals f.course f.assumed f.frame st at.place h)
+    let later = add-one c.args.goals.from in
+    let next : c.args.goals.from + 1 ≡ c.args.goals.from + 1 = refl in
+    let w' = rest_written m qv.arity p c.args.goals (c.args.goals.from + 1) next at.some w in
+    let r = c.in_ok-turn-2.ensures.leads qv a raw s (running_framed qv m q a p raw s f.goals f.course f.assumed f.frame st at.place h)
     (at_more m q a p c.args.goals others c.args.behind c.in_ok-rest.rest raw c.in_ok-goal.goal c.in_ok-goal.ensures later refl f.goals f.assumed f.reads at) af
-    (flat_framed m q f.goals qv.arity p c.in_ok-goal.goal (first_written m qv.arity p c.args.goals c.in_ok-goal.goal c.in_ok-goal.ensures at.some w))
-    css (framed_program m q f.goals qv.arity css pr) (search_frame m q frame i f.goals f.assumed f.course.choices f.pushed c.if-second-goals.false qv.arity w' sw)
+    (flat_framed m q f.goals qv.arity p c.in_ok-goal.goal (first_written m qv.arity p c.args.goals c.in_ok-goal.goal c.in_ok-goal.ensures at.some w)) in (
+      r.0,
+      (r.1.0 ∙ ap (λ z. z.steps + r.0.steps) f.course.counts, r.1.1),
+      λ css pr sw. r.2 css (framed_program m q f.goals qv.arity css pr)
+          (search_frame m q frame i f.goals f.assumed f.course.choices f.pushed (omega (arith, c.if-count-le1.false, c.saturating_sub-count.ensures)) qv.arity w' sw),
+    )
 
-pub returns-then-second-goals-clause-stays : goal.returns-then-second-goals-clause-stays
-returns-then-second-goals-clause-stays g c = λ a raw at pf ar st w sw.
+pub returns-then-count-le1-clause-stays : goal.returns-then-count-le1-clause-stays
+returns-then-count-le1-clause-stays g c = λ a raw at pf ar st w sw.
     let m = c.args.machine.now in
     c.in_ok-turn.ensures.stays a raw (at_last m a c.args.place c.args.goals c.args.behind raw c.in_ok-goal.goal c.in_ok-goal.ensures
-    (omega (arith, c.if-second-goals.true, c.in-Some.ensures.1)) at) pf ar st
+    (omega (arith, c.if-count-le1.true, c.saturating_sub-count.ensures)) at) pf ar st
     (first_written m ar c.args.place c.args.goals c.in_ok-goal.goal c.in_ok-goal.ensures at.some w) sw
 
 pub returns-clause-stays : goal.returns-clause-stays
@@ -124,18 +131,18 @@ returns-clause-stays g c = λ a raw at pf ar i w sw.
     let q = c.put_frame.new.self in
     let p = c.args.place in
     let f = c.in_ok-rest.ensures in
-    let others : Span = record { from = c.in-Some.second; to = c.args.goals.to } in
+    let others : Span = record { from = c.args.goals.from + 1; to = c.args.goals.to } in
     let frame : Frame = record { todo = Todo.Goals others; place = p; behind = c.args.behind } in
-    let later = c.in-Some.ensures.1 ∙ add-one c.args.goals.from in
-    let next : c.in-Some.second ≡ c.args.goals.from + 1 = (let z = c.in-Some.ensures.1 in omega (arith, z)) in
-    let w' = rest_written m ar p c.args.goals c.in-Some.second next at.some w in
+    let later = add-one c.args.goals.from in
+    let next : c.args.goals.from + 1 ≡ c.args.goals.from + 1 = refl in
+    let w' = rest_written m ar p c.args.goals (c.args.goals.from + 1) next at.some w in
     c.in_ok-turn-2.ensures.stays a raw (at_more m q a p c.args.goals others c.args.behind c.in_ok-rest.rest raw c.in_ok-goal.goal c.in_ok-goal.ensures
-    later refl f.goals f.assumed f.reads at) pf ar (f.stands c.if-second-goals.false i)
+    later refl f.goals f.assumed f.reads at) pf ar (f.stands (omega (arith, c.if-count-le1.false, c.saturating_sub-count.ensures)) i)
     (flat_framed m q f.goals ar p c.in_ok-goal.goal (first_written m ar p c.args.goals c.in_ok-goal.goal c.in_ok-goal.ensures at.some w))
-    (search_frame m q frame i f.goals f.assumed f.course.choices f.pushed c.if-second-goals.false ar w' sw)
+    (search_frame m q frame i f.goals f.assumed f.course.choices f.pushed (omega (arith, c.if-count-le1.false, c.saturating_sub-count.ensures)) ar w' sw)
 
-pub returns-then-second-goals-clause-program : goal.returns-then-second-goals-clause-program
-returns-then-second-goals-clause-program g c = c.in_ok-turn.ensures.program
+pub returns-then-count-le1-clause-program : goal.returns-then-count-le1-clause-program
+returns-then-count-le1-clause-program g c = c.in_ok-turn.ensures.program
 
 pub returns-clause-program : goal.returns-clause-program
 returns-clause-program g c =
@@ -143,17 +150,17 @@ returns-clause-program g c =
     let q = c.put_frame.new.self in
     program_then m q c.take_flat-2.new.machine (goals_keep m q c.in_ok-rest.ensures.goals) c.in_ok-turn-2.ensures.program
 
-pub returns-then-second-goals-clause-ends : goal.returns-then-second-goals-clause-ends
-returns-then-second-goals-clause-ends g c = c.in_ok-turn.ensures.ends
+pub returns-then-count-le1-clause-ends : goal.returns-then-count-le1-clause-ends
+returns-then-count-le1-clause-ends g c = c.in_ok-turn.ensures.ends
 
 pub returns-clause-ends : goal.returns-clause-ends
 returns-clause-ends g c = c.in_ok-turn-2.ensures.ends
 
-pub returns-then-second-goals-clause-denies : goal.returns-then-second-goals-clause-denies
-returns-then-second-goals-clause-denies g c = λ qv a raw s h at df.
+pub returns-then-count-le1-clause-denies : goal.returns-then-count-le1-clause-denies
+returns-then-count-le1-clause-denies g c = λ qv a raw s h at df.
     let m = c.args.machine.now in
     c.in_ok-turn.ensures.denies qv a raw s h (at_last m a c.args.place c.args.goals c.args.behind raw c.in_ok-goal.goal c.in_ok-goal.ensures
-    (omega (arith, c.if-second-goals.true, c.in-Some.ensures.1)) at) df
+    (omega (arith, c.if-count-le1.true, c.saturating_sub-count.ensures)) at) df
 
 pub returns-clause-denies : goal.returns-clause-denies
 returns-clause-denies g c = λ qv a raw s h at df.
@@ -161,18 +168,22 @@ returns-clause-denies g c = λ qv a raw s h at df.
     let q = c.put_frame.new.self in
     let p = c.args.place in
     let f = c.in_ok-rest.ensures in
-    let st = f.stands c.if-second-goals.false h.above.done.stands in
-    subst (λ (z : Branch). TakesDenied c.in_ok-turn-2.turn qv c.take_flat-2.new.machine s z.goals) (framed_work qv m q a p raw s f.goals f.course f.assumed f.frame st at.place h)
-    (c.in_ok-turn-2.ensures.denies qv a raw s (running_framed qv m q a p raw s f.goals f.course f.assumed f.frame st at.place h)
-    (at_more m q a p c.args.goals (record { from = c.in-Some.second; to = c.args.goals.to }) c.args.behind c.in_ok-rest.rest raw c.in_ok-goal.goal
-    c.in_ok-goal.ensures (c.in-Some.ensures.1 ∙ add-one c.args.goals.from) refl
-    f.goals f.assumed f.reads at) df)
+    let st = f.stands (omega (arith, c.if-count-le1.false, c.saturating_sub-count.ensures)) h.above.done.stands in
+    let r = c.in_ok-turn-2.ensures.denies qv a raw s (running_framed qv m q a p raw s f.goals f.course f.assumed f.frame st at.place h)
+    (at_more m q a p c.args.goals (record { from = c.args.goals.from + 1; to = c.args.goals.to }) c.args.behind c.in_ok-rest.rest raw c.in_ok-goal.goal
+    c.in_ok-goal.ensures (add-one c.args.goals.from) refl
+    f.goals f.assumed f.reads at) df in (
+      r.0,
+      (r.1.0 ∙ ap (λ z. z.steps + r.0.steps) f.course.counts, r.1.1),
+      subst (λ (z : Branch). TakesDenied r.0 c.in_ok-turn-2.turn qv c.take_flat-2.new.machine s z.goals)
+          (framed_work qv m q a p raw s f.goals f.course f.assumed f.frame st at.place h) r.2,
+    )
 
-pub returns-then-second-goals-clause-denied_stays : goal.returns-then-second-goals-clause-denied_stays
-returns-then-second-goals-clause-denied_stays g c = λ a raw at df ar st w sw.
+pub returns-then-count-le1-clause-denied_stays : goal.returns-then-count-le1-clause-denied_stays
+returns-then-count-le1-clause-denied_stays g c = λ a raw at df ar st w sw.
     let m = c.args.machine.now in
     c.in_ok-turn.ensures.denied_stays a raw (at_last m a c.args.place c.args.goals c.args.behind raw c.in_ok-goal.goal c.in_ok-goal.ensures
-    (omega (arith, c.if-second-goals.true, c.in-Some.ensures.1)) at) df ar st
+    (omega (arith, c.if-count-le1.true, c.saturating_sub-count.ensures)) at) df ar st
     (first_written m ar c.args.place c.args.goals c.in_ok-goal.goal c.in_ok-goal.ensures at.some w) sw
 
 pub returns-clause-denied_stays : goal.returns-clause-denied_stays
@@ -181,12 +192,12 @@ returns-clause-denied_stays g c = λ a raw at df ar i w sw.
     let q = c.put_frame.new.self in
     let p = c.args.place in
     let f = c.in_ok-rest.ensures in
-    let others : Span = record { from = c.in-Some.second; to = c.args.goals.to } in
+    let others : Span = record { from = c.args.goals.from + 1; to = c.args.goals.to } in
     let frame : Frame = record { todo = Todo.Goals others; place = p; behind = c.args.behind } in
-    let later = c.in-Some.ensures.1 ∙ add-one c.args.goals.from in
-    let next : c.in-Some.second ≡ c.args.goals.from + 1 = (let z = c.in-Some.ensures.1 in omega (arith, z)) in
-    let w' = rest_written m ar p c.args.goals c.in-Some.second next at.some w in
+    let later = add-one c.args.goals.from in
+    let next : c.args.goals.from + 1 ≡ c.args.goals.from + 1 = refl in
+    let w' = rest_written m ar p c.args.goals (c.args.goals.from + 1) next at.some w in
     c.in_ok-turn-2.ensures.denied_stays a raw (at_more m q a p c.args.goals others c.args.behind c.in_ok-rest.rest raw c.in_ok-goal.goal
-    c.in_ok-goal.ensures later refl f.goals f.assumed f.reads at) df ar (f.stands c.if-second-goals.false i)
+    c.in_ok-goal.ensures later refl f.goals f.assumed f.reads at) df ar (f.stands (omega (arith, c.if-count-le1.false, c.saturating_sub-count.ensures)) i)
     (flat_framed m q f.goals ar p c.in_ok-goal.goal (first_written m ar p c.args.goals c.in_ok-goal.goal c.in_ok-goal.ensures at.some w))
-    (search_frame m q frame i f.goals f.assumed f.course.choices f.pushed c.if-second-goals.false ar w' sw)
+    (search_frame m q frame i f.goals f.assumed f.course.choices f.pushed (omega (arith, c.if-count-le1.false, c.saturating_sub-count.ensures)) ar w' sw)

@@ -1,3 +1,6 @@
+use Rattle.std.proofs.Common.{◌+◌, ◌∙◌, ap, refl}
+use Rattle.lp_plain.specs.Moving.{quiet}
+use Rattle.lp_plain.proofs.Hearing.{apart_steps, plus_none}
 use Rattle.lp_plain.proofs.PartMoves.{part_moves}
 use Rattle.lp_plain.proofs.AtomFirst.{atom_first, not_first}
 use Rattle.lp_plain.specs.Moving.{IsAtGoal}
@@ -61,8 +64,9 @@ returns-in_ok-turn-in-Atom-clause-moved g c = λ qv a raw s h at pf. absurd (ato
     raw (subst (λ f. IsAtGoal c.args.machine.now a c.args.place f c.args.behind raw) c.in-Atom.is at) pf)
 
 pub returns-in_ok-turn-in-Cut-clause-moved : goal.returns-in_ok-turn-in-Cut-clause-moved
-returns-in_ok-turn-in-Cut-clause-moved g c = λ qv a raw s h at pf. c.in_ok-turn-in-Cut.ensures.moved qv a raw s h
-    (subst (λ f. IsAtGoal c.args.machine.now a c.args.place f c.args.behind raw) c.in-Cut.is at)
+returns-in_ok-turn-in-Cut-clause-moved g c = λ qv a raw s h at pf.
+    let r = c.in_ok-turn-in-Cut.ensures.moved qv a raw s h (subst (λ f. IsAtGoal c.args.machine.now a c.args.place f c.args.behind raw) c.in-Cut.is at) in
+    (r.0, r.1 c.args.constants.now, r.2)
 
 pub returns-in_ok-turn-in-Not-clause-moved : goal.returns-in_ok-turn-in-Not-clause-moved
 returns-in_ok-turn-in-Not-clause-moved g c = λ qv a raw s h at pf.
@@ -71,8 +75,12 @@ returns-in_ok-turn-in-Not-clause-moved g c = λ qv a raw s h at pf.
 pub returns-in_ok-turn-in_default-clause-moved : goal.returns-in_ok-turn-in_default-clause-moved
 returns-in_ok-turn-in_default-clause-moved g c = λ qv a raw s h at pf.
     let e = c.in_ok-turn-in_default.ensures in
-    let n = c.put_parts.new.machine in
-    part_moves qv c.args.machine.now n c.args.place c.args.goal c.args.behind c.in_ok-turn-in_default.turn e.taken e.none e.aside_with c.in_default.not-Cut a raw s h at pf e.counted
+    let n = c.put_parts.new.machine in (
+      quiet,
+      (apart_steps c.in_ok-turn-in_default.turn c.args.machine.now.counts n.counts e.counted ∙ plus_none c.args.machine.now.counts.steps, refl),
+      part_moves qv c.args.machine.now n c.args.place c.args.goal c.args.behind c.in_ok-turn-in_default.turn e.taken e.none e.aside_with
+          c.in_default.not-Cut a raw s h at pf n.counts e.counted,
+    )
 
 pub returns-in_ok-turn-in-Atom-clause-written : goal.returns-in_ok-turn-in-Atom-clause-written
 returns-in_ok-turn-in-Atom-clause-written g c = λ e h. absurd (subst IsApartFlat c.in-Atom.is h)
@@ -87,7 +95,7 @@ pub returns-in_ok-turn-in_default-clause-written : goal.returns-in_ok-turn-in_de
 returns-in_ok-turn-in_default-clause-written g c = c.in_ok-turn-in_default.ensures.written
 
 pub returns-in_ok-turn-in-Atom-clause-leads : goal.returns-in_ok-turn-in-Atom-clause-leads
-returns-in_ok-turn-in-Atom-clause-leads g c = λ qv a raw s h at af w css pr sw.
+returns-in_ok-turn-in-Atom-clause-leads g c = λ qv a raw s h at af w.
     let m = c.args.machine.now in
     let n = c.instance.new.self in
     let p = c.args.place in
@@ -95,9 +103,9 @@ returns-in_ok-turn-in-Atom-clause-leads g c = λ qv a raw s h at af w css pr sw.
     let e = c.in_ok-atom-in-Atom.ensures in
     let at' = subst (λ f. IsAtGoal m a p f c.args.behind raw) c.in-Atom.is at in
     let w' = subst (IsWrittenFlat m qv.arity p) c.in-Atom.is w in
-    c.in_ok-turn-in-Atom.ensures.leads qv a raw s (running_on m n e.bank qv a raw s h p at'.place)
-    (instance_at m n e.bank p u c.in_ok-atom-in-Atom.atom e.within e.tree a c.args.behind raw h.above.done.stands at' qv.arity w')
-    css (only_program m n e.bank qv.arity css pr) (only_written m n e.bank h.above.done.stands qv.arity sw)
+    let r = c.in_ok-turn-in-Atom.ensures.leads qv a raw s (running_on m n e.bank qv a raw s h p at'.place)
+    (instance_at m n e.bank p u c.in_ok-atom-in-Atom.atom e.within e.tree a c.args.behind raw h.above.done.stands at' qv.arity w') in
+    (r.0, (r.1.0 ∙ ap (λ z. z.counts.steps + r.0.steps) e.bank.same, r.1.1), λ css pr sw. r.2 css (only_program m n e.bank qv.arity css pr) (only_written m n e.bank h.above.done.stands qv.arity sw))
 
 pub returns-in_ok-turn-in-Cut-clause-leads : goal.returns-in_ok-turn-in-Cut-clause-leads
 returns-in_ok-turn-in-Cut-clause-leads g c = λ qv a raw s h at af w.
@@ -170,7 +178,8 @@ returns-in_ok-turn-in-Cut-clause-denies g c = λ qv a raw s h at df.
 
 pub returns-in_ok-turn-in-Not-clause-denies : goal.returns-in_ok-turn-in-Not-clause-denies
 returns-in_ok-turn-in-Not-clause-denies g c = λ qv a raw s h at df.
-    c.in_ok-turn-in-Not.ensures.denies qv a raw s h (subst (λ f. IsAtGoal c.args.machine.now a c.args.place f c.args.behind raw) c.in-Not.is at)
+    let r = c.in_ok-turn-in-Not.ensures.denies qv a raw s h (subst (λ f. IsAtGoal c.args.machine.now a c.args.place f c.args.behind raw) c.in-Not.is at) in
+    (r.0, r.1 c.args.constants.now, r.2)
 
 pub returns-in_ok-turn-in_default-clause-denies : goal.returns-in_ok-turn-in_default-clause-denies
 returns-in_ok-turn-in_default-clause-denies g c = λ qv a raw s h at df.

@@ -1,6 +1,7 @@
-use Rattle.std.proofs.Common.{sym}
+use Rattle.std.proofs.Common.{◌∙◌, refl, sym}
 use Rattle.lp_plain.specs.declared.outcome.Turn.{Turn}
-use Rattle.lp_plain.specs.Moving.{MovesTo}
+use Rattle.lp_plain.specs.Moving.{MovesTo, quiet}
+use Rattle.lp_plain.proofs.Hearing.{plus_none}
 use Rattle.lp_plain.proofs.AnswerMoves.{answer_moved}
 use Rattle.lp_plain.proofs.AtGoals.{at_frame, none_plain, term_plain}
 use Rattle.std.proofs.Common.{subst}
@@ -112,8 +113,12 @@ returns-in_ok-turn-in-Term-clause-moved g c = λ qv s h pf. absurd (term_plain q
 pub returns-in_default-clause-answered : goal.returns-in_default-clause-answered
 returns-in_default-clause-answered g c = λ qv s h e d.
     let m = c.args.machine.now in
-    let q = c.end_branch.ensures.answered d in
-    (q, subst (λ x. MovesTo qv x c.end_branch.new.machine s) (sym q) (subst (λ n. MovesTo qv Turn.Answered n s) (sym (c.end_branch.ensures.same d)) (answer_moved qv m s h e)))
+    let q = c.end_branch.ensures.answered d in (
+      q,
+      (c.end_branch.ensures.steps ∙ plus_none m.counts.steps, refl),
+      subst (λ x. MovesTo quiet qv x c.end_branch.new.machine s) (sym q)
+          (subst (λ n. MovesTo quiet qv Turn.Answered n s) (sym (c.end_branch.ensures.same d)) (answer_moved qv m s h e)),
+    )
 
 pub returns-in_ok-turn-in-Goals-clause-answered : goal.returns-in_ok-turn-in-Goals-clause-answered
 returns-in_ok-turn-in-Goals-clause-answered g c = λ qv s h e d. let y = c.in-Some.is in absurd (cc)
@@ -148,7 +153,7 @@ returns-in_ok-turn-in-Term-clause-leads g c = λ qv s h af w.
     c.in-Some.is c.in_ok-frame.ensures c.in-Term.term c.in-Term.is)
 
 pub returns-in_default-clause-stands : goal.returns-in_default-clause-stands
-returns-in_default-clause-stands g c = λ k h.
+returns-in_default-clause-stands g c = λ k x h.
     let m = c.args.machine.now in
     let n = c.end_branch.new.machine in
     let qv = h.0 in
@@ -158,15 +163,22 @@ returns-in_default-clause-stands g c = λ k h.
     elim (number_of m.denied) [
       | no_number d ↦
           (let a = returns-in_default-clause-answered g c qv s st c.in_default.is d in
-          let alone = none_waits qv.arity m st.around m.denied qv.outer d st.running.above.inside.outer in
-          moved_stands k qv n h.2 c.end_branch.result (λ y. subst (HasClauses k.program k.query.arity) (sym (e.same d)) h.5) s (alone_turn qv.outer c.end_branch.result alone) a.1 h.4)
-      | a_number i d ↦
-          held_stands k qv n s h.2 h.4 c.end_branch.result (e.held qv s st c.in_default.is i d)
-          (λ y. clauses_on k.program k.query.arity m n e.program (e.written k.query.arity st.running.above.done.stands h.5.written) h.5)
+          let alone = none_waits qv.arity m st.around m.denied qv.outer d st.running.above.inside.outer in (
+            quiet,
+            a.1,
+            moved_stands k qv n h.2 c.end_branch.result quiet (λ y. subst (HasClauses k.program k.query.arity) (sym (e.same d)) h.5) s x
+                (alone_turn qv.outer c.end_branch.result alone) a.2 h.4,
+          ))
+      | a_number i d ↦ (
+        quiet,
+        (e.steps ∙ plus_none m.counts.steps, refl),
+        held_stands k qv n s h.2 x h.4 c.end_branch.result (e.held qv s st c.in_default.is i d)
+            (λ y. clauses_on k.program k.query.arity m n e.program (e.written k.query.arity st.running.above.done.stands h.5.written) h.5),
+      )
     ]
 
 pub returns-in_ok-turn-in-Goals-clause-stands : goal.returns-in_ok-turn-in-Goals-clause-stands
-returns-in_ok-turn-in-Goals-clause-stands g c = λ k h.
+returns-in_ok-turn-in-Goals-clause-stands g c = λ k x h.
     let m = c.args.machine.now in
     let n = c.take_first.new.machine in
     let qv = h.0 in
@@ -179,20 +191,28 @@ returns-in_ok-turn-in-Goals-clause-stands g c = λ k h.
     let w = subst (IsWrittenSearch m) (sym h.2.0) cl.written in
     elim (first_kind st.raw.goals (goals_some m st.around c.in_ok-frame.frame.place c.in-Goals.goals c.in_ok-frame.frame.behind st.raw at)) [
       | a_plain pf ↦
-          moved_stands k qv n h.2 turn
-          (λ y. clauses_on k.program k.query.arity m n e.program
-          (behind_written turn n k.query.arity y (e.stays st.around st.raw at pf k.query.arity st.running.above.done.stands
-          (frame_written qv m s st c.in-Some.number c.in_ok-frame.frame c.in-Some.is c.in_ok-frame.ensures c.in-Goals.goals c.in-Goals.is k.query.arity cl.written) cl.written)) cl)
-          s (inner_turn qv.outer turn e.ends) (returns-in_ok-turn-in-Goals-clause-moved g c qv s st pf) h.4
-      | an_atom af ↦ led_stands k qv m n h.2 e.program cl turn s (inner_turn qv.outer turn e.ends) (returns-in_ok-turn-in-Goals-clause-leads g c qv s st af w) h.4
+          let p = returns-in_ok-turn-in-Goals-clause-moved g c qv s st pf in (
+            p.0,
+            p.1,
+            moved_stands k qv n h.2 turn p.0
+                (λ y. clauses_on k.program k.query.arity m n e.program
+                (behind_written turn n k.query.arity y (e.stays st.around st.raw at pf k.query.arity st.running.above.done.stands
+                (frame_written qv m s st c.in-Some.number c.in_ok-frame.frame c.in-Some.is c.in_ok-frame.ensures c.in-Goals.goals c.in-Goals.is k.query.arity cl.written) cl.written)) cl)
+                s x (inner_turn qv.outer turn e.ends) p.2 h.4,
+          )
+      | an_atom af ↦ (let p = returns-in_ok-turn-in-Goals-clause-leads g c qv s st af w in (p.0, p.1, led_stands k qv m n h.2 e.program cl turn p.0 s x (inner_turn qv.outer turn e.ends) p.2 h.4))
       | a_not nf ↦
-          denied_stands k qv n s h.2 h.4 m st turn (e.denies qv st.around st.raw s st.running at nf) e.ends
-          (λ y. clauses_on k.program k.query.arity m n e.program (e.denied_stays st.around st.raw at nf k.query.arity st.running.above.done.stands
-          (frame_written qv m s st c.in-Some.number c.in_ok-frame.frame c.in-Some.is c.in_ok-frame.ensures c.in-Goals.goals c.in-Goals.is k.query.arity cl.written) cl.written y) cl)
+          let p = e.denies qv st.around st.raw s st.running at nf in (
+            p.0,
+            p.1,
+            denied_stands k qv n s h.2 x h.4 m st turn p.0 p.2 e.ends
+                (λ y. clauses_on k.program k.query.arity m n e.program (e.denied_stays st.around st.raw at nf k.query.arity st.running.above.done.stands
+                (frame_written qv m s st c.in-Some.number c.in_ok-frame.frame c.in-Some.is c.in_ok-frame.ensures c.in-Goals.goals c.in-Goals.is k.query.arity cl.written) cl.written y) cl),
+          )
     ]
 
 pub returns-in_ok-turn-in-Term-clause-stands : goal.returns-in_ok-turn-in-Term-clause-stands
-returns-in_ok-turn-in-Term-clause-stands g c = λ k h.
+returns-in_ok-turn-in-Term-clause-stands g c = λ k x h.
     let m = c.args.machine.now in
     let n = c.take_term.new.machine in
     let qv = h.0 in
@@ -200,8 +220,8 @@ returns-in_ok-turn-in-Term-clause-stands g c = λ k h.
     let st = h.3 in
     let turn = c.in_ok-turn-in-Term.turn in
     let at = term_at qv m s st c.in-Some.number c.in_ok-frame.frame c.in-Some.is c.in_ok-frame.ensures c.in-Term.term c.in-Term.is in
-    led_stands k qv m n h.2 c.in_ok-turn-in-Term.ensures.program h.5 turn s (inner_turn qv.outer turn c.in_ok-turn-in-Term.ensures.ends)
-    (returns-in_ok-turn-in-Term-clause-leads g c qv s st (subst IsAtomFirst (sym at.goals) tt) (subst (IsWrittenSearch m) (sym h.2.0) h.5.written)) h.4
+    let p = returns-in_ok-turn-in-Term-clause-leads g c qv s st (subst IsAtomFirst (sym at.goals) tt) (subst (IsWrittenSearch m) (sym h.2.0) h.5.written) in
+    (p.0, p.1, led_stands k qv m n h.2 c.in_ok-turn-in-Term.ensures.program h.5 turn p.0 s x (inner_turn qv.outer turn c.in_ok-turn-in-Term.ensures.ends) p.2 h.4)
 
 pub returns-in_default-clause-denies : goal.returns-in_default-clause-denies
 returns-in_default-clause-denies g c = λ qv s h df. absurd (none_denied_first qv c.args.machine.now s h c.in_default.is df)
@@ -216,7 +236,7 @@ returns-in_ok-turn-in-Term-clause-denies g c = λ qv s h df. absurd (term_denied
     c.in-Some.is c.in_ok-frame.ensures c.in-Term.term c.in-Term.is df)
 
 pub returns-in_default-clause-held : goal.returns-in_default-clause-held
-returns-in_default-clause-held g c = λ qv s h none number inside. c.end_branch.ensures.held qv s h none number inside
+returns-in_default-clause-held g c = λ qv s h none number inside. ((c.end_branch.ensures.steps ∙ plus_none c.args.machine.now.counts.steps, refl), c.end_branch.ensures.held qv s h none number inside)
 
 pub returns-in_ok-turn-in-Goals-clause-held : goal.returns-in_ok-turn-in-Goals-clause-held
 returns-in_ok-turn-in-Goals-clause-held g c = λ qv s h none number inside. let y = c.in-Some.is in absurd (cc)

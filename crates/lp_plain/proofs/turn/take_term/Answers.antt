@@ -1,7 +1,11 @@
+use Rattle.std.proofs.Common.{◌+◌, ◌∙◌, ap, refl}
+use Rattle.lp_plain.specs.Calling.{LeadsOf, TellsOn}
+use Rattle.lp_plain.specs.Hearing.{HeardBy}
+use Rattle.lp_plain.specs.Moving.{quiet}
+use Rattle.lp_plain.proofs.Hearing.{apart_steps, plus_none}
 use Rattle.std.proofs.Common.{subst}
 use Rattle.lp_model.specs.declared.ending.Ending.TheVariants.{Deep}
 use Rattle.lp_plain.specs.declared.outcome.Turn.{Turn}
-use Rattle.lp_plain.specs.Calling.{LeadsOver}
 use Rattle.lp_plain.specs.HeadLooks.{LooksAt}
 use Rattle.lp_plain.specs.Trying.{all_clauses}
 use Rattle.lp_plain.proofs.CallArm.{over_one}
@@ -13,28 +17,34 @@ use Rattle.lp_plain.proofs.WrittenTurns.{bound_stands, only_bound}
 use Rattle.lp_plain.proofs.turn.take_term.Goals as goal
 
 pub returns-in_default-clause-leads : goal.returns-in_default-clause-leads
-returns-in_default-clause-leads g c = λ qv a raw s h at css pr sw.
+returns-in_default-clause-leads g c = λ qv a raw s h at.
     let m = c.args.machine.now in
-    let n = c.head_normal.new.machine in
-    over_one qv (Turn.Ended Deep) n s (deep_look qv m n a raw s h c.args.place c.args.term c.args.behind at
-    (subst (LooksAt m n c.args.term) c.in_default.is c.in_ok-goal.ensures.looks)) tt (all_clauses css)
+    let n = c.head_normal.new.machine in (
+      quiet,
+      (ap (λ z. z.counts.steps) c.in_ok-goal.ensures.bank.same ∙ plus_none m.counts.steps, refl),
+      λ css pr sw. over_one quiet qv (Turn.Ended Deep) n s (deep_look qv m n a raw s h c.args.place c.args.term c.args.behind at
+          (subst (LooksAt m n c.args.term) c.in_default.is c.in_ok-goal.ensures.looks) quiet) tt (all_clauses css),
+    )
 
 pub returns-then-is_apart-clause-leads : goal.returns-then-is_apart-clause-leads
-returns-then-is_apart-clause-leads g c = λ qv a raw s h at css pr sw.
+returns-then-is_apart-clause-leads g c = λ qv a raw s h at.
     let m = c.args.machine.now in
     let n = c.head_normal.new.machine in
     let only = c.in_ok-goal.ensures.bank in
     let e = c.in_ok-turn.ensures in
     let k = c.connective_of-connective.ensures in
     let af = c.is_apart.ensures.apart c.if-is_apart.true in
-    let st = h.above.done.stands in
-    connective_turn qv m n only a raw s h c.args.place c.args.term c.in-Some.goal c.args.behind at
-    (subst (LooksAt m n c.args.term) c.in-Some.is c.in_ok-goal.ensures.looks) c.put_connective.new.machine
-    c.connective_of-connective.result k.tree k.within af c.in_ok-turn.turn e.counted (λ q. e.taken q af) (λ q. e.none q af) (λ q. e.aside_with q af)
-    (λ q i. e.written q af qv.arity (bound_stands m n (only_bound m n only) st) i (only_written m n only st qv.arity sw)) (all_clauses css)
+    let st = h.above.done.stands in (
+      quiet,
+      (apart_steps c.in_ok-turn.turn n.counts c.put_connective.new.machine.counts e.counted ∙ ap (λ z. z.counts.steps) only.same ∙ plus_none m.counts.steps, refl),
+      λ css pr sw. connective_turn qv m n only a raw s h c.args.place c.args.term c.in-Some.goal c.args.behind at
+          (subst (LooksAt m n c.args.term) c.in-Some.is c.in_ok-goal.ensures.looks) c.put_connective.new.machine
+          c.connective_of-connective.result k.tree k.within af c.in_ok-turn.turn e.counted (λ q. e.taken q af) (λ q. e.none q af) (λ q. e.aside_with q af)
+          (λ q i. e.written q af qv.arity (bound_stands m n (only_bound m n only) st) i (only_written m n only st qv.arity sw)) (all_clauses css),
+    )
 
 pub returns-clause-leads : goal.returns-clause-leads
-returns-clause-leads g c = λ qv a raw s h at css pr sw.
+returns-clause-leads g c = λ qv a raw s h at.
     let m = c.args.machine.now in
     let n = c.head_normal.new.machine in
     let only = c.in_ok-goal.ensures.bank in
@@ -42,8 +52,9 @@ returns-clause-leads g c = λ qv a raw s h at css pr sw.
     let f = c.in_ok-form.ensures in
     let i = f.form k.tree (c.is_apart.ensures.alone c.if-is_apart.false n.bank) in
     atom_turn qv m n only a raw s h c.args.place c.args.term c.in-Some.goal c.args.behind at (subst (LooksAt m n c.args.term) c.in-Some.is c.in_ok-goal.ensures.looks)
-    (LeadsOver 2 qv c.in_ok-turn-2.turn c.take_atom.new.machine s (all_clauses css))
-    (λ h' at'. c.in_ok-turn-2.ensures.leads qv a raw s h' at' i f.stands f.within css (only_program m n only qv.arity css pr) (only_written m n only h.above.done.stands qv.arity sw))
+    (TellsOn (HeardBy c.args.constants.now m c.take_atom.new.machine _ _) (λ x. LeadsOf x m c.take_atom.new.machine qv c.in_ok-turn-2.turn s))
+    (λ h' at'. (let r = c.in_ok-turn-2.ensures.leads qv a raw s h' at' i f.stands f.within in
+    (r.0, (r.1.0 ∙ ap (λ z. z.counts.steps + r.0.steps) only.same, r.1.1), λ css pr sw. r.2 css (only_program m n only qv.arity css pr) (only_written m n only h.above.done.stands qv.arity sw))))
 
 pub returns-in_default-clause-program : goal.returns-in_default-clause-program
 returns-in_default-clause-program g c = only_keeps c.args.machine.now c.head_normal.new.machine c.in_ok-goal.ensures.bank

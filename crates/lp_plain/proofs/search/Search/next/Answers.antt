@@ -1,5 +1,5 @@
-use Rattle.std.proofs.Common.{Some, None, ◌≡◌, ◌∙◌, sym, refl, true, false}
-use Rattle.lp_plain.specs.Held.{ended, steps_of}
+use Rattle.std.proofs.Common.{refl, true, false}
+use Rattle.lp_plain.specs.Held.{constants_of, ended, steps_of}
 use Rattle.lp_plain.proofs.Between.{failed_between, is_over_still, over_told}
 use Rattle.lp_plain.proofs.search.Search.next.Goals as goal
 
@@ -17,8 +17,16 @@ returns-clause-search g c = λ P n s h en x t d.
 
 pub returns-in-Some-clause-steps : goal.returns-in-Some-clause-steps
 unfolding ended
-returns-in-Some-clause-steps g c = λ none P n s h en x t d. absurd (let z : Some c.in-Some.ending ≡ None = sym c.in-Some.is ∙ none in cc)
+returns-in-Some-clause-steps g c = λ none P n s h en x t d. let y = c.in-Some.is in absurd (cc)
 
 pub returns-clause-steps : goal.returns-clause-steps
-unfolding ended steps_of
-returns-clause-steps g c = λ none P n s h en x t d. c.in_ok-event.ensures.steps c.in_default.is P n s (failed_between P n c.args.self.now true s h) en x t d
+unfolding ended constants_of steps_of
+returns-clause-steps g c = λ none P n s h en x t d. (c.in_ok-event.ensures.search c.in_default.is P n s (failed_between P n c.args.self.now true s h) en x t d).2.0
+
+pub returns-in-Some-clause-notes : goal.returns-in-Some-clause-notes
+unfolding ended
+returns-in-Some-clause-notes g c = λ none P n s h en x t d. let y = c.in-Some.is in absurd (cc)
+
+pub returns-clause-notes : goal.returns-clause-notes
+unfolding ended constants_of steps_of
+returns-clause-notes g c = λ none P n s h en x t d. (c.in_ok-event.ensures.search c.in_default.is P n s (failed_between P n c.args.self.now true s h) en x t d).2.1

@@ -1,3 +1,4 @@
+use Rattle.lp_plain.proofs.Within.{longer_list}
 use Rattle.std.proofs.Common.{◌≡◌, [], ◌∷◌, ◌++◌, length, refl, sym, ap, ◌∙◌, arith, append_assoc}
 use Rattle.std.specs.Vec.{vec_len}
 use Rattle.lp_normal.specs.Within.{clause_term_bound}
@@ -27,7 +28,8 @@ returns-clause-put c =
     let from : c.len-from.result ≡ length c.args.self.now.rules.items = omega (arith, c.len-from.ensures, c.args.self.now.rules.ok) in
     let e : c.len-to.result ≡ vec_len c.clauses.self.rules = c.len-to.ensures in
     let to : c.len-to.result ≡ length c.clauses.self.rules.items = omega (arith, e, c.clauses.self.rules.ok) in
-    clauses_done c.args.bank.now c.args.self.now c.clauses.self c.args.waiting.now.items c.clauses.waiting.items c.args.clauses.now i.1.0 c.clauses.rest.now _ _ c.len-from.result c.len-to.result i.1.2 i.1.1
+    clauses_done c.args.bank.now c.args.self.now c.clauses.self c.args.waiting.now.items c.clauses.waiting.items c.args.clauses.now i.1.0
+    c.clauses.rest.now _ _ c.len-from.result c.len-to.result i.1.2 i.1.1
     (nil_from_length c.clauses.rest.now c.in_default.ensures.cases) from to
 
 pub returns-clause-within : goal.returns-clause-within
@@ -39,3 +41,11 @@ pub returns-clause-ends : goal.returns-clause-ends
 returns-clause-ends c =
     let e : c.len-to.result ≡ vec_len c.clauses.self.rules = c.len-to.ensures in
     omega (arith, e, c.clauses.self.rules.ok)
+
+pub returns-clause-from : goal.returns-clause-from
+returns-clause-from c =
+    let from : c.len-from.result ≡ length c.args.self.now.rules.items = omega (arith, c.len-from.ensures, c.args.self.now.rules.ok) in
+    let e : c.len-to.result ≡ vec_len c.clauses.self.rules = c.len-to.ensures in
+    let to : c.len-to.result ≡ length c.clauses.self.rules.items = omega (arith, e, c.clauses.self.rules.ok) in
+    let l = longer_list c.args.self.now.rules.items c.clauses.self.rules.items c.clauses.invariant.1.2.rules in
+    (from, omega (arith, from, to, l))
