@@ -5,10 +5,11 @@ use Rattle.std.specs.Prelude.{Contains, IfErr, IfOk, IfSome, String, string_byte
 use Rattle.std.specs.List.{All}
 use Rattle.std.proofs.lemmas.List.Elements.{All-cons, All-head, All-nil, All-push, All-tail, Contains-append_left, Contains-append_right, Contains-get_or}
 use Rattle.lp_base.specs.Held.{Held}
+use Rattle.lp_base.specs.declared.limit.Limit.TheVariants as limit
 use Rattle.lp_base.specs.declared.place.Spot.{Spot}
 use Rattle.lp_sig.specs.Pieces.{spelled}
 use Rattle.lp_sig.specs.Refusals.{IsAt}
-use Rattle.lp_build.specs.Loads.{BeginsWith, IsOfText, ending, names_of}
+use Rattle.lp_build.specs.Loads.{BeginsWith, HasLongName, IsOfLoading, IsOfReading, IsOfText, IsOfWord, ending, names_of}
 use Rattle.lp_build.specs.Told.{IsFaultAt, IsFaultOf, IsTold}
 use Rattle.lp_build.specs.Wanted.{AreWanted, IsWanted, a_module, a_signature, of_root}
 use Rattle.lp_build.specs.declared.fault.BuildFault.{BuildFault}
@@ -37,6 +38,52 @@ fault_of_text told name text n (fault.Limit l) there i f = absurd i
 pub text_faults : (told : Option Held) (name text : List ℕ) (n : ℕ) (r : Result Text BuildFault) → IsTold told name text → IfErr r (IsOfText n) → IfErr r (IsFaultOf text) → IfErr r (IsFaultAt told name)
 text_faults told name text n (Ok x) there i f = tt
 text_faults told name text n (Err e) there i f = fault_of_text told name text n e there i f
+
+-- the file at fault is the next one
+pub reading_so : (n : ℕ) (files : List File) (e : BuildFault) → n ≡ length files → IsOfReading n e → IsOfLoading files e
+reading_so n files (fault.Read k) is h = sym is ∙ h
+reading_so n files (fault.Missing k) is h = sym is ∙ h
+reading_so n files (fault.Lex k e) is h = (sym is ∙ h.0, h.1)
+reading_so n files (fault.Syntax e) is h = absurd h
+reading_so n files (fault.Sig e) is h = absurd h
+reading_so n files (fault.Module e) is h = absurd h
+reading_so n files (fault.Limit limit.File) is h = tt
+reading_so n files (fault.Limit limit.Image) is h = absurd h
+reading_so n files (fault.Limit limit.Modules) is h = absurd h
+reading_so n files (fault.Limit limit.Copies) is h = absurd h
+reading_so n files (fault.Limit limit.Names) is h = absurd h
+reading_so n files (fault.Limit limit.NameLength) is h = absurd h
+reading_so n files (fault.Limit limit.Arguments) is h = absurd h
+reading_so n files (fault.Limit limit.Nesting) is h = absurd h
+reading_so n files (fault.Limit limit.NormalForm) is h = absurd h
+reading_so n files (fault.Limit limit.Clauses) is h = absurd h
+reading_so n files (fault.Limit limit.Registers) is h = absurd h
+reading_so n files (fault.Limit limit.Text) is h = absurd h
+reading_so n files fault.Memory is h = tt
+
+-- a word of a file is too long for a name
+pub words_so : {T : Type 0} (files : List File) (f : File) (w : Spot) (r : Result T BuildFault) → Contains files f → Contains (f.text.references.accum_sig.items ++ f.text.references.accumulate.items) w →
+    IfErr r (IsOfWord f.text.bytes.items w) → IfErr r (IsOfLoading files)
+words_so files f w (Ok x) there names h = tt
+words_so files f w (Err (fault.Limit limit.NameLength)) there names h = record { file = f; word = w; there = there; names = names; long = h }
+words_so files f w (Err fault.Memory) there names h = tt
+words_so files f w (Err (fault.Read k)) there names h = absurd h
+words_so files f w (Err (fault.Missing k)) there names h = absurd h
+words_so files f w (Err (fault.Lex k e)) there names h = absurd h
+words_so files f w (Err (fault.Syntax e)) there names h = absurd h
+words_so files f w (Err (fault.Sig e)) there names h = absurd h
+words_so files f w (Err (fault.Module e)) there names h = absurd h
+words_so files f w (Err (fault.Limit limit.File)) there names h = absurd h
+words_so files f w (Err (fault.Limit limit.Image)) there names h = absurd h
+words_so files f w (Err (fault.Limit limit.Modules)) there names h = absurd h
+words_so files f w (Err (fault.Limit limit.Copies)) there names h = absurd h
+words_so files f w (Err (fault.Limit limit.Names)) there names h = absurd h
+words_so files f w (Err (fault.Limit limit.Arguments)) there names h = absurd h
+words_so files f w (Err (fault.Limit limit.Nesting)) there names h = absurd h
+words_so files f w (Err (fault.Limit limit.NormalForm)) there names h = absurd h
+words_so files f w (Err (fault.Limit limit.Clauses)) there names h = absurd h
+words_so files f w (Err (fault.Limit limit.Registers)) there names h = absurd h
+words_so files f w (Err (fault.Limit limit.Text)) there names h = absurd h
 
 -- more files
 

@@ -1,12 +1,14 @@
 -- What the loading of files comes to.
-use Rattle.std.specs.Prelude.{◌≡◌, ℕ, ◌≤◌, List, [], ◌∷◌, ◌++◌, map, codes, Option, Some, None, Result, Ok, Err, string_bytes}
-use Rattle.lp_base.specs.declared.limits.TheConstants.{MAX_MODULES}
+use Rattle.std.specs.Prelude.{◌≡◌, ℕ, ◌≤◌, ◌<◌, List, [], ◌∷◌, ◌++◌, length, map, codes, Contains, Option, Some, None, Result, Ok, Err, string_bytes}
+use Rattle.lp_base.specs.declared.limits.TheConstants.{MAX_MODULES, MAX_NAME_BYTES}
 use Rattle.lp_base.specs.Counts.{Counts}
 use Rattle.lp_base.specs.Held.{Held}
 use Rattle.lp_base.specs.declared.limit.Limit.{Limit}
 use Rattle.lp_base.specs.declared.limit.Limit.TheVariants as limit
+use Rattle.lp_base.specs.declared.place.Spot.{Spot}
 use Rattle.lp_lexer.specs.declared.token.LexFault.{LexFault}
 use Rattle.lp_lexer.specs.declared.token.LexFault.TheVariants as lex
+use Rattle.lp_sig.specs.Pieces.{spelled}
 use Rattle.lp_build.specs.declared.fault.BuildFault.{BuildFault}
 use Rattle.lp_build.specs.declared.fault.BuildFault.TheVariants as fault
 use Rattle.lp_build.specs.declared.sources.File.{File}
@@ -63,28 +65,51 @@ IsOfText n (fault.Lex k e) = (n ≡ k) × IsOfTokens e
 IsOfText n fault.Memory = Unit {0}
 IsOfText n _ = ⊥
 
+-- why a file was not taken in
+abbrev pub IsOfReading : ℕ → BuildFault → Type 0
+IsOfReading n (fault.Read k) = n ≡ k
+IsOfReading n (fault.Missing k) = n ≡ k
+IsOfReading n (fault.Lex k e) = (n ≡ k) × IsOfTokens e
+IsOfReading n (fault.Limit limit.File) = Unit {0}
+IsOfReading n fault.Memory = Unit {0}
+IsOfReading n _ = ⊥
+
 -- why a word names no file
-abbrev pub IsOfWord : BuildFault → Type 0
-IsOfWord (fault.Limit limit.NameLength) = Unit {0}
-IsOfWord fault.Memory = Unit {0}
-IsOfWord _ = ⊥
+abbrev pub IsOfName : BuildFault → Type 0
+IsOfName (fault.Limit limit.NameLength) = Unit {0}
+IsOfName fault.Memory = Unit {0}
+IsOfName _ = ⊥
 
-abbrev pub IsLimitOfLoading : Limit → ℕ → Type 0
-IsLimitOfLoading limit.File n = Unit {0}
-IsLimitOfLoading limit.Modules n = MAX_MODULES ≤ n
-IsLimitOfLoading limit.NameLength n = Unit {0}
-IsLimitOfLoading _ n = ⊥
+-- a word of a text is longer than a name, where that is the fault
+abbrev pub IsOfWord : (text : List ℕ) → Spot → BuildFault → Type 0
+IsOfWord text w (fault.Limit limit.NameLength) = MAX_NAME_BYTES < length (spelled text w)
+IsOfWord text w fault.Memory = Unit {0}
+IsOfWord text w _ = ⊥
 
--- why no more than so many files are loaded: the file at fault is the next one
-abbrev pub IsOfLoading : ℕ → BuildFault → Type 0
-IsOfLoading n (fault.Read k) = n ≡ k
-IsOfLoading n (fault.Missing k) = n ≡ k
-IsOfLoading n (fault.Lex k e) = (n ≡ k) × IsOfTokens e
-IsOfLoading n (fault.Syntax e) = ⊥
-IsOfLoading n (fault.Sig e) = ⊥
-IsOfLoading n (fault.Module e) = ⊥
-IsOfLoading n (fault.Limit l) = IsLimitOfLoading l n
-IsOfLoading n fault.Memory = Unit {0}
+-- a word by which one of these files names another is longer than a name
+pub record HasLongName (files : List File) : Type 0 where
+  pub file : File
+  pub word : Spot
+  pub there : Contains files file
+  pub names : Contains (file.text.references.accum_sig.items ++ file.text.references.accumulate.items) word
+  pub long : MAX_NAME_BYTES < length (spelled file.text.bytes.items word)
+
+abbrev pub IsLimitOfLoading : Limit → List File → Type 0
+IsLimitOfLoading limit.File files = Unit {0}
+IsLimitOfLoading limit.Modules files = MAX_MODULES ≤ length files
+IsLimitOfLoading limit.NameLength files = HasLongName files
+IsLimitOfLoading _ files = ⊥
+
+-- why no more than these files are loaded: the file at fault is the next one
+abbrev pub IsOfLoading : List File → BuildFault → Type 0
+IsOfLoading files (fault.Read k) = length files ≡ k
+IsOfLoading files (fault.Missing k) = length files ≡ k
+IsOfLoading files (fault.Lex k e) = (length files ≡ k) × IsOfTokens e
+IsOfLoading files (fault.Syntax e) = ⊥
+IsOfLoading files (fault.Sig e) = ⊥
+IsOfLoading files (fault.Module e) = ⊥
+IsOfLoading files (fault.Limit l) = IsLimitOfLoading l files
+IsOfLoading files fault.Memory = Unit {0}
 
 -- the ending of a file's name
 abbrev pub ending : Part → List ℕ

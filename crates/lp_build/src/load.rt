@@ -26,7 +26,7 @@ pub fn gather<F: Folder>(
     ensures wanted { IfOk result (AreWanted root.now) }
     ensures wanted_so_far { IfErr result (λ r. AreWanted root.now r.0) }
     ensures begins_so_far { IfErr result (λ r. BeginsWith (root.now ++ codes ".sig") (names_of r.0.files.items) ⊎ IfSome r.0.refused (λ file. string_bytes file ≡ root.now ++ codes ".sig")) }
-    ensures refused { IfErr result (λ r. IsOfLoading (length r.0.files.items) r.1) }
+    ensures refused { IfErr result (λ r. IsOfLoading r.0.files.items r.1) }
     ensures outside { Outside F.read_faults F.misses F.overs F.write_faults F.held folder.old folder.new (fault_beside result) }
     ensures files { IfOk result (AreLoaded (F.held folder.old)) }
     ensures fault { IfErr result (λ r. IsFaultIn (F.held folder.old) r.0 r.1) }
@@ -50,7 +50,7 @@ pub fn gather_with<F: Folder>(
     ensures wanted { IfOk result (AreWanted root.now) }
     ensures wanted_so_far { IfErr result (λ r. AreWanted root.now r.0) }
     ensures begins_so_far { IfErr result (λ r. BeginsWith (root.now ++ codes ".sig") (names_of r.0.files.items) ⊎ IfSome r.0.refused (λ file. string_bytes file ≡ root.now ++ codes ".sig")) }
-    ensures refused { IfErr result (λ r. IsOfLoading (length r.0.files.items) r.1) }
+    ensures refused { IfErr result (λ r. IsOfLoading r.0.files.items r.1) }
     ensures outside { Outside F.read_faults F.misses F.overs F.write_faults F.held folder.old folder.new (fault_beside result) }
     ensures files { AreKnown (F.held folder.old) known.items → IfOk result (AreLoaded (F.held folder.old)) }
     ensures fault { AreKnown (F.held folder.old) known.items → IfErr result (λ r. IsFaultIn (F.held folder.old) r.0 r.1) }

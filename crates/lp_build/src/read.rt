@@ -2,7 +2,7 @@
 ghost use Rattle.std.specs.Prelude.{◌≡◌, ◌++◌, ◌+◌, ◌∷◌, [], ◌<◌, codes, IfOk, OnOk, IfErr, length, string_bytes};
 ghost use Rattle.std.specs.Prelude.{IfSome, List, Option, None, true, ℕ};
 ghost use Rattle.lp_base.specs.Held.{Held};
-ghost use Rattle.lp_build.specs.Loads.{Outside, fault_of, IsOfText, IsOfRead, IsOfLoading, names_of, modules_among, of_module, ending};
+ghost use Rattle.lp_build.specs.Loads.{Outside, fault_of, IsOfText, IsOfRead, IsOfReading, IsOfLoading, names_of, modules_among, of_module, ending};
 ghost use Rattle.lp_build.specs.Reads.{AreRead, IsReadText};
 ghost use Rattle.lp_build.specs.Told.{IsTold, AreKnown, IsFaultOf, IsFaultAt, HoldsTold};
 ghost use Rattle.lp_build.specs.Wanted.{IsWanted};
@@ -87,7 +87,7 @@ fn read_text<F: Folder>(
     number: u32,
 ) -> Result<Text, BuildFault>
     ensures outside { Outside F.read_faults F.misses F.overs F.write_faults F.held folder.old folder.new (fault_of result) }
-    ensures refused { IfErr result (IsOfLoading number) }
+    ensures refused { IfErr result (IsOfReading number) }
     ensures known { (told : Option Held) → AreKnown told known.old.items → AreKnown told known.new.items }
     ensures read { IfOk result (IsReadText number) }
     ensures told { AreKnown (F.held folder.old) known.old.items → IfOk result (λ text. IsTold (F.held folder.old) name.now text.bytes.items) }
@@ -122,7 +122,7 @@ pub(crate) fn load_file<F: Folder>(
     part: Part,
 ) -> Result<usize, BuildFault>
     ensures outside { Outside F.read_faults F.misses F.overs F.write_faults F.held folder.old folder.new (fault_of result) }
-    ensures refused { IfErr result (IsOfLoading (length sources.new.files.items)) }
+    ensures refused { IfErr result (IsOfLoading sources.new.files.items) }
     ensures read { AreRead sources.old → AreRead sources.new }
     ensures names { OnOk result (names_of sources.new.files.items ≡ names_of sources.old.files.items ++ (stem.now ++ ending part) ∷ []) }
     ensures modules { OnOk result (modules_among sources.new.files.items ≡ modules_among sources.old.files.items ++ of_module part stem.now) }

@@ -2,7 +2,7 @@
 ghost use Rattle.std.specs.Prelude.{◌≡◌, ◌⊎◌, ◌++◌, ◌∷◌, [], ◌<◌, ◌^◌, ℕ, List, codes, IfOk, OnOk, IfErr, length};
 ghost use Rattle.std.specs.Prelude.{IfSome, None, String, string_bytes};
 ghost use Rattle.std.specs.Global.{Global};
-ghost use Rattle.lp_build.specs.Loads.{Outside, fault_of, IsOfLoading, IsOfWord, names_of, modules_among, of_module, BeginsWith, Keeps, ending};
+ghost use Rattle.lp_build.specs.Loads.{Outside, fault_of, IsOfLoading, IsOfName, IsOfWord, names_of, modules_among, of_module, BeginsWith, Keeps, ending};
 ghost use Rattle.lp_build.specs.Reads.{AreRead};
 ghost use Rattle.lp_sig.specs.Pieces.{spelled};
 ghost use Rattle.lp_build.specs.Told.{HoldsTold};
@@ -72,7 +72,7 @@ impl Loading {
         part: Part,
     ) -> Result<usize, BuildFault>
         ensures outside { Outside F.read_faults F.misses F.overs F.write_faults F.held folder.old folder.new (fault_of result) }
-        ensures refused { IfErr result (IsOfLoading (length self.new.sources.files.items)) }
+        ensures refused { IfErr result (IsOfLoading self.new.sources.files.items) }
         ensures read { AreRead self.old.sources → AreRead self.new.sources }
         ensures told { HoldsTold (F.held folder.old) self.old.known.items self.old.sources None → HoldsTold (F.held folder.old) self.new.known.items self.new.sources (fault_of result) }
         ensures names { OnOk result (names_of self.new.sources.files.items ≡ names_of self.old.sources.files.items ++ (name.now ++ ending part) ∷ []) }
@@ -94,7 +94,7 @@ impl Loading {
     // Loads a signature. Those that it names come right behind it.
     fn load_signature<F: Folder>(&mut self, folder: &mut F, name: &str) -> Result<(), BuildFault>
         ensures outside { Outside F.read_faults F.misses F.overs F.write_faults F.held folder.old folder.new (fault_of result) }
-        ensures refused { IfErr result (IsOfLoading (length self.new.sources.files.items)) }
+        ensures refused { IfErr result (IsOfLoading self.new.sources.files.items) }
         ensures read { AreRead self.old.sources → AreRead self.new.sources }
         ensures told { HoldsTold (F.held folder.old) self.old.known.items self.old.sources None → HoldsTold (F.held folder.old) self.new.known.items self.new.sources (fault_of result) }
         ensures names { OnOk result (names_of self.new.sources.files.items ≡ names_of self.old.sources.files.items ++ (name.now ++ codes ".sig") ∷ []) }
@@ -111,7 +111,7 @@ impl Loading {
     // Loads a module's own file, whose signature is loaded. Then come the signatures that it names, and then what it accumulates.
     fn load_module<F: Folder>(&mut self, folder: &mut F, name: &str) -> Result<(), BuildFault>
         ensures outside { Outside F.read_faults F.misses F.overs F.write_faults F.held folder.old folder.new (fault_of result) }
-        ensures refused { IfErr result (IsOfLoading (length self.new.sources.files.items)) }
+        ensures refused { IfErr result (IsOfLoading self.new.sources.files.items) }
         ensures read { AreRead self.old.sources → AreRead self.new.sources }
         ensures told { HoldsTold (F.held folder.old) self.old.known.items self.old.sources None → HoldsTold (F.held folder.old) self.new.known.items self.new.sources (fault_of result) }
         ensures keeps { OnOk result (Keeps (names_of self.old.sources.files.items) (names_of self.new.sources.files.items)) }
@@ -159,7 +159,7 @@ impl Loading {
     // Loads a signature, unless it was asked for before.
     fn want_signature<F: Folder>(&mut self, folder: &mut F, name: &str) -> Result<(), BuildFault>
         ensures outside { Outside F.read_faults F.misses F.overs F.write_faults F.held folder.old folder.new (fault_of result) }
-        ensures refused { IfErr result (IsOfLoading (length self.new.sources.files.items)) }
+        ensures refused { IfErr result (IsOfLoading self.new.sources.files.items) }
         ensures read { AreRead self.old.sources → AreRead self.new.sources }
         ensures told { HoldsTold (F.held folder.old) self.old.known.items self.old.sources None → HoldsTold (F.held folder.old) self.new.known.items self.new.sources (fault_of result) }
         ensures keeps { OnOk result (Keeps (names_of self.old.sources.files.items) (names_of self.new.sources.files.items)) }
@@ -176,7 +176,7 @@ impl Loading {
     // Loads a module, unless it was asked for before.
     fn want_module<F: Folder>(&mut self, folder: &mut F, name: &str) -> Result<(), BuildFault>
         ensures outside { Outside F.read_faults F.misses F.overs F.write_faults F.held folder.old folder.new (fault_of result) }
-        ensures refused { IfErr result (IsOfLoading (length self.new.sources.files.items)) }
+        ensures refused { IfErr result (IsOfLoading self.new.sources.files.items) }
         ensures read { AreRead self.old.sources → AreRead self.new.sources }
         ensures told { HoldsTold (F.held folder.old) self.old.known.items self.old.sources None → HoldsTold (F.held folder.old) self.new.known.items self.new.sources (fault_of result) }
         ensures keeps { OnOk result (Keeps (names_of self.old.sources.files.items) (names_of self.new.sources.files.items)) }
@@ -198,7 +198,7 @@ impl Loading {
         at: usize,
     ) -> Result<(), BuildFault>
         ensures outside { Outside F.read_faults F.misses F.overs F.write_faults F.held folder.old folder.new (fault_of result) }
-        ensures refused { IfErr result (IsOfLoading (length self.new.sources.files.items)) }
+        ensures refused { IfErr result (IsOfLoading self.new.sources.files.items) }
         ensures read { AreRead self.old.sources → AreRead self.new.sources }
         ensures told { HoldsTold (F.held folder.old) self.old.known.items self.old.sources None → HoldsTold (F.held folder.old) self.new.known.items self.new.sources (fault_of result) }
         ensures keeps { OnOk result (Keeps (names_of self.old.sources.files.items) (names_of self.new.sources.files.items)) }
@@ -222,7 +222,7 @@ impl Loading {
         at: usize,
     ) -> Result<(), BuildFault>
         ensures outside { Outside F.read_faults F.misses F.overs F.write_faults F.held folder.old folder.new (fault_of result) }
-        ensures refused { IfErr result (IsOfLoading (length self.new.sources.files.items)) }
+        ensures refused { IfErr result (IsOfLoading self.new.sources.files.items) }
         ensures read { AreRead self.old.sources → AreRead self.new.sources }
         ensures told { HoldsTold (F.held folder.old) self.old.known.items self.old.sources None → HoldsTold (F.held folder.old) self.new.known.items self.new.sources (fault_of result) }
         ensures keeps { OnOk result (Keeps (names_of self.old.sources.files.items) (names_of self.new.sources.files.items)) }
@@ -243,7 +243,7 @@ impl Loading {
 
     fn step<F: Folder>(&mut self, folder: &mut F, work: Work) -> Result<(), BuildFault>
         ensures outside { Outside F.read_faults F.misses F.overs F.write_faults F.held folder.old folder.new (fault_of result) }
-        ensures refused { IfErr result (IsOfLoading (length self.new.sources.files.items)) }
+        ensures refused { IfErr result (IsOfLoading self.new.sources.files.items) }
         ensures read { AreRead self.old.sources → AreRead self.new.sources }
         ensures told { HoldsTold (F.held folder.old) self.old.known.items self.old.sources None → HoldsTold (F.held folder.old) self.new.known.items self.new.sources (fault_of result) }
         ensures keeps { OnOk result (Keeps (names_of self.old.sources.files.items) (names_of self.new.sources.files.items)) }
@@ -260,7 +260,7 @@ impl Loading {
     // Loads the signature of the root, which comes first.
     fn begin<F: Folder>(&mut self, folder: &mut F, root: &str) -> Result<(), BuildFault>
         ensures outside { Outside F.read_faults F.misses F.overs F.write_faults F.held folder.old folder.new (fault_of result) }
-        ensures refused { IfErr result (IsOfLoading (length self.new.sources.files.items)) }
+        ensures refused { IfErr result (IsOfLoading self.new.sources.files.items) }
         ensures read { AreRead self.old.sources → AreRead self.new.sources }
         ensures told { HoldsTold (F.held folder.old) self.old.known.items self.old.sources None → HoldsTold (F.held folder.old) self.new.known.items self.new.sources (fault_of result) }
         ensures names { OnOk result (names_of self.new.sources.files.items ≡ names_of self.old.sources.files.items ++ (root.now ++ codes ".sig") ∷ []) }
@@ -278,7 +278,7 @@ impl Loading {
     pub(crate) fn run<F: Folder>(&mut self, folder: &mut F, root: &str) -> Result<(), BuildFault>
         requires { self.old.sources.files.items ≡ [] }
         ensures outside { Outside F.read_faults F.misses F.overs F.write_faults F.held folder.old folder.new (fault_of result) }
-        ensures refused { IfErr result (IsOfLoading (length self.new.sources.files.items)) }
+        ensures refused { IfErr result (IsOfLoading self.new.sources.files.items) }
         ensures read { AreRead self.old.sources → AreRead self.new.sources }
         ensures told { HoldsTold (F.held folder.old) self.old.known.items self.old.sources None → HoldsTold (F.held folder.old) self.new.known.items self.new.sources (fault_of result) }
         ensures begins { OnOk result (BeginsWith (root.now ++ codes ".sig") (names_of self.new.sources.files.items)) }
@@ -298,7 +298,8 @@ impl Loading {
 
     // The word of a file's accum_sig sentences at a place.
     fn named(&self, file: usize, at: usize) -> Result<Option<String>, BuildFault>
-        ensures refused { IfErr result IsOfWord }
+        ensures refused { IfErr result (IsOfLoading self.now.sources.files.items) }
+        ensures kind { IfErr result IsOfName }
         ensures wanted { (root : List ℕ) → IfOk result (λ found. IfSome found (λ name. IsWanted root self.now.sources.files.items (string_bytes name ++ codes ".sig"))) }
     {
         let Some(found) = self.sources.files.get(file) else {
@@ -312,7 +313,8 @@ impl Loading {
 
     // The word of a file's accumulate sentences at a place.
     fn accumulated(&self, file: usize, at: usize) -> Result<Option<String>, BuildFault>
-        ensures refused { IfErr result IsOfWord }
+        ensures refused { IfErr result (IsOfLoading self.now.sources.files.items) }
+        ensures kind { IfErr result IsOfName }
         ensures wanted { (root : List ℕ) → IfOk result (λ found. IfSome found (λ name. (part : IsPart) → IsWanted root self.now.sources.files.items (string_bytes name ++ ending part))) }
     {
         let Some(found) = self.sources.files.get(file) else {
@@ -327,7 +329,8 @@ impl Loading {
 
 // A word as a name of a file.
 fn name_of(alloc: Global, source: &[u8], word: Spot) -> Result<Option<String>, BuildFault>
-    ensures refused { IfErr result IsOfWord }
+    ensures refused { IfErr result (IsOfWord source.now word) }
+    ensures kind { IfErr result IsOfName }
     ensures spelled { IfOk result (λ found. IfSome found (λ name. string_bytes name ≡ spelled source.now word)) }
 {
     let spelled = spelled_at(source, word);

@@ -15,7 +15,7 @@ use Rattle.lp_normal.specs.declared.fault.NormalRefusal.{NormalRefusal}
 use Rattle.lp_normal.specs.declared.fault.NormalRefusal.TheVariants as normal
 use Rattle.lp_build.specs.Loads.{BeginsWith, modules_among, names_of}
 use Rattle.lp_build.specs.Reads.{AreRead}
-use Rattle.lp_build.specs.Told.{AreLoaded}
+use Rattle.lp_build.specs.Told.{AreLoaded, IsFaultNamed}
 use Rattle.lp_build.specs.Wanted.{AreWanted}
 use Rattle.lp_build.specs.declared.build.Built.{Built}
 use Rattle.lp_build.specs.declared.fault.BuildFault.{BuildFault}
@@ -24,7 +24,7 @@ use Rattle.lp_build.specs.declared.sources.Sources.{Sources}
 use Rattle.lp_lines.specs.Refusals.{TellsLimit}
 use Rattle.lp_lines.specs.declared.refusal.Refusal.{Refusal}
 use Rattle.lp_lines.specs.declared.refusal.Refusal.TheVariants.{Memory}
-use Rattle.lp_load.specs.Unbuilt.{HasManyIn, IsRefusedTexts, IsUnbuilt, TellsOfFile, of_loaded}
+use Rattle.lp_load.specs.Unbuilt.{HasManyIn, IsRefusedTexts, IsUnbuilt, TellsFile, TellsOfFile, TellsOfNone, of_loaded}
 
 -- one of the clauses passes the limit in a bank that has grown: so it does in the first one
 pub over_later : (b c : Nodes) (ks : List ClauseFormula) (i : ℕ) (k : ClauseFormula) (e : NormalRefusal) → i < length ks → k ≡ get_or ks i k → Extends b c → AreWithin b ks → IsOver (HasManyClauses (formula_of c k)) e → IsOver (HasManyIn b ks) e
@@ -40,13 +40,14 @@ limit_of_clauses P l r (inl e) t = absurd (cc)
 limit_of_clauses P l r (inr (e, p)) t = let q : l ≡ limit.Clauses = cc in (p, subst (λ x. TellsLimit x r) q t)
 
 -- what is told of the file of a name
-pub named_so : (refused : Option (String Global)) (file : List ℕ) (e f : BuildFault) (r : Refusal) → IfSome refused (λ s. file ≡ string_bytes s) → f ≡ e → TellsOfFile file e r → IfSome refused (λ s. TellsOfFile (string_bytes s) f r)
-named_so None file e f r is same t = tt
-named_so (Some s) file e f r is same t = subst (λ g. TellsOfFile (string_bytes s) g r) (sym same) (subst (λ w. TellsOfFile w e r) is t)
+pub named_so : (told : Option Held) (refused : Option (String Global)) (file : List ℕ) (e f : BuildFault) (r : Refusal) → (IsFaultNamed told None e → ⊥) → IfSome refused (λ s. file ≡ string_bytes s) → f ≡ e →
+    IsFaultNamed told refused f → TellsOfFile file e r → TellsFile refused f r
+named_so told None file e f r no is same there t = absurd (no (subst (IsFaultNamed told None) same there))
+named_so told (Some s) file e f r no is same there t = subst (λ g. TellsOfFile (string_bytes s) g r) (sym same) (subst (λ w. TellsOfFile w e r) is t)
 
 -- what is told of a limit has no name
-pub limit_so : (refused : Option (String Global)) (l : Limit) (f : BuildFault) (r : Refusal) → f ≡ build.Limit l → TellsLimit l r → IfSome refused (λ s. TellsOfFile (string_bytes s) f r)
-limit_so None l f r same t = tt
+pub limit_so : (refused : Option (String Global)) (l : Limit) (f : BuildFault) (r : Refusal) → f ≡ build.Limit l → TellsLimit l r → TellsFile refused f r
+limit_so None l f r same t = subst (λ g. TellsOfNone g r) (sym same) t
 limit_so (Some s) l f r same t = subst (λ g. TellsOfFile (string_bytes s) g r) (sym same) t
 
 -- want of memory is told of any fault
@@ -60,9 +61,19 @@ wanting file (build.Sig e) = refl
 wanting file (build.Module e) = refl
 wanting file build.Memory = refl
 
-pub none_told : (refused : Option (String Global)) (f : BuildFault) → IfSome refused (λ s. TellsOfFile (string_bytes s) f Memory)
-none_told None f = tt
-none_told (Some s) f = wanting (string_bytes s) f
+wanting_none : (told : Option Held) (f : BuildFault) → IsFaultNamed told None f → TellsOfNone f Memory
+wanting_none told (build.Read n) h = h
+wanting_none told (build.Missing n) h = h
+wanting_none told (build.Lex n e) h = h
+wanting_none told (build.Limit l) h = tt
+wanting_none told (build.Syntax e) h = refl
+wanting_none told (build.Sig e) h = refl
+wanting_none told (build.Module e) h = refl
+wanting_none told build.Memory h = refl
+
+pub none_told : (told : Option Held) (refused : Option (String Global)) (f : BuildFault) → IsFaultNamed told refused f → TellsFile refused f Memory
+none_told told None f there = wanting_none told f there
+none_told told (Some s) f there = wanting (string_bytes s) f
 
 -- the files were loaded, and their texts have no program
 pub unbuilt_is : (told : Option Held) (root : List ℕ) (sources : Sources) (r : Result Built Refusal) → BeginsWith (root ++ codes ".sig") (names_of sources.files.items)

@@ -1,5 +1,6 @@
 -- Why texts have no program: a file is not loaded, or the first fault of the texts, or what one clause is flattened to passes the limit on clauses.
-use Rattle.std.specs.Prelude.{◌≡◌, ◌⊎◌, ◌++◌, ℕ, List, Option, Contains, IfSome, codes, length, string_bytes}
+use Rattle.std.specs.Global.{Global}
+use Rattle.std.specs.Prelude.{◌≡◌, ◌⊎◌, ◌++◌, ℕ, List, Option, None, Some, Contains, IfSome, String, codes, string_bytes}
 use Rattle.lp_base.specs.Held.{Held}
 use Rattle.lp_base.specs.declared.limit.Limit.TheVariants as limit
 use Rattle.lp_term.specs.Nodes.{Nodes}
@@ -41,6 +42,19 @@ TellsOfFile file (build.Lex n e) r = IsSourceLine (IsTokenLine file e) r
 TellsOfFile file (build.Limit l) r = TellsLimit l r
 TellsOfFile file _ r = r ≡ refusal.Memory
 
+-- what is said where no file is at fault: a limit, or want of memory
+abbrev pub TellsOfNone : BuildFault → Refusal → Type 0
+TellsOfNone (build.Read n) r = ⊥
+TellsOfNone (build.Missing n) r = ⊥
+TellsOfNone (build.Lex n e) r = ⊥
+TellsOfNone (build.Limit l) r = TellsLimit l r
+TellsOfNone _ r = r ≡ refusal.Memory
+
+-- what is said of the file at fault, where there is one
+abbrev pub TellsFile : Option (String Global) → BuildFault → Refusal → Type 0
+TellsFile (Some name) e r = TellsOfFile (string_bytes name) e r
+TellsFile None e r = TellsOfNone e r
+
 -- the root's signature is the first file, or the one at fault
 abbrev pub BeginsSoFar : (root : List ℕ) → Sources → Type 0
 BeginsSoFar root sources = BeginsWith (root ++ codes ".sig") (names_of sources.files.items) ⊎ IfSome sources.refused (λ name. string_bytes name ≡ root ++ codes ".sig")
@@ -57,7 +71,7 @@ pub data IsRefusedTexts (sources : Sources) (r : Refusal) : Type 0 where
 
 -- a module has no program: behind files that it needs, which were loaded, one that it needs is at fault; or all are loaded, and their texts have none
 pub data IsUnbuilt (told : Option Held) (root : List ℕ) (r : Refusal) : Type 0 where
-  of_files : (sources : Sources) (e : BuildFault) → AreLoaded told sources → AreRead sources → AreWanted root sources → BeginsSoFar root sources → IsOfLoading (length sources.files.items) e → IsFaultIn told sources e →
-      IfSome sources.refused (λ name. TellsOfFile (string_bytes name) e r) → IsUnbuilt told root r
+  of_files : (sources : Sources) (e : BuildFault) → AreLoaded told sources → AreRead sources → AreWanted root sources → BeginsSoFar root sources → IsOfLoading sources.files.items e → IsFaultIn told sources e →
+      TellsFile sources.refused e r → IsUnbuilt told root r
   of_loaded : (sources : Sources) → BeginsWith (root ++ codes ".sig") (names_of sources.files.items) → BeginsWith root (modules_among sources.files.items) →
       AreLoaded told sources → AreRead sources → AreWanted root sources → IsRefusedTexts sources r → IsUnbuilt told root r

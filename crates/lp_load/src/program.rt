@@ -1,5 +1,5 @@
 // The program of a module's files.
-ghost use Rattle.std.specs.Prelude.{◌≡◌, List, ℕ, Option, IfErr, IfOk, IfSome, OnOk, string_bytes};
+ghost use Rattle.std.specs.Prelude.{◌≡◌, List, ℕ, Option, IfErr, IfOk, OnOk};
 ghost use Rattle.lp_base.specs.Held.{Held};
 ghost use Rattle.lp_term.specs.Nodes.{Extends};
 ghost use Rattle.lp_module.specs.Sentences.{AreWithin};
@@ -13,7 +13,7 @@ ghost use Rattle.lp_lines.specs.Refusals.{IsSourceRefusal, IsTextRefusal};
 ghost use Rattle.lp_load.specs.Loaded.{HasGrown, IsBuiltFrom, IsLoaded};
 ghost use Rattle.lp_load.specs.Placed.{IsOfFile, SaysOfFile};
 ghost use Rattle.lp_load.specs.Tells.{Tells};
-ghost use Rattle.lp_load.specs.Unbuilt.{HasManyIn, IsRefusedTexts, IsUnbuilt, TellsOfFile, TellsTexts};
+ghost use Rattle.lp_load.specs.Unbuilt.{HasManyIn, IsRefusedTexts, IsUnbuilt, TellsFile, TellsTexts};
 
 use lp_base::Folder;
 use lp_build::{BuildFault, Built, Sources, build_program, gather_with};
@@ -63,7 +63,7 @@ pub fn cause_of(fault: BuildFault) -> Cause
 pub fn load_refused(alloc: Global, sources: &Sources, fault: BuildFault) -> Refusal
     ensures tells { Tells fault result }
     ensures placed { (told : Option Held) → IsFaultIn told sources.now fault → IfSource (IsOfFile told) result }
-    ensures file { IfSome sources.now.refused (λ name. TellsOfFile (string_bytes name) fault result) }
+    ensures file { (told : Option Held) → IsFaultIn told sources.now fault → TellsFile sources.now.refused fault result }
 {
     match fault {
         BuildFault::Read(_) => not_read(alloc, sources.fault_name()),

@@ -2,7 +2,7 @@ use Rattle.std.proofs.Common.{◌≡◌, ◌∙◌, ◌++◌, length, ap, sym, a
 use Rattle.lp_build.specs.Loads.{ending, modules_among, of_module}
 use Rattle.lp_build.proofs.Awaiting.{modules_more}
 use Rattle.lp_build.proofs.Reading.{one_read}
-use Rattle.lp_build.proofs.Walking.{loaded_more, loaded_none, loaded_not, loaded_same, none_blamed}
+use Rattle.lp_build.proofs.Walking.{reading_so, loaded_more, loaded_none, loaded_not, loaded_same, none_blamed}
 use Rattle.lp_build.proofs.read.load_file.Goals as goal
 
 pub returns-in_ok-push-in-Ok-clause-read : goal.returns-in_ok-push-in-Ok-clause-read
@@ -52,3 +52,7 @@ returns-in_ok-push-in-Ok-clause-blames g c = none_blamed c.args.sources.now.refu
 
 pub returns-in-Err-clause-blames : goal.returns-in-Err-clause-blames
 returns-in-Err-clause-blames g c = λ e. c.in_ok-name.ensures
+
+pub returns-in-Err-clause-refused : goal.returns-in-Err-clause-refused
+returns-in-Err-clause-refused g c =
+    reading_so c.len-at.result c.args.sources.now.files.items c.in-Err.fault (omega (arith, c.len-at.ensures, c.args.sources.now.files.ok)) c.in-Err.ensures.refused
