@@ -42,8 +42,8 @@ limit_of_clauses P l r (inr (e, p)) t = let q : l ≡ limit.Clauses = cc in (p, 
 -- what is told of the file of a name
 pub named_so : (told : Option Held) (refused : Option (String Global)) (file : List ℕ) (e f : BuildFault) (r : Refusal) → (IsFaultNamed told None e → ⊥) → IfSome refused (λ s. file ≡ string_bytes s) → f ≡ e →
     IsFaultNamed told refused f → TellsOfFile file e r → TellsFile refused f r
-named_so told None file e f r no is same there t = absurd (no (subst (IsFaultNamed told None) same there))
-named_so told (Some s) file e f r no is same there t = subst (λ g. TellsOfFile (string_bytes s) g r) (sym same) (subst (λ w. TellsOfFile w e r) is t)
+named_so told None file e f r never is same there t = absurd (never (subst (IsFaultNamed told None) same there))
+named_so told (Some s) file e f r never is same there t = subst (λ g. TellsOfFile (string_bytes s) g r) (sym same) (subst (λ w. TellsOfFile w e r) is t)
 
 -- what is told of a limit has no name
 pub limit_so : (refused : Option (String Global)) (l : Limit) (f : BuildFault) (r : Refusal) → f ≡ build.Limit l → TellsLimit l r → TellsFile refused f r
