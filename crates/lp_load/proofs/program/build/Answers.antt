@@ -1,6 +1,7 @@
-use Rattle.std.proofs.Common.{refl}
+use Rattle.std.proofs.Common.{refl, subst}
 use Rattle.lp_lines.proofs.Placing.{nowhere}
-use Rattle.lp_load.specs.Unbuilt.{no_memory, of_clauses, of_texts}
+use Rattle.lp_normal.specs.Counted.{IsOver}
+use Rattle.lp_load.specs.Unbuilt.{HasManyIn, no_memory, of_clauses, of_texts}
 use Rattle.lp_load.proofs.Unbuilding.{limit_of_clauses}
 use Rattle.lp_load.proofs.program.build.Goals as goal
 
@@ -16,7 +17,9 @@ returns-in-Err-clause-cause g = λ read. of_texts g.in-Err.fault g.cause_of.resu
 pub returns-in-Err-Limit-clause-cause : goal.returns-in-Err-Limit-clause-cause
 returns-in-Err-Limit-clause-cause g = λ read.
     let built = g.in-Ok.ensures.program read in
-    let over = limit_of_clauses _ g.in-Err-Limit.passed g.limited.result (rw g.in-Err-Limit.is at g.checked.ensures.limit built.program.program.clauses) g.limited.ensures.says in
+    let first = g.in-Ok.built.assembled.program in
+    let over = limit_of_clauses (HasManyIn first.bank first.clauses.items) g.in-Err-Limit.passed g.limited.result
+    (subst (IsOver (HasManyIn first.bank first.clauses.items)) g.in-Err-Limit.field-0-is (g.checked.ensures.limit built.program.program.clauses)) g.limited.ensures.says in
     of_clauses g.in-Ok.built built over.0 over.1
 
 pub returns-in-Err-Memory-clause-cause : goal.returns-in-Err-Memory-clause-cause
