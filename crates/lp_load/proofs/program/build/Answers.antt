@@ -19,7 +19,7 @@ returns-in-Err-Limit-clause-cause g = λ read.
     let built = g.in-Ok.ensures.program read in
     let first = g.in-Ok.built.assembled.program in
     let over = limit_of_clauses (HasManyIn first.bank first.clauses.items) g.in-Err-Limit.passed g.limited.result
-    (subst (IsOver (HasManyIn first.bank first.clauses.items)) g.in-Err-Limit.field-0-is (g.checked.ensures.limit built.program.program.clauses)) g.limited.ensures.says in
+    (subst (IsOver (HasManyIn first.bank first.clauses.items)) g.in-Err-Limit.field-0-is (rw g.in-Err-Limit.is at g.checked.ensures.limit built.program.program.clauses)) g.limited.ensures.says in
     of_clauses g.in-Ok.built built over.0 over.1
 
 pub returns-in-Err-Memory-clause-cause : goal.returns-in-Err-Memory-clause-cause
