@@ -8,7 +8,6 @@ pub mod Growing
 pub mod Reading
 pub mod Placing
 pub mod Building
-pub mod Awaiting
 pub mod Compiling
 pub mod Closed
 pub mod Coding
