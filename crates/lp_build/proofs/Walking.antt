@@ -1,7 +1,8 @@
 -- What is loaded is a beginning of the order, and what waits is needed next.
 use Rattle.std.specs.Global.{Global}
-use Rattle.std.proofs.Common.{◌≡◌, ℕ, zero, suc, ◌+◌, ◌<◌, ◌≤◌, Bool, true, false, List, [], ◌∷◌, ◌++◌, Option, Some, None, Result, Ok, Err, length, map, Vec, refl, sym, ap, subst, ◌∙◌, append_assoc, append-nil, true≢false, arith}
+use Rattle.std.proofs.Common.{◌≡◌, ℕ, zero, suc, ◌+◌, ◌<◌, ◌≤◌, Bool, true, false, List, [], ◌∷◌, ◌++◌, Option, Some, None, Result, Ok, Err, length, map, Vec, refl, sym, ap, subst, ◌∙◌, append_assoc, append-nil, not, true≢false, arith}
 use Rattle.std.specs.Prelude.{Contains, IfErr, IfSome, MatchOption, String, drop, string_bytes, ◌||◌}
+use Rattle.std.specs.List.{list_any}
 use Rattle.std.specs.Str.{bytes_eq}
 use Rattle.std.proofs.lemmas.List.{drop_more, drop_all}
 use Rattle.std.proofs.lemmas.List.Elements.{Contains-get_or}
@@ -22,6 +23,7 @@ use Rattle.lp_build.specs.Told.{IsFaultAt, IsFaultOf, IsTold}
 use Rattle.lp_build.specs.declared.fault.BuildFault.{BuildFault}
 use Rattle.lp_build.specs.declared.fault.BuildFault.TheVariants as fault
 use Rattle.lp_build.specs.declared.sources.File.{File}
+use Rattle.lp_build.specs.declared.sources.Part.{Part}
 use Rattle.lp_build.specs.declared.sources.Part.TheVariants as part
 use Rattle.lp_build.specs.declared.sources.Sources.{Sources}
 use Rattle.lp_build.specs.declared.sources.Text.{Text}
@@ -130,6 +132,15 @@ there_among n (m ∷ ms) (suc k, lt, e) = or_true (bytes_eq n m) (is_among n ms)
     or_true true b e = refl
     or_true false b e = e
 
+-- whether a name is new
+pub new_is : {S : Type 0} (set : IndexSet (Vec ℕ Global) S) (names : List (List ℕ)) (key : Vec ℕ Global) (n : List ℕ) (fresh : Bool) → key.items ≡ n → fresh ≡ not (list_any (λ x. bytes_eq key.items x.items) set.keys) →
+    HasKeys set names → is_among n names ≡ not fresh
+new_is set names key n fresh is e h = sym (ap (λ k. is_among k names) is) ∙ sym (h key.items) ∙ twice (list_any (λ x. bytes_eq key.items x.items) set.keys) ∙ ap not (sym e)
+  where
+    twice : (b : Bool) → b ≡ not (not b)
+    twice true = refl
+    twice false = refl
+
 -- a name that was there already is no other one
 keys_again : {S : Type 0} (set : IndexSet (Vec ℕ Global) S) (names : List (List ℕ)) (n : List ℕ) → is_among n names ≡ true → HasKeys set (names ++ n ∷ []) → HasKeys set names
 keys_again set names n there h = λ m. h m ∙ among_append m names (n ∷ []) ∙ by m (bytes_eq m n) refl (is_among m names) refl
@@ -168,6 +179,30 @@ pub owed_more : (all : Bool) (fs : List File) (ws : List Work) (w : Work) (mine 
 owed_more all fs [] w mine needs is h = ([], mine, refl, is, ap (λ l. mine ++ l) h ∙ append-nil mine)
 owed_more all fs (v ∷ ws) w mine needs is h =
     (mine ++ h.0, h.1, owed_more all fs ws w mine h.0 is h.2, h.3, ap (λ l. mine ++ l) h.4 ∙ sym (append_assoc mine h.0 h.1))
+
+-- what a file names waits
+pub signature_owed : (all : Bool) (fs : List File) (ws vs : List Work) (i : ℕ) (f : File) (p : Part) (left : List Need) → vs ≡ ws ++ work.Signatures i 0 ∷ [] → p ≡ part.Signature → IsAt fs i f → f.part ≡ p → AreOwed all fs ws left →
+    AreOwed all fs vs (named_by all f.part f.text ++ left)
+signature_owed all fs ws vs i f p left e s at is h =
+    subst (λ v. AreOwed all fs v (named_by all f.part f.text ++ left)) (sym e)
+    (subst (λ q. AreOwed all fs (ws ++ work.Signatures i 0 ∷ []) (named_by all q f.text ++ left)) (sym (is ∙ s))
+    (owed_more all fs ws (work.Signatures i 0) (named_by all part.Signature f.text) left (f, at, refl) h))
+
+pub own_owed : (all : Bool) (fs : List File) (ws us vs : List Work) (i : ℕ) (f : File) (p : Part) (left : List Need) → us ≡ ws ++ work.Accumulated i 0 ∷ [] → vs ≡ us ++ work.Signatures i 0 ∷ [] → p ≡ part.Module →
+    IsAt fs i f → f.part ≡ p → AreOwed all fs ws left → AreOwed all fs vs (named_by all f.part f.text ++ left)
+own_owed all fs ws us vs i f p left u e s at is h =
+    let sigs = asked_by signature f.text.bytes.items f.text.references.accum_sig.items in
+    let mods = asked_by (accumulated all) f.text.bytes.items f.text.references.accumulate.items in
+    subst (λ v. AreOwed all fs v (named_by all f.part f.text ++ left)) (sym e)
+    (subst (λ q. AreOwed all fs (us ++ work.Signatures i 0 ∷ []) (named_by all q f.text ++ left)) (sym (is ∙ s))
+    (subst (AreOwed all fs (us ++ work.Signatures i 0 ∷ [])) (sym (append_assoc sigs mods left))
+    (owed_more all fs us (work.Signatures i 0) sigs (mods ++ left) (f, at, refl)
+    (subst (λ v. AreOwed all fs v (mods ++ left)) (sym u) (owed_more all fs ws (work.Accumulated i 0) mods left (f, at, refl) h)))))
+
+pub module_owed : (all : Bool) (fs : List File) (ws vs : List Work) (m : String Global) (name : List ℕ) (left : List Need) → vs ≡ ws ++ work.Module m ∷ [] → string_bytes m ≡ name → AreOwed all fs ws left → AreOwed all fs vs (needed part.Module name ∷ left)
+module_owed all fs ws vs m name left e is h =
+    subst (λ v. AreOwed all fs v (needed part.Module name ∷ left)) (sym e)
+    (subst (λ n. AreOwed all fs (ws ++ work.Module m ∷ []) (needed part.Module n ∷ left)) is (owed_more all fs ws (work.Module m) (needed part.Module (string_bytes m) ∷ []) left refl h))
 
 -- the last one is taken
 owed_taken : (all : Bool) (fs : List File) (ws : List Work) (w : Work) (needs : List Need) → AreOwed all fs (ws ++ w ∷ []) needs → (mine rest : List Need) × IsOwed all fs w mine × AreOwed all fs ws rest × (needs ≡ mine ++ rest)
@@ -259,6 +294,14 @@ walk_waits all root next later old new a s k owed w = record {
   none = ap (λ x. x.refused) s ∙ w.none;
 }
 
+-- no file is at fault
+unblamed : (o : Option (String Global)) (is : List ℕ) → IfSome o (λ name. o ≡ None → string_bytes name ≡ is)
+unblamed None is = tt
+unblamed (Some name) is = λ e. absurd (cc)
+
+pub not_at_fault : (n : Need) (s : Sources) → IsNotLoaded n s s
+not_at_fault n s = record { files = refl; fault = unblamed s.refused (file_of n) }
+
 -- words of a text, from a place on
 
 asked_on : (ask : List ℕ → List Need) (text : List ℕ) (words : List Spot) (at : ℕ) (w : Spot) → IsAt words at w → asked_by ask text (drop at words) ≡ ask (spelled text w) ++ asked_by ask text (drop (at + 1) words)
@@ -274,6 +317,40 @@ asked_next ask text words at next name (Some n) needs e k h q =
 pub asked_no_more : (ask : List ℕ → List Need) (text : List ℕ) (words : List Spot) (at : ℕ) (o : Option (String Global)) (needs : List Need) → o ≡ None → IsWordAt text words at o → needs ≡ asked_by ask text (drop at words) → needs ≡ []
 asked_no_more ask text words at None needs e h q = q ∙ ap (asked_by ask text) (drop_all at words h)
 asked_no_more ask text words at (Some n) needs e h q = absurd (cc)
+
+-- the word of a place is needed next, and what is behind it waits
+pub signatures_wait : (all : Bool) (root : List ℕ) (old new : Loading) (i at next : ℕ) (name : String Global) (needs : List Need) → new.all ≡ old.all → new.sources ≡ old.sources → new.names ≡ old.names →
+    new.work.items ≡ old.work.items ++ work.Signatures i next ∷ [] → ((f : File) → at < length f.text.references.accum_sig.items → next ≡ at + 1) → ((f : File) → IsAt old.sources.files.items i f → IsWordAt f.text.bytes.items f.text.references.accum_sig.items at (Some name)) →
+    IsOwed all old.sources.files.items (work.Signatures i at) needs → IsWalk all root needs old → IsWalk all root (signature (string_bytes name)) new
+signatures_wait all root old new i at next name needs a s k v n word owed w =
+    let f = owed.0 in
+    let later = asked_by signature f.text.bytes.items (drop next f.text.references.accum_sig.items) in
+    walk_waits all root (signature (string_bytes name)) later old new a s k
+    (λ left h. subst (λ x. AreOwed all old.sources.files.items x (later ++ left)) (sym v) (owed_more all old.sources.files.items old.work.items (work.Signatures i next) later left (f, owed.1, refl) h))
+    (subst (λ x. IsWalk all root x old) (asked_next signature f.text.bytes.items f.text.references.accum_sig.items at next name (Some name) needs refl (n f (word f owed.1).1.0) (word f owed.1) owed.2) w)
+
+pub modules_wait : (all : Bool) (root : List ℕ) (old new : Loading) (i at next : ℕ) (name : String Global) (needs : List Need) → new.all ≡ old.all → new.sources ≡ old.sources → new.names ≡ old.names →
+    new.work.items ≡ old.work.items ++ work.Accumulated i next ∷ [] → ((f : File) → at < length f.text.references.accumulate.items → next ≡ at + 1) → ((f : File) → IsAt old.sources.files.items i f → IsWordAt f.text.bytes.items f.text.references.accumulate.items at (Some name)) →
+    IsOwed all old.sources.files.items (work.Accumulated i at) needs → IsWalk all root needs old → IsWalk all root (accumulated all (string_bytes name)) new
+modules_wait all root old new i at next name needs a s k v n word owed w =
+    let f = owed.0 in
+    let later = asked_by (accumulated all) f.text.bytes.items (drop next f.text.references.accumulate.items) in
+    walk_waits all root (accumulated all (string_bytes name)) later old new a s k
+    (λ left h. subst (λ x. AreOwed all old.sources.files.items x (later ++ left)) (sym v) (owed_more all old.sources.files.items old.work.items (work.Accumulated i next) later left (f, owed.1, refl) h))
+    (subst (λ x. IsWalk all root x old) (asked_next (accumulated all) f.text.bytes.items f.text.references.accumulate.items at next name (Some name) needs refl (n f (word f owed.1).1.0) (word f owed.1) owed.2) w)
+
+-- there is no word at the place
+pub no_signature : (all : Bool) (root : List ℕ) (old : Loading) (i at : ℕ) (needs : List Need) → ((f : File) → IsAt old.sources.files.items i f → IsWordAt f.text.bytes.items f.text.references.accum_sig.items at None) →
+    IsOwed all old.sources.files.items (work.Signatures i at) needs → IsWalk all root needs old → IsWalk all root [] old
+no_signature all root old i at needs word owed w =
+    let f = owed.0 in
+    subst (λ x. IsWalk all root x old) (asked_no_more signature f.text.bytes.items f.text.references.accum_sig.items at None needs refl (word f owed.1) owed.2) w
+
+pub no_module : (all : Bool) (root : List ℕ) (old : Loading) (i at : ℕ) (needs : List Need) → ((f : File) → IsAt old.sources.files.items i f → IsWordAt f.text.bytes.items f.text.references.accumulate.items at None) →
+    IsOwed all old.sources.files.items (work.Accumulated i at) needs → IsWalk all root needs old → IsWalk all root [] old
+no_module all root old i at needs word owed w =
+    let f = owed.0 in
+    subst (λ x. IsWalk all root x old) (asked_no_more (accumulated all) f.text.bytes.items f.text.references.accumulate.items at None needs refl (word f owed.1) owed.2) w
 
 -- one piece of work is taken
 pub walk_taken : (all : Bool) (root : List ℕ) (old new : Loading) (w : Work) → new.all ≡ old.all → new.sources ≡ old.sources → new.names ≡ old.names → old.work.items ≡ new.work.items ++ w ∷ [] → IsWalk all root [] old →
