@@ -27,3 +27,4 @@ pub mod Refusing
 pub mod Texting
 pub mod Causing
 pub mod Walking
+pub mod Ordering

@@ -1,14 +1,16 @@
 -- What is loaded is a beginning of the order, and what waits is needed next.
 use Rattle.std.specs.Global.{Global}
-use Rattle.std.proofs.Common.{◌≡◌, ℕ, zero, suc, ◌+◌, ◌<◌, ◌≤◌, Bool, true, false, List, [], ◌∷◌, ◌++◌, Option, Some, None, Result, Ok, Err, length, map, Vec, refl, sym, ap, subst, ◌∙◌, append_assoc, append-nil, not, true≢false, arith}
-use Rattle.std.specs.Prelude.{Contains, IfErr, IfSome, MatchOption, String, drop, string_bytes, ◌||◌}
+use Rattle.std.proofs.Common.{◌≡◌, ℕ, zero, suc, ◌+◌, ◌<◌, Bool, true, false, List, [], ◌∷◌, ◌++◌, Option, Some, None, Result, Ok, Err, length, Vec, refl, sym, ap, subst, ◌∙◌, append_assoc, append-nil, not, true≢false, arith}
+use Rattle.std.specs.Prelude.{Contains, IfErr, IfSome, String, drop, string_bytes, ◌||◌}
 use Rattle.std.specs.List.{list_any}
+use Rattle.std.specs.Result.{IsErrAnd}
 use Rattle.std.specs.Str.{bytes_eq}
-use Rattle.std.proofs.lemmas.List.{drop_more, drop_all}
+use Rattle.std.proofs.lemmas.List.{drop_more, drop_all, get_or_default}
 use Rattle.std.proofs.lemmas.List.Elements.{Contains-get_or}
 use Rattle.indexmap.specs.IndexSet.{IndexSet}
 use Rattle.lp_lemmas.proofs.Booleans.{bytes_eq_self, bytes_eq_true}
 use Rattle.lp_lemmas.proofs.Elements.{Contains_head, Contains_tail}
+use Rattle.lp_lemmas.proofs.Results.{passed_up}
 use Rattle.lp_base.specs.Held.{Held}
 use Rattle.lp_base.specs.declared.limit.Limit.TheVariants as limit
 use Rattle.lp_base.specs.declared.place.Spot.{Spot}
@@ -93,6 +95,10 @@ words_so files f w (Err (fault.Limit limit.Clauses)) there names h = absurd h
 words_so files f w (Err (fault.Limit limit.Registers)) there names h = absurd h
 words_so files f w (Err (fault.Limit limit.Text)) there names h = absurd h
 
+pub word_passed : {T : Type 0} (files : List File) (f : File) (w : Spot) (r : Result T BuildFault) (e : BuildFault) → IsErrAnd r (λ y. y ≡ e) → Contains files f → Contains (f.text.references.accum_sig.items ++ f.text.references.accumulate.items) w →
+    IsOfWord f.text.bytes.items w e → IfErr r (IsOfLoading files)
+word_passed {T} files f w r e is there names h = passed_up r e (IsOfLoading files) is (words_so {T = T} files f w (Err e) there names h)
+
 -- a word of a file at a place
 
 pub names_by : {X : Type 0} (xs : List X) (k : ℕ) (x : X) → IsAt xs k x → Contains xs x
@@ -117,11 +123,11 @@ one_more {before = before} {n = n} (is_loaded {f = f} {files = files} first so r
 
 among_there : (n : List ℕ) (ns : List (List ℕ)) → is_among n ns ≡ true → Contains ns n
 among_there n [] e = absurd (true≢false (sym e))
-among_there n (m ∷ ms) e = by (bytes_eq n m) refl e
+among_there n (m ∷ ms) e = by (among_there n ms) (bytes_eq n m) refl e
   where
-    by : (t : Bool) → bytes_eq n m ≡ t → (t || is_among n ms) ≡ true → Contains (m ∷ ms) n
-    by true same e = subst (λ x. Contains (m ∷ ms) x) (sym (bytes_eq_true n m same)) (Contains_head m ms)
-    by false other e = Contains_tail m n ms (among_there n ms e)
+    by : (is_among n ms ≡ true → Contains ms n) → (t : Bool) → bytes_eq n m ≡ t → (t || is_among n ms) ≡ true → Contains (m ∷ ms) n
+    by rest true same e = subst (λ x. Contains (m ∷ ms) x) (sym (bytes_eq_true n m same)) (Contains_head m ms)
+    by rest false other e = Contains_tail m n ms (rest e)
 
 there_among : (n : List ℕ) (ns : List (List ℕ)) → Contains ns n → is_among n ns ≡ true
 there_among n [] (k, lt, e) = absurd (omega (arith, lt))
@@ -301,6 +307,13 @@ unblamed (Some name) is = λ e. absurd (cc)
 
 pub not_at_fault : (n : Need) (s : Sources) → IsNotLoaded n s s
 not_at_fault n s = record { files = refl; fault = unblamed s.refused (file_of n) }
+
+-- the file of a number is one
+same_file : (files : List File) (i : ℕ) (f g : File) → IsAt files i f → IsAt files i g → f ≡ g
+same_file files i f g at to = sym at.1 ∙ get_or_default files i f g at.0 ∙ to.1
+
+pub word_of : (words : File → List Spot) (files : List File) (i at : ℕ) (f g : File) (o : Option (String Global)) → IsAt files i f → IsAt files i g → IsWordAt f.text.bytes.items (words f) at o → IsWordAt g.text.bytes.items (words g) at o
+word_of words files i at f g o here there h = subst (λ (x : File). IsWordAt x.text.bytes.items (words x) at o) (same_file files i f g here there) h
 
 -- words of a text, from a place on
 

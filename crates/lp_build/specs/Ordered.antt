@@ -1,6 +1,6 @@
 -- The order in which the files of a module are loaded: its signature and then its own file, and right behind each file what it names.
 use Rattle.std.specs.Global.{Global}
-use Rattle.std.specs.Prelude.{◌≡◌, ℕ, List, [], ◌∷◌, ◌++◌, Bool, true, false, Contains, IfSome, String, string_bytes}
+use Rattle.std.specs.Prelude.{◌≡◌, ◌⊎◌, ℕ, List, [], ◌∷◌, ◌++◌, Bool, true, false, Contains, IfSome, String, string_bytes}
 use Rattle.lp_base.specs.declared.place.Spot.{Spot}
 use Rattle.lp_sig.specs.Pieces.{spelled}
 use Rattle.lp_build.specs.Loads.{ending, names_of}
@@ -76,3 +76,7 @@ pub record AreInOrderSoFar (all : Bool) (root : List ℕ) (sources : Sources) : 
   pub left : List Need
   pub order : Loads all [] (both root) sources.files.items left
   pub fault : IfSome sources.refused (IsNext sources.files.items left)
+
+-- the module of the root or one of these files asks for a text
+abbrev pub IsAsked : (all : Bool) → (root : List ℕ) → List File → Need → Type 0
+IsAsked all root files n = Contains (both root) n ⊎ (f : File) × Contains files f × Contains (named_by all f.part f.text) n

@@ -80,7 +80,7 @@ asked_from told name text sources (Ok a) ordered files read h = record {
   asked = h.asked;
   without = h.without;
 }
-asked_from told name text sources (Err e) begins first files read h = tt
+asked_from told name text sources (Err e) ordered files read h = tt
 
 -- the query of a text stands in its bank
 pub query_inside : (operators : Table) (names : Signature) (text : List ℕ) (b : Nodes) (q : Typed) → IsAsked operators names text b q → IsQueryInside b q

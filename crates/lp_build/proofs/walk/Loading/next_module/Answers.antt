@@ -1,4 +1,4 @@
-use Rattle.std.proofs.Common.{◌++◌, ◌∷◌, [], length, arith, refl, subst, sym, ◌∙◌}
+use Rattle.std.proofs.Common.{arith, refl, subst, sym, ◌∙◌}
 use Rattle.std.specs.Prelude.{string_bytes}
 use Rattle.lp_build.specs.Ordered.{accumulated, both, signature}
 use Rattle.lp_build.specs.inner.Walking.{IsWalk, IsWordAt}

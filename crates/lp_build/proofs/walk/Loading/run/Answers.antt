@@ -1,4 +1,4 @@
-use Rattle.std.proofs.Common.{sym, subst, arith, refl, ◌++◌}
+use Rattle.std.proofs.Common.{sym, arith, refl}
 use Rattle.std.proofs.lemmas.List.{nil_from_length}
 use Rattle.lp_build.proofs.Counting.{outside_then}
 use Rattle.lp_build.proofs.Telling.{told_memory, told_passed, told_still}

@@ -1,4 +1,4 @@
-use Rattle.std.proofs.Common.{◌++◌, ◌∷◌, [], ap, subst, sym, ◌∙◌}
+use Rattle.std.proofs.Common.{◌∷◌, [], ap, subst, sym, ◌∙◌}
 use Rattle.lp_build.specs.Ordered.{needed}
 use Rattle.lp_build.specs.declared.sources.Part.TheVariants as part
 use Rattle.lp_build.specs.inner.Walking.{IsOwed, IsWalk}
