@@ -369,15 +369,18 @@ no_module all root old i at needs word owed w =
 pub walk_taken : (all : Bool) (root : List ℕ) (old new : Loading) (w : Work) → new.all ≡ old.all → new.sources ≡ old.sources → new.names ≡ old.names → old.work.items ≡ new.work.items ++ w ∷ [] → IsWalk all root [] old →
     (needs : List Need) × IsOwed all new.sources.files.items w needs × IsWalk all root needs new
 walk_taken all root old new w a s k e walk =
-    let t = owed_taken all old.sources.files.items new.work.items w walk.left (subst (λ v. AreOwed all old.sources.files.items v walk.left) e walk.owed) in
-    (t.0, subst (λ x. IsOwed all x.files.items w t.0) (sym s) t.2, record {
-      is = a ∙ walk.is;
-      left = t.1;
-      order = subst (λ x. Loads all [] (both root) x.files.items (t.0 ++ t.1)) (sym s) (subst (Loads all [] (both root) old.sources.files.items) t.4 walk.order);
-      owed = subst (λ x. AreOwed all x.files.items new.work.items t.1) (sym s) t.3;
-      names = subst (λ x. HasKeys x (names_of new.sources.files.items)) (sym k) (subst (λ x. HasKeys old.names (names_of x.files.items)) (sym s) walk.names);
-      none = ap (λ x. x.refused) s ∙ walk.none;
-    })
+    let t = owed_taken all old.sources.files.items new.work.items w walk.left (subst (λ v. AreOwed all old.sources.files.items v walk.left) e walk.owed) in (
+      t.0,
+      subst (λ x. IsOwed all x.files.items w t.0) (sym s) t.2,
+      record {
+        is = a ∙ walk.is;
+        left = t.1;
+        order = subst (λ x. Loads all [] (both root) x.files.items (t.0 ++ t.1)) (sym s) (subst (Loads all [] (both root) old.sources.files.items) t.4 walk.order);
+        owed = subst (λ x. AreOwed all x.files.items new.work.items t.1) (sym s) t.3;
+        names = subst (λ x. HasKeys x (names_of new.sources.files.items)) (sym k) (subst (λ x. HasKeys old.names (names_of x.files.items)) (sym s) walk.names);
+        none = ap (λ x. x.refused) s ∙ walk.none;
+      },
+    )
 
 -- nothing waits
 pub walk_ended : (all : Bool) (root : List ℕ) (l : Loading) → l.work.items ≡ [] → IsWalk all root [] l → AreInOrder all root l.sources

@@ -14,5 +14,4 @@ pub fn files_in_order_are_all_that_are_named()
     ensures named { (all : Bool) (root : List ℕ) (s : AreFiles) → AreInOrder all root s → (f : IsFile) → Contains s.files.items f → (n : Need) → Contains (named_by all f.part f.text) n → IsThere s.files.items n }
     ensures once { (all : Bool) (root : List ℕ) (files : List IsFile) (left : List Need) → Loads all [] (both root) files left → (i j : ℕ) (f g : IsFile) → IsAt files i f → IsAt files j g → string_bytes f.name ≡ string_bytes g.name → i ≡ j }
     ensures asked { (all : Bool) (root : List ℕ) (files : List IsFile) (left : List Need) → Loads all [] (both root) files left → (i : ℕ) (f : IsFile) → IsAt files i f → (n : Need) × IsText n f × IsAsked all root (take i files) n }
-{
-}
+{}

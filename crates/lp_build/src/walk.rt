@@ -114,12 +114,7 @@ impl Loading {
     }
 
     // Loads a text of a module, unless it is there already.
-    fn want<F: Folder>(
-        &mut self,
-        folder: &mut F,
-        name: &str,
-        part: Part,
-    ) -> Result<(), BuildFault>
+    fn want<F: Folder>(&mut self, folder: &mut F, name: &str, part: Part) -> Result<(), BuildFault>
         ensures outside { Outside F.read_faults F.misses F.overs F.write_faults F.held folder.old folder.new (fault_of result) }
         ensures refused { IfErr result (IsOfLoading self.new.sources.files.items) }
         ensures read { AreRead self.old.sources → AreRead self.new.sources }
