@@ -8,7 +8,6 @@ pub mod Growing
 pub mod Reading
 pub mod Placing
 pub mod Building
-pub mod Awaiting
 pub mod Compiling
 pub mod Closed
 pub mod Coding
@@ -28,3 +27,4 @@ pub mod Refusing
 pub mod Texting
 pub mod Causing
 pub mod Walking
+pub mod Ordering

@@ -1,5 +1,5 @@
 -- One more file that was read.
-use Rattle.std.proofs.Common.{◌≡◌, ℕ, ◌<◌, List, [], ◌∷◌, ◌++◌, length, sym, ap, subst, ◌∙◌, arith}
+use Rattle.std.proofs.Common.{◌≡◌, ℕ, ◌<◌, List, [], ◌∷◌, ◌++◌, length, ap, subst, ◌∙◌, arith}
 use Rattle.std.specs.Prelude.{string_bytes}
 use Rattle.std.proofs.lemmas.List.{length_push}
 use Rattle.lp_base.specs.declared.limits.TheConstants.{MAX_MODULES}
@@ -8,7 +8,7 @@ use Rattle.lp_lexer.specs.declared.token.Token.{Token}
 use Rattle.lp_syntax.specs.References.{AreReferences}
 use Rattle.lp_syntax.specs.Tokens.{lexemes, spot_at}
 use Rattle.lp_sig.specs.Refusals.{IsAt}
-use Rattle.lp_build.specs.Loads.{BeginsWith, Keeps, ending}
+use Rattle.lp_build.specs.Loads.{ending}
 use Rattle.lp_build.specs.Reads.{AreRead, IsReadFile, IsReadText}
 use Rattle.lp_build.specs.declared.sources.File.{File}
 use Rattle.lp_build.specs.declared.sources.Sources.{Sources}
@@ -40,8 +40,3 @@ text_read number text bytes tokens b t has refer = record {
   references = subst (λ x. AreReferences (spot_at number x text.tokens.items) (lexemes x text.tokens.items) (length text.tokens.items) text.references) b
       (subst (λ x. AreReferences (spot_at number bytes x) (lexemes bytes x) (length x) text.references) t refer);
 }
-
--- one more name behind others
-pub first_stays : (old new : List (List ℕ)) (name : List ℕ) → new ≡ old ++ name ∷ [] → Keeps old new
-first_stays [] new name e = λ first h. absurd h
-first_stays (n ∷ ns) new name e = λ first h. subst (BeginsWith first) (sym e) h

@@ -1,17 +1,27 @@
--- Files that are needed stay so while more are loaded.
+-- What is loaded is a beginning of the order, and what waits is needed next.
 use Rattle.std.specs.Global.{Global}
-use Rattle.std.proofs.Common.{◌≡◌, ℕ, zero, suc, ◌<◌, List, [], ◌∷◌, ◌++◌, Option, Some, None, Result, Ok, Err, length, take, refl, sym, ap, subst, ◌∙◌, append_assoc, append-nil, arith}
-use Rattle.std.specs.Prelude.{Contains, IfErr, IfOk, IfSome, String, string_bytes}
-use Rattle.std.specs.List.{All}
-use Rattle.std.proofs.lemmas.List.Elements.{All-cons, All-head, All-nil, All-push, All-tail, Contains-append_left, Contains-append_right, Contains-get_or}
+use Rattle.std.proofs.Common.{◌≡◌, ℕ, zero, suc, ◌+◌, ◌<◌, Bool, true, false, List, [], ◌∷◌, ◌++◌, Option, Some, None, Result, Ok, Err, length, Vec, refl, sym, ap, subst, ◌∙◌, append_assoc, append-nil, not, true≢false, arith}
+use Rattle.std.specs.Prelude.{Contains, IfErr, IfSome, String, drop, string_bytes, ◌||◌}
+use Rattle.std.specs.List.{list_any}
+use Rattle.std.specs.Result.{IsErrAnd}
+use Rattle.std.specs.Str.{bytes_eq}
+use Rattle.std.proofs.lemmas.List.{drop_more, drop_all, get_or_default}
+use Rattle.std.proofs.lemmas.List.Elements.{Contains-get_or}
+use Rattle.indexmap.specs.IndexSet.{IndexSet}
+use Rattle.lp_lemmas.proofs.Booleans.{bytes_eq_self, bytes_eq_true}
+use Rattle.lp_lemmas.proofs.Elements.{Contains_head, Contains_tail}
+use Rattle.lp_lemmas.proofs.Results.{passed_up}
 use Rattle.lp_base.specs.Held.{Held}
 use Rattle.lp_base.specs.declared.limit.Limit.TheVariants as limit
 use Rattle.lp_base.specs.declared.place.Spot.{Spot}
 use Rattle.lp_sig.specs.Pieces.{spelled}
 use Rattle.lp_sig.specs.Refusals.{IsAt}
-use Rattle.lp_build.specs.Loads.{BeginsWith, HasLongName, IsOfLoading, IsOfReading, IsOfText, IsOfWord, ending, names_of}
+use Rattle.lp_sig.specs.Said.{is_among}
+use Rattle.lp_sig.specs.Sights.{HasKeys}
+use Rattle.lp_sig.proofs.Abbreviating.{among_append}
+use Rattle.lp_build.specs.Loads.{IsOfLoading, IsOfReading, IsOfText, IsOfWord, names_of}
+use Rattle.lp_build.specs.Ordered.{AreInOrder, AreInOrderSoFar, IsNext, IsText, IsThere, Loads, Need, accumulated, asked_by, both, file_of, is_loaded, is_there, loads_none, named_by, needed, signature}
 use Rattle.lp_build.specs.Told.{IsFaultAt, IsFaultOf, IsTold}
-use Rattle.lp_build.specs.Wanted.{AreWanted, IsWanted, a_module, a_signature, of_root}
 use Rattle.lp_build.specs.declared.fault.BuildFault.{BuildFault}
 use Rattle.lp_build.specs.declared.fault.BuildFault.TheVariants as fault
 use Rattle.lp_build.specs.declared.sources.File.{File}
@@ -22,7 +32,7 @@ use Rattle.lp_build.specs.declared.sources.Text.{Text}
 use Rattle.lp_build.specs.declared.walk.Loading.{Loading}
 use Rattle.lp_build.specs.declared.walk.Work.{Work}
 use Rattle.lp_build.specs.declared.walk.Work.TheVariants as work
-use Rattle.lp_build.specs.inner.Walking.{AreLoadedAs, Follows, IsWaiting, IsWalk, Walks}
+use Rattle.lp_build.specs.inner.Walking.{AreOwed, IsLoadedAt, IsNotLoaded, IsOwed, IsWalk, IsWordAt}
 
 -- a fault of the bytes that stand under a name
 fault_of_text : (told : Option Held) (name text : List ℕ) (n : ℕ) (e : BuildFault) → IsTold told name text → IsOfText n e → IsFaultOf text e → IsFaultAt told name e
@@ -85,189 +95,303 @@ words_so files f w (Err (fault.Limit limit.Clauses)) there names h = absurd h
 words_so files f w (Err (fault.Limit limit.Registers)) there names h = absurd h
 words_so files f w (Err (fault.Limit limit.Text)) there names h = absurd h
 
--- more files
-
-follows_same : (fs gs : List File) → gs ≡ fs → Follows fs gs
-follows_same fs gs e = ([], e ∙ sym (append-nil fs))
-
-follows_then : (fs gs hs : List File) → Follows fs gs → Follows gs hs → Follows fs hs
-follows_then fs gs hs (m, e) (k, f) = (m ++ k, f ∙ ap (λ l. l ++ k) e ∙ append_assoc fs m k)
-
-has_later : (fs gs : List File) (f : File) → Follows fs gs → Contains fs f → Contains gs f
-has_later fs gs f (m, e) h = subst (λ l. Contains l f) (sym e) (Contains-append_left fs m f h)
-
-pub wanted_later : (root : List ℕ) (fs gs : List File) (n : List ℕ) → Follows fs gs → IsWanted root fs n → IsWanted root gs n
-wanted_later root fs gs n m (of_root p e) = of_root p e
-wanted_later root fs gs n m (a_signature f w h k e) = a_signature f w (has_later fs gs f m h) k e
-wanted_later root fs gs n m (a_module f w h k e) = a_module f w (has_later fs gs f m h) k e
-
-waits_later : (root : List ℕ) (fs gs : List File) (w : Work) → Follows fs gs → IsWaiting root fs w → IsWaiting root gs w
-waits_later root fs gs (work.Signatures f a) m h = tt
-waits_later root fs gs (work.Module n) m h = wanted_later root fs gs (string_bytes n ++ ending part.Module) m h
-waits_later root fs gs (work.Accumulated f a) m h = tt
-
-waiting_later : (root : List ℕ) (fs gs : List File) (ws : List Work) → Follows fs gs → All (IsWaiting root fs) ws → All (IsWaiting root gs) ws
-waiting_later root fs gs ws m h = λ i x lt. waits_later root fs gs _ m (h i x lt)
-
--- one file
-
-pub loaded_same : (root : List ℕ) (old new : Sources) → new.files.items ≡ old.files.items → new.refused ≡ old.refused → AreLoadedAs root old new
-loaded_same root old new e r = record {
-  more = follows_same old.files.items new.files.items e;
-  wanted = λ h. record {
-    each = subst (λ l. (n : ℕ) (f : File) → IsAt l n f → IsWanted root (take n l) (string_bytes f.name)) (sym e) h.each;
-    fault = subst (λ l. IfSome new.refused (λ name. IsWanted root l (string_bytes name))) (sym e) (subst (λ o. IfSome o (λ name. IsWanted root old.files.items (string_bytes name))) (sym r) h.fault);
-  };
-}
-
-pub loaded_none : (root : List ℕ) (old : Sources) → AreLoadedAs root old old
-loaded_none root old = loaded_same root old old refl refl
-
--- it is not taken in: it is at fault
-pub loaded_not : (root : List ℕ) (old new : Sources) (name : String Global) (is : List ℕ) → new.files.items ≡ old.files.items → new.refused ≡ Some name → string_bytes name ≡ is → IsWanted root old.files.items is → AreLoadedAs root old new
-loaded_not root old new name is e r same w = record {
-  more = follows_same old.files.items new.files.items e;
-  wanted = λ h. record {
-    each = subst (λ l. (n : ℕ) (f : File) → IsAt l n f → IsWanted root (take n l) (string_bytes f.name)) (sym e) h.each;
-    fault = subst (λ l. IfSome new.refused (λ name. IsWanted root l (string_bytes name))) (sym e)
-        (subst (λ o. IfSome o (λ name. IsWanted root old.files.items (string_bytes name))) (sym r) (subst (IsWanted root old.files.items) (sym same) w));
-  };
-}
-
-wanted_each : (root : List ℕ) (before fs : List File) (f : File) → ((n : ℕ) (g : File) → IsAt fs n g → IsWanted root (before ++ take n fs) (string_bytes g.name)) → IsWanted root (before ++ fs) (string_bytes f.name) →
-    (n : ℕ) (g : File) → IsAt (fs ++ f ∷ []) n g → IsWanted root (before ++ take n (fs ++ f ∷ [])) (string_bytes g.name)
-wanted_each root before [] f h w zero g at = subst (λ x. IsWanted root (before ++ []) (string_bytes x.name)) at.1 w
-wanted_each root before [] f h w (suc n) g at = let lt = at.0 in absurd (omega (arith, lt))
-wanted_each root before (x ∷ fs) f h w zero g at = let lt : 0 < suc (length fs) = omega arith in h 0 g (lt, at.1)
-wanted_each root before (x ∷ fs) f h w (suc n) g at =
-    let lt = at.0 in
-    let step : (l : List File) → (before ++ x ∷ []) ++ l ≡ before ++ x ∷ l = λ l. append_assoc before (x ∷ []) l in
-    subst (λ l. IsWanted root l (string_bytes g.name)) (step (take n (fs ++ f ∷ [])))
-    (wanted_each root (before ++ x ∷ []) fs f (λ k y a. let below = a.0 in subst (λ l. IsWanted root l (string_bytes y.name)) (sym (step (take k fs))) (h (suc k) y (omega (arith, below), a.1)))
-    (subst (λ l. IsWanted root l (string_bytes f.name)) (sym (step fs)) w) n g (omega (arith, lt), at.1))
-
--- it is taken in, behind those before it
-pub loaded_more : (root : List ℕ) (old new : Sources) (f : File) (is : List ℕ) → new.files.items ≡ old.files.items ++ f ∷ [] → new.refused ≡ old.refused → string_bytes f.name ≡ is → IsWanted root old.files.items is → AreLoadedAs root old new
-loaded_more root old new f is e r same w = record {
-  more = (f ∷ [], e);
-  wanted = λ h. record {
-    each = subst (λ l. (n : ℕ) (f : File) → IsAt l n f → IsWanted root (take n l) (string_bytes f.name)) (sym e) (wanted_each root [] old.files.items f h.each (subst (IsWanted root old.files.items) (sym same) w));
-    fault = subst (λ o. IfSome o (λ name. IsWanted root new.files.items (string_bytes name))) (sym r) (faults old.refused h.fault);
-  };
-}
-  where
-    faults : (o : Option (String Global)) → IfSome o (λ name. IsWanted root old.files.items (string_bytes name)) → IfSome o (λ name. IsWanted root new.files.items (string_bytes name))
-    faults None h = tt
-    faults (Some n) h = wanted_later root old.files.items new.files.items (string_bytes n) (f ∷ [], e) h
-
--- the walk
-
-pub walks_loaded : (root : List ℕ) (old new : Loading) → new.work ≡ old.work → AreLoadedAs root old.sources new.sources → Walks root old new
-walks_loaded root old new e l = record {
-  more = l.more;
-  walk = λ h. record {
-    files = l.wanted h.files;
-    waiting = subst (λ w. All (IsWaiting root new.sources.files.items) w.items) (sym e) (waiting_later root old.sources.files.items new.sources.files.items old.work.items l.more h.waiting);
-  };
-}
-
-pub walks_then : (root : List ℕ) (a b c : Loading) → Walks root a b → Walks root b c → Walks root a c
-walks_then root a b c g h = record { more = follows_then a.sources.files.items b.sources.files.items c.sources.files.items g.more h.more; walk = λ w. h.walk (g.walk w) }
-
-pub walks_still : (root : List ℕ) (old new : Loading) → new.sources ≡ old.sources → new.work.items ≡ old.work.items → Walks root old new
-walks_still root old new s e = record {
-  more = follows_same old.sources.files.items new.sources.files.items (ap (λ x. x.files.items) s);
-  walk = λ h. record {
-    files = subst (AreWanted root) (sym s) h.files;
-    waiting = subst (λ x. All (IsWaiting root x.files.items) new.work.items) (sym s) (subst (All (IsWaiting root old.sources.files.items)) (sym e) h.waiting);
-  };
-}
-
-pub walks_none : (root : List ℕ) (l : Loading) → Walks root l l
-walks_none root l = walks_still root l l refl refl
-
-pub walks_waits : (root : List ℕ) (old new : Loading) (w : Work) → new.sources ≡ old.sources → new.work.items ≡ old.work.items ++ w ∷ [] → IsWaiting root old.sources.files.items w → Walks root old new
-walks_waits root old new w s e i = record {
-  more = follows_same old.sources.files.items new.sources.files.items (ap (λ x. x.files.items) s);
-  walk = λ h. record {
-    files = subst (AreWanted root) (sym s) h.files;
-    waiting = subst (λ x. All (IsWaiting root x.files.items) new.work.items) (sym s)
-        (subst (All (IsWaiting root old.sources.files.items)) (sym e) (All-push (IsWaiting root old.sources.files.items) old.work.items w h.waiting i));
-  };
-}
-
--- the one on top is taken
-pub walk_popped : (root : List ℕ) (old new : Loading) (w : Work) → new.sources ≡ old.sources → old.work.items ≡ new.work.items ++ w ∷ [] → IsWalk root old → IsWalk root new × IsWaiting root new.sources.files.items w
-walk_popped root old new w s e h =
-    let all = subst (λ x. All (IsWaiting root x.files.items) (new.work.items ++ w ∷ [])) (sym s) (subst (All (IsWaiting root old.sources.files.items)) e h.waiting) in
-    let parts = split (IsWaiting root new.sources.files.items) new.work.items w all in
-    (record { files = subst (AreWanted root) (sym s) h.files; waiting = parts.0 }, parts.1)
-  where
-    split : (P : Work → Type 0) (ws : List Work) (x : Work) → All P (ws ++ x ∷ []) → All P ws × P x
-    split P [] x h = (All-nil P, All-head P x [] h)
-    split P (y ∷ ws) x h =
-        let rest = split P ws x (All-tail P y (ws ++ x ∷ []) h) in
-        (All-cons P y ws (All-head P y (ws ++ x ∷ []) h) rest.0, rest.1)
-
-pub walk_begun : (root : List ℕ) (l : Loading) → l.sources.files.items ≡ [] → l.sources.refused ≡ None → l.work.items ≡ [] → IsWalk root l
-walk_begun root l e r w = record {
-  files = record {
-    each = λ n f at. absurd (nothing (subst (λ x. IsAt x n f) e at));
-    fault = subst (λ o. IfSome o (λ name. IsWanted root l.sources.files.items (string_bytes name))) (sym r) tt;
-  };
-  waiting = subst (All (IsWaiting root l.sources.files.items)) (sym w) (All-nil (IsWaiting root l.sources.files.items));
-}
-  where
-    nothing : {n : ℕ} {f : File} → IsAt [] n f → ⊥
-    nothing at = let lt = at.0 in omega (arith, lt)
-
--- what a file names
-
-named_signature : (root : List ℕ) (fs : List File) (f : File) (w : Spot) (name : List ℕ) → Contains fs f → Contains f.text.references.accum_sig.items w → name ≡ spelled f.text.bytes.items w → IsWanted root fs (name ++ ending part.Signature)
-named_signature root fs f w name h k e = a_signature f w h (Contains-append_left f.text.references.accum_sig.items f.text.references.accumulate.items w k) (ap (λ n. n ++ ending part.Signature) e)
-
-accumulated_both : (root : List ℕ) (fs : List File) (f : File) (w : Spot) (name : List ℕ) → Contains fs f → Contains f.text.references.accumulate.items w → name ≡ spelled f.text.bytes.items w → (p : Part) → IsWanted root fs (name ++ ending p)
-accumulated_both root fs f w name h k e part.Signature = a_signature f w h (Contains-append_right f.text.references.accum_sig.items f.text.references.accumulate.items w k) (ap (λ n. n ++ ending part.Signature) e)
-accumulated_both root fs f w name h k e part.Module = a_module f w h k (ap (λ n. n ++ ending part.Module) e)
+pub word_passed : {T : Type 0} (files : List File) (f : File) (w : Spot) (r : Result T BuildFault) (e : BuildFault) → IsErrAnd r (λ y. y ≡ e) → Contains files f → Contains (f.text.references.accum_sig.items ++ f.text.references.accumulate.items) w →
+    IsOfWord f.text.bytes.items w e → IfErr r (IsOfLoading files)
+word_passed {T} files f w r e is there names h = passed_up r e (IsOfLoading files) is (words_so {T = T} files f w (Err e) there names h)
 
 -- a word of a file at a place
 
 pub names_by : {X : Type 0} (xs : List X) (k : ℕ) (x : X) → IsAt xs k x → Contains xs x
 names_by xs k x at = subst (Contains xs) at.1 (Contains-get_or xs k x at.0)
 
-pub names_signature : (root : List ℕ) (fs : List File) (f : File) (w : Spot) (r : Result (Option (String Global)) BuildFault) → Contains fs f → Contains f.text.references.accum_sig.items w →
-    IfOk r (λ found. IfSome found (λ name. string_bytes name ≡ spelled f.text.bytes.items w)) → IfOk r (λ found. IfSome found (λ name. IsWanted root fs (string_bytes name ++ ending part.Signature)))
-names_signature root fs f w (Ok None) h k e = tt
-names_signature root fs f w (Ok (Some name)) h k e = named_signature root fs f w (string_bytes name) h k e
-names_signature root fs f w (Err x) h k e = tt
+-- the order, with one more step at its end
 
-pub names_module : (root : List ℕ) (fs : List File) (f : File) (w : Spot) (r : Result (Option (String Global)) BuildFault) → Contains fs f → Contains f.text.references.accumulate.items w →
-    IfOk r (λ found. IfSome found (λ name. string_bytes name ≡ spelled f.text.bytes.items w)) → IfOk r (λ found. IfSome found (λ name. (p : Part) → IsWanted root fs (string_bytes name ++ ending p)))
-names_module root fs f w (Ok None) h k e = tt
-names_module root fs f w (Ok (Some name)) h k e = accumulated_both root fs f w (string_bytes name) h k e
-names_module root fs f w (Err x) h k e = tt
+pub passed : {all : Bool} {before files : List File} {needs left : List Need} {n : Need} → Loads all before needs files (n ∷ left) → IsThere (before ++ files) n → Loads all before needs files left
+passed {before = before} {n = n} loads_none there = is_there (subst (λ fs. IsThere fs n) (append-nil before) there) loads_none
+passed (is_there old rest) there = is_there old (passed rest there)
+passed {before = before} {n = n} (is_loaded {f = f} {files = files} new is rest) there =
+    is_loaded new is (passed rest (subst (λ fs. IsThere fs n) (sym (append_assoc before (f ∷ []) files)) there))
 
--- nothing waits any more
-pub walk_emptied : (root : List ℕ) (old new : Loading) → new.sources ≡ old.sources → old.work.items ≡ new.work.items ++ [] → IsWalk root old → IsWalk root new
-walk_emptied root old new s e h = (walks_still root old new s (sym (e ∙ append-nil new.work.items))).walk h
+pub one_more : {all : Bool} {before files : List File} {needs left : List Need} {n : Need} {g : File} → Loads all before needs files (n ∷ left) → (IsThere (before ++ files) n → ⊥) → IsText n g →
+    Loads all before needs (files ++ g ∷ []) (named_by all g.part g.text ++ left)
+one_more {before = before} {n = n} loads_none new is = is_loaded (λ t. new (subst (λ fs. IsThere fs n) (sym (append-nil before)) t)) is loads_none
+one_more (is_there old rest) new is = is_there old (one_more rest new is)
+one_more {before = before} {n = n} (is_loaded {f = f} {files = files} first so rest) new is =
+    is_loaded first so (one_more rest (λ t. new (subst (λ fs. IsThere fs n) (append_assoc before (f ∷ []) files) t)) is)
 
--- none was at fault, and none is
+-- names that are noted
 
-pub none_blamed : (o : Option (String Global)) (is : List ℕ) → IfSome o (λ file. o ≡ None → string_bytes file ≡ is)
-none_blamed None is = tt
-none_blamed (Some s) is = λ e. absurd (cc)
+among_there : (n : List ℕ) (ns : List (List ℕ)) → is_among n ns ≡ true → Contains ns n
+among_there n [] e = absurd (true≢false (sym e))
+among_there n (m ∷ ms) e = by (among_there n ms) (bytes_eq n m) refl e
+  where
+    by : (is_among n ms ≡ true → Contains ms n) → (t : Bool) → bytes_eq n m ≡ t → (t || is_among n ms) ≡ true → Contains (m ∷ ms) n
+    by rest true same e = subst (λ x. Contains (m ∷ ms) x) (sym (bytes_eq_true n m same)) (Contains_head m ms)
+    by rest false other e = Contains_tail m n ms (rest e)
 
-pub still_none : (o p : Option (String Global)) (is : List ℕ) → p ≡ o → IfSome p (λ file. o ≡ None → string_bytes file ≡ is)
-still_none o p is e = subst (λ x. IfSome x (λ file. o ≡ None → string_bytes file ≡ is)) (sym e) (none_blamed o is)
+there_among : (n : List ℕ) (ns : List (List ℕ)) → Contains ns n → is_among n ns ≡ true
+there_among n [] (k, lt, e) = absurd (omega (arith, lt))
+there_among n (m ∷ ms) (zero, lt, e) = ap (λ x. bytes_eq n x || is_among n ms) e ∙ ap (λ t. t || is_among n ms) (bytes_eq_self n)
+there_among n (m ∷ ms) (suc k, lt, e) = or_true (bytes_eq n m) (is_among n ms) (there_among n ms (k, omega (arith, lt), e))
+  where
+    or_true : (a b : Bool) → b ≡ true → (a || b) ≡ true
+    or_true true b e = refl
+    or_true false b e = e
 
-pub blamed_after : (o m p : Option (String Global)) (is : List ℕ) → m ≡ o → IfSome p (λ file. m ≡ None → string_bytes file ≡ is) → IfSome p (λ file. o ≡ None → string_bytes file ≡ is)
-blamed_after o m p is e h = subst (λ x. IfSome p (λ file. x ≡ None → string_bytes file ≡ is)) e h
+-- whether a name is new
+pub new_is : {S : Type 0} (set : IndexSet (Vec ℕ Global) S) (names : List (List ℕ)) (key : Vec ℕ Global) (n : List ℕ) (fresh : Bool) → key.items ≡ n → fresh ≡ not (list_any (λ x. bytes_eq key.items x.items) set.keys) →
+    HasKeys set names → is_among n names ≡ not fresh
+new_is set names key n fresh is e h = sym (ap (λ k. is_among k names) is) ∙ sym (h key.items) ∙ twice (list_any (λ x. bytes_eq key.items x.items) set.keys) ∙ ap not (sym e)
+  where
+    twice : (b : Bool) → b ≡ not (not b)
+    twice true = refl
+    twice false = refl
 
-pub blamed_is : (o p : Option (String Global)) (is : List ℕ) → IfSome p (λ file. o ≡ None → string_bytes file ≡ is) → o ≡ None → IfSome p (λ file. string_bytes file ≡ is)
-blamed_is o None is h e = tt
-blamed_is o (Some s) is h e = h e
+-- a name that was there already is no other one
+keys_again : {S : Type 0} (set : IndexSet (Vec ℕ Global) S) (names : List (List ℕ)) (n : List ℕ) → is_among n names ≡ true → HasKeys set (names ++ n ∷ []) → HasKeys set names
+keys_again set names n there h = λ m. h m ∙ among_append m names (n ∷ []) ∙ by m (bytes_eq m n) refl (is_among m names) refl
+  where
+    by : (m : List ℕ) (t : Bool) → bytes_eq m n ≡ t → (a : Bool) → is_among m names ≡ a → (a || (t || false)) ≡ a
+    by m t e true f = refl
+    by m false e false f = refl
+    by m true e false f = absurd (true≢false (sym there ∙ ap (λ x. is_among x names) (sym (bytes_eq_true m n e)) ∙ f))
 
--- the first name stays where files are loaded
-pub begins_follow : (fs gs : List File) (name : List ℕ) → Follows fs gs → BeginsWith name (names_of fs) → BeginsWith name (names_of gs)
-begins_follow [] gs name m b = absurd b
-begins_follow (f ∷ fs) gs name (m, e) b = subst (λ l. BeginsWith name (names_of l)) (sym e) b
+-- what waits
+
+at_later : {X : Type 0} (xs ys : List X) (i : ℕ) (x : X) → IsAt xs i x → IsAt (xs ++ ys) i x
+at_later [] ys i x at = let lt = at.0 in absurd (omega (arith, lt))
+at_later (z ∷ xs) ys zero x at = let lt : 0 < suc (length (xs ++ ys)) = omega arith in (lt, at.1)
+at_later (z ∷ xs) ys (suc i) x at =
+    let below = at.0 in
+    let rest = at_later xs ys i x (omega (arith, below), at.1) in
+    let lt = rest.0 in
+    (omega (arith, lt), rest.1)
+
+pub last_is : {X : Type 0} (xs : List X) (x : X) → IsAt (xs ++ x ∷ []) (length xs) x
+last_is [] x = let lt : 0 < 1 = omega arith in (lt, refl)
+last_is (z ∷ xs) x = let rest = last_is xs x in let lt = rest.0 in (omega (arith, lt), rest.1)
+
+owed_later : (all : Bool) (fs gs : List File) (w : Work) (needs : List Need) → IsOwed all fs w needs → IsOwed all (fs ++ gs) w needs
+owed_later all fs gs (work.Signatures i at) needs h = (h.0, at_later fs gs i h.0 h.1, h.2)
+owed_later all fs gs (work.Module n) needs h = h
+owed_later all fs gs (work.Accumulated i at) needs h = (h.0, at_later fs gs i h.0 h.1, h.2)
+
+all_owed_later : (all : Bool) (fs gs : List File) (ws : List Work) (needs : List Need) → AreOwed all fs ws needs → AreOwed all (fs ++ gs) ws needs
+all_owed_later all fs gs [] needs h = h
+all_owed_later all fs gs (w ∷ ws) needs h = (h.0, h.1, all_owed_later all fs gs ws h.0 h.2, owed_later all fs gs w h.1 h.3, h.4)
+
+-- one more piece of work
+pub owed_more : (all : Bool) (fs : List File) (ws : List Work) (w : Work) (mine needs : List Need) → IsOwed all fs w mine → AreOwed all fs ws needs → AreOwed all fs (ws ++ w ∷ []) (mine ++ needs)
+owed_more all fs [] w mine needs is h = ([], mine, refl, is, ap (λ l. mine ++ l) h ∙ append-nil mine)
+owed_more all fs (v ∷ ws) w mine needs is h =
+    (mine ++ h.0, h.1, owed_more all fs ws w mine h.0 is h.2, h.3, ap (λ l. mine ++ l) h.4 ∙ sym (append_assoc mine h.0 h.1))
+
+-- what a file names waits
+pub signature_owed : (all : Bool) (fs : List File) (ws vs : List Work) (i : ℕ) (f : File) (p : Part) (left : List Need) → vs ≡ ws ++ work.Signatures i 0 ∷ [] → p ≡ part.Signature → IsAt fs i f → f.part ≡ p → AreOwed all fs ws left →
+    AreOwed all fs vs (named_by all f.part f.text ++ left)
+signature_owed all fs ws vs i f p left e s at is h =
+    subst (λ v. AreOwed all fs v (named_by all f.part f.text ++ left)) (sym e)
+    (subst (λ q. AreOwed all fs (ws ++ work.Signatures i 0 ∷ []) (named_by all q f.text ++ left)) (sym (is ∙ s))
+    (owed_more all fs ws (work.Signatures i 0) (named_by all part.Signature f.text) left (f, at, refl) h))
+
+pub own_owed : (all : Bool) (fs : List File) (ws us vs : List Work) (i : ℕ) (f : File) (p : Part) (left : List Need) → us ≡ ws ++ work.Accumulated i 0 ∷ [] → vs ≡ us ++ work.Signatures i 0 ∷ [] → p ≡ part.Module →
+    IsAt fs i f → f.part ≡ p → AreOwed all fs ws left → AreOwed all fs vs (named_by all f.part f.text ++ left)
+own_owed all fs ws us vs i f p left u e s at is h =
+    let sigs = asked_by signature f.text.bytes.items f.text.references.accum_sig.items in
+    let mods = asked_by (accumulated all) f.text.bytes.items f.text.references.accumulate.items in
+    subst (λ v. AreOwed all fs v (named_by all f.part f.text ++ left)) (sym e)
+    (subst (λ q. AreOwed all fs (us ++ work.Signatures i 0 ∷ []) (named_by all q f.text ++ left)) (sym (is ∙ s))
+    (subst (AreOwed all fs (us ++ work.Signatures i 0 ∷ [])) (sym (append_assoc sigs mods left))
+    (owed_more all fs us (work.Signatures i 0) sigs (mods ++ left) (f, at, refl)
+    (subst (λ v. AreOwed all fs v (mods ++ left)) (sym u) (owed_more all fs ws (work.Accumulated i 0) mods left (f, at, refl) h)))))
+
+pub module_owed : (all : Bool) (fs : List File) (ws vs : List Work) (m : String Global) (name : List ℕ) (left : List Need) → vs ≡ ws ++ work.Module m ∷ [] → string_bytes m ≡ name → AreOwed all fs ws left → AreOwed all fs vs (needed part.Module name ∷ left)
+module_owed all fs ws vs m name left e is h =
+    subst (λ v. AreOwed all fs v (needed part.Module name ∷ left)) (sym e)
+    (subst (λ n. AreOwed all fs (ws ++ work.Module m ∷ []) (needed part.Module n ∷ left)) is (owed_more all fs ws (work.Module m) (needed part.Module (string_bytes m) ∷ []) left refl h))
+
+-- the last one is taken
+owed_taken : (all : Bool) (fs : List File) (ws : List Work) (w : Work) (needs : List Need) → AreOwed all fs (ws ++ w ∷ []) needs → (mine rest : List Need) × IsOwed all fs w mine × AreOwed all fs ws rest × (needs ≡ mine ++ rest)
+owed_taken all fs [] w needs h = (h.1, [], h.3, refl, h.4 ∙ ap (λ l. l ++ h.1) h.2 ∙ sym (append-nil h.1))
+owed_taken all fs (v ∷ ws) w needs h =
+    let t = owed_taken all fs ws w h.0 h.2 in
+    (t.0, t.1 ++ h.1, t.2, (t.1, h.1, t.3, h.3, refl), h.4 ∙ ap (λ l. l ++ h.1) t.4 ∙ append_assoc t.0 t.1 h.1)
+
+-- the walk
+
+no_fault : (o : Option (String Global)) (P : String Global → Type 0) → o ≡ None → IfSome o P
+no_fault o P e = subst (λ x. IfSome x P) (sym e) tt
+
+pub so_far : (all : Bool) (root : List ℕ) (next : List Need) (l : Loading) → IsWalk all root next l → AreInOrderSoFar all root l.sources
+so_far all root next l w = record { left = next ++ w.left; order = w.order; fault = no_fault l.sources.refused (IsNext l.sources.files.items (next ++ w.left)) w.none }
+
+pub so_far_same : (all : Bool) (root : List ℕ) (next : List Need) (l : Loading) (s : Sources) → s ≡ l.sources → IsWalk all root next l → AreInOrderSoFar all root s
+so_far_same all root next l s e w = subst (AreInOrderSoFar all root) (sym e) (so_far all root next l w)
+
+-- the next text is there
+pub walk_there : (all : Bool) (root : List ℕ) (n : Need) (old new : Loading) → new.all ≡ old.all → new.sources ≡ old.sources → new.work ≡ old.work →
+    is_among (file_of n) (names_of old.sources.files.items) ≡ true → HasKeys new.names (names_of old.sources.files.items ++ file_of n ∷ []) → IsWalk all root (n ∷ []) old → IsWalk all root [] new
+walk_there all root n old new a s v there keys w = record {
+  is = a ∙ w.is;
+  left = w.left;
+  order = subst (λ x. Loads all [] (both root) x.files.items w.left) (sym s) (passed w.order (among_there (file_of n) (names_of old.sources.files.items) there));
+  owed = subst (λ x. AreOwed all x.files.items new.work.items w.left) (sym s) (subst (λ x. AreOwed all old.sources.files.items x.items w.left) (sym v) w.owed);
+  names = subst (λ x. HasKeys new.names (names_of x.files.items)) (sym s) (keys_again new.names (names_of old.sources.files.items) (file_of n) there keys);
+  none = ap (λ x. x.refused) s ∙ w.none;
+}
+
+not_there : (n : Need) (files : List File) → is_among (file_of n) (names_of files) ≡ false → IsThere files n → ⊥
+not_there n files e h = true≢false (sym (there_among (file_of n) (names_of files) h) ∙ e)
+
+-- it is not, and was not loaded
+pub so_far_at_fault : (all : Bool) (root : List ℕ) (n : Need) (old : Loading) (s : Sources) → is_among (file_of n) (names_of old.sources.files.items) ≡ false → IsNotLoaded n old.sources s → IsWalk all root (n ∷ []) old → AreInOrderSoFar all root s
+so_far_at_fault all root n old s new not w = record {
+  left = n ∷ w.left;
+  order = subst (λ fs. Loads all [] (both root) fs (n ∷ w.left)) (sym not.files) w.order;
+  fault = subst (λ fs. IfSome s.refused (IsNext fs (n ∷ w.left))) (sym not.files) (by s.refused not.fault);
+}
+  where
+    by : (o : Option (String Global)) → IfSome o (λ name. old.sources.refused ≡ None → string_bytes name ≡ file_of n) → IfSome o (IsNext old.sources.files.items (n ∷ w.left))
+    by None h = tt
+    by (Some name) h = (not_there n old.sources.files.items new, h w.none)
+
+-- it is loaded
+loaded_order : (all : Bool) (root : List ℕ) (n : Need) (old : Loading) (s : Sources) (at : ℕ) → is_among (file_of n) (names_of old.sources.files.items) ≡ false → (l : IsLoadedAt n old.sources s at) → (w : IsWalk all root (n ∷ []) old) →
+    Loads all [] (both root) s.files.items (named_by all l.file.part l.file.text ++ w.left)
+loaded_order all root n old s at new l w =
+    subst (λ fs. Loads all [] (both root) fs (named_by all l.file.part l.file.text ++ w.left)) (sym l.files) (one_more w.order (not_there n old.sources.files.items new) l.is)
+
+pub so_far_loaded : (all : Bool) (root : List ℕ) (n : Need) (old : Loading) (s : Sources) (at : ℕ) → is_among (file_of n) (names_of old.sources.files.items) ≡ false → IsLoadedAt n old.sources s at → IsWalk all root (n ∷ []) old → AreInOrderSoFar all root s
+so_far_loaded all root n old s at new l w =
+    let left = named_by all l.file.part l.file.text ++ w.left in
+    record { left = left; order = loaded_order all root n old s at new l w; fault = no_fault s.refused (IsNext s.files.items left) (l.refused ∙ w.none) }
+
+names_more : (fs : List File) (f : File) → names_of (fs ++ f ∷ []) ≡ names_of fs ++ string_bytes f.name ∷ []
+names_more [] f = refl
+names_more (g ∷ fs) f = ap (λ l. string_bytes g.name ∷ l) (names_more fs f)
+
+pub walk_loaded : (all : Bool) (root : List ℕ) (n : Need) (old new : Loading) (s : Sources) (at : ℕ) → new.all ≡ old.all → new.sources ≡ s → is_among (file_of n) (names_of old.sources.files.items) ≡ false →
+    HasKeys new.names (names_of old.sources.files.items ++ file_of n ∷ []) → (l : IsLoadedAt n old.sources s at) →
+    ((f : File) (left : List Need) → IsAt s.files.items at f → f.part ≡ n.part → AreOwed all s.files.items old.work.items left → AreOwed all s.files.items new.work.items (named_by all f.part f.text ++ left)) →
+    IsWalk all root (n ∷ []) old → IsWalk all root [] new
+walk_loaded all root n old new s at a e fresh keys l owed w = record {
+  is = a ∙ w.is;
+  left = named_by all l.file.part l.file.text ++ w.left;
+  order = subst (λ x. Loads all [] (both root) x.files.items (named_by all l.file.part l.file.text ++ w.left)) (sym e) (loaded_order all root n old s at fresh l w);
+  owed = subst (λ x. AreOwed all x.files.items new.work.items (named_by all l.file.part l.file.text ++ w.left)) (sym e)
+      (owed l.file w.left
+      (subst (λ fs. IsAt fs at l.file) (sym l.files) (subst (λ i. IsAt (old.sources.files.items ++ l.file ∷ []) i l.file) (sym l.last) (last_is old.sources.files.items l.file))) l.is.part
+      (subst (λ fs. AreOwed all fs old.work.items w.left) (sym l.files) (all_owed_later all old.sources.files.items (l.file ∷ []) old.work.items w.left w.owed)));
+  names = subst (λ x. HasKeys new.names (names_of x.files.items)) (sym e)
+      (subst (λ fs. HasKeys new.names (names_of fs)) (sym l.files)
+      (subst (HasKeys new.names) (ap (λ m. names_of old.sources.files.items ++ m ∷ []) (sym l.is.name) ∙ sym (names_more old.sources.files.items l.file)) keys));
+  none = ap (λ x. x.refused) e ∙ l.refused ∙ w.none;
+}
+
+-- what is needed next goes to what waits
+pub walk_waits : (all : Bool) (root : List ℕ) (next later : List Need) (old new : Loading) → new.all ≡ old.all → new.sources ≡ old.sources → new.names ≡ old.names →
+    ((left : List Need) → AreOwed all old.sources.files.items old.work.items left → AreOwed all old.sources.files.items new.work.items (later ++ left)) → IsWalk all root (next ++ later) old → IsWalk all root next new
+walk_waits all root next later old new a s k owed w = record {
+  is = a ∙ w.is;
+  left = later ++ w.left;
+  order = subst (λ x. Loads all [] (both root) x.files.items (next ++ (later ++ w.left))) (sym s) (subst (Loads all [] (both root) old.sources.files.items) (append_assoc next later w.left) w.order);
+  owed = subst (λ x. AreOwed all x.files.items new.work.items (later ++ w.left)) (sym s) (owed w.left w.owed);
+  names = subst (λ x. HasKeys x (names_of new.sources.files.items)) (sym k) (subst (λ x. HasKeys old.names (names_of x.files.items)) (sym s) w.names);
+  none = ap (λ x. x.refused) s ∙ w.none;
+}
+
+-- no file is at fault
+unblamed : (o : Option (String Global)) (is : List ℕ) → IfSome o (λ name. o ≡ None → string_bytes name ≡ is)
+unblamed None is = tt
+unblamed (Some name) is = λ e. absurd (cc)
+
+pub not_at_fault : (n : Need) (s : Sources) → IsNotLoaded n s s
+not_at_fault n s = record { files = refl; fault = unblamed s.refused (file_of n) }
+
+-- the file of a number is one
+same_file : (files : List File) (i : ℕ) (f g : File) → IsAt files i f → IsAt files i g → f ≡ g
+same_file files i f g at to = sym at.1 ∙ get_or_default files i f g at.0 ∙ to.1
+
+pub word_of : (words : File → List Spot) (files : List File) (i at : ℕ) (f g : File) (o : Option (String Global)) → IsAt files i f → IsAt files i g → IsWordAt f.text.bytes.items (words f) at o → IsWordAt g.text.bytes.items (words g) at o
+word_of words files i at f g o here there h = subst (λ (x : File). IsWordAt x.text.bytes.items (words x) at o) (same_file files i f g here there) h
+
+-- words of a text, from a place on
+
+asked_on : (ask : List ℕ → List Need) (text : List ℕ) (words : List Spot) (at : ℕ) (w : Spot) → IsAt words at w → asked_by ask text (drop at words) ≡ ask (spelled text w) ++ asked_by ask text (drop (at + 1) words)
+asked_on ask text words at w is = ap (asked_by ask text) (drop_more words at w is.0) ∙ ap (λ x. ask (spelled text x) ++ asked_by ask text (drop (at + 1) words)) is.1
+
+pub asked_next : (ask : List ℕ → List Need) (text : List ℕ) (words : List Spot) (at next : ℕ) (name : String Global) (o : Option (String Global)) (needs : List Need) → o ≡ Some name →
+    next ≡ at + 1 → IsWordAt text words at o → needs ≡ asked_by ask text (drop at words) → needs ≡ ask (string_bytes name) ++ asked_by ask text (drop next words)
+asked_next ask text words at next name None needs e k h q = absurd (cc)
+asked_next ask text words at next name (Some n) needs e k h q =
+    let same : n ≡ name = cc in
+    q ∙ asked_on ask text words at h.0 h.1 ∙ ap (λ x. ask x ++ asked_by ask text (drop (at + 1) words)) (sym h.2 ∙ ap string_bytes same) ∙ ap (λ x. ask (string_bytes name) ++ asked_by ask text (drop x words)) (sym k)
+
+pub asked_no_more : (ask : List ℕ → List Need) (text : List ℕ) (words : List Spot) (at : ℕ) (o : Option (String Global)) (needs : List Need) → o ≡ None → IsWordAt text words at o → needs ≡ asked_by ask text (drop at words) → needs ≡ []
+asked_no_more ask text words at None needs e h q = q ∙ ap (asked_by ask text) (drop_all at words h)
+asked_no_more ask text words at (Some n) needs e h q = absurd (cc)
+
+-- the word of a place is needed next, and what is behind it waits
+pub signatures_wait : (all : Bool) (root : List ℕ) (old new : Loading) (i at next : ℕ) (name : String Global) (needs : List Need) → new.all ≡ old.all → new.sources ≡ old.sources → new.names ≡ old.names →
+    new.work.items ≡ old.work.items ++ work.Signatures i next ∷ [] → ((f : File) → at < length f.text.references.accum_sig.items → next ≡ at + 1) → ((f : File) → IsAt old.sources.files.items i f → IsWordAt f.text.bytes.items f.text.references.accum_sig.items at (Some name)) →
+    IsOwed all old.sources.files.items (work.Signatures i at) needs → IsWalk all root needs old → IsWalk all root (signature (string_bytes name)) new
+signatures_wait all root old new i at next name needs a s k v n word owed w =
+    let f = owed.0 in
+    let later = asked_by signature f.text.bytes.items (drop next f.text.references.accum_sig.items) in
+    walk_waits all root (signature (string_bytes name)) later old new a s k
+    (λ left h. subst (λ x. AreOwed all old.sources.files.items x (later ++ left)) (sym v) (owed_more all old.sources.files.items old.work.items (work.Signatures i next) later left (f, owed.1, refl) h))
+    (subst (λ x. IsWalk all root x old) (asked_next signature f.text.bytes.items f.text.references.accum_sig.items at next name (Some name) needs refl (n f (word f owed.1).1.0) (word f owed.1) owed.2) w)
+
+pub modules_wait : (all : Bool) (root : List ℕ) (old new : Loading) (i at next : ℕ) (name : String Global) (needs : List Need) → new.all ≡ old.all → new.sources ≡ old.sources → new.names ≡ old.names →
+    new.work.items ≡ old.work.items ++ work.Accumulated i next ∷ [] → ((f : File) → at < length f.text.references.accumulate.items → next ≡ at + 1) → ((f : File) → IsAt old.sources.files.items i f → IsWordAt f.text.bytes.items f.text.references.accumulate.items at (Some name)) →
+    IsOwed all old.sources.files.items (work.Accumulated i at) needs → IsWalk all root needs old → IsWalk all root (accumulated all (string_bytes name)) new
+modules_wait all root old new i at next name needs a s k v n word owed w =
+    let f = owed.0 in
+    let later = asked_by (accumulated all) f.text.bytes.items (drop next f.text.references.accumulate.items) in
+    walk_waits all root (accumulated all (string_bytes name)) later old new a s k
+    (λ left h. subst (λ x. AreOwed all old.sources.files.items x (later ++ left)) (sym v) (owed_more all old.sources.files.items old.work.items (work.Accumulated i next) later left (f, owed.1, refl) h))
+    (subst (λ x. IsWalk all root x old) (asked_next (accumulated all) f.text.bytes.items f.text.references.accumulate.items at next name (Some name) needs refl (n f (word f owed.1).1.0) (word f owed.1) owed.2) w)
+
+-- there is no word at the place
+pub no_signature : (all : Bool) (root : List ℕ) (old : Loading) (i at : ℕ) (needs : List Need) → ((f : File) → IsAt old.sources.files.items i f → IsWordAt f.text.bytes.items f.text.references.accum_sig.items at None) →
+    IsOwed all old.sources.files.items (work.Signatures i at) needs → IsWalk all root needs old → IsWalk all root [] old
+no_signature all root old i at needs word owed w =
+    let f = owed.0 in
+    subst (λ x. IsWalk all root x old) (asked_no_more signature f.text.bytes.items f.text.references.accum_sig.items at None needs refl (word f owed.1) owed.2) w
+
+pub no_module : (all : Bool) (root : List ℕ) (old : Loading) (i at : ℕ) (needs : List Need) → ((f : File) → IsAt old.sources.files.items i f → IsWordAt f.text.bytes.items f.text.references.accumulate.items at None) →
+    IsOwed all old.sources.files.items (work.Accumulated i at) needs → IsWalk all root needs old → IsWalk all root [] old
+no_module all root old i at needs word owed w =
+    let f = owed.0 in
+    subst (λ x. IsWalk all root x old) (asked_no_more (accumulated all) f.text.bytes.items f.text.references.accumulate.items at None needs refl (word f owed.1) owed.2) w
+
+-- one piece of work is taken
+pub walk_taken : (all : Bool) (root : List ℕ) (old new : Loading) (w : Work) → new.all ≡ old.all → new.sources ≡ old.sources → new.names ≡ old.names → old.work.items ≡ new.work.items ++ w ∷ [] → IsWalk all root [] old →
+    (needs : List Need) × IsOwed all new.sources.files.items w needs × IsWalk all root needs new
+walk_taken all root old new w a s k e walk =
+    let t = owed_taken all old.sources.files.items new.work.items w walk.left (subst (λ v. AreOwed all old.sources.files.items v walk.left) e walk.owed) in (
+      t.0,
+      subst (λ x. IsOwed all x.files.items w t.0) (sym s) t.2,
+      record {
+        is = a ∙ walk.is;
+        left = t.1;
+        order = subst (λ x. Loads all [] (both root) x.files.items (t.0 ++ t.1)) (sym s) (subst (Loads all [] (both root) old.sources.files.items) t.4 walk.order);
+        owed = subst (λ x. AreOwed all x.files.items new.work.items t.1) (sym s) t.3;
+        names = subst (λ x. HasKeys x (names_of new.sources.files.items)) (sym k) (subst (λ x. HasKeys old.names (names_of x.files.items)) (sym s) walk.names);
+        none = ap (λ x. x.refused) s ∙ walk.none;
+      },
+    )
+
+-- nothing waits
+pub walk_ended : (all : Bool) (root : List ℕ) (l : Loading) → l.work.items ≡ [] → IsWalk all root [] l → AreInOrder all root l.sources
+walk_ended all root l e w = subst (Loads all [] (both root) l.sources.files.items) (subst (λ v. AreOwed all l.sources.files.items v w.left) e w.owed) w.order
+
+pub walk_begun : (all : Bool) (root : List ℕ) (l : Loading) → l.all ≡ all → l.sources.files.items ≡ [] → l.sources.refused ≡ None → l.work.items ≡ [] → HasKeys l.names [] → IsWalk all root (both root) l
+walk_begun all root l a e none none_waits keys = record {
+  is = a;
+  left = [];
+  order = subst (λ fs. Loads all [] (both root) fs (both root)) (sym e) loads_none;
+  owed = subst (λ v. AreOwed all l.sources.files.items v []) (sym none_waits) refl;
+  names = subst (λ fs. HasKeys l.names (names_of fs)) (sym e) keys;
+  none = none;
+}

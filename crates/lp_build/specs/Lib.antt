@@ -1,7 +1,7 @@
 pub mod Faults
 pub mod Loads
 pub mod Told
-pub mod Wanted
+pub mod Ordered
 pub mod Named
 pub mod Reads
 pub mod Sights

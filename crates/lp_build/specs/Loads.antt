@@ -133,7 +133,3 @@ modules_among (f ∷ fs) = of_module f.part (string_bytes f.module) ++ modules_a
 abbrev pub BeginsWith : List ℕ → List (List ℕ) → Type 0
 BeginsWith name [] = ⊥
 BeginsWith name (n ∷ ns) = n ≡ name
-
--- the first name stays
-abbrev pub Keeps : List (List ℕ) → List (List ℕ) → Type 0
-Keeps old new = (name : List ℕ) → BeginsWith name old → BeginsWith name new

@@ -1,7 +1,6 @@
 pub mod Linked
 pub mod Placed
 pub mod Wholes
-pub mod Waiting
 pub mod Coded
 pub mod Refusing
 pub mod Walking

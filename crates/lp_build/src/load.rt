@@ -1,9 +1,9 @@
 // The loading of files.
-ghost use Rattle.std.specs.Prelude.{◌≡◌, ◌⊎◌, ◌++◌, codes, IfOk, IfErr, IfSome, length, string_bytes};
-ghost use Rattle.lp_build.specs.Loads.{Outside, fault_beside, IsOfLoading, BeginsWith, modules_among, names_of};
+ghost use Rattle.std.specs.Prelude.{IfOk, IfErr};
+ghost use Rattle.lp_build.specs.Loads.{Outside, fault_beside, IsOfLoading};
 ghost use Rattle.lp_build.specs.Reads.{AreRead};
 ghost use Rattle.lp_build.specs.Told.{AreKnown, AreLoaded, IsFaultIn};
-ghost use Rattle.lp_build.specs.Wanted.{AreWanted};
+ghost use Rattle.lp_build.specs.Ordered.{AreInOrder, AreInOrderSoFar};
 
 use crate::fault::BuildFault;
 use crate::sources::Sources;
@@ -19,13 +19,10 @@ pub fn gather<F: Folder>(
     root: &str,
     all: bool,
 ) -> Result<Sources, (Sources, BuildFault)>
-    ensures begins { IfOk result (λ sources. BeginsWith (root.now ++ codes ".sig") (names_of sources.files.items)) }
-    ensures first { IfOk result (λ sources. BeginsWith root.now (modules_among sources.files.items)) }
+    ensures ordered { IfOk result (AreInOrder all root.now) }
+    ensures ordered_so_far { IfErr result (λ r. AreInOrderSoFar all root.now r.0) }
     ensures read { IfOk result AreRead }
     ensures read_so_far { IfErr result (λ r. AreRead r.0) }
-    ensures wanted { IfOk result (AreWanted root.now) }
-    ensures wanted_so_far { IfErr result (λ r. AreWanted root.now r.0) }
-    ensures begins_so_far { IfErr result (λ r. BeginsWith (root.now ++ codes ".sig") (names_of r.0.files.items) ⊎ IfSome r.0.refused (λ file. string_bytes file ≡ root.now ++ codes ".sig")) }
     ensures refused { IfErr result (λ r. IsOfLoading r.0.files.items r.1) }
     ensures outside { Outside F.read_faults F.misses F.overs F.write_faults F.held folder.old folder.new (fault_beside result) }
     ensures files { IfOk result (AreLoaded (F.held folder.old)) }
@@ -43,13 +40,10 @@ pub fn gather_with<F: Folder>(
     all: bool,
     known: Vec<(String, Vec<u8>)>,
 ) -> Result<Sources, (Sources, BuildFault)>
-    ensures begins { IfOk result (λ sources. BeginsWith (root.now ++ codes ".sig") (names_of sources.files.items)) }
-    ensures first { IfOk result (λ sources. BeginsWith root.now (modules_among sources.files.items)) }
+    ensures ordered { IfOk result (AreInOrder all root.now) }
+    ensures ordered_so_far { IfErr result (λ r. AreInOrderSoFar all root.now r.0) }
     ensures read { IfOk result AreRead }
     ensures read_so_far { IfErr result (λ r. AreRead r.0) }
-    ensures wanted { IfOk result (AreWanted root.now) }
-    ensures wanted_so_far { IfErr result (λ r. AreWanted root.now r.0) }
-    ensures begins_so_far { IfErr result (λ r. BeginsWith (root.now ++ codes ".sig") (names_of r.0.files.items) ⊎ IfSome r.0.refused (λ file. string_bytes file ≡ root.now ++ codes ".sig")) }
     ensures refused { IfErr result (λ r. IsOfLoading r.0.files.items r.1) }
     ensures outside { Outside F.read_faults F.misses F.overs F.write_faults F.held folder.old folder.new (fault_beside result) }
     ensures files { AreKnown (F.held folder.old) known.items → IfOk result (AreLoaded (F.held folder.old)) }

@@ -1,12 +1,11 @@
 // The reading of one file.
-ghost use Rattle.std.specs.Prelude.{◌≡◌, ◌++◌, ◌+◌, ◌∷◌, [], ◌<◌, codes, IfOk, OnOk, IfErr, length, string_bytes};
-ghost use Rattle.std.specs.Prelude.{IfSome, List, Option, None, true, ℕ};
+ghost use Rattle.std.specs.Prelude.{◌≡◌, ◌++◌, ◌<◌, IfOk, IfErr, OnErr, IfSome, Option, None, true, string_bytes};
 ghost use Rattle.lp_base.specs.Held.{Held};
-ghost use Rattle.lp_build.specs.Loads.{Outside, fault_of, IsOfText, IsOfRead, IsOfReading, IsOfLoading, names_of, modules_among, of_module, ending};
+ghost use Rattle.lp_build.specs.Loads.{Outside, fault_of, IsOfText, IsOfRead, IsOfReading, IsOfLoading, ending};
 ghost use Rattle.lp_build.specs.Reads.{AreRead, IsReadText};
 ghost use Rattle.lp_build.specs.Told.{IsTold, AreKnown, IsFaultOf, IsFaultAt, HoldsTold};
-ghost use Rattle.lp_build.specs.Wanted.{IsWanted};
-ghost use Rattle.lp_build.specs.inner.Walking.{AreLoadedAs};
+ghost use Rattle.lp_build.specs.Ordered.{needed};
+ghost use Rattle.lp_build.specs.inner.Walking.{IsLoadedAt, IsNotLoaded};
 
 use crate::fault::BuildFault;
 use crate::sources::{File, Part, Sources, Text};
@@ -101,7 +100,7 @@ fn read_text<F: Folder>(
 }
 
 // The name of a file of a module.
-fn file_name(alloc: Global, stem: &str, part: Part) -> Result<String, Memory>
+pub(crate) fn file_name(alloc: Global, stem: &str, part: Part) -> Result<String, Memory>
     ensures { IfOk result (λ name. string_bytes name ≡ stem.now ++ ending part) }
 {
     let mut name = String::from_str(alloc, stem)?;
@@ -124,11 +123,9 @@ pub(crate) fn load_file<F: Folder>(
     ensures outside { Outside F.read_faults F.misses F.overs F.write_faults F.held folder.old folder.new (fault_of result) }
     ensures refused { IfErr result (IsOfLoading sources.new.files.items) }
     ensures read { AreRead sources.old → AreRead sources.new }
-    ensures names { OnOk result (names_of sources.new.files.items ≡ names_of sources.old.files.items ++ (stem.now ++ ending part) ∷ []) }
-    ensures modules { OnOk result (modules_among sources.new.files.items ≡ modules_among sources.old.files.items ++ of_module part stem.now) }
+    ensures loaded { IfOk result (IsLoadedAt (needed part stem.now) sources.old sources.new) }
+    ensures not_loaded { OnErr result (IsNotLoaded (needed part stem.now) sources.old sources.new) }
     ensures told { HoldsTold (F.held folder.old) known.old.items sources.old None → HoldsTold (F.held folder.old) known.new.items sources.new (fault_of result) }
-    ensures blames { IfSome sources.new.refused (λ file. sources.old.refused ≡ None → string_bytes file ≡ stem.now ++ ending part) }
-    ensures loaded { (root : List ℕ) → IsWanted root sources.old.files.items (stem.now ++ ending part) → AreLoadedAs root sources.old sources.new }
 {
     let at = sources.files.len();
     if at >= MAX_MODULES {

@@ -1,19 +1,21 @@
 // The order in which files are loaded.
-ghost use Rattle.std.specs.Prelude.{◌≡◌, ◌⊎◌, ◌++◌, ◌∷◌, [], ◌<◌, ◌^◌, ℕ, List, codes, IfOk, OnOk, IfErr, length};
-ghost use Rattle.std.specs.Prelude.{IfSome, None, String, string_bytes};
+ghost use Rattle.std.specs.Prelude.{◌≡◌, ◌++◌, ◌∷◌, [], ◌<◌, ℕ, Bool, List, not, None, IfErr, IfOk, OnOk, length, string_bytes};
 ghost use Rattle.std.specs.Global.{Global};
-ghost use Rattle.lp_build.specs.Loads.{Outside, fault_of, IsOfLoading, IsOfName, IsOfWord, names_of, modules_among, of_module, BeginsWith, Keeps, ending};
+ghost use Rattle.lp_build.specs.Loads.{Outside, fault_of, IsOfLoading, IsOfName, IsOfWord, names_of, ending};
 ghost use Rattle.lp_build.specs.Reads.{AreRead};
 ghost use Rattle.lp_sig.specs.Pieces.{spelled};
+ghost use Rattle.lp_sig.specs.Refusals.{IsAt};
+ghost use Rattle.lp_sig.specs.Said.{is_among};
+ghost use Rattle.lp_sig.specs.Sights.{HasKeys};
 ghost use Rattle.lp_build.specs.Told.{HoldsTold};
-ghost use Rattle.lp_build.specs.Wanted.{IsWanted};
-ghost use Rattle.lp_build.specs.declared.sources.Part.{Part as IsPart};
+ghost use Rattle.lp_build.specs.Ordered.{Need, needed, both, named_by, AreInOrder, AreInOrderSoFar};
+ghost use Rattle.lp_build.specs.declared.sources.File.{File as IsFile};
+ghost use Rattle.lp_build.specs.declared.sources.Part.TheVariants as part_of;
 ghost use Rattle.lp_build.specs.declared.walk.Work.TheVariants as work;
-ghost use Rattle.lp_build.specs.inner.Waiting.{Awaits};
-ghost use Rattle.lp_build.specs.inner.Walking.{IsWaiting, IsWalk, Walks};
+ghost use Rattle.lp_build.specs.inner.Walking.{AreOwed, IsOwed, IsWalk, IsWordAt};
 
 use crate::fault::BuildFault;
-use crate::read::load_file;
+use crate::read::{file_name, load_file};
 use crate::sources::{Part, Sources};
 use indexmap::IndexSet;
 use lp_base::{Folder, Limit, MAX_NAME_BYTES, Memory, Spot};
@@ -38,16 +40,17 @@ pub(crate) struct Loading {
     all: bool,
     known: Vec<(String, Vec<u8>)>,
     pub sources: Sources,
-    signatures: IndexSet<Vec<u8>>,
-    modules: IndexSet<Vec<u8>>,
+    names: IndexSet<Vec<u8>>,
     work: Vec<Work>,
 }
 
 impl Loading {
     pub(crate) fn new(alloc: Global, all: bool, known: Vec<(String, Vec<u8>)>) -> Loading
+        ensures all { result.all ≡ all }
         ensures files { result.sources.files.items ≡ [] }
         ensures known { result.known ≡ known }
         ensures work { result.work.items ≡ [] }
+        ensures names { HasKeys result.names [] }
         ensures refused { result.sources.refused ≡ None }
     {
         Loading {
@@ -58,136 +61,93 @@ impl Loading {
                 files: Vec::new(alloc),
                 refused: None,
             },
-            signatures: IndexSet::new(alloc),
-            modules: IndexSet::new(alloc),
+            names: IndexSet::new(alloc),
             work: Vec::new(alloc),
         }
     }
 
-    // Loads one text of a module.
-    fn load<F: Folder>(
-        &mut self,
-        folder: &mut F,
-        name: &str,
-        part: Part,
-    ) -> Result<usize, BuildFault>
-        ensures outside { Outside F.read_faults F.misses F.overs F.write_faults F.held folder.old folder.new (fault_of result) }
-        ensures refused { IfErr result (IsOfLoading self.new.sources.files.items) }
-        ensures read { AreRead self.old.sources → AreRead self.new.sources }
-        ensures told { HoldsTold (F.held folder.old) self.old.known.items self.old.sources None → HoldsTold (F.held folder.old) self.new.known.items self.new.sources (fault_of result) }
-        ensures names { OnOk result (names_of self.new.sources.files.items ≡ names_of self.old.sources.files.items ++ (name.now ++ ending part) ∷ []) }
-        ensures modules { OnOk result (modules_among self.new.sources.files.items ≡ modules_among self.old.sources.files.items ++ of_module part name.now) }
-        ensures work { self.new.work ≡ self.old.work }
-        ensures walked { (root : List ℕ) → IsWanted root self.old.sources.files.items (name.now ++ ending part) → Walks root self.old self.new }
-        ensures blames { IfSome self.new.sources.refused (λ file. self.old.sources.refused ≡ None → string_bytes file ≡ name.now ++ ending part) }
-    {
-        load_file(
-            self.alloc,
-            folder,
-            &mut self.known,
-            &mut self.sources,
-            name,
-            part,
-        )
-    }
-
-    // Loads a signature. Those that it names come right behind it.
-    fn load_signature<F: Folder>(&mut self, folder: &mut F, name: &str) -> Result<(), BuildFault>
-        ensures outside { Outside F.read_faults F.misses F.overs F.write_faults F.held folder.old folder.new (fault_of result) }
-        ensures refused { IfErr result (IsOfLoading self.new.sources.files.items) }
-        ensures read { AreRead self.old.sources → AreRead self.new.sources }
-        ensures told { HoldsTold (F.held folder.old) self.old.known.items self.old.sources None → HoldsTold (F.held folder.old) self.new.known.items self.new.sources (fault_of result) }
-        ensures names { OnOk result (names_of self.new.sources.files.items ≡ names_of self.old.sources.files.items ++ (name.now ++ codes ".sig") ∷ []) }
-        ensures modules { OnOk result (modules_among self.new.sources.files.items ≡ modules_among self.old.sources.files.items) }
-        ensures awaits { (root : List ℕ) → OnOk result (Awaits root self.old.work.items (modules_among self.old.sources.files.items) → Awaits root self.new.work.items (modules_among self.new.sources.files.items)) }
-        ensures walked { (root : List ℕ) → IsWanted root self.old.sources.files.items (name.now ++ codes ".sig") → Walks root self.old self.new }
-        ensures blames { IfSome self.new.sources.refused (λ file. self.old.sources.refused ≡ None → string_bytes file ≡ name.now ++ codes ".sig") }
-    {
-        let file = self.load(folder, name, Part::Signature)?;
-        self.work.push(Work::Signatures(file, 0))?;
-        Ok(())
-    }
-
-    // Loads a module's own file, whose signature is loaded. Then come the signatures that it names, and then what it accumulates.
-    fn load_module<F: Folder>(&mut self, folder: &mut F, name: &str) -> Result<(), BuildFault>
-        ensures outside { Outside F.read_faults F.misses F.overs F.write_faults F.held folder.old folder.new (fault_of result) }
-        ensures refused { IfErr result (IsOfLoading self.new.sources.files.items) }
-        ensures read { AreRead self.old.sources → AreRead self.new.sources }
-        ensures told { HoldsTold (F.held folder.old) self.old.known.items self.old.sources None → HoldsTold (F.held folder.old) self.new.known.items self.new.sources (fault_of result) }
-        ensures keeps { OnOk result (Keeps (names_of self.old.sources.files.items) (names_of self.new.sources.files.items)) }
-        ensures modules { OnOk result (modules_among self.new.sources.files.items ≡ modules_among self.old.sources.files.items ++ name.now ∷ []) }
-        ensures walked { (root : List ℕ) → IsWanted root self.old.sources.files.items (name.now ++ codes ".mod") → Walks root self.old self.new }
-    {
-        let file = self.load(folder, name, Part::Module)?;
-        self.work.push(Work::Accumulated(file, 0))?;
-        self.work.push(Work::Signatures(file, 0))?;
-        Ok(())
-    }
-
-    // Whether a signature was not asked for before.
-    fn is_new_signature(&mut self, name: &str) -> Result<bool, Memory>
+    // Whether a file is not there yet. Its name is noted.
+    fn is_new(&mut self, name: &str, part: Part) -> Result<bool, Memory>
+        ensures all { self.new.all ≡ self.old.all }
         ensures sources { self.new.sources ≡ self.old.sources }
         ensures known { self.new.known ≡ self.old.known }
         ensures work { self.new.work ≡ self.old.work }
+        ensures new { (names : List (List ℕ)) → HasKeys self.old.names names → IfOk result (λ fresh. is_among (name.now ++ ending part) names ≡ not fresh) }
+        ensures noted { (names : List (List ℕ)) → HasKeys self.old.names names → OnOk result (HasKeys self.new.names (names ++ (name.now ++ ending part) ∷ [])) }
     {
-        let key = Vec::from_slice(self.alloc, name.as_bytes())?;
-        Ok(self.signatures.insert(key)?)
+        let name = file_name(self.alloc, name, part)?;
+        Ok(self.names.insert(name.into_bytes())?)
     }
 
-    // Whether a module was not asked for before.
-    fn is_new_module(&mut self, name: &str) -> Result<bool, Memory>
+    // What a file names comes right behind it: its signatures, and then what it accumulates.
+    fn await_named(&mut self, file: usize, part: Part) -> Result<(), Memory>
+        ensures all { self.new.all ≡ self.old.all }
         ensures sources { self.new.sources ≡ self.old.sources }
         ensures known { self.new.known ≡ self.old.known }
-        ensures work { self.new.work ≡ self.old.work }
+        ensures names { self.new.names ≡ self.old.names }
+        ensures owed { (all : Bool) (f : IsFile) (left : List Need) → IsAt self.old.sources.files.items file f → f.part ≡ part → AreOwed all self.old.sources.files.items self.old.work.items left → OnOk result (AreOwed all self.old.sources.files.items self.new.work.items (named_by all f.part f.text ++ left)) }
     {
-        let key = Vec::from_slice(self.alloc, name.as_bytes())?;
-        Ok(self.modules.insert(key)?)
+        match part {
+            Part::Signature => {
+                self.work.push(Work::Signatures(file, 0))?;
+                Ok(())
+            }
+            Part::Module => {
+                self.work.push(Work::Accumulated(file, 0))?;
+                self.work.push(Work::Signatures(file, 0))?;
+                Ok(())
+            }
+        }
     }
 
     // A module's own file comes behind its signature.
     fn await_module(&mut self, name: &str) -> Result<(), Memory>
+        ensures all { self.new.all ≡ self.old.all }
         ensures sources { self.new.sources ≡ self.old.sources }
         ensures known { self.new.known ≡ self.old.known }
-        ensures work { OnOk result ((m : String Global) × (string_bytes m ≡ name.now) × (self.new.work.items ≡ self.old.work.items ++ work.Module m ∷ [])) }
-        ensures walked { (root : List ℕ) → IsWanted root self.old.sources.files.items (name.now ++ codes ".mod") → Walks root self.old self.new }
+        ensures names { self.new.names ≡ self.old.names }
+        ensures owed { (all : Bool) (left : List Need) → AreOwed all self.old.sources.files.items self.old.work.items left → OnOk result (AreOwed all self.old.sources.files.items self.new.work.items (needed part_of.Module name.now ∷ left)) }
     {
         let module = String::from_str(self.alloc, name)?;
         self.work.push(Work::Module(module))?;
         Ok(())
     }
 
-    // Loads a signature, unless it was asked for before.
-    fn want_signature<F: Folder>(&mut self, folder: &mut F, name: &str) -> Result<(), BuildFault>
+    // Loads a text of a module, unless it is there already.
+    fn want<F: Folder>(&mut self, folder: &mut F, name: &str, part: Part) -> Result<(), BuildFault>
         ensures outside { Outside F.read_faults F.misses F.overs F.write_faults F.held folder.old folder.new (fault_of result) }
         ensures refused { IfErr result (IsOfLoading self.new.sources.files.items) }
         ensures read { AreRead self.old.sources → AreRead self.new.sources }
         ensures told { HoldsTold (F.held folder.old) self.old.known.items self.old.sources None → HoldsTold (F.held folder.old) self.new.known.items self.new.sources (fault_of result) }
-        ensures keeps { OnOk result (Keeps (names_of self.old.sources.files.items) (names_of self.new.sources.files.items)) }
-        ensures modules { OnOk result (modules_among self.new.sources.files.items ≡ modules_among self.old.sources.files.items) }
-        ensures awaits { (root : List ℕ) → OnOk result (Awaits root self.old.work.items (modules_among self.old.sources.files.items) → Awaits root self.new.work.items (modules_among self.new.sources.files.items)) }
-        ensures walked { (root : List ℕ) → IsWanted root self.old.sources.files.items (name.now ++ codes ".sig") → Walks root self.old self.new }
+        ensures walked { (all : Bool) (root : List ℕ) → IsWalk all root (needed part name.now ∷ []) self.old → OnOk result (IsWalk all root [] self.new) }
+        ensures so_far { (all : Bool) (root : List ℕ) → IsWalk all root (needed part name.now ∷ []) self.old → AreInOrderSoFar all root self.new.sources }
     {
-        if !self.is_new_signature(name)? {
+        if !self.is_new(name, part)? {
             return Ok(());
         }
-        self.load_signature(folder, name)
+        let file = load_file(
+            self.alloc,
+            folder,
+            &mut self.known,
+            &mut self.sources,
+            name,
+            part,
+        )?;
+        self.await_named(file, part)?;
+        Ok(())
     }
 
-    // Loads a module, unless it was asked for before.
+    // Loads a module's signature, and behind it the module's own file.
     fn want_module<F: Folder>(&mut self, folder: &mut F, name: &str) -> Result<(), BuildFault>
         ensures outside { Outside F.read_faults F.misses F.overs F.write_faults F.held folder.old folder.new (fault_of result) }
         ensures refused { IfErr result (IsOfLoading self.new.sources.files.items) }
         ensures read { AreRead self.old.sources → AreRead self.new.sources }
         ensures told { HoldsTold (F.held folder.old) self.old.known.items self.old.sources None → HoldsTold (F.held folder.old) self.new.known.items self.new.sources (fault_of result) }
-        ensures keeps { OnOk result (Keeps (names_of self.old.sources.files.items) (names_of self.new.sources.files.items)) }
-        ensures modules { OnOk result (modules_among self.new.sources.files.items ≡ modules_among self.old.sources.files.items) }
-        ensures walked { (root : List ℕ) → IsWanted root self.old.sources.files.items (name.now ++ codes ".sig") → IsWanted root self.old.sources.files.items (name.now ++ codes ".mod") → Walks root self.old self.new }
+        ensures walked { (all : Bool) (root : List ℕ) → IsWalk all root (both name.now) self.old → OnOk result (IsWalk all root [] self.new) }
+        ensures so_far { (all : Bool) (root : List ℕ) → IsWalk all root (both name.now) self.old → AreInOrderSoFar all root self.new.sources }
     {
-        if !self.is_new_module(name)? {
-            return Ok(());
-        }
         self.await_module(name)?;
-        self.want_signature(folder, name)
+        self.want(folder, name, Part::Signature)
     }
 
     // Loads what the words of accum_sig from one on say.
@@ -201,17 +161,15 @@ impl Loading {
         ensures refused { IfErr result (IsOfLoading self.new.sources.files.items) }
         ensures read { AreRead self.old.sources → AreRead self.new.sources }
         ensures told { HoldsTold (F.held folder.old) self.old.known.items self.old.sources None → HoldsTold (F.held folder.old) self.new.known.items self.new.sources (fault_of result) }
-        ensures keeps { OnOk result (Keeps (names_of self.old.sources.files.items) (names_of self.new.sources.files.items)) }
-        ensures modules { OnOk result (modules_among self.new.sources.files.items ≡ modules_among self.old.sources.files.items) }
-        ensures awaits { (root : List ℕ) → OnOk result (Awaits root self.old.work.items (modules_among self.old.sources.files.items) → Awaits root self.new.work.items (modules_among self.new.sources.files.items)) }
-        ensures walked { (root : List ℕ) → Walks root self.old self.new }
+        ensures walked { (all : Bool) (root : List ℕ) (needs : List Need) → IsOwed all self.old.sources.files.items (work.Signatures file at) needs → IsWalk all root needs self.old → OnOk result (IsWalk all root [] self.new) }
+        ensures so_far { (all : Bool) (root : List ℕ) (needs : List Need) → IsOwed all self.old.sources.files.items (work.Signatures file at) needs → IsWalk all root needs self.old → AreInOrderSoFar all root self.new.sources }
     {
         let Some(name) = self.named(file, at)? else {
             return Ok(());
         };
         self.work
             .push(Work::Signatures(file, at.saturating_add(1)))?;
-        self.want_signature(folder, name.as_str())
+        self.want(folder, name.as_str(), Part::Signature)
     }
 
     // Loads what the words of accumulate from one on say.
@@ -225,9 +183,8 @@ impl Loading {
         ensures refused { IfErr result (IsOfLoading self.new.sources.files.items) }
         ensures read { AreRead self.old.sources → AreRead self.new.sources }
         ensures told { HoldsTold (F.held folder.old) self.old.known.items self.old.sources None → HoldsTold (F.held folder.old) self.new.known.items self.new.sources (fault_of result) }
-        ensures keeps { OnOk result (Keeps (names_of self.old.sources.files.items) (names_of self.new.sources.files.items)) }
-        ensures modules { OnOk result (modules_among self.new.sources.files.items ≡ modules_among self.old.sources.files.items) }
-        ensures walked { (root : List ℕ) → Walks root self.old self.new }
+        ensures walked { (all : Bool) (root : List ℕ) (needs : List Need) → IsOwed all self.old.sources.files.items (work.Accumulated file at) needs → IsWalk all root needs self.old → OnOk result (IsWalk all root [] self.new) }
+        ensures so_far { (all : Bool) (root : List ℕ) (needs : List Need) → IsOwed all self.old.sources.files.items (work.Accumulated file at) needs → IsWalk all root needs self.old → AreInOrderSoFar all root self.new.sources }
     {
         let Some(name) = self.accumulated(file, at)? else {
             return Ok(());
@@ -237,7 +194,7 @@ impl Loading {
         if self.all {
             self.want_module(folder, name.as_str())
         } else {
-            self.want_signature(folder, name.as_str())
+            self.want(folder, name.as_str(), Part::Signature)
         }
     }
 
@@ -246,47 +203,26 @@ impl Loading {
         ensures refused { IfErr result (IsOfLoading self.new.sources.files.items) }
         ensures read { AreRead self.old.sources → AreRead self.new.sources }
         ensures told { HoldsTold (F.held folder.old) self.old.known.items self.old.sources None → HoldsTold (F.held folder.old) self.new.known.items self.new.sources (fault_of result) }
-        ensures keeps { OnOk result (Keeps (names_of self.old.sources.files.items) (names_of self.new.sources.files.items)) }
-        ensures awaits { (root : List ℕ) → OnOk result (Awaits root (self.old.work.items ++ work ∷ []) (modules_among self.old.sources.files.items) → Awaits root self.new.work.items (modules_among self.new.sources.files.items)) }
-        ensures walked { (root : List ℕ) → IsWaiting root self.old.sources.files.items work → Walks root self.old self.new }
+        ensures walked { (all : Bool) (root : List ℕ) (needs : List Need) → IsOwed all self.old.sources.files.items work needs → IsWalk all root needs self.old → OnOk result (IsWalk all root [] self.new) }
+        ensures so_far { (all : Bool) (root : List ℕ) (needs : List Need) → IsOwed all self.old.sources.files.items work needs → IsWalk all root needs self.old → AreInOrderSoFar all root self.new.sources }
     {
         match work {
             Work::Signatures(file, at) => self.next_signature(folder, file, at),
-            Work::Module(name) => self.load_module(folder, name.as_str()),
+            Work::Module(name) => self.want(folder, name.as_str(), Part::Module),
             Work::Accumulated(file, at) => self.next_module(folder, file, at),
         }
     }
 
-    // Loads the signature of the root, which comes first.
-    fn begin<F: Folder>(&mut self, folder: &mut F, root: &str) -> Result<(), BuildFault>
-        ensures outside { Outside F.read_faults F.misses F.overs F.write_faults F.held folder.old folder.new (fault_of result) }
-        ensures refused { IfErr result (IsOfLoading self.new.sources.files.items) }
-        ensures read { AreRead self.old.sources → AreRead self.new.sources }
-        ensures told { HoldsTold (F.held folder.old) self.old.known.items self.old.sources None → HoldsTold (F.held folder.old) self.new.known.items self.new.sources (fault_of result) }
-        ensures names { OnOk result (names_of self.new.sources.files.items ≡ names_of self.old.sources.files.items ++ (root.now ++ codes ".sig") ∷ []) }
-        ensures awaits { self.old.sources.files.items ≡ [] → self.old.work.items ≡ [] → OnOk result (Awaits root.now self.new.work.items (modules_among self.new.sources.files.items)) }
-        ensures walked { Walks root.now self.old self.new }
-        ensures blames { IfSome self.new.sources.refused (λ file. self.old.sources.refused ≡ None → string_bytes file ≡ root.now ++ codes ".sig") }
-    {
-        self.is_new_module(root)?;
-        self.is_new_signature(root)?;
-        self.await_module(root)?;
-        self.load_signature(folder, root)
-    }
-
     // Loads a module with all that it needs.
     pub(crate) fn run<F: Folder>(&mut self, folder: &mut F, root: &str) -> Result<(), BuildFault>
-        requires { self.old.sources.files.items ≡ [] }
         ensures outside { Outside F.read_faults F.misses F.overs F.write_faults F.held folder.old folder.new (fault_of result) }
         ensures refused { IfErr result (IsOfLoading self.new.sources.files.items) }
         ensures read { AreRead self.old.sources → AreRead self.new.sources }
         ensures told { HoldsTold (F.held folder.old) self.old.known.items self.old.sources None → HoldsTold (F.held folder.old) self.new.known.items self.new.sources (fault_of result) }
-        ensures begins { OnOk result (BeginsWith (root.now ++ codes ".sig") (names_of self.new.sources.files.items)) }
-        ensures first { self.old.work.items ≡ [] → OnOk result (BeginsWith root.now (modules_among self.new.sources.files.items)) }
-        ensures walked { IsWalk root.now self.old → IsWalk root.now self.new }
-        ensures blames { IsWalk root.now self.old → self.old.sources.refused ≡ None → BeginsWith (root.now ++ codes ".sig") (names_of self.new.sources.files.items) ⊎ IfSome self.new.sources.refused (λ file. string_bytes file ≡ root.now ++ codes ".sig") }
+        ensures walked { (all : Bool) → IsWalk all root.now (both root.now) self.old → OnOk result (AreInOrder all root.now self.new.sources) }
+        ensures so_far { (all : Bool) → IsWalk all root.now (both root.now) self.old → AreInOrderSoFar all root.now self.new.sources }
     {
-        self.begin(folder, root)?;
+        self.want_module(folder, root)?;
         for _ in 0..u64::MAX {
             match self.work.pop() {
                 Some(work) => self.step(folder, work)?,
@@ -300,7 +236,7 @@ impl Loading {
     fn named(&self, file: usize, at: usize) -> Result<Option<String>, BuildFault>
         ensures refused { IfErr result (IsOfLoading self.now.sources.files.items) }
         ensures kind { IfErr result IsOfName }
-        ensures wanted { (root : List ℕ) → IfOk result (λ found. IfSome found (λ name. IsWanted root self.now.sources.files.items (string_bytes name ++ codes ".sig"))) }
+        ensures found { (f : IsFile) → IsAt self.now.sources.files.items file f → IfOk result (IsWordAt f.text.bytes.items f.text.references.accum_sig.items at) }
     {
         let Some(found) = self.sources.files.get(file) else {
             return Ok(None);
@@ -308,14 +244,14 @@ impl Loading {
         let Some(word) = found.text.references.accum_sig.get(at) else {
             return Ok(None);
         };
-        name_of(self.alloc, &found.text.bytes, *word)
+        Ok(Some(name_of(self.alloc, &found.text.bytes, *word)?))
     }
 
     // The word of a file's accumulate sentences at a place.
     fn accumulated(&self, file: usize, at: usize) -> Result<Option<String>, BuildFault>
         ensures refused { IfErr result (IsOfLoading self.now.sources.files.items) }
         ensures kind { IfErr result IsOfName }
-        ensures wanted { (root : List ℕ) → IfOk result (λ found. IfSome found (λ name. (part : IsPart) → IsWanted root self.now.sources.files.items (string_bytes name ++ ending part))) }
+        ensures found { (f : IsFile) → IsAt self.now.sources.files.items file f → IfOk result (IsWordAt f.text.bytes.items f.text.references.accumulate.items at) }
     {
         let Some(found) = self.sources.files.get(file) else {
             return Ok(None);
@@ -323,22 +259,22 @@ impl Loading {
         let Some(word) = found.text.references.accumulate.get(at) else {
             return Ok(None);
         };
-        name_of(self.alloc, &found.text.bytes, *word)
+        Ok(Some(name_of(self.alloc, &found.text.bytes, *word)?))
     }
 }
 
 // A word as a name of a file.
-fn name_of(alloc: Global, source: &[u8], word: Spot) -> Result<Option<String>, BuildFault>
+fn name_of(alloc: Global, source: &[u8], word: Spot) -> Result<String, BuildFault>
     ensures refused { IfErr result (IsOfWord source.now word) }
     ensures kind { IfErr result IsOfName }
-    ensures spelled { IfOk result (λ found. IfSome found (λ name. string_bytes name ≡ spelled source.now word)) }
+    ensures spelled { IfOk result (λ name. string_bytes name ≡ spelled source.now word) }
 {
     let spelled = spelled_at(source, word);
     if spelled.len() > MAX_NAME_BYTES {
         return Err(BuildFault::Limit(Limit::NameLength));
     }
     match str::from_utf8(spelled) {
-        Ok(name) => Ok(Some(String::from_str(alloc, name)?)),
+        Ok(name) => Ok(String::from_str(alloc, name)?),
         Err(_) => Err(BuildFault::Memory),
     }
 }

@@ -1,6 +1,6 @@
 -- The bytes of the file that a command makes.
 use Rattle.std.specs.Global.{Global}
-use Rattle.std.proofs.Common.{◌≡◌, ◌++◌, ℕ, List, Option, subst}
+use Rattle.std.proofs.Common.{◌≡◌, ◌++◌, ℕ, false, List, Option, subst}
 use Rattle.std.specs.Prelude.{Vec, Result, Ok, Err, IfOk, IfSome, codes}
 use Rattle.lp_base.specs.Held.{Held, Puts}
 use Rattle.lp_base.specs.declared.limit.Limit.{Limit}
@@ -8,7 +8,7 @@ use Rattle.lp_object.specs.Files.{spelled_image}
 use Rattle.lp_object.specs.Plain.{PlainImage, plain_image}
 use Rattle.lp_object.specs.Spellable.{SpellsImage}
 use Rattle.lp_verify.specs.declared.judging.Verified.{Verified}
-use Rattle.lp_build.specs.Loads.{BeginsWith, modules_among, names_of}
+use Rattle.lp_build.specs.Ordered.{AreInOrder}
 use Rattle.lp_build.specs.Reads.{AreRead}
 use Rattle.lp_build.specs.Told.{AreLoaded, IsTold}
 use Rattle.lp_build.specs.declared.sources.Sources.{Sources}
@@ -23,11 +23,10 @@ pub found_there : (file : List ℕ) (most : ℕ) (l : Limit) (told : Option Held
 found_there file most l told (Ok bytes) h = h.1
 found_there file most l told (Err e) h = tt
 
-pub object_made : (told : Option Held) (name : List ℕ) (sources : Sources) (r : Result (Vec ℕ Global) Refusal) → BeginsWith (name ++ codes ".sig") (names_of sources.files.items)
-    → BeginsWith name (modules_among sources.files.items) → AreLoaded told sources → AreRead sources → IfOk r (λ bytes. SpellsCompiled sources name bytes.items)
+pub object_made : (told : Option Held) (name : List ℕ) (sources : Sources) (r : Result (Vec ℕ Global) Refusal) → AreInOrder false name sources → AreLoaded told sources → AreRead sources → IfOk r (λ bytes. SpellsCompiled sources name bytes.items)
     → IfOk r (λ bytes. IsObjectMade told name bytes.items)
-object_made told name sources (Ok bytes) begins first files read h = record { sources = sources; begins = begins; first = first; files = files; read = read; spells = h }
-object_made told name sources (Err e) begins first files read h = tt
+object_made told name sources (Ok bytes) ordered files read h = record { sources = sources; ordered = ordered; files = files; read = read; spells = h }
+object_made told name sources (Err e) ordered files read h = tt
 
 pub migrated_is : (told : Option Held) (name : List ℕ) (image : PlainImage) (r : Result (Vec ℕ Global) Refusal) → IsHeldImage told name image
     → IfOk r (λ bytes. bytes.items ≡ spelled_image image) → IfOk r (λ bytes. IsMigrated told name bytes.items)

@@ -1,5 +1,5 @@
 -- The bytes of the file that a command makes.
-use Rattle.std.specs.Prelude.{◌≡◌, ◌++◌, ◌∷◌, ℕ, true, List, Option, Some, Vec, IfSome, All, is_some, slice_get, take, codes, suc}
+use Rattle.std.specs.Prelude.{◌≡◌, ◌++◌, ◌∷◌, ℕ, true, false, List, Option, Some, Vec, IfSome, All, is_some, slice_get, take, codes, suc}
 use Rattle.std.specs.Global.{Global}
 use Rattle.lp_lemmas.specs.Each.{AnyOf}
 use Rattle.lp_base.specs.Held.{Held, Puts}
@@ -13,8 +13,8 @@ use Rattle.lp_object.specs.Files.{spelled_image, spelled_object}
 use Rattle.lp_object.specs.Plain.{PlainImage, plain_image, plain_object}
 use Rattle.lp_object.specs.Spellable.{SpellsImage}
 use Rattle.lp_build.specs.Compiled.{IsCompiled}
-use Rattle.lp_build.specs.Loads.{BeginsWith, modules_among, names_of}
 use Rattle.lp_build.specs.Named.{IsFileNamed}
+use Rattle.lp_build.specs.Ordered.{AreInOrder}
 use Rattle.lp_build.specs.Reads.{AreRead}
 use Rattle.lp_build.specs.Told.{AreLoaded, IsTold}
 use Rattle.lp_build.specs.declared.sources.Sources.{Sources}
@@ -30,11 +30,10 @@ IsCompiledOf sources name o = (number : ℕ) × IsFileNamed sources.files.items 
 abbrev pub SpellsCompiled : Sources → (name bytes : List ℕ) → Type 0
 SpellsCompiled sources name bytes = (o : Object) × IsCompiledOf sources name o × (bytes ≡ spelled_object (plain_object o))
 
--- so they do for the texts of the module and of the signatures that it needs, which have the bytes that the folder tells
+-- so they do for the texts of the module and of the signatures that it needs, in load order, which have the bytes that the folder tells
 pub record IsObjectMade (told : Option Held) (name bytes : List ℕ) : Type 0 where
   pub sources : Sources
-  pub begins : BeginsWith (name ++ codes ".sig") (names_of sources.files.items)
-  pub first : BeginsWith name (modules_among sources.files.items)
+  pub ordered : AreInOrder false name sources
   pub files : AreLoaded told sources
   pub read : AreRead sources
   pub spells : SpellsCompiled sources name bytes

@@ -1,6 +1,6 @@
 -- The query of a text in a bank that grows, and where its numbers stand.
-use Rattle.std.proofs.Common.{◌≡◌, ℕ, List, ◌++◌, map, length, Option, refl, sym, ap, subst, ◌∙◌, arith}
-use Rattle.std.specs.Prelude.{codes, Result, Ok, Err, IfOk}
+use Rattle.std.proofs.Common.{◌≡◌, ℕ, true, List, map, length, Option, refl, sym, ap, subst, ◌∙◌, arith}
+use Rattle.std.specs.Prelude.{Result, Ok, Err, IfOk}
 use Rattle.std.proofs.lemmas.List.{length-map, length-reverse}
 use Rattle.lp_calculus.specs.Typing.{o_type}
 use Rattle.lp_fixity.specs.declared.table.Table.{Table}
@@ -9,7 +9,7 @@ use Rattle.lp_model.specs.declared.program.Typed.{Typed}
 use Rattle.lp_sig.specs.declared.signature.Signature.{Signature}
 use Rattle.lp_base.specs.Held.{Held}
 use Rattle.lp_module.specs.declared.copies.Assembled.{Assembled}
-use Rattle.lp_build.specs.Loads.{BeginsWith, modules_among, names_of}
+use Rattle.lp_build.specs.Ordered.{AreInOrder}
 use Rattle.lp_build.specs.Reads.{AreRead}
 use Rattle.lp_build.specs.Told.{AreLoaded}
 use Rattle.lp_build.specs.declared.build.Built.{Built}
@@ -46,8 +46,7 @@ asked_later told name text names later q grown same h = record {
   built = record { assembled = later; signature = h.built.signature; table = h.built.table };
   program = record {
     sources = h.program.sources;
-    begins = h.program.begins;
-    first = h.program.first;
+    ordered = h.program.ordered;
     files = h.program.files;
     read = h.program.read;
     program = built_later h.program.sources h.built _ (named_later names later grown same h.built h.same) h.program.program;
@@ -72,17 +71,16 @@ asked_of_files sources text bytes old new q e is grown h without = record {
 }
 
 -- what was asked of the files that the folder tells
-pub asked_from : (told : Option Held) (name text : List ℕ) (sources : Sources) (r : Result Asked Refusal) → BeginsWith (name ++ codes ".sig") (names_of sources.files.items)
-    → BeginsWith name (modules_among sources.files.items) → AreLoaded told sources → AreRead sources → IfOk r (λ a. IsAskedOf sources text a.names a.query)
+pub asked_from : (told : Option Held) (name text : List ℕ) (sources : Sources) (r : Result Asked Refusal) → AreInOrder true name sources → AreLoaded told sources → AreRead sources → IfOk r (λ a. IsAskedOf sources text a.names a.query)
     → IfOk r (λ a. IsAskedFrom told name text a.names a.query)
-asked_from told name text sources (Ok a) begins first files read h = record {
+asked_from told name text sources (Ok a) ordered files read h = record {
   built = h.built;
-  program = record { sources = sources; begins = begins; first = first; files = files; read = read; program = h.program };
+  program = record { sources = sources; ordered = ordered; files = files; read = read; program = h.program };
   same = h.same;
   asked = h.asked;
   without = h.without;
 }
-asked_from told name text sources (Err e) begins first files read h = tt
+asked_from told name text sources (Err e) ordered files read h = tt
 
 -- the query of a text stands in its bank
 pub query_inside : (operators : Table) (names : Signature) (text : List ℕ) (b : Nodes) (q : Typed) → IsAsked operators names text b q → IsQueryInside b q

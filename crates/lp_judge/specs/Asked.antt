@@ -1,12 +1,12 @@
 -- The query of a text, as it was typed on a program.
-use Rattle.std.specs.Prelude.{◌≡◌, ◌++◌, ℕ, List, Option, codes}
+use Rattle.std.specs.Prelude.{◌≡◌, ℕ, true, List, Option}
 use Rattle.lp_base.specs.Held.{Held}
 use Rattle.lp_term.specs.Nodes.{Nodes}
 use Rattle.lp_model.specs.declared.program.Typed.{Typed}
 use Rattle.lp_module.specs.declared.copies.Assembled.{Assembled}
 use Rattle.lp_module.specs.declared.module.Module.{Module}
-use Rattle.lp_build.specs.Loads.{BeginsWith, modules_among, names_of}
 use Rattle.lp_build.specs.Meant.{AreModules}
+use Rattle.lp_build.specs.Ordered.{AreInOrder}
 use Rattle.lp_build.specs.Reads.{AreRead}
 use Rattle.lp_build.specs.Told.{AreLoaded}
 use Rattle.lp_build.specs.declared.build.Built.{Built}
@@ -39,11 +39,10 @@ pub record AreTextsOf (sources : Sources) (text : List ℕ) (modules : List Modu
   pub program : IsBuiltFrom sources built
   pub asked : IsAsked built.table built.signature text b q
 
--- the files are those of the module of a name and of all that it needs, and have the bytes that the folder tells; the first module text is its own
+-- the files are those of the module of a name and of all that it needs, in load order, and have the bytes that the folder tells
 pub record AreToldTexts (told : Option Held) (name text : List ℕ) (modules : List Module) (b : Nodes) (q : Typed) : Type 0 where
   pub sources : Sources
-  pub begins : BeginsWith (name ++ codes ".sig") (names_of sources.files.items)
-  pub first : BeginsWith name (modules_among sources.files.items)
+  pub ordered : AreInOrder true name sources
   pub files : AreLoaded told sources
   pub read : AreRead sources
   pub texts : AreTextsOf sources text modules b q

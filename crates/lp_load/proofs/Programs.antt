@@ -1,9 +1,9 @@
 -- The program of the texts of a module.
-use Rattle.std.proofs.Common.{ℕ, List, Option, ◌++◌, ◌∙◌}
-use Rattle.std.specs.Prelude.{codes, Result, Ok, Err, IfOk}
+use Rattle.std.proofs.Common.{ℕ, true, List, Option, ◌∙◌}
+use Rattle.std.specs.Prelude.{Result, Ok, Err, IfOk}
 use Rattle.lp_base.specs.Held.{Held}
 use Rattle.lp_term.proofs.Trees.{extends-trans}
-use Rattle.lp_build.specs.Loads.{BeginsWith, modules_among, names_of}
+use Rattle.lp_build.specs.Ordered.{AreInOrder}
 use Rattle.lp_build.specs.Reads.{AreRead}
 use Rattle.lp_build.specs.Told.{AreLoaded}
 use Rattle.lp_build.specs.declared.build.Built.{Built}
@@ -11,11 +11,9 @@ use Rattle.lp_build.specs.declared.sources.Sources.{Sources}
 use Rattle.lp_lines.specs.declared.refusal.Refusal.{Refusal}
 use Rattle.lp_load.specs.Loaded.{HasGrown, IsBuiltFrom, IsLoaded}
 
-pub loaded_is : (told : Option Held) (root : List ℕ) (sources : Sources) (r : Result Built Refusal) → BeginsWith (root ++ codes ".sig") (names_of sources.files.items)
-    → BeginsWith root (modules_among sources.files.items) → AreLoaded told sources → AreRead sources → IfOk r (IsBuiltFrom sources) → IfOk r (IsLoaded told root)
-loaded_is told root sources (Ok built) begins first files read h =
-    record { sources = sources; begins = begins; first = first; files = files; read = read; program = h }
-loaded_is told root sources (Err e) begins first files read h = tt
+pub loaded_is : (told : Option Held) (root : List ℕ) (sources : Sources) (r : Result Built Refusal) → AreInOrder true root sources → AreLoaded told sources → AreRead sources → IfOk r (IsBuiltFrom sources) → IfOk r (IsLoaded told root)
+loaded_is told root sources (Ok built) ordered files read h = record { sources = sources; ordered = ordered; files = files; read = read; program = h }
+loaded_is told root sources (Err e) ordered files read h = tt
 
 grown_then : (a b c : Built) → HasGrown a b → HasGrown b c → HasGrown a c
 grown_then a b c g h = record {

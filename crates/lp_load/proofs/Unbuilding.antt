@@ -1,7 +1,7 @@
 -- Why texts have no program.
-use Rattle.std.proofs.Common.{◌≡◌, ◌<◌, ◌++◌, ℕ, List, Option, Some, None, Result, Ok, Err, length, refl, sym, subst, inl, inr}
+use Rattle.std.proofs.Common.{◌≡◌, ◌<◌, ℕ, true, List, Option, Some, None, Result, Ok, Err, length, refl, sym, subst, inl, inr}
 use Rattle.std.specs.Global.{Global}
-use Rattle.std.specs.Prelude.{Contains, IfErr, IfSome, String, codes, get_or, string_bytes}
+use Rattle.std.specs.Prelude.{Contains, IfErr, IfSome, String, get_or, string_bytes}
 use Rattle.std.proofs.lemmas.List.Elements.{All-contains, Contains-get_or}
 use Rattle.lp_base.specs.Held.{Held}
 use Rattle.lp_base.specs.declared.limit.Limit.{Limit}
@@ -13,10 +13,9 @@ use Rattle.lp_module.specs.Sentences.{AreWithin}
 use Rattle.lp_normal.specs.Counted.{HasManyClauses, IsOver}
 use Rattle.lp_normal.specs.declared.fault.NormalRefusal.{NormalRefusal}
 use Rattle.lp_normal.specs.declared.fault.NormalRefusal.TheVariants as normal
-use Rattle.lp_build.specs.Loads.{BeginsWith, modules_among, names_of}
+use Rattle.lp_build.specs.Ordered.{AreInOrder}
 use Rattle.lp_build.specs.Reads.{AreRead}
 use Rattle.lp_build.specs.Told.{AreLoaded, IsFaultNamed}
-use Rattle.lp_build.specs.Wanted.{AreWanted}
 use Rattle.lp_build.specs.declared.build.Built.{Built}
 use Rattle.lp_build.specs.declared.fault.BuildFault.{BuildFault}
 use Rattle.lp_build.specs.declared.fault.BuildFault.TheVariants as build
@@ -76,7 +75,6 @@ none_told told None f there = wanting_none told f there
 none_told told (Some s) f there = wanting (string_bytes s) f
 
 -- the files were loaded, and their texts have no program
-pub unbuilt_is : (told : Option Held) (root : List ℕ) (sources : Sources) (r : Result Built Refusal) → BeginsWith (root ++ codes ".sig") (names_of sources.files.items)
-    → BeginsWith root (modules_among sources.files.items) → AreLoaded told sources → AreRead sources → AreWanted root sources → IfErr r (IsRefusedTexts sources) → IfErr r (IsUnbuilt told root)
-unbuilt_is told root sources (Ok built) begins first files read wanted h = tt
-unbuilt_is told root sources (Err e) begins first files read wanted h = of_loaded sources begins first files read wanted h
+pub unbuilt_is : (told : Option Held) (root : List ℕ) (sources : Sources) (r : Result Built Refusal) → AreInOrder true root sources → AreLoaded told sources → AreRead sources → IfErr r (IsRefusedTexts sources) → IfErr r (IsUnbuilt told root)
+unbuilt_is told root sources (Ok built) ordered files read h = tt
+unbuilt_is told root sources (Err e) ordered files read h = of_loaded sources files read ordered h

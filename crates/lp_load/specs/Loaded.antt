@@ -1,8 +1,8 @@
 -- The program of a module, as the folder tells its texts.
-use Rattle.std.specs.Prelude.{◌≡◌, ◌++◌, ℕ, List, Option, codes}
+use Rattle.std.specs.Prelude.{◌≡◌, ℕ, true, List, Option}
 use Rattle.lp_base.specs.Held.{Held}
 use Rattle.lp_term.specs.Nodes.{Extends}
-use Rattle.lp_build.specs.Loads.{BeginsWith, modules_among, names_of}
+use Rattle.lp_build.specs.Ordered.{AreInOrder}
 use Rattle.lp_build.specs.Programs.{IsBuilt}
 use Rattle.lp_build.specs.Reads.{AreRead}
 use Rattle.lp_build.specs.Told.{AreLoaded}
@@ -25,11 +25,10 @@ pub record IsBuiltFrom (sources : Sources) (built : Built) : Type 0 where
   pub is : IsBuilt sources first
   pub grown : HasGrown first built
 
--- a program is that of the module of a name: of its texts and all that they need, of which the folder tells the bytes; the first module text is its own
+-- a program is that of the module of a name: of its texts and all that they need, in load order, of which the folder tells the bytes
 pub record IsLoaded (told : Option Held) (root : List ℕ) (built : Built) : Type 0 where
   pub sources : Sources
-  pub begins : BeginsWith (root ++ codes ".sig") (names_of sources.files.items)
-  pub first : BeginsWith root (modules_among sources.files.items)
+  pub ordered : AreInOrder true root sources
   pub files : AreLoaded told sources
   pub read : AreRead sources
   pub program : IsBuiltFrom sources built

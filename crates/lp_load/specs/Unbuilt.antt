@@ -1,18 +1,18 @@
 -- Why texts have no program: a file is not loaded, or the first fault of the texts, or what one clause is flattened to passes the limit on clauses.
 use Rattle.std.specs.Global.{Global}
-use Rattle.std.specs.Prelude.{◌≡◌, ◌⊎◌, ◌++◌, ℕ, List, Option, None, Some, Contains, IfSome, String, codes, string_bytes}
+use Rattle.std.specs.Prelude.{◌≡◌, ℕ, true, List, Option, None, Some, Contains, String, string_bytes}
 use Rattle.lp_base.specs.Held.{Held}
 use Rattle.lp_base.specs.declared.limit.Limit.TheVariants as limit
 use Rattle.lp_term.specs.Nodes.{Nodes}
 use Rattle.lp_model.specs.Readings.{formula_of}
 use Rattle.lp_model.specs.declared.program.ClauseFormula.{ClauseFormula}
 use Rattle.lp_normal.specs.Counted.{HasManyClauses}
-use Rattle.lp_build.specs.Loads.{BeginsWith, IsOfLoading, modules_among, names_of}
+use Rattle.lp_build.specs.Loads.{IsOfLoading}
+use Rattle.lp_build.specs.Ordered.{AreInOrder, AreInOrderSoFar}
 use Rattle.lp_build.specs.Programs.{IsBuilt}
 use Rattle.lp_build.specs.Reads.{AreRead}
 use Rattle.lp_build.specs.Refused.{IsRefusedProgram}
 use Rattle.lp_build.specs.Told.{AreLoaded, IsFaultIn}
-use Rattle.lp_build.specs.Wanted.{AreWanted}
 use Rattle.lp_build.specs.declared.build.Built.{Built}
 use Rattle.lp_build.specs.declared.fault.BuildFault.{BuildFault}
 use Rattle.lp_build.specs.declared.fault.BuildFault.TheVariants as build
@@ -55,10 +55,6 @@ abbrev pub TellsFile : Option (String Global) → BuildFault → Refusal → Typ
 TellsFile (Some name) e r = TellsOfFile (string_bytes name) e r
 TellsFile None e r = TellsOfNone e r
 
--- the root's signature is the first file, or the one at fault
-abbrev pub BeginsSoFar : (root : List ℕ) → Sources → Type 0
-BeginsSoFar root sources = BeginsWith (root ++ codes ".sig") (names_of sources.files.items) ⊎ IfSome sources.refused (λ name. string_bytes name ≡ root ++ codes ".sig")
-
 -- what one of these clauses is flattened to passes the limit on clauses
 abbrev pub HasManyIn : Nodes → List ClauseFormula → Type 0
 HasManyIn b clauses = (c : ClauseFormula) × Contains clauses c × HasManyClauses (formula_of b c)
@@ -69,9 +65,8 @@ pub data IsRefusedTexts (sources : Sources) (r : Refusal) : Type 0 where
   of_clauses : (built : Built) → IsBuilt sources built → HasManyIn built.assembled.program.bank built.assembled.program.clauses.items → TellsLimit limit.Clauses r → IsRefusedTexts sources r
   no_memory : r ≡ refusal.Memory → IsRefusedTexts sources r
 
--- a module has no program: behind files that it needs, which were loaded, one that it needs is at fault; or all are loaded, and their texts have none
+-- a module has no program: behind the first of the files that it needs, which were loaded in their order, the next one is at fault, or a limit; or all are loaded, and their texts have none
 pub data IsUnbuilt (told : Option Held) (root : List ℕ) (r : Refusal) : Type 0 where
-  of_files : (sources : Sources) (e : BuildFault) → AreLoaded told sources → AreRead sources → AreWanted root sources → BeginsSoFar root sources → IsOfLoading sources.files.items e → IsFaultIn told sources e →
+  of_files : (sources : Sources) (e : BuildFault) → AreLoaded told sources → AreRead sources → AreInOrderSoFar true root sources → IsOfLoading sources.files.items e → IsFaultIn told sources e →
       TellsFile sources.refused e r → IsUnbuilt told root r
-  of_loaded : (sources : Sources) → BeginsWith (root ++ codes ".sig") (names_of sources.files.items) → BeginsWith root (modules_among sources.files.items) →
-      AreLoaded told sources → AreRead sources → AreWanted root sources → IsRefusedTexts sources r → IsUnbuilt told root r
+  of_loaded : (sources : Sources) → AreLoaded told sources → AreRead sources → AreInOrder true root sources → IsRefusedTexts sources r → IsUnbuilt told root r

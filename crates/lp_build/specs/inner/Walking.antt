@@ -1,8 +1,12 @@
--- Which files are needed while they are loaded.
-use Rattle.std.specs.Prelude.{◌≡◌, ◌++◌, ℕ, List, string_bytes}
-use Rattle.std.specs.List.{All}
-use Rattle.lp_build.specs.Loads.{ending}
-use Rattle.lp_build.specs.Wanted.{AreWanted, IsWanted}
+-- What is loaded so far, and what is still to be loaded.
+use Rattle.std.specs.Global.{Global}
+use Rattle.std.specs.Prelude.{◌≡◌, ◌≤◌, ℕ, Bool, List, [], ◌∷◌, ◌++◌, None, Option, IfSome, MatchOption, String, drop, length, string_bytes}
+use Rattle.lp_base.specs.declared.place.Spot.{Spot}
+use Rattle.lp_sig.specs.Pieces.{spelled}
+use Rattle.lp_sig.specs.Refusals.{IsAt}
+use Rattle.lp_sig.specs.Sights.{HasKeys}
+use Rattle.lp_build.specs.Loads.{names_of}
+use Rattle.lp_build.specs.Ordered.{IsText, Loads, Need, accumulated, asked_by, both, file_of, needed, signature}
 use Rattle.lp_build.specs.declared.sources.File.{File}
 use Rattle.lp_build.specs.declared.sources.Part.TheVariants as part
 use Rattle.lp_build.specs.declared.sources.Sources.{Sources}
@@ -10,27 +14,39 @@ use Rattle.lp_build.specs.declared.walk.Loading.{Loading}
 use Rattle.lp_build.specs.declared.walk.Work.{Work}
 use Rattle.lp_build.specs.declared.walk.Work.TheVariants as work
 
--- a module file that waits is needed
-abbrev pub IsWaiting : (root : List ℕ) → List File → Work → Type 0
-IsWaiting root files (work.Signatures file at) = Unit {0}
-IsWaiting root files (work.Module name) = IsWanted root files (string_bytes name ++ ending part.Module)
-IsWaiting root files (work.Accumulated file at) = Unit {0}
+-- a text is loaded as the file of a number, which is the last one
+pub record IsLoadedAt (n : Need) (old new : Sources) (number : ℕ) : Type 0 where
+  pub file : File
+  pub is : IsText n file
+  pub last : number ≡ length old.files.items
+  pub files : new.files.items ≡ old.files.items ++ file ∷ []
+  pub refused : new.refused ≡ old.refused
 
--- more files behind those that were there
-abbrev pub Follows : (old new : List File) → Type 0
-Follows old new = (more : List File) × (new ≡ old ++ more)
+-- it is not, and at fault is none or its file
+pub record IsNotLoaded (n : Need) (old new : Sources) : Type 0 where
+  pub files : new.files.items ≡ old.files.items
+  pub fault : IfSome new.refused (λ name. old.refused ≡ None → string_bytes name ≡ file_of n)
 
--- files were loaded that are needed
-pub record AreLoadedAs (root : List ℕ) (old new : Sources) : Type 0 where
-  pub more : Follows old.files.items new.files.items
-  pub wanted : AreWanted root old → AreWanted root new
+-- the word of a place, where there is one
+abbrev pub IsWordAt : (text : List ℕ) → List Spot → (at : ℕ) → Option (String Global) → Type 0
+IsWordAt text words at found = MatchOption found (length words ≤ at) (λ name. (w : Spot) × IsAt words at w × (string_bytes name ≡ spelled text w))
 
--- all that is loaded and all that waits is needed
-pub record IsWalk (root : List ℕ) (l : Loading) : Type 0 where
-  pub files : AreWanted root l.sources
-  pub waiting : All (IsWaiting root l.sources.files.items) l.work.items
+-- what a piece of work asks for
+abbrev pub IsOwed : (all : Bool) → List File → Work → List Need → Type 0
+IsOwed all files (work.Signatures number at) needs = (f : File) × IsAt files number f × (needs ≡ asked_by signature f.text.bytes.items (drop at f.text.references.accum_sig.items))
+IsOwed all files (work.Module name) needs = needs ≡ needed part.Module (string_bytes name) ∷ []
+IsOwed all files (work.Accumulated number at) needs = (f : File) × IsAt files number f × (needs ≡ asked_by (accumulated all) f.text.bytes.items (drop at f.text.references.accumulate.items))
 
--- so it stays
-pub record Walks (root : List ℕ) (old new : Loading) : Type 0 where
-  pub more : Follows old.sources.files.items new.sources.files.items
-  pub walk : IsWalk root old → IsWalk root new
+-- what pieces of work ask for, the last one first
+abbrev pub AreOwed : (all : Bool) → List File → List Work → List Need → Type 0
+AreOwed all files [] needs = needs ≡ []
+AreOwed all files (w ∷ ws) needs = (above mine : List Need) × AreOwed all files ws above × IsOwed all files w mine × (needs ≡ above ++ mine)
+
+-- the files so far are a beginning of the order of a root: these texts are needed next, and then what waits; none was at fault
+pub record IsWalk (all : Bool) (root : List ℕ) (next : List Need) (l : Loading) : Type 0 where
+  pub is : l.all ≡ all
+  pub left : List Need
+  pub order : Loads all [] (both root) l.sources.files.items (next ++ left)
+  pub owed : AreOwed all l.sources.files.items l.work.items left
+  pub names : HasKeys l.names (names_of l.sources.files.items)
+  pub none : l.sources.refused ≡ None

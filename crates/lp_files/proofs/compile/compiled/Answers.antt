@@ -10,5 +10,4 @@ pub returns-in-Err-clause-looked : goal.returns-in-Err-clause-looked
 returns-in-Err-clause-looked g c = looked_ungathered c.in-Err.fault c.load_refused.result c.load_refused.ensures.tells c.in-Err.ensures.outside
 
 pub returns-in-Ok-clause-object : goal.returns-in-Ok-clause-object
-returns-in-Ok-clause-object g c = object_made _ c.args.name.now c.in-Ok.sources c.written.result c.in-Ok.ensures.begins c.in-Ok.ensures.first c.in-Ok.ensures.files
-    c.in-Ok.ensures.read (c.written.ensures.spells c.in-Ok.ensures.read)
+returns-in-Ok-clause-object g c = object_made _ c.args.name.now c.in-Ok.sources c.written.result c.in-Ok.ensures.ordered c.in-Ok.ensures.files c.in-Ok.ensures.read (c.written.ensures.spells c.in-Ok.ensures.read)

@@ -25,6 +25,6 @@ returns-in-Err-clause-placed g c =
 pub returns-in-Ok-clause-asked : goal.returns-in-Ok-clause-asked
 returns-in-Ok-clause-asked g c =
     let held = g.F.Folder.held c.args.folder.now in
-    asked_from held c.args.name.now c.args.query.now c.in-Ok.sources c.asked_of.result c.in-Ok.ensures.begins c.in-Ok.ensures.first
+    asked_from held c.args.name.now c.args.query.now c.in-Ok.sources c.asked_of.result c.in-Ok.ensures.ordered
     (c.in-Ok.ensures.files (subst (AreKnown held) (sym c.new-known.ensures.items) (none_known held))) c.in-Ok.ensures.read
     (c.asked_of.ensures.asked c.in-Ok.ensures.read)

@@ -25,6 +25,6 @@ returns-in-Err-clause-placed g c =
 pub returns-in-Ok-clause-texts : goal.returns-in-Ok-clause-texts
 returns-in-Ok-clause-texts g c =
     let held = g.F.Folder.held c.args.folder.now in
-    told_texts held c.args.name.now c.args.query.now c.in-Ok.sources c.texts_of.result c.in-Ok.ensures.begins c.in-Ok.ensures.first
+    told_texts held c.args.name.now c.args.query.now c.in-Ok.sources c.texts_of.result c.in-Ok.ensures.ordered
     (c.in-Ok.ensures.files (subst (AreKnown held) (sym c.new-known.ensures.items) (none_known held))) c.in-Ok.ensures.read
     (c.texts_of.ensures.texts c.in-Ok.ensures.read)

@@ -1,23 +1,36 @@
-use Rattle.std.proofs.Common.{◌≡◌, subst, sym}
-use Rattle.std.specs.Prelude.{IfErr, IfOk, IfSome, string_bytes}
+use Rattle.std.proofs.Common.{◌≡◌, ◌<◌, ◌≤◌, length, ltb-false, arith, subst, sym}
+use Rattle.std.specs.Prelude.{None, Some, string_bytes}
 use Rattle.std.proofs.lemmas.List.Elements.{Contains-append_right}
-use Rattle.lp_build.specs.Loads.{IsOfWord}
 use Rattle.lp_sig.specs.Pieces.{spelled}
 use Rattle.lp_sig.specs.Refusals.{IsAt}
-use Rattle.lp_build.proofs.Walking.{names_module, names_by, words_so}
+use Rattle.lp_build.specs.Loads.{IsOfWord}
+use Rattle.lp_build.specs.declared.sources.File.{File}
+use Rattle.lp_build.proofs.Walking.{names_by, word_of, word_passed}
 use Rattle.lp_build.proofs.walk.Loading.accumulated.Goals as goal
 
-pub returns-clause-wanted : goal.returns-clause-wanted
-returns-clause-wanted c = λ root.
-    let file = subst (λ l. IsAt l c.args.file c.in-Some.found.now) c.deref.ensures.value (c.in-Some.ensures.lookup.3.0, sym c.in-Some.ensures.lookup.1) in
-    let word = subst (λ l. IsAt l c.args.at c.in-Some-get.word.now) c.deref-2.ensures.value (c.in-Some-get.ensures.lookup.3.0, sym c.in-Some-get.ensures.lookup.1) in
-    names_module root _ c.in-Some.found.now c.in-Some-get.word.now c.name_of.result (names_by _ c.args.file _ file) (names_by _ c.args.at _ word)
-    (subst (λ l. IfOk c.name_of.result (λ found. IfSome found (λ name. string_bytes name ≡ spelled l c.in-Some-get.word.now))) c.deref-3.ensures.value c.name_of.ensures.spelled)
+pub returns-in_default-clause-found : goal.returns-in_default-clause-found
+returns-in_default-clause-found c = λ f at.
+    let none = ltb-false c.args.file (length c.deref.result.now) (sym c.in_default.ensures.lookup.0) in
+    let low = subst (λ l. c.args.file < length l) (sym c.deref.ensures.value) at.0 in
+    absurd (omega (arith, none, low))
 
-pub returns-clause-refused : goal.returns-clause-refused
-returns-clause-refused c =
+pub returns-in_default-get-clause-found : goal.returns-in_default-get-clause-found
+returns-in_default-get-clause-found c = λ f at.
+    let file = subst (λ l. IsAt l c.args.file c.in-Some.found.now) c.deref.ensures.value (c.in-Some.ensures.lookup.3.0, sym c.in-Some.ensures.lookup.1) in
+    let none = ltb-false c.args.at (length c.deref-2.result.now) (sym c.in_default-get.ensures.lookup.0) in
+    word_of (λ (x : File). x.text.references.accumulate.items) c.args.self.now.sources.files.items c.args.file c.args.at c.in-Some.found.now f None file at (subst (λ l. length l ≤ c.args.at) c.deref-2.ensures.value none)
+
+pub returns-clause-found : goal.returns-clause-found
+returns-clause-found c = λ f at.
     let file = subst (λ l. IsAt l c.args.file c.in-Some.found.now) c.deref.ensures.value (c.in-Some.ensures.lookup.3.0, sym c.in-Some.ensures.lookup.1) in
     let word = subst (λ l. IsAt l c.args.at c.in-Some-get.word.now) c.deref-2.ensures.value (c.in-Some-get.ensures.lookup.3.0, sym c.in-Some-get.ensures.lookup.1) in
-    words_so _ c.in-Some.found.now c.in-Some-get.word.now c.name_of.result (names_by _ c.args.file _ file)
+    let spells = subst (λ t. string_bytes c.in_ok-name_of.field-0 ≡ spelled t c.in-Some-get.word.now) c.deref-3.ensures.value c.in_ok-name_of.ensures.spelled in
+    word_of (λ (x : File). x.text.references.accumulate.items) c.args.self.now.sources.files.items c.args.file c.args.at c.in-Some.found.now f (Some c.in_ok-name_of.field-0) file at (c.in-Some-get.word.now, word, spells)
+
+pub returns-in_err-name_of-clause-refused : goal.returns-in_err-name_of-clause-refused
+returns-in_err-name_of-clause-refused c =
+    let file = subst (λ l. IsAt l c.args.file c.in-Some.found.now) c.deref.ensures.value (c.in-Some.ensures.lookup.3.0, sym c.in-Some.ensures.lookup.1) in
+    let word = subst (λ l. IsAt l c.args.at c.in-Some-get.word.now) c.deref-2.ensures.value (c.in-Some-get.ensures.lookup.3.0, sym c.in-Some-get.ensures.lookup.1) in
+    word_passed _ c.in-Some.found.now c.in-Some-get.word.now c.from_residual.result c.in_err-name_of.field-0.0 c.from_residual.ensures.1 (names_by _ c.args.file _ file)
     (Contains-append_right c.in-Some.found.now.text.references.accum_sig.items c.in-Some.found.now.text.references.accumulate.items c.in-Some-get.word.now (names_by _ c.args.at _ word))
-    (subst (λ l. IfErr c.name_of.result (IsOfWord l c.in-Some-get.word.now)) c.deref-3.ensures.value c.name_of.ensures.refused)
+    (subst (λ l. IsOfWord l c.in-Some-get.word.now c.in_err-name_of.field-0.0) c.deref-3.ensures.value c.in_err-name_of.ensures.refused)

@@ -1,33 +1,51 @@
-use Rattle.std.proofs.Common.{◌++◌, ℕ, List, refl, subst, sym}
-use Rattle.std.specs.Prelude.{IfSome, codes, string_bytes}
-use Rattle.lp_build.specs.Loads.{ending}
-use Rattle.lp_build.specs.declared.sources.Part.{Part}
-use Rattle.lp_build.specs.Wanted.{IsWanted}
-use Rattle.lp_build.specs.declared.sources.Part.TheVariants as part
-use Rattle.lp_build.proofs.Walking.{walks_none, walks_still, walks_then, walks_waits}
+use Rattle.std.proofs.Common.{arith, refl, subst, sym, ◌∙◌}
+use Rattle.std.specs.Prelude.{string_bytes}
+use Rattle.lp_build.specs.Ordered.{accumulated, both, signature}
+use Rattle.lp_build.specs.inner.Walking.{IsWalk, IsWordAt}
+use Rattle.lp_build.proofs.Walking.{so_far, no_module, modules_wait}
 use Rattle.lp_build.proofs.walk.Loading.next_module.Goals as goal
 
-pub returns-in_err-name-clause-walked : goal.returns-in_err-name-clause-walked
-returns-in_err-name-clause-walked g c = λ root. walks_none root c.args.self.now
+pub returns-in_err-name-clause-so_far : goal.returns-in_err-name-clause-so_far
+returns-in_err-name-clause-so_far g c = λ all root needs owed w. so_far all root needs c.args.self.now w
 
 pub returns-in_default-clause-walked : goal.returns-in_default-clause-walked
-returns-in_default-clause-walked g c = λ root. walks_none root c.args.self.now
+returns-in_default-clause-walked g c = λ all root needs owed w. no_module all root c.args.self.now c.args.file c.args.at needs
+    (λ f at. subst (IsWordAt f.text.bytes.items f.text.references.accumulate.items c.args.at) c.in_default.is (c.in_ok-name.ensures.found f at)) owed w
 
-pub returns-in_err-push-clause-walked : goal.returns-in_err-push-clause-walked
-returns-in_err-push-clause-walked g c = λ root. walks_still root c.args.self.now _ refl c.in_err-push.ensures.items
+pub returns-in_default-clause-so_far : goal.returns-in_default-clause-so_far
+returns-in_default-clause-so_far g c = λ all root needs owed w. so_far all root needs c.args.self.now w
+
+pub returns-in_err-push-clause-so_far : goal.returns-in_err-push-clause-so_far
+returns-in_err-push-clause-so_far g c = λ all root needs owed w. so_far all root needs c.args.self.now w
 
 pub returns-then-self-clause-walked : goal.returns-then-self-clause-walked
-returns-then-self-clause-walked g c = λ root.
-    let both = subst (λ o. (root : List ℕ) → IfSome o (λ name. (p : Part) → IsWanted root c.args.self.now.sources.files.items (string_bytes name ++ ending p))) c.in-Some.is c.in_ok-name.ensures.wanted in
-    let mid = record c.args.self.now { work = c.push.new.self } in
-    walks_then root c.args.self.now mid _ (walks_waits root c.args.self.now mid _ refl c.in_ok-push.ensures.items tt)
-    (c.want_module.ensures.walked root
-    (subst (λ n. IsWanted root c.args.self.now.sources.files.items (n ++ codes ".sig")) (sym c.as_str.ensures.value) (both root part.Signature))
-    (subst (λ n. IsWanted root c.args.self.now.sources.files.items (n ++ codes ".mod")) (sym c.as_str.ensures.value) (both root part.Module)))
+returns-then-self-clause-walked g c = λ all root needs owed w. c.want_module.ensures.walked all root
+    (subst (λ n. IsWalk all root (both n) (record c.args.self.now { work = c.push.new.self })) (sym c.as_str.ensures.value)
+    (subst (λ b. IsWalk all root (accumulated b (string_bytes c.in-Some.name)) (record c.args.self.now { work = c.push.new.self })) (sym w.is ∙ c.if-self.true)
+    (modules_wait all root c.args.self.now (record c.args.self.now { work = c.push.new.self }) c.args.file c.args.at _ c.in-Some.name needs refl refl refl c.in_ok-push.ensures.items
+    (λ f lt. let words = f.text.references.accumulate in omega (arith, lt, words.ok, words.small, c.saturating_add.ensures))
+    (λ f at. subst (IsWordAt f.text.bytes.items f.text.references.accumulate.items c.args.at) c.in-Some.is (c.in_ok-name.ensures.found f at)) owed w)))
 
 pub returns-clause-walked : goal.returns-clause-walked
-returns-clause-walked g c = λ root.
-    let both = subst (λ o. (root : List ℕ) → IfSome o (λ name. (p : Part) → IsWanted root c.args.self.now.sources.files.items (string_bytes name ++ ending p))) c.in-Some.is c.in_ok-name.ensures.wanted in
-    let mid = record c.args.self.now { work = c.push.new.self } in
-    walks_then root c.args.self.now mid _ (walks_waits root c.args.self.now mid _ refl c.in_ok-push.ensures.items tt)
-    (c.want_signature.ensures.walked root (subst (λ n. IsWanted root c.args.self.now.sources.files.items (n ++ codes ".sig")) (sym c.as_str-else-self.ensures.value) (both root part.Signature)))
+returns-clause-walked g c = λ all root needs owed w. c.want.ensures.walked all root
+    (subst (λ n. IsWalk all root (signature n) (record c.args.self.now { work = c.push.new.self })) (sym c.as_str-else-self.ensures.value)
+    (subst (λ b. IsWalk all root (accumulated b (string_bytes c.in-Some.name)) (record c.args.self.now { work = c.push.new.self })) (sym w.is ∙ c.if-self.false)
+    (modules_wait all root c.args.self.now (record c.args.self.now { work = c.push.new.self }) c.args.file c.args.at _ c.in-Some.name needs refl refl refl c.in_ok-push.ensures.items
+    (λ f lt. let words = f.text.references.accumulate in omega (arith, lt, words.ok, words.small, c.saturating_add.ensures))
+    (λ f at. subst (IsWordAt f.text.bytes.items f.text.references.accumulate.items c.args.at) c.in-Some.is (c.in_ok-name.ensures.found f at)) owed w)))
+
+pub returns-then-self-clause-so_far : goal.returns-then-self-clause-so_far
+returns-then-self-clause-so_far g c = λ all root needs owed w. c.want_module.ensures.so_far all root
+    (subst (λ n. IsWalk all root (both n) (record c.args.self.now { work = c.push.new.self })) (sym c.as_str.ensures.value)
+    (subst (λ b. IsWalk all root (accumulated b (string_bytes c.in-Some.name)) (record c.args.self.now { work = c.push.new.self })) (sym w.is ∙ c.if-self.true)
+    (modules_wait all root c.args.self.now (record c.args.self.now { work = c.push.new.self }) c.args.file c.args.at _ c.in-Some.name needs refl refl refl c.in_ok-push.ensures.items
+    (λ f lt. let words = f.text.references.accumulate in omega (arith, lt, words.ok, words.small, c.saturating_add.ensures))
+    (λ f at. subst (IsWordAt f.text.bytes.items f.text.references.accumulate.items c.args.at) c.in-Some.is (c.in_ok-name.ensures.found f at)) owed w)))
+
+pub returns-clause-so_far : goal.returns-clause-so_far
+returns-clause-so_far g c = λ all root needs owed w. c.want.ensures.so_far all root
+    (subst (λ n. IsWalk all root (signature n) (record c.args.self.now { work = c.push.new.self })) (sym c.as_str-else-self.ensures.value)
+    (subst (λ b. IsWalk all root (accumulated b (string_bytes c.in-Some.name)) (record c.args.self.now { work = c.push.new.self })) (sym w.is ∙ c.if-self.false)
+    (modules_wait all root c.args.self.now (record c.args.self.now { work = c.push.new.self }) c.args.file c.args.at _ c.in-Some.name needs refl refl refl c.in_ok-push.ensures.items
+    (λ f lt. let words = f.text.references.accumulate in omega (arith, lt, words.ok, words.small, c.saturating_add.ensures))
+    (λ f at. subst (IsWordAt f.text.bytes.items f.text.references.accumulate.items c.args.at) c.in-Some.is (c.in_ok-name.ensures.found f at)) owed w)))

@@ -1,38 +1,25 @@
-use Rattle.std.proofs.Common.{◌∷◌, ◌++◌, [], ap, subst, ◌∙◌, sym}
-use Rattle.std.proofs.lemmas.Result.{on_ok_weaker}
-use Rattle.lp_build.specs.Loads.{modules_among}
-use Rattle.lp_build.specs.inner.Waiting.{Awaits}
-use Rattle.lp_build.proofs.Awaiting.{accumulated_taken, module_taken, signatures_taken}
-use Rattle.std.specs.Prelude.{codes}
-use Rattle.lp_build.specs.Wanted.{IsWanted}
-use Rattle.lp_build.specs.inner.Walking.{IsWaiting}
+use Rattle.std.proofs.Common.{◌∷◌, [], ap, subst, sym, ◌∙◌}
+use Rattle.lp_build.specs.Ordered.{needed}
+use Rattle.lp_build.specs.declared.sources.Part.TheVariants as part
+use Rattle.lp_build.specs.inner.Walking.{IsOwed, IsWalk}
 use Rattle.lp_build.proofs.walk.Loading.step.Goals as goal
 
-pub returns-in-Signatures-clause-awaits : goal.returns-in-Signatures-clause-awaits
-returns-in-Signatures-clause-awaits g c = λ root. on_ok_weaker c.next_signature.result
-    (λ k h. k (signatures_taken root _ _ c.in-Signatures.file c.in-Signatures.at
-    (subst (λ x. Awaits root (c.args.self.now.work.items ++ x ∷ []) (modules_among c.args.self.now.sources.files.items)) c.in-Signatures.is h)))
-    (c.next_signature.ensures.awaits root)
-
-pub returns-in-Module-clause-awaits : goal.returns-in-Module-clause-awaits
-returns-in-Module-clause-awaits g c = λ root. on_ok_weaker c.load_module.result
-    (λ e h. module_taken root _ _ (modules_among c.args.self.now.sources.files.items) _ c.in-Module.name
-    (e ∙ ap (λ n. modules_among c.args.self.now.sources.files.items ++ n ∷ []) c.as_str.ensures.value)
-    (subst (λ x. Awaits root (c.args.self.now.work.items ++ x ∷ []) (modules_among c.args.self.now.sources.files.items)) c.in-Module.is h))
-    c.load_module.ensures.modules
-
-pub returns-in-Accumulated-clause-awaits : goal.returns-in-Accumulated-clause-awaits
-returns-in-Accumulated-clause-awaits g c = λ root. on_ok_weaker c.next_module.result
-    (λ e h. accumulated_taken root _ _ (modules_among c.args.self.now.sources.files.items) _ c.in-Accumulated.file c.in-Accumulated.at e
-    (subst (λ x. Awaits root (c.args.self.now.work.items ++ x ∷ []) (modules_among c.args.self.now.sources.files.items)) c.in-Accumulated.is h))
-    c.next_module.ensures.modules
-
 pub returns-in-Signatures-clause-walked : goal.returns-in-Signatures-clause-walked
-returns-in-Signatures-clause-walked g c = λ root w. c.next_signature.ensures.walked root
-
-pub returns-in-Module-clause-walked : goal.returns-in-Module-clause-walked
-returns-in-Module-clause-walked g c = λ root w. c.load_module.ensures.walked root
-    (subst (λ n. IsWanted root c.args.self.now.sources.files.items (n ++ codes ".mod")) (sym c.as_str.ensures.value) (subst (IsWaiting root c.args.self.now.sources.files.items) c.in-Module.is w))
+returns-in-Signatures-clause-walked g c = λ all root needs owed w. c.next_signature.ensures.walked all root needs (subst (λ x. IsOwed all c.args.self.now.sources.files.items x needs) c.in-Signatures.is owed) w
 
 pub returns-in-Accumulated-clause-walked : goal.returns-in-Accumulated-clause-walked
-returns-in-Accumulated-clause-walked g c = λ root w. c.next_module.ensures.walked root
+returns-in-Accumulated-clause-walked g c = λ all root needs owed w. c.next_module.ensures.walked all root needs (subst (λ x. IsOwed all c.args.self.now.sources.files.items x needs) c.in-Accumulated.is owed) w
+
+pub returns-in-Module-clause-walked : goal.returns-in-Module-clause-walked
+returns-in-Module-clause-walked g c = λ all root needs owed w. c.want.ensures.walked all root
+    (subst (λ x. IsWalk all root x c.args.self.now) (subst (λ x. IsOwed all c.args.self.now.sources.files.items x needs) c.in-Module.is owed ∙ ap (λ n. needed part.Module n ∷ []) (sym c.as_str.ensures.value)) w)
+
+pub returns-in-Signatures-clause-so_far : goal.returns-in-Signatures-clause-so_far
+returns-in-Signatures-clause-so_far g c = λ all root needs owed w. c.next_signature.ensures.so_far all root needs (subst (λ x. IsOwed all c.args.self.now.sources.files.items x needs) c.in-Signatures.is owed) w
+
+pub returns-in-Accumulated-clause-so_far : goal.returns-in-Accumulated-clause-so_far
+returns-in-Accumulated-clause-so_far g c = λ all root needs owed w. c.next_module.ensures.so_far all root needs (subst (λ x. IsOwed all c.args.self.now.sources.files.items x needs) c.in-Accumulated.is owed) w
+
+pub returns-in-Module-clause-so_far : goal.returns-in-Module-clause-so_far
+returns-in-Module-clause-so_far g c = λ all root needs owed w. c.want.ensures.so_far all root
+    (subst (λ x. IsWalk all root x c.args.self.now) (subst (λ x. IsOwed all c.args.self.now.sources.files.items x needs) c.in-Module.is owed ∙ ap (λ n. needed part.Module n ∷ []) (sym c.as_str.ensures.value)) w)

@@ -1,29 +1,18 @@
-use Rattle.std.proofs.Common.{◌++◌, ◌∙◌, ap, sym, subst}
-use Rattle.std.specs.Prelude.{codes}
-use Rattle.lp_build.specs.Wanted.{IsWanted}
-use Rattle.lp_build.proofs.Walking.{walks_still, walks_then}
+use Rattle.std.proofs.Common.{◌∷◌, []}
+use Rattle.lp_build.specs.Ordered.{needed, signature}
+use Rattle.lp_build.specs.declared.sources.Part.TheVariants as part
+use Rattle.lp_build.proofs.Walking.{so_far_same, walk_waits}
 use Rattle.lp_build.proofs.walk.Loading.want_module.Goals as goal
 
-pub returns-clause-keeps : goal.returns-clause-keeps
-returns-clause-keeps g c = rw (c.await_module.ensures.sources, c.is_new_module.ensures.sources) at c.want_signature.ensures.keeps
-
-pub returns-clause-modules : goal.returns-clause-modules
-returns-clause-modules g c = rw (c.await_module.ensures.sources, c.is_new_module.ensures.sources) at c.want_signature.ensures.modules
-
-pub returns-in_err-is_new_module-clause-walked : goal.returns-in_err-is_new_module-clause-walked
-returns-in_err-is_new_module-clause-walked g c = λ root w v. walks_still root c.args.self.now c.is_new_module.new.self c.is_new_module.ensures.sources (ap (λ v. v.items) c.is_new_module.ensures.work)
-
-pub returns-then-not-branch-clause-walked : goal.returns-then-not-branch-clause-walked
-returns-then-not-branch-clause-walked g c = λ root w v. walks_still root c.args.self.now c.is_new_module.new.self c.is_new_module.ensures.sources (ap (λ v. v.items) c.is_new_module.ensures.work)
-
-pub returns-in_err-await_module-clause-walked : goal.returns-in_err-await_module-clause-walked
-returns-in_err-await_module-clause-walked g c = λ root w v. walks_then root c.args.self.now c.is_new_module.new.self c.await_module.new.self
-    (walks_still root c.args.self.now c.is_new_module.new.self c.is_new_module.ensures.sources (ap (λ v. v.items) c.is_new_module.ensures.work))
-    (c.await_module.ensures.walked root (subst (λ s. IsWanted root s.files.items (c.args.name.now ++ codes ".mod")) (sym c.is_new_module.ensures.sources) v))
+pub returns-in_err-await_module-clause-so_far : goal.returns-in_err-await_module-clause-so_far
+returns-in_err-await_module-clause-so_far g c = λ all root w. so_far_same all root _ c.args.self.now _ c.await_module.ensures.sources w
 
 pub returns-clause-walked : goal.returns-clause-walked
-returns-clause-walked g c = λ root w v. walks_then root c.args.self.now c.await_module.new.self _
-    (walks_then root c.args.self.now c.is_new_module.new.self c.await_module.new.self
-    (walks_still root c.args.self.now c.is_new_module.new.self c.is_new_module.ensures.sources (ap (λ v. v.items) c.is_new_module.ensures.work))
-    (c.await_module.ensures.walked root (subst (λ s. IsWanted root s.files.items (c.args.name.now ++ codes ".mod")) (sym c.is_new_module.ensures.sources) v)))
-    (c.want_signature.ensures.walked root (subst (λ s. IsWanted root s.files.items (c.args.name.now ++ codes ".sig")) (sym (c.await_module.ensures.sources ∙ c.is_new_module.ensures.sources)) w))
+returns-clause-walked g c = λ all root w. c.want.ensures.walked all root
+    (walk_waits all root (signature c.args.name.now) (needed part.Module c.args.name.now ∷ []) c.args.self.now c.await_module.new.self c.await_module.ensures.all c.await_module.ensures.sources c.await_module.ensures.names
+    (λ left h. c.in_ok-await_module.ensures.owed all left h) w)
+
+pub returns-clause-so_far : goal.returns-clause-so_far
+returns-clause-so_far g c = λ all root w. c.want.ensures.so_far all root
+    (walk_waits all root (signature c.args.name.now) (needed part.Module c.args.name.now ∷ []) c.args.self.now c.await_module.new.self c.await_module.ensures.all c.await_module.ensures.sources c.await_module.ensures.names
+    (λ left h. c.in_ok-await_module.ensures.owed all left h) w)
