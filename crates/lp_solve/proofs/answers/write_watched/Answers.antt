@@ -1,0 +1,5 @@
+use Rattle.std.proofs.Common.{rules}
+use Rattle.lp_solve.proofs.answers.write_watched.Goals as goal
+
+pub returns-clause-watched : goal.returns-clause-watched
+returns-clause-watched g c = search rules
