@@ -26,25 +26,26 @@ module _ (told : Option Held) (result : Status) (old new : List Seen) where
       (subst (λ z. Watches told name' query' z (answer_limit options) result old new) s (subst (λ z. Watches told name' query' steps z result old new) a (h w))))
 
   -- want of memory, before anything was done
-  unread : (name query : List ℕ) (options : Options) → (result ≢ variant.WriteFault → result ≡ variant.Memory) → Hears told (solve name query options) result old new
+  unread : new ≡ old → (name query : List ℕ) (options : Options) → (result ≢ variant.WriteFault → result ≡ variant.Memory) → Hears told (solve name query options) result old new
   unfolding is_of_search ended_itself
-  unread name query options said = λ w. record {
+  unread same name query options said = λ w. record {
     searched = λ e. elim (is_fault result) [
       | inl f ↦ absurd (let q = subst (λ r. ended_itself r ≡ true) f e in cc)
       | inr n ↦ absurd (let q = subst (λ r. ended_itself r ≡ true) (said n) e in cc)
     ];
+    always = inl same;
     refused = λ e n. absurd (let q = subst (λ r. is_of_search r ≡ false) (said n) e in cc);
   }
 
-  pub wanting_heard : (result ≢ variant.WriteFault → result ≡ variant.Memory) → (x : Asked) → Hears told x result old new
-  wanting_heard said (solve name query options) = unread name query options said
-  wanting_heard said (query_image name query options) = tt
-  wanting_heard said (trial size) = tt
-  wanting_heard said (session name options) = tt
-  wanting_heard said (lambda name query) = tt
-  wanting_heard said (check name query) = tt
-  wanting_heard said (prove name query options) = tt
-  wanting_heard said (files command name) = tt
+  pub wanting_heard : new ≡ old → (result ≢ variant.WriteFault → result ≡ variant.Memory) → (x : Asked) → Hears told x result old new
+  wanting_heard same said (solve name query options) = unread same name query options said
+  wanting_heard same said (query_image name query options) = tt
+  wanting_heard same said (trial size) = tt
+  wanting_heard same said (session name options) = tt
+  wanting_heard same said (lambda name query) = tt
+  wanting_heard same said (check name query) = tt
+  wanting_heard same said (prove name query options) = tt
+  wanting_heard same said (files command name) = tt
 
 -- what the words ask for
 pub heard_asked : (told : Option Held) (result : Status) (old new : List Seen) (words : List (List ℕ)) (a : Asked) → asked words ≡ Some a → Hears told a result old new →

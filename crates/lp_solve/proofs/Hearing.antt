@@ -2,6 +2,7 @@
 use Rattle.std.proofs.Common.{◌≡◌, ◌≢◌, ◌+◌, ◌≤◌, inl, inr, true, ℕ, List, [], ◌∷◌, ◌++◌, Option, Some, None, refl, sym, ap, ◌∙◌, subst, arith}
 use Rattle.lp_base.specs.declared.status.Status.{Status}
 use Rattle.lp_base.specs.declared.status.Status.TheVariants as variant
+use Rattle.lp_watch.specs.Crowd.{crowd_after}
 use Rattle.lp_watch.specs.Seen.{Seen}
 use Rattle.lp_model.specs.Branch.{Answer, Task}
 use Rattle.lp_model.specs.Events.{Event, Gave, Over, first}
@@ -16,7 +17,7 @@ use Rattle.lp_model.specs.declared.ending.Ending.TheVariants.{Deep}
 use Rattle.lp_model.specs.declared.program.Declared.{Declared}
 use Rattle.lp_search_laws.proofs.Stack.Ends.{stays_over}
 use Rattle.lp_plain.specs.Between.{IsBetween}
-use Rattle.lp_plain.specs.Hearing.{Hears}
+use Rattle.lp_plain.specs.Hearing.{Hears, HearsPart, note_in}
 use Rattle.lp_plain.specs.Held.{constants_of, ended}
 use Rattle.lp_plain.specs.Stepping.{Relays, notes_told, run_told, way_back}
 use Rattle.lp_plain.specs.declared.search.Search.{Search}
@@ -33,7 +34,7 @@ use Rattle.lp_solve.specs.Queries.{told_by}
 use Rattle.lp_solve.specs.Watched.{ended_itself}
 use Rattle.lp_solve.specs.declared.piece.Piece.{Piece}
 use Rattle.lp_solve.specs.declared.piece.Piece.TheVariants as piece
-use Rattle.lp_solve.specs.inner.Heard.{HeardPiece, IsNext, IsWatched, Watched, at_first, one_answer}
+use Rattle.lp_solve.specs.inner.Heard.{HeardPiece, HearsSoFar, IsNext, IsWatched, IsWatchedSoFar, Watched, at_first, one_answer}
 use Rattle.lp_solve.proofs.Followed.{ended_deep}
 use Rattle.lp_solve.proofs.Nexts.{gave_first, none_first}
 
@@ -42,6 +43,22 @@ data Heard (cs : List Declared) (P : List Clause) (n j m : ℕ) (start : State T
   still : (k : ℕ) (s : State Task) (steps : ℕ) (notes : List Note) → IsBetween P n now s → ended now ≡ None → constants_of now ≡ cs → Relays (look unit_limit n P) start steps notes s →
       Hears cs notes before seen → (told_by P n j m start).ending ≡ (told_by P n j k s).ending → Heard cs P n j m start before now seen
   passed : (told_by P n j m start).ending ≡ None → Heard cs P n j m start before now seen
+
+-- a beginning of what is heard
+module _ (cs : List Declared) where
+  part_none : (ns : List Note) (old new : List Seen) → new ≡ old → HearsPart cs ns old new
+  part_none [] old new e = e
+  part_none (n ∷ ns) old new e = inl e
+
+  part_behind : (ns ms : List Note) (old mid new : List Seen) → Hears cs ns old mid → HearsPart cs ms mid new → HearsPart cs (ns ++ ms) old new
+  part_behind [] ms old mid new e h = subst (λ x. HearsPart cs ms x new) e h
+  part_behind (n ∷ ns) ms old mid new e h = inr (inr (part_behind ns ms (crowd_after (note_in cs n) old) mid new e h))
+
+  part_longer : (ns ms : List Note) (old new : List Seen) → HearsPart cs ns old new → HearsPart cs (ns ++ ms) old new
+  part_longer [] ms old new e = part_none ms old new e
+  part_longer (n ∷ ns) ms old new (inl e) = inl e
+  part_longer (n ∷ ns) ms old new (inr (inl r)) = inr (inl r)
+  part_longer (n ∷ ns) ms old new (inr (inr h)) = inr (inr (part_longer ns ms (crowd_after (note_in cs n) old) new h))
 
 module _ (cs : List Declared) (P : List Clause) (n j m : ℕ) (start : State Task) (before : List Seen) where
   next_heard : (s t : Search) (a : code.Answer) (u v : List Seen) → IsNext s (event.Answer a) t u v → Heard cs P n j m start before s u → Heard cs P n j m start before t v
@@ -96,6 +113,51 @@ module _ (cs : List Declared) (P : List Clause) (n j m : ℕ) (start : State Tas
         IsWatched first_search before after → Hears cs (told_by P n j m start).notes before after
     run_heard first_search after begun going same w =
         end_heard w.last w.over w.ending w.seen after w.ended w.other (all_heard first_search w.last w.seen begun going same w.watched)
+
+    -- the notes up to a state in which the run goes on are the first of it
+    first_notes : (k : ℕ) (s : State Task) (steps : ℕ) (notes : List Note) → Relays (look unit_limit n P) start steps notes s → (told_by P n j m start).ending ≡ (told_by P n j k s).ending →
+        (rest : List Note) × ((told_by P n j m start).notes ≡ notes ++ rest)
+    first_notes k s steps notes relays ending =
+        let i = relays.enough + j in
+        let l1 : relays.enough ≤ i = omega arith in
+        let l2 : j ≤ i = omega arith in
+        let l3 : k ≤ k = omega arith in
+        let r = relays.runs i l1 k in
+        let over = ap (λ w. w.ending) (stays_over (look unit_limit n P) j i k k l2 l3 s o (sym ending ∙ is_over)) ∙ sym ending ∙ is_over in
+        let q = i + r.0 in
+        let l4 : i ≤ q = omega arith in
+        let l5 : r.0 ≤ q = omega arith in
+        let same = stays_over (look unit_limit n P) i q r.0 q l4 l5 start o (r.3 ∙ over) in
+        let way = way_back start.given start.answers start.stack in (
+          run_told (look unit_limit n P) i k s,
+          same_notes q o (notes ++ run_told (look unit_limit n P) i k s) (ap (λ w. w.ending) same ∙ r.3 ∙ over) (ap (λ w. way ++ w.notes) same ∙ r.1),
+        )
+
+    part_heard : (s : Search) (u v : List Seen) → (v ≡ u) ⊎ HearsSoFar s u v → Heard cs P n j m start before s u → HearsPart cs (told_by P n j m start).notes before v
+    part_heard s u v h (passed none) = absurd (let q = sym none ∙ is_over in cc)
+    part_heard s u v (inl same_seen) (still k st steps notes between going same relays heard ending) =
+        let r = first_notes k st steps notes relays ending in
+        subst (λ ns. HearsPart cs ns before v) (sym r.1) (part_behind cs notes r.0 before u v heard (part_none cs r.0 u v same_seen))
+    part_heard s u v (inr h) (still k st steps notes between going same relays heard ending) = go (first (look unit_limit n P) j k st) refl
+      where
+        go : (x : Option (Event Answer × State Task)) → first (look unit_limit n P) j k st ≡ x → HearsPart cs (told_by P n j m start).notes before v
+        go None e = absurd (let q = sym (ending ∙ (none_first (look unit_limit n P) j k st e).1) ∙ is_over in cc)
+        go (Some (Gave x, w)) e =
+            let more = subst (λ c. HearsPart c (notes_told (look unit_limit n P) j k st) u v) same (h P n st between (Gave x) w (record { inner_moves = j; moves = k; gives = e })) in
+            let r = gave_first (look unit_limit n P) j k st w x e in
+            let all = first_notes r.0 w _ (notes ++ notes_told (look unit_limit n P) j k st)
+            (relays_more (look unit_limit n P) start st w steps notes x relays (record { inner_moves = j; moves = k; gives = e })) (ending ∙ r.2) in
+            subst (λ ns. HearsPart cs ns before v) (sym all.1)
+            (part_longer cs (notes ++ notes_told (look unit_limit n P) j k st) all.0 before v (part_behind cs notes (notes_told (look unit_limit n P) j k st) before u v heard more))
+        go (Some (Over x, w)) e =
+            let more = subst (λ c. HearsPart c (notes_told (look unit_limit n P) j k st) u v) same (h P n st between (Over x) w (record { inner_moves = j; moves = k; gives = e })) in
+            let r = relays_over (look unit_limit n P) start st w steps notes x relays (record { inner_moves = j; moves = k; gives = e }) in
+            let all = same_notes r.0 x (notes ++ notes_told (look unit_limit n P) j k st) r.3 r.1 in
+            subst (λ ns. HearsPart cs ns before v) (sym all) (part_behind cs notes (notes_told (look unit_limit n P) j k st) before u v heard more)
+
+    pub run_heard_so_far : (first_search : Search) (after : List Seen) → IsBetween P n first_search start → ended first_search ≡ None → constants_of first_search ≡ cs →
+        IsWatchedSoFar first_search before after → HearsPart cs (told_by P n j m start).notes before after
+    run_heard_so_far first_search after begun going same w = part_heard w.last w.seen after w.part (all_heard first_search w.last w.seen begun going same w.watched)
 
 -- one piece more, and the last one
 pub heard_piece : (first_search s t : Search) (before u v : List Seen) (p : Piece) (lines : Vec ℕ Global) → p ≡ piece.Answer lines → HeardPiece s p t u v → Watched first_search before s u →

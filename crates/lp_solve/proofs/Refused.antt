@@ -27,9 +27,9 @@ use Rattle.lp_solve.proofs.Answering.{some_search}
 use Rattle.lp_solve.proofs.Followed.{written_by}
 use Rattle.lp_solve.proofs.Texts.Flattening.{query_flat}
 use Rattle.lp_solve.proofs.Truth.{truth}
-use Rattle.lp_solve.proofs.Hearing.{run_heard}
+use Rattle.lp_solve.proofs.Hearing.{run_heard, run_heard_so_far}
 use Rattle.lp_solve.specs.Watched.{Watches, ended_itself}
-use Rattle.lp_solve.specs.inner.Heard.{IsWatched}
+use Rattle.lp_solve.specs.inner.Heard.{IsWatched, IsWatchedSoFar}
 use Rattle.lp_solve.specs.Shown.{IsShownWith, all_constants, constants_in, constants_shown, names_in}
 use Rattle.lp_solve.specs.declared.prepare.Prepared.{Prepared}
 use Rattle.lp_solve.specs.declared.shown.Shown.{Shown}
@@ -95,12 +95,18 @@ module _ (told : Option Held) (name query : List ℕ) (watched : Bool) (steps an
 -- what its watchers have heard
 module _ (told : Option Held) (name query : List ℕ) (steps answers : ℕ) (status : Status) (before after : List Seen) where
   pub search_heard : (p : Prepared) → IsReady told name query steps answers p → (status ≢ variant.WriteFault → is_of_search status ≡ true) → (ended_itself status ≡ true → IsWatched p.search before after) →
-      Watches told name query steps answers status before after
-  search_heard p ready of_search h = record {
+      IsWatchedSoFar p.search before after → Watches told name query steps answers status before after
+  search_heard p ready of_search h part = record {
     searched = λ e. record {
       asks = ready.asks;
       flat = query_flat ready.asks;
       heard = λ d P gs f n j m o is_over. run_heard _ P n j m (first_state ready.asks gs steps answers) before o is_over refl p.search after (ready.begins d P gs f n) ready.going ready.constants (h e);
     };
+    always = inr (record {
+      asks = ready.asks;
+      flat = query_flat ready.asks;
+      heard = λ d P gs f n j m o is_over.
+          run_heard_so_far _ P n j m (first_state ready.asks gs steps answers) before o is_over refl p.search after (ready.begins d P gs f n) ready.going ready.constants part;
+    });
     refused = λ e n. absurd (let q = sym e ∙ of_search n in cc);
   }

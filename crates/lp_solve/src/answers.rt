@@ -12,7 +12,7 @@ ghost use Rattle.lp_solve.specs.Solved.{BeginsSolved, WritesSolved};
 ghost use Rattle.lp_solve.specs.Watched.{Watches, ended_itself};
 ghost use Rattle.lp_solve.specs.Written.{MayReport};
 ghost use Rattle.lp_solve.specs.inner.Events.{Ends, IsPiece};
-ghost use Rattle.lp_solve.specs.inner.Heard.{HeardPiece, IsNext, IsWatched};
+ghost use Rattle.lp_solve.specs.inner.Heard.{HeardPiece, HearsSoFar, IsNext, IsWatched, IsWatchedSoFar};
 ghost use Rattle.lp_solve.specs.inner.Searched.{BeginsLast, BeginsSearch, WritesLast, WritesSearch};
 
 use crate::piece::Piece;
@@ -28,6 +28,7 @@ use std::alloc::Global;
 
 // The next event of a search.
 fn next_event<W: Watch>(search: &mut Search, crowd: &mut Crowd<'_, W>) -> Result<Event, Memory>
+    ensures part { HearsSoFar search.old (map W.seen crowd.old.watchers.now.items) (map W.seen crowd.new.watchers.now.items) }
     ensures next { IfOk result (λ event. IsNext search.old event search.new (map W.seen crowd.old.watchers.now.items) (map W.seen crowd.new.watchers.now.items)) }
     ensures same { crowd.new.watchers.ghost_name ≡ crowd.old.watchers.ghost_name }
 {
@@ -44,6 +45,7 @@ fn next_piece<W: Watch>(
 ) -> Result<Piece, Memory>
     requires { variables_of search.old ≡ length shown.now.names.items }
     ensures piece { IfOk result (λ piece. IsPiece (constants_in shown.now) (names_in shown.now) number search.old piece search.new) }
+    ensures part { HearsSoFar search.old (map W.seen crowd.old.watchers.now.items) (map W.seen crowd.new.watchers.now.items) }
     ensures heard { IfOk result (λ piece. HeardPiece search.old piece search.new (map W.seen crowd.old.watchers.now.items) (map W.seen crowd.new.watchers.now.items)) }
     ensures same { crowd.new.watchers.ghost_name ≡ crowd.old.watchers.ghost_name }
 {
@@ -119,6 +121,7 @@ fn write_answers<K: Sink, W: Watch>(
     ensures writes { result ≢ Status.WriteFault → WritesSearch (constants_in prepared.shown) (names_in prepared.shown) watched prepared.search result (K.written out.old) (K.written out.new) }
     ensures begins { result ≡ Status.WriteFault → BeginsSearch (constants_in prepared.shown) (names_in prepared.shown) watched prepared.search (K.written out.old) (K.written out.new) }
     ensures of_search { result ≢ Status.WriteFault → is_of_search result ≡ true }
+    ensures part { IsWatchedSoFar prepared.search (map W.seen crowd.old.watchers.now.items) (map W.seen crowd.new.watchers.now.items) }
     ensures watched { ended_itself result ≡ true → IsWatched prepared.search (map W.seen crowd.old.watchers.now.items) (map W.seen crowd.new.watchers.now.items) }
     ensures same { crowd.new.watchers.ghost_name ≡ crowd.old.watchers.ghost_name }
     ensures write_faults { Counts (result ≡ Status.WriteFault) (K.faults out.old) (K.faults out.new) }
@@ -149,6 +152,7 @@ fn write_watched<K: Sink, W: Watch>(
     ensures writes { result ≢ Status.WriteFault → WritesSearch (constants_in prepared.shown) (names_in prepared.shown) watched prepared.search result (K.written out.old) (K.written out.new) }
     ensures begins { result ≡ Status.WriteFault → BeginsSearch (constants_in prepared.shown) (names_in prepared.shown) watched prepared.search (K.written out.old) (K.written out.new) }
     ensures of_search { result ≢ Status.WriteFault → is_of_search result ≡ true }
+    ensures part { IsWatchedSoFar prepared.search (map W.seen watchers.old.items) (map W.seen watchers.new.items) }
     ensures watched { ended_itself result ≡ true → IsWatched prepared.search (map W.seen watchers.old.items) (map W.seen watchers.new.items) }
     ensures write_faults { Counts (result ≡ Status.WriteFault) (K.faults out.old) (K.faults out.new) }
 {

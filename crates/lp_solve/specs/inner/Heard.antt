@@ -1,5 +1,5 @@
 -- What watchers hear of a search, one event after the other.
-use Rattle.std.specs.Prelude.{◌≡◌, ◌≢◌, ℕ, List, None}
+use Rattle.std.specs.Prelude.{◌≡◌, ◌≢◌, ◌⊎◌, ℕ, List, None}
 use Rattle.lp_watch.specs.Seen.{Seen}
 use Rattle.lp_model.specs.Branch.{Task}
 use Rattle.lp_model.specs.Branch as definition
@@ -16,7 +16,7 @@ use Rattle.lp_model.specs.declared.answer.Event.TheVariants as event
 use Rattle.lp_model.specs.declared.ending.Ending.{Ending}
 use Rattle.lp_model.specs.declared.ending.Ending.TheVariants.{Deep}
 use Rattle.lp_plain.specs.Between.{AreEnough, IsBetween}
-use Rattle.lp_plain.specs.Hearing.{Hears}
+use Rattle.lp_plain.specs.Hearing.{Hears, HearsPart}
 use Rattle.lp_plain.specs.Held.{constants_of, ended}
 use Rattle.lp_plain.specs.Stepping.{notes_told}
 use Rattle.lp_plain.specs.declared.search.Search.{Search}
@@ -28,6 +28,11 @@ use Rattle.lp_solve.specs.declared.piece.Piece.TheVariants as piece
 abbrev pub HearsOf : Search → Event → (seen later : List Seen) → Type 0
 HearsOf old told_now u v = ended old ≡ None → (P : List Clause) (n : ℕ) (s : State Task) → IsBetween P n old s → AreEnough P n s told_now → (x : happens.Event definition.Answer) (t : State Task)
     (d : Advances (look unit_limit n P) s x t) → Hears (constants_of old) (notes_told (look unit_limit n P) d.inner_moves d.moves s) u v
+
+-- and whatever comes of it, a beginning of them
+abbrev pub HearsSoFar : Search → (seen later : List Seen) → Type 0
+HearsSoFar old u v = (P : List Clause) (n : ℕ) (s : State Task) → IsBetween P n old s → (x : happens.Event definition.Answer) (t : State Task) (d : Advances (look unit_limit n P) s x t) →
+    HearsPart (constants_of old) (notes_told (look unit_limit n P) d.inner_moves d.moves s) u v
 
 -- the search tells an event, and the watchers hear what leads to it
 pub record IsNext (old : Search) (told_now : Event) (new : Search) (seen later : List Seen) : Type 0 where
@@ -50,6 +55,13 @@ pub record IsWatched (first : Search) (before after : List Seen) : Type 0 where
   pub watched : Watched first before last seen
   pub ended : IsNext last (event.Ended ending) over seen after
   pub other : ending ≢ Deep
+
+-- and up to where the search or the writing stopped
+pub record IsWatchedSoFar (first : Search) (before after : List Seen) : Type 0 where
+  pub last : Search
+  pub seen : List Seen
+  pub watched : Watched first before last seen
+  pub part : (after ≡ seen) ⊎ HearsSoFar last seen after
 
 -- what is heard up to a piece
 abbrev pub HeardPiece : Search → Piece → Search → (seen later : List Seen) → Type 0

@@ -233,4 +233,4 @@ pub returns-in-Err-Usage-clause-hears : goal.returns-in-Err-Usage-clause-hears
 returns-in-Err-Usage-clause-hears g c = λ x is. absurd (let none = sym (c.in-Err-Usage.ensures.usage (ap Err c.in-Err-Usage.field-0-is)) ∙ is in cc)
 
 pub returns-in-Err-Memory-clause-hears : goal.returns-in-Err-Memory-clause-hears
-returns-in-Err-Memory-clause-hears g c = λ x is. wanting_heard _ c.say-in-Err-Memory.result _ _ (λ n. (c.say-in-Err-Memory.ensures.said n).0) x
+returns-in-Err-Memory-clause-hears g c = λ x is. wanting_heard _ c.say-in-Err-Memory.result _ _ refl (λ n. (c.say-in-Err-Memory.ensures.said n).0) x

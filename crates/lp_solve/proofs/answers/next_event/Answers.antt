@@ -9,3 +9,6 @@ returns-clause-next g c =
 
 pub returns-clause-same : goal.returns-clause-same
 returns-clause-same g c = c.next.ensures.same
+
+pub returns-clause-part : goal.returns-clause-part
+returns-clause-part g c = c.next.ensures.begins

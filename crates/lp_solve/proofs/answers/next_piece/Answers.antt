@@ -30,3 +30,18 @@ returns-in-Ok-clause-heard g c = (
 
 pub returns-in-Err-Deep-clause-heard : goal.returns-in-Err-Deep-clause-heard
 returns-in-Err-Deep-clause-heard g c = λ other. absurd (other refl)
+
+pub returns-in-Ended-clause-part : goal.returns-in-Ended-clause-part
+returns-in-Ended-clause-part g c = c.next_event.ensures.part
+
+pub returns-in-Ok-clause-part : goal.returns-in-Ok-clause-part
+returns-in-Ok-clause-part g c = c.next_event.ensures.part
+
+pub returns-in-Err-Deep-clause-part : goal.returns-in-Err-Deep-clause-part
+returns-in-Err-Deep-clause-part g c = c.next_event.ensures.part
+
+pub returns-in-Err-Memory-clause-part : goal.returns-in-Err-Memory-clause-part
+returns-in-Err-Memory-clause-part g c = c.next_event.ensures.part
+
+pub returns-in_err-why-clause-part : goal.returns-in_err-why-clause-part
+returns-in_err-why-clause-part g c = c.next_event.ensures.part

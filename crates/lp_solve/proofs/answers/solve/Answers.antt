@@ -1,4 +1,4 @@
-use Rattle.std.proofs.Common.{map, refl, subst, sym}
+use Rattle.std.proofs.Common.{inl, map, refl, subst, sym}
 use Rattle.lp_build.specs.Told.{AreKnown}
 use Rattle.lp_lines.proofs.Refusing.{never_write_fault}
 use Rattle.lp_lines.proofs.Running.{keeps_behind, keeps_told, ran_searched, ran_told}
@@ -69,10 +69,11 @@ returns-in-Err-clause-placed g c =
 pub returns-in-Ok-clause-watched : goal.returns-in-Ok-clause-watched
 returns-in-Ok-clause-watched g c =
     let known = subst (λ xs. AreKnown (g.F.Folder.held c.args.folder.now) xs) (sym c.new-unknown.ensures.items) (none_known (g.F.Folder.held c.args.folder.now)) in
-    search_heard _ _ _ c.args.question.steps c.args.question.answers c.write_watched.result _ _ c.in-Ok.prepared (c.in-Ok.ensures.ready known) c.write_watched.ensures.of_search c.write_watched.ensures.watched
+    search_heard _ _ _ c.args.question.steps c.args.question.answers c.write_watched.result _ _ c.in-Ok.prepared (c.in-Ok.ensures.ready known) c.write_watched.ensures.of_search c.write_watched.ensures.watched c.write_watched.ensures.part
 
 pub returns-in-Err-clause-watched : goal.returns-in-Err-clause-watched
 returns-in-Err-clause-watched g c = record {
   searched = λ e. absurd (refused_lack c.in-Err.refusal c.tell.result c.in-Err.ensures.looked.kind (λ n. (c.tell.ensures.said n).0) e);
+  always = inl refl;
   refused = λ e n. refl;
 }

@@ -1,4 +1,4 @@
-use Rattle.std.proofs.Common.{◌≡◌, ◌+◌, ◌∙◌, map, refl, subst, arith}
+use Rattle.std.proofs.Common.{◌≡◌, ◌+◌, ◌∙◌, inl, inr, map, refl, subst, arith}
 use Rattle.lp_base.specs.Counts.{Counts}
 use Rattle.lp_base.specs.Written.{Appends, AppendsPrefix}
 use Rattle.lp_base.specs.declared.status.Status.TheVariants as variant
@@ -131,3 +131,15 @@ returns-in-Err-put-clause-same g c = c.next_piece.ensures.same ∙ c.loop-before
 
 pub returns-clause-same : goal.returns-clause-same
 returns-clause-same g c = c.loop-before.invariant.3
+
+pub returns-in-Err-clause-part : goal.returns-in-Err-clause-part
+returns-in-Err-clause-part g c = record { last = c.loop-before.search; seen = map g.W.Watch.seen c.loop-before.crowd.watchers.now.items; watched = c.loop-before.invariant.2; part = inr c.next_piece.ensures.part }
+
+pub returns-in-Ok-Over-clause-part : goal.returns-in-Ok-Over-clause-part
+returns-in-Ok-Over-clause-part g c = record { last = c.loop-before.search; seen = map g.W.Watch.seen c.loop-before.crowd.watchers.now.items; watched = c.loop-before.invariant.2; part = inr c.next_piece.ensures.part }
+
+pub returns-in-Err-put-clause-part : goal.returns-in-Err-put-clause-part
+returns-in-Err-put-clause-part g c = record { last = c.loop-before.search; seen = map g.W.Watch.seen c.loop-before.crowd.watchers.now.items; watched = c.loop-before.invariant.2; part = inr c.next_piece.ensures.part }
+
+pub returns-clause-part : goal.returns-clause-part
+returns-clause-part g c = record { last = c.loop-before.search; seen = map g.W.Watch.seen c.loop-before.crowd.watchers.now.items; watched = c.loop-before.invariant.2; part = inl refl }
