@@ -40,8 +40,5 @@ returns-in-Ok-clause-part g c = c.next_event.ensures.part
 pub returns-in-Err-Deep-clause-part : goal.returns-in-Err-Deep-clause-part
 returns-in-Err-Deep-clause-part g c = c.next_event.ensures.part
 
-pub returns-in-Err-Memory-clause-part : goal.returns-in-Err-Memory-clause-part
-returns-in-Err-Memory-clause-part g c = c.next_event.ensures.part
-
 pub returns-in_err-why-clause-part : goal.returns-in_err-why-clause-part
 returns-in_err-why-clause-part g c = c.next_event.ensures.part
