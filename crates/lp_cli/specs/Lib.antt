@@ -1,3 +1,4 @@
 pub mod Usage
 pub mod Fulfils
+pub mod Hears
 pub mod Does

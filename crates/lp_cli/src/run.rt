@@ -14,6 +14,7 @@ ghost use Rattle.lp_files.specs.Target.{done_line, ending_of};
 ghost use Rattle.lp_cli.specs.Usage.{BeginsUsage, WritesUsage};
 ghost use Rattle.lp_cli.specs.Does.{Does};
 ghost use Rattle.lp_cli.specs.Fulfils.{Fulfils, answer_limit as answers_asked, step_limit as steps_asked};
+ghost use Rattle.lp_cli.specs.Hears.{Hears};
 
 use lp_ask::{query, session};
 use lp_base::{DEFAULT_ANSWERS, DEFAULT_STEPS, Folder, Sink, Status};
@@ -82,6 +83,7 @@ fn perform<F: Folder, K: Sink, W: Watch>(
     watchers: &mut Vec<W>,
 ) -> Status
     ensures does { Does F.read_faults F.misses F.overs F.write_faults F.held K.faults K.written (asked_of asked.entry) folder.old folder.new out.old out.new result }
+    ensures hears { Hears (F.held folder.old) (asked_of asked.entry) result (map W.seen watchers.old.items) (map W.seen watchers.new.items) }
     ensures silent { (watches (asked_of asked.entry) ≡ true) ⊎ (watchers.new ≡ watchers.old) }
 {
     match asked {
@@ -142,6 +144,8 @@ pub fn run<F: Folder, K: Sink>(
         → WritesPlaced (F.held folder.old) query (K.written out.old) (K.written out.new) }
     ensures usage { result ≡ Status.Usage → IsCommand (map string_bytes words.now) → ⊥ }
     ensures no_command { (IsCommand (map string_bytes words.now) → ⊥) → (result ≡ Status.Usage) ⊎ (result ≡ Status.Memory) ⊎ (result ≡ Status.WriteFault) }
+    // Whoever watches a query on texts has heard each note of the definition's search, once and in order, and whoever was done at one of them is gone.
+    ensures hears { (a : Asking) → asked (map string_bytes words.now) ≡ Some a → Hears (F.held folder.old) a result (map (λ b. (Watch-box b).seen b.value) watchers.old.items) (map (λ b. (Watch-box b).seen b.value) watchers.new.items) }
     ensures silent { IsWatched (map string_bytes words.now) ⊎ (watchers.new ≡ watchers.old) }
     // A command that writes no file fails to write where the output failed alone.
     ensures write_faults { WritesNone (map string_bytes words.now) → Counts (result ≡ Status.WriteFault) (K.faults out.old) (K.faults out.new) }

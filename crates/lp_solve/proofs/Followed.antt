@@ -35,7 +35,7 @@ is_deep (Arithmetic f) = inr (λ h. cc)
 is_deep OpenNot = inr (λ h. cc)
 is_deep Deep = inl refl
 
-ended_deep : (e : Ending) → ◌≡◌ (event.Ended e) (event.Ended Deep) → e ≡ Deep
+pub ended_deep : (e : Ending) → ◌≡◌ (event.Ended e) (event.Ended Deep) → e ≡ Deep
 ended_deep e h = cc
 
 -- behind the answers that a search has told: those of the definition's run, in the state in which it goes on; or the run went no further

@@ -4,6 +4,7 @@ mod Answering
 mod Reducts
 mod Nexts
 mod Followed
+mod Hearing
 mod Beginning
 mod Truth
 mod Refused

@@ -1,11 +1,13 @@
 -- A refusal of a query, and a search that is ready, as the stages give them.
 use Rattle.std.proofs.Common.{◌≡◌, ◌≢◌, ℕ, List, Option, Bool, refl, ap, ◌∙◌, subst, sym, map, length}
 use Rattle.std.proofs.lemmas.List.{length-map}
-use Rattle.std.specs.Prelude.{IfErr, Result, Ok, Err, codes}
+use Rattle.std.specs.Prelude.{IfErr, Result, Ok, Err, codes, true, false}
 use Rattle.lp_base.specs.Held.{Held}
 use Rattle.lp_base.specs.Written.{Appends, AppendsPrefix}
 use Rattle.lp_base.specs.declared.status.Status.{Status}
 use Rattle.lp_base.specs.declared.status.Status.TheVariants as variant
+use Rattle.lp_watch.specs.Seen.{Seen}
+use Rattle.lp_lines.specs.Lines.{is_of_search}
 use Rattle.lp_model.specs.Flat.{Clause, Goals}
 use Rattle.lp_model.specs.Proofs.{Declared}
 use Rattle.lp_model.specs.declared.program.Typed.{Typed}
@@ -25,6 +27,9 @@ use Rattle.lp_solve.proofs.Answering.{some_search}
 use Rattle.lp_solve.proofs.Followed.{written_by}
 use Rattle.lp_solve.proofs.Texts.Flattening.{query_flat}
 use Rattle.lp_solve.proofs.Truth.{truth}
+use Rattle.lp_solve.proofs.Hearing.{run_heard, run_heard_so_far}
+use Rattle.lp_solve.specs.Watched.{Watches, ended_itself}
+use Rattle.lp_solve.specs.inner.Heard.{IsWatched, IsWatchedSoFar}
 use Rattle.lp_solve.specs.Shown.{IsShownWith, all_constants, constants_in, constants_shown, names_in}
 use Rattle.lp_solve.specs.declared.prepare.Prepared.{Prepared}
 use Rattle.lp_solve.specs.declared.shown.Shown.{Shown}
@@ -86,3 +91,22 @@ module _ (told : Option Held) (name query : List ℕ) (watched : Bool) (steps an
       let w = subst (λ ns. BeginsSearch (all_constants q.built) ns watched p.search a b) ready.shown.names
       (subst (λ es. BeginsSearch es (names_in p.shown) watched p.search a b) ready.shown.constants (h e)) in
       record { status = w.status; text = w.text; is = answered q (answered_by q p.search ready.begins watched w.status w.text w.is); appended = w.appended }
+
+-- what its watchers have heard
+module _ (told : Option Held) (name query : List ℕ) (steps answers : ℕ) (status : Status) (before after : List Seen) where
+  pub search_heard : (p : Prepared) → IsReady told name query steps answers p → (status ≢ variant.WriteFault → is_of_search status ≡ true) → (ended_itself status ≡ true → IsWatched p.search before after) →
+      IsWatchedSoFar p.search before after → Watches told name query steps answers status before after
+  search_heard p ready of_search h part = record {
+    searched = λ e. record {
+      asks = ready.asks;
+      flat = query_flat ready.asks;
+      heard = λ d P gs f n j m o is_over. run_heard _ P n j m (first_state ready.asks gs steps answers) before o is_over refl p.search after (ready.begins d P gs f n) ready.going ready.constants (h e);
+    };
+    always = inr (record {
+      asks = ready.asks;
+      flat = query_flat ready.asks;
+      heard = λ d P gs f n j m o is_over.
+          run_heard_so_far _ P n j m (first_state ready.asks gs steps answers) before o is_over refl p.search after (ready.begins d P gs f n) ready.going ready.constants part;
+    });
+    refused = λ e n. absurd (let q = sym e ∙ of_search n in cc);
+  }

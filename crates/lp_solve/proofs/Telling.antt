@@ -12,7 +12,7 @@ use Rattle.lp_model.specs.Whole as whole
 use Rattle.lp_model.specs.declared.answer.Answer.{Answer}
 use Rattle.lp_model.specs.declared.answer.Event.{Event}
 use Rattle.lp_model.specs.declared.ending.Ending.{Ending}
-use Rattle.lp_plain.specs.Held.{variables_of}
+use Rattle.lp_plain.specs.Held.{constants_of, ended, variables_of}
 use Rattle.lp_plain.specs.declared.search.Search.{Search}
 use Rattle.lp_lines.specs.Ends.{Grows}
 use Rattle.lp_lines.specs.Lines.{ending_line, ending_status, memory_line}
@@ -20,15 +20,18 @@ use Rattle.lp_lines.proofs.Appending.{appends_nothing, appends_both, prefix_behi
 use Rattle.lp_lines.proofs.Statuses.{is_fault}
 use Rattle.lp_solve.specs.Written.{AreLines, IsLines, MayReport}
 use Rattle.lp_solve.specs.inner.Events.{Ends, Follows, IsPiece, IsTold, Tells, no_answer, one_answer, plain}
+use Rattle.lp_watch.specs.Seen.{Seen}
+use Rattle.lp_solve.specs.inner.Heard.{HearsOf, IsNext}
 use Rattle.lp_solve.specs.inner.Searched.{BeginsLast, BeginsSearch, WritesLast, WritesSearch, an_ending, no_memory}
 use Rattle.lp_solve.proofs.Lines.{told_more}
 use Rattle.lp_solve.specs.declared.piece.Piece.{Piece}
 use Rattle.lp_solve.specs.declared.piece.Piece.TheVariants as piece
 
 -- one event
-pub told_by : (old new : Search) (r : Result Event Want) → variables_of new ≡ variables_of old → IfOk r (whole.IsTold (variables_of old)) → IfOk r (λ e. Follows old e new) → IfOk r (λ e. IsTold old e new)
-told_by old new (Ok x) v t f = record { variables = v; told = t; search = f }
-told_by old new (Err e) v t f = tt
+pub next_by : (old new : Search) (u v : List Seen) (r : Result Event Want) → variables_of new ≡ variables_of old → constants_of new ≡ constants_of old → IfOk r (whole.IsTold (variables_of old)) →
+    IfOk r (λ e. Follows old e new) → IfOk r (λ e. whole.Keeps e (ended new)) → IfOk r (λ e. HearsOf old e u v) → IfOk r (λ e. IsNext old e new u v)
+next_by old new u v (Ok x) s c t f k h = record { told = record { variables = s; told = t; search = f }; heard = h; going = k; constants = c }
+next_by old new u v (Err e) s c t f k h = tt
 
 -- the search keeps the number of its variables
 pub told_variables : (first now : Search) (answers : List Answer) → Tells first answers now → variables_of now ≡ variables_of first

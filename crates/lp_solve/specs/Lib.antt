@@ -6,4 +6,5 @@ pub mod Written
 pub mod Queries
 pub mod Right
 pub mod Solved
+pub mod Watched
 pub mod inner

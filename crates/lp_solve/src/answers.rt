@@ -1,15 +1,18 @@
 // The search of a query, and the writing of its answers.
-ghost use Rattle.std.specs.Prelude.{◌≡◌, ◌≢◌, ◌++◌, ℕ, List, length, true, IfOk};
+ghost use Rattle.std.specs.Prelude.{◌≡◌, ◌≢◌, ◌++◌, ℕ, List, length, map, true, IfOk};
 ghost use Rattle.lp_base.specs.Counts.{Counts};
 ghost use Rattle.lp_lines.specs.Ends.{KeepsFiles, Ran};
 ghost use Rattle.lp_lines.specs.Lines.{ending_line, is_of_search};
+ghost use Rattle.lp_model.specs.declared.ending.Ending.TheVariants.{Deep};
 ghost use Rattle.lp_load.specs.Placed.{WritesPlaced};
 ghost use Rattle.lp_plain.specs.Held.{variables_of};
 ghost use Rattle.lp_solve.specs.Prepared.{IsPrepared};
 ghost use Rattle.lp_solve.specs.Shown.{constants_in, names_in};
 ghost use Rattle.lp_solve.specs.Solved.{BeginsSolved, WritesSolved};
+ghost use Rattle.lp_solve.specs.Watched.{Watches, ended_itself};
 ghost use Rattle.lp_solve.specs.Written.{MayReport};
-ghost use Rattle.lp_solve.specs.inner.Events.{Ends, IsPiece, IsTold};
+ghost use Rattle.lp_solve.specs.inner.Events.{Ends, IsPiece};
+ghost use Rattle.lp_solve.specs.inner.Heard.{HeardPiece, HearsSoFar, IsNext, IsWatched, IsWatchedSoFar};
 ghost use Rattle.lp_solve.specs.inner.Searched.{BeginsLast, BeginsSearch, WritesLast, WritesSearch};
 
 use crate::piece::Piece;
@@ -25,7 +28,9 @@ use std::alloc::Global;
 
 // The next event of a search.
 fn next_event<W: Watch>(search: &mut Search, crowd: &mut Crowd<'_, W>) -> Result<Event, Memory>
-    ensures { IfOk result (λ event. IsTold search.old event search.new) }
+    ensures part { HearsSoFar search.old (map W.seen crowd.old.watchers.now.items) (map W.seen crowd.new.watchers.now.items) }
+    ensures next { IfOk result (λ event. IsNext search.old event search.new (map W.seen crowd.old.watchers.now.items) (map W.seen crowd.new.watchers.now.items)) }
+    ensures same { crowd.new.watchers.ghost_name ≡ crowd.old.watchers.ghost_name }
 {
     search.next(crowd)
 }
@@ -39,7 +44,10 @@ fn next_piece<W: Watch>(
     number: u64,
 ) -> Result<Piece, Memory>
     requires { variables_of search.old ≡ length shown.now.names.items }
-    ensures { IfOk result (λ piece. IsPiece (constants_in shown.now) (names_in shown.now) number search.old piece search.new) }
+    ensures piece { IfOk result (λ piece. IsPiece (constants_in shown.now) (names_in shown.now) number search.old piece search.new) }
+    ensures part { HearsSoFar search.old (map W.seen crowd.old.watchers.now.items) (map W.seen crowd.new.watchers.now.items) }
+    ensures heard { IfOk result (λ piece. HeardPiece search.old piece search.new (map W.seen crowd.old.watchers.now.items) (map W.seen crowd.new.watchers.now.items)) }
+    ensures same { crowd.new.watchers.ghost_name ≡ crowd.old.watchers.ghost_name }
 {
     match next_event(search, crowd)? {
         Event::Ended(why) => Ok(Piece::Over(why)),
@@ -92,6 +100,7 @@ fn write_end<K: Sink, W: Watch>(
     ensures writes { (ns : List (List ℕ)) (s : Search) → Ends ns s why → result ≢ Status.WriteFault → WritesLast ns watched s result (K.written out.old) (K.written out.new) }
     ensures begins { (ns : List (List ℕ)) (s : Search) → Ends ns s why → result ≡ Status.WriteFault → BeginsLast ns watched s (K.written out.old) (K.written out.new) }
     ensures of_search { result ≢ Status.WriteFault → is_of_search result ≡ true }
+    ensures other { ended_itself result ≡ true → why ≢ Deep }
     ensures write_faults { Counts (result ≡ Status.WriteFault) (K.faults out.old) (K.faults out.new) }
 {
     match last_text(alloc, why, watched, crowd) {
@@ -112,6 +121,9 @@ fn write_answers<K: Sink, W: Watch>(
     ensures writes { result ≢ Status.WriteFault → WritesSearch (constants_in prepared.shown) (names_in prepared.shown) watched prepared.search result (K.written out.old) (K.written out.new) }
     ensures begins { result ≡ Status.WriteFault → BeginsSearch (constants_in prepared.shown) (names_in prepared.shown) watched prepared.search (K.written out.old) (K.written out.new) }
     ensures of_search { result ≢ Status.WriteFault → is_of_search result ≡ true }
+    ensures part { IsWatchedSoFar prepared.search (map W.seen crowd.old.watchers.now.items) (map W.seen crowd.new.watchers.now.items) }
+    ensures watched { ended_itself result ≡ true → IsWatched prepared.search (map W.seen crowd.old.watchers.now.items) (map W.seen crowd.new.watchers.now.items) }
+    ensures same { crowd.new.watchers.ghost_name ≡ crowd.old.watchers.ghost_name }
     ensures write_faults { Counts (result ≡ Status.WriteFault) (K.faults out.old) (K.faults out.new) }
 {
     let mut search = prepared.search;
@@ -126,6 +138,26 @@ fn write_answers<K: Sink, W: Watch>(
         }
     }
     tell(out, Refusal::Memory)
+}
+
+// The same, where these watch.
+fn write_watched<K: Sink, W: Watch>(
+    alloc: Global,
+    prepared: Prepared,
+    watched: bool,
+    out: &mut K,
+    watchers: &mut Vec<W>,
+) -> Status
+    requires { IsPrepared prepared }
+    ensures writes { result ≢ Status.WriteFault → WritesSearch (constants_in prepared.shown) (names_in prepared.shown) watched prepared.search result (K.written out.old) (K.written out.new) }
+    ensures begins { result ≡ Status.WriteFault → BeginsSearch (constants_in prepared.shown) (names_in prepared.shown) watched prepared.search (K.written out.old) (K.written out.new) }
+    ensures of_search { result ≢ Status.WriteFault → is_of_search result ≡ true }
+    ensures part { IsWatchedSoFar prepared.search (map W.seen watchers.old.items) (map W.seen watchers.new.items) }
+    ensures watched { ended_itself result ≡ true → IsWatched prepared.search (map W.seen watchers.old.items) (map W.seen watchers.new.items) }
+    ensures write_faults { Counts (result ≡ Status.WriteFault) (K.faults out.old) (K.faults out.new) }
+{
+    let mut crowd = Crowd::new(alloc, watchers);
+    write_answers(alloc, prepared, watched, &mut crowd, out)
 }
 
 /// Loads a module, searches for the answers of a query on it, and writes them, each as it is found. Behind the last line stand the reports of the
@@ -143,13 +175,11 @@ pub fn solve<F: Folder, K: Sink, W: Watch>(
     ensures ran { Ran F.read_faults F.misses F.overs K.written folder.old folder.new out.old out.new result }
     ensures keeps { KeepsFiles F.write_faults F.held K.faults folder.old folder.new out.old out.new result }
     ensures placed { result ≡ Status.Source → WritesPlaced (F.held folder.old) question.entry.query.now (K.written out.old) (K.written out.new) }
+    ensures watched { Watches (F.held folder.old) question.entry.name.now question.entry.query.now question.entry.steps question.entry.answers result (map W.seen watchers.old.items) (map W.seen watchers.new.items) }
 {
     let unknown = Vec::new(alloc);
     match prepare(alloc, question, unknown, folder) {
-        Ok(prepared) => {
-            let mut crowd = Crowd::new(alloc, watchers);
-            write_answers(alloc, prepared, watched, &mut crowd, out)
-        }
+        Ok(prepared) => write_watched(alloc, prepared, watched, out, watchers),
         Err(refusal) => tell(out, refusal),
     }
 }

@@ -1,8 +1,9 @@
 // The answers of a query within its limits, watched or not.
-ghost use Rattle.std.specs.Prelude.{◌≡◌, ◌≢◌, false};
+ghost use Rattle.std.specs.Prelude.{◌≡◌, ◌≢◌, false, map, true};
 ghost use Rattle.lp_lines.specs.Ends.{KeepsFiles, Ran};
 ghost use Rattle.lp_load.specs.Placed.{WritesPlaced};
 ghost use Rattle.lp_solve.specs.Solved.{BeginsSolved, WritesSolved};
+ghost use Rattle.lp_solve.specs.Watched.{Watches};
 
 use crate::answers::solve;
 use crate::prepare::Question;
@@ -41,6 +42,7 @@ pub fn solve_within<F: Folder, K: Sink, W: Watch>(
     ensures ran { Ran F.read_faults F.misses F.overs K.written folder.old folder.new out.old out.new result }
     ensures keeps { KeepsFiles F.write_faults F.held K.faults folder.old folder.new out.old out.new result }
     ensures placed { result ≡ Status.Source → WritesPlaced (F.held folder.old) question.entry.query.now (K.written out.old) (K.written out.new) }
+    ensures watched { watch ≡ true → Watches (F.held folder.old) question.entry.name.now question.entry.query.now question.entry.steps question.entry.answers result (map W.seen watchers.old.items) (map W.seen watchers.new.items) }
     ensures silent { watch ≡ false → watchers.new ≡ watchers.old }
 {
     if watch {

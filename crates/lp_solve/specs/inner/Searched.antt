@@ -1,5 +1,5 @@
 -- What is written of a search that the program makes.
-use Rattle.std.specs.Prelude.{◌≡◌, ◌++◌, ℕ, List, map, Bool, Option}
+use Rattle.std.specs.Prelude.{◌≡◌, ◌++◌, ℕ, List, map, Bool, Option, None}
 use Rattle.lp_base.specs.Held.{Held}
 use Rattle.lp_base.specs.Written.{Appends, AppendsPrefix}
 use Rattle.lp_base.specs.declared.status.Status.{Status}
@@ -10,6 +10,7 @@ use Rattle.lp_model.specs.Shown.{Entry}
 use Rattle.lp_model.specs.declared.answer.Answer.{Answer}
 use Rattle.lp_model.specs.declared.ending.Ending.{Ending}
 use Rattle.lp_plain.specs.Between.{IsBetween}
+use Rattle.lp_plain.specs.Held.{constants_of, ended}
 use Rattle.lp_plain.specs.declared.search.Search.{Search}
 use Rattle.lp_lines.specs.Lines.{ending_line, ending_status, memory_line}
 use Rattle.lp_solve.specs.Queries.{IsFlat, IsQuery, first_state}
@@ -66,3 +67,5 @@ pub record IsReady (told : Option Held) (name query : List ℕ) (steps answers :
   pub asks : IsQuery told name query
   pub begins : (d : Declared) (P : List Clause) (gs : Goals) → IsFlat asks d P gs → (n : ℕ) → IsBetween P n p.search (first_state asks gs steps answers)
   pub shown : IsShownWith query asks.typed asks.built p.shown
+  pub going : ended p.search ≡ None
+  pub constants : constants_of p.search ≡ asks.built.assembled.program.constants.items

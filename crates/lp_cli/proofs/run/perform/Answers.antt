@@ -1,9 +1,10 @@
-use Rattle.std.proofs.Common.{ap, subst, inr, refl}
+use Rattle.std.proofs.Common.{ap, map, subst, inr, refl}
 use Rattle.lp_judge.specs.Proofs.{WritesProofs}
 use Rattle.lp_judge.specs.Proved.{Proves}
 use Rattle.lp_load.specs.Placed.{WritesPlaced}
 use Rattle.lp_words.specs.Asked.{asked_of}
 use Rattle.lp_cli.proofs.Doing.{becomes, does_check, does_files, does_lambda, does_prove, does_query, does_session, does_solve, does_trial, solves, watching_or}
+use Rattle.lp_cli.proofs.Watching.{hears_as, solve_heard}
 use Rattle.lp_cli.proofs.run.perform.Goals as goal
 
 pub returns-in-Trial-clause-does : goal.returns-in-Trial-clause-does
@@ -77,3 +78,33 @@ returns-in-Prove-clause-silent g c = inr refl
 
 pub returns-in-Files-clause-silent : goal.returns-in-Files-clause-silent
 returns-in-Files-clause-silent g c = inr refl
+
+pub returns-in-Trial-clause-hears : goal.returns-in-Trial-clause-hears
+returns-in-Trial-clause-hears g c = hears_as _ c.trial.result _ _ _ (asked_of c.args.asked) (ap asked_of c.in-Trial.is) tt
+
+pub returns-in-Query-clause-hears : goal.returns-in-Query-clause-hears
+returns-in-Query-clause-hears g c = hears_as _ c.query.result _ _ _ (asked_of c.args.asked) (ap asked_of c.in-Query.is) tt
+
+pub returns-in-Session-clause-hears : goal.returns-in-Session-clause-hears
+returns-in-Session-clause-hears g c = hears_as _ c.session.result _ _ _ (asked_of c.args.asked) (ap asked_of c.in-Session.is) tt
+
+pub returns-in-Lambda-clause-hears : goal.returns-in-Lambda-clause-hears
+returns-in-Lambda-clause-hears g c = hears_as _ c.lambda.result _ _ _ (asked_of c.args.asked) (ap asked_of c.in-Lambda.is) tt
+
+pub returns-in-Check-clause-hears : goal.returns-in-Check-clause-hears
+returns-in-Check-clause-hears g c = hears_as _ c.check_certificates.result _ _ _ (asked_of c.args.asked) (ap asked_of c.in-Check.is) tt
+
+pub returns-in-Prove-clause-hears : goal.returns-in-Prove-clause-hears
+returns-in-Prove-clause-hears g c = hears_as _ c.prove.result _ _ _ (asked_of c.args.asked) (ap asked_of c.in-Prove.is) tt
+
+pub returns-in-Files-clause-hears : goal.returns-in-Files-clause-hears
+returns-in-Files-clause-hears g c = hears_as _ c.write_file.result _ _ _ (asked_of c.args.asked) (ap asked_of c.in-Files.is) tt
+
+pub returns-in-Solve-clause-hears : goal.returns-in-Solve-clause-hears
+returns-in-Solve-clause-hears g c =
+    let old = map g.W.Watch.seen c.args.watchers.now.items in
+    let new = map g.W.Watch.seen c.solve_within.new.watchers.items in
+    let told = g.F.Folder.held c.args.folder.now in
+    hears_as told c.solve_within.result old new _ (asked_of c.args.asked) (ap asked_of c.in-Solve.is)
+    (solve_heard told c.solve_within.result old new c.in-Solve.options c.question.ensures.name c.question.ensures.query c.question.ensures.steps c.question.ensures.answers
+    c.solve_within.ensures.watched)

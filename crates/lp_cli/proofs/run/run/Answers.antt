@@ -10,6 +10,7 @@ use Rattle.lp_words.specs.Asked.{asked_of}
 use Rattle.lp_words.specs.Commands.{usage_line}
 use Rattle.lp_cli.specs.Usage.{no_memory, with_line}
 use Rattle.lp_cli.proofs.Asking.{placed_asked, keeps_asked, leaves_asked, certifies_asked, fulfils_asked, fulfils_memory, command_asked, watched_asked}
+use Rattle.lp_cli.proofs.Watching.{heard_asked, wanting_heard}
 use Rattle.lp_cli.proofs.run.run.Goals as goal
 
 -- words that are no command, and want of memory for them
@@ -224,3 +225,12 @@ returns-in-Err-Memory-clause-fulfils g c =
     λ x is. fulfils_memory _ _ (g.K.Sink.written c.args.out.now) (g.K.Sink.written c.say-in-Err-Memory.new.out) c.say-in-Err-Memory.result
     (λ n. let said = c.say-in-Err-Memory.ensures.said n in (said.0, subst (Appends (g.K.Sink.written c.args.out.now) (g.K.Sink.written c.say-in-Err-Memory.new.out)) line said.1))
     (λ e. subst (AppendsPrefix (g.K.Sink.written c.args.out.now) (g.K.Sink.written c.say-in-Err-Memory.new.out)) line (c.say-in-Err-Memory.ensures.prefix e)) x
+
+pub returns-in-Ok-clause-hears : goal.returns-in-Ok-clause-hears
+returns-in-Ok-clause-hears g c = heard_asked _ c.perform.result _ _ (map string_bytes c.args.words.now) (asked_of c.in-Ok.asked) c.in-Ok.ensures.ok c.perform.ensures.hears
+
+pub returns-in-Err-Usage-clause-hears : goal.returns-in-Err-Usage-clause-hears
+returns-in-Err-Usage-clause-hears g c = λ x is. absurd (let none = sym (c.in-Err-Usage.ensures.usage (ap Err c.in-Err-Usage.field-0-is)) ∙ is in cc)
+
+pub returns-in-Err-Memory-clause-hears : goal.returns-in-Err-Memory-clause-hears
+returns-in-Err-Memory-clause-hears g c = λ x is. wanting_heard _ c.say-in-Err-Memory.result _ _ refl (λ n. (c.say-in-Err-Memory.ensures.said n).0) x

@@ -1,7 +1,8 @@
-use Rattle.std.proofs.Common.{ap, ◌∙◌}
+use Rattle.std.proofs.Common.{ap, ◌∙◌, subst}
 use Rattle.lp_lines.specs.Lines.{is_of_search}
 use Rattle.lp_lines.proofs.Statuses.{ending_is, said_of_search, memory_of_search, search_not_fault}
 use Rattle.lp_solve.proofs.Telling.{ended_part, ended_whole, lacked, lacked_part}
+use Rattle.lp_solve.proofs.Hearing.{other_end, other_lack}
 use Rattle.lp_solve.proofs.answers.write_end.Goals as goal
 
 pub refuse-requires : goal.refuse-requires
@@ -31,3 +32,9 @@ returns-in-Err-clause-begins g c = λ ns s ends. lacked_part ns c.args.watched s
 
 pub returns-in-Err-clause-of_search : goal.returns-in-Err-clause-of_search
 returns-in-Err-clause-of_search g c = memory_of_search c.tell.result (λ n. (c.tell.ensures.said n).0)
+
+pub returns-in-Ok-clause-other : goal.returns-in-Ok-clause-other
+returns-in-Ok-clause-other g c = other_end c.args.why c.refuse.result (λ n. (c.refuse.ensures.said n).0 ∙ c.status.ensures)
+
+pub returns-in-Err-clause-other : goal.returns-in-Err-clause-other
+returns-in-Err-clause-other g c = λ e. absurd (other_lack c.tell.result (λ n. (c.tell.ensures.said n).0) e)

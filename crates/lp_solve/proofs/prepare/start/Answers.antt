@@ -1,4 +1,4 @@
-use Rattle.std.proofs.Common.{◌∙◌, refl, subst}
+use Rattle.std.proofs.Common.{◌∙◌, ap, refl, subst}
 use Rattle.std.specs.Prelude.{codes}
 use Rattle.lp_lemmas.proofs.Results.{passed_up}
 use Rattle.lp_lines.specs.declared.refusal.Refusal.TheVariants.{Memory}
@@ -34,6 +34,8 @@ returns-clause-ready c =
       begins = λ d P gs f. c.in_ok-search.ensures.begins d P gs (begins_so asks now.assembled.program refl c.in-Ok.ensures.clauses d P gs f);
       shown = shown_before query typed old now c.in_ok-shown.shown c.in-Ok.ensures.signature c.in-Ok.ensures.names
           (subst (λ t. IsShownWith t typed now c.in_ok-shown.shown) same c.in_ok-shown.ensures);
+      going = c.in_ok-search.ensures.going;
+      constants = c.in_ok-search.ensures.constants ∙ ap (λ cs. cs.items) c.in-Ok.ensures.constants;
     }
 
 pub returns-clause-prepared : goal.returns-clause-prepared

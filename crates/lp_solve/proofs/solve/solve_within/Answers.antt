@@ -1,4 +1,4 @@
-use Rattle.std.proofs.Common.{◌≡◌, ◌≢◌, sym, subst}
+use Rattle.std.proofs.Common.{◌≡◌, ◌≢◌, ◌∙◌, sym, subst}
 use Rattle.lp_base.specs.declared.status.Status.TheVariants as variant
 use Rattle.lp_solve.specs.Solved.{BeginsSolved, WritesSolved}
 use Rattle.lp_solve.proofs.solve.solve_within.Goals as goal
@@ -26,3 +26,9 @@ returns-else-watch-clause-begins g c =
     subst (λ w. c.solve_unwatched.result ≡ variant.WriteFault → BeginsSolved (g.F.Folder.held c.args.folder.now) c.args.question.name.now
     c.args.question.query.now w c.args.question.steps c.args.question.answers (g.K.Sink.written c.args.out.now) (g.K.Sink.written c.solve_unwatched.new.out))
     (sym c.if-watch.false) c.solve_unwatched.ensures.begins
+
+pub returns-then-watch-clause-watched : goal.returns-then-watch-clause-watched
+returns-then-watch-clause-watched g c = λ w. c.solve.ensures.watched
+
+pub returns-else-watch-clause-watched : goal.returns-else-watch-clause-watched
+returns-else-watch-clause-watched g c = λ w. absurd (let q = sym c.if-watch.false ∙ w in cc)
