@@ -19,7 +19,8 @@ use Rattle.lp_link.specs.Numbers.{renumbered}
 use Rattle.lp_link.specs.Renumbering.{moved_scheme}
 use Rattle.lp_link.specs.Differences.{kind_above as number_above, is_number, same_type, same_types, arity_of, constant_of, IsOtherAbove, IsSameAbove}
 use Rattle.lp_link.specs.Linked.{Copy, next_of, Ends, numbers_of, kinds_of, constants_of, kind_above, constant_above, copy_of, map_of}
-use Rattle.lp_link.specs.inner.Tabled.{arities_of, schemes_of, moved_schemes}
+use Rattle.lp_link.specs.Names.{schemes_of, moved_schemes}
+use Rattle.lp_link.specs.inner.Tabled.{arities_of}
 use Rattle.lp_link.specs.inner.ToldNames.{AreAbove, IsTold}
 use Rattle.lp_link.proofs.ToldNames.{number_at_place}
 

@@ -19,7 +19,8 @@ use Rattle.lp_link.specs.Told.{told_by}
 use Rattle.lp_link.specs.Renumbering.{moved_scheme}
 use Rattle.lp_link.specs.Linked.{kinds_of, constants_of, map_of}
 use Rattle.lp_link.specs.inner.Entering.{open_copy}
-use Rattle.lp_link.specs.inner.Tabled.{hidden_of, exported_of, arities_of, moved_schemes, made_arities, made_schemes, AddsTables, KindsSoFar, ConstantsSoFar}
+use Rattle.lp_link.specs.Names.{hidden_of, exported_of, moved_schemes}
+use Rattle.lp_link.specs.inner.Tabled.{arities_of, made_arities, made_schemes, AddsTables, KindsSoFar, ConstantsSoFar}
 use Rattle.lp_link.proofs.MadeCopies.{tables_then}
 use Rattle.lp_link.proofs.NumberedNames.{entries_drop}
 

@@ -14,7 +14,8 @@ use Rattle.lp_link.specs.Uses.{uses_of}
 use Rattle.lp_link.specs.Ends.{hidden_kinds, hidden_constants, kind_counts, constant_counts}
 use Rattle.lp_link.specs.Refusals.{CanBeLinked}
 use Rattle.lp_link.specs.Linked.{Copy, Ends, kinds_of, constants_of, kind_above, constant_above, copy_of, behind, Linked, none_linked, one_linked, first_ends, map_of}
-use Rattle.lp_link.specs.inner.Tabled.{hidden_of, exported_of, arities_of, schemes_of, moved_schemes, hidden_arities, hidden_schemes, all_arities, all_schemes}
+use Rattle.lp_link.specs.Names.{hidden_of, exported_of, schemes_of, moved_schemes}
+use Rattle.lp_link.specs.inner.Tabled.{arities_of, hidden_arities, hidden_schemes, all_arities, all_schemes}
 use Rattle.lp_link.specs.inner.ToldNames.{IsTold}
 use Rattle.lp_link.specs.inner.Entering.{IsSmall, AreFirst, no_first, one_first, Entering, none_entered, one_entered, AreFew, begun, IsPlan}
 use Rattle.lp_link.specs.declared.linking.Ends.{Ends as CodeEnds}
@@ -26,7 +27,7 @@ pub each_parts : {A : Type 0} (P : A → Type 0) (xs ys : List A) → EachOf P (
 each_parts P [] ys h = (tt, h)
 each_parts P (x ∷ xs) ys h = let more = each_parts P xs ys h.1 in ((h.0, more.0), more.1)
 
-each_by : {A : Type 0} (P Q : A → Type 0) → ((x : A) → P x → Q x) → (xs : List A) → EachOf P xs → EachOf Q xs
+pub each_by : {A : Type 0} (P Q : A → Type 0) → ((x : A) → P x → Q x) → (xs : List A) → EachOf P xs → EachOf Q xs
 each_by P Q f [] h = tt
 each_by P Q f (x ∷ xs) h = (f x h.0, each_by P Q f xs h.1)
 

@@ -34,6 +34,8 @@ mod FilledFirsts
 mod MadeCopies
 mod NumberedNames
 mod AddedTables
+pub mod NamedRows
+mod NamedTables
 mod Popped
 mod LinkedImage
 mod NumberPlaces

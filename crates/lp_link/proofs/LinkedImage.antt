@@ -1,5 +1,5 @@
 -- An image with the tables and records of a root's copies denotes their clauses.
-use Rattle.std.proofs.Common.{◌≡◌, ◌∙◌, ◌+◌, ◌-◌, ◌<◌, ◌≤◌, ◌^◌, ℕ, zero, suc, Bool, true, false, if◌then◌else◌, List, [], ◌∷◌, length, map, Some, ap, refl, sym, subst, arith}
+use Rattle.std.proofs.Common.{◌≡◌, ◌∙◌, ◌+◌, ◌-◌, ◌<◌, ◌≤◌, ◌^◌, ℕ, zero, suc, Bool, true, false, if◌then◌else◌, List, [], ◌∷◌, ◌++◌, length, map, Some, ap, refl, sym, subst, arith}
 use Rattle.std.specs.Prelude.{nat_lt, slice_get, slice_index_or, option_map}
 use Rattle.std.proofs.lemmas.Bool.{le-ltb}
 use Rattle.std.proofs.lemmas.List.{length-append}
@@ -17,10 +17,11 @@ use Rattle.lp_code.specs.declared.instruction.Instr.{Instr}
 use Rattle.lp_code.specs.declared.record.Record.{Record}
 use Rattle.lp_code.specs.declared.object.Object.{Object}
 use Rattle.lp_code.specs.declared.image.Image.{Image}
+use Rattle.lp_code.specs.declared.image.ImageConstant.{ImageConstant}
 use Rattle.lp_code.specs.Symbolic.{Tables}
 use Rattle.lp_code.specs.Rules.{names_of, names_in}
 use Rattle.lp_code.specs.Denote.{denote}
-use Rattle.lp_code.specs.Naming.{tables_of, object_tables, image_tables}
+use Rattle.lp_code.specs.Naming.{scheme_in, tables_of, object_tables, image_tables}
 use Rattle.lp_link.specs.declared.image.Making.{Making}
 use Rattle.lp_link.specs.Uses.{uses_of}
 use Rattle.lp_link.specs.Ends.{kind_counts, constant_counts}
@@ -30,7 +31,9 @@ use Rattle.lp_link.specs.Renumbering.{AreMoved, KeepsStandard, moved_scheme}
 use Rattle.lp_link.specs.Linked.{Copy, Ends, map_of, records_of, AreDenoted, IsLinked, first_ends}
 use Rattle.lp_link.specs.Put.{ArePut}
 use Rattle.lp_link.specs.inner.Parts.{AllHaveRoom}
-use Rattle.lp_link.specs.inner.Tabled.{arities_of, schemes_of, moved_schemes, all_arities, all_schemes, made_arities, made_schemes, AreRecords, IsMade}
+use Rattle.lp_link.specs.Names.{IsNamed, kind_row, constant_row, schemes_of, moved_schemes}
+use Rattle.lp_link.specs.inner.Tabled.{arities_of, all_arities, all_schemes, made_arities, made_schemes, AreRecords, AreTabled, IsMade}
+use Rattle.lp_link.specs.inner.Named.{rows_of_kinds, rows_of_constants}
 use Rattle.lp_link.specs.inner.ToldNames.{IsTold}
 use Rattle.lp_link.specs.inner.Entering.{AreFirst, AreFew, IsPlan}
 use Rattle.lp_link.proofs.ToldNames.{told_at, big_at, behind_table}
@@ -159,3 +162,23 @@ image_linked os root firsts m rs i can first made few tables records = λ o end 
     let tables_are : image_tables i ≡ tables_of ks cs = tables
     ∙ (λ j. tables_of (is_made.tables.kinds j) (is_made.tables.constants j)) ∙ (λ j. tables_of (all_arities p.root_copy (sym p.parts j)) (all_schemes p.root_copy (sym p.parts j))) in
     (λ j. denote (tables_are j) (records j)) ∙ linked_denotes (tables_of ks cs) copies rs ds put are
+
+-- it has the names of its copies
+pub image_named : (os : List Object) (root : ℕ) (firsts : List Ends) (m : Making) (i : Image) (made : (c : Copy) (below : List Copy) → IsPlan os root firsts c below → AreTabled c (below ++ c ∷ []) m)
+    → CanBeLinked os root → ((o : Object) (all : List Ends) (end : Ends) → slice_get os root ≡ Some o → AreFirst (uses_of os) (kind_counts os) (constant_counts os)
+    (root ∷ []) (first_ends o) all end → AreFew end → firsts ≡ all)
+    → map kind_row i.kinds.items ≡ rows_of_kinds m → map constant_row i.constants.items ≡ rows_of_constants m
+    → map (λ (c : ImageConstant). scheme_in i.bank c.type_vars c.scheme.0) i.constants.items ≡ made_schemes m → IsNamed os root i
+image_named os root firsts m i made can first kinds constants typed = λ o end copies at d.
+    let p = copies_planned os root can o end copies at d in
+    let firsts_are = first o p.firsts end at p.are_first p.few in
+    let tabled = made p.root_copy p.below (subst (λ l. IsPlan os root l p.root_copy p.below) (sym firsts_are) p.plan) in
+    let is_tabled : AreTabled p.root_copy copies m = subst (λ l. AreTabled p.root_copy l m) (sym p.parts) tabled in
+    record {
+      below = p.below;
+      root = p.root_copy;
+      last = p.parts;
+      kinds = kinds ∙ is_tabled.names.kinds_are;
+      constants = constants ∙ is_tabled.names.constants_are;
+      types = typed ∙ is_tabled.constants;
+    }

@@ -21,8 +21,11 @@ use Rattle.lp_link.specs.Renumbering.{AllRecordsMoved}
 use Rattle.lp_link.specs.inner.Naming.{AreNumbers}
 use Rattle.lp_link.specs.Linked.{Copy, Ends, kinds_of, constants_of, kind_above, constant_above, copy_of, behind, first_ends, map_of, records_of}
 use Rattle.lp_link.specs.inner.Parts.{AllHaveRoom}
-use Rattle.lp_link.specs.inner.Tabled.{hidden_of, exported_of, arities_of, moved_schemes, hidden_arities, hidden_schemes, made_arities, made_schemes, AreBanked, AddsTables, AreTabled, AreRecords, counted, IsBegun, IsLeft, IsMade, IsComing}
+use Rattle.lp_link.specs.Names.{as_global, exported_kind_rows, exported_constant_rows, hidden_kind_rows, hidden_constant_rows, hidden_of, exported_of, moved_schemes}
+use Rattle.lp_link.specs.inner.Tabled.{arities_of, hidden_arities, hidden_schemes, made_arities, made_schemes, AreBanked, AddsTables, AreTabled, AreRecords, counted, IsBegun, IsLeft, IsMade, IsComing}
 use Rattle.lp_link.specs.inner.Entering.{IsSmall, Entering, none_entered, one_entered, IsPlan, AreToCome, open_copy, copy_inside, ends_of, IsEntered}
+use Rattle.lp_link.specs.inner.Named.{count_in, AddsRows, AddsHidden}
+use Rattle.lp_link.proofs.NamedTables.{named_push, root_named}
 use Rattle.lp_link.proofs.TabledCopies.{arities_behind, schemes_behind}
 
 -- tables
@@ -38,13 +41,15 @@ pub tables_both : (a b c : Making) (ks : List ℕ) (ss : List Scheme) → AddsTa
 tables_both a b c ks ss x y = subst (λ l. AddsTables a c l ss) (append-nil ks) (tables_then a b c ks [] [] ss x y)
 
 tables_push : (root c : Copy) (done : List Copy) (old new : Making) → AreTabled root done old → AddsTables old new
-    (hidden_of (kinds_of c.object) (arities_of c.object)) (hidden_of (constants_of c.object) (moved_schemes c)) → AreTabled root (done ++ c ∷ []) new
-tables_push root c done old new t adds = record {
+    (hidden_of (kinds_of c.object) (arities_of c.object)) (hidden_of (constants_of c.object) (moved_schemes c))
+    → AddsHidden old new (hidden_kind_rows c.object) (hidden_constant_rows c.object) → AreTabled root (done ++ c ∷ []) new
+tables_push root c done old new t adds names = record {
   kinds = adds.kinds ∙ ap (λ l. l ++ hk) t.kinds ∙ append_assoc ek (hidden_arities done) hk ∙ ap (λ l. ek ++ l)
       (ap (λ l. hidden_arities done ++ l) (sym (append-nil hk)) ∙ sym (arities_behind done (c ∷ [])));
   constants = adds.constants t.banked ∙ ap (λ l. l ++ hc) t.constants ∙ append_assoc ec (hidden_schemes done) hc ∙ ap (λ l. ec ++ l)
       (ap (λ l. hidden_schemes done ++ l) (sym (append-nil hc)) ∙ sym (schemes_behind done (c ∷ [])));
   banked = adds.banked t.banked;
+  names = named_push root c done old new t.names names;
 }
   where
     hk : List ℕ
@@ -257,7 +262,7 @@ module _ (os : List Object) where
               now = later;
               done = now.done ++ open_copy p ∷ [];
               to_come = subst (λ rs. AreToCome os later fs' (map open_copy rs) coming (now.done ++ open_copy p ∷ []) (below ++ c ∷ [])) (sym inside) next;
-              tables = tables_push c (open_copy p) now.done making making' now.tables left.tables;
+              tables = tables_push c (open_copy p) now.done making making' now.tables left.tables left.names;
               records = records_push 0 (counted (length records)) now.done (open_copy p) records own records' now.records is (omega (arith, long, count)) (omega (arith, at)) moved;
             }
 
@@ -268,14 +273,16 @@ module _ (os : List Object) where
         record { tables = subst (λ l. AreTabled c l making) all now.tables; records = subst (λ l. AreRecords 0 l records) all now.records }
 
 -- the tables of a root before any copy
-pub root_tabled : (root : Copy) (old new : Making) → old.kinds.items ≡ [] → old.constants.items ≡ [] → AddsTables old new
-    (exported_of (kinds_of root.object) (arities_of root.object)) (exported_of (constants_of root.object) (moved_schemes root)) → AreTabled root []
-    new
-root_tabled root old new ek ec adds = record {
+pub root_tabled : (root : Copy) (old new : Making) → old.kinds.items ≡ [] → old.constants.items ≡ []
+    → ((w : List ℕ) → (count_in old.hidden_kinds w ≡ 0) × (count_in old.hidden_constants w ≡ 0))
+    → AddsTables old new (exported_of (kinds_of root.object) (arities_of root.object)) (exported_of (constants_of root.object) (moved_schemes root))
+    → AddsRows old new (map as_global (exported_kind_rows root.object)) (map as_global (exported_constant_rows root.object)) → AreTabled root [] new
+root_tabled root old new ek ec none adds rows = record {
   kinds = adds.kinds ∙ ap (λ l. map image_arity l ++ exported_of (kinds_of root.object) (arities_of root.object)) ek ∙ sym (append-nil (exported_of (kinds_of root.object) (arities_of root.object)));
   constants = adds.constants banked ∙ ap (λ l. map (λ (c : ImageConstant). scheme_in old.bank c.type_vars c.scheme.0) l ++ exported_of (constants_of root.object) (moved_schemes root)) ec
       ∙ sym (append-nil (exported_of (constants_of root.object) (moved_schemes root)));
   banked = adds.banked banked;
+  names = root_named root old new ek ec none rows;
 }
   where
     banked : AreBanked old

@@ -24,7 +24,8 @@ use Rattle.lp_link.specs.Refusals.{AreSame}
 use Rattle.lp_link.specs.Differences.{IsSameAbove}
 use Rattle.lp_link.specs.Renumbering.{moved_scheme}
 use Rattle.lp_link.specs.Linked.{Copy, Ends, kinds_of, constants_of, kind_above, constant_above, copy_of, behind, Linked, none_linked, one_linked, map_of}
-use Rattle.lp_link.specs.inner.Tabled.{hidden_of, exported_of, arities_of, schemes_of, moved_schemes, hidden_arities, hidden_schemes}
+use Rattle.lp_link.specs.Names.{hidden_of, exported_of, schemes_of, moved_schemes}
+use Rattle.lp_link.specs.inner.Tabled.{arities_of, hidden_arities, hidden_schemes}
 use Rattle.lp_link.specs.inner.ToldNames.{IsTold}
 use Rattle.lp_link.proofs.ToldNames.{below_told, at_table}
 use Rattle.lp_link.proofs.AboveNames.{kinds_above, constants_above}

@@ -3,7 +3,7 @@ use Rattle.std.proofs.Common.{◌≡◌, ◌∙◌, ◌+◌, ◌-◌, ◌<◌, �
 use Rattle.std.specs.Prelude.{slice_get, slice_index_or}
 use Rattle.lp_lemmas.specs.Each.{EachOf}
 use Rattle.lp_link.specs.Linked.{next_of, numbers_of}
-use Rattle.lp_link.specs.inner.Tabled.{hidden_of, exported_of}
+use Rattle.lp_link.specs.Names.{hidden_of, exported_of}
 use Rattle.lp_link.specs.inner.ToldNames.{AreTold, AreAt, AreAbove}
 
 module _ {A : Type 0} (f : ℕ) (T : ℕ → Option A) (told : List ℕ → Option ℕ) where

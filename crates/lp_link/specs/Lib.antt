@@ -7,6 +7,7 @@ pub mod Sizes
 pub mod Numbers
 pub mod Renumbering
 pub mod Linked
+pub mod Names
 pub mod Put
 pub mod Told
 pub mod inner

@@ -4,5 +4,6 @@ pub mod Renumbering
 pub mod Parts
 pub mod Entering
 pub mod Naming
+pub mod Named
 pub mod Tabled
 pub mod ToldNames

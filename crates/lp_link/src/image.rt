@@ -1,10 +1,13 @@
 // The image in the making.
-ghost use Rattle.std.specs.Prelude.{◌≡◌, ◌+◌, ◌<◌, ◌^◌, [], ◌∷◌, length, map, IfOk, OnOk};
+ghost use Rattle.std.specs.Prelude.{◌≡◌, ◌+◌, ◌<◌, ◌^◌, ℕ, min, List, [], ◌∷◌, length, map, if◌then◌else◌, IfOk, OnOk};
+ghost use Rattle.std.specs.Str.{bytes_eq};
 ghost use Rattle.lp_code.specs.Naming.{object_arity, scheme_in, image_tables, tables_of};
 ghost use Rattle.lp_link.specs.Linked.{kinds_of, constants_of};
+ghost use Rattle.lp_link.specs.inner.Named.{count_in, rows_of_kinds, rows_of_constants, AddsRows, AddsHidden};
 ghost use Rattle.lp_link.specs.inner.Parts.{map_in, AddsMoved};
 ghost use Rattle.lp_link.specs.inner.Entering.{open_copy};
-ghost use Rattle.lp_link.specs.inner.Tabled.{hidden_of, exported_of, arities_of, moved_schemes, made_arities, made_schemes, AddsTables, IsLeft, counted};
+ghost use Rattle.lp_link.specs.Names.{hidden_of, exported_of, exported_types, hidden_types, as_global, kind_row, constant_row, exported_kind_rows, exported_constant_rows, hidden_kind_rows, hidden_constant_rows};
+ghost use Rattle.lp_link.specs.inner.Tabled.{arities_of, made_arities, made_schemes, AddsTables, IsLeft, counted};
 
 use crate::names::Open;
 use crate::records::Numbers;
@@ -25,14 +28,26 @@ pub(crate) struct Making {
     hidden_constants: IndexMap<Vec<u8>, u16>,
 }
 
+// How many hidden names of this name there are.
+fn hidden_so_far(counts: &IndexMap<Vec<u8>, u16>, name: &[u8]) -> u16
+    ensures { result ≡ count_in counts.now name.now }
+{
+    match counts.get(name) {
+        None => 0,
+        Some(count) => *count,
+    }
+}
+
 // The number of the next hidden name of this name, from 1.
 fn next_hidden(
     alloc: Global,
     counts: &mut IndexMap<Vec<u8>, u16>,
     name: &[u8],
-) -> Result<u16, Memory> {
-    let count = counts.get(name).copied().unwrap_or(0);
-    let next = count.saturating_add(1);
+) -> Result<u16, Memory>
+    ensures number { IfOk result (λ n. n ≡ min (count_in counts.old name.now + 1) 65535) }
+    ensures counted { IfOk result (λ n. (other : List ℕ) → count_in counts.new other ≡ (if bytes_eq other name.now then n else count_in counts.old other)) }
+{
+    let next = hidden_so_far(counts, name).saturating_add(1);
     let key = Vec::from_slice(alloc, name)?;
     counts.insert(key, next)?;
     Ok(next)
@@ -64,6 +79,7 @@ impl Making {
     pub(crate) fn new(alloc: Global) -> Making
         ensures kinds { result.kinds.items ≡ [] }
         ensures constants { result.constants.items ≡ [] }
+        ensures counted { (name : List ℕ) → (count_in result.hidden_kinds name ≡ 0) × (count_in result.hidden_constants name ≡ 0) }
     {
         Making {
             alloc,
@@ -76,7 +92,8 @@ impl Making {
     }
 
     fn add_kind(&mut self, kind: &ObjectKind, hidden: u16) -> Result<(), Memory>
-        ensures { OnOk result (AddsTables self.old self.new (object_arity kind.now ∷ []) []) }
+        ensures tables { OnOk result (AddsTables self.old self.new (object_arity kind.now ∷ []) []) }
+        ensures names { OnOk result (AddsRows self.old self.new ((kind.now.name.items, (hidden, kind.now.arity)) ∷ []) []) }
     {
         let name = Vec::from_slice(self.alloc, kind.name.as_slice())?;
         self.kinds.push(ImageKind {
@@ -96,6 +113,7 @@ impl Making {
         requires { scheme.0 < length self.old.bank.types }
         ensures added { OnOk result (AddsTables self.old self.new [] (scheme_in self.old.bank constant.now.type_vars scheme.0 ∷ [])) }
         ensures bank { self.new.bank ≡ self.old.bank }
+        ensures names { OnOk result (AddsRows self.old self.new [] ((constant.now.name.items, (hidden, constant.now.fixity)) ∷ [])) }
     {
         let name = Vec::from_slice(self.alloc, constant.name.as_slice())?;
         self.constants.push(ImageConstant {
@@ -110,7 +128,8 @@ impl Making {
 
     // The exported kinds of the root, which are global.
     fn add_global_kinds(&mut self, root: &Open<'_, '_>) -> Result<(), Memory>
-        ensures { OnOk result (AddsTables self.old self.new (exported_of (kinds_of root.now.member.now.object.now) (arities_of root.now.member.now.object.now)) []) }
+        ensures tables { OnOk result (AddsTables self.old self.new (exported_of (kinds_of root.now.member.now.object.now) (arities_of root.now.member.now.object.now)) []) }
+        ensures names { OnOk result (AddsRows self.old self.new (map as_global (exported_kind_rows root.now.member.now.object.now)) []) }
     {
         let kinds = root.member.object.kinds.as_slice();
         for at in 0..kinds.len() {
@@ -125,7 +144,8 @@ impl Making {
 
     // Its exported constants.
     fn add_global_constants(&mut self, root: &Open<'_, '_>) -> Result<(), Memory>
-        ensures { OnOk result (AddsTables self.old self.new [] (exported_of (constants_of root.now.member.now.object.now) (moved_schemes (open_copy root.now)))) }
+        ensures tables { OnOk result (AddsTables self.old self.new [] (exported_types (open_copy root.now))) }
+        ensures names { OnOk result (AddsRows self.old self.new [] (map as_global (exported_constant_rows root.now.member.now.object.now))) }
     {
         let constants = root.member.object.constants.as_slice();
         let from = &root.member.object.bank;
@@ -144,7 +164,8 @@ impl Making {
 
     /// The names that the root exports, which are global.
     pub(crate) fn add_global(&mut self, root: &Open<'_, '_>) -> Result<(), Memory>
-        ensures { OnOk result (AddsTables self.old self.new (exported_of (kinds_of root.now.member.now.object.now) (arities_of root.now.member.now.object.now)) (exported_of (constants_of root.now.member.now.object.now) (moved_schemes (open_copy root.now)))) }
+        ensures tables { OnOk result (AddsTables self.old self.new (exported_of (kinds_of root.now.member.now.object.now) (arities_of root.now.member.now.object.now)) (exported_types (open_copy root.now))) }
+        ensures names { OnOk result (AddsRows self.old self.new (map as_global (exported_kind_rows root.now.member.now.object.now)) (map as_global (exported_constant_rows root.now.member.now.object.now))) }
     {
         self.add_global_kinds(root)?;
         self.add_global_constants(root)
@@ -152,7 +173,8 @@ impl Making {
 
     // The hidden kinds of a copy.
     fn add_hidden_kinds(&mut self, copy: &Open<'_, '_>) -> Result<(), Memory>
-        ensures { OnOk result (AddsTables self.old self.new (hidden_of (kinds_of copy.now.member.now.object.now) (arities_of copy.now.member.now.object.now)) []) }
+        ensures tables { OnOk result (AddsTables self.old self.new (hidden_of (kinds_of copy.now.member.now.object.now) (arities_of copy.now.member.now.object.now)) []) }
+        ensures names { OnOk result (AddsHidden self.old self.new (hidden_kind_rows copy.now.member.now.object.now) []) }
     {
         let kinds = copy.member.object.kinds.as_slice();
         for at in 0..kinds.len() {
@@ -169,7 +191,8 @@ impl Making {
 
     // Its hidden constants.
     fn add_hidden_constants(&mut self, copy: &Open<'_, '_>) -> Result<(), Memory>
-        ensures { OnOk result (AddsTables self.old self.new [] (hidden_of (constants_of copy.now.member.now.object.now) (moved_schemes (open_copy copy.now)))) }
+        ensures tables { OnOk result (AddsTables self.old self.new [] (hidden_types (open_copy copy.now))) }
+        ensures names { OnOk result (AddsHidden self.old self.new [] (hidden_constant_rows copy.now.member.now.object.now)) }
     {
         let constants = copy.member.object.constants.as_slice();
         let from = &copy.member.object.bank;
@@ -190,7 +213,8 @@ impl Making {
 
     // The hidden names of a copy.
     fn add_hidden(&mut self, copy: &Open<'_, '_>) -> Result<(), Memory>
-        ensures { OnOk result (AddsTables self.old self.new (hidden_of (kinds_of copy.now.member.now.object.now) (arities_of copy.now.member.now.object.now)) (hidden_of (constants_of copy.now.member.now.object.now) (moved_schemes (open_copy copy.now)))) }
+        ensures tables { OnOk result (AddsTables self.old self.new (hidden_of (kinds_of copy.now.member.now.object.now) (arities_of copy.now.member.now.object.now)) (hidden_types (open_copy copy.now))) }
+        ensures names { OnOk result (AddsHidden self.old self.new (hidden_kind_rows copy.now.member.now.object.now) (hidden_constant_rows copy.now.member.now.object.now)) }
     {
         self.add_hidden_kinds(copy)?;
         self.add_hidden_constants(copy)
@@ -223,6 +247,9 @@ impl Making {
         ensures name { IfOk result (λ image. image.name ≡ name) }
         ensures records { IfOk result (λ image. image.code.records ≡ records) }
         ensures tables { IfOk result (λ image. image_tables image ≡ tables_of (made_arities self) (made_schemes self)) }
+        ensures kinds { IfOk result (λ image. map kind_row image.kinds.items ≡ rows_of_kinds self) }
+        ensures constants { IfOk result (λ image. map constant_row image.constants.items ≡ rows_of_constants self) }
+        ensures types { IfOk result (λ image. map (λ c. scheme_in image.bank c.type_vars c.scheme.0) image.constants.items ≡ made_schemes self) }
     {
         let image = Image::new(
             self.alloc,

@@ -17,9 +17,9 @@ mod order;
 mod places;
 // Records with their numbers changed.
 mod records;
-// What linked records denote.
+// What linked records denote, and how high hidden numbers are.
 mod laws;
 
 pub use fault::{LinkRefusal, Part};
-pub use laws::copies_denote;
+pub use laws::{copies_denote, hidden_numbers_fit};
 pub use linking::{check_copies, link};

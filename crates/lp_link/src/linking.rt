@@ -8,6 +8,7 @@ ghost use Rattle.lp_code.specs.declared.object.Object.{Object as ObjectNow};
 ghost use Rattle.lp_link.specs.Ends.{hidden_kinds, hidden_constants, kind_counts, constant_counts, total};
 ghost use Rattle.lp_link.specs.Uses.{uses_of};
 ghost use Rattle.lp_link.specs.Linked.{Copy, Ends as NameEnds, first_ends, IsLinked};
+ghost use Rattle.lp_link.specs.Names.{IsNamed};
 ghost use Rattle.lp_link.specs.Refusals.{CanBeLinked, HasFewCopies, HasManyCopies, HasManyRecords, IsLinkRefusal};
 ghost use Rattle.lp_link.specs.inner.Members.{AreAllCompared, IsCompareRefusal, IsCopiesRefusal};
 ghost use Rattle.lp_link.specs.inner.Entering.{AreFirst, AreFew, begun, ends_of, open_copy, IsShort, IsEntered, IsPlan};
@@ -422,6 +423,7 @@ pub fn link(alloc: Global, objects: &[Object], root: u32) -> Result<Image, LinkR
     ensures few { IfOk result (λ image. length image.code.records.items < 2 ^ 32) }
     ensures linked { OnOk result (CanBeLinked objects.now root) }
     ensures denotes { IfOk result (IsLinked objects.now root) }
+    ensures names { IfOk result (IsNamed objects.now root) }
     ensures refused { IfErr result (IsLinkRefusal objects.now root) }
 {
     let Plan {

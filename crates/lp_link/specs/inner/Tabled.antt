@@ -1,9 +1,8 @@
 -- The tables of an image in the making, and its records, copy by copy.
-use Rattle.std.specs.Prelude.{◌≡◌, ℕ, ◌+◌, ◌<◌, min, Bool, true, false, List, [], ◌∷◌, ◌++◌, map, length, reverse, None, All}
+use Rattle.std.specs.Prelude.{◌≡◌, ℕ, ◌+◌, ◌<◌, min, List, [], ◌∷◌, ◌++◌, map, length, reverse, None, All}
 use Rattle.lp_calculus.specs.Typing.{Scheme}
 use Rattle.lp_lemmas.specs.Each.{EachOf}
 use Rattle.lp_code.specs.declared.object.Object.{Object}
-use Rattle.lp_code.specs.declared.object.ObjectConstant.{ObjectConstant}
 use Rattle.lp_code.specs.declared.image.ImageConstant.{ImageConstant}
 use Rattle.lp_code.specs.declared.record.Record.{Record}
 use Rattle.lp_code.specs.Naming.{object_arity, image_arity, scheme_in}
@@ -11,49 +10,29 @@ use Rattle.lp_link.specs.declared.image.Making.{Making}
 use Rattle.lp_link.specs.declared.names.Open.{Open}
 use Rattle.lp_link.specs.declared.names.Firsts.{Firsts}
 use Rattle.lp_link.specs.declared.places.Member.{Member}
-use Rattle.lp_link.specs.Linked.{Copy, Ends, copy_of, kinds_of, constants_of, map_of, records_of}
-use Rattle.lp_link.specs.Renumbering.{moved_scheme, AllRecordsMoved}
+use Rattle.lp_link.specs.Linked.{Copy, Ends, copy_of, kinds_of, map_of, records_of}
+use Rattle.lp_link.specs.Names.{exported_of, hidden_of, exported_types, hidden_types, of_copies, hidden_kind_rows, hidden_constant_rows}
+use Rattle.lp_link.specs.Renumbering.{AllRecordsMoved}
 use Rattle.lp_link.specs.inner.Parts.{AllHaveRoom, AddsMoved}
 use Rattle.lp_link.specs.inner.Entering.{open_copy, AreToCome, IsSmall, ends_of}
-
--- what stands beside hidden names, and beside exported ones
-abbrev pub hidden_of : {A : Type 0} → List (List ℕ × Bool) → List A → List A
-hidden_of [] vs = []
-hidden_of (e ∷ es) [] = []
-hidden_of ((name, false) ∷ es) (v ∷ vs) = v ∷ hidden_of es vs
-hidden_of ((name, true) ∷ es) (v ∷ vs) = hidden_of es vs
-
-abbrev pub exported_of : {A : Type 0} → List (List ℕ × Bool) → List A → List A
-exported_of [] vs = []
-exported_of (e ∷ es) [] = []
-exported_of ((name, false) ∷ es) (v ∷ vs) = exported_of es vs
-exported_of ((name, true) ∷ es) (v ∷ vs) = v ∷ exported_of es vs
+use Rattle.lp_link.specs.inner.Named.{AreNamed, AddsHidden}
 
 abbrev pub arities_of : Object → List ℕ
 arities_of o = map object_arity o.kinds.items
 
-abbrev pub schemes_of : Object → List Scheme
-schemes_of o = map (λ (c : ObjectConstant). scheme_in o.bank c.type_vars c.scheme.0) o.constants.items
-
--- the types of a copy's constants in the image
-abbrev pub moved_schemes : Copy → List Scheme
-moved_schemes c = map (moved_scheme (map_of 0 c)) (schemes_of c.object)
-
 -- the hidden names of copies, copy by copy
 abbrev pub hidden_arities : List Copy → List ℕ
-hidden_arities [] = []
-hidden_arities (c ∷ cs) = hidden_of (kinds_of c.object) (arities_of c.object) ++ hidden_arities cs
+hidden_arities cs = of_copies (λ c. hidden_of (kinds_of c.object) (arities_of c.object)) cs
 
 abbrev pub hidden_schemes : List Copy → List Scheme
-hidden_schemes [] = []
-hidden_schemes (c ∷ cs) = hidden_of (constants_of c.object) (moved_schemes c) ++ hidden_schemes cs
+hidden_schemes cs = of_copies hidden_types cs
 
 -- the tables of a root with these copies
 abbrev pub all_arities : (root : Copy) → List Copy → List ℕ
 all_arities root cs = exported_of (kinds_of root.object) (arities_of root.object) ++ hidden_arities cs
 
 abbrev pub all_schemes : (root : Copy) → List Copy → List Scheme
-all_schemes root cs = exported_of (constants_of root.object) (moved_schemes root) ++ hidden_schemes cs
+all_schemes root cs = exported_types root ++ hidden_schemes cs
 
 -- the tables of the image so far
 abbrev pub made_arities : Making → List ℕ
@@ -76,6 +55,7 @@ pub record AreTabled (root : Copy) (cs : List Copy) (m : Making) : Type 0 where
   pub kinds : made_arities m ≡ all_arities root cs
   pub constants : made_schemes m ≡ all_schemes root cs
   pub banked : AreBanked m
+  pub names : AreNamed root cs m
 
 -- the records of each copy stand behind those of the copies before it, n of them before all
 abbrev pub AreRecords : (n : ℕ) → List Copy → List Record → Type 0
@@ -98,7 +78,8 @@ pub record IsBegun (m : Member) (firsts : Firsts) (made : Making) (around : List
 
 -- the innermost open copy was left: its hidden names and its records were put behind the others
 pub record IsLeft (old new : Making) (records now : List Record) (c : Copy) : Type 0 where
-  pub tables : AddsTables old new (hidden_of (kinds_of c.object) (arities_of c.object)) (hidden_of (constants_of c.object) (moved_schemes c))
+  pub tables : AddsTables old new (hidden_of (kinds_of c.object) (arities_of c.object)) (hidden_types c)
+  pub names : AddsHidden old new (hidden_kind_rows c.object) (hidden_constant_rows c.object)
   pub count : length now ≡ length records + length (records_of c)
   pub moved : AddsMoved (map_of (counted (length records)) c) (counted (length records)) (records_of c) records now
 

@@ -2,7 +2,8 @@
 use Rattle.std.specs.Prelude.{◌≡◌, ℕ, suc, ◌≤◌, Bool, true, false, List, [], ◌∷◌, Option, Some}
 use Rattle.lp_code.specs.Symbolic.{Tables}
 use Rattle.lp_link.specs.Linked.{Copy}
-use Rattle.lp_link.specs.inner.Tabled.{arities_of, moved_schemes}
+use Rattle.lp_link.specs.Names.{moved_schemes}
+use Rattle.lp_link.specs.inner.Tabled.{arities_of}
 
 -- the table has at each number what stands beside it, and no number is below the first one
 abbrev pub AreTold : {A : Type 0} → (first : ℕ) → (ℕ → Option A) → List ℕ → List A → Type 0

@@ -10,7 +10,7 @@ returns-clause-begun c =
     (c.in_ok-push.ensures.items ∙ ap (λ l. l ++ (record { member = c.args.member; names = c.in_ok-names.names }) ∷ []) c.new-around.ensures.items)
     refl c.in_ok-names.ensures.kinds c.in_ok-names.ensures.constants
     (root_tabled (open_copy (record { member = c.args.member; names = c.in_ok-names.names })) c.new-making.result c.add_global.new.self
-    c.new-making.ensures.kinds c.new-making.ensures.constants c.in_ok-add_global.ensures)
+    c.new-making.ensures.kinds c.new-making.ensures.constants c.new-making.ensures.counted c.in_ok-add_global.ensures.tables c.in_ok-add_global.ensures.names)
 
 pub returns-clause-few : goal.returns-clause-few
 returns-clause-few c = All_pushed IsShort c.push.new.self.items c.new-around.result.items
