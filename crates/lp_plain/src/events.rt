@@ -109,7 +109,7 @@ fn run<W: Watch>(
 
 impl Search {
     /// The search of a query over a program, with these limits of steps and of answers. Program and query are dropped on a refusal.
-    #[tactic(auto, unfolding(crate::specs::Held::variables_of, crate::specs::Held::query_of, crate::specs::Held::constants_of, crate::specs::Held::steps_of))]
+    #[tactic(auto, unfolding(crate::specs::Held::variables_of, crate::specs::Held::query_of, crate::specs::Held::constants_of, crate::specs::Held::steps_of, crate::specs::Held::ended))]
     pub fn start(
         alloc: Global,
         program: Program,
@@ -121,6 +121,7 @@ impl Search {
         ensures query { IfOk result (λ s. query_of s ≡ query) }
         ensures constants { IfOk result (λ s. constants_of s ≡ program.constants.items) }
         ensures steps { IfOk result (λ s. steps_of s ≡ 0) }
+        ensures going { IfOk result (λ s. ended s ≡ None) }
         ensures begins { IfOk result (λ s. (d : Types) (P : List Clause) (gs : Goals) → Begins d program query P gs → (n : ℕ) → IsBetween P n s (first_state query.type_vars (length query.vars.items) gs steps answers)) }
     {
         let Started {
