@@ -1,7 +1,7 @@
 // The order in which files are loaded.
-ghost use Rattle.std.specs.Prelude.{◌≡◌, ◌++◌, ◌∷◌, [], ◌<◌, ℕ, Bool, List, not, None, IfErr, IfOk, OnOk, length, string_bytes};
+ghost use Rattle.std.specs.Prelude.{◌≡◌, ◌++◌, ◌∷◌, [], ◌<◌, ℕ, Bool, List, not, None, IfErr, IfOk, OnOk, string_bytes};
 ghost use Rattle.std.specs.Global.{Global};
-ghost use Rattle.lp_build.specs.Loads.{Outside, fault_of, IsOfLoading, IsOfName, IsOfWord, names_of, ending};
+ghost use Rattle.lp_build.specs.Loads.{Outside, fault_of, IsOfLoading, IsOfName, IsOfWord, ending};
 ghost use Rattle.lp_build.specs.Reads.{AreRead};
 ghost use Rattle.lp_sig.specs.Pieces.{spelled};
 ghost use Rattle.lp_sig.specs.Refusals.{IsAt};
