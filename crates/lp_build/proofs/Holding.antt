@@ -58,7 +58,7 @@ same_names all n f g r q p b =
     let spot = spot_at n g.text.bytes.items g.text.tokens.items in
     let ls = lexemes g.text.bytes.items g.text.tokens.items in
     let count = length g.text.tokens.items in
-    let long : count ≡ length ls = sym (length-map (lexeme g.text.bytes.items) g.text.tokens.items) in
+    let long : count ≡ length ls = sym (length-map g.text.tokens.items (lexeme g.text.bytes.items)) in
     named_alike all n f.part g.part f.text g.text p b (same_signatures spot ls count f.text.references g.text.references long mine q.text.references) (same_modules spot ls count f.text.references g.text.references long mine q.text.references)
 
 names_push : (fs : List File) (f : File) → names_of (fs ++ f ∷ []) ≡ names_of fs ++ string_bytes f.name ∷ []
