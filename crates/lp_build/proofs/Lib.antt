@@ -28,3 +28,5 @@ pub mod Texting
 pub mod Causing
 pub mod Walking
 pub mod Ordering
+pub mod Saying
+pub mod Holding

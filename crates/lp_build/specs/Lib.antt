@@ -2,6 +2,7 @@ pub mod Faults
 pub mod Loads
 pub mod Told
 pub mod Ordered
+pub mod Alike
 pub mod Named
 pub mod Reads
 pub mod Sights
