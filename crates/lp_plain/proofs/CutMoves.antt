@@ -7,7 +7,7 @@ use Rattle.lp_model.specs.Branch.{Answer, Branch, Entry, Go, Task}
 use Rattle.lp_model.specs.Flat.{Clause, Goal, Atomic, Cut, Either, Exists, Forall, Assume, Not}
 use Rattle.lp_model.specs.Pair.{Closing}
 use Rattle.lp_model.specs.Search.{look, look_branch, look_goal, with_goals}
-use Rattle.lp_model.specs.Skeleton.{CutNote, Cuts as View_Cuts, Goes, Inner, State, move, move_at, move_view, oldest}
+use Rattle.lp_model.specs.Skeleton.{CutNote, Cuts as View_Cuts, Goes, Inner, State, back, move, move_at, move_view, oldest}
 use Rattle.lp_model.specs.Unify.{unit_limit}
 use Rattle.lp_pattern.specs.Growing.{Grows, IsPairOf}
 use Rattle.lp_pattern.specs.Turning.{IsOpenReading}
@@ -27,6 +27,7 @@ use Rattle.lp_plain.specs.Stacks.{base_of, stack_of, CutsTasks}
 use Rattle.lp_plain.specs.Tables.{IsGoal, Never, shown}
 use Rattle.lp_plain.specs.Taking.{goal_in}
 use Rattle.lp_plain.specs.Within.{StandsIn}
+use Rattle.lp_plain.specs.inner.Beginning.{IsToldFirst, TellsFirst}
 use Rattle.lp_plain.proofs.AboveUnder.{alternatives_taken, counts_same, have_tasks, kept_all, kept_done, kept_turn, marks_fewer, pairs_more}
 use Rattle.lp_plain.proofs.Assumed.{lists_noted}
 use Rattle.lp_plain.proofs.Backwards.{on_kept}
@@ -233,18 +234,39 @@ cut_moved qv m n p o k c l a raw s h at w ea go enough P =
     let q = ap (goal_in at.values p.values.types) (cut_is m at.goal at.is) in
     cut_moves qv m n a raw s h o (entry_at a p (goal_in at.values p.values.types at.goal)) at.rest k at.reads at.goals q (subst (λ i. Cuts m n i o) (sym (h.above.numbers p.mark)) c) l w ea go enough P
 
--- no step is left
-pub cut_stops : (qv : Query) (m n : Machine) (p : Place) (o : Option ℕ) → m.counts.limit ≤ m.counts.steps → (a : Around) (raw : Branch)
-    (s : State Task) → IsRunning qv m a raw s → IsAtGoal m a p Flat.Cut o raw → MovesTo quiet qv (Turn.Ended Steps) n s
-cut_stops qv m n p o l a raw s h at w ea go enough P =
+-- what the definition sees of it
+cut_seen : (qv : Query) (m : Machine) (p : Place) (o : Option ℕ) (a : Around) (raw : Branch) (s : State Task) (h : IsRunning qv m a raw s) → IsAtGoal m a p Flat.Cut o raw → (enough : ℕ) (P : List Clause) →
+    (mark : ℕ) × (ts : List Task) × (look unit_limit enough P (length h.rest) (Go h.at_work) ≡ View_Cuts mark ts)
+cut_seen qv m p o a raw s h at enough P =
     let e = entry_at a p (goal_in at.values p.values.types at.goal) in
     let b = base_of m.denied in
     let sp = split_under h.closing (mark_in b h.above.raws) b (length m.choices.items) e at.rest h.at_work.goals
     (subst (λ x. AreEntriesUnder h.closing (mark_in b h.above.raws) b (length m.choices.items) x h.at_work.goals) at.goals h.under.goals) in
-    let behind = with_goals h.at_work sp.rest in
-    let seen : look unit_limit enough P (length h.rest) (Go h.at_work) ≡ View_Cuts sp.first.mark (Go behind ∷ []) =
-    ap (look_branch unit_limit enough P (length h.rest) h.at_work) sp.whole ∙ ap (look_goal unit_limit enough P (length h.rest) sp.first behind)
-    (subst (λ g. IsGoalUnder h.closing g sp.first.goal) (ap (goal_in at.values p.values.types) (cut_is m at.goal at.is)) sp.entry.goal) in
+    let behind = with_goals h.at_work sp.rest in (
+      sp.first.mark,
+      Go behind ∷ [],
+      ap (look_branch unit_limit enough P (length h.rest) h.at_work) sp.whole ∙ ap (look_goal unit_limit enough P (length h.rest) sp.first behind)
+          (subst (λ g. IsGoalUnder h.closing g sp.first.goal) (ap (goal_in at.values p.values.types) (cut_is m at.goal at.is)) sp.entry.goal),
+    )
+
+-- a step is left
+pub cut_tells : (qv : Query) (m : Machine) (p : Place) (o : Option ℕ) → m.counts.steps < m.counts.limit → (a : Around) (raw : Branch) (s : State Task) → IsRunning qv m a raw s →
+    IsAtGoal m a p Flat.Cut o raw → IsToldFirst s CutNote
+cut_tells qv m p o l a raw s h at w ea go enough P =
+    let r = cut_seen qv m p o a raw s h at enough P in
+    let left = m.counts.limit - (m.counts.steps + 1) in
+    let some : s.steps ≡ suc left = (let q = h.counted.steps in omega (arith, q, l)) in
+    let moved : move go (look unit_limit enough P) s ≡ move_view go (suc left) w s.given s.rows s.row s.lost h.rest (View_Cuts r.0 r.1) =
+    (λ i. move_at go (look unit_limit enough P) (some i) (ea i) s.given s.rows s.row s.lost (h.stack i)) ∙ by_lost go (look unit_limit enough P) (suc left) w
+    s.given s.rows s.row s.lost (Go h.at_work) h.rest ∙
+    ap (move_view go (suc left) w s.given s.rows s.row s.lost h.rest) r.2 in
+    subst (TellsFirst CutNote) (sym moved) (omega arith, back r.1 (oldest r.0 h.rest), refl)
+
+-- no step is left
+pub cut_stops : (qv : Query) (m n : Machine) (p : Place) (o : Option ℕ) → m.counts.limit ≤ m.counts.steps → (a : Around) (raw : Branch)
+    (s : State Task) → IsRunning qv m a raw s → IsAtGoal m a p Flat.Cut o raw → MovesTo quiet qv (Turn.Ended Steps) n s
+cut_stops qv m n p o l a raw s h at w ea go enough P =
+    let seen = (cut_seen qv m p o a raw s h at enough P).2 in
     let none : s.steps ≡ 0 = (let q = h.counted.steps in omega (arith, q, l)) in (
       refl,
       (λ i. move_at go (look unit_limit enough P) (none i) (ea i) s.given s.rows s.row s.lost (h.stack i)) ∙ by_lost go (look unit_limit enough P) 0 w

@@ -1,5 +1,5 @@
 -- A negated goal in front: its search begins where the definition's does, and the search ends where the definition's ends at the test.
-use Rattle.std.proofs.Common.{◌≡◌, ℕ, zero, suc, ◌+◌, ◌-◌, ◌<◌, ◌≤◌, List, [], ◌∷◌, length, refl, sym, ap, inl, inr, ◌∙◌, subst, arith, Bool, true, false, Option, None, Some}
+use Rattle.std.proofs.Common.{◌≡◌, ℕ, zero, suc, ◌+◌, ◌-◌, ◌<◌, ◌≤◌, List, [], ◌∷◌, ◌++◌, length, refl, sym, ap, inl, inr, ◌∙◌, subst, arith, Bool, true, false, Option, None, Some}
 use Rattle.lp_calculus.specs.Types.{instance}
 use Rattle.lp_lemmas.specs.Each.{EachOf}
 use Rattle.lp_term.specs.Nodes.{Nodes, Extends}
@@ -7,7 +7,7 @@ use Rattle.lp_model.specs.Branch.{Answer, Branch, Entry, Go, Stop, Task, both_wr
 use Rattle.lp_model.specs.Flat.{Clause, Goal, Atomic, Cut, Either, Exists, Forall, Assume, Not, Goals, Written, collect_goals, goal_list, map_goals, map_written, written_in_goals}
 use Rattle.lp_model.specs.Pair.{closed}
 use Rattle.lp_model.specs.Search.{has_no_pairs, has_variables, look, look_branch, look_goal, look_not, with_goals}
-use Rattle.lp_model.specs.Skeleton.{Denies, Inner, State, move, move_at, move_view, named, not_constant, GoalNote}
+use Rattle.lp_model.specs.Skeleton.{Broke, Denies, Held, Inner, Lasts, Refuted, State, back, move, move_at, move_denied, move_view, named, not_constant, GoalNote, starts_within}
 use Rattle.lp_model.specs.Unify.{unit_limit}
 use Rattle.lp_model.specs.declared.ending.Ending.TheVariants.{Deep, OpenNot, Steps}
 use Rattle.lp_pattern.proofs.Walking.{open_kept}
@@ -29,6 +29,7 @@ use Rattle.lp_plain.specs.Stacks.{base_of}
 use Rattle.lp_plain.specs.Tables.{IsGoal, IsListOf, IsNumbered, Never, shown}
 use Rattle.lp_plain.specs.Taking.{goal_in}
 use Rattle.lp_plain.specs.Within.{StandsIn}
+use Rattle.lp_plain.specs.inner.Beginning.{IsToldFirst, TellsFirst}
 use Rattle.lp_plain.proofs.AboveUnder.{pairs_more, still_all, still_done, still_turn}
 use Rattle.lp_plain.proofs.Assumed.{place_on}
 use Rattle.lp_plain.proofs.ClosingTests.{IsGiven, IsTested, closed_given, deep_given, open_given}
@@ -164,6 +165,29 @@ module _ (qv : Query) (m : Machine) (a : Around) (raw : Branch) (s : State Task)
 
     steps_are : s.steps ≡ suc left
     steps_are = let q = h.counted.steps in let l = there in omega (arith, q, l)
+
+    -- the note of it comes first
+    denied_first : (n k g u : ℕ) (lost : Bool) (ts rest : List Task) (r : Inner) → TellsFirst (GoalNote (named not_constant)) (move_denied n k g u lost ts rest r)
+    denied_first n k g u lost ts rest (Refuted j ns p) = (omega arith, ns ++ back ts rest, refl)
+    denied_first n k g u lost ts rest (Held j ns p) = (omega arith, ns ++ back [] rest, refl)
+    denied_first n k g u lost ts rest (Broke j ns f) = (omega arith, ns, refl)
+    denied_first n k g u lost ts rest (Lasts j ns) = tt
+
+    pub not_tells : IsToldFirst s (GoalNote (named not_constant))
+    not_tells k ea go enough P = by (has_variables enough asked) refl
+      where
+        moved : (o : Option Bool) → has_variables enough asked ≡ o → move go (look unit_limit enough P) s ≡ move_view go (suc left) k s.given s.rows s.row s.lost h.rest (look_not sp.first waits goals o)
+        moved o q =
+            (λ i. move_at go (look unit_limit enough P) (steps_are i) (ea i) s.given s.rows s.row s.lost (h.stack i)) ∙ by_lost go (look unit_limit enough P) (suc left) k
+            s.given s.rows s.row s.lost (Go h.at_work) h.rest ∙
+            ap (move_view go (suc left) k s.given s.rows s.row s.lost h.rest) (seen_is enough P o q)
+
+        by : (o : Option Bool) → has_variables enough asked ≡ o → TellsFirst (GoalNote (named not_constant)) (move go (look unit_limit enough P) s)
+        by None q = subst (TellsFirst (GoalNote (named not_constant))) (sym (moved None q)) tt
+        by (Some true) q = subst (TellsFirst (GoalNote (named not_constant))) (sym (moved (Some true) q)) (omega arith, back (Stop OpenNot ∷ []) h.rest, refl)
+        by (Some false) q =
+            subst (TellsFirst (GoalNote (named not_constant))) (sym (moved (Some false) q))
+            (denied_first left k s.given s.rows s.lost (Go waits ∷ []) h.rest (go has_no_pairs (starts_within s.rows inside left 1)))
 
     -- a variable is there
     open_at : (n : Machine) (go : (Answer → Bool) → State Task → Inner) (enough : ℕ) (P : List Clause) (k : ℕ) → s.answers ≡ suc k → (o : Option Bool)

@@ -56,10 +56,11 @@ module _ (cs : List Declared) where
   heard_none m n old e = (e ∙ plus_none m.counts.steps, refl)
 
   -- a constant that has no name
+  pub unknown_text : (c : ℕ) → numbered c ≡ None → length cs ≤ c - first_declared → constant_text cs c (numbered c) ≡ codes "_"
+  unknown_text c e l = ap (constant_text cs c) e ∙ ap text_shown (slice_get_past cs (c - first_declared) l)
+
   pub heard_unknown : (old new : List Seen) (c : ℕ) → numbered c ≡ None → length cs ≤ c - first_declared → Hears cs (GoalNote variable ∷ []) old new → Hears cs (GoalNote (named c) ∷ []) old new
-  heard_unknown old new c e l h =
-      let shown : constant_text cs c (numbered c) ≡ codes "_" = ap (constant_text cs c) e ∙ ap text_shown (slice_get_past cs (c - first_declared) l) in
-      h ∙ ap (λ bs. crowd_after (goal bs) old) (sym shown)
+  heard_unknown old new c e l h = h ∙ ap (λ bs. crowd_after (goal bs) old) (sym (unknown_text c e l))
 
   -- the goal by its form
   pub heard_as : (old new : List Seen) (f g : Form) → f ≡ g → Hears cs (GoalNote (form_name f) ∷ []) old new → Hears cs (GoalNote (form_name g) ∷ []) old new
@@ -78,8 +79,11 @@ drop_none zero (x ∷ xs) l = absurd (omega (arith, l))
 drop_none (suc b) [] l = refl
 drop_none (suc b) (x ∷ xs) l = drop_none b xs (omega (arith, l))
 
+pub back_some : (m : Machine) → base_of m.denied < length m.choices.items → back_in m ≡ BackNote ∷ []
+back_some m l = drop_some (base_of m.denied) m.choices.items l
+
 pub heard_back : (cs : List Declared) (m : Machine) (old new : List Seen) → base_of m.denied < length m.choices.items → Hears cs (BackNote ∷ []) old new → Hears cs (back_in m) old new
-heard_back cs m old new l h = subst (λ ns. Hears cs ns old new) (sym (drop_some (base_of m.denied) m.choices.items l)) h
+heard_back cs m old new l h = subst (λ ns. Hears cs ns old new) (sym (back_some m l)) h
 
 pub heard_no_back : (cs : List Declared) (m : Machine) (old : List Seen) → length m.choices.items ≤ base_of m.denied → Hears cs (back_in m) old old
 heard_no_back cs m old l = subst (λ ns. Hears cs ns old old) (sym (drop_none (base_of m.denied) m.choices.items l)) refl

@@ -173,5 +173,8 @@ mod DenyTurns
 mod DenyFirst
 mod DenyStands
 mod Hearing
+mod HeardParts
+mod Beginning
+mod AtomTells
 mod ChoicesBack
 mod Passing

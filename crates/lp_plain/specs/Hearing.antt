@@ -1,10 +1,11 @@
 -- What watchers hear: the notes of the definition's search, with the heads of goals by their names.
-use Rattle.std.specs.Prelude.{◌≡◌, ℕ, ◌-◌, ◌+◌, List, [], ◌++◌, drop, map, Option, Some, None, slice_get, codes, decimal}
+use Rattle.std.specs.Prelude.{◌≡◌, ◌⊎◌, ℕ, ◌-◌, ◌+◌, List, [], ◌∷◌, ◌++◌, drop, map, Option, Some, None, slice_get, codes, decimal}
 use Rattle.lp_standard.specs.Constants.{first_declared, name, numbered}
 use Rattle.lp_standard.specs.Numbers as number
 use Rattle.lp_standard.specs.declared.constant.Constant.{Constant}
 use Rattle.lp_model.specs.Skeleton.{GoalName, named, eigenconstant, variable, Note, GoalNote, BackNote, AnswerNote, CutNote, back}
 use Rattle.lp_model.specs.declared.program.Declared.{Declared}
+use Rattle.lp_watch.specs.Crowd.{ReachesPart, crowd_after}
 use Rattle.lp_watch.specs.Notes.{Event, goal, answer, cut}
 use Rattle.lp_watch.specs.Notes as note
 use Rattle.lp_watch.specs.Seen.{Seen}
@@ -45,6 +46,11 @@ note_in cs CutNote = cut
 -- what is seen of the watchers became so by these notes, one after the other
 abbrev pub Hears : List Declared → List Note → (old new : List Seen) → Type 0
 Hears cs ns old new = new ≡ crowd_after_all (map (note_in cs) ns) old
+
+-- a beginning of these notes was heard: none of them; or the first one by a first part of the watchers; or by all of them, and of the others a beginning
+abbrev pub HearsPart : List Declared → List Note → (old new : List Seen) → Type 0
+HearsPart cs [] old new = new ≡ old
+HearsPart cs (n ∷ ns) old new = (new ≡ old) ⊎ (ReachesPart (note_in cs n) old new ⊎ HearsPart cs ns (crowd_after (note_in cs n) old) new)
 
 abbrev pub head_name : Head → GoalName
 head_name (head.Constant c) = named c

@@ -4,6 +4,7 @@ pub mod Tabling
 pub mod Placing
 pub mod Programs
 pub mod Following
+pub mod Beginning
 pub mod Between
 pub mod Answering
 pub mod Fitting

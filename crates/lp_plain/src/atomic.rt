@@ -9,11 +9,12 @@ ghost use Rattle.lp_plain.specs.declared.table.Flat.{Flat};
 ghost use Rattle.lp_plain.specs.Assigned.{Assigns, Compares, ComparesBy, IsAssigned, IsNumber, IsNumberOr, turn_if};
 ghost use Rattle.lp_plain.specs.Cuts.{CutsOff};
 ghost use Rattle.lp_plain.specs.Assuming.{KeepsAssumed};
+ghost use Rattle.lp_plain.specs.AtRunTime.{IsAtLooked, IsAtomForm};
 ghost use Rattle.lp_plain.specs.Calling.{AtomTurns, CallLeads, IsLookedAs, TellsOn};
 ghost use Rattle.lp_plain.specs.Entries.{Around, KeepsGoals};
 ghost use Rattle.lp_plain.specs.Forms.{order_number};
 ghost use Rattle.lp_plain.specs.HeadLooks.{OnlyBank};
-ghost use Rattle.lp_plain.specs.Hearing.{HeardBy, Hears, form_name, head_name};
+ghost use Rattle.lp_plain.specs.Hearing.{HeardBy, Hears, HearsPart, form_name, head_name};
 ghost use Rattle.lp_model.specs.declared.program.Declared.{Declared as Named};
 ghost use Rattle.lp_plain.specs.Turns.{IsGoalTurn, KeepsProgram};
 ghost use Rattle.lp_plain.specs.Unifying.{IsBoundIn};
@@ -22,6 +23,8 @@ ghost use Rattle.lp_plain.specs.Stacks.{CutsTasks, HaveTasks, IsMarkOf};
 ghost use Rattle.lp_plain.specs.Within.{StandsIn};
 ghost use Rattle.lp_plain.specs.WrittenSearch.{IsWrittenSearch};
 ghost use Rattle.lp_plain.specs.WrittenTable.{StandsWritten};
+ghost use Rattle.lp_plain.specs.inner.Beginning.{CountsFirst, HearsFirst};
+ghost use Rattle.lp_term.specs.Nodes.{tree};
 
 use crate::arithmetic::{Outcome, Value, evaluate, holds, term_of};
 use crate::attempt::attempt;
@@ -60,6 +63,7 @@ fn tell_head<W: Watch>(
     head: Head,
 ) -> Result<(), Memory>
     ensures told { OnOk result (Hears constants.now (GoalNote (head_name head) ∷ []) (map W.seen crowd.old.watchers.now.items) (map W.seen crowd.new.watchers.now.items)) }
+    ensures part { HearsPart constants.now (GoalNote (head_name head) ∷ []) (map W.seen crowd.old.watchers.now.items) (map W.seen crowd.new.watchers.now.items) }
     ensures same { crowd.new.watchers.ghost_name ≡ crowd.old.watchers.ghost_name }
 {
     match head {
@@ -76,6 +80,7 @@ fn tell_goal<W: Watch>(
     form: Form,
 ) -> Result<(), Memory>
     ensures told { OnOk result (Hears constants.now (GoalNote (form_name form) ∷ []) (map W.seen crowd.old.watchers.now.items) (map W.seen crowd.new.watchers.now.items)) }
+    ensures part { HearsPart constants.now (GoalNote (form_name form) ∷ []) (map W.seen crowd.old.watchers.now.items) (map W.seen crowd.new.watchers.now.items) }
     ensures same { crowd.new.watchers.ghost_name ≡ crowd.old.watchers.ghost_name }
 {
     match form {
@@ -295,6 +300,8 @@ pub(crate) fn take_atom<W: Watch>(
     behind: Option<usize>,
 ) -> Result<Turn, Memory>
     ensures leads { IfOk result (AtomTurns (HeardBy constants.now machine.old machine.new (map W.seen crowd.old.watchers.now.items) (map W.seen crowd.new.watchers.now.items)) machine.old machine.new place goal form behind) }
+    ensures begins { (qv : Query) (a : Around) (raw : Branch) (s : State Task) (h : IsRunning qv machine.old a raw s) → IsAtLooked machine.old h.closing a place goal behind raw → IsAtomForm machine.old.bank (tree machine.old.bank goal.0) form → HearsFirst constants.now (map W.seen crowd.old.watchers.now.items) (map W.seen crowd.new.watchers.now.items) s }
+    ensures within { OnOk result ((qv : Query) (a : Around) (raw : Branch) (s : State Task) (h : IsRunning qv machine.old a raw s) → IsAtLooked machine.old h.closing a place goal behind raw → IsAtomForm machine.old.bank (tree machine.old.bank goal.0) form → CountsFirst machine.old machine.new s) }
     ensures same { crowd.new.watchers.ghost_name ≡ crowd.old.watchers.ghost_name }
     ensures program { OnOk result (KeepsProgram machine.old machine.new) }
     ensures ends { IfOk result IsGoalTurn }
@@ -335,6 +342,8 @@ pub(crate) fn take_cut<W: Watch>(
 ) -> Result<Turn, Memory>
     ensures cuts { IfOk result (λ turn. CutsOff turn machine.old machine.new place.mark behind) }
     ensures moved { IfOk result (λ turn. (qv : Query) (a : Around) (raw : Branch) (s : State Task) → IsRunning qv machine.old a raw s → IsAtGoal machine.old a place Flat.Cut behind raw → TellsOn (λ x. (cs : List Named) → HeardBy cs machine.old machine.new (map W.seen crowd.old.watchers.now.items) (map W.seen crowd.new.watchers.now.items) x) (λ x. MovesTo x qv turn machine.new s)) }
+    ensures begins { (qv : Query) (a : Around) (raw : Branch) (s : State Task) → IsRunning qv machine.old a raw s → IsAtGoal machine.old a place Flat.Cut behind raw → (cs : List Named) → HearsFirst cs (map W.seen crowd.old.watchers.now.items) (map W.seen crowd.new.watchers.now.items) s }
+    ensures within { OnOk result ((qv : Query) (a : Around) (raw : Branch) (s : State Task) → IsRunning qv machine.old a raw s → IsAtGoal machine.old a place Flat.Cut behind raw → CountsFirst machine.old machine.new s) }
     ensures same { crowd.new.watchers.ghost_name ≡ crowd.old.watchers.ghost_name }
     ensures written { OnOk result ((ar : ℕ → ℕ) → StandsIn machine.old → IsWrittenSearch machine.old ar → IsWrittenSearch machine.new ar) }
     ensures tasks { IfOk result (λ turn. turn ≡ Turn.On → (tss : List (List Task)) (keep : ℕ) → HaveTasks machine.old tss → IsMarkOf machine.old tss place.mark keep → CutsTasks machine.old machine.new place.mark keep tss) }

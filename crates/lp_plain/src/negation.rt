@@ -21,6 +21,7 @@ ghost use Rattle.lp_plain.specs.Negations.{denial, AreFound, IsDenied, Takes};
 ghost use Rattle.lp_plain.specs.Turns.{IsGoalTurn, KeepsProgram};
 ghost use Rattle.lp_plain.specs.Within.{StandsIn};
 ghost use Rattle.lp_plain.specs.WrittenSearch.{IsWrittenSearch, WritesList};
+ghost use Rattle.lp_plain.specs.inner.Beginning.{CountsFirst, HearsFirst};
 
 use crate::choice::{Denial, Untried};
 use crate::frame::Place;
@@ -107,6 +108,8 @@ pub(crate) fn take_not<W: Watch>(
 ) -> Result<Turn, Memory>
     ensures takes { IfOk result (λ turn. Takes turn (record { free = free; values = place.values; older = place.standing }) machine.old machine.new behind) }
     ensures denies { IfOk result (λ turn. (qv : Query) (a : Reading) (raw : Branch) (s : State Task) (h : IsRunning qv machine.old a raw s) → IsAtGoal machine.old a place (Flat.Not goals free) behind raw → TellsOn (λ x. (cs : List Named) → HeardBy cs machine.old machine.new (map W.seen crowd.old.watchers.now.items) (map W.seen crowd.new.watchers.now.items) x) (λ x. TakesDenied x turn qv machine.new s h.at_work.goals)) }
+    ensures begins { (qv : Query) (a : Reading) (raw : Branch) (s : State Task) → IsRunning qv machine.old a raw s → IsAtGoal machine.old a place (Flat.Not goals free) behind raw → (cs : List Named) → HearsFirst cs (map W.seen crowd.old.watchers.now.items) (map W.seen crowd.new.watchers.now.items) s }
+    ensures within { OnOk result ((qv : Query) (a : Reading) (raw : Branch) (s : State Task) → IsRunning qv machine.old a raw s → IsAtGoal machine.old a place (Flat.Not goals free) behind raw → CountsFirst machine.old machine.new s) }
     ensures same { crowd.new.watchers.ghost_name ≡ crowd.old.watchers.ghost_name }
     ensures written { IfOk result (λ turn. turn ≡ Turn.On → WritesList machine.old machine.new place [] goals) }
     ensures program { OnOk result (KeepsProgram machine.old machine.new) }

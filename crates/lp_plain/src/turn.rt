@@ -1,5 +1,5 @@
 // The next goal of the branch at work, and the way back to an alternative.
-ghost use Rattle.std.specs.Prelude.{◌≡◌, ℕ, suc, true, false, Bool, ◌∷◌, ◌++◌, ◌<◌, ◌≤◌, [], List, map, drop, length, Option, None, IfOk, OnOk, Some, slice_get};
+ghost use Rattle.std.specs.Prelude.{◌≡◌, ℕ, suc, ◌+◌, true, false, Bool, ◌∷◌, ◌++◌, ◌<◌, ◌≤◌, [], List, map, drop, length, Option, None, IfOk, OnOk, Some, slice_get};
 ghost use Rattle.lp_model.specs.Branch.{Answer, Branch, Task};
 ghost use Rattle.lp_model.specs.Flat.{Clause, Goals};
 ghost use Rattle.lp_model.specs.Skeleton.{Inner, State};
@@ -15,12 +15,12 @@ ghost use Rattle.lp_plain.specs.Assuming.{KeepsAssumed};
 ghost use Rattle.lp_standard.specs.Connectives.{connective_of};
 ghost use Rattle.lp_term.specs.Nodes.{Nodes, tree};
 ghost use Rattle.lp_model.specs.Connected.{connective_in};
-ghost use Rattle.lp_plain.specs.AtRunTime.{AreWrittenGoals, IsAtomFirst, IsAtomForm, IsAtomOrNoForm, IsWrittenFlat};
+ghost use Rattle.lp_plain.specs.AtRunTime.{AreWrittenGoals, IsAtTerm, IsAtomFirst, IsAtomForm, IsAtomOrNoForm, IsWrittenFlat};
 ghost use Rattle.lp_plain.specs.Calling.{IsFirstIn, LeadsOf, TellsOn, TermTurns, WrittenBehind};
 ghost use Rattle.lp_plain.specs.Denials.{IsDeniedFirst, IsHeldBy, IsRefutedBy, TakesDenied};
 ghost use Rattle.lp_plain.specs.Entries.{Around, KeepsGoals};
 ghost use Rattle.lp_plain.specs.Forms.{StandsForm};
-ghost use Rattle.lp_plain.specs.Hearing.{HeardBy, Hears, back_in};
+ghost use Rattle.lp_plain.specs.Hearing.{HeardBy, Hears, HearsPart, back_in};
 ghost use Rattle.lp_model.specs.declared.program.Declared.{Declared as Named};
 ghost use Rattle.lp_plain.specs.Marks.{AreMarked, IsMarked, Marks, PutsAside, PutsMarks, SetsAside};
 ghost use Rattle.lp_plain.specs.Moving.{IsBack, IsAtGoal, IsAtGoals, IsPlainFirst, IsRunning, IsState, LeadsTo, MovesTo, Query, Tally, quiet};
@@ -32,6 +32,7 @@ ghost use Rattle.lp_plain.specs.Taking.{FirstIsApart, IsApartFirst, IsApartFlat,
 ghost use Rattle.lp_plain.specs.Turns.{IsGoalTurn, KeepsProgram};
 ghost use Rattle.lp_plain.specs.Within.{StandsIn};
 ghost use Rattle.lp_plain.specs.WrittenSearch.{IsApartAtHand, IsWrittenSearch, WritesFlat, WritesGoals};
+ghost use Rattle.lp_plain.specs.inner.Beginning.{CountsFirst, HearsFirst};
 ghost use Rattle.lp_plain.specs.inner.Following.{Course, Follows, Leaves, Stands};
 
 use crate::act::Act;
@@ -70,6 +71,8 @@ fn take_flat<W: Watch>(
     ensures ends { IfOk result IsGoalTurn }
     ensures denied_stays { IfOk result (λ turn. (a : Around) (raw : Branch) → IsAtGoal machine.old a place goal behind raw → IsDeniedFirst raw.goals → (ar : ℕ → ℕ) → StandsIn machine.old → IsWrittenFlat machine.old ar place goal → IsWrittenSearch machine.old ar → turn ≡ Turn.On → IsWrittenSearch machine.new ar) }
     ensures denies { IfOk result (λ turn. (qv : Query) (a : Around) (raw : Branch) (s : State Task) (h : IsRunning qv machine.old a raw s) → IsAtGoal machine.old a place goal behind raw → IsDeniedFirst raw.goals → TellsOn (HeardBy constants.now machine.old machine.new (map W.seen crowd.old.watchers.now.items) (map W.seen crowd.new.watchers.now.items)) (λ x. TakesDenied x turn qv machine.new s h.at_work.goals)) }
+    ensures begins { (qv : Query) (a : Around) (raw : Branch) (s : State Task) → IsRunning qv machine.old a raw s → IsAtGoal machine.old a place goal behind raw → IsWrittenFlat machine.old qv.arity place goal → HearsFirst constants.now (map W.seen crowd.old.watchers.now.items) (map W.seen crowd.new.watchers.now.items) s }
+    ensures within { OnOk result ((qv : Query) (a : Around) (raw : Branch) (s : State Task) → IsRunning qv machine.old a raw s → IsAtGoal machine.old a place goal behind raw → IsWrittenFlat machine.old qv.arity place goal → CountsFirst machine.old machine.new s) }
     ensures same { crowd.new.watchers.ghost_name ≡ crowd.old.watchers.ghost_name }
 {
     match goal {
@@ -139,6 +142,8 @@ fn take_term<W: Watch>(
     ensures leads { IfOk result (TermTurns (HeardBy constants.now machine.old machine.new (map W.seen crowd.old.watchers.now.items) (map W.seen crowd.new.watchers.now.items)) machine.old machine.new place term behind) }
     ensures program { OnOk result (KeepsProgram machine.old machine.new) }
     ensures ends { IfOk result IsGoalTurn }
+    ensures begins { (qv : Query) (a : Around) (raw : Branch) (s : State Task) → IsRunning qv machine.old a raw s → IsAtTerm machine.old a place term behind raw → HearsFirst constants.now (map W.seen crowd.old.watchers.now.items) (map W.seen crowd.new.watchers.now.items) s }
+    ensures within { OnOk result ((qv : Query) (a : Around) (raw : Branch) (s : State Task) → IsRunning qv machine.old a raw s → IsAtTerm machine.old a place term behind raw → CountsFirst machine.old machine.new s) }
     ensures same { crowd.new.watchers.ghost_name ≡ crowd.old.watchers.ghost_name }
 {
     let Some(goal) = head_normal(machine, term)? else {
@@ -175,6 +180,8 @@ fn take_first<W: Watch>(
     ensures ends { IfOk result IsGoalTurn }
     ensures denied_stays { IfOk result (λ turn. (a : Around) (raw : Branch) → IsAtGoals machine.old a place goals behind raw → IsDeniedFirst raw.goals → (ar : ℕ → ℕ) → StandsIn machine.old → AreWrittenGoals machine.old ar place goals → IsWrittenSearch machine.old ar → turn ≡ Turn.On → IsWrittenSearch machine.new ar) }
     ensures denies { IfOk result (λ turn. (qv : Query) (a : Around) (raw : Branch) (s : State Task) (h : IsRunning qv machine.old a raw s) → IsAtGoals machine.old a place goals behind raw → IsDeniedFirst raw.goals → TellsOn (HeardBy constants.now machine.old machine.new (map W.seen crowd.old.watchers.now.items) (map W.seen crowd.new.watchers.now.items)) (λ x. TakesDenied x turn qv machine.new s h.at_work.goals)) }
+    ensures begins { (qv : Query) (a : Around) (raw : Branch) (s : State Task) → IsRunning qv machine.old a raw s → IsAtGoals machine.old a place goals behind raw → AreWrittenGoals machine.old qv.arity place goals → HearsFirst constants.now (map W.seen crowd.old.watchers.now.items) (map W.seen crowd.new.watchers.now.items) s }
+    ensures within { OnOk result ((qv : Query) (a : Around) (raw : Branch) (s : State Task) → IsRunning qv machine.old a raw s → IsAtGoals machine.old a place goals behind raw → AreWrittenGoals machine.old qv.arity place goals → CountsFirst machine.old machine.new s) }
     ensures same { crowd.new.watchers.ghost_name ≡ crowd.old.watchers.ghost_name }
 {
     let goal = machine.table.goal(goals.from)?;
@@ -210,6 +217,8 @@ pub(crate) fn take_goal<W: Watch>(
     ensures leads { IfOk result (λ turn. (qv : Query) (s : State Task) (h : IsState qv machine.old s) → IsAtomFirst h.raw.goals → IsWrittenSearch machine.old qv.arity → TellsOn (HeardBy constants.now machine.old machine.new (map W.seen crowd.old.watchers.now.items) (map W.seen crowd.new.watchers.now.items)) (λ x. LeadsOf x machine.old machine.new qv turn s)) }
     ensures denies { IfOk result (λ turn. (qv : Query) (s : State Task) (h : IsState qv machine.old s) → IsDeniedFirst h.raw.goals → TellsOn (HeardBy constants.now machine.old machine.new (map W.seen crowd.old.watchers.now.items) (map W.seen crowd.new.watchers.now.items)) (λ x. TakesDenied x turn qv machine.new s h.running.at_work.goals)) }
     ensures held { IfOk result (λ turn. (qv : Query) (s : State Task) → IsState qv machine.old s → machine.old.branch.goals ≡ None → (number : ℕ) → machine.old.denied ≡ Some number → HeardBy constants.now machine.old machine.new (map W.seen crowd.old.watchers.now.items) (map W.seen crowd.new.watchers.now.items) quiet × IsHeldBy qv turn machine.new s) }
+    ensures begins { (c : Course) (x : Tally) → Stands c x Turn.On machine.old → HearsPart constants.now x.notes (map W.seen crowd.old.watchers.now.items) (map W.seen crowd.new.watchers.now.items) }
+    ensures within { OnOk result ((c : Course) (x : Tally) → Stands c x Turn.On machine.old → machine.new.counts.steps ≤ machine.old.counts.steps + x.steps) }
     ensures same { crowd.new.watchers.ghost_name ≡ crowd.old.watchers.ghost_name }
 {
     let Some(number) = machine.branch.goals else {
@@ -231,6 +240,7 @@ pub(crate) fn take_goal<W: Watch>(
 /// Tells that the search goes back to an alternative, where there is one.
 pub(crate) fn tell_back<W: Watch>(machine: &Machine, crowd: &mut Crowd<'_, W>) -> Result<(), Memory>
     ensures told { OnOk result ((cs : List Named) → Hears cs (back_in machine.now) (map W.seen crowd.old.watchers.now.items) (map W.seen crowd.new.watchers.now.items)) }
+    ensures part { (cs : List Named) → HearsPart cs (back_in machine.now) (map W.seen crowd.old.watchers.now.items) (map W.seen crowd.new.watchers.now.items) }
     ensures same { crowd.new.watchers.ghost_name ≡ crowd.old.watchers.ghost_name }
 {
     if machine.has_choice() {

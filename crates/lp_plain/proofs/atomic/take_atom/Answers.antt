@@ -23,6 +23,8 @@ use Rattle.lp_plain.proofs.CallForms.{call_turn}
 use Rattle.lp_plain.proofs.ProgramKept.{bound_keeps, goals_keep, only_keeps, program_same, program_then, unified_ends}
 use Rattle.lp_plain.proofs.StepTaken.{going_behind, step_kept}
 use Rattle.lp_plain.proofs.WrittenTurns.{bound_written, only_bound, step_stands, step_written}
+use Rattle.std.proofs.Common.{inl, inr}
+use Rattle.lp_plain.proofs.AtomTells.{atom_tells}
 use Rattle.lp_plain.proofs.atomic.take_atom.Goals as goal
 
 -- with its step and note
@@ -235,3 +237,213 @@ returns-in_ok-turn-in-Order-clause-ends g c = compared_ends (going_behind c.take
 
 pub returns-in_ok-turn-in-Call-clause-ends : goal.returns-in_ok-turn-in-Call-clause-ends
 returns-in_ok-turn-in-Call-clause-ends g c = c.in_ok-turn-in-Call.ensures.ends
+
+pub returns-then-not-take_step-clause-begins : goal.returns-then-not-take_step-clause-begins
+returns-then-not-take_step-clause-begins g c = λ qv a raw s h at i. inl refl
+
+pub returns-in_err-tell_goal-clause-begins : goal.returns-in_err-tell_goal-clause-begins
+returns-in_err-tell_goal-clause-begins g c = λ qv a raw s h at i.
+    let m = c.args.machine.now in
+    let t = c.if-not-take_step.ensures in
+    let o = c.args.behind in
+    inr (
+      GoalNote (form_name c.args.form),
+      atom_tells qv m (going_behind c.take_step.new.machine o) a raw s h c.args.place c.args.goal o at (step_kept m c.take_step.new.machine o t.goals t.assumed t.frames t.denied t.branch)
+          t.choices (t.counts refl) (t.there refl) c.args.form i,
+      c.tell_goal.ensures.part,
+    )
+
+pub returns-in_err-unified-in-Equal-clause-begins : goal.returns-in_err-unified-in-Equal-clause-begins
+returns-in_err-unified-in-Equal-clause-begins g c = λ qv a raw s h at i.
+    let m = c.args.machine.now in
+    let t = c.if-not-take_step.ensures in
+    let o = c.args.behind in
+    inr (
+      GoalNote (form_name c.args.form),
+      atom_tells qv m (going_behind c.take_step.new.machine o) a raw s h c.args.place c.args.goal o at (step_kept m c.take_step.new.machine o t.goals t.assumed t.frames t.denied t.branch)
+          t.choices (t.counts refl) (t.there refl) c.args.form i,
+      c.tell_goal.ensures.part,
+    )
+
+pub returns-in_err-turn-in-Is-clause-begins : goal.returns-in_err-turn-in-Is-clause-begins
+returns-in_err-turn-in-Is-clause-begins g c = λ qv a raw s h at i.
+    let m = c.args.machine.now in
+    let t = c.if-not-take_step.ensures in
+    let o = c.args.behind in
+    inr (
+      GoalNote (form_name c.args.form),
+      atom_tells qv m (going_behind c.take_step.new.machine o) a raw s h c.args.place c.args.goal o at (step_kept m c.take_step.new.machine o t.goals t.assumed t.frames t.denied t.branch)
+          t.choices (t.counts refl) (t.there refl) c.args.form i,
+      c.tell_goal.ensures.part,
+    )
+
+pub returns-in_err-turn-in-Order-clause-begins : goal.returns-in_err-turn-in-Order-clause-begins
+returns-in_err-turn-in-Order-clause-begins g c = λ qv a raw s h at i.
+    let m = c.args.machine.now in
+    let t = c.if-not-take_step.ensures in
+    let o = c.args.behind in
+    inr (
+      GoalNote (form_name c.args.form),
+      atom_tells qv m (going_behind c.take_step.new.machine o) a raw s h c.args.place c.args.goal o at (step_kept m c.take_step.new.machine o t.goals t.assumed t.frames t.denied t.branch)
+          t.choices (t.counts refl) (t.there refl) c.args.form i,
+      c.tell_goal.ensures.part,
+    )
+
+pub returns-in_err-turn-in-Call-clause-begins : goal.returns-in_err-turn-in-Call-clause-begins
+returns-in_err-turn-in-Call-clause-begins g c = λ qv a raw s h at i.
+    let m = c.args.machine.now in
+    let t = c.if-not-take_step.ensures in
+    let o = c.args.behind in
+    inr (
+      GoalNote (form_name c.args.form),
+      atom_tells qv m (going_behind c.take_step.new.machine o) a raw s h c.args.place c.args.goal o at (step_kept m c.take_step.new.machine o t.goals t.assumed t.frames t.denied t.branch)
+          t.choices (t.counts refl) (t.there refl) c.args.form i,
+      c.tell_goal.ensures.part,
+    )
+
+pub returns-in_ok-unified-in-Equal-clause-begins : goal.returns-in_ok-unified-in-Equal-clause-begins
+returns-in_ok-unified-in-Equal-clause-begins g c = λ qv a raw s h at i.
+    let m = c.args.machine.now in
+    let t = c.if-not-take_step.ensures in
+    let o = c.args.behind in
+    inr (
+      GoalNote (form_name c.args.form),
+      atom_tells qv m (going_behind c.take_step.new.machine o) a raw s h c.args.place c.args.goal o at (step_kept m c.take_step.new.machine o t.goals t.assumed t.frames t.denied t.branch)
+          t.choices (t.counts refl) (t.there refl) c.args.form i,
+      c.tell_goal.ensures.part,
+    )
+
+pub returns-in_ok-turn-in-Is-clause-begins : goal.returns-in_ok-turn-in-Is-clause-begins
+returns-in_ok-turn-in-Is-clause-begins g c = λ qv a raw s h at i.
+    let m = c.args.machine.now in
+    let t = c.if-not-take_step.ensures in
+    let o = c.args.behind in
+    inr (
+      GoalNote (form_name c.args.form),
+      atom_tells qv m (going_behind c.take_step.new.machine o) a raw s h c.args.place c.args.goal o at (step_kept m c.take_step.new.machine o t.goals t.assumed t.frames t.denied t.branch)
+          t.choices (t.counts refl) (t.there refl) c.args.form i,
+      c.tell_goal.ensures.part,
+    )
+
+pub returns-in_ok-turn-in-Order-clause-begins : goal.returns-in_ok-turn-in-Order-clause-begins
+returns-in_ok-turn-in-Order-clause-begins g c = λ qv a raw s h at i.
+    let m = c.args.machine.now in
+    let t = c.if-not-take_step.ensures in
+    let o = c.args.behind in
+    inr (
+      GoalNote (form_name c.args.form),
+      atom_tells qv m (going_behind c.take_step.new.machine o) a raw s h c.args.place c.args.goal o at (step_kept m c.take_step.new.machine o t.goals t.assumed t.frames t.denied t.branch)
+          t.choices (t.counts refl) (t.there refl) c.args.form i,
+      c.tell_goal.ensures.part,
+    )
+
+pub returns-in_ok-turn-in-Call-clause-begins : goal.returns-in_ok-turn-in-Call-clause-begins
+returns-in_ok-turn-in-Call-clause-begins g c = λ qv a raw s h at i.
+    let m = c.args.machine.now in
+    let t = c.if-not-take_step.ensures in
+    let o = c.args.behind in
+    inr (
+      GoalNote (form_name c.args.form),
+      atom_tells qv m (going_behind c.take_step.new.machine o) a raw s h c.args.place c.args.goal o at (step_kept m c.take_step.new.machine o t.goals t.assumed t.frames t.denied t.branch)
+          t.choices (t.counts refl) (t.there refl) c.args.form i,
+      c.tell_goal.ensures.part,
+    )
+
+pub returns-in-Flexible-clause-begins : goal.returns-in-Flexible-clause-begins
+returns-in-Flexible-clause-begins g c = λ qv a raw s h at i.
+    let m = c.args.machine.now in
+    let t = c.if-not-take_step.ensures in
+    let o = c.args.behind in
+    inr (
+      GoalNote (form_name c.args.form),
+      atom_tells qv m (going_behind c.take_step.new.machine o) a raw s h c.args.place c.args.goal o at (step_kept m c.take_step.new.machine o t.goals t.assumed t.frames t.denied t.branch)
+          t.choices (t.counts refl) (t.there refl) c.args.form i,
+      c.tell_goal.ensures.part,
+    )
+
+pub returns-in-Other-clause-begins : goal.returns-in-Other-clause-begins
+returns-in-Other-clause-begins g c = λ qv a raw s h at i.
+    let m = c.args.machine.now in
+    let t = c.if-not-take_step.ensures in
+    let o = c.args.behind in
+    inr (
+      GoalNote (form_name c.args.form),
+      atom_tells qv m (going_behind c.take_step.new.machine o) a raw s h c.args.place c.args.goal o at (step_kept m c.take_step.new.machine o t.goals t.assumed t.frames t.denied t.branch)
+          t.choices (t.counts refl) (t.there refl) c.args.form i,
+      c.tell_goal.ensures.part,
+    )
+
+pub returns-then-not-take_step-clause-within : goal.returns-then-not-take_step-clause-within
+returns-then-not-take_step-clause-within g c = λ qv a raw s h at i. inl (ap (λ z. z.counts.steps) (c.if-not-take_step.ensures.spent refl).0)
+
+pub returns-in_ok-unified-in-Equal-clause-within : goal.returns-in_ok-unified-in-Equal-clause-within
+returns-in_ok-unified-in-Equal-clause-within g c = λ qv a raw s h at i.
+    let m = c.args.machine.now in
+    let t = c.if-not-take_step.ensures in
+    let o = c.args.behind in
+    inr (
+      ap (λ z. z.steps) (c.in_ok-unified-in-Equal.ensures.bound.counts ∙ t.counts refl),
+      GoalNote (form_name c.args.form),
+      atom_tells qv m (going_behind c.take_step.new.machine o) a raw s h c.args.place c.args.goal o at (step_kept m c.take_step.new.machine o t.goals t.assumed t.frames t.denied t.branch)
+          t.choices (t.counts refl) (t.there refl) c.args.form i,
+    )
+
+pub returns-in_ok-turn-in-Is-clause-within : goal.returns-in_ok-turn-in-Is-clause-within
+returns-in_ok-turn-in-Is-clause-within g c = λ qv a raw s h at i.
+    let m = c.args.machine.now in
+    let t = c.if-not-take_step.ensures in
+    let o = c.args.behind in
+    inr (
+      ap (λ z. z.steps) (c.in_ok-turn-in-Is.ensures.bound.counts ∙ t.counts refl),
+      GoalNote (form_name c.args.form),
+      atom_tells qv m (going_behind c.take_step.new.machine o) a raw s h c.args.place c.args.goal o at (step_kept m c.take_step.new.machine o t.goals t.assumed t.frames t.denied t.branch)
+          t.choices (t.counts refl) (t.there refl) c.args.form i,
+    )
+
+pub returns-in_ok-turn-in-Order-clause-within : goal.returns-in_ok-turn-in-Order-clause-within
+returns-in_ok-turn-in-Order-clause-within g c = λ qv a raw s h at i.
+    let m = c.args.machine.now in
+    let t = c.if-not-take_step.ensures in
+    let o = c.args.behind in
+    inr (
+      ap (λ z. z.counts.steps) c.in_ok-turn-in-Order.ensures.only.same ∙ ap (λ z. z.steps) (t.counts refl),
+      GoalNote (form_name c.args.form),
+      atom_tells qv m (going_behind c.take_step.new.machine o) a raw s h c.args.place c.args.goal o at (step_kept m c.take_step.new.machine o t.goals t.assumed t.frames t.denied t.branch)
+          t.choices (t.counts refl) (t.there refl) c.args.form i,
+    )
+
+pub returns-in_ok-turn-in-Call-clause-within : goal.returns-in_ok-turn-in-Call-clause-within
+returns-in_ok-turn-in-Call-clause-within g c = λ qv a raw s h at i.
+    let m = c.args.machine.now in
+    let t = c.if-not-take_step.ensures in
+    let o = c.args.behind in
+    inr (
+      c.in_ok-turn-in-Call.ensures.steps ∙ ap (λ z. z.steps) (t.counts refl),
+      GoalNote (form_name c.args.form),
+      atom_tells qv m (going_behind c.take_step.new.machine o) a raw s h c.args.place c.args.goal o at (step_kept m c.take_step.new.machine o t.goals t.assumed t.frames t.denied t.branch)
+          t.choices (t.counts refl) (t.there refl) c.args.form i,
+    )
+
+pub returns-in-Flexible-clause-within : goal.returns-in-Flexible-clause-within
+returns-in-Flexible-clause-within g c = λ qv a raw s h at i.
+    let m = c.args.machine.now in
+    let t = c.if-not-take_step.ensures in
+    let o = c.args.behind in
+    inr (
+      ap (λ z. z.steps) (t.counts refl),
+      GoalNote (form_name c.args.form),
+      atom_tells qv m (going_behind c.take_step.new.machine o) a raw s h c.args.place c.args.goal o at (step_kept m c.take_step.new.machine o t.goals t.assumed t.frames t.denied t.branch)
+          t.choices (t.counts refl) (t.there refl) c.args.form i,
+    )
+
+pub returns-in-Other-clause-within : goal.returns-in-Other-clause-within
+returns-in-Other-clause-within g c = λ qv a raw s h at i.
+    let m = c.args.machine.now in
+    let t = c.if-not-take_step.ensures in
+    let o = c.args.behind in
+    inr (
+      ap (λ z. z.steps) (t.counts refl),
+      GoalNote (form_name c.args.form),
+      atom_tells qv m (going_behind c.take_step.new.machine o) a raw s h c.args.place c.args.goal o at (step_kept m c.take_step.new.machine o t.goals t.assumed t.frames t.denied t.branch)
+          t.choices (t.counts refl) (t.there refl) c.args.form i,
+    )

@@ -14,6 +14,9 @@ use Rattle.lp_plain.proofs.Growing.{grows_kept}
 use Rattle.lp_plain.proofs.Opening.{same_stands}
 use Rattle.lp_plain.proofs.WrittenSearches.{search_cut, search_same}
 use Rattle.lp_plain.proofs.ProgramKept.{goals_keep, program_same}
+use Rattle.std.proofs.Common.{inl, inr}
+use Rattle.lp_plain.proofs.CutMoves.{cut_tells}
+use Rattle.lp_plain.proofs.HeardParts.{told_part}
 use Rattle.lp_plain.proofs.atomic.take_cut.Goals as goal
 
 pub returns-clause-cuts : goal.returns-clause-cuts
@@ -111,3 +114,30 @@ returns-clause-program g c =
 
 pub returns-then-not-take_step-clause-program : goal.returns-then-not-take_step-clause-program
 returns-then-not-take_step-clause-program g c = program_same c.args.machine.now c.take_step.new.machine (c.if-not-take_step.ensures.spent refl).0
+
+pub returns-then-not-take_step-clause-begins : goal.returns-then-not-take_step-clause-begins
+returns-then-not-take_step-clause-begins g c = λ qv a raw s h at cs. inl refl
+
+pub returns-in_err-tell-clause-begins : goal.returns-in_err-tell-clause-begins
+returns-in_err-tell-clause-begins g c = λ qv a raw s h at cs. inr (
+  CutNote,
+  cut_tells qv c.args.machine.now c.args.place c.args.behind (c.if-not-take_step.ensures.there refl) a raw s h at,
+  told_part cs c.tell.result CutNote _ _ _ refl c.tell.ensures.told c.tell.ensures.memory,
+)
+
+pub returns-clause-begins : goal.returns-clause-begins
+returns-clause-begins g c = λ qv a raw s h at cs. inr (
+  CutNote,
+  cut_tells qv c.args.machine.now c.args.place c.args.behind (c.if-not-take_step.ensures.there refl) a raw s h at,
+  told_part cs c.tell.result CutNote _ _ _ refl c.tell.ensures.told c.tell.ensures.memory,
+)
+
+pub returns-then-not-take_step-clause-within : goal.returns-then-not-take_step-clause-within
+returns-then-not-take_step-clause-within g c = λ qv a raw s h at. inl (ap (λ z. z.counts.steps) (c.if-not-take_step.ensures.spent refl).0)
+
+pub returns-clause-within : goal.returns-clause-within
+returns-clause-within g c = λ qv a raw s h at. inr (
+  ap (λ z. z.steps) (c.cut.ensures.counts ∙ ap (λ z. cut_off z (nat_lt c.args.place.mark (length c.take_step.new.machine.choices.items))) (c.if-not-take_step.ensures.counts refl)),
+  CutNote,
+  cut_tells qv c.args.machine.now c.args.place c.args.behind (c.if-not-take_step.ensures.there refl) a raw s h at,
+)

@@ -1,12 +1,15 @@
 use Rattle.std.proofs.Common.{◌∙◌, map, refl, subst}
 use Rattle.lp_plain.specs.inner.Following.{Passes}
 use Rattle.lp_plain.proofs.Passing.{passes_back, passes_first, passes_on}
+use Rattle.lp_plain.proofs.HeardParts.{part_none, parts_behind}
+use Rattle.std.proofs.Common.{arith}
+use Rattle.lp_plain.proofs.Beginning.{both_within}
 use Rattle.lp_plain.proofs.events.run.Goals as goal
 
 pub turns-init : goal.turns-init
 turns-init g c =
     let old = map g.W.Watch.seen c.args.crowd.now.watchers.now.items in
-    ((λ k x h. passes_first k c.args.constants.now x c.args.machine.now old c.args.first h), refl)
+    ((λ k x h. passes_first k c.args.constants.now x c.args.machine.now old c.args.first h), refl, λ k x h. part_none c.args.constants.now x.notes old old refl, λ k x h. omega arith)
 
 pub turns-preserved-in-On : goal.turns-preserved-in-On
 turns-preserved-in-On g c =
@@ -17,6 +20,13 @@ turns-preserved-in-On g c =
           passes_on k c.args.constants.now x c.args.machine.now c.turns.machine c.take_turn.new.machine old mid new c.turns.turn c.in_ok-turn-in-On.turn c.in-On.is
           (c.turns.invariant.0 k x h) (λ z s. c.in_ok-turn-in-On.ensures.stands k z s)),
       c.take_turn.ensures.same ∙ c.turns.invariant.1,
+      λ k x h.
+          let cs = c.args.constants.now in
+          let p = subst (Passes k cs x c.args.machine.now c.turns.machine old mid) c.in-On.is (c.turns.invariant.0 k x h) in
+          parts_behind cs x p.0 p.2.0 old mid new p.2.1 p.1.1 (c.take_turn.ensures.begins k p.2.0 p.2.2),
+      λ k x h.
+          let p = subst (Passes k c.args.constants.now x c.args.machine.now c.turns.machine old mid) c.in-On.is (c.turns.invariant.0 k x h) in
+          both_within x p.0 p.2.0 c.args.machine.now.counts.steps c.turns.machine.counts.steps c.take_turn.new.machine.counts.steps p.2.1 p.1.0 (c.in_ok-turn-in-On.ensures.within k p.2.0 p.2.2),
     )
 
 pub turns-preserved : goal.turns-preserved
@@ -28,6 +38,13 @@ turns-preserved g c =
           passes_back k c.args.constants.now x c.args.machine.now c.turns.machine c.take_turn-in-Back.new.machine old mid new c.turns.turn c.in_ok-turn-in-Back.turn c.in-Back.is
           (c.turns.invariant.0 k x h) (λ z s. c.in_ok-turn-in-Back.ensures.stands k z s)),
       c.take_turn-in-Back.ensures.same ∙ c.turns.invariant.1,
+      λ k x h.
+          let cs = c.args.constants.now in
+          let p = subst (Passes k cs x c.args.machine.now c.turns.machine old mid) c.in-Back.is (c.turns.invariant.0 k x h) in
+          parts_behind cs x p.0 p.2.0 old mid new p.2.1 p.1.1 (c.take_turn-in-Back.ensures.begins k p.2.0 p.2.2),
+      λ k x h.
+          let p = subst (Passes k c.args.constants.now x c.args.machine.now c.turns.machine old mid) c.in-Back.is (c.turns.invariant.0 k x h) in
+          both_within x p.0 p.2.0 c.args.machine.now.counts.steps c.turns.machine.counts.steps c.take_turn-in-Back.new.machine.counts.steps p.2.1 p.1.0 (c.in_ok-turn-in-Back.ensures.within k p.2.0 p.2.2),
     )
 
 pub returns-in-Answered-clause-stands : goal.returns-in-Answered-clause-stands
@@ -56,3 +73,30 @@ returns-in_err-turn-in-Back-clause-same g c = c.take_turn-in-Back.ensures.same �
 
 pub returns-clause-same : goal.returns-clause-same
 returns-clause-same g c = c.turns.invariant.1
+
+pub returns-in_err-turn-in-On-clause-begins : goal.returns-in_err-turn-in-On-clause-begins
+returns-in_err-turn-in-On-clause-begins g c = λ k x h.
+    let cs = c.args.constants.now in
+    let p = subst (Passes k cs x c.args.machine.now c.turns.machine _ _) c.in-On.is (c.turns.invariant.0 k x h) in
+    parts_behind cs x p.0 p.2.0 _ _ _ p.2.1 p.1.1 (c.take_turn.ensures.begins k p.2.0 p.2.2)
+
+pub returns-in_err-turn-in-Back-clause-begins : goal.returns-in_err-turn-in-Back-clause-begins
+returns-in_err-turn-in-Back-clause-begins g c = λ k x h.
+    let cs = c.args.constants.now in
+    let p = subst (Passes k cs x c.args.machine.now c.turns.machine _ _) c.in-Back.is (c.turns.invariant.0 k x h) in
+    parts_behind cs x p.0 p.2.0 _ _ _ p.2.1 p.1.1 (c.take_turn-in-Back.ensures.begins k p.2.0 p.2.2)
+
+pub returns-in-Answered-clause-begins : goal.returns-in-Answered-clause-begins
+returns-in-Answered-clause-begins g c = c.turns.invariant.2
+
+pub returns-in-Ended-clause-begins : goal.returns-in-Ended-clause-begins
+returns-in-Ended-clause-begins g c = c.turns.invariant.2
+
+pub returns-clause-begins : goal.returns-clause-begins
+returns-clause-begins g c = c.turns.invariant.2
+
+pub returns-in-Answered-clause-within : goal.returns-in-Answered-clause-within
+returns-in-Answered-clause-within g c = c.turns.invariant.3
+
+pub returns-in-Ended-clause-within : goal.returns-in-Ended-clause-within
+returns-in-Ended-clause-within g c = c.turns.invariant.3

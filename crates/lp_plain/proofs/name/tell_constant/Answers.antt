@@ -1,6 +1,11 @@
 use Rattle.std.proofs.Common.{◌∙◌, arith, map, sym}
 use Rattle.std.proofs.lemmas.Result.{on_ok_weaker}
 use Rattle.lp_plain.proofs.Hearing.{heard_unknown}
+use Rattle.std.proofs.Common.{ap}
+use Rattle.lp_model.specs.Skeleton.{GoalNote, named}
+use Rattle.lp_watch.specs.Notes.{goal as told_goal}
+use Rattle.lp_plain.specs.Hearing.{constant_text}
+use Rattle.lp_plain.proofs.HeardParts.{part_unknown, told_part}
 use Rattle.lp_plain.proofs.name.tell_constant.Goals as goal
 
 pub returns-in-None-clause-told : goal.returns-in-None-clause-told
@@ -11,3 +16,14 @@ returns-in-None-clause-told g c =
     on_ok_weaker c.tell_variable.result
     (λ f. heard_unknown cs old new c.args.number (sym c.from_number.ensures ∙ c.in_default.is)
     (let l = c.in-None.ensures.lookup.3 in let s = c.saturating_sub-place.ensures in omega (arith, l, s)) (f cs)) c.tell_variable.ensures.told
+
+pub returns-in-Some-clause-part : goal.returns-in-Some-clause-part
+returns-in-Some-clause-part g c =
+    told_part c.args.constants.now c.tell.result (GoalNote (named c.args.number)) _ _ _
+    (ap told_goal (c.name.ensures ∙ sym (ap (constant_text c.args.constants.now c.args.number) (sym c.from_number.ensures ∙ c.in-Some.is)))) c.tell.ensures.told c.tell.ensures.memory
+
+pub returns-in-None-clause-part : goal.returns-in-None-clause-part
+returns-in-None-clause-part g c =
+    let cs = c.args.constants.now in
+    part_unknown cs _ _ c.args.number (sym c.from_number.ensures ∙ c.in_default.is)
+    (let l = c.in-None.ensures.lookup.3 in let s = c.saturating_sub-place.ensures in omega (arith, l, s)) (c.tell_variable.ensures.part cs)

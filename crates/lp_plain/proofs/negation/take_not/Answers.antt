@@ -21,6 +21,9 @@ use Rattle.lp_plain.specs.Cuts.{one_step, stepped}
 use Rattle.lp_plain.specs.Denials.{IsBegun}
 use Rattle.lp_plain.specs.HeadLooks.{with_bank}
 use Rattle.lp_plain.proofs.DenyTurns.{ends_at_steps, ends_deep, ends_open, search_begins}
+use Rattle.std.proofs.Common.{inl, inr}
+use Rattle.lp_plain.proofs.DenyTurns.{not_tells}
+use Rattle.lp_plain.proofs.HeardParts.{told_part}
 use Rattle.lp_plain.proofs.negation.take_not.Goals as goal
 
 pub returns-in-Deep-clause-takes : goal.returns-in-Deep-clause-takes
@@ -143,3 +146,72 @@ returns-in_ok-begin-in-Closed-clause-denies g c = λ qv a raw s h at.
             (found_before m t goals Closed c.take_step.ensures.known (subst (AreFound t goals) c.in-Closed.is c.in_ok-openness_at.ensures.found)),
       ),
     )
+
+pub returns-then-not-take_step-clause-begins : goal.returns-then-not-take_step-clause-begins
+returns-then-not-take_step-clause-begins g c = λ qv a raw s h at cs. inl refl
+
+pub returns-in_err-tell-clause-begins : goal.returns-in_err-tell-clause-begins
+returns-in_err-tell-clause-begins g c = λ qv a raw s h at cs. inr (
+  GoalNote (named not_constant),
+  not_tells qv c.args.machine.now a raw s h c.args.place c.args.goals c.args.free c.args.behind at (c.take_step.ensures.there c.if-not-take_step.false),
+  told_part cs c.tell.result (GoalNote (named not_constant)) _ _ _ (ap told_goal c.name.ensures) c.tell.ensures.told c.tell.ensures.memory,
+)
+
+pub returns-in_err-openness_at-clause-begins : goal.returns-in_err-openness_at-clause-begins
+returns-in_err-openness_at-clause-begins g c = λ qv a raw s h at cs. inr (
+  GoalNote (named not_constant),
+  not_tells qv c.args.machine.now a raw s h c.args.place c.args.goals c.args.free c.args.behind at (c.take_step.ensures.there c.if-not-take_step.false),
+  told_part cs c.tell.result (GoalNote (named not_constant)) _ _ _ (ap told_goal c.name.ensures) c.tell.ensures.told c.tell.ensures.memory,
+)
+
+pub returns-in-Deep-clause-begins : goal.returns-in-Deep-clause-begins
+returns-in-Deep-clause-begins g c = λ qv a raw s h at cs. inr (
+  GoalNote (named not_constant),
+  not_tells qv c.args.machine.now a raw s h c.args.place c.args.goals c.args.free c.args.behind at (c.take_step.ensures.there c.if-not-take_step.false),
+  told_part cs c.tell.result (GoalNote (named not_constant)) _ _ _ (ap told_goal c.name.ensures) c.tell.ensures.told c.tell.ensures.memory,
+)
+
+pub returns-in-Open-clause-begins : goal.returns-in-Open-clause-begins
+returns-in-Open-clause-begins g c = λ qv a raw s h at cs. inr (
+  GoalNote (named not_constant),
+  not_tells qv c.args.machine.now a raw s h c.args.place c.args.goals c.args.free c.args.behind at (c.take_step.ensures.there c.if-not-take_step.false),
+  told_part cs c.tell.result (GoalNote (named not_constant)) _ _ _ (ap told_goal c.name.ensures) c.tell.ensures.told c.tell.ensures.memory,
+)
+
+pub returns-in_err-begin-in-Closed-clause-begins : goal.returns-in_err-begin-in-Closed-clause-begins
+returns-in_err-begin-in-Closed-clause-begins g c = λ qv a raw s h at cs. inr (
+  GoalNote (named not_constant),
+  not_tells qv c.args.machine.now a raw s h c.args.place c.args.goals c.args.free c.args.behind at (c.take_step.ensures.there c.if-not-take_step.false),
+  told_part cs c.tell.result (GoalNote (named not_constant)) _ _ _ (ap told_goal c.name.ensures) c.tell.ensures.told c.tell.ensures.memory,
+)
+
+pub returns-in_ok-begin-in-Closed-clause-begins : goal.returns-in_ok-begin-in-Closed-clause-begins
+returns-in_ok-begin-in-Closed-clause-begins g c = λ qv a raw s h at cs. inr (
+  GoalNote (named not_constant),
+  not_tells qv c.args.machine.now a raw s h c.args.place c.args.goals c.args.free c.args.behind at (c.take_step.ensures.there c.if-not-take_step.false),
+  told_part cs c.tell.result (GoalNote (named not_constant)) _ _ _ (ap told_goal c.name.ensures) c.tell.ensures.told c.tell.ensures.memory,
+)
+
+pub returns-then-not-take_step-clause-within : goal.returns-then-not-take_step-clause-within
+returns-then-not-take_step-clause-within g c = λ qv a raw s h at. inl (ap (λ z. z.counts.steps) (c.if-not-take_step.ensures.spent refl).0)
+
+pub returns-in-Deep-clause-within : goal.returns-in-Deep-clause-within
+returns-in-Deep-clause-within g c = λ qv a raw s h at. inr (
+  ap (λ z. z.counts.steps) c.in_ok-openness_at.ensures.bank.same ∙ ap (λ z. z.counts.steps) (c.take_step.ensures.stepped c.if-not-take_step.false),
+  GoalNote (named not_constant),
+  not_tells qv c.args.machine.now a raw s h c.args.place c.args.goals c.args.free c.args.behind at (c.take_step.ensures.there c.if-not-take_step.false),
+)
+
+pub returns-in-Open-clause-within : goal.returns-in-Open-clause-within
+returns-in-Open-clause-within g c = λ qv a raw s h at. inr (
+  ap (λ z. z.counts.steps) c.in_ok-openness_at.ensures.bank.same ∙ ap (λ z. z.counts.steps) (c.take_step.ensures.stepped c.if-not-take_step.false),
+  GoalNote (named not_constant),
+  not_tells qv c.args.machine.now a raw s h c.args.place c.args.goals c.args.free c.args.behind at (c.take_step.ensures.there c.if-not-take_step.false),
+)
+
+pub returns-in_ok-begin-in-Closed-clause-within : goal.returns-in_ok-begin-in-Closed-clause-within
+returns-in_ok-begin-in-Closed-clause-within g c = λ qv a raw s h at. inr (
+  ap (λ z. z.steps) c.in_ok-begin-in-Closed.ensures.begun.counts ∙ (ap (λ z. z.counts.steps) c.in_ok-openness_at.ensures.bank.same ∙ ap (λ z. z.counts.steps) (c.take_step.ensures.stepped c.if-not-take_step.false)),
+  GoalNote (named not_constant),
+  not_tells qv c.args.machine.now a raw s h c.args.place c.args.goals c.args.free c.args.behind at (c.take_step.ensures.there c.if-not-take_step.false),
+)

@@ -16,6 +16,8 @@ use Rattle.lp_plain.proofs.ProgramKept.{goals_keep, program_then}
 use Rattle.lp_plain.proofs.WrittenSearches.{search_frame}
 use Rattle.lp_model.specs.Branch.{Branch}
 use Rattle.lp_plain.specs.Denials.{TakesDenied}
+use Rattle.std.proofs.Common.{inl}
+use Rattle.lp_plain.proofs.Beginning.{counts_from}
 use Rattle.lp_plain.proofs.turn.take_first.Goals as goal
 
 pub returns-then-count-le1-clause-taken : goal.returns-then-count-le1-clause-taken
@@ -201,3 +203,66 @@ returns-clause-denied_stays g c = λ a raw at df ar i w sw.
     c.in_ok-goal.ensures later refl f.goals f.assumed f.reads at) df ar (f.stands (omega (arith, c.if-count-le1.false, c.saturating_sub-count.ensures)) i)
     (flat_framed m q f.goals ar p c.in_ok-goal.goal (first_written m ar p c.args.goals c.in_ok-goal.goal c.in_ok-goal.ensures at.some w))
     (search_frame m q frame i f.goals f.assumed f.course.choices f.pushed (omega (arith, c.if-count-le1.false, c.saturating_sub-count.ensures)) ar w' sw)
+
+pub returns-in_err-goal-clause-begins : goal.returns-in_err-goal-clause-begins
+returns-in_err-goal-clause-begins g c = λ qv a raw s h at w. inl refl
+
+pub returns-in_err-rest-clause-begins : goal.returns-in_err-rest-clause-begins
+returns-in_err-rest-clause-begins g c = λ qv a raw s h at w. inl refl
+
+pub returns-in_err-turn-clause-begins : goal.returns-in_err-turn-clause-begins
+returns-in_err-turn-clause-begins g c = λ qv a raw s h at w.
+    let m = c.args.machine.now in
+    c.take_flat.ensures.begins qv a raw s h (at_last m a c.args.place c.args.goals c.args.behind raw c.in_ok-goal.goal c.in_ok-goal.ensures
+    (omega (arith, c.if-count-le1.true, c.saturating_sub-count.ensures)) at)
+    (first_written m qv.arity c.args.place c.args.goals c.in_ok-goal.goal c.in_ok-goal.ensures at.some w)
+
+pub returns-then-count-le1-clause-begins : goal.returns-then-count-le1-clause-begins
+returns-then-count-le1-clause-begins g c = λ qv a raw s h at w.
+    let m = c.args.machine.now in
+    c.take_flat.ensures.begins qv a raw s h (at_last m a c.args.place c.args.goals c.args.behind raw c.in_ok-goal.goal c.in_ok-goal.ensures
+    (omega (arith, c.if-count-le1.true, c.saturating_sub-count.ensures)) at)
+    (first_written m qv.arity c.args.place c.args.goals c.in_ok-goal.goal c.in_ok-goal.ensures at.some w)
+
+pub returns-in_err-turn-2-clause-begins : goal.returns-in_err-turn-2-clause-begins
+returns-in_err-turn-2-clause-begins g c = λ qv a raw s h at w.
+    let m = c.args.machine.now in
+    let q = c.put_frame.new.self in
+    let p = c.args.place in
+    let f = c.in_ok-rest.ensures in
+    let st = f.stands (omega (arith, c.if-count-le1.false, c.saturating_sub-count.ensures)) h.above.done.stands in
+    let others : Span = record { from = c.args.goals.from + 1; to = c.args.goals.to } in
+    c.take_flat-2.ensures.begins qv a raw s (running_framed qv m q a p raw s f.goals f.course f.assumed f.frame st at.place h)
+    (at_more m q a p c.args.goals others c.args.behind c.in_ok-rest.rest raw c.in_ok-goal.goal c.in_ok-goal.ensures (add-one c.args.goals.from) refl f.goals f.assumed f.reads at)
+    (flat_framed m q f.goals qv.arity p c.in_ok-goal.goal (first_written m qv.arity p c.args.goals c.in_ok-goal.goal c.in_ok-goal.ensures at.some w))
+
+pub returns-clause-begins : goal.returns-clause-begins
+returns-clause-begins g c = λ qv a raw s h at w.
+    let m = c.args.machine.now in
+    let q = c.put_frame.new.self in
+    let p = c.args.place in
+    let f = c.in_ok-rest.ensures in
+    let st = f.stands (omega (arith, c.if-count-le1.false, c.saturating_sub-count.ensures)) h.above.done.stands in
+    let others : Span = record { from = c.args.goals.from + 1; to = c.args.goals.to } in
+    c.take_flat-2.ensures.begins qv a raw s (running_framed qv m q a p raw s f.goals f.course f.assumed f.frame st at.place h)
+    (at_more m q a p c.args.goals others c.args.behind c.in_ok-rest.rest raw c.in_ok-goal.goal c.in_ok-goal.ensures (add-one c.args.goals.from) refl f.goals f.assumed f.reads at)
+    (flat_framed m q f.goals qv.arity p c.in_ok-goal.goal (first_written m qv.arity p c.args.goals c.in_ok-goal.goal c.in_ok-goal.ensures at.some w))
+
+pub returns-then-count-le1-clause-within : goal.returns-then-count-le1-clause-within
+returns-then-count-le1-clause-within g c = λ qv a raw s h at w.
+    let m = c.args.machine.now in
+    c.in_ok-turn.ensures.within qv a raw s h (at_last m a c.args.place c.args.goals c.args.behind raw c.in_ok-goal.goal c.in_ok-goal.ensures
+    (omega (arith, c.if-count-le1.true, c.saturating_sub-count.ensures)) at)
+    (first_written m qv.arity c.args.place c.args.goals c.in_ok-goal.goal c.in_ok-goal.ensures at.some w)
+
+pub returns-clause-within : goal.returns-clause-within
+returns-clause-within g c = λ qv a raw s h at w.
+    let m = c.args.machine.now in
+    let q = c.put_frame.new.self in
+    let p = c.args.place in
+    let f = c.in_ok-rest.ensures in
+    let st = f.stands (omega (arith, c.if-count-le1.false, c.saturating_sub-count.ensures)) h.above.done.stands in
+    let others : Span = record { from = c.args.goals.from + 1; to = c.args.goals.to } in
+    counts_from m q c.take_flat-2.new.machine s (ap (λ z. z.steps) f.course.counts) (c.in_ok-turn-2.ensures.within qv a raw s (running_framed qv m q a p raw s f.goals f.course f.assumed f.frame st at.place h)
+    (at_more m q a p c.args.goals others c.args.behind c.in_ok-rest.rest raw c.in_ok-goal.goal c.in_ok-goal.ensures (add-one c.args.goals.from) refl f.goals f.assumed f.reads at)
+    (flat_framed m q f.goals qv.arity p c.in_ok-goal.goal (first_written m qv.arity p c.args.goals c.in_ok-goal.goal c.in_ok-goal.ensures at.some w)))

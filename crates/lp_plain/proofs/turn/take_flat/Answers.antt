@@ -15,6 +15,8 @@ use Rattle.lp_plain.proofs.ProgramKept.{only_keeps, program_then}
 use Rattle.lp_plain.proofs.FirstKinds.{apart_behind, apart_flat}
 use Rattle.lp_plain.proofs.CallTerms.{only_program, only_written}
 use Rattle.lp_plain.proofs.DenyFirst.{no_denied_first, not_written}
+use Rattle.std.proofs.Common.{inl}
+use Rattle.lp_plain.proofs.Beginning.{counts_from}
 use Rattle.lp_plain.proofs.turn.take_flat.Goals as goal
 
 pub returns-in_ok-turn-in-Atom-clause-taken : goal.returns-in_ok-turn-in-Atom-clause-taken
@@ -203,3 +205,73 @@ returns-in_ok-turn-in-Not-clause-denied_stays g c = λ a raw at df ar st w sw on
 pub returns-in_ok-turn-in_default-clause-denied_stays : goal.returns-in_ok-turn-in_default-clause-denied_stays
 returns-in_ok-turn-in_default-clause-denied_stays g c = λ a raw at df.
     absurd (no_denied_first c.args.machine.now a c.args.place c.args.goal c.args.behind raw at c.in_default.not-Not df)
+
+pub returns-in_err-atom-in-Atom-clause-begins : goal.returns-in_err-atom-in-Atom-clause-begins
+returns-in_err-atom-in-Atom-clause-begins g c = λ qv a raw s h at w. inl refl
+
+pub returns-in_err-turn-in-Atom-clause-begins : goal.returns-in_err-turn-in-Atom-clause-begins
+returns-in_err-turn-in-Atom-clause-begins g c = λ qv a raw s h at w.
+    let m = c.args.machine.now in
+    let n = c.instance.new.self in
+    let p = c.args.place in
+    let e = c.in_ok-atom-in-Atom.ensures in
+    let at' = subst (λ f. IsAtGoal m a p f c.args.behind raw) c.in-Atom.is at in
+    let w' = subst (IsWrittenFlat m qv.arity p) c.in-Atom.is w in
+    c.take_term.ensures.begins qv a raw s (running_on m n e.bank qv a raw s h p at'.place)
+    (instance_at m n e.bank p c.in-Atom.term c.in_ok-atom-in-Atom.atom e.within e.tree a c.args.behind raw h.above.done.stands at' qv.arity w')
+
+pub returns-in_ok-turn-in-Atom-clause-begins : goal.returns-in_ok-turn-in-Atom-clause-begins
+returns-in_ok-turn-in-Atom-clause-begins g c = λ qv a raw s h at w.
+    let m = c.args.machine.now in
+    let n = c.instance.new.self in
+    let p = c.args.place in
+    let e = c.in_ok-atom-in-Atom.ensures in
+    let at' = subst (λ f. IsAtGoal m a p f c.args.behind raw) c.in-Atom.is at in
+    let w' = subst (IsWrittenFlat m qv.arity p) c.in-Atom.is w in
+    c.take_term.ensures.begins qv a raw s (running_on m n e.bank qv a raw s h p at'.place)
+    (instance_at m n e.bank p c.in-Atom.term c.in_ok-atom-in-Atom.atom e.within e.tree a c.args.behind raw h.above.done.stands at' qv.arity w')
+
+pub returns-in_err-turn-in-Cut-clause-begins : goal.returns-in_err-turn-in-Cut-clause-begins
+returns-in_err-turn-in-Cut-clause-begins g c = λ qv a raw s h at w.
+    c.take_cut.ensures.begins qv a raw s h (subst (λ f. IsAtGoal c.args.machine.now a c.args.place f c.args.behind raw) c.in-Cut.is at) c.args.constants.now
+
+pub returns-in_ok-turn-in-Cut-clause-begins : goal.returns-in_ok-turn-in-Cut-clause-begins
+returns-in_ok-turn-in-Cut-clause-begins g c = λ qv a raw s h at w.
+    c.take_cut.ensures.begins qv a raw s h (subst (λ f. IsAtGoal c.args.machine.now a c.args.place f c.args.behind raw) c.in-Cut.is at) c.args.constants.now
+
+pub returns-in_err-turn-in-Not-clause-begins : goal.returns-in_err-turn-in-Not-clause-begins
+returns-in_err-turn-in-Not-clause-begins g c = λ qv a raw s h at w.
+    c.take_not.ensures.begins qv a raw s h (subst (λ f. IsAtGoal c.args.machine.now a c.args.place f c.args.behind raw) c.in-Not.is at) c.args.constants.now
+
+pub returns-in_ok-turn-in-Not-clause-begins : goal.returns-in_ok-turn-in-Not-clause-begins
+returns-in_ok-turn-in-Not-clause-begins g c = λ qv a raw s h at w.
+    c.take_not.ensures.begins qv a raw s h (subst (λ f. IsAtGoal c.args.machine.now a c.args.place f c.args.behind raw) c.in-Not.is at) c.args.constants.now
+
+pub returns-in_err-turn-in_default-clause-begins : goal.returns-in_err-turn-in_default-clause-begins
+returns-in_err-turn-in_default-clause-begins g c = λ qv a raw s h at w. inl refl
+
+pub returns-in_ok-turn-in_default-clause-begins : goal.returns-in_ok-turn-in_default-clause-begins
+returns-in_ok-turn-in_default-clause-begins g c = λ qv a raw s h at w. inl refl
+
+pub returns-in_ok-turn-in-Atom-clause-within : goal.returns-in_ok-turn-in-Atom-clause-within
+returns-in_ok-turn-in-Atom-clause-within g c = λ qv a raw s h at w.
+    let m = c.args.machine.now in
+    let n = c.instance.new.self in
+    let p = c.args.place in
+    let e = c.in_ok-atom-in-Atom.ensures in
+    let at' = subst (λ f. IsAtGoal m a p f c.args.behind raw) c.in-Atom.is at in
+    let w' = subst (IsWrittenFlat m qv.arity p) c.in-Atom.is w in
+    counts_from m n c.take_term.new.machine s (ap (λ z. z.counts.steps) e.bank.same) (c.in_ok-turn-in-Atom.ensures.within qv a raw s (running_on m n e.bank qv a raw s h p at'.place)
+    (instance_at m n e.bank p c.in-Atom.term c.in_ok-atom-in-Atom.atom e.within e.tree a c.args.behind raw h.above.done.stands at' qv.arity w'))
+
+pub returns-in_ok-turn-in-Cut-clause-within : goal.returns-in_ok-turn-in-Cut-clause-within
+returns-in_ok-turn-in-Cut-clause-within g c = λ qv a raw s h at w.
+    c.in_ok-turn-in-Cut.ensures.within qv a raw s h (subst (λ f. IsAtGoal c.args.machine.now a c.args.place f c.args.behind raw) c.in-Cut.is at)
+
+pub returns-in_ok-turn-in-Not-clause-within : goal.returns-in_ok-turn-in-Not-clause-within
+returns-in_ok-turn-in-Not-clause-within g c = λ qv a raw s h at w.
+    c.in_ok-turn-in-Not.ensures.within qv a raw s h (subst (λ f. IsAtGoal c.args.machine.now a c.args.place f c.args.behind raw) c.in-Not.is at)
+
+pub returns-in_ok-turn-in_default-clause-within : goal.returns-in_ok-turn-in_default-clause-within
+returns-in_ok-turn-in_default-clause-within g c = λ qv a raw s h at w.
+    inl (apart_steps c.in_ok-turn-in_default.turn c.args.machine.now.counts c.put_parts.new.machine.counts c.in_ok-turn-in_default.ensures.counted)

@@ -25,6 +25,10 @@ use Rattle.lp_plain.specs.AtRunTime.{IsAtomFirst}
 use Rattle.lp_plain.proofs.AtomAtHand.{frame_written, none_atom, term_at}
 use Rattle.lp_plain.proofs.DenyFirst.{none_denied_first, term_denied}
 use Rattle.lp_plain.proofs.DenyStands.{denied_stands, held_stands}
+use Rattle.lp_plain.proofs.Beginning.{first_part}
+use Rattle.lp_plain.proofs.HeardParts.{part_none}
+use Rattle.std.proofs.Common.{arith}
+use Rattle.lp_plain.proofs.Beginning.{first_within}
 use Rattle.lp_plain.proofs.turn.take_goal.Goals as goal
 
 pub returns-in_ok-turn-in-Goals-clause-moves : goal.returns-in_ok-turn-in-Goals-clause-moves
@@ -243,3 +247,75 @@ returns-in_ok-turn-in-Goals-clause-held g c = λ qv s h none number inside. let 
 
 pub returns-in_ok-turn-in-Term-clause-held : goal.returns-in_ok-turn-in-Term-clause-held
 returns-in_ok-turn-in-Term-clause-held g c = λ qv s h none number inside. let y = c.in-Some.is in absurd (cc)
+
+pub returns-in_default-clause-begins : goal.returns-in_default-clause-begins
+returns-in_default-clause-begins g c = λ k x h. part_none c.args.constants.now x.notes _ _ refl
+
+pub returns-in_err-frame-clause-begins : goal.returns-in_err-frame-clause-begins
+returns-in_err-frame-clause-begins g c = λ k x h. part_none c.args.constants.now x.notes _ _ refl
+
+pub returns-in_err-turn-in-Goals-clause-begins : goal.returns-in_err-turn-in-Goals-clause-begins
+returns-in_err-turn-in-Goals-clause-begins g c = λ k x h.
+    let m = c.args.machine.now in
+    let qv = h.0 in
+    let s = h.1 in
+    let st = h.3 in
+    let at = at_frame qv m s st c.in-Some.number c.in_ok-frame.frame c.in-Some.is c.in_ok-frame.ensures c.in-Goals.goals c.in-Goals.is in
+    let w = subst (IsWrittenSearch m) (sym h.2.0) h.5.written in
+    first_part k c.args.constants.now qv.outer x s _ _ h.4
+    (c.take_first.ensures.begins qv st.around st.raw s st.running at
+    (frame_written qv m s st c.in-Some.number c.in_ok-frame.frame c.in-Some.is c.in_ok-frame.ensures c.in-Goals.goals c.in-Goals.is qv.arity w))
+
+pub returns-in_ok-turn-in-Goals-clause-begins : goal.returns-in_ok-turn-in-Goals-clause-begins
+returns-in_ok-turn-in-Goals-clause-begins g c = λ k x h.
+    let m = c.args.machine.now in
+    let qv = h.0 in
+    let s = h.1 in
+    let st = h.3 in
+    let at = at_frame qv m s st c.in-Some.number c.in_ok-frame.frame c.in-Some.is c.in_ok-frame.ensures c.in-Goals.goals c.in-Goals.is in
+    let w = subst (IsWrittenSearch m) (sym h.2.0) h.5.written in
+    first_part k c.args.constants.now qv.outer x s _ _ h.4
+    (c.take_first.ensures.begins qv st.around st.raw s st.running at
+    (frame_written qv m s st c.in-Some.number c.in_ok-frame.frame c.in-Some.is c.in_ok-frame.ensures c.in-Goals.goals c.in-Goals.is qv.arity w))
+
+pub returns-in_err-turn-in-Term-clause-begins : goal.returns-in_err-turn-in-Term-clause-begins
+returns-in_err-turn-in-Term-clause-begins g c = λ k x h.
+    let qv = h.0 in
+    let s = h.1 in
+    let st = h.3 in
+    first_part k c.args.constants.now qv.outer x s _ _ h.4
+    (c.take_term.ensures.begins qv st.around st.raw s st.running (term_at qv c.args.machine.now s st c.in-Some.number c.in_ok-frame.frame
+    c.in-Some.is c.in_ok-frame.ensures c.in-Term.term c.in-Term.is))
+
+pub returns-in_ok-turn-in-Term-clause-begins : goal.returns-in_ok-turn-in-Term-clause-begins
+returns-in_ok-turn-in-Term-clause-begins g c = λ k x h.
+    let qv = h.0 in
+    let s = h.1 in
+    let st = h.3 in
+    first_part k c.args.constants.now qv.outer x s _ _ h.4
+    (c.take_term.ensures.begins qv st.around st.raw s st.running (term_at qv c.args.machine.now s st c.in-Some.number c.in_ok-frame.frame
+    c.in-Some.is c.in_ok-frame.ensures c.in-Term.term c.in-Term.is))
+
+pub returns-in_default-clause-within : goal.returns-in_default-clause-within
+returns-in_default-clause-within g c = λ k x h. let e = c.end_branch.ensures.steps in omega (arith, e)
+
+pub returns-in_ok-turn-in-Goals-clause-within : goal.returns-in_ok-turn-in-Goals-clause-within
+returns-in_ok-turn-in-Goals-clause-within g c = λ k x h.
+    let m = c.args.machine.now in
+    let qv = h.0 in
+    let s = h.1 in
+    let st = h.3 in
+    let at = at_frame qv m s st c.in-Some.number c.in_ok-frame.frame c.in-Some.is c.in_ok-frame.ensures c.in-Goals.goals c.in-Goals.is in
+    let w = subst (IsWrittenSearch m) (sym h.2.0) h.5.written in
+    first_within k qv.outer x s m c.take_first.new.machine h.4
+    (c.in_ok-turn-in-Goals.ensures.within qv st.around st.raw s st.running at
+    (frame_written qv m s st c.in-Some.number c.in_ok-frame.frame c.in-Some.is c.in_ok-frame.ensures c.in-Goals.goals c.in-Goals.is qv.arity w))
+
+pub returns-in_ok-turn-in-Term-clause-within : goal.returns-in_ok-turn-in-Term-clause-within
+returns-in_ok-turn-in-Term-clause-within g c = λ k x h.
+    let m = c.args.machine.now in
+    let qv = h.0 in
+    let s = h.1 in
+    let st = h.3 in
+    first_within k qv.outer x s m c.take_term.new.machine h.4
+    (c.in_ok-turn-in-Term.ensures.within qv st.around st.raw s st.running (term_at qv m s st c.in-Some.number c.in_ok-frame.frame c.in-Some.is c.in_ok-frame.ensures c.in-Term.term c.in-Term.is))

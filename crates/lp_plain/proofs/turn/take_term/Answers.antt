@@ -14,6 +14,10 @@ use Rattle.lp_plain.proofs.LookedOn.{deep_look}
 use Rattle.lp_plain.proofs.ProgramKept.{only_keeps, program_then}
 use Rattle.lp_plain.proofs.TermTurns.{atom_turn, connective_turn}
 use Rattle.lp_plain.proofs.WrittenTurns.{bound_stands, only_bound}
+use Rattle.std.proofs.Common.{inl}
+use Rattle.lp_plain.specs.inner.Beginning.{HearsFirst}
+use Rattle.lp_plain.specs.inner.Beginning.{CountsFirst}
+use Rattle.lp_plain.proofs.Beginning.{counts_from}
 use Rattle.lp_plain.proofs.turn.take_term.Goals as goal
 
 pub returns-in_default-clause-leads : goal.returns-in_default-clause-leads
@@ -76,3 +80,54 @@ returns-then-is_apart-clause-ends g c = c.in_ok-turn.ensures.ends
 
 pub returns-clause-ends : goal.returns-clause-ends
 returns-clause-ends g c = c.in_ok-turn-2.ensures.ends
+
+pub returns-in_err-goal-clause-begins : goal.returns-in_err-goal-clause-begins
+returns-in_err-goal-clause-begins g c = λ qv a raw s h at. inl refl
+
+pub returns-in_default-clause-begins : goal.returns-in_default-clause-begins
+returns-in_default-clause-begins g c = λ qv a raw s h at. inl refl
+
+pub returns-in_err-turn-clause-begins : goal.returns-in_err-turn-clause-begins
+returns-in_err-turn-clause-begins g c = λ qv a raw s h at. inl refl
+
+pub returns-then-is_apart-clause-begins : goal.returns-then-is_apart-clause-begins
+returns-then-is_apart-clause-begins g c = λ qv a raw s h at. inl refl
+
+pub returns-in_err-form-clause-begins : goal.returns-in_err-form-clause-begins
+returns-in_err-form-clause-begins g c = λ qv a raw s h at. inl refl
+
+pub returns-in_err-turn-2-clause-begins : goal.returns-in_err-turn-2-clause-begins
+returns-in_err-turn-2-clause-begins g c = λ qv a raw s h at.
+    let m = c.args.machine.now in
+    let n = c.head_normal.new.machine in
+    let k = c.connective_of-connective.ensures in
+    let i = c.in_ok-form.ensures.form k.tree (c.is_apart.ensures.alone c.if-is_apart.false n.bank) in
+    atom_turn qv m n c.in_ok-goal.ensures.bank a raw s h c.args.place c.args.term c.in-Some.goal c.args.behind at (subst (LooksAt m n c.args.term) c.in-Some.is c.in_ok-goal.ensures.looks)
+    (HearsFirst c.args.constants.now _ _ s) (λ h' at'. c.take_atom.ensures.begins qv a raw s h' at' i)
+
+pub returns-clause-begins : goal.returns-clause-begins
+returns-clause-begins g c = λ qv a raw s h at.
+    let m = c.args.machine.now in
+    let n = c.head_normal.new.machine in
+    let k = c.connective_of-connective.ensures in
+    let i = c.in_ok-form.ensures.form k.tree (c.is_apart.ensures.alone c.if-is_apart.false n.bank) in
+    atom_turn qv m n c.in_ok-goal.ensures.bank a raw s h c.args.place c.args.term c.in-Some.goal c.args.behind at (subst (LooksAt m n c.args.term) c.in-Some.is c.in_ok-goal.ensures.looks)
+    (HearsFirst c.args.constants.now _ _ s) (λ h' at'. c.take_atom.ensures.begins qv a raw s h' at' i)
+
+pub returns-in_default-clause-within : goal.returns-in_default-clause-within
+returns-in_default-clause-within g c = λ qv a raw s h at. inl (ap (λ z. z.counts.steps) c.in_ok-goal.ensures.bank.same)
+
+pub returns-then-is_apart-clause-within : goal.returns-then-is_apart-clause-within
+returns-then-is_apart-clause-within g c = λ qv a raw s h at.
+    inl (apart_steps c.in_ok-turn.turn c.head_normal.new.machine.counts c.put_connective.new.machine.counts c.in_ok-turn.ensures.counted ∙ ap (λ z. z.counts.steps) c.in_ok-goal.ensures.bank.same)
+
+pub returns-clause-within : goal.returns-clause-within
+returns-clause-within g c = λ qv a raw s h at.
+    let m = c.args.machine.now in
+    let n = c.head_normal.new.machine in
+    let q = c.take_atom.new.machine in
+    let only = c.in_ok-goal.ensures.bank in
+    let k = c.connective_of-connective.ensures in
+    let i = c.in_ok-form.ensures.form k.tree (c.is_apart.ensures.alone c.if-is_apart.false n.bank) in
+    atom_turn qv m n only a raw s h c.args.place c.args.term c.in-Some.goal c.args.behind at (subst (LooksAt m n c.args.term) c.in-Some.is c.in_ok-goal.ensures.looks)
+    (CountsFirst m q s) (λ h' at'. counts_from m n q s (ap (λ z. z.counts.steps) only.same) (c.in_ok-turn-2.ensures.within qv a raw s h' at' i))

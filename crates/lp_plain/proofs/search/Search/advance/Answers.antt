@@ -5,6 +5,10 @@ use Rattle.lp_plain.specs.Held.{constants_of, ended, steps_of}
 use Rattle.lp_plain.specs.Moving.{Tally}
 use Rattle.lp_plain.proofs.Between.{first_told, given_enough, later_told, over_told}
 use Rattle.lp_plain.proofs.Hearing.{heard_more, plus_none}
+use Rattle.lp_plain.specs.Hearing.{HearsPart}
+use Rattle.lp_plain.proofs.Beginning.{first_begins, later_begins}
+use Rattle.lp_plain.proofs.HeardParts.{part_behind, part_more, part_none}
+use Rattle.std.proofs.Common.{◌+◌, ◌≤◌}
 use Rattle.lp_plain.proofs.search.Search.advance.Goals as goal
 
 pub returns-then-self-clause-search : goal.returns-then-self-clause-search
@@ -38,3 +42,72 @@ returns-clause-search g c = λ none P n s h en x t d.
     (λ y l. heard_more old.constants.items (record { steps = 0; notes = back_in old.machine }) y old.machine old.machine new.machine _ _ _
     (plus_none old.machine.counts.steps, c.in_ok-tell_back.ensures.told old.constants.items) l)
     c.in_ok-event-2.ensures.search h
+
+pub returns-then-self-clause-begins : goal.returns-then-self-clause-begins
+unfolding ended constants_of
+returns-then-self-clause-begins g c = λ none P n s h x t d. part_none c.args.self.now.constants.items _ _ _ refl
+
+pub returns-in_err-tell_back-clause-begins : goal.returns-in_err-tell_back-clause-begins
+unfolding ended constants_of
+returns-in_err-tell_back-clause-begins g c = λ none P n s h x t d.
+    let old = c.args.self.now in
+    let before = map g.W.Watch.seen c.args.crowd.now.watchers.now.items in
+    let after = map g.W.Watch.seen c.tell_back.new.crowd.watchers.now.items in
+    let cs = old.constants.items in
+    later_begins P n old s x t d (λ y. HearsPart cs y.notes before after) none (omega arith) (omega arith) (omega arith)
+    (λ k z it st. part_more cs (back_in old.machine) z.notes before after (c.tell_back.ensures.part cs)) h
+
+pub returns-in_err-event-clause-begins : goal.returns-in_err-event-clause-begins
+unfolding ended constants_of
+returns-in_err-event-clause-begins g c = λ none P n s h x t d.
+    let old = c.args.self.now in
+    let before = map g.W.Watch.seen c.args.crowd.now.watchers.now.items in
+    let after = map g.W.Watch.seen c.go_on.new.crowd.watchers.now.items in
+    first_begins P n old s x t d (λ y. HearsPart old.constants.items y.notes before after) none (omega arith) (omega arith) (omega arith) c.go_on.ensures.begins h
+
+pub returns-then-self-eq0-clause-begins : goal.returns-then-self-eq0-clause-begins
+unfolding ended constants_of
+returns-then-self-eq0-clause-begins g c = λ none P n s h x t d.
+    let old = c.args.self.now in
+    let before = map g.W.Watch.seen c.args.crowd.now.watchers.now.items in
+    let after = map g.W.Watch.seen c.go_on.new.crowd.watchers.now.items in
+    first_begins P n old s x t d (λ y. HearsPart old.constants.items y.notes before after) none (omega arith) (omega arith) (omega arith) c.go_on.ensures.begins h
+
+pub returns-in_err-event-2-clause-begins : goal.returns-in_err-event-2-clause-begins
+unfolding ended constants_of
+returns-in_err-event-2-clause-begins g c = λ none P n s h x t d.
+    let old = c.args.self.now in
+    let before = map g.W.Watch.seen c.args.crowd.now.watchers.now.items in
+    let mid = map g.W.Watch.seen c.tell_back.new.crowd.watchers.now.items in
+    let after = map g.W.Watch.seen c.go_on-2.new.crowd.watchers.now.items in
+    let cs = old.constants.items in
+    later_begins P n old s x t d (λ y. HearsPart cs y.notes before after) none (omega arith) (omega arith) (omega arith)
+    (λ k z it st. part_behind cs (back_in old.machine) z.notes before mid after (c.in_ok-tell_back.ensures.told cs) (c.go_on-2.ensures.begins k z it st)) h
+
+pub returns-clause-begins : goal.returns-clause-begins
+unfolding ended constants_of
+returns-clause-begins g c = λ none P n s h x t d.
+    let old = c.args.self.now in
+    let before = map g.W.Watch.seen c.args.crowd.now.watchers.now.items in
+    let mid = map g.W.Watch.seen c.tell_back.new.crowd.watchers.now.items in
+    let after = map g.W.Watch.seen c.go_on-2.new.crowd.watchers.now.items in
+    let cs = old.constants.items in
+    later_begins P n old s x t d (λ y. HearsPart cs y.notes before after) none (omega arith) (omega arith) (omega arith)
+    (λ k z it st. part_behind cs (back_in old.machine) z.notes before mid after (c.in_ok-tell_back.ensures.told cs) (c.go_on-2.ensures.begins k z it st)) h
+
+pub returns-then-self-clause-within : goal.returns-then-self-clause-within
+unfolding ended steps_of
+returns-then-self-clause-within g c = λ none P n s h x t d. let a = c.end.ensures.steps in omega (arith, a)
+
+pub returns-then-self-eq0-clause-within : goal.returns-then-self-eq0-clause-within
+unfolding ended steps_of
+returns-then-self-eq0-clause-within g c = λ none P n s h x t d.
+    let old = c.args.self.now in
+    first_begins P n old s x t d (λ y. c.go_on.new.self.machine.counts.steps ≤ old.machine.counts.steps + y.steps) none (omega arith) (omega arith) (omega arith) c.in_ok-event.ensures.within h
+
+pub returns-clause-within : goal.returns-clause-within
+unfolding ended steps_of
+returns-clause-within g c = λ none P n s h x t d.
+    let old = c.args.self.now in
+    later_begins P n old s x t d (λ y. c.go_on-2.new.self.machine.counts.steps ≤ old.machine.counts.steps + y.steps) none (omega arith) (omega arith) (omega arith)
+    (λ k z it st. let l = c.in_ok-event-2.ensures.within k z it st in omega (arith, l)) h

@@ -9,6 +9,8 @@ use Rattle.lp_plain.specs.inner.Between.{rested}
 use Rattle.lp_plain.specs.inner.Following.{Rests, turn_told}
 use Rattle.lp_plain.proofs.Between.{answer_between, answer_noted, answer_rested, answer_told, over_is, same_count}
 use Rattle.lp_plain.proofs.Hearing.{heard_more, plus_none}
+use Rattle.lp_plain.specs.Hearing.{HearsPart}
+use Rattle.lp_plain.proofs.HeardParts.{parts_behind}
 use Rattle.lp_plain.proofs.search.Search.go_on.Goals as goal
 
 pub returns-in-Ended-clause-search : goal.returns-in-Ended-clause-search
@@ -53,3 +55,80 @@ returns-in_ok-answer-in-Answered-clause-search g c = λ k v it st en.
       subst (HeardBy s.constants.items s.machine n old new) (sym (r.1 ∙ ap (both p.0) (answer_noted k s m r.0 it stands)))
           (heard_more s.constants.items p.0 z s.machine m n old mid new heard (ap (λ w. w.counts.steps) um ∙ plus_none m.counts.steps, c.in_ok-tell_answer-in-Answered.ensures.heard s.constants.items more it.fits)),
     )
+
+pub returns-in_err-found-clause-begins : goal.returns-in_err-found-clause-begins
+unfolding constants_of
+returns-in_err-found-clause-begins g c = λ k x it st.
+    let old = map g.W.Watch.seen c.args.crowd.now.watchers.now.items in
+    let new = map g.W.Watch.seen c.run.new.crowd.watchers.now.items in
+    subst (λ l. HearsPart l x.notes old new) c.as_slice.ensures.value (c.run.ensures.begins k x st)
+
+pub returns-in-Ended-clause-begins : goal.returns-in-Ended-clause-begins
+unfolding constants_of
+returns-in-Ended-clause-begins g c = λ k x it st.
+    let old = map g.W.Watch.seen c.args.crowd.now.watchers.now.items in
+    let new = map g.W.Watch.seen c.run.new.crowd.watchers.now.items in
+    subst (λ l. HearsPart l x.notes old new) c.as_slice.ensures.value (c.run.ensures.begins k x st)
+
+pub returns-in_err-tell_answer-in-Answered-clause-begins : goal.returns-in_err-tell_answer-in-Answered-clause-begins
+unfolding constants_of
+returns-in_err-tell_answer-in-Answered-clause-begins g c = λ k x it st.
+    let s = c.args.self.now in
+    let m = c.run.new.machine in
+    let cs = s.constants.items in
+    let old = map g.W.Watch.seen c.args.crowd.now.watchers.now.items in
+    let mid = map g.W.Watch.seen c.run.new.crowd.watchers.now.items in
+    let new = map g.W.Watch.seen c.tell_answer.new.crowd.watchers.now.items in
+    let p = c.in_ok-found.ensures.stands k x st in
+    let heard = subst (λ l. HeardBy l s.machine m old mid p.0) c.as_slice.ensures.value p.1 in
+    let r = subst (λ z. Rests k x p.0 (turn_told z) m) c.in-Answered.is p.2 in
+    let more : s.given < s.answers = (let l = it.left in omega (arith, l)) in
+    parts_behind cs x p.0 r.0 old mid new r.1 heard.1
+    (subst (λ ns. HearsPart cs ns mid new) (sym (ap (λ (t : Tally). t.notes) (answer_noted k s m r.0 it r.2))) (c.tell_answer.ensures.part cs more it.fits))
+
+pub returns-in_err-answer-in-Answered-clause-begins : goal.returns-in_err-answer-in-Answered-clause-begins
+unfolding constants_of
+returns-in_err-answer-in-Answered-clause-begins g c = λ k x it st.
+    let s = c.args.self.now in
+    let m = c.run.new.machine in
+    let cs = s.constants.items in
+    let old = map g.W.Watch.seen c.args.crowd.now.watchers.now.items in
+    let mid = map g.W.Watch.seen c.run.new.crowd.watchers.now.items in
+    let new = map g.W.Watch.seen c.tell_answer.new.crowd.watchers.now.items in
+    let p = c.in_ok-found.ensures.stands k x st in
+    let heard = subst (λ l. HeardBy l s.machine m old mid p.0) c.as_slice.ensures.value p.1 in
+    let r = subst (λ z. Rests k x p.0 (turn_told z) m) c.in-Answered.is p.2 in
+    let more : s.given < s.answers = (let l = it.left in omega (arith, l)) in
+    parts_behind cs x p.0 r.0 old mid new r.1 heard.1
+    (subst (λ ns. HearsPart cs ns mid new) (sym (ap (λ (t : Tally). t.notes) (answer_noted k s m r.0 it r.2))) (c.tell_answer.ensures.part cs more it.fits))
+
+pub returns-in_ok-answer-in-Answered-clause-begins : goal.returns-in_ok-answer-in-Answered-clause-begins
+unfolding constants_of
+returns-in_ok-answer-in-Answered-clause-begins g c = λ k x it st.
+    let s = c.args.self.now in
+    let m = c.run.new.machine in
+    let cs = s.constants.items in
+    let old = map g.W.Watch.seen c.args.crowd.now.watchers.now.items in
+    let mid = map g.W.Watch.seen c.run.new.crowd.watchers.now.items in
+    let new = map g.W.Watch.seen c.tell_answer.new.crowd.watchers.now.items in
+    let p = c.in_ok-found.ensures.stands k x st in
+    let heard = subst (λ l. HeardBy l s.machine m old mid p.0) c.as_slice.ensures.value p.1 in
+    let r = subst (λ z. Rests k x p.0 (turn_told z) m) c.in-Answered.is p.2 in
+    let more : s.given < s.answers = (let l = it.left in omega (arith, l)) in
+    parts_behind cs x p.0 r.0 old mid new r.1 heard.1
+    (subst (λ ns. HearsPart cs ns mid new) (sym (ap (λ (t : Tally). t.notes) (answer_noted k s m r.0 it r.2))) (c.tell_answer.ensures.part cs more it.fits))
+
+pub returns-in-Ended-clause-within : goal.returns-in-Ended-clause-within
+unfolding steps_of
+returns-in-Ended-clause-within g c = λ k x it st. let a = c.end.ensures.steps in let l = c.in_ok-found.ensures.within k x st in omega (arith, a, l)
+
+pub returns-in_ok-answer-in-Answered-clause-within : goal.returns-in_ok-answer-in-Answered-clause-within
+unfolding steps_of
+returns-in_ok-answer-in-Answered-clause-within g c = λ k x it st.
+    let m = c.run.new.machine in
+    let n = c.answer_of.new.machine in
+    let made = c.in_ok-answer-in-Answered.ensures in
+    let um : n ≡ with_bank (rested m) n.bank = made.only.same ∙ ap (λ z. with_bank z n.bank) c.in_ok-tell_answer-in-Answered.ensures.rests.machine in
+    let a = ap (λ w. w.counts.steps) um in
+    let l = c.in_ok-found.ensures.within k x st in
+    omega (arith, a, l)

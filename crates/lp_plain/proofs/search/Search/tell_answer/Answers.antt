@@ -2,6 +2,8 @@ use Rattle.std.proofs.Common.{◌≡◌, ◌∙◌, ap, arith, map, suc}
 use Rattle.std.proofs.lemmas.Result.{on_ok_weaker}
 use Rattle.lp_watch.specs.Crowd.{crowd_after}
 use Rattle.lp_watch.specs.Notes.{answer}
+use Rattle.lp_model.specs.Skeleton.{AnswerNote}
+use Rattle.lp_plain.proofs.HeardParts.{told_part}
 use Rattle.lp_plain.proofs.search.Search.tell_answer.Goals as goal
 
 pub returns-clause-heard : goal.returns-clause-heard
@@ -11,3 +13,8 @@ returns-clause-heard g c =
     (λ h cs l f.
     let e : c.saturating_add-self.result ≡ suc c.args.self.now.given = (let a = c.saturating_add-self.ensures in omega (arith, a, l, f)) in
     h ∙ ap (λ k. crowd_after (answer k) old) e) c.tell.ensures.told
+
+pub returns-clause-part : goal.returns-clause-part
+returns-clause-part g c = λ cs l f.
+    let e : c.saturating_add-self.result ≡ suc c.args.self.now.given = (let a = c.saturating_add-self.ensures in omega (arith, a, l, f)) in
+    told_part cs c.tell.result (AnswerNote (suc c.args.self.now.given)) _ _ _ (ap answer e) c.tell.ensures.told c.tell.ensures.memory
