@@ -195,10 +195,13 @@ text_argument K old new a i F b x = record {
   no_types = x.plain.no_types;
   denotes = λ h later vars s σ Γ T std asked st te low few before count typed stands well same predicate own stood room.
       let of : string_type ≡ T = some_same string_type T well.typed in
-      let w = x.denotes h later vars s std st te (record {
-        in_turn = in_turn s i before count;
-        typed = next_typed h s s i T string_type refl typed of;
-      }) (strict_may (s.place + sum_by length_of x.more) s.frames room) in (
+      let w = x.denotes h later vars s std st te (
+        record {
+          in_turn = in_turn s i before count;
+          typed = next_typed h s s i T string_type refl typed of;
+        },
+        well.known,
+      ) (strict_may (s.place + sum_by length_of x.more) s.frames room) in (
         w.0,
         does_same h later vars old.types old.types new.types old.registers old.registers new.registers s w.0 x.more _ _ _ s.goals s.head_types (s.head_arguments ++ whole (atom (text b)) T ∷ [])
             (sym x.types_stay) (sym x.registers_stay) refl refl (λ k. s.head_arguments ++ whole (atom (text b)) (of k) ∷ [])

@@ -23,7 +23,7 @@ use Rattle.lp_gen.specs.inner.Bodies.{IsThrough, AreThrough, AllThrough}
 use Rattle.lp_gen.specs.inner.Capturing.{IsAmong, TermsHold, PlaceHolds, PlacesHold, Marks, place_task, place_work}
 use Rattle.lp_gen.proofs.TypeWorks.{map_length}
 use Rattle.lp_gen.proofs.Works.{two_more, application_weighs, some_args}
-use Rattle.lp_gen.proofs.PlanGoals.{atom_is, cut_is, either_is, some_is, all_is, assume_is, not_is, clause_is}
+use Rattle.lp_gen.proofs.Tops.{atom_is, cut_is, either_is, some_is, all_is, assume_is, not_is, clause_is}
 
 -- an application whose arguments are looked at one by one
 pub marks_application : (b : Nodes) (old mid new : List Place) (head term : TermId) (args : Bor (List TermId)) (d : ℕ) → mid ≡ old ++ on.Terms args d ∷ [] → new ≡ mid ++ on.Term head d ∷ [] →

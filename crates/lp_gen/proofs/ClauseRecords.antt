@@ -23,7 +23,7 @@ use Rattle.lp_gen.specs.declared.environment.Variable.{Variable}
 use Rattle.lp_gen.specs.declared.plan.Part.{Part}
 use Rattle.lp_gen.specs.declared.plan.Origin.{Origin}
 use Rattle.lp_gen.specs.declared.plan.Origin.TheVariants as origin
-use Rattle.lp_gen.specs.declared.record.Tables.{Tables}
+use Rattle.lp_gen.specs.declared.tables.Tables.{Tables}
 use Rattle.lp_gen.specs.inner.Listing.{Seen, Around, around_of, at_level, constant_function, level_in}
 use Rattle.lp_gen.specs.inner.TermLaw.{with_variables, AllLoose}
 use Rattle.lp_gen.specs.inner.Written.{AreAsked}

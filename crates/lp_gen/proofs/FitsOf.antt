@@ -10,6 +10,7 @@ use Rattle.lp_code.specs.Symbolic.{Tables}
 use Rattle.lp_code.specs.States.{Home}
 use Rattle.lp_code.specs.Denote.{home_of}
 use Rattle.lp_gen.specs.Sources.{types_by, Under, bound, all_bound, IsAtom, IsGoal, AreGoals, AreAssumed}
+use Rattle.lp_gen.specs.Limits.{goal_strings, goals_strings, clauses_strings}
 use Rattle.lp_gen.specs.inner.TermLaw.{AllLoose, KnownAtoms}
 use Rattle.lp_gen.specs.inner.Bodies.{IsThrough, AreThrough, AllThrough}
 use Rattle.lp_gen.specs.inner.BodyLaw.{one_more, more_of, GoalFits, GoalsFit, ClausesFit}
@@ -57,43 +58,43 @@ module _ (h : Home) where
     goals_end u (goals g gs) x = (goal_ends u g x.0, x.1, goals_end u gs x.2)
 
   mutual
-    goal_fits : (u : Under) (Q : ℕ → Type 0) (g : Goal) → IsGoal h.tables u g → Holds u.indices Q → GoalFits h u.type_vars u.indices u.binders Q g
-    goal_fits u Q (Atomic t) (x, atomic, headed) f = record {
+    goal_fits : (u : Under) (Q : ℕ → Type 0) (g : Goal) → IsGoal h.tables u g → goal_strings g ≡ 0 → Holds u.indices Q → GoalFits h u.type_vars u.indices u.binders Q g
+    goal_fits u Q (Atomic t) (x, atomic, headed) e f = record {
       typed = x.typed;
       normal = x.normal;
-      known = known_atoms h.tables.kinds u.type_vars 2000 0 t x.known;
+      known = known_atoms h.tables.kinds u.type_vars 2000 0 t x.known e;
       positive = x.positive;
       atomic = atomic;
       headed = headed;
       loose = loose_of h u Q t x f;
     }
-    goal_fits u Q Cut x f = tt
-    goal_fits u Q (Either gs hs) x f = (goals_fit u Q gs x.0 f, goals_fit u Q hs x.1 f)
-    goal_fits u Q (Exists T gs) x f = (x.0, goals_fit (bound u T false) (one_more Q) gs x.1 (one_holds u.indices T Q f))
-    goal_fits u Q (Forall T gs) x f = (x.0, goals_fit (bound u T true) (one_more Q) gs x.1 (one_holds u.indices T Q f))
-    goal_fits u Q (Assume w cs gs) x f = (clauses_fit u Q cs x.0 f, goals_fit u Q gs x.1 f)
-    goal_fits u Q (Not w gs) x f = goals_fit u Q gs x f
+    goal_fits u Q Cut x e f = tt
+    goal_fits u Q (Either gs hs) x e f = (goals_fit u Q gs x.0 (omega (arith, e)) f, goals_fit u Q hs x.1 (omega (arith, e)) f)
+    goal_fits u Q (Exists T gs) x e f = (x.0, goals_fit (bound u T false) (one_more Q) gs x.1 e (one_holds u.indices T Q f))
+    goal_fits u Q (Forall T gs) x e f = (x.0, goals_fit (bound u T true) (one_more Q) gs x.1 e (one_holds u.indices T Q f))
+    goal_fits u Q (Assume w cs gs) x e f = (clauses_fit u Q cs x.0 (omega (arith, e)) f, goals_fit u Q gs x.1 (omega (arith, e)) f)
+    goal_fits u Q (Not w gs) x e f = goals_fit u Q gs x e f
 
-    pub goals_fit : (u : Under) (Q : ℕ → Type 0) (gs : Goals) → AreGoals h.tables u gs → Holds u.indices Q → GoalsFit h u.type_vars u.indices u.binders Q gs
-    goals_fit u Q no_goals x f = tt
-    goals_fit u Q (goals g gs) x f = (goal_fits u Q g x.0 f, goals_fit u Q gs x.2 f)
+    pub goals_fit : (u : Under) (Q : ℕ → Type 0) (gs : Goals) → AreGoals h.tables u gs → goals_strings gs ≡ 0 → Holds u.indices Q → GoalsFit h u.type_vars u.indices u.binders Q gs
+    goals_fit u Q no_goals x e f = tt
+    goals_fit u Q (goals g gs) x e f = (goal_fits u Q g x.0 (omega (arith, e)) f, goals_fit u Q gs x.2 (omega (arith, e)) f)
 
-    pub clauses_fit : (u : Under) (Q : ℕ → Type 0) (cs : Clauses) → AreAssumed h.tables u cs → Holds u.indices Q → ClausesFit h u.type_vars u.indices u.binders Q cs
-    clauses_fit u Q no_clauses x f = tt
-    clauses_fit u Q (clauses (clause n vs t b) cs) (none, known, head, headed, body, others) f = (
+    pub clauses_fit : (u : Under) (Q : ℕ → Type 0) (cs : Clauses) → AreAssumed h.tables u cs → clauses_strings cs ≡ 0 → Holds u.indices Q → ClausesFit h u.type_vars u.indices u.binders Q cs
+    clauses_fit u Q no_clauses x e f = tt
+    clauses_fit u Q (clauses (clause n vs t b) cs) (none, known, head, headed, body, others) e f = (
       none,
       known,
       record {
         typed = head.typed;
         normal = head.normal;
-        known = known_atoms h.tables.kinds u.type_vars 2000 0 t head.known;
+        known = known_atoms h.tables.kinds u.type_vars 2000 0 t head.known (omega (arith, e));
         positive = head.positive;
         headed = headed;
         loose = loose_of h (all_bound u vs) (more_of vs Q) t head (all_hold vs u.indices Q f);
       },
-      goals_fit (all_bound u vs) (more_of vs Q) b body (all_hold vs u.indices Q f),
+      goals_fit (all_bound u vs) (more_of vs Q) b body (omega (arith, e)) (all_hold vs u.indices Q f),
       goals_end (all_bound u vs) b body,
-      clauses_fit u Q cs others f,
+      clauses_fit u Q cs others (omega (arith, e)) f,
     )
 
 -- with more that is known of indices

@@ -1,6 +1,6 @@
 -- The code of a goal, and of a part of the head, that was put: its instruction breaks no rule, and does what it should.
-use Rattle.std.proofs.Common.{◌≡◌, ◌∙◌, ◌<◌, ℕ, ◌+◌, ℤ, List, [], ◌∷◌, ◌++◌, Bool, true, false, Option, Some, None, Vec, Global, ap, refl, sym, subst, arith, eq-eqb}
-use Rattle.std.specs.Prelude.{nat_eq, nat_le, not, ◌||◌, ◌&&◌, if◌then◌else◌, is_none, sum_by, unwrap_or, option_map}
+use Rattle.std.proofs.Common.{◌≡◌, ◌∙◌, ◌<◌, ℕ, ◌+◌, ℤ, List, [], ◌∷◌, ◌++◌, Bool, true, false, Option, Some, None, Vec, Global, ap, refl, sym, subst, arith, eq-eqb, length}
+use Rattle.std.specs.Prelude.{nat_lt, nat_eq, nat_le, not, ◌||◌, ◌&&◌, if◌then◌else◌, is_none, sum_by, unwrap_or, option_map}
 use Rattle.std.specs.List.{list_any}
 use Rattle.std.proofs.lemmas.List.{append-nil}
 use Rattle.std.proofs.lemmas.Bool.{and_from, eqb-true, lt-leb}
@@ -28,6 +28,7 @@ use Rattle.lp_code.specs.Denote.{broken_by}
 use Rattle.lp_gen.specs.declared.emitter.Emitter.{Emitter}
 use Rattle.lp_gen.specs.inner.Owned.{IsPlain}
 use Rattle.lp_gen.specs.inner.Running.{HasRegisters, TypesStand, TermsStand, HasRoom}
+use Rattle.lp_gen.specs.inner.Fitting.{is_short}
 use Rattle.lp_gen.specs.inner.Saying.{own_numbered, own_by, equation_by, order_by, turned, Turns, IsPartPut, AreGoalParts, CallPut}
 use Rattle.lp_gen.specs.inner.Saying.{IsGoalTerm, TermCallPut, IsNext, IsNextConstant, ConstantGot, IntegerGot, TextGot, IsNextTerm, TermGot, IsNextType, TypeGot}
 use Rattle.lp_gen.proofs.Bytes.{some_length}
@@ -321,6 +322,39 @@ numbered_plain : (o : Option Constant) (ts rs : List ℕ) → IsNonePlain (own_n
 numbered_plain None ts rs = tt
 numbered_plain (Some k) ts rs = own_plain k ts rs
 
+-- nor has a string or records
+
+abbrev IsNoneShort : Option Instr → Type 0
+IsNoneShort None = Unit {0}
+IsNoneShort (Some i) = is_short i ≡ true
+
+equation_short : (k : Constant) (t l r : ℕ) → IsNoneShort (equation_by k t l r)
+equation_short standard.Equal t l r = refl
+equation_short standard.Is t l r = refl
+equation_short _ t l r = tt
+
+order_short : (k : Constant) (l r : ℕ) → IsNoneShort (order_by k l r)
+order_short standard.Less l r = refl
+order_short standard.Greater l r = refl
+order_short standard.AtMost l r = refl
+order_short standard.AtLeast l r = refl
+order_short _ l r = tt
+
+own_short : (k : Constant) (ts rs : List ℕ) → IsNoneShort (own_by k ts rs)
+own_short k ts [] = tt
+own_short k ts (l ∷ []) = tt
+own_short k [] (l ∷ r ∷ []) = order_short k l r
+own_short k (t ∷ []) (l ∷ r ∷ []) = equation_short k t l r
+own_short k (t ∷ u ∷ ts) (l ∷ r ∷ []) = tt
+own_short k ts (l ∷ r ∷ x ∷ xs) = tt
+
+pub numbered_short : (o : Option Constant) (ts rs : List ℕ) (i : Instr) → own_numbered o ts rs ≡ Some i → is_short i ≡ true
+numbered_short o ts rs i e = subst IsNoneShort e (of o)
+  where
+    of : (o : Option Constant) → IsNoneShort (own_numbered o ts rs)
+    of None = tt
+    of (Some k) = own_short k ts rs
+
 part_put : (old new : Emitter) (i : Instr) (ts rs : List ℕ) (asks : Home → State → Type 0) (goals : State → Goals) (head_types : State → List Ty) (arguments : Home → State → List Built) →
     new.code.items ≡ old.code.items ++ i ∷ [] → new.types ≡ old.types → new.registers ≡ old.registers → IsPlain (i ∷ []) →
     ((h : Home) (later : Later) (s : State) → IsStandard h.tables.constants → asks h s → Stands h later s i ts rs (goals s) (head_types s) (arguments h s)) →
@@ -385,10 +419,24 @@ integer_got old new i z code same_types same_registers =
 pub text_got : (old new : Emitter) (i : ℕ) (v : Vec ℕ Global) → new.code.items ≡ old.code.items ++ on.GetStr i v ∷ [] → new.types ≡ old.types → new.registers ≡ old.registers →
     TextGot old new i v.items
 text_got old new i v code same_types same_registers =
-    part_put old new (on.GetStr i v) [] [] (λ h s. IsNext h s i string_type) (λ s. s.goals) (λ s. s.head_types) (λ h s. s.head_arguments ++ whole (atom
+    part_put old new (on.GetStr i v) [] [] (λ h s. IsNext h s i string_type × (nat_lt (length v.items) 65536 ≡ true)) (λ s. s.goals) (λ s. s.head_types) (λ h s. s.head_arguments ++ whole (atom
     (text v.items)) string_type ∷ []) code same_types same_registers (record { no_own = refl; no_types = refl })
-    (λ h later s d a. read_by refl refl refl refl refl refl refl (ap (λ x. not x) a.typed) refl refl a.in_turn refl (λ rest. refl) refl refl
+    (λ h later s d a. read_by refl refl refl refl refl refl refl (ap (λ x. not x) a.0.typed) refl refl a.0.in_turn refl (λ rest. refl) refl refl
     (omega arith))
+
+-- a string that was cut, where it is too long
+pub text_cut : (old new : Emitter) (i : ℕ) (t b : List ℕ) → (nat_lt (length b) 65536 ≡ true → t ≡ b) → TextGot old new i t → TextGot old new i b
+text_cut old new i t b same x = record {
+  more = x.more;
+  code_is = x.code_is;
+  some = x.some;
+  types_stay = x.types_stay;
+  registers_stay = x.registers_stay;
+  plain = x.plain;
+  denotes = λ h later vars s std st te asks may.
+      subst (λ l. (u : State) × Turns h later vars old.types old.registers s x.more s.goals s.head_types (s.head_arguments ++ whole (atom (text l)) string_type ∷ []) u) (same asks.1)
+      (x.denotes h later vars s std st te (asks.0, subst (λ l. nat_lt (length l) 65536 ≡ true) (sym (same asks.1)) asks.1) may);
+}
 
 pub term_got : (old new : Emitter) (i r : ℕ) → new.code.items ≡ old.code.items ++ on.Get i r ∷ [] → new.types ≡ old.types → new.registers ≡ old.registers → TermGot old new i r
 term_got old new i r code same_types same_registers =

@@ -1,5 +1,5 @@
 -- Records with one more, and groups of records with one more.
-use Rattle.std.proofs.Common.{◌≡◌, ◌∙◌, ◌≤◌, ℕ, ◌+◌, List, [], ◌∷◌, ◌++◌, append_assoc, length, Bor, Option, Some, None, ap, refl, sym, subst, arith}
+use Rattle.std.proofs.Common.{◌≡◌, ◌∙◌, ◌≤◌, ◌<◌, ℕ, ◌+◌, ◌-◌, ◌^◌, List, [], ◌∷◌, ◌++◌, append_assoc, length, Bor, Option, Some, None, ap, refl, sym, subst, arith}
 use Rattle.std.specs.Prelude.{slice_get, take}
 use Rattle.std.proofs.lemmas.List.{append-nil, length-append}
 use Rattle.indexmap.specs.IndexMap.{IndexMap}
@@ -8,12 +8,16 @@ use Rattle.lp_model.specs.declared.clause.Clause as code
 use Rattle.lp_model.specs.declared.program.Declared.{Declared}
 use Rattle.lp_code.specs.declared.record.Record.{Record}
 use Rattle.lp_gen.specs.declared.environment.Variable.{Variable}
+use Rattle.lp_gen.specs.declared.plan.Assumption.{Assumption}
+use Rattle.lp_gen.specs.declared.plan.Due.{Due}
+use Rattle.lp_gen.specs.declared.plan.Origin.{Origin}
 use Rattle.lp_gen.specs.declared.plan.Part.{Part}
 use Rattle.lp_gen.specs.declared.plan.Origin.TheVariants as origin
-use Rattle.lp_gen.specs.declared.record.Tables.{Tables}
+use Rattle.lp_gen.specs.declared.tables.Tables.{Tables}
 use Rattle.lp_gen.specs.inner.Listing.{constant_function}
 use Rattle.lp_gen.specs.inner.Recorded.{RecordWritten}
-use Rattle.lp_gen.specs.inner.Groups.{IsStartOf, AllWritten, IsGroup, AreGroups}
+use Rattle.lp_gen.specs.inner.Planning.{ArePlanned, AllCaptured}
+use Rattle.lp_gen.specs.inner.Groups.{Kept, IsStartOf, AllWritten, IsGroup, AreGroups}
 use Rattle.lp_gen.proofs.PlanDone.{take_next}
 
 -- what an assumption keeps
@@ -44,6 +48,26 @@ part_written t parts i ys ys' more none given rs p r m w at empty written same s
     subst (λ l. AllWritten t [] ys' l (rs ++ r ∷ [])) (sym (take_next i parts p at)) (subst (λ l. AllWritten t [] l (take i parts ++ p ∷ []) (rs ++ r ∷ [])) (sym grown)
     (written_more t [] ys (take i parts) rs p r m more w (subst (λ l. RecordWritten t (constant_function t.bank.now t.constants.now) p m l more r)
     empty written) (subst (λ l. IsStartOf l p.within m) same start)))
+
+-- the records of one clause or query
+pub group_made : (b : Nodes) (ds : List Declared) (n vars : ℕ) (o : Origin) (us : List Due) (ps parts : List Part) (g : List Record) (starts : List Kept) (xs : List Assumption) (t : Tables) →
+    AllWritten t [] starts parts g → t.bank.now ≡ b → t.constants.now ≡ ds → t.type_vars ≡ vars → vars ≤ 65535 → (n < 2 ^ 32 - 1 → t.first ≡ n) → t.assumptions.now ≡ xs →
+    ArePlanned o us ps xs → AllCaptured b xs → length ps ≤ 65536 → parts ≡ ps → IsGroup b ds n vars o g
+group_made b ds n vars o us ps parts g starts xs t w bank constants same few_vars first assumptions planned captured few are = record {
+  tables = t;
+  bank_is = bank;
+  constants_are = constants;
+  vars_are = same;
+  few_vars = few_vars;
+  first = first;
+  due = us;
+  parts = ps;
+  planned = subst (ArePlanned o us ps) (sym assumptions) planned;
+  captured = subst (λ u. AllCaptured u t.assumptions.now) (sym bank) (subst (AllCaptured b) (sym assumptions) captured);
+  few = few;
+  starts = starts;
+  written = subst (λ l. AllWritten t [] starts l g) are w;
+}
 
 -- the records of one clause more
 pub groups_more : (b : Nodes) (ds : List Declared) (n : ℕ) (cs : List code.Clause) (rs g : List Record) (c : code.Clause) (of : Bor code.Clause) → AreGroups b ds n cs rs → of.now ≡ c →

@@ -25,12 +25,13 @@ use Rattle.lp_code.specs.States.{member}
 use Rattle.lp_code.specs.Rules.{named_before, names_in}
 use Rattle.lp_code.specs.Denote.{home_of, nothing_captured, later_from, first_state, run, query_ran}
 use Rattle.lp_gen.specs.Sources.{IsClause, IsQuery}
+use Rattle.lp_gen.specs.Limits.{goals_strings, clauses_strings}
 use Rattle.lp_gen.specs.declared.environment.Variable.{Variable}
 use Rattle.lp_gen.specs.declared.plan.Assumption.{Assumption}
 use Rattle.lp_gen.specs.declared.plan.Due.{Due}
 use Rattle.lp_gen.specs.declared.plan.Part.{Part}
 use Rattle.lp_gen.specs.declared.plan.Origin.TheVariants as origin
-use Rattle.lp_gen.specs.declared.record.Tables.{Tables}
+use Rattle.lp_gen.specs.declared.tables.Tables.{Tables}
 use Rattle.lp_gen.specs.inner.Listing.{Seen, seen, around_of, constant_function}
 use Rattle.lp_gen.specs.inner.Written.{AreAsked}
 use Rattle.lp_gen.specs.inner.GoalCode.{numbers}
@@ -42,7 +43,7 @@ use Rattle.lp_gen.specs.inner.Planned.{clauses_length, goal_records, goals_recor
 use Rattle.lp_gen.specs.inner.Planning.{AllCaptured, Extends, HoldClauses, AssumptionAt, PartPlanned, AllPlanned, ArePlanned, body_of}
 use Rattle.lp_gen.specs.inner.Groups.{IsStartOf, AllWritten}
 use Rattle.lp_gen.proofs.PlanWalked.{extends_same, extends_at, get_behind}
-use Rattle.lp_gen.proofs.PlanGoals.{clause_is, clauses_many}
+use Rattle.lp_gen.proofs.Tops.{clause_is, clauses_many}
 use Rattle.lp_gen.proofs.PartsDone.{clause_at, told_at, PartDone, IsMember, flat_of}
 use Rattle.lp_gen.proofs.PartsTell.{program_told, query_told}
 use Rattle.lp_gen.proofs.RecordNamed.{names}
@@ -512,28 +513,28 @@ module _ (S : Type 0) (t : Tables) (o1 : Origin) (us : List Due) (parts : List P
       starts_none p r at at_r within = subst (λ v. IsStartOf (at_place 0 p r at at_r).0.before v (at_place 0 p r at at_r).0.captured) within (at_place 0 p r at at_r).0.starts_with
 
       -- the first record denotes the clause
-      pub first_told : (of : Bor code.Clause) → o1 ≡ origin.Clause of → t.type_vars ≡ of.now.type_vars → IsClause T (clause_of b of.now) → (r : Record) → slice_get g 0 ≡ Some r →
+      pub first_told : (of : Bor code.Clause) → o1 ≡ origin.Clause of → t.type_vars ≡ of.now.type_vars → IsClause T (clause_of b of.now) → clauses_strings (clauses (clause_of b of.now) no_clauses) ≡ 0 → (r : Record) → slice_get g 0 ≡ Some r →
           told_at T all (t.first + 0) r nothing_captured ≡ Some (clause_of b of.now)
       unfolding part_done
-      first_told of o_is vars_are is_clause r at_r =
+      first_told of o_is vars_are is_clause short r at_r =
           let p = first_part r at_r in
           let shape : clause t.type_vars (types_at b of.now.vars.items) (tree b of.now.head.0) (goals_of b of.now.body.items) ≡ clause_of b of.now =
           (λ i. clause (vars_are i) (types_at b of.now.vars.items) (tree b of.now.head.0) (goals_of b of.now.body.items)) ∙ sym (clause_is b of.now) in
           program_told t cl T all parts g std asked few_types part_done placed members captured counts names_below named p.0 r p.1 at_r p.3 p.4 (starts_none p.0 r p.1 at_r p.3) of (p.2 ∙ o_is)
-          (subst (IsClause T) (sym shape) is_clause) ∙ ap (λ v. Some v) shape
+          (subst (IsClause T) (sym shape) is_clause) (subst (λ F. clauses_strings (clauses F no_clauses) ≡ 0) (sym shape) short) ∙ ap (λ v. Some v) shape
 
       -- or the query
       pub first_query : (q1 : Bor query.Typed) (gs1 : Bor (List code_goal.Goal)) → o1 ≡ origin.Query q1 gs1 → IsQuery T t.type_vars (reverse (types_at b (map (λ v. v.1) q1.now.vars.items)))
-          (goals_of b gs1.now) →
+          (goals_of b gs1.now) → goals_strings (goals_of b gs1.now) ≡ 0 →
           (r : Record) → slice_get g 0 ≡ Some r →
           query_ran (home_of T all (t.first + 0) r)
           (run (home_of T all (t.first + 0) r) (λ k e. later_from T all (suc (t.first + 0)) (drop (suc (t.first + 0)) all) k e) (first_state r nothing_captured) r.code.items)
           ≡ Some (record { type_vars = t.type_vars; vars = types_at b (map (λ v. v.1) q1.now.vars.items); body = goals_of b gs1.now })
       unfolding part_done
-      first_query q1 gs1 o_is is_query r at_r =
+      first_query q1 gs1 o_is is_query short r at_r =
           let p = first_part r at_r in
           query_told t cl T all parts g std asked few_types part_done placed members captured counts names_below named p.0 r p.1 at_r p.3 p.4 (starts_none p.0 r p.1 at_r p.3) q1 gs1
-          (p.2 ∙ o_is) is_query
+          (p.2 ∙ o_is) is_query short
 
       pub query_head : (q1 : Bor query.Typed) (gs1 : Bor (List code_goal.Goal)) → o1 ≡ origin.Query q1 gs1 → (r : Record) → slice_get g 0 ≡ Some r → r.head ≡ None
       query_head q1 gs1 o_is r at_r =

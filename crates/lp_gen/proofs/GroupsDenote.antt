@@ -9,7 +9,9 @@ use Rattle.lp_standard.specs.Constants.{first_declared}
 use Rattle.lp_lemmas.proofs.Lists.{get_append}
 use Rattle.lp_term.specs.Nodes.{Nodes, tree, type_tree}
 use Rattle.lp_model.specs.Flat.{Goal, Goals, Clauses, Atomic, Cut, Either, Exists, Forall, Assume, Not, no_goals, goals, clause, no_clauses, clauses}
-use Rattle.lp_model.specs.Flattened.{clause_of, goals_of}
+use Rattle.lp_model.specs.Flattened.{clause_of, clauses_of, goals_of}
+use Rattle.lp_gen.specs.Limits.{clauses_strings}
+use Rattle.lp_gen.proofs.StringsLeft.{clauses_split}
 use Rattle.lp_model.specs.Readings.{declared_by, scheme_of}
 use Rattle.lp_model.specs.declared.clause.Clause as code
 use Rattle.lp_model.specs.declared.program.Declared.{Declared}
@@ -23,7 +25,7 @@ use Rattle.lp_gen.specs.Contract.{tables_of}
 use Rattle.lp_gen.specs.declared.plan.Due.{Due}
 use Rattle.lp_gen.specs.declared.plan.Part.{Part}
 use Rattle.lp_gen.specs.declared.plan.Origin.TheVariants as origin
-use Rattle.lp_gen.specs.declared.record.Tables.{Tables}
+use Rattle.lp_gen.specs.declared.tables.Tables.{Tables}
 use Rattle.lp_gen.specs.inner.Listing.{constant_function}
 use Rattle.lp_gen.specs.inner.Written.{AreAsked}
 use Rattle.lp_gen.specs.inner.Planned.{DeepGoal, DeepGoals, DeepClauses}
@@ -31,7 +33,7 @@ use Rattle.lp_gen.specs.inner.Planning.{ArePlanned, AllCaptured}
 use Rattle.lp_gen.specs.inner.Groups.{Hasher, Kept, AllWritten, IsGroup, AreGroups}
 use Rattle.lp_gen.proofs.ConstantTypes.{constants_asked}
 use Rattle.lp_gen.proofs.PartsDone.{told_at}
-use Rattle.lp_gen.proofs.PlanGoals.{clause_is}
+use Rattle.lp_gen.proofs.Tops.{clause_is}
 use Rattle.lp_gen.proofs.GroupTold.{written_length, early_end, first_program, other_assumed, first_told}
 use Rattle.lp_gen.proofs.GroupDenotes.{group_denotes}
 
@@ -92,8 +94,9 @@ module _ (κ : ℕ → Option ℕ) (all : List Record) where
       t.assumptions.now → AllCaptured t.bank.now t.assumptions.now →
       AllWritten t [] starts parts g → t.first ≡ n → n + length g ≤ 65535 → t.type_vars ≤ 65535 → t.type_vars ≡ of.now.type_vars → drop n all ≡ g ++
       rest → ((v : ℕ) → member v (named_before n all) ≡ true → v < n) →
-      AreKnownSchemes (tables_of t.bank.now t.constants.now κ) → IsClause (tables_of t.bank.now t.constants.now κ) (clause_of t.bank.now of.now) → Told t.bank.now t.constants.now n of.now g rest
-  one_group n t of us parts g rest starts plan standing w first few few_types vars from before known is =
+      AreKnownSchemes (tables_of t.bank.now t.constants.now κ) → IsClause (tables_of t.bank.now t.constants.now κ) (clause_of t.bank.now of.now) → clauses_strings (clauses (clause_of t.bank.now of.now) no_clauses) ≡ 0 →
+      Told t.bank.now t.constants.now n of.now g rest
+  one_group n t of us parts g rest starts plan standing w first few few_types vars from before known is short =
       (group_denotes (tables_of t.bank.now t.constants.now κ) all n g rest (clause_of t.bank.now of.now) from some first_one other, last)
     where
       many : length g ≡ length parts
@@ -123,7 +126,7 @@ module _ (κ : ℕ → Option ℕ) (all : List Record) where
         first_program Hasher t (origin.Clause of) us parts g starts plan w low deep standing (tables_of t.bank.now t.constants.now κ) all placed early r at,
         (let z : t.first + 0 ≡ n = omega (arith, first) in ap (λ k. told_at (tables_of t.bank.now t.constants.now κ) all k r nothing_captured) (sym z))
             ∙ first_told Hasher t (origin.Clause of) us parts g starts plan w low deep standing (tables_of t.bank.now t.constants.now κ) all placed early (standard_of t.bank.now t.constants.now) asked
-            few_types of refl vars is r at,
+            few_types of refl vars is short r at,
       )
 
       other : (i : ℕ) (r : Record) → slice_get g (suc i) ≡ Some r → (r.program ≡ false) × (member (n + suc i) (named_before (n + suc i) all) ≡ true)
@@ -141,23 +144,25 @@ module _ (κ : ℕ → Option ℕ) (all : List Record) where
 
   group_of : (b : Nodes) (ds : List Declared) (n : ℕ) (of : Bor code.Clause) (c : code.Clause) (g rest : List Record) → of.now ≡ c → IsGroup b ds n
       c.type_vars (origin.Clause of) g → n + length g ≤ 65535 → drop n all ≡ g ++ rest →
-      ((v : ℕ) → member v (named_before n all) ≡ true → v < n) → AreKnownSchemes (tables_of b ds κ) → IsClause (tables_of b ds κ) (clause_of b c) → Told b ds n c g rest
+      ((v : ℕ) → member v (named_before n all) ≡ true → v < n) → AreKnownSchemes (tables_of b ds κ) → IsClause (tables_of b ds κ) (clause_of b c) → clauses_strings (clauses (clause_of b c) no_clauses) ≡ 0 → Told b ds n c g rest
   group_of b ds n of c g rest is G few from before =
-      subst (λ e. AreKnownSchemes (tables_of b ds κ) → IsClause (tables_of b ds κ) (clause_of b e) → Told b ds n e g rest) is
-      (subst (λ u. AreKnownSchemes (tables_of u ds κ) → IsClause (tables_of u ds κ) (clause_of u of.now) → Told u ds n of.now g rest) G.bank_is
+      subst (λ e. AreKnownSchemes (tables_of b ds κ) → IsClause (tables_of b ds κ) (clause_of b e) → clauses_strings (clauses (clause_of b e) no_clauses) ≡ 0 → Told b ds n e g rest) is
+      (subst (λ u. AreKnownSchemes (tables_of u ds κ) → IsClause (tables_of u ds κ) (clause_of u of.now) → clauses_strings (clauses (clause_of u of.now) no_clauses) ≡ 0 → Told u ds n of.now g rest) G.bank_is
       (subst (λ u. AreKnownSchemes (tables_of G.tables.bank.now u κ) → IsClause (tables_of G.tables.bank.now u κ) (clause_of G.tables.bank.now of.now)
-      → Told G.tables.bank.now u n of.now g rest) G.constants_are
+      → clauses_strings (clauses (clause_of G.tables.bank.now of.now) no_clauses) ≡ 0 → Told G.tables.bank.now u n of.now g rest) G.constants_are
       (one_group n G.tables of G.due G.parts g rest G.starts G.planned G.captured G.written (G.first (omega (arith, few))) few (let v = G.vars_are in let f = G.few_vars in omega (arith, v, f))
       (G.vars_are ∙ ap (λ (e : code.Clause). e.type_vars) (sym is)) from before)))
 
   pub groups_denote : (b : Nodes) (ds : List Declared) (n : ℕ) (cs : List code.Clause) (rs : List Record) → AreGroups b ds n cs rs → drop n all ≡ rs →
       ((v : ℕ) → member v (named_before n all) ≡ true → v < n) → n + length rs ≤ 65535 →
-      AreKnownSchemes (tables_of b ds κ) → All (IsClause (tables_of b ds κ)) (map (clause_of b) cs) → denote_from (tables_of b ds κ) all n rs ≡ Some (map (clause_of b) cs)
-  groups_denote b ds n [] rs none from before few known each = ap (denote_from (tables_of b ds κ) all n) none
-  groups_denote b ds n (c ∷ cs) rs (of, is, g, more, e, G, gs) from before few known each =
+      AreKnownSchemes (tables_of b ds κ) → All (IsClause (tables_of b ds κ)) (map (clause_of b) cs) → clauses_strings (clauses_of b cs) ≡ 0 →
+      denote_from (tables_of b ds κ) all n rs ≡ Some (map (clause_of b) cs)
+  groups_denote b ds n [] rs none from before few known each short = ap (denote_from (tables_of b ds κ) all n) none
+  groups_denote b ds n (c ∷ cs) rs (of, is, g, more, e, G, gs) from before few known each short =
       let T = tables_of b ds κ in
+      let split = clauses_split (clause_of b c) (clauses_of b cs) in
       let sum = ap length e ∙ length-append g more in
-      let one = group_of b ds n of c g more is G (omega (arith, few, sum)) (from ∙ e) before known (All-head (IsClause T) (clause_of b c) (map (clause_of b) cs) each) in
+      let one = group_of b ds n of c g more is G (omega (arith, few, sum)) (from ∙ e) before known (All-head (IsClause T) (clause_of b c) (map (clause_of b) cs) each) (omega (arith, split, short)) in
       ap (denote_from T all n) e ∙ one.0
       ∙ ap (option_map (λ cs. clause_of b c ∷ cs)) (groups_denote b ds (n + length g) cs more gs (drop_more n all g more (from ∙ e)) one.1 (omega (arith, few, sum)) known
-      (All-tail (IsClause T) (clause_of b c) (map (clause_of b) cs) each))
+      (All-tail (IsClause T) (clause_of b c) (map (clause_of b) cs) each) (omega (arith, split, short)))

@@ -72,6 +72,7 @@ mod RecordNames
 mod ClauseDenoted
 mod PartsTell
 mod ProgramTypes
+mod Tops
 mod PlanWalked
 mod PlanGoals
 mod PlanParts
@@ -83,6 +84,9 @@ mod GroupDenotes
 mod GroupPut
 mod GroupsDenote
 mod CapturedBy
+mod StringsLeft
+mod OtherLimits
+mod RecordsCounted
 mod NamedNumbers
 mod QueryDenotes
 mod PartsDone

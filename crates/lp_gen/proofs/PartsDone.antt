@@ -20,7 +20,7 @@ use Rattle.lp_gen.specs.declared.plan.Assumption.{Assumption}
 use Rattle.lp_gen.specs.declared.plan.Part.{Part}
 use Rattle.lp_gen.specs.declared.plan.Origin.{Origin}
 use Rattle.lp_gen.specs.declared.plan.Origin.TheVariants as origin
-use Rattle.lp_gen.specs.declared.record.Tables.{Tables}
+use Rattle.lp_gen.specs.declared.tables.Tables.{Tables}
 use Rattle.lp_gen.specs.inner.Listing.{Around, constant_function}
 use Rattle.lp_gen.specs.inner.Bodies.{bare_clauses, said_clauses, AllThrough}
 use Rattle.lp_gen.specs.inner.GoalCode.{numbers}

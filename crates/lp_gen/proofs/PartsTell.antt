@@ -21,11 +21,12 @@ use Rattle.lp_code.specs.States.{Captured, Home, member}
 use Rattle.lp_code.specs.Steps.{Later, clauses_of_records}
 use Rattle.lp_code.specs.Rules.{nesting_limit, named_before, is_assumed_record}
 use Rattle.lp_code.specs.Denote.{from_zero, first_state, home_of, later_from, nothing_captured, run, query_ran}
+use Rattle.lp_gen.specs.Limits.{goals_strings, clauses_strings}
 use Rattle.lp_gen.specs.Sources.{IsClause, IsQuery, Under, AreGoals, IsKnownType, goals_depth, clauses_depth}
 use Rattle.lp_gen.specs.declared.plan.Assumption.{Assumption}
 use Rattle.lp_gen.specs.declared.plan.Part.{Part}
 use Rattle.lp_gen.specs.declared.plan.Origin.TheVariants as origin
-use Rattle.lp_gen.specs.declared.record.Tables.{Tables}
+use Rattle.lp_gen.specs.declared.tables.Tables.{Tables}
 use Rattle.lp_gen.specs.inner.Listing.{Seen, Around, at_level, level_in, constant_function}
 use Rattle.lp_gen.specs.inner.TermLaw.{IsSeen, AllLoose}
 use Rattle.lp_gen.specs.inner.Written.{AreAsked}
@@ -387,8 +388,9 @@ module _ {S : Type 0} (t : Tables) (cl : Suppositions) (T : CodeTables) (all : L
   pub program_told : (p : Part) (r : Record) (at : slice_get parts 0 ≡ Some p) (at_r : slice_get records 0 ≡ Some r) → p.within ≡ None → p.base ≡ 0 → (done 0 p r at at_r).captured.entries ≡ [] →
       (of : Bor code.Clause) → p.origin ≡ origin.Clause of →
       IsClause T (clause t.type_vars (types_at t.bank.now of.now.vars.items) (tree t.bank.now of.now.head.0) (goals_of t.bank.now of.now.body.items)) →
+      clauses_strings (clauses (clause t.type_vars (types_at t.bank.now of.now.vars.items) (tree t.bank.now of.now.head.0) (goals_of t.bank.now of.now.body.items)) no_clauses) ≡ 0 →
       told_at T all (t.first + 0) r nothing_captured ≡ Some (clause t.type_vars (types_at t.bank.now of.now.vars.items) (tree t.bank.now of.now.head.0) (goals_of t.bank.now of.now.body.items))
-  program_told p r at at_r within base none of root is_clause =
+  program_told p r at at_r within base none of root is_clause short =
       record_of.program_denoted t p d.captured d.starts (origin.Clause of) h d.written root no_terms [] [] nobody NoIndex [] (outside h) base given low cl
       d.next d.first gs d.kept steps fits.4 d.are_next few (suc (t.first + 0)) le has counts std
       (asked (t.first + 0) r) fits.1 below fits.3 is_clause.1 [] tt of refl fits.2 (ap is_none within) few_types (ap length none) refl no_index no_indices
@@ -417,7 +419,7 @@ module _ {S : Type 0} (t : Tables) (cl : Suppositions) (T : CodeTables) (all : L
       count = ap own_count root ∙ sym (map_length (λ i. type_tree t.bank.now i.0) of.now.vars.items)
 
       fits : ClausesFit h t.type_vars [] [] NoIndex (clauses (clause 0 Ts head gs) no_clauses)
-      fits = clauses_fit h (record { type_vars = t.type_vars; indices = []; binders = [] }) NoIndex (clauses (clause 0 Ts head gs) no_clauses) is_clause.0 (λ i U e. absurd (cc))
+      fits = clauses_fit h (record { type_vars = t.type_vars; indices = []; binders = [] }) NoIndex (clauses (clause 0 Ts head gs) no_clauses) is_clause.0 short (λ i U e. absurd (cc))
 
       given : AreStarts nobody (levels_found nobody []) (started_at t.bank.now d.captured) (index_map_len d.captured)
       given = starts_begin t.bank.now nobody d.captured none
@@ -455,11 +457,11 @@ module _ {S : Type 0} (t : Tables) (cl : Suppositions) (T : CodeTables) (all : L
   -- or that of the query
   pub query_told : (p : Part) (r : Record) (at : slice_get parts 0 ≡ Some p) (at_r : slice_get records 0 ≡ Some r) → p.within ≡ None → p.base ≡ 0 → (done 0 p r at at_r).captured.entries ≡ [] →
       (q1 : Bor query.Typed) (gs1 : Bor (List code_goal.Goal)) → p.origin ≡ origin.Query q1 gs1 →
-      IsQuery T t.type_vars (reverse (types_at t.bank.now (map (λ v. v.1) q1.now.vars.items))) (goals_of t.bank.now gs1.now) →
+      IsQuery T t.type_vars (reverse (types_at t.bank.now (map (λ v. v.1) q1.now.vars.items))) (goals_of t.bank.now gs1.now) → goals_strings (goals_of t.bank.now gs1.now) ≡ 0 →
       query_ran (home_of T all (t.first + 0) r)
       (run (home_of T all (t.first + 0) r) (λ k e. later_from T all (suc (t.first + 0)) (drop (suc (t.first + 0)) all) k e) (first_state r nothing_captured) r.code.items)
       ≡ Some (record { type_vars = t.type_vars; vars = types_at t.bank.now (map (λ v. v.1) q1.now.vars.items); body = goals_of t.bank.now gs1.now })
-  query_told p r at at_r within base none q1 gs1 root is_query =
+  query_told p r at at_r within base none q1 gs1 root is_query short =
       record_of.query_denoted t p d.captured d.starts (origin.Query q1 gs1) h d.written root no_terms [] [] nobody NoIndex [] (outside h) base given low cl
       d.next d.first gs d.kept steps ends d.are_next few (suc (t.first + 0)) le has counts std
       (asked (t.first + 0) r) is_query.0 below fits is_query.2 [] tt q1 gs1 refl (ap is_none within) few_types (ap length none) refl no_indices
@@ -493,7 +495,7 @@ module _ {S : Type 0} (t : Tables) (cl : Suppositions) (T : CodeTables) (all : L
           (subst (λ l. AreGoals T (record { type_vars = t.type_vars; indices = Ts; binders = l }) gs) (sym (append-nil (map (λ (T : Ty). false) Ts))) is_query.1)
 
       fits : GoalsFit h t.type_vars (Ts ++ []) (map (λ T. false) Ts ++ []) (more_of Ts NoIndex) gs
-      fits = goals_fit h u (more_of Ts NoIndex) gs are (all_hold Ts [] NoIndex (λ i U e. absurd (cc)))
+      fits = goals_fit h u (more_of Ts NoIndex) gs are short (all_hold Ts [] NoIndex (λ i U e. absurd (cc)))
 
       ends : EndsGoals gs
       ends = goals_end h u gs are

@@ -1,18 +1,16 @@
 -- What is to do for a goal, by its top.
-use Rattle.std.proofs.Common.{◌≡◌, ◌∙◌, ℕ, suc, ◌+◌, List, [], ◌∷◌, ◌++◌, append_assoc, length, map, Vec, Global, ap, refl, sym, subst, arith}
+use Rattle.std.proofs.Common.{◌≡◌, ◌∙◌, ℕ, suc, ◌+◌, List, [], ◌∷◌, ◌++◌, append_assoc, length, Vec, Global, ap, refl, sym, subst, arith}
 use Rattle.std.proofs.lemmas.List.{append-nil}
 use Rattle.lp_model.specs.declared.clause.Goal as code
 use Rattle.lp_model.specs.declared.clause.Goal.{Goal}
-use Rattle.lp_model.specs.declared.clause.Goal.TheOpen.{Goal-F}
-use Rattle.lp_model.specs.declared.clause.Goal.TheVariants.{rolls-Atom, rolls-Cut, rolls-Either, rolls-Some, rolls-All, rolls-Assume, rolls-Not}
-use Rattle.lp_model.specs.declared.clause.Goal.TheFolds.{fold-roll-Goal, fold_out-Clause}
 use Rattle.lp_model.specs.declared.clause.Clause.{Clause}
-use Rattle.lp_model.specs.Flat.{Goal as FlatGoal, Clause as FlatClause, Goals, Clauses, Atomic, Cut, Either, Exists, Forall, no_goals, goals, clause, assuming, denied}
-use Rattle.lp_model.specs.Flattened.{goal_top, clause_top, goal_of, goals_of, clause_of, clauses_of}
+use Rattle.lp_model.specs.Flat.{Goal as FlatGoal, Goals, Clauses, Atomic, Cut, Either, Exists, Forall, no_goals, goals, assuming, denied}
+use Rattle.lp_model.specs.Flattened.{goal_of, goals_of, clauses_of}
 use Rattle.lp_term.specs.Nodes.{Nodes, tree, type_tree}
 use Rattle.lp_term.specs.declared.node.TermId.{TermId}
 use Rattle.lp_term.specs.declared.node.TypeId.{TypeId}
 use Rattle.lp_gen.specs.Sources.{ends_list}
+use Rattle.lp_gen.specs.Limits.{goal_assumes}
 use Rattle.lp_gen.specs.declared.plan.Assumption.{Assumption}
 use Rattle.lp_gen.specs.declared.plan.Due.{Due}
 use Rattle.lp_gen.specs.declared.plan.Step.{Step}
@@ -20,36 +18,9 @@ use Rattle.lp_gen.specs.declared.plan.Step.TheVariants as on
 use Rattle.lp_gen.specs.inner.OpenGoals.{BodyStep, turn, end_either, end_all, end_assume, end_deny, goal_steps, goals_steps}
 use Rattle.lp_gen.specs.inner.BodyCode.{Suppositions, step_of}
 use Rattle.lp_gen.specs.inner.Planned.{clauses_length, goal_records, goals_records, GoalHas, GoalsHave, IsWritten, DeepGoal}
-use Rattle.lp_gen.specs.inner.Planning.{IsAssumed, Todo, due_goals, due_end, due_level, todo_steps, TodoHave, TodoWritten, TodoDeep, WalkKept}
+use Rattle.lp_gen.specs.inner.Planning.{IsAssumed, Todo, due_goals, due_end, due_level, todo_steps, todo_records, TodoHave, TodoWritten, TodoDeep, WalkKept}
+use Rattle.lp_gen.proofs.Tops.{atom_is, cut_is, either_is, some_is, all_is, assume_is, not_is, clauses_many}
 use Rattle.lp_gen.proofs.PlanWalked.{step_put, todo_same, assume_put}
-
-pub atom_is : (b : Nodes) (t : TermId) → goal_of b (code.Atom t) ≡ Atomic (tree b t.0)
-atom_is b t = ap (goal_of b) (sym (rolls-Atom t)) ∙ fold-roll-Goal FlatGoal FlatClause (goal_top b) (clause_top b) (Goal-F.Atom t)
-
-pub cut_is : (b : Nodes) → goal_of b code.Cut ≡ Cut
-cut_is b = ap (goal_of b) (sym rolls-Cut) ∙ fold-roll-Goal FlatGoal FlatClause (goal_top b) (clause_top b) Goal-F.Cut
-
-pub either_is : (b : Nodes) (l r : Vec Goal Global) → goal_of b (code.Either l r) ≡ Either (goals_of b l.items) (goals_of b r.items)
-either_is b l r = ap (goal_of b) (sym (rolls-Either l r)) ∙ fold-roll-Goal FlatGoal FlatClause (goal_top b) (clause_top b) (Goal-F.Either l r)
-
-pub some_is : (b : Nodes) (T : TypeId) (l : Vec Goal Global) → goal_of b (code.Some T l) ≡ Exists (type_tree b T.0) (goals_of b l.items)
-some_is b T l = ap (goal_of b) (sym (rolls-Some T l)) ∙ fold-roll-Goal FlatGoal FlatClause (goal_top b) (clause_top b) (Goal-F.Some T l)
-
-pub all_is : (b : Nodes) (T : TypeId) (l : Vec Goal Global) → goal_of b (code.All T l) ≡ Forall (type_tree b T.0) (goals_of b l.items)
-all_is b T l = ap (goal_of b) (sym (rolls-All T l)) ∙ fold-roll-Goal FlatGoal FlatClause (goal_top b) (clause_top b) (Goal-F.All T l)
-
-pub assume_is : (b : Nodes) (cs : Vec Clause Global) (l : Vec Goal Global) → goal_of b (code.Assume cs l) ≡ assuming (clauses_of b cs.items) (goals_of b l.items)
-assume_is b cs l = ap (goal_of b) (sym (rolls-Assume cs l)) ∙ fold-roll-Goal FlatGoal FlatClause (goal_top b) (clause_top b) (Goal-F.Assume cs l)
-
-pub not_is : (b : Nodes) (l : Vec Goal Global) → goal_of b (code.Not l) ≡ denied (goals_of b l.items)
-not_is b l = ap (goal_of b) (sym (rolls-Not l)) ∙ fold-roll-Goal FlatGoal FlatClause (goal_top b) (clause_top b) (Goal-F.Not l)
-
-pub clause_is : (b : Nodes) (c : Clause) → clause_of b c ≡ clause c.type_vars (map (λ T. type_tree b T.0) c.vars.items) (tree b c.head.0) (goals_of b c.body.items)
-clause_is b c = fold_out-Clause FlatGoal FlatClause (goal_top b) (clause_top b) c
-
-pub clauses_many : (b : Nodes) (cs : List Clause) → clauses_length (clauses_of b cs) ≡ length cs
-clauses_many b [] = refl
-clauses_many b (c ∷ cs) = ap suc (clauses_many b cs)
 
 -- a single goal by its top
 one_steps : (b : Nodes) (cl : Suppositions) (g : Goal) (F : FlatGoal) (ts : List Todo) (ss : List BodyStep) → goal_of b g ≡ F → goal_steps F ++
@@ -61,6 +32,9 @@ one_has : (b : Nodes) (D : ℕ → ℕ → Clauses → Type 0) (q d : ℕ) (g : 
 one_has b D q d g F ts is x y =
     let z : q + goal_records F ≡ q + (goal_records F + 0) = omega arith in
     ((subst (GoalHas D q d) (sym is) x, tt), subst (λ u. TodoHave b D (q + (goal_records u + 0)) d ts) (sym is) (subst (λ k. TodoHave b D k d ts) z y))
+
+one_records : (b : Nodes) (g : Goal) (F : FlatGoal) (ts : List Todo) → goal_of b g ≡ F → todo_records b (due_goals (g ∷ []) ∷ ts) ≡ goal_assumes F + todo_records b ts
+one_records b g F ts is = let n = ap goal_assumes is in omega (arith, n)
 
 one_written : (b : Nodes) (g : Goal) (F : FlatGoal) (ts : List Todo) → goal_of b g ≡ F → IsWritten F → TodoWritten b ts → TodoWritten b (due_goals (g ∷ []) ∷ ts)
 one_written b g F ts is x y = ((subst IsWritten (sym is) x, tt), y)
@@ -92,10 +66,10 @@ module _ (us : List Due) (xs : List Assumption) (d : ℕ) (ss : List Step) (ts :
       let z : q + (goal_records (goal_of b g) + 0) ≡ q + goal_records (goal_of b g) = omega arith in
       let y : q + (goal_records (goal_of b g) + 0) + goals_records (goals_of b gs) ≡ q + (goal_records (goal_of b g) + goals_records (goals_of b gs)) = omega arith in
       ((x.0.0, subst (λ k. GoalsHave D k d (goals_of b gs)) z x.1.0), subst (λ k. TodoHave b D k d ts) y x.1.1))
-      (λ b x. ((x.0.0, x.1.0), x.1.1)) (λ b x. ((x.0.0, last_goal (goal_of b g), tt), (x.0.2, x.1))) (λ e. e)
+      (λ b x. ((x.0.0, x.1.0), x.1.1)) (λ b x. ((x.0.0, last_goal (goal_of b g), tt), (x.0.2, x.1))) (λ e. e) (λ b. omega arith)
 
   pub no_more : WalkKept us us xs xs d d ss ss (due_goals [] ∷ ts) ts
-  no_more = todo_same us xs d d ss (due_goals [] ∷ ts) ts (λ b cl. refl) (λ b D q x. (tt, none_more b D q d ts x)) (λ b x. (tt, x)) (λ b x. x.1) (λ e. e)
+  no_more = todo_same us xs d d ss (due_goals [] ∷ ts) ts (λ b cl. refl) (λ b D q x. (tt, none_more b D q d ts x)) (λ b x. (tt, x)) (λ b x. x.1) (λ e. e) (λ b. omega arith)
 
   pub atom_put : (t : TermId) → WalkKept us us xs xs d d ss (ss ++ on.Atom t ∷ []) (due_goals (code.Atom t ∷ []) ∷ ts) ts
   atom_put t =
@@ -103,13 +77,13 @@ module _ (us : List Due) (xs : List Assumption) (d : ℕ) (ss : List Step) (ts :
       (step_of b cl (on.Atom t) ∷ todo_steps b cl ts) (atom_is b t) refl)
       (λ b D q x. one_has b D q d (code.Atom t) (Atomic (tree b t.0)) ts (atom_is b t) tt (none_more b D q d ts x))
       (λ b x. one_written b (code.Atom t) (Atomic (tree b t.0)) ts (atom_is b t) tt x) (λ b x. x.1)
-      (λ e. (e, (λ t q m. tt, λ t q. refl, λ t. refl)))
+      (λ e. (e, (λ t q m. tt, λ t q. refl, λ t. refl))) (λ b. let n = one_records b (code.Atom t) (Atomic (tree b t.0)) ts (atom_is b t) in omega (arith, n))
 
   pub cut_put : WalkKept us us xs xs d d ss (ss ++ on.Cut ∷ []) (due_goals (code.Cut ∷ []) ∷ ts) ts
   cut_put =
       step_put us xs d d ss on.Cut (due_goals (code.Cut ∷ []) ∷ ts) ts (λ b cl. one_steps b cl code.Cut Cut ts (step_of b cl on.Cut ∷ todo_steps b cl ts) (cut_is b) refl)
       (λ b D q x. one_has b D q d code.Cut Cut ts (cut_is b) tt (none_more b D q d ts x)) (λ b x. one_written b code.Cut Cut ts (cut_is b) tt x)
-      (λ b x. x.1) (λ e. (e, (λ t q m. tt, λ t q. refl, λ t. refl)))
+      (λ b x. x.1) (λ e. (e, (λ t q m. tt, λ t q. refl, λ t. refl))) (λ b. let n = one_records b code.Cut Cut ts (cut_is b) in omega (arith, n))
 
   pub either_put : (l r : Vec Goal Global) →
       WalkKept us us xs xs d d ss (ss ++ on.Either ∷ []) (due_goals (code.Either l r ∷ []) ∷ ts) (due_goals l.items ∷ due_end on.Turn d ∷ due_goals r.items ∷ due_end on.EndEither d ∷ ts)
@@ -131,6 +105,7 @@ module _ (us : List Due) (xs : List Assumption) (d : ℕ) (ss : List Step) (ts :
         ((λ t q m. tt, λ t q. refl, λ t. refl), ((λ t q m. tt, λ t q. refl, λ t. refl), e)),
         (λ t q m. tt, λ t q. refl, λ t. refl),
       ))
+      (λ b. let n = one_records b (code.Either l r) (Either (goals_of b l.items) (goals_of b r.items)) ts (either_is b l r) in omega (arith, n))
 
   pub some_put : (d' : ℕ) (T : TypeId) (l : Vec Goal Global) → d' ≡ suc d → WalkKept us us xs xs d d' ss (ss ++ on.Some T ∷ [])
       (due_goals (code.Some T l ∷ []) ∷ ts) (due_goals l.items ∷ due_level d ∷ ts)
@@ -141,7 +116,7 @@ module _ (us : List Due) (xs : List Assumption) (d : ℕ) (ss : List Step) (ts :
       (λ b D q x. one_has b D q d (code.Some T l) (Exists (type_tree b T.0) (goals_of b l.items)) ts (some_is b T l) (subst (λ k. GoalsHave D q k (goals_of b l.items)) more x.0) x.1)
       (λ b x. one_written b (code.Some T l) (Exists (type_tree b T.0) (goals_of b l.items)) ts (some_is b T l) x.0 x.1)
       (λ b x. one_deep b (code.Some T l) (Exists (type_tree b T.0) (goals_of b l.items)) ts (some_is b T l) x)
-      (λ e. (e, (λ t q m. tt, λ t q. refl, λ t. refl)))
+      (λ e. (e, (λ t q m. tt, λ t q. refl, λ t. refl))) (λ b. one_records b (code.Some T l) (Exists (type_tree b T.0) (goals_of b l.items)) ts (some_is b T l))
 
   pub all_put : (d' : ℕ) (T : TypeId) (l : Vec Goal Global) → d' ≡ suc d → WalkKept us us xs xs d d' ss (ss ++ on.All T ∷ [])
       (due_goals (code.All T l ∷ []) ∷ ts) (due_goals l.items ∷ due_end on.EndAll d ∷ ts)
@@ -154,6 +129,7 @@ module _ (us : List Due) (xs : List Assumption) (d : ℕ) (ss : List Step) (ts :
       (λ b x. one_written b (code.All T l) (Forall (type_tree b T.0) (goals_of b l.items)) ts (all_is b T l) x.0 x.1)
       (λ b x. one_deep b (code.All T l) (Forall (type_tree b T.0) (goals_of b l.items)) ts (all_is b T l) x)
       (λ e. (((λ t q m. tt, λ t q. refl, λ t. refl), e), (λ t q m. tt, λ t q. refl, λ t. refl)))
+      (λ b. one_records b (code.All T l) (Forall (type_tree b T.0) (goals_of b l.items)) ts (all_is b T l))
 
   pub not_put : (l : Vec Goal Global) → WalkKept us us xs xs d d ss (ss ++ on.Not ∷ []) (due_goals (code.Not l ∷ []) ∷ ts) (due_goals l.items ∷ due_end on.EndNot d ∷ ts)
   not_put l =
@@ -164,7 +140,7 @@ module _ (us : List Due) (xs : List Assumption) (d : ℕ) (ss : List Step) (ts :
       (λ b D q x. one_has b D q d (code.Not l) (denied (goals_of b l.items)) ts (not_is b l) x.0 x.1)
       (λ b x. one_written b (code.Not l) (denied (goals_of b l.items)) ts (not_is b l) (refl, x.0) x.1)
       (λ b x. one_deep b (code.Not l) (denied (goals_of b l.items)) ts (not_is b l) x)
-      (λ e. (((λ t q m. tt, λ t q. refl, λ t. refl), e), (λ t q m. tt, λ t q. refl, λ t. refl)))
+      (λ e. (((λ t q m. tt, λ t q. refl, λ t. refl), e), (λ t q m. tt, λ t q. refl, λ t. refl))) (λ b. one_records b (code.Not l) (denied (goals_of b l.items)) ts (not_is b l))
 
   pub assumed_put : (us' : List Due) (xs' : List Assumption) (n : ℕ) (cs : Vec Clause Global) (l : Vec Goal Global) → IsAssumed us us' xs xs' cs.items d n →
       WalkKept us us' xs xs' d d ss (ss ++ on.Assume n ∷ []) (due_goals (code.Assume cs l ∷ []) ∷ ts) (due_goals l.items ∷ due_end on.EndAssume d ∷ ts)
@@ -184,10 +160,11 @@ module _ (us : List Due) (xs : List Assumption) (d : ℕ) (ss : List Step) (ts :
       (subst (λ k. TodoHave b D k d ts) y x.1))
       (λ b x. one_written b (code.Assume cs l) (assuming (clauses_of b cs.items) (goals_of b l.items)) ts (assume_is b cs l) (refl, x.0) x.1)
       (λ b x. let y = one_deep b (code.Assume cs l) (assuming (clauses_of b cs.items) (goals_of b l.items)) ts (assume_is b cs l) x in
-      ((y.0.1, y.1), y.0.0)) (λ e. ((λ t q m. tt, λ t q. refl, λ t. refl), e))))
+      ((y.0.1, y.1), y.0.0)) (λ e. ((λ t q m. tt, λ t q. refl, λ t. refl), e))
+      (λ b. let n = one_records b (code.Assume cs l) (assuming (clauses_of b cs.items) (goals_of b l.items)) ts (assume_is b cs l) in omega (arith, n))))
 
   pub end_put : (s : Step) (l : ℕ) → WalkKept us us xs xs d l ss (ss ++ s ∷ []) (due_end s l ∷ ts) ts
-  end_put s l = step_put us xs d l ss s (due_end s l ∷ ts) ts (λ b cl. refl) (λ b D q x. x) (λ b x. x) (λ b x. x) (λ e. (e.1, e.0))
+  end_put s l = step_put us xs d l ss s (due_end s l ∷ ts) ts (λ b cl. refl) (λ b D q x. x) (λ b x. x) (λ b x. x) (λ e. (e.1, e.0)) (λ b. refl)
 
   pub level_put : (l : ℕ) → WalkKept us us xs xs d l ss ss (due_level l ∷ ts) ts
-  level_put l = todo_same us xs d l ss (due_level l ∷ ts) ts (λ b cl. refl) (λ b D q x. x) (λ b x. x) (λ b x. x) (λ e. e)
+  level_put l = todo_same us xs d l ss (due_level l ∷ ts) ts (λ b cl. refl) (λ b D q x. x) (λ b x. x) (λ b x. x) (λ e. e) (λ b. refl)

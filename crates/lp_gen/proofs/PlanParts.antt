@@ -39,6 +39,7 @@ walk_begins us xs d gs = record {
   deep = λ b x. ((x, tt), λ n y le at. let w = slice_get_within xs n y at in absurd (omega (arith, w, le)));
   written = λ b x. x.0;
   ends = tt;
+  total = λ b. omega arith;
 }
 
 part_on : (us us' : List Due) (xs xs' : List Assumption) (i n m q r : ℕ) (p : Part) → Extends us us' → Extends xs xs' → PartPlanned us xs i n m q r p → PartPlanned us' xs' i n m q r p

@@ -12,12 +12,14 @@ use Rattle.lp_gen.specs.declared.plan.Assumption.{Assumption}
 use Rattle.lp_gen.specs.declared.plan.Due.{Due}
 use Rattle.lp_gen.specs.declared.plan.Step.{Step}
 use Rattle.lp_gen.specs.declared.plan.Step.TheVariants as on
-use Rattle.lp_gen.specs.declared.record.Tables.{Tables}
+use Rattle.lp_gen.specs.declared.tables.Tables.{Tables}
 use Rattle.lp_gen.specs.inner.OpenGoals.{BodyStep}
 use Rattle.lp_gen.specs.inner.BodyCode.{Suppositions, step_of, steps_of, next_of, next_all, IsNext, AreNext, count_starts, starts_all, count_named, one_if}
 use Rattle.lp_gen.specs.inner.Planned.{DeepClauses, AreCaptured}
 use Rattle.lp_gen.proofs.BodyFacts.{starts_cons}
-use Rattle.lp_gen.specs.inner.Planning.{IsDue, AreDue, IsMade, Stays, AreAssumed, AllCaptured, Extends, Todo, todo_steps, TodoHave, TodoWritten, TodoDeep, HoldClauses, AssumptionAt, IsEnd, AllEnds, WalkKept}
+use Rattle.lp_gen.specs.Limits.{clauses_records}
+use Rattle.lp_gen.proofs.RecordsCounted.{due_grown}
+use Rattle.lp_gen.specs.inner.Planning.{IsDue, AreDue, IsMade, Stays, AreAssumed, AllCaptured, Extends, Todo, todo_steps, todo_records, TodoHave, TodoWritten, TodoDeep, HoldClauses, AssumptionAt, IsEnd, AllEnds, WalkKept}
 
 -- lists that grow
 
@@ -93,8 +95,8 @@ starts_more t (u ∷ us) s = let z = starts_more t us s in let c = starts_cons t
 pub step_put : (us : List Due) (xs : List Assumption) (d d' : ℕ) (ss : List Step) (s : Step) (ts ts' : List Todo) →
     ((b : Nodes) (cl : Suppositions) → todo_steps b cl ts ≡ step_of b cl s ∷ todo_steps b cl ts') →
     ((b : Nodes) (D : ℕ → ℕ → Clauses → Type 0) (q : ℕ) → TodoHave b D q d' ts' → TodoHave b D q d ts) → ((b : Nodes) → TodoWritten b ts' → TodoWritten b ts) →
-    ((b : Nodes) → TodoDeep b ts → TodoDeep b ts') → (AllEnds ts → AllEnds ts' × IsEnd s) → WalkKept us us xs xs d d' ss (ss ++ s ∷ []) ts ts'
-step_put us xs d d' ss s ts ts' says has written deep ends us0 xs0 d0 gs w = record {
+    ((b : Nodes) → TodoDeep b ts → TodoDeep b ts') → (AllEnds ts → AllEnds ts' × IsEnd s) → ((b : Nodes) → todo_records b ts ≡ todo_records b ts') → WalkKept us us xs xs d d' ss (ss ++ s ∷ []) ts ts'
+step_put us xs d d' ss s ts ts' says has written deep ends many us0 xs0 d0 gs w = record {
   kept = w.kept;
   due_grow = w.due_grow;
   grow = w.grow;
@@ -109,14 +111,15 @@ step_put us xs d d' ss s ts ts' says has written deep ends us0 xs0 d0 gs w = rec
   deep = λ b x. let y = w.deep b x in (deep b y.0, y.1);
   written = λ b x. w.written b (written b x);
   ends = (ends w.ends).0;
+  total = λ b. let n = w.total b in let m = many b in omega (arith, n, m);
 }
 
 -- the same that is still to do, with no step
 pub todo_same : (us : List Due) (xs : List Assumption) (d d' : ℕ) (ss : List Step) (ts ts' : List Todo) → ((b : Nodes) (cl : Suppositions) → todo_steps b cl ts ≡ todo_steps b cl ts') →
     ((b : Nodes) (D : ℕ → ℕ → Clauses → Type 0) (q : ℕ) → TodoHave b D q d' ts' → TodoHave b D q d ts) →
     ((b : Nodes) → TodoWritten b ts' → TodoWritten b ts) → ((b : Nodes) → TodoDeep b ts → TodoDeep b ts') →
-    (AllEnds ts → AllEnds ts') → WalkKept us us xs xs d d' ss ss ts ts'
-todo_same us xs d d' ss ts ts' says has written deep ends us0 xs0 d0 gs w = record {
+    (AllEnds ts → AllEnds ts') → ((b : Nodes) → todo_records b ts ≡ todo_records b ts') → WalkKept us us xs xs d d' ss ss ts ts'
+todo_same us xs d d' ss ts ts' says has written deep ends many us0 xs0 d0 gs w = record {
   kept = w.kept;
   due_grow = w.due_grow;
   grow = w.grow;
@@ -126,6 +129,7 @@ todo_same us xs d d' ss ts ts' says has written deep ends us0 xs0 d0 gs w = reco
   deep = λ b x. let y = w.deep b x in (deep b y.0, y.1);
   written = λ b x. w.written b (written b x);
   ends = ends w.ends;
+  total = λ b. let n = w.total b in let m = many b in omega (arith, n, m);
 }
 
 -- assumptions with one more
@@ -228,8 +232,9 @@ captured_more b xs ys x e new old n y at =
 pub assume_put : (us us' : List Due) (xs : List Assumption) (cs : List Clause) (d d' : ℕ) (x : Assumption) (ss : List Step) (ts ts' : List Todo) → IsMade xs us us' cs d x →
     ((b : Nodes) (cl : Suppositions) → cl.clauses (length xs) ≡ clauses_of b cs → todo_steps b cl ts ≡ step_of b cl (on.Assume (length xs)) ∷ todo_steps b cl ts') →
     ((b : Nodes) (D : ℕ → ℕ → Clauses → Type 0) (q : ℕ) → D q d (clauses_of b cs) → TodoHave b D (q + length cs) d' ts' → TodoHave b D q d ts) → ((b : Nodes) → TodoWritten b ts' → TodoWritten b ts) →
-    ((b : Nodes) → TodoDeep b ts → TodoDeep b ts' × DeepClauses (clauses_of b cs)) → (AllEnds ts → AllEnds ts') → WalkKept us us' xs (xs ++ x ∷ []) d d' ss (ss ++ on.Assume (length xs) ∷ []) ts ts'
-assume_put us us' xs cs d d' x ss ts ts' made says has written deep ends us0 xs0 d0 gs w = record {
+    ((b : Nodes) → TodoDeep b ts → TodoDeep b ts' × DeepClauses (clauses_of b cs)) → (AllEnds ts → AllEnds ts') →
+    ((b : Nodes) → todo_records b ts ≡ clauses_records (clauses_of b cs) + todo_records b ts') → WalkKept us us' xs (xs ++ x ∷ []) d d' ss (ss ++ on.Assume (length xs) ∷ []) ts ts'
+assume_put us us' xs cs d d' x ss ts ts' made says has written deep ends count us0 xs0 d0 gs w = record {
   kept = λ a. assumed_more us us' xs cs d x made (w.kept a);
   due_grow = extends_on us0 us us' w.due_grow (grown us us' xs cs d x made);
   grow = extends_on xs0 xs (xs ++ x ∷ []) w.grow (x ∷ [], refl);
@@ -261,6 +266,7 @@ assume_put us us' xs cs d d' x ss ts ts' made says has written deep ends us0 xs0
       );
   written = λ b y. w.written b (written b y);
   ends = ends w.ends;
+  total = λ b. let n = w.total b in let m = count b in let k = due_grown b us us' xs cs d x made in omega (arith, n, m, k);
 }
   where
     next_of_all : (t : Tables) → Extends (xs ++ x ∷ []) t.assumptions.now → t.first + length us' < 2 ^ 32 →

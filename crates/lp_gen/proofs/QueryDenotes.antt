@@ -15,10 +15,11 @@ use Rattle.lp_code.specs.Rules.{named_before, has_none}
 use Rattle.lp_code.specs.Denote.{DenotedQuery, denote_query, denote_from, later_from, home_of, first_state, nothing_captured, run, query_ran}
 use Rattle.lp_gen.specs.Sources.{AreKnownSchemes, Under, IsQuery}
 use Rattle.lp_gen.specs.Contract.{tables_of}
+use Rattle.lp_gen.specs.Limits.{goals_strings}
 use Rattle.lp_gen.specs.declared.plan.Due.{Due}
 use Rattle.lp_gen.specs.declared.plan.Part.{Part}
 use Rattle.lp_gen.specs.declared.plan.Origin.TheVariants as origin
-use Rattle.lp_gen.specs.declared.record.Tables.{Tables}
+use Rattle.lp_gen.specs.declared.tables.Tables.{Tables}
 use Rattle.lp_gen.specs.inner.Listing.{constant_function}
 use Rattle.lp_gen.specs.inner.Written.{AreAsked}
 use Rattle.lp_gen.specs.inner.Entering.{types_at}
@@ -40,9 +41,9 @@ module _ (κ : ℕ → Option ℕ) where
 
   one_query : (t : Tables) (q1 : Bor query.Typed) (gs1 : Bor (List code_goal.Goal)) (us : List Due) (parts : List Part) (r : Record) (rs : List Record) (starts : List Kept) →
       ArePlanned (origin.Query q1 gs1) us parts t.assumptions.now → AllCaptured t.bank.now t.assumptions.now → AllWritten t [] starts parts (r ∷ rs) → t.first ≡ 0 → length (r ∷ rs) ≤ 65536 →
-      t.type_vars ≤ 65535 → t.type_vars ≡ q1.now.type_vars → AreKnownSchemes (tables_of t.bank.now t.constants.now κ) → IsAsked t.bank.now t.constants.now q1.now gs1.now →
+      t.type_vars ≤ 65535 → t.type_vars ≡ q1.now.type_vars → AreKnownSchemes (tables_of t.bank.now t.constants.now κ) → IsAsked t.bank.now t.constants.now q1.now gs1.now → goals_strings (goals_of t.bank.now gs1.now) ≡ 0 →
       denote_query (tables_of t.bank.now t.constants.now κ) (r ∷ rs) ≡ Some (query_is t.bank.now q1.now gs1.now)
-  one_query t q1 gs1 us parts r rs starts plan standing w first few few_types vars known is =
+  one_query t q1 gs1 us parts r rs starts plan standing w first few few_types vars known is short =
       ap (λ o. elim o [
         | None ↦ None
         | Some cs ↦ if has_none cs && is_none r.head then query_ran (home_of (tables_of t.bank.now t.constants.now κ) (r ∷ rs) 0 r)
@@ -90,7 +91,7 @@ module _ (κ : ℕ → Option ℕ) where
           ≡ Some (record { type_vars = t.type_vars; vars = types_at t.bank.now (map (λ v. v.1) q1.now.vars.items); body = goals_of t.bank.now gs1.now })
       told = first_query Hasher t (origin.Query q1 gs1) us parts (r ∷ rs) starts plan w low deep standing (tables_of t.bank.now t.constants.now κ) (r ∷ rs) placed early
           (standard_of t.bank.now t.constants.now) asked few_types q1 gs1 refl
-          (subst (λ n. IsQuery (tables_of t.bank.now t.constants.now κ) n (reverse (types_at t.bank.now (map (λ v. v.1) q1.now.vars.items))) (goals_of t.bank.now gs1.now)) (sym vars) is) r refl
+          (subst (λ n. IsQuery (tables_of t.bank.now t.constants.now κ) n (reverse (types_at t.bank.now (map (λ v. v.1) q1.now.vars.items))) (goals_of t.bank.now gs1.now)) (sym vars) is) short r refl
 
       at_zero : query_ran (home_of (tables_of t.bank.now t.constants.now κ) (r ∷ rs) 0 r)
           (run (home_of (tables_of t.bank.now t.constants.now κ) (r ∷ rs) 0 r) (later_from (tables_of t.bank.now t.constants.now κ) (r ∷ rs) 1 rs) (first_state r nothing_captured) r.code.items)
@@ -114,17 +115,18 @@ module _ (κ : ℕ → Option ℕ) where
 
   pub query_denotes : (b : Nodes) (ds : List Declared) (q : query.Typed) (gs : List code_goal.Goal) (q1 : Bor query.Typed) (gs1 : Bor (List code_goal.Goal)) (g : List Record) → q1.now ≡ q →
       gs1.now ≡ gs →
-      IsGroup b ds 0 q.type_vars (origin.Query q1 gs1) g → length g ≤ 65536 → AreKnownSchemes (tables_of b ds κ) → IsAsked b ds q gs → denote_query (tables_of b ds κ) g ≡ Some (query_is b q gs)
+      IsGroup b ds 0 q.type_vars (origin.Query q1 gs1) g → length g ≤ 65536 → AreKnownSchemes (tables_of b ds κ) → IsAsked b ds q gs → goals_strings (goals_of b gs) ≡ 0 →
+      denote_query (tables_of b ds κ) g ≡ Some (query_is b q gs)
   query_denotes b ds q gs q1 gs1 [] q_is gs_is G few =
       let m = written_length G.tables [] G.starts G.parts [] G.written in
       let s = G.planned.all in
       let u = G.planned.stands.assumed.some in
       absurd (omega (arith, m, s, u))
   query_denotes b ds q gs q1 gs1 (r ∷ rs) q_is gs_is G few =
-      subst (λ v. AreKnownSchemes (tables_of b ds κ) → IsAsked b ds q v → denote_query (tables_of b ds κ) (r ∷ rs) ≡ Some (query_is b q v)) gs_is
-      (subst (λ v. AreKnownSchemes (tables_of b ds κ) → IsAsked b ds v gs1.now → denote_query (tables_of b ds κ) (r ∷ rs) ≡ Some (query_is b v gs1.now)) q_is
-      (subst (λ u. AreKnownSchemes (tables_of u ds κ) → IsAsked u ds q1.now gs1.now → denote_query (tables_of u ds κ) (r ∷ rs) ≡ Some (query_is u q1.now gs1.now)) G.bank_is
-      (subst (λ v. AreKnownSchemes (tables_of G.tables.bank.now v κ) → IsAsked G.tables.bank.now v q1.now gs1.now → denote_query (tables_of G.tables.bank.now v κ) (r ∷ rs) ≡ Some
+      subst (λ v. AreKnownSchemes (tables_of b ds κ) → IsAsked b ds q v → goals_strings (goals_of b v) ≡ 0 → denote_query (tables_of b ds κ) (r ∷ rs) ≡ Some (query_is b q v)) gs_is
+      (subst (λ v. AreKnownSchemes (tables_of b ds κ) → IsAsked b ds v gs1.now → goals_strings (goals_of b gs1.now) ≡ 0 → denote_query (tables_of b ds κ) (r ∷ rs) ≡ Some (query_is b v gs1.now)) q_is
+      (subst (λ u. AreKnownSchemes (tables_of u ds κ) → IsAsked u ds q1.now gs1.now → goals_strings (goals_of u gs1.now) ≡ 0 → denote_query (tables_of u ds κ) (r ∷ rs) ≡ Some (query_is u q1.now gs1.now)) G.bank_is
+      (subst (λ v. AreKnownSchemes (tables_of G.tables.bank.now v κ) → IsAsked G.tables.bank.now v q1.now gs1.now → goals_strings (goals_of G.tables.bank.now gs1.now) ≡ 0 → denote_query (tables_of G.tables.bank.now v κ) (r ∷ rs) ≡ Some
       (query_is G.tables.bank.now q1.now gs1.now)) G.constants_are
       (one_query G.tables q1 gs1 G.due G.parts r rs G.starts G.planned G.captured G.written (G.first (omega arith)) few (let v = G.vars_are in let f = G.few_vars in omega (arith, v, f))
       (G.vars_are ∙ ap (λ (e : query.Typed). e.type_vars) (sym q_is))))))
@@ -137,12 +139,12 @@ two_maps f g (x ∷ xs) = ap (λ l. g (f x) ∷ l) (two_maps f g xs)
 pub query_law : (κ : ℕ → Option ℕ) (b : Nodes) (ds : List Declared) (q : query.Typed) (gs : List code_goal.Goal) (none all g : List Record) (vars : ℕ) (q1 : Bor query.Typed)
     (gs1 : Bor (List code_goal.Goal)) →
     none ≡ [] → all ≡ none ++ g → vars ≡ q.type_vars → q1.now ≡ q → gs1.now ≡ gs → IsGroup b ds (length none) vars (origin.Query q1 gs1) g → length all ≤ 65536 → AreKnownSchemes (tables_of b ds κ) →
-    IsQuery (tables_of b ds κ) q.type_vars (reverse (map (λ v. type_tree b v.1.0) q.vars.items)) (goals_of b gs) →
+    IsQuery (tables_of b ds κ) q.type_vars (reverse (map (λ v. type_tree b v.1.0) q.vars.items)) (goals_of b gs) → goals_strings (goals_of b gs) ≡ 0 →
     denote_query (tables_of b ds κ) all ≡ Some (record { type_vars = q.type_vars; vars = map (λ v. type_tree b v.1.0) q.vars.items; body = goals_of b gs })
-query_law κ b ds q gs none all g vars q1 gs1 empty grown same q_is gs_is G few known is =
+query_law κ b ds q gs none all g vars q1 gs1 empty grown same q_is gs_is G few known is short =
     let e : all ≡ g = grown ∙ ap (λ l. l ++ g) empty in
     let types = two_maps (λ v. v.1) (λ (T : TypeId). type_tree b T.0) q.vars.items in
     ap (denote_query (tables_of b ds κ)) e
     ∙ query_denotes κ b ds q gs q1 gs1 g q_is gs_is (subst (λ v. IsGroup b ds 0 v (origin.Query q1 gs1) g) same (subst (λ l. IsGroup b ds (length l) vars (origin.Query q1 gs1) g) empty G))
-    (let z = ap length e in omega (arith, few, z)) known (subst (λ l. IsQuery (tables_of b ds κ) q.type_vars (reverse l) (goals_of b gs)) (sym types) is)
+    (let z = ap length e in omega (arith, few, z)) known (subst (λ l. IsQuery (tables_of b ds κ) q.type_vars (reverse l) (goals_of b gs)) (sym types) is) short
     ∙ (λ i. Some (record { type_vars = q.type_vars; vars = types i; body = goals_of b gs }))

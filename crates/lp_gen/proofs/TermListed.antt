@@ -15,12 +15,14 @@ use Rattle.lp_code.specs.States.{Home}
 use Rattle.lp_code.specs.Steps.{constant_of}
 use Rattle.lp_code.specs.Rules.{applies, built_types, has_count, is_no_term}
 use Rattle.lp_gen.specs.Sources.{types_by, IsKnownType, IsKnownAtom, IsKnownTerm}
+use Rattle.lp_gen.specs.Limits.{atom_strings, long_strings}
+use Rattle.lp_gen.proofs.StringsLeft.{string_short}
 use Rattle.lp_gen.specs.inner.Reading.{from_of, to_of}
 use Rattle.lp_gen.specs.inner.Running.{built_at}
 use Rattle.lp_gen.specs.inner.Listing.{Step, make_constant, make_integer, make_text, make_index, make_variable, from_register, apply_last, abstract_last, Seen, Around, at_level, level_in, set_level}
 use Rattle.lp_gen.specs.inner.Listing.{Listed, one_step, found_listed, level_listed, bound_listed, index_listed, atom_listed, type_or, bound_or, index_type, atom_function, Headed, as_head, with_argument, applied, abstracted, listed, headed}
 use Rattle.lp_gen.specs.inner.TermSteps.{Stack, stack, made_variable, last_built, before_last, step_built, IsFine, steps_built, AreFine}
-use Rattle.lp_gen.specs.inner.TermLaw.{SameSides, Asks, AsksConstants, Standing, KnownAtoms, AllLoose, IsSeen, level_term, index_term, with_variables, AreOf, AllOf, IsBuilt, SameAround, Made, Comes, ComesWith}
+use Rattle.lp_gen.specs.inner.TermLaw.{SameSides, Asks, AsksConstants, Standing, IsShortAtom, KnownAtoms, AllLoose, IsSeen, level_term, index_term, with_variables, AreOf, AllOf, IsBuilt, SameAround, Made, Comes, ComesWith}
 use Rattle.lp_gen.proofs.Denoting.{held_set}
 use Rattle.lp_gen.proofs.LooseOf.{both_true, none_some, some_same, all_agree_of, all_joined_of, all_of_push, bound_of, outer_of, innermost_of, apply_push, applied_more}
 use Rattle.lp_gen.proofs.AroundSet.{around_same, around_then, around_set, all_seen, variables_same, standing_set, made_same, made_one, made_both}
@@ -86,13 +88,21 @@ normal_parts (app t v) u e =
     let w = else_none (option_term (λ s. app s u) (leftmost_step (app t v))) (option_term (app (app t v)) (leftmost_step u)) e in
     (option_none (λ s. app s u) (leftmost_step (app t v)) w.0, option_none (app (app t v)) (leftmost_step u) w.1, tt)
 
-pub known_atoms : (κ : ℕ → Option ℕ) (n d m : ℕ) (t : Term) → IsKnownTerm κ n d m t → KnownAtoms κ n t
-known_atoms κ n d m (index i) k = tt
-known_atoms κ n d m (atom s) k = k
-known_atoms κ n zero m (abs b) k = absurd k
-known_atoms κ n (suc d) m (abs b) k = known_atoms κ n d 0 b k
-known_atoms κ n zero m (app t u) k = absurd k
-known_atoms κ n (suc d) m (app t u) k = (known_atoms κ n (suc d) (suc m) t k.1, known_atoms κ n d 0 u k.2)
+short_atom : (κ : ℕ → Option ℕ) (n : ℕ) (s : Atom) → IsKnownAtom κ n s → atom_strings s ≡ 0 → IsShortAtom κ n s
+short_atom κ n (constant c Ts) k e = k
+short_atom κ n (integer z) k e = tt
+short_atom κ n (text s) k e = string_short s e
+short_atom κ n (eigen j) k e = absurd k
+short_atom κ n (logic x l) k e = absurd k
+short_atom κ n (param j T) k e = absurd k
+
+pub known_atoms : (κ : ℕ → Option ℕ) (n d m : ℕ) (t : Term) → IsKnownTerm κ n d m t → long_strings t ≡ 0 → KnownAtoms κ n t
+known_atoms κ n d m (index i) k e = tt
+known_atoms κ n d m (atom s) k e = short_atom κ n s k e
+known_atoms κ n zero m (abs b) k e = absurd k
+known_atoms κ n (suc d) m (abs b) k e = known_atoms κ n d 0 b k e
+known_atoms κ n zero m (app t u) k e = absurd k
+known_atoms κ n (suc d) m (app t u) k e = (known_atoms κ n (suc d) (suc m) t k.1 (omega (arith, e)), known_atoms κ n d 0 u k.2 (omega (arith, e)))
 
 -- the types of indices
 
@@ -165,13 +175,13 @@ module _ (h : Home) (v n : ℕ) (i : Bool) (σ : ℕ → Term) (Γ : List Ty) (K
       Lists C a T u (one_step a o)
   one_comes C a T u o b f xs bs st = let w = f xs bs st in (around_same a, made_same h.number a u, record { fine = (w.0, tt); registers = xs; built = b xs; is = w.1; good = w.2; stands = st })
 
-  atom_comes : (C : List Ty) (a : Around) (T : Ty) (s : Atom) → types_by h.tables s ≡ Some T → IsKnownAtom h.tables.kinds v s → is_positive (atom s) ≡ true → Lists C a T (atom s) (atom_listed C a s)
+  atom_comes : (C : List Ty) (a : Around) (T : Ty) (s : Atom) → types_by h.tables s ≡ Some T → IsShortAtom h.tables.kinds v s → is_positive (atom s) ≡ true → Lists C a T (atom s) (atom_listed C a s)
   atom_comes C a T (constant c Ts) e k p = one_comes C a T (atom (constant c Ts)) (make_constant c Ts) (λ xs. constant_of h.tables c Ts) (λ xs bs st.
       (record { known = k; declared = has_scheme Ts (h.tables.constants c) T e; in_terms = is_term c p }, refl, record { term = refl; type = ap (λ o. unwrap_or o o_type) e; loose = tt }))
   atom_comes C a T (integer z) e k p = one_comes C a T (atom (integer z)) (make_integer z) (λ xs. whole (atom (integer z)) int_type) (λ xs bs st.
       (tt, refl, record { term = refl; type = some_same int_type T e; loose = tt }))
   atom_comes C a T (text s) e k p = one_comes C a T (atom (text s)) (make_text s) (λ xs. whole (atom (text s)) string_type) (λ xs bs st.
-      (tt, refl, record { term = refl; type = some_same string_type T e; loose = tt }))
+      (k, refl, record { term = refl; type = some_same string_type T e; loose = tt }))
   atom_comes C a T (eigen j) e k p = absurd k
   atom_comes C a T (logic x l) e k p = absurd k
   atom_comes C a T (param j U) e k p = absurd k
@@ -264,7 +274,7 @@ module _ (h : Home) (v n : ℕ) (i : Bool) (σ : ℕ → Term) (Γ : List Ty) (K
         },
       )
 
-  atom_head : (T : Ty) (s : Atom) → types_by h.tables s ≡ Some T → IsKnownAtom h.tables.kinds v s → KnownSides h.tables.kinds v T × Asks (atom_function K s) T
+  atom_head : (T : Ty) (s : Atom) → types_by h.tables s ≡ Some T → IsShortAtom h.tables.kinds v s → KnownSides h.tables.kinds v T × Asks (atom_function K s) T
   atom_head T (constant c Ts) e k = (known_sides h.tables.kinds v T (known c Ts T e k), asks c Ts T e)
   atom_head T (integer z) e k = subst (λ T. KnownSides h.tables.kinds v T × Asks o_type T) (some_same int_type T e) (tt, tt)
   atom_head T (text s) e k = subst (λ T. KnownSides h.tables.kinds v T × Asks o_type T) (some_same string_type T e) (tt, tt)

@@ -1,7 +1,7 @@
 -- The code of a term that was put, of each form: from a state in which its parts stand to one in which the whole does.
 use Rattle.std.proofs.Common.{◌≡◌, ◌∙◌, ◌≤◌, ◌<◌, ℕ, ℤ, suc, ◌+◌, List, [], ◌∷◌, ◌++◌, append_assoc, map}
-use Rattle.std.proofs.Common.{length, false, Option, Some, None, Vec, Global, ap, refl, sym, subst, arith, true≢false}
-use Rattle.std.specs.Prelude.{All, nat_le, not, ◌||◌, is_none, sum_by, unwrap_or, option_map, slice_set}
+use Rattle.std.proofs.Common.{length, true, false, Option, Some, None, Vec, Global, ap, refl, sym, subst, arith, true≢false}
+use Rattle.std.specs.Prelude.{nat_lt, All, nat_le, not, ◌||◌, is_none, sum_by, unwrap_or, option_map, slice_set}
 use Rattle.std.specs.List.{list_any}
 use Rattle.std.proofs.lemmas.List.{append-nil, map-append}
 use Rattle.std.proofs.lemmas.List.Sums.{sum_by-append}
@@ -390,7 +390,7 @@ integer_put old then_ new d z r a b e f g j =
 pub text_put : (old then_ new : Emitter) (d : ℕ) (v : Vec ℕ Global) (bytes : List ℕ) → v.items ≡ bytes → d ≡ old.registers → then_.code.items ≡ old.code.items → then_.types ≡ old.types →
     then_.registers ≡ old.registers + 1 → new.code.items ≡ then_.code.items ++ on.PutStr d v ∷ [] → new.types ≡ then_.types → new.registers ≡ then_.registers → TextPut old new d bytes
 text_put old then_ new d v bytes is r a b e f g j =
-    subst (λ d. TextPut old new d bytes) (sym r) (last_put old old new (on.PutStr old.registers v) [] [] (λ h vars xs. Unit {0}) (λ h xs. whole (atom (text bytes)) string_type)
+    subst (λ d. TextPut old new d bytes) (sym r) (last_put old old new (on.PutStr old.registers v) [] [] (λ h vars xs. nat_lt (length bytes) 65536 ≡ true) (λ h xs. whole (atom (text bytes)) string_type)
     (types_put_none old)
     (record {
       code = f ∙ ap (λ l. l ++ on.PutStr d v ∷ []) a ∙ ap (λ d. old.code.items ++ on.PutStr d v ∷ []) r;
@@ -402,6 +402,19 @@ text_put old then_ new d v bytes is r a b e f g j =
     (λ h later vars s st te low held k wide here. put_moves h later vars old.types s (on.PutStr old.registers v) old.registers (whole (atom (text bytes)) string_type) (ap (λ b. Some
     (put_term s old.registers (whole (atom (text b)) string_type))) is) refl refl (omega arith) st te low wide
     (text_fine h s old.registers v te low here)))
+
+-- a string that was cut, where it is too long
+pub string_cut : (old new : Emitter) (d : ℕ) (t b : List ℕ) → (nat_lt (length b) 65536 ≡ true → t ≡ b) → TextPut old new d t → TextPut old new d b
+string_cut old new d t b same x = record {
+  more = x.more;
+  code_is = x.code_is;
+  types_grow = x.types_grow;
+  terms_grow = x.terms_grow;
+  plain = x.plain;
+  denotes = λ h later vars s st te few low short room.
+      subst (λ l. (u : State) × Moves h later vars old.types new.types old.registers new.registers s.now.terms s x.more u × HoldTerm u d (whole (atom (text l)) string_type) × (d < new.registers))
+      (same short) (x.denotes h later vars s st te few low (subst (λ l. nat_lt (length l) 65536 ≡ true) (sym (same short)) short) room);
+}
 
 pub index_put : (old mid then_ new : Emitter) (d i q : ℕ) (T : Ty) → IsTypePut old mid q T → d ≡ mid.registers → then_.code.items ≡ mid.code.items → then_.types ≡ mid.types →
     then_.registers ≡ mid.registers + 1 →

@@ -1,3 +1,4 @@
 pub mod Sources
+pub mod Limits
 pub mod Contract
 pub mod inner

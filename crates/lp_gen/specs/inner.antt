@@ -9,6 +9,7 @@ pub mod Fitting
 pub mod GoalCode
 pub mod Groups
 pub mod Heading
+pub mod Limiting
 pub mod Listing
 pub mod OpenGoals
 pub mod Owned

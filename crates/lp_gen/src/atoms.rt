@@ -7,8 +7,8 @@ ghost use Rattle.lp_gen.specs.inner.Doing.{AtomWritten};
 use crate::calls::{put_call, put_term_call};
 use crate::emitter::Emitter;
 use crate::environment::Environment;
-use crate::fault::GenRefusal;
-use crate::record::Tables;
+use crate::fault::RecordRefusal;
+use crate::tables::Tables;
 use crate::terms::{put_arguments, put_term};
 use crate::types::TypeView;
 use crate::written_types::put_types;
@@ -22,7 +22,7 @@ pub(crate) fn put_atom(
     emitter: &mut Emitter,
     environment: &mut Environment<'_>,
     atom: TermId,
-) -> Result<(), GenRefusal>
+) -> Result<(), RecordRefusal>
     ensures { OnOk result (AtomWritten (constant_function tables.entry.bank.now tables.entry.constants.now) emitter.old emitter.new (around_of tables.entry.bank.now environment.old) (around_of tables.entry.bank.now environment.new) (tree tables.entry.bank.now atom.0)) }
 {
     let spine = spine_of(alloc, tables.bank, atom)?;

@@ -1,7 +1,8 @@
 // The goals of a record.
-ghost use Rattle.std.specs.Prelude.{◌≡◌, [], ◌∷◌, ◌++◌, length, sum_by, IfOk, OnOk, IfSome, MatchOption};
+ghost use Rattle.std.specs.Prelude.{◌≡◌, [], ◌∷◌, ◌++◌, length, true, sum_by, IfOk, OnOk, IfSome, MatchOption};
 ghost use Rattle.lp_term.specs.Nodes.{Nodes, type_tree};
 ghost use Rattle.lp_code.specs.Length.{length_of};
+ghost use Rattle.lp_gen.specs.inner.Fitting.{is_short};
 ghost use Rattle.lp_gen.specs.inner.Listing.{around_of, constant_function};
 ghost use Rattle.lp_gen.specs.inner.OpenGoals.{cut_to};
 ghost use Rattle.lp_gen.specs.inner.OpenGoals as plain;
@@ -10,9 +11,10 @@ ghost use Rattle.lp_gen.specs.inner.BodyCode.{VariableOpened, SomeOpened, AllOpe
 use crate::atoms::put_atom;
 use crate::emitter::Emitter;
 use crate::environment::{Environment, Variable};
-use crate::fault::GenRefusal;
+use crate::fault::RecordRefusal;
 use crate::plan::Step;
-use crate::record::{Starts, Tables, assumption};
+use crate::record::{Starts, assumption};
+use crate::tables::Tables;
 use crate::types::TypeView;
 use crate::variables::put_neck;
 use crate::written_types::put_type;
@@ -38,7 +40,7 @@ fn open_variable(
     emitter: &mut Emitter,
     environment: &mut Environment<'_>,
     of: TypeId,
-) -> Result<(u16, u16), GenRefusal>
+) -> Result<(u16, u16), RecordRefusal>
     ensures { IfOk result (λ made. VariableOpened emitter.old emitter.new (around_of bank.now environment.old) (around_of bank.now environment.new) made.0 made.1 (type_tree bank.now of.0)) }
 {
     let kind = put_type(alloc, bank, emitter, TypeView::Of(of, None))?;
@@ -80,7 +82,8 @@ fn open(
     environment: &Environment<'_>,
     blocks: &mut Vec<Block>,
     instr: Instr,
-) -> Result<(), GenRefusal>
+) -> Result<(), RecordRefusal>
+    requires { is_short instr ≡ true }
     ensures { OnOk result (BlockOpened emitter.old emitter.new environment.now blocks.old.items blocks.new.items instr) }
 {
     let block = block_here(emitter, environment);
@@ -95,7 +98,8 @@ fn end(
     environment: &mut Environment<'_>,
     blocks: &mut Vec<Block>,
     instr: Instr,
-) -> Result<(), GenRefusal>
+) -> Result<(), RecordRefusal>
+    requires { is_short instr ≡ true }
     ensures { OnOk result (BlockEnded emitter.old emitter.new environment.old environment.new blocks.old.items blocks.new.items instr) }
 {
     let Some(_) = leave(environment, blocks) else {
@@ -112,7 +116,7 @@ fn open_some(
     emitter: &mut Emitter,
     environment: &mut Environment<'_>,
     of: TypeId,
-) -> Result<(), GenRefusal>
+) -> Result<(), RecordRefusal>
     ensures { OnOk result (SomeOpened emitter.old emitter.new (around_of bank.now environment.old) (around_of bank.now environment.new) (type_tree bank.now of.0)) }
 {
     let made = open_variable(alloc, bank, emitter, environment, of)?;
@@ -128,7 +132,7 @@ fn open_all(
     environment: &mut Environment<'_>,
     blocks: &mut Vec<Block>,
     of: TypeId,
-) -> Result<(), GenRefusal>
+) -> Result<(), RecordRefusal>
     ensures { OnOk result (AllOpened emitter.old emitter.new (around_of bank.now environment.old) (around_of bank.now environment.new) blocks.old.items blocks.new.items (type_tree bank.now of.0)) }
 {
     let block = block_here(emitter, environment);
@@ -143,7 +147,7 @@ fn turn(
     emitter: &mut Emitter,
     environment: &mut Environment<'_>,
     blocks: &mut Vec<Block>,
-) -> Result<(), GenRefusal>
+) -> Result<(), RecordRefusal>
     ensures { OnOk result (Takes emitter.old emitter.new environment.old environment.new blocks.old.items blocks.new.items plain.turn) }
 {
     let Some(left) = leave(environment, blocks) else {
@@ -176,7 +180,7 @@ fn write_step(
     starts: &mut Vec<Starts>,
     blocks: &mut Vec<Block>,
     step: Step,
-) -> Result<(), GenRefusal>
+) -> Result<(), RecordRefusal>
     ensures { OnOk result (IsDone tables.entry (constant_function tables.entry.bank.now tables.entry.constants.now) emitter.old emitter.new environment.old environment.new blocks.old.items blocks.new.items starts.old.items starts.new.items step) }
 {
     match step {
@@ -240,7 +244,7 @@ fn write_steps(
     environment: &mut Environment<'_>,
     starts: &mut Vec<Starts>,
     steps: &[Step],
-) -> Result<(), GenRefusal>
+) -> Result<(), RecordRefusal>
     ensures { OnOk result (AreDone tables.entry (constant_function tables.entry.bank.now tables.entry.constants.now) emitter.old emitter.new environment.old environment.new starts.old.items starts.new.items steps.now) }
 {
     let mut blocks = Vec::new(alloc);
@@ -266,7 +270,7 @@ pub(crate) fn write_body(
     environment: &mut Environment<'_>,
     starts: &mut Vec<Starts>,
     steps: &[Step],
-) -> Result<(), GenRefusal>
+) -> Result<(), RecordRefusal>
     ensures { OnOk result (BodyWritten tables.entry (constant_function tables.entry.bank.now tables.entry.constants.now) emitter.old emitter.new environment.old environment.new starts.old.items starts.new.items steps.now) }
 {
     put_neck(emitter)?;

@@ -4,7 +4,7 @@ ghost use Rattle.lp_standard.specs.Constants.{numbered};
 ghost use Rattle.lp_gen.specs.inner.Saying.{equation_by, order_by, on_two_by, own_by, own_numbered, CallPut, TermCallPut};
 
 use crate::emitter::Emitter;
-use crate::fault::GenRefusal;
+use crate::fault::RecordRefusal;
 use lp_code::Instr;
 use lp_standard::Constant;
 
@@ -65,7 +65,7 @@ pub(crate) fn put_call(
     number: u32,
     types: Vec<u16>,
     terms: Vec<u16>,
-) -> Result<(), GenRefusal>
+) -> Result<(), RecordRefusal>
     ensures { OnOk result (CallPut emitter.old emitter.new number types.items terms.items) }
 {
     match own_instruction(number, types.as_slice(), terms.as_slice()) {
@@ -81,7 +81,7 @@ pub(crate) fn put_call(
 }
 
 /// A goal that stands in a register as a term.
-pub(crate) fn put_term_call(emitter: &mut Emitter, register: u16) -> Result<(), GenRefusal>
+pub(crate) fn put_term_call(emitter: &mut Emitter, register: u16) -> Result<(), RecordRefusal>
     ensures { OnOk result (TermCallPut emitter.old emitter.new register) }
 {
     emitter.emit(Instr::CallTerm(register))?;

@@ -10,7 +10,7 @@ ghost use Rattle.lp_gen.specs.inner.TermLaw.{AllLoose};
 ghost use Rattle.lp_gen.specs.inner.Capturing.{IsAmong, PlacesHold, Marks, goal_size, clause_size, place_task, place_work};
 ghost use Rattle.lp_gen.specs.declared.captured.Place.TheVariants as on;
 
-use crate::fault::GenRefusal;
+use crate::fault::RecordRefusal;
 use crate::plan::with_more;
 use indexmap::IndexSet;
 use lp_base::Memory;
@@ -46,7 +46,7 @@ fn visit_term<'a>(
     depth: u64,
     levels: &mut IndexSet<u64>,
     work: &mut Vec<Place<'a>>,
-) -> Result<(), GenRefusal>
+) -> Result<(), RecordRefusal>
     ensures less { OnOk result (place_work bank.now work.new.items + 1 ≤ place_work bank.now work.old.items + 4 * size (tree bank.now term.0)) }
     ensures marks { OnOk result (Marks bank.now base levels.old.keys levels.new.keys work.old.items work.new.items (on.Term term depth)) }
 {
@@ -78,7 +78,7 @@ fn visit_goal<'a>(
     goal: &'a Goal,
     depth: u64,
     work: &mut Vec<Place<'a>>,
-) -> Result<(), GenRefusal>
+) -> Result<(), RecordRefusal>
     ensures less { OnOk result (place_work bank.now work.new.items ≤ place_work bank.now work.old.items + goal_size bank.now goal.now) }
     ensures marks { OnOk result ((base : ℕ) (ks : List ℕ) → PlacesHold bank.now base ks work.new.items → PlacesHold bank.now base ks work.old.items × IsThrough (AllLoose (IsAmong base ks)) depth (goal_of bank.now goal.now)) }
 {
@@ -121,7 +121,7 @@ fn visit_clause<'a>(
     clause: &'a Clause,
     depth: u64,
     work: &mut Vec<Place<'a>>,
-) -> Result<(), GenRefusal>
+) -> Result<(), RecordRefusal>
     ensures less { OnOk result (place_work bank.now work.new.items ≤ place_work bank.now work.old.items + clause_size bank.now clause.now) }
     ensures marks { OnOk result ((base : ℕ) (ks : List ℕ) → PlacesHold bank.now base ks work.new.items → PlacesHold bank.now base ks work.old.items × AllThrough (AllLoose (IsAmong base ks)) depth (clauses (clause_of bank.now clause.now) no_clauses)) }
 {
@@ -138,7 +138,7 @@ fn take_up<'a>(
     place: Place<'a>,
     levels: &mut IndexSet<u64>,
     work: &mut Vec<Place<'a>>,
-) -> Result<(), GenRefusal>
+) -> Result<(), RecordRefusal>
     ensures less { OnOk result (place_work bank.now work.new.items + 1 ≤ place_work bank.now work.old.items + place_task bank.now place.entry) }
     ensures marks { OnOk result (Marks bank.now base levels.old.keys levels.new.keys work.old.items work.new.items place.entry) }
 {
@@ -180,7 +180,7 @@ pub(crate) fn captured_of(
     bank: &Bank,
     clauses: &[Clause],
     base: u64,
-) -> Result<IndexSet<u64>, GenRefusal>
+) -> Result<IndexSet<u64>, RecordRefusal>
     ensures { IfOk result (λ levels. AllThrough (AllLoose (IsAmong base levels.keys)) 0 (clauses_of bank.now clauses.now)) }
 {
     let mut levels = IndexSet::new(alloc);

@@ -1,14 +1,18 @@
 // The code of clauses and queries.
-ghost use Rattle.std.specs.Prelude.{◌≡◌, ℕ, List, [], ◌++◌, ◌<◌, ◌≤◌, ◌^◌, All, length, sum_by, IfOk, OnOk};
+ghost use Rattle.std.specs.Prelude.{◌≡◌, ℕ, List, [], ◌++◌, ◌+◌, ◌<◌, ◌≤◌, ◌^◌, All, length, sum_by, IfOk, IfErr, OnOk};
+ghost use Rattle.lp_model.specs.Flattened.{goals_of, clauses_of};
 ghost use Rattle.lp_code.specs.declared.record.Record.{Record};
 ghost use Rattle.lp_code.specs.Length.{length_of, AllFit};
 ghost use Rattle.lp_gen.specs.Contract.{DenotesClauses, DenotesQuery};
+ghost use Rattle.lp_gen.specs.Limits.{goals_strings, clauses_strings, goals_assume, clauses_records, IsPassed};
+ghost use Rattle.lp_gen.specs.inner.Planning.{origin_records, most_of};
 ghost use Rattle.lp_gen.specs.inner.Groups.{Kept, IsStartOf, AllWritten, IsGroup};
 
-use crate::emitter::within;
-use crate::fault::GenRefusal;
+use crate::fault::{GenRefusal, RecordRefusal};
 use crate::plan::{Origin, Part, Plan};
-use crate::record::{Starts, Tables, number_of, record_of};
+use crate::record::{Starts, number_of, record_of};
+use crate::strings::{Source, check_strings};
+use crate::tables::Tables;
 use indexmap::IndexMap;
 use lp_base::{Limit, MAX_CLAUSES};
 use lp_code::{Code, Record};
@@ -35,7 +39,7 @@ fn add_parts(
     tables: Tables<'_>,
     parts: &[Part<'_>],
     records: &mut Vec<Record>,
-) -> Result<(), GenRefusal>
+) -> Result<(), RecordRefusal>
     requires fit { AllFit records.old.items }
     requires short { All (λ r. sum_by length_of r.code.items < 2 ^ 32) records.old.items }
     ensures fit { OnOk result (AllFit records.new.items) }
@@ -69,6 +73,9 @@ fn add(
     ensures fit { OnOk result (AllFit records.new.items) }
     ensures short { OnOk result (All (λ r. sum_by length_of r.code.items < 2 ^ 32) records.new.items) }
     ensures group { OnOk result ((g : List Record) × (records.new.items ≡ records.old.items ++ g) × IsGroup bank.now constants.now (length records.old.items) type_vars origin.entry g) }
+    ensures count { OnOk result (length records.new.items ≡ length records.old.items + origin_records bank.now origin.entry) }
+    ensures within { OnOk result (origin_records bank.now origin.entry ≤ most_of origin.entry) }
+    ensures cause { IfErr result (IsPassed 0 (origin_records bank.now origin.entry) (most_of origin.entry)) }
 {
     let Ok(type_vars) = u16::try_from(type_vars) else {
         return Err(GenRefusal::Limit(Limit::Registers));
@@ -101,7 +108,10 @@ pub fn generate(
     ensures short { IfOk result (λ code. All (λ r. sum_by length_of r.code.items < 2 ^ 32) code.records.items) }
     ensures few { IfOk result (λ code. length code.records.items ≤ 65535) }
     ensures denotes { IfOk result (λ code. DenotesClauses bank.now constants.now clauses.now code.records.items) }
+    ensures within { OnOk result ((clauses_strings (clauses_of bank.now clauses.now) ≡ 0) × (clauses_records (clauses_of bank.now clauses.now) ≤ 65535)) }
+    ensures cause { IfErr result (IsPassed (clauses_strings (clauses_of bank.now clauses.now)) (clauses_records (clauses_of bank.now clauses.now)) 65535) }
 {
+    check_strings(alloc, bank, Source::Clauses(clauses))?;
     let mut records = Vec::new(alloc);
     for at in 0..clauses.len() {
         let clause = &clauses[at];
@@ -109,7 +119,9 @@ pub fn generate(
         let type_vars = clause.type_vars as u64;
         add(alloc, bank, constants, type_vars, origin, &mut records)?;
     }
-    within(records.len(), MAX_CLAUSES as usize, Limit::Clauses)?;
+    if records.len() > MAX_CLAUSES as usize {
+        return Err(GenRefusal::Limit(Limit::Clauses));
+    }
     Ok(Code { records })
 }
 
@@ -129,7 +141,10 @@ pub fn generate_query(
     ensures short { IfOk result (λ code. All (λ r. sum_by length_of r.code.items < 2 ^ 32) code.records.items) }
     ensures few { IfOk result (λ code. length code.records.items ≤ 65536) }
     ensures denotes { IfOk result (λ code. DenotesQuery bank.now constants.now query.now body.now code.records.items) }
+    ensures within { OnOk result ((goals_strings (goals_of bank.now body.now) ≡ 0) × (goals_assume (goals_of bank.now body.now) ≤ 65535)) }
+    ensures cause { IfErr result (IsPassed (goals_strings (goals_of bank.now body.now)) (goals_assume (goals_of bank.now body.now)) 65535) }
 {
+    check_strings(alloc, bank, Source::Goals(body))?;
     let mut records = Vec::new(alloc);
     let origin = Origin::Query(query, body);
     add(
@@ -140,6 +155,5 @@ pub fn generate_query(
         origin,
         &mut records,
     )?;
-    within(records.len(), MAX_CLAUSES as usize + 1, Limit::Clauses)?;
     Ok(Code { records })
 }

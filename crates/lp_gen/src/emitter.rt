@@ -3,10 +3,10 @@ ghost use Rattle.std.specs.Prelude.{◌≡◌, ℕ, ◌≤◌, ◌+◌, ◌-◌,
 ghost use Rattle.lp_code.specs.declared.instruction.Instr.{Instr};
 ghost use Rattle.lp_code.specs.declared.instruction.Instr.TheVariants as on;
 ghost use Rattle.lp_code.specs.Length.{length_of};
-ghost use Rattle.lp_gen.specs.inner.Fitting.{is_fitting};
+ghost use Rattle.lp_gen.specs.inner.Fitting.{is_fitting, is_short};
 
-use crate::fault::GenRefusal;
-use lp_base::{Limit, MAX_ARGUMENTS, MAX_CLAUSES, MAX_CODE_BYTES, MAX_REGISTERS, MAX_TEXT_BYTES};
+use crate::fault::RecordRefusal;
+use lp_base::{MAX_ARGUMENTS, MAX_CODE_BYTES, MAX_REGISTERS};
 use lp_code::{Instr, length};
 use std::alloc::Global;
 
@@ -22,47 +22,55 @@ pub(crate) struct Emitter {
     ghost few: { place ≤ 4294967295 },
 }
 
-/// Refuses what is more than a limit allows.
-pub(crate) fn within(count: usize, most: usize, limit: Limit) -> Result<(), GenRefusal>
+// Refuses what is more than is allowed.
+fn within(count: usize, most: usize, refusal: RecordRefusal) -> Result<(), RecordRefusal>
     ensures { OnOk result (count ≤ most) }
 {
     if count > most {
-        return Err(GenRefusal::Limit(limit));
+        return Err(refusal);
     }
     Ok(())
 }
 
-// Whether texts and lists fit their counts.
-fn fits(instr: &Instr) -> Result<(), GenRefusal>
+// Whether lists fit their counts.
+fn fits(instr: &Instr) -> Result<(), RecordRefusal>
+    requires { is_short instr.now ≡ true }
     ensures { OnOk result (is_fitting instr.now ≡ true) }
 {
     match instr {
-        Instr::TyCon(_, _, types) => within(types.len(), MAX_ARGUMENTS, Limit::Arguments),
-        Instr::PutConst(_, _, types) => within(types.len(), MAX_ARGUMENTS, Limit::Arguments),
-        Instr::GetConst(_, _, types) => within(types.len(), MAX_ARGUMENTS, Limit::Arguments),
-        Instr::PutApp(_, _, terms) => within(terms.len(), MAX_ARGUMENTS, Limit::Arguments),
+        Instr::TyCon(_, _, types) => within(types.len(), MAX_ARGUMENTS, RecordRefusal::Arguments),
+        Instr::PutConst(_, _, types) => within(
+            types.len(),
+            MAX_ARGUMENTS,
+            RecordRefusal::Arguments,
+        ),
+        Instr::GetConst(_, _, types) => within(
+            types.len(),
+            MAX_ARGUMENTS,
+            RecordRefusal::Arguments,
+        ),
+        Instr::PutApp(_, _, terms) => within(terms.len(), MAX_ARGUMENTS, RecordRefusal::Arguments),
         Instr::Call(_, types, terms) => {
-            within(types.len(), MAX_ARGUMENTS, Limit::Arguments)?;
-            within(terms.len(), MAX_ARGUMENTS, Limit::Arguments)
+            within(types.len(), MAX_ARGUMENTS, RecordRefusal::Arguments)?;
+            within(terms.len(), MAX_ARGUMENTS, RecordRefusal::Arguments)
         }
-        Instr::Assume(records, types, terms) => {
-            within(records.len(), MAX_CLAUSES as usize, Limit::Clauses)?;
-            within(types.len(), MAX_REGISTERS, Limit::Registers)?;
-            within(terms.len(), MAX_REGISTERS, Limit::Registers)
+        Instr::Assume(_, types, terms) => {
+            within(types.len(), MAX_REGISTERS, RecordRefusal::Registers)?;
+            within(terms.len(), MAX_REGISTERS, RecordRefusal::Registers)
         }
-        Instr::PutStr(_, text) => within(text.len(), MAX_TEXT_BYTES as usize, Limit::Text),
-        Instr::GetStr(_, text) => within(text.len(), MAX_TEXT_BYTES as usize, Limit::Text),
+        Instr::PutStr(_, _) => Ok(()),
+        Instr::GetStr(_, _) => Ok(()),
         _ => Ok(()),
     }
 }
 
 // One register more of a kind.
-fn next(count: u16) -> Result<u16, GenRefusal>
+fn next(count: u16) -> Result<u16, RecordRefusal>
     ensures { IfOk result (λ more. more ≡ count + 1) }
 {
     match count.checked_add(1) {
         Some(more) => Ok(more),
-        None => Err(GenRefusal::Limit(Limit::Registers)),
+        None => Err(RecordRefusal::Registers),
     }
 }
 
@@ -82,7 +90,7 @@ impl Emitter {
     }
 
     /// The next type register.
-    pub(crate) fn new_type(&mut self) -> Result<u16, GenRefusal>
+    pub(crate) fn new_type(&mut self) -> Result<u16, RecordRefusal>
         ensures register { IfOk result (λ register. register ≡ self.old.types) }
         ensures code { OnOk result (self.new.code.items ≡ self.old.code.items) }
         ensures types { OnOk result (self.new.types ≡ self.old.types + 1) }
@@ -94,7 +102,7 @@ impl Emitter {
     }
 
     /// The next register.
-    pub(crate) fn new_register(&mut self) -> Result<u16, GenRefusal>
+    pub(crate) fn new_register(&mut self) -> Result<u16, RecordRefusal>
         ensures register { IfOk result (λ register. register ≡ self.old.registers) }
         ensures code { OnOk result (self.new.code.items ≡ self.old.code.items) }
         ensures types { OnOk result (self.new.types ≡ self.old.types) }
@@ -105,8 +113,9 @@ impl Emitter {
         Ok(register)
     }
 
-    /// One instruction more.
-    pub(crate) fn emit(&mut self, instr: Instr) -> Result<(), GenRefusal>
+    /// One instruction more, with a string and records that fit.
+    pub(crate) fn emit(&mut self, instr: Instr) -> Result<(), RecordRefusal>
+        requires { is_short instr ≡ true }
         ensures code { OnOk result (self.new.code.items ≡ self.old.code.items ++ instr ∷ []) }
         ensures types { OnOk result (self.new.types ≡ self.old.types) }
         ensures registers { OnOk result (self.new.registers ≡ self.old.registers) }
@@ -114,7 +123,7 @@ impl Emitter {
         fits(&instr)?;
         let place = self.place.saturating_add(length(&instr) as u64);
         if place > MAX_CODE_BYTES {
-            return Err(GenRefusal::Limit(Limit::Registers));
+            return Err(RecordRefusal::Registers);
         }
         self.code.push(instr)?;
         self.place = place;

@@ -4,13 +4,12 @@ ghost use Rattle.lp_gen.specs.inner.Entering.{ClauseEntered, QueryEntered, Types
 
 use crate::emitter::Emitter;
 use crate::environment::{Environment, Variable};
-use crate::fault::GenRefusal;
-use lp_base::Limit;
+use crate::fault::RecordRefusal;
 use lp_code::Instr;
 use lp_term::TypeId;
 
 /// The type variables of the record itself.
-pub(crate) fn make_types(emitter: &mut Emitter, count: u16) -> Result<(), GenRefusal>
+pub(crate) fn make_types(emitter: &mut Emitter, count: u16) -> Result<(), RecordRefusal>
     ensures { OnOk result (TypesMade emitter.old emitter.new count) }
 {
     for _ in 0..count {
@@ -21,7 +20,7 @@ pub(crate) fn make_types(emitter: &mut Emitter, count: u16) -> Result<(), GenRef
 }
 
 // So many registers.
-fn take_registers(emitter: &mut Emitter, count: usize) -> Result<(), GenRefusal>
+fn take_registers(emitter: &mut Emitter, count: usize) -> Result<(), RecordRefusal>
     ensures code { OnOk result (emitter.new.code.items ≡ emitter.old.code.items) }
     ensures types { OnOk result (emitter.new.types ≡ emitter.old.types) }
     ensures registers { OnOk result (emitter.new.registers ≡ emitter.old.registers + count) }
@@ -33,15 +32,15 @@ fn take_registers(emitter: &mut Emitter, count: usize) -> Result<(), GenRefusal>
 }
 
 // The register so many places behind one.
-fn register_behind(first: u16, place: usize) -> Result<u16, GenRefusal>
+fn register_behind(first: u16, place: usize) -> Result<u16, RecordRefusal>
     ensures { IfOk result (λ register. register ≡ first + place) }
 {
     let Ok(offset) = u16::try_from(place) else {
-        return Err(GenRefusal::Limit(Limit::Registers));
+        return Err(RecordRefusal::Registers);
     };
     match first.checked_add(offset) {
         Some(register) => Ok(register),
-        None => Err(GenRefusal::Limit(Limit::Registers)),
+        None => Err(RecordRefusal::Registers),
     }
 }
 
@@ -50,7 +49,7 @@ pub(crate) fn enter_clause(
     emitter: &mut Emitter,
     environment: &mut Environment<'_>,
     vars: &[TypeId],
-) -> Result<(), GenRefusal>
+) -> Result<(), RecordRefusal>
     ensures { OnOk result (ClauseEntered emitter.old emitter.new environment.old environment.new vars.now) }
 {
     let first = emitter.registers;
@@ -74,7 +73,7 @@ pub(crate) fn enter_query(
     emitter: &mut Emitter,
     environment: &mut Environment<'_>,
     vars: &[TypeId],
-) -> Result<(), GenRefusal>
+) -> Result<(), RecordRefusal>
     ensures { OnOk result (QueryEntered emitter.old emitter.new environment.old environment.new vars.now) }
 {
     for of in vars.iter().copied() {

@@ -6,9 +6,33 @@ use std::alloc::{AllocError, AllocFailed};
 /// Why clauses or a query have no code.
 #[derive(Clone, Copy, Debug, PartialEq, Eq)]
 pub enum GenRefusal {
-    /// A record with too many registers or bytes, or a text that is too long.
+    /// A record with too many registers or bytes, a string that is too long, or too many records.
     Limit(Limit),
     Memory,
+}
+
+/// Why a record has no code, where its strings are short and records few enough.
+#[derive(Clone, Copy)]
+pub(crate) enum RecordRefusal {
+    Registers,
+    Arguments,
+    Nesting,
+    Memory,
+}
+
+impl From<RecordRefusal> for GenRefusal {
+    ghost use Rattle.lp_gen.specs.inner.Limiting.{IsOfRecord};
+
+    ghost from_gives = { λ _ e. IsOfRecord e };
+
+    fn from(refusal: RecordRefusal) -> GenRefusal {
+        match refusal {
+            RecordRefusal::Registers => GenRefusal::Limit(Limit::Registers),
+            RecordRefusal::Arguments => GenRefusal::Limit(Limit::Arguments),
+            RecordRefusal::Nesting => GenRefusal::Limit(Limit::Nesting),
+            RecordRefusal::Memory => GenRefusal::Memory,
+        }
+    }
 }
 
 impl From<Memory> for GenRefusal {
@@ -41,5 +65,38 @@ impl<T: Drop> From<AllocFailed<T>> for GenRefusal {
 
     fn from(_: AllocFailed<T>) -> GenRefusal {
         GenRefusal::Memory
+    }
+}
+
+impl From<Memory> for RecordRefusal {
+    ghost use Rattle.std.specs.Prelude.{◌≡◌};
+    ghost use Rattle.lp_gen.specs.declared.fault.RecordRefusal.TheVariants.{Memory};
+
+    ghost from_gives = { λ _ e. e ≡ Memory };
+
+    fn from(_: Memory) -> RecordRefusal {
+        RecordRefusal::Memory
+    }
+}
+
+impl From<AllocError> for RecordRefusal {
+    ghost use Rattle.std.specs.Prelude.{◌≡◌};
+    ghost use Rattle.lp_gen.specs.declared.fault.RecordRefusal.TheVariants.{Memory};
+
+    ghost from_gives = { λ _ e. e ≡ Memory };
+
+    fn from(_: AllocError) -> RecordRefusal {
+        RecordRefusal::Memory
+    }
+}
+
+impl<T: Drop> From<AllocFailed<T>> for RecordRefusal {
+    ghost use Rattle.std.specs.Prelude.{◌≡◌};
+    ghost use Rattle.lp_gen.specs.declared.fault.RecordRefusal.TheVariants.{Memory};
+
+    ghost from_gives = { λ _ e. e ≡ Memory };
+
+    fn from(_: AllocFailed<T>) -> RecordRefusal {
+        RecordRefusal::Memory
     }
 }

@@ -5,10 +5,10 @@ ghost use Rattle.lp_gen.specs.inner.Reading.{read};
 ghost use Rattle.lp_gen.specs.inner.Running.{ConstantPut, IntegerPut, TextPut, IndexPut, ApplicationPut, AbstractionPut};
 
 use crate::emitter::Emitter;
-use crate::fault::GenRefusal;
+use crate::fault::RecordRefusal;
+use crate::strings::string_of;
 use crate::types::TypeView;
 use crate::written_types::{put_type, put_types};
-use lp_base::Limit;
 use lp_code::Instr;
 use lp_term::{Bank, TypeId};
 use std::alloc::Global;
@@ -20,7 +20,7 @@ pub(crate) fn put_constant(
     emitter: &mut Emitter,
     number: u32,
     types: &[TypeId],
-) -> Result<u16, GenRefusal>
+) -> Result<u16, RecordRefusal>
     ensures { IfOk result (λ register. ConstantPut emitter.old emitter.new register number (map (λ t. type_tree bank.now t.0) types.now)) }
 {
     let registers = put_types(alloc, bank, emitter, types)?;
@@ -30,7 +30,7 @@ pub(crate) fn put_constant(
 }
 
 /// An integer.
-pub(crate) fn put_integer(emitter: &mut Emitter, value: i64) -> Result<u16, GenRefusal>
+pub(crate) fn put_integer(emitter: &mut Emitter, value: i64) -> Result<u16, RecordRefusal>
     ensures { IfOk result (λ register. IntegerPut emitter.old emitter.new register value) }
 {
     let made = emitter.new_register()?;
@@ -43,10 +43,10 @@ pub(crate) fn put_text(
     alloc: Global,
     emitter: &mut Emitter,
     bytes: &[u8],
-) -> Result<u16, GenRefusal>
+) -> Result<u16, RecordRefusal>
     ensures { IfOk result (λ register. TextPut emitter.old emitter.new register bytes.now) }
 {
-    let text = Vec::from_slice(alloc, bytes)?;
+    let text = string_of(alloc, bytes)?;
     let made = emitter.new_register()?;
     emitter.emit(Instr::PutStr(made, text))?;
     Ok(made)
@@ -59,11 +59,11 @@ pub(crate) fn put_index(
     emitter: &mut Emitter,
     index: u64,
     of: TypeView,
-) -> Result<u16, GenRefusal>
+) -> Result<u16, RecordRefusal>
     ensures { IfOk result (λ register. IndexPut emitter.old emitter.new register index (read bank.now of)) }
 {
     let Ok(number) = u16::try_from(index) else {
-        return Err(GenRefusal::Limit(Limit::Nesting));
+        return Err(RecordRefusal::Nesting);
     };
     let register = put_type(alloc, bank, emitter, of)?;
     let made = emitter.new_register()?;
@@ -76,7 +76,7 @@ pub(crate) fn put_application(
     emitter: &mut Emitter,
     head: u16,
     args: Vec<u16>,
-) -> Result<u16, GenRefusal>
+) -> Result<u16, RecordRefusal>
     ensures { IfOk result (λ register. ApplicationPut emitter.old emitter.new register head args.items) }
 {
     let made = emitter.new_register()?;
@@ -91,7 +91,7 @@ pub(crate) fn put_abstraction(
     emitter: &mut Emitter,
     body: u16,
     of: TypeView,
-) -> Result<u16, GenRefusal>
+) -> Result<u16, RecordRefusal>
     ensures { IfOk result (λ register. AbstractionPut emitter.old emitter.new register body (read bank.now of)) }
 {
     let register = put_type(alloc, bank, emitter, of)?;

@@ -10,30 +10,30 @@ ghost use Rattle.lp_gen.specs.inner.Heading.{first_place, predicate_of, Argument
 
 use crate::emitter::Emitter;
 use crate::environment::Environment;
-use crate::fault::GenRefusal;
+use crate::fault::RecordRefusal;
 use crate::got::{get_constant, get_integer, get_term, get_text, get_type, get_variable};
 use crate::listing::type_of_head;
-use crate::record::Tables;
+use crate::strings::string_of;
+use crate::tables::Tables;
 use crate::terms::put_term;
 use crate::types::TypeView;
 use crate::written_types::{put_type, put_types};
-use lp_base::Limit;
 use lp_code::{Key, RecordHead};
 use lp_term::{Bank, TermId, TermNode, TypeId, head_of, spine_of};
 use std::alloc::Global;
 
 // The number of an argument.
-fn number_of(place: usize) -> Result<u8, GenRefusal>
+fn number_of(place: usize) -> Result<u8, RecordRefusal>
     ensures { IfOk result (λ number. number ≡ place) }
 {
     match u8::try_from(place) {
         Ok(number) => Ok(number),
-        Err(_) => Err(GenRefusal::Limit(Limit::Arguments)),
+        Err(_) => Err(RecordRefusal::Arguments),
     }
 }
 
 // The key of an argument.
-fn key_at(alloc: Global, bank: &Bank, argument: TermId) -> Result<Key, GenRefusal>
+fn key_at(alloc: Global, bank: &Bank, argument: TermId) -> Result<Key, RecordRefusal>
     ensures { IfOk result (λ key. key_is key (key_in (tree bank.now argument.0)) ≡ true) }
 {
     match bank.term_node(head_of(bank, argument)) {
@@ -48,7 +48,7 @@ fn key_at(alloc: Global, bank: &Bank, argument: TermId) -> Result<Key, GenRefusa
 }
 
 /// The key of a clause by its head.
-pub(crate) fn key_of(alloc: Global, bank: &Bank, head: TermId) -> Result<Key, GenRefusal>
+pub(crate) fn key_of(alloc: Global, bank: &Bank, head: TermId) -> Result<Key, RecordRefusal>
     ensures { IfOk result (λ key. key_is key (first_key_of (arguments (tree bank.now head.0))) ≡ true) }
 {
     let spine = spine_of(alloc, bank, head)?;
@@ -87,7 +87,7 @@ fn get_argument(
     at: u8,
     argument: TermId,
     of: TypeView,
-) -> Result<(), GenRefusal>
+) -> Result<(), RecordRefusal>
     ensures { OnOk result (ArgumentGot (constant_function tables.entry.bank.now tables.entry.constants.now) emitter.old emitter.new (around_of tables.entry.bank.now environment.old) (around_of tables.entry.bank.now environment.new) at (read tables.entry.bank.now of) (tree tables.entry.bank.now argument.0)) }
 {
     if let Some((level, register)) = place_of(tables.bank, environment, argument) {
@@ -106,7 +106,7 @@ fn get_argument(
             Ok(())
         }
         TermNode::Text(bytes) => {
-            let text = Vec::from_slice(alloc, bytes)?;
+            let text = string_of(alloc, bytes)?;
             get_text(emitter, at, text)?;
             Ok(())
         }
@@ -126,7 +126,7 @@ fn get_arguments(
     environment: &mut Environment<'_>,
     head: TermId,
     args: &[TermId],
-) -> Result<(), GenRefusal>
+) -> Result<(), RecordRefusal>
     ensures { OnOk result (ArgumentsGot (constant_function tables.entry.bank.now tables.entry.constants.now) emitter.old emitter.new (around_of tables.entry.bank.now environment.old) (around_of tables.entry.bank.now environment.new) (head_type (constant_function tables.entry.bank.now tables.entry.constants.now) [] (around_of tables.entry.bank.now environment.old) (tree tables.entry.bank.now head.0)) (map (λ t. tree tables.entry.bank.now t.0) args.now)) }
 {
     let mut function = type_of_head(tables, environment, &[], head);
@@ -146,7 +146,7 @@ fn get_types(
     bank: &Bank,
     emitter: &mut Emitter,
     types: &[TypeId],
-) -> Result<(), GenRefusal>
+) -> Result<(), RecordRefusal>
     ensures { OnOk result (TypesGot emitter.old emitter.new (map (λ t. type_tree bank.now t.0) types.now)) }
 {
     for at in 0..types.len() {
@@ -182,7 +182,7 @@ pub(crate) fn get_head(
     emitter: &mut Emitter,
     environment: &mut Environment<'_>,
     head: TermId,
-) -> Result<RecordHead, GenRefusal>
+) -> Result<RecordHead, RecordRefusal>
     ensures { IfOk result (λ predicate. HeadMatched (constant_function tables.entry.bank.now tables.entry.constants.now) emitter.old emitter.new (around_of tables.entry.bank.now environment.old) (around_of tables.entry.bank.now environment.new) predicate (tree tables.entry.bank.now head.0)) }
 {
     let spine = spine_of(alloc, tables.bank, head)?;

@@ -33,6 +33,10 @@ mod plan;
 mod record;
 // The types of the arguments of standard constants.
 mod standard;
+// Strings that are too long.
+mod strings;
+// What the records of a clause or query have in common.
+mod tables;
 // Terms in registers, by steps.
 mod term_steps;
 // Terms in registers.

@@ -1,13 +1,14 @@
 // A clause or query with the clauses that it assumes: each as a head and a list of steps.
-ghost use Rattle.std.specs.Prelude.{◌≡◌, List, ◌≤◌, ◌<◌, ◌+◌, ◌∷◌, ◌++◌, [], map, length, IfOk, OnOk};
+ghost use Rattle.std.specs.Prelude.{◌≡◌, List, ◌≤◌, ◌<◌, ◌+◌, ◌∷◌, ◌++◌, [], map, length, IfOk, IfErr, OnOk};
 ghost use Rattle.lp_gen.specs.inner.Sizes.{goal_work, goal_task, goal_weighs, goals_weigh};
+ghost use Rattle.lp_gen.specs.Limits.{IsPassed};
 ghost use Rattle.lp_gen.specs.inner.Recorded.{own_count};
-ghost use Rattle.lp_gen.specs.inner.Planning.{AreDue, body_of, todo_of, todos, due_goals, due_end, due_level, IsAssumed, WalkKept, PartWalked, ArePlanned, AllCaptured};
+ghost use Rattle.lp_gen.specs.inner.Planning.{AreDue, origin_records, most_of, body_of, todo_of, todos, due_goals, due_end, due_level, IsAssumed, WalkKept, PartWalked, ArePlanned, AllCaptured};
 ghost use Rattle.lp_gen.specs.declared.plan.Due.{Due};
 ghost use Rattle.lp_gen.specs.declared.plan.Step.TheVariants as on;
 
 use crate::captured::captured_of;
-use crate::fault::GenRefusal;
+use crate::fault::{GenRefusal, RecordRefusal};
 use indexmap::IndexSet;
 use lp_base::{Limit, MAX_CLAUSES, Memory};
 use lp_model::{Clause, Goal, Typed};
@@ -104,7 +105,8 @@ impl<'a> Origin<'a> {
 
     // A query's own record is no clause.
     fn most_records(self) -> usize
-        ensures { result ≤ 65536 }
+        ensures few { result ≤ 65536 }
+        ensures most { result ≡ most_of self.entry }
     {
         match self {
             Origin::Clause(_) => MAX_CLAUSES as usize,
@@ -171,7 +173,7 @@ impl<'a> Walk<'a> {
     }
 
     // The goals of a `sigma`, behind which its variable is not known.
-    fn put_some(&mut self, of: TypeId, goals: &'a [Goal]) -> Result<(), GenRefusal>
+    fn put_some(&mut self, of: TypeId, goals: &'a [Goal]) -> Result<(), RecordRefusal>
         ensures work { OnOk result (goal_work self.new.tasks.items ≡ goal_work self.old.tasks.items + 1 + goals_weigh (map goal_weighs goals.now)) }
         ensures todo { OnOk result (todos self.new.tasks.items ≡ due_goals goals.now ∷ due_level self.old.level ∷ todos self.old.tasks.items) }
         ensures steps { OnOk result (self.new.steps.items ≡ self.old.steps.items ++ on.Some of ∷ []) }
@@ -186,7 +188,7 @@ impl<'a> Walk<'a> {
     }
 
     // The goals of a `pi`.
-    fn put_all(&mut self, of: TypeId, goals: &'a [Goal]) -> Result<(), GenRefusal>
+    fn put_all(&mut self, of: TypeId, goals: &'a [Goal]) -> Result<(), RecordRefusal>
         ensures work { OnOk result (goal_work self.new.tasks.items ≡ goal_work self.old.tasks.items + 1 + goals_weigh (map goal_weighs goals.now)) }
         ensures todo { OnOk result (todos self.new.tasks.items ≡ due_goals goals.now ∷ due_end on.EndAll self.old.level ∷ todos self.old.tasks.items) }
         ensures steps { OnOk result (self.new.steps.items ≡ self.old.steps.items ++ on.All of ∷ []) }
@@ -201,13 +203,13 @@ impl<'a> Walk<'a> {
 
 /// The number of variables with more of them. No clause that is within the limits of nesting has 2^32 of them around a goal without more registers than a
 /// record may have.
-pub(crate) fn with_more(level: u64, more: u64) -> Result<u64, GenRefusal>
+pub(crate) fn with_more(level: u64, more: u64) -> Result<u64, RecordRefusal>
     ensures sum { IfOk result (λ sum. sum ≡ level + more) }
     ensures few { IfOk result (λ sum. sum ≤ 4294967295) }
 {
     match level.checked_add(more) {
         Some(sum) if sum <= u32::MAX as u64 => Ok(sum),
-        _ => Err(GenRefusal::Limit(Limit::Registers)),
+        _ => Err(RecordRefusal::Registers),
     }
 }
 
@@ -217,6 +219,9 @@ impl<'a> Plan<'a> {
         ensures planned { IfOk result (λ plan. ArePlanned origin.entry plan.due.items plan.parts.items plan.assumptions.items) }
         ensures captured { IfOk result (λ plan. AllCaptured bank.now plan.assumptions.items) }
         ensures few { IfOk result (λ plan. length plan.parts.items ≤ 65536) }
+        ensures count { IfOk result (λ plan. length plan.parts.items ≡ origin_records bank.now origin.entry) }
+        ensures within { IfOk result (λ plan. origin_records bank.now origin.entry ≤ most_of origin.entry) }
+        ensures cause { IfErr result (IsPassed 0 (origin_records bank.now origin.entry) (most_of origin.entry)) }
     {
         let mut plan = Plan {
             alloc,
@@ -248,7 +253,7 @@ impl<'a> Plan<'a> {
     }
 
     // The steps of a part; those that it assumes are due.
-    fn walk(&mut self, bank: &Bank, due: Due<'a>) -> Result<Vec<Step>, GenRefusal>
+    fn walk(&mut self, bank: &Bank, due: Due<'a>) -> Result<Vec<Step>, RecordRefusal>
         ensures walked { IfOk result (λ steps. PartWalked due.entry self.old.due.items self.new.due.items self.old.assumptions.items self.new.assumptions.items steps.items) }
         ensures captured { IfOk result (λ steps. AllCaptured bank.now self.old.assumptions.items → AllCaptured bank.now self.new.assumptions.items) }
         ensures parts { IfOk result (λ steps. self.new.parts ≡ self.old.parts) }
@@ -268,7 +273,12 @@ impl<'a> Plan<'a> {
         Ok(walk.steps)
     }
 
-    fn step(&mut self, bank: &Bank, walk: &mut Walk<'a>, task: Task<'a>) -> Result<(), GenRefusal>
+    fn step(
+        &mut self,
+        bank: &Bank,
+        walk: &mut Walk<'a>,
+        task: Task<'a>,
+    ) -> Result<(), RecordRefusal>
         ensures work { OnOk result (goal_work walk.new.tasks.items + 1 ≤ goal_work walk.old.tasks.items + goal_task task.entry) }
         ensures kept { OnOk result (WalkKept self.old.due.items self.new.due.items self.old.assumptions.items self.new.assumptions.items walk.old.level walk.new.level walk.old.steps.items walk.new.steps.items (todo_of task.entry ∷ todos walk.old.tasks.items) (todos walk.new.tasks.items)) }
         ensures captured { OnOk result (AllCaptured bank.now self.old.assumptions.items → AllCaptured bank.now self.new.assumptions.items) }
@@ -295,7 +305,12 @@ impl<'a> Plan<'a> {
         }
     }
 
-    fn goal(&mut self, bank: &Bank, walk: &mut Walk<'a>, goal: &'a Goal) -> Result<(), GenRefusal>
+    fn goal(
+        &mut self,
+        bank: &Bank,
+        walk: &mut Walk<'a>,
+        goal: &'a Goal,
+    ) -> Result<(), RecordRefusal>
         ensures work { OnOk result (goal_work walk.new.tasks.items ≤ goal_work walk.old.tasks.items + goal_weighs goal.now) }
         ensures kept { OnOk result (WalkKept self.old.due.items self.new.due.items self.old.assumptions.items self.new.assumptions.items walk.old.level walk.new.level walk.old.steps.items walk.new.steps.items (due_goals (goal.now ∷ []) ∷ todos walk.old.tasks.items) (todos walk.new.tasks.items)) }
         ensures captured { OnOk result (AllCaptured bank.now self.old.assumptions.items → AllCaptured bank.now self.new.assumptions.items) }
@@ -335,7 +350,12 @@ impl<'a> Plan<'a> {
     }
 
     // An assumption of these clauses. Their records start with the variables around it that stand in them.
-    fn assume(&mut self, bank: &Bank, clauses: &'a [Clause], base: u64) -> Result<usize, GenRefusal>
+    fn assume(
+        &mut self,
+        bank: &Bank,
+        clauses: &'a [Clause],
+        base: u64,
+    ) -> Result<usize, RecordRefusal>
         ensures assumed { IfOk result (λ number. IsAssumed self.old.due.items self.new.due.items self.old.assumptions.items self.new.assumptions.items clauses.now base number) }
         ensures captured { IfOk result (λ number. AllCaptured bank.now self.old.assumptions.items → AllCaptured bank.now self.new.assumptions.items) }
         ensures parts { IfOk result (λ number. self.new.parts ≡ self.old.parts) }

@@ -1,10 +1,11 @@
 // A record.
-ghost use Rattle.std.specs.Prelude.{◌≡◌, List, Some, None, map, [], ◌+◌, ◌<◌, ◌≤◌, ◌^◌, nat_eq, min, All, sum_by, if◌then◌else◌, IfOk, OnOk};
+ghost use Rattle.std.specs.Prelude.{◌≡◌, List, Some, None, true, length, map, [], ◌+◌, ◌<◌, ◌≤◌, ◌^◌, nat_eq, min, All, sum_by, if◌then◌else◌, IfOk, OnOk};
 ghost use Rattle.lp_term.specs.Nodes.{Nodes};
 ghost use Rattle.lp_code.specs.Length.{Fits, length_of};
 ghost use Rattle.lp_code.specs.Denote.{from_zero};
 ghost use Rattle.lp_model.specs.declared.clause.Goal.{Goal};
 ghost use Rattle.lp_gen.specs.declared.plan.Origin.TheVariants as origin;
+ghost use Rattle.lp_gen.specs.inner.Fitting.{is_short};
 ghost use Rattle.lp_gen.specs.inner.Listing.{around_of, constant_function};
 ghost use Rattle.lp_gen.specs.inner.Recorded.{FrontWritten, TypesWritten, HasKey, RecordWritten};
 ghost use Rattle.lp_gen.specs.inner.GoalCode.{numbers, AreRegisters};
@@ -18,27 +19,17 @@ use crate::body::write_body;
 use crate::emitter::Emitter;
 use crate::entering::{enter_clause, enter_query, make_types};
 use crate::environment::{Environment, Variable};
-use crate::fault::GenRefusal;
+use crate::fault::RecordRefusal;
 use crate::head::{get_head, key_of};
 use crate::plan::{Assumption, Origin, Part, Step};
+use crate::tables::Tables;
 use crate::variables::make_variables;
 use indexmap::IndexMap;
-use lp_base::{Limit, Memory};
+use lp_base::Memory;
 use lp_code::{Instr, Key, Record, RecordHead};
-use lp_model::{Clause, Declared, Typed};
+use lp_model::{Clause, Typed};
 use lp_term::{Bank, TypeId};
 use std::alloc::Global;
-
-/// What the records of a clause or query have in common: the bank, the declared constants, how many type variables there are, the assumptions, and the
-/// number of the first record.
-#[derive(Clone, Copy)]
-pub(crate) struct Tables<'a> {
-    pub bank: &'a Bank,
-    pub constants: &'a [Declared],
-    pub type_vars: u16,
-    pub assumptions: &'a [Assumption<'a>],
-    pub first: u32,
-}
 
 /// The variables with which records start, by level.
 pub(crate) type Starts = IndexMap<u64, Variable>;
@@ -50,18 +41,19 @@ pub(crate) fn number_of(place: usize) -> u32
     place.min(u32::MAX as usize) as u32
 }
 
-fn count_of_registers(count: u64) -> Result<u16, GenRefusal>
+fn count_of_registers(count: u64) -> Result<u16, RecordRefusal>
     ensures { IfOk result (λ registers. registers ≡ count) }
 {
     match u16::try_from(count) {
         Ok(registers) => Ok(registers),
-        Err(_) => Err(GenRefusal::Limit(Limit::Registers)),
+        Err(_) => Err(RecordRefusal::Registers),
     }
 }
 
 // The numbers of the records of an assumption.
 fn records_of(alloc: Global, first: u32, assumption: &Assumption<'_>) -> Result<Vec<u32>, Memory>
-    ensures { IfOk result (λ records. first + assumption.now.first + assumption.now.count < 2 ^ 32 → records.items ≡ numbers (first + assumption.now.first) assumption.now.count) }
+    ensures numbers { IfOk result (λ records. first + assumption.now.first + assumption.now.count < 2 ^ 32 → records.items ≡ numbers (first + assumption.now.first) assumption.now.count) }
+    ensures count { IfOk result (λ records. length records.items ≡ assumption.now.count) }
 {
     let mut records = Vec::new(alloc);
     for at in 0..assumption.count {
@@ -88,7 +80,7 @@ fn captured_by(
     environment: &Environment<'_>,
     levels: &[u64],
     starts: &mut Starts,
-) -> Result<Vec<u16>, GenRefusal>
+) -> Result<Vec<u16>, RecordRefusal>
     ensures registers { IfOk result (λ registers. (b : Nodes) → AreRegisters (around_of b environment.now) (levels_found (around_of b environment.now) levels.now) registers.items) }
     ensures starts { OnOk result ((b : Nodes) → starts.old.entries ≡ [] → IsDistinct nat_eq levels.now → AreStarts (around_of b environment.now) (levels_found (around_of b environment.now) levels.now) (started_at b starts.new) (index_map_len starts.new)) }
 {
@@ -115,7 +107,8 @@ pub(crate) fn assumption(
     environment: &Environment<'_>,
     all_starts: &mut Vec<Starts>,
     number: usize,
-) -> Result<Instr, GenRefusal>
+) -> Result<Instr, RecordRefusal>
+    ensures short { IfOk result (λ instr. is_short instr ≡ true) }
     ensures made { IfOk result (λ instr. AssumptionMade tables.entry environment.now number all_starts.old.items all_starts.new.items instr) }
     ensures grown { OnOk result (StartsGrow tables.entry all_starts.old.items all_starts.new.items (on.Assume number)) }
 {
@@ -150,7 +143,7 @@ fn write_head(
     emitter: &mut Emitter,
     environment: &mut Environment<'_>,
     clause: &Clause,
-) -> Result<RecordHead, GenRefusal>
+) -> Result<RecordHead, RecordRefusal>
     ensures { IfOk result (λ head. FrontWritten tables.entry.bank.now (constant_function tables.entry.bank.now tables.entry.constants.now) emitter.old emitter.new environment.old environment.new (origin.Clause clause.entry) (Some head)) }
 {
     enter_clause(emitter, environment, clause.vars.as_slice())?;
@@ -166,7 +159,7 @@ fn write_variables(
     emitter: &mut Emitter,
     environment: &mut Environment<'_>,
     query: &Typed,
-) -> Result<(), GenRefusal>
+) -> Result<(), RecordRefusal>
     ensures { OnOk result ((goals : Bor (List Goal)) → FrontWritten tables.entry.bank.now (constant_function tables.entry.bank.now tables.entry.constants.now) emitter.old emitter.new environment.old environment.new (origin.Query query.entry goals) None) }
 {
     let vars = types_of_query(alloc, query)?;
@@ -182,7 +175,7 @@ fn write_front(
     emitter: &mut Emitter,
     environment: &mut Environment<'_>,
     origin: Origin<'_>,
-) -> Result<Option<RecordHead>, GenRefusal>
+) -> Result<Option<RecordHead>, RecordRefusal>
     ensures { IfOk result (λ head. FrontWritten tables.entry.bank.now (constant_function tables.entry.bank.now tables.entry.constants.now) emitter.old emitter.new environment.old environment.new origin.entry head) }
 {
     match origin {
@@ -198,7 +191,7 @@ fn write_front(
 }
 
 // The type variables that a clause of a program makes.
-fn write_types(emitter: &mut Emitter, program: bool, count: u16) -> Result<(), GenRefusal>
+fn write_types(emitter: &mut Emitter, program: bool, count: u16) -> Result<(), RecordRefusal>
     ensures { OnOk result (TypesWritten program emitter.old emitter.new count) }
 {
     if !program {
@@ -209,7 +202,12 @@ fn write_types(emitter: &mut Emitter, program: bool, count: u16) -> Result<(), G
 }
 
 // The key of a record.
-fn key_by(alloc: Global, bank: &Bank, origin: Origin<'_>, program: bool) -> Result<Key, GenRefusal>
+fn key_by(
+    alloc: Global,
+    bank: &Bank,
+    origin: Origin<'_>,
+    program: bool,
+) -> Result<Key, RecordRefusal>
     ensures { IfOk result (HasKey bank.now origin.entry program) }
 {
     let Origin::Clause(clause) = origin else {
@@ -236,7 +234,7 @@ pub(crate) fn record_of<'x>(
     part: &Part<'_>,
     captured: &'x Starts,
     starts: &mut Vec<Starts>,
-) -> Result<Record, GenRefusal>
+) -> Result<Record, RecordRefusal>
     ensures fit { IfOk result (λ r. All Fits r.code.items) }
     ensures few { IfOk result (λ r. sum_by length_of r.code.items ≤ 4294967295) }
     ensures written { IfOk result (RecordWritten tables.entry (constant_function tables.entry.bank.now tables.entry.constants.now) part.now captured.now starts.old.items starts.new.items) }

@@ -6,7 +6,7 @@ ghost use Rattle.lp_gen.specs.declared.term_steps.TermStep as any_step;
 ghost use Rattle.lp_gen.specs.declared.term_steps.TermStep.TheVariants as on;
 
 use crate::emitter::Emitter;
-use crate::fault::GenRefusal;
+use crate::fault::RecordRefusal;
 use crate::forms::{
     put_abstraction, put_application, put_constant, put_index, put_integer, put_text,
 };
@@ -39,7 +39,7 @@ fn apply(
     bank: &Bank,
     count: usize,
     made: &mut Vec<u16>,
-) -> Result<(), GenRefusal>
+) -> Result<(), RecordRefusal>
     ensures { OnOk result ((start : so_far.Emitter) (steps : List any_step.TermStep) → StepsPut bank.now start emitter.old steps made.old.items → StepsPut bank.now start emitter.new (steps ++ on.Apply count ∷ []) made.new.items) }
 {
     let args = take(made, count)?;
@@ -57,7 +57,7 @@ fn abstraction(
     emitter: &mut Emitter,
     of: TypeView,
     made: &mut Vec<u16>,
-) -> Result<(), GenRefusal>
+) -> Result<(), RecordRefusal>
     ensures { OnOk result ((start : so_far.Emitter) (steps : List any_step.TermStep) → StepsPut bank.now start emitter.old steps made.old.items → StepsPut bank.now start emitter.new (steps ++ on.Abstract of ∷ []) made.new.items) }
 {
     let bodies = take(made, 1)?;
@@ -74,7 +74,7 @@ fn new_variable(
     emitter: &mut Emitter,
     register: u16,
     of: TypeId,
-) -> Result<(), GenRefusal>
+) -> Result<(), RecordRefusal>
     ensures { OnOk result ((start : so_far.Emitter) (steps : List any_step.TermStep) (made : List ℕ) → StepsPut bank.now start emitter.old steps made → StepsPut bank.now start emitter.new (steps ++ on.New register of ∷ []) made) }
 {
     let kind = put_type(alloc, bank, emitter, TypeView::Of(of, None))?;
@@ -89,7 +89,7 @@ fn put_step<'b>(
     emitter: &mut Emitter,
     step: TermStep<'b>,
     made: &mut Vec<u16>,
-) -> Result<(), GenRefusal>
+) -> Result<(), RecordRefusal>
     ensures { OnOk result ((start : so_far.Emitter) (steps : List any_step.TermStep) → StepsPut bank.now start emitter.old steps made.old.items → StepsPut bank.now start emitter.new (steps ++ step.entry ∷ []) made.new.items) }
 {
     match step {
@@ -138,7 +138,7 @@ pub(crate) fn put_steps(
     bank: &Bank,
     emitter: &mut Emitter,
     steps: &[TermStep<'_>],
-) -> Result<u16, GenRefusal>
+) -> Result<u16, RecordRefusal>
     ensures { IfOk result (λ register. TermOfSteps bank.now emitter.old emitter.new register steps.now) }
 {
     let mut made = Vec::new(alloc);

@@ -7,9 +7,9 @@ ghost use Rattle.lp_gen.specs.inner.Written.{TermWritten, ArgumentsWritten};
 
 use crate::emitter::Emitter;
 use crate::environment::Environment;
-use crate::fault::GenRefusal;
+use crate::fault::RecordRefusal;
 use crate::listing::{list_steps, type_of_head};
-use crate::record::Tables;
+use crate::tables::Tables;
 use crate::term_steps::put_steps;
 use crate::types::TypeView;
 use lp_term::TermId;
@@ -23,7 +23,7 @@ pub(crate) fn put_term(
     environment: &mut Environment<'_>,
     term: TermId,
     of: TypeView,
-) -> Result<u16, GenRefusal>
+) -> Result<u16, RecordRefusal>
     ensures { IfOk result (λ register. TermWritten (constant_function tables.entry.bank.now tables.entry.constants.now) emitter.old emitter.new (around_of tables.entry.bank.now environment.old) (around_of tables.entry.bank.now environment.new) register (read tables.entry.bank.now of) (tree tables.entry.bank.now term.0)) }
 {
     let steps = list_steps(alloc, tables, environment, term, of)?;
@@ -39,7 +39,7 @@ pub(crate) fn put_arguments(
     environment: &mut Environment<'_>,
     head: TermId,
     args: &[TermId],
-) -> Result<Vec<u16>, GenRefusal>
+) -> Result<Vec<u16>, RecordRefusal>
     ensures { IfOk result (λ registers. ArgumentsWritten (constant_function tables.entry.bank.now tables.entry.constants.now) emitter.old emitter.new (around_of tables.entry.bank.now environment.old) (around_of tables.entry.bank.now environment.new) registers.items (head_type (constant_function tables.entry.bank.now tables.entry.constants.now) [] (around_of tables.entry.bank.now environment.old) (tree tables.entry.bank.now head.0)) (map (λ t. tree tables.entry.bank.now t.0) args.now)) }
 {
     let mut function = type_of_head(tables, environment, &[], head);

@@ -5,7 +5,7 @@ ghost use Rattle.lp_gen.specs.inner.Beginning.{VariableMade, PlaceMade, OwnMade,
 
 use crate::emitter::Emitter;
 use crate::environment::{Environment, Variable};
-use crate::fault::GenRefusal;
+use crate::fault::RecordRefusal;
 use crate::types::TypeView;
 use crate::written_types::put_type;
 use lp_code::Instr;
@@ -20,7 +20,7 @@ fn put_variable(
     environment: &mut Environment<'_>,
     level: u64,
     variable: Variable,
-) -> Result<(), GenRefusal>
+) -> Result<(), RecordRefusal>
     ensures made { OnOk result (VariableMade emitter.old emitter.new (around_of bank.now environment.old) level (seen bank.now variable)) }
     ensures set { OnOk result (around_of bank.now environment.new ≡ set_level (around_of bank.now environment.old) level) }
 {
@@ -38,7 +38,7 @@ fn make_place(
     emitter: &mut Emitter,
     environment: &mut Environment<'_>,
     place: usize,
-) -> Result<(), GenRefusal>
+) -> Result<(), RecordRefusal>
     ensures { OnOk result (PlaceMade emitter.old emitter.new (around_of bank.now environment.old) (around_of bank.now environment.new) place) }
 {
     let level = environment.base.saturating_add(place as u64);
@@ -59,7 +59,7 @@ pub(crate) fn make_variables(
     emitter: &mut Emitter,
     environment: &mut Environment<'_>,
     is_clause: bool,
-) -> Result<(), GenRefusal>
+) -> Result<(), RecordRefusal>
     ensures { OnOk result (OwnMade emitter.old emitter.new (around_of bank.now environment.old) (around_of bank.now environment.new)) }
 {
     let count = environment.own.len();
@@ -71,7 +71,7 @@ pub(crate) fn make_variables(
 }
 
 /// The end of the head.
-pub(crate) fn put_neck(emitter: &mut Emitter) -> Result<(), GenRefusal>
+pub(crate) fn put_neck(emitter: &mut Emitter) -> Result<(), RecordRefusal>
     ensures { OnOk result (NeckPut emitter.old emitter.new) }
 {
     emitter.emit(Instr::Neck)?;

@@ -9,7 +9,7 @@ ghost use Rattle.lp_gen.specs.inner.Works.{Comes, GivesWay, IsGrown, act, done, 
 ghost use Rattle.lp_gen.specs.declared.written_types.TypeTask.TheVariants as on;
 
 use crate::emitter::Emitter;
-use crate::fault::GenRefusal;
+use crate::fault::RecordRefusal;
 use crate::types::{Top, TypeView};
 use lp_code::Instr;
 use lp_term::{Bank, TermId, TypeId};
@@ -33,7 +33,7 @@ pub(crate) fn register_of_type(number: u64) -> u16
 }
 
 /// The last registers of so many, taken off.
-pub(crate) fn take(registers: &mut Vec<u16>, count: usize) -> Result<Vec<u16>, GenRefusal>
+pub(crate) fn take(registers: &mut Vec<u16>, count: usize) -> Result<Vec<u16>, RecordRefusal>
     ensures taken { IfOk result (λ taken. taken.items ≡ last_of count registers.old.items) }
     ensures left { OnOk result (registers.new.items ≡ first_of count registers.old.items) }
 {
@@ -57,7 +57,7 @@ fn visit_type<'b>(
     of: TypeView,
     work: &mut Vec<TypeTask<'b>>,
     made: &mut Vec<u16>,
-) -> Result<(), GenRefusal>
+) -> Result<(), RecordRefusal>
     ensures less { OnOk result (type_work bank.now work.new.items + 1 ≤ type_work bank.now work.old.items + 3 * type_size (read bank.now of)) }
     ensures gives { OnOk result (GivesWay bank.now (on.Visit of) work.old.items work.new.items made.old.items made.new.items) }
 {
@@ -90,7 +90,7 @@ fn visit_parts<'b>(
     parts: &'b [TypeId],
     constant: Option<TermId>,
     work: &mut Vec<TypeTask<'b>>,
-) -> Result<(), GenRefusal>
+) -> Result<(), RecordRefusal>
     ensures less { OnOk result (type_work bank.now work.new.items ≤ type_work bank.now work.old.items + 3 * types_size (tys (map (λ p. read_at bank.now constant (type_tree bank.now p.0)) parts.now))) }
     ensures gives { OnOk result ((made : List ℕ) → GivesWay bank.now (on.Parts parts.entry constant) work.old.items work.new.items made made) }
 {
@@ -108,7 +108,7 @@ fn put_constructor(
     kind: u32,
     parts: usize,
     made: &mut Vec<u16>,
-) -> Result<(), GenRefusal>
+) -> Result<(), RecordRefusal>
     ensures { OnOk result (Comes emitter.old emitter.new (with_constructor kind parts) made.old.items made.new.items) }
 {
     let types = take(made, parts)?;
@@ -119,7 +119,7 @@ fn put_constructor(
 }
 
 // An arrow between the last two.
-fn put_arrow(emitter: &mut Emitter, made: &mut Vec<u16>) -> Result<(), GenRefusal>
+fn put_arrow(emitter: &mut Emitter, made: &mut Vec<u16>) -> Result<(), RecordRefusal>
     ensures { OnOk result (Comes emitter.old emitter.new with_arrow made.old.items made.new.items) }
 {
     let sides = take(made, 2)?;
@@ -138,7 +138,7 @@ fn take_up<'b>(
     task: TypeTask<'b>,
     work: &mut Vec<TypeTask<'b>>,
     made: &mut Vec<u16>,
-) -> Result<(), GenRefusal>
+) -> Result<(), RecordRefusal>
     ensures less { OnOk result (type_work bank.now work.new.items + 1 ≤ type_work bank.now work.old.items + type_task bank.now task.entry) }
     ensures grown { OnOk result (IsGrown emitter.old emitter.new) }
     ensures acts { OnOk result (done bank.now work.new.items (work_now emitter.new made.new.items) ≡ done bank.now work.old.items (act bank.now task.entry (work_now emitter.old made.old.items))) }
@@ -169,7 +169,7 @@ pub(crate) fn put_type(
     bank: &Bank,
     emitter: &mut Emitter,
     of: TypeView,
-) -> Result<u16, GenRefusal>
+) -> Result<u16, RecordRefusal>
     ensures { IfOk result (λ register. IsTypePut emitter.old emitter.new register (read bank.now of)) }
 {
     let mut work = Vec::new(alloc);
@@ -187,7 +187,7 @@ pub(crate) fn put_types(
     bank: &Bank,
     emitter: &mut Emitter,
     types: &[TypeId],
-) -> Result<Vec<u16>, GenRefusal>
+) -> Result<Vec<u16>, RecordRefusal>
     ensures { IfOk result (λ registers. AreTypesPut emitter.old emitter.new registers.items (map (λ t. type_tree bank.now t.0) types.now)) }
 {
     let mut registers = Vec::new(alloc);

@@ -15,7 +15,7 @@ use Rattle.lp_gen.specs.declared.environment.Variable.{Variable}
 use Rattle.lp_gen.specs.declared.body.Block.{Block}
 use Rattle.lp_gen.specs.declared.plan.Step.{Step}
 use Rattle.lp_gen.specs.declared.plan.Assumption.{Assumption}
-use Rattle.lp_gen.specs.declared.record.Tables.{Tables}
+use Rattle.lp_gen.specs.declared.tables.Tables.{Tables}
 use Rattle.lp_gen.specs.declared.plan.Step.TheVariants as on
 use Rattle.lp_gen.specs.inner.Running.{IsTypePut}
 use Rattle.lp_gen.specs.inner.Listing.{Seen, Around, seen, around_of, at_level}

@@ -4,7 +4,7 @@ use Rattle.lp_model.specs.Flat.{Goal, Goals, Clauses, Atomic, Cut, Either, Exist
 use Rattle.lp_code.specs.States.{member}
 use Rattle.lp_gen.specs.Sources.{ends_list}
 use Rattle.lp_gen.specs.declared.plan.Assumption.{Assumption}
-use Rattle.lp_gen.specs.declared.record.Tables.{Tables}
+use Rattle.lp_gen.specs.declared.tables.Tables.{Tables}
 use Rattle.lp_gen.specs.inner.Listing.{Around}
 use Rattle.lp_gen.specs.inner.TermLaw.{AllLoose}
 use Rattle.lp_gen.specs.inner.Bodies.{new_level, AllThrough}

@@ -1,5 +1,5 @@
 -- The plan of a clause or query while it is made: which parts are due, what assumptions are, and what is still to do for the goals of a part.
-use Rattle.std.specs.Prelude.{◌≡◌, ℕ, suc, ◌+◌, ◌<◌, ◌≤◌, ◌^◌, List, [], ◌∷◌, ◌++◌, map, reverse, length, Some, None, slice_get}
+use Rattle.std.specs.Prelude.{◌≡◌, ℕ, suc, ◌+◌, ◌<◌, ◌≤◌, ◌^◌, List, [], ◌∷◌, ◌++◌, map, reverse, length, sum_by, Some, None, slice_get}
 use Rattle.std.specs.Borrow.{Bor}
 use Rattle.lp_model.specs.declared.clause.Goal.{Goal}
 use Rattle.lp_model.specs.declared.clause.Clause.{Clause}
@@ -14,15 +14,30 @@ use Rattle.lp_gen.specs.declared.plan.Task.{Task}
 use Rattle.lp_gen.specs.declared.plan.Task.TheVariants as task
 use Rattle.lp_gen.specs.declared.plan.Origin.{Origin}
 use Rattle.lp_gen.specs.declared.plan.Origin.TheVariants as origin
-use Rattle.lp_gen.specs.declared.record.Tables.{Tables}
+use Rattle.lp_gen.specs.declared.tables.Tables.{Tables}
 use Rattle.lp_gen.specs.inner.OpenGoals.{BodyStep, goals_steps}
 use Rattle.lp_gen.specs.inner.BodyCode.{Suppositions, step_of, steps_of, next_of, next_all, IsNext, AreNext, count_starts, starts_all}
+use Rattle.lp_gen.specs.Limits.{goals_assume}
 use Rattle.lp_gen.specs.inner.Recorded.{own_count}
 use Rattle.lp_gen.specs.inner.Planned.{goals_records, GoalsHave, AreWritten, DeepGoals, DeepClauses, AreCaptured}
 
 abbrev pub body_of : Origin → List Goal
 body_of (origin.Clause c) = c.now.body.items
 body_of (origin.Query q gs) = gs.now
+
+-- the records of a clause or query, its own counted too, and how many are allowed
+abbrev pub origin_records : Nodes → Origin → ℕ
+origin_records b o = suc (goals_assume (goals_of b (body_of o)))
+
+abbrev pub most_of : Origin → ℕ
+most_of (origin.Clause c) = 65535
+most_of (origin.Query q gs) = 65536
+
+abbrev pub due_records : Nodes → List Due → ℕ
+due_records b us = sum_by (λ u. origin_records b u.origin) us
+
+abbrev pub part_records : Nodes → List Part → ℕ
+part_records b ps = sum_by (λ p. origin_records b p.origin) ps
 
 -- the parts of the clauses of an assumption, which is the one of number `n`, under `d` variables
 
@@ -90,6 +105,13 @@ todo_steps b cl (due_goals gs ∷ ts) = goals_steps (goals_of b gs) ++ todo_step
 todo_steps b cl (due_end s l ∷ ts) = step_of b cl s ∷ todo_steps b cl ts
 todo_steps b cl (due_level l ∷ ts) = todo_steps b cl ts
 
+-- the records that are due for it
+abbrev pub todo_records : Nodes → List Todo → ℕ
+todo_records b [] = 0
+todo_records b (due_goals gs ∷ ts) = goals_assume (goals_of b gs) + todo_records b ts
+todo_records b (due_end s l ∷ ts) = todo_records b ts
+todo_records b (due_level l ∷ ts) = todo_records b ts
+
 abbrev pub TodoHave : Nodes → (ℕ → ℕ → Clauses → Type 0) → (q d : ℕ) → List Todo → Type 0
 TodoHave b D q d [] = Unit {0}
 TodoHave b D q d (due_goals gs ∷ ts) = GoalsHave D q d (goals_of b gs) × TodoHave b D (q + goals_records (goals_of b gs)) d ts
@@ -138,6 +160,7 @@ pub record WalkStands (us0 us : List Due) (xs0 xs : List Assumption) (d0 d : ℕ
   pub deep : (b : Nodes) → DeepGoals (goals_of b gs) → TodoDeep b ts × ((n : ℕ) (x : Assumption) → length xs0 ≤ n → slice_get xs n ≡ Some x → DeepClauses (clauses_of b x.clauses.now))
   pub written : (b : Nodes) → TodoWritten b ts → AreWritten (goals_of b gs)
   pub ends : AllEnds ts
+  pub total : (b : Nodes) → due_records b us + todo_records b ts ≡ due_records b us0 + goals_assume (goals_of b gs)
 
 abbrev pub WalkKept : (us us' : List Due) → (xs xs' : List Assumption) → (d d' : ℕ) → (steps steps' : List Step) → (ts ts' : List Todo) → Type 0
 WalkKept us us' xs xs' d d' steps steps' ts ts' =

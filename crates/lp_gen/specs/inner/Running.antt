@@ -144,7 +144,7 @@ abbrev pub IntegerPut : (old new : Emitter) → (register : ℕ) → ℤ → Typ
 IntegerPut old new r z = IsTermPut old new r (λ h vars xs. Unit {0}) (λ h xs. whole (atom (integer z)) int_type)
 
 abbrev pub TextPut : (old new : Emitter) → (register : ℕ) → List ℕ → Type 0
-TextPut old new r s = IsTermPut old new r (λ h vars xs. Unit {0}) (λ h xs. whole (atom (text s)) string_type)
+TextPut old new r s = IsTermPut old new r (λ h vars xs. nat_lt (length s) 65536 ≡ true) (λ h xs. whole (atom (text s)) string_type)
 
 abbrev pub IndexPut : (old new : Emitter) → (register i : ℕ) → Ty → Type 0
 IndexPut old new r i T = IsTermPut old new r (λ h vars xs. IsKnownType h.tables.kinds vars T) (λ h xs. bound_index i T)

@@ -1,5 +1,5 @@
 -- The code of a goal, and of a part of the head, where the parts stand in registers. Equations and orders have instructions of their own.
-use Rattle.std.specs.Prelude.{◌≡◌, ℕ, ℤ, ◌+◌, ◌<◌, nat_eq, nat_le, not, ◌&&◌, ◌||◌, true, false, List, [], ◌∷◌, ◌++◌, length, sum_by, is_none, is_some, Option, Some, None}
+use Rattle.std.specs.Prelude.{◌≡◌, ℕ, ℤ, ◌+◌, ◌<◌, nat_eq, nat_lt, nat_le, not, ◌&&◌, ◌||◌, true, false, List, [], ◌∷◌, ◌++◌, length, sum_by, is_none, is_some, Option, Some, None}
 use Rattle.std.specs.List.{list_any}
 use Rattle.lp_calculus.specs.Types.{Ty}
 use Rattle.lp_calculus.specs.Term.{Term, atom, apply, constant, integer, text}
@@ -135,7 +135,7 @@ abbrev pub IntegerGot : (old new : Emitter) → (i : ℕ) → ℤ → Type 0
 IntegerGot old new i z = IsArgumentPut old new (λ h s. IsNext h s i int_type) (λ h s. whole (atom (integer z)) int_type)
 
 abbrev pub TextGot : (old new : Emitter) → (i : ℕ) → List ℕ → Type 0
-TextGot old new i b = IsArgumentPut old new (λ h s. IsNext h s i string_type) (λ h s. whole (atom (text b)) string_type)
+TextGot old new i b = IsArgumentPut old new (λ h s. IsNext h s i string_type × (nat_lt (length b) 65536 ≡ true)) (λ h s. whole (atom (text b)) string_type)
 
 -- a term as it stands in its register, which is no variable that stands in no earlier argument
 pub record IsNextTerm (h : Home) (s : State) (i r : ℕ) : Type 0 where

@@ -1,7 +1,7 @@
 -- What the law of terms speaks of: variables that stand in registers, and what the steps of a term make where its indices are those of a list of types.
 use Rattle.std.specs.Prelude.{◌≡◌, ◌⊎◌, ℕ, suc, ◌-◌, ◌<◌, ◌≤◌, Bool, true, false, nat_lt, if◌then◌else◌, List, [], ◌∷◌, ◌++◌, length, Option, Some, None, option_map, slice_get}
 use Rattle.lp_calculus.specs.Types.{Ty, var, param as type_param, con, arrow}
-use Rattle.lp_calculus.specs.Term.{Term, index, atom, abs, app, apply, replace}
+use Rattle.lp_calculus.specs.Term.{Term, Atom, index, atom, abs, app, constant, integer, text, eigen, logic, param, apply, replace}
 use Rattle.lp_calculus.specs.Typing.{scheme_type}
 use Rattle.lp_code.specs.Symbolic.{Tables, Built, variable, held, whole, applied_type, plain_terms}
 use Rattle.lp_code.specs.States.{Home}
@@ -35,10 +35,19 @@ pub record Standing (h : Home) (vars next : ℕ) (in_body : Bool) (σ : ℕ → 
   pub known : (l : ℕ) (v : Seen) → at_level a l ≡ Some v → IsKnownType h.tables.kinds vars v.of
   pub long : next ≤ length xs
 
--- the constants of a term are known
+-- an atom of which there is an instruction: a known one, and no string that is too long
+abbrev pub IsShortAtom : (kinds : ℕ → Option ℕ) → (vars : ℕ) → Atom → Type 0
+IsShortAtom κ n (constant c ts) = IsKnownAtom κ n (constant c ts)
+IsShortAtom κ n (integer z) = Unit {0}
+IsShortAtom κ n (text s) = nat_lt (length s) 65536 ≡ true
+IsShortAtom κ n (eigen k) = ⊥
+IsShortAtom κ n (logic x l) = ⊥
+IsShortAtom κ n (param k T) = ⊥
+
+-- all of a term are such
 abbrev pub KnownAtoms : (kinds : ℕ → Option ℕ) → (vars : ℕ) → Term → Type 0
 KnownAtoms κ n (index i) = Unit {0}
-KnownAtoms κ n (atom s) = IsKnownAtom κ n s
+KnownAtoms κ n (atom s) = IsShortAtom κ n s
 KnownAtoms κ n (abs b) = KnownAtoms κ n b
 KnownAtoms κ n (app t u) = KnownAtoms κ n t × KnownAtoms κ n u
 

@@ -1,5 +1,5 @@
 -- What the steps of a term make: a stack of terms, the last one last, and the code that makes them in registers.
-use Rattle.std.specs.Prelude.{◌≡◌, ℕ, ◌+◌, ◌-◌, ◌≤◌, ◌<◌, All, Bool, true, false, List, [], ◌∷◌, ◌++◌, length, map, take, drop, sum_by, is_none, Option, Some, None, slice_index_or, slice_set}
+use Rattle.std.specs.Prelude.{◌≡◌, ℕ, ◌+◌, ◌-◌, ◌≤◌, ◌<◌, All, Bool, true, false, List, [], ◌∷◌, ◌++◌, length, map, take, drop, sum_by, nat_lt, is_none, Option, Some, None, slice_index_or, slice_set}
 use Rattle.lp_calculus.specs.Types.{Ty}
 use Rattle.lp_calculus.specs.Term.{index, atom, integer, text}
 use Rattle.lp_calculus.specs.Typing.{o_type, int_type, string_type}
@@ -55,7 +55,7 @@ step_built h (abstract_last T) s = stack s.registers (before_last s.made ++ abst
 abbrev pub IsFine : Home → (vars next : ℕ) → (in_body : Bool) → Step → Stack → Type 0
 IsFine h v n i (make_constant c Ts) s = IsKnownConstant h v c Ts
 IsFine h v n i (make_integer z) s = Unit {0}
-IsFine h v n i (make_text b) s = Unit {0}
+IsFine h v n i (make_text b) s = nat_lt (length b) 65536 ≡ true
 IsFine h v n i (make_index k T) s = IsKnownType h.tables.kinds v T
 IsFine h v n i (make_variable r T) s = (r < n) × (i ≡ false) × (held s.registers r ≡ None) × IsKnownType h.tables.kinds v T
 IsFine h v n i (from_register r) s = (r < n) × (is_none (held s.registers r) ≡ false)

@@ -1,29 +1,39 @@
-use Rattle.std.proofs.Common.{[], refl, sym, subst, arith}
-use Rattle.lp_gen.specs.declared.record.Tables.{Tables}
-use Rattle.lp_gen.specs.inner.Planning.{ArePlanned, AllCaptured}
-use Rattle.lp_gen.specs.inner.Groups.{AllWritten}
+use Rattle.std.proofs.Common.{◌∙◌, [], length, ap, refl, sym, subst, arith}
+use Rattle.std.proofs.lemmas.List.{length-append}
+use Rattle.lp_gen.specs.inner.Planning.{origin_records, most_of, ArePlanned}
+use Rattle.lp_gen.proofs.GroupPut.{group_made}
+use Rattle.lp_gen.proofs.GroupTold.{written_length}
+use Rattle.lp_gen.proofs.RecordsCounted.{few_assumed}
+use Rattle.lp_gen.proofs.OtherLimits.{registers_passed}
 use Rattle.lp_gen.proofs.codes.add.Goals as goal
 
 pub returns-clause-group : goal.returns-clause-group
 returns-clause-group c =
     let w = c.in_ok-add_parts.ensures.written in
-    let p = c.in_ok-plan.plan in
-    let t : Tables = record { bank = c.args.bank; constants = c.args.constants; type_vars = c.in-Ok.type_vars; assumptions = c.as_slice.result; first = c.number_of.result } in (
+    let p = c.in_ok-plan.plan in (
       w.0,
       w.2,
-      record {
-        tables = t;
-        bank_is = refl;
-        constants_are = refl;
-        vars_are = grind (arith, c.in-Ok.ensures);
-        few_vars = grind (arith, c.in-Ok.ensures);
-        first = λ low. omega (arith, low, c.number_of.ensures, c.len.ensures, c.args.records.now.ok);
-        due = p.due.items;
-        parts = p.parts.items;
-        planned = subst (ArePlanned c.args.origin p.due.items p.parts.items) (sym c.as_slice.ensures.value) c.in_ok-plan.ensures.planned;
-        captured = subst (AllCaptured c.args.bank.now) (sym c.as_slice.ensures.value) c.in_ok-plan.ensures.captured;
-        few = c.in_ok-plan.ensures.few;
-        starts = w.1;
-        written = subst (λ l. AllWritten t [] w.1 l w.0) c.as_slice-2.ensures.value w.3;
-      },
+      group_made c.args.bank.now c.args.constants.now (length c.args.records.now.items) c.args.type_vars c.args.origin p.due.items p.parts.items c.as_slice-2.result.now w.0 w.1
+          p.assumptions.items _ w.3 refl refl (grind (arith, c.in-Ok.ensures)) (grind (arith, c.in-Ok.ensures)) (λ low. omega (arith, low, c.number_of.ensures, c.len.ensures, c.args.records.now.ok))
+          c.as_slice.ensures.value c.in_ok-plan.ensures.planned c.in_ok-plan.ensures.captured c.in_ok-plan.ensures.few c.as_slice-2.ensures.value,
     )
+
+pub invariant_of-tables : goal.invariant_of-tables
+invariant_of-tables c =
+    let p = c.in_ok-plan.plan in
+    record {
+      few = few_assumed c.args.origin p.due.items p.parts.items c.as_slice.result.now
+          (subst (ArePlanned c.args.origin p.due.items p.parts.items) (sym c.as_slice.ensures.value) c.in_ok-plan.ensures.planned) c.in_ok-plan.ensures.few;
+    }
+
+pub returns-clause-count : goal.returns-clause-count
+returns-clause-count c =
+    let w = c.in_ok-add_parts.ensures.written in
+    let z = ap length w.2 ∙ length-append c.args.records.now.items w.0 in
+    let y = written_length _ [] w.1 c.as_slice-2.result.now w.0 w.3 in
+    let x = ap length c.as_slice-2.ensures.value in
+    let k = c.in_ok-plan.ensures.count in
+    omega (arith, z, y, x, k)
+
+pub returns-in_default-clause-cause : goal.returns-in_default-clause-cause
+returns-in_default-clause-cause c = registers_passed 0 (origin_records c.args.bank.now c.args.origin) (most_of c.args.origin)

@@ -1,4 +1,4 @@
-use Rattle.std.proofs.Common.{◌≡◌, ◌<◌, ◌^◌, length, refl, sym, subst, arith, true≢false}
+use Rattle.std.proofs.Common.{◌≡◌, ◌∙◌, ◌<◌, ◌^◌, suc, length, ap, refl, sym, subst, arith, true≢false}
 use Rattle.std.specs.Prelude.{All, sum_by}
 use Rattle.std.proofs.lemmas.List.{take_all}
 use Rattle.std.proofs.lemmas.List.Elements.{All-nil}
@@ -6,6 +6,13 @@ use Rattle.std.proofs.lemmas.Option.{slice_get_read}
 use Rattle.lp_code.specs.declared.record.Record.{Record}
 use Rattle.lp_code.specs.Length.{Fits, length_of, AllFit}
 use Rattle.lp_gen.specs.inner.Groups.{AreGroups}
+use Rattle.std.specs.Prelude.{take}
+use Rattle.lp_lemmas.proofs.Results.{passed_up}
+use Rattle.lp_model.specs.Flattened.{goals_of, clauses_of}
+use Rattle.lp_gen.specs.Limits.{clauses_strings, goals_assume, clauses_records, IsPassed}
+use Rattle.lp_gen.proofs.StringsLeft.{passed_on}
+use Rattle.lp_gen.proofs.PlanDone.{take_next}
+use Rattle.lp_gen.proofs.RecordsCounted.{one_clause_more, clause_counted}
 use Rattle.lp_gen.proofs.GroupPut.{clause_written}
 use Rattle.lp_gen.proofs.GroupsDenote.{groups_denote}
 use Rattle.lp_gen.proofs.codes.generate.Goals as goal
@@ -16,6 +23,7 @@ loop-at-init c =
       subst AllFit (sym e) (All-nil (λ (r : Record). All Fits r.code.items)),
       subst (All (λ (r : Record). sum_by length_of r.code.items < 2 ^ 32)) (sym e) (All-nil (λ (r : Record). sum_by length_of r.code.items < 2 ^ 32)),
       e,
+      ap length e,
     )
 
 pub loop-at-preserved : goal.loop-at-preserved
@@ -26,6 +34,11 @@ loop-at-preserved c =
       c.in_ok-add.ensures.short,
       clause_written c.args.bank.now c.args.constants.now cs c.loop-at.at c.loop-at.records.items c.add.new.records.items w.0 _ _
           c.loop-at.invariant.2 (slice_get_read cs (length cs) c.loop-at.at c.index-clauses-at.result refl (omega (arith, c.loop-at-test.true)) c.index-clauses-at.is) refl w.1 w.2,
+      (let n = c.in_ok-add.ensures.count in
+          let i = c.loop-at.invariant.3 in
+          let at = slice_get_read cs (length cs) c.loop-at.at c.index-clauses-at.result refl (omega (arith, c.loop-at-test.true)) c.index-clauses-at.is in
+          let t = ap (λ l. clauses_records (clauses_of c.args.bank.now l)) (take_next c.loop-at.at cs c.index-clauses-at.result at) ∙ one_clause_more c.args.bank.now (take c.loop-at.at cs) c.index-clauses-at.result in
+          omega (arith, n, i, t)),
     )
 
 pub returns-clause-denotes : goal.returns-clause-denotes
@@ -36,4 +49,31 @@ returns-clause-denotes c = λ κ known each.
     let rs = c.loop-at.records.items in
     let last : c.loop-at.at ≡ length cs = omega (arith, c.loop-at-test.false, c.loop-at.auto.at-end) in
     let gs = subst (λ l. AreGroups b ds 0 l rs) (take_all c.loop-at.at cs (omega (arith, last))) c.loop-at.invariant.2 in
-    groups_denote κ rs b ds 0 cs rs gs refl (λ v e. absurd (true≢false (sym e))) (omega (arith, c.in_ok-within.ensures, c.len.ensures, c.loop-at.records.ok)) known each
+    groups_denote κ rs b ds 0 cs rs gs refl (λ v e. absurd (true≢false (sym e))) (omega (arith, c.if-len.false, c.len.ensures, c.loop-at.records.ok)) known each c.in_ok-check_strings.ensures.within
+
+pub returns-clause-within : goal.returns-clause-within
+returns-clause-within c =
+    let b = c.args.bank.now in
+    let cs = c.args.clauses.now in
+    let last : c.loop-at.at ≡ length cs = omega (arith, c.loop-at-test.false, c.loop-at.auto.at-end) in
+    let i = c.loop-at.invariant.3 in
+    let t = ap (λ l. clauses_records (clauses_of b l)) (take_all c.loop-at.at cs (omega (arith, last))) in
+    (c.in_ok-check_strings.ensures.within, omega (arith, c.if-len.false, c.len.ensures, c.loop-at.records.ok, i, t))
+
+pub returns-in_err-check_strings-clause-cause : goal.returns-in_err-check_strings-clause-cause
+returns-in_err-check_strings-clause-cause c =
+    let b = c.args.bank.now in
+    let cs = c.args.clauses.now in
+    passed_up c.from_residual.result c.in_err-check_strings.field-0.0 (IsPassed (clauses_strings (clauses_of b cs)) (clauses_records (clauses_of b cs)) 65535) c.from_residual.ensures.1
+    (passed_on (clauses_strings (clauses_of b cs)) 0 0 (clauses_strings (clauses_of b cs)) (clauses_records (clauses_of b cs)) 65535 c.in_err-check_strings.field-0.0 (omega arith)
+    (λ f. absurd (omega (arith, f))) c.in_err-check_strings.ensures.cause)
+
+pub returns-in_err-add-clause-cause : goal.returns-in_err-add-clause-cause
+returns-in_err-add-clause-cause c =
+    let b = c.args.bank.now in
+    let cs = c.args.clauses.now in
+    let at = slice_get_read cs (length cs) c.loop-at.at c.index-clauses-at.result refl (omega (arith, c.loop-at-test.true)) c.index-clauses-at.is in
+    let n = clause_counted b cs c.loop-at.at c.index-clauses-at.result at in
+    passed_up c.from_residual-in_err-add.result c.in_err-add.field-0.0 (IsPassed (clauses_strings (clauses_of b cs)) (clauses_records (clauses_of b cs)) 65535) c.from_residual-in_err-add.ensures.1
+    (passed_on 0 (suc (goals_assume (goals_of b c.index-clauses-at.result.body.items))) 65535 (clauses_strings (clauses_of b cs)) (clauses_records (clauses_of b cs)) 65535
+    c.in_err-add.field-0.0 (omega arith) (λ f. omega (arith, f, n)) c.in_err-add.ensures.cause)

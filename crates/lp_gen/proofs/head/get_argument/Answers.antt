@@ -2,9 +2,10 @@ use Rattle.std.proofs.Common.{◌≡◌, ◌∙◌, sym, subst, arith, w64, to_z
 use Rattle.std.proofs.lemmas.Int.{to_z-of_z}
 use Rattle.lp_term.specs.Nodes.{tree}
 use Rattle.lp_gen.specs.inner.Reading.{read}
-use Rattle.lp_gen.specs.inner.Saying.{IntegerGot, TextGot}
+use Rattle.lp_gen.specs.inner.Saying.{IntegerGot}
 use Rattle.lp_gen.specs.inner.Listing.{around_of, constant_function}
 use Rattle.lp_gen.specs.inner.Heading.{ArgumentGot}
+use Rattle.lp_gen.proofs.GoalPut.{text_cut}
 use Rattle.lp_gen.proofs.ArgumentGot.{integer_argument, text_argument, term_argument}
 use Rattle.lp_gen.proofs.HeadNodes.{first_argument_of, constant_node_argument}
 use Rattle.lp_gen.proofs.head.get_argument.Goals as goal
@@ -39,7 +40,7 @@ returns-in_ok-get_text-in-Text c =
     let a = around_of b c.args.environment.now in
     subst (ArgumentGot K c.args.emitter.now c.get_text.new.emitter a a c.args.at (read b c.args.of)) c.in-Text.ensures.tree
     (text_argument K c.args.emitter.now c.get_text.new.emitter a c.args.at (read b c.args.of) c.in-Text.bytes.now
-    (subst (TextGot c.args.emitter.now c.get_text.new.emitter c.args.at) c.in_ok-text-in-Text.ensures.items c.in_ok-get_text-in-Text.ensures))
+    (text_cut c.args.emitter.now c.get_text.new.emitter c.args.at c.in_ok-text-in-Text.text.items c.in-Text.bytes.now c.in_ok-text-in-Text.ensures.whole c.in_ok-get_text-in-Text.ensures))
 
 pub returns-in_ok-get_term-in_default-term_node : goal.returns-in_ok-get_term-in_default-term_node
 returns-in_ok-get_term-in_default-term_node c =

@@ -1,4 +1,5 @@
 use Rattle.std.proofs.Common.{◌≡◌, ◌∙◌, ◌<◌, ◌+◌, length, sym, refl, subst, ap, get_or, arith}
+use Rattle.std.proofs.lemmas.Bool.{lt-ltb}
 use Rattle.std.proofs.lemmas.Option.{slice_get_read, slice_get_past}
 use Rattle.lp_gen.specs.declared.plan.Assumption.{Assumption}
 use Rattle.lp_gen.specs.inner.Listing.{around_of}
@@ -51,10 +52,19 @@ returns-clause-made c = λ b x found few.
       c.in_ok-registers.registers,
       c.captured_by.new.starts,
       refl,
-      c.in_ok-records.ensures few1 ∙ ap (records_named c.args.tables) read,
+      c.in_ok-records.ensures.numbers few1 ∙ ap (records_named c.args.tables) read,
       c.in_ok-types.ensures,
       subst (λ l. AreRegisters a (levels_found a l) c.in_ok-registers.registers.items) (c.as_slice-levels.ensures.keys ∙ keys) (c.in_ok-registers.ensures.registers b),
       c.in_ok-push.ensures.items,
       subst (λ l. AreStarts a (levels_found a l) (started_at b c.captured_by.new.starts) (index_map_len c.captured_by.new.starts)) (c.as_slice-levels.ensures.keys ∙ keys)
           (c.in_ok-registers.ensures.starts b c.new-starts.ensures.empty (subst (IsDistinct nat_eq) (sym c.as_slice-levels.ensures.keys) c.as_slice-levels.ensures.unique)),
     )
+
+pub returns-clause-short : goal.returns-clause-short
+returns-clause-short c =
+    let xs = c.args.tables.assumptions.now in
+    let low : c.args.number < length xs = omega (arith, c.if-number-tables.false) in
+    let few = c.args.tables.few c.args.number c.index-tables-number.result low in
+    let same = ap (λ (x : Assumption). x.count) c.index-tables-number.is in
+    let count = c.in_ok-records.ensures.count in
+    lt-ltb (length c.in_ok-records.records.items) 65536 (omega (arith, few, same, count))

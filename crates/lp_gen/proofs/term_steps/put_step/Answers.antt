@@ -1,4 +1,5 @@
-use Rattle.std.proofs.Common.{◌≡◌, ◌++◌, ◌∷◌, [], map, refl, sym, subst, arith, w64, to_z, of_z}
+use Rattle.std.specs.Prelude.{nat_lt}
+use Rattle.std.proofs.Common.{◌≡◌, ◌++◌, ◌∷◌, [], true, length, map, refl, sym, subst, arith, w64, to_z, of_z}
 use Rattle.std.proofs.lemmas.Int.{to_z-of_z}
 use Rattle.lp_calculus.specs.Term.{atom, integer, text}
 use Rattle.lp_calculus.specs.Typing.{int_type, string_type}
@@ -37,8 +38,8 @@ returns-in_ok-push-in-Text c = λ start steps x.
     subst (λ o. StepsPut c.args.bank.now start c.put_text.new.emitter (steps ++ o ∷ []) c.push-in-Text.new.self.items) (sym c.in-Text.is)
     (leaf_then c.args.bank.now start c.args.emitter.now c.put_text.new.emitter steps
     (on.Text c.in-Text.bytes) c.args.made.now.items c.push-in-Text.new.self.items c.in_ok-register-in-Text.register
-    (λ h v ys. Unit {0}) (λ h ys. whole (atom (text c.in-Text.bytes.now)) string_type) x c.in_ok-register-in-Text.ensures c.in_ok-push-in-Text.ensures.items refl
-    (λ h v i z ys fine. (tt, refl)))
+    (λ h v ys. nat_lt (length c.in-Text.bytes.now) 65536 ≡ true) (λ h ys. whole (atom (text c.in-Text.bytes.now)) string_type) x c.in_ok-register-in-Text.ensures
+    c.in_ok-push-in-Text.ensures.items refl (λ h v i z ys fine. (fine, refl)))
 
 pub returns-in_ok-push-in-Index : goal.returns-in_ok-push-in-Index
 returns-in_ok-push-in-Index c = λ start steps x.
