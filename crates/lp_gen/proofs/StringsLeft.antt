@@ -22,7 +22,7 @@ use Rattle.lp_gen.specs.declared.fault.GenRefusal.{GenRefusal}
 use Rattle.lp_gen.specs.declared.fault.GenRefusal.TheVariants as refusal
 use Rattle.lp_gen.specs.declared.strings.Source.{Source}
 use Rattle.lp_gen.specs.declared.strings.Source.TheVariants as on
-use Rattle.lp_gen.specs.Limits.{long_string, long_strings, goal_strings, goals_strings, clauses_strings, IsPassed}
+use Rattle.lp_gen.specs.Limits.{long_string, long_strings, goal_strings, goals_strings, clauses_strings, clauses_records, IsPassed}
 use Rattle.lp_gen.specs.inner.Limiting.{source_strings, strings_left, source_task, source_work}
 use Rattle.lp_gen.proofs.Works.{one_more, two_more, application_weighs, some_args}
 use Rattle.lp_gen.proofs.Tops.{atom_is, cut_is, either_is, some_is, all_is, assume_is, not_is, clause_is}
@@ -34,12 +34,22 @@ passed_on s r m s' r' m' refusal.Memory more over p = tt
 
 -- strings
 
+pub short_string : (s : List ℕ) → length s < 65536 → long_string s ≡ 0
+short_string s l = ap (λ t. if t then 0 else 1) (lt-ltb (length s) 65536 l)
+
 pub string_short : (s : List ℕ) → long_string s ≡ 0 → nat_lt (length s) 65536 ≡ true
 string_short s e = go (nat_lt (length s) 65536) e
   where
     go : (t : Bool) → ◌≡◌ {A = ℕ} (if t then 0 else 1) 0 → t ≡ true
     go true f = refl
     go false f = absurd (omega (arith, f))
+
+pub too_long : (s : List ℕ) → 65535 < length s → 0 < long_string s
+too_long s l = go (nat_lt (length s) 65536) refl
+  where
+    go : (t : Bool) → nat_lt (length s) 65536 ≡ t → 0 < (if t then 0 else 1)
+    go true f = let low = ltb-true (length s) 65536 f in absurd (omega (arith, low, l))
+    go false f = omega arith
 
 -- terms
 
@@ -144,6 +154,9 @@ clause_left b c ss mid ss' ls same m e =
 
 pub clauses_split : (F : FlatClause) (Fs : Clauses) → clauses_strings (clauses F Fs) ≡ clauses_strings (clauses F no_clauses) + clauses_strings Fs
 clauses_split (clause n vs h gs) Fs = omega arith
+
+pub records_split : (F : FlatClause) (Fs : Clauses) → clauses_records (clauses F Fs) ≡ clauses_records (clauses F no_clauses) + clauses_records Fs
+records_split (clause n vs h gs) Fs = omega arith
 
 module _ (b : Nodes) (ss mid ss' : List Source) (s : Source) where
   pub clauses_first : (cs rest : Bor (List Clause)) (c : Clause) → s ≡ on.Clauses cs → cs.now ≡ c ∷ rest.now → mid ≡ ss ++ on.Clauses rest ∷ [] →
