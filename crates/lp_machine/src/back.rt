@@ -38,8 +38,9 @@ impl<'i> Search<'i> {
     }
 
     // The candidates that are left of a goal.
-    fn retry_clauses(
+    fn retry_clauses<W: Watch>(
         &mut self,
+        crowd: &mut Crowd<'_, W>,
         point: ChoicePoint,
         goal: CellId,
         assumed: Cursor,
@@ -52,7 +53,7 @@ impl<'i> Search<'i> {
             None
         };
         let left = Left { assumed, program };
-        self.retry(goal, left, point.goals, frame.behind)
+        self.retry(crowd, goal, left, point.goals, frame.behind)
     }
 
     // The search of a negated goal has failed: its record goes on behind it, where nothing was cut away.
@@ -96,7 +97,7 @@ impl<'i> Search<'i> {
                 self.take_goal(crowd, goal)
             }
             Untried::Clauses(goal, assumed, number) => {
-                self.retry_clauses(point, goal, assumed, number)
+                self.retry_clauses(crowd, point, goal, assumed, number)
             }
             Untried::Not(record, place) => {
                 let frame = self.goals_of(point);

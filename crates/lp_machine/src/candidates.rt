@@ -1,9 +1,13 @@
 // The clauses that may meet a goal: first the assumed ones, the newest assumption first, then those of the program that pass the filter, in order.
 
+use crate::demand::Demand;
+use crate::heap::Rigid;
 use crate::key::GoalKey;
 use crate::search::Search;
+use lp_base::Memory;
 use lp_code::KeyRef;
-use lp_impl::{Cursor, Head};
+use lp_impl::{Candidate, Cursor, Head};
+use lp_watch::{Crowd, Note, Watch};
 
 // Predicates of more clauses are looked up by their keys.
 const FEW: u32 = 8;
@@ -38,6 +42,19 @@ fn smaller(one: Option<u32>, other: Option<u32>) -> Option<u32> {
         (Some(a), None) => Some(a),
         (None, b) => b,
     }
+}
+
+// An assumed clause, and the candidates behind it.
+fn assumed_clause(found: Candidate, program: Option<u32>) -> (Clause, Left) {
+    let clause = Clause {
+        record: found.clause,
+        captured: Some(found.frame),
+    };
+    let left = Left {
+        assumed: found.next,
+        program,
+    };
+    (clause, left)
 }
 
 impl<'i> Search<'i> {
@@ -92,27 +109,32 @@ impl<'i> Search<'i> {
         }
     }
 
-    /// The first of the candidates that are left, and those behind it.
-    pub(crate) fn take_candidate(
-        &self,
-        head: Head,
-        key: GoalKey,
-        left: Left,
-    ) -> Option<(Clause, Left)> {
-        if let Some(found) = self.heap.candidate(head, left.assumed) {
-            let clause = Clause {
-                record: found.clause,
-                captured: Some(found.frame),
-            };
-            return Some((
-                clause,
-                Left {
-                    assumed: found.next,
-                    program: left.program,
-                },
-            ));
+    // The head that an assumed clause asks of the goal's first argument, where it is seen at a glance.
+    fn asked(&self, assumed: Candidate) -> Option<Rigid> {
+        match self.layout.demand(assumed.clause) {
+            Demand::None => None,
+            Demand::Const(constant) => Some(Rigid::Const(constant)),
+            Demand::Int(integer) => Some(Rigid::Int(integer)),
+            Demand::Register(number) => {
+                let record = self.program.record(assumed.clause)?;
+                let types = usize::from(record.captured_types);
+                let term = self.heap.register(assumed.frame.saturating_add(types), number);
+                self.heap.rigid_head(term)
+            }
         }
-        let number = left.program?;
+    }
+
+    // Whether an assumed clause is seen to fail for a goal whose first argument has this head.
+    fn fails(&self, assumed: Candidate, first: Option<Rigid>) -> bool {
+        match (first, self.asked(assumed)) {
+            (Some(there), Some(asked)) => there != asked,
+            _ => false,
+        }
+    }
+
+    // The first of the program's candidates that are left, and those behind it.
+    fn take_program(&self, head: Head, key: GoalKey, left: Option<u32>) -> Option<(Clause, Left)> {
+        let number = left?;
         let clause = Clause {
             record: number,
             captured: None,
@@ -124,6 +146,33 @@ impl<'i> Search<'i> {
                 program: self.program_behind(head, key, Some(number)),
             },
         ))
+    }
+
+    /// The first of the candidates that are left which is not seen to fail, and those behind it. One that fails is tried all the same: where candidates are left
+    /// behind it, the search goes back to them.
+    pub(crate) fn take_candidate<W: Watch>(
+        &self,
+        crowd: &mut Crowd<'_, W>,
+        head: Head,
+        key: GoalKey,
+        left: Left,
+    ) -> Result<Option<(Clause, Left)>, Memory> {
+        let first = self.heap.rigid_head(self.heap.argument(0));
+        let mut next = self.heap.candidate(head, left.assumed);
+        for _ in 0..u64::MAX {
+            let Some(found) = next else {
+                return Ok(self.take_program(head, key, left.program));
+            };
+            if !self.fails(found, first) {
+                return Ok(Some(assumed_clause(found, left.program)));
+            }
+            next = self.heap.candidate(head, found.next);
+            if next.is_none() && left.program.is_none() {
+                return Ok(None);
+            }
+            crowd.tell(Note::Back)?;
+        }
+        Err(Memory)
     }
 
     /// Whether a candidate is left.

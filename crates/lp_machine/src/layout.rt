@@ -1,6 +1,7 @@
 // What is known of an image and a query before the query runs.
 ghost use Rattle.lp_code.specs.Length.{AllFit};
 
+use crate::demand::Demand;
 use crate::matches::Act;
 use crate::plan::{Plan, Predicate};
 use crate::rows::Rows;
@@ -34,6 +35,14 @@ impl<'i> Layout<'i> {
         match record.checked_sub(self.count) {
             None => self.plan.rows.act(record, place),
             Some(own) => self.rows.act(own, place),
+        }
+    }
+
+    /// What the head of a record asks of the goal's first argument.
+    pub(crate) fn demand(&self, record: u32) -> Demand {
+        match record.checked_sub(self.count) {
+            None => self.plan.rows.demand(record),
+            Some(own) => self.rows.demand(own),
         }
     }
 

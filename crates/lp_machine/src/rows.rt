@@ -2,8 +2,9 @@
 ghost use Rattle.std.specs.List.{All};
 ghost use Rattle.lp_code.specs.Length.{Fits, AllFit};
 
+use crate::demand::{Demand, demand_of};
 use crate::idle::idle_in;
-use crate::matches::{Act, put_matches};
+use crate::matches::{Act, act_of, put_matches};
 use lp_base::Memory;
 use lp_code::{Instr, Record, length};
 use std::alloc::Global;
@@ -15,6 +16,8 @@ pub(crate) struct Rows {
     // For each instruction where a block goes on: behind the left side, behind the right side, or behind a negated block.
     targets: Vec<usize>,
     acts: Vec<Act>,
+    // For each record what its head asks.
+    demands: Vec<Demand>,
 }
 
 // An open block: the place of the instruction that opened it.
@@ -77,8 +80,9 @@ fn close_negations(
 // What is done at the instructions of a record.
 fn acts_in(alloc: Global, record: &Record) -> Result<Vec<Act>, Memory> {
     let mut acts = Vec::new(alloc);
-    for idle in idle_in(alloc, record)?.iter().copied() {
-        acts.push(if idle { Act::Skip } else { Act::Take })?;
+    let idle = idle_in(alloc, record)?;
+    for (instr, is_idle) in record.code.iter().zip(idle.iter().copied()) {
+        acts.push(if is_idle { Act::Skip } else { act_of(instr) })?;
     }
     if record.head.is_some() {
         put_matches(alloc, record, &mut acts)?;
@@ -114,6 +118,7 @@ impl Rows {
         for record in records {
             self.put_targets(alloc, record.code.as_slice())?;
             self.put_acts(alloc, record)?;
+            self.demands.push(demand_of(record))?;
         }
         Ok(())
     }
@@ -126,6 +131,7 @@ impl Rows {
             starts: Vec::new(alloc),
             targets: Vec::new(alloc),
             acts: Vec::new(alloc),
+            demands: Vec::new(alloc),
         };
         rows.put_all(alloc, records)?;
         Ok(rows)
@@ -142,14 +148,22 @@ impl Rows {
         }
     }
 
+    /// What the head of a record asks of the goal's first argument.
+    pub(crate) fn demand(&self, record: u32) -> Demand {
+        match self.demands.get(record as usize) {
+            Some(demand) => *demand,
+            None => Demand::None,
+        }
+    }
+
     /// What is done at the instruction at a place.
     pub(crate) fn act(&self, record: u32, place: usize) -> Act {
         let Some(start) = self.starts.get(record as usize) else {
-            return Act::Take;
+            return Act::Skip;
         };
         match self.acts.get(start.saturating_add(place)) {
             Some(act) => *act,
-            None => Act::Take,
+            None => Act::Skip,
         }
     }
 }
