@@ -1,6 +1,6 @@
 // The way back to a choice point.
 
-use crate::candidates::Left;
+use crate::candidates::{Behind, Left};
 use crate::frame::{Frame, Todo, Work};
 use crate::outcome::Turn;
 use crate::search::Search;
@@ -52,7 +52,11 @@ impl<'i> Search<'i> {
         } else {
             None
         };
-        let left = Left { assumed, program };
+        let left = Left {
+            assumed,
+            program,
+            behind: Behind::Unknown,
+        };
         self.retry(crowd, goal, left, point.goals, frame.behind)
     }
 

@@ -8,7 +8,7 @@ use crate::outcome::Turn;
 use crate::search::Search;
 use lp_base::Memory;
 use lp_choice::Untried;
-use lp_impl::{Cursor, Head};
+use lp_impl::Head;
 use lp_model::Ending;
 use lp_store::CellId;
 use lp_watch::{Crowd, Watch};
@@ -50,10 +50,7 @@ impl<'i> Search<'i> {
             Ok(key) => key,
             Err(ending) => return Ok(Turn::Ended(ending)),
         };
-        let all = Left {
-            assumed: Cursor::first(),
-            program: self.program_behind(head, key, None),
-        };
+        let all = self.all(head, key);
         let Some((clause, left)) = self.take_candidate(crowd, head, key, all)? else {
             return Ok(Turn::Back);
         };

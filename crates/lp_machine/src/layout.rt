@@ -2,9 +2,8 @@
 ghost use Rattle.lp_code.specs.Length.{AllFit};
 
 use crate::demand::Demand;
-use crate::matches::Act;
 use crate::plan::{Plan, Predicate};
-use crate::rows::Rows;
+use crate::rows::{Rows, Step};
 use crate::standings::{Standings, has_negation};
 use lp_base::Memory;
 use lp_code::{Code, Image, Standing};
@@ -30,11 +29,11 @@ impl<'i> Layout<'i> {
         }
     }
 
-    /// What is done at the instruction at a place.
-    pub(crate) fn act(&self, record: u32, place: usize) -> Act {
+    /// What is done at the instruction at a place, if there is one.
+    pub(crate) fn step(&self, record: u32, place: usize) -> Option<Step> {
         match record.checked_sub(self.count) {
-            None => self.plan.rows.act(record, place),
-            Some(own) => self.rows.act(own, place),
+            None => self.plan.rows.step(record, place),
+            Some(own) => self.rows.step(own, place),
         }
     }
 

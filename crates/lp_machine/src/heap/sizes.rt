@@ -312,8 +312,22 @@ impl Heap {
         }
     }
 
+    // The nodes of a term that has no parts, or was counted.
+    fn known_nodes(&self, term: CellId, level: u64) -> Option<u64> {
+        let (at, found) = followed(&self.store, term)?;
+        match top_of(&self.store, found) {
+            Top::Leaf => Some(1),
+            Top::Variable(own) if own <= level => Some(1),
+            Top::Abstraction(_) | Top::Application => self.sizes.known(at),
+            _ => None,
+        }
+    }
+
     /// The nodes of a term whose variables have no level above this one. What was counted once is not counted again.
     pub(crate) fn nodes_of(&mut self, term: CellId, level: u64) -> Result<Nodes, Memory> {
+        if let Some(nodes) = self.known_nodes(term, level) {
+            return Ok(Nodes::Many(nodes));
+        }
         let mut count = Count {
             nodes: 0,
             variables: 0,
