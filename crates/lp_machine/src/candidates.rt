@@ -154,7 +154,9 @@ impl<'i> Search<'i> {
             Demand::Register(number) => {
                 let record = self.program.record(assumed.clause)?;
                 let types = usize::from(record.captured_types);
-                let term = self.heap.register(assumed.frame.saturating_add(types), number);
+                let term = self
+                    .heap
+                    .register(assumed.frame.saturating_add(types), number);
                 self.heap.rigid_head(term)
             }
         }
