@@ -189,8 +189,8 @@ impl<'i> Search<'i> {
         Some((clause, rest))
     }
 
-    /// The first of the candidates that are left which is not seen to fail, and those behind it. One that fails is tried all the same: where candidates are left
-    /// behind it, the search goes back to them.
+    /// The first of the candidates that are left which is not seen to fail, and those behind it. One that fails is tried all the same:
+    /// where candidates are left behind it, the search goes back to them.
     pub(crate) fn take_candidate<W: Watch>(
         &self,
         crowd: &mut Crowd<'_, W>,

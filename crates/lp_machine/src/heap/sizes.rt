@@ -41,8 +41,8 @@ enum Top {
     Other,
 }
 
-/// The sizes of terms without variables that have no redex, by cell, as far as they were counted; 0 is none. Those that were counted after a choice point was made are
-/// forgotten when it is gone back to.
+/// The sizes of terms without variables that have no redex, by cell, as far as they were counted; 0 is none. Those that were counted
+/// after a choice point was made are forgotten when it is gone back to.
 #[derive(Drop)]
 pub(crate) struct Sizes {
     of: Vec<u32>,
