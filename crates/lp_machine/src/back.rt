@@ -1,6 +1,6 @@
 // The way back to a choice point.
 
-use crate::candidates::Left;
+use crate::candidates::{Behind, Left};
 use crate::frame::{Frame, Todo, Work};
 use crate::outcome::Turn;
 use crate::search::Search;
@@ -38,8 +38,9 @@ impl<'i> Search<'i> {
     }
 
     // The candidates that are left of a goal.
-    fn retry_clauses(
+    fn retry_clauses<W: Watch>(
         &mut self,
+        crowd: &mut Crowd<'_, W>,
         point: ChoicePoint,
         goal: CellId,
         assumed: Cursor,
@@ -51,8 +52,12 @@ impl<'i> Search<'i> {
         } else {
             None
         };
-        let left = Left { assumed, program };
-        self.retry(goal, left, point.goals, frame.behind)
+        let left = Left {
+            assumed,
+            program,
+            behind: Behind::Unknown,
+        };
+        self.retry(crowd, goal, left, point.goals, frame.behind)
     }
 
     // The search of a negated goal has failed: its record goes on behind it, where nothing was cut away.
@@ -96,7 +101,7 @@ impl<'i> Search<'i> {
                 self.take_goal(crowd, goal)
             }
             Untried::Clauses(goal, assumed, number) => {
-                self.retry_clauses(point, goal, assumed, number)
+                self.retry_clauses(crowd, point, goal, assumed, number)
             }
             Untried::Not(record, place) => {
                 let frame = self.goals_of(point);

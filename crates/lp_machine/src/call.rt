@@ -8,9 +8,10 @@ use crate::outcome::Turn;
 use crate::search::Search;
 use lp_base::Memory;
 use lp_choice::Untried;
-use lp_impl::{Cursor, Head};
+use lp_impl::Head;
 use lp_model::Ending;
 use lp_store::CellId;
+use lp_watch::{Crowd, Watch};
 
 impl<'i> Search<'i> {
     // The key of the first argument of the goal at hand, or how the search ends.
@@ -40,16 +41,17 @@ impl<'i> Search<'i> {
     }
 
     /// Tries the first candidate for the goal at hand, whose step is taken; those behind it are a choice point.
-    pub(crate) fn call(&mut self, head: Head) -> Result<Turn, Memory> {
+    pub(crate) fn call<W: Watch>(
+        &mut self,
+        crowd: &mut Crowd<'_, W>,
+        head: Head,
+    ) -> Result<Turn, Memory> {
         let key = match self.goal_key(head)? {
             Ok(key) => key,
             Err(ending) => return Ok(Turn::Ended(ending)),
         };
-        let all = Left {
-            assumed: Cursor::first(),
-            program: self.program_behind(head, key, None),
-        };
-        let Some((clause, left)) = self.take_candidate(head, key, all) else {
+        let all = self.all(head, key);
+        let Some((clause, left)) = self.take_candidate(crowd, head, key, all)? else {
             return Ok(Turn::Back);
         };
         let behind = self.behind()?;
@@ -62,8 +64,9 @@ impl<'i> Search<'i> {
     }
 
     // The next candidate for the goal at hand; those behind it are a choice point with this frame again.
-    fn try_next(
+    fn try_next<W: Watch>(
         &mut self,
+        crowd: &mut Crowd<'_, W>,
         goal: CellId,
         head: Head,
         left: Left,
@@ -74,7 +77,7 @@ impl<'i> Search<'i> {
             Ok(key) => key,
             Err(ending) => return Ok(Turn::Ended(ending)),
         };
-        let Some((clause, rest)) = self.take_candidate(head, key, left) else {
+        let Some((clause, rest)) = self.take_candidate(crowd, head, key, left)? else {
             return Ok(Turn::Back);
         };
         let mark = self.heap.height();
@@ -87,15 +90,16 @@ impl<'i> Search<'i> {
     }
 
     /// Tries the next candidate for a goal, which is the first of these; those behind it are a choice point with this frame again.
-    pub(crate) fn retry(
+    pub(crate) fn retry<W: Watch>(
         &mut self,
+        crowd: &mut Crowd<'_, W>,
         goal: CellId,
         left: Left,
         frame: usize,
         behind: Option<usize>,
     ) -> Result<Turn, Memory> {
         match self.heap.look_at_goal(goal)? {
-            Ok(Goal::Call(head)) => self.try_next(goal, head, left, frame, behind),
+            Ok(Goal::Call(head)) => self.try_next(crowd, goal, head, left, frame, behind),
             Ok(_) => Ok(Turn::Back),
             Err(ending) => Ok(Turn::Ended(ending)),
         }

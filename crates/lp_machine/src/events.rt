@@ -39,7 +39,7 @@ fn run<W: Watch>(
             Turn::Answered => return Ok(Told::Answered),
             Turn::Ended(ending) => return Ok(Told::Ended(ending)),
         };
-        if turn == Turn::Back {
+        if let Turn::Back = turn {
             state.tell_back(crowd)?;
         }
     }

@@ -121,7 +121,7 @@ impl<'i> Search<'i> {
             return Ok(Turn::Ended(Ending::Steps));
         }
         self.tell_head(crowd, head)?;
-        self.call(head)
+        self.call(crowd, head)
     }
 
     // An atom whose head is a logic variable: one step, and the end.

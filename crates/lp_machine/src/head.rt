@@ -30,23 +30,22 @@ impl<'i> Search<'i> {
         self.get(number, term)
     }
 
-    /// Takes an instruction of the head, if it is one.
-    pub(crate) fn match_head(&mut self, instr: &Instr) -> Result<Option<Turn>, Memory> {
-        let turn = match instr {
-            Instr::GetType(number, register) => self.get_type(*number, *register)?,
-            Instr::GetVar(number, made) => self.get_variable(*number, *made),
+    /// Takes an instruction of the head.
+    pub(crate) fn match_head(&mut self, instr: &Instr) -> Result<Turn, Memory> {
+        match instr {
+            Instr::GetType(number, register) => self.get_type(*number, *register),
+            Instr::GetVar(number, made) => Ok(self.get_variable(*number, *made)),
             Instr::Get(number, register) => {
                 let term = self.term_in(*register);
-                self.get(*number, term)?
+                self.get(*number, term)
             }
             Instr::GetConst(number, constant, types) => {
-                self.match_constant(*number, *constant, types.as_slice())?
+                self.match_constant(*number, *constant, types.as_slice())
             }
-            Instr::GetInt(number, integer) => self.match_integer(*number, *integer)?,
-            Instr::GetStr(number, text) => self.get_text(*number, text.as_slice())?,
-            Instr::Neck => self.heap.wake()?,
-            _ => return Ok(None),
-        };
-        Ok(Some(turn))
+            Instr::GetInt(number, integer) => self.match_integer(*number, *integer),
+            Instr::GetStr(number, text) => self.get_text(*number, text.as_slice()),
+            Instr::Neck => self.heap.wake(),
+            _ => Ok(Turn::On),
+        }
     }
 }

@@ -13,6 +13,8 @@ mod look;
 mod registers;
 // How many nodes terms have.
 mod sizes;
+// Heads that are seen at a glance.
+mod rigid;
 // Cells that stand in the store.
 mod tested;
 // Unification.
@@ -26,6 +28,7 @@ use lp_store::{CellId, Store};
 use lp_unify::{Delayed, Round};
 use matched::Matched;
 pub(crate) use matched::{Looked, Wanted};
+pub(crate) use rigid::Rigid;
 pub(crate) use sizes::Nodes;
 use sizes::Sizes;
 use std::alloc::Global;

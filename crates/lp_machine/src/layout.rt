@@ -1,9 +1,9 @@
 // What is known of an image and a query before the query runs.
 ghost use Rattle.lp_code.specs.Length.{AllFit};
 
-use crate::matches::Act;
+use crate::demand::Demand;
 use crate::plan::{Plan, Predicate};
-use crate::rows::Rows;
+use crate::rows::{Rows, Step};
 use crate::standings::{Standings, has_negation};
 use lp_base::Memory;
 use lp_code::{Code, Image, Standing};
@@ -29,11 +29,19 @@ impl<'i> Layout<'i> {
         }
     }
 
-    /// What is done at the instruction at a place.
-    pub(crate) fn act(&self, record: u32, place: usize) -> Act {
+    /// What is done at the instruction at a place, if there is one.
+    pub(crate) fn step(&self, record: u32, place: usize) -> Option<Step> {
         match record.checked_sub(self.count) {
-            None => self.plan.rows.act(record, place),
-            Some(own) => self.rows.act(own, place),
+            None => self.plan.rows.step(record, place),
+            Some(own) => self.rows.step(own, place),
+        }
+    }
+
+    /// What the head of a record asks of the goal's first argument.
+    pub(crate) fn demand(&self, record: u32) -> Demand {
+        match record.checked_sub(self.count) {
+            None => self.plan.rows.demand(record),
+            Some(own) => self.rows.demand(own),
         }
     }
 

@@ -17,6 +17,8 @@ mod build;
 mod call;
 // The clauses that may meet a goal.
 mod candidates;
+// What heads ask of the first argument.
+mod demand;
 // The machine's parts.
 mod search;
 // The machine, from one event to the next.

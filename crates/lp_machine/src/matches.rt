@@ -8,14 +8,42 @@ use std::alloc::Global;
 /// What is done at an instruction.
 #[derive(Clone, Copy)]
 pub(crate) enum Act {
-    /// It is taken.
-    Take,
+    /// It builds a type or a term.
+    Build,
+    /// It matches the head.
+    Head,
+    /// It begins or ends a block, or is a goal.
+    Goal,
     /// Nothing: it builds what is not read, or what is matched in place.
     Skip,
     /// A GET of a term that is matched in place: where the constant and the term are built.
     Match(u32, u32),
     /// A GET_TYPE of a type variable that stands nowhere before.
     Name,
+}
+
+/// What is done at an instruction that stands by itself.
+pub(crate) fn act_of(instr: &Instr) -> Act {
+    match instr {
+        Instr::TyCon(_, _, _)
+        | Instr::TyArr(_, _, _)
+        | Instr::TyNew(_)
+        | Instr::New(_, _)
+        | Instr::PutConst(_, _, _)
+        | Instr::PutInt(_, _)
+        | Instr::PutStr(_, _)
+        | Instr::PutIndex(_, _, _)
+        | Instr::PutAbs(_, _, _)
+        | Instr::PutApp(_, _, _) => Act::Build,
+        Instr::GetType(_, _)
+        | Instr::GetVar(_, _)
+        | Instr::Get(_, _)
+        | Instr::GetConst(_, _, _)
+        | Instr::GetInt(_, _)
+        | Instr::GetStr(_, _)
+        | Instr::Neck => Act::Head,
+        _ => Act::Goal,
+    }
 }
 
 // The registers of a head, as far as the instructions before a place have set and read them.

@@ -14,9 +14,9 @@ impl<'i> Search<'i> {
             let left = self.heap.matched_type(place);
             let right = self.type_in(register);
             let turn = self.heap.match_types(left, right)?;
-            if turn != Turn::On {
+            let Turn::On = turn else {
                 return Ok(turn);
-            }
+            };
         }
         Ok(Turn::On)
     }
@@ -71,9 +71,9 @@ impl<'i> Search<'i> {
         for (place, register) in registers.iter().copied().enumerate() {
             let argument = self.heap.matched_argument(place);
             let turn = self.match_argument(argument, register)?;
-            if turn != Turn::On {
+            let Turn::On = turn else {
                 return Ok(turn);
-            }
+            };
         }
         Ok(Turn::On)
     }
@@ -81,13 +81,13 @@ impl<'i> Search<'i> {
     // A constant with the types in these registers, and what it stands on, against what was looked at.
     fn match_parts(&mut self, types: &[u16], registers: &[u16]) -> Result<Turn, Memory> {
         let turn = self.heap.take_pair()?;
-        if turn != Turn::On {
+        let Turn::On = turn else {
             return Ok(turn);
-        }
+        };
         let turn = self.match_types(types)?;
-        if turn != Turn::On {
+        let Turn::On = turn else {
             return Ok(turn);
-        }
+        };
         self.match_arguments(registers)
     }
 

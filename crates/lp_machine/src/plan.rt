@@ -5,17 +5,18 @@ use crate::rows::Rows;
 use crate::standings::{Standings, has_negation};
 use itoa::Buffer;
 use lp_base::Memory;
-use lp_code::{Image, Record, RecordHead};
+use lp_code::{Image, Key, Record, RecordHead};
 use lp_standard::FIRST_CONSTANT;
 use lp_verify::Verified;
 use std::alloc::Global;
 
-/// The program records that a constant heads: the first one, and how many there are.
+/// The program records that a constant heads: the first one, how many there are, and whether one of them has no key.
 #[derive(Clone, Copy)]
 pub(crate) struct Predicate {
     pub(crate) first: u32,
     pub(crate) last: u32,
     pub(crate) count: u32,
+    pub(crate) is_open: bool,
 }
 
 // Which program records each constant heads, and what constants are called.
@@ -43,22 +44,27 @@ impl Predicates {
     fn put_record(&mut self, record: &Record, number: u32) -> Result<(), Memory> {
         self.next.push(None)?;
         if let (true, Some(RecordHead::Const(constant))) = (record.program, record.head) {
-            self.put_clause(constant, number);
+            self.put_clause(constant, number, &record.key);
         }
         Ok(())
     }
 
-    fn put_clause(&mut self, constant: u32, number: u32) {
+    fn put_clause(&mut self, constant: u32, number: u32, key: &Key) {
         let Some(at) = constant.checked_sub(FIRST_CONSTANT) else {
             return;
         };
         let Some(slot) = self.of.get_mut(at as usize) else {
             return;
         };
+        let is_open = match key {
+            Key::None => true,
+            _ => false,
+        };
         let one = Predicate {
             first: number,
             last: number,
             count: 1,
+            is_open,
         };
         let joined = match *slot {
             None => one,
@@ -69,6 +75,7 @@ impl Predicates {
                 Predicate {
                     last: number,
                     count: predicate.count.saturating_add(1),
+                    is_open: predicate.is_open || is_open,
                     ..predicate
                 }
             }

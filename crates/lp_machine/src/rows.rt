@@ -2,11 +2,19 @@
 ghost use Rattle.std.specs.List.{All};
 ghost use Rattle.lp_code.specs.Length.{Fits, AllFit};
 
+use crate::demand::{Demand, demand_of};
 use crate::idle::idle_in;
-use crate::matches::{Act, put_matches};
+use crate::matches::{Act, act_of, put_matches};
 use lp_base::Memory;
 use lp_code::{Instr, Record, length};
 use std::alloc::Global;
+
+/// What is done at an instruction, and the place of the next one at which something is.
+#[derive(Clone, Copy)]
+pub(crate) struct Step {
+    pub(crate) act: Act,
+    pub(crate) behind: usize,
+}
 
 #[derive(Drop)]
 pub(crate) struct Rows {
@@ -14,7 +22,9 @@ pub(crate) struct Rows {
     starts: Vec<usize>,
     // For each instruction where a block goes on: behind the left side, behind the right side, or behind a negated block.
     targets: Vec<usize>,
-    acts: Vec<Act>,
+    steps: Vec<Step>,
+    // For each record what its head asks.
+    demands: Vec<Demand>,
 }
 
 // An open block: the place of the instruction that opened it.
@@ -77,13 +87,35 @@ fn close_negations(
 // What is done at the instructions of a record.
 fn acts_in(alloc: Global, record: &Record) -> Result<Vec<Act>, Memory> {
     let mut acts = Vec::new(alloc);
-    for idle in idle_in(alloc, record)?.iter().copied() {
-        acts.push(if idle { Act::Skip } else { Act::Take })?;
+    let idle = idle_in(alloc, record)?;
+    for (instr, is_idle) in record.code.iter().zip(idle.iter().copied()) {
+        acts.push(if is_idle { Act::Skip } else { act_of(instr) })?;
     }
     if record.head.is_some() {
         put_matches(alloc, record, &mut acts)?;
     }
     Ok(acts)
+}
+
+// The instructions of a record with the next ones, the last of them first. The place behind a `Not` is that of its block.
+fn steps_back(alloc: Global, code: &[Instr], acts: &[Act]) -> Result<Vec<Step>, Memory> {
+    let mut steps = Vec::new(alloc);
+    let mut behind = code.len();
+    let mut place = code.len();
+    for act in acts.iter().copied().rev() {
+        let own = place.saturating_sub(1);
+        let next = match code.get(own) {
+            Some(Instr::Not) => place,
+            _ => behind,
+        };
+        steps.push(Step { act, behind: next })?;
+        match act {
+            Act::Skip => {}
+            _ => behind = own,
+        }
+        place = own;
+    }
+    Ok(steps)
 }
 
 impl Rows {
@@ -102,9 +134,11 @@ impl Rows {
         close_negations(code, start, &mut open, &mut self.targets)
     }
 
-    fn put_acts(&mut self, alloc: Global, record: &Record) -> Result<(), Memory> {
+    fn put_steps(&mut self, alloc: Global, record: &Record) -> Result<(), Memory> {
         let acts = acts_in(alloc, record)?;
-        self.acts.extend_from_slice(acts.as_slice())?;
+        let mut steps = steps_back(alloc, record.code.as_slice(), acts.as_slice())?;
+        steps.reverse();
+        self.steps.extend_from_slice(steps.as_slice())?;
         Ok(())
     }
 
@@ -113,7 +147,8 @@ impl Rows {
     {
         for record in records {
             self.put_targets(alloc, record.code.as_slice())?;
-            self.put_acts(alloc, record)?;
+            self.put_steps(alloc, record)?;
+            self.demands.push(demand_of(record))?;
         }
         Ok(())
     }
@@ -125,7 +160,8 @@ impl Rows {
         let mut rows = Rows {
             starts: Vec::new(alloc),
             targets: Vec::new(alloc),
-            acts: Vec::new(alloc),
+            steps: Vec::new(alloc),
+            demands: Vec::new(alloc),
         };
         rows.put_all(alloc, records)?;
         Ok(rows)
@@ -142,14 +178,17 @@ impl Rows {
         }
     }
 
-    /// What is done at the instruction at a place.
-    pub(crate) fn act(&self, record: u32, place: usize) -> Act {
-        let Some(start) = self.starts.get(record as usize) else {
-            return Act::Take;
-        };
-        match self.acts.get(start.saturating_add(place)) {
-            Some(act) => *act,
-            None => Act::Take,
+    /// What the head of a record asks of the goal's first argument.
+    pub(crate) fn demand(&self, record: u32) -> Demand {
+        match self.demands.get(record as usize) {
+            Some(demand) => *demand,
+            None => Demand::None,
         }
+    }
+
+    /// What is done at the instruction at a place, if there is one.
+    pub(crate) fn step(&self, record: u32, place: usize) -> Option<Step> {
+        let start = self.starts.get(record as usize)?;
+        self.steps.get(start.saturating_add(place)).copied()
     }
 }

@@ -107,29 +107,52 @@ impl<'i> Search<'i> {
         Ok(Some(turn))
     }
 
-    // Takes the instruction at a place, which is left behind.
-    fn take_instruction<W: Watch>(
+    // Takes a goal, or begins or ends a block.
+    fn take_part<W: Watch>(
         &mut self,
         crowd: &mut Crowd<'_, W>,
         instr: &Instr,
         place: usize,
     ) -> Result<Turn, Memory> {
-        match self.layout.act(self.work.record, place) {
-            Act::Take => {}
-            Act::Skip => return Ok(Turn::On),
-            Act::Match(head, term) => return self.match_term(instr, head, term),
-            Act::Name => return self.name_type(instr),
-        }
-        if self.build(instr)? {
-            return Ok(Turn::On);
-        }
-        if let Some(turn) = self.match_head(instr)? {
-            return Ok(turn);
-        }
         if let Some(turn) = self.take_block(instr, place)? {
             return Ok(turn);
         }
         self.take_atom(crowd, instr)
+    }
+
+    // Takes the instruction at a place.
+    fn take_instruction<W: Watch>(
+        &mut self,
+        crowd: &mut Crowd<'_, W>,
+        instr: &Instr,
+        place: usize,
+        act: Act,
+    ) -> Result<Turn, Memory> {
+        match act {
+            Act::Build => {
+                let _built = self.build(instr)?;
+                Ok(Turn::On)
+            }
+            Act::Head => self.match_head(instr),
+            Act::Goal => self.take_part(crowd, instr, place),
+            Act::Skip => Ok(Turn::On),
+            Act::Match(head, term) => self.match_term(instr, head, term),
+            Act::Name => self.name_type(instr),
+        }
+    }
+
+    // Takes the instruction at a place, which is left behind.
+    fn take_place<W: Watch>(
+        &mut self,
+        crowd: &mut Crowd<'_, W>,
+        instr: &Instr,
+        place: usize,
+    ) -> Result<Turn, Memory> {
+        let Some(step) = self.layout.step(self.work.record, place) else {
+            return Ok(Turn::Back);
+        };
+        self.work.place = step.behind;
+        self.take_instruction(crowd, instr, place, step.act)
     }
 
     // Goes on with the goals behind a record that is done.
@@ -164,10 +187,7 @@ impl<'i> Search<'i> {
         match self.work.code.get(place) {
             None => self.proceed(crowd),
             Some(Instr::Proceed) => self.proceed(crowd),
-            Some(instr) => {
-                self.work.place = place.saturating_add(1);
-                self.take_instruction(crowd, instr, place)
-            }
+            Some(instr) => self.take_place(crowd, instr, place),
         }
     }
 }

@@ -1,7 +1,7 @@
 // Whether the arguments of a variable are distinct eigenconstants above its level.
 ghost use Rattle.lp_unify.specs.Frames.{Stays};
 
-use crate::cells::{argument_at, arguments_of, count_of, read};
+use crate::cells::{argument_at, arguments_of, count_of, read, referred};
 use crate::fault::PatternRefusal;
 use crate::look::{Head, Seen, look};
 use crate::opened::Opened;
@@ -187,6 +187,33 @@ fn as_eigen(
     }
 }
 
+// The eigenconstant that a cell is seen to be without a reduction.
+fn glance(store: &Store, cell: CellId, opened: Opened) -> Result<Option<u64>, Memory> {
+    match name_of(store, referred(store, cell)) {
+        Some(name) => eigen_below(name, 0, opened),
+        None => Ok(None),
+    }
+}
+
+// The eigenconstants that the first arguments are seen to be.
+fn put_glanced(
+    store: &Store,
+    opened: Opened,
+    whole: CellId,
+    eigens: &mut Vec<u64>,
+) -> Result<(), Memory> {
+    let Some(list) = arguments_of(store, whole) else {
+        return Ok(());
+    };
+    for argument in store.items(list).iter().copied() {
+        let Some(eigen) = glance(store, argument, opened)? else {
+            return Ok(());
+        };
+        eigens.push(eigen)?;
+    }
+    Ok(())
+}
+
 // Whether an eigenconstant is above the level and none of the others.
 fn is_good(level: u64, k: u64, others: &[u64]) -> bool {
     if others.contains(&k) {
@@ -195,8 +222,23 @@ fn is_good(level: u64, k: u64, others: &[u64]) -> bool {
     level < k
 }
 
-// Whether all are distinct and above the level.
+// Whether each is above the one before, and the first above the level.
+fn are_ascending(level: u64, ks: &[u64]) -> bool {
+    let mut before = level;
+    for k in ks.iter().copied() {
+        if k <= before {
+            return false;
+        }
+        before = k;
+    }
+    true
+}
+
+// Whether all are distinct and above the level. Mostly they stand in the order in which they were made.
 fn make_a_pattern(level: u64, ks: &[u64]) -> bool {
+    if are_ascending(level, ks) {
+        return true;
+    }
     for place in 0..ks.len() {
         if !is_good(level, ks[place], &ks[place + 1..]) {
             return false;
@@ -216,7 +258,8 @@ pub(crate) fn pattern_of(
     ensures { Stays store.old store.new }
 {
     let mut eigens = Vec::new(alloc);
-    for place in 0..count_of(store, whole) {
+    put_glanced(store, opened, whole, &mut eigens)?;
+    for place in eigens.len()..count_of(store, whole) {
         let term = argument_at(store, whole, place)?;
         let found = as_eigen(alloc, store, opened, term)?;
         let Some(eigen) = found else {

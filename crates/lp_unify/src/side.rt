@@ -25,7 +25,23 @@ impl Side {
         if eigen <= self.level {
             return true;
         }
-        self.eigens.as_slice().contains(&eigen)
+        self.place_of(eigen).is_some()
+    }
+
+    // Where an eigenconstant stands among them. Mostly they are of one level after the other.
+    fn place_of(&self, eigen: u64) -> Option<usize> {
+        let eigens = self.eigens.as_slice();
+        let first = eigens.first().copied()?;
+        let near = eigen.saturating_sub(first) as usize;
+        if eigens.get(near).copied() == Some(eigen) {
+            return Some(near);
+        }
+        for place in 0..eigens.len() {
+            if eigens[place] == eigen {
+                return Some(place);
+            }
+        }
+        None
     }
 
     pub(crate) fn allows_all(&self, eigens: &[u64]) -> bool {
@@ -44,13 +60,9 @@ impl Side {
 
     // The abstraction that stands for an eigenconstant, counted from the innermost one.
     pub(crate) fn abstraction_of(&self, eigen: u64) -> Option<u64> {
-        let count = self.eigens.len();
-        for place in 0..count {
-            if self.eigens[place] == eigen {
-                return Some((count - 1 - place) as u64);
-            }
-        }
-        None
+        let place = self.place_of(eigen)?;
+        let behind = self.eigens.len().saturating_sub(place);
+        Some(behind.saturating_sub(1) as u64)
     }
 
     // No abstraction of the other side is open.

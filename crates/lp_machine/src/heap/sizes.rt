@@ -1,7 +1,7 @@
 // How many nodes terms have, as the scan of a value counts them: each head is one, an abstraction is none.
 #![tactic(auto, using(crate::proofs::Marks::marks_kept, crate::proofs::Marks::goes_kept))]
 
-ghost use Rattle.std.specs.Prelude.{IfSome};
+ghost use Rattle.std.specs.Prelude.{◌≤◌, length, IfSome};
 ghost use Rattle.lp_store.specs.Sound.{Stands};
 
 use super::Heap;
@@ -9,7 +9,7 @@ use super::tested::known;
 use crate::outcome::refused;
 use lp_base::{Memory, RUN_LIMIT};
 use lp_model::Ending;
-use lp_store::{Cell, CellId, Store};
+use lp_store::{Cell, CellId, Env, EnvEntry, Store};
 use lp_susp::head_normal;
 use std::alloc::Global;
 
@@ -41,8 +41,8 @@ enum Top {
     Other,
 }
 
-/// The sizes of terms in normal form without variables, by cell, as far as they were counted; 0 is none. Those that were counted after a choice point was made are
-/// forgotten when it is gone back to.
+/// The sizes of terms without variables that have no redex, by cell, as far as they were counted; 0 is none. Those that were counted
+/// after a choice point was made are forgotten when it is gone back to.
 #[derive(Drop)]
 pub(crate) struct Sizes {
     of: Vec<u32>,
@@ -134,6 +134,42 @@ pub(crate) fn followed(store: &Store, cell: CellId) -> Option<(CellId, Cell)>
         }
     }
     None
+}
+
+// Whether a term is an atom, whatever suspensions stand around it.
+fn is_atom(store: &Store, cell: CellId) -> bool {
+    let mut at = cell;
+    for _ in 0..u64::MAX {
+        if !store.has(at) {
+            return false;
+        }
+        match store.cell(at) {
+            Cell::Ref(to) => at = to,
+            Cell::Susp(term, _, _, _) => at = term,
+            Cell::Const(_, _) | Cell::Int(_) | Cell::Text(_) | Cell::Eigen(_) => return true,
+            _ => return false,
+        }
+    }
+    false
+}
+
+// Whether the values in an environment are atoms.
+fn gives_atoms(store: &Store, env: Env) -> bool
+    requires { env.0 ≤ length store.now.envs }
+{
+    let mut at = env;
+    'entries: for _ in 0..u64::MAX {
+        let Some((entry, rest)) = store.entry(at) else {
+            return true;
+        };
+        if let EnvEntry::Value(value, _) = entry
+            && !is_atom(store, value)
+        {
+            return false;
+        }
+        at = rest;
+    }
+    false
 }
 
 // What an application is by its head.
@@ -232,6 +268,20 @@ impl Heap {
         Ok(Ok(Some((normal, top_of(&self.store, other)))))
     }
 
+    // The nodes of a suspension that puts atoms in the place of indices: as many as those of its term, where these were counted.
+    fn nodes_inside(&self, cell: CellId) -> Option<u64> {
+        let (_, found) = followed(&self.store, cell)?;
+        let Cell::Susp(term, _, _, env) = found else {
+            return None;
+        };
+        let (inside, _) = followed(&self.store, term)?;
+        let nodes = self.sizes.known(inside)?;
+        if gives_atoms(&self.store, env) {
+            return Some(nodes);
+        }
+        None
+    }
+
     // Visits a term. Whether it can be counted.
     fn visit(
         &mut self,
@@ -239,6 +289,10 @@ impl Heap {
         level: u64,
         count: &mut Count,
     ) -> Result<Result<bool, Ending>, Memory> {
+        if let Some(nodes) = self.nodes_inside(cell) {
+            count.add(nodes);
+            return Ok(Ok(true));
+        }
         let (at, top) = match self.seen(cell)? {
             Ok(Some(seen)) => seen,
             Ok(None) => return Ok(Ok(false)),
@@ -312,8 +366,23 @@ impl Heap {
         }
     }
 
+    // The nodes of a term that has no parts, or was counted.
+    fn known_nodes(&self, term: CellId, level: u64) -> Option<u64> {
+        let (at, found) = followed(&self.store, term)?;
+        match top_of(&self.store, found) {
+            Top::Leaf => Some(1),
+            Top::Variable(own) if own <= level => Some(1),
+            Top::Abstraction(_) | Top::Application => self.sizes.known(at),
+            Top::Hidden => self.nodes_inside(at),
+            _ => None,
+        }
+    }
+
     /// The nodes of a term whose variables have no level above this one. What was counted once is not counted again.
     pub(crate) fn nodes_of(&mut self, term: CellId, level: u64) -> Result<Nodes, Memory> {
+        if let Some(nodes) = self.known_nodes(term, level) {
+            return Ok(Nodes::Many(nodes));
+        }
         let mut count = Count {
             nodes: 0,
             variables: 0,
