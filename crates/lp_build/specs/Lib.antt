@@ -12,6 +12,7 @@ pub mod Programs
 pub mod Refused
 pub mod Compiled
 pub mod Copied
+pub mod SameNames
 pub mod Images
 pub mod Ready
 pub mod inner

@@ -34,6 +34,9 @@ mod walk;
 
 pub use build::{Built, build_image, build_object, build_program, modules};
 pub use fault::BuildFault;
-pub use laws::{an_image_denotes_the_program, an_image_has_the_copies_of_the_program};
+pub use laws::{
+    an_image_denotes_the_program, an_image_has_the_copies_of_the_program,
+    an_image_has_the_names_of_the_program,
+};
 pub use load::{gather, gather_with};
 pub use sources::Sources;
