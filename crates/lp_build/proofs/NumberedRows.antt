@@ -1,5 +1,5 @@
 -- Rows of names: those of a module and of its object, and the numbers of hidden ones.
-use Rattle.std.proofs.Common.{◌≡◌, ◌∙◌, ◌++◌, ◌∷◌, [], ◌+◌, ◌-◌, ◌≤◌, ℕ, zero, suc, Bool, true, false, if◌then◌else◌, List, Option, None, Some, length, map, take, drop, nat_lt, inl, inr, ap, refl, sym, subst, arith}
+use Rattle.std.proofs.Common.{◌≡◌, ◌∙◌, ◌++◌, ◌∷◌, [], ◌+◌, ◌-◌, ℕ, zero, suc, Bool, true, false, if◌then◌else◌, List, Some, length, map, take, drop, nat_lt, inl, inr, ap, refl, sym, arith}
 use Rattle.std.specs.Prelude.{◌⊎◌, slice_get, option_to_list, min}
 use Rattle.std.specs.Str.{bytes_eq}
 use Rattle.std.specs.List.{range_with_len}

@@ -1,5 +1,5 @@
 -- The names of an image of modules are those of the program of these modules, and so are the types of its constants.
-use Rattle.std.proofs.Common.{◌≡◌, ◌∙◌, ◌++◌, ◌∷◌, [], ◌+◌, ◌-◌, ◌<◌, ◌≤◌, ℕ, zero, suc, Bool, true, false, List, Option, None, Some, length, map, take, drop, ap, refl, sym, subst, arith}
+use Rattle.std.proofs.Common.{◌≡◌, ◌∙◌, ◌++◌, ◌∷◌, [], ◌+◌, ◌-◌, ◌≤◌, ℕ, zero, suc, Bool, true, false, List, Some, length, map, take, drop, ap, refl, sym, subst, arith}
 use Rattle.std.specs.Prelude.{slice_get}
 use Rattle.std.specs.List.{range_with_len}
 use Rattle.std.proofs.lemmas.List.{map-append, take-map, drop-map}
@@ -14,16 +14,15 @@ use Rattle.lp_code.specs.declared.object.Object.{Object}
 use Rattle.lp_code.specs.declared.object.ObjectConstant.{ObjectConstant}
 use Rattle.lp_code.specs.declared.object.ObjectKind.{ObjectKind}
 use Rattle.lp_link.specs.Linked as linked
-use Rattle.lp_link.specs.Linked.{constants_of, kinds_of}
+use Rattle.lp_link.specs.Linked.{constants_of}
 use Rattle.lp_link.specs.Names as named
-use Rattle.lp_link.specs.Names.{HasNames, as_global, exported_kind_rows, exported_of, exported_types, hidden_constant_rows, hidden_kind_rows, hidden_of, hidden_types, moved_schemes, numbered}
+use Rattle.lp_link.specs.Names.{HasNames, as_global, exported_kind_rows, exported_of, hidden_constant_rows, hidden_kind_rows, hidden_of, hidden_types, numbered}
 use Rattle.lp_link.specs.Renumbering.{moved_scheme}
-use Rattle.lp_sig.specs.Refusals.{IsAt}
 use Rattle.lp_sig.specs.declared.entries.ConstantEntry.{ConstantEntry}
 use Rattle.lp_sig.specs.declared.entries.KindEntry.{KindEntry}
 use Rattle.lp_infer.specs.Texts.{entry_scheme}
 use Rattle.lp_module.specs.Program as program
-use Rattle.lp_module.specs.Program.{IsProgram, exported_among, hidden_among, of_copies, of_module, row_of}
+use Rattle.lp_module.specs.Program.{IsProgram, exported_among, hidden_among, of_copies, of_module}
 use Rattle.lp_module.specs.declared.copies.Assembled.{Assembled}
 use Rattle.lp_module.specs.declared.module.Module.{Module}
 use Rattle.lp_module.proofs.Lookups.{exported_first}
@@ -34,7 +33,7 @@ use Rattle.lp_build.specs.SameNames.{HasOwnTypes, HasSameNames, HasSameTypes, Ha
 use Rattle.lp_build.proofs.Coding.{paired_head, paired_map, paired_tail}
 use Rattle.lp_build.proofs.CopyNumbering.{kinds_same}
 use Rattle.lp_build.proofs.NumberedRows.{exported_front, hidden_back, hidden_last, numbered_rows, with_mark}
-use Rattle.lp_build.proofs.SameCopies.{IsShaped, exported_constants, exported_kinds, paired_at}
+use Rattle.lp_build.proofs.SameCopies.{IsShaped, exported_constants, exported_kinds}
 
 -- lists that are mapped twice
 twice : {A B C : Type 0} (f : A → B) (g : B → C) (xs : List A) → map g (map f xs) ≡ map (λ x. g (f x)) xs
