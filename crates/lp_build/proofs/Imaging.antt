@@ -6,6 +6,7 @@ use Rattle.lp_lemmas.proofs.Elements.{All_empty, All_pushed}
 use Rattle.lp_code.specs.declared.object.Object.{Object}
 use Rattle.lp_code.specs.declared.image.Image.{Image}
 use Rattle.lp_link.specs.Linked.{IsLinked}
+use Rattle.lp_link.specs.Names.{IsNamed}
 use Rattle.lp_link.specs.Refusals.{CanBeLinked}
 use Rattle.lp_sig.specs.Refusals.{IsAt}
 use Rattle.lp_syntax.specs.declared.text.ModuleText.{ModuleText}
@@ -46,8 +47,8 @@ objects_are (m ∷ ms) (n ∷ ns) (o ∷ os) named within coded =
 
 -- the image of modules
 pub image_of_is : (ms : List Module) (os : List Object) (r : Result Image BuildFault) → ArePaired IsObjectOf ms (length ms) os
-    → IfOk r (λ image. (root : ℕ) × (root + 1 ≡ length os) × CanBeLinked os root × IsLinked os root image) → IfOk r (IsImageOf ms)
-image_of_is ms os (Ok image) are (root, last, can, linked) = record { objects = os; are = are; root = root; last = last; can = can; linked = linked }
+    → IfOk r (λ image. (root : ℕ) × (root + 1 ≡ length os) × CanBeLinked os root × IsLinked os root image × IsNamed os root image) → IfOk r (IsImageOf ms)
+image_of_is ms os (Ok image) are (root, last, can, linked, named) = record { objects = os; are = are; root = root; last = last; can = can; linked = linked; named = named }
 image_of_is ms os (Err e) are h = tt
 
 -- the clauses of a module stand in its bank

@@ -19,7 +19,10 @@ pub mod SameCopies
 pub mod Shapes
 pub mod Seen
 pub mod SeenEdges
+pub mod NumberedRows
+pub mod SameNames
 pub mod ImageCopies
+pub mod ImageNames
 pub mod CopyClauses
 pub mod CopyNumbering
 pub mod ImageClauses

@@ -64,13 +64,13 @@ paired_at P (a ∷ xs) (b ∷ ys) h (suc i) x e = paired_at P xs ys (paired_tail
 lt_suc : (i e : ℕ) → nat_lt (suc i) (suc e) ≡ nat_lt i e
 lt_suc i e = grind (arith, nat_tests)
 
-exported_rest : {A : Type 0} (flag : A → Bool) (e : ℕ) (x : A) (xs : List A) → AreExported flag (suc e) (x ∷ xs) → AreExported flag e xs
+pub exported_rest : {A : Type 0} (flag : A → Bool) (e : ℕ) (x : A) (xs : List A) → AreExported flag (suc e) (x ∷ xs) → AreExported flag e xs
 exported_rest flag e x xs h i y at = h (suc i) y (let l = at.0 in omega (arith, l), at.1) ∙ lt_suc i e
 
-hidden_rest : {A : Type 0} (flag : A → Bool) (x : A) (xs : List A) → AreExported flag 0 (x ∷ xs) → AreExported flag 0 xs
+pub hidden_rest : {A : Type 0} (flag : A → Bool) (x : A) (xs : List A) → AreExported flag 0 (x ∷ xs) → AreExported flag 0 xs
 hidden_rest flag x xs h i y at = h (suc i) y (let l = at.0 in omega (arith, l), at.1) ∙ grind (arith, nat_tests)
 
-first_flag : {A : Type 0} (flag : A → Bool) (e : ℕ) (x : A) (xs : List A) → AreExported flag e (x ∷ xs) → flag x ≡ nat_lt 0 e
+pub first_flag : {A : Type 0} (flag : A → Bool) (e : ℕ) (x : A) (xs : List A) → AreExported flag e (x ∷ xs) → flag x ≡ nat_lt 0 e
 first_flag flag e x xs h = h 0 x (omega arith, refl)
 
 flags_split : {A : Type 0} (name : A → List ℕ) (flag : A → Bool) (e : ℕ) (xs : List A) → AreExported flag e xs

@@ -13,6 +13,7 @@ pub mod Programs
 pub mod Refused
 pub mod Compiled
 pub mod Copied
+pub mod SameNames
 pub mod Images
 pub mod Ready
 pub mod inner

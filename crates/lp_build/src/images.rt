@@ -2,6 +2,7 @@
 ghost use Rattle.std.specs.Prelude.{◌≡◌, ◌+◌, ◌<◌, ℕ, All, length, IfErr, IfOk};
 ghost use Rattle.lp_module.specs.Sentences.{AreWithin};
 ghost use Rattle.lp_link.specs.Linked.{IsLinked};
+ghost use Rattle.lp_link.specs.Names.{IsNamed};
 ghost use Rattle.lp_link.specs.Refusals.{CanBeLinked};
 ghost use Rattle.lp_build.specs.Compiled.{ArePaired, HasNamesOf, IsObjectOf};
 ghost use Rattle.lp_build.specs.Faults.{IsOfTexts};
@@ -68,7 +69,7 @@ fn check_all_names(objects: &Vec<Object>) -> Result<(), BuildFault>
 
 fn linked(alloc: Global, objects: &Vec<Object>) -> Result<Image, BuildFault>
     ensures refused { IfErr result IsOfTexts }
-    ensures linked { IfOk result (λ image. (root : ℕ) × (root + 1 ≡ length objects.now.items) × CanBeLinked objects.now.items root × IsLinked objects.now.items root image) }
+    ensures linked { IfOk result (λ image. (root : ℕ) × (root + 1 ≡ length objects.now.items) × CanBeLinked objects.now.items root × IsLinked objects.now.items root image × IsNamed objects.now.items root image) }
 {
     let last = last_of(objects.as_slice())?;
     let image = link(alloc, objects.as_slice(), last)?;

@@ -36,7 +36,10 @@ mod walk;
 
 pub use build::{Built, build_image, build_object, build_program, modules};
 pub use fault::BuildFault;
-pub use laws::{an_image_denotes_the_program, an_image_has_the_copies_of_the_program};
+pub use laws::{
+    an_image_denotes_the_program, an_image_has_the_copies_of_the_program,
+    an_image_has_the_names_of_the_program,
+};
 pub use load::{gather, gather_with};
 pub use order::{files_in_order_are_all_that_are_named, held_files_are_loaded_alike};
 pub use sources::Sources;
