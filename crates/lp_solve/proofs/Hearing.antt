@@ -1,9 +1,10 @@
 -- The notes that the watchers have heard are those of the definition's run.
-use Rattle.std.proofs.Common.{◌≡◌, ◌≢◌, ◌+◌, ◌≤◌, inl, inr, true, ℕ, List, [], ◌∷◌, ◌++◌, Option, Some, None, refl, sym, ap, ◌∙◌, subst, arith}
+use Rattle.std.proofs.Common.{◌≡◌, ◌≢◌, ◌+◌, ◌≤◌, inl, inr, true, ℕ, List, [], ◌∷◌, ◌++◌, map, Option, Some, None, refl, sym, ap, ◌∙◌, subst, arith}
 use Rattle.lp_base.specs.declared.status.Status.{Status}
 use Rattle.lp_base.specs.declared.status.Status.TheVariants as variant
 use Rattle.lp_watch.specs.Crowd.{crowd_after}
 use Rattle.lp_watch.specs.Seen.{Seen}
+use Rattle.lp_watch.specs.Told.{crowd_after_all}
 use Rattle.lp_model.specs.Branch.{Answer, Task}
 use Rattle.lp_model.specs.Events.{Event, Gave, Over, first}
 use Rattle.lp_model.specs.Flat.{Clause}
@@ -21,7 +22,6 @@ use Rattle.lp_plain.specs.Hearing.{Hears, HearsPart, note_in}
 use Rattle.lp_plain.specs.Held.{constants_of, ended}
 use Rattle.lp_plain.specs.Stepping.{Relays, notes_told, run_told, way_back}
 use Rattle.lp_plain.specs.declared.search.Search.{Search}
-use Rattle.lp_plain.proofs.Hearing.{hears_more, hears_none}
 use Rattle.lp_plain.proofs.Relayed.{relays_more, relays_none, relays_over}
 use Rattle.lp_lines.specs.Lines.{ending_status}
 use Rattle.lp_lines.specs.Refusals.{IsRefusal, status_of}
@@ -44,8 +44,15 @@ data Heard (cs : List Declared) (P : List Clause) (n j m : ℕ) (start : State T
       Hears cs notes before seen → (told_by P n j m start).ending ≡ (told_by P n j k s).ending → Heard cs P n j m start before now seen
   passed : (told_by P n j m start).ending ≡ None → Heard cs P n j m start before now seen
 
--- a beginning of what is heard
+-- what is heard adds up, also a beginning of it
 module _ (cs : List Declared) where
+  both_heard : (ns ms : List Note) (old : List Seen) → crowd_after_all (map (note_in cs) (ns ++ ms)) old ≡ crowd_after_all (map (note_in cs) ms) (crowd_after_all (map (note_in cs) ns) old)
+  both_heard [] ms old = refl
+  both_heard (n ∷ ns) ms old = both_heard ns ms (crowd_after (note_in cs n) old)
+
+  hears_more : (ns ms : List Note) (old mid new : List Seen) → Hears cs ns old mid → Hears cs ms mid new → Hears cs (ns ++ ms) old new
+  hears_more ns ms old mid new h k = k ∙ ap (crowd_after_all (map (note_in cs) ms)) h ∙ sym (both_heard ns ms old)
+
   part_none : (ns : List Note) (old new : List Seen) → new ≡ old → HearsPart cs ns old new
   part_none [] old new e = e
   part_none (n ∷ ns) old new e = inl e
@@ -80,7 +87,7 @@ module _ (cs : List Declared) (P : List Clause) (n j m : ℕ) (start : State Tas
   all_heard : (first_search now : Search) (seen : List Seen) → IsBetween P n first_search start → ended first_search ≡ None → constants_of first_search ≡ cs →
       Watched first_search before now seen → Heard cs P n j m start before now seen
   all_heard first_search now seen begun going same at_first =
-      still m start 0 [] begun going same (relays_none (look unit_limit n P) start) (hears_none cs before) refl
+      still m start 0 [] begun going same (relays_none (look unit_limit n P) start) refl refl
   all_heard first_search now seen begun going same (one_answer s t a u v next w) = next_heard s t a u v next (all_heard first_search s u begun going same w)
 
   -- the notes up to the end are those of the run, which is over
