@@ -39,26 +39,30 @@ pub struct Plan {
     pub(crate) standings: Option<Standings>,
 }
 
+// Whether a record is a candidate whatever the first argument is.
+fn has_no_key(key: &Key) -> bool {
+    match key {
+        Key::None => true,
+        _ => false,
+    }
+}
+
 impl Predicates {
     // A program record joins those of its constant.
     fn put_record(&mut self, record: &Record, number: u32) -> Result<(), Memory> {
         self.next.push(None)?;
         if let (true, Some(RecordHead::Const(constant))) = (record.program, record.head) {
-            self.put_clause(constant, number, &record.key);
+            self.put_clause(constant, number, has_no_key(&record.key));
         }
         Ok(())
     }
 
-    fn put_clause(&mut self, constant: u32, number: u32, key: &Key) {
+    fn put_clause(&mut self, constant: u32, number: u32, is_open: bool) {
         let Some(at) = constant.checked_sub(FIRST_CONSTANT) else {
             return;
         };
         let Some(slot) = self.of.get_mut(at as usize) else {
             return;
-        };
-        let is_open = match key {
-            Key::None => true,
-            _ => false,
         };
         let one = Predicate {
             first: number,

@@ -1,5 +1,5 @@
 -- A refusal of a query, and a search that is ready, as the stages give them.
-use Rattle.std.proofs.Common.{◌≡◌, ◌≢◌, ℕ, List, Option, Bool, refl, ap, ◌∙◌, subst, sym, map, length}
+use Rattle.std.proofs.Common.{◌≡◌, ◌≢◌, ℕ, List, Option, Bool, refl, ap, ◌∙◌, subst, sym, map, length, inr}
 use Rattle.std.proofs.lemmas.List.{length-map}
 use Rattle.std.specs.Prelude.{IfErr, Result, Ok, Err, codes, true, false}
 use Rattle.lp_base.specs.Held.{Held}
