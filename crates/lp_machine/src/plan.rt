@@ -39,6 +39,13 @@ pub struct Plan {
     pub(crate) standings: Option<Standings>,
 }
 
+// A record comes behind the last one of its constant.
+fn put_behind(next: &mut Vec<Option<u32>>, last: u32, number: u32) {
+    if let Some(place) = next.get_mut(last as usize) {
+        *place = Some(number);
+    }
+}
+
 // Whether a record is a candidate whatever the first argument is.
 fn has_no_key(key: &Key) -> bool {
     match key {
@@ -73,9 +80,7 @@ impl Predicates {
         let joined = match *slot {
             None => one,
             Some(predicate) => {
-                if let Some(next) = self.next.get_mut(predicate.last as usize) {
-                    *next = Some(number);
-                }
+                put_behind(&mut self.next, predicate.last, number);
                 Predicate {
                     last: number,
                     count: predicate.count.saturating_add(1),
