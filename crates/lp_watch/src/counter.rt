@@ -2,7 +2,7 @@
 ghost use Rattle.std.specs.Prelude.{◌≡◌, ◌++◌, ◌↔◌, None, IfOk, OnErr, false, codes, decimal};
 ghost use Rattle.lp_watch.specs.Kept.{counts_of};
 ghost use Rattle.lp_watch.specs.Notes.{event_of};
-ghost use Rattle.lp_watch.specs.Reports.{counts_line};
+ghost use Rattle.lp_watch.specs.Reports.{report_of};
 ghost use Rattle.lp_watch.specs.Seen.{Seen, count, no_counts, seen_after, stays};
 
 use crate::tally::{Tally, add_count};
@@ -30,8 +30,6 @@ impl Counter {
 
 impl Watch for Counter {
     ghost seen = { λ c. record { tally = counts_of c.tally; told = None; left = None } };
-
-    ghost report = { λ c. counts_line (counts_of c.tally) };
 
     fn note(&mut self, note: Note<'_>) -> Result<Go, Memory> {
         self.tally.count(note);

@@ -2,6 +2,7 @@
 ghost use Rattle.std.specs.Prelude.{◌≡◌, ◌<◌, ◌↔◌, [], Some, IfOk, OnErr, false};
 ghost use Rattle.lp_watch.specs.Kept.{counts_of, kept_event};
 ghost use Rattle.lp_watch.specs.Notes.{event_of};
+ghost use Rattle.lp_watch.specs.Reports.{report_of};
 ghost use Rattle.lp_watch.specs.Seen.{Seen, no_counts, seen_after, stays};
 
 use crate::{Go, Note, Tracer, Watch};
@@ -28,8 +29,6 @@ impl Leaver {
 
 impl Watch for Leaver {
     ghost seen = { λ l. ⟦<Tracer as Watch>⟧.seen l.tracer };
-
-    ghost report = { λ l. ⟦<Tracer as Watch>⟧.report l.tracer };
 
     fn note(&mut self, note: Note<'_>) -> Result<Go, Memory> {
         self.tracer.note(note)

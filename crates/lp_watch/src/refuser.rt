@@ -1,9 +1,8 @@
 // The watcher for tests that has no memory.
 ghost use Rattle.std.specs.Prelude.{◌≡◌, ◌↔◌, [], None, Some, IfOk, OnErr, false, map};
-ghost use Rattle.std.specs.List.{flat_map};
 ghost use Rattle.lp_watch.specs.Kept.{counts_of, kept_event};
 ghost use Rattle.lp_watch.specs.Notes.{event_of};
-ghost use Rattle.lp_watch.specs.Reports.{line_of};
+ghost use Rattle.lp_watch.specs.Reports.{report_of};
 ghost use Rattle.lp_watch.specs.Seen.{Seen, no_counts, seen_after, stays};
 
 use crate::tally::Tally;
@@ -37,8 +36,6 @@ impl Refuser {
 
 impl Watch for Refuser {
     ghost seen = { λ r. record { tally = counts_of r.tally; told = Some (map kept_event r.notes.items); left = None } };
-
-    ghost report = { λ r. flat_map line_of (map kept_event r.notes.items) };
 
     fn note(&mut self, note: Note<'_>) -> Result<Go, Memory> {
         if self.before == 0 {

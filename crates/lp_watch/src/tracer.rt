@@ -3,7 +3,7 @@ ghost use Rattle.std.specs.Prelude.{◌≡◌, ◌<◌, ◌++◌, ◌↔◌, [],
 ghost use Rattle.std.specs.List.{flat_map};
 ghost use Rattle.lp_watch.specs.Kept.{counts_of, kept_event};
 ghost use Rattle.lp_watch.specs.Notes.{event_of};
-ghost use Rattle.lp_watch.specs.Reports.{line_of};
+ghost use Rattle.lp_watch.specs.Reports.{line_of, report_of};
 ghost use Rattle.lp_watch.specs.Seen.{Seen, count, no_counts, seen_after, stays};
 
 use crate::tally::{Tally, add_count};
@@ -88,8 +88,6 @@ impl Tracer {
 
 impl Watch for Tracer {
     ghost seen = { λ t. record { tally = counts_of t.tally; told = Some (map kept_event t.notes.items); left = Some t.left } };
-
-    ghost report = { λ t. flat_map line_of (map kept_event t.notes.items) };
 
     fn note(&mut self, note: Note<'_>) -> Result<Go, Memory> {
         self.notes.push(keep(self.alloc, note)?)?;
