@@ -1,5 +1,6 @@
 use Rattle.std.proofs.Common.{[], suc, ◌∷◌, ◌<◌, ◌≡◌, ◌∙◌, ap, arith, length, map, subst, sym}
 use Rattle.lp_term.specs.Nodes.{Extends}
+use Rattle.lp_watch.specs.Crowd.{places}
 use Rattle.lp_model.specs.Skeleton.{AnswerNote}
 use Rattle.lp_plain.specs.HeadLooks.{with_bank}
 use Rattle.lp_plain.specs.Hearing.{HeardBy}
@@ -17,8 +18,8 @@ pub returns-in-Ended-clause-search : goal.returns-in-Ended-clause-search
 unfolding ended constants_of steps_of
 returns-in-Ended-clause-search g c = λ k x it st en.
     let s = c.args.self.now in
-    let old = map g.W.Watch.seen c.args.crowd.now.watchers.now.items in
-    let new = map g.W.Watch.seen c.run.new.crowd.watchers.now.items in
+    let old = places c.args.crowd.now.texts.items (map g.W.Watch.seen c.args.crowd.now.watchers.now.items) in
+    let new = places c.run.new.crowd.texts.items (map g.W.Watch.seen c.run.new.crowd.watchers.now.items) in
     let p = c.in_ok-found.ensures.stands k x st in
     let heard = subst (λ l. HeardBy l s.machine c.run.new.machine old new p.0) c.as_slice.ensures.value p.1 in
     over_is k x p.0 (HeardBy s.constants.items s.machine c.end.new.self.machine old new)
@@ -34,9 +35,9 @@ returns-in_ok-answer-in-Answered-clause-search g c = λ k v it st en.
     let n = c.answer_of.new.machine in
     let u = record t { machine = n } in
     let p = c.in_ok-found.ensures.stands k v st in
-    let old = map g.W.Watch.seen c.args.crowd.now.watchers.now.items in
-    let mid = map g.W.Watch.seen c.run.new.crowd.watchers.now.items in
-    let new = map g.W.Watch.seen c.tell_answer.new.crowd.watchers.now.items in
+    let old = places c.args.crowd.now.texts.items (map g.W.Watch.seen c.args.crowd.now.watchers.now.items) in
+    let mid = places c.run.new.crowd.texts.items (map g.W.Watch.seen c.run.new.crowd.watchers.now.items) in
+    let new = places c.tell_answer.new.crowd.texts.items (map g.W.Watch.seen c.tell_answer.new.crowd.watchers.now.items) in
     let heard = subst (λ l. HeardBy l s.machine m old mid p.0) c.as_slice.ensures.value p.1 in
     let r = subst (λ z. Rests k v p.0 (turn_told z) m) c.in-Answered.is p.2 in
     let stands = r.2 in
@@ -59,15 +60,15 @@ returns-in_ok-answer-in-Answered-clause-search g c = λ k v it st en.
 pub returns-in_err-found-clause-begins : goal.returns-in_err-found-clause-begins
 unfolding constants_of
 returns-in_err-found-clause-begins g c = λ k x it st.
-    let old = map g.W.Watch.seen c.args.crowd.now.watchers.now.items in
-    let new = map g.W.Watch.seen c.run.new.crowd.watchers.now.items in
+    let old = places c.args.crowd.now.texts.items (map g.W.Watch.seen c.args.crowd.now.watchers.now.items) in
+    let new = places c.run.new.crowd.texts.items (map g.W.Watch.seen c.run.new.crowd.watchers.now.items) in
     subst (λ l. HearsPart l x.notes old new) c.as_slice.ensures.value (c.run.ensures.begins k x st)
 
 pub returns-in-Ended-clause-begins : goal.returns-in-Ended-clause-begins
 unfolding constants_of
 returns-in-Ended-clause-begins g c = λ k x it st.
-    let old = map g.W.Watch.seen c.args.crowd.now.watchers.now.items in
-    let new = map g.W.Watch.seen c.run.new.crowd.watchers.now.items in
+    let old = places c.args.crowd.now.texts.items (map g.W.Watch.seen c.args.crowd.now.watchers.now.items) in
+    let new = places c.run.new.crowd.texts.items (map g.W.Watch.seen c.run.new.crowd.watchers.now.items) in
     subst (λ l. HearsPart l x.notes old new) c.as_slice.ensures.value (c.run.ensures.begins k x st)
 
 pub returns-in_err-tell_answer-in-Answered-clause-begins : goal.returns-in_err-tell_answer-in-Answered-clause-begins
@@ -76,9 +77,9 @@ returns-in_err-tell_answer-in-Answered-clause-begins g c = λ k x it st.
     let s = c.args.self.now in
     let m = c.run.new.machine in
     let cs = s.constants.items in
-    let old = map g.W.Watch.seen c.args.crowd.now.watchers.now.items in
-    let mid = map g.W.Watch.seen c.run.new.crowd.watchers.now.items in
-    let new = map g.W.Watch.seen c.tell_answer.new.crowd.watchers.now.items in
+    let old = places c.args.crowd.now.texts.items (map g.W.Watch.seen c.args.crowd.now.watchers.now.items) in
+    let mid = places c.run.new.crowd.texts.items (map g.W.Watch.seen c.run.new.crowd.watchers.now.items) in
+    let new = places c.tell_answer.new.crowd.texts.items (map g.W.Watch.seen c.tell_answer.new.crowd.watchers.now.items) in
     let p = c.in_ok-found.ensures.stands k x st in
     let heard = subst (λ l. HeardBy l s.machine m old mid p.0) c.as_slice.ensures.value p.1 in
     let r = subst (λ z. Rests k x p.0 (turn_told z) m) c.in-Answered.is p.2 in
@@ -92,9 +93,9 @@ returns-in_err-answer-in-Answered-clause-begins g c = λ k x it st.
     let s = c.args.self.now in
     let m = c.run.new.machine in
     let cs = s.constants.items in
-    let old = map g.W.Watch.seen c.args.crowd.now.watchers.now.items in
-    let mid = map g.W.Watch.seen c.run.new.crowd.watchers.now.items in
-    let new = map g.W.Watch.seen c.tell_answer.new.crowd.watchers.now.items in
+    let old = places c.args.crowd.now.texts.items (map g.W.Watch.seen c.args.crowd.now.watchers.now.items) in
+    let mid = places c.run.new.crowd.texts.items (map g.W.Watch.seen c.run.new.crowd.watchers.now.items) in
+    let new = places c.tell_answer.new.crowd.texts.items (map g.W.Watch.seen c.tell_answer.new.crowd.watchers.now.items) in
     let p = c.in_ok-found.ensures.stands k x st in
     let heard = subst (λ l. HeardBy l s.machine m old mid p.0) c.as_slice.ensures.value p.1 in
     let r = subst (λ z. Rests k x p.0 (turn_told z) m) c.in-Answered.is p.2 in
@@ -108,9 +109,9 @@ returns-in_ok-answer-in-Answered-clause-begins g c = λ k x it st.
     let s = c.args.self.now in
     let m = c.run.new.machine in
     let cs = s.constants.items in
-    let old = map g.W.Watch.seen c.args.crowd.now.watchers.now.items in
-    let mid = map g.W.Watch.seen c.run.new.crowd.watchers.now.items in
-    let new = map g.W.Watch.seen c.tell_answer.new.crowd.watchers.now.items in
+    let old = places c.args.crowd.now.texts.items (map g.W.Watch.seen c.args.crowd.now.watchers.now.items) in
+    let mid = places c.run.new.crowd.texts.items (map g.W.Watch.seen c.run.new.crowd.watchers.now.items) in
+    let new = places c.tell_answer.new.crowd.texts.items (map g.W.Watch.seen c.tell_answer.new.crowd.watchers.now.items) in
     let p = c.in_ok-found.ensures.stands k x st in
     let heard = subst (λ l. HeardBy l s.machine m old mid p.0) c.as_slice.ensures.value p.1 in
     let r = subst (λ z. Rests k x p.0 (turn_told z) m) c.in-Answered.is p.2 in
