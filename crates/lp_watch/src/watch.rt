@@ -10,7 +10,7 @@ use std::alloc::Global;
 
 /// A watcher of a search. It takes notes until it has enough, and gives a report of them.
 pub trait Watch: Drop {
-    /// Its tally, the notes where it tells them, and how many it still takes.
+    /// Its tally, the notes where it tells them, how many it still takes, and how its report is made of tally and notes.
     ghost seen: { Self → Seen };
 
     /// Takes a note. `Done` comes exactly where it was to take at most one more.
@@ -19,7 +19,7 @@ pub trait Watch: Drop {
         ensures done { IfOk result (λ go. (go ≡ Go.Done) ↔ (stays (seen self.old).left ≡ false)) }
         ensures memory { OnErr result (seen self.new ≡ seen self.old) };
 
-    /// Its report, whole lines: one for each note where it tells them, else that of its counts.
+    /// Its report, whole lines.
     fn text(&self, alloc: Global) -> Result<Vec<u8>, Memory>
         ensures { IfOk result (λ bytes. bytes.items ≡ report_of (seen self.now)) };
 }
