@@ -127,19 +127,19 @@ module _ (told : Option Held) (name query : List ℕ) (watched : Bool) (steps an
       asks = ready.asks;
       flat = query_flat ready.asks;
       heard = λ d P gs f n j m o is_over. (
-          run.now,
-          run_heard _ P n j m (first_state ready.asks gs steps answers) (map here seen) o is_over refl p.search run.now (ready.begins d P gs f n) ready.going ready.constants (run.whole e),
-          run.here_now,
-        );
+        run.now,
+        run_heard _ P n j m (first_state ready.asks gs steps answers) (map here seen) o is_over refl p.search run.now (ready.begins d P gs f n) ready.going ready.constants (run.whole e),
+        run.here_now,
+      );
     };
     always = inr (record {
       asks = ready.asks;
       flat = query_flat ready.asks;
       heard = λ d P gs f n j m o is_over. (
-          run.now,
-          run_heard_so_far _ P n j m (first_state ready.asks gs steps answers) (map here seen) o is_over refl p.search run.now (ready.begins d P gs f n) ready.going ready.constants run.part,
-          run.here_now,
-        );
+        run.now,
+        run_heard_so_far _ P n j m (first_state ready.asks gs steps answers) (map here seen) o is_over refl p.search run.now (ready.begins d P gs f n) ready.going ready.constants run.part,
+        run.here_now,
+      );
     });
     refused = λ e n. absurd (let q = sym e ∙ of_search n in cc);
   }

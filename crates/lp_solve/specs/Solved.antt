@@ -33,7 +33,7 @@ pub record IsAnswered (told : Option Held) (name query : List ℕ) (q : IsQuery 
   pub flat : Flattens q
   pub search : (d : Declared) (P : List Clause) (gs : Goals) → IsFlat q d P gs → (n j m : ℕ) →
       IsWritten (IsExact P n (first_state q gs steps answers)) (entries q) (names q) (MayReport (constants q) watchers (told_by P n j m (first_state q gs steps answers)))
-          (told_by P n j m (first_state q gs steps answers)) status text
+      (told_by P n j m (first_state q gs steps answers)) status text
       ⊎ IsBegun (entries q) (names q) (told_by P n j m (first_state q gs steps answers)) text
   pub right : (d : Declared) (P : List Clause) (gs : Goals) → IsFlat q d P gs → IsTrue (IsFailedSearch InAny d P) d (source_clauses q.loaded.program) (query_of q.bank q.typed) (entries q) (names q) text
 
