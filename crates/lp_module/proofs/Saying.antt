@@ -3,6 +3,7 @@ use Rattle.std.proofs.Common.{◌≡◌, ℕ, zero, suc, ◌+◌, List, [], ◌�
 use Rattle.std.specs.Prelude.{◌⊎◌}
 use Rattle.std.specs.List.{range_with_len}
 use Rattle.lp_syntax.specs.declared.text.Sentence.{Sentence}
+use Rattle.lp_sig.specs.AsWritten.{DeclaresTypes}
 use Rattle.lp_sig.specs.Modules.{HasSeen}
 use Rattle.lp_sig.specs.Named.{SeesTheirs}
 use Rattle.lp_sig.specs.declared.signature.Signature.{Signature}
@@ -30,13 +31,13 @@ range_more a n numbers numbers_then last same pushed is =
 
 -- a refusal of typing or of form, as one of the module
 pub untyped_inside : (own : Signature) (used : List Signature) (text : List ℕ) (lines : List Sentence) (names : Signature) (e : ModuleFault) → HasSeen
-    own used text lines names → SeesTheirs own used text lines names →
+    own used text lines names → SeesTheirs own used text lines names → DeclaresTypes own used text lines names →
     (e ≡ fault.Memory) ⊎ IsUntyped names text lines e → IsWrongInside own used text lines e
-untyped_inside own used text lines names e seen theirs (inl is) = inl is
-untyped_inside own used text lines names e seen theirs (inr u) = inr (inr (names, seen, theirs, inl u))
+untyped_inside own used text lines names e seen theirs declared (inl is) = inl is
+untyped_inside own used text lines names e seen theirs declared (inr u) = inr (inr (names, seen, theirs, declared, inl u))
 
 pub unformed_inside : (own : Signature) (used : List Signature) (text : List ℕ) (lines : List Sentence) (names : Signature) (b : Nodes)
-    (ss : List TypedSentence) (e : ModuleFault) → HasSeen own used text lines names → SeesTheirs own used text lines names →
+    (ss : List TypedSentence) (e : ModuleFault) → HasSeen own used text lines names → SeesTheirs own used text lines names → DeclaresTypes own used text lines names →
     AreSentences names text b (said lines) ss → (e ≡ fault.Memory) ⊎ IsFirstUnformed (declared_schemes names) b ss e → IsWrongInside own used text lines e
-unformed_inside own used text lines names b ss e seen theirs a (inl is) = inl is
-unformed_inside own used text lines names b ss e seen theirs a (inr u) = inr (inr (names, seen, theirs, inr (unformed names text b lines ss e a u)))
+unformed_inside own used text lines names b ss e seen theirs declared a (inl is) = inl is
+unformed_inside own used text lines names b ss e seen theirs declared a (inr u) = inr (inr (names, seen, theirs, declared, inr (unformed names text b lines ss e a u)))

@@ -12,6 +12,7 @@ use Rattle.lp_syntax.specs.declared.text.RawTerm.{RawTerm}
 use Rattle.lp_syntax.specs.declared.text.Sentence.{Sentence}
 use Rattle.lp_term.specs.Frame.{IsBetaForm, IsDeepBeta}
 use Rattle.lp_term.specs.declared.reduce.TermRefusal.TheVariants.{Deep}
+use Rattle.lp_sig.specs.AsWritten.{DeclaresTypes}
 use Rattle.lp_sig.specs.ModuleFaults.{IsDeclarationRefusal}
 use Rattle.lp_sig.specs.Modules.{HasSeen}
 use Rattle.lp_sig.specs.Named.{SeesTheirs}
@@ -101,7 +102,7 @@ IsUndeclared own used text lines e = (f : ModuleSigFault) × IsDeclarationRefusa
 
 -- all declarations are taken: of the names that the module sees a sentence has no typing, or not the form of a clause
 abbrev pub IsUnsaid : (own : Signature) (used : List Signature) → List ℕ → List Sentence → ModuleFault → Type 0
-IsUnsaid own used text lines e = (names : Signature) × HasSeen own used text lines names × SeesTheirs own used text lines names × (IsUntyped names text lines e ⊎ IsUnformed names text lines e)
+IsUnsaid own used text lines e = (names : Signature) × HasSeen own used text lines names × SeesTheirs own used text lines names × DeclaresTypes own used text lines names × (IsUntyped names text lines e ⊎ IsUnformed names text lines e)
 
 -- why a module with the right header is refused: a declaration, the typing of a sentence or the form of one
 abbrev pub IsWrongInside : (own : Signature) (used : List Signature) → List ℕ → List Sentence → ModuleFault → Type 0

@@ -1,6 +1,10 @@
 -- The entries of abbreviations are those of the declared names, each with the body at its place.
+use Rattle.lp_sig.specs.declared.names.Names.{Names}
+use Rattle.lp_sig.specs.inner.Reading.{AreSettled}
+use Rattle.lp_sig.specs.Types.{Definition, HasBody}
+use Rattle.lp_term.specs.Nodes.{Nodes}
 use Rattle.std.proofs.Common.{◌≡◌, ℕ, zero, suc, ◌+◌, ◌<◌, List, [], ◌∷◌, ◌++◌, length, map, take, get_or, Bool, true, false, true≢false, Some, refl, sym, ap, subst, ◌∙◌, arith}
-use Rattle.std.specs.Prelude.{if◌then◌else◌, option_map, ◌||◌}
+use Rattle.std.specs.Prelude.{if◌then◌else◌, option_map, ◌||◌, is_some}
 use Rattle.std.specs.Str.{bytes_eq}
 use Rattle.std.proofs.lemmas.Slice.Eq.{bytes_eq-Decides}
 use Rattle.std.proofs.lemmas.List.{map-append, take_more, length-map}
@@ -9,9 +13,9 @@ use Rattle.lp_sig.specs.Places.{first_place}
 use Rattle.lp_sig.specs.Rows.{Row}
 use Rattle.lp_sig.specs.Standard.{standard_kinds}
 use Rattle.lp_sig.specs.Said.{Said, a_kind, an_abbreviation, is_among, names_in, firsts, abbreviations_among}
-use Rattle.lp_sig.specs.Knowing.{head_row}
+use Rattle.lp_sig.specs.Knowing.{head_row, Knows}
 use Rattle.lp_sig.specs.Abbreviations.{abbreviation_names, Seen}
-use Rattle.lp_sig.specs.Holding.{body_of, KnowsSeen}
+use Rattle.lp_sig.specs.Holding.{body_of, KnowsSeen, IsTree, HoldsBodies}
 use Rattle.lp_sig.specs.Entries.{parameters_row, AreAbbreviations, HaveBodies}
 use Rattle.lp_sig.specs.declared.bodies.Body.{Body}
 use Rattle.lp_sig.specs.declared.names.Head.{Head}
@@ -116,16 +120,36 @@ name_at [] k d h = absurd (omega (arith, h))
 name_at (x ∷ xs) zero d h = refl
 name_at (x ∷ xs) (suc k) d h = name_at xs k d (omega (arith, h))
 
+-- the body of an entry is that of its name
+pub body_listed : (names : Names) (b : Nodes) (bodies : List Body) (said : List (Row Said)) (defs : List (Row Definition)) (entries : List AbbreviationEntry) → Knows names said → HoldsBodies b bodies said defs → map parameters_row entries ≡ map head_row names.heads.items → HaveBodies bodies 0 entries →
+    (i : ℕ) (d : AbbreviationEntry) → i < length entries → IsTree b (HasBody said defs (get_or entries i d).name.items) (get_or entries i d).body
+body_listed names b bodies said defs entries k holds rows have i d h =
+    let name = (get_or entries i d).name.items in
+    let are : names_in (map parameters_row entries) ≡ abbreviation_names said = ap names_in (rows ∙ k.heads) in
+    let there : name ≡ get_or (abbreviation_names said) i [] = name_at entries i d h ∙ ap (λ ns. get_or ns i []) are in
+    let l : i < length (abbreviation_names said) = (let a = ap length are in let b = length-map (map parameters_row entries) (λ r. r.0) in let c = length-map entries parameters_row in omega (arith, a, b, c, h)) in
+    let first : first_place name (abbreviation_names said) ≡ Some i = ap (λ n. first_place n (abbreviation_names said)) there ∙ place_itself said i [] l in
+    holds name i (get_or entries i d).body first (body_at_place bodies 0 entries i d i (omega arith) h have)
+
 -- all entries
 pub all_listed : (making : Making) (z : Seen) (entries : List AbbreviationEntry) → KnowsSeen making z → map parameters_row entries ≡ map head_row making.names.heads.items → HaveBodies making.bodies.bodies.items 0 entries → AreAbbreviations making.bodies.types.bank z entries
 all_listed making z entries k rows have = record {
   rows = rows ∙ k.names.heads;
   bodies = λ i d h.
-      let name = (get_or entries i d).name.items in
-      let names : names_in (map parameters_row entries) ≡ abbreviation_names z.said = ap names_in (rows ∙ k.names.heads) in
-      let there : name ≡ get_or (abbreviation_names z.said) i [] = name_at entries i d h ∙ ap (λ ns. get_or ns i []) names in
-      let l : i < length (abbreviation_names z.said) = (let a = ap length names in let b = length-map (map parameters_row entries) (λ r. r.0) in let c = length-map entries parameters_row in omega (arith, a, b, c, h)) in
-      let first : first_place name (abbreviation_names z.said) ≡ Some i = ap (λ n. first_place n (abbreviation_names z.said)) there ∙ place_itself z.said i [] l in
-      let tree = k.types.holds name i (get_or entries i d).body first (body_at_place making.bodies.bodies.items 0 entries i d i (omega arith) h have) in
+      let tree = body_listed making.names making.bodies.types.bank making.bodies.bodies.items z.said z.definitions entries k.names k.types.holds rows have i d h in
       record { inside = tree.0; tree = tree.1 };
 }
+
+-- each has a body
+pub all_settled : (names : Names) (bodies : List Body) (said : List (Row Said)) (entries : List AbbreviationEntry) → Knows names said → map parameters_row entries ≡ map head_row names.heads.items → HaveBodies bodies 0 entries → AreSettled bodies said
+all_settled names bodies said entries k rows have place l =
+    let are = ap length (ap names_in (rows ∙ k.heads)) in
+    let b = length-map (map parameters_row entries) (λ r. r.0) in
+    let c = length-map entries parameters_row in
+    let inside : place < length entries = omega (arith, l, are, b, c) in
+    let e = some_entry entries place inside in
+    ap is_some (body_at_place bodies 0 entries place e place (omega arith) inside have)
+  where
+    some_entry : (es : List AbbreviationEntry) (i : ℕ) → i < length es → AbbreviationEntry
+    some_entry [] i h = absurd (omega (arith, h))
+    some_entry (x ∷ xs) i h = x

@@ -3,6 +3,7 @@ use Rattle.std.proofs.Common.{◌≡◌, ℕ, ◌<◌, List, [], ◌++◌, ◌�
 use Rattle.std.specs.Prelude.{IfSome}
 use Rattle.std.proofs.lemmas.List.Elements.{All-append, All-nil, All-cons, All-head, All-tail}
 use Rattle.lp_base.specs.declared.place.Spot.{Spot}
+use Rattle.lp_calculus.specs.Types.{Ty}
 use Rattle.lp_term.specs.Nodes.{Nodes, type_tree}
 use Rattle.lp_term.specs.declared.node.TypeId.{TypeId}
 use Rattle.lp_syntax.specs.declared.text.Declaration.{Declaration}
@@ -14,7 +15,7 @@ use Rattle.lp_sig.specs.Rows.{Row}
 use Rattle.lp_sig.specs.Said.{Said, said_in}
 use Rattle.lp_sig.specs.Standing.{seen_count, AllStand}
 use Rattle.lp_sig.specs.Faults.{IsSound, AreSound}
-use Rattle.lp_sig.specs.Types.{Definition, definitions_by, definitions_in, IsTypeOf, by_parameters, IsAlike, AreAlike}
+use Rattle.lp_sig.specs.Types.{Definition, in_text, as_tree, definitions_by, definitions_in, IsTypeOf, by_parameters, IsOfTree, IsAlike, AreAlike}
 use Rattle.lp_sig.specs.Abbreviations.{abbreviation_names, Seen, seen_text}
 use Rattle.lp_sig.specs.Holding.{body_of, IsTree, HoldsBodies}
 use Rattle.lp_sig.specs.declared.bodies.Body.{Body}
@@ -24,7 +25,7 @@ use Rattle.lp_sig.proofs.Growing.{body_stays, type_stays}
 -- a body that is an equal of the first one
 pub same_body : (b : Nodes) (bodies : List Body) (said : List (Row Said)) (defs : List (Row Definition)) (text : List ℕ) (name : Spot) (ps : List Spot) (ty : RawType) (place : ℕ) (known new : TypeId) (o : Option TypeId) → HoldsBodies b bodies said defs →
     first_place (spelled text name) (abbreviation_names said) ≡ Some place → body_of bodies place ≡ Some known → o ≡ Some new → IfSome o (IsTree b (IsTypeOf said defs text (by_parameters text ps) ty.nodes.items ty.root)) →
-    (known.0 < length b.types → known.0 ≡ new.0) → IsAlike said defs (spelled text name) (record { text = text; parameters = ps; body = ty })
+    (known.0 < length b.types → known.0 ≡ new.0) → IsAlike said defs (spelled text name) (in_text text ps ty)
 same_body b bodies said defs text name ps ty place known new o h at is some made same =
     let first = h (spelled text name) place known at is in
     let here = subst (λ o. IfSome o (IsTree b (IsTypeOf said defs text (by_parameters text ps) ty.nodes.items ty.root))) some made in
@@ -38,8 +39,12 @@ alike_stays said more defs others rows all = λ k d h.
     record {
       tree = a.tree;
       first = body_stays said more defs others row.0 a.tree a.first;
-      here = type_stays said more defs others row.1.text (by_parameters row.1.text row.1.parameters) row.1.body.nodes.items row.1.body.root a.tree a.here;
+      here = tree_stays row.1 a.tree a.here;
     }
+  where
+    tree_stays : (d : Definition) (t : Ty) → IsOfTree said defs d t → IsOfTree (said ++ more) (defs ++ others) d t
+    tree_stays (in_text text ps ty) t h = type_stays said more defs others text (by_parameters text ps) ty.nodes.items ty.root t h
+    tree_stays (as_tree u) t h = h
 
 -- a sentence without fault, and those of a text, where all stand
 module _ (from : ℕ) (z : Seen) (text : List ℕ) (all : AllStand from z) where
@@ -49,7 +54,7 @@ module _ (from : ℕ) (z : Seen) (text : List ℕ) (all : AllStand from z) where
   sentence_alike (Constants names ty) s = All-nil (λ r. IsAlike z.said z.definitions r.0 r.1)
   sentence_alike (Locals names ty) s = All-nil (λ r. IsAlike z.said z.definitions r.0 r.1)
   sentence_alike (Abbreviation name ps ty) s =
-      All-cons (λ r. IsAlike z.said z.definitions r.0 r.1) (spelled text name, record { text = text; parameters = ps.items; body = ty }) [] (s.1 (all_types_stand from z all text ty) (λ place at. all_bodies_stand from z all place))
+      All-cons (λ r. IsAlike z.said z.definitions r.0 r.1) (spelled text name, in_text text ps.items ty) [] (s.1 (all_types_stand from z all text ty) (λ place at. all_bodies_stand from z all place))
       (All-nil (λ r. IsAlike z.said z.definitions r.0 r.1))
   sentence_alike (Accumulate words) s = All-nil (λ r. IsAlike z.said z.definitions r.0 r.1)
   sentence_alike (AccumSig words) s = All-nil (λ r. IsAlike z.said z.definitions r.0 r.1)

@@ -15,7 +15,7 @@ use Rattle.lp_sig.specs.Places.{first_place}
 use Rattle.lp_sig.specs.Rows.{found}
 use Rattle.lp_sig.specs.Said.{is_among, names_in, said_in}
 use Rattle.lp_sig.specs.Standing.{DefinitionStands, seen_count, AllStand, BodyStands, TypeStands}
-use Rattle.lp_sig.specs.Types.{definitions_in}
+use Rattle.lp_sig.specs.Types.{Definition, in_text, as_tree, definitions_in}
 use Rattle.lp_sig.specs.Abbreviations.{abbreviation_names, Seen, seen_text}
 use Rattle.lp_sig.specs.Constants.{AreSettledIf}
 use Rattle.lp_sig.specs.Faults.{IsSoundAbbreviation, IsSound, AreSound}
@@ -57,18 +57,23 @@ module _ (z : Seen) (text : List ℕ) (lines : List Declaration) where
       let r = line_got lines i (Abbreviation s ps ty) e in
       (subst (IsSound (seen_count z) text (seen_text z text lines)) r.1 (all i (Abbreviation s ps ty) r.0)).0
 
+  -- a definition in a text stands
+  abbrev IfInText : Seen → ℕ → Definition → Type 0
+  IfInText z place (in_text text ps ty) = DefinitionStands z place text ps ty
+  IfInText z place (as_tree t) = Unit {0}
+
   -- the abbreviations of a text whose sentences have no fault
   pub all_stand : (bodies : List Body) → ((n : List ℕ) → is_among n (names_in z.bodies) ≡ true → is_among n (names_in z.said) ≡ true) → ((n : List ℕ) → is_among n (names_in z.definitions) ≡ true → is_among n (names_in z.said) ≡ true) →
       HoldsLines bodies (z.said ++ said_in text lines) (z.definitions ++ definitions_in text lines) text (line_of_text lines) → length bodies ≡ length (abbreviation_names (z.said ++ said_in text lines)) →
       AreAnnounced (seen_count z) bodies (z.said ++ said_in text lines) text (line_of_text lines) → AreSound (seen_count z) text (seen_text z text lines) lines → AllStand (seen_count z) (seen_text z text lines)
-  all_stand bodies of_bodies of_definitions holds count all sound place behind name d at is =
+  all_stand bodies of_bodies of_definitions holds count all sound place behind name written ps ty at is =
       let l = place_below name (abbreviation_names (z.said ++ said_in text lines)) place at in
       let a = all place behind (omega (arith, l, count)) in
       let s = its_sentence a.line a.name a.parameters a.body sound a.declares in
       let same = one_place name (spelled text a.name) (abbreviation_names (z.said ++ said_in text lines)) place at a.its_place in
-      let this = same_Some (record { text = text; parameters = a.parameters.items; body = a.body }) d (sym (line_defines z text lines bodies place holds a) ∙ ap (λ n. found n (z.definitions ++ definitions_in text lines)) (sym same) ∙ is) in
+      let this = same_Some (in_text text a.parameters.items a.body) (in_text written ps ty) (sym (line_defines z text lines bodies place holds a) ∙ ap (λ n. found n (z.definitions ++ definitions_in text lines)) (sym same) ∙ is) in
       let are = line_uses z text lines bodies place of_bodies of_definitions holds behind a in
-      subst (DefinitionStands (seen_text z text lines) place) this (record {
+      subst (IfInText (seen_text z text lines) place) this (record {
         apart = s.straight.head.1;
         words = s.words;
         ends = λ w c l. s.straight.ends (record { place = place; declared = a.its_place; way = w; word = subst (λ us. Contains us w) are c; leads = l });

@@ -18,7 +18,7 @@ use Rattle.lp_sig.specs.Rows.{Row, found}
 use Rattle.lp_sig.specs.Said.{Said, an_abbreviation, is_among, names_in, said_by, said_in}
 use Rattle.lp_sig.specs.Knowing.{is_known}
 use Rattle.lp_sig.specs.Abbreviations.{abbreviation_names}
-use Rattle.lp_sig.specs.Types.{Definition, definitions_by, definitions_in, HasBody}
+use Rattle.lp_sig.specs.Types.{Definition, in_text, definitions_by, definitions_in, HasBody}
 use Rattle.lp_sig.specs.Holding.{body_of, line_at, IsTree, HoldsBodies, HoldsLines, line_of_text, KnowsBodies}
 use Rattle.lp_sig.specs.Announced.{IsAnnounced, AreAnnounced}
 use Rattle.lp_sig.specs.declared.bodies.Body.{Body}
@@ -27,7 +27,7 @@ use Rattle.lp_sig.proofs.Growing.{found_more, body_stays}
 use Rattle.lp_sig.proofs.Settling.{before_or_at}
 use Rattle.lp_sig.proofs.Spoken.{said_more}
 
-last_some : {A : Type 0} (xs : List (Option A)) (o : Option A) (i : ℕ) (a : A) → get_or (xs ++ o ∷ []) i None ≡ Some a → ((get_or xs i None ≡ Some a) × (i < length xs)) ⊎ ((i ≡ length xs) × (o ≡ Some a))
+pub last_some : {A : Type 0} (xs : List (Option A)) (o : Option A) (i : ℕ) (a : A) → get_or (xs ++ o ∷ []) i None ≡ Some a → ((get_or xs i None ≡ Some a) × (i < length xs)) ⊎ ((i ≡ length xs) × (o ≡ Some a))
 last_some [] o zero a e = inr (refl, e)
 last_some [] o (suc i) a e = absurd (cc)
 last_some (x ∷ xs) o zero a e = inl (e, omega arith)
@@ -37,7 +37,7 @@ last_some {A} (x ∷ xs) o (suc i) a e = deeper (last_some xs o i a e)
     deeper (inl p) = let l = p.1 in inl (p.0, omega (arith, l))
     deeper (inr p) = inr (ap (λ n. suc n) p.0, p.1)
 
-place_front : (name : List ℕ) (ns ms : List (List ℕ)) (i : ℕ) → first_place name (ns ++ ms) ≡ Some i → i < length ns → first_place name ns ≡ Some i
+pub place_front : (name : List ℕ) (ns ms : List (List ℕ)) (i : ℕ) → first_place name (ns ++ ms) ≡ Some i → i < length ns → first_place name ns ≡ Some i
 place_front name [] ms i e h = absurd (omega (arith, h))
 place_front name (n ∷ ns) ms i e h = by (λ j f l. place_front name ns ms j f l) (bytes_eq name n) (first_place name (ns ++ ms)) refl e
   where
@@ -48,7 +48,7 @@ place_front name (n ∷ ns) ms i e h = by (λ j f l. place_front name ns ms j f 
     by f false None p e = absurd (cc)
     by f false (Some j) p e = let s : suc j ≡ i = same_Some (suc j) i e in ap (option_map (λ i. suc i)) (f j p (omega (arith, s, h))) ∙ e
 
-place_last : (name n : List ℕ) (ns : List (List ℕ)) (i : ℕ) → first_place name (ns ++ n ∷ []) ≡ Some i → i ≡ length ns → bytes_eq name n ≡ true
+pub place_last : (name n : List ℕ) (ns : List (List ℕ)) (i : ℕ) → first_place name (ns ++ n ∷ []) ≡ Some i → i ≡ length ns → bytes_eq name n ≡ true
 place_last name n [] i e h = by (bytes_eq name n) None refl e
   where
     by : (t : Bool) (o : Option ℕ) → o ≡ None → (if t then Some 0 else option_map (λ i. suc i) o) ≡ Some i → t ≡ true
@@ -62,7 +62,7 @@ place_last name n (m ∷ ms) i e h = by (λ j f k. place_last name n ms j f k) (
     by f false None p e = absurd (cc)
     by f false (Some j) p e = let s : suc j ≡ i = same_Some (suc j) i e in f j p (omega (arith, s, h))
 
-found_new : {A : Type 0} (n : List ℕ) (rows : List (Row A)) (a : A) → is_among n (names_in rows) ≡ false → found n (rows ++ (n, a) ∷ []) ≡ Some a
+pub found_new : {A : Type 0} (n : List ℕ) (rows : List (Row A)) (a : A) → is_among n (names_in rows) ≡ false → found n (rows ++ (n, a) ∷ []) ≡ Some a
 found_new n [] a h = ap (λ t. cond t (Some a) None) ((bytes_eq-Decides n n).1 refl)
 found_new {A} n (r ∷ rs) a h = by (found_new n rs a) (bytes_eq n r.0) h
   where
@@ -77,7 +77,7 @@ module _ (b : Nodes) (bodies : List Body) (said : List (Row Said)) (defs : List 
       (said ++ more) (defs ++ others) text declared
   same_names more others same told = record {
     holds = λ name place id at is. let h = k.holds name place id (ap (first_place name) (sym same) ∙ at) is in (h.0, body_stays said more defs others name (type_tree b id.0) h.1);
-    lines = λ name place line s ps ty at is d. found_more name defs others (record { text = text; parameters = ps.items; body = ty }) (k.lines name place line s ps ty (ap (first_place name) (sym same) ∙ at) is d);
+    lines = λ name place line s ps ty at is d. found_more name defs others (in_text text ps.items ty) (k.lines name place line s ps ty (ap (first_place name) (sym same) ∙ at) is d);
     count = k.count ∙ ap length (sym same);
     told = told;
   }
@@ -98,7 +98,7 @@ module _ (b : Nodes) (bodies : List Body) (said : List (Row Said)) (defs : List 
     names = names_fresh said (spelled text s) p fresh
 
     abbrev definition : Definition
-    definition = record { text = text; parameters = ps.items; body = ty }
+    definition = in_text text ps.items ty
 
     in_front : (name : List ℕ) (place : ℕ) → first_place name (abbreviation_names (said ++ (n, an_abbreviation p) ∷ [])) ≡ Some place → place < length bodies → first_place name (abbreviation_names said) ≡ Some place
     in_front name place at l = let c = k.count in place_front name (abbreviation_names said) (n ∷ []) place (ap (first_place name) (sym names) ∙ at) (omega (arith, l, c))
@@ -110,12 +110,12 @@ module _ (b : Nodes) (bodies : List Body) (said : List (Row Said)) (defs : List 
         by true e = absurd (true≢false (sym (k.told (spelled text s) e) ∙ unknown_untold (spelled text s) said fresh))
         by false e = e
 
-    same_type : (z : Spot) (qs : Vec Spot Global) (tz : RawType) → Some (declaration.Abbreviation s ps ty) ≡ Some (declaration.Abbreviation z qs tz) → definition ≡ record { text = text; parameters = qs.items; body = tz }
+    same_type : (z : Spot) (qs : Vec Spot Global) (tz : RawType) → Some (declaration.Abbreviation s ps ty) ≡ Some (declaration.Abbreviation z qs tz) → definition ≡ in_text text qs.items tz
     same_type z qs tz e =
         let f : declaration.Abbreviation s ps ty ≡ declaration.Abbreviation z qs tz = same_Some (declaration.Abbreviation s ps ty) (declaration.Abbreviation z qs tz) e in
         let g : ps ≡ qs = cc in
         let h : ty ≡ tz = cc in
-        ap (λ ps. record { text = text; parameters = ps.items; body = ty }) g ∙ ap (λ ty. record { text = text; parameters = qs.items; body = ty }) h
+        ap (λ ps. in_text text ps.items ty) g ∙ ap (λ ty. in_text text qs.items ty) h
 
     holds_new : HoldsBodies b new (said ++ (n, an_abbreviation p) ∷ []) (defs ++ (n, definition) ∷ [])
     holds_new = λ name place id at is. by name place id at (last_some (map (λ b. b.body) bodies) None place id (ap (λ l. slice_index_or l place None) (sym (map-append (λ b. b.body) bodies (record { body = None; line = Some line } ∷ []))) ∙ ap (λ bs. body_of bs place) (sym one) ∙ is))
@@ -136,11 +136,11 @@ module _ (b : Nodes) (bodies : List Body) (said : List (Row Said)) (defs : List 
         by name place l z qs tz at d (last_some (map (λ b. b.line) bodies) (Some line) place l (ap (λ l. slice_index_or l place None) (sym (map-append (λ b. b.line) bodies (record { body = None; line = Some line } ∷ []))) ∙ ap (λ bs. line_at bs place) (sym one) ∙ is))
       where
         by : (name : List ℕ) (place l : ℕ) (z : Spot) (qs : Vec Spot Global) (tz : RawType) → first_place name (abbreviation_names (said ++ (n, an_abbreviation p) ∷ [])) ≡ Some place → declared l ≡ Some (declaration.Abbreviation z qs tz) →
-            ((get_or (map (λ b. b.line) bodies) place None ≡ Some l) × (place < length (map (λ b. b.line) bodies))) ⊎ ((place ≡ length (map (λ b. b.line) bodies)) × (Some line ≡ Some l)) → found name (defs ++ (n, definition) ∷ []) ≡ Some (record { text = text; parameters = qs.items; body = tz })
+            ((get_or (map (λ b. b.line) bodies) place None ≡ Some l) × (place < length (map (λ b. b.line) bodies))) ⊎ ((place ≡ length (map (λ b. b.line) bodies)) × (Some line ≡ Some l)) → found name (defs ++ (n, definition) ∷ []) ≡ Some (in_text text qs.items tz)
         by name place l z qs tz at d (inl q) =
             let m = q.1 in
             let c = length-map bodies (λ b. b.line) in
-            found_more name defs ((n, definition) ∷ []) (record { text = text; parameters = qs.items; body = tz }) (k.lines name place l z qs tz (in_front name place at (omega (arith, m, c))) q.0 d)
+            found_more name defs ((n, definition) ∷ []) (in_text text qs.items tz) (k.lines name place l z qs tz (in_front name place at (omega (arith, m, c))) q.0 d)
         by name place l z qs tz at d (inr q) =
             let c = length-map bodies (λ b. b.line) in
             let m = k.count in
@@ -157,7 +157,7 @@ module _ (b : Nodes) (bodies : List Body) (said : List (Row Said)) (defs : List 
     }
 
 -- behind so many sentences of a text
-definitions_append : (text : List ℕ) (xs ys : List Declaration) → definitions_in text (xs ++ ys) ≡ definitions_in text xs ++ definitions_in text ys
+pub definitions_append : (text : List ℕ) (xs ys : List Declaration) → definitions_in text (xs ++ ys) ≡ definitions_in text xs ++ definitions_in text ys
 definitions_append text [] ys = refl
 definitions_append text (x ∷ xs) ys = ap (λ z. definitions_by text x ++ z) (definitions_append text xs ys) ∙ sym (append_assoc (definitions_by text x) (definitions_in text xs) (definitions_in text ys))
 
@@ -191,10 +191,10 @@ line_there (x ∷ xs) (suc i) d h is = line_there xs i d (omega (arith, h)) is
 pub abbreviation_announced : (b : Nodes) (bodies : List Body) (said : List (Row Said)) (defs : List (Row Definition)) (text : List ℕ)
     (declared : ℕ → Option Declaration) (d : Declaration) (s : Spot) (ps : Vec Spot Global) (ty : RawType) (p : ℕ) → d ≡ declaration.Abbreviation s ps
     ty → p ≡ length ps.items →
-    KnowsBodies b bodies (said ++ (spelled text s, an_abbreviation p) ∷ []) (defs ++ (spelled text s, record { text = text; parameters = ps.items; body = ty }) ∷ []) text declared → KnowsBodies b bodies (said ++ said_by text d) (defs ++ definitions_by text d) text declared
+    KnowsBodies b bodies (said ++ (spelled text s, an_abbreviation p) ∷ []) (defs ++ (spelled text s, in_text text ps.items ty) ∷ []) text declared → KnowsBodies b bodies (said ++ said_by text d) (defs ++ definitions_by text d) text declared
 abbreviation_announced b bodies said defs text declared d s ps ty p is same k =
     subst (λ d. KnowsBodies b bodies (said ++ said_by text d) (defs ++ definitions_by text d) text declared) (sym is)
-    (subst (λ p. KnowsBodies b bodies (said ++ (spelled text s, an_abbreviation p) ∷ []) (defs ++ (spelled text s, record { text = text; parameters = ps.items; body = ty }) ∷ []) text declared) same k)
+    (subst (λ p. KnowsBodies b bodies (said ++ (spelled text s, an_abbreviation p) ∷ []) (defs ++ (spelled text s, in_text text ps.items ty) ∷ []) text declared) same k)
 
 -- where each is announced: nothing new, or one more
 place_stays : (name : List ℕ) (ns ms : List (List ℕ)) (i : ℕ) → first_place name ns ≡ Some i → first_place name (ns ++ ms) ≡ Some i
@@ -206,7 +206,7 @@ place_stays name (n ∷ ns) ms i e = by (bytes_eq name n) (first_place name ns) 
     by false None p e f = absurd (cc)
     by false (Some j) p e f = ap (option_map (λ i. suc i)) (f j p) ∙ e
 
-at_end : {A : Type 0} (xs : List (Option A)) (o : Option A) (i : ℕ) → i ≡ length xs → get_or (xs ++ o ∷ []) i None ≡ o
+pub at_end : {A : Type 0} (xs : List (Option A)) (o : Option A) (i : ℕ) → i ≡ length xs → get_or (xs ++ o ∷ []) i None ≡ o
 at_end [] o zero e = refl
 at_end [] o (suc i) e = absurd (omega (arith, e))
 at_end (x ∷ xs) o zero e = absurd (omega (arith, e))

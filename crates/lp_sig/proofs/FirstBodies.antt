@@ -11,7 +11,7 @@ use Rattle.lp_sig.specs.Places.{first_place}
 use Rattle.lp_sig.specs.Rows.{Row, found}
 use Rattle.lp_sig.specs.Said.{is_among, names_in, said_in}
 use Rattle.lp_sig.specs.Loading.{Way, ways_out, HasNoCircle, there}
-use Rattle.lp_sig.specs.Types.{Definition, definitions_in}
+use Rattle.lp_sig.specs.Types.{Definition, in_text, as_tree, definitions_in}
 use Rattle.lp_sig.specs.Abbreviations.{abbreviation_names, uses_in, uses_of, bodies_in, Seen, seen_text, all_uses}
 use Rattle.lp_sig.specs.Holding.{HoldsLines, line_of_text}
 use Rattle.lp_sig.specs.Standing.{seen_count, BodyStands}
@@ -37,8 +37,13 @@ uses_past name (r ∷ rs) back h = by (bytes_eq name r.0) h (uses_past name rs b
     by true e f = absurd (true≢false e)
     by false e f = f e
 
+-- what the body of a definition uses
+abbrev uses_by : List (List ℕ) → Definition → List Way
+uses_by ns (in_text text ps ty) = uses_in ns text ty.nodes.items
+uses_by ns (as_tree t) = []
+
 -- the first sentence of a name in a text
-uses_found : (ns : List (List ℕ)) (text : List ℕ) (lines : List Declaration) (name : List ℕ) (d : Definition) → found name (definitions_in text lines) ≡ Some d → uses_of (bodies_in ns text lines) name ≡ uses_in ns d.text d.body.nodes.items
+uses_found : (ns : List (List ℕ)) (text : List ℕ) (lines : List Declaration) (name : List ℕ) (d : Definition) → found name (definitions_in text lines) ≡ Some d → uses_of (bodies_in ns text lines) name ≡ uses_by ns d
 uses_found ns text [] name d e = absurd (cc)
 uses_found ns text (Kinds a b ∷ ds) name d e = uses_found ns text ds name d e
 uses_found ns text (LocalKinds a b ∷ ds) name d e = uses_found ns text ds name d e
@@ -49,9 +54,9 @@ uses_found ns text (AccumSig a ∷ ds) name d e = uses_found ns text ds name d e
 uses_found ns text (Fixities a b c ∷ ds) name d e = uses_found ns text ds name d e
 uses_found ns text (Abbreviation s ps ty ∷ ds) name d e = by (bytes_eq name (spelled text s)) e (uses_found ns text ds name d)
   where
-    by : (t : Bool) → cond t (Some (record { text = text; parameters = ps.items; body = ty })) (found name (definitions_in text ds)) ≡ Some d → (found name (definitions_in text ds) ≡ Some d → uses_of (bodies_in ns text ds) name ≡ uses_in ns d.text d.body.nodes.items) →
-        (if t then uses_in ns text ty.nodes.items else uses_of (bodies_in ns text ds) name) ≡ uses_in ns d.text d.body.nodes.items
-    by true e f = ap (λ d. uses_in ns d.text d.body.nodes.items) (same_Some (record { text = text; parameters = ps.items; body = ty }) d e)
+    by : (t : Bool) → cond t (Some (in_text text ps.items ty)) (found name (definitions_in text ds)) ≡ Some d → (found name (definitions_in text ds) ≡ Some d → uses_of (bodies_in ns text ds) name ≡ uses_by ns d) →
+        (if t then uses_in ns text ty.nodes.items else uses_of (bodies_in ns text ds) name) ≡ uses_by ns d
+    by true e f = ap (uses_by ns) (same_Some (in_text text ps.items ty) d e)
     by false e f = f e
 
 -- the uses at the place of a name
@@ -67,7 +72,7 @@ way_at f (n ∷ ns) name place e = by (bytes_eq name n) (first_place name ns) re
 module _ (z : Seen) (text : List ℕ) (lines : List Declaration) where
   -- an abbreviation of the text is that of its line
   pub line_defines : (bodies : List Body) (place : ℕ) → HoldsLines bodies (z.said ++ said_in text lines) (z.definitions ++ definitions_in text lines) text (line_of_text lines) → (a : IsAnnounced bodies (z.said ++ said_in text lines) text (line_of_text lines) place) →
-      found (spelled text a.name) (z.definitions ++ definitions_in text lines) ≡ Some (record { text = text; parameters = a.parameters.items; body = a.body })
+      found (spelled text a.name) (z.definitions ++ definitions_in text lines) ≡ Some (in_text text a.parameters.items a.body)
   line_defines bodies place holds a = holds (spelled text a.name) place a.line a.name a.parameters a.body a.its_place a.at_line a.declares
 
   -- and it uses what the body there uses
@@ -78,7 +83,7 @@ module _ (z : Seen) (text : List ℕ) (lines : List Declaration) where
       let ns = abbreviation_names (z.said ++ said_in text lines) in
       way_at (uses_of (z.bodies ++ bodies_in ns text lines)) ns (spelled text a.name) place a.its_place ∙
       uses_past (spelled text a.name) z.bodies (bodies_in ns text lines) (untold (is_among (spelled text a.name) (names_in z.bodies)) (of_bodies (spelled text a.name))) ∙
-      uses_found ns text lines (spelled text a.name) (record { text = text; parameters = a.parameters.items; body = a.body })
+      uses_found ns text lines (spelled text a.name) (in_text text a.parameters.items a.body)
       (sym (found_past (spelled text a.name) z.definitions (definitions_in text lines) (untold (is_among (spelled text a.name) (names_in z.definitions)) (of_definitions (spelled text a.name)))) ∙ line_defines bodies place holds a)
     where
       unsaid : is_among (spelled text a.name) (names_in z.said) ≡ false
@@ -98,6 +103,6 @@ module _ (z : Seen) (text : List ℕ) (lines : List Declaration) where
       let are = line_uses bodies place of_bodies of_definitions holds behind a in (
         λ w c. use_inside (abbreviation_names (z.said ++ said_in text lines)) text a.body.nodes.items w (subst (λ us. Contains us w) are c),
         λ stands.
-            let d = stands place (there refl) behind (spelled text a.name) (record { text = text; parameters = a.parameters.items; body = a.body }) a.its_place (line_defines bodies place holds a) in
+            let d = stands place (there refl) behind (spelled text a.name) text a.parameters.items a.body a.its_place (line_defines bodies place holds a) in
             (record { announced = a; apart = d.apart; words = d.words; are = are }, d.ends),
       )

@@ -9,7 +9,7 @@ use Rattle.lp_sig.specs.Rows.{Row, found}
 use Rattle.lp_sig.specs.Standard.{standard_kinds}
 use Rattle.lp_sig.specs.Said.{Said, a_kind, an_abbreviation, is_among, names_in, firsts, declared_names, kinds_among, numbered}
 use Rattle.lp_sig.specs.Words.{standard_said, meaning_of, number_said}
-use Rattle.lp_sig.specs.Types.{one_or, kind_number_of, Definition, by_parameters, IsTypeOf, AreTypesOf, a_variable, kind_on, abbreviation_on, an_arrow, no_more, one_more, HasBody}
+use Rattle.lp_sig.specs.Types.{one_or, kind_number_of, Definition, by_parameters, IsTypeOf, AreTypesOf, a_variable, kind_on, abbreviation_on, an_arrow, no_more, one_more, IsBodyOf, written_body, given_body, HasBody}
 
 pub found_more : {A : Type 0} (name : List ℕ) (front back : List (Row A)) (a : A) → found name front ≡ Some a → found name (front ++ back) ≡ Some a
 found_more name [] back a some = absurd (cc)
@@ -71,9 +71,8 @@ module _ (said more : List (Row Said)) (defs others : List (Row Definition)) whe
     type_stays text ν nodes i t (a_variable s a n at v is e) = a_variable s a n at v is e
     type_stays text ν nodes i t (kind_on s a k ts at v means number parts e) =
         kind_on s a k ts at v (meaning_more said more _ _ means) (kind_number_more said more _ k number) (list_stays text ν nodes a.items ts parts) e
-    type_stays text ν nodes i t (abbreviation_on s a d body ts at v means declared apart inner parts e) =
-        abbreviation_on s a d body ts at v (meaning_more said more _ _ means) (found_more _ defs others d declared) apart
-        (type_stays d.text (by_parameters d.text d.parameters) d.body.nodes.items d.body.root body inner)
+    type_stays text ν nodes i t (abbreviation_on s a d body ts at v means declared inner parts e) =
+        abbreviation_on s a d body ts at v (meaning_more said more _ _ means) (found_more _ defs others d declared) (definition_stays d body inner)
         (list_stays text ν nodes a.items ts parts) e
     type_stays text ν nodes i t (an_arrow a b x y at left right e) = an_arrow a b x y at (type_stays text ν nodes a x left) (type_stays text ν nodes b y right) e
 
@@ -82,10 +81,13 @@ module _ (said more : List (Row Said)) (defs others : List (Row Definition)) whe
     list_stays text ν nodes is ts (no_more e f) = no_more e f
     list_stays text ν nodes is ts (one_more i rest t us e f first later) = one_more i rest t us e f (type_stays text ν nodes i t first) (list_stays text ν nodes rest us later)
 
+    definition_stays : (d : Definition) (t : Ty) → IsBodyOf said defs d t → IsBodyOf (said ++ more) (defs ++ others) d t
+    definition_stays d t (written_body text ps ty e apart is) = written_body text ps ty e apart (type_stays text (by_parameters text ps) ty.nodes.items ty.root t is)
+    definition_stays d t (given_body u e f) = given_body u e f
+
   pub body_stays : (name : List ℕ) (t : Ty) → HasBody said defs name t → HasBody (said ++ more) (defs ++ others) name t
   body_stays name t h = record {
     definition = h.definition;
     declared = found_more name defs others h.definition h.declared;
-    apart = h.apart;
-    is = type_stays h.definition.text (by_parameters h.definition.text h.definition.parameters) h.definition.body.nodes.items h.definition.body.root t h.is;
+    is = definition_stays h.definition t h.is;
   }

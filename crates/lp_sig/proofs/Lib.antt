@@ -68,3 +68,6 @@ pub mod TheirTypes
 pub mod SeenKinds
 pub mod SeenTypes
 pub mod Refusing
+pub mod GivenBodies
+pub mod Reading
+pub mod DeclaredTypes

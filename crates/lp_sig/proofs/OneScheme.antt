@@ -15,8 +15,8 @@ use Rattle.lp_sig.specs.Pieces.{spelled}
 use Rattle.lp_sig.specs.Rows.{Row}
 use Rattle.lp_sig.specs.Said.{Said}
 use Rattle.lp_sig.specs.Schemes.{type_variables, types_variables, met, first_variables, place, numbered_type}
-use Rattle.lp_sig.specs.Types.{Definition, given_for, on_arguments, by_parameters, IsNode, IsTypeOf, AreTypesOf, a_variable, kind_on, abbreviation_on, an_arrow, no_more, one_more}
-use Rattle.lp_sig.specs.Laws.{Agree}
+use Rattle.lp_sig.specs.Types.{Definition, given_for, on_arguments, by_parameters, IsNode, IsTypeOf, AreTypesOf, a_variable, kind_on, abbreviation_on, an_arrow, no_more, one_more, IsBodyOf, written_body, given_body}
+use Rattle.lp_sig.specs.Laws.{HasParameters, Agree}
 use Rattle.lp_sig.specs.Constants.{Written, IsVariable, IsNumbering, IsSchemeOf}
 use Rattle.lp_sig.specs.Ordering.{in_order}
 use Rattle.lp_sig.proofs.OneType.{one_type, same_word}
@@ -231,10 +231,10 @@ record IsPair (text : List ℕ) (nodes : List RawTypeNode) (ν : ℕ → Spot �
   here : ν at word ≡ Some x
   ordered : in_order text nodes at word ≡ Some y
 
-parameters_below : (d : Definition) (i : ℕ) (s : Spot) (n : ℕ) → by_parameters d.text d.parameters i s ≡ Some n → n < length d.parameters
-parameters_below d i s n e =
-    let l = place_below (spelled d.text s) (map (λ p. spelled d.text p) d.parameters) n e in
-    let m = length-map d.parameters (λ p. spelled d.text p) in
+parameters_below : (text : List ℕ) (ps : List Spot) (i : ℕ) (s : Spot) (n : ℕ) → by_parameters text ps i s ≡ Some n → n < length ps
+parameters_below text ps i s n e =
+    let l = place_below (spelled text s) (map (λ p. spelled text p) ps) n e in
+    let m = length-map ps (λ p. spelled text p) in
     omega (arith, l, m)
 
 module _ (said : List (Row Said)) (defs : List (Row Definition)) (agree : Agree said defs) where
@@ -247,12 +247,16 @@ module _ (said : List (Row Said)) (defs : List (Row Definition)) (agree : Agree 
         ((i : ℕ) (s : Spot) (n : ℕ) → ν i s ≡ Some n → n < k) → IsTypeOf said defs text ν nodes i t → Below k t
     type_below text ν nodes i t k f (a_variable s a n at v is e) = subst (Below k) (sym e) (f i s n is)
     type_below text ν nodes i t k f (kind_on s a c ts at v means number parts e) = subst (Below k) (sym e) (list_below text ν nodes a.items ts k f parts)
-    type_below text ν nodes i t k f (abbreviation_on s a d body ts at v means declared apart inner parts e) =
-        let inside = type_below d.text (by_parameters d.text d.parameters) d.body.nodes.items d.body.root body (length d.parameters) (parameters_below d) inner in
+    type_below text ν nodes i t k f (abbreviation_on s a d body ts at v means declared inner parts e) =
+        let inside = body_below d body (length a.items) (agree (spelled text s) d (length a.items) declared means) inner in
         subst (Below k) (sym e) (fill_below ts k (list_below text ν nodes a.items ts k f parts) body
-        (subst (λ n. Below n body) (agree (spelled text s) d (length a.items) declared means ∙ sym (list_length text ν nodes a.items ts parts))
-        inside))
+        (subst (λ n. Below n body) (sym (list_length text ν nodes a.items ts parts)) inside))
     type_below text ν nodes i t k f (an_arrow a b x y at left right e) = subst (Below k) (sym e) (type_below text ν nodes a x k f left, type_below text ν nodes b y k f right)
+
+    body_below : (d : Definition) (t : Ty) (n : ℕ) → HasParameters d n → IsBodyOf said defs d t → Below n t
+    body_below d t n h (written_body text ps ty e apart is) =
+        subst (λ n. Below n t) (subst (λ d. HasParameters d n) e h) (type_below text (by_parameters text ps) ty.nodes.items ty.root t (length ps) (parameters_below text ps) is)
+    body_below d t n h (given_body u e f) = absurd (subst (λ d. HasParameters d n) e h)
 
     list_below : (text : List ℕ) (ν : ℕ → Spot → Option ℕ) (nodes : List RawTypeNode) (places : List ℕ) (ts : List Ty) (k : ℕ) →
         ((i : ℕ) (s : Spot) (n : ℕ) → ν i s ≡ Some n → n < k) → AreTypesOf said defs text ν nodes places ts → AllBelow k (tys ts)
@@ -275,14 +279,13 @@ module _ (said : List (Row Said)) (defs : List (Row Definition)) (agree : Agree 
       in_canon i t (kind_on s a c ts at v means number parts e) =
           let l = all_in_canon a.items ts parts in
           (con c (tys l.0), kind_on s a c l.0 at v means number l.1 refl, subst (λ t. Renames (IsPair text nodes ν) t (con c (tys l.0))) (sym e) (refl, l.2))
-      in_canon i t (abbreviation_on s a d body ts at v means declared apart inner parts e) =
+      in_canon i t (abbreviation_on s a d body ts at v means declared inner parts e) =
           let l = all_in_canon a.items ts parts in
-          let inside = type_below d.text (by_parameters d.text d.parameters) d.body.nodes.items d.body.root body (length d.parameters) (parameters_below d) inner in (
+          let inside = body_below d body (length a.items) (agree (spelled text s) d (length a.items) declared means) inner in (
             on_arguments l.0 body,
-            abbreviation_on s a d body l.0 at v means declared apart inner l.1 refl,
+            abbreviation_on s a d body l.0 at v means declared inner l.1 refl,
             subst (λ t. Renames (IsPair text nodes ν) t (on_arguments l.0 body)) (sym e)
-                (fill_renames (IsPair text nodes ν) ts l.0 l.2 body (subst (λ n. Below n body)
-                (agree (spelled text s) d (length a.items) declared means ∙ sym (list_length text ν nodes a.items ts parts)) inside)),
+                (fill_renames (IsPair text nodes ν) ts l.0 l.2 body (subst (λ n. Below n body) (sym (list_length text ν nodes a.items ts parts)) inside)),
           )
       in_canon i t (an_arrow a b x y at left right e) =
           let l = in_canon a x left in

@@ -48,7 +48,7 @@ mutual
       (e ∙ (λ i. u.0 i ++ z.0 i) ∙ sym f, z.1)
 
 -- what texts say together
-said_together : (z : Seen) (ts : List Text) → ((seen_after z ts).said ≡ z.said ++ all_said ts) × ((seen_after z ts).definitions ≡ z.definitions ++ all_definitions ts)
+pub said_together : (z : Seen) (ts : List Text) → ((seen_after z ts).said ≡ z.said ++ all_said ts) × ((seen_after z ts).definitions ≡ z.definitions ++ all_definitions ts)
 said_together z [] = (sym (append-nil z.said), sym (append-nil z.definitions))
 said_together z (t ∷ ts) =
     let h = said_together (seen_text z t.0 t.1) ts in

@@ -1,6 +1,7 @@
 -- The signature of texts: kinds by their places, types of constants with as many variables as is said and with kinds that have names.
+use Rattle.lp_sig.specs.AsWritten.{HasWholeBodies}
 use Rattle.std.specs.Global.{Global}
-use Rattle.std.proofs.Common.{◌≡◌, ℕ, zero, suc, ◌+◌, ◌-◌, ◌<◌, min, List, [], ◌∷◌, ◌++◌, map, length, refl, sym, ap, subst, ◌∙◌, arith, Bool, true, false, Option, Some, None}
+use Rattle.std.proofs.Common.{◌≡◌, ℕ, zero, suc, ◌+◌, ◌-◌, ◌<◌, min, List, [], ◌∷◌, ◌++◌, map, length, refl, sym, ap, subst, ◌∙◌, arith, Bool, true, false, Option, Some, None, get_or}
 use Rattle.std.specs.Prelude.{◌||◌, String, Vec, nat_eq, if◌then◌else◌, option_map, slice_get, All}
 use Rattle.std.specs.List.{list_any, range_with_len}
 use Rattle.std.proofs.lemmas.Bool.{eqb-true}
@@ -13,21 +14,24 @@ use Rattle.lp_syntax.specs.declared.text.RawTypeNode.{RawTypeNode}
 use Rattle.lp_syntax.specs.declared.text.SignatureText.{SignatureText}
 use Rattle.lp_term.specs.Nodes.{type_tree}
 use Rattle.lp_sig.specs.Rows.{Row, found, kind_row}
-use Rattle.lp_sig.specs.Said.{Said, names_in, kinds_among, declared_names, numbered}
+use Rattle.lp_sig.specs.Said.{Said, names_in, kinds_among, declared_names, numbered, of_steps}
 use Rattle.lp_sig.specs.Schemes.{type_variables, types_variables, met, AllMet, first_variables, place, numbered_type}
 use Rattle.lp_sig.specs.Standard.{standard_kinds}
 use Rattle.lp_sig.specs.Words.{number_said}
-use Rattle.lp_sig.specs.Types.{Definition, given_for, one_or, kind_number_of, IsTypeOf, AreTypesOf, a_variable, kind_on, abbreviation_on, an_arrow, no_more, one_more}
+use Rattle.lp_sig.specs.Types.{Definition, given_for, one_or, kind_number_of, IsTypeOf, AreTypesOf, a_variable, kind_on, abbreviation_on, an_arrow, no_more, one_more, IsBodyOf, written_body, given_body, as_tree}
 use Rattle.lp_sig.specs.Constants.{Written, IsConstant, AreInStep, declared_constants}
 use Rattle.lp_sig.specs.Named.{named, all_named, kind_name, kind_names, named_in, IsWhole, AreWhole, IsOrdered}
+use Rattle.lp_sig.specs.Abbreviations.{Text, nothing_seen, one_text, seen_after}
 use Rattle.lp_sig.specs.Refusals.{IsAccepted, seen_in}
 use Rattle.lp_sig.specs.Refusals.{constants_of as constants_of_steps}
 use Rattle.lp_sig.specs.Sighted.{said_kinds}
 use Rattle.lp_sig.specs.declared.entries.ConstantEntry.{ConstantEntry}
 use Rattle.lp_sig.specs.declared.entries.KindEntry.{KindEntry}
 use Rattle.lp_sig.specs.declared.signature.Signature.{Signature}
+use Rattle.lp_sig.proofs.Agreeing.{texts_have_no_tree}
 use Rattle.lp_sig.proofs.Meetings.{all_met}
 use Rattle.lp_sig.proofs.OneScheme.{Renames, RenamesAll, renamed_same}
+use Rattle.lp_sig.proofs.OneSignature.{said_together}
 use Rattle.lp_sig.proofs.Sighting.{found_in_place, numbered_in_place, numbered_names, name_below, name_above}
 
 -- numbers by places
@@ -127,16 +131,24 @@ module _ (κ : ℕ → Option (List ℕ)) where
   given_known (t ∷ ts) zero d (h, hs) k = h
   given_known (t ∷ ts) (suc n) d (h, hs) k = given_known ts n d hs k
 
-module _ (said : List (Row Said)) (defs : List (Row Definition)) where
+-- the kinds of bodies that are given as trees
+abbrev AreTreesKnown : List (Row Said) → List (Row Definition) → Type 0
+AreTreesKnown said defs = (name : List ℕ) (t : Ty) → found name defs ≡ Some (as_tree t) → KindsKnown (kind_name (said_kinds said)) t
+
+module _ (said : List (Row Said)) (defs : List (Row Definition)) (trees : AreTreesKnown said defs) where
   mutual
     type_known : {text : List ℕ} {ν : ℕ → Spot → Option ℕ} {nodes : List RawTypeNode} {i : ℕ} {t : Ty} → IsTypeOf said defs text ν nodes i t → KindsKnown (kind_name (said_kinds said)) t
     type_known (a_variable s args n at v is e) = subst (KindsKnown (kind_name (said_kinds said))) (sym e) tt
     type_known (kind_on s args k ts at v means number parts e) = subst (KindsKnown (kind_name (said_kinds said))) (sym e) (kind_known _ said k number, list_known parts)
-    type_known (abbreviation_on s args d body ts at v means declared apart inner parts e) =
+    type_known (abbreviation_on s args d body ts at v means declared inner parts e) =
         let all = list_known parts in
         subst (KindsKnown (kind_name (said_kinds said))) (sym e)
-        (instance_known (kind_name (said_kinds said)) (λ n. given_for ts n (var n)) (λ n. given_known (kind_name (said_kinds said)) ts n (var n) all tt) body (type_known inner))
+        (instance_known (kind_name (said_kinds said)) (λ n. given_for ts n (var n)) (λ n. given_known (kind_name (said_kinds said)) ts n (var n) all tt) body (body_known _ declared inner))
     type_known (an_arrow a b x y at left right e) = subst (KindsKnown (kind_name (said_kinds said))) (sym e) (type_known left, type_known right)
+
+    body_known : {d : Definition} {t : Ty} (name : List ℕ) → found name defs ≡ Some d → IsBodyOf said defs d t → KindsKnown (kind_name (said_kinds said)) t
+    body_known name f (written_body text ps ty e apart is) = type_known is
+    body_known name f (given_body u e g) = subst (KindsKnown (kind_name (said_kinds said))) (sym g) (trees name u (f ∙ ap (λ d. Some d) e))
 
     list_known : {text : List ℕ} {ν : ℕ → Spot → Option ℕ} {nodes : List RawTypeNode} {places : List ℕ} {ts : List Ty} → AreTypesOf said defs text ν
         nodes places ts → AllKindsKnown (kind_name (said_kinds said)) (tys ts)
@@ -172,7 +184,7 @@ module _ (N : List ℕ) where
     all_renames no_types h = tt
     all_renames (types t ts) h = let r = met_front (type_variables t) (types_variables ts) h in (numbered_renames t r.0, all_renames ts r.1)
 
-same_count : (T : Ty) → length (first_variables (numbered_type T)) ≡ length (first_variables T)
+pub same_count : (T : Ty) → length (first_variables (numbered_type T)) ≡ length (first_variables T)
 unfolding first_variables numbered_type
 same_count T =
     let N = met [] (type_variables T) in
@@ -201,17 +213,20 @@ module _ (s : Signature) (said : List (Row Said)) (defs : List (Row Definition))
       All-cons (λ e. e.type_vars ≡ length (first_variables (type_tree s.bank e.scheme.0))) e es
       (h.scheme.counted ∙ sym (same_count h.scheme.replaced) ∙ ap (λ T. length (first_variables T)) (sym h.scheme.numbered)) (each_counted (suc n) rs es hs)
 
-  each_whole : kind_names s ≡ said_kinds said → (n : ℕ) (rows : List (Row Written)) (es : List ConstantEntry) → AreInStep
+  each_whole : AreTreesKnown said defs → kind_names s ≡ said_kinds said → (n : ℕ) (rows : List (Row Written)) (es : List ConstantEntry) → AreInStep
       (IsConstant s.bank said defs) n rows es → All (λ e. IsWhole (named_in s e.scheme)) es
-  each_whole names n [] [] h = All-nil (λ e. IsWhole (named_in s e.scheme))
-  each_whole names n [] (e ∷ es) h = absurd h
-  each_whole names n (r ∷ rs) [] h = All-nil (λ e. IsWhole (named_in s e.scheme))
-  each_whole names n (r ∷ rs) (e ∷ es) (h, hs) =
+  each_whole trees names n [] [] h = All-nil (λ e. IsWhole (named_in s e.scheme))
+  each_whole trees names n [] (e ∷ es) h = absurd h
+  each_whole trees names n (r ∷ rs) [] h = All-nil (λ e. IsWhole (named_in s e.scheme))
+  each_whole trees names n (r ∷ rs) (e ∷ es) (h, hs) =
       All-cons (λ e. IsWhole (named_in s e.scheme)) e es
       (subst (λ ns. IsWhole (named (kind_name ns) (type_tree s.bank e.scheme.0))) (sym names)
       (subst (λ T. IsWhole (named (kind_name (said_kinds said)) T)) (sym h.scheme.numbered)
-      (numbered_whole (kind_name (said_kinds said)) h.scheme.replaced (type_known said defs h.scheme.is))))
-      (each_whole names (suc n) rs es hs)
+      (numbered_whole (kind_name (said_kinds said)) h.scheme.replaced (type_known said defs trees h.scheme.is))))
+      (each_whole trees names (suc n) rs es hs)
+
+texts_known : (said : List (Row Said)) (ts : List Text) → AreTreesKnown said (seen_after nothing_seen ts).definitions
+texts_known said ts name t e = absurd (texts_have_no_tree ts name t (ap (found name) (sym (said_together nothing_seen ts).1) ∙ e))
 
 pub signature_ordered : (names : List (String Global)) (sources : List (Vec ℕ Global)) (texts : List SignatureText) (root : ℕ) (fixities : List (Row (Fixity × ℕ))) (s : Signature) →
     IsAccepted names sources texts root (map kind_row s.kinds.items) fixities s.bank s.abbreviations.items s.constants.items → IsOrdered s
@@ -222,5 +237,14 @@ signature_ordered names sources texts root fixities s a =
       kinds = numbers_by_place 8 8 s.kinds.items (kinds_among (declared_names z.said)) refl a.kinds_are;
       inside = each_inside s z.said z.definitions 32 rows s.constants.items a.constants_are;
       counts = each_counted s z.said z.definitions 32 rows s.constants.items a.constants_are;
-      whole = each_whole s z.said z.definitions (kind_names_are 8 s.kinds.items (kinds_among (declared_names z.said)) a.kinds_are) 32 rows s.constants.items a.constants_are;
+      whole = each_whole s z.said z.definitions (texts_known z.said (of_steps one_text sources texts a.steps)) (kind_names_are 8 s.kinds.items (kinds_among (declared_names z.said)) a.kinds_are) 32 rows s.constants.items a.constants_are;
     }
+
+pub bodies_whole : (names : List (String Global)) (sources : List (Vec ℕ Global)) (texts : List SignatureText) (root : ℕ) (fixities : List (Row (Fixity × ℕ))) (s : Signature) →
+    IsAccepted names sources texts root (map kind_row s.kinds.items) fixities s.bank s.abbreviations.items s.constants.items → HasWholeBodies s
+bodies_whole names sources texts root fixities s a k d l =
+    let z = seen_in names sources texts a.steps in
+    let e = get_or s.abbreviations.items k d in
+    let body = a.abbreviations_are.bodies k d l in
+    let known = body_known z.said z.definitions (texts_known z.said (of_steps one_text sources texts a.steps)) e.name.items body.tree.declared body.tree.is in
+    subst (λ ns. IsWhole (named (kind_name ns) (type_tree s.bank e.body.0))) (sym (kind_names_are 8 s.kinds.items (kinds_among (declared_names z.said)) a.kinds_are)) (known_whole (kind_name (said_kinds z.said)) (type_tree s.bank e.body.0) known)

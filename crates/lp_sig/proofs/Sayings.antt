@@ -1,5 +1,9 @@
 -- What the sentences of a module say, and the signatures that it sees, one after the other.
-use Rattle.std.proofs.Common.{◌≡◌, ℕ, ◌+◌, ◌<◌, List, [], ◌∷◌, ◌++◌, length, map, take, get_or, Option, Some, None, refl, sym, ap, subst, ◌∙◌, append_assoc, append-nil}
+use Rattle.lp_sig.specs.Holding.{KnowsBodies, line_of_module, declared_by_sentence}
+use Rattle.lp_sig.specs.Types.{Definition, definitions_by, definitions_in}
+use Rattle.lp_sig.specs.declared.bodies.Body.{Body}
+use Rattle.lp_term.specs.Nodes.{Nodes}
+use Rattle.std.proofs.Common.{◌≡◌, ℕ, ◌+◌, ◌<◌, List, [], ◌∷◌, ◌++◌, length, map, take, get_or, Option, Some, None, refl, sym, ap, subst, ◌∙◌, append_assoc, append-nil, zero, suc, arith}
 use Rattle.std.proofs.lemmas.List.{take_more}
 use Rattle.lp_base.specs.declared.place.Spot.{Spot}
 use Rattle.lp_syntax.specs.declared.text.Declaration.{Declaration}
@@ -82,3 +86,23 @@ signatures_more f ss i s rows h is =
     append_assoc rows (of_each f (take i ss)) (f s) ∙
     ap (λ l. rows ++ l) (ap (λ l. of_each f (take i ss) ++ l) (sym (append-nil (f s))) ∙ sym (each_append f (take i ss) (s ∷ [])) ∙ ap (of_each f)
     (ap (λ x. take i ss ++ x ∷ []) is ∙ sym (take_more ss i s h)))
+
+-- the bodies that are announced by a sentence
+pub its_bodies : (b : Nodes) (bodies : List Body) (text : List ℕ) (declared : ℕ → Option Declaration) (l : Sentence) (d : Declaration) → l ≡ Declares d → (said : List (Row Said)) (defs : List (Row Definition)) →
+    KnowsBodies b bodies (said ++ said_by text d) (defs ++ definitions_by text d) text declared → KnowsBodies b bodies (said ++ said_in text (declarations (l ∷ []))) (defs ++ definitions_in text (declarations (l ∷ []))) text declared
+its_bodies b bodies text declared l d is said defs k =
+    subst (λ l. KnowsBodies b bodies (said ++ said_in text (declarations (l ∷ []))) (defs ++ definitions_in text (declarations (l ∷ []))) text declared) (sym is)
+    (subst (λ r. KnowsBodies b bodies (said ++ r) (defs ++ (definitions_by text d ++ [])) text declared) (sym (append-nil (said_by text d)))
+    (subst (λ r. KnowsBodies b bodies (said ++ said_by text d) (defs ++ r) text declared) (sym (append-nil (definitions_by text d))) k))
+
+pub no_bodies : (b : Nodes) (bodies : List Body) (text : List ℕ) (declared : ℕ → Option Declaration) (l : Sentence) (raw : RawTerm) → l ≡ Says raw → (said : List (Row Said)) (defs : List (Row Definition)) →
+    KnowsBodies b bodies said defs text declared → KnowsBodies b bodies (said ++ said_in text (declarations (l ∷ []))) (defs ++ definitions_in text (declarations (l ∷ []))) text declared
+no_bodies b bodies text declared l raw is said defs k =
+    subst (λ l. KnowsBodies b bodies (said ++ said_in text (declarations (l ∷ []))) (defs ++ definitions_in text (declarations (l ∷ []))) text declared) (sym is)
+    (subst (λ r. KnowsBodies b bodies r (defs ++ []) text declared) (sym (append-nil said)) (subst (λ r. KnowsBodies b bodies said r text declared) (sym (append-nil defs)) k))
+
+-- the line of a sentence
+pub sentence_there : (lines : List Sentence) (i : ℕ) (l : Sentence) → i < length lines → l ≡ get_or lines i l → line_of_module lines i ≡ declared_by_sentence (Some l)
+sentence_there [] i l h is = absurd (omega (arith, h))
+sentence_there (x ∷ xs) zero l h is = ap (λ l. declared_by_sentence (Some l)) (sym is)
+sentence_there (x ∷ xs) (suc i) l h is = sentence_there xs i l (omega (arith, h)) is

@@ -14,7 +14,7 @@ use Rattle.lp_sig.specs.Rows.{Row, found}
 use Rattle.lp_sig.specs.Limits.{AreApart}
 use Rattle.lp_sig.specs.Said.{Said}
 use Rattle.lp_sig.specs.Abbreviations.{abbreviation_names}
-use Rattle.lp_sig.specs.Types.{Definition, by_parameters, IsTypeOf, HasBody}
+use Rattle.lp_sig.specs.Types.{Definition, in_text, by_parameters, IsTypeOf, written_body, HasBody}
 use Rattle.lp_sig.specs.Holding.{line_at, IsTree, HoldsBodies, HoldsLines}
 use Rattle.lp_sig.specs.declared.bodies.Body.{Body}
 
@@ -85,11 +85,11 @@ no_line_past first bodies place same h before i = by (nat_le place i) refl
 pub lines_stay : (old new : List Body) (said : List (Row Said)) (defs : List (Row Definition)) (text : List ℕ) (declared : ℕ → Option Declaration) → map (λ b. b.line) new ≡ map (λ b. b.line) old → HoldsLines old said defs text declared → HoldsLines new said defs text declared
 lines_stay old new said defs text declared same h = λ name place line s ps ty at is. h name place line s ps ty at (ap (λ l. slice_index_or l place None) (sym same) ∙ is)
 
-pub body_is : (b : Nodes) (said : List (Row Said)) (defs : List (Row Definition)) (name text : List ℕ) (ps slice : List Spot) (ty : RawType) (o : Option TypeId) → slice ≡ ps → AreApart text slice → found name defs ≡ Some (record { text = text; parameters = ps; body = ty }) →
+pub body_is : (b : Nodes) (said : List (Row Said)) (defs : List (Row Definition)) (name text : List ℕ) (ps slice : List Spot) (ty : RawType) (o : Option TypeId) → slice ≡ ps → AreApart text slice → found name defs ≡ Some (in_text text ps ty) →
     IfSome o (IsTree b (IsTypeOf said defs text (by_parameters text slice) ty.nodes.items ty.root)) → IfSome o (IsTree b (HasBody said defs name))
 body_is b said defs name text ps slice ty None same apart f h = tt
 body_is b said defs name text ps slice ty (Some id) same apart f h =
-    (h.0, record { definition = record { text = text; parameters = ps; body = ty }; declared = f; apart = subst (AreApart text) same apart; is = subst (λ ps. IsTypeOf said defs text (by_parameters text ps) ty.nodes.items ty.root (type_tree b id.0)) same h.1 })
+    (h.0, record { definition = in_text text ps ty; declared = f; is = written_body text ps ty refl (subst (AreApart text) same apart) (subst (λ ps. IsTypeOf said defs text (by_parameters text ps) ty.nodes.items ty.root (type_tree b id.0)) same h.1) })
 
 set_cases : (xs : List (Option TypeId)) (i : ℕ) (x : Option TypeId) (p : ℕ) (id : TypeId) → slice_index_or (slice_set xs i x) p None ≡ Some id → (slice_index_or xs p None ≡ Some id) ⊎ ((p ≡ i) × (x ≡ Some id))
 set_cases [] i x p id e = inl e

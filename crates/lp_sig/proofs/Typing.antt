@@ -92,7 +92,7 @@ module _ (b : Nodes) (said : List (Row Said)) (defs : List (Row Definition)) (te
     r.inside,
     abbreviation_on s args r.declared.definition r.body (map (λ t. type_tree b t.0) r.parts) at (ap begins_variable (sym spelt) ∙ name)
         (ap (λ w. meaning_of w said) (sym spelt) ∙ sym means ∙ ap (λ m. Some m) is ∙ ap (λ n. Some (an_abbreviation n)) (sym (stands (length places) p (count ∙ ap (on_count s (length places)) is)) ∙ ap length same))
-        (ap (λ w. found w defs) (sym spelt) ∙ r.declared.declared) r.declared.apart r.declared.is (types_at args.items r.parts (ap (map (type_done done)) (sym same) ∙ r.are)) r.tree,
+        (ap (λ w. found w defs) (sym spelt) ∙ r.declared.declared) r.declared.is (types_at args.items r.parts (ap (map (type_done done)) (sym same) ∙ r.are)) r.tree,
   )
     where
       stands : (n p : ℕ) → None ≡ on_count s n (an_abbreviation p) → n ≡ p

@@ -121,7 +121,7 @@ pub names_are : (es : List KindEntry) → names_in (map kind_said es) ≡ map (�
 names_are [] = refl
 names_are (e ∷ es) = ap (λ l. e.name.items ∷ l) (names_are es)
 
-kinds_by_then : (said : List (Row Said)) (u : Signature) → AreKinds (said ++ said_of u) (kind_names u) → AreKinds (said ++ map kind_said u.kinds.items) (kind_names u)
+pub kinds_by_then : (said : List (Row Said)) (u : Signature) → AreKinds (said ++ said_of u) (kind_names u) → AreKinds (said ++ map kind_said u.kinds.items) (kind_names u)
 kinds_by_then said u all k d l =
     let rows = map kind_said u.kinds.items in
     let back = map abbreviation_said u.abbreviations.items in

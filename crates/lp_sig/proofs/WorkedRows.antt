@@ -12,7 +12,7 @@ use Rattle.lp_sig.specs.Places.{first_place}
 use Rattle.lp_sig.specs.Rows.{Row}
 use Rattle.lp_sig.specs.Said.{Said, a_kind, an_abbreviation, each}
 use Rattle.lp_sig.specs.Words.{meaning_of}
-use Rattle.lp_sig.specs.Types.{kind_number_of, Definition, by_parameters, IsNode, IsTypeOf, a_variable, kind_on, abbreviation_on, an_arrow, no_more, one_more}
+use Rattle.lp_sig.specs.Types.{kind_number_of, Definition, in_text, written_body, by_parameters, IsNode, IsTypeOf, a_variable, kind_on, abbreviation_on, an_arrow, no_more, one_more}
 use Rattle.lp_sig.specs.Limits.{AreApart}
 use Rattle.lp_sig.specs.Worked.{text, pair, A, B, list_word, int_word, AreParts, seen, IsWorked}
 
@@ -24,7 +24,7 @@ module _ (parameters : Vec Spot Global) (body used : RawType) (none second both 
   defs = (seen parameters body).definitions
 
   abbrev definition : Definition
-  definition = record { text = text; parameters = parameters.items; body = body }
+  definition = in_text text parameters.items body
 
   list_means : meaning_of (codes "list") said ≡ Some (a_kind 1)
   unfolding meaning_of
@@ -95,12 +95,12 @@ module _ (parameters : Vec Spot Global) (body used : RawType) (none second both 
   used_type =
       subst (λ r. IsTypeOf said defs text one_number used.nodes.items r (arrow (con 1 (tys [])) (con 3 (tys (con 3 (tys (var 0 ∷ [])) ∷ []))))) (sym parts.used_root)
       (abbreviation_on pair both definition (arrow (var 0) (con 3 (tys (var 1 ∷ [])))) (con 1 (tys []) ∷ con 3 (tys (var 0 ∷ [])) ∷ []) (used_at 3 (Word pair both) (omega arith) refl) refl
-      (pair_means ∙ ap (λ l. Some (an_abbreviation (length l))) (sym parts.both_are)) refl apart body_type
+      (pair_means ∙ ap (λ l. Some (an_abbreviation (length l))) (sym parts.both_are)) refl (written_body text parameters.items body refl apart body_type)
       (one_more 0 (2 ∷ []) (con 1 (tys [])) (con 3 (tys (var 0 ∷ [])) ∷ []) parts.both_are refl int_type (one_more 2 [] (con 3 (tys (var 0 ∷ []))) [] refl refl list_type (no_more refl refl))) refl)
 
 pub worked : IsWorked
 worked parameters body used none second both parts = (
   refl,
-  record { definition = record { text = text; parameters = parameters.items; body = body }; declared = refl; apart = apart parameters body used none second both parts; is = body_type parameters body used none second both parts },
+  record { definition = in_text text parameters.items body; declared = refl; is = written_body text parameters.items body refl (apart parameters body used none second both parts) (body_type parameters body used none second both parts) },
   used_type parameters body used none second both parts,
 )

@@ -15,7 +15,7 @@ use Rattle.lp_sig.specs.Limits.{AreApart, IsRepeated}
 use Rattle.lp_sig.specs.Words.{IsNameFault, IsMeant, AreMeant, AreNumbered, IsHead, IsFirstFault, WordsStand, parameters_of, IsKindsFault, IsSoundType}
 use Rattle.lp_sig.specs.Standing.{BodyStands, TypeStands}
 use Rattle.lp_sig.specs.Constants.{Written, written_in, HasFewVariables, IsConstantsFault}
-use Rattle.lp_sig.specs.Types.{Definition, IsTypeOf, HasBody, IsAlike, by_parameters}
+use Rattle.lp_sig.specs.Types.{Definition, in_text, IsTypeOf, HasBody, IsAlike, by_parameters}
 use Rattle.lp_sig.specs.Abbreviations.{Seen, abbreviation_names, all_uses, LeadsBack}
 use Rattle.lp_sig.specs.declared.fault.SigFault.{SigFault}
 use Rattle.lp_sig.specs.declared.fault.SigFault.TheVariants as fault
@@ -60,7 +60,7 @@ pub record IsSoundAbbreviation (text : List ℕ) (z : Seen) (name : Spot) (ps : 
 
 -- a sentence of typeabbrev has the body of the first one of its name, if both stand
 abbrev pub HasFirstBody : ℕ → List ℕ → Seen → Spot → List Spot → RawType → Type 0
-HasFirstBody from text z name ps ty = TypeStands from z text ty → ((place : ℕ) → first_place (spelled text name) (abbreviation_names z.said) ≡ Some place → BodyStands from z place) → IsAlike z.said z.definitions (spelled text name) (record { text = text; parameters = ps; body = ty })
+HasFirstBody from text z name ps ty = TypeStands from z text ty → ((place : ℕ) → first_place (spelled text name) (abbreviation_names z.said) ≡ Some place → BodyStands from z place) → IsAlike z.said z.definitions (spelled text name) (in_text text ps ty)
 
 -- why a sentence is refused, where these constants were declared before it, and what holds of one that is taken, but for the names of
 -- constants

@@ -20,7 +20,7 @@ use Rattle.lp_sig.specs.Said.{Said, is_among, names_in}
 use Rattle.lp_sig.specs.Knowing.{Knows, number_of}
 use Rattle.lp_sig.specs.Loading.{Way}
 use Rattle.lp_sig.specs.Abbreviations.{abbreviation_names, Seen, KnowsUses, Text, seen_after}
-use Rattle.lp_sig.specs.Types.{Definition, IsTypeOf, HasBody, on_arguments, one_or, AreAlike}
+use Rattle.lp_sig.specs.Types.{Definition, in_text, IsTypeOf, HasBody, on_arguments, one_or, AreAlike}
 use Rattle.lp_sig.specs.declared.bodies.Body.{Body}
 use Rattle.lp_sig.specs.declared.names.Names.{Names}
 use Rattle.lp_sig.specs.declared.making.Making.{Making}
@@ -101,11 +101,11 @@ line_at bodies i = slice_index_or (map (λ b. b.line) bodies) i None
 -- each such line declares its name first
 abbrev pub HoldsLines : List Body → List (Row Said) → List (Row Definition) → List ℕ → (ℕ → Option Declaration) → Type 0
 HoldsLines bodies said defs text declared = (name : List ℕ) (place line : ℕ) (s : Spot) (ps : Vec Spot Global) (ty : RawType) → first_place name (abbreviation_names said) ≡ Some place → line_at bodies place ≡ Some line →
-    declared line ≡ Some (declaration.Abbreviation s ps ty) → found name defs ≡ Some (record { text = text; parameters = ps.items; body = ty })
+    declared line ≡ Some (declaration.Abbreviation s ps ty) → found name defs ≡ Some (in_text text ps.items ty)
 
 -- the definition of a line
 abbrev pub IsLine : List ℕ → Option Declaration → Definition → Type 0
-IsLine text d definition = (s : Spot) × (ps : Vec Spot Global) × (ty : RawType) × (d ≡ Some (declaration.Abbreviation s ps ty)) × (definition ≡ record { text = text; parameters = ps.items; body = ty })
+IsLine text d definition = (s : Spot) × (ps : Vec Spot Global) × (ty : RawType) × (d ≡ Some (declaration.Abbreviation s ps ty)) × (definition ≡ in_text text ps.items ty)
 
 -- the bodies so far, with the lines of the text at work
 pub record KnowsBodies (b : Nodes) (bodies : List Body) (said : List (Row Said)) (defs : List (Row Definition)) (text : List ℕ) (declared : ℕ → Option Declaration) : Type 0 where

@@ -32,3 +32,5 @@ pub mod Sighted
 pub mod Same
 pub mod Sights
 pub mod ModuleFaults
+pub mod AsWritten
+pub mod inner

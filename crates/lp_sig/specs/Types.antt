@@ -24,18 +24,18 @@ one_or (Some n) o = Some n
 unfoldable pub kind_number_of : List ℕ → List (Row Said) → Option ℕ
 kind_number_of name said = one_or (option_map (λ r. r.0) (found name standard_kinds)) (option_map (λ n. min n 4294967295) (number_said name said))
 
--- what an abbreviation is declared as: its parameters and its body, with the text in which they stand
-pub record Definition : Type 0 where
-  pub text : List ℕ
-  pub parameters : List Spot
-  pub body : RawType
+-- what an abbreviation is declared as: its parameters and its body, with the text in which they stand; or its body as a tree, where a
+-- signature has it
+pub data Definition : Type 0 where
+  in_text : (text : List ℕ) → (parameters : List Spot) → (body : RawType) → Definition
+  as_tree : (tree : Ty) → Definition
 
 abbrev pub definitions_by : List ℕ → Declaration → List (Row Definition)
 definitions_by text (Kinds ns n) = []
 definitions_by text (LocalKinds ns n) = []
 definitions_by text (Constants ns ty) = []
 definitions_by text (Locals ns ty) = []
-definitions_by text (Abbreviation name ps ty) = (spelled text name, record { text = text; parameters = ps.items; body = ty }) ∷ []
+definitions_by text (Abbreviation name ps ty) = (spelled text name, in_text text ps.items ty) ∷ []
 definitions_by text (Accumulate words) = []
 definitions_by text (AccumSig words) = []
 definitions_by text (Fixities ns f n) = []
@@ -72,7 +72,7 @@ mutual
         meaning_of (spelled text s) said ≡ Some (a_kind (length args.items)) → kind_number_of (spelled text s) said ≡ Some k → AreTypesOf said defs text ν nodes args.items ts → t ≡ con k (tys ts) → IsTypeOf said defs text ν nodes i t
     abbreviation_on : {text : List ℕ} {ν : ℕ → Spot → Option ℕ} {nodes : List RawTypeNode} {i : ℕ} {t : Ty} → (s : Spot) → (args : Vec ℕ Global) → (d : Definition) → (body : Ty) → (ts : List Ty) → IsNode nodes i (node.Word s args) →
         begins_variable (spelled text s) ≡ false → meaning_of (spelled text s) said ≡ Some (an_abbreviation (length args.items)) → found (spelled text s) defs ≡ Some d →
-        AreApart d.text d.parameters → IsTypeOf said defs d.text (by_parameters d.text d.parameters) d.body.nodes.items d.body.root body → AreTypesOf said defs text ν nodes args.items ts → t ≡ on_arguments ts body → IsTypeOf said defs text ν nodes i t
+        IsBodyOf said defs d body → AreTypesOf said defs text ν nodes args.items ts → t ≡ on_arguments ts body → IsTypeOf said defs text ν nodes i t
     an_arrow : {text : List ℕ} {ν : ℕ → Spot → Option ℕ} {nodes : List RawTypeNode} {i : ℕ} {t : Ty} → (a b : ℕ) → (x y : Ty) → IsNode nodes i (node.Arrow a b) → IsTypeOf said defs text ν nodes a x → IsTypeOf said defs text ν nodes b y →
         t ≡ arrow x y → IsTypeOf said defs text ν nodes i t
 
@@ -81,18 +81,27 @@ mutual
     one_more : {text : List ℕ} {ν : ℕ → Spot → Option ℕ} {nodes : List RawTypeNode} {places : List ℕ} {ts : List Ty} → (i : ℕ) → (more : List ℕ) → (t : Ty) → (us : List Ty) → places ≡ i ∷ more → ts ≡ t ∷ us →
         IsTypeOf said defs text ν nodes i t → AreTypesOf said defs text ν nodes more us → AreTypesOf said defs text ν nodes places ts
 
--- the tree of what a name is declared as, no parameter of which stands twice
+  -- the body of a definition, no parameter of which stands twice
+  pub data IsBodyOf (said : List (Row Said)) (defs : List (Row Definition)) : Definition → Ty → Type 0 where
+    written_body : {d : Definition} {t : Ty} → (text : List ℕ) → (ps : List Spot) → (ty : RawType) → d ≡ in_text text ps ty → AreApart text ps → IsTypeOf said defs text (by_parameters text ps) ty.nodes.items ty.root t → IsBodyOf said defs d t
+    given_body : {d : Definition} {t : Ty} → (tree : Ty) → d ≡ as_tree tree → t ≡ tree → IsBodyOf said defs d t
+
+-- the tree of what a name is declared as
 pub record HasBody (said : List (Row Said)) (defs : List (Row Definition)) (name : List ℕ) (t : Ty) : Type 0 where
   pub definition : Definition
   pub declared : found name defs ≡ Some definition
-  pub apart : AreApart definition.text definition.parameters
-  pub is : IsTypeOf said defs definition.text (by_parameters definition.text definition.parameters) definition.body.nodes.items definition.body.root t
+  pub is : IsBodyOf said defs definition t
+
+-- a definition is that of a tree
+abbrev pub IsOfTree : List (Row Said) → List (Row Definition) → Definition → Ty → Type 0
+IsOfTree said defs (in_text text ps ty) t = IsTypeOf said defs text (by_parameters text ps) ty.nodes.items ty.root t
+IsOfTree said defs (as_tree u) t = t ≡ u
 
 -- what a name is declared as here has the tree of what it is declared as first
 pub record IsAlike (said : List (Row Said)) (defs : List (Row Definition)) (name : List ℕ) (d : Definition) : Type 0 where
   pub tree : Ty
   pub first : HasBody said defs name tree
-  pub here : IsTypeOf said defs d.text (by_parameters d.text d.parameters) d.body.nodes.items d.body.root tree
+  pub here : IsOfTree said defs d tree
 
 abbrev pub AreAlike : List (Row Said) → List (Row Definition) → List (Row Definition) → Type 0
 AreAlike said defs rows = All (λ r. IsAlike said defs r.0 r.1) rows

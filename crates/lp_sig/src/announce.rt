@@ -6,8 +6,8 @@ ghost use Rattle.lp_syntax.specs.declared.text.RawType.{RawType};
 ghost use Rattle.lp_syntax.specs.declared.text.Declaration.{Declaration};
 ghost use Rattle.lp_syntax.specs.declared.text.Declaration.TheVariants as declaration;
 ghost use Rattle.lp_sig.specs.Pieces.{spelled};
-ghost use Rattle.lp_sig.specs.Types.{Definition, definitions_by, definitions_in};
-ghost use Rattle.lp_sig.specs.Holding.{KnowsBodies, line_of_text};
+ghost use Rattle.lp_sig.specs.Types.{Definition, in_text, definitions_by, definitions_in};
+ghost use Rattle.lp_sig.specs.Holding.{KnowsBodies, line_of_text, line_of_module, declared_by_sentence};
 ghost use Rattle.lp_sig.specs.Constants.{IsSettledAt};
 ghost use Rattle.lp_sig.specs.Announced.{AreAnnounced};
 ghost use Rattle.lp_sig.specs.Rows.{Row};
@@ -33,7 +33,7 @@ impl Making {
         ensures constants { self.new.constants ≡ self.old.constants }
         ensures types { self.new.bodies.types ≡ self.old.bodies.types }
         ensures uses { self.new.uses ≡ self.old.uses }
-        ensures bodies { OnOk result ((said : List (Row Said)) (defs : List (Row Definition)) (declared : ℕ → Option Declaration) (ps : Vec Spot Global) (ty : RawType) → Knows self.old.names said → declared line ≡ Some (declaration.Abbreviation name ps ty) → KnowsBodies self.old.bodies.types.bank self.old.bodies.bodies.items said defs source.now declared → KnowsBodies self.new.bodies.types.bank self.new.bodies.bodies.items (said ++ each source.now (an_abbreviation parameters) (name ∷ [])) (defs ++ (spelled source.now name, record { text = source.now; parameters = ps.items; body = ty }) ∷ []) source.now declared) }
+        ensures bodies { OnOk result ((said : List (Row Said)) (defs : List (Row Definition)) (declared : ℕ → Option Declaration) (ps : Vec Spot Global) (ty : RawType) → Knows self.old.names said → declared line ≡ Some (declaration.Abbreviation name ps ty) → KnowsBodies self.old.bodies.types.bank self.old.bodies.bodies.items said defs source.now declared → KnowsBodies self.new.bodies.types.bank self.new.bodies.bodies.items (said ++ each source.now (an_abbreviation parameters) (name ∷ [])) (defs ++ (spelled source.now name, in_text source.now ps.items ty) ∷ []) source.now declared) }
         ensures stay { OnOk result ((k : ℕ) → IsSettledAt self.old.bodies.bodies.items k → IsSettledAt self.new.bodies.bodies.items k) }
         ensures lines { OnOk result ((from : ℕ) (said : List (Row Said)) (defs : List (Row Definition)) (declared : ℕ → Option Declaration) (ps : Vec Spot Global) (ty : RawType) → Knows self.old.names said → declared line ≡ Some (declaration.Abbreviation name ps ty) → KnowsBodies self.old.bodies.types.bank self.old.bodies.bodies.items said defs source.now declared → AreAnnounced from self.old.bodies.bodies.items said source.now declared → AreAnnounced from self.new.bodies.bodies.items (said ++ each source.now (an_abbreviation parameters) (name ∷ [])) source.now declared) }
     {
@@ -104,6 +104,7 @@ impl Making {
         line: usize,
     ) -> Result<(), Memory>
         ensures names { OnOk result ((said : List (Row Said)) → Knows self.old.names said → Knows self.new.names (said ++ said_in source.now (declarations (sentence.now ∷ [])))) }
+        ensures bodies { OnOk result ((said : List (Row Said)) (defs : List (Row Definition)) (declared : ℕ → Option Declaration) → Knows self.old.names said → declared line ≡ declared_by_sentence (Some sentence.now) → KnowsBodies self.old.bodies.types.bank self.old.bodies.bodies.items said defs source.now declared → KnowsBodies self.new.bodies.types.bank self.new.bodies.bodies.items (said ++ said_in source.now (declarations (sentence.now ∷ []))) (defs ++ definitions_in source.now (declarations (sentence.now ∷ []))) source.now declared) }
         ensures constants { self.new.constants ≡ self.old.constants }
         ensures types { self.new.bodies.types ≡ self.old.bodies.types }
         ensures operators { self.new.operators ≡ self.old.operators }
@@ -117,6 +118,7 @@ impl Making {
     // The declarations of a module's text.
     pub(crate) fn announce_module(&mut self, source: &[u8], text: &ModuleText) -> Result<(), Memory>
         ensures names { OnOk result ((said : List (Row Said)) → Knows self.old.names said → Knows self.new.names (said ++ said_in source.now (declarations text.now.lines.items))) }
+        ensures bodies { OnOk result ((said : List (Row Said)) (defs : List (Row Definition)) → Knows self.old.names said → KnowsBodies self.old.bodies.types.bank self.old.bodies.bodies.items said defs source.now (line_of_module text.now.lines.items) → KnowsBodies self.new.bodies.types.bank self.new.bodies.bodies.items (said ++ said_in source.now (declarations text.now.lines.items)) (defs ++ definitions_in source.now (declarations text.now.lines.items)) source.now (line_of_module text.now.lines.items)) }
         ensures constants { self.new.constants ≡ self.old.constants }
         ensures types { self.new.bodies.types ≡ self.old.bodies.types }
         ensures operators { self.new.operators ≡ self.old.operators }

@@ -17,6 +17,7 @@ ghost use Rattle.lp_sig.specs.Worded.{HasWords, is_met_word, is_met, names_so_fa
 ghost use Rattle.lp_sig.specs.ModuleFaults.{IsNewFault};
 ghost use Rattle.lp_sig.specs.Sighted.{AreCounted, GrowsBehind, PutsBehind, IsTreeOf};
 ghost use Rattle.lp_sig.specs.Sights.{AreTheirEntries};
+ghost use Rattle.lp_sig.specs.inner.Reading.{CanDeclare, AreDeclaredAs};
 ghost use Rattle.lp_sig.specs.declared.constants.DeclaredType.{DeclaredType as IsDeclaredType};
 ghost use Rattle.lp_sig.specs.declared.constants.Known.TheVariants as known;
 
@@ -92,6 +93,7 @@ fn entry_of(alloc: Global, constant: &Constant, place: usize) -> Result<Constant
     ensures number { IfOk result (λ e. 32 + place < END_OF_NUMBERS) }
     ensures row { IfOk result (λ e. number_row e ≡ (constant.now.name.items, 32 + place)) }
     ensures typed { IfOk result (λ e. (d : IsDeclaredType) → constant.now.declared ≡ Some d → (e.type_vars ≡ d.type_vars) × (e.scheme ≡ d.scheme)) }
+    ensures full { IfOk result (λ e. is_some constant.now.declared ≡ true) }
 {
     let Some(declared) = constant.declared else {
         return Err(Memory);
@@ -128,6 +130,7 @@ impl Constants {
         ensures numbers { IfOk result (λ entries. (b : Nodes) (said : List (Row Said)) (defs : List (Row Definition)) (rows : List (Row Written)) → KnowsConstants b self.now said defs rows → HaveNumbers rows) }
         ensures rows { IfOk result (λ entries. map number_row entries.items ≡ numbered_names 32 (names_so_far self.now)) }
         ensures typed { IfOk result (λ entries. AreTheirEntries self.now.constants.items entries.items) }
+        ensures full { IfOk result (λ entries. AreTyped self.now) }
     {
         let mut entries = Vec::new(self.alloc);
         for (place, constant) in self.constants.iter().enumerate() {
@@ -148,6 +151,7 @@ impl Constants {
         ensures typed { OnOk result ((from : ℕ) (z : Seen) (rows : List (Row Written)) (w : Written) → (found word.now standard_constants ≡ None) × (found word.now rows ≡ None) → AreTypedIf from z rows self.old → (TypeStands from z w.text w.raw → is_some declared ≡ true) → AreTypedIf from z (rows ++ (word.now, w) ∷ []) self.new) }
         ensures grown { OnOk result (GrowsBehind self.old self.new) }
         ensures room { OnOk result (IfTyped declared (λ d. 32 + length self.old.constants.items < END_OF_NUMBERS)) }
+        ensures put { OnOk result ((d : DeclaredType) → declared ≡ Some d → PutsBehind self.old self.new word.now d) }
         ensures words { OnOk result ((words : List (List ℕ)) → is_met_word word.now words ≡ false → HasWords self.old words → HasWords self.new (words ++ word.now ∷ [])) }
     {
         let place = self.constants.len();
@@ -180,6 +184,7 @@ impl Constants {
         ensures untyped { IfOk result (λ k. k ≡ known.Untyped → (from : ℕ) (z : Seen) (rows : List (Row Written)) → KnowsConstants types.old.bank self.now z.said z.definitions rows → AreTypedIf from z rows self.now → FirstStands from z rows word.now → ⊥) }
         ensures met { IfOk result (λ k. (words : List (List ℕ)) → HasWords self.now words → is_met_word word.now words ≡ is_met k) }
         ensures tree { IfOk result (λ k. (words : List (List ℕ)) → HasWords self.now words → AreCounted types.old.bank self.now → IsTreeOf types.new.bank self.now word.now k) }
+        ensures never { IfOk result (λ k. k ≡ known.Untyped → AreTyped self.now → ⊥) }
     {
         if let Some(number) = standard_constant(word) {
             let known = standard_type(types, number)?;
@@ -213,6 +218,7 @@ impl Constants {
         ensures typed { OnOk result ((from : ℕ) (z : Seen) (rows : List (Row Written)) (w : Written) → KnowsConstants types.old.bank self.old z.said z.definitions rows → AreTypedIf from z rows self.old → (TypeStands from z w.text w.raw → is_some declared ≡ true) → AreTypedIf from z (rows ++ (spelled source.now name, w) ∷ []) self.new) }
         ensures taken { OnOk result ((from : ℕ) (z : Seen) (rows : List (Row Written)) (w : Written) → KnowsConstants types.old.bank self.old z.said z.definitions rows → IfTyped declared (IsTyped types.old.bank z.said z.definitions w) → AreTypedIf from z rows self.old → (TypeStands from z w.text w.raw → is_some declared ≡ true) → IsTakenConstant from z rows (spelled source.now name, w)) }
         ensures words { OnOk result ((words : List (List ℕ)) → HasWords self.old words → HasWords self.new (words ++ spelled source.now name ∷ [])) }
+        ensures tree { OnOk result ((words : List (List ℕ)) (d : DeclaredType) → declared ≡ Some d → CanDeclare types.old.bank self.old words d → AreDeclaredAs types.new.bank self.new source.now (name ∷ []) d) }
     {
         let word = spelled_at(source, name);
         match self.known_as(types, word)? {
@@ -245,6 +251,7 @@ impl Constants {
         ensures typed { OnOk result ((from : ℕ) (z : Seen) (rows : List (Row Written)) (w : Written) → KnowsConstants types.old.bank self.old z.said z.definitions rows → IfTyped declared (IsTyped types.old.bank z.said z.definitions w) → AreTypedIf from z rows self.old → (TypeStands from z w.text w.raw → is_some declared ≡ true) → AreTypedIf from z (rows ++ each source.now w names.now) self.new) }
         ensures taken { OnOk result ((from : ℕ) (z : Seen) (rows : List (Row Written)) (w : Written) → KnowsConstants types.old.bank self.old z.said z.definitions rows → IfTyped declared (IsTyped types.old.bank z.said z.definitions w) → AreTypedIf from z rows self.old → (TypeStands from z w.text w.raw → is_some declared ≡ true) → AreTakenConstants from z rows (each source.now w names.now)) }
         ensures words { OnOk result ((words : List (List ℕ)) → HasWords self.old words → HasWords self.new (words ++ map (λ s. spelled source.now s) names.now)) }
+        ensures trees { OnOk result ((words : List (List ℕ)) (d : DeclaredType) → declared ≡ Some d → CanDeclare types.old.bank self.old words d → AreDeclaredAs types.new.bank self.new source.now names.now d) }
     {
         for name in names {
             self.declare(types, source, *name, declared)?;

@@ -23,6 +23,7 @@ ghost use Rattle.lp_sig.specs.Types.{Definition};
 ghost use Rattle.lp_sig.specs.Sighted.{GrowsBehind};
 ghost use Rattle.lp_sig.specs.ModuleFaults.{AreConstantsWrong, IsAbbreviationWrong};
 ghost use Rattle.lp_sig.specs.Worded.{HasWords};
+ghost use Rattle.lp_sig.specs.inner.Reading.{Reads};
 ghost use Rattle.lp_sig.specs.Constants.{Written, written_in, constants_by, constants_in, KnowsConstants, AreSettledIf, AreTypedIf, AreTakenConstants, HasFewVariables, IsConstantsFault};
 
 use crate::bodies::Bodies;
@@ -149,6 +150,7 @@ pub(crate) fn declare_constants(
     ensures few { (from : ℕ) (z : Seen) → Knows names.now z.said → HoldsBodies bodies.old.types.bank bodies.old.bodies.items z.said z.definitions → AreSettledIf from z bodies.old.bodies.items → IfOk result (λ done. TypeStands from z source.now raw.now → HasFewVariables z.said z.definitions (written_in source.now raw.now)) }
     ensures declared { (from : ℕ) (z : Seen) (rows : List (Row Written)) → Knows names.now z.said → HoldsBodies bodies.old.types.bank bodies.old.bodies.items z.said z.definitions → AreSettledIf from z bodies.old.bodies.items → KnowsConstants bodies.old.types.bank constants.old z.said z.definitions rows → AreTypedIf from z rows constants.old → IfOk result (λ done. AreTypedIf from z (rows ++ each source.now (written_in source.now raw.now) spots.now) constants.new × AreTakenConstants from z rows (each source.now (written_in source.now raw.now) spots.now)) }
     ensures words { OnOk result ((words : List (List ℕ)) → HasWords constants.old words → HasWords constants.new (words ++ map (λ s. spelled source.now s) spots.now)) }
+    ensures reads { OnOk result (Reads names.now bodies.old constants.old bodies.new constants.new (each source.now (written_in source.now raw.now) spots.now) (map (λ s. spelled source.now s) spots.now)) }
 {
     check_lengths(source, spots)?;
     let declared = bodies.scheme(names, source, raw)?;

@@ -13,6 +13,7 @@ ghost use Rattle.lp_sig.specs.Modules.{HasSeen, IsApart, HasOwnFirst};
 ghost use Rattle.lp_sig.specs.declared.signature.Signature.{Signature};
 ghost use Rattle.lp_sig.specs.Laws.{all_said, all_definitions};
 ghost use Rattle.lp_sig.specs.Named.{IsOrdered};
+ghost use Rattle.lp_sig.specs.AsWritten.{HasWholeBodies};
 ghost use Rattle.lp_sig.specs.Same.{AreSameSignatures};
 ghost use Rattle.lp_sig.specs.Worked.{IsWorked};
 
@@ -45,4 +46,9 @@ pub fn texts_have_one_signature()
 /// The signature of texts has kinds by their places, and types of constants with as many variables as is said, whose kinds have names.
 pub fn signatures_are_ordered()
     ensures { (names : List (String Global)) (sources : List (Vec ℕ Global)) (texts : List SignatureText) (root : ℕ) (fixities : List (Row (Fixity × ℕ))) (s : Signature) → IsAccepted names sources texts root (map kind_row s.kinds.items) fixities s.bank s.abbreviations.items s.constants.items → IsOrdered s }
+{}
+
+/// In the signature of texts each kind of the body of an abbreviation has a name.
+pub fn bodies_are_whole()
+    ensures { (names : List (String Global)) (sources : List (Vec ℕ Global)) (texts : List SignatureText) (root : ℕ) (fixities : List (Row (Fixity × ℕ))) (s : Signature) → IsAccepted names sources texts root (map kind_row s.kinds.items) fixities s.bank s.abbreviations.items s.constants.items → HasWholeBodies s }
 {}

@@ -15,6 +15,8 @@ mod entries;
 mod expand;
 // Why a signature is refused.
 mod fault;
+// What a module's text says of names and words.
+mod hearing;
 // Copies of types, and their variables.
 mod interned;
 // Laws over the definitions.

@@ -1,8 +1,7 @@
 // The declarations so far.
-ghost use Rattle.std.specs.Prelude.{◌≡◌, ◌+◌, ◌<◌, ◌≤◌, List, [], length, map, IfOk, Some};
+ghost use Rattle.std.specs.Prelude.{◌≡◌, ◌+◌, ◌<◌, ◌≤◌, List, [], length, map, IfOk, Some, All};
 ghost use Rattle.lp_base.specs.declared.limits.TheConstants.{END_OF_NUMBERS};
 ghost use Rattle.lp_sig.specs.Rows.{kind_row, number_row};
-ghost use Rattle.lp_sig.specs.Said.{numbered};
 ghost use Rattle.lp_sig.specs.Knowing.{Knows, kinded_row, head_row, KnowsOperators};
 ghost use Rattle.lp_sig.specs.Abbreviations.{Seen};
 ghost use Rattle.lp_sig.specs.Entries.{parameters_row, HaveBodies, AreAbbreviations};
@@ -12,6 +11,11 @@ ghost use Rattle.lp_sig.specs.Rows.{Row};
 ghost use Rattle.lp_sig.specs.Modules.{numbered_names};
 ghost use Rattle.lp_sig.specs.Worded.{HasWords, names_so_far};
 ghost use Rattle.lp_sig.specs.Sights.{AreTheirEntries};
+ghost use Rattle.lp_sig.specs.AsWritten.{HasWrittenBody};
+ghost use Rattle.lp_sig.specs.Holding.{HoldsBodies};
+ghost use Rattle.lp_sig.specs.Said.{Said, numbered};
+ghost use Rattle.lp_sig.specs.Types.{Definition};
+ghost use Rattle.lp_sig.specs.inner.Reading.{AreSettled};
 
 use crate::bodies::Bodies;
 use crate::constants::Constants;
@@ -134,6 +138,9 @@ impl Making {
         ensures bank { IfOk result (λ s. s.bank ≡ self.bodies.types.bank) }
         ensures room { IfOk result (λ s. 8 + length self.names.kinds.items ≤ END_OF_NUMBERS) }
         ensures typed { IfOk result (λ s. AreTheirEntries self.constants.constants.items s.constants.items) }
+        ensures full { IfOk result (λ s. AreTyped self.constants) }
+        ensures settled { IfOk result (λ s. (said : List (Row Said)) → Knows self.names said → AreSettled self.bodies.bodies.items said) }
+        ensures bodies { IfOk result (λ s. (said : List (Row Said)) (defs : List (Row Definition)) → Knows self.names said → HoldsBodies self.bodies.types.bank self.bodies.bodies.items said defs → All (HasWrittenBody s said defs) s.abbreviations.items) }
         ensures abbreviations { IfOk result (λ s. (z : Seen) → KnowsSeen self z → AreAbbreviations s.bank z s.abbreviations.items) }
         ensures constants { IfOk result (λ s. (z : Seen) (rows : List (Row Written)) → KnowsConstants self.bodies.types.bank self.constants z.said z.definitions rows → AreConstants s.bank z.said z.definitions rows s.constants.items × HaveNumbers rows) }
     {

@@ -1,230 +1,40 @@
 // What the declarations of a module say, line by line.
-ghost use Rattle.std.specs.Prelude.{◌≡◌, ◌⊎◌, ◌≤◌, ◌++◌, ℕ, List, [], ◌∷◌, length, map, true, false, Some, All, IfOk, IfErr, OnOk, if◌then◌else◌};
+ghost use Rattle.std.specs.Prelude.{◌≡◌, ◌⊎◌, ◌≤◌, ◌++◌, ℕ, List, [], ◌∷◌, length, map, true, false, Some, All, IfOk, IfErr, OnOk};
 ghost use Rattle.lp_sig.specs.Pieces.{spelled};
 ghost use Rattle.lp_base.specs.declared.place.Spot.{Spot as IsSpot};
 ghost use Rattle.lp_base.specs.declared.limits.TheConstants.{MAX_ARGUMENTS};
 ghost use Rattle.lp_syntax.specs.declared.text.Declaration.{Declaration as IsDeclaration};
 ghost use Rattle.lp_sig.specs.Rows.{Row};
-ghost use Rattle.lp_sig.specs.Said.{Said as IsSaid, a_kind, is_among};
+ghost use Rattle.lp_sig.specs.Said.{Said as IsSaid, a_kind, each, is_among};
 ghost use Rattle.lp_sig.specs.Knowing.{Knows};
 ghost use Rattle.lp_syntax.specs.declared.text.RawType.{RawType as IsRawType};
 ghost use Rattle.lp_sig.specs.Limits.{IsShort, AreShort};
 ghost use Rattle.lp_sig.specs.Words.{IsMeant, AreMeant, IsNumbered, AreNumbered, IsKindsFault, IsSoundType, IsHead, WordsStand, parameters_of, IsNameFault};
-ghost use Rattle.lp_sig.specs.Modules.{declarations, constant_names_by, constant_names_in, first_names, local_names};
-ghost use Rattle.lp_sig.specs.ModuleFaults.{exports_kind, exports_constant, differs_at, blamed_by, kind_names_by, kind_names_in, IsFirstOf, IsLocalFault, IsLocal, IsLocalKindsFault, IsKnownFault, IsNewFault, AreConstantsWrong, AreLocalsWrong, IsAbbreviationWrong, IsWordFault, IsLineFault, IsLineTaken, IsNewLocal, IsTypeFault, AreLocalKindsRefused, AreLocalKindsTaken, AreLocalsRefused, AreLocalsTaken};
+ghost use Rattle.lp_sig.specs.Modules.{constant_names_by, constant_names_in, first_names, local_names};
+ghost use Rattle.lp_sig.specs.ModuleFaults.{exports_kind, exports_constant, differs_at, blamed_by, kind_names_in, IsFirstOf, IsLocalFault, IsLocal, IsLocalKindsFault, IsKnownFault, IsNewFault, AreConstantsWrong, AreLocalsWrong, IsAbbreviationWrong, IsWordFault, IsLineFault, IsLineTaken, IsNewLocal, IsTypeFault, AreLocalKindsRefused, AreLocalKindsTaken, AreLocalsRefused, AreLocalsTaken};
 ghost use Rattle.lp_sig.specs.declared.fault.SigFault.{SigFault as IsFault};
 ghost use Rattle.lp_sig.specs.declared.fault.SigFault.TheVariants as reason;
 ghost use Rattle.lp_sig.specs.declared.module_fault.ModuleSigFault.TheVariants as wrong;
 ghost use Rattle.lp_sig.specs.Sighted.{Grows};
-ghost use Rattle.lp_sig.specs.Sights.{HasKeys, HasNumbers, IsAlike, AreWordsAlike, signature_words, module_words};
+ghost use Rattle.lp_sig.specs.Sights.{HasKeys, HasNumbers, IsAlike, AreWordsAlike};
 ghost use Rattle.lp_sig.specs.declared.see.Sight.TheVariants.{Alike};
 ghost use Rattle.lp_sig.specs.Worded.{HasWords};
+ghost use Rattle.lp_sig.specs.Constants.{written_in};
+ghost use Rattle.lp_sig.specs.AsWritten.{typed_locals, typed_by};
+ghost use Rattle.lp_sig.specs.inner.Reading.{CanDeclare, AreDeclaredAs, ReadsOn};
 
 use crate::constants::DeclaredType;
 use crate::declare::{check_length, check_lengths, declare_constants};
 use crate::fault::SigFault;
+use crate::hearing::Said;
 use crate::making::Making;
 use crate::module_fault::ModuleSigFault;
 use crate::pieces::spelled_at;
 use crate::see::Sight;
 use crate::signature::Signature;
 use crate::standard::{standard_constant, standard_kind};
-use indexmap::{IndexMap, IndexSet};
-use lp_base::{Limit, MAX_ARGUMENTS, Memory, Spot};
-use lp_syntax::{Declaration, ModuleText, RawType, Sentence};
-use std::alloc::Global;
-
-// The names that a module's text declares with a kind or a type, and its words of accum_sig and accumulate with the numbers of the
-// signatures that they name.
-#[derive(Drop)]
-pub(crate) struct Said {
-    alloc: Global,
-    kinds: IndexSet<Vec<u8>>,
-    constants: IndexSet<Vec<u8>>,
-    accum_sigs: IndexMap<Vec<u8>, usize>,
-    accumulates: IndexMap<Vec<u8>, usize>,
-}
-
-// Notes names.
-fn note(
-    alloc: Global,
-    source: &[u8],
-    names: &[Spot],
-    set: &mut IndexSet<Vec<u8>>,
-) -> Result<(), Memory>
-    ensures { OnOk result ((before : List (List ℕ)) → HasKeys set.old before → HasKeys set.new (before ++ map (λ s. spelled source.now s) names.now)) }
-{
-    for name in names {
-        let key = Vec::from_slice(alloc, spelled_at(source, *name))?;
-        set.insert(key)?;
-    }
-    Ok(())
-}
-
-// Numbers a word, if it is new.
-fn number_word(
-    alloc: Global,
-    name: &[u8],
-    numbers: &mut IndexMap<Vec<u8>, usize>,
-) -> Result<(), Memory>
-    ensures { OnOk result ((before : List (List ℕ)) → HasNumbers numbers.old before → HasNumbers numbers.new (before ++ name.now ∷ [])) }
-{
-    if numbers.contains_key(name) {
-        return Ok(());
-    }
-    let key = Vec::from_slice(alloc, name)?;
-    let next = numbers.len();
-    numbers.insert(key, next)?;
-    Ok(())
-}
-
-// Numbers words by first place.
-fn number(
-    alloc: Global,
-    source: &[u8],
-    words: &[Spot],
-    numbers: &mut IndexMap<Vec<u8>, usize>,
-) -> Result<(), Memory>
-    ensures { OnOk result ((before : List (List ℕ)) → HasNumbers numbers.old before → HasNumbers numbers.new (before ++ map (λ s. spelled source.now s) words.now)) }
-{
-    for word in words {
-        number_word(alloc, spelled_at(source, *word), numbers)?;
-    }
-    Ok(())
-}
-
-// A table with no words.
-fn no_words(alloc: Global) -> IndexMap<Vec<u8>, usize>
-    ensures { HasNumbers result [] }
-{
-    IndexMap::new(alloc)
-}
-
-// A set with no names.
-fn no_names(alloc: Global) -> IndexSet<Vec<u8>>
-    ensures { HasKeys result [] }
-{
-    IndexSet::new(alloc)
-}
-
-// Notes names that are declared with a kind or a type.
-fn note_if(
-    alloc: Global,
-    source: &[u8],
-    names: &[Spot],
-    is_declared: bool,
-    set: &mut IndexSet<Vec<u8>>,
-) -> Result<(), Memory>
-    ensures { OnOk result ((before : List (List ℕ)) → HasKeys set.old before → HasKeys set.new (before ++ (if is_declared then map (λ s. spelled source.now s) names.now else []))) }
-{
-    if !is_declared {
-        return Ok(());
-    }
-    note(alloc, source, names, set)
-}
-
-impl Said {
-    fn new(alloc: Global) -> Said
-        ensures signatures { HasNumbers result.accum_sigs [] }
-        ensures modules { HasNumbers result.accumulates [] }
-        ensures kinds { HasKeys result.kinds [] }
-        ensures constants { HasKeys result.constants [] }
-    {
-        Said {
-            alloc,
-            kinds: no_names(alloc),
-            constants: no_names(alloc),
-            accum_sigs: no_words(alloc),
-            accumulates: no_words(alloc),
-        }
-    }
-
-    fn hear(&mut self, source: &[u8], declaration: &Declaration) -> Result<(), Memory>
-        ensures signatures { OnOk result ((before : List (List ℕ)) → HasNumbers self.old.accum_sigs before → HasNumbers self.new.accum_sigs (before ++ signature_words source.now (declaration.now ∷ []))) }
-        ensures modules { OnOk result ((before : List (List ℕ)) → HasNumbers self.old.accumulates before → HasNumbers self.new.accumulates (before ++ module_words source.now (declaration.now ∷ []))) }
-        ensures kinds { OnOk result ((before : List (List ℕ)) → HasKeys self.old.kinds before → HasKeys self.new.kinds (before ++ kind_names_by source.now declaration.now)) }
-        ensures constants { OnOk result ((before : List (List ℕ)) → HasKeys self.old.constants before → HasKeys self.new.constants (before ++ constant_names_by source.now declaration.now)) }
-    {
-        match declaration {
-            Declaration::Kinds(names, _) => {
-                note(self.alloc, source, names.as_slice(), &mut self.kinds)
-            }
-            Declaration::LocalKinds(names, count) => {
-                let is_declared = count.is_some();
-                note_if(
-                    self.alloc,
-                    source,
-                    names.as_slice(),
-                    is_declared,
-                    &mut self.kinds,
-                )
-            }
-            Declaration::Constants(names, _) => {
-                note(self.alloc, source, names.as_slice(), &mut self.constants)
-            }
-            Declaration::Locals(names, raw) => {
-                let is_declared = raw.is_some();
-                note_if(
-                    self.alloc,
-                    source,
-                    names.as_slice(),
-                    is_declared,
-                    &mut self.constants,
-                )
-            }
-            Declaration::Abbreviation(_, _, _) => Ok(()),
-            Declaration::Accumulate(words) => {
-                number(self.alloc, source, words.as_slice(), &mut self.accumulates)
-            }
-            Declaration::AccumSig(words) => {
-                number(self.alloc, source, words.as_slice(), &mut self.accum_sigs)
-            }
-            Declaration::Fixities(_, _, _) => Ok(()),
-        }
-    }
-
-    fn hear_sentence(&mut self, source: &[u8], sentence: &Sentence) -> Result<(), Memory>
-        ensures signatures { OnOk result ((before : List (List ℕ)) → HasNumbers self.old.accum_sigs before → HasNumbers self.new.accum_sigs (before ++ signature_words source.now (declarations (sentence.now ∷ [])))) }
-        ensures modules { OnOk result ((before : List (List ℕ)) → HasNumbers self.old.accumulates before → HasNumbers self.new.accumulates (before ++ module_words source.now (declarations (sentence.now ∷ [])))) }
-        ensures kinds { OnOk result ((before : List (List ℕ)) → HasKeys self.old.kinds before → HasKeys self.new.kinds (before ++ kind_names_in source.now (declarations (sentence.now ∷ [])))) }
-        ensures constants { OnOk result ((before : List (List ℕ)) → HasKeys self.old.constants before → HasKeys self.new.constants (before ++ constant_names_in source.now (declarations (sentence.now ∷ [])))) }
-    {
-        match sentence {
-            Sentence::Declares(declaration) => self.hear(source, declaration),
-            Sentence::Says(_) => Ok(()),
-        }
-    }
-
-    pub(crate) fn of(alloc: Global, source: &[u8], text: &ModuleText) -> Result<Said, Memory>
-        ensures signatures { IfOk result (λ s. HasNumbers s.accum_sigs (signature_words source.now (declarations text.now.lines.items))) }
-        ensures modules { IfOk result (λ s. HasNumbers s.accumulates (module_words source.now (declarations text.now.lines.items))) }
-        ensures kinds { IfOk result (λ s. HasKeys s.kinds (kind_names_in source.now (declarations text.now.lines.items))) }
-        ensures constants { IfOk result (λ s. HasKeys s.constants (constant_names_in source.now (declarations text.now.lines.items))) }
-    {
-        let mut said = Said::new(alloc);
-        for at in 0..text.lines.len() {
-            said.hear_sentence(source, &text.lines[at])?;
-        }
-        Ok(said)
-    }
-
-    // How the signature that a word of accum_sig names goes with those before it.
-    fn sight_of_accum_sig(&self, sights: &[Sight], word: &[u8]) -> Option<Sight>
-        ensures { (signatures : List (List ℕ)) → HasNumbers self.now.accum_sigs signatures → result ≡ Some Alike → IsAlike sights.now 0 signatures word.now }
-    {
-        let number = self.accum_sigs.get(word)?;
-        sights.get(*number).copied()
-    }
-
-    // How the signature that a word of accumulate names goes with those before it.
-    fn sight_of_accumulate(&self, sights: &[Sight], word: &[u8]) -> Option<Sight>
-        ensures { (signatures modules : List (List ℕ)) → HasNumbers self.now.accum_sigs signatures → HasNumbers self.now.accumulates modules → result ≡ Some Alike → IsAlike sights.now (length (first_names [] signatures)) modules word.now }
-    {
-        let number = self.accumulates.get(word)?;
-        let place = number.checked_add(self.accum_sigs.len())?;
-        sights.get(place).copied()
-    }
-}
+use lp_base::{Limit, MAX_ARGUMENTS, Spot};
+use lp_syntax::{Declaration, RawType};
 
 // A word that names a signature.
 fn check_word(word: Spot, sight: Option<Sight>) -> Result<(), ModuleSigFault>
@@ -419,6 +229,8 @@ impl<'a> ModuleLines<'a> {
         ensures operators { making.new.operators ≡ making.old.operators }
         ensures grown { OnOk result (Grows making.old making.new) }
         ensures words { OnOk result ((words : List (List ℕ)) → HasWords making.old.constants words → HasWords making.new.constants (words ++ map (λ s. spelled self.now.source.now s) names.now)) }
+        ensures kept { making.new.bodies.bodies ≡ making.old.bodies.bodies }
+        ensures reads { OnOk result (ReadsOn making.old making.new (each self.now.source.now (written_in self.now.source.now raw.now) names.now) (map (λ s. spelled self.now.source.now s) names.now)) }
         ensures refused { (said : List (Row IsSaid)) → Knows making.old.names said → IfErr result (λ e. (e ≡ wrong.Sig reason.Memory) ⊎ ((f : IsFault) × AreConstantsWrong self.now.source.now said names.now raw.now f × (e ≡ blamed_by (exports_constant self.now.own.now) self.now.source.now f))) }
         ensures taken { (said : List (Row IsSaid)) → Knows making.old.names said → IfOk result (λ done. AreShort self.now.source.now names.now × IsSoundType self.now.source.now said raw.now) }
     {
@@ -460,6 +272,8 @@ impl<'a> ModuleLines<'a> {
         ensures operators { making.new.operators ≡ making.old.operators }
         ensures grown { OnOk result (Grows making.old making.new) }
         ensures words { OnOk result ((words : List (List ℕ)) → HasWords making.old.constants words → HasWords making.new.constants (words ++ spelled self.now.source.now name ∷ [])) }
+        ensures kept { making.new.bodies.bodies ≡ making.old.bodies.bodies }
+        ensures tree { OnOk result ((words : List (List ℕ)) (d : DeclaredType) → declared ≡ Some d → CanDeclare making.old.bodies.types.bank making.old.constants words d → AreDeclaredAs making.new.bodies.types.bank making.new.constants self.now.source.now (name ∷ []) d) }
         ensures refused { IfErr result (λ e. (e ≡ wrong.Sig reason.Memory) ⊎ IsLocalFault (exports_constant self.now.own.now) self.now.source.now (IsNewLocal self.now.source.now) name e) }
         ensures taken { IfOk result (λ done. IsLocal (exports_constant self.now.own.now) self.now.source.now (IsShort self.now.source.now) name) }
     {
@@ -484,6 +298,8 @@ impl<'a> ModuleLines<'a> {
         ensures operators { making.new.operators ≡ making.old.operators }
         ensures grown { OnOk result (Grows making.old making.new) }
         ensures words { OnOk result ((words : List (List ℕ)) → HasWords making.old.constants words → HasWords making.new.constants (words ++ map (λ s. spelled self.now.source.now s) names.now)) }
+        ensures kept { making.new.bodies.bodies ≡ making.old.bodies.bodies }
+        ensures trees { OnOk result ((words : List (List ℕ)) (d : DeclaredType) → declared ≡ Some d → CanDeclare making.old.bodies.types.bank making.old.constants words d → AreDeclaredAs making.new.bodies.types.bank making.new.constants self.now.source.now names.now d) }
         ensures refused { IfErr result (λ e. (e ≡ wrong.Sig reason.Memory) ⊎ IsFirstOf (IsLocalFault (exports_constant self.now.own.now) self.now.source.now (IsNewLocal self.now.source.now)) (IsLocal (exports_constant self.now.own.now) self.now.source.now (IsShort self.now.source.now)) names.now e) }
         ensures taken { IfOk result (λ done. All (IsLocal (exports_constant self.now.own.now) self.now.source.now (IsShort self.now.source.now)) names.now) }
     {
@@ -527,6 +343,8 @@ impl<'a> ModuleLines<'a> {
         ensures operators { making.new.operators ≡ making.old.operators }
         ensures grown { OnOk result (Grows making.old making.new) }
         ensures words { OnOk result ((words : List (List ℕ)) → HasWords making.old.constants words → HasWords making.new.constants (words ++ map (λ s. spelled self.now.source.now s) names.now)) }
+        ensures kept { making.new.bodies.bodies ≡ making.old.bodies.bodies }
+        ensures reads { OnOk result (ReadsOn making.old making.new (each self.now.source.now (written_in self.now.source.now raw.now) names.now) (map (λ s. spelled self.now.source.now s) names.now)) }
         ensures refused { (said : List (Row IsSaid)) → Knows making.old.names said → IfErr result (λ e. (e ≡ wrong.Sig reason.Memory) ⊎ AreLocalsWrong self.now.own.now self.now.source.now said names.now raw.now e) }
         ensures taken { (said : List (Row IsSaid)) → Knows making.old.names said → IfOk result (λ done. All (IsLocal (exports_constant self.now.own.now) self.now.source.now (IsShort self.now.source.now)) names.now × IsSoundType self.now.source.now said raw.now) }
     {
@@ -571,6 +389,8 @@ impl<'a> ModuleLines<'a> {
         ensures operators { making.new.operators ≡ making.old.operators }
         ensures grown { OnOk result (Grows making.old making.new) }
         ensures words { OnOk result ((words : List (List ℕ)) → HasWords making.old.constants words → HasWords making.new.constants (words ++ local_names self.now.source.now names.now raw.now)) }
+        ensures kept { making.new.bodies.bodies ≡ making.old.bodies.bodies }
+        ensures reads { OnOk result (ReadsOn making.old making.new (typed_locals self.now.source.now names.now raw.now) (local_names self.now.source.now names.now raw.now)) }
         ensures refused { (said : List (Row IsSaid)) (known : List (List ℕ)) → Knows making.old.names said → HasKeys self.now.said.now.constants known → IfErr result (λ e. (e ≡ wrong.Sig reason.Memory) ⊎ AreLocalsRefused self.now.own.now self.now.source.now said known names.now raw.now e) }
         ensures taken { (said : List (Row IsSaid)) (known : List (List ℕ)) → Knows making.old.names said → HasKeys self.now.said.now.constants known → IfOk result (λ done. AreLocalsTaken self.now.own.now self.now.source.now said known names.now raw.now) }
     {
@@ -591,6 +411,7 @@ impl<'a> ModuleLines<'a> {
         ensures operators { making.new.operators ≡ making.old.operators }
         ensures grown { OnOk result (Grows making.old making.new) }
         ensures constants { making.new.constants ≡ making.old.constants }
+        ensures kept { making.new.bodies.bodies ≡ making.old.bodies.bodies }
         ensures refused { (said : List (Row IsSaid)) → Knows making.old.names said → IfErr result (λ e. (e ≡ wrong.Sig reason.Memory) ⊎ ((f : IsFault) × IsAbbreviationWrong self.now.source.now said name parameters.now raw.now f × (e ≡ blamed_by (exports_kind self.now.own.now) self.now.source.now f))) }
         ensures taken { (said : List (Row IsSaid)) → Knows making.old.names said → IfOk result (λ done. IsHead self.now.source.now said name parameters.now × WordsStand self.now.source.now said (parameters_of self.now.source.now parameters.now) raw.now.nodes.items) }
     {
@@ -636,6 +457,8 @@ impl<'a> ModuleLines<'a> {
         ensures operators { making.new.operators ≡ making.old.operators }
         ensures grown { OnOk result (Grows making.old making.new) }
         ensures words { OnOk result ((words : List (List ℕ)) → HasWords making.old.constants words → HasWords making.new.constants (words ++ constant_names_by self.now.source.now declaration.now)) }
+        ensures kept { making.new.bodies.bodies ≡ making.old.bodies.bodies }
+        ensures reads { OnOk result (ReadsOn making.old making.new (typed_by self.now.source.now declaration.now) (constant_names_by self.now.source.now declaration.now)) }
         ensures alike { OnOk result ((signatures modules : List (List ℕ)) → HasNumbers self.now.said.now.accum_sigs signatures → HasNumbers self.now.said.now.accumulates modules → AreWordsAlike self.now.sights.now self.now.source.now signatures modules (declaration.now ∷ [])) }
         ensures refused { (said : List (Row IsSaid)) (ds : List IsDeclaration) → Knows making.old.names said → HasKeys self.now.said.now.kinds (kind_names_in self.now.source.now ds) → HasKeys self.now.said.now.constants (constant_names_in self.now.source.now ds) → IfErr result (λ e. (e ≡ wrong.Sig reason.Memory) ⊎ IsLineFault self.now.own.now self.now.source.now said ds declaration.now e) }
         ensures taken { (said : List (Row IsSaid)) (ds : List IsDeclaration) → Knows making.old.names said → HasKeys self.now.said.now.kinds (kind_names_in self.now.source.now ds) → HasKeys self.now.said.now.constants (constant_names_in self.now.source.now ds) → IfOk result (λ done. IsLineTaken self.now.own.now self.now.source.now said ds declaration.now) }

@@ -5,7 +5,7 @@ ghost use Rattle.lp_sig.specs.Rows.{Row, fixity_row};
 ghost use Rattle.lp_sig.specs.Said.{Said as IsSaid, said_in};
 ghost use Rattle.lp_sig.specs.Knowing.{Knows, KnowsOperators};
 ghost use Rattle.lp_sig.specs.Modules.{declarations, of_each, said_of, constants_of, constant_names_in, HasSeen};
-ghost use Rattle.lp_sig.specs.Named.{IsOrdered, SeesTheirs, kind_names};
+ghost use Rattle.lp_sig.specs.Named.{NamedTy, IsOrdered, SeesTheirs, kind_names};
 ghost use Rattle.lp_sig.specs.Sighted.{Grows, AreCounted, AreKinds, AreNew, SeenSo};
 ghost use Rattle.lp_sig.specs.Sights.{HasKeys, HasNumbers, AreAlike, AreWordsAlike};
 ghost use Rattle.lp_sig.specs.ModuleFaults.{kind_names_in, IsLineFault, IsLineTaken, IsFaultAmong, IsDeclarationRefusal};
@@ -15,10 +15,16 @@ ghost use Rattle.lp_syntax.specs.declared.text.Declaration.{Declaration as IsDec
 ghost use Rattle.lp_syntax.specs.declared.text.Sentence.TheVariants.{Declares};
 ghost use Rattle.lp_sig.specs.declared.signature.Signature.{Signature as IsSignature};
 ghost use Rattle.lp_sig.specs.Worded.{HasWords};
+ghost use Rattle.lp_sig.specs.Types.{Definition, definitions_in};
+ghost use Rattle.lp_sig.specs.Holding.{KnowsBodies, HoldsBodies, line_of_module};
+ghost use Rattle.lp_sig.specs.AsWritten.{bodies_of, HasWholeBodies, typed_in, DeclaresTypes};
+ghost use Rattle.lp_sig.specs.inner.Given.{GivesBodies, GivesMore};
+ghost use Rattle.lp_sig.specs.inner.Reading.{ReadsOn};
 
+use crate::hearing::Said;
 use crate::making::Making;
 use crate::module_fault::ModuleSigFault;
-use crate::module_lines::{ModuleLines, Said};
+use crate::module_lines::ModuleLines;
 use crate::see::Sight;
 use crate::signature::Signature;
 use lp_base::Memory;
@@ -33,6 +39,9 @@ fn see_used(making: &mut Making, used: &[Signature]) -> Result<Vec<Sight>, Memor
     ensures grown { OnOk result (Grows making.old making.new) }
     ensures seen { IfOk result (λ sights. (said : List (Row IsSaid)) (words : List (List ℕ)) → Knows making.old.names said → HasWords making.old.constants words → AreCounted making.old.bodies.types.bank making.old.constants → All IsOrdered used.now →
         (n : ℕ) → n ≤ length used.now → AreAlike sights.items n → (i : ℕ) → i < n → (u : IsSignature) → slice_get used.now i ≡ Some u → SeenSo making.new (said ++ of_each said_of used.now) u) }
+    ensures counted { IfOk result (λ sights. (said : List (Row IsSaid)) (words : List (List ℕ)) → Knows making.old.names said → HasWords making.old.constants words → AreCounted making.old.bodies.types.bank making.old.constants → All IsOrdered used.now →
+        AreAlike sights.items (length used.now) → AreCounted making.new.bodies.types.bank making.new.constants) }
+    ensures given { IfOk result (λ sights. All IsOrdered used.now → All HasWholeBodies used.now → AreAlike sights.items (length used.now) → GivesMore making.old making.new (of_each said_of used.now) (of_each bodies_of used.now)) }
 {
     let mut sights = Vec::new(making.alloc);
     for at in 0..used.len() {
@@ -53,6 +62,11 @@ fn see_all(making: &mut Making, own: &Signature, used: &[Signature]) -> Result<V
     ensures seen { IfOk result (λ sights. (said : List (Row IsSaid)) (words : List (List ℕ)) → Knows making.old.names said → HasWords making.old.constants words → AreCounted making.old.bodies.types.bank making.old.constants → IsOrdered own.now →
         AreKinds (said ++ said_of own.now) (kind_names own.now) → AreNew words own.now.constants.items → All IsOrdered used.now →
         (n : ℕ) → n ≤ length used.now → AreAlike sights.items n → (i : ℕ) → i < n → (u : IsSignature) → slice_get used.now i ≡ Some u → SeenSo making.new ((said ++ said_of own.now) ++ of_each said_of used.now) u) }
+    ensures counted { IfOk result (λ sights. (said : List (Row IsSaid)) (words : List (List ℕ)) → Knows making.old.names said → HasWords making.old.constants words → AreCounted making.old.bodies.types.bank making.old.constants → IsOrdered own.now →
+        AreKinds (said ++ said_of own.now) (kind_names own.now) → AreNew words own.now.constants.items → All IsOrdered used.now → AreAlike sights.items (length used.now) → AreCounted making.new.bodies.types.bank making.new.constants) }
+    ensures given { IfOk result (λ sights. (said : List (Row IsSaid)) (rows : List (Row NamedTy)) → Knows making.old.names said → GivesBodies making.old.bodies.types.bank making.old.bodies.bodies.items said rows → IsOrdered own.now → HasWholeBodies own.now →
+        AreKinds (said ++ said_of own.now) (kind_names own.now) → All IsOrdered used.now → All HasWholeBodies used.now → AreAlike sights.items (length used.now) →
+        GivesBodies making.new.bodies.types.bank making.new.bodies.bodies.items ((said ++ said_of own.now) ++ of_each said_of used.now) ((rows ++ bodies_of own.now) ++ of_each bodies_of used.now)) }
 {
     making.see(own)?;
     making.see_fixities(own)?;
@@ -66,6 +80,8 @@ fn announce_all(making: &mut Making, source: &[u8], text: &ModuleText) -> Result
     ensures constants { making.new.constants ≡ making.old.constants }
     ensures operators { making.new.operators ≡ making.old.operators }
     ensures grown { OnOk result (Grows making.old making.new) }
+    ensures bodies { OnOk result ((said : List (Row IsSaid)) (defs : List (Row Definition)) → Knows making.old.names said → KnowsBodies making.old.bodies.types.bank making.old.bodies.bodies.items said defs source.now (line_of_module text.now.lines.items) →
+        HoldsBodies making.new.bodies.types.bank making.new.bodies.bodies.items (said ++ said_in source.now (declarations text.now.lines.items)) (defs ++ definitions_in source.now (declarations text.now.lines.items))) }
 {
     let from = making.names.heads.len();
     making.announce_module(source, text)?;
@@ -85,6 +101,8 @@ fn declare_sentence(
     ensures names { making.new.names ≡ making.old.names }
     ensures operators { making.new.operators ≡ making.old.operators }
     ensures grown { OnOk result (Grows making.old making.new) }
+    ensures kept { making.new.bodies.bodies ≡ making.old.bodies.bodies }
+    ensures reads { OnOk result (ReadsOn making.old making.new (typed_in lines.now.source.now (declarations (sentence.now ∷ []))) (constant_names_in lines.now.source.now (declarations (sentence.now ∷ [])))) }
     ensures words { OnOk result ((words : List (List ℕ)) → HasWords making.old.constants words → HasWords making.new.constants (words ++ constant_names_in lines.now.source.now (declarations (sentence.now ∷ [])))) }
     ensures alike { OnOk result ((signatures modules : List (List ℕ)) → HasNumbers lines.now.said.now.accum_sigs signatures → HasNumbers lines.now.said.now.accumulates modules → AreWordsAlike lines.now.sights.now lines.now.source.now signatures modules (declarations (sentence.now ∷ []))) }
     ensures refused { (said : List (Row IsSaid)) (ds : List IsDeclaration) → Knows making.old.names said → HasKeys lines.now.said.now.kinds (kind_names_in lines.now.source.now ds) → HasKeys lines.now.said.now.constants (constant_names_in lines.now.source.now ds) → IfErr result (λ e. (e ≡ wrong.Sig fault.Memory) ⊎ ((d : IsDeclaration) × (sentence.now ≡ Declares d) × IsLineFault lines.now.own.now lines.now.source.now said ds d e)) }
@@ -105,6 +123,8 @@ fn declare_all(
     ensures names { making.new.names ≡ making.old.names }
     ensures operators { making.new.operators ≡ making.old.operators }
     ensures grown { OnOk result (Grows making.old making.new) }
+    ensures kept { making.new.bodies.bodies ≡ making.old.bodies.bodies }
+    ensures reads { OnOk result (ReadsOn making.old making.new (typed_in lines.now.source.now (declarations text.now.lines.items)) (constant_names_in lines.now.source.now (declarations text.now.lines.items))) }
     ensures words { OnOk result ((words : List (List ℕ)) → HasWords making.old.constants words → HasWords making.new.constants (words ++ constant_names_in lines.now.source.now (declarations text.now.lines.items))) }
     ensures alike { OnOk result ((signatures modules : List (List ℕ)) → HasNumbers lines.now.said.now.accum_sigs signatures → HasNumbers lines.now.said.now.accumulates modules → AreWordsAlike lines.now.sights.now lines.now.source.now signatures modules (declarations text.now.lines.items)) }
     ensures refused { (said : List (Row IsSaid)) → Knows making.old.names said → HasKeys lines.now.said.now.kinds (kind_names_in lines.now.source.now (declarations text.now.lines.items)) → HasKeys lines.now.said.now.constants (constant_names_in lines.now.source.now (declarations text.now.lines.items)) → IfErr result (λ e. (e ≡ wrong.Sig fault.Memory) ⊎ IsFaultAmong lines.now.own.now lines.now.source.now said (declarations text.now.lines.items) e) }
@@ -131,6 +151,7 @@ pub fn module_signature(
 ) -> Result<Signature, ModuleSigFault>
     ensures seen { IfOk result (HasSeen own.now used.now source.now text.now.lines.items) }
     ensures theirs { IfOk result (SeesTheirs own.now used.now source.now text.now.lines.items) }
+    ensures declared { IfOk result (DeclaresTypes own.now used.now source.now text.now.lines.items) }
     ensures refused { IfErr result (IsDeclarationRefusal own.now used.now source.now text.now.lines.items) }
 {
     let mut making = Making::new(alloc);

@@ -2,7 +2,7 @@
 ghost use Rattle.std.specs.Prelude.{◌≡◌, ◌<◌, ◌⊎◌, ◌++◌, ℕ, List, [], ◌∷◌, map, length, true, false, nat_eq, Some, OnOk, IfOk, All, slice_get, if◌then◌else◌};
 ghost use Rattle.std.specs.List.{range_with_len};
 ghost use Rattle.indexmap.specs.IndexMap.{get};
-ghost use Rattle.lp_term.specs.Nodes.{Extends, type_tree};
+ghost use Rattle.lp_term.specs.Nodes.{Nodes, Extends, type_tree};
 ghost use Rattle.lp_term.specs.declared.node.TypeId.{TypeId};
 ghost use Rattle.lp_standard.specs.declared.fixity.Fixity.{Fixity as IsFixity};
 ghost use Rattle.lp_sig.specs.Rows.{Row, fixity_row};
@@ -10,8 +10,10 @@ ghost use Rattle.lp_sig.specs.Said.{Said};
 ghost use Rattle.lp_sig.specs.Knowing.{Knows, KnowsOperators};
 ghost use Rattle.lp_sig.specs.Modules.{kind_said, abbreviation_said, said_of, constants_of};
 ghost use Rattle.lp_sig.specs.Worded.{HasWords, is_met_word};
-ghost use Rattle.lp_sig.specs.Named.{named, kind_name, kind_names, IsOrdered};
-ghost use Rattle.lp_sig.specs.Sighted.{HasItsNumber, AreKinds, AreKindsHere, AreSeenTypes, AreCounted, GrowsBehind, PutsBehind, IsCountedEntry, IsSeenEntry, AreNew, SeenSo};
+ghost use Rattle.lp_sig.specs.Named.{NamedTy, named, kind_name, kind_names, IsWhole, IsOrdered};
+ghost use Rattle.lp_sig.specs.Sighted.{said_kinds, HasItsNumber, AreKinds, AreKindsHere, AreSeenTypes, AreCounted, GrowsBehind, PutsBehind, IsCountedEntry, IsSeenEntry, AreNew, SeenSo};
+ghost use Rattle.lp_sig.specs.AsWritten.{bodies_of, HasWholeBodies};
+ghost use Rattle.lp_sig.specs.inner.Given.{GivesBodies};
 ghost use Rattle.lp_sig.specs.declared.see.Sight.TheVariants.{Alike};
 
 use crate::constants::{Constants, DeclaredType, Known};
@@ -285,6 +287,9 @@ impl Making {
         made: &[TypeId],
     ) -> Result<Sight, Memory>
         ensures names { OnOk result ((said : List (Row Said)) → Knows self.old.names said → Knows self.new.names (said ++ abbreviation_said entry.now ∷ [])) }
+        ensures given { OnOk result ((there : Nodes) (names : List (List ℕ)) (said : List (Row Said)) (rows : List (Row NamedTy)) → Knows self.old.names said → GivesBodies self.old.bodies.types.bank self.old.bodies.bodies.items said rows →
+            AreSeenTypes there self.old.bodies.types.bank names (said_kinds said) made.now → IsWhole (named (kind_name names) (type_tree there entry.now.body.0)) →
+            GivesBodies self.new.bodies.types.bank self.new.bodies.bodies.items (said ++ abbreviation_said entry.now ∷ []) (rows ++ (entry.now.name.items, named (kind_name names) (type_tree there entry.now.body.0)) ∷ [])) }
         ensures constants { self.new.constants ≡ self.old.constants }
         ensures types { self.new.bodies.types ≡ self.old.bodies.types }
         ensures operators { self.new.operators ≡ self.old.operators }
@@ -306,6 +311,9 @@ impl Making {
         made: &[TypeId],
     ) -> Result<Sight, Memory>
         ensures names { OnOk result ((said : List (Row Said)) → Knows self.old.names said → Knows self.new.names (said ++ map abbreviation_said entries.now)) }
+        ensures given { OnOk result ((there : Nodes) (names : List (List ℕ)) (said : List (Row Said)) (rows : List (Row NamedTy)) → Knows self.old.names said → GivesBodies self.old.bodies.types.bank self.old.bodies.bodies.items said rows →
+            AreSeenTypes there self.old.bodies.types.bank names (said_kinds said) made.now → All (λ e. IsWhole (named (kind_name names) (type_tree there e.body.0))) entries.now →
+            GivesBodies self.new.bodies.types.bank self.new.bodies.bodies.items (said ++ map abbreviation_said entries.now) (rows ++ map (λ e. (e.name.items, named (kind_name names) (type_tree there e.body.0))) entries.now)) }
         ensures constants { self.new.constants ≡ self.old.constants }
         ensures types { self.new.bodies.types ≡ self.old.bodies.types }
         ensures operators { self.new.operators ≡ self.old.operators }
@@ -327,6 +335,8 @@ impl Making {
         ensures grown { OnOk result (GrowsBehind self.old.constants self.new.constants) }
         ensures seen { IfOk result (λ s. (said : List (Row Said)) (words : List (List ℕ)) → Knows self.old.names said → HasWords self.old.constants words → AreCounted self.old.bodies.types.bank self.old.constants → IsOrdered signature.now →
             (s ≡ Alike) ⊎ (AreKinds (said ++ said_of signature.now) (kind_names signature.now) × AreNew words signature.now.constants.items) → AreCounted self.new.bodies.types.bank self.new.constants × SeenSo self.new (said ++ said_of signature.now) signature.now) }
+        ensures given { IfOk result (λ s. (said : List (Row Said)) (rows : List (Row NamedTy)) → Knows self.old.names said → GivesBodies self.old.bodies.types.bank self.old.bodies.bodies.items said rows → IsOrdered signature.now → HasWholeBodies signature.now →
+            (s ≡ Alike) ⊎ AreKinds (said ++ said_of signature.now) (kind_names signature.now) → GivesBodies self.new.bodies.types.bank self.new.bodies.bodies.items (said ++ said_of signature.now) (rows ++ bodies_of signature.now)) }
     {
         let mut numbers = IndexMap::new(self.alloc);
         let of_kinds = self.names.see_kinds(signature.kinds(), &mut numbers)?;

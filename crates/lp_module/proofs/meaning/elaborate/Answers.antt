@@ -21,7 +21,7 @@ returns-in_err-sentences-clause-refused c =
     (inr (
       c.in_ok-check_header.ensures.same,
       untyped_inside c.args.own.now c.args.used.now c.args.source.now c.args.text.now.lines.items
-          c.in-Ok.signature c.in_err-sentences.field-0.0 c.in-Ok.ensures.seen c.in-Ok.ensures.theirs c.in_err-sentences.ensures.refused,
+          c.in-Ok.signature c.in_err-sentences.field-0.0 c.in-Ok.ensures.seen c.in-Ok.ensures.theirs c.in-Ok.ensures.declared c.in_err-sentences.ensures.refused,
     ))
 
 pub returns-in_err-check_clauses-clause-refused : goal.returns-in_err-check_clauses-clause-refused
@@ -34,7 +34,7 @@ returns-in_err-check_clauses-clause-refused c =
     c.args.used.now) c.from_residual-in_err-check_clauses.ensures.1
     (inr (
       c.in_ok-check_header.ensures.same,
-      unformed_inside c.args.own.now c.args.used.now c.args.source.now c.args.text.now.lines.items names b ss e c.in-Ok.ensures.seen c.in-Ok.ensures.theirs
+      unformed_inside c.args.own.now c.args.used.now c.args.source.now c.args.text.now.lines.items names b ss e c.in-Ok.ensures.seen c.in-Ok.ensures.theirs c.in-Ok.ensures.declared
           (sentences_later c.typed_sentences.new.bank b c.in_ok-clauses.ensures.kept names c.args.source.now (said c.args.text.now.lines.items) ss c.in_ok-sentences.ensures.sentences)
           (subst (λ l. (e ≡ fault.Memory) ⊎ IsFirstUnformed (declared_schemes names) b l e) c.as_slice-2.ensures.value c.in_err-check_clauses.ensures.refused),
     ))
@@ -82,6 +82,7 @@ returns-clause-meaning c =
       name = c.in_ok-name.ensures.items ∙ c.as_bytes.ensures.value;
       names = c.in-Ok.ensures.seen;
       theirs = c.in-Ok.ensures.theirs;
+      declared = c.in-Ok.ensures.declared;
       uses = c.in_ok-uses.ensures;
       hidden_kinds = c.in_ok-hidden_kinds.ensures ∙ (λ i. range_with_len (8 + length (c.kinds.ensures i)) (length (c.kinds-2.ensures i) - length (c.kinds.ensures i)));
       hidden_constants = c.in_ok-hidden_constants.ensures ∙ (λ i. range_with_len (32 + length (c.constants.ensures i)) (length (c.constants-2.ensures i) - length (c.constants.ensures i)));

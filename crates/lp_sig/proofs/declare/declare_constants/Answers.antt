@@ -1,11 +1,12 @@
+use Rattle.lp_sig.proofs.Reading.{reads_typed}
 use Rattle.std.proofs.lemmas.Result.{IfErr-weaker, on_ok_weaker}
-use Rattle.lp_lemmas.proofs.Results.{passed_up}
+use Rattle.lp_lemmas.proofs.Results.{passed_up, on_ok_both}
 use Rattle.lp_sig.specs.Constants.{written_in, IsTyped, IsConstantsFault}
 use Rattle.lp_sig.proofs.Constancy.{constants_kept}
 use Rattle.lp_sig.proofs.Sentences.{ok_with}
 use Rattle.lp_sig.proofs.SoundSentences.{uses_settled}
 use Rattle.lp_sig.proofs.Declarations.{as_typed, few_variables, refused_long, refused_type, refused_name, declared_all}
-use Rattle.std.proofs.Common.{◌≡◌, inl, inr, ⊎_elim}
+use Rattle.std.proofs.Common.{◌≡◌, inl, inr, ⊎_elim, refl}
 use Rattle.std.specs.Prelude.{◌⊎◌}
 use Rattle.lp_sig.specs.ModuleFaults as faults
 use Rattle.lp_sig.specs.declared.fault.SigFault.TheVariants as fault
@@ -75,3 +76,9 @@ returns-in_err-declared-clause-reason c = λ said k.
 pub returns-clause-reason : goal.returns-clause-reason
 returns-clause-reason c = λ said k. IfErr-weaker c.declare_all.result _ (λ e. (e ≡ fault.Memory) ⊎ faults.AreConstantsWrong c.args.source.now said c.args.spots.now c.args.raw.now e)
     (λ e f. ⊎_elim (λ m. inl m) (λ n. inr (faults.a_bad_name c.in_ok-check_lengths.ensures.taken (c.in_ok-declared.ensures.stand said k) n)) f) c.declare_all.ensures.reason
+
+pub returns-clause-reads : goal.returns-clause-reads
+returns-clause-reads c = on_ok_both c.declare_all.result c.declare_all.ensures.trees c.declare_all.ensures.words (λ trees words.
+    reads_typed c.args.names.now c.args.bodies.now c.scheme.new.self _ c.args.constants.now c.declare_all.new.self c.args.source.now c.args.raw.now c.args.spots.now c.in_ok-declared.declared
+    c.scheme.ensures.kept c.declare_all.ensures.kept c.scheme.ensures.bodies refl
+    (λ said k uses. c.in_ok-declared.ensures.settled said k uses) c.in_ok-declared.ensures.typed trees words)

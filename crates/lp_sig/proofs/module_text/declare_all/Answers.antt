@@ -1,3 +1,6 @@
+use Rattle.lp_sig.proofs.Reading.{reads_same, reads_so, typed_append}
+use Rattle.lp_sig.specs.inner.Reading.{ReadsOn}
+use Rattle.lp_sig.specs.AsWritten.{typed_in}
 use Rattle.std.proofs.Common.{◌≡◌, [], ◌∷◌, ◌++◌, ◌∙◌, length, refl, sym, subst, take, take_all, append-nil, arith}
 use Rattle.std.proofs.lemmas.List.Elements.{All-nil, All-append}
 use Rattle.lp_sig.specs.Modules.{declarations, constant_names_in, first_names}
@@ -28,6 +31,8 @@ loop-at-init c = record {
   taken = λ said ds k hk hc. All-nil (IsLineTaken c.args.lines.now.own.now c.args.lines.now.source.now said ds);
   names = refl;
   operators = refl;
+  kept = refl;
+  reads = reads_same c.args.making.now;
 }
 
 pub loop-at-preserved : goal.loop-at-preserved
@@ -56,6 +61,17 @@ loop-at-preserved c =
           (c.in_ok-declare_sentence.ensures.taken said ds (subst (λ n. Knows n said) (sym c.loop-at.invariant.names) k) hk hc));
       names = c.declare_sentence.ensures.names ∙ c.loop-at.invariant.names;
       operators = c.declare_sentence.ensures.operators ∙ c.loop-at.invariant.operators;
+      kept = c.declare_sentence.ensures.kept ∙ c.loop-at.invariant.kept;
+      reads =
+          let before = declarations (take c.loop-at.at lines) in
+          let this = declarations (c.index.result.now ∷ []) in
+          let new = c.declare_sentence.new.making in
+          subst (λ ds. ReadsOn c.args.making.now new (typed_in text ds) (constant_names_in text ds))
+          (lines_at lines c.loop-at.at c.index.result.now (omega (arith, c.loop-at-test.true, c.len-at-end.ensures, c.args.text.now.lines.ok)) c.index.ensures)
+          (subst (λ r. ReadsOn c.args.making.now new r (constant_names_in text (before ++ this))) (sym (typed_append text before this))
+          (subst (ReadsOn c.args.making.now new (typed_in text before ++ typed_in text this)) (sym (constants_append text before this))
+          (reads_so c.args.making.now c.loop-at.making new (typed_in text before) (typed_in text this) (constant_names_in text before) (constant_names_in text this)
+          c.loop-at.invariant.names c.in_ok-declare_sentence.ensures.grown.bank c.in_ok-declare_sentence.ensures.grown.constants c.loop-at.invariant.reads c.in_ok-declare_sentence.ensures.reads)));
     }
 
 pub returns-clause-words : goal.returns-clause-words
@@ -81,3 +97,15 @@ returns-in_err-declare_sentence-clause-refused c = λ said k hk hc.
     (fault_among c.args.lines.now.own.now c.args.lines.now.source.now said lines c.loop-at.at c.index.result.now c.in_err-declare_sentence.field-0.0 (wrong.Sig fault.Memory)
     (omega (arith, c.loop-at-test.true, c.len-at-end.ensures, c.args.text.now.lines.ok)) c.index.ensures (c.loop-at.invariant.taken said (declarations lines) k hk hc)
     (c.in_err-declare_sentence.ensures.refused said (declarations lines) (subst (λ n. Knows n said) (sym c.loop-at.invariant.names) k) hk hc))
+
+pub returns-clause-kept : goal.returns-clause-kept
+returns-clause-kept c = c.loop-at.invariant.kept
+
+pub returns-in_err-declare_sentence-clause-kept : goal.returns-in_err-declare_sentence-clause-kept
+returns-in_err-declare_sentence-clause-kept c = c.declare_sentence.ensures.kept ∙ c.loop-at.invariant.kept
+
+pub returns-clause-reads : goal.returns-clause-reads
+returns-clause-reads c =
+    subst (λ ls. ReadsOn c.args.making.now c.loop-at.making (typed_in c.args.lines.now.source.now (declarations ls)) (constant_names_in c.args.lines.now.source.now (declarations ls)))
+    (take_all c.loop-at.at c.args.text.now.lines.items (omega (arith, c.loop-at-test.false, c.len-at-end.ensures, c.args.text.now.lines.ok)))
+    c.loop-at.invariant.reads

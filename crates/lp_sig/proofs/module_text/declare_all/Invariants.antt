@@ -1,3 +1,5 @@
+use Rattle.lp_sig.specs.inner.Reading.{ReadsOn}
+use Rattle.lp_sig.specs.AsWritten.{typed_in}
 use Rattle.std.proofs.Common.{◌≡◌, ℕ, List, take, ◌++◌}
 use Rattle.lp_sig.specs.Modules.{declarations, constant_names_in}
 use Rattle.lp_sig.specs.Sighted.{Grows}
@@ -22,4 +24,6 @@ invariant-loop-at l = record {
       All (IsLineTaken l.lines.own.now l.lines.source.now said ds) (declarations (take l.at l.text.lines.items));
   names : l.making.names ≡ l.fn.making.names;
   operators : l.making.operators ≡ l.fn.making.operators;
+  kept : l.making.bodies.bodies ≡ l.fn.making.bodies.bodies;
+  reads : ReadsOn l.fn.making l.making (typed_in l.lines.source.now (declarations (take l.at l.text.lines.items))) (constant_names_in l.lines.source.now (declarations (take l.at l.text.lines.items)));
 }

@@ -1,3 +1,4 @@
+use Rattle.lp_sig.proofs.Reading.{sentence_types, no_types_said}
 use Rattle.std.proofs.Common.{[], ◌∷◌, length, sym, subst}
 use Rattle.std.proofs.lemmas.List.Elements.{All-nil}
 use Rattle.std.proofs.lemmas.Result.{on_ok_weaker}
@@ -48,3 +49,9 @@ returns-in-Declares-clause-taken c = λ said ds k hk hc. IfOk-weaker c.declare.r
 pub returns-in-Says-clause-taken : goal.returns-in-Says-clause-taken
 returns-in-Says-clause-taken c = λ said ds k hk hc. subst (λ l. All (IsLineTaken c.args.lines.now.own.now c.args.lines.now.source.now said ds)
     (declarations (l ∷ []))) (sym c.in-Says.is) (All-nil (IsLineTaken c.args.lines.now.own.now c.args.lines.now.source.now said ds))
+
+pub returns-in-Declares-clause-reads : goal.returns-in-Declares-clause-reads
+returns-in-Declares-clause-reads c = on_ok_weaker c.declare.result (λ h. sentence_types c.args.making.now c.declare.new.making c.args.lines.now.source.now c.args.sentence.now c.in-Declares.declaration c.in-Declares.is h) c.declare.ensures.reads
+
+pub returns-in-Says-clause-reads : goal.returns-in-Says-clause-reads
+returns-in-Says-clause-reads c = no_types_said c.args.making.now c.args.lines.now.source.now c.args.sentence.now _ c.in-Says.is

@@ -1,3 +1,10 @@
+use Rattle.lp_sig.proofs.DeclaredTypes.{given_trees, given_names, given_found, given_known, given_later, typed_before, written_type}
+use Rattle.lp_sig.proofs.GivenBodies.{none_given}
+use Rattle.lp_sig.specs.inner.Reading.{IsReading, AreSettled}
+use Rattle.lp_sig.specs.inner.Given.{GivesBodies}
+use Rattle.lp_sig.specs.AsWritten.{as_trees, typed_in, bodies_of}
+use Rattle.lp_sig.specs.Holding.{HoldsBodies, line_of_module}
+use Rattle.lp_sig.specs.Types.{definitions_in}
 use Rattle.std.proofs.Common.{◌+◌, ◌≤◌, refl, inl, [], ◌++◌, ◌∙◌, length, get_or, sym, ap, subst, map, append_assoc, arith}
 use Rattle.std.proofs.lemmas.Option.{same_Some, slice_get-get_or, slice_get_within}
 use Rattle.lp_base.specs.declared.limits.TheConstants.{END_OF_NUMBERS}
@@ -5,11 +12,11 @@ use Rattle.lp_sig.specs.Rows.{fixity_row}
 use Rattle.lp_sig.specs.Knowing.{Knows, KnowsOperators}
 use Rattle.lp_sig.specs.Said.{numbered, said_in}
 use Rattle.lp_sig.specs.Named.{IsOrdered, kind_names}
-use Rattle.lp_sig.specs.Sighted.{said_kinds, AreKinds}
-use Rattle.lp_sig.specs.Sights.{AreWordsAlike, signature_words, module_words}
+use Rattle.lp_sig.specs.Sighted.{said_kinds, AreKinds, AreCounted}
+use Rattle.lp_sig.specs.Sights.{AreWordsAlike, signature_words, module_words, AreAlike}
 use Rattle.lp_sig.specs.Modules.{declarations, said_of, constants_of, of_each, said_in_module, constant_names, numbered_names, IsApart}
 use Rattle.lp_sig.specs.Worded.{HasWords}
-use Rattle.lp_sig.proofs.KnownConstants.{making_then, counted_none}
+use Rattle.lp_sig.proofs.KnownConstants.{making_then, counted_none, counted_later}
 use Rattle.lp_sig.proofs.Sights.{all_alike}
 use Rattle.lp_sig.proofs.TheirTypes.{own_kinds, own_new, their_kinds, their_room, has_named}
 use Rattle.lp_sig.proofs.Viewing.{seen_stays}
@@ -88,3 +95,59 @@ returns-in_err-signature-clause-refused c =
     passed_up c.from_residual-in_err-signature.result (wrong.Sig fault.Memory)
     (IsDeclarationRefusal c.args.own.now c.args.used.now c.args.source.now c.args.text.now.lines.items)
     c.from_residual-in_err-signature.ensures.1 (inl refl)
+
+pub returns-clause-declared : goal.returns-clause-declared
+returns-clause-declared c = λ ready.
+    let own = c.args.own.now in
+    let used = c.args.used.now in
+    let text = c.args.source.now in
+    let lines = c.args.text.now.lines.items in
+    let ds = declarations lines in
+    let before = said_of own ++ of_each said_of used in
+    let rows = bodies_of own ++ of_each bodies_of used in
+    let said = said_in_module own used text lines in
+    let first = c.see_all.new.making in
+    let mid = c.announce_all.new.making in
+    let m = c.declare_all.new.making in
+    let s = c.in_ok-signature.signature in
+    let start = c.new-making.result in
+    let k0 : Knows first.names before = c.in_ok-sights.ensures.names [] c.new-making.ensures.names in
+    let k1 : Knows mid.names said = c.in_ok-announce_all.ensures.names before k0 in
+    let k : Knows m.names said = subst (λ n. Knows n said) (sym c.declare_all.ensures.names) k1 in
+    let kinds = their_kinds m.names said s k c.in_ok-signature.ensures.kinds in
+    let room = their_room m.names said k c.in_ok-signature.ensures.room in
+    let here : AreKinds (said_of own) (kind_names own) = own_kinds own (of_each said_of used ++ said_in text ds) ready.apart
+    (subst (λ r. 8 + length (said_kinds r) ≤ END_OF_NUMBERS) (append_assoc (said_of own) (of_each said_of used) (said_in text ds)) room) in
+    let alike = all_alike c.in_ok-sights.sights.items text ds (subst (λ ss. AreWordsAlike ss text (signature_words text ds) (module_words text ds) ds) c.as_slice.ensures.value
+    (c.in_ok-declare_all.ensures.alike (signature_words text ds) (module_words text ds) c.in_ok-said.ensures.signatures c.in_ok-said.ensures.modules)) in
+    let few : AreAlike c.in_ok-sights.sights.items (length used) = λ i l. alike i (let f = ready.few in omega (arith, l, f)) in
+    let none = counted_none start.bodies.types.bank start.constants c.new-making.ensures.empty in
+    let counted : AreCounted first.bodies.types.bank first.constants =
+    c.in_ok-sights.ensures.counted [] [] c.new-making.ensures.names c.new-making.ensures.words none ready.ordered here (own_new own ready.apart) ready.used_ordered few in
+    let given : GivesBodies first.bodies.types.bank first.bodies.bodies.items before rows =
+    c.in_ok-sights.ensures.given [] [] c.new-making.ensures.names (none_given start.bodies.types.bank start.bodies.bodies.items c.new-making.ensures.bodies) ready.ordered ready.whole here ready.used_ordered ready.used_whole few in
+    let trees = given_trees first.bodies.types.bank first.bodies.bodies.items before rows given in
+    let defs = as_trees trees ++ definitions_in text ds in
+    let holds : HoldsBodies mid.bodies.types.bank mid.bodies.bodies.items said defs =
+    c.in_ok-announce_all.ensures.bodies before (as_trees trees) k0 (given_known first.bodies.types.bank first.bodies.bodies.items before rows given text (line_of_module lines)) in
+    let items = ap (λ v. v.items) c.declare_all.ensures.kept in
+    let settled : AreSettled mid.bodies.bodies.items said = subst (λ bs. AreSettled bs said) items (c.in_ok-signature.ensures.settled said k) in
+    let words = c.in_ok-sights.ensures.words [] c.new-making.ensures.words in
+    let reading : IsReading mid.names mid.bodies mid.constants said defs (constants_of own ++ of_each constants_of used) = record {
+      knows = k1;
+      holds = holds;
+      settled = settled;
+      met = subst (λ k. HasWords k (constants_of own ++ of_each constants_of used)) (sym c.announce_all.ensures.constants) words;
+      counted = subst (AreCounted mid.bodies.types.bank) (sym c.announce_all.ensures.constants) (counted_later first.bodies.types.bank mid.bodies.types.bank first.constants c.in_ok-announce_all.ensures.grown.bank counted);
+      typed = typed_before mid.constants m.constants c.in_ok-declare_all.ensures.grown.constants c.in_ok-signature.ensures.full;
+    } in
+    let (end, written) = c.in_ok-declare_all.ensures.reads said defs (constants_of own ++ of_each constants_of used) reading in
+    record {
+      given = trees;
+      are = record {
+        names = given_names first.bodies.types.bank first.bodies.bodies.items before rows given;
+        bodies = λ name t e. given_later before (said_in text ds) (kind_names s) rows name t kinds (given_found first.bodies.types.bank first.bodies.bodies.items before rows given name t e);
+      };
+      constants = λ i d l. written_type s m.bodies.types.bank m.constants said defs (get_or (typed_in text ds) i d) c.in_ok-signature.ensures.bank c.in_ok-signature.ensures.typed (written i d l);
+      abbreviations = c.in_ok-signature.ensures.bodies said defs k end.holds;
+    }

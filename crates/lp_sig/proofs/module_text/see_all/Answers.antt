@@ -1,3 +1,5 @@
+use Rattle.lp_sig.specs.AsWritten.{bodies_of}
+use Rattle.lp_sig.specs.inner.Given.{GivesBodies}
 use Rattle.std.proofs.Common.{◌++◌, map, sym, subst, inr}
 use Rattle.lp_sig.specs.Rows.{fixity_row}
 use Rattle.lp_sig.specs.Knowing.{Knows, KnowsOperators}
@@ -42,3 +44,18 @@ returns-clause-seen c = λ said words k h all ordered kinds new used.
     (subst (λ n. HasWords n (words ++ constants_of c.args.own.now)) (sym c.see_fixities.ensures.constants) (c.in_ok-see.ensures.words words h))
     (counted_parts c.see.new.self c.see_fixities.new.self c.see_fixities.ensures.bodies c.see_fixities.ensures.constants
     (c.in_ok-see.ensures.seen said words k h all ordered (inr (kinds, new))).0) used
+
+pub returns-clause-counted : goal.returns-clause-counted
+returns-clause-counted c = λ said words k h all ordered kinds new used alike.
+    c.in_ok-sights.ensures.counted (said ++ said_of c.args.own.now) (words ++ constants_of c.args.own.now)
+    (subst (λ n. Knows n (said ++ said_of c.args.own.now)) (sym c.see_fixities.ensures.names) (c.in_ok-see.ensures.names said k))
+    (subst (λ n. HasWords n (words ++ constants_of c.args.own.now)) (sym c.see_fixities.ensures.constants) (c.in_ok-see.ensures.words words h))
+    (counted_parts c.see.new.self c.see_fixities.new.self c.see_fixities.ensures.bodies c.see_fixities.ensures.constants
+    (c.in_ok-see.ensures.seen said words k h all ordered (inr (kinds, new))).0) used alike
+
+pub returns-clause-given : goal.returns-clause-given
+returns-clause-given c = λ said rows k g ordered whole kinds used used_whole alike.
+    c.in_ok-sights.ensures.given used used_whole alike (said ++ said_of c.args.own.now) (rows ++ bodies_of c.args.own.now)
+    (subst (λ n. Knows n (said ++ said_of c.args.own.now)) (sym c.see_fixities.ensures.names) (c.in_ok-see.ensures.names said k))
+    (subst (λ b. GivesBodies b.types.bank b.bodies.items (said ++ said_of c.args.own.now) (rows ++ bodies_of c.args.own.now)) (sym c.see_fixities.ensures.bodies)
+    (c.in_ok-see.ensures.given said rows k g ordered whole (inr kinds)))

@@ -1,4 +1,7 @@
-use Rattle.std.proofs.Common.{◌++◌, ◌∙◌, ◌+◌, [], ◌∷◌, length, refl, sym, ap, subst, take, take_all, append-nil, arith, inl}
+use Rattle.lp_sig.specs.inner.Given.{GivesBodies, GivesMore}
+use Rattle.lp_sig.specs.Sights.{AreAlike}
+use Rattle.lp_sig.specs.AsWritten.{bodies_of, HasWholeBodies}
+use Rattle.std.proofs.Common.{◌++◌, ◌∙◌, ◌+◌, [], ◌∷◌, length, refl, sym, ap, subst, take, take_all, append-nil, arith, inl, ◌≡◌}
 use Rattle.std.proofs.lemmas.List.{length-append}
 use Rattle.lp_sig.specs.Knowing.{Knows}
 use Rattle.lp_sig.specs.Modules.{of_each, said_of, constants_of}
@@ -17,8 +20,11 @@ loop-at-init c = record {
   operators = refl;
   grown = making_same c.args.making.now;
   count = ap length c.new-sights.ensures.items;
+  low = omega arith;
   counted = λ said words k h all ordered alike. all;
   seen = λ said words k h all ordered n low alike i below. absurd (omega (arith, low, below));
+  given = λ ordered whole alike said rows k g. subst (λ s. GivesBodies c.args.making.now.bodies.types.bank c.args.making.now.bodies.bodies.items s (rows ++ [])) (sym (append-nil said))
+      (subst (GivesBodies c.args.making.now.bodies.types.bank c.args.making.now.bodies.bodies.items said) (sym (append-nil rows)) g);
 }
 
 pub loop-at-preserved : goal.loop-at-preserved
@@ -32,6 +38,7 @@ loop-at-preserved c = record {
   operators = c.see.ensures.operators ∙ c.loop-at.invariant.operators;
   grown = making_then c.args.making.now c.loop-at.making c.see.new.self c.loop-at.invariant.grown (record { bank = c.see.ensures.kept; constants = c.in_ok-sight.ensures.grown });
   count = ap length c.in_ok-push.ensures.items ∙ length-append c.loop-at.sights.items (c.in_ok-sight.sight ∷ []) ∙ ap (λ n. n + 1) c.loop-at.invariant.count;
+  low = (let l = c.loop-at-test.true in omega (arith, l));
   counted = λ said words k h all ordered alike.
       let y = last_alike c.loop-at.sights.items c.push.new.self.items c.in_ok-sight.sight c.loop-at.at c.in_ok-push.ensures.items c.loop-at.invariant.count alike in
       (c.in_ok-sight.ensures.seen (said ++ of_each said_of (take c.loop-at.at c.args.used.now))
@@ -49,6 +56,17 @@ loop-at-preserved c = record {
       (c.loop-at.invariant.counted said words k h all ordered alike) (at_is IsOrdered c.args.used.now c.loop-at.at c.index-used-at.result
       c.loop-at-test.true c.index-used-at.is ordered) (inl s)).1)
       n low alike i below u found);
+  given = λ ordered whole alike said rows k g.
+      let at = c.loop-at.at in
+      let used = c.args.used.now in
+      let u = c.index-used-at.result in
+      let new = c.see.new.self.bodies in
+      let y = last_alike c.loop-at.sights.items c.push.new.self.items c.in_ok-sight.sight at c.in_ok-push.ensures.items c.loop-at.invariant.count alike in
+      subst (λ s. GivesBodies new.types.bank new.bodies.items s (rows ++ of_each bodies_of (take (at + 1) used))) (signatures_more said_of used at u said c.loop-at-test.true c.index-used-at.is)
+      (subst (GivesBodies new.types.bank new.bodies.items ((said ++ of_each said_of (take at used)) ++ said_of u)) (signatures_more bodies_of used at u rows c.loop-at-test.true c.index-used-at.is)
+      (c.in_ok-sight.ensures.given (said ++ of_each said_of (take at used)) (rows ++ of_each bodies_of (take at used)) (c.loop-at.invariant.names said k)
+      (c.loop-at.invariant.given ordered whole y.0 said rows k g) (at_is IsOrdered used at u c.loop-at-test.true c.index-used-at.is ordered)
+      (at_is HasWholeBodies used at u c.loop-at-test.true c.index-used-at.is whole) (inl y.1)));
 }
 
 pub returns-clause-names : goal.returns-clause-names
@@ -66,3 +84,12 @@ pub returns-clause-seen : goal.returns-clause-seen
 returns-clause-seen c = λ said words k h all ordered n low alike i below u found.
     subst (λ ss. SeenSo c.loop-at.making (said ++ of_each said_of ss) u) (take_all c.loop-at.at c.args.used.now c.loop-at-test.false)
     (c.loop-at.invariant.seen said words k h all ordered n (let e = c.loop-at-test.false in omega (arith, low, e)) alike i below u found)
+
+pub returns-clause-counted : goal.returns-clause-counted
+returns-clause-counted c = λ said words k h all ordered alike.
+    c.loop-at.invariant.counted said words k h all ordered (subst (AreAlike c.loop-at.sights.items) (let e = c.loop-at-test.false in let l = c.loop-at.invariant.low in let same : length c.args.used.now ≡ c.loop-at.at = omega (arith, e, l) in same) alike)
+
+pub returns-clause-given : goal.returns-clause-given
+returns-clause-given c = λ ordered whole alike.
+    subst (λ ss. GivesMore c.args.making.now c.loop-at.making (of_each said_of ss) (of_each bodies_of ss)) (take_all c.loop-at.at c.args.used.now c.loop-at-test.false)
+    (c.loop-at.invariant.given ordered whole (subst (AreAlike c.loop-at.sights.items) (let e = c.loop-at-test.false in let l = c.loop-at.invariant.low in let same : length c.args.used.now ≡ c.loop-at.at = omega (arith, e, l) in same) alike))

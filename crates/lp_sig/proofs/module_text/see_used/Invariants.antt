@@ -1,3 +1,5 @@
+use Rattle.lp_sig.specs.inner.Given.{GivesMore}
+use Rattle.lp_sig.specs.AsWritten.{bodies_of, HasWholeBodies}
 use Rattle.std.proofs.Common.{◌≡◌, ℕ, ◌<◌, ◌≤◌, List, length, take, Some, ◌++◌}
 use Rattle.std.specs.Prelude.{slice_get, All}
 use Rattle.lp_sig.specs.Rows.{Row}
@@ -18,10 +20,12 @@ invariant-loop-at l = record {
   operators : l.making.operators ≡ l.fn.making.operators;
   grown : Grows l.fn.making l.making;
   count : length l.sights.items ≡ l.at;
+  low : l.at ≤ length l.used;
   counted : (said : List (Row Said)) (words : List (List ℕ)) → Knows l.fn.making.names said → HasWords l.fn.making.constants words → AreCounted
       l.fn.making.bodies.types.bank l.fn.making.constants → All IsOrdered l.used → AreAlike l.sights.items l.at → AreCounted
       l.making.bodies.types.bank l.making.constants;
   seen : (said : List (Row Said)) (words : List (List ℕ)) → Knows l.fn.making.names said → HasWords l.fn.making.constants words → AreCounted
       l.fn.making.bodies.types.bank l.fn.making.constants → All IsOrdered l.used →
       (n : ℕ) → n ≤ l.at → AreAlike l.sights.items n → (i : ℕ) → i < n → (u : Signature) → slice_get l.used i ≡ Some u → SeenSo l.making (said ++ of_each said_of (take l.at l.used)) u;
+  given : All IsOrdered l.used → All HasWholeBodies l.used → AreAlike l.sights.items l.at → GivesMore l.fn.making l.making (of_each said_of (take l.at l.used)) (of_each bodies_of (take l.at l.used));
 }

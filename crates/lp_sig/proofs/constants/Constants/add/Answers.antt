@@ -24,3 +24,6 @@ returns-clause-words c = λ words new h.
 
 pub returns-clause-grown : goal.returns-clause-grown
 returns-clause-grown c = (record { name = c.in_ok-name.name; declared = c.args.declared } ∷ [], c.in_ok-push.ensures.items)
+
+pub returns-clause-put : goal.returns-clause-put
+returns-clause-put c = λ d is. (record { name = c.in_ok-name.name; declared = c.args.declared }, c.in_ok-name.ensures.items, is, c.in_ok-push.ensures.items)

@@ -1,4 +1,6 @@
-use Rattle.std.proofs.Common.{[], ap, inl, inr, refl, ⊎_elim}
+use Rattle.lp_sig.specs.Sighted.{IsTreeOf}
+use Rattle.lp_sig.proofs.Reading.{declared_new, declared_again}
+use Rattle.std.proofs.Common.{[], ap, inl, inr, refl, ⊎_elim, subst}
 use Rattle.std.proofs.lemmas.Result.{IfErr-weaker, on_ok_weaker}
 use Rattle.lp_sig.proofs.Declaring.{new_refused, new_known, new_typed, new_taken, untyped_known, untyped_typed, untyped_taken, typed_known, typed_again, typed_refused, typed_taken, missing_taken}
 use Rattle.lp_sig.specs.Pieces.{spelled}
@@ -117,3 +119,19 @@ returns-in-New-clause-reason c = IfErr-weaker c.add.result _ _ (λ e f. ⊎_elim
 
 pub returns-then-not-are_equal-clause-reason : goal.returns-then-not-are_equal-clause-reason
 returns-then-not-are_equal-clause-reason c = inr (faults.other_type c.args.name (Contains_head c.args.name []) refl)
+
+pub returns-in-New-clause-tree : goal.returns-in-New-clause-tree
+returns-in-New-clause-tree c = on_ok_weaker c.add.result (λ h words d is can. declared_new c.args.types.now.bank c.known_as.new.types.bank c.args.self.now c.add.new.self
+    c.args.source.now c.args.name c.spelled_at-word.result.now words d c.known_as.ensures.kept c.spelled_at-word.ensures (h d is) can) c.add.ensures.put
+
+pub returns-in-Untyped-clause-tree : goal.returns-in-Untyped-clause-tree
+returns-in-Untyped-clause-tree c = λ words d is can. absurd (c.in_ok-known_as.ensures.never c.in-Untyped.is can.typed)
+
+pub returns-in_default-clause-tree : goal.returns-in_default-clause-tree
+returns-in_default-clause-tree c = λ words d is can. let none = c.in_default.is in absurd (cc)
+
+pub returns-else-not-are_equal-clause-tree : goal.returns-else-not-are_equal-clause-tree
+returns-else-not-are_equal-clause-tree c = λ words d is can.
+    declared_again c.args.types.now.bank c.known_as.new.types.bank c.args.self.now c.args.source.now c.args.name c.spelled_at-word.result.now words c.in-Typed.known c.in-Some.new d c.args.declared
+    c.known_as.ensures.kept c.spelled_at-word.ensures (subst (IsTreeOf c.known_as.new.types.bank c.args.self.now c.spelled_at-word.result.now) c.in-Typed.is (c.in_ok-known_as.ensures.tree words can.met can.counted))
+    (c.if-not-are_equal.ensures.same refl) c.in-Some.is is can

@@ -1,3 +1,5 @@
+use Rattle.lp_sig.specs.inner.Reading.{AreDeclaredAs}
+use Rattle.lp_sig.proofs.Reading.{none_declared, declared_more, inside_later, can_again}
 use Rattle.std.specs.Prelude.{◌⊎◌}
 use Rattle.std.proofs.Common.{◌≡◌, ◌++◌, map, sym, subst, take, append-nil, take_all, []}
 use Rattle.lp_term.proofs.Within.{kept_then}
@@ -26,6 +28,7 @@ loop-name-init c = record {
   typed = λ from z rows w k t all some. subst (λ r. AreTypedIf from z r c.args.self.now) (sym (append-nil rows)) all;
   taken = λ from z rows w k t all some. tt;
   words = λ words h. subst (HasWords c.args.self.now) (sym (append-nil words)) h;
+  trees = λ words d is can. none_declared c.args.types.now.bank c.args.self.now c.args.source.now words d can;
 }
 
 pub loop-name-preserved : goal.loop-name-preserved
@@ -53,6 +56,11 @@ loop-name-preserved c =
       words = λ words h.
           subst (HasWords c.declare.new.self) (mapped_more (λ s. spelled text s) names i _ words c.loop-name-test.true)
           (c.in_ok-declare.ensures.words (words ++ map (λ s. spelled text s) (take i names)) (inv.words words h));
+      trees = λ words d is can.
+          let before = inv.trees words d is can in
+          declared_more here c.declare.new.types.bank c.loop-name.self c.declare.new.self text names i _ d c.loop-name-test.true c.declare.ensures.kept c.in_ok-declare.ensures.grown (inside_later b here c.args.self.now words d inv.kept can) before
+          (c.in_ok-declare.ensures.tree (words ++ map (λ s. spelled text s) (take i names)) d is
+          (can_again b here c.args.self.now c.loop-name.self text (take i names) words (words ++ map (λ s. spelled text s) (take i names)) d inv.kept can before (inv.words words can.met)));
     }
 
 pub returns-in_err-declare-clause-kept : goal.returns-in_err-declare-clause-kept
@@ -95,3 +103,8 @@ pub returns-in_err-declare-clause-reason : goal.returns-in_err-declare-clause-re
 returns-in_err-declare-clause-reason c =
     passed_up c.from_residual.result c.in_err-declare.field-0.0 (λ e. (e ≡ fault.Memory) ⊎ IsNewFault c.args.names.now e) c.from_residual.ensures.1
     (new_or c.args.names.now c.loop-name.name-index _ c.in_err-declare.field-0.0 fault.Memory c.loop-name-test.true c.in_err-declare.ensures.reason)
+
+pub returns-clause-trees : goal.returns-clause-trees
+returns-clause-trees c = λ words d is can.
+    subst (λ names. AreDeclaredAs c.loop-name.types.bank c.loop-name.self c.args.source.now names d)
+    (take_all c.loop-name.name-index c.args.names.now c.loop-name-test.false) (c.loop-name.invariant.trees words d is can)

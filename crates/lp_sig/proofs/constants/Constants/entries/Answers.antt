@@ -1,4 +1,6 @@
-use Rattle.std.proofs.Common.{◌<◌, ◌≤◌, take_all, map, length, subst, arith, get_or, ap, ◌∙◌}
+use Rattle.std.proofs.lemmas.List.Elements.{All-more}
+use Rattle.std.specs.Prelude.{All, is_some}
+use Rattle.std.proofs.Common.{◌<◌, ◌≤◌, take_all, map, length, subst, arith, get_or, ap, ◌∙◌, ◌≡◌, true}
 use Rattle.lp_sig.specs.Constants.{declared_constants}
 use Rattle.lp_sig.proofs.Listing.{entry_listed, all_listed, numbers_for_all}
 use Rattle.lp_sig.specs.Modules.{numbered_names}
@@ -26,6 +28,9 @@ loop-place-preserved c =
           (subst (λ xs. i < length xs) c.deref-constant-items.ensures.value c.loop-place-test.true)
           (c.constant-item.is ∙ ap (λ xs. get_or xs i c.constant-item.result) c.deref-constant-items.ensures.value) c.in_ok-push.ensures.items c.loop-place.invariant.typed
           (ap (λ r. r.0) c.in_ok-entry.ensures.row) c.in_ok-entry.ensures.typed;
+      full = All-more (λ k. is_some k.declared ≡ true) c.args.self.now.constants.items i c.constant-item.result
+          (subst (λ xs. i < length xs) c.deref-constant-items.ensures.value c.loop-place-test.true) c.loop-place.invariant.full
+          (subst (λ k. is_some k.declared ≡ true) (c.constant-item.is ∙ ap (λ xs. get_or xs i c.constant-item.result) c.deref-constant-items.ensures.value) c.in_ok-entry.ensures.full);
     }
 
 pub returns-clause-are : goal.returns-clause-are
@@ -47,3 +52,7 @@ returns-clause-rows c =
 pub returns-clause-typed : goal.returns-clause-typed
 returns-clause-typed c = subst (λ ks. AreTheirEntries ks c.loop-place.entries.items) (take_all c.loop-place.place c.args.self.now.constants.items
     (subst (λ xs. length xs ≤ c.loop-place.place) c.deref-constant-items.ensures.value c.loop-place-test.false)) c.loop-place.invariant.typed
+
+pub returns-clause-full : goal.returns-clause-full
+returns-clause-full c = subst (All (λ k. is_some k.declared ≡ true)) (take_all c.loop-place.place c.args.self.now.constants.items
+    (subst (λ xs. length xs ≤ c.loop-place.place) c.deref-constant-items.ensures.value c.loop-place-test.false)) c.loop-place.invariant.full

@@ -1,4 +1,5 @@
-use Rattle.std.proofs.Common.{◌≡◌, List, map, take, ◌≤◌, ◌+◌}
+use Rattle.std.specs.Prelude.{All, is_some}
+use Rattle.std.proofs.Common.{◌≡◌, List, map, take, ◌≤◌, ◌+◌, true}
 use Rattle.lp_term.specs.Nodes.{Nodes}
 use Rattle.lp_sig.specs.Rows.{Row, number_row}
 use Rattle.lp_sig.specs.Modules.{numbered_names}
@@ -15,4 +16,5 @@ invariant-loop-place l = record {
       l.self.constants.items → AreInStep (IsConstant b said defs) 32 (take l.place rows) l.entries.items;
   rows : map number_row l.entries.items ≡ numbered_names 32 (map (λ k. k.name.items) (take l.place l.self.constants.items));
   typed : AreTheirEntries (take l.place l.self.constants.items) l.entries.items;
+  full : All (λ k. is_some k.declared ≡ true) (take l.place l.self.constants.items);
 }

@@ -1,4 +1,6 @@
-use Rattle.std.proofs.Common.{◌≡◌, get_or, ap, ◌∙◌}
+use Rattle.std.proofs.lemmas.Bool.{ltb-true}
+use Rattle.lp_sig.proofs.Reading.{never_open}
+use Rattle.std.proofs.Common.{◌≡◌, get_or, ap, ◌∙◌, ◌<◌, length, subst, sym}
 use Rattle.lp_term.proofs.Trees.{extends_same}
 use Rattle.lp_sig.proofs.KnownConstants.{tree_standard, tree_declared}
 use Rattle.lp_sig.proofs.Constancy.{known_standard, known_new, known_typed, known_untyped, never_untyped}
@@ -54,3 +56,10 @@ returns-in-Some-declared-clause-tree c = λ words h all.
     let at : x ≡ get_or c.args.self.now.constants.items c.in-Some-of.place x = c.in-Some-get.ensures.lookup.1 ∙ ap (λ xs. get_or xs c.in-Some-of.place x) c.deref.ensures.value in
     tree_declared c.args.types.now.bank c.args.types.now.bank c.args.self.now c.args.word.now words c.in-Some-of.place x c.in-Some-declared.declared h
     c.in-Some-of.ensures at c.in-Some-declared.is all (extends_same c.args.types.now.bank)
+
+pub returns-in-None-clause-never : goal.returns-in-None-clause-never
+returns-in-None-clause-never c = λ is all.
+    let x = c.in-Some-get.constant.now in
+    let at : x ≡ get_or c.args.self.now.constants.items c.in-Some-of.place x = c.in-Some-get.ensures.lookup.1 ∙ ap (λ xs. get_or xs c.in-Some-of.place x) c.deref.ensures.value in
+    let l : c.in-Some-of.place < length c.args.self.now.constants.items = subst (λ xs. c.in-Some-of.place < length xs) c.deref.ensures.value (ltb-true c.in-Some-of.place (length c.deref.result.now) (sym c.in-Some-get.ensures.lookup.0)) in
+    never_open c.args.self.now c.in-Some-of.place x l at c.in-None.is all

@@ -1,7 +1,12 @@
-use Rattle.std.proofs.Common.{◌++◌, ◌∷◌, [], subst}
+use Rattle.lp_sig.proofs.GivenBodies.{kinds_unchanged, given_new, given_again}
+use Rattle.lp_sig.specs.inner.Given.{GivesBodies}
+use Rattle.lp_term.specs.Nodes.{type_tree}
+use Rattle.lp_sig.specs.Named.{named, kind_name}
+use Rattle.std.specs.Prelude.{not}
+use Rattle.std.proofs.Common.{◌++◌, ◌∷◌, [], subst, ◌≡◌, ◌∙◌, sym, ap, true, false, refl}
 use Rattle.lp_lemmas.proofs.Results.{on_ok_always}
 use Rattle.lp_sig.specs.Said.{an_abbreviation}
-use Rattle.lp_sig.specs.Knowing.{Knows}
+use Rattle.lp_sig.specs.Knowing.{Knows, is_known}
 use Rattle.lp_sig.proofs.making.Making.see_abbreviation.Goals as goal
 
 pub returns-then-fresh-clause-names : goal.returns-then-fresh-clause-names
@@ -12,3 +17,18 @@ pub returns-clause-names : goal.returns-clause-names
 returns-clause-names c = on_ok_always c.sight_of_abbreviation.result _ (λ said k. subst
     (λ n. Knows c.announce_head.new.self (said ++ (n, an_abbreviation c.args.entry.now.type_vars) ∷ [])) c.as_slice.ensures.value
     (c.in_ok-fresh.ensures.names said k))
+
+pub returns-then-fresh-clause-given : goal.returns-then-fresh-clause-given
+returns-then-fresh-clause-given c = λ there names said rows k g seen whole.
+    let e = c.args.entry.now in
+    let b = c.args.self.now.bodies.types.bank in
+    let made = seen e.body.0 c.in_ok-body.body c.in_ok-body.ensures in
+    let fresh : is_known e.name.items said ≡ false = ap (λ w. is_known w said) (sym c.as_slice.ensures.value) ∙ sym (c.in_ok-fresh.ensures.fresh said k) ∙ ap not c.if-fresh.true in
+    subst (λ t. GivesBodies t.bank c.add.new.self.bodies.items (said ++ (e.name.items, an_abbreviation e.type_vars) ∷ []) (rows ++ (e.name.items, named (kind_name names) (type_tree there e.body.0)) ∷ [])) (sym c.add.ensures.types)
+    (given_new b c.args.self.now.bodies.bodies.items c.add.new.self.bodies.items said rows e.name.items e.type_vars (named (kind_name names) (type_tree there e.body.0)) g (kinds_unchanged said (e ∷ [])) c.in_ok-body.body fresh c.in_ok-add.ensures.items made.0 made.1 whole)
+
+pub returns-clause-given : goal.returns-clause-given
+returns-clause-given c = on_ok_always c.sight_of_abbreviation.result _ (λ there names said rows k g seen whole.
+    let e = c.args.entry.now in
+    let known : is_known e.name.items said ≡ true = ap (λ w. is_known w said) (sym c.as_slice.ensures.value) ∙ sym (c.in_ok-fresh.ensures.fresh said k) ∙ ap not c.if-fresh.false in
+    given_again c.args.self.now.bodies.types.bank c.args.self.now.bodies.bodies.items c.args.self.now.bodies.bodies.items said rows e.name.items e.type_vars (named (kind_name names) (type_tree there e.body.0)) g (kinds_unchanged said (e ∷ [])) known refl)

@@ -1,4 +1,9 @@
-use Rattle.std.proofs.Common.{◌≡◌, List, map, take, ◌++◌}
+use Rattle.lp_sig.specs.inner.Given.{GivesBodies}
+use Rattle.lp_sig.specs.Sighted.{said_kinds, AreSeenTypes}
+use Rattle.lp_sig.specs.Named.{NamedTy, named, kind_name, IsWhole}
+use Rattle.lp_term.specs.Nodes.{Nodes, type_tree}
+use Rattle.std.specs.Prelude.{All}
+use Rattle.std.proofs.Common.{◌≡◌, List, map, take, ◌++◌, ℕ}
 use Rattle.lp_sig.specs.Rows.{Row}
 use Rattle.lp_sig.specs.Said.{Said}
 use Rattle.lp_sig.specs.Knowing.{Knows}
@@ -11,4 +16,7 @@ invariant-loop-at l = record {
   constants : l.self.constants ≡ l.fn.self.constants;
   types : l.self.bodies.types ≡ l.fn.self.bodies.types;
   operators : l.self.operators ≡ l.fn.self.operators;
+  given : (there : Nodes) (names : List (List ℕ)) (said : List (Row Said)) (rows : List (Row NamedTy)) → Knows l.fn.self.names said → GivesBodies l.fn.self.bodies.types.bank l.fn.self.bodies.bodies.items said rows →
+      AreSeenTypes there l.fn.self.bodies.types.bank names (said_kinds said) l.made → All (λ e. IsWhole (named (kind_name names) (type_tree there e.body.0))) l.entries →
+      GivesBodies l.self.bodies.types.bank l.self.bodies.bodies.items (said ++ map abbreviation_said (take l.at l.entries)) (rows ++ map (λ e. (e.name.items, named (kind_name names) (type_tree there e.body.0))) (take l.at l.entries));
 }

@@ -15,3 +15,6 @@ returns-in-Err-clause-refused c = λ said k. blamed_or (exports_constant c.args.
 
 pub returns-in-Ok-clause-taken : goal.returns-in-Ok-clause-taken
 returns-in-Ok-clause-taken c = λ said k. (c.in-Ok.ensures.taken, c.in-Ok.ensures.stand said k)
+
+pub returns-in-Ok-clause-reads : goal.returns-in-Ok-clause-reads
+returns-in-Ok-clause-reads c = c.in-Ok.ensures.reads

@@ -1,4 +1,7 @@
-use Rattle.std.proofs.Common.{◌≡◌, ◌≤◌, refl, sym, ap, subst, map, inl, inr, ⊎_elim}
+use Rattle.lp_sig.specs.AsWritten.{typed_locals}
+use Rattle.lp_sig.specs.Constants.{written_in}
+use Rattle.lp_sig.proofs.Reading.{its_types, reads_same, reads_none}
+use Rattle.std.proofs.Common.{◌≡◌, ◌≤◌, [], refl, sym, ap, subst, map, inl, inr, ⊎_elim}
 use Rattle.std.proofs.lemmas.Result.{on_ok_weaker}
 use Rattle.lp_lemmas.proofs.Results.{on_ok_always}
 use Rattle.lp_sig.specs.Pieces.{spelled}
@@ -9,7 +12,7 @@ use Rattle.lp_sig.proofs.KnownConstants.{making_same}
 use Rattle.lp_sig.proofs.Sights.{none_words, its_modules, its_signatures}
 use Rattle.std.proofs.lemmas.Result.{IfErr-weaker, IfOk-weaker}
 use Rattle.lp_base.specs.declared.limits.TheConstants.{MAX_ARGUMENTS}
-use Rattle.lp_sig.specs.Said.{a_kind}
+use Rattle.lp_sig.specs.Said.{a_kind, each}
 use Rattle.lp_sig.specs.Limits.{AreShort}
 use Rattle.lp_sig.specs.Words.{IsKindsFault, AreMeant, AreNumbered, IsSoundType, IsHead, WordsStand, parameters_of}
 use Rattle.lp_sig.specs.Modules.{constant_names_in}
@@ -191,3 +194,30 @@ returns-in-AccumSig-clause-taken c = λ said ds k hk hc. ok_with c.accum_sig.res
 
 pub returns-in-Fixities-clause-taken : goal.returns-in-Fixities-clause-taken
 returns-in-Fixities-clause-taken c = λ said ds k hk hc. subst (λ d. IsLineTaken c.args.self.now.own.now c.args.self.now.source.now said ds d) (sym c.in-Fixities.is) tt
+
+pub returns-in-Kinds-clause-reads : goal.returns-in-Kinds-clause-reads
+returns-in-Kinds-clause-reads c = on_ok_always c.kinds.result _ (its_types c.args.making.now c.args.making.now c.args.self.now.source.now c.args.declaration.now _ [] [] c.in-Kinds.is refl refl (reads_same c.args.making.now))
+
+pub returns-in-LocalKinds-clause-reads : goal.returns-in-LocalKinds-clause-reads
+returns-in-LocalKinds-clause-reads c = on_ok_always c.local_kinds_of.result _ (its_types c.args.making.now c.args.making.now c.args.self.now.source.now c.args.declaration.now _ [] [] c.in-LocalKinds.is refl refl (reads_same c.args.making.now))
+
+pub returns-in-Accumulate-clause-reads : goal.returns-in-Accumulate-clause-reads
+returns-in-Accumulate-clause-reads c = on_ok_always c.accumulate.result _ (its_types c.args.making.now c.args.making.now c.args.self.now.source.now c.args.declaration.now _ [] [] c.in-Accumulate.is refl refl (reads_same c.args.making.now))
+
+pub returns-in-AccumSig-clause-reads : goal.returns-in-AccumSig-clause-reads
+returns-in-AccumSig-clause-reads c = on_ok_always c.accum_sig.result _ (its_types c.args.making.now c.args.making.now c.args.self.now.source.now c.args.declaration.now _ [] [] c.in-AccumSig.is refl refl (reads_same c.args.making.now))
+
+pub returns-in-Fixities-clause-reads : goal.returns-in-Fixities-clause-reads
+returns-in-Fixities-clause-reads c = its_types c.args.making.now c.args.making.now c.args.self.now.source.now c.args.declaration.now _ [] [] c.in-Fixities.is refl refl (reads_same c.args.making.now)
+
+pub returns-in-Constants-clause-reads : goal.returns-in-Constants-clause-reads
+returns-in-Constants-clause-reads c = on_ok_weaker c.constants.result (λ h. its_types c.args.making.now c.constants.new.making c.args.self.now.source.now c.args.declaration.now _ _ _ c.in-Constants.is
+    (ap (λ ns. each c.args.self.now.source.now (written_in c.args.self.now.source.now c.in-Constants.raw) ns) c.as_slice-in-Constants.ensures.value) (ap (λ ns. map (λ s. spelled c.args.self.now.source.now s) ns) c.as_slice-in-Constants.ensures.value) h) c.constants.ensures.reads
+
+pub returns-in-Locals-clause-reads : goal.returns-in-Locals-clause-reads
+returns-in-Locals-clause-reads c = on_ok_weaker c.locals_typed.result (λ h. its_types c.args.making.now c.locals_typed.new.making c.args.self.now.source.now c.args.declaration.now _ _ _ c.in-Locals.is
+    (ap (λ ns. typed_locals c.args.self.now.source.now ns c.in-Locals.raw) c.as_slice-in-Locals.ensures.value) (ap (λ ns. local_names c.args.self.now.source.now ns c.in-Locals.raw) c.as_slice-in-Locals.ensures.value) h) c.locals_typed.ensures.reads
+
+pub returns-in-Abbreviation-clause-reads : goal.returns-in-Abbreviation-clause-reads
+returns-in-Abbreviation-clause-reads c = on_ok_weaker c.abbreviation.result (λ grown. its_types c.args.making.now c.abbreviation.new.making c.args.self.now.source.now c.args.declaration.now _ [] [] c.in-Abbreviation.is refl refl
+    (reads_none c.args.making.now.names c.args.making.now.bodies c.abbreviation.new.making.bodies c.args.making.now.constants c.abbreviation.new.making.constants grown.bank c.abbreviation.ensures.kept c.abbreviation.ensures.constants)) c.abbreviation.ensures.grown

@@ -30,3 +30,6 @@ returns-in_err-declare-clause-refused c =
 
 pub returns-clause-taken : goal.returns-clause-taken
 returns-clause-taken c = ((sym c.exports_constant.ensures ∙ c.if-exports_constant.false), c.in_ok-check_length.ensures.taken)
+
+pub returns-clause-tree : goal.returns-clause-tree
+returns-clause-tree c = c.in_ok-declare.ensures.tree

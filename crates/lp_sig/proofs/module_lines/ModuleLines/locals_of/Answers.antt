@@ -1,3 +1,5 @@
+use Rattle.lp_sig.specs.inner.Reading.{AreDeclaredAs}
+use Rattle.lp_sig.proofs.Reading.{none_declared, declared_more, inside_later, can_again}
 use Rattle.std.proofs.Common.{◌≡◌, ◌++◌, ◌∙◌, map, refl, sym, subst, take, take_all, append-nil}
 use Rattle.lp_sig.specs.Pieces.{spelled}
 use Rattle.lp_sig.specs.Worded.{HasWords}
@@ -22,6 +24,8 @@ loop-name-init c = record {
       (IsShort c.args.self.now.source.now));
   names = refl;
   operators = refl;
+  kept = refl;
+  trees = λ words d is can. none_declared c.args.making.now.bodies.types.bank c.args.making.now.constants c.args.self.now.source.now words d can;
 }
 
 pub loop-name-preserved : goal.loop-name-preserved
@@ -36,6 +40,18 @@ loop-name-preserved c =
       grown = making_then c.args.making.now c.loop-name.making c.local.new.making c.loop-name.invariant.grown c.in_ok-local.ensures.grown;
       names = c.local.ensures.names ∙ c.loop-name.invariant.names;
       operators = c.local.ensures.operators ∙ c.loop-name.invariant.operators;
+      kept = c.local.ensures.kept ∙ c.loop-name.invariant.kept;
+      trees = λ words d is can.
+          let i = c.loop-name.name-index in
+          let names = c.args.names.now in
+          let inv = c.loop-name.invariant in
+          let b = c.args.making.now.bodies.types.bank in
+          let here = c.loop-name.making.bodies.types.bank in
+          let before = inv.trees words d is can in
+          declared_more here c.local.new.making.bodies.types.bank c.loop-name.making.constants c.local.new.making.constants text names i _ d c.loop-name-test.true c.in_ok-local.ensures.grown.bank c.in_ok-local.ensures.grown.constants
+          (inside_later b here c.args.making.now.constants words d inv.grown.bank can) before
+          (c.in_ok-local.ensures.tree (words ++ map (λ s. spelled text s) (take i names)) d is
+          (can_again b here c.args.making.now.constants c.loop-name.making.constants text (take i names) words (words ++ map (λ s. spelled text s) (take i names)) d inv.grown.bank can before (inv.words words can.met)));
     }
 
 pub returns-clause-words : goal.returns-clause-words
@@ -60,3 +76,14 @@ returns-in_err-local-clause-refused c =
 pub returns-clause-taken : goal.returns-clause-taken
 returns-clause-taken c = subst (All (IsLocal (exports_constant c.args.self.now.own.now) c.args.self.now.source.now
     (IsShort c.args.self.now.source.now))) (take_all c.loop-name.name-index c.args.names.now c.loop-name-test.false) c.loop-name.invariant.taken
+
+pub returns-clause-kept : goal.returns-clause-kept
+returns-clause-kept c = c.loop-name.invariant.kept
+
+pub returns-in_err-local-clause-kept : goal.returns-in_err-local-clause-kept
+returns-in_err-local-clause-kept c = c.local.ensures.kept ∙ c.loop-name.invariant.kept
+
+pub returns-clause-trees : goal.returns-clause-trees
+returns-clause-trees c = λ words d is can.
+    subst (λ names. AreDeclaredAs c.loop-name.making.bodies.types.bank c.loop-name.making.constants c.args.self.now.source.now names d)
+    (take_all c.loop-name.name-index c.args.names.now c.loop-name-test.false) (c.loop-name.invariant.trees words d is can)

@@ -1,4 +1,6 @@
-use Rattle.std.proofs.Common.{◌≡◌, ℕ, List, map, take, ◌++◌}
+use Rattle.lp_sig.specs.declared.constants.DeclaredType.{DeclaredType}
+use Rattle.lp_sig.specs.inner.Reading.{CanDeclare, AreDeclaredAs}
+use Rattle.std.proofs.Common.{◌≡◌, ℕ, List, map, take, ◌++◌, Some}
 use Rattle.std.specs.Prelude.{All}
 use Rattle.lp_sig.specs.Pieces.{spelled}
 use Rattle.lp_sig.specs.Limits.{IsShort}
@@ -14,4 +16,6 @@ invariant-loop-name l = record {
   grown : Grows l.fn.making l.making;
   names : l.making.names ≡ l.fn.making.names;
   operators : l.making.operators ≡ l.fn.making.operators;
+  kept : l.making.bodies.bodies ≡ l.fn.making.bodies.bodies;
+  trees : (words : List (List ℕ)) (d : DeclaredType) → l.declared ≡ Some d → CanDeclare l.fn.making.bodies.types.bank l.fn.making.constants words d → AreDeclaredAs l.making.bodies.types.bank l.making.constants l.self.source.now (take l.name-index l.names) d;
 }

@@ -1,8 +1,9 @@
+use Rattle.lp_sig.proofs.Reading.{local_types, reads_same}
 use Rattle.std.proofs.lemmas.Result.{on_ok_weaker}
 use Rattle.lp_lemmas.proofs.Results.{on_ok_always}
 use Rattle.lp_sig.proofs.Sayings.{its_locals, no_locals}
 use Rattle.lp_sig.proofs.KnownConstants.{making_same}
-use Rattle.std.proofs.Common.{◌≡◌, sym, subst, inr}
+use Rattle.std.proofs.Common.{◌≡◌, sym, subst, inr, None}
 use Rattle.std.specs.Prelude.{◌⊎◌}
 use Rattle.std.proofs.lemmas.Result.{IfErr-weaker, IfOk-weaker}
 use Rattle.lp_sig.specs.ModuleFaults.{AreLocalsRefused, AreLocalsTaken}
@@ -42,3 +43,9 @@ pub returns-in-None-clause-taken : goal.returns-in-None-clause-taken
 returns-in-None-clause-taken c = λ said known k h. IfOk-weaker c.known_constants.result _ _
     (λ done t. subst (λ o. AreLocalsTaken c.args.self.now.own.now c.args.self.now.source.now said known c.args.names.now o) (sym c.in-None.is) t)
     (c.known_constants.ensures.taken known h)
+
+pub returns-in-Some-clause-reads : goal.returns-in-Some-clause-reads
+returns-in-Some-clause-reads c = on_ok_weaker c.locals.result (λ h. local_types c.args.making.now c.locals.new.making c.args.self.now.source.now c.args.names.now c.args.raw.now _ c.in-Some.is h) c.locals.ensures.reads
+
+pub returns-in-None-clause-reads : goal.returns-in-None-clause-reads
+returns-in-None-clause-reads c = on_ok_always c.known_constants.result _ (local_types c.args.making.now c.args.making.now c.args.self.now.source.now c.args.names.now c.args.raw.now None c.in-None.is (reads_same c.args.making.now))

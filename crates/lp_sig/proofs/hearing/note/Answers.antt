@@ -4,7 +4,7 @@ use Rattle.lp_sig.specs.Pieces.{spelled}
 use Rattle.lp_sig.specs.Sights.{HasKeys}
 use Rattle.lp_sig.proofs.Refusing.{key_more}
 use Rattle.lp_sig.proofs.Worded.{mapped_more}
-use Rattle.lp_sig.proofs.module_lines.note.Goals as goal
+use Rattle.lp_sig.proofs.hearing.note.Goals as goal
 
 pub loop-name-init : goal.loop-name-init
 loop-name-init c = λ before h. subst (HasKeys c.args.set.now) (sym (append-nil before)) h

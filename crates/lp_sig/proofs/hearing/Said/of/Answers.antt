@@ -5,7 +5,7 @@ use Rattle.lp_sig.specs.Sights.{HasKeys, HasNumbers, signature_words, module_wor
 use Rattle.lp_sig.proofs.Sayings.{lines_more, constants_append}
 use Rattle.lp_sig.proofs.Refusing.{kinds_append}
 use Rattle.lp_sig.proofs.Sights.{signature_words_append, module_words_append}
-use Rattle.lp_sig.proofs.module_lines.Said.of.Goals as goal
+use Rattle.lp_sig.proofs.hearing.Said.of.Goals as goal
 
 pub loop-at-init : goal.loop-at-init
 loop-at-init c = record { signatures = c.new-said.ensures.signatures; modules = c.new-said.ensures.modules; kinds = c.new-said.ensures.kinds; constants = c.new-said.ensures.constants }

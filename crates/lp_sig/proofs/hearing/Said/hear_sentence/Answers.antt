@@ -5,7 +5,7 @@ use Rattle.lp_sig.specs.ModuleFaults.{kind_names_in, kind_names_by}
 use Rattle.lp_sig.proofs.Refusing.{no_keys}
 use Rattle.lp_sig.specs.Sights.{HasKeys, HasNumbers, signature_words, module_words}
 use Rattle.lp_sig.proofs.Sights.{no_numbers}
-use Rattle.lp_sig.proofs.module_lines.Said.hear_sentence.Goals as goal
+use Rattle.lp_sig.proofs.hearing.Said.hear_sentence.Goals as goal
 
 pub returns-in-Declares-clause-signatures : goal.returns-in-Declares-clause-signatures
 returns-in-Declares-clause-signatures c = on_ok_weaker c.hear.result (λ f before h. subst

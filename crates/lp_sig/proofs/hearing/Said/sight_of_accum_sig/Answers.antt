@@ -1,6 +1,6 @@
 use Rattle.std.proofs.Common.{sym, ◌∙◌}
 use Rattle.lp_sig.proofs.Sights.{signature_at}
-use Rattle.lp_sig.proofs.module_lines.Said.sight_of_accum_sig.Goals as goal
+use Rattle.lp_sig.proofs.hearing.Said.sight_of_accum_sig.Goals as goal
 
 pub returns-in_err-number : goal.returns-in_err-number
 returns-in_err-number c = λ signatures h alike. let z = sym c.from_residual.ensures ∙ alike in absurd (cc)

@@ -2,7 +2,7 @@ use Rattle.std.proofs.Common.{take}
 use Rattle.lp_sig.specs.Modules.{declarations, constant_names_in}
 use Rattle.lp_sig.specs.ModuleFaults.{kind_names_in}
 use Rattle.lp_sig.specs.Sights.{HasKeys, HasNumbers, signature_words, module_words}
-use Rattle.lp_sig.proofs.module_lines.Said.of.Given as goal
+use Rattle.lp_sig.proofs.hearing.Said.of.Given as goal
 
 abbrev pub invariant-loop-at : goal.invariant-loop-at
 invariant-loop-at l = record {

@@ -1,6 +1,6 @@
 use Rattle.std.proofs.Common.{sym, ◌∙◌}
 use Rattle.lp_sig.proofs.Sights.{module_at}
-use Rattle.lp_sig.proofs.module_lines.Said.sight_of_accumulate.Goals as goal
+use Rattle.lp_sig.proofs.hearing.Said.sight_of_accumulate.Goals as goal
 
 pub returns-in_err-number : goal.returns-in_err-number
 returns-in_err-number c = λ signatures modules k h alike. let z = sym c.from_residual.ensures ∙ alike in absurd (cc)

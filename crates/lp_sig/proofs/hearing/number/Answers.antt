@@ -3,7 +3,7 @@ use Rattle.lp_base.specs.declared.place.Spot.{Spot}
 use Rattle.lp_sig.specs.Pieces.{spelled}
 use Rattle.lp_sig.specs.Sights.{HasNumbers}
 use Rattle.lp_sig.proofs.Worded.{mapped_more}
-use Rattle.lp_sig.proofs.module_lines.number.Goals as goal
+use Rattle.lp_sig.proofs.hearing.number.Goals as goal
 
 pub loop-word-init : goal.loop-word-init
 loop-word-init c = λ before h. subst (HasNumbers c.args.numbers.now) (sym (append-nil before)) h

@@ -4,7 +4,7 @@ use Rattle.std.specs.Str.{bytes_eq}
 use Rattle.std.specs.Map.{lookup}
 use Rattle.lp_fixity.proofs.Lookups.{lookup_put}
 use Rattle.lp_sig.proofs.Sights.{numbers_again, numbers_more}
-use Rattle.lp_sig.proofs.module_lines.number_word.Goals as goal
+use Rattle.lp_sig.proofs.hearing.number_word.Goals as goal
 
 pub returns-then-contains_key : goal.returns-then-contains_key
 returns-then-contains_key c = λ before h. numbers_again c.args.numbers.now before h c.args.name.now (sym c.contains_key.ensures ∙ c.if-contains_key.true)

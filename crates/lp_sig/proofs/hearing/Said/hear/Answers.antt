@@ -7,7 +7,7 @@ use Rattle.lp_sig.specs.ModuleFaults.{kind_names_by}
 use Rattle.lp_sig.specs.Sights.{HasKeys, signature_words, module_words}
 use Rattle.lp_sig.proofs.Refusing.{no_keys, local_kind_names, local_constant_names}
 use Rattle.lp_sig.proofs.Sights.{nothing_heard, more_modules, more_signatures}
-use Rattle.lp_sig.proofs.module_lines.Said.hear.Goals as goal
+use Rattle.lp_sig.proofs.hearing.Said.hear.Goals as goal
 
 pub returns-in-Kinds-clause-signatures : goal.returns-in-Kinds-clause-signatures
 returns-in-Kinds-clause-signatures c = on_ok_always c.note.result _ (nothing_heard c.args.self.now.accum_sigs signature_words c.args.source.now c.args.declaration.now _ c.in-Kinds.is refl)
