@@ -67,14 +67,14 @@ names_push (g ∷ fs) f = ap (λ l. string_bytes g.name ∷ l) (names_push fs f)
 
 pub loads_alike : {all : Bool} {b c fs gs : List File} {ns ms : List Need} (held : Held) (n : ℕ) → Loads all b ns fs [] → Loads all c ms gs [] → ns ≡ ms → names_of b ≡ names_of c → AreHeld held n fs → AreHeld held n gs → AreAlike fs gs
 loads_alike held n loads_none loads_none e same h k = tt
-loads_alike held n loads_none (is_there t r) e same h k = absurd (cc)
-loads_alike held n loads_none (is_loaded new is r) e same h k = absurd (cc)
-loads_alike held n (is_there t r) loads_none e same h k = absurd (cc)
-loads_alike held n (is_loaded new is r) loads_none e same h k = absurd (cc)
-loads_alike held n (is_there {needs = ns} t r) (is_there {needs = ms} u q) e same h k = let rest : ns ≡ ms = cc in loads_alike held n r q rest same h k
-loads_alike {b = b} held n (is_there {n = x} t r) (is_loaded {n = y} new is q) e same h k = let one : x ≡ y = cc in absurd (new (subst (λ l. Contains l (file_of y)) same (subst (λ z. Contains (names_of b) (file_of z)) one t)))
-loads_alike {c = c} held n (is_loaded {n = x} new is r) (is_there {n = y} t q) e same h k = let one : x ≡ y = cc in absurd (new (subst (λ l. Contains l (file_of x)) (sym same) (subst (λ z. Contains (names_of c) (file_of z)) (sym one) t)))
-loads_alike {all = all} {b = b} {c = c} held n (is_loaded {n = x} {f = f} {needs = ns} new is r) (is_loaded {n = y} {f = g} {needs = ms} new' is' q) e same h k =
+loads_alike held n loads_none (is_there short t r) e same h k = absurd (cc)
+loads_alike held n loads_none (is_loaded short new is r) e same h k = absurd (cc)
+loads_alike held n (is_there short t r) loads_none e same h k = absurd (cc)
+loads_alike held n (is_loaded short new is r) loads_none e same h k = absurd (cc)
+loads_alike held n (is_there {needs = ns} short t r) (is_there {needs = ms} short' u q) e same h k = let rest : ns ≡ ms = cc in loads_alike held n r q rest same h k
+loads_alike {b = b} held n (is_there {n = x} short t r) (is_loaded {n = y} short' new is q) e same h k = let one : x ≡ y = cc in absurd (new (subst (λ l. Contains l (file_of y)) same (subst (λ z. Contains (names_of b) (file_of z)) one t)))
+loads_alike {c = c} held n (is_loaded {n = x} short new is r) (is_there {n = y} short' t q) e same h k = let one : x ≡ y = cc in absurd (new (subst (λ l. Contains l (file_of x)) (sym same) (subst (λ z. Contains (names_of c) (file_of z)) (sym one) t)))
+loads_alike {all = all} {b = b} {c = c} held n (is_loaded {n = x} {f = f} {needs = ns} short new is r) (is_loaded {n = y} {f = g} {needs = ms} short' new' is' q) e same h k =
     let one : x ≡ y = cc in
     let rest : ns ≡ ms = cc in
     let name : string_bytes f.name ≡ string_bytes g.name = is.name ∙ ap file_of one ∙ sym is'.name in

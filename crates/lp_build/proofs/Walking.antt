@@ -1,26 +1,24 @@
 -- What is loaded is a beginning of the order, and what waits is needed next.
 use Rattle.std.specs.Global.{Global}
-use Rattle.std.proofs.Common.{◌≡◌, ℕ, zero, suc, ◌+◌, ◌<◌, Bool, true, false, List, [], ◌∷◌, ◌++◌, Option, Some, None, Result, Ok, Err, length, Vec, refl, sym, ap, subst, ◌∙◌, append_assoc, append-nil, not, true≢false, arith}
+use Rattle.std.proofs.Common.{◌≡◌, ℕ, zero, suc, ◌+◌, ◌<◌, ◌≤◌, Bool, true, false, List, [], ◌∷◌, ◌++◌, Option, Some, None, Result, Ok, Err, length, Vec, refl, sym, ap, subst, ◌∙◌, append_assoc, append-nil, not, true≢false, arith}
 use Rattle.std.specs.Prelude.{Contains, IfErr, IfSome, String, drop, string_bytes, ◌||◌}
 use Rattle.std.specs.List.{list_any}
-use Rattle.std.specs.Result.{IsErrAnd}
 use Rattle.std.specs.Str.{bytes_eq}
 use Rattle.std.proofs.lemmas.List.{drop_more, drop_all, get_or_default}
-use Rattle.std.proofs.lemmas.List.Elements.{Contains-get_or}
 use Rattle.indexmap.specs.IndexSet.{IndexSet}
 use Rattle.lp_lemmas.proofs.Booleans.{bytes_eq_self, bytes_eq_true}
 use Rattle.lp_lemmas.proofs.Elements.{Contains_head, Contains_tail}
-use Rattle.lp_lemmas.proofs.Results.{passed_up}
 use Rattle.lp_base.specs.Held.{Held}
 use Rattle.lp_base.specs.declared.limit.Limit.TheVariants as limit
+use Rattle.lp_base.specs.declared.limits.TheConstants.{MAX_MODULES, MAX_NAME_BYTES}
 use Rattle.lp_base.specs.declared.place.Spot.{Spot}
 use Rattle.lp_sig.specs.Pieces.{spelled}
 use Rattle.lp_sig.specs.Refusals.{IsAt}
 use Rattle.lp_sig.specs.Said.{is_among}
 use Rattle.lp_sig.specs.Sights.{HasKeys}
 use Rattle.lp_sig.proofs.Abbreviating.{among_append}
-use Rattle.lp_build.specs.Loads.{IsOfLoading, IsOfReading, IsOfText, IsOfWord, names_of}
-use Rattle.lp_build.specs.Ordered.{AreInOrder, AreInOrderSoFar, IsNext, IsText, IsThere, Loads, Need, accumulated, asked_by, both, file_of, is_loaded, is_there, loads_none, named_by, needed, signature}
+use Rattle.lp_build.specs.Loads.{IsOfReading, IsOfText, IsOfWord, names_of}
+use Rattle.lp_build.specs.Ordered.{AreInOrder, AreInOrderSoFar, IsDue, IsFileOf, IsOfLoading, IsRefusedAt, IsText, IsThere, IsTooLong, Loads, Need, accumulated, asked, asked_by, both, file_of, is_loaded, is_there, loads_none, named_by, needed, signature}
 use Rattle.lp_build.specs.Told.{IsFaultAt, IsFaultOf, IsTold}
 use Rattle.lp_build.specs.declared.fault.BuildFault.{BuildFault}
 use Rattle.lp_build.specs.declared.fault.BuildFault.TheVariants as fault
@@ -32,7 +30,7 @@ use Rattle.lp_build.specs.declared.sources.Text.{Text}
 use Rattle.lp_build.specs.declared.walk.Loading.{Loading}
 use Rattle.lp_build.specs.declared.walk.Work.{Work}
 use Rattle.lp_build.specs.declared.walk.Work.TheVariants as work
-use Rattle.lp_build.specs.inner.Walking.{AreOwed, IsLoadedAt, IsNotLoaded, IsOwed, IsWalk, IsWordAt}
+use Rattle.lp_build.specs.inner.Walking.{AreOwed, IsLoadedAt, IsNoName, IsNotLoaded, IsOfFile, IsOwed, IsWalk, IsWordAt}
 
 -- a fault of the bytes that stand under a name
 fault_of_text : (told : Option Held) (name text : List ℕ) (n : ℕ) (e : BuildFault) → IsTold told name text → IsOfText n e → IsFaultOf text e → IsFaultAt told name e
@@ -50,74 +48,89 @@ text_faults told name text n (Ok x) there i f = tt
 text_faults told name text n (Err e) there i f = fault_of_text told name text n e there i f
 
 -- the file at fault is the next one
-pub reading_so : (n : ℕ) (files : List File) (e : BuildFault) → n ≡ length files → IsOfReading n e → IsOfLoading files e
-reading_so n files (fault.Read k) is h = sym is ∙ h
-reading_so n files (fault.Missing k) is h = sym is ∙ h
-reading_so n files (fault.Lex k e) is h = (sym is ∙ h.0, h.1)
-reading_so n files (fault.Syntax e) is h = absurd h
-reading_so n files (fault.Sig e) is h = absurd h
-reading_so n files (fault.Module e) is h = absurd h
-reading_so n files (fault.Limit limit.File) is h = tt
-reading_so n files (fault.Limit limit.Image) is h = absurd h
-reading_so n files (fault.Limit limit.Modules) is h = absurd h
-reading_so n files (fault.Limit limit.Copies) is h = absurd h
-reading_so n files (fault.Limit limit.Names) is h = absurd h
-reading_so n files (fault.Limit limit.NameLength) is h = absurd h
-reading_so n files (fault.Limit limit.Arguments) is h = absurd h
-reading_so n files (fault.Limit limit.Nesting) is h = absurd h
-reading_so n files (fault.Limit limit.NormalForm) is h = absurd h
-reading_so n files (fault.Limit limit.Clauses) is h = absurd h
-reading_so n files (fault.Limit limit.Registers) is h = absurd h
-reading_so n files (fault.Limit limit.Text) is h = absurd h
-reading_so n files fault.Memory is h = tt
+pub reading_so : (n : ℕ) (files : List File) (e : BuildFault) → n ≡ length files → length files < MAX_MODULES → IsOfReading n e → IsOfFile files e
+reading_so n files (fault.Read k) is few h = (few, sym is ∙ h)
+reading_so n files (fault.Missing k) is few h = (few, sym is ∙ h)
+reading_so n files (fault.Lex k e) is few h = (few, sym is ∙ h.0, h.1)
+reading_so n files (fault.Syntax e) is few h = absurd h
+reading_so n files (fault.Sig e) is few h = absurd h
+reading_so n files (fault.Module e) is few h = absurd h
+reading_so n files (fault.Limit limit.File) is few h = few
+reading_so n files (fault.Limit limit.Image) is few h = absurd h
+reading_so n files (fault.Limit limit.Modules) is few h = absurd h
+reading_so n files (fault.Limit limit.Copies) is few h = absurd h
+reading_so n files (fault.Limit limit.Names) is few h = absurd h
+reading_so n files (fault.Limit limit.NameLength) is few h = absurd h
+reading_so n files (fault.Limit limit.Arguments) is few h = absurd h
+reading_so n files (fault.Limit limit.Nesting) is few h = absurd h
+reading_so n files (fault.Limit limit.NormalForm) is few h = absurd h
+reading_so n files (fault.Limit limit.Clauses) is few h = absurd h
+reading_so n files (fault.Limit limit.Registers) is few h = absurd h
+reading_so n files (fault.Limit limit.Text) is few h = absurd h
+reading_so n files fault.Memory is few h = tt
 
--- a word of a file is too long for a name
-pub words_so : {T : Type 0} (files : List File) (f : File) (w : Spot) (r : Result T BuildFault) → Contains files f → Contains (f.text.references.accum_sig.items ++ f.text.references.accumulate.items) w →
-    IfErr r (IsOfWord f.text.bytes.items w) → IfErr r (IsOfLoading files)
-words_so files f w (Ok x) there names h = tt
-words_so files f w (Err (fault.Limit limit.NameLength)) there names h = record { file = f; word = w; there = there; names = names; long = h }
-words_so files f w (Err fault.Memory) there names h = tt
-words_so files f w (Err (fault.Read k)) there names h = absurd h
-words_so files f w (Err (fault.Missing k)) there names h = absurd h
-words_so files f w (Err (fault.Lex k e)) there names h = absurd h
-words_so files f w (Err (fault.Syntax e)) there names h = absurd h
-words_so files f w (Err (fault.Sig e)) there names h = absurd h
-words_so files f w (Err (fault.Module e)) there names h = absurd h
-words_so files f w (Err (fault.Limit limit.File)) there names h = absurd h
-words_so files f w (Err (fault.Limit limit.Image)) there names h = absurd h
-words_so files f w (Err (fault.Limit limit.Modules)) there names h = absurd h
-words_so files f w (Err (fault.Limit limit.Copies)) there names h = absurd h
-words_so files f w (Err (fault.Limit limit.Names)) there names h = absurd h
-words_so files f w (Err (fault.Limit limit.Arguments)) there names h = absurd h
-words_so files f w (Err (fault.Limit limit.Nesting)) there names h = absurd h
-words_so files f w (Err (fault.Limit limit.NormalForm)) there names h = absurd h
-words_so files f w (Err (fault.Limit limit.Clauses)) there names h = absurd h
-words_so files f w (Err (fault.Limit limit.Registers)) there names h = absurd h
-words_so files f w (Err (fault.Limit limit.Text)) there names h = absurd h
+-- a text that is to be loaded is refused for the fault of its file
+at_file : (files : List File) (n : Need) (e : BuildFault) → IsDue files n → IsOfFile files e → IsRefusedAt files n e
+at_file files n (fault.Read k) due h = ((due, h.0), h.1)
+at_file files n (fault.Missing k) due h = ((due, h.0), h.1)
+at_file files n (fault.Lex k e) due h = ((due, h.0), h.1, h.2)
+at_file files n (fault.Syntax e) due h = h
+at_file files n (fault.Sig e) due h = h
+at_file files n (fault.Module e) due h = h
+at_file files n (fault.Limit limit.File) due h = (due, h)
+at_file files n (fault.Limit limit.Image) due h = h
+at_file files n (fault.Limit limit.Modules) due h = (due, h)
+at_file files n (fault.Limit limit.Copies) due h = h
+at_file files n (fault.Limit limit.Names) due h = h
+at_file files n (fault.Limit limit.NameLength) due h = absurd h
+at_file files n (fault.Limit limit.Arguments) due h = h
+at_file files n (fault.Limit limit.Nesting) due h = h
+at_file files n (fault.Limit limit.NormalForm) due h = h
+at_file files n (fault.Limit limit.Clauses) due h = h
+at_file files n (fault.Limit limit.Registers) due h = h
+at_file files n (fault.Limit limit.Text) due h = h
+at_file files n fault.Memory due h = tt
 
-pub word_passed : {T : Type 0} (files : List File) (f : File) (w : Spot) (r : Result T BuildFault) (e : BuildFault) → IsErrAnd r (λ y. y ≡ e) → Contains files f → Contains (f.text.references.accum_sig.items ++ f.text.references.accumulate.items) w →
-    IsOfWord f.text.bytes.items w e → IfErr r (IsOfLoading files)
-word_passed {T} files f w r e is there names h = passed_up r e (IsOfLoading files) is (words_so {T = T} files f w (Err e) there names h)
+-- a text that a word asks for is refused for this word
+at_word : (files : List File) (n : Need) (text : List ℕ) (w : Spot) (e : BuildFault) → n.word ≡ true → n.name ≡ spelled text w → IsOfWord text w e → IsRefusedAt files n e
+at_word files n text w (fault.Limit limit.NameLength) word is h = (word, subst (λ name. MAX_NAME_BYTES < length name) (sym is) h)
+at_word files n text w fault.Memory word is h = tt
+at_word files n text w (fault.Read k) word is h = absurd h
+at_word files n text w (fault.Missing k) word is h = absurd h
+at_word files n text w (fault.Lex k e) word is h = absurd h
+at_word files n text w (fault.Syntax e) word is h = h
+at_word files n text w (fault.Sig e) word is h = h
+at_word files n text w (fault.Module e) word is h = h
+at_word files n text w (fault.Limit limit.File) word is h = absurd h
+at_word files n text w (fault.Limit limit.Image) word is h = h
+at_word files n text w (fault.Limit limit.Modules) word is h = absurd h
+at_word files n text w (fault.Limit limit.Copies) word is h = h
+at_word files n text w (fault.Limit limit.Names) word is h = h
+at_word files n text w (fault.Limit limit.Arguments) word is h = h
+at_word files n text w (fault.Limit limit.Nesting) word is h = h
+at_word files n text w (fault.Limit limit.NormalForm) word is h = h
+at_word files n text w (fault.Limit limit.Clauses) word is h = h
+at_word files n text w (fault.Limit limit.Registers) word is h = h
+at_word files n text w (fault.Limit limit.Text) word is h = h
 
--- a word of a file at a place
-
-pub names_by : {X : Type 0} (xs : List X) (k : ℕ) (x : X) → IsAt xs k x → Contains xs x
-names_by xs k x at = subst (Contains xs) at.1 (Contains-get_or xs k x at.0)
+-- what no word asks for has no name that is too long
+pub fits : (p : Part) (name : List ℕ) → IsTooLong (needed p name) → ⊥
+fits p name h = true≢false (sym h.0)
 
 -- the order, with one more step at its end
 
-pub passed : {all : Bool} {before files : List File} {needs left : List Need} {n : Need} → Loads all before needs files (n ∷ left) → IsThere (before ++ files) n → Loads all before needs files left
-passed {before = before} {n = n} loads_none there = is_there (subst (λ fs. IsThere fs n) (append-nil before) there) loads_none
-passed (is_there old rest) there = is_there old (passed rest there)
-passed {before = before} {n = n} (is_loaded {f = f} {files = files} new is rest) there =
-    is_loaded new is (passed rest (subst (λ fs. IsThere fs n) (sym (append_assoc before (f ∷ []) files)) there))
+pub passed : {all : Bool} {before files : List File} {needs left : List Need} {n : Need} → Loads all before needs files (n ∷ left) → (IsTooLong n → ⊥) → IsThere (before ++ files) n → Loads all before needs files left
+passed {before = before} {n = n} loads_none short there = is_there short (subst (λ fs. IsThere fs n) (append-nil before) there) loads_none
+passed (is_there fit old rest) short there = is_there fit old (passed rest short there)
+passed {before = before} {n = n} (is_loaded {f = f} {files = files} fit new is rest) short there =
+    is_loaded fit new is (passed rest short (subst (λ fs. IsThere fs n) (sym (append_assoc before (f ∷ []) files)) there))
 
-pub one_more : {all : Bool} {before files : List File} {needs left : List Need} {n : Need} {g : File} → Loads all before needs files (n ∷ left) → (IsThere (before ++ files) n → ⊥) → IsText n g →
+pub one_more : {all : Bool} {before files : List File} {needs left : List Need} {n : Need} {g : File} → Loads all before needs files (n ∷ left) → (IsTooLong n → ⊥) → (IsThere (before ++ files) n → ⊥) → IsText n g →
     Loads all before needs (files ++ g ∷ []) (named_by all g.part g.text ++ left)
-one_more {before = before} {n = n} loads_none new is = is_loaded (λ t. new (subst (λ fs. IsThere fs n) (sym (append-nil before)) t)) is loads_none
-one_more (is_there old rest) new is = is_there old (one_more rest new is)
-one_more {before = before} {n = n} (is_loaded {f = f} {files = files} first so rest) new is =
-    is_loaded first so (one_more rest (λ t. new (subst (λ fs. IsThere fs n) (append_assoc before (f ∷ []) files) t)) is)
+one_more {before = before} {n = n} loads_none short new is = is_loaded short (λ t. new (subst (λ fs. IsThere fs n) (sym (append-nil before)) t)) is loads_none
+one_more (is_there fit old rest) short new is = is_there fit old (one_more rest short new is)
+one_more {before = before} {n = n} (is_loaded {f = f} {files = files} fit first so rest) short new is =
+    is_loaded fit first so (one_more rest short (λ t. new (subst (λ fs. IsThere fs n) (append_assoc before (f ∷ []) files) t)) is)
 
 -- names that are noted
 
@@ -222,19 +235,38 @@ owed_taken all fs (v ∷ ws) w needs h =
 no_fault : (o : Option (String Global)) (P : String Global → Type 0) → o ≡ None → IfSome o P
 no_fault o P e = subst (λ x. IfSome x P) (sym e) tt
 
-pub so_far : (all : Bool) (root : List ℕ) (next : List Need) (l : Loading) → IsWalk all root next l → AreInOrderSoFar all root l.sources
-so_far all root next l w = record { left = next ++ w.left; order = w.order; fault = no_fault l.sources.refused (IsNext l.sources.files.items (next ++ w.left)) w.none }
+no_cause : (files : List File) (left : List Need) → IsOfLoading files left fault.Memory
+no_cause files [] = tt
+no_cause files (n ∷ left) = tt
 
-pub so_far_same : (all : Bool) (root : List ℕ) (next : List Need) (l : Loading) (s : Sources) → s ≡ l.sources → IsWalk all root next l → AreInOrderSoFar all root s
-so_far_same all root next l s e w = subst (AreInOrderSoFar all root) (sym e) (so_far all root next l w)
+-- it ends for want of memory
+pub so_far : (all : Bool) (root : List ℕ) (next : List Need) (l : Loading) → IsWalk all root next l → AreInOrderSoFar all root l.sources fault.Memory
+so_far all root next l w = record {
+  left = next ++ w.left;
+  order = w.order;
+  fault = no_cause l.sources.files.items (next ++ w.left);
+  file = no_fault l.sources.refused (IsFileOf (next ++ w.left)) w.none;
+}
+
+pub so_far_same : (all : Bool) (root : List ℕ) (next : List Need) (l : Loading) (s : Sources) → s ≡ l.sources → IsWalk all root next l → AreInOrderSoFar all root s fault.Memory
+so_far_same all root next l s e w = subst (λ x. AreInOrderSoFar all root x fault.Memory) (sym e) (so_far all root next l w)
+
+-- the word by which it goes on is too long
+so_far_at_word : (all : Bool) (root : List ℕ) (n : Need) (more : List Need) (l : Loading) (text : List ℕ) (w : Spot) (e : BuildFault) → n.word ≡ true → n.name ≡ spelled text w → IsOfWord text w e → IsWalk all root (n ∷ more) l → AreInOrderSoFar all root l.sources e
+so_far_at_word all root n more l text w e word is h walk = record {
+  left = n ∷ more ++ walk.left;
+  order = walk.order;
+  fault = at_word l.sources.files.items n text w e word is h;
+  file = no_fault l.sources.refused (IsFileOf (n ∷ more ++ walk.left)) walk.none;
+}
 
 -- the next text is there
 pub walk_there : (all : Bool) (root : List ℕ) (n : Need) (old new : Loading) → new.all ≡ old.all → new.sources ≡ old.sources → new.work ≡ old.work →
-    is_among (file_of n) (names_of old.sources.files.items) ≡ true → HasKeys new.names (names_of old.sources.files.items ++ file_of n ∷ []) → IsWalk all root (n ∷ []) old → IsWalk all root [] new
-walk_there all root n old new a s v there keys w = record {
+    (IsTooLong n → ⊥) → is_among (file_of n) (names_of old.sources.files.items) ≡ true → HasKeys new.names (names_of old.sources.files.items ++ file_of n ∷ []) → IsWalk all root (n ∷ []) old → IsWalk all root [] new
+walk_there all root n old new a s v short there keys w = record {
   is = a ∙ w.is;
   left = w.left;
-  order = subst (λ x. Loads all [] (both root) x.files.items w.left) (sym s) (passed w.order (among_there (file_of n) (names_of old.sources.files.items) there));
+  order = subst (λ x. Loads all [] (both root) x.files.items w.left) (sym s) (passed w.order short (among_there (file_of n) (names_of old.sources.files.items) there));
   owed = subst (λ x. AreOwed all x.files.items new.work.items w.left) (sym s) (subst (λ x. AreOwed all old.sources.files.items x.items w.left) (sym v) w.owed);
   names = subst (λ x. HasKeys new.names (names_of x.files.items)) (sym s) (keys_again new.names (names_of old.sources.files.items) (file_of n) there keys);
   none = ap (λ x. x.refused) s ∙ w.none;
@@ -244,40 +276,47 @@ not_there : (n : Need) (files : List File) → is_among (file_of n) (names_of fi
 not_there n files e h = true≢false (sym (there_among (file_of n) (names_of files) h) ∙ e)
 
 -- it is not, and was not loaded
-pub so_far_at_fault : (all : Bool) (root : List ℕ) (n : Need) (old : Loading) (s : Sources) → is_among (file_of n) (names_of old.sources.files.items) ≡ false → IsNotLoaded n old.sources s → IsWalk all root (n ∷ []) old → AreInOrderSoFar all root s
-so_far_at_fault all root n old s new not w = record {
+pub so_far_at_fault : (all : Bool) (root : List ℕ) (n : Need) (old : Loading) (s : Sources) (e : BuildFault) → (IsTooLong n → ⊥) → is_among (file_of n) (names_of old.sources.files.items) ≡ false → IsNotLoaded (needed n.part n.name) old.sources s e →
+    IsWalk all root (n ∷ []) old → AreInOrderSoFar all root s e
+so_far_at_fault all root n old s e short new not w = record {
   left = n ∷ w.left;
   order = subst (λ fs. Loads all [] (both root) fs (n ∷ w.left)) (sym not.files) w.order;
-  fault = subst (λ fs. IfSome s.refused (IsNext fs (n ∷ w.left))) (sym not.files) (by s.refused not.fault);
+  fault = subst (λ fs. IsRefusedAt fs n e) (sym not.files) (at_file old.sources.files.items n e (short, not_there n old.sources.files.items new) not.fault);
+  file = by s.refused not.file;
 }
   where
-    by : (o : Option (String Global)) → IfSome o (λ name. old.sources.refused ≡ None → string_bytes name ≡ file_of n) → IfSome o (IsNext old.sources.files.items (n ∷ w.left))
+    by : (o : Option (String Global)) → IfSome o (λ name. old.sources.refused ≡ None → string_bytes name ≡ file_of n) → IfSome o (IsFileOf (n ∷ w.left))
     by None h = tt
-    by (Some name) h = (not_there n old.sources.files.items new, h w.none)
+    by (Some name) h = h w.none
 
 -- it is loaded
-loaded_order : (all : Bool) (root : List ℕ) (n : Need) (old : Loading) (s : Sources) (at : ℕ) → is_among (file_of n) (names_of old.sources.files.items) ≡ false → (l : IsLoadedAt n old.sources s at) → (w : IsWalk all root (n ∷ []) old) →
-    Loads all [] (both root) s.files.items (named_by all l.file.part l.file.text ++ w.left)
-loaded_order all root n old s at new l w =
-    subst (λ fs. Loads all [] (both root) fs (named_by all l.file.part l.file.text ++ w.left)) (sym l.files) (one_more w.order (not_there n old.sources.files.items new) l.is)
+as_asked : (n : Need) (f : File) → IsText (needed n.part n.name) f → IsText n f
+as_asked n f is = record { part = is.part; stem = is.stem; name = is.name }
 
-pub so_far_loaded : (all : Bool) (root : List ℕ) (n : Need) (old : Loading) (s : Sources) (at : ℕ) → is_among (file_of n) (names_of old.sources.files.items) ≡ false → IsLoadedAt n old.sources s at → IsWalk all root (n ∷ []) old → AreInOrderSoFar all root s
-so_far_loaded all root n old s at new l w =
+loaded_order : (all : Bool) (root : List ℕ) (n : Need) (old : Loading) (s : Sources) (at : ℕ) → (IsTooLong n → ⊥) → is_among (file_of n) (names_of old.sources.files.items) ≡ false → (l : IsLoadedAt (needed n.part n.name) old.sources s at) →
+    (w : IsWalk all root (n ∷ []) old) → Loads all [] (both root) s.files.items (named_by all l.file.part l.file.text ++ w.left)
+loaded_order all root n old s at short new l w =
+    subst (λ fs. Loads all [] (both root) fs (named_by all l.file.part l.file.text ++ w.left)) (sym l.files)
+    (one_more w.order short (not_there n old.sources.files.items new) (as_asked n l.file l.is))
+
+pub so_far_loaded : (all : Bool) (root : List ℕ) (n : Need) (old : Loading) (s : Sources) (at : ℕ) → (IsTooLong n → ⊥) → is_among (file_of n) (names_of old.sources.files.items) ≡ false → IsLoadedAt (needed n.part n.name) old.sources s at →
+    IsWalk all root (n ∷ []) old → AreInOrderSoFar all root s fault.Memory
+so_far_loaded all root n old s at short new l w =
     let left = named_by all l.file.part l.file.text ++ w.left in
-    record { left = left; order = loaded_order all root n old s at new l w; fault = no_fault s.refused (IsNext s.files.items left) (l.refused ∙ w.none) }
+    record { left = left; order = loaded_order all root n old s at short new l w; fault = no_cause s.files.items left; file = no_fault s.refused (IsFileOf left) (l.refused ∙ w.none) }
 
 names_more : (fs : List File) (f : File) → names_of (fs ++ f ∷ []) ≡ names_of fs ++ string_bytes f.name ∷ []
 names_more [] f = refl
 names_more (g ∷ fs) f = ap (λ l. string_bytes g.name ∷ l) (names_more fs f)
 
-pub walk_loaded : (all : Bool) (root : List ℕ) (n : Need) (old new : Loading) (s : Sources) (at : ℕ) → new.all ≡ old.all → new.sources ≡ s → is_among (file_of n) (names_of old.sources.files.items) ≡ false →
-    HasKeys new.names (names_of old.sources.files.items ++ file_of n ∷ []) → (l : IsLoadedAt n old.sources s at) →
+pub walk_loaded : (all : Bool) (root : List ℕ) (n : Need) (old new : Loading) (s : Sources) (at : ℕ) → new.all ≡ old.all → new.sources ≡ s → (IsTooLong n → ⊥) → is_among (file_of n) (names_of old.sources.files.items) ≡ false →
+    HasKeys new.names (names_of old.sources.files.items ++ file_of n ∷ []) → (l : IsLoadedAt (needed n.part n.name) old.sources s at) →
     ((f : File) (left : List Need) → IsAt s.files.items at f → f.part ≡ n.part → AreOwed all s.files.items old.work.items left → AreOwed all s.files.items new.work.items (named_by all f.part f.text ++ left)) →
     IsWalk all root (n ∷ []) old → IsWalk all root [] new
-walk_loaded all root n old new s at a e fresh keys l owed w = record {
+walk_loaded all root n old new s at a e short fresh keys l owed w = record {
   is = a ∙ w.is;
   left = named_by all l.file.part l.file.text ++ w.left;
-  order = subst (λ x. Loads all [] (both root) x.files.items (named_by all l.file.part l.file.text ++ w.left)) (sym e) (loaded_order all root n old s at fresh l w);
+  order = subst (λ x. Loads all [] (both root) x.files.items (named_by all l.file.part l.file.text ++ w.left)) (sym e) (loaded_order all root n old s at short fresh l w);
   owed = subst (λ x. AreOwed all x.files.items new.work.items (named_by all l.file.part l.file.text ++ w.left)) (sym e)
       (owed l.file w.left
       (subst (λ fs. IsAt fs at l.file) (sym l.files) (subst (λ i. IsAt (old.sources.files.items ++ l.file ∷ []) i l.file) (sym l.last) (last_is old.sources.files.items l.file))) l.is.part
@@ -305,8 +344,8 @@ unblamed : (o : Option (String Global)) (is : List ℕ) → IfSome o (λ name. o
 unblamed None is = tt
 unblamed (Some name) is = λ e. absurd (cc)
 
-pub not_at_fault : (n : Need) (s : Sources) → IsNotLoaded n s s
-not_at_fault n s = record { files = refl; fault = unblamed s.refused (file_of n) }
+pub not_at_fault : (n : Need) (s : Sources) (e : BuildFault) → IsOfFile s.files.items e → IsNotLoaded n s s e
+not_at_fault n s e h = record { files = refl; fault = h; file = unblamed s.refused (file_of n) }
 
 -- the file of a number is one
 same_file : (files : List File) (i : ℕ) (f g : File) → IsAt files i f → IsAt files i g → f ≡ g
@@ -314,6 +353,9 @@ same_file files i f g at to = sym at.1 ∙ get_or_default files i f g at.0 ∙ t
 
 pub word_of : (words : File → List Spot) (files : List File) (i at : ℕ) (f g : File) (o : Option (String Global)) → IsAt files i f → IsAt files i g → IsWordAt f.text.bytes.items (words f) at o → IsWordAt g.text.bytes.items (words g) at o
 word_of words files i at f g o here there h = subst (λ (x : File). IsWordAt x.text.bytes.items (words x) at o) (same_file files i f g here there) h
+
+pub no_name_of : (words : File → List Spot) (files : List File) (i at : ℕ) (f g : File) (e : BuildFault) → IsAt files i f → IsAt files i g → IsNoName f.text.bytes.items (words f) at e → IsNoName g.text.bytes.items (words g) at e
+no_name_of words files i at f g e here there h = subst (λ (x : File). IsNoName x.text.bytes.items (words x) at e) (same_file files i f g here there) h
 
 -- words of a text, from a place on
 
@@ -351,6 +393,39 @@ modules_wait all root old new i at next name needs a s k v n word owed w =
     walk_waits all root (accumulated all (string_bytes name)) later old new a s k
     (λ left h. subst (λ x. AreOwed all old.sources.files.items x (later ++ left)) (sym v) (owed_more all old.sources.files.items old.work.items (work.Accumulated i next) later left (f, owed.1, refl) h))
     (subst (λ x. IsWalk all root x old) (asked_next (accumulated all) f.text.bytes.items f.text.references.accumulate.items at next name (Some name) needs refl (n f (word f owed.1).1.0) (word f owed.1) owed.2) w)
+
+-- the word that is next is no longer than a name
+pub short_word : (text : List ℕ) (words : List Spot) (at : ℕ) (name : String Global) (o : Option (String Global)) → o ≡ Some name → IsWordAt text words at o → IsTooLong (asked true part.Signature (string_bytes name)) → ⊥
+short_word text words at name None e h long = absurd (cc)
+short_word text words at name (Some n) e h long =
+    let same : n ≡ name = cc in
+    let short = subst (λ m. length (string_bytes m) ≤ MAX_NAME_BYTES) same h.3 in
+    let more = long.1 in
+    omega (arith, short, more)
+
+-- it is longer
+pub no_signature_name : (all : Bool) (root : List ℕ) (old : Loading) (i at : ℕ) (needs : List Need) (e : BuildFault) → ((f : File) → IsAt old.sources.files.items i f → IsNoName f.text.bytes.items f.text.references.accum_sig.items at e) →
+    IsOwed all old.sources.files.items (work.Signatures i at) needs → IsWalk all root needs old → AreInOrderSoFar all root old.sources e
+no_signature_name all root old i at needs e word owed w =
+    let f = owed.0 in
+    let why = word f owed.1 in
+    let text = f.text.bytes.items in
+    let words = f.text.references.accum_sig.items in
+    so_far_at_word all root (asked true part.Signature (spelled text why.0)) (asked_by signature text (drop (at + 1) words)) old text why.0 e refl refl why.2
+    (subst (λ x. IsWalk all root x old) (owed.2 ∙ asked_on signature text words at why.0 why.1) w)
+
+pub no_module_name : (all : Bool) (root : List ℕ) (old : Loading) (i at : ℕ) (needs : List Need) (e : BuildFault) → ((f : File) → IsAt old.sources.files.items i f → IsNoName f.text.bytes.items f.text.references.accumulate.items at e) →
+    IsOwed all old.sources.files.items (work.Accumulated i at) needs → IsWalk all root needs old → AreInOrderSoFar all root old.sources e
+no_module_name all root old i at needs e word owed w =
+    let f = owed.0 in
+    let why = word f owed.1 in
+    let text = f.text.bytes.items in
+    let words = f.text.references.accumulate.items in
+    by all (asked_by (accumulated all) text (drop (at + 1) words)) text why.0 why.2 (subst (λ x. IsWalk all root x old) (owed.2 ∙ asked_on (accumulated all) text words at why.0 why.1) w)
+  where
+    by : (a : Bool) (rest : List Need) (text : List ℕ) (v : Spot) → IsOfWord text v e → IsWalk all root (accumulated a (spelled text v) ++ rest) old → AreInOrderSoFar all root old.sources e
+    by true rest text v h walk = so_far_at_word all root (asked true part.Signature (spelled text v)) (needed part.Module (spelled text v) ∷ rest) old text v e refl refl h walk
+    by false rest text v h walk = so_far_at_word all root (asked true part.Signature (spelled text v)) rest old text v e refl refl h walk
 
 -- there is no word at the place
 pub no_signature : (all : Bool) (root : List ℕ) (old : Loading) (i at : ℕ) (needs : List Need) → ((f : File) → IsAt old.sources.files.items i f → IsWordAt f.text.bytes.items f.text.references.accum_sig.items at None) →

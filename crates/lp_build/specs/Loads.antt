@@ -1,9 +1,8 @@
 -- What the loading of files comes to.
-use Rattle.std.specs.Prelude.{◌≡◌, ℕ, ◌≤◌, ◌<◌, List, [], ◌∷◌, ◌++◌, length, map, codes, Contains, Option, Some, None, Result, Ok, Err, string_bytes}
-use Rattle.lp_base.specs.declared.limits.TheConstants.{MAX_MODULES, MAX_NAME_BYTES}
+use Rattle.std.specs.Prelude.{◌≡◌, ℕ, ◌<◌, List, [], ◌∷◌, ◌++◌, length, map, codes, Option, Some, None, Result, Ok, Err, string_bytes}
+use Rattle.lp_base.specs.declared.limits.TheConstants.{MAX_NAME_BYTES}
 use Rattle.lp_base.specs.Counts.{Counts}
 use Rattle.lp_base.specs.Held.{Held}
-use Rattle.lp_base.specs.declared.limit.Limit.{Limit}
 use Rattle.lp_base.specs.declared.limit.Limit.TheVariants as limit
 use Rattle.lp_base.specs.declared.place.Spot.{Spot}
 use Rattle.lp_lexer.specs.declared.token.LexFault.{LexFault}
@@ -85,31 +84,6 @@ abbrev pub IsOfWord : (text : List ℕ) → Spot → BuildFault → Type 0
 IsOfWord text w (fault.Limit limit.NameLength) = MAX_NAME_BYTES < length (spelled text w)
 IsOfWord text w fault.Memory = Unit {0}
 IsOfWord text w _ = ⊥
-
--- a word by which one of these files names another is longer than a name
-pub record HasLongName (files : List File) : Type 0 where
-  pub file : File
-  pub word : Spot
-  pub there : Contains files file
-  pub names : Contains (file.text.references.accum_sig.items ++ file.text.references.accumulate.items) word
-  pub long : MAX_NAME_BYTES < length (spelled file.text.bytes.items word)
-
-abbrev pub IsLimitOfLoading : Limit → List File → Type 0
-IsLimitOfLoading limit.File files = Unit {0}
-IsLimitOfLoading limit.Modules files = MAX_MODULES ≤ length files
-IsLimitOfLoading limit.NameLength files = HasLongName files
-IsLimitOfLoading _ files = ⊥
-
--- why no more than these files are loaded: the file at fault is the next one
-abbrev pub IsOfLoading : List File → BuildFault → Type 0
-IsOfLoading files (fault.Read k) = length files ≡ k
-IsOfLoading files (fault.Missing k) = length files ≡ k
-IsOfLoading files (fault.Lex k e) = (length files ≡ k) × IsOfTokens e
-IsOfLoading files (fault.Syntax e) = ⊥
-IsOfLoading files (fault.Sig e) = ⊥
-IsOfLoading files (fault.Module e) = ⊥
-IsOfLoading files (fault.Limit l) = IsLimitOfLoading l files
-IsOfLoading files fault.Memory = Unit {0}
 
 -- the ending of a file's name
 abbrev pub ending : Part → List ℕ

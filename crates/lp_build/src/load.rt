@@ -1,6 +1,6 @@
 // The loading of files.
 ghost use Rattle.std.specs.Prelude.{IfOk, IfErr};
-ghost use Rattle.lp_build.specs.Loads.{Outside, fault_beside, IsOfLoading};
+ghost use Rattle.lp_build.specs.Loads.{Outside, fault_beside};
 ghost use Rattle.lp_build.specs.Reads.{AreRead};
 ghost use Rattle.lp_build.specs.Told.{AreKnown, AreLoaded, IsFaultIn};
 ghost use Rattle.lp_build.specs.Ordered.{AreInOrder, AreInOrderSoFar};
@@ -20,10 +20,9 @@ pub fn gather<F: Folder>(
     all: bool,
 ) -> Result<Sources, (Sources, BuildFault)>
     ensures ordered { IfOk result (AreInOrder all root.now) }
-    ensures ordered_so_far { IfErr result (λ r. AreInOrderSoFar all root.now r.0) }
+    ensures ordered_so_far { IfErr result (λ r. AreInOrderSoFar all root.now r.0 r.1) }
     ensures read { IfOk result AreRead }
     ensures read_so_far { IfErr result (λ r. AreRead r.0) }
-    ensures refused { IfErr result (λ r. IsOfLoading r.0.files.items r.1) }
     ensures outside { Outside F.read_faults F.misses F.overs F.write_faults F.held folder.old folder.new (fault_beside result) }
     ensures files { IfOk result (AreLoaded (F.held folder.old)) }
     ensures fault { IfErr result (λ r. IsFaultIn (F.held folder.old) r.0 r.1) }
@@ -41,10 +40,9 @@ pub fn gather_with<F: Folder>(
     known: Vec<(String, Vec<u8>)>,
 ) -> Result<Sources, (Sources, BuildFault)>
     ensures ordered { IfOk result (AreInOrder all root.now) }
-    ensures ordered_so_far { IfErr result (λ r. AreInOrderSoFar all root.now r.0) }
+    ensures ordered_so_far { IfErr result (λ r. AreInOrderSoFar all root.now r.0 r.1) }
     ensures read { IfOk result AreRead }
     ensures read_so_far { IfErr result (λ r. AreRead r.0) }
-    ensures refused { IfErr result (λ r. IsOfLoading r.0.files.items r.1) }
     ensures outside { Outside F.read_faults F.misses F.overs F.write_faults F.held folder.old folder.new (fault_beside result) }
     ensures files { AreKnown (F.held folder.old) known.items → IfOk result (AreLoaded (F.held folder.old)) }
     ensures fault { AreKnown (F.held folder.old) known.items → IfErr result (λ r. IsFaultIn (F.held folder.old) r.0 r.1) }

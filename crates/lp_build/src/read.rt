@@ -1,7 +1,7 @@
 // The reading of one file.
-ghost use Rattle.std.specs.Prelude.{◌≡◌, ◌++◌, ◌<◌, IfOk, IfErr, OnErr, IfSome, Option, None, true, string_bytes};
+ghost use Rattle.std.specs.Prelude.{◌≡◌, ◌++◌, ◌<◌, IfOk, IfErr, IfSome, Option, None, true, string_bytes};
 ghost use Rattle.lp_base.specs.Held.{Held};
-ghost use Rattle.lp_build.specs.Loads.{Outside, fault_of, IsOfText, IsOfRead, IsOfReading, IsOfLoading, ending};
+ghost use Rattle.lp_build.specs.Loads.{Outside, fault_of, IsOfText, IsOfRead, IsOfReading, ending};
 ghost use Rattle.lp_build.specs.Reads.{AreRead, IsReadText};
 ghost use Rattle.lp_build.specs.Told.{IsTold, AreKnown, IsFaultOf, IsFaultAt, HoldsTold};
 ghost use Rattle.lp_build.specs.Ordered.{needed};
@@ -121,10 +121,9 @@ pub(crate) fn load_file<F: Folder>(
     part: Part,
 ) -> Result<usize, BuildFault>
     ensures outside { Outside F.read_faults F.misses F.overs F.write_faults F.held folder.old folder.new (fault_of result) }
-    ensures refused { IfErr result (IsOfLoading sources.new.files.items) }
     ensures read { AreRead sources.old → AreRead sources.new }
     ensures loaded { IfOk result (IsLoadedAt (needed part stem.now) sources.old sources.new) }
-    ensures not_loaded { OnErr result (IsNotLoaded (needed part stem.now) sources.old sources.new) }
+    ensures not_loaded { IfErr result (IsNotLoaded (needed part stem.now) sources.old sources.new) }
     ensures told { HoldsTold (F.held folder.old) known.old.items sources.old None → HoldsTold (F.held folder.old) known.new.items sources.new (fault_of result) }
 {
     let at = sources.files.len();

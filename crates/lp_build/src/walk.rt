@@ -1,18 +1,19 @@
 // The order in which files are loaded.
-ghost use Rattle.std.specs.Prelude.{◌≡◌, ◌++◌, ◌∷◌, [], ◌<◌, ℕ, Bool, List, not, None, IfErr, IfOk, OnOk, string_bytes};
+ghost use Rattle.std.specs.Prelude.{◌≡◌, ◌++◌, ◌∷◌, [], ◌≤◌, ℕ, Bool, List, length, not, None, IfErr, IfOk, OnOk, string_bytes};
+ghost use Rattle.lp_base.specs.declared.limits.TheConstants.{MAX_NAME_BYTES};
 ghost use Rattle.std.specs.Global.{Global};
-ghost use Rattle.lp_build.specs.Loads.{Outside, fault_of, IsOfLoading, IsOfName, IsOfWord, ending};
+ghost use Rattle.lp_build.specs.Loads.{Outside, fault_of, IsOfName, IsOfWord, ending};
 ghost use Rattle.lp_build.specs.Reads.{AreRead};
 ghost use Rattle.lp_sig.specs.Pieces.{spelled};
 ghost use Rattle.lp_sig.specs.Refusals.{IsAt};
 ghost use Rattle.lp_sig.specs.Said.{is_among};
 ghost use Rattle.lp_sig.specs.Sights.{HasKeys};
 ghost use Rattle.lp_build.specs.Told.{HoldsTold};
-ghost use Rattle.lp_build.specs.Ordered.{Need, needed, both, named_by, AreInOrder, AreInOrderSoFar};
+ghost use Rattle.lp_build.specs.Ordered.{Need, asked, needed, both, named_by, AreInOrder, AreInOrderSoFar, IsTooLong};
 ghost use Rattle.lp_build.specs.declared.sources.File.{File as IsFile};
 ghost use Rattle.lp_build.specs.declared.sources.Part.TheVariants as part_of;
 ghost use Rattle.lp_build.specs.declared.walk.Work.TheVariants as work;
-ghost use Rattle.lp_build.specs.inner.Walking.{AreOwed, IsOwed, IsWalk, IsWordAt};
+ghost use Rattle.lp_build.specs.inner.Walking.{AreOwed, IsNoName, IsOwed, IsWalk, IsWordAt};
 
 use crate::fault::BuildFault;
 use crate::read::{file_name, load_file};
@@ -116,11 +117,10 @@ impl Loading {
     // Loads a text of a module, unless it is there already.
     fn want<F: Folder>(&mut self, folder: &mut F, name: &str, part: Part) -> Result<(), BuildFault>
         ensures outside { Outside F.read_faults F.misses F.overs F.write_faults F.held folder.old folder.new (fault_of result) }
-        ensures refused { IfErr result (IsOfLoading self.new.sources.files.items) }
         ensures read { AreRead self.old.sources → AreRead self.new.sources }
         ensures told { HoldsTold (F.held folder.old) self.old.known.items self.old.sources None → HoldsTold (F.held folder.old) self.new.known.items self.new.sources (fault_of result) }
-        ensures walked { (all : Bool) (root : List ℕ) → IsWalk all root (needed part name.now ∷ []) self.old → OnOk result (IsWalk all root [] self.new) }
-        ensures so_far { (all : Bool) (root : List ℕ) → IsWalk all root (needed part name.now ∷ []) self.old → AreInOrderSoFar all root self.new.sources }
+        ensures walked { (all : Bool) (root : List ℕ) (word : Bool) → (IsTooLong (asked word part name.now) → ⊥) → IsWalk all root (asked word part name.now ∷ []) self.old → OnOk result (IsWalk all root [] self.new) }
+        ensures so_far { (all : Bool) (root : List ℕ) (word : Bool) → (IsTooLong (asked word part name.now) → ⊥) → IsWalk all root (asked word part name.now ∷ []) self.old → IfErr result (AreInOrderSoFar all root self.new.sources) }
     {
         if !self.is_new(name, part)? {
             return Ok(());
@@ -140,11 +140,10 @@ impl Loading {
     // Loads a module's signature, and behind it the module's own file.
     fn want_module<F: Folder>(&mut self, folder: &mut F, name: &str) -> Result<(), BuildFault>
         ensures outside { Outside F.read_faults F.misses F.overs F.write_faults F.held folder.old folder.new (fault_of result) }
-        ensures refused { IfErr result (IsOfLoading self.new.sources.files.items) }
         ensures read { AreRead self.old.sources → AreRead self.new.sources }
         ensures told { HoldsTold (F.held folder.old) self.old.known.items self.old.sources None → HoldsTold (F.held folder.old) self.new.known.items self.new.sources (fault_of result) }
-        ensures walked { (all : Bool) (root : List ℕ) → IsWalk all root (both name.now) self.old → OnOk result (IsWalk all root [] self.new) }
-        ensures so_far { (all : Bool) (root : List ℕ) → IsWalk all root (both name.now) self.old → AreInOrderSoFar all root self.new.sources }
+        ensures walked { (all : Bool) (root : List ℕ) (word : Bool) → (IsTooLong (asked word part_of.Signature name.now) → ⊥) → IsWalk all root (asked word part_of.Signature name.now ∷ needed part_of.Module name.now ∷ []) self.old → OnOk result (IsWalk all root [] self.new) }
+        ensures so_far { (all : Bool) (root : List ℕ) (word : Bool) → (IsTooLong (asked word part_of.Signature name.now) → ⊥) → IsWalk all root (asked word part_of.Signature name.now ∷ needed part_of.Module name.now ∷ []) self.old → IfErr result (AreInOrderSoFar all root self.new.sources) }
     {
         self.await_module(name)?;
         self.want(folder, name, Part::Signature)
@@ -158,11 +157,10 @@ impl Loading {
         at: usize,
     ) -> Result<(), BuildFault>
         ensures outside { Outside F.read_faults F.misses F.overs F.write_faults F.held folder.old folder.new (fault_of result) }
-        ensures refused { IfErr result (IsOfLoading self.new.sources.files.items) }
         ensures read { AreRead self.old.sources → AreRead self.new.sources }
         ensures told { HoldsTold (F.held folder.old) self.old.known.items self.old.sources None → HoldsTold (F.held folder.old) self.new.known.items self.new.sources (fault_of result) }
         ensures walked { (all : Bool) (root : List ℕ) (needs : List Need) → IsOwed all self.old.sources.files.items (work.Signatures file at) needs → IsWalk all root needs self.old → OnOk result (IsWalk all root [] self.new) }
-        ensures so_far { (all : Bool) (root : List ℕ) (needs : List Need) → IsOwed all self.old.sources.files.items (work.Signatures file at) needs → IsWalk all root needs self.old → AreInOrderSoFar all root self.new.sources }
+        ensures so_far { (all : Bool) (root : List ℕ) (needs : List Need) → IsOwed all self.old.sources.files.items (work.Signatures file at) needs → IsWalk all root needs self.old → IfErr result (AreInOrderSoFar all root self.new.sources) }
     {
         let Some(name) = self.named(file, at)? else {
             return Ok(());
@@ -180,11 +178,10 @@ impl Loading {
         at: usize,
     ) -> Result<(), BuildFault>
         ensures outside { Outside F.read_faults F.misses F.overs F.write_faults F.held folder.old folder.new (fault_of result) }
-        ensures refused { IfErr result (IsOfLoading self.new.sources.files.items) }
         ensures read { AreRead self.old.sources → AreRead self.new.sources }
         ensures told { HoldsTold (F.held folder.old) self.old.known.items self.old.sources None → HoldsTold (F.held folder.old) self.new.known.items self.new.sources (fault_of result) }
         ensures walked { (all : Bool) (root : List ℕ) (needs : List Need) → IsOwed all self.old.sources.files.items (work.Accumulated file at) needs → IsWalk all root needs self.old → OnOk result (IsWalk all root [] self.new) }
-        ensures so_far { (all : Bool) (root : List ℕ) (needs : List Need) → IsOwed all self.old.sources.files.items (work.Accumulated file at) needs → IsWalk all root needs self.old → AreInOrderSoFar all root self.new.sources }
+        ensures so_far { (all : Bool) (root : List ℕ) (needs : List Need) → IsOwed all self.old.sources.files.items (work.Accumulated file at) needs → IsWalk all root needs self.old → IfErr result (AreInOrderSoFar all root self.new.sources) }
     {
         let Some(name) = self.accumulated(file, at)? else {
             return Ok(());
@@ -200,11 +197,10 @@ impl Loading {
 
     fn step<F: Folder>(&mut self, folder: &mut F, work: Work) -> Result<(), BuildFault>
         ensures outside { Outside F.read_faults F.misses F.overs F.write_faults F.held folder.old folder.new (fault_of result) }
-        ensures refused { IfErr result (IsOfLoading self.new.sources.files.items) }
         ensures read { AreRead self.old.sources → AreRead self.new.sources }
         ensures told { HoldsTold (F.held folder.old) self.old.known.items self.old.sources None → HoldsTold (F.held folder.old) self.new.known.items self.new.sources (fault_of result) }
         ensures walked { (all : Bool) (root : List ℕ) (needs : List Need) → IsOwed all self.old.sources.files.items work needs → IsWalk all root needs self.old → OnOk result (IsWalk all root [] self.new) }
-        ensures so_far { (all : Bool) (root : List ℕ) (needs : List Need) → IsOwed all self.old.sources.files.items work needs → IsWalk all root needs self.old → AreInOrderSoFar all root self.new.sources }
+        ensures so_far { (all : Bool) (root : List ℕ) (needs : List Need) → IsOwed all self.old.sources.files.items work needs → IsWalk all root needs self.old → IfErr result (AreInOrderSoFar all root self.new.sources) }
     {
         match work {
             Work::Signatures(file, at) => self.next_signature(folder, file, at),
@@ -216,11 +212,10 @@ impl Loading {
     // Loads a module with all that it needs.
     pub(crate) fn run<F: Folder>(&mut self, folder: &mut F, root: &str) -> Result<(), BuildFault>
         ensures outside { Outside F.read_faults F.misses F.overs F.write_faults F.held folder.old folder.new (fault_of result) }
-        ensures refused { IfErr result (IsOfLoading self.new.sources.files.items) }
         ensures read { AreRead self.old.sources → AreRead self.new.sources }
         ensures told { HoldsTold (F.held folder.old) self.old.known.items self.old.sources None → HoldsTold (F.held folder.old) self.new.known.items self.new.sources (fault_of result) }
         ensures walked { (all : Bool) → IsWalk all root.now (both root.now) self.old → OnOk result (AreInOrder all root.now self.new.sources) }
-        ensures so_far { (all : Bool) → IsWalk all root.now (both root.now) self.old → AreInOrderSoFar all root.now self.new.sources }
+        ensures so_far { (all : Bool) → IsWalk all root.now (both root.now) self.old → IfErr result (AreInOrderSoFar all root.now self.new.sources) }
     {
         self.want_module(folder, root)?;
         for _ in 0..u64::MAX {
@@ -234,7 +229,7 @@ impl Loading {
 
     // The word of a file's accum_sig sentences at a place.
     fn named(&self, file: usize, at: usize) -> Result<Option<String>, BuildFault>
-        ensures refused { IfErr result (IsOfLoading self.now.sources.files.items) }
+        ensures refused { (f : IsFile) → IsAt self.now.sources.files.items file f → IfErr result (IsNoName f.text.bytes.items f.text.references.accum_sig.items at) }
         ensures kind { IfErr result IsOfName }
         ensures found { (f : IsFile) → IsAt self.now.sources.files.items file f → IfOk result (IsWordAt f.text.bytes.items f.text.references.accum_sig.items at) }
     {
@@ -249,7 +244,7 @@ impl Loading {
 
     // The word of a file's accumulate sentences at a place.
     fn accumulated(&self, file: usize, at: usize) -> Result<Option<String>, BuildFault>
-        ensures refused { IfErr result (IsOfLoading self.now.sources.files.items) }
+        ensures refused { (f : IsFile) → IsAt self.now.sources.files.items file f → IfErr result (IsNoName f.text.bytes.items f.text.references.accumulate.items at) }
         ensures kind { IfErr result IsOfName }
         ensures found { (f : IsFile) → IsAt self.now.sources.files.items file f → IfOk result (IsWordAt f.text.bytes.items f.text.references.accumulate.items at) }
     {
@@ -268,6 +263,7 @@ fn name_of(alloc: Global, source: &[u8], word: Spot) -> Result<String, BuildFaul
     ensures refused { IfErr result (IsOfWord source.now word) }
     ensures kind { IfErr result IsOfName }
     ensures spelled { IfOk result (λ name. string_bytes name ≡ spelled source.now word) }
+    ensures short { IfOk result (λ name. length (string_bytes name) ≤ MAX_NAME_BYTES) }
 {
     let spelled = spelled_at(source, word);
     if spelled.len() > MAX_NAME_BYTES {

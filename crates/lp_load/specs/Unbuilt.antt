@@ -7,7 +7,6 @@ use Rattle.lp_term.specs.Nodes.{Nodes}
 use Rattle.lp_model.specs.Readings.{formula_of}
 use Rattle.lp_model.specs.declared.program.ClauseFormula.{ClauseFormula}
 use Rattle.lp_normal.specs.Counted.{HasManyClauses}
-use Rattle.lp_build.specs.Loads.{IsOfLoading}
 use Rattle.lp_build.specs.Ordered.{AreInOrder, AreInOrderSoFar}
 use Rattle.lp_build.specs.Programs.{IsBuilt}
 use Rattle.lp_build.specs.Reads.{AreRead}
@@ -65,8 +64,8 @@ pub data IsRefusedTexts (sources : Sources) (r : Refusal) : Type 0 where
   of_clauses : (built : Built) → IsBuilt sources built → HasManyIn built.assembled.program.bank built.assembled.program.clauses.items → TellsLimit limit.Clauses r → IsRefusedTexts sources r
   no_memory : r ≡ refusal.Memory → IsRefusedTexts sources r
 
--- a module has no program: behind the first of the files that it needs, which were loaded in their order, the next one is at fault, or a limit; or all are loaded, and their texts have none
+-- a module has no program: behind the first of the files that it needs, which were loaded in their order, the next text is at fault, by its file or for a limit that is counted there; or all are loaded, and their texts have none
 pub data IsUnbuilt (told : Option Held) (root : List ℕ) (r : Refusal) : Type 0 where
-  of_files : (sources : Sources) (e : BuildFault) → AreLoaded told sources → AreRead sources → AreInOrderSoFar true root sources → IsOfLoading sources.files.items e → IsFaultIn told sources e →
+  of_files : (sources : Sources) (e : BuildFault) → AreLoaded told sources → AreRead sources → AreInOrderSoFar true root sources e → IsFaultIn told sources e →
       TellsFile sources.refused e r → IsUnbuilt told root r
   of_loaded : (sources : Sources) → AreLoaded told sources → AreRead sources → AreInOrder true root sources → IsRefusedTexts sources r → IsUnbuilt told root r

@@ -1,7 +1,9 @@
 use Rattle.std.proofs.Common.{◌≡◌, ◌∙◌, ◌++◌, length, ap, sym, arith, refl}
-use Rattle.lp_lemmas.proofs.Results.{on_err_always}
+use Rattle.lp_lemmas.proofs.Results.{passed_up}
+use Rattle.lp_base.specs.declared.limit.Limit.TheVariants as limit
 use Rattle.lp_build.specs.Loads.{ending}
 use Rattle.lp_build.specs.Ordered.{needed}
+use Rattle.lp_build.specs.declared.fault.BuildFault.TheVariants as fault
 use Rattle.lp_build.specs.inner.Walking.{IsNotLoaded}
 use Rattle.lp_build.proofs.Reading.{one_read}
 use Rattle.lp_build.proofs.Walking.{reading_so, not_at_fault}
@@ -24,21 +26,25 @@ returns-in_ok-push-in-Ok-clause-loaded g c = record {
 }
 
 pub returns-then-at-ge-MAX_MODULES-clause-not_loaded : goal.returns-then-at-ge-MAX_MODULES-clause-not_loaded
-returns-then-at-ge-MAX_MODULES-clause-not_loaded g c = not_at_fault (needed c.args.part c.args.stem.now) c.args.sources.now
+returns-then-at-ge-MAX_MODULES-clause-not_loaded g c = not_at_fault (needed c.args.part c.args.stem.now) c.args.sources.now (fault.Limit limit.Modules)
+    (omega (arith, c.if-at-ge-MAX_MODULES.true, c.len-at.ensures, c.args.sources.now.files.ok))
 
 pub returns-in_err-name-clause-not_loaded : goal.returns-in_err-name-clause-not_loaded
-returns-in_err-name-clause-not_loaded g c = on_err_always _ (not_at_fault (needed c.args.part c.args.stem.now) c.args.sources.now)
+returns-in_err-name-clause-not_loaded g c = passed_up c.from_residual.result fault.Memory (IsNotLoaded (needed c.args.part c.args.stem.now) c.args.sources.now c.args.sources.now) c.from_residual.ensures.1
+    (not_at_fault (needed c.args.part c.args.stem.now) c.args.sources.now fault.Memory tt)
 
 pub returns-in_err-module-clause-not_loaded : goal.returns-in_err-module-clause-not_loaded
-returns-in_err-module-clause-not_loaded g c = on_err_always _ (not_at_fault (needed c.args.part c.args.stem.now) c.args.sources.now)
+returns-in_err-module-clause-not_loaded g c = passed_up c.from_residual-in_err-module.result fault.Memory (IsNotLoaded (needed c.args.part c.args.stem.now) c.args.sources.now c.args.sources.now) c.from_residual-in_err-module.ensures.1
+    (not_at_fault (needed c.args.part c.args.stem.now) c.args.sources.now fault.Memory tt)
 
 pub returns-in_err-push-in-Ok-clause-not_loaded : goal.returns-in_err-push-in-Ok-clause-not_loaded
-returns-in_err-push-in-Ok-clause-not_loaded g c = on_err_always {P = IsNotLoaded (needed c.args.part c.args.stem.now) c.args.sources.now _} _
-    (record { files = c.in_err-push-in-Ok.ensures.items; fault = (not_at_fault (needed c.args.part c.args.stem.now) c.args.sources.now).fault })
+returns-in_err-push-in-Ok-clause-not_loaded g c = passed_up c.from_residual-in_err-push-in-Ok.result fault.Memory (IsNotLoaded (needed c.args.part c.args.stem.now) c.args.sources.now _) c.from_residual-in_err-push-in-Ok.ensures.1
+    (record { files = c.in_err-push-in-Ok.ensures.items; fault = tt; file = (not_at_fault (needed c.args.part c.args.stem.now) c.args.sources.now fault.Memory tt).file })
 
 pub returns-in-Err-clause-not_loaded : goal.returns-in-Err-clause-not_loaded
-returns-in-Err-clause-not_loaded g c = record { files = refl; fault = λ e. c.in_ok-name.ensures }
-
-pub returns-in-Err-clause-refused : goal.returns-in-Err-clause-refused
-returns-in-Err-clause-refused g c =
-    reading_so c.len-at.result c.args.sources.now.files.items c.in-Err.fault (omega (arith, c.len-at.ensures, c.args.sources.now.files.ok)) c.in-Err.ensures.refused
+returns-in-Err-clause-not_loaded g c = record {
+  files = refl;
+  fault = reading_so c.len-at.result c.args.sources.now.files.items c.in-Err.fault (omega (arith, c.len-at.ensures, c.args.sources.now.files.ok))
+      (omega (arith, c.if-at-ge-MAX_MODULES.false, c.len-at.ensures, c.args.sources.now.files.ok)) c.in-Err.ensures.refused;
+  file = λ e. c.in_ok-name.ensures;
+}

@@ -28,7 +28,7 @@ pub returns-in-Ok-clause-program : goal.returns-in-Ok-clause-program
 returns-in-Ok-clause-program g c = λ known. loaded_is _ c.args.name.now c.in-Ok.sources c.build.result c.in-Ok.ensures.ordered (c.in-Ok.ensures.files known) c.in-Ok.ensures.read (c.build.ensures.program c.in-Ok.ensures.read)
 
 pub returns-in-Err-clause-cause : goal.returns-in-Err-clause-cause
-returns-in-Err-clause-cause g c = λ known. of_files c.in-Err.sources c.in-Err.fault (c.in-Err.ensures.files_so_far known) c.in-Err.ensures.read_so_far c.in-Err.ensures.ordered_so_far c.in-Err.ensures.refused (c.in-Err.ensures.fault known) (c.load_refused.ensures.file _ (c.in-Err.ensures.fault known))
+returns-in-Err-clause-cause g c = λ known. of_files c.in-Err.sources c.in-Err.fault (c.in-Err.ensures.files_so_far known) c.in-Err.ensures.read_so_far c.in-Err.ensures.ordered_so_far (c.in-Err.ensures.fault known) (c.load_refused.ensures.file _ (c.in-Err.ensures.fault known))
 
 pub returns-in-Ok-clause-cause : goal.returns-in-Ok-clause-cause
 returns-in-Ok-clause-cause g c = λ known. unbuilt_is _ c.args.name.now c.in-Ok.sources c.build.result c.in-Ok.ensures.ordered (c.in-Ok.ensures.files known) c.in-Ok.ensures.read (c.build.ensures.cause c.in-Ok.ensures.read)

@@ -1,11 +1,12 @@
 use Rattle.std.proofs.Common.{◌≡◌, ◌<◌, ◌≤◌, length, ltb-false, arith, subst, sym}
 use Rattle.std.specs.Prelude.{None, Some, string_bytes}
-use Rattle.std.proofs.lemmas.List.Elements.{Contains-append_left}
+use Rattle.lp_lemmas.proofs.Results.{passed_up}
 use Rattle.lp_sig.specs.Pieces.{spelled}
 use Rattle.lp_sig.specs.Refusals.{IsAt}
 use Rattle.lp_build.specs.Loads.{IsOfWord}
 use Rattle.lp_build.specs.declared.sources.File.{File}
-use Rattle.lp_build.proofs.Walking.{names_by, word_of, word_passed}
+use Rattle.lp_build.specs.inner.Walking.{IsNoName}
+use Rattle.lp_build.proofs.Walking.{no_name_of, word_of}
 use Rattle.lp_build.proofs.walk.Loading.named.Goals as goal
 
 pub returns-in_default-clause-found : goal.returns-in_default-clause-found
@@ -25,12 +26,12 @@ returns-clause-found c = λ f at.
     let file = subst (λ l. IsAt l c.args.file c.in-Some.found.now) c.deref.ensures.value (c.in-Some.ensures.lookup.3.0, sym c.in-Some.ensures.lookup.1) in
     let word = subst (λ l. IsAt l c.args.at c.in-Some-get.word.now) c.deref-2.ensures.value (c.in-Some-get.ensures.lookup.3.0, sym c.in-Some-get.ensures.lookup.1) in
     let spells = subst (λ t. string_bytes c.in_ok-name_of.field-0 ≡ spelled t c.in-Some-get.word.now) c.deref-3.ensures.value c.in_ok-name_of.ensures.spelled in
-    word_of (λ (x : File). x.text.references.accum_sig.items) c.args.self.now.sources.files.items c.args.file c.args.at c.in-Some.found.now f (Some c.in_ok-name_of.field-0) file at (c.in-Some-get.word.now, word, spells)
+    word_of (λ (x : File). x.text.references.accum_sig.items) c.args.self.now.sources.files.items c.args.file c.args.at c.in-Some.found.now f (Some c.in_ok-name_of.field-0) file at (c.in-Some-get.word.now, word, spells, c.in_ok-name_of.ensures.short)
 
 pub returns-in_err-name_of-clause-refused : goal.returns-in_err-name_of-clause-refused
-returns-in_err-name_of-clause-refused c =
+returns-in_err-name_of-clause-refused c = λ f at.
     let file = subst (λ l. IsAt l c.args.file c.in-Some.found.now) c.deref.ensures.value (c.in-Some.ensures.lookup.3.0, sym c.in-Some.ensures.lookup.1) in
     let word = subst (λ l. IsAt l c.args.at c.in-Some-get.word.now) c.deref-2.ensures.value (c.in-Some-get.ensures.lookup.3.0, sym c.in-Some-get.ensures.lookup.1) in
-    word_passed _ c.in-Some.found.now c.in-Some-get.word.now c.from_residual.result c.in_err-name_of.field-0.0 c.from_residual.ensures.1 (names_by _ c.args.file _ file)
-    (Contains-append_left c.in-Some.found.now.text.references.accum_sig.items c.in-Some.found.now.text.references.accumulate.items c.in-Some-get.word.now (names_by _ c.args.at _ word))
-    (subst (λ l. IsOfWord l c.in-Some-get.word.now c.in_err-name_of.field-0.0) c.deref-3.ensures.value c.in_err-name_of.ensures.refused)
+    passed_up c.from_residual.result c.in_err-name_of.field-0.0 (IsNoName f.text.bytes.items f.text.references.accum_sig.items c.args.at) c.from_residual.ensures.1
+    (no_name_of (λ (x : File). x.text.references.accum_sig.items) c.args.self.now.sources.files.items c.args.file c.args.at c.in-Some.found.now f c.in_err-name_of.field-0.0 file at
+    (c.in-Some-get.word.now, word, subst (λ l. IsOfWord l c.in-Some-get.word.now c.in_err-name_of.field-0.0) c.deref-3.ensures.value c.in_err-name_of.ensures.refused))
