@@ -11,7 +11,8 @@ use Rattle.lp_term.specs.Nodes.{Nodes, tree, type_tree}
 use Rattle.lp_model.specs.Flat.{Goal, Goals, Clauses, Atomic, Cut, Either, Exists, Forall, Assume, Not, no_goals, goals, clause, no_clauses, clauses}
 use Rattle.lp_model.specs.Flattened.{clause_of, clauses_of, goals_of}
 use Rattle.lp_gen.specs.Limits.{clauses_strings}
-use Rattle.lp_gen.proofs.StringsLeft.{clauses_split}
+use Rattle.lp_gen.specs.declared.limits.Look.TheVariants as look
+use Rattle.lp_gen.proofs.LimitsLeft.{clauses_split}
 use Rattle.lp_model.specs.Readings.{declared_by, scheme_of}
 use Rattle.lp_model.specs.declared.clause.Clause as code
 use Rattle.lp_model.specs.declared.program.Declared.{Declared}
@@ -160,7 +161,7 @@ module _ (κ : ℕ → Option ℕ) (all : List Record) where
   groups_denote b ds n [] rs none from before few known each short = ap (denote_from (tables_of b ds κ) all n) none
   groups_denote b ds n (c ∷ cs) rs (of, is, g, more, e, G, gs) from before few known each short =
       let T = tables_of b ds κ in
-      let split = clauses_split (clause_of b c) (clauses_of b cs) in
+      let split = clauses_split look.Strings 0 (clause_of b c) (clauses_of b cs) in
       let sum = ap length e ∙ length-append g more in
       let one = group_of b ds n of c g more is G (omega (arith, few, sum)) (from ∙ e) before known (All-head (IsClause T) (clause_of b c) (map (clause_of b) cs) each) (omega (arith, split, short)) in
       ap (denote_from T all n) e ∙ one.0

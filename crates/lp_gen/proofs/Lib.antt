@@ -84,8 +84,10 @@ mod GroupDenotes
 mod GroupPut
 mod GroupsDenote
 mod CapturedBy
-mod StringsLeft
-mod OtherLimits
+mod LimitsLeft
+mod LimitsWork
+mod LimitsTold
+mod ShortStrings
 mod RecordsCounted
 mod NamedNumbers
 mod QueryDenotes

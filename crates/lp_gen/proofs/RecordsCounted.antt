@@ -20,7 +20,7 @@ use Rattle.lp_gen.proofs.Tops.{clause_is}
 -- those of one clause and of more
 
 pub records_of_clause : (b : Nodes) (c : Clause) (Fs : Clauses) → clauses_records (clauses (clause_of b c) Fs) ≡ suc (goals_assume (goals_of b c.body.items)) + clauses_records Fs
-records_of_clause b c Fs = ap (λ F. clauses_records (clauses F Fs)) (clause_is b c)
+records_of_clause b c Fs = let s = ap (λ F. clauses_records (clauses F Fs)) (clause_is b c) in omega (arith, s)
 
 due_counted : (b : Nodes) (n d : ℕ) (cs : List Clause) (us : List Due) → AreDue n d cs us → due_records b us ≡ clauses_records (clauses_of b cs)
 due_counted b n d [] us a = ap (due_records b) a

@@ -16,7 +16,7 @@ use Rattle.lp_code.specs.Steps.{constant_of}
 use Rattle.lp_code.specs.Rules.{applies, built_types, has_count, is_no_term}
 use Rattle.lp_gen.specs.Sources.{types_by, IsKnownType, IsKnownAtom, IsKnownTerm}
 use Rattle.lp_gen.specs.Limits.{atom_strings, long_strings}
-use Rattle.lp_gen.proofs.StringsLeft.{string_short}
+use Rattle.lp_gen.proofs.ShortStrings.{string_short}
 use Rattle.lp_gen.specs.inner.Reading.{from_of, to_of}
 use Rattle.lp_gen.specs.inner.Running.{built_at}
 use Rattle.lp_gen.specs.inner.Listing.{Step, make_constant, make_integer, make_text, make_index, make_variable, from_register, apply_last, abstract_last, Seen, Around, at_level, level_in, set_level}
@@ -98,9 +98,9 @@ short_atom κ n (param j T) k e = absurd k
 
 pub known_atoms : (κ : ℕ → Option ℕ) (n d m : ℕ) (t : Term) → IsKnownTerm κ n d m t → long_strings t ≡ 0 → KnownAtoms κ n t
 known_atoms κ n d m (index i) k e = tt
-known_atoms κ n d m (atom s) k e = short_atom κ n s k e
+known_atoms κ n d m (atom s) k e = short_atom κ n s k (omega (arith, e))
 known_atoms κ n zero m (abs b) k e = absurd k
-known_atoms κ n (suc d) m (abs b) k e = known_atoms κ n d 0 b k e
+known_atoms κ n (suc d) m (abs b) k e = known_atoms κ n d 0 b k (omega (arith, e))
 known_atoms κ n zero m (app t u) k e = absurd k
 known_atoms κ n (suc d) m (app t u) k e = (known_atoms κ n (suc d) (suc m) t k.1 (omega (arith, e)), known_atoms κ n d 0 u k.2 (omega (arith, e)))
 

@@ -1,20 +1,20 @@
 // The code of clauses and queries.
 ghost use Rattle.std.specs.Prelude.{◌≡◌, ℕ, List, [], ◌++◌, ◌+◌, ◌<◌, ◌≤◌, ◌^◌, All, length, sum_by, IfOk, IfErr, OnOk};
-ghost use Rattle.lp_model.specs.Flattened.{goals_of, clauses_of};
 ghost use Rattle.lp_code.specs.declared.record.Record.{Record};
 ghost use Rattle.lp_code.specs.Length.{length_of, AllFit};
 ghost use Rattle.lp_gen.specs.Contract.{DenotesClauses, DenotesQuery};
-ghost use Rattle.lp_gen.specs.Limits.{goals_strings, clauses_strings, goals_assume, clauses_records, IsPassed};
+ghost use Rattle.lp_gen.specs.Limits.{ClausesPass, ClausesWithin, QueryPasses, QueryWithin};
+ghost use Rattle.lp_gen.specs.inner.Limiting.{IsOfPlan};
 ghost use Rattle.lp_gen.specs.inner.Planning.{origin_records, most_of};
 ghost use Rattle.lp_gen.specs.inner.Groups.{Kept, IsStartOf, AllWritten, IsGroup};
 
 use crate::fault::{GenRefusal, RecordRefusal};
+use crate::limits::{Source, check_limits};
 use crate::plan::{Origin, Part, Plan};
 use crate::record::{Starts, number_of, record_of};
-use crate::strings::{Source, check_strings};
 use crate::tables::Tables;
 use indexmap::IndexMap;
-use lp_base::{Limit, MAX_CLAUSES};
+use lp_base::Limit;
 use lp_code::{Code, Record};
 use lp_model::{Clause, Declared, Goal, Typed};
 use lp_term::Bank;
@@ -75,7 +75,7 @@ fn add(
     ensures group { OnOk result ((g : List Record) × (records.new.items ≡ records.old.items ++ g) × IsGroup bank.now constants.now (length records.old.items) type_vars origin.entry g) }
     ensures count { OnOk result (length records.new.items ≡ length records.old.items + origin_records bank.now origin.entry) }
     ensures within { OnOk result (origin_records bank.now origin.entry ≤ most_of origin.entry) }
-    ensures cause { IfErr result (IsPassed 0 (origin_records bank.now origin.entry) (most_of origin.entry)) }
+    ensures cause { IfErr result (IsOfPlan (origin_records bank.now origin.entry) (most_of origin.entry)) }
 {
     let Ok(type_vars) = u16::try_from(type_vars) else {
         return Err(GenRefusal::Limit(Limit::Registers));
@@ -96,8 +96,9 @@ fn add(
 /// each table that gives a kind the count of arguments that it has there, the code denotes the clauses.
 ///
 /// # Errors
-/// `Limit(Registers)` where a record needs more than 65,535 registers of one kind or its code takes 2^32 bytes or more, `Limit(Text)` where a string is
-/// longer than 65,535 bytes, `Limit(Clauses)` where there are more than 65,535 records.
+/// The first of these that is passed: `Limit(Text)` where a string is longer than 65,535 bytes, `Limit(Arguments)` where a head has more than 255 arguments
+/// or a constant more than 255 types, `Limit(Nesting)` where a term or blocks of goals nest more than 2,000 deep, `Limit(Clauses)` where there are more than
+/// 65,535 records, `Limit(Registers)` where a record needs more than 65,535 registers of one kind or its code takes 2^32 bytes or more.
 pub fn generate(
     alloc: Global,
     bank: &Bank,
@@ -108,19 +109,16 @@ pub fn generate(
     ensures short { IfOk result (λ code. All (λ r. sum_by length_of r.code.items < 2 ^ 32) code.records.items) }
     ensures few { IfOk result (λ code. length code.records.items ≤ 65535) }
     ensures denotes { IfOk result (λ code. DenotesClauses bank.now constants.now clauses.now code.records.items) }
-    ensures within { OnOk result ((clauses_strings (clauses_of bank.now clauses.now) ≡ 0) × (clauses_records (clauses_of bank.now clauses.now) ≤ 65535)) }
-    ensures cause { IfErr result (IsPassed (clauses_strings (clauses_of bank.now clauses.now)) (clauses_records (clauses_of bank.now clauses.now)) 65535) }
+    ensures within { OnOk result (ClausesWithin bank.now constants.now clauses.now) }
+    ensures cause { IfErr result (ClausesPass bank.now constants.now clauses.now) }
 {
-    check_strings(alloc, bank, Source::Clauses(clauses))?;
+    check_limits(alloc, bank, Source::Clauses(clauses, 0))?;
     let mut records = Vec::new(alloc);
     for at in 0..clauses.len() {
         let clause = &clauses[at];
         let origin = Origin::Clause(clause);
         let type_vars = clause.type_vars as u64;
         add(alloc, bank, constants, type_vars, origin, &mut records)?;
-    }
-    if records.len() > MAX_CLAUSES as usize {
-        return Err(GenRefusal::Limit(Limit::Clauses));
     }
     Ok(Code { records })
 }
@@ -141,10 +139,10 @@ pub fn generate_query(
     ensures short { IfOk result (λ code. All (λ r. sum_by length_of r.code.items < 2 ^ 32) code.records.items) }
     ensures few { IfOk result (λ code. length code.records.items ≤ 65536) }
     ensures denotes { IfOk result (λ code. DenotesQuery bank.now constants.now query.now body.now code.records.items) }
-    ensures within { OnOk result ((goals_strings (goals_of bank.now body.now) ≡ 0) × (goals_assume (goals_of bank.now body.now) ≤ 65535)) }
-    ensures cause { IfErr result (IsPassed (goals_strings (goals_of bank.now body.now)) (goals_assume (goals_of bank.now body.now)) 65535) }
+    ensures within { OnOk result (QueryWithin bank.now constants.now query.now body.now) }
+    ensures cause { IfErr result (QueryPasses bank.now constants.now query.now body.now) }
 {
-    check_strings(alloc, bank, Source::Goals(body))?;
+    check_limits(alloc, bank, Source::Goals(body, 0))?;
     let mut records = Vec::new(alloc);
     let origin = Origin::Query(query, body);
     add(

@@ -23,11 +23,11 @@ pub(crate) struct Emitter {
 }
 
 // Refuses what is more than is allowed.
-fn within(count: usize, most: usize, refusal: RecordRefusal) -> Result<(), RecordRefusal>
+fn within(count: usize, most: usize) -> Result<(), RecordRefusal>
     ensures { OnOk result (count ≤ most) }
 {
     if count > most {
-        return Err(refusal);
+        return Err(RecordRefusal::Registers);
     }
     Ok(())
 }
@@ -38,25 +38,17 @@ fn fits(instr: &Instr) -> Result<(), RecordRefusal>
     ensures { OnOk result (is_fitting instr.now ≡ true) }
 {
     match instr {
-        Instr::TyCon(_, _, types) => within(types.len(), MAX_ARGUMENTS, RecordRefusal::Arguments),
-        Instr::PutConst(_, _, types) => within(
-            types.len(),
-            MAX_ARGUMENTS,
-            RecordRefusal::Arguments,
-        ),
-        Instr::GetConst(_, _, types) => within(
-            types.len(),
-            MAX_ARGUMENTS,
-            RecordRefusal::Arguments,
-        ),
-        Instr::PutApp(_, _, terms) => within(terms.len(), MAX_ARGUMENTS, RecordRefusal::Arguments),
+        Instr::TyCon(_, _, types) => within(types.len(), MAX_ARGUMENTS),
+        Instr::PutConst(_, _, types) => within(types.len(), MAX_ARGUMENTS),
+        Instr::GetConst(_, _, types) => within(types.len(), MAX_ARGUMENTS),
+        Instr::PutApp(_, _, terms) => within(terms.len(), MAX_ARGUMENTS),
         Instr::Call(_, types, terms) => {
-            within(types.len(), MAX_ARGUMENTS, RecordRefusal::Arguments)?;
-            within(terms.len(), MAX_ARGUMENTS, RecordRefusal::Arguments)
+            within(types.len(), MAX_ARGUMENTS)?;
+            within(terms.len(), MAX_ARGUMENTS)
         }
         Instr::Assume(_, types, terms) => {
-            within(types.len(), MAX_REGISTERS, RecordRefusal::Registers)?;
-            within(terms.len(), MAX_REGISTERS, RecordRefusal::Registers)
+            within(types.len(), MAX_REGISTERS)?;
+            within(terms.len(), MAX_REGISTERS)
         }
         Instr::PutStr(_, _) => Ok(()),
         Instr::GetStr(_, _) => Ok(()),

@@ -6,17 +6,15 @@ use std::alloc::{AllocError, AllocFailed};
 /// Why clauses or a query have no code.
 #[derive(Clone, Copy, Debug, PartialEq, Eq)]
 pub enum GenRefusal {
-    /// A record with too many registers or bytes, a string that is too long, or too many records.
+    /// The first that is passed, of strings, arguments, nesting, records and registers.
     Limit(Limit),
     Memory,
 }
 
-/// Why a record has no code, where its strings are short and records few enough.
+/// Why a record has no code, where it is within the limits that are passed whatever the code is.
 #[derive(Clone, Copy)]
 pub(crate) enum RecordRefusal {
     Registers,
-    Arguments,
-    Nesting,
     Memory,
 }
 
@@ -28,8 +26,6 @@ impl From<RecordRefusal> for GenRefusal {
     fn from(refusal: RecordRefusal) -> GenRefusal {
         match refusal {
             RecordRefusal::Registers => GenRefusal::Limit(Limit::Registers),
-            RecordRefusal::Arguments => GenRefusal::Limit(Limit::Arguments),
-            RecordRefusal::Nesting => GenRefusal::Limit(Limit::Nesting),
             RecordRefusal::Memory => GenRefusal::Memory,
         }
     }

@@ -63,7 +63,7 @@ pub(crate) fn put_index(
     ensures { IfOk result (λ register. IndexPut emitter.old emitter.new register index (read bank.now of)) }
 {
     let Ok(number) = u16::try_from(index) else {
-        return Err(RecordRefusal::Nesting);
+        return Err(RecordRefusal::Registers);
     };
     let register = put_type(alloc, bank, emitter, of)?;
     let made = emitter.new_register()?;

@@ -28,7 +28,7 @@ fn number_of(place: usize) -> Result<u8, RecordRefusal>
 {
     match u8::try_from(place) {
         Ok(number) => Ok(number),
-        Err(_) => Err(RecordRefusal::Arguments),
+        Err(_) => Err(RecordRefusal::Registers),
     }
 }
 

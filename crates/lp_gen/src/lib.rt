@@ -25,6 +25,8 @@ mod forms;
 mod got;
 // The head of a record.
 mod head;
+// Limits that are passed whatever the code is.
+mod limits;
 // The steps of a term.
 mod listing;
 // A clause with those that it assumes, each as a list of steps.
@@ -33,7 +35,7 @@ mod plan;
 mod record;
 // The types of the arguments of standard constants.
 mod standard;
-// Strings that are too long.
+// Strings as instructions have them.
 mod strings;
 // What the records of a clause or query have in common.
 mod tables;

@@ -1,7 +1,7 @@
 // A clause or query with the clauses that it assumes: each as a head and a list of steps.
 ghost use Rattle.std.specs.Prelude.{◌≡◌, List, ◌≤◌, ◌<◌, ◌+◌, ◌∷◌, ◌++◌, [], map, length, IfOk, IfErr, OnOk};
 ghost use Rattle.lp_gen.specs.inner.Sizes.{goal_work, goal_task, goal_weighs, goals_weigh};
-ghost use Rattle.lp_gen.specs.Limits.{IsPassed};
+ghost use Rattle.lp_gen.specs.inner.Limiting.{IsOfPlan};
 ghost use Rattle.lp_gen.specs.inner.Recorded.{own_count};
 ghost use Rattle.lp_gen.specs.inner.Planning.{AreDue, origin_records, most_of, body_of, todo_of, todos, due_goals, due_end, due_level, IsAssumed, WalkKept, PartWalked, ArePlanned, AllCaptured};
 ghost use Rattle.lp_gen.specs.declared.plan.Due.{Due};
@@ -221,7 +221,7 @@ impl<'a> Plan<'a> {
         ensures few { IfOk result (λ plan. length plan.parts.items ≤ 65536) }
         ensures count { IfOk result (λ plan. length plan.parts.items ≡ origin_records bank.now origin.entry) }
         ensures within { IfOk result (λ plan. origin_records bank.now origin.entry ≤ most_of origin.entry) }
-        ensures cause { IfErr result (IsPassed 0 (origin_records bank.now origin.entry) (most_of origin.entry)) }
+        ensures cause { IfErr result (IsOfPlan (origin_records bank.now origin.entry) (most_of origin.entry)) }
     {
         let mut plan = Plan {
             alloc,

@@ -1,10 +1,9 @@
 use Rattle.std.proofs.Common.{◌∙◌, [], length, ap, refl, sym, subst, arith}
 use Rattle.std.proofs.lemmas.List.{length-append}
-use Rattle.lp_gen.specs.inner.Planning.{origin_records, most_of, ArePlanned}
+use Rattle.lp_gen.specs.inner.Planning.{ArePlanned}
 use Rattle.lp_gen.proofs.GroupPut.{group_made}
 use Rattle.lp_gen.proofs.GroupTold.{written_length}
 use Rattle.lp_gen.proofs.RecordsCounted.{few_assumed}
-use Rattle.lp_gen.proofs.OtherLimits.{registers_passed}
 use Rattle.lp_gen.proofs.codes.add.Goals as goal
 
 pub returns-clause-group : goal.returns-clause-group
@@ -34,6 +33,3 @@ returns-clause-count c =
     let x = ap length c.as_slice-2.ensures.value in
     let k = c.in_ok-plan.ensures.count in
     omega (arith, z, y, x, k)
-
-pub returns-in_default-clause-cause : goal.returns-in_default-clause-cause
-returns-in_default-clause-cause c = registers_passed 0 (origin_records c.args.bank.now c.args.origin) (most_of c.args.origin)

@@ -9,8 +9,8 @@ use Rattle.lp_gen.specs.inner.Groups.{AreGroups}
 use Rattle.std.specs.Prelude.{take}
 use Rattle.lp_lemmas.proofs.Results.{passed_up}
 use Rattle.lp_model.specs.Flattened.{goals_of, clauses_of}
-use Rattle.lp_gen.specs.Limits.{clauses_strings, goals_assume, clauses_records, IsPassed}
-use Rattle.lp_gen.proofs.StringsLeft.{passed_on}
+use Rattle.lp_gen.specs.Limits.{goals_assume, clauses_records, counts_of_clauses, ClausesPass}
+use Rattle.lp_gen.proofs.LimitsTold.{told_by_plan}
 use Rattle.lp_gen.proofs.PlanDone.{take_next}
 use Rattle.lp_gen.proofs.RecordsCounted.{one_clause_more, clause_counted}
 use Rattle.lp_gen.proofs.GroupPut.{clause_written}
@@ -48,25 +48,24 @@ returns-clause-denotes c = λ κ known each.
     let cs = c.args.clauses.now in
     let rs = c.loop-at.records.items in
     let last : c.loop-at.at ≡ length cs = omega (arith, c.loop-at-test.false, c.loop-at.auto.at-end) in
+    let i = c.loop-at.invariant.3 in
+    let t = ap (λ l. clauses_records (clauses_of b l)) (take_all c.loop-at.at cs (omega (arith, last))) in
+    let w = c.in_ok-check_limits.ensures.within in
+    let w3 = w.3 in
+    let few : length rs ≤ 65535 = omega (arith, i, t, w3) in
     let gs = subst (λ l. AreGroups b ds 0 l rs) (take_all c.loop-at.at cs (omega (arith, last))) c.loop-at.invariant.2 in
-    groups_denote κ rs b ds 0 cs rs gs refl (λ v e. absurd (true≢false (sym e))) (omega (arith, c.if-len.false, c.len.ensures, c.loop-at.records.ok)) known each c.in_ok-check_strings.ensures.within
+    groups_denote κ rs b ds 0 cs rs gs refl (λ v e. absurd (true≢false (sym e))) few known each c.in_ok-check_limits.ensures.within.0
 
-pub returns-clause-within : goal.returns-clause-within
-returns-clause-within c =
+pub returns-clause-few : goal.returns-clause-few
+returns-clause-few c =
     let b = c.args.bank.now in
     let cs = c.args.clauses.now in
     let last : c.loop-at.at ≡ length cs = omega (arith, c.loop-at-test.false, c.loop-at.auto.at-end) in
     let i = c.loop-at.invariant.3 in
     let t = ap (λ l. clauses_records (clauses_of b l)) (take_all c.loop-at.at cs (omega (arith, last))) in
-    (c.in_ok-check_strings.ensures.within, omega (arith, c.if-len.false, c.len.ensures, c.loop-at.records.ok, i, t))
-
-pub returns-in_err-check_strings-clause-cause : goal.returns-in_err-check_strings-clause-cause
-returns-in_err-check_strings-clause-cause c =
-    let b = c.args.bank.now in
-    let cs = c.args.clauses.now in
-    passed_up c.from_residual.result c.in_err-check_strings.field-0.0 (IsPassed (clauses_strings (clauses_of b cs)) (clauses_records (clauses_of b cs)) 65535) c.from_residual.ensures.1
-    (passed_on (clauses_strings (clauses_of b cs)) 0 0 (clauses_strings (clauses_of b cs)) (clauses_records (clauses_of b cs)) 65535 c.in_err-check_strings.field-0.0 (omega arith)
-    (λ f. absurd (omega (arith, f))) c.in_err-check_strings.ensures.cause)
+    let w = c.in_ok-check_limits.ensures.within in
+    let few = w.3 in
+    omega (arith, i, t, few)
 
 pub returns-in_err-add-clause-cause : goal.returns-in_err-add-clause-cause
 returns-in_err-add-clause-cause c =
@@ -74,6 +73,7 @@ returns-in_err-add-clause-cause c =
     let cs = c.args.clauses.now in
     let at = slice_get_read cs (length cs) c.loop-at.at c.index-clauses-at.result refl (omega (arith, c.loop-at-test.true)) c.index-clauses-at.is in
     let n = clause_counted b cs c.loop-at.at c.index-clauses-at.result at in
-    passed_up c.from_residual-in_err-add.result c.in_err-add.field-0.0 (IsPassed (clauses_strings (clauses_of b cs)) (clauses_records (clauses_of b cs)) 65535) c.from_residual-in_err-add.ensures.1
-    (passed_on 0 (suc (goals_assume (goals_of b c.index-clauses-at.result.body.items))) 65535 (clauses_strings (clauses_of b cs)) (clauses_records (clauses_of b cs)) 65535
-    c.in_err-add.field-0.0 (omega arith) (λ f. omega (arith, f, n)) c.in_err-add.ensures.cause)
+    let w = c.in_ok-check_limits.ensures.within in
+    let few = w.3 in
+    passed_up c.from_residual-in_err-add.result c.in_err-add.field-0.0 (ClausesPass b c.args.constants.now cs) c.from_residual-in_err-add.ensures.1
+    (told_by_plan (counts_of_clauses (clauses_of b cs)) (suc (goals_assume (goals_of b c.index-clauses-at.result.body.items))) 65535 c.in_err-add.field-0.0 w (omega (arith, n, few)) c.in_err-add.ensures.cause)

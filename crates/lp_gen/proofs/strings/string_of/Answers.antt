@@ -1,6 +1,6 @@
 use Rattle.std.proofs.Common.{◌∙◌, ap, length}
 use Rattle.std.specs.Prelude.{nat_lt, take}
-use Rattle.lp_gen.proofs.StringsLeft.{cut_short, cut_whole}
+use Rattle.lp_gen.proofs.ShortStrings.{cut_short, cut_whole}
 use Rattle.lp_gen.proofs.strings.string_of.Goals as goal
 
 pub returns-clause-short : goal.returns-clause-short

@@ -4,7 +4,6 @@ use Rattle.std.proofs.lemmas.Option.{slice_get_read}
 use Rattle.std.proofs.lemmas.List.{length-append}
 use Rattle.lp_gen.specs.declared.plan.Part.{Part}
 use Rattle.lp_gen.specs.inner.Planning.{origin_records, most_of, PlanStands}
-use Rattle.lp_gen.proofs.OtherLimits.{records_passed}
 use Rattle.lp_gen.proofs.AssumptionPut.{no_assumption}
 use Rattle.lp_gen.proofs.PlanParts.{plan_begins, plan_grows}
 use Rattle.lp_gen.proofs.RecordsCounted.{begins_counted, part_counted, all_counted, over_counted, most_few}
@@ -70,6 +69,5 @@ returns-then-at-most-clause-cause c =
     let us = c.parts.plan.due.items in
     let ps = c.parts.plan.parts.items in
     let place : c.len-at.result ≡ length ps = omega (arith, c.len-at.ensures, c.parts.plan.parts.ok) in
-    records_passed 0 (origin_records b c.args.origin) (most_of c.args.origin)
-    (over_counted b c.args.origin us ps c.parts.plan.assumptions.items c.parts.invariant.0 c.parts.invariant.3 (omega (arith, c.parts-test.true))
-    (omega (arith, place, c.if-at-most.true, c.most_records-most.ensures.most)))
+    over_counted b c.args.origin us ps c.parts.plan.assumptions.items c.parts.invariant.0 c.parts.invariant.3 (omega (arith, c.parts-test.true))
+    (omega (arith, place, c.if-at-most.true, c.most_records-most.ensures.most))
