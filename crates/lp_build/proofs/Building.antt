@@ -2,7 +2,7 @@
 use Rattle.std.specs.Borrow.{Bor}
 use Rattle.std.specs.Global.{Global}
 use Rattle.std.proofs.Common.{◌≡◌, ℕ, ◌+◌, List, length, sym, subst, Option, Some, None}
-use Rattle.std.specs.Prelude.{Result, Ok, Err, IfOk, IfSome, String, string_bytes}
+use Rattle.std.specs.Prelude.{Result, Ok, Err, IfOk, IfSome, All, String, string_bytes}
 use Rattle.lp_sig.specs.Refusals.{IsAt}
 use Rattle.lp_sig.specs.declared.signature.Signature.{Signature}
 use Rattle.lp_module.specs.Program.{IsProgram}
@@ -11,6 +11,7 @@ use Rattle.lp_module.specs.declared.module.Module.{Module}
 use Rattle.lp_build.specs.Meant.{AreModulesOf, IsOwnSignature}
 use Rattle.lp_build.specs.Programs.{IsBuilt, IsProgramOf}
 use Rattle.lp_build.specs.Queried.{IsSeenByQueries}
+use Rattle.lp_build.specs.Uncoded.{IsWithinCode}
 use Rattle.lp_build.specs.inner.Wholes.{IsRootSignature, IsSeenOf, IsWhole}
 use Rattle.lp_build.specs.declared.build.Built.{Built}
 use Rattle.lp_build.specs.declared.build.Whole.{Whole}
@@ -36,9 +37,9 @@ program_is modules own root assembled built last h s = record {
 
 pub built_is : (sources : Sources) (w : Whole) (modules : List Module) (own : Signature) (r : Result Built BuildFault) → IsWhole sources.files.items w
     → AreModulesOf sources.files.items w.texts.signatures w.texts.modules modules → IsRootSignature sources.files.items w own →
-    IfOk r (IsProgramOf modules own) → IfOk r (IsBuilt sources)
-built_is sources w modules own (Err e) whole are root h = tt
-built_is sources w modules own (Ok built) whole are root h = record {
+    All IsWithinCode modules → IfOk r (IsProgramOf modules own) → IfOk r (IsBuilt sources)
+built_is sources w modules own (Err e) whole are root coded h = tt
+built_is sources w modules own (Ok built) whole are root coded h = record {
   modules = modules;
   are = record { signatures = w.texts.signatures; texts = w.texts.modules; signature_texts = whole.texts.signatures; module_texts = whole.texts.modules; meanings = are };
   name = root.name;
@@ -46,4 +47,5 @@ built_is sources w modules own (Ok built) whole are root h = record {
   own = own;
   own_is = root.is;
   program = h;
+  coded = coded;
 }

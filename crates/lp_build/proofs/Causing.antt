@@ -4,6 +4,7 @@ use Rattle.std.proofs.Common.{◌≡◌, ℕ, suc, ◌<◌, List, [], ◌∷◌,
 use Rattle.std.specs.Prelude.{◌⊎◌, Result, Ok, Err, IfErr, String, Vec, string_bytes}
 use Rattle.lp_syntax.specs.declared.text.ModuleText.{ModuleText}
 use Rattle.lp_syntax.specs.declared.text.SignatureText.{SignatureText}
+use Rattle.lp_sig.specs.declared.signature.Signature.{Signature}
 use Rattle.lp_module.specs.Order.{Visits}
 use Rattle.lp_module.specs.Refusals.{IsOrderRefusal}
 use Rattle.lp_module.specs.Words.{all_ways}
@@ -11,7 +12,10 @@ use Rattle.lp_module.specs.declared.fault.ModuleFault.{ModuleFault}
 use Rattle.lp_module.specs.declared.module.Module.{Module}
 use Rattle.lp_build.specs.Meant.{AreModulesAt, AreModulesOf}
 use Rattle.lp_build.specs.Refused.{IsFirstText, IsModuleFault, IsRefusedModules, IsRefusedProgram, IsRefusedWhole, IsSignaturesFault}
-use Rattle.lp_build.specs.Refused.{no_memory, of_meaning, of_module, of_modules, of_order, of_program, of_signatures, of_text, of_whole}
+use Rattle.lp_build.specs.Refused.{no_memory, of_codes, of_meaning, of_module, of_modules, of_order, of_program, of_signatures, of_text, of_whole}
+use Rattle.lp_build.specs.Programs.{IsProgramOf}
+use Rattle.lp_build.specs.Uncoded.{IsFirstUncoded}
+use Rattle.lp_build.specs.declared.build.Built.{Built}
 use Rattle.lp_build.specs.declared.build.Whole.{Whole}
 use Rattle.lp_build.specs.declared.fault.BuildFault.{BuildFault}
 use Rattle.lp_build.specs.declared.fault.BuildFault.TheVariants as fault
@@ -94,3 +98,14 @@ program_layer sources w modules e whole are (inr (root, f, last, h, is)) = of_pr
   module_texts = whole.texts.modules;
   meanings = are;
 }) last h is
+
+pub codes_layer : (sources : Sources) (w : Whole) (modules : List Module) (own : Signature) (built : Built) (e : BuildFault) → IsWhole sources.files.items w → AreModulesOf
+    sources.files.items w.texts.signatures w.texts.modules modules →
+    IsProgramOf modules own built → IsFirstUncoded modules e → IsRefusedProgram sources e
+codes_layer sources w modules own built e whole are p h = of_codes modules p.root built.assembled (record {
+  signatures = w.texts.signatures;
+  texts = w.texts.modules;
+  signature_texts = whole.texts.signatures;
+  module_texts = whole.texts.modules;
+  meanings = are;
+}) p.last p.program h

@@ -31,7 +31,8 @@ use Rattle.lp_sig.specs.declared.signature.Signature.{Signature}
 use Rattle.lp_module.specs.Program.{clauses_in}
 use Rattle.lp_module.specs.declared.module.Module.{Module}
 use Rattle.lp_build.specs.Compiled.{ArePaired, DenoteFlattened, HasNamesOf, IsObjectConstant, IsObjectKind, IsObjectOf}
-use Rattle.lp_build.specs.inner.Coded.{AreFlat, schemes_of, signature_tables}
+use Rattle.lp_build.specs.Uncoded.{schemes_of}
+use Rattle.lp_build.specs.inner.Coded.{AreFlat, signature_tables}
 
 -- pairs
 

@@ -52,7 +52,7 @@ image_of_is ms os (Ok image) are (root, last, can, linked, named) = record { obj
 image_of_is ms os (Err e) are h = tt
 
 -- the clauses of a module stand in its bank
-modules_within : {files : List File} {g : Group SignatureText} {t : Group ModuleText} {ps : List ℕ} {ms : List Module} → AreModulesAt files g t ps ms → All (λ m. AreWithin m.bank m.clauses.items) ms
+pub modules_within : {files : List File} {g : Group SignatureText} {t : Group ModuleText} {ps : List ℕ} {ms : List Module} → AreModulesAt files g t ps ms → All (λ m. AreWithin m.bank m.clauses.items) ms
 modules_within no_module = All_empty (λ (m : Module). AreWithin m.bank m.clauses.items) [] refl
 modules_within (one_module ps all_ps ms all_ms p m before is e f) = All_pushed (λ (m : Module). AreWithin m.bank m.clauses.items) all_ms ms m f (modules_within before) is.meaning.clauses
 

@@ -11,6 +11,7 @@ pub mod Building
 pub mod Compiling
 pub mod Closed
 pub mod Coding
+pub mod Uncoding
 pub mod Imaging
 pub mod CopyNumbers
 pub mod RenumberedTerms

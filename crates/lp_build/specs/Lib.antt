@@ -10,6 +10,7 @@ pub mod Trees
 pub mod Meant
 pub mod Queried
 pub mod Programs
+pub mod Uncoded
 pub mod Refused
 pub mod Compiled
 pub mod Copied

@@ -20,14 +20,17 @@ use Rattle.lp_sig.specs.declared.signature.Signature.{Signature}
 use Rattle.lp_infer.specs.declared.fault.InferFault.TheVariants as infer
 use Rattle.lp_module.specs.Copies.{IsProgramRefusal}
 use Rattle.lp_module.specs.Order.{Visits}
+use Rattle.lp_module.specs.Program.{IsProgram}
 use Rattle.lp_module.specs.Refusals.{IsOrderRefusal, IsRefusal as IsModuleRefused}
 use Rattle.lp_module.specs.Words.{all_ways}
+use Rattle.lp_module.specs.declared.copies.Assembled.{Assembled}
 use Rattle.lp_module.specs.declared.fault.ModuleFault.{ModuleFault}
 use Rattle.lp_module.specs.declared.fault.ModuleFault.TheVariants as modules
 use Rattle.lp_module.specs.declared.module.Module.{Module}
 use Rattle.lp_build.specs.Meant.{AreModules, AreModulesAt, AreSignaturesOf, IsDeclaredAt, IsOwnSignature}
 use Rattle.lp_build.specs.Sights.{DeclareAll, InForce, Sees, accum_sig_at, accumulate_at}
 use Rattle.lp_build.specs.Trees.{AreModuleTexts, AreSignatureTexts}
+use Rattle.lp_build.specs.Uncoded.{IsFirstUncoded}
 use Rattle.lp_build.specs.declared.fault.BuildFault.{BuildFault}
 use Rattle.lp_build.specs.declared.fault.BuildFault.TheVariants as fault
 use Rattle.lp_build.specs.declared.sources.File.{File}
@@ -200,7 +203,8 @@ pub data IsRefusedModules (sources : Sources) (e : BuildFault) : Type 0 where
   of_order : (g : Group SignatureText) (t : Group ModuleText) → AreWhole sources g t → AreAllDeclared g → IsOrderFault t e → IsRefusedModules sources e
   of_meaning : (g : Group SignatureText) (t : Group ModuleText) → AreWhole sources g t → AreAllDeclared g → IsFirstModule sources.files.items g t e → IsRefusedModules sources e
 
--- Why they have no program: they have no modules, or the program of all modules, the root last, passes a limit.
+-- Why they have no program: they have no modules, or the program of all modules, the root last, passes a limit, or else one of the modules has no code.
 pub data IsRefusedProgram (sources : Sources) (e : BuildFault) : Type 0 where
   of_modules : IsRefusedModules sources e → IsRefusedProgram sources e
   of_program : (all : List Module) (root : ℕ) (f : ModuleFault) → AreModules sources all → root + 1 ≡ length all → IsProgramRefusal all root f → e ≡ of_module f → IsRefusedProgram sources e
+  of_codes : (all : List Module) (root : ℕ) (a : Assembled) → AreModules sources all → root + 1 ≡ length all → IsProgram all root a → IsFirstUncoded all e → IsRefusedProgram sources e

@@ -18,7 +18,7 @@ use crate::fault::BuildFault;
 use crate::images::image_of;
 use crate::links::Links;
 use crate::meanings::{module_at, module_fault, modules_of, own_of};
-use crate::objects::{check_names, names_of, with_code};
+use crate::objects::{check_codes, check_names, names_of, with_code};
 use crate::queries::{query_signature, query_table};
 use crate::signatures::Signatures;
 use crate::sources::{Sources, as_number};
@@ -132,7 +132,8 @@ fn program_of(alloc: Global, modules: &Vec<Module>, own: &Signature) -> Result<B
 ///
 /// # Errors
 /// The first fault of syntax in load order; then the first circle of accum_sig, then the first fault of a signature in load order; then a circle of
-/// accumulate, then the first fault of a module, accumulated ones first; then the limits of the program.
+/// accumulate, then the first fault of a module, accumulated ones first; then the limits of the program, and then those of the code of its modules, in
+/// the same order.
 pub fn build_program(alloc: Global, sources: &Sources) -> Result<Built, BuildFault>
     ensures refused { IfErr result IsOfTexts }
     ensures cause { AreRead sources.now → IfErr result (IsRefusedProgram sources.now) }
@@ -143,7 +144,9 @@ pub fn build_program(alloc: Global, sources: &Sources) -> Result<Built, BuildFau
     let Some(own) = root_signature(&whole) else {
         return Err(BuildFault::Memory);
     };
-    program_of(alloc, &modules, own)
+    let built = program_of(alloc, &modules, own)?;
+    check_codes(alloc, modules)?;
+    Ok(built)
 }
 
 // The place in a group at which the text of a file stands.

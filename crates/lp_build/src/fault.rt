@@ -1,4 +1,9 @@
 // Why files have no program.
+ghost use Rattle.std.specs.Prelude.{◌≡◌};
+ghost use Rattle.lp_normal.specs.Counted.{IsOver};
+ghost use Rattle.lp_module.specs.declared.module.Module.{Module};
+ghost use Rattle.lp_build.specs.Faults.{IsOfTexts};
+ghost use Rattle.lp_build.specs.Uncoded.{HasManyIn, IsUncoded, of_code};
 
 use lp_base::{Limit, Memory};
 use lp_gen::GenRefusal;
@@ -62,29 +67,25 @@ impl<T: Drop> From<AllocFailed<T>> for BuildFault {
     }
 }
 
-impl From<NormalRefusal> for BuildFault {
-    ghost use Rattle.lp_build.specs.Faults.{IsOfTexts};
-
-    ghost from_gives = { λ _ e. IsOfTexts e };
-
-    fn from(refusal: NormalRefusal) -> BuildFault {
-        match refusal {
-            NormalRefusal::Limit(limit) => BuildFault::Limit(limit),
-            NormalRefusal::Memory => BuildFault::Memory,
-        }
+// How the refusal of flattening is told.
+pub(crate) fn of_flattening(refusal: NormalRefusal) -> BuildFault
+    ensures texts { IsOfTexts result }
+    ensures cause { («module» : Module) → IsOver (HasManyIn «module».bank «module».clauses.items) refusal → IsUncoded «module» result }
+{
+    match refusal {
+        NormalRefusal::Limit(passed) => BuildFault::Limit(passed),
+        NormalRefusal::Memory => BuildFault::Memory,
     }
 }
 
-impl From<GenRefusal> for BuildFault {
-    ghost use Rattle.lp_build.specs.Faults.{IsOfTexts};
-
-    ghost from_gives = { λ _ e. IsOfTexts e };
-
-    fn from(refusal: GenRefusal) -> BuildFault {
-        match refusal {
-            GenRefusal::Limit(limit) => BuildFault::Limit(limit),
-            GenRefusal::Memory => BuildFault::Memory,
-        }
+// How the refusal of code is told.
+pub(crate) fn of_generator(refusal: GenRefusal) -> BuildFault
+    ensures texts { IsOfTexts result }
+    ensures same { result ≡ of_code refusal }
+{
+    match refusal {
+        GenRefusal::Limit(passed) => BuildFault::Limit(passed),
+        GenRefusal::Memory => BuildFault::Memory,
     }
 }
 

@@ -3,8 +3,6 @@
 
 // The program of the files.
 mod build;
-// The limits that are counted before a module has code.
-mod counts;
 // Why the files have no program.
 mod fault;
 // The image of modules.

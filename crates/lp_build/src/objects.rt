@@ -1,5 +1,5 @@
 // The objects of modules.
-ghost use Rattle.std.specs.Prelude.{◌≡◌, length, map, IfErr, IfOk, OnOk, None, if◌then◌else◌};
+ghost use Rattle.std.specs.Prelude.{◌≡◌, All, length, map, IfErr, IfOk, OnOk, None, if◌then◌else◌};
 ghost use Rattle.lp_term.specs.Memo.{AreMade};
 ghost use Rattle.lp_term.specs.Nodes.{Extends, Nodes};
 ghost use Rattle.lp_term.specs.Same.{same_map};
@@ -8,19 +8,20 @@ ghost use Rattle.lp_model.specs.Readings.{scheme_of};
 ghost use Rattle.lp_code.specs.Naming.{scheme_in};
 ghost use Rattle.lp_module.specs.Program.{clauses_in};
 ghost use Rattle.lp_module.specs.Sentences.{AreWithin};
+ghost use Rattle.lp_normal.specs.Counted.{IsOver};
 ghost use Rattle.lp_build.specs.Compiled.{AreExported, ArePaired, DenoteFlattened, HasNamesOf, IsObjectConstant, IsObjectKind, IsObjectOf};
 ghost use Rattle.lp_build.specs.Faults.{IsOfTexts};
-ghost use Rattle.lp_build.specs.inner.Coded.{AreFlat, schemes_of, signature_tables};
+ghost use Rattle.lp_build.specs.Uncoded.{HasManyIn, HaveFewIn, IsFirstUncoded, IsUncoded, IsWithinCode, schemes_of};
+ghost use Rattle.lp_build.specs.inner.Coded.{AreFlat, signature_tables};
 
-use crate::counts::check_clauses;
-use crate::fault::BuildFault;
+use crate::fault::{BuildFault, of_flattening, of_generator};
 use lp_base::{END_OF_NUMBERS, Limit, Memory};
 use lp_code::{Code, Object, ObjectConstant, ObjectKind};
 use lp_fixity::Fixity;
 use lp_gen::generate;
 use lp_model::{Clause, ClauseFormula, Declared};
 use lp_module::Module;
-use lp_normal::normalise;
+use lp_normal::{NormalRefusal, normalise};
 use lp_sig::{ConstantEntry, KindEntry, Signature};
 use lp_standard::{FIRST_CONSTANT, FIRST_KIND};
 use lp_term::{Bank, Changed, Same};
@@ -167,10 +168,11 @@ fn flattened(
     alloc: Global,
     bank: &mut Bank,
     formulas: &[ClauseFormula],
-) -> Result<Vec<Clause>, BuildFault>
-    ensures refused { IfErr result IsOfTexts }
+) -> Result<Vec<Clause>, NormalRefusal>
     ensures kept { Extends bank.old bank.new }
     ensures flat { AreWithin bank.old formulas.now → IfOk result (λ clauses. AreFlat bank.old bank.new formulas.now clauses.items) }
+    ensures limit { AreWithin bank.old formulas.now → IfErr result (IsOver (HasManyIn bank.old formulas.now)) }
+    ensures few { AreWithin bank.old formulas.now → OnOk result (HaveFewIn bank.old formulas.now) }
 {
     let mut clauses = Vec::new(alloc);
     for formula in formulas {
@@ -192,17 +194,36 @@ pub(crate) fn check_names(object: &Object) -> Result<(), BuildFault>
     Ok(())
 }
 
-// The code of a module, or the first of the limits `clauses`, `string` and `registers` that it passes.
+// The code of a module, or the first of the limits that it passes: `clauses` of one formula, or those of the code of all.
 fn code_of(alloc: Global, module: &mut Module) -> Result<Code, BuildFault>
     ensures refused { IfErr result IsOfTexts }
     ensures denotes { AreWithin «module».old.bank «module».old.clauses.items →
         IfOk result (λ code. DenoteFlattened (signature_tables «module».old.signature) (clauses_in «module».old) code.records.items) }
+    ensures cause { AreWithin «module».old.bank «module».old.clauses.items → IfErr result (IsUncoded «module».old) }
+    ensures within { AreWithin «module».old.bank «module».old.clauses.items → OnOk result (IsWithinCode «module».old) }
 {
-    let clauses = flattened(alloc, &mut module.bank, module.clauses.as_slice())?;
-    check_clauses(alloc, &module.bank, clauses.as_slice())?;
+    let clauses = match flattened(alloc, &mut module.bank, module.clauses.as_slice()) {
+        Ok(clauses) => clauses,
+        Err(refusal) => return Err(of_flattening(refusal)),
+    };
     let declared = declared_of(alloc, &module.signature, &mut module.bank)?;
-    let code = generate(alloc, &module.bank, declared.as_slice(), clauses.as_slice())?;
-    Ok(code)
+    match generate(alloc, &module.bank, declared.as_slice(), clauses.as_slice()) {
+        Ok(code) => Ok(code),
+        Err(refusal) => Err(of_generator(refusal)),
+    }
+}
+
+// The code of each module is within its limits.
+pub(crate) fn check_codes(alloc: Global, modules: Vec<Module>) -> Result<(), BuildFault>
+    ensures refused { IfErr result IsOfTexts }
+    ensures cause { All (λ m. AreWithin m.bank m.clauses.items) modules.items → IfErr result (IsFirstUncoded modules.items) }
+    ensures within { All (λ m. AreWithin m.bank m.clauses.items) modules.items → OnOk result (All IsWithinCode modules.items) }
+{
+    for module in modules.into_iter() {
+        let mut module = module;
+        code_of(alloc, &mut module)?;
+    }
+    Ok(())
 }
 
 // Copies of names.

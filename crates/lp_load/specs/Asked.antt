@@ -1,5 +1,5 @@
 -- A query as its text says it.
-use Rattle.std.specs.Prelude.{◌≤◌, ℕ, List, true}
+use Rattle.std.specs.Prelude.{◌≡◌, ◌≤◌, ℕ, List, Option, Some, true}
 use Rattle.lp_base.specs.declared.limits.TheConstants.{MAX_ARGUMENTS}
 use Rattle.lp_lexer.specs.declared.token.Token.{Token}
 use Rattle.lp_lexer.specs.Lexis.{HasTokens}
@@ -8,7 +8,12 @@ use Rattle.lp_fixity.specs.Table.{entry_of}
 use Rattle.lp_syntax.specs.declared.text.RawQuery.{RawQuery}
 use Rattle.lp_syntax.specs.Tokens.{lexemes, spot_at}
 use Rattle.lp_syntax.specs.Queries.{IsQueryText}
+use Rattle.lp_calculus.specs.Typing.{Scheme}
 use Rattle.lp_term.specs.Nodes.{Nodes, tree}
+use Rattle.lp_model.specs.Flat.{Goals}
+use Rattle.lp_model.specs.Flatten.{flatten_query}
+use Rattle.lp_model.specs.Flattened.{goals_of}
+use Rattle.lp_model.specs.declared.clause.Goal.{Goal}
 use Rattle.lp_model.specs.declared.program.Typed.{Typed}
 use Rattle.lp_sig.specs.declared.signature.Signature.{Signature}
 use Rattle.lp_infer.specs.Numbering.{IsTyped}
@@ -35,3 +40,7 @@ pub record IsAsked (operators : Table) (names : Signature) (text : List ℕ) (b 
   pub short : IsShort (tree b query.formula.0)
   pub variables : query.type_vars ≤ MAX_ARGUMENTS
   pub formed : IsFormed (declared_schemes names) true query.type_vars (tree b query.formula.0)
+
+-- these are the flattened goals of a query in this bank, whatever the depth and the declared types by which it is flattened
+abbrev pub AreGoalsOf : Nodes → Typed → List Goal → Type 0
+AreGoalsOf b query goals = (n : ℕ) (d : ℕ → Option Scheme) (flat : Goals) → flatten_query n d (tree b query.formula.0) ≡ Some flat → goals_of b goals ≡ flat

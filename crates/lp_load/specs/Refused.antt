@@ -1,4 +1,4 @@
--- Why the text of a query is refused: its first fault, in the order of tokens, tree, arguments, typing, form and clauses.
+-- Why the text of a query is refused: its first fault, in the order of tokens, tree, arguments, typing, form, clauses and code.
 use Rattle.std.specs.Prelude.{◌≡◌, ◌⊎◌, ℕ, List, codes, true}
 use Rattle.lp_base.specs.declared.limit.Limit.TheVariants as limit
 use Rattle.lp_base.specs.declared.place.Spot.{Spot}
@@ -13,9 +13,11 @@ use Rattle.lp_syntax.specs.Tokens.{lexemes, spot_at}
 use Rattle.lp_syntax.specs.declared.fault.SyntaxFault.{SyntaxFault}
 use Rattle.lp_syntax.specs.declared.text.RawQuery.{RawQuery}
 use Rattle.lp_syntax.specs.declared.text.RawTerm.{RawTerm}
-use Rattle.lp_term.specs.Nodes.{Nodes, tree}
+use Rattle.lp_term.specs.Nodes.{Extends, Nodes, tree}
+use Rattle.lp_model.specs.declared.clause.Goal.{Goal}
+use Rattle.lp_model.specs.declared.program.Declared.{Declared}
 use Rattle.lp_model.specs.declared.program.Typed.{Typed}
-use Rattle.lp_normal.specs.Counted.{AssumesManyClauses}
+use Rattle.lp_normal.specs.Counted.{AssumesFewClauses, AssumesManyClauses}
 use Rattle.lp_sig.specs.declared.signature.Signature.{Signature}
 use Rattle.lp_infer.specs.Numbering.{IsTyped}
 use Rattle.lp_infer.specs.Refusals.{IsRefusal}
@@ -24,12 +26,16 @@ use Rattle.lp_module.specs.Arguments.{HasManyArguments}
 use Rattle.lp_module.specs.Refusals.{IsFormFault}
 use Rattle.lp_module.specs.Schemes.{declared_schemes}
 use Rattle.lp_module.specs.declared.fault.ModuleFault.{ModuleFault}
+use Rattle.lp_gen.specs.Limits.{QueryPasses}
+use Rattle.lp_gen.specs.declared.fault.GenRefusal.{GenRefusal}
+use Rattle.lp_gen.specs.declared.fault.GenRefusal.TheVariants as code
+use Rattle.lp_build.specs.declared.build.Built.{Built}
 use Rattle.lp_lines.specs.Causes.{TellsModule, TellsSyntax, TellsTyping}
 use Rattle.lp_lines.specs.Placed.{SaysOf}
 use Rattle.lp_lines.specs.declared.cause.Cause.{Cause}
 use Rattle.lp_lines.specs.declared.cause.Cause.TheVariants as cause
 use Rattle.lp_lines.specs.declared.refusal.Refusal.{Refusal}
-use Rattle.lp_load.specs.Asked.{IsAsked, IsRead}
+use Rattle.lp_load.specs.Asked.{AreGoalsOf, IsAsked, IsRead}
 
 -- it has no tokens, or these are no query tree
 pub data IsUnread (operators : Table) (text : List ℕ) : Cause → Type 0 where
@@ -48,16 +54,27 @@ IsUnformed names b q first c = (f : ModuleFault) × IsFormFault (declared_scheme
 abbrev pub IsOverClauses : Term → Cause → Type 0
 IsOverClauses t c = (c ≡ cause.Memory) ⊎ ((c ≡ cause.Limit limit.Clauses) × AssumesManyClauses t)
 
+-- what is said of a limit of code
+abbrev pub TellsCode : GenRefusal → Cause → Type 0
+TellsCode (code.Limit l) c = c ≡ cause.Limit l
+TellsCode code.Memory c = c ≡ cause.Memory
+
+-- their code passes a limit of code, or memory is wanting
+abbrev pub IsOverCode : Nodes → List Declared → Typed → List Goal → Cause → Type 0
+IsOverCode b constants q goals c = (r : GenRefusal) × QueryPasses b constants q goals r × TellsCode r c
+
 -- each stage has its fault where those before it have none
-pub data IsRefusedFor (operators : Table) (names : Signature) (text : List ℕ) : Cause → Type 0 where
-  unread : (c : Cause) → IsUnread operators text c → IsRefusedFor operators names text c
-  of_arguments : (raw : RawQuery) → IsRead operators text raw → HasManyArguments raw.term → IsRefusedFor operators names text (cause.Limit limit.Arguments)
-  of_typing : (raw : RawQuery) (f : InferFault) (c : Cause) → IsRead operators text raw → (HasManyArguments raw.term → ⊥) → IsRefusal names text raw.term f → TellsTyping f c → IsRefusedFor operators names text c
-  of_form : (raw : RawQuery) (b : Nodes) (q : Typed) (f : ModuleFault) (c : Cause) → IsRead operators text raw → (HasManyArguments raw.term → ⊥) → IsTyped names text raw.term b q →
-      IsFormFault (declared_schemes names) true q.type_vars (tree b q.formula.0) raw.term.first f → TellsModule f c → IsRefusedFor operators names text c
-  of_clauses : (b : Nodes) (q : Typed) → IsAsked operators names text b q → AssumesManyClauses (tree b q.formula.0) → IsRefusedFor operators names text (cause.Limit limit.Clauses)
-  no_memory : IsRefusedFor operators names text cause.Memory
+pub data IsRefusedFor (built : Built) (text : List ℕ) : Cause → Type 0 where
+  unread : (c : Cause) → IsUnread built.table text c → IsRefusedFor built text c
+  of_arguments : (raw : RawQuery) → IsRead built.table text raw → HasManyArguments raw.term → IsRefusedFor built text (cause.Limit limit.Arguments)
+  of_typing : (raw : RawQuery) (f : InferFault) (c : Cause) → IsRead built.table text raw → (HasManyArguments raw.term → ⊥) → IsRefusal built.signature text raw.term f → TellsTyping f c → IsRefusedFor built text c
+  of_form : (raw : RawQuery) (b : Nodes) (q : Typed) (f : ModuleFault) (c : Cause) → IsRead built.table text raw → (HasManyArguments raw.term → ⊥) → IsTyped built.signature text raw.term b q →
+      IsFormFault (declared_schemes built.signature) true q.type_vars (tree b q.formula.0) raw.term.first f → TellsModule f c → IsRefusedFor built text c
+  of_clauses : (b : Nodes) (q : Typed) → IsAsked built.table built.signature text b q → AssumesManyClauses (tree b q.formula.0) → IsRefusedFor built text (cause.Limit limit.Clauses)
+  of_code : (b : Nodes) (q : Typed) (goals : List Goal) (r : GenRefusal) (c : Cause) → Extends built.assembled.program.bank b → IsAsked built.table built.signature text b q → AssumesFewClauses (tree b q.formula.0) →
+      AreGoalsOf b q goals → QueryPasses b built.assembled.program.constants.items q goals r → TellsCode r c → IsRefusedFor built text c
+  no_memory : IsRefusedFor built text cause.Memory
 
 -- the refusal of a query says its cause
-abbrev pub IsRefusedQuery : Table → Signature → (text : List ℕ) → Refusal → Type 0
-IsRefusedQuery operators names text r = (c : Cause) × IsRefusedFor operators names text c × SaysOf (codes "query") text c r
+abbrev pub IsRefusedQuery : Built → (text : List ℕ) → Refusal → Type 0
+IsRefusedQuery built text r = (c : Cause) × IsRefusedFor built text c × SaysOf (codes "query") text c r

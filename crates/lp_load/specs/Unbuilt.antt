@@ -1,18 +1,11 @@
--- Why texts have no program: a file is not loaded, or the first fault of the texts, or what one clause is flattened to passes the limit on clauses.
+-- Why texts have no program: a file is not loaded, or the first fault of the texts, or of the limits on their program and its code.
 use Rattle.std.specs.Global.{Global}
-use Rattle.std.specs.Prelude.{◌≡◌, ℕ, true, List, Option, None, Some, Contains, String, string_bytes}
+use Rattle.std.specs.Prelude.{◌≡◌, ℕ, true, List, Option, None, Some, String, string_bytes}
 use Rattle.lp_base.specs.Held.{Held}
-use Rattle.lp_base.specs.declared.limit.Limit.TheVariants as limit
-use Rattle.lp_term.specs.Nodes.{Nodes}
-use Rattle.lp_model.specs.Readings.{formula_of}
-use Rattle.lp_model.specs.declared.program.ClauseFormula.{ClauseFormula}
-use Rattle.lp_normal.specs.Counted.{HasManyClauses}
 use Rattle.lp_build.specs.Ordered.{AreInOrder, AreInOrderSoFar}
-use Rattle.lp_build.specs.Programs.{IsBuilt}
 use Rattle.lp_build.specs.Reads.{AreRead}
 use Rattle.lp_build.specs.Refused.{IsRefusedProgram}
 use Rattle.lp_build.specs.Told.{AreLoaded, IsFaultIn}
-use Rattle.lp_build.specs.declared.build.Built.{Built}
 use Rattle.lp_build.specs.declared.fault.BuildFault.{BuildFault}
 use Rattle.lp_build.specs.declared.fault.BuildFault.TheVariants as build
 use Rattle.lp_build.specs.declared.sources.Sources.{Sources}
@@ -54,14 +47,9 @@ abbrev pub TellsFile : Option (String Global) → BuildFault → Refusal → Typ
 TellsFile (Some name) e r = TellsOfFile (string_bytes name) e r
 TellsFile None e r = TellsOfNone e r
 
--- what one of these clauses is flattened to passes the limit on clauses
-abbrev pub HasManyIn : Nodes → List ClauseFormula → Type 0
-HasManyIn b clauses = (c : ClauseFormula) × Contains clauses c × HasManyClauses (formula_of b c)
-
--- the texts of these files have no program: the first of their faults, or of the program's clauses one passes the limit
+-- the texts of these files have no program, for the first of their faults
 pub data IsRefusedTexts (sources : Sources) (r : Refusal) : Type 0 where
   of_texts : (e : BuildFault) (c : Cause) → IsRefusedProgram sources e → TellsTexts e c → SaysOfFile sources.files.items c r → IsRefusedTexts sources r
-  of_clauses : (built : Built) → IsBuilt sources built → HasManyIn built.assembled.program.bank built.assembled.program.clauses.items → TellsLimit limit.Clauses r → IsRefusedTexts sources r
   no_memory : r ≡ refusal.Memory → IsRefusedTexts sources r
 
 -- a module has no program: behind the first of the files that it needs, which were loaded in their order, the next text is at fault, by its file or for a limit that is counted there; or all are loaded, and their texts have none

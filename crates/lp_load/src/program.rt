@@ -1,19 +1,16 @@
 // The program of a module's files.
 ghost use Rattle.std.specs.Prelude.{◌≡◌, List, ℕ, Option, IfErr, IfOk, OnOk};
 ghost use Rattle.lp_base.specs.Held.{Held};
-ghost use Rattle.lp_term.specs.Nodes.{Extends};
-ghost use Rattle.lp_module.specs.Sentences.{AreWithin};
-ghost use Rattle.lp_normal.specs.Counted.{IsOver};
 ghost use Rattle.lp_build.specs.Refused.{IsRefusedProgram};
 ghost use Rattle.lp_build.specs.Reads.{AreRead};
 ghost use Rattle.lp_build.specs.Told.{AreKnown, AreLoaded, IsFaultIn};
 ghost use Rattle.lp_lines.specs.Looked.{Looked, refusal_of};
 ghost use Rattle.lp_lines.specs.Placed.{IsCauseOf, IfSource};
 ghost use Rattle.lp_lines.specs.Refusals.{IsSourceRefusal, IsTextRefusal};
-ghost use Rattle.lp_load.specs.Loaded.{HasGrown, IsBuiltFrom, IsLoaded};
+ghost use Rattle.lp_load.specs.Loaded.{IsBuiltFrom, IsLoaded};
 ghost use Rattle.lp_load.specs.Placed.{IsOfFile, SaysOfFile};
 ghost use Rattle.lp_load.specs.Tells.{Tells};
-ghost use Rattle.lp_load.specs.Unbuilt.{HasManyIn, IsRefusedTexts, IsUnbuilt, TellsFile, TellsTexts};
+ghost use Rattle.lp_load.specs.Unbuilt.{IsRefusedTexts, IsUnbuilt, TellsFile, TellsTexts};
 
 use lp_base::Folder;
 use lp_build::{BuildFault, Built, Sources, build_program, gather_with};
@@ -21,10 +18,6 @@ use lp_lines::{
     Cause, Refusal, blamed, limited, not_read, not_there, of_declarations, of_module, of_syntax,
     past_limit, without_tokens,
 };
-use lp_model::ClauseFormula;
-use lp_module::Assembled;
-use lp_normal::{NormalRefusal, normalise};
-use lp_term::Bank;
 use std::alloc::Global;
 
 /// The refusal of a text of these files, which have tokens. A cause whose spot lies in none of them is want of memory.
@@ -75,49 +68,7 @@ pub fn load_refused(alloc: Global, sources: &Sources, fault: BuildFault) -> Refu
     }
 }
 
-// Whether the clauses of each sentence are within their limit.
-fn within_clauses(
-    alloc: Global,
-    bank: &mut Bank,
-    clauses: &Vec<ClauseFormula>,
-) -> Result<(), NormalRefusal>
-    ensures kept { Extends bank.old bank.new }
-    ensures limit { AreWithin bank.old clauses.now.items → IfErr result (IsOver (HasManyIn bank.old clauses.now.items)) }
-{
-    for at in 0..clauses.len() {
-        normalise(alloc, bank, clauses[at])?;
-    }
-    Ok(())
-}
-
-// The program, where the clauses of each sentence are within their limit.
-fn checked(alloc: Global, built: Built) -> Result<Built, NormalRefusal>
-    ensures grown { IfOk result (HasGrown built) }
-    ensures limit { AreWithin built.assembled.program.bank built.assembled.program.clauses.items → IfErr result (IsOver (HasManyIn built.assembled.program.bank built.assembled.program.clauses.items)) }
-{
-    let Built {
-        assembled,
-        signature,
-        table,
-    } = built;
-    let Assembled {
-        mut program,
-        kinds,
-        constants,
-    } = assembled;
-    within_clauses(alloc, &mut program.bank, &program.clauses)?;
-    Ok(Built {
-        assembled: Assembled {
-            program,
-            kinds,
-            constants,
-        },
-        signature,
-        table,
-    })
-}
-
-/// The program of files that were loaded. The refusal is the first one of the texts, and of the limits on their program.
+/// The program of files that were loaded. The refusal is the first one of the texts, of the limits on their program, and of those on its code.
 pub fn build(alloc: Global, sources: &Sources) -> Result<Built, Refusal>
     ensures refused { IfErr result IsTextRefusal }
     ensures placed { (told : Option Held) → AreLoaded told sources.now → IfErr result (IfSource (IsOfFile told)) }
@@ -125,17 +76,13 @@ pub fn build(alloc: Global, sources: &Sources) -> Result<Built, Refusal>
     ensures cause { AreRead sources.now → IfErr result (IsRefusedTexts sources.now) }
 {
     match build_program(alloc, sources) {
-        Ok(built) => match checked(alloc, built) {
-            Ok(whole) => Ok(whole),
-            Err(NormalRefusal::Limit(passed)) => Err(limited(alloc, passed)),
-            Err(NormalRefusal::Memory) => Err(Refusal::Memory),
-        },
+        Ok(built) => Ok(built),
         Err(fault) => Err(text_refused(alloc, sources, cause_of(fault))),
     }
 }
 
 /// The program of a module, from its files and all that it needs, which are read in load order; those that are `known` are not read. The refusal is
-/// the first one of reading, of the texts, and of the limits on their program, as the line that tells of it.
+/// the first one of reading, of the texts, of the limits on their program, and of those on its code, as the line that tells of it.
 pub fn load<F: Folder>(
     alloc: Global,
     name: &str,

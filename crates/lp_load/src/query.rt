@@ -1,5 +1,5 @@
 // A query, from its text to its typed formula.
-ghost use Rattle.std.specs.Prelude.{◌≡◌, ◌≢◌, ◌≤◌, ◌⊎◌, ℕ, List, IfOk, IfErr, OnOk, codes, true};
+ghost use Rattle.std.specs.Prelude.{◌≡◌, ◌≢◌, ◌≤◌, ◌<◌, ◌⊎◌, ℕ, List, IfOk, IfErr, OnOk, codes, length, true};
 ghost use Rattle.lp_base.specs.declared.limits.TheConstants.{MAX_ARGUMENTS};
 ghost use Rattle.lp_calculus.specs.Term.{Term};
 ghost use Rattle.lp_term.specs.Nodes.{Extends, tree};
@@ -7,18 +7,21 @@ ghost use Rattle.lp_module.specs.Arguments.{HasManyArguments};
 ghost use Rattle.lp_module.specs.Clauses.{IsFormed};
 ghost use Rattle.lp_module.specs.Refusals.{IsShort};
 ghost use Rattle.lp_module.specs.Schemes.{declared_schemes};
+ghost use Rattle.lp_gen.specs.Limits.{QueryWithin};
+ghost use Rattle.lp_model.specs.declared.clause.Goal.{Goal as IsGoal};
 ghost use Rattle.lp_normal.specs.Counted.{AssumesFewClauses, AssumesManyClauses, IsOver};
-ghost use Rattle.lp_load.specs.Asked.{IsAsked, IsRead};
-ghost use Rattle.lp_load.specs.Refused.{IsOverArguments, IsOverClauses, IsRefusedFor, IsRefusedQuery, IsUnformed, IsUnread};
+ghost use Rattle.lp_load.specs.Asked.{AreGoalsOf, IsAsked, IsRead};
+ghost use Rattle.lp_load.specs.Refused.{IsOverArguments, IsOverClauses, IsOverCode, IsRefusedFor, IsRefusedQuery, IsUnformed, IsUnread, TellsCode};
 ghost use Rattle.lp_lines.specs.Placed.{IsCauseOf, IsOfText, IfSource};
 ghost use Rattle.lp_lines.specs.Refusals.{IsTextRefusal};
 
 use lp_base::{Limit, Memory, Spot};
 use lp_build::Built;
+use lp_gen::{GenRefusal, generate_query};
 use lp_infer::type_query;
 use lp_lexer::tokens;
 use lp_lines::{Cause, Refusal, of_module, of_syntax, of_typing, query_refused};
-use lp_model::Typed;
+use lp_model::{Declared, Goal, Typed};
 use lp_module::{has_many_arguments, query_form_under};
 use lp_normal::{NormalRefusal, query_body};
 use lp_sig::Signature;
@@ -85,24 +88,56 @@ fn of_flattening(refusal: NormalRefusal) -> Cause
     }
 }
 
-fn within_clauses(alloc: Global, bank: &mut Bank, typed: &Typed) -> Result<(), Cause>
+// The flattened goals of a query, which assume no more clauses than the limit allows.
+fn within_clauses(alloc: Global, bank: &mut Bank, typed: &Typed) -> Result<Vec<Goal>, Cause>
     ensures refused { (text : List ℕ) → IfErr result (IsCauseOf text) }
     ensures cause { IfErr result (IsOverClauses (tree bank.old typed.now.formula.0)) }
     ensures few { OnOk result (AssumesFewClauses (tree bank.old typed.now.formula.0)) }
+    ensures goals { typed.now.formula.0 < length bank.old.terms → IfOk result (λ goals. AreGoalsOf bank.new typed.now goals.items) }
     ensures kept { Extends bank.old bank.new }
 {
     match query_body(alloc, bank, typed) {
-        Ok(_) => Ok(()),
+        Ok(goals) => Ok(goals),
         Err(refusal) => Err(of_flattening(refusal)),
+    }
+}
+
+// What is said where a query has no code.
+fn of_generator(refusal: GenRefusal) -> Cause
+    ensures refused { (text : List ℕ) → IsCauseOf text result }
+    ensures tells { TellsCode refusal result }
+{
+    match refusal {
+        GenRefusal::Limit(limit) => Cause::Limit(limit),
+        GenRefusal::Memory => Cause::Memory,
+    }
+}
+
+// The code of a query is within its limits.
+fn within_code(
+    alloc: Global,
+    bank: &Bank,
+    constants: &[Declared],
+    typed: &Typed,
+    goals: &[Goal],
+) -> Result<(), Cause>
+    ensures refused { (text : List ℕ) → IfErr result (IsCauseOf text) }
+    ensures cause { IfErr result (IsOverCode bank.now constants.now typed.now goals.now) }
+    ensures within { OnOk result (QueryWithin bank.now constants.now typed.now goals.now) }
+{
+    match generate_query(alloc, bank, constants, typed, goals) {
+        Ok(_) => Ok(()),
+        Err(refusal) => Err(of_generator(refusal)),
     }
 }
 
 // The typed query, in the program's bank.
 fn type_of(alloc: Global, text: &[u8], built: &mut Built) -> Result<Typed, Cause>
     ensures refused { IfErr result (IsCauseOf text.now) }
-    ensures cause { IfErr result (IsRefusedFor built.old.table built.old.signature text.now) }
+    ensures cause { IfErr result (IsRefusedFor built.old text.now) }
     ensures asked { IfOk result (IsAsked built.old.table built.old.signature text.now built.new.assembled.program.bank) }
     ensures few { IfOk result (λ q. AssumesFewClauses (tree built.new.assembled.program.bank q.formula.0)) }
+    ensures within { IfOk result (λ q. (goals : List IsGoal) × AreGoalsOf built.new.assembled.program.bank q goals × QueryWithin built.new.assembled.program.bank built.old.assembled.program.constants.items q goals) }
     ensures kept { Extends built.old.assembled.program.bank built.new.assembled.program.bank }
     ensures table { built.new.table ≡ built.old.table }
     ensures signature { built.new.signature ≡ built.old.signature }
@@ -119,19 +154,22 @@ fn type_of(alloc: Global, text: &[u8], built: &mut Built) -> Result<Typed, Cause
         Err(fault) => return Err(of_typing(fault)),
     };
     within_form(alloc, bank, &built.signature, &typed, raw.term.first)?;
-    within_clauses(alloc, bank, &typed)?;
+    let goals = within_clauses(alloc, bank, &typed)?;
+    let constants = built.assembled.program.constants.as_slice();
+    within_code(alloc, bank, constants, &typed, goals.as_slice())?;
     Ok(typed)
 }
 
 /// The typed query of a text on a program: the principal typing of what the text is read as. Its terms stand in the program's bank, behind those that
 /// stood there; nothing else of the program changes. The refusal is the first one of the text, in the order of tokens,
-/// syntax, limits, typing and form, as the line that tells of it.
+/// syntax, limits, typing, form and code, as the line that tells of it.
 pub fn ask(alloc: Global, text: &[u8], built: &mut Built) -> Result<Typed, Refusal>
     ensures refused { IfErr result IsTextRefusal }
     ensures placed { IfErr result (IfSource (IsOfText (codes "query") text.now)) }
-    ensures cause { IfErr result (IsRefusedQuery built.old.table built.old.signature text.now) }
+    ensures cause { IfErr result (IsRefusedQuery built.old text.now) }
     ensures asked { IfOk result (IsAsked built.old.table built.old.signature text.now built.new.assembled.program.bank) }
     ensures few { IfOk result (λ q. AssumesFewClauses (tree built.new.assembled.program.bank q.formula.0)) }
+    ensures within { IfOk result (λ q. (goals : List IsGoal) × AreGoalsOf built.new.assembled.program.bank q goals × QueryWithin built.new.assembled.program.bank built.old.assembled.program.constants.items q goals) }
     ensures kept { Extends built.old.assembled.program.bank built.new.assembled.program.bank }
     ensures table { built.new.table ≡ built.old.table }
     ensures signature { built.new.signature ≡ built.old.signature }

@@ -38,7 +38,7 @@ use Rattle.lp_solve.specs.Shown.{IsShownWith, all_constants, constants_in, const
 use Rattle.lp_solve.specs.declared.prepare.Prepared.{Prepared}
 use Rattle.lp_solve.specs.declared.shown.Shown.{Shown}
 
-pub refused_by_query : {T : Type 0} (told : Option Held) (name query : List ℕ) (built : Built) (r : Result T Refusal) → IsLoaded told name built → IfErr r IsTextRefusal → IfErr r (IfSource (IsOfText (codes "query") query)) → IfErr r (IsRefusedQuery built.table built.signature query) → IfErr r (IsRefusal told name query)
+pub refused_by_query : {T : Type 0} (told : Option Held) (name query : List ℕ) (built : Built) (r : Result T Refusal) → IsLoaded told name built → IfErr r IsTextRefusal → IfErr r (IfSource (IsOfText (codes "query") query)) → IfErr r (IsRefusedQuery built query) → IfErr r (IsRefusal told name query)
 refused_by_query told name query built (Ok x) l h p c = tt
 refused_by_query told name query built (Err r) l h p c = of_query r built l h p c
 

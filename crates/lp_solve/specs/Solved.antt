@@ -40,7 +40,7 @@ pub record IsAnswered (told : Option Held) (name query : List ℕ) (q : IsQuery 
 -- a refusal: a file is not loaded, or the texts have no program, for their first fault; or, where they have one, that of the query's text, for its first fault; or want of memory
 pub data IsRefusal (told : Option Held) (name query : List ℕ) : Refusal → Type 0 where
   of_texts : (r : Refusal) → IsUnbuilt told name r → IsSourceRefusal r → IfSource (IsOfFile told) r → IsRefusal told name query r
-  of_query : (r : Refusal) (built : Built) → IsLoaded told name built → IsTextRefusal r → IfSource (IsOfText (codes "query") query) r → IsRefusedQuery built.table built.signature query r → IsRefusal told name query r
+  of_query : (r : Refusal) (built : Built) → IsLoaded told name built → IsTextRefusal r → IfSource (IsOfText (codes "query") query) r → IsRefusedQuery built query r → IsRefusal told name query r
   no_memory : IsRefusal told name query Memory
 
 -- the status and all that is written, where the outside has no fault

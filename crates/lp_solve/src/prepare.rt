@@ -44,7 +44,7 @@ fn start(alloc: Global, question: Question<'_>, mut built: Built) -> Result<Prep
     ensures prepared { IfOk result IsPrepared }
     ensures ready { (told : Option Held) → IsLoaded told question.entry.name.now built → IfOk result (IsReady told question.entry.name.now question.entry.query.now question.entry.steps question.entry.answers) }
     ensures refused { IfErr result IsTextRefusal }
-    ensures cause { IfErr result (IsRefusedQuery built.table built.signature question.entry.query.now) }
+    ensures cause { IfErr result (IsRefusedQuery built question.entry.query.now) }
     ensures placed { IfErr result (IfSource (IsOfText (codes "query") question.entry.query.now)) }
 {
     let text = question.query.as_bytes();

@@ -8,16 +8,14 @@ use Rattle.lp_model.specs.Proofs.{AreFlattened}
 use Rattle.lp_model.specs.Readings.{formula_of}
 use Rattle.lp_model.specs.declared.clause.Clause as code_clause
 use Rattle.lp_model.specs.declared.program.ClauseFormula as code_formula
-use Rattle.lp_code.specs.Naming.{scheme_in, tables_of}
+use Rattle.lp_code.specs.Naming.{tables_of}
 use Rattle.lp_code.specs.Symbolic.{Tables}
 use Rattle.lp_code.specs.declared.object.Object.{Object}
 use Rattle.lp_sig.specs.declared.signature.Signature.{Signature}
 use Rattle.lp_module.specs.Sentences.{AreWithin}
 use Rattle.lp_module.specs.declared.module.Module.{Module}
 use Rattle.lp_build.specs.Compiled.{HasNamesOf, IsObjectOf}
-
-abbrev pub schemes_of : Signature → List Scheme
-schemes_of s = map (λ e. scheme_in s.bank e.type_vars e.scheme.0) s.constants.items
+use Rattle.lp_build.specs.Uncoded.{schemes_of}
 
 -- those of the language, and those of the signature in their order
 abbrev pub signature_tables : Signature → Tables

@@ -54,10 +54,10 @@ pub returns-in_err-search-clause-placed : goal.returns-in_err-search-clause-plac
 returns-in_err-search-clause-placed c = passed_up c.from_residual-in_err-search.result Memory (IfSource (IsOfText (codes "query") c.args.question.query.now)) c.from_residual-in_err-search.ensures.1 tt
 
 pub returns-in-Err-clause-cause : goal.returns-in-Err-clause-cause
-returns-in-Err-clause-cause c = subst (λ t. IsRefusedQuery c.args.built.table c.args.built.signature t c.in-Err.refusal) c.as_bytes-text.ensures.value c.in-Err.ensures.cause
+returns-in-Err-clause-cause c = subst (λ t. IsRefusedQuery c.args.built t c.in-Err.refusal) c.as_bytes-text.ensures.value c.in-Err.ensures.cause
 
 pub returns-in_err-shown-clause-cause : goal.returns-in_err-shown-clause-cause
-returns-in_err-shown-clause-cause c = passed_up c.from_residual.result Memory (IsRefusedQuery c.args.built.table c.args.built.signature c.args.question.query.now) c.from_residual.ensures.1 (cause.Memory, no_memory, refl)
+returns-in_err-shown-clause-cause c = passed_up c.from_residual.result Memory (IsRefusedQuery c.args.built c.args.question.query.now) c.from_residual.ensures.1 (cause.Memory, no_memory, refl)
 
 pub returns-in_err-search-clause-cause : goal.returns-in_err-search-clause-cause
-returns-in_err-search-clause-cause c = passed_up c.from_residual-in_err-search.result Memory (IsRefusedQuery c.args.built.table c.args.built.signature c.args.question.query.now) c.from_residual-in_err-search.ensures.1 (cause.Memory, no_memory, refl)
+returns-in_err-search-clause-cause c = passed_up c.from_residual-in_err-search.result Memory (IsRefusedQuery c.args.built c.args.question.query.now) c.from_residual-in_err-search.ensures.1 (cause.Memory, no_memory, refl)
