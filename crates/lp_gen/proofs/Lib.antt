@@ -87,6 +87,7 @@ mod CapturedBy
 mod LimitsLeft
 mod LimitsWork
 mod LimitsTold
+mod Ready
 mod ShortStrings
 mod RecordsCounted
 mod NamedNumbers

@@ -1,6 +1,7 @@
 -- The limits that clauses pass whatever code they have: strings of at most 65,535 bytes, at most 255 arguments of a head and types of a constant, terms and blocks of
 -- goals at most 2,000 deep (a `sigma` makes no block), and at most 65,535 records, one for each clause and one for each clause that is assumed in it, at any depth.
-use Rattle.std.specs.Prelude.{◌≡◌, ℕ, suc, ◌+◌, ◌<◌, ◌≤◌, nat_lt, if◌then◌else◌, List, length}
+use Rattle.std.specs.Prelude.{◌≡◌, ℕ, suc, ◌+◌, ◌<◌, ◌≤◌, nat_lt, if◌then◌else◌, List, length, Option, Some}
+use Rattle.lp_calculus.specs.Typing.{Scheme}
 use Rattle.lp_base.specs.declared.limit.Limit.TheVariants as limit
 use Rattle.lp_calculus.specs.Term.{Term, Atom, index, atom, abs, app, constant, integer, text, eigen, logic, param}
 use Rattle.lp_term.specs.Nodes.{Nodes}
@@ -170,3 +171,15 @@ QueryPasses b ds q gs e = IsTold (counts_of_goals (goals_of b gs)) e
 
 abbrev pub QueryWithin : Nodes → List Declared → program.Typed → List code_goal.Goal → Type 0
 QueryWithin b ds q gs = AreFew (counts_of_goals (goals_of b gs))
+
+-- limits of code alone: the others are not passed by clauses of which there is code
+abbrev pub IsOfCode : GenRefusal → Type 0
+IsOfCode (refusal.Limit limit.Text) = Unit {0}
+IsOfCode (refusal.Limit limit.Clauses) = Unit {0}
+IsOfCode (refusal.Limit limit.Registers) = Unit {0}
+IsOfCode (refusal.Limit l) = ⊥
+IsOfCode refusal.Memory = Unit {0}
+
+-- constants have at most 255 type variables
+abbrev pub HaveFewTypes : (constants : ℕ → Option Scheme) → Type 0
+HaveFewTypes f = (c : ℕ) (s : Scheme) → f c ≡ Some s → s.count ≤ 255

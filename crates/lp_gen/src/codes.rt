@@ -2,7 +2,7 @@
 ghost use Rattle.std.specs.Prelude.{◌≡◌, ℕ, List, [], ◌++◌, ◌+◌, ◌<◌, ◌≤◌, ◌^◌, All, length, sum_by, IfOk, IfErr, OnOk};
 ghost use Rattle.lp_code.specs.declared.record.Record.{Record};
 ghost use Rattle.lp_code.specs.Length.{length_of, AllFit};
-ghost use Rattle.lp_gen.specs.Contract.{DenotesClauses, DenotesQuery};
+ghost use Rattle.lp_gen.specs.Contract.{DenotesClauses, DenotesQuery, ReadyClauses, ReadyQuery};
 ghost use Rattle.lp_gen.specs.Limits.{ClausesPass, ClausesWithin, QueryPasses, QueryWithin};
 ghost use Rattle.lp_gen.specs.inner.Limiting.{IsOfPlan};
 ghost use Rattle.lp_gen.specs.inner.Planning.{origin_records, most_of};
@@ -111,6 +111,7 @@ pub fn generate(
     ensures denotes { IfOk result (λ code. DenotesClauses bank.now constants.now clauses.now code.records.items) }
     ensures within { OnOk result (ClausesWithin bank.now constants.now clauses.now) }
     ensures cause { IfErr result (ClausesPass bank.now constants.now clauses.now) }
+    ensures ready { IfErr result (ReadyClauses bank.now constants.now clauses.now) }
 {
     check_limits(alloc, bank, Source::Clauses(clauses, 0))?;
     let mut records = Vec::new(alloc);
@@ -141,6 +142,7 @@ pub fn generate_query(
     ensures denotes { IfOk result (λ code. DenotesQuery bank.now constants.now query.now body.now code.records.items) }
     ensures within { OnOk result (QueryWithin bank.now constants.now query.now body.now) }
     ensures cause { IfErr result (QueryPasses bank.now constants.now query.now body.now) }
+    ensures ready { IfErr result (ReadyQuery bank.now constants.now query.now body.now) }
 {
     check_limits(alloc, bank, Source::Goals(body, 0))?;
     let mut records = Vec::new(alloc);

@@ -10,7 +10,9 @@ use Rattle.std.specs.Prelude.{take}
 use Rattle.lp_lemmas.proofs.Results.{passed_up}
 use Rattle.lp_model.specs.Flattened.{goals_of, clauses_of}
 use Rattle.lp_gen.specs.Limits.{goals_assume, clauses_records, counts_of_clauses, ClausesPass}
+use Rattle.lp_gen.specs.Contract.{ReadyClauses}
 use Rattle.lp_gen.proofs.LimitsTold.{told_by_plan}
+use Rattle.lp_gen.proofs.Ready.{ready_clauses_told}
 use Rattle.lp_gen.proofs.PlanDone.{take_next}
 use Rattle.lp_gen.proofs.RecordsCounted.{one_clause_more, clause_counted}
 use Rattle.lp_gen.proofs.GroupPut.{clause_written}
@@ -77,3 +79,25 @@ returns-in_err-add-clause-cause c =
     let few = w.3 in
     passed_up c.from_residual-in_err-add.result c.in_err-add.field-0.0 (ClausesPass b c.args.constants.now cs) c.from_residual-in_err-add.ensures.1
     (told_by_plan (counts_of_clauses (clauses_of b cs)) (suc (goals_assume (goals_of b c.index-clauses-at.result.body.items))) 65535 c.in_err-add.field-0.0 w (omega (arith, n, few)) c.in_err-add.ensures.cause)
+
+pub returns-in_err-check_limits-clause-ready : goal.returns-in_err-check_limits-clause-ready
+returns-in_err-check_limits-clause-ready c =
+    let b = c.args.bank.now in
+    let ds = c.args.constants.now in
+    let cs = c.args.clauses.now in
+    let e = c.in_err-check_limits.field-0.0 in
+    passed_up c.from_residual.result e (ReadyClauses b ds cs) c.from_residual.ensures.1 (λ κ few all. ready_clauses_told κ b ds cs e few all c.in_err-check_limits.ensures.cause)
+
+pub returns-in_err-add-clause-ready : goal.returns-in_err-add-clause-ready
+returns-in_err-add-clause-ready c =
+    let b = c.args.bank.now in
+    let ds = c.args.constants.now in
+    let cs = c.args.clauses.now in
+    let e = c.in_err-add.field-0.0 in
+    let at = slice_get_read cs (length cs) c.loop-at.at c.index-clauses-at.result refl (omega (arith, c.loop-at-test.true)) c.index-clauses-at.is in
+    let n = clause_counted b cs c.loop-at.at c.index-clauses-at.result at in
+    let w = c.in_ok-check_limits.ensures.within in
+    let most = w.3 in
+    passed_up c.from_residual-in_err-add.result e (ReadyClauses b ds cs) c.from_residual-in_err-add.ensures.1
+    (λ κ few all. ready_clauses_told κ b ds cs e few all
+    (told_by_plan (counts_of_clauses (clauses_of b cs)) (suc (goals_assume (goals_of b c.index-clauses-at.result.body.items))) 65535 e w (omega (arith, n, most)) c.in_err-add.ensures.cause))
