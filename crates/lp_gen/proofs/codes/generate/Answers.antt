@@ -1,4 +1,4 @@
-use Rattle.std.proofs.Common.{◌≡◌, ◌∙◌, ◌<◌, ◌^◌, suc, length, ap, refl, sym, subst, arith, true≢false}
+use Rattle.std.proofs.Common.{◌≡◌, ◌∙◌, ◌+◌, ◌≤◌, ◌<◌, ◌^◌, suc, length, ap, refl, sym, subst, arith, true≢false}
 use Rattle.std.specs.Prelude.{All, sum_by}
 use Rattle.std.proofs.lemmas.List.{take_all}
 use Rattle.std.proofs.lemmas.List.Elements.{All-nil}
@@ -54,7 +54,7 @@ returns-clause-denotes c = λ κ known each.
     let t = ap (λ l. clauses_records (clauses_of b l)) (take_all c.loop-at.at cs (omega (arith, last))) in
     let w = c.in_ok-check_limits.ensures.within in
     let w3 = w.3 in
-    let few : length rs ≤ 65535 = omega (arith, i, t, w3) in
+    let few : 0 + length rs ≤ 65535 = omega (arith, i, t, w3) in
     let gs = subst (λ l. AreGroups b ds 0 l rs) (take_all c.loop-at.at cs (omega (arith, last))) c.loop-at.invariant.2 in
     groups_denote κ rs b ds 0 cs rs gs refl (λ v e. absurd (true≢false (sym e))) few known each c.in_ok-check_limits.ensures.within.0
 
