@@ -14,7 +14,10 @@ use Rattle.lp_model.specs.Flat.{Goals}
 use Rattle.lp_model.specs.Flatten.{flatten_query}
 use Rattle.lp_model.specs.Flattened.{goals_of}
 use Rattle.lp_model.specs.declared.clause.Goal.{Goal}
+use Rattle.lp_model.specs.declared.program.Declared.{Declared}
 use Rattle.lp_model.specs.declared.program.Typed.{Typed}
+use Rattle.lp_normal.specs.Counted.{AssumesFewClauses}
+use Rattle.lp_gen.specs.Limits.{QueryWithin}
 use Rattle.lp_sig.specs.declared.signature.Signature.{Signature}
 use Rattle.lp_infer.specs.Numbering.{IsTyped}
 use Rattle.lp_infer.specs.Refusals.{Stands}
@@ -44,3 +47,10 @@ pub record IsAsked (operators : Table) (names : Signature) (text : List ℕ) (b 
 -- these are the flattened goals of a query in this bank, whatever the depth and the declared types by which it is flattened
 abbrev pub AreGoalsOf : Nodes → Typed → List Goal → Type 0
 AreGoalsOf b query goals = (n : ℕ) (d : ℕ → Option Scheme) (flat : Goals) → flatten_query n d (tree b query.formula.0) ≡ Some flat → goals_of b goals ≡ flat
+
+-- the query has code: what it is flattened to assumes few enough clauses, and is within the limits of code, where these constants are declared
+pub record HasCode (b : Nodes) (constants : List Declared) (query : Typed) : Type 0 where
+  pub few : AssumesFewClauses (tree b query.formula.0)
+  pub goals : List Goal
+  pub are : AreGoalsOf b query goals
+  pub within : QueryWithin b constants query goals

@@ -8,9 +8,8 @@ ghost use Rattle.lp_module.specs.Clauses.{IsFormed};
 ghost use Rattle.lp_module.specs.Refusals.{IsShort};
 ghost use Rattle.lp_module.specs.Schemes.{declared_schemes};
 ghost use Rattle.lp_gen.specs.Limits.{QueryWithin};
-ghost use Rattle.lp_model.specs.declared.clause.Goal.{Goal as IsGoal};
 ghost use Rattle.lp_normal.specs.Counted.{AssumesFewClauses, AssumesManyClauses, IsOver};
-ghost use Rattle.lp_load.specs.Asked.{AreGoalsOf, IsAsked, IsRead};
+ghost use Rattle.lp_load.specs.Asked.{AreGoalsOf, HasCode, IsAsked, IsRead};
 ghost use Rattle.lp_load.specs.Refused.{IsOverArguments, IsOverClauses, IsOverCode, IsRefusedFor, IsRefusedQuery, IsUnformed, IsUnread, TellsCode};
 ghost use Rattle.lp_lines.specs.Placed.{IsCauseOf, IsOfText, IfSource};
 ghost use Rattle.lp_lines.specs.Refusals.{IsTextRefusal};
@@ -137,7 +136,7 @@ fn type_of(alloc: Global, text: &[u8], built: &mut Built) -> Result<Typed, Cause
     ensures cause { IfErr result (IsRefusedFor built.old text.now) }
     ensures asked { IfOk result (IsAsked built.old.table built.old.signature text.now built.new.assembled.program.bank) }
     ensures few { IfOk result (λ q. AssumesFewClauses (tree built.new.assembled.program.bank q.formula.0)) }
-    ensures within { IfOk result (λ q. (goals : List IsGoal) × AreGoalsOf built.new.assembled.program.bank q goals × QueryWithin built.new.assembled.program.bank built.old.assembled.program.constants.items q goals) }
+    ensures coded { IfOk result (HasCode built.new.assembled.program.bank built.old.assembled.program.constants.items) }
     ensures kept { Extends built.old.assembled.program.bank built.new.assembled.program.bank }
     ensures table { built.new.table ≡ built.old.table }
     ensures signature { built.new.signature ≡ built.old.signature }
@@ -169,7 +168,7 @@ pub fn ask(alloc: Global, text: &[u8], built: &mut Built) -> Result<Typed, Refus
     ensures cause { IfErr result (IsRefusedQuery built.old text.now) }
     ensures asked { IfOk result (IsAsked built.old.table built.old.signature text.now built.new.assembled.program.bank) }
     ensures few { IfOk result (λ q. AssumesFewClauses (tree built.new.assembled.program.bank q.formula.0)) }
-    ensures within { IfOk result (λ q. (goals : List IsGoal) × AreGoalsOf built.new.assembled.program.bank q goals × QueryWithin built.new.assembled.program.bank built.old.assembled.program.constants.items q goals) }
+    ensures coded { IfOk result (HasCode built.new.assembled.program.bank built.old.assembled.program.constants.items) }
     ensures kept { Extends built.old.assembled.program.bank built.new.assembled.program.bank }
     ensures table { built.new.table ≡ built.old.table }
     ensures signature { built.new.signature ≡ built.old.signature }

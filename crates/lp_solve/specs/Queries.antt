@@ -15,7 +15,7 @@ use Rattle.lp_model.specs.declared.program.Declared.{Declared as Constant}
 use Rattle.lp_model.specs.declared.program.Typed.{Typed}
 use Rattle.lp_plain.specs.Reached.{HasSmallGoal, IsReached}
 use Rattle.lp_build.specs.declared.build.Built.{Built}
-use Rattle.lp_load.specs.Asked.{IsAsked}
+use Rattle.lp_load.specs.Asked.{HasCode, IsAsked}
 use Rattle.lp_load.specs.Loaded.{IsLoaded}
 use Rattle.lp_solve.specs.Shown.{all_constants, names_written}
 use Rattle.lp_solve.specs.Sources.{HasTypes, source_clauses}
@@ -28,6 +28,7 @@ pub record IsQuery (told : Option Held) (name text : List ℕ) : Type 0 where
   pub grown : Extends built.assembled.program.bank bank
   pub typed : Typed
   pub asked : IsAsked built.table built.signature text bank typed
+  pub coded : HasCode bank built.assembled.program.constants.items typed
 
 -- the constants of its program, and the names of its variables as they are written
 abbrev pub entries : {told : Option Held} {name text : List ℕ} → IsQuery told name text → List Entry

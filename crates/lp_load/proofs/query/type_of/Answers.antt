@@ -81,13 +81,15 @@ returns-in_err-within_code-clause-cause g =
     (subst AssumesFewClauses (sym (g.in_ok-goals.ensures.kept.same_terms g.in-Ok.typed.formula.0 lt)) g.in_ok-goals.ensures.few)
     (g.in_ok-goals.ensures.goals lt) g.as_slice.ensures.value g.as_slice-constants.ensures.value g.in_err-within_code.ensures.cause)
 
-pub returns-clause-within : goal.returns-clause-within
-returns-clause-within g =
+pub returns-clause-coded : goal.returns-clause-coded
+returns-clause-coded g =
     let b = g.within_clauses.new.bank in
     let q = g.in-Ok.typed in
-    let lt : q.formula.0 < length g.within_form.new.bank.terms = omega (arith, g.in-Ok.ensures.stands.formula, g.in_ok-within_form.ensures.kept.more_terms) in (
-      g.in_ok-goals.goals.items,
-      g.in_ok-goals.ensures.goals lt,
-      subst (λ gs. QueryWithin b g.args.built.now.assembled.program.constants.items q gs) g.as_slice.ensures.value
-          (subst (λ ds. QueryWithin b ds q g.as_slice.result.now) g.as_slice-constants.ensures.value g.in_ok-within_code.ensures.within),
-    )
+    let lt : q.formula.0 < length g.within_form.new.bank.terms = omega (arith, g.in-Ok.ensures.stands.formula, g.in_ok-within_form.ensures.kept.more_terms) in
+    record {
+      few = subst AssumesFewClauses (sym (g.in_ok-goals.ensures.kept.same_terms q.formula.0 lt)) g.in_ok-goals.ensures.few;
+      goals = g.in_ok-goals.goals.items;
+      are = g.in_ok-goals.ensures.goals lt;
+      within = subst (λ gs. QueryWithin b g.args.built.now.assembled.program.constants.items q gs) g.as_slice.ensures.value
+          (subst (λ ds. QueryWithin b ds q g.as_slice.result.now) g.as_slice-constants.ensures.value g.in_ok-within_code.ensures.within);
+    }

@@ -28,6 +28,7 @@ returns-clause-ready c =
       grown = c.in-Ok.ensures.kept;
       typed = typed;
       asked = subst (λ t. IsAsked old.table old.signature t now.assembled.program.bank typed) same c.in-Ok.ensures.asked;
+      coded = c.in-Ok.ensures.coded;
     } in
     record {
       asks = asks;
