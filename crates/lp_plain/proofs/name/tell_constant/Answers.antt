@@ -1,4 +1,5 @@
-use Rattle.std.proofs.Common.{◌≡◌, ◌∙◌, ◌-◌, Some, arith, map, rules, sym}
+use Rattle.std.proofs.Common.{◌≡◌, ◌∙◌, ◌-◌, Some, arith, map, sym}
+use Rattle.std.proofs.lemmas.Option.{slice_get-get_or}
 use Rattle.std.proofs.lemmas.Result.{on_ok_weaker}
 use Rattle.lp_watch.specs.Crowd.{places}
 use Rattle.lp_plain.proofs.Hearing.{heard_unknown}
@@ -35,7 +36,9 @@ pub returns-in-Some-get-clause-part : goal.returns-in-Some-get-clause-part
 returns-in-Some-get-clause-part g c =
     let cs = c.args.constants.now in
     let place = c.saturating_sub-place.ensures in
-    let there : slice_get cs (c.args.number - first_declared) ≡ Some c.in-Some-get.declared.now = search rules in
+    let found = c.in-Some-get.ensures.lookup in
+    let there : slice_get cs (c.args.number - first_declared) ≡ Some c.in-Some-get.declared.now =
+    ap (slice_get cs) (let same : c.args.number - first_declared ≡ c.saturating_sub-place.result = omega (arith, place) in same) ∙ slice_get-get_or cs c.saturating_sub-place.result _ found.3.0 ∙ ap Some (sym found.1) in
     told_part cs c.tell-in-Some-get.result (GoalNote (named c.args.number)) _ _ _
     (ap told_goal (c.as_slice.ensures.value ∙ sym (ap (constant_text cs c.args.number) (sym c.from_number.ensures ∙ c.in_default.is) ∙ ap text_shown there))) c.tell-in-Some-get.ensures.told
     c.tell-in-Some-get.ensures.memory
