@@ -1,5 +1,5 @@
 -- What cells that are no references read as, as types, and what the definition says of two of them.
-use Rattle.std.proofs.Common.{◌≡◌, ℕ, zero, suc, ◌+◌, ◌<◌, ◌≤◌, ◌⊎◌, inl, inr, List, [], ◌∷◌, ◌++◌, length, map, reverse, refl, sym, ap, ◌∙◌, subst, arith, Option, Some, None, Bool, true, false, nat_eq, if◌then◌else◌}
+use Rattle.std.proofs.Common.{◌≡◌, ℕ, zero, suc, ◌+◌, ◌<◌, ◌≤◌, ◌⊎◌, inl, inr, List, [], ◌∷◌, ◌++◌, length, map, reverse, refl, sym, ap, ◌∙◌, subst, arith, Option, Some, None, Bool, true, false, nat_eq, if◌then◌else◌, append-nil}
 use Rattle.std.specs.Prelude.{nat_lt}
 use Rattle.std.proofs.lemmas.Bool.Decides.{nat_tests}
 use Rattle.lp_lemmas.proofs.Lists.{reverse_pushed}
@@ -13,7 +13,7 @@ use Rattle.lp_store.specs.Reading.{ReadsType, ReadTypes, no_types as none_read, 
 use Rattle.lp_store.proofs.Changes.{type_parts_read}
 use Rattle.lp_model.specs.Types.{TypePair, TypeRuled, TypeVerdict, differ, parts, parts_of, of_parts, plainly, bind_type, type_rule, same_top, zipped}
 use Rattle.lp_unify.specs.declared.types.Choice.{Choice}
-use Rattle.lp_unify.specs.Heads.{zipped_cells}
+use Rattle.lp_unify.specs.Heads.{type_cells, types_at, HaveAsManyTypes, zipped_cells}
 use Rattle.lp_unify.specs.TypeEquations.{ReadsPair, ReadPairs}
 use Rattle.lp_unify.specs.TypeTurns.{IsResolved, IsVariable, IsToBecome, IsChosen, IsSplit, ReadStack}
 
@@ -195,6 +195,15 @@ zipped_read s (i ∷ ls) (j ∷ rs) Ts Us r q e = go r q (λ Vs Ws a b. zipped_r
     go : {Vs Ws : List Ty} → ReadTypes s (i.0 ∷ map (λ c. c.0) ls) Vs → ReadTypes s (j.0 ∷ map (λ c. c.0) rs) Ws →
         ((Xs Ys : List Ty) → ReadStack s ls Xs → ReadStack s rs Ys → ReadPairs s (zipped_cells ls rs) (zipped Xs Ys)) → ReadPairs s ((i, j) ∷ zipped_cells ls rs) (zipped Vs Ws)
     go (more_types {Ts = Xs} x p) (more_types {Ts = Ys} y k) f = (record { left = x; right = y }, f Xs Ys p k)
+
+pub head_pairs : (s : Contents) (ls rs : List CellId) (old now : List (CellId × CellId)) (Ts Us : List Ty) → reverse now ≡ zipped_cells ls rs ++ reverse old → old ≡ [] → length ls ≡ length rs → ReadStack s ls Ts → ReadStack s rs Us → ReadPairs s (reverse now) (zipped Ts Us)
+head_pairs s ls rs old now Ts Us e f n r q =
+    let z : reverse now ≡ zipped_cells ls rs = e ∙ ap (λ l. zipped_cells ls rs ++ reverse l) f ∙ append-nil (zipped_cells ls rs) in
+    subst (λ l. ReadPairs s l (zipped Ts Us)) (sym z) (zipped_read s ls rs Ts Us r q n)
+
+-- as many types
+pub many_none : (s : Contents) (one other : CellId) (c : Cell) → c ≡ cell_at s one.0 → type_cells s c ≡ [] → types_at s other ≡ [] → HaveAsManyTypes s one other
+many_none s one other c e f g = ap (λ y. length (type_cells s y)) (sym e) ∙ ap length f ∙ sym (ap length g)
 
 parts_zipped : (Ts Us : List Ty) → length Ts ≡ length Us → parts_of (tys Ts) (tys Us) ≡ Some (zipped Ts Us)
 parts_zipped [] [] e = refl

@@ -88,14 +88,14 @@ compared_on s before between after all all_todo todo new pair one other e u k f 
       reads = w.2 t.others t.below;
       used = k.used + 1;
       reaches = λ n c q. (
-        let r = k.reaches (suc n) (dearer 1 c) (reaches_next n k.left t.first t.others w.0 c t.is w.1 q) in
-        (r.0, r.1 ∙ ap Some (dearer_twice k.used 1 c))
-      );
+          let r = k.reaches (suc n) (dearer 1 c) (reaches_next n k.left t.first t.others w.0 c t.is w.1 q) in
+          (r.0, r.1 ∙ ap Some (dearer_twice k.used 1 c))
+          );
       passes = λ m c q. (
-        let r = k.passes m c q in
-        let y = passes_next r.0 k.left t.first t.others w.0 r.1 t.is w.1 r.2 in
-        (y.0, y.1, y.2, dearer_on k.used c r.1 y.1 r.3 y.3)
-      );
+          let r = k.passes m c q in
+          let y = passes_next r.0 k.left t.first t.others w.0 r.1 t.is w.1 r.2 in
+          (y.0, y.1, y.2, dearer_on k.used c r.1 y.1 r.3 y.3)
+          );
       units = omega (arith, v, u);
     }
 

@@ -186,9 +186,9 @@ partly_on old mid new before between after all all_todo todo new_todo pair e k f
       put = put_then k.bindings h.bindings old mid new k.put h.put;
       reaches = λ n o q. k.reaches (suc n) o (reaches_on n k.left t.first t.others w.0 k.bindings h.bindings k.used h.cost o t.is (h.comes n k.bindings k.used) q);
       passes = λ m o q. (
-        let r = k.passes m o q in
-        passes_on r.0 t.first t.others w.0 k.bindings h.bindings k.used h.cost o (λ j. h.comes j k.bindings k.used) (ap (λ l. solve_types r.0 l k.bindings k.used) (sym t.is) ∙ r.1)
-      );
+          let r = k.passes m o q in
+          passes_on r.0 t.first t.others w.0 k.bindings h.bindings k.used h.cost o (λ j. h.comes j k.bindings k.used) (ap (λ l. solve_types r.0 l k.bindings k.used) (sym t.is) ∙ r.1)
+          );
       units = omega (arith, v, z);
       bound = bound_on before.is_bound between.is_bound after.is_bound k.bindings h.bindings k.bound h.bound;
     }

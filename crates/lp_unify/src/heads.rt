@@ -31,7 +31,9 @@ fn is_constant(store: &Store, cell: CellId, c: u32, count: usize) -> bool
     }
 }
 
-fn is_text(store: &Store, cell: CellId, bytes: &[u8]) -> bool {
+fn is_text(store: &Store, cell: CellId, bytes: &[u8]) -> bool
+    ensures { result ≡ true → types_at store.now cell ≡ [] }
+{
     match read(store, cell) {
         Cell::Text(others) => bytes == store.bytes(others),
         _ => false,

@@ -39,9 +39,9 @@ types-preserved c =
     let fewer = c.types.invariant.fewer in
     record {
       avoids = λ u a. (
-        let v = c.in_ok-found.ensures.avoids c.if-found.false u a in
-        c.types.invariant.avoids u (All_pushed (AvoidsIn s x) c.types.stack.items c.pop.new.self.items c.in-Some.next c.in-Some.ensures.items v.0 (c.referred-top.ensures.leads x u v.1))
-      );
+          let v = c.in_ok-found.ensures.avoids c.if-found.false u a in
+          c.types.invariant.avoids u (All_pushed (AvoidsIn s x) c.types.stack.items c.pop.new.self.items c.in-Some.next c.in-Some.ensures.items v.0 (c.referred-top.ensures.leads x u v.1))
+          );
       looking = λ T r. looking_on s x T c.types.stack.items c.pop.new.self.items (reverse c.visit.new.stack.items) c.in-Some.next c.referred-top.result c.args.units.now c.types.units c.spend.new.units c.in-Some.ensures.items c.referred-top.ensures.refers taken (c.types.invariant.looking T r)
           (λ A q. subst (λ b. IsVisited b s x A (reverse c.pop.new.self.items) (reverse c.visit.new.stack.items)) c.if-found.false (c.in_ok-found.ensures.visited c.referred-top.ensures.resolved A q));
       first = inr (first_within s c.types.stack.items c.pop.new.self.items c.args.of c.in-Some.next c.referred-top.result c.types.invariant.first c.in-Some.ensures.items c.referred-top.ensures.refers (c.in_ok-found.ensures.within c.if-found.false));
