@@ -2,3 +2,8 @@ pub mod Frames
 pub mod Entries
 pub mod Apart
 pub mod Ways
+pub mod References
+pub mod TypeCells
+pub mod TypeVisits
+pub mod TypeRuns
+pub mod TypeComparisons

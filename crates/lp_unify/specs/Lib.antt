@@ -1,3 +1,6 @@
 pub mod Frames
 pub mod Inside
 pub mod Waits
+pub mod Heads
+pub mod TypeEquations
+pub mod TypeTurns

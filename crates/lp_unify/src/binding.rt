@@ -1,9 +1,11 @@
 // What is put into a store, and what a variable is bound to.
-ghost use Rattle.std.specs.Prelude.{◌≡◌, ℕ, ◌<◌, length, true, All, IfOk};
+ghost use Rattle.std.specs.Prelude.{◌≡◌, ℕ, ◌<◌, length, [], ◌∷◌, true, All, IfOk, OnOk};
+ghost use Rattle.lp_calculus.specs.Types.{Ty};
 ghost use Rattle.lp_store.specs.Contents.{cell_at};
-ghost use Rattle.lp_store.specs.Reading.{Avoids};
+ghost use Rattle.lp_store.specs.Reading.{Avoids, ReadsType};
 ghost use Rattle.lp_unify.specs.Frames.{Goes, Stays, IsFresh};
 ghost use Rattle.lp_unify.specs.Inside.{IsIn, IsApart, IsUnbound};
+ghost use Rattle.lp_unify.specs.TypeEquations.{AreTypesPut};
 
 use crate::cells::read;
 use crate::round::Round;
@@ -22,6 +24,28 @@ pub(crate) fn is_unbound(store: &Store, variable: CellId) -> bool
     }
 }
 
+// Binds an unbound variable.
+pub(crate) fn bind_to(
+    store: &mut Store,
+    round: &mut Round,
+    variable: CellId,
+    to: CellId,
+) -> Result<(), Memory>
+    requires variable { variable.0 < length store.old.cells }
+    requires unbound { IsUnbound (cell_at store.old variable.0) }
+    requires to { to.0 < length store.old.cells }
+    requires avoids { Avoids store.old variable.0 to.0 }
+    ensures goes { Goes store.old store.new }
+    ensures types { OnOk result ((cell_at store.old variable.0 ≡ Cell.TypeVar) → (S : Ty) → ReadsType store.old to.0 S → AreTypesPut (record { id = variable.0; value = S } ∷ []) store.old store.new) }
+    ensures units { round.new.units ≡ round.old.units }
+    ensures bound { OnOk result (round.new.is_bound ≡ true) }
+{
+    let _mark = store.mark();
+    store.bind(variable, to)?;
+    round.is_bound = true;
+    Ok(())
+}
+
 // Binds a variable.
 pub(crate) fn bind(
     store: &mut Store,
@@ -32,16 +56,13 @@ pub(crate) fn bind(
     requires { Avoids store.old variable.0 to.0 }
     ensures { Goes store.old store.new }
 {
-    let _mark = store.mark();
     if !is_unbound(store, variable) {
         return Err(Memory);
     }
     if !store.has(to) {
         return Err(Memory);
     }
-    store.bind(variable, to)?;
-    round.is_bound = true;
-    Ok(())
+    bind_to(store, round, variable, to)
 }
 
 // A new variable of the level.

@@ -1,9 +1,11 @@
 // Cells at any number: one outside the store reads as the index 0.
 ghost use Rattle.std.specs.Prelude.{◌≡◌, ◌<◌, length};
 ghost use Rattle.lp_store.specs.Contents.{cell_at};
-ghost use Rattle.lp_store.specs.Sound.{Stands};
+ghost use Rattle.lp_store.specs.Sound.{IsSound, Stands};
 ghost use Rattle.lp_store.specs.declared.cell.Cell.TheVariants.{Index};
+ghost use Rattle.lp_susp.specs.Route.{RefsTo};
 ghost use Rattle.lp_unify.specs.Inside.{IsListIn, LeadsOn};
+ghost use Rattle.lp_unify.specs.TypeTurns.{IsResolved};
 
 use lp_base::Memory;
 use lp_store::{Cell, CellId, Span, Store};
@@ -13,6 +15,7 @@ pub(crate) fn read(store: &Store, id: CellId) -> Cell
     ensures cell { result ≡ cell_at store.now id.0 }
     ensures stands { Stands store.now result }
     ensures inside { (result ≡ Index 0 → ⊥) → id.0 < length store.now.cells }
+    ensures sound { (result ≡ Index 0 → ⊥) → IsSound store.now }
 {
     if store.has(id) {
         return store.cell(id);
@@ -20,18 +23,19 @@ pub(crate) fn read(store: &Store, id: CellId) -> Cell
     Cell::Index(0)
 }
 
-// The cell that references lead to.
+// The cell that references lead to, which is no reference.
 pub(crate) fn referred(store: &Store, cell: CellId) -> CellId
-    ensures { LeadsOn store.now cell.0 result.0 }
+    ensures leads { LeadsOn store.now cell.0 result.0 }
+    ensures refers { RefsTo store.now cell.0 result.0 }
+    ensures resolved { IsResolved (cell_at store.now result.0) }
 {
     let mut at = cell;
-    'references: for _ in 0..u64::MAX {
+    'references: loop {
         let Cell::Ref(to) = read(store, at) else {
             return at;
         };
         at = to;
     }
-    at
 }
 
 // The arguments of an application.

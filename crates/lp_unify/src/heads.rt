@@ -1,4 +1,7 @@
 // Rigid heads: whether they are the same but for their types, and the pairs of their types.
+ghost use Rattle.std.specs.Prelude.{◌≡◌, ◌++◌, [], length, reverse, true, OnOk, MatchOption};
+ghost use Rattle.lp_store.specs.Contents.{span};
+ghost use Rattle.lp_unify.specs.Heads.{types_at, zipped_cells, HaveAsManyTypes};
 ghost use Rattle.lp_unify.specs.Inside.{IsListIn};
 
 use crate::cells::read;
@@ -6,7 +9,9 @@ use lp_base::Memory;
 use lp_store::{Cell, CellId, Span, Store};
 
 // Whether two rigid heads are the same name.
-pub(crate) fn have_same_name(store: &Store, one: CellId, other: CellId) -> bool {
+pub(crate) fn have_same_name(store: &Store, one: CellId, other: CellId) -> bool
+    ensures types { result ≡ true → HaveAsManyTypes store.now one other }
+{
     match read(store, one) {
         Cell::Const(c, types) => is_constant(store, other, c, store.items(types).len()),
         Cell::Eigen(k) => matches!(read(store, other), Cell::Eigen(l) if k == l),
@@ -17,14 +22,18 @@ pub(crate) fn have_same_name(store: &Store, one: CellId, other: CellId) -> bool 
     }
 }
 
-fn is_constant(store: &Store, cell: CellId, c: u32, count: usize) -> bool {
+fn is_constant(store: &Store, cell: CellId, c: u32, count: usize) -> bool
+    ensures types { result ≡ true → count ≡ length (types_at store.now cell) }
+{
     match read(store, cell) {
         Cell::Const(d, types) => c == d && count == store.items(types).len(),
         _ => false,
     }
 }
 
-fn is_text(store: &Store, cell: CellId, bytes: &[u8]) -> bool {
+fn is_text(store: &Store, cell: CellId, bytes: &[u8]) -> bool
+    ensures { result ≡ true → types_at store.now cell ≡ [] }
+{
     match read(store, cell) {
         Cell::Text(others) => bytes == store.bytes(others),
         _ => false,
@@ -33,7 +42,8 @@ fn is_text(store: &Store, cell: CellId, bytes: &[u8]) -> bool {
 
 // The types of a constant.
 fn types_of(store: &Store, cell: CellId) -> Option<Span>
-    ensures { IsListIn store.now result }
+    ensures list { IsListIn store.now result }
+    ensures types { MatchOption result (types_at store.now cell ≡ []) (λ l. types_at store.now cell ≡ span store.now.items l.from l.count) }
 {
     match read(store, cell) {
         Cell::Const(_, types) => Some(types),
@@ -47,7 +57,10 @@ pub(crate) fn push_types(
     one: CellId,
     other: CellId,
     todo: &mut Vec<(CellId, CellId)>,
-) -> Result<(), Memory> {
+) -> Result<(), Memory>
+    requires { HaveAsManyTypes store.now one other }
+    ensures { OnOk result (reverse todo.new.items ≡ zipped_cells (types_at store.now one) (types_at store.now other) ++ reverse todo.old.items) }
+{
     let Some(types) = types_of(store, one) else {
         return Ok(());
     };
@@ -62,10 +75,10 @@ pub(crate) fn push_type_pairs(
     lefts: &[CellId],
     rights: &[CellId],
     todo: &mut Vec<(CellId, CellId)>,
-) -> Result<(), Memory> {
-    if lefts.len() != rights.len() {
-        return Err(Memory);
-    }
+) -> Result<(), Memory>
+    requires { length lefts.now ≡ length rights.now }
+    ensures { OnOk result (reverse todo.new.items ≡ zipped_cells lefts.now rights.now ++ reverse todo.old.items) }
+{
     for done in 0..lefts.len() {
         let at = lefts.len() - 1 - done;
         todo.push((lefts[at], rights[at]))?;

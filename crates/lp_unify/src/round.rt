@@ -1,4 +1,6 @@
 // The units that are left to a unification, and whether a variable was bound.
+ghost use Rattle.std.specs.Prelude.{◌≡◌, ℕ, suc, ◌≤◌, OnOk, IfErr};
+ghost use Rattle.lp_unify.specs.declared.fault.PatternRefusal.TheVariants.{Deep};
 
 use crate::fault::PatternRefusal;
 
@@ -44,7 +46,11 @@ impl Round {
 }
 
 // Takes a unit.
-pub(crate) fn spend(units: &mut u64) -> Result<(), PatternRefusal> {
+pub(crate) fn spend(units: &mut u64) -> Result<(), PatternRefusal>
+    ensures taken { OnOk result (units.old ≡ suc units.new) }
+    ensures spent { IfErr result (λ e. (e ≡ Deep) × (units.old ≡ 0)) }
+    ensures fewer { units.new ≤ units.old }
+{
     if *units == 0 {
         return Err(PatternRefusal::Deep);
     }

@@ -1,6 +1,11 @@
 // The rules for one pair: the first that applies is taken.
-ghost use Rattle.std.specs.Prelude.{ℕ, ◌<◌, length, All, IfOk};
+ghost use Rattle.std.specs.Prelude.{ℕ, ◌<◌, ◌≤◌, length, List, All, IfOk, OnOk, IfErr};
+ghost use Rattle.lp_calculus.specs.Types.{Ty};
+ghost use Rattle.lp_model.specs.Types.{zipped};
 ghost use Rattle.lp_unify.specs.Frames.{Goes, Stays};
+ghost use Rattle.lp_unify.specs.Heads.{types_at, HaveAsManyTypes};
+ghost use Rattle.lp_unify.specs.TypeEquations.{AreSolved, AreRefused};
+ghost use Rattle.lp_unify.specs.TypeTurns.{ReadStack};
 ghost use Rattle.lp_unify.specs.Inside.{IsApart};
 
 use crate::binding::{bind, put_abstractions, put_application, put_index, put_variable};
@@ -41,7 +46,11 @@ fn equate_types(
     one: CellId,
     other: CellId,
 ) -> Result<(), PatternRefusal>
-    ensures { Goes store.old store.new }
+    requires { HaveAsManyTypes store.old one other }
+    ensures goes { Goes store.old store.new }
+    ensures solved { OnOk result ((Ts Us : List Ty) → ReadStack store.old (types_at store.old one) Ts → ReadStack store.old (types_at store.old other) Us → AreSolved store.old store.new round.old round.new (zipped Ts Us)) }
+    ensures refused { IfErr result (λ e. (Ts Us : List Ty) → ReadStack store.old (types_at store.old one) Ts → ReadStack store.old (types_at store.old other) Us → AreRefused e round.old.units (zipped Ts Us)) }
+    ensures fewer { OnOk result (round.new.units ≤ round.old.units) }
 {
     let mut types = Vec::new(alloc);
     push_types(store, one, other, &mut types)?;

@@ -1,4 +1,8 @@
 // The unification of pairs.
+ghost use Rattle.std.specs.Prelude.{[], ◌∷◌, OnOk, IfErr};
+ghost use Rattle.lp_calculus.specs.Types.{Ty};
+ghost use Rattle.lp_store.specs.Reading.{ReadsType};
+ghost use Rattle.lp_unify.specs.TypeEquations.{pair_of_types, AreSolved, AreRefused};
 ghost use Rattle.lp_unify.specs.Frames.{Goes};
 ghost use Rattle.lp_unify.specs.Waits.{KeepsEntries};
 
@@ -73,7 +77,7 @@ pub fn unify(
     Ok(())
 }
 
-/// Unifies two types. After a refusal type variables may have been bound.
+/// Unifies two types: finds the most general types for type variables that make them one. After a refusal type variables may have been bound.
 pub fn unify_types(
     alloc: Global,
     store: &mut Store,
@@ -81,7 +85,9 @@ pub fn unify_types(
     left: CellId,
     right: CellId,
 ) -> Result<(), PatternRefusal>
-    ensures { Goes store.old store.new }
+    ensures goes { Goes store.old store.new }
+    ensures solved { OnOk result ((A B : Ty) → ReadsType store.old left.0 A → ReadsType store.old right.0 B → AreSolved store.old store.new round.old round.new (pair_of_types A B ∷ [])) }
+    ensures refused { IfErr result (λ e. (A B : Ty) → ReadsType store.old left.0 A → ReadsType store.old right.0 B → AreRefused e round.old.units (pair_of_types A B ∷ [])) }
 {
     let mut todo = Vec::new(alloc);
     todo.push((left, right))?;

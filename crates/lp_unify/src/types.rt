@@ -1,11 +1,15 @@
 // Type equations, and the comparison of types.
-ghost use Rattle.std.specs.Prelude.{◌≡◌, ◌+◌, ◌≤◌, length, All, IfOk, true, false};
+ghost use Rattle.std.specs.Prelude.{◌≡◌, ◌+◌, ◌<◌, ◌≤◌, List, length, reverse, All, IfOk, OnOk, IfErr, true, false};
+ghost use Rattle.lp_calculus.specs.Types.{Ty};
 ghost use Rattle.lp_store.specs.Contents.{cell_at, span};
-ghost use Rattle.lp_store.specs.Reading.{Avoids};
+ghost use Rattle.lp_store.specs.Reading.{Avoids, ReadsType};
+ghost use Rattle.lp_model.specs.Types.{TypePair, visit};
 ghost use Rattle.lp_unify.specs.Frames.{Goes};
 ghost use Rattle.lp_unify.specs.Inside.{AvoidsIn, IsUnbound};
+ghost use Rattle.lp_unify.specs.TypeEquations.{ReadsPair, ReadPairs, AreSolved, AreRefused, AreCompared, IsComparedOver};
+ghost use Rattle.lp_unify.specs.TypeTurns.{IsResolved, IsVariable, IsChosen, IsSplit, IsVisited, IsWant, IsBoundTo, IsUnboundAs, IsLedOn, IsTurnRefused};
 
-use crate::binding::{bind, is_unbound};
+use crate::binding::{bind_to, is_unbound};
 use crate::cells::{read, referred};
 use crate::fault::PatternRefusal;
 use crate::heads::push_type_pairs;
@@ -24,7 +28,10 @@ enum Choice {
     Split,
 }
 
-fn is_variable(store: &Store, cell: CellId) -> bool {
+fn is_variable(store: &Store, cell: CellId) -> bool
+    ensures variable { result ≡ true → IsVariable store.now cell }
+    ensures other { result ≡ false → IsVariable store.now cell → ⊥ }
+{
     match read(store, cell) {
         Cell::TypeVar => true,
         _ => false,
@@ -32,7 +39,9 @@ fn is_variable(store: &Store, cell: CellId) -> bool {
 }
 
 // Chooses by the tops: of two variables the younger is bound.
-fn choose(store: &Store, one: CellId, other: CellId) -> Choice {
+fn choose(store: &Store, one: CellId, other: CellId) -> Choice
+    ensures { IsChosen store.now one other result }
+{
     if is_variable(store, one) {
         if !is_variable(store, other) {
             return Choice::Bind(one, other);
@@ -57,7 +66,10 @@ fn split(
     one: CellId,
     other: CellId,
     todo: &mut Vec<(CellId, CellId)>,
-) -> Result<bool, Memory> {
+) -> Result<bool, Memory>
+    ensures { IfOk result (λ same. IsResolved (cell_at store.now one.0) → IsResolved (cell_at store.now other.0) → (IsVariable store.now one → ⊥) → (IsVariable store.now other → ⊥) →
+        (A B : Ty) → ReadsType store.now one.0 A → ReadsType store.now other.0 B → IsSplit same store.now A B (reverse todo.old.items) (reverse todo.new.items)) }
+{
     match read(store, one) {
         Cell::TypeCon(c, types) => match read(store, other) {
             Cell::TypeCon(d, others) => {
@@ -90,7 +102,9 @@ fn visit(
     top: CellId,
     stack: &mut Vec<CellId>,
 ) -> Result<bool, Memory>
-    ensures { IfOk result (λ found. found ≡ false → IsUnbound (cell_at store.now variable.0) → All (AvoidsIn store.now variable.0) stack.new.items → All (AvoidsIn store.now variable.0) stack.old.items × Avoids store.now variable.0 top.0) }
+    ensures avoids { IfOk result (λ found. found ≡ false → IsUnbound (cell_at store.now variable.0) → All (AvoidsIn store.now variable.0) stack.new.items → All (AvoidsIn store.now variable.0) stack.old.items × Avoids store.now variable.0 top.0) }
+    ensures visited { IfOk result (λ found. IsResolved (cell_at store.now top.0) → (T : Ty) → ReadsType store.now top.0 T → IsVisited found store.now variable.0 T (reverse stack.old.items) (reverse stack.new.items)) }
+    ensures within { IfOk result (λ found. found ≡ false → top.0 < length store.now.cells) }
 {
     match read(store, top) {
         Cell::TypeCon(_, types) => {
@@ -115,14 +129,15 @@ fn occurs(
     of: CellId,
     units: &mut u64,
 ) -> Result<bool, PatternRefusal>
-    ensures { IfOk result (λ found. found ≡ false → IsUnbound (cell_at store.now variable.0) → Avoids store.now variable.0 of.0) }
+    ensures avoids { IfOk result (λ found. found ≡ false → IsUnbound (cell_at store.now variable.0) → Avoids store.now variable.0 of.0) }
+    ensures seen { IfOk result (λ found. (T : Ty) → ReadsType store.now of.0 T → ((visit variable.0 T).found ≡ found) × (units.old ≡ (visit variable.0 T).units + units.new)) }
+    ensures spent { IfErr result (λ e. (T : Ty) → ReadsType store.now of.0 T → IsWant e (units.old < (visit variable.0 T).units)) }
+    ensures within { IfOk result (λ found. found ≡ false → of.0 < length store.now.cells) }
+    ensures fewer { units.new ≤ units.old }
 {
     let mut stack = Vec::new(alloc);
     stack.push(of)?;
-    'types: for _ in 0..u64::MAX {
-        let Some(next) = stack.pop() else {
-            return Ok(false);
-        };
+    'types: while let Some(next) = stack.pop() {
         spend(units)?;
         let top = referred(store, next);
         let found = visit(store, variable, top, &mut stack)?;
@@ -130,7 +145,7 @@ fn occurs(
             return Ok(true);
         }
     }
-    Err(PatternRefusal::Memory)
+    Ok(false)
 }
 
 // Whether a variable stands in none of the types. Nothing is counted.
@@ -168,15 +183,16 @@ fn bind_type(
     variable: CellId,
     to: CellId,
 ) -> Result<(), PatternRefusal>
-    ensures { Goes store.old store.new }
+    requires { IsVariable store.old variable }
+    ensures goes { Goes store.old store.new }
+    ensures bound { OnOk result ((T : Ty) → ReadsType store.old to.0 T → IsBoundTo store.old store.new round.old round.new variable.0 T) }
+    ensures refused { IfErr result (λ e. (T : Ty) → ReadsType store.old to.0 T → IsUnboundAs e round.old.units variable.0 T) }
+    ensures fewer { OnOk result (round.new.units ≤ round.old.units) }
 {
-    if !is_unbound(store, variable) {
-        return Err(PatternRefusal::Memory);
-    }
     if occurs(alloc, store, variable, to, &mut round.units)? {
         return Err(PatternRefusal::Fails);
     }
-    bind(store, round, variable, to)?;
+    bind_to(store, round, variable, to)?;
     Ok(())
 }
 
@@ -188,7 +204,11 @@ fn take(
     pair: (CellId, CellId),
     todo: &mut Vec<(CellId, CellId)>,
 ) -> Result<(), PatternRefusal>
-    ensures { Goes store.old store.new }
+    ensures goes { Goes store.old store.new }
+    ensures turns { OnOk result ((p : TypePair) (ps : List TypePair) → ReadsPair store.old pair p → ReadPairs store.old (reverse todo.old.items) ps →
+        IsLedOn store.old store.new round.old round.new p ps (reverse todo.new.items)) }
+    ensures refused { IfErr result (λ e. (p : TypePair) → ReadsPair store.old pair p → IsTurnRefused e round.old.units p) }
+    ensures fewer { OnOk result (round.new.units < round.old.units) }
 {
     spend(&mut round.units)?;
     let one = referred(store, pair.0);
@@ -212,15 +232,15 @@ pub(crate) fn solve_types(
     round: &mut Round,
     todo: &mut Vec<(CellId, CellId)>,
 ) -> Result<(), PatternRefusal>
-    ensures { Goes store.old store.new }
+    ensures goes { Goes store.old store.new }
+    ensures solved { OnOk result ((ps : List TypePair) → ReadPairs store.old (reverse todo.old.items) ps → AreSolved store.old store.new round.old round.new ps) }
+    ensures refused { IfErr result (λ e. (ps : List TypePair) → ReadPairs store.old (reverse todo.old.items) ps → AreRefused e round.old.units ps) }
+    ensures fewer { OnOk result (round.new.units ≤ round.old.units) }
 {
-    'pairs: for _ in 0..u64::MAX {
-        let Some(pair) = todo.pop() else {
-            return Ok(());
-        };
+    'pairs: while let Some(pair) = todo.pop() {
         take(alloc, store, round, pair, todo)?;
     }
-    Err(PatternRefusal::Memory)
+    Ok(())
 }
 
 // Whether two types begin in the same way; their parts go on the stack.
@@ -229,7 +249,10 @@ fn have_same_top(
     one: CellId,
     other: CellId,
     todo: &mut Vec<(CellId, CellId)>,
-) -> Result<bool, Memory> {
+) -> Result<bool, Memory>
+    ensures { IfOk result (λ same. IsResolved (cell_at store.now one.0) → IsResolved (cell_at store.now other.0) → (A B : Ty) → ReadsType store.now one.0 A → ReadsType store.now other.0 B →
+        IsSplit same store.now A B (reverse todo.old.items) (reverse todo.new.items)) }
+{
     match choose(store, one, other) {
         Choice::Drop => Ok(true),
         Choice::Bind(_, _) => Ok(false),
@@ -242,11 +265,12 @@ pub(crate) fn are_same_types(
     store: &Store,
     todo: &mut Vec<(CellId, CellId)>,
     units: &mut u64,
-) -> Result<bool, PatternRefusal> {
-    'pairs: for _ in 0..u64::MAX {
-        let Some((one, other)) = todo.pop() else {
-            return Ok(true);
-        };
+) -> Result<bool, PatternRefusal>
+    ensures compared { IfOk result (λ same. (ps : List TypePair) → ReadPairs store.now (reverse todo.old.items) ps → AreCompared same units.old units.new ps) }
+    ensures spent { IfErr result (λ e. (ps : List TypePair) → ReadPairs store.now (reverse todo.old.items) ps → IsWant e (IsComparedOver units.old ps)) }
+    ensures fewer { units.new ≤ units.old }
+{
+    'pairs: while let Some((one, other)) = todo.pop() {
         spend(units)?;
         let one = referred(store, one);
         let other = referred(store, other);
@@ -254,5 +278,5 @@ pub(crate) fn are_same_types(
             return Ok(false);
         }
     }
-    Err(PatternRefusal::Memory)
+    Ok(true)
 }

@@ -6,7 +6,7 @@ use Rattle.lp_unify.proofs.types.are_apart.Goals as goal
 
 pub loop-place-preserved : goal.loop-place-preserved
 loop-place-preserved c =
-    all_take_next (AvoidsIn c.args.store.now c.args.variable.0) c.items-cells.result.now c.loop-place.place _ (omega (arith, c.loop-place-test.true)) c.loop-place.invariant (c.in_ok-found.ensures c.if-found.false (c.if-not-is_unbound.ensures.unbound refl))
+    all_take_next (AvoidsIn c.args.store.now c.args.variable.0) c.items-cells.result.now c.loop-place.place _ (omega (arith, c.loop-place-test.true)) c.loop-place.invariant (c.in_ok-found.ensures.avoids c.if-found.false (c.if-not-is_unbound.ensures.unbound refl))
 
 pub returns : goal.returns
 returns c = λ e.
