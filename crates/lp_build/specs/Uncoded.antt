@@ -1,5 +1,5 @@
 -- Why a module has no code: what one of its formulas is flattened to passes the limit on clauses, or the flattened clauses of all pass a limit of code.
-use Rattle.std.specs.Prelude.{◌≡◌, ℕ, List, map, take, All, Contains, Option}
+use Rattle.std.specs.Prelude.{◌≡◌, ◌≢◌, ℕ, List, map, take, All, Contains, Option}
 use Rattle.lp_base.specs.declared.limit.Limit.TheVariants as limit
 use Rattle.lp_calculus.specs.Typing.{Scheme}
 use Rattle.lp_term.specs.Nodes.{Nodes, Extends}
@@ -47,7 +47,7 @@ HaveFewIn b fs = All (λ f. HasFewClauses (formula_of b f)) fs
 
 pub data IsUncoded (m : Module) (e : BuildFault) : Type 0 where
   of_formula : HasManyIn m.bank m.clauses.items → e ≡ fault.Limit limit.Clauses → IsUncoded m e
-  of_limits : (b : Nodes) (constants : List Declared) (flat : List code_clause.Clause) (r : GenRefusal) → AreFlatIn m b constants flat → ClausesPass b constants flat r → e ≡ of_code r → IsUncoded m e
+  of_limits : HaveFewIn m.bank m.clauses.items → (b : Nodes) (constants : List Declared) (flat : List code_clause.Clause) (r : GenRefusal) → AreFlatIn m b constants flat → ClausesPass b constants flat r → e ≡ of_code r → IsUncoded m e
   no_space : e ≡ fault.Memory → IsUncoded m e
 
 -- a module has code: no limit is passed
@@ -59,10 +59,11 @@ pub record IsWithinCode (m : Module) : Type 0 where
   pub are : AreFlatIn m bank constants flat
   pub within : ClausesWithin bank constants flat
 
--- the first of these modules that has none
+-- the first of these modules that has none; of a limit on registers nothing is told here
 pub record IsFirstUncoded (modules : List Module) (e : BuildFault) : Type 0 where
   pub place : ℕ
   pub «module» : Module
   pub at : IsAt modules place «module»
   pub before : All IsWithinCode (take place modules)
   pub refused : IsUncoded «module» e
+  pub other : e ≢ fault.Limit limit.Registers

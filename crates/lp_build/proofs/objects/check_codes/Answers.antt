@@ -22,20 +22,20 @@ loop-module-preserved c = λ within.
     let turn = YieldsList-turn road done c.loop-module.module-iterator c.loop-module.yielded_by c.next.result c.next.new.self c.in-Some.module c.in-Some.is c.next.ensures.steps in
     let at : IsAt c.args.modules.items (length done) c.in-Some.module = (turn.0, sym turn.1) in
     coded_more c.args.modules.items (length done) (length (done ++ c.in-Some.module ∷ [])) c.in-Some.module (length_push done c.in-Some.module) at
-    (c.in_ok-code_of.ensures.within (at_all (λ m. AreWithin m.bank m.clauses.items) c.args.modules.items (length done) c.in-Some.module at within)) (c.loop-module.invariant within)
+    (c.in_ok-check_code.ensures.within (at_all (λ m. AreWithin m.bank m.clauses.items) c.args.modules.items (length done) c.in-Some.module at within)) (c.loop-module.invariant within)
 
-pub returns-in_err-code_of-clause-cause : goal.returns-in_err-code_of-clause-cause
-returns-in_err-code_of-clause-cause c = λ within.
+pub returns-in_err-check_code-clause-cause : goal.returns-in_err-check_code-clause-cause
+returns-in_err-check_code-clause-cause c = λ within.
     let road = YieldsList-at c.into_iter-module-iterator.ensures.into_iter_gives (YieldsList-from_vec c.args.modules.items c.into_iter-module-items.ensures.rest (omega (arith, c.into_iter-module-items.ensures.len, c.args.modules.ok))) in
     let done = c.loop-module.yielded in
     let turn = YieldsList-turn road done c.loop-module.module-iterator c.loop-module.yielded_by c.next.result c.next.new.self c.in-Some.module c.in-Some.is c.next.ensures.steps in
     let at : IsAt c.args.modules.items (length done) c.in-Some.module = (turn.0, sym turn.1) in
-    passed_up c.from_residual.result c.in_err-code_of.field-0.0 (IsFirstUncoded c.args.modules.items) c.from_residual.ensures.1
-    (first_uncoded c.args.modules.items (length done) c.in-Some.module c.in_err-code_of.field-0.0 at (c.loop-module.invariant within)
-    (c.in_err-code_of.ensures.cause (at_all (λ m. AreWithin m.bank m.clauses.items) c.args.modules.items (length done) c.in-Some.module at within)))
+    passed_up c.from_residual.result c.in_err-check_code.field-0.0 (IsFirstUncoded c.args.modules.items) c.from_residual.ensures.1
+    (first_uncoded c.args.modules.items (length done) c.in-Some.module c.in_err-check_code.field-0.0 at c.in_err-check_code.ensures.other (c.loop-module.invariant within)
+    (c.in_err-check_code.ensures.cause (at_all (λ m. AreWithin m.bank m.clauses.items) c.args.modules.items (length done) c.in-Some.module at within)))
 
-pub returns-in_err-code_of-clause-refused : goal.returns-in_err-code_of-clause-refused
-returns-in_err-code_of-clause-refused c = passed_up c.from_residual.result c.in_err-code_of.field-0.0 IsOfTexts c.from_residual.ensures.1 c.in_err-code_of.ensures.refused
+pub returns-in_err-check_code-clause-refused : goal.returns-in_err-check_code-clause-refused
+returns-in_err-check_code-clause-refused c = passed_up c.from_residual.result c.in_err-check_code.field-0.0 IsOfTexts c.from_residual.ensures.1 c.in_err-check_code.ensures.refused
 
 pub returns-clause-within : goal.returns-clause-within
 returns-clause-within c = λ within.

@@ -55,7 +55,7 @@ returns-clause-cause c = λ within.
     let b = c.declared_of.new.bank in
     let flat = subst (λ l. AreFlat m.bank now l c.in-Ok.clauses.items) c.as_slice.ensures.value
     (c.in-Ok.ensures.flat (subst (AreWithin m.bank) (sym c.as_slice.ensures.value) within)) in
-    of_limits b c.as_slice-2.result.now c.as_slice-3.result.now c.in-Err-generate.refusal
+    of_limits (subst (HaveFewIn m.bank) c.as_slice.ensures.value (c.in-Ok.ensures.few (subst (AreWithin m.bank) (sym c.as_slice.ensures.value) within))) b c.as_slice-2.result.now c.as_slice-3.result.now c.in-Err-generate.refusal
     (flat_in m now b c.as_slice-2.result.now c.as_slice-3.result.now c.flattened.ensures.kept c.in_ok-declared.ensures.kept
     (ap (map (scheme_of b)) c.as_slice-2.ensures.value ∙ c.in_ok-declared.ensures.declared) (subst (AreFlat m.bank now m.clauses.items) (sym c.as_slice-3.ensures.value) flat))
     c.in-Err-generate.ensures.cause c.of_generator.ensures.same
