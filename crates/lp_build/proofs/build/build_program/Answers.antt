@@ -1,5 +1,6 @@
 use Rattle.std.proofs.Common.{refl, Ok}
 use Rattle.lp_lemmas.proofs.Results.{passed_up}
+use Rattle.lp_build.specs.Faults.{IsOfTexts}
 use Rattle.lp_build.specs.Refused.{IsRefusedProgram, no_memory, of_modules, of_whole}
 use Rattle.lp_build.proofs.Building.{built_is}
 use Rattle.lp_build.proofs.Causing.{codes_layer, modules_layer, program_layer}
@@ -39,3 +40,7 @@ returns-in_err-check_codes-clause-cause c = λ read.
     passed_up c.from_residual-in_err-check_codes.result c.in_err-check_codes.field-0.0 (IsRefusedProgram c.args.sources.now) c.from_residual-in_err-check_codes.ensures.1
     (codes_layer c.args.sources.now c.in_ok-whole.whole c.in_ok-modules.modules.items c.in-Some.own.now c.in_ok-built.built c.in_err-check_codes.field-0.0 whole meanings c.in_ok-built.ensures.program
     (c.in_err-check_codes.ensures.cause (modules_within meanings.meanings)))
+
+pub returns-in_err-check_codes-clause-refused : goal.returns-in_err-check_codes-clause-refused
+returns-in_err-check_codes-clause-refused c = passed_up c.from_residual-in_err-check_codes.result c.in_err-check_codes.field-0.0 IsOfTexts c.from_residual-in_err-check_codes.ensures.1
+    c.in_err-check_codes.ensures.refused
