@@ -3,6 +3,7 @@ use Rattle.std.specs.Prelude.{IfErr, OnOk}
 use Rattle.lp_gen.specs.Limits.{QueryWithin}
 use Rattle.lp_lines.specs.Placed.{IsCauseOf}
 use Rattle.lp_load.specs.Refused.{IsOverCode}
+use Rattle.lp_load.proofs.Refusing.{code_told, registers_within}
 use Rattle.lp_load.proofs.query.within_code.Goals.{in-Ok, in-Err}
 use Rattle.lp_load.proofs.query.within_code.Goals as goal
 
@@ -17,7 +18,8 @@ returns-clause-cause c =
     let P = IsOverCode c.args.bank.now c.args.constants.now c.args.typed.now c.args.goals.now in
     elim c.match-generate_query.branch [
       | in-Ok w ↦ subst (λ r. IfErr r P) (sym w.result-is) tt
-      | in-Err w ↦ subst (λ r. IfErr r P) (sym w.result-is) (w.in-Err.refusal, w.in-Err.ensures.cause, w.of_generator.ensures.tells)
+      | in-Err w ↦ subst (λ r. IfErr r P) (sym w.result-is)
+          (code_told c.args.bank.now c.args.constants.now c.args.typed.now c.args.goals.now w.in-Err.refusal w.of_generator.result w.in-Err.ensures.cause w.of_generator.ensures.tells)
     ]
 
 pub returns-clause-within : goal.returns-clause-within
@@ -25,5 +27,6 @@ returns-clause-within c =
     let P = QueryWithin c.args.bank.now c.args.constants.now c.args.typed.now c.args.goals.now in
     elim c.match-generate_query.branch [
       | in-Ok w ↦ subst (λ r. OnOk r P) (sym w.result-is) w.in-Ok.ensures.within
-      | in-Err w ↦ subst (λ r. OnOk r P) (sym w.result-is) tt
+      | in-Err w ↦ subst (λ r. OnOk r P) (sym w.result-is)
+          (registers_within c.args.bank.now c.args.constants.now c.args.typed.now c.args.goals.now w.in-Err.refusal w.of_generator.result w.in-Err.ensures.cause w.of_generator.ensures.registers)
     ]
