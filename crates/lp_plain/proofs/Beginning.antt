@@ -8,7 +8,7 @@ use Rattle.lp_model.specs.Search.{has_no_pairs, look}
 use Rattle.lp_model.specs.Skeleton.{Breaks, Broke, Goes, Held, Inner, Lasts, Move, Note, Refuted, State, Stops, Tells, View, Waits, back, inner, inner_after, later, move}
 use Rattle.lp_model.specs.Unify.{unit_limit}
 use Rattle.lp_model.specs.declared.program.Declared.{Declared as Named}
-use Rattle.lp_watch.specs.Seen.{Seen}
+use Rattle.lp_watch.specs.Crowd.{Place}
 use Rattle.lp_plain.specs.declared.machine.Machine.{Machine}
 use Rattle.lp_plain.specs.declared.outcome.Turn.{Turn}
 use Rattle.lp_plain.specs.declared.search.Search.{Search}
@@ -74,7 +74,7 @@ module _ (c : Course) (n : Note) where
       go (suc i) o = inner_told (λ y t. Comes c ws y t) w s.steps i s.row x (move (inner see i) see s) (f (inner see i)) o
 
 -- a turn that tells at most that
-pub first_part : (c : Course) (cs : List Named) (ws : List Waiting) (x : Tally) (s : State Task) (old new : List Seen) → Comes c ws x s → HearsFirst cs old new s → HearsPart cs x.notes old new
+pub first_part : (c : Course) (cs : List Named) (ws : List Waiting) (x : Tally) (s : State Task) (old new : List Place) → Comes c ws x s → HearsFirst cs old new s → HearsPart cs x.notes old new
 first_part c cs ws x s old new h (inl e) = part_none cs x.notes old new e
 first_part c cs ws x s old new h (inr (n, f, p)) =
     let w = wanted c ws x s h in

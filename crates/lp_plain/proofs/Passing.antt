@@ -3,7 +3,7 @@ use Rattle.std.proofs.Common.{◌≡◌, ◌+◌, List, [], ◌++◌, refl, subs
 use Rattle.std.proofs.lemmas.List.{append-nil}
 use Rattle.lp_model.specs.Skeleton.{Note}
 use Rattle.lp_model.specs.declared.program.Declared.{Declared as Named}
-use Rattle.lp_watch.specs.Seen.{Seen}
+use Rattle.lp_watch.specs.Crowd.{Place}
 use Rattle.lp_plain.specs.declared.machine.Machine.{Machine}
 use Rattle.lp_plain.specs.declared.outcome.Turn.{Turn}
 use Rattle.lp_plain.specs.Hearing.{Hears, HeardBy, back_behind}
@@ -34,7 +34,7 @@ told_leaves c x y Turn.Answered n h = (h.0, h.1 ∙ ap (λ z. both z h.0) (both_
 told_leaves c x y (Turn.Ended e) n h = λ few. let r = h few in (r.0, r.1 ∙ both_none y)
 
 module _ (c : Course) (cs : List Named) where
-  pub follows_passes : (x : Tally) (m n : Machine) (old mid new : List Seen) (turn : Turn) → Follows c cs x m n old mid turn → Hears cs (back_behind turn n) mid new → Passes c cs x m n old new turn
+  pub follows_passes : (x : Tally) (m n : Machine) (old mid new : List Place) (turn : Turn) → Follows c cs x m n old mid turn → Hears cs (back_behind turn n) mid new → Passes c cs x m n old new turn
   follows_passes x m n old mid new turn h k = (
     both h.0 (notes_alone (back_behind turn n)),
     ((let a = h.1.0 in omega (arith, a)), hears_more cs h.0.notes (back_behind turn n) old mid new h.1.1 k),
@@ -42,7 +42,7 @@ module _ (c : Course) (cs : List Named) where
   )
 
   -- a turn in which nothing is told
-  pub quiet_passes : (x : Tally) (m n : Machine) (old new : List Seen) (turn : Turn) → n.counts.steps ≡ m.counts.steps → Leaves c x quiet turn n →
+  pub quiet_passes : (x : Tally) (m n : Machine) (old new : List Place) (turn : Turn) → n.counts.steps ≡ m.counts.steps → Leaves c x quiet turn n →
       Hears cs (back_behind turn n) old new → Passes c cs x m n old new turn
   quiet_passes x m n old new turn e h k = follows_passes x m n old old new turn (quiet, heard_none cs m n old e, h) k
 
@@ -53,24 +53,24 @@ module _ (c : Course) (cs : List Named) where
   rests_more x y z y' (Turn.Ended f) n e h = λ few. let r = h few in (r.0, e ∙ ap (both y) r.1)
 
   -- the next turn
-  pub passes_more : (x y z : Tally) (m n q : Machine) (old mid new : List Seen) (turn : Turn) → x ≡ both y z → HeardBy cs m n old mid y → Passes c cs
+  pub passes_more : (x y z : Tally) (m n q : Machine) (old mid new : List Place) (turn : Turn) → x ≡ both y z → HeardBy cs m n old mid y → Passes c cs
       z n q mid new turn → Passes c cs x m q old new turn
   passes_more x y z m n q old mid new turn e h k = (both y k.0, heard_more cs y k.0 m n q old mid new h k.1, rests_more x y z k.0 turn q e k.2)
 
   -- before the first one
-  pub passes_first : (x : Tally) (m : Machine) (old : List Seen) (turn : Turn) → Stands c x turn m → Passes c cs x m m old old turn
+  pub passes_first : (x : Tally) (m : Machine) (old : List Place) (turn : Turn) → Stands c x turn m → Passes c cs x m m old old turn
   passes_first x m old Turn.On h = (quiet, (plus_none m.counts.steps, refl), (x, sym (none_both x), h))
   passes_first x m old Turn.Back h = (quiet, (plus_none m.counts.steps, refl), (x, sym (none_both x), h))
   passes_first x m old Turn.Answered h = (quiet, (plus_none m.counts.steps, refl), (x, sym (none_both x), h))
   passes_first x m old (Turn.Ended e) h = (quiet, (plus_none m.counts.steps, refl), h)
 
   -- behind those before
-  pub passes_on : (x : Tally) (m n q : Machine) (old mid new : List Seen) (turn next : Turn) → turn ≡ Turn.On → Passes c cs x m n old mid turn →
+  pub passes_on : (x : Tally) (m n q : Machine) (old mid new : List Place) (turn next : Turn) → turn ≡ Turn.On → Passes c cs x m n old mid turn →
       ((z : Tally) → Stands c z Turn.On n → Passes c cs z n q mid new next) → Passes c cs x m q old new next
   passes_on x m n q old mid new turn next e h f =
       let p = subst (Passes c cs x m n old mid) e h in passes_more x p.0 p.2.0 m n q old mid new next p.2.1 p.1 (f p.2.0 p.2.2)
 
-  pub passes_back : (x : Tally) (m n q : Machine) (old mid new : List Seen) (turn next : Turn) → turn ≡ Turn.Back → Passes c cs x m n old mid turn →
+  pub passes_back : (x : Tally) (m n q : Machine) (old mid new : List Place) (turn next : Turn) → turn ≡ Turn.Back → Passes c cs x m n old mid turn →
       ((z : Tally) → Stands c z Turn.Back n → Passes c cs z n q mid new next) → Passes c cs x m q old new next
   passes_back x m n q old mid new turn next e h f =
       let p = subst (Passes c cs x m n old mid) e h in passes_more x p.0 p.2.0 m n q old mid new next p.2.1 p.1 (f p.2.0 p.2.2)

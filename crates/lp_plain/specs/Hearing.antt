@@ -5,10 +5,9 @@ use Rattle.lp_standard.specs.Numbers as number
 use Rattle.lp_standard.specs.declared.constant.Constant.{Constant}
 use Rattle.lp_model.specs.Skeleton.{GoalName, named, eigenconstant, variable, Note, GoalNote, BackNote, AnswerNote, CutNote, back}
 use Rattle.lp_model.specs.declared.program.Declared.{Declared}
-use Rattle.lp_watch.specs.Crowd.{ReachesPart, crowd_after}
+use Rattle.lp_watch.specs.Crowd.{Place, ReachesPart, crowd_after}
 use Rattle.lp_watch.specs.Notes.{Event, goal, answer, cut}
 use Rattle.lp_watch.specs.Notes as note
-use Rattle.lp_watch.specs.Seen.{Seen}
 use Rattle.lp_watch.specs.Told.{crowd_after_all}
 use Rattle.lp_plain.specs.declared.choice.Choice.{Choice}
 use Rattle.lp_plain.specs.declared.form.Form.{Form}
@@ -44,11 +43,11 @@ note_in cs (AnswerNote k) = answer k
 note_in cs CutNote = cut
 
 -- what is seen of the watchers became so by these notes, one after the other
-abbrev pub Hears : List Declared → List Note → (old new : List Seen) → Type 0
+abbrev pub Hears : List Declared → List Note → (old new : List Place) → Type 0
 Hears cs ns old new = new ≡ crowd_after_all (map (note_in cs) ns) old
 
 -- a beginning of these notes was heard: none of them; or the first one by a first part of the watchers; or by all of them, and of the others a beginning
-abbrev pub HearsPart : List Declared → List Note → (old new : List Seen) → Type 0
+abbrev pub HearsPart : List Declared → List Note → (old new : List Place) → Type 0
 HearsPart cs [] old new = new ≡ old
 HearsPart cs (n ∷ ns) old new = (new ≡ old) ⊎ (ReachesPart (note_in cs n) old new ⊎ HearsPart cs ns (crowd_after (note_in cs n) old) new)
 
@@ -81,5 +80,5 @@ back_behind Turn.Answered m = []
 back_behind (Turn.Ended e) m = []
 
 -- so many steps are counted, and these notes heard
-abbrev pub HeardBy : List Declared → (old new : Machine) → (heard now : List Seen) → Tally → Type 0
+abbrev pub HeardBy : List Declared → (old new : Machine) → (heard now : List Place) → Tally → Type 0
 HeardBy cs m n old now x = (n.counts.steps ≡ m.counts.steps + x.steps) × Hears cs x.notes old now

@@ -1,6 +1,7 @@
 // Atomic goals: a step each.
 ghost use Rattle.std.specs.Prelude.{◌≡◌, ℕ, List, [], ◌∷◌, map, None, Some, length, IfOk, OnOk, Ok};
 ghost use Rattle.lp_standard.specs.Constants.{numbered};
+ghost use Rattle.lp_watch.specs.Crowd.{places};
 ghost use Rattle.lp_model.specs.Branch.{Branch, Task};
 ghost use Rattle.lp_model.specs.Skeleton.{GoalNote, State};
 ghost use Rattle.lp_plain.specs.declared.arithmetic.Outcome.TheVariants as code;
@@ -62,8 +63,8 @@ fn tell_head<W: Watch>(
     constants: &[Declared],
     head: Head,
 ) -> Result<(), Memory>
-    ensures told { OnOk result (Hears constants.now (GoalNote (head_name head) ∷ []) (map W.seen crowd.old.watchers.now.items) (map W.seen crowd.new.watchers.now.items)) }
-    ensures part { HearsPart constants.now (GoalNote (head_name head) ∷ []) (map W.seen crowd.old.watchers.now.items) (map W.seen crowd.new.watchers.now.items) }
+    ensures told { OnOk result (Hears constants.now (GoalNote (head_name head) ∷ []) (places crowd.old.texts.items (map W.seen crowd.old.watchers.now.items)) (places crowd.new.texts.items (map W.seen crowd.new.watchers.now.items))) }
+    ensures part { HearsPart constants.now (GoalNote (head_name head) ∷ []) (places crowd.old.texts.items (map W.seen crowd.old.watchers.now.items)) (places crowd.new.texts.items (map W.seen crowd.new.watchers.now.items)) }
     ensures same { crowd.new.watchers.ghost_name ≡ crowd.old.watchers.ghost_name }
 {
     match head {
@@ -79,8 +80,8 @@ fn tell_goal<W: Watch>(
     constants: &[Declared],
     form: Form,
 ) -> Result<(), Memory>
-    ensures told { OnOk result (Hears constants.now (GoalNote (form_name form) ∷ []) (map W.seen crowd.old.watchers.now.items) (map W.seen crowd.new.watchers.now.items)) }
-    ensures part { HearsPart constants.now (GoalNote (form_name form) ∷ []) (map W.seen crowd.old.watchers.now.items) (map W.seen crowd.new.watchers.now.items) }
+    ensures told { OnOk result (Hears constants.now (GoalNote (form_name form) ∷ []) (places crowd.old.texts.items (map W.seen crowd.old.watchers.now.items)) (places crowd.new.texts.items (map W.seen crowd.new.watchers.now.items))) }
+    ensures part { HearsPart constants.now (GoalNote (form_name form) ∷ []) (places crowd.old.texts.items (map W.seen crowd.old.watchers.now.items)) (places crowd.new.texts.items (map W.seen crowd.new.watchers.now.items)) }
     ensures same { crowd.new.watchers.ghost_name ≡ crowd.old.watchers.ghost_name }
 {
     match form {
@@ -200,7 +201,7 @@ fn put_others(machine: &mut Machine, call: &Call, candidate: Candidate) -> Resul
     ensures written { OnOk result ((ar : ℕ → ℕ) → StandsIn machine.old → IsWrittenSearch machine.old ar → IsWrittenSearch machine.new ar) }
     ensures at_try { OnOk result ((qv : Query) (a : Around) (s : State Task) → IsTrying qv machine.old a call.now candidate s → IsAtTry qv machine.new a call.now candidate (length machine.old.choices.items) s) }
 {
-    let found = machine.candidate_after(call, candidate)?;
+    let found = machine.candidate_after(call, candidate);
     let Some(next) = found else {
         return Ok(());
     };
@@ -281,7 +282,7 @@ fn take_call(
     let Some(call) = looked else {
         return Ok(Turn::Ended(Ending::Deep));
     };
-    let found = machine.first_candidate(&call)?;
+    let found = machine.first_candidate(&call);
     let Some(candidate) = found else {
         return Ok(Turn::Back);
     };
@@ -299,8 +300,8 @@ pub(crate) fn take_atom<W: Watch>(
     place: Place,
     behind: Option<usize>,
 ) -> Result<Turn, Memory>
-    ensures leads { IfOk result (AtomTurns (HeardBy constants.now machine.old machine.new (map W.seen crowd.old.watchers.now.items) (map W.seen crowd.new.watchers.now.items)) machine.old machine.new place goal form behind) }
-    ensures begins { (qv : Query) (a : Around) (raw : Branch) (s : State Task) (h : IsRunning qv machine.old a raw s) → IsAtLooked machine.old h.closing a place goal behind raw → IsAtomForm machine.old.bank (tree machine.old.bank goal.0) form → HearsFirst constants.now (map W.seen crowd.old.watchers.now.items) (map W.seen crowd.new.watchers.now.items) s }
+    ensures leads { IfOk result (AtomTurns (HeardBy constants.now machine.old machine.new (places crowd.old.texts.items (map W.seen crowd.old.watchers.now.items)) (places crowd.new.texts.items (map W.seen crowd.new.watchers.now.items))) machine.old machine.new place goal form behind) }
+    ensures begins { (qv : Query) (a : Around) (raw : Branch) (s : State Task) (h : IsRunning qv machine.old a raw s) → IsAtLooked machine.old h.closing a place goal behind raw → IsAtomForm machine.old.bank (tree machine.old.bank goal.0) form → HearsFirst constants.now (places crowd.old.texts.items (map W.seen crowd.old.watchers.now.items)) (places crowd.new.texts.items (map W.seen crowd.new.watchers.now.items)) s }
     ensures within { OnOk result ((qv : Query) (a : Around) (raw : Branch) (s : State Task) (h : IsRunning qv machine.old a raw s) → IsAtLooked machine.old h.closing a place goal behind raw → IsAtomForm machine.old.bank (tree machine.old.bank goal.0) form → CountsFirst machine.old machine.new s) }
     ensures same { crowd.new.watchers.ghost_name ≡ crowd.old.watchers.ghost_name }
     ensures program { OnOk result (KeepsProgram machine.old machine.new) }
@@ -341,8 +342,8 @@ pub(crate) fn take_cut<W: Watch>(
     behind: Option<usize>,
 ) -> Result<Turn, Memory>
     ensures cuts { IfOk result (λ turn. CutsOff turn machine.old machine.new place.mark behind) }
-    ensures moved { IfOk result (λ turn. (qv : Query) (a : Around) (raw : Branch) (s : State Task) → IsRunning qv machine.old a raw s → IsAtGoal machine.old a place Flat.Cut behind raw → TellsOn (λ x. (cs : List Named) → HeardBy cs machine.old machine.new (map W.seen crowd.old.watchers.now.items) (map W.seen crowd.new.watchers.now.items) x) (λ x. MovesTo x qv turn machine.new s)) }
-    ensures begins { (qv : Query) (a : Around) (raw : Branch) (s : State Task) → IsRunning qv machine.old a raw s → IsAtGoal machine.old a place Flat.Cut behind raw → (cs : List Named) → HearsFirst cs (map W.seen crowd.old.watchers.now.items) (map W.seen crowd.new.watchers.now.items) s }
+    ensures moved { IfOk result (λ turn. (qv : Query) (a : Around) (raw : Branch) (s : State Task) → IsRunning qv machine.old a raw s → IsAtGoal machine.old a place Flat.Cut behind raw → TellsOn (λ x. (cs : List Named) → HeardBy cs machine.old machine.new (places crowd.old.texts.items (map W.seen crowd.old.watchers.now.items)) (places crowd.new.texts.items (map W.seen crowd.new.watchers.now.items)) x) (λ x. MovesTo x qv turn machine.new s)) }
+    ensures begins { (qv : Query) (a : Around) (raw : Branch) (s : State Task) → IsRunning qv machine.old a raw s → IsAtGoal machine.old a place Flat.Cut behind raw → (cs : List Named) → HearsFirst cs (places crowd.old.texts.items (map W.seen crowd.old.watchers.now.items)) (places crowd.new.texts.items (map W.seen crowd.new.watchers.now.items)) s }
     ensures within { OnOk result ((qv : Query) (a : Around) (raw : Branch) (s : State Task) → IsRunning qv machine.old a raw s → IsAtGoal machine.old a place Flat.Cut behind raw → CountsFirst machine.old machine.new s) }
     ensures same { crowd.new.watchers.ghost_name ≡ crowd.old.watchers.ghost_name }
     ensures written { OnOk result ((ar : ℕ → ℕ) → StandsIn machine.old → IsWrittenSearch machine.old ar → IsWrittenSearch machine.new ar) }

@@ -1,5 +1,6 @@
 // A search, from one event to the next.
 ghost use Rattle.std.specs.Prelude.{◌≡◌, ◌+◌, ◌-◌, ◌^◌, ◌<◌, ◌≤◌, ◌∷◌, [], suc, ℕ, List, map, true, false, length, Ok, None, Some, IfOk, OnOk, OnErr, IsErr};
+ghost use Rattle.lp_watch.specs.Crowd.{places};
 ghost use Rattle.lp_model.specs.Branch.{Answer, Task};
 ghost use Rattle.lp_model.specs.Events.{Advances, Event as Happens};
 ghost use Rattle.lp_model.specs.Flat.{Clause, Goals};
@@ -44,8 +45,8 @@ fn tell_turn<W: Watch>(
     crowd: &mut Crowd<'_, W>,
     turn: Turn,
 ) -> Result<(), Memory>
-    ensures told { OnOk result ((cs : List Named) → Hears cs (back_behind turn machine.now) (map W.seen crowd.old.watchers.now.items) (map W.seen crowd.new.watchers.now.items)) }
-    ensures part { (cs : List Named) → HearsPart cs (back_behind turn machine.now) (map W.seen crowd.old.watchers.now.items) (map W.seen crowd.new.watchers.now.items) }
+    ensures told { OnOk result ((cs : List Named) → Hears cs (back_behind turn machine.now) (places crowd.old.texts.items (map W.seen crowd.old.watchers.now.items)) (places crowd.new.texts.items (map W.seen crowd.new.watchers.now.items))) }
+    ensures part { (cs : List Named) → HearsPart cs (back_behind turn machine.now) (places crowd.old.texts.items (map W.seen crowd.old.watchers.now.items)) (places crowd.new.texts.items (map W.seen crowd.new.watchers.now.items)) }
     ensures same { crowd.new.watchers.ghost_name ≡ crowd.old.watchers.ghost_name }
 {
     match turn {
@@ -61,8 +62,8 @@ fn take_turn<W: Watch>(
     constants: &[Declared],
     turn: Turn,
 ) -> Result<Turn, Memory>
-    ensures stands { IfOk result (λ next. (c : Course) (x : Tally) → Stands c x turn machine.old → Passes c constants.now x machine.old machine.new (map W.seen crowd.old.watchers.now.items) (map W.seen crowd.new.watchers.now.items) next) }
-    ensures begins { (c : Course) (x : Tally) → Stands c x turn machine.old → HearsPart constants.now x.notes (map W.seen crowd.old.watchers.now.items) (map W.seen crowd.new.watchers.now.items) }
+    ensures stands { IfOk result (λ next. (c : Course) (x : Tally) → Stands c x turn machine.old → Passes c constants.now x machine.old machine.new (places crowd.old.texts.items (map W.seen crowd.old.watchers.now.items)) (places crowd.new.texts.items (map W.seen crowd.new.watchers.now.items)) next) }
+    ensures begins { (c : Course) (x : Tally) → Stands c x turn machine.old → HearsPart constants.now x.notes (places crowd.old.texts.items (map W.seen crowd.old.watchers.now.items)) (places crowd.new.texts.items (map W.seen crowd.new.watchers.now.items)) }
     ensures within { OnOk result ((c : Course) (x : Tally) → Stands c x turn machine.old → machine.new.counts.steps ≤ machine.old.counts.steps + x.steps) }
     ensures same { crowd.new.watchers.ghost_name ≡ crowd.old.watchers.ghost_name }
 {
@@ -89,8 +90,8 @@ fn run<W: Watch>(
     constants: &[Declared],
     first: Turn,
 ) -> Result<Told, Memory>
-    ensures stands { IfOk result (λ told. (c : Course) (x : Tally) → Stands c x first machine.old → Passes c constants.now x machine.old machine.new (map W.seen crowd.old.watchers.now.items) (map W.seen crowd.new.watchers.now.items) (turn_told told)) }
-    ensures begins { (c : Course) (x : Tally) → Stands c x first machine.old → HearsPart constants.now x.notes (map W.seen crowd.old.watchers.now.items) (map W.seen crowd.new.watchers.now.items) }
+    ensures stands { IfOk result (λ told. (c : Course) (x : Tally) → Stands c x first machine.old → Passes c constants.now x machine.old machine.new (places crowd.old.texts.items (map W.seen crowd.old.watchers.now.items)) (places crowd.new.texts.items (map W.seen crowd.new.watchers.now.items)) (turn_told told)) }
+    ensures begins { (c : Course) (x : Tally) → Stands c x first machine.old → HearsPart constants.now x.notes (places crowd.old.texts.items (map W.seen crowd.old.watchers.now.items)) (places crowd.new.texts.items (map W.seen crowd.new.watchers.now.items)) }
     ensures within { OnOk result ((c : Course) (x : Tally) → Stands c x first machine.old → machine.new.counts.steps ≤ machine.old.counts.steps + x.steps) }
     ensures same { crowd.new.watchers.ghost_name ≡ crowd.old.watchers.ghost_name }
 {
@@ -172,8 +173,8 @@ impl Search {
         ensures failed { failed self.new ≡ failed self.old }
         ensures rests { OnOk result (IsNoted self.old self.new) }
         ensures constants { constants_of self.new ≡ constants_of self.old }
-        ensures heard { OnOk result ((cs : List Named) → self.old.given < self.old.answers → self.old.answers ≤ 2 ^ 64 - 1 → Hears cs (AnswerNote (suc self.old.given) ∷ []) (map W.seen crowd.old.watchers.now.items) (map W.seen crowd.new.watchers.now.items)) }
-        ensures part { (cs : List Named) → self.old.given < self.old.answers → self.old.answers ≤ 2 ^ 64 - 1 → HearsPart cs (AnswerNote (suc self.old.given) ∷ []) (map W.seen crowd.old.watchers.now.items) (map W.seen crowd.new.watchers.now.items) }
+        ensures heard { OnOk result ((cs : List Named) → self.old.given < self.old.answers → self.old.answers ≤ 2 ^ 64 - 1 → Hears cs (AnswerNote (suc self.old.given) ∷ []) (places crowd.old.texts.items (map W.seen crowd.old.watchers.now.items)) (places crowd.new.texts.items (map W.seen crowd.new.watchers.now.items))) }
+        ensures part { (cs : List Named) → self.old.given < self.old.answers → self.old.answers ≤ 2 ^ 64 - 1 → HearsPart cs (AnswerNote (suc self.old.given) ∷ []) (places crowd.old.texts.items (map W.seen crowd.old.watchers.now.items)) (places crowd.new.texts.items (map W.seen crowd.new.watchers.now.items)) }
         ensures same { crowd.new.watchers.ghost_name ≡ crowd.old.watchers.ghost_name }
     {
         self.given = self.given.saturating_add(1);
@@ -189,8 +190,8 @@ impl Search {
         ensures told { IfOk result (IsTold (variables_of self.old)) }
         ensures ended { ended self.old ≡ None → IfOk result (λ event. Keeps event (ended self.new)) }
         ensures failed { failed self.new ≡ failed self.old }
-        ensures search { IfOk result (λ event. (c : Course) (x : Tally) → IsToTell self.old c → Stands c x first self.old.machine → AreEnough c.program c.enough c.begin event → IsEventOf c.event event × IsBetween c.program c.enough self.new c.after × HeardBy (constants_of self.old) self.old.machine self.new.machine (map W.seen crowd.old.watchers.now.items) (map W.seen crowd.new.watchers.now.items) x) }
-        ensures begins { (c : Course) (x : Tally) → IsToTell self.old c → Stands c x first self.old.machine → HearsPart (constants_of self.old) x.notes (map W.seen crowd.old.watchers.now.items) (map W.seen crowd.new.watchers.now.items) }
+        ensures search { IfOk result (λ event. (c : Course) (x : Tally) → IsToTell self.old c → Stands c x first self.old.machine → AreEnough c.program c.enough c.begin event → IsEventOf c.event event × IsBetween c.program c.enough self.new c.after × HeardBy (constants_of self.old) self.old.machine self.new.machine (places crowd.old.texts.items (map W.seen crowd.old.watchers.now.items)) (places crowd.new.texts.items (map W.seen crowd.new.watchers.now.items)) x) }
+        ensures begins { (c : Course) (x : Tally) → IsToTell self.old c → Stands c x first self.old.machine → HearsPart (constants_of self.old) x.notes (places crowd.old.texts.items (map W.seen crowd.old.watchers.now.items)) (places crowd.new.texts.items (map W.seen crowd.new.watchers.now.items)) }
         ensures within { OnOk result ((c : Course) (x : Tally) → IsToTell self.old c → Stands c x first self.old.machine → steps_of self.new ≤ steps_of self.old + x.steps) }
         ensures constants { constants_of self.new ≡ constants_of self.old }
         ensures same { crowd.new.watchers.ghost_name ≡ crowd.old.watchers.ghost_name }
@@ -201,7 +202,10 @@ impl Search {
             Told::Answered => {
                 self.tell_answer(crowd)?;
                 let count = self.variables.len();
-                let answer = answer_of(&mut self.machine, count)?;
+                let made = answer_of(&mut self.machine, count)?;
+                let Some(answer) = made else {
+                    return Ok(self.end(Ending::Deep));
+                };
                 Ok(Event::Answer(answer))
             }
         }
@@ -214,8 +218,8 @@ impl Search {
         ensures told { IfOk result (IsTold (variables_of self.old)) }
         ensures ended { ended self.old ≡ None → IfOk result (λ event. Keeps event (ended self.new)) }
         ensures failed { failed self.new ≡ failed self.old }
-        ensures search { IfOk result (λ event. ended self.old ≡ None → (P : List Clause) (n : ℕ) (s : State Task) → IsBetween P n self.old s → AreEnough P n s event → (x : Happens Answer) (t : State Task) (d : Advances (look unit_limit n P) s x t) → IsEventOf x event × IsBetween P n self.new t × HeardBy (constants_of self.old) self.old.machine self.new.machine (map W.seen crowd.old.watchers.now.items) (map W.seen crowd.new.watchers.now.items) (tally_told (look unit_limit n P) d.inner_moves d.moves s)) }
-        ensures begins { ended self.old ≡ None → (P : List Clause) (n : ℕ) (s : State Task) → IsBetween P n self.old s → (x : Happens Answer) (t : State Task) (d : Advances (look unit_limit n P) s x t) → HearsPart (constants_of self.old) (notes_told (look unit_limit n P) d.inner_moves d.moves s) (map W.seen crowd.old.watchers.now.items) (map W.seen crowd.new.watchers.now.items) }
+        ensures search { IfOk result (λ event. ended self.old ≡ None → (P : List Clause) (n : ℕ) (s : State Task) → IsBetween P n self.old s → AreEnough P n s event → (x : Happens Answer) (t : State Task) (d : Advances (look unit_limit n P) s x t) → IsEventOf x event × IsBetween P n self.new t × HeardBy (constants_of self.old) self.old.machine self.new.machine (places crowd.old.texts.items (map W.seen crowd.old.watchers.now.items)) (places crowd.new.texts.items (map W.seen crowd.new.watchers.now.items)) (tally_told (look unit_limit n P) d.inner_moves d.moves s)) }
+        ensures begins { ended self.old ≡ None → (P : List Clause) (n : ℕ) (s : State Task) → IsBetween P n self.old s → (x : Happens Answer) (t : State Task) (d : Advances (look unit_limit n P) s x t) → HearsPart (constants_of self.old) (notes_told (look unit_limit n P) d.inner_moves d.moves s) (places crowd.old.texts.items (map W.seen crowd.old.watchers.now.items)) (places crowd.new.texts.items (map W.seen crowd.new.watchers.now.items)) }
         ensures within { OnOk result (ended self.old ≡ None → (P : List Clause) (n : ℕ) (s : State Task) → IsBetween P n self.old s → (x : Happens Answer) (t : State Task) (d : Advances (look unit_limit n P) s x t) → steps_of self.new ≤ steps_of self.old + steps_until (look unit_limit n P) d.inner_moves d.moves s) }
         ensures constants { constants_of self.new ≡ constants_of self.old }
         ensures same { crowd.new.watchers.ghost_name ≡ crowd.old.watchers.ghost_name }
@@ -245,10 +249,10 @@ impl Search {
         ensures search { IfOk result (λ event. (P : List Clause) (n : ℕ) (s : State Task) → IsBetween P n self.old s → AreEnough P n s event → (x : Happens Answer) (t : State Task) → Advances (look unit_limit n P) s x t → IsEventOf x event × IsBetween P n self.new t) }
         ensures steps { IfOk result (λ event. ended self.old ≡ None → (P : List Clause) (n : ℕ) (s : State Task) → IsBetween P n self.old s → AreEnough P n s event → (x : Happens Answer) (t : State Task) (d : Advances (look unit_limit n P) s x t) → steps_of self.new ≡ steps_of self.old + steps_until (look unit_limit n P) d.inner_moves d.moves s) }
         ensures notes { IfOk result (λ event. ended self.old ≡ None → (P : List Clause) (n : ℕ) (s : State Task) → IsBetween P n self.old s → AreEnough P n s event → (x : Happens Answer) (t : State Task) (d : Advances (look unit_limit n P) s x t) →
-            Hears (constants_of self.old) (notes_told (look unit_limit n P) d.inner_moves d.moves s) (map W.seen crowd.old.watchers.now.items) (map W.seen crowd.new.watchers.now.items)) }
-        ensures begins { (P : List Clause) (n : ℕ) (s : State Task) → IsBetween P n self.old s → (x : Happens Answer) (t : State Task) (d : Advances (look unit_limit n P) s x t) → HearsPart (constants_of self.old) (notes_told (look unit_limit n P) d.inner_moves d.moves s) (map W.seen crowd.old.watchers.now.items) (map W.seen crowd.new.watchers.now.items) }
+            Hears (constants_of self.old) (notes_told (look unit_limit n P) d.inner_moves d.moves s) (places crowd.old.texts.items (map W.seen crowd.old.watchers.now.items)) (places crowd.new.texts.items (map W.seen crowd.new.watchers.now.items))) }
+        ensures begins { (P : List Clause) (n : ℕ) (s : State Task) → IsBetween P n self.old s → (x : Happens Answer) (t : State Task) (d : Advances (look unit_limit n P) s x t) → HearsPart (constants_of self.old) (notes_told (look unit_limit n P) d.inner_moves d.moves s) (places crowd.old.texts.items (map W.seen crowd.old.watchers.now.items)) (places crowd.new.texts.items (map W.seen crowd.new.watchers.now.items)) }
         ensures within { OnOk result ((P : List Clause) (n : ℕ) (s : State Task) → IsBetween P n self.old s → (x : Happens Answer) (t : State Task) (d : Advances (look unit_limit n P) s x t) → steps_of self.new ≤ steps_of self.old + steps_until (look unit_limit n P) d.inner_moves d.moves s) }
-        ensures rest { (e : Ending) → ended self.old ≡ Some e → (steps_of self.new ≡ steps_of self.old) × (map W.seen crowd.new.watchers.now.items ≡ map W.seen crowd.old.watchers.now.items) }
+        ensures rest { (e : Ending) → ended self.old ≡ Some e → (steps_of self.new ≡ steps_of self.old) × (places crowd.new.texts.items (map W.seen crowd.new.watchers.now.items) ≡ places crowd.old.texts.items (map W.seen crowd.old.watchers.now.items)) }
         ensures constants { constants_of self.new ≡ constants_of self.old }
         ensures same { crowd.new.watchers.ghost_name ≡ crowd.old.watchers.ghost_name }
         ensures stays { failed self.old ≡ false → (e : Ending) → ended self.old ≡ Some e → result ≡ Ok (told.Ended e) }

@@ -1,5 +1,6 @@
 // The names of goals, as a note tells them.
 ghost use Rattle.std.specs.Prelude.{◌≡◌, List, [], ◌∷◌, map, OnOk};
+ghost use Rattle.lp_watch.specs.Crowd.{places};
 ghost use Rattle.lp_model.specs.Skeleton.{GoalNote, named, eigenconstant, variable};
 ghost use Rattle.lp_model.specs.declared.program.Declared.{Declared as Named};
 ghost use Rattle.lp_plain.specs.Hearing.{Hears, HearsPart};
@@ -17,8 +18,8 @@ pub(crate) fn tell_constant<W: Watch>(
     constants: &[Declared],
     number: u32,
 ) -> Result<(), Memory>
-    ensures told { OnOk result (Hears constants.now (GoalNote (named number) ∷ []) (map W.seen crowd.old.watchers.now.items) (map W.seen crowd.new.watchers.now.items)) }
-    ensures part { HearsPart constants.now (GoalNote (named number) ∷ []) (map W.seen crowd.old.watchers.now.items) (map W.seen crowd.new.watchers.now.items) }
+    ensures told { OnOk result (Hears constants.now (GoalNote (named number) ∷ []) (places crowd.old.texts.items (map W.seen crowd.old.watchers.now.items)) (places crowd.new.texts.items (map W.seen crowd.new.watchers.now.items))) }
+    ensures part { HearsPart constants.now (GoalNote (named number) ∷ []) (places crowd.old.texts.items (map W.seen crowd.old.watchers.now.items)) (places crowd.new.texts.items (map W.seen crowd.new.watchers.now.items)) }
     ensures same { crowd.new.watchers.ghost_name ≡ crowd.old.watchers.ghost_name }
 {
     if let Some(constant) = Constant::from_number(number) {
@@ -37,8 +38,8 @@ pub(crate) fn tell_eigen<W: Watch>(
     crowd: &mut Crowd<'_, W>,
     level: u64,
 ) -> Result<(), Memory>
-    ensures told { OnOk result ((cs : List Named) → Hears cs (GoalNote (eigenconstant level) ∷ []) (map W.seen crowd.old.watchers.now.items) (map W.seen crowd.new.watchers.now.items)) }
-    ensures part { (cs : List Named) → HearsPart cs (GoalNote (eigenconstant level) ∷ []) (map W.seen crowd.old.watchers.now.items) (map W.seen crowd.new.watchers.now.items) }
+    ensures told { OnOk result ((cs : List Named) → Hears cs (GoalNote (eigenconstant level) ∷ []) (places crowd.old.texts.items (map W.seen crowd.old.watchers.now.items)) (places crowd.new.texts.items (map W.seen crowd.new.watchers.now.items))) }
+    ensures part { (cs : List Named) → HearsPart cs (GoalNote (eigenconstant level) ∷ []) (places crowd.old.texts.items (map W.seen crowd.old.watchers.now.items)) (places crowd.new.texts.items (map W.seen crowd.new.watchers.now.items)) }
     ensures same { crowd.new.watchers.ghost_name ≡ crowd.old.watchers.ghost_name }
 {
     let mut name = Vec::new(alloc);
@@ -50,8 +51,8 @@ pub(crate) fn tell_eigen<W: Watch>(
 
 /// Tells that a goal is taken whose head has no name.
 pub(crate) fn tell_variable<W: Watch>(crowd: &mut Crowd<'_, W>) -> Result<(), Memory>
-    ensures told { OnOk result ((cs : List Named) → Hears cs (GoalNote variable ∷ []) (map W.seen crowd.old.watchers.now.items) (map W.seen crowd.new.watchers.now.items)) }
-    ensures part { (cs : List Named) → HearsPart cs (GoalNote variable ∷ []) (map W.seen crowd.old.watchers.now.items) (map W.seen crowd.new.watchers.now.items) }
+    ensures told { OnOk result ((cs : List Named) → Hears cs (GoalNote variable ∷ []) (places crowd.old.texts.items (map W.seen crowd.old.watchers.now.items)) (places crowd.new.texts.items (map W.seen crowd.new.watchers.now.items))) }
+    ensures part { (cs : List Named) → HearsPart cs (GoalNote variable ∷ []) (places crowd.old.texts.items (map W.seen crowd.old.watchers.now.items)) (places crowd.new.texts.items (map W.seen crowd.new.watchers.now.items)) }
     ensures same { crowd.new.watchers.ghost_name ≡ crowd.old.watchers.ghost_name }
 {
     crowd.tell(Note::Goal(b"_"))

@@ -1,5 +1,6 @@
 // Negated goals: the search of one stands on that of its branch.
 ghost use Rattle.std.specs.Prelude.{◌≡◌, ◌≢◌, ◌+◌, ◌≤◌, ℕ, List, map, [], length, take, true, false, None, Some, OnOk, IfOk};
+ghost use Rattle.lp_watch.specs.Crowd.{places};
 ghost use Rattle.lp_model.specs.declared.ending.Ending.{Ending};
 ghost use Rattle.lp_plain.specs.declared.choice.Untried.{Untried};
 ghost use Rattle.lp_plain.specs.declared.table.Flat.{Flat};
@@ -107,8 +108,8 @@ pub(crate) fn take_not<W: Watch>(
     behind: Option<usize>,
 ) -> Result<Turn, Memory>
     ensures takes { IfOk result (λ turn. Takes turn (record { free = free; values = place.values; older = place.standing }) machine.old machine.new behind) }
-    ensures denies { IfOk result (λ turn. (qv : Query) (a : Reading) (raw : Branch) (s : State Task) (h : IsRunning qv machine.old a raw s) → IsAtGoal machine.old a place (Flat.Not goals free) behind raw → TellsOn (λ x. (cs : List Named) → HeardBy cs machine.old machine.new (map W.seen crowd.old.watchers.now.items) (map W.seen crowd.new.watchers.now.items) x) (λ x. TakesDenied x turn qv machine.new s h.at_work.goals)) }
-    ensures begins { (qv : Query) (a : Reading) (raw : Branch) (s : State Task) → IsRunning qv machine.old a raw s → IsAtGoal machine.old a place (Flat.Not goals free) behind raw → (cs : List Named) → HearsFirst cs (map W.seen crowd.old.watchers.now.items) (map W.seen crowd.new.watchers.now.items) s }
+    ensures denies { IfOk result (λ turn. (qv : Query) (a : Reading) (raw : Branch) (s : State Task) (h : IsRunning qv machine.old a raw s) → IsAtGoal machine.old a place (Flat.Not goals free) behind raw → TellsOn (λ x. (cs : List Named) → HeardBy cs machine.old machine.new (places crowd.old.texts.items (map W.seen crowd.old.watchers.now.items)) (places crowd.new.texts.items (map W.seen crowd.new.watchers.now.items)) x) (λ x. TakesDenied x turn qv machine.new s h.at_work.goals)) }
+    ensures begins { (qv : Query) (a : Reading) (raw : Branch) (s : State Task) → IsRunning qv machine.old a raw s → IsAtGoal machine.old a place (Flat.Not goals free) behind raw → (cs : List Named) → HearsFirst cs (places crowd.old.texts.items (map W.seen crowd.old.watchers.now.items)) (places crowd.new.texts.items (map W.seen crowd.new.watchers.now.items)) s }
     ensures within { OnOk result ((qv : Query) (a : Reading) (raw : Branch) (s : State Task) → IsRunning qv machine.old a raw s → IsAtGoal machine.old a place (Flat.Not goals free) behind raw → CountsFirst machine.old machine.new s) }
     ensures same { crowd.new.watchers.ghost_name ≡ crowd.old.watchers.ghost_name }
     ensures written { IfOk result (λ turn. turn ≡ Turn.On → WritesList machine.old machine.new place [] goals) }

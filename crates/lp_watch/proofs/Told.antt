@@ -1,21 +1,17 @@
 -- What many notes do to the watchers, in closed form: who is still there, and what each has. Induction along the notes.
 use Rattle.std.proofs.Common.{◌≡◌, ℕ, zero, suc, ◌-◌, List, [], ◌∷◌, ◌++◌, length, map, filter, Option, Some, None, option_map, true, false, Bool, cond, refl, sym, ◌∙◌, ap, arith}
-use Rattle.std.specs.List.{AllZip}
-use Rattle.std.proofs.lemmas.List.{append_assoc, append-nil}
-use Rattle.lp_lemmas.proofs.Lists.{length_push_suc}
+use Rattle.std.specs.List.{flat_map}
+use Rattle.std.proofs.lemmas.List.{append_assoc, append-nil, take_all}
 use Rattle.lp_watch.specs.Notes.{Event}
+use Rattle.lp_watch.specs.Reports.{report_of}
 use Rattle.lp_watch.specs.Seen.{Seen, seen_after, stays}
-use Rattle.lp_watch.specs.Crowd.{crowd_after, Place, here, gone, Noted}
-use Rattle.lp_watch.specs.Told.{count_all, seen_after_all, crowd_after_all, stays_for, NotedAll}
+use Rattle.lp_watch.specs.Crowd.{after, crowd_after, Place, here, gone, reports, still_here, text_at}
+use Rattle.lp_watch.specs.Told.{after_all, count_all, crowd_after_all, seen_after_all, stays_for, taken}
 
 -- one more note at the end
-pub crowd_one_more : (notes : List Event) (e : Event) (seen : List Seen) → crowd_after_all (notes ++ e ∷ []) seen ≡ crowd_after e (crowd_after_all notes seen)
-crowd_one_more [] e seen = refl
-crowd_one_more (n ∷ notes) e seen = crowd_one_more notes e (crowd_after n seen)
-
-pub seen_one_more : (notes : List Event) (e : Event) (s : Seen) → seen_after_all (notes ++ e ∷ []) s ≡ seen_after e (seen_after_all notes s)
-seen_one_more [] e s = refl
-seen_one_more (n ∷ notes) e s = seen_one_more notes e (seen_after n s)
+pub crowd_one_more : (notes : List Event) (e : Event) (places : List Place) → crowd_after_all (notes ++ e ∷ []) places ≡ crowd_after e (crowd_after_all notes places)
+crowd_one_more [] e places = refl
+crowd_one_more (n ∷ notes) e places = crowd_one_more notes e (crowd_after n places)
 
 -- what each note added
 pub tally_is : (notes : List Event) (s : Seen) → (seen_after_all notes s).tally ≡ count_all s.tally notes
@@ -57,80 +53,76 @@ pub stays_no_longer : (k : ℕ) (left : Option ℕ) → stays left ≡ false →
 stays_no_longer k None h = absurd (cc)
 stays_no_longer k (Some n) h = grind (arith, h)
 
-pub two_notes : (k : ℕ) (f : Seen → Seen) (e : Event) (seen : List Seen)
-    → map f (filter (λ s. stays_for k s.left) (crowd_after e seen)) ≡ map (λ s. f (seen_after e s)) (filter (λ s. stays_for (suc k) s.left) seen)
-two_notes k f e [] = refl
-two_notes k f e (s ∷ seen) = go (two_notes k f e seen) (stays s.left) refl
+-- a place after one note and then after others
+notes_taken : (e : Event) (notes : List Event) (left : Option ℕ) → stays left ≡ true → e ∷ taken notes (option_map (λ n. n - 1) left) ≡ taken (e ∷ notes) left
+notes_taken e notes None h = refl
+notes_taken e notes (Some zero) h = absurd (cc)
+notes_taken e notes (Some (suc zero)) h = absurd (cc)
+notes_taken e notes (Some (suc (suc n))) h = ap (λ k. e ∷ taken notes (Some k)) one_less
   where
-    later : map f (filter (λ s. stays_for k s.left) (crowd_after e seen)) ≡ map (λ s. f (seen_after e s)) (filter (λ s. stays_for (suc k) s.left) seen)
-        → (b : Bool) → map f (cond b (seen_after e s ∷ filter (λ s. stays_for k s.left) (crowd_after e seen)) (filter (λ s. stays_for k s.left) (crowd_after e seen)))
-        ≡ map (λ s. f (seen_after e s)) (cond b (s ∷ filter (λ s. stays_for (suc k) s.left) seen) (filter (λ s. stays_for (suc k) s.left) seen))
-    later rest true = ap (λ l. f (seen_after e s) ∷ l) rest
-    later rest false = rest
+    one_less : suc (suc n) - 1 ≡ suc n
+    one_less = omega arith
 
-    go : map f (filter (λ s. stays_for k s.left) (crowd_after e seen)) ≡ map (λ s. f (seen_after e s)) (filter (λ s. stays_for (suc k) s.left) seen)
-        → (b : Bool) → stays s.left ≡ b → map f (filter (λ s. stays_for k s.left) (crowd_after e (s ∷ seen))) ≡ map (λ s. f (seen_after e s)) (filter (λ s. stays_for (suc k) s.left) (s ∷ seen))
-    go rest true h = rw (h, stays_longer k s.left h) (later rest (stays_for (suc k) s.left))
-    go rest false h = rw (h, stays_no_longer k s.left h) rest
+one_taken : (e : Event) (notes : List Event) (left : Option ℕ) → stays left ≡ false → taken (e ∷ notes) left ≡ e ∷ []
+one_taken e notes None h = absurd (cc)
+one_taken e notes (Some zero) h = refl
+one_taken e notes (Some (suc zero)) h = refl
+one_taken e notes (Some (suc (suc n))) h = absurd (grind (arith, h))
+
+place_noted : (e : Event) (notes : List Event) (p : Place) → after_all notes (after e p) ≡ after_all (e ∷ notes) p
+place_noted e notes (gone text) = refl
+place_noted e notes (here s) = go (stays s.left) refl
+  where
+    go : (b : Bool) → stays s.left ≡ b → after_all notes (after e (here s)) ≡ after_all (e ∷ notes) (here s)
+    go true h =
+        rw (h, stays_longer (length notes) s.left h)
+        (ap (λ l. cond (stays_for (suc (length notes)) s.left) (here (seen_after_all notes (seen_after e s))) (gone (report_of (seen_after_all l s)))) (notes_taken e notes s.left h))
+    go false h = rw (h, stays_no_longer (length notes) s.left h, one_taken e notes s.left h) refl
+
+pub places_noted : (notes : List Event) (places : List Place) → crowd_after_all notes places ≡ map (after_all notes) places
+places_noted [] places = sym (none_more places)
+  where
+    none_more : (places : List Place) → map (after_all []) places ≡ places
+    none_more [] = refl
+    none_more (gone text ∷ places) = ap (λ l. gone text ∷ l) (none_more places)
+    none_more (here s ∷ places) = ap (λ l. here s ∷ l) (none_more places)
+places_noted (e ∷ notes) places = places_noted notes (crowd_after e places) ∙ both places
+  where
+    both : (places : List Place) → map (after_all notes) (crowd_after e places) ≡ map (after_all (e ∷ notes)) places
+    both [] = refl
+    both (p ∷ places) = ap (λ q. q ∷ map (after_all notes) (crowd_after e places)) (place_noted e notes p) ∙ ap (λ l. after_all (e ∷ notes) p ∷ l) (both places)
 
 -- after these notes exactly those are there that were to stay for so many, in the old order, each with all of them
-pub who_stays_is : (notes : List Event) (seen : List Seen)
-    → crowd_after_all notes seen ≡ map (seen_after_all notes) (filter (λ s. stays_for (length notes) s.left) seen)
-who_stays_is [] [] = refl
-who_stays_is [] (s ∷ seen) = ap (λ l. s ∷ l) (who_stays_is [] seen)
-who_stays_is (e ∷ notes) seen = who_stays_is notes (crowd_after e seen) ∙ two_notes (length notes) (seen_after_all notes) e seen
+pub who_stays_is : (notes : List Event) (seen : List Seen) →
+    still_here (crowd_after_all notes (map here seen)) ≡ map (seen_after_all notes) (filter (λ s. stays_for (length notes) s.left) seen)
+who_stays_is notes seen = ap still_here (places_noted notes (map here seen)) ∙ those_here notes seen
+  where
+    one_here : (notes : List Event) (s : Seen) (seen : List Seen) → still_here (map (after_all notes) (map here seen)) ≡ map (seen_after_all notes) (filter (λ s. stays_for (length notes) s.left) seen)
+        → (b : Bool) → stays_for (length notes) s.left ≡ b →
+        still_here (after_all notes (here s) ∷ map (after_all notes) (map here seen)) ≡ map (seen_after_all notes) (filter (λ s. stays_for (length notes) s.left) (s ∷ seen))
+    one_here notes s seen rest true h = rw h (ap (λ l. seen_after_all notes s ∷ l) rest)
+    one_here notes s seen rest false h = rw h rest
 
--- a watcher that is there after some notes stays for one more exactly where it was to stay for all of them
-pub stays_one_more : (k : ℕ) (left : Option ℕ) → stays_for k left ≡ true → stays (option_map (λ n. n - k) left) ≡ stays_for (suc k) left
-stays_one_more zero None h = refl
-stays_one_more zero (Some n) h = grind arith
-stays_one_more (suc k) None h = refl
-stays_one_more (suc k) (Some n) h = grind (arith, h)
+    those_here : (notes : List Event) (seen : List Seen) → still_here (map (after_all notes) (map here seen)) ≡ map (seen_after_all notes) (filter (λ s. stays_for (length notes) s.left) seen)
+    those_here notes [] = refl
+    those_here notes (s ∷ seen) = one_here notes s seen (those_here notes seen) (stays_for (length notes) s.left) refl
 
--- a text stays
-pub text_stays : {W : Type 0} (seen : W → Seen) (report : W → List ℕ) (e : Event) (t : List ℕ) (b c : Place W) → b ≡ gone t → Noted seen report e b c → c ≡ gone t
-text_stays seen report e t (gone u) c is one = one ∙ is
-text_stays seen report e t (here w) c is one = absurd (cc)
+-- who is still there has taken all
+all_taken : (notes : List Event) (left : Option ℕ) → stays_for (length notes) left ≡ true → notes ≡ taken notes left
+all_taken notes None h = refl
+all_taken [] (Some zero) h = refl
+all_taken [] (Some (suc n)) h = refl
+all_taken (e ∷ notes) (Some zero) h = absurd (grind (arith, h))
+all_taken (e ∷ notes) (Some (suc n)) h = sym (take_all (suc n) (e ∷ notes) (grind (arith, h)))
 
--- a place after these notes and one more
-pub place_one_more : {W : Type 0} (seen : W → Seen) (report : W → List ℕ) (notes : List Event) (e : Event) (a b c : Place W)
-    → NotedAll seen report notes a b → Noted seen report e b c → NotedAll seen report (notes ++ e ∷ []) a c
-place_one_more seen report notes e (gone t) b c all one = text_stays seen report e t b c all one
-place_one_more seen report notes e (here w) (gone t) (gone u) all one =
-    let (first, rest, v, is, over, noted, gave) = all in
-    let same : u ≡ t = cc in
-    (first, rest ++ e ∷ [], v, ap (λ l. l ++ e ∷ []) is ∙ append_assoc first rest (e ∷ []), over, noted, same ∙ gave)
-place_one_more seen report notes e (here w) (gone t) (here v) all one = absurd (cc)
-place_one_more seen report notes e (here w) (here v) (here u) all one = (
-  ap (λ n. stays_for n (seen w).left) (length_push_suc notes e) ∙ sym (stays_one_more (length notes) (seen w).left all.0)
-      ∙ ap stays (sym (ap (λ s. s.left) all.1 ∙ left_is notes (seen w))) ∙ one.0,
-  one.1 ∙ ap (seen_after e) all.1 ∙ sym (seen_one_more notes e (seen w)),
-)
-place_one_more seen report notes e (here w) (here v) (gone t) all one =
-    let (done, (u, noted, gave)) = one in (
-      notes ++ e ∷ [],
-      [],
-      u,
-      sym (append-nil (notes ++ e ∷ [])),
-      ap (λ n. stays_for n (seen w).left) (length_push_suc notes e) ∙ sym (stays_one_more (length notes) (seen w).left all.0)
-          ∙ ap stays (sym (ap (λ s. s.left) all.1 ∙ left_is notes (seen w))) ∙ done,
-      noted ∙ ap (seen_after e) all.1 ∙ sym (seen_one_more notes e (seen w)),
-      gave,
-    )
+one_report : (notes : List Event) (s : Seen) (b : Bool) → stays_for (length notes) s.left ≡ b → text_at (after_all notes (here s)) ≡ report_of (seen_after_all (taken notes s.left) s)
+one_report notes s true h = rw h (ap (λ l. report_of (seen_after_all l s)) (all_taken notes s.left h))
+one_report notes s false h = rw h refl
 
--- all places after these notes and one more
-pub places_one_more : {W : Type 0} (seen : W → Seen) (report : W → List ℕ) (notes : List Event) (e : Event) (as_ bs cs : List (Place W))
-    → AllZip (NotedAll seen report notes) as_ bs → AllZip (Noted seen report e) bs cs → AllZip (NotedAll seen report (notes ++ e ∷ [])) as_ cs
-places_one_more seen report notes e [] [] [] all one = tt
-places_one_more seen report notes e [] [] (c ∷ cs) all one = absurd one
-places_one_more seen report notes e [] (b ∷ bs) cs all one = absurd all
-places_one_more seen report notes e (a ∷ as_) [] cs all one = absurd all
-places_one_more seen report notes e (a ∷ as_) (b ∷ bs) [] all one = absurd one
-places_one_more seen report notes e (a ∷ as_) (b ∷ bs) (c ∷ cs) all one =
-    (place_one_more seen report notes e a b c all.0 one.0, places_one_more seen report notes e as_ bs cs all.1 one.1)
-
--- no note changes no place
-pub places_at_first : {W : Type 0} (seen : W → Seen) (report : W → List ℕ) (places : List (Place W)) → AllZip (NotedAll seen report []) places places
-places_at_first seen report [] = tt
-places_at_first seen report (gone t ∷ places) = (refl, places_at_first seen report places)
-places_at_first seen report (here w ∷ places) = ((refl, refl), places_at_first seen report places)
+pub reports_are : (notes : List Event) (seen : List Seen) → reports (crowd_after_all notes (map here seen)) ≡ flat_map (λ s. report_of (seen_after_all (taken notes s.left) s)) seen
+reports_are notes seen = ap reports (places_noted notes (map here seen)) ∙ those seen
+  where
+    those : (seen : List Seen) → reports (map (after_all notes) (map here seen)) ≡ flat_map (λ s. report_of (seen_after_all (taken notes s.left) s)) seen
+    those [] = refl
+    those (s ∷ seen) = ap (λ l. l ++ reports (map (after_all notes) (map here seen))) (one_report notes s (stays_for (length notes) s.left) refl)
+        ∙ ap (λ l. report_of (seen_after_all (taken notes s.left) s) ++ l) (those seen)

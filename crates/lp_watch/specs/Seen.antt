@@ -24,16 +24,17 @@ count t back = record t { backs = one_more t.backs }
 count t (answer k) = record t { answers = one_more t.answers }
 count t cut = record t { cuts = one_more t.cuts }
 
--- what is seen of a watcher: its tally of the notes; the notes, where it tells them; and how many notes it
--- still takes, or none where it takes all
+-- what is seen of a watcher: its tally of the notes; the notes, where it tells them; how many notes it still takes, or none where it takes all; and how its report is made of its
+-- tally and its notes
 pub record Seen : Type 0 where
   pub tally : Counts
   pub told : Option (List Event)
   pub left : Option ℕ
+  pub shows : Counts → Option (List Event) → List ℕ
 
 -- one note later: it is counted, told at the end, and one fewer is taken
 abbrev pub seen_after : Event → Seen → Seen
-seen_after e s = record { tally = count s.tally e; told = option_map (λ notes. notes ++ e ∷ []) s.told; left = option_map (λ n. n - 1) s.left }
+seen_after e s = record { tally = count s.tally e; told = option_map (λ notes. notes ++ e ∷ []) s.told; left = option_map (λ n. n - 1) s.left; shows = s.shows }
 
 -- the watcher takes more notes after the next one: it takes all, or more than one
 abbrev pub stays : Option ℕ → Bool

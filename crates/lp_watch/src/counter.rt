@@ -2,7 +2,7 @@
 ghost use Rattle.std.specs.Prelude.{◌≡◌, ◌++◌, ◌↔◌, None, IfOk, OnErr, false, codes, decimal};
 ghost use Rattle.lp_watch.specs.Kept.{counts_of};
 ghost use Rattle.lp_watch.specs.Notes.{event_of};
-ghost use Rattle.lp_watch.specs.Reports.{counts_line};
+ghost use Rattle.lp_watch.specs.Reports.{report_of, shows_counts};
 ghost use Rattle.lp_watch.specs.Seen.{Seen, count, no_counts, seen_after, stays};
 
 use crate::tally::{Tally, add_count};
@@ -20,7 +20,7 @@ pub struct Counter {
 impl Counter {
     /// A counter without notes.
     pub fn new() -> Counter
-        ensures { ⟦<Counter as Watch>⟧.seen result ≡ record { tally = no_counts; told = None; left = None } }
+        ensures { ⟦<Counter as Watch>⟧.seen result ≡ record { tally = no_counts; told = None; left = None; shows = shows_counts } }
     {
         Counter {
             tally: Tally::new(),
@@ -29,9 +29,7 @@ impl Counter {
 }
 
 impl Watch for Counter {
-    ghost seen = { λ c. record { tally = counts_of c.tally; told = None; left = None } };
-
-    ghost report = { λ c. counts_line (counts_of c.tally) };
+    ghost seen = { λ c. record { tally = counts_of c.tally; told = None; left = None; shows = shows_counts } };
 
     fn note(&mut self, note: Note<'_>) -> Result<Go, Memory> {
         self.tally.count(note);

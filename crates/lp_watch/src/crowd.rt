@@ -1,8 +1,9 @@
 // All watchers of a run, over a list that was lent.
 ghost use Rattle.std.specs.Prelude.{◌≡◌, ◌≤◌, ◌<◌, ◌++◌, ℕ, [], None, Some, set, remove, IfOk, OnOk, OnErr, map, length, replicate};
-ghost use Rattle.std.specs.List.{AllZip, flat_map};
-ghost use Rattle.lp_watch.specs.Crowd.{crowd_after, ReachesPart, places, open_places, Noted, text_at};
+ghost use Rattle.std.specs.List.{flat_map};
+ghost use Rattle.lp_watch.specs.Crowd.{crowd_after, ReachesPart, places, open_places, reports};
 ghost use Rattle.lp_watch.specs.Notes.{event_of};
+ghost use Rattle.lp_watch.specs.Reports.{report_of};
 
 use crate::{Go, Note, Watch};
 use lp_base::Memory;
@@ -71,9 +72,8 @@ fn tell_places<W: Watch>(
     note: Note<'_>,
 ) -> Result<(), Memory>
     requires { length watchers.old.items ≤ open_places texts.old.items }
-    ensures told { OnOk result (map W.seen watchers.new.items ≡ crowd_after (event_of note.entry) (map W.seen watchers.old.items)) }
-    ensures noted { OnOk result (AllZip (Noted W.seen W.report (event_of note.entry)) (places texts.old.items watchers.old.items) (places texts.new.items watchers.new.items)) }
-    ensures memory { OnErr result (ReachesPart (event_of note.entry) (map W.seen watchers.old.items) (map W.seen watchers.new.items)) }
+    ensures told { OnOk result (places texts.new.items (map W.seen watchers.new.items) ≡ crowd_after (event_of note.entry) (places texts.old.items (map W.seen watchers.old.items))) }
+    ensures memory { OnErr result (ReachesPart (event_of note.entry) (places texts.old.items (map W.seen watchers.old.items)) (places texts.new.items (map W.seen watchers.new.items))) }
 {
     let mut i = 0;
     for place in 0..texts.len() {
@@ -95,7 +95,7 @@ fn tell_places<W: Watch>(
 
 // Appends the reports of these watchers.
 fn add_reports<W: Watch>(alloc: Global, out: &mut Vec<u8>, watchers: &[W]) -> Result<(), Memory>
-    ensures { OnOk result (out.new.items ≡ out.old.items ++ flat_map W.report watchers.now) }
+    ensures { OnOk result (out.new.items ≡ out.old.items ++ flat_map (λ w. report_of (W.seen w)) watchers.now) }
 {
     for watcher in watchers {
         out.extend_from_slice(watcher.text(alloc)?.as_slice())?;
@@ -110,7 +110,7 @@ fn add_places<W: Watch>(
     texts: &[Option<Vec<u8>>],
     watchers: &[W],
 ) -> Result<(), Memory>
-    ensures { OnOk result (out.new.items ≡ out.old.items ++ flat_map (text_at W.report) (places texts.now watchers.now)) }
+    ensures { OnOk result (out.new.items ≡ out.old.items ++ reports (places texts.now (map W.seen watchers.now))) }
 {
     let mut i = 0;
     for text in texts {
@@ -153,9 +153,8 @@ impl<'a, W: Watch> Lent<'a, W, Vec<Option<Vec<u8>>>> {
     /// Gives a note to each watcher.
     pub fn tell(&mut self, note: Note<'_>) -> Result<(), Memory>
         ensures same_reference { self.new.watchers.ghost_name ≡ self.old.watchers.ghost_name }
-        ensures told { OnOk result (map W.seen self.new.watchers.now.items ≡ crowd_after (event_of note.entry) (map W.seen self.old.watchers.now.items)) }
-        ensures noted { OnOk result (AllZip (Noted W.seen W.report (event_of note.entry)) (places self.old.texts.items self.old.watchers.now.items) (places self.new.texts.items self.new.watchers.now.items)) }
-        ensures memory { OnErr result (ReachesPart (event_of note.entry) (map W.seen self.old.watchers.now.items) (map W.seen self.new.watchers.now.items)) }
+        ensures told { OnOk result (places self.new.texts.items (map W.seen self.new.watchers.now.items) ≡ crowd_after (event_of note.entry) (places self.old.texts.items (map W.seen self.old.watchers.now.items))) }
+        ensures memory { OnErr result (ReachesPart (event_of note.entry) (places self.old.texts.items (map W.seen self.old.watchers.now.items)) (places self.new.texts.items (map W.seen self.new.watchers.now.items))) }
     {
         make_places(&mut self.texts, self.watchers.len())?;
         tell_places(self.alloc, self.watchers, &mut self.texts, note)
@@ -163,7 +162,7 @@ impl<'a, W: Watch> Lent<'a, W, Vec<Option<Vec<u8>>>> {
 
     /// The reports in list order. Where a watcher is gone, the text that it left stands.
     pub fn reports(&self) -> Result<Vec<u8>, Memory>
-        ensures { IfOk result (λ bytes. bytes.items ≡ flat_map (text_at W.report) (places self.now.texts.items self.now.watchers.now.items)) }
+        ensures { IfOk result (λ bytes. bytes.items ≡ reports (places self.now.texts.items (map W.seen self.now.watchers.now.items))) }
     {
         let mut out = Vec::new(self.alloc);
         add_places(self.alloc, &mut out, &self.texts, self.watchers)?;

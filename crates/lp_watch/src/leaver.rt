@@ -2,6 +2,7 @@
 ghost use Rattle.std.specs.Prelude.{◌≡◌, ◌<◌, ◌↔◌, [], Some, IfOk, OnErr, false};
 ghost use Rattle.lp_watch.specs.Kept.{counts_of, kept_event};
 ghost use Rattle.lp_watch.specs.Notes.{event_of};
+ghost use Rattle.lp_watch.specs.Reports.{report_of, shows_notes};
 ghost use Rattle.lp_watch.specs.Seen.{Seen, no_counts, seen_after, stays};
 
 use crate::{Go, Note, Tracer, Watch};
@@ -18,7 +19,7 @@ impl Leaver {
     /// Leaves at its `n`-th note.
     pub fn at(alloc: Global, n: u64) -> Leaver
         requires { 0 < n }
-        ensures { ⟦<Leaver as Watch>⟧.seen result ≡ record { tally = no_counts; told = Some []; left = Some n } }
+        ensures { ⟦<Leaver as Watch>⟧.seen result ≡ record { tally = no_counts; told = Some []; left = Some n; shows = shows_notes } }
     {
         Leaver {
             tracer: Tracer::first(alloc, n),
@@ -28,8 +29,6 @@ impl Leaver {
 
 impl Watch for Leaver {
     ghost seen = { λ l. ⟦<Tracer as Watch>⟧.seen l.tracer };
-
-    ghost report = { λ l. ⟦<Tracer as Watch>⟧.report l.tracer };
 
     fn note(&mut self, note: Note<'_>) -> Result<Go, Memory> {
         self.tracer.note(note)

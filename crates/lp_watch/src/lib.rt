@@ -22,7 +22,9 @@ mod watch;
 
 pub use counter::Counter;
 pub use crowd::{Crowd, Lent};
-pub use laws::{each_has_the_notes, notes_add_up, places_add_up, who_stays};
+pub use laws::{
+    each_has_the_notes, each_place_is_noted, each_reports_what_it_took, notes_add_up, who_stays,
+};
 pub use leaver::Leaver;
 pub use note::{Go, Note};
 pub use refuser::Refuser;

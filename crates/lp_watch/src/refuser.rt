@@ -1,9 +1,8 @@
 // The watcher for tests that has no memory.
 ghost use Rattle.std.specs.Prelude.{◌≡◌, ◌↔◌, [], None, Some, IfOk, OnErr, false, map};
-ghost use Rattle.std.specs.List.{flat_map};
 ghost use Rattle.lp_watch.specs.Kept.{counts_of, kept_event};
 ghost use Rattle.lp_watch.specs.Notes.{event_of};
-ghost use Rattle.lp_watch.specs.Reports.{line_of};
+ghost use Rattle.lp_watch.specs.Reports.{report_of, shows_notes};
 ghost use Rattle.lp_watch.specs.Seen.{Seen, no_counts, seen_after, stays};
 
 use crate::tally::Tally;
@@ -24,7 +23,7 @@ pub struct Refuser {
 impl Refuser {
     /// Wants memory at its `n`-th note and at each later one.
     pub fn at(alloc: Global, n: u64) -> Refuser
-        ensures { ⟦<Refuser as Watch>⟧.seen result ≡ record { tally = no_counts; told = Some []; left = None } }
+        ensures { ⟦<Refuser as Watch>⟧.seen result ≡ record { tally = no_counts; told = Some []; left = None; shows = shows_notes } }
     {
         Refuser {
             alloc,
@@ -36,9 +35,7 @@ impl Refuser {
 }
 
 impl Watch for Refuser {
-    ghost seen = { λ r. record { tally = counts_of r.tally; told = Some (map kept_event r.notes.items); left = None } };
-
-    ghost report = { λ r. flat_map line_of (map kept_event r.notes.items) };
+    ghost seen = { λ r. record { tally = counts_of r.tally; told = Some (map kept_event r.notes.items); left = None; shows = shows_notes } };
 
     fn note(&mut self, note: Note<'_>) -> Result<Go, Memory> {
         if self.before == 0 {

@@ -3,7 +3,7 @@ ghost use Rattle.std.specs.Prelude.{◌≡◌, ◌<◌, ◌++◌, ◌↔◌, [],
 ghost use Rattle.std.specs.List.{flat_map};
 ghost use Rattle.lp_watch.specs.Kept.{counts_of, kept_event};
 ghost use Rattle.lp_watch.specs.Notes.{event_of};
-ghost use Rattle.lp_watch.specs.Reports.{line_of};
+ghost use Rattle.lp_watch.specs.Reports.{line_of, report_of, shows_notes};
 ghost use Rattle.lp_watch.specs.Seen.{Seen, count, no_counts, seen_after, stays};
 
 use crate::tally::{Tally, add_count};
@@ -75,7 +75,7 @@ impl Tracer {
     /// A tracer of the first `n` notes.
     pub fn first(alloc: Global, n: u64) -> Tracer
         requires { 0 < n }
-        ensures { ⟦<Tracer as Watch>⟧.seen result ≡ record { tally = no_counts; told = Some []; left = Some n } }
+        ensures { ⟦<Tracer as Watch>⟧.seen result ≡ record { tally = no_counts; told = Some []; left = Some n; shows = shows_notes } }
     {
         Tracer {
             alloc,
@@ -87,9 +87,7 @@ impl Tracer {
 }
 
 impl Watch for Tracer {
-    ghost seen = { λ t. record { tally = counts_of t.tally; told = Some (map kept_event t.notes.items); left = Some t.left } };
-
-    ghost report = { λ t. flat_map line_of (map kept_event t.notes.items) };
+    ghost seen = { λ t. record { tally = counts_of t.tally; told = Some (map kept_event t.notes.items); left = Some t.left; shows = shows_notes } };
 
     fn note(&mut self, note: Note<'_>) -> Result<Go, Memory> {
         self.notes.push(keep(self.alloc, note)?)?;

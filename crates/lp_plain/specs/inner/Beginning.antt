@@ -6,7 +6,7 @@ use Rattle.lp_model.specs.Search.{look}
 use Rattle.lp_model.specs.Skeleton.{Breaks, Goes, Inner, Move, Note, State, Stops, Tells, Waits, move}
 use Rattle.lp_model.specs.Unify.{unit_limit}
 use Rattle.lp_model.specs.declared.program.Declared.{Declared as Named}
-use Rattle.lp_watch.specs.Seen.{Seen}
+use Rattle.lp_watch.specs.Crowd.{Place}
 use Rattle.lp_plain.specs.declared.machine.Machine.{Machine}
 use Rattle.lp_plain.specs.Hearing.{HearsPart}
 
@@ -23,7 +23,7 @@ abbrev pub IsToldFirst : State Task → Note → Type 0
 IsToldFirst s n = (k : ℕ) → s.answers ≡ suc k → (go : (Answer → Bool) → State Task → Inner) (enough : ℕ) (P : List Clause) → TellsFirst n (move go (look unit_limit enough P) s)
 
 -- nothing was heard, or that note, at least by a first part of the watchers
-abbrev pub HearsFirst : List Named → (old new : List Seen) → State Task → Type 0
+abbrev pub HearsFirst : List Named → (old new : List Place) → State Task → Type 0
 HearsFirst cs old new s = (new ≡ old) ⊎ ((n : Note) × IsToldFirst s n × HearsPart cs (n ∷ []) old new)
 
 -- no step was counted, or the one that this move takes

@@ -9,7 +9,7 @@ use Rattle.lp_model.specs.Unify.{unit_limit}
 use Rattle.lp_model.specs.declared.program.Declared.{Declared as Named}
 use Rattle.lp_model.specs.declared.ending.Ending.{Ending}
 use Rattle.lp_model.specs.declared.ending.Ending.TheVariants.{Deep}
-use Rattle.lp_watch.specs.Seen.{Seen}
+use Rattle.lp_watch.specs.Crowd.{Place}
 use Rattle.lp_plain.specs.declared.events.Told.{Told}
 use Rattle.lp_plain.specs.declared.machine.Machine.{Machine}
 use Rattle.lp_plain.specs.declared.outcome.Turn.{Turn}
@@ -107,8 +107,8 @@ Rests c x y Turn.Answered n = (z : Tally) × (x ≡ both y z) × Stands c z Turn
 Rests c x y (Turn.Ended e) n = IsTold c x y e
 
 -- a turn of this course was taken: what was heard in it, and what stands behind it
-abbrev pub Follows : Course → (constants : List Named) → Tally → (old new : Machine) → (heard now : List Seen) → Turn → Type 0
+abbrev pub Follows : Course → (constants : List Named) → Tally → (old new : Machine) → (heard now : List Place) → Turn → Type 0
 Follows c cs x m n old now turn = (y : Tally) × HeardBy cs m n old now y × Leaves c x y turn n
 
-abbrev pub Passes : Course → (constants : List Named) → Tally → (old new : Machine) → (heard now : List Seen) → Turn → Type 0
+abbrev pub Passes : Course → (constants : List Named) → Tally → (old new : Machine) → (heard now : List Place) → Turn → Type 0
 Passes c cs x m n old now turn = (y : Tally) × HeardBy cs m n old now y × Rests c x y turn n

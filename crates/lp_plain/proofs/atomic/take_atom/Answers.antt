@@ -1,4 +1,5 @@
 use Rattle.std.proofs.Common.{◌∙◌, ap, map, refl}
+use Rattle.lp_watch.specs.Crowd.{places}
 use Rattle.lp_model.specs.Skeleton.{GoalNote, variable}
 use Rattle.lp_plain.specs.declared.form.Form.TheVariants as form
 use Rattle.lp_plain.specs.Hearing.{form_name}
@@ -42,8 +43,8 @@ returns-then-not-take_step-clause-leads g c = λ qv a raw s h at i sf inside.
 
 pub returns-in_ok-unified-in-Equal-clause-leads : goal.returns-in_ok-unified-in-Equal-clause-leads
 returns-in_ok-unified-in-Equal-clause-leads g c = λ qv a raw s h at i sf inside.
-    let old = map g.W.Watch.seen c.args.crowd.now.watchers.now.items in
-    let new = map g.W.Watch.seen c.tell_goal.new.crowd.watchers.now.items in
+    let old = places c.args.crowd.now.texts.items (map g.W.Watch.seen c.args.crowd.now.watchers.now.items) in
+    let new = places c.tell_goal.new.crowd.texts.items (map g.W.Watch.seen c.tell_goal.new.crowd.watchers.now.items) in
     let m = c.args.machine.now in
     let k = c.take_step.new.machine in
     let o = c.args.behind in
@@ -67,8 +68,8 @@ returns-in_ok-unified-in-Equal-clause-leads g c = λ qv a raw s h at i sf inside
 
 pub returns-in_ok-turn-in-Is-clause-leads : goal.returns-in_ok-turn-in-Is-clause-leads
 returns-in_ok-turn-in-Is-clause-leads g c = λ qv a raw s h at i sf inside.
-    let old = map g.W.Watch.seen c.args.crowd.now.watchers.now.items in
-    let new = map g.W.Watch.seen c.tell_goal.new.crowd.watchers.now.items in
+    let old = places c.args.crowd.now.texts.items (map g.W.Watch.seen c.args.crowd.now.watchers.now.items) in
+    let new = places c.tell_goal.new.crowd.texts.items (map g.W.Watch.seen c.tell_goal.new.crowd.watchers.now.items) in
     let m = c.args.machine.now in
     let k = c.take_step.new.machine in
     let o = c.args.behind in
@@ -91,8 +92,8 @@ returns-in_ok-turn-in-Is-clause-leads g c = λ qv a raw s h at i sf inside.
 
 pub returns-in_ok-turn-in-Order-clause-leads : goal.returns-in_ok-turn-in-Order-clause-leads
 returns-in_ok-turn-in-Order-clause-leads g c = λ qv a raw s h at i sf inside.
-    let old = map g.W.Watch.seen c.args.crowd.now.watchers.now.items in
-    let new = map g.W.Watch.seen c.tell_goal.new.crowd.watchers.now.items in
+    let old = places c.args.crowd.now.texts.items (map g.W.Watch.seen c.args.crowd.now.watchers.now.items) in
+    let new = places c.tell_goal.new.crowd.texts.items (map g.W.Watch.seen c.tell_goal.new.crowd.watchers.now.items) in
     let m = c.args.machine.now in
     let k = c.take_step.new.machine in
     let o = c.args.behind in
@@ -116,8 +117,8 @@ returns-in_ok-turn-in-Order-clause-leads g c = λ qv a raw s h at i sf inside.
 
 pub returns-in_ok-turn-in-Call-clause-leads : goal.returns-in_ok-turn-in-Call-clause-leads
 returns-in_ok-turn-in-Call-clause-leads g c = λ qv a raw s h at i sf inside.
-    let old = map g.W.Watch.seen c.args.crowd.now.watchers.now.items in
-    let new = map g.W.Watch.seen c.tell_goal.new.crowd.watchers.now.items in
+    let old = places c.args.crowd.now.texts.items (map g.W.Watch.seen c.args.crowd.now.watchers.now.items) in
+    let new = places c.tell_goal.new.crowd.texts.items (map g.W.Watch.seen c.tell_goal.new.crowd.watchers.now.items) in
     let m = c.args.machine.now in
     let k = c.take_step.new.machine in
     let o = c.args.behind in
@@ -131,8 +132,8 @@ returns-in_ok-turn-in-Call-clause-leads g c = λ qv a raw s h at i sf inside.
 
 pub returns-in-Flexible-clause-leads : goal.returns-in-Flexible-clause-leads
 returns-in-Flexible-clause-leads g c = λ qv a raw s h at i sf inside.
-    let old = map g.W.Watch.seen c.args.crowd.now.watchers.now.items in
-    let new = map g.W.Watch.seen c.tell_goal.new.crowd.watchers.now.items in
+    let old = places c.args.crowd.now.texts.items (map g.W.Watch.seen c.args.crowd.now.watchers.now.items) in
+    let new = places c.tell_goal.new.crowd.texts.items (map g.W.Watch.seen c.tell_goal.new.crowd.watchers.now.items) in
     let m = c.args.machine.now in
     let k = c.take_step.new.machine in
     let o = c.args.behind in
@@ -149,8 +150,8 @@ returns-in-Flexible-clause-leads g c = λ qv a raw s h at i sf inside.
 
 pub returns-in-Other-clause-leads : goal.returns-in-Other-clause-leads
 returns-in-Other-clause-leads g c = λ qv a raw s h at i sf inside.
-    let old = map g.W.Watch.seen c.args.crowd.now.watchers.now.items in
-    let new = map g.W.Watch.seen c.tell_goal.new.crowd.watchers.now.items in
+    let old = places c.args.crowd.now.texts.items (map g.W.Watch.seen c.args.crowd.now.watchers.now.items) in
+    let new = places c.tell_goal.new.crowd.texts.items (map g.W.Watch.seen c.tell_goal.new.crowd.watchers.now.items) in
     let m = c.args.machine.now in
     let k = c.take_step.new.machine in
     let o = c.args.behind in

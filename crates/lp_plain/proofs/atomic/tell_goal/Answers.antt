@@ -1,6 +1,6 @@
 use Rattle.std.proofs.Common.{◌∙◌, ap, map, sym}
 use Rattle.std.proofs.lemmas.Result.{on_ok_weaker}
-use Rattle.lp_watch.specs.Crowd.{crowd_after}
+use Rattle.lp_watch.specs.Crowd.{crowd_after, places}
 use Rattle.lp_watch.specs.Notes.{goal as told_goal}
 use Rattle.lp_plain.specs.Forms.{order_number}
 use Rattle.lp_plain.specs.Hearing.{constant_text}
@@ -13,30 +13,30 @@ use Rattle.lp_plain.proofs.atomic.tell_goal.Goals as goal
 pub returns-in-Order-clause-told : goal.returns-in-Order-clause-told
 returns-in-Order-clause-told g c =
     let cs = c.args.constants.now in
-    let old = map g.W.Watch.seen c.args.crowd.now.watchers.now.items in
-    let new = map g.W.Watch.seen c.tell-in-Order.new.self.watchers.now.items in
+    let old = places c.args.crowd.now.texts.items (map g.W.Watch.seen c.args.crowd.now.watchers.now.items) in
+    let new = places c.tell-in-Order.new.self.texts.items (map g.W.Watch.seen c.tell-in-Order.new.self.watchers.now.items) in
     on_ok_weaker c.tell-in-Order.result
     (λ h. heard_as cs old new _ c.args.form (sym c.in-Order.is)
     (h ∙ ap (λ bs. crowd_after (told_goal bs) old) (c.name-in-Order.ensures ∙ sym (ap (constant_text cs (order_number c.in-Order.order)) c.order_constant.ensures)))) c.tell-in-Order.ensures.told
 
 pub returns-in-Call-clause-told : goal.returns-in-Call-clause-told
 returns-in-Call-clause-told g c =
-    let old = map g.W.Watch.seen c.args.crowd.now.watchers.now.items in
-    let new = map g.W.Watch.seen c.tell_head.new.crowd.watchers.now.items in
+    let old = places c.args.crowd.now.texts.items (map g.W.Watch.seen c.args.crowd.now.watchers.now.items) in
+    let new = places c.tell_head.new.crowd.texts.items (map g.W.Watch.seen c.tell_head.new.crowd.watchers.now.items) in
     on_ok_weaker c.tell_head.result (λ h. heard_as c.args.constants.now old new _ c.args.form (sym c.in-Call.is) h) c.tell_head.ensures.told
 
 pub returns-in-Flexible-clause-told : goal.returns-in-Flexible-clause-told
 returns-in-Flexible-clause-told g c =
     let cs = c.args.constants.now in
-    let old = map g.W.Watch.seen c.args.crowd.now.watchers.now.items in
-    let new = map g.W.Watch.seen c.tell_variable.new.crowd.watchers.now.items in
+    let old = places c.args.crowd.now.texts.items (map g.W.Watch.seen c.args.crowd.now.watchers.now.items) in
+    let new = places c.tell_variable.new.crowd.texts.items (map g.W.Watch.seen c.tell_variable.new.crowd.watchers.now.items) in
     on_ok_weaker c.tell_variable.result (λ f. heard_as cs old new _ c.args.form (sym c.in-Flexible.is) (f cs)) c.tell_variable.ensures.told
 
 pub returns-in-Other-clause-told : goal.returns-in-Other-clause-told
 returns-in-Other-clause-told g c =
     let cs = c.args.constants.now in
-    let old = map g.W.Watch.seen c.args.crowd.now.watchers.now.items in
-    let new = map g.W.Watch.seen c.tell_variable-in-Other.new.crowd.watchers.now.items in
+    let old = places c.args.crowd.now.texts.items (map g.W.Watch.seen c.args.crowd.now.watchers.now.items) in
+    let new = places c.tell_variable-in-Other.new.crowd.texts.items (map g.W.Watch.seen c.tell_variable-in-Other.new.crowd.watchers.now.items) in
     on_ok_weaker c.tell_variable-in-Other.result (λ f. heard_as cs old new _ c.args.form (sym c.in-Other.is) (f cs)) c.tell_variable-in-Other.ensures.told
 
 pub returns-in-Equal-clause-part : goal.returns-in-Equal-clause-part

@@ -1,4 +1,5 @@
 use Rattle.std.proofs.Common.{◌∙◌, map, refl, subst}
+use Rattle.lp_watch.specs.Crowd.{places}
 use Rattle.lp_plain.specs.inner.Following.{Passes}
 use Rattle.lp_plain.proofs.Passing.{passes_back, passes_first, passes_on}
 use Rattle.lp_plain.proofs.HeardParts.{part_none, parts_behind}
@@ -8,14 +9,14 @@ use Rattle.lp_plain.proofs.events.run.Goals as goal
 
 pub turns-init : goal.turns-init
 turns-init g c =
-    let old = map g.W.Watch.seen c.args.crowd.now.watchers.now.items in
+    let old = places c.args.crowd.now.texts.items (map g.W.Watch.seen c.args.crowd.now.watchers.now.items) in
     ((λ k x h. passes_first k c.args.constants.now x c.args.machine.now old c.args.first h), refl, λ k x h. part_none c.args.constants.now x.notes old old refl, λ k x h. omega arith)
 
 pub turns-preserved-in-On : goal.turns-preserved-in-On
 turns-preserved-in-On g c =
-    let old = map g.W.Watch.seen c.args.crowd.now.watchers.now.items in
-    let mid = map g.W.Watch.seen c.turns.crowd.watchers.now.items in
-    let new = map g.W.Watch.seen c.take_turn.new.crowd.watchers.now.items in (
+    let old = places c.args.crowd.now.texts.items (map g.W.Watch.seen c.args.crowd.now.watchers.now.items) in
+    let mid = places c.turns.crowd.texts.items (map g.W.Watch.seen c.turns.crowd.watchers.now.items) in
+    let new = places c.take_turn.new.crowd.texts.items (map g.W.Watch.seen c.take_turn.new.crowd.watchers.now.items) in (
       (λ k x h.
           passes_on k c.args.constants.now x c.args.machine.now c.turns.machine c.take_turn.new.machine old mid new c.turns.turn c.in_ok-turn-in-On.turn c.in-On.is
           (c.turns.invariant.0 k x h) (λ z s. c.in_ok-turn-in-On.ensures.stands k z s)),
@@ -31,9 +32,9 @@ turns-preserved-in-On g c =
 
 pub turns-preserved : goal.turns-preserved
 turns-preserved g c =
-    let old = map g.W.Watch.seen c.args.crowd.now.watchers.now.items in
-    let mid = map g.W.Watch.seen c.turns.crowd.watchers.now.items in
-    let new = map g.W.Watch.seen c.take_turn-in-Back.new.crowd.watchers.now.items in (
+    let old = places c.args.crowd.now.texts.items (map g.W.Watch.seen c.args.crowd.now.watchers.now.items) in
+    let mid = places c.turns.crowd.texts.items (map g.W.Watch.seen c.turns.crowd.watchers.now.items) in
+    let new = places c.take_turn-in-Back.new.crowd.texts.items (map g.W.Watch.seen c.take_turn-in-Back.new.crowd.watchers.now.items) in (
       (λ k x h.
           passes_back k c.args.constants.now x c.args.machine.now c.turns.machine c.take_turn-in-Back.new.machine old mid new c.turns.turn c.in_ok-turn-in-Back.turn c.in-Back.is
           (c.turns.invariant.0 k x h) (λ z s. c.in_ok-turn-in-Back.ensures.stands k z s)),
@@ -49,14 +50,14 @@ turns-preserved g c =
 
 pub returns-in-Answered-clause-stands : goal.returns-in-Answered-clause-stands
 returns-in-Answered-clause-stands g c = λ k x h.
-    let old = map g.W.Watch.seen c.args.crowd.now.watchers.now.items in
-    let new = map g.W.Watch.seen c.turns.crowd.watchers.now.items in
+    let old = places c.args.crowd.now.texts.items (map g.W.Watch.seen c.args.crowd.now.watchers.now.items) in
+    let new = places c.turns.crowd.texts.items (map g.W.Watch.seen c.turns.crowd.watchers.now.items) in
     subst (Passes k c.args.constants.now x c.args.machine.now c.turns.machine old new) c.in-Answered.is (c.turns.invariant.0 k x h)
 
 pub returns-in-Ended-clause-stands : goal.returns-in-Ended-clause-stands
 returns-in-Ended-clause-stands g c = λ k x h.
-    let old = map g.W.Watch.seen c.args.crowd.now.watchers.now.items in
-    let new = map g.W.Watch.seen c.turns.crowd.watchers.now.items in
+    let old = places c.args.crowd.now.texts.items (map g.W.Watch.seen c.args.crowd.now.watchers.now.items) in
+    let new = places c.turns.crowd.texts.items (map g.W.Watch.seen c.turns.crowd.watchers.now.items) in
     subst (Passes k c.args.constants.now x c.args.machine.now c.turns.machine old new) c.in-Ended.is (c.turns.invariant.0 k x h)
 
 pub returns-in-Answered-clause-same : goal.returns-in-Answered-clause-same

@@ -1,4 +1,5 @@
 use Rattle.std.proofs.Common.{[], ◌∷◌, ◌++◌, ◌∙◌, ap, map, refl}
+use Rattle.lp_watch.specs.Crowd.{places}
 use Rattle.lp_model.specs.Skeleton.{GoalNote, eigenconstant}
 use Rattle.lp_watch.specs.Notes.{goal as told_goal}
 use Rattle.lp_plain.proofs.HeardParts.{part_none, told_part}
@@ -6,12 +7,12 @@ use Rattle.lp_plain.proofs.name.tell_eigen.Goals as goal
 
 pub returns-in_err-push-clause-part : goal.returns-in_err-push-clause-part
 returns-in_err-push-clause-part g c = λ cs.
-    let old = map g.W.Watch.seen c.args.crowd.now.watchers.now.items in
+    let old = places c.args.crowd.now.texts.items (map g.W.Watch.seen c.args.crowd.now.watchers.now.items) in
     part_none cs (GoalNote (eigenconstant c.args.level) ∷ []) old old refl
 
 pub returns-in_err-extend_from_slice-clause-part : goal.returns-in_err-extend_from_slice-clause-part
 returns-in_err-extend_from_slice-clause-part g c = λ cs.
-    let old = map g.W.Watch.seen c.args.crowd.now.watchers.now.items in
+    let old = places c.args.crowd.now.texts.items (map g.W.Watch.seen c.args.crowd.now.watchers.now.items) in
     part_none cs (GoalNote (eigenconstant c.args.level) ∷ []) old old refl
 
 pub returns-clause-part : goal.returns-clause-part

@@ -2,7 +2,7 @@ use Rattle.lp_model.specs.Skeleton.{GoalNote, named, not_constant}
 use Rattle.lp_plain.specs.Moving.{quiet, taking}
 use Rattle.lp_plain.proofs.Hearing.{plus_none}
 use Rattle.std.proofs.Common.{refl, subst, ap, map, ◌∙◌}
-use Rattle.lp_watch.specs.Crowd.{crowd_after}
+use Rattle.lp_watch.specs.Crowd.{crowd_after, places}
 use Rattle.lp_watch.specs.Notes.{goal as told_goal}
 use Rattle.lp_plain.specs.Negations.{AreFound}
 use Rattle.lp_plain.specs.declared.openness.Openness.TheVariants.{Closed, Open, Deep}
@@ -101,7 +101,7 @@ returns-then-not-take_step-clause-denies g c = λ qv a raw s h at. (
 
 pub returns-in-Deep-clause-denies : goal.returns-in-Deep-clause-denies
 returns-in-Deep-clause-denies g c = λ qv a raw s h at.
-    let old = map g.W.Watch.seen c.args.crowd.now.watchers.now.items in
+    let old = places c.args.crowd.now.texts.items (map g.W.Watch.seen c.args.crowd.now.watchers.now.items) in
     let goals : Standing = record { free = c.args.free; values = c.args.place.values; older = c.args.place.standing } in (
       taking (GoalNote (named not_constant)),
       (λ cs. ((ap (λ z. z.counts.steps) c.in_ok-openness_at.ensures.bank.same ∙ ap (λ z. z.counts.steps) (c.take_step.ensures.stepped c.if-not-take_step.false)), c.in_ok-tell.ensures.told ∙ ap (λ bs. crowd_after (told_goal bs) old) c.name.ensures)),
@@ -112,7 +112,7 @@ returns-in-Deep-clause-denies g c = λ qv a raw s h at.
 
 pub returns-in-Open-clause-denies : goal.returns-in-Open-clause-denies
 returns-in-Open-clause-denies g c = λ qv a raw s h at.
-    let old = map g.W.Watch.seen c.args.crowd.now.watchers.now.items in
+    let old = places c.args.crowd.now.texts.items (map g.W.Watch.seen c.args.crowd.now.watchers.now.items) in
     let goals : Standing = record { free = c.args.free; values = c.args.place.values; older = c.args.place.standing } in (
       taking (GoalNote (named not_constant)),
       (λ cs. ((ap (λ z. z.counts.steps) c.in_ok-openness_at.ensures.bank.same ∙ ap (λ z. z.counts.steps) (c.take_step.ensures.stepped c.if-not-take_step.false)), c.in_ok-tell.ensures.told ∙ ap (λ bs. crowd_after (told_goal bs) old) c.name.ensures)),
@@ -123,7 +123,7 @@ returns-in-Open-clause-denies g c = λ qv a raw s h at.
 
 pub returns-in_ok-begin-in-Closed-clause-denies : goal.returns-in_ok-begin-in-Closed-clause-denies
 returns-in_ok-begin-in-Closed-clause-denies g c = λ qv a raw s h at.
-    let old = map g.W.Watch.seen c.args.crowd.now.watchers.now.items in
+    let old = places c.args.crowd.now.texts.items (map g.W.Watch.seen c.args.crowd.now.watchers.now.items) in
     let m = c.args.machine.now in
     let t = c.take_step.new.machine in
     let o = c.openness_at.new.machine in

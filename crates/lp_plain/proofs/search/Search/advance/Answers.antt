@@ -1,4 +1,5 @@
 use Rattle.std.proofs.Common.{ap, arith, map, refl, subst, sym}
+use Rattle.lp_watch.specs.Crowd.{places}
 use Rattle.lp_model.specs.declared.ending.Ending.TheVariants.{Enough}
 use Rattle.lp_plain.specs.Hearing.{Hears, HeardBy, back_in}
 use Rattle.lp_plain.specs.Held.{constants_of, ended, steps_of}
@@ -14,7 +15,7 @@ use Rattle.lp_plain.proofs.search.Search.advance.Goals as goal
 pub returns-then-self-clause-search : goal.returns-then-self-clause-search
 unfolding ended constants_of steps_of
 returns-then-self-clause-search g c = λ none P n s h en x t d.
-    let old = map g.W.Watch.seen c.args.crowd.now.watchers.now.items in
+    let old = places c.args.crowd.now.texts.items (map g.W.Watch.seen c.args.crowd.now.watchers.now.items) in
     let q = given_enough P n c.args.self.now c.end.new.self s none (omega arith) c.end.ensures.now h x t d in (
       over_told x c.end.result Enough q.0 c.end.ensures.is,
       q.1,
@@ -51,8 +52,8 @@ pub returns-in_err-tell_back-clause-begins : goal.returns-in_err-tell_back-claus
 unfolding ended constants_of
 returns-in_err-tell_back-clause-begins g c = λ none P n s h x t d.
     let old = c.args.self.now in
-    let before = map g.W.Watch.seen c.args.crowd.now.watchers.now.items in
-    let after = map g.W.Watch.seen c.tell_back.new.crowd.watchers.now.items in
+    let before = places c.args.crowd.now.texts.items (map g.W.Watch.seen c.args.crowd.now.watchers.now.items) in
+    let after = places c.tell_back.new.crowd.texts.items (map g.W.Watch.seen c.tell_back.new.crowd.watchers.now.items) in
     let cs = old.constants.items in
     later_begins P n old s x t d (λ y. HearsPart cs y.notes before after) none (omega arith) (omega arith) (omega arith)
     (λ k z it st. part_more cs (back_in old.machine) z.notes before after (c.tell_back.ensures.part cs)) h
@@ -61,25 +62,25 @@ pub returns-in_err-event-clause-begins : goal.returns-in_err-event-clause-begins
 unfolding ended constants_of
 returns-in_err-event-clause-begins g c = λ none P n s h x t d.
     let old = c.args.self.now in
-    let before = map g.W.Watch.seen c.args.crowd.now.watchers.now.items in
-    let after = map g.W.Watch.seen c.go_on.new.crowd.watchers.now.items in
+    let before = places c.args.crowd.now.texts.items (map g.W.Watch.seen c.args.crowd.now.watchers.now.items) in
+    let after = places c.go_on.new.crowd.texts.items (map g.W.Watch.seen c.go_on.new.crowd.watchers.now.items) in
     first_begins P n old s x t d (λ y. HearsPart old.constants.items y.notes before after) none (omega arith) (omega arith) (omega arith) c.go_on.ensures.begins h
 
 pub returns-then-self-eq0-clause-begins : goal.returns-then-self-eq0-clause-begins
 unfolding ended constants_of
 returns-then-self-eq0-clause-begins g c = λ none P n s h x t d.
     let old = c.args.self.now in
-    let before = map g.W.Watch.seen c.args.crowd.now.watchers.now.items in
-    let after = map g.W.Watch.seen c.go_on.new.crowd.watchers.now.items in
+    let before = places c.args.crowd.now.texts.items (map g.W.Watch.seen c.args.crowd.now.watchers.now.items) in
+    let after = places c.go_on.new.crowd.texts.items (map g.W.Watch.seen c.go_on.new.crowd.watchers.now.items) in
     first_begins P n old s x t d (λ y. HearsPart old.constants.items y.notes before after) none (omega arith) (omega arith) (omega arith) c.go_on.ensures.begins h
 
 pub returns-in_err-event-2-clause-begins : goal.returns-in_err-event-2-clause-begins
 unfolding ended constants_of
 returns-in_err-event-2-clause-begins g c = λ none P n s h x t d.
     let old = c.args.self.now in
-    let before = map g.W.Watch.seen c.args.crowd.now.watchers.now.items in
-    let mid = map g.W.Watch.seen c.tell_back.new.crowd.watchers.now.items in
-    let after = map g.W.Watch.seen c.go_on-2.new.crowd.watchers.now.items in
+    let before = places c.args.crowd.now.texts.items (map g.W.Watch.seen c.args.crowd.now.watchers.now.items) in
+    let mid = places c.tell_back.new.crowd.texts.items (map g.W.Watch.seen c.tell_back.new.crowd.watchers.now.items) in
+    let after = places c.go_on-2.new.crowd.texts.items (map g.W.Watch.seen c.go_on-2.new.crowd.watchers.now.items) in
     let cs = old.constants.items in
     later_begins P n old s x t d (λ y. HearsPart cs y.notes before after) none (omega arith) (omega arith) (omega arith)
     (λ k z it st. part_behind cs (back_in old.machine) z.notes before mid after (c.in_ok-tell_back.ensures.told cs) (c.go_on-2.ensures.begins k z it st)) h
@@ -88,9 +89,9 @@ pub returns-clause-begins : goal.returns-clause-begins
 unfolding ended constants_of
 returns-clause-begins g c = λ none P n s h x t d.
     let old = c.args.self.now in
-    let before = map g.W.Watch.seen c.args.crowd.now.watchers.now.items in
-    let mid = map g.W.Watch.seen c.tell_back.new.crowd.watchers.now.items in
-    let after = map g.W.Watch.seen c.go_on-2.new.crowd.watchers.now.items in
+    let before = places c.args.crowd.now.texts.items (map g.W.Watch.seen c.args.crowd.now.watchers.now.items) in
+    let mid = places c.tell_back.new.crowd.texts.items (map g.W.Watch.seen c.tell_back.new.crowd.watchers.now.items) in
+    let after = places c.go_on-2.new.crowd.texts.items (map g.W.Watch.seen c.go_on-2.new.crowd.watchers.now.items) in
     let cs = old.constants.items in
     later_begins P n old s x t d (λ y. HearsPart cs y.notes before after) none (omega arith) (omega arith) (omega arith)
     (λ k z it st. part_behind cs (back_in old.machine) z.notes before mid after (c.in_ok-tell_back.ensures.told cs) (c.go_on-2.ensures.begins k z it st)) h
