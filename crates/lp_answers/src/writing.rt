@@ -2,7 +2,7 @@
 ghost use Rattle.std.specs.Prelude.{◌≡◌, ℕ, suc, ◌<◌, ◌^◌, List, length, map, flat_map, Err, IfOk, IfErr, IsErr, IsErrOf, OnOk, OnErr};
 ghost use Rattle.lp_base.specs.Counts.{Counts};
 ghost use Rattle.lp_base.specs.Written.{Appends, AppendsPrefix};
-ghost use Rattle.lp_watch.specs.Crowd.{places, text_at};
+ghost use Rattle.lp_watch.specs.Crowd.{places, reports};
 ghost use Rattle.lp_show.specs.Glossary.{entries_of};
 ghost use Rattle.lp_answers.specs.Pieces.{IsPiece};
 ghost use Rattle.lp_answers.specs.Texts.{names_in, last_text, WroteAll, MayReport, reports_in, Stopping};
@@ -52,7 +52,7 @@ fn reports_of<W: Watch>(
     watched: bool,
     crowd: &Crowd<'_, W>,
 ) -> Result<Vec<u8>, Memory>
-    ensures { IfOk result (λ text. text.items ≡ reports_in watched (flat_map (text_at W.report) (places crowd.now.texts.items crowd.now.watchers.now.items))) }
+    ensures { IfOk result (λ text. text.items ≡ reports_in watched (reports (places crowd.now.texts.items (map W.seen crowd.now.watchers.now.items)))) }
 {
     if watched {
         crowd.reports()
@@ -68,7 +68,7 @@ fn text_of_end<W: Watch>(
     watched: bool,
     crowd: &Crowd<'_, W>,
 ) -> Result<Vec<u8>, Memory>
-    ensures { IfOk result (λ text. text.items ≡ last_text why (reports_in watched (flat_map (text_at W.report) (places crowd.now.texts.items crowd.now.watchers.now.items)))) }
+    ensures { IfOk result (λ text. text.items ≡ last_text why (reports_in watched (reports (places crowd.now.texts.items (map W.seen crowd.now.watchers.now.items))))) }
 {
     let mut text = ending(why).as_bytes().to_vec(alloc)?;
     text.extend_from_slice(b"\n")?;
@@ -97,9 +97,9 @@ fn write_end<K: Sink, W: Watch>(
     crowd: &Crowd<'_, W>,
     out: &mut K,
 ) -> Result<Written, Stopped>
-    ensures written { IfOk result (λ w. (w.answers ≡ answers) × Appends (K.written out.old) (K.written out.new) (last_text w.ending (reports_in watched (flat_map (text_at W.report) (places crowd.now.texts.items crowd.now.watchers.now.items))))) }
+    ensures written { IfOk result (λ w. (w.answers ≡ answers) × Appends (K.written out.old) (K.written out.new) (last_text w.ending (reports_in watched (reports (places crowd.now.texts.items (map W.seen crowd.now.watchers.now.items)))))) }
     ensures memory { IsErrOf result Stopped.Memory → out.new ≡ out.old }
-    ensures cut { IsErrOf result Stopped.Write → AppendsPrefix (K.written out.old) (K.written out.new) (last_text why (reports_in watched (flat_map (text_at W.report) (places crowd.now.texts.items crowd.now.watchers.now.items)))) }
+    ensures cut { IsErrOf result Stopped.Write → AppendsPrefix (K.written out.old) (K.written out.new) (last_text why (reports_in watched (reports (places crowd.now.texts.items (map W.seen crowd.now.watchers.now.items))))) }
     ensures faults { Counts (result ≡ Err Stopped.Write) (K.faults out.old) (K.faults out.new) }
 {
     let text = text_of_end(alloc, why, watched, crowd)?;
@@ -125,7 +125,7 @@ pub fn write_answers<K: Sink, W: Watch, S: Searching<W>>(
     out: &mut K,
 ) -> Result<Written, Stopped>
     requires { S.variables search.old ≡ length shown.now.names.items }
-    ensures written { IfOk result (WroteAll (entries_of shown.now.glossary.now.entries.items) (names_in shown.now.names.items) answers (reports_in watched (flat_map (text_at W.report) (places crowd.new.texts.items crowd.new.watchers.now.items))) (K.written out.old) (K.written out.new)) }
+    ensures written { IfOk result (WroteAll (entries_of shown.now.glossary.now.entries.items) (names_in shown.now.names.items) answers (reports_in watched (reports (places crowd.new.texts.items (map W.seen crowd.new.watchers.now.items)))) (K.written out.old) (K.written out.new)) }
     ensures stopped { IfErr result (Stopping (entries_of shown.now.glossary.now.entries.items) (names_in shown.now.names.items) (MayReport watched) answers (K.written out.old) (K.written out.new)) }
     ensures faults { Counts (result ≡ Err Stopped.Write) (K.faults out.old) (K.faults out.new) }
 {

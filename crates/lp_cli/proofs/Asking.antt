@@ -18,6 +18,7 @@ use Rattle.lp_lines.specs.Lines.{memory_line}
 use Rattle.lp_lines.specs.declared.refusal.Refusal.TheVariants.{Memory}
 use Rattle.lp_load.specs.Placed.{WritesPlaced}
 use Rattle.lp_solve.specs.Solved as solved
+use Rattle.lp_watch.specs.Seen.{Seen}
 use Rattle.lp_words.specs.Asked.{Asked, asked, check, files, lambda, prove, query_image, query_on_texts, session, solve, trial, watches, writes_file, IsCommand, IsWatched, WritesNone}
 use Rattle.lp_words.specs.declared.asked.FileCommand.{FileCommand}
 use Rattle.lp_words.specs.declared.asked.Options.{Options}
@@ -37,8 +38,8 @@ module _ (words : List (List ℕ)) (a : Asked) (is : asked words ≡ Some a) whe
   pub watched_asked : {X : Type 0} {old new : X} → (watches a ≡ true) ⊎ (new ≡ old) → IsWatched words ⊎ (new ≡ old)
   watched_asked h = elim h [ inl w ↦ inl (ap (λ x. option_map watches x) is ∙ ap Some w) | inr e ↦ inr e ]
 
-  module _ {F K : Type 0} {rf ms ov wf : F → ℕ} {held : F → Option Held} {faults : K → ℕ} {written : K → Option (List ℕ)} {f g : F} {o p : K}
-      {result : Status} (d : Does rf ms ov wf held faults written a f g o p result) where
+  module _ {F K : Type 0} {rf ms ov wf : F → ℕ} {held : F → Option Held} {faults : K → ℕ} {written : K → Option (List ℕ)} {seen : List Seen} {f g : F} {o p : K}
+      {result : Status} (d : Does rf ms ov wf held faults written seen a f g o p result) where
     pub placed_asked : result ≡ variant.Source → (query : List ℕ) → option_and_then query_on_texts (asked words) ≡ Some query → WritesPlaced (held f) query (written o) (written p)
     placed_asked e query h = d.placed e query (sym (ap (λ x. option_and_then query_on_texts x) is) ∙ h)
 
@@ -52,14 +53,14 @@ module _ (words : List (List ℕ)) (a : Asked) (is : asked words ≡ Some a) whe
     pub certifies_asked : (name query : List ℕ) (options : Options) → asked words ≡ Some (prove name query options) → Proves wf held faults written f g o p name result
     certifies_asked name query options h = d.certifies name query options (some_is is h)
 
-    pub fulfils_asked : (x : Asked) → asked words ≡ Some x → Fulfils (held f) (held g) (written o) (written p) x result
-    fulfils_asked x h = subst (λ y. Fulfils (held f) (held g) (written o) (written p) y result) (some_is is h) d.fulfils
+    pub fulfils_asked : (x : Asked) → asked words ≡ Some x → Fulfils (held f) (held g) seen (written o) (written p) x result
+    fulfils_asked x h = subst (λ y. Fulfils (held f) (held g) seen (written o) (written p) y result) (some_is is h) d.fulfils
 
 -- a run that ends with none of the statuses of a command that was carried out; a query is refused so
-module _ (told now : Option Held) (before after : Option (List ℕ)) (result : Status) (not_done : result ≢ variant.Done) (not_no : result ≢ variant.No)
+module _ (told now : Option Held) (seen : List Seen) (before after : Option (List ℕ)) (result : Status) (not_done : result ≢ variant.Done) (not_no : result ≢ variant.No)
     (not_deep : result ≢ variant.Deep) (no_file : has_file result ≡ true → ⊥)
-    (refused : (name query : List ℕ) (options : Options) → Solves told name query options before after result) where
-  pub fulfils_none : (x : Asked) → Fulfils told now before after x result
+    (refused : (name query : List ℕ) (options : Options) → Solves told name query options seen before after result) where
+  pub fulfils_none : (x : Asked) → Fulfils told now seen before after x result
   fulfils_none (lambda name query) = record { yes = λ e. absurd (not_done e); no = λ e. absurd (not_no e) }
   fulfils_none (check name query) = record { accepted = λ e. absurd (not_done e); rejected = λ e. absurd (not_no e); deep = λ e. absurd (not_deep e) }
   fulfils_none (prove name query options) = λ f. absurd (no_file f)
@@ -77,20 +78,20 @@ no_file_of said result none kept f = elim (is_fault result) [
 ]
 
 -- want of memory is a refusal of each query
-wanting_solves : (told : Option Held) (before after : Option (List ℕ)) (result : Status) → (result ≢ variant.WriteFault → (result ≡ variant.Memory) × Appends before after memory_line) →
-    (result ≡ variant.WriteFault → AppendsPrefix before after memory_line) → (name query : List ℕ) (options : Options) → Solves told name query options before after result
-wanting_solves told before after result wrote began name query options = record {
+wanting_solves : (told : Option Held) (seen : List Seen) (before after : Option (List ℕ)) (result : Status) → (result ≢ variant.WriteFault → (result ≡ variant.Memory) × Appends before after memory_line) →
+    (result ≡ variant.WriteFault → AppendsPrefix before after memory_line) → (name query : List ℕ) (options : Options) → Solves told name query options seen before after result
+wanting_solves told seen before after result wrote began name query options = record {
   writes = λ n. record { text = memory_line; is = solved.refused Memory solved.no_memory (wrote n).0 refl; appended = (wrote n).1 };
   begins = λ e. record { status = variant.Memory; text = memory_line; is = solved.refused Memory solved.no_memory refl refl; appended = began e };
 }
 
-pub fulfils_memory : (told now : Option Held) (before after : Option (List ℕ)) (result : Status) →
+pub fulfils_memory : (told now : Option Held) (seen : List Seen) (before after : Option (List ℕ)) (result : Status) →
     (result ≢ variant.WriteFault → (result ≡ variant.Memory) × Appends before after memory_line) → (result ≡ variant.WriteFault → AppendsPrefix before after memory_line) →
-    (x : Asked) → Fulfils told now before after x result
+    (x : Asked) → Fulfils told now seen before after x result
 unfolding has_file
-fulfils_memory told now before after result wrote began x =
+fulfils_memory told now seen before after result wrote began x =
     let kept : result ≢ variant.WriteFault → result ≡ variant.Memory = λ n. (wrote n).0 in
-    fulfils_none told now before after result
+    fulfils_none told now seen before after result
     (not_otherwise result variant.Memory variant.Done kept (λ f. cc) (λ f. cc)) (not_otherwise result variant.Memory variant.No kept (λ f. cc) (λ f. cc))
     (not_otherwise result variant.Memory variant.Deep kept (λ f. cc) (λ f. cc)) (no_file_of variant.Memory result refl kept)
-    (wanting_solves told before after result wrote began) x
+    (wanting_solves told seen before after result wrote began) x

@@ -16,6 +16,8 @@ use Rattle.lp_lines.specs.Ends.{KeepsFiles, Ran}
 use Rattle.lp_judge.specs.Proved.{Proves}
 use Rattle.lp_lines.specs.Left.{Leaves}
 use Rattle.lp_load.specs.Placed.{WritesPlaced}
+use Rattle.lp_watch.specs.Seen.{Seen}
+use Rattle.lp_solve.specs.Reported.{watching}
 use Rattle.lp_solve.specs.Solved.{BeginsSolved, WritesSolved}
 use Rattle.lp_words.specs.Asked.{Asked, check, files, lambda, prove, query_image, session, solve, trial, watches}
 use Rattle.lp_words.specs.declared.asked.FileCommand.{FileCommand}
@@ -27,26 +29,26 @@ placed_one : (told : Option Held) (old new : Option (List ℕ)) (query : List �
 placed_one told old new query result placed e other is = let q : query ≡ other = cc in subst (λ x. WritesPlaced told x old new) q (placed e)
 
 -- a query, under its name, text and limits as they are handed on
-pub solves : (told : Option Held) (old new : Option (List ℕ)) (result : Status) (options : Options) {name' name query' query : List ℕ} {steps answers : ℕ} → name' ≡ name → query' ≡ query →
+pub solves : (told : Option Held) (old new : Option (List ℕ)) (result : Status) (options : Options) (watchers : List Seen) {name' name query' query : List ℕ} {steps answers : ℕ} → name' ≡ name → query' ≡ query →
     steps ≡ step_limit options → answers ≡ answer_limit options →
-    (result ≢ variant.WriteFault → WritesSolved told name' query' options.watch steps answers result old new) →
-    (result ≡ variant.WriteFault → BeginsSolved told name' query' options.watch steps answers old new) → Solves told name query options old new result
-solves told old new result options {name' = name'} {name = name} {query' = query'} {query = query} {steps = steps} {answers = answers} n q s a writes begins = record {
-  writes = λ k. subst (λ x. WritesSolved told x query options.watch (step_limit options) (answer_limit options) result old new) n
-      (subst (λ y. WritesSolved told name' y options.watch (step_limit options) (answer_limit options) result old new) q
-      (subst (λ z. WritesSolved told name' query' options.watch z (answer_limit options) result old new) s (subst (λ z. WritesSolved told name' query' options.watch steps z result old new) a (writes k))));
-  begins = λ k. subst (λ x. BeginsSolved told x query options.watch (step_limit options) (answer_limit options) old new) n
-      (subst (λ y. BeginsSolved told name' y options.watch (step_limit options) (answer_limit options) old new) q
-      (subst (λ z. BeginsSolved told name' query' options.watch z (answer_limit options) old new) s (subst (λ z. BeginsSolved told name' query' options.watch steps z old new) a (begins k))));
+    (result ≢ variant.WriteFault → WritesSolved told name' query' (watching options.watch watchers) steps answers result old new) →
+    (result ≡ variant.WriteFault → BeginsSolved told name' query' (watching options.watch watchers) steps answers old new) → Solves told name query options watchers old new result
+solves told old new result options watchers {name' = name'} {name = name} {query' = query'} {query = query} {steps = steps} {answers = answers} n q s a writes begins = record {
+  writes = λ k. subst (λ x. WritesSolved told x query (watching options.watch watchers) (step_limit options) (answer_limit options) result old new) n
+      (subst (λ y. WritesSolved told name' y (watching options.watch watchers) (step_limit options) (answer_limit options) result old new) q
+      (subst (λ z. WritesSolved told name' query' (watching options.watch watchers) z (answer_limit options) result old new) s (subst (λ z. WritesSolved told name' query' (watching options.watch watchers) steps z result old new) a (writes k))));
+  begins = λ k. subst (λ x. BeginsSolved told x query (watching options.watch watchers) (step_limit options) (answer_limit options) old new) n
+      (subst (λ y. BeginsSolved told name' y (watching options.watch watchers) (step_limit options) (answer_limit options) old new) q
+      (subst (λ z. BeginsSolved told name' query' (watching options.watch watchers) z (answer_limit options) old new) s (subst (λ z. BeginsSolved told name' query' (watching options.watch watchers) steps z old new) a (begins k))));
 }
 
-module _ {F K : Type 0} {rf ms ov wf : F → ℕ} {held : F → Option Held} {faults : K → ℕ} {written : K → Option (List ℕ)} {a b : F} {o p : K} where
+module _ {F K : Type 0} {rf ms ov wf : F → ℕ} {held : F → Option Held} {faults : K → ℕ} {written : K → Option (List ℕ)} {seen : List Seen} {a b : F} {o p : K} where
   -- what is asked for is one of these
-  pub becomes : (x asked : Asked) (result : Status) → asked ≡ x → Does rf ms ov wf held faults written x a b o p result → Does rf ms ov wf held faults written asked a b o p result
-  becomes x asked result is d = subst (λ y. Does rf ms ov wf held faults written y a b o p result) (sym is) d
+  pub becomes : (x asked : Asked) (result : Status) → asked ≡ x → Does rf ms ov wf held faults written seen x a b o p result → Does rf ms ov wf held faults written seen asked a b o p result
+  becomes x asked result is d = subst (λ y. Does rf ms ov wf held faults written seen y a b o p result) (sym is) d
 
   -- a generated query, queries on an image
-  pub does_trial : (size : ℕ) (result : Status) → Ran rf ms ov written a b o p result → KeepsFiles wf held faults a b o p result → Does rf ms ov wf held faults written (trial size) a b o p result
+  pub does_trial : (size : ℕ) (result : Status) → Ran rf ms ov written a b o p result → KeepsFiles wf held faults a b o p result → Does rf ms ov wf held faults written seen (trial size) a b o p result
   does_trial size result r k = record {
     placed = λ e query is. absurd (cc);
     ran = r;
@@ -57,7 +59,7 @@ module _ {F K : Type 0} {rf ms ov wf : F → ℕ} {held : F → Option Held} {fa
   }
 
   pub does_query : (name query : List ℕ) (options : Options) (result : Status) → Ran rf ms ov written a b o p result → KeepsFiles wf held faults a b o
-      p result → Does rf ms ov wf held faults written (query_image name query options) a b o p result
+      p result → Does rf ms ov wf held faults written seen (query_image name query options) a b o p result
   does_query name query options result r k = record {
     placed = λ e query' is. absurd (cc);
     ran = r;
@@ -68,7 +70,7 @@ module _ {F K : Type 0} {rf ms ov wf : F → ℕ} {held : F → Option Held} {fa
   }
 
   pub does_session : (name : List ℕ) (options : Options) (result : Status) → Ran rf ms ov written a b o p result → KeepsFiles wf held faults a b o p
-      result → Does rf ms ov wf held faults written (session name options) a b o p result
+      result → Does rf ms ov wf held faults written seen (session name options) a b o p result
   does_session name options result r k = record {
     placed = λ e query is. absurd (cc);
     ran = r;
@@ -81,7 +83,7 @@ module _ {F K : Type 0} {rf ms ov wf : F → ℕ} {held : F → Option Held} {fa
   -- judgements
   pub does_lambda : (name query : List ℕ) (result : Status) → Ran rf ms ov written a b o p result → KeepsFiles wf held faults a b o p result
       → (result ≡ variant.Source → WritesPlaced (held a) query (written o) (written p)) → Judges (held a) name query (written o) (written p) result
-      → Does rf ms ov wf held faults written (lambda name query) a b o p result
+      → Does rf ms ov wf held faults written seen (lambda name query) a b o p result
   does_lambda name query result r k placed u = record {
     placed = placed_one (held a) (written o) (written p) query result placed;
     ran = r;
@@ -93,7 +95,7 @@ module _ {F K : Type 0} {rf ms ov wf : F → ℕ} {held : F → Option Held} {fa
 
   pub does_check : (name query : List ℕ) (result : Status) → Ran rf ms ov written a b o p result → KeepsFiles wf held faults a b o p result
       → (result ≡ variant.Source → WritesPlaced (held a) query (written o) (written p)) → Checks (held a) name query (written o) (written p) result
-      → Does rf ms ov wf held faults written (check name query) a b o p result
+      → Does rf ms ov wf held faults written seen (check name query) a b o p result
   does_check name query result r k placed u = record {
     placed = placed_one (held a) (written o) (written p) query result placed;
     ran = r;
@@ -107,7 +109,7 @@ module _ {F K : Type 0} {rf ms ov wf : F → ℕ} {held : F → Option Held} {fa
   pub does_prove : (name query : List ℕ) (options : Options) (result : Status) → Ran rf ms ov written a b o p result
       → Proves wf held faults written a b o p name result
       → (result ≡ variant.Source → WritesPlaced (held a) query (written o) (written p)) → (has_file result ≡ true → WritesProofs (held a) (held b) name query)
-      → Does rf ms ov wf held faults written (prove name query options) a b o p result
+      → Does rf ms ov wf held faults written seen (prove name query options) a b o p result
   does_prove name query options result r l placed u = record {
     placed = placed_one (held a) (written o) (written p) query result placed;
     ran = r;
@@ -120,7 +122,7 @@ module _ {F K : Type 0} {rf ms ov wf : F → ℕ} {held : F → Option Held} {fa
   -- a file of a module
   pub does_files : (command : FileCommand) (name : List ℕ) (result : Status) → Ran rf ms ov written a b o p result
       → Leaves wf held faults written a b o p (name ++ ending_of command) (done_line command (name ++ ending_of command)) result → (result ≡ variant.Done → WritesMade (held a) (held b) command name)
-      → Does rf ms ov wf held faults written (files command name) a b o p result
+      → Does rf ms ov wf held faults written seen (files command name) a b o p result
   does_files command name result r l u = record {
     placed = λ e query is. absurd (cc);
     ran = r;
@@ -132,8 +134,8 @@ module _ {F K : Type 0} {rf ms ov wf : F → ℕ} {held : F → Option Held} {fa
 
   -- a query on texts
   pub does_solve : (name query : List ℕ) (options : Options) (result : Status) → Ran rf ms ov written a b o p result → KeepsFiles wf held faults a b o p result
-      → (result ≡ variant.Source → WritesPlaced (held a) query (written o) (written p)) → Solves (held a) name query options (written o) (written p) result
-      → Does rf ms ov wf held faults written (solve name query options) a b o p result
+      → (result ≡ variant.Source → WritesPlaced (held a) query (written o) (written p)) → Solves (held a) name query options seen (written o) (written p) result
+      → Does rf ms ov wf held faults written seen (solve name query options) a b o p result
   does_solve name query options result r k placed u = record {
     placed = placed_one (held a) (written o) (written p) query result placed;
     ran = r;

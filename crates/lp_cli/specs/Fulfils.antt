@@ -8,6 +8,8 @@ use Rattle.lp_files.specs.Made.{WritesMade}
 use Rattle.lp_judge.specs.Checked.{Checks}
 use Rattle.lp_judge.specs.Judged.{Judges}
 use Rattle.lp_judge.specs.Proofs.{WritesProofs, has_file}
+use Rattle.lp_watch.specs.Seen.{Seen}
+use Rattle.lp_solve.specs.Reported.{watching}
 use Rattle.lp_solve.specs.Solved.{BeginsSolved, WritesSolved}
 use Rattle.lp_words.specs.Asked.{Asked, check, files, lambda, prove, query_image, session, solve, trial}
 use Rattle.lp_words.specs.declared.asked.Options.{Options}
@@ -19,19 +21,20 @@ step_limit o = unwrap_or o.steps DEFAULT_STEPS
 abbrev pub answer_limit : Options → ℕ
 answer_limit o = unwrap_or o.answers DEFAULT_ANSWERS
 
--- what is written of a query: the line of a refusal, or the answers of the definition's search within these limits, which are right; where the output fails, a beginning of that
-pub record Solves (told : Option Held) (name query : List ℕ) (options : Options) (before after : Option (List ℕ)) (result : Status) : Type 0 where
-  pub writes : result ≢ variant.WriteFault → WritesSolved told name query options.watch (step_limit options) (answer_limit options) result before after
-  pub begins : result ≡ variant.WriteFault → BeginsSolved told name query options.watch (step_limit options) (answer_limit options) before after
+-- what is written of a query: the line of a refusal, or the answers of the definition's search within these limits, which are right, and with `--watch` the reports of those of whom this
+-- was seen before; where the output fails, a beginning of that
+pub record Solves (told : Option Held) (name query : List ℕ) (options : Options) (seen : List Seen) (before after : Option (List ℕ)) (result : Status) : Type 0 where
+  pub writes : result ≢ variant.WriteFault → WritesSolved told name query (watching options.watch seen) (step_limit options) (answer_limit options) result before after
+  pub begins : result ≡ variant.WriteFault → BeginsSolved told name query (watching options.watch seen) (step_limit options) (answer_limit options) before after
 
 -- A verdict on the texts of a module and a query is right; so is one on certificates over the program of a module; where certificates are written, they are proofs from that program; and where a file
 -- of a module is written, its bytes are of the kind that is asked for. The answers that are written of a query on texts are those of the definition's search, and right. Of a search on an image nothing is said here.
-abbrev pub Fulfils : (told now : Option Held) → (before after : Option (List ℕ)) → Asked → Status → Type 0
-Fulfils told now before after (lambda name query) result = Judges told name query before after result
-Fulfils told now before after (check name query) result = Checks told name query before after result
-Fulfils told now before after (prove name query options) result = has_file result ≡ true → WritesProofs told now name query
-Fulfils told now before after (files command name) result = result ≡ variant.Done → WritesMade told now command name
-Fulfils told now before after (solve name query options) result = Solves told name query options before after result
-Fulfils told now before after (query_image name query options) result = Unit {0}
-Fulfils told now before after (trial size) result = Unit {0}
-Fulfils told now before after (session name options) result = Unit {0}
+abbrev pub Fulfils : (told now : Option Held) → (seen : List Seen) → (before after : Option (List ℕ)) → Asked → Status → Type 0
+Fulfils told now seen before after (lambda name query) result = Judges told name query before after result
+Fulfils told now seen before after (check name query) result = Checks told name query before after result
+Fulfils told now seen before after (prove name query options) result = has_file result ≡ true → WritesProofs told now name query
+Fulfils told now seen before after (files command name) result = result ≡ variant.Done → WritesMade told now command name
+Fulfils told now seen before after (solve name query options) result = Solves told name query options seen before after result
+Fulfils told now seen before after (query_image name query options) result = Unit {0}
+Fulfils told now seen before after (trial size) result = Unit {0}
+Fulfils told now seen before after (session name options) result = Unit {0}

@@ -82,7 +82,7 @@ fn perform<F: Folder, K: Sink, W: Watch>(
     out: &mut K,
     watchers: &mut Vec<W>,
 ) -> Status
-    ensures does { Does F.read_faults F.misses F.overs F.write_faults F.held K.faults K.written (asked_of asked.entry) folder.old folder.new out.old out.new result }
+    ensures does { Does F.read_faults F.misses F.overs F.write_faults F.held K.faults K.written (map W.seen watchers.old.items) (asked_of asked.entry) folder.old folder.new out.old out.new result }
     ensures hears { Hears (F.held folder.old) (asked_of asked.entry) result (map W.seen watchers.old.items) (map W.seen watchers.new.items) }
     ensures silent { (watches (asked_of asked.entry) ≡ true) ⊎ (watchers.new ≡ watchers.old) }
 {
@@ -131,8 +131,9 @@ pub fn run<F: Folder, K: Sink>(
     out: &mut K,
     watchers: &mut Vec<Box<dyn Watch>>,
 ) -> Status
-    // What a command says of texts, certificates and files is true of them; of a query on texts a refusal is written, or the answers of the definition's search, which are right.
-    ensures fulfils { (a : Asking) → asked (map string_bytes words.now) ≡ Some a → Fulfils (F.held folder.old) (F.held folder.new) (K.written out.old) (K.written out.new) a result }
+    // What a command says of texts, certificates and files is true of them; of a query on texts a refusal is written, or the answers of the definition's search, which are right,
+    // and behind them with `--watch` the reports of the watchers, of the notes of that search.
+    ensures fulfils { (a : Asking) → asked (map string_bytes words.now) ≡ Some a → Fulfils (F.held folder.old) (F.held folder.new) (map (λ b. (Watch-box b).seen b.value) watchers.old.items) (K.written out.old) (K.written out.new) a result }
     // Where the words are no command, the usage line is all that is written; where the output failed, a beginning of it.
     ensures told { (IsCommand (map string_bytes words.now) → ⊥) → result ≢ Status.WriteFault → WritesUsage result (K.written out.old) (K.written out.new) }
     ensures prefix { (IsCommand (map string_bytes words.now) → ⊥) → result ≡ Status.WriteFault → BeginsUsage (K.written out.old) (K.written out.new) }

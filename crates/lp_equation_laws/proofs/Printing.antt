@@ -1,5 +1,5 @@
 -- What is written of a query on pattern text has no equation.
-use Rattle.std.proofs.Common.{◌≡◌, ℕ, suc, List, [], ◌∷◌, ◌++◌, length, Option, Some, Bool, refl, sym, ap, ◌∙◌, subst, inl, inr}
+use Rattle.std.proofs.Common.{◌≡◌, ℕ, suc, List, [], ◌∷◌, ◌++◌, length, Option, Some, refl, sym, ap, ◌∙◌, subst, inl, inr}
 use Rattle.std.specs.Prelude.{◌⊎◌}
 use Rattle.std.proofs.lemmas.List.{length-map}
 use Rattle.lp_base.specs.Held.{Held}
@@ -9,6 +9,7 @@ use Rattle.lp_calculus.specs.Fill.{Within}
 use Rattle.lp_calculus.specs.Term.{Term}
 use Rattle.lp_calculus.specs.Types.{var}
 use Rattle.lp_term.specs.Mapped.{Map, mapped}
+use Rattle.lp_watch.specs.Seen.{Seen}
 use Rattle.lp_model.specs.Answers.{Query}
 use Rattle.lp_model.specs.Branch.{Answer}
 use Rattle.lp_model.specs.Flat.{Clause, Goals}
@@ -28,7 +29,8 @@ use Rattle.lp_pattern_laws.proofs.PatternTasks.{HasNoPair}
 use Rattle.lp_module.proofs.HighNumbers.{copies_high}
 use Rattle.lp_lambda.specs.Pattern.{IsPatternClause, IsPatternQuery}
 use Rattle.lp_lines.specs.Lines.{ending_line, memory_line}
-use Rattle.lp_solve.specs.Queries.{IsExact, IsFlat, IsQuery, entries, first_state, names, told_by}
+use Rattle.lp_solve.specs.Queries.{IsExact, IsFlat, IsQuery, constants, entries, first_state, names, told_by}
+use Rattle.lp_solve.specs.Reported.{MayReport}
 use Rattle.lp_solve.specs.Solved.{IsAnswered}
 use Rattle.lp_solve.specs.Sources.{query_of, source_clauses}
 use Rattle.lp_solve.specs.Written.{AreLines, ArePairsShown, IsLast, IsWritten, an_ending, no_memory}
@@ -78,13 +80,13 @@ front : {A : Type 0} (Q : A → Type 0) (xs ys : List A) → EachOf Q (xs ++ ys)
 front Q [] ys h = tt
 front Q (x ∷ xs) ys (h, hs) = (h, front Q xs ys hs)
 
-last_tells : {exact : Type 0} {ns : List (List ℕ)} {watched : Bool} {left : List Answer} {ending : Option Ending} {status : Status} {last : List ℕ} → IsLast exact ns watched left ending status last →
+last_tells : {exact : Type 0} {ns : List (List ℕ)} {may : Ending → List ℕ → Type 0} {left : List Answer} {ending : Option Ending} {status : Status} {last : List ℕ} → IsLast exact ns may left ending status last →
     ((e : Ending) × (reports : List ℕ) × (last ≡ ending_line e ++ reports)) ⊎ (last ≡ memory_line)
 last_tells (an_ending e reports end may st is) = inl (e, reports, is)
 last_tells (no_memory st is) = inr is
 
-written_values : (exact : ℕ → Type 0) (es : List Entry) (ns : List (List ℕ)) (watched : Bool) (t : Told Answer) (status : Status) (text : List ℕ) → IsWritten exact es ns watched t status text → EachOf HasNoPair t.answers → PrintsValues es ns text
-written_values exact es ns watched t status text w h =
+written_values : (exact : ℕ → Type 0) (es : List Entry) (ns : List (List ℕ)) (may : Ending → List ℕ → Type 0) (t : Told Answer) (status : Status) (text : List ℕ) → IsWritten exact es ns may t status text → EachOf HasNoPair t.answers → PrintsValues es ns text
+written_values exact es ns may t status text w h =
     let (values, is) = lines_of_values es ns 1 w.shown w.lines w.are_lines (front HasNoPair w.shown w.left (subst (EachOf HasNoPair) w.answers h)) in
     record {
       values = values;
@@ -94,10 +96,10 @@ written_values exact es ns watched t status text w h =
     }
 
 -- what is written, once the search is over
-pub no_equation_printed : {told : Option Held} {name query : List ℕ} (q : IsQuery told name query) (watched : Bool) (steps answers : ℕ) (status : Status) (text : List ℕ) →
+pub no_equation_printed : {told : Option Held} {name query : List ℕ} (q : IsQuery told name query) (watchers : Option (List Seen)) (steps answers : ℕ) (status : Status) (text : List ℕ) →
     ((d : Declared) (P : List Clause) (gs : Goals) → IsFlat q d P gs → (n j m : ℕ) → EachOf HasNoPair (told_by P n j m (first_state q gs steps answers)).answers) →
-    IsAnswered told name query q watched steps answers status text → PrintsValues (entries q) (names q) text
-no_equation_printed {query = query} q watched steps answers status text none a =
+    IsAnswered told name query q watchers steps answers status text → PrintsValues (entries q) (names q) text
+no_equation_printed {query = query} q watchers steps answers status text none a =
     let d = a.flat.types in
     let P = a.flat.clauses in
     let gs = a.flat.goals in
@@ -113,6 +115,6 @@ no_equation_printed {query = query} q watched steps answers status text none a =
     let over : (told_by P n n n (first_state q gs steps answers)).ending ≡ Some comes.1.ending =
     ap (λ s. (told_by P n n n s).ending) (sym same) ∙ ap (λ (t : Told Answer). t.ending) comes.1.tells ∙ comes.1.ends in
     elim (a.search d P gs f n n n) [
-      | inl w ↦ written_values (IsExact P n (first_state q gs steps answers)) (entries q) (names q) watched (told_by P n n n (first_state q gs steps answers)) status text w (none d P gs f n n n)
+      | inl w ↦ written_values (IsExact P n (first_state q gs steps answers)) (entries q) (names q) (MayReport (constants q) watchers (told_by P n n n (first_state q gs steps answers))) (told_by P n n n (first_state q gs steps answers)) status text w (none d P gs f n n n)
       | inr b ↦ absurd (let no_end = sym b.lasts ∙ over in cc)
     ]

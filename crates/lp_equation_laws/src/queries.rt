@@ -1,8 +1,9 @@
 //! Queries on the program of texts that are accepted.
-ghost use Rattle.std.specs.Prelude.{◌≡◌, ℕ, List, [], Bool, Option};
+ghost use Rattle.std.specs.Prelude.{◌≡◌, ℕ, List, [], Option};
 ghost use Rattle.lp_base.specs.Held.{Held};
 ghost use Rattle.lp_base.specs.declared.status.Status.{Status};
 ghost use Rattle.lp_lemmas.specs.Each.{EachOf};
+ghost use Rattle.lp_watch.specs.Seen.{Seen};
 ghost use Rattle.lp_model.specs.Branch.{Answer};
 ghost use Rattle.lp_model.specs.Flat.{Clause, Goals};
 ghost use Rattle.lp_model.specs.Proofs.{Declared};
@@ -21,7 +22,7 @@ pub fn accepted_queries_leave_no_equation()
 
 /// So no equation is written of it: what `solve` writes of an accepted query are lines of values and a last line.
 pub fn accepted_queries_print_no_equation()
-    ensures { (told : Option Held) (name query : List ℕ) (q : IsQuery told name query) → IsPatternText q → (watched : Bool) (steps answers : ℕ) (status : Status) (text : List ℕ) → IsAnswered told name query q watched steps answers status text → PrintsValues (entries q) (names q) text }
+    ensures { (told : Option Held) (name query : List ℕ) (q : IsQuery told name query) → IsPatternText q → (watchers : Option (List Seen)) (steps answers : ℕ) (status : Status) (text : List ℕ) → IsAnswered told name query q watchers steps answers status text → PrintsValues (entries q) (names q) text }
 {
     accepted_queries_leave_no_equation();
 }

@@ -1,5 +1,5 @@
 -- The answers that a search tells, and its last line, are those of the definition's search.
-use Rattle.std.proofs.Common.{◌≡◌, ◌⊎◌, ℕ, suc, List, [], ◌∷◌, ◌++◌, map, length, Option, Some, None, Bool, refl, sym, ap, ◌∙◌, subst, inl, inr, arith, append_assoc, append-nil, length-append}
+use Rattle.std.proofs.Common.{◌≡◌, ◌⊎◌, ℕ, suc, List, [], ◌∷◌, ◌++◌, map, length, Option, Some, None, refl, sym, ap, ◌∙◌, subst, inl, inr, arith, append_assoc, append-nil, length-append}
 use Rattle.std.proofs.lemmas.List.{map-append}
 use Rattle.lp_base.specs.declared.status.Status.{Status}
 use Rattle.lp_model.specs.Branch.{Answer, Task}
@@ -69,12 +69,13 @@ module _ (P : List Clause) (n j m : ℕ) (start : State Task) where
   follow first_search now bs begun (one_answer before all s t a more told e) = next_answer s t before bs a told e (follow first_search s before begun more)
 
 -- what is written of it
-abbrev Comes : (exact : ℕ → Type 0) (es : List Entry) (ns : List (List ℕ)) (watched : Bool) (told : Told Answer) (status : Status) (text : List ℕ) → Type 0
-Comes exact es ns watched told status text = IsWritten exact es ns watched told status text ⊎ IsBegun es ns told text
+abbrev Comes : (exact : ℕ → Type 0) (es : List Entry) (ns : List (List ℕ)) (may : Ending → List ℕ → Type 0) (told : Told Answer) (status : Status) (text : List ℕ) → Type 0
+Comes exact es ns may told status text = IsWritten exact es ns may told status text ⊎ IsBegun es ns told text
 
-module _ (P : List Clause) (n j m : ℕ) (start : State Task) (es : List Entry) (ns : List (List ℕ)) (watched : Bool) (now : Search) (status : Status) where
+module _ (P : List Clause) (n j m : ℕ) (start : State Task) (es : List Entry) (ns : List (List ℕ)) (inner may : Ending → List ℕ → Type 0)
+    (reported : (e : Ending) (text : List ℕ) → inner e text → may e text) (now : Search) (status : Status) where
   abbrev Done : List ℕ → Type 0
-  Done text = Comes (IsExact P n start) es ns watched (told_by P n j m start) status text
+  Done text = Comes (IsExact P n start) es ns may (told_by P n j m start) status text
 
   module _ (xs : List Answer) (k : ℕ) (st : State Task) (answers : (told_by P n j m start).answers ≡ xs ++ (told_by P n j k st).answers)
       (ending : (told_by P n j m start).ending ≡ (told_by P n j k st).ending)
@@ -90,7 +91,7 @@ module _ (P : List Clause) (n j m : ℕ) (start : State Task) (es : List Entry) 
     })
 
     -- the last line stands here
-    here : written.IsLast (IsExact P n start (length xs)) ns watched (told_by P n j k st).answers (told_by P n j k st).ending status last → Done text
+    here : written.IsLast (IsExact P n start (length xs)) ns may (told_by P n j k st).answers (told_by P n j k st).ending status last → Done text
     here l = inl (record {
       shown = xs;
       left = (told_by P n j k st).answers;
@@ -98,7 +99,7 @@ module _ (P : List Clause) (n j m : ℕ) (start : State Task) (es : List Entry) 
       lines = lines;
       are_lines = are;
       last = last;
-      is_last = subst (λ o. written.IsLast (IsExact P n start (length xs)) ns watched (told_by P n j k st).answers o status last) (sym ending) l;
+      is_last = subst (λ o. written.IsLast (IsExact P n start (length xs)) ns may (told_by P n j k st).answers o status last) (sym ending) l;
       wrote = wrote;
     })
 
@@ -148,15 +149,15 @@ module _ (P : List Clause) (n j m : ℕ) (start : State Task) (es : List Entry) 
       end_here o (as_told e t told) = end_told e t told
       end_here o (too_deep a t told c) = end_large a t told c
 
-      last_here : HasLast ns watched now status last → Done text
+      last_here : HasLast ns inner now status last → Done text
       last_here (no_memory st is) = here (written.no_memory st is)
-      last_here (an_ending e reports ends may st is) = elim (end_here e ends) [
+      last_here (an_ending e reports ends allowed st is) = elim (end_here e ends) [
         | inl none ↦ so_far none
-        | inr end ↦ here (written.an_ending e reports end may st is)
+        | inr end ↦ here (written.an_ending e reports end (reported e reports allowed) st is)
       ]
 
   pub written_of : (bs : List code.Answer) (lines last text : List ℕ) → Followed P n j m start now bs → AreLines es ns 1 (map plain bs) lines →
-      HasLast ns watched now status last → text ≡ lines ++ last → Done text
+      HasLast ns inner now status last → text ≡ lines ++ last → Done text
   written_of bs lines last text (still xs k st are answers ending between behind) ls l w =
       last_here xs k st answers ending lines last text (all_lines_before es ns 1 xs bs lines are ls) w between behind l
   written_of bs lines last text (passed before behind e are none) ls l w =
@@ -171,8 +172,9 @@ module _ (P : List Clause) (n j m : ℕ) (start : State Task) (es : List Entry) 
 
 -- whatever the moves are
 pub written_by : (P : List Clause) (n : ℕ) (first_search : Search) (start : State Task) → IsBetween P n first_search start → (es : List Entry)
-    (ns : List (List ℕ)) (watched : Bool) (status : Status) (text : List ℕ) →
-    IsSearched es ns watched first_search status text → (j m : ℕ) → IsWritten (IsExact P n start) es ns watched (told_by P n j m start) status text ⊎ IsBegun es ns (told_by P n j m start) text
-written_by P n first_search start begun es ns watched status text w j m =
-    written_of P n j m start es ns watched w.answers.now status w.answers.answers w.lines w.last text
+    (ns : List (List ℕ)) (inner may : Ending → List ℕ → Type 0) (status : Status) (text : List ℕ) →
+    IsSearched es ns inner first_search status text → (j m : ℕ) → ((e : Ending) (reports : List ℕ) → inner e reports → may e reports) →
+    IsWritten (IsExact P n start) es ns may (told_by P n j m start) status text ⊎ IsBegun es ns (told_by P n j m start) text
+written_by P n first_search start begun es ns inner may status text w j m reported =
+    written_of P n j m start es ns inner may reported w.answers.now status w.answers.answers w.lines w.last text
     (follow P n j m start first_search w.answers.now w.answers.answers begun w.answers.told) w.answers.lines w.is_last w.wrote

@@ -2,8 +2,7 @@
 use Rattle.std.proofs.Common.{◌≡◌, ◌≢◌, ◌+◌, ◌≤◌, inl, inr, true, ℕ, List, [], ◌∷◌, ◌++◌, map, Option, Some, None, refl, sym, ap, ◌∙◌, subst, arith}
 use Rattle.lp_base.specs.declared.status.Status.{Status}
 use Rattle.lp_base.specs.declared.status.Status.TheVariants as variant
-use Rattle.lp_watch.specs.Crowd.{crowd_after}
-use Rattle.lp_watch.specs.Seen.{Seen}
+use Rattle.lp_watch.specs.Crowd.{Place, crowd_after}
 use Rattle.lp_watch.specs.Told.{crowd_after_all}
 use Rattle.lp_model.specs.Branch.{Answer, Task}
 use Rattle.lp_model.specs.Events.{Event, Gave, Over, first}
@@ -34,41 +33,41 @@ use Rattle.lp_solve.specs.Queries.{told_by}
 use Rattle.lp_solve.specs.Watched.{ended_itself}
 use Rattle.lp_solve.specs.declared.piece.Piece.{Piece}
 use Rattle.lp_solve.specs.declared.piece.Piece.TheVariants as piece
-use Rattle.lp_solve.specs.inner.Heard.{HeardPiece, HearsSoFar, IsNext, IsWatched, IsWatchedSoFar, Watched, at_first, one_answer}
+use Rattle.lp_solve.specs.inner.Heard.{ComesTo, HeardPiece, HearsSoFar, IsNext, IsWatched, IsWatchedSoFar, Watched, at_first, one_answer}
 use Rattle.lp_solve.proofs.Followed.{ended_deep}
 use Rattle.lp_solve.proofs.Nexts.{gave_first, none_first}
 
 -- behind the answers that a search has told: in the state in which the definition's run goes on, with its notes heard; or that run is not over
-data Heard (cs : List Declared) (P : List Clause) (n j m : ℕ) (start : State Task) (before : List Seen) (now : Search) (seen : List Seen) : Type 0 where
+data Heard (cs : List Declared) (P : List Clause) (n j m : ℕ) (start : State Task) (before : List Place) (now : Search) (seen : List Place) : Type 0 where
   still : (k : ℕ) (s : State Task) (steps : ℕ) (notes : List Note) → IsBetween P n now s → ended now ≡ None → constants_of now ≡ cs → Relays (look unit_limit n P) start steps notes s →
       Hears cs notes before seen → (told_by P n j m start).ending ≡ (told_by P n j k s).ending → Heard cs P n j m start before now seen
   passed : (told_by P n j m start).ending ≡ None → Heard cs P n j m start before now seen
 
 -- what is heard adds up, also a beginning of it
 module _ (cs : List Declared) where
-  both_heard : (ns ms : List Note) (old : List Seen) → crowd_after_all (map (note_in cs) (ns ++ ms)) old ≡ crowd_after_all (map (note_in cs) ms) (crowd_after_all (map (note_in cs) ns) old)
+  both_heard : (ns ms : List Note) (old : List Place) → crowd_after_all (map (note_in cs) (ns ++ ms)) old ≡ crowd_after_all (map (note_in cs) ms) (crowd_after_all (map (note_in cs) ns) old)
   both_heard [] ms old = refl
   both_heard (n ∷ ns) ms old = both_heard ns ms (crowd_after (note_in cs n) old)
 
-  hears_more : (ns ms : List Note) (old mid new : List Seen) → Hears cs ns old mid → Hears cs ms mid new → Hears cs (ns ++ ms) old new
+  hears_more : (ns ms : List Note) (old mid new : List Place) → Hears cs ns old mid → Hears cs ms mid new → Hears cs (ns ++ ms) old new
   hears_more ns ms old mid new h k = k ∙ ap (crowd_after_all (map (note_in cs) ms)) h ∙ sym (both_heard ns ms old)
 
-  part_none : (ns : List Note) (old new : List Seen) → new ≡ old → HearsPart cs ns old new
+  part_none : (ns : List Note) (old new : List Place) → new ≡ old → HearsPart cs ns old new
   part_none [] old new e = e
   part_none (n ∷ ns) old new e = inl e
 
-  part_behind : (ns ms : List Note) (old mid new : List Seen) → Hears cs ns old mid → HearsPart cs ms mid new → HearsPart cs (ns ++ ms) old new
+  part_behind : (ns ms : List Note) (old mid new : List Place) → Hears cs ns old mid → HearsPart cs ms mid new → HearsPart cs (ns ++ ms) old new
   part_behind [] ms old mid new e h = subst (λ x. HearsPart cs ms x new) e h
   part_behind (n ∷ ns) ms old mid new e h = inr (inr (part_behind ns ms (crowd_after (note_in cs n) old) mid new e h))
 
-  part_longer : (ns ms : List Note) (old new : List Seen) → HearsPart cs ns old new → HearsPart cs (ns ++ ms) old new
+  part_longer : (ns ms : List Note) (old new : List Place) → HearsPart cs ns old new → HearsPart cs (ns ++ ms) old new
   part_longer [] ms old new e = part_none ms old new e
   part_longer (n ∷ ns) ms old new (inl e) = inl e
   part_longer (n ∷ ns) ms old new (inr (inl r)) = inr (inl r)
   part_longer (n ∷ ns) ms old new (inr (inr h)) = inr (inr (part_longer ns ms (crowd_after (note_in cs n) old) new h))
 
-module _ (cs : List Declared) (P : List Clause) (n j m : ℕ) (start : State Task) (before : List Seen) where
-  next_heard : (s t : Search) (a : code.Answer) (u v : List Seen) → IsNext s (event.Answer a) t u v → Heard cs P n j m start before s u → Heard cs P n j m start before t v
+module _ (cs : List Declared) (P : List Clause) (n j m : ℕ) (start : State Task) (before : List Place) where
+  next_heard : (s t : Search) (a : code.Answer) (u v : List Place) → IsNext s (event.Answer a) t u v → Heard cs P n j m start before s u → Heard cs P n j m start before t v
   next_heard s t a u v next (passed e) = passed e
   next_heard s t a u v next (still k st steps notes between going same relays heard ending) = go (first (look unit_limit n P) j k st) refl
     where
@@ -84,7 +83,7 @@ module _ (cs : List Declared) (P : List Clause) (n j m : ℕ) (start : State Tas
           (hears_more cs notes (notes_told (look unit_limit n P) j k st) before u v heard more) (ending ∙ r.2)
       go (Some (Over o, w)) h = absurd ((next.told.search P n st between (λ d. absurd (cc)) (Over o) w (record { inner_moves = j; moves = k; gives = h })).0)
 
-  all_heard : (first_search now : Search) (seen : List Seen) → IsBetween P n first_search start → ended first_search ≡ None → constants_of first_search ≡ cs →
+  all_heard : (first_search now : Search) (seen : List Place) → IsBetween P n first_search start → ended first_search ≡ None → constants_of first_search ≡ cs →
       Watched first_search before now seen → Heard cs P n j m start before now seen
   all_heard first_search now seen begun going same at_first =
       still m start 0 [] begun going same (relays_none (look unit_limit n P) start) refl refl
@@ -102,7 +101,7 @@ module _ (cs : List Declared) (P : List Clause) (n j m : ℕ) (start : State Tas
         let other = stays_over (look unit_limit n P) i (j + i) i (m + i) l3 l4 start e ends in
         ap (λ w. w.notes) (sym mine ∙ other) ∙ ap (λ way. way ++ (told_by P n i i start).notes) (sym fresh) ∙ is
 
-    end_heard : (s over : Search) (e : Ending) (u v : List Seen) → IsNext s (event.Ended e) over u v → e ≢ Deep → Heard cs P n j m start before s u → Hears cs (told_by P n j m start).notes before v
+    end_heard : (s over : Search) (e : Ending) (u v : List Place) → IsNext s (event.Ended e) over u v → e ≢ Deep → Heard cs P n j m start before s u → Hears cs (told_by P n j m start).notes before v
     end_heard s over e u v next other (passed none) = absurd (let q = sym none ∙ is_over in cc)
     end_heard s over e u v next other (still k st steps notes between going same relays heard ending) = go (first (look unit_limit n P) j k st) refl
       where
@@ -116,7 +115,7 @@ module _ (cs : List Declared) (P : List Clause) (n j m : ℕ) (start : State Tas
             let all = same_notes r.0 x (notes ++ notes_told (look unit_limit n P) j k st) r.3 r.1 in
             subst (λ ns. Hears cs ns before v) (sym all) (hears_more cs notes (notes_told (look unit_limit n P) j k st) before u v heard more)
 
-    pub run_heard : (first_search : Search) (after : List Seen) → IsBetween P n first_search start → ended first_search ≡ None → constants_of first_search ≡ cs →
+    pub run_heard : (first_search : Search) (after : List Place) → IsBetween P n first_search start → ended first_search ≡ None → constants_of first_search ≡ cs →
         IsWatched first_search before after → Hears cs (told_by P n j m start).notes before after
     run_heard first_search after begun going same w =
         end_heard w.last w.over w.ending w.seen after w.ended w.other (all_heard first_search w.last w.seen begun going same w.watched)
@@ -140,7 +139,7 @@ module _ (cs : List Declared) (P : List Clause) (n j m : ℕ) (start : State Tas
           same_notes q o (notes ++ run_told (look unit_limit n P) i k s) (ap (λ w. w.ending) same ∙ r.3 ∙ over) (ap (λ w. way ++ w.notes) same ∙ r.1),
         )
 
-    part_heard : (s : Search) (u v : List Seen) → (v ≡ u) ⊎ HearsSoFar s u v → Heard cs P n j m start before s u → HearsPart cs (told_by P n j m start).notes before v
+    part_heard : (s : Search) (u v : List Place) → (v ≡ u) ⊎ HearsSoFar s u v → Heard cs P n j m start before s u → HearsPart cs (told_by P n j m start).notes before v
     part_heard s u v h (passed none) = absurd (let q = sym none ∙ is_over in cc)
     part_heard s u v (inl same_seen) (still k st steps notes between going same relays heard ending) =
         let r = first_notes k st steps notes relays ending in
@@ -162,20 +161,25 @@ module _ (cs : List Declared) (P : List Clause) (n j m : ℕ) (start : State Tas
             let all = same_notes r.0 x (notes ++ notes_told (look unit_limit n P) j k st) r.3 r.1 in
             subst (λ ns. HearsPart cs ns before v) (sym all) (part_behind cs notes (notes_told (look unit_limit n P) j k st) before u v heard more)
 
-    pub run_heard_so_far : (first_search : Search) (after : List Seen) → IsBetween P n first_search start → ended first_search ≡ None → constants_of first_search ≡ cs →
+    pub run_heard_so_far : (first_search : Search) (after : List Place) → IsBetween P n first_search start → ended first_search ≡ None → constants_of first_search ≡ cs →
         IsWatchedSoFar first_search before after → HearsPart cs (told_by P n j m start).notes before after
     run_heard_so_far first_search after begun going same w = part_heard w.last w.seen after w.part (all_heard first_search w.last w.seen begun going same w.watched)
 
 -- one piece more, and the last one
-pub heard_piece : (first_search s t : Search) (before u v : List Seen) (p : Piece) (lines : Vec ℕ Global) → p ≡ piece.Answer lines → HeardPiece s p t u v → Watched first_search before s u →
+pub heard_piece : (first_search s t : Search) (before u v : List Place) (p : Piece) (lines : Vec ℕ Global) → p ≡ piece.Answer lines → HeardPiece s p t u v → Watched first_search before s u →
     Watched first_search before t v
 heard_piece first_search s t before u v p lines is h w = let x = subst (λ p. HeardPiece s p t u v) is h in one_answer s t x.0 u v x.1 w
 
-pub ended_piece : (first_search s t : Search) (before u v : List Seen) (p : Piece) (e : Ending) → p ≡ piece.Over e → HeardPiece s p t u v → Watched first_search before s u → e ≢ Deep →
+pub ended_piece : (first_search s t : Search) (before u v : List Place) (p : Piece) (e : Ending) → p ≡ piece.Over e → HeardPiece s p t u v → Watched first_search before s u → e ≢ Deep →
     IsWatched first_search before v
 ended_piece first_search s t before u v p e is h w other =
     let x = subst (λ p. HeardPiece s p t u v) is h in
     record { last = s; over = t; seen = u; ending = e; watched = w; ended = x other; other = other }
+
+pub come_to : (first_search s t : Search) (before u v : List Place) (p : Piece) (e : Ending) → p ≡ piece.Over e → HeardPiece s p t u v → Watched first_search before s u → HearsSoFar s u v →
+    ComesTo first_search before v e
+come_to first_search s t before u v p e is h w part =
+    record { whole = ended_piece first_search s t before u v p e is h w; part = record { last = s; seen = u; watched = w; part = inr part } }
 
 -- a run that came to an end of its own did not fail, and was not too deep
 pub fault_lack : ended_itself variant.WriteFault ≡ true → ⊥

@@ -7,6 +7,7 @@ mod Followed
 mod Hearing
 mod Beginning
 mod Truth
+mod Reporting
 mod Refused
 mod Naming
 pub mod Texts

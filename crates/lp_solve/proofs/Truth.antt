@@ -100,16 +100,16 @@ module _ {exact : Type 0} {ns : List (List ℕ)} {left : List Answer} {ending : 
   no_more o (too_large a more is c) same = absurd (cc)
   no_more o (too_deep f) same = absurd (cc)
 
-  tells_no_more : (watched : Bool) (status : Status) (last reports : List ℕ) → IsLast exact ns watched left ending status last → last ≡ ending_line
+  tells_no_more : (may : Ending → List ℕ → Type 0) (status : Status) (last reports : List ℕ) → IsLast exact ns may left ending status last → last ≡ ending_line
       NoMore ++ reports → (left ≡ []) × (ending ≡ Some NoMore)
-  tells_no_more watched status last reports (an_ending e behind end may st is) h = no_more e end (line_tells e behind reports (sym is ∙ h))
-  tells_no_more watched status last reports (no_memory st is) h = absurd (memory_tells reports (sym is ∙ h))
+  tells_no_more may status last reports (an_ending e behind end allowed st is) h = no_more e end (line_tells e behind reports (sym is ∙ h))
+  tells_no_more may status last reports (no_memory st is) h = absurd (memory_tells reports (sym is ∙ h))
 
 -- a search that is right, and what is written of it
 true_by : (L : Leaves) (G : TypedAnswer → Type 0) (d : Declared) (F : List ClauseFormula) (q : Query) (es : List Entry) (ns : List (List ℕ))
-    (watched : Bool) (exact : ℕ → Type 0) (status : Status) (text : List ℕ) (t : Told Answer) →
-    IsRightBy L G d F q t → IsWritten exact es ns watched t status text → IsTrue L d F q es ns text
-true_by L G d F q es ns watched exact status text t right w =
+    (may : Ending → List ℕ → Type 0) (exact : ℕ → Type 0) (status : Status) (text : List ℕ) (t : Told Answer) →
+    IsRightBy L G d F q t → IsWritten exact es ns may t status text → IsTrue L d F q es ns text
+true_by L G d F q es ns may exact status text t right w =
     let p = parts right.typed w.shown w.left (right.is ∙ w.answers) in
     record {
       answers = p.front;
@@ -121,17 +121,17 @@ true_by L G d F q es ns watched exact status text t right w =
       sound = each_front (λ a. (i : Instance) → IsClosedInstance d a.typing a.answer i → IsProvableBy L d F q i) p.front p.behind
           (subst (EachOf (λ a. (i : Instance) → IsClosedInstance d a.typing a.answer i → IsProvableBy L d F q i)) p.both right.sound);
       exhausts = λ reports told i proved.
-          let over = tells_no_more watched status w.last reports w.is_last told in
+          let over = tells_no_more may status w.last reports w.is_last told in
           let alone : p.behind ≡ [] = none_mapped p.behind (p.are_behind ∙ over.0) in
           subst (AnyOf (λ a. IsInstance d a.typing a.answer i)) (p.both ∙ ap (λ zs. p.front ++ zs) alone ∙ append-nil p.front) (right.exhausts over.1 i proved);
     }
 
-pub truth : {told : Option Held} {name query : List ℕ} (q : IsQuery told name query) (es : List Entry) (ns : List (List ℕ)) (watched : Bool)
+pub truth : {told : Option Held} {name query : List ℕ} (q : IsQuery told name query) (es : List Entry) (ns : List (List ℕ)) (may : Told Answer → Ending → List ℕ → Type 0)
     (steps answers : ℕ) (status : Status) (text : List ℕ) (d : Declared) (P : List Clause) (gs : Goals) →
-    IsFlat q d P gs → ((n j m : ℕ) → IsWritten (IsExact P n (first_state q gs steps answers)) es ns watched
+    IsFlat q d P gs → ((n j m : ℕ) → IsWritten (IsExact P n (first_state q gs steps answers)) es ns (may (told_by P n j m (first_state q gs steps answers)))
     (told_by P n j m (first_state q gs steps answers)) status text ⊎ IsBegun es ns (told_by P n j m (first_state q gs steps answers)) text) →
     IsTrue (IsFailedSearch InAny d P) d (source_clauses q.loaded.program) (query_of q.bank q.typed) es ns text
-truth {query = query} q es ns watched steps answers status text d P gs f written =
+truth {query = query} q es ns may steps answers status text d P gs f written =
     let F = source_clauses q.loaded.program in
     let std = f.types.standard in
     let asked = query_of q.bank q.typed in
@@ -145,7 +145,7 @@ truth {query = query} q es ns watched steps answers status text d P gs f written
     let over : (told_by P n n n (first_state q gs steps answers)).ending ≡ Some comes.1.ending =
     ap (λ s. (told_by P n n n s).ending) (sym same) ∙ ap (λ (t : Told Answer). t.ending) comes.1.tells ∙ comes.1.ends in
     elim (written n n n) [
-      | inl w ↦ true_by (IsFailedSearch InAny d P) (IsGiven n d P asked gs) d F asked es ns watched (IsExact P n (first_state q gs steps answers))
+      | inl w ↦ true_by (IsFailedSearch InAny d P) (IsGiven n d P asked gs) d F asked es ns (may (told_by P n n n (first_state q gs steps answers))) (IsExact P n (first_state q gs steps answers))
           status text (told_by P n n n (first_state q gs steps answers)) right w
       | inr b ↦ absurd (let no = sym b.lasts ∙ over in cc)
     ]

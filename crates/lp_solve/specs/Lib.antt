@@ -5,6 +5,7 @@ pub mod Shown
 pub mod Written
 pub mod Queries
 pub mod Right
+pub mod Reported
 pub mod Solved
 pub mod Watched
 pub mod inner

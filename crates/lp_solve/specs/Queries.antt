@@ -11,6 +11,7 @@ use Rattle.lp_model.specs.Search.{look, start}
 use Rattle.lp_model.specs.Shown.{Entry}
 use Rattle.lp_model.specs.Skeleton.{State, Told, View, run}
 use Rattle.lp_model.specs.Unify.{unit_limit}
+use Rattle.lp_model.specs.declared.program.Declared.{Declared as Constant}
 use Rattle.lp_model.specs.declared.program.Typed.{Typed}
 use Rattle.lp_plain.specs.Reached.{HasSmallGoal, IsReached}
 use Rattle.lp_build.specs.declared.build.Built.{Built}
@@ -31,6 +32,9 @@ pub record IsQuery (told : Option Held) (name text : List ℕ) : Type 0 where
 -- the constants of its program, and the names of its variables as they are written
 abbrev pub entries : {told : Option Held} {name text : List ℕ} → IsQuery told name text → List Entry
 entries q = all_constants q.built
+
+abbrev pub constants : {told : Option Held} {name text : List ℕ} → IsQuery told name text → List Constant
+constants q = q.built.assembled.program.constants.items
 
 abbrev pub names : {told : Option Held} {name text : List ℕ} → IsQuery told name text → List (List ℕ)
 names {text = text} q = names_written text q.typed

@@ -1,5 +1,5 @@
 -- What is written of what a search tells: the lines of its answers, numbered from 1, and the last line.
-use Rattle.std.specs.Prelude.{◌≡◌, ◌⊎◌, ◌<◌, ◌≤◌, ℕ, suc, Bool, false, IsSome, List, [], ◌∷◌, ◌++◌, length, map, Option, None, Some}
+use Rattle.std.specs.Prelude.{◌≡◌, ◌⊎◌, ◌<◌, ◌≤◌, ℕ, suc, IsSome, List, [], ◌∷◌, ◌++◌, length, map, Option, None, Some}
 use Rattle.lp_base.specs.declared.status.Status.{Status}
 use Rattle.lp_base.specs.declared.status.Status.TheVariants as variant
 use Rattle.lp_lemmas.specs.Each.{AnyOf}
@@ -61,25 +61,21 @@ pub data IsEnd (exact : Type 0) (ns : List (List ℕ)) (left : List Answer) (end
   too_large : (a : Answer) (more : List Answer) → left ≡ a ∷ more → CannotBeShown ns a → IsEnd exact ns left ending Deep
   too_deep : (exact → (left ≡ []) × (ending ≡ Some Deep)) → IsEnd exact ns left ending Deep
 
--- where nobody watches there are no reports
-abbrev pub MayReport : (watched : Bool) → List ℕ → Type 0
-MayReport watched reports = watched ≡ false → reports ≡ []
-
--- the last line, and the reports of the watchers behind it; or memory ran out
-pub data IsLast (exact : Type 0) (ns : List (List ℕ)) (watched : Bool) (left : List Answer) (ending : Option Ending) (status : Status) (text : List ℕ) : Type 0 where
-  an_ending : (e : Ending) (reports : List ℕ) → IsEnd exact ns left ending e → MayReport watched reports → status ≡ ending_status e → text ≡ ending_line e ++ reports → IsLast exact ns watched left ending status text
-  no_memory : status ≡ variant.Memory → text ≡ memory_line → IsLast exact ns watched left ending status text
+-- the last line, and behind it the reports of the watchers, which may be these at such an ending; or memory ran out
+pub data IsLast (exact : Type 0) (ns : List (List ℕ)) (may : Ending → (reports : List ℕ) → Type 0) (left : List Answer) (ending : Option Ending) (status : Status) (text : List ℕ) : Type 0 where
+  an_ending : (e : Ending) (reports : List ℕ) → IsEnd exact ns left ending e → may e reports → status ≡ ending_status e → text ≡ ending_line e ++ reports → IsLast exact ns may left ending status text
+  no_memory : status ≡ variant.Memory → text ≡ memory_line → IsLast exact ns may left ending status text
 
 -- what is written of a search that tells this: its answers in order, or those before an answer that cannot be shown, or before a limit is met, and the last line. Behind so many answers a
 -- search is too deep by itself where what is `exact` there holds
-pub record IsWritten (exact : (answers : ℕ) → Type 0) (es : List Entry) (ns : List (List ℕ)) (watched : Bool) (told : Told Answer) (status : Status) (text : List ℕ) : Type 0 where
+pub record IsWritten (exact : (answers : ℕ) → Type 0) (es : List Entry) (ns : List (List ℕ)) (may : Ending → (reports : List ℕ) → Type 0) (told : Told Answer) (status : Status) (text : List ℕ) : Type 0 where
   pub shown : List Answer
   pub left : List Answer
   pub answers : told.answers ≡ shown ++ left
   pub lines : List ℕ
   pub are_lines : AreLines es ns 1 shown lines
   pub last : List ℕ
-  pub is_last : IsLast (exact (length shown)) ns watched left told.ending status last
+  pub is_last : IsLast (exact (length shown)) ns may left told.ending status last
   pub wrote : text ≡ lines ++ last
 
 -- of a search that has told this and is not over, the answers come first in what is written

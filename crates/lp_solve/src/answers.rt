@@ -1,6 +1,7 @@
 // The search of a query, and the writing of its answers.
 ghost use Rattle.std.specs.Prelude.{◌≡◌, ◌≢◌, ◌++◌, ℕ, List, length, map, true, IfOk};
 ghost use Rattle.lp_base.specs.Counts.{Counts};
+ghost use Rattle.lp_watch.specs.Crowd.{Place, places};
 ghost use Rattle.lp_lines.specs.Ends.{KeepsFiles, Ran};
 ghost use Rattle.lp_lines.specs.Lines.{ending_line, is_of_search};
 ghost use Rattle.lp_model.specs.declared.ending.Ending.TheVariants.{Deep};
@@ -8,12 +9,12 @@ ghost use Rattle.lp_load.specs.Placed.{WritesPlaced};
 ghost use Rattle.lp_plain.specs.Held.{variables_of};
 ghost use Rattle.lp_solve.specs.Prepared.{IsPrepared};
 ghost use Rattle.lp_solve.specs.Shown.{constants_in, names_in};
+ghost use Rattle.lp_solve.specs.Reported.{watching};
 ghost use Rattle.lp_solve.specs.Solved.{BeginsSolved, WritesSolved};
 ghost use Rattle.lp_solve.specs.Watched.{Watches, ended_itself};
-ghost use Rattle.lp_solve.specs.Written.{MayReport};
 ghost use Rattle.lp_solve.specs.inner.Events.{Ends, IsPiece};
-ghost use Rattle.lp_solve.specs.inner.Heard.{HeardPiece, HearsSoFar, IsNext, IsWatched, IsWatchedSoFar};
-ghost use Rattle.lp_solve.specs.inner.Searched.{BeginsLast, BeginsSearch, WritesLast, WritesSearch};
+ghost use Rattle.lp_solve.specs.inner.Heard.{ComesTo, HeardPiece, HearsSoFar, IsNext, IsReport, IsReported, IsWatched, IsWatchedSoFar};
+ghost use Rattle.lp_solve.specs.inner.Searched.{BeginsLast, BeginsSearch, IsRun, WritesLast, WritesSearch};
 
 use crate::piece::Piece;
 use crate::prepare::{Prepared, Question, prepare};
@@ -28,8 +29,8 @@ use std::alloc::Global;
 
 // The next event of a search.
 fn next_event<W: Watch>(search: &mut Search, crowd: &mut Crowd<'_, W>) -> Result<Event, Memory>
-    ensures part { HearsSoFar search.old (map W.seen crowd.old.watchers.now.items) (map W.seen crowd.new.watchers.now.items) }
-    ensures next { IfOk result (λ event. IsNext search.old event search.new (map W.seen crowd.old.watchers.now.items) (map W.seen crowd.new.watchers.now.items)) }
+    ensures part { HearsSoFar search.old (places crowd.old.texts.items (map W.seen crowd.old.watchers.now.items)) (places crowd.new.texts.items (map W.seen crowd.new.watchers.now.items)) }
+    ensures next { IfOk result (λ event. IsNext search.old event search.new (places crowd.old.texts.items (map W.seen crowd.old.watchers.now.items)) (places crowd.new.texts.items (map W.seen crowd.new.watchers.now.items))) }
     ensures same { crowd.new.watchers.ghost_name ≡ crowd.old.watchers.ghost_name }
 {
     search.next(crowd)
@@ -45,8 +46,8 @@ fn next_piece<W: Watch>(
 ) -> Result<Piece, Memory>
     requires { variables_of search.old ≡ length shown.now.names.items }
     ensures piece { IfOk result (λ piece. IsPiece (constants_in shown.now) (names_in shown.now) number search.old piece search.new) }
-    ensures part { HearsSoFar search.old (map W.seen crowd.old.watchers.now.items) (map W.seen crowd.new.watchers.now.items) }
-    ensures heard { IfOk result (λ piece. HeardPiece search.old piece search.new (map W.seen crowd.old.watchers.now.items) (map W.seen crowd.new.watchers.now.items)) }
+    ensures part { HearsSoFar search.old (places crowd.old.texts.items (map W.seen crowd.old.watchers.now.items)) (places crowd.new.texts.items (map W.seen crowd.new.watchers.now.items)) }
+    ensures heard { IfOk result (λ piece. HeardPiece search.old piece search.new (places crowd.old.texts.items (map W.seen crowd.old.watchers.now.items)) (places crowd.new.texts.items (map W.seen crowd.new.watchers.now.items))) }
     ensures same { crowd.new.watchers.ghost_name ≡ crowd.old.watchers.ghost_name }
 {
     match next_event(search, crowd)? {
@@ -65,7 +66,7 @@ fn reports_of<W: Watch>(
     watched: bool,
     crowd: &Crowd<'_, W>,
 ) -> Result<Vec<u8>, Memory>
-    ensures { IfOk result (λ text. MayReport watched text.items) }
+    ensures { IfOk result (λ text. IsReport watched (places crowd.now.texts.items (map W.seen crowd.now.watchers.now.items)) text.items) }
 {
     if watched {
         crowd.reports()
@@ -81,7 +82,7 @@ fn last_text<W: Watch>(
     watched: bool,
     crowd: &Crowd<'_, W>,
 ) -> Result<Vec<u8>, Memory>
-    ensures { IfOk result (λ text. (reports : List ℕ) × MayReport watched reports × (text.items ≡ ending_line why ++ reports)) }
+    ensures { IfOk result (λ text. (reports : List ℕ) × IsReport watched (places crowd.now.texts.items (map W.seen crowd.now.watchers.now.items)) reports × (text.items ≡ ending_line why ++ reports)) }
 {
     let mut text = ending(why).as_bytes().to_vec(alloc)?;
     let reports = reports_of(alloc, watched, crowd)?;
@@ -97,8 +98,8 @@ fn write_end<K: Sink, W: Watch>(
     crowd: &Crowd<'_, W>,
     out: &mut K,
 ) -> Status
-    ensures writes { (ns : List (List ℕ)) (s : Search) → Ends ns s why → result ≢ Status.WriteFault → WritesLast ns watched s result (K.written out.old) (K.written out.new) }
-    ensures begins { (ns : List (List ℕ)) (s : Search) → Ends ns s why → result ≡ Status.WriteFault → BeginsLast ns watched s (K.written out.old) (K.written out.new) }
+    ensures writes { (ns : List (List ℕ)) (s first : Search) (before : List Place) → Ends ns s why → ComesTo first before (places crowd.now.texts.items (map W.seen crowd.now.watchers.now.items)) why → result ≢ Status.WriteFault → WritesLast ns (IsReported watched first before (places crowd.now.texts.items (map W.seen crowd.now.watchers.now.items))) s result (K.written out.old) (K.written out.new) }
+    ensures begins { (ns : List (List ℕ)) (s first : Search) (before : List Place) → Ends ns s why → ComesTo first before (places crowd.now.texts.items (map W.seen crowd.now.watchers.now.items)) why → result ≡ Status.WriteFault → BeginsLast ns (IsReported watched first before (places crowd.now.texts.items (map W.seen crowd.now.watchers.now.items))) s (K.written out.old) (K.written out.new) }
     ensures of_search { result ≢ Status.WriteFault → is_of_search result ≡ true }
     ensures other { ended_itself result ≡ true → why ≢ Deep }
     ensures write_faults { Counts (result ≡ Status.WriteFault) (K.faults out.old) (K.faults out.new) }
@@ -118,11 +119,11 @@ fn write_answers<K: Sink, W: Watch>(
     out: &mut K,
 ) -> Status
     requires { IsPrepared prepared }
-    ensures writes { result ≢ Status.WriteFault → WritesSearch (constants_in prepared.shown) (names_in prepared.shown) watched prepared.search result (K.written out.old) (K.written out.new) }
-    ensures begins { result ≡ Status.WriteFault → BeginsSearch (constants_in prepared.shown) (names_in prepared.shown) watched prepared.search (K.written out.old) (K.written out.new) }
+    ensures writes { result ≢ Status.WriteFault → WritesSearch (constants_in prepared.shown) (names_in prepared.shown) (IsReported watched prepared.search (places crowd.old.texts.items (map W.seen crowd.old.watchers.now.items)) (places crowd.new.texts.items (map W.seen crowd.new.watchers.now.items))) prepared.search result (K.written out.old) (K.written out.new) }
+    ensures begins { result ≡ Status.WriteFault → BeginsSearch (constants_in prepared.shown) (names_in prepared.shown) (IsReported watched prepared.search (places crowd.old.texts.items (map W.seen crowd.old.watchers.now.items)) (places crowd.new.texts.items (map W.seen crowd.new.watchers.now.items))) prepared.search (K.written out.old) (K.written out.new) }
     ensures of_search { result ≢ Status.WriteFault → is_of_search result ≡ true }
-    ensures part { IsWatchedSoFar prepared.search (map W.seen crowd.old.watchers.now.items) (map W.seen crowd.new.watchers.now.items) }
-    ensures watched { ended_itself result ≡ true → IsWatched prepared.search (map W.seen crowd.old.watchers.now.items) (map W.seen crowd.new.watchers.now.items) }
+    ensures part { IsWatchedSoFar prepared.search (places crowd.old.texts.items (map W.seen crowd.old.watchers.now.items)) (places crowd.new.texts.items (map W.seen crowd.new.watchers.now.items)) }
+    ensures watched { ended_itself result ≡ true → IsWatched prepared.search (places crowd.old.texts.items (map W.seen crowd.old.watchers.now.items)) (places crowd.new.texts.items (map W.seen crowd.new.watchers.now.items)) }
     ensures same { crowd.new.watchers.ghost_name ≡ crowd.old.watchers.ghost_name }
     ensures write_faults { Counts (result ≡ Status.WriteFault) (K.faults out.old) (K.faults out.new) }
 {
@@ -149,11 +150,8 @@ fn write_watched<K: Sink, W: Watch>(
     watchers: &mut Vec<W>,
 ) -> Status
     requires { IsPrepared prepared }
-    ensures writes { result ≢ Status.WriteFault → WritesSearch (constants_in prepared.shown) (names_in prepared.shown) watched prepared.search result (K.written out.old) (K.written out.new) }
-    ensures begins { result ≡ Status.WriteFault → BeginsSearch (constants_in prepared.shown) (names_in prepared.shown) watched prepared.search (K.written out.old) (K.written out.new) }
+    ensures run { IsRun (constants_in prepared.shown) (names_in prepared.shown) watched prepared.search result (map W.seen watchers.old.items) (map W.seen watchers.new.items) (K.written out.old) (K.written out.new) }
     ensures of_search { result ≢ Status.WriteFault → is_of_search result ≡ true }
-    ensures part { IsWatchedSoFar prepared.search (map W.seen watchers.old.items) (map W.seen watchers.new.items) }
-    ensures watched { ended_itself result ≡ true → IsWatched prepared.search (map W.seen watchers.old.items) (map W.seen watchers.new.items) }
     ensures write_faults { Counts (result ≡ Status.WriteFault) (K.faults out.old) (K.faults out.new) }
 {
     let mut crowd = Crowd::new(alloc, watchers);
@@ -170,8 +168,8 @@ pub fn solve<F: Folder, K: Sink, W: Watch>(
     out: &mut K,
     watchers: &mut Vec<W>,
 ) -> Status
-    ensures writes { result ≢ Status.WriteFault → WritesSolved (F.held folder.old) question.entry.name.now question.entry.query.now watched question.entry.steps question.entry.answers result (K.written out.old) (K.written out.new) }
-    ensures begins { result ≡ Status.WriteFault → BeginsSolved (F.held folder.old) question.entry.name.now question.entry.query.now watched question.entry.steps question.entry.answers (K.written out.old) (K.written out.new) }
+    ensures writes { result ≢ Status.WriteFault → WritesSolved (F.held folder.old) question.entry.name.now question.entry.query.now (watching watched (map W.seen watchers.old.items)) question.entry.steps question.entry.answers result (K.written out.old) (K.written out.new) }
+    ensures begins { result ≡ Status.WriteFault → BeginsSolved (F.held folder.old) question.entry.name.now question.entry.query.now (watching watched (map W.seen watchers.old.items)) question.entry.steps question.entry.answers (K.written out.old) (K.written out.new) }
     ensures ran { Ran F.read_faults F.misses F.overs K.written folder.old folder.new out.old out.new result }
     ensures keeps { KeepsFiles F.write_faults F.held K.faults folder.old folder.new out.old out.new result }
     ensures placed { result ≡ Status.Source → WritesPlaced (F.held folder.old) question.entry.query.now (K.written out.old) (K.written out.new) }

@@ -1,7 +1,8 @@
 // The answers of a query within its limits, watched or not.
-ghost use Rattle.std.specs.Prelude.{◌≡◌, ◌≢◌, false, map, true};
+ghost use Rattle.std.specs.Prelude.{◌≡◌, ◌≢◌, None, false, map, true};
 ghost use Rattle.lp_lines.specs.Ends.{KeepsFiles, Ran};
 ghost use Rattle.lp_load.specs.Placed.{WritesPlaced};
+ghost use Rattle.lp_solve.specs.Reported.{watching};
 ghost use Rattle.lp_solve.specs.Solved.{BeginsSolved, WritesSolved};
 ghost use Rattle.lp_solve.specs.Watched.{Watches};
 
@@ -18,8 +19,8 @@ fn solve_unwatched<F: Folder, K: Sink>(
     folder: &mut F,
     out: &mut K,
 ) -> Status
-    ensures writes { result ≢ Status.WriteFault → WritesSolved (F.held folder.old) question.entry.name.now question.entry.query.now false question.entry.steps question.entry.answers result (K.written out.old) (K.written out.new) }
-    ensures begins { result ≡ Status.WriteFault → BeginsSolved (F.held folder.old) question.entry.name.now question.entry.query.now false question.entry.steps question.entry.answers (K.written out.old) (K.written out.new) }
+    ensures writes { result ≢ Status.WriteFault → WritesSolved (F.held folder.old) question.entry.name.now question.entry.query.now None question.entry.steps question.entry.answers result (K.written out.old) (K.written out.new) }
+    ensures begins { result ≡ Status.WriteFault → BeginsSolved (F.held folder.old) question.entry.name.now question.entry.query.now None question.entry.steps question.entry.answers (K.written out.old) (K.written out.new) }
     ensures ran { Ran F.read_faults F.misses F.overs K.written folder.old folder.new out.old out.new result }
     ensures keeps { KeepsFiles F.write_faults F.held K.faults folder.old folder.new out.old out.new result }
     ensures placed { result ≡ Status.Source → WritesPlaced (F.held folder.old) question.entry.query.now (K.written out.old) (K.written out.new) }
@@ -37,8 +38,8 @@ pub fn solve_within<F: Folder, K: Sink, W: Watch>(
     out: &mut K,
     watchers: &mut Vec<W>,
 ) -> Status
-    ensures writes { result ≢ Status.WriteFault → WritesSolved (F.held folder.old) question.entry.name.now question.entry.query.now watch question.entry.steps question.entry.answers result (K.written out.old) (K.written out.new) }
-    ensures begins { result ≡ Status.WriteFault → BeginsSolved (F.held folder.old) question.entry.name.now question.entry.query.now watch question.entry.steps question.entry.answers (K.written out.old) (K.written out.new) }
+    ensures writes { result ≢ Status.WriteFault → WritesSolved (F.held folder.old) question.entry.name.now question.entry.query.now (watching watch (map W.seen watchers.old.items)) question.entry.steps question.entry.answers result (K.written out.old) (K.written out.new) }
+    ensures begins { result ≡ Status.WriteFault → BeginsSolved (F.held folder.old) question.entry.name.now question.entry.query.now (watching watch (map W.seen watchers.old.items)) question.entry.steps question.entry.answers (K.written out.old) (K.written out.new) }
     ensures ran { Ran F.read_faults F.misses F.overs K.written folder.old folder.new out.old out.new result }
     ensures keeps { KeepsFiles F.write_faults F.held K.faults folder.old folder.new out.old out.new result }
     ensures placed { result ≡ Status.Source → WritesPlaced (F.held folder.old) question.entry.query.now (K.written out.old) (K.written out.new) }

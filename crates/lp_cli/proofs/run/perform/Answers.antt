@@ -52,7 +52,7 @@ returns-in-Solve-clause-does g c =
     (does_solve c.in-Solve.name.now c.in-Solve.query.now c.in-Solve.options c.solve_within.result c.solve_within.ensures.ran c.solve_within.ensures.keeps
     (λ e. subst (λ q. WritesPlaced (g.F.Folder.held c.args.folder.now) q (g.K.Sink.written c.args.out.now) (g.K.Sink.written c.solve_within.new.out))
     c.question.ensures.query (c.solve_within.ensures.placed e))
-    (solves (g.F.Folder.held c.args.folder.now) (g.K.Sink.written c.args.out.now) (g.K.Sink.written c.solve_within.new.out) c.solve_within.result c.in-Solve.options
+    (solves (g.F.Folder.held c.args.folder.now) (g.K.Sink.written c.args.out.now) (g.K.Sink.written c.solve_within.new.out) c.solve_within.result c.in-Solve.options (map g.W.Watch.seen c.args.watchers.now.items)
     c.question.ensures.name c.question.ensures.query c.question.ensures.steps c.question.ensures.answers c.solve_within.ensures.writes c.solve_within.ensures.begins))
 
 pub returns-in-Query-clause-silent : goal.returns-in-Query-clause-silent

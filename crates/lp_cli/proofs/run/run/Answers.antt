@@ -222,7 +222,7 @@ returns-in-Err-Usage-clause-fulfils g c = λ x is. absurd (let none = sym (c.in-
 pub returns-in-Err-Memory-clause-fulfils : goal.returns-in-Err-Memory-clause-fulfils
 returns-in-Err-Memory-clause-fulfils g c =
     let line = c.as_bytes-in-Err-Memory.ensures.value ∙ c.memory.ensures in
-    λ x is. fulfils_memory _ _ (g.K.Sink.written c.args.out.now) (g.K.Sink.written c.say-in-Err-Memory.new.out) c.say-in-Err-Memory.result
+    λ x is. fulfils_memory _ _ _ (g.K.Sink.written c.args.out.now) (g.K.Sink.written c.say-in-Err-Memory.new.out) c.say-in-Err-Memory.result
     (λ n. let said = c.say-in-Err-Memory.ensures.said n in (said.0, subst (Appends (g.K.Sink.written c.args.out.now) (g.K.Sink.written c.say-in-Err-Memory.new.out)) line said.1))
     (λ e. subst (AppendsPrefix (g.K.Sink.written c.args.out.now) (g.K.Sink.written c.say-in-Err-Memory.new.out)) line (c.say-in-Err-Memory.ensures.prefix e)) x
 

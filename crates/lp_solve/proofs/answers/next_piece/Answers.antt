@@ -1,4 +1,5 @@
 use Rattle.std.proofs.Common.{map, refl, subst}
+use Rattle.lp_watch.specs.Crowd.{places}
 use Rattle.lp_solve.specs.Shown.{names_in}
 use Rattle.lp_solve.specs.Written.{CannotBeShown}
 use Rattle.lp_solve.specs.inner.Events.{IfDeep, IsTold, as_told, plain, too_deep}
@@ -18,13 +19,13 @@ returns-in-Err-Deep-clause-piece g c =
 
 pub returns-in-Ended-clause-heard : goal.returns-in-Ended-clause-heard
 returns-in-Ended-clause-heard g c = λ other.
-    subst (λ e. IsNext c.args.search.now e c.next_event.new.search (map g.W.Watch.seen c.args.crowd.now.watchers.now.items) (map g.W.Watch.seen c.next_event.new.crowd.watchers.now.items))
+    subst (λ e. IsNext c.args.search.now e c.next_event.new.search (places c.args.crowd.now.texts.items (map g.W.Watch.seen c.args.crowd.now.watchers.now.items)) (places c.next_event.new.crowd.texts.items (map g.W.Watch.seen c.next_event.new.crowd.watchers.now.items)))
     c.in-Ended.is c.in_ok-why.ensures.next
 
 pub returns-in-Ok-clause-heard : goal.returns-in-Ok-clause-heard
 returns-in-Ok-clause-heard g c = (
   c.in-Answer.answer,
-  subst (λ e. IsNext c.args.search.now e c.next_event.new.search (map g.W.Watch.seen c.args.crowd.now.watchers.now.items) (map g.W.Watch.seen c.next_event.new.crowd.watchers.now.items))
+  subst (λ e. IsNext c.args.search.now e c.next_event.new.search (places c.args.crowd.now.texts.items (map g.W.Watch.seen c.args.crowd.now.watchers.now.items)) (places c.next_event.new.crowd.texts.items (map g.W.Watch.seen c.next_event.new.crowd.watchers.now.items)))
       c.in-Answer.is c.in_ok-why.ensures.next,
 )
 

@@ -4,6 +4,7 @@ use Rattle.lp_lines.proofs.Refusing.{never_write_fault}
 use Rattle.lp_lines.proofs.Running.{keeps_behind, keeps_told, ran_searched, ran_told}
 use Rattle.lp_lines.proofs.Statuses.{not_source}
 use Rattle.lp_load.proofs.Telling.{none_known, placed_told}
+use Rattle.lp_solve.specs.Reported.{watching}
 use Rattle.lp_solve.specs.Shown.{constants_in, names_in}
 use Rattle.lp_solve.proofs.Hearing.{refused_lack}
 use Rattle.lp_solve.proofs.Refused.{line_begun, line_written, search_begun, search_heard, search_solved}
@@ -14,22 +15,22 @@ pub returns-in-Ok-clause-writes : goal.returns-in-Ok-clause-writes
 returns-in-Ok-clause-writes g c =
     let known = subst (λ xs. AreKnown (g.F.Folder.held c.args.folder.now) xs) (sym c.new-unknown.ensures.items) (none_known (g.F.Folder.held c.args.folder.now)) in
     search_solved (g.F.Folder.held c.args.folder.now) c.args.question.name.now c.args.question.query.now c.args.watched c.args.question.steps c.args.question.answers
-    c.write_watched.result (g.K.Sink.written c.args.out.now) (g.K.Sink.written c.write_watched.new.out)
-    c.in-Ok.prepared (c.in-Ok.ensures.ready known) c.write_watched.ensures.writes
+    c.write_watched.result _ _ (g.K.Sink.written c.args.out.now) (g.K.Sink.written c.write_watched.new.out)
+    c.in-Ok.prepared (c.in-Ok.ensures.ready known) c.write_watched.ensures.run
 
 pub returns-in-Ok-clause-begins : goal.returns-in-Ok-clause-begins
 returns-in-Ok-clause-begins g c =
     let known = subst (λ xs. AreKnown (g.F.Folder.held c.args.folder.now) xs) (sym c.new-unknown.ensures.items) (none_known (g.F.Folder.held c.args.folder.now)) in
     search_begun (g.F.Folder.held c.args.folder.now) c.args.question.name.now c.args.question.query.now c.args.watched c.args.question.steps c.args.question.answers c.write_watched.result
-    (g.K.Sink.written c.args.out.now) (g.K.Sink.written c.write_watched.new.out)
-    c.in-Ok.prepared (c.in-Ok.ensures.ready known) c.write_watched.ensures.begins
+    _ _ (g.K.Sink.written c.args.out.now) (g.K.Sink.written c.write_watched.new.out)
+    c.in-Ok.prepared (c.in-Ok.ensures.ready known) c.write_watched.ensures.run
 
 pub returns-in-Ok-clause-ran : goal.returns-in-Ok-clause-ran
 returns-in-Ok-clause-ran g c =
     ran_searched c.write_watched.result c.in-Ok.ensures.looked
-    (search_written (constants_in c.in-Ok.prepared.shown) (names_in c.in-Ok.prepared.shown) c.args.watched c.in-Ok.prepared.search
-    c.write_watched.result (g.K.Sink.written c.args.out.now) (g.K.Sink.written c.write_watched.new.out) c.write_watched.ensures.writes
-    c.write_watched.ensures.begins)
+    (search_written (constants_in c.in-Ok.prepared.shown) (names_in c.in-Ok.prepared.shown) _ c.in-Ok.prepared.search
+    c.write_watched.result (g.K.Sink.written c.args.out.now) (g.K.Sink.written c.write_watched.new.out) c.write_watched.ensures.run.writes
+    c.write_watched.ensures.run.begins)
     c.write_watched.ensures.of_search
 
 pub returns-in-Ok-clause-keeps : goal.returns-in-Ok-clause-keeps
@@ -44,14 +45,14 @@ tell-requires g c = never_write_fault c.in-Err.refusal c.in-Err.ensures.looked.k
 pub returns-in-Err-clause-writes : goal.returns-in-Err-clause-writes
 returns-in-Err-clause-writes g c =
     let known = subst (λ xs. AreKnown (g.F.Folder.held c.args.folder.now) xs) (sym c.new-unknown.ensures.items) (none_known (g.F.Folder.held c.args.folder.now)) in
-    line_written (g.F.Folder.held c.args.folder.now) c.args.question.name.now c.args.question.query.now c.args.watched c.args.question.steps c.args.question.answers c.tell.result
+    line_written (g.F.Folder.held c.args.folder.now) c.args.question.name.now c.args.question.query.now (watching c.args.watched (map g.W.Watch.seen c.args.watchers.now.items)) c.args.question.steps c.args.question.answers c.tell.result
     (g.K.Sink.written c.args.out.now) (g.K.Sink.written c.tell.new.out)
     c.in-Err.refusal (c.in-Err.ensures.refusal known) c.tell.ensures.said
 
 pub returns-in-Err-clause-begins : goal.returns-in-Err-clause-begins
 returns-in-Err-clause-begins g c =
     let known = subst (λ xs. AreKnown (g.F.Folder.held c.args.folder.now) xs) (sym c.new-unknown.ensures.items) (none_known (g.F.Folder.held c.args.folder.now)) in
-    line_begun (g.F.Folder.held c.args.folder.now) c.args.question.name.now c.args.question.query.now c.args.watched c.args.question.steps c.args.question.answers c.tell.result
+    line_begun (g.F.Folder.held c.args.folder.now) c.args.question.name.now c.args.question.query.now (watching c.args.watched (map g.W.Watch.seen c.args.watchers.now.items)) c.args.question.steps c.args.question.answers c.tell.result
     (g.K.Sink.written c.args.out.now) (g.K.Sink.written c.tell.new.out)
     c.in-Err.refusal (c.in-Err.ensures.refusal known) c.tell.ensures.prefix
 
@@ -69,7 +70,8 @@ returns-in-Err-clause-placed g c =
 pub returns-in-Ok-clause-watched : goal.returns-in-Ok-clause-watched
 returns-in-Ok-clause-watched g c =
     let known = subst (λ xs. AreKnown (g.F.Folder.held c.args.folder.now) xs) (sym c.new-unknown.ensures.items) (none_known (g.F.Folder.held c.args.folder.now)) in
-    search_heard _ _ _ c.args.question.steps c.args.question.answers c.write_watched.result _ _ c.in-Ok.prepared (c.in-Ok.ensures.ready known) c.write_watched.ensures.of_search c.write_watched.ensures.watched c.write_watched.ensures.part
+    search_heard _ _ _ c.args.watched c.args.question.steps c.args.question.answers c.write_watched.result _ _ _ _ c.in-Ok.prepared (c.in-Ok.ensures.ready known) c.write_watched.ensures.run
+    c.write_watched.ensures.of_search
 
 pub returns-in-Err-clause-watched : goal.returns-in-Err-clause-watched
 returns-in-Err-clause-watched g c = record {
