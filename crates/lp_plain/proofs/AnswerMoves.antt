@@ -1,11 +1,12 @@
 -- A branch without goals is an answer of the definition.
-use Rattle.std.proofs.Common.{◌≡◌, ℕ, suc, List, [], ◌∷◌, length, refl, sym, ap, ◌∙◌, Bool, Option, None}
+use Rattle.std.proofs.Common.{◌≡◌, ℕ, suc, List, [], ◌∷◌, length, refl, sym, subst, ap, ◌∙◌, Bool, Option, None}
 use Rattle.lp_model.specs.Branch.{Answer, Branch, Entry, Go, Task}
 use Rattle.lp_model.specs.Flat.{Clause}
 use Rattle.lp_model.specs.Pair.{Closing}
 use Rattle.lp_model.specs.Search.{look, look_branch}
 use Rattle.lp_model.specs.Skeleton.{AnswerNote, Inner, Note, State, Tells, back_for_more, move, move_at, move_view}
 use Rattle.lp_model.specs.Unify.{unit_limit}
+use Rattle.lp_pattern.specs.Turning.{AreKnownPairs}
 use Rattle.lp_plain.specs.declared.machine.Machine.{Machine}
 use Rattle.lp_plain.specs.declared.outcome.Turn.{Turn}
 use Rattle.lp_plain.specs.Entries.{Around, Reads, no_frame, a_frame}
@@ -64,6 +65,8 @@ module _ (qv : Query) (m : Machine) (s : State Task) (h : IsState qv m s) (e : m
           values = r.under.values;
           pairs = r.under.pairs;
           left = r.left;
+          levels = r.levels;
+          known = subst (λ k. AreKnownPairs r.levels k work.pairs) (sym r.under.next) r.under.known.pairs;
         },
         record { around = h.around; above = r.above; steps = r.counted.steps; rows = r.counted.rows; row = r.counted.rows; lost = r.counted.lost },
         ea,

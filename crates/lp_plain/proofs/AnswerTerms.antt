@@ -1,12 +1,15 @@
 -- Terms and pairs of an answer, one more.
-use Rattle.std.proofs.Common.{◌≡◌, ℕ, suc, ◌<◌, List, [], ◌∷◌, ◌++◌, map, length, take, refl, sym, ap, ◌∙◌, subst, arith, Some}
-use Rattle.std.specs.Prelude.{All, slice_get}
+use Rattle.std.proofs.Common.{◌≡◌, ℕ, zero, suc, ◌<◌, List, [], ◌∷◌, ◌++◌, map, length, take, refl, sym, ap, ◌∙◌, subst, arith, Some}
+use Rattle.std.specs.Prelude.{◌^◌, All, slice_get}
 use Rattle.std.proofs.lemmas.List.{length-append}
-use Rattle.std.proofs.lemmas.List.Elements.{All-append, All-cons, All-nil, All-weaker}
+use Rattle.std.proofs.lemmas.List.Elements.{All-append, All-cons, All-head, All-nil, All-tail, All-weaker}
+use Rattle.lp_calculus.specs.Fill.{Within}
+use Rattle.lp_calculus.specs.Term.{Term, atom, logic}
 use Rattle.lp_lemmas.proofs.Lists.{map_agree_on, map_pushed, take_suc}
 use Rattle.lp_term.specs.Memo.{AreMade}
 use Rattle.lp_term.specs.Nodes.{Nodes, Extends, tree}
 use Rattle.lp_term.specs.Same.{same_map}
+use Rattle.lp_term.specs.Spine.{LooseBelow}
 use Rattle.lp_term.specs.Within.{AreTermsOf, IsTermOf}
 use Rattle.lp_term.specs.declared.changed.Changed.{Changed}
 use Rattle.lp_term.specs.declared.node.TermId.{TermId}
@@ -19,13 +22,18 @@ use Rattle.lp_pattern.specs.Stripping.{IsShut}
 use Rattle.lp_pattern.specs.Under.{IsReading}
 use Rattle.lp_pattern.specs.declared.bindings.Bindings.{Bindings}
 use Rattle.lp_pattern.proofs.Walking.{reading_kept}
-use Rattle.lp_pattern.specs.Turning.{ArePairsFor}
+use Rattle.lp_pattern.specs.Putting.{Known}
+use Rattle.lp_pattern.specs.Turning.{AreKnownPairs, ArePairsFor}
+use Rattle.lp_pattern.proofs.PairsThrough.{within_reached}
+use Rattle.lp_model.specs.Whole.{CanBeShown, CanPairBeShown}
 use Rattle.lp_model.specs.Branch.{Answer}
 use Rattle.lp_model.specs.Search.{vars_from}
 use Rattle.lp_plain.specs.declared.machine.Machine.{Machine}
 use Rattle.lp_plain.specs.Moving.{IsAnswer, Query}
-use Rattle.lp_plain.specs.Telling.{ArePairReducts}
+use Rattle.lp_plain.specs.Telling.{ArePairReducts, IsReduct}
 use Rattle.lp_plain.specs.inner.Answering.{AreCopied, AreFilled, ArePairsCopied, ArePairsFilled, pair_under}
+use Rattle.lp_plain.proofs.Closings.{closed_loose, loose_more}
+use Rattle.lp_plain.proofs.TrialParts.{within_loose}
 use Rattle.lp_plain.proofs.Within.{all_at}
 
 trees_later : (b d : Nodes) → Extends b d → (ts : List TermId) → AreTermsOf b ts → map (λ t. tree d t.0) ts ≡ map (λ t. tree b t.0) ts
@@ -137,6 +145,24 @@ pairs_reduce b z [] (p ∷ ps) h = absurd h
 pairs_reduce b z (q ∷ qs) [] h = absurd h
 pairs_reduce b z (q ∷ qs) (p ∷ ps) h = (sym h.0.stands, h.0.left, h.0.right, pairs_reduce b z qs ps h.1)
 
+-- terms and pairs of a bank whose loose indices are small can be shown
+
+shown_terms : (b : Nodes) (ts : List TermId) → AreTermsOf b ts → All (LooseBelow (2 ^ 32) 0) (map (λ t. tree b t.0) ts) → All (CanBeShown b) ts
+shown_terms b [] w h = All-nil (CanBeShown b)
+shown_terms b (t ∷ ts) w h = All-cons (CanBeShown b) t ts (All-head (IsTermOf b) t ts w, All-head (LooseBelow (2 ^ 32) 0) (tree b t.0) (map (λ t. tree b t.0) ts) h)
+    (shown_terms b ts (All-tail (IsTermOf b) t ts w) (All-tail (LooseBelow (2 ^ 32) 0) (tree b t.0) (map (λ t. tree b t.0) ts) h))
+
+reduct_loose : (lv : ℕ → ℕ) (n : ℕ) (t u : Term) → Within (Known lv n) 0 t → IsReduct t u → LooseBelow (2 ^ 32) 0 u
+reduct_loose lv n t u w r = loose_more (2 ^ 32) 0 0 u (omega arith) (within_loose (Known lv n) 0 0 0 u refl (within_reached lv n r.0 t u r.1 w))
+
+shown_pairs : (b : Nodes) (lv : ℕ → ℕ) (n : ℕ) (qs : List Numbers) → All (IsPairOf (length b.terms)) qs → (ps : List Pair) → AreKnownPairs lv n ps → ArePairReducts ps (map (pair_of b) qs) → All (CanPairBeShown b) qs
+shown_pairs b lv n [] w ps k h = All-nil (CanPairBeShown b)
+shown_pairs b lv n (q ∷ qs) w [] k h = absurd h
+shown_pairs b lv n (q ∷ qs) w (p ∷ ps) k h =
+    let l = All-head (IsPairOf (length b.terms)) q qs w in
+    All-cons (CanPairBeShown b) q qs ((l.0, reduct_loose lv n p.left (tree b q.left.0) k.0.0 h.1), (l.1, reduct_loose lv n p.right (tree b q.right.0) k.0.1 h.2))
+    (shown_pairs b lv n qs (All-tail (IsPairOf (length b.terms)) q qs w) ps k.1 h.3)
+
 module _ (qv : Query) (m : Machine) (x : Answer) (a : IsAnswer qv m x) (b1 b2 b3 to0 to1 to2 : Nodes) (vs full : List TermId) (sides : List Numbers) (values : List TermId) (pairs : List Numbers) (k1 : Extends m.bank b1) (in1 : AreTermsOf b1 vs)
     (trees : map (λ t. tree b1 t.0) vs ≡ vars_from qv.vars 0) (k2 : Extends b1 b2)
     (filled : (c : Closing) → IsReading b1 m.bindings c → IsShut c → AreTermsOf b1 vs → map (λ t. tree b2 t.0) full ≡ map (λ t. closed c (tree b1 t.0)) vs) (k3 : Extends b2 b3)
@@ -163,3 +189,14 @@ module _ (qv : Query) (m : Machine) (x : Answer) (a : IsAnswer qv m x) (b1 b2 b3
       let r2 = reading_kept m.bank b2 m.bindings a.closing k12 a.reading.reading in
       let e = pairs_copied ∙ pairs_filled a.closing r2 a.reading.shut (pairs_stand m.bank b2 k12 m.branch.pairs.items a.left) ∙ same_pairs m.branch.pairs.items a.left in
       subst (ArePairReducts x.pairs) (sym e) (pairs_reduce m.bank a.closing m.branch.pairs.items x.pairs a.pairs)
+
+  -- each value and each side of a pair can be shown
+  vars_shut : (n i : ℕ) → All (LooseBelow (2 ^ 32) 0) (map (closed a.closing) (vars_from n i))
+  vars_shut zero i = All-nil (LooseBelow (2 ^ 32) 0)
+  vars_shut (suc n) i = All-cons (LooseBelow (2 ^ 32) 0) (closed a.closing (atom (logic i 0))) (map (closed a.closing) (vars_from n (suc i))) (closed_loose a.closing a.reading.shut (2 ^ 32) 0 (atom (logic i 0)) tt) (vars_shut n (suc i))
+
+  pub values_shown : All (CanBeShown to2) values
+  values_shown = shown_terms to2 values (terms_later to1 to2 k5 values in_values) (subst (All (LooseBelow (2 ^ 32) 0)) (sym (values_are ∙ a.values)) (vars_shut qv.vars 0))
+
+  pub pairs_shown : All (IsPairOf (length to2.terms)) pairs → All (CanPairBeShown to2) pairs
+  pairs_shown w = shown_pairs to2 a.levels x.next pairs w x.pairs a.known pairs_are

@@ -41,7 +41,7 @@ use Rattle.lp_plain.proofs.Growing.{all_taken, scope_later}
 use Rattle.lp_plain.proofs.Later.{rule_later}
 use Rattle.lp_plain.proofs.LaterIndex.{chain_longer}
 use Rattle.lp_plain.proofs.Opening.{same_stands}
-use Rattle.lp_plain.proofs.NewestTrees.{finds_on, finds_one}
+use Rattle.lp_plain.proofs.NewestTrees.{finds_on}
 use Rattle.lp_plain.proofs.Within.{all_at, longer_list}
 
 -- numbers stand for the same while the lists grow
@@ -98,8 +98,8 @@ module _ (k l : Lists) (i : IsTableIn (length k.bank.terms) k.table) (v : AreVal
 
   pub written_on : {o : Option ℕ} {w : Written} → HasWritten k o w → HasWritten l o w
   written_on (no_standing e z) = no_standing e z
-  written_on (a_standing j s cs σ before e q f h r z) =
-      a_standing j s cs σ before e (subst (λ xs. slice_get xs j ≡ Some s) (sym g.standings.1) (get_append k.standings g.standings.0 j s q))
+  written_on (a_standing j s cs σ before e q y f h r z) =
+      a_standing j s cs σ before e (subst (λ xs. slice_get xs j ≡ Some s) (sym g.standings.1) (get_append k.standings g.standings.0 j s q)) y
       (numbered_on s.free cs f) (values_on s.values.scope σ h) (written_on r) z
 
   pub place_on : (a d : Around) (p : Place) → IsLaterAround (length k.newest) (length k.standings) a d → IsPlaceAt k a p → IsPlaceAt l d p
@@ -115,10 +115,10 @@ module _ (k l : Lists) (i : IsTableIn (length k.bank.terms) k.table) (v : AreVal
   places_on a d fs e h = All-weaker (λ (f : Frame). IsPlaceAt k a f.place) (λ (f : Frame). IsPlaceAt l d f.place) (λ f z. place_on a d f.place e z) fs h
 
   -- one standing more
-  pub stood : (number : ℕ) (s : Standing) (cs : Clauses) (σ : ℕ → Term) (before : Written) → slice_get l.standings number ≡ Some s → IsNumbered
+  pub stood : (number : ℕ) (s : Standing) (cs : Clauses) (σ : ℕ → Term) (before : Written) → slice_get l.standings number ≡ Some s → IsNumberIn number s.older → IsNumbered
       (shown k.table).frees s.free (λ f. collect_clauses f 0 cs) → HasValues k.bank k.blocks s.values.scope σ →
       HasWritten k s.older before → HasWritten l (Some number) (both_written (written_at σ s.values.types (written_in_clauses cs)) before)
-  stood number s cs σ before q f h r = a_standing number s cs σ before refl q (numbered_on s.free cs f) (values_on s.values.scope σ h) (written_on r) refl
+  stood number s cs σ before q y f h r = a_standing number s cs σ before refl q y (numbered_on s.free cs f) (values_on s.values.scope σ h) (written_on r) refl
 
 -- entries name older numbers alone
 module _ (l : Lists) (a d : Around) (e : IsLaterAround (length l.newest) (length l.standings) a d) where
@@ -205,7 +205,7 @@ module _ (m n : Machine) (rule : ℕ) (values : Values) (before : Option ℕ) (h
       of_it : is_head h (Some h) ≡ true → AreUnder (lists_of n) (Some root) h (c ∷ cs)
       of_it z =
           let o = u.1 h in
-          let same : o.newest ≡ one.older = finds_one m.newest.items h o.found one.before in
+          let same : o.newest ≡ one.older = sym (one.before o.newest o.found) in
           record {
             newest = Some (length m.assumptions.items);
             numbers = length m.assumptions.items ∷ o.numbers;

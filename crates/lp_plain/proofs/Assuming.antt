@@ -197,6 +197,9 @@ module _ (m n o q r : Machine) (p : Place) (rules : Span) (list free : ℕ) (beh
     standing_in = subst (λ l. number < length l.standings) (lists_noted o q k ka ∙ same)
         (let e = ap length s.more ∙ length-append n.standings.items (standing ∷ []) in let f = s.counted in omega (arith, e, f))
 
+    older_in : IsNumberIn number p.standing
+    older_in = number_in_more (length m.standings.items) number p.standing (let f = s.counted in let e = ap (λ z. length z.items) g.goals.known.standings in omega (arith, e, f)) h.standing
+
     at_inside : IsPlaceAt (lists_of r) now (inside p tree number)
     at_inside = record {
       tree = tree_in;
@@ -204,7 +207,7 @@ module _ (m n o q r : Machine) (p : Place) (rules : Span) (list free : ℕ) (beh
       assumed = subst (HasAssumed (lists_of r) tree) (sym assumed_now) (has_on (lists_of n) (lists_of r) stands.table stands.values grows_on tree
           whole (assumes cs (a.assumed p.assumed) σ i h.assumed clauses_are of.1));
       written = subst (HasWritten (lists_of r) (Some number)) (sym written_now) (stood (lists_of m) (lists_of r) i.table i.values grows_all number
-          standing cs σ (a.written p.standing) there numbered of.1 h.written);
+          standing cs σ (a.written p.standing) there older_in numbered of.1 h.written);
     }
 
     before : All (λ (f : Frame). IsPlaceAt (lists_of r) now f.place) o.frames.items

@@ -1,5 +1,5 @@
 -- The goals at hand: those of the frame in front, the first of them, and the others as a frame.
-use Rattle.std.proofs.Common.{◌≡◌, ℕ, suc, ◌-◌, ◌≤◌, List, ◌++◌, length, refl, sym, ap, ◌∙◌, subst, arith, Option, None, Some}
+use Rattle.std.proofs.Common.{◌≡◌, ℕ, suc, ◌-◌, ◌<◌, ◌≤◌, List, ◌++◌, length, refl, sym, ap, ◌∙◌, subst, arith, Option, None, Some}
 use Rattle.std.specs.Prelude.{slice_get}
 use Rattle.lp_term.specs.declared.node.TermId.{TermId}
 use Rattle.lp_model.specs.Branch.{Branch, Entry, Task}
@@ -25,6 +25,19 @@ use Rattle.lp_plain.proofs.Grown.{grown_frame, grown_on, placed_on, same_around}
 use Rattle.lp_plain.proofs.NoneBound.{none_kept}
 use Rattle.lp_plain.proofs.Running.{running_still}
 use Rattle.lp_plain.proofs.Within.{all_at}
+
+-- the numbers of goals and frames that are read are numbers of the table and of the search
+
+pub goals_there : (m : Machine) (s : Span) (hs : Goals) → s.from < s.to → AreGoals m.bank Never (shown m.table) s.from s.to hs → slice_get m.table.goals.items s.from ≡ None → ⊥
+goals_there m s no_goals l h e = omega (arith, h, l)
+goals_there m s (goals g gs) l h e = let q : None ≡ Some h.0 = sym e ∙ h.1 in cc
+
+pub frame_there : (m : Machine) (a : Around) (number : ℕ) {o : Option ℕ} {es : List Entry} → Reads m a o es → o ≡ Some number → slice_get m.frames.items number ≡ None → ⊥
+frame_there m a number (no_frame q z) e g = let y : None ≡ Some number = sym q ∙ e in cc
+frame_there m a number (a_frame i f gs rest q x w r z) e g =
+    let same : i ≡ number = (let y : Some i ≡ Some number = sym q ∙ e in cc) in
+    let y : Some f ≡ None = sym x ∙ ap (slice_get m.frames.items) same ∙ g in
+    cc
 
 -- a goal with none behind it in its list
 pub at_last : (m : Machine) (a : Around) (p : Place) (s : Span) (o : Option ℕ) (raw : Branch) (flat : Flat) → slice_get m.table.goals.items s.from ≡ Some flat → s.to ≤ suc s.from → IsAtGoals m a p s o raw → IsAtGoal m a p flat o raw

@@ -120,12 +120,15 @@ first_written m ar p s flat got l w =
     go (no_goal e) = absurd (omega (arith, l, e))
     go (a_goal f e i h) = subst (WrittenFlat m.bank (shown m.table) ar w.type_vars w.binders) (one_read m.table.goals.items s.from f flat e got) i
 
+pub goals_written : (m : Machine) (number : ℕ) (f : Frame) → slice_get m.frames.items number ≡ Some f → (span : Span) → f.todo ≡ Todo.Goals span → (ar : ℕ → ℕ) → IsWrittenSearch m ar → AreWrittenGoals m ar f.place span
+goals_written m number f got span t ar w =
+    subst (IsWrittenTodo m.bank (shown m.table) ar (blocks_of m.scopes) f.place.values.scope) t
+    (all_at (λ (x : Frame). IsWrittenTodo m.bank (shown m.table) ar (blocks_of m.scopes) x.place.values.scope x.todo) m.frames.items number f got w.at_work.goals)
+
 -- the frame in front
 module _ (qv : Query) (m : Machine) (s : State Task) (h : IsState qv m s) (number : ℕ) (f : Frame) (front : m.branch.goals ≡ Some number) (got : slice_get m.frames.items number ≡ Some f) where
   pub frame_written : (span : Span) → f.todo ≡ Todo.Goals span → (ar : ℕ → ℕ) → IsWrittenSearch m ar → AreWrittenGoals m ar f.place span
-  frame_written span t ar w =
-      subst (IsWrittenTodo m.bank (shown m.table) ar (blocks_of m.scopes) f.place.values.scope) t
-      (all_at (λ (x : Frame). IsWrittenTodo m.bank (shown m.table) ar (blocks_of m.scopes) x.place.values.scope x.todo) m.frames.items number f got w.at_work.goals)
+  frame_written span t ar w = goals_written m number f got span t ar w
 
   pub term_at : (u : TermId) → f.todo ≡ Todo.Term u → IsAtTerm m h.around f.place u f.behind h.raw
   term_at u t = go (subst (λ o. Reads m h.around o h.raw.goals) front h.goals)

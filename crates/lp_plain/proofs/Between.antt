@@ -152,7 +152,7 @@ over_is k x y Heard heard s u event e q eu it st en =
     )
 
 pub answer_rested : (qv : Query) (m : Machine) (x : Answer) → IsAnswer qv m x → IsAnswer qv (rested m) x
-answer_rested qv m x a = record { closing = a.closing; reading = a.reading; next = a.next; next_type = a.next_type; types = a.types; values = a.values; pairs = a.pairs; left = a.left }
+answer_rested qv m x a = record { closing = a.closing; reading = a.reading; next = a.next; next_type = a.next_type; types = a.types; values = a.values; pairs = a.pairs; left = a.left; levels = a.levels; known = a.known }
 
 in_query_alone : (q : Query) (j k : ℕ) (ws : List Waiting) → ws ≡ [] → IsInQuery q j k ws → k ≡ q.vars
 in_query_alone q j k [] e h = h.1

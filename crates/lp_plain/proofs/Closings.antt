@@ -104,7 +104,7 @@ instance_under z s σ (abs b) =
 instance_under z s σ (app t u) = let e = instance_under z s σ t in let f = instance_under z s σ u in λ i. app (e i) (f i)
 
 -- no loose index comes by a reading
-loose_more : (n d e : ℕ) (t : Term) → d ≤ n + e → LooseBelow 0 d t → LooseBelow n e t
+pub loose_more : (n d e : ℕ) (t : Term) → d ≤ n + e → LooseBelow 0 d t → LooseBelow n e t
 loose_more n d e (index i) m l = omega (arith, m, l)
 loose_more n d e (atom a) m l = tt
 loose_more n d e (abs b) m l = loose_more n (suc d) (suc e) b (omega (arith, m)) l

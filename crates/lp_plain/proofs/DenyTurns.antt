@@ -118,7 +118,7 @@ module _ (qv : Query) (m : Machine) (a : Around) (raw : Branch) (s : State Task)
   tested : (n : ℕ) (o : Openness) → AreFound m (record { free = free; values = p.values; older = p.standing }) o → IsTested n o asked
   tested n o k =
       subst (λ v. IsTested n o (both_written own v)) (sym sp.entry.place.written)
-      (standing_tested m h.above.done.stands h.closing h.reading.shut n (k h.closing h.reading.reading h.reading.shut)
+      (standing_tested m h.above.done.stands h.closing h.reading.shut n (k h.closing h.reading.reading h.reading.shut) at.place.standing
       (λ f. collect_goals f 0 ng.goals) ng.numbered at.values at.at (a.written p.standing) at.place.written)
 
   abbrev inside : Task

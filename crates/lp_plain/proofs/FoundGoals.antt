@@ -16,7 +16,7 @@ use Rattle.lp_plain.specs.declared.scope.Scopes.{Scopes}
 use Rattle.lp_plain.specs.declared.table.Table.{Table}
 
 abbrev IsFoundBy : Standing → Openness → Nodes → Bindings → Scopes → Table → List Standing → Type 0
-IsFoundBy g o b s sc t st = (c : Closing) → IsReading b s c → IsShut c → OfStanding t.frees.items st (OfFree b c sc) o g
+IsFoundBy g o b s sc t st = (c : Closing) → IsReading b s c → IsShut c → OfStanding t.frees.items st (OfFree b c sc) (length st) o g
 
 pub found_before : (old new : Machine) (goals : Standing) (o : Openness) → KeepsKnown old new → AreFound new goals o → AreFound old goals o
 found_before old new g o k f =

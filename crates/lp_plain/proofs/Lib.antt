@@ -5,6 +5,7 @@ mod SlotValues
 mod FormFirsts
 pub mod GoalForms
 pub mod Indexes
+mod Chains
 pub mod Instances
 pub mod ListReads
 pub mod NewestTrees
@@ -139,6 +140,7 @@ pub mod TryWritten
 pub mod WrittenSearches
 pub mod WrittenAssumed
 pub mod WrittenParts
+mod HeadsWritten
 pub mod WrittenFirst
 pub mod WrittenPut
 mod Bounds
@@ -172,8 +174,8 @@ mod DenyBegins
 mod DenyTurns
 mod DenyFirst
 mod DenyStands
-mod Hearing
-mod HeardParts
+pub mod Hearing
+pub mod HeardParts
 mod Beginning
 mod AtomTells
 mod ChoicesBack

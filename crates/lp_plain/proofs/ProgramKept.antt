@@ -31,6 +31,9 @@ only_keeps m n o = record { bank = o.bank; table = ap (λ (y : Machine). y.table
 pub goals_keep : (m n : Machine) → KeepsGoals m n → KeepsProgram m n
 goals_keep m n g = record { bank = subst (Extends m.bank) (sym g.known.bank) (extends_same m.bank); table = g.known.table; index = g.known.index }
 
+pub program_stood : (m n : Machine) → n.bank ≡ m.bank → n.table ≡ m.table → n.index ≡ m.index → KeepsProgram m n
+program_stood m n e t i = record { bank = subst (Extends m.bank) (sym e) (extends_same m.bank); table = t; index = i }
+
 pub bound_keeps : (m n : Machine) → IsBoundIn m n → KeepsProgram m n
 bound_keeps m n b = record { bank = b.bank; table = b.table; index = b.index }
 

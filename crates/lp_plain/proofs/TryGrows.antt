@@ -1,6 +1,6 @@
 -- What a try leaves, and what may grow by it.
-use Rattle.std.proofs.Common.{◌≡◌, ℕ, ◌+◌, ◌<◌, ◌≤◌, List, length, refl, sym, ap, ◌∙◌, subst, arith}
-use Rattle.std.specs.Prelude.{All}
+use Rattle.std.proofs.Common.{◌≡◌, ℕ, ◌+◌, ◌<◌, ◌≤◌, List, length, refl, sym, ap, ◌∙◌, subst, arith, None, Some}
+use Rattle.std.specs.Prelude.{All, slice_get}
 use Rattle.std.proofs.lemmas.List.Elements.{All-weaker}
 use Rattle.lp_calculus.specs.Term.{apply}
 use Rattle.lp_term.specs.Nodes.{Extends, tree}
@@ -10,6 +10,7 @@ use Rattle.lp_term.proofs.Trees.{extends_same, extends-trans}
 use Rattle.lp_pattern.specs.Growing.{GoesOn, Grows, IsPairOf}
 use Rattle.lp_pattern.proofs.Keeps.{goes_on_same, goes_on_then, grows_same, grows_then}
 use Rattle.lp_plain.specs.declared.candidates.Candidate.{Candidate}
+use Rattle.lp_plain.specs.declared.frame.Assumption.{Assumption}
 use Rattle.lp_plain.specs.declared.choice.Call.{Call}
 use Rattle.lp_plain.specs.declared.frame.Frame.{Frame}
 use Rattle.lp_plain.specs.declared.frame.Place.{Place}
@@ -22,7 +23,7 @@ use Rattle.lp_plain.specs.Entries.{KeepsGoals}
 use Rattle.lp_plain.specs.Heads.{trees_of}
 use Rattle.lp_plain.specs.Instances.{AreValues}
 use Rattle.lp_plain.specs.Keeping.{KeepsCourse}
-use Rattle.lp_plain.specs.Trials.{GrowsByTry, IsGoalOf, goal_of}
+use Rattle.lp_plain.specs.Trials.{GrowsByTry, IsAround, IsGoalOf, IsNoTrial, goal_of}
 use Rattle.lp_plain.specs.Unifying.{IsBoundIn, IsMore, StandPairs}
 use Rattle.lp_plain.specs.Within.{IsTableIn, IsTodoIn, StandsIn}
 use Rattle.lp_plain.proofs.Grown.{grown_by, grown_frame, grown_kept, grown_still, grown_then}
@@ -86,6 +87,43 @@ told_scopes m n (Candidate.Program i) p h = ap (λ x. x.scopes) h.2.4
 told_pairs : (m n : Machine) (candidate : Candidate) (p : ℕ × Values) → IsClauseOf m n candidate p → n.branch.pairs ≡ m.branch.pairs
 told_pairs m n (Candidate.Assumed i) p h = ap (λ x. x.branch.pairs) h.4
 told_pairs m n (Candidate.Program i) p h = ap (λ x. x.branch.pairs) h.2.4
+
+-- a candidate without a clause is no trial
+
+pub no_assumption : (m : Machine) (x : Candidate) (i : ℕ) → x ≡ Candidate.Assumed i → slice_get m.assumptions.items i ≡ None → IsNoTrial m x
+no_assumption m x i e none vs h values σ T = go x e T.around
+  where
+    go : (y : Candidate) → y ≡ Candidate.Assumed i → IsAround m y T.rule T.type_vars values → ⊥
+    go (Candidate.Assumed j) q a =
+        let same : j ≡ i = cc in
+        let z : Some a.0 ≡ None = sym a.1 ∙ ap (slice_get m.assumptions.items) same ∙ none in
+        cc
+    go (Candidate.Program j) q a = cc
+
+pub no_assumed_rule : (m : Machine) (x : Candidate) (i : ℕ) (f : Assumption) → x ≡ Candidate.Assumed i → slice_get m.assumptions.items i ≡ Some f → slice_get m.table.rules.items f.rule ≡ None → IsNoTrial m x
+no_assumed_rule m x i f e there none vs h values σ T = go x e T.around
+  where
+    go : (y : Candidate) → y ≡ Candidate.Assumed i → IsAround m y T.rule T.type_vars values → ⊥
+    go (Candidate.Assumed j) q a =
+        let same : j ≡ i = cc in
+        let found : a.0 ≡ f = (let z : Some a.0 ≡ Some f = sym a.1 ∙ ap (slice_get m.assumptions.items) same ∙ there in cc) in
+        let z : Some T.is.0 ≡ None = sym T.is.1 ∙ ap (slice_get m.table.rules.items) (a.2 ∙ ap (λ (y : Assumption). y.rule) found) ∙ none in
+        cc
+    go (Candidate.Program j) q a = cc
+
+pub no_program_rule : (m : Machine) (x : Candidate) (i : ℕ) → x ≡ Candidate.Program i → slice_get m.table.rules.items i ≡ None → IsNoTrial m x
+no_program_rule m x i e none vs h values σ T = go x e T.around
+  where
+    go : (y : Candidate) → y ≡ Candidate.Program i → IsAround m y T.rule T.type_vars values → ⊥
+    go (Candidate.Assumed j) q a = cc
+    go (Candidate.Program j) q a =
+        let same : j ≡ i = cc in
+        let z : Some T.is.0 ≡ None = sym T.is.1 ∙ ap (slice_get m.table.rules.items) (a.0 ∙ same) ∙ none in
+        cc
+
+-- nothing changes by it
+pub same_more : (m n : Machine) → n ≡ m → IsMore m n
+same_more m n e = subst (IsMore m) (sym e) (types_more m m.branch.next_type (omega arith))
 
 -- what is bound
 pub bound_more : (m n : Machine) → IsBoundIn m n → IsMore m n

@@ -22,7 +22,7 @@ use Rattle.lp_plain.proofs.WrittenGrows.{clause_written, older_written}
 use Rattle.lp_plain.proofs.WrittenSearches.{search_grows}
 
 -- a clause of some
-rule_within : (b : Nodes) (t : Shown) (ar : ℕ → ℕ) (k : ℕ) (bs : List Bool) (from to i : ℕ) → WrittenRules b t ar k bs from to → from ≤ i → i < to →
+pub rule_within : (b : Nodes) (t : Shown) (ar : ℕ → ℕ) (k : ℕ) (bs : List Bool) (from to i : ℕ) → WrittenRules b t ar k bs from to → from ≤ i → i < to →
     ((r : Rule) × (slice_get t.rules i ≡ Some r) × (r.type_vars ≡ 0)) × WrittenRule b t ar k bs i
 rule_within b t ar k bs from to i (no_rule e) l m = absurd (omega (arith, e, l, m))
 rule_within b t ar k bs from to i (more_rules r e z w ws) l m = go (nat_lt from i) refl (λ h. rule_within b t ar k bs (suc from) to i ws h m)

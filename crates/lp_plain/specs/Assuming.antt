@@ -119,17 +119,17 @@ HasHead c = (h : Head) × (head_at c ≡ Some h)
 abbrev pub HasAssumed : Lists → (tree : Option ℕ) → List Clause → Type 0
 HasAssumed l tree cs = EachOf HasHead cs × ((h : Head) → AreUnder l tree h cs)
 
--- what is written in the clauses of a standing, and in those before it
-pub data HasWritten (l : Lists) : Option ℕ → Written → Type 0 where
-  no_standing : {o : Option ℕ} {w : Written} → o ≡ None → w ≡ nothing_written → HasWritten l o w
-  a_standing : {o : Option ℕ} {w : Written} (i : ℕ) (s : Standing) (cs : Clauses) (σ : ℕ → Term) (before : Written) → o ≡ Some i → slice_get
-      l.standings i ≡ Some s → IsNumbered (shown l.table).frees s.free (λ f. collect_clauses f 0 cs) →
-      HasValues l.bank l.blocks s.values.scope σ → HasWritten l s.older before → w ≡ both_written (written_at σ s.values.types (written_in_clauses cs)) before → HasWritten l o w
-
 -- a number is one of the first n, where there is one
 abbrev pub IsNumberIn : ℕ → Option ℕ → Type 0
 IsNumberIn n None = Unit {0}
 IsNumberIn n (Some i) = i < n
+
+-- what is written in the clauses of a standing, and in those before it, which have older numbers
+pub data HasWritten (l : Lists) : Option ℕ → Written → Type 0 where
+  no_standing : {o : Option ℕ} {w : Written} → o ≡ None → w ≡ nothing_written → HasWritten l o w
+  a_standing : {o : Option ℕ} {w : Written} (i : ℕ) (s : Standing) (cs : Clauses) (σ : ℕ → Term) (before : Written) → o ≡ Some i → slice_get
+      l.standings i ≡ Some s → IsNumberIn i s.older → IsNumbered (shown l.table).frees s.free (λ f. collect_clauses f 0 cs) →
+      HasValues l.bank l.blocks s.values.scope σ → HasWritten l s.older before → w ≡ both_written (written_at σ s.values.types (written_in_clauses cs)) before → HasWritten l o w
 
 -- the numbers of a place stand for its assumptions and for what is written in them
 pub record IsPlaceAt (l : Lists) (a : Around) (p : Place) : Type 0 where
@@ -169,7 +169,7 @@ pub record AssumesMore (old new : Machine) : Type 0 where
 pub record IsOneMore (old new : Machine) (rule : ℕ) (values : Values) (tree : Option ℕ) (h : Head) (root : ℕ) : Type 0 where
   pub more : AssumesMore old new
   pub older : Option ℕ
-  pub before : IsNewest old.newest.items tree h older
+  pub before : (f : Option ℕ) → IsNewest old.newest.items tree h f → older ≡ f
   pub assumption : slice_get new.assumptions.items (length old.assumptions.items) ≡ Some (record { rule = rule; values = values; older = older })
   pub there : IsNewest new.newest.items (Some root) h (Some (length old.assumptions.items))
   pub others : (other : Head) (f : Option ℕ) → (other ≡ h → ⊥) → IsNewest old.newest.items tree other f → IsNewest new.newest.items (Some root) other f

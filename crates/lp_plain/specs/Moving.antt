@@ -410,6 +410,8 @@ pub record IsAnswer (qv : Query) (m : Machine) (x : Answer) : Type 0 where
   pub values : x.values ≡ map (closed closing) (vars_from qv.vars 0)
   pub pairs : ArePairsFor m.bank closing m.branch.pairs.items x.pairs
   pub left : All (IsPairOf (length m.bank.terms)) m.branch.pairs.items
+  pub levels : ℕ → ℕ
+  pub known : AreKnownPairs levels x.next x.pairs
 
 -- an answer was given: the search goes back from there, in a new row
 pub record IsAnswered (qv : Query) (m : Machine) (s : State Task) : Type 0 where

@@ -33,7 +33,7 @@ pub record Begins (old new : Machine) (behind : Option ℕ) : Type 0 where
 
 -- the goals, with the clauses that are assumed around them, are found closed, open or too deep: under each closing that the bindings read
 abbrev pub AreFound : Machine → Standing → Openness → Type 0
-AreFound m goals o = (c : Closing) → IsReading m.bank m.bindings c → IsShut c → OfStanding m.table.frees.items m.standings.items (OfFree m.bank c m.scopes) o goals
+AreFound m goals o = (c : Closing) → IsReading m.bank m.bindings c → IsShut c → OfStanding m.table.frees.items m.standings.items (OfFree m.bank c m.scopes) (length m.standings.items) o goals
 
 -- how the search goes on at a negated goal: by what is found of its goals, once a step may be taken
 abbrev pub Takes : Turn → (goals : Standing) → (old new : Machine) → (behind : Option ℕ) → Type 0

@@ -5,6 +5,7 @@ use Rattle.lp_plain.specs.declared.head.Head.{Head}
 use Rattle.lp_plain.specs.declared.head.Head.TheVariants.{Constant, Eigen}
 use Rattle.lp_plain.specs.declared.newest.Newest.{Newest}
 use Rattle.lp_plain.specs.declared.newest.Step.{Step}
+use Rattle.lp_plain.specs.Scopes.{blocks_to}
 
 -- the number whose bits lead to a head
 unfoldable pub code_of : Head → ℕ
@@ -28,11 +29,12 @@ abbrev pub node_of : Option Newest → Head → (number : ℕ) → Newest
 node_of None head number = record { head = head; number = number; even = None; odd = None }
 node_of (Some n) head number = record { head = n.head; number = number; even = n.even; odd = n.odd }
 
--- from a place in the tree on, these bits lead to what is found for the head: its newest assumption, or none
+-- from a place in the tree on, these bits lead to what is found for the head: its newest assumption, or none. Below each node on the way is an older one
 pub data Finds (nodes : List Newest) (head : Head) : Option ℕ → (bits : ℕ) → (found : Option ℕ) → Type 0 where
   nothing : {o : Option ℕ} {bits : ℕ} {found : Option ℕ} → o ≡ None → found ≡ None → Finds nodes head o bits found
   here : {o : Option ℕ} {bits : ℕ} {found : Option ℕ} (i : ℕ) (n : Newest) → o ≡ Some i → slice_get nodes i ≡ Some n → n.head ≡ head → found ≡ Some n.number → Finds nodes head o bits found
-  further : {o : Option ℕ} {bits : ℕ} {found : Option ℕ} (i : ℕ) (n : Newest) → o ≡ Some i → slice_get nodes i ≡ Some n → (n.head ≡ head → ⊥) → Finds nodes head (child_of n (is_odd bits)) (bits / 2) found → Finds nodes head o bits found
+  further : {o : Option ℕ} {bits : ℕ} {found : Option ℕ} (i : ℕ) (n : Newest) → o ≡ Some i → slice_get nodes i ≡ Some n → (n.head ≡ head → ⊥) → blocks_to (child_of n (is_odd bits)) ≤ i →
+      Finds nodes head (child_of n (is_odd bits)) (bits / 2) found → Finds nodes head o bits found
 
 -- the newest assumption of a head in a tree
 abbrev pub IsNewest : List Newest → (tree : Option ℕ) → Head → (found : Option ℕ) → Type 0
@@ -47,11 +49,11 @@ pub record IsWith (old new : List Newest) (head : Head) (number : ℕ) (o : Opti
 pub data Comes (nodes : List Newest) (head : Head) (tree : Option ℕ) : List Step → Option ℕ → (bits : ℕ) → Type 0 where
   begins : {steps : List Step} {o : Option ℕ} {bits : ℕ} → steps ≡ [] → o ≡ tree → bits ≡ code_of head → Comes nodes head tree steps o bits
   goes_down : {steps : List Step} {o : Option ℕ} {bits : ℕ} (i b : ℕ) (s : Step) (before : List Step) → steps ≡ s ∷ before → slice_get nodes i ≡ Some s.node → (s.node.head ≡ head → ⊥)
-      → s.is_odd ≡ is_odd b → o ≡ child_of s.node (is_odd b) → bits ≡ b / 2 → Comes nodes head tree before (Some i) b → Comes nodes head tree steps o bits
+      → s.is_odd ≡ is_odd b → (blocks_to (child_of s.node (is_odd b)) ≤ i → o ≡ child_of s.node (is_odd b)) → bits ≡ b / 2 → Comes nodes head tree before (Some i) b → Comes nodes head tree steps o bits
 
--- the head's node stands in the place, or none does
+-- the head's node stands in the place, or nothing is found from there on
 abbrev pub IsEnd : List Newest → Head → Option ℕ → (end : Option Newest) → Type 0
-IsEnd nodes head o None = o ≡ None
+IsEnd nodes head o None = (other : Head) (b : ℕ) (f : Option ℕ) → Finds nodes other o b f → f ≡ None
 IsEnd nodes head o (Some n) = (i : ℕ) × (o ≡ Some i) × (slice_get nodes i ≡ Some n) × (n.head ≡ head)
 
 -- the way to the place where the head's node stands, or where none does

@@ -65,8 +65,11 @@ abbrev pub OfFree : Nodes → Closing → Scopes → Values → Free → Opennes
 OfFree b c s v f o = (nb nv : ℕ) → (vs : List TermId) → IsScope s nb nv v.scope vs →
     OfBoth (λ o. OfAll (OfIndex b c vs) o f.variables.items) (λ o. OfAll (λ o x. IsTypeJudged o (c.types (new_number v.types x))) o f.types.items) o
 
--- what is written in goals or clauses, and, where that is closed, in the clauses that are assumed around them
-pub data OfStanding (frees : List Free) (standings : List Standing) (J : Values → Free → Openness → Type 0) : Openness → Standing → Type 0 where
-  ends : {o : Openness} {s : Standing} (f : Free) → slice_get frees s.free ≡ Some f → J s.values f o → (s.older ≡ None) ⊎ (o ≡ Closed → ⊥) → OfStanding frees standings J o s
-  goes_on : {o : Openness} {s : Standing} (f : Free) (i : ℕ) (r : Standing) → slice_get frees s.free ≡ Some f → J s.values f Closed → s.older ≡ Some i → slice_get standings i ≡ Some r →
-      OfStanding frees standings J o r → OfStanding frees standings J o s
+-- what is written in goals or clauses, and, where that is closed, in the clauses that are assumed around them, which have an older number than n. Of numbers for which nothing stands
+-- nothing is said
+pub data OfStanding (frees : List Free) (standings : List Standing) (J : Values → Free → Openness → Type 0) : (n : ℕ) → Openness → Standing → Type 0 where
+  ends : {n : ℕ} {o : Openness} {s : Standing} (f : Free) → slice_get frees s.free ≡ Some f → J s.values f o → (s.older ≡ None) ⊎ (o ≡ Closed → ⊥) → OfStanding frees standings J n o s
+  goes_on : {n : ℕ} {o : Openness} {s : Standing} (f : Free) (i : ℕ) (r : Standing) → slice_get frees s.free ≡ Some f → J s.values f Closed → s.older ≡ Some i → slice_get standings i ≡ Some r →
+      OfStanding frees standings J i o r → OfStanding frees standings J n o s
+  nothing : {n : ℕ} {o : Openness} {s : Standing} → slice_get frees s.free ≡ None → OfStanding frees standings J n o s
+  astray : {n : ℕ} {o : Openness} {s : Standing} (i : ℕ) → s.older ≡ Some i → (n ≤ i) ⊎ (slice_get standings i ≡ None) → OfStanding frees standings J n o s

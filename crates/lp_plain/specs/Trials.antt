@@ -78,6 +78,10 @@ pub record IsTrialOf (m : Machine) (candidate : Candidate) (vs : List Ty) (h : T
   pub types : ℕ
   pub written : IsWritten arity types (length vs + length outer) h
 
+-- no clause stands for the candidate
+abbrev pub IsNoTrial : Machine → Candidate → Type 0
+IsNoTrial m candidate = (vs : List Ty) (h : Term) (values : Values) (σ : ℕ → Term) → IsTrialOf m candidate vs h values σ → ⊥
+
 -- the first of these terms gives way to this one
 abbrev pub with_first_term : Option Term → List Term → List Term
 with_first_term None ts = ts

@@ -94,6 +94,10 @@ WritesWhere m n Is = (ar : ℕ → ℕ) → StandsIn m → Is → IsWrittenSearc
 abbrev pub PushesRule : (old new : Machine) → (rule : ℕ) → Values → Type 0
 PushesRule m n rule v = (o : Option ℕ) × (n.assumptions.items ≡ m.assumptions.items ++ record { rule = rule; values = v; older = o } ∷ [])
 
+-- it is not so that these clauses are written in the place: one of them has no head by which an assumed clause is found
+abbrev pub IsHeadless : Machine → Place → (rules : Span) → Type 0
+IsHeadless m p s = (ar : ℕ → ℕ) → IsWrittenIn m.bank (blocks_of m.scopes) p.values.scope (λ k bs. WrittenRules m.bank (shown m.table) ar k bs s.from s.to) → ⊥
+
 -- the first goal of the branch at work is a flattened one that is taken apart
 pub record IsApartAtHand (m : Machine) : Type 0 where
   pub number : ℕ

@@ -1,5 +1,5 @@
 // The answer that a branch without goals is, in a bank of its own.
-ghost use Rattle.std.specs.Prelude.{◌≡◌, true, ℕ, All, length, map, IfOk, OnOk};
+ghost use Rattle.std.specs.Prelude.{◌≡◌, true, false, ℕ, All, length, map, IfOk, IfSome, IsSome, OnOk};
 ghost use Rattle.lp_term.specs.Memo.{AreMade};
 ghost use Rattle.lp_term.specs.Nodes.{Extends, tree};
 ghost use Rattle.lp_term.specs.Same.{same_map};
@@ -17,6 +17,7 @@ ghost use Rattle.lp_plain.specs.Telling.{IsAnswerOf};
 ghost use Rattle.lp_plain.specs.inner.Answering.{pair_under};
 
 use crate::machine::Machine;
+use crate::openness::has_small_indices;
 use crate::start::query_variables;
 use lp_base::Memory;
 use lp_model::{Answer, Pair};
@@ -97,6 +98,7 @@ fn copied_pairs(
     to: &mut Bank,
 ) -> Result<Vec<Pair>, Memory>
     ensures kept { Extends to.old to.new }
+    ensures within { IfOk result (λ made. All (IsPairOf (length to.new.terms)) made.items) }
     ensures copied { IfOk result (λ made. AreMade same_map from.now to.old copies.old → map (pair_of to.new) made.items ≡ map (pair_of from.now) pairs.now.items) }
 {
     let mut made = Vec::new(alloc);
@@ -113,48 +115,61 @@ fn copied_pairs(
     Ok(made)
 }
 
-fn can_be_shown(bank: &Bank, id: TermId) -> bool
-    ensures { result ≡ true → CanBeShown bank.now id }
+// Whether the term stands in the bank and its loose indices fit 32 bits.
+fn can_be_shown(alloc: Global, bank: &Bank, id: TermId) -> Result<bool, Memory>
+    ensures shown { IfOk result (λ shown. shown ≡ true → CanBeShown bank.now id) }
+    ensures hidden { IfOk result (λ shown. shown ≡ false → CanBeShown bank.now id → ⊥) }
 {
     if id.0 >= bank.term_count() {
-        return false;
+        return Ok(false);
     }
-    bank.is_known_below(id, 4_294_967_296)
+    let small = has_small_indices(alloc, bank, id)?;
+    Ok(small)
 }
 
-fn can_all_be_shown(bank: &Bank, ids: &Vec<TermId>) -> bool
-    ensures { result ≡ true → All (CanBeShown bank.now) ids.now.items }
+fn can_all_be_shown(alloc: Global, bank: &Bank, ids: &Vec<TermId>) -> Result<bool, Memory>
+    ensures shown { IfOk result (λ shown. shown ≡ true → All (CanBeShown bank.now) ids.now.items) }
+    ensures hidden { IfOk result (λ shown. shown ≡ false → All (CanBeShown bank.now) ids.now.items → ⊥) }
 {
     'each: for at in 0..ids.len() {
-        if !can_be_shown(bank, ids[at]) {
-            return false;
+        let shown = can_be_shown(alloc, bank, ids[at])?;
+        if !shown {
+            return Ok(false);
         }
     }
-    true
+    Ok(true)
 }
 
-fn can_pair_be_shown(bank: &Bank, pair: Pair) -> bool
-    ensures { result ≡ true → CanPairBeShown bank.now pair }
+fn can_pair_be_shown(alloc: Global, bank: &Bank, pair: Pair) -> Result<bool, Memory>
+    ensures shown { IfOk result (λ shown. shown ≡ true → CanPairBeShown bank.now pair) }
+    ensures hidden { IfOk result (λ shown. shown ≡ false → CanPairBeShown bank.now pair → ⊥) }
 {
-    can_be_shown(bank, pair.left) && can_be_shown(bank, pair.right)
+    let left = can_be_shown(alloc, bank, pair.left)?;
+    if !left {
+        return Ok(false);
+    }
+    let right = can_be_shown(alloc, bank, pair.right)?;
+    Ok(right)
 }
 
-fn can_pairs_be_shown(bank: &Bank, pairs: &Vec<Pair>) -> bool
-    ensures { result ≡ true → All (CanPairBeShown bank.now) pairs.now.items }
+fn can_pairs_be_shown(alloc: Global, bank: &Bank, pairs: &Vec<Pair>) -> Result<bool, Memory>
+    ensures shown { IfOk result (λ shown. shown ≡ true → All (CanPairBeShown bank.now) pairs.now.items) }
+    ensures hidden { IfOk result (λ shown. shown ≡ false → All (CanPairBeShown bank.now) pairs.now.items → ⊥) }
 {
     'each: for at in 0..pairs.len() {
-        if !can_pair_be_shown(bank, pairs[at]) {
-            return false;
+        let shown = can_pair_be_shown(alloc, bank, pairs[at])?;
+        if !shown {
+            return Ok(false);
         }
     }
-    true
+    Ok(true)
 }
 
-/// The values of the query's variables, so many, and the residual pairs.
-pub(crate) fn answer_of(machine: &mut Machine, count: usize) -> Result<Answer, Memory>
-    ensures whole { IfOk result (IsWhole count) }
+/// The values of the query's variables, so many, and the residual pairs; none where one of them cannot be shown.
+pub(crate) fn answer_of(machine: &mut Machine, count: usize) -> Result<Option<Answer>, Memory>
+    ensures whole { IfOk result (λ found. IfSome found (IsWhole count)) }
     ensures only { OnOk result (OnlyBank machine.old machine.new) }
-    ensures answer { IfOk result (λ answer. (qv : Query) (x : Found) → count ≡ qv.vars → IsAnswer qv machine.old x → IsAnswerOf x answer) }
+    ensures answer { IfOk result (λ found. (qv : Query) (x : Found) → count ≡ qv.vars → IsAnswer qv machine.old x → IsSome found × IfSome found (IsAnswerOf x)) }
 {
     let alloc = machine.alloc;
     let variables = query_variables(alloc, &mut machine.bank, count)?;
@@ -169,15 +184,17 @@ pub(crate) fn answer_of(machine: &mut Machine, count: usize) -> Result<Answer, M
     let mut copies = Changed::new(alloc);
     let values = copied_terms(alloc, &mut copies, &machine.bank, &full, &mut bank)?;
     let pairs = copied_pairs(alloc, &mut copies, &machine.bank, &sides, &mut bank)?;
-    if !can_all_be_shown(&bank, &values) {
-        return Err(Memory);
+    let values_shown = can_all_be_shown(alloc, &bank, &values)?;
+    if !values_shown {
+        return Ok(None);
     }
-    if !can_pairs_be_shown(&bank, &pairs) {
-        return Err(Memory);
+    let pairs_shown = can_pairs_be_shown(alloc, &bank, &pairs)?;
+    if !pairs_shown {
+        return Ok(None);
     }
-    Ok(Answer {
+    Ok(Some(Answer {
         bank,
         values,
         pairs,
-    })
+    }))
 }

@@ -201,7 +201,7 @@ fn put_others(machine: &mut Machine, call: &Call, candidate: Candidate) -> Resul
     ensures written { OnOk result ((ar : ℕ → ℕ) → StandsIn machine.old → IsWrittenSearch machine.old ar → IsWrittenSearch machine.new ar) }
     ensures at_try { OnOk result ((qv : Query) (a : Around) (s : State Task) → IsTrying qv machine.old a call.now candidate s → IsAtTry qv machine.new a call.now candidate (length machine.old.choices.items) s) }
 {
-    let found = machine.candidate_after(call, candidate)?;
+    let found = machine.candidate_after(call, candidate);
     let Some(next) = found else {
         return Ok(());
     };
@@ -282,7 +282,7 @@ fn take_call(
     let Some(call) = looked else {
         return Ok(Turn::Ended(Ending::Deep));
     };
-    let found = machine.first_candidate(&call)?;
+    let found = machine.first_candidate(&call);
     let Some(candidate) = found else {
         return Ok(Turn::Back);
     };

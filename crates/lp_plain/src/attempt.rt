@@ -1,5 +1,5 @@
 // One try of a clause for a goal.
-ghost use Rattle.std.specs.Prelude.{◌≡◌, ℕ, ◌+◌, ◌<◌, ◌≤◌, ◌∷◌, ◌++◌, List, All, Some, map, length, drop, slice_get, IfOk, OnOk};
+ghost use Rattle.std.specs.Prelude.{◌≡◌, ℕ, ◌+◌, ◌<◌, ◌≤◌, ◌∷◌, ◌++◌, List, All, None, Some, map, length, slice_get, IfOk, IfSome, OnOk};
 ghost use Rattle.lp_calculus.specs.Types.{Ty};
 ghost use Rattle.lp_calculus.specs.Term.{Term, Atom, atom};
 ghost use Rattle.lp_calculus.specs.Instance.{instance_term};
@@ -22,7 +22,7 @@ ghost use Rattle.lp_plain.specs.Renewal.{Fits, renewing};
 ghost use Rattle.lp_plain.specs.Scopes.{IsScope};
 ghost use Rattle.lp_plain.specs.Slots.{AreIn, IsSlotted, AreSlotted};
 ghost use Rattle.lp_plain.specs.Attempted.{AreNewTypes, ArePaired, AreWrittenIn, IsClauseOf, IsOpened, IsPairAdded, OpensMore, becomes, types_of, with_first};
-ghost use Rattle.lp_plain.specs.Trials.{GrowsByTry, IsGoalOf, IsTriedAs};
+ghost use Rattle.lp_plain.specs.Trials.{GrowsByTry, IsGoalOf, IsNoTrial, IsTriedAs};
 ghost use Rattle.lp_plain.specs.Unifying.{IsBoundIn, IsMore, StandPairs};
 ghost use Rattle.lp_plain.specs.Within.{StandsIn};
 ghost use Rattle.lp_plain.specs.Written.{IsWritten};
@@ -43,30 +43,39 @@ use lp_model::Pair;
 use lp_term::{Bank, TermId, TermNode, TypeId, put_logic, spine_of};
 use std::alloc::Global;
 
-// The number of the candidate's clause, and what stands around it. A program clause gets new type variables.
-fn clause_of(machine: &mut Machine, candidate: Candidate) -> Result<(usize, Values), Memory>
-    ensures { IfOk result (IsClauseOf machine.old machine.new candidate) }
+// The number of the candidate's clause, and what stands around it. A program clause gets new type variables. None where there is no such clause.
+fn clause_of(machine: &mut Machine, candidate: Candidate) -> Result<Option<(usize, Values)>, Memory>
+    ensures is { IfOk result (λ found. IfSome found (IsClauseOf machine.old machine.new candidate)) }
+    ensures there { IfOk result (λ found. IfSome found (λ p. p.0 < length machine.new.table.rules.items)) }
+    ensures none { IfOk result (λ found. found ≡ None → (machine.new ≡ machine.old) × IsNoTrial machine.old candidate) }
 {
     match candidate {
         Candidate::Assumed(number) => {
             let Some(assumption) = machine.assumptions.get(number) else {
-                return Err(Memory);
+                return Ok(None);
             };
-            Ok((assumption.rule, assumption.values))
+            if !machine.table.has_rule(assumption.rule) {
+                return Ok(None);
+            }
+            Ok(Some((assumption.rule, assumption.values)))
         }
         Candidate::Program(number) => {
+            if !machine.table.has_rule(number) {
+                return Ok(None);
+            }
             let types = new_types(machine, number)?;
-            Ok((number, Values { scope: None, types }))
+            Ok(Some((number, Values { scope: None, types })))
         }
     }
 }
 
 // New numbers for the type variables of a program clause.
 fn new_types(machine: &mut Machine, rule: usize) -> Result<Renewal, Memory>
+    requires { rule < length machine.old.table.rules.items }
     ensures fits { IfOk result (λ r. Fits r) }
     ensures new { IfOk result (AreNewTypes machine.old machine.new rule) }
 {
-    let found = machine.table.rule(rule)?;
+    let found = machine.table.rule(rule);
     let count = found.type_vars as u64;
     let first = machine.branch.next_type;
     let Some(next) = first.checked_add(count) else {
@@ -96,7 +105,8 @@ fn slot_value(
     }
 }
 
-// The values of the clause's variables, where the goal has these arguments and the next new variable has this number.
+// The values of the clause's variables, where the goal has these arguments and the next new variable has this number; and the number behind
+// theirs.
 fn slot_values(
     alloc: Global,
     bank: &mut Bank,
@@ -104,10 +114,11 @@ fn slot_values(
     args: &[TermId],
     next: u64,
     level: u64,
-) -> Result<Vec<TermId>, Memory>
+) -> Result<(Vec<TermId>, u64), Memory>
     ensures kept { Extends bank.old bank.new }
-    ensures count { IfOk result (λ values. length values.items ≡ length slots.now.items) }
-    ensures values { IfOk result (λ values. AreIn bank.old args.now → AreSlotted bank.old bank.new args.now next level slots.now.items values.items) }
+    ensures count { IfOk result (λ made. length made.0.items ≡ length slots.now.items) }
+    ensures next { IfOk result (λ made. made.1 ≡ next + length slots.now.items) }
+    ensures values { IfOk result (λ made. AreIn bank.old args.now → AreSlotted bank.old bank.new args.now next level slots.now.items made.0.items) }
 {
     let mut values = Vec::new(alloc);
     let mut id = next;
@@ -119,7 +130,7 @@ fn slot_values(
         };
         id = more;
     }
-    Ok(values)
+    Ok((values, id))
 }
 
 // Opens the scope of a clause for a goal with these arguments.
@@ -130,11 +141,12 @@ fn open(
     level: u64,
     around: Values,
 ) -> Result<Values, Memory>
+    requires { rule < length machine.old.table.rules.items }
     ensures more { OnOk result (OpensMore machine.old machine.new args.now) }
     ensures opened { IfOk result (λ inner. (r : Rule) → slice_get machine.old.table.rules.items rule ≡ Some r → IsOpened machine.old machine.new r args.now level around inner) }
 {
-    let found = machine.table.rule(rule)?;
-    let values = slot_values(
+    let found = machine.table.rule(rule);
+    let (values, next) = slot_values(
         machine.alloc,
         &mut machine.bank,
         &found.slots,
@@ -142,9 +154,6 @@ fn open(
         machine.branch.next,
         level,
     )?;
-    let Some(next) = machine.branch.next.checked_add(values.len() as u64) else {
-        return Err(Memory);
-    };
     machine.branch.next = next;
     let scope = machine.scopes.open(around.scope, values.as_slice())?;
     Ok(Values {
@@ -265,12 +274,13 @@ fn meet(
     values: Values,
     level: u64,
 ) -> Result<Unified, Memory>
+    requires { rule < length machine.old.table.rules.items }
     ensures bound { OnOk result (IsBoundIn machine.old machine.new) }
     ensures residual { OnOk result (StandPairs machine.old → StandPairs machine.new) }
     ensures met { IfOk result (λ unified. (r : Rule) → slice_get machine.old.table.rules.items rule ≡ Some r → IsMet machine.old machine.new r goal args.now values level unified) }
 {
     let alloc = machine.alloc;
-    let found = machine.table.rule(rule)?;
+    let found = machine.table.rule(rule);
     let types = type_pairs(alloc, &mut machine.bank, goal, found.head, values.types)?;
     let pairs = term_pairs(
         alloc,
@@ -292,6 +302,7 @@ fn put_body(
     place: Place,
     behind: Option<usize>,
 ) -> Result<(), Memory>
+    requires { rule < length machine.old.table.rules.items }
     ensures known { OnOk result (KeepsGoals machine.old machine.new) }
     ensures assumed { OnOk result (KeepsAssumed machine.old machine.new) }
     ensures frame { OnOk result (HasFrameAt machine.old machine.new place) }
@@ -307,7 +318,7 @@ fn put_body(
     ensures body { OnOk result ((r : Rule) → slice_get machine.old.table.rules.items rule ≡ Some r → (a : Around) (gs : List Goal) (es : List Entry) → IsListAt machine.old place r.body gs → Reads machine.old a behind es →
         Reads machine.new a machine.new.branch.goals (placed a place gs ++ es)) }
 {
-    let found = machine.table.rule(rule)?;
+    let found = machine.table.rule(rule);
     let body = found.body;
     let goals = machine.put_list(body, place, behind)?;
     machine.branch.goals = goals;
@@ -326,27 +337,33 @@ fn put_looked(first: Option<TermId>, args: &mut Vec<TermId>)
     }
 }
 
-// Unifies the goal of a call with the head of a candidate's clause. The clause's number, and its scope.
+// Unifies the goal of a call with the head of a candidate's clause. The clause's number, and its scope. None where
+// there is no such clause.
 fn try_head(
     machine: &mut Machine,
     call: &Call,
     candidate: Candidate,
-) -> Result<(Unified, usize, Values), Memory>
+) -> Result<Option<(Unified, usize, Values)>, Memory>
     ensures more { OnOk result (IsMore machine.old machine.new) }
     ensures residual { OnOk result (StandPairs machine.old → StandPairs machine.new) }
     ensures stands { OnOk result (StandsIn machine.old → IsGoalOf machine.old call.now → StandsIn machine.new) }
-    ensures scope { IfOk result (λ tried. IsScopeFor machine.old machine.new call.now candidate tried.1 tried.2) }
+    ensures scope { IfOk result (λ found. IfSome found (λ tried. IsScopeFor machine.old machine.new call.now candidate tried.1 tried.2)) }
     ensures types { OnOk result (TakesTypes machine.old machine.new candidate) }
-    ensures tried { IfOk result (λ tried. IsTriedAs machine.old machine.new call.now candidate tried.0) }
+    ensures tried { IfOk result (λ found. IfSome found (λ tried. IsTriedAs machine.old machine.new call.now candidate tried.0)) }
+    ensures there { IfOk result (λ found. IfSome found (λ tried. tried.1 < length machine.new.table.rules.items)) }
+    ensures none { IfOk result (λ found. found ≡ None → IsNoTrial machine.old candidate) }
 {
     let mut spine = spine_of(machine.alloc, &machine.bank, call.goal)?;
     put_looked(call.first, &mut spine.args);
     let args = spine.args.as_slice();
     let level = call.place.level;
-    let clause = clause_of(machine, candidate)?;
+    let found = clause_of(machine, candidate)?;
+    let Some(clause) = found else {
+        return Ok(None);
+    };
     let values = open(machine, clause.0, args, level, clause.1)?;
     let unified = meet(machine, clause.0, spine.head, args, values, level)?;
-    Ok((unified, clause.0, values))
+    Ok(Some((unified, clause.0, values)))
 }
 
 /// Tries a clause for the goal. Where it fits, its body is to be proved next; a cut in it keeps the oldest `mark`
@@ -363,7 +380,10 @@ pub(crate) fn attempt(
     ensures written { OnOk result (WritesOn machine.old machine.new call.now candidate) }
     ensures leaves { IfOk result (IsTryOf machine.old machine.new call.now candidate mark) }
 {
-    let tried = try_head(machine, call, candidate)?;
+    let found = try_head(machine, call, candidate)?;
+    let Some(tried) = found else {
+        return Ok(Unified::Fails);
+    };
     let unified = tried.0;
     if unified != Unified::Fits {
         return Ok(unified);

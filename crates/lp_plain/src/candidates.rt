@@ -121,23 +121,24 @@ fn program_from(
     rules: &Vec<Rule>,
     key: Option<Key>,
     from: Option<usize>,
-) -> Result<Option<usize>, Memory>
-    ensures { IfOk result (λ found. (ks : List ℕ) → IsChain (nexts rules.now.items) from ks → IsLeft bank.now rules.now.items key found (filter (passes bank.now rules.now.items key) ks)) }
+) -> Option<usize>
+    ensures { (ks : List ℕ) → IsChain (nexts rules.now.items) from ks → IsLeft bank.now rules.now.items key result (filter (passes bank.now rules.now.items key) ks) }
 {
     let mut at = from;
-    'rules: for _ in 0..u64::MAX {
+    // A chain passes no clause twice.
+    'rules: for passed in 0..rules.len() {
         let Some(number) = at else {
-            return Ok(None);
+            return None;
         };
         let Some(rule) = rules.get(number) else {
-            return Ok(None);
+            return None;
         };
         if may_meet(bank, rule.key, key) {
-            return Ok(Some(number));
+            return Some(number);
         }
         at = rule.next;
     }
-    Err(Memory)
+    None
 }
 
 fn first_rule(index: &Index, head: Head) -> Option<usize>
@@ -155,12 +156,12 @@ fn program_candidate(
     rules: &Vec<Rule>,
     key: Option<Key>,
     from: Option<usize>,
-) -> Result<Option<Candidate>, Memory>
-    ensures { IfOk result (λ found. (older : List (Option ℕ)) (first : Option ℕ) (ks : List ℕ) → IsChain (nexts rules.now.items) from ks → AreLeft bank.now rules.now.items older first key found (in_turn bank.now rules.now.items key [] ks)) }
+) -> Option<Candidate>
+    ensures { (older : List (Option ℕ)) (first : Option ℕ) (ks : List ℕ) → IsChain (nexts rules.now.items) from ks → AreLeft bank.now rules.now.items older first key result (in_turn bank.now rules.now.items key [] ks) }
 {
-    match program_from(bank, rules, key, from)? {
-        Some(number) => Ok(Some(Candidate::Program(number))),
-        None => Ok(None),
+    match program_from(bank, rules, key, from) {
+        Some(number) => Some(Candidate::Program(number)),
+        None => None,
     }
 }
 
@@ -171,11 +172,11 @@ fn assumed_or_first(
     index: &Index,
     call: &Call,
     assumed: Option<usize>,
-) -> Result<Option<Candidate>, Memory>
-    ensures { IfOk result (λ found. (older : List (Option ℕ)) (ns ks : List ℕ) → IsChain older assumed ns → IsChain (nexts rules.now.items) (first_for (λ c. get nat_eq index.now c) call.now.head) ks → AreLeft bank.now rules.now.items older (first_for (λ c. get nat_eq index.now c) call.now.head) call.now.key found (in_turn bank.now rules.now.items call.now.key ns ks)) }
+) -> Option<Candidate>
+    ensures { (older : List (Option ℕ)) (ns ks : List ℕ) → IsChain older assumed ns → IsChain (nexts rules.now.items) (first_for (λ c. get nat_eq index.now c) call.now.head) ks → AreLeft bank.now rules.now.items older (first_for (λ c. get nat_eq index.now c) call.now.head) call.now.key result (in_turn bank.now rules.now.items call.now.key ns ks) }
 {
     match assumed {
-        Some(number) => Ok(Some(Candidate::Assumed(number))),
+        Some(number) => Some(Candidate::Assumed(number)),
         None => program_candidate(bank, rules, call.key, first_rule(index, call.head)),
     }
 }
@@ -186,12 +187,11 @@ pub(crate) fn first_candidate(
     index: &Index,
     newest: &Vec<Newest>,
     call: &Call,
-) -> Result<Option<Candidate>, Memory>
-    ensures { IfOk result (λ found. (older : List (Option ℕ)) (assumed : Option ℕ) (ns ks : List ℕ) → IsNewest newest.now.items call.now.place.assumed call.now.head assumed → IsChain older assumed ns → IsChain (nexts rules.now.items) (first_for (λ c. get nat_eq index.now c) call.now.head) ks → AreLeft bank.now rules.now.items older (first_for (λ c. get nat_eq index.now c) call.now.head) call.now.key found (in_turn bank.now rules.now.items call.now.key ns ks)) }
+) -> Option<Candidate>
+    ensures { (older : List (Option ℕ)) (assumed : Option ℕ) (ns ks : List ℕ) → IsNewest newest.now.items call.now.place.assumed call.now.head assumed → IsChain older assumed ns → IsChain (nexts rules.now.items) (first_for (λ c. get nat_eq index.now c) call.now.head) ks → AreLeft bank.now rules.now.items older (first_for (λ c. get nat_eq index.now c) call.now.head) call.now.key result (in_turn bank.now rules.now.items call.now.key ns ks) }
 {
-    let assumed = newest_of(newest, call.place.assumed, call.head)?;
-    let found = assumed_or_first(bank, rules, index, call, assumed)?;
-    Ok(found)
+    let assumed = newest_of(newest, call.place.assumed, call.head);
+    assumed_or_first(bank, rules, index, call, assumed)
 }
 
 pub(crate) fn candidate_after(
@@ -201,19 +201,19 @@ pub(crate) fn candidate_after(
     assumptions: &Vec<Assumption>,
     call: &Call,
     candidate: Candidate,
-) -> Result<Option<Candidate>, Memory>
-    ensures { IfOk result (λ found. (left : List Candidate) → AreLeft bank.now rules.now.items (map (λ a. a.older) assumptions.now.items) (first_for (λ c. get nat_eq index.now c) call.now.head) call.now.key (Some candidate) left → (rest : List Candidate) × (left ≡ candidate ∷ rest) × AreLeft bank.now rules.now.items (map (λ a. a.older) assumptions.now.items) (first_for (λ c. get nat_eq index.now c) call.now.head) call.now.key found rest) }
+) -> Option<Candidate>
+    ensures { (left : List Candidate) → AreLeft bank.now rules.now.items (map (λ a. a.older) assumptions.now.items) (first_for (λ c. get nat_eq index.now c) call.now.head) call.now.key (Some candidate) left → (rest : List Candidate) × (left ≡ candidate ∷ rest) × AreLeft bank.now rules.now.items (map (λ a. a.older) assumptions.now.items) (first_for (λ c. get nat_eq index.now c) call.now.head) call.now.key result rest }
 {
     match candidate {
         Candidate::Assumed(number) => {
             let Some(assumption) = assumptions.get(number) else {
-                return Ok(None);
+                return None;
             };
             assumed_or_first(bank, rules, index, call, assumption.older)
         }
         Candidate::Program(number) => {
             let Some(rule) = rules.get(number) else {
-                return Ok(None);
+                return None;
             };
             program_candidate(bank, rules, call.key, rule.next)
         }

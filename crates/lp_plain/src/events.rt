@@ -202,7 +202,10 @@ impl Search {
             Told::Answered => {
                 self.tell_answer(crowd)?;
                 let count = self.variables.len();
-                let answer = answer_of(&mut self.machine, count)?;
+                let made = answer_of(&mut self.machine, count)?;
+                let Some(answer) = made else {
+                    return Ok(self.end(Ending::Deep));
+                };
                 Ok(Event::Answer(answer))
             }
         }

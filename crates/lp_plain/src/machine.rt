@@ -140,12 +140,12 @@ impl Machine {
     }
 
     /// The frame of a number.
-    pub(crate) fn frame(&self, number: usize) -> Result<Frame, Memory>
-        ensures { IfOk result (λ frame. slice_get self.now.frames.items number ≡ Some frame) }
+    pub(crate) fn frame(&self, number: usize) -> Option<Frame>
+        ensures { result ≡ slice_get self.now.frames.items number }
     {
         match self.frames.get(number) {
-            Some(frame) => Ok(*frame),
-            None => Err(Memory),
+            Some(frame) => Some(*frame),
+            None => None,
         }
     }
 
@@ -176,40 +176,34 @@ impl Machine {
     }
 
     /// The first of the clauses that are tried for a call.
-    pub(crate) fn first_candidate(&self, call: &Call) -> Result<Option<Candidate>, Memory>
-        ensures tries { IfOk result (λ found. (ar : ℕ → ℕ) (css : List Clauses) (before : List Clause) (t : Term) → HasProgram self.now css → HasAssumed (lists_of self.now) call.now.place.assumed before → IsCallOf ar self.now.bank call.now t →
-            AreOfProgram ar (all_clauses css) → AreApplied ar before → AreTries (lists_of self.now) (first_in self.now call.now.head) call.now.key found (candidates (all_clauses css) before t)) }
-        ensures apart { IfOk result (λ found. (ar : ℕ → ℕ) (css : List Clauses) (before : List Clause) (t : Term) → HasProgram self.now css → HasAssumed (lists_of self.now) call.now.place.assumed before → IsCallOf ar self.now.bank call.now t →
-            AreOfProgram ar (all_clauses css) → AreApplied ar before → AreTriesApart (lists_of self.now) (first_in self.now call.now.head) call.now.key found (filter (has_head t) before) (filter (passes t) (all_clauses css))) }
+    pub(crate) fn first_candidate(&self, call: &Call) -> Option<Candidate>
+        ensures tries { (ar : ℕ → ℕ) (css : List Clauses) (before : List Clause) (t : Term) → HasProgram self.now css → HasAssumed (lists_of self.now) call.now.place.assumed before → IsCallOf ar self.now.bank call.now t →
+            AreOfProgram ar (all_clauses css) → AreApplied ar before → AreTries (lists_of self.now) (first_in self.now call.now.head) call.now.key result (candidates (all_clauses css) before t) }
+        ensures apart { (ar : ℕ → ℕ) (css : List Clauses) (before : List Clause) (t : Term) → HasProgram self.now css → HasAssumed (lists_of self.now) call.now.place.assumed before → IsCallOf ar self.now.bank call.now t →
+            AreOfProgram ar (all_clauses css) → AreApplied ar before → AreTriesApart (lists_of self.now) (first_in self.now call.now.head) call.now.key result (filter (has_head t) before) (filter (passes t) (all_clauses css)) }
     {
-        let found = first_candidate(
+        first_candidate(
             &self.bank,
             &self.table.rules,
             &self.index,
             &self.newest,
             call,
-        )?;
-        Ok(found)
+        )
     }
 
     /// The next one behind a candidate.
-    pub(crate) fn candidate_after(
-        &self,
-        call: &Call,
-        candidate: Candidate,
-    ) -> Result<Option<Candidate>, Memory>
-        ensures next { IfOk result (IsNext self.now call.now candidate) }
-        ensures tries { IfOk result (λ found. (cs : List Clause) → AreTries (lists_of self.now) (first_in self.now call.now.head) call.now.key (Some candidate) cs → IsTried (lists_of self.now) (first_in self.now call.now.head) call.now.key candidate found cs) }
+    pub(crate) fn candidate_after(&self, call: &Call, candidate: Candidate) -> Option<Candidate>
+        ensures next { IsNext self.now call.now candidate result }
+        ensures tries { (cs : List Clause) → AreTries (lists_of self.now) (first_in self.now call.now.head) call.now.key (Some candidate) cs → IsTried (lists_of self.now) (first_in self.now call.now.head) call.now.key candidate result cs }
     {
-        let found = candidate_after(
+        candidate_after(
             &self.bank,
             &self.table.rules,
             &self.index,
             &self.assumptions,
             call,
             candidate,
-        )?;
-        Ok(found)
+        )
     }
 
     fn lengths(&self) -> Lengths

@@ -1,9 +1,10 @@
 // The newest assumption of each head: a digital search tree (Coffman and Eve 1970) whose nodes are shared by branches. A change copies the way to it.
-ghost use Rattle.std.specs.Prelude.{◌≡◌, ◌<◌, ◌≤◌, ◌++◌, ◌∷◌, [], true, false, length, reverse, IfOk};
+ghost use Rattle.std.specs.Prelude.{◌≡◌, ◌<◌, ◌≤◌, ◌++◌, ◌∷◌, [], true, false, length, reverse, ℕ, Option, IfOk};
 ghost use Rattle.lp_pattern.specs.Growing.{GoesOn};
 ghost use Rattle.lp_plain.specs.Newest.{code_of, is_odd, child_of, set_child, node_of, IsNewest, IsWith, IsWay};
 
 use crate::head::Head;
+use crate::scope::older;
 use lp_base::Memory;
 use std::alloc::Global;
 
@@ -86,30 +87,23 @@ fn with_child(node: Newest, is_odd: bool, below: usize) -> Newest
     }
 }
 
-/// The newest assumption of a head in the tree of this number.
-pub(crate) fn newest_of(
-    nodes: &Vec<Newest>,
-    tree: Option<usize>,
-    head: Head,
-) -> Result<Option<usize>, Memory>
-    ensures { IfOk result (λ found. IsNewest nodes.now.items tree head found) }
+/// The newest assumption of a head in the tree of this number. Below each node stand older ones.
+pub(crate) fn newest_of(nodes: &Vec<Newest>, tree: Option<usize>, head: Head) -> Option<usize>
+    ensures { (found : Option ℕ) → IsNewest nodes.now.items tree head found → result ≡ found }
 {
     let mut at = tree;
     let mut bits = code(head);
-    'nodes: for _ in 0..u64::MAX {
-        let Some(number) = at else {
-            return Ok(None);
-        };
+    'nodes: while let Some(number) = at {
         let Some(node) = nodes.get(number) else {
-            return Err(Memory);
+            return None;
         };
         if same_head(node.head, head) {
-            return Ok(Some(node.number));
+            return Some(node.number);
         }
-        at = child(*node, leads_to_odd(bits));
+        at = older(child(*node, leads_to_odd(bits)), number);
         bits /= 2;
     }
-    Err(Memory)
+    None
 }
 
 // The way from the root to the node of a head.
@@ -124,12 +118,9 @@ fn way_to(
     let mut steps = Vec::new(alloc);
     let mut at = tree;
     let mut bits = code(head);
-    'nodes: for _ in 0..u64::MAX {
-        let Some(number) = at else {
-            return Ok(Way { steps, end: None });
-        };
+    'nodes: while let Some(number) = at {
         let Some(node) = nodes.get(number) else {
-            return Err(Memory);
+            return Ok(Way { steps, end: None });
         };
         if same_head(node.head, head) {
             return Ok(Way {
@@ -142,10 +133,10 @@ fn way_to(
             node: *node,
             is_odd,
         })?;
-        at = child(*node, is_odd);
+        at = older(child(*node, is_odd), number);
         bits /= 2;
     }
-    Err(Memory)
+    Ok(Way { steps, end: None })
 }
 
 // The node of the head with its new assumption. Without an older node nothing stands below it.

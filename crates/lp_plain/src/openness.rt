@@ -88,8 +88,8 @@ fn has_large(numbers: &[u64]) -> bool
     false
 }
 
-// Whether the term can be reduced: by what is known of its loose indices, else by a look at all of them.
-fn has_small_indices(alloc: Global, bank: &Bank, term: TermId) -> Result<bool, Memory>
+/// Whether the loose indices of the term fit 32 bits, so that it can be reduced: by what is known of them, else by a look at all of them.
+pub(crate) fn has_small_indices(alloc: Global, bank: &Bank, term: TermId) -> Result<bool, Memory>
     ensures small { IfOk result (λ small. small ≡ true → LooseBelow (2 ^ 32) 0 (tree bank.now term.0)) }
     ensures large { IfOk result (λ small. small ≡ false → LooseBelow (2 ^ 32) 0 (tree bank.now term.0) → ⊥) }
 {
@@ -228,12 +228,16 @@ pub(crate) fn openness_of_goal(
 ) -> Result<Openness, Memory>
     ensures kept { Extends bank.old bank.new }
     ensures judged { IfOk result (λ o. (c : Closing) → IsReading bank.old around.entry.bindings.now c → IsShut c →
-        OfStanding around.entry.table.now.frees.items around.entry.standings.now (OfFree bank.old c around.entry.scopes.now) o goals) }
+        OfStanding around.entry.table.now.frees.items around.entry.standings.now (OfFree bank.old c around.entry.scopes.now) (length around.entry.standings.now) o goals) }
 {
     let mut standing = goals;
     let mut below = around.standings.len();
     'outwards: loop {
-        let free = around.table.free(standing.free)?;
+        // Each number stands for something that is written, and the clauses assumed before have an older one.
+        if !around.table.has_free(standing.free) {
+            return Ok(Openness::Deep);
+        }
+        let free = around.table.free(standing.free);
         let openness = openness_of_free(alloc, bank, around, free, standing.values)?;
         if !is_closed(openness) {
             return Ok(openness);
@@ -242,10 +246,10 @@ pub(crate) fn openness_of_goal(
             return Ok(Openness::Closed);
         };
         if number >= below {
-            return Err(Memory);
+            return Ok(Openness::Deep);
         }
         let Some(older) = around.standings.get(number) else {
-            return Err(Memory);
+            return Ok(Openness::Deep);
         };
         below = number;
         standing = *older;

@@ -17,6 +17,7 @@ ghost use Rattle.lp_plain.specs.declared.outcome.Turn.{Turn};
 ghost use Rattle.lp_plain.specs.declared.table.Flat.{Flat};
 ghost use Rattle.lp_plain.specs.declared.table.Span.{Span};
 ghost use Rattle.lp_plain.specs.Apart.{IsApart};
+ghost use Rattle.lp_plain.specs.AtRunTime.{IsWrittenFlat};
 ghost use Rattle.lp_plain.specs.Assuming.{ArePlaced, AssumesFor, GrowsAt, IsPlaceAt, KeepsAssumed, clauses_in, lists_of, written_at};
 ghost use Rattle.lp_plain.specs.Entries.{Around, ArePartsOf, GoesOnWith, GrowsGoals, HeadsTo, IsBehind, IsOf, KeepsGoals, Reads, entry_at, in_scope, placed};
 ghost use Rattle.lp_plain.specs.Keeping.{KeepsCourse};
@@ -164,7 +165,7 @@ pub(crate) fn put_parts(
     place: Place,
     behind: Option<usize>,
 ) -> Result<Turn, Memory>
-    ensures counted { IfOk result (λ turn. IsApart turn machine.old.counts machine.new.counts) }
+    ensures counted { IfOk result (λ turn. (ar : ℕ → ℕ) → IsWrittenFlat machine.old ar place goal → IsApart turn machine.old.counts machine.new.counts) }
     ensures either { IfOk result (λ turn. turn ≡ Turn.On → (l r : ℕ) → goal ≡ Flat.Either l r → (a : Around) (hs ks : Goals) (σ : ℕ → Term) (b : Branch) → IsOf machine.old place l hs σ → IsOf machine.old place r ks σ → IsBehind machine.old a behind b →
         (u n height : ℕ) (P : List Clause) → let g : Goal = Either (in_scope σ place.values.types hs) (in_scope σ place.values.types ks) in ArePartsOf machine.old machine.new a (look_goal u n P height (entry_at a place g) b g)) }
     ensures some { IfOk result (λ turn. turn ≡ Turn.On → (l : ℕ) → goal ≡ Flat.Some l → (a : Around) (hs : Goals) (σ : ℕ → Term) (b : Branch) → StandsIn machine.old → IsOf machine.old place l hs σ → IsBehind machine.old a behind b →
@@ -200,8 +201,8 @@ pub(crate) fn put_parts(
             Ok(Turn::On)
         }
         Flat::Assume(rules, goals, free) => {
-            put_assume(machine, rules, goals, free, place, behind)?;
-            Ok(Turn::On)
+            let turn = put_assume(machine, rules, goals, free, place, behind)?;
+            Ok(turn)
         }
         Flat::Atom(_) => Ok(Turn::On),
         Flat::Cut => Ok(Turn::On),

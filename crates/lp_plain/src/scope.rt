@@ -30,12 +30,12 @@ pub(crate) struct ScopeMark {
     values: usize,
 }
 
-// The scope around a block, which is older.
-fn older(around: Option<usize>, number: usize) -> Option<usize>
+/// The number, where it is one before the other: that of the scope around a block, or of a node below another, is older.
+pub(crate) fn older(earlier: Option<usize>, number: usize) -> Option<usize>
     ensures older { blocks_to result ≤ number }
-    ensures same { blocks_to around ≤ number → result ≡ around }
+    ensures same { blocks_to earlier ≤ number → result ≡ earlier }
 {
-    let Some(at) = around else {
+    let Some(at) = earlier else {
         return None;
     };
     if at < number {

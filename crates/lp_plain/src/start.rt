@@ -68,8 +68,7 @@ fn flat_clauses(
 {
     match normalise(alloc, bank, formula) {
         Ok(clauses) => Ok(clauses),
-        Err(NormalRefusal::Limit(_)) => Err(Memory),
-        Err(NormalRefusal::Memory) => Err(Memory),
+        Err(NormalRefusal::Limit(_) | NormalRefusal::Memory) => Err(Memory),
     }
 }
 
@@ -80,8 +79,7 @@ fn flat_query(alloc: Global, bank: &mut Bank, query: &Typed) -> Result<Vec<Goal>
 {
     match query_body(alloc, bank, query) {
         Ok(goals) => Ok(goals),
-        Err(NormalRefusal::Limit(_)) => Err(Memory),
-        Err(NormalRefusal::Memory) => Err(Memory),
+        Err(NormalRefusal::Limit(_) | NormalRefusal::Memory) => Err(Memory),
     }
 }
 

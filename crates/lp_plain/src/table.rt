@@ -1,5 +1,5 @@
 // Flattened goals and clauses by number. A goal's parts are named by numbers of lists.
-ghost use Rattle.std.specs.Prelude.{◌≡◌, ℕ, suc, ◌+◌, ◌≤◌, max, List, ◌++◌, ◌∷◌, [], length, map, Some, slice_get, IfOk, OnOk};
+ghost use Rattle.std.specs.Prelude.{◌≡◌, ℕ, suc, ◌+◌, ◌<◌, ◌≤◌, true, false, None, max, List, ◌++◌, ◌∷◌, [], length, map, Some, slice_get, IfOk, OnOk};
 ghost use Rattle.lp_term.specs.Nodes.{Nodes};
 ghost use Rattle.lp_model.specs.Flat.{Either, assuming, denied};
 ghost use Rattle.lp_model.specs.Flattened.{goal_of, goals_of, clause_of, clauses_of};
@@ -76,12 +76,13 @@ impl Table {
         }
     }
 
-    pub(crate) fn goal(&self, number: usize) -> Result<Flat, Memory>
-        ensures { IfOk result (λ flat. slice_get self.now.goals.items number ≡ Some flat) }
+    /// The goal of a number.
+    pub(crate) fn goal(&self, number: usize) -> Option<Flat>
+        ensures { result ≡ slice_get self.now.goals.items number }
     {
         match self.goals.get(number) {
-            Some(goal) => Ok(*goal),
-            None => Err(Memory),
+            Some(goal) => Some(*goal),
+            None => None,
         }
     }
 
@@ -95,24 +96,50 @@ impl Table {
         }
     }
 
-    /// The clause of a number.
-    pub(crate) fn rule(&self, number: usize) -> Result<&Rule, Memory>
-        ensures { IfOk result (λ rule. slice_get self.now.rules.items number ≡ Some rule.now) }
+    /// Whether there is a clause of this number.
+    pub(crate) fn has_rule(&self, number: usize) -> bool
+        ensures there { result ≡ true → number < length self.now.rules.items }
+        ensures none { result ≡ false → slice_get self.now.rules.items number ≡ None }
     {
-        match self.rules.get(number) {
-            Some(rule) => Ok(rule),
-            None => Err(Memory),
+        let count = self.rules.len();
+        if number < count {
+            return true;
         }
+        false
+    }
+
+    /// The clause of a number.
+    pub(crate) fn rule(&self, number: usize) -> &Rule
+        requires { number < length self.now.rules.items }
+        ensures { slice_get self.now.rules.items number ≡ Some result.now }
+    {
+        let Some(rule) = self.rules.get(number) else {
+            unreachable!()
+        };
+        rule
+    }
+
+    /// Whether something that is written has this number.
+    pub(crate) fn has_free(&self, number: usize) -> bool
+        ensures there { result ≡ true → number < length self.now.frees.items }
+        ensures none { result ≡ false → slice_get self.now.frees.items number ≡ None }
+    {
+        let count = self.frees.len();
+        if number < count {
+            return true;
+        }
+        false
     }
 
     /// What is written in goals or clauses, by its number.
-    pub(crate) fn free(&self, number: usize) -> Result<&Free, Memory>
-        ensures { IfOk result (λ free. slice_get self.now.frees.items number ≡ Some free.now) }
+    pub(crate) fn free(&self, number: usize) -> &Free
+        requires { number < length self.now.frees.items }
+        ensures { slice_get self.now.frees.items number ≡ Some result.now }
     {
-        match self.frees.get(number) {
-            Some(free) => Ok(free),
-            None => Err(Memory),
-        }
+        let Some(free) = self.frees.get(number) else {
+            unreachable!()
+        };
+        free
     }
 
     fn put_free(&mut self, free: Free) -> Result<usize, Memory>

@@ -64,8 +64,8 @@ fn take_flat<W: Watch>(
     ensures written { IfOk result (λ turn. turn ≡ Turn.On → IsApartFlat goal → WritesFlat machine.old machine.new place goal) }
     ensures marks { IfOk result (λ turn. turn ≡ Turn.On → IsApartFlat goal → PutsMarks machine.old machine.new place behind machine.new.branch.goals) }
     ensures aside { IfOk result (λ turn. turn ≡ Turn.On → IsApartFlat goal → PutsAside machine.old machine.new place behind) }
-    ensures counted { IfOk result (λ turn. IsApartFlat goal → IsApart turn machine.old.counts machine.new.counts) }
-    ensures moved { IfOk result (λ turn. (qv : Query) (a : Around) (raw : Branch) (s : State Task) → IsRunning qv machine.old a raw s → IsAtGoal machine.old a place goal behind raw → IsPlainFirst raw.goals → TellsOn (HeardBy constants.now machine.old machine.new (places crowd.old.texts.items (map W.seen crowd.old.watchers.now.items)) (places crowd.new.texts.items (map W.seen crowd.new.watchers.now.items))) (λ x. MovesTo x qv turn machine.new s)) }
+    ensures counted { IfOk result (λ turn. IsApartFlat goal → (ar : ℕ → ℕ) → IsWrittenFlat machine.old ar place goal → IsApart turn machine.old.counts machine.new.counts) }
+    ensures moved { IfOk result (λ turn. (qv : Query) (a : Around) (raw : Branch) (s : State Task) → IsRunning qv machine.old a raw s → IsAtGoal machine.old a place goal behind raw → IsPlainFirst raw.goals → IsWrittenFlat machine.old qv.arity place goal → TellsOn (HeardBy constants.now machine.old machine.new (places crowd.old.texts.items (map W.seen crowd.old.watchers.now.items)) (places crowd.new.texts.items (map W.seen crowd.new.watchers.now.items))) (λ x. MovesTo x qv turn machine.new s)) }
     ensures leads { IfOk result (λ turn. (qv : Query) (a : Around) (raw : Branch) (s : State Task) → IsRunning qv machine.old a raw s → IsAtGoal machine.old a place goal behind raw → IsAtomFirst raw.goals → IsWrittenFlat machine.old qv.arity place goal → TellsOn (HeardBy constants.now machine.old machine.new (places crowd.old.texts.items (map W.seen crowd.old.watchers.now.items)) (places crowd.new.texts.items (map W.seen crowd.new.watchers.now.items))) (λ x. LeadsOf x machine.old machine.new qv turn s)) }
     ensures stays { IfOk result (λ turn. (a : Around) (raw : Branch) → IsAtGoal machine.old a place goal behind raw → IsPlainFirst raw.goals → (ar : ℕ → ℕ) → StandsIn machine.old → IsWrittenFlat machine.old ar place goal → IsWrittenSearch machine.old ar → WrittenBehind turn machine.new ar) }
     ensures program { OnOk result (KeepsProgram machine.old machine.new) }
@@ -173,8 +173,8 @@ fn take_first<W: Watch>(
     ensures written { IfOk result (λ turn. turn ≡ Turn.On → (f : Flat) → slice_get machine.old.table.goals.items goals.from ≡ Some f → IsApartFlat f → goals.from < goals.to → WritesGoals machine.old machine.new place goals) }
     ensures marks { IfOk result (λ turn. turn ≡ Turn.On → (hs : Goals) → goals.from < goals.to → AreGoals machine.old.bank Never (shown machine.old.table) goals.from goals.to hs → FirstIsApart hs → PutsMarks machine.old machine.new place behind machine.new.branch.goals) }
     ensures aside { IfOk result (λ turn. turn ≡ Turn.On → (hs : Goals) → goals.from < goals.to → AreGoals machine.old.bank Never (shown machine.old.table) goals.from goals.to hs → FirstIsApart hs → PutsAside machine.old machine.new place behind) }
-    ensures counted { IfOk result (λ turn. (hs : Goals) → goals.from < goals.to → AreGoals machine.old.bank Never (shown machine.old.table) goals.from goals.to hs → FirstIsApart hs → IsApart turn machine.old.counts machine.new.counts) }
-    ensures moved { IfOk result (λ turn. (qv : Query) (a : Around) (raw : Branch) (s : State Task) → IsRunning qv machine.old a raw s → IsAtGoals machine.old a place goals behind raw → IsPlainFirst raw.goals → TellsOn (HeardBy constants.now machine.old machine.new (places crowd.old.texts.items (map W.seen crowd.old.watchers.now.items)) (places crowd.new.texts.items (map W.seen crowd.new.watchers.now.items))) (λ x. MovesTo x qv turn machine.new s)) }
+    ensures counted { IfOk result (λ turn. (hs : Goals) → goals.from < goals.to → AreGoals machine.old.bank Never (shown machine.old.table) goals.from goals.to hs → FirstIsApart hs → (ar : ℕ → ℕ) → AreWrittenGoals machine.old ar place goals → IsApart turn machine.old.counts machine.new.counts) }
+    ensures moved { IfOk result (λ turn. (qv : Query) (a : Around) (raw : Branch) (s : State Task) → IsRunning qv machine.old a raw s → IsAtGoals machine.old a place goals behind raw → IsPlainFirst raw.goals → AreWrittenGoals machine.old qv.arity place goals → TellsOn (HeardBy constants.now machine.old machine.new (places crowd.old.texts.items (map W.seen crowd.old.watchers.now.items)) (places crowd.new.texts.items (map W.seen crowd.new.watchers.now.items))) (λ x. MovesTo x qv turn machine.new s)) }
     ensures leads { IfOk result (λ turn. (qv : Query) (a : Around) (raw : Branch) (s : State Task) → IsRunning qv machine.old a raw s → IsAtGoals machine.old a place goals behind raw → IsAtomFirst raw.goals → AreWrittenGoals machine.old qv.arity place goals → TellsOn (HeardBy constants.now machine.old machine.new (places crowd.old.texts.items (map W.seen crowd.old.watchers.now.items)) (places crowd.new.texts.items (map W.seen crowd.new.watchers.now.items))) (λ x. LeadsOf x machine.old machine.new qv turn s)) }
     ensures stays { IfOk result (λ turn. (a : Around) (raw : Branch) → IsAtGoals machine.old a place goals behind raw → IsPlainFirst raw.goals → (ar : ℕ → ℕ) → StandsIn machine.old → AreWrittenGoals machine.old ar place goals → IsWrittenSearch machine.old ar → WrittenBehind turn machine.new ar) }
     ensures program { OnOk result (KeepsProgram machine.old machine.new) }
@@ -185,7 +185,10 @@ fn take_first<W: Watch>(
     ensures within { OnOk result ((qv : Query) (a : Around) (raw : Branch) (s : State Task) → IsRunning qv machine.old a raw s → IsAtGoals machine.old a place goals behind raw → AreWrittenGoals machine.old qv.arity place goals → CountsFirst machine.old machine.new s) }
     ensures same { crowd.new.watchers.ghost_name ≡ crowd.old.watchers.ghost_name }
 {
-    let goal = machine.table.goal(goals.from)?;
+    let found = machine.table.goal(goals.from);
+    let Some(goal) = found else {
+        return Ok(Turn::Back);
+    };
     let count = goals.to.saturating_sub(goals.from);
     if count <= 1 {
         let turn = take_flat(machine, crowd, constants, goal, place, behind)?;
@@ -208,12 +211,12 @@ pub(crate) fn take_goal<W: Watch>(
 ) -> Result<Turn, Memory>
     ensures written { IfOk result (λ turn. turn ≡ Turn.On → IsApartAtHand machine.old → (ar : ℕ → ℕ) → StandsIn machine.old → IsWrittenSearch machine.old ar → IsWrittenSearch machine.new ar) }
     ensures moves { IfOk result (λ turn. turn ≡ Turn.On → (a : Around) (s : State Task) (h : IsStateOf machine.old a s) → IsApartFirst h.at_work.goals → (k : ℕ) → s.answers ≡ suc k → (go : (Answer → Bool) → State Task → Inner) (u n : ℕ) (P : List Clause) → IsQuietMove machine.old machine.new a u n P go s) }
-    ensures stops { IfOk result (λ turn. (a : Around) (s : State Task) (h : IsStateOf machine.old a s) → IsApartFirst h.at_work.goals → GoesOnOrStops turn s) }
+    ensures stops { IfOk result (λ turn. (a : Around) (s : State Task) (h : IsStateOf machine.old a s) → IsApartFirst h.at_work.goals → (ar : ℕ → ℕ) → IsWrittenSearch machine.old ar → GoesOnOrStops turn s) }
     ensures marks { IfOk result (λ turn. turn ≡ Turn.On → (a : Around) (s : State Task) (h : IsStateOf machine.old a s) → IsApartFirst h.at_work.goals → (l u : ℕ) → Marks l u machine.old machine.old.branch.goals → Marks l u machine.new machine.new.branch.goals) }
     ensures aside { IfOk result (λ turn. turn ≡ Turn.On → (a : Around) (s : State Task) (h : IsStateOf machine.old a s) → IsApartFirst h.at_work.goals → SetsAside machine.old machine.new) }
     ensures marked { IfOk result (λ turn. turn ≡ Turn.On → (a : Around) (s : State Task) (h : IsStateOf machine.old a s) → IsApartFirst h.at_work.goals → IsMarked machine.old → IsMarked machine.new) }
     ensures answered { IfOk result (λ turn. (qv : Query) (s : State Task) → IsState qv machine.old s → machine.old.branch.goals ≡ None → machine.old.denied ≡ None → (turn ≡ Turn.Answered) × HeardBy constants.now machine.old machine.new (places crowd.old.texts.items (map W.seen crowd.old.watchers.now.items)) (places crowd.new.texts.items (map W.seen crowd.new.watchers.now.items)) quiet × MovesTo quiet qv turn machine.new s) }
-    ensures moved { IfOk result (λ turn. (qv : Query) (s : State Task) (h : IsState qv machine.old s) → IsPlainFirst h.raw.goals → TellsOn (HeardBy constants.now machine.old machine.new (places crowd.old.texts.items (map W.seen crowd.old.watchers.now.items)) (places crowd.new.texts.items (map W.seen crowd.new.watchers.now.items))) (λ x. MovesTo x qv turn machine.new s)) }
+    ensures moved { IfOk result (λ turn. (qv : Query) (s : State Task) (h : IsState qv machine.old s) → IsPlainFirst h.raw.goals → IsWrittenSearch machine.old qv.arity → TellsOn (HeardBy constants.now machine.old machine.new (places crowd.old.texts.items (map W.seen crowd.old.watchers.now.items)) (places crowd.new.texts.items (map W.seen crowd.new.watchers.now.items))) (λ x. MovesTo x qv turn machine.new s)) }
     ensures stands { IfOk result (λ turn. (c : Course) (x : Tally) → Stands c x Turn.On machine.old → Follows c constants.now x machine.old machine.new (places crowd.old.texts.items (map W.seen crowd.old.watchers.now.items)) (places crowd.new.texts.items (map W.seen crowd.new.watchers.now.items)) turn) }
     ensures leads { IfOk result (λ turn. (qv : Query) (s : State Task) (h : IsState qv machine.old s) → IsAtomFirst h.raw.goals → IsWrittenSearch machine.old qv.arity → TellsOn (HeardBy constants.now machine.old machine.new (places crowd.old.texts.items (map W.seen crowd.old.watchers.now.items)) (places crowd.new.texts.items (map W.seen crowd.new.watchers.now.items))) (λ x. LeadsOf x machine.old machine.new qv turn s)) }
     ensures denies { IfOk result (λ turn. (qv : Query) (s : State Task) (h : IsState qv machine.old s) → IsDeniedFirst h.raw.goals → TellsOn (HeardBy constants.now machine.old machine.new (places crowd.old.texts.items (map W.seen crowd.old.watchers.now.items)) (places crowd.new.texts.items (map W.seen crowd.new.watchers.now.items))) (λ x. TakesDenied x turn qv machine.new s h.running.at_work.goals)) }
@@ -225,7 +228,10 @@ pub(crate) fn take_goal<W: Watch>(
     let Some(number) = machine.branch.goals else {
         return Ok(end_branch(machine));
     };
-    let frame = machine.frame(number)?;
+    let found = machine.frame(number);
+    let Some(frame) = found else {
+        return Ok(Turn::Back);
+    };
     match frame.todo {
         Todo::Goals(goals) => {
             let turn = take_first(machine, crowd, constants, goals, frame.place, frame.behind)?;

@@ -38,3 +38,6 @@ pub returns-clause-copied : goal.returns-clause-copied
 returns-clause-copied c = λ m.
     let ps = c.args.pairs.now.items in
     c.each.invariant.are m ∙ ap (map (pair_of c.args.from.now)) (take_all c.each.at ps (omega (arith, c.each-test.false, c.len-at-end.ensures, c.args.pairs.now.ok)))
+
+pub returns-clause-within : goal.returns-clause-within
+returns-clause-within c = c.each.invariant.within

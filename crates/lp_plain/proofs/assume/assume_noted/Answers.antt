@@ -10,14 +10,14 @@ returns-clause-more c =
     more_noted c.args.machine.now c.assume.new.machine c.note.new.self c.in_ok-assumed.ensures.more n.goals n.course n.frames n.assumed
 
 pub returns-clause-tree : goal.returns-clause-tree
-returns-clause-tree c =
+returns-clause-tree c = λ tree e.
     let n = c.in_ok-note.ensures in
-    tree_noted c.args.machine.now c.assume.new.machine c.note.new.self c.args.rules.from c.args.rules.to c.args.place.assumed c.in_ok-assumed.assumed n.assumed c.in_ok-assumed.ensures.tree
+    tree_noted c.args.machine.now c.assume.new.machine c.note.new.self c.args.rules.from c.args.rules.to c.args.place.assumed tree n.assumed (c.in_ok-assumed.ensures.tree tree e)
 
 pub returns-clause-assumed : goal.returns-clause-assumed
-returns-clause-assumed c =
+returns-clause-assumed c = λ tree e.
     let n = c.in_ok-note.ensures in
-    assumes_noted c.args.machine.now c.assume.new.machine c.note.new.self c.args.rules.from c.args.rules.to c.args.place c.in_ok-assumed.assumed n.goals n.assumed c.in_ok-assumed.ensures.assumed
+    assumes_noted c.args.machine.now c.assume.new.machine c.note.new.self c.args.rules.from c.args.rules.to c.args.place tree n.goals n.assumed (c.in_ok-assumed.ensures.assumed tree e)
 
 pub returns-clause-written : goal.returns-clause-written
 returns-clause-written c = λ ar i w s.

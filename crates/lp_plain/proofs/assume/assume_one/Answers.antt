@@ -11,7 +11,7 @@ returns-clause-one c =
     let m = c.args.machine.now in
     let w = c.in_ok-root.ensures in
     let p = c.in_ok-push.ensures.items in
-    let x : Assumption = record { rule = c.args.rule; values = c.args.place.values; older = c.in_ok-older.older } in
+    let x : Assumption = record { rule = c.args.rule; values = c.args.place.values; older = c.newest_of-older.result } in
     let k : c.len-number.result ≡ length m.assumptions.items = omega (arith, c.len-number.ensures, m.assumptions.ok) in
     record {
       more = record {
@@ -21,8 +21,8 @@ returns-clause-one c =
         assumptions = (x ∷ [], p);
         newest = w.kept;
       };
-      older = c.in_ok-older.older;
-      before = c.in_ok-older.ensures;
+      older = c.newest_of-older.result;
+      before = λ f e. c.newest_of-older.ensures f e;
       assumption = subst (λ l. slice_get l (length m.assumptions.items) ≡ Some x) (sym p) (get_push m.assumptions.items x);
       there = subst (λ z. IsNewest c.with_newest.new.nodes.items (Some c.in_ok-root.root) c.args.head (Some z)) k w.newest.found;
       others = λ other f a b. w.newest.others other (code_of other) f a b;
@@ -31,4 +31,4 @@ returns-clause-one c =
     }
 
 pub returns-clause-pushed : goal.returns-clause-pushed
-returns-clause-pushed c = (c.in_ok-older.older, c.in_ok-push.ensures.items)
+returns-clause-pushed c = (c.newest_of-older.result, c.in_ok-push.ensures.items)

@@ -7,13 +7,13 @@ use Rattle.lp_plain.proofs.WrittenSearches.{search_aside}
 use Rattle.lp_plain.proofs.atomic.put_others.Goals as goal
 
 pub returns-in_default-clause-at_try : goal.returns-in_default-clause-at_try
-returns-in_default-clause-at_try c = λ qv a s h. alone_at qv c.args.machine.now a c.args.call.now c.args.candidate s h c.in_ok-found.found c.in_ok-found.ensures.next c.in_default.is
+returns-in_default-clause-at_try c = λ qv a s h. alone_at qv c.args.machine.now a c.args.call.now c.args.candidate s h c.candidate_after-found.result c.candidate_after-found.ensures.next c.in_default.is
 
 pub returns-clause-at_try : goal.returns-clause-at_try
 returns-clause-at_try c = λ qv a s h.
     let m = c.args.machine.now in
     let p = c.in_ok-put_choice.ensures in
-    let f = subst (IsNext m c.args.call.now c.args.candidate) c.in-Some.is c.in_ok-found.ensures.next in
+    let f = subst (IsNext m c.args.call.now c.args.candidate) c.in-Some.is c.candidate_after-found.ensures.next in
     others_at qv m a c.args.call.now c.args.candidate s h c.put_choice.new.self c.in-Some.next f p.alternative p.goals p.assumed p.frames p.branch p.denied p.counts
 
 pub returns-clause-goals : goal.returns-clause-goals

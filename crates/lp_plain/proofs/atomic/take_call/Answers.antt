@@ -18,7 +18,7 @@ returns-in_default-found-clause-leads c =
     let n = c.looked_call.new.machine in
     let o = c.in_ok-looked.ensures in
     let lk = subst (IsLookedAs m n (plain_call c.args.place c.args.goal c.args.head c.args.behind) c.args.first) c.in-Some.is o.looks in
-    none_on m n o.only c.args.place c.args.goal c.args.head c.args.first c.args.behind c.in-Some.call lk c.in_ok-found.found c.in_ok-found.ensures.apart c.in_default-found.is
+    none_on m n o.only c.args.place c.args.goal c.args.head c.args.first c.args.behind c.in-Some.call lk c.first_candidate-found.result c.first_candidate-found.ensures.apart c.in_default-found.is
 
 pub returns-clause-leads : goal.returns-clause-leads
 returns-clause-leads c =
@@ -26,8 +26,8 @@ returns-clause-leads c =
     let n = c.looked_call.new.machine in
     let o = c.in_ok-looked.ensures in
     let lk = subst (IsLookedAs m n (plain_call c.args.place c.args.goal c.args.head c.args.behind) c.args.first) c.in-Some.is o.looks in
-    some_on m n o.only c.args.place c.args.goal c.args.head c.args.first c.args.behind c.in-Some.call lk c.in_ok-found.found
-    c.in_ok-found.ensures.apart c.in-Some-found.candidate c.in-Some-found.is c.try_candidate.new.machine c.in_ok-turn.turn
+    some_on m n o.only c.args.place c.args.goal c.args.head c.args.first c.args.behind c.in-Some.call lk c.first_candidate-found.result
+    c.first_candidate-found.ensures.apart c.in-Some-found.candidate c.in-Some-found.is c.try_candidate.new.machine c.in_ok-turn.turn
     c.in_ok-turn.ensures.leads c.in_ok-turn.ensures.written
 
 pub returns-in_default-clause-program : goal.returns-in_default-clause-program

@@ -15,11 +15,11 @@ returns-clause-bound c = bound_from c.args.machine.now _ c.term_pairs.new.bank (
 pub returns-clause-met : goal.returns-clause-met
 returns-clause-met c = λ r e.
     let m = c.args.machine.now in
-    let f = c.in_ok-found.found.now in
+    let f = c.rule-found.result.now in
     let b = m.bank in
     let k = c.type_pairs.new.bank in
     let d = c.term_pairs.new.bank in
-    for_rule m c.unify.new.machine c.args.goal c.args.args.now c.args.values c.args.level c.in_ok-unified.unified f r (one_read m.table.rules.items c.args.rule f r c.in_ok-found.ensures e)
+    for_rule m c.unify.new.machine c.args.goal c.args.args.now c.args.values c.args.level c.in_ok-unified.unified f r (one_read m.table.rules.items c.args.rule f r c.rule-found.ensures e)
     (slices_met m (record m { bank = d }) c.unify.new.machine f c.args.goal c.args.args.now c.args.values c.args.level c.in_ok-unified.unified
     c.in_ok-types.types.items c.as_slice.result.now c.in_ok-pairs.pairs.items c.as_slice-2.result.now c.as_slice.ensures.value
     c.as_slice-2.ensures.value

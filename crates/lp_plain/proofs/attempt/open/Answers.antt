@@ -21,7 +21,7 @@ returns-clause-more c =
         bindings = grows_same m.bindings;
         blocks = o.blocks;
         values = (c.as_slice.result.now, o.values);
-        next = omega (arith, c.in-Some.ensures);
+        next = omega (arith, c.in_ok-values.ensures.next);
         next_type = omega arith;
         table = refl;
         index = refl;
@@ -35,15 +35,15 @@ returns-clause-more c =
       };
       next_type = refl;
       pairs = refl;
-      stands = own_values_stand b d s z c.args.args.now c.as_slice.result.now m.branch.next c.args.level c.in_ok-found.found.now.slots.items c.args.around.scope
+      stands = own_values_stand b d s z c.args.args.now c.as_slice.result.now m.branch.next c.args.level c.rule-found.result.now.slots.items c.args.around.scope
           c.in_ok-scope.scope E (ap length v ∙ c.in_ok-values.ensures.count)
-          (λ h. subst (AreSlotted b d c.args.args.now m.branch.next c.args.level c.in_ok-found.found.now.slots.items) (sym v) (c.in_ok-values.ensures.values h)) o.opened o.values;
+          (λ h. subst (AreSlotted b d c.args.args.now m.branch.next c.args.level c.rule-found.result.now.slots.items) (sym v) (c.in_ok-values.ensures.values h)) o.opened o.values;
     }
 
 pub returns-clause-opened : goal.returns-clause-opened
 returns-clause-opened c = λ r e.
     let m = c.args.machine.now in
-    let f = c.in_ok-found.found.now in
+    let f = c.rule-found.result.now in
     let vs = c.in_ok-values.values.items in
     let b = m.bank in
     let d = c.slot_values.new.bank in
@@ -52,9 +52,9 @@ returns-clause-opened c = λ r e.
     let E = c.in_ok-values.ensures.kept in
     let v : c.as_slice.result.now ≡ vs = c.as_slice.ensures.value in
     let o = c.in_ok-scope.ensures in
-    for_rule f r (one_read m.table.rules.items c.args.rule f r c.in_ok-found.ensures e) (record {
+    for_rule f r (one_read m.table.rules.items c.args.rule f r c.rule-found.ensures e) (record {
       bank = E;
-      next = omega (arith, c.in-Some.ensures, c.len.ensures, c.in_ok-values.ensures.count, c.in_ok-values.values.ok);
+      next = c.in_ok-values.ensures.next;
       next_type = refl;
       goals = refl;
       pairs = refl;

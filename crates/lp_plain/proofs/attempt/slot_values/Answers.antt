@@ -18,3 +18,9 @@ variables-preserved c =
           c.in_ok-push.ensures.items
           (slot_read c.args.slots.now.items c.variables.number c.index.result.now c.index.ensures (omega (arith, c.variables-test.true, c.len-number-end.ensures, c.args.slots.now.ok))) (I.values h) (c.in_ok-value.ensures.value c.args.next c.variables.number I.id);
     }
+
+pub returns-clause-next : goal.returns-clause-next
+returns-clause-next c =
+    let I = c.variables.invariant in
+    let i = I.id in
+    omega (arith, i, c.variables-test.false, c.len-number-end.ensures, c.args.slots.now.ok)

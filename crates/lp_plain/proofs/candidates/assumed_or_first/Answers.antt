@@ -1,7 +1,6 @@
 use Rattle.std.proofs.Common.{subst, sym}
 use Rattle.std.specs.Prelude.{nat_eq}
 use Rattle.std.specs.HashMap.{get}
-use Rattle.std.proofs.lemmas.Result.{IfOk-weaker}
 use Rattle.lp_plain.specs.Candidates.{IsChain, nexts, first_for}
 use Rattle.lp_plain.proofs.Indexes.{assumed_some, assumed_none}
 use Rattle.lp_plain.proofs.candidates.assumed_or_first.Goals as goal
@@ -10,9 +9,6 @@ pub returns-in-Some : goal.returns-in-Some
 returns-in-Some c = λ older ns ks h d. assumed_some c.args.bank.now c.args.rules.now.items older (first_for (λ k. get nat_eq c.args.index.now k) c.args.call.now.head) c.args.assumed c.args.call.now.key c.in-Some.number ns ks c.in-Some.is h d
 
 pub returns-in-None : goal.returns-in-None
-returns-in-None c =
-    IfOk-weaker c.program_candidate.result _ _
-    (λ found e older ns ks h d.
-    assumed_none c.args.bank.now c.args.rules.now.items older (first_for (λ k. get nat_eq c.args.index.now k) c.args.call.now.head) c.args.assumed c.args.call.now.key found ns ks c.in-None.is h
-    (e older (first_for (λ k. get nat_eq c.args.index.now k) c.args.call.now.head) ks (subst (λ z. IsChain (nexts c.args.rules.now.items) z ks) (sym c.first_rule.ensures) d)))
-    c.program_candidate.ensures
+returns-in-None c = λ older ns ks h d.
+    assumed_none c.args.bank.now c.args.rules.now.items older (first_for (λ k. get nat_eq c.args.index.now k) c.args.call.now.head) c.args.assumed c.args.call.now.key c.program_candidate.result ns ks c.in-None.is h
+    (c.program_candidate.ensures older (first_for (λ k. get nat_eq c.args.index.now k) c.args.call.now.head) ks (subst (λ z. IsChain (nexts c.args.rules.now.items) z ks) (sym c.first_rule.ensures) d))

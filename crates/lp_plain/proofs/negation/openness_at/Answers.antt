@@ -1,4 +1,4 @@
-use Rattle.std.proofs.Common.{subst, refl}
+use Rattle.std.proofs.Common.{length, subst, refl}
 use Rattle.lp_plain.specs.Standings.{OfFree, OfStanding}
 use Rattle.lp_plain.proofs.Opening.{bank_grows, bank_stands}
 use Rattle.lp_plain.proofs.negation.openness_at.Goals as goal
@@ -6,7 +6,7 @@ use Rattle.lp_plain.proofs.negation.openness_at.Goals as goal
 pub returns-clause-found : goal.returns-clause-found
 returns-clause-found c = λ k r h.
     let m = c.args.machine.now in
-    subst (λ l. OfStanding m.table.frees.items l (OfFree m.bank k m.scopes) c.in_ok-openness.openness
+    subst (λ l. OfStanding m.table.frees.items l (OfFree m.bank k m.scopes) (length l) c.in_ok-openness.openness
     (record { free = c.args.free; values = c.args.place.values; older = c.args.place.standing })) c.as_slice.ensures.value
     (c.in_ok-openness.ensures.judged k r h)
 

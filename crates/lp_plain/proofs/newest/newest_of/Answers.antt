@@ -1,17 +1,31 @@
-use Rattle.std.proofs.Common.{None, Some}
+use Rattle.std.proofs.Common.{sym, subst}
+use Rattle.lp_plain.specs.Newest.{Finds}
 use Rattle.lp_plain.proofs.ListReads.{read_at}
-use Rattle.lp_plain.proofs.NewestTrees.{found_none, found_here, found_below}
+use Rattle.lp_plain.proofs.Scoped.{get_none}
+use Rattle.lp_plain.proofs.NewestTrees.{found_below, found_here, found_none, found_outside, goes_down_to}
 use Rattle.lp_plain.proofs.newest.newest_of.Goals as goal
 
-pub returns-in_default : goal.returns-in_default
-returns-in_default c = c.nodes.invariant None (found_none c.args.nodes.now.items c.args.head c.nodes.at c.nodes.bits c.in_default.is)
+pub nodes-init : goal.nodes-init
+nodes-init c = λ found r. subst (λ n. Finds c.args.nodes.now.items c.args.head c.args.tree n found) (sym c.code-bits.ensures) r
+
+pub returns : goal.returns
+returns c = λ found r. sym (found_none c.args.nodes.now.items c.args.head (c.nodes.invariant found r) c.in_default.is)
+
+pub returns-in_default-get : goal.returns-in_default-get
+returns-in_default-get c = λ found r.
+    absurd (found_outside c.args.nodes.now.items c.args.head (c.nodes.invariant found r) c.in-Some.number c.in-Some.is
+    (get_none c.args.nodes.now.items c.deref.result.now c.in-Some.number c.deref.ensures.value c.in_default-get.ensures.lookup.3))
 
 pub returns-then-same_head : goal.returns-then-same_head
-returns-then-same_head c =
+returns-then-same_head c = λ found r.
     let s = read_at c.args.nodes.now.items c.deref.result.now c.in-Some.number c.in-Some-get.node.now _ c.deref.ensures.value c.in-Some-get.ensures.lookup.3.0 c.in-Some-get.ensures.lookup.1 in
-    c.nodes.invariant (Some c.in-Some-get.node.now.number) (found_here c.args.nodes.now.items c.args.head c.nodes.at c.nodes.bits c.in-Some.number c.in-Some-get.node.now c.in-Some.is s (c.same_head.ensures.same c.if-same_head.true))
+    found_here c.args.nodes.now.items c.args.head (c.nodes.invariant found r) c.in-Some.number c.in-Some-get.node.now c.in-Some.is s (c.same_head.ensures.same c.if-same_head.true)
 
 pub nodes-preserved : goal.nodes-preserved
 nodes-preserved c = λ found r.
     let s = read_at c.args.nodes.now.items c.deref.result.now c.in-Some.number c.in-Some-get.node.now _ c.deref.ensures.value c.in-Some-get.ensures.lookup.3.0 c.in-Some-get.ensures.lookup.1 in
-    c.nodes.invariant found (found_below c.args.nodes.now.items c.args.head c.nodes.at c.nodes.bits c.in-Some.number c.in-Some-get.node.now c.child-at.result found c.leads_to_odd.result c.in-Some.is s (c.same_head.ensures.other c.if-same_head.false) c.leads_to_odd.ensures c.child-at.ensures r)
+    found_below c.args.nodes.now.items c.args.head (c.nodes.invariant found r) c.in-Some.number c.in-Some-get.node.now c.child.result c.older-at.result c.leads_to_odd.result
+    c.in-Some.is s (c.same_head.ensures.other c.if-same_head.false) c.leads_to_odd.ensures c.child.ensures c.older-at.ensures.same
+
+pub nodes-smaller : goal.nodes-smaller
+nodes-smaller c = goes_down_to c.nodes.at c.older-at.result c.in-Some.number c.in-Some.is c.older-at.ensures.older

@@ -1,5 +1,6 @@
 use Rattle.lp_plain.proofs.NoneBound.{none_apart, none_with, with_apart}
-use Rattle.std.proofs.Common.{◌≡◌, refl, subst}
+use Rattle.std.proofs.Common.{◌≡◌, ◌∙◌, ap, refl, sym, subst, inl, inr}
+use Rattle.lp_plain.specs.Apart.{IsApart}
 use Rattle.lp_model.specs.Flat.{Exists, Forall, collect_clauses}
 use Rattle.lp_plain.specs.Entries.{IsOf}
 use Rattle.lp_plain.specs.Tables.{AreClausesOf, IsNumbered, shown}
@@ -11,7 +12,8 @@ use Rattle.lp_plain.specs.Taking.{IsApartFlat}
 use Rattle.lp_plain.proofs.Marked.{aside_apart, marks_apart, none_aside}
 use Rattle.lp_plain.proofs.TakenApart.{all_taken, assume_taken, either_taken, none_taken, some_taken}
 use Rattle.lp_plain.proofs.WrittenParts.{all_writes, assume_writes, either_writes, some_writes}
-use Rattle.lp_plain.proofs.ProgramKept.{apart_at, apart_keeps, apart_on, program_same}
+use Rattle.lp_plain.proofs.HeadsWritten.{not_headless}
+use Rattle.lp_plain.proofs.ProgramKept.{apart_at, apart_keeps, program_same, program_then}
 use Rattle.lp_plain.proofs.parts.put_parts.Goals as goal
 
 pub returns-in_ok-put_either-in-Either-clause-either : goal.returns-in_ok-put_either-in-Either-clause-either
@@ -45,8 +47,8 @@ returns-in_ok-put_all-in-All-clause-all c = λ e l i a hs σ b s x w u n height 
     c.in_ok-put_all-in-All.ensures.parts a hs σ b s (subst (λ z. IsOf m p z hs σ) q x) w u n height
     P T
 
-pub returns-in_ok-put_assume-in-Assume-clause-assume : goal.returns-in_ok-put_assume-in-Assume-clause-assume
-returns-in_ok-put_assume-in-Assume-clause-assume c = λ e s l f i a cs hs σ b st pl h k nu x w u n height P.
+pub returns-in_ok-turn-in-Assume-clause-assume : goal.returns-in_ok-turn-in-Assume-clause-assume
+returns-in_ok-turn-in-Assume-clause-assume c = λ e s l f i a cs hs σ b st pl h k nu x w u n height P.
     let m = c.args.machine.now in
     let p = c.args.place in
     let y = c.in-Assume.is in
@@ -54,7 +56,7 @@ returns-in_ok-put_assume-in-Assume-clause-assume c = λ e s l f i a cs hs σ b s
     let ql : l ≡ c.in-Assume.goals = cc in
     let qf : f ≡ c.in-Assume.free = cc in
     assume_apart m c.take_apart.new.machine c.put_assume.new.machine p c.in-Assume.rules c.in-Assume.goals c.in-Assume.free c.args.behind
-    (c.if-not-take_apart.ensures.apart refl) c.in_ok-put_assume-in-Assume.ensures.parts a cs hs σ b st pl h
+    (c.if-not-take_apart.ensures.apart refl) (c.in_ok-turn-in-Assume.ensures.parts e) a cs hs σ b st pl h
     (subst (λ z. AreClausesOf m.bank m.table z cs) qs k) (subst (λ z. IsNumbered (shown m.table).frees z (λ f. collect_clauses f 0 cs)) qf nu) (subst (λ z. IsOf m p z hs σ) ql x) w u n height P
 
 pub returns-in_ok-put_either-in-Either-clause-taken : goal.returns-in_ok-put_either-in-Either-clause-taken
@@ -94,17 +96,17 @@ returns-in_ok-put_all-in-All-clause-taken c = λ e.
     (grown_apart m k n p h f.grown) (stands_apart m k n h f.stands) (quietly m k n h (c.if-not-take_apart.ensures.taken refl)
     (grown_on k n p f.grown) f.counts)
 
-pub returns-in_ok-put_assume-in-Assume-clause-taken : goal.returns-in_ok-put_assume-in-Assume-clause-taken
-returns-in_ok-put_assume-in-Assume-clause-taken c = λ e.
+pub returns-in_ok-turn-in-Assume-clause-taken : goal.returns-in_ok-turn-in-Assume-clause-taken
+returns-in_ok-turn-in-Assume-clause-taken c = λ e.
     let m = c.args.machine.now in
     let p = c.args.place in
     let n = c.put_assume.new.machine in
     let k = c.take_apart.new.machine in
     let h = c.if-not-take_apart.ensures.apart refl in
     assume_taken m n p c.args.goal c.args.behind c.in-Assume.rules c.in-Assume.goals c.in-Assume.free c.in-Assume.is
-    (assume_apart m k n p c.in-Assume.rules c.in-Assume.goals c.in-Assume.free c.args.behind h c.in_ok-put_assume-in-Assume.ensures.parts)
-    (quietly m k n h (c.if-not-take_apart.ensures.taken refl) c.in_ok-put_assume-in-Assume.ensures.grown
-    c.in_ok-put_assume-in-Assume.ensures.counts)
+    (assume_apart m k n p c.in-Assume.rules c.in-Assume.goals c.in-Assume.free c.args.behind h (c.in_ok-turn-in-Assume.ensures.parts e))
+    (quietly m k n h (c.if-not-take_apart.ensures.taken refl) (c.in_ok-turn-in-Assume.ensures.grown e)
+    c.in_ok-turn-in-Assume.ensures.counts)
 
 pub returns-in-Atom-clause-taken : goal.returns-in-Atom-clause-taken
 returns-in-Atom-clause-taken c = λ e. let y = c.in-Atom.is in none_taken c.args.machine.now _ c.args.place c.args.goal c.args.behind (λ l r z. cc) (λ l z. cc) (λ l z. cc) (λ s l f z. cc)
@@ -130,10 +132,10 @@ returns-in_ok-put_all-in-All-clause-marks c = λ e h.
     let n = c.put_all.new.machine in
     marks_apart c.args.machine.now c.take_apart.new.machine n c.args.place c.args.behind n.branch.goals (c.if-not-take_apart.ensures.apart refl) c.in_ok-put_all-in-All.ensures.marks
 
-pub returns-in_ok-put_assume-in-Assume-clause-marks : goal.returns-in_ok-put_assume-in-Assume-clause-marks
-returns-in_ok-put_assume-in-Assume-clause-marks c = λ e h.
+pub returns-in_ok-turn-in-Assume-clause-marks : goal.returns-in_ok-turn-in-Assume-clause-marks
+returns-in_ok-turn-in-Assume-clause-marks c = λ e h.
     let n = c.put_assume.new.machine in
-    marks_apart c.args.machine.now c.take_apart.new.machine n c.args.place c.args.behind n.branch.goals (c.if-not-take_apart.ensures.apart refl) c.in_ok-put_assume-in-Assume.ensures.marks
+    marks_apart c.args.machine.now c.take_apart.new.machine n c.args.place c.args.behind n.branch.goals (c.if-not-take_apart.ensures.apart refl) (c.in_ok-turn-in-Assume.ensures.marks e)
 
 pub returns-in_ok-put_either-in-Either-clause-aside : goal.returns-in_ok-put_either-in-Either-clause-aside
 returns-in_ok-put_either-in-Either-clause-aside c = λ e h.
@@ -153,12 +155,12 @@ returns-in_ok-put_all-in-All-clause-aside c = λ e h.
     let n = c.put_all.new.machine in
     aside_apart m k n c.args.place c.args.behind (c.if-not-take_apart.ensures.apart refl) (none_aside k n c.args.place c.args.behind c.in_ok-put_all-in-All.ensures.choices)
 
-pub returns-in_ok-put_assume-in-Assume-clause-aside : goal.returns-in_ok-put_assume-in-Assume-clause-aside
-returns-in_ok-put_assume-in-Assume-clause-aside c = λ e h.
+pub returns-in_ok-turn-in-Assume-clause-aside : goal.returns-in_ok-turn-in-Assume-clause-aside
+returns-in_ok-turn-in-Assume-clause-aside c = λ e h.
     let m = c.args.machine.now in
     let k = c.take_apart.new.machine in
     let n = c.put_assume.new.machine in
-    aside_apart m k n c.args.place c.args.behind (c.if-not-take_apart.ensures.apart refl) (none_aside k n c.args.place c.args.behind c.in_ok-put_assume-in-Assume.ensures.choices)
+    aside_apart m k n c.args.place c.args.behind (c.if-not-take_apart.ensures.apart refl) (none_aside k n c.args.place c.args.behind (c.in_ok-turn-in-Assume.ensures.choices e))
 
 pub returns-in-Atom-clause-marks : goal.returns-in-Atom-clause-marks
 returns-in-Atom-clause-marks c = λ e h. absurd (subst IsApartFlat c.in-Atom.is h)
@@ -202,14 +204,14 @@ pub returns-in_ok-put_all-in-All-clause-aside_with : goal.returns-in_ok-put_all-
 returns-in_ok-put_all-in-All-clause-aside_with c = λ e h. with_apart c.args.machine.now c.take_apart.new.machine c.put_all.new.machine
     (c.if-not-take_apart.ensures.apart refl) (none_with c.take_apart.new.machine c.put_all.new.machine c.in_ok-put_all-in-All.ensures.choices)
 
-pub returns-in_ok-put_assume-in-Assume-clause-none : goal.returns-in_ok-put_assume-in-Assume-clause-none
-returns-in_ok-put_assume-in-Assume-clause-none c = λ e h. none_apart c.args.machine.now c.take_apart.new.machine c.put_assume.new.machine
-    (c.if-not-take_apart.ensures.apart refl) c.in_ok-put_assume-in-Assume.ensures.none
+pub returns-in_ok-turn-in-Assume-clause-none : goal.returns-in_ok-turn-in-Assume-clause-none
+returns-in_ok-turn-in-Assume-clause-none c = λ e h. none_apart c.args.machine.now c.take_apart.new.machine c.put_assume.new.machine
+    (c.if-not-take_apart.ensures.apart refl) (c.in_ok-turn-in-Assume.ensures.none e)
 
-pub returns-in_ok-put_assume-in-Assume-clause-aside_with : goal.returns-in_ok-put_assume-in-Assume-clause-aside_with
-returns-in_ok-put_assume-in-Assume-clause-aside_with c = λ e h. with_apart c.args.machine.now c.take_apart.new.machine c.put_assume.new.machine
+pub returns-in_ok-turn-in-Assume-clause-aside_with : goal.returns-in_ok-turn-in-Assume-clause-aside_with
+returns-in_ok-turn-in-Assume-clause-aside_with c = λ e h. with_apart c.args.machine.now c.take_apart.new.machine c.put_assume.new.machine
     (c.if-not-take_apart.ensures.apart refl) (none_with c.take_apart.new.machine c.put_assume.new.machine
-    c.in_ok-put_assume-in-Assume.ensures.choices)
+    (c.in_ok-turn-in-Assume.ensures.choices e))
 
 pub returns-in-Atom-clause-none : goal.returns-in-Atom-clause-none
 returns-in-Atom-clause-none c = λ e h. absurd (subst IsApartFlat c.in-Atom.is h)
@@ -244,10 +246,10 @@ returns-in_ok-put_all-in-All-clause-written c = λ e h.
     all_writes c.args.machine.now c.take_apart.new.machine c.put_all.new.machine c.args.place c.args.goal c.in-All.goals
     (c.if-not-take_apart.ensures.apart refl) c.in-All.is c.in_ok-put_all-in-All.ensures.written
 
-pub returns-in_ok-put_assume-in-Assume-clause-written : goal.returns-in_ok-put_assume-in-Assume-clause-written
-returns-in_ok-put_assume-in-Assume-clause-written c = λ e h.
+pub returns-in_ok-turn-in-Assume-clause-written : goal.returns-in_ok-turn-in-Assume-clause-written
+returns-in_ok-turn-in-Assume-clause-written c = λ e h.
     assume_writes c.args.machine.now c.take_apart.new.machine c.put_assume.new.machine c.args.place c.args.goal c.in-Assume.rules c.in-Assume.goals
-    c.in-Assume.free (c.if-not-take_apart.ensures.apart refl) c.in-Assume.is c.in_ok-put_assume-in-Assume.ensures.written
+    c.in-Assume.free (c.if-not-take_apart.ensures.apart refl) c.in-Assume.is (c.in_ok-turn-in-Assume.ensures.written e)
 
 pub returns-in-Atom-clause-written : goal.returns-in-Atom-clause-written
 returns-in-Atom-clause-written c = λ e h. absurd (subst IsApartFlat c.in-Atom.is h)
@@ -273,9 +275,9 @@ pub returns-in_ok-put_all-in-All-clause-program : goal.returns-in_ok-put_all-in-
 returns-in_ok-put_all-in-All-clause-program c = apart_at c.args.machine.now c.take_apart.new.machine c.put_all.new.machine c.args.place
     (c.if-not-take_apart.ensures.apart refl) c.in_ok-put_all-in-All.ensures.grown
 
-pub returns-in_ok-put_assume-in-Assume-clause-program : goal.returns-in_ok-put_assume-in-Assume-clause-program
-returns-in_ok-put_assume-in-Assume-clause-program c = apart_on c.args.machine.now c.take_apart.new.machine c.put_assume.new.machine
-    (c.if-not-take_apart.ensures.apart refl) c.in_ok-put_assume-in-Assume.ensures.grown
+pub returns-in_ok-turn-in-Assume-clause-program : goal.returns-in_ok-turn-in-Assume-clause-program
+returns-in_ok-turn-in-Assume-clause-program c = program_then c.args.machine.now c.take_apart.new.machine c.put_assume.new.machine
+    (apart_keeps c.args.machine.now c.take_apart.new.machine (c.if-not-take_apart.ensures.apart refl)) c.in_ok-turn-in-Assume.ensures.program
 
 pub returns-in-Atom-clause-program : goal.returns-in-Atom-clause-program
 returns-in-Atom-clause-program c = apart_keeps c.args.machine.now c.take_apart.new.machine (c.if-not-take_apart.ensures.apart refl)
@@ -285,3 +287,37 @@ returns-in-Cut-clause-program c = apart_keeps c.args.machine.now c.take_apart.ne
 
 pub returns-in-Not-clause-program : goal.returns-in-Not-clause-program
 returns-in-Not-clause-program c = apart_keeps c.args.machine.now c.take_apart.new.machine (c.if-not-take_apart.ensures.apart refl)
+
+pub returns-then-not-take_apart-clause-counted : goal.returns-then-not-take_apart-clause-counted
+returns-then-not-take_apart-clause-counted c = λ ar w. let t = c.if-not-take_apart.ensures.spent refl in (t.1, ap (λ z. z.counts) t.0)
+
+pub returns-in_ok-put_either-in-Either-clause-counted : goal.returns-in_ok-put_either-in-Either-clause-counted
+returns-in_ok-put_either-in-Either-clause-counted c = λ ar w. let t = c.if-not-take_apart.ensures.taken refl in (t.0, c.in_ok-put_either-in-Either.ensures.counts ∙ t.1)
+
+pub returns-in_ok-put_some-in-Some-clause-counted : goal.returns-in_ok-put_some-in-Some-clause-counted
+returns-in_ok-put_some-in-Some-clause-counted c = λ ar w. let t = c.if-not-take_apart.ensures.taken refl in (t.0, c.in_ok-put_some-in-Some.ensures.counts ∙ t.1)
+
+pub returns-in_ok-put_all-in-All-clause-counted : goal.returns-in_ok-put_all-in-All-clause-counted
+returns-in_ok-put_all-in-All-clause-counted c = λ ar w. let t = c.if-not-take_apart.ensures.taken refl in (t.0, c.in_ok-put_all-in-All.ensures.counts ∙ t.1)
+
+pub returns-in-Atom-clause-counted : goal.returns-in-Atom-clause-counted
+returns-in-Atom-clause-counted c = λ ar w. c.if-not-take_apart.ensures.taken refl
+
+pub returns-in-Cut-clause-counted : goal.returns-in-Cut-clause-counted
+returns-in-Cut-clause-counted c = λ ar w. c.if-not-take_apart.ensures.taken refl
+
+pub returns-in-Not-clause-counted : goal.returns-in-Not-clause-counted
+returns-in-Not-clause-counted c = λ ar w. c.if-not-take_apart.ensures.taken refl
+
+pub returns-in_ok-turn-in-Assume-clause-counted : goal.returns-in_ok-turn-in-Assume-clause-counted
+returns-in_ok-turn-in-Assume-clause-counted c = λ ar w.
+    let m = c.args.machine.now in
+    let t = c.if-not-take_apart.ensures.taken refl in
+    let e = c.in_ok-turn-in-Assume.ensures in
+    elim e.turns [
+      | inl on ↦ subst (λ x. IsApart x m.counts c.put_assume.new.machine.counts) (sym on) (t.0, e.counts ∙ t.1)
+      | inr none ↦ absurd (not_headless m c.take_apart.new.machine c.args.place c.args.goal c.in-Assume.rules c.in-Assume.goals c.in-Assume.free (c.if-not-take_apart.ensures.apart refl) c.in-Assume.is ar w none)
+    ]
+
+pub returns-in_ok-turn-in-Assume-clause-ends : goal.returns-in_ok-turn-in-Assume-clause-ends
+returns-in_ok-turn-in-Assume-clause-ends c = c.in_ok-turn-in-Assume.ensures.ends

@@ -25,7 +25,7 @@ returns-in_ok-turn-in-Atom-clause-taken g c = λ e.
     none_taken c.args.machine.now c.take_term.new.machine c.args.place c.args.goal c.args.behind (λ l r z. cc) (λ l z. cc) (λ l z. cc) (λ s l f z. cc)
 
 pub returns-in_ok-turn-in-Atom-clause-counted : goal.returns-in_ok-turn-in-Atom-clause-counted
-returns-in_ok-turn-in-Atom-clause-counted g c = λ h. absurd (subst IsApartFlat c.in-Atom.is h)
+returns-in_ok-turn-in-Atom-clause-counted g c = λ h ar w. absurd (subst IsApartFlat c.in-Atom.is h)
 
 pub returns-in_ok-turn-in-Cut-clause-taken : goal.returns-in_ok-turn-in-Cut-clause-taken
 returns-in_ok-turn-in-Cut-clause-taken g c = λ e.
@@ -33,7 +33,7 @@ returns-in_ok-turn-in-Cut-clause-taken g c = λ e.
     none_taken c.args.machine.now c.take_cut.new.machine c.args.place c.args.goal c.args.behind (λ l r z. cc) (λ l z. cc) (λ l z. cc) (λ s l f z. cc)
 
 pub returns-in_ok-turn-in-Cut-clause-counted : goal.returns-in_ok-turn-in-Cut-clause-counted
-returns-in_ok-turn-in-Cut-clause-counted g c = λ h. absurd (subst IsApartFlat c.in-Cut.is h)
+returns-in_ok-turn-in-Cut-clause-counted g c = λ h ar w. absurd (subst IsApartFlat c.in-Cut.is h)
 
 pub returns-in_ok-turn-in-Not-clause-taken : goal.returns-in_ok-turn-in-Not-clause-taken
 returns-in_ok-turn-in-Not-clause-taken g c = λ e.
@@ -41,7 +41,7 @@ returns-in_ok-turn-in-Not-clause-taken g c = λ e.
     none_taken c.args.machine.now c.take_not.new.machine c.args.place c.args.goal c.args.behind (λ l r z. cc) (λ l z. cc) (λ l z. cc) (λ s l f z. cc)
 
 pub returns-in_ok-turn-in-Not-clause-counted : goal.returns-in_ok-turn-in-Not-clause-counted
-returns-in_ok-turn-in-Not-clause-counted g c = λ h. absurd (subst IsApartFlat c.in-Not.is h)
+returns-in_ok-turn-in-Not-clause-counted g c = λ h ar w. absurd (subst IsApartFlat c.in-Not.is h)
 
 pub returns-in_ok-turn-in-Atom-clause-marks : goal.returns-in_ok-turn-in-Atom-clause-marks
 returns-in_ok-turn-in-Atom-clause-marks g c = λ e h. absurd (subst IsApartFlat c.in-Atom.is h)
@@ -62,26 +62,29 @@ pub returns-in_ok-turn-in-Not-clause-aside : goal.returns-in_ok-turn-in-Not-clau
 returns-in_ok-turn-in-Not-clause-aside g c = λ e h. absurd (subst IsApartFlat c.in-Not.is h)
 
 pub returns-in_ok-turn-in-Atom-clause-moved : goal.returns-in_ok-turn-in-Atom-clause-moved
-returns-in_ok-turn-in-Atom-clause-moved g c = λ qv a raw s h at pf. absurd (atom_first c.args.machine.now a c.args.place c.in-Atom.term c.args.behind
+returns-in_ok-turn-in-Atom-clause-moved g c = λ qv a raw s h at pf w. absurd (atom_first c.args.machine.now a c.args.place c.in-Atom.term c.args.behind
     raw (subst (λ f. IsAtGoal c.args.machine.now a c.args.place f c.args.behind raw) c.in-Atom.is at) pf)
 
 pub returns-in_ok-turn-in-Cut-clause-moved : goal.returns-in_ok-turn-in-Cut-clause-moved
-returns-in_ok-turn-in-Cut-clause-moved g c = λ qv a raw s h at pf.
+returns-in_ok-turn-in-Cut-clause-moved g c = λ qv a raw s h at pf w.
     let r = c.in_ok-turn-in-Cut.ensures.moved qv a raw s h (subst (λ f. IsAtGoal c.args.machine.now a c.args.place f c.args.behind raw) c.in-Cut.is at) in
     (r.0, r.1 c.args.constants.now, r.2)
 
 pub returns-in_ok-turn-in-Not-clause-moved : goal.returns-in_ok-turn-in-Not-clause-moved
-returns-in_ok-turn-in-Not-clause-moved g c = λ qv a raw s h at pf.
+returns-in_ok-turn-in-Not-clause-moved g c = λ qv a raw s h at pf w.
     absurd (not_first c.args.machine.now a c.args.place c.in-Not.goals c.in-Not.free c.args.behind raw (subst (λ f. IsAtGoal c.args.machine.now a c.args.place f c.args.behind raw) c.in-Not.is at) pf)
 
+pub returns-in_ok-turn-in_default-clause-counted : goal.returns-in_ok-turn-in_default-clause-counted
+returns-in_ok-turn-in_default-clause-counted g c = λ h ar w. c.in_ok-turn-in_default.ensures.counted ar w
+
 pub returns-in_ok-turn-in_default-clause-moved : goal.returns-in_ok-turn-in_default-clause-moved
-returns-in_ok-turn-in_default-clause-moved g c = λ qv a raw s h at pf.
+returns-in_ok-turn-in_default-clause-moved g c = λ qv a raw s h at pf w.
     let e = c.in_ok-turn-in_default.ensures in
     let n = c.put_parts.new.machine in (
       quiet,
-      (apart_steps c.in_ok-turn-in_default.turn c.args.machine.now.counts n.counts e.counted ∙ plus_none c.args.machine.now.counts.steps, refl),
+      (apart_steps c.in_ok-turn-in_default.turn c.args.machine.now.counts n.counts (e.counted qv.arity w) ∙ plus_none c.args.machine.now.counts.steps, refl),
       part_moves qv c.args.machine.now n c.args.place c.args.goal c.args.behind c.in_ok-turn-in_default.turn e.taken e.none e.aside_with
-          c.in_default.not-Cut a raw s h at pf n.counts e.counted,
+          c.in_default.not-Cut a raw s h at pf n.counts (e.counted qv.arity w),
     )
 
 pub returns-in_ok-turn-in-Atom-clause-written : goal.returns-in_ok-turn-in-Atom-clause-written
@@ -138,7 +141,7 @@ pub returns-in_ok-turn-in_default-clause-stays : goal.returns-in_ok-turn-in_defa
 returns-in_ok-turn-in_default-clause-stays g c = λ a raw at pf ar st w sw.
     let n = c.put_parts.new.machine in
     let e = c.in_ok-turn-in_default.ensures in
-    apart_behind c.in_ok-turn-in_default.turn n ar c.args.machine.now.counts n.counts e.counted
+    apart_behind c.in_ok-turn-in_default.turn n ar c.args.machine.now.counts n.counts (e.counted ar w)
     (λ q. e.written q (apart_flat c.args.goal c.in_default.not-Atom c.in_default.not-Cut c.in_default.not-Not) ar st w sw)
 
 pub returns-in_ok-turn-in-Atom-clause-program : goal.returns-in_ok-turn-in-Atom-clause-program
@@ -274,4 +277,4 @@ returns-in_ok-turn-in-Not-clause-within g c = λ qv a raw s h at w.
 
 pub returns-in_ok-turn-in_default-clause-within : goal.returns-in_ok-turn-in_default-clause-within
 returns-in_ok-turn-in_default-clause-within g c = λ qv a raw s h at w.
-    inl (apart_steps c.in_ok-turn-in_default.turn c.args.machine.now.counts c.put_parts.new.machine.counts c.in_ok-turn-in_default.ensures.counted)
+    inl (apart_steps c.in_ok-turn-in_default.turn c.args.machine.now.counts c.put_parts.new.machine.counts (c.in_ok-turn-in_default.ensures.counted qv.arity w))

@@ -1,0 +1,5 @@
+use Rattle.lp_plain.proofs.ListReads.{read_at}
+use Rattle.lp_plain.proofs.table.Table.free.Goals as goal
+
+pub returns : goal.returns
+returns c = read_at c.args.self.now.frees.items c.deref.result.now c.args.number c.in-Some.free.now _ c.deref.ensures.value c.in-Some.ensures.lookup.3.0 c.in-Some.ensures.lookup.1
