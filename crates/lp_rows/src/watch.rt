@@ -2,7 +2,8 @@
 
 use lp_base::Memory;
 use lp_watch::{
-    Counter, Crowd, Note, Tracer, Watch, each_has_the_notes, notes_add_up, places_add_up, who_stays,
+    Counter, Crowd, Note, Tracer, Watch, each_has_the_notes, each_place_is_noted,
+    each_reports_what_it_took, notes_add_up, who_stays,
 };
 
 const NOTES: [Note<'static>; 7] = [
@@ -60,6 +61,7 @@ fn nobody_reports(rt: HostRuntime) -> Result<(), Memory> {
 fn laws_hold() {
     each_has_the_notes();
     notes_add_up();
-    places_add_up::<Counter>();
+    each_place_is_noted();
+    each_reports_what_it_took();
     who_stays();
 }
