@@ -51,19 +51,20 @@ from_map f xs y c =
 
 from_each : {A : Type 0} (f : Signature → List A) (used : List Signature) (x : A) → Contains (of_each f used) x → (i : ℕ) × (u : Signature) × (slice_get used i ≡ Some u) × Contains (f u) x
 from_each f [] x (i, l, e) = absurd (omega (arith, l))
-from_each {A} f (u ∷ us) x c = by (Contains-append_cases (f u) (of_each f us) x c)
+from_each {A} f (u ∷ us) x c = by (λ h. from_each f us x h) (Contains-append_cases (f u) (of_each f us) x c)
   where
-    by : Contains (f u) x ⊎ Contains (of_each f us) x → (i : ℕ) × (v : Signature) × (slice_get (u ∷ us) i ≡ Some v) × Contains (f v) x
-    by (inl h) = (0, u, refl, h)
-    by (inr h) = let (i, v, at, there) = from_each f us x h in (suc i, v, at, there)
+    by : (Contains (of_each f us) x → (i : ℕ) × (v : Signature) × (slice_get us i ≡ Some v) × Contains (f v) x) → Contains (f u) x ⊎ Contains (of_each f us) x →
+        (i : ℕ) × (v : Signature) × (slice_get (u ∷ us) i ≡ Some v) × Contains (f v) x
+    by later (inl h) = (0, u, refl, h)
+    by later (inr h) = let (i, v, at, there) = later h in (suc i, v, at, there)
 
 found_of : {A : Type 0} (P : A → Type 0) (rows : List (Row A)) → All (λ r. P r.1) rows → (name : List ℕ) (a : A) → found name rows ≡ Some a → P a
 found_of P [] all name a e = absurd (cc)
-found_of {A} P (r ∷ rs) all name a e = by (bytes_eq name r.0) e
+found_of {A} P (r ∷ rs) all name a e = by (λ f. found_of P rs (All-tail (λ r. P r.1) r rs all) name a f) (bytes_eq name r.0) e
   where
-    by : (t : Bool) → cond t (Some r.1) (found name rs) ≡ Some a → P a
-    by true f = subst P (same_Some r.1 a f) (All-head (λ r. P r.1) r rs all)
-    by false f = found_of P rs (All-tail (λ r. P r.1) r rs all) name a f
+    by : (found name rs ≡ Some a → P a) → (t : Bool) → cond t (Some r.1) (found name rs) ≡ Some a → P a
+    by later true f = subst P (same_Some r.1 a f) (All-head (λ r. P r.1) r rs all)
+    by later false f = later f
 
 -- the constants of a text, with their types and without
 each_names : {A : Type 0} (text : List ℕ) (a : A) (names : List Spot) → names_in (each text a names) ≡ map (λ s. spelled text s) names
@@ -95,11 +96,12 @@ all_given_whole (u ∷ us) h = All-append (λ r. IsWhole r.1) (bodies_of u) (of_
 
 found_given : (text : List ℕ) (ds : List Declaration) (given : List (Row Ty)) (name : List ℕ) (t : Ty) → found name (as_trees given ++ definitions_in text ds) ≡ Some (as_tree t) → found name given ≡ Some t
 found_given text ds [] name t e = absurd (texts_have_no_tree (one_text text ds) name t (ap (found name) (append-nil (definitions_in text ds)) ∙ e))
-found_given text ds (r ∷ rs) name t e = by (bytes_eq name r.0) e
+found_given text ds (r ∷ rs) name t e = by (λ f. found_given text ds rs name t f) (bytes_eq name r.0) e
   where
-    by : (b : Bool) → cond b (Some (as_tree r.1)) (found name (as_trees rs ++ definitions_in text ds)) ≡ Some (as_tree t) → cond b (Some r.1) (found name rs) ≡ Some t
-    by true f = let g : r.1 ≡ t = cc in ap (λ t. Some t) g
-    by false f = found_given text ds rs name t f
+    by : (found name (as_trees rs ++ definitions_in text ds) ≡ Some (as_tree t) → found name rs ≡ Some t) → (b : Bool) →
+        cond b (Some (as_tree r.1)) (found name (as_trees rs ++ definitions_in text ds)) ≡ Some (as_tree t) → cond b (Some r.1) (found name rs) ≡ Some t
+    by later true f = let g : r.1 ≡ t = cc in ap (λ t. Some t) g
+    by later false f = later f
 
 module _ (own : Signature) (used : List Signature) (text : List ℕ) (lines : List Sentence) (s : Signature) (ready : AreReady own used text lines) (seen : HasSeen own used text lines s) where
   -- each name has one entry
