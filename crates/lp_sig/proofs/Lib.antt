@@ -72,3 +72,4 @@ pub mod GivenBodies
 pub mod Reading
 pub mod DeclaredTypes
 pub mod WholeTypes
+pub mod SeenUses

@@ -34,3 +34,4 @@ pub mod Sights
 pub mod ModuleFaults
 pub mod AsWritten
 pub mod inner
+pub mod SeenByModules

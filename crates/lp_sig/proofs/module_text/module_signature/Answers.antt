@@ -1,3 +1,6 @@
+use Rattle.lp_sig.specs.Abbreviations.{nothing_seen}
+use Rattle.lp_sig.specs.SeenByModules.{seen_signature, seen_signatures, seen_in_module}
+use Rattle.lp_sig.proofs.SeenUses.{nothing_used}
 use Rattle.lp_sig.proofs.DeclaredTypes.{given_trees, given_names, given_found, given_known, given_later, typed_before, written_type}
 use Rattle.lp_sig.proofs.GivenBodies.{none_given}
 use Rattle.lp_sig.specs.inner.Reading.{IsReading, AreSettled}
@@ -86,8 +89,11 @@ returns-in_err-declare_all-clause-refused c =
     passed_up c.from_residual-in_err-declare_all.result c.in_err-declare_all.field-0.0
     (IsDeclarationRefusal c.args.own.now c.args.used.now c.args.source.now c.args.text.now.lines.items)
     c.from_residual-in_err-declare_all.ensures.1
-    (c.in_err-declare_all.ensures.refused (said_in_module c.args.own.now c.args.used.now c.args.source.now c.args.text.now.lines.items)
-    (c.in_ok-announce_all.ensures.names (said_of c.args.own.now ++ of_each said_of c.args.used.now) (c.in_ok-sights.ensures.names [] c.new-making.ensures.names))
+    (let before = seen_signatures (seen_signature nothing_seen c.args.own.now) c.args.used.now in
+    let known = c.in_ok-sights.ensures.names [] c.new-making.ensures.names in
+    c.in_err-declare_all.ensures.refused (seen_in_module c.args.own.now c.args.used.now c.args.source.now c.args.text.now.lines.items)
+    (c.in_ok-announce_all.ensures.names before.said known)
+    (c.in_ok-announce_all.ensures.uses before known (c.in_ok-sights.ensures.uses nothing_seen c.new-making.ensures.names (nothing_used (map (λ out. out.items) c.new-making.result.uses.ways.items) c.new-making.ensures.uses)))
     c.in_ok-said.ensures.kinds c.in_ok-said.ensures.constants)
 
 pub returns-in_err-signature-clause-refused : goal.returns-in_err-signature-clause-refused

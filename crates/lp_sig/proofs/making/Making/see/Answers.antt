@@ -1,3 +1,6 @@
+use Rattle.lp_sig.specs.Abbreviations.{KnowsUses}
+use Rattle.lp_sig.specs.inner.Noting.{with_unused}
+use Rattle.lp_sig.proofs.SeenUses.{with_kinds, kinds_used, signature_used}
 use Rattle.lp_sig.specs.Rows.{Row}
 use Rattle.lp_sig.specs.declared.entries.AbbreviationEntry.{AbbreviationEntry}
 use Rattle.lp_sig.proofs.GivenBodies.{given_bank, given_kinds}
@@ -95,3 +98,13 @@ returns-clause-given c = λ said rows k g ordered whole premise.
     (c.in_ok-of_abbreviations.ensures.given u.bank (kind_names u) (said ++ map kind_said u.kinds.items) rows kinds_then first (subst (AreSeenTypes u.bank here (kind_names u) names) (sym c.as_slice.ensures.value) types)) whole in
     given_bank there.types.bank c.see_all.new.types.bank there.bodies.items (said ++ said_of u) (rows ++ bodies_of u) c.see_all.ensures.kept
     (subst (λ s. GivesBodies there.types.bank there.bodies.items s (rows ++ bodies_of u)) (append_assoc said (map kind_said u.kinds.items) (map abbreviation_said u.abbreviations.items)) second)
+
+pub returns-clause-uses : goal.returns-clause-uses
+returns-clause-uses c = λ z k u.
+    let s = c.args.signature.now in
+    let w = map (λ out. out.items) c.args.self.now.uses.ways.items in
+    let now = with_kinds z c.kinds.result.now in
+    signature_used (map (λ out. out.items) c.see_abbreviations.new.self.uses.ways.items) z s
+    (subst (λ ks. KnowsUses (map (λ out. out.items) c.see_abbreviations.new.self.uses.ways.items) (with_unused (with_kinds z ks) s.abbreviations.items)) c.kinds.ensures
+    (subst (λ es. KnowsUses (map (λ out. out.items) c.see_abbreviations.new.self.uses.ways.items) (with_unused now es)) c.abbreviations.ensures
+    (c.in_ok-of_abbreviations.ensures.uses now (c.in_ok-of_kinds.ensures.names z.said k) (kinds_used w z c.kinds.result.now u))))
