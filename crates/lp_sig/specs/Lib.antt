@@ -33,4 +33,5 @@ pub mod Same
 pub mod Sights
 pub mod ModuleFaults
 pub mod AsWritten
+pub mod GoingTogether
 pub mod inner
