@@ -15,6 +15,14 @@ use Rattle.lp_sig.specs.Named.{NamedTy, NamedTys, named_var, named_param, named_
 use Rattle.lp_sig.specs.Places.{first_place}
 use Rattle.lp_sig.specs.Rows.{Row, found}
 use Rattle.lp_sig.specs.Said.{Said, a_kind, an_abbreviation, is_among, names_in}
+use Rattle.lp_base.specs.declared.limit.Limit.TheVariants as limit
+use Rattle.lp_base.specs.declared.place.Spot.{Spot}
+use Rattle.lp_syntax.specs.declared.text.Declaration.{Declaration}
+use Rattle.lp_sig.specs.Sights.{HasNumbers, signature_words, module_words}
+use Rattle.lp_sig.specs.declared.fault.SigFault.TheVariants as fault
+use Rattle.lp_sig.specs.declared.hearing.Said.{Said as Heard}
+use Rattle.lp_sig.specs.declared.module_fault.ModuleSigFault.{ModuleSigFault}
+use Rattle.lp_sig.specs.declared.module_fault.ModuleSigFault.TheVariants as wrong
 use Rattle.lp_sig.specs.Standard.{standard_constants}
 use Rattle.lp_sig.specs.Constants.{standard_tree}
 use Rattle.lp_sig.specs.Types.{kind_number_of}
@@ -232,6 +240,18 @@ pub record KnowsBefore (making : Making) (before : List Signature) : Type 0 wher
   pub words : HasWords making.constants (of_each constants_of before)
   pub types : AreOfTexts before → HoldsTypes making before
 
+-- how a sight of a word's signature is told
+abbrev pub IsBlamed : Spot → Sight → ModuleSigFault → Type 0
+IsBlamed word Alike e = ⊥
+IsBlamed word Otherwise e = e ≡ wrong.Sig (fault.Differ word)
+IsBlamed word TooMany e = e ≡ wrong.Sig (fault.Limit limit.Names)
+
 -- what the sights of signatures tell of them
 abbrev pub AreTold : List Signature → List Signature → List Sight → Type 0
 AreTold before used sights = (i : ℕ) (s : Sight) → slice_get sights i ≡ Some s → (u : Signature) × (slice_get used i ≡ Some u) × SightTells (before ++ take i used) u s
+
+-- the words of a text have their numbers, and the sights tell of the signatures that they name
+pub record AreSights (own : Signature) (used : List Signature) (text : List ℕ) (heard : Heard) (sights : List Sight) (ds : List Declaration) : Type 0 where
+  pub signatures : HasNumbers heard.accum_sigs (signature_words text ds)
+  pub modules : HasNumbers heard.accumulates (module_words text ds)
+  pub told : AreTold (own ∷ []) used sights
