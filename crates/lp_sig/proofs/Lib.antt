@@ -71,3 +71,9 @@ pub mod Refusing
 pub mod GivenBodies
 pub mod Reading
 pub mod DeclaredTypes
+pub mod Told
+pub mod ToldKinds
+pub mod TypesHere
+pub mod ToldConstants
+pub mod ToldBodies
+pub mod ToldSignatures

@@ -152,7 +152,7 @@ impl Names {
         ensures names { OnOk result ((said : List (Row Said)) → Knows self.old said → Knows self.new (said ++ map kind_said entries.now)) }
         ensures here { IfOk result (λ s. (said : List (Row Said)) → Knows self.old said → map (λ e. e.number) entries.now ≡ range_with_len 8 (length entries.now) → ((k n : ℕ) → get nat_eq kinds.old k ≡ Some n → ⊥) → (s ≡ Alike) ⊎ AreKinds (said ++ map kind_said entries.now) (map (λ e. e.name.items) entries.now) → AreKindsHere (said ++ map kind_said entries.now) (map (λ e. e.name.items) entries.now) kinds.new) }
         ensures numbers { OnOk result ((said : List (Row Said)) → Knows self.old said → map (λ e. e.number) entries.now ≡ range_with_len 8 (length entries.now) → ((k n : ℕ) → get nat_eq kinds.old k ≡ Some n → ⊥) → AreNumberedHere (said ++ map kind_said entries.now) (map (λ e. e.name.items) entries.now) kinds.new) }
-        ensures told { IfOk result (λ s. (said : List (Row Said)) → Knows self.old said → KindsTell (said ++ map kind_said entries.now) entries.now s) }
+        ensures told { IfOk result (λ s. (said more : List (Row Said)) → Knows self.old said → KindsTell ((said ++ map kind_said entries.now) ++ more) entries.now s) }
     {
         let mut all = Sight::Alike;
         for at in 0..entries.len() {

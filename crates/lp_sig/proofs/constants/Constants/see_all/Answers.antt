@@ -36,7 +36,7 @@ loop-at-preserved c =
             step.0,
             one_seen c.args.types.now.bank c.loop-at.types.bank c.see.new.types.bank c.loop-at.self c.see.new.self c.args.made.now es
                 c.loop-at.at e c.loop-at.all c.and-all.result c.in_ok-sight.sight words c.loop-at-test.true c.index-entries-at.is i.1 c.see.ensures.kept
-                c.in_ok-sight.ensures.grown c.and-all.ensures counted now.1 step.1,
+                c.in_ok-sight.ensures.grown c.and-all.ensures.alike counted now.1 step.1,
           )),
     )
 

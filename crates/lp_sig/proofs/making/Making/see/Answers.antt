@@ -70,7 +70,7 @@ returns-clause-seen c = λ said words k h all ordered premise.
     (λ q. subst (λ b. AreSeenTypes b here (kind_names u) names made) c.bank.ensures (c.in_ok-made.ensures.seen (kind_names u) names (of_kinds q)))
     (c.in_ok-made.ensures.count ∙ ap (λ b. length b.types) c.bank.ensures)
     (subst (λ t. Extends t.bank now) c.see_abbreviations.ensures.types c.see_all.ensures.kept) of_constants
-    (left_by (λ q. let last = c.and-2.ensures q in ((c.and.ensures last.0).0, last.1)) premise)
+    (left_by (λ q. let last = c.and-2.ensures.alike q in ((c.and.ensures.alike last.0).0, last.1)) premise)
 
 pub returns-clause-given : goal.returns-clause-given
 returns-clause-given c = λ said rows k g ordered whole premise.
@@ -86,7 +86,7 @@ returns-clause-given c = λ said rows k g ordered whole premise.
     (c.in_ok-of_kinds.ensures.here said k (subst (λ es. map (λ e. e.number) es ≡ range_with_len 8 (length es)) (sym c.kinds.ensures) ordered.kinds) none) in
     let names = said_kinds (said ++ map kind_said u.kinds.items) in
     let alike : (sk ≡ Alike) ⊎ AreKinds (said ++ map kind_said u.kinds.items) (kind_names u) =
-    ⊎_elim (λ q. inl (c.and.ensures (c.and-2.ensures q).0).0) (λ q. inr (kinds_by_then said u q)) premise in
+    ⊎_elim (λ q. inl (c.and.ensures.alike (c.and-2.ensures.alike q).0).0) (λ q. inr (kinds_by_then said u q)) premise in
     let types : AreSeenTypes u.bank here (kind_names u) names made = subst (λ b. AreSeenTypes b here (kind_names u) names made) c.bank.ensures (c.in_ok-made.ensures.seen (kind_names u) names (of_kinds alike)) in
     let kinds_then = subst (Knows c.see_kinds.new.self) (ap (λ es. said ++ map kind_said es) c.kinds.ensures) (c.in_ok-of_kinds.ensures.names said k) in
     let first = given_bank old.types.bank here old.bodies.items (said ++ map kind_said u.kinds.items) rows c.see_types.ensures.kept (given_kinds old.types.bank old.bodies.items said rows u.kinds.items g) in
