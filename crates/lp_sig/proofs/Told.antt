@@ -1,12 +1,13 @@
 -- What the sights of signatures tell of the words of a text.
 use Rattle.std.specs.Global.{Global}
-use Rattle.std.proofs.Common.{◌≡◌, ℕ, zero, suc, ◌+◌, ◌<◌, List, [], ◌∷◌, ◌++◌, length, get_or, take, Option, Some, None, Vec, Bor, refl, sym, ap, subst, ◌∙◌, arith, inl, inr, true≢false, append_assoc}
-use Rattle.std.specs.Prelude.{◌⊎◌, IfSome, slice_get, Contains}
+use Rattle.std.proofs.Common.{◌≡◌, ℕ, zero, suc, ◌+◌, ◌<◌, ◌≤◌, List, Bool, [], ◌∷◌, ◌++◌, length, get_or, take, Option, Some, None, Vec, Bor, refl, sym, ap, subst, ◌∙◌, arith, inl, inr, true≢false, append_assoc}
+use Rattle.std.specs.Prelude.{◌⊎◌, IfSome, is_some, slice_get, Contains}
 use Rattle.std.specs.Str.{bytes_eq}
 use Rattle.std.specs.Map.{lookup}
 use Rattle.std.proofs.lemmas.List.{take_more}
 use Rattle.std.proofs.lemmas.Option.{same_Some, slice_get-get_or}
 use Rattle.indexmap.specs.IndexMap.{IndexMap}
+use Rattle.lp_base.specs.declared.limits.TheConstants.{END_OF_NUMBERS}
 use Rattle.lp_base.specs.declared.place.Spot.{Spot}
 use Rattle.lp_sig.specs.Pieces.{spelled}
 use Rattle.lp_sig.specs.Places.{first_place}
@@ -16,7 +17,7 @@ use Rattle.lp_sig.specs.Worded.{HasWords}
 use Rattle.lp_sig.specs.Sights.{HasNumbers, IsSightOf}
 use Rattle.lp_sig.specs.ModuleFaults.{IsWordFault, otherwise, many, IsNamedBy, IsWordRefused, IsWordTaken}
 use Rattle.lp_sig.specs.GoingTogether.{GoesWith}
-use Rattle.lp_sig.specs.inner.Telling.{SightTells, IsBlamed, AreTold, KnowsBefore, AreBodiesHere, AreTypedHere, IsTypedHere}
+use Rattle.lp_sig.specs.inner.Telling.{SightTells, IsBlamed, IsRoom, AreTold, KnowsBefore, AreBodiesHere, AreTypedHere, IsTypedHere}
 use Rattle.lp_sig.specs.declared.constants.Constant.{Constant}
 use Rattle.lp_sig.specs.declared.making.Making.{Making}
 use Rattle.lp_sig.specs.declared.module_fault.ModuleSigFault.{ModuleSigFault}
@@ -103,3 +104,8 @@ knows_none m names words none empty = record {
   where
     nothing : (k : Constant) → Contains [] k → IsTypedHere m.bodies.types.bank [] [] k
     nothing k (i, l, at) = absurd (omega (arith, l))
+
+-- whether there is a number
+pub room_so : (o : Option ℕ) (k : ℕ) (b : Bool) → IfSome o (λ n. (n ≡ 32 + k) × (32 + k < END_OF_NUMBERS)) → (o ≡ None → END_OF_NUMBERS ≤ 32 + k) → b ≡ is_some o → IsRoom k b
+room_so None k b some none is = subst (IsRoom k) (sym is) (none refl)
+room_so (Some n) k b some none is = subst (IsRoom k) (sym is) some.1

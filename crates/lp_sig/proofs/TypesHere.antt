@@ -74,7 +74,7 @@ module _ (said more : List (Row Said)) where
   fits_later (Some name) (n, (k, (l, (c, m)))) = (n, (kind_number_more said more name n k, (l, (c, meaning_more said more name (a_kind c) m))))
 
 -- kinds of the language have their numbers
-low_here : (said : List (Row Said)) (names : List (List ℕ)) (name : List ℕ) (k : ℕ) → k < 8 → kind_name names k ≡ Some name → IsNumberHere said name k
+pub low_here : (said : List (Row Said)) (names : List (List ℕ)) (name : List ℕ) (k : ℕ) → k < 8 → kind_name names k ≡ Some name → IsNumberHere said name k
 unfolding meaning_of kind_number_of
 low_here said names name zero l e = subst (λ m. IsNumberHere said m 0) (same_Some (codes "o") name e) (of_kind 0 refl refl)
 low_here said names name (suc zero) l e = subst (λ m. IsNumberHere said m 1) (same_Some (codes "int") name e) (of_kind 0 refl refl)
@@ -273,3 +273,15 @@ module _ (said : List (Row Said)) where
       by : (t : Bool) → nat_lt k 8 ≡ t → (if t then slice_get (names_in standard_kinds) k else slice_get (map (λ e. e.name.items) es) (k - 8)) ≡ Some name → FitsHere said (Some name)
       by true s f = let l = ltb-true k 8 s in low_fits k name l (low_here said (map (λ e. e.name.items) es) name k l e)
       by false s f = entries_fit es (k - 8) name go f
+
+-- what holds of each name
+mutual
+  pub each_weaker : (P Q : Option (List ℕ) → Type 0) → ((o : Option (List ℕ)) → P o → Q o) → (N : NamedTy) → EachKind P N → EachKind Q N
+  each_weaker P Q f (named_var x) h = tt
+  each_weaker P Q f (named_param k) h = tt
+  each_weaker P Q f (named_con o ts) h = (f o h.0, all_weaker P Q f ts h.1)
+  each_weaker P Q f (named_arrow a b) h = (each_weaker P Q f a h.0, each_weaker P Q f b h.1)
+
+  all_weaker : (P Q : Option (List ℕ) → Type 0) → ((o : Option (List ℕ)) → P o → Q o) → (ts : NamedTys) → AllKinds P ts → AllKinds Q ts
+  all_weaker P Q f no_named h = tt
+  all_weaker P Q f (more_named t ts) h = (each_weaker P Q f t h.0, all_weaker P Q f ts h.1)
