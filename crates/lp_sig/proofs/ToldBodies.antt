@@ -27,6 +27,7 @@ use Rattle.lp_sig.specs.declared.entries.KindEntry.{KindEntry}
 use Rattle.lp_sig.specs.declared.names.Head.{Head}
 use Rattle.lp_sig.specs.declared.see.Sight.{Sight}
 use Rattle.lp_sig.specs.declared.see.Sight.TheVariants.{Alike, Otherwise, TooMany}
+use Rattle.lp_sig.specs.declared.store.Types.{Types}
 use Rattle.lp_sig.specs.declared.signature.Signature.{Signature}
 use Rattle.lp_sig.proofs.Abbreviating.{names_known, names_fresh, told_more, told_again, unknown_untold}
 use Rattle.lp_sig.proofs.Announcing.{place_front, place_last, found_new, at_end}
@@ -37,7 +38,7 @@ use Rattle.lp_sig.proofs.Settling.{before_or_at}
 use Rattle.lp_sig.proofs.Sighting.{found_last}
 use Rattle.lp_sig.proofs.ToldConstants.{found_behind}
 use Rattle.lp_sig.proofs.ToldKinds.{tells_more, taken_more, known_last}
-use Rattle.lp_sig.proofs.TypesHere.{type_later, types_same, names_same}
+use Rattle.lp_sig.proofs.TypesHere.{type_later, types_later, types_same, names_same}
 
 -- more types, and more kinds
 pub bodies_in_bank : (b now : Nodes) (bodies : List Body) (said : List (Row Said)) (rows : List (Row NamedTy)) → Extends b now → AreBodiesHere b bodies said rows → AreBodiesHere now bodies said rows
@@ -223,3 +224,11 @@ module _ (u : Signature) (said : List (Row Said)) (rows : List (Row NamedTy)) (e
 
       v : List (Row NamedTy)
       v = ((rows ++ map (named_body u) (take i es)) ++ named_body u e ∷ []) ++ map (named_body u) (drop (i + 1) es)
+
+-- what was made of the next body
+pub made_next : (old now : Types) (bodies : List Body) (u : Signature) (said : List (Row Said)) (rows : List (Row NamedTy)) (made : List TypeId) (es : List AbbreviationEntry) (i : ℕ) (e : AbbreviationEntry) → i < length es → e ≡ get_or es i e → old ≡ now →
+    CanSeeBodies old.bank bodies u said rows made es → IsMadeHere now.bank (said ++ map abbreviation_said (take i es)) made e.body (named_in u e.body)
+made_next old now bodies u said rows made es i e l at same can id there =
+    let h = types_later said (map abbreviation_said (take i es)) u.bank old.bank (kind_names u) made can.here e.body.0 id there in
+    let r = (h.0, h.1 (subst (λ e. IsWhole (named_in u e.body)) (sym at) (can.whole i e l))) in
+    subst (λ b. (id.0 < length b.bank.types) × IsTypeHere (said ++ map abbreviation_said (take i es)) (type_tree b.bank id.0) (named_in u e.body)) same r
