@@ -1,7 +1,7 @@
 -- What sights of abbreviations tell: their bodies here against those that their names are given first.
 use Rattle.std.proofs.Common.{◌≡◌, ℕ, zero, suc, ◌+◌, ◌<◌, List, [], ◌∷◌, ◌++◌, length, map, get_or, take, drop, Bool, true, false, true≢false, Option, Some, None, refl, sym, ap, subst, ◌∙◌, arith, inl, inr, append_assoc, append-nil}
 use Rattle.std.specs.Str.{bytes_eq}
-use Rattle.std.specs.Prelude.{◌⊎◌, not, if◌then◌else◌, slice_get, slice_index_or, All}
+use Rattle.std.specs.Prelude.{◌⊎◌, not, if◌then◌else◌, slice_get, All}
 use Rattle.std.proofs.lemmas.List.{length-append, length-map, map-append, get_or_append_left, take-append-drop}
 use Rattle.std.proofs.lemmas.List.Elements.{All-push}
 use Rattle.std.proofs.lemmas.Option.{same_Some}
@@ -11,7 +11,7 @@ use Rattle.lp_term.specs.declared.node.TypeId.{TypeId}
 use Rattle.lp_sig.specs.Abbreviations.{abbreviation_names}
 use Rattle.lp_sig.specs.AsWritten.{named_body}
 use Rattle.lp_sig.specs.Holding.{body_of, IsTree}
-use Rattle.lp_sig.specs.Knowing.{is_known, head_row}
+use Rattle.lp_sig.specs.Knowing.{is_known}
 use Rattle.lp_sig.specs.Modules.{kind_said, abbreviation_said}
 use Rattle.lp_sig.specs.Named.{NamedTy, named_in, kind_names, IsWhole}
 use Rattle.lp_sig.specs.Places.{first_place}
@@ -24,7 +24,6 @@ use Rattle.lp_sig.specs.inner.Telling.{first_sight, Tells, TellsNext, NeverMany,
 use Rattle.lp_sig.specs.declared.bodies.Body.{Body}
 use Rattle.lp_sig.specs.declared.entries.AbbreviationEntry.{AbbreviationEntry}
 use Rattle.lp_sig.specs.declared.entries.KindEntry.{KindEntry}
-use Rattle.lp_sig.specs.declared.names.Head.{Head}
 use Rattle.lp_sig.specs.declared.see.Sight.{Sight}
 use Rattle.lp_sig.specs.declared.see.Sight.TheVariants.{Alike, Otherwise, TooMany}
 use Rattle.lp_sig.specs.declared.store.Types.{Types}
@@ -161,11 +160,6 @@ kind_told said rows name c p t means = λ q. no_abbreviation_said said name c p 
 
 parameters_apart : (p q : ℕ) → an_abbreviation p ≡ an_abbreviation q → p ≡ q
 parameters_apart p q e = cc
-
-pub parameters_at : (heads : List Head) (place : ℕ) (head : Head) → place < length heads → head ≡ get_or heads place head → (slice_index_or (map head_row heads) place ([], 0)).1 ≡ head.parameters
-parameters_at [] place head l at = absurd (omega (arith, l))
-parameters_at (x ∷ xs) zero head l at = ap (λ h. h.parameters) (sym at)
-parameters_at (x ∷ xs) (suc i) head l at = parameters_at xs i head (omega (arith, l)) at
 
 pub other_parameters : (said : List (Row Said)) (rows : List (Row NamedTy)) (name : List ℕ) (known p : ℕ) (t : NamedTy) → Some (an_abbreviation known) ≡ meaning_of name said → (known ≡ p → ⊥) → AbbreviationTells said rows name p t Otherwise
 other_parameters said rows name known p t means never = λ q. never (parameters_apart known p (same_Some (an_abbreviation known) (an_abbreviation p) (means ∙ q.0)))
