@@ -217,16 +217,18 @@ module _ (b now : Nodes) (old : Constants) (said : List (Row Said)) (rows : List
   first_type : (known : TypeId) → IsTypeOfName now old e.name.items known → (first : NamedTy) × (found e.name.items (standard_typed ++ (rows ++ (e.name.items, t) ∷ [])) ≡ Some first) × (known.0 < length now.types) × IsTypeHere said (type_tree now known.0) first
   first_type known (of_language n is inside tree) = (
     named (kind_name []) (standard_tree n),
-    (found_more e.name.items standard_typed (rows ++ (e.name.items, t) ∷ []) (named (kind_name []) (standard_tree n)) (standard_found e.name.items n is),
-    (inside, subst (λ T. IsTypeHere said T (named (kind_name []) (standard_tree n))) (sym tree) (standard_here said n))),
+    found_more e.name.items standard_typed (rows ++ (e.name.items, t) ∷ []) (named (kind_name []) (standard_tree n)) (standard_found e.name.items n is),
+    inside,
+    subst (λ T. IsTypeHere said T (named (kind_name []) (standard_tree n))) (sym tree) (standard_here said n),
   )
   first_type known (of_constant k has name none d declared is) =
       let h = constant_stays k has in
       let same : h.type ≡ d = same_Some h.type d (sym h.declared ∙ declared) in
       let scheme : h.type.scheme ≡ known = ap (λ d. d.scheme) same ∙ sym is in (
         h.name,
-        (found_behind e.name.items standard_typed (rows ++ (e.name.items, t) ∷ []) (unmet e.name.items none) ∙ ap (λ n. found n (rows ++ (e.name.items, t) ∷ [])) (sym name) ∙ h.first,
-        (subst (λ i. i.0 < length now.types) scheme h.inside, subst (λ i. IsTypeHere said (type_tree now i.0) h.name) scheme h.is)),
+        found_behind e.name.items standard_typed (rows ++ (e.name.items, t) ∷ []) (unmet e.name.items none) ∙ ap (λ n. found n (rows ++ (e.name.items, t) ∷ [])) (sym name) ∙ h.first,
+        subst (λ i. i.0 < length now.types) scheme h.inside,
+        subst (λ i. IsTypeHere said (type_tree now i.0) h.name) scheme h.is,
       )
 
   pub known_told : (known : TypeId) → IsTypeOfName now old e.name.items known → EachKind (FitsHere said) t → is_met_word e.name.items (names_in rows) ≡ true → (same : Bool) → (same ≡ true → known.0 ≡ s.0) →

@@ -13,7 +13,7 @@ use Rattle.lp_sig.specs.Words.{standard_said, meaning_of}
 use Rattle.lp_sig.specs.Types.{kind_number_of}
 use Rattle.lp_sig.specs.Modules.{kind_said}
 use Rattle.lp_sig.specs.Named.{kind_name}
-use Rattle.lp_sig.specs.GoingTogether.{IsFirstWrong, KindsGo, IsSameKind, IsNumberedKind, IsOtherKind, HasNoKindNumber}
+use Rattle.lp_sig.specs.GoingTogether.{IsFirstWrong, KindsGo, IsSameKind, IsNumbered, IsOtherKind, HasNoKindNumber}
 use Rattle.lp_sig.specs.inner.Telling.{first_sight, Tells, TellsNext, KindTells, KindsTell, IsNumberHere, of_kind, of_no_kind}
 use Rattle.lp_sig.specs.declared.entries.KindEntry.{KindEntry}
 use Rattle.lp_sig.specs.declared.see.Sight.{Sight}
@@ -70,14 +70,14 @@ module _ (said : List (Row Said)) (name : List ℕ) where
     told_past s r l is and = by (nat_eq known arity) refl is
       where
         by : (t : Bool) → nat_eq known arity ≡ t → s ≡ (if t then Alike else Otherwise) → KindTells said name arity r
-        by true t is = subst (KindTells said name arity) (sym (and ∙ ap (λ s. first_sight s TooMany) is)) (same_arity t, (number, (has, l)))
+        by true t is = subst (KindTells said name arity) (sym (and ∙ ap (λ s. first_sight s TooMany) is)) (same_arity t, (number, has, l))
         by false t is = subst (KindTells said name arity) (sym (and ∙ ap (λ s. first_sight s TooMany) is)) (other_arity t)
 
     pub told_kind : (s : Sight) → number < END_OF_NUMBERS → s ≡ (if nat_eq known arity then Alike else Otherwise) → KindTells said name arity s
     told_kind s l is = by (nat_eq known arity) refl is
       where
         by : (t : Bool) → nat_eq known arity ≡ t → s ≡ (if t then Alike else Otherwise) → KindTells said name arity s
-        by true t is = subst (KindTells said name arity) (sym is) (same_arity t, (number, (has, l)))
+        by true t is = subst (KindTells said name arity) (sym is) (same_arity t, (number, has, l))
         by false t is = subst (KindTells said name arity) (sym is) (other_arity t)
 
     pub kind_here : IsNumberHere said name number ⊎ (meaning_of name said ≡ None)
@@ -111,12 +111,12 @@ number_known said name n (of_no_kind p m e) = (an_abbreviation p, m)
 module _ (said more : List (Row Said)) (front : List KindEntry) (e : KindEntry) where
   kind_next : (s : Sight) (b : Said) → meaning_of e.name.items said ≡ Some b → KindTells said e.name.items e.arity s → KindsGo (said ++ more) front →
       TellsNext (KindsGo (said ++ more)) (IsOtherKind (said ++ more)) (HasNoKindNumber (said ++ more)) front e s
-  kind_next Alike b known (m, (n, (k, l))) go =
-      All-push (λ e. IsSameKind (said ++ more) e × IsNumberedKind (said ++ more) e) front e go (meaning_more said more e.name.items (a_kind e.arity) m, (n, (kind_number_more said more e.name.items n k, l)))
+  kind_next Alike b known (m, (n, k, l)) go =
+      All-push (λ e. IsSameKind (said ++ more) e × IsNumbered (said ++ more) e.name.items) front e go (meaning_more said more e.name.items (a_kind e.arity) m, (n, kind_number_more said more e.name.items n k, l))
   kind_next Otherwise b known never go = λ later.
       let same : b ≡ a_kind e.arity = same_Some b (a_kind e.arity) (sym (meaning_more said more e.name.items b known) ∙ later) in
       never (known ∙ ap (λ b. Some b) same)
-  kind_next TooMany b known (m, (n, (k, l))) go = (meaning_more said more e.name.items (a_kind e.arity) m, (n, (kind_number_more said more e.name.items n k, l)))
+  kind_next TooMany b known (m, (n, k, l)) go = (meaning_more said more e.name.items (a_kind e.arity) m, (n, kind_number_more said more e.name.items n k, l))
 
 module _ (said : List (Row Said)) (es : List KindEntry) (i : ℕ) (e : KindEntry) (l : i < length es) (at : e ≡ get_or es i e) where
   all_said : (said ++ map kind_said (take (i + 1) es)) ++ map kind_said (drop (i + 1) es) ≡ said ++ map kind_said es

@@ -16,7 +16,7 @@ use Rattle.lp_sig.specs.Words.{meaning_of}
 use Rattle.lp_sig.specs.Types.{kind_number_of}
 use Rattle.lp_sig.specs.Named.{NamedTy, NamedTys, named_var, named_param, named_con, named_arrow, no_named, more_named, named, all_named, kind_name, IsWhole, AreWhole}
 use Rattle.lp_sig.specs.Sighted.{said_kinds}
-use Rattle.lp_sig.specs.GoingTogether.{KindsGo, IsSameKind, IsNumberedKind}
+use Rattle.lp_sig.specs.GoingTogether.{KindsGo, IsSameKind, IsNumbered}
 use Rattle.lp_sig.specs.inner.Telling.{IsNumberHere, of_kind, of_no_kind, number_for, number_here, HasNumberHere, numbered_by, all_numbered, EachKind, AllKinds, IsTypeHere, AreTypesHere, FitsHere}
 use Rattle.lp_sig.specs.declared.entries.KindEntry.{KindEntry}
 use Rattle.lp_sig.proofs.Growing.{meaning_more, kind_number_more}
@@ -71,7 +71,7 @@ module _ (said more : List (Row Said)) where
 
   pub fits_later : (o : Option (List ℕ)) → FitsHere said o → FitsHere (said ++ more) o
   fits_later None h = absurd h
-  fits_later (Some name) (n, (k, (l, (c, m)))) = (n, (kind_number_more said more name n k, (l, (c, meaning_more said more name (a_kind c) m))))
+  fits_later (Some name) h = record { number = h.number; has = kind_number_more said more name h.number h.has; low = h.low; arity = h.arity; means = meaning_more said more name (a_kind h.arity) h.means }
 
 -- kinds of the language have their numbers
 pub low_here : (said : List (Row Said)) (names : List (List ℕ)) (name : List ℕ) (k : ℕ) → k < 8 → kind_name names k ≡ Some name → IsNumberHere said name k
@@ -188,14 +188,17 @@ module _ (said : List (Row Said)) where
   name_same : (o p : Option (List ℕ)) → HasNumberHere said o → FitsHere said p → number_here said o ≡ number_here said p → o ≡ p
   name_same None p h f e = absurd h
   name_same (Some m) None h f e = absurd f
-  name_same (Some m) (Some p) h (n, (k, (l, (c, means)))) e = by h
+  name_same (Some m) (Some p) h f e = by h
     where
+      n : ℕ
+      n = f.number
+
       there : number_here said (Some m) ≡ n
-      there = e ∙ number_is said p n (of_kind c means k)
+      there = e ∙ number_is said p n (of_kind f.arity f.means f.has)
 
       by : IsNumberHere said m (number_here said (Some m)) → Some m ≡ Some p
-      by (of_kind d is has) = sym (kind_numbered m said n (has ∙ ap (λ n. Some n) there) (inl l)) ∙ kind_numbered p said n k (inl l)
-      by (of_no_kind q is none) = let z : n ≡ 4294967295 = sym there ∙ none in absurd (omega (arith, z, l))
+      by (of_kind d is has) = sym (kind_numbered m said n (has ∙ ap (λ n. Some n) there) (inl f.low)) ∙ kind_numbered p said n f.has (inl f.low)
+      by (of_no_kind q is none) = let z : f.number ≡ 4294967295 = sym there ∙ none in let l = f.low in absurd (omega (arith, z, l))
 
   mutual
     pub same_names : (N M : NamedTy) → EachKind (HasNumberHere said) N → EachKind (FitsHere said) M → numbered_by (number_here said) N ≡ numbered_by (number_here said) M → N ≡ M
@@ -259,12 +262,12 @@ module _ (said : List (Row Said)) where
   entries_fit : (es : List KindEntry) (i : ℕ) (name : List ℕ) → KindsGo said es → slice_get (map (λ e. e.name.items) es) i ≡ Some name → FitsHere said (Some name)
   entries_fit [] i name go at = absurd (cc)
   entries_fit (x ∷ xs) zero name go at =
-      let h = All-head (λ e. IsSameKind said e × IsNumberedKind said e) x xs go in
-      subst (λ n. FitsHere said (Some n)) (same_Some x.name.items name at) (h.1.0, (h.1.1, (h.1.2, (x.arity, h.0))))
-  entries_fit (x ∷ xs) (suc i) name go at = entries_fit xs i name (All-tail (λ e. IsSameKind said e × IsNumberedKind said e) x xs go) at
+      let h = All-head (λ e. IsSameKind said e × IsNumbered said e.name.items) x xs go in
+      subst (λ n. FitsHere said (Some n)) (same_Some x.name.items name at) (record { number = h.1.0; has = h.1.1; low = h.1.2; arity = x.arity; means = h.0 })
+  entries_fit (x ∷ xs) (suc i) name go at = entries_fit xs i name (All-tail (λ e. IsSameKind said e × IsNumbered said e.name.items) x xs go) at
 
   low_fits : (k : ℕ) (name : List ℕ) → k < 8 → IsNumberHere said name k → FitsHere said (Some name)
-  low_fits k name l (of_kind c m e) = (k, (e, (omega (arith, l), (c, m))))
+  low_fits k name l (of_kind c m e) = record { number = k; has = e; low = omega (arith, l); arity = c; means = m }
   low_fits k name l (of_no_kind p m e) = absurd (omega (arith, l, e))
 
   pub kinds_fit : (es : List KindEntry) (k : ℕ) (name : List ℕ) → KindsGo said es → kind_name (map (λ e. e.name.items) es) k ≡ Some name → FitsHere said (Some name)

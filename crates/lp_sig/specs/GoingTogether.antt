@@ -43,8 +43,11 @@ types_with before s = of_each types_of before ++ types_of s
 abbrev pub IsSameKind : List (Row Said) → KindEntry → Type 0
 IsSameKind said e = meaning_of e.name.items said ≡ Some (a_kind e.arity)
 
-abbrev pub IsNumberedKind : List (Row Said) → KindEntry → Type 0
-IsNumberedKind said e = (n : ℕ) × (kind_number_of e.name.items said ≡ Some n) × (n < END_OF_NUMBERS)
+abbrev pub IsNumbered : List (Row Said) → List ℕ → Type 0
+IsNumbered said name = (n : ℕ) × (kind_number_of name said ≡ Some n) × (n < END_OF_NUMBERS)
+
+abbrev pub IsPastNumbers : List (Row Said) → List ℕ → Type 0
+IsPastNumbers said name = (n : ℕ) × (kind_number_of name said ≡ Some n) × (END_OF_NUMBERS ≤ n)
 
 -- an abbreviation is one with as many parameters, and with the body that its name is given first
 abbrev pub IsSameAbbreviation : List (Row Said) → List (Row NamedTy) → Signature → AbbreviationEntry → Type 0
@@ -75,13 +78,13 @@ pub record IsFirstWrong {E : Type 0} (Go : List E → Type 0) (IsWrong : List E 
 
 -- kinds, abbreviations and constants that go, and what is wrong with one of them, behind those in front of it
 abbrev pub KindsGo : List (Row Said) → List KindEntry → Type 0
-KindsGo said es = All (λ e. IsSameKind said e × IsNumberedKind said e) es
+KindsGo said es = All (λ e. IsSameKind said e × IsNumbered said e.name.items) es
 
 abbrev pub IsOtherKind : List (Row Said) → List KindEntry → KindEntry → Type 0
 IsOtherKind said front e = IsSameKind said e → ⊥
 
 abbrev pub HasNoKindNumber : List (Row Said) → List KindEntry → KindEntry → Type 0
-HasNoKindNumber said front e = IsSameKind said e × ((n : ℕ) × (kind_number_of e.name.items said ≡ Some n) × (END_OF_NUMBERS ≤ n))
+HasNoKindNumber said front e = IsSameKind said e × IsPastNumbers said e.name.items
 
 abbrev pub AbbreviationsGo : List (Row Said) → List (Row NamedTy) → Signature → List AbbreviationEntry → Type 0
 AbbreviationsGo said bodies s es = All (IsSameAbbreviation said bodies s) es

@@ -7,7 +7,7 @@ use Rattle.lp_term.specs.declared.node.TypeId.{TypeId}
 use Rattle.lp_base.specs.declared.limits.TheConstants.{END_OF_NUMBERS}
 use Rattle.lp_sig.specs.Abbreviations.{abbreviation_names}
 use Rattle.lp_sig.specs.AsWritten.{bodies_of}
-use Rattle.lp_sig.specs.GoingTogether.{IsFirstWrong, KindsGo, IsOtherKind, HasNoKindNumber, AbbreviationsGo, IsOtherAbbreviation, ConstantsGo, IsOtherConstant, HasNoConstantNumber, types_of, standard_typed, constant_count, AreOfTexts, GoesWith, IsOtherwise, HasNoNumber}
+use Rattle.lp_sig.specs.GoingTogether.{IsFirstWrong, IsNumbered, IsPastNumbers, KindsGo, IsOtherKind, HasNoKindNumber, AbbreviationsGo, IsOtherAbbreviation, ConstantsGo, IsOtherConstant, HasNoConstantNumber, types_of, standard_typed, constant_count, AreOfTexts, GoesWith, IsOtherwise, HasNoNumber}
 use Rattle.lp_sig.specs.Holding.{body_of}
 use Rattle.lp_sig.specs.Knowing.{Knows}
 use Rattle.lp_sig.specs.Modules.{of_each, said_of, constants_of}
@@ -83,9 +83,9 @@ abbrev pub IsKindOf : List (Row Said) → List ℕ → ℕ → Type 0
 IsKindOf said name arity = meaning_of name said ≡ Some (a_kind arity)
 
 abbrev pub KindTells : List (Row Said) → List ℕ → ℕ → Sight → Type 0
-KindTells said name arity Alike = IsKindOf said name arity × ((n : ℕ) × (kind_number_of name said ≡ Some n) × (n < END_OF_NUMBERS))
+KindTells said name arity Alike = IsKindOf said name arity × IsNumbered said name
 KindTells said name arity Otherwise = IsKindOf said name arity → ⊥
-KindTells said name arity TooMany = IsKindOf said name arity × ((n : ℕ) × (kind_number_of name said ≡ Some n) × (END_OF_NUMBERS ≤ n))
+KindTells said name arity TooMany = IsKindOf said name arity × IsPastNumbers said name
 
 -- the number here of a name of which something is said: that of a kind, or the one that no kind has
 pub data IsNumberHere (said : List (Row Said)) (name : List ℕ) (n : ℕ) : Type 0 where
@@ -176,9 +176,16 @@ IsKnownType b c name known.Untyped = (k : Constant) × Contains c.constants.item
 IsKnownType b c name (known.Typed t) = IsTypeOfName b c name t
 
 -- a name of which a kind with a number below 65535 is known
+pub record FitsName (said : List (Row Said)) (name : List ℕ) : Type 0 where
+  pub number : ℕ
+  pub has : kind_number_of name said ≡ Some number
+  pub low : number < END_OF_NUMBERS
+  pub arity : ℕ
+  pub means : meaning_of name said ≡ Some (a_kind arity)
+
 abbrev pub FitsHere : List (Row Said) → Option (List ℕ) → Type 0
 FitsHere said None = ⊥
-FitsHere said (Some name) = (n : ℕ) × (kind_number_of name said ≡ Some n) × (n < END_OF_NUMBERS) × ((c : ℕ) × (meaning_of name said ≡ Some (a_kind c)))
+FitsHere said (Some name) = FitsName said name
 
 -- a type was made here with these names
 abbrev pub IsMadeHere : Nodes → List (Row Said) → List TypeId → TypeId → NamedTy → Type 0

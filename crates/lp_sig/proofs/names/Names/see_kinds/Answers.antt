@@ -6,7 +6,7 @@ use Rattle.lp_sig.specs.Modules.{kind_said}
 use Rattle.lp_sig.specs.Sighted.{HasItsNumber}
 use Rattle.lp_sig.proofs.Worded.{mapped_at}
 use Rattle.std.proofs.lemmas.List.Elements.{All-nil}
-use Rattle.lp_sig.specs.GoingTogether.{IsSameKind, IsNumberedKind}
+use Rattle.lp_sig.specs.GoingTogether.{IsSameKind, IsNumbered}
 use Rattle.lp_sig.specs.inner.Telling.{IsNumberHere, KindTells, KindsTell}
 use Rattle.lp_sig.proofs.SeenKinds.{kinds_step}
 use Rattle.lp_sig.proofs.ToldKinds.{kinds_here, kinds_told}
@@ -17,7 +17,7 @@ loop-at-init c = (
   (λ said k. subst (Knows c.args.self.now) (sym (append-nil said)) k),
   (λ said k numbers none premise j n found. absurd (none j n found)),
   (λ said k numbers none j n found. absurd (none j n found)),
-  (λ said more k. All-nil (λ e. IsSameKind ((said ++ map kind_said c.args.entries.now) ++ more) e × IsNumberedKind ((said ++ map kind_said c.args.entries.now) ++ more) e)),
+  (λ said more k. All-nil (λ e. IsSameKind ((said ++ map kind_said c.args.entries.now) ++ more) e × IsNumbered ((said ++ map kind_said c.args.entries.now) ++ more) e.name.items)),
 )
 
 pub loop-at-preserved : goal.loop-at-preserved
