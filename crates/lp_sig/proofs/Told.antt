@@ -53,28 +53,28 @@ module _ (own : Signature) (used : List Signature) (text : List ℕ) (from : ℕ
       inr (i, u, (ap (λ w. first_place w (first_names [] all)) (sym is) ∙ at, found), blamed_so (own ∷ take (from + i) used) u s e tells b)
 
 -- one more sight
+abbrev TellsAt : List Signature → List Signature → Sight → ℕ → Type 0
+TellsAt before used t i = (u : Signature) × (slice_get used i ≡ Some u) × SightTells (before ++ take i used) u t
+
 module _ (before used : List Signature) (now new : List Sight) (s : Sight) (at : ℕ) (x : Signature) (l : at < length used) (is : x ≡ get_or used at x) (pushed : new ≡ now ++ s ∷ []) (count : length now ≡ at) where
   pub told_more : AreTold before used now → SightTells (before ++ take at used) x s → AreTold before used new
   told_more told this i t there = by now i (λ j f. told j t f) count (ap (λ l. slice_get l i) (sym pushed) ∙ there)
     where
-      Result : ℕ → Type 0
-      Result i = (u : Signature) × (slice_get used i ≡ Some u) × SightTells (before ++ take i used) u t
-
-      last : s ≡ t → Result at
+      last : s ≡ t → TellsAt before used t at
       last e = (x, slice_get-get_or used at x l ∙ ap (λ u. Some u) (sym is), subst (SightTells (before ++ take at used) x) e this)
 
-      split : (xs : List Sight) (k : ℕ) (i : ℕ) → length xs + k ≡ at → ((j : ℕ) → slice_get xs j ≡ Some t → Result (k + j)) → slice_get (xs ++ s ∷ []) i ≡ Some t → Result (k + i)
-      split [] k zero n told f = let z : at ≡ k + 0 = omega (arith, n) in subst Result z (last (same_Some s t f))
+      split : (xs : List Sight) (k : ℕ) (i : ℕ) → length xs + k ≡ at → ((j : ℕ) → slice_get xs j ≡ Some t → TellsAt before used t (k + j)) → slice_get (xs ++ s ∷ []) i ≡ Some t → TellsAt before used t (k + i)
+      split [] k zero n told f = let z : at ≡ k + 0 = omega (arith, n) in subst (TellsAt before used t) z (last (same_Some s t f))
       split [] k (suc i) n told f = absurd (cc)
       split (y ∷ ys) k zero n told f = told 0 f
       split (y ∷ ys) k (suc i) n told f =
           let z : suc k + i ≡ k + suc i = omega arith in
-          subst Result z (split ys (suc k) i (omega (arith, n)) (λ j g. let y : k + suc j ≡ suc k + j = omega arith in subst Result y (told (suc j) g)) f)
+          subst (TellsAt before used t) z (split ys (suc k) i (omega (arith, n)) (λ j g. let y : k + suc j ≡ suc k + j = omega arith in subst (TellsAt before used t) y (told (suc j) g)) f)
 
-      by : (xs : List Sight) (i : ℕ) → ((j : ℕ) → slice_get xs j ≡ Some t → Result j) → length xs ≡ at → slice_get (xs ++ s ∷ []) i ≡ Some t → Result i
+      by : (xs : List Sight) (i : ℕ) → ((j : ℕ) → slice_get xs j ≡ Some t → TellsAt before used t j) → length xs ≡ at → slice_get (xs ++ s ∷ []) i ≡ Some t → TellsAt before used t i
       by xs i told n f =
           let z : 0 + i ≡ i = omega arith in
-          subst Result z (split xs 0 i (omega (arith, n)) (λ j g. let y : j ≡ 0 + j = omega arith in subst Result y (told j g)) f)
+          subst (TellsAt before used t) z (split xs 0 i (omega (arith, n)) (λ j g. let y : j ≡ 0 + j = omega arith in subst (TellsAt before used t) y (told j g)) f)
 
   pub used_more : (before ++ take at used) ++ x ∷ [] ≡ before ++ take (at + 1) used
   used_more = append_assoc before (take at used) (x ∷ []) ∙ ap (λ l. before ++ l) (ap (λ x. take at used ++ x ∷ []) is ∙ sym (take_more used at x l))

@@ -206,18 +206,14 @@ module _ (u : Signature) (said : List (Row Said)) (rows : List (Row NamedTy)) (e
       AbbreviationTells ((said ++ map abbreviation_said (take i es)) ++ abbreviation_said e ∷ []) ((rows ++ map (named_body u) (take i es)) ++ named_body u e ∷ []) e.name.items e.type_vars (named_in u e.body) t →
       AbbreviationsTell (said ++ map abbreviation_said es) (rows ++ map (named_body u) es) u (take i es) s → AbbreviationsTell (said ++ map abbreviation_said es) (rows ++ map (named_body u) es) u (take (i + 1) es) r
   abbreviations_told s t r is this now =
+      let w = ((said ++ map abbreviation_said (take i es)) ++ abbreviation_said e ∷ []) ++ map abbreviation_said (drop (i + 1) es) in
+      let v = ((rows ++ map (named_body u) (take i es)) ++ named_body u e ∷ []) ++ map (named_body u) (drop (i + 1) es) in
       subst (λ now. AbbreviationsTell (said ++ map abbreviation_said es) (rows ++ map (named_body u) es) u now r) (taken_more es i e l at)
       (subst (λ w. AbbreviationsTell w (rows ++ map (named_body u) es) u (take i es ++ e ∷ []) r) (all_mapped abbreviation_said said)
       (subst (λ v. AbbreviationsTell w v u (take i es ++ e ∷ []) r) (all_mapped (named_body u) rows)
       (tells_more (AbbreviationsGo w v u) (IsOtherAbbreviation w v u) NeverMany (take i es) e s t r is
       (subst (λ w. AbbreviationsTell w v u (take i es) s) (sym (all_mapped abbreviation_said said)) (subst (λ v. AbbreviationsTell (said ++ map abbreviation_said es) v u (take i es) s) (sym (all_mapped (named_body u) rows)) now))
       (abbreviation_next u (said ++ map abbreviation_said (take i es)) (map abbreviation_said (drop (i + 1) es)) (rows ++ map (named_body u) (take i es)) (map (named_body u) (drop (i + 1) es)) (take i es) e t this))))
-    where
-      w : List (Row Said)
-      w = ((said ++ map abbreviation_said (take i es)) ++ abbreviation_said e ∷ []) ++ map abbreviation_said (drop (i + 1) es)
-
-      v : List (Row NamedTy)
-      v = ((rows ++ map (named_body u) (take i es)) ++ named_body u e ∷ []) ++ map (named_body u) (drop (i + 1) es)
 
 -- what was made of the next body
 pub made_next : (old now : Types) (bodies : List Body) (u : Signature) (said : List (Row Said)) (rows : List (Row NamedTy)) (made : List TypeId) (es : List AbbreviationEntry) (i : ℕ) (e : AbbreviationEntry) → i < length es → e ≡ get_or es i e → old ≡ now →

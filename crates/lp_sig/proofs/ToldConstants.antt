@@ -62,7 +62,7 @@ standard_found : (name : List ℕ) (n : ℕ) → found name standard_constants �
 standard_found name n e = let (r, is, at) = found_mapped (λ r. named (kind_name []) (standard_tree r.1)) name standard_constants n e in at ∙ ap (λ n. Some (named (kind_name []) (standard_tree n))) is
 
 -- types of the language
-mutual
+abbrev mutual
   low : Ty → Bool
   low (var x) = true
   low (param k) = true
@@ -73,7 +73,7 @@ mutual
   lows no_types = true
   lows (types t ts) = low t && lows ts
 
-all_low : List Ty → Bool
+abbrev all_low : List Ty → Bool
 all_low [] = true
 all_low (t ∷ ts) = low t && all_low ts
 
@@ -251,10 +251,10 @@ names_of_rows u (r ∷ rs) es = ap (λ l. r.0 ∷ l) (names_of_rows u rs es)
 
 -- one more entry
 module _ (u : Signature) (rows : List (Row NamedTy)) (front : List ConstantEntry) (e : ConstantEntry) (rest : List (Row NamedTy)) where
-  before : List (Row NamedTy)
+  abbrev before : List (Row NamedTy)
   before = rows ++ map (named_constant u) front
 
-  all : List (Row NamedTy)
+  abbrev all : List (Row NamedTy)
   all = (before ++ named_constant u e ∷ []) ++ rest
 
   grown : (t : NamedTy) → found e.name.items (standard_typed ++ (before ++ named_constant u e ∷ [])) ≡ Some t → found e.name.items (standard_typed ++ all) ≡ Some t
@@ -267,31 +267,28 @@ module _ (u : Signature) (rows : List (Row NamedTy)) (front : List ConstantEntry
   names = names_of_rows u rows front
 
   count_more : is_met_word e.name.items (names_in rows ++ entry_names front) ≡ true ⊎ (32 + constant_count (names_in rows ++ entry_names front) < END_OF_NUMBERS) → AreNumberedConstants (names_in rows) front → AreNumberedConstants (names_in rows) (front ++ e ∷ [])
-  count_more room so = by (is_met_word e.name.items words) refl
+  count_more room so = by (is_met_word e.name.items (names_in rows ++ entry_names front)) refl
     where
-      words : List (List ℕ)
-      words = names_in rows ++ entry_names front
-
-      step : first_names (names_in standard_constants) (names_in rows ++ entry_names (front ++ e ∷ [])) ≡ (if is_met_word e.name.items words then first_names (names_in standard_constants) words else first_names (names_in standard_constants) words ++ e.name.items ∷ [])
+      step : first_names (names_in standard_constants) (names_in rows ++ entry_names (front ++ e ∷ [])) ≡ (if is_met_word e.name.items (names_in rows ++ entry_names front) then first_names (names_in standard_constants) (names_in rows ++ entry_names front) else first_names (names_in standard_constants) (names_in rows ++ entry_names front) ++ e.name.items ∷ [])
       step = ap (λ l. first_names (names_in standard_constants) l) (ap (λ l. names_in rows ++ l) (map-append (λ e. e.name.items) front (e ∷ [])) ∙ sym (append_assoc (names_in rows) (entry_names front) (e.name.items ∷ []))) ∙
-          names_more (names_in standard_constants) words e.name.items
+          names_more (names_in standard_constants) (names_in rows ++ entry_names front) e.name.items
 
-      counts : (t : Bool) → is_met_word e.name.items words ≡ t → constant_count (names_in rows ++ entry_names (front ++ e ∷ [])) ≡ length (if t then first_names (names_in standard_constants) words else first_names (names_in standard_constants) words ++ e.name.items ∷ [])
-      counts t s = ap length step ∙ ap (λ t. length (if t then first_names (names_in standard_constants) words else first_names (names_in standard_constants) words ++ e.name.items ∷ [])) s
+      counts : (t : Bool) → is_met_word e.name.items (names_in rows ++ entry_names front) ≡ t → constant_count (names_in rows ++ entry_names (front ++ e ∷ [])) ≡ length (if t then first_names (names_in standard_constants) (names_in rows ++ entry_names front) else first_names (names_in standard_constants) (names_in rows ++ entry_names front) ++ e.name.items ∷ [])
+      counts t s = ap length step ∙ ap (λ t. length (if t then first_names (names_in standard_constants) (names_in rows ++ entry_names front) else first_names (names_in standard_constants) (names_in rows ++ entry_names front) ++ e.name.items ∷ [])) s
 
-      low_room : is_met_word e.name.items words ≡ false → is_met_word e.name.items words ≡ true ⊎ (32 + constant_count words < END_OF_NUMBERS) → 32 + constant_count words < END_OF_NUMBERS
+      low_room : is_met_word e.name.items (names_in rows ++ entry_names front) ≡ false → is_met_word e.name.items (names_in rows ++ entry_names front) ≡ true ⊎ (32 + constant_count (names_in rows ++ entry_names front) < END_OF_NUMBERS) → 32 + constant_count (names_in rows ++ entry_names front) < END_OF_NUMBERS
       low_room s (inl m) = absurd (true≢false (sym m ∙ s))
       low_room s (inr l) = l
 
-      same : constant_count (names_in rows ++ entry_names (front ++ e ∷ [])) ≡ constant_count words → AreNumberedConstants (names_in rows) front → AreNumberedConstants (names_in rows) (front ++ e ∷ [])
+      same : constant_count (names_in rows ++ entry_names (front ++ e ∷ [])) ≡ constant_count (names_in rows ++ entry_names front) → AreNumberedConstants (names_in rows) front → AreNumberedConstants (names_in rows) (front ++ e ∷ [])
       same c (inl q) = inl (c ∙ q)
       same c (inr l) = inr (omega (arith, c, l))
 
-      by : (t : Bool) → is_met_word e.name.items words ≡ t → AreNumberedConstants (names_in rows) (front ++ e ∷ [])
+      by : (t : Bool) → is_met_word e.name.items (names_in rows ++ entry_names front) ≡ t → AreNumberedConstants (names_in rows) (front ++ e ∷ [])
       by true s = same (counts true s) so
       by false s =
           let c = counts false s in
-          let n = length-append (first_names (names_in standard_constants) words) (e.name.items ∷ []) in
+          let n = length-append (first_names (names_in standard_constants) (names_in rows ++ entry_names front)) (e.name.items ∷ []) in
           let l = low_room s room in
           inr (omega (arith, c, n, l))
 
@@ -317,14 +314,12 @@ module _ (u : Signature) (rows : List (Row NamedTy)) (es : List ConstantEntry) (
   pub constants_told : (s t r : Sight) → r ≡ first_sight s t → ConstantTells (rows ++ map (named_constant u) (take i es)) e.name.items (named_in u e.scheme) t →
       ConstantsTell (names_in rows) (rows ++ map (named_constant u) es) u (take i es) s → ConstantsTell (names_in rows) (rows ++ map (named_constant u) es) u (take (i + 1) es) r
   constants_told s t r is this now =
+      let w = ((rows ++ map (named_constant u) (take i es)) ++ named_constant u e ∷ []) ++ map (named_constant u) (drop (i + 1) es) in
       subst (λ now. ConstantsTell (names_in rows) (rows ++ map (named_constant u) es) u now r) (taken_more es i e l at)
       (subst (λ w. ConstantsTell (names_in rows) w u (take i es ++ e ∷ []) r) all_rows
       (tells_more (ConstantsGo (names_in rows) w u) (IsOtherConstant w u) (HasNoConstantNumber (names_in rows)) (take i es) e s t r is
       (subst (λ w. ConstantsTell (names_in rows) w u (take i es) s) (sym all_rows) now)
       (constant_next u rows (take i es) e (map (named_constant u) (drop (i + 1) es)) t this)))
-    where
-      w : List (Row NamedTy)
-      w = ((rows ++ map (named_constant u) (take i es)) ++ named_constant u e ∷ []) ++ map (named_constant u) (drop (i + 1) es)
 
   pub more_rows : (rows ++ map (named_constant u) (take i es)) ++ named_constant u e ∷ [] ≡ rows ++ map (named_constant u) (take (i + 1) es)
   more_rows = append_assoc rows (map (named_constant u) (take i es)) (named_constant u e ∷ []) ∙ ap (λ r. rows ++ r) (sym (map-append (named_constant u) (take i es) (e ∷ [])) ∙ ap (map (named_constant u)) (taken_more es i e l at))

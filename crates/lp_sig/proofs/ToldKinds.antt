@@ -128,16 +128,13 @@ module _ (said : List (Row Said)) (es : List KindEntry) (i : ℕ) (e : KindEntry
       KindsTell ((said ++ map kind_said es) ++ later) (take i es) s → KindsTell ((said ++ map kind_said es) ++ later) (take (i + 1) es) r
   kinds_told later s t r n is here this before =
       let (b, known) = number_known (said ++ map kind_said (take (i + 1) es)) e.name.items n here in
+      let w = (said ++ map kind_said (take (i + 1) es)) ++ (map kind_said (drop (i + 1) es) ++ later) in
+      let all_later : (said ++ map kind_said (take (i + 1) es)) ++ (map kind_said (drop (i + 1) es) ++ later) ≡ (said ++ map kind_said es) ++ later =
+      sym (append_assoc (said ++ map kind_said (take (i + 1) es)) (map kind_said (drop (i + 1) es)) later) ∙ ap (λ r. r ++ later) all_said in
       subst (λ now. KindsTell ((said ++ map kind_said es) ++ later) now r) (taken_more es i e l at)
       (subst (λ w. KindsTell w (take i es ++ e ∷ []) r) all_later
       (tells_more (KindsGo w) (IsOtherKind w) (HasNoKindNumber w) (take i es) e s t r is (subst (λ w. KindsTell w (take i es) s) (sym all_later) before)
       (kind_next (said ++ map kind_said (take (i + 1) es)) (map kind_said (drop (i + 1) es) ++ later) (take i es) e t b known this)))
-    where
-      w : List (Row Said)
-      w = (said ++ map kind_said (take (i + 1) es)) ++ (map kind_said (drop (i + 1) es) ++ later)
-
-      all_later : w ≡ (said ++ map kind_said es) ++ later
-      all_later = sym (append_assoc (said ++ map kind_said (take (i + 1) es)) (map kind_said (drop (i + 1) es)) later) ∙ ap (λ r. r ++ later) all_said
 
   -- one more kind has its number
   pub kinds_here : map (λ e. e.number) es ≡ range_with_len 8 (length es) → (old new : ℕ → Option ℕ) (number : ℕ) → ((k : ℕ) → new k ≡ (if nat_eq e.number k then Some number else old k)) →

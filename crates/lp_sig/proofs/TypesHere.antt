@@ -106,7 +106,7 @@ module _ (there here : Nodes) (names : List (List ℕ)) (said : List (Row Said))
       ((λ i. types (f i) (g i)), (h.known, r.1))
 
   module _ (new : Nodes) (id : ℕ) (shape : TypeShape) (tree : type_node_tree there shape ≡ type_tree there id) (t : TypeId) where
-    result : Ty → Type 0
+    abbrev result : Ty → Type 0
     result T = (t.0 < length new.types) × (IsWhole (named (kind_name names) T) → IsTypeHere said (type_tree new t.0) (named (kind_name names) T))
 
     pub var_here : (n : ℕ) → shape ≡ var_node n → (t.0 < length new.types) × (type_tree new t.0 ≡ var n) → (t.0 < length new.types) ×
@@ -190,14 +190,11 @@ module _ (said : List (Row Said)) where
   name_same (Some m) None h f e = absurd f
   name_same (Some m) (Some p) h f e = by h
     where
-      n : ℕ
-      n = f.number
-
-      there : number_here said (Some m) ≡ n
-      there = e ∙ number_is said p n (of_kind f.arity f.means f.has)
+      there : number_here said (Some m) ≡ f.number
+      there = e ∙ number_is said p f.number (of_kind f.arity f.means f.has)
 
       by : IsNumberHere said m (number_here said (Some m)) → Some m ≡ Some p
-      by (of_kind d is has) = sym (kind_numbered m said n (has ∙ ap (λ n. Some n) there) (inl f.low)) ∙ kind_numbered p said n f.has (inl f.low)
+      by (of_kind d is has) = sym (kind_numbered m said f.number (has ∙ ap (λ n. Some n) there) (inl f.low)) ∙ kind_numbered p said f.number f.has (inl f.low)
       by (of_no_kind q is none) = let z : f.number ≡ 4294967295 = sym there ∙ none in let l = f.low in absurd (omega (arith, z, l))
 
   mutual
