@@ -84,8 +84,8 @@ pub knows_parts : (a b : Making) (before : List Signature) → b.names ≡ a.nam
 knows_parts a b before e f g k = record {
   names = subst (λ n. Knows n _) (sym e) k.names;
   words = subst (λ c. HasWords c _) (sym g) k.words;
-  types = λ texts.
-      let h = k.types texts in
+  kept = λ texts.
+      let h = k.kept texts in
       record {
         bodies = subst (λ x. AreBodiesHere x.types.bank x.bodies.items _ _) (sym f) h.bodies;
         constants = subst (λ x. AreTypedHere x.types.bank b.constants _ _) (sym f) (subst (λ c. AreTypedHere a.bodies.types.bank c _ _) (sym g) h.constants);
@@ -96,7 +96,7 @@ pub knows_none : (m : Making) → Knows m.names [] → HasWords m.constants [] �
 knows_none m names words none empty = record {
   names = names;
   words = words;
-  types = λ texts. record {
+  kept = λ texts. record {
     bodies = subst (λ bs. AreBodiesHere m.bodies.types.bank bs [] []) (sym none) (record { are = λ name place at. absurd (cc); count = refl; told = λ n h. absurd (true≢false (sym h)) });
     constants = λ k has. nothing k (subst (λ ks. Contains ks k) empty has);
   };

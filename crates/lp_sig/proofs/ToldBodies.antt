@@ -1,7 +1,8 @@
 -- What sights of abbreviations tell: their bodies here against those that their names are given first.
 use Rattle.std.proofs.Common.{◌≡◌, ℕ, zero, suc, ◌+◌, ◌<◌, List, [], ◌∷◌, ◌++◌, length, map, get_or, take, drop, Bool, true, false, true≢false, Option, Some, None, refl, sym, ap, subst, ◌∙◌, arith, inl, inr, append_assoc, append-nil}
 use Rattle.std.specs.Str.{bytes_eq}
-use Rattle.std.specs.Prelude.{◌⊎◌, not, if◌then◌else◌, slice_get, All}
+use Rattle.std.proofs.lemmas.Bool.{or_parts}
+use Rattle.std.specs.Prelude.{◌⊎◌, ◌||◌, not, if◌then◌else◌, slice_get, All}
 use Rattle.std.proofs.lemmas.List.{length-append, length-map, map-append, get_or_append_left, take-append-drop}
 use Rattle.std.proofs.lemmas.List.Elements.{All-push}
 use Rattle.std.proofs.lemmas.Option.{same_Some}
@@ -138,15 +139,11 @@ module _ (b : Nodes) (bodies new : List Body) (said : List (Row Said)) (rows : L
     found_new n rows t (untold fresh),
   )
     where
-      or_parts : (a c : Bool) → (if a then true else c) ≡ false → (a ≡ false) × (c ≡ false)
-      or_parts true c e = absurd (true≢false e)
-      or_parts false c e = (refl, e)
-
       among : (xs ys : List (Row Said)) → is_among n (names_in xs) ≡ false → is_among n (names_in ys) ≡ false → is_among n (names_in (xs ++ ys)) ≡ false
       among [] ys a c = c
       among (x ∷ xs) ys a c =
           let q = or_parts (bytes_eq n x.0) (is_among n (names_in xs)) a in
-          ap (λ t. if t then true else is_among n (names_in (xs ++ ys))) q.0 ∙ among xs ys q.1 c
+          ap (λ t. t || is_among n (names_in (xs ++ ys))) q.0 ∙ among xs ys q.1 c
 
       unsaid : is_among n (names_in (standard_said ++ said)) ≡ false
       unsaid = let q = or_parts (is_among n (names_in standard_kinds)) (is_among n (names_in said)) fresh in among standard_said said q.0 q.1

@@ -123,8 +123,8 @@ returns-clause-stays c = λ before k.
     record {
       names = subst (Knows there.names) (sym (each_more said_of before u)) (returns-clause-names c said k.names);
       words = subst (HasWords c.see_all.new.self) (sym (each_more constants_of before u)) (returns-clause-words c (of_each constants_of before) k.words);
-      types = λ texts.
-    let h = k.types (texts_before before u texts) in
+      kept = λ texts.
+    let h = k.kept (texts_before before u texts) in
     let ordered = text_ordered before u texts in
     let numbers = subst (λ es. map (λ e. e.number) es ≡ range_with_len 8 (length es) → AreNumberedHere (said ++ map kind_said es) (map (λ e. e.name.items) es) c.see_kinds.new.kinds) c.kinds.ensures
     (λ ns. c.in_ok-of_kinds.ensures.numbers said k.names ns none) ordered.kinds in
@@ -171,7 +171,7 @@ returns-clause-told c = λ before k.
     (subst (λ es. KindsTell ((said ++ map kind_said es) ++ map abbreviation_said u.abbreviations.items) es sk) c.kinds.ensures (c.in_ok-of_kinds.ensures.told said (map abbreviation_said u.abbreviations.items) k.names)) in
     signature_told before u sk all_told c.in_ok-of_abbreviations.of_abbreviations c.in_ok-of_constants.of_constants
     (λ alike texts.
-    let h = k.types (texts_before before u texts) in
+    let h = k.kept (texts_before before u texts) in
     let ordered = text_ordered before u texts in
     let numbers = subst (λ es. map (λ e. e.number) es ≡ range_with_len 8 (length es) → AreNumberedHere (said ++ map kind_said es) (map (λ e. e.name.items) es) c.see_kinds.new.kinds) c.kinds.ensures
     (λ ns. c.in_ok-of_kinds.ensures.numbers said k.names ns none) ordered.kinds in
@@ -189,7 +189,7 @@ returns-clause-told c = λ before k.
     (subst (λ es. AbbreviationsTell (with_kinds ++ map abbreviation_said es) (bodies ++ map (named_body u) es) u es c.in_ok-of_abbreviations.of_abbreviations) c.abbreviations.ensures
     (c.in_ok-of_abbreviations.ensures.told u with_kinds bodies kinds_then can_bodies fits)))
     (λ alike texts.
-    let h = k.types (texts_before before u texts) in
+    let h = k.kept (texts_before before u texts) in
     let ordered = text_ordered before u texts in
     let numbers = subst (λ es. map (λ e. e.number) es ≡ range_with_len 8 (length es) → AreNumberedHere (said ++ map kind_said es) (map (λ e. e.name.items) es) c.see_kinds.new.kinds) c.kinds.ensures
     (λ ns. c.in_ok-of_kinds.ensures.numbers said k.names ns none) ordered.kinds in
