@@ -11,12 +11,13 @@ use Rattle.lp_base.specs.declared.limits.TheConstants.{END_OF_NUMBERS}
 use Rattle.lp_base.specs.declared.place.Spot.{Spot}
 use Rattle.lp_sig.specs.Pieces.{spelled}
 use Rattle.lp_sig.specs.Places.{first_place}
-use Rattle.lp_sig.specs.Modules.{first_names}
+use Rattle.lp_sig.specs.Modules.{first_names, of_each, said_of, constants_of}
+use Rattle.lp_sig.specs.AsWritten.{bodies_of}
 use Rattle.lp_sig.specs.Knowing.{Knows}
 use Rattle.lp_sig.specs.Worded.{HasWords}
 use Rattle.lp_sig.specs.Sights.{HasNumbers, IsSightOf}
 use Rattle.lp_sig.specs.ModuleFaults.{IsWordFault, otherwise, many, IsNamedBy, IsWordRefused, IsWordTaken}
-use Rattle.lp_sig.specs.GoingTogether.{GoesWith}
+use Rattle.lp_sig.specs.GoingTogether.{GoesWith, types_of}
 use Rattle.lp_sig.specs.inner.Telling.{SightTells, IsBlamed, IsRoom, AreTold, KnowsBefore, AreBodiesHere, AreTypedHere, IsTypedHere}
 use Rattle.lp_sig.specs.declared.constants.Constant.{Constant}
 use Rattle.lp_sig.specs.declared.making.Making.{Making}
@@ -82,13 +83,14 @@ module _ (before used : List Signature) (now new : List Sight) (s : Sight) (at :
 -- what is known stays where nothing changes
 pub knows_parts : (a b : Making) (before : List Signature) → b.names ≡ a.names → b.bodies ≡ a.bodies → b.constants ≡ a.constants → KnowsBefore a before → KnowsBefore b before
 knows_parts a b before e f g k = record {
-  names = subst (λ n. Knows n _) (sym e) k.names;
-  words = subst (λ c. HasWords c _) (sym g) k.words;
+  names = subst (λ n. Knows n (of_each said_of before)) (sym e) k.names;
+  words = subst (λ c. HasWords c (of_each constants_of before)) (sym g) k.words;
   kept = λ texts.
       let h = k.kept texts in
       record {
-        bodies = subst (λ x. AreBodiesHere x.types.bank x.bodies.items _ _) (sym f) h.bodies;
-        constants = subst (λ x. AreTypedHere x.types.bank b.constants _ _) (sym f) (subst (λ c. AreTypedHere a.bodies.types.bank c _ _) (sym g) h.constants);
+        bodies = subst (λ x. AreBodiesHere x.types.bank x.bodies.items (of_each said_of before) (of_each bodies_of before)) (sym f) h.bodies;
+        constants = subst (λ x. AreTypedHere x.types.bank b.constants (of_each said_of before) (of_each types_of before)) (sym f)
+            (subst (λ c. AreTypedHere a.bodies.types.bank c (of_each said_of before) (of_each types_of before)) (sym g) h.constants);
       };
 }
 

@@ -217,5 +217,5 @@ pub made_next : (old now : Types) (bodies : List Body) (u : Signature) (said : L
     CanSeeBodies old.bank bodies u said rows made es → IsMadeHere now.bank (said ++ map abbreviation_said (take i es)) made e.body (named_in u e.body)
 made_next old now bodies u said rows made es i e l at same can id there =
     let h = types_later said (map abbreviation_said (take i es)) u.bank old.bank (kind_names u) made can.here e.body.0 id there in
-    let r = (h.0, h.1 (subst (λ e. IsWhole (named_in u e.body)) (sym at) (can.whole i e l))) in
+    let r : (id.0 < length old.bank.types) × IsTypeHere (said ++ map abbreviation_said (take i es)) (type_tree old.bank id.0) (named_in u e.body) = (h.0, h.1 (subst (λ e. IsWhole (named_in u e.body)) (sym at) (can.whole i e l))) in
     subst (λ b. (id.0 < length b.bank.types) × IsTypeHere (said ++ map abbreviation_said (take i es)) (type_tree b.bank id.0) (named_in u e.body)) same r
