@@ -73,3 +73,9 @@ pub mod Reading
 pub mod DeclaredTypes
 pub mod WholeTypes
 pub mod SeenUses
+pub mod Told
+pub mod ToldKinds
+pub mod TypesHere
+pub mod ToldConstants
+pub mod ToldBodies
+pub mod ToldSignatures

@@ -29,7 +29,7 @@ loop-at-init c = record {
     All-nil
         (IsAlike c.args.lines.now.sights.now (length (first_names [] signatures)) modules),
   );
-  taken = λ z ds k u hk hc. All-nil (IsLineTaken c.args.lines.now.own.now c.args.lines.now.source.now z ds);
+  taken = λ used z ds given k u hk hc. All-nil (IsLineTaken c.args.lines.now.own.now used c.args.lines.now.source.now z ds);
   names = refl;
   operators = refl;
   uses = refl;
@@ -54,13 +54,13 @@ loop-at-preserved c =
           (both_alike c.args.lines.now.sights.now text signatures modules (declarations (take c.loop-at.at lines))
           (declarations (c.index.result.now ∷ [])) (c.loop-at.invariant.alike signatures modules h k)
           (c.in_ok-declare_sentence.ensures.alike signatures modules h k));
-      taken = λ z ds k u hk hc.
-          subst (All (IsLineTaken c.args.lines.now.own.now c.args.lines.now.source.now z ds))
+      taken = λ used z ds given k u hk hc.
+          subst (All (IsLineTaken c.args.lines.now.own.now used c.args.lines.now.source.now z ds))
           (lines_at lines c.loop-at.at c.index.result.now (omega (arith, c.loop-at-test.true, c.len-at-end.ensures, c.args.text.now.lines.ok))
           c.index.ensures)
-          (All-append (IsLineTaken c.args.lines.now.own.now c.args.lines.now.source.now z ds) (declarations (take c.loop-at.at lines))
-          (declarations (c.index.result.now ∷ [])) (c.loop-at.invariant.taken z ds k u hk hc)
-          (c.in_ok-declare_sentence.ensures.taken z ds (subst (λ n. Knows n z.said) (sym c.loop-at.invariant.names) k) (subst (λ v. KnowsUses (map (λ out. out.items) v.ways.items) z) (sym c.loop-at.invariant.uses) u) hk hc));
+          (All-append (IsLineTaken c.args.lines.now.own.now used c.args.lines.now.source.now z ds) (declarations (take c.loop-at.at lines))
+          (declarations (c.index.result.now ∷ [])) (c.loop-at.invariant.taken used z ds given k u hk hc)
+          (c.in_ok-declare_sentence.ensures.taken used z ds given (subst (λ n. Knows n z.said) (sym c.loop-at.invariant.names) k) (subst (λ v. KnowsUses (map (λ out. out.items) v.ways.items) z) (sym c.loop-at.invariant.uses) u) hk hc));
       names = c.declare_sentence.ensures.names ∙ c.loop-at.invariant.names;
       operators = c.declare_sentence.ensures.operators ∙ c.loop-at.invariant.operators;
       uses = c.declare_sentence.ensures.uses ∙ c.loop-at.invariant.uses;
@@ -93,13 +93,13 @@ returns-clause-alike c = λ signatures modules h k.
     (c.loop-at.invariant.alike signatures modules h k)
 
 pub returns-in_err-declare_sentence-clause-refused : goal.returns-in_err-declare_sentence-clause-refused
-returns-in_err-declare_sentence-clause-refused c = λ z k u hk hc.
+returns-in_err-declare_sentence-clause-refused c = λ used z given k u hk hc.
     let lines = c.args.text.now.lines.items in
-    passed_up c.from_residual.result c.in_err-declare_sentence.field-0.0 (λ e. (e ≡ wrong.Sig fault.Memory) ⊎ IsFaultAmong c.args.lines.now.own.now
+    passed_up c.from_residual.result c.in_err-declare_sentence.field-0.0 (λ e. (e ≡ wrong.Sig fault.Memory) ⊎ IsFaultAmong c.args.lines.now.own.now used
     c.args.lines.now.source.now z (declarations lines) e) c.from_residual.ensures.1
-    (fault_among c.args.lines.now.own.now c.args.lines.now.source.now z lines c.loop-at.at c.index.result.now c.in_err-declare_sentence.field-0.0 (wrong.Sig fault.Memory)
-    (omega (arith, c.loop-at-test.true, c.len-at-end.ensures, c.args.text.now.lines.ok)) c.index.ensures (c.loop-at.invariant.taken z (declarations lines) k u hk hc)
-    (c.in_err-declare_sentence.ensures.refused z (declarations lines) (subst (λ n. Knows n z.said) (sym c.loop-at.invariant.names) k) (subst (λ v. KnowsUses (map (λ out. out.items) v.ways.items) z) (sym c.loop-at.invariant.uses) u) hk hc))
+    (fault_among c.args.lines.now.own.now used c.args.lines.now.source.now z lines c.loop-at.at c.index.result.now c.in_err-declare_sentence.field-0.0 (wrong.Sig fault.Memory)
+    (omega (arith, c.loop-at-test.true, c.len-at-end.ensures, c.args.text.now.lines.ok)) c.index.ensures (c.loop-at.invariant.taken used z (declarations lines) given k u hk hc)
+    (c.in_err-declare_sentence.ensures.refused used z (declarations lines) given (subst (λ n. Knows n z.said) (sym c.loop-at.invariant.names) k) (subst (λ v. KnowsUses (map (λ out. out.items) v.ways.items) z) (sym c.loop-at.invariant.uses) u) hk hc))
 
 pub returns-clause-kept : goal.returns-clause-kept
 returns-clause-kept c = c.loop-at.invariant.kept

@@ -8,7 +8,7 @@ use Rattle.lp_sig.specs.inner.Given.{GivesBodies}
 use Rattle.lp_sig.specs.AsWritten.{as_trees, typed_in, bodies_of}
 use Rattle.lp_sig.specs.Holding.{HoldsBodies, line_of_module}
 use Rattle.lp_sig.specs.Types.{definitions_in}
-use Rattle.std.proofs.Common.{◌+◌, ◌≤◌, refl, inl, [], ◌++◌, ◌∙◌, length, get_or, sym, ap, subst, map, append_assoc, arith}
+use Rattle.std.proofs.Common.{◌+◌, ◌≤◌, refl, inl, [], ◌∷◌, ◌++◌, ◌∙◌, length, get_or, sym, ap, subst, map, append_assoc, arith}
 use Rattle.std.proofs.lemmas.Option.{same_Some, slice_get-get_or, slice_get_within}
 use Rattle.lp_base.specs.declared.limits.TheConstants.{END_OF_NUMBERS}
 use Rattle.lp_sig.specs.Rows.{fixity_row}
@@ -22,6 +22,8 @@ use Rattle.lp_sig.specs.Worded.{HasWords}
 use Rattle.lp_sig.proofs.KnownConstants.{making_then, counted_none, counted_later}
 use Rattle.lp_sig.proofs.Sights.{all_alike}
 use Rattle.lp_sig.proofs.TheirTypes.{own_kinds, own_new, their_kinds, their_room, has_named}
+use Rattle.lp_sig.proofs.Told.{knows_none}
+use Rattle.lp_sig.specs.inner.Telling.{AreTold}
 use Rattle.lp_sig.proofs.Viewing.{seen_stays}
 use Rattle.lp_lemmas.proofs.Results.{passed_up}
 use Rattle.lp_sig.specs.ModuleFaults.{IsDeclarationRefusal}
@@ -86,12 +88,16 @@ returns-clause-theirs c =
 
 pub returns-in_err-declare_all-clause-refused : goal.returns-in_err-declare_all-clause-refused
 returns-in_err-declare_all-clause-refused c =
+    let own = c.args.own.now in
+    let used = c.args.used.now in
+    let start = knows_none c.new-making.result c.new-making.ensures.names c.new-making.ensures.words c.new-making.ensures.bodies c.new-making.ensures.empty in
     passed_up c.from_residual-in_err-declare_all.result c.in_err-declare_all.field-0.0
     (IsDeclarationRefusal c.args.own.now c.args.used.now c.args.source.now c.args.text.now.lines.items)
     c.from_residual-in_err-declare_all.ensures.1
     (let before = seen_signatures (seen_signature nothing_seen c.args.own.now) c.args.used.now in
     let known = c.in_ok-sights.ensures.names [] c.new-making.ensures.names in
-    c.in_err-declare_all.ensures.refused (seen_in_module c.args.own.now c.args.used.now c.args.source.now c.args.text.now.lines.items)
+    c.in_err-declare_all.ensures.refused used (seen_in_module c.args.own.now c.args.used.now c.args.source.now c.args.text.now.lines.items)
+    (record { signatures = c.in_ok-said.ensures.signatures; modules = c.in_ok-said.ensures.modules; told = subst (AreTold (own ∷ []) used) (sym c.as_slice.ensures.value) (c.in_ok-sights.ensures.told start) })
     (c.in_ok-announce_all.ensures.names before.said known)
     (c.in_ok-announce_all.ensures.uses before known (c.in_ok-sights.ensures.uses nothing_seen c.new-making.ensures.names (nothing_used (map (λ out. out.items) c.new-making.result.uses.ways.items) c.new-making.ensures.uses)))
     c.in_ok-said.ensures.kinds c.in_ok-said.ensures.constants)
