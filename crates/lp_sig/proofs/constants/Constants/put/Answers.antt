@@ -17,6 +17,8 @@ pub returns-clause-put : goal.returns-clause-put
 returns-clause-put c = (record { name = c.in_ok-name.name; declared = Some c.args.declared }, c.in_ok-name.ensures.items, refl, c.in_ok-push.ensures.items)
 
 pub returns-clause-room : goal.returns-clause-room
-returns-clause-room c = room_so c.constant_number.result (length c.args.self.now.constants.items) c.is_some.result
-    (let n = c.len-place.ensures in subst (λ k. IfSome c.constant_number.result (λ n. (n ≡ 32 + k) × (32 + k < END_OF_NUMBERS))) n c.constant_number.ensures.some)
-    (let n = c.len-place.ensures in subst (λ k. c.constant_number.result ≡ None → END_OF_NUMBERS ≤ 32 + k) n c.constant_number.ensures.none) c.is_some.ensures
+returns-clause-room c =
+    let old = c.args.self.now.constants.items in
+    let n : c.len-place.result ≡ length old = omega (arith, c.len-place.ensures, c.args.self.now.constants.ok) in
+    room_so c.constant_number.result (length old) c.is_some.result (subst (λ k. IfSome c.constant_number.result (λ n. (n ≡ 32 + k) × (32 + k < END_OF_NUMBERS))) n c.constant_number.ensures.some)
+    (subst (λ k. c.constant_number.result ≡ None → END_OF_NUMBERS ≤ 32 + k) n c.constant_number.ensures.none) c.is_some.ensures
