@@ -4,7 +4,7 @@ use Rattle.lp_sig.proofs.SeenUses.{none_used, one_used}
 use Rattle.lp_sig.specs.inner.Given.{GivesBodies, GivesMore}
 use Rattle.lp_sig.specs.Sights.{AreAlike}
 use Rattle.lp_sig.specs.AsWritten.{bodies_of, HasWholeBodies}
-use Rattle.std.proofs.Common.{◌++◌, ◌∙◌, ◌+◌, [], ◌∷◌, length, refl, sym, ap, subst, take, take_all, append-nil, arith, inl, ◌≡◌}
+use Rattle.std.proofs.Common.{◌++◌, ◌∙◌, ◌+◌, [], ◌∷◌, length, map, refl, sym, ap, subst, take, take_all, append-nil, arith, inl, ◌≡◌}
 use Rattle.std.proofs.lemmas.List.{length-append}
 use Rattle.lp_sig.specs.Knowing.{Knows}
 use Rattle.lp_sig.specs.Modules.{of_each, said_of, constants_of}
