@@ -28,7 +28,7 @@ loop-word-preserved c = record {
   taken = λ used ds given.
       let text = c.args.self.now.source.now in
       All-more (IsWordTaken c.args.self.now.own.now used text (length (first_names [] (signature_words text ds))) (module_words text ds)) c.args.words.now c.loop-word.word-index _ c.loop-word-test.true (c.loop-word.invariant.taken used ds given)
-      (told_taken c.args.self.now.own.now used text (length (first_names [] (signature_words text ds))) (module_words text ds) c.args.self.now.sights.now c.spelled_at.result.now _ c.sight_of_accumulate-sight.result given.told c.spelled_at.ensures (c.sight_of_accumulate-sight.ensures.place (signature_words text ds) (module_words text ds) given.signatures given.modules) c.in_ok-check_word.ensures.alike);
+      (told_taken c.args.self.now.own.now used text (length (first_names [] (signature_words text ds))) (module_words text ds) c.args.self.now.sights.now c.spelled_at.result.now (get_or c.args.words.now c.loop-word.word-index _) c.sight_of_accumulate-sight.result given.told c.spelled_at.ensures (c.sight_of_accumulate-sight.ensures.place (signature_words text ds) (module_words text ds) given.signatures given.modules) c.in_ok-check_word.ensures.alike);
 }
 
 pub returns-clause-alike : goal.returns-clause-alike
