@@ -20,7 +20,7 @@ use Rattle.lp_sig.specs.Abbreviations.{Seen}
 use Rattle.lp_sig.specs.Pieces.{spelled}
 use Rattle.lp_sig.specs.Rows.{Row, found, kind_row, abbreviation_row}
 use Rattle.lp_sig.specs.Standard.{standard_kinds, standard_constants}
-use Rattle.lp_sig.specs.Said.{Said, is_among, names_in}
+use Rattle.lp_sig.specs.Said.{is_among, names_in}
 use Rattle.lp_sig.specs.Modules.{declarations, said_of, constants_of, kind_said, abbreviation_said, constant_names_by}
 use Rattle.lp_sig.specs.ModuleFaults.{differs_at, blamed_at, blamed_by, kind_names_by, kind_names_in, exports_kind, exports_constant, IsFirstOf, IsNewFault, other_type, no_number, IsLineFault, IsLineTaken, IsFaultAmong}
 use Rattle.lp_sig.specs.Sights.{HasKeys}

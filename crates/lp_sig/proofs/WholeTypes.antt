@@ -1,31 +1,27 @@
 -- Each kind in the type of a constant that a module sees has a name.
-use Rattle.std.proofs.Common.{◌≡◌, ◌⊎◌, inl, inr, ℕ, zero, suc, ◌<◌, ◌≤◌, List, [], ◌∷◌, ◌++◌, map, length, get_or, Bool, true, false, Option, Some, None, refl, sym, ap, subst, ◌∙◌, arith, cond, append-nil, true≢false}
+use Rattle.std.proofs.Common.{◌≡◌, ◌⊎◌, inl, inr, ℕ, suc, List, [], ◌∷◌, ◌++◌, map, get_or, Bool, true, false, Some, None, refl, sym, ap, subst, ◌∙◌, arith, cond, append-nil, true≢false}
 use Rattle.std.specs.Prelude.{All, Contains, slice_get, is_some}
 use Rattle.std.specs.Str.{bytes_eq}
 use Rattle.std.proofs.lemmas.List.{map-append}
-use Rattle.std.proofs.lemmas.List.Elements.{All-contains, All-head, All-tail, All-append, All-map, All-nil, Contains-append_left, Contains-append_right, Contains-append_cases, Contains-get_or}
+use Rattle.std.proofs.lemmas.List.Elements.{All-contains, All-head, All-tail, All-append, All-map, All-nil, Contains-append_cases}
 use Rattle.std.proofs.lemmas.Option.{same_Some, slice_get_within, slice_get-get_or}
 use Rattle.lp_base.specs.declared.place.Spot.{Spot}
-use Rattle.lp_lemmas.proofs.Elements.{Contains_head, Contains_tail}
 use Rattle.lp_lemmas.proofs.Lists.{get_map, get_from_map}
 use Rattle.lp_calculus.specs.Types.{Ty}
-use Rattle.lp_term.specs.Nodes.{type_tree}
 use Rattle.lp_syntax.specs.declared.text.Declaration.{Declaration}
 use Rattle.lp_syntax.specs.declared.text.Declaration.TheVariants.{Kinds, LocalKinds, Constants as OfType, Locals, Abbreviation, Accumulate, AccumSig, Fixities}
-use Rattle.lp_syntax.specs.declared.text.RawType.{RawType}
 use Rattle.lp_syntax.specs.declared.text.Sentence.{Sentence}
 use Rattle.lp_sig.specs.Abbreviations.{one_text}
-use Rattle.lp_sig.specs.AsWritten.{typed_locals, typed_by, typed_in, bodies_of, HasWholeBodies, HasWholeTypes, as_trees, HasScheme, standard_scheme, declared_scheme, HasWrittenType, DeclaresAsWritten, AreReady, DeclaresTypes}
+use Rattle.lp_sig.specs.AsWritten.{typed_by, typed_in, bodies_of, HasWholeBodies, HasWholeTypes, as_trees, HasScheme, standard_scheme, declared_scheme, HasWrittenType, DeclaresAsWritten, AreReady, DeclaresTypes}
 use Rattle.lp_sig.specs.Constants.{Written, written_in, IsSchemeOf}
-use Rattle.lp_sig.specs.Modules.{declarations, of_each, said_in_module, constants_of, local_names, constant_names_by, constant_names_in, constant_names, first_names, HasSeen}
-use Rattle.lp_sig.specs.Named.{NamedTy, named, kind_name, kind_names, named_in, IsWhole, HasNamed, standard_one, declared_one, SeesAlike, IsOrdered, SeesTheirs, many_words}
+use Rattle.lp_sig.specs.Modules.{declarations, of_each, said_in_module, constants_of, constant_names_by, constant_names_in, constant_names, first_names, HasSeen}
+use Rattle.lp_sig.specs.Named.{named, kind_name, kind_names, named_in, IsWhole, HasNamed, standard_one, declared_one, SeesAlike, IsOrdered, SeesTheirs}
 use Rattle.lp_sig.specs.Pieces.{spelled}
-use Rattle.lp_sig.specs.Places.{first_place}
 use Rattle.lp_sig.specs.Rows.{Row, found}
-use Rattle.lp_sig.specs.Said.{Said, each, is_among, names_in, kinds_among, declared_names}
+use Rattle.lp_sig.specs.Said.{each, names_in, kinds_among, declared_names}
 use Rattle.lp_sig.specs.Sighted.{said_kinds}
 use Rattle.lp_sig.specs.Standard.{standard_constants}
-use Rattle.lp_sig.specs.Types.{Definition, as_tree, definitions_in}
+use Rattle.lp_sig.specs.Types.{as_tree, definitions_in}
 use Rattle.lp_sig.specs.declared.entries.ConstantEntry.{ConstantEntry}
 use Rattle.lp_sig.specs.declared.signature.Signature.{Signature}
 use Rattle.lp_sig.proofs.Agreeing.{texts_have_no_tree}

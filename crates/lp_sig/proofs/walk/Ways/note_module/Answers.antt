@@ -1,4 +1,4 @@
-use Rattle.std.proofs.Common.{◌++◌, map, length, subst, take_all, arith}
+use Rattle.std.proofs.Common.{◌++◌, map, subst, take_all, arith}
 use Rattle.lp_sig.specs.Said.{said_in}
 use Rattle.lp_sig.specs.Modules.{declarations}
 use Rattle.lp_sig.specs.Abbreviations.{KnowsUses, abbreviation_names}
