@@ -144,7 +144,9 @@ module _ (said : List (Row Said)) (es : List KindEntry) (i : ℕ) (e : KindEntry
       by true t f =
           let z : e.number ≡ k = eqb-true e.number k t in
           let m : number ≡ n = same_Some number n f in
-          let place : e.number ≡ 8 + i = number_at es i e l at numbers in
-          (e.name.items, name_above (map (λ e. e.name.items) es) k i e.name.items (sym z ∙ place) (name_at es i e l at),
-          subst (IsNumberHere (said ++ map kind_said es) e.name.items) m (subst (λ r. IsNumberHere r e.name.items number) all_said (number_stays (said ++ map kind_said (take (i + 1) es)) (map kind_said (drop (i + 1) es)) e.name.items number this)))
+          let place : e.number ≡ 8 + i = number_at es i e l at numbers in (
+            e.name.items,
+            name_above (map (λ e. e.name.items) es) k i e.name.items (sym z ∙ place) (name_at es i e l at),
+            subst (IsNumberHere (said ++ map kind_said es) e.name.items) m (subst (λ r. IsNumberHere r e.name.items number) all_said (number_stays (said ++ map kind_said (take (i + 1) es)) (map kind_said (drop (i + 1) es)) e.name.items number this)),
+          )
       by false t f = before k n f

@@ -137,19 +137,19 @@ returns-clause-stays c = λ before k.
       names = subst (Knows there.names) (sym (each_more said_of before u)) (returns-clause-names c said k.names);
       words = subst (HasWords c.see_all.new.self) (sym (each_more constants_of before u)) (returns-clause-words c (of_each constants_of before) k.words);
       kept = λ texts.
-    let h = k.kept (texts_before before u texts) in
-    let ordered = text_ordered before u texts in
-    let numbers = subst (λ es. map (λ e. e.number) es ≡ range_with_len 8 (length es) → AreNumberedHere (said ++ map kind_said es) (map (λ e. e.name.items) es) c.see_kinds.new.kinds) c.kinds.ensures
-    (λ ns. c.in_ok-of_kinds.ensures.numbers said k.names ns none) ordered.kinds in
-    let types : AreTypesHere u.bank here (kind_names u) with_kinds made = subst (λ b. AreTypesHere b here (kind_names u) with_kinds made) c.bank.ensures (c.in_ok-made.ensures.told with_kinds (kind_names u) numbers) in
-    let can_bodies = subst (CanSeeBodies here old.bodies.bodies.items u with_kinds bodies c.as_slice.result.now) (sym c.abbreviations.ensures)
-    (subst (λ ms. CanSeeBodies here old.bodies.bodies.items u with_kinds bodies ms u.abbreviations.items) (sym c.as_slice.ensures.value)
-    (can_see_bodies u old.bodies.types.bank here said bodies made c.see_types.ensures.kept types old.bodies.bodies.items h.bodies (text_whole before u texts))) in
-    let can_constants = subst (λ x. CanSeeAll x.bank there.constants u (said ++ said_of u) typed c.as_slice-2.result.now c.constants.result.now) (sym c.see_abbreviations.ensures.types)
-    (subst (λ x. CanSeeAll here x u (said ++ said_of u) typed c.as_slice-2.result.now c.constants.result.now) (sym c.see_abbreviations.ensures.constants)
-    (subst (λ ms. CanSeeAll here old.constants u (said ++ said_of u) typed ms c.constants.result.now) (sym c.as_slice-2.ensures.value)
-    (subst (CanSeeAll here old.constants u (said ++ said_of u) typed made) (sym c.constants.ensures)
-    (can_see_constants u old.bodies.types.bank here said typed made c.see_types.ensures.kept types old.constants (of_each constants_of before) (sym (each_names before)) k.words h.constants ordered)))) in
+          let h = k.kept (texts_before before u texts) in
+          let ordered = text_ordered before u texts in
+          let numbers = subst (λ es. map (λ e. e.number) es ≡ range_with_len 8 (length es) → AreNumberedHere (said ++ map kind_said es) (map (λ e. e.name.items) es) c.see_kinds.new.kinds) c.kinds.ensures
+          (λ ns. c.in_ok-of_kinds.ensures.numbers said k.names ns none) ordered.kinds in
+          let types : AreTypesHere u.bank here (kind_names u) with_kinds made = subst (λ b. AreTypesHere b here (kind_names u) with_kinds made) c.bank.ensures (c.in_ok-made.ensures.told with_kinds (kind_names u) numbers) in
+          let can_bodies = subst (CanSeeBodies here old.bodies.bodies.items u with_kinds bodies c.as_slice.result.now) (sym c.abbreviations.ensures)
+          (subst (λ ms. CanSeeBodies here old.bodies.bodies.items u with_kinds bodies ms u.abbreviations.items) (sym c.as_slice.ensures.value)
+          (can_see_bodies u old.bodies.types.bank here said bodies made c.see_types.ensures.kept types old.bodies.bodies.items h.bodies (text_whole before u texts))) in
+          let can_constants = subst (λ x. CanSeeAll x.bank there.constants u (said ++ said_of u) typed c.as_slice-2.result.now c.constants.result.now) (sym c.see_abbreviations.ensures.types)
+          (subst (λ x. CanSeeAll here x u (said ++ said_of u) typed c.as_slice-2.result.now c.constants.result.now) (sym c.see_abbreviations.ensures.constants)
+          (subst (λ ms. CanSeeAll here old.constants u (said ++ said_of u) typed ms c.constants.result.now) (sym c.as_slice-2.ensures.value)
+          (subst (CanSeeAll here old.constants u (said ++ said_of u) typed made) (sym c.constants.ensures)
+          (can_see_constants u old.bodies.types.bank here said typed made c.see_types.ensures.kept types old.constants (of_each constants_of before) (sym (each_names before)) k.words h.constants ordered)))) in
           let given = c.in_ok-of_abbreviations.ensures.here u with_kinds bodies kinds_then can_bodies in
           let all = subst (λ es. AreBodiesHere there.bodies.types.bank there.bodies.bodies.items (with_kinds ++ map abbreviation_said es) (bodies ++ map (named_body u) es)) c.abbreviations.ensures given in
           let said_all = subst (λ s. AreBodiesHere there.bodies.types.bank there.bodies.bodies.items s (bodies ++ bodies_of u)) (assoc ∙ sym (each_more said_of before u)) all in

@@ -22,9 +22,9 @@ loop-word-init c = record {
 pub loop-word-preserved : goal.loop-word-preserved
 loop-word-preserved c = record {
   alike = λ signatures h.
-    alike_more (IsAlike c.args.self.now.sights.now 0 signatures) (λ s. spelled c.args.self.now.source.now s) c.args.words.now c.loop-word.word-index _
-    c.spelled_at.result.now c.loop-word-test.true c.spelled_at.ensures
-    (c.loop-word.invariant.alike signatures h) (c.sight_of_accum_sig-sight.ensures.alike signatures h c.in_ok-check_word.ensures.alike);
+      alike_more (IsAlike c.args.self.now.sights.now 0 signatures) (λ s. spelled c.args.self.now.source.now s) c.args.words.now c.loop-word.word-index _
+      c.spelled_at.result.now c.loop-word-test.true c.spelled_at.ensures
+      (c.loop-word.invariant.alike signatures h) (c.sight_of_accum_sig-sight.ensures.alike signatures h c.in_ok-check_word.ensures.alike);
   taken = λ used ds given.
       let text = c.args.self.now.source.now in
       All-more (IsWordTaken c.args.self.now.own.now used text 0 (signature_words text ds)) c.args.words.now c.loop-word.word-index _ c.loop-word-test.true (c.loop-word.invariant.taken used ds given)

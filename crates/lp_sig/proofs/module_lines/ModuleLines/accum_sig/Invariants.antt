@@ -11,6 +11,6 @@ use Rattle.lp_sig.proofs.module_lines.ModuleLines.accum_sig.Given as goal
 abbrev pub invariant-loop-word : goal.invariant-loop-word
 invariant-loop-word l = record {
   alike : (signatures : List (List ℕ)) → HasNumbers l.self.said.now.accum_sigs signatures → All (IsAlike l.self.sights.now 0 signatures)
-    (map (λ s. spelled l.self.source.now s) (take l.word-index l.words));
+      (map (λ s. spelled l.self.source.now s) (take l.word-index l.words));
   taken : (used : List Signature) (ds : List Declaration) → AreSights l.self.own.now used l.self.source.now l.self.said.now l.self.sights.now ds → AreSignaturesTaken l.self.own.now used l.self.source.now ds (take l.word-index l.words);
 }

@@ -12,7 +12,7 @@ use Rattle.lp_sig.proofs.module_lines.ModuleLines.accumulate.Given as goal
 abbrev pub invariant-loop-word : goal.invariant-loop-word
 invariant-loop-word l = record {
   alike : (signatures modules : List (List ℕ)) → HasNumbers l.self.said.now.accum_sigs signatures → HasNumbers
-    l.self.said.now.accumulates modules → All (IsAlike l.self.sights.now (length (first_names [] signatures)) modules)
-    (map (λ s. spelled l.self.source.now s) (take l.word-index l.words));
+      l.self.said.now.accumulates modules → All (IsAlike l.self.sights.now (length (first_names [] signatures)) modules)
+      (map (λ s. spelled l.self.source.now s) (take l.word-index l.words));
   taken : (used : List Signature) (ds : List Declaration) → AreSights l.self.own.now used l.self.source.now l.self.said.now l.self.sights.now ds → AreModulesTaken l.self.own.now used l.self.source.now ds (take l.word-index l.words);
 }
