@@ -34,3 +34,5 @@ pub mod Walking
 pub mod Ordering
 pub mod Saying
 pub mod Holding
+pub mod Referred
+pub mod Joined
