@@ -36,3 +36,6 @@ pub mod Saying
 pub mod Holding
 pub mod Referred
 pub mod Joined
+pub mod TextModules
+pub mod OwnTypes
+pub mod Unmaking
