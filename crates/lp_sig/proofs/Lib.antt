@@ -66,6 +66,7 @@ pub mod OrderedSignatures
 pub mod Sights
 pub mod TheirTypes
 pub mod SeenKinds
+pub mod MeantKinds
 pub mod SeenTypes
 pub mod Refusing
 pub mod GivenBodies
