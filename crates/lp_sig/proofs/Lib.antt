@@ -67,6 +67,7 @@ pub mod Sights
 pub mod TheirTypes
 pub mod SeenKinds
 pub mod MeantKinds
+pub mod FreeTypes
 pub mod SeenTypes
 pub mod Refusing
 pub mod GivenBodies

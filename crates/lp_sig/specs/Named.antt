@@ -68,6 +68,22 @@ abbrev mutual
   AreWhole no_named = Unit {0}
   AreWhole (more_named t ts) = IsWhole t × AreWhole ts
 
+-- a type holds no type parameter
+abbrev mutual
+  pub HasNoParam : Ty → Type 0
+  HasNoParam (var x) = Unit {0}
+  HasNoParam (param k) = ⊥
+  HasNoParam (con c ts) = HaveNoParams ts
+  HasNoParam (arrow a b) = HasNoParam a × HasNoParam b
+
+  pub HaveNoParams : Tys → Type 0
+  HaveNoParams no_types = Unit {0}
+  HaveNoParams (types t ts) = HasNoParam t × HaveNoParams ts
+
+-- those of a signature's constants hold none
+abbrev pub HasFreeTypes : Signature → Type 0
+HasFreeTypes s = All (λ e. HasNoParam (type_tree s.bank e.scheme.0)) s.constants.items
+
 -- a signature has a constant of this name, with so many type variables and this type; every one has those of the language
 pub data HasNamed (s : Signature) (name : List ℕ) (count : ℕ) (t : NamedTy) : Type 0 where
   standard_one : (n : ℕ) → found name standard_constants ≡ Some n → t ≡ named (kind_name (kind_names s)) (standard_tree n) → HasNamed s name count t
