@@ -94,7 +94,7 @@ constant_place s numbers p x at = first_at x.name.items (map (λ (e : ConstantEn
         omega (arith, same)
 
 -- hidden numbers are those behind the own ones
-shown : (first own count i : ℕ) (hidden : List ℕ) → hidden ≡ range_with_len (first + own) (count - own) → i < count → place_in hidden (first + i) ≡ None → i < own
+pub shown : (first own count i : ℕ) (hidden : List ℕ) → hidden ≡ range_with_len (first + own) (count - own) → i < count → place_in hidden (first + i) ≡ None → i < own
 shown first own count i hidden is l none = by (cases_lt i own)
   where
     by : (i < own) ⊎ (own ≤ i) → i < own

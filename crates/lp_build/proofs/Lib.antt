@@ -39,3 +39,6 @@ pub mod Joined
 pub mod TextModules
 pub mod OwnTypes
 pub mod Unmaking
+pub mod KindsUnder
+pub mod Differing
+pub mod Under
