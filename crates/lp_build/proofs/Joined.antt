@@ -1,7 +1,7 @@
 -- The modules of texts are taken over signatures as texts have them, and go with one another: each sees what those export that it accumulates, with the same types.
 use Rattle.std.specs.Global.{Global}
 use Rattle.std.proofs.Common.{◌≡◌, ℕ, zero, suc, ◌+◌, ◌<◌, ◌≤◌, List, [], ◌∷◌, ◌++◌, length, map, filter_map, get_or, option_map, Bool, true, false, Option, Some, None, String, Vec, refl, sym, ap, subst, ◌∙◌, arith, inl, inr, true≢false}
-use Rattle.std.specs.Prelude.{◌⊎◌, ◌||◌, if◌then◌else◌, nat_eq, slice_get, Contains, All}
+use Rattle.std.specs.Prelude.{◌⊎◌, ◌||◌, if◌then◌else◌, nat_eq, slice_get, string_bytes, Contains, All}
 use Rattle.std.specs.List.{cons_option, list_any}
 use Rattle.std.specs.Str.{bytes_eq}
 use Rattle.std.proofs.lemmas.Bool.{eqb-true, eq-eqb}
@@ -407,25 +407,31 @@ module _ (files : List File) (g : Group SignatureText) (t : Group ModuleText) (r
         few = omega (arith, l, m);
       }
 
-  -- two modules, one of which accumulates the other
+  -- of two modules, one of which accumulates the other, that one sees the signature of the other
+  pub sees_signature : (above m : Module) (p q : ℕ) (a : IsModuleAt files g t p above) (b : IsModuleAt files g t q m) → Contains (map (λ u. u.items) above.uses.items) m.name.items
+      → (i : ℕ) × (u : Signature) × (slice_get a.used i ≡ Some u) × IsSignatureOf g b.own_is.number u
+  sees_signature above m p q a b uses =
+      let numbers = accum_sig_at files a.number ++ accumulate_at files a.number in
+      let n = names_files p a.number a.source a.text a.at_number a.at_source a.at_text in
+      let words = map (spelled a.source.items) (accumulate_in (declarations a.text.lines.items)) in
+      let word : Contains words m.name.items = subst (λ ws. Contains ws m.name.items) (a.meaning.uses ∙ ap (map (spelled a.source.items)) (words_same a.text.lines.items)) uses in
+      let number : signature_of files m.name.items ≡ Some b.own_is.number = ap (signature_of files) b.meaning.name ∙ b.own_is.first in
+      let among : Contains numbers b.own_is.number = Contains-append_right (accum_sig_at files a.number) (accumulate_at files a.number) b.own_is.number
+      (subst (λ ns. Contains ns b.own_is.number) (sym n.accumulate) (inserted [] (filter_map (signature_of files) words) b.own_is.number
+      (has_number (signature_of files) words m.name.items b.own_is.number word number))) in
+      let (i, at) = in_list numbers b.own_is.number among in
+      let (u, at_u, is_u) = signature_at numbers a.used a.used_are i b.own_is.number at in
+      (i, u, at_u, is_u)
+
+  -- so they are joined
   module _ (signature_texts : AreSignatureTexts files (length files) g) where
     joined_at : (above m : Module) (p q : ℕ) (a : IsModuleAt files g t p above) (b : IsModuleAt files g t q m) → Contains (map (λ u. u.items) above.uses.items) m.name.items → IsJoined above m
     joined_at above m p q a b uses =
-        let numbers = accum_sig_at files a.number ++ accumulate_at files a.number in
-        let n = names_files p a.number a.source a.text a.at_number a.at_source a.at_text in
-        let words = map (spelled a.source.items) (accumulate_in (declarations a.text.lines.items)) in
-        let word : Contains words m.name.items = subst (λ ws. Contains ws m.name.items) (a.meaning.uses ∙ ap (map (spelled a.source.items)) (words_same a.text.lines.items)) uses in
-        let number : signature_of files m.name.items ≡ Some b.own_is.number = ap (signature_of files) b.meaning.name ∙ b.own_is.first in
-        let among : Contains numbers b.own_is.number = Contains-append_right (accum_sig_at files a.number) (accumulate_at files a.number) b.own_is.number
-        (subst (λ ns. Contains ns b.own_is.number) (sym n.accumulate) (inserted [] (filter_map (signature_of files) words) b.own_is.number
-        (has_number (signature_of files) words m.name.items b.own_is.number word number))) in
-        let (i, at) = in_list numbers b.own_is.number among in
-        let (u, at_u, is_u) = signature_at numbers a.used a.used_are i b.own_is.number at in
-        let few_l = few_named a.number a.source.items a.text n in
-        let l = slice_get_within numbers i b.own_is.number at in
-        let all_ordered : All IsOrdered a.used = all_of g IsOrdered (ordered g) numbers a.used a.used_are in
-        let seen : SeesAlike u above.signature = a.meaning.theirs.used_ones (apart g a.own_is.number a.own a.own_is.is)
-        (ordered g a.own_is.number a.own a.own_is.is) all_ordered i u at_u (omega (arith, few_l, l)) in
+        let (i, u, at_u, is_u) = sees_signature above m p q a b uses in
+        let r = ready p a.number (string_bytes a.name) a.source a.text a.own a.used a.at_number a.at_source a.at_text a.own_is a.used_are in
+        let few_l = r.few in
+        let l = slice_get_within a.used i u at_u in
+        let seen : SeesAlike u above.signature = a.meaning.theirs.used_ones r.apart r.ordered r.used_ordered i u at_u (omega (arith, few_l, l)) in
         let own_apart = apart g b.own_is.number b.own b.own_is.is in
         let own_ordered = ordered g b.own_is.number b.own b.own_is.is in
         joined_by above m b.own u (record {
@@ -446,6 +452,15 @@ module _ (sources : Sources) (modules : List Module) (read : AreRead sources) (a
   pub meaning_at : (k : ℕ) (m : Module) → slice_get modules k ≡ Some m → (p : ℕ) × IsModuleAt files are.signatures are.texts p m
   meaning_at k m at = module_at are.meanings.order modules are.meanings.meanings k m at
 
+  -- the name of a module that another one accumulates is a word of it
+  pub uses_name : (k j : ℕ) (above m : Module) → slice_get modules k ≡ Some above → Contains (get_or (uses_of modules) k []) j → slice_get modules j ≡ Some m → Contains (map (λ u. u.items) above.uses.items) m.name.items
+  uses_name k j above m at_k used at_j =
+      let uses = get_or_from_slice_get (uses_of modules) k (numbers_of (names_of modules) (map (λ u. u.items) above.uses.items)) []
+      (mapped_at (λ m. numbers_of (names_of modules) (map (λ u. u.items) m.uses.items)) modules k above at_k) in
+      let (w, has, first) = named_one (names_of modules) (map (λ u. u.items) above.uses.items) j (subst (λ ns. Contains ns j) uses used) in
+      let name : m.name.items ≡ w = same_Some m.name.items w (sym (mapped_at (λ m. m.name.items) modules j m at_j) ∙ place_name (names_of modules) w j first) in
+      subst (Contains (map (λ u. u.items) above.uses.items)) (sym name) has
+
   pub modules_joined : AreJoined modules
   modules_joined = record {
     orderly = λ k d l.
@@ -456,9 +471,5 @@ module _ (sources : Sources) (modules : List Module) (read : AreRead sources) (a
     joined = λ k j above m at_k used at_j.
         let (p, a) = meaning_at k above at_k in
         let (q, b) = meaning_at j m at_j in
-        let uses = get_or_from_slice_get (uses_of modules) k (numbers_of (names_of modules) (map (λ u. u.items) above.uses.items)) []
-        (mapped_at (λ m. numbers_of (names_of modules) (map (λ u. u.items) m.uses.items)) modules k above at_k) in
-        let (w, has, first) = named_one (names_of modules) (map (λ u. u.items) above.uses.items) j (subst (λ ns. Contains ns j) uses used) in
-        let name : m.name.items ≡ w = same_Some m.name.items w (sym (mapped_at (λ m. m.name.items) modules j m at_j) ∙ place_name (names_of modules) w j first) in
-        joined_at files are.signatures are.texts read.each are.module_texts are.signature_texts above m p q a b (subst (Contains (map (λ u. u.items) above.uses.items)) (sym name) has);
+        joined_at files are.signatures are.texts read.each are.module_texts are.signature_texts above m p q a b (uses_name k j above m at_k used at_j);
   }
