@@ -34,7 +34,7 @@ use Rattle.lp_module.specs.Program.{place_in}
 use Rattle.lp_module.specs.declared.module.Module.{Module}
 use Rattle.lp_module.proofs.Joining.{IsNamedKind, arrow_parts, con_name, list_parts, named_kind, of_language, of_signature, standard_number}
 use Rattle.lp_module.proofs.Lookups.{place_at, place_none}
-use Rattle.lp_build.specs.Compiled.{ArePaired, HasNamesOf}
+use Rattle.lp_build.specs.Compiled.{ArePaired, HasNamesOf, IsObjectConstant, IsObjectKind}
 use Rattle.lp_build.proofs.Compiling.{paired_weaker}
 use Rattle.lp_build.proofs.SameCopies.{IsShaped, constant_names_same, exported_constants, exported_kinds, kind_names_same, paired_at, range_length, same_uses}
 use Rattle.lp_build.proofs.SameNames.{paired_back}
@@ -118,7 +118,7 @@ module _ (m above : Module) (o oa : Object) (s : IsShaped m o) (t : IsShaped abo
   number_above : (i : ℕ) (e : KindEntry) → slice_get m.signature.kinds.items i ≡ Some e → place_in m.hidden_kinds.items (8 + i) ≡ None → (j : ℕ) (f : KindEntry) → slice_get above.signature.kinds.items j ≡ Some f
       → f.name.items ≡ e.name.items → (k : ℕ) → k ≡ 8 + i → K k ≡ Some (8 + j)
   number_above i e at none j f there name k is =
-      let (kind, here, pair) = paired_at _ m.signature.kinds.items o.kinds.items s.names.kinds i e at in
+      let (kind, here, pair) = paired_at IsObjectKind m.signature.kinds.items o.kinds.items s.names.kinds i e at in
       let l = slice_get_within m.signature.kinds.items i e at in
       let below = shown 8 s.own.kinds (length m.signature.kinds.items) i m.hidden_kinds.items s.hidden_kinds l none in
       let exported : kind.exported ≡ true =
@@ -192,10 +192,10 @@ module _ (m above : Module) (o oa : Object) (s : IsShaped m o) (t : IsShaped abo
 
   no_kind : (i : ℕ) → IsOtherKind o oa i → ⊥
   no_kind i d =
-      let (e, at, pair) = paired_back _ m.signature.kinds.items o.kinds.items s.names.kinds i d.kind d.there in
+      let (e, at, pair) = paired_back IsObjectKind m.signature.kinds.items o.kinds.items s.names.kinds i d.kind d.there in
       let below = ltb-true i s.own.kinds (sym (exported_kinds m o s i d.kind (slice_get_within o.kinds.items i d.kind d.there, get_or_from_slice_get o.kinds.items i d.kind d.kind d.there)) ∙ d.exported) in
       let (p, x, there, name, arity) = u.kinds i e at (not_hidden 8 s.own.kinds (length m.signature.kinds.items) i m.hidden_kinds.items s.hidden_kinds below) in
-      let (kind, here, same) = paired_at _ above.signature.kinds.items oa.kinds.items t.names.kinds p x there in
+      let (kind, here, same) = paired_at IsObjectKind above.signature.kinds.items oa.kinds.items t.names.kinds p x there in
       let place : places.first_place d.kind.name.items (linked_uses.kind_names oa.kinds.items) ≡ Some p =
       (λ j. places.first_place ((pair.name ∙ sym name) j) (kind_names_same above oa t j)) ∙ kind_place above.signature u.above_numbered p x there in
       d.other (ap (option_and_then (λ i. option_map (λ (k : ObjectKind). k.arity) (slice_get oa.kinds.items i))) place ∙ ap (option_map (λ (k : ObjectKind). k.arity)) here
@@ -203,21 +203,21 @@ module _ (m above : Module) (o oa : Object) (s : IsShaped m o) (t : IsShaped abo
 
   no_constant : (i : ℕ) → IsOtherConstant o oa i → ⊥
   no_constant i d =
-      let (e, at, pair) = paired_back _ m.signature.constants.items o.constants.items s.names.constants i d.constant d.there in
+      let (e, at, pair) = paired_back (IsObjectConstant m.signature o.bank) m.signature.constants.items o.constants.items s.names.constants i d.constant d.there in
       let below = ltb-true i s.own.constants (sym (exported_constants m o s i d.constant (slice_get_within o.constants.items i d.constant d.there, get_or_from_slice_get o.constants.items i d.constant d.constant d.there)) ∙ d.exported) in
       let none = not_hidden 32 s.own.constants (length m.signature.constants.items) i m.hidden_constants.items s.hidden_constants below in
       let j = u.joined i e at none in
-      let (c, here, same) = paired_at _ above.signature.constants.items oa.constants.items t.names.constants j.place j.seen j.at in
+      let (c, here, same) = paired_at (IsObjectConstant above.signature oa.bank) above.signature.constants.items oa.constants.items t.names.constants j.place j.seen j.at in
       let place : places.first_place d.constant.name.items (linked_uses.constant_names oa.constants.items) ≡ Some j.place =
       (λ k. places.first_place ((pair.name ∙ sym j.name) k) (constant_names_same above oa t k)) ∙ constant_place above.signature u.above_numbered j.place j.seen j.at in
       let found_one : constant_of oa.constants.items d.constant.name.items ≡ Some c = ap (option_and_then (λ i. slice_get oa.constants.items i)) place ∙ here in
       let type : same_type K (type_tree o.bank d.constant.scheme.0) (type_tree oa.bank c.scheme.0) ≡ true =
       (λ k. same_type K (pair.scheme k) (same.scheme k)) ∙ type_is (type_tree m.signature.bank e.scheme.0) (type_tree above.signature.bank j.seen.scheme.0) (u.free i e at none) j.exported j.whole j.same in
-      by (subst (IsOtherAbove o oa d.constant) found_one d.other) (same.variables ∙ j.count ∙ sym pair.variables) type
+      by d.constant c (subst (IsOtherAbove o oa d.constant) found_one d.other) (same.variables ∙ j.count ∙ sym pair.variables) type
     where
-      by : {c d : ObjectConstant} → HasOtherType o oa c d → d.type_vars ≡ c.type_vars → same_type K (type_tree o.bank c.scheme.0) (type_tree oa.bank d.scheme.0) ≡ true → ⊥
-      by (inl other) count type = other count
-      by (inr other) count type = true≢false (sym type ∙ other)
+      by : (c d : ObjectConstant) → HasOtherType o oa c d → d.type_vars ≡ c.type_vars → same_type K (type_tree o.bank c.scheme.0) (type_tree oa.bank d.scheme.0) ≡ true → ⊥
+      by c d (inl other) count type = other count
+      by c d (inr other) count type = true≢false (sym type ∙ other)
 
   pub nothing_differs : IsSameAbove o oa
   nothing_differs = record { kinds = no_kind; constants = no_constant }
