@@ -66,7 +66,6 @@ pub mod OrderedSignatures
 pub mod Sights
 pub mod TheirTypes
 pub mod SeenKinds
-pub mod MeantKinds
 pub mod FreeTypes
 pub mod SeenTypes
 pub mod Refusing

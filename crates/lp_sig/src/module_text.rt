@@ -5,7 +5,7 @@ ghost use Rattle.lp_sig.specs.Rows.{Row, fixity_row};
 ghost use Rattle.lp_sig.specs.Said.{Said as IsSaid, said_in};
 ghost use Rattle.lp_sig.specs.Knowing.{Knows, KnowsOperators};
 ghost use Rattle.lp_sig.specs.Modules.{declarations, of_each, said_of, constants_of, constant_names_in, HasSeen};
-ghost use Rattle.lp_sig.specs.Named.{NamedTy, IsOrdered, MeansKinds, SeesTheirs, kind_names};
+ghost use Rattle.lp_sig.specs.Named.{NamedTy, IsOrdered, SeesTheirs, kind_names};
 ghost use Rattle.lp_sig.specs.Sighted.{Grows, AreCounted, AreKinds, AreNew, SeenSo};
 ghost use Rattle.lp_sig.specs.Sights.{HasKeys, HasNumbers, AreAlike, AreWordsAlike};
 ghost use Rattle.lp_sig.specs.ModuleFaults.{kind_names_in, IsLineFault, IsLineTaken, IsFaultAmong, IsDeclarationRefusal};
@@ -41,7 +41,6 @@ fn see_used(making: &mut Making, used: &[Signature]) -> Result<Vec<Sight>, Memor
         (n : ℕ) → n ≤ length used.now → AreAlike sights.items n → (i : ℕ) → i < n → (u : IsSignature) → slice_get used.now i ≡ Some u → SeenSo making.new (said ++ of_each said_of used.now) u) }
     ensures counted { IfOk result (λ sights. (said : List (Row IsSaid)) (words : List (List ℕ)) → Knows making.old.names said → HasWords making.old.constants words → AreCounted making.old.bodies.types.bank making.old.constants → All IsOrdered used.now →
         AreAlike sights.items (length used.now) → AreCounted making.new.bodies.types.bank making.new.constants) }
-    ensures kinds { IfOk result (λ sights. AreAlike sights.items (length used.now) → (said : List (Row IsSaid)) → Knows making.old.names said → All (λ u. MeansKinds (said ++ of_each said_of used.now) u.kinds.items) used.now) }
     ensures given { IfOk result (λ sights. All IsOrdered used.now → All HasWholeBodies used.now → AreAlike sights.items (length used.now) → GivesMore making.old making.new (of_each said_of used.now) (of_each bodies_of used.now)) }
 {
     let mut sights = Vec::new(making.alloc);
@@ -58,7 +57,6 @@ fn see_all(making: &mut Making, own: &Signature, used: &[Signature]) -> Result<V
     ensures words { OnOk result ((words : List (List ℕ)) → HasWords making.old.constants words → HasWords making.new.constants ((words ++ constants_of own.now) ++ of_each constants_of used.now)) }
     ensures operators { OnOk result ((said : List (Row (IsFixity × ℕ))) → KnowsOperators making.old.operators said → KnowsOperators making.new.operators (said ++ map fixity_row own.now.fixities.items)) }
     ensures grown { OnOk result (Grows making.old making.new) }
-    ensures kinds { IfOk result (λ sights. AreAlike sights.items (length used.now) → (said : List (Row IsSaid)) → Knows making.old.names said → All (λ u. MeansKinds ((said ++ said_of own.now) ++ of_each said_of used.now) u.kinds.items) used.now) }
     ensures own { OnOk result ((said : List (Row IsSaid)) (words : List (List ℕ)) → Knows making.old.names said → HasWords making.old.constants words → AreCounted making.old.bodies.types.bank making.old.constants → IsOrdered own.now →
         AreKinds (said ++ said_of own.now) (kind_names own.now) → AreNew words own.now.constants.items → SeenSo making.new ((said ++ said_of own.now) ++ of_each said_of used.now) own.now) }
     ensures seen { IfOk result (λ sights. (said : List (Row IsSaid)) (words : List (List ℕ)) → Knows making.old.names said → HasWords making.old.constants words → AreCounted making.old.bodies.types.bank making.old.constants → IsOrdered own.now →

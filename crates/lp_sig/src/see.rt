@@ -6,12 +6,11 @@ ghost use Rattle.lp_term.specs.Nodes.{Nodes, Extends, type_tree};
 ghost use Rattle.lp_term.specs.declared.node.TypeId.{TypeId};
 ghost use Rattle.lp_standard.specs.declared.fixity.Fixity.{Fixity as IsFixity};
 ghost use Rattle.lp_sig.specs.Rows.{Row, fixity_row};
-ghost use Rattle.lp_sig.specs.Said.{Said, a_kind};
-ghost use Rattle.lp_sig.specs.Words.{meaning_of};
+ghost use Rattle.lp_sig.specs.Said.{Said};
 ghost use Rattle.lp_sig.specs.Knowing.{Knows, KnowsOperators};
 ghost use Rattle.lp_sig.specs.Modules.{kind_said, abbreviation_said, said_of, constants_of};
 ghost use Rattle.lp_sig.specs.Worded.{HasWords, is_met_word};
-ghost use Rattle.lp_sig.specs.Named.{NamedTy, named, kind_name, kind_names, IsWhole, IsOrdered, MeansKinds};
+ghost use Rattle.lp_sig.specs.Named.{NamedTy, named, kind_name, kind_names, IsWhole, IsOrdered};
 ghost use Rattle.lp_sig.specs.Sighted.{said_kinds, HasItsNumber, AreKinds, AreKindsHere, AreSeenTypes, AreCounted, GrowsBehind, PutsBehind, IsCountedEntry, IsSeenEntry, AreNew, SeenSo};
 ghost use Rattle.lp_sig.specs.AsWritten.{bodies_of, HasWholeBodies};
 ghost use Rattle.lp_sig.specs.inner.Given.{GivesBodies};
@@ -109,8 +108,7 @@ const NO_KIND: u32 = u32::MAX;
 impl Names {
     // A kind that was announced, with its number here.
     fn kind_seen(&self, name: &[u8], arity: u32) -> (u32, Sight)
-        ensures number { (said : List (Row Said)) → Knows self.now said → HasItsNumber said name.now result }
-        ensures alike { result.1 ≡ Alike → (said : List (Row Said)) → Knows self.now said → meaning_of name.now said ≡ Some (a_kind arity) }
+        ensures { (said : List (Row Said)) → Knows self.now said → HasItsNumber said name.now result }
     {
         match self.meaning(name) {
             Some(Meaning::Kind(number, known)) => {
@@ -129,7 +127,6 @@ impl Names {
     fn see_kind(&mut self, entry: &KindEntry) -> Result<(u32, Sight), Memory>
         ensures names { OnOk result ((said : List (Row Said)) → Knows self.old said → Knows self.new (said ++ kind_said entry.now ∷ [])) }
         ensures number { IfOk result (λ r. (said : List (Row Said)) → Knows self.old said → HasItsNumber (said ++ kind_said entry.now ∷ []) entry.now.name.items r) }
-        ensures alike { IfOk result (λ r. r.1 ≡ Alike → (said : List (Row Said)) → Knows self.old said → meaning_of entry.now.name.items (said ++ kind_said entry.now ∷ []) ≡ Some (a_kind entry.now.arity)) }
     {
         self.announce_kind(entry.name.as_slice(), entry.arity as u32)?;
         Ok(self.kind_seen(entry.name.as_slice(), entry.arity as u32))
@@ -141,7 +138,6 @@ impl Names {
         kinds: &mut IndexMap<u32, u32>,
     ) -> Result<Sight, Memory>
         ensures names { OnOk result ((said : List (Row Said)) → Knows self.old said → Knows self.new (said ++ map kind_said entries.now)) }
-        ensures alike { IfOk result (λ s. s ≡ Alike → (said : List (Row Said)) → Knows self.old said → MeansKinds (said ++ map kind_said entries.now) entries.now) }
         ensures here { IfOk result (λ s. (said : List (Row Said)) → Knows self.old said → map (λ e. e.number) entries.now ≡ range_with_len 8 (length entries.now) → ((k n : ℕ) → get nat_eq kinds.old k ≡ Some n → ⊥) → (s ≡ Alike) ⊎ AreKinds (said ++ map kind_said entries.now) (map (λ e. e.name.items) entries.now) → AreKindsHere (said ++ map kind_said entries.now) (map (λ e. e.name.items) entries.now) kinds.new) }
     {
         let mut all = Sight::Alike;
@@ -337,7 +333,6 @@ impl Making {
         ensures operators { self.new.operators ≡ self.old.operators }
         ensures kept { Extends self.old.bodies.types.bank self.new.bodies.types.bank }
         ensures grown { OnOk result (GrowsBehind self.old.constants self.new.constants) }
-        ensures kinds { IfOk result (λ s. s ≡ Alike → (said : List (Row Said)) → Knows self.old.names said → MeansKinds (said ++ said_of signature.now) signature.now.kinds.items) }
         ensures seen { IfOk result (λ s. (said : List (Row Said)) (words : List (List ℕ)) → Knows self.old.names said → HasWords self.old.constants words → AreCounted self.old.bodies.types.bank self.old.constants → IsOrdered signature.now →
             (s ≡ Alike) ⊎ (AreKinds (said ++ said_of signature.now) (kind_names signature.now) × AreNew words signature.now.constants.items) → AreCounted self.new.bodies.types.bank self.new.constants × SeenSo self.new (said ++ said_of signature.now) signature.now) }
         ensures given { IfOk result (λ s. (said : List (Row Said)) (rows : List (Row NamedTy)) → Knows self.old.names said → GivesBodies self.old.bodies.types.bank self.old.bodies.bodies.items said rows → IsOrdered signature.now → HasWholeBodies signature.now →

@@ -17,7 +17,6 @@ use Rattle.lp_sig.specs.Sights.{AreWordsAlike, signature_words, module_words, Ar
 use Rattle.lp_sig.specs.Modules.{declarations, said_of, constants_of, of_each, said_in_module, constant_names, numbered_names, IsApart}
 use Rattle.lp_sig.specs.Worded.{HasWords}
 use Rattle.lp_sig.proofs.KnownConstants.{making_then, counted_none, counted_later}
-use Rattle.lp_sig.proofs.MeantKinds.{all_mean_later}
 use Rattle.lp_sig.proofs.Sights.{all_alike}
 use Rattle.lp_sig.proofs.TheirTypes.{own_kinds, own_new, their_kinds, their_room, has_named}
 use Rattle.lp_sig.proofs.Viewing.{seen_stays}
@@ -73,7 +72,6 @@ returns-clause-theirs c =
       own_ones = λ apart ordered. has_named m s said c.in_ok-signature.ensures.bank c.in_ok-signature.ensures.typed kinds own ordered
           (seen_stays c.see_all.new.making m (said_of own ++ of_each said_of used) (said_in text ds) own ordered g.bank g.constants
           (c.in_ok-sights.ensures.own [] [] c.new-making.ensures.names c.new-making.ensures.words none ordered (here apart) (own_new own apart)));
-      used_kinds = λ few. all_mean_later (said_of own ++ of_each said_of used) (said_in text ds) used (c.in_ok-sights.ensures.kinds (λ i l. alike i (omega (arith, l, few))) [] c.new-making.ensures.names);
       used_ones = λ apart ordered all i u at below.
           let l = slice_get_within used i u at in
           let o : IsOrdered u = subst IsOrdered (same_Some (get_or used i u) u (sym (slice_get-get_or used i u l) ∙ at)) (all i u l) in

@@ -59,7 +59,3 @@ returns-clause-given c = λ said rows k g ordered whole kinds used used_whole al
     (subst (λ n. Knows n (said ++ said_of c.args.own.now)) (sym c.see_fixities.ensures.names) (c.in_ok-see.ensures.names said k))
     (subst (λ b. GivesBodies b.types.bank b.bodies.items (said ++ said_of c.args.own.now) (rows ++ bodies_of c.args.own.now)) (sym c.see_fixities.ensures.bodies)
     (c.in_ok-see.ensures.given said rows k g ordered whole (inr kinds)))
-
-pub returns-clause-kinds : goal.returns-clause-kinds
-returns-clause-kinds c = λ alike said k.
-    c.in_ok-sights.ensures.kinds alike (said ++ said_of c.args.own.now) (subst (λ n. Knows n (said ++ said_of c.args.own.now)) (sym c.see_fixities.ensures.names) (c.in_ok-see.ensures.names said k))

@@ -5,10 +5,7 @@ use Rattle.std.proofs.Common.{◌++◌, ◌∙◌, ◌+◌, [], ◌∷◌, lengt
 use Rattle.std.proofs.lemmas.List.{length-append}
 use Rattle.lp_sig.specs.Knowing.{Knows}
 use Rattle.lp_sig.specs.Modules.{of_each, said_of, constants_of}
-use Rattle.lp_sig.specs.Named.{IsOrdered, MeansKinds}
-use Rattle.std.specs.Prelude.{All}
-use Rattle.lp_sig.specs.declared.signature.Signature.{Signature}
-use Rattle.lp_sig.proofs.MeantKinds.{one_more_means}
+use Rattle.lp_sig.specs.Named.{IsOrdered}
 use Rattle.lp_sig.specs.Sighted.{SeenSo}
 use Rattle.lp_sig.specs.Worded.{HasWords}
 use Rattle.lp_sig.proofs.KnownConstants.{making_same, making_then}
@@ -26,7 +23,6 @@ loop-at-init c = record {
   low = omega arith;
   counted = λ said words k h all ordered alike. all;
   seen = λ said words k h all ordered n low alike i below. absurd (omega (arith, low, below));
-  kinds = λ alike said k i d l. absurd (omega (arith, l));
   given = λ ordered whole alike said rows k g. subst (λ s. GivesBodies c.args.making.now.bodies.types.bank c.args.making.now.bodies.bodies.items s (rows ++ [])) (sym (append-nil said))
       (subst (GivesBodies c.args.making.now.bodies.types.bank c.args.making.now.bodies.bodies.items said) (sym (append-nil rows)) g);
 }
@@ -60,10 +56,6 @@ loop-at-preserved c = record {
       (c.loop-at.invariant.counted said words k h all ordered alike) (at_is IsOrdered c.args.used.now c.loop-at.at c.index-used-at.result
       c.loop-at-test.true c.index-used-at.is ordered) (inl s)).1)
       n low alike i below u found);
-  kinds = λ alike said k.
-      let y = last_alike c.loop-at.sights.items c.push.new.self.items c.in_ok-sight.sight c.loop-at.at c.in_ok-push.ensures.items c.loop-at.invariant.count alike in
-      one_more_means said c.args.used.now c.loop-at.at c.index-used-at.result c.loop-at-test.true c.index-used-at.is (c.loop-at.invariant.kinds y.0 said k)
-      (c.in_ok-sight.ensures.kinds y.1 (said ++ of_each said_of (take c.loop-at.at c.args.used.now)) (c.loop-at.invariant.names said k));
   given = λ ordered whole alike said rows k g.
       let at = c.loop-at.at in
       let used = c.args.used.now in
@@ -101,8 +93,3 @@ pub returns-clause-given : goal.returns-clause-given
 returns-clause-given c = λ ordered whole alike.
     subst (λ ss. GivesMore c.args.making.now c.loop-at.making (of_each said_of ss) (of_each bodies_of ss)) (take_all c.loop-at.at c.args.used.now c.loop-at-test.false)
     (c.loop-at.invariant.given ordered whole (subst (AreAlike c.loop-at.sights.items) (let e = c.loop-at-test.false in let l = c.loop-at.invariant.low in let same : length c.args.used.now ≡ c.loop-at.at = omega (arith, e, l) in same) alike))
-
-pub returns-clause-kinds : goal.returns-clause-kinds
-returns-clause-kinds c = λ alike said k.
-    subst (λ ss. All (λ (u : Signature). MeansKinds (said ++ of_each said_of ss) u.kinds.items) ss) (take_all c.loop-at.at c.args.used.now c.loop-at-test.false)
-    (c.loop-at.invariant.kinds (subst (AreAlike c.loop-at.sights.items) (let e = c.loop-at-test.false in let l = c.loop-at.invariant.low in let same : length c.args.used.now ≡ c.loop-at.at = omega (arith, e, l) in same) alike) said k)

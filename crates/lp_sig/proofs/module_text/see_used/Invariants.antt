@@ -6,7 +6,7 @@ use Rattle.lp_sig.specs.Rows.{Row}
 use Rattle.lp_sig.specs.Said.{Said}
 use Rattle.lp_sig.specs.Knowing.{Knows}
 use Rattle.lp_sig.specs.Modules.{of_each, said_of, constants_of}
-use Rattle.lp_sig.specs.Named.{IsOrdered, MeansKinds}
+use Rattle.lp_sig.specs.Named.{IsOrdered}
 use Rattle.lp_sig.specs.Sighted.{Grows, AreCounted, SeenSo}
 use Rattle.lp_sig.specs.Sights.{AreAlike}
 use Rattle.lp_sig.specs.Worded.{HasWords}
@@ -27,6 +27,5 @@ invariant-loop-at l = record {
   seen : (said : List (Row Said)) (words : List (List ℕ)) → Knows l.fn.making.names said → HasWords l.fn.making.constants words → AreCounted
       l.fn.making.bodies.types.bank l.fn.making.constants → All IsOrdered l.used →
       (n : ℕ) → n ≤ l.at → AreAlike l.sights.items n → (i : ℕ) → i < n → (u : Signature) → slice_get l.used i ≡ Some u → SeenSo l.making (said ++ of_each said_of (take l.at l.used)) u;
-  kinds : AreAlike l.sights.items l.at → (said : List (Row Said)) → Knows l.fn.making.names said → All (λ u. MeansKinds (said ++ of_each said_of (take l.at l.used)) u.kinds.items) (take l.at l.used);
   given : All IsOrdered l.used → All HasWholeBodies l.used → AreAlike l.sights.items l.at → GivesMore l.fn.making l.making (of_each said_of (take l.at l.used)) (of_each bodies_of (take l.at l.used));
 }

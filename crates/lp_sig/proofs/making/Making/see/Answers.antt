@@ -12,12 +12,11 @@ use Rattle.lp_term.specs.Nodes.{Extends, type_tree}
 use Rattle.lp_term.proofs.Trees.{extends-trans}
 use Rattle.lp_sig.specs.Knowing.{Knows}
 use Rattle.lp_sig.specs.Modules.{kind_said, abbreviation_said, said_of}
-use Rattle.lp_sig.specs.Named.{kind_names, named, kind_name, IsWhole, MeansKinds, NamedTy}
+use Rattle.lp_sig.specs.Named.{kind_names, named, kind_name, IsWhole, NamedTy}
 use Rattle.lp_sig.specs.Sighted.{said_kinds, AreKinds, AreKindsHere, AreSeenTypes, AreCounted, IsCountedEntry, IsSeenEntry, AreNew, GrowsBehind}
 use Rattle.lp_sig.specs.Worded.{HasWords}
 use Rattle.lp_sig.specs.declared.see.Sight.TheVariants.{Alike}
 use Rattle.lp_sig.proofs.KnownConstants.{counted_later}
-use Rattle.lp_sig.proofs.MeantKinds.{means_later}
 use Rattle.lp_sig.proofs.Viewing.{left_by, seen_whole, kinds_by_then}
 use Rattle.lp_sig.proofs.making.Making.see.Goals as goal
 
@@ -96,11 +95,3 @@ returns-clause-given c = λ said rows k g ordered whole premise.
     (c.in_ok-of_abbreviations.ensures.given u.bank (kind_names u) (said ++ map kind_said u.kinds.items) rows kinds_then first (subst (AreSeenTypes u.bank here (kind_names u) names) (sym c.as_slice.ensures.value) types)) whole in
     given_bank there.types.bank c.see_all.new.types.bank there.bodies.items (said ++ said_of u) (rows ++ bodies_of u) c.see_all.ensures.kept
     (subst (λ s. GivesBodies there.types.bank there.bodies.items s (rows ++ bodies_of u)) (append_assoc said (map kind_said u.kinds.items) (map abbreviation_said u.abbreviations.items)) second)
-
-pub returns-clause-kinds : goal.returns-clause-kinds
-returns-clause-kinds c = λ q said k.
-    let s = c.args.signature.now in
-    let first : MeansKinds (said ++ map kind_said s.kinds.items) s.kinds.items =
-    subst (λ es. MeansKinds (said ++ map kind_said es) es) c.kinds.ensures (c.in_ok-of_kinds.ensures.alike (c.and.ensures (c.and-2.ensures q).0).0 said k) in
-    subst (λ r. MeansKinds r s.kinds.items) (append_assoc said (map kind_said s.kinds.items) (map abbreviation_said s.abbreviations.items))
-    (means_later (said ++ map kind_said s.kinds.items) (map abbreviation_said s.abbreviations.items) s.kinds.items first)

@@ -1,6 +1,5 @@
-use Rattle.std.proofs.Common.{◌≡◌, ◌++◌, ◌∷◌, [], Some, subst}
+use Rattle.std.proofs.Common.{◌++◌, ◌∷◌, [], subst}
 use Rattle.lp_sig.specs.Said.{a_kind}
-use Rattle.lp_sig.specs.Words.{meaning_of}
 use Rattle.lp_sig.specs.Knowing.{Knows}
 use Rattle.lp_sig.specs.Modules.{kind_said}
 use Rattle.lp_sig.specs.Sighted.{HasItsNumber}
@@ -13,10 +12,4 @@ pub returns-clause-number : goal.returns-clause-number
 returns-clause-number c = λ said k.
     let rows = said ++ kind_said c.args.entry.now ∷ [] in
     subst (λ n. HasItsNumber rows n c.kind_seen.result) c.as_slice-2.ensures.value
-    (c.kind_seen.ensures.number rows (subst (λ n. Knows c.announce_kind.new.self (said ++ (n, a_kind c.args.entry.now.arity) ∷ [])) c.as_slice.ensures.value (c.in_ok-announce_kind.ensures said k)))
-
-pub returns-clause-alike : goal.returns-clause-alike
-returns-clause-alike c = λ q said k.
-    let rows = said ++ kind_said c.args.entry.now ∷ [] in
-    subst (λ n. meaning_of n rows ≡ Some (a_kind c.args.entry.now.arity)) c.as_slice-2.ensures.value
-    (c.kind_seen.ensures.alike q rows (subst (λ n. Knows c.announce_kind.new.self (said ++ (n, a_kind c.args.entry.now.arity) ∷ [])) c.as_slice.ensures.value (c.in_ok-announce_kind.ensures said k)))
+    (c.kind_seen.ensures rows (subst (λ n. Knows c.announce_kind.new.self (said ++ (n, a_kind c.args.entry.now.arity) ∷ [])) c.as_slice.ensures.value (c.in_ok-announce_kind.ensures said k)))

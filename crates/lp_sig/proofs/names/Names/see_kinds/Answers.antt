@@ -1,17 +1,15 @@
-use Rattle.std.proofs.Common.{◌++◌, map, sym, subst, take, take_all, append-nil, arith}
+use Rattle.std.proofs.Common.{◌++◌, map, sym, subst, take, take_all, append-nil}
 use Rattle.std.specs.Prelude.{nat_eq}
 use Rattle.indexmap.specs.IndexMap.{get}
 use Rattle.lp_sig.specs.Knowing.{Knows}
 use Rattle.lp_sig.specs.Modules.{kind_said}
 use Rattle.lp_sig.specs.Sighted.{HasItsNumber}
 use Rattle.lp_sig.proofs.Worded.{mapped_at}
-use Rattle.lp_sig.specs.Named.{MeansKinds}
-use Rattle.lp_sig.proofs.MeantKinds.{one_means}
 use Rattle.lp_sig.proofs.SeenKinds.{kinds_step}
 use Rattle.lp_sig.proofs.names.Names.see_kinds.Goals as goal
 
 pub loop-at-init : goal.loop-at-init
-loop-at-init c = ((λ said k. subst (Knows c.args.self.now) (sym (append-nil said)) k), λ said k numbers none premise j n found. absurd (none j n found), λ q said k i d l. absurd (omega (arith, l)))
+loop-at-init c = ((λ said k. subst (Knows c.args.self.now) (sym (append-nil said)) k), λ said k numbers none premise j n found. absurd (none j n found))
 
 pub loop-at-preserved : goal.loop-at-preserved
 loop-at-preserved c =
@@ -29,10 +27,6 @@ loop-at-preserved c =
           (subst (λ r. HasItsNumber r e.name.items (c.in_ok-number.number, c.in_ok-number.sight)) (mapped_at kind_said es i e said c.loop-at-test.true e_is)
           (c.in_ok-number.ensures.number (said ++ map kind_said (take i es)) (c.loop-at.invariant.0 said k)))
           (λ premise. c.loop-at.invariant.1 said k numbers none premise)),
-      (λ q said k.
-          let both = c.and-all.ensures q in
-          one_means said es i e c.loop-at-test.true c.index-entries-at.is (c.loop-at.invariant.2 both.0 said k)
-          (c.in_ok-number.ensures.alike both.1 (said ++ map kind_said (take i es)) (c.loop-at.invariant.0 said k))),
     )
 
 pub returns-clause-names : goal.returns-clause-names
@@ -40,6 +34,3 @@ returns-clause-names c = λ said k. subst (λ es. Knows c.loop-at.self (said ++ 
 
 pub returns-clause-here : goal.returns-clause-here
 returns-clause-here c = λ said k numbers none premise j n found. (c.loop-at.invariant.1 said k numbers none premise j n found).1
-
-pub returns-clause-alike : goal.returns-clause-alike
-returns-clause-alike c = λ q said k. subst (λ es. MeansKinds (said ++ map kind_said es) es) (take_all c.loop-at.at c.args.entries.now c.loop-at-test.false) (c.loop-at.invariant.2 q said k)

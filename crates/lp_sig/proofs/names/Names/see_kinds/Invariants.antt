@@ -6,7 +6,7 @@ use Rattle.lp_sig.specs.Rows.{Row}
 use Rattle.lp_sig.specs.Said.{Said}
 use Rattle.lp_sig.specs.Knowing.{Knows}
 use Rattle.lp_sig.specs.Modules.{kind_said}
-use Rattle.lp_sig.specs.Named.{kind_name, MeansKinds}
+use Rattle.lp_sig.specs.Named.{kind_name}
 use Rattle.lp_sig.specs.Sighted.{said_kinds, AreKinds}
 use Rattle.lp_sig.specs.declared.see.Sight.TheVariants.{Alike}
 use Rattle.lp_sig.proofs.names.Names.see_kinds.Given as goal
@@ -16,5 +16,4 @@ invariant-loop-at l =
     ((said : List (Row Said)) → Knows l.fn.self said → Knows l.self (said ++ map kind_said (take l.at l.entries))) ×
     ((said : List (Row Said)) → Knows l.fn.self said → map (λ e. e.number) l.entries ≡ range_with_len 8 (length l.entries) → ((k n : ℕ) → get nat_eq l.fn.kinds k ≡ Some n → ⊥) →
     (l.all ≡ Alike) ⊎ AreKinds (said ++ map kind_said l.entries) (map (λ e. e.name.items) l.entries) → (k n : ℕ) → get nat_eq l.kinds k ≡ Some n →
-    (k < 8 + l.at) × (kind_name (said_kinds (said ++ map kind_said l.entries)) n ≡ kind_name (map (λ e. e.name.items) l.entries) k)) ×
-    (l.all ≡ Alike → (said : List (Row Said)) → Knows l.fn.self said → MeansKinds (said ++ map kind_said (take l.at l.entries)) (take l.at l.entries))
+    (k < 8 + l.at) × (kind_name (said_kinds (said ++ map kind_said l.entries)) n ≡ kind_name (map (λ e. e.name.items) l.entries) k))
