@@ -46,7 +46,7 @@ no_kinds (e ∷ es) known = by (is_among e.name.items known) (no_kinds es known)
     by true p q = p
     by false p q = q
 
-heads_before : (es : List KindEntry) (known : List (List ℕ)) (said : List (Row Said)) → abbreviations_among (firsts known (said ++ map kind_said es)) ≡ abbreviations_among (firsts known said)
+pub heads_before : (es : List KindEntry) (known : List (List ℕ)) (said : List (Row Said)) → abbreviations_among (firsts known (said ++ map kind_said es)) ≡ abbreviations_among (firsts known said)
 heads_before es known [] = no_heads es known
 heads_before es known ((n, a_kind c) ∷ rs) = by (is_among n known) (heads_before es known rs) (heads_before es (n ∷ known) rs)
   where

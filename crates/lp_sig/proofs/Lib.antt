@@ -67,8 +67,17 @@ pub mod Sights
 pub mod TheirTypes
 pub mod SeenKinds
 pub mod FreeTypes
+pub mod MeantKinds
 pub mod SeenTypes
 pub mod Refusing
 pub mod GivenBodies
 pub mod Reading
 pub mod DeclaredTypes
+pub mod WholeTypes
+pub mod SeenUses
+pub mod Told
+pub mod ToldKinds
+pub mod TypesHere
+pub mod ToldConstants
+pub mod ToldBodies
+pub mod ToldSignatures

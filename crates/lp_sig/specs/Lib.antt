@@ -33,4 +33,6 @@ pub mod Same
 pub mod Sights
 pub mod ModuleFaults
 pub mod AsWritten
+pub mod GoingTogether
 pub mod inner
+pub mod SeenByModules

@@ -1,2 +1,4 @@
 pub mod Given
 pub mod Reading
+pub mod Noting
+pub mod Telling

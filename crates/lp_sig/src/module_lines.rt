@@ -7,17 +7,22 @@ ghost use Rattle.lp_syntax.specs.declared.text.Declaration.{Declaration as IsDec
 ghost use Rattle.lp_sig.specs.Rows.{Row};
 ghost use Rattle.lp_sig.specs.Said.{Said as IsSaid, a_kind, each, is_among};
 ghost use Rattle.lp_sig.specs.Knowing.{Knows};
+ghost use Rattle.lp_sig.specs.Abbreviations.{Seen as IsSeen, KnowsUses};
+ghost use Rattle.lp_sig.specs.Faults.{IsSoundAbbreviation};
 ghost use Rattle.lp_syntax.specs.declared.text.RawType.{RawType as IsRawType};
 ghost use Rattle.lp_sig.specs.Limits.{IsShort, AreShort};
-ghost use Rattle.lp_sig.specs.Words.{IsMeant, AreMeant, IsNumbered, AreNumbered, IsKindsFault, IsSoundType, IsHead, WordsStand, parameters_of, IsNameFault};
+ghost use Rattle.lp_sig.specs.Words.{IsMeant, AreMeant, IsNumbered, AreNumbered, IsKindsFault, IsSoundType, IsNameFault};
 ghost use Rattle.lp_sig.specs.Modules.{constant_names_by, constant_names_in, first_names, local_names};
-ghost use Rattle.lp_sig.specs.ModuleFaults.{exports_kind, exports_constant, differs_at, blamed_by, kind_names_in, IsFirstOf, IsLocalFault, IsLocal, IsLocalKindsFault, IsKnownFault, IsNewFault, AreConstantsWrong, AreLocalsWrong, IsAbbreviationWrong, IsWordFault, IsLineFault, IsLineTaken, IsNewLocal, IsTypeFault, AreLocalKindsRefused, AreLocalKindsTaken, AreLocalsRefused, AreLocalsTaken};
+ghost use Rattle.lp_sig.specs.ModuleFaults.{exports_kind, exports_constant, differs_at, blamed_by, kind_names_in, IsFirstOf, IsLocalFault, IsLocal, IsLocalKindsFault, IsKnownFault, IsNewFault, AreConstantsWrong, AreLocalsWrong, IsAbbreviationWrong, AreModulesRefused, AreModulesTaken, AreSignaturesRefused, AreSignaturesTaken, IsLineFault, IsLineTaken, IsNewLocal, IsTypeFault, AreLocalKindsRefused, AreLocalKindsTaken, AreLocalsRefused, AreLocalsTaken};
 ghost use Rattle.lp_sig.specs.declared.fault.SigFault.{SigFault as IsFault};
 ghost use Rattle.lp_sig.specs.declared.fault.SigFault.TheVariants as reason;
 ghost use Rattle.lp_sig.specs.declared.module_fault.ModuleSigFault.TheVariants as wrong;
 ghost use Rattle.lp_sig.specs.Sighted.{Grows};
 ghost use Rattle.lp_sig.specs.Sights.{HasKeys, HasNumbers, IsAlike, AreWordsAlike};
 ghost use Rattle.lp_sig.specs.declared.see.Sight.TheVariants.{Alike};
+ghost use Rattle.lp_sig.specs.declared.see.Sight.{Sight as IsSight};
+ghost use Rattle.lp_sig.specs.declared.signature.Signature.{Signature as IsSignature};
+ghost use Rattle.lp_sig.specs.inner.Telling.{IsBlamed, AreSights};
 ghost use Rattle.lp_sig.specs.Worded.{HasWords};
 ghost use Rattle.lp_sig.specs.Constants.{written_in};
 ghost use Rattle.lp_sig.specs.AsWritten.{typed_locals, typed_by};
@@ -39,7 +44,7 @@ use lp_syntax::{Declaration, RawType};
 // A word that names a signature.
 fn check_word(word: Spot, sight: Option<Sight>) -> Result<(), ModuleSigFault>
     ensures alike { OnOk result (sight ≡ Some Alike) }
-    ensures refused { IfErr result (λ e. (e ≡ wrong.Sig reason.Memory) ⊎ IsWordFault (word ∷ []) e) }
+    ensures refused { IfErr result (λ e. (e ≡ wrong.Sig reason.Memory) ⊎ ((s : IsSight) × (sight ≡ Some s) × IsBlamed word s e)) }
 {
     match sight {
         Some(Sight::Alike) => Ok(()),
@@ -227,6 +232,7 @@ impl<'a> ModuleLines<'a> {
     ) -> Result<(), ModuleSigFault>
         ensures names { making.new.names ≡ making.old.names }
         ensures operators { making.new.operators ≡ making.old.operators }
+        ensures uses { making.new.uses ≡ making.old.uses }
         ensures grown { OnOk result (Grows making.old making.new) }
         ensures words { OnOk result ((words : List (List ℕ)) → HasWords making.old.constants words → HasWords making.new.constants (words ++ map (λ s. spelled self.now.source.now s) names.now)) }
         ensures kept { making.new.bodies.bodies ≡ making.old.bodies.bodies }
@@ -270,6 +276,7 @@ impl<'a> ModuleLines<'a> {
     ) -> Result<(), ModuleSigFault>
         ensures names { making.new.names ≡ making.old.names }
         ensures operators { making.new.operators ≡ making.old.operators }
+        ensures uses { making.new.uses ≡ making.old.uses }
         ensures grown { OnOk result (Grows making.old making.new) }
         ensures words { OnOk result ((words : List (List ℕ)) → HasWords making.old.constants words → HasWords making.new.constants (words ++ spelled self.now.source.now name ∷ [])) }
         ensures kept { making.new.bodies.bodies ≡ making.old.bodies.bodies }
@@ -296,6 +303,7 @@ impl<'a> ModuleLines<'a> {
     ) -> Result<(), ModuleSigFault>
         ensures names { making.new.names ≡ making.old.names }
         ensures operators { making.new.operators ≡ making.old.operators }
+        ensures uses { making.new.uses ≡ making.old.uses }
         ensures grown { OnOk result (Grows making.old making.new) }
         ensures words { OnOk result ((words : List (List ℕ)) → HasWords making.old.constants words → HasWords making.new.constants (words ++ map (λ s. spelled self.now.source.now s) names.now)) }
         ensures kept { making.new.bodies.bodies ≡ making.old.bodies.bodies }
@@ -341,6 +349,7 @@ impl<'a> ModuleLines<'a> {
     ) -> Result<(), ModuleSigFault>
         ensures names { making.new.names ≡ making.old.names }
         ensures operators { making.new.operators ≡ making.old.operators }
+        ensures uses { making.new.uses ≡ making.old.uses }
         ensures grown { OnOk result (Grows making.old making.new) }
         ensures words { OnOk result ((words : List (List ℕ)) → HasWords making.old.constants words → HasWords making.new.constants (words ++ map (λ s. spelled self.now.source.now s) names.now)) }
         ensures kept { making.new.bodies.bodies ≡ making.old.bodies.bodies }
@@ -387,6 +396,7 @@ impl<'a> ModuleLines<'a> {
     ) -> Result<(), ModuleSigFault>
         ensures names { making.new.names ≡ making.old.names }
         ensures operators { making.new.operators ≡ making.old.operators }
+        ensures uses { making.new.uses ≡ making.old.uses }
         ensures grown { OnOk result (Grows making.old making.new) }
         ensures words { OnOk result ((words : List (List ℕ)) → HasWords making.old.constants words → HasWords making.new.constants (words ++ local_names self.now.source.now names.now raw.now)) }
         ensures kept { making.new.bodies.bodies ≡ making.old.bodies.bodies }
@@ -412,8 +422,9 @@ impl<'a> ModuleLines<'a> {
         ensures grown { OnOk result (Grows making.old making.new) }
         ensures constants { making.new.constants ≡ making.old.constants }
         ensures kept { making.new.bodies.bodies ≡ making.old.bodies.bodies }
-        ensures refused { (said : List (Row IsSaid)) → Knows making.old.names said → IfErr result (λ e. (e ≡ wrong.Sig reason.Memory) ⊎ ((f : IsFault) × IsAbbreviationWrong self.now.source.now said name parameters.now raw.now f × (e ≡ blamed_by (exports_kind self.now.own.now) self.now.source.now f))) }
-        ensures taken { (said : List (Row IsSaid)) → Knows making.old.names said → IfOk result (λ done. IsHead self.now.source.now said name parameters.now × WordsStand self.now.source.now said (parameters_of self.now.source.now parameters.now) raw.now.nodes.items) }
+        ensures uses { making.new.uses ≡ making.old.uses }
+        ensures refused { (z : IsSeen) → Knows making.old.names z.said → KnowsUses (map (λ out. out.items) making.old.uses.ways.items) z → IfErr result (λ e. (e ≡ wrong.Sig reason.Memory) ⊎ ((f : IsFault) × IsAbbreviationWrong self.now.source.now z name parameters.now raw.now f × (e ≡ blamed_by (exports_kind self.now.own.now) self.now.source.now f))) }
+        ensures taken { (z : IsSeen) → Knows making.old.names z.said → KnowsUses (map (λ out. out.items) making.old.uses.ways.items) z → IfOk result (λ done. IsSoundAbbreviation self.now.source.now z name parameters.now raw.now) }
     {
         match making.declare_abbreviation(self.source, name, parameters, raw) {
             Ok(()) => Ok(()),
@@ -423,7 +434,8 @@ impl<'a> ModuleLines<'a> {
 
     fn accumulate(&self, words: &[Spot]) -> Result<(), ModuleSigFault>
         ensures alike { OnOk result ((signatures modules : List (List ℕ)) → HasNumbers self.now.said.now.accum_sigs signatures → HasNumbers self.now.said.now.accumulates modules → All (IsAlike self.now.sights.now (length (first_names [] signatures)) modules) (map (λ s. spelled self.now.source.now s) words.now)) }
-        ensures refused { IfErr result (λ e. (e ≡ wrong.Sig reason.Memory) ⊎ IsWordFault words.now e) }
+        ensures refused { (used : List IsSignature) (ds : List IsDeclaration) → AreSights self.now.own.now used self.now.source.now self.now.said.now self.now.sights.now ds → IfErr result (λ e. (e ≡ wrong.Sig reason.Memory) ⊎ AreModulesRefused self.now.own.now used self.now.source.now ds words.now e) }
+        ensures taken { (used : List IsSignature) (ds : List IsDeclaration) → AreSights self.now.own.now used self.now.source.now self.now.said.now self.now.sights.now ds → IfOk result (λ done. AreModulesTaken self.now.own.now used self.now.source.now ds words.now) }
     {
         for word in words {
             let sight = self
@@ -436,7 +448,8 @@ impl<'a> ModuleLines<'a> {
 
     fn accum_sig(&self, words: &[Spot]) -> Result<(), ModuleSigFault>
         ensures alike { OnOk result ((signatures : List (List ℕ)) → HasNumbers self.now.said.now.accum_sigs signatures → All (IsAlike self.now.sights.now 0 signatures) (map (λ s. spelled self.now.source.now s) words.now)) }
-        ensures refused { IfErr result (λ e. (e ≡ wrong.Sig reason.Memory) ⊎ IsWordFault words.now e) }
+        ensures refused { (used : List IsSignature) (ds : List IsDeclaration) → AreSights self.now.own.now used self.now.source.now self.now.said.now self.now.sights.now ds → IfErr result (λ e. (e ≡ wrong.Sig reason.Memory) ⊎ AreSignaturesRefused self.now.own.now used self.now.source.now ds words.now e) }
+        ensures taken { (used : List IsSignature) (ds : List IsDeclaration) → AreSights self.now.own.now used self.now.source.now self.now.said.now self.now.sights.now ds → IfOk result (λ done. AreSignaturesTaken self.now.own.now used self.now.source.now ds words.now) }
     {
         for word in words {
             let sight = self
@@ -457,11 +470,12 @@ impl<'a> ModuleLines<'a> {
         ensures operators { making.new.operators ≡ making.old.operators }
         ensures grown { OnOk result (Grows making.old making.new) }
         ensures words { OnOk result ((words : List (List ℕ)) → HasWords making.old.constants words → HasWords making.new.constants (words ++ constant_names_by self.now.source.now declaration.now)) }
+        ensures uses { making.new.uses ≡ making.old.uses }
         ensures kept { making.new.bodies.bodies ≡ making.old.bodies.bodies }
         ensures reads { OnOk result (ReadsOn making.old making.new (typed_by self.now.source.now declaration.now) (constant_names_by self.now.source.now declaration.now)) }
         ensures alike { OnOk result ((signatures modules : List (List ℕ)) → HasNumbers self.now.said.now.accum_sigs signatures → HasNumbers self.now.said.now.accumulates modules → AreWordsAlike self.now.sights.now self.now.source.now signatures modules (declaration.now ∷ [])) }
-        ensures refused { (said : List (Row IsSaid)) (ds : List IsDeclaration) → Knows making.old.names said → HasKeys self.now.said.now.kinds (kind_names_in self.now.source.now ds) → HasKeys self.now.said.now.constants (constant_names_in self.now.source.now ds) → IfErr result (λ e. (e ≡ wrong.Sig reason.Memory) ⊎ IsLineFault self.now.own.now self.now.source.now said ds declaration.now e) }
-        ensures taken { (said : List (Row IsSaid)) (ds : List IsDeclaration) → Knows making.old.names said → HasKeys self.now.said.now.kinds (kind_names_in self.now.source.now ds) → HasKeys self.now.said.now.constants (constant_names_in self.now.source.now ds) → IfOk result (λ done. IsLineTaken self.now.own.now self.now.source.now said ds declaration.now) }
+        ensures refused { (used : List IsSignature) (z : IsSeen) (ds : List IsDeclaration) → AreSights self.now.own.now used self.now.source.now self.now.said.now self.now.sights.now ds → Knows making.old.names z.said → KnowsUses (map (λ out. out.items) making.old.uses.ways.items) z → HasKeys self.now.said.now.kinds (kind_names_in self.now.source.now ds) → HasKeys self.now.said.now.constants (constant_names_in self.now.source.now ds) → IfErr result (λ e. (e ≡ wrong.Sig reason.Memory) ⊎ IsLineFault self.now.own.now used self.now.source.now z ds declaration.now e) }
+        ensures taken { (used : List IsSignature) (z : IsSeen) (ds : List IsDeclaration) → AreSights self.now.own.now used self.now.source.now self.now.said.now self.now.sights.now ds → Knows making.old.names z.said → KnowsUses (map (λ out. out.items) making.old.uses.ways.items) z → HasKeys self.now.said.now.kinds (kind_names_in self.now.source.now ds) → HasKeys self.now.said.now.constants (constant_names_in self.now.source.now ds) → IfOk result (λ done. IsLineTaken self.now.own.now used self.now.source.now z ds declaration.now) }
     {
         match declaration {
             Declaration::Kinds(names, arity) => self.kinds(making, names.as_slice(), *arity),

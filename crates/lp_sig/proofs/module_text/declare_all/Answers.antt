@@ -1,7 +1,8 @@
 use Rattle.lp_sig.proofs.Reading.{reads_same, reads_so, typed_append}
 use Rattle.lp_sig.specs.inner.Reading.{ReadsOn}
 use Rattle.lp_sig.specs.AsWritten.{typed_in}
-use Rattle.std.proofs.Common.{◌≡◌, [], ◌∷◌, ◌++◌, ◌∙◌, length, refl, sym, subst, take, take_all, append-nil, arith}
+use Rattle.std.proofs.Common.{◌≡◌, [], ◌∷◌, ◌++◌, ◌∙◌, length, map, refl, sym, subst, take, take_all, append-nil, arith}
+use Rattle.lp_sig.specs.Abbreviations.{KnowsUses}
 use Rattle.std.proofs.lemmas.List.Elements.{All-nil, All-append}
 use Rattle.lp_sig.specs.Modules.{declarations, constant_names_in, first_names}
 use Rattle.lp_sig.specs.Sights.{IsAlike, AreWordsAlike}
@@ -28,9 +29,10 @@ loop-at-init c = record {
     All-nil
         (IsAlike c.args.lines.now.sights.now (length (first_names [] signatures)) modules),
   );
-  taken = λ said ds k hk hc. All-nil (IsLineTaken c.args.lines.now.own.now c.args.lines.now.source.now said ds);
+  taken = λ used z ds given k u hk hc. All-nil (IsLineTaken c.args.lines.now.own.now used c.args.lines.now.source.now z ds);
   names = refl;
   operators = refl;
+  uses = refl;
   kept = refl;
   reads = reads_same c.args.making.now;
 }
@@ -52,15 +54,16 @@ loop-at-preserved c =
           (both_alike c.args.lines.now.sights.now text signatures modules (declarations (take c.loop-at.at lines))
           (declarations (c.index.result.now ∷ [])) (c.loop-at.invariant.alike signatures modules h k)
           (c.in_ok-declare_sentence.ensures.alike signatures modules h k));
-      taken = λ said ds k hk hc.
-          subst (All (IsLineTaken c.args.lines.now.own.now c.args.lines.now.source.now said ds))
+      taken = λ used z ds given k u hk hc.
+          subst (All (IsLineTaken c.args.lines.now.own.now used c.args.lines.now.source.now z ds))
           (lines_at lines c.loop-at.at c.index.result.now (omega (arith, c.loop-at-test.true, c.len-at-end.ensures, c.args.text.now.lines.ok))
           c.index.ensures)
-          (All-append (IsLineTaken c.args.lines.now.own.now c.args.lines.now.source.now said ds) (declarations (take c.loop-at.at lines))
-          (declarations (c.index.result.now ∷ [])) (c.loop-at.invariant.taken said ds k hk hc)
-          (c.in_ok-declare_sentence.ensures.taken said ds (subst (λ n. Knows n said) (sym c.loop-at.invariant.names) k) hk hc));
+          (All-append (IsLineTaken c.args.lines.now.own.now used c.args.lines.now.source.now z ds) (declarations (take c.loop-at.at lines))
+          (declarations (c.index.result.now ∷ [])) (c.loop-at.invariant.taken used z ds given k u hk hc)
+          (c.in_ok-declare_sentence.ensures.taken used z ds given (subst (λ n. Knows n z.said) (sym c.loop-at.invariant.names) k) (subst (λ v. KnowsUses (map (λ out. out.items) v.ways.items) z) (sym c.loop-at.invariant.uses) u) hk hc));
       names = c.declare_sentence.ensures.names ∙ c.loop-at.invariant.names;
       operators = c.declare_sentence.ensures.operators ∙ c.loop-at.invariant.operators;
+      uses = c.declare_sentence.ensures.uses ∙ c.loop-at.invariant.uses;
       kept = c.declare_sentence.ensures.kept ∙ c.loop-at.invariant.kept;
       reads =
           let before = declarations (take c.loop-at.at lines) in
@@ -90,13 +93,13 @@ returns-clause-alike c = λ signatures modules h k.
     (c.loop-at.invariant.alike signatures modules h k)
 
 pub returns-in_err-declare_sentence-clause-refused : goal.returns-in_err-declare_sentence-clause-refused
-returns-in_err-declare_sentence-clause-refused c = λ said k hk hc.
+returns-in_err-declare_sentence-clause-refused c = λ used z given k u hk hc.
     let lines = c.args.text.now.lines.items in
-    passed_up c.from_residual.result c.in_err-declare_sentence.field-0.0 (λ e. (e ≡ wrong.Sig fault.Memory) ⊎ IsFaultAmong c.args.lines.now.own.now
-    c.args.lines.now.source.now said (declarations lines) e) c.from_residual.ensures.1
-    (fault_among c.args.lines.now.own.now c.args.lines.now.source.now said lines c.loop-at.at c.index.result.now c.in_err-declare_sentence.field-0.0 (wrong.Sig fault.Memory)
-    (omega (arith, c.loop-at-test.true, c.len-at-end.ensures, c.args.text.now.lines.ok)) c.index.ensures (c.loop-at.invariant.taken said (declarations lines) k hk hc)
-    (c.in_err-declare_sentence.ensures.refused said (declarations lines) (subst (λ n. Knows n said) (sym c.loop-at.invariant.names) k) hk hc))
+    passed_up c.from_residual.result c.in_err-declare_sentence.field-0.0 (λ e. (e ≡ wrong.Sig fault.Memory) ⊎ IsFaultAmong c.args.lines.now.own.now used
+    c.args.lines.now.source.now z (declarations lines) e) c.from_residual.ensures.1
+    (fault_among c.args.lines.now.own.now used c.args.lines.now.source.now z lines c.loop-at.at c.index.result.now c.in_err-declare_sentence.field-0.0 (wrong.Sig fault.Memory)
+    (omega (arith, c.loop-at-test.true, c.len-at-end.ensures, c.args.text.now.lines.ok)) c.index.ensures (c.loop-at.invariant.taken used z (declarations lines) given k u hk hc)
+    (c.in_err-declare_sentence.ensures.refused used z (declarations lines) given (subst (λ n. Knows n z.said) (sym c.loop-at.invariant.names) k) (subst (λ v. KnowsUses (map (λ out. out.items) v.ways.items) z) (sym c.loop-at.invariant.uses) u) hk hc))
 
 pub returns-clause-kept : goal.returns-clause-kept
 returns-clause-kept c = c.loop-at.invariant.kept

@@ -24,6 +24,7 @@ loop-name-init c = record {
       (IsShort c.args.self.now.source.now));
   names = refl;
   operators = refl;
+  uses = refl;
   kept = refl;
   trees = λ words d is can. none_declared c.args.making.now.bodies.types.bank c.args.making.now.constants c.args.self.now.source.now words d can;
 }
@@ -40,6 +41,7 @@ loop-name-preserved c =
       grown = making_then c.args.making.now c.loop-name.making c.local.new.making c.loop-name.invariant.grown c.in_ok-local.ensures.grown;
       names = c.local.ensures.names ∙ c.loop-name.invariant.names;
       operators = c.local.ensures.operators ∙ c.loop-name.invariant.operators;
+      uses = c.local.ensures.uses ∙ c.loop-name.invariant.uses;
       kept = c.local.ensures.kept ∙ c.loop-name.invariant.kept;
       trees = λ words d is can.
           let i = c.loop-name.name-index in
