@@ -9,12 +9,14 @@ use Rattle.lp_sig.specs.AsWritten.{as_trees, typed_in, bodies_of}
 use Rattle.lp_sig.specs.Holding.{HoldsBodies, line_of_module}
 use Rattle.lp_sig.specs.Types.{definitions_in}
 use Rattle.std.proofs.Common.{◌+◌, ◌≤◌, refl, inl, [], ◌∷◌, ◌++◌, ◌∙◌, length, get_or, sym, ap, subst, map, append_assoc, arith}
-use Rattle.std.proofs.lemmas.Option.{same_Some, slice_get-get_or, slice_get_within}
+use Rattle.std.proofs.lemmas.Option.{get_or_from_slice_get, same_Some, slice_get-get_or, slice_get_within}
 use Rattle.lp_base.specs.declared.limits.TheConstants.{END_OF_NUMBERS}
 use Rattle.lp_sig.specs.Rows.{fixity_row}
 use Rattle.lp_sig.specs.Knowing.{Knows, KnowsOperators}
 use Rattle.lp_sig.specs.Said.{numbered, said_in}
-use Rattle.lp_sig.specs.Named.{IsOrdered, kind_names}
+use Rattle.lp_sig.specs.Named.{IsOrdered, MeansKinds, kind_names}
+use Rattle.lp_sig.specs.declared.see.Sight.TheVariants.{Alike}
+use Rattle.lp_sig.specs.declared.signature.Signature.{Signature}
 use Rattle.lp_sig.specs.Sighted.{said_kinds, AreKinds, AreCounted}
 use Rattle.lp_sig.specs.Sights.{AreWordsAlike, signature_words, module_words, AreAlike}
 use Rattle.lp_sig.specs.Modules.{declarations, said_of, constants_of, of_each, said_in_module, constant_names, numbered_names, IsApart}
