@@ -1,13 +1,14 @@
 -- The names of objects, one after the other.
 use Rattle.std.specs.Global.{Global}
 use Rattle.std.proofs.Common.{◌≡◌, ℕ, ◌+◌, ◌<◌, ◌≤◌, ◌^◌, List, [], ◌∷◌, ◌++◌, length, get_or, sym, ap, subst, ◌∙◌, arith}
-use Rattle.std.specs.Prelude.{Bool, nat_lt, All, Result, Ok, Err, IfOk, String, Vec}
+use Rattle.std.specs.Prelude.{Bool, nat_lt, All, Result, Ok, Err, IfOk, OnOk, String, Vec}
 use Rattle.std.proofs.lemmas.List.Elements.{All-nil, All-push, All-weaker}
 use Rattle.lp_base.specs.declared.limits.TheConstants.{MAX_MODULES}
 use Rattle.lp_code.specs.declared.object.Object.{Object}
 use Rattle.lp_syntax.specs.declared.text.ModuleText.{ModuleText}
 use Rattle.lp_syntax.specs.declared.text.SignatureText.{SignatureText}
 use Rattle.lp_module.specs.declared.module.Module.{Module}
+use Rattle.lp_build.specs.Limits.{IsWithinObject}
 use Rattle.lp_build.specs.Meant.{IsModuleAt}
 use Rattle.lp_build.specs.Trees.{AreTexts, no_text, one_text, other_text}
 use Rattle.lp_build.specs.inner.Wholes.{IsWhole}
@@ -76,11 +77,12 @@ found_number numbers place number other read wanted lt is same e all =
     subst (IsAt numbers place) h (lt, get_or_default numbers place number other lt ∙ sym is)
 
 pub compiled_is : (sources : Sources) (w : Whole) (number : ℕ) (m : Module) (r : Result Object BuildFault) → IsWhole sources.files.items w
-    → IsModuleOfFile sources.files.items w.texts.signatures w.texts.modules number m → (AreWithin m.bank m.clauses.items → IfOk r (IsObjectOf m)) → IfOk r (IsCompiled sources number)
-compiled_is sources w number m r whole is object = by r (object is.is.meaning.clauses)
+    → IsModuleOfFile sources.files.items w.texts.signatures w.texts.modules number m → (AreWithin m.bank m.clauses.items → IfOk r (IsObjectOf m)) → (AreWithin m.bank m.clauses.items → OnOk r (IsWithinObject m))
+    → IfOk r (IsCompiled sources number)
+compiled_is sources w number m r whole is object within = by r (object is.is.meaning.clauses) (within is.is.meaning.clauses)
   where
-    by : (r : Result Object BuildFault) → IfOk r (IsObjectOf m) → IfOk r (IsCompiled sources number)
-    by (Ok o) h = record {
+    by : (r : Result Object BuildFault) → IfOk r (IsObjectOf m) → OnOk r (IsWithinObject m) → IfOk r (IsCompiled sources number)
+    by (Ok o) h few = record {
       signatures = w.texts.signatures;
       texts = w.texts.modules;
       signature_texts = whole.texts.signatures;
@@ -88,8 +90,9 @@ compiled_is sources w number m r whole is object = by r (object is.is.meaning.cl
       meant = m;
       is = is;
       object = h;
+      within = few;
     }
-    by (Err e) h = tt
+    by (Err e) h few = tt
 
 pub module_of_file : (files : List File) (g : Group SignatureText) (t : Group ModuleText) (number place : ℕ) (r : Result Module BuildFault) → IsAt t.numbers.items place number
     → IfOk r (IsModuleAt files g t place) → IfOk r (IsModuleOfFile files g t number)

@@ -22,7 +22,7 @@ use Rattle.lp_module.specs.declared.module.Module.{Module}
 use Rattle.lp_build.specs.Compiled.{ArePaired, IsObjectOf}
 use Rattle.lp_build.specs.Copied.{AreSame, HasCopies, IsSame}
 use Rattle.lp_build.specs.Images.{IsImage}
-use Rattle.lp_build.specs.Ready.{AreReady}
+use Rattle.lp_build.specs.Ready.{AreReadyForCode}
 use Rattle.lp_build.specs.declared.sources.Sources.{Sources}
 use Rattle.lp_build.proofs.CopyClauses.{copy_flat}
 use Rattle.lp_build.proofs.CopyNumbering.{AreHigh, constants_same, keeps_language, kinds_same, linked_high}
@@ -41,7 +41,7 @@ record AreClauses (d : ℕ → Option Scheme) (ms : List Module) (n : ℕ) (cs :
 
 copied_clauses : (d : ℕ → Option Scheme) (ms : List Module) (os : List Object) → ArePaired IsObjectOf ms (length ms) os → (n : ℕ) (cs : List Copy)
     (copies : List linked.Copy) → AreSame os cs copies → AreHigh copies
-    → AreReady d ms cs copies → AreClauses d ms n cs copies
+    → AreReadyForCode d ms cs copies → AreClauses d ms n cs copies
 copied_clauses d ms os paired n [] [] same high ready = record { clauses = []; denoted = refl; flat = refl }
 copied_clauses d ms os paired n [] (e ∷ es) same high ready = absurd same
 copied_clauses d ms os paired n (c ∷ cs) [] same high ready = absurd same
@@ -65,7 +65,7 @@ copied_clauses d ms os paired n (c ∷ cs) (e ∷ es) ((o, there, is), same) (ab
 -- an image and the program of the same modules
 pub image_denotes : (sources : Sources) (image : Image) (h : IsImage sources image) (a : Assembled) (p : IsProgram h.modules h.is.root a)
     (d : ℕ → Option Scheme) (k : HasCopies h.is.objects h.is.root p.copied)
-    → AreReady d h.modules p.copied k.copies → (ds : List Clause) × (denote (image_tables image) image.code.records.items ≡ Some ds) × AreFlattened d
+    → AreReadyForCode d h.modules p.copied k.copies → (ds : List Clause) × (denote (image_tables image) image.code.records.items ≡ Some ds) × AreFlattened d
     (map (formula_of a.program.bank) a.program.clauses.items) ds
 image_denotes sources image h a p d k ready =
     let high = linked_high k.are tt (omega arith) in

@@ -7,13 +7,15 @@ use Rattle.lp_module.specs.declared.copies.Assembled.{Assembled}
 use Rattle.lp_build.specs.Compiled.{ArePaired, HasNamesOf, IsObjectOf}
 use Rattle.lp_build.specs.Copied.{HasCopies}
 use Rattle.lp_build.specs.Images.{IsImage}
-use Rattle.lp_build.specs.SameNames.{HasSameNames, HasSameTypes, HaveOwnTypes}
+use Rattle.lp_build.specs.Reads.{AreRead}
+use Rattle.lp_build.specs.SameNames.{HasSameNames, HasSameTypes}
 use Rattle.lp_build.specs.declared.sources.Sources.{Sources}
 use Rattle.lp_build.proofs.Compiling.{paired_weaker}
 use Rattle.lp_build.proofs.ImageCopies.{copies_are}
 use Rattle.lp_build.proofs.SameCopies.{IsShaped}
 use Rattle.lp_build.proofs.SameNames.{names_same, types_same}
 use Rattle.lp_build.proofs.Shapes.{all_shaped}
+use Rattle.lp_build.proofs.OwnTypes.{all_own_types}
 
 module _ (sources : Sources) (image : Image) (h : IsImage sources image) (a : Assembled) (p : IsProgram h.modules h.is.root a) where
   shaped : ArePaired IsShaped h.modules (length h.modules) h.is.objects
@@ -28,5 +30,5 @@ module _ (sources : Sources) (image : Image) (h : IsImage sources image) (a : As
   pub image_names : HasSameNames a image
   image_names = names_same h.modules h.is.objects shaped h.is.root a p copies.copies copies.same image names
 
-  pub image_types : HaveOwnTypes h.modules → HasSameTypes a image
-  image_types = types_same h.modules h.is.objects shaped h.is.root a p copies.copies copies.same image names
+  pub image_types : AreRead sources → HasSameTypes a image
+  image_types read = types_same h.modules h.is.objects shaped h.is.root a p copies.copies copies.same image names (all_own_types sources h.modules read h.are)

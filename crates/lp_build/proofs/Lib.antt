@@ -34,3 +34,11 @@ pub mod Walking
 pub mod Ordering
 pub mod Saying
 pub mod Holding
+pub mod Referred
+pub mod Joined
+pub mod TextModules
+pub mod OwnTypes
+pub mod KindsUnder
+pub mod Differing
+pub mod Under
+pub mod Unmaking

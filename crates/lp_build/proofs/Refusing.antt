@@ -18,7 +18,7 @@ use Rattle.lp_build.specs.declared.texts.Group.{Group}
 use Rattle.lp_build.specs.inner.Linked.{AreMade}
 use Rattle.lp_build.specs.inner.Refusing.{AreLookedAt, IsFirstBelow, IsOther, IsTaken}
 
-at_place : {A : Type 0} (xs : List A) (i : ℕ) → i < length xs → (x : A) × IsAt xs i x
+pub at_place : {A : Type 0} (xs : List A) (i : ℕ) → i < length xs → (x : A) × IsAt xs i x
 at_place [] i l = absurd (omega (arith, l))
 at_place (x ∷ xs) zero l = (x, (omega arith, refl))
 at_place (x ∷ xs) (suc i) l = let (y, (m, e)) = at_place xs i (omega (arith, l)) in (y, (omega (arith, m), e))

@@ -21,6 +21,7 @@ use Rattle.lp_sig.specs.declared.signature.Signature.{Signature}
 use Rattle.lp_syntax.specs.declared.text.ModuleText.{ModuleText}
 use Rattle.lp_syntax.specs.declared.text.SignatureText.{SignatureText}
 use Rattle.lp_module.specs.declared.module.Module.{Module}
+use Rattle.lp_build.specs.Limits.{IsWithinObject}
 use Rattle.lp_build.specs.Meant.{IsModuleAt}
 use Rattle.lp_build.specs.Trees.{AreModuleTexts, AreSignatureTexts}
 use Rattle.lp_build.specs.declared.sources.File.{File}
@@ -72,7 +73,7 @@ pub record IsModuleOfFile (files : List File) (g : Group SignatureText) (t : Gro
   pub there : IsAt t.numbers.items place number
   pub is : IsModuleAt files g t place m
 
--- the object of the module whose text is the file of a number
+-- the object of the module whose text is the file of a number, which passes no limit
 pub record IsCompiled (sources : Sources) (number : ℕ) (o : Object) : Type 0 where
   pub signatures : Group SignatureText
   pub texts : Group ModuleText
@@ -81,3 +82,4 @@ pub record IsCompiled (sources : Sources) (number : ℕ) (o : Object) : Type 0 w
   pub meant : Module
   pub is : IsModuleOfFile sources.files.items signatures texts number meant
   pub object : IsObjectOf meant o
+  pub within : IsWithinObject meant

@@ -11,8 +11,10 @@ pub mod Meant
 pub mod Queried
 pub mod Programs
 pub mod Uncoded
+pub mod Limits
 pub mod Refused
 pub mod Compiled
+pub mod Unmade
 pub mod Copied
 pub mod SameNames
 pub mod Images

@@ -3,6 +3,7 @@ use Rattle.std.specs.Prelude.{◌≡◌, ℕ, List, [], ◌∷◌, ◌++◌, len
 use Rattle.std.specs.Global.{Global}
 use Rattle.lp_syntax.specs.declared.text.ModuleText.{ModuleText}
 use Rattle.lp_syntax.specs.declared.text.SignatureText.{SignatureText}
+use Rattle.lp_sig.specs.AsWritten.{DeclaresAsWritten}
 use Rattle.lp_sig.specs.Refusals.{IsAt, IsAccepted}
 use Rattle.lp_sig.specs.Rows.{kind_row, fixity_row}
 use Rattle.lp_sig.specs.declared.signature.Signature.{Signature}
@@ -75,3 +76,9 @@ pub record AreModules (sources : Sources) (modules : List Module) : Type 0 where
   pub signature_texts : AreSignatureTexts sources.files.items (length sources.files.items) signatures
   pub module_texts : AreModuleTexts sources.files.items (length sources.files.items) texts
   pub meanings : AreModulesOf sources.files.items signatures texts modules
+
+-- a module is what the text at some place means, and has the types and bodies that are written there
+pub record IsAsWritten (files : List File) (g : Group SignatureText) (t : Group ModuleText) (m : Module) : Type 0 where
+  pub place : ℕ
+  pub is : IsModuleAt files g t place m
+  pub declared : DeclaresAsWritten is.own is.used is.source.items is.text.lines.items m.signature

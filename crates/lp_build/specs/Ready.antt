@@ -51,7 +51,7 @@ AreFormulasOver K C (D ∷ Ds) = IsTermOver K C D.formula × AreFormulasOver K C
 
 -- A module whose flattened clauses these are, over the kinds and constants of its object: they are well typed and within the limits of code, its formulas
 -- hold no other kinds and constants, and a constant heads clauses of the object exactly where its number in the copy does over these declared types.
-pub record IsReady (d : ℕ → Option Scheme) (m : Module) (o : Object) (copy : linked.Copy) (own : List Clause) : Type 0 where
+pub record IsReadyForCode (d : ℕ → Option Scheme) (m : Module) (o : Object) (copy : linked.Copy) (own : List Clause) : Type 0 where
   pub flat : AreFlattened (object_tables o).constants (clauses_in m) own
   pub known : AreKnownSchemes (object_tables o)
   pub fit : All (IsClause (object_tables o)) own
@@ -59,7 +59,7 @@ pub record IsReady (d : ℕ → Option Scheme) (m : Module) (o : Object) (copy :
   pub heads : (k : ℕ) → (is_declared (renumbered 32 copy.constants k) && heads_clauses (d (renumbered 32 copy.constants k))) ≡ (is_declared k && heads_clauses ((object_tables o).constants k))
 
 -- so is the module of each copy
-abbrev pub AreReady : (ℕ → Option Scheme) → List Module → List Copy → List linked.Copy → Type 0
-AreReady d ms [] es = Unit {0}
-AreReady d ms (c ∷ cs) [] = Unit {0}
-AreReady d ms (c ∷ cs) (e ∷ es) = ((m : Module) × (own : List Clause) × (slice_get ms c.member ≡ Some m) × IsReady d m e.object e own) × AreReady d ms cs es
+abbrev pub AreReadyForCode : (ℕ → Option Scheme) → List Module → List Copy → List linked.Copy → Type 0
+AreReadyForCode d ms [] es = Unit {0}
+AreReadyForCode d ms (c ∷ cs) [] = Unit {0}
+AreReadyForCode d ms (c ∷ cs) (e ∷ es) = ((m : Module) × (own : List Clause) × (slice_get ms c.member ≡ Some m) × IsReadyForCode d m e.object e own) × AreReadyForCode d ms cs es

@@ -1,17 +1,19 @@
 // The program of the files.
-ghost use Rattle.std.specs.Prelude.{◌≡◌, ◌+◌, ◌<◌, ◌≤◌, ◌^◌, List, All, length, IfErr, IfOk, IfSome};
+ghost use Rattle.std.specs.Prelude.{◌≡◌, ◌+◌, ◌<◌, ◌≤◌, ◌^◌, List, All, length, IfErr, IfOk, IfSome, OnOk};
 ghost use Rattle.lp_base.specs.declared.limits.TheConstants.{MAX_MODULES};
 ghost use Rattle.lp_sig.specs.Refusals.{IsAt};
 ghost use Rattle.lp_module.specs.Sentences.{AreWithin};
 ghost use Rattle.lp_build.specs.Compiled.{IsCompiled, IsModuleOfFile, IsObjectOf};
 ghost use Rattle.lp_build.specs.Faults.{IsOfTexts};
 ghost use Rattle.lp_build.specs.Images.{IsImage};
+ghost use Rattle.lp_build.specs.Limits.{IsUnmade, IsWithinObject};
 ghost use Rattle.lp_build.specs.Meant.{AreModules, AreModulesOf};
 ghost use Rattle.lp_build.specs.Programs.{IsBuilt, IsProgramOf};
 ghost use Rattle.lp_build.specs.Reads.{AreRead};
 ghost use Rattle.lp_build.specs.Refused.{IsRefusedModules, IsRefusedProgram, IsRefusedWhole};
+ghost use Rattle.lp_build.specs.Unmade.{IsRefusedImage, IsRefusedObject};
 ghost use Rattle.lp_build.specs.declared.sources.File.{File};
-ghost use Rattle.lp_build.specs.inner.Refusing.{IsRefusedAmong, IsRefusedOf};
+ghost use Rattle.lp_build.specs.inner.Refusing.{IsRefusedAmong, IsRefusedOf, IsRefusedOfFile};
 ghost use Rattle.lp_build.specs.inner.Wholes.{IsRootSignature, IsSeenOf, IsWhole};
 
 use crate::fault::BuildFault;
@@ -164,6 +166,7 @@ fn place_of(group: &Group<ModuleText>, module: u32) -> Option<usize>
 // What the module means whose text is a file of this number.
 fn module_in(alloc: Global, whole: &Whole, number: u32) -> Result<Module, BuildFault>
     ensures refused { IfErr result IsOfTexts }
+    ensures cause { (files : List File) → length files ≤ MAX_MODULES → IsWhole files whole.now → IfErr result (IsRefusedOfFile files whole.now.texts.signatures whole.now.texts.modules number) }
     ensures meant { (files : List File) → length files ≤ MAX_MODULES → IsWhole files whole.now → IfOk result (IsModuleOfFile files whole.now.texts.signatures whole.now.texts.modules number) }
 {
     let group = &whole.texts.modules;
@@ -176,7 +179,9 @@ fn module_in(alloc: Global, whole: &Whole, number: u32) -> Result<Module, BuildF
 // The object of a module, within its limits.
 fn object_of(alloc: Global, module: Module) -> Result<Object, BuildFault>
     ensures refused { IfErr result IsOfTexts }
+    ensures cause { AreWithin «module».bank «module».clauses.items → IfErr result (IsUnmade «module») }
     ensures object { AreWithin «module».bank «module».clauses.items → IfOk result (IsObjectOf «module») }
+    ensures within { AreWithin «module».bank «module».clauses.items → OnOk result (IsWithinObject «module») }
 {
     if module.uses.len() >= MAX_COPIES {
         return Err(BuildFault::Limit(Limit::Copies));
@@ -194,6 +199,7 @@ fn object_of(alloc: Global, module: Module) -> Result<Object, BuildFault>
 /// of the module; then the limits of its object, `copies` first, of which the module itself and the words of its accumulate lists are counted.
 pub fn build_object(alloc: Global, sources: &Sources, module: u32) -> Result<Object, BuildFault>
     ensures refused { IfErr result IsOfTexts }
+    ensures cause { AreRead sources.now → IfErr result (IsRefusedObject sources.now «module») }
     ensures compiled { AreRead sources.now → IfOk result (IsCompiled sources.now «module») }
 {
     let whole = whole_of(alloc, sources)?;
@@ -222,6 +228,7 @@ pub fn modules(alloc: Global, sources: &Sources) -> Result<Vec<Module>, BuildFau
 /// accumulate, then the first fault of a module, accumulated ones first; then the limit `copies`, those of each module's object, and `names`.
 pub fn build_image(alloc: Global, sources: &Sources) -> Result<Image, BuildFault>
     ensures refused { IfErr result IsOfTexts }
+    ensures cause { AreRead sources.now → IfErr result (IsRefusedImage sources.now) }
     ensures image { AreRead sources.now → IfOk result (IsImage sources.now) }
 {
     let modules = modules(alloc, sources)?;

@@ -11,6 +11,7 @@ ghost use Rattle.lp_module.specs.Sentences.{AreWithin};
 ghost use Rattle.lp_normal.specs.Counted.{IsOver};
 ghost use Rattle.lp_build.specs.Compiled.{AreExported, ArePaired, DenoteFlattened, HasNamesOf, IsObjectConstant, IsObjectKind, IsObjectOf};
 ghost use Rattle.lp_build.specs.Faults.{IsOfTexts};
+ghost use Rattle.lp_build.specs.Limits.{HasFewNames, HasManyNames};
 ghost use Rattle.lp_build.specs.Uncoded.{HasManyIn, HaveFewIn, IsFirstUncoded, IsUncoded, IsWithinCode, schemes_of};
 ghost use Rattle.lp_build.specs.inner.Coded.{AreFlat, signature_tables};
 
@@ -184,11 +185,14 @@ fn flattened(
 
 // The numbers of an object's kinds and constants are within their limit.
 pub(crate) fn check_names(object: &Object) -> Result<(), BuildFault>
-    ensures { IfErr result IsOfTexts }
+    ensures refused { IfErr result IsOfTexts }
+    ensures cause { IfErr result (λ e. (e ≡ BuildFault.Limit Limit.Names) × HasManyNames (length object.now.kinds.items) (length object.now.constants.items)) }
+    ensures within { OnOk result (HasFewNames (length object.now.kinds.items) (length object.now.constants.items)) }
 {
-    if object.kinds.len() > (END_OF_NUMBERS - FIRST_KIND) as usize
-        || object.constants.len() > (END_OF_NUMBERS - FIRST_CONSTANT) as usize
-    {
+    if object.kinds.len() > (END_OF_NUMBERS - FIRST_KIND) as usize {
+        return Err(BuildFault::Limit(Limit::Names));
+    }
+    if object.constants.len() > (END_OF_NUMBERS - FIRST_CONSTANT) as usize {
         return Err(BuildFault::Limit(Limit::Names));
     }
     Ok(())
@@ -286,6 +290,8 @@ pub(crate) fn with_code(alloc: Global, module: Module, names: Object) -> Result<
     ensures refused { IfErr result IsOfTexts }
     ensures names { IfOk result (λ object. HasNamesOf «module» names → HasNamesOf «module» object) }
     ensures code { AreWithin «module».bank «module».clauses.items → IfOk result (λ object. HasNamesOf «module» object → IsObjectOf «module» object) }
+    ensures cause { AreWithin «module».bank «module».clauses.items → IfErr result (IsUncoded «module») }
+    ensures within { AreWithin «module».bank «module».clauses.items → OnOk result (IsWithinCode «module») }
 {
     let mut module = module;
     let mut object = names;

@@ -66,6 +66,8 @@ pub mod OrderedSignatures
 pub mod Sights
 pub mod TheirTypes
 pub mod SeenKinds
+pub mod FreeTypes
+pub mod MeantKinds
 pub mod SeenTypes
 pub mod Refusing
 pub mod GivenBodies

@@ -10,8 +10,6 @@ pub mod Fits
 pub mod RaisedForms
 pub mod Raising
 pub mod Flattens
-pub mod Referred
-pub mod Joined
 pub mod Queried
 pub mod DeclaredTypes
 pub mod Flattened

@@ -31,7 +31,7 @@ use Rattle.lp_build.specs.declared.sources.Sources.{Sources}
 use Rattle.lp_load.specs.Loaded.{IsBuiltFrom}
 use Rattle.lp_solve.specs.Schemes.{DeclaresSeen}
 use Rattle.lp_solve.specs.Sources.{HasTypes}
-use Rattle.lp_solve.proofs.Texts.Joined.{get_at, last_or, apart, ordered, same_signature, modules_joined}
+use Rattle.lp_build.proofs.Joined.{get_at, last_or, apart, ordered, same_signature, modules_joined}
 use Rattle.lp_solve.proofs.Texts.Queried.{queries_declared, queries_placed}
 
 -- the table has the types of the language
@@ -123,18 +123,18 @@ declared_types sources built p read =
     let name : string_bytes m.name ≡ string_bytes is.name = ap string_bytes (same_Some m.name is.name
     (sym (get_at is.are.texts.names.items 0 m.name m.at_name) ∙ get_at is.are.texts.names.items 0 is.name is.first)) in
     let number : m.own_is.number ≡ is.own_is.number = same_Some m.own_is.number is.own_is.number (sym m.own_is.first ∙ ap (signature_of files) name ∙ is.own_is.first) in
-    let same : AreSameSignatures m.own is.own = same_signature sources modules read is.are is.own_is.number m.own is.own
+    let same : AreSameSignatures m.own is.own = same_signature files is.are.signatures is.are.signature_texts is.own_is.number m.own is.own
     (subst (λ n. IsSignatureOf is.are.signatures n m.own) number m.own_is.is) is.own_is.is in
-    let own_apart = apart sources modules read is.are m.own_is.number m.own m.own_is.is in
-    let own_ordered = ordered sources modules read is.are m.own_is.number m.own m.own_is.is in
+    let own_apart = apart is.are.signatures m.own_is.number m.own m.own_is.is in
+    let own_ordered = ordered is.are.signatures m.own_is.number m.own m.own_is.is in
     let counts_kinds = sym (length-map m.own.kinds.items (λ e. e.name.items)) ∙ ap length
     (kind_names_same m.own.kinds.items is.own.kinds.items same.kinds) ∙ length-map is.own.kinds.items (λ e. e.name.items) in
     let counts_constants = sym (length-map m.own.constants.items (λ e. e.name.items)) ∙ ap length
     (constant_names_same m.own.bank is.own.bank m.own.constants.items is.own.constants.items same.constants) ∙ length-map is.own.constants.items
     (λ e. e.name.items) in
     let d = declared_by a.program.bank a.program.constants.items in
-    let is_apart = apart sources modules read is.are is.own_is.number is.own is.own_is.is in
-    let is_ordered = ordered sources modules read is.are is.own_is.number is.own is.own_is.is in
+    let is_apart = apart is.are.signatures is.own_is.number is.own is.own_is.is in
+    let is_ordered = ordered is.are.signatures is.own_is.number is.own is.own_is.is in
     let its_first = same_first m.own is.own top.signature same (own_first m.own m.used m.source.items m.text.lines.items top.signature own_apart m.meaning.names) in
     let its_types = same_seen m.own is.own top.signature same (m.meaning.theirs.own_ones own_apart own_ordered) in
     let orderly : IsOrderly top = record {

@@ -9,17 +9,20 @@ use Rattle.lp_sig.specs.AsWritten.{as_trees, typed_in, bodies_of}
 use Rattle.lp_sig.specs.Holding.{HoldsBodies, line_of_module}
 use Rattle.lp_sig.specs.Types.{definitions_in}
 use Rattle.std.proofs.Common.{◌+◌, ◌≤◌, refl, inl, [], ◌∷◌, ◌++◌, ◌∙◌, length, get_or, sym, ap, subst, map, append_assoc, arith}
-use Rattle.std.proofs.lemmas.Option.{same_Some, slice_get-get_or, slice_get_within}
+use Rattle.std.proofs.lemmas.Option.{get_or_from_slice_get, same_Some, slice_get-get_or, slice_get_within}
 use Rattle.lp_base.specs.declared.limits.TheConstants.{END_OF_NUMBERS}
 use Rattle.lp_sig.specs.Rows.{fixity_row}
 use Rattle.lp_sig.specs.Knowing.{Knows, KnowsOperators}
 use Rattle.lp_sig.specs.Said.{numbered, said_in}
-use Rattle.lp_sig.specs.Named.{IsOrdered, kind_names}
+use Rattle.lp_sig.specs.Named.{IsOrdered, MeansKinds, kind_names}
+use Rattle.lp_sig.specs.declared.see.Sight.TheVariants.{Alike}
+use Rattle.lp_sig.specs.declared.signature.Signature.{Signature}
 use Rattle.lp_sig.specs.Sighted.{said_kinds, AreKinds, AreCounted}
 use Rattle.lp_sig.specs.Sights.{AreWordsAlike, signature_words, module_words, AreAlike}
 use Rattle.lp_sig.specs.Modules.{declarations, said_of, constants_of, of_each, said_in_module, constant_names, numbered_names, IsApart}
 use Rattle.lp_sig.specs.Worded.{HasWords}
 use Rattle.lp_sig.proofs.KnownConstants.{making_then, counted_none, counted_later}
+use Rattle.lp_sig.proofs.MeantKinds.{means_at}
 use Rattle.lp_sig.proofs.Sights.{all_alike}
 use Rattle.lp_sig.proofs.TheirTypes.{own_kinds, own_new, their_kinds, their_room, has_named}
 use Rattle.lp_sig.proofs.Told.{knows_none}
@@ -77,6 +80,12 @@ returns-clause-theirs c =
       own_ones = λ apart ordered. has_named m s said c.in_ok-signature.ensures.bank c.in_ok-signature.ensures.typed kinds own ordered
           (seen_stays c.see_all.new.making m (said_of own ++ of_each said_of used) (said_in text ds) own ordered g.bank g.constants
           (c.in_ok-sights.ensures.own [] [] c.new-making.ensures.names c.new-making.ensures.words none ordered (here apart) (own_new own apart)));
+      used_kinds = λ few k d l.
+          let start = knows_none c.new-making.result c.new-making.ensures.names c.new-making.ensures.words c.new-making.ensures.bodies c.new-making.ensures.empty in
+          let (u, at, go) = c.in_ok-sights.ensures.told start k Alike (alike k (omega (arith, l, few))) in
+          let same : u ≡ get_or used k d = same_Some u (get_or used k d) (sym at ∙ slice_get-get_or used k d l) in
+          subst (λ (u : Signature). MeansKinds said u.kinds.items) same
+          (means_at own used (said_in text ds) k u l (sym (get_or_from_slice_get used k u u at)) go.kinds);
       used_ones = λ apart ordered all i u at below.
           let l = slice_get_within used i u at in
           let o : IsOrdered u = subst IsOrdered (same_Some (get_or used i u) u (sym (slice_get-get_or used i u l) ∙ at)) (all i u l) in

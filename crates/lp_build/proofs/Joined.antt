@@ -1,7 +1,7 @@
--- The modules of texts go with one another: each sees what those export that it accumulates, with the same types.
+-- The modules of texts are taken over signatures as texts have them, and go with one another: each sees what those export that it accumulates, with the same types.
 use Rattle.std.specs.Global.{Global}
 use Rattle.std.proofs.Common.{◌≡◌, ℕ, zero, suc, ◌+◌, ◌<◌, ◌≤◌, List, [], ◌∷◌, ◌++◌, length, map, filter_map, get_or, option_map, Bool, true, false, Option, Some, None, String, Vec, refl, sym, ap, subst, ◌∙◌, arith, inl, inr, true≢false}
-use Rattle.std.specs.Prelude.{◌⊎◌, ◌||◌, if◌then◌else◌, nat_eq, slice_get, Contains, All}
+use Rattle.std.specs.Prelude.{◌⊎◌, ◌||◌, if◌then◌else◌, nat_eq, slice_get, string_bytes, Contains, All}
 use Rattle.std.specs.List.{cons_option, list_any}
 use Rattle.std.specs.Str.{bytes_eq}
 use Rattle.std.proofs.lemmas.Bool.{eqb-true, eq-eqb}
@@ -18,6 +18,8 @@ use Rattle.lp_syntax.specs.declared.text.Declaration.TheVariants.{Kinds, LocalKi
 use Rattle.lp_syntax.specs.declared.text.Sentence.{Sentence}
 use Rattle.lp_syntax.specs.declared.text.Sentence.TheVariants.{Declares, Says}
 use Rattle.lp_syntax.specs.declared.text.ModuleText.{ModuleText}
+use Rattle.lp_syntax.specs.declared.text.SignatureText.{SignatureText}
+use Rattle.lp_sig.specs.AsWritten.{AreReady, HasWholeBodies}
 use Rattle.lp_sig.specs.Loading.{accum_words}
 use Rattle.lp_sig.specs.Modules.{declarations, first_names, IsApart}
 use Rattle.lp_sig.specs.Named.{IsOrdered, SeesAlike, accumulate_in, many_words}
@@ -30,7 +32,7 @@ use Rattle.lp_sig.specs.Same.{AreSameSignatures}
 use Rattle.lp_sig.specs.declared.signature.Signature.{Signature}
 use Rattle.lp_sig.proofs.Apart.{names_apart}
 use Rattle.lp_sig.proofs.OneSignature.{one_signature}
-use Rattle.lp_sig.proofs.OrderedSignatures.{signature_ordered}
+use Rattle.lp_sig.proofs.OrderedSignatures.{bodies_whole, signature_ordered}
 use Rattle.lp_sig.proofs.OwnNames.{own_first}
 use Rattle.lp_module.specs.Copies.{numbers_of, number_list, names_of, uses_of}
 use Rattle.lp_module.specs.Joined.{IsJoined, AreJoined}
@@ -38,15 +40,16 @@ use Rattle.lp_module.specs.Words.{accumulate_words}
 use Rattle.lp_module.specs.declared.module.Module.{Module}
 use Rattle.lp_module.proofs.Joins.{joined_by}
 use Rattle.lp_module.proofs.NumberedSignatures.{signature_numbered}
-use Rattle.lp_build.specs.Meant.{IsDeclaredAt, IsSignatureOf, AreSignaturesOf, no_signature, one_signature as one_signature_more, IsModuleAt, AreModulesAt, no_module, one_module, AreModules}
-use Rattle.lp_build.specs.Reads.{AreRead}
+use Rattle.lp_build.specs.Meant.{IsDeclaredAt, IsOwnSignature, IsSignatureOf, AreSignaturesOf, no_signature, one_signature as one_signature_more, IsModuleAt, AreModulesAt, no_module, one_module, AreModules}
+use Rattle.lp_build.specs.Reads.{AreRead, IsReadFile}
 use Rattle.lp_build.specs.Sights.{signature_of, each_once, accum_sig_of, accumulate_of, accum_sig_at, accumulate_at}
-use Rattle.lp_build.specs.Trees.{IsSignatureTree, IsModuleTree, AreTexts, no_text, other_text, one_text}
+use Rattle.lp_build.specs.Trees.{IsSignatureTree, IsModuleTree, AreSignatureTexts, AreModuleTexts, AreTexts, no_text, other_text, one_text}
 use Rattle.lp_build.specs.declared.sources.File.{File}
 use Rattle.lp_build.specs.declared.sources.Part.{Part}
 use Rattle.lp_build.specs.declared.sources.Part.TheVariants as part
 use Rattle.lp_build.specs.declared.sources.Sources.{Sources}
-use Rattle.lp_solve.proofs.Texts.Referred.{words_referred}
+use Rattle.lp_build.specs.declared.texts.Group.{Group}
+use Rattle.lp_build.proofs.Referred.{words_referred}
 
 -- lists
 stands : {A : Type 0} (xs : List A) (i : ℕ) (x : A) → slice_get xs i ≡ Some x → Contains xs x
@@ -68,25 +71,26 @@ get_at (y ∷ ys) zero x (l, e) = ap (λ y. Some y) e
 get_at (y ∷ ys) (suc i) x (l, e) = get_at ys i x (omega (arith, l), e)
 
 -- the module at a place of the order
-module _ {sources : Sources} {every : List Module} (are : AreModules sources every) where
-  module_at : (ps : List ℕ) (ms : List Module) → AreModulesAt sources.files.items are.signatures are.texts ps ms → (k : ℕ) (m : Module) → slice_get ms k ≡ Some m → (p : ℕ) × IsModuleAt sources.files.items are.signatures are.texts p m
+module _ {files : List File} {g : Group SignatureText} {t : Group ModuleText} where
+  module_at : (ps : List ℕ) (ms : List Module) → AreModulesAt files g t ps ms → (k : ℕ) (m : Module) → slice_get ms k ≡ Some m → (p : ℕ) × IsModuleAt files g t p m
   module_at ps ms no_module k m e = absurd (cc)
   module_at ps ms (one_module qs _ ns _ p n before is e f) k m at = by (module_at qs ns before k m) (last_or ns n m k (ap (λ l. slice_get l k) (sym f) ∙ at))
     where
-      by : (slice_get ns k ≡ Some m → (p : ℕ) × IsModuleAt sources.files.items are.signatures are.texts p m) → (slice_get ns k ≡ Some m) ⊎ ((k ≡ length ns) × (n ≡ m)) → (p : ℕ) × IsModuleAt sources.files.items are.signatures are.texts p m
+      by : (slice_get ns k ≡ Some m → (p : ℕ) × IsModuleAt files g t p m) → (slice_get ns k ≡ Some m) ⊎ ((k ≡ length ns) × (n ≡ m)) → (p : ℕ) × IsModuleAt files g t p m
       by r (inl h) = r h
-      by r (inr h) = (p, subst (IsModuleAt sources.files.items are.signatures are.texts p) h.1 is)
+      by r (inr h) = (p, subst (IsModuleAt files g t p) h.1 is)
+
+module _ {g : Group SignatureText} where
+  same_length : (ms : List ℕ) (ts : List Signature) → AreSignaturesOf g ms ts → length ms ≡ length ts
+  same_length ms ts no_signature = refl
+  same_length ms ts (one_signature_more ks _ us _ k u before is e f) =
+      ap length e ∙ length-append ks (k ∷ []) ∙ ap (λ n. n + 1) (same_length ks us before) ∙ sym (length-append us (u ∷ [])) ∙ sym (ap length f)
 
   -- the signature at a place
-  signature_at : (ns : List ℕ) (ss : List Signature) → AreSignaturesOf are.signatures ns ss → (i n : ℕ) → slice_get ns i ≡ Some n → (s : Signature) × (slice_get ss i ≡ Some s) × IsSignatureOf are.signatures n s
+  signature_at : (ns : List ℕ) (ss : List Signature) → AreSignaturesOf g ns ss → (i n : ℕ) → slice_get ns i ≡ Some n → (s : Signature) × (slice_get ss i ≡ Some s) × IsSignatureOf g n s
   signature_at ns ss no_signature i n e = absurd (cc)
   signature_at ns ss (one_signature_more ms _ ts _ m s before is e f) i n at = by (signature_at ms ts before i n) (last_or ms m n i (ap (λ l. slice_get l i) (sym e) ∙ at))
     where
-      same_length : (ms : List ℕ) (ts : List Signature) → AreSignaturesOf are.signatures ms ts → length ms ≡ length ts
-      same_length ms ts no_signature = refl
-      same_length ms ts (one_signature_more ks _ us _ k u before is e f) =
-          ap length e ∙ length-append ks (k ∷ []) ∙ ap (λ n. n + 1) (same_length ks us before) ∙ sym (length-append us (u ∷ [])) ∙ sym (ap length f)
-
       front : (ts : List Signature) (x : Signature) (i : ℕ) → slice_get ts i ≡ Some x → slice_get (ts ++ s ∷ []) i ≡ Some x
       front [] x i e = absurd (cc)
       front (t ∷ ts) x zero e = e
@@ -96,13 +100,13 @@ module _ {sources : Sources} {every : List Module} (are : AreModules sources eve
       end [] = refl
       end (t ∷ ts) = end ts
 
-      by : (slice_get ms i ≡ Some n → (s : Signature) × (slice_get ts i ≡ Some s) × IsSignatureOf are.signatures n s) → (slice_get ms i ≡ Some n) ⊎
-          ((i ≡ length ms) × (m ≡ n)) → (s : Signature) × (slice_get ss i ≡ Some s) × IsSignatureOf are.signatures n s
+      by : (slice_get ms i ≡ Some n → (s : Signature) × (slice_get ts i ≡ Some s) × IsSignatureOf g n s) → (slice_get ms i ≡ Some n) ⊎
+          ((i ≡ length ms) × (m ≡ n)) → (s : Signature) × (slice_get ss i ≡ Some s) × IsSignatureOf g n s
       by r (inl h) = let (x, at_x, is_x) = r h in (x, ap (λ l. slice_get l i) f ∙ front ts x i at_x, is_x)
-      by r (inr h) = (s, ap (λ l. slice_get l i) f ∙ ap (slice_get (ts ++ s ∷ [])) (h.0 ∙ same_length ms ts before) ∙ end ts, subst (λ n. IsSignatureOf are.signatures n s) h.1 is)
+      by r (inr h) = (s, ap (λ l. slice_get l i) f ∙ ap (slice_get (ts ++ s ∷ [])) (h.0 ∙ same_length ms ts before) ∙ end ts, subst (λ n. IsSignatureOf g n s) h.1 is)
 
-  all_signatures : (P : Signature → Type 0) → ((n : ℕ) (s : Signature) → IsSignatureOf are.signatures n s → P s) → (ns : List ℕ) (ss : List Signature) →
-      AreSignaturesOf are.signatures ns ss → (i : ℕ) (s : Signature) → slice_get ss i ≡ Some s → P s
+  all_signatures : (P : Signature → Type 0) → ((n : ℕ) (s : Signature) → IsSignatureOf g n s → P s) → (ns : List ℕ) (ss : List Signature) →
+      AreSignaturesOf g ns ss → (i : ℕ) (s : Signature) → slice_get ss i ≡ Some s → P s
   all_signatures P each ns ss no_signature i s e = absurd (cc)
   all_signatures P each ns ss (one_signature_more ms _ ts _ m u before is e f) i s at = by (all_signatures P each ms ts before i s) (last_or ts u s i (ap (λ l. slice_get l i) (sym f) ∙ at))
     where
@@ -328,69 +332,87 @@ words_same (Declares (AccumSig ws) ∷ ls) = words_same ls
 words_same (Declares (Fixities a b n) ∷ ls) = words_same ls
 words_same (Says raw ∷ ls) = words_same ls
 
-module _ (sources : Sources) (modules : List Module) (read : AreRead sources) (are : AreModules sources modules) where
-  abbrev files : List File
-  files = sources.files.items
+-- signatures that texts give
+module _ (g : Group SignatureText) where
+  pub apart : (n : ℕ) (s : Signature) → IsSignatureOf g n s → IsApart s
+  apart n s is = names_apart g.names.items g.sources.items g.texts.items is.place (map fixity_row s.fixities.items) s is.declared
 
-  -- signatures that texts give
-  pub apart : (n : ℕ) (s : Signature) → IsSignatureOf are.signatures n s → IsApart s
-  apart n s is = names_apart are.signatures.names.items are.signatures.sources.items are.signatures.texts.items is.place (map fixity_row s.fixities.items) s is.declared
+  pub ordered : (n : ℕ) (s : Signature) → IsSignatureOf g n s → IsOrdered s
+  ordered n s is = signature_ordered g.names.items g.sources.items g.texts.items is.place (map fixity_row s.fixities.items) s is.declared
 
-  pub ordered : (n : ℕ) (s : Signature) → IsSignatureOf are.signatures n s → IsOrdered s
-  ordered n s is = signature_ordered are.signatures.names.items are.signatures.sources.items are.signatures.texts.items is.place (map fixity_row s.fixities.items) s is.declared
+  pub whole : (n : ℕ) (s : Signature) → IsSignatureOf g n s → HasWholeBodies s
+  whole n s is = bodies_whole g.names.items g.sources.items g.texts.items is.place (map fixity_row s.fixities.items) s is.declared
 
-  pub same_signature : (n : ℕ) (s u : Signature) → IsSignatureOf are.signatures n s → IsSignatureOf are.signatures n u → AreSameSignatures s u
-  same_signature n s u a b =
-      let e = one_place part.Signature IsSignatureTree files (length files) are.signatures.numbers.items are.signatures.names.items are.signatures.sources.items are.signatures.texts.items
-      are.signature_texts a.place b.place n (get_at are.signatures.numbers.items a.place n a.there) (get_at are.signatures.numbers.items b.place n b.there) in
-      one_signature are.signatures.names.items are.signatures.sources.items are.signatures.texts.items a.place (map fixity_row s.fixities.items) (map fixity_row u.fixities.items) s u
-      a.declared (subst (λ p. IsDeclaredAt are.signatures p u) (sym e) b.declared)
+  pub all_of : (P : Signature → Type 0) → ((n : ℕ) (s : Signature) → IsSignatureOf g n s → P s) → (ns : List ℕ) (ss : List Signature) → AreSignaturesOf g ns ss → All P ss
+  all_of P each ns ss are k d l = all_signatures P each ns ss are k (get_or ss k d) (slice_get-get_or ss k d l)
 
-  -- a module's meaning
-  pub meaning_at : (k : ℕ) (m : Module) → slice_get modules k ≡ Some m → (p : ℕ) × IsModuleAt files are.signatures are.texts p m
-  meaning_at k m at = module_at are are.meanings.order modules are.meanings.meanings k m at
+-- two that the file of one number declares are the same
+pub same_signature : (files : List File) (g : Group SignatureText) → AreSignatureTexts files (length files) g → (n : ℕ) (s u : Signature) → IsSignatureOf g n s → IsSignatureOf g n u → AreSameSignatures s u
+same_signature files g texts n s u a b =
+    let e = one_place part.Signature IsSignatureTree files (length files) g.numbers.items g.names.items g.sources.items g.texts.items texts a.place b.place n
+    (get_at g.numbers.items a.place n a.there) (get_at g.numbers.items b.place n b.there) in
+    one_signature g.names.items g.sources.items g.texts.items a.place (map fixity_row s.fixities.items) (map fixity_row u.fixities.items) s u
+    a.declared (subst (λ p. IsDeclaredAt g p u) (sym e) b.declared)
 
-  -- what its file names by its words
-  names_files : (p : ℕ) (m : Module) (a : IsModuleAt files are.signatures are.texts p m) → NamesFiles files a.number a.source.items a.text
-  names_files p m a =
-      let h = text_at part.Module (IsModuleTree files) files (length files) are.texts.numbers.items are.texts.names.items are.texts.sources.items are.texts.texts.items are.module_texts p a.number a.source a.text
-      (get_at are.texts.numbers.items p a.number a.at_number) (get_at are.texts.sources.items p a.source a.at_source) (get_at are.texts.texts.items p a.text a.at_text) in
+-- the texts of files that were read
+module _ (files : List File) (g : Group SignatureText) (t : Group ModuleText) (read : (number : ℕ) (file : File) → IsAt files number file → IsReadFile number file) (texts : AreModuleTexts files (length files) t) where
+  -- what a module's file names by its words
+  pub names_files : (p number : ℕ) (source : Vec ℕ Global) (text : ModuleText) → IsAt t.numbers.items p number → IsAt t.sources.items p source → IsAt t.texts.items p text → NamesFiles files number source.items text
+  names_files p number source text at_number at_source at_text =
+      let h = text_at part.Module (IsModuleTree files) files (length files) t.numbers.items t.names.items t.sources.items t.texts.items texts p number source text
+      (get_at t.numbers.items p number at_number) (get_at t.sources.items p source at_source) (get_at t.texts.items p text at_text) in
       let f = h.file in
-      let r = (read.each a.number f h.at).text in
+      let r = (read number f h.at).text in
       let bytes = f.text.bytes.items in
       let tokens = f.text.tokens.items in
       let l = length-map tokens (lexeme bytes) in
-      let w = words_referred (spot_at a.number bytes tokens) h.tree_is.before h.tree_is.after (lexemes bytes tokens) a.text f.text.references h.tree_is.tree
-      (subst (λ n. AreReferences (spot_at a.number bytes tokens) (lexemes bytes tokens) n f.text.references) (sym l) r.references) in
-      let at = get_at files a.number f h.at in
-      let one = λ (of_file : File → List ℕ). get_or_from_slice_get (map of_file files) a.number (of_file f) [] (mapped_at of_file files a.number f at) in
+      let w = words_referred (spot_at number bytes tokens) h.tree_is.before h.tree_is.after (lexemes bytes tokens) text f.text.references h.tree_is.tree
+      (subst (λ n. AreReferences (spot_at number bytes tokens) (lexemes bytes tokens) n f.text.references) (sym l) r.references) in
+      let at = get_at files number f h.at in
+      let one = λ (of_file : File → List ℕ). get_or_from_slice_get (map of_file files) number (of_file f) [] (mapped_at of_file files number f at) in
       let named = λ (words : List Spot) (text_words : List Spot) (e : words ≡ text_words).
       ap each_once (ap (filter_map (λ w. signature_of files (spelled bytes w))) e ∙ by_spots (signature_of files) bytes text_words ∙ ap
       (λ s. filter_map (signature_of files) (map (spelled s) text_words)) (sym h.bytes)) in
       record {
-        accum_sig = one (accum_sig_of files) ∙ named f.text.references.accum_sig.items (accum_words (declarations a.text.lines.items)) w.1;
-        accumulate = one (accumulate_of files) ∙ named f.text.references.accumulate.items (accumulate_in (declarations a.text.lines.items)) (w.0 ∙ words_same a.text.lines.items);
+        accum_sig = one (accum_sig_of files) ∙ named f.text.references.accum_sig.items (accum_words (declarations text.lines.items)) w.1;
+        accumulate = one (accumulate_of files) ∙ named f.text.references.accumulate.items (accumulate_in (declarations text.lines.items)) (w.0 ∙ words_same text.lines.items);
       }
 
   -- there are as many as different words at most
   few_of : (ws : List (List ℕ)) → length (each_once (filter_map (signature_of files) ws)) ≤ length (first_names [] ws)
   few_of ws = let h = few (signature_of files) [] [] ws (λ n x a is. absurd (true≢false (sym a))) in omega (arith, h)
 
-  few_named : (p : ℕ) (m : Module) (a : IsModuleAt files are.signatures are.texts p m) → length (accum_sig_at files a.number ++ accumulate_at files a.number) ≤ many_words a.source.items (declarations a.text.lines.items)
-  few_named p m a =
-      let n = names_files p m a in
+  pub few_named : (number : ℕ) (source : List ℕ) (text : ModuleText) → NamesFiles files number source text → length (accum_sig_at files number ++ accumulate_at files number) ≤ many_words source (declarations text.lines.items)
+  few_named number source text n =
       let x = ap length n.accum_sig in
       let y = ap length n.accumulate in
-      let z = length-append (accum_sig_at files a.number) (accumulate_at files a.number) in
-      let u = few_of (map (spelled a.source.items) (accum_words (declarations a.text.lines.items))) in
-      let v = few_of (map (spelled a.source.items) (accumulate_in (declarations a.text.lines.items))) in
+      let z = length-append (accum_sig_at files number) (accumulate_at files number) in
+      let u = few_of (map (spelled source) (accum_words (declarations text.lines.items))) in
+      let v = few_of (map (spelled source) (accumulate_in (declarations text.lines.items))) in
       omega (arith, x, y, z, u, v)
 
-  -- two modules, one of which accumulates the other
-  joined_at : (above m : Module) (p q : ℕ) (a : IsModuleAt files are.signatures are.texts p above) (b : IsModuleAt files are.signatures are.texts q m) → Contains (map (λ u. u.items) above.uses.items) m.name.items → IsJoined above m
-  joined_at above m p q a b uses =
+  -- the signatures over which a module is taken are such as texts have
+  pub ready : (p number : ℕ) (name : List ℕ) (source : Vec ℕ Global) (text : ModuleText) (own : Signature) (used : List Signature) → IsAt t.numbers.items p number → IsAt t.sources.items p source → IsAt t.texts.items p text →
+      IsOwnSignature files g name own → AreSignaturesOf g (accum_sig_at files number ++ accumulate_at files number) used → AreReady own used source.items text.lines.items
+  ready p number name source text own used at_number at_source at_text own_is used_are =
+      let numbers = accum_sig_at files number ++ accumulate_at files number in
+      let l = few_named number source.items text (names_files p number source text at_number at_source at_text) in
+      let m = same_length numbers used used_are in
+      record {
+        apart = apart g own_is.number own own_is.is;
+        ordered = ordered g own_is.number own own_is.is;
+        whole = whole g own_is.number own own_is.is;
+        used_ordered = all_of g IsOrdered (ordered g) numbers used used_are;
+        used_whole = all_of g HasWholeBodies (whole g) numbers used used_are;
+        few = omega (arith, l, m);
+      }
+
+  -- of two modules, one of which accumulates the other, that one sees the signature of the other
+  pub sees_signature : (above m : Module) (p q : ℕ) (a : IsModuleAt files g t p above) (b : IsModuleAt files g t q m) → Contains (map (λ u. u.items) above.uses.items) m.name.items
+      → (i : ℕ) × (u : Signature) × (slice_get a.used i ≡ Some u) × IsSignatureOf g b.own_is.number u
+  sees_signature above m p q a b uses =
       let numbers = accum_sig_at files a.number ++ accumulate_at files a.number in
-      let n = names_files p above a in
+      let n = names_files p a.number a.source a.text a.at_number a.at_source a.at_text in
       let words = map (spelled a.source.items) (accumulate_in (declarations a.text.lines.items)) in
       let word : Contains words m.name.items = subst (λ ws. Contains ws m.name.items) (a.meaning.uses ∙ ap (map (spelled a.source.items)) (words_same a.text.lines.items)) uses in
       let number : signature_of files m.name.items ≡ Some b.own_is.number = ap (signature_of files) b.meaning.name ∙ b.own_is.first in
@@ -398,23 +420,46 @@ module _ (sources : Sources) (modules : List Module) (read : AreRead sources) (a
       (subst (λ ns. Contains ns b.own_is.number) (sym n.accumulate) (inserted [] (filter_map (signature_of files) words) b.own_is.number
       (has_number (signature_of files) words m.name.items b.own_is.number word number))) in
       let (i, at) = in_list numbers b.own_is.number among in
-      let (u, at_u, is_u) = signature_at are numbers a.used a.used_are i b.own_is.number at in
-      let few_l = few_named p above a in
-      let l = slice_get_within numbers i b.own_is.number at in
-      let all_ordered : All IsOrdered a.used = λ k d h. all_signatures are IsOrdered ordered numbers a.used a.used_are k (get_or a.used k d) (slice_get-get_or a.used k d h) in
-      let seen : SeesAlike u above.signature = a.meaning.theirs.used_ones (apart a.own_is.number a.own a.own_is.is)
-      (ordered a.own_is.number a.own a.own_is.is) all_ordered i u at_u (omega (arith, few_l, l)) in
-      let own_apart = apart b.own_is.number b.own b.own_is.is in
-      let own_ordered = ordered b.own_is.number b.own b.own_is.is in
-      joined_by above m b.own u (record {
-        exported_kinds = length b.own.kinds.items;
-        exported_constants = length b.own.constants.items;
-        kinds = b.meaning.hidden_kinds;
-        constants = b.meaning.hidden_constants;
-      }) refl refl
-      (signature_numbered b.own b.used b.source.items b.text.lines.items m.signature b.meaning.names)
-      (own_first b.own b.used b.source.items b.text.lines.items m.signature own_apart b.meaning.names) own_apart own_ordered
-      (b.meaning.theirs.own_ones own_apart own_ordered) (same_signature b.own_is.number u b.own is_u b.own_is.is) seen
+      let (u, at_u, is_u) = signature_at numbers a.used a.used_are i b.own_is.number at in
+      (i, u, at_u, is_u)
+
+  -- so they are joined
+  module _ (signature_texts : AreSignatureTexts files (length files) g) where
+    joined_at : (above m : Module) (p q : ℕ) (a : IsModuleAt files g t p above) (b : IsModuleAt files g t q m) → Contains (map (λ u. u.items) above.uses.items) m.name.items → IsJoined above m
+    joined_at above m p q a b uses =
+        let (i, u, at_u, is_u) = sees_signature above m p q a b uses in
+        let r = ready p a.number (string_bytes a.name) a.source a.text a.own a.used a.at_number a.at_source a.at_text a.own_is a.used_are in
+        let few_l = r.few in
+        let l = slice_get_within a.used i u at_u in
+        let seen : SeesAlike u above.signature = a.meaning.theirs.used_ones r.apart r.ordered r.used_ordered i u at_u (omega (arith, few_l, l)) in
+        let own_apart = apart g b.own_is.number b.own b.own_is.is in
+        let own_ordered = ordered g b.own_is.number b.own b.own_is.is in
+        joined_by above m b.own u (record {
+          exported_kinds = length b.own.kinds.items;
+          exported_constants = length b.own.constants.items;
+          kinds = b.meaning.hidden_kinds;
+          constants = b.meaning.hidden_constants;
+        }) refl refl
+        (signature_numbered b.own b.used b.source.items b.text.lines.items m.signature b.meaning.names)
+        (own_first b.own b.used b.source.items b.text.lines.items m.signature own_apart b.meaning.names) own_apart own_ordered
+        (b.meaning.theirs.own_ones own_apart own_ordered) (same_signature files g signature_texts b.own_is.number u b.own is_u b.own_is.is) seen
+
+module _ (sources : Sources) (modules : List Module) (read : AreRead sources) (are : AreModules sources modules) where
+  abbrev files : List File
+  files = sources.files.items
+
+  -- a module's meaning
+  pub meaning_at : (k : ℕ) (m : Module) → slice_get modules k ≡ Some m → (p : ℕ) × IsModuleAt files are.signatures are.texts p m
+  meaning_at k m at = module_at are.meanings.order modules are.meanings.meanings k m at
+
+  -- the name of a module that another one accumulates is a word of it
+  pub uses_name : (k j : ℕ) (above m : Module) → slice_get modules k ≡ Some above → Contains (get_or (uses_of modules) k []) j → slice_get modules j ≡ Some m → Contains (map (λ u. u.items) above.uses.items) m.name.items
+  uses_name k j above m at_k used at_j =
+      let uses = get_or_from_slice_get (uses_of modules) k (numbers_of (names_of modules) (map (λ u. u.items) above.uses.items)) []
+      (mapped_at (λ m. numbers_of (names_of modules) (map (λ u. u.items) m.uses.items)) modules k above at_k) in
+      let (w, has, first) = named_one (names_of modules) (map (λ u. u.items) above.uses.items) j (subst (λ ns. Contains ns j) uses used) in
+      let name : m.name.items ≡ w = same_Some m.name.items w (sym (mapped_at (λ m. m.name.items) modules j m at_j) ∙ place_name (names_of modules) w j first) in
+      subst (Contains (map (λ u. u.items) above.uses.items)) (sym name) has
 
   pub modules_joined : AreJoined modules
   modules_joined = record {
@@ -426,9 +471,5 @@ module _ (sources : Sources) (modules : List Module) (read : AreRead sources) (a
     joined = λ k j above m at_k used at_j.
         let (p, a) = meaning_at k above at_k in
         let (q, b) = meaning_at j m at_j in
-        let uses = get_or_from_slice_get (uses_of modules) k (numbers_of (names_of modules) (map (λ u. u.items) above.uses.items)) []
-        (mapped_at (λ m. numbers_of (names_of modules) (map (λ u. u.items) m.uses.items)) modules k above at_k) in
-        let (w, has, first) = named_one (names_of modules) (map (λ u. u.items) above.uses.items) j (subst (λ ns. Contains ns j) uses used) in
-        let name : m.name.items ≡ w = same_Some m.name.items w (sym (mapped_at (λ m. m.name.items) modules j m at_j) ∙ place_name (names_of modules) w j first) in
-        joined_at above m p q a b (subst (Contains (map (λ u. u.items) above.uses.items)) (sym name) has);
+        joined_at files are.signatures are.texts read.each are.module_texts are.signature_texts above m p q a b (uses_name k j above m at_k used at_j);
   }
