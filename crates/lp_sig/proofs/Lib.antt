@@ -71,3 +71,4 @@ pub mod Refusing
 pub mod GivenBodies
 pub mod Reading
 pub mod DeclaredTypes
+pub mod Taking

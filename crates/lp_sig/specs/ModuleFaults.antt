@@ -7,13 +7,17 @@ use Rattle.lp_syntax.specs.declared.text.Declaration.{Declaration}
 use Rattle.lp_syntax.specs.declared.text.Declaration.TheVariants.{Kinds, LocalKinds, Constants, Locals, Abbreviation, Accumulate, AccumSig, Fixities}
 use Rattle.lp_syntax.specs.declared.text.RawType.{RawType}
 use Rattle.lp_syntax.specs.declared.text.Sentence.{Sentence}
+use Rattle.lp_calculus.specs.Types.{Ty}
+use Rattle.lp_sig.specs.Constants.{Written}
+use Rattle.lp_sig.specs.Differing.{IsFullIf, IsOtherIf}
 use Rattle.lp_sig.specs.Pieces.{spelled}
 use Rattle.lp_sig.specs.Rows.{Row}
 use Rattle.lp_sig.specs.Standard.{standard_kinds, standard_constants}
 use Rattle.lp_sig.specs.Said.{Said, a_kind, an_abbreviation, is_among, names_in}
 use Rattle.lp_sig.specs.Limits.{AreShort, IsShort, AreApart, IsRepeated}
 use Rattle.lp_sig.specs.Words.{IsNameFault, IsMeant, AreMeant, IsNumbered, AreNumbered, IsHead, IsFirstFault, WordsStand, parameters_of, IsKindsFault, IsLongType, IsSoundType}
-use Rattle.lp_sig.specs.Modules.{declarations, said_of, constants_of, constant_names_in, said_in_module}
+use Rattle.lp_sig.specs.Modules.{declarations, of_each, said_of, constants_of, constant_names_in, said_in_module}
+use Rattle.lp_sig.specs.Types.{Definition}
 use Rattle.lp_sig.specs.declared.signature.Signature.{Signature}
 use Rattle.lp_sig.specs.declared.fault.SigFault.{SigFault}
 use Rattle.lp_sig.specs.declared.fault.SigFault.TheVariants as fault
@@ -178,6 +182,35 @@ pub record IsFaultAmong (own : Signature) (text : List ℕ) (said : List (Row Sa
   pub at_line : slice_index_or ds k line ≡ line
   pub why : IsLineFault own text said ds line e
   pub before : All (IsLineTaken own text said ds) (take k ds)
+
+-- the same of a sentence: exported constants are blamed as such, and local ones of a type have faults of their own
+abbrev pub AreLocalsFullIf : List ℕ → List (List ℕ) → List Spot → Option RawType → ModuleSigFault → Type 0
+AreLocalsFullIf text words names None e = Unit {0}
+AreLocalsFullIf text words names (Some ty) e = (f : SigFault) → e ≡ wrong.Sig f → IsFullIf text words names f
+
+abbrev pub IsLineFullIf : Signature → List ℕ → List (List ℕ) → Declaration → ModuleSigFault → Type 0
+IsLineFullIf own text words (Kinds names n) e = Unit {0}
+IsLineFullIf own text words (LocalKinds names count) e = Unit {0}
+IsLineFullIf own text words (Constants names ty) e = (f : SigFault) × (e ≡ blamed_by (exports_constant own) text f) × IsFullIf text words names.items f
+IsLineFullIf own text words (Locals names ty) e = AreLocalsFullIf text words names.items ty e
+IsLineFullIf own text words (Abbreviation name ps ty) e = Unit {0}
+IsLineFullIf own text words (Accumulate ws) e = Unit {0}
+IsLineFullIf own text words (AccumSig ws) e = Unit {0}
+IsLineFullIf own text words (Fixities names f n) e = Unit {0}
+
+abbrev pub AreLocalsOtherIf : List ℕ → List (Row Said) → List (Row Definition) → List (Row Ty) → List (Row Written) → List Spot → Option RawType → ModuleSigFault → Type 0
+AreLocalsOtherIf text said defs given rows names None e = Unit {0}
+AreLocalsOtherIf text said defs given rows names (Some ty) e = (f : SigFault) → e ≡ wrong.Sig f → IsOtherIf text said defs given rows names ty f
+
+abbrev pub IsLineOtherIf : Signature → List ℕ → List (Row Said) → List (Row Definition) → List (Row Ty) → List (Row Written) → Declaration → ModuleSigFault → Type 0
+IsLineOtherIf own text said defs given rows (Kinds names n) e = Unit {0}
+IsLineOtherIf own text said defs given rows (LocalKinds names count) e = Unit {0}
+IsLineOtherIf own text said defs given rows (Constants names ty) e = (f : SigFault) × (e ≡ blamed_by (exports_constant own) text f) × IsOtherIf text said defs given rows names.items ty f
+IsLineOtherIf own text said defs given rows (Locals names ty) e = AreLocalsOtherIf text said defs given rows names.items ty e
+IsLineOtherIf own text said defs given rows (Abbreviation name ps ty) e = Unit {0}
+IsLineOtherIf own text said defs given rows (Accumulate ws) e = Unit {0}
+IsLineOtherIf own text said defs given rows (AccumSig ws) e = Unit {0}
+IsLineOtherIf own text said defs given rows (Fixities names f n) e = Unit {0}
 
 -- Why the declarations of a module are refused, where its own signature and those that it names are these: want of memory alone is free.
 abbrev pub IsDeclarationRefusal : Signature → List Signature → List ℕ → List Sentence → ModuleSigFault → Type 0
