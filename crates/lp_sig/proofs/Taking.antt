@@ -20,7 +20,7 @@ use Rattle.lp_syntax.specs.declared.text.Sentence.TheVariants.{Declares, Says}
 use Rattle.lp_syntax.specs.declared.text.RawTypeNode.{RawTypeNode}
 use Rattle.lp_syntax.specs.declared.text.RawTypeNode.TheVariants as node
 use Rattle.lp_sig.specs.Constants.{Written, written_in, IsSchemeOf, IsTyped, standard_tree}
-use Rattle.lp_sig.specs.Differing.{IsKnownType, of_language, of_signatures, of_text, HasNoNumber, IsFullIf, IsOtherIf}
+use Rattle.lp_sig.specs.Differing.{IsKnownType, of_language, of_signatures, of_text, HasNoNumber, IsMetAt, HasNameCause, IsOtherIf}
 use Rattle.lp_sig.specs.Holding.{IsTree, HoldsBodies}
 use Rattle.lp_sig.specs.Knowing.{Knows}
 use Rattle.lp_sig.specs.AsWritten.{typed_locals, typed_by, typed_in}
@@ -107,6 +107,13 @@ type_not_other text said ty f s (inr (long_type m l)) e = let z : fault.Limit li
 type_not_other text said ty f s (inr (word_of_type l w)) e = subst IsOfWord e (of_word text said None w.node f w.is)
 type_not_other text said ty f s (inr (many_variables m h)) e = let z : fault.Limit limit.Arguments ≡ fault.Differ s = sym m ∙ e in absurd (cc)
 
+-- a fault that is no name's
+pub no_name_cause : (text : List ℕ) (words : List (List ℕ)) (names : List Spot) (f : SigFault) → ((s : Spot) → f ≡ fault.Differ s → ⊥) → (f ≡ fault.Limit limit.Names → ⊥) → HasNameCause text words names f
+no_name_cause text words names f d l = record { differs = λ s e. absurd (d s e); full = λ e. absurd (l e) }
+
+pub memory_cause : (text : List ℕ) (words : List (List ℕ)) (names : List Spot) → HasNameCause text words names fault.Memory
+memory_cause text words names = no_name_cause text words names fault.Memory (λ s e. absurd (cc)) (λ e. absurd (cc))
+
 pub sig_is : (f g : SigFault) → wrong.Sig f ≡ wrong.Sig g → f ≡ g
 sig_is f g e = cc
 
@@ -121,6 +128,16 @@ told_not_other text said ty g f s h (inl m) e = let z : fault.Memory ≡ fault.D
 told_not_other text said ty g f s h (inr (inl m)) e = long_not_other f s m e
 told_not_other text said ty g f s h (inr (inr m)) e = type_not_other text said ty g s h (sym m ∙ e)
 
+module _ (text : List ℕ) (words : List (List ℕ)) (names : List Spot) where
+  pub long_cause : (f : SigFault) → f ≡ fault.Limit limit.NameLength → HasNameCause text words names f
+  long_cause f m = no_name_cause text words names f (λ s e. long_not_other f s m e) (λ e. long_not_full f m e)
+
+  pub type_cause : (said : List (Row Said)) (ty : RawType) (f : SigFault) → (f ≡ fault.Memory) ⊎ IsTypeFault text said ty f → HasNameCause text words names f
+  type_cause said ty f h = no_name_cause text words names f (λ s e. type_not_other text said ty f s h e) (λ e. type_not_full text said ty f h e)
+
+  pub told_cause : (said : List (Row Said)) (ty : RawType) (g f : SigFault) → (g ≡ fault.Memory) ⊎ IsTypeFault text said ty g → (f ≡ fault.Memory) ⊎ ((f ≡ fault.Limit limit.NameLength) ⊎ (f ≡ g)) → HasNameCause text words names f
+  told_cause said ty g f h t = no_name_cause text words names f (λ s e. told_not_other text said ty g f s h t e) (λ e. told_not_full text said ty g f h t e)
+
 -- what a name is known as
 pub standard_known : (b : Nodes) (c : Constants) (name : List ℕ) (n : ℕ) (first t : TypeId) → Some n ≡ found name standard_constants → IsTree b (λ T. T ≡ standard_tree n) first → known.Typed first ≡ known.Typed t → IsKnownId b c name t
 standard_known b c name n first t e h is = let one : first ≡ t = cc in standard_id n (sym e) (subst (IsTree b (λ T. T ≡ standard_tree n)) one h)
@@ -134,19 +151,37 @@ constant_known b c name words i k d t h e at is same =
 
 -- a new name without a number
 pub new_full : (text : List ℕ) (words : List (List ℕ)) (c : Constants) (s : Spot) (word : List ℕ) (k : Known) (f : SigFault) (P : Type 0) → word ≡ spelled text s → k ≡ known.New → is_met_word word words ≡ is_met k → HasWords c words →
-    (f ≡ fault.Memory) ⊎ ((f ≡ fault.Limit limit.Names) × P × (END_OF_NUMBERS ≤ 32 + length c.constants.items)) → IsFullIf text words (s ∷ []) f
-new_full text words c s word k f P same is met h (inl m) e = let z : fault.Memory ≡ fault.Limit limit.Names = sym m ∙ e in absurd (cc)
-new_full text words c s word k f P same is met h (inr g) e =
+    (f ≡ fault.Memory) ⊎ ((f ≡ fault.Limit limit.Names) × P × (END_OF_NUMBERS ≤ 32 + length c.constants.items)) → HasNameCause text words (s ∷ []) f
+new_full text words c s word k f P same is met h (inl m) = subst (HasNameCause text words (s ∷ [])) (sym m) (memory_cause text words (s ∷ []))
+new_full text words c s word k f P same is met h (inr g) =
     let l = length-map c.constants.items (λ k. k.name.items) in
     let a = ap length h.are in
     let r = g.2 in
     record {
+      differs = λ z e. let z : fault.Limit limit.Names ≡ fault.Differ z = sym g.0 ∙ e in absurd (cc);
+      full = λ e. record {
+        k = 0;
+        name = s;
+        inside = omega arith;
+        at_name = refl;
+        new = subst (λ ws. is_met_word (spelled text s) ws ≡ false) (sym (append-nil words)) (ap (λ w. is_met_word w words) (sym same) ∙ met ∙ ap is_met is);
+        full = subst (λ ws. END_OF_NUMBERS ≤ 32 + length (first_names (names_in standard_constants) ws)) (sym (append-nil words)) (omega (arith, l, a, r));
+      };
+    }
+
+-- a known name with another type
+pub known_cause : (text : List ℕ) (words : List (List ℕ)) (s : Spot) (word : List ℕ) (k : Known) → word ≡ spelled text s → is_met k ≡ true → is_met_word word words ≡ is_met k → HasNameCause text words (s ∷ []) (fault.Differ s)
+known_cause text words s word k same is met = record {
+  differs = λ z e. by z (let one : s ≡ z = cc in one);
+  full = λ e. absurd (cc);
+}
+  where
+    by : (z : Spot) → s ≡ z → IsMetAt text words (s ∷ []) z
+    by z one = record {
       k = 0;
-      name = s;
       inside = omega arith;
-      at_name = refl;
-      new = subst (λ ws. is_met_word (spelled text s) ws ≡ false) (sym (append-nil words)) (ap (λ w. is_met_word w words) (sym same) ∙ met ∙ ap is_met is);
-      full = subst (λ ws. END_OF_NUMBERS ≤ 32 + length (first_names (names_in standard_constants) ws)) (sym (append-nil words)) (omega (arith, l, a, r));
+      at_name = one;
+      met = subst (λ ws. is_met_word (spelled text z) ws ≡ true) (sym (append-nil words)) (ap (λ w. is_met_word w words) (sym (same ∙ ap (λ s. spelled text s) one)) ∙ met ∙ is);
     }
 
 pub new_not_other : (f : SigFault) (P : Type 0) (s : Spot) → (f ≡ fault.Memory) ⊎ ((f ≡ fault.Limit limit.Names) × P) → f ≡ fault.Differ s → ⊥
@@ -162,8 +197,11 @@ other_known text b c s z word declared t new same h some distinct is =
     )
 
 -- the name of a place among some
-pub full_more : (text : List ℕ) (words : List (List ℕ)) (names : List Spot) (i : ℕ) (x : Spot) (f : SigFault) → i < length names → IsFullIf text (words ++ map (λ s. spelled text s) (take i names)) (get_or names i x ∷ []) f → IsFullIf text words names f
-full_more text words names i x f l h e = by (h e).k (h e).name (h e).inside (h e).at_name (h e).new (h e).full
+pub cause_more : (text : List ℕ) (words : List (List ℕ)) (names : List Spot) (i : ℕ) (x : Spot) (f : SigFault) → i < length names → HasNameCause text (words ++ map (λ s. spelled text s) (take i names)) (get_or names i x ∷ []) f → HasNameCause text words names f
+cause_more text words names i x f l h = record {
+  differs = λ s e. let m = h.differs s e in known s m.k m.inside m.at_name m.met;
+  full = λ e. let n = h.full e in new n.k n.name n.inside n.at_name n.new n.full;
+}
   where
     front : List (List ℕ)
     front = words ++ map (λ s. spelled text s) (take i names)
@@ -171,18 +209,28 @@ full_more text words names i x f l h e = by (h e).k (h e).name (h e).inside (h e
     y : Spot
     y = get_or names i x
 
-    by : (k : ℕ) (n : Spot) → k < 1 → slice_index_or (y ∷ []) k n ≡ n → is_met_word (spelled text n) (front ++ map (λ s. spelled text s) (take k (y ∷ []))) ≡ false →
+    known : (s : Spot) (k : ℕ) → k < 1 → slice_index_or (y ∷ []) k s ≡ s → is_met_word (spelled text s) (front ++ map (λ s. spelled text s) (take k (y ∷ []))) ≡ true → IsMetAt text words names s
+    unfolding front y
+    known s zero k at met = record {
+      k = i;
+      inside = l;
+      at_name = get_or_default names i s x l ∙ at;
+      met = subst (λ ws. is_met_word (spelled text s) ws ≡ true) (append-nil front) met;
+    }
+    known s (suc k) m at met = absurd (omega (arith, m))
+
+    new : (k : ℕ) (n : Spot) → k < 1 → slice_index_or (y ∷ []) k n ≡ n → is_met_word (spelled text n) (front ++ map (λ s. spelled text s) (take k (y ∷ []))) ≡ false →
         END_OF_NUMBERS ≤ 32 + length (first_names (names_in standard_constants) (front ++ map (λ s. spelled text s) (take k (y ∷ [])))) → HasNoNumber text words names
     unfolding front y
-    by zero n k at new full = record {
+    new zero n k at fresh full = record {
       k = i;
       name = y;
       inside = l;
       at_name = get_or_default names i (get_or names i x) x l;
-      new = ap (λ s. is_met_word (spelled text s) front) at ∙ ap (is_met_word (spelled text n)) (sym (append-nil front)) ∙ new;
+      new = ap (λ s. is_met_word (spelled text s) front) at ∙ ap (is_met_word (spelled text n)) (sym (append-nil front)) ∙ fresh;
       full = subst (λ ws. END_OF_NUMBERS ≤ 32 + length (first_names (names_in standard_constants) ws)) (append-nil front) full;
     }
-    by (suc k) n m at new full = absurd (omega (arith, m))
+    new (suc k) n m at fresh full = absurd (omega (arith, m))
 
 -- names that are added
 pub one_added : (old new : List Constant) (word : List ℕ) (declared : Option DeclaredType) (x : Constant) → new ≡ old ++ x ∷ [] → x.name.items ≡ word → x.declared ≡ declared → (k : Constant) → Contains new k → Contains old k ⊎ ((k.name.items ≡ word) × (k.declared ≡ declared))
@@ -368,6 +416,9 @@ sentence_taken old new text l d is h =
 
 pub none_taken : (m : Making) (text : List ℕ) (l : Sentence) (raw : RawTerm) → l ≡ Says raw → TakesOn m m (typed_in text (declarations (l ∷ []))) (constant_names_in text (declarations (l ∷ [])))
 none_taken m text l raw is = subst (λ l. TakesOn m m (typed_in text (declarations (l ∷ []))) (constant_names_in text (declarations (l ∷ [])))) (sym is) (takes_same m)
+
+pub one_declared : (l : Sentence) (c d : Declaration) → l ≡ Declares c → l ≡ Declares d → c ≡ d
+one_declared l c d e f = let z : Declares c ≡ Declares d = sym e ∙ f in cc
 
 -- the first sentence that is refused, with its cause
 pub caused_among : (own : Signature) (text : List ℕ) (said : List (Row Said)) (ls : List Sentence) (i : ℕ) (l : Sentence) (e m : ModuleSigFault) (P : List Declaration → Declaration → ModuleSigFault → Type 0) → i < length ls → l ≡ get_or ls i l →

@@ -1,5 +1,5 @@
 -- Why a sentence of constants of a module's text is refused for its names: which constants are known before it, with which types, and when no number is left for a new one.
-use Rattle.std.specs.Prelude.{◌≡◌, ◌⊎◌, ◌+◌, ◌<◌, ◌≤◌, ℕ, List, [], ◌∷◌, ◌++◌, Option, Some, None, map, take, length, Contains, false, slice_index_or}
+use Rattle.std.specs.Prelude.{◌≡◌, ◌⊎◌, ◌+◌, ◌<◌, ◌≤◌, ℕ, List, [], ◌∷◌, ◌++◌, Option, Some, None, map, take, length, Contains, true, false, slice_index_or}
 use Rattle.lp_base.specs.declared.limits.TheConstants.{END_OF_NUMBERS}
 use Rattle.lp_base.specs.declared.limit.Limit.TheVariants as limit
 use Rattle.lp_base.specs.declared.place.Spot.{Spot}
@@ -40,9 +40,17 @@ pub record HasNoNumber (text : List ℕ) (words : List (List ℕ)) (names : List
   pub new : is_met_word (spelled text name) (words ++ map (λ s. spelled text s) (take k names)) ≡ false
   pub full : END_OF_NUMBERS ≤ 32 + length (first_names (names_in standard_constants) (words ++ map (λ s. spelled text s) (take k names)))
 
--- where names are refused for want of a number, none is left
-abbrev pub IsFullIf : List ℕ → List (List ℕ) → List Spot → SigFault → Type 0
-IsFullIf text words names f = f ≡ fault.Limit limit.Names → HasNoNumber text words names
+-- a name of these is known, or stands before among them
+pub record IsMetAt (text : List ℕ) (words : List (List ℕ)) (names : List Spot) (s : Spot) : Type 0 where
+  pub k : ℕ
+  pub inside : k < length names
+  pub at_name : slice_index_or names k s ≡ s
+  pub met : is_met_word (spelled text s) (words ++ map (λ s. spelled text s) (take k names)) ≡ true
+
+-- why names are refused behind so many known ones: one that is declared otherwise is known, and where numbers are wanting none is left
+pub record HasNameCause (text : List ℕ) (words : List (List ℕ)) (names : List Spot) (f : SigFault) : Type 0 where
+  pub differs : (s : Spot) → f ≡ fault.Differ s → IsMetAt text words names s
+  pub full : f ≡ fault.Limit limit.Names → HasNoNumber text words names
 
 -- where one is declared otherwise, it is one of them, and known with another type
 abbrev pub IsOtherIf : List ℕ → List (Row Said) → List (Row Definition) → List (Row Ty) → List (Row Written) → List Spot → RawType → SigFault → Type 0

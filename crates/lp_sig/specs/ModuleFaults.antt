@@ -9,7 +9,7 @@ use Rattle.lp_syntax.specs.declared.text.RawType.{RawType}
 use Rattle.lp_syntax.specs.declared.text.Sentence.{Sentence}
 use Rattle.lp_calculus.specs.Types.{Ty}
 use Rattle.lp_sig.specs.Constants.{Written}
-use Rattle.lp_sig.specs.Differing.{IsFullIf, IsOtherIf}
+use Rattle.lp_sig.specs.Differing.{HasNameCause, IsOtherIf}
 use Rattle.lp_sig.specs.Pieces.{spelled}
 use Rattle.lp_sig.specs.Rows.{Row}
 use Rattle.lp_sig.specs.Standard.{standard_kinds, standard_constants}
@@ -184,19 +184,19 @@ pub record IsFaultAmong (own : Signature) (text : List ℕ) (said : List (Row Sa
   pub before : All (IsLineTaken own text said ds) (take k ds)
 
 -- the same of a sentence: exported constants are blamed as such, and local ones of a type have faults of their own
-abbrev pub AreLocalsFullIf : List ℕ → List (List ℕ) → List Spot → Option RawType → ModuleSigFault → Type 0
-AreLocalsFullIf text words names None e = Unit {0}
-AreLocalsFullIf text words names (Some ty) e = (f : SigFault) → e ≡ wrong.Sig f → IsFullIf text words names f
+abbrev pub HaveLocalsCause : List ℕ → List (List ℕ) → List Spot → Option RawType → ModuleSigFault → Type 0
+HaveLocalsCause text words names None e = Unit {0}
+HaveLocalsCause text words names (Some ty) e = (f : SigFault) → e ≡ wrong.Sig f → HasNameCause text words names f
 
-abbrev pub IsLineFullIf : Signature → List ℕ → List (List ℕ) → Declaration → ModuleSigFault → Type 0
-IsLineFullIf own text words (Kinds names n) e = Unit {0}
-IsLineFullIf own text words (LocalKinds names count) e = Unit {0}
-IsLineFullIf own text words (Constants names ty) e = (f : SigFault) × (e ≡ blamed_by (exports_constant own) text f) × IsFullIf text words names.items f
-IsLineFullIf own text words (Locals names ty) e = AreLocalsFullIf text words names.items ty e
-IsLineFullIf own text words (Abbreviation name ps ty) e = Unit {0}
-IsLineFullIf own text words (Accumulate ws) e = Unit {0}
-IsLineFullIf own text words (AccumSig ws) e = Unit {0}
-IsLineFullIf own text words (Fixities names f n) e = Unit {0}
+abbrev pub HasLineCause : Signature → List ℕ → List (List ℕ) → Declaration → ModuleSigFault → Type 0
+HasLineCause own text words (Kinds names n) e = Unit {0}
+HasLineCause own text words (LocalKinds names count) e = Unit {0}
+HasLineCause own text words (Constants names ty) e = (f : SigFault) × (e ≡ blamed_by (exports_constant own) text f) × HasNameCause text words names.items f
+HasLineCause own text words (Locals names ty) e = HaveLocalsCause text words names.items ty e
+HasLineCause own text words (Abbreviation name ps ty) e = Unit {0}
+HasLineCause own text words (Accumulate ws) e = Unit {0}
+HasLineCause own text words (AccumSig ws) e = Unit {0}
+HasLineCause own text words (Fixities names f n) e = Unit {0}
 
 abbrev pub AreLocalsOtherIf : List ℕ → List (Row Said) → List (Row Definition) → List (Row Ty) → List (Row Written) → List Spot → Option RawType → ModuleSigFault → Type 0
 AreLocalsOtherIf text said defs given rows names None e = Unit {0}
@@ -212,6 +212,8 @@ IsLineOtherIf own text said defs given rows (Accumulate ws) e = Unit {0}
 IsLineOtherIf own text said defs given rows (AccumSig ws) e = Unit {0}
 IsLineOtherIf own text said defs given rows (Fixities names f n) e = Unit {0}
 
--- Why the declarations of a module are refused, where its own signature and those that it names are these: want of memory alone is free.
+-- Why the declarations of a module are refused, where its own signature and those that it names are these: want of memory alone is free. Where numbers are wanting, none is left behind the names that the signatures have and those of the sentences before.
 abbrev pub IsDeclarationRefusal : Signature → List Signature → List ℕ → List Sentence → ModuleSigFault → Type 0
-IsDeclarationRefusal own used text lines e = (e ≡ wrong.Sig fault.Memory) ⊎ IsFaultAmong own text (said_in_module own used text lines) (declarations lines) e
+IsDeclarationRefusal own used text lines e =
+    (e ≡ wrong.Sig fault.Memory) ⊎
+    ((f : IsFaultAmong own text (said_in_module own used text lines) (declarations lines) e) × HasLineCause own text ((constants_of own ++ of_each constants_of used) ++ constant_names_in text (take f.k (declarations lines))) f.line e)

@@ -18,7 +18,7 @@ ghost use Rattle.lp_sig.specs.Worded.{HasWords, is_met_word, is_met, names_so_fa
 ghost use Rattle.lp_sig.specs.ModuleFaults.{IsNewFault};
 ghost use Rattle.lp_sig.specs.Sighted.{AreCounted, GrowsBehind, PutsBehind, IsTreeOf};
 ghost use Rattle.lp_sig.specs.Sights.{AreTheirEntries};
-ghost use Rattle.lp_sig.specs.Differing.{IsFullIf};
+ghost use Rattle.lp_sig.specs.Differing.{HasNameCause};
 ghost use Rattle.lp_sig.specs.inner.Reading.{CanDeclare, AreDeclaredAs};
 ghost use Rattle.lp_sig.specs.inner.Taking.{IsKnownId, IsInside, AreOtherIds, AddsNames};
 ghost use Rattle.lp_sig.specs.declared.constants.Constant.{Constant as IsNamed};
@@ -226,7 +226,7 @@ impl Constants {
         ensures words { OnOk result ((words : List (List ℕ)) → HasWords self.old words → HasWords self.new (words ++ spelled source.now name ∷ [])) }
         ensures tree { OnOk result ((words : List (List ℕ)) (d : DeclaredType) → declared ≡ Some d → CanDeclare types.old.bank self.old words d → AreDeclaredAs types.new.bank self.new source.now (name ∷ []) d) }
         ensures adds { OnOk result (AddsNames self.old self.new source.now (name ∷ []) declared) }
-        ensures full { (words : List (List ℕ)) → HasWords self.old words → IfErr result (IsFullIf source.now words (name ∷ [])) }
+        ensures full { (words : List (List ℕ)) → HasWords self.old words → IfErr result (HasNameCause source.now words (name ∷ [])) }
         ensures other { (words : List (List ℕ)) → HasWords self.old words → IfErr result (AreOtherIds source.now types.new.bank self.old (name ∷ []) declared) }
     {
         let word = spelled_at(source, name);
@@ -262,7 +262,7 @@ impl Constants {
         ensures words { OnOk result ((words : List (List ℕ)) → HasWords self.old words → HasWords self.new (words ++ map (λ s. spelled source.now s) names.now)) }
         ensures trees { OnOk result ((words : List (List ℕ)) (d : DeclaredType) → declared ≡ Some d → CanDeclare types.old.bank self.old words d → AreDeclaredAs types.new.bank self.new source.now names.now d) }
         ensures adds { OnOk result (AddsNames self.old self.new source.now names.now declared) }
-        ensures full { (words : List (List ℕ)) → HasWords self.old words → IfErr result (IsFullIf source.now words names.now) }
+        ensures full { (words : List (List ℕ)) → HasWords self.old words → IfErr result (HasNameCause source.now words names.now) }
         ensures other { (words : List (List ℕ)) → IsInside types.old.bank declared → HasWords self.old words → IfErr result (AreOtherIds source.now types.new.bank self.old names.now declared) }
     {
         for name in names {

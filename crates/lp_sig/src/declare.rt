@@ -24,7 +24,7 @@ ghost use Rattle.lp_sig.specs.Sighted.{GrowsBehind};
 ghost use Rattle.lp_sig.specs.ModuleFaults.{AreConstantsWrong, IsAbbreviationWrong};
 ghost use Rattle.lp_sig.specs.Worded.{HasWords};
 ghost use Rattle.lp_calculus.specs.Types.{Ty};
-ghost use Rattle.lp_sig.specs.Differing.{IsFullIf, IsOtherIf};
+ghost use Rattle.lp_sig.specs.Differing.{HasNameCause, IsOtherIf};
 ghost use Rattle.lp_sig.specs.inner.Reading.{Reads};
 ghost use Rattle.lp_sig.specs.inner.Taking.{IsTaking, Takes};
 ghost use Rattle.lp_sig.specs.Constants.{Written, written_in, constants_by, constants_in, KnowsConstants, AreSettledIf, AreTypedIf, AreTakenConstants, HasFewVariables, IsConstantsFault};
@@ -154,7 +154,7 @@ pub(crate) fn declare_constants(
     ensures declared { (from : ℕ) (z : Seen) (rows : List (Row Written)) → Knows names.now z.said → HoldsBodies bodies.old.types.bank bodies.old.bodies.items z.said z.definitions → AreSettledIf from z bodies.old.bodies.items → KnowsConstants bodies.old.types.bank constants.old z.said z.definitions rows → AreTypedIf from z rows constants.old → IfOk result (λ done. AreTypedIf from z (rows ++ each source.now (written_in source.now raw.now) spots.now) constants.new × AreTakenConstants from z rows (each source.now (written_in source.now raw.now) spots.now)) }
     ensures words { OnOk result ((words : List (List ℕ)) → HasWords constants.old words → HasWords constants.new (words ++ map (λ s. spelled source.now s) spots.now)) }
     ensures reads { OnOk result (Reads names.now bodies.old constants.old bodies.new constants.new (each source.now (written_in source.now raw.now) spots.now) (map (λ s. spelled source.now s) spots.now)) }
-    ensures full { (said : List (Row Said)) (words : List (List ℕ)) → Knows names.now said → HasWords constants.old words → IfErr result (IsFullIf source.now words spots.now) }
+    ensures full { (said : List (Row Said)) (words : List (List ℕ)) → Knows names.now said → HasWords constants.old words → IfErr result (HasNameCause source.now words spots.now) }
     ensures other { (said : List (Row Said)) (defs : List (Row Definition)) (given : List (Row Ty)) (rows : List (Row Written)) (words : List (List ℕ)) → IsTaking names.now bodies.old constants.old said defs given rows words → IfErr result (IsOtherIf source.now said defs given rows spots.now raw.now) }
     ensures takes { OnOk result (Takes names.now bodies.old constants.old bodies.new constants.new (each source.now (written_in source.now raw.now) spots.now) (map (λ s. spelled source.now s) spots.now)) }
 {

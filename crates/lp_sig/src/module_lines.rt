@@ -24,8 +24,8 @@ ghost use Rattle.lp_calculus.specs.Types.{Ty};
 ghost use Rattle.lp_term.specs.Nodes.{Extends};
 ghost use Rattle.lp_sig.specs.Types.{Definition};
 ghost use Rattle.lp_sig.specs.Constants.{Written, written_in};
-ghost use Rattle.lp_sig.specs.Differing.{IsFullIf, IsOtherIf};
-ghost use Rattle.lp_sig.specs.ModuleFaults.{AreLocalsFullIf, AreLocalsOtherIf, IsLineFullIf, IsLineOtherIf};
+ghost use Rattle.lp_sig.specs.Differing.{HasNameCause, IsOtherIf};
+ghost use Rattle.lp_sig.specs.ModuleFaults.{HaveLocalsCause, AreLocalsOtherIf, HasLineCause, IsLineOtherIf};
 ghost use Rattle.lp_sig.specs.inner.Taking.{IsInside, AreOtherIds, AddsNames, IsTaking, TakesOn};
 ghost use Rattle.lp_sig.specs.AsWritten.{typed_locals, typed_by};
 ghost use Rattle.lp_sig.specs.inner.Reading.{CanDeclare, AreDeclaredAs, ReadsOn};
@@ -238,7 +238,7 @@ impl<'a> ModuleLines<'a> {
         ensures words { OnOk result ((words : List (List ℕ)) → HasWords making.old.constants words → HasWords making.new.constants (words ++ map (λ s. spelled self.now.source.now s) names.now)) }
         ensures kept { making.new.bodies.bodies ≡ making.old.bodies.bodies }
         ensures reads { OnOk result (ReadsOn making.old making.new (each self.now.source.now (written_in self.now.source.now raw.now) names.now) (map (λ s. spelled self.now.source.now s) names.now)) }
-        ensures full { (said : List (Row IsSaid)) (words : List (List ℕ)) → Knows making.old.names said → HasWords making.old.constants words → IfErr result (λ e. (f : IsFault) × (e ≡ blamed_by (exports_constant self.now.own.now) self.now.source.now f) × IsFullIf self.now.source.now words names.now f) }
+        ensures full { (said : List (Row IsSaid)) (words : List (List ℕ)) → Knows making.old.names said → HasWords making.old.constants words → IfErr result (λ e. (f : IsFault) × (e ≡ blamed_by (exports_constant self.now.own.now) self.now.source.now f) × HasNameCause self.now.source.now words names.now f) }
         ensures other { (said : List (Row IsSaid)) (defs : List (Row Definition)) (given : List (Row Ty)) (rows : List (Row Written)) (words : List (List ℕ)) → IsTaking making.old.names making.old.bodies making.old.constants said defs given rows words → IfErr result (λ e. (f : IsFault) × (e ≡ blamed_by (exports_constant self.now.own.now) self.now.source.now f) × IsOtherIf self.now.source.now said defs given rows names.now raw.now f) }
         ensures takes { OnOk result (TakesOn making.old making.new (each self.now.source.now (written_in self.now.source.now raw.now) names.now) (map (λ s. spelled self.now.source.now s) names.now)) }
         ensures refused { (said : List (Row IsSaid)) → Knows making.old.names said → IfErr result (λ e. (e ≡ wrong.Sig reason.Memory) ⊎ ((f : IsFault) × AreConstantsWrong self.now.source.now said names.now raw.now f × (e ≡ blamed_by (exports_constant self.now.own.now) self.now.source.now f))) }
@@ -285,7 +285,7 @@ impl<'a> ModuleLines<'a> {
         ensures kept { making.new.bodies.bodies ≡ making.old.bodies.bodies }
         ensures tree { OnOk result ((words : List (List ℕ)) (d : DeclaredType) → declared ≡ Some d → CanDeclare making.old.bodies.types.bank making.old.constants words d → AreDeclaredAs making.new.bodies.types.bank making.new.constants self.now.source.now (name ∷ []) d) }
         ensures adds { OnOk result (AddsNames making.old.constants making.new.constants self.now.source.now (name ∷ []) declared) }
-        ensures full { (words : List (List ℕ)) → HasWords making.old.constants words → IfErr result (λ e. (f : IsFault) → e ≡ wrong.Sig f → IsFullIf self.now.source.now words (name ∷ []) f) }
+        ensures full { (words : List (List ℕ)) → HasWords making.old.constants words → IfErr result (λ e. (f : IsFault) → e ≡ wrong.Sig f → HasNameCause self.now.source.now words (name ∷ []) f) }
         ensures other { (words : List (List ℕ)) → HasWords making.old.constants words → IfErr result (λ e. (f : IsFault) → e ≡ wrong.Sig f → AreOtherIds self.now.source.now making.new.bodies.types.bank making.old.constants (name ∷ []) declared f) }
         ensures bank { Extends making.old.bodies.types.bank making.new.bodies.types.bank }
         ensures refused { IfErr result (λ e. (e ≡ wrong.Sig reason.Memory) ⊎ IsLocalFault (exports_constant self.now.own.now) self.now.source.now (IsNewLocal self.now.source.now) name e) }
@@ -315,7 +315,7 @@ impl<'a> ModuleLines<'a> {
         ensures kept { making.new.bodies.bodies ≡ making.old.bodies.bodies }
         ensures trees { OnOk result ((words : List (List ℕ)) (d : DeclaredType) → declared ≡ Some d → CanDeclare making.old.bodies.types.bank making.old.constants words d → AreDeclaredAs making.new.bodies.types.bank making.new.constants self.now.source.now names.now d) }
         ensures adds { OnOk result (AddsNames making.old.constants making.new.constants self.now.source.now names.now declared) }
-        ensures full { (words : List (List ℕ)) → HasWords making.old.constants words → IfErr result (λ e. (f : IsFault) → e ≡ wrong.Sig f → IsFullIf self.now.source.now words names.now f) }
+        ensures full { (words : List (List ℕ)) → HasWords making.old.constants words → IfErr result (λ e. (f : IsFault) → e ≡ wrong.Sig f → HasNameCause self.now.source.now words names.now f) }
         ensures other { (words : List (List ℕ)) → IsInside making.old.bodies.types.bank declared → HasWords making.old.constants words → IfErr result (λ e. (f : IsFault) → e ≡ wrong.Sig f → AreOtherIds self.now.source.now making.new.bodies.types.bank making.old.constants names.now declared f) }
         ensures bank { Extends making.old.bodies.types.bank making.new.bodies.types.bank }
         ensures refused { IfErr result (λ e. (e ≡ wrong.Sig reason.Memory) ⊎ IsFirstOf (IsLocalFault (exports_constant self.now.own.now) self.now.source.now (IsNewLocal self.now.source.now)) (IsLocal (exports_constant self.now.own.now) self.now.source.now (IsShort self.now.source.now)) names.now e) }
@@ -365,7 +365,7 @@ impl<'a> ModuleLines<'a> {
         ensures words { OnOk result ((words : List (List ℕ)) → HasWords making.old.constants words → HasWords making.new.constants (words ++ map (λ s. spelled self.now.source.now s) names.now)) }
         ensures kept { making.new.bodies.bodies ≡ making.old.bodies.bodies }
         ensures reads { OnOk result (ReadsOn making.old making.new (each self.now.source.now (written_in self.now.source.now raw.now) names.now) (map (λ s. spelled self.now.source.now s) names.now)) }
-        ensures full { (said : List (Row IsSaid)) (words : List (List ℕ)) → Knows making.old.names said → HasWords making.old.constants words → IfErr result (λ e. (f : IsFault) → e ≡ wrong.Sig f → IsFullIf self.now.source.now words names.now f) }
+        ensures full { (said : List (Row IsSaid)) (words : List (List ℕ)) → Knows making.old.names said → HasWords making.old.constants words → IfErr result (λ e. (f : IsFault) → e ≡ wrong.Sig f → HasNameCause self.now.source.now words names.now f) }
         ensures other { (said : List (Row IsSaid)) (defs : List (Row Definition)) (given : List (Row Ty)) (rows : List (Row Written)) (words : List (List ℕ)) → IsTaking making.old.names making.old.bodies making.old.constants said defs given rows words → IfErr result (λ e. (f : IsFault) → e ≡ wrong.Sig f → IsOtherIf self.now.source.now said defs given rows names.now raw.now f) }
         ensures takes { OnOk result (TakesOn making.old making.new (each self.now.source.now (written_in self.now.source.now raw.now) names.now) (map (λ s. spelled self.now.source.now s) names.now)) }
         ensures refused { (said : List (Row IsSaid)) → Knows making.old.names said → IfErr result (λ e. (e ≡ wrong.Sig reason.Memory) ⊎ AreLocalsWrong self.now.own.now self.now.source.now said names.now raw.now e) }
@@ -414,7 +414,7 @@ impl<'a> ModuleLines<'a> {
         ensures words { OnOk result ((words : List (List ℕ)) → HasWords making.old.constants words → HasWords making.new.constants (words ++ local_names self.now.source.now names.now raw.now)) }
         ensures kept { making.new.bodies.bodies ≡ making.old.bodies.bodies }
         ensures reads { OnOk result (ReadsOn making.old making.new (typed_locals self.now.source.now names.now raw.now) (local_names self.now.source.now names.now raw.now)) }
-        ensures full { (said : List (Row IsSaid)) (words : List (List ℕ)) → Knows making.old.names said → HasWords making.old.constants words → IfErr result (AreLocalsFullIf self.now.source.now words names.now raw.now) }
+        ensures full { (said : List (Row IsSaid)) (words : List (List ℕ)) → Knows making.old.names said → HasWords making.old.constants words → IfErr result (HaveLocalsCause self.now.source.now words names.now raw.now) }
         ensures other { (said : List (Row IsSaid)) (defs : List (Row Definition)) (given : List (Row Ty)) (rows : List (Row Written)) (words : List (List ℕ)) → IsTaking making.old.names making.old.bodies making.old.constants said defs given rows words → IfErr result (AreLocalsOtherIf self.now.source.now said defs given rows names.now raw.now) }
         ensures takes { OnOk result (TakesOn making.old making.new (typed_locals self.now.source.now names.now raw.now) (local_names self.now.source.now names.now raw.now)) }
         ensures refused { (said : List (Row IsSaid)) (known : List (List ℕ)) → Knows making.old.names said → HasKeys self.now.said.now.constants known → IfErr result (λ e. (e ≡ wrong.Sig reason.Memory) ⊎ AreLocalsRefused self.now.own.now self.now.source.now said known names.now raw.now e) }
@@ -485,7 +485,7 @@ impl<'a> ModuleLines<'a> {
         ensures words { OnOk result ((words : List (List ℕ)) → HasWords making.old.constants words → HasWords making.new.constants (words ++ constant_names_by self.now.source.now declaration.now)) }
         ensures kept { making.new.bodies.bodies ≡ making.old.bodies.bodies }
         ensures reads { OnOk result (ReadsOn making.old making.new (typed_by self.now.source.now declaration.now) (constant_names_by self.now.source.now declaration.now)) }
-        ensures full { (said : List (Row IsSaid)) (words : List (List ℕ)) → Knows making.old.names said → HasWords making.old.constants words → IfErr result (IsLineFullIf self.now.own.now self.now.source.now words declaration.now) }
+        ensures full { (said : List (Row IsSaid)) (words : List (List ℕ)) → Knows making.old.names said → HasWords making.old.constants words → IfErr result (HasLineCause self.now.own.now self.now.source.now words declaration.now) }
         ensures other { (said : List (Row IsSaid)) (defs : List (Row Definition)) (given : List (Row Ty)) (rows : List (Row Written)) (words : List (List ℕ)) → IsTaking making.old.names making.old.bodies making.old.constants said defs given rows words → IfErr result (IsLineOtherIf self.now.own.now self.now.source.now said defs given rows declaration.now) }
         ensures takes { OnOk result (TakesOn making.old making.new (typed_by self.now.source.now declaration.now) (constant_names_by self.now.source.now declaration.now)) }
         ensures alike { OnOk result ((signatures modules : List (List ℕ)) → HasNumbers self.now.said.now.accum_sigs signatures → HasNumbers self.now.said.now.accumulates modules → AreWordsAlike self.now.sights.now self.now.source.now signatures modules (declaration.now ∷ [])) }

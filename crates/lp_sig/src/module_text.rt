@@ -1,5 +1,5 @@
 // From a module's declarations to the signature of what it sees.
-ghost use Rattle.std.specs.Prelude.{◌≡◌, ◌⊎◌, ◌++◌, ◌<◌, ◌≤◌, ℕ, List, [], ◌∷◌, length, map, Some, All, slice_get, IfOk, IfErr, OnOk};
+ghost use Rattle.std.specs.Prelude.{◌≡◌, ◌⊎◌, ◌++◌, ◌<◌, ◌≤◌, ℕ, List, [], ◌∷◌, length, map, take, Some, All, slice_get, IfOk, IfErr, OnOk};
 ghost use Rattle.lp_standard.specs.declared.fixity.Fixity.{Fixity as IsFixity};
 ghost use Rattle.lp_sig.specs.Rows.{Row, fixity_row};
 ghost use Rattle.lp_sig.specs.Said.{Said as IsSaid, said_in};
@@ -8,7 +8,7 @@ ghost use Rattle.lp_sig.specs.Modules.{declarations, of_each, said_of, constants
 ghost use Rattle.lp_sig.specs.Named.{NamedTy, IsOrdered, SeesTheirs, kind_names};
 ghost use Rattle.lp_sig.specs.Sighted.{Grows, AreCounted, AreKinds, AreNew, SeenSo};
 ghost use Rattle.lp_sig.specs.Sights.{HasKeys, HasNumbers, AreAlike, AreWordsAlike};
-ghost use Rattle.lp_sig.specs.ModuleFaults.{kind_names_in, IsLineFault, IsLineTaken, IsFaultAmong, IsDeclarationRefusal};
+ghost use Rattle.lp_sig.specs.ModuleFaults.{kind_names_in, IsLineFault, IsLineTaken, IsFaultAmong, HasLineCause, IsLineOtherIf, IsDeclarationRefusal};
 ghost use Rattle.lp_sig.specs.declared.fault.SigFault.TheVariants as fault;
 ghost use Rattle.lp_sig.specs.declared.module_fault.ModuleSigFault.TheVariants as wrong;
 ghost use Rattle.lp_syntax.specs.declared.text.Declaration.{Declaration as IsDeclaration};
@@ -20,6 +20,9 @@ ghost use Rattle.lp_sig.specs.Holding.{KnowsBodies, HoldsBodies, line_of_module}
 ghost use Rattle.lp_sig.specs.AsWritten.{bodies_of, HasWholeBodies, typed_in, DeclaresTypes};
 ghost use Rattle.lp_sig.specs.inner.Given.{GivesBodies, GivesMore};
 ghost use Rattle.lp_sig.specs.inner.Reading.{ReadsOn};
+ghost use Rattle.lp_sig.specs.inner.Taking.{IsTaking, TakesOn, IsCausedFrom};
+ghost use Rattle.lp_calculus.specs.Types.{Ty};
+ghost use Rattle.lp_sig.specs.Constants.{Written};
 
 use crate::hearing::Said;
 use crate::making::Making;
@@ -103,6 +106,9 @@ fn declare_sentence(
     ensures grown { OnOk result (Grows making.old making.new) }
     ensures kept { making.new.bodies.bodies ≡ making.old.bodies.bodies }
     ensures reads { OnOk result (ReadsOn making.old making.new (typed_in lines.now.source.now (declarations (sentence.now ∷ []))) (constant_names_in lines.now.source.now (declarations (sentence.now ∷ [])))) }
+    ensures full { (said : List (Row IsSaid)) (words : List (List ℕ)) → Knows making.old.names said → HasWords making.old.constants words → (d : IsDeclaration) → sentence.now ≡ Declares d → IfErr result (HasLineCause lines.now.own.now lines.now.source.now words d) }
+    ensures other { (said : List (Row IsSaid)) (defs : List (Row Definition)) (given : List (Row Ty)) (rows : List (Row Written)) (words : List (List ℕ)) → IsTaking making.old.names making.old.bodies making.old.constants said defs given rows words → (d : IsDeclaration) → sentence.now ≡ Declares d → IfErr result (IsLineOtherIf lines.now.own.now lines.now.source.now said defs given rows d) }
+    ensures takes { OnOk result (TakesOn making.old making.new (typed_in lines.now.source.now (declarations (sentence.now ∷ []))) (constant_names_in lines.now.source.now (declarations (sentence.now ∷ [])))) }
     ensures words { OnOk result ((words : List (List ℕ)) → HasWords making.old.constants words → HasWords making.new.constants (words ++ constant_names_in lines.now.source.now (declarations (sentence.now ∷ [])))) }
     ensures alike { OnOk result ((signatures modules : List (List ℕ)) → HasNumbers lines.now.said.now.accum_sigs signatures → HasNumbers lines.now.said.now.accumulates modules → AreWordsAlike lines.now.sights.now lines.now.source.now signatures modules (declarations (sentence.now ∷ []))) }
     ensures refused { (said : List (Row IsSaid)) (ds : List IsDeclaration) → Knows making.old.names said → HasKeys lines.now.said.now.kinds (kind_names_in lines.now.source.now ds) → HasKeys lines.now.said.now.constants (constant_names_in lines.now.source.now ds) → IfErr result (λ e. (e ≡ wrong.Sig fault.Memory) ⊎ ((d : IsDeclaration) × (sentence.now ≡ Declares d) × IsLineFault lines.now.own.now lines.now.source.now said ds d e)) }
@@ -125,9 +131,10 @@ fn declare_all(
     ensures grown { OnOk result (Grows making.old making.new) }
     ensures kept { making.new.bodies.bodies ≡ making.old.bodies.bodies }
     ensures reads { OnOk result (ReadsOn making.old making.new (typed_in lines.now.source.now (declarations text.now.lines.items)) (constant_names_in lines.now.source.now (declarations text.now.lines.items))) }
+    ensures takes { OnOk result (TakesOn making.old making.new (typed_in lines.now.source.now (declarations text.now.lines.items)) (constant_names_in lines.now.source.now (declarations text.now.lines.items))) }
     ensures words { OnOk result ((words : List (List ℕ)) → HasWords making.old.constants words → HasWords making.new.constants (words ++ constant_names_in lines.now.source.now (declarations text.now.lines.items))) }
     ensures alike { OnOk result ((signatures modules : List (List ℕ)) → HasNumbers lines.now.said.now.accum_sigs signatures → HasNumbers lines.now.said.now.accumulates modules → AreWordsAlike lines.now.sights.now lines.now.source.now signatures modules (declarations text.now.lines.items)) }
-    ensures refused { (said : List (Row IsSaid)) → Knows making.old.names said → HasKeys lines.now.said.now.kinds (kind_names_in lines.now.source.now (declarations text.now.lines.items)) → HasKeys lines.now.said.now.constants (constant_names_in lines.now.source.now (declarations text.now.lines.items)) → IfErr result (λ e. (e ≡ wrong.Sig fault.Memory) ⊎ IsFaultAmong lines.now.own.now lines.now.source.now said (declarations text.now.lines.items) e) }
+    ensures refused { (said : List (Row IsSaid)) (words : List (List ℕ)) → Knows making.old.names said → HasKeys lines.now.said.now.kinds (kind_names_in lines.now.source.now (declarations text.now.lines.items)) → HasKeys lines.now.said.now.constants (constant_names_in lines.now.source.now (declarations text.now.lines.items)) → HasWords making.old.constants words → IfErr result (λ e. (e ≡ wrong.Sig fault.Memory) ⊎ ((f : IsFaultAmong lines.now.own.now lines.now.source.now said (declarations text.now.lines.items) e) × IsCausedFrom making.old lines.now.own.now lines.now.source.now said words (take f.k (declarations text.now.lines.items)) f.line e)) }
 {
     for at in 0..text.lines.len() {
         declare_sentence(making, lines, &text.lines[at])?;

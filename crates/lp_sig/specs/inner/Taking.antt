@@ -4,10 +4,14 @@ use Rattle.lp_base.specs.declared.place.Spot.{Spot}
 use Rattle.lp_calculus.specs.Types.{Ty}
 use Rattle.lp_term.specs.Nodes.{Nodes, type_tree}
 use Rattle.lp_term.specs.declared.node.TypeId.{TypeId}
+use Rattle.lp_syntax.specs.declared.text.Declaration.{Declaration}
+use Rattle.lp_sig.specs.AsWritten.{typed_in}
 use Rattle.lp_sig.specs.Constants.{Written, standard_tree}
 use Rattle.lp_sig.specs.Differing.{IsKnownType}
 use Rattle.lp_sig.specs.Holding.{IsTree, HoldsBodies}
 use Rattle.lp_sig.specs.Knowing.{Knows}
+use Rattle.lp_sig.specs.ModuleFaults.{HasLineCause, IsLineOtherIf}
+use Rattle.lp_sig.specs.Modules.{constant_names_in}
 use Rattle.lp_sig.specs.Pieces.{spelled}
 use Rattle.lp_sig.specs.Rows.{Row, found}
 use Rattle.lp_sig.specs.Said.{Said}
@@ -21,7 +25,9 @@ use Rattle.lp_sig.specs.declared.constants.DeclaredType.{DeclaredType}
 use Rattle.lp_sig.specs.declared.fault.SigFault.{SigFault}
 use Rattle.lp_sig.specs.declared.fault.SigFault.TheVariants as fault
 use Rattle.lp_sig.specs.declared.making.Making.{Making}
+use Rattle.lp_sig.specs.declared.module_fault.ModuleSigFault.{ModuleSigFault}
 use Rattle.lp_sig.specs.declared.names.Names.{Names}
+use Rattle.lp_sig.specs.declared.signature.Signature.{Signature}
 
 -- a name is known with this type of the bank
 pub data IsKnownId (b : Nodes) (c : Constants) (name : List ℕ) (t : TypeId) : Type 0 where
@@ -64,3 +70,8 @@ Takes names b c new d rows more = (said : List (Row Said)) (defs : List (Row Def
 
 abbrev pub TakesOn : Making → Making → List (Row Written) → List (List ℕ) → Type 0
 TakesOn old new rows more = Takes old.names old.bodies old.constants new.bodies new.constants rows more
+
+-- why a sentence is refused, where so many names are known before the text, and these sentences are before it in the text
+pub record IsCausedFrom (making : Making) (own : Signature) (text : List ℕ) (said : List (Row Said)) (words : List (List ℕ)) (before : List Declaration) (line : Declaration) (e : ModuleSigFault) : Type 0 where
+  pub full : HasLineCause own text (words ++ constant_names_in text before) line e
+  pub other : (defs : List (Row Definition)) (given : List (Row Ty)) (rows : List (Row Written)) → IsTaking making.names making.bodies making.constants said defs given rows words → IsLineOtherIf own text said defs given (rows ++ typed_in text before) line e

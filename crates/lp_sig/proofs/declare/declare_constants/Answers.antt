@@ -11,8 +11,8 @@ use Rattle.std.specs.Prelude.{◌⊎◌}
 use Rattle.lp_sig.specs.ModuleFaults as faults
 use Rattle.lp_sig.specs.declared.fault.SigFault.TheVariants as fault
 use Rattle.lp_term.proofs.Trees.{extends-trans}
-use Rattle.lp_sig.specs.Differing.{IsFullIf, IsOtherIf}
-use Rattle.lp_sig.proofs.Taking.{long_not_full, long_not_other, type_not_full, type_not_other, other_written, typed_inside, takes_typed}
+use Rattle.lp_sig.specs.Differing.{HasNameCause, IsOtherIf}
+use Rattle.lp_sig.proofs.Taking.{long_cause, long_not_other, type_cause, type_not_other, other_written, typed_inside, takes_typed}
 use Rattle.lp_sig.proofs.declare.declare_constants.Goals as goal
 
 pub returns-in_err-check_lengths-clause-exact : goal.returns-in_err-check_lengths-clause-exact
@@ -87,12 +87,12 @@ returns-clause-reads c = on_ok_both c.declare_all.result c.declare_all.ensures.t
     (λ said k uses. c.in_ok-declared.ensures.settled said k uses) c.in_ok-declared.ensures.typed trees words)
 
 pub returns-in_err-check_lengths-clause-full : goal.returns-in_err-check_lengths-clause-full
-returns-in_err-check_lengths-clause-full c = λ said words k h. passed_up c.from_residual.result c.in_err-check_lengths.field-0.0 (IsFullIf c.args.source.now words c.args.spots.now) c.from_residual.ensures.1
-    (λ e. absurd (long_not_full c.in_err-check_lengths.field-0.0 c.in_err-check_lengths.ensures.long.0 e))
+returns-in_err-check_lengths-clause-full c = λ said words k h. passed_up c.from_residual.result c.in_err-check_lengths.field-0.0 (HasNameCause c.args.source.now words c.args.spots.now) c.from_residual.ensures.1
+    (long_cause c.args.source.now words c.args.spots.now c.in_err-check_lengths.field-0.0 c.in_err-check_lengths.ensures.long.0)
 
 pub returns-in_err-declared-clause-full : goal.returns-in_err-declared-clause-full
-returns-in_err-declared-clause-full c = λ said words k h. passed_up c.from_residual-in_err-declared.result c.in_err-declared.field-0.0 (IsFullIf c.args.source.now words c.args.spots.now) c.from_residual-in_err-declared.ensures.1
-    (λ e. absurd (type_not_full c.args.source.now said c.args.raw.now c.in_err-declared.field-0.0 (c.in_err-declared.ensures.reason said k) e))
+returns-in_err-declared-clause-full c = λ said words k h. passed_up c.from_residual-in_err-declared.result c.in_err-declared.field-0.0 (HasNameCause c.args.source.now words c.args.spots.now) c.from_residual-in_err-declared.ensures.1
+    (type_cause c.args.source.now words c.args.spots.now said c.args.raw.now c.in_err-declared.field-0.0 (c.in_err-declared.ensures.reason said k))
 
 pub returns-clause-full : goal.returns-clause-full
 returns-clause-full c = λ said words k h. c.declare_all.ensures.full words h

@@ -5,7 +5,7 @@ use Rattle.lp_sig.specs.inner.Given.{GivesBodies}
 use Rattle.lp_sig.specs.AsWritten.{as_trees, typed_in, bodies_of}
 use Rattle.lp_sig.specs.Holding.{HoldsBodies, line_of_module}
 use Rattle.lp_sig.specs.Types.{definitions_in}
-use Rattle.std.proofs.Common.{◌+◌, ◌≤◌, refl, inl, [], ◌++◌, ◌∙◌, length, get_or, sym, ap, subst, map, append_assoc, arith}
+use Rattle.std.proofs.Common.{◌+◌, ◌≤◌, refl, inl, inr, ⊎_elim, [], ◌++◌, ◌∙◌, length, get_or, sym, ap, subst, map, append_assoc, arith}
 use Rattle.std.proofs.lemmas.Option.{same_Some, slice_get-get_or, slice_get_within}
 use Rattle.lp_base.specs.declared.limits.TheConstants.{END_OF_NUMBERS}
 use Rattle.lp_sig.specs.Rows.{fixity_row}
@@ -83,12 +83,16 @@ returns-clause-theirs c =
 
 pub returns-in_err-declare_all-clause-refused : goal.returns-in_err-declare_all-clause-refused
 returns-in_err-declare_all-clause-refused c =
+    let own = c.args.own.now in
+    let used = c.args.used.now in
+    let words = constants_of own ++ of_each constants_of used in
     passed_up c.from_residual-in_err-declare_all.result c.in_err-declare_all.field-0.0
-    (IsDeclarationRefusal c.args.own.now c.args.used.now c.args.source.now c.args.text.now.lines.items)
+    (IsDeclarationRefusal own used c.args.source.now c.args.text.now.lines.items)
     c.from_residual-in_err-declare_all.ensures.1
-    (c.in_err-declare_all.ensures.refused (said_in_module c.args.own.now c.args.used.now c.args.source.now c.args.text.now.lines.items)
-    (c.in_ok-announce_all.ensures.names (said_of c.args.own.now ++ of_each said_of c.args.used.now) (c.in_ok-sights.ensures.names [] c.new-making.ensures.names))
-    c.in_ok-said.ensures.kinds c.in_ok-said.ensures.constants)
+    (⊎_elim (λ m. inl m) (λ r. inr (r.0, r.1.full)) (c.in_err-declare_all.ensures.refused (said_in_module own used c.args.source.now c.args.text.now.lines.items) words
+    (c.in_ok-announce_all.ensures.names (said_of own ++ of_each said_of used) (c.in_ok-sights.ensures.names [] c.new-making.ensures.names))
+    c.in_ok-said.ensures.kinds c.in_ok-said.ensures.constants
+    (subst (λ k. HasWords k words) (sym c.announce_all.ensures.constants) (c.in_ok-sights.ensures.words [] c.new-making.ensures.words))))
 
 pub returns-in_err-signature-clause-refused : goal.returns-in_err-signature-clause-refused
 returns-in_err-signature-clause-refused c =

@@ -10,10 +10,10 @@ use Rattle.lp_sig.proofs.KnownConstants.{grows_same}
 use Rattle.lp_lemmas.proofs.Elements.{Contains_head}
 use Rattle.lp_sig.specs.ModuleFaults as faults
 use Rattle.lp_lemmas.proofs.Results.{passed_up}
-use Rattle.lp_sig.specs.Differing.{IsFullIf}
+use Rattle.lp_sig.specs.Differing.{HasNameCause}
 use Rattle.lp_sig.specs.inner.Taking.{AreOtherIds}
 use Rattle.lp_sig.specs.declared.fault.SigFault.TheVariants as fault
-use Rattle.lp_sig.proofs.Taking.{new_full, new_not_other, other_known, adds_same, name_added}
+use Rattle.lp_sig.proofs.Taking.{new_full, known_cause, memory_cause, new_not_other, other_known, adds_same, name_added}
 use Rattle.lp_sig.proofs.constants.Constants.declare.Goals as goal
 
 pub returns-in-New-clause-why : goal.returns-in-New-clause-why
@@ -154,14 +154,14 @@ pub returns-else-not-are_equal-clause-adds : goal.returns-else-not-are_equal-cla
 returns-else-not-are_equal-clause-adds c = adds_same c.args.self.now c.args.source.now (c.args.name ∷ []) c.args.declared
 
 pub returns-in-New-clause-full : goal.returns-in-New-clause-full
-returns-in-New-clause-full c = λ words h. IfErr-weaker c.add.result _ (IsFullIf c.args.source.now words (c.args.name ∷ []))
+returns-in-New-clause-full c = λ words h. IfErr-weaker c.add.result _ (HasNameCause c.args.source.now words (c.args.name ∷ []))
     (λ f g. new_full c.args.source.now words c.args.self.now c.args.name c.spelled_at-word.result.now c.in_ok-known_as.field-0 f _ c.spelled_at-word.ensures c.in-New.is (c.in_ok-known_as.ensures.met words h) h g) c.add.ensures.full
 
 pub returns-then-not-are_equal-clause-full : goal.returns-then-not-are_equal-clause-full
-returns-then-not-are_equal-clause-full c = λ words h e. absurd (cc)
+returns-then-not-are_equal-clause-full c = λ words h. known_cause c.args.source.now words c.args.name c.spelled_at-word.result.now c.in_ok-known_as.field-0 c.spelled_at-word.ensures (ap is_met c.in-Typed.is) (c.in_ok-known_as.ensures.met words h)
 
 pub returns-in_err-known_as-clause-full : goal.returns-in_err-known_as-clause-full
-returns-in_err-known_as-clause-full c = λ words h. passed_up c.from_residual.result fault.Memory (IsFullIf c.args.source.now words (c.args.name ∷ [])) c.from_residual.ensures.1 (λ e. absurd (cc))
+returns-in_err-known_as-clause-full c = λ words h. passed_up c.from_residual.result fault.Memory (HasNameCause c.args.source.now words (c.args.name ∷ [])) c.from_residual.ensures.1 (memory_cause c.args.source.now words (c.args.name ∷ []))
 
 pub returns-in-New-clause-other : goal.returns-in-New-clause-other
 returns-in-New-clause-other c = λ words h. IfErr-weaker c.add.result _ (AreOtherIds c.args.source.now c.known_as.new.types.bank c.args.self.now (c.args.name ∷ []) c.args.declared)

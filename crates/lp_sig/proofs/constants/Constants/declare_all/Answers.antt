@@ -18,9 +18,9 @@ use Rattle.lp_sig.proofs.Worded.{mapped_more}
 use Rattle.lp_sig.specs.ModuleFaults.{IsNewFault}
 use Rattle.lp_sig.specs.declared.fault.SigFault.TheVariants as fault
 use Rattle.lp_sig.proofs.Refusing.{new_or}
-use Rattle.lp_sig.specs.Differing.{IsFullIf}
+use Rattle.lp_sig.specs.Differing.{HasNameCause}
 use Rattle.lp_sig.specs.inner.Taking.{AddsNames, AreOtherIds}
-use Rattle.lp_sig.proofs.Taking.{adds_same, adds_more, full_more, others_more}
+use Rattle.lp_sig.proofs.Taking.{adds_same, adds_more, cause_more, others_more}
 use Rattle.lp_sig.proofs.constants.Constants.declare_all.Goals as goal
 
 pub loop-name-init : goal.loop-name-init
@@ -123,8 +123,8 @@ returns-in_err-declare-clause-full c = λ words h.
     let text = c.args.source.now in
     let names = c.args.names.now in
     let i = c.loop-name.name-index in
-    passed_up c.from_residual.result c.in_err-declare.field-0.0 (IsFullIf text words names) c.from_residual.ensures.1
-    (full_more text words names i _ c.in_err-declare.field-0.0 c.loop-name-test.true (c.in_err-declare.ensures.full (words ++ map (λ s. spelled text s) (take i names)) (c.loop-name.invariant.words words h)))
+    passed_up c.from_residual.result c.in_err-declare.field-0.0 (HasNameCause text words names) c.from_residual.ensures.1
+    (cause_more text words names i _ c.in_err-declare.field-0.0 c.loop-name-test.true (c.in_err-declare.ensures.full (words ++ map (λ s. spelled text s) (take i names)) (c.loop-name.invariant.words words h)))
 
 pub returns-in_err-declare-clause-other : goal.returns-in_err-declare-clause-other
 returns-in_err-declare-clause-other c = λ words inside h.

@@ -6,10 +6,10 @@ use Rattle.lp_sig.specs.declared.fault.SigFault.TheVariants as fault
 use Rattle.lp_sig.specs.declared.module_fault.ModuleSigFault.TheVariants as wrong
 use Rattle.std.proofs.Common.{[], ◌∷◌, subst}
 use Rattle.lp_term.proofs.Trees.{extends_same}
-use Rattle.lp_sig.specs.Differing.{IsFullIf}
+use Rattle.lp_sig.specs.Differing.{HasNameCause}
 use Rattle.lp_sig.specs.inner.Taking.{AreOtherIds}
 use Rattle.lp_sig.specs.declared.fault.SigFault.{SigFault}
-use Rattle.lp_sig.proofs.Taking.{long_not_full, long_not_other, sig_is}
+use Rattle.lp_sig.proofs.Taking.{long_cause, long_not_other, sig_is}
 use Rattle.lp_sig.proofs.module_lines.ModuleLines.local.Goals as goal
 
 pub returns-clause-grown : goal.returns-clause-grown
@@ -60,13 +60,13 @@ returns-then-exports_constant-clause-full c = λ words h f e. absurd (cc)
 
 pub returns-in_err-check_length-clause-full : goal.returns-in_err-check_length-clause-full
 returns-in_err-check_length-clause-full c = λ words h.
-    passed_up c.from_residual.result (wrong.Sig c.in_err-check_length.field-0.0) (λ e. (f : SigFault) → e ≡ wrong.Sig f → IsFullIf c.args.self.now.source.now words (c.args.name ∷ []) f) c.from_residual.ensures.1
-    (λ f e is. absurd (long_not_full f (sym (sig_is c.in_err-check_length.field-0.0 f e) ∙ c.in_err-check_length.ensures.long.0) is))
+    passed_up c.from_residual.result (wrong.Sig c.in_err-check_length.field-0.0) (λ e. (f : SigFault) → e ≡ wrong.Sig f → HasNameCause c.args.self.now.source.now words (c.args.name ∷ []) f) c.from_residual.ensures.1
+    (λ f e. long_cause c.args.self.now.source.now words (c.args.name ∷ []) f (sym (sig_is c.in_err-check_length.field-0.0 f e) ∙ c.in_err-check_length.ensures.long.0))
 
 pub returns-in_err-declare-clause-full : goal.returns-in_err-declare-clause-full
 returns-in_err-declare-clause-full c = λ words h.
-    passed_up c.from_residual-in_err-declare.result (wrong.Sig c.in_err-declare.field-0.0) (λ e. (f : SigFault) → e ≡ wrong.Sig f → IsFullIf c.args.self.now.source.now words (c.args.name ∷ []) f) c.from_residual-in_err-declare.ensures.1
-    (λ f e. subst (IsFullIf c.args.self.now.source.now words (c.args.name ∷ [])) (sig_is c.in_err-declare.field-0.0 f e) (c.in_err-declare.ensures.full words h))
+    passed_up c.from_residual-in_err-declare.result (wrong.Sig c.in_err-declare.field-0.0) (λ e. (f : SigFault) → e ≡ wrong.Sig f → HasNameCause c.args.self.now.source.now words (c.args.name ∷ []) f) c.from_residual-in_err-declare.ensures.1
+    (λ f e. subst (HasNameCause c.args.self.now.source.now words (c.args.name ∷ [])) (sig_is c.in_err-declare.field-0.0 f e) (c.in_err-declare.ensures.full words h))
 
 pub returns-then-exports_constant-clause-other : goal.returns-then-exports_constant-clause-other
 returns-then-exports_constant-clause-other c = λ words h f e. absurd (cc)

@@ -10,7 +10,7 @@ use Rattle.lp_sig.specs.Constants.{written_in}
 use Rattle.lp_sig.specs.Differing.{IsOtherIf}
 use Rattle.lp_sig.specs.declared.fault.SigFault.{SigFault}
 use Rattle.lp_sig.specs.declared.module_fault.ModuleSigFault.TheVariants as wrong
-use Rattle.lp_sig.proofs.Taking.{told_not_full, told_not_other, other_written, typed_inside, takes_typed}
+use Rattle.lp_sig.proofs.Taking.{told_cause, told_not_other, other_written, typed_inside, takes_typed}
 use Rattle.lp_sig.proofs.module_lines.ModuleLines.locals.Goals as goal
 
 pub returns-in-Ok-clause-grown : goal.returns-in-Ok-clause-grown
@@ -44,7 +44,7 @@ returns-in-Ok-clause-reads c = on_ok_three c.locals_of.result c.locals_of.ensure
     c.in-Ok.ensures.settled c.in-Ok.ensures.typed trees words)
 
 pub returns-in-Err-clause-full : goal.returns-in-Err-clause-full
-returns-in-Err-clause-full c = λ said words k h f e is. absurd (told_not_full c.args.self.now.source.now said c.args.raw.now c.in-Err.fault f (c.in-Err.ensures.reason said k) (c.wrong_locals.ensures.told f e) is)
+returns-in-Err-clause-full c = λ said words k h f e. told_cause c.args.self.now.source.now words c.args.names.now said c.args.raw.now c.in-Err.fault f (c.in-Err.ensures.reason said k) (c.wrong_locals.ensures.told f e)
 
 pub returns-in-Err-clause-other : goal.returns-in-Err-clause-other
 returns-in-Err-clause-other c = λ said defs given rows words r f e z is. absurd (told_not_other c.args.self.now.source.now said c.args.raw.now c.in-Err.fault f z (c.in-Err.ensures.reason said r.knows) (c.wrong_locals.ensures.told f e) is)

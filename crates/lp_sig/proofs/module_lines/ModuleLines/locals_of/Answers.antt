@@ -15,10 +15,10 @@ use Rattle.lp_sig.specs.declared.module_fault.ModuleSigFault.TheVariants as wron
 use Rattle.lp_sig.proofs.Refusing.{first_or}
 use Rattle.std.proofs.Common.{[]}
 use Rattle.lp_term.proofs.Trees.{extends-trans}
-use Rattle.lp_sig.specs.Differing.{IsFullIf}
+use Rattle.lp_sig.specs.Differing.{HasNameCause}
 use Rattle.lp_sig.specs.inner.Taking.{AreOtherIds, AddsNames}
 use Rattle.lp_sig.specs.declared.fault.SigFault.{SigFault}
-use Rattle.lp_sig.proofs.Taking.{adds_same, adds_more, full_more, others_more}
+use Rattle.lp_sig.proofs.Taking.{adds_same, adds_more, cause_more, others_more}
 use Rattle.lp_sig.proofs.module_lines.ModuleLines.locals_of.Goals as goal
 
 pub loop-name-init : goal.loop-name-init
@@ -111,8 +111,8 @@ returns-in_err-local-clause-full c = λ words h.
     let text = c.args.self.now.source.now in
     let names = c.args.names.now in
     let i = c.loop-name.name-index in
-    passed_up c.from_residual.result c.in_err-local.field-0.0 (λ e. (f : SigFault) → e ≡ wrong.Sig f → IsFullIf text words names f) c.from_residual.ensures.1
-    (λ f e. full_more text words names i _ f c.loop-name-test.true (c.in_err-local.ensures.full (words ++ map (λ s. spelled text s) (take i names)) (c.loop-name.invariant.words words h) f e))
+    passed_up c.from_residual.result c.in_err-local.field-0.0 (λ e. (f : SigFault) → e ≡ wrong.Sig f → HasNameCause text words names f) c.from_residual.ensures.1
+    (λ f e. cause_more text words names i _ f c.loop-name-test.true (c.in_err-local.ensures.full (words ++ map (λ s. spelled text s) (take i names)) (c.loop-name.invariant.words words h) f e))
 
 pub returns-in_err-local-clause-other : goal.returns-in_err-local-clause-other
 returns-in_err-local-clause-other c = λ words inside h.

@@ -9,7 +9,7 @@ use Rattle.std.proofs.lemmas.Result.{IfErr-weaker, IfOk-weaker}
 use Rattle.lp_sig.specs.ModuleFaults.{AreLocalsRefused, AreLocalsTaken}
 use Rattle.lp_sig.specs.declared.fault.SigFault.TheVariants as fault
 use Rattle.lp_sig.specs.declared.module_fault.ModuleSigFault.TheVariants as wrong
-use Rattle.lp_sig.specs.ModuleFaults.{AreLocalsFullIf, AreLocalsOtherIf}
+use Rattle.lp_sig.specs.ModuleFaults.{HaveLocalsCause, AreLocalsOtherIf}
 use Rattle.lp_sig.proofs.Taking.{err_with, local_taken, takes_same}
 use Rattle.lp_sig.proofs.module_lines.ModuleLines.locals_typed.Goals as goal
 
@@ -53,10 +53,10 @@ pub returns-in-None-clause-reads : goal.returns-in-None-clause-reads
 returns-in-None-clause-reads c = on_ok_always c.known_constants.result _ (local_types c.args.making.now c.args.making.now c.args.self.now.source.now c.args.names.now c.args.raw.now None c.in-None.is (reads_same c.args.making.now))
 
 pub returns-in-Some-clause-full : goal.returns-in-Some-clause-full
-returns-in-Some-clause-full c = λ said words k h. IfErr-weaker c.locals.result _ _ (λ e f. subst (λ o. AreLocalsFullIf c.args.self.now.source.now words c.args.names.now o e) (sym c.in-Some.is) f) (c.locals.ensures.full said words k h)
+returns-in-Some-clause-full c = λ said words k h. IfErr-weaker c.locals.result _ _ (λ e f. subst (λ o. HaveLocalsCause c.args.self.now.source.now words c.args.names.now o e) (sym c.in-Some.is) f) (c.locals.ensures.full said words k h)
 
 pub returns-in-None-clause-full : goal.returns-in-None-clause-full
-returns-in-None-clause-full c = λ said words k h. err_with c.known_constants.result _ (λ e. subst (λ o. AreLocalsFullIf c.args.self.now.source.now words c.args.names.now o e) (sym c.in-None.is) tt)
+returns-in-None-clause-full c = λ said words k h. err_with c.known_constants.result _ (λ e. subst (λ o. HaveLocalsCause c.args.self.now.source.now words c.args.names.now o e) (sym c.in-None.is) tt)
 
 pub returns-in-Some-clause-other : goal.returns-in-Some-clause-other
 returns-in-Some-clause-other c = λ said defs given rows words r. IfErr-weaker c.locals.result _ _
