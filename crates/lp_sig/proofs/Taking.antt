@@ -149,6 +149,10 @@ constant_known b c name words i k d t h e at is same =
     let one : d.scheme ≡ t = cc in
     constant_id k m.0 m.1 d is (sym one)
 
+pub new_not_other : (f : SigFault) (P : Type 0) (s : Spot) → (f ≡ fault.Memory) ⊎ ((f ≡ fault.Limit limit.Names) × P) → f ≡ fault.Differ s → ⊥
+new_not_other f P s (inl m) e = let z : fault.Memory ≡ fault.Differ s = sym m ∙ e in absurd (cc)
+new_not_other f P s (inr g) e = let z : fault.Limit limit.Names ≡ fault.Differ s = sym g.0 ∙ e in absurd (cc)
+
 -- a new name without a number
 pub new_full : (text : List ℕ) (words : List (List ℕ)) (c : Constants) (s : Spot) (word : List ℕ) (k : Known) (f : SigFault) (P : Type 0) → word ≡ spelled text s → k ≡ known.New → is_met_word word words ≡ is_met k → HasWords c words →
     (f ≡ fault.Memory) ⊎ ((f ≡ fault.Limit limit.Names) × P × (END_OF_NUMBERS ≤ 32 + length c.constants.items)) → HasNameCause text words (s ∷ []) f
@@ -158,7 +162,7 @@ new_full text words c s word k f P same is met h (inr g) =
     let a = ap length h.are in
     let r = g.2 in
     record {
-      differs = λ z e. let z : fault.Limit limit.Names ≡ fault.Differ z = sym g.0 ∙ e in absurd (cc);
+      differs = λ z e. absurd (new_not_other f (P × (END_OF_NUMBERS ≤ 32 + length c.constants.items)) z (inr g) e);
       full = λ e. record {
         k = 0;
         name = s;
@@ -184,10 +188,6 @@ known_cause text words s word k same is met = record {
       met = subst (λ ws. is_met_word (spelled text z) ws ≡ true) (sym (append-nil words)) (ap (λ w. is_met_word w words) (sym (same ∙ ap (λ s. spelled text s) one)) ∙ met ∙ is);
     }
 
-pub new_not_other : (f : SigFault) (P : Type 0) (s : Spot) → (f ≡ fault.Memory) ⊎ ((f ≡ fault.Limit limit.Names) × P) → f ≡ fault.Differ s → ⊥
-new_not_other f P s (inl m) e = let z : fault.Memory ≡ fault.Differ s = sym m ∙ e in absurd (cc)
-new_not_other f P s (inr g) e = let z : fault.Limit limit.Names ≡ fault.Differ s = sym g.0 ∙ e in absurd (cc)
-
 pub other_known : (text : List ℕ) (b : Nodes) (c : Constants) (s z : Spot) (word : List ℕ) (declared : Option DeclaredType) (t : TypeId) (new : DeclaredType) → word ≡ spelled text s → IsKnownId b c word t → declared ≡ Some new →
     (t.0 < length b.types → new.scheme.0 < length b.types → type_tree b t.0 ≡ type_tree b new.scheme.0 → ⊥) → fault.Differ s ≡ fault.Differ z → Contains (s ∷ []) z × IsOtherId b c (spelled text z) declared
 other_known text b c s z word declared t new same h some distinct is =
@@ -197,40 +197,30 @@ other_known text b c s z word declared t new same h some distinct is =
     )
 
 -- the name of a place among some
+one_met : (text : List ℕ) (front : List (List ℕ)) (y s : Spot) (k : ℕ) → k < 1 → slice_index_or (y ∷ []) k s ≡ s → is_met_word (spelled text s) (front ++ map (λ s. spelled text s) (take k (y ∷ []))) ≡ true → (y ≡ s) × (is_met_word (spelled text s) front ≡ true)
+one_met text front y s zero l at met = (at, subst (λ ws. is_met_word (spelled text s) ws ≡ true) (append-nil front) met)
+one_met text front y s (suc k) l at met = absurd (omega (arith, l))
+
+one_new : (text : List ℕ) (front : List (List ℕ)) (y n : Spot) (k : ℕ) → k < 1 → slice_index_or (y ∷ []) k n ≡ n → is_met_word (spelled text n) (front ++ map (λ s. spelled text s) (take k (y ∷ []))) ≡ false →
+    END_OF_NUMBERS ≤ 32 + length (first_names (names_in standard_constants) (front ++ map (λ s. spelled text s) (take k (y ∷ [])))) →
+    (is_met_word (spelled text y) front ≡ false) × (END_OF_NUMBERS ≤ 32 + length (first_names (names_in standard_constants) front))
+one_new text front y n zero l at new full = (
+  subst (λ s. is_met_word (spelled text s) front ≡ false) (sym at) (subst (λ ws. is_met_word (spelled text n) ws ≡ false) (append-nil front) new),
+  subst (λ ws. END_OF_NUMBERS ≤ 32 + length (first_names (names_in standard_constants) ws)) (append-nil front) full,
+)
+one_new text front y n (suc k) l at new full = absurd (omega (arith, l))
+
 pub cause_more : (text : List ℕ) (words : List (List ℕ)) (names : List Spot) (i : ℕ) (x : Spot) (f : SigFault) → i < length names → HasNameCause text (words ++ map (λ s. spelled text s) (take i names)) (get_or names i x ∷ []) f → HasNameCause text words names f
 cause_more text words names i x f l h = record {
-  differs = λ s e. let m = h.differs s e in known s m.k m.inside m.at_name m.met;
-  full = λ e. let n = h.full e in new n.k n.name n.inside n.at_name n.new n.full;
+  differs = λ s e.
+      let m = h.differs s e in
+      let r = one_met text (words ++ map (λ s. spelled text s) (take i names)) (get_or names i x) s m.k m.inside m.at_name m.met in
+      record { k = i; inside = l; at_name = get_or_default names i s x l ∙ r.0; met = r.1 };
+  full = λ e.
+      let n = h.full e in
+      let r = one_new text (words ++ map (λ s. spelled text s) (take i names)) (get_or names i x) n.name n.k n.inside n.at_name n.new n.full in
+      record { k = i; name = get_or names i x; inside = l; at_name = get_or_default names i (get_or names i x) x l; new = r.0; full = r.1 };
 }
-  where
-    front : List (List ℕ)
-    front = words ++ map (λ s. spelled text s) (take i names)
-
-    y : Spot
-    y = get_or names i x
-
-    known : (s : Spot) (k : ℕ) → k < 1 → slice_index_or (y ∷ []) k s ≡ s → is_met_word (spelled text s) (front ++ map (λ s. spelled text s) (take k (y ∷ []))) ≡ true → IsMetAt text words names s
-    unfolding front y
-    known s zero k at met = record {
-      k = i;
-      inside = l;
-      at_name = get_or_default names i s x l ∙ at;
-      met = subst (λ ws. is_met_word (spelled text s) ws ≡ true) (append-nil front) met;
-    }
-    known s (suc k) m at met = absurd (omega (arith, m))
-
-    new : (k : ℕ) (n : Spot) → k < 1 → slice_index_or (y ∷ []) k n ≡ n → is_met_word (spelled text n) (front ++ map (λ s. spelled text s) (take k (y ∷ []))) ≡ false →
-        END_OF_NUMBERS ≤ 32 + length (first_names (names_in standard_constants) (front ++ map (λ s. spelled text s) (take k (y ∷ [])))) → HasNoNumber text words names
-    unfolding front y
-    new zero n k at fresh full = record {
-      k = i;
-      name = y;
-      inside = l;
-      at_name = get_or_default names i (get_or names i x) x l;
-      new = ap (λ s. is_met_word (spelled text s) front) at ∙ ap (is_met_word (spelled text n)) (sym (append-nil front)) ∙ fresh;
-      full = subst (λ ws. END_OF_NUMBERS ≤ 32 + length (first_names (names_in standard_constants) ws)) (append-nil front) full;
-    }
-    new (suc k) n m at fresh full = absurd (omega (arith, m))
 
 -- names that are added
 pub one_added : (old new : List Constant) (word : List ℕ) (declared : Option DeclaredType) (x : Constant) → new ≡ old ++ x ∷ [] → x.name.items ≡ word → x.declared ≡ declared → (k : Constant) → Contains new k → Contains old k ⊎ ((k.name.items ≡ word) × (k.declared ≡ declared))
