@@ -149,9 +149,9 @@ constant_known b c name words i k d t h e at is same =
     let one : d.scheme ≡ t = cc in
     constant_id k m.0 m.1 d is (sym one)
 
-pub new_not_other : (f : SigFault) (P : Type 0) (s : Spot) → (f ≡ fault.Memory) ⊎ ((f ≡ fault.Limit limit.Names) × P) → f ≡ fault.Differ s → ⊥
-new_not_other f P s (inl m) e = let z : fault.Memory ≡ fault.Differ s = sym m ∙ e in absurd (cc)
-new_not_other f P s (inr g) e = let z : fault.Limit limit.Names ≡ fault.Differ s = sym g.0 ∙ e in absurd (cc)
+pub new_not_other : (f : SigFault) (s : Spot) → (f ≡ fault.Memory) ⊎ (f ≡ fault.Limit limit.Names) → f ≡ fault.Differ s → ⊥
+new_not_other f s (inl m) e = let z : fault.Memory ≡ fault.Differ s = sym m ∙ e in absurd (cc)
+new_not_other f s (inr g) e = let z : fault.Limit limit.Names ≡ fault.Differ s = sym g ∙ e in absurd (cc)
 
 -- a new name without a number
 pub new_full : (text : List ℕ) (words : List (List ℕ)) (c : Constants) (s : Spot) (word : List ℕ) (k : Known) (f : SigFault) (P : Type 0) → word ≡ spelled text s → k ≡ known.New → is_met_word word words ≡ is_met k → HasWords c words →
@@ -162,7 +162,7 @@ new_full text words c s word k f P same is met h (inr g) =
     let a = ap length h.are in
     let r = g.2 in
     record {
-      differs = λ z e. absurd (new_not_other f (P × (END_OF_NUMBERS ≤ 32 + length c.constants.items)) z (inr g) e);
+      differs = λ z e. absurd (new_not_other f z (inr g.0) e);
       full = λ e. record {
         k = 0;
         name = s;

@@ -165,7 +165,7 @@ returns-in_err-known_as-clause-full c = λ words h. passed_up c.from_residual.re
 
 pub returns-in-New-clause-other : goal.returns-in-New-clause-other
 returns-in-New-clause-other c = λ words h. IfErr-weaker c.add.result _ (AreOtherIds c.args.source.now c.known_as.new.types.bank c.args.self.now (c.args.name ∷ []) c.args.declared)
-    (λ f g z is. absurd (new_not_other f _ z g is)) c.add.ensures.full
+    (λ f g z is. absurd (new_not_other f z (⊎_elim (λ m. inl m) (λ g. inr g.0) g) is)) c.add.ensures.full
 
 pub returns-then-not-are_equal-clause-other : goal.returns-then-not-are_equal-clause-other
 returns-then-not-are_equal-clause-other c = λ words h z is.
