@@ -72,3 +72,10 @@ pub mod GivenBodies
 pub mod Reading
 pub mod DeclaredTypes
 pub mod Taking
+pub mod Told
+pub mod ToldKinds
+pub mod TypesHere
+pub mod ToldConstants
+pub mod ToldBodies
+pub mod ToldSignatures
+pub mod Giving

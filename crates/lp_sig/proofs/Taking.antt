@@ -20,10 +20,11 @@ use Rattle.lp_syntax.specs.declared.text.Sentence.TheVariants.{Declares, Says}
 use Rattle.lp_syntax.specs.declared.text.RawTypeNode.{RawTypeNode}
 use Rattle.lp_syntax.specs.declared.text.RawTypeNode.TheVariants as node
 use Rattle.lp_sig.specs.Constants.{Written, written_in, IsSchemeOf, IsTyped, standard_tree}
-use Rattle.lp_sig.specs.Differing.{IsKnownType, of_language, of_signatures, of_text, HasNoNumber, IsMetAt, HasNameCause, IsOtherIf}
+use Rattle.lp_sig.specs.Differing.{IsKnownType, of_language, of_signatures, of_text, HasNoNumber, IsMetAt, HasNameCause, IsOtherIf, IsOtherBodyIf}
 use Rattle.lp_sig.specs.Holding.{IsTree, HoldsBodies}
 use Rattle.lp_sig.specs.Knowing.{Knows}
 use Rattle.lp_sig.specs.AsWritten.{typed_locals, typed_by, typed_in}
+use Rattle.lp_sig.specs.Limits.{IsRepeated}
 use Rattle.lp_sig.specs.ModuleFaults.{IsTypeFault, long_type, word_of_type, many_variables, IsLineFault, IsLineTaken, IsFaultAmong}
 use Rattle.lp_sig.specs.Modules.{declarations, local_names, constant_names_by, constant_names_in, first_names}
 use Rattle.lp_sig.specs.Pieces.{spelled, begins_variable}
@@ -32,7 +33,7 @@ use Rattle.lp_sig.specs.Rows.{Row, found}
 use Rattle.lp_sig.specs.Said.{Said, each, names_in}
 use Rattle.lp_sig.specs.Standard.{standard_constants}
 use Rattle.lp_sig.specs.Types.{Definition}
-use Rattle.lp_sig.specs.Words.{counted, word_fault, fault_of_word, may_stand, by_meaning, meaning_of}
+use Rattle.lp_sig.specs.Words.{IsFirstFault, counted, word_fault, fault_of_word, may_stand, by_meaning, meaning_of}
 use Rattle.lp_sig.specs.Worded.{HasWords, names_so_far, is_met_word, is_met}
 use Rattle.lp_sig.specs.inner.Taking.{IsKnownId, standard_id, constant_id, IsOtherId, AreOtherIds, IsInside, AddsNames, AreKnownTypes, IsTaking, Takes, TakesOn}
 use Rattle.lp_sig.specs.declared.bodies.Bodies.{Bodies}
@@ -116,6 +117,18 @@ memory_cause text words names = no_name_cause text words names fault.Memory (λ 
 
 pub sig_is : (f g : SigFault) → wrong.Sig f ≡ wrong.Sig g → f ≡ g
 sig_is f g e = cc
+
+pub word_not_other : (text : List ℕ) (said : List (Row Said)) (vs : Option (List (List ℕ))) (nodes : List RawTypeNode) (f : SigFault) (s : Spot) → (f ≡ fault.Memory) ⊎ IsFirstFault text said vs nodes f → f ≡ fault.Differ s → ⊥
+word_not_other text said vs nodes f s (inl m) e = let z : fault.Memory ≡ fault.Differ s = sym m ∙ e in absurd (cc)
+word_not_other text said vs nodes f s (inr w) e = subst IsOfWord e (of_word text said vs w.node f w.is)
+
+-- a parameter that stands twice
+pub repeated_if : (text : List ℕ) (said : List (Row Said)) (defs : List (Row Definition)) (name : Spot) (ps : List Spot) (ty : RawType) (f : SigFault) → (f ≡ fault.Memory) ⊎ ((s : Spot) × (f ≡ fault.Differ s) × IsRepeated text ps s) → IsOtherBodyIf text said defs name ps ty f
+repeated_if text said defs name ps ty f (inl m) e = let z : fault.Memory ≡ fault.Differ name = sym m ∙ e in absurd (cc)
+repeated_if text said defs name ps ty f (inr r) e =
+    let z : fault.Differ r.0 ≡ fault.Differ name = sym r.1 ∙ e in
+    let one : r.0 ≡ name = cc in
+    inr (inl (subst (IsRepeated text ps) one r.2))
 
 -- what is told of a fault of the type
 pub told_not_full : (text : List ℕ) (said : List (Row Said)) (ty : RawType) (g f : SigFault) → (g ≡ fault.Memory) ⊎ IsTypeFault text said ty g → (f ≡ fault.Memory) ⊎ ((f ≡ fault.Limit limit.NameLength) ⊎ (f ≡ g)) → f ≡ fault.Limit limit.Names → ⊥
@@ -411,14 +424,14 @@ pub one_declared : (l : Sentence) (c d : Declaration) → l ≡ Declares c → l
 one_declared l c d e f = let z : Declares c ≡ Declares d = sym e ∙ f in cc
 
 -- the first sentence that is refused, with its cause
-pub caused_among : (own : Signature) (text : List ℕ) (said : List (Row Said)) (ls : List Sentence) (i : ℕ) (l : Sentence) (e m : ModuleSigFault) (P : List Declaration → Declaration → ModuleSigFault → Type 0) → i < length ls → l ≡ get_or ls i l →
-    All (IsLineTaken own text said (declarations ls)) (declarations (take i ls)) → ((d : Declaration) → l ≡ Declares d → P (declarations (take i ls)) d e) →
-    (e ≡ m) ⊎ ((d : Declaration) × (l ≡ Declares d) × IsLineFault own text said (declarations ls) d e) →
-    (e ≡ m) ⊎ ((f : IsFaultAmong own text said (declarations ls) e) × P (take f.k (declarations ls)) f.line e)
-caused_among own text said ls i l e m P h at before cause (inl is) = inl is
-caused_among own text said ls i l e m P h at before cause (inr (d, is, why)) =
+pub caused_among : (own : Signature) (used : List Signature) (text : List ℕ) (said : List (Row Said)) (ls : List Sentence) (i : ℕ) (l : Sentence) (e m : ModuleSigFault) (P : List Declaration → Declaration → ModuleSigFault → Type 0) → i < length ls → l ≡ get_or ls i l →
+    All (IsLineTaken own used text said (declarations ls)) (declarations (take i ls)) → ((d : Declaration) → l ≡ Declares d → P (declarations (take i ls)) d e) →
+    (e ≡ m) ⊎ ((d : Declaration) × (l ≡ Declares d) × IsLineFault own used text said (declarations ls) d e) →
+    (e ≡ m) ⊎ ((f : IsFaultAmong own used text said (declarations ls) e) × P (take f.k (declarations ls)) f.line e)
+caused_among own used text said ls i l e m P h at before cause (inl is) = inl is
+caused_among own used text said ls i l e m P h at before cause (inr (d, is, why)) =
     let r = declared_more ls i d l h at is in
     inr (
-      record { k = length (declarations (take i ls)); line = d; inside = r.0; at_line = r.1; why = why; before = subst (All (IsLineTaken own text said (declarations ls))) (sym r.2) before },
+      record { k = length (declarations (take i ls)); line = d; inside = r.0; at_line = r.1; why = why; before = subst (All (IsLineTaken own used text said (declarations ls))) (sym r.2) before },
       subst (λ ds. P ds d e) (sym r.2) (cause d is),
     )

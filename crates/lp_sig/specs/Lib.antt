@@ -34,4 +34,5 @@ pub mod Sights
 pub mod ModuleFaults
 pub mod Differing
 pub mod AsWritten
+pub mod GoingTogether
 pub mod inner

@@ -1,5 +1,5 @@
--- Why the declarations of a module are refused, and at which sentence. Whether two types of one name differ is not said here: of a name that is declared otherwise it is said that its sentence can be at fault no other way.
-use Rattle.std.specs.Prelude.{◌≡◌, ◌⊎◌, ◌<◌, ◌≤◌, ℕ, List, [], ◌∷◌, ◌++◌, Bool, true, false, Option, Some, None, map, take, length, All, Contains, slice_index_or, if◌then◌else◌}
+-- Why the declarations of a module are refused, and at which sentence. Of a name that the text declares otherwise it is said that its sentence can be at fault no other way.
+use Rattle.std.specs.Prelude.{◌≡◌, ◌⊎◌, ◌+◌, slice_get, ◌<◌, ◌≤◌, ℕ, List, [], ◌∷◌, ◌++◌, Bool, true, false, Option, Some, None, map, take, length, All, Contains, slice_index_or, if◌then◌else◌}
 use Rattle.lp_base.specs.declared.limits.TheConstants.{MAX_ARGUMENTS, MAX_NAME_BYTES}
 use Rattle.lp_base.specs.declared.limit.Limit.TheVariants as limit
 use Rattle.lp_base.specs.declared.place.Spot.{Spot}
@@ -9,15 +9,19 @@ use Rattle.lp_syntax.specs.declared.text.RawType.{RawType}
 use Rattle.lp_syntax.specs.declared.text.Sentence.{Sentence}
 use Rattle.lp_calculus.specs.Types.{Ty}
 use Rattle.lp_sig.specs.Constants.{Written}
-use Rattle.lp_sig.specs.Differing.{HasNameCause, IsOtherIf}
+use Rattle.lp_sig.specs.Differing.{HasNameCause, IsOtherIf, IsOtherBodyIf, trees_here}
 use Rattle.lp_sig.specs.Pieces.{spelled}
 use Rattle.lp_sig.specs.Rows.{Row}
 use Rattle.lp_sig.specs.Standard.{standard_kinds, standard_constants}
 use Rattle.lp_sig.specs.Said.{Said, a_kind, an_abbreviation, is_among, names_in}
 use Rattle.lp_sig.specs.Limits.{AreShort, IsShort, AreApart, IsRepeated}
 use Rattle.lp_sig.specs.Words.{IsNameFault, IsMeant, AreMeant, IsNumbered, AreNumbered, IsHead, IsFirstFault, WordsStand, parameters_of, IsKindsFault, IsLongType, IsSoundType}
-use Rattle.lp_sig.specs.Modules.{declarations, of_each, said_of, constants_of, constant_names_in, said_in_module}
-use Rattle.lp_sig.specs.Types.{Definition}
+use Rattle.lp_sig.specs.GoingTogether.{types_of, AreOfTexts, GoesWith, IsOtherwise, HasNoNumber}
+use Rattle.lp_sig.specs.Places.{first_place}
+use Rattle.lp_sig.specs.Sights.{signature_words, module_words}
+use Rattle.lp_sig.specs.Modules.{declarations, first_names, of_each, said_of, constants_of, constant_names_in, said_in_module}
+use Rattle.lp_sig.specs.Types.{Definition, definitions_in}
+use Rattle.lp_sig.specs.AsWritten.{as_trees, bodies_of, typed_in}
 use Rattle.lp_sig.specs.declared.signature.Signature.{Signature}
 use Rattle.lp_sig.specs.declared.fault.SigFault.{SigFault}
 use Rattle.lp_sig.specs.declared.fault.SigFault.TheVariants as fault
@@ -148,40 +152,65 @@ pub data IsAbbreviationWrong (text : List ℕ) (said : List (Row Said)) (name : 
   a_word : IsHead text said name ps → IsFirstFault text said (parameters_of text ps) ty.nodes.items e → IsAbbreviationWrong text said name ps ty e
   other : e ≡ fault.Differ name → IsHead text said name ps → WordsStand text said (parameters_of text ps) ty.nodes.items → IsAbbreviationWrong text said name ps ty e
 
--- a word that names a signature which declares a name otherwise than one before it, or for whose names no number is left
-pub data IsWordFault (words : List Spot) (e : ModuleSigFault) : Type 0 where
-  otherwise : (s : Spot) → Contains words s → e ≡ wrong.Sig (fault.Differ s) → IsWordFault words e
-  many : e ≡ wrong.Sig (fault.Limit limit.Names) → IsWordFault words e
+-- why a word is refused that names this signature, where these are before it: it declares a name otherwise, or no number is left for its kinds or constants
+pub data IsWordFault (before : List Signature) (u : Signature) (word : Spot) (e : ModuleSigFault) : Type 0 where
+  otherwise : e ≡ wrong.Sig (fault.Differ word) → IsOtherwise before u → IsWordFault before u word e
+  many : e ≡ wrong.Sig (fault.Limit limit.Names) → HasNoNumber before u → IsWordFault before u word e
+
+-- the signature that a word names: the words of accum_sig name the first ones by their first places, and those of accumulate the ones behind them
+abbrev pub IsNamedBy : (used : List Signature) (text : List ℕ) (from : ℕ) (all : List (List ℕ)) → Spot → ℕ → Signature → Type 0
+IsNamedBy used text from all word i u = (first_place (spelled text word) (first_names [] all) ≡ Some i) × (slice_get used (from + i) ≡ Some u)
+
+abbrev pub IsWordRefused : (own : Signature) (used : List Signature) (text : List ℕ) (from : ℕ) (all : List (List ℕ)) → Spot → ModuleSigFault → Type 0
+IsWordRefused own used text from all word e = (i : ℕ) × (u : Signature) × IsNamedBy used text from all word i u × IsWordFault (own ∷ take (from + i) used) u word e
+
+-- a word is taken: its signature goes with those before it
+abbrev pub IsWordTaken : (own : Signature) (used : List Signature) (text : List ℕ) (from : ℕ) (all : List (List ℕ)) → Spot → Type 0
+IsWordTaken own used text from all word = (i : ℕ) (u : Signature) → IsNamedBy used text from all word i u → GoesWith (own ∷ take (from + i) used) u
+
+-- the words of a sentence: the first that is refused, or all that are taken
+abbrev pub AreModulesRefused : Signature → List Signature → List ℕ → List Declaration → List Spot → ModuleSigFault → Type 0
+AreModulesRefused own used text ds words e = IsFirstOf (IsWordRefused own used text (length (first_names [] (signature_words text ds))) (module_words text ds))
+    (IsWordTaken own used text (length (first_names [] (signature_words text ds))) (module_words text ds)) words e
+
+abbrev pub AreModulesTaken : Signature → List Signature → List ℕ → List Declaration → List Spot → Type 0
+AreModulesTaken own used text ds words = All (IsWordTaken own used text (length (first_names [] (signature_words text ds))) (module_words text ds)) words
+
+abbrev pub AreSignaturesRefused : Signature → List Signature → List ℕ → List Declaration → List Spot → ModuleSigFault → Type 0
+AreSignaturesRefused own used text ds words e = IsFirstOf (IsWordRefused own used text 0 (signature_words text ds)) (IsWordTaken own used text 0 (signature_words text ds)) words e
+
+abbrev pub AreSignaturesTaken : Signature → List Signature → List ℕ → List Declaration → List Spot → Type 0
+AreSignaturesTaken own used text ds words = All (IsWordTaken own used text 0 (signature_words text ds)) words
 
 -- why a sentence is refused, where so much is said of names and these are all sentences of the text, and what holds of one that is taken
-abbrev pub IsLineFault : Signature → List ℕ → List (Row Said) → List Declaration → Declaration → ModuleSigFault → Type 0
-IsLineFault own text said ds (Kinds names n) e = (f : SigFault) × IsKindsFault text said names.items n f × (e ≡ blamed_by (exports_kind own) text f)
-IsLineFault own text said ds (LocalKinds names count) e = AreLocalKindsRefused own text said (kind_names_in text ds) names.items count e
-IsLineFault own text said ds (Constants names ty) e = (f : SigFault) × AreConstantsWrong text said names.items ty f × (e ≡ blamed_by (exports_constant own) text f)
-IsLineFault own text said ds (Locals names ty) e = AreLocalsRefused own text said (constant_names_in text ds) names.items ty e
-IsLineFault own text said ds (Abbreviation name ps ty) e = (f : SigFault) × IsAbbreviationWrong text said name ps.items ty f × (e ≡ blamed_by (exports_kind own) text f)
-IsLineFault own text said ds (Accumulate words) e = IsWordFault words.items e
-IsLineFault own text said ds (AccumSig words) e = IsWordFault words.items e
-IsLineFault own text said ds (Fixities names f n) e = ⊥
+abbrev pub IsLineFault : Signature → List Signature → List ℕ → List (Row Said) → List Declaration → Declaration → ModuleSigFault → Type 0
+IsLineFault own used text said ds (Kinds names n) e = (f : SigFault) × IsKindsFault text said names.items n f × (e ≡ blamed_by (exports_kind own) text f)
+IsLineFault own used text said ds (LocalKinds names count) e = AreLocalKindsRefused own text said (kind_names_in text ds) names.items count e
+IsLineFault own used text said ds (Constants names ty) e = (f : SigFault) × AreConstantsWrong text said names.items ty f × (e ≡ blamed_by (exports_constant own) text f)
+IsLineFault own used text said ds (Locals names ty) e = AreLocalsRefused own text said (constant_names_in text ds) names.items ty e
+IsLineFault own used text said ds (Abbreviation name ps ty) e = (f : SigFault) × IsAbbreviationWrong text said name ps.items ty f × (e ≡ blamed_by (exports_kind own) text f)
+IsLineFault own used text said ds (Accumulate words) e = AreModulesRefused own used text ds words.items e
+IsLineFault own used text said ds (AccumSig words) e = AreSignaturesRefused own used text ds words.items e
+IsLineFault own used text said ds (Fixities names f n) e = ⊥
 
-abbrev pub IsLineTaken : Signature → List ℕ → List (Row Said) → List Declaration → Declaration → Type 0
-IsLineTaken own text said ds (Kinds names n) = AreMeant text said (a_kind n) names.items × AreNumbered text said names.items × (n ≤ MAX_ARGUMENTS)
-IsLineTaken own text said ds (LocalKinds names count) = AreLocalKindsTaken own text said (kind_names_in text ds) names.items count
-IsLineTaken own text said ds (Constants names ty) = AreShort text names.items × IsSoundType text said ty
-IsLineTaken own text said ds (Locals names ty) = AreLocalsTaken own text said (constant_names_in text ds) names.items ty
-IsLineTaken own text said ds (Abbreviation name ps ty) = IsHead text said name ps.items × WordsStand text said (parameters_of text ps.items) ty.nodes.items
-IsLineTaken own text said ds (Accumulate words) = Unit {0}
-IsLineTaken own text said ds (AccumSig words) = Unit {0}
-IsLineTaken own text said ds (Fixities names f n) = Unit {0}
+abbrev pub IsLineTaken : Signature → List Signature → List ℕ → List (Row Said) → List Declaration → Declaration → Type 0
+IsLineTaken own used text said ds (Kinds names n) = AreMeant text said (a_kind n) names.items × AreNumbered text said names.items × (n ≤ MAX_ARGUMENTS)
+IsLineTaken own used text said ds (LocalKinds names count) = AreLocalKindsTaken own text said (kind_names_in text ds) names.items count
+IsLineTaken own used text said ds (Constants names ty) = AreShort text names.items × IsSoundType text said ty
+IsLineTaken own used text said ds (Locals names ty) = AreLocalsTaken own text said (constant_names_in text ds) names.items ty
+IsLineTaken own used text said ds (Abbreviation name ps ty) = IsHead text said name ps.items × WordsStand text said (parameters_of text ps.items) ty.nodes.items
+IsLineTaken own used text said ds (Accumulate words) = AreModulesTaken own used text ds words.items
+IsLineTaken own used text said ds (AccumSig words) = AreSignaturesTaken own used text ds words.items
+IsLineTaken own used text said ds (Fixities names f n) = Unit {0}
 
 -- the first sentence that is refused, and why: each one before it is taken
-pub record IsFaultAmong (own : Signature) (text : List ℕ) (said : List (Row Said)) (ds : List Declaration) (e : ModuleSigFault) : Type 0 where
+pub record IsFaultAmong (own : Signature) (used : List Signature) (text : List ℕ) (said : List (Row Said)) (ds : List Declaration) (e : ModuleSigFault) : Type 0 where
   pub k : ℕ
   pub line : Declaration
   pub inside : k < length ds
   pub at_line : slice_index_or ds k line ≡ line
-  pub why : IsLineFault own text said ds line e
-  pub before : All (IsLineTaken own text said ds) (take k ds)
+  pub why : IsLineFault own used text said ds line e
+  pub before : All (IsLineTaken own used text said ds) (take k ds)
 
 -- the same of a sentence: exported constants are blamed as such, and local ones of a type have faults of their own
 abbrev pub HaveLocalsCause : List ℕ → List (List ℕ) → List Spot → Option RawType → ModuleSigFault → Type 0
@@ -207,13 +236,19 @@ IsLineOtherIf own text said defs given rows (Kinds names n) e = Unit {0}
 IsLineOtherIf own text said defs given rows (LocalKinds names count) e = Unit {0}
 IsLineOtherIf own text said defs given rows (Constants names ty) e = (f : SigFault) × (e ≡ blamed_by (exports_constant own) text f) × IsOtherIf text said defs given rows names.items ty f
 IsLineOtherIf own text said defs given rows (Locals names ty) e = AreLocalsOtherIf text said defs given rows names.items ty e
-IsLineOtherIf own text said defs given rows (Abbreviation name ps ty) e = Unit {0}
+IsLineOtherIf own text said defs given rows (Abbreviation name ps ty) e = (f : SigFault) × (e ≡ blamed_by (exports_kind own) text f) × IsOtherBodyIf text said defs name ps.items ty f
 IsLineOtherIf own text said defs given rows (Accumulate ws) e = Unit {0}
 IsLineOtherIf own text said defs given rows (AccumSig ws) e = Unit {0}
 IsLineOtherIf own text said defs given rows (Fixities names f n) e = Unit {0}
 
--- Why the declarations of a module are refused, where its own signature and those that it names are these: want of memory alone is free. Where numbers are wanting, none is left behind the names that the signatures have and those of the sentences before.
+-- what is told of a refusal at a sentence, behind those before it in the text: a constant that is declared otherwise is known, in the language, in the signatures or in these sentences, and where numbers are wanting none is left. Where the signatures are as texts have them, one that differs has another type than the known one, and an abbreviation another body than the first one of its name.
+pub record IsToldAt (own : Signature) (used : List Signature) (text : List ℕ) (lines : List Sentence) (before : List Declaration) (line : Declaration) (e : ModuleSigFault) : Type 0 where
+  pub names : HasLineCause own text ((constants_of own ++ of_each constants_of used) ++ constant_names_in text before) line e
+  pub types : AreOfTexts (own ∷ used) → IsLineOtherIf own text (said_in_module own used text lines)
+      (as_trees (trees_here (said_of own ++ of_each said_of used) (bodies_of own ++ of_each bodies_of used)) ++ definitions_in text (declarations lines))
+      (trees_here (said_of own ++ of_each said_of used) (types_of own ++ of_each types_of used)) (typed_in text before) line e
+
+-- Why the declarations of a module are refused, where its own signature and those that it names are these: want of memory alone is free.
 abbrev pub IsDeclarationRefusal : Signature → List Signature → List ℕ → List Sentence → ModuleSigFault → Type 0
 IsDeclarationRefusal own used text lines e =
-    (e ≡ wrong.Sig fault.Memory) ⊎
-    ((f : IsFaultAmong own text (said_in_module own used text lines) (declarations lines) e) × HasLineCause own text ((constants_of own ++ of_each constants_of used) ++ constant_names_in text (take f.k (declarations lines))) f.line e)
+    (e ≡ wrong.Sig fault.Memory) ⊎ ((f : IsFaultAmong own used text (said_in_module own used text lines) (declarations lines) e) × IsToldAt own used text lines (take f.k (declarations lines)) f.line e)

@@ -22,6 +22,7 @@ ghost use Rattle.lp_sig.specs.Differing.{HasNameCause};
 ghost use Rattle.lp_sig.specs.inner.Reading.{CanDeclare, AreDeclaredAs};
 ghost use Rattle.lp_sig.specs.inner.Taking.{IsKnownId, IsInside, AreOtherIds, AddsNames};
 ghost use Rattle.lp_sig.specs.declared.constants.Constant.{Constant as IsNamed};
+ghost use Rattle.lp_sig.specs.inner.Telling.{IsRoom, IsKnownType};
 ghost use Rattle.lp_sig.specs.declared.constants.DeclaredType.{DeclaredType as IsDeclaredType};
 ghost use Rattle.lp_sig.specs.declared.constants.Known.TheVariants as known;
 
@@ -171,6 +172,7 @@ impl Constants {
     pub(crate) fn put(&mut self, word: &[u8], declared: DeclaredType) -> Result<bool, Memory>
         ensures words { OnOk result ((words : List (List ℕ)) → is_met_word word.now words ≡ false → HasWords self.old words → HasWords self.new (words ++ word.now ∷ [])) }
         ensures put { OnOk result (PutsBehind self.old self.new word.now declared) }
+        ensures room { IfOk result (IsRoom (length self.old.constants.items)) }
     {
         let place = self.constants.len();
         let name = Vec::from_slice(self.alloc, word)?;
@@ -191,6 +193,7 @@ impl Constants {
         ensures tree { IfOk result (λ k. (words : List (List ℕ)) → HasWords self.now words → AreCounted types.old.bank self.now → IsTreeOf types.new.bank self.now word.now k) }
         ensures never { IfOk result (λ k. k ≡ known.Untyped → AreTyped self.now → ⊥) }
         ensures known { IfOk result (λ k. (words : List (List ℕ)) → HasWords self.now words → (t : IsTypeId) → k ≡ known.Typed t → IsKnownId types.new.bank self.now word.now t) }
+        ensures known_type { IfOk result (λ k. (words : List (List ℕ)) → HasWords self.now words → IsKnownType types.new.bank self.now word.now k) }
     {
         if let Some(number) = standard_constant(word) {
             let known = standard_type(types, number)?;

@@ -24,7 +24,7 @@ ghost use Rattle.lp_sig.specs.Sighted.{GrowsBehind};
 ghost use Rattle.lp_sig.specs.ModuleFaults.{AreConstantsWrong, IsAbbreviationWrong};
 ghost use Rattle.lp_sig.specs.Worded.{HasWords};
 ghost use Rattle.lp_calculus.specs.Types.{Ty};
-ghost use Rattle.lp_sig.specs.Differing.{HasNameCause, IsOtherIf};
+ghost use Rattle.lp_sig.specs.Differing.{HasNameCause, IsOtherIf, IsOtherBodyIf};
 ghost use Rattle.lp_sig.specs.inner.Reading.{Reads};
 ghost use Rattle.lp_sig.specs.inner.Taking.{IsTaking, Takes};
 ghost use Rattle.lp_sig.specs.Constants.{Written, written_in, constants_by, constants_in, KnowsConstants, AreSettledIf, AreTypedIf, AreTakenConstants, HasFewVariables, IsConstantsFault};
@@ -177,6 +177,7 @@ impl Bodies {
     ) -> Result<(), SigFault>
         ensures why { (z : Seen) → Sees names.now (map (λ out. out.items) uses.now.ways.items) self.old.types.bank self.old.bodies.items z → IfErr result (IsAbbreviationFault source.now z name parameters.now raw.now) }
         ensures reason { (said : List (Row Said)) → Knows names.now said → IfErr result (λ e. (e ≡ fault.Memory) ⊎ IsAbbreviationWrong source.now said name parameters.now raw.now e) }
+        ensures other { (said : List (Row Said)) (defs : List (Row Definition)) → Knows names.now said → HoldsBodies self.old.types.bank self.old.bodies.items said defs → IfErr result (IsOtherBodyIf source.now said defs name parameters.now raw.now) }
         ensures sound { (said : List (Row Said)) → Knows names.now said → IfOk result (λ done. IsHead source.now said name parameters.now × WordsStand source.now said (parameters_of source.now parameters.now) raw.now.nodes.items) }
         ensures taken { IfOk result (λ done. IsShort source.now name × AreApart source.now parameters.now × (length parameters.now ≤ MAX_ARGUMENTS)) }
         ensures stand { (z : Seen) → Sees names.now (map (λ out. out.items) uses.now.ways.items) self.old.types.bank self.old.bodies.items z → IfOk result (λ done. IsSoundAbbreviation source.now z name parameters.now raw.now) }
@@ -211,6 +212,7 @@ impl Making {
     ) -> Result<(), SigFault>
         ensures why { (z : Seen) → Sees self.old.names (map (λ out. out.items) self.old.uses.ways.items) self.old.bodies.types.bank self.old.bodies.bodies.items z → IfErr result (IsAbbreviationFault source.now z name parameters.now raw.now) }
         ensures reason { (said : List (Row Said)) → Knows self.old.names said → IfErr result (λ e. (e ≡ fault.Memory) ⊎ IsAbbreviationWrong source.now said name parameters.now raw.now e) }
+        ensures other { (said : List (Row Said)) (defs : List (Row Definition)) → Knows self.old.names said → HoldsBodies self.old.bodies.types.bank self.old.bodies.bodies.items said defs → IfErr result (IsOtherBodyIf source.now said defs name parameters.now raw.now) }
         ensures sound { (said : List (Row Said)) → Knows self.old.names said → IfOk result (λ done. IsHead source.now said name parameters.now × WordsStand source.now said (parameters_of source.now parameters.now) raw.now.nodes.items) }
         ensures taken { IfOk result (λ done. IsShort source.now name × AreApart source.now parameters.now × (length parameters.now ≤ MAX_ARGUMENTS)) }
         ensures stand { (z : Seen) → Sees self.old.names (map (λ out. out.items) self.old.uses.ways.items) self.old.bodies.types.bank self.old.bodies.bodies.items z → IfOk result (λ done. IsSoundAbbreviation source.now z name parameters.now raw.now) }

@@ -12,19 +12,23 @@ ghost use Rattle.lp_syntax.specs.declared.text.RawType.{RawType as IsRawType};
 ghost use Rattle.lp_sig.specs.Limits.{IsShort, AreShort};
 ghost use Rattle.lp_sig.specs.Words.{IsMeant, AreMeant, IsNumbered, AreNumbered, IsKindsFault, IsSoundType, IsHead, WordsStand, parameters_of, IsNameFault};
 ghost use Rattle.lp_sig.specs.Modules.{constant_names_by, constant_names_in, first_names, local_names};
-ghost use Rattle.lp_sig.specs.ModuleFaults.{exports_kind, exports_constant, differs_at, blamed_by, kind_names_in, IsFirstOf, IsLocalFault, IsLocal, IsLocalKindsFault, IsKnownFault, IsNewFault, AreConstantsWrong, AreLocalsWrong, IsAbbreviationWrong, IsWordFault, IsLineFault, IsLineTaken, IsNewLocal, IsTypeFault, AreLocalKindsRefused, AreLocalKindsTaken, AreLocalsRefused, AreLocalsTaken};
+ghost use Rattle.lp_sig.specs.ModuleFaults.{exports_kind, exports_constant, differs_at, blamed_by, kind_names_in, IsFirstOf, IsLocalFault, IsLocal, IsLocalKindsFault, IsKnownFault, IsNewFault, AreConstantsWrong, AreLocalsWrong, IsAbbreviationWrong, AreModulesRefused, AreModulesTaken, AreSignaturesRefused, AreSignaturesTaken, IsLineFault, IsLineTaken, IsNewLocal, IsTypeFault, AreLocalKindsRefused, AreLocalKindsTaken, AreLocalsRefused, AreLocalsTaken};
 ghost use Rattle.lp_sig.specs.declared.fault.SigFault.{SigFault as IsFault};
 ghost use Rattle.lp_sig.specs.declared.fault.SigFault.TheVariants as reason;
 ghost use Rattle.lp_sig.specs.declared.module_fault.ModuleSigFault.TheVariants as wrong;
 ghost use Rattle.lp_sig.specs.Sighted.{Grows};
 ghost use Rattle.lp_sig.specs.Sights.{HasKeys, HasNumbers, IsAlike, AreWordsAlike};
 ghost use Rattle.lp_sig.specs.declared.see.Sight.TheVariants.{Alike};
+ghost use Rattle.lp_sig.specs.declared.see.Sight.{Sight as IsSight};
+ghost use Rattle.lp_sig.specs.declared.signature.Signature.{Signature as IsSignature};
+ghost use Rattle.lp_sig.specs.inner.Telling.{IsBlamed, AreSights};
 ghost use Rattle.lp_sig.specs.Worded.{HasWords};
 ghost use Rattle.lp_calculus.specs.Types.{Ty};
 ghost use Rattle.lp_term.specs.Nodes.{Extends};
 ghost use Rattle.lp_sig.specs.Types.{Definition};
 ghost use Rattle.lp_sig.specs.Constants.{Written, written_in};
-ghost use Rattle.lp_sig.specs.Differing.{HasNameCause, IsOtherIf};
+ghost use Rattle.lp_sig.specs.Differing.{HasNameCause, IsOtherIf, IsOtherBodyIf};
+ghost use Rattle.lp_sig.specs.Holding.{HoldsBodies};
 ghost use Rattle.lp_sig.specs.ModuleFaults.{HaveLocalsCause, AreLocalsOtherIf, HasLineCause, IsLineOtherIf};
 ghost use Rattle.lp_sig.specs.inner.Taking.{IsInside, AreOtherIds, AddsNames, IsTaking, TakesOn};
 ghost use Rattle.lp_sig.specs.AsWritten.{typed_locals, typed_by};
@@ -46,7 +50,7 @@ use lp_syntax::{Declaration, RawType};
 // A word that names a signature.
 fn check_word(word: Spot, sight: Option<Sight>) -> Result<(), ModuleSigFault>
     ensures alike { OnOk result (sight ≡ Some Alike) }
-    ensures refused { IfErr result (λ e. (e ≡ wrong.Sig reason.Memory) ⊎ IsWordFault (word ∷ []) e) }
+    ensures refused { IfErr result (λ e. (e ≡ wrong.Sig reason.Memory) ⊎ ((s : IsSight) × (sight ≡ Some s) × IsBlamed word s e)) }
 {
     match sight {
         Some(Sight::Alike) => Ok(()),
@@ -438,6 +442,7 @@ impl<'a> ModuleLines<'a> {
         ensures grown { OnOk result (Grows making.old making.new) }
         ensures constants { making.new.constants ≡ making.old.constants }
         ensures kept { making.new.bodies.bodies ≡ making.old.bodies.bodies }
+        ensures other { (said : List (Row IsSaid)) (defs : List (Row Definition)) → Knows making.old.names said → HoldsBodies making.old.bodies.types.bank making.old.bodies.bodies.items said defs → IfErr result (λ e. (f : IsFault) × (e ≡ blamed_by (exports_kind self.now.own.now) self.now.source.now f) × IsOtherBodyIf self.now.source.now said defs name parameters.now raw.now f) }
         ensures refused { (said : List (Row IsSaid)) → Knows making.old.names said → IfErr result (λ e. (e ≡ wrong.Sig reason.Memory) ⊎ ((f : IsFault) × IsAbbreviationWrong self.now.source.now said name parameters.now raw.now f × (e ≡ blamed_by (exports_kind self.now.own.now) self.now.source.now f))) }
         ensures taken { (said : List (Row IsSaid)) → Knows making.old.names said → IfOk result (λ done. IsHead self.now.source.now said name parameters.now × WordsStand self.now.source.now said (parameters_of self.now.source.now parameters.now) raw.now.nodes.items) }
     {
@@ -449,7 +454,8 @@ impl<'a> ModuleLines<'a> {
 
     fn accumulate(&self, words: &[Spot]) -> Result<(), ModuleSigFault>
         ensures alike { OnOk result ((signatures modules : List (List ℕ)) → HasNumbers self.now.said.now.accum_sigs signatures → HasNumbers self.now.said.now.accumulates modules → All (IsAlike self.now.sights.now (length (first_names [] signatures)) modules) (map (λ s. spelled self.now.source.now s) words.now)) }
-        ensures refused { IfErr result (λ e. (e ≡ wrong.Sig reason.Memory) ⊎ IsWordFault words.now e) }
+        ensures refused { (used : List IsSignature) (ds : List IsDeclaration) → AreSights self.now.own.now used self.now.source.now self.now.said.now self.now.sights.now ds → IfErr result (λ e. (e ≡ wrong.Sig reason.Memory) ⊎ AreModulesRefused self.now.own.now used self.now.source.now ds words.now e) }
+        ensures taken { (used : List IsSignature) (ds : List IsDeclaration) → AreSights self.now.own.now used self.now.source.now self.now.said.now self.now.sights.now ds → IfOk result (λ done. AreModulesTaken self.now.own.now used self.now.source.now ds words.now) }
     {
         for word in words {
             let sight = self
@@ -462,7 +468,8 @@ impl<'a> ModuleLines<'a> {
 
     fn accum_sig(&self, words: &[Spot]) -> Result<(), ModuleSigFault>
         ensures alike { OnOk result ((signatures : List (List ℕ)) → HasNumbers self.now.said.now.accum_sigs signatures → All (IsAlike self.now.sights.now 0 signatures) (map (λ s. spelled self.now.source.now s) words.now)) }
-        ensures refused { IfErr result (λ e. (e ≡ wrong.Sig reason.Memory) ⊎ IsWordFault words.now e) }
+        ensures refused { (used : List IsSignature) (ds : List IsDeclaration) → AreSights self.now.own.now used self.now.source.now self.now.said.now self.now.sights.now ds → IfErr result (λ e. (e ≡ wrong.Sig reason.Memory) ⊎ AreSignaturesRefused self.now.own.now used self.now.source.now ds words.now e) }
+        ensures taken { (used : List IsSignature) (ds : List IsDeclaration) → AreSights self.now.own.now used self.now.source.now self.now.said.now self.now.sights.now ds → IfOk result (λ done. AreSignaturesTaken self.now.own.now used self.now.source.now ds words.now) }
     {
         for word in words {
             let sight = self
@@ -489,8 +496,8 @@ impl<'a> ModuleLines<'a> {
         ensures other { (said : List (Row IsSaid)) (defs : List (Row Definition)) (given : List (Row Ty)) (rows : List (Row Written)) (words : List (List ℕ)) → IsTaking making.old.names making.old.bodies making.old.constants said defs given rows words → IfErr result (IsLineOtherIf self.now.own.now self.now.source.now said defs given rows declaration.now) }
         ensures takes { OnOk result (TakesOn making.old making.new (typed_by self.now.source.now declaration.now) (constant_names_by self.now.source.now declaration.now)) }
         ensures alike { OnOk result ((signatures modules : List (List ℕ)) → HasNumbers self.now.said.now.accum_sigs signatures → HasNumbers self.now.said.now.accumulates modules → AreWordsAlike self.now.sights.now self.now.source.now signatures modules (declaration.now ∷ [])) }
-        ensures refused { (said : List (Row IsSaid)) (ds : List IsDeclaration) → Knows making.old.names said → HasKeys self.now.said.now.kinds (kind_names_in self.now.source.now ds) → HasKeys self.now.said.now.constants (constant_names_in self.now.source.now ds) → IfErr result (λ e. (e ≡ wrong.Sig reason.Memory) ⊎ IsLineFault self.now.own.now self.now.source.now said ds declaration.now e) }
-        ensures taken { (said : List (Row IsSaid)) (ds : List IsDeclaration) → Knows making.old.names said → HasKeys self.now.said.now.kinds (kind_names_in self.now.source.now ds) → HasKeys self.now.said.now.constants (constant_names_in self.now.source.now ds) → IfOk result (λ done. IsLineTaken self.now.own.now self.now.source.now said ds declaration.now) }
+        ensures refused { (used : List IsSignature) (said : List (Row IsSaid)) (ds : List IsDeclaration) → AreSights self.now.own.now used self.now.source.now self.now.said.now self.now.sights.now ds → Knows making.old.names said → HasKeys self.now.said.now.kinds (kind_names_in self.now.source.now ds) → HasKeys self.now.said.now.constants (constant_names_in self.now.source.now ds) → IfErr result (λ e. (e ≡ wrong.Sig reason.Memory) ⊎ IsLineFault self.now.own.now used self.now.source.now said ds declaration.now e) }
+        ensures taken { (used : List IsSignature) (said : List (Row IsSaid)) (ds : List IsDeclaration) → AreSights self.now.own.now used self.now.source.now self.now.said.now self.now.sights.now ds → Knows making.old.names said → HasKeys self.now.said.now.kinds (kind_names_in self.now.source.now ds) → HasKeys self.now.said.now.constants (constant_names_in self.now.source.now ds) → IfOk result (λ done. IsLineTaken self.now.own.now used self.now.source.now said ds declaration.now) }
     {
         match declaration {
             Declaration::Kinds(names, arity) => self.kinds(making, names.as_slice(), *arity),

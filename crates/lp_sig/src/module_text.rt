@@ -23,6 +23,7 @@ ghost use Rattle.lp_sig.specs.inner.Reading.{ReadsOn};
 ghost use Rattle.lp_sig.specs.inner.Taking.{IsTaking, TakesOn, IsCausedFrom};
 ghost use Rattle.lp_calculus.specs.Types.{Ty};
 ghost use Rattle.lp_sig.specs.Constants.{Written};
+ghost use Rattle.lp_sig.specs.inner.Telling.{KnowsBefore, AreTold, AreSights};
 
 use crate::hearing::Said;
 use crate::making::Making;
@@ -45,6 +46,8 @@ fn see_used(making: &mut Making, used: &[Signature]) -> Result<Vec<Sight>, Memor
     ensures counted { IfOk result (λ sights. (said : List (Row IsSaid)) (words : List (List ℕ)) → Knows making.old.names said → HasWords making.old.constants words → AreCounted making.old.bodies.types.bank making.old.constants → All IsOrdered used.now →
         AreAlike sights.items (length used.now) → AreCounted making.new.bodies.types.bank making.new.constants) }
     ensures given { IfOk result (λ sights. All IsOrdered used.now → All HasWholeBodies used.now → AreAlike sights.items (length used.now) → GivesMore making.old making.new (of_each said_of used.now) (of_each bodies_of used.now)) }
+    ensures told { IfOk result (λ sights. (before : List IsSignature) → KnowsBefore making.old before → AreTold before used.now sights.items) }
+    ensures stays { OnOk result ((before : List IsSignature) → KnowsBefore making.old before → KnowsBefore making.new (before ++ used.now)) }
 {
     let mut sights = Vec::new(making.alloc);
     for at in 0..used.len() {
@@ -70,6 +73,8 @@ fn see_all(making: &mut Making, own: &Signature, used: &[Signature]) -> Result<V
     ensures given { IfOk result (λ sights. (said : List (Row IsSaid)) (rows : List (Row NamedTy)) → Knows making.old.names said → GivesBodies making.old.bodies.types.bank making.old.bodies.bodies.items said rows → IsOrdered own.now → HasWholeBodies own.now →
         AreKinds (said ++ said_of own.now) (kind_names own.now) → All IsOrdered used.now → All HasWholeBodies used.now → AreAlike sights.items (length used.now) →
         GivesBodies making.new.bodies.types.bank making.new.bodies.bodies.items ((said ++ said_of own.now) ++ of_each said_of used.now) ((rows ++ bodies_of own.now) ++ of_each bodies_of used.now)) }
+    ensures told { IfOk result (λ sights. KnowsBefore making.old [] → AreTold (own.now ∷ []) used.now sights.items) }
+    ensures stays { OnOk result (KnowsBefore making.old [] → KnowsBefore making.new (own.now ∷ used.now)) }
 {
     making.see(own)?;
     making.see_fixities(own)?;
@@ -111,8 +116,8 @@ fn declare_sentence(
     ensures takes { OnOk result (TakesOn making.old making.new (typed_in lines.now.source.now (declarations (sentence.now ∷ []))) (constant_names_in lines.now.source.now (declarations (sentence.now ∷ [])))) }
     ensures words { OnOk result ((words : List (List ℕ)) → HasWords making.old.constants words → HasWords making.new.constants (words ++ constant_names_in lines.now.source.now (declarations (sentence.now ∷ [])))) }
     ensures alike { OnOk result ((signatures modules : List (List ℕ)) → HasNumbers lines.now.said.now.accum_sigs signatures → HasNumbers lines.now.said.now.accumulates modules → AreWordsAlike lines.now.sights.now lines.now.source.now signatures modules (declarations (sentence.now ∷ []))) }
-    ensures refused { (said : List (Row IsSaid)) (ds : List IsDeclaration) → Knows making.old.names said → HasKeys lines.now.said.now.kinds (kind_names_in lines.now.source.now ds) → HasKeys lines.now.said.now.constants (constant_names_in lines.now.source.now ds) → IfErr result (λ e. (e ≡ wrong.Sig fault.Memory) ⊎ ((d : IsDeclaration) × (sentence.now ≡ Declares d) × IsLineFault lines.now.own.now lines.now.source.now said ds d e)) }
-    ensures taken { (said : List (Row IsSaid)) (ds : List IsDeclaration) → Knows making.old.names said → HasKeys lines.now.said.now.kinds (kind_names_in lines.now.source.now ds) → HasKeys lines.now.said.now.constants (constant_names_in lines.now.source.now ds) → IfOk result (λ done. All (IsLineTaken lines.now.own.now lines.now.source.now said ds) (declarations (sentence.now ∷ []))) }
+    ensures refused { (used : List IsSignature) (said : List (Row IsSaid)) (ds : List IsDeclaration) → AreSights lines.now.own.now used lines.now.source.now lines.now.said.now lines.now.sights.now ds → Knows making.old.names said → HasKeys lines.now.said.now.kinds (kind_names_in lines.now.source.now ds) → HasKeys lines.now.said.now.constants (constant_names_in lines.now.source.now ds) → IfErr result (λ e. (e ≡ wrong.Sig fault.Memory) ⊎ ((d : IsDeclaration) × (sentence.now ≡ Declares d) × IsLineFault lines.now.own.now used lines.now.source.now said ds d e)) }
+    ensures taken { (used : List IsSignature) (said : List (Row IsSaid)) (ds : List IsDeclaration) → AreSights lines.now.own.now used lines.now.source.now lines.now.said.now lines.now.sights.now ds → Knows making.old.names said → HasKeys lines.now.said.now.kinds (kind_names_in lines.now.source.now ds) → HasKeys lines.now.said.now.constants (constant_names_in lines.now.source.now ds) → IfOk result (λ done. All (IsLineTaken lines.now.own.now used lines.now.source.now said ds) (declarations (sentence.now ∷ []))) }
 {
     match sentence {
         Sentence::Declares(declaration) => lines.declare(making, declaration),
@@ -134,7 +139,7 @@ fn declare_all(
     ensures takes { OnOk result (TakesOn making.old making.new (typed_in lines.now.source.now (declarations text.now.lines.items)) (constant_names_in lines.now.source.now (declarations text.now.lines.items))) }
     ensures words { OnOk result ((words : List (List ℕ)) → HasWords making.old.constants words → HasWords making.new.constants (words ++ constant_names_in lines.now.source.now (declarations text.now.lines.items))) }
     ensures alike { OnOk result ((signatures modules : List (List ℕ)) → HasNumbers lines.now.said.now.accum_sigs signatures → HasNumbers lines.now.said.now.accumulates modules → AreWordsAlike lines.now.sights.now lines.now.source.now signatures modules (declarations text.now.lines.items)) }
-    ensures refused { (said : List (Row IsSaid)) (words : List (List ℕ)) → Knows making.old.names said → HasKeys lines.now.said.now.kinds (kind_names_in lines.now.source.now (declarations text.now.lines.items)) → HasKeys lines.now.said.now.constants (constant_names_in lines.now.source.now (declarations text.now.lines.items)) → HasWords making.old.constants words → IfErr result (λ e. (e ≡ wrong.Sig fault.Memory) ⊎ ((f : IsFaultAmong lines.now.own.now lines.now.source.now said (declarations text.now.lines.items) e) × IsCausedFrom making.old lines.now.own.now lines.now.source.now said words (take f.k (declarations text.now.lines.items)) f.line e)) }
+    ensures refused { (used : List IsSignature) (said : List (Row IsSaid)) (words : List (List ℕ)) → AreSights lines.now.own.now used lines.now.source.now lines.now.said.now lines.now.sights.now (declarations text.now.lines.items) → Knows making.old.names said → HasKeys lines.now.said.now.kinds (kind_names_in lines.now.source.now (declarations text.now.lines.items)) → HasKeys lines.now.said.now.constants (constant_names_in lines.now.source.now (declarations text.now.lines.items)) → HasWords making.old.constants words → IfErr result (λ e. (e ≡ wrong.Sig fault.Memory) ⊎ ((f : IsFaultAmong lines.now.own.now used lines.now.source.now said (declarations text.now.lines.items) e) × IsCausedFrom making.old lines.now.own.now lines.now.source.now said words (take f.k (declarations text.now.lines.items)) f.line e)) }
 {
     for at in 0..text.lines.len() {
         declare_sentence(making, lines, &text.lines[at])?;

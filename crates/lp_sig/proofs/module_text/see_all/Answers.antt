@@ -1,11 +1,12 @@
 use Rattle.lp_sig.specs.AsWritten.{bodies_of}
 use Rattle.lp_sig.specs.inner.Given.{GivesBodies}
-use Rattle.std.proofs.Common.{◌++◌, map, sym, subst, inr}
+use Rattle.std.proofs.Common.{[], ◌∷◌, ◌++◌, map, sym, subst, inr}
 use Rattle.lp_sig.specs.Rows.{fixity_row}
 use Rattle.lp_sig.specs.Knowing.{Knows, KnowsOperators}
 use Rattle.lp_sig.specs.Modules.{said_of, constants_of, of_each}
 use Rattle.lp_sig.specs.Worded.{HasWords}
 use Rattle.lp_sig.proofs.KnownConstants.{making_then, making_parts, counted_parts}
+use Rattle.lp_sig.proofs.Told.{knows_parts}
 use Rattle.lp_sig.proofs.Viewing.{seen_stays}
 use Rattle.lp_sig.proofs.module_text.see_all.Goals as goal
 
@@ -59,3 +60,11 @@ returns-clause-given c = λ said rows k g ordered whole kinds used used_whole al
     (subst (λ n. Knows n (said ++ said_of c.args.own.now)) (sym c.see_fixities.ensures.names) (c.in_ok-see.ensures.names said k))
     (subst (λ b. GivesBodies b.types.bank b.bodies.items (said ++ said_of c.args.own.now) (rows ++ bodies_of c.args.own.now)) (sym c.see_fixities.ensures.bodies)
     (c.in_ok-see.ensures.given said rows k g ordered whole (inr kinds)))
+
+pub returns-clause-told : goal.returns-clause-told
+returns-clause-told c = λ start. c.in_ok-sights.ensures.told (c.args.own.now ∷ [])
+    (knows_parts c.see.new.self c.see_fixities.new.self (c.args.own.now ∷ []) c.see_fixities.ensures.names c.see_fixities.ensures.bodies c.see_fixities.ensures.constants (c.in_ok-see.ensures.stays [] start))
+
+pub returns-clause-stays : goal.returns-clause-stays
+returns-clause-stays c = λ start. c.in_ok-sights.ensures.stays (c.args.own.now ∷ [])
+    (knows_parts c.see.new.self c.see_fixities.new.self (c.args.own.now ∷ []) c.see_fixities.ensures.names c.see_fixities.ensures.bodies c.see_fixities.ensures.constants (c.in_ok-see.ensures.stays [] start))

@@ -10,6 +10,8 @@ use Rattle.lp_sig.specs.Sighted.{SeenSo}
 use Rattle.lp_sig.specs.Worded.{HasWords}
 use Rattle.lp_sig.proofs.KnownConstants.{making_same, making_then}
 use Rattle.lp_sig.proofs.Sayings.{signatures_more}
+use Rattle.lp_sig.specs.inner.Telling.{KnowsBefore, AreTold}
+use Rattle.lp_sig.proofs.Told.{told_more, used_more}
 use Rattle.lp_sig.proofs.Sights.{at_is, last_alike, seen_so_far}
 use Rattle.lp_sig.proofs.module_text.see_used.Goals as goal
 
@@ -25,6 +27,8 @@ loop-at-init c = record {
   seen = λ said words k h all ordered n low alike i below. absurd (omega (arith, low, below));
   given = λ ordered whole alike said rows k g. subst (λ s. GivesBodies c.args.making.now.bodies.types.bank c.args.making.now.bodies.bodies.items s (rows ++ [])) (sym (append-nil said))
       (subst (GivesBodies c.args.making.now.bodies.types.bank c.args.making.now.bodies.bodies.items said) (sym (append-nil rows)) g);
+  before = λ before k. subst (KnowsBefore c.args.making.now) (sym (append-nil before)) k;
+  told = λ before k. subst (AreTold before c.args.used.now) (sym c.new-sights.ensures.items) (λ i s e. absurd (cc));
 }
 
 pub loop-at-preserved : goal.loop-at-preserved
@@ -67,6 +71,18 @@ loop-at-preserved c = record {
       (c.in_ok-sight.ensures.given (said ++ of_each said_of (take at used)) (rows ++ of_each bodies_of (take at used)) (c.loop-at.invariant.names said k)
       (c.loop-at.invariant.given ordered whole y.0 said rows k g) (at_is IsOrdered used at u c.loop-at-test.true c.index-used-at.is ordered)
       (at_is HasWholeBodies used at u c.loop-at-test.true c.index-used-at.is whole) (inl y.1)));
+  before = λ before k.
+      let at = c.loop-at.at in
+      let used = c.args.used.now in
+      let u = c.index-used-at.result in
+      subst (KnowsBefore c.see.new.self) (used_more before used c.loop-at.sights.items c.push.new.self.items c.in_ok-sight.sight at u c.loop-at-test.true c.index-used-at.is c.in_ok-push.ensures.items c.loop-at.invariant.count)
+      (c.in_ok-sight.ensures.stays (before ++ take at used) (c.loop-at.invariant.before before k));
+  told = λ before k.
+      let at = c.loop-at.at in
+      let used = c.args.used.now in
+      let u = c.index-used-at.result in
+      told_more before used c.loop-at.sights.items c.push.new.self.items c.in_ok-sight.sight at u c.loop-at-test.true c.index-used-at.is c.in_ok-push.ensures.items c.loop-at.invariant.count
+      (c.loop-at.invariant.told before k) (c.in_ok-sight.ensures.told (before ++ take at used) (c.loop-at.invariant.before before k));
 }
 
 pub returns-clause-names : goal.returns-clause-names
@@ -93,3 +109,9 @@ pub returns-clause-given : goal.returns-clause-given
 returns-clause-given c = λ ordered whole alike.
     subst (λ ss. GivesMore c.args.making.now c.loop-at.making (of_each said_of ss) (of_each bodies_of ss)) (take_all c.loop-at.at c.args.used.now c.loop-at-test.false)
     (c.loop-at.invariant.given ordered whole (subst (AreAlike c.loop-at.sights.items) (let e = c.loop-at-test.false in let l = c.loop-at.invariant.low in let same : length c.args.used.now ≡ c.loop-at.at = omega (arith, e, l) in same) alike))
+
+pub returns-clause-told : goal.returns-clause-told
+returns-clause-told c = c.loop-at.invariant.told
+
+pub returns-clause-stays : goal.returns-clause-stays
+returns-clause-stays c = λ before k. subst (λ ss. KnowsBefore c.loop-at.making (before ++ ss)) (take_all c.loop-at.at c.args.used.now c.loop-at-test.false) (c.loop-at.invariant.before before k)

@@ -9,6 +9,7 @@ use Rattle.lp_sig.specs.Modules.{of_each, said_of, constants_of}
 use Rattle.lp_sig.specs.Named.{IsOrdered}
 use Rattle.lp_sig.specs.Sighted.{Grows, AreCounted, SeenSo}
 use Rattle.lp_sig.specs.Sights.{AreAlike}
+use Rattle.lp_sig.specs.inner.Telling.{KnowsBefore, AreTold}
 use Rattle.lp_sig.specs.Worded.{HasWords}
 use Rattle.lp_sig.specs.declared.signature.Signature.{Signature}
 use Rattle.lp_sig.proofs.module_text.see_used.Given as goal
@@ -28,4 +29,6 @@ invariant-loop-at l = record {
       l.fn.making.bodies.types.bank l.fn.making.constants → All IsOrdered l.used →
       (n : ℕ) → n ≤ l.at → AreAlike l.sights.items n → (i : ℕ) → i < n → (u : Signature) → slice_get l.used i ≡ Some u → SeenSo l.making (said ++ of_each said_of (take l.at l.used)) u;
   given : All IsOrdered l.used → All HasWholeBodies l.used → AreAlike l.sights.items l.at → GivesMore l.fn.making l.making (of_each said_of (take l.at l.used)) (of_each bodies_of (take l.at l.used));
+  before : (before : List Signature) → KnowsBefore l.fn.making before → KnowsBefore l.making (before ++ take l.at l.used);
+  told : (before : List Signature) → KnowsBefore l.fn.making before → AreTold before l.used l.sights.items;
 }
