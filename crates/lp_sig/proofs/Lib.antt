@@ -72,6 +72,8 @@ pub mod GivenBodies
 pub mod Reading
 pub mod DeclaredTypes
 pub mod Taking
+pub mod WholeTypes
+pub mod SeenUses
 pub mod Told
 pub mod ToldKinds
 pub mod TypesHere

@@ -72,11 +72,11 @@ numbered_names_in : (n : ℕ) (rows : List (Row ℕ)) → names_in (numbered n r
 numbered_names_in n [] = refl
 numbered_names_in n (r ∷ rs) = ap (λ l. r.0 ∷ l) (numbered_names_in (suc n) rs)
 
-names_numbered : (n : ℕ) (ns : List (List ℕ)) → names_in (numbered_names n ns) ≡ ns
+pub names_numbered : (n : ℕ) (ns : List (List ℕ)) → names_in (numbered_names n ns) ≡ ns
 names_numbered n [] = refl
 names_numbered n (x ∷ xs) = ap (λ l. x ∷ l) (names_numbered (suc n) xs)
 
-rows_names : {E : Type 0} {B : Type 0} (name : E → List ℕ) (beside : E → B) (es : List E) → names_in (map (λ e. (name e, beside e)) es) ≡ map name es
+pub rows_names : {E : Type 0} {B : Type 0} (name : E → List ℕ) (beside : E → B) (es : List E) → names_in (map (λ e. (name e, beside e)) es) ≡ map name es
 rows_names name beside [] = refl
 rows_names name beside (e ∷ es) = ap (λ l. name e ∷ l) (rows_names name beside es)
 

@@ -16,6 +16,7 @@ use Rattle.lp_syntax.specs.declared.text.RawType.{RawType}
 use Rattle.lp_syntax.specs.declared.text.Sentence.{Sentence}
 use Rattle.lp_syntax.specs.declared.text.Sentence.TheVariants.{Declares, Says}
 use Rattle.lp_term.specs.declared.node.TypeId.{TypeId}
+use Rattle.lp_sig.specs.Abbreviations.{Seen}
 use Rattle.lp_sig.specs.Pieces.{spelled}
 use Rattle.lp_sig.specs.Rows.{Row, found, kind_row, abbreviation_row}
 use Rattle.lp_sig.specs.Standard.{standard_kinds, standard_constants}
@@ -181,14 +182,14 @@ declared_more (Declares x ∷ ls) (suc i) d l h at is =
     (omega (arith, b), r.1, ap (λ l. x ∷ l) r.2)
 declared_more (Says raw ∷ ls) (suc i) d l h at is = declared_more ls i d l (omega (arith, h)) at is
 
-pub fault_among : (own : Signature) (used : List Signature) (text : List ℕ) (said : List (Row Said)) (ls : List Sentence) (i : ℕ) (l : Sentence) (e m : ModuleSigFault) → i < length ls → l ≡ get_or ls i l →
-    All (IsLineTaken own used text said (declarations ls)) (declarations (take i ls)) → (e ≡ m) ⊎
-    ((d : Declaration) × (l ≡ Declares d) × IsLineFault own used text said (declarations ls) d e) → (e ≡ m) ⊎ IsFaultAmong own used text said
+pub fault_among : (own : Signature) (used : List Signature) (text : List ℕ) (z : Seen) (ls : List Sentence) (i : ℕ) (l : Sentence) (e m : ModuleSigFault) → i < length ls → l ≡ get_or ls i l →
+    All (IsLineTaken own used text z (declarations ls)) (declarations (take i ls)) → (e ≡ m) ⊎
+    ((d : Declaration) × (l ≡ Declares d) × IsLineFault own used text z (declarations ls) d e) → (e ≡ m) ⊎ IsFaultAmong own used text z
     (declarations ls) e
-fault_among own used text said ls i l e m h at before (inl is) = inl is
-fault_among own used text said ls i l e m h at before (inr (d, is, why)) =
+fault_among own used text z ls i l e m h at before (inl is) = inl is
+fault_among own used text z ls i l e m h at before (inr (d, is, why)) =
     let r = declared_more ls i d l h at is in
-    inr (record { k = length (declarations (take i ls)); line = d; inside = r.0; at_line = r.1; why = why; before = subst (All (IsLineTaken own used text said (declarations ls))) (sym r.2) before })
+    inr (record { k = length (declarations (take i ls)); line = d; inside = r.0; at_line = r.1; why = why; before = subst (All (IsLineTaken own used text z (declarations ls))) (sym r.2) before })
 
 -- a fault that may call an exported name declared otherwise
 module _ (exports : List ℕ → Bool) (text : List ℕ) (f : SigFault) (o : Option Spot) (is : o ≡ differs_at f) where

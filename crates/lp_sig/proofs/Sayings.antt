@@ -21,7 +21,7 @@ use Rattle.lp_sig.specs.declared.constants.Constants.{Constants}
 use Rattle.lp_sig.specs.declared.names.Names.{Names}
 use Rattle.lp_sig.specs.declared.signature.Signature.{Signature}
 
-declared_append : (xs ys : List Sentence) → declarations (xs ++ ys) ≡ declarations xs ++ declarations ys
+pub declared_append : (xs ys : List Sentence) → declarations (xs ++ ys) ≡ declarations xs ++ declarations ys
 declared_append [] ys = refl
 declared_append (Declares d ∷ xs) ys = ap (λ l. d ∷ l) (declared_append xs ys)
 declared_append (Says raw ∷ xs) ys = declared_append xs ys

@@ -103,7 +103,7 @@ both_alike sights text signatures modules xs ys a b = (
 )
 
 -- first names are apart
-new_name : (known ws : List (List ℕ)) (i : ℕ) (w : List ℕ) → slice_get (first_names known ws) i ≡ Some w → is_among w known ≡ false
+pub new_name : (known ws : List (List ℕ)) (i : ℕ) (w : List ℕ) → slice_get (first_names known ws) i ≡ Some w → is_among w known ≡ false
 new_name known [] i w e = absurd (cc)
 new_name known (n ∷ ns) i w e = by (λ j f. new_name known ns j w f) (λ j f. new_name (n ∷ known) ns j w f) (is_among n known) refl i e
   where

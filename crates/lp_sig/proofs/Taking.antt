@@ -23,6 +23,7 @@ use Rattle.lp_sig.specs.Constants.{Written, written_in, IsSchemeOf, IsTyped, sta
 use Rattle.lp_sig.specs.Differing.{IsKnownType, of_language, of_signatures, of_text, HasNoNumber, IsMetAt, HasNameCause, IsOtherIf, IsOtherBodyIf}
 use Rattle.lp_sig.specs.Holding.{IsTree, HoldsBodies}
 use Rattle.lp_sig.specs.Knowing.{Knows}
+use Rattle.lp_sig.specs.Abbreviations.{Seen}
 use Rattle.lp_sig.specs.AsWritten.{typed_locals, typed_by, typed_in}
 use Rattle.lp_sig.specs.Limits.{IsRepeated}
 use Rattle.lp_sig.specs.ModuleFaults.{IsTypeFault, long_type, word_of_type, many_variables, IsLineFault, IsLineTaken, IsFaultAmong}
@@ -424,14 +425,14 @@ pub one_declared : (l : Sentence) (c d : Declaration) → l ≡ Declares c → l
 one_declared l c d e f = let z : Declares c ≡ Declares d = sym e ∙ f in cc
 
 -- the first sentence that is refused, with its cause
-pub caused_among : (own : Signature) (used : List Signature) (text : List ℕ) (said : List (Row Said)) (ls : List Sentence) (i : ℕ) (l : Sentence) (e m : ModuleSigFault) (P : List Declaration → Declaration → ModuleSigFault → Type 0) → i < length ls → l ≡ get_or ls i l →
-    All (IsLineTaken own used text said (declarations ls)) (declarations (take i ls)) → ((d : Declaration) → l ≡ Declares d → P (declarations (take i ls)) d e) →
-    (e ≡ m) ⊎ ((d : Declaration) × (l ≡ Declares d) × IsLineFault own used text said (declarations ls) d e) →
-    (e ≡ m) ⊎ ((f : IsFaultAmong own used text said (declarations ls) e) × P (take f.k (declarations ls)) f.line e)
-caused_among own used text said ls i l e m P h at before cause (inl is) = inl is
-caused_among own used text said ls i l e m P h at before cause (inr (d, is, why)) =
+pub caused_among : (own : Signature) (used : List Signature) (text : List ℕ) (z : Seen) (ls : List Sentence) (i : ℕ) (l : Sentence) (e m : ModuleSigFault) (P : List Declaration → Declaration → ModuleSigFault → Type 0) → i < length ls → l ≡ get_or ls i l →
+    All (IsLineTaken own used text z (declarations ls)) (declarations (take i ls)) → ((d : Declaration) → l ≡ Declares d → P (declarations (take i ls)) d e) →
+    (e ≡ m) ⊎ ((d : Declaration) × (l ≡ Declares d) × IsLineFault own used text z (declarations ls) d e) →
+    (e ≡ m) ⊎ ((f : IsFaultAmong own used text z (declarations ls) e) × P (take f.k (declarations ls)) f.line e)
+caused_among own used text z ls i l e m P h at before cause (inl is) = inl is
+caused_among own used text z ls i l e m P h at before cause (inr (d, is, why)) =
     let r = declared_more ls i d l h at is in
     inr (
-      record { k = length (declarations (take i ls)); line = d; inside = r.0; at_line = r.1; why = why; before = subst (All (IsLineTaken own used text said (declarations ls))) (sym r.2) before },
+      record { k = length (declarations (take i ls)); line = d; inside = r.0; at_line = r.1; why = why; before = subst (All (IsLineTaken own used text z (declarations ls))) (sym r.2) before },
       subst (λ ds. P ds d e) (sym r.2) (cause d is),
     )

@@ -11,12 +11,13 @@ use Rattle.lp_base.specs.declared.limits.TheConstants.{END_OF_NUMBERS}
 use Rattle.lp_base.specs.declared.place.Spot.{Spot}
 use Rattle.lp_sig.specs.Pieces.{spelled}
 use Rattle.lp_sig.specs.Places.{first_place}
-use Rattle.lp_sig.specs.Modules.{first_names}
+use Rattle.lp_sig.specs.Modules.{first_names, of_each, said_of, constants_of}
+use Rattle.lp_sig.specs.AsWritten.{bodies_of}
 use Rattle.lp_sig.specs.Knowing.{Knows}
 use Rattle.lp_sig.specs.Worded.{HasWords}
 use Rattle.lp_sig.specs.Sights.{HasNumbers, IsSightOf}
 use Rattle.lp_sig.specs.ModuleFaults.{IsWordFault, otherwise, many, IsNamedBy, IsWordRefused, IsWordTaken}
-use Rattle.lp_sig.specs.GoingTogether.{GoesWith}
+use Rattle.lp_sig.specs.GoingTogether.{GoesWith, types_of}
 use Rattle.lp_sig.specs.Holding.{line_at}
 use Rattle.lp_sig.specs.inner.Telling.{SightTells, IsBlamed, IsRoom, AreTold, KnowsBefore, AreBodiesHere, AreTypedHere, IsTypedHere}
 use Rattle.lp_sig.specs.declared.constants.Constant.{Constant}
@@ -83,13 +84,14 @@ module _ (before used : List Signature) (now new : List Sight) (s : Sight) (at :
 -- what is known stays where nothing changes
 pub knows_parts : (a b : Making) (before : List Signature) → b.names ≡ a.names → b.bodies ≡ a.bodies → b.constants ≡ a.constants → KnowsBefore a before → KnowsBefore b before
 knows_parts a b before e f g k = record {
-  names = subst (λ n. Knows n _) (sym e) k.names;
-  words = subst (λ c. HasWords c _) (sym g) k.words;
-  types = λ texts.
-      let h = k.types texts in
+  names = subst (λ n. Knows n (of_each said_of before)) (sym e) k.names;
+  words = subst (λ c. HasWords c (of_each constants_of before)) (sym g) k.words;
+  kept = λ texts.
+      let h = k.kept texts in
       record {
-        bodies = subst (λ x. AreBodiesHere x.types.bank x.bodies.items _ _) (sym f) h.bodies;
-        constants = subst (λ x. AreTypedHere x.types.bank b.constants _ _) (sym f) (subst (λ c. AreTypedHere a.bodies.types.bank c _ _) (sym g) h.constants);
+        bodies = subst (λ x. AreBodiesHere x.types.bank x.bodies.items (of_each said_of before) (of_each bodies_of before)) (sym f) h.bodies;
+        constants = subst (λ x. AreTypedHere x.types.bank b.constants (of_each said_of before) (of_each types_of before)) (sym f)
+            (subst (λ c. AreTypedHere a.bodies.types.bank c (of_each said_of before) (of_each types_of before)) (sym g) h.constants);
       };
 }
 
@@ -97,7 +99,7 @@ pub knows_none : (m : Making) → Knows m.names [] → HasWords m.constants [] �
 knows_none m names words none empty = record {
   names = names;
   words = words;
-  types = λ texts. record {
+  kept = λ texts. record {
     bodies = subst (λ bs. AreBodiesHere m.bodies.types.bank bs [] []) (sym none) (record { are = λ name place at. absurd (cc); count = refl; told = λ n h. absurd (true≢false (sym h)); no_line = λ i. none_line i });
     constants = λ k has. nothing k (subst (λ ks. Contains ks k) empty has);
   };

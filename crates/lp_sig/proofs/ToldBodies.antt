@@ -1,7 +1,8 @@
 -- What sights of abbreviations tell: their bodies here against those that their names are given first.
 use Rattle.std.proofs.Common.{◌≡◌, ℕ, zero, suc, ◌+◌, ◌<◌, List, [], ◌∷◌, ◌++◌, length, map, get_or, take, drop, Bool, true, false, true≢false, Option, Some, None, refl, sym, ap, subst, ◌∙◌, arith, inl, inr, append_assoc, append-nil}
 use Rattle.std.specs.Str.{bytes_eq}
-use Rattle.std.specs.Prelude.{◌⊎◌, not, if◌then◌else◌, slice_get, All}
+use Rattle.std.proofs.lemmas.Bool.{or_parts}
+use Rattle.std.specs.Prelude.{◌⊎◌, ◌||◌, not, if◌then◌else◌, slice_get, All}
 use Rattle.std.proofs.lemmas.List.{length-append, length-map, map-append, get_or_append_left, take-append-drop}
 use Rattle.std.proofs.lemmas.List.Elements.{All-push}
 use Rattle.std.proofs.lemmas.Option.{same_Some}
@@ -142,15 +143,11 @@ module _ (b : Nodes) (bodies new : List Body) (said : List (Row Said)) (rows : L
     found_new n rows t (untold fresh),
   )
     where
-      or_parts : (a c : Bool) → (if a then true else c) ≡ false → (a ≡ false) × (c ≡ false)
-      or_parts true c e = absurd (true≢false e)
-      or_parts false c e = (refl, e)
-
       among : (xs ys : List (Row Said)) → is_among n (names_in xs) ≡ false → is_among n (names_in ys) ≡ false → is_among n (names_in (xs ++ ys)) ≡ false
       among [] ys a c = c
       among (x ∷ xs) ys a c =
           let q = or_parts (bytes_eq n x.0) (is_among n (names_in xs)) a in
-          ap (λ t. if t then true else is_among n (names_in (xs ++ ys))) q.0 ∙ among xs ys q.1 c
+          ap (λ t. t || is_among n (names_in (xs ++ ys))) q.0 ∙ among xs ys q.1 c
 
       unsaid : is_among n (names_in (standard_said ++ said)) ≡ false
       unsaid = let q = or_parts (is_among n (names_in standard_kinds)) (is_among n (names_in said)) fresh in among standard_said said q.0 q.1
@@ -224,5 +221,5 @@ pub made_next : (old now : Types) (bodies : List Body) (u : Signature) (said : L
     CanSeeBodies old.bank bodies u said rows made es → IsMadeHere now.bank (said ++ map abbreviation_said (take i es)) made e.body (named_in u e.body)
 made_next old now bodies u said rows made es i e l at same can id there =
     let h = types_later said (map abbreviation_said (take i es)) u.bank old.bank (kind_names u) made can.here e.body.0 id there in
-    let r = (h.0, h.1 (subst (λ e. IsWhole (named_in u e.body)) (sym at) (can.whole i e l))) in
+    let r : (id.0 < length old.bank.types) × IsTypeHere (said ++ map abbreviation_said (take i es)) (type_tree old.bank id.0) (named_in u e.body) = (h.0, h.1 (subst (λ e. IsWhole (named_in u e.body)) (sym at) (can.whole i e l))) in
     subst (λ b. (id.0 < length b.bank.types) × IsTypeHere (said ++ map abbreviation_said (take i es)) (type_tree b.bank id.0) (named_in u e.body)) same r

@@ -1,8 +1,8 @@
 -- What sights of constants tell: their types here against those that their names have first.
 use Rattle.std.proofs.Common.{◌≡◌, ℕ, zero, suc, ◌+◌, ◌<◌, ◌≤◌, List, [], ◌∷◌, ◌++◌, length, map, get_or, take, drop, Bool, true, false, true≢false, Result, Ok, Err, Option, Some, None, refl, sym, ap, subst, ◌∙◌, arith, inl, inr, cond, append_assoc, append-nil}
-use Rattle.std.specs.Prelude.{◌⊎◌, ◌&&◌, codes, if◌then◌else◌, nat_lt, slice_get, slice_index_or, Contains, All, IfOk, OnOk}
+use Rattle.std.specs.Prelude.{◌⊎◌, ◌&&◌, ◌||◌, codes, is_some, if◌then◌else◌, nat_lt, slice_get, slice_index_or, Contains, All, IfOk, OnOk}
 use Rattle.std.specs.Str.{bytes_eq}
-use Rattle.std.proofs.lemmas.Bool.{ltb-true}
+use Rattle.std.proofs.lemmas.Bool.{ltb-true, or_parts}
 use Rattle.std.proofs.lemmas.List.{length-append, length-map, take_more, map-append, take-append-drop}
 use Rattle.std.proofs.lemmas.List.Elements.{All-push, Contains-append_cases}
 use Rattle.std.proofs.lemmas.Option.{same_Some}
@@ -31,6 +31,7 @@ use Rattle.lp_sig.specs.declared.entries.ConstantEntry.{ConstantEntry}
 use Rattle.lp_sig.specs.declared.see.Sight.{Sight}
 use Rattle.lp_sig.specs.declared.see.Sight.TheVariants.{Alike, Otherwise, TooMany}
 use Rattle.lp_sig.specs.declared.signature.Signature.{Signature}
+use Rattle.lp_sig.proofs.Firsts.{found_among}
 use Rattle.lp_sig.proofs.Growing.{found_more}
 use Rattle.lp_sig.proofs.Sighting.{found_last}
 use Rattle.lp_sig.proofs.ToldKinds.{tells_more, taken_more}
@@ -40,11 +41,11 @@ use Rattle.lp_sig.proofs.Worded.{names_more}
 -- a name that is not among some rows is found behind them
 pub found_behind : {A : Type 0} (name : List ℕ) (rows more : List (Row A)) → is_among name (names_in rows) ≡ false → found name (rows ++ more) ≡ found name more
 found_behind name [] more h = refl
-found_behind {A} name (x ∷ xs) more h = by (bytes_eq name x.0) refl h
+found_behind {A} name (x ∷ xs) more h = by (bytes_eq name x.0) (λ h. found_behind name xs more h) h
   where
-    by : (t : Bool) → bytes_eq name x.0 ≡ t → (if t then true else is_among name (names_in xs)) ≡ false → cond (bytes_eq name x.0) (Some x.1) (found name (xs ++ more)) ≡ found name more
-    by true s h = absurd (true≢false h)
-    by false s h = ap (λ t. cond t (Some x.1) (found name (xs ++ more))) s ∙ found_behind name xs more h
+    by : (t : Bool) → (is_among name (names_in xs) ≡ false → found name (xs ++ more) ≡ found name more) → (t || is_among name (names_in xs)) ≡ false → cond t (Some x.1) (found name (xs ++ more)) ≡ found name more
+    by true f h = absurd (true≢false h)
+    by false f h = f h
 
 found_only : {A : Type 0} (name : List ℕ) (a : A) → found name ((name, a) ∷ []) ≡ Some a
 found_only name a = ap (λ t. cond t (Some a) None) ((bytes_eq-Decides name name).1 refl)
@@ -153,22 +154,10 @@ all_typed_later b now c said rows more x all k has = typed_later b now said rows
 
 -- a name that is met is standard, or among some rows
 met_parts : (name : List ℕ) (words : List (List ℕ)) → is_met_word name words ≡ false → (is_among name (names_in standard_constants) ≡ false) × (is_among name words ≡ false)
-met_parts name words e = by (is_among name (names_in standard_constants)) (is_among name words) e
-  where
-    by : (a b : Bool) → (if a then true else b) ≡ false → (a ≡ false) × (b ≡ false)
-    by true b e = absurd (true≢false e)
-    by false b e = (refl, e)
+met_parts name words e = or_parts (is_among name (names_in standard_constants)) (is_among name words) e
 
 unmet : (name : List ℕ) → found name standard_constants ≡ None → is_among name (names_in standard_constants) ≡ false
-unmet name e = missing standard_constants e
-  where
-    missing : {A : Type 0} (rows : List (Row A)) → found name rows ≡ None → is_among name (names_in rows) ≡ false
-    missing [] e = refl
-    missing {A} (x ∷ xs) e = by (bytes_eq name x.0) refl e
-      where
-        by : (t : Bool) → bytes_eq name x.0 ≡ t → cond t (Some x.1) (found name xs) ≡ None → (if bytes_eq name x.0 then true else is_among name (names_in xs)) ≡ false
-        by true s e = absurd (cc)
-        by false s e = ap (λ t. if t then true else is_among name (names_in xs)) s ∙ missing xs e
+unmet name e = sym (found_among name standard_constants) ∙ ap is_some e
 
 -- one constant
 module _ (b now : Nodes) (old : Constants) (said : List (Row Said)) (rows : List (Row NamedTy)) (made : List TypeId) (e : ConstantEntry) (t : NamedTy) (s : TypeId)
@@ -234,11 +223,11 @@ module _ (b now : Nodes) (old : Constants) (said : List (Row Said)) (rows : List
 
   pub known_told : (known : TypeId) → IsTypeOfName now old e.name.items known → EachKind (FitsHere said) t → is_met_word e.name.items (names_in rows) ≡ true → (same : Bool) → (same ≡ true → known.0 ≡ s.0) →
       (same ≡ false → known.0 < length now.types → s.0 < length now.types → type_tree now known.0 ≡ type_tree now s.0 → ⊥) → (sight : Sight) → sight ≡ (if same then Alike else Otherwise) → ConstantTells rows e.name.items t sight
-  known_told known of fits met true one apart sight is =
-      let (first, at_first, inside, here) = first_type known of in
+  known_told known has fits met true one apart sight is =
+      let (first, at_first, inside, here) = first_type known has in
       subst (ConstantTells rows e.name.items t) (sym is) (at_first ∙ ap (λ n. Some n) (names_same said (type_tree now known.0) (type_tree now s.0) first t here scheme_here fits (ap (type_tree now) (one refl))), inl met)
-  known_told known of fits met false one apart sight is =
-      let (first, at_first, inside, here) = first_type known of in
+  known_told known has fits met false one apart sight is =
+      let (first, at_first, inside, here) = first_type known has in
       subst (ConstantTells rows e.name.items t) (sym is) (λ later. apart refl inside scheme_inside (types_same said (type_tree now known.0) (type_tree now s.0) first t here scheme_here (same_Some first t (sym at_first ∙ later))))
 
   pub never_told : (k : Constant) → Contains old.constants.items k → k.declared ≡ None → ⊥
@@ -267,7 +256,7 @@ module _ (u : Signature) (rows : List (Row NamedTy)) (front : List ConstantEntry
   names : names_in before ≡ names_in rows ++ entry_names front
   names = names_of_rows u rows front
 
-  count_more : is_met_word e.name.items (names_in rows ++ entry_names front) ≡ true ⊎ (32 + constant_count (names_in rows ++ entry_names front) < END_OF_NUMBERS) → AreNumberedConstants (names_in rows) front → AreNumberedConstants (names_in rows) (front ++ e ∷ [])
+  count_more : (is_met_word e.name.items (names_in rows ++ entry_names front) ≡ true) ⊎ (32 + constant_count (names_in rows ++ entry_names front) < END_OF_NUMBERS) → AreNumberedConstants (names_in rows) front → AreNumberedConstants (names_in rows) (front ++ e ∷ [])
   count_more room so = by (is_met_word e.name.items (names_in rows ++ entry_names front)) refl
     where
       step : first_names (names_in standard_constants) (names_in rows ++ entry_names (front ++ e ∷ [])) ≡ (if is_met_word e.name.items (names_in rows ++ entry_names front) then first_names (names_in standard_constants) (names_in rows ++ entry_names front) else first_names (names_in standard_constants) (names_in rows ++ entry_names front) ++ e.name.items ∷ [])
@@ -277,7 +266,7 @@ module _ (u : Signature) (rows : List (Row NamedTy)) (front : List ConstantEntry
       counts : (t : Bool) → is_met_word e.name.items (names_in rows ++ entry_names front) ≡ t → constant_count (names_in rows ++ entry_names (front ++ e ∷ [])) ≡ length (if t then first_names (names_in standard_constants) (names_in rows ++ entry_names front) else first_names (names_in standard_constants) (names_in rows ++ entry_names front) ++ e.name.items ∷ [])
       counts t s = ap length step ∙ ap (λ t. length (if t then first_names (names_in standard_constants) (names_in rows ++ entry_names front) else first_names (names_in standard_constants) (names_in rows ++ entry_names front) ++ e.name.items ∷ [])) s
 
-      low_room : is_met_word e.name.items (names_in rows ++ entry_names front) ≡ false → is_met_word e.name.items (names_in rows ++ entry_names front) ≡ true ⊎ (32 + constant_count (names_in rows ++ entry_names front) < END_OF_NUMBERS) → 32 + constant_count (names_in rows ++ entry_names front) < END_OF_NUMBERS
+      low_room : is_met_word e.name.items (names_in rows ++ entry_names front) ≡ false → (is_met_word e.name.items (names_in rows ++ entry_names front) ≡ true) ⊎ (32 + constant_count (names_in rows ++ entry_names front) < END_OF_NUMBERS) → 32 + constant_count (names_in rows ++ entry_names front) < END_OF_NUMBERS
       low_room s (inl m) = absurd (true≢false (sym m ∙ s))
       low_room s (inr l) = l
 
@@ -297,7 +286,7 @@ module _ (u : Signature) (rows : List (Row NamedTy)) (front : List ConstantEntry
       TellsNext (ConstantsGo (names_in rows) all u) (IsOtherConstant all u) (HasNoConstantNumber (names_in rows)) front e s
   constant_next Alike (same, room) go = record {
     same = All-push (IsSameConstant all u) front e go.same (grown (named_in u e.scheme) same);
-    numbered = count_more (subst (λ ns. is_met_word e.name.items ns ≡ true ⊎ (32 + constant_count ns < END_OF_NUMBERS)) names room) go.numbered;
+    numbered = count_more (subst (λ ns. (is_met_word e.name.items ns ≡ true) ⊎ (32 + constant_count ns < END_OF_NUMBERS)) names room) go.numbered;
   }
   constant_next Otherwise never go = λ later.
       let (t, h) = some_found in
@@ -325,8 +314,8 @@ module _ (u : Signature) (rows : List (Row NamedTy)) (es : List ConstantEntry) (
   pub more_rows : (rows ++ map (named_constant u) (take i es)) ++ named_constant u e ∷ [] ≡ rows ++ map (named_constant u) (take (i + 1) es)
   more_rows = append_assoc rows (map (named_constant u) (take i es)) (named_constant u e ∷ []) ∙ ap (λ r. rows ++ r) (sym (map-append (named_constant u) (take i es) (e ∷ [])) ∙ ap (map (named_constant u)) (taken_more es i e l at))
 
-pub no_constants_told : (u : Signature) (words : List (List ℕ)) (types : List (Row NamedTy)) → All (IsSameConstant types u) [] → ConstantsTell words types u [] Alike
-no_constants_told u words types none = record { same = none; numbered = inl (ap constant_count (append-nil words)) }
+pub no_constants_told : (u : Signature) (words : List (List ℕ)) (rows : List (Row NamedTy)) → All (IsSameConstant rows u) [] → ConstantsTell words rows u [] Alike
+no_constants_told u words rows none = record { same = none; numbered = inl (ap constant_count (append-nil words)) }
 
 -- what is known where the next one is seen
 pub can_see_next : (first b : Nodes) (old c : Constants) (u : Signature) (said : List (Row Said)) (rows : List (Row NamedTy)) (made : List TypeId) (es : List ConstantEntry) (i : ℕ) (e : ConstantEntry) → i < length es → e ≡ get_or es i e → Extends first b →

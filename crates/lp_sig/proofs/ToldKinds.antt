@@ -53,9 +53,6 @@ taken_more es i e l at = ap (λ x. take i es ++ x ∷ []) at ∙ sym (take_more 
 
 -- a kind by what its name means
 module _ (said : List (Row Said)) (name : List ℕ) where
-  pub other_by : (arity : ℕ) (m : Said) → meaning_of name said ≡ Some m → (m ≡ a_kind arity → ⊥) → meaning_of name said ≡ Some (a_kind arity) → ⊥
-  other_by arity m is never other = never (same_Some m (a_kind arity) (sym is ∙ other))
-
   kinds_apart : (c d : ℕ) → a_kind c ≡ a_kind d → c ≡ d
   kinds_apart c d e = cc
 

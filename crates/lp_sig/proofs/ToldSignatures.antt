@@ -1,8 +1,7 @@
 -- What the sight of a signature tells, from those of its kinds, abbreviations and constants.
 use Rattle.std.proofs.Common.{◌≡◌, ℕ, zero, suc, ◌<◌, List, [], ◌∷◌, ◌++◌, length, map, get_or, Option, Some, refl, sym, ap, subst, ◌∙◌, arith, append_assoc, append-nil}
 use Rattle.std.specs.Prelude.{◌⊎◌, All}
-use Rattle.std.proofs.lemmas.List.{length-append}
-use Rattle.std.proofs.lemmas.List.Elements.{All-nil}
+use Rattle.std.proofs.lemmas.List.Elements.{All-pop}
 use Rattle.lp_term.specs.Nodes.{Nodes, Extends, type_tree}
 use Rattle.lp_term.specs.declared.node.TypeId.{TypeId}
 use Rattle.lp_sig.specs.AsWritten.{named_body, bodies_of, HasWholeBodies}
@@ -43,29 +42,17 @@ each_names (x ∷ xs) = append_names (types_of x) (of_each types_of xs) ∙ (λ 
 
 -- the signatures before, and this one
 module _ (before : List Signature) (u : Signature) (texts : AreOfTexts (before ++ u ∷ [])) where
-  at_front : {P : Signature → Type 0} (xs : List Signature) → All P (xs ++ u ∷ []) → All P xs
-  at_front [] h = λ i d l. absurd (omega (arith, l))
-  at_front {P} (x ∷ xs) h = λ i d l. first i d l
-    where
-      tail : All P (xs ++ u ∷ [])
-      tail k d l = h (suc k) d (omega (arith, l))
-
-      first : (i : ℕ) (d : Signature) → i < length (x ∷ xs) → P (get_or (x ∷ xs) i d)
-      first zero d l = h 0 d (omega arith)
-      first (suc i) d l = at_front xs tail i d (omega (arith, l))
-
-  at_end : {P : Signature → Type 0} (xs : List Signature) → All P (xs ++ u ∷ []) → P u
-  at_end [] h = h 0 u (omega arith)
-  at_end (x ∷ xs) h = at_end xs (λ k d l. h (suc k) d (omega (arith, l)))
+  parted : (P : Signature → Type 0) → All P (before ++ u ∷ []) → All P before × P u
+  parted P h = All-pop P (before ++ u ∷ []) before (Some u) refl h
 
   pub texts_before : AreOfTexts before
-  texts_before = record { ordered = at_front before texts.ordered; whole = at_front before texts.whole }
+  texts_before = record { ordered = (parted IsOrdered texts.ordered).0; whole = (parted HasWholeBodies texts.whole).0 }
 
   pub text_ordered : IsOrdered u
-  text_ordered = at_end before texts.ordered
+  text_ordered = (parted IsOrdered texts.ordered).1
 
   pub text_whole : HasWholeBodies u
-  text_whole = at_end before texts.whole
+  text_whole = (parted HasWholeBodies texts.whole).1
 
 -- the kinds of a signature that go have numbers, and so have those of its types
 module _ (w : List (Row Said)) (u : Signature) (go : KindsGo w u.kinds.items) where

@@ -36,3 +36,4 @@ pub mod Differing
 pub mod AsWritten
 pub mod GoingTogether
 pub mod inner
+pub mod SeenByModules

@@ -7,7 +7,7 @@ ghost use Rattle.lp_sig.specs.Refusals.{IsFaultIn};
 ghost use Rattle.lp_standard.specs.declared.fixity.Fixity.{Fixity as IsFixity};
 ghost use Rattle.lp_sig.specs.Rows.{Row};
 ghost use Rattle.lp_sig.specs.Said.{Said, a_kind, an_abbreviation, each, fixities_by, fixities_in};
-ghost use Rattle.lp_sig.specs.Words.{IsNameFault, IsMeant, AreMeant, IsNumbered, AreNumbered, IsHead, WordsStand, parameters_of, IsKindsFault, IsSoundType};
+ghost use Rattle.lp_sig.specs.Words.{IsNameFault, IsMeant, AreMeant, IsNumbered, AreNumbered, IsKindsFault, IsSoundType};
 ghost use Rattle.lp_sig.specs.Standing.{seen_count, AllStand, TypeStands};
 ghost use Rattle.lp_sig.specs.Faults.{IsAbbreviationFault, IsSoundAbbreviation, HasFirstBody, IsSentenceFault, IsSound, AreSound};
 ghost use Rattle.lp_sig.specs.Declares.{AreAllTyped};
@@ -17,7 +17,7 @@ ghost use Rattle.lp_base.specs.declared.place.Spot.{Spot};
 ghost use Rattle.lp_base.specs.declared.limits.TheConstants.{MAX_ARGUMENTS, MAX_NAME_BYTES};
 ghost use Rattle.lp_term.specs.Nodes.{Extends};
 ghost use Rattle.lp_sig.specs.Places.{first_place};
-ghost use Rattle.lp_sig.specs.Abbreviations.{abbreviation_names, Seen, seen_text};
+ghost use Rattle.lp_sig.specs.Abbreviations.{abbreviation_names, Seen, KnowsUses, seen_text};
 ghost use Rattle.lp_sig.specs.Holding.{Sees, KnowsSeen, HoldsBodies};
 ghost use Rattle.lp_sig.specs.Types.{Definition};
 ghost use Rattle.lp_sig.specs.Sighted.{GrowsBehind};
@@ -176,11 +176,10 @@ impl Bodies {
         raw: &RawType,
     ) -> Result<(), SigFault>
         ensures why { (z : Seen) → Sees names.now (map (λ out. out.items) uses.now.ways.items) self.old.types.bank self.old.bodies.items z → IfErr result (IsAbbreviationFault source.now z name parameters.now raw.now) }
-        ensures reason { (said : List (Row Said)) → Knows names.now said → IfErr result (λ e. (e ≡ fault.Memory) ⊎ IsAbbreviationWrong source.now said name parameters.now raw.now e) }
+        ensures reason { (z : Seen) → Knows names.now z.said → KnowsUses (map (λ out. out.items) uses.now.ways.items) z → IfErr result (λ e. (e ≡ fault.Memory) ⊎ IsAbbreviationWrong source.now z name parameters.now raw.now e) }
         ensures other { (said : List (Row Said)) (defs : List (Row Definition)) → Knows names.now said → HoldsBodies self.old.types.bank self.old.bodies.items said defs → IfErr result (IsOtherBodyIf source.now said defs name parameters.now raw.now) }
-        ensures sound { (said : List (Row Said)) → Knows names.now said → IfOk result (λ done. IsHead source.now said name parameters.now × WordsStand source.now said (parameters_of source.now parameters.now) raw.now.nodes.items) }
         ensures taken { IfOk result (λ done. IsShort source.now name × AreApart source.now parameters.now × (length parameters.now ≤ MAX_ARGUMENTS)) }
-        ensures stand { (z : Seen) → Sees names.now (map (λ out. out.items) uses.now.ways.items) self.old.types.bank self.old.bodies.items z → IfOk result (λ done. IsSoundAbbreviation source.now z name parameters.now raw.now) }
+        ensures stand { (z : Seen) → Knows names.now z.said → KnowsUses (map (λ out. out.items) uses.now.ways.items) z → IfOk result (λ done. IsSoundAbbreviation source.now z name parameters.now raw.now) }
         ensures same { (from : ℕ) (z : Seen) → Sees names.now (map (λ out. out.items) uses.now.ways.items) self.old.types.bank self.old.bodies.items z → AreSettledIf from z self.old.bodies.items → IfOk result (λ done. HasFirstBody from source.now z name parameters.now raw.now) }
         ensures kept { Extends self.old.types.bank self.new.types.bank }
         ensures bodies { self.new.bodies ≡ self.old.bodies }
@@ -211,11 +210,10 @@ impl Making {
         raw: &RawType,
     ) -> Result<(), SigFault>
         ensures why { (z : Seen) → Sees self.old.names (map (λ out. out.items) self.old.uses.ways.items) self.old.bodies.types.bank self.old.bodies.bodies.items z → IfErr result (IsAbbreviationFault source.now z name parameters.now raw.now) }
-        ensures reason { (said : List (Row Said)) → Knows self.old.names said → IfErr result (λ e. (e ≡ fault.Memory) ⊎ IsAbbreviationWrong source.now said name parameters.now raw.now e) }
+        ensures reason { (z : Seen) → Knows self.old.names z.said → KnowsUses (map (λ out. out.items) self.old.uses.ways.items) z → IfErr result (λ e. (e ≡ fault.Memory) ⊎ IsAbbreviationWrong source.now z name parameters.now raw.now e) }
         ensures other { (said : List (Row Said)) (defs : List (Row Definition)) → Knows self.old.names said → HoldsBodies self.old.bodies.types.bank self.old.bodies.bodies.items said defs → IfErr result (IsOtherBodyIf source.now said defs name parameters.now raw.now) }
-        ensures sound { (said : List (Row Said)) → Knows self.old.names said → IfOk result (λ done. IsHead source.now said name parameters.now × WordsStand source.now said (parameters_of source.now parameters.now) raw.now.nodes.items) }
         ensures taken { IfOk result (λ done. IsShort source.now name × AreApart source.now parameters.now × (length parameters.now ≤ MAX_ARGUMENTS)) }
-        ensures stand { (z : Seen) → Sees self.old.names (map (λ out. out.items) self.old.uses.ways.items) self.old.bodies.types.bank self.old.bodies.bodies.items z → IfOk result (λ done. IsSoundAbbreviation source.now z name parameters.now raw.now) }
+        ensures stand { (z : Seen) → Knows self.old.names z.said → KnowsUses (map (λ out. out.items) self.old.uses.ways.items) z → IfOk result (λ done. IsSoundAbbreviation source.now z name parameters.now raw.now) }
         ensures same { (from : ℕ) (z : Seen) → Sees self.old.names (map (λ out. out.items) self.old.uses.ways.items) self.old.bodies.types.bank self.old.bodies.bodies.items z → AreSettledIf from z self.old.bodies.bodies.items → IfOk result (λ done. HasFirstBody from source.now z name parameters.now raw.now) }
         ensures names { self.new.names ≡ self.old.names }
         ensures uses { self.new.uses ≡ self.old.uses }
@@ -273,7 +271,6 @@ impl Making {
         ensures constants { OnOk result ((z : Seen) (rows : List (Row Written)) → KnowsSeen self.old z → KnowsConstants self.old.bodies.types.bank self.old.constants z.said z.definitions rows → KnowsConstants self.new.bodies.types.bank self.new.constants (seen_text z source.now text.now.lines.items).said (seen_text z source.now text.now.lines.items).definitions (rows ++ constants_in source.now text.now.lines.items) × (AreAllTyped self.old z rows → AreAllTyped self.new (seen_text z source.now text.now.lines.items) (rows ++ constants_in source.now text.now.lines.items))) }
         ensures taken { IfOk result (λ done. AreWithin source.now text.now.lines.items) }
         ensures declared { (z : Seen) (rows : List (Row Written)) → KnowsSeen self.old z → KnowsConstants self.old.bodies.types.bank self.old.constants z.said z.definitions rows → AreAllTyped self.old z rows → IfOk result (λ done. AreTakenConstants (seen_count z) (seen_text z source.now text.now.lines.items) rows (constants_in source.now text.now.lines.items)) }
-        ensures sound { (z : Seen) → KnowsSeen self.old z → IfOk result (λ done. AreSound (seen_count z) source.now (seen_text z source.now text.now.lines.items) text.now.lines.items) }
         ensures stand { (z : Seen) → KnowsSeen self.old z → IfOk result (λ done. AllStand (seen_count z) (seen_text z source.now text.now.lines.items)) }
         ensures seen { OnOk result ((z : Seen) → KnowsSeen self.old z → KnowsSeen self.new (seen_text z source.now text.now.lines.items)) }
         ensures operators { OnOk result ((said : List (Row (IsFixity × ℕ))) → KnowsOperators self.old.operators said → KnowsOperators self.new.operators (said ++ fixities_in source.now text.now.lines.items)) }

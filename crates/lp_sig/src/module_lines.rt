@@ -8,9 +8,11 @@ ghost use Rattle.lp_syntax.specs.declared.text.Declaration.{Declaration as IsDec
 ghost use Rattle.lp_sig.specs.Rows.{Row};
 ghost use Rattle.lp_sig.specs.Said.{Said as IsSaid, a_kind, each, is_among};
 ghost use Rattle.lp_sig.specs.Knowing.{Knows};
+ghost use Rattle.lp_sig.specs.Abbreviations.{Seen as IsSeen, KnowsUses};
+ghost use Rattle.lp_sig.specs.Faults.{IsSoundAbbreviation};
 ghost use Rattle.lp_syntax.specs.declared.text.RawType.{RawType as IsRawType};
 ghost use Rattle.lp_sig.specs.Limits.{IsShort, AreShort};
-ghost use Rattle.lp_sig.specs.Words.{IsMeant, AreMeant, IsNumbered, AreNumbered, IsKindsFault, IsSoundType, IsHead, WordsStand, parameters_of, IsNameFault};
+ghost use Rattle.lp_sig.specs.Words.{IsMeant, AreMeant, IsNumbered, AreNumbered, IsKindsFault, IsSoundType, IsNameFault};
 ghost use Rattle.lp_sig.specs.Modules.{constant_names_by, constant_names_in, first_names, local_names};
 ghost use Rattle.lp_sig.specs.ModuleFaults.{exports_kind, exports_constant, differs_at, blamed_by, kind_names_in, IsFirstOf, IsLocalFault, IsLocal, IsLocalKindsFault, IsKnownFault, IsNewFault, AreConstantsWrong, AreLocalsWrong, IsAbbreviationWrong, AreModulesRefused, AreModulesTaken, AreSignaturesRefused, AreSignaturesTaken, IsLineFault, IsLineTaken, IsNewLocal, IsTypeFault, AreLocalKindsRefused, AreLocalKindsTaken, AreLocalsRefused, AreLocalsTaken};
 ghost use Rattle.lp_sig.specs.declared.fault.SigFault.{SigFault as IsFault};
@@ -238,6 +240,7 @@ impl<'a> ModuleLines<'a> {
     ) -> Result<(), ModuleSigFault>
         ensures names { making.new.names ≡ making.old.names }
         ensures operators { making.new.operators ≡ making.old.operators }
+        ensures uses { making.new.uses ≡ making.old.uses }
         ensures grown { OnOk result (Grows making.old making.new) }
         ensures words { OnOk result ((words : List (List ℕ)) → HasWords making.old.constants words → HasWords making.new.constants (words ++ map (λ s. spelled self.now.source.now s) names.now)) }
         ensures kept { making.new.bodies.bodies ≡ making.old.bodies.bodies }
@@ -284,6 +287,7 @@ impl<'a> ModuleLines<'a> {
     ) -> Result<(), ModuleSigFault>
         ensures names { making.new.names ≡ making.old.names }
         ensures operators { making.new.operators ≡ making.old.operators }
+        ensures uses { making.new.uses ≡ making.old.uses }
         ensures grown { OnOk result (Grows making.old making.new) }
         ensures words { OnOk result ((words : List (List ℕ)) → HasWords making.old.constants words → HasWords making.new.constants (words ++ spelled self.now.source.now name ∷ [])) }
         ensures kept { making.new.bodies.bodies ≡ making.old.bodies.bodies }
@@ -314,6 +318,7 @@ impl<'a> ModuleLines<'a> {
     ) -> Result<(), ModuleSigFault>
         ensures names { making.new.names ≡ making.old.names }
         ensures operators { making.new.operators ≡ making.old.operators }
+        ensures uses { making.new.uses ≡ making.old.uses }
         ensures grown { OnOk result (Grows making.old making.new) }
         ensures words { OnOk result ((words : List (List ℕ)) → HasWords making.old.constants words → HasWords making.new.constants (words ++ map (λ s. spelled self.now.source.now s) names.now)) }
         ensures kept { making.new.bodies.bodies ≡ making.old.bodies.bodies }
@@ -365,6 +370,7 @@ impl<'a> ModuleLines<'a> {
     ) -> Result<(), ModuleSigFault>
         ensures names { making.new.names ≡ making.old.names }
         ensures operators { making.new.operators ≡ making.old.operators }
+        ensures uses { making.new.uses ≡ making.old.uses }
         ensures grown { OnOk result (Grows making.old making.new) }
         ensures words { OnOk result ((words : List (List ℕ)) → HasWords making.old.constants words → HasWords making.new.constants (words ++ map (λ s. spelled self.now.source.now s) names.now)) }
         ensures kept { making.new.bodies.bodies ≡ making.old.bodies.bodies }
@@ -414,6 +420,7 @@ impl<'a> ModuleLines<'a> {
     ) -> Result<(), ModuleSigFault>
         ensures names { making.new.names ≡ making.old.names }
         ensures operators { making.new.operators ≡ making.old.operators }
+        ensures uses { making.new.uses ≡ making.old.uses }
         ensures grown { OnOk result (Grows making.old making.new) }
         ensures words { OnOk result ((words : List (List ℕ)) → HasWords making.old.constants words → HasWords making.new.constants (words ++ local_names self.now.source.now names.now raw.now)) }
         ensures kept { making.new.bodies.bodies ≡ making.old.bodies.bodies }
@@ -442,9 +449,10 @@ impl<'a> ModuleLines<'a> {
         ensures grown { OnOk result (Grows making.old making.new) }
         ensures constants { making.new.constants ≡ making.old.constants }
         ensures kept { making.new.bodies.bodies ≡ making.old.bodies.bodies }
+        ensures uses { making.new.uses ≡ making.old.uses }
+        ensures refused { (z : IsSeen) → Knows making.old.names z.said → KnowsUses (map (λ out. out.items) making.old.uses.ways.items) z → IfErr result (λ e. (e ≡ wrong.Sig reason.Memory) ⊎ ((f : IsFault) × IsAbbreviationWrong self.now.source.now z name parameters.now raw.now f × (e ≡ blamed_by (exports_kind self.now.own.now) self.now.source.now f))) }
+        ensures taken { (z : IsSeen) → Knows making.old.names z.said → KnowsUses (map (λ out. out.items) making.old.uses.ways.items) z → IfOk result (λ done. IsSoundAbbreviation self.now.source.now z name parameters.now raw.now) }
         ensures other { (said : List (Row IsSaid)) (defs : List (Row Definition)) → Knows making.old.names said → HoldsBodies making.old.bodies.types.bank making.old.bodies.bodies.items said defs → IfErr result (λ e. (f : IsFault) × (e ≡ blamed_by (exports_kind self.now.own.now) self.now.source.now f) × IsOtherBodyIf self.now.source.now said defs name parameters.now raw.now f) }
-        ensures refused { (said : List (Row IsSaid)) → Knows making.old.names said → IfErr result (λ e. (e ≡ wrong.Sig reason.Memory) ⊎ ((f : IsFault) × IsAbbreviationWrong self.now.source.now said name parameters.now raw.now f × (e ≡ blamed_by (exports_kind self.now.own.now) self.now.source.now f))) }
-        ensures taken { (said : List (Row IsSaid)) → Knows making.old.names said → IfOk result (λ done. IsHead self.now.source.now said name parameters.now × WordsStand self.now.source.now said (parameters_of self.now.source.now parameters.now) raw.now.nodes.items) }
     {
         match making.declare_abbreviation(self.source, name, parameters, raw) {
             Ok(()) => Ok(()),
@@ -490,14 +498,15 @@ impl<'a> ModuleLines<'a> {
         ensures operators { making.new.operators ≡ making.old.operators }
         ensures grown { OnOk result (Grows making.old making.new) }
         ensures words { OnOk result ((words : List (List ℕ)) → HasWords making.old.constants words → HasWords making.new.constants (words ++ constant_names_by self.now.source.now declaration.now)) }
+        ensures uses { making.new.uses ≡ making.old.uses }
         ensures kept { making.new.bodies.bodies ≡ making.old.bodies.bodies }
         ensures reads { OnOk result (ReadsOn making.old making.new (typed_by self.now.source.now declaration.now) (constant_names_by self.now.source.now declaration.now)) }
         ensures full { (said : List (Row IsSaid)) (words : List (List ℕ)) → Knows making.old.names said → HasWords making.old.constants words → IfErr result (HasLineCause self.now.own.now self.now.source.now words declaration.now) }
         ensures other { (said : List (Row IsSaid)) (defs : List (Row Definition)) (given : List (Row Ty)) (rows : List (Row Written)) (words : List (List ℕ)) → IsTaking making.old.names making.old.bodies making.old.constants said defs given rows words → IfErr result (IsLineOtherIf self.now.own.now self.now.source.now said defs given rows declaration.now) }
         ensures takes { OnOk result (TakesOn making.old making.new (typed_by self.now.source.now declaration.now) (constant_names_by self.now.source.now declaration.now)) }
         ensures alike { OnOk result ((signatures modules : List (List ℕ)) → HasNumbers self.now.said.now.accum_sigs signatures → HasNumbers self.now.said.now.accumulates modules → AreWordsAlike self.now.sights.now self.now.source.now signatures modules (declaration.now ∷ [])) }
-        ensures refused { (used : List IsSignature) (said : List (Row IsSaid)) (ds : List IsDeclaration) → AreSights self.now.own.now used self.now.source.now self.now.said.now self.now.sights.now ds → Knows making.old.names said → HasKeys self.now.said.now.kinds (kind_names_in self.now.source.now ds) → HasKeys self.now.said.now.constants (constant_names_in self.now.source.now ds) → IfErr result (λ e. (e ≡ wrong.Sig reason.Memory) ⊎ IsLineFault self.now.own.now used self.now.source.now said ds declaration.now e) }
-        ensures taken { (used : List IsSignature) (said : List (Row IsSaid)) (ds : List IsDeclaration) → AreSights self.now.own.now used self.now.source.now self.now.said.now self.now.sights.now ds → Knows making.old.names said → HasKeys self.now.said.now.kinds (kind_names_in self.now.source.now ds) → HasKeys self.now.said.now.constants (constant_names_in self.now.source.now ds) → IfOk result (λ done. IsLineTaken self.now.own.now used self.now.source.now said ds declaration.now) }
+        ensures refused { (used : List IsSignature) (z : IsSeen) (ds : List IsDeclaration) → AreSights self.now.own.now used self.now.source.now self.now.said.now self.now.sights.now ds → Knows making.old.names z.said → KnowsUses (map (λ out. out.items) making.old.uses.ways.items) z → HasKeys self.now.said.now.kinds (kind_names_in self.now.source.now ds) → HasKeys self.now.said.now.constants (constant_names_in self.now.source.now ds) → IfErr result (λ e. (e ≡ wrong.Sig reason.Memory) ⊎ IsLineFault self.now.own.now used self.now.source.now z ds declaration.now e) }
+        ensures taken { (used : List IsSignature) (z : IsSeen) (ds : List IsDeclaration) → AreSights self.now.own.now used self.now.source.now self.now.said.now self.now.sights.now ds → Knows making.old.names z.said → KnowsUses (map (λ out. out.items) making.old.uses.ways.items) z → HasKeys self.now.said.now.kinds (kind_names_in self.now.source.now ds) → HasKeys self.now.said.now.constants (constant_names_in self.now.source.now ds) → IfOk result (λ done. IsLineTaken self.now.own.now used self.now.source.now z ds declaration.now) }
     {
         match declaration {
             Declaration::Kinds(names, arity) => self.kinds(making, names.as_slice(), *arity),

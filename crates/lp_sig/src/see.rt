@@ -7,6 +7,9 @@ ghost use Rattle.lp_term.specs.declared.node.TypeId.{TypeId};
 ghost use Rattle.lp_standard.specs.declared.fixity.Fixity.{Fixity as IsFixity};
 ghost use Rattle.lp_sig.specs.Rows.{Row, fixity_row};
 ghost use Rattle.lp_sig.specs.Said.{Said};
+ghost use Rattle.lp_sig.specs.Abbreviations.{Seen, KnowsUses, one_body};
+ghost use Rattle.lp_sig.specs.SeenByModules.{seen_signature};
+ghost use Rattle.lp_sig.specs.inner.Noting.{with_unused};
 ghost use Rattle.lp_sig.specs.Knowing.{Knows, KnowsOperators};
 ghost use Rattle.lp_sig.specs.Modules.{kind_said, abbreviation_said, said_of, constants_of};
 ghost use Rattle.lp_sig.specs.Worded.{HasWords, is_met_word};
@@ -317,6 +320,7 @@ impl Making {
         made: &[TypeId],
     ) -> Result<Sight, Memory>
         ensures names { OnOk result ((said : List (Row Said)) → Knows self.old.names said → Knows self.new.names (said ++ abbreviation_said entry.now ∷ [])) }
+        ensures uses { OnOk result ((z : Seen) → Knows self.old.names z.said → KnowsUses (map (λ out. out.items) self.old.uses.ways.items) z → KnowsUses (map (λ out. out.items) self.new.uses.ways.items) (one_body z entry.now.name.items entry.now.type_vars [])) }
         ensures given { OnOk result ((there : Nodes) (names : List (List ℕ)) (said : List (Row Said)) (rows : List (Row NamedTy)) → Knows self.old.names said → GivesBodies self.old.bodies.types.bank self.old.bodies.bodies.items said rows →
             AreSeenTypes there self.old.bodies.types.bank names (said_kinds said) made.now → IsWhole (named (kind_name names) (type_tree there entry.now.body.0)) →
             GivesBodies self.new.bodies.types.bank self.new.bodies.bodies.items (said ++ abbreviation_said entry.now ∷ []) (rows ++ (entry.now.name.items, named (kind_name names) (type_tree there entry.now.body.0)) ∷ [])) }
@@ -345,6 +349,7 @@ impl Making {
         made: &[TypeId],
     ) -> Result<Sight, Memory>
         ensures names { OnOk result ((said : List (Row Said)) → Knows self.old.names said → Knows self.new.names (said ++ map abbreviation_said entries.now)) }
+        ensures uses { OnOk result ((z : Seen) → Knows self.old.names z.said → KnowsUses (map (λ out. out.items) self.old.uses.ways.items) z → KnowsUses (map (λ out. out.items) self.new.uses.ways.items) (with_unused z entries.now)) }
         ensures given { OnOk result ((there : Nodes) (names : List (List ℕ)) (said : List (Row Said)) (rows : List (Row NamedTy)) → Knows self.old.names said → GivesBodies self.old.bodies.types.bank self.old.bodies.bodies.items said rows →
             AreSeenTypes there self.old.bodies.types.bank names (said_kinds said) made.now → All (λ e. IsWhole (named (kind_name names) (type_tree there e.body.0))) entries.now →
             GivesBodies self.new.bodies.types.bank self.new.bodies.bodies.items (said ++ map abbreviation_said entries.now) (rows ++ map (λ e. (e.name.items, named (kind_name names) (type_tree there e.body.0))) entries.now)) }
@@ -367,6 +372,7 @@ impl Making {
     // Takes up the names of a signature.
     pub(crate) fn see(&mut self, signature: &Signature) -> Result<Sight, Memory>
         ensures names { OnOk result ((said : List (Row Said)) → Knows self.old.names said → Knows self.new.names (said ++ said_of signature.now)) }
+        ensures uses { OnOk result ((z : Seen) → Knows self.old.names z.said → KnowsUses (map (λ out. out.items) self.old.uses.ways.items) z → KnowsUses (map (λ out. out.items) self.new.uses.ways.items) (seen_signature z signature.now)) }
         ensures words { OnOk result ((words : List (List ℕ)) → HasWords self.old.constants words → HasWords self.new.constants (words ++ constants_of signature.now)) }
         ensures operators { self.new.operators ≡ self.old.operators }
         ensures kept { Extends self.old.bodies.types.bank self.new.bodies.types.bank }
@@ -393,6 +399,7 @@ impl Making {
     // Takes up the fixities of a signature.
     pub(crate) fn see_fixities(&mut self, signature: &Signature) -> Result<(), Memory>
         ensures names { self.new.names ≡ self.old.names }
+        ensures uses { self.new.uses ≡ self.old.uses }
         ensures bodies { self.new.bodies ≡ self.old.bodies }
         ensures constants { self.new.constants ≡ self.old.constants }
         ensures operators { OnOk result ((said : List (Row (IsFixity × ℕ))) → KnowsOperators self.old.operators said → KnowsOperators self.new.operators (said ++ map fixity_row signature.now.fixities.items)) }

@@ -71,7 +71,7 @@ abbrev pub AbbreviationsTell : List (Row Said) → List (Row NamedTy) → Signat
 AbbreviationsTell said bodies u es s = Tells (AbbreviationsGo said bodies u) (IsOtherAbbreviation said bodies u) NeverMany es s
 
 abbrev pub ConstantsTell : List (List ℕ) → List (Row NamedTy) → Signature → List ConstantEntry → Sight → Type 0
-ConstantsTell words types u es s = Tells (ConstantsGo words types u) (IsOtherConstant types u) (HasNoConstantNumber words) es s
+ConstantsTell words rows u es s = Tells (ConstantsGo words rows u) (IsOtherConstant rows u) (HasNoConstantNumber words) es s
 
 -- of a signature
 abbrev pub SightTells : List Signature → Signature → Sight → Type 0
@@ -226,7 +226,7 @@ pub record HoldsTypes (making : Making) (before : List Signature) : Type 0 where
 pub record KnowsBefore (making : Making) (before : List Signature) : Type 0 where
   pub names : Knows making.names (of_each said_of before)
   pub words : HasWords making.constants (of_each constants_of before)
-  pub types : AreOfTexts before → HoldsTypes making before
+  pub kept : AreOfTexts before → HoldsTypes making before
 
 -- how a sight of a word's signature is told
 abbrev pub IsBlamed : Spot → Sight → ModuleSigFault → Type 0

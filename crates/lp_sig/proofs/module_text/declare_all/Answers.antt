@@ -1,7 +1,8 @@
 use Rattle.lp_sig.proofs.Reading.{reads_same, reads_so, typed_append}
 use Rattle.lp_sig.specs.inner.Reading.{ReadsOn}
 use Rattle.lp_sig.specs.AsWritten.{typed_in}
-use Rattle.std.proofs.Common.{◌≡◌, [], ◌∷◌, ◌++◌, ◌∙◌, length, refl, sym, subst, take, take_all, append-nil, arith}
+use Rattle.std.proofs.Common.{◌≡◌, [], ◌∷◌, ◌++◌, ◌∙◌, length, map, refl, sym, subst, take, take_all, append-nil, arith}
+use Rattle.lp_sig.specs.Abbreviations.{KnowsUses}
 use Rattle.std.proofs.lemmas.List.Elements.{All-nil, All-append}
 use Rattle.lp_sig.specs.Modules.{declarations, constant_names_in, first_names}
 use Rattle.lp_sig.specs.Sights.{IsAlike, AreWordsAlike}
@@ -29,9 +30,10 @@ loop-at-init c = record {
     All-nil
         (IsAlike c.args.lines.now.sights.now (length (first_names [] signatures)) modules),
   );
-  taken = λ used said ds given k hk hc. All-nil (IsLineTaken c.args.lines.now.own.now used c.args.lines.now.source.now said ds);
+  taken = λ used z ds given k u hk hc. All-nil (IsLineTaken c.args.lines.now.own.now used c.args.lines.now.source.now z ds);
   names = refl;
   operators = refl;
+  uses = refl;
   kept = refl;
   reads = reads_same c.args.making.now;
   takes = takes_same c.args.making.now;
@@ -54,15 +56,16 @@ loop-at-preserved c =
           (both_alike c.args.lines.now.sights.now text signatures modules (declarations (take c.loop-at.at lines))
           (declarations (c.index.result.now ∷ [])) (c.loop-at.invariant.alike signatures modules h k)
           (c.in_ok-declare_sentence.ensures.alike signatures modules h k));
-      taken = λ used said ds given k hk hc.
-          subst (All (IsLineTaken c.args.lines.now.own.now used c.args.lines.now.source.now said ds))
+      taken = λ used z ds given k u hk hc.
+          subst (All (IsLineTaken c.args.lines.now.own.now used c.args.lines.now.source.now z ds))
           (lines_at lines c.loop-at.at c.index.result.now (omega (arith, c.loop-at-test.true, c.len-at-end.ensures, c.args.text.now.lines.ok))
           c.index.ensures)
-          (All-append (IsLineTaken c.args.lines.now.own.now used c.args.lines.now.source.now said ds) (declarations (take c.loop-at.at lines))
-          (declarations (c.index.result.now ∷ [])) (c.loop-at.invariant.taken used said ds given k hk hc)
-          (c.in_ok-declare_sentence.ensures.taken used said ds given (subst (λ n. Knows n said) (sym c.loop-at.invariant.names) k) hk hc));
+          (All-append (IsLineTaken c.args.lines.now.own.now used c.args.lines.now.source.now z ds) (declarations (take c.loop-at.at lines))
+          (declarations (c.index.result.now ∷ [])) (c.loop-at.invariant.taken used z ds given k u hk hc)
+          (c.in_ok-declare_sentence.ensures.taken used z ds given (subst (λ n. Knows n z.said) (sym c.loop-at.invariant.names) k) (subst (λ v. KnowsUses (map (λ out. out.items) v.ways.items) z) (sym c.loop-at.invariant.uses) u) hk hc));
       names = c.declare_sentence.ensures.names ∙ c.loop-at.invariant.names;
       operators = c.declare_sentence.ensures.operators ∙ c.loop-at.invariant.operators;
+      uses = c.declare_sentence.ensures.uses ∙ c.loop-at.invariant.uses;
       kept = c.declare_sentence.ensures.kept ∙ c.loop-at.invariant.kept;
       reads =
           let before = declarations (take c.loop-at.at lines) in
@@ -102,22 +105,22 @@ returns-clause-alike c = λ signatures modules h k.
     (c.loop-at.invariant.alike signatures modules h k)
 
 pub returns-in_err-declare_sentence-clause-refused : goal.returns-in_err-declare_sentence-clause-refused
-returns-in_err-declare_sentence-clause-refused c = λ used said words given k hk hc h.
+returns-in_err-declare_sentence-clause-refused c = λ used z words given k u hk hc h.
     let own = c.args.lines.now.own.now in
     let text = c.args.lines.now.source.now in
     let lines = c.args.text.now.lines.items in
     let before = declarations (take c.loop-at.at lines) in
-    let known = subst (λ n. Knows n said) (sym c.loop-at.invariant.names) k in
+    let known = subst (λ n. Knows n z.said) (sym c.loop-at.invariant.names) k in
     let e = c.in_err-declare_sentence.field-0.0 in
-    passed_up c.from_residual.result e (λ e. (e ≡ wrong.Sig fault.Memory) ⊎ ((f : IsFaultAmong own used text said (declarations lines) e) × IsCausedFrom c.args.making.now own text said words (take f.k (declarations lines)) f.line e)) c.from_residual.ensures.1
-    (caused_among own used text said lines c.loop-at.at c.index.result.now e (wrong.Sig fault.Memory) (IsCausedFrom c.args.making.now own text said words)
-    (omega (arith, c.loop-at-test.true, c.len-at-end.ensures, c.args.text.now.lines.ok)) c.index.ensures (c.loop-at.invariant.taken used said (declarations lines) given k hk hc)
+    passed_up c.from_residual.result e (λ e. (e ≡ wrong.Sig fault.Memory) ⊎ ((f : IsFaultAmong own used text z (declarations lines) e) × IsCausedFrom c.args.making.now own text z.said words (take f.k (declarations lines)) f.line e)) c.from_residual.ensures.1
+    (caused_among own used text z lines c.loop-at.at c.index.result.now e (wrong.Sig fault.Memory) (IsCausedFrom c.args.making.now own text z.said words)
+    (omega (arith, c.loop-at-test.true, c.len-at-end.ensures, c.args.text.now.lines.ok)) c.index.ensures (c.loop-at.invariant.taken used z (declarations lines) given k u hk hc)
     (λ d is. record {
-      full = c.in_err-declare_sentence.ensures.full said (words ++ constant_names_in text before) known (c.loop-at.invariant.words words h) d is;
-      other = λ defs given rows r. c.in_err-declare_sentence.ensures.other said defs given (rows ++ typed_in text before) (words ++ constant_names_in text before)
-          (subst (λ n. IsTaking n c.loop-at.making.bodies c.loop-at.making.constants said defs given (rows ++ typed_in text before) (words ++ constant_names_in text before)) (sym c.loop-at.invariant.names) (c.loop-at.invariant.takes said defs given rows words r)) d is;
+      full = c.in_err-declare_sentence.ensures.full z.said (words ++ constant_names_in text before) known (c.loop-at.invariant.words words h) d is;
+      other = λ defs given rows r. c.in_err-declare_sentence.ensures.other z.said defs given (rows ++ typed_in text before) (words ++ constant_names_in text before)
+          (subst (λ n. IsTaking n c.loop-at.making.bodies c.loop-at.making.constants z.said defs given (rows ++ typed_in text before) (words ++ constant_names_in text before)) (sym c.loop-at.invariant.names) (c.loop-at.invariant.takes z.said defs given rows words r)) d is;
     })
-    (c.in_err-declare_sentence.ensures.refused used said (declarations lines) given known hk hc))
+    (c.in_err-declare_sentence.ensures.refused used z (declarations lines) given known (subst (λ v. KnowsUses (map (λ out. out.items) v.ways.items) z) (sym c.loop-at.invariant.uses) u) hk hc))
 
 pub returns-clause-kept : goal.returns-clause-kept
 returns-clause-kept c = c.loop-at.invariant.kept

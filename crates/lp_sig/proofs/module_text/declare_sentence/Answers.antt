@@ -39,18 +39,18 @@ returns-in-Says-clause-alike c = λ signatures modules h k. subst (λ l. AreWord
     (All-nil (IsAlike c.args.lines.now.sights.now 0 signatures), All-nil (IsAlike c.args.lines.now.sights.now (length (first_names [] signatures)) modules))
 
 pub returns-in-Declares-clause-refused : goal.returns-in-Declares-clause-refused
-returns-in-Declares-clause-refused c = λ used said ds given k hk hc. IfErr-weaker c.declare.result _ _
-    (λ e f. ⊎_elim (λ m. inl m) (λ g. inr (c.in-Declares.declaration, c.in-Declares.is, g)) f) (c.declare.ensures.refused used said ds given k hk hc)
+returns-in-Declares-clause-refused c = λ used z ds given k u hk hc. IfErr-weaker c.declare.result _ _
+    (λ e f. ⊎_elim (λ m. inl m) (λ g. inr (c.in-Declares.declaration, c.in-Declares.is, g)) f) (c.declare.ensures.refused used z ds given k u hk hc)
 
 pub returns-in-Declares-clause-taken : goal.returns-in-Declares-clause-taken
-returns-in-Declares-clause-taken c = λ used said ds given k hk hc. IfOk-weaker c.declare.result _ _
-    (λ done t. subst (λ l. All (IsLineTaken c.args.lines.now.own.now used c.args.lines.now.source.now said ds) (declarations (l ∷ []))) (sym c.in-Declares.is)
-    (All-push (IsLineTaken c.args.lines.now.own.now used c.args.lines.now.source.now said ds) [] c.in-Declares.declaration
-    (All-nil (IsLineTaken c.args.lines.now.own.now used c.args.lines.now.source.now said ds)) t)) (c.declare.ensures.taken used said ds given k hk hc)
+returns-in-Declares-clause-taken c = λ used z ds given k u hk hc. IfOk-weaker c.declare.result _ _
+    (λ done t. subst (λ l. All (IsLineTaken c.args.lines.now.own.now used c.args.lines.now.source.now z ds) (declarations (l ∷ []))) (sym c.in-Declares.is)
+    (All-push (IsLineTaken c.args.lines.now.own.now used c.args.lines.now.source.now z ds) [] c.in-Declares.declaration
+    (All-nil (IsLineTaken c.args.lines.now.own.now used c.args.lines.now.source.now z ds)) t)) (c.declare.ensures.taken used z ds given k u hk hc)
 
 pub returns-in-Says-clause-taken : goal.returns-in-Says-clause-taken
-returns-in-Says-clause-taken c = λ used said ds given k hk hc. subst (λ l. All (IsLineTaken c.args.lines.now.own.now used c.args.lines.now.source.now said ds)
-    (declarations (l ∷ []))) (sym c.in-Says.is) (All-nil (IsLineTaken c.args.lines.now.own.now used c.args.lines.now.source.now said ds))
+returns-in-Says-clause-taken c = λ used z ds given k u hk hc. subst (λ l. All (IsLineTaken c.args.lines.now.own.now used c.args.lines.now.source.now z ds)
+    (declarations (l ∷ []))) (sym c.in-Says.is) (All-nil (IsLineTaken c.args.lines.now.own.now used c.args.lines.now.source.now z ds))
 
 pub returns-in-Declares-clause-reads : goal.returns-in-Declares-clause-reads
 returns-in-Declares-clause-reads c = on_ok_weaker c.declare.result (λ h. sentence_types c.args.making.now c.declare.new.making c.args.lines.now.source.now c.args.sentence.now c.in-Declares.declaration c.in-Declares.is h) c.declare.ensures.reads

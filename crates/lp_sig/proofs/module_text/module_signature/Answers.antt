@@ -1,3 +1,6 @@
+use Rattle.lp_sig.specs.Abbreviations.{nothing_seen}
+use Rattle.lp_sig.specs.SeenByModules.{seen_signature, seen_signatures, seen_in_module}
+use Rattle.lp_sig.proofs.SeenUses.{nothing_used}
 use Rattle.lp_sig.proofs.DeclaredTypes.{given_trees, given_names, given_found, given_known, given_later, typed_before, written_type}
 use Rattle.lp_sig.proofs.GivenBodies.{none_given}
 use Rattle.lp_sig.specs.inner.Reading.{IsReading, AreSettled}
@@ -104,7 +107,7 @@ returns-in_err-declare_all-clause-refused c =
     let k1 : Knows mid.names (said_in_module own used text lines) = c.in_ok-announce_all.ensures.names before k0 in
     let met : HasWords mid.constants words = subst (λ k. HasWords k words) (sym c.announce_all.ensures.constants) (c.in_ok-sights.ensures.words [] c.new-making.ensures.words) in
     let taking : AreOfTexts (own ∷ used) → IsTaking mid.names mid.bodies mid.constants (said_in_module own used text lines) defs types [] words = λ texts.
-        let h = (c.in_ok-sights.ensures.stays start).types texts in
+        let h = (c.in_ok-sights.ensures.stays start).kept texts in
         record {
           knows = k1;
           holds = c.in_ok-announce_all.ensures.bodies before (as_trees (trees_here before (bodies_of own ++ of_each bodies_of used))) k0
@@ -116,11 +119,12 @@ returns-in_err-declare_all-clause-refused c =
     passed_up c.from_residual-in_err-declare_all.result c.in_err-declare_all.field-0.0
     (IsDeclarationRefusal own used c.args.source.now c.args.text.now.lines.items)
     c.from_residual-in_err-declare_all.ensures.1
-    (⊎_elim (λ m. inl m) (λ r. inr (r.0, record { names = r.1.full; types = λ texts. r.1.other defs types [] (taking texts) })) (c.in_err-declare_all.ensures.refused used (said_in_module own used c.args.source.now c.args.text.now.lines.items) words
+    (let seen = seen_signatures (seen_signature nothing_seen own) used in
+    ⊎_elim (λ m. inl m) (λ r. inr (r.0, record { names = r.1.full; types = λ texts. r.1.other defs types [] (taking texts) })) (c.in_err-declare_all.ensures.refused used (seen_in_module own used text lines) words
     (record { signatures = c.in_ok-said.ensures.signatures; modules = c.in_ok-said.ensures.modules; told = subst (AreTold (own ∷ []) used) (sym c.as_slice.ensures.value) (c.in_ok-sights.ensures.told start) })
-    (c.in_ok-announce_all.ensures.names (said_of own ++ of_each said_of used) (c.in_ok-sights.ensures.names [] c.new-making.ensures.names))
-    c.in_ok-said.ensures.kinds c.in_ok-said.ensures.constants
-    (subst (λ k. HasWords k words) (sym c.announce_all.ensures.constants) (c.in_ok-sights.ensures.words [] c.new-making.ensures.words))))
+    k1
+    (c.in_ok-announce_all.ensures.uses seen k0 (c.in_ok-sights.ensures.uses nothing_seen c.new-making.ensures.names (nothing_used (map (λ out. out.items) c.new-making.result.uses.ways.items) c.new-making.ensures.uses)))
+    c.in_ok-said.ensures.kinds c.in_ok-said.ensures.constants met))
 
 pub returns-in_err-signature-clause-refused : goal.returns-in_err-signature-clause-refused
 returns-in_err-signature-clause-refused c =

@@ -1,3 +1,6 @@
+use Rattle.lp_sig.specs.Abbreviations.{KnowsUses}
+use Rattle.lp_sig.specs.SeenByModules.{seen_signatures}
+use Rattle.lp_sig.proofs.SeenUses.{none_used, one_used}
 use Rattle.lp_sig.specs.inner.Given.{GivesBodies, GivesMore}
 use Rattle.lp_sig.specs.Sights.{AreAlike}
 use Rattle.lp_sig.specs.AsWritten.{bodies_of, HasWholeBodies}
@@ -20,6 +23,7 @@ loop-at-init c = record {
   names = λ said k. subst (Knows c.args.making.now.names) (sym (append-nil said)) k;
   words = λ words h. subst (HasWords c.args.making.now.constants) (sym (append-nil words)) h;
   operators = refl;
+  uses = λ z k u. none_used (map (λ out. out.items) c.args.making.now.uses.ways.items) z u;
   grown = making_same c.args.making.now;
   count = ap length c.new-sights.ensures.items;
   low = omega arith;
@@ -40,6 +44,10 @@ loop-at-preserved c = record {
       subst (HasWords c.see.new.self.constants) (signatures_more constants_of c.args.used.now c.loop-at.at c.index-used-at.result words c.loop-at-test.true c.index-used-at.is)
       (c.in_ok-sight.ensures.words (words ++ of_each constants_of (take c.loop-at.at c.args.used.now)) (c.loop-at.invariant.words words h));
   operators = c.see.ensures.operators ∙ c.loop-at.invariant.operators;
+  uses = λ z k u.
+      let before = seen_signatures z (take c.loop-at.at c.args.used.now) in
+      one_used (map (λ out. out.items) c.see.new.self.uses.ways.items) z c.args.used.now c.loop-at.at c.index-used-at.result c.loop-at-test.true c.index-used-at.is
+      (c.in_ok-sight.ensures.uses before (c.loop-at.invariant.names z.said k) (c.loop-at.invariant.uses z k u));
   grown = making_then c.args.making.now c.loop-at.making c.see.new.self c.loop-at.invariant.grown (record { bank = c.see.ensures.kept; constants = c.in_ok-sight.ensures.grown });
   count = ap length c.in_ok-push.ensures.items ∙ length-append c.loop-at.sights.items (c.in_ok-sight.sight ∷ []) ∙ ap (λ n. n + 1) c.loop-at.invariant.count;
   low = (let l = c.loop-at-test.true in omega (arith, l));
@@ -88,6 +96,10 @@ loop-at-preserved c = record {
 pub returns-clause-names : goal.returns-clause-names
 returns-clause-names c = λ said k. subst (λ ss. Knows c.loop-at.making.names (said ++ of_each said_of ss))
     (take_all c.loop-at.at c.args.used.now c.loop-at-test.false) (c.loop-at.invariant.names said k)
+
+pub returns-clause-uses : goal.returns-clause-uses
+returns-clause-uses c = λ z k u. subst (λ ss. KnowsUses (map (λ out. out.items) c.loop-at.making.uses.ways.items) (seen_signatures z ss))
+    (take_all c.loop-at.at c.args.used.now c.loop-at-test.false) (c.loop-at.invariant.uses z k u)
 
 pub returns-clause-words : goal.returns-clause-words
 returns-clause-words c = λ words h. subst (λ ss. HasWords c.loop-at.making.constants (words ++ of_each constants_of ss))

@@ -1,6 +1,8 @@
 use Rattle.lp_sig.specs.inner.Given.{GivesMore}
 use Rattle.lp_sig.specs.AsWritten.{bodies_of, HasWholeBodies}
-use Rattle.std.proofs.Common.{◌≡◌, ℕ, ◌<◌, ◌≤◌, List, length, take, Some, ◌++◌}
+use Rattle.std.proofs.Common.{◌≡◌, ℕ, ◌<◌, ◌≤◌, List, length, map, take, Some, ◌++◌}
+use Rattle.lp_sig.specs.Abbreviations.{Seen, KnowsUses}
+use Rattle.lp_sig.specs.SeenByModules.{seen_signatures}
 use Rattle.std.specs.Prelude.{slice_get, All}
 use Rattle.lp_sig.specs.Rows.{Row}
 use Rattle.lp_sig.specs.Said.{Said}
@@ -19,6 +21,7 @@ invariant-loop-at l = record {
   names : (said : List (Row Said)) → Knows l.fn.making.names said → Knows l.making.names (said ++ of_each said_of (take l.at l.used));
   words : (words : List (List ℕ)) → HasWords l.fn.making.constants words → HasWords l.making.constants (words ++ of_each constants_of (take l.at l.used));
   operators : l.making.operators ≡ l.fn.making.operators;
+  uses : (z : Seen) → Knows l.fn.making.names z.said → KnowsUses (map (λ out. out.items) l.fn.making.uses.ways.items) z → KnowsUses (map (λ out. out.items) l.making.uses.ways.items) (seen_signatures z (take l.at l.used));
   grown : Grows l.fn.making l.making;
   count : length l.sights.items ≡ l.at;
   low : l.at ≤ length l.used;

@@ -90,14 +90,14 @@ returns-then-has_other_body-clause-why c = λ z s.
     (c.in_ok-body.ensures.body z.said z.definitions ps s.known s.holds c.in_ok-variables.ensures.numbered) o.4)
 
 pub returns-clause-stand : goal.returns-clause-stand
-returns-clause-stand c = λ z s. record {
+returns-clause-stand c = λ z k u. record {
   straight = record {
-    head = (c.in_ok-place.ensures.meant z.said s.known, c.in_ok-variables.ensures.taken, c.if-parameters-gt-MAX_ARGUMENTS.false);
+    head = (c.in_ok-place.ensures.meant z.said k, c.in_ok-variables.ensures.taken, c.if-parameters-gt-MAX_ARGUMENTS.false);
     ends = never_back z (map (λ out. out.items) c.args.uses.now.ways.items) c.args.source.now c.args.name c.args.raw.now c.in_ok-place.place
-        c.as_slice.result.now s.uses (c.in_ok-place.ensures.place z.said s.known) (c.as_slice.ensures.value ∙ c.in_ok-words.ensures z.said s.known)
+        c.as_slice.result.now u (c.in_ok-place.ensures.place z.said k) (c.as_slice.ensures.value ∙ c.in_ok-words.ensures z.said k)
         (c.in_ok-lead_to.ensures.none c.if-branch.false);
   };
-  words = c.in_ok-body.ensures.stand z.said (parameters_of c.args.source.now c.args.parameters.now) s.known c.in_ok-variables.ensures.held;
+  words = c.in_ok-body.ensures.stand z.said (parameters_of c.args.source.now c.args.parameters.now) k c.in_ok-variables.ensures.held;
 }
 
 pub returns-clause-same : goal.returns-clause-same
@@ -117,45 +117,63 @@ returns-clause-same c = λ from z s settled stands first_stands.
     (c.in_ok-body.ensures.body z.said z.definitions ps s.known s.holds c.in_ok-variables.ensures.numbered) (c.has_other_body.ensures.same c.if-has_other_body.false known.0 new.0 at new.1)
 
 pub returns-in_err-place-clause-reason : goal.returns-in_err-place-clause-reason
-returns-in_err-place-clause-reason c = λ said k.
-    passed_up c.from_residual.result c.in_err-place.field-0.0 (λ e. (e ≡ fault.Memory) ⊎ faults.IsAbbreviationWrong c.args.source.now said c.args.name c.args.parameters.now c.args.raw.now e) c.from_residual.ensures.1
-    (inr (faults.a_name (c.in_err-place.ensures.why said k)))
+returns-in_err-place-clause-reason c = λ z k u.
+    passed_up c.from_residual.result c.in_err-place.field-0.0 (λ e. (e ≡ fault.Memory) ⊎ faults.IsAbbreviationWrong c.args.source.now z c.args.name c.args.parameters.now c.args.raw.now e) c.from_residual.ensures.1
+    (inr (faults.a_name (c.in_err-place.ensures.why z.said k)))
 
 pub returns-in_err-words-clause-reason : goal.returns-in_err-words-clause-reason
-returns-in_err-words-clause-reason c = λ said k.
-    passed_up c.from_residual-in_err-words.result fault.Memory (λ e. (e ≡ fault.Memory) ⊎ faults.IsAbbreviationWrong c.args.source.now said c.args.name c.args.parameters.now c.args.raw.now e) c.from_residual-in_err-words.ensures.1
+returns-in_err-words-clause-reason c = λ z k u.
+    passed_up c.from_residual-in_err-words.result fault.Memory (λ e. (e ≡ fault.Memory) ⊎ faults.IsAbbreviationWrong c.args.source.now z c.args.name c.args.parameters.now c.args.raw.now e) c.from_residual-in_err-words.ensures.1
     (inl refl)
 
 pub returns-in_err-lead_to-clause-reason : goal.returns-in_err-lead_to-clause-reason
-returns-in_err-lead_to-clause-reason c = λ said k.
-    passed_up c.from_residual-in_err-lead_to.result fault.Memory (λ e. (e ≡ fault.Memory) ⊎ faults.IsAbbreviationWrong c.args.source.now said c.args.name c.args.parameters.now c.args.raw.now e) c.from_residual-in_err-lead_to.ensures.1
+returns-in_err-lead_to-clause-reason c = λ z k u.
+    passed_up c.from_residual-in_err-lead_to.result fault.Memory (λ e. (e ≡ fault.Memory) ⊎ faults.IsAbbreviationWrong c.args.source.now z c.args.name c.args.parameters.now c.args.raw.now e) c.from_residual-in_err-lead_to.ensures.1
     (inl refl)
 
 pub returns-then-branch-clause-reason : goal.returns-then-branch-clause-reason
-returns-then-branch-clause-reason c = λ said k.
-    inr (faults.circle refl (c.in_ok-place.ensures.meant said k))
+returns-then-branch-clause-reason c = λ z k u.
+    inr (faults.circle refl (c.in_ok-place.ensures.meant z.said k)
+    (leads_back z (map (λ out. out.items) c.args.uses.now.ways.items) c.args.source.now c.args.name c.args.raw.now c.in_ok-place.place c.as_slice.result.now u (c.in_ok-place.ensures.place z.said k)
+    (c.as_slice.ensures.value ∙ c.in_ok-words.ensures z.said k) (c.in_ok-lead_to.ensures.found c.if-branch.true)))
 
 pub returns-in_err-variables-clause-reason : goal.returns-in_err-variables-clause-reason
-returns-in_err-variables-clause-reason c = λ said k.
-    passed_up c.from_residual-in_err-variables.result c.in_err-variables.field-0.0 (λ e. (e ≡ fault.Memory) ⊎ faults.IsAbbreviationWrong c.args.source.now said c.args.name c.args.parameters.now c.args.raw.now e) c.from_residual-in_err-variables.ensures.1
-    (⊎_elim (λ m. inl m) (λ r. inr (faults.repeated r.0 r.1 (c.in_ok-place.ensures.meant said k) r.2)) c.in_err-variables.ensures.repeated)
+returns-in_err-variables-clause-reason c = λ z k u.
+    passed_up c.from_residual-in_err-variables.result c.in_err-variables.field-0.0 (λ e. (e ≡ fault.Memory) ⊎ faults.IsAbbreviationWrong c.args.source.now z c.args.name c.args.parameters.now c.args.raw.now e) c.from_residual-in_err-variables.ensures.1
+    (⊎_elim (λ m. inl m) (λ r. inr (faults.repeated r.0 r.1 (record {
+      meant = c.in_ok-place.ensures.meant z.said k;
+      ends = never_back z (map (λ out. out.items) c.args.uses.now.ways.items) c.args.source.now c.args.name c.args.raw.now c.in_ok-place.place
+          c.as_slice.result.now u (c.in_ok-place.ensures.place z.said k) (c.as_slice.ensures.value ∙ c.in_ok-words.ensures z.said k)
+          (c.in_ok-lead_to.ensures.none c.if-branch.false);
+    }) r.2)) c.in_err-variables.ensures.repeated)
 
 pub returns-then-parameters-gt-MAX_ARGUMENTS-clause-reason : goal.returns-then-parameters-gt-MAX_ARGUMENTS-clause-reason
-returns-then-parameters-gt-MAX_ARGUMENTS-clause-reason c = λ said k.
-    inr (faults.arguments refl (c.in_ok-place.ensures.meant said k) c.in_ok-variables.ensures.taken c.if-parameters-gt-MAX_ARGUMENTS.true)
+returns-then-parameters-gt-MAX_ARGUMENTS-clause-reason c = λ z k u.
+    inr (faults.arguments refl (record {
+      meant = c.in_ok-place.ensures.meant z.said k;
+      ends = never_back z (map (λ out. out.items) c.args.uses.now.ways.items) c.args.source.now c.args.name c.args.raw.now c.in_ok-place.place
+          c.as_slice.result.now u (c.in_ok-place.ensures.place z.said k) (c.as_slice.ensures.value ∙ c.in_ok-words.ensures z.said k)
+          (c.in_ok-lead_to.ensures.none c.if-branch.false);
+    }) c.in_ok-variables.ensures.taken c.if-parameters-gt-MAX_ARGUMENTS.true)
 
 pub returns-in_err-body-clause-reason : goal.returns-in_err-body-clause-reason
-returns-in_err-body-clause-reason c = λ said k.
-    passed_up c.from_residual-in_err-body.result c.in_err-body.field-0.0 (λ e. (e ≡ fault.Memory) ⊎ faults.IsAbbreviationWrong c.args.source.now said c.args.name c.args.parameters.now c.args.raw.now e) c.from_residual-in_err-body.ensures.1
-    (⊎_elim (λ m. inl m) (λ f. inr (faults.a_word (c.in_ok-place.ensures.meant said k, c.in_ok-variables.ensures.taken, c.if-parameters-gt-MAX_ARGUMENTS.false) f)) (c.in_err-body.ensures.first said (parameters_of c.args.source.now c.args.parameters.now) k c.in_ok-variables.ensures.held))
+returns-in_err-body-clause-reason c = λ z k u.
+    passed_up c.from_residual-in_err-body.result c.in_err-body.field-0.0 (λ e. (e ≡ fault.Memory) ⊎ faults.IsAbbreviationWrong c.args.source.now z c.args.name c.args.parameters.now c.args.raw.now e) c.from_residual-in_err-body.ensures.1
+    (⊎_elim (λ m. inl m) (λ f. inr (faults.a_word (record {
+      head = (c.in_ok-place.ensures.meant z.said k, c.in_ok-variables.ensures.taken, c.if-parameters-gt-MAX_ARGUMENTS.false);
+      ends = never_back z (map (λ out. out.items) c.args.uses.now.ways.items) c.args.source.now c.args.name c.args.raw.now c.in_ok-place.place
+          c.as_slice.result.now u (c.in_ok-place.ensures.place z.said k) (c.as_slice.ensures.value ∙ c.in_ok-words.ensures z.said k)
+          (c.in_ok-lead_to.ensures.none c.if-branch.false);
+    }) f)) (c.in_err-body.ensures.first z.said (parameters_of c.args.source.now c.args.parameters.now) k c.in_ok-variables.ensures.held))
 
 pub returns-then-has_other_body-clause-reason : goal.returns-then-has_other_body-clause-reason
-returns-then-has_other_body-clause-reason c = λ said k.
-    inr (faults.other refl (c.in_ok-place.ensures.meant said k, c.in_ok-variables.ensures.taken, c.if-parameters-gt-MAX_ARGUMENTS.false) (c.in_ok-body.ensures.stand said (parameters_of c.args.source.now c.args.parameters.now) k c.in_ok-variables.ensures.held))
-
-pub returns-clause-sound : goal.returns-clause-sound
-returns-clause-sound c = λ said k.
-    ((c.in_ok-place.ensures.meant said k, c.in_ok-variables.ensures.taken, c.if-parameters-gt-MAX_ARGUMENTS.false), (c.in_ok-body.ensures.stand said (parameters_of c.args.source.now c.args.parameters.now) k c.in_ok-variables.ensures.held))
+returns-then-has_other_body-clause-reason c = λ z k u.
+    inr (faults.other refl (record {
+      head = (c.in_ok-place.ensures.meant z.said k, c.in_ok-variables.ensures.taken, c.if-parameters-gt-MAX_ARGUMENTS.false);
+      ends = never_back z (map (λ out. out.items) c.args.uses.now.ways.items) c.args.source.now c.args.name c.args.raw.now c.in_ok-place.place
+          c.as_slice.result.now u (c.in_ok-place.ensures.place z.said k) (c.as_slice.ensures.value ∙ c.in_ok-words.ensures z.said k)
+          (c.in_ok-lead_to.ensures.none c.if-branch.false);
+    }) (c.in_ok-body.ensures.stand z.said (parameters_of c.args.source.now c.args.parameters.now) k c.in_ok-variables.ensures.held))
 
 pub returns-in_err-place-clause-other : goal.returns-in_err-place-clause-other
 returns-in_err-place-clause-other c = λ said defs k h. passed_up c.from_residual.result c.in_err-place.field-0.0 (IsOtherBodyIf c.args.source.now said defs c.args.name c.args.parameters.now c.args.raw.now) c.from_residual.ensures.1 (λ is. inl (c.in_err-place.ensures.why said k))

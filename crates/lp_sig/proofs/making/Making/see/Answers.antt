@@ -1,3 +1,6 @@
+use Rattle.lp_sig.specs.Abbreviations.{KnowsUses}
+use Rattle.lp_sig.specs.inner.Noting.{with_unused}
+use Rattle.lp_sig.proofs.SeenUses.{with_kinds, kinds_used, signature_used}
 use Rattle.std.proofs.Common.{[], ◌∷◌, append-nil}
 use Rattle.lp_sig.specs.Said.{names_in}
 use Rattle.lp_sig.specs.Named.{named_in}
@@ -105,6 +108,16 @@ returns-clause-given c = λ said rows k g ordered whole premise.
     given_bank there.types.bank c.see_all.new.types.bank there.bodies.items (said ++ said_of u) (rows ++ bodies_of u) c.see_all.ensures.kept
     (subst (λ s. GivesBodies there.types.bank there.bodies.items s (rows ++ bodies_of u)) (append_assoc said (map kind_said u.kinds.items) (map abbreviation_said u.abbreviations.items)) second)
 
+pub returns-clause-uses : goal.returns-clause-uses
+returns-clause-uses c = λ z k u.
+    let s = c.args.signature.now in
+    let w = map (λ out. out.items) c.args.self.now.uses.ways.items in
+    let now = with_kinds z c.kinds.result.now in
+    signature_used (map (λ out. out.items) c.see_abbreviations.new.self.uses.ways.items) z s
+    (subst (λ ks. KnowsUses (map (λ out. out.items) c.see_abbreviations.new.self.uses.ways.items) (with_unused (with_kinds z ks) s.abbreviations.items)) c.kinds.ensures
+    (subst (λ es. KnowsUses (map (λ out. out.items) c.see_abbreviations.new.self.uses.ways.items) (with_unused now es)) c.abbreviations.ensures
+    (c.in_ok-of_abbreviations.ensures.uses now (c.in_ok-of_kinds.ensures.names z.said k) (kinds_used w z c.kinds.result.now u))))
+
 pub returns-clause-stays : goal.returns-clause-stays
 returns-clause-stays c = λ before k.
     let u = c.args.signature.now in
@@ -123,8 +136,8 @@ returns-clause-stays c = λ before k.
     record {
       names = subst (Knows there.names) (sym (each_more said_of before u)) (returns-clause-names c said k.names);
       words = subst (HasWords c.see_all.new.self) (sym (each_more constants_of before u)) (returns-clause-words c (of_each constants_of before) k.words);
-      types = λ texts.
-    let h = k.types (texts_before before u texts) in
+      kept = λ texts.
+    let h = k.kept (texts_before before u texts) in
     let ordered = text_ordered before u texts in
     let numbers = subst (λ es. map (λ e. e.number) es ≡ range_with_len 8 (length es) → AreNumberedHere (said ++ map kind_said es) (map (λ e. e.name.items) es) c.see_kinds.new.kinds) c.kinds.ensures
     (λ ns. c.in_ok-of_kinds.ensures.numbers said k.names ns none) ordered.kinds in
@@ -171,7 +184,7 @@ returns-clause-told c = λ before k.
     (subst (λ es. KindsTell ((said ++ map kind_said es) ++ map abbreviation_said u.abbreviations.items) es sk) c.kinds.ensures (c.in_ok-of_kinds.ensures.told said (map abbreviation_said u.abbreviations.items) k.names)) in
     signature_told before u sk all_told c.in_ok-of_abbreviations.of_abbreviations c.in_ok-of_constants.of_constants
     (λ alike texts.
-    let h = k.types (texts_before before u texts) in
+    let h = k.kept (texts_before before u texts) in
     let ordered = text_ordered before u texts in
     let numbers = subst (λ es. map (λ e. e.number) es ≡ range_with_len 8 (length es) → AreNumberedHere (said ++ map kind_said es) (map (λ e. e.name.items) es) c.see_kinds.new.kinds) c.kinds.ensures
     (λ ns. c.in_ok-of_kinds.ensures.numbers said k.names ns none) ordered.kinds in
@@ -189,7 +202,7 @@ returns-clause-told c = λ before k.
     (subst (λ es. AbbreviationsTell (with_kinds ++ map abbreviation_said es) (bodies ++ map (named_body u) es) u es c.in_ok-of_abbreviations.of_abbreviations) c.abbreviations.ensures
     (c.in_ok-of_abbreviations.ensures.told u with_kinds bodies kinds_then can_bodies fits)))
     (λ alike texts.
-    let h = k.types (texts_before before u texts) in
+    let h = k.kept (texts_before before u texts) in
     let ordered = text_ordered before u texts in
     let numbers = subst (λ es. map (λ e. e.number) es ≡ range_with_len 8 (length es) → AreNumberedHere (said ++ map kind_said es) (map (λ e. e.name.items) es) c.see_kinds.new.kinds) c.kinds.ensures
     (λ ns. c.in_ok-of_kinds.ensures.numbers said k.names ns none) ordered.kinds in

@@ -1,3 +1,4 @@
+use Rattle.lp_sig.proofs.Abbreviating.{fresh, again}
 use Rattle.std.proofs.lemmas.Result.{IfOk-weaker}
 use Rattle.lp_sig.specs.inner.Telling.{AbbreviationTells, AreBodiesHere, FitsHere}
 use Rattle.lp_sig.proofs.ToldBodies.{body_new, body_again, new_abbreviation}
@@ -7,6 +8,7 @@ use Rattle.lp_sig.specs.inner.Given.{GivesBodies}
 use Rattle.lp_term.specs.Nodes.{type_tree}
 use Rattle.lp_sig.specs.Named.{named, kind_name}
 use Rattle.std.specs.Prelude.{not}
+use Rattle.std.proofs.Common.{◌++◌, ◌∷◌, [], map, subst, ◌≡◌, ◌∙◌, sym, ap, true, false, refl}
 use Rattle.std.proofs.Common.{◌++◌, ◌∷◌, [], subst, ◌≡◌, ◌∙◌, sym, ap, true, false, refl, None}
 use Rattle.lp_lemmas.proofs.Results.{on_ok_always}
 use Rattle.lp_sig.specs.Said.{an_abbreviation}
@@ -36,6 +38,19 @@ returns-clause-given c = on_ok_always c.sight_of_abbreviation.result _ (λ there
     let e = c.args.entry.now in
     let known : is_known e.name.items said ≡ true = ap (λ w. is_known w said) (sym c.as_slice.ensures.value) ∙ sym (c.in_ok-fresh.ensures.fresh said k) ∙ ap not c.if-fresh.false in
     given_again c.args.self.now.bodies.types.bank c.args.self.now.bodies.bodies.items c.args.self.now.bodies.bodies.items said rows e.name.items e.type_vars (named (kind_name names) (type_tree there e.body.0)) g (kinds_unchanged said (e ∷ [])) known refl)
+
+pub returns-then-fresh-clause-uses : goal.returns-then-fresh-clause-uses
+returns-then-fresh-clause-uses c = λ z k u.
+    let e = c.args.entry.now in
+    let unknown : is_known e.name.items z.said ≡ false = ap (λ w. is_known w z.said) (sym c.as_slice.ensures.value) ∙ sym (c.in_ok-fresh.ensures.fresh z.said k) ∙ ap not c.if-fresh.true in
+    fresh (map (λ out. out.items) c.args.self.now.uses.ways.items) z e.name.items e.type_vars [] u unknown (map (λ out. out.items) c.push.new.self.ways.items)
+    (c.in_ok-push.ensures ∙ ap (λ ws. map (λ out. out.items) c.args.self.now.uses.ways.items ++ ws ∷ []) c.new.ensures.items)
+
+pub returns-clause-uses : goal.returns-clause-uses
+returns-clause-uses c = on_ok_always c.sight_of_abbreviation.result _ (λ z k u.
+    let e = c.args.entry.now in
+    let known : is_known e.name.items z.said ≡ true = ap (λ w. is_known w z.said) (sym c.as_slice.ensures.value) ∙ sym (c.in_ok-fresh.ensures.fresh z.said k) ∙ ap not c.if-fresh.false in
+    again (map (λ out. out.items) c.args.self.now.uses.ways.items) z e.name.items e.type_vars [] u known)
 
 pub returns-then-fresh-clause-here : goal.returns-then-fresh-clause-here
 returns-then-fresh-clause-here c = λ said rows t k g made.

@@ -1,3 +1,6 @@
+use Rattle.lp_sig.specs.Abbreviations.{KnowsUses}
+use Rattle.lp_sig.specs.inner.Noting.{with_unused}
+use Rattle.lp_sig.proofs.SeenUses.{none_unused, one_unused}
 use Rattle.std.proofs.lemmas.List.Elements.{All-nil}
 use Rattle.lp_sig.specs.Named.{named_in}
 use Rattle.lp_sig.specs.AsWritten.{named_body}
@@ -23,6 +26,7 @@ pub loop-at-init : goal.loop-at-init
 loop-at-init c = record {
   names = λ said k. subst (Knows c.args.self.now.names) (sym (append-nil said)) k;
   constants = refl;
+  uses = λ z k u. none_unused (map (λ out. out.items) c.args.self.now.uses.ways.items) z u;
   types = refl;
   operators = refl;
   given = λ there names said rows k g seen whole.
@@ -38,6 +42,10 @@ loop-at-preserved c = record {
       subst (Knows c.see_abbreviation.new.self.names) (mapped_at abbreviation_said c.args.entries.now c.loop-at.at c.index-entries-at.result said c.loop-at-test.true c.index-entries-at.is)
       (c.in_ok-sight.ensures.names (said ++ map abbreviation_said (take c.loop-at.at c.args.entries.now)) (c.loop-at.invariant.names said k));
   constants = c.see_abbreviation.ensures.constants ∙ c.loop-at.invariant.constants;
+  uses = λ z k u.
+      let before = with_unused z (take c.loop-at.at c.args.entries.now) in
+      one_unused (map (λ out. out.items) c.see_abbreviation.new.self.uses.ways.items) z c.args.entries.now c.loop-at.at c.index-entries-at.result c.loop-at-test.true c.index-entries-at.is
+      (c.in_ok-sight.ensures.uses before (c.loop-at.invariant.names z.said k) (c.loop-at.invariant.uses z k u));
   types = c.see_abbreviation.ensures.types ∙ c.loop-at.invariant.types;
   operators = c.see_abbreviation.ensures.operators ∙ c.loop-at.invariant.operators;
   given = λ there names said rows k g seen whole.
@@ -79,6 +87,10 @@ loop-at-preserved c = record {
 pub returns-clause-names : goal.returns-clause-names
 returns-clause-names c = λ said k. subst (λ es. Knows c.loop-at.self.names (said ++ map abbreviation_said es))
     (take_all c.loop-at.at c.args.entries.now c.loop-at-test.false) (c.loop-at.invariant.names said k)
+
+pub returns-clause-uses : goal.returns-clause-uses
+returns-clause-uses c = λ z k u. subst (λ es. KnowsUses (map (λ out. out.items) c.loop-at.self.uses.ways.items) (with_unused z es))
+    (take_all c.loop-at.at c.args.entries.now c.loop-at-test.false) (c.loop-at.invariant.uses z k u)
 
 pub returns-clause-given : goal.returns-clause-given
 returns-clause-given c = λ there names said rows k g seen whole.

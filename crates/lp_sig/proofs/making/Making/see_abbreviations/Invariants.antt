@@ -8,6 +8,8 @@ use Rattle.lp_term.specs.Nodes.{Nodes, type_tree}
 use Rattle.std.specs.Prelude.{All}
 use Rattle.std.proofs.Common.{◌≡◌, List, map, take, ◌++◌, ℕ}
 use Rattle.lp_sig.specs.Rows.{Row}
+use Rattle.lp_sig.specs.Abbreviations.{Seen, KnowsUses}
+use Rattle.lp_sig.specs.inner.Noting.{with_unused}
 use Rattle.lp_sig.specs.Said.{Said}
 use Rattle.lp_sig.specs.Knowing.{Knows}
 use Rattle.lp_sig.specs.Modules.{abbreviation_said}
@@ -17,6 +19,7 @@ abbrev pub invariant-loop-at : goal.invariant-loop-at
 invariant-loop-at l = record {
   names : (said : List (Row Said)) → Knows l.fn.self.names said → Knows l.self.names (said ++ map abbreviation_said (take l.at l.entries));
   constants : l.self.constants ≡ l.fn.self.constants;
+  uses : (z : Seen) → Knows l.fn.self.names z.said → KnowsUses (map (λ out. out.items) l.fn.self.uses.ways.items) z → KnowsUses (map (λ out. out.items) l.self.uses.ways.items) (with_unused z (take l.at l.entries));
   types : l.self.bodies.types ≡ l.fn.self.bodies.types;
   operators : l.self.operators ≡ l.fn.self.operators;
   given : (there : Nodes) (names : List (List ℕ)) (said : List (Row Said)) (rows : List (Row NamedTy)) → Knows l.fn.self.names said → GivesBodies l.fn.self.bodies.types.bank l.fn.self.bodies.bodies.items said rows →

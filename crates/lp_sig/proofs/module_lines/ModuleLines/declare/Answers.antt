@@ -14,7 +14,8 @@ use Rattle.std.proofs.lemmas.Result.{IfErr-weaker, IfOk-weaker}
 use Rattle.lp_base.specs.declared.limits.TheConstants.{MAX_ARGUMENTS}
 use Rattle.lp_sig.specs.Said.{a_kind, each}
 use Rattle.lp_sig.specs.Limits.{AreShort}
-use Rattle.lp_sig.specs.Words.{IsKindsFault, AreMeant, AreNumbered, IsSoundType, IsHead, WordsStand, parameters_of}
+use Rattle.lp_sig.specs.Faults.{IsSoundAbbreviation}
+use Rattle.lp_sig.specs.Words.{IsKindsFault, AreMeant, AreNumbered, IsSoundType}
 use Rattle.lp_sig.specs.Modules.{constant_names_in}
 use Rattle.lp_sig.specs.ModuleFaults.{exports_kind, exports_constant, blamed_by, kind_names_in, AreLocalKindsRefused, AreLocalKindsTaken, AreConstantsWrong, AreLocalsRefused, AreLocalsTaken, IsAbbreviationWrong, AreModulesRefused, AreModulesTaken, AreSignaturesRefused, AreSignaturesTaken, IsLineFault, IsLineTaken}
 use Rattle.lp_sig.specs.declared.fault.SigFault.{SigFault}
@@ -111,96 +112,95 @@ returns-in-AccumSig-clause-alike c = on_ok_weaker c.accum_sig.result (λ f signa
     c.as_slice-in-AccumSig.ensures.value (f signatures h)) c.accum_sig.ensures.alike
 
 pub returns-in-Kinds-clause-refused : goal.returns-in-Kinds-clause-refused
-returns-in-Kinds-clause-refused c = λ used said ds given k hk hc. IfErr-weaker c.kinds.result _ _
-    (λ e f. inr (subst (λ d. IsLineFault c.args.self.now.own.now used c.args.self.now.source.now said ds d e) (sym c.in-Kinds.is)
-    (subst (λ ns. (f : SigFault) × IsKindsFault c.args.self.now.source.now said ns c.in-Kinds.arity f ×
+returns-in-Kinds-clause-refused c = λ used z ds given k u hk hc. IfErr-weaker c.kinds.result _ _
+    (λ e f. inr (subst (λ d. IsLineFault c.args.self.now.own.now used c.args.self.now.source.now z ds d e) (sym c.in-Kinds.is)
+    (subst (λ ns. (f : SigFault) × IsKindsFault c.args.self.now.source.now z.said ns c.in-Kinds.arity f ×
     (e ≡ blamed_by (exports_kind c.args.self.now.own.now) c.args.self.now.source.now f)) c.as_slice.ensures.value f)))
-    (c.kinds.ensures.refused said k)
+    (c.kinds.ensures.refused z.said k)
 
 pub returns-in-Kinds-clause-taken : goal.returns-in-Kinds-clause-taken
-returns-in-Kinds-clause-taken c = λ used said ds given k hk hc. IfOk-weaker c.kinds.result _ _
-    (λ done t. subst (λ d. IsLineTaken c.args.self.now.own.now used c.args.self.now.source.now said ds d) (sym c.in-Kinds.is)
-    (subst (λ ns. AreMeant c.args.self.now.source.now said (a_kind c.in-Kinds.arity) ns × AreNumbered c.args.self.now.source.now said ns ×
-    (c.in-Kinds.arity ≤ MAX_ARGUMENTS)) c.as_slice.ensures.value t)) (c.kinds.ensures.taken said k)
+returns-in-Kinds-clause-taken c = λ used z ds given k u hk hc. IfOk-weaker c.kinds.result _ _
+    (λ done t. subst (λ d. IsLineTaken c.args.self.now.own.now used c.args.self.now.source.now z ds d) (sym c.in-Kinds.is)
+    (subst (λ ns. AreMeant c.args.self.now.source.now z.said (a_kind c.in-Kinds.arity) ns × AreNumbered c.args.self.now.source.now z.said ns ×
+    (c.in-Kinds.arity ≤ MAX_ARGUMENTS)) c.as_slice.ensures.value t)) (c.kinds.ensures.taken z.said k)
 
 pub returns-in-LocalKinds-clause-refused : goal.returns-in-LocalKinds-clause-refused
-returns-in-LocalKinds-clause-refused c = λ used said ds given k hk hc. IfErr-weaker c.local_kinds_of.result _ _
-    (λ e f. inr (subst (λ d. IsLineFault c.args.self.now.own.now used c.args.self.now.source.now said ds d e) (sym c.in-LocalKinds.is)
-    (subst (λ ns. AreLocalKindsRefused c.args.self.now.own.now c.args.self.now.source.now said (kind_names_in c.args.self.now.source.now ds) ns
-    c.in-LocalKinds.count e) c.as_slice-in-LocalKinds.ensures.value f))) (c.local_kinds_of.ensures.refused said
+returns-in-LocalKinds-clause-refused c = λ used z ds given k u hk hc. IfErr-weaker c.local_kinds_of.result _ _
+    (λ e f. inr (subst (λ d. IsLineFault c.args.self.now.own.now used c.args.self.now.source.now z ds d e) (sym c.in-LocalKinds.is)
+    (subst (λ ns. AreLocalKindsRefused c.args.self.now.own.now c.args.self.now.source.now z.said (kind_names_in c.args.self.now.source.now ds) ns
+    c.in-LocalKinds.count e) c.as_slice-in-LocalKinds.ensures.value f))) (c.local_kinds_of.ensures.refused z.said
     (kind_names_in c.args.self.now.source.now ds) k hk)
 
 pub returns-in-LocalKinds-clause-taken : goal.returns-in-LocalKinds-clause-taken
-returns-in-LocalKinds-clause-taken c = λ used said ds given k hk hc. IfOk-weaker c.local_kinds_of.result _ _
-    (λ done t. subst (λ d. IsLineTaken c.args.self.now.own.now used c.args.self.now.source.now said ds d) (sym c.in-LocalKinds.is)
-    (subst (λ ns. AreLocalKindsTaken c.args.self.now.own.now c.args.self.now.source.now said (kind_names_in c.args.self.now.source.now ds) ns
-    c.in-LocalKinds.count) c.as_slice-in-LocalKinds.ensures.value t)) (c.local_kinds_of.ensures.taken said
+returns-in-LocalKinds-clause-taken c = λ used z ds given k u hk hc. IfOk-weaker c.local_kinds_of.result _ _
+    (λ done t. subst (λ d. IsLineTaken c.args.self.now.own.now used c.args.self.now.source.now z ds d) (sym c.in-LocalKinds.is)
+    (subst (λ ns. AreLocalKindsTaken c.args.self.now.own.now c.args.self.now.source.now z.said (kind_names_in c.args.self.now.source.now ds) ns
+    c.in-LocalKinds.count) c.as_slice-in-LocalKinds.ensures.value t)) (c.local_kinds_of.ensures.taken z.said
     (kind_names_in c.args.self.now.source.now ds) k hk)
 
 pub returns-in-Constants-clause-refused : goal.returns-in-Constants-clause-refused
-returns-in-Constants-clause-refused c = λ used said ds given k hk hc. IfErr-weaker c.constants.result _ _
-    (λ e f. ⊎_elim (λ m. inl m) (λ f. inr (subst (λ d. IsLineFault c.args.self.now.own.now used c.args.self.now.source.now said ds d e)
-    (sym c.in-Constants.is) (subst (λ ns. (f : SigFault) × AreConstantsWrong c.args.self.now.source.now said ns c.in-Constants.raw f ×
+returns-in-Constants-clause-refused c = λ used z ds given k u hk hc. IfErr-weaker c.constants.result _ _
+    (λ e f. ⊎_elim (λ m. inl m) (λ f. inr (subst (λ d. IsLineFault c.args.self.now.own.now used c.args.self.now.source.now z ds d e)
+    (sym c.in-Constants.is) (subst (λ ns. (f : SigFault) × AreConstantsWrong c.args.self.now.source.now z.said ns c.in-Constants.raw f ×
     (e ≡ blamed_by (exports_constant c.args.self.now.own.now) c.args.self.now.source.now f)) c.as_slice-in-Constants.ensures.value f))) f)
-    (c.constants.ensures.refused said k)
+    (c.constants.ensures.refused z.said k)
 
 pub returns-in-Constants-clause-taken : goal.returns-in-Constants-clause-taken
-returns-in-Constants-clause-taken c = λ used said ds given k hk hc. IfOk-weaker c.constants.result _ _
-    (λ done t. subst (λ d. IsLineTaken c.args.self.now.own.now used c.args.self.now.source.now said ds d) (sym c.in-Constants.is)
-    (subst (λ ns. AreShort c.args.self.now.source.now ns × IsSoundType c.args.self.now.source.now said c.in-Constants.raw)
-    c.as_slice-in-Constants.ensures.value t)) (c.constants.ensures.taken said k)
+returns-in-Constants-clause-taken c = λ used z ds given k u hk hc. IfOk-weaker c.constants.result _ _
+    (λ done t. subst (λ d. IsLineTaken c.args.self.now.own.now used c.args.self.now.source.now z ds d) (sym c.in-Constants.is)
+    (subst (λ ns. AreShort c.args.self.now.source.now ns × IsSoundType c.args.self.now.source.now z.said c.in-Constants.raw)
+    c.as_slice-in-Constants.ensures.value t)) (c.constants.ensures.taken z.said k)
 
 pub returns-in-Locals-clause-refused : goal.returns-in-Locals-clause-refused
-returns-in-Locals-clause-refused c = λ used said ds given k hk hc. IfErr-weaker c.locals_typed.result _ _
-    (λ e f. ⊎_elim (λ m. inl m) (λ f. inr (subst (λ d. IsLineFault c.args.self.now.own.now used c.args.self.now.source.now said ds d e)
-    (sym c.in-Locals.is) (subst (λ ns. AreLocalsRefused c.args.self.now.own.now c.args.self.now.source.now said
+returns-in-Locals-clause-refused c = λ used z ds given k u hk hc. IfErr-weaker c.locals_typed.result _ _
+    (λ e f. ⊎_elim (λ m. inl m) (λ f. inr (subst (λ d. IsLineFault c.args.self.now.own.now used c.args.self.now.source.now z ds d e)
+    (sym c.in-Locals.is) (subst (λ ns. AreLocalsRefused c.args.self.now.own.now c.args.self.now.source.now z.said
     (constant_names_in c.args.self.now.source.now ds) ns c.in-Locals.raw e) c.as_slice-in-Locals.ensures.value f))) f)
-    (c.locals_typed.ensures.refused said (constant_names_in c.args.self.now.source.now ds) k hc)
+    (c.locals_typed.ensures.refused z.said (constant_names_in c.args.self.now.source.now ds) k hc)
 
 pub returns-in-Locals-clause-taken : goal.returns-in-Locals-clause-taken
-returns-in-Locals-clause-taken c = λ used said ds given k hk hc. IfOk-weaker c.locals_typed.result _ _
-    (λ done t. subst (λ d. IsLineTaken c.args.self.now.own.now used c.args.self.now.source.now said ds d) (sym c.in-Locals.is)
-    (subst (λ ns. AreLocalsTaken c.args.self.now.own.now c.args.self.now.source.now said (constant_names_in c.args.self.now.source.now ds) ns
-    c.in-Locals.raw) c.as_slice-in-Locals.ensures.value t)) (c.locals_typed.ensures.taken said (constant_names_in c.args.self.now.source.now ds) k hc)
+returns-in-Locals-clause-taken c = λ used z ds given k u hk hc. IfOk-weaker c.locals_typed.result _ _
+    (λ done t. subst (λ d. IsLineTaken c.args.self.now.own.now used c.args.self.now.source.now z ds d) (sym c.in-Locals.is)
+    (subst (λ ns. AreLocalsTaken c.args.self.now.own.now c.args.self.now.source.now z.said (constant_names_in c.args.self.now.source.now ds) ns
+    c.in-Locals.raw) c.as_slice-in-Locals.ensures.value t)) (c.locals_typed.ensures.taken z.said (constant_names_in c.args.self.now.source.now ds) k hc)
 
 pub returns-in-Abbreviation-clause-refused : goal.returns-in-Abbreviation-clause-refused
-returns-in-Abbreviation-clause-refused c = λ used said ds given k hk hc. IfErr-weaker c.abbreviation.result _ _
-    (λ e f. ⊎_elim (λ m. inl m) (λ f. inr (subst (λ d. IsLineFault c.args.self.now.own.now used c.args.self.now.source.now said ds d e)
-    (sym c.in-Abbreviation.is) (subst (λ ns. (f : SigFault) × IsAbbreviationWrong c.args.self.now.source.now said c.in-Abbreviation.name ns
+returns-in-Abbreviation-clause-refused c = λ used z ds given k u hk hc. IfErr-weaker c.abbreviation.result _ _
+    (λ e f. ⊎_elim (λ m. inl m) (λ f. inr (subst (λ d. IsLineFault c.args.self.now.own.now used c.args.self.now.source.now z ds d e)
+    (sym c.in-Abbreviation.is) (subst (λ ns. (f : SigFault) × IsAbbreviationWrong c.args.self.now.source.now z c.in-Abbreviation.name ns
     c.in-Abbreviation.raw f × (e ≡ blamed_by (exports_kind c.args.self.now.own.now) c.args.self.now.source.now f))
-    c.as_slice-in-Abbreviation.ensures.value f))) f) (c.abbreviation.ensures.refused said k)
+    c.as_slice-in-Abbreviation.ensures.value f))) f) (c.abbreviation.ensures.refused z k u)
 
 pub returns-in-Abbreviation-clause-taken : goal.returns-in-Abbreviation-clause-taken
-returns-in-Abbreviation-clause-taken c = λ used said ds given k hk hc. IfOk-weaker c.abbreviation.result _ _
-    (λ done t. subst (λ d. IsLineTaken c.args.self.now.own.now used c.args.self.now.source.now said ds d) (sym c.in-Abbreviation.is)
-    (subst (λ ns. IsHead c.args.self.now.source.now said c.in-Abbreviation.name ns × WordsStand c.args.self.now.source.now said
-    (parameters_of c.args.self.now.source.now ns) c.in-Abbreviation.raw.nodes.items) c.as_slice-in-Abbreviation.ensures.value t))
-    (c.abbreviation.ensures.taken said k)
+returns-in-Abbreviation-clause-taken c = λ used z ds given k u hk hc. IfOk-weaker c.abbreviation.result _ _
+    (λ done t. subst (λ d. IsLineTaken c.args.self.now.own.now used c.args.self.now.source.now z ds d) (sym c.in-Abbreviation.is)
+    (subst (λ ns. IsSoundAbbreviation c.args.self.now.source.now z c.in-Abbreviation.name ns c.in-Abbreviation.raw) c.as_slice-in-Abbreviation.ensures.value t))
+    (c.abbreviation.ensures.taken z k u)
 
 pub returns-in-Accumulate-clause-refused : goal.returns-in-Accumulate-clause-refused
-returns-in-Accumulate-clause-refused c = λ used said ds given k hk hc. IfErr-weaker c.accumulate.result _ _
-    (λ e f. ⊎_elim (λ m. inl m) (λ f. inr (subst (λ d. IsLineFault c.args.self.now.own.now used c.args.self.now.source.now said ds d e)
+returns-in-Accumulate-clause-refused c = λ used z ds given k u hk hc. IfErr-weaker c.accumulate.result _ _
+    (λ e f. ⊎_elim (λ m. inl m) (λ f. inr (subst (λ d. IsLineFault c.args.self.now.own.now used c.args.self.now.source.now z ds d e)
     (sym c.in-Accumulate.is) (subst (λ ns. AreModulesRefused c.args.self.now.own.now used c.args.self.now.source.now ds ns e) c.as_slice-in-Accumulate.ensures.value f))) f)
     (c.accumulate.ensures.refused used ds given)
 
 pub returns-in-Accumulate-clause-taken : goal.returns-in-Accumulate-clause-taken
-returns-in-Accumulate-clause-taken c = λ used said ds given k hk hc. IfOk-weaker c.accumulate.result _ _
-    (λ done t. subst (λ d. IsLineTaken c.args.self.now.own.now used c.args.self.now.source.now said ds d) (sym c.in-Accumulate.is)
+returns-in-Accumulate-clause-taken c = λ used z ds given k u hk hc. IfOk-weaker c.accumulate.result _ _
+    (λ done t. subst (λ d. IsLineTaken c.args.self.now.own.now used c.args.self.now.source.now z ds d) (sym c.in-Accumulate.is)
     (subst (AreModulesTaken c.args.self.now.own.now used c.args.self.now.source.now ds) c.as_slice-in-Accumulate.ensures.value t)) (c.accumulate.ensures.taken used ds given)
 
 pub returns-in-AccumSig-clause-refused : goal.returns-in-AccumSig-clause-refused
-returns-in-AccumSig-clause-refused c = λ used said ds given k hk hc. IfErr-weaker c.accum_sig.result _ _
-    (λ e f. ⊎_elim (λ m. inl m) (λ f. inr (subst (λ d. IsLineFault c.args.self.now.own.now used c.args.self.now.source.now said ds d e)
+returns-in-AccumSig-clause-refused c = λ used z ds given k u hk hc. IfErr-weaker c.accum_sig.result _ _
+    (λ e f. ⊎_elim (λ m. inl m) (λ f. inr (subst (λ d. IsLineFault c.args.self.now.own.now used c.args.self.now.source.now z ds d e)
     (sym c.in-AccumSig.is) (subst (λ ns. AreSignaturesRefused c.args.self.now.own.now used c.args.self.now.source.now ds ns e) c.as_slice-in-AccumSig.ensures.value f))) f)
     (c.accum_sig.ensures.refused used ds given)
 
 pub returns-in-AccumSig-clause-taken : goal.returns-in-AccumSig-clause-taken
-returns-in-AccumSig-clause-taken c = λ used said ds given k hk hc. IfOk-weaker c.accum_sig.result _ _
-    (λ done t. subst (λ d. IsLineTaken c.args.self.now.own.now used c.args.self.now.source.now said ds d) (sym c.in-AccumSig.is)
+returns-in-AccumSig-clause-taken c = λ used z ds given k u hk hc. IfOk-weaker c.accum_sig.result _ _
+    (λ done t. subst (λ d. IsLineTaken c.args.self.now.own.now used c.args.self.now.source.now z ds d) (sym c.in-AccumSig.is)
     (subst (AreSignaturesTaken c.args.self.now.own.now used c.args.self.now.source.now ds) c.as_slice-in-AccumSig.ensures.value t)) (c.accum_sig.ensures.taken used ds given)
 
 pub returns-in-Fixities-clause-taken : goal.returns-in-Fixities-clause-taken
-returns-in-Fixities-clause-taken c = λ used said ds given k hk hc. subst (λ d. IsLineTaken c.args.self.now.own.now used c.args.self.now.source.now said ds d) (sym c.in-Fixities.is) tt
+returns-in-Fixities-clause-taken c = λ used z ds given k u hk hc. subst (λ d. IsLineTaken c.args.self.now.own.now used c.args.self.now.source.now z ds d) (sym c.in-Fixities.is) tt
 
 pub returns-in-Kinds-clause-reads : goal.returns-in-Kinds-clause-reads
 returns-in-Kinds-clause-reads c = on_ok_always c.kinds.result _ (its_types c.args.making.now c.args.making.now c.args.self.now.source.now c.args.declaration.now _ [] [] c.in-Kinds.is refl refl (reads_same c.args.making.now))

@@ -30,6 +30,7 @@ loop-name-init c = record {
       (IsShort c.args.self.now.source.now));
   names = refl;
   operators = refl;
+  uses = refl;
   kept = refl;
   adds = adds_same c.args.making.now.constants c.args.self.now.source.now [] c.args.declared;
   trees = λ words d is can. none_declared c.args.making.now.bodies.types.bank c.args.making.now.constants c.args.self.now.source.now words d can;
@@ -47,6 +48,7 @@ loop-name-preserved c =
       grown = making_then c.args.making.now c.loop-name.making c.local.new.making c.loop-name.invariant.grown c.in_ok-local.ensures.grown;
       names = c.local.ensures.names ∙ c.loop-name.invariant.names;
       operators = c.local.ensures.operators ∙ c.loop-name.invariant.operators;
+      uses = c.local.ensures.uses ∙ c.loop-name.invariant.uses;
       kept = c.local.ensures.kept ∙ c.loop-name.invariant.kept;
       adds = adds_more c.args.making.now.constants c.loop-name.making.constants c.local.new.making.constants text c.args.names.now c.loop-name.name-index _ c.args.declared c.loop-name-test.true c.loop-name.invariant.adds c.in_ok-local.ensures.adds;
       trees = λ words d is can.
