@@ -73,6 +73,7 @@ pub mod Refusing
 pub mod GivenBodies
 pub mod Reading
 pub mod DeclaredTypes
+pub mod Taking
 pub mod WholeTypes
 pub mod SeenUses
 pub mod Told
@@ -81,3 +82,4 @@ pub mod TypesHere
 pub mod ToldConstants
 pub mod ToldBodies
 pub mod ToldSignatures
+pub mod Giving

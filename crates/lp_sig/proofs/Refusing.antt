@@ -165,7 +165,7 @@ new_or names i d e m h (inl is) = inl is
 new_or names i d e m h (inr f) = inr (new_among names i d e h f)
 
 -- sentences
-declared_more : (ls : List Sentence) (i : ℕ) (d : Declaration) (l : Sentence) → i < length ls → l ≡ get_or ls i l → l ≡ Declares d →
+pub declared_more : (ls : List Sentence) (i : ℕ) (d : Declaration) (l : Sentence) → i < length ls → l ≡ get_or ls i l → l ≡ Declares d →
     (length (declarations (take i ls)) < length (declarations ls)) × (slice_index_or (declarations ls) (length (declarations (take i ls))) d ≡ d) ×
     (take (length (declarations (take i ls))) (declarations ls) ≡ declarations (take i ls))
 declared_more [] i d l h at is = absurd (omega (arith, h))

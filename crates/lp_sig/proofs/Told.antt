@@ -18,6 +18,7 @@ use Rattle.lp_sig.specs.Worded.{HasWords}
 use Rattle.lp_sig.specs.Sights.{HasNumbers, IsSightOf}
 use Rattle.lp_sig.specs.ModuleFaults.{IsWordFault, otherwise, many, IsNamedBy, IsWordRefused, IsWordTaken}
 use Rattle.lp_sig.specs.GoingTogether.{GoesWith, types_of}
+use Rattle.lp_sig.specs.Holding.{line_at}
 use Rattle.lp_sig.specs.inner.Telling.{SightTells, IsBlamed, IsRoom, AreTold, KnowsBefore, AreBodiesHere, AreTypedHere, IsTypedHere}
 use Rattle.lp_sig.specs.declared.constants.Constant.{Constant}
 use Rattle.lp_sig.specs.declared.making.Making.{Making}
@@ -99,11 +100,15 @@ knows_none m names words none empty = record {
   names = names;
   words = words;
   kept = λ texts. record {
-    bodies = subst (λ bs. AreBodiesHere m.bodies.types.bank bs [] []) (sym none) (record { are = λ name place at. absurd (cc); count = refl; told = λ n h. absurd (true≢false (sym h)) });
+    bodies = subst (λ bs. AreBodiesHere m.bodies.types.bank bs [] []) (sym none) (record { are = λ name place at. absurd (cc); count = refl; told = λ n h. absurd (true≢false (sym h)); no_line = λ i. none_line i });
     constants = λ k has. nothing k (subst (λ ks. Contains ks k) empty has);
   };
 }
   where
+    none_line : (i : ℕ) → line_at [] i ≡ None
+    none_line zero = refl
+    none_line (suc i) = refl
+
     nothing : (k : Constant) → Contains [] k → IsTypedHere m.bodies.types.bank [] [] k
     nothing k (i, l, at) = absurd (omega (arith, l))
 

@@ -11,7 +11,7 @@ use Rattle.lp_term.specs.Nodes.{Nodes, Extends, type_tree}
 use Rattle.lp_term.specs.declared.node.TypeId.{TypeId}
 use Rattle.lp_sig.specs.Abbreviations.{abbreviation_names}
 use Rattle.lp_sig.specs.AsWritten.{named_body}
-use Rattle.lp_sig.specs.Holding.{body_of, IsTree}
+use Rattle.lp_sig.specs.Holding.{body_of, line_at, IsTree}
 use Rattle.lp_sig.specs.Knowing.{is_known}
 use Rattle.lp_sig.specs.Modules.{kind_said, abbreviation_said}
 use Rattle.lp_sig.specs.Named.{NamedTy, named_in, kind_names, IsWhole}
@@ -31,7 +31,7 @@ use Rattle.lp_sig.specs.declared.store.Types.{Types}
 use Rattle.lp_sig.specs.declared.signature.Signature.{Signature}
 use Rattle.lp_sig.proofs.Abbreviating.{names_known, names_fresh, told_more, told_again, unknown_untold}
 use Rattle.lp_sig.proofs.Announcing.{place_front, place_last, found_new, at_end}
-use Rattle.lp_sig.proofs.GivenBodies.{heads_before}
+use Rattle.lp_sig.proofs.GivenBodies.{none_more, heads_before}
 use Rattle.lp_sig.proofs.Growing.{found_more, meaning_more}
 use Rattle.lp_sig.proofs.Heads.{place_below}
 use Rattle.lp_sig.proofs.Settling.{before_or_at}
@@ -50,6 +50,7 @@ bodies_in_bank b now bodies said rows x g = record {
       record { id = r.id; at = r.at; inside = omega (arith, l, m); body = r.body; first = r.first; is = subst (λ T. IsTypeHere said T r.body) (sym (x.same_types r.id.0 l)) r.is };
   count = g.count;
   told = g.told;
+  no_line = g.no_line;
 }
 
 pub bodies_of_kinds : (b : Nodes) (bodies : List Body) (said : List (Row Said)) (rows : List (Row NamedTy)) (es : List KindEntry) → AreBodiesHere b bodies said rows → AreBodiesHere b bodies (said ++ map kind_said es) rows
@@ -59,6 +60,7 @@ bodies_of_kinds b bodies said rows es g = record {
       record { id = r.id; at = r.at; inside = r.inside; body = r.body; first = r.first; is = type_later said (map kind_said es) (type_tree b r.id.0) r.body r.is };
   count = g.count ∙ ap length (sym same);
   told = λ n h. subst (λ l. is_among n (names_in l) ≡ true → is_among n (names_in (said ++ map kind_said es)) ≡ true) (append-nil rows) (told_again rows said (map kind_said es) g.told n) h;
+  no_line = g.no_line;
 }
   where
     same : abbreviation_names (said ++ map kind_said es) ≡ abbreviation_names said
@@ -81,6 +83,7 @@ module _ (b : Nodes) (bodies new : List Body) (said : List (Row Said)) (rows : L
     are = λ name place at. moved name place (g.are name place (ap (first_place name) (sym names) ∙ at)) (ap (λ bs. body_of bs place) is);
     count = ap length is ∙ g.count ∙ ap length (sym names);
     told = told_more rows said n t (an_abbreviation p) g.told;
+    no_line = λ i. ap (λ bs. line_at bs i) is ∙ g.no_line i;
   }
     where
       names : abbreviation_names (said ++ (n, an_abbreviation p) ∷ []) ≡ abbreviation_names said
@@ -93,19 +96,20 @@ module _ (b : Nodes) (bodies new : List Body) (said : List (Row Said)) (rows : L
       cases true e = absurd (true≢false (sym (g.told n e) ∙ unknown_untold n said fresh))
       cases false e = e
 
-  pub body_new : (id : TypeId) (line : Option ℕ) → is_known n said ≡ false → new ≡ bodies ++ record { body = Some id; line = line } ∷ [] → id.0 < length b.types → IsTypeHere said (type_tree b id.0) t →
+  pub body_new : (id : TypeId) → is_known n said ≡ false → new ≡ bodies ++ record { body = Some id; line = None } ∷ [] → id.0 < length b.types → IsTypeHere said (type_tree b id.0) t →
       AreBodiesHere b new (said ++ (n, an_abbreviation p) ∷ []) (rows ++ (n, t) ∷ [])
-  body_new id line fresh is inside here = record {
+  body_new id fresh is inside here = record {
     are = λ name place at. by name place at (place_below name (abbreviation_names said ++ n ∷ []) place (ap (first_place name) (sym names) ∙ at));
-    count = (let a = ap length is in let c = length-append bodies (record { body = Some id; line = line } ∷ []) in let d = g.count in let e = ap length names in let f = length-append (abbreviation_names said) (n ∷ []) in omega (arith, a, c, d, e, f));
+    count = (let a = ap length is in let c = length-append bodies (record { body = Some id; line = None } ∷ []) in let d = g.count in let e = ap length names in let f = length-append (abbreviation_names said) (n ∷ []) in omega (arith, a, c, d, e, f));
     told = told_more rows said n t (an_abbreviation p) g.told;
+    no_line = λ i. ap (λ bs. line_at bs i) is ∙ ap (λ l. get_or l i None) (map-append (λ b. b.line) bodies (record { body = Some id; line = None } ∷ [])) ∙ none_more (map (λ b. b.line) bodies) g.no_line i;
   }
     where
       names : abbreviation_names (said ++ (n, an_abbreviation p) ∷ []) ≡ abbreviation_names said ++ n ∷ []
       names = names_fresh said n p fresh
 
       bodies_are : map (λ b. b.body) new ≡ map (λ b. b.body) bodies ++ Some id ∷ []
-      bodies_are = ap (map (λ b. b.body)) is ∙ map-append (λ b. b.body) bodies (record { body = Some id; line = line } ∷ [])
+      bodies_are = ap (map (λ b. b.body)) is ∙ map-append (λ b. b.body) bodies (record { body = Some id; line = None } ∷ [])
 
       front : (place : ℕ) → place < length bodies → body_of new place ≡ body_of bodies place
       front place l = let c = length-map bodies (λ b. b.body) in ap (λ bs. get_or bs place None) bodies_are ∙ get_or_append_left (map (λ b. b.body) bodies) (Some id ∷ []) None place (omega (arith, l, c))

@@ -22,7 +22,8 @@ use Rattle.lp_sig.specs.Named.{NamedTy, NamedTys, named, all_named, named_in, ki
 use Rattle.lp_sig.specs.Sighted.{PutsBehind}
 use Rattle.lp_sig.specs.Worded.{HasWords, is_met_word, names_so_far}
 use Rattle.lp_sig.specs.GoingTogether.{named_constant, named_standard, standard_typed, constant_count, entry_names, AreNumberedConstants, IsSameConstant, ConstantsGo, IsOtherConstant, HasNoConstantNumber}
-use Rattle.lp_sig.specs.inner.Telling.{first_sight, Tells, TellsNext, ConstantsTell, ConstantTells, HasNumberHere, number_here, numbered_by, all_numbered, EachKind, AllKinds, IsTypeHere, IsMadeHere, AreTypesHere, FitsHere, IsTypedHere, AreTypedHere, IsRoomSight, IsTypeOfName, of_language, of_constant, CanSee, CanSeeAll}
+use Rattle.lp_sig.specs.Differing.{number_here, numbered_by, all_numbered}
+use Rattle.lp_sig.specs.inner.Telling.{first_sight, Tells, TellsNext, ConstantsTell, ConstantTells, HasNumberHere, EachKind, AllKinds, IsTypeHere, IsMadeHere, AreTypesHere, FitsHere, IsTypedHere, AreTypedHere, IsRoomSight, IsTypeOfName, of_language, of_constant, CanSee, CanSeeAll}
 use Rattle.lp_sig.specs.declared.constants.Constant.{Constant}
 use Rattle.lp_sig.specs.declared.constants.Constants.{Constants}
 use Rattle.lp_sig.specs.declared.constants.DeclaredType.{DeclaredType}

@@ -17,7 +17,8 @@ use Rattle.lp_sig.specs.Types.{kind_number_of}
 use Rattle.lp_sig.specs.Named.{NamedTy, NamedTys, named_var, named_param, named_con, named_arrow, no_named, more_named, named, all_named, kind_name, IsWhole, AreWhole}
 use Rattle.lp_sig.specs.Sighted.{said_kinds}
 use Rattle.lp_sig.specs.GoingTogether.{KindsGo, IsSameKind, IsNumbered}
-use Rattle.lp_sig.specs.inner.Telling.{IsNumberHere, of_kind, of_no_kind, number_for, number_here, HasNumberHere, numbered_by, all_numbered, EachKind, AllKinds, IsTypeHere, AreTypesHere, FitsHere}
+use Rattle.lp_sig.specs.Differing.{number_for, number_here, numbered_by, all_numbered}
+use Rattle.lp_sig.specs.inner.Telling.{IsNumberHere, of_kind, of_no_kind, HasNumberHere, EachKind, AllKinds, IsTypeHere, AreTypesHere, FitsHere}
 use Rattle.lp_sig.specs.declared.entries.KindEntry.{KindEntry}
 use Rattle.lp_sig.proofs.Growing.{meaning_more, kind_number_more}
 use Rattle.lp_sig.proofs.Sighting.{kind_numbered}

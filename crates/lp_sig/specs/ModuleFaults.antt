@@ -7,16 +7,21 @@ use Rattle.lp_syntax.specs.declared.text.Declaration.{Declaration}
 use Rattle.lp_syntax.specs.declared.text.Declaration.TheVariants.{Kinds, LocalKinds, Constants, Locals, Abbreviation, Accumulate, AccumSig, Fixities}
 use Rattle.lp_syntax.specs.declared.text.RawType.{RawType}
 use Rattle.lp_syntax.specs.declared.text.Sentence.{Sentence}
+use Rattle.lp_calculus.specs.Types.{Ty}
+use Rattle.lp_sig.specs.Constants.{Written}
+use Rattle.lp_sig.specs.Differing.{HasNameCause, IsOtherIf, IsOtherBodyIf, trees_here}
 use Rattle.lp_sig.specs.Pieces.{spelled}
 use Rattle.lp_sig.specs.Rows.{Row}
 use Rattle.lp_sig.specs.Standard.{standard_kinds, standard_constants}
 use Rattle.lp_sig.specs.Said.{Said, a_kind, an_abbreviation, is_among, names_in}
 use Rattle.lp_sig.specs.Limits.{AreShort, IsShort, AreApart, IsRepeated}
 use Rattle.lp_sig.specs.Words.{IsNameFault, IsMeant, AreMeant, IsNumbered, AreNumbered, IsFirstFault, WordsStand, parameters_of, IsKindsFault, IsLongType, IsSoundType}
-use Rattle.lp_sig.specs.GoingTogether.{GoesWith, IsOtherwise, HasNoNumber}
+use Rattle.lp_sig.specs.GoingTogether.{types_of, AreOfTexts, GoesWith, IsOtherwise, HasNoNumber}
 use Rattle.lp_sig.specs.Places.{first_place}
 use Rattle.lp_sig.specs.Sights.{signature_words, module_words}
-use Rattle.lp_sig.specs.Modules.{declarations, first_names, said_of, constants_of, constant_names_in}
+use Rattle.lp_sig.specs.Modules.{declarations, first_names, of_each, said_of, constants_of, constant_names_in, said_in_module}
+use Rattle.lp_sig.specs.Types.{Definition, definitions_in}
+use Rattle.lp_sig.specs.AsWritten.{as_trees, bodies_of, typed_in}
 use Rattle.lp_sig.specs.Abbreviations.{Seen}
 use Rattle.lp_sig.specs.Faults.{IsCyclic, IsStraight, IsStraightHead, IsSoundAbbreviation}
 use Rattle.lp_sig.specs.SeenByModules.{seen_in_module}
@@ -210,6 +215,43 @@ pub record IsFaultAmong (own : Signature) (used : List Signature) (text : List �
   pub why : IsLineFault own used text z ds line e
   pub before : All (IsLineTaken own used text z ds) (take k ds)
 
+-- the same of a sentence: exported constants are blamed as such, and local ones of a type have faults of their own
+abbrev pub HaveLocalsCause : List ℕ → List (List ℕ) → List Spot → Option RawType → ModuleSigFault → Type 0
+HaveLocalsCause text words names None e = Unit {0}
+HaveLocalsCause text words names (Some ty) e = (f : SigFault) → e ≡ wrong.Sig f → HasNameCause text words names f
+
+abbrev pub HasLineCause : Signature → List ℕ → List (List ℕ) → Declaration → ModuleSigFault → Type 0
+HasLineCause own text words (Kinds names n) e = Unit {0}
+HasLineCause own text words (LocalKinds names count) e = Unit {0}
+HasLineCause own text words (Constants names ty) e = (f : SigFault) × (e ≡ blamed_by (exports_constant own) text f) × HasNameCause text words names.items f
+HasLineCause own text words (Locals names ty) e = HaveLocalsCause text words names.items ty e
+HasLineCause own text words (Abbreviation name ps ty) e = Unit {0}
+HasLineCause own text words (Accumulate ws) e = Unit {0}
+HasLineCause own text words (AccumSig ws) e = Unit {0}
+HasLineCause own text words (Fixities names f n) e = Unit {0}
+
+abbrev pub AreLocalsOtherIf : List ℕ → List (Row Said) → List (Row Definition) → List (Row Ty) → List (Row Written) → List Spot → Option RawType → ModuleSigFault → Type 0
+AreLocalsOtherIf text said defs given rows names None e = Unit {0}
+AreLocalsOtherIf text said defs given rows names (Some ty) e = (f : SigFault) → e ≡ wrong.Sig f → IsOtherIf text said defs given rows names ty f
+
+abbrev pub IsLineOtherIf : Signature → List ℕ → List (Row Said) → List (Row Definition) → List (Row Ty) → List (Row Written) → Declaration → ModuleSigFault → Type 0
+IsLineOtherIf own text said defs given rows (Kinds names n) e = Unit {0}
+IsLineOtherIf own text said defs given rows (LocalKinds names count) e = Unit {0}
+IsLineOtherIf own text said defs given rows (Constants names ty) e = (f : SigFault) × (e ≡ blamed_by (exports_constant own) text f) × IsOtherIf text said defs given rows names.items ty f
+IsLineOtherIf own text said defs given rows (Locals names ty) e = AreLocalsOtherIf text said defs given rows names.items ty e
+IsLineOtherIf own text said defs given rows (Abbreviation name ps ty) e = (f : SigFault) × (e ≡ blamed_by (exports_kind own) text f) × IsOtherBodyIf text said defs name ps.items ty f
+IsLineOtherIf own text said defs given rows (Accumulate ws) e = Unit {0}
+IsLineOtherIf own text said defs given rows (AccumSig ws) e = Unit {0}
+IsLineOtherIf own text said defs given rows (Fixities names f n) e = Unit {0}
+
+-- what is told of a refusal at a sentence, behind those before it in the text: a constant that is declared otherwise is known, in the language, in the signatures or in these sentences, and where numbers are wanting none is left. Where the signatures are as texts have them, one that differs has another type than the known one, and an abbreviation another body than the first one of its name.
+pub record IsToldAt (own : Signature) (used : List Signature) (text : List ℕ) (lines : List Sentence) (before : List Declaration) (line : Declaration) (e : ModuleSigFault) : Type 0 where
+  pub names : HasLineCause own text ((constants_of own ++ of_each constants_of used) ++ constant_names_in text before) line e
+  pub types : AreOfTexts (own ∷ used) → IsLineOtherIf own text (said_in_module own used text lines)
+      (as_trees (trees_here (said_of own ++ of_each said_of used) (bodies_of own ++ of_each bodies_of used)) ++ definitions_in text (declarations lines))
+      (trees_here (said_of own ++ of_each said_of used) (types_of own ++ of_each types_of used)) (typed_in text before) line e
+
 -- Why the declarations of a module are refused, where its own signature and those that it names are these: want of memory alone is free.
 abbrev pub IsDeclarationRefusal : Signature → List Signature → List ℕ → List Sentence → ModuleSigFault → Type 0
-IsDeclarationRefusal own used text lines e = (e ≡ wrong.Sig fault.Memory) ⊎ IsFaultAmong own used text (seen_in_module own used text lines) (declarations lines) e
+IsDeclarationRefusal own used text lines e =
+    (e ≡ wrong.Sig fault.Memory) ⊎ ((f : IsFaultAmong own used text (seen_in_module own used text lines) (declarations lines) e) × IsToldAt own used text lines (take f.k (declarations lines)) f.line e)

@@ -23,7 +23,10 @@ ghost use Rattle.lp_sig.specs.Types.{Definition};
 ghost use Rattle.lp_sig.specs.Sighted.{GrowsBehind};
 ghost use Rattle.lp_sig.specs.ModuleFaults.{AreConstantsWrong, IsAbbreviationWrong};
 ghost use Rattle.lp_sig.specs.Worded.{HasWords};
+ghost use Rattle.lp_calculus.specs.Types.{Ty};
+ghost use Rattle.lp_sig.specs.Differing.{HasNameCause, IsOtherIf, IsOtherBodyIf};
 ghost use Rattle.lp_sig.specs.inner.Reading.{Reads};
+ghost use Rattle.lp_sig.specs.inner.Taking.{IsTaking, Takes};
 ghost use Rattle.lp_sig.specs.Constants.{Written, written_in, constants_by, constants_in, KnowsConstants, AreSettledIf, AreTypedIf, AreTakenConstants, HasFewVariables, IsConstantsFault};
 
 use crate::bodies::Bodies;
@@ -151,6 +154,9 @@ pub(crate) fn declare_constants(
     ensures declared { (from : ℕ) (z : Seen) (rows : List (Row Written)) → Knows names.now z.said → HoldsBodies bodies.old.types.bank bodies.old.bodies.items z.said z.definitions → AreSettledIf from z bodies.old.bodies.items → KnowsConstants bodies.old.types.bank constants.old z.said z.definitions rows → AreTypedIf from z rows constants.old → IfOk result (λ done. AreTypedIf from z (rows ++ each source.now (written_in source.now raw.now) spots.now) constants.new × AreTakenConstants from z rows (each source.now (written_in source.now raw.now) spots.now)) }
     ensures words { OnOk result ((words : List (List ℕ)) → HasWords constants.old words → HasWords constants.new (words ++ map (λ s. spelled source.now s) spots.now)) }
     ensures reads { OnOk result (Reads names.now bodies.old constants.old bodies.new constants.new (each source.now (written_in source.now raw.now) spots.now) (map (λ s. spelled source.now s) spots.now)) }
+    ensures full { (said : List (Row Said)) (words : List (List ℕ)) → Knows names.now said → HasWords constants.old words → IfErr result (HasNameCause source.now words spots.now) }
+    ensures other { (said : List (Row Said)) (defs : List (Row Definition)) (given : List (Row Ty)) (rows : List (Row Written)) (words : List (List ℕ)) → IsTaking names.now bodies.old constants.old said defs given rows words → IfErr result (IsOtherIf source.now said defs given rows spots.now raw.now) }
+    ensures takes { OnOk result (Takes names.now bodies.old constants.old bodies.new constants.new (each source.now (written_in source.now raw.now) spots.now) (map (λ s. spelled source.now s) spots.now)) }
 {
     check_lengths(source, spots)?;
     let declared = bodies.scheme(names, source, raw)?;
@@ -171,6 +177,7 @@ impl Bodies {
     ) -> Result<(), SigFault>
         ensures why { (z : Seen) → Sees names.now (map (λ out. out.items) uses.now.ways.items) self.old.types.bank self.old.bodies.items z → IfErr result (IsAbbreviationFault source.now z name parameters.now raw.now) }
         ensures reason { (z : Seen) → Knows names.now z.said → KnowsUses (map (λ out. out.items) uses.now.ways.items) z → IfErr result (λ e. (e ≡ fault.Memory) ⊎ IsAbbreviationWrong source.now z name parameters.now raw.now e) }
+        ensures other { (said : List (Row Said)) (defs : List (Row Definition)) → Knows names.now said → HoldsBodies self.old.types.bank self.old.bodies.items said defs → IfErr result (IsOtherBodyIf source.now said defs name parameters.now raw.now) }
         ensures taken { IfOk result (λ done. IsShort source.now name × AreApart source.now parameters.now × (length parameters.now ≤ MAX_ARGUMENTS)) }
         ensures stand { (z : Seen) → Knows names.now z.said → KnowsUses (map (λ out. out.items) uses.now.ways.items) z → IfOk result (λ done. IsSoundAbbreviation source.now z name parameters.now raw.now) }
         ensures same { (from : ℕ) (z : Seen) → Sees names.now (map (λ out. out.items) uses.now.ways.items) self.old.types.bank self.old.bodies.items z → AreSettledIf from z self.old.bodies.items → IfOk result (λ done. HasFirstBody from source.now z name parameters.now raw.now) }
@@ -204,6 +211,7 @@ impl Making {
     ) -> Result<(), SigFault>
         ensures why { (z : Seen) → Sees self.old.names (map (λ out. out.items) self.old.uses.ways.items) self.old.bodies.types.bank self.old.bodies.bodies.items z → IfErr result (IsAbbreviationFault source.now z name parameters.now raw.now) }
         ensures reason { (z : Seen) → Knows self.old.names z.said → KnowsUses (map (λ out. out.items) self.old.uses.ways.items) z → IfErr result (λ e. (e ≡ fault.Memory) ⊎ IsAbbreviationWrong source.now z name parameters.now raw.now e) }
+        ensures other { (said : List (Row Said)) (defs : List (Row Definition)) → Knows self.old.names said → HoldsBodies self.old.bodies.types.bank self.old.bodies.bodies.items said defs → IfErr result (IsOtherBodyIf source.now said defs name parameters.now raw.now) }
         ensures taken { IfOk result (λ done. IsShort source.now name × AreApart source.now parameters.now × (length parameters.now ≤ MAX_ARGUMENTS)) }
         ensures stand { (z : Seen) → Knows self.old.names z.said → KnowsUses (map (λ out. out.items) self.old.uses.ways.items) z → IfOk result (λ done. IsSoundAbbreviation source.now z name parameters.now raw.now) }
         ensures same { (from : ℕ) (z : Seen) → Sees self.old.names (map (λ out. out.items) self.old.uses.ways.items) self.old.bodies.types.bank self.old.bodies.bodies.items z → AreSettledIf from z self.old.bodies.bodies.items → IfOk result (λ done. HasFirstBody from source.now z name parameters.now raw.now) }

@@ -1,14 +1,15 @@
 -- What is kept of signatures that were seen, and what a sight of one tells: types here are those of their names, with the numbers that kinds have here.
 use Rattle.std.specs.Prelude.{◌≡◌, ◌+◌, ◌<◌, ◌≤◌, ◌⊎◌, ℕ, Bool, All, false, List, [], ◌∷◌, ◌++◌, length, nat_eq, Option, Some, None, slice_get, Contains, take, true}
 use Rattle.indexmap.specs.IndexMap.{IndexMap, get}
-use Rattle.lp_calculus.specs.Types.{Ty, Tys, var, param, con, arrow, no_types, types}
+use Rattle.lp_calculus.specs.Types.{Ty}
 use Rattle.lp_term.specs.Nodes.{Nodes, type_tree}
 use Rattle.lp_term.specs.declared.node.TypeId.{TypeId}
 use Rattle.lp_base.specs.declared.limits.TheConstants.{END_OF_NUMBERS}
 use Rattle.lp_sig.specs.Abbreviations.{abbreviation_names}
 use Rattle.lp_sig.specs.AsWritten.{bodies_of}
 use Rattle.lp_sig.specs.GoingTogether.{IsFirstWrong, IsNumbered, IsPastNumbers, KindsGo, IsOtherKind, HasNoKindNumber, AbbreviationsGo, IsOtherAbbreviation, ConstantsGo, IsOtherConstant, HasNoConstantNumber, types_of, standard_typed, constant_count, AreOfTexts, GoesWith, IsOtherwise, HasNoNumber}
-use Rattle.lp_sig.specs.Holding.{body_of}
+use Rattle.lp_sig.specs.Differing.{number_here, numbered_by}
+use Rattle.lp_sig.specs.Holding.{body_of, line_at}
 use Rattle.lp_sig.specs.Knowing.{Knows}
 use Rattle.lp_sig.specs.Modules.{of_each, said_of, constants_of}
 use Rattle.lp_sig.specs.Named.{NamedTy, NamedTys, named_var, named_param, named_con, named_arrow, no_named, more_named, named, named_in, kind_name, kind_names, IsWhole}
@@ -92,32 +93,11 @@ pub data IsNumberHere (said : List (Row Said)) (name : List ℕ) (n : ℕ) : Typ
   of_kind : (c : ℕ) → meaning_of name said ≡ Some (a_kind c) → kind_number_of name said ≡ Some n → IsNumberHere said name n
   of_no_kind : (p : ℕ) → meaning_of name said ≡ Some (an_abbreviation p) → n ≡ 4294967295 → IsNumberHere said name n
 
-abbrev pub number_for : Option Said → Option ℕ → ℕ
-number_for None o = 4294967295
-number_for (Some (an_abbreviation p)) o = 4294967295
-number_for (Some (a_kind c)) None = 4294967295
-number_for (Some (a_kind c)) (Some n) = n
-
-abbrev pub number_here : List (Row Said) → Option (List ℕ) → ℕ
-number_here said None = 4294967295
-number_here said (Some name) = number_for (meaning_of name said) (kind_number_of name said)
-
 abbrev pub HasNumberHere : List (Row Said) → Option (List ℕ) → Type 0
 HasNumberHere said None = ⊥
 HasNumberHere said (Some name) = IsNumberHere said name (number_here said (Some name))
 
--- a type with numbers for the names of its kinds, and what holds of each of these names
-abbrev mutual
-  pub numbered_by : (Option (List ℕ) → ℕ) → NamedTy → Ty
-  numbered_by ν (named_var x) = var x
-  numbered_by ν (named_param k) = param k
-  numbered_by ν (named_con o ts) = con (ν o) (all_numbered ν ts)
-  numbered_by ν (named_arrow a b) = arrow (numbered_by ν a) (numbered_by ν b)
-
-  pub all_numbered : (Option (List ℕ) → ℕ) → NamedTys → Tys
-  all_numbered ν no_named = no_types
-  all_numbered ν (more_named t ts) = types (numbered_by ν t) (all_numbered ν ts)
-
+-- what holds of each name of a kind of a type
 abbrev mutual
   pub EachKind : (Option (List ℕ) → Type 0) → NamedTy → Type 0
   EachKind P (named_var x) = Unit {0}
@@ -231,6 +211,7 @@ pub record AreBodiesHere (b : Nodes) (bodies : List Body) (said : List (Row Said
   pub are : (name : List ℕ) (place : ℕ) → first_place name (abbreviation_names said) ≡ Some place → IsBodyHere b bodies said rows name place
   pub count : length bodies ≡ length (abbreviation_names said)
   pub told : (n : List ℕ) → is_among n (names_in rows) ≡ true → is_among n (names_in said) ≡ true
+  pub no_line : (i : ℕ) → line_at bodies i ≡ None
 
 pub record CanSeeBodies (b : Nodes) (bodies : List Body) (u : Signature) (said : List (Row Said)) (rows : List (Row NamedTy)) (made : List TypeId) (es : List AbbreviationEntry) : Type 0 where
   pub given : AreBodiesHere b bodies said rows

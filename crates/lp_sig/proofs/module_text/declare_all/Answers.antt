@@ -16,7 +16,8 @@ use Rattle.lp_sig.specs.Knowing.{Knows}
 use Rattle.lp_sig.specs.ModuleFaults.{IsLineTaken, IsFaultAmong}
 use Rattle.lp_sig.specs.declared.fault.SigFault.TheVariants as fault
 use Rattle.lp_sig.specs.declared.module_fault.ModuleSigFault.TheVariants as wrong
-use Rattle.lp_sig.proofs.Refusing.{fault_among}
+use Rattle.lp_sig.specs.inner.Taking.{IsTaking, TakesOn, IsCausedFrom}
+use Rattle.lp_sig.proofs.Taking.{takes_same, takes_so, caused_among}
 use Rattle.lp_sig.proofs.module_text.declare_all.Goals as goal
 
 pub loop-at-init : goal.loop-at-init
@@ -35,6 +36,7 @@ loop-at-init c = record {
   uses = refl;
   kept = refl;
   reads = reads_same c.args.making.now;
+  takes = takes_same c.args.making.now;
 }
 
 pub loop-at-preserved : goal.loop-at-preserved
@@ -75,6 +77,16 @@ loop-at-preserved c =
           (subst (ReadsOn c.args.making.now new (typed_in text before ++ typed_in text this)) (sym (constants_append text before this))
           (reads_so c.args.making.now c.loop-at.making new (typed_in text before) (typed_in text this) (constant_names_in text before) (constant_names_in text this)
           c.loop-at.invariant.names c.in_ok-declare_sentence.ensures.grown.bank c.in_ok-declare_sentence.ensures.grown.constants c.loop-at.invariant.reads c.in_ok-declare_sentence.ensures.reads)));
+      takes =
+          let before = declarations (take c.loop-at.at lines) in
+          let this = declarations (c.index.result.now ∷ []) in
+          let new = c.declare_sentence.new.making in
+          subst (λ ds. TakesOn c.args.making.now new (typed_in text ds) (constant_names_in text ds))
+          (lines_at lines c.loop-at.at c.index.result.now (omega (arith, c.loop-at-test.true, c.len-at-end.ensures, c.args.text.now.lines.ok)) c.index.ensures)
+          (subst (λ r. TakesOn c.args.making.now new r (constant_names_in text (before ++ this))) (sym (typed_append text before this))
+          (subst (TakesOn c.args.making.now new (typed_in text before ++ typed_in text this)) (sym (constants_append text before this))
+          (takes_so c.args.making.now c.loop-at.making new (typed_in text before) (typed_in text this) (constant_names_in text before) (constant_names_in text this)
+          c.loop-at.invariant.names c.loop-at.invariant.takes c.in_ok-declare_sentence.ensures.takes)));
     }
 
 pub returns-clause-words : goal.returns-clause-words
@@ -93,13 +105,22 @@ returns-clause-alike c = λ signatures modules h k.
     (c.loop-at.invariant.alike signatures modules h k)
 
 pub returns-in_err-declare_sentence-clause-refused : goal.returns-in_err-declare_sentence-clause-refused
-returns-in_err-declare_sentence-clause-refused c = λ used z given k u hk hc.
+returns-in_err-declare_sentence-clause-refused c = λ used z words given k u hk hc h.
+    let own = c.args.lines.now.own.now in
+    let text = c.args.lines.now.source.now in
     let lines = c.args.text.now.lines.items in
-    passed_up c.from_residual.result c.in_err-declare_sentence.field-0.0 (λ e. (e ≡ wrong.Sig fault.Memory) ⊎ IsFaultAmong c.args.lines.now.own.now used
-    c.args.lines.now.source.now z (declarations lines) e) c.from_residual.ensures.1
-    (fault_among c.args.lines.now.own.now used c.args.lines.now.source.now z lines c.loop-at.at c.index.result.now c.in_err-declare_sentence.field-0.0 (wrong.Sig fault.Memory)
+    let before = declarations (take c.loop-at.at lines) in
+    let known = subst (λ n. Knows n z.said) (sym c.loop-at.invariant.names) k in
+    let e = c.in_err-declare_sentence.field-0.0 in
+    passed_up c.from_residual.result e (λ e. (e ≡ wrong.Sig fault.Memory) ⊎ ((f : IsFaultAmong own used text z (declarations lines) e) × IsCausedFrom c.args.making.now own text z.said words (take f.k (declarations lines)) f.line e)) c.from_residual.ensures.1
+    (caused_among own used text z lines c.loop-at.at c.index.result.now e (wrong.Sig fault.Memory) (IsCausedFrom c.args.making.now own text z.said words)
     (omega (arith, c.loop-at-test.true, c.len-at-end.ensures, c.args.text.now.lines.ok)) c.index.ensures (c.loop-at.invariant.taken used z (declarations lines) given k u hk hc)
-    (c.in_err-declare_sentence.ensures.refused used z (declarations lines) given (subst (λ n. Knows n z.said) (sym c.loop-at.invariant.names) k) (subst (λ v. KnowsUses (map (λ out. out.items) v.ways.items) z) (sym c.loop-at.invariant.uses) u) hk hc))
+    (λ d is. record {
+      full = c.in_err-declare_sentence.ensures.full z.said (words ++ constant_names_in text before) known (c.loop-at.invariant.words words h) d is;
+      other = λ defs given rows r. c.in_err-declare_sentence.ensures.other z.said defs given (rows ++ typed_in text before) (words ++ constant_names_in text before)
+          (subst (λ n. IsTaking n c.loop-at.making.bodies c.loop-at.making.constants z.said defs given (rows ++ typed_in text before) (words ++ constant_names_in text before)) (sym c.loop-at.invariant.names) (c.loop-at.invariant.takes z.said defs given rows words r)) d is;
+    })
+    (c.in_err-declare_sentence.ensures.refused used z (declarations lines) given known (subst (λ v. KnowsUses (map (λ out. out.items) v.ways.items) z) (sym c.loop-at.invariant.uses) u) hk hc))
 
 pub returns-clause-kept : goal.returns-clause-kept
 returns-clause-kept c = c.loop-at.invariant.kept
@@ -112,3 +133,9 @@ returns-clause-reads c =
     subst (λ ls. ReadsOn c.args.making.now c.loop-at.making (typed_in c.args.lines.now.source.now (declarations ls)) (constant_names_in c.args.lines.now.source.now (declarations ls)))
     (take_all c.loop-at.at c.args.text.now.lines.items (omega (arith, c.loop-at-test.false, c.len-at-end.ensures, c.args.text.now.lines.ok)))
     c.loop-at.invariant.reads
+
+pub returns-clause-takes : goal.returns-clause-takes
+returns-clause-takes c =
+    subst (λ ls. TakesOn c.args.making.now c.loop-at.making (typed_in c.args.lines.now.source.now (declarations ls)) (constant_names_in c.args.lines.now.source.now (declarations ls)))
+    (take_all c.loop-at.at c.args.text.now.lines.items (omega (arith, c.loop-at-test.false, c.len-at-end.ensures, c.args.text.now.lines.ok)))
+    c.loop-at.invariant.takes

@@ -1,4 +1,5 @@
 use Rattle.lp_sig.specs.inner.Reading.{ReadsOn}
+use Rattle.lp_sig.specs.inner.Taking.{TakesOn}
 use Rattle.lp_sig.specs.AsWritten.{typed_in}
 use Rattle.std.proofs.Common.{◌≡◌, ℕ, List, map, take, ◌++◌}
 use Rattle.lp_sig.specs.Modules.{declarations, constant_names_in}
@@ -28,4 +29,5 @@ invariant-loop-at l = record {
   uses : l.making.uses ≡ l.fn.making.uses;
   kept : l.making.bodies.bodies ≡ l.fn.making.bodies.bodies;
   reads : ReadsOn l.fn.making l.making (typed_in l.lines.source.now (declarations (take l.at l.text.lines.items))) (constant_names_in l.lines.source.now (declarations (take l.at l.text.lines.items)));
+  takes : TakesOn l.fn.making l.making (typed_in l.lines.source.now (declarations (take l.at l.text.lines.items))) (constant_names_in l.lines.source.now (declarations (take l.at l.text.lines.items)));
 }

@@ -11,6 +11,8 @@ use Rattle.std.specs.Prelude.{All}
 use Rattle.std.proofs.lemmas.List.Elements.{All-push}
 use Rattle.std.proofs.lemmas.Result.{IfErr-weaker, IfOk-weaker}
 use Rattle.lp_sig.specs.ModuleFaults.{IsLineTaken}
+use Rattle.lp_sig.specs.ModuleFaults.{HasLineCause, IsLineOtherIf}
+use Rattle.lp_sig.proofs.Taking.{one_declared, sentence_taken, none_taken}
 use Rattle.lp_sig.proofs.module_text.declare_sentence.Goals as goal
 
 pub returns-in-Declares-clause-words : goal.returns-in-Declares-clause-words
@@ -55,3 +57,17 @@ returns-in-Declares-clause-reads c = on_ok_weaker c.declare.result (λ h. senten
 
 pub returns-in-Says-clause-reads : goal.returns-in-Says-clause-reads
 returns-in-Says-clause-reads c = no_types_said c.args.making.now c.args.lines.now.source.now c.args.sentence.now _ c.in-Says.is
+
+pub returns-in-Declares-clause-full : goal.returns-in-Declares-clause-full
+returns-in-Declares-clause-full c = λ said words k h d is. IfErr-weaker c.declare.result _ _
+    (λ e f. subst (λ d. HasLineCause c.args.lines.now.own.now c.args.lines.now.source.now words d e) (one_declared c.args.sentence.now c.in-Declares.declaration d c.in-Declares.is is) f) (c.declare.ensures.full said words k h)
+
+pub returns-in-Declares-clause-other : goal.returns-in-Declares-clause-other
+returns-in-Declares-clause-other c = λ said defs given rows words r d is. IfErr-weaker c.declare.result _ _
+    (λ e f. subst (λ d. IsLineOtherIf c.args.lines.now.own.now c.args.lines.now.source.now said defs given rows d e) (one_declared c.args.sentence.now c.in-Declares.declaration d c.in-Declares.is is) f) (c.declare.ensures.other said defs given rows words r)
+
+pub returns-in-Declares-clause-takes : goal.returns-in-Declares-clause-takes
+returns-in-Declares-clause-takes c = on_ok_weaker c.declare.result (λ h. sentence_taken c.args.making.now c.declare.new.making c.args.lines.now.source.now c.args.sentence.now c.in-Declares.declaration c.in-Declares.is h) c.declare.ensures.takes
+
+pub returns-in-Says-clause-takes : goal.returns-in-Says-clause-takes
+returns-in-Says-clause-takes c = none_taken c.args.making.now c.args.lines.now.source.now c.args.sentence.now _ c.in-Says.is

@@ -72,3 +72,7 @@ returns-clause-uses c = λ z k u.
 pub returns-clause-told : goal.returns-clause-told
 returns-clause-told c = λ start. c.in_ok-sights.ensures.told (c.args.own.now ∷ [])
     (knows_parts c.see.new.self c.see_fixities.new.self (c.args.own.now ∷ []) c.see_fixities.ensures.names c.see_fixities.ensures.bodies c.see_fixities.ensures.constants (c.in_ok-see.ensures.stays [] start))
+
+pub returns-clause-stays : goal.returns-clause-stays
+returns-clause-stays c = λ start. c.in_ok-sights.ensures.stays (c.args.own.now ∷ [])
+    (knows_parts c.see.new.self c.see_fixities.new.self (c.args.own.now ∷ []) c.see_fixities.ensures.names c.see_fixities.ensures.bodies c.see_fixities.ensures.constants (c.in_ok-see.ensures.stays [] start))

@@ -124,3 +124,6 @@ returns-clause-given c = λ ordered whole alike.
 
 pub returns-clause-told : goal.returns-clause-told
 returns-clause-told c = c.loop-at.invariant.told
+
+pub returns-clause-stays : goal.returns-clause-stays
+returns-clause-stays c = λ before k. subst (λ ss. KnowsBefore c.loop-at.making (before ++ ss)) (take_all c.loop-at.at c.args.used.now c.loop-at-test.false) (c.loop-at.invariant.before before k)

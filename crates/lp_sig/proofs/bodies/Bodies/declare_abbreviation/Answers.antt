@@ -16,6 +16,8 @@ use Rattle.lp_sig.proofs.SoundSentences.{uses_settled}
 use Rattle.lp_sig.proofs.Sentences.{abbreviation_repeated, abbreviation_word}
 use Rattle.std.specs.Prelude.{◌⊎◌}
 use Rattle.lp_sig.specs.ModuleFaults as faults
+use Rattle.lp_sig.specs.Differing.{IsOtherBodyIf}
+use Rattle.lp_sig.proofs.Taking.{word_not_other, repeated_if}
 use Rattle.lp_sig.proofs.bodies.Bodies.declare_abbreviation.Goals as goal
 
 pub returns-in_err-place-clause-why : goal.returns-in_err-place-clause-why
@@ -172,3 +174,37 @@ returns-then-has_other_body-clause-reason c = λ z k u.
           c.as_slice.result.now u (c.in_ok-place.ensures.place z.said k) (c.as_slice.ensures.value ∙ c.in_ok-words.ensures z.said k)
           (c.in_ok-lead_to.ensures.none c.if-branch.false);
     }) (c.in_ok-body.ensures.stand z.said (parameters_of c.args.source.now c.args.parameters.now) k c.in_ok-variables.ensures.held))
+
+pub returns-in_err-place-clause-other : goal.returns-in_err-place-clause-other
+returns-in_err-place-clause-other c = λ said defs k h. passed_up c.from_residual.result c.in_err-place.field-0.0 (IsOtherBodyIf c.args.source.now said defs c.args.name c.args.parameters.now c.args.raw.now) c.from_residual.ensures.1 (λ is. inl (c.in_err-place.ensures.why said k))
+
+pub returns-in_err-words-clause-other : goal.returns-in_err-words-clause-other
+returns-in_err-words-clause-other c = λ said defs k h. passed_up c.from_residual-in_err-words.result fault.Memory (IsOtherBodyIf c.args.source.now said defs c.args.name c.args.parameters.now c.args.raw.now) c.from_residual-in_err-words.ensures.1 (λ is. absurd (cc))
+
+pub returns-in_err-lead_to-clause-other : goal.returns-in_err-lead_to-clause-other
+returns-in_err-lead_to-clause-other c = λ said defs k h. passed_up c.from_residual-in_err-lead_to.result fault.Memory (IsOtherBodyIf c.args.source.now said defs c.args.name c.args.parameters.now c.args.raw.now) c.from_residual-in_err-lead_to.ensures.1 (λ is. absurd (cc))
+
+pub returns-then-branch-clause-other : goal.returns-then-branch-clause-other
+returns-then-branch-clause-other c = λ said defs k h is. absurd (cc)
+
+pub returns-in_err-variables-clause-other : goal.returns-in_err-variables-clause-other
+returns-in_err-variables-clause-other c = λ said defs k h. passed_up c.from_residual-in_err-variables.result c.in_err-variables.field-0.0 (IsOtherBodyIf c.args.source.now said defs c.args.name c.args.parameters.now c.args.raw.now) c.from_residual-in_err-variables.ensures.1
+    (repeated_if c.args.source.now said defs c.args.name c.args.parameters.now c.args.raw.now c.in_err-variables.field-0.0 c.in_err-variables.ensures.repeated)
+
+pub returns-then-parameters-gt-MAX_ARGUMENTS-clause-other : goal.returns-then-parameters-gt-MAX_ARGUMENTS-clause-other
+returns-then-parameters-gt-MAX_ARGUMENTS-clause-other c = λ said defs k h is. absurd (cc)
+
+pub returns-in_err-body-clause-other : goal.returns-in_err-body-clause-other
+returns-in_err-body-clause-other c = λ said defs k h.
+    let ps = c.args.parameters.now in
+    passed_up c.from_residual-in_err-body.result c.in_err-body.field-0.0 (IsOtherBodyIf c.args.source.now said defs c.args.name c.args.parameters.now c.args.raw.now) c.from_residual-in_err-body.ensures.1
+    (λ is. absurd (word_not_other c.args.source.now said (parameters_of c.args.source.now ps) c.args.raw.now.nodes.items c.in_err-body.field-0.0 c.args.name (c.in_err-body.ensures.first said (parameters_of c.args.source.now ps) k c.in_ok-variables.ensures.held) is))
+
+pub returns-then-has_other_body-clause-other : goal.returns-then-has_other_body-clause-other
+returns-then-has_other_body-clause-other c = λ said defs k h is.
+    let ps = c.args.parameters.now in
+    let b = c.expand.new.self in
+    let o = c.has_other_body.ensures.other c.if-has_other_body.true in
+    inr (inr (other_body b.types.bank b.bodies.items said defs c.args.source.now c.args.name ps c.args.raw.now c.in_ok-place.place o.0 o.1 c.in_ok-body.body
+    (bodies_stay c.args.self.now.types.bank b.types.bank c.args.self.now.bodies.items b.bodies.items said defs c.expand.ensures.kept (ap (λ v. v.items) c.expand.ensures.bodies) h) (c.in_ok-place.ensures.place said k) o.2 o.3
+    (c.in_ok-body.ensures.body said defs ps k h c.in_ok-variables.ensures.numbered) o.4))

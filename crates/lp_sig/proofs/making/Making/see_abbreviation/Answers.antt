@@ -59,7 +59,7 @@ returns-then-fresh-clause-here c = λ said rows t k g made.
     let h = made c.in_ok-body.body c.in_ok-body.ensures in
     let fresh : is_known e.name.items said ≡ false = ap (λ w. is_known w said) (sym c.as_slice.ensures.value) ∙ sym (c.in_ok-fresh.ensures.fresh said k) ∙ ap not c.if-fresh.true in
     subst (λ x. AreBodiesHere x.bank c.add.new.self.bodies.items (said ++ (e.name.items, an_abbreviation e.type_vars) ∷ []) (rows ++ (e.name.items, t) ∷ [])) (sym c.add.ensures.types)
-    (body_new b c.args.self.now.bodies.bodies.items c.add.new.self.bodies.items said rows e.name.items e.type_vars t g c.in_ok-body.body None fresh c.in_ok-add.ensures.items h.0 h.1)
+    (body_new b c.args.self.now.bodies.bodies.items c.add.new.self.bodies.items said rows e.name.items e.type_vars t g c.in_ok-body.body fresh c.in_ok-add.ensures.items h.0 h.1)
 
 pub returns-clause-here : goal.returns-clause-here
 returns-clause-here c = on_ok_always c.sight_of_abbreviation.result _ (λ said rows t k g made.

@@ -19,6 +19,9 @@ use Rattle.lp_sig.specs.Words.{IsKindsFault, AreMeant, AreNumbered, IsSoundType}
 use Rattle.lp_sig.specs.Modules.{constant_names_in}
 use Rattle.lp_sig.specs.ModuleFaults.{exports_kind, exports_constant, blamed_by, kind_names_in, AreLocalKindsRefused, AreLocalKindsTaken, AreConstantsWrong, AreLocalsRefused, AreLocalsTaken, IsAbbreviationWrong, AreModulesRefused, AreModulesTaken, AreSignaturesRefused, AreSignaturesTaken, IsLineFault, IsLineTaken}
 use Rattle.lp_sig.specs.declared.fault.SigFault.{SigFault}
+use Rattle.lp_sig.specs.Differing.{HasNameCause, IsOtherIf, IsOtherBodyIf}
+use Rattle.lp_sig.specs.ModuleFaults.{HaveLocalsCause, AreLocalsOtherIf, HasLineCause, IsLineOtherIf}
+use Rattle.lp_sig.proofs.Taking.{err_with, its_taken, takes_same, takes_none}
 use Rattle.lp_sig.proofs.module_lines.ModuleLines.declare.Goals as goal
 
 pub returns-in-Kinds-clause-words : goal.returns-in-Kinds-clause-words
@@ -225,3 +228,81 @@ returns-in-Locals-clause-reads c = on_ok_weaker c.locals_typed.result (λ h. its
 pub returns-in-Abbreviation-clause-reads : goal.returns-in-Abbreviation-clause-reads
 returns-in-Abbreviation-clause-reads c = on_ok_weaker c.abbreviation.result (λ grown. its_types c.args.making.now c.abbreviation.new.making c.args.self.now.source.now c.args.declaration.now _ [] [] c.in-Abbreviation.is refl refl
     (reads_none c.args.making.now.names c.args.making.now.bodies c.abbreviation.new.making.bodies c.args.making.now.constants c.abbreviation.new.making.constants grown.bank c.abbreviation.ensures.kept c.abbreviation.ensures.constants)) c.abbreviation.ensures.grown
+
+pub returns-in-Kinds-clause-full : goal.returns-in-Kinds-clause-full
+returns-in-Kinds-clause-full c = λ said words k h. err_with c.kinds.result _ (λ e. subst (λ d. HasLineCause c.args.self.now.own.now c.args.self.now.source.now words d e) (sym c.in-Kinds.is) tt)
+
+pub returns-in-Kinds-clause-other : goal.returns-in-Kinds-clause-other
+returns-in-Kinds-clause-other c = λ said defs given rows words r. err_with c.kinds.result _ (λ e. subst (λ d. IsLineOtherIf c.args.self.now.own.now c.args.self.now.source.now said defs given rows d e) (sym c.in-Kinds.is) tt)
+
+pub returns-in-Kinds-clause-takes : goal.returns-in-Kinds-clause-takes
+returns-in-Kinds-clause-takes c = on_ok_always c.kinds.result _ (its_taken c.args.making.now c.args.making.now c.args.self.now.source.now c.args.declaration.now _ [] [] c.in-Kinds.is refl refl (takes_same c.args.making.now))
+
+pub returns-in-LocalKinds-clause-full : goal.returns-in-LocalKinds-clause-full
+returns-in-LocalKinds-clause-full c = λ said words k h. err_with c.local_kinds_of.result _ (λ e. subst (λ d. HasLineCause c.args.self.now.own.now c.args.self.now.source.now words d e) (sym c.in-LocalKinds.is) tt)
+
+pub returns-in-LocalKinds-clause-other : goal.returns-in-LocalKinds-clause-other
+returns-in-LocalKinds-clause-other c = λ said defs given rows words r. err_with c.local_kinds_of.result _ (λ e. subst (λ d. IsLineOtherIf c.args.self.now.own.now c.args.self.now.source.now said defs given rows d e) (sym c.in-LocalKinds.is) tt)
+
+pub returns-in-LocalKinds-clause-takes : goal.returns-in-LocalKinds-clause-takes
+returns-in-LocalKinds-clause-takes c = on_ok_always c.local_kinds_of.result _ (its_taken c.args.making.now c.args.making.now c.args.self.now.source.now c.args.declaration.now _ [] [] c.in-LocalKinds.is refl refl (takes_same c.args.making.now))
+
+pub returns-in-Abbreviation-clause-full : goal.returns-in-Abbreviation-clause-full
+returns-in-Abbreviation-clause-full c = λ said words k h. err_with c.abbreviation.result _ (λ e. subst (λ d. HasLineCause c.args.self.now.own.now c.args.self.now.source.now words d e) (sym c.in-Abbreviation.is) tt)
+
+pub returns-in-Abbreviation-clause-other : goal.returns-in-Abbreviation-clause-other
+returns-in-Abbreviation-clause-other c = λ said defs given rows words r. IfErr-weaker c.abbreviation.result _ _
+    (λ e f. subst (λ d. IsLineOtherIf c.args.self.now.own.now c.args.self.now.source.now said defs given rows d e) (sym c.in-Abbreviation.is)
+    (subst (λ ns. (f : SigFault) × (e ≡ blamed_by (exports_kind c.args.self.now.own.now) c.args.self.now.source.now f) × IsOtherBodyIf c.args.self.now.source.now said defs c.in-Abbreviation.name ns c.in-Abbreviation.raw f) c.as_slice-in-Abbreviation.ensures.value f)) (c.abbreviation.ensures.other said defs r.knows r.holds)
+
+pub returns-in-Accumulate-clause-full : goal.returns-in-Accumulate-clause-full
+returns-in-Accumulate-clause-full c = λ said words k h. err_with c.accumulate.result _ (λ e. subst (λ d. HasLineCause c.args.self.now.own.now c.args.self.now.source.now words d e) (sym c.in-Accumulate.is) tt)
+
+pub returns-in-Accumulate-clause-other : goal.returns-in-Accumulate-clause-other
+returns-in-Accumulate-clause-other c = λ said defs given rows words r. err_with c.accumulate.result _ (λ e. subst (λ d. IsLineOtherIf c.args.self.now.own.now c.args.self.now.source.now said defs given rows d e) (sym c.in-Accumulate.is) tt)
+
+pub returns-in-Accumulate-clause-takes : goal.returns-in-Accumulate-clause-takes
+returns-in-Accumulate-clause-takes c = on_ok_always c.accumulate.result _ (its_taken c.args.making.now c.args.making.now c.args.self.now.source.now c.args.declaration.now _ [] [] c.in-Accumulate.is refl refl (takes_same c.args.making.now))
+
+pub returns-in-AccumSig-clause-full : goal.returns-in-AccumSig-clause-full
+returns-in-AccumSig-clause-full c = λ said words k h. err_with c.accum_sig.result _ (λ e. subst (λ d. HasLineCause c.args.self.now.own.now c.args.self.now.source.now words d e) (sym c.in-AccumSig.is) tt)
+
+pub returns-in-AccumSig-clause-other : goal.returns-in-AccumSig-clause-other
+returns-in-AccumSig-clause-other c = λ said defs given rows words r. err_with c.accum_sig.result _ (λ e. subst (λ d. IsLineOtherIf c.args.self.now.own.now c.args.self.now.source.now said defs given rows d e) (sym c.in-AccumSig.is) tt)
+
+pub returns-in-AccumSig-clause-takes : goal.returns-in-AccumSig-clause-takes
+returns-in-AccumSig-clause-takes c = on_ok_always c.accum_sig.result _ (its_taken c.args.making.now c.args.making.now c.args.self.now.source.now c.args.declaration.now _ [] [] c.in-AccumSig.is refl refl (takes_same c.args.making.now))
+
+pub returns-in-Abbreviation-clause-takes : goal.returns-in-Abbreviation-clause-takes
+returns-in-Abbreviation-clause-takes c = on_ok_weaker c.abbreviation.result (λ grown. its_taken c.args.making.now c.abbreviation.new.making c.args.self.now.source.now c.args.declaration.now _ [] [] c.in-Abbreviation.is refl refl
+    (takes_none c.args.making.now.names c.args.making.now.bodies c.abbreviation.new.making.bodies c.args.making.now.constants c.abbreviation.new.making.constants grown.bank c.abbreviation.ensures.kept c.abbreviation.ensures.constants)) c.abbreviation.ensures.grown
+
+pub returns-in-Fixities-clause-takes : goal.returns-in-Fixities-clause-takes
+returns-in-Fixities-clause-takes c = its_taken c.args.making.now c.args.making.now c.args.self.now.source.now c.args.declaration.now _ [] [] c.in-Fixities.is refl refl (takes_same c.args.making.now)
+
+pub returns-in-Constants-clause-full : goal.returns-in-Constants-clause-full
+returns-in-Constants-clause-full c = λ said words k h. IfErr-weaker c.constants.result _ _
+    (λ e f. subst (λ d. HasLineCause c.args.self.now.own.now c.args.self.now.source.now words d e) (sym c.in-Constants.is)
+    (subst (λ ns. (f : SigFault) × (e ≡ blamed_by (exports_constant c.args.self.now.own.now) c.args.self.now.source.now f) × HasNameCause c.args.self.now.source.now words ns f) c.as_slice-in-Constants.ensures.value f)) (c.constants.ensures.full said words k h)
+
+pub returns-in-Constants-clause-other : goal.returns-in-Constants-clause-other
+returns-in-Constants-clause-other c = λ said defs given rows words r. IfErr-weaker c.constants.result _ _
+    (λ e f. subst (λ d. IsLineOtherIf c.args.self.now.own.now c.args.self.now.source.now said defs given rows d e) (sym c.in-Constants.is)
+    (subst (λ ns. (f : SigFault) × (e ≡ blamed_by (exports_constant c.args.self.now.own.now) c.args.self.now.source.now f) × IsOtherIf c.args.self.now.source.now said defs given rows ns c.in-Constants.raw f) c.as_slice-in-Constants.ensures.value f)) (c.constants.ensures.other said defs given rows words r)
+
+pub returns-in-Constants-clause-takes : goal.returns-in-Constants-clause-takes
+returns-in-Constants-clause-takes c = on_ok_weaker c.constants.result (λ h. its_taken c.args.making.now c.constants.new.making c.args.self.now.source.now c.args.declaration.now _ _ _ c.in-Constants.is
+    (ap (λ ns. each c.args.self.now.source.now (written_in c.args.self.now.source.now c.in-Constants.raw) ns) c.as_slice-in-Constants.ensures.value) (ap (λ ns. map (λ s. spelled c.args.self.now.source.now s) ns) c.as_slice-in-Constants.ensures.value) h) c.constants.ensures.takes
+
+pub returns-in-Locals-clause-full : goal.returns-in-Locals-clause-full
+returns-in-Locals-clause-full c = λ said words k h. IfErr-weaker c.locals_typed.result _ _
+    (λ e f. subst (λ d. HasLineCause c.args.self.now.own.now c.args.self.now.source.now words d e) (sym c.in-Locals.is) (subst (λ ns. HaveLocalsCause c.args.self.now.source.now words ns c.in-Locals.raw e) c.as_slice-in-Locals.ensures.value f)) (c.locals_typed.ensures.full said words k h)
+
+pub returns-in-Locals-clause-other : goal.returns-in-Locals-clause-other
+returns-in-Locals-clause-other c = λ said defs given rows words r. IfErr-weaker c.locals_typed.result _ _
+    (λ e f. subst (λ d. IsLineOtherIf c.args.self.now.own.now c.args.self.now.source.now said defs given rows d e) (sym c.in-Locals.is) (subst (λ ns. AreLocalsOtherIf c.args.self.now.source.now said defs given rows ns c.in-Locals.raw e) c.as_slice-in-Locals.ensures.value f))
+    (c.locals_typed.ensures.other said defs given rows words r)
+
+pub returns-in-Locals-clause-takes : goal.returns-in-Locals-clause-takes
+returns-in-Locals-clause-takes c = on_ok_weaker c.locals_typed.result (λ h. its_taken c.args.making.now c.locals_typed.new.making c.args.self.now.source.now c.args.declaration.now _ _ _ c.in-Locals.is
+    (ap (λ ns. typed_locals c.args.self.now.source.now ns c.in-Locals.raw) c.as_slice-in-Locals.ensures.value) (ap (λ ns. local_names c.args.self.now.source.now ns c.in-Locals.raw) c.as_slice-in-Locals.ensures.value) h) c.locals_typed.ensures.takes
