@@ -116,15 +116,15 @@ returns-in_err-declare_all-clause-refused c =
     let k1 : Knows mid.names (said_in_module own used text lines) = c.in_ok-announce_all.ensures.names before k0 in
     let met : HasWords mid.constants words = subst (λ k. HasWords k words) (sym c.announce_all.ensures.constants) (c.in_ok-sights.ensures.words [] c.new-making.ensures.words) in
     let taking : AreOfTexts (own ∷ used) → IsTaking mid.names mid.bodies mid.constants (said_in_module own used text lines) defs types [] words = λ texts.
-        let h = (c.in_ok-sights.ensures.stays start).kept texts in
-        record {
-          knows = k1;
-          holds = c.in_ok-announce_all.ensures.bodies before (as_trees (trees_here before (bodies_of own ++ of_each bodies_of used))) k0
-              (given_bodies before first.bodies.types.bank first.bodies.bodies.items (bodies_of own ++ of_each bodies_of used) text (line_of_module lines) h.bodies);
-          met = met;
-          types = given_types before first.bodies.types.bank mid.bodies.types.bank mid.constants (types_of own ++ of_each types_of used) (said_in_module own used text lines) defs c.in_ok-announce_all.ensures.grown.bank
-              (subst (λ k. AreTypedHere first.bodies.types.bank k before (types_of own ++ of_each types_of used)) (sym c.announce_all.ensures.constants) h.constants);
-        } in
+    let h = (c.in_ok-sights.ensures.stays start).kept texts in
+    record {
+      knows = k1;
+      holds = c.in_ok-announce_all.ensures.bodies before (as_trees (trees_here before (bodies_of own ++ of_each bodies_of used))) k0
+          (given_bodies before first.bodies.types.bank first.bodies.bodies.items (bodies_of own ++ of_each bodies_of used) text (line_of_module lines) h.bodies);
+      met = met;
+      types = given_types before first.bodies.types.bank mid.bodies.types.bank mid.constants (types_of own ++ of_each types_of used) (said_in_module own used text lines) defs c.in_ok-announce_all.ensures.grown.bank
+          (subst (λ k. AreTypedHere first.bodies.types.bank k before (types_of own ++ of_each types_of used)) (sym c.announce_all.ensures.constants) h.constants);
+    } in
     passed_up c.from_residual-in_err-declare_all.result c.in_err-declare_all.field-0.0
     (IsDeclarationRefusal own used c.args.source.now c.args.text.now.lines.items)
     c.from_residual-in_err-declare_all.ensures.1

@@ -3,7 +3,6 @@ use Rattle.lp_sig.specs.Sighted.{GrowsBehind}
 use Rattle.lp_sig.proofs.KnownConstants.{grows_same}
 use Rattle.lp_sig.specs.ModuleFaults.{exports_kind, IsAbbreviationWrong}
 use Rattle.lp_sig.proofs.Refusing.{blamed_or}
-
 use Rattle.lp_sig.proofs.module_lines.ModuleLines.abbreviation.Goals as goal
 
 pub returns-in-Ok-clause-grown : goal.returns-in-Ok-clause-grown

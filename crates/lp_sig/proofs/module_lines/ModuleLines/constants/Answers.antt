@@ -1,6 +1,5 @@
 use Rattle.lp_sig.specs.ModuleFaults.{exports_constant, AreConstantsWrong}
 use Rattle.lp_sig.proofs.Refusing.{blamed_or}
-
 use Rattle.lp_sig.proofs.module_lines.ModuleLines.constants.Goals as goal
 
 pub returns-in-Ok-clause-words : goal.returns-in-Ok-clause-words
