@@ -8,7 +8,7 @@ use Rattle.lp_sig.specs.inner.Given.{GivesBodies}
 use Rattle.lp_sig.specs.AsWritten.{as_trees, typed_in, bodies_of}
 use Rattle.lp_sig.specs.Holding.{HoldsBodies, line_of_module}
 use Rattle.lp_sig.specs.Types.{definitions_in}
-use Rattle.std.proofs.Common.{◌+◌, ◌≤◌, refl, inl, inr, ⊎_elim, [], ◌∷◌, ◌++◌, ◌∙◌, length, get_or, sym, ap, subst, map, append_assoc, arith}
+use Rattle.std.proofs.Common.{◌≡◌, ◌+◌, ◌≤◌, refl, inl, inr, ⊎_elim, [], ◌∷◌, ◌++◌, ◌∙◌, length, get_or, sym, ap, subst, map, append_assoc, arith}
 use Rattle.std.proofs.lemmas.Option.{get_or_from_slice_get, same_Some, slice_get-get_or, slice_get_within}
 use Rattle.lp_base.specs.declared.limits.TheConstants.{END_OF_NUMBERS}
 use Rattle.lp_sig.specs.Rows.{fixity_row}
@@ -134,6 +134,18 @@ returns-in_err-declare_all-clause-refused c =
     k1
     (c.in_ok-announce_all.ensures.uses seen k0 (c.in_ok-sights.ensures.uses nothing_seen c.new-making.ensures.names (nothing_used (map (λ out. out.items) c.new-making.result.uses.ways.items) c.new-making.ensures.uses)))
     c.in_ok-said.ensures.kinds c.in_ok-said.ensures.constants met))
+
+pub returns-in_err-announce_all-clause-refused : goal.returns-in_err-announce_all-clause-refused
+returns-in_err-announce_all-clause-refused c =
+    passed_up c.from_residual-in_err-announce_all.result (wrong.Sig fault.Memory)
+    (IsDeclarationRefusal c.args.own.now c.args.used.now c.args.source.now c.args.text.now.lines.items)
+    c.from_residual-in_err-announce_all.ensures.1 (inl refl)
+
+pub returns-in_err-said-clause-refused : goal.returns-in_err-said-clause-refused
+returns-in_err-said-clause-refused c =
+    passed_up c.from_residual-in_err-said.result (wrong.Sig fault.Memory)
+    (IsDeclarationRefusal c.args.own.now c.args.used.now c.args.source.now c.args.text.now.lines.items)
+    c.from_residual-in_err-said.ensures.1 (inl refl)
 
 pub returns-in_err-signature-clause-refused : goal.returns-in_err-signature-clause-refused
 returns-in_err-signature-clause-refused c =
