@@ -38,4 +38,7 @@ pub mod Referred
 pub mod Joined
 pub mod TextModules
 pub mod OwnTypes
+pub mod KindsUnder
+pub mod Differing
+pub mod Under
 pub mod Unmaking

@@ -148,7 +148,7 @@ module _ (m : Module) (o : Object) (s : IsShaped m o) (c : program.Copy) (d : li
       ∙ ap (hidden_of (constants_of o)) (sym (twice (λ (k : ObjectConstant). scheme_in o.bank k.type_vars k.scheme.0) (moved_scheme (linked.map_of 0 d)) o.constants.items))
 
 -- copies
-paired_back : {A B : Type 0} (P : A → B → Type 0) (xs : List A) (ys : List B) → ArePaired P xs (length xs) ys → (i : ℕ) (y : B) → slice_get ys i ≡ Some y → (x : A) × (slice_get xs i ≡ Some x) × P x y
+pub paired_back : {A B : Type 0} (P : A → B → Type 0) (xs : List A) (ys : List B) → ArePaired P xs (length xs) ys → (i : ℕ) (y : B) → slice_get ys i ≡ Some y → (x : A) × (slice_get xs i ≡ Some x) × P x y
 paired_back P xs [] h i y e = absurd (cc)
 paired_back P [] (b ∷ ys) h i y e = absurd (let m = h.many in omega (arith, m))
 paired_back P (a ∷ xs) (b ∷ ys) h zero y e = (a, refl, subst (P a) (one_value (Some b) b y refl e) (paired_head P a xs (length (a ∷ xs)) b ys h))

@@ -17,21 +17,23 @@ use Rattle.lp_build.specs.Compiled.{ArePaired, HasNamesOf, IsModuleOfFile, IsObj
 use Rattle.lp_build.specs.Faults.{IsOfTexts}
 use Rattle.lp_build.specs.Limits.{HasFewNames, HasManyNames, IsUnmade, NamesFew, NamesMany}
 use Rattle.lp_build.specs.Meant.{AreModules}
+use Rattle.lp_build.specs.Reads.{AreRead}
 use Rattle.lp_build.specs.Refused.{AreWhole, IsModuleFault, no_memory}
 use Rattle.lp_build.specs.Uncoded.{IsUncoded, IsWithinCode}
-use Rattle.lp_build.specs.Unmade.{AreUnlinked, IsFirstUnmade, IsRefusedImage, IsRefusedObject, all_copies, no_image, no_link, no_meaning, no_object, no_texts, of_link, one_code, one_names, unlinked_memory}
+use Rattle.lp_build.specs.Unmade.{AreUnlinked, IsFirstUnmade, IsRefusedImage, IsRefusedObject, all_copies, no_image, no_link, no_meaning, no_object, no_texts, one_code, one_names, unlinked_memory}
 use Rattle.lp_build.specs.declared.build.Whole.{Whole}
 use Rattle.lp_build.specs.declared.fault.BuildFault.{BuildFault}
 use Rattle.lp_build.specs.declared.fault.BuildFault.TheVariants as fault
 use Rattle.lp_build.specs.declared.sources.File.{File}
 use Rattle.lp_build.specs.declared.sources.Sources.{Sources}
 use Rattle.lp_build.specs.declared.texts.Group.{Group}
-use Rattle.lp_build.specs.inner.Refusing.{IsRefusedOfFile, IsToldOf}
+use Rattle.lp_build.specs.inner.Refusing.{IsRefusedOfFile, IsToldOf, NeverDiffer, of_link}
 use Rattle.lp_build.specs.inner.Wholes.{IsWhole}
 use Rattle.lp_build.proofs.Causing.{err_as}
 use Rattle.lp_build.proofs.Imaging.{modules_within}
 use Rattle.lp_build.proofs.Refusing.{at_place}
 use Rattle.lp_build.proofs.Uncoding.{at_all}
+use Rattle.lp_build.proofs.Under.{never_for_a_name}
 
 -- how a refusal of linking is told
 pub link_texts : (r : LinkRefusal) → IsOfTexts (of_link r)
@@ -112,9 +114,11 @@ module _ (ms : List Module) where
       few_of m o (are.each k m o (l, get_or_default ms k m d l) at).names (at_all (λ (o : Object). HasFewNames (length o.kinds.items) (length o.constants.items)) os k o at few)
 
   pub link_layer : (os : List Object) (e : BuildFault) → All IsWithinCode ms → All NamesFew ms → ArePaired IsObjectOf ms (length ms) os
-      → (e ≡ fault.Memory) ⊎ ((root : ℕ) × (f : LinkRefusal) × (root + 1 ≡ length os) × IsLinkRefusal os root f × (e ≡ of_link f)) → AreUnlinked ms e
-  link_layer os e coded few are (inl m) = unlinked_memory m
-  link_layer os e coded few are (inr (root, f, last, h, is)) = no_link coded few os root f are (last ∙ are.many) h is
+      → NeverDiffer ms → (e ≡ fault.Memory) ⊎ ((root : ℕ) × (f : LinkRefusal) × (root + 1 ≡ length os) × IsLinkRefusal os root f × (e ≡ of_link f)) → AreUnlinked ms e
+  link_layer os e coded few are never (inl m) = unlinked_memory m
+  link_layer os e coded few are never (inr (root, link.Limit l, last, h, is)) = no_link coded few os root l are (last ∙ are.many) h is
+  link_layer os e coded few are never (inr (root, link.Differ number p, last, h, is)) = absurd (never os are root number p h)
+  link_layer os e coded few are never (inr (root, link.Memory, last, h, is)) = unlinked_memory is
 
-pub image_layer : (sources : Sources) (ms : List Module) (r : Result Image BuildFault) → AreModules sources ms → (All (λ m. AreWithin m.bank m.clauses.items) ms → IfErr r (AreUnlinked ms)) → IfErr r (IsRefusedImage sources)
-image_layer sources ms r are cause = err_as r (AreUnlinked ms) (IsRefusedImage sources) (λ e u. no_image ms are u) (cause (modules_within are.meanings.meanings))
+pub image_layer : (sources : Sources) (ms : List Module) (r : Result Image BuildFault) → AreRead sources → AreModules sources ms → (All (λ m. AreWithin m.bank m.clauses.items) ms → NeverDiffer ms → IfErr r (AreUnlinked ms)) → IfErr r (IsRefusedImage sources)
+image_layer sources ms r read are cause = err_as r (AreUnlinked ms) (IsRefusedImage sources) (λ e u. no_image ms are u) (cause (modules_within are.meanings.meanings) (never_for_a_name sources ms read are))

@@ -1,9 +1,9 @@
 -- Why a module has no object, and modules have no image: the first fault of their texts, layer by layer, or else of the modules, or else the first of the limits that are passed.
 use Rattle.std.specs.Prelude.{◌≡◌, ℕ, ◌+◌, List, length, take, All}
+use Rattle.lp_base.specs.declared.limit.Limit.{Limit}
 use Rattle.lp_base.specs.declared.limit.Limit.TheVariants as limit
 use Rattle.lp_code.specs.declared.object.Object.{Object}
 use Rattle.lp_link.specs.Refusals.{HasManyCopies, IsLinkRefusal}
-use Rattle.lp_link.specs.declared.fault.LinkRefusal.{LinkRefusal}
 use Rattle.lp_link.specs.declared.fault.LinkRefusal.TheVariants as link
 use Rattle.lp_syntax.specs.declared.text.ModuleText.{ModuleText}
 use Rattle.lp_syntax.specs.declared.text.SignatureText.{SignatureText}
@@ -37,12 +37,6 @@ pub data IsRefusedObject (sources : Sources) (number : ℕ) (e : BuildFault) : T
 
 -- images
 
--- how a refusal of linking is told: the objects of one set of texts never differ
-abbrev pub of_link : LinkRefusal → BuildFault
-of_link (link.Limit l) = fault.Limit l
-of_link (link.Differ number part) = fault.Memory
-of_link link.Memory = fault.Memory
-
 -- the first of these modules that has no code
 pub record IsFirstUnmade (modules : List Module) (e : BuildFault) : Type 0 where
   pub place : ℕ
@@ -58,13 +52,13 @@ pub record IsOneNamedMany (modules : List Module) : Type 0 where
   pub at : IsAt modules place «module»
   pub many : NamesMany «module»
 
--- why modules have no image: the limit on copies goes first, then those of the code of each, then the one on names, then those of what is linked from their objects, as lp_link has them
+-- why modules have no image: the limit on copies goes first, then those of the code of each, then the one on names, then those of what is linked from their objects, as lp_link has them. These never differ in a name
 pub data AreUnlinked (modules : List Module) (e : BuildFault) : Type 0 where
   all_copies : (named : List Object) (root : ℕ) → ArePaired HasNamesOf modules (length modules) named → root + 1 ≡ length modules → HasManyCopies named root → e ≡ fault.Limit limit.Copies → AreUnlinked modules e
   one_code : IsFirstUnmade modules e → AreUnlinked modules e
   one_names : All IsWithinCode modules → IsOneNamedMany modules → e ≡ fault.Limit limit.Names → AreUnlinked modules e
-  no_link : All IsWithinCode modules → All NamesFew modules → (objects : List Object) (root : ℕ) (f : LinkRefusal) → ArePaired IsObjectOf modules (length modules) objects → root + 1 ≡ length modules →
-      IsLinkRefusal objects root f → e ≡ of_link f → AreUnlinked modules e
+  no_link : All IsWithinCode modules → All NamesFew modules → (objects : List Object) (root : ℕ) (l : Limit) → ArePaired IsObjectOf modules (length modules) objects → root + 1 ≡ length modules →
+      IsLinkRefusal objects root (link.Limit l) → e ≡ fault.Limit l → AreUnlinked modules e
   unlinked_memory : e ≡ fault.Memory → AreUnlinked modules e
 
 -- Why files have no image: they have no modules, or else these have none.

@@ -104,7 +104,7 @@ pub(crate) fn told(refused: BuildFault) -> Result<(), BuildFault>
 // The objects of one set of texts never differ in a name.
 impl From<LinkRefusal> for BuildFault {
     ghost use Rattle.std.specs.Prelude.{◌≡◌};
-    ghost use Rattle.lp_build.specs.Unmade.{of_link};
+    ghost use Rattle.lp_build.specs.inner.Refusing.{of_link};
 
     ghost from_gives = { λ r e. e ≡ of_link r };
 

@@ -12,7 +12,8 @@ ghost use Rattle.lp_build.specs.Faults.{IsOfTexts};
 ghost use Rattle.lp_build.specs.Images.{IsImageOf};
 ghost use Rattle.lp_build.specs.Limits.{HasFewNames, HasManyNames};
 ghost use Rattle.lp_build.specs.Uncoded.{IsWithinCode};
-ghost use Rattle.lp_build.specs.Unmade.{AreUnlinked, IsFirstUnmade, of_link};
+ghost use Rattle.lp_build.specs.Unmade.{AreUnlinked, IsFirstUnmade};
+ghost use Rattle.lp_build.specs.inner.Refusing.{NeverDiffer, of_link};
 ghost use Rattle.lp_base.specs.declared.limit.Limit.TheVariants as limit;
 ghost use Rattle.lp_build.specs.declared.fault.BuildFault.TheVariants as fault;
 
@@ -103,7 +104,7 @@ fn within_copies(alloc: Global, objects: &Vec<Object>) -> Result<(), BuildFault>
 // The image of modules, the root last.
 pub(crate) fn image_of(alloc: Global, modules: Vec<Module>) -> Result<Image, BuildFault>
     ensures refused { IfErr result IsOfTexts }
-    ensures cause { All (λ m. AreWithin m.bank m.clauses.items) modules.items → IfErr result (AreUnlinked modules.items) }
+    ensures cause { All (λ m. AreWithin m.bank m.clauses.items) modules.items → NeverDiffer modules.items → IfErr result (AreUnlinked modules.items) }
     ensures image { All (λ m. AreWithin m.bank m.clauses.items) modules.items → IfOk result (IsImageOf modules.items) }
 {
     let named = all_names(alloc, &modules)?;

@@ -28,7 +28,7 @@ place_none a (suc n) k l =
     ap (λ b. if b then Some 0 else option_map (λ j. suc j) (place_in (range_with_len (a + 1) n) k)) (ne_eqb a k (λ e. omega (arith, l, e))) ∙
     ap (option_map (λ j. suc j)) (place_none (a + 1) n k (omega (arith, l)))
 
-place_at : (a n i k : ℕ) → i < n → k ≡ a + i → place_in (range_with_len a n) k ≡ Some i
+pub place_at : (a n i k : ℕ) → i < n → k ≡ a + i → place_in (range_with_len a n) k ≡ Some i
 place_at a zero i k l e = absurd (omega (arith, l))
 place_at a (suc n) zero k l e =
     let f : k ≡ a = omega (arith, e) in

@@ -214,7 +214,7 @@ module _ (uses : List (List Way)) (z : Seen) (n : List ℕ) (p : ℕ) (w : List 
   names_again : is_known n z.said ≡ true → abbreviation_names (z.said ++ (n, an_abbreviation p) ∷ []) ≡ abbreviation_names z.said
   names_again h = one_later [] (later_known h) ∙ append-nil (abbreviation_names z.said)
 
-  again : is_known n z.said ≡ true → KnowsUses uses (one_body z n p w)
+  pub again : is_known n z.said ≡ true → KnowsUses uses (one_body z n p w)
   again h = record {
     are = k.are ∙ same_uses ∙ ap (map (uses_of (z.bodies ++ (n, w) ∷ []))) (sym (names_again h));
     has = λ m e. more_bodies m (k.has m (ap (is_among m) (sym (names_again h)) ∙ e));
@@ -231,7 +231,7 @@ module _ (uses : List (List Way)) (z : Seen) (n : List ℕ) (p : ℕ) (w : List 
   names_new : is_known n z.said ≡ false → abbreviation_names (z.said ++ (n, an_abbreviation p) ∷ []) ≡ abbreviation_names z.said ++ n ∷ []
   names_new h = ap names_in (ap abbreviations_among (declared_new z.said (n, an_abbreviation p) h) ∙ heads_append (declared_names z.said) ((n, an_abbreviation p) ∷ [])) ∙ names_append (abbreviations_among (declared_names z.said)) ((n, p) ∷ [])
 
-  fresh : is_known n z.said ≡ false → (new : List (List Way)) → new ≡ uses ++ w ∷ [] → KnowsUses new (one_body z n p w)
+  pub fresh : is_known n z.said ≡ false → (new : List (List Way)) → new ≡ uses ++ w ∷ [] → KnowsUses new (one_body z n p w)
   fresh h new more = record {
     are = more ∙ ap (λ y. y ++ w ∷ []) (k.are ∙ same_uses) ∙ ap (λ y. map (uses_of (z.bodies ++ (n, w) ∷ [])) (abbreviation_names z.said) ++ y ∷ []) (sym (uses_new z.bodies n w (fresh_body h))) ∙
         sym (map-append (uses_of (z.bodies ++ (n, w) ∷ [])) (abbreviation_names z.said) (n ∷ [])) ∙ ap (map (uses_of (z.bodies ++ (n, w) ∷ []))) (sym (names_new h));
@@ -357,6 +357,18 @@ quiet uses z names text d h k =
     nothing_later : (rs : List (Row Said)) → abbreviations_among rs ≡ [] → later z.said rs ≡ []
     nothing_later rs e = ap names_in (kinds_first (known_after (names_in standard_kinds) z.said) rs e)
 
+-- rows without an abbreviation
+pub quiet_rows : (uses : List (List Way)) (z : Seen) (rows : List (Row Said)) → abbreviations_among rows ≡ [] → KnowsUses uses z → KnowsUses uses (record { said = z.said ++ rows; definitions = z.definitions; bodies = z.bodies })
+unfolding later
+quiet_rows uses z rows none k =
+    let same : abbreviation_names (z.said ++ rows) ≡ abbreviation_names z.said =
+    names_later z.said rows ∙ ap (λ y. abbreviation_names z.said ++ y) (ap names_in (kinds_first (known_after (names_in standard_kinds) z.said) rows none)) ∙ append-nil (abbreviation_names z.said) in
+    record {
+      are = k.are ∙ ap (map (uses_of z.bodies)) (sym same);
+      has = λ m e. k.has m (ap (is_among m) (sym same) ∙ e);
+      said = λ m e. ap (is_among m) (names_append z.said rows) ∙ among_append m (names_in z.said) (names_in rows) ∙ or_left (is_among m (names_in z.said)) (is_among m (names_in rows)) (k.said m e);
+    }
+
 -- one more word, node and sentence
 module _ (ns : List (List ℕ)) (text : List ℕ) (w : Spot) (old : List Way) where
   pub word_variable : begins_variable (spelled text w) ≡ true → old ≡ old ++ ways_in ns text (if begins_variable (spelled text w) then [] else w ∷ [])
@@ -389,7 +401,7 @@ nodes_more ns text nodes i d now new h is so more =
 abbrev pub seen_to : Seen → List ℕ → List Declaration → ℕ → Seen
 seen_to z text lines i = record { said = z.said ++ said_in text (take i lines); definitions = z.definitions; bodies = z.bodies ++ bodies_in (abbreviation_names (z.said ++ said_in text lines)) text (take i lines) }
 
-bodies_append : (ns : List (List ℕ)) (text : List ℕ) (xs ys : List Declaration) → bodies_in ns text (xs ++ ys) ≡ bodies_in ns text xs ++ bodies_in ns text ys
+pub bodies_append : (ns : List (List ℕ)) (text : List ℕ) (xs ys : List Declaration) → bodies_in ns text (xs ++ ys) ≡ bodies_in ns text xs ++ bodies_in ns text ys
 bodies_append ns text [] ys = refl
 bodies_append ns text (x ∷ xs) ys = ap (λ z. bodies_by ns text x ++ z) (bodies_append ns text xs ys) ∙ sym (append_assoc (bodies_by ns text x) (bodies_in ns text xs) (bodies_in ns text ys))
 

@@ -66,7 +66,7 @@ place_found b bodies i (n ∷ ns) name t e = by (bytes_eq name n) (λ f. place_f
     by true f g = (0, refl, sym (same_Some (tree_or b (body_of bodies i)) t g) ∙ ap (λ k. tree_or b (body_of bodies k)) (let z : i ≡ i + 0 = omega arith in z))
     by false f g = let (p, at, is) = f g in (suc p, ap (option_map (λ i. suc i)) at, is ∙ ap (λ k. tree_or b (body_of bodies k)) (let z : suc i + p ≡ i + suc p = omega arith in z))
 
-found_as_trees : (name : List ℕ) (rows : List (Row Ty)) (t : Ty) → found name rows ≡ Some t → found name (as_trees rows) ≡ Some (as_tree t)
+pub found_as_trees : (name : List ℕ) (rows : List (Row Ty)) (t : Ty) → found name rows ≡ Some t → found name (as_trees rows) ≡ Some (as_tree t)
 found_as_trees name [] t e = absurd (cc)
 found_as_trees name (r ∷ rs) t e = by (bytes_eq name r.0) (found_as_trees name rs t) e
   where
@@ -74,7 +74,7 @@ found_as_trees name (r ∷ rs) t e = by (bytes_eq name r.0) (found_as_trees name
     by true h f = ap (λ t. Some (as_tree t)) (same_Some r.1 t f)
     by false h f = h f
 
-as_trees_names : (rows : List (Row Ty)) → names_in (as_trees rows) ≡ names_in rows
+pub as_trees_names : (rows : List (Row Ty)) → names_in (as_trees rows) ≡ names_in rows
 as_trees_names [] = refl
 as_trees_names (r ∷ rs) = ap (λ l. r.0 ∷ l) (as_trees_names rs)
 

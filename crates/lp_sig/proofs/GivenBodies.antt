@@ -27,6 +27,13 @@ use Rattle.lp_sig.proofs.Settling.{before_or_at}
 use Rattle.lp_sig.proofs.Sighting.{kinds_more}
 use Rattle.lp_sig.proofs.Viewing.{whole_stays}
 
+-- one more that is missing
+pub none_more : (xs : List (Option ℕ)) → ((i : ℕ) → get_or xs i None ≡ None) → (i : ℕ) → get_or (xs ++ None ∷ []) i None ≡ None
+none_more [] f zero = refl
+none_more [] f (suc i) = refl
+none_more (x ∷ xs) f zero = f 0
+none_more (x ∷ xs) f (suc i) = none_more xs (λ i. f (suc i)) i
+
 -- kinds are no abbreviations, and abbreviations no kinds
 no_heads : (es : List KindEntry) (known : List (List ℕ)) → abbreviations_among (firsts known (map kind_said es)) ≡ []
 no_heads [] known = refl
@@ -46,7 +53,7 @@ no_kinds (e ∷ es) known = by (is_among e.name.items known) (no_kinds es known)
     by true p q = p
     by false p q = q
 
-heads_before : (es : List KindEntry) (known : List (List ℕ)) (said : List (Row Said)) → abbreviations_among (firsts known (said ++ map kind_said es)) ≡ abbreviations_among (firsts known said)
+pub heads_before : (es : List KindEntry) (known : List (List ℕ)) (said : List (Row Said)) → abbreviations_among (firsts known (said ++ map kind_said es)) ≡ abbreviations_among (firsts known said)
 heads_before es known [] = no_heads es known
 heads_before es known ((n, a_kind c) ∷ rs) = by (is_among n known) (heads_before es known rs) (heads_before es (n ∷ known) rs)
   where
@@ -135,12 +142,6 @@ module _ (b : Nodes) (bodies new : List Body) (said : List (Row Said)) (rows : L
     where
       names : abbreviation_names (said ++ (n, an_abbreviation p) ∷ []) ≡ abbreviation_names said
       names = names_known said n p h
-
-  none_more : (xs : List (Option ℕ)) → ((i : ℕ) → get_or xs i None ≡ None) → (i : ℕ) → get_or (xs ++ None ∷ []) i None ≡ None
-  none_more [] f zero = refl
-  none_more [] f (suc i) = refl
-  none_more (x ∷ xs) f zero = f 0
-  none_more (x ∷ xs) f (suc i) = none_more xs (λ i. f (suc i)) i
 
   pub given_new : (id : TypeId) → is_known n said ≡ false → new ≡ bodies ++ record { body = Some id; line = None } ∷ [] → id.0 < length b.types → named (kind_name (said_kinds said)) (type_tree b id.0) ≡ t → IsWhole t →
       GivesBodies b new (said ++ (n, an_abbreviation p) ∷ []) (rows ++ (n, t) ∷ [])

@@ -74,7 +74,7 @@ pub tree_standard : (b : Nodes) (c : Constants) (name : List ℕ) (n : ℕ) (t :
     (λ t. t ≡ standard_tree n) t → HasTree b c name (type_tree b t.0)
 tree_standard b c name n t e h = standard_one n (sym e) h.1
 
-named_at : (name : List ℕ) (ks : List Constant) (i : ℕ) (k : Constant) → first_place name (map (λ k. k.name.items) ks) ≡ Some i → k ≡ get_or ks i k → Contains ks k × (k.name.items ≡ name)
+pub named_at : (name : List ℕ) (ks : List Constant) (i : ℕ) (k : Constant) → first_place name (map (λ k. k.name.items) ks) ≡ Some i → k ≡ get_or ks i k → Contains ks k × (k.name.items ≡ name)
 named_at name [] i k e at = absurd (cc)
 named_at name (x ∷ xs) i k e at = by (bytes_eq name x.name.items) refl (first_place name (map (λ k. k.name.items) xs)) refl (λ j f g. named_at name xs j k f g) e at
   where

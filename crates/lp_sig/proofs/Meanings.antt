@@ -17,7 +17,7 @@ use Rattle.lp_sig.specs.declared.names.Head.{Head}
 use Rattle.lp_sig.proofs.Finding.{behind, absent, present, beside_found}
 
 -- a table with other things beside its names
-found_map : {A B : Type 0} (f : A → B) (name : List ℕ) (rows : List (Row A)) → found name (map (λ r. (r.0, f r.1)) rows) ≡ option_map f (found name rows)
+pub found_map : {A B : Type 0} (f : A → B) (name : List ℕ) (rows : List (Row A)) → found name (map (λ r. (r.0, f r.1)) rows) ≡ option_map f (found name rows)
 found_map f name [] = refl
 found_map f name (r ∷ rs) = by (found_map f name rs) (bytes_eq name r.0)
   where

@@ -46,7 +46,7 @@ numbers_by_place n k (x ∷ xs) (r ∷ rs) same e =
     let rest = numbers_by_place (suc n) (k + 1) xs rs z t in
     λ i. (h ∙ same) i ∷ rest i
 
-kind_names_are : (n : ℕ) (es : List KindEntry) (rows : List (Row ℕ)) → map kind_row es ≡ numbered n rows → map (λ e. e.name.items) es ≡ names_in rows
+pub kind_names_are : (n : ℕ) (es : List KindEntry) (rows : List (Row ℕ)) → map kind_row es ≡ numbered n rows → map (λ e. e.name.items) es ≡ names_in rows
 kind_names_are n [] [] e = refl
 kind_names_are n [] (r ∷ rs) e = absurd (cc)
 kind_names_are n (x ∷ xs) [] e = absurd (cc)
@@ -92,13 +92,13 @@ kind_known name said k e = standard (found name standard_kinds) refl e
 
 -- all kinds of a type are known
 abbrev mutual
-  KindsKnown : (ℕ → Option (List ℕ)) → Ty → Type 0
+  pub KindsKnown : (ℕ → Option (List ℕ)) → Ty → Type 0
   KindsKnown κ (var x) = Unit {0}
   KindsKnown κ (param k) = Unit {0}
   KindsKnown κ (con c ts) = ((w : List ℕ) × (κ c ≡ Some w)) × AllKindsKnown κ ts
   KindsKnown κ (arrow a b) = KindsKnown κ a × KindsKnown κ b
 
-  AllKindsKnown : (ℕ → Option (List ℕ)) → Tys → Type 0
+  pub AllKindsKnown : (ℕ → Option (List ℕ)) → Tys → Type 0
   AllKindsKnown κ no_types = Unit {0}
   AllKindsKnown κ (types t ts) = KindsKnown κ t × AllKindsKnown κ ts
 
@@ -113,6 +113,17 @@ module _ (κ : ℕ → Option (List ℕ)) where
     all_whole : (ts : Tys) → AllKindsKnown κ ts → AreWhole (all_named κ ts)
     all_whole no_types h = tt
     all_whole (types t ts) (h, hs) = (known_whole t h, all_whole ts hs)
+
+  mutual
+    pub whole_known : (T : Ty) → IsWhole (named κ T) → KindsKnown κ T
+    whole_known (var x) h = tt
+    whole_known (param k) h = tt
+    whole_known (con c ts) (h, hs) = (h, whole_all ts hs)
+    whole_known (arrow a b) (h, k) = (whole_known a h, whole_known b k)
+
+    whole_all : (ts : Tys) → AreWhole (all_named κ ts) → AllKindsKnown κ ts
+    whole_all no_types h = tt
+    whole_all (types t ts) (h, hs) = (whole_known t h, whole_all ts hs)
 
   module _ (θ : ℕ → Ty) (known : (x : ℕ) → KindsKnown κ (θ x)) where
     mutual
@@ -132,12 +143,12 @@ module _ (κ : ℕ → Option (List ℕ)) where
   given_known (t ∷ ts) (suc n) d (h, hs) k = given_known ts n d hs k
 
 -- the kinds of bodies that are given as trees
-abbrev AreTreesKnown : List (Row Said) → List (Row Definition) → Type 0
+abbrev pub AreTreesKnown : List (Row Said) → List (Row Definition) → Type 0
 AreTreesKnown said defs = (name : List ℕ) (t : Ty) → found name defs ≡ Some (as_tree t) → KindsKnown (kind_name (said_kinds said)) t
 
 module _ (said : List (Row Said)) (defs : List (Row Definition)) (trees : AreTreesKnown said defs) where
   mutual
-    type_known : {text : List ℕ} {ν : ℕ → Spot → Option ℕ} {nodes : List RawTypeNode} {i : ℕ} {t : Ty} → IsTypeOf said defs text ν nodes i t → KindsKnown (kind_name (said_kinds said)) t
+    pub type_known : {text : List ℕ} {ν : ℕ → Spot → Option ℕ} {nodes : List RawTypeNode} {i : ℕ} {t : Ty} → IsTypeOf said defs text ν nodes i t → KindsKnown (kind_name (said_kinds said)) t
     type_known (a_variable s args n at v is e) = subst (KindsKnown (kind_name (said_kinds said))) (sym e) tt
     type_known (kind_on s args k ts at v means number parts e) = subst (KindsKnown (kind_name (said_kinds said))) (sym e) (kind_known _ said k number, list_known parts)
     type_known (abbreviation_on s args d body ts at v means declared inner parts e) =
@@ -192,7 +203,7 @@ same_count T =
     (λ x y z p q. place_once N x y p.0 q.0 (sym p.1 ∙ q.1)) T (instance (λ x. var (place N x)) T)
     (numbered_renames N T (all_met (type_variables T) []))).0
 
-numbered_whole : (κ : ℕ → Option (List ℕ)) (T : Ty) → KindsKnown κ T → IsWhole (named κ (numbered_type T))
+pub numbered_whole : (κ : ℕ → Option (List ℕ)) (T : Ty) → KindsKnown κ T → IsWhole (named κ (numbered_type T))
 unfolding numbered_type
 numbered_whole κ T k = known_whole κ (instance (λ x. var (place (first_variables T) x)) T) (instance_known κ (λ x. var (place (first_variables T) x)) (λ x. tt) T k)
 

@@ -55,16 +55,16 @@ names_front known (n ∷ ns) more e = by (is_among n known) (λ f. names_front (
         (rest, ap (λ l. n ∷ l) h)
 
 -- kinds and abbreviations apart
-among_append : (xs ys : List (Row Said)) → kinds_among (xs ++ ys) ≡ kinds_among xs ++ kinds_among ys
+pub among_append : (xs ys : List (Row Said)) → kinds_among (xs ++ ys) ≡ kinds_among xs ++ kinds_among ys
 among_append [] ys = refl
 among_append ((n, a_kind c) ∷ xs) ys = ap (λ l. (n, c) ∷ l) (among_append xs ys)
 among_append ((n, an_abbreviation p) ∷ xs) ys = among_append xs ys
 
-of_kinds : (es : List KindEntry) → kinds_among (map kind_said es) ≡ map (λ e. (e.name.items, e.arity)) es
+pub of_kinds : (es : List KindEntry) → kinds_among (map kind_said es) ≡ map (λ e. (e.name.items, e.arity)) es
 of_kinds [] = refl
 of_kinds (e ∷ es) = ap (λ l. (e.name.items, e.arity) ∷ l) (of_kinds es)
 
-of_abbreviations : (es : List AbbreviationEntry) → kinds_among (map abbreviation_said es) ≡ []
+pub of_abbreviations : (es : List AbbreviationEntry) → kinds_among (map abbreviation_said es) ≡ []
 of_abbreviations [] = refl
 of_abbreviations (e ∷ es) = of_abbreviations es
 
@@ -72,11 +72,11 @@ numbered_names_in : (n : ℕ) (rows : List (Row ℕ)) → names_in (numbered n r
 numbered_names_in n [] = refl
 numbered_names_in n (r ∷ rs) = ap (λ l. r.0 ∷ l) (numbered_names_in (suc n) rs)
 
-names_numbered : (n : ℕ) (ns : List (List ℕ)) → names_in (numbered_names n ns) ≡ ns
+pub names_numbered : (n : ℕ) (ns : List (List ℕ)) → names_in (numbered_names n ns) ≡ ns
 names_numbered n [] = refl
 names_numbered n (x ∷ xs) = ap (λ l. x ∷ l) (names_numbered (suc n) xs)
 
-rows_names : {E : Type 0} {B : Type 0} (name : E → List ℕ) (beside : E → B) (es : List E) → names_in (map (λ e. (name e, beside e)) es) ≡ map name es
+pub rows_names : {E : Type 0} {B : Type 0} (name : E → List ℕ) (beside : E → B) (es : List E) → names_in (map (λ e. (name e, beside e)) es) ≡ map name es
 rows_names name beside [] = refl
 rows_names name beside (e ∷ es) = ap (λ l. name e ∷ l) (rows_names name beside es)
 

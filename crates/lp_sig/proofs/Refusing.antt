@@ -16,12 +16,13 @@ use Rattle.lp_syntax.specs.declared.text.RawType.{RawType}
 use Rattle.lp_syntax.specs.declared.text.Sentence.{Sentence}
 use Rattle.lp_syntax.specs.declared.text.Sentence.TheVariants.{Declares, Says}
 use Rattle.lp_term.specs.declared.node.TypeId.{TypeId}
+use Rattle.lp_sig.specs.Abbreviations.{Seen}
 use Rattle.lp_sig.specs.Pieces.{spelled}
 use Rattle.lp_sig.specs.Rows.{Row, found, kind_row, abbreviation_row}
 use Rattle.lp_sig.specs.Standard.{standard_kinds, standard_constants}
-use Rattle.lp_sig.specs.Said.{Said, is_among, names_in}
+use Rattle.lp_sig.specs.Said.{is_among, names_in}
 use Rattle.lp_sig.specs.Modules.{declarations, said_of, constants_of, kind_said, abbreviation_said, constant_names_by}
-use Rattle.lp_sig.specs.ModuleFaults.{differs_at, blamed_at, blamed_by, kind_names_by, kind_names_in, exports_kind, exports_constant, IsFirstOf, IsNewFault, other_type, no_number, IsLineFault, IsLineTaken, IsFaultAmong, IsWordFault, otherwise, many}
+use Rattle.lp_sig.specs.ModuleFaults.{differs_at, blamed_at, blamed_by, kind_names_by, kind_names_in, exports_kind, exports_constant, IsFirstOf, IsNewFault, other_type, no_number, IsLineFault, IsLineTaken, IsFaultAmong}
 use Rattle.lp_sig.specs.Sights.{HasKeys}
 use Rattle.lp_sig.specs.declared.entries.ConstantEntry.{ConstantEntry}
 use Rattle.lp_sig.specs.declared.entries.KindEntry.{KindEntry}
@@ -163,14 +164,8 @@ pub new_or : (names : List Spot) (i : ℕ) (d : Spot) (e m : SigFault) → i < l
 new_or names i d e m h (inl is) = inl is
 new_or names i d e m h (inr f) = inr (new_among names i d e h f)
 
-pub word_or : (names : List Spot) (i : ℕ) (d : Spot) (e m : ModuleSigFault) → i < length names → (e ≡ m) ⊎ IsWordFault (get_or names i d ∷ []) e → (e ≡ m) ⊎ IsWordFault names e
-word_or names i d e m h (inl is) = inl is
-word_or names i d e m h (inr (otherwise s c is)) = inr (otherwise (get_or names i d) (Contains-get_or names i d h)
-    (is ∙ ap (λ s. wrong.Sig (fault.Differ s)) (sym (Contains_single (get_or names i d) s c))))
-word_or names i d e m h (inr (many is)) = inr (many is)
-
 -- sentences
-declared_more : (ls : List Sentence) (i : ℕ) (d : Declaration) (l : Sentence) → i < length ls → l ≡ get_or ls i l → l ≡ Declares d →
+pub declared_more : (ls : List Sentence) (i : ℕ) (d : Declaration) (l : Sentence) → i < length ls → l ≡ get_or ls i l → l ≡ Declares d →
     (length (declarations (take i ls)) < length (declarations ls)) × (slice_index_or (declarations ls) (length (declarations (take i ls))) d ≡ d) ×
     (take (length (declarations (take i ls))) (declarations ls) ≡ declarations (take i ls))
 declared_more [] i d l h at is = absurd (omega (arith, h))
@@ -187,14 +182,14 @@ declared_more (Declares x ∷ ls) (suc i) d l h at is =
     (omega (arith, b), r.1, ap (λ l. x ∷ l) r.2)
 declared_more (Says raw ∷ ls) (suc i) d l h at is = declared_more ls i d l (omega (arith, h)) at is
 
-pub fault_among : (own : Signature) (text : List ℕ) (said : List (Row Said)) (ls : List Sentence) (i : ℕ) (l : Sentence) (e m : ModuleSigFault) → i < length ls → l ≡ get_or ls i l →
-    All (IsLineTaken own text said (declarations ls)) (declarations (take i ls)) → (e ≡ m) ⊎
-    ((d : Declaration) × (l ≡ Declares d) × IsLineFault own text said (declarations ls) d e) → (e ≡ m) ⊎ IsFaultAmong own text said
+pub fault_among : (own : Signature) (used : List Signature) (text : List ℕ) (z : Seen) (ls : List Sentence) (i : ℕ) (l : Sentence) (e m : ModuleSigFault) → i < length ls → l ≡ get_or ls i l →
+    All (IsLineTaken own used text z (declarations ls)) (declarations (take i ls)) → (e ≡ m) ⊎
+    ((d : Declaration) × (l ≡ Declares d) × IsLineFault own used text z (declarations ls) d e) → (e ≡ m) ⊎ IsFaultAmong own used text z
     (declarations ls) e
-fault_among own text said ls i l e m h at before (inl is) = inl is
-fault_among own text said ls i l e m h at before (inr (d, is, why)) =
+fault_among own used text z ls i l e m h at before (inl is) = inl is
+fault_among own used text z ls i l e m h at before (inr (d, is, why)) =
     let r = declared_more ls i d l h at is in
-    inr (record { k = length (declarations (take i ls)); line = d; inside = r.0; at_line = r.1; why = why; before = subst (All (IsLineTaken own text said (declarations ls))) (sym r.2) before })
+    inr (record { k = length (declarations (take i ls)); line = d; inside = r.0; at_line = r.1; why = why; before = subst (All (IsLineTaken own used text z (declarations ls))) (sym r.2) before })
 
 -- a fault that may call an exported name declared otherwise
 module _ (exports : List ℕ → Bool) (text : List ℕ) (f : SigFault) (o : Option Spot) (is : o ≡ differs_at f) where

@@ -21,7 +21,7 @@ use Rattle.lp_sig.specs.declared.constants.Constants.{Constants}
 use Rattle.lp_sig.specs.declared.names.Names.{Names}
 use Rattle.lp_sig.specs.declared.signature.Signature.{Signature}
 
-declared_append : (xs ys : List Sentence) → declarations (xs ++ ys) ≡ declarations xs ++ declarations ys
+pub declared_append : (xs ys : List Sentence) → declarations (xs ++ ys) ≡ declarations xs ++ declarations ys
 declared_append [] ys = refl
 declared_append (Declares d ∷ xs) ys = ap (λ l. d ∷ l) (declared_append xs ys)
 declared_append (Says raw ∷ xs) ys = declared_append xs ys
@@ -76,7 +76,7 @@ pub no_line : (c : Constants) (text : List ℕ) (l : Sentence) (raw : RawTerm) �
 no_line c text l raw is words h = subst (λ l. HasWords c (words ++ constant_names_in text (declarations (l ∷ [])))) (sym is) (subst (HasWords c) (sym (append-nil words)) h)
 
 -- one more signature
-each_append : {A : Type 0} (f : Signature → List A) (xs ys : List Signature) → of_each f (xs ++ ys) ≡ of_each f xs ++ of_each f ys
+pub each_append : {A : Type 0} (f : Signature → List A) (xs ys : List Signature) → of_each f (xs ++ ys) ≡ of_each f xs ++ of_each f ys
 each_append f [] ys = refl
 each_append f (x ∷ xs) ys = ap (λ z. f x ++ z) (each_append f xs ys) ∙ sym (append_assoc (f x) (of_each f xs) (of_each f ys))
 

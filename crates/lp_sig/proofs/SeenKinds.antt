@@ -18,7 +18,7 @@ use Rattle.lp_sig.proofs.Sighting.{name_above, name_later, kind_among}
 use Rattle.lp_sig.proofs.Viewing.{names_are}
 
 -- the number of an entry
-number_at : (es : List KindEntry) (i : ℕ) (e : KindEntry) → i < length es → e ≡ get_or es i e → map (λ e. e.number) es ≡ range_with_len 8 (length es) → e.number ≡ 8 + i
+pub number_at : (es : List KindEntry) (i : ℕ) (e : KindEntry) → i < length es → e ≡ get_or es i e → map (λ e. e.number) es ≡ range_with_len 8 (length es) → e.number ≡ 8 + i
 number_at es i e l at numbers = ap (λ e. e.number) at ∙ sym (get_map es i) ∙ ap (λ ns. get_or ns i e.number) numbers ∙ get_or-range_with_len 8 (length es) i e.number l
   where
     get_map : (es : List KindEntry) (i : ℕ) → get_or (map (λ e. e.number) es) i e.number ≡ (get_or es i e).number
@@ -26,7 +26,7 @@ number_at es i e l at numbers = ap (λ e. e.number) at ∙ sym (get_map es i) �
     get_map (x ∷ xs) zero = refl
     get_map (x ∷ xs) (suc i) = get_map xs i
 
-name_at : (es : List KindEntry) (i : ℕ) (e : KindEntry) → i < length es → e ≡ get_or es i e → slice_get (map (λ e. e.name.items) es) i ≡ Some e.name.items
+pub name_at : (es : List KindEntry) (i : ℕ) (e : KindEntry) → i < length es → e ≡ get_or es i e → slice_get (map (λ e. e.name.items) es) i ≡ Some e.name.items
 name_at [] i e l at = absurd (omega (arith, l))
 name_at (x ∷ xs) zero e l at = ap (λ e. Some e.name.items) (sym at)
 name_at (x ∷ xs) (suc i) e l at = name_at xs i e (omega (arith, l)) at

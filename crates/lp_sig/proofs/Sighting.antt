@@ -128,7 +128,7 @@ pub name_later : (said more : List (Row Said)) (k : ℕ) (name : List ℕ) → k
 name_later said more k name e = let (rest, f) = kinds_more said more in ap (λ l. kind_name l k) f ∙ name_stays (said_kinds said) rest k name e
 
 -- what was said last of a name, or something before it, is what it means
-found_last : {A : Type 0} (name : List ℕ) (rows : List (Row A)) (a : A) → (b : A) × (found name (rows ++ (name, a) ∷ []) ≡ Some b)
+pub found_last : {A : Type 0} (name : List ℕ) (rows : List (Row A)) (a : A) → (b : A) × (found name (rows ++ (name, a) ∷ []) ≡ Some b)
 found_last name [] a = (a, ap (λ t. cond t (Some a) None) ((bytes_eq-Decides name name).1 refl))
 found_last {A} name (x ∷ xs) a = by (found_last name xs a) (bytes_eq name x.0)
   where

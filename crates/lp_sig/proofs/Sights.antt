@@ -1,7 +1,7 @@
 -- Words with their numbers, and the signatures that they name, which go with those before them.
 use Rattle.std.specs.Global.{Global}
 use Rattle.std.proofs.Common.{◌≡◌, ℕ, zero, suc, ◌+◌, ◌<◌, ◌≤◌, List, [], ◌∷◌, ◌++◌, length, map, get_or, take, Bool, true, false, Option, Some, None, Vec, Bor, refl, sym, ap, subst, ◌∙◌, arith, true≢false, inl, inr, append_assoc, append-nil}
-use Rattle.std.specs.Prelude.{◌⊎◌, if◌then◌else◌, is_some, option_map, option_copied, slice_get, Contains, All, ◌||◌}
+use Rattle.std.specs.Prelude.{◌⊎◌, if◌then◌else◌, is_some, option_map, option_copied, slice_get, Contains, All, ◌||◌, IfSome}
 use Rattle.std.specs.Slice.{IsItemAt}
 use Rattle.std.specs.Str.{bytes_eq}
 use Rattle.std.specs.Map.{lookup}
@@ -22,7 +22,7 @@ use Rattle.lp_sig.specs.Rows.{Row}
 use Rattle.lp_sig.specs.Modules.{first_names, of_each, said_of}
 use Rattle.lp_sig.specs.Named.{accumulate_in, many_words, IsOrdered}
 use Rattle.lp_sig.specs.Sighted.{Grows, SeenSo}
-use Rattle.lp_sig.specs.Sights.{HasNumbers, AreAlike, IsAlike, AreWordsAlike, AreTheirEntries, signature_words, module_words}
+use Rattle.lp_sig.specs.Sights.{HasNumbers, AreAlike, IsAlike, AreWordsAlike, AreTheirEntries, signature_words, module_words, IsSightOf}
 use Rattle.lp_sig.specs.declared.constants.Constant.{Constant}
 use Rattle.lp_sig.specs.declared.constants.DeclaredType.{DeclaredType}
 use Rattle.lp_sig.specs.declared.entries.ConstantEntry.{ConstantEntry}
@@ -103,7 +103,7 @@ both_alike sights text signatures modules xs ys a b = (
 )
 
 -- first names are apart
-new_name : (known ws : List (List ℕ)) (i : ℕ) (w : List ℕ) → slice_get (first_names known ws) i ≡ Some w → is_among w known ≡ false
+pub new_name : (known ws : List (List ℕ)) (i : ℕ) (w : List ℕ) → slice_get (first_names known ws) i ≡ Some w → is_among w known ≡ false
 new_name known [] i w e = absurd (cc)
 new_name known (n ∷ ns) i w e = by (λ j f. new_name known ns j w f) (λ j f. new_name (n ∷ known) ns j w f) (is_among n known) refl i e
   where
@@ -315,6 +315,25 @@ module_at numbers signatures sights words all word r n place many there sight k 
     let m = k.1 in
     alike_module sights (length (first_names [] words)) all word n.now place (sym (h.0 word) ∙ sym looked ∙ ap option_copied is)
     (omega (arith, sum, count, m)) (sym (copied_at sights place there at) ∙ sym copied ∙ alike)
+
+-- the sight of a word, where it has one
+sight_at : (sights : List Sight) (from : ℕ) (all : List (List ℕ)) (word : List ℕ) (n : ℕ) (o : Option Sight) → first_place word (first_names [] all) ≡ Some n → slice_get sights (from + n) ≡ o → IfSome o (IsSightOf sights from all word)
+sight_at sights from all word n None e at = tt
+sight_at sights from all word n (Some s) e at = (n, e, at)
+
+pub signature_sight : {S : Type 0} (numbers : IndexMap (Vec ℕ Global) ℕ S) (sights : List Sight) (all : List (List ℕ)) (word : List ℕ) (r : Option (Bor ℕ)) (n : Bor ℕ) (there : Option (Bor Sight)) (sight : Option Sight) →
+    HasNumbers numbers all → option_copied r ≡ lookup (λ k. bytes_eq word k.items) numbers.entries → r ≡ Some n → IsItemAt sights n.now there → sight ≡ option_copied there → IfSome sight (IsSightOf sights 0 all word)
+signature_sight numbers sights all word r n there sight h looked is at copied =
+    let z : 0 + n.now ≡ n.now = omega arith in
+    sight_at sights 0 all word n.now sight (sym (h.0 word) ∙ sym looked ∙ ap option_copied is) (ap (slice_get sights) z ∙ sym (copied_at sights n.now there at) ∙ sym copied)
+
+pub module_sight : {S T : Type 0} (numbers : IndexMap (Vec ℕ Global) ℕ S) (signatures : IndexMap (Vec ℕ Global) ℕ T) (sights : List Sight) (words all : List (List ℕ)) (word : List ℕ) (r : Option (Bor ℕ)) (n : Bor ℕ) (place many : ℕ)
+    (there : Option (Bor Sight)) (sight : Option Sight) → HasNumbers signatures words → HasNumbers numbers all → option_copied r ≡ lookup (λ k. bytes_eq word k.items) numbers.entries → r ≡ Some n →
+    many ≡ length signatures.entries → place ≡ n.now + many → IsItemAt sights place there → sight ≡ option_copied there → IfSome sight (IsSightOf sights (length (first_names [] words)) all word)
+module_sight numbers signatures sights words all word r n place many there sight k h looked is count sum at copied =
+    let m = k.1 in
+    let z : length (first_names [] words) + n.now ≡ place = omega (arith, sum, count, m) in
+    sight_at sights (length (first_names [] words)) all word n.now sight (sym (h.0 word) ∙ sym looked ∙ ap option_copied is) (ap (slice_get sights) z ∙ sym (copied_at sights place there at) ∙ sym copied)
 
 -- one more word that is alike
 pub alike_more : (P : List ℕ → Type 0) (f : Spot → List ℕ) (xs : List Spot) (i : ℕ) (d : Spot) (w : List ℕ) → i < length xs → w ≡ f (get_or xs i d) →

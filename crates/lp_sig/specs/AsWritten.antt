@@ -49,6 +49,10 @@ bodies_of s = map (named_body s) s.abbreviations.items
 abbrev pub HasWholeBodies : Signature → Type 0
 HasWholeBodies s = All (λ e. IsWhole (named_in s e.body)) s.abbreviations.items
 
+-- each kind of the type of a constant has a name
+abbrev pub HasWholeTypes : Signature → Type 0
+HasWholeTypes s = All (λ e. IsWhole (named_in s e.scheme)) s.constants.items
+
 -- The abbreviations that the signatures have, in order, each with the body that the first of them gives it.
 pub record AreGiven (own : Signature) (used : List Signature) (s : Signature) (given : List (Row Ty)) : Type 0 where
   pub names : names_in given ≡ abbreviation_names (said_of own ++ of_each said_of used)

@@ -32,5 +32,8 @@ pub mod Sighted
 pub mod Same
 pub mod Sights
 pub mod ModuleFaults
+pub mod Differing
 pub mod AsWritten
+pub mod GoingTogether
 pub mod inner
+pub mod SeenByModules

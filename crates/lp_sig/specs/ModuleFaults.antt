@@ -1,5 +1,5 @@
--- Why the declarations of a module are refused, and at which sentence. Whether two types of one name differ is not said here: of a name that is declared otherwise it is said that its sentence can be at fault no other way.
-use Rattle.std.specs.Prelude.{◌≡◌, ◌⊎◌, ◌<◌, ◌≤◌, ℕ, List, [], ◌∷◌, ◌++◌, Bool, true, false, Option, Some, None, map, take, length, All, Contains, slice_index_or, if◌then◌else◌}
+-- Why the declarations of a module are refused, and at which sentence. Of a name that the text declares otherwise it is said that its sentence can be at fault no other way.
+use Rattle.std.specs.Prelude.{◌≡◌, ◌⊎◌, ◌+◌, slice_get, ◌<◌, ◌≤◌, ℕ, List, [], ◌∷◌, ◌++◌, Bool, true, false, Option, Some, None, map, take, length, All, Contains, slice_index_or, if◌then◌else◌}
 use Rattle.lp_base.specs.declared.limits.TheConstants.{MAX_ARGUMENTS, MAX_NAME_BYTES}
 use Rattle.lp_base.specs.declared.limit.Limit.TheVariants as limit
 use Rattle.lp_base.specs.declared.place.Spot.{Spot}
@@ -7,13 +7,24 @@ use Rattle.lp_syntax.specs.declared.text.Declaration.{Declaration}
 use Rattle.lp_syntax.specs.declared.text.Declaration.TheVariants.{Kinds, LocalKinds, Constants, Locals, Abbreviation, Accumulate, AccumSig, Fixities}
 use Rattle.lp_syntax.specs.declared.text.RawType.{RawType}
 use Rattle.lp_syntax.specs.declared.text.Sentence.{Sentence}
+use Rattle.lp_calculus.specs.Types.{Ty}
+use Rattle.lp_sig.specs.Constants.{Written}
+use Rattle.lp_sig.specs.Differing.{HasNameCause, IsOtherIf, IsOtherBodyIf, trees_here}
 use Rattle.lp_sig.specs.Pieces.{spelled}
 use Rattle.lp_sig.specs.Rows.{Row}
 use Rattle.lp_sig.specs.Standard.{standard_kinds, standard_constants}
 use Rattle.lp_sig.specs.Said.{Said, a_kind, an_abbreviation, is_among, names_in}
 use Rattle.lp_sig.specs.Limits.{AreShort, IsShort, AreApart, IsRepeated}
-use Rattle.lp_sig.specs.Words.{IsNameFault, IsMeant, AreMeant, IsNumbered, AreNumbered, IsHead, IsFirstFault, WordsStand, parameters_of, IsKindsFault, IsLongType, IsSoundType}
-use Rattle.lp_sig.specs.Modules.{declarations, said_of, constants_of, constant_names_in, said_in_module}
+use Rattle.lp_sig.specs.Words.{IsNameFault, IsMeant, AreMeant, IsNumbered, AreNumbered, IsFirstFault, WordsStand, parameters_of, IsKindsFault, IsLongType, IsSoundType}
+use Rattle.lp_sig.specs.GoingTogether.{types_of, AreOfTexts, GoesWith, IsOtherwise, HasNoNumber}
+use Rattle.lp_sig.specs.Places.{first_place}
+use Rattle.lp_sig.specs.Sights.{signature_words, module_words}
+use Rattle.lp_sig.specs.Modules.{declarations, first_names, of_each, said_of, constants_of, constant_names_in, said_in_module}
+use Rattle.lp_sig.specs.Types.{Definition, definitions_in}
+use Rattle.lp_sig.specs.AsWritten.{as_trees, bodies_of, typed_in}
+use Rattle.lp_sig.specs.Abbreviations.{Seen}
+use Rattle.lp_sig.specs.Faults.{IsCyclic, IsStraight, IsStraightHead, IsSoundAbbreviation}
+use Rattle.lp_sig.specs.SeenByModules.{seen_in_module}
 use Rattle.lp_sig.specs.declared.signature.Signature.{Signature}
 use Rattle.lp_sig.specs.declared.fault.SigFault.{SigFault}
 use Rattle.lp_sig.specs.declared.fault.SigFault.TheVariants as fault
@@ -135,50 +146,112 @@ abbrev pub AreLocalsTaken : Signature → List ℕ → List (Row Said) → List 
 AreLocalsTaken own text said known names None = All (IsLocal (exports_constant own) text (λ s. is_among (spelled text s) known ≡ true)) names
 AreLocalsTaken own text said known names (Some ty) = All (IsLocal (exports_constant own) text (IsShort text)) names × IsSoundType text said ty
 
--- an abbreviation: its name, then a circle, then a parameter that stands a second time, then their number, then the first word of its body that has a fault, then another body than the first one
-pub data IsAbbreviationWrong (text : List ℕ) (said : List (Row Said)) (name : Spot) (ps : List Spot) (ty : RawType) (e : SigFault) : Type 0 where
-  a_name : IsNameFault text said (an_abbreviation (length ps)) name e → IsAbbreviationWrong text said name ps ty e
-  circle : e ≡ fault.CyclicAbbreviation name → IsMeant text said (an_abbreviation (length ps)) name → IsAbbreviationWrong text said name ps ty e
-  repeated : (s : Spot) → e ≡ fault.Differ s → IsMeant text said (an_abbreviation (length ps)) name → IsRepeated text ps s → IsAbbreviationWrong text said name ps ty e
-  arguments : e ≡ fault.Limit limit.Arguments → IsMeant text said (an_abbreviation (length ps)) name → AreApart text ps → MAX_ARGUMENTS < length ps → IsAbbreviationWrong text said name ps ty e
-  a_word : IsHead text said name ps → IsFirstFault text said (parameters_of text ps) ty.nodes.items e → IsAbbreviationWrong text said name ps ty e
-  other : e ≡ fault.Differ name → IsHead text said name ps → WordsStand text said (parameters_of text ps) ty.nodes.items → IsAbbreviationWrong text said name ps ty e
+-- an abbreviation: its name, then that its body leads back to it, then a parameter that stands a second time, then their number, then the first word of its body that has a fault, then another body than the first one
+pub data IsAbbreviationWrong (text : List ℕ) (z : Seen) (name : Spot) (ps : List Spot) (ty : RawType) (e : SigFault) : Type 0 where
+  a_name : IsNameFault text z.said (an_abbreviation (length ps)) name e → IsAbbreviationWrong text z name ps ty e
+  circle : e ≡ fault.CyclicAbbreviation name → IsMeant text z.said (an_abbreviation (length ps)) name → IsCyclic text z name ty → IsAbbreviationWrong text z name ps ty e
+  repeated : (s : Spot) → e ≡ fault.Differ s → IsStraight text z name (length ps) ty → IsRepeated text ps s → IsAbbreviationWrong text z name ps ty e
+  arguments : e ≡ fault.Limit limit.Arguments → IsStraight text z name (length ps) ty → AreApart text ps → MAX_ARGUMENTS < length ps → IsAbbreviationWrong text z name ps ty e
+  a_word : IsStraightHead text z name ps ty → IsFirstFault text z.said (parameters_of text ps) ty.nodes.items e → IsAbbreviationWrong text z name ps ty e
+  other : e ≡ fault.Differ name → IsStraightHead text z name ps ty → WordsStand text z.said (parameters_of text ps) ty.nodes.items → IsAbbreviationWrong text z name ps ty e
 
--- a word that names a signature which declares a name otherwise than one before it, or for whose names no number is left
-pub data IsWordFault (words : List Spot) (e : ModuleSigFault) : Type 0 where
-  otherwise : (s : Spot) → Contains words s → e ≡ wrong.Sig (fault.Differ s) → IsWordFault words e
-  many : e ≡ wrong.Sig (fault.Limit limit.Names) → IsWordFault words e
+-- why a word is refused that names this signature, where these are before it: it declares a name otherwise, or no number is left for its kinds or constants
+pub data IsWordFault (before : List Signature) (u : Signature) (word : Spot) (e : ModuleSigFault) : Type 0 where
+  otherwise : e ≡ wrong.Sig (fault.Differ word) → IsOtherwise before u → IsWordFault before u word e
+  many : e ≡ wrong.Sig (fault.Limit limit.Names) → HasNoNumber before u → IsWordFault before u word e
 
--- why a sentence is refused, where so much is said of names and these are all sentences of the text, and what holds of one that is taken
-abbrev pub IsLineFault : Signature → List ℕ → List (Row Said) → List Declaration → Declaration → ModuleSigFault → Type 0
-IsLineFault own text said ds (Kinds names n) e = (f : SigFault) × IsKindsFault text said names.items n f × (e ≡ blamed_by (exports_kind own) text f)
-IsLineFault own text said ds (LocalKinds names count) e = AreLocalKindsRefused own text said (kind_names_in text ds) names.items count e
-IsLineFault own text said ds (Constants names ty) e = (f : SigFault) × AreConstantsWrong text said names.items ty f × (e ≡ blamed_by (exports_constant own) text f)
-IsLineFault own text said ds (Locals names ty) e = AreLocalsRefused own text said (constant_names_in text ds) names.items ty e
-IsLineFault own text said ds (Abbreviation name ps ty) e = (f : SigFault) × IsAbbreviationWrong text said name ps.items ty f × (e ≡ blamed_by (exports_kind own) text f)
-IsLineFault own text said ds (Accumulate words) e = IsWordFault words.items e
-IsLineFault own text said ds (AccumSig words) e = IsWordFault words.items e
-IsLineFault own text said ds (Fixities names f n) e = ⊥
+-- the signature that a word names: the words of accum_sig name the first ones by their first places, and those of accumulate the ones behind them
+abbrev pub IsNamedBy : (used : List Signature) (text : List ℕ) (from : ℕ) (all : List (List ℕ)) → Spot → ℕ → Signature → Type 0
+IsNamedBy used text from all word i u = (first_place (spelled text word) (first_names [] all) ≡ Some i) × (slice_get used (from + i) ≡ Some u)
 
-abbrev pub IsLineTaken : Signature → List ℕ → List (Row Said) → List Declaration → Declaration → Type 0
-IsLineTaken own text said ds (Kinds names n) = AreMeant text said (a_kind n) names.items × AreNumbered text said names.items × (n ≤ MAX_ARGUMENTS)
-IsLineTaken own text said ds (LocalKinds names count) = AreLocalKindsTaken own text said (kind_names_in text ds) names.items count
-IsLineTaken own text said ds (Constants names ty) = AreShort text names.items × IsSoundType text said ty
-IsLineTaken own text said ds (Locals names ty) = AreLocalsTaken own text said (constant_names_in text ds) names.items ty
-IsLineTaken own text said ds (Abbreviation name ps ty) = IsHead text said name ps.items × WordsStand text said (parameters_of text ps.items) ty.nodes.items
-IsLineTaken own text said ds (Accumulate words) = Unit {0}
-IsLineTaken own text said ds (AccumSig words) = Unit {0}
-IsLineTaken own text said ds (Fixities names f n) = Unit {0}
+abbrev pub IsWordRefused : (own : Signature) (used : List Signature) (text : List ℕ) (from : ℕ) (all : List (List ℕ)) → Spot → ModuleSigFault → Type 0
+IsWordRefused own used text from all word e = (i : ℕ) × (u : Signature) × IsNamedBy used text from all word i u × IsWordFault (own ∷ take (from + i) used) u word e
+
+-- a word is taken: its signature goes with those before it
+abbrev pub IsWordTaken : (own : Signature) (used : List Signature) (text : List ℕ) (from : ℕ) (all : List (List ℕ)) → Spot → Type 0
+IsWordTaken own used text from all word = (i : ℕ) (u : Signature) → IsNamedBy used text from all word i u → GoesWith (own ∷ take (from + i) used) u
+
+-- the words of a sentence: the first that is refused, or all that are taken
+abbrev pub AreModulesRefused : Signature → List Signature → List ℕ → List Declaration → List Spot → ModuleSigFault → Type 0
+AreModulesRefused own used text ds words e = IsFirstOf (IsWordRefused own used text (length (first_names [] (signature_words text ds))) (module_words text ds))
+    (IsWordTaken own used text (length (first_names [] (signature_words text ds))) (module_words text ds)) words e
+
+abbrev pub AreModulesTaken : Signature → List Signature → List ℕ → List Declaration → List Spot → Type 0
+AreModulesTaken own used text ds words = All (IsWordTaken own used text (length (first_names [] (signature_words text ds))) (module_words text ds)) words
+
+abbrev pub AreSignaturesRefused : Signature → List Signature → List ℕ → List Declaration → List Spot → ModuleSigFault → Type 0
+AreSignaturesRefused own used text ds words e = IsFirstOf (IsWordRefused own used text 0 (signature_words text ds)) (IsWordTaken own used text 0 (signature_words text ds)) words e
+
+abbrev pub AreSignaturesTaken : Signature → List Signature → List ℕ → List Declaration → List Spot → Type 0
+AreSignaturesTaken own used text ds words = All (IsWordTaken own used text 0 (signature_words text ds)) words
+
+-- why a sentence is refused, where so much is seen and these are all sentences of the text, and what holds of one that is taken
+abbrev pub IsLineFault : Signature → List Signature → List ℕ → Seen → List Declaration → Declaration → ModuleSigFault → Type 0
+IsLineFault own used text z ds (Kinds names n) e = (f : SigFault) × IsKindsFault text z.said names.items n f × (e ≡ blamed_by (exports_kind own) text f)
+IsLineFault own used text z ds (LocalKinds names count) e = AreLocalKindsRefused own text z.said (kind_names_in text ds) names.items count e
+IsLineFault own used text z ds (Constants names ty) e = (f : SigFault) × AreConstantsWrong text z.said names.items ty f × (e ≡ blamed_by (exports_constant own) text f)
+IsLineFault own used text z ds (Locals names ty) e = AreLocalsRefused own text z.said (constant_names_in text ds) names.items ty e
+IsLineFault own used text z ds (Abbreviation name ps ty) e = (f : SigFault) × IsAbbreviationWrong text z name ps.items ty f × (e ≡ blamed_by (exports_kind own) text f)
+IsLineFault own used text z ds (Accumulate words) e = AreModulesRefused own used text ds words.items e
+IsLineFault own used text z ds (AccumSig words) e = AreSignaturesRefused own used text ds words.items e
+IsLineFault own used text z ds (Fixities names f n) e = ⊥
+
+abbrev pub IsLineTaken : Signature → List Signature → List ℕ → Seen → List Declaration → Declaration → Type 0
+IsLineTaken own used text z ds (Kinds names n) = AreMeant text z.said (a_kind n) names.items × AreNumbered text z.said names.items × (n ≤ MAX_ARGUMENTS)
+IsLineTaken own used text z ds (LocalKinds names count) = AreLocalKindsTaken own text z.said (kind_names_in text ds) names.items count
+IsLineTaken own used text z ds (Constants names ty) = AreShort text names.items × IsSoundType text z.said ty
+IsLineTaken own used text z ds (Locals names ty) = AreLocalsTaken own text z.said (constant_names_in text ds) names.items ty
+IsLineTaken own used text z ds (Abbreviation name ps ty) = IsSoundAbbreviation text z name ps.items ty
+IsLineTaken own used text z ds (Accumulate words) = AreModulesTaken own used text ds words.items
+IsLineTaken own used text z ds (AccumSig words) = AreSignaturesTaken own used text ds words.items
+IsLineTaken own used text z ds (Fixities names f n) = Unit {0}
 
 -- the first sentence that is refused, and why: each one before it is taken
-pub record IsFaultAmong (own : Signature) (text : List ℕ) (said : List (Row Said)) (ds : List Declaration) (e : ModuleSigFault) : Type 0 where
+pub record IsFaultAmong (own : Signature) (used : List Signature) (text : List ℕ) (z : Seen) (ds : List Declaration) (e : ModuleSigFault) : Type 0 where
   pub k : ℕ
   pub line : Declaration
   pub inside : k < length ds
   pub at_line : slice_index_or ds k line ≡ line
-  pub why : IsLineFault own text said ds line e
-  pub before : All (IsLineTaken own text said ds) (take k ds)
+  pub why : IsLineFault own used text z ds line e
+  pub before : All (IsLineTaken own used text z ds) (take k ds)
+
+-- the same of a sentence: exported constants are blamed as such, and local ones of a type have faults of their own
+abbrev pub HaveLocalsCause : List ℕ → List (List ℕ) → List Spot → Option RawType → ModuleSigFault → Type 0
+HaveLocalsCause text words names None e = Unit {0}
+HaveLocalsCause text words names (Some ty) e = (f : SigFault) → e ≡ wrong.Sig f → HasNameCause text words names f
+
+abbrev pub HasLineCause : Signature → List ℕ → List (List ℕ) → Declaration → ModuleSigFault → Type 0
+HasLineCause own text words (Kinds names n) e = Unit {0}
+HasLineCause own text words (LocalKinds names count) e = Unit {0}
+HasLineCause own text words (Constants names ty) e = (f : SigFault) × (e ≡ blamed_by (exports_constant own) text f) × HasNameCause text words names.items f
+HasLineCause own text words (Locals names ty) e = HaveLocalsCause text words names.items ty e
+HasLineCause own text words (Abbreviation name ps ty) e = Unit {0}
+HasLineCause own text words (Accumulate ws) e = Unit {0}
+HasLineCause own text words (AccumSig ws) e = Unit {0}
+HasLineCause own text words (Fixities names f n) e = Unit {0}
+
+abbrev pub AreLocalsOtherIf : List ℕ → List (Row Said) → List (Row Definition) → List (Row Ty) → List (Row Written) → List Spot → Option RawType → ModuleSigFault → Type 0
+AreLocalsOtherIf text said defs given rows names None e = Unit {0}
+AreLocalsOtherIf text said defs given rows names (Some ty) e = (f : SigFault) → e ≡ wrong.Sig f → IsOtherIf text said defs given rows names ty f
+
+abbrev pub IsLineOtherIf : Signature → List ℕ → List (Row Said) → List (Row Definition) → List (Row Ty) → List (Row Written) → Declaration → ModuleSigFault → Type 0
+IsLineOtherIf own text said defs given rows (Kinds names n) e = Unit {0}
+IsLineOtherIf own text said defs given rows (LocalKinds names count) e = Unit {0}
+IsLineOtherIf own text said defs given rows (Constants names ty) e = (f : SigFault) × (e ≡ blamed_by (exports_constant own) text f) × IsOtherIf text said defs given rows names.items ty f
+IsLineOtherIf own text said defs given rows (Locals names ty) e = AreLocalsOtherIf text said defs given rows names.items ty e
+IsLineOtherIf own text said defs given rows (Abbreviation name ps ty) e = (f : SigFault) × (e ≡ blamed_by (exports_kind own) text f) × IsOtherBodyIf text said defs name ps.items ty f
+IsLineOtherIf own text said defs given rows (Accumulate ws) e = Unit {0}
+IsLineOtherIf own text said defs given rows (AccumSig ws) e = Unit {0}
+IsLineOtherIf own text said defs given rows (Fixities names f n) e = Unit {0}
+
+-- what is told of a refusal at a sentence, behind those before it in the text: a constant that is declared otherwise is known, in the language, in the signatures or in these sentences, and where numbers are wanting none is left. Where the signatures are as texts have them, one that differs has another type than the known one, and an abbreviation another body than the first one of its name.
+pub record IsToldAt (own : Signature) (used : List Signature) (text : List ℕ) (lines : List Sentence) (before : List Declaration) (line : Declaration) (e : ModuleSigFault) : Type 0 where
+  pub names : HasLineCause own text ((constants_of own ++ of_each constants_of used) ++ constant_names_in text before) line e
+  pub types : AreOfTexts (own ∷ used) → IsLineOtherIf own text (said_in_module own used text lines)
+      (as_trees (trees_here (said_of own ++ of_each said_of used) (bodies_of own ++ of_each bodies_of used)) ++ definitions_in text (declarations lines))
+      (trees_here (said_of own ++ of_each said_of used) (types_of own ++ of_each types_of used)) (typed_in text before) line e
 
 -- Why the declarations of a module are refused, where its own signature and those that it names are these: want of memory alone is free.
 abbrev pub IsDeclarationRefusal : Signature → List Signature → List ℕ → List Sentence → ModuleSigFault → Type 0
-IsDeclarationRefusal own used text lines e = (e ≡ wrong.Sig fault.Memory) ⊎ IsFaultAmong own text (said_in_module own used text lines) (declarations lines) e
+IsDeclarationRefusal own used text lines e =
+    (e ≡ wrong.Sig fault.Memory) ⊎ ((f : IsFaultAmong own used text (seen_in_module own used text lines) (declarations lines) e) × IsToldAt own used text lines (take f.k (declarations lines)) f.line e)

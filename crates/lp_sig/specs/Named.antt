@@ -1,5 +1,5 @@
 -- Types by the names of their kinds, and which constants of one signature another one has with the same types.
-use Rattle.std.specs.Prelude.{◌≡◌, ◌-◌, ◌+◌, ◌<◌, ℕ, List, [], ◌∷◌, ◌++◌, map, length, nat_lt, Option, Some, slice_get, Contains, All, if◌then◌else◌}
+use Rattle.std.specs.Prelude.{◌≡◌, ◌-◌, ◌+◌, ◌<◌, ℕ, List, [], ◌∷◌, ◌++◌, map, length, nat_lt, ◌≤◌, Option, Some, slice_get, Contains, All, if◌then◌else◌}
 use Rattle.std.specs.List.{range_with_len}
 use Rattle.lp_calculus.specs.Types.{Ty, Tys, var, param, con, arrow, no_types, types}
 use Rattle.lp_base.specs.declared.place.Spot.{Spot}
@@ -9,14 +9,16 @@ use Rattle.lp_syntax.specs.declared.text.Sentence.{Sentence}
 use Rattle.lp_term.specs.Nodes.{type_tree}
 use Rattle.lp_term.specs.declared.node.TypeId.{TypeId}
 use Rattle.lp_sig.specs.Loading.{accum_words}
-use Rattle.lp_sig.specs.Modules.{declarations, first_names, IsApart}
+use Rattle.lp_sig.specs.Modules.{declarations, first_names, said_in_module, IsApart}
 use Rattle.lp_sig.specs.Pieces.{spelled}
-use Rattle.lp_sig.specs.Rows.{found}
-use Rattle.lp_sig.specs.Said.{names_in}
+use Rattle.lp_sig.specs.Rows.{Row, found}
+use Rattle.lp_sig.specs.Said.{Said, a_kind, names_in}
 use Rattle.lp_sig.specs.Schemes.{first_variables}
 use Rattle.lp_sig.specs.Standard.{standard_kinds, standard_constants}
 use Rattle.lp_sig.specs.Constants.{standard_tree}
+use Rattle.lp_sig.specs.Words.{meaning_of}
 use Rattle.lp_sig.specs.declared.entries.ConstantEntry.{ConstantEntry}
+use Rattle.lp_sig.specs.declared.entries.KindEntry.{KindEntry}
 use Rattle.lp_sig.specs.declared.signature.Signature.{Signature}
 
 -- a type whose constructors are the names of kinds, where they have some
@@ -66,6 +68,22 @@ abbrev mutual
   AreWhole no_named = Unit {0}
   AreWhole (more_named t ts) = IsWhole t × AreWhole ts
 
+-- a type holds no type parameter
+abbrev mutual
+  pub HasNoParam : Ty → Type 0
+  HasNoParam (var x) = Unit {0}
+  HasNoParam (param k) = ⊥
+  HasNoParam (con c ts) = HaveNoParams ts
+  HasNoParam (arrow a b) = HasNoParam a × HasNoParam b
+
+  pub HaveNoParams : Tys → Type 0
+  HaveNoParams no_types = Unit {0}
+  HaveNoParams (types t ts) = HasNoParam t × HaveNoParams ts
+
+-- those of a signature's constants hold none
+abbrev pub HasFreeTypes : Signature → Type 0
+HasFreeTypes s = All (λ e. HasNoParam (type_tree s.bank e.scheme.0)) s.constants.items
+
 -- a signature has a constant of this name, with so many type variables and this type; every one has those of the language
 pub data HasNamed (s : Signature) (name : List ℕ) (count : ℕ) (t : NamedTy) : Type 0 where
   standard_one : (n : ℕ) → found name standard_constants ≡ Some n → t ≡ named (kind_name (kind_names s)) (standard_tree n) → HasNamed s name count t
@@ -92,7 +110,12 @@ accumulate_in (_ ∷ ds) = accumulate_in ds
 abbrev pub many_words : List ℕ → List Declaration → ℕ
 many_words text ds = length (first_names [] (map (spelled text) (accum_words ds))) + length (first_names [] (map (spelled text) (accumulate_in ds)))
 
--- The signature of a module has the constants of the module's own signature, and of each signature that a word of its text names, with the same types by the names of kinds, where kinds have their numbers by places and types have as many variables as is said.
+-- each kind of a signature means a kind with its count of arguments, where so much is said
+abbrev pub MeansKinds : List (Row Said) → List KindEntry → Type 0
+MeansKinds said kinds = All (λ e. meaning_of e.name.items said ≡ Some (a_kind e.arity)) kinds
+
+-- The signature of a module has the constants of the module's own signature, and of each signature that a word of its text names, with the same types by the names of kinds, where kinds have their numbers by places and types have as many variables as is said; and it has the kinds of these signatures, with their counts of arguments.
 pub record SeesTheirs (own : Signature) (used : List Signature) (text : List ℕ) (lines : List Sentence) (s : Signature) : Type 0 where
   pub own_ones : IsApart own → IsOrdered own → SeesAlike own s
+  pub used_kinds : length used ≤ many_words text (declarations lines) → All (λ u. MeansKinds (said_in_module own used text lines) u.kinds.items) used
   pub used_ones : IsApart own → IsOrdered own → All IsOrdered used → (i : ℕ) (u : Signature) → slice_get used i ≡ Some u → i < many_words text (declarations lines) → SeesAlike u s

@@ -41,6 +41,10 @@ AreAlike sights n = (i : ℕ) → i < n → slice_get sights i ≡ Some Alike
 abbrev pub IsAlike : List Sight → (from : ℕ) → (all : List (List ℕ)) → List ℕ → Type 0
 IsAlike sights from all word = (i : ℕ) → first_place word (first_names [] all) ≡ Some i → slice_get sights (from + i) ≡ Some Alike
 
+-- a sight is that of a word, where numbers begin at this one
+abbrev pub IsSightOf : List Sight → (from : ℕ) → (all : List (List ℕ)) → List ℕ → Sight → Type 0
+IsSightOf sights from all word s = (i : ℕ) × (first_place word (first_names [] all) ≡ Some i) × (slice_get sights (from + i) ≡ Some s)
+
 -- those of all words of some declarations do
 abbrev pub AreWordsAlike : List Sight → (text : List ℕ) → (signatures modules : List (List ℕ)) → List Declaration → Type 0
 AreWordsAlike sights text signatures modules ds =

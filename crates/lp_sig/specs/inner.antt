@@ -1,2 +1,5 @@
 pub mod Given
 pub mod Reading
+pub mod Taking
+pub mod Noting
+pub mod Telling

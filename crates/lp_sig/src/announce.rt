@@ -108,6 +108,7 @@ impl Making {
         ensures constants { self.new.constants ≡ self.old.constants }
         ensures types { self.new.bodies.types ≡ self.old.bodies.types }
         ensures operators { self.new.operators ≡ self.old.operators }
+        ensures uses { self.new.uses ≡ self.old.uses }
     {
         match sentence {
             Sentence::Declares(declaration) => self.announce_line(source, declaration, line),
@@ -122,6 +123,7 @@ impl Making {
         ensures constants { self.new.constants ≡ self.old.constants }
         ensures types { self.new.bodies.types ≡ self.old.bodies.types }
         ensures operators { self.new.operators ≡ self.old.operators }
+        ensures uses { self.new.uses ≡ self.old.uses }
     {
         for at in 0..text.lines.len() {
             self.announce_sentence(source, &text.lines[at], at)?;

@@ -1,8 +1,9 @@
 // The constants so far, each with the type of its first declaration.
-ghost use Rattle.std.specs.Prelude.{◌≡◌, ◌<◌, ◌≤◌, ◌+◌, ◌++◌, ◌⊎◌, ℕ, List, [], ◌∷◌, length, map, Some, None, true, false, is_some, IfErr, IfOk, IfSome, OnOk};
+ghost use Rattle.std.specs.Prelude.{◌≡◌, ◌<◌, ◌≤◌, ◌+◌, ◌++◌, ◌⊎◌, ℕ, List, [], ◌∷◌, length, map, Some, None, true, false, is_some, Contains, IfErr, IfOk, IfSome, OnOk};
 ghost use Rattle.lp_base.specs.declared.limit.Limit.TheVariants as limit;
 ghost use Rattle.lp_base.specs.declared.limits.TheConstants.{END_OF_NUMBERS};
 ghost use Rattle.lp_term.specs.Nodes.{Nodes, Extends, type_tree};
+ghost use Rattle.lp_term.specs.declared.node.TypeId.{TypeId as IsTypeId};
 ghost use Rattle.lp_sig.specs.declared.fault.SigFault.TheVariants as fault;
 ghost use Rattle.lp_sig.specs.Pieces.{spelled};
 ghost use Rattle.lp_sig.specs.Rows.{Row, found, number_row};
@@ -17,7 +18,11 @@ ghost use Rattle.lp_sig.specs.Worded.{HasWords, is_met_word, is_met, names_so_fa
 ghost use Rattle.lp_sig.specs.ModuleFaults.{IsNewFault};
 ghost use Rattle.lp_sig.specs.Sighted.{AreCounted, GrowsBehind, PutsBehind, IsTreeOf};
 ghost use Rattle.lp_sig.specs.Sights.{AreTheirEntries};
+ghost use Rattle.lp_sig.specs.Differing.{HasNameCause};
 ghost use Rattle.lp_sig.specs.inner.Reading.{CanDeclare, AreDeclaredAs};
+ghost use Rattle.lp_sig.specs.inner.Taking.{IsKnownId, IsInside, AreOtherIds, AddsNames};
+ghost use Rattle.lp_sig.specs.declared.constants.Constant.{Constant as IsNamed};
+ghost use Rattle.lp_sig.specs.inner.Telling.{IsRoom, IsKnownType};
 ghost use Rattle.lp_sig.specs.declared.constants.DeclaredType.{DeclaredType as IsDeclaredType};
 ghost use Rattle.lp_sig.specs.declared.constants.Known.TheVariants as known;
 
@@ -152,6 +157,7 @@ impl Constants {
         ensures grown { OnOk result (GrowsBehind self.old self.new) }
         ensures room { OnOk result (IfTyped declared (λ d. 32 + length self.old.constants.items < END_OF_NUMBERS)) }
         ensures put { OnOk result ((d : DeclaredType) → declared ≡ Some d → PutsBehind self.old self.new word.now d) }
+        ensures adds { OnOk result ((k : IsNamed) → Contains self.new.constants.items k → Contains self.old.constants.items k ⊎ ((k.name.items ≡ word.now) × (k.declared ≡ declared))) }
         ensures words { OnOk result ((words : List (List ℕ)) → is_met_word word.now words ≡ false → HasWords self.old words → HasWords self.new (words ++ word.now ∷ [])) }
     {
         let place = self.constants.len();
@@ -166,6 +172,7 @@ impl Constants {
     pub(crate) fn put(&mut self, word: &[u8], declared: DeclaredType) -> Result<bool, Memory>
         ensures words { OnOk result ((words : List (List ℕ)) → is_met_word word.now words ≡ false → HasWords self.old words → HasWords self.new (words ++ word.now ∷ [])) }
         ensures put { OnOk result (PutsBehind self.old self.new word.now declared) }
+        ensures room { IfOk result (IsRoom (length self.old.constants.items)) }
     {
         let place = self.constants.len();
         let name = Vec::from_slice(self.alloc, word)?;
@@ -185,6 +192,8 @@ impl Constants {
         ensures met { IfOk result (λ k. (words : List (List ℕ)) → HasWords self.now words → is_met_word word.now words ≡ is_met k) }
         ensures tree { IfOk result (λ k. (words : List (List ℕ)) → HasWords self.now words → AreCounted types.old.bank self.now → IsTreeOf types.new.bank self.now word.now k) }
         ensures never { IfOk result (λ k. k ≡ known.Untyped → AreTyped self.now → ⊥) }
+        ensures known { IfOk result (λ k. (words : List (List ℕ)) → HasWords self.now words → (t : IsTypeId) → k ≡ known.Typed t → IsKnownId types.new.bank self.now word.now t) }
+        ensures known_type { IfOk result (λ k. (words : List (List ℕ)) → HasWords self.now words → IsKnownType types.new.bank self.now word.now k) }
     {
         if let Some(number) = standard_constant(word) {
             let known = standard_type(types, number)?;
@@ -219,6 +228,9 @@ impl Constants {
         ensures taken { OnOk result ((from : ℕ) (z : Seen) (rows : List (Row Written)) (w : Written) → KnowsConstants types.old.bank self.old z.said z.definitions rows → IfTyped declared (IsTyped types.old.bank z.said z.definitions w) → AreTypedIf from z rows self.old → (TypeStands from z w.text w.raw → is_some declared ≡ true) → IsTakenConstant from z rows (spelled source.now name, w)) }
         ensures words { OnOk result ((words : List (List ℕ)) → HasWords self.old words → HasWords self.new (words ++ spelled source.now name ∷ [])) }
         ensures tree { OnOk result ((words : List (List ℕ)) (d : DeclaredType) → declared ≡ Some d → CanDeclare types.old.bank self.old words d → AreDeclaredAs types.new.bank self.new source.now (name ∷ []) d) }
+        ensures adds { OnOk result (AddsNames self.old self.new source.now (name ∷ []) declared) }
+        ensures full { (words : List (List ℕ)) → HasWords self.old words → IfErr result (HasNameCause source.now words (name ∷ [])) }
+        ensures other { (words : List (List ℕ)) → HasWords self.old words → IfErr result (AreOtherIds source.now types.new.bank self.old (name ∷ []) declared) }
     {
         let word = spelled_at(source, name);
         match self.known_as(types, word)? {
@@ -252,6 +264,9 @@ impl Constants {
         ensures taken { OnOk result ((from : ℕ) (z : Seen) (rows : List (Row Written)) (w : Written) → KnowsConstants types.old.bank self.old z.said z.definitions rows → IfTyped declared (IsTyped types.old.bank z.said z.definitions w) → AreTypedIf from z rows self.old → (TypeStands from z w.text w.raw → is_some declared ≡ true) → AreTakenConstants from z rows (each source.now w names.now)) }
         ensures words { OnOk result ((words : List (List ℕ)) → HasWords self.old words → HasWords self.new (words ++ map (λ s. spelled source.now s) names.now)) }
         ensures trees { OnOk result ((words : List (List ℕ)) (d : DeclaredType) → declared ≡ Some d → CanDeclare types.old.bank self.old words d → AreDeclaredAs types.new.bank self.new source.now names.now d) }
+        ensures adds { OnOk result (AddsNames self.old self.new source.now names.now declared) }
+        ensures full { (words : List (List ℕ)) → HasWords self.old words → IfErr result (HasNameCause source.now words names.now) }
+        ensures other { (words : List (List ℕ)) → IsInside types.old.bank declared → HasWords self.old words → IfErr result (AreOtherIds source.now types.new.bank self.old names.now declared) }
     {
         for name in names {
             self.declare(types, source, *name, declared)?;

@@ -7,7 +7,7 @@ ghost use Rattle.lp_sig.specs.Refusals.{IsFaultIn};
 ghost use Rattle.lp_standard.specs.declared.fixity.Fixity.{Fixity as IsFixity};
 ghost use Rattle.lp_sig.specs.Rows.{Row};
 ghost use Rattle.lp_sig.specs.Said.{Said, a_kind, an_abbreviation, each, fixities_by, fixities_in};
-ghost use Rattle.lp_sig.specs.Words.{IsNameFault, IsMeant, AreMeant, IsNumbered, AreNumbered, IsHead, WordsStand, parameters_of, IsKindsFault, IsSoundType};
+ghost use Rattle.lp_sig.specs.Words.{IsNameFault, IsMeant, AreMeant, IsNumbered, AreNumbered, IsKindsFault, IsSoundType};
 ghost use Rattle.lp_sig.specs.Standing.{seen_count, AllStand, TypeStands};
 ghost use Rattle.lp_sig.specs.Faults.{IsAbbreviationFault, IsSoundAbbreviation, HasFirstBody, IsSentenceFault, IsSound, AreSound};
 ghost use Rattle.lp_sig.specs.Declares.{AreAllTyped};
@@ -17,13 +17,16 @@ ghost use Rattle.lp_base.specs.declared.place.Spot.{Spot};
 ghost use Rattle.lp_base.specs.declared.limits.TheConstants.{MAX_ARGUMENTS, MAX_NAME_BYTES};
 ghost use Rattle.lp_term.specs.Nodes.{Extends};
 ghost use Rattle.lp_sig.specs.Places.{first_place};
-ghost use Rattle.lp_sig.specs.Abbreviations.{abbreviation_names, Seen, seen_text};
+ghost use Rattle.lp_sig.specs.Abbreviations.{abbreviation_names, Seen, KnowsUses, seen_text};
 ghost use Rattle.lp_sig.specs.Holding.{Sees, KnowsSeen, HoldsBodies};
 ghost use Rattle.lp_sig.specs.Types.{Definition};
 ghost use Rattle.lp_sig.specs.Sighted.{GrowsBehind};
 ghost use Rattle.lp_sig.specs.ModuleFaults.{AreConstantsWrong, IsAbbreviationWrong};
 ghost use Rattle.lp_sig.specs.Worded.{HasWords};
+ghost use Rattle.lp_calculus.specs.Types.{Ty};
+ghost use Rattle.lp_sig.specs.Differing.{HasNameCause, IsOtherIf, IsOtherBodyIf};
 ghost use Rattle.lp_sig.specs.inner.Reading.{Reads};
+ghost use Rattle.lp_sig.specs.inner.Taking.{IsTaking, Takes};
 ghost use Rattle.lp_sig.specs.Constants.{Written, written_in, constants_by, constants_in, KnowsConstants, AreSettledIf, AreTypedIf, AreTakenConstants, HasFewVariables, IsConstantsFault};
 
 use crate::bodies::Bodies;
@@ -151,6 +154,9 @@ pub(crate) fn declare_constants(
     ensures declared { (from : ℕ) (z : Seen) (rows : List (Row Written)) → Knows names.now z.said → HoldsBodies bodies.old.types.bank bodies.old.bodies.items z.said z.definitions → AreSettledIf from z bodies.old.bodies.items → KnowsConstants bodies.old.types.bank constants.old z.said z.definitions rows → AreTypedIf from z rows constants.old → IfOk result (λ done. AreTypedIf from z (rows ++ each source.now (written_in source.now raw.now) spots.now) constants.new × AreTakenConstants from z rows (each source.now (written_in source.now raw.now) spots.now)) }
     ensures words { OnOk result ((words : List (List ℕ)) → HasWords constants.old words → HasWords constants.new (words ++ map (λ s. spelled source.now s) spots.now)) }
     ensures reads { OnOk result (Reads names.now bodies.old constants.old bodies.new constants.new (each source.now (written_in source.now raw.now) spots.now) (map (λ s. spelled source.now s) spots.now)) }
+    ensures full { (said : List (Row Said)) (words : List (List ℕ)) → Knows names.now said → HasWords constants.old words → IfErr result (HasNameCause source.now words spots.now) }
+    ensures other { (said : List (Row Said)) (defs : List (Row Definition)) (given : List (Row Ty)) (rows : List (Row Written)) (words : List (List ℕ)) → IsTaking names.now bodies.old constants.old said defs given rows words → IfErr result (IsOtherIf source.now said defs given rows spots.now raw.now) }
+    ensures takes { OnOk result (Takes names.now bodies.old constants.old bodies.new constants.new (each source.now (written_in source.now raw.now) spots.now) (map (λ s. spelled source.now s) spots.now)) }
 {
     check_lengths(source, spots)?;
     let declared = bodies.scheme(names, source, raw)?;
@@ -170,10 +176,10 @@ impl Bodies {
         raw: &RawType,
     ) -> Result<(), SigFault>
         ensures why { (z : Seen) → Sees names.now (map (λ out. out.items) uses.now.ways.items) self.old.types.bank self.old.bodies.items z → IfErr result (IsAbbreviationFault source.now z name parameters.now raw.now) }
-        ensures reason { (said : List (Row Said)) → Knows names.now said → IfErr result (λ e. (e ≡ fault.Memory) ⊎ IsAbbreviationWrong source.now said name parameters.now raw.now e) }
-        ensures sound { (said : List (Row Said)) → Knows names.now said → IfOk result (λ done. IsHead source.now said name parameters.now × WordsStand source.now said (parameters_of source.now parameters.now) raw.now.nodes.items) }
+        ensures reason { (z : Seen) → Knows names.now z.said → KnowsUses (map (λ out. out.items) uses.now.ways.items) z → IfErr result (λ e. (e ≡ fault.Memory) ⊎ IsAbbreviationWrong source.now z name parameters.now raw.now e) }
+        ensures other { (said : List (Row Said)) (defs : List (Row Definition)) → Knows names.now said → HoldsBodies self.old.types.bank self.old.bodies.items said defs → IfErr result (IsOtherBodyIf source.now said defs name parameters.now raw.now) }
         ensures taken { IfOk result (λ done. IsShort source.now name × AreApart source.now parameters.now × (length parameters.now ≤ MAX_ARGUMENTS)) }
-        ensures stand { (z : Seen) → Sees names.now (map (λ out. out.items) uses.now.ways.items) self.old.types.bank self.old.bodies.items z → IfOk result (λ done. IsSoundAbbreviation source.now z name parameters.now raw.now) }
+        ensures stand { (z : Seen) → Knows names.now z.said → KnowsUses (map (λ out. out.items) uses.now.ways.items) z → IfOk result (λ done. IsSoundAbbreviation source.now z name parameters.now raw.now) }
         ensures same { (from : ℕ) (z : Seen) → Sees names.now (map (λ out. out.items) uses.now.ways.items) self.old.types.bank self.old.bodies.items z → AreSettledIf from z self.old.bodies.items → IfOk result (λ done. HasFirstBody from source.now z name parameters.now raw.now) }
         ensures kept { Extends self.old.types.bank self.new.types.bank }
         ensures bodies { self.new.bodies ≡ self.old.bodies }
@@ -204,10 +210,10 @@ impl Making {
         raw: &RawType,
     ) -> Result<(), SigFault>
         ensures why { (z : Seen) → Sees self.old.names (map (λ out. out.items) self.old.uses.ways.items) self.old.bodies.types.bank self.old.bodies.bodies.items z → IfErr result (IsAbbreviationFault source.now z name parameters.now raw.now) }
-        ensures reason { (said : List (Row Said)) → Knows self.old.names said → IfErr result (λ e. (e ≡ fault.Memory) ⊎ IsAbbreviationWrong source.now said name parameters.now raw.now e) }
-        ensures sound { (said : List (Row Said)) → Knows self.old.names said → IfOk result (λ done. IsHead source.now said name parameters.now × WordsStand source.now said (parameters_of source.now parameters.now) raw.now.nodes.items) }
+        ensures reason { (z : Seen) → Knows self.old.names z.said → KnowsUses (map (λ out. out.items) self.old.uses.ways.items) z → IfErr result (λ e. (e ≡ fault.Memory) ⊎ IsAbbreviationWrong source.now z name parameters.now raw.now e) }
+        ensures other { (said : List (Row Said)) (defs : List (Row Definition)) → Knows self.old.names said → HoldsBodies self.old.bodies.types.bank self.old.bodies.bodies.items said defs → IfErr result (IsOtherBodyIf source.now said defs name parameters.now raw.now) }
         ensures taken { IfOk result (λ done. IsShort source.now name × AreApart source.now parameters.now × (length parameters.now ≤ MAX_ARGUMENTS)) }
-        ensures stand { (z : Seen) → Sees self.old.names (map (λ out. out.items) self.old.uses.ways.items) self.old.bodies.types.bank self.old.bodies.bodies.items z → IfOk result (λ done. IsSoundAbbreviation source.now z name parameters.now raw.now) }
+        ensures stand { (z : Seen) → Knows self.old.names z.said → KnowsUses (map (λ out. out.items) self.old.uses.ways.items) z → IfOk result (λ done. IsSoundAbbreviation source.now z name parameters.now raw.now) }
         ensures same { (from : ℕ) (z : Seen) → Sees self.old.names (map (λ out. out.items) self.old.uses.ways.items) self.old.bodies.types.bank self.old.bodies.bodies.items z → AreSettledIf from z self.old.bodies.bodies.items → IfOk result (λ done. HasFirstBody from source.now z name parameters.now raw.now) }
         ensures names { self.new.names ≡ self.old.names }
         ensures uses { self.new.uses ≡ self.old.uses }

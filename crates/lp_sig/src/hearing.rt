@@ -1,9 +1,9 @@
 // What a module's text says of names and words.
-ghost use Rattle.std.specs.Prelude.{◌≡◌, ◌++◌, ℕ, List, [], ◌∷◌, length, map, Some, IfOk, OnOk, if◌then◌else◌};
+ghost use Rattle.std.specs.Prelude.{◌≡◌, ◌++◌, ℕ, List, [], ◌∷◌, length, map, Some, IfOk, IfSome, OnOk, if◌then◌else◌};
 ghost use Rattle.lp_sig.specs.Pieces.{spelled};
 ghost use Rattle.lp_sig.specs.Modules.{declarations, constant_names_by, constant_names_in, first_names};
 ghost use Rattle.lp_sig.specs.ModuleFaults.{kind_names_by, kind_names_in};
-ghost use Rattle.lp_sig.specs.Sights.{HasKeys, HasNumbers, IsAlike, signature_words, module_words};
+ghost use Rattle.lp_sig.specs.Sights.{HasKeys, HasNumbers, IsAlike, IsSightOf, signature_words, module_words};
 ghost use Rattle.lp_sig.specs.declared.see.Sight.TheVariants.{Alike};
 
 use crate::pieces::spelled_at;
@@ -189,7 +189,8 @@ impl Said {
 
     // How the signature that a word of accum_sig names goes with those before it.
     pub(crate) fn sight_of_accum_sig(&self, sights: &[Sight], word: &[u8]) -> Option<Sight>
-        ensures { (signatures : List (List ℕ)) → HasNumbers self.now.accum_sigs signatures → result ≡ Some Alike → IsAlike sights.now 0 signatures word.now }
+        ensures alike { (signatures : List (List ℕ)) → HasNumbers self.now.accum_sigs signatures → result ≡ Some Alike → IsAlike sights.now 0 signatures word.now }
+        ensures place { (signatures : List (List ℕ)) → HasNumbers self.now.accum_sigs signatures → IfSome result (IsSightOf sights.now 0 signatures word.now) }
     {
         let number = self.accum_sigs.get(word)?;
         sights.get(*number).copied()
@@ -197,7 +198,8 @@ impl Said {
 
     // How the signature that a word of accumulate names goes with those before it.
     pub(crate) fn sight_of_accumulate(&self, sights: &[Sight], word: &[u8]) -> Option<Sight>
-        ensures { (signatures modules : List (List ℕ)) → HasNumbers self.now.accum_sigs signatures → HasNumbers self.now.accumulates modules → result ≡ Some Alike → IsAlike sights.now (length (first_names [] signatures)) modules word.now }
+        ensures alike { (signatures modules : List (List ℕ)) → HasNumbers self.now.accum_sigs signatures → HasNumbers self.now.accumulates modules → result ≡ Some Alike → IsAlike sights.now (length (first_names [] signatures)) modules word.now }
+        ensures place { (signatures modules : List (List ℕ)) → HasNumbers self.now.accum_sigs signatures → HasNumbers self.now.accumulates modules → IfSome result (IsSightOf sights.now (length (first_names [] signatures)) modules word.now) }
     {
         let number = self.accumulates.get(word)?;
         let place = number.checked_add(self.accum_sigs.len())?;

@@ -12,8 +12,8 @@ ghost use Rattle.lp_sig.specs.Refusals.{IsAccepted};
 ghost use Rattle.lp_sig.specs.Modules.{HasSeen, IsApart, HasOwnFirst};
 ghost use Rattle.lp_sig.specs.declared.signature.Signature.{Signature};
 ghost use Rattle.lp_sig.specs.Laws.{all_said, all_definitions};
-ghost use Rattle.lp_sig.specs.Named.{IsOrdered};
-ghost use Rattle.lp_sig.specs.AsWritten.{HasWholeBodies};
+ghost use Rattle.lp_sig.specs.Named.{HasFreeTypes, IsOrdered, SeesTheirs};
+ghost use Rattle.lp_sig.specs.AsWritten.{HasWholeBodies, HasWholeTypes, AreReady, DeclaresTypes};
 ghost use Rattle.lp_sig.specs.Same.{AreSameSignatures};
 ghost use Rattle.lp_sig.specs.Worked.{IsWorked};
 
@@ -51,4 +51,14 @@ pub fn signatures_are_ordered()
 /// In the signature of texts each kind of the body of an abbreviation has a name.
 pub fn bodies_are_whole()
     ensures { (names : List (String Global)) (sources : List (Vec ℕ Global)) (texts : List SignatureText) (root : ℕ) (fixities : List (Row (Fixity × ℕ))) (s : Signature) → IsAccepted names sources texts root (map kind_row s.kinds.items) fixities s.bank s.abbreviations.items s.constants.items → HasWholeBodies s }
+{}
+
+/// In the signature of texts no type of a constant holds a type parameter.
+pub fn types_hold_no_parameters()
+    ensures { (names : List (String Global)) (sources : List (Vec ℕ Global)) (texts : List SignatureText) (root : ℕ) (fixities : List (Row (Fixity × ℕ))) (s : Signature) → IsAccepted names sources texts root (map kind_row s.kinds.items) fixities s.bank s.abbreviations.items s.constants.items → HasFreeTypes s }
+{}
+
+/// Where the signatures are such as texts have, each kind in the type of a constant that a module sees has a name.
+pub fn types_are_whole()
+    ensures { (own : Signature) (used : List Signature) (text : List ℕ) (lines : List Sentence) (s : Signature) → AreReady own used text lines → HasSeen own used text lines s → SeesTheirs own used text lines s → DeclaresTypes own used text lines s → HasWholeTypes s }
 {}

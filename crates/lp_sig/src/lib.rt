@@ -59,8 +59,9 @@ mod walk;
 pub use entries::{AbbreviationEntry, ConstantEntry, FixityEntry, KindEntry};
 pub use fault::SigFault;
 pub use laws::{
-    a_type_has_one_scheme, names_are_apart, own_names_come_first, signatures_are_ordered,
-    texts_have_one_signature, worked_signature,
+    a_type_has_one_scheme, bodies_are_whole, names_are_apart, own_names_come_first,
+    signatures_are_ordered, texts_have_one_signature, types_are_whole, types_hold_no_parameters,
+    worked_signature,
 };
 pub use module_fault::ModuleSigFault;
 pub use module_text::module_signature;

@@ -1,25 +1,38 @@
 // What the declarations of a module say, line by line.
 ghost use Rattle.std.specs.Prelude.{◌≡◌, ◌⊎◌, ◌≤◌, ◌++◌, ℕ, List, [], ◌∷◌, length, map, true, false, Some, All, IfOk, IfErr, OnOk};
 ghost use Rattle.lp_sig.specs.Pieces.{spelled};
+ghost use Rattle.lp_base.specs.declared.limit.Limit.TheVariants as limit;
 ghost use Rattle.lp_base.specs.declared.place.Spot.{Spot as IsSpot};
 ghost use Rattle.lp_base.specs.declared.limits.TheConstants.{MAX_ARGUMENTS};
 ghost use Rattle.lp_syntax.specs.declared.text.Declaration.{Declaration as IsDeclaration};
 ghost use Rattle.lp_sig.specs.Rows.{Row};
 ghost use Rattle.lp_sig.specs.Said.{Said as IsSaid, a_kind, each, is_among};
 ghost use Rattle.lp_sig.specs.Knowing.{Knows};
+ghost use Rattle.lp_sig.specs.Abbreviations.{Seen as IsSeen, KnowsUses};
+ghost use Rattle.lp_sig.specs.Faults.{IsSoundAbbreviation};
 ghost use Rattle.lp_syntax.specs.declared.text.RawType.{RawType as IsRawType};
 ghost use Rattle.lp_sig.specs.Limits.{IsShort, AreShort};
-ghost use Rattle.lp_sig.specs.Words.{IsMeant, AreMeant, IsNumbered, AreNumbered, IsKindsFault, IsSoundType, IsHead, WordsStand, parameters_of, IsNameFault};
+ghost use Rattle.lp_sig.specs.Words.{IsMeant, AreMeant, IsNumbered, AreNumbered, IsKindsFault, IsSoundType, IsNameFault};
 ghost use Rattle.lp_sig.specs.Modules.{constant_names_by, constant_names_in, first_names, local_names};
-ghost use Rattle.lp_sig.specs.ModuleFaults.{exports_kind, exports_constant, differs_at, blamed_by, kind_names_in, IsFirstOf, IsLocalFault, IsLocal, IsLocalKindsFault, IsKnownFault, IsNewFault, AreConstantsWrong, AreLocalsWrong, IsAbbreviationWrong, IsWordFault, IsLineFault, IsLineTaken, IsNewLocal, IsTypeFault, AreLocalKindsRefused, AreLocalKindsTaken, AreLocalsRefused, AreLocalsTaken};
+ghost use Rattle.lp_sig.specs.ModuleFaults.{exports_kind, exports_constant, differs_at, blamed_by, kind_names_in, IsFirstOf, IsLocalFault, IsLocal, IsLocalKindsFault, IsKnownFault, IsNewFault, AreConstantsWrong, AreLocalsWrong, IsAbbreviationWrong, AreModulesRefused, AreModulesTaken, AreSignaturesRefused, AreSignaturesTaken, IsLineFault, IsLineTaken, IsNewLocal, IsTypeFault, AreLocalKindsRefused, AreLocalKindsTaken, AreLocalsRefused, AreLocalsTaken};
 ghost use Rattle.lp_sig.specs.declared.fault.SigFault.{SigFault as IsFault};
 ghost use Rattle.lp_sig.specs.declared.fault.SigFault.TheVariants as reason;
 ghost use Rattle.lp_sig.specs.declared.module_fault.ModuleSigFault.TheVariants as wrong;
 ghost use Rattle.lp_sig.specs.Sighted.{Grows};
 ghost use Rattle.lp_sig.specs.Sights.{HasKeys, HasNumbers, IsAlike, AreWordsAlike};
 ghost use Rattle.lp_sig.specs.declared.see.Sight.TheVariants.{Alike};
+ghost use Rattle.lp_sig.specs.declared.see.Sight.{Sight as IsSight};
+ghost use Rattle.lp_sig.specs.declared.signature.Signature.{Signature as IsSignature};
+ghost use Rattle.lp_sig.specs.inner.Telling.{IsBlamed, AreSights};
 ghost use Rattle.lp_sig.specs.Worded.{HasWords};
-ghost use Rattle.lp_sig.specs.Constants.{written_in};
+ghost use Rattle.lp_calculus.specs.Types.{Ty};
+ghost use Rattle.lp_term.specs.Nodes.{Extends};
+ghost use Rattle.lp_sig.specs.Types.{Definition};
+ghost use Rattle.lp_sig.specs.Constants.{Written, written_in};
+ghost use Rattle.lp_sig.specs.Differing.{HasNameCause, IsOtherIf, IsOtherBodyIf};
+ghost use Rattle.lp_sig.specs.Holding.{HoldsBodies};
+ghost use Rattle.lp_sig.specs.ModuleFaults.{HaveLocalsCause, AreLocalsOtherIf, HasLineCause, IsLineOtherIf};
+ghost use Rattle.lp_sig.specs.inner.Taking.{IsInside, AreOtherIds, AddsNames, IsTaking, TakesOn};
 ghost use Rattle.lp_sig.specs.AsWritten.{typed_locals, typed_by};
 ghost use Rattle.lp_sig.specs.inner.Reading.{CanDeclare, AreDeclaredAs, ReadsOn};
 
@@ -39,7 +52,7 @@ use lp_syntax::{Declaration, RawType};
 // A word that names a signature.
 fn check_word(word: Spot, sight: Option<Sight>) -> Result<(), ModuleSigFault>
     ensures alike { OnOk result (sight ≡ Some Alike) }
-    ensures refused { IfErr result (λ e. (e ≡ wrong.Sig reason.Memory) ⊎ IsWordFault (word ∷ []) e) }
+    ensures refused { IfErr result (λ e. (e ≡ wrong.Sig reason.Memory) ⊎ ((s : IsSight) × (sight ≡ Some s) × IsBlamed word s e)) }
 {
     match sight {
         Some(Sight::Alike) => Ok(()),
@@ -227,10 +240,14 @@ impl<'a> ModuleLines<'a> {
     ) -> Result<(), ModuleSigFault>
         ensures names { making.new.names ≡ making.old.names }
         ensures operators { making.new.operators ≡ making.old.operators }
+        ensures uses { making.new.uses ≡ making.old.uses }
         ensures grown { OnOk result (Grows making.old making.new) }
         ensures words { OnOk result ((words : List (List ℕ)) → HasWords making.old.constants words → HasWords making.new.constants (words ++ map (λ s. spelled self.now.source.now s) names.now)) }
         ensures kept { making.new.bodies.bodies ≡ making.old.bodies.bodies }
         ensures reads { OnOk result (ReadsOn making.old making.new (each self.now.source.now (written_in self.now.source.now raw.now) names.now) (map (λ s. spelled self.now.source.now s) names.now)) }
+        ensures full { (said : List (Row IsSaid)) (words : List (List ℕ)) → Knows making.old.names said → HasWords making.old.constants words → IfErr result (λ e. (f : IsFault) × (e ≡ blamed_by (exports_constant self.now.own.now) self.now.source.now f) × HasNameCause self.now.source.now words names.now f) }
+        ensures other { (said : List (Row IsSaid)) (defs : List (Row Definition)) (given : List (Row Ty)) (rows : List (Row Written)) (words : List (List ℕ)) → IsTaking making.old.names making.old.bodies making.old.constants said defs given rows words → IfErr result (λ e. (f : IsFault) × (e ≡ blamed_by (exports_constant self.now.own.now) self.now.source.now f) × IsOtherIf self.now.source.now said defs given rows names.now raw.now f) }
+        ensures takes { OnOk result (TakesOn making.old making.new (each self.now.source.now (written_in self.now.source.now raw.now) names.now) (map (λ s. spelled self.now.source.now s) names.now)) }
         ensures refused { (said : List (Row IsSaid)) → Knows making.old.names said → IfErr result (λ e. (e ≡ wrong.Sig reason.Memory) ⊎ ((f : IsFault) × AreConstantsWrong self.now.source.now said names.now raw.now f × (e ≡ blamed_by (exports_constant self.now.own.now) self.now.source.now f))) }
         ensures taken { (said : List (Row IsSaid)) → Knows making.old.names said → IfOk result (λ done. AreShort self.now.source.now names.now × IsSoundType self.now.source.now said raw.now) }
     {
@@ -270,10 +287,15 @@ impl<'a> ModuleLines<'a> {
     ) -> Result<(), ModuleSigFault>
         ensures names { making.new.names ≡ making.old.names }
         ensures operators { making.new.operators ≡ making.old.operators }
+        ensures uses { making.new.uses ≡ making.old.uses }
         ensures grown { OnOk result (Grows making.old making.new) }
         ensures words { OnOk result ((words : List (List ℕ)) → HasWords making.old.constants words → HasWords making.new.constants (words ++ spelled self.now.source.now name ∷ [])) }
         ensures kept { making.new.bodies.bodies ≡ making.old.bodies.bodies }
         ensures tree { OnOk result ((words : List (List ℕ)) (d : DeclaredType) → declared ≡ Some d → CanDeclare making.old.bodies.types.bank making.old.constants words d → AreDeclaredAs making.new.bodies.types.bank making.new.constants self.now.source.now (name ∷ []) d) }
+        ensures adds { OnOk result (AddsNames making.old.constants making.new.constants self.now.source.now (name ∷ []) declared) }
+        ensures full { (words : List (List ℕ)) → HasWords making.old.constants words → IfErr result (λ e. (f : IsFault) → e ≡ wrong.Sig f → HasNameCause self.now.source.now words (name ∷ []) f) }
+        ensures other { (words : List (List ℕ)) → HasWords making.old.constants words → IfErr result (λ e. (f : IsFault) → e ≡ wrong.Sig f → AreOtherIds self.now.source.now making.new.bodies.types.bank making.old.constants (name ∷ []) declared f) }
+        ensures bank { Extends making.old.bodies.types.bank making.new.bodies.types.bank }
         ensures refused { IfErr result (λ e. (e ≡ wrong.Sig reason.Memory) ⊎ IsLocalFault (exports_constant self.now.own.now) self.now.source.now (IsNewLocal self.now.source.now) name e) }
         ensures taken { IfOk result (λ done. IsLocal (exports_constant self.now.own.now) self.now.source.now (IsShort self.now.source.now) name) }
     {
@@ -296,10 +318,15 @@ impl<'a> ModuleLines<'a> {
     ) -> Result<(), ModuleSigFault>
         ensures names { making.new.names ≡ making.old.names }
         ensures operators { making.new.operators ≡ making.old.operators }
+        ensures uses { making.new.uses ≡ making.old.uses }
         ensures grown { OnOk result (Grows making.old making.new) }
         ensures words { OnOk result ((words : List (List ℕ)) → HasWords making.old.constants words → HasWords making.new.constants (words ++ map (λ s. spelled self.now.source.now s) names.now)) }
         ensures kept { making.new.bodies.bodies ≡ making.old.bodies.bodies }
         ensures trees { OnOk result ((words : List (List ℕ)) (d : DeclaredType) → declared ≡ Some d → CanDeclare making.old.bodies.types.bank making.old.constants words d → AreDeclaredAs making.new.bodies.types.bank making.new.constants self.now.source.now names.now d) }
+        ensures adds { OnOk result (AddsNames making.old.constants making.new.constants self.now.source.now names.now declared) }
+        ensures full { (words : List (List ℕ)) → HasWords making.old.constants words → IfErr result (λ e. (f : IsFault) → e ≡ wrong.Sig f → HasNameCause self.now.source.now words names.now f) }
+        ensures other { (words : List (List ℕ)) → IsInside making.old.bodies.types.bank declared → HasWords making.old.constants words → IfErr result (λ e. (f : IsFault) → e ≡ wrong.Sig f → AreOtherIds self.now.source.now making.new.bodies.types.bank making.old.constants names.now declared f) }
+        ensures bank { Extends making.old.bodies.types.bank making.new.bodies.types.bank }
         ensures refused { IfErr result (λ e. (e ≡ wrong.Sig reason.Memory) ⊎ IsFirstOf (IsLocalFault (exports_constant self.now.own.now) self.now.source.now (IsNewLocal self.now.source.now)) (IsLocal (exports_constant self.now.own.now) self.now.source.now (IsShort self.now.source.now)) names.now e) }
         ensures taken { IfOk result (λ done. All (IsLocal (exports_constant self.now.own.now) self.now.source.now (IsShort self.now.source.now)) names.now) }
     {
@@ -311,7 +338,8 @@ impl<'a> ModuleLines<'a> {
 
     // A fault of the type of local constants, none of which is exported: a long name goes first.
     fn wrong_type(&self, names: &[Spot], fault: SigFault) -> ModuleSigFault
-        ensures { (said : List (Row IsSaid)) (raw : IsRawType) → IsTypeFault self.now.source.now said raw fault → All (λ s. exports_constant self.now.own.now (spelled self.now.source.now s) ≡ false) names.now → AreLocalsWrong self.now.own.now self.now.source.now said names.now raw result }
+        ensures wrong { (said : List (Row IsSaid)) (raw : IsRawType) → IsTypeFault self.now.source.now said raw fault → All (λ s. exports_constant self.now.own.now (spelled self.now.source.now s) ≡ false) names.now → AreLocalsWrong self.now.own.now self.now.source.now said names.now raw result }
+        ensures told { (f : IsFault) → result ≡ wrong.Sig f → (f ≡ reason.Memory) ⊎ ((f ≡ reason.Limit limit.NameLength) ⊎ (f ≡ fault)) }
     {
         match check_lengths(self.source, names) {
             Err(long) => ModuleSigFault::Sig(long),
@@ -321,7 +349,8 @@ impl<'a> ModuleLines<'a> {
 
     // A fault of the type of local constants: that one is exported goes first.
     fn wrong_locals(&self, names: &[Spot], fault: SigFault) -> ModuleSigFault
-        ensures { (said : List (Row IsSaid)) (raw : IsRawType) → (fault ≡ reason.Memory) ⊎ IsTypeFault self.now.source.now said raw fault → (result ≡ wrong.Sig reason.Memory) ⊎ AreLocalsWrong self.now.own.now self.now.source.now said names.now raw result }
+        ensures wrong { (said : List (Row IsSaid)) (raw : IsRawType) → (fault ≡ reason.Memory) ⊎ IsTypeFault self.now.source.now said raw fault → (result ≡ wrong.Sig reason.Memory) ⊎ AreLocalsWrong self.now.own.now self.now.source.now said names.now raw result }
+        ensures told { (f : IsFault) → result ≡ wrong.Sig f → (f ≡ reason.Memory) ⊎ ((f ≡ reason.Limit limit.NameLength) ⊎ (f ≡ fault)) }
     {
         if is_memory(fault) {
             return ModuleSigFault::Sig(SigFault::Memory);
@@ -341,10 +370,14 @@ impl<'a> ModuleLines<'a> {
     ) -> Result<(), ModuleSigFault>
         ensures names { making.new.names ≡ making.old.names }
         ensures operators { making.new.operators ≡ making.old.operators }
+        ensures uses { making.new.uses ≡ making.old.uses }
         ensures grown { OnOk result (Grows making.old making.new) }
         ensures words { OnOk result ((words : List (List ℕ)) → HasWords making.old.constants words → HasWords making.new.constants (words ++ map (λ s. spelled self.now.source.now s) names.now)) }
         ensures kept { making.new.bodies.bodies ≡ making.old.bodies.bodies }
         ensures reads { OnOk result (ReadsOn making.old making.new (each self.now.source.now (written_in self.now.source.now raw.now) names.now) (map (λ s. spelled self.now.source.now s) names.now)) }
+        ensures full { (said : List (Row IsSaid)) (words : List (List ℕ)) → Knows making.old.names said → HasWords making.old.constants words → IfErr result (λ e. (f : IsFault) → e ≡ wrong.Sig f → HasNameCause self.now.source.now words names.now f) }
+        ensures other { (said : List (Row IsSaid)) (defs : List (Row Definition)) (given : List (Row Ty)) (rows : List (Row Written)) (words : List (List ℕ)) → IsTaking making.old.names making.old.bodies making.old.constants said defs given rows words → IfErr result (λ e. (f : IsFault) → e ≡ wrong.Sig f → IsOtherIf self.now.source.now said defs given rows names.now raw.now f) }
+        ensures takes { OnOk result (TakesOn making.old making.new (each self.now.source.now (written_in self.now.source.now raw.now) names.now) (map (λ s. spelled self.now.source.now s) names.now)) }
         ensures refused { (said : List (Row IsSaid)) → Knows making.old.names said → IfErr result (λ e. (e ≡ wrong.Sig reason.Memory) ⊎ AreLocalsWrong self.now.own.now self.now.source.now said names.now raw.now e) }
         ensures taken { (said : List (Row IsSaid)) → Knows making.old.names said → IfOk result (λ done. All (IsLocal (exports_constant self.now.own.now) self.now.source.now (IsShort self.now.source.now)) names.now × IsSoundType self.now.source.now said raw.now) }
     {
@@ -387,10 +420,14 @@ impl<'a> ModuleLines<'a> {
     ) -> Result<(), ModuleSigFault>
         ensures names { making.new.names ≡ making.old.names }
         ensures operators { making.new.operators ≡ making.old.operators }
+        ensures uses { making.new.uses ≡ making.old.uses }
         ensures grown { OnOk result (Grows making.old making.new) }
         ensures words { OnOk result ((words : List (List ℕ)) → HasWords making.old.constants words → HasWords making.new.constants (words ++ local_names self.now.source.now names.now raw.now)) }
         ensures kept { making.new.bodies.bodies ≡ making.old.bodies.bodies }
         ensures reads { OnOk result (ReadsOn making.old making.new (typed_locals self.now.source.now names.now raw.now) (local_names self.now.source.now names.now raw.now)) }
+        ensures full { (said : List (Row IsSaid)) (words : List (List ℕ)) → Knows making.old.names said → HasWords making.old.constants words → IfErr result (HaveLocalsCause self.now.source.now words names.now raw.now) }
+        ensures other { (said : List (Row IsSaid)) (defs : List (Row Definition)) (given : List (Row Ty)) (rows : List (Row Written)) (words : List (List ℕ)) → IsTaking making.old.names making.old.bodies making.old.constants said defs given rows words → IfErr result (AreLocalsOtherIf self.now.source.now said defs given rows names.now raw.now) }
+        ensures takes { OnOk result (TakesOn making.old making.new (typed_locals self.now.source.now names.now raw.now) (local_names self.now.source.now names.now raw.now)) }
         ensures refused { (said : List (Row IsSaid)) (known : List (List ℕ)) → Knows making.old.names said → HasKeys self.now.said.now.constants known → IfErr result (λ e. (e ≡ wrong.Sig reason.Memory) ⊎ AreLocalsRefused self.now.own.now self.now.source.now said known names.now raw.now e) }
         ensures taken { (said : List (Row IsSaid)) (known : List (List ℕ)) → Knows making.old.names said → HasKeys self.now.said.now.constants known → IfOk result (λ done. AreLocalsTaken self.now.own.now self.now.source.now said known names.now raw.now) }
     {
@@ -412,8 +449,10 @@ impl<'a> ModuleLines<'a> {
         ensures grown { OnOk result (Grows making.old making.new) }
         ensures constants { making.new.constants ≡ making.old.constants }
         ensures kept { making.new.bodies.bodies ≡ making.old.bodies.bodies }
-        ensures refused { (said : List (Row IsSaid)) → Knows making.old.names said → IfErr result (λ e. (e ≡ wrong.Sig reason.Memory) ⊎ ((f : IsFault) × IsAbbreviationWrong self.now.source.now said name parameters.now raw.now f × (e ≡ blamed_by (exports_kind self.now.own.now) self.now.source.now f))) }
-        ensures taken { (said : List (Row IsSaid)) → Knows making.old.names said → IfOk result (λ done. IsHead self.now.source.now said name parameters.now × WordsStand self.now.source.now said (parameters_of self.now.source.now parameters.now) raw.now.nodes.items) }
+        ensures uses { making.new.uses ≡ making.old.uses }
+        ensures refused { (z : IsSeen) → Knows making.old.names z.said → KnowsUses (map (λ out. out.items) making.old.uses.ways.items) z → IfErr result (λ e. (e ≡ wrong.Sig reason.Memory) ⊎ ((f : IsFault) × IsAbbreviationWrong self.now.source.now z name parameters.now raw.now f × (e ≡ blamed_by (exports_kind self.now.own.now) self.now.source.now f))) }
+        ensures taken { (z : IsSeen) → Knows making.old.names z.said → KnowsUses (map (λ out. out.items) making.old.uses.ways.items) z → IfOk result (λ done. IsSoundAbbreviation self.now.source.now z name parameters.now raw.now) }
+        ensures other { (said : List (Row IsSaid)) (defs : List (Row Definition)) → Knows making.old.names said → HoldsBodies making.old.bodies.types.bank making.old.bodies.bodies.items said defs → IfErr result (λ e. (f : IsFault) × (e ≡ blamed_by (exports_kind self.now.own.now) self.now.source.now f) × IsOtherBodyIf self.now.source.now said defs name parameters.now raw.now f) }
     {
         match making.declare_abbreviation(self.source, name, parameters, raw) {
             Ok(()) => Ok(()),
@@ -423,7 +462,8 @@ impl<'a> ModuleLines<'a> {
 
     fn accumulate(&self, words: &[Spot]) -> Result<(), ModuleSigFault>
         ensures alike { OnOk result ((signatures modules : List (List ℕ)) → HasNumbers self.now.said.now.accum_sigs signatures → HasNumbers self.now.said.now.accumulates modules → All (IsAlike self.now.sights.now (length (first_names [] signatures)) modules) (map (λ s. spelled self.now.source.now s) words.now)) }
-        ensures refused { IfErr result (λ e. (e ≡ wrong.Sig reason.Memory) ⊎ IsWordFault words.now e) }
+        ensures refused { (used : List IsSignature) (ds : List IsDeclaration) → AreSights self.now.own.now used self.now.source.now self.now.said.now self.now.sights.now ds → IfErr result (λ e. (e ≡ wrong.Sig reason.Memory) ⊎ AreModulesRefused self.now.own.now used self.now.source.now ds words.now e) }
+        ensures taken { (used : List IsSignature) (ds : List IsDeclaration) → AreSights self.now.own.now used self.now.source.now self.now.said.now self.now.sights.now ds → IfOk result (λ done. AreModulesTaken self.now.own.now used self.now.source.now ds words.now) }
     {
         for word in words {
             let sight = self
@@ -436,7 +476,8 @@ impl<'a> ModuleLines<'a> {
 
     fn accum_sig(&self, words: &[Spot]) -> Result<(), ModuleSigFault>
         ensures alike { OnOk result ((signatures : List (List ℕ)) → HasNumbers self.now.said.now.accum_sigs signatures → All (IsAlike self.now.sights.now 0 signatures) (map (λ s. spelled self.now.source.now s) words.now)) }
-        ensures refused { IfErr result (λ e. (e ≡ wrong.Sig reason.Memory) ⊎ IsWordFault words.now e) }
+        ensures refused { (used : List IsSignature) (ds : List IsDeclaration) → AreSights self.now.own.now used self.now.source.now self.now.said.now self.now.sights.now ds → IfErr result (λ e. (e ≡ wrong.Sig reason.Memory) ⊎ AreSignaturesRefused self.now.own.now used self.now.source.now ds words.now e) }
+        ensures taken { (used : List IsSignature) (ds : List IsDeclaration) → AreSights self.now.own.now used self.now.source.now self.now.said.now self.now.sights.now ds → IfOk result (λ done. AreSignaturesTaken self.now.own.now used self.now.source.now ds words.now) }
     {
         for word in words {
             let sight = self
@@ -457,11 +498,15 @@ impl<'a> ModuleLines<'a> {
         ensures operators { making.new.operators ≡ making.old.operators }
         ensures grown { OnOk result (Grows making.old making.new) }
         ensures words { OnOk result ((words : List (List ℕ)) → HasWords making.old.constants words → HasWords making.new.constants (words ++ constant_names_by self.now.source.now declaration.now)) }
+        ensures uses { making.new.uses ≡ making.old.uses }
         ensures kept { making.new.bodies.bodies ≡ making.old.bodies.bodies }
         ensures reads { OnOk result (ReadsOn making.old making.new (typed_by self.now.source.now declaration.now) (constant_names_by self.now.source.now declaration.now)) }
+        ensures full { (said : List (Row IsSaid)) (words : List (List ℕ)) → Knows making.old.names said → HasWords making.old.constants words → IfErr result (HasLineCause self.now.own.now self.now.source.now words declaration.now) }
+        ensures other { (said : List (Row IsSaid)) (defs : List (Row Definition)) (given : List (Row Ty)) (rows : List (Row Written)) (words : List (List ℕ)) → IsTaking making.old.names making.old.bodies making.old.constants said defs given rows words → IfErr result (IsLineOtherIf self.now.own.now self.now.source.now said defs given rows declaration.now) }
+        ensures takes { OnOk result (TakesOn making.old making.new (typed_by self.now.source.now declaration.now) (constant_names_by self.now.source.now declaration.now)) }
         ensures alike { OnOk result ((signatures modules : List (List ℕ)) → HasNumbers self.now.said.now.accum_sigs signatures → HasNumbers self.now.said.now.accumulates modules → AreWordsAlike self.now.sights.now self.now.source.now signatures modules (declaration.now ∷ [])) }
-        ensures refused { (said : List (Row IsSaid)) (ds : List IsDeclaration) → Knows making.old.names said → HasKeys self.now.said.now.kinds (kind_names_in self.now.source.now ds) → HasKeys self.now.said.now.constants (constant_names_in self.now.source.now ds) → IfErr result (λ e. (e ≡ wrong.Sig reason.Memory) ⊎ IsLineFault self.now.own.now self.now.source.now said ds declaration.now e) }
-        ensures taken { (said : List (Row IsSaid)) (ds : List IsDeclaration) → Knows making.old.names said → HasKeys self.now.said.now.kinds (kind_names_in self.now.source.now ds) → HasKeys self.now.said.now.constants (constant_names_in self.now.source.now ds) → IfOk result (λ done. IsLineTaken self.now.own.now self.now.source.now said ds declaration.now) }
+        ensures refused { (used : List IsSignature) (z : IsSeen) (ds : List IsDeclaration) → AreSights self.now.own.now used self.now.source.now self.now.said.now self.now.sights.now ds → Knows making.old.names z.said → KnowsUses (map (λ out. out.items) making.old.uses.ways.items) z → HasKeys self.now.said.now.kinds (kind_names_in self.now.source.now ds) → HasKeys self.now.said.now.constants (constant_names_in self.now.source.now ds) → IfErr result (λ e. (e ≡ wrong.Sig reason.Memory) ⊎ IsLineFault self.now.own.now used self.now.source.now z ds declaration.now e) }
+        ensures taken { (used : List IsSignature) (z : IsSeen) (ds : List IsDeclaration) → AreSights self.now.own.now used self.now.source.now self.now.said.now self.now.sights.now ds → Knows making.old.names z.said → KnowsUses (map (λ out. out.items) making.old.uses.ways.items) z → HasKeys self.now.said.now.kinds (kind_names_in self.now.source.now ds) → HasKeys self.now.said.now.constants (constant_names_in self.now.source.now ds) → IfOk result (λ done. IsLineTaken self.now.own.now used self.now.source.now z ds declaration.now) }
     {
         match declaration {
             Declaration::Kinds(names, arity) => self.kinds(making, names.as_slice(), *arity),

@@ -7,6 +7,8 @@ ghost use Rattle.lp_sig.specs.Said.{Said, an_abbreviation, said_by, said_in};
 ghost use Rattle.lp_sig.specs.Knowing.{Knows};
 ghost use Rattle.lp_sig.specs.Loading.{ways_in};
 ghost use Rattle.lp_sig.specs.Abbreviations.{abbreviation_names, uses_in, Seen, one_body, seen_line, seen_text, KnowsUses};
+ghost use Rattle.lp_sig.specs.Modules.{declarations};
+ghost use Rattle.lp_sig.specs.inner.Noting.{seen_lines};
 
 use crate::names::{Meaning, Names};
 use crate::pieces::{is_variable, spelled_at};
@@ -139,6 +141,22 @@ impl Ways {
         Ok(())
     }
 
+    fn note_sentence(
+        &mut self,
+        alloc: Global,
+        names: &Names,
+        source: &[u8],
+        sentence: &Sentence,
+    ) -> Result<(), Memory>
+        ensures { OnOk result ((z : Seen) (more : List (Row Said)) → Knows names.now ((z.said ++ said_in source.now (declarations (sentence.now ∷ []))) ++ more) → KnowsUses (map (λ out. out.items) self.old.ways.items) z →
+            KnowsUses (map (λ out. out.items) self.new.ways.items) (seen_lines (abbreviation_names ((z.said ++ said_in source.now (declarations (sentence.now ∷ []))) ++ more)) z source.now (declarations (sentence.now ∷ [])))) }
+    {
+        match sentence {
+            Sentence::Declares(line) => self.note_line(alloc, names, source, line),
+            Sentence::Says(_) => Ok(()),
+        }
+    }
+
     // The same for a module's text.
     pub(crate) fn note_module(
         &mut self,
@@ -146,12 +164,11 @@ impl Ways {
         names: &Names,
         source: &[u8],
         text: &ModuleText,
-    ) -> Result<(), Memory> {
-        for sentence in &text.lines {
-            match sentence {
-                Sentence::Declares(line) => self.note_line(alloc, names, source, line)?,
-                Sentence::Says(_) => {}
-            }
+    ) -> Result<(), Memory>
+        ensures { OnOk result ((z : Seen) → Knows names.now (z.said ++ said_in source.now (declarations text.now.lines.items)) → KnowsUses (map (λ out. out.items) self.old.ways.items) z → KnowsUses (map (λ out. out.items) self.new.ways.items) (seen_text z source.now (declarations text.now.lines.items))) }
+    {
+        for at in 0..text.lines.len() {
+            self.note_sentence(alloc, names, source, &text.lines[at])?;
         }
         Ok(())
     }

@@ -14,6 +14,12 @@ use Rattle.lp_module.specs.declared.fault.ModuleFault.{ModuleFault}
 use Rattle.lp_module.specs.declared.module.Module.{Module}
 use Rattle.lp_build.specs.Refused.{IsFirstModule, IsFreeFrom, IsOrderFault, of_module, of_syntax}
 use Rattle.lp_build.specs.Unmade.{IsModuleFaultOf}
+use Rattle.lp_build.specs.Compiled.{ArePaired, IsObjectOf}
+use Rattle.lp_code.specs.declared.object.Object.{Object}
+use Rattle.lp_link.specs.Refusals.{IsLinkRefusal}
+use Rattle.lp_link.specs.declared.fault.LinkRefusal.{LinkRefusal}
+use Rattle.lp_link.specs.declared.fault.LinkRefusal.TheVariants as link
+use Rattle.lp_link.specs.declared.fault.Part.{Part}
 use Rattle.lp_build.specs.declared.fault.BuildFault.{BuildFault}
 use Rattle.lp_build.specs.declared.fault.BuildFault.TheVariants as fault
 use Rattle.lp_build.specs.declared.sources.File.{File}
@@ -57,6 +63,16 @@ IsRefusedAmong files g t e = (e ≡ fault.Memory) ⊎ (IsOrderFault t e ⊎ IsFi
 -- why the module whose text is the file of a number has no meaning
 abbrev pub IsRefusedOfFile : List File → Group SignatureText → Group ModuleText → (number : ℕ) → BuildFault → Type 0
 IsRefusedOfFile files g t number e = (e ≡ fault.Memory) ⊎ IsModuleFaultOf files g t number e
+
+-- how a refusal of linking is told
+abbrev pub of_link : LinkRefusal → BuildFault
+of_link (link.Limit l) = fault.Limit l
+of_link (link.Differ number part) = fault.Memory
+of_link link.Memory = fault.Memory
+
+-- the linking of objects of modules is never refused for a name
+abbrev pub NeverDiffer : List Module → Type 0
+NeverDiffer modules = (os : List Object) → ArePaired IsObjectOf modules (length modules) os → (root number : ℕ) (p : Part) → IsLinkRefusal os root (link.Differ number p) → ⊥
 
 -- why modules have no program
 abbrev pub IsRefusedOf : List Module → BuildFault → Type 0

@@ -12,4 +12,4 @@ returns-in_err-modules-clause-cause c = λ read.
     passed_up c.from_residual.result c.in_err-modules.field-0.0 (IsRefusedImage c.args.sources.now) c.from_residual.ensures.1 (no_modules (c.in_err-modules.ensures.cause read))
 
 pub returns-clause-cause : goal.returns-clause-cause
-returns-clause-cause c = λ read. image_layer c.args.sources.now c.in_ok-modules.modules.items c.image_of.result (c.in_ok-modules.ensures.meanings read) c.image_of.ensures.cause
+returns-clause-cause c = λ read. image_layer c.args.sources.now c.in_ok-modules.modules.items c.image_of.result read (c.in_ok-modules.ensures.meanings read) c.image_of.ensures.cause

@@ -5,7 +5,7 @@ use Rattle.lp_link.specs.Names.{IsNamed}
 use Rattle.lp_link.specs.Refusals.{CanBeLinked, IsLinkRefusal}
 use Rattle.lp_link.specs.declared.fault.LinkRefusal.{LinkRefusal}
 use Rattle.lp_build.specs.Faults.{IsOfTexts}
-use Rattle.lp_build.specs.Unmade.{of_link}
+use Rattle.lp_build.specs.inner.Refusing.{of_link}
 use Rattle.lp_build.specs.declared.fault.BuildFault.{BuildFault}
 use Rattle.lp_build.specs.declared.fault.BuildFault.TheVariants as fault
 use Rattle.lp_build.proofs.Unmaking.{link_texts}

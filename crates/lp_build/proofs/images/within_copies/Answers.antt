@@ -3,7 +3,7 @@ use Rattle.lp_base.specs.declared.limit.Limit.TheVariants as limit
 use Rattle.lp_lemmas.proofs.Results.{passed_up}
 use Rattle.lp_link.specs.Refusals.{HasManyCopies}
 use Rattle.lp_build.specs.Faults.{IsOfTexts}
-use Rattle.lp_build.specs.Unmade.{of_link}
+use Rattle.lp_build.specs.inner.Refusing.{of_link}
 use Rattle.lp_build.specs.declared.fault.BuildFault.TheVariants as fault
 use Rattle.lp_build.proofs.Unmaking.{copies_told, link_texts}
 use Rattle.lp_build.proofs.images.within_copies.Goals as goal

@@ -11,6 +11,8 @@ use Rattle.std.specs.Prelude.{All}
 use Rattle.std.proofs.lemmas.List.Elements.{All-push}
 use Rattle.std.proofs.lemmas.Result.{IfErr-weaker, IfOk-weaker}
 use Rattle.lp_sig.specs.ModuleFaults.{IsLineTaken}
+use Rattle.lp_sig.specs.ModuleFaults.{HasLineCause, IsLineOtherIf}
+use Rattle.lp_sig.proofs.Taking.{one_declared, sentence_taken, none_taken}
 use Rattle.lp_sig.proofs.module_text.declare_sentence.Goals as goal
 
 pub returns-in-Declares-clause-words : goal.returns-in-Declares-clause-words
@@ -37,21 +39,35 @@ returns-in-Says-clause-alike c = λ signatures modules h k. subst (λ l. AreWord
     (All-nil (IsAlike c.args.lines.now.sights.now 0 signatures), All-nil (IsAlike c.args.lines.now.sights.now (length (first_names [] signatures)) modules))
 
 pub returns-in-Declares-clause-refused : goal.returns-in-Declares-clause-refused
-returns-in-Declares-clause-refused c = λ said ds k hk hc. IfErr-weaker c.declare.result _ _
-    (λ e f. ⊎_elim (λ m. inl m) (λ g. inr (c.in-Declares.declaration, c.in-Declares.is, g)) f) (c.declare.ensures.refused said ds k hk hc)
+returns-in-Declares-clause-refused c = λ used z ds given k u hk hc. IfErr-weaker c.declare.result _ _
+    (λ e f. ⊎_elim (λ m. inl m) (λ g. inr (c.in-Declares.declaration, c.in-Declares.is, g)) f) (c.declare.ensures.refused used z ds given k u hk hc)
 
 pub returns-in-Declares-clause-taken : goal.returns-in-Declares-clause-taken
-returns-in-Declares-clause-taken c = λ said ds k hk hc. IfOk-weaker c.declare.result _ _
-    (λ done t. subst (λ l. All (IsLineTaken c.args.lines.now.own.now c.args.lines.now.source.now said ds) (declarations (l ∷ []))) (sym c.in-Declares.is)
-    (All-push (IsLineTaken c.args.lines.now.own.now c.args.lines.now.source.now said ds) [] c.in-Declares.declaration
-    (All-nil (IsLineTaken c.args.lines.now.own.now c.args.lines.now.source.now said ds)) t)) (c.declare.ensures.taken said ds k hk hc)
+returns-in-Declares-clause-taken c = λ used z ds given k u hk hc. IfOk-weaker c.declare.result _ _
+    (λ done t. subst (λ l. All (IsLineTaken c.args.lines.now.own.now used c.args.lines.now.source.now z ds) (declarations (l ∷ []))) (sym c.in-Declares.is)
+    (All-push (IsLineTaken c.args.lines.now.own.now used c.args.lines.now.source.now z ds) [] c.in-Declares.declaration
+    (All-nil (IsLineTaken c.args.lines.now.own.now used c.args.lines.now.source.now z ds)) t)) (c.declare.ensures.taken used z ds given k u hk hc)
 
 pub returns-in-Says-clause-taken : goal.returns-in-Says-clause-taken
-returns-in-Says-clause-taken c = λ said ds k hk hc. subst (λ l. All (IsLineTaken c.args.lines.now.own.now c.args.lines.now.source.now said ds)
-    (declarations (l ∷ []))) (sym c.in-Says.is) (All-nil (IsLineTaken c.args.lines.now.own.now c.args.lines.now.source.now said ds))
+returns-in-Says-clause-taken c = λ used z ds given k u hk hc. subst (λ l. All (IsLineTaken c.args.lines.now.own.now used c.args.lines.now.source.now z ds)
+    (declarations (l ∷ []))) (sym c.in-Says.is) (All-nil (IsLineTaken c.args.lines.now.own.now used c.args.lines.now.source.now z ds))
 
 pub returns-in-Declares-clause-reads : goal.returns-in-Declares-clause-reads
 returns-in-Declares-clause-reads c = on_ok_weaker c.declare.result (λ h. sentence_types c.args.making.now c.declare.new.making c.args.lines.now.source.now c.args.sentence.now c.in-Declares.declaration c.in-Declares.is h) c.declare.ensures.reads
 
 pub returns-in-Says-clause-reads : goal.returns-in-Says-clause-reads
 returns-in-Says-clause-reads c = no_types_said c.args.making.now c.args.lines.now.source.now c.args.sentence.now _ c.in-Says.is
+
+pub returns-in-Declares-clause-full : goal.returns-in-Declares-clause-full
+returns-in-Declares-clause-full c = λ said words k h d is. IfErr-weaker c.declare.result _ _
+    (λ e f. subst (λ d. HasLineCause c.args.lines.now.own.now c.args.lines.now.source.now words d e) (one_declared c.args.sentence.now c.in-Declares.declaration d c.in-Declares.is is) f) (c.declare.ensures.full said words k h)
+
+pub returns-in-Declares-clause-other : goal.returns-in-Declares-clause-other
+returns-in-Declares-clause-other c = λ said defs given rows words r d is. IfErr-weaker c.declare.result _ _
+    (λ e f. subst (λ d. IsLineOtherIf c.args.lines.now.own.now c.args.lines.now.source.now said defs given rows d e) (one_declared c.args.sentence.now c.in-Declares.declaration d c.in-Declares.is is) f) (c.declare.ensures.other said defs given rows words r)
+
+pub returns-in-Declares-clause-takes : goal.returns-in-Declares-clause-takes
+returns-in-Declares-clause-takes c = on_ok_weaker c.declare.result (λ h. sentence_taken c.args.making.now c.declare.new.making c.args.lines.now.source.now c.args.sentence.now c.in-Declares.declaration c.in-Declares.is h) c.declare.ensures.takes
+
+pub returns-in-Says-clause-takes : goal.returns-in-Says-clause-takes
+returns-in-Says-clause-takes c = none_taken c.args.making.now c.args.lines.now.source.now c.args.sentence.now _ c.in-Says.is

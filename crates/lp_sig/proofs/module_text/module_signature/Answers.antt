@@ -1,3 +1,6 @@
+use Rattle.lp_sig.specs.Abbreviations.{nothing_seen}
+use Rattle.lp_sig.specs.SeenByModules.{seen_signature, seen_signatures, seen_in_module}
+use Rattle.lp_sig.proofs.SeenUses.{nothing_used}
 use Rattle.lp_sig.proofs.DeclaredTypes.{given_trees, given_names, given_found, given_known, given_later, typed_before, written_type}
 use Rattle.lp_sig.proofs.GivenBodies.{none_given}
 use Rattle.lp_sig.specs.inner.Reading.{IsReading, AreSettled}
@@ -5,25 +8,34 @@ use Rattle.lp_sig.specs.inner.Given.{GivesBodies}
 use Rattle.lp_sig.specs.AsWritten.{as_trees, typed_in, bodies_of}
 use Rattle.lp_sig.specs.Holding.{HoldsBodies, line_of_module}
 use Rattle.lp_sig.specs.Types.{definitions_in}
-use Rattle.std.proofs.Common.{◌+◌, ◌≤◌, refl, inl, [], ◌++◌, ◌∙◌, length, get_or, sym, ap, subst, map, append_assoc, arith}
-use Rattle.std.proofs.lemmas.Option.{same_Some, slice_get-get_or, slice_get_within}
+use Rattle.std.proofs.Common.{◌≡◌, ◌+◌, ◌≤◌, refl, inl, inr, ⊎_elim, [], ◌∷◌, ◌++◌, ◌∙◌, length, get_or, sym, ap, subst, map, append_assoc, arith}
+use Rattle.std.proofs.lemmas.Option.{get_or_from_slice_get, same_Some, slice_get-get_or, slice_get_within}
 use Rattle.lp_base.specs.declared.limits.TheConstants.{END_OF_NUMBERS}
 use Rattle.lp_sig.specs.Rows.{fixity_row}
 use Rattle.lp_sig.specs.Knowing.{Knows, KnowsOperators}
 use Rattle.lp_sig.specs.Said.{numbered, said_in}
-use Rattle.lp_sig.specs.Named.{IsOrdered, kind_names}
+use Rattle.lp_sig.specs.Named.{IsOrdered, MeansKinds, kind_names}
+use Rattle.lp_sig.specs.declared.see.Sight.TheVariants.{Alike}
+use Rattle.lp_sig.specs.declared.signature.Signature.{Signature}
 use Rattle.lp_sig.specs.Sighted.{said_kinds, AreKinds, AreCounted}
 use Rattle.lp_sig.specs.Sights.{AreWordsAlike, signature_words, module_words, AreAlike}
 use Rattle.lp_sig.specs.Modules.{declarations, said_of, constants_of, of_each, said_in_module, constant_names, numbered_names, IsApart}
 use Rattle.lp_sig.specs.Worded.{HasWords}
 use Rattle.lp_sig.proofs.KnownConstants.{making_then, counted_none, counted_later}
+use Rattle.lp_sig.proofs.MeantKinds.{means_at}
 use Rattle.lp_sig.proofs.Sights.{all_alike}
 use Rattle.lp_sig.proofs.TheirTypes.{own_kinds, own_new, their_kinds, their_room, has_named}
+use Rattle.lp_sig.proofs.Told.{knows_none}
+use Rattle.lp_sig.specs.inner.Telling.{AreTold, AreTypedHere}
 use Rattle.lp_sig.proofs.Viewing.{seen_stays}
 use Rattle.lp_lemmas.proofs.Results.{passed_up}
 use Rattle.lp_sig.specs.ModuleFaults.{IsDeclarationRefusal}
 use Rattle.lp_sig.specs.declared.fault.SigFault.TheVariants as fault
 use Rattle.lp_sig.specs.declared.module_fault.ModuleSigFault.TheVariants as wrong
+use Rattle.lp_sig.specs.Differing.{trees_here}
+use Rattle.lp_sig.specs.GoingTogether.{types_of, AreOfTexts}
+use Rattle.lp_sig.specs.inner.Taking.{IsTaking}
+use Rattle.lp_sig.proofs.Giving.{given_bodies, given_types}
 use Rattle.lp_sig.proofs.module_text.module_signature.Goals as goal
 
 pub returns-clause-seen : goal.returns-clause-seen
@@ -72,6 +84,12 @@ returns-clause-theirs c =
       own_ones = λ apart ordered. has_named m s said c.in_ok-signature.ensures.bank c.in_ok-signature.ensures.typed kinds own ordered
           (seen_stays c.see_all.new.making m (said_of own ++ of_each said_of used) (said_in text ds) own ordered g.bank g.constants
           (c.in_ok-sights.ensures.own [] [] c.new-making.ensures.names c.new-making.ensures.words none ordered (here apart) (own_new own apart)));
+      used_kinds = λ few k d l.
+          let start = knows_none c.new-making.result c.new-making.ensures.names c.new-making.ensures.words c.new-making.ensures.bodies c.new-making.ensures.empty in
+          let (u, at, go) = c.in_ok-sights.ensures.told start k Alike (alike k (omega (arith, l, few))) in
+          let same : u ≡ get_or used k d = same_Some u (get_or used k d) (sym at ∙ slice_get-get_or used k d l) in
+          subst (λ (u : Signature). MeansKinds said u.kinds.items) same
+          (means_at own used (said_in text ds) k u l (sym (get_or_from_slice_get used k u u at)) go.kinds);
       used_ones = λ apart ordered all i u at below.
           let l = slice_get_within used i u at in
           let o : IsOrdered u = subst IsOrdered (same_Some (get_or used i u) u (sym (slice_get-get_or used i u l) ∙ at)) (all i u l) in
@@ -83,12 +101,51 @@ returns-clause-theirs c =
 
 pub returns-in_err-declare_all-clause-refused : goal.returns-in_err-declare_all-clause-refused
 returns-in_err-declare_all-clause-refused c =
+    let own = c.args.own.now in
+    let used = c.args.used.now in
+    let words = constants_of own ++ of_each constants_of used in
+    let text = c.args.source.now in
+    let lines = c.args.text.now.lines.items in
+    let before = said_of own ++ of_each said_of used in
+    let first = c.see_all.new.making in
+    let mid = c.announce_all.new.making in
+    let start = knows_none c.new-making.result c.new-making.ensures.names c.new-making.ensures.words c.new-making.ensures.bodies c.new-making.ensures.empty in
+    let defs = as_trees (trees_here before (bodies_of own ++ of_each bodies_of used)) ++ definitions_in text (declarations lines) in
+    let types = trees_here before (types_of own ++ of_each types_of used) in
+    let k0 : Knows first.names before = c.in_ok-sights.ensures.names [] c.new-making.ensures.names in
+    let k1 : Knows mid.names (said_in_module own used text lines) = c.in_ok-announce_all.ensures.names before k0 in
+    let met : HasWords mid.constants words = subst (λ k. HasWords k words) (sym c.announce_all.ensures.constants) (c.in_ok-sights.ensures.words [] c.new-making.ensures.words) in
+    let taking : AreOfTexts (own ∷ used) → IsTaking mid.names mid.bodies mid.constants (said_in_module own used text lines) defs types [] words = λ texts.
+    let h = (c.in_ok-sights.ensures.stays start).kept texts in
+    record {
+      knows = k1;
+      holds = c.in_ok-announce_all.ensures.bodies before (as_trees (trees_here before (bodies_of own ++ of_each bodies_of used))) k0
+          (given_bodies before first.bodies.types.bank first.bodies.bodies.items (bodies_of own ++ of_each bodies_of used) text (line_of_module lines) h.bodies);
+      met = met;
+      types = given_types before first.bodies.types.bank mid.bodies.types.bank mid.constants (types_of own ++ of_each types_of used) (said_in_module own used text lines) defs c.in_ok-announce_all.ensures.grown.bank
+          (subst (λ k. AreTypedHere first.bodies.types.bank k before (types_of own ++ of_each types_of used)) (sym c.announce_all.ensures.constants) h.constants);
+    } in
     passed_up c.from_residual-in_err-declare_all.result c.in_err-declare_all.field-0.0
-    (IsDeclarationRefusal c.args.own.now c.args.used.now c.args.source.now c.args.text.now.lines.items)
+    (IsDeclarationRefusal own used c.args.source.now c.args.text.now.lines.items)
     c.from_residual-in_err-declare_all.ensures.1
-    (c.in_err-declare_all.ensures.refused (said_in_module c.args.own.now c.args.used.now c.args.source.now c.args.text.now.lines.items)
-    (c.in_ok-announce_all.ensures.names (said_of c.args.own.now ++ of_each said_of c.args.used.now) (c.in_ok-sights.ensures.names [] c.new-making.ensures.names))
-    c.in_ok-said.ensures.kinds c.in_ok-said.ensures.constants)
+    (let seen = seen_signatures (seen_signature nothing_seen own) used in
+    ⊎_elim (λ m. inl m) (λ r. inr (r.0, record { names = r.1.full; types = λ texts. r.1.other defs types [] (taking texts) })) (c.in_err-declare_all.ensures.refused used (seen_in_module own used text lines) words
+    (record { signatures = c.in_ok-said.ensures.signatures; modules = c.in_ok-said.ensures.modules; told = subst (AreTold (own ∷ []) used) (sym c.as_slice.ensures.value) (c.in_ok-sights.ensures.told start) })
+    k1
+    (c.in_ok-announce_all.ensures.uses seen k0 (c.in_ok-sights.ensures.uses nothing_seen c.new-making.ensures.names (nothing_used (map (λ out. out.items) c.new-making.result.uses.ways.items) c.new-making.ensures.uses)))
+    c.in_ok-said.ensures.kinds c.in_ok-said.ensures.constants met))
+
+pub returns-in_err-announce_all-clause-refused : goal.returns-in_err-announce_all-clause-refused
+returns-in_err-announce_all-clause-refused c =
+    passed_up c.from_residual-in_err-announce_all.result (wrong.Sig fault.Memory)
+    (IsDeclarationRefusal c.args.own.now c.args.used.now c.args.source.now c.args.text.now.lines.items)
+    c.from_residual-in_err-announce_all.ensures.1 (inl refl)
+
+pub returns-in_err-said-clause-refused : goal.returns-in_err-said-clause-refused
+returns-in_err-said-clause-refused c =
+    passed_up c.from_residual-in_err-said.result (wrong.Sig fault.Memory)
+    (IsDeclarationRefusal c.args.own.now c.args.used.now c.args.source.now c.args.text.now.lines.items)
+    c.from_residual-in_err-said.ensures.1 (inl refl)
 
 pub returns-in_err-signature-clause-refused : goal.returns-in_err-signature-clause-refused
 returns-in_err-signature-clause-refused c =

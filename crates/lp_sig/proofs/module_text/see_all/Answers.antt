@@ -1,11 +1,14 @@
 use Rattle.lp_sig.specs.AsWritten.{bodies_of}
 use Rattle.lp_sig.specs.inner.Given.{GivesBodies}
-use Rattle.std.proofs.Common.{◌++◌, map, sym, subst, inr}
+use Rattle.std.proofs.Common.{[], ◌∷◌, ◌++◌, map, sym, subst, inr}
 use Rattle.lp_sig.specs.Rows.{fixity_row}
+use Rattle.lp_sig.specs.Abbreviations.{KnowsUses}
+use Rattle.lp_sig.specs.SeenByModules.{seen_signature}
 use Rattle.lp_sig.specs.Knowing.{Knows, KnowsOperators}
 use Rattle.lp_sig.specs.Modules.{said_of, constants_of, of_each}
 use Rattle.lp_sig.specs.Worded.{HasWords}
 use Rattle.lp_sig.proofs.KnownConstants.{making_then, making_parts, counted_parts}
+use Rattle.lp_sig.proofs.Told.{knows_parts}
 use Rattle.lp_sig.proofs.Viewing.{seen_stays}
 use Rattle.lp_sig.proofs.module_text.see_all.Goals as goal
 
@@ -59,3 +62,17 @@ returns-clause-given c = λ said rows k g ordered whole kinds used used_whole al
     (subst (λ n. Knows n (said ++ said_of c.args.own.now)) (sym c.see_fixities.ensures.names) (c.in_ok-see.ensures.names said k))
     (subst (λ b. GivesBodies b.types.bank b.bodies.items (said ++ said_of c.args.own.now) (rows ++ bodies_of c.args.own.now)) (sym c.see_fixities.ensures.bodies)
     (c.in_ok-see.ensures.given said rows k g ordered whole (inr kinds)))
+
+pub returns-clause-uses : goal.returns-clause-uses
+returns-clause-uses c = λ z k u.
+    let own = seen_signature z c.args.own.now in
+    c.in_ok-sights.ensures.uses own (subst (λ n. Knows n own.said) (sym c.see_fixities.ensures.names) (c.in_ok-see.ensures.names z.said k))
+    (subst (λ v. KnowsUses (map (λ out. out.items) v.ways.items) own) (sym c.see_fixities.ensures.uses) (c.in_ok-see.ensures.uses z k u))
+
+pub returns-clause-told : goal.returns-clause-told
+returns-clause-told c = λ start. c.in_ok-sights.ensures.told (c.args.own.now ∷ [])
+    (knows_parts c.see.new.self c.see_fixities.new.self (c.args.own.now ∷ []) c.see_fixities.ensures.names c.see_fixities.ensures.bodies c.see_fixities.ensures.constants (c.in_ok-see.ensures.stays [] start))
+
+pub returns-clause-stays : goal.returns-clause-stays
+returns-clause-stays c = λ start. c.in_ok-sights.ensures.stays (c.args.own.now ∷ [])
+    (knows_parts c.see.new.self c.see_fixities.new.self (c.args.own.now ∷ []) c.see_fixities.ensures.names c.see_fixities.ensures.bodies c.see_fixities.ensures.constants (c.in_ok-see.ensures.stays [] start))

@@ -16,6 +16,8 @@ use Rattle.lp_sig.proofs.SoundSentences.{uses_settled}
 use Rattle.lp_sig.proofs.Sentences.{abbreviation_repeated, abbreviation_word}
 use Rattle.std.specs.Prelude.{◌⊎◌}
 use Rattle.lp_sig.specs.ModuleFaults as faults
+use Rattle.lp_sig.specs.Differing.{IsOtherBodyIf}
+use Rattle.lp_sig.proofs.Taking.{word_not_other, repeated_if}
 use Rattle.lp_sig.proofs.bodies.Bodies.declare_abbreviation.Goals as goal
 
 pub returns-in_err-place-clause-why : goal.returns-in_err-place-clause-why
@@ -88,14 +90,14 @@ returns-then-has_other_body-clause-why c = λ z s.
     (c.in_ok-body.ensures.body z.said z.definitions ps s.known s.holds c.in_ok-variables.ensures.numbered) o.4)
 
 pub returns-clause-stand : goal.returns-clause-stand
-returns-clause-stand c = λ z s. record {
+returns-clause-stand c = λ z k u. record {
   straight = record {
-    head = (c.in_ok-place.ensures.meant z.said s.known, c.in_ok-variables.ensures.taken, c.if-parameters-gt-MAX_ARGUMENTS.false);
+    head = (c.in_ok-place.ensures.meant z.said k, c.in_ok-variables.ensures.taken, c.if-parameters-gt-MAX_ARGUMENTS.false);
     ends = never_back z (map (λ out. out.items) c.args.uses.now.ways.items) c.args.source.now c.args.name c.args.raw.now c.in_ok-place.place
-        c.as_slice.result.now s.uses (c.in_ok-place.ensures.place z.said s.known) (c.as_slice.ensures.value ∙ c.in_ok-words.ensures z.said s.known)
+        c.as_slice.result.now u (c.in_ok-place.ensures.place z.said k) (c.as_slice.ensures.value ∙ c.in_ok-words.ensures z.said k)
         (c.in_ok-lead_to.ensures.none c.if-branch.false);
   };
-  words = c.in_ok-body.ensures.stand z.said (parameters_of c.args.source.now c.args.parameters.now) s.known c.in_ok-variables.ensures.held;
+  words = c.in_ok-body.ensures.stand z.said (parameters_of c.args.source.now c.args.parameters.now) k c.in_ok-variables.ensures.held;
 }
 
 pub returns-clause-same : goal.returns-clause-same
@@ -115,42 +117,94 @@ returns-clause-same c = λ from z s settled stands first_stands.
     (c.in_ok-body.ensures.body z.said z.definitions ps s.known s.holds c.in_ok-variables.ensures.numbered) (c.has_other_body.ensures.same c.if-has_other_body.false known.0 new.0 at new.1)
 
 pub returns-in_err-place-clause-reason : goal.returns-in_err-place-clause-reason
-returns-in_err-place-clause-reason c = λ said k.
-    passed_up c.from_residual.result c.in_err-place.field-0.0 (λ e. (e ≡ fault.Memory) ⊎ faults.IsAbbreviationWrong c.args.source.now said c.args.name c.args.parameters.now c.args.raw.now e) c.from_residual.ensures.1
-    (inr (faults.a_name (c.in_err-place.ensures.why said k)))
+returns-in_err-place-clause-reason c = λ z k u.
+    passed_up c.from_residual.result c.in_err-place.field-0.0 (λ e. (e ≡ fault.Memory) ⊎ faults.IsAbbreviationWrong c.args.source.now z c.args.name c.args.parameters.now c.args.raw.now e) c.from_residual.ensures.1
+    (inr (faults.a_name (c.in_err-place.ensures.why z.said k)))
 
 pub returns-in_err-words-clause-reason : goal.returns-in_err-words-clause-reason
-returns-in_err-words-clause-reason c = λ said k.
-    passed_up c.from_residual-in_err-words.result fault.Memory (λ e. (e ≡ fault.Memory) ⊎ faults.IsAbbreviationWrong c.args.source.now said c.args.name c.args.parameters.now c.args.raw.now e) c.from_residual-in_err-words.ensures.1
+returns-in_err-words-clause-reason c = λ z k u.
+    passed_up c.from_residual-in_err-words.result fault.Memory (λ e. (e ≡ fault.Memory) ⊎ faults.IsAbbreviationWrong c.args.source.now z c.args.name c.args.parameters.now c.args.raw.now e) c.from_residual-in_err-words.ensures.1
     (inl refl)
 
 pub returns-in_err-lead_to-clause-reason : goal.returns-in_err-lead_to-clause-reason
-returns-in_err-lead_to-clause-reason c = λ said k.
-    passed_up c.from_residual-in_err-lead_to.result fault.Memory (λ e. (e ≡ fault.Memory) ⊎ faults.IsAbbreviationWrong c.args.source.now said c.args.name c.args.parameters.now c.args.raw.now e) c.from_residual-in_err-lead_to.ensures.1
+returns-in_err-lead_to-clause-reason c = λ z k u.
+    passed_up c.from_residual-in_err-lead_to.result fault.Memory (λ e. (e ≡ fault.Memory) ⊎ faults.IsAbbreviationWrong c.args.source.now z c.args.name c.args.parameters.now c.args.raw.now e) c.from_residual-in_err-lead_to.ensures.1
     (inl refl)
 
 pub returns-then-branch-clause-reason : goal.returns-then-branch-clause-reason
-returns-then-branch-clause-reason c = λ said k.
-    inr (faults.circle refl (c.in_ok-place.ensures.meant said k))
+returns-then-branch-clause-reason c = λ z k u.
+    inr (faults.circle refl (c.in_ok-place.ensures.meant z.said k)
+    (leads_back z (map (λ out. out.items) c.args.uses.now.ways.items) c.args.source.now c.args.name c.args.raw.now c.in_ok-place.place c.as_slice.result.now u (c.in_ok-place.ensures.place z.said k)
+    (c.as_slice.ensures.value ∙ c.in_ok-words.ensures z.said k) (c.in_ok-lead_to.ensures.found c.if-branch.true)))
 
 pub returns-in_err-variables-clause-reason : goal.returns-in_err-variables-clause-reason
-returns-in_err-variables-clause-reason c = λ said k.
-    passed_up c.from_residual-in_err-variables.result c.in_err-variables.field-0.0 (λ e. (e ≡ fault.Memory) ⊎ faults.IsAbbreviationWrong c.args.source.now said c.args.name c.args.parameters.now c.args.raw.now e) c.from_residual-in_err-variables.ensures.1
-    (⊎_elim (λ m. inl m) (λ r. inr (faults.repeated r.0 r.1 (c.in_ok-place.ensures.meant said k) r.2)) c.in_err-variables.ensures.repeated)
+returns-in_err-variables-clause-reason c = λ z k u.
+    passed_up c.from_residual-in_err-variables.result c.in_err-variables.field-0.0 (λ e. (e ≡ fault.Memory) ⊎ faults.IsAbbreviationWrong c.args.source.now z c.args.name c.args.parameters.now c.args.raw.now e) c.from_residual-in_err-variables.ensures.1
+    (⊎_elim (λ m. inl m) (λ r. inr (faults.repeated r.0 r.1 (record {
+      meant = c.in_ok-place.ensures.meant z.said k;
+      ends = never_back z (map (λ out. out.items) c.args.uses.now.ways.items) c.args.source.now c.args.name c.args.raw.now c.in_ok-place.place
+          c.as_slice.result.now u (c.in_ok-place.ensures.place z.said k) (c.as_slice.ensures.value ∙ c.in_ok-words.ensures z.said k)
+          (c.in_ok-lead_to.ensures.none c.if-branch.false);
+    }) r.2)) c.in_err-variables.ensures.repeated)
 
 pub returns-then-parameters-gt-MAX_ARGUMENTS-clause-reason : goal.returns-then-parameters-gt-MAX_ARGUMENTS-clause-reason
-returns-then-parameters-gt-MAX_ARGUMENTS-clause-reason c = λ said k.
-    inr (faults.arguments refl (c.in_ok-place.ensures.meant said k) c.in_ok-variables.ensures.taken c.if-parameters-gt-MAX_ARGUMENTS.true)
+returns-then-parameters-gt-MAX_ARGUMENTS-clause-reason c = λ z k u.
+    inr (faults.arguments refl (record {
+      meant = c.in_ok-place.ensures.meant z.said k;
+      ends = never_back z (map (λ out. out.items) c.args.uses.now.ways.items) c.args.source.now c.args.name c.args.raw.now c.in_ok-place.place
+          c.as_slice.result.now u (c.in_ok-place.ensures.place z.said k) (c.as_slice.ensures.value ∙ c.in_ok-words.ensures z.said k)
+          (c.in_ok-lead_to.ensures.none c.if-branch.false);
+    }) c.in_ok-variables.ensures.taken c.if-parameters-gt-MAX_ARGUMENTS.true)
 
 pub returns-in_err-body-clause-reason : goal.returns-in_err-body-clause-reason
-returns-in_err-body-clause-reason c = λ said k.
-    passed_up c.from_residual-in_err-body.result c.in_err-body.field-0.0 (λ e. (e ≡ fault.Memory) ⊎ faults.IsAbbreviationWrong c.args.source.now said c.args.name c.args.parameters.now c.args.raw.now e) c.from_residual-in_err-body.ensures.1
-    (⊎_elim (λ m. inl m) (λ f. inr (faults.a_word (c.in_ok-place.ensures.meant said k, c.in_ok-variables.ensures.taken, c.if-parameters-gt-MAX_ARGUMENTS.false) f)) (c.in_err-body.ensures.first said (parameters_of c.args.source.now c.args.parameters.now) k c.in_ok-variables.ensures.held))
+returns-in_err-body-clause-reason c = λ z k u.
+    passed_up c.from_residual-in_err-body.result c.in_err-body.field-0.0 (λ e. (e ≡ fault.Memory) ⊎ faults.IsAbbreviationWrong c.args.source.now z c.args.name c.args.parameters.now c.args.raw.now e) c.from_residual-in_err-body.ensures.1
+    (⊎_elim (λ m. inl m) (λ f. inr (faults.a_word (record {
+      head = (c.in_ok-place.ensures.meant z.said k, c.in_ok-variables.ensures.taken, c.if-parameters-gt-MAX_ARGUMENTS.false);
+      ends = never_back z (map (λ out. out.items) c.args.uses.now.ways.items) c.args.source.now c.args.name c.args.raw.now c.in_ok-place.place
+          c.as_slice.result.now u (c.in_ok-place.ensures.place z.said k) (c.as_slice.ensures.value ∙ c.in_ok-words.ensures z.said k)
+          (c.in_ok-lead_to.ensures.none c.if-branch.false);
+    }) f)) (c.in_err-body.ensures.first z.said (parameters_of c.args.source.now c.args.parameters.now) k c.in_ok-variables.ensures.held))
 
 pub returns-then-has_other_body-clause-reason : goal.returns-then-has_other_body-clause-reason
-returns-then-has_other_body-clause-reason c = λ said k.
-    inr (faults.other refl (c.in_ok-place.ensures.meant said k, c.in_ok-variables.ensures.taken, c.if-parameters-gt-MAX_ARGUMENTS.false) (c.in_ok-body.ensures.stand said (parameters_of c.args.source.now c.args.parameters.now) k c.in_ok-variables.ensures.held))
+returns-then-has_other_body-clause-reason c = λ z k u.
+    inr (faults.other refl (record {
+      head = (c.in_ok-place.ensures.meant z.said k, c.in_ok-variables.ensures.taken, c.if-parameters-gt-MAX_ARGUMENTS.false);
+      ends = never_back z (map (λ out. out.items) c.args.uses.now.ways.items) c.args.source.now c.args.name c.args.raw.now c.in_ok-place.place
+          c.as_slice.result.now u (c.in_ok-place.ensures.place z.said k) (c.as_slice.ensures.value ∙ c.in_ok-words.ensures z.said k)
+          (c.in_ok-lead_to.ensures.none c.if-branch.false);
+    }) (c.in_ok-body.ensures.stand z.said (parameters_of c.args.source.now c.args.parameters.now) k c.in_ok-variables.ensures.held))
 
-pub returns-clause-sound : goal.returns-clause-sound
-returns-clause-sound c = λ said k.
-    ((c.in_ok-place.ensures.meant said k, c.in_ok-variables.ensures.taken, c.if-parameters-gt-MAX_ARGUMENTS.false), (c.in_ok-body.ensures.stand said (parameters_of c.args.source.now c.args.parameters.now) k c.in_ok-variables.ensures.held))
+pub returns-in_err-place-clause-other : goal.returns-in_err-place-clause-other
+returns-in_err-place-clause-other c = λ said defs k h. passed_up c.from_residual.result c.in_err-place.field-0.0 (IsOtherBodyIf c.args.source.now said defs c.args.name c.args.parameters.now c.args.raw.now) c.from_residual.ensures.1 (λ is. inl (c.in_err-place.ensures.why said k))
+
+pub returns-in_err-words-clause-other : goal.returns-in_err-words-clause-other
+returns-in_err-words-clause-other c = λ said defs k h. passed_up c.from_residual-in_err-words.result fault.Memory (IsOtherBodyIf c.args.source.now said defs c.args.name c.args.parameters.now c.args.raw.now) c.from_residual-in_err-words.ensures.1 (λ is. absurd (cc))
+
+pub returns-in_err-lead_to-clause-other : goal.returns-in_err-lead_to-clause-other
+returns-in_err-lead_to-clause-other c = λ said defs k h. passed_up c.from_residual-in_err-lead_to.result fault.Memory (IsOtherBodyIf c.args.source.now said defs c.args.name c.args.parameters.now c.args.raw.now) c.from_residual-in_err-lead_to.ensures.1 (λ is. absurd (cc))
+
+pub returns-then-branch-clause-other : goal.returns-then-branch-clause-other
+returns-then-branch-clause-other c = λ said defs k h is. absurd (cc)
+
+pub returns-in_err-variables-clause-other : goal.returns-in_err-variables-clause-other
+returns-in_err-variables-clause-other c = λ said defs k h. passed_up c.from_residual-in_err-variables.result c.in_err-variables.field-0.0 (IsOtherBodyIf c.args.source.now said defs c.args.name c.args.parameters.now c.args.raw.now) c.from_residual-in_err-variables.ensures.1
+    (repeated_if c.args.source.now said defs c.args.name c.args.parameters.now c.args.raw.now c.in_err-variables.field-0.0 c.in_err-variables.ensures.repeated)
+
+pub returns-then-parameters-gt-MAX_ARGUMENTS-clause-other : goal.returns-then-parameters-gt-MAX_ARGUMENTS-clause-other
+returns-then-parameters-gt-MAX_ARGUMENTS-clause-other c = λ said defs k h is. absurd (cc)
+
+pub returns-in_err-body-clause-other : goal.returns-in_err-body-clause-other
+returns-in_err-body-clause-other c = λ said defs k h.
+    let ps = c.args.parameters.now in
+    passed_up c.from_residual-in_err-body.result c.in_err-body.field-0.0 (IsOtherBodyIf c.args.source.now said defs c.args.name c.args.parameters.now c.args.raw.now) c.from_residual-in_err-body.ensures.1
+    (λ is. absurd (word_not_other c.args.source.now said (parameters_of c.args.source.now ps) c.args.raw.now.nodes.items c.in_err-body.field-0.0 c.args.name (c.in_err-body.ensures.first said (parameters_of c.args.source.now ps) k c.in_ok-variables.ensures.held) is))
+
+pub returns-then-has_other_body-clause-other : goal.returns-then-has_other_body-clause-other
+returns-then-has_other_body-clause-other c = λ said defs k h is.
+    let ps = c.args.parameters.now in
+    let b = c.expand.new.self in
+    let o = c.has_other_body.ensures.other c.if-has_other_body.true in
+    inr (inr (other_body b.types.bank b.bodies.items said defs c.args.source.now c.args.name ps c.args.raw.now c.in_ok-place.place o.0 o.1 c.in_ok-body.body
+    (bodies_stay c.args.self.now.types.bank b.types.bank c.args.self.now.bodies.items b.bodies.items said defs c.expand.ensures.kept (ap (λ v. v.items) c.expand.ensures.bodies) h) (c.in_ok-place.ensures.place said k) o.2 o.3
+    (c.in_ok-body.ensures.body said defs ps k h c.in_ok-variables.ensures.numbered) o.4))

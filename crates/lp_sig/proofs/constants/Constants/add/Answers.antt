@@ -1,7 +1,8 @@
-use Rattle.std.proofs.Common.{◌≡◌, length, map, arith, ◌∷◌, []}
+use Rattle.std.proofs.Common.{◌≡◌, length, map, arith, refl, ◌∷◌, []}
 use Rattle.std.proofs.lemmas.List.{length-map}
 use Rattle.lp_sig.proofs.Constancy.{known_more, typed_if_more}
 use Rattle.lp_sig.proofs.Worded.{words_new}
+use Rattle.lp_sig.proofs.Taking.{one_added}
 use Rattle.lp_sig.proofs.constants.Constants.add.Goals as goal
 
 pub returns-clause-added : goal.returns-clause-added
@@ -27,3 +28,6 @@ returns-clause-grown c = (record { name = c.in_ok-name.name; declared = c.args.d
 
 pub returns-clause-put : goal.returns-clause-put
 returns-clause-put c = λ d is. (record { name = c.in_ok-name.name; declared = c.args.declared }, c.in_ok-name.ensures.items, is, c.in_ok-push.ensures.items)
+
+pub returns-clause-adds : goal.returns-clause-adds
+returns-clause-adds c = one_added c.args.self.now.constants.items _ c.args.word.now c.args.declared (record { name = c.in_ok-name.name; declared = c.args.declared }) c.in_ok-push.ensures.items c.in_ok-name.ensures.items refl

@@ -1,6 +1,6 @@
 use Rattle.lp_sig.specs.Sighted.{IsTreeOf}
 use Rattle.lp_sig.proofs.Reading.{declared_new, declared_again}
-use Rattle.std.proofs.Common.{[], ap, inl, inr, refl, ⊎_elim, subst}
+use Rattle.std.proofs.Common.{[], ◌∷◌, ap, inl, inr, refl, ⊎_elim, subst}
 use Rattle.std.proofs.lemmas.Result.{IfErr-weaker, on_ok_weaker}
 use Rattle.lp_sig.proofs.Declaring.{new_refused, new_known, new_typed, new_taken, untyped_known, untyped_typed, untyped_taken, typed_known, typed_again, typed_refused, typed_taken, missing_taken}
 use Rattle.lp_sig.specs.Pieces.{spelled}
@@ -9,6 +9,11 @@ use Rattle.lp_sig.proofs.Worded.{word_new, word_again}
 use Rattle.lp_sig.proofs.KnownConstants.{grows_same}
 use Rattle.lp_lemmas.proofs.Elements.{Contains_head}
 use Rattle.lp_sig.specs.ModuleFaults as faults
+use Rattle.lp_lemmas.proofs.Results.{passed_up}
+use Rattle.lp_sig.specs.Differing.{HasNameCause}
+use Rattle.lp_sig.specs.inner.Taking.{AreOtherIds}
+use Rattle.lp_sig.specs.declared.fault.SigFault.TheVariants as fault
+use Rattle.lp_sig.proofs.Taking.{new_full, known_cause, memory_cause, new_not_other, other_known, adds_same, name_added}
 use Rattle.lp_sig.proofs.constants.Constants.declare.Goals as goal
 
 pub returns-in-New-clause-why : goal.returns-in-New-clause-why
@@ -135,3 +140,37 @@ returns-else-not-are_equal-clause-tree c = λ words d is can.
     declared_again c.args.types.now.bank c.known_as.new.types.bank c.args.self.now c.args.source.now c.args.name c.spelled_at-word.result.now words c.in-Typed.known c.in-Some.new d c.args.declared
     c.known_as.ensures.kept c.spelled_at-word.ensures (subst (IsTreeOf c.known_as.new.types.bank c.args.self.now c.spelled_at-word.result.now) c.in-Typed.is (c.in_ok-known_as.ensures.tree words can.met can.counted))
     (c.if-not-are_equal.ensures.same refl) c.in-Some.is is can
+
+pub returns-in-New-clause-adds : goal.returns-in-New-clause-adds
+returns-in-New-clause-adds c = on_ok_weaker c.add.result (λ h. name_added c.args.self.now c.add.new.self c.args.source.now c.args.name c.spelled_at-word.result.now c.args.declared c.spelled_at-word.ensures h) c.add.ensures.adds
+
+pub returns-in-Untyped-clause-adds : goal.returns-in-Untyped-clause-adds
+returns-in-Untyped-clause-adds c = adds_same c.args.self.now c.args.source.now (c.args.name ∷ []) c.args.declared
+
+pub returns-in_default-clause-adds : goal.returns-in_default-clause-adds
+returns-in_default-clause-adds c = adds_same c.args.self.now c.args.source.now (c.args.name ∷ []) c.args.declared
+
+pub returns-else-not-are_equal-clause-adds : goal.returns-else-not-are_equal-clause-adds
+returns-else-not-are_equal-clause-adds c = adds_same c.args.self.now c.args.source.now (c.args.name ∷ []) c.args.declared
+
+pub returns-in-New-clause-full : goal.returns-in-New-clause-full
+returns-in-New-clause-full c = λ words h. IfErr-weaker c.add.result _ (HasNameCause c.args.source.now words (c.args.name ∷ []))
+    (λ f g. new_full c.args.source.now words c.args.self.now c.args.name c.spelled_at-word.result.now c.in_ok-known_as.field-0 f _ c.spelled_at-word.ensures c.in-New.is (c.in_ok-known_as.ensures.met words h) h g) c.add.ensures.full
+
+pub returns-then-not-are_equal-clause-full : goal.returns-then-not-are_equal-clause-full
+returns-then-not-are_equal-clause-full c = λ words h. known_cause c.args.source.now words c.args.name c.spelled_at-word.result.now c.in_ok-known_as.field-0 c.spelled_at-word.ensures (ap is_met c.in-Typed.is) (c.in_ok-known_as.ensures.met words h)
+
+pub returns-in_err-known_as-clause-full : goal.returns-in_err-known_as-clause-full
+returns-in_err-known_as-clause-full c = λ words h. passed_up c.from_residual.result fault.Memory (HasNameCause c.args.source.now words (c.args.name ∷ [])) c.from_residual.ensures.1 (memory_cause c.args.source.now words (c.args.name ∷ []))
+
+pub returns-in-New-clause-other : goal.returns-in-New-clause-other
+returns-in-New-clause-other c = λ words h. IfErr-weaker c.add.result _ (AreOtherIds c.args.source.now c.known_as.new.types.bank c.args.self.now (c.args.name ∷ []) c.args.declared)
+    (λ f g z is. absurd (new_not_other f z (⊎_elim (λ m. inl m) (λ g. inr g.0) g) is)) c.add.ensures.full
+
+pub returns-then-not-are_equal-clause-other : goal.returns-then-not-are_equal-clause-other
+returns-then-not-are_equal-clause-other c = λ words h z is.
+    other_known c.args.source.now c.known_as.new.types.bank c.args.self.now c.args.name z c.spelled_at-word.result.now c.args.declared c.in-Typed.known c.in-Some.new
+    c.spelled_at-word.ensures (c.in_ok-known_as.ensures.known words h c.in-Typed.known c.in-Typed.is) c.in-Some.is (c.if-not-are_equal.ensures.distinct refl) is
+
+pub returns-in_err-known_as-clause-other : goal.returns-in_err-known_as-clause-other
+returns-in_err-known_as-clause-other c = λ words h. passed_up c.from_residual.result fault.Memory (AreOtherIds c.args.source.now c.known_as.new.types.bank c.args.self.now (c.args.name ∷ []) c.args.declared) c.from_residual.ensures.1 (λ z e. absurd (cc))

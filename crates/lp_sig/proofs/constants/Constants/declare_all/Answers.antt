@@ -18,6 +18,9 @@ use Rattle.lp_sig.proofs.Worded.{mapped_more}
 use Rattle.lp_sig.specs.ModuleFaults.{IsNewFault}
 use Rattle.lp_sig.specs.declared.fault.SigFault.TheVariants as fault
 use Rattle.lp_sig.proofs.Refusing.{new_or}
+use Rattle.lp_sig.specs.Differing.{HasNameCause}
+use Rattle.lp_sig.specs.inner.Taking.{AddsNames, AreOtherIds}
+use Rattle.lp_sig.proofs.Taking.{adds_same, adds_more, cause_more, others_more}
 use Rattle.lp_sig.proofs.constants.Constants.declare_all.Goals as goal
 
 pub loop-name-init : goal.loop-name-init
@@ -28,6 +31,7 @@ loop-name-init c = record {
   typed = λ from z rows w k t all some. subst (λ r. AreTypedIf from z r c.args.self.now) (sym (append-nil rows)) all;
   taken = λ from z rows w k t all some. tt;
   words = λ words h. subst (HasWords c.args.self.now) (sym (append-nil words)) h;
+  adds = adds_same c.args.self.now c.args.source.now [] c.args.declared;
   trees = λ words d is can. none_declared c.args.types.now.bank c.args.self.now c.args.source.now words d can;
 }
 
@@ -56,6 +60,7 @@ loop-name-preserved c =
       words = λ words h.
           subst (HasWords c.declare.new.self) (mapped_more (λ s. spelled text s) names i _ words c.loop-name-test.true)
           (c.in_ok-declare.ensures.words (words ++ map (λ s. spelled text s) (take i names)) (inv.words words h));
+      adds = adds_more c.args.self.now c.loop-name.self c.declare.new.self text names i _ c.args.declared c.loop-name-test.true inv.adds c.in_ok-declare.ensures.adds;
       trees = λ words d is can.
           let before = inv.trees words d is can in
           declared_more here c.declare.new.types.bank c.loop-name.self c.declare.new.self text names i _ d c.loop-name-test.true c.declare.ensures.kept c.in_ok-declare.ensures.grown (inside_later b here c.args.self.now words d inv.kept can) before
@@ -108,3 +113,26 @@ pub returns-clause-trees : goal.returns-clause-trees
 returns-clause-trees c = λ words d is can.
     subst (λ names. AreDeclaredAs c.loop-name.types.bank c.loop-name.self c.args.source.now names d)
     (take_all c.loop-name.name-index c.args.names.now c.loop-name-test.false) (c.loop-name.invariant.trees words d is can)
+
+pub returns-clause-adds : goal.returns-clause-adds
+returns-clause-adds c = subst (λ names. AddsNames c.args.self.now c.loop-name.self c.args.source.now names c.args.declared)
+    (take_all c.loop-name.name-index c.args.names.now c.loop-name-test.false) c.loop-name.invariant.adds
+
+pub returns-in_err-declare-clause-full : goal.returns-in_err-declare-clause-full
+returns-in_err-declare-clause-full c = λ words h.
+    let text = c.args.source.now in
+    let names = c.args.names.now in
+    let i = c.loop-name.name-index in
+    passed_up c.from_residual.result c.in_err-declare.field-0.0 (HasNameCause text words names) c.from_residual.ensures.1
+    (cause_more text words names i _ c.in_err-declare.field-0.0 c.loop-name-test.true (c.in_err-declare.ensures.full (words ++ map (λ s. spelled text s) (take i names)) (c.loop-name.invariant.words words h)))
+
+pub returns-in_err-declare-clause-other : goal.returns-in_err-declare-clause-other
+returns-in_err-declare-clause-other c = λ words inside h.
+    let text = c.args.source.now in
+    let names = c.args.names.now in
+    let i = c.loop-name.name-index in
+    let now = c.declare.new.types.bank in
+    passed_up c.from_residual.result c.in_err-declare.field-0.0 (AreOtherIds text now c.args.self.now names c.args.declared) c.from_residual.ensures.1
+    (others_more c.args.types.now.bank now c.args.self.now c.loop-name.self text names i _ c.args.declared c.in_err-declare.field-0.0 c.loop-name-test.true
+    (kept_then c.args.types.now.bank c.loop-name.types.bank now c.loop-name.invariant.kept c.declare.ensures.kept) inside c.loop-name.invariant.adds
+    (c.in_err-declare.ensures.other (words ++ map (λ s. spelled text s) (take i names)) (c.loop-name.invariant.words words h)))

@@ -1,5 +1,6 @@
 use Rattle.lp_sig.specs.declared.constants.DeclaredType.{DeclaredType}
 use Rattle.lp_sig.specs.inner.Reading.{CanDeclare, AreDeclaredAs}
+use Rattle.lp_sig.specs.inner.Taking.{AddsNames}
 use Rattle.std.proofs.Common.{◌≡◌, ℕ, List, ◌++◌, map, take, true, Some}
 use Rattle.std.specs.Prelude.{is_some}
 use Rattle.lp_term.specs.Nodes.{Extends}
@@ -28,5 +29,6 @@ invariant-loop-name l = record {
       IfTyped l.declared (IsTyped l.fn.types.bank z.said z.definitions w) → AreTypedIf from z rows l.fn.self →
       (TypeStands from z w.text w.raw → is_some l.declared ≡ true) → AreTakenConstants from z rows (each l.source w (take l.name-index l.names));
   words : (words : List (List ℕ)) → HasWords l.fn.self words → HasWords l.self (words ++ map (λ s. spelled l.source s) (take l.name-index l.names));
+  adds : AddsNames l.fn.self l.self l.source (take l.name-index l.names) l.declared;
   trees : (words : List (List ℕ)) (d : DeclaredType) → l.declared ≡ Some d → CanDeclare l.fn.types.bank l.fn.self words d → AreDeclaredAs l.types.bank l.self l.source (take l.name-index l.names) d;
 }

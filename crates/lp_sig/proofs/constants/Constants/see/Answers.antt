@@ -1,5 +1,10 @@
+use Rattle.std.proofs.lemmas.Result.{IfOk-weaker}
+use Rattle.lp_sig.specs.Said.{names_in}
+use Rattle.lp_sig.specs.Sighted.{PutsBehind}
+use Rattle.lp_sig.specs.Worded.{is_met_word}
+use Rattle.lp_sig.specs.inner.Telling.{IsKnownType, IsTypeOfName}
+use Rattle.lp_sig.proofs.ToldConstants.{constant_put, constant_stays, new_told, never_told, known_told}
 use Rattle.std.proofs.Common.{◌∙◌, ap, sym, subst}
-use Rattle.std.proofs.lemmas.Bool.{eqb-true}
 use Rattle.std.proofs.lemmas.Result.{on_ok_weaker}
 use Rattle.lp_sig.specs.Sighted.{IsTreeOf}
 use Rattle.lp_sig.specs.Worded.{is_met}
@@ -47,5 +52,32 @@ returns-in-Typed-clause-seen c = λ words h all counted. (
       c.as_slice-name.ensures.value (ap is_met c.in-Typed.is) c.in_ok-scheme.scheme c.in-Typed.known c.in_ok-scheme.ensures
       (subst (IsTreeOf c.known_as.new.types.bank c.args.self.now c.as_slice-name.result.now) c.in-Typed.is
       (c.in_ok-known_as.ensures.tree words h all)) (λ q. same_type c.in-Typed.known c.in_ok-scheme.scheme
-      (eqb-true _ _ (sym c.eq.ensures ∙ c.if_alike.ensures q))),
+      (c.are_equal.ensures.same (c.if_alike.ensures.alike q))),
 )
+
+pub returns-in-New-clause-here : goal.returns-in-New-clause-here
+returns-in-New-clause-here c = on_ok_weaker c.see_new.result (λ put said rows t can. constant_put c.args.types.now.bank c.known_as.new.types.bank c.args.self.now said rows c.args.made.now c.args.entry.now t c.in_ok-scheme.scheme can c.in_ok-scheme.ensures c.known_as.ensures.kept
+    (ap (λ w. is_met_word w (names_in rows)) (sym c.as_slice-name.ensures.value) ∙ c.in_ok-known_as.ensures.met (names_in rows) can.met ∙ ap is_met c.in-New.is)
+    c.see_new.new.self c.args.entry.now.type_vars (subst (λ n. PutsBehind c.args.self.now c.see_new.new.self n (record { type_vars = c.args.entry.now.type_vars; scheme = c.in_ok-scheme.scheme })) c.as_slice-name.ensures.value put)) c.see_new.ensures.put
+
+pub returns-in-Untyped-clause-here : goal.returns-in-Untyped-clause-here
+returns-in-Untyped-clause-here c = λ said rows t can. constant_stays c.args.types.now.bank c.known_as.new.types.bank c.args.self.now said rows c.args.made.now c.args.entry.now t c.in_ok-scheme.scheme can c.in_ok-scheme.ensures c.known_as.ensures.kept
+
+pub returns-in-Typed-clause-here : goal.returns-in-Typed-clause-here
+returns-in-Typed-clause-here c = λ said rows t can. constant_stays c.args.types.now.bank c.known_as.new.types.bank c.args.self.now said rows c.args.made.now c.args.entry.now t c.in_ok-scheme.scheme can c.in_ok-scheme.ensures c.known_as.ensures.kept
+
+pub returns-in-New-clause-told : goal.returns-in-New-clause-told
+returns-in-New-clause-told c = IfOk-weaker c.see_new.result _ _ (λ s room said rows t can fits. new_told c.args.types.now.bank c.known_as.new.types.bank c.args.self.now said rows c.args.made.now c.args.entry.now t c.in_ok-scheme.scheme can c.in_ok-scheme.ensures c.known_as.ensures.kept
+    (ap (λ w. is_met_word w (names_in rows)) (sym c.as_slice-name.ensures.value) ∙ c.in_ok-known_as.ensures.met (names_in rows) can.met ∙ ap is_met c.in-New.is) s room) c.see_new.ensures.room
+
+pub returns-in-Untyped-clause-told : goal.returns-in-Untyped-clause-told
+returns-in-Untyped-clause-told c = λ said rows t can fits.
+    let known = subst (IsKnownType c.known_as.new.types.bank c.args.self.now c.as_slice-name.result.now) c.in-Untyped.is (c.in_ok-known_as.ensures.known_type (names_in rows) can.met) in
+    absurd (never_told c.args.types.now.bank c.known_as.new.types.bank c.args.self.now said rows c.args.made.now c.args.entry.now t c.in_ok-scheme.scheme can c.in_ok-scheme.ensures c.known_as.ensures.kept known.0 known.1 known.2)
+
+pub returns-in-Typed-clause-told : goal.returns-in-Typed-clause-told
+returns-in-Typed-clause-told c = λ said rows t can fits.
+    let known = subst (IsKnownType c.known_as.new.types.bank c.args.self.now c.as_slice-name.result.now) c.in-Typed.is (c.in_ok-known_as.ensures.known_type (names_in rows) can.met) in
+    known_told c.args.types.now.bank c.known_as.new.types.bank c.args.self.now said rows c.args.made.now c.args.entry.now t c.in_ok-scheme.scheme can c.in_ok-scheme.ensures c.known_as.ensures.kept c.in-Typed.known (subst (λ n. IsTypeOfName c.known_as.new.types.bank c.args.self.now n c.in-Typed.known) c.as_slice-name.ensures.value known) fits
+    (ap (λ w. is_met_word w (names_in rows)) (sym c.as_slice-name.ensures.value) ∙ c.in_ok-known_as.ensures.met (names_in rows) can.met ∙ ap is_met c.in-Typed.is)
+    c.are_equal.result c.are_equal.ensures.same c.are_equal.ensures.distinct c.if_alike.result c.if_alike.ensures.first

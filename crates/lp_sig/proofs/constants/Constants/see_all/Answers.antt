@@ -1,3 +1,9 @@
+use Rattle.lp_sig.specs.Named.{named_in}
+use Rattle.lp_sig.specs.Said.{names_in}
+use Rattle.lp_sig.specs.GoingTogether.{named_constant, IsSameConstant}
+use Rattle.lp_sig.specs.inner.Telling.{AreTypedHere, EachKind, FitsHere, ConstantsTell}
+use Rattle.lp_sig.proofs.Sights.{at_is}
+use Rattle.lp_sig.proofs.ToldConstants.{more_rows, can_see_next, constants_told, no_constants_told}
 use Rattle.std.proofs.Common.{◌++◌, sym, subst, map, take, take_all, append-nil}
 use Rattle.std.specs.Prelude.{All}
 use Rattle.std.proofs.lemmas.List.Elements.{All-nil}
@@ -14,6 +20,8 @@ loop-at-init c = (
   extends_same c.args.types.now.bank,
   grows_same c.args.self.now,
   (λ words h all counted. (all, λ premise. All-nil (IsSeenEntry c.args.types.now.bank c.args.self.now c.args.made.now))),
+  (λ u said rows can. subst (AreTypedHere c.args.types.now.bank c.args.self.now said) (sym (append-nil rows)) can.typed),
+  (λ u said rows can fits. no_constants_told u (names_in rows) (rows ++ map (named_constant u) c.args.entries.now) (All-nil (IsSameConstant (rows ++ map (named_constant u) c.args.entries.now) u))),
 )
 
 pub loop-at-preserved : goal.loop-at-preserved
@@ -36,8 +44,21 @@ loop-at-preserved c =
             step.0,
             one_seen c.args.types.now.bank c.loop-at.types.bank c.see.new.types.bank c.loop-at.self c.see.new.self c.args.made.now es
                 c.loop-at.at e c.loop-at.all c.and-all.result c.in_ok-sight.sight words c.loop-at-test.true c.index-entries-at.is i.1 c.see.ensures.kept
-                c.in_ok-sight.ensures.grown c.and-all.ensures counted now.1 step.1,
+                c.in_ok-sight.ensures.grown c.and-all.ensures.alike counted now.1 step.1,
           )),
+      (λ u said rows can.
+          let e = c.index-entries-at.result in
+          subst (AreTypedHere c.see.new.types.bank c.see.new.self said) (more_rows u rows es c.loop-at.at e c.loop-at-test.true c.index-entries-at.is)
+          (c.in_ok-sight.ensures.here said (rows ++ map (named_constant u) before) (named_in u e.scheme)
+          (can_see_next c.args.types.now.bank c.loop-at.types.bank c.args.self.now c.loop-at.self u said rows c.args.made.now es c.loop-at.at e c.loop-at-test.true c.index-entries-at.is i.1
+          can (i.0 (names_in rows) can.met) (i.4 u said rows can)))),
+      (λ u said rows can fits.
+          let e = c.index-entries-at.result in
+          constants_told u rows es c.loop-at.at e c.loop-at-test.true c.index-entries-at.is c.loop-at.all c.in_ok-sight.sight c.and-all.result c.and-all.ensures.first
+          (c.in_ok-sight.ensures.told said (rows ++ map (named_constant u) before) (named_in u e.scheme)
+          (can_see_next c.args.types.now.bank c.loop-at.types.bank c.args.self.now c.loop-at.self u said rows c.args.made.now es c.loop-at.at e c.loop-at-test.true c.index-entries-at.is i.1
+          can (i.0 (names_in rows) can.met) (i.4 u said rows can)) (at_is (λ e. EachKind (FitsHere said) (named_in u e.scheme)) es c.loop-at.at e c.loop-at-test.true c.index-entries-at.is fits))
+          (i.5 u said rows can fits)),
     )
 
 pub returns-clause-words : goal.returns-clause-words
@@ -54,3 +75,11 @@ pub returns-clause-seen : goal.returns-clause-seen
 returns-clause-seen c = λ words h all counted.
     let now = c.loop-at.invariant.3 words h all counted in
     (now.0, λ premise. subst (All (IsSeenEntry c.loop-at.types.bank c.loop-at.self c.args.made.now)) (take_all c.loop-at.at c.args.entries.now c.loop-at-test.false) (now.1 premise))
+
+pub returns-clause-here : goal.returns-clause-here
+returns-clause-here c = λ u said rows can. subst (λ es. AreTypedHere c.loop-at.types.bank c.loop-at.self said (rows ++ map (named_constant u) es))
+    (take_all c.loop-at.at c.args.entries.now c.loop-at-test.false) (c.loop-at.invariant.4 u said rows can)
+
+pub returns-clause-told : goal.returns-clause-told
+returns-clause-told c = λ u said rows can fits. subst (λ es. ConstantsTell (names_in rows) (rows ++ map (named_constant u) c.args.entries.now) u es c.loop-at.all)
+    (take_all c.loop-at.at c.args.entries.now c.loop-at-test.false) (c.loop-at.invariant.5 u said rows can fits)

@@ -10,7 +10,7 @@ use Rattle.lp_sig.proofs.Sayings.{lines_more, sentence_there}
 use Rattle.lp_sig.proofs.making.Making.announce_module.Goals as goal
 
 pub loop-at-init : goal.loop-at-init
-loop-at-init c = record { names = λ said k. subst (Knows c.args.self.now.names) (sym (append-nil said)) k; constants = refl; types = refl; operators = refl; bodies = λ said defs k b. nothing_announced c.args.self.now.bodies.types.bank c.args.self.now.bodies.bodies.items said defs c.args.source.now (line_of_module c.args.text.now.lines.items) b }
+loop-at-init c = record { names = λ said k. subst (Knows c.args.self.now.names) (sym (append-nil said)) k; constants = refl; types = refl; operators = refl; uses = refl; bodies = λ said defs k b. nothing_announced c.args.self.now.bodies.types.bank c.args.self.now.bodies.bodies.items said defs c.args.source.now (line_of_module c.args.text.now.lines.items) b }
 
 pub loop-at-preserved : goal.loop-at-preserved
 loop-at-preserved c =
@@ -24,6 +24,7 @@ loop-at-preserved c =
       constants = c.announce_sentence.ensures.constants ∙ c.loop-at.invariant.constants;
       types = c.announce_sentence.ensures.types ∙ c.loop-at.invariant.types;
       operators = c.announce_sentence.ensures.operators ∙ c.loop-at.invariant.operators;
+      uses = c.announce_sentence.ensures.uses ∙ c.loop-at.invariant.uses;
       bodies = λ said defs k b.
           let i = c.loop-at.at in
           let new = c.announce_sentence.new.self.bodies in

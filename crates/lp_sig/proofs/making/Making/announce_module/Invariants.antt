@@ -13,6 +13,7 @@ invariant-loop-at l = record {
   constants : l.self.constants ≡ l.fn.self.constants;
   types : l.self.bodies.types ≡ l.fn.self.bodies.types;
   operators : l.self.operators ≡ l.fn.self.operators;
+  uses : l.self.uses ≡ l.fn.self.uses;
   bodies : (said : List (Row Said)) (defs : List (Row Definition)) → Knows l.fn.self.names said → KnowsBodies l.fn.self.bodies.types.bank l.fn.self.bodies.bodies.items said defs l.source (line_of_module l.text.lines.items) →
       KnowsBodies l.self.bodies.types.bank l.self.bodies.bodies.items (said ++ said_in l.source (declarations (take l.at l.text.lines.items))) (defs ++ definitions_in l.source (declarations (take l.at l.text.lines.items))) l.source (line_of_module l.text.lines.items);
 }

@@ -124,7 +124,7 @@ returns-in-Abbreviation-clause-sound c = λ from z s settled.
     let raw = c.in-Abbreviation.raw in
     subst (λ d. IfOk c.declare_abbreviation.result (λ done. IsSound from text z d)) (sym c.in-Abbreviation.is)
     (subst (λ ps. IfOk c.declare_abbreviation.result (λ done. IsSoundAbbreviation text z name ps raw × HasFirstBody from text z name ps raw)) c.as_slice-in-Abbreviation.ensures.value
-    (both_ok c.declare_abbreviation.result _ _ (c.declare_abbreviation.ensures.stand z s) (c.declare_abbreviation.ensures.same from z s settled)))
+    (both_ok c.declare_abbreviation.result _ _ (c.declare_abbreviation.ensures.stand z s.known s.uses) (c.declare_abbreviation.ensures.same from z s settled)))
 
 pub returns-in-Kinds-clause-declared : goal.returns-in-Kinds-clause-declared
 returns-in-Kinds-clause-declared c = λ from z rows s settled k t. ok_with c.declare_kinds.result _ (none_taken from z rows c.args.source.now c.args.self.now.constants c.args.declaration.now _ c.in-Kinds.is refl t)

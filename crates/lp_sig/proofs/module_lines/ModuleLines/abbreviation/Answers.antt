@@ -12,9 +12,12 @@ returns-in-Ok-clause-grown c = record {
 }
 
 pub returns-in-Err-clause-refused : goal.returns-in-Err-clause-refused
-returns-in-Err-clause-refused c = λ said k. blamed_or (exports_kind c.args.self.now.own.now) c.args.self.now.source.now
-    (IsAbbreviationWrong c.args.self.now.source.now said c.args.name c.args.parameters.now c.args.raw.now) c.in-Err.fault c.kinds_blamed.result
-    c.kinds_blamed.ensures (c.in-Err.ensures.reason said k)
+returns-in-Err-clause-refused c = λ z k u. blamed_or (exports_kind c.args.self.now.own.now) c.args.self.now.source.now
+    (IsAbbreviationWrong c.args.self.now.source.now z c.args.name c.args.parameters.now c.args.raw.now) c.in-Err.fault c.kinds_blamed.result
+    c.kinds_blamed.ensures (c.in-Err.ensures.reason z k u)
 
 pub returns-in-Ok-clause-taken : goal.returns-in-Ok-clause-taken
-returns-in-Ok-clause-taken c = λ said k. c.in-Ok.ensures.sound said k
+returns-in-Ok-clause-taken c = λ z k u. c.in-Ok.ensures.stand z k u
+
+pub returns-in-Err-clause-other : goal.returns-in-Err-clause-other
+returns-in-Err-clause-other c = λ said defs k h. (c.in-Err.fault, c.kinds_blamed.ensures, c.in-Err.ensures.other said defs k h)

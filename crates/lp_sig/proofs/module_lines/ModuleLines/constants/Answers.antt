@@ -18,3 +18,12 @@ returns-in-Ok-clause-taken c = λ said k. (c.in-Ok.ensures.taken, c.in-Ok.ensure
 
 pub returns-in-Ok-clause-reads : goal.returns-in-Ok-clause-reads
 returns-in-Ok-clause-reads c = c.in-Ok.ensures.reads
+
+pub returns-in-Err-clause-full : goal.returns-in-Err-clause-full
+returns-in-Err-clause-full c = λ said words k h. (c.in-Err.fault, c.constants_blamed.ensures, c.in-Err.ensures.full said words k h)
+
+pub returns-in-Err-clause-other : goal.returns-in-Err-clause-other
+returns-in-Err-clause-other c = λ said defs given rows words r. (c.in-Err.fault, c.constants_blamed.ensures, c.in-Err.ensures.other said defs given rows words r)
+
+pub returns-in-Ok-clause-takes : goal.returns-in-Ok-clause-takes
+returns-in-Ok-clause-takes c = c.in-Ok.ensures.takes

@@ -13,6 +13,12 @@ use Rattle.lp_sig.specs.ModuleFaults.{exports_constant, IsFirstOf, IsLocalFault,
 use Rattle.lp_sig.specs.declared.fault.SigFault.TheVariants as fault
 use Rattle.lp_sig.specs.declared.module_fault.ModuleSigFault.TheVariants as wrong
 use Rattle.lp_sig.proofs.Refusing.{first_or}
+use Rattle.std.proofs.Common.{[]}
+use Rattle.lp_term.proofs.Trees.{extends-trans}
+use Rattle.lp_sig.specs.Differing.{HasNameCause}
+use Rattle.lp_sig.specs.inner.Taking.{AreOtherIds, AddsNames}
+use Rattle.lp_sig.specs.declared.fault.SigFault.{SigFault}
+use Rattle.lp_sig.proofs.Taking.{adds_same, adds_more, cause_more, others_more}
 use Rattle.lp_sig.proofs.module_lines.ModuleLines.locals_of.Goals as goal
 
 pub loop-name-init : goal.loop-name-init
@@ -24,7 +30,9 @@ loop-name-init c = record {
       (IsShort c.args.self.now.source.now));
   names = refl;
   operators = refl;
+  uses = refl;
   kept = refl;
+  adds = adds_same c.args.making.now.constants c.args.self.now.source.now [] c.args.declared;
   trees = λ words d is can. none_declared c.args.making.now.bodies.types.bank c.args.making.now.constants c.args.self.now.source.now words d can;
 }
 
@@ -40,7 +48,9 @@ loop-name-preserved c =
       grown = making_then c.args.making.now c.loop-name.making c.local.new.making c.loop-name.invariant.grown c.in_ok-local.ensures.grown;
       names = c.local.ensures.names ∙ c.loop-name.invariant.names;
       operators = c.local.ensures.operators ∙ c.loop-name.invariant.operators;
+      uses = c.local.ensures.uses ∙ c.loop-name.invariant.uses;
       kept = c.local.ensures.kept ∙ c.loop-name.invariant.kept;
+      adds = adds_more c.args.making.now.constants c.loop-name.making.constants c.local.new.making.constants text c.args.names.now c.loop-name.name-index _ c.args.declared c.loop-name-test.true c.loop-name.invariant.adds c.in_ok-local.ensures.adds;
       trees = λ words d is can.
           let i = c.loop-name.name-index in
           let names = c.args.names.now in
@@ -87,3 +97,33 @@ pub returns-clause-trees : goal.returns-clause-trees
 returns-clause-trees c = λ words d is can.
     subst (λ names. AreDeclaredAs c.loop-name.making.bodies.types.bank c.loop-name.making.constants c.args.self.now.source.now names d)
     (take_all c.loop-name.name-index c.args.names.now c.loop-name-test.false) (c.loop-name.invariant.trees words d is can)
+
+pub returns-clause-adds : goal.returns-clause-adds
+returns-clause-adds c = subst (λ names. AddsNames c.args.making.now.constants c.loop-name.making.constants c.args.self.now.source.now names c.args.declared)
+    (take_all c.loop-name.name-index c.args.names.now c.loop-name-test.false) c.loop-name.invariant.adds
+
+pub returns-clause-bank : goal.returns-clause-bank
+returns-clause-bank c = c.loop-name.invariant.grown.bank
+
+pub returns-in_err-local-clause-bank : goal.returns-in_err-local-clause-bank
+returns-in_err-local-clause-bank c = extends-trans c.args.making.now.bodies.types.bank c.loop-name.making.bodies.types.bank c.local.new.making.bodies.types.bank c.loop-name.invariant.grown.bank c.local.ensures.bank
+
+pub returns-in_err-local-clause-full : goal.returns-in_err-local-clause-full
+returns-in_err-local-clause-full c = λ words h.
+    let text = c.args.self.now.source.now in
+    let names = c.args.names.now in
+    let i = c.loop-name.name-index in
+    passed_up c.from_residual.result c.in_err-local.field-0.0 (λ e. (f : SigFault) → e ≡ wrong.Sig f → HasNameCause text words names f) c.from_residual.ensures.1
+    (λ f e. cause_more text words names i _ f c.loop-name-test.true (c.in_err-local.ensures.full (words ++ map (λ s. spelled text s) (take i names)) (c.loop-name.invariant.words words h) f e))
+
+pub returns-in_err-local-clause-other : goal.returns-in_err-local-clause-other
+returns-in_err-local-clause-other c = λ words inside h.
+    let text = c.args.self.now.source.now in
+    let names = c.args.names.now in
+    let i = c.loop-name.name-index in
+    let b = c.args.making.now.bodies.types.bank in
+    let now = c.local.new.making.bodies.types.bank in
+    passed_up c.from_residual.result c.in_err-local.field-0.0 (λ e. (f : SigFault) → e ≡ wrong.Sig f → AreOtherIds text now c.args.making.now.constants names c.args.declared f) c.from_residual.ensures.1
+    (λ f e. others_more b now c.args.making.now.constants c.loop-name.making.constants text names i _ c.args.declared f c.loop-name-test.true
+    (extends-trans b c.loop-name.making.bodies.types.bank now c.loop-name.invariant.grown.bank c.local.ensures.bank) inside c.loop-name.invariant.adds
+    (c.in_err-local.ensures.other (words ++ map (λ s. spelled text s) (take i names)) (c.loop-name.invariant.words words h) f e))

@@ -9,6 +9,8 @@ use Rattle.std.proofs.lemmas.Result.{IfErr-weaker, IfOk-weaker}
 use Rattle.lp_sig.specs.ModuleFaults.{AreLocalsRefused, AreLocalsTaken}
 use Rattle.lp_sig.specs.declared.fault.SigFault.TheVariants as fault
 use Rattle.lp_sig.specs.declared.module_fault.ModuleSigFault.TheVariants as wrong
+use Rattle.lp_sig.specs.ModuleFaults.{HaveLocalsCause, AreLocalsOtherIf}
+use Rattle.lp_sig.proofs.Taking.{err_with, local_taken, takes_same}
 use Rattle.lp_sig.proofs.module_lines.ModuleLines.locals_typed.Goals as goal
 
 pub returns-in-Some-clause-words : goal.returns-in-Some-clause-words
@@ -49,3 +51,22 @@ returns-in-Some-clause-reads c = on_ok_weaker c.locals.result (λ h. local_types
 
 pub returns-in-None-clause-reads : goal.returns-in-None-clause-reads
 returns-in-None-clause-reads c = on_ok_always c.known_constants.result _ (local_types c.args.making.now c.args.making.now c.args.self.now.source.now c.args.names.now c.args.raw.now None c.in-None.is (reads_same c.args.making.now))
+
+pub returns-in-Some-clause-full : goal.returns-in-Some-clause-full
+returns-in-Some-clause-full c = λ said words k h. IfErr-weaker c.locals.result _ _ (λ e f. subst (λ o. HaveLocalsCause c.args.self.now.source.now words c.args.names.now o e) (sym c.in-Some.is) f) (c.locals.ensures.full said words k h)
+
+pub returns-in-None-clause-full : goal.returns-in-None-clause-full
+returns-in-None-clause-full c = λ said words k h. err_with c.known_constants.result _ (λ e. subst (λ o. HaveLocalsCause c.args.self.now.source.now words c.args.names.now o e) (sym c.in-None.is) tt)
+
+pub returns-in-Some-clause-other : goal.returns-in-Some-clause-other
+returns-in-Some-clause-other c = λ said defs given rows words r. IfErr-weaker c.locals.result _ _
+    (λ e f. subst (λ o. AreLocalsOtherIf c.args.self.now.source.now said defs given rows c.args.names.now o e) (sym c.in-Some.is) f) (c.locals.ensures.other said defs given rows words r)
+
+pub returns-in-None-clause-other : goal.returns-in-None-clause-other
+returns-in-None-clause-other c = λ said defs given rows words r. err_with c.known_constants.result _ (λ e. subst (λ o. AreLocalsOtherIf c.args.self.now.source.now said defs given rows c.args.names.now o e) (sym c.in-None.is) tt)
+
+pub returns-in-Some-clause-takes : goal.returns-in-Some-clause-takes
+returns-in-Some-clause-takes c = on_ok_weaker c.locals.result (λ h. local_taken c.args.making.now c.locals.new.making c.args.self.now.source.now c.args.names.now c.args.raw.now _ c.in-Some.is h) c.locals.ensures.takes
+
+pub returns-in-None-clause-takes : goal.returns-in-None-clause-takes
+returns-in-None-clause-takes c = on_ok_always c.known_constants.result _ (local_taken c.args.making.now c.args.making.now c.args.self.now.source.now c.args.names.now c.args.raw.now None c.in-None.is (takes_same c.args.making.now))
