@@ -122,7 +122,7 @@ record IsFileText {T : Type 0} (IsTree : ℕ → File → T → Type 0) (files :
   pub tree_is : IsTree number file tree
 
 -- what a file names by the words of its text
-record NamesFiles (files : List File) (number : ℕ) (source : List ℕ) (text : ModuleText) : Type 0 where
+pub record NamesFiles (files : List File) (number : ℕ) (source : List ℕ) (text : ModuleText) : Type 0 where
   pub accum_sig : accum_sig_at files number ≡ each_once (filter_map (signature_of files) (map (spelled source) (accum_words (declarations text.lines.items))))
   pub accumulate : accumulate_at files number ≡ each_once (filter_map (signature_of files) (map (spelled source) (accumulate_in (declarations text.lines.items))))
 

@@ -103,8 +103,7 @@ module _ (own : Signature) (used : List Signature) (text : List ℕ) (lines : Li
       let (more, split) = firsts_front (names_in standard_kinds) (said_of own) rest apart.kinds in
       let all : said_in_module own used text lines ≡ said_of own ++ rest = append_assoc (said_of own) (of_each said_of used) (said_in text (declarations lines)) in
       let kinds : kinds_among (said_of own) ≡ map kind_pair own.kinds.items ++ [] =
-      among_append (map kind_said own.kinds.items) (map abbreviation_said own.abbreviations.items) ∙ (λ i. of_kinds own.kinds.items i ++ of_abbreviations own.abbreviations.items i) in
-      (
+      among_append (map kind_said own.kinds.items) (map abbreviation_said own.abbreviations.items) ∙ (λ i. of_kinds own.kinds.items i ++ of_abbreviations own.abbreviations.items i) in (
         [] ++ kinds_among more,
         pairs_are 8 s.kinds.items (kinds_among (declared_names (said_in_module own used text lines))) seen.kinds
             ∙ ap (λ r. kinds_among (declared_names r)) all ∙ ap kinds_among split ∙ among_append (said_of own) more ∙ ap (λ l. l ++ kinds_among more) kinds

@@ -111,7 +111,8 @@ impl From<LinkRefusal> for BuildFault {
     fn from(refusal: LinkRefusal) -> BuildFault {
         match refusal {
             LinkRefusal::Limit(limit) => BuildFault::Limit(limit),
-            LinkRefusal::Differ(_, _) | LinkRefusal::Memory => BuildFault::Memory,
+            LinkRefusal::Differ(_, _) => BuildFault::Memory,
+            LinkRefusal::Memory => BuildFault::Memory,
         }
     }
 }
