@@ -2,3 +2,4 @@ pub mod Leaving
 pub mod Making
 pub mod Linking
 pub mod Gathering
+pub mod Uncompiling

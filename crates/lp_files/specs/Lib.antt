@@ -1,3 +1,4 @@
 pub mod Target
 pub mod Made
+pub mod Uncompiled
 pub mod inner

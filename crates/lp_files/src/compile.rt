@@ -2,6 +2,7 @@
 ghost use Rattle.std.specs.Prelude.{IfErr, IfOk};
 ghost use Rattle.lp_build.specs.Reads.{AreRead};
 ghost use Rattle.lp_files.specs.Made.{IsCompiledOf, IsObjectMade, SpellsCompiled};
+ghost use Rattle.lp_files.specs.Uncompiled.{IsUncompiled, IsUnspelled};
 ghost use Rattle.lp_lines.specs.Looked.{Looked, refusal_of};
 ghost use Rattle.lp_lines.specs.Refusals.{IsJudged};
 
@@ -18,6 +19,7 @@ use std::alloc::Global;
 fn built(alloc: Global, sources: &Sources, name: &str) -> Result<Object, Refusal>
     ensures judged { IfErr result IsJudged }
     ensures compiled { AreRead sources.now → IfOk result (IsCompiledOf sources.now name.now) }
+    ensures cause { AreRead sources.now → IfErr result (IsUnspelled sources.now name.now) }
 {
     let text = file_name(alloc, name, ".mod")?;
     let Some(number) = sources.number_of(text.as_str()) else {
@@ -32,6 +34,7 @@ fn built(alloc: Global, sources: &Sources, name: &str) -> Result<Object, Refusal
 fn written(alloc: Global, sources: &Sources, name: &str) -> Result<Vec<u8>, Refusal>
     ensures judged { IfErr result IsJudged }
     ensures spells { AreRead sources.now → IfOk result (λ bytes. SpellsCompiled sources.now name.now bytes.items) }
+    ensures cause { AreRead sources.now → IfErr result (IsUnspelled sources.now name.now) }
 {
     let object = built(alloc, sources, name)?;
     match write_object(alloc, &object) {
@@ -43,6 +46,7 @@ fn written(alloc: Global, sources: &Sources, name: &str) -> Result<Vec<u8>, Refu
 /// The bytes of the object of a module. Of the modules that it accumulates the signatures are read.
 pub fn compiled<F: Folder>(alloc: Global, name: &str, folder: &mut F) -> Result<Vec<u8>, Refusal>
     ensures object { IfOk result (λ bytes. IsObjectMade (F.held folder.old) name.now bytes.items) }
+    ensures cause { IfErr result (IsUncompiled (F.held folder.old) name.now) }
     ensures looked { Looked F.read_faults F.misses F.overs F.write_faults F.held folder.old folder.new (refusal_of result) }
 {
     match gather(alloc, folder, name, false) {

@@ -1,5 +1,9 @@
 // What is said of objects and images.
-ghost use Rattle.lp_lines.specs.Refusals.{IsJudged};
+ghost use Rattle.std.specs.Prelude.{◌≡◌, ◌⊎◌};
+ghost use Rattle.lp_base.specs.declared.limit.Limit.TheVariants as limit;
+ghost use Rattle.lp_lines.specs.Refusals.{IsJudged, TellsLimit};
+ghost use Rattle.lp_lines.specs.declared.refusal.Refusal.TheVariants as refused;
+ghost use Rattle.lp_object.specs.Refusing.{IsLimit};
 
 use lp_base::Memory;
 use lp_lines::{Refusal, limited, numbered, said_of, said_with};
@@ -26,7 +30,8 @@ pub fn misread(alloc: Global, file: &[u8], fault: FormatFault) -> Refusal
 
 /// A value takes more bytes than a file may have.
 pub fn unwritten(alloc: Global, refusal: WriteRefusal) -> Refusal
-    ensures { IsJudged result }
+    ensures judged { IsJudged result }
+    ensures says { (many : Type 0) → IsLimit refusal many → (result ≡ refused.Memory) ⊎ (many × TellsLimit limit.Image result) }
 {
     match refusal {
         WriteRefusal::Limit(limit) => limited(alloc, limit),
