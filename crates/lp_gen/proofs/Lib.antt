@@ -1,3 +1,4 @@
+mod Using
 mod Works
 mod TypeWorks
 mod TypePut
