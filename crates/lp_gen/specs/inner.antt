@@ -22,6 +22,7 @@ pub mod Running
 pub mod Saying
 pub mod Sizes
 pub mod Tasks
+pub mod Spending
 pub mod TermLaw
 pub mod TermSteps
 pub mod Using

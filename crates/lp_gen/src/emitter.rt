@@ -3,6 +3,7 @@ ghost use Rattle.std.specs.Prelude.{◌≡◌, ◌⊎◌, ℕ, ◌<◌, ◌≤�
 ghost use Rattle.lp_code.specs.declared.instruction.Instr.{Instr};
 ghost use Rattle.lp_code.specs.declared.instruction.Instr.TheVariants as on;
 ghost use Rattle.lp_code.specs.Length.{length_of};
+ghost use Rattle.lp_gen.specs.Limits.{past};
 ghost use Rattle.lp_gen.specs.inner.Fitting.{is_fitting, is_short, misfits_of, IsRefused};
 
 use crate::fault::RecordRefusal;
@@ -25,7 +26,8 @@ pub(crate) struct Emitter {
 // Refuses what is more than is allowed.
 fn within(count: usize, most: usize) -> Result<(), RecordRefusal>
     ensures fit { OnOk result (count ≤ most) }
-    ensures cause { IfErr result (IsRefused (most < count)) }
+    ensures room { OnOk result (past most count ≡ 0) }
+    ensures cause { IfErr result (IsRefused (0 < past most count)) }
 {
     if count > most {
         return Err(RecordRefusal::Registers);

@@ -1,12 +1,9 @@
 -- How much of what an emitter has left a function uses, and where it refuses, that so much is not left.
 use Rattle.std.specs.Prelude.{◌≡◌, ◌⊎◌, ℕ, ◌+◌, ◌<◌, ◌≤◌}
-use Rattle.lp_code.specs.declared.instruction.Instr.{Instr}
-use Rattle.lp_code.specs.Length.{length_of}
 use Rattle.lp_gen.specs.declared.emitter.Emitter.{Emitter}
 use Rattle.lp_gen.specs.declared.fault.RecordRefusal.{RecordRefusal}
 use Rattle.lp_gen.specs.declared.fault.RecordRefusal.TheVariants as refusal
-use Rattle.lp_gen.specs.Registers.{Amount, plain_code}
-use Rattle.lp_gen.specs.inner.Fitting.{misfits_of}
+use Rattle.lp_gen.specs.Registers.{Amount}
 
 pub record Uses (old new : Emitter) (a : Amount) : Type 0 where
   pub types_are : new.types ≡ old.types + a.types
@@ -26,6 +23,3 @@ pub record AtMost (a b : Amount) : Type 0 where
   pub terms : a.terms ≤ b.terms
   pub bytes : a.bytes ≤ b.bytes
   pub misfits : a.misfits ≤ b.misfits
-
-abbrev pub instruction_takes : Instr → Amount
-instruction_takes i = plain_code (length_of i) (misfits_of i)
