@@ -1,5 +1,11 @@
 mod Using
 mod TypesUsed
+mod StepsUsed
+mod CallsUsed
+mod TermsUsed
+mod AtomsUsed
+mod HeadUsed
+mod EnteringUsed
 mod Works
 mod TypeWorks
 mod TypePut
