@@ -5,7 +5,6 @@ mod CallsUsed
 mod TermsUsed
 mod AtomsUsed
 mod HeadUsed
-mod EnteringUsed
 mod Works
 mod TypeWorks
 mod TypePut

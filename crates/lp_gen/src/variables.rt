@@ -1,9 +1,6 @@
 // Variables that do not stand in the head, and the end of the head.
-ghost use Rattle.std.specs.Prelude.{◌≡◌, OnOk, IfErr};
-ghost use Rattle.lp_term.specs.Nodes.{type_tree};
-ghost use Rattle.lp_gen.specs.Registers.{plain_code, step_takes};
-ghost use Rattle.lp_gen.specs.inner.Using.{Uses, Lacks};
-ghost use Rattle.lp_gen.specs.inner.Listing.{around_of, seen, set_level, make_variable};
+ghost use Rattle.std.specs.Prelude.{◌≡◌, OnOk};
+ghost use Rattle.lp_gen.specs.inner.Listing.{around_of, seen, set_level};
 ghost use Rattle.lp_gen.specs.inner.Beginning.{VariableMade, PlaceMade, OwnMade, NeckPut};
 
 use crate::emitter::Emitter;
@@ -26,8 +23,6 @@ fn put_variable(
 ) -> Result<(), RecordRefusal>
     ensures made { OnOk result (VariableMade emitter.old emitter.new (around_of bank.now environment.old) level (seen bank.now variable)) }
     ensures set { OnOk result (around_of bank.now environment.new ≡ set_level (around_of bank.now environment.old) level) }
-    ensures uses { OnOk result (Uses emitter.old emitter.new (step_takes (make_variable variable.register (type_tree bank.now variable.of.0)))) }
-    ensures lacks { IfErr result (Lacks emitter.old (step_takes (make_variable variable.register (type_tree bank.now variable.of.0)))) }
 {
     let of = TypeView::Of(variable.of, None);
     let register = put_type(alloc, bank, emitter, of)?;
@@ -78,8 +73,6 @@ pub(crate) fn make_variables(
 /// The end of the head.
 pub(crate) fn put_neck(emitter: &mut Emitter) -> Result<(), RecordRefusal>
     ensures code { OnOk result (NeckPut emitter.old emitter.new) }
-    ensures uses { OnOk result (Uses emitter.old emitter.new (plain_code 1 0)) }
-    ensures lacks { IfErr result (Lacks emitter.old (plain_code 1 0)) }
 {
     emitter.emit(Instr::Neck)?;
     Ok(())

@@ -1,6 +1,4 @@
 use Rattle.std.proofs.Common.{◌≡◌, ◌+◌}
-use Rattle.lp_gen.specs.Registers.{variables_take}
-use Rattle.lp_gen.specs.inner.Using.{Uses}
 use Rattle.lp_gen.proofs.entering.take_registers.Given as goal
 
 abbrev pub invariant-loop : goal.invariant-loop
@@ -8,5 +6,4 @@ invariant-loop l = record {
   code : l.emitter.code.items ≡ l.fn.emitter.code.items;
   types : l.emitter.types ≡ l.fn.emitter.types;
   registers : l.emitter.registers ≡ l.fn.emitter.registers + l.counter;
-  uses : Uses l.fn.emitter l.emitter (variables_take l.counter);
 }
