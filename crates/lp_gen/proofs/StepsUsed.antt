@@ -66,7 +66,7 @@ steps_lack b o m xs all x e r u p =
     let a = both (steps_take ss) (step_takes (plain_step b x)) in
     let c = both (steps_take ss) (both (step_takes (plain_step b x)) (steps_take ts)) in
     let most : AtMost a c = record { types = omega arith; terms = omega arith; bytes = omega arith; misfits = omega arith } in
-    subst (λ k. Lacks o k e) (sym whole) (lacks_behind c u most p)
+    subst (λ k. Lacks o k e) (sym whole) (lacks_behind (step_takes (plain_step b x)) c e u most p)
 
 pub stack_pushed : (d : ℕ) (ss : List Step) (s : Step) → stack_all d (ss ++ s ∷ []) ≡ stack_behind (stack_all d ss) s
 stack_pushed d [] s = refl
@@ -101,7 +101,7 @@ seen_leads d a l v t e = go t (seen_listed a l v) (λ i. if e i then one_step a 
 
     go : (t : Bool) (x : Listed) → x ≡ (if t then one_step a (from_register v.register) else made) → Leads d (suc d) x.steps
     go true x e = subst (λ (x : Listed). Leads d (suc d) x.steps) (sym e) ((tt, tt), refl)
-    go false x e = subst (λ (x : Listed). Leads d (suc d) x.steps) (sym e) ((tt, tt, tt), refl)
+    go false x e = subst (λ (x : Listed). Leads d (suc d) x.steps) (sym e) ((tt, (tt, tt)), refl)
 
 found_leads : (d : ℕ) (a : Around) (l : ℕ) (o : Option Seen) → Leads d (suc d) (found_listed a l o).steps
 found_leads d a l None = ((tt, tt), refl)
