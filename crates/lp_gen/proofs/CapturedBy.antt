@@ -132,7 +132,7 @@ module _ (b : Nodes) (n : ℕ) (ks : List ℕ) where
 
   -- clauses
 
-  under_many : (vs : List Ty) (d : ℕ) → under_all suc vs d ≡ d + length vs
+  pub under_many : (vs : List Ty) (d : ℕ) → under_all suc vs d ≡ d + length vs
   under_many [] d = omega arith
   under_many (v ∷ vs) d = let z : suc (d + length vs) ≡ d + suc (length vs) = omega arith in ap suc (under_many vs d) ∙ z
 

@@ -84,6 +84,7 @@ mod GroupDenotes
 mod GroupPut
 mod GroupsDenote
 mod CapturedBy
+mod CapturedFrom
 mod LimitsLeft
 mod LimitsWork
 mod LimitsTold

@@ -1,5 +1,5 @@
 // The variables around assumed clauses that stand in them.
-ghost use Rattle.std.specs.Prelude.{◌≡◌, ℕ, List, ◌≤◌, ◌+◌, ◌*◌, true, IfOk, OnOk};
+ghost use Rattle.std.specs.Prelude.{◌≡◌, ℕ, Bool, List, ◌≤◌, ◌+◌, ◌*◌, true, IfOk, OnOk};
 ghost use Rattle.lp_term.specs.Nodes.{tree};
 ghost use Rattle.lp_term.specs.Walk.{size};
 ghost use Rattle.lp_model.specs.Flat.{clauses, no_clauses};
@@ -7,7 +7,7 @@ ghost use Rattle.lp_model.specs.Flattened.{goal_of, clause_of, clauses_of};
 ghost use Rattle.lp_code.specs.States.{member};
 ghost use Rattle.lp_gen.specs.inner.Bodies.{IsThrough, AllThrough};
 ghost use Rattle.lp_gen.specs.inner.TermLaw.{AllLoose};
-ghost use Rattle.lp_gen.specs.inner.Capturing.{IsAmong, PlacesHold, Marks, goal_size, clause_size, place_task, place_work};
+ghost use Rattle.lp_gen.specs.inner.Capturing.{IsAmong, IsSo, IsLevelOf, AreFound, PlacesHold, PlacesHave, Marks, Finds, goal_size, clause_size, place_task, place_work};
 ghost use Rattle.lp_gen.specs.declared.captured.Place.TheVariants as on;
 
 use crate::fault::RecordRefusal;
@@ -31,6 +31,7 @@ enum Place<'a> {
 fn mark(levels: &mut IndexSet<u64>, base: u64, index: u64) -> Result<(), Memory>
     ensures old { OnOk result ((k : ℕ) → member k levels.old.keys ≡ true → member k levels.new.keys ≡ true) }
     ensures new { OnOk result (IsAmong base levels.new.keys index) }
+    ensures found { OnOk result ((p : ℕ → Bool) → p index ≡ true → AreFound base p levels.old.keys levels.new.keys) }
 {
     if index >= base {
         return Ok(());
@@ -49,6 +50,7 @@ fn visit_term<'a>(
 ) -> Result<(), RecordRefusal>
     ensures less { OnOk result (place_work bank.now work.new.items + 1 ≤ place_work bank.now work.old.items + 4 * size (tree bank.now term.0)) }
     ensures marks { OnOk result (Marks bank.now base levels.old.keys levels.new.keys work.old.items work.new.items (on.Term term depth)) }
+    ensures finds { OnOk result (Finds bank.now base levels.old.keys levels.new.keys work.old.items work.new.items (on.Term term depth)) }
 {
     match bank.term_node(term) {
         TermNode::Index(index) => {
@@ -81,6 +83,7 @@ fn visit_goal<'a>(
 ) -> Result<(), RecordRefusal>
     ensures less { OnOk result (place_work bank.now work.new.items ≤ place_work bank.now work.old.items + goal_size bank.now goal.now) }
     ensures marks { OnOk result ((base : ℕ) (ks : List ℕ) → PlacesHold bank.now base ks work.new.items → PlacesHold bank.now base ks work.old.items × IsThrough (AllLoose (IsAmong base ks)) depth (goal_of bank.now goal.now)) }
+    ensures finds { OnOk result ((p : ℕ → Bool) → PlacesHave bank.now p work.old.items → IsThrough (AllLoose (IsSo p)) depth (goal_of bank.now goal.now) → PlacesHave bank.now p work.new.items) }
 {
     match goal {
         Goal::Atom(term) => {
@@ -124,6 +127,7 @@ fn visit_clause<'a>(
 ) -> Result<(), RecordRefusal>
     ensures less { OnOk result (place_work bank.now work.new.items ≤ place_work bank.now work.old.items + clause_size bank.now clause.now) }
     ensures marks { OnOk result ((base : ℕ) (ks : List ℕ) → PlacesHold bank.now base ks work.new.items → PlacesHold bank.now base ks work.old.items × AllThrough (AllLoose (IsAmong base ks)) depth (clauses (clause_of bank.now clause.now) no_clauses)) }
+    ensures finds { OnOk result ((p : ℕ → Bool) → PlacesHave bank.now p work.old.items → AllThrough (AllLoose (IsSo p)) depth (clauses (clause_of bank.now clause.now) no_clauses) → PlacesHave bank.now p work.new.items) }
 {
     let under = with_more(depth, clause.vars.len() as u64)?;
     work.push(Place::Goals(clause.body.as_slice(), under))?;
@@ -141,6 +145,7 @@ fn take_up<'a>(
 ) -> Result<(), RecordRefusal>
     ensures less { OnOk result (place_work bank.now work.new.items + 1 ≤ place_work bank.now work.old.items + place_task bank.now place.entry) }
     ensures marks { OnOk result (Marks bank.now base levels.old.keys levels.new.keys work.old.items work.new.items place.entry) }
+    ensures finds { OnOk result (Finds bank.now base levels.old.keys levels.new.keys work.old.items work.new.items place.entry) }
 {
     match place {
         Place::Clauses(clauses, depth) => {
@@ -181,7 +186,8 @@ pub(crate) fn captured_of(
     clauses: &[Clause],
     base: u64,
 ) -> Result<IndexSet<u64>, RecordRefusal>
-    ensures { IfOk result (λ levels. AllThrough (AllLoose (IsAmong base levels.keys)) 0 (clauses_of bank.now clauses.now)) }
+    ensures all { IfOk result (λ levels. AllThrough (AllLoose (IsAmong base levels.keys)) 0 (clauses_of bank.now clauses.now)) }
+    ensures found { IfOk result (λ levels. (p : ℕ → Bool) → AllThrough (AllLoose (IsSo p)) 0 (clauses_of bank.now clauses.now) → (k : ℕ) → member k levels.keys ≡ true → IsLevelOf base p k) }
 {
     let mut levels = IndexSet::new(alloc);
     let mut work = Vec::new(alloc);
