@@ -29,6 +29,7 @@ mod Calm
 mod Pushed
 mod BodySaid
 mod Denoting
+mod Depths
 mod Bytes
 mod Goals
 mod Arguments

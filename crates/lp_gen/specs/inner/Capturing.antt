@@ -1,5 +1,5 @@
 -- Which variables around clauses stand in them.
-use Rattle.std.specs.Prelude.{◌≡◌, ℕ, ◌+◌, ◌-◌, ◌*◌, ◌<◌, ◌⊎◌, Bool, true, List, [], ◌∷◌, map, sum_by}
+use Rattle.std.specs.Prelude.{◌≡◌, ℕ, ◌+◌, ◌-◌, ◌*◌, ◌^◌, ◌<◌, ◌⊎◌, nat_lt, Bool, true, if◌then◌else◌, Option, Some, None, List, [], ◌∷◌, map, sum_by}
 use Rattle.lp_term.specs.Nodes.{Nodes, tree}
 use Rattle.lp_term.specs.Walk.{size}
 use Rattle.lp_term.specs.declared.node.TermId.{TermId}
@@ -18,6 +18,13 @@ use Rattle.lp_gen.specs.inner.Bodies.{AreThrough, AllThrough}
 abbrev pub IsAmong : (base : ℕ) → List ℕ → ℕ → Type 0
 IsAmong n ks i = i < n → member (n - i - 1) ks ≡ true
 
+-- so many variables that are bound, as a number below 2^64 or none
+abbrev pub depth_of : ℕ → Option ℕ
+depth_of d = if nat_lt d (2 ^ 64) then Some d else None
+
+abbrev pub IsDepth : ℕ → Option ℕ → Type 0
+IsDepth d o = depth_of d ≡ o
+
 -- what is still to be looked at has no others
 
 abbrev pub TermsHold : Nodes → (base : ℕ) → List ℕ → ℕ → List TermId → Type 0
@@ -25,10 +32,10 @@ TermsHold b n ks d [] = Unit {0}
 TermsHold b n ks d (t ∷ ts) = AllLoose (IsAmong n ks) d (tree b t.0) × TermsHold b n ks d ts
 
 abbrev pub PlaceHolds : Nodes → (base : ℕ) → List ℕ → Place → Type 0
-PlaceHolds b n ks (on.Clauses cs d) = AllThrough (AllLoose (IsAmong n ks)) d (clauses_of b cs.now)
-PlaceHolds b n ks (on.Goals gs d) = AreThrough (AllLoose (IsAmong n ks)) d (goals_of b gs.now)
-PlaceHolds b n ks (on.Terms ts d) = TermsHold b n ks d ts.now
-PlaceHolds b n ks (on.Term t d) = AllLoose (IsAmong n ks) d (tree b t.0)
+PlaceHolds b n ks (on.Clauses cs o) = (d : ℕ) → IsDepth d o → AllThrough (AllLoose (IsAmong n ks)) d (clauses_of b cs.now)
+PlaceHolds b n ks (on.Goals gs o) = (d : ℕ) → IsDepth d o → AreThrough (AllLoose (IsAmong n ks)) d (goals_of b gs.now)
+PlaceHolds b n ks (on.Terms ts o) = (d : ℕ) → IsDepth d o → TermsHold b n ks d ts.now
+PlaceHolds b n ks (on.Term t o) = (d : ℕ) → IsDepth d o → AllLoose (IsAmong n ks) d (tree b t.0)
 
 abbrev pub PlacesHold : Nodes → (base : ℕ) → List ℕ → List Place → Type 0
 PlacesHold b n ks [] = Unit {0}
@@ -51,10 +58,10 @@ TermsHave b p d [] = Unit {0}
 TermsHave b p d (t ∷ ts) = AllLoose (IsSo p) d (tree b t.0) × TermsHave b p d ts
 
 abbrev pub PlaceHas : Nodes → (ℕ → Bool) → Place → Type 0
-PlaceHas b p (on.Clauses cs d) = AllThrough (AllLoose (IsSo p)) d (clauses_of b cs.now)
-PlaceHas b p (on.Goals gs d) = AreThrough (AllLoose (IsSo p)) d (goals_of b gs.now)
-PlaceHas b p (on.Terms ts d) = TermsHave b p d ts.now
-PlaceHas b p (on.Term t d) = AllLoose (IsSo p) d (tree b t.0)
+PlaceHas b p (on.Clauses cs o) = (d : ℕ) × IsDepth d o × AllThrough (AllLoose (IsSo p)) d (clauses_of b cs.now)
+PlaceHas b p (on.Goals gs o) = (d : ℕ) × IsDepth d o × AreThrough (AllLoose (IsSo p)) d (goals_of b gs.now)
+PlaceHas b p (on.Terms ts o) = (d : ℕ) × IsDepth d o × TermsHave b p d ts.now
+PlaceHas b p (on.Term t o) = (d : ℕ) × IsDepth d o × AllLoose (IsSo p) d (tree b t.0)
 
 abbrev pub PlacesHave : Nodes → (ℕ → Bool) → List Place → Type 0
 PlacesHave b p [] = Unit {0}
