@@ -91,7 +91,7 @@ module _ (b : Nodes) (n : ℕ) (ks : List ℕ) where
         y.0,
         λ d w.
             subst (IsThrough (AllLoose (IsAmong n ks)) d) (sym (ap (goal_of b) is ∙ either_is b l r))
-                (subst (λ l. AreThrough (AllLoose (IsAmong n ks)) d (goals_of b l)) left (y.1 d w), subst (λ l. AreThrough (AllLoose (IsAmong n ks)) d (goals_of b l)) right (x.1 d w)),
+            (subst (λ l. AreThrough (AllLoose (IsAmong n ks)) d (goals_of b l)) left (y.1 d w), subst (λ l. AreThrough (AllLoose (IsAmong n ks)) d (goals_of b l)) right (x.1 d w)),
       )
 
   -- goals under a variable more
@@ -128,7 +128,7 @@ module _ (b : Nodes) (n : ℕ) (ks : List ℕ) where
         y.0,
         λ d w.
             subst (IsThrough (AllLoose (IsAmong n ks)) d) (sym (ap (goal_of b) is ∙ assume_is b cs l))
-                (subst (λ l. AllThrough (AllLoose (IsAmong n ks)) d (clauses_of b l)) left (y.1 d w), subst (λ l. AreThrough (AllLoose (IsAmong n ks)) d (goals_of b l)) right (x.1 d w)),
+            (subst (λ l. AllThrough (AllLoose (IsAmong n ks)) d (clauses_of b l)) left (y.1 d w), subst (λ l. AreThrough (AllLoose (IsAmong n ks)) d (goals_of b l)) right (x.1 d w)),
       )
 
   pub not_holds : (o : Option ℕ) (g : Goal) (l : Vec Goal Global) (ls : Bor (List Goal)) (ps ps' : List Place) → g ≡ code.Not l → ls.now ≡ l.items → ps' ≡ ps ++ on.Goals ls o ∷ [] →

@@ -56,7 +56,7 @@ module _ (b : Nodes) (p : ℕ → Bool) where
   either_has o g l r ls rs ps mid ps' is left right m e h d w x =
       let y = subst (IsThrough (AllLoose (IsSo p)) d) (ap (goal_of b) is ∙ either_is b l r) x in
       had_more mid ps' (on.Goals rs o) e (had_more ps mid (on.Goals ls o) m h (d, w, subst (λ l. AreThrough (AllLoose (IsSo p)) d (goals_of b l)) (sym left) y.0))
-          (d, w, subst (λ l. AreThrough (AllLoose (IsSo p)) d (goals_of b l)) (sym right) y.1)
+      (d, w, subst (λ l. AreThrough (AllLoose (IsSo p)) d (goals_of b l)) (sym right) y.1)
 
   -- goals under a variable more
   under_one : (o u : Option ℕ) (l : Vec Goal Global) (ls : Bor (List Goal)) (ps ps' : List Place) → ls.now ≡ l.items → ((d : ℕ) → IsDepth d o → IsDepth (d + 1) u) →
@@ -64,7 +64,7 @@ module _ (b : Nodes) (p : ℕ → Bool) where
   under_one o u l ls ps ps' same more e h d w x =
       let z : suc d ≡ d + 1 = omega arith in
       had_more ps ps' (on.Goals ls u) e h
-          (d + 1, more d w, subst (λ l. AreThrough (AllLoose (IsSo p)) (d + 1) (goals_of b l)) (sym same) (subst (λ k. AreThrough (AllLoose (IsSo p)) k (goals_of b l.items)) z x))
+      (d + 1, more d w, subst (λ l. AreThrough (AllLoose (IsSo p)) (d + 1) (goals_of b l)) (sym same) (subst (λ k. AreThrough (AllLoose (IsSo p)) k (goals_of b l.items)) z x))
 
   pub some_has : (o u : Option ℕ) (g : Goal) (T : TypeId) (l : Vec Goal Global) (ls : Bor (List Goal)) (ps ps' : List Place) → g ≡ code.Some T l → ls.now ≡ l.items →
       ((d : ℕ) → IsDepth d o → IsDepth (d + 1) u) → ps' ≡ ps ++ on.Goals ls u ∷ [] → PlacesHave b p ps →
@@ -82,13 +82,13 @@ module _ (b : Nodes) (p : ℕ → Bool) where
   assume_has o g cs l ds ls ps mid ps' is left right m e h d w x =
       let y = subst (IsThrough (AllLoose (IsSo p)) d) (ap (goal_of b) is ∙ assume_is b cs l) x in
       had_more mid ps' (on.Goals ls o) e (had_more ps mid (on.Clauses ds o) m h (d, w, subst (λ l. AllThrough (AllLoose (IsSo p)) d (clauses_of b l)) (sym left) y.0))
-          (d, w, subst (λ l. AreThrough (AllLoose (IsSo p)) d (goals_of b l)) (sym right) y.1)
+      (d, w, subst (λ l. AreThrough (AllLoose (IsSo p)) d (goals_of b l)) (sym right) y.1)
 
   pub not_has : (o : Option ℕ) (g : Goal) (l : Vec Goal Global) (ls : Bor (List Goal)) (ps ps' : List Place) → g ≡ code.Not l → ls.now ≡ l.items → ps' ≡ ps ++ on.Goals ls o ∷ [] →
       PlacesHave b p ps → (d : ℕ) → IsDepth d o → IsThrough (AllLoose (IsSo p)) d (goal_of b g) → PlacesHave b p ps'
   not_has o g l ls ps ps' is same e h d w x =
       had_more ps ps' (on.Goals ls o) e h
-          (d, w, subst (λ l. AreThrough (AllLoose (IsSo p)) d (goals_of b l)) (sym same) (subst (IsThrough (AllLoose (IsSo p)) d) (ap (goal_of b) is ∙ not_is b l) x))
+      (d, w, subst (λ l. AreThrough (AllLoose (IsSo p)) d (goals_of b l)) (sym same) (subst (IsThrough (AllLoose (IsSo p)) d) (ap (goal_of b) is ∙ not_is b l) x))
 
   -- clauses
 
@@ -103,9 +103,9 @@ module _ (b : Nodes) (p : ℕ → Bool) where
       let z : under_all suc vs d ≡ k = omega (arith, many, sum) in
       let y = subst (λ F. AllThrough (AllLoose (IsSo p)) d (clauses F no_clauses)) (clause_is b c) x in
       had_more mid ps' (on.Term c.head u) e
-          (had_more ps mid (on.Goals ls u) m h
-              (k, more d w, subst (λ l. AreThrough (AllLoose (IsSo p)) k (goals_of b l)) (sym same) (subst (λ k. AreThrough (AllLoose (IsSo p)) k (goals_of b c.body.items)) z y.1)))
-          (k, more d w, subst (λ k. AllLoose (IsSo p) k (tree b c.head.0)) z y.0)
+      (had_more ps mid (on.Goals ls u) m h
+      (k, more d w, subst (λ l. AreThrough (AllLoose (IsSo p)) k (goals_of b l)) (sym same) (subst (λ k. AreThrough (AllLoose (IsSo p)) k (goals_of b c.body.items)) z y.1)))
+      (k, more d w, subst (λ k. AllLoose (IsSo p) k (tree b c.head.0)) z y.0)
 
   pub first_clause : (d : ℕ) (F : FlatClause) (Fs : Clauses) → AllThrough (AllLoose (IsSo p)) d (clauses F Fs) → AllThrough (AllLoose (IsSo p)) d (clauses F no_clauses) × AllThrough (AllLoose (IsSo p)) d Fs
   first_clause d (clause m vs h body) Fs x = ((x.0, x.1, tt), x.2)
@@ -135,8 +135,10 @@ level_found n p i xs xs' is lt so k e = go (list_any (nat_eq l) xs) (sym (ap (me
   where
     l : ℕ
     l = n - i - 1
+
     here : member k (l ∷ []) ≡ true → (member k xs ≡ true) ⊎ IsLevelOf n p k
     here m = inr (i, lt, only_member k l m, so)
+
     go : (c : Bool) → member k (if c then xs else xs ++ l ∷ []) ≡ true → (member k xs ≡ true) ⊎ IsLevelOf n p k
     go true m = inl m
     go false m = ⊎_elim (λ h. inl h) here (member_split k xs (l ∷ []) m)

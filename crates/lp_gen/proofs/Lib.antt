@@ -86,6 +86,7 @@ mod GroupPut
 mod GroupsDenote
 mod CapturedBy
 mod CapturedFrom
+mod Leveling
 mod LimitsLeft
 mod LimitsWork
 mod LimitsTold

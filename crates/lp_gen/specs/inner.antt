@@ -24,5 +24,6 @@ pub mod Sizes
 pub mod Tasks
 pub mod TermLaw
 pub mod TermSteps
+pub mod Variables
 pub mod Works
 pub mod Written

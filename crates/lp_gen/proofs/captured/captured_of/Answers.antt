@@ -15,7 +15,7 @@ places-init c = record {
 pub places-preserved : goal.places-preserved
 places-preserved c =
     place_looked_at c.args.bank.now c.args.clauses.now c.args.base c.places.levels.keys c.take_up.new.levels.keys c.places.work.items c.pop.new.self.items c.take_up.new.work.items c.in-Some.place
-        c.in-Some.ensures.items c.places.invariant c.in_ok-take_up.ensures.marks c.in_ok-take_up.ensures.finds
+    c.in-Some.ensures.items c.places.invariant c.in_ok-take_up.ensures.marks c.in_ok-take_up.ensures.finds
 
 pub returns-clause-all : goal.returns-clause-all
 returns-clause-all c =

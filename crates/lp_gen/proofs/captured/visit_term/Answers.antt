@@ -42,7 +42,7 @@ returns-in_default-around-clause-finds c = nothing_left c.args.bank.now c.args.b
 pub returns-in_ok-mark-in-Index-clause-finds : goal.returns-in_ok-mark-in-Index-clause-finds
 returns-in_ok-mark-in-Index-clause-finds c =
     free_found c.args.bank.now c.args.base c.args.levels.now.keys c.mark.new.levels.keys c.args.work.now.items c.args.work.now.items c.args.term c.args.depth c.in-Index.index c.in-Some.index c.in-Index.ensures.tree
-        c.in-Some.ensures.free c.in_ok-mark-in-Index.ensures.found
+    c.in-Some.ensures.free c.in_ok-mark-in-Index.ensures.found
 
 pub returns-in_ok-push-in-Abs-clause-finds : goal.returns-in_ok-push-in-Abs-clause-finds
 returns-in_ok-push-in-Abs-clause-finds c =
@@ -51,7 +51,7 @@ returns-in_ok-push-in-Abs-clause-finds c =
 pub returns-in_ok-push-in-App-2-clause-finds : goal.returns-in_ok-push-in-App-2-clause-finds
 returns-in_ok-push-in-App-2-clause-finds c =
     application_found c.args.bank.now c.args.base c.args.levels.now.keys c.args.levels.now.keys c.args.work.now.items c.push-in-App-2.new.self.items c.args.term c.in-App.head c.in-App.args c.args.depth c.push-in-App.new.self.items c.in-App.ensures.tree c.in_ok-push-in-App.ensures.items
-        c.in_ok-push-in-App-2.ensures.items
+    c.in_ok-push-in-App-2.ensures.items
 
 pub returns-in_default-clause-finds : goal.returns-in_default-clause-finds
 returns-in_default-clause-finds c = nothing_left c.args.bank.now c.args.base c.args.levels.now.keys c.args.levels.now.keys c.args.work.now.items c.args.work.now.items (on.Term c.args.term c.args.depth)
