@@ -1,7 +1,7 @@
 -- How many variables are around the goals of a plan, and that a record that fits is not refused.
-use Rattle.std.proofs.Common.{◌≡◌, ◌∙◌, ◌≤◌, ◌<◌, ℕ, zero, suc, ◌+◌, ◌*◌, List, [], ◌∷◌, ◌++◌, All, append_assoc, length, map, Bor, Vec, Global, Option, Some, None, ap, refl, sym, subst, arith, inl, inr, ◌⊎◌, ⊎_elim}
+use Rattle.std.proofs.Common.{◌≡◌, ◌∙◌, ◌≤◌, ◌<◌, ℕ, zero, suc, ◌+◌, ◌-◌, ◌*◌, List, [], ◌∷◌, ◌++◌, All, append_assoc, length, map, Bor, Vec, Global, Option, Some, None, ap, refl, sym, subst, arith, inl, inr, ◌⊎◌, ⊎_elim}
 use Rattle.std.specs.Prelude.{slice_get}
-use Rattle.std.proofs.lemmas.List.Elements.{All-nil, All-cons, All-append}
+use Rattle.std.proofs.lemmas.List.Elements.{All-nil, All-cons, All-append, All-head, All-tail}
 use Rattle.lp_term.specs.Nodes.{Nodes, tree, type_tree}
 use Rattle.lp_term.specs.declared.node.TermId.{TermId}
 use Rattle.lp_term.specs.declared.node.TypeId.{TypeId}
@@ -10,6 +10,9 @@ use Rattle.lp_model.specs.declared.clause.Goal.{Goal}
 use Rattle.lp_model.specs.declared.clause.Clause.{Clause}
 use Rattle.lp_model.specs.Flat.{Goal as FlatGoal, Atomic, Cut, Either, Exists, Forall, Assume, Not, Clauses, clause, clauses, no_clauses}
 use Rattle.lp_model.specs.Flattened.{goal_of, goals_of, clause_of, clauses_of}
+use Rattle.lp_base.specs.declared.limit.Limit.TheVariants as limit
+use Rattle.lp_gen.specs.declared.fault.GenRefusal.TheVariants as told
+use Rattle.lp_gen.specs.inner.Limiting.{IsOfPlan}
 use Rattle.lp_gen.specs.declared.fault.RecordRefusal.{RecordRefusal}
 use Rattle.lp_gen.specs.declared.fault.RecordRefusal.TheVariants as refusal
 use Rattle.lp_gen.specs.declared.plan.Assumption.{Assumption}
@@ -21,10 +24,18 @@ use Rattle.lp_gen.specs.declared.plan.Origin.{Origin}
 use Rattle.lp_gen.specs.declared.plan.Origin.TheVariants as origin
 use Rattle.lp_gen.specs.inner.Planning.{AreDue, IsDue, IsAssumed, Todo, due_goals, due_end, due_level, todo_of, todos, body_of}
 use Rattle.lp_gen.specs.inner.Recorded.{own_count}
-use Rattle.lp_gen.specs.inner.Variables.{goal_binds, goals_bind, GoalFits, GoalsFit, ClausesFit, OriginFits, DueFits, todo_binds, TodoFits, AllLow, IsLeveled, StaysLeveled, Spreads, IsFull}
+use Rattle.lp_gen.specs.inner.Variables.{goal_binds, goals_bind, GoalFits, GoalsFit, ClausesFit, OriginFits, DueFits, todo_binds, TodoFits, AllLow, IsLeveled, StaysLeveled, Spreads, HasSpread, AreLow, IsFull, of_record}
+use Rattle.lp_lemmas.proofs.Options.{one_value}
+use Rattle.lp_gen.proofs.PlanWalked.{get_both}
 use Rattle.lp_gen.proofs.PlanDone.{todos_push}
 use Rattle.lp_gen.proofs.TypeWorks.{map_length}
 use Rattle.lp_gen.proofs.Tops.{atom_is, cut_is, either_is, some_is, all_is, assume_is, not_is, clause_is}
+
+-- an element of a list of which this holds
+at_element : {A : Type 0} (P : A → Type 0) (xs : List A) (i : ℕ) (x : A) → slice_get xs i ≡ Some x → All P xs → P x
+at_element P [] i x e h = absurd (cc)
+at_element P (y ∷ xs) zero x e h = subst P (one_value (Some y) y x refl e) (All-head P y xs h)
+at_element P (y ∷ xs) (suc i) x e h = at_element P xs i x e (All-tail P y xs h)
 
 pub low_more : (m n : ℕ) (ts : List Todo) → m ≤ n → AllLow m ts → AllLow n ts
 low_more m n [] le h = tt
@@ -255,3 +266,90 @@ module _ (b : Nodes) where
 
   pub level_spreads : (l k : ℕ) (us : List Due) (t : Task) (ts : List Todo) → t ≡ task.Level k → Spreads b l us us (todo_of t ∷ ts) ts
   level_spreads l k us t ts e = none_due l us us (todo_of t ∷ ts) ts refl (λ h. subst (λ (u : Task). TodoFits b (todo_of u ∷ ts)) e h)
+
+  -- the walk over the goals of a part
+
+  pub walk_leveled : (n d : ℕ) (o : Origin) (none all : List Task) (gs : Bor (List Goal)) → d ≡ n + own_count o → d ≤ n + 65535 → none ≡ [] → all ≡ none ++ task.Goals gs ∷ [] → gs.now ≡ body_of o →
+      IsLeveled b n (n + own_count o) (goals_bind (goals_of b (body_of o))) d (todos all)
+  walk_leveled n d o none all gs v near f g h =
+      let z : todos all ≡ due_goals (body_of o) ∷ [] = todos_push none all (task.Goals gs) g ∙ (λ i. due_goals (h i) ∷ todos (f i)) in
+      subst (λ k. IsLeveled b n (n + own_count o) (goals_bind (goals_of b (body_of o))) d k) (sym z) (record { near = near; ends_near = tt; met = 0; level_met = omega (arith, v); ends_met = tt; rest = omega arith })
+
+  pub walk_fits : (o : Origin) (none all : List Task) (gs : Bor (List Goal)) → none ≡ [] → all ≡ none ++ task.Goals gs ∷ [] → gs.now ≡ body_of o → OriginFits b o → TodoFits b (todos all)
+  walk_fits o none all gs f g h x =
+      let z : todos all ≡ due_goals (body_of o) ∷ [] = todos_push none all (task.Goals gs) g ∙ (λ i. due_goals (h i) ∷ todos (f i)) in
+      subst (TodoFits b) (sym z) (x.1, tt)
+
+  -- parts that become due on the way
+  pub spread_on : (u : Due) (us0 us us' : List Due) (l : ℕ) (ts ts' : List Todo) → HasSpread b u us0 us ts → Spreads b l us us' ts ts' → l ≤ u.base + 65535 → HasSpread b u us0 us' ts'
+  spread_on u us0 us us' l ts ts' s w le = record {
+    more = s.more ++ w.more;
+    due_are = w.due_are ∙ ap (λ k. k ++ w.more) s.due_are ∙ append_assoc us0 s.more w.more;
+    low = All-append (λ (v : Due). v.base ≤ u.base + 65535) s.more w.more s.low (lower l (u.base + 65535) w.more le w.low);
+    fit = λ h. let x = s.fit h in let y = w.fit x.0 in (y.0, All-append (DueFits b) s.more w.more x.1 y.1);
+  }
+    where
+      lower : (m n : ℕ) (us : List Due) → m ≤ n → All (λ (v : Due). v.base ≤ m) us → All (λ (v : Due). v.base ≤ n) us
+      lower m n us le a k v lt = let x = a k v lt in omega (arith, x, le)
+
+  pub spread_begins : (u : Due) (us : List Due) (ts : List Todo) → (DueFits b u → TodoFits b ts) → HasSpread b u us us ts
+  spread_begins u us ts f = record { more = []; due_are = sym (append_nil us); low = All-nil (λ (v : Due). v.base ≤ u.base + 65535); fit = λ h. (f h, All-nil (DueFits b)) }
+    where
+      append_nil : (xs : List Due) → xs ++ [] ≡ xs
+      append_nil [] = refl
+      append_nil (x ∷ xs) = ap (λ l. x ∷ l) (append_nil xs)
+
+  pub leveled_on : (n n0 top total l l' : ℕ) (old all : List Task) (t : Task) (ts' : List Todo) → all ≡ old ++ t ∷ [] → n ≡ n0 → IsLeveled b n0 top total l (todos all) →
+      StaysLeveled b n l l' (todo_of t ∷ todos old) ts' → IsLeveled b n0 top total l' ts'
+  leveled_on n n0 top total l l' old all t ts' e v s w =
+      subst (λ k. IsLeveled b k top total l' ts') v (w top total (subst (λ k. IsLeveled b k top total l (todo_of t ∷ todos old)) (sym v) (subst (λ k. IsLeveled b n0 top total l k) (todos_push old all t e) s)))
+
+  pub spread_task : (u : Due) (us0 us us' : List Due) (top total l : ℕ) (old all : List Task) (t : Task) (ts' : List Todo) → all ≡ old ++ t ∷ [] → IsLeveled b u.base top total l (todos all) →
+      HasSpread b u us0 us (todos all) → Spreads b l us us' (todo_of t ∷ todos old) ts' → HasSpread b u us0 us' ts'
+  spread_task u us0 us us' top total l old all t ts' e v s w =
+      spread_on u us0 us us' l (todo_of t ∷ todos old) ts' (subst (λ k. HasSpread b u us0 us k) (todos_push old all t e) s) w v.near
+
+  pub full_task : (n : ℕ) (u : Due) (l : ℕ) (old all : List Task) (t : Task) (r : RecordRefusal) → all ≡ old ++ t ∷ [] → n ≡ u.base → u.base ≤ 4294836225 →
+      IsLeveled b u.base (u.base + own_count u.origin) (goals_bind (goals_of b (body_of u.origin))) l (todos all) → IsFull b n l (todo_of t ∷ todos old) r → DueFits b u → r ≡ refusal.Memory
+  full_task n u l old all t r e v low s w fits =
+      let top = u.base + own_count u.origin in
+      let total = goals_bind (goals_of b (body_of u.origin)) in
+      let f = fits.0 in
+      w top total (subst (λ k. IsLeveled b k top total l (todo_of t ∷ todos old)) (sym v) (subst (λ k. IsLeveled b u.base top total l k) (todos_push old all t e) s)) (omega (arith, f, v)) (omega (arith, v, low))
+
+-- the parts of a plan
+
+pub first_low : (us : List Due) (u : Due) → us ≡ u ∷ [] → u.base ≡ 0 → AreLow us
+first_low us u e z i v at = go i (ap (λ l. slice_get l i) (sym e) ∙ at)
+  where
+    go : (i : ℕ) → slice_get (u ∷ []) i ≡ Some v → v.base ≤ 65535 * i
+    go zero s = let x = ap (λ (w : Due). w.base) (one_value (Some u) u v refl s) in omega (arith, x, z)
+    go (suc i) s = absurd (cc)
+
+pub low_behind : (us us' more : List Due) (u : Due) (i : ℕ) → AreLow us → slice_get us i ≡ Some u → i < length us → us' ≡ us ++ more → All (λ (v : Due). v.base ≤ u.base + 65535) more → AreLow us'
+low_behind us us' more u i low at inside e behind j v there =
+    ⊎_elim (λ f. low j v f) (λ f. late f) (get_both us more j v (ap (λ l. slice_get l j) (sym e) ∙ there))
+  where
+    late : (length us ≤ j) × (slice_get more (j - length us) ≡ Some v) → v.base ≤ 65535 * j
+    late f =
+        let x = at_element (λ (v : Due). v.base ≤ u.base + 65535) more (j - length us) v f.1 behind in
+        let y = low i u at in
+        let z = f.0 in
+        omega (arith, x, y, z, inside)
+
+pub first_fits : (b : Nodes) (us : List Due) (u : Due) → us ≡ u ∷ [] → OriginFits b u.origin → All (DueFits b) us
+first_fits b us u e h = subst (All (DueFits b)) (sym e) (All-cons (DueFits b) u [] h (All-nil (DueFits b)))
+
+pub more_fits : (b : Nodes) (us us' more : List Due) (u : Due) (i : ℕ) → slice_get us i ≡ Some u → us' ≡ us ++ more → (DueFits b u → All (DueFits b) more) → All (DueFits b) us → All (DueFits b) us'
+more_fits b us us' more u i at e f h = subst (All (DueFits b)) (sym e) (All-append (DueFits b) us more h (f (at_element (DueFits b) us i u at h)))
+
+-- a refusal of a record
+pub of_plan : (r : RecordRefusal) (n m : ℕ) → IsOfPlan n m (of_record r)
+of_plan refusal.Registers n m = tt
+of_plan refusal.Memory n m = tt
+
+no_registers : told.Memory ≡ told.Limit limit.Registers → ⊥
+no_registers e = absurd (cc)
+
+pub memory_alone : (r : RecordRefusal) (P : Type 0) → (P → r ≡ refusal.Memory) → of_record r ≡ told.Limit limit.Registers → P → ⊥
+memory_alone r P f e h = no_registers (sym (ap of_record (f h)) ∙ e)

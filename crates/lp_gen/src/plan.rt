@@ -274,8 +274,8 @@ impl<'a> Plan<'a> {
         ensures walked { IfOk result (λ steps. PartWalked due.entry self.old.due.items self.new.due.items self.old.assumptions.items self.new.assumptions.items steps.items) }
         ensures captured { IfOk result (λ steps. AllCaptured bank.now self.old.assumptions.items → AllCaptured bank.now self.new.assumptions.items) }
         ensures parts { IfOk result (λ steps. self.new.parts ≡ self.old.parts) }
-        ensures full { IfErr result (λ e. DueFits bank.now due → e ≡ refusal.Memory) }
-        ensures dues { IfOk result (λ steps. (more : List Due) × (self.new.due.items ≡ self.old.due.items ++ more) × All (λ u. u.base ≤ due.base + 65535) more × (DueFits bank.now due → All (DueFits bank.now) more)) }
+        ensures full { IfErr result (λ e. DueFits bank.now due.entry → e ≡ refusal.Memory) }
+        ensures dues { IfOk result (λ steps. (more : List Due) × (self.new.due.items ≡ self.old.due.items ++ more) × All (λ u. u.base ≤ due.entry.base + 65535) more × (DueFits bank.now due.entry → All (DueFits bank.now) more)) }
     {
         let variables = due.origin.variables() as u64;
         let level = with_more(due.base, due.base, variables)?;

@@ -1,5 +1,5 @@
 -- How many variables the records of a plan have of their own, and how many are around their goals while the plan is made.
-use Rattle.std.specs.Prelude.{◌≡◌, ℕ, suc, ◌+◌, ◌≤◌, List, [], ◌∷◌, ◌++◌, length, All}
+use Rattle.std.specs.Prelude.{◌≡◌, ℕ, suc, ◌+◌, ◌*◌, ◌≤◌, Some, slice_get, List, [], ◌∷◌, ◌++◌, length, All}
 use Rattle.lp_term.specs.Nodes.{Nodes}
 use Rattle.lp_model.specs.Flat.{Goal, Goals, Clauses, Atomic, Cut, Either, Exists, Forall, Assume, Not, no_goals, goals, clause, no_clauses, clauses}
 use Rattle.lp_model.specs.Flattened.{goals_of}
@@ -93,6 +93,17 @@ pub record Spreads (b : Nodes) (level : ℕ) (us us' : List Due) (ts ts' : List 
   pub due_are : us' ≡ us ++ more
   pub low : All (λ u. u.base ≤ level) more
   pub fit : TodoFits b ts → TodoFits b ts' × All (DueFits b) more
+
+-- what the walk over a part's goals has made due so far
+pub record HasSpread (b : Nodes) (u : Due) (us us' : List Due) (ts : List Todo) : Type 0 where
+  pub more : List Due
+  pub due_are : us' ≡ us ++ more
+  pub low : All (λ v. v.base ≤ u.base + 65535) more
+  pub fit : DueFits b u → TodoFits b ts × All (DueFits b) more
+
+-- a part of a place has at most 65,535 variables around it for each one before it
+abbrev pub AreLow : List Due → Type 0
+AreLow us = (i : ℕ) (u : Due) → slice_get us i ≡ Some u → u.base ≤ 65535 * i
 
 -- where a record fits, nothing but memory is wanted
 abbrev pub IsFull : Nodes → (base level : ℕ) → List Todo → RecordRefusal → Type 0
