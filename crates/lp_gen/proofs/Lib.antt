@@ -1,3 +1,5 @@
+mod Using
+mod TypesUsed
 mod Works
 mod TypeWorks
 mod TypePut

@@ -1,4 +1,5 @@
 pub mod Sources
 pub mod Limits
+pub mod Registers
 pub mod Contract
 pub mod inner

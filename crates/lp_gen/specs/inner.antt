@@ -22,8 +22,10 @@ pub mod Running
 pub mod Saying
 pub mod Sizes
 pub mod Tasks
+pub mod Spending
 pub mod TermLaw
 pub mod TermSteps
 pub mod Variables
+pub mod Using
 pub mod Works
 pub mod Written

@@ -16,7 +16,7 @@ returns-in-Const c =
     constant_goal K b c.args.emitter.now c.put_types.new.emitter c.put_arguments.new.emitter c.put_call.new.emitter a
     (around_of b c.put_arguments.new.environment) c.in-Const.number c.in-Const.types.now
     (tree b c.in_ok-spine.spine.head.0) (map f c.in_ok-spine.spine.args.items) (tree b c.args.atom.0) c.in_ok-types-in-Const.types.items
-    c.in_ok-terms-in-Const.terms.items c.in_ok-types-in-Const.ensures
+    c.in_ok-terms-in-Const.terms.items c.in_ok-types-in-Const.ensures.code
     (subst (λ l. ArgumentsWritten K c.put_types.new.emitter c.put_arguments.new.emitter a (around_of b c.put_arguments.new.environment) c.in_ok-terms-in-Const.terms.items
     (head_type K [] a (tree b c.in_ok-spine.spine.head.0)) (map f l)) c.as_slice-args.ensures.value c.in_ok-terms-in-Const.ensures)
     c.in_ok-put_call-in-Const.ensures c.in-Const.ensures.tree c.in_ok-spine.ensures.tree

@@ -8,6 +8,6 @@ pub returns : goal.returns
 returns c =
     let same : c.in-Ok.number ≡ c.args.index = grind (arith, c.in-Ok.ensures) in
     index_put c.args.emitter.now c.put_type.new.emitter c.new_register.new.self c.emit.new.self c.in_ok-made.made c.args.index c.in_ok-register.register
-    (read c.args.bank.now c.args.of) c.in_ok-register.ensures c.in_ok-made.ensures.register c.in_ok-made.ensures.code c.in_ok-made.ensures.types c.in_ok-made.ensures.registers
+    (read c.args.bank.now c.args.of) c.in_ok-register.ensures.code c.in_ok-made.ensures.register c.in_ok-made.ensures.code c.in_ok-made.ensures.types c.in_ok-made.ensures.registers
     (c.in_ok-emit.ensures.code ∙ ap (λ i. c.new_register.new.self.code.items ++ PutIndex c.in_ok-made.made i c.in_ok-register.register ∷ []) same) c.in_ok-emit.ensures.types
     c.in_ok-emit.ensures.registers

@@ -20,7 +20,7 @@ pub returns-in_ok-get_constant-in-Const : goal.returns-in_ok-get_constant-in-Con
 returns-in_ok-get_constant-in-Const c =
     let b = c.args.tables.bank.now in
     constant_node_argument (constant_function b c.args.tables.constants.now) b c.args.emitter.now c.put_types.new.emitter c.get_constant.new.emitter (around_of b c.args.environment.now) c.args.at
-    c.in-Const.number (read b c.args.of) c.in-Const.types.now c.in_ok-registers-in-Const.registers.items (tree b c.args.argument.0) c.in_ok-registers-in-Const.ensures
+    c.in-Const.number (read b c.args.of) c.in-Const.types.now c.in_ok-registers-in-Const.registers.items (tree b c.args.argument.0) c.in_ok-registers-in-Const.ensures.code
     c.in_ok-get_constant-in-Const.ensures c.in-Const.ensures.tree
 
 pub returns-in_ok-get_integer-in-Int : goal.returns-in_ok-get_integer-in-Int

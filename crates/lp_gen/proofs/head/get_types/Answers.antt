@@ -16,7 +16,7 @@ loop-at-preserved c =
     let x : TypeId = slice_index_or c.args.types.now c.loop-at.at (record { 0 = 0 }) in
     type_at_place (λ (t : TypeId). type_tree c.args.bank.now t.0) c.args.emitter.now c.loop-at.emitter c.put_type.new.emitter c.get_type.new.emitter c.loop-at.at c.in_ok-number.number
     c.in_ok-register.register c.args.types.now x c.loop-at-test.true (index_or c.args.types.now c.loop-at.at (record { 0 = 0 }) x c.loop-at-test.true)
-    c.loop-at.invariant c.in_ok-register.ensures c.in_ok-get_type.ensures c.in_ok-number.ensures
+    c.loop-at.invariant c.in_ok-register.ensures.code c.in_ok-get_type.ensures c.in_ok-number.ensures
 
 pub returns : goal.returns
 returns c =

@@ -6,7 +6,7 @@ pub returns-clause-made : goal.returns-clause-made
 returns-clause-made c =
     let b = c.args.bank.now in
     variable_made c.args.emitter.now c.put_type.new.emitter c.emit.new.self (around_of b c.args.environment.now) c.args.level (seen b c.args.variable) c.in_ok-register.register
-    c.in_ok-register.ensures c.in_ok-emit.ensures.code c.in_ok-emit.ensures.types c.in_ok-emit.ensures.registers
+    c.in_ok-register.ensures.code c.in_ok-emit.ensures.code c.in_ok-emit.ensures.types c.in_ok-emit.ensures.registers
 
 pub returns-clause-set : goal.returns-clause-set
 returns-clause-set c = c.set.ensures c.args.bank.now

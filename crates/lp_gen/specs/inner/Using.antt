@@ -1,0 +1,25 @@
+-- How much of what an emitter has left a function uses, and where it refuses, that so much is not left.
+use Rattle.std.specs.Prelude.{◌≡◌, ◌⊎◌, ℕ, ◌+◌, ◌<◌, ◌≤◌}
+use Rattle.lp_gen.specs.declared.emitter.Emitter.{Emitter}
+use Rattle.lp_gen.specs.declared.fault.RecordRefusal.{RecordRefusal}
+use Rattle.lp_gen.specs.declared.fault.RecordRefusal.TheVariants as refusal
+use Rattle.lp_gen.specs.Registers.{Amount}
+
+pub record Uses (old new : Emitter) (a : Amount) : Type 0 where
+  pub types_are : new.types ≡ old.types + a.types
+  pub terms_are : new.registers ≡ old.registers + a.terms
+  pub bytes_are : new.place ≡ old.place + a.bytes
+  pub fits : a.misfits ≡ 0
+
+abbrev pub HasNoRoom : Emitter → Amount → Type 0
+HasNoRoom e a = (65535 < e.types + a.types) ⊎ ((65535 < e.registers + a.terms) ⊎ ((4294967295 < e.place + a.bytes) ⊎ (0 < a.misfits)))
+
+abbrev pub Lacks : Emitter → Amount → RecordRefusal → Type 0
+Lacks e a refusal.Registers = HasNoRoom e a
+Lacks e a refusal.Memory = Unit {0}
+
+pub record AtMost (a b : Amount) : Type 0 where
+  pub types : a.types ≤ b.types
+  pub terms : a.terms ≤ b.terms
+  pub bytes : a.bytes ≤ b.bytes
+  pub misfits : a.misfits ≤ b.misfits
