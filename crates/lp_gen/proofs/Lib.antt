@@ -7,6 +7,7 @@ mod TermPut
 mod GoalPut
 mod StepPut
 mod VariablePut
+mod VariablesUsed
 mod Registers
 mod Courses
 mod LooseOf

@@ -237,9 +237,20 @@ behind_head K a t = behind_arguments K a (head_type K [] a (head_of t)) (argumen
 
 -- variables that are not set behind the head
 
+abbrev pub variable_takes : Seen → Amount
+variable_takes v = both (type_takes v.of) (plain_code 5 0)
+
 abbrev pub unset_takes : Seen → Amount
-unset_takes v = if v.is_set then nothing else both (type_takes v.of) (plain_code 5 0)
+unset_takes v = if v.is_set then nothing else variable_takes v
 
 abbrev pub unset_take : List Seen → Amount
 unset_take [] = nothing
 unset_take (v ∷ vs) = both (unset_takes v) (unset_take vs)
+
+-- type variables that a record makes, and registers of variables
+
+abbrev pub new_types_take : ℕ → Amount
+new_types_take n = record { types = n; terms = 0; bytes = 3 * n; misfits = 0 }
+
+abbrev pub variables_take : ℕ → Amount
+variables_take n = record { types = 0; terms = n; bytes = 0; misfits = 0 }

@@ -3,7 +3,8 @@ use Rattle.std.specs.Prelude.{◌≡◌, ◌⊎◌, ℕ, ◌+◌, ◌<◌, ◌�
 use Rattle.lp_gen.specs.declared.emitter.Emitter.{Emitter}
 use Rattle.lp_gen.specs.declared.fault.RecordRefusal.{RecordRefusal}
 use Rattle.lp_gen.specs.declared.fault.RecordRefusal.TheVariants as refusal
-use Rattle.lp_gen.specs.Registers.{Amount}
+use Rattle.lp_gen.specs.Registers.{Amount, both, unset_take}
+use Rattle.lp_gen.specs.inner.Listing.{Around}
 
 pub record Uses (old new : Emitter) (a : Amount) : Type 0 where
   pub types_are : new.types ≡ old.types + a.types
@@ -23,3 +24,9 @@ pub record AtMost (a b : Amount) : Type 0 where
   pub terms : a.terms ≤ b.terms
   pub bytes : a.bytes ≤ b.bytes
   pub misfits : a.misfits ≤ b.misfits
+
+-- what was used is what the variables would take that were not set, and are now
+pub record UsesUnset (old new : Emitter) (a a' : Around) : Type 0 where
+  pub amount : Amount
+  pub used : Uses old new amount
+  pub left : both amount (unset_take a'.own) ≡ unset_take a.own

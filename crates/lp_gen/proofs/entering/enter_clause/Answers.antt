@@ -22,8 +22,8 @@ loop-at-preserved c = λ b.
     place c.in_ok-register.register ids x (c.loop-at.invariant b)
     c.loop-at-test.true refl refl c.in_ok-register.ensures (index_or ids place (record { 0 = 0 }) x low) (c.in_ok-push.ensures b)
 
-pub returns : goal.returns
-returns c =
+pub returns-clause-code : goal.returns-clause-code
+returns-clause-code c =
     let last : length c.args.vars.now - c.loop-at.at ≡ 0 = omega (arith, c.loop-at-test.false) in
     record {
       code_stays = c.in_ok-take_registers.ensures.code;

@@ -15,8 +15,8 @@ loop-of-preserved c =
     c.loop-of.yielded c.in-Some.of c.in_ok-register.register c.loop-of.invariant
     c.in_ok-register.ensures.register c.in_ok-register.ensures.code c.in_ok-register.ensures.types c.in_ok-register.ensures.registers c.in_ok-push.ensures
 
-pub returns : goal.returns
-returns c =
+pub returns-clause-code : goal.returns-clause-code
+returns-clause-code c =
     let whole : c.loop-of.yielded ≡ c.args.vars.now = sym (map-id c.loop-of.yielded)
     ∙ (YieldsList-end (YieldsList-from_copied (YieldsList-from_slice c.args.vars.now cc)) c.loop-of.yielded _ c.loop-of.yielded_by _ _ c.in-None.is c.next.ensures.steps).0 in
     subst (QueryEntered c.args.emitter.now c.loop-of.emitter c.args.environment.now c.loop-of.environment) whole c.loop-of.invariant

@@ -23,8 +23,8 @@ loop-at-preserved c =
     places_then c.args.is_clause c.args.emitter.now c.loop-at.emitter c.make_place.new.emitter (around_of b c.args.environment.now) (around_of b c.loop-at.environment)
     (around_of b c.make_place.new.environment) count c.loop-at.at c.if-is_clause.place c.loop-at.invariant c.in_ok-make_place.ensures c.loop-at-test.true at
 
-pub returns : goal.returns
-returns c =
+pub returns-clause-code : goal.returns-clause-code
+returns-clause-code c =
     let b = c.args.bank.now in
     let many = map_length (seen b) c.args.environment.now.own.items in
     all_places c.args.is_clause c.args.emitter.now c.loop-at.emitter (around_of b c.args.environment.now) (around_of b c.loop-at.environment) c.len-count.result c.loop-at.at c.loop-at.invariant
