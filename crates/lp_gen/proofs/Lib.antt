@@ -1,5 +1,10 @@
 mod Using
 mod TypesUsed
+mod StepsUsed
+mod CallsUsed
+mod TermsUsed
+mod AtomsUsed
+mod HeadUsed
 mod Works
 mod TypeWorks
 mod TypePut

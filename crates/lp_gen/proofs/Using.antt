@@ -31,8 +31,11 @@ more_room {o} {m} {a} {b} {c} x l (inr (inr (inr p))) = inr (inr (inr (let k = l
 
 -- so much was used, and what comes next has no room
 pub lacks_behind : {o m : Emitter} {a b : Amount} (c : Amount) {e : RecordRefusal} → Uses o m a → AtMost (both a b) c → Lacks m b e → Lacks o c e
-lacks_behind c {refusal.Registers} x l p = more_room x l p
-lacks_behind c {refusal.Memory} x l p = tt
+lacks_behind {o} {m} {a} {b} c {e} x l p = go e p
+  where
+    go : (e : RecordRefusal) → Lacks m b e → Lacks o c e
+    go refusal.Registers p = more_room x l p
+    go refusal.Memory p = tt
 
 pub both_at_most : (a b : Amount) → AtMost (both a b) (both a b)
 both_at_most a b = record { types = omega arith; terms = omega arith; bytes = omega arith; misfits = omega arith }

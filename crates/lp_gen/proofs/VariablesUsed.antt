@@ -8,7 +8,7 @@ use Rattle.lp_code.specs.Length.{length_of}
 use Rattle.lp_gen.specs.declared.emitter.Emitter.{Emitter}
 use Rattle.lp_gen.specs.declared.fault.RecordRefusal.{RecordRefusal}
 use Rattle.lp_gen.specs.declared.fault.RecordRefusal.TheVariants as refusal
-use Rattle.lp_gen.specs.Registers.{Amount, nothing, both, plain_code, type_code, new_types_take, variables_take, variable_takes, unset_takes, unset_take}
+use Rattle.lp_gen.specs.Registers.{Amount, nothing, both, plain_code, type_code, own_types_take, variables_take, made_takes, unset_takes, unset_take}
 use Rattle.lp_gen.specs.inner.Fitting.{misfits_of, IsRefused}
 use Rattle.lp_gen.specs.inner.Listing.{Seen, Around, marked, at_level, set_level}
 use Rattle.lp_gen.specs.inner.Beginning.{IsSetAt}
@@ -17,20 +17,20 @@ use Rattle.lp_gen.proofs.Using.{uses_nothing, uses_both, uses_same, same_amount,
 
 -- type variables
 
-pub types_more : (o m k n : Emitter) (c r : ℕ) → Uses o m (new_types_take c) → k.types ≡ m.types + 1 → k.registers ≡ m.registers → k.place ≡ m.place → n.types ≡ k.types → n.registers ≡ k.registers →
-    n.place ≡ k.place + length_of (instr.TyNew r) → Uses o n (new_types_take (suc c))
+pub types_more : (o m k n : Emitter) (c r : ℕ) → Uses o m (own_types_take c) → k.types ≡ m.types + 1 → k.registers ≡ m.registers → k.place ≡ m.place → n.types ≡ k.types → n.registers ≡ k.registers →
+    n.place ≡ k.place + length_of (instr.TyNew r) → Uses o n (own_types_take (suc c))
 types_more o m k n c r u t s p x y z =
     let a = u.types_are in
     let b = u.terms_are in
     let d = u.bytes_are in
     record { types_are = omega (arith, a, t, x); terms_are = omega (arith, b, s, y); bytes_are = omega (arith, d, p, z); fits = refl }
 
-pub no_type_more : (o m : Emitter) (c n : ℕ) (e : RecordRefusal) → Uses o m (new_types_take c) → c < n → IsRefused (65535 < m.types + 1) e → Lacks o (new_types_take n) e
+pub no_type_more : (o m : Emitter) (c n : ℕ) (e : RecordRefusal) → Uses o m (own_types_take c) → c < n → IsRefused (65535 < m.types + 1) e → Lacks o (own_types_take n) e
 no_type_more o m c n refusal.Registers u lt p = let a = u.types_are in inl (omega (arith, a, lt, p))
 no_type_more o m c n refusal.Memory u lt p = tt
 
-pub no_type_code : (o m k : Emitter) (c n r : ℕ) (e : RecordRefusal) → Uses o m (new_types_take c) → c < n → k.place ≡ m.place →
-    IsRefused ((4294967295 < k.place + length_of (instr.TyNew r)) ⊎ (0 < misfits_of (instr.TyNew r))) e → Lacks o (new_types_take n) e
+pub no_type_code : (o m k : Emitter) (c n r : ℕ) (e : RecordRefusal) → Uses o m (own_types_take c) → c < n → k.place ≡ m.place →
+    IsRefused ((4294967295 < k.place + length_of (instr.TyNew r)) ⊎ (0 < misfits_of (instr.TyNew r))) e → Lacks o (own_types_take n) e
 no_type_code o m k c n r refusal.Registers u lt s (inl p) = let a = u.bytes_are in inr (inr (inl (omega (arith, a, lt, s, p))))
 no_type_code o m k c n r refusal.Registers u lt s (inr p) = absurd (omega (arith, p))
 no_type_code o m k c n r refusal.Memory u lt s p = tt
@@ -50,26 +50,26 @@ no_register_behind o first place n refusal.Memory r lt p = tt
 
 -- variables that are made
 
-unset_marked : (vs : List Seen) (i : ℕ) (v : Seen) → slice_get vs i ≡ Some v → v.is_set ≡ false → both (variable_takes v) (unset_take (marked vs i)) ≡ unset_take vs
+unset_marked : (vs : List Seen) (i : ℕ) (v : Seen) → slice_get vs i ≡ Some v → v.is_set ≡ false → both (made_takes v) (unset_take (marked vs i)) ≡ unset_take vs
 unset_marked [] i v e f = absurd (cc)
 unset_marked (w ∷ vs) zero v e f = here (one_value (Some w) w v refl e)
   where
-    here : w ≡ v → both (variable_takes v) (both nothing (unset_take vs)) ≡ both (unset_takes w) (unset_take vs)
+    here : w ≡ v → both (made_takes v) (both nothing (unset_take vs)) ≡ both (unset_takes w) (unset_take vs)
     here q =
-        let z : unset_takes w ≡ variable_takes v = ap unset_takes q ∙ ap (λ b. if b then nothing else variable_takes v) f in
+        let z : unset_takes w ≡ made_takes v = ap unset_takes q ∙ ap (λ b. if b then nothing else made_takes v) f in
         same_amount _ _ (let x = ap (λ a. a.types) z in omega (arith, x)) (let x = ap (λ a. a.terms) z in omega (arith, x)) (let x = ap (λ a. a.bytes) z in omega (arith, x)) (let x = ap (λ a. a.misfits) z in omega (arith, x))
 unset_marked (w ∷ vs) (suc i) v e f =
     let z = unset_marked vs i v e f in
     same_amount _ _ (let x = ap (λ a. a.types) z in omega (arith, x)) (let x = ap (λ a. a.terms) z in omega (arith, x)) (let x = ap (λ a. a.bytes) z in omega (arith, x)) (let x = ap (λ a. a.misfits) z in omega (arith, x))
 
 
-pub unset_less : (a b : Around) (l : ℕ) (v : Seen) → a.base ≤ l → at_level a l ≡ Some v → v.is_set ≡ false → b ≡ set_level a l → both (variable_takes v) (unset_take b.own) ≡ unset_take a.own
+pub unset_less : (a b : Around) (l : ℕ) (v : Seen) → a.base ≤ l → at_level a l ≡ Some v → v.is_set ≡ false → b ≡ set_level a l → both (made_takes v) (unset_take b.own) ≡ unset_take a.own
 unset_less a b l v le at f e =
     let t : nat_le a.base l ≡ true = le-leb a.base l le in
     let got : slice_get a.own (l - a.base) ≡ Some v = sym (ap (λ c. if c then slice_get a.own (l - a.base) else a.captured l) t) ∙ at in
     let set : (set_level a l).own ≡ marked a.own (l - a.base) =
         ap (λ c. (if c then record { own = marked a.own (l - a.base); base = a.base; captured = a.captured } else a).own) t in
-    ap (λ (x : Around). both (variable_takes v) (unset_take x.own)) e ∙ ap (λ o. both (variable_takes v) (unset_take o)) set ∙ unset_marked a.own (l - a.base) v got f
+    ap (λ (x : Around). both (made_takes v) (unset_take x.own)) e ∙ ap (λ o. both (made_takes v) (unset_take o)) set ∙ unset_marked a.own (l - a.base) v got f
 
 pub nothing_unset : (e : Emitter) (a : Around) → UsesUnset e e a a
 nothing_unset e a = record { amount = nothing; used = uses_nothing e; left = same_amount _ _ (omega arith) (omega arith) (omega arith) (omega arith) }
@@ -108,7 +108,7 @@ first_lacks o a b c e q p =
 all_set : (vs : List Seen) → ((p : ℕ) (v : Seen) → slice_get vs p ≡ Some v → v.is_set ≡ true) → unset_take vs ≡ nothing
 all_set [] f = refl
 all_set (v ∷ vs) f =
-    let z : unset_takes v ≡ nothing = ap (λ b. if b then nothing else variable_takes v) (f 0 v refl) in
+    let z : unset_takes v ≡ nothing = ap (λ b. if b then nothing else made_takes v) (f 0 v refl) in
     let r = all_set vs (λ p w e. f (suc p) w e) in
     same_amount _ _ (let s = ap (λ a. a.types) z in let t = ap (λ a. a.types) r in omega (arith, s, t)) (let s = ap (λ a. a.terms) z in let t = ap (λ a. a.terms) r in omega (arith, s, t))
         (let s = ap (λ a. a.bytes) z in let t = ap (λ a. a.bytes) r in omega (arith, s, t)) (let s = ap (λ a. a.misfits) z in let t = ap (λ a. a.misfits) r in omega (arith, s, t))

@@ -21,6 +21,7 @@ pub mod Recorded
 pub mod Running
 pub mod Saying
 pub mod Sizes
+pub mod Stacked
 pub mod Tasks
 pub mod Spending
 pub mod TermLaw

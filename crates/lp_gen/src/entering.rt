@@ -1,6 +1,6 @@
 // The variables that a record begins with.
 ghost use Rattle.std.specs.Prelude.{◌≡◌, ◌+◌, ◌<◌, length, OnOk, IfOk, IfErr};
-ghost use Rattle.lp_gen.specs.Registers.{new_types_take, variables_take};
+ghost use Rattle.lp_gen.specs.Registers.{own_types_take, variables_take};
 ghost use Rattle.lp_gen.specs.inner.Fitting.{IsRefused};
 ghost use Rattle.lp_gen.specs.inner.Using.{Uses, Lacks};
 ghost use Rattle.lp_gen.specs.inner.Entering.{ClauseEntered, QueryEntered, TypesMade};
@@ -14,8 +14,8 @@ use lp_term::TypeId;
 /// The type variables of the record itself.
 pub(crate) fn make_types(emitter: &mut Emitter, count: u16) -> Result<(), RecordRefusal>
     ensures code { OnOk result (TypesMade emitter.old emitter.new count) }
-    ensures uses { OnOk result (Uses emitter.old emitter.new (new_types_take count)) }
-    ensures lacks { IfErr result (Lacks emitter.old (new_types_take count)) }
+    ensures uses { OnOk result (Uses emitter.old emitter.new (own_types_take count)) }
+    ensures lacks { IfErr result (Lacks emitter.old (own_types_take count)) }
 {
     for _ in 0..count {
         let register = emitter.new_type()?;

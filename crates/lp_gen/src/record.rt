@@ -207,7 +207,7 @@ fn key_by(
     bank: &Bank,
     origin: Origin<'_>,
     program: bool,
-) -> Result<Key, RecordRefusal>
+) -> Result<Key, Memory>
     ensures { IfOk result (HasKey bank.now origin.entry program) }
 {
     let Origin::Clause(clause) = origin else {

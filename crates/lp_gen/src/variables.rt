@@ -1,6 +1,6 @@
 // Variables that do not stand in the head, and the end of the head.
 ghost use Rattle.std.specs.Prelude.{◌≡◌, OnOk, IfErr};
-ghost use Rattle.lp_gen.specs.Registers.{plain_code, variable_takes, unset_take};
+ghost use Rattle.lp_gen.specs.Registers.{plain_code, made_takes, unset_take};
 ghost use Rattle.lp_gen.specs.inner.Using.{Uses, UsesUnset, Lacks};
 ghost use Rattle.lp_gen.specs.inner.Listing.{around_of, seen, set_level};
 ghost use Rattle.lp_gen.specs.inner.Bodies.{IsShort};
@@ -26,8 +26,8 @@ fn put_variable(
 ) -> Result<(), RecordRefusal>
     ensures made { OnOk result (VariableMade emitter.old emitter.new (around_of bank.now environment.old) level (seen bank.now variable)) }
     ensures set { OnOk result (around_of bank.now environment.new ≡ set_level (around_of bank.now environment.old) level) }
-    ensures uses { OnOk result (Uses emitter.old emitter.new (variable_takes (seen bank.now variable))) }
-    ensures lacks { IfErr result (Lacks emitter.old (variable_takes (seen bank.now variable))) }
+    ensures uses { OnOk result (Uses emitter.old emitter.new (made_takes (seen bank.now variable))) }
+    ensures lacks { IfErr result (Lacks emitter.old (made_takes (seen bank.now variable))) }
 {
     let of = TypeView::Of(variable.of, None);
     let register = put_type(alloc, bank, emitter, of)?;

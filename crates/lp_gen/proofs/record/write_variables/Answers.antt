@@ -20,5 +20,5 @@ returns c = λ goals.
         around = e.around;
       };
       head = (refl, refl, refl, refl);
-      made = c.in_ok-make_variables.ensures;
+      made = c.in_ok-make_variables.ensures.code;
     }
