@@ -240,6 +240,14 @@ abbrev pub unset_take : List Seen → Amount
 unset_take [] = nothing
 unset_take (v ∷ vs) = both (unset_takes v) (unset_take vs)
 
+-- type variables that a record makes, and registers of variables
+
+abbrev pub own_types_take : ℕ → Amount
+own_types_take n = record { types = n; terms = 0; bytes = 3 * n; misfits = 0 }
+
+abbrev pub variables_take : ℕ → Amount
+variables_take n = record { types = 0; terms = n; bytes = 0; misfits = 0 }
+
 -- whether the variable of an index stands in goals and clauses
 
 abbrev pub in_term : ℕ → Term → Bool
