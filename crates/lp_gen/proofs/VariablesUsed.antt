@@ -8,12 +8,12 @@ use Rattle.lp_code.specs.Length.{length_of}
 use Rattle.lp_gen.specs.declared.emitter.Emitter.{Emitter}
 use Rattle.lp_gen.specs.declared.fault.RecordRefusal.{RecordRefusal}
 use Rattle.lp_gen.specs.declared.fault.RecordRefusal.TheVariants as refusal
-use Rattle.lp_gen.specs.Registers.{Amount, nothing, both, plain_code, type_code, own_types_take, variables_take, made_takes, unset_takes, unset_take}
+use Rattle.lp_gen.specs.Registers.{Amount, nothing, both, plain_code, type_code, own_types_take, variables_take, made_takes, type_takes, unset_takes, unset_take}
 use Rattle.lp_gen.specs.inner.Fitting.{misfits_of, IsRefused}
 use Rattle.lp_gen.specs.inner.Listing.{Seen, Around, marked, at_level, set_level}
 use Rattle.lp_gen.specs.inner.Beginning.{IsSetAt}
 use Rattle.lp_gen.specs.inner.Using.{Uses, UsesUnset, Lacks, AtMost}
-use Rattle.lp_gen.proofs.Using.{uses_nothing, uses_both, uses_same, same_amount, lacks_behind, lacks_in}
+use Rattle.lp_gen.proofs.Using.{uses_nothing, uses_both, uses_same, same_amount, lacks_behind, lacks_then, lacks_first, lacks_in, plain_said, no_plain_code}
 
 -- type variables
 
@@ -119,3 +119,15 @@ unset_done o n a b x set =
     let q = x.left in
     uses_same (same_amount _ _ (let s = ap (λ a. a.types) z in let t = ap (λ a. a.types) q in omega (arith, s, t)) (let s = ap (λ a. a.terms) z in let t = ap (λ a. a.terms) q in omega (arith, s, t))
         (let s = ap (λ a. a.bytes) z in let t = ap (λ a. a.bytes) q in omega (arith, s, t)) (let s = ap (λ a. a.misfits) z in let t = ap (λ a. a.misfits) q in omega (arith, s, t))) x.used
+
+-- the level of a place is not below the first
+pub base_below : (b p l : ℕ) → b < 2 ^ 64 → l ≡ min (b + p) (2 ^ 64 - 1) → b ≤ l
+base_below b p l lt e = omega (arith, lt, e)
+
+-- a variable is made: its type, then the instruction
+pub variable_made_uses : {o m n : Emitter} (v : Seen) (r k : ℕ) → Uses o m (type_takes v.of) → n.types ≡ m.types → n.registers ≡ m.registers → n.place ≡ m.place + length_of (instr.New r k) → Uses o n (made_takes v)
+variable_made_uses v r k u t s p = uses_both u (plain_said (instr.New r k) 5 0 t s p refl refl refl)
+
+pub variable_made_lacks : (o m : Emitter) (v : Seen) (r k : ℕ) (e : RecordRefusal) → Uses o m (type_takes v.of) →
+    IsRefused ((4294967295 < m.place + length_of (instr.New r k)) ⊎ (0 < misfits_of (instr.New r k))) e → Lacks o (made_takes v) e
+variable_made_lacks o m v r k e u p = lacks_then u (no_plain_code m (instr.New r k) 5 0 e refl refl p)
