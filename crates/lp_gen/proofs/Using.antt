@@ -10,7 +10,7 @@ use Rattle.lp_code.specs.declared.instruction.Instr.{Instr}
 use Rattle.lp_code.specs.Length.{length_of}
 use Rattle.lp_gen.specs.inner.Fitting.{misfits_of, IsRefused}
 use Rattle.lp_gen.specs.Registers.{Amount, nothing, both, plain_code, type_code, term_code, type_takes, all_take}
-use Rattle.lp_gen.specs.inner.Using.{Uses, HasNoRoom, Lacks, AtMost}
+use Rattle.lp_gen.specs.inner.Using.{Uses, HasNoRoom, for_types, for_terms, for_bytes, for_misfits, Lacks, room, memory, AtMost}
 
 pub uses_nothing : (e : Emitter) → Uses e e nothing
 uses_nothing e = record { types_are = omega arith; terms_are = omega arith; bytes_are = omega arith; fits = refl }
@@ -24,18 +24,15 @@ uses_both {o} {m} {n} {a} {b} x y = record {
 }
 
 pub more_room : {o m : Emitter} {a b c : Amount} → Uses o m a → AtMost (both a b) c → HasNoRoom m b → HasNoRoom o c
-more_room {o} {m} {a} {b} {c} x l (inl p) = inl (let u = x.types_are in let k = l.types in omega (arith, u, k, p))
-more_room {o} {m} {a} {b} {c} x l (inr (inl p)) = inr (inl (let u = x.terms_are in let k = l.terms in omega (arith, u, k, p)))
-more_room {o} {m} {a} {b} {c} x l (inr (inr (inl p))) = inr (inr (inl (let u = x.bytes_are in let k = l.bytes in omega (arith, u, k, p))))
-more_room {o} {m} {a} {b} {c} x l (inr (inr (inr p))) = inr (inr (inr (let k = l.misfits in omega (arith, k, p))))
+more_room {o} {m} {a} {b} {c} x l (for_types p) = for_types (let u = x.types_are in let k = l.types in omega (arith, u, k, p))
+more_room {o} {m} {a} {b} {c} x l (for_terms p) = for_terms (let u = x.terms_are in let k = l.terms in omega (arith, u, k, p))
+more_room {o} {m} {a} {b} {c} x l (for_bytes p) = for_bytes (let u = x.bytes_are in let k = l.bytes in omega (arith, u, k, p))
+more_room {o} {m} {a} {b} {c} x l (for_misfits p) = for_misfits (let k = l.misfits in omega (arith, k, p))
 
 -- so much was used, and what comes next has no room
 pub lacks_behind : {o m : Emitter} {a b : Amount} (c : Amount) {e : RecordRefusal} → Uses o m a → AtMost (both a b) c → Lacks m b e → Lacks o c e
-lacks_behind {o} {m} {a} {b} c {e} x l p = go e p
-  where
-    go : (e : RecordRefusal) → Lacks m b e → Lacks o c e
-    go refusal.Registers p = more_room x l p
-    go refusal.Memory p = tt
+lacks_behind c x l (room is p) = room is (more_room x l p)
+lacks_behind c x l (memory is) = memory is
 
 pub both_at_most : (a b : Amount) → AtMost (both a b) (both a b)
 both_at_most a b = record { types = omega arith; terms = omega arith; bytes = omega arith; misfits = omega arith }
@@ -55,19 +52,19 @@ lacks_in {o} {a} b l p = lacks_behind b (uses_nothing o) (record { types = let k
 -- the same by what the emitter says
 
 -- an instruction that sets a register of a term
-pub term_made : {m mid n : Emitter} (i : Instr) (k f : ℕ) → mid.types ≡ m.types → mid.registers ≡ m.registers + 1 → mid.place ≡ m.place → n.types ≡ mid.types → n.registers ≡ mid.registers →
+pub term_made : {m n : Emitter} (mid : Emitter) (i : Instr) (k f : ℕ) → mid.types ≡ m.types → mid.registers ≡ m.registers + 1 → mid.place ≡ m.place → n.types ≡ mid.types → n.registers ≡ mid.registers →
     n.place ≡ mid.place + length_of i → misfits_of i ≡ 0 → length_of i ≡ k → misfits_of i ≡ f → Uses m n (term_code k f)
-term_made i k f t r p u s q z l g = record { types_are = omega (arith, t, u); terms_are = omega (arith, r, s); bytes_are = omega (arith, p, q, l); fits = omega (arith, z, g) }
+term_made mid i k f t r p u s q z l g = record { types_are = omega (arith, t, u); terms_are = omega (arith, r, s); bytes_are = omega (arith, p, q, l); fits = omega (arith, z, g) }
 
 pub no_term_register : (m : Emitter) (k f : ℕ) (e : RecordRefusal) → IsRefused (65535 < m.registers + 1) e → Lacks m (term_code k f) e
-no_term_register m k f refusal.Registers p = inr (inl p)
-no_term_register m k f refusal.Memory p = tt
+no_term_register m k f refusal.Registers p = room refl (for_terms p)
+no_term_register m k f refusal.Memory p = memory refl
 
 pub no_term_code : (m mid : Emitter) (i : Instr) (k f : ℕ) (e : RecordRefusal) → mid.place ≡ m.place → length_of i ≡ k → misfits_of i ≡ f →
     IsRefused ((4294967295 < mid.place + length_of i) ⊎ (0 < misfits_of i)) e → Lacks m (term_code k f) e
-no_term_code m mid i k f refusal.Registers p l g (inl q) = inr (inr (inl (omega (arith, p, l, q))))
-no_term_code m mid i k f refusal.Registers p l g (inr q) = inr (inr (inr (omega (arith, g, q))))
-no_term_code m mid i k f refusal.Memory p l g q = tt
+no_term_code m mid i k f refusal.Registers p l g (inl q) = room refl (for_bytes (omega (arith, p, l, q)))
+no_term_code m mid i k f refusal.Registers p l g (inr q) = room refl (for_misfits (omega (arith, g, q)))
+no_term_code m mid i k f refusal.Memory p l g q = memory refl
 
 -- one that sets none
 pub plain_said : {m n : Emitter} (i : Instr) (k f : ℕ) → n.types ≡ m.types → n.registers ≡ m.registers → n.place ≡ m.place + length_of i → misfits_of i ≡ 0 → length_of i ≡ k → misfits_of i ≡ f →
@@ -76,9 +73,9 @@ plain_said i k f t r p z l g = record { types_are = omega (arith, t); terms_are 
 
 pub no_plain_code : (m : Emitter) (i : Instr) (k f : ℕ) (e : RecordRefusal) → length_of i ≡ k → misfits_of i ≡ f → IsRefused ((4294967295 < m.place + length_of i) ⊎ (0 < misfits_of i)) e →
     Lacks m (plain_code k f) e
-no_plain_code m i k f refusal.Registers l g (inl q) = inr (inr (inl (omega (arith, l, q))))
-no_plain_code m i k f refusal.Registers l g (inr q) = inr (inr (inr (omega (arith, g, q))))
-no_plain_code m i k f refusal.Memory l g q = tt
+no_plain_code m i k f refusal.Registers l g (inl q) = room refl (for_bytes (omega (arith, l, q)))
+no_plain_code m i k f refusal.Registers l g (inr q) = room refl (for_misfits (omega (arith, g, q)))
+no_plain_code m i k f refusal.Memory l g q = memory refl
 
 -- amounts are equal by their numbers
 pub same_amount : (a b : Amount) → a.types ≡ b.types → a.terms ≡ b.terms → a.bytes ≡ b.bytes → a.misfits ≡ b.misfits → a ≡ b

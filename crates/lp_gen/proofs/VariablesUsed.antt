@@ -12,7 +12,7 @@ use Rattle.lp_gen.specs.Registers.{Amount, nothing, both, plain_code, type_code,
 use Rattle.lp_gen.specs.inner.Fitting.{misfits_of, IsRefused}
 use Rattle.lp_gen.specs.inner.Listing.{Seen, Around, marked, at_level, set_level}
 use Rattle.lp_gen.specs.inner.Beginning.{IsSetAt}
-use Rattle.lp_gen.specs.inner.Using.{Uses, UsesUnset, Lacks, AtMost}
+use Rattle.lp_gen.specs.inner.Using.{Uses, UsesUnset, Lacks, for_types, for_terms, for_bytes, room, memory, AtMost}
 use Rattle.lp_gen.proofs.Using.{uses_nothing, uses_both, uses_same, same_amount, lacks_behind, lacks_then, lacks_first, lacks_in, plain_said, no_plain_code}
 
 -- type variables
@@ -26,14 +26,14 @@ types_more o m k n c r u t s p x y z =
     record { types_are = omega (arith, a, t, x); terms_are = omega (arith, b, s, y); bytes_are = omega (arith, d, p, z); fits = refl }
 
 pub no_type_more : (o m : Emitter) (c n : ℕ) (e : RecordRefusal) → Uses o m (own_types_take c) → c < n → IsRefused (65535 < m.types + 1) e → Lacks o (own_types_take n) e
-no_type_more o m c n refusal.Registers u lt p = let a = u.types_are in inl (omega (arith, a, lt, p))
-no_type_more o m c n refusal.Memory u lt p = tt
+no_type_more o m c n refusal.Registers u lt p = let a = u.types_are in room refl (for_types (omega (arith, a, lt, p)))
+no_type_more o m c n refusal.Memory u lt p = memory refl
 
 pub no_type_code : (o m k : Emitter) (c n r : ℕ) (e : RecordRefusal) → Uses o m (own_types_take c) → c < n → k.place ≡ m.place →
     IsRefused ((4294967295 < k.place + length_of (instr.TyNew r)) ⊎ (0 < misfits_of (instr.TyNew r))) e → Lacks o (own_types_take n) e
-no_type_code o m k c n r refusal.Registers u lt s (inl p) = let a = u.bytes_are in inr (inr (inl (omega (arith, a, lt, s, p))))
+no_type_code o m k c n r refusal.Registers u lt s (inl p) = let a = u.bytes_are in room refl (for_bytes (omega (arith, a, lt, s, p)))
 no_type_code o m k c n r refusal.Registers u lt s (inr p) = absurd (omega (arith, p))
-no_type_code o m k c n r refusal.Memory u lt s p = tt
+no_type_code o m k c n r refusal.Memory u lt s p = memory refl
 
 -- registers of variables
 
@@ -41,12 +41,12 @@ pub variables_used : (o n : Emitter) (c : ℕ) → n.types ≡ o.types → n.reg
 variables_used o n c t r p = record { types_are = omega (arith, t); terms_are = r; bytes_are = omega (arith, p); fits = refl }
 
 pub no_variable_more : (o m : Emitter) (c n : ℕ) (e : RecordRefusal) → m.registers ≡ o.registers + c → c < n → IsRefused (65535 < m.registers + 1) e → Lacks o (variables_take n) e
-no_variable_more o m c n refusal.Registers r lt p = inr (inl (omega (arith, r, lt, p)))
-no_variable_more o m c n refusal.Memory r lt p = tt
+no_variable_more o m c n refusal.Registers r lt p = room refl (for_terms (omega (arith, r, lt, p)))
+no_variable_more o m c n refusal.Memory r lt p = memory refl
 
 pub no_register_behind : (o : Emitter) (first place n : ℕ) (e : RecordRefusal) → first ≡ o.registers → place < n → IsRefused (65535 < first + place) e → Lacks o (variables_take n) e
-no_register_behind o first place n refusal.Registers r lt p = inr (inl (omega (arith, r, lt, p)))
-no_register_behind o first place n refusal.Memory r lt p = tt
+no_register_behind o first place n refusal.Registers r lt p = room refl (for_terms (omega (arith, r, lt, p)))
+no_register_behind o first place n refusal.Memory r lt p = memory refl
 
 -- variables that are made
 

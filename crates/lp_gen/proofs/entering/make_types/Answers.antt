@@ -33,7 +33,7 @@ returns-clause-uses c =
 pub returns-in_err-register-clause-lacks : goal.returns-in_err-register-clause-lacks
 returns-in_err-register-clause-lacks c =
     let e = c.in_err-register.field-0.0 in
-    passed_up c.from_residual-in_err-register.result e (Lacks c.args.emitter.now (own_types_take c.args.count)) c.from_residual-in_err-register.ensures.1
+    passed_up c.from_residual.result e (Lacks c.args.emitter.now (own_types_take c.args.count)) c.from_residual.ensures.1
     (no_type_more c.args.emitter.now c.loop.emitter c.loop.counter c.args.count e c.loop.invariant.1 (omega (arith, c.loop-test.true)) c.in_err-register.ensures.cause)
 
 pub returns-in_err-emit-clause-lacks : goal.returns-in_err-emit-clause-lacks
