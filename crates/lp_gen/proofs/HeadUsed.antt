@@ -1,5 +1,5 @@
 -- What the head of a record takes: its types and arguments, one after the other.
-use Rattle.std.proofs.Common.{◌≡◌, ◌≢◌, ◌∙◌, inl, inr, ℕ, ℤ, zero, suc, ◌+◌, ◌*◌, ◌<◌, ◌≤◌, List, [], ◌∷◌, ◌++◌, length, take, map, Bor, Option, Some, None, ap, refl, sym, subst, arith}
+use Rattle.std.proofs.Common.{◌≡◌, ◌≢◌, ◌∙◌, ℕ, ℤ, zero, suc, ◌+◌, ◌*◌, ◌<◌, ◌≤◌, List, [], ◌∷◌, ◌++◌, length, take, map, Bor, Option, Some, None, ap, refl, sym, subst, arith}
 use Rattle.std.specs.Prelude.{get_or}
 use Rattle.std.proofs.lemmas.List.{map-append, take_more, length-take-le}
 use Rattle.lp_calculus.specs.Types.{Ty}
@@ -21,7 +21,7 @@ use Rattle.lp_gen.specs.inner.Fitting.{IsRefused}
 use Rattle.lp_gen.specs.inner.Heading.{first_place}
 use Rattle.lp_gen.specs.inner.Listing.{Around, set_level, head_type}
 use Rattle.lp_gen.specs.inner.Reading.{from_of, to_of}
-use Rattle.lp_gen.specs.inner.Using.{Uses, HasNoRoom, Lacks, AtMost}
+use Rattle.lp_gen.specs.inner.Using.{Uses, for_misfits, Lacks, room, memory, AtMost}
 use Rattle.lp_gen.specs.inner.Written.{left_by}
 use Rattle.lp_gen.proofs.AtomWritten.{no_constant_node, head_itself, head_apply, arguments_is}
 use Rattle.lp_gen.proofs.Courses.{mapped_types}
@@ -36,8 +36,8 @@ pub has_place : (e : Emitter) (i : ℕ) → i ≤ 255 → Uses e e (plain_code 0
 has_place e i l = record { types_are = omega arith; terms_are = omega arith; bytes_are = omega arith; fits = past_within 255 i l }
 
 pub has_no_place : (o : Emitter) (i : ℕ) (e : RecordRefusal) → IsRefused (255 < i) e → Lacks o (plain_code 0 (past 255 i)) e
-has_no_place o i refusal.Registers l = let q = past_over 255 i l in inr (inr (inr (omega (arith, q))))
-has_no_place o i refusal.Memory l = tt
+has_no_place o i refusal.Registers l = let q = past_over 255 i l in room refl (for_misfits (omega (arith, q)))
+has_no_place o i refusal.Memory l = memory refl
 
 -- an argument
 
@@ -145,7 +145,7 @@ module _ (K : ℕ → List Ty → Ty) where
     arguments_lack o m e u p =
         let r = part_from xs i x low at in
         let s = ap (head_arguments_take K a 0 F) (ap (map f) r.1 ∙ map-append f (take i xs) (x ∷ r.0)) ∙ arguments_split a 0 i F (map f (take i xs)) (f x) (map f r.0) (omega (arith, many)) in
-        subst (λ k. Lacks o k e) (sym s) (lacks_behind (next_argument a F (map f (take i xs)) i (f x)) _ e u (both_first (head_arguments_take K a 0 F (map f (take i xs))) (next_argument a F (map f (take i xs)) i (f x)) _) p)
+        subst (λ k. Lacks o k e) (sym s) (lacks_behind _ u (both_first (head_arguments_take K a 0 F (map f (take i xs))) (next_argument a F (map f (take i xs)) i (f x)) _) p)
 
 -- types one after the other
 
@@ -171,7 +171,7 @@ module _ {A : Type 0} (f : A → Ty) (xs : List A) (x : A) (i : ℕ) (low : i < 
   types_at_lack o m e u p =
       let r = part_from xs i x low at in
       let s = ap (head_types_take 0) (ap (map f) r.1 ∙ map-append f (take i xs) (x ∷ r.0)) ∙ types_split 0 i (map f (take i xs)) (f x) (map f r.0) (omega (arith, as_many)) in
-      subst (λ k. Lacks o k e) (sym s) (lacks_behind (next_type i (f x)) _ e u (both_first (head_types_take 0 (map f (take i xs))) (next_type i (f x)) _) p)
+      subst (λ k. Lacks o k e) (sym s) (lacks_behind _ u (both_first (head_types_take 0 (map f (take i xs))) (next_type i (f x)) _) p)
 
 -- the code that matches a type: its number has room
 pub type_matched : {m mid n : Emitter} (i : ℕ) (T : Ty) → Uses m mid (type_takes T) → i ≤ 255 → Uses mid n (plain_code 4 0) → Uses m n (next_type i T)
@@ -180,10 +180,10 @@ type_matched {m} {mid} {n} i T u l v =
     uses_both u (uses_same (same_amount (plain_code 4 0) (plain_code 4 (past 255 i)) refl refl refl (sym none)) v)
 
 pub type_unmatched : (m mid : Emitter) (i : ℕ) (T : Ty) (e : RecordRefusal) → Uses m mid (type_takes T) → Lacks mid (plain_code 4 0) e → Lacks m (next_type i T) e
-type_unmatched m mid i T e u p = lacks_behind (plain_code 4 0) (next_type i T) e u (record { types = omega arith; terms = omega arith; bytes = omega arith; misfits = omega arith }) p
+type_unmatched m mid i T e u p = lacks_behind (next_type i T) u (record { types = omega arith; terms = omega arith; bytes = omega arith; misfits = omega arith }) p
 
 pub type_has_no_place : (m mid : Emitter) (i : ℕ) (T : Ty) (e : RecordRefusal) → Uses m mid (type_takes T) → IsRefused (255 < i) e → Lacks m (next_type i T) e
-type_has_no_place m mid i T e u p = lacks_behind (plain_code 0 (past 255 i)) (next_type i T) e u (record { types = omega arith; terms = omega arith; bytes = omega arith; misfits = omega arith }) (has_no_place mid i e p)
+type_has_no_place m mid i T e u p = lacks_behind (next_type i T) u (record { types = omega arith; terms = omega arith; bytes = omega arith; misfits = omega arith }) (has_no_place mid i e p)
 
 -- the head by the node of its predicate
 

@@ -12,6 +12,7 @@ mod TermPut
 mod GoalPut
 mod StepPut
 mod VariablePut
+mod VariablesUsed
 mod Registers
 mod Courses
 mod LooseOf
@@ -36,6 +37,7 @@ mod Calm
 mod Pushed
 mod BodySaid
 mod Denoting
+mod Depths
 mod Bytes
 mod Goals
 mod Arguments
@@ -91,6 +93,8 @@ mod GroupDenotes
 mod GroupPut
 mod GroupsDenote
 mod CapturedBy
+mod CapturedFrom
+mod Leveling
 mod LimitsLeft
 mod LimitsWork
 mod LimitsTold

@@ -66,7 +66,7 @@ steps_lack b o m xs all x e r u p =
     let a = both (steps_take ss) (step_takes (plain_step b x)) in
     let c = both (steps_take ss) (both (step_takes (plain_step b x)) (steps_take ts)) in
     let most : AtMost a c = record { types = omega arith; terms = omega arith; bytes = omega arith; misfits = omega arith } in
-    subst (λ k. Lacks o k e) (sym whole) (lacks_behind (step_takes (plain_step b x)) c e u most p)
+    subst (λ k. Lacks o k e) (sym whole) (lacks_behind c u most p)
 
 pub stack_pushed : (d : ℕ) (ss : List Step) (s : Step) → stack_all d (ss ++ s ∷ []) ≡ stack_behind (stack_all d ss) s
 stack_pushed d [] s = refl

@@ -50,4 +50,4 @@ module _ (K : ℕ → List Ty → Ty) where
       Uses o m (terms_take K a F (map f xs)) → Lacks m (next_takes a F (map f xs) (f x)) e → Lacks o (terms_take K a F (map f all)) e
   terms_lack f o m a F xs all x e r u p =
       let s = ap (terms_take K a F) (ap (map f) r.1 ∙ map-append f xs (x ∷ r.0)) ∙ terms_split a F (map f xs) (f x) (map f r.0) in
-      subst (λ k. Lacks o k e) (sym s) (lacks_behind (next_takes a F (map f xs) (f x)) _ e u (both_first (terms_take K a F (map f xs)) (next_takes a F (map f xs) (f x)) _) p)
+      subst (λ k. Lacks o k e) (sym s) (lacks_behind _ u (both_first (terms_take K a F (map f xs)) (next_takes a F (map f xs) (f x)) _) p)

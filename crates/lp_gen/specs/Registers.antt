@@ -1,6 +1,6 @@
 -- What the code of a record takes: registers of types and of terms, and bytes. Each node of a type but a variable takes a register of types, each time that it is written, and each node of
 -- a term that is built one of terms; the steps of a term say which are built.
-use Rattle.std.specs.Prelude.{◌⊎◌, ℕ, zero, suc, ◌+◌, ◌*◌, ◌<◌, if◌then◌else◌, min, List, [], ◌∷◌, length, Option, Some, None, option_and_then}
+use Rattle.std.specs.Prelude.{◌⊎◌, ℕ, zero, suc, ◌+◌, ◌*◌, ◌<◌, nat_eq, Bool, true, false, ◌||◌, if◌then◌else◌, min, List, [], ◌∷◌, ◌++◌, reverse, length, Option, Some, None, option_and_then}
 use Rattle.lp_calculus.specs.Types.{Ty, Tys, var, param as type_param, con, arrow, no_types, types}
 use Rattle.lp_calculus.specs.Term.{Term, Atom, index, atom, abs, app, constant, integer, text, eigen, logic, param}
 use Rattle.lp_calculus.specs.Typing.{o_type}
@@ -8,9 +8,10 @@ use Rattle.lp_calculus.specs.Spine.{head_of, arguments}
 use Rattle.lp_standard.specs.Constants.{numbered}
 use Rattle.lp_standard.specs.declared.constant.Constant.{Constant}
 use Rattle.lp_standard.specs.declared.constant.Constant.TheVariants as standard
+use Rattle.lp_model.specs.Flat.{Goal, Goals, Clause, Clauses, Atomic, Cut, Either, Exists, Forall, Assume, Not, no_goals, goals, clause, no_clauses, clauses}
 use Rattle.lp_gen.specs.Limits.{past}
 use Rattle.lp_gen.specs.inner.Reading.{from_of, to_of}
-use Rattle.lp_gen.specs.inner.Listing.{Step, make_constant, make_integer, make_text, make_index, make_variable, from_register, apply_last, abstract_last, Seen, Around, set_level, listed, head_type}
+use Rattle.lp_gen.specs.inner.Listing.{Step, make_constant, make_integer, make_text, make_index, make_variable, from_register, apply_last, abstract_last, Seen, Around, at_level, set_level, listed, head_type}
 use Rattle.lp_gen.specs.inner.Heading.{first_place}
 
 -- registers and bytes, and how many lists and numbers have no room in an instruction: a list of more than 255 types or terms, an index past 65,535 and an argument past the 256th. Where
@@ -229,9 +230,145 @@ behind_head K a t = behind_arguments K a (head_type K [] a (head_of t)) (argumen
 
 -- variables that are not set behind the head
 
+abbrev pub made_takes : Seen → Amount
+made_takes v = both (type_takes v.of) (plain_code 5 0)
+
 abbrev pub unset_takes : Seen → Amount
-unset_takes v = if v.is_set then nothing else both (type_takes v.of) (plain_code 5 0)
+unset_takes v = if v.is_set then nothing else made_takes v
 
 abbrev pub unset_take : List Seen → Amount
 unset_take [] = nothing
 unset_take (v ∷ vs) = both (unset_takes v) (unset_take vs)
+
+-- type variables that a record makes, and registers of variables
+
+abbrev pub own_types_take : ℕ → Amount
+own_types_take n = record { types = n; terms = 0; bytes = 3 * n; misfits = 0 }
+
+abbrev pub variables_take : ℕ → Amount
+variables_take n = record { types = 0; terms = n; bytes = 0; misfits = 0 }
+
+-- whether the variable of an index stands in goals and clauses
+
+abbrev pub in_term : ℕ → Term → Bool
+in_term i (index j) = nat_eq i j
+in_term i (atom s) = false
+in_term i (abs b) = in_term (suc i) b
+in_term i (app t u) = in_term i t || in_term i u
+
+abbrev mutual
+  pub in_goal : ℕ → Goal → Bool
+  in_goal i (Atomic t) = in_term i t
+  in_goal i Cut = false
+  in_goal i (Either gs hs) = in_goals i gs || in_goals i hs
+  in_goal i (Exists T gs) = in_goals (suc i) gs
+  in_goal i (Forall T gs) = in_goals (suc i) gs
+  in_goal i (Assume w cs gs) = in_clauses i cs || in_goals i gs
+  in_goal i (Not w gs) = in_goals i gs
+
+  pub in_goals : ℕ → Goals → Bool
+  in_goals i no_goals = false
+  in_goals i (goals g gs) = in_goal i g || in_goals i gs
+
+  pub in_clauses : ℕ → Clauses → Bool
+  in_clauses i no_clauses = false
+  in_clauses i (clauses (clause n vs h b) cs) = in_term (i + length vs) h || (in_goals (i + length vs) b || in_clauses i cs)
+
+-- how many of the variables around clauses stand in them
+abbrev pub count_standing : (around : ℕ) → Clauses → ℕ
+count_standing zero cs = 0
+count_standing (suc n) cs = (if in_clauses n cs then 1 else 0) + count_standing n cs
+
+abbrev pub count_clauses : Clauses → ℕ
+count_clauses no_clauses = 0
+count_clauses (clauses c cs) = suc (count_clauses cs)
+
+-- the variables of a record in its body are set, and it starts with those around it; their registers are left out
+
+abbrev pub count_variables : Around → ℕ
+count_variables a = a.base + length a.own
+
+abbrev pub with_variable : Around → Ty → Around
+with_variable a T = record { own = a.own ++ record { register = 0; of = T; is_set = true } ∷ []; base = a.base; captured = a.captured }
+
+abbrev pub all_set : List Seen → List Seen
+all_set [] = []
+all_set (v ∷ vs) = record { register = v.register; of = v.of; is_set = true } ∷ all_set vs
+
+abbrev pub in_body : Around → Around
+in_body a = record { own = all_set a.own; base = a.base; captured = a.captured }
+
+-- those of a clause, index 0 the last one, and of a query, below these
+abbrev pub unset : List Ty → List Seen
+unset [] = []
+unset (T ∷ Ts) = record { register = 0; of = T; is_set = false } ∷ unset Ts
+
+abbrev pub below : Around → List Ty → Around
+below a Ts = record { own = unset (reverse Ts); base = count_variables a; captured = at_level a }
+
+abbrev pub nothing_around : Around
+nothing_around = record { own = []; base = 0; captured = λ l. None }
+
+-- a new variable: its type and its register, by an instruction of five bytes
+abbrev pub variable_takes : Ty → Amount
+variable_takes T = both (type_takes T) (term_code 5 0)
+
+abbrev pub assume_takes : (type_vars captured records : ℕ) → Amount
+assume_takes v k n = plain_code (7 + 2 * v + 2 * k + 4 * n) (past 65535 v + past 65535 k)
+
+-- the goals of a body; the clauses that they assume have records of their own
+abbrev mutual
+  pub goal_takes : (constants : ℕ → List Ty → Ty) → (type_vars : ℕ) → Around → Goal → Amount
+  goal_takes K v a (Atomic t) = atom_takes K a t
+  goal_takes K v a Cut = plain_code 1 0
+  goal_takes K v a (Either gs hs) = both (plain_code 5 0) (both (goals_take K v a gs) (both (plain_code 5 0) (goals_take K v a hs)))
+  goal_takes K v a (Exists T gs) = both (variable_takes T) (goals_take K v (with_variable a T) gs)
+  goal_takes K v a (Forall T gs) = both (variable_takes T) (both (goals_take K v (with_variable a T) gs) (plain_code 1 0))
+  goal_takes K v a (Assume w cs gs) = both (assume_takes v (count_standing (count_variables a) cs) (count_clauses cs)) (both (goals_take K v a gs) (plain_code 1 0))
+  goal_takes K v a (Not w gs) = both (plain_code 1 0) (both (goals_take K v a gs) (plain_code 1 0))
+
+  pub goals_take : (constants : ℕ → List Ty → Ty) → (type_vars : ℕ) → Around → Goals → Amount
+  goals_take K v a no_goals = nothing
+  goals_take K v a (goals g gs) = both (goal_takes K v a g) (goals_take K v a gs)
+
+-- a record behind what it starts with: the variables that do not stand in the head, NECK, the body, PROCEED
+abbrev pub body_takes : (constants : ℕ → List Ty → Ty) → (type_vars : ℕ) → Around → Goals → Amount
+body_takes K v a b = both (unset_take a.own) (both (plain_code 1 0) (both (goals_take K v (in_body a) b) (plain_code 1 0)))
+
+abbrev pub clause_takes : (constants : ℕ → List Ty → Ty) → (type_vars : ℕ) → Around → (vars : List Ty) → (head : Term) → Goals → Amount
+clause_takes K v a vs h b = both (variables_take (length vs)) (both (head_takes K (below a vs) h) (body_takes K v (behind_head K (below a vs) h) b))
+
+abbrev pub query_takes : (constants : ℕ → List Ty → Ty) → (type_vars : ℕ) → (vars : List Ty) → Goals → Amount
+query_takes K v vs b = both (own_types_take v) (both (variables_take (length vs)) (body_takes K v (below nothing_around vs) b))
+
+-- the registers that a record starts with
+abbrev pub started : (types terms : ℕ) → Amount
+started n k = record { types = n; terms = k; bytes = 0; misfits = 0 }
+
+-- some record passes what it may have: of clauses that are assumed where these variables are around, or of those that goals assume
+abbrev mutual
+  pub SomeOfGoal : (constants : ℕ → List Ty → Ty) → (type_vars : ℕ) → Around → Goal → Type 0
+  SomeOfGoal K v a (Atomic t) = ⊥
+  SomeOfGoal K v a Cut = ⊥
+  SomeOfGoal K v a (Either gs hs) = SomeOfGoals K v a gs ⊎ SomeOfGoals K v a hs
+  SomeOfGoal K v a (Exists T gs) = SomeOfGoals K v (with_variable a T) gs
+  SomeOfGoal K v a (Forall T gs) = SomeOfGoals K v (with_variable a T) gs
+  SomeOfGoal K v a (Assume w cs gs) = SomeAssumed K v a (count_standing (count_variables a) cs) cs ⊎ SomeOfGoals K v a gs
+  SomeOfGoal K v a (Not w gs) = SomeOfGoals K v a gs
+
+  pub SomeOfGoals : (constants : ℕ → List Ty → Ty) → (type_vars : ℕ) → Around → Goals → Type 0
+  SomeOfGoals K v a no_goals = ⊥
+  SomeOfGoals K v a (goals g gs) = SomeOfGoal K v a g ⊎ SomeOfGoals K v a gs
+
+  pub SomeAssumed : (constants : ℕ → List Ty → Ty) → (type_vars : ℕ) → Around → (captured : ℕ) → Clauses → Type 0
+  SomeAssumed K v a k no_clauses = ⊥
+  SomeAssumed K v a k (clauses (clause n vs h b) cs) =
+      Passes (both (started v k) (clause_takes K v a vs h b)) ⊎ (SomeOfGoals K v (in_body (below a vs)) b ⊎ SomeAssumed K v a k cs)
+
+-- the record of a clause of a program, or one of those assumed in it
+abbrev pub SomeOfClause : (constants : ℕ → List Ty → Ty) → Clause → Type 0
+SomeOfClause K (clause v vs h b) = Passes (both (own_types_take v) (clause_takes K v nothing_around vs h b)) ⊎ SomeOfGoals K v (in_body (below nothing_around vs)) b
+
+-- that of a query, the outermost of its variables the first one, or one of those assumed in it
+abbrev pub SomeOfQuery : (constants : ℕ → List Ty → Ty) → (type_vars : ℕ) → (vars : List Ty) → Goals → Type 0
+SomeOfQuery K v vs b = Passes (query_takes K v (reverse vs) b) ⊎ SomeOfGoals K v (in_body (below nothing_around (reverse vs))) b

@@ -26,6 +26,7 @@ pub mod Tasks
 pub mod Spending
 pub mod TermLaw
 pub mod TermSteps
+pub mod Variables
 pub mod Using
 pub mod Works
 pub mod Written

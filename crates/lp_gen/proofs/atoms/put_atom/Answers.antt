@@ -62,7 +62,7 @@ returns-in_err-types-in-Const-clause-lacks c =
     let all = constant_takes (constant_function c.args.tables.bank.now c.args.tables.constants.now) b (around_of c.args.tables.bank.now c.args.environment.now) c.in-Const.number c.in-Const.types.now (tree b c.in_ok-spine.spine.head.0) ts (tree c.args.tables.bank.now c.args.atom.0) c.in-Const.ensures.tree c.in_ok-spine.ensures.tree in
     let e = c.in_err-types-in-Const.field-0.0 in
     passed_up c.from_residual-in_err-types-in-Const.result e (Lacks c.args.emitter.now (atom_takes (constant_function c.args.tables.bank.now c.args.tables.constants.now) (around_of c.args.tables.bank.now c.args.environment.now) (tree c.args.tables.bank.now c.args.atom.0))) c.from_residual-in_err-types-in-Const.ensures.1
-    (subst (λ x. Lacks c.args.emitter.now x e) (sym all) (lacks_first c.args.emitter.now _ (both (terms_take (constant_function c.args.tables.bank.now c.args.tables.constants.now) (around_of c.args.tables.bank.now c.args.environment.now) H ts) (call_takes c.in-Const.number (length Ts) (length ts))) _ c.in_err-types-in-Const.ensures.lacks))
+    (subst (λ x. Lacks c.args.emitter.now x e) (sym all) (lacks_first (both (terms_take (constant_function c.args.tables.bank.now c.args.tables.constants.now) (around_of c.args.tables.bank.now c.args.environment.now) H ts) (call_takes c.in-Const.number (length Ts) (length ts))) c.in_err-types-in-Const.ensures.lacks))
 
 pub returns-in_err-terms-in-Const-clause-lacks : goal.returns-in_err-terms-in-Const-clause-lacks
 returns-in_err-terms-in-Const-clause-lacks c =
@@ -75,7 +75,7 @@ returns-in_err-terms-in-Const-clause-lacks c =
     let args : map f c.as_slice-args.result.now ≡ ts = ap (map f) c.as_slice-args.ensures.value in
     let e = c.in_err-terms-in-Const.field-0.0 in
     passed_up c.from_residual-in_err-terms-in-Const.result e (Lacks c.args.emitter.now (atom_takes (constant_function c.args.tables.bank.now c.args.tables.constants.now) (around_of c.args.tables.bank.now c.args.environment.now) (tree c.args.tables.bank.now c.args.atom.0))) c.from_residual-in_err-terms-in-Const.ensures.1
-    (subst (λ x. Lacks c.args.emitter.now x e) (sym all) (lacks_then _ _ c.in_ok-types-in-Const.ensures.uses (lacks_first c.put_types.new.emitter _ (call_takes c.in-Const.number (length Ts) (length ts)) _ (subst (λ l. Lacks c.put_types.new.emitter (terms_take (constant_function c.args.tables.bank.now c.args.tables.constants.now) (around_of c.args.tables.bank.now c.args.environment.now) H l) e) args c.in_err-terms-in-Const.ensures.lacks))))
+    (subst (λ x. Lacks c.args.emitter.now x e) (sym all) (lacks_then c.in_ok-types-in-Const.ensures.uses (lacks_first (call_takes c.in-Const.number (length Ts) (length ts)) (subst (λ l. Lacks c.put_types.new.emitter (terms_take (constant_function c.args.tables.bank.now c.args.tables.constants.now) (around_of c.args.tables.bank.now c.args.environment.now) H l) e) args c.in_err-terms-in-Const.ensures.lacks))))
 
 pub returns-in_err-put_call-in-Const-clause-lacks : goal.returns-in_err-put_call-in-Const-clause-lacks
 returns-in_err-put_call-in-Const-clause-lacks c =
@@ -93,7 +93,7 @@ returns-in_err-put_call-in-Const-clause-lacks c =
     let said : Uses c.put_types.new.emitter c.put_arguments.new.emitter (terms_take (constant_function c.args.tables.bank.now c.args.tables.constants.now) (around_of c.args.tables.bank.now c.args.environment.now) H ts) = uses_same (ap (terms_take (constant_function c.args.tables.bank.now c.args.tables.constants.now) (around_of c.args.tables.bank.now c.args.environment.now) H) args) c.in_ok-terms-in-Const.ensures.uses in
     let e = c.in_err-put_call-in-Const.field-0.0 in
     passed_up c.from_residual-in_err-put_call-in-Const.result e (Lacks c.args.emitter.now (atom_takes (constant_function c.args.tables.bank.now c.args.tables.constants.now) (around_of c.args.tables.bank.now c.args.environment.now) (tree c.args.tables.bank.now c.args.atom.0))) c.from_residual-in_err-put_call-in-Const.ensures.1
-    (subst (λ x. Lacks c.args.emitter.now x e) (sym all) (lacks_then _ _ c.in_ok-types-in-Const.ensures.uses (lacks_then _ _ said (subst (λ x. Lacks c.put_arguments.new.emitter x e) call c.in_err-put_call-in-Const.ensures.lacks))))
+    (subst (λ x. Lacks c.args.emitter.now x e) (sym all) (lacks_then c.in_ok-types-in-Const.ensures.uses (lacks_then said (subst (λ x. Lacks c.put_arguments.new.emitter x e) call c.in_err-put_call-in-Const.ensures.lacks))))
 
 pub returns-clause-uses : goal.returns-clause-uses
 returns-clause-uses c =
@@ -113,7 +113,7 @@ returns-in_err-register-in_default-clause-lacks c =
         c.term_node.ensures.older c.term_node.ensures.tree c.in_ok-spine.ensures.head c.in_ok-spine.ensures.tree) in
     let e = c.in_err-register-in_default.field-0.0 in
     passed_up c.from_residual-in_err-register-in_default.result e (Lacks c.args.emitter.now (atom_takes (constant_function c.args.tables.bank.now c.args.tables.constants.now) (around_of c.args.tables.bank.now c.args.environment.now) (tree c.args.tables.bank.now c.args.atom.0))) c.from_residual-in_err-register-in_default.ensures.1
-    (subst (λ x. Lacks c.args.emitter.now x e) (sym all) (lacks_first c.args.emitter.now _ (plain_code 3 0) _ c.in_err-register-in_default.ensures.lacks))
+    (subst (λ x. Lacks c.args.emitter.now x e) (sym all) (lacks_first (plain_code 3 0) c.in_err-register-in_default.ensures.lacks))
 
 pub returns-in_err-put_term_call-in_default-clause-lacks : goal.returns-in_err-put_term_call-in_default-clause-lacks
 returns-in_err-put_term_call-in_default-clause-lacks c =
@@ -124,4 +124,4 @@ returns-in_err-put_term_call-in_default-clause-lacks c =
         c.term_node.ensures.older c.term_node.ensures.tree c.in_ok-spine.ensures.head c.in_ok-spine.ensures.tree) in
     let e = c.in_err-put_term_call-in_default.field-0.0 in
     passed_up c.from_residual-in_err-put_term_call-in_default.result e (Lacks c.args.emitter.now (atom_takes (constant_function c.args.tables.bank.now c.args.tables.constants.now) (around_of c.args.tables.bank.now c.args.environment.now) (tree c.args.tables.bank.now c.args.atom.0))) c.from_residual-in_err-put_term_call-in_default.ensures.1
-    (subst (λ x. Lacks c.args.emitter.now x e) (sym all) (lacks_then _ _ c.in_ok-register-in_default.ensures.uses c.in_err-put_term_call-in_default.ensures.lacks))
+    (subst (λ x. Lacks c.args.emitter.now x e) (sym all) (lacks_then c.in_ok-register-in_default.ensures.uses c.in_err-put_term_call-in_default.ensures.lacks))

@@ -17,22 +17,22 @@ returns-clause-code c =
 
 pub returns-clause-uses : goal.returns-clause-uses
 returns-clause-uses c =
-    uses_both c.in_ok-register.ensures.uses (term_made c.put_type.new.emitter c.new_register.new.self c.emit.new.self (instr.PutAbs c.in_ok-made.made c.args.body c.in_ok-register.register) (7) (0) c.in_ok-made.ensures.types c.in_ok-made.ensures.registers c.in_ok-made.ensures.place c.in_ok-emit.ensures.types c.in_ok-emit.ensures.registers c.in_ok-emit.ensures.place c.in_ok-emit.ensures.room refl refl)
+    uses_both c.in_ok-register.ensures.uses (term_made c.new_register.new.self (instr.PutAbs c.in_ok-made.made c.args.body c.in_ok-register.register) (7) (0) c.in_ok-made.ensures.types c.in_ok-made.ensures.registers c.in_ok-made.ensures.place c.in_ok-emit.ensures.types c.in_ok-emit.ensures.registers c.in_ok-emit.ensures.place c.in_ok-emit.ensures.room refl refl)
 
 pub returns-in_err-register-clause-lacks : goal.returns-in_err-register-clause-lacks
 returns-in_err-register-clause-lacks c =
     let e = c.in_err-register.field-0.0 in
     passed_up c.from_residual.result e (Lacks c.args.emitter.now (step_takes (abstract_last (read c.args.bank.now c.args.of)))) c.from_residual.ensures.1
-    (lacks_first c.args.emitter.now _ (term_code (7) (0)) _ c.in_err-register.ensures.lacks)
+    (lacks_first (term_code (7) (0)) c.in_err-register.ensures.lacks)
 
 pub returns-in_err-made-clause-lacks : goal.returns-in_err-made-clause-lacks
 returns-in_err-made-clause-lacks c =
     let e = c.in_err-made.field-0.0 in
     passed_up c.from_residual-in_err-made.result e (Lacks c.args.emitter.now (step_takes (abstract_last (read c.args.bank.now c.args.of)))) c.from_residual-in_err-made.ensures.1
-    (lacks_then _ _ c.in_ok-register.ensures.uses (no_term_register c.put_type.new.emitter (7) (0) e c.in_err-made.ensures.cause))
+    (lacks_then c.in_ok-register.ensures.uses (no_term_register c.put_type.new.emitter (7) (0) e c.in_err-made.ensures.cause))
 
 pub returns-in_err-emit-clause-lacks : goal.returns-in_err-emit-clause-lacks
 returns-in_err-emit-clause-lacks c =
     let e = c.in_err-emit.field-0.0 in
     passed_up c.from_residual-in_err-emit.result e (Lacks c.args.emitter.now (step_takes (abstract_last (read c.args.bank.now c.args.of)))) c.from_residual-in_err-emit.ensures.1
-    (lacks_then _ _ c.in_ok-register.ensures.uses (no_term_code c.put_type.new.emitter c.new_register.new.self (instr.PutAbs c.in_ok-made.made c.args.body c.in_ok-register.register) (7) (0) e c.in_ok-made.ensures.place refl refl c.in_err-emit.ensures.cause))
+    (lacks_then c.in_ok-register.ensures.uses (no_term_code c.put_type.new.emitter c.new_register.new.self (instr.PutAbs c.in_ok-made.made c.args.body c.in_ok-register.register) (7) (0) e c.in_ok-made.ensures.place refl refl c.in_err-emit.ensures.cause))

@@ -94,7 +94,7 @@ returns-in_err-registers-in-Const-clause-lacks c =
     let got = constant_got_takes (constant_function c.args.tables.bank.now c.args.tables.constants.now) c.args.tables.bank.now (around_of c.args.tables.bank.now c.args.environment.now) (read c.args.tables.bank.now c.args.of) c.in-Const.number c.in-Const.types.now (tree c.args.tables.bank.now c.args.argument.0) c.in-Const.ensures.tree in
     let e = c.in_err-registers-in-Const.field-0.0 in
     passed_up c.from_residual-in_err-registers-in-Const.result e (Lacks c.args.emitter.now (argument_takes (constant_function c.args.tables.bank.now c.args.tables.constants.now) (around_of c.args.tables.bank.now c.args.environment.now) (read c.args.tables.bank.now c.args.of) (tree c.args.tables.bank.now c.args.argument.0))) c.from_residual-in_err-registers-in-Const.ensures.1
-    (subst (λ x. Lacks c.args.emitter.now x e) (sym got.0) (lacks_first c.args.emitter.now _ (plain_code (5 + 2 * length Ts) (past 255 (length Ts))) _ c.in_err-registers-in-Const.ensures.lacks))
+    (subst (λ x. Lacks c.args.emitter.now x e) (sym got.0) (lacks_first (plain_code (5 + 2 * length Ts) (past 255 (length Ts))) c.in_err-registers-in-Const.ensures.lacks))
 
 pub returns-in_err-get_constant-in-Const-clause-lacks : goal.returns-in_err-get_constant-in-Const-clause-lacks
 returns-in_err-get_constant-in-Const-clause-lacks c =
@@ -104,7 +104,7 @@ returns-in_err-get_constant-in-Const-clause-lacks c =
     let code : plain_code (5 + 2 * length c.in_ok-registers-in-Const.registers.items) (past 255 (length c.in_ok-registers-in-Const.registers.items)) ≡ plain_code (5 + 2 * length Ts) (past 255 (length Ts)) = (λ i. plain_code (5 + 2 * n i) (past 255 (n i))) in
     let e = c.in_err-get_constant-in-Const.field-0.0 in
     passed_up c.from_residual-in_err-get_constant-in-Const.result e (Lacks c.args.emitter.now (argument_takes (constant_function c.args.tables.bank.now c.args.tables.constants.now) (around_of c.args.tables.bank.now c.args.environment.now) (read c.args.tables.bank.now c.args.of) (tree c.args.tables.bank.now c.args.argument.0))) c.from_residual-in_err-get_constant-in-Const.ensures.1
-    (subst (λ x. Lacks c.args.emitter.now x e) (sym got.0) (lacks_then _ _ c.in_ok-registers-in-Const.ensures.uses (subst (λ x. Lacks c.put_types.new.emitter x e) code c.in_err-get_constant-in-Const.ensures.lacks)))
+    (subst (λ x. Lacks c.args.emitter.now x e) (sym got.0) (lacks_then c.in_ok-registers-in-Const.ensures.uses (subst (λ x. Lacks c.put_types.new.emitter x e) code c.in_err-get_constant-in-Const.ensures.lacks)))
 
 pub returns-in_ok-get_integer-in-Int-clause-around : goal.returns-in_ok-get_integer-in-Int-clause-around
 returns-in_ok-get_integer-in-Int-clause-around c =
@@ -154,7 +154,7 @@ returns-in_err-register-in_default-term_node-clause-lacks c =
     let got = built_takes_here (constant_function c.args.tables.bank.now c.args.tables.constants.now) (around_of c.args.tables.bank.now c.args.environment.now) (read c.args.tables.bank.now c.args.of) (tree c.args.tables.bank.now c.args.argument.0) other (sym c.place_of.ensures ∙ c.in_default.is) in
     let e = c.in_err-register-in_default-term_node.field-0.0 in
     passed_up c.from_residual-in_err-register-in_default-term_node.result e (Lacks c.args.emitter.now (argument_takes (constant_function c.args.tables.bank.now c.args.tables.constants.now) (around_of c.args.tables.bank.now c.args.environment.now) (read c.args.tables.bank.now c.args.of) (tree c.args.tables.bank.now c.args.argument.0))) c.from_residual-in_err-register-in_default-term_node.ensures.1
-    (subst (λ x. Lacks c.args.emitter.now x e) (sym got.0) (lacks_first c.args.emitter.now _ (plain_code 4 0) _ c.in_err-register-in_default-term_node.ensures.lacks))
+    (subst (λ x. Lacks c.args.emitter.now x e) (sym got.0) (lacks_first (plain_code 4 0) c.in_err-register-in_default-term_node.ensures.lacks))
 
 pub returns-in_err-get_term-in_default-term_node-clause-lacks : goal.returns-in_err-get_term-in_default-term_node-clause-lacks
 returns-in_err-get_term-in_default-term_node-clause-lacks c =
@@ -162,4 +162,4 @@ returns-in_err-get_term-in_default-term_node-clause-lacks c =
     let got = built_takes_here (constant_function c.args.tables.bank.now c.args.tables.constants.now) (around_of c.args.tables.bank.now c.args.environment.now) (read c.args.tables.bank.now c.args.of) (tree c.args.tables.bank.now c.args.argument.0) other (sym c.place_of.ensures ∙ c.in_default.is) in
     let e = c.in_err-get_term-in_default-term_node.field-0.0 in
     passed_up c.from_residual-in_err-get_term-in_default-term_node.result e (Lacks c.args.emitter.now (argument_takes (constant_function c.args.tables.bank.now c.args.tables.constants.now) (around_of c.args.tables.bank.now c.args.environment.now) (read c.args.tables.bank.now c.args.of) (tree c.args.tables.bank.now c.args.argument.0))) c.from_residual-in_err-get_term-in_default-term_node.ensures.1
-    (subst (λ x. Lacks c.args.emitter.now x e) (sym got.0) (lacks_then _ _ c.in_ok-register-in_default-term_node.ensures.uses c.in_err-get_term-in_default-term_node.ensures.lacks))
+    (subst (λ x. Lacks c.args.emitter.now x e) (sym got.0) (lacks_then c.in_ok-register-in_default-term_node.ensures.uses c.in_err-get_term-in_default-term_node.ensures.lacks))

@@ -74,7 +74,7 @@ returns-in_err-number-clause-lacks c =
     let there = index_or xs i (record { 0 = 0 }) y c.loop-at-test.true in
     let e = c.in_err-number.field-0.0 in
     passed_up c.from_residual.result e (Lacks c.args.emitter.now (head_arguments_take (constant_function c.args.tables.bank.now c.args.tables.constants.now) (around_of c.args.tables.bank.now c.args.environment.now) 0 (head_type (constant_function c.args.tables.bank.now c.args.tables.constants.now) [] (around_of c.args.tables.bank.now c.args.environment.now) (tree c.args.tables.bank.now c.args.head.0)) (map (λ (t : TermId). tree c.args.tables.bank.now t.0) c.args.args.now))) c.from_residual.ensures.1
-    (arguments_lack (constant_function c.args.tables.bank.now c.args.tables.constants.now) (λ (t : TermId). tree c.args.tables.bank.now t.0) (around_of c.args.tables.bank.now c.args.environment.now) (head_type (constant_function c.args.tables.bank.now c.args.tables.constants.now) [] (around_of c.args.tables.bank.now c.args.environment.now) (tree c.args.tables.bank.now c.args.head.0)) xs y i c.loop-at-test.true there c.args.emitter.now c.loop-at.emitter e c.loop-at.invariant.3 (subst (λ x. Lacks c.loop-at.emitter x e) (sym (next_at (constant_function c.args.tables.bank.now c.args.tables.constants.now) (λ (t : TermId). tree c.args.tables.bank.now t.0) (around_of c.args.tables.bank.now c.args.environment.now) (head_type (constant_function c.args.tables.bank.now c.args.tables.constants.now) [] (around_of c.args.tables.bank.now c.args.environment.now) (tree c.args.tables.bank.now c.args.head.0)) xs y i c.loop-at-test.true there)) (lacks_first c.loop-at.emitter _ (argument_takes (constant_function c.args.tables.bank.now c.args.tables.constants.now) (behind_arguments (constant_function c.args.tables.bank.now c.args.tables.constants.now) (around_of c.args.tables.bank.now c.args.environment.now) (head_type (constant_function c.args.tables.bank.now c.args.tables.constants.now) [] (around_of c.args.tables.bank.now c.args.environment.now) (tree c.args.tables.bank.now c.args.head.0)) (map (λ (t : TermId). tree c.args.tables.bank.now t.0) (take i xs))) (from_of (left_by (head_type (constant_function c.args.tables.bank.now c.args.tables.constants.now) [] (around_of c.args.tables.bank.now c.args.environment.now) (tree c.args.tables.bank.now c.args.head.0)) i)) (tree c.args.tables.bank.now y.0)) _ (has_no_place c.loop-at.emitter i e c.in_err-number.ensures.cause))))
+    (arguments_lack (constant_function c.args.tables.bank.now c.args.tables.constants.now) (λ (t : TermId). tree c.args.tables.bank.now t.0) (around_of c.args.tables.bank.now c.args.environment.now) (head_type (constant_function c.args.tables.bank.now c.args.tables.constants.now) [] (around_of c.args.tables.bank.now c.args.environment.now) (tree c.args.tables.bank.now c.args.head.0)) xs y i c.loop-at-test.true there c.args.emitter.now c.loop-at.emitter e c.loop-at.invariant.3 (subst (λ x. Lacks c.loop-at.emitter x e) (sym (next_at (constant_function c.args.tables.bank.now c.args.tables.constants.now) (λ (t : TermId). tree c.args.tables.bank.now t.0) (around_of c.args.tables.bank.now c.args.environment.now) (head_type (constant_function c.args.tables.bank.now c.args.tables.constants.now) [] (around_of c.args.tables.bank.now c.args.environment.now) (tree c.args.tables.bank.now c.args.head.0)) xs y i c.loop-at-test.true there)) (lacks_first (argument_takes (constant_function c.args.tables.bank.now c.args.tables.constants.now) (behind_arguments (constant_function c.args.tables.bank.now c.args.tables.constants.now) (around_of c.args.tables.bank.now c.args.environment.now) (head_type (constant_function c.args.tables.bank.now c.args.tables.constants.now) [] (around_of c.args.tables.bank.now c.args.environment.now) (tree c.args.tables.bank.now c.args.head.0)) (map (λ (t : TermId). tree c.args.tables.bank.now t.0) (take i xs))) (from_of (left_by (head_type (constant_function c.args.tables.bank.now c.args.tables.constants.now) [] (around_of c.args.tables.bank.now c.args.environment.now) (tree c.args.tables.bank.now c.args.head.0)) i)) (tree c.args.tables.bank.now y.0)) (has_no_place c.loop-at.emitter i e c.in_err-number.ensures.cause))))
 
 pub returns-in_err-get_argument-clause-lacks : goal.returns-in_err-get_argument-clause-lacks
 returns-in_err-get_argument-clause-lacks c =
@@ -88,4 +88,4 @@ returns-in_err-get_argument-clause-lacks c =
         (λ j. argument_takes (constant_function c.args.tables.bank.now c.args.tables.constants.now) (c.loop-at.invariant.2 j) (of j) (tree c.args.tables.bank.now y.0)) in
     let e = c.in_err-get_argument.field-0.0 in
     passed_up c.from_residual-in_err-get_argument.result e (Lacks c.args.emitter.now (head_arguments_take (constant_function c.args.tables.bank.now c.args.tables.constants.now) (around_of c.args.tables.bank.now c.args.environment.now) 0 (head_type (constant_function c.args.tables.bank.now c.args.tables.constants.now) [] (around_of c.args.tables.bank.now c.args.environment.now) (tree c.args.tables.bank.now c.args.head.0)) (map (λ (t : TermId). tree c.args.tables.bank.now t.0) c.args.args.now))) c.from_residual-in_err-get_argument.ensures.1
-    (arguments_lack (constant_function c.args.tables.bank.now c.args.tables.constants.now) (λ (t : TermId). tree c.args.tables.bank.now t.0) (around_of c.args.tables.bank.now c.args.environment.now) (head_type (constant_function c.args.tables.bank.now c.args.tables.constants.now) [] (around_of c.args.tables.bank.now c.args.environment.now) (tree c.args.tables.bank.now c.args.head.0)) xs y i c.loop-at-test.true there c.args.emitter.now c.loop-at.emitter e c.loop-at.invariant.3 (subst (λ x. Lacks c.loop-at.emitter x e) (sym (next_at (constant_function c.args.tables.bank.now c.args.tables.constants.now) (λ (t : TermId). tree c.args.tables.bank.now t.0) (around_of c.args.tables.bank.now c.args.environment.now) (head_type (constant_function c.args.tables.bank.now c.args.tables.constants.now) [] (around_of c.args.tables.bank.now c.args.environment.now) (tree c.args.tables.bank.now c.args.head.0)) xs y i c.loop-at-test.true there)) (lacks_then _ _ (has_place c.loop-at.emitter i (omega (arith, c.in_ok-number.ensures.low))) (subst (λ x. Lacks c.loop-at.emitter x e) here c.in_err-get_argument.ensures.lacks))))
+    (arguments_lack (constant_function c.args.tables.bank.now c.args.tables.constants.now) (λ (t : TermId). tree c.args.tables.bank.now t.0) (around_of c.args.tables.bank.now c.args.environment.now) (head_type (constant_function c.args.tables.bank.now c.args.tables.constants.now) [] (around_of c.args.tables.bank.now c.args.environment.now) (tree c.args.tables.bank.now c.args.head.0)) xs y i c.loop-at-test.true there c.args.emitter.now c.loop-at.emitter e c.loop-at.invariant.3 (subst (λ x. Lacks c.loop-at.emitter x e) (sym (next_at (constant_function c.args.tables.bank.now c.args.tables.constants.now) (λ (t : TermId). tree c.args.tables.bank.now t.0) (around_of c.args.tables.bank.now c.args.environment.now) (head_type (constant_function c.args.tables.bank.now c.args.tables.constants.now) [] (around_of c.args.tables.bank.now c.args.environment.now) (tree c.args.tables.bank.now c.args.head.0)) xs y i c.loop-at-test.true there)) (lacks_then (has_place c.loop-at.emitter i (omega (arith, c.in_ok-number.ensures.low))) (subst (λ x. Lacks c.loop-at.emitter x e) here c.in_err-get_argument.ensures.lacks))))

@@ -66,7 +66,7 @@ returns-in_err-get_types-clause-lacks c =
     let all = constant_head_takes (constant_function c.args.tables.bank.now c.args.tables.constants.now) b (around_of c.args.tables.bank.now c.args.environment.now) c.in-Const.field-0 c.in-Const.types.now (tree b c.in_ok-spine.spine.head.0) ts (tree c.args.tables.bank.now c.args.head.0) c.in-Const.ensures.tree c.in_ok-spine.ensures.tree in
     let e = c.in_err-get_types.field-0.0 in
     passed_up c.from_residual-in_err-get_types.result e (Lacks c.args.emitter.now (head_takes (constant_function c.args.tables.bank.now c.args.tables.constants.now) (around_of c.args.tables.bank.now c.args.environment.now) (tree c.args.tables.bank.now c.args.head.0))) c.from_residual-in_err-get_types.ensures.1
-    (subst (λ x. Lacks c.args.emitter.now x e) (sym all.0) (lacks_first c.args.emitter.now _ (head_arguments_take (constant_function c.args.tables.bank.now c.args.tables.constants.now) (around_of c.args.tables.bank.now c.args.environment.now) 0 H ts) _ c.in_err-get_types.ensures.lacks))
+    (subst (λ x. Lacks c.args.emitter.now x e) (sym all.0) (lacks_first (head_arguments_take (constant_function c.args.tables.bank.now c.args.tables.constants.now) (around_of c.args.tables.bank.now c.args.environment.now) 0 H ts) c.in_err-get_types.ensures.lacks))
 
 pub returns-in_err-get_arguments-clause-lacks : goal.returns-in_err-get_arguments-clause-lacks
 returns-in_err-get_arguments-clause-lacks c =
@@ -78,7 +78,7 @@ returns-in_err-get_arguments-clause-lacks c =
     let all = constant_head_takes (constant_function c.args.tables.bank.now c.args.tables.constants.now) b (around_of c.args.tables.bank.now c.args.environment.now) c.in-Const.field-0 c.in-Const.types.now (tree b c.in_ok-spine.spine.head.0) ts (tree c.args.tables.bank.now c.args.head.0) c.in-Const.ensures.tree c.in_ok-spine.ensures.tree in
     let e = c.in_err-get_arguments.field-0.0 in
     passed_up c.from_residual-in_err-get_arguments.result e (Lacks c.args.emitter.now (head_takes (constant_function c.args.tables.bank.now c.args.tables.constants.now) (around_of c.args.tables.bank.now c.args.environment.now) (tree c.args.tables.bank.now c.args.head.0))) c.from_residual-in_err-get_arguments.ensures.1
-    (subst (λ x. Lacks c.args.emitter.now x e) (sym all.0) (lacks_then _ _ c.in_ok-get_types.ensures.uses (subst (λ l. Lacks c.get_types.new.emitter (head_arguments_take (constant_function c.args.tables.bank.now c.args.tables.constants.now) (around_of c.args.tables.bank.now c.args.environment.now) 0 H l) e) args c.in_err-get_arguments.ensures.lacks)))
+    (subst (λ x. Lacks c.args.emitter.now x e) (sym all.0) (lacks_then c.in_ok-get_types.ensures.uses (subst (λ l. Lacks c.get_types.new.emitter (head_arguments_take (constant_function c.args.tables.bank.now c.args.tables.constants.now) (around_of c.args.tables.bank.now c.args.environment.now) 0 H l) e) args c.in_err-get_arguments.ensures.lacks)))
 
 pub returns-clause-around : goal.returns-clause-around
 returns-clause-around c =

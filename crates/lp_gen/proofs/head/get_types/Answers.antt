@@ -47,7 +47,7 @@ returns-in_err-register-clause-lacks c =
     let there = index_or xs c.loop-at.at (record { 0 = 0 }) y c.loop-at-test.true in
     let e = c.in_err-register.field-0.0 in
     passed_up c.from_residual.result e (Lacks c.args.emitter.now (head_types_take 0 (map (λ (t : TypeId). type_tree c.args.bank.now t.0) c.args.types.now))) c.from_residual.ensures.1
-    (types_at_lack (λ (t : TypeId). type_tree c.args.bank.now t.0) xs y c.loop-at.at c.loop-at-test.true there c.args.emitter.now c.loop-at.emitter e c.loop-at.invariant.1 (lacks_first c.loop-at.emitter _ (plain_code 4 (past 255 c.loop-at.at)) _ c.in_err-register.ensures.lacks))
+    (types_at_lack (λ (t : TypeId). type_tree c.args.bank.now t.0) xs y c.loop-at.at c.loop-at-test.true there c.args.emitter.now c.loop-at.emitter e c.loop-at.invariant.1 (lacks_first (plain_code 4 (past 255 c.loop-at.at)) c.in_err-register.ensures.lacks))
 
 pub returns-in_err-number-clause-lacks : goal.returns-in_err-number-clause-lacks
 returns-in_err-number-clause-lacks c =

@@ -23,10 +23,10 @@ pub returns-in_err-kind-clause-lacks : goal.returns-in_err-kind-clause-lacks
 returns-in_err-kind-clause-lacks c =
     let e = c.in_err-kind.field-0.0 in
     passed_up c.from_residual.result e (Lacks c.args.emitter.now (step_takes (make_variable c.args.register (type_tree c.args.bank.now c.args.of.0)))) c.from_residual.ensures.1
-    (lacks_first c.args.emitter.now _ (plain_code 5 0) _ c.in_err-kind.ensures.lacks)
+    (lacks_first (plain_code 5 0) c.in_err-kind.ensures.lacks)
 
 pub returns-in_err-emit-clause-lacks : goal.returns-in_err-emit-clause-lacks
 returns-in_err-emit-clause-lacks c =
     let e = c.in_err-emit.field-0.0 in
     passed_up c.from_residual-in_err-emit.result e (Lacks c.args.emitter.now (step_takes (make_variable c.args.register (type_tree c.args.bank.now c.args.of.0)))) c.from_residual-in_err-emit.ensures.1
-    (lacks_then _ _ c.in_ok-kind.ensures.uses (no_plain_code c.put_type.new.emitter (instr.New c.args.register c.in_ok-kind.kind) 5 0 e refl refl c.in_err-emit.ensures.cause))
+    (lacks_then c.in_ok-kind.ensures.uses (no_plain_code c.put_type.new.emitter (instr.New c.args.register c.in_ok-kind.kind) 5 0 e refl refl c.in_err-emit.ensures.cause))
