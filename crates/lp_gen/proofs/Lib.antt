@@ -5,6 +5,7 @@ mod CallsUsed
 mod TermsUsed
 mod AtomsUsed
 mod HeadUsed
+mod Alike
 mod Works
 mod TypeWorks
 mod TypePut

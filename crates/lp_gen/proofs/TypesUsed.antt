@@ -140,11 +140,11 @@ code_grown e mid new i m n = ap pieces n ∙ map-append piece mid (i ∷ []) ∙
 -- an instruction of a type
 pub one_spent : (old mid new : Emitter) (i : Instr) → mid.code.items ≡ old.code.items → mid.place ≡ old.place → new.code.items ≡ mid.code.items ++ i ∷ [] → new.place ≡ mid.place + length_of i →
     misfits_of i ≡ 0 → piece_bytes (piece i) ≡ length_of i → piece_misfits (piece i) ≡ misfits_of i → Spent old new
-one_spent old mid new i m at n place room b f =
+one_spent old mid new i m at n place fit b f =
     let p = code_grown old mid.code.items new.code.items i m n in
     let all : bytes_of (pieces new.code.items) ≡ bytes_of (pieces old.code.items) + piece_bytes (piece i) = ap bytes_of p ∙ bytes_append (pieces old.code.items) (piece i ∷ []) ∙ omega arith in
     let none : misfits_in (pieces new.code.items) ≡ misfits_in (pieces old.code.items) + piece_misfits (piece i) = ap misfits_in p ∙ misfits_append (pieces old.code.items) (piece i ∷ []) ∙ omega arith in
-    (omega (arith, all, place, at, b), omega (arith, none, room, f))
+    (omega (arith, all, place, at, b), omega (arith, none, fit, f))
 
 pub over_register : (old : Emitter) (w : Work) (e : RecordRefusal) → w.next ≡ old.types + 1 → IsRefused (65535 < old.types + 1) e → Overflows old w e
 over_register old w refusal.Registers n p = inl (omega (arith, n, p))

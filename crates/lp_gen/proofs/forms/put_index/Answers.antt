@@ -4,9 +4,9 @@ use Rattle.lp_gen.specs.inner.Listing.{make_index}
 use Rattle.lp_code.specs.declared.instruction.Instr.TheVariants as instr
 use Rattle.lp_gen.proofs.Using.{uses_both, lacks_first, lacks_then, term_made, no_term_register, no_term_code}
 use Rattle.lp_gen.specs.Registers.{step_takes, term_code, type_takes}
-use Rattle.lp_gen.specs.inner.Using.{Lacks}
+use Rattle.lp_gen.specs.inner.Using.{Lacks, room, for_misfits}
 use Rattle.lp_lemmas.proofs.Results.{passed_up}
-use Rattle.std.proofs.Common.{◌≡◌, ◌∙◌, ◌++◌, ◌∷◌, [], ap, arith, refl, sym}
+use Rattle.std.proofs.Common.{◌<◌, ◌≡◌, ◌∙◌, ◌++◌, ◌∷◌, [], ap, arith, refl, sym}
 use Rattle.lp_code.specs.declared.instruction.Instr.TheVariants.{PutIndex}
 use Rattle.lp_gen.specs.inner.Reading.{read}
 use Rattle.lp_gen.proofs.TermPut.{index_put}
@@ -47,4 +47,6 @@ returns-in_err-emit-clause-lacks c =
 
 pub returns-in_default-clause-lacks : goal.returns-in_default-clause-lacks
 returns-in_default-clause-lacks c =
-    ?
+    let high : c.args.index < 65536 → ⊥ = c.in_default.ensures in
+    let p = past_over 65535 c.args.index (omega (arith, high)) in
+    room refl (for_misfits (omega (arith, p)))
