@@ -20,7 +20,7 @@ use Rattle.lp_gen.specs.Limits.{past}
 use Rattle.lp_gen.specs.inner.Pieces.{Piece, type_con, type_arrow, piece, pieces, type_made, types_made}
 use Rattle.lp_gen.specs.inner.Reading.{read, read_at}
 use Rattle.lp_gen.specs.inner.Spending.{piece_bytes, piece_misfits, bytes_of, misfits_in, Spent, IsOver, Overflows}
-use Rattle.lp_gen.specs.inner.Using.{Uses, HasNoRoom, Lacks}
+use Rattle.lp_gen.specs.inner.Using.{Uses, HasNoRoom, for_types, for_bytes, for_misfits, Lacks, room, memory}
 use Rattle.lp_gen.specs.inner.Works.{Work, with_type, last_of, first_of, with_constructor, with_arrow, act, done, work_now, IsGrown}
 
 -- pieces weigh as much as this, and so many registers are made
@@ -186,18 +186,18 @@ type_used old new T made g s e =
 -- one that cannot be put
 pub type_lacks : (b : Nodes) (old now : Emitter) (T : Ty) (rs : List ℕ) (ts : List TypeTask) (t : TypeTask) (e : RecordRefusal) → Spent old now →
     done b ts (act b t (work_now now rs)) ≡ with_type (work_now old []) (type_made old.types T) → Overflows now (act b t (work_now now rs)) e → Lacks old (type_takes T) e
-type_lacks b old now T rs ts t refusal.Memory s d o = tt
-type_lacks b old now T rs ts t refusal.Registers s d o = room o
+type_lacks b old now T rs ts t refusal.Memory s d o = memory refl
+type_lacks b old now T rs ts t refusal.Registers s d o = room refl (over o)
   where
     grown : Grows (act b t (work_now now rs)) (with_type (work_now old []) (type_made old.types T))
     grown = subst (Grows (act b t (work_now now rs))) d (done_grows b ts (act b t (work_now now rs)))
 
-    room : IsOver now (act b t (work_now now rs)) → HasNoRoom old (type_takes T)
-    room (inl p) = inl (let n = grown.next in let q = (type_weighs old.types T).next_is in omega (arith, n, q, p))
-    room (inr (inl p)) = inr (inr (inl (let n = grown.bytes in let q = (type_weighs old.types T).bytes_are in let a = bytes_append (pieces old.code.items) (type_made old.types T).code in
-        let k = s.0 in omega (arith, n, q, a, k, p))))
-    room (inr (inr p)) = inr (inr (inr (let n = grown.misfits in let q = (type_weighs old.types T).misfits_are in let a = misfits_append (pieces old.code.items) (type_made old.types T).code in
-        let k = s.1 in omega (arith, n, q, a, k, p))))
+    over : IsOver now (act b t (work_now now rs)) → HasNoRoom old (type_takes T)
+    over (inl p) = for_types (let n = grown.next in let q = (type_weighs old.types T).next_is in omega (arith, n, q, p))
+    over (inr (inl p)) = for_bytes (let n = grown.bytes in let q = (type_weighs old.types T).bytes_are in let a = bytes_append (pieces old.code.items) (type_made old.types T).code in
+        let k = s.0 in omega (arith, n, q, a, k, p))
+    over (inr (inr p)) = for_misfits (let n = grown.misfits in let q = (type_weighs old.types T).misfits_are in let a = misfits_append (pieces old.code.items) (type_made old.types T).code in
+        let k = s.1 in omega (arith, n, q, a, k, p))
 
 -- what the instructions of a constructor and of an arrow add
 

@@ -17,7 +17,7 @@ returns-clause-code c =
 
 pub returns-clause-uses : goal.returns-clause-uses
 returns-clause-uses c =
-    uses_both c.in_ok-register.ensures.uses (term_made (instr.PutAbs c.in_ok-made.made c.args.body c.in_ok-register.register) (7) (0) c.in_ok-made.ensures.types c.in_ok-made.ensures.registers c.in_ok-made.ensures.place c.in_ok-emit.ensures.types c.in_ok-emit.ensures.registers c.in_ok-emit.ensures.place c.in_ok-emit.ensures.room refl refl)
+    uses_both c.in_ok-register.ensures.uses (term_made c.new_register.new.self (instr.PutAbs c.in_ok-made.made c.args.body c.in_ok-register.register) (7) (0) c.in_ok-made.ensures.types c.in_ok-made.ensures.registers c.in_ok-made.ensures.place c.in_ok-emit.ensures.types c.in_ok-emit.ensures.registers c.in_ok-emit.ensures.place c.in_ok-emit.ensures.room refl refl)
 
 pub returns-in_err-register-clause-lacks : goal.returns-in_err-register-clause-lacks
 returns-in_err-register-clause-lacks c =

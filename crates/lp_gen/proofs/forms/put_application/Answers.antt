@@ -16,7 +16,7 @@ returns-clause-code c =
 
 pub returns-clause-uses : goal.returns-clause-uses
 returns-clause-uses c =
-    term_made (instr.PutApp c.in_ok-made.made c.args.head c.args.args) (6 + 2 * length c.args.args.items) (past 255 (length c.args.args.items)) c.in_ok-made.ensures.types c.in_ok-made.ensures.registers c.in_ok-made.ensures.place c.in_ok-emit.ensures.types c.in_ok-emit.ensures.registers c.in_ok-emit.ensures.place c.in_ok-emit.ensures.room refl refl
+    term_made c.new_register.new.self (instr.PutApp c.in_ok-made.made c.args.head c.args.args) (6 + 2 * length c.args.args.items) (past 255 (length c.args.args.items)) c.in_ok-made.ensures.types c.in_ok-made.ensures.registers c.in_ok-made.ensures.place c.in_ok-emit.ensures.types c.in_ok-emit.ensures.registers c.in_ok-emit.ensures.place c.in_ok-emit.ensures.room refl refl
 
 pub returns-in_err-made-clause-lacks : goal.returns-in_err-made-clause-lacks
 returns-in_err-made-clause-lacks c =

@@ -21,7 +21,7 @@ pub returns-clause-uses : goal.returns-clause-uses
 returns-clause-uses c =
     let n = length (map (λ t. type_tree c.args.bank.now t.0) c.args.types.now) in
     let count : length c.in_ok-registers.registers.items ≡ n = c.in_ok-registers.ensures.count ∙ sym (map_length (λ t. type_tree c.args.bank.now t.0) c.args.types.now) in
-    uses_both c.in_ok-registers.ensures.uses (term_made (instr.PutConst c.in_ok-made.made c.args.number c.in_ok-registers.registers) (6 + 2 * n) (past 255 n) c.in_ok-made.ensures.types c.in_ok-made.ensures.registers c.in_ok-made.ensures.place c.in_ok-emit.ensures.types c.in_ok-emit.ensures.registers c.in_ok-emit.ensures.place c.in_ok-emit.ensures.room (ap (λ k. 6 + 2 * k) count) (ap (past 255) count))
+    uses_both c.in_ok-registers.ensures.uses (term_made c.new_register.new.self (instr.PutConst c.in_ok-made.made c.args.number c.in_ok-registers.registers) (6 + 2 * n) (past 255 n) c.in_ok-made.ensures.types c.in_ok-made.ensures.registers c.in_ok-made.ensures.place c.in_ok-emit.ensures.types c.in_ok-emit.ensures.registers c.in_ok-emit.ensures.place c.in_ok-emit.ensures.room (ap (λ k. 6 + 2 * k) count) (ap (past 255) count))
 
 pub returns-in_err-registers-clause-lacks : goal.returns-in_err-registers-clause-lacks
 returns-in_err-registers-clause-lacks c =

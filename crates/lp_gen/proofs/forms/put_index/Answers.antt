@@ -23,7 +23,7 @@ returns-clause-code c =
 pub returns-clause-uses : goal.returns-clause-uses
 returns-clause-uses c =
     let none : past 65535 c.args.index ≡ 0 = past_within 65535 c.args.index (let n = c.in-Ok.ensures in omega (arith, n)) in
-    uses_both c.in_ok-register.ensures.uses (term_made (instr.PutIndex c.in_ok-made.made c.in-Ok.number c.in_ok-register.register) 7 (past 65535 c.args.index) c.in_ok-made.ensures.types c.in_ok-made.ensures.registers c.in_ok-made.ensures.place c.in_ok-emit.ensures.types c.in_ok-emit.ensures.registers c.in_ok-emit.ensures.place c.in_ok-emit.ensures.room refl (sym none))
+    uses_both c.in_ok-register.ensures.uses (term_made c.new_register.new.self (instr.PutIndex c.in_ok-made.made c.in-Ok.number c.in_ok-register.register) 7 (past 65535 c.args.index) c.in_ok-made.ensures.types c.in_ok-made.ensures.registers c.in_ok-made.ensures.place c.in_ok-emit.ensures.types c.in_ok-emit.ensures.registers c.in_ok-emit.ensures.place c.in_ok-emit.ensures.room refl (sym none))
 
 pub returns-in_err-register-clause-lacks : goal.returns-in_err-register-clause-lacks
 returns-in_err-register-clause-lacks c =

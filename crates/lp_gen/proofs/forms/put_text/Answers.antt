@@ -16,7 +16,7 @@ returns-clause-code c =
 
 pub returns-clause-uses : goal.returns-clause-uses
 returns-clause-uses c =
-    term_made (instr.PutStr c.in_ok-made.made c.in_ok-text.text) (5 + text_length c.args.bytes.now) (0) c.in_ok-made.ensures.types c.in_ok-made.ensures.registers c.in_ok-made.ensures.place c.in_ok-emit.ensures.types c.in_ok-emit.ensures.registers c.in_ok-emit.ensures.place c.in_ok-emit.ensures.room (ap (λ k. 5 + k) c.in_ok-text.ensures.count) refl
+    term_made c.new_register.new.self (instr.PutStr c.in_ok-made.made c.in_ok-text.text) (5 + text_length c.args.bytes.now) (0) c.in_ok-made.ensures.types c.in_ok-made.ensures.registers c.in_ok-made.ensures.place c.in_ok-emit.ensures.types c.in_ok-emit.ensures.registers c.in_ok-emit.ensures.place c.in_ok-emit.ensures.room (ap (λ k. 5 + k) c.in_ok-text.ensures.count) refl
 
 pub returns-in_err-made-clause-lacks : goal.returns-in_err-made-clause-lacks
 returns-in_err-made-clause-lacks c =
