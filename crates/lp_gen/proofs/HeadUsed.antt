@@ -1,5 +1,5 @@
 -- What the head of a record takes: its types and arguments, one after the other.
-use Rattle.std.proofs.Common.{◌≡◌, ◌≢◌, ◌∙◌, inl, inr, ℕ, ℤ, zero, suc, ◌+◌, ◌*◌, ◌<◌, ◌≤◌, List, [], ◌∷◌, ◌++◌, length, take, map, Bor, Option, Some, None, ap, refl, sym, subst, arith}
+use Rattle.std.proofs.Common.{◌≡◌, ◌≢◌, ◌∙◌, ℕ, ℤ, zero, suc, ◌+◌, ◌*◌, ◌<◌, ◌≤◌, List, [], ◌∷◌, ◌++◌, length, take, map, Bor, Option, Some, None, ap, refl, sym, subst, arith}
 use Rattle.std.specs.Prelude.{get_or}
 use Rattle.std.proofs.lemmas.List.{map-append, take_more, length-take-le}
 use Rattle.lp_calculus.specs.Types.{Ty}
@@ -21,7 +21,7 @@ use Rattle.lp_gen.specs.inner.Fitting.{IsRefused}
 use Rattle.lp_gen.specs.inner.Heading.{first_place}
 use Rattle.lp_gen.specs.inner.Listing.{Around, set_level, head_type}
 use Rattle.lp_gen.specs.inner.Reading.{from_of, to_of}
-use Rattle.lp_gen.specs.inner.Using.{Uses, HasNoRoom, Lacks, AtMost}
+use Rattle.lp_gen.specs.inner.Using.{Uses, for_misfits, Lacks, room, memory, AtMost}
 use Rattle.lp_gen.specs.inner.Written.{left_by}
 use Rattle.lp_gen.proofs.AtomWritten.{no_constant_node, head_itself, head_apply, arguments_is}
 use Rattle.lp_gen.proofs.Courses.{mapped_types}
@@ -36,8 +36,8 @@ pub has_place : (e : Emitter) (i : ℕ) → i ≤ 255 → Uses e e (plain_code 0
 has_place e i l = record { types_are = omega arith; terms_are = omega arith; bytes_are = omega arith; fits = past_within 255 i l }
 
 pub has_no_place : (o : Emitter) (i : ℕ) (e : RecordRefusal) → IsRefused (255 < i) e → Lacks o (plain_code 0 (past 255 i)) e
-has_no_place o i refusal.Registers l = let q = past_over 255 i l in inr (inr (inr (omega (arith, q))))
-has_no_place o i refusal.Memory l = tt
+has_no_place o i refusal.Registers l = let q = past_over 255 i l in room refl (for_misfits (omega (arith, q)))
+has_no_place o i refusal.Memory l = memory refl
 
 -- an argument
 

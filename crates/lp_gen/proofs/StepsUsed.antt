@@ -101,7 +101,7 @@ seen_leads d a l v t e = go t (seen_listed a l v) (λ i. if e i then one_step a 
 
     go : (t : Bool) (x : Listed) → x ≡ (if t then one_step a (from_register v.register) else made) → Leads d (suc d) x.steps
     go true x e = subst (λ (x : Listed). Leads d (suc d) x.steps) (sym e) ((tt, tt), refl)
-    go false x e = subst (λ (x : Listed). Leads d (suc d) x.steps) (sym e) ((tt, tt, tt), refl)
+    go false x e = subst (λ (x : Listed). Leads d (suc d) x.steps) (sym e) ((tt, (tt, tt)), refl)
 
 found_leads : (d : ℕ) (a : Around) (l : ℕ) (o : Option Seen) → Leads d (suc d) (found_listed a l o).steps
 found_leads d a l None = ((tt, tt), refl)

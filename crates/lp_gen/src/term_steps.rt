@@ -46,7 +46,7 @@ fn apply(
     count: usize,
     made: &mut Vec<u16>,
 ) -> Result<(), RecordRefusal>
-    requires stacked { suc count ≤ length made.old.items }
+    requires { suc count ≤ length made.old.items }
     ensures code { OnOk result ((start : so_far.Emitter) (steps : List any_step.TermStep) → StepsPut bank.now start emitter.old steps made.old.items → StepsPut bank.now start emitter.new (steps ++ on.Apply count ∷ []) made.new.items) }
     ensures count { OnOk result (length made.new.items ≡ length made.old.items - count) }
     ensures uses { OnOk result (Uses emitter.old emitter.new (step_takes (apply_last count))) }
@@ -68,7 +68,7 @@ fn abstraction(
     of: TypeView,
     made: &mut Vec<u16>,
 ) -> Result<(), RecordRefusal>
-    requires stacked { 1 ≤ length made.old.items }
+    requires { 1 ≤ length made.old.items }
     ensures code { OnOk result ((start : so_far.Emitter) (steps : List any_step.TermStep) → StepsPut bank.now start emitter.old steps made.old.items → StepsPut bank.now start emitter.new (steps ++ on.Abstract of ∷ []) made.new.items) }
     ensures count { OnOk result (length made.new.items ≡ length made.old.items) }
     ensures uses { OnOk result (Uses emitter.old emitter.new (step_takes (abstract_last (read bank.now of)))) }
@@ -106,7 +106,7 @@ fn put_step<'b>(
     step: TermStep<'b>,
     made: &mut Vec<u16>,
 ) -> Result<(), RecordRefusal>
-    requires stacked { IsStacked (length made.old.items) (plain_step bank.now step) }
+    requires { IsStacked (length made.old.items) (plain_step bank.now step) }
     ensures code { OnOk result ((start : so_far.Emitter) (steps : List any_step.TermStep) → StepsPut bank.now start emitter.old steps made.old.items → StepsPut bank.now start emitter.new (steps ++ step.entry ∷ []) made.new.items) }
     ensures count { OnOk result (length made.new.items ≡ stack_behind (length made.old.items) (plain_step bank.now step.entry)) }
     ensures uses { OnOk result (Uses emitter.old emitter.new (step_takes (plain_step bank.now step.entry))) }
@@ -159,7 +159,7 @@ pub(crate) fn put_steps(
     emitter: &mut Emitter,
     steps: &[TermStep<'_>],
 ) -> Result<u16, RecordRefusal>
-    requires stacked { AreStacked 0 (map (plain_step bank.now) steps.now) }
+    requires { AreStacked 0 (map (plain_step bank.now) steps.now) }
     ensures code { IfOk result (λ register. TermOfSteps bank.now emitter.old emitter.new register steps.now) }
     ensures uses { OnOk result (Uses emitter.old emitter.new (steps_take (map (plain_step bank.now) steps.now))) }
     ensures lacks { IfErr result (Lacks emitter.old (steps_take (map (plain_step bank.now) steps.now))) }

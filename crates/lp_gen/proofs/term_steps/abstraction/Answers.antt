@@ -22,7 +22,7 @@ returns-clause-count c =
     let e = first_length 1 c.args.made.now.items in
     let f = ap length c.in_ok-push.ensures.items in
     let g = push_length c.take.new.registers.items c.in_ok-register.register in
-    omega (arith, d, e, f, g, c.requires.stacked)
+    omega (arith, d, e, f, g, c.requires)
 
 pub returns-clause-uses : goal.returns-clause-uses
 returns-clause-uses c = c.in_ok-register.ensures.uses

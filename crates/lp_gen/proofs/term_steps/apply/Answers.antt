@@ -24,16 +24,16 @@ returns-clause-count c =
     let e = first_length 1 c.take.new.registers.items in
     let f = ap length c.in_ok-push.ensures.items in
     let g = push_length c.take-2.new.registers.items c.in_ok-register.register in
-    omega (arith, a, b, d, e, f, g, c.requires.stacked)
+    omega (arith, a, b, d, e, f, g, c.requires)
 
 pub returns-clause-uses : goal.returns-clause-uses
 returns-clause-uses c =
-    let n : length c.in_ok-args.args.items ≡ c.args.count = ap length c.in_ok-args.ensures.taken ∙ last_length c.args.count c.args.made.now.items (omega (arith, c.requires.stacked)) in
+    let n : length c.in_ok-args.args.items ≡ c.args.count = ap length c.in_ok-args.ensures.taken ∙ last_length c.args.count c.args.made.now.items (omega (arith, c.requires)) in
     subst (λ k. Uses c.args.emitter.now c.put_application.new.emitter (step_takes (apply_last k))) n c.in_ok-register.ensures.uses
 
 pub returns-in_err-register-clause-lacks : goal.returns-in_err-register-clause-lacks
 returns-in_err-register-clause-lacks c =
-    let n : length c.in_ok-args.args.items ≡ c.args.count = ap length c.in_ok-args.ensures.taken ∙ last_length c.args.count c.args.made.now.items (omega (arith, c.requires.stacked)) in
+    let n : length c.in_ok-args.args.items ≡ c.args.count = ap length c.in_ok-args.ensures.taken ∙ last_length c.args.count c.args.made.now.items (omega (arith, c.requires)) in
     let e = c.in_err-register.field-0.0 in
     passed_up c.from_residual-in_err-register.result e (Lacks c.args.emitter.now (step_takes (apply_last c.args.count))) c.from_residual-in_err-register.ensures.1
     (subst (λ k. Lacks c.args.emitter.now (step_takes (apply_last k)) e) n c.in_err-register.ensures.lacks)

@@ -183,10 +183,10 @@ returns-in_err-abstraction-in-Abstract-clause-lacks c =
     passed_up c.from_residual-in_err-abstraction-in-Abstract.result e (Lacks c.args.emitter.now (step_takes (plain_step c.args.bank.now c.args.step))) c.from_residual-in_err-abstraction-in-Abstract.ensures.1
     (subst (λ s. Lacks c.args.emitter.now (step_takes (plain_step c.args.bank.now s)) e) (sym c.in-Abstract.is) c.in_err-abstraction-in-Abstract.ensures.lacks)
 
-pub apply-requires-clause-stacked : goal.apply-requires-clause-stacked
-apply-requires-clause-stacked c =
-    subst (λ s. IsStacked (length c.args.made.now.items) (plain_step c.args.bank.now s)) c.in-Apply.is c.requires.stacked
+pub apply-requires : goal.apply-requires
+apply-requires c =
+    subst (λ s. IsStacked (length c.args.made.now.items) (plain_step c.args.bank.now s)) c.in-Apply.is c.requires
 
-pub abstraction-requires-clause-stacked : goal.abstraction-requires-clause-stacked
-abstraction-requires-clause-stacked c =
-    subst (λ s. IsStacked (length c.args.made.now.items) (plain_step c.args.bank.now s)) c.in-Abstract.is c.requires.stacked
+pub abstraction-requires : goal.abstraction-requires
+abstraction-requires c =
+    subst (λ s. IsStacked (length c.args.made.now.items) (plain_step c.args.bank.now s)) c.in-Abstract.is c.requires

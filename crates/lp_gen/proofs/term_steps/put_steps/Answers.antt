@@ -39,13 +39,13 @@ returns-clause-uses c =
     ∙ (YieldsList-end (YieldsList-from_copied (YieldsList-from_slice c.args.steps.now cc)) c.loop-step.yielded _ c.loop-step.yielded_by _ _ c.in-None.is c.next.ensures.steps).0 in
     subst (λ l. Uses c.args.emitter.now c.loop-step.emitter (steps_take (map (plain_step c.args.bank.now) l))) whole c.loop-step.invariant.2
 
-pub put_step-requires-clause-stacked : goal.put_step-requires-clause-stacked
-put_step-requires-clause-stacked c =
+pub put_step-requires : goal.put_step-requires
+put_step-requires c =
     let road = YieldsList-from_copied (YieldsList-from_slice c.args.steps.now cc) in
     let turn = YieldsList-turn road c.loop-step.yielded _ c.loop-step.yielded_by _ _ c.in-Some.step c.in-Some.is c.next.ensures.steps in
     let so = YieldsList-so_far road c.loop-step.yielded _ c.loop-step.yielded_by in
     let here = part_of c.loop-step.yielded c.args.steps.now c.in-Some.step so turn in
-    subst (λ d. IsStacked d (plain_step c.args.bank.now c.in-Some.step)) (sym c.loop-step.invariant.1) (stacked_at c.args.bank.now 0 c.loop-step.yielded c.args.steps.now c.in-Some.step here c.requires.stacked)
+    subst (λ d. IsStacked d (plain_step c.args.bank.now c.in-Some.step)) (sym c.loop-step.invariant.1) (stacked_at c.args.bank.now 0 c.loop-step.yielded c.args.steps.now c.in-Some.step here c.requires)
 
 pub returns-in_err-put_step-clause-lacks : goal.returns-in_err-put_step-clause-lacks
 returns-in_err-put_step-clause-lacks c =

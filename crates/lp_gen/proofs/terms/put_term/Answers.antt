@@ -23,8 +23,8 @@ pub returns-clause-around : goal.returns-clause-around
 returns-clause-around c =
     c.in_ok-steps.ensures.around
 
-pub put_steps-requires-clause-stacked : goal.put_steps-requires-clause-stacked
-put_steps-requires-clause-stacked c =
+pub put_steps-requires : goal.put_steps-requires
+put_steps-requires c =
     let b = c.args.tables.bank.now in
     let steps : map (plain_step b) c.as_slice.result.now ≡ (listed (constant_function c.args.tables.bank.now c.args.tables.constants.now) [] (around_of c.args.tables.bank.now c.args.environment.now) (read c.args.tables.bank.now c.args.of) (tree c.args.tables.bank.now c.args.term.0)).steps = ap (map (plain_step b)) c.as_slice.ensures.value ∙ c.in_ok-steps.ensures.steps in
     subst (AreStacked 0) (sym steps) (listed_leads (constant_function c.args.tables.bank.now c.args.tables.constants.now) [] (around_of c.args.tables.bank.now c.args.environment.now) (read c.args.tables.bank.now c.args.of) (tree c.args.tables.bank.now c.args.term.0) 0).0
