@@ -27,8 +27,12 @@ loop-at-preserved c =
       | then-is_clause w ↦ w.place-is ∙ ap (λ t. if t then count - 1 - c.loop-at.at else c.loop-at.at) (sym w.if-is_clause.true)
       | else-is_clause w ↦ w.place-is ∙ ap (λ t. if t then count - 1 - c.loop-at.at else c.loop-at.at) (sym w.if-is_clause.false)
     ] in
-    places_then c.args.is_clause c.args.emitter.now c.loop-at.emitter c.make_place.new.emitter (around_of b c.args.environment.now) (around_of b c.loop-at.environment)
-    (around_of b c.make_place.new.environment) count c.loop-at.at c.if-is_clause.place c.loop-at.invariant c.in_ok-make_place.ensures.code c.loop-at-test.true at
+    (
+      places_then c.args.is_clause c.args.emitter.now c.loop-at.emitter c.make_place.new.emitter (around_of b c.args.environment.now) (around_of b c.loop-at.environment)
+          (around_of b c.make_place.new.environment) count c.loop-at.at c.if-is_clause.place c.loop-at.invariant.0 c.in_ok-make_place.ensures.code c.loop-at-test.true at,
+      unset_then c.args.emitter.now c.loop-at.emitter c.make_place.new.emitter (around_of b c.args.environment.now) (around_of b c.loop-at.environment) (around_of b c.make_place.new.environment)
+          c.loop-at.invariant.1 c.in_ok-make_place.ensures.uses,
+    )
 
 pub returns-clause-code : goal.returns-clause-code
 returns-clause-code c =
