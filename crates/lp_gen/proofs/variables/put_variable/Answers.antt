@@ -25,7 +25,7 @@ pub returns-in_err-register-clause-lacks : goal.returns-in_err-register-clause-l
 returns-in_err-register-clause-lacks c =
     let v = seen c.args.bank.now c.args.variable in
     let e = c.in_err-register.field-0.0 in
-    passed_up c.from_residual.result e (Lacks c.args.emitter.now (made_takes v)) c.from_residual-in_err-register.ensures.1
+    passed_up c.from_residual.result e (Lacks c.args.emitter.now (made_takes v)) c.from_residual.ensures.1
     (lacks_first (plain_code 5 0) c.in_err-register.ensures.lacks)
 
 pub returns-in_err-emit-clause-lacks : goal.returns-in_err-emit-clause-lacks
