@@ -164,17 +164,13 @@ mutual
   listed_same K C a b T (atom s) x = atom_same C a b s x
   listed_same K C a b T (abs c) x =
       abstracted_same (from_of T) (listed K (from_of T ∷ C) a (to_of T) c) (listed K (from_of T ∷ C) b (to_of T) c) (listed_same K (from_of T ∷ C) a b (to_of T) c x)
-  listed_same K C a b T (app t u) x = applied_same _ _ (argument_same K C a b t u x)
-
-  argument_same : (K : ℕ → List Ty → Ty) (C : List Ty) (a b : Around) (t u : Term) → IsAlike a b →
-      SameHeaded (with_argument (headed K C a t) (listed K C (headed K C a t).around (from_of (headed K C a t).function) u))
-      (with_argument (headed K C b t) (listed K C (headed K C b t).around (from_of (headed K C b t).function) u))
-  argument_same K C a b t u x =
+  listed_same K C a b T (app t u) x =
       let h = headed K C a t in
       let k = headed K C b t in
       let s = headed_same K C a b t x in
-      with_argument_same h k (listed K C h.around (from_of h.function) u) (listed K C k.around (from_of k.function) u) s
-      (subst (λ F. SameListed (listed K C h.around (from_of h.function) u) (listed K C k.around (from_of F) u)) s.function (listed_same K C h.around k.around (from_of h.function) u s.around))
+      applied_same (with_argument h (listed K C h.around (from_of h.function) u)) (with_argument k (listed K C k.around (from_of k.function) u))
+      (with_argument_same h k (listed K C h.around (from_of h.function) u) (listed K C k.around (from_of k.function) u) s
+      (subst (λ F. SameListed (listed K C h.around (from_of h.function) u) (listed K C k.around (from_of F) u)) s.function (listed_same K C h.around k.around (from_of h.function) u s.around)))
 
   headed_same : (K : ℕ → List Ty → Ty) (C : List Ty) (a b : Around) (t : Term) → IsAlike a b → SameHeaded (headed K C a t) (headed K C b t)
   headed_same K C a b (index i) x = as_head_same (index_type C a i) (index_type C b i) (index_listed C a i) (index_listed C b i) (index_type_same C a b i x) (index_same C a b i x)
@@ -183,7 +179,12 @@ mutual
       let l = listed K (o_type ∷ C) a o_type c in
       let m = listed K (o_type ∷ C) b o_type c in
       as_head_same o_type o_type (abstracted o_type l) (abstracted o_type m) refl (abstracted_same o_type l m (listed_same K (o_type ∷ C) a b o_type c x))
-  headed_same K C a b (app t u) x = argument_same K C a b t u x
+  headed_same K C a b (app t u) x =
+      let h = headed K C a t in
+      let k = headed K C b t in
+      let s = headed_same K C a b t x in
+      with_argument_same h k (listed K C h.around (from_of h.function) u) (listed K C k.around (from_of k.function) u) s
+      (subst (λ F. SameListed (listed K C h.around (from_of h.function) u) (listed K C k.around (from_of F) u)) s.function (listed_same K C h.around k.around (from_of h.function) u s.around))
 
 -- terms, arguments, atoms
 

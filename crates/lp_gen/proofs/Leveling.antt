@@ -80,7 +80,7 @@ module _ (b : Nodes) where
   atom_leveled n l l' g t ts ts' is v e top total s =
       let x = s.near in
       subst (λ k. IsLeveled b n top total l' k) (sym e)
-          (gives_way n l l' 0 (Atomic (tree b t.0)) g ts ts (ap (goal_of b) is ∙ atom_is b t) (omega (arith, x, v)) (omega (arith, v)) (λ m h le. h) refl top total s)
+      (gives_way n l l' 0 (Atomic (tree b t.0)) g ts ts (ap (goal_of b) is ∙ atom_is b t) (omega (arith, x, v)) (omega (arith, v)) (λ m h le. h) refl top total s)
 
   pub cut_leveled : (n l l' : ℕ) (g : Goal) (ts ts' : List Todo) → g ≡ code.Cut → l' ≡ l → ts' ≡ ts → StaysLeveled b n l l' (due_goals (g ∷ []) ∷ ts) ts'
   cut_leveled n l l' g ts ts' is v e top total s =
@@ -94,24 +94,24 @@ module _ (b : Nodes) where
       let p = ap (λ k. goals_bind (goals_of b k)) a in
       let q = ap (λ k. goals_bind (goals_of b k)) c in
       subst (λ k. IsLeveled b n top total l' k) (sym e)
-          (gives_way n l l' 0 (Either (goals_of b left.items) (goals_of b right.items)) g ts (due_goals ls ∷ due_end s1 l ∷ due_goals rs ∷ due_end s2 l ∷ ts) (ap (goal_of b) is ∙ either_is b left right)
-              (omega (arith, x, v)) (omega (arith, v)) (λ m h le. (le, (le, h))) (omega (arith, p, q)) top total s)
+      (gives_way n l l' 0 (Either (goals_of b left.items) (goals_of b right.items)) g ts (due_goals ls ∷ due_end s1 l ∷ due_goals rs ∷ due_end s2 l ∷ ts) (ap (goal_of b) is ∙ either_is b left right)
+      (omega (arith, x, v)) (omega (arith, v)) (λ m h le. (le, (le, h))) (omega (arith, p, q)) top total s)
 
   pub some_leveled : (n l l' : ℕ) (g : Goal) (T : TypeId) (list : Vec Goal Global) (ls : List Goal) (ts ts' : List Todo) → g ≡ code.Some T list → ls ≡ list.items → l' ≤ n + 65535 → l' ≡ l + 1 →
       ts' ≡ due_goals ls ∷ due_level l ∷ ts → StaysLeveled b n l l' (due_goals (g ∷ []) ∷ ts) ts'
   some_leveled n l l' g T list ls ts ts' is a near v e top total s =
       let p = ap (λ k. goals_bind (goals_of b k)) a in
       subst (λ k. IsLeveled b n top total l' k) (sym e)
-          (gives_way n l l' 1 (Exists (type_tree b T.0) (goals_of b list.items)) g ts (due_goals ls ∷ due_level l ∷ ts) (ap (goal_of b) is ∙ some_is b T list) near v (λ m h le. (le, h))
-              (omega (arith, p)) top total s)
+      (gives_way n l l' 1 (Exists (type_tree b T.0) (goals_of b list.items)) g ts (due_goals ls ∷ due_level l ∷ ts) (ap (goal_of b) is ∙ some_is b T list) near v (λ m h le. (le, h))
+      (omega (arith, p)) top total s)
 
   pub all_leveled : (n l l' : ℕ) (g : Goal) (T : TypeId) (list : Vec Goal Global) (ls : List Goal) (s1 : Step) (ts ts' : List Todo) → g ≡ code.All T list → ls ≡ list.items → l' ≤ n + 65535 → l' ≡ l + 1 →
       ts' ≡ due_goals ls ∷ due_end s1 l ∷ ts → StaysLeveled b n l l' (due_goals (g ∷ []) ∷ ts) ts'
   all_leveled n l l' g T list ls s1 ts ts' is a near v e top total s =
       let p = ap (λ k. goals_bind (goals_of b k)) a in
       subst (λ k. IsLeveled b n top total l' k) (sym e)
-          (gives_way n l l' 1 (Forall (type_tree b T.0) (goals_of b list.items)) g ts (due_goals ls ∷ due_end s1 l ∷ ts) (ap (goal_of b) is ∙ all_is b T list) near v (λ m h le. (le, h))
-              (omega (arith, p)) top total s)
+      (gives_way n l l' 1 (Forall (type_tree b T.0) (goals_of b list.items)) g ts (due_goals ls ∷ due_end s1 l ∷ ts) (ap (goal_of b) is ∙ all_is b T list) near v (λ m h le. (le, h))
+      (omega (arith, p)) top total s)
 
   pub assume_leveled : (n l l' : ℕ) (g : Goal) (cs : Vec Clause Global) (list : Vec Goal Global) (ls : List Goal) (s1 : Step) (ts ts' : List Todo) → g ≡ code.Assume cs list → ls ≡ list.items →
       l' ≡ l → ts' ≡ due_goals ls ∷ due_end s1 l ∷ ts → StaysLeveled b n l l' (due_goals (g ∷ []) ∷ ts) ts'
@@ -120,8 +120,8 @@ module _ (b : Nodes) where
       let p = ap (λ k. goals_bind (goals_of b k)) a in
       let r = ap goal_binds (assume_is b cs list) in
       subst (λ k. IsLeveled b n top total l' k) (sym e)
-          (gives_way n l l' 0 (goal_of b (code.Assume cs list)) g ts (due_goals ls ∷ due_end s1 l ∷ ts) (ap (goal_of b) is) (omega (arith, x, v)) (omega (arith, v)) (λ m h le. (le, h))
-              (omega (arith, p, r)) top total s)
+      (gives_way n l l' 0 (goal_of b (code.Assume cs list)) g ts (due_goals ls ∷ due_end s1 l ∷ ts) (ap (goal_of b) is) (omega (arith, x, v)) (omega (arith, v)) (λ m h le. (le, h))
+      (omega (arith, p, r)) top total s)
 
   pub not_leveled : (n l l' : ℕ) (g : Goal) (list : Vec Goal Global) (ls : List Goal) (s1 : Step) (ts ts' : List Todo) → g ≡ code.Not list → ls ≡ list.items →
       l' ≡ l → ts' ≡ due_goals ls ∷ due_end s1 l ∷ ts → StaysLeveled b n l l' (due_goals (g ∷ []) ∷ ts) ts'
@@ -130,8 +130,8 @@ module _ (b : Nodes) where
       let p = ap (λ k. goals_bind (goals_of b k)) a in
       let r = ap goal_binds (not_is b list) in
       subst (λ k. IsLeveled b n top total l' k) (sym e)
-          (gives_way n l l' 0 (goal_of b (code.Not list)) g ts (due_goals ls ∷ due_end s1 l ∷ ts) (ap (goal_of b) is) (omega (arith, x, v)) (omega (arith, v)) (λ m h le. (le, h))
-              (omega (arith, p, r)) top total s)
+      (gives_way n l l' 0 (goal_of b (code.Not list)) g ts (due_goals ls ∷ due_end s1 l ∷ ts) (ap (goal_of b) is) (omega (arith, x, v)) (omega (arith, v)) (λ m h le. (le, h))
+      (omega (arith, p, r)) top total s)
 
   -- and what fits
 
@@ -152,29 +152,29 @@ module _ (b : Nodes) where
       ls ≡ left.items → rs ≡ right.items → ts' ≡ due_goals ls ∷ due_end s1 l ∷ due_goals rs ∷ due_end s2 l ∷ ts → Spreads b l us us' (due_goals (g ∷ []) ∷ ts) ts'
   either_spreads l us us' g left right ls rs s1 s2 ts ts' u is a c e =
       none_due l us us' (due_goals (g ∷ []) ∷ ts) ts' u (λ h.
-          let x = goal_fits g (Either (goals_of b left.items) (goals_of b right.items)) ts (ap (goal_of b) is ∙ either_is b left right) h in
-          subst (TodoFits b) (sym e) (subst (λ k. GoalsFit (goals_of b k)) (sym a) x.0.0, (subst (λ k. GoalsFit (goals_of b k)) (sym c) x.0.1, x.1)))
+      let x = goal_fits g (Either (goals_of b left.items) (goals_of b right.items)) ts (ap (goal_of b) is ∙ either_is b left right) h in
+      subst (TodoFits b) (sym e) (subst (λ k. GoalsFit (goals_of b k)) (sym a) x.0.0, (subst (λ k. GoalsFit (goals_of b k)) (sym c) x.0.1, x.1)))
 
   pub some_spreads : (l : ℕ) (us us' : List Due) (g : Goal) (T : TypeId) (list : Vec Goal Global) (ls : List Goal) (ts ts' : List Todo) → us' ≡ us → g ≡ code.Some T list → ls ≡ list.items →
       ts' ≡ due_goals ls ∷ due_level l ∷ ts → Spreads b l us us' (due_goals (g ∷ []) ∷ ts) ts'
   some_spreads l us us' g T list ls ts ts' u is a e =
       none_due l us us' (due_goals (g ∷ []) ∷ ts) ts' u (λ h.
-          let x = goal_fits g (Exists (type_tree b T.0) (goals_of b list.items)) ts (ap (goal_of b) is ∙ some_is b T list) h in
-          subst (TodoFits b) (sym e) (subst (λ k. GoalsFit (goals_of b k)) (sym a) x.0, x.1))
+      let x = goal_fits g (Exists (type_tree b T.0) (goals_of b list.items)) ts (ap (goal_of b) is ∙ some_is b T list) h in
+      subst (TodoFits b) (sym e) (subst (λ k. GoalsFit (goals_of b k)) (sym a) x.0, x.1))
 
   pub all_spreads : (l : ℕ) (us us' : List Due) (g : Goal) (T : TypeId) (list : Vec Goal Global) (ls : List Goal) (s1 : Step) (ts ts' : List Todo) → us' ≡ us → g ≡ code.All T list → ls ≡ list.items →
       ts' ≡ due_goals ls ∷ due_end s1 l ∷ ts → Spreads b l us us' (due_goals (g ∷ []) ∷ ts) ts'
   all_spreads l us us' g T list ls s1 ts ts' u is a e =
       none_due l us us' (due_goals (g ∷ []) ∷ ts) ts' u (λ h.
-          let x = goal_fits g (Forall (type_tree b T.0) (goals_of b list.items)) ts (ap (goal_of b) is ∙ all_is b T list) h in
-          subst (TodoFits b) (sym e) (subst (λ k. GoalsFit (goals_of b k)) (sym a) x.0, x.1))
+      let x = goal_fits g (Forall (type_tree b T.0) (goals_of b list.items)) ts (ap (goal_of b) is ∙ all_is b T list) h in
+      subst (TodoFits b) (sym e) (subst (λ k. GoalsFit (goals_of b k)) (sym a) x.0, x.1))
 
   pub not_spreads : (l : ℕ) (us us' : List Due) (g : Goal) (list : Vec Goal Global) (ls : List Goal) (s1 : Step) (ts ts' : List Todo) → us' ≡ us → g ≡ code.Not list → ls ≡ list.items →
       ts' ≡ due_goals ls ∷ due_end s1 l ∷ ts → Spreads b l us us' (due_goals (g ∷ []) ∷ ts) ts'
   not_spreads l us us' g list ls s1 ts ts' u is a e =
       none_due l us us' (due_goals (g ∷ []) ∷ ts) ts' u (λ h.
-          let x = subst GoalFits (not_is b list) (goal_fits g (goal_of b (code.Not list)) ts (ap (goal_of b) is) h).0 in
-          subst (TodoFits b) (sym e) (subst (λ k. GoalsFit (goals_of b k)) (sym a) x, h.1))
+      let x = subst GoalFits (not_is b list) (goal_fits g (goal_of b (code.Not list)) ts (ap (goal_of b) is) h).0 in
+      subst (TodoFits b) (sym e) (subst (λ k. GoalsFit (goals_of b k)) (sym a) x, h.1))
 
   -- the clauses of an assumption
 
@@ -191,7 +191,7 @@ module _ (b : Nodes) where
       let x = subst (λ F. ClausesFit (clauses F (clauses_of b cs))) (clause_is b c) f in
       let le = x.0 in
       let here : OriginFits b (origin.Clause h.0.0) =
-          subst (λ (k : Clause). (length k.vars.items + goals_bind (goals_of b k.body.items) ≤ 65535) × GoalsFit (goals_of b k.body.items)) (sym h.0.1) (omega (arith, le, many), x.1) in
+      subst (λ (k : Clause). (length k.vars.items + goals_bind (goals_of b k.body.items) ≤ 65535) × GoalsFit (goals_of b k.body.items)) (sym h.0.1) (omega (arith, le, many), x.1) in
       All-cons (DueFits b) u us (subst (OriginFits b) (sym h.0.2) here) (due_fit n d cs us h.1 x.2)
 
   pub assume_spreads : (l : ℕ) (us us' us2 : List Due) (xs xs' : List Assumption) (n : ℕ) (g : Goal) (cs : Vec Clause Global) (list : Vec Goal Global) (ds : List Clause) (ls : List Goal) (s1 : Step)
@@ -224,10 +224,10 @@ module _ (b : Nodes) where
       StaysLeveled b n l l (todo_of t ∷ todos old) (due_goals (g ∷ []) ∷ todos mid)
   split_level n l t gs rest g old mid e f m top total s =
       let z : IsLeveled b n top total l (due_goals (g ∷ rest.now) ∷ todos old) =
-          subst (λ k. IsLeveled b n top total l (due_goals k ∷ todos old)) f (subst (λ (u : Task). IsLeveled b n top total l (todo_of u ∷ todos old)) e s) in
+      subst (λ k. IsLeveled b n top total l (due_goals k ∷ todos old)) f (subst (λ (u : Task). IsLeveled b n top total l (todo_of u ∷ todos old)) e s) in
       let r = z.rest in
       subst (λ k. IsLeveled b n top total l (due_goals (g ∷ []) ∷ k)) (sym (todos_push old mid (task.Goals rest) m))
-          (record { near = z.near; ends_near = z.ends_near; met = z.met; level_met = z.level_met; ends_met = z.ends_met; rest = omega (arith, r) })
+      (record { near = z.near; ends_near = z.ends_near; met = z.met; level_met = z.level_met; ends_met = z.ends_met; rest = omega (arith, r) })
 
   pub first_leveled : (n n' l l' : ℕ) (t : Task) (gs rest : Bor (List Goal)) (g : Goal) (old mid : List Task) (ts' : List Todo) → t ≡ task.Goals gs → gs.now ≡ g ∷ rest.now →
       mid ≡ old ++ task.Goals rest ∷ [] → StaysLeveled b n l l' (due_goals (g ∷ []) ∷ todos mid) ts' → StaysLeveled b n l l' (todo_of t ∷ todos old) ts'

@@ -6,6 +6,7 @@ mod TermsUsed
 mod AtomsUsed
 mod HeadUsed
 mod Alike
+mod Worked
 mod Works
 mod TypeWorks
 mod TypePut

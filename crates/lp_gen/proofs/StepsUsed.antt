@@ -62,7 +62,7 @@ steps_lack b o m xs all x e r u p =
     let ss = map (plain_step b) xs in
     let ts = map (plain_step b) r.0 in
     let whole : steps_take (map (plain_step b) all) ≡ both (steps_take ss) (both (step_takes (plain_step b x)) (steps_take ts)) =
-        ap steps_take (ap (map (plain_step b)) r.1 ∙ map-append (plain_step b) xs (x ∷ r.0)) ∙ steps_joined ss (plain_step b x ∷ ts) in
+    ap steps_take (ap (map (plain_step b)) r.1 ∙ map-append (plain_step b) xs (x ∷ r.0)) ∙ steps_joined ss (plain_step b x ∷ ts) in
     let a = both (steps_take ss) (step_takes (plain_step b x)) in
     let c = both (steps_take ss) (both (step_takes (plain_step b x)) (steps_take ts)) in
     let most : AtMost a c = record { types = omega arith; terms = omega arith; bytes = omega arith; misfits = omega arith } in

@@ -62,13 +62,12 @@ unset_marked (w ∷ vs) (suc i) v e f =
     let z = unset_marked vs i v e f in
     same_amount _ _ (let x = ap (λ a. a.types) z in omega (arith, x)) (let x = ap (λ a. a.terms) z in omega (arith, x)) (let x = ap (λ a. a.bytes) z in omega (arith, x)) (let x = ap (λ a. a.misfits) z in omega (arith, x))
 
-
 pub unset_less : (a b : Around) (l : ℕ) (v : Seen) → a.base ≤ l → at_level a l ≡ Some v → v.is_set ≡ false → b ≡ set_level a l → both (made_takes v) (unset_take b.own) ≡ unset_take a.own
 unset_less a b l v le at f e =
     let t : nat_le a.base l ≡ true = le-leb a.base l le in
     let got : slice_get a.own (l - a.base) ≡ Some v = sym (ap (λ c. if c then slice_get a.own (l - a.base) else a.captured l) t) ∙ at in
     let set : (set_level a l).own ≡ marked a.own (l - a.base) =
-        ap (λ c. (if c then record { own = marked a.own (l - a.base); base = a.base; captured = a.captured } else a).own) t in
+    ap (λ c. (if c then record { own = marked a.own (l - a.base); base = a.base; captured = a.captured } else a).own) t in
     ap (λ (x : Around). both (made_takes v) (unset_take x.own)) e ∙ ap (λ o. both (made_takes v) (unset_take o)) set ∙ unset_marked a.own (l - a.base) v got f
 
 pub nothing_unset : (e : Emitter) (a : Around) → UsesUnset e e a a
@@ -111,14 +110,14 @@ all_set (v ∷ vs) f =
     let z : unset_takes v ≡ nothing = ap (λ b. if b then nothing else made_takes v) (f 0 v refl) in
     let r = all_set vs (λ p w e. f (suc p) w e) in
     same_amount _ _ (let s = ap (λ a. a.types) z in let t = ap (λ a. a.types) r in omega (arith, s, t)) (let s = ap (λ a. a.terms) z in let t = ap (λ a. a.terms) r in omega (arith, s, t))
-        (let s = ap (λ a. a.bytes) z in let t = ap (λ a. a.bytes) r in omega (arith, s, t)) (let s = ap (λ a. a.misfits) z in let t = ap (λ a. a.misfits) r in omega (arith, s, t))
+    (let s = ap (λ a. a.bytes) z in let t = ap (λ a. a.bytes) r in omega (arith, s, t)) (let s = ap (λ a. a.misfits) z in let t = ap (λ a. a.misfits) r in omega (arith, s, t))
 
 pub unset_done : (o n : Emitter) (a b : Around) → UsesUnset o n a b → ((p : ℕ) → IsSetAt b p) → Uses o n (unset_take a.own)
 unset_done o n a b x set =
     let z = all_set b.own set in
     let q = x.left in
     uses_same (same_amount _ _ (let s = ap (λ a. a.types) z in let t = ap (λ a. a.types) q in omega (arith, s, t)) (let s = ap (λ a. a.terms) z in let t = ap (λ a. a.terms) q in omega (arith, s, t))
-        (let s = ap (λ a. a.bytes) z in let t = ap (λ a. a.bytes) q in omega (arith, s, t)) (let s = ap (λ a. a.misfits) z in let t = ap (λ a. a.misfits) q in omega (arith, s, t))) x.used
+    (let s = ap (λ a. a.bytes) z in let t = ap (λ a. a.bytes) q in omega (arith, s, t)) (let s = ap (λ a. a.misfits) z in let t = ap (λ a. a.misfits) q in omega (arith, s, t))) x.used
 
 -- the level of a place is not below the first
 pub base_below : (b p l : ℕ) → b < 2 ^ 64 → l ≡ min (b + p) (2 ^ 64 - 1) → b ≤ l

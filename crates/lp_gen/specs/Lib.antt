@@ -2,4 +2,5 @@ pub mod Sources
 pub mod Limits
 pub mod Registers
 pub mod Contract
+pub mod Worked
 pub mod inner

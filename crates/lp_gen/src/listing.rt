@@ -10,11 +10,11 @@ ghost use Rattle.lp_gen.specs.inner.Tasks.{Adds, Course, course, act, done};
 ghost use Rattle.lp_gen.specs.declared.listing.Task.TheVariants as on;
 
 use crate::environment::Environment;
-use lp_base::Memory;
 use crate::standard::{Function, constant_type};
 use crate::tables::Tables;
 use crate::term_steps::TermStep;
 use crate::types::TypeView;
+use lp_base::Memory;
 use lp_term::{Bank, Spine, TermId, TermNode, spine_of};
 use std::alloc::Global;
 

@@ -48,7 +48,7 @@ returns-in-Const-clause-uses c =
     let n : length c.in_ok-types-in-Const.types.items ≡ length Ts = c.in_ok-types-in-Const.ensures.count ∙ sym (map_length (λ i. type_tree b i.0) c.in-Const.types.now) in
     let m : length c.in_ok-terms-in-Const.terms.items ≡ length ts = c.in_ok-terms-in-Const.ensures.count ∙ sym (map_length f c.as_slice-args.result.now) ∙ ap length args in
     let call : call_takes c.in-Const.number (length c.in_ok-types-in-Const.types.items) (length c.in_ok-terms-in-Const.terms.items) ≡ call_takes c.in-Const.number (length Ts) (length ts) =
-        (λ i. call_takes c.in-Const.number (n i) (m i)) in
+    (λ i. call_takes c.in-Const.number (n i) (m i)) in
     let said : Uses c.put_types.new.emitter c.put_arguments.new.emitter (terms_take (constant_function c.args.tables.bank.now c.args.tables.constants.now) (around_of c.args.tables.bank.now c.args.environment.now) H ts) = uses_same (ap (terms_take (constant_function c.args.tables.bank.now c.args.tables.constants.now) (around_of c.args.tables.bank.now c.args.environment.now) H) args) c.in_ok-terms-in-Const.ensures.uses in
     uses_same (sym all) (uses_both c.in_ok-types-in-Const.ensures.uses (uses_both said (uses_same call c.in_ok-put_call-in-Const.ensures.uses)))
 
@@ -89,7 +89,7 @@ returns-in_err-put_call-in-Const-clause-lacks c =
     let n : length c.in_ok-types-in-Const.types.items ≡ length Ts = c.in_ok-types-in-Const.ensures.count ∙ sym (map_length (λ i. type_tree b i.0) c.in-Const.types.now) in
     let m : length c.in_ok-terms-in-Const.terms.items ≡ length ts = c.in_ok-terms-in-Const.ensures.count ∙ sym (map_length f c.as_slice-args.result.now) ∙ ap length args in
     let call : call_takes c.in-Const.number (length c.in_ok-types-in-Const.types.items) (length c.in_ok-terms-in-Const.terms.items) ≡ call_takes c.in-Const.number (length Ts) (length ts) =
-        (λ i. call_takes c.in-Const.number (n i) (m i)) in
+    (λ i. call_takes c.in-Const.number (n i) (m i)) in
     let said : Uses c.put_types.new.emitter c.put_arguments.new.emitter (terms_take (constant_function c.args.tables.bank.now c.args.tables.constants.now) (around_of c.args.tables.bank.now c.args.environment.now) H ts) = uses_same (ap (terms_take (constant_function c.args.tables.bank.now c.args.tables.constants.now) (around_of c.args.tables.bank.now c.args.environment.now) H) args) c.in_ok-terms-in-Const.ensures.uses in
     let e = c.in_err-put_call-in-Const.field-0.0 in
     passed_up c.from_residual-in_err-put_call-in-Const.result e (Lacks c.args.emitter.now (atom_takes (constant_function c.args.tables.bank.now c.args.tables.constants.now) (around_of c.args.tables.bank.now c.args.environment.now) (tree c.args.tables.bank.now c.args.atom.0))) c.from_residual-in_err-put_call-in-Const.ensures.1
@@ -100,8 +100,8 @@ returns-clause-uses c =
     let b = c.args.tables.bank.now in
     let head = c.in_ok-spine.spine.head in
     let all = other_atom_takes (constant_function c.args.tables.bank.now c.args.tables.constants.now) (around_of c.args.tables.bank.now c.args.environment.now) (tree c.args.tables.bank.now c.args.atom.0)
-        (other_goal b (length b.types) head.0 c.term_node.result (tree b head.0) (map (λ (t : TermId). tree b t.0) c.in_ok-spine.spine.args.items) (tree c.args.tables.bank.now c.args.atom.0) c.in_default.not-Const
-        c.term_node.ensures.older c.term_node.ensures.tree c.in_ok-spine.ensures.head c.in_ok-spine.ensures.tree) in
+    (other_goal b (length b.types) head.0 c.term_node.result (tree b head.0) (map (λ (t : TermId). tree b t.0) c.in_ok-spine.spine.args.items) (tree c.args.tables.bank.now c.args.atom.0) c.in_default.not-Const
+    c.term_node.ensures.older c.term_node.ensures.tree c.in_ok-spine.ensures.head c.in_ok-spine.ensures.tree) in
     uses_same (sym all) (uses_both c.in_ok-register-in_default.ensures.uses c.in_ok-put_term_call-in_default.ensures.uses)
 
 pub returns-in_err-register-in_default-clause-lacks : goal.returns-in_err-register-in_default-clause-lacks
@@ -109,8 +109,8 @@ returns-in_err-register-in_default-clause-lacks c =
     let b = c.args.tables.bank.now in
     let head = c.in_ok-spine.spine.head in
     let all = other_atom_takes (constant_function c.args.tables.bank.now c.args.tables.constants.now) (around_of c.args.tables.bank.now c.args.environment.now) (tree c.args.tables.bank.now c.args.atom.0)
-        (other_goal b (length b.types) head.0 c.term_node.result (tree b head.0) (map (λ (t : TermId). tree b t.0) c.in_ok-spine.spine.args.items) (tree c.args.tables.bank.now c.args.atom.0) c.in_default.not-Const
-        c.term_node.ensures.older c.term_node.ensures.tree c.in_ok-spine.ensures.head c.in_ok-spine.ensures.tree) in
+    (other_goal b (length b.types) head.0 c.term_node.result (tree b head.0) (map (λ (t : TermId). tree b t.0) c.in_ok-spine.spine.args.items) (tree c.args.tables.bank.now c.args.atom.0) c.in_default.not-Const
+    c.term_node.ensures.older c.term_node.ensures.tree c.in_ok-spine.ensures.head c.in_ok-spine.ensures.tree) in
     let e = c.in_err-register-in_default.field-0.0 in
     passed_up c.from_residual-in_err-register-in_default.result e (Lacks c.args.emitter.now (atom_takes (constant_function c.args.tables.bank.now c.args.tables.constants.now) (around_of c.args.tables.bank.now c.args.environment.now) (tree c.args.tables.bank.now c.args.atom.0))) c.from_residual-in_err-register-in_default.ensures.1
     (subst (λ x. Lacks c.args.emitter.now x e) (sym all) (lacks_first (plain_code 3 0) c.in_err-register-in_default.ensures.lacks))
@@ -120,8 +120,8 @@ returns-in_err-put_term_call-in_default-clause-lacks c =
     let b = c.args.tables.bank.now in
     let head = c.in_ok-spine.spine.head in
     let all = other_atom_takes (constant_function c.args.tables.bank.now c.args.tables.constants.now) (around_of c.args.tables.bank.now c.args.environment.now) (tree c.args.tables.bank.now c.args.atom.0)
-        (other_goal b (length b.types) head.0 c.term_node.result (tree b head.0) (map (λ (t : TermId). tree b t.0) c.in_ok-spine.spine.args.items) (tree c.args.tables.bank.now c.args.atom.0) c.in_default.not-Const
-        c.term_node.ensures.older c.term_node.ensures.tree c.in_ok-spine.ensures.head c.in_ok-spine.ensures.tree) in
+    (other_goal b (length b.types) head.0 c.term_node.result (tree b head.0) (map (λ (t : TermId). tree b t.0) c.in_ok-spine.spine.args.items) (tree c.args.tables.bank.now c.args.atom.0) c.in_default.not-Const
+    c.term_node.ensures.older c.term_node.ensures.tree c.in_ok-spine.ensures.head c.in_ok-spine.ensures.tree) in
     let e = c.in_err-put_term_call-in_default.field-0.0 in
     passed_up c.from_residual-in_err-put_term_call-in_default.result e (Lacks c.args.emitter.now (atom_takes (constant_function c.args.tables.bank.now c.args.tables.constants.now) (around_of c.args.tables.bank.now c.args.environment.now) (tree c.args.tables.bank.now c.args.atom.0))) c.from_residual-in_err-put_term_call-in_default.ensures.1
     (subst (λ x. Lacks c.args.emitter.now x e) (sym all) (lacks_then c.in_ok-register-in_default.ensures.uses c.in_err-put_term_call-in_default.ensures.lacks))

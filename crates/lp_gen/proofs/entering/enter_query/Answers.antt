@@ -15,10 +15,10 @@ loop-of-init c = (no_query c.args.emitter.now c.args.environment.now, refl)
 
 pub loop-of-preserved : goal.loop-of-preserved
 loop-of-preserved c = (
-    query_more c.args.emitter.now c.loop-of.emitter c.new_register.new.self c.args.environment.now c.loop-of.environment c.push.new.self
-    c.loop-of.yielded c.in-Some.of c.in_ok-register.register c.loop-of.invariant.0
-    c.in_ok-register.ensures.register c.in_ok-register.ensures.code c.in_ok-register.ensures.types c.in_ok-register.ensures.registers c.in_ok-push.ensures,
-    c.in_ok-register.ensures.place ∙ c.loop-of.invariant.1,
+  query_more c.args.emitter.now c.loop-of.emitter c.new_register.new.self c.args.environment.now c.loop-of.environment c.push.new.self
+      c.loop-of.yielded c.in-Some.of c.in_ok-register.register c.loop-of.invariant.0
+      c.in_ok-register.ensures.register c.in_ok-register.ensures.code c.in_ok-register.ensures.types c.in_ok-register.ensures.registers c.in_ok-push.ensures,
+  c.in_ok-register.ensures.place ∙ c.loop-of.invariant.1,
 )
 
 pub returns-clause-code : goal.returns-clause-code

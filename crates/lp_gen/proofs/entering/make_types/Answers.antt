@@ -13,11 +13,11 @@ loop-init c = (no_types_made c.args.emitter.now 0 refl, uses_same (same_amount _
 
 pub loop-preserved : goal.loop-preserved
 loop-preserved c = (
-    type_made_more c.args.emitter.now c.loop.emitter c.new_type.new.self c.emit.new.self c.loop.counter c.in_ok-register.register c.loop.invariant.0 c.in_ok-register.ensures.register
-    c.in_ok-register.ensures.code c.in_ok-register.ensures.types c.in_ok-register.ensures.registers c.in_ok-emit.ensures.code c.in_ok-emit.ensures.types c.in_ok-emit.ensures.registers,
-    subst (λ n. Uses c.args.emitter.now c.emit.new.self (own_types_take n)) (let z : suc c.loop.counter ≡ c.loop.counter + 1 = omega arith in z)
-        (types_more c.args.emitter.now c.loop.emitter c.new_type.new.self c.emit.new.self c.loop.counter c.in_ok-register.register c.loop.invariant.1 c.in_ok-register.ensures.types c.in_ok-register.ensures.registers
-        c.in_ok-register.ensures.place c.in_ok-emit.ensures.types c.in_ok-emit.ensures.registers c.in_ok-emit.ensures.place),
+  type_made_more c.args.emitter.now c.loop.emitter c.new_type.new.self c.emit.new.self c.loop.counter c.in_ok-register.register c.loop.invariant.0 c.in_ok-register.ensures.register
+      c.in_ok-register.ensures.code c.in_ok-register.ensures.types c.in_ok-register.ensures.registers c.in_ok-emit.ensures.code c.in_ok-emit.ensures.types c.in_ok-emit.ensures.registers,
+  subst (λ n. Uses c.args.emitter.now c.emit.new.self (own_types_take n)) (let z : suc c.loop.counter ≡ c.loop.counter + 1 = omega arith in z)
+      (types_more c.args.emitter.now c.loop.emitter c.new_type.new.self c.emit.new.self c.loop.counter c.in_ok-register.register c.loop.invariant.1 c.in_ok-register.ensures.types c.in_ok-register.ensures.registers
+      c.in_ok-register.ensures.place c.in_ok-emit.ensures.types c.in_ok-emit.ensures.registers c.in_ok-emit.ensures.place),
 )
 
 pub returns-clause-code : goal.returns-clause-code

@@ -35,13 +35,13 @@ loop-at-preserved c =
     let there = index_or xs i (record { 0 = 0 }) y c.loop-at-test.true in
     let of : read c.args.tables.bank.now c.next-of.result.0 ≡ from_of (left_by (head_type (constant_function c.args.tables.bank.now c.args.tables.constants.now) [] (around_of c.args.tables.bank.now c.args.environment.now) (tree c.args.tables.bank.now c.args.head.0)) i) = c.next-of.ensures.from ∙ ap from_of c.loop-at.invariant.1 in
     let here : argument_takes (constant_function c.args.tables.bank.now c.args.tables.constants.now) (around_of c.args.tables.bank.now c.loop-at.environment) (read c.args.tables.bank.now c.next-of.result.0) (tree c.args.tables.bank.now y.0)
-        ≡ argument_takes (constant_function c.args.tables.bank.now c.args.tables.constants.now) (behind_arguments (constant_function c.args.tables.bank.now c.args.tables.constants.now) (around_of c.args.tables.bank.now c.args.environment.now) (head_type (constant_function c.args.tables.bank.now c.args.tables.constants.now) [] (around_of c.args.tables.bank.now c.args.environment.now) (tree c.args.tables.bank.now c.args.head.0)) (map (λ (t : TermId). tree c.args.tables.bank.now t.0) (take i xs))) (from_of (left_by (head_type (constant_function c.args.tables.bank.now c.args.tables.constants.now) [] (around_of c.args.tables.bank.now c.args.environment.now) (tree c.args.tables.bank.now c.args.head.0)) i)) (tree c.args.tables.bank.now y.0) =
-        (λ j. argument_takes (constant_function c.args.tables.bank.now c.args.tables.constants.now) (c.loop-at.invariant.2 j) (of j) (tree c.args.tables.bank.now y.0)) in
+    ≡ argument_takes (constant_function c.args.tables.bank.now c.args.tables.constants.now) (behind_arguments (constant_function c.args.tables.bank.now c.args.tables.constants.now) (around_of c.args.tables.bank.now c.args.environment.now) (head_type (constant_function c.args.tables.bank.now c.args.tables.constants.now) [] (around_of c.args.tables.bank.now c.args.environment.now) (tree c.args.tables.bank.now c.args.head.0)) (map (λ (t : TermId). tree c.args.tables.bank.now t.0) (take i xs))) (from_of (left_by (head_type (constant_function c.args.tables.bank.now c.args.tables.constants.now) [] (around_of c.args.tables.bank.now c.args.environment.now) (tree c.args.tables.bank.now c.args.head.0)) i)) (tree c.args.tables.bank.now y.0) =
+    (λ j. argument_takes (constant_function c.args.tables.bank.now c.args.tables.constants.now) (c.loop-at.invariant.2 j) (of j) (tree c.args.tables.bank.now y.0)) in
     let w =
-        argument_at_place (λ (t : TermId). tree b t.0) K c.args.emitter.now c.loop-at.emitter c.get_argument.new.emitter a (around_of b c.loop-at.environment) (around_of b c.get_argument.new.environment)
-        c.loop-at.at c.in_ok-number.number (head_type K [] a (tree b c.args.head.0)) (read_function b c.loop-at.function) (read_function b c.next-of.result.1) (read b c.next-of.result.0) c.args.args.now
-        x c.loop-at-test.true (index_or c.args.args.now c.loop-at.at (record { 0 = 0 }) x c.loop-at-test.true) (c.loop-at.invariant.0, c.loop-at.invariant.1)
-        c.in_ok-get_argument.ensures.code c.in_ok-number.ensures.number c.next-of.ensures.from c.next-of.ensures.to in (
+    argument_at_place (λ (t : TermId). tree b t.0) K c.args.emitter.now c.loop-at.emitter c.get_argument.new.emitter a (around_of b c.loop-at.environment) (around_of b c.get_argument.new.environment)
+    c.loop-at.at c.in_ok-number.number (head_type K [] a (tree b c.args.head.0)) (read_function b c.loop-at.function) (read_function b c.next-of.result.1) (read b c.next-of.result.0) c.args.args.now
+    x c.loop-at-test.true (index_or c.args.args.now c.loop-at.at (record { 0 = 0 }) x c.loop-at-test.true) (c.loop-at.invariant.0, c.loop-at.invariant.1)
+    c.in_ok-get_argument.ensures.code c.in_ok-number.ensures.number c.next-of.ensures.from c.next-of.ensures.to in (
       w.0,
       w.1,
       c.in_ok-get_argument.ensures.around ∙ (λ j. behind_argument (constant_function c.args.tables.bank.now c.args.tables.constants.now) (c.loop-at.invariant.2 j) (of j) (tree c.args.tables.bank.now y.0)) ∙ sym (arguments_left (constant_function c.args.tables.bank.now c.args.tables.constants.now) (λ (t : TermId). tree c.args.tables.bank.now t.0) (around_of c.args.tables.bank.now c.args.environment.now) (head_type (constant_function c.args.tables.bank.now c.args.tables.constants.now) [] (around_of c.args.tables.bank.now c.args.environment.now) (tree c.args.tables.bank.now c.args.head.0)) xs y i c.loop-at-test.true there),
@@ -84,8 +84,8 @@ returns-in_err-get_argument-clause-lacks c =
     let there = index_or xs i (record { 0 = 0 }) y c.loop-at-test.true in
     let of : read c.args.tables.bank.now c.next-of.result.0 ≡ from_of (left_by (head_type (constant_function c.args.tables.bank.now c.args.tables.constants.now) [] (around_of c.args.tables.bank.now c.args.environment.now) (tree c.args.tables.bank.now c.args.head.0)) i) = c.next-of.ensures.from ∙ ap from_of c.loop-at.invariant.1 in
     let here : argument_takes (constant_function c.args.tables.bank.now c.args.tables.constants.now) (around_of c.args.tables.bank.now c.loop-at.environment) (read c.args.tables.bank.now c.next-of.result.0) (tree c.args.tables.bank.now y.0)
-        ≡ argument_takes (constant_function c.args.tables.bank.now c.args.tables.constants.now) (behind_arguments (constant_function c.args.tables.bank.now c.args.tables.constants.now) (around_of c.args.tables.bank.now c.args.environment.now) (head_type (constant_function c.args.tables.bank.now c.args.tables.constants.now) [] (around_of c.args.tables.bank.now c.args.environment.now) (tree c.args.tables.bank.now c.args.head.0)) (map (λ (t : TermId). tree c.args.tables.bank.now t.0) (take i xs))) (from_of (left_by (head_type (constant_function c.args.tables.bank.now c.args.tables.constants.now) [] (around_of c.args.tables.bank.now c.args.environment.now) (tree c.args.tables.bank.now c.args.head.0)) i)) (tree c.args.tables.bank.now y.0) =
-        (λ j. argument_takes (constant_function c.args.tables.bank.now c.args.tables.constants.now) (c.loop-at.invariant.2 j) (of j) (tree c.args.tables.bank.now y.0)) in
+    ≡ argument_takes (constant_function c.args.tables.bank.now c.args.tables.constants.now) (behind_arguments (constant_function c.args.tables.bank.now c.args.tables.constants.now) (around_of c.args.tables.bank.now c.args.environment.now) (head_type (constant_function c.args.tables.bank.now c.args.tables.constants.now) [] (around_of c.args.tables.bank.now c.args.environment.now) (tree c.args.tables.bank.now c.args.head.0)) (map (λ (t : TermId). tree c.args.tables.bank.now t.0) (take i xs))) (from_of (left_by (head_type (constant_function c.args.tables.bank.now c.args.tables.constants.now) [] (around_of c.args.tables.bank.now c.args.environment.now) (tree c.args.tables.bank.now c.args.head.0)) i)) (tree c.args.tables.bank.now y.0) =
+    (λ j. argument_takes (constant_function c.args.tables.bank.now c.args.tables.constants.now) (c.loop-at.invariant.2 j) (of j) (tree c.args.tables.bank.now y.0)) in
     let e = c.in_err-get_argument.field-0.0 in
     passed_up c.from_residual-in_err-get_argument.result e (Lacks c.args.emitter.now (head_arguments_take (constant_function c.args.tables.bank.now c.args.tables.constants.now) (around_of c.args.tables.bank.now c.args.environment.now) 0 (head_type (constant_function c.args.tables.bank.now c.args.tables.constants.now) [] (around_of c.args.tables.bank.now c.args.environment.now) (tree c.args.tables.bank.now c.args.head.0)) (map (λ (t : TermId). tree c.args.tables.bank.now t.0) c.args.args.now))) c.from_residual-in_err-get_argument.ensures.1
     (arguments_lack (constant_function c.args.tables.bank.now c.args.tables.constants.now) (λ (t : TermId). tree c.args.tables.bank.now t.0) (around_of c.args.tables.bank.now c.args.environment.now) (head_type (constant_function c.args.tables.bank.now c.args.tables.constants.now) [] (around_of c.args.tables.bank.now c.args.environment.now) (tree c.args.tables.bank.now c.args.head.0)) xs y i c.loop-at-test.true there c.args.emitter.now c.loop-at.emitter e c.loop-at.invariant.3 (subst (λ x. Lacks c.loop-at.emitter x e) (sym (next_at (constant_function c.args.tables.bank.now c.args.tables.constants.now) (λ (t : TermId). tree c.args.tables.bank.now t.0) (around_of c.args.tables.bank.now c.args.environment.now) (head_type (constant_function c.args.tables.bank.now c.args.tables.constants.now) [] (around_of c.args.tables.bank.now c.args.environment.now) (tree c.args.tables.bank.now c.args.head.0)) xs y i c.loop-at-test.true there)) (lacks_then (has_place c.loop-at.emitter i (omega (arith, c.in_ok-number.ensures.low))) (subst (λ x. Lacks c.loop-at.emitter x e) here c.in_err-get_argument.ensures.lacks))))

@@ -89,8 +89,8 @@ returns-clause-around c =
     let args : map f c.as_slice-args.result.now ≡ ts = ap (map f) c.as_slice-args.ensures.value in
     let head = c.in_ok-spine.spine.head in
     let all = other_head_takes (constant_function c.args.tables.bank.now c.args.tables.constants.now) (around_of c.args.tables.bank.now c.args.environment.now) (tree b head.0) ts (tree c.args.tables.bank.now c.args.head.0) c.in_ok-spine.ensures.head
-        (other_goal b (length b.types) head.0 c.term_node.result (tree b head.0) ts (tree c.args.tables.bank.now c.args.head.0) c.in_default.not-Const c.term_node.ensures.older c.term_node.ensures.tree c.in_ok-spine.ensures.head
-        c.in_ok-spine.ensures.tree) c.in_ok-spine.ensures.tree in
+    (other_goal b (length b.types) head.0 c.term_node.result (tree b head.0) ts (tree c.args.tables.bank.now c.args.head.0) c.in_default.not-Const c.term_node.ensures.older c.term_node.ensures.tree c.in_ok-spine.ensures.head
+    c.in_ok-spine.ensures.tree) c.in_ok-spine.ensures.tree in
     c.in_ok-get_arguments-2.ensures.around ∙ ap (behind_arguments (constant_function c.args.tables.bank.now c.args.tables.constants.now) (around_of c.args.tables.bank.now c.args.environment.now) H) args ∙ sym all.1
 
 pub returns-clause-uses : goal.returns-clause-uses
@@ -102,8 +102,8 @@ returns-clause-uses c =
     let args : map f c.as_slice-args.result.now ≡ ts = ap (map f) c.as_slice-args.ensures.value in
     let head = c.in_ok-spine.spine.head in
     let all = other_head_takes (constant_function c.args.tables.bank.now c.args.tables.constants.now) (around_of c.args.tables.bank.now c.args.environment.now) (tree b head.0) ts (tree c.args.tables.bank.now c.args.head.0) c.in_ok-spine.ensures.head
-        (other_goal b (length b.types) head.0 c.term_node.result (tree b head.0) ts (tree c.args.tables.bank.now c.args.head.0) c.in_default.not-Const c.term_node.ensures.older c.term_node.ensures.tree c.in_ok-spine.ensures.head
-        c.in_ok-spine.ensures.tree) c.in_ok-spine.ensures.tree in
+    (other_goal b (length b.types) head.0 c.term_node.result (tree b head.0) ts (tree c.args.tables.bank.now c.args.head.0) c.in_default.not-Const c.term_node.ensures.older c.term_node.ensures.tree c.in_ok-spine.ensures.head
+    c.in_ok-spine.ensures.tree) c.in_ok-spine.ensures.tree in
     uses_same (sym all.0) (uses_same (ap (head_arguments_take (constant_function c.args.tables.bank.now c.args.tables.constants.now) (around_of c.args.tables.bank.now c.args.environment.now) 0 H) args) c.in_ok-get_arguments-2.ensures.uses)
 
 pub returns-in_err-get_arguments-2-clause-lacks : goal.returns-in_err-get_arguments-2-clause-lacks
@@ -115,8 +115,8 @@ returns-in_err-get_arguments-2-clause-lacks c =
     let args : map f c.as_slice-args.result.now ≡ ts = ap (map f) c.as_slice-args.ensures.value in
     let head = c.in_ok-spine.spine.head in
     let all = other_head_takes (constant_function c.args.tables.bank.now c.args.tables.constants.now) (around_of c.args.tables.bank.now c.args.environment.now) (tree b head.0) ts (tree c.args.tables.bank.now c.args.head.0) c.in_ok-spine.ensures.head
-        (other_goal b (length b.types) head.0 c.term_node.result (tree b head.0) ts (tree c.args.tables.bank.now c.args.head.0) c.in_default.not-Const c.term_node.ensures.older c.term_node.ensures.tree c.in_ok-spine.ensures.head
-        c.in_ok-spine.ensures.tree) c.in_ok-spine.ensures.tree in
+    (other_goal b (length b.types) head.0 c.term_node.result (tree b head.0) ts (tree c.args.tables.bank.now c.args.head.0) c.in_default.not-Const c.term_node.ensures.older c.term_node.ensures.tree c.in_ok-spine.ensures.head
+    c.in_ok-spine.ensures.tree) c.in_ok-spine.ensures.tree in
     let e = c.in_err-get_arguments-2.field-0.0 in
     passed_up c.from_residual-in_err-get_arguments-2.result e (Lacks c.args.emitter.now (head_takes (constant_function c.args.tables.bank.now c.args.tables.constants.now) (around_of c.args.tables.bank.now c.args.environment.now) (tree c.args.tables.bank.now c.args.head.0))) c.from_residual-in_err-get_arguments-2.ensures.1
     (subst (λ x. Lacks c.args.emitter.now x e) (sym all.0) (subst (λ l. Lacks c.args.emitter.now (head_arguments_take (constant_function c.args.tables.bank.now c.args.tables.constants.now) (around_of c.args.tables.bank.now c.args.environment.now) 0 H l) e) args c.in_err-get_arguments-2.ensures.lacks))

@@ -22,8 +22,7 @@ loop-at-preserved c =
     let x : TypeId = slice_index_or c.args.types.now c.loop-at.at (record { 0 = 0 }) in
     let xs = c.args.types.now in
     let y : TypeId = slice_index_or xs c.loop-at.at (record { 0 = 0 }) in
-    let there = index_or xs c.loop-at.at (record { 0 = 0 }) y c.loop-at-test.true in
-    (
+    let there = index_or xs c.loop-at.at (record { 0 = 0 }) y c.loop-at-test.true in (
       type_at_place (λ (t : TypeId). type_tree c.args.bank.now t.0) c.args.emitter.now c.loop-at.emitter c.put_type.new.emitter c.get_type.new.emitter c.loop-at.at c.in_ok-number.number
           c.in_ok-register.register c.args.types.now x c.loop-at-test.true (index_or c.args.types.now c.loop-at.at (record { 0 = 0 }) x c.loop-at-test.true)
           c.loop-at.invariant.0 c.in_ok-register.ensures.code c.in_ok-get_type.ensures.code c.in_ok-number.ensures.number,

@@ -38,11 +38,11 @@ loop-arg-preserved c =
     let left : read_function b c.loop-arg.function ≡ left_by (head_type (constant_function c.args.tables.bank.now c.args.tables.constants.now) [] (around_of c.args.tables.bank.now c.args.environment.now) (tree c.args.tables.bank.now c.args.head.0)) (length (map (λ (t : TermId). tree c.args.tables.bank.now t.0) xs)) = c.loop-arg.invariant.1 ∙ ap (left_by (head_type (constant_function c.args.tables.bank.now c.args.tables.constants.now) [] (around_of c.args.tables.bank.now c.args.environment.now) (tree c.args.tables.bank.now c.args.head.0))) (sym (map_length (λ (t : TermId). tree c.args.tables.bank.now t.0) xs)) in
     let of : read b c.next-of.result.0 ≡ from_of (left_by (head_type (constant_function c.args.tables.bank.now c.args.tables.constants.now) [] (around_of c.args.tables.bank.now c.args.environment.now) (tree c.args.tables.bank.now c.args.head.0)) (length (map (λ (t : TermId). tree c.args.tables.bank.now t.0) xs))) = c.next-of.ensures.from ∙ ap from_of left in
     let here : term_takes (constant_function c.args.tables.bank.now c.args.tables.constants.now) (around_of b c.loop-arg.environment) (read b c.next-of.result.0) (tree b c.in-Some.arg.0) ≡ next_takes (constant_function c.args.tables.bank.now c.args.tables.constants.now) (around_of c.args.tables.bank.now c.args.environment.now) (head_type (constant_function c.args.tables.bank.now c.args.tables.constants.now) [] (around_of c.args.tables.bank.now c.args.environment.now) (tree c.args.tables.bank.now c.args.head.0)) (map (λ (t : TermId). tree c.args.tables.bank.now t.0) xs) (tree b c.in-Some.arg.0) =
-        (λ i. term_takes (constant_function c.args.tables.bank.now c.args.tables.constants.now) (c.loop-arg.invariant.2 i) (of i) (tree b c.in-Some.arg.0)) in
+    (λ i. term_takes (constant_function c.args.tables.bank.now c.args.tables.constants.now) (c.loop-arg.invariant.2 i) (of i) (tree b c.in-Some.arg.0)) in
     let w =
-        next_argument_written (λ (t : TermId). tree b t.0) K c.args.emitter.now c.loop-arg.emitter c.put_term.new.emitter a (around_of b c.loop-arg.environment) (around_of b c.put_term.new.environment)
-        c.loop-arg.registers.items c.push.new.self.items c.in_ok-register.register (head_type K [] a (tree b c.args.head.0)) (read_function b c.loop-arg.function) (read_function b c.next-of.result.1)
-        (read b c.next-of.result.0) c.loop-arg.yielded c.in-Some.arg (c.loop-arg.invariant.0, c.loop-arg.invariant.1) c.in_ok-register.ensures.code c.next-of.ensures.from c.next-of.ensures.to c.in_ok-push.ensures.items in (
+    next_argument_written (λ (t : TermId). tree b t.0) K c.args.emitter.now c.loop-arg.emitter c.put_term.new.emitter a (around_of b c.loop-arg.environment) (around_of b c.put_term.new.environment)
+    c.loop-arg.registers.items c.push.new.self.items c.in_ok-register.register (head_type K [] a (tree b c.args.head.0)) (read_function b c.loop-arg.function) (read_function b c.next-of.result.1)
+    (read b c.next-of.result.0) c.loop-arg.yielded c.in-Some.arg (c.loop-arg.invariant.0, c.loop-arg.invariant.1) c.in_ok-register.ensures.code c.next-of.ensures.from c.next-of.ensures.to c.in_ok-push.ensures.items in (
       w.0,
       w.1,
       c.in_ok-register.ensures.around ∙ (λ i. behind_term (constant_function c.args.tables.bank.now c.args.tables.constants.now) (c.loop-arg.invariant.2 i) (of i) (tree b c.in-Some.arg.0))
@@ -94,7 +94,7 @@ returns-in_err-register-clause-lacks c =
     let left : read_function b c.loop-arg.function ≡ left_by (head_type (constant_function c.args.tables.bank.now c.args.tables.constants.now) [] (around_of c.args.tables.bank.now c.args.environment.now) (tree c.args.tables.bank.now c.args.head.0)) (length (map (λ (t : TermId). tree c.args.tables.bank.now t.0) xs)) = c.loop-arg.invariant.1 ∙ ap (left_by (head_type (constant_function c.args.tables.bank.now c.args.tables.constants.now) [] (around_of c.args.tables.bank.now c.args.environment.now) (tree c.args.tables.bank.now c.args.head.0))) (sym (map_length (λ (t : TermId). tree c.args.tables.bank.now t.0) xs)) in
     let of : read b c.next-of.result.0 ≡ from_of (left_by (head_type (constant_function c.args.tables.bank.now c.args.tables.constants.now) [] (around_of c.args.tables.bank.now c.args.environment.now) (tree c.args.tables.bank.now c.args.head.0)) (length (map (λ (t : TermId). tree c.args.tables.bank.now t.0) xs))) = c.next-of.ensures.from ∙ ap from_of left in
     let here : term_takes (constant_function c.args.tables.bank.now c.args.tables.constants.now) (around_of b c.loop-arg.environment) (read b c.next-of.result.0) (tree b c.in-Some.arg.0) ≡ next_takes (constant_function c.args.tables.bank.now c.args.tables.constants.now) (around_of c.args.tables.bank.now c.args.environment.now) (head_type (constant_function c.args.tables.bank.now c.args.tables.constants.now) [] (around_of c.args.tables.bank.now c.args.environment.now) (tree c.args.tables.bank.now c.args.head.0)) (map (λ (t : TermId). tree c.args.tables.bank.now t.0) xs) (tree b c.in-Some.arg.0) =
-        (λ i. term_takes (constant_function c.args.tables.bank.now c.args.tables.constants.now) (c.loop-arg.invariant.2 i) (of i) (tree b c.in-Some.arg.0)) in
+    (λ i. term_takes (constant_function c.args.tables.bank.now c.args.tables.constants.now) (c.loop-arg.invariant.2 i) (of i) (tree b c.in-Some.arg.0)) in
     let e = c.in_err-register.field-0.0 in
     passed_up c.from_residual.result e (Lacks c.args.emitter.now (terms_take (constant_function c.args.tables.bank.now c.args.tables.constants.now) (around_of c.args.tables.bank.now c.args.environment.now) (head_type (constant_function c.args.tables.bank.now c.args.tables.constants.now) [] (around_of c.args.tables.bank.now c.args.environment.now) (tree c.args.tables.bank.now c.args.head.0)) (map (λ (t : TermId). tree c.args.tables.bank.now t.0) c.args.args.now))) c.from_residual.ensures.1
     (terms_lack (constant_function c.args.tables.bank.now c.args.tables.constants.now) (λ (t : TermId). tree c.args.tables.bank.now t.0) c.args.emitter.now c.loop-arg.emitter (around_of c.args.tables.bank.now c.args.environment.now) (head_type (constant_function c.args.tables.bank.now c.args.tables.constants.now) [] (around_of c.args.tables.bank.now c.args.environment.now) (tree c.args.tables.bank.now c.args.head.0)) xs c.args.args.now c.in-Some.arg e part c.loop-arg.invariant.4 (subst (λ x. Lacks c.loop-arg.emitter x e) here c.in_err-register.ensures.lacks))

@@ -13,8 +13,7 @@ use Rattle.lp_gen.proofs.variables.make_variables.Goals.{then-is_clause, else-is
 pub loop-at-init : goal.loop-at-init
 loop-at-init c =
     let b = c.args.bank.now in
-    let many = map_length (seen b) c.args.environment.now.own.items in
-    (
+    let many = map_length (seen b) c.args.environment.now.own.items in (
       no_places c.args.is_clause c.args.emitter.now (around_of b c.args.environment.now) c.len-count.result (omega (arith, many, c.len-count.ensures, c.args.environment.now.own.ok)),
       nothing_unset c.args.emitter.now (around_of b c.args.environment.now),
     )
@@ -26,8 +25,7 @@ loop-at-preserved c =
     let at : c.if-is_clause.place ≡ place_at c.args.is_clause count c.loop-at.at = elim c.if-is_clause.branch [
       | then-is_clause w ↦ w.place-is ∙ ap (λ t. if t then count - 1 - c.loop-at.at else c.loop-at.at) (sym w.if-is_clause.true)
       | else-is_clause w ↦ w.place-is ∙ ap (λ t. if t then count - 1 - c.loop-at.at else c.loop-at.at) (sym w.if-is_clause.false)
-    ] in
-    (
+    ] in (
       places_then c.args.is_clause c.args.emitter.now c.loop-at.emitter c.make_place.new.emitter (around_of b c.args.environment.now) (around_of b c.loop-at.environment)
           (around_of b c.make_place.new.environment) count c.loop-at.at c.if-is_clause.place c.loop-at.invariant.0 c.in_ok-make_place.ensures.code c.loop-at-test.true at,
       unset_then c.args.emitter.now c.loop-at.emitter c.make_place.new.emitter (around_of b c.args.environment.now) (around_of b c.loop-at.environment) (around_of b c.make_place.new.environment)

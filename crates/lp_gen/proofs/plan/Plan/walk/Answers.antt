@@ -71,4 +71,4 @@ pub returns-in_err-step-clause-full : goal.returns-in_err-step-clause-full
 returns-in_err-step-clause-full c =
     passed_up c.from_residual-in_err-step.result c.in_err-step.field-0.0 (λ e. DueFits c.args.bank.now c.args.due → e ≡ refusal.Memory) c.from_residual-in_err-step.ensures.1
     (full_task c.args.bank.now c.tasks.walk.base c.args.due c.tasks.walk.level c.pop.new.self.items c.tasks.walk.tasks.items c.in-Some.task c.in_err-step.field-0.0 c.in-Some.ensures.items
-        c.tasks.invariant.3 c.requires.low c.tasks.invariant.4 c.in_err-step.ensures.full)
+    c.tasks.invariant.3 c.requires.low c.tasks.invariant.4 c.in_err-step.ensures.full)
