@@ -457,7 +457,7 @@ module _ (S : Type 0) (t : Tables) (o1 : Origin) (us : List Due) (parts : List P
     counts n x found = ap clauses_length (hold n x found) ∙ clauses_many b x.clauses.now ∙ sym (plan.stands.assumed.each n x found).count
 
     pub captured : (n : ℕ) (x : Assumption) → slice_get xs n ≡ Some x → AreCaptured x (cl.clauses n)
-    captured n x found = subst (AreCaptured x) (sym (hold n x found)) (standing n x found)
+    captured n x found = subst (AreCaptured x) (sym (hold n x found)) (standing n x found).0
 
     pub names_below : (i : ℕ) (p : Part) (r : Record) (a : slice_get parts i ≡ Some p) (c : slice_get g i ≡ Some r) (m : ℕ) → member m (named_before (t.first + i) all) ≡ true → m <
         (part_done i p r a c).next

@@ -1,3 +1,12 @@
+mod Using
+mod TypesUsed
+mod StepsUsed
+mod CallsUsed
+mod TermsUsed
+mod AtomsUsed
+mod HeadUsed
+mod Alike
+mod Worked
 mod Works
 mod TypeWorks
 mod TypePut
@@ -5,6 +14,7 @@ mod TermPut
 mod GoalPut
 mod StepPut
 mod VariablePut
+mod VariablesUsed
 mod Registers
 mod Courses
 mod LooseOf
@@ -29,6 +39,7 @@ mod Calm
 mod Pushed
 mod BodySaid
 mod Denoting
+mod Depths
 mod Bytes
 mod Goals
 mod Arguments
@@ -84,6 +95,8 @@ mod GroupDenotes
 mod GroupPut
 mod GroupsDenote
 mod CapturedBy
+mod CapturedFrom
+mod Leveling
 mod LimitsLeft
 mod LimitsWork
 mod LimitsTold

@@ -1,3 +1,4 @@
+pub mod Alike
 pub mod Beginning
 pub mod Bodies
 pub mod BodyCode
@@ -21,8 +22,12 @@ pub mod Recorded
 pub mod Running
 pub mod Saying
 pub mod Sizes
+pub mod Stacked
 pub mod Tasks
+pub mod Spending
 pub mod TermLaw
 pub mod TermSteps
+pub mod Variables
+pub mod Using
 pub mod Works
 pub mod Written

@@ -1,5 +1,7 @@
 // Atoms as goals.
-ghost use Rattle.std.specs.Prelude.{OnOk};
+ghost use Rattle.std.specs.Prelude.{OnOk, IfErr};
+ghost use Rattle.lp_gen.specs.Registers.{atom_takes};
+ghost use Rattle.lp_gen.specs.inner.Using.{Uses, Lacks};
 ghost use Rattle.lp_term.specs.Nodes.{tree};
 ghost use Rattle.lp_gen.specs.inner.Listing.{around_of, constant_function};
 ghost use Rattle.lp_gen.specs.inner.Doing.{AtomWritten};
@@ -23,7 +25,9 @@ pub(crate) fn put_atom(
     environment: &mut Environment<'_>,
     atom: TermId,
 ) -> Result<(), RecordRefusal>
-    ensures { OnOk result (AtomWritten (constant_function tables.entry.bank.now tables.entry.constants.now) emitter.old emitter.new (around_of tables.entry.bank.now environment.old) (around_of tables.entry.bank.now environment.new) (tree tables.entry.bank.now atom.0)) }
+    ensures code { OnOk result (AtomWritten (constant_function tables.entry.bank.now tables.entry.constants.now) emitter.old emitter.new (around_of tables.entry.bank.now environment.old) (around_of tables.entry.bank.now environment.new) (tree tables.entry.bank.now atom.0)) }
+    ensures uses { OnOk result (Uses emitter.old emitter.new (atom_takes (constant_function tables.entry.bank.now tables.entry.constants.now) (around_of tables.entry.bank.now environment.old) (tree tables.entry.bank.now atom.0))) }
+    ensures lacks { IfErr result (Lacks emitter.old (atom_takes (constant_function tables.entry.bank.now tables.entry.constants.now) (around_of tables.entry.bank.now environment.old) (tree tables.entry.bank.now atom.0))) }
 {
     let spine = spine_of(alloc, tables.bank, atom)?;
     match tables.bank.term_node(spine.head) {

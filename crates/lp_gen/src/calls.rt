@@ -1,5 +1,7 @@
 // Goals whose parts stand in registers. Equations and orders have instructions of their own.
-ghost use Rattle.std.specs.Prelude.{◌≡◌, OnOk};
+ghost use Rattle.std.specs.Prelude.{◌≡◌, length, OnOk, IfErr};
+ghost use Rattle.lp_gen.specs.Registers.{plain_code, call_takes};
+ghost use Rattle.lp_gen.specs.inner.Using.{Uses, Lacks};
 ghost use Rattle.lp_standard.specs.Constants.{numbered};
 ghost use Rattle.lp_gen.specs.inner.Saying.{equation_by, order_by, on_two_by, own_by, own_numbered, CallPut, TermCallPut};
 
@@ -66,7 +68,9 @@ pub(crate) fn put_call(
     types: Vec<u16>,
     terms: Vec<u16>,
 ) -> Result<(), RecordRefusal>
-    ensures { OnOk result (CallPut emitter.old emitter.new number types.items terms.items) }
+    ensures code { OnOk result (CallPut emitter.old emitter.new number types.items terms.items) }
+    ensures uses { OnOk result (Uses emitter.old emitter.new (call_takes number (length types.items) (length terms.items))) }
+    ensures lacks { IfErr result (Lacks emitter.old (call_takes number (length types.items) (length terms.items))) }
 {
     match own_instruction(number, types.as_slice(), terms.as_slice()) {
         Some(instr) => {
@@ -82,7 +86,9 @@ pub(crate) fn put_call(
 
 /// A goal that stands in a register as a term.
 pub(crate) fn put_term_call(emitter: &mut Emitter, register: u16) -> Result<(), RecordRefusal>
-    ensures { OnOk result (TermCallPut emitter.old emitter.new register) }
+    ensures code { OnOk result (TermCallPut emitter.old emitter.new register) }
+    ensures uses { OnOk result (Uses emitter.old emitter.new (plain_code 3 0)) }
+    ensures lacks { IfErr result (Lacks emitter.old (plain_code 3 0)) }
 {
     emitter.emit(Instr::CallTerm(register))?;
     Ok(())

@@ -1,5 +1,5 @@
 // The variables around assumed clauses that stand in them.
-ghost use Rattle.std.specs.Prelude.{◌≡◌, ℕ, List, ◌≤◌, ◌+◌, ◌*◌, true, IfOk, OnOk};
+ghost use Rattle.std.specs.Prelude.{◌≡◌, ℕ, Bool, List, ◌<◌, ◌≤◌, ◌+◌, ◌-◌, ◌*◌, true, None, IfOk, IfSome, OnOk};
 ghost use Rattle.lp_term.specs.Nodes.{tree};
 ghost use Rattle.lp_term.specs.Walk.{size};
 ghost use Rattle.lp_model.specs.Flat.{clauses, no_clauses};
@@ -7,30 +7,45 @@ ghost use Rattle.lp_model.specs.Flattened.{goal_of, clause_of, clauses_of};
 ghost use Rattle.lp_code.specs.States.{member};
 ghost use Rattle.lp_gen.specs.inner.Bodies.{IsThrough, AllThrough};
 ghost use Rattle.lp_gen.specs.inner.TermLaw.{AllLoose};
-ghost use Rattle.lp_gen.specs.inner.Capturing.{IsAmong, PlacesHold, Marks, goal_size, clause_size, place_task, place_work};
+ghost use Rattle.lp_gen.specs.inner.Capturing.{IsDepth, IsAmong, IsSo, IsLevelOf, AreFound, PlacesHold, PlacesHave, Marks, Finds, goal_size, clause_size, place_task, place_work};
 ghost use Rattle.lp_gen.specs.declared.captured.Place.TheVariants as on;
 
-use crate::fault::RecordRefusal;
-use crate::plan::with_more;
 use indexmap::IndexSet;
 use lp_base::Memory;
 use lp_model::{Clause, Goal};
 use lp_term::{Bank, TermId, TermNode};
 use std::alloc::Global;
 
-// Where variables may stand, under so many that are bound there, the next one last.
+// Where variables may stand, under so many that are bound there, the next one last. Under 2^64 and more none that is around can stand: these are no number.
 #[derive(Clone, Copy)]
 enum Place<'a> {
-    Clauses(&'a [Clause], u64),
-    Goals(&'a [Goal], u64),
-    Terms(&'a [TermId], u64),
-    Term(TermId, u64),
+    Clauses(&'a [Clause], Option<u64>),
+    Goals(&'a [Goal], Option<u64>),
+    Terms(&'a [TermId], Option<u64>),
+    Term(TermId, Option<u64>),
+}
+
+// The depth under so many variables more.
+fn deeper(depth: Option<u64>, more: u64) -> Option<u64>
+    ensures { (d : ℕ) → IsDepth d depth → IsDepth (d + more) result }
+{
+    depth?.checked_add(more)
+}
+
+// An index as it stands for what is around so many variables.
+fn around(index: u64, depth: Option<u64>) -> Option<u64>
+    ensures bound { result ≡ None → (d : ℕ) → IsDepth d depth → index < d }
+    ensures free { IfSome result (λ i. (d : ℕ) → IsDepth d depth → (d ≤ index) × (i ≡ index - d)) }
+    ensures depth { IfSome result (λ i. (d : ℕ) × IsDepth d depth) }
+{
+    index.checked_sub(depth?)
 }
 
 // The variable that an index stands for, of as many as are around.
 fn mark(levels: &mut IndexSet<u64>, base: u64, index: u64) -> Result<(), Memory>
     ensures old { OnOk result ((k : ℕ) → member k levels.old.keys ≡ true → member k levels.new.keys ≡ true) }
     ensures new { OnOk result (IsAmong base levels.new.keys index) }
+    ensures found { OnOk result ((p : ℕ → Bool) → p index ≡ true → AreFound base p levels.old.keys levels.new.keys) }
 {
     if index >= base {
         return Ok(());
@@ -43,23 +58,24 @@ fn visit_term<'a>(
     bank: &'a Bank,
     base: u64,
     term: TermId,
-    depth: u64,
+    depth: Option<u64>,
     levels: &mut IndexSet<u64>,
     work: &mut Vec<Place<'a>>,
-) -> Result<(), RecordRefusal>
+) -> Result<(), Memory>
     ensures less { OnOk result (place_work bank.now work.new.items + 1 ≤ place_work bank.now work.old.items + 4 * size (tree bank.now term.0)) }
     ensures marks { OnOk result (Marks bank.now base levels.old.keys levels.new.keys work.old.items work.new.items (on.Term term depth)) }
+    ensures finds { OnOk result (Finds bank.now base levels.old.keys levels.new.keys work.old.items work.new.items (on.Term term depth)) }
 {
     match bank.term_node(term) {
         TermNode::Index(index) => {
-            if index < depth {
+            let Some(index) = around(index, depth) else {
                 return Ok(());
-            }
-            mark(levels, base, index - depth)?;
+            };
+            mark(levels, base, index)?;
             Ok(())
         }
         TermNode::Abs(body) => {
-            let under = with_more(depth, 1)?;
+            let under = deeper(depth, 1);
             work.push(Place::Term(body, under))?;
             Ok(())
         }
@@ -76,11 +92,12 @@ fn visit_term<'a>(
 fn visit_goal<'a>(
     bank: &Bank,
     goal: &'a Goal,
-    depth: u64,
+    depth: Option<u64>,
     work: &mut Vec<Place<'a>>,
-) -> Result<(), RecordRefusal>
+) -> Result<(), Memory>
     ensures less { OnOk result (place_work bank.now work.new.items ≤ place_work bank.now work.old.items + goal_size bank.now goal.now) }
-    ensures marks { OnOk result ((base : ℕ) (ks : List ℕ) → PlacesHold bank.now base ks work.new.items → PlacesHold bank.now base ks work.old.items × IsThrough (AllLoose (IsAmong base ks)) depth (goal_of bank.now goal.now)) }
+    ensures marks { OnOk result ((base : ℕ) (ks : List ℕ) → PlacesHold bank.now base ks work.new.items → PlacesHold bank.now base ks work.old.items × ((d : ℕ) → IsDepth d depth → IsThrough (AllLoose (IsAmong base ks)) d (goal_of bank.now goal.now))) }
+    ensures finds { OnOk result ((p : ℕ → Bool) → PlacesHave bank.now p work.old.items → (d : ℕ) → IsDepth d depth → IsThrough (AllLoose (IsSo p)) d (goal_of bank.now goal.now) → PlacesHave bank.now p work.new.items) }
 {
     match goal {
         Goal::Atom(term) => {
@@ -94,12 +111,12 @@ fn visit_goal<'a>(
             Ok(())
         }
         Goal::Some(_, goals) => {
-            let under = with_more(depth, 1)?;
+            let under = deeper(depth, 1);
             work.push(Place::Goals(goals.as_slice(), under))?;
             Ok(())
         }
         Goal::All(_, goals) => {
-            let under = with_more(depth, 1)?;
+            let under = deeper(depth, 1);
             work.push(Place::Goals(goals.as_slice(), under))?;
             Ok(())
         }
@@ -119,13 +136,14 @@ fn visit_goal<'a>(
 fn visit_clause<'a>(
     bank: &Bank,
     clause: &'a Clause,
-    depth: u64,
+    depth: Option<u64>,
     work: &mut Vec<Place<'a>>,
-) -> Result<(), RecordRefusal>
+) -> Result<(), Memory>
     ensures less { OnOk result (place_work bank.now work.new.items ≤ place_work bank.now work.old.items + clause_size bank.now clause.now) }
-    ensures marks { OnOk result ((base : ℕ) (ks : List ℕ) → PlacesHold bank.now base ks work.new.items → PlacesHold bank.now base ks work.old.items × AllThrough (AllLoose (IsAmong base ks)) depth (clauses (clause_of bank.now clause.now) no_clauses)) }
+    ensures marks { OnOk result ((base : ℕ) (ks : List ℕ) → PlacesHold bank.now base ks work.new.items → PlacesHold bank.now base ks work.old.items × ((d : ℕ) → IsDepth d depth → AllThrough (AllLoose (IsAmong base ks)) d (clauses (clause_of bank.now clause.now) no_clauses))) }
+    ensures finds { OnOk result ((p : ℕ → Bool) → PlacesHave bank.now p work.old.items → (d : ℕ) → IsDepth d depth → AllThrough (AllLoose (IsSo p)) d (clauses (clause_of bank.now clause.now) no_clauses) → PlacesHave bank.now p work.new.items) }
 {
-    let under = with_more(depth, clause.vars.len() as u64)?;
+    let under = deeper(depth, clause.vars.len() as u64);
     work.push(Place::Goals(clause.body.as_slice(), under))?;
     work.push(Place::Term(clause.head, under))?;
     Ok(())
@@ -138,9 +156,10 @@ fn take_up<'a>(
     place: Place<'a>,
     levels: &mut IndexSet<u64>,
     work: &mut Vec<Place<'a>>,
-) -> Result<(), RecordRefusal>
+) -> Result<(), Memory>
     ensures less { OnOk result (place_work bank.now work.new.items + 1 ≤ place_work bank.now work.old.items + place_task bank.now place.entry) }
     ensures marks { OnOk result (Marks bank.now base levels.old.keys levels.new.keys work.old.items work.new.items place.entry) }
+    ensures finds { OnOk result (Finds bank.now base levels.old.keys levels.new.keys work.old.items work.new.items place.entry) }
 {
     match place {
         Place::Clauses(clauses, depth) => {
@@ -180,12 +199,13 @@ pub(crate) fn captured_of(
     bank: &Bank,
     clauses: &[Clause],
     base: u64,
-) -> Result<IndexSet<u64>, RecordRefusal>
-    ensures { IfOk result (λ levels. AllThrough (AllLoose (IsAmong base levels.keys)) 0 (clauses_of bank.now clauses.now)) }
+) -> Result<IndexSet<u64>, Memory>
+    ensures all { IfOk result (λ levels. AllThrough (AllLoose (IsAmong base levels.keys)) 0 (clauses_of bank.now clauses.now)) }
+    ensures found { IfOk result (λ levels. (p : ℕ → Bool) → AllThrough (AllLoose (IsSo p)) 0 (clauses_of bank.now clauses.now) → (k : ℕ) → member k levels.keys ≡ true → IsLevelOf base p k) }
 {
     let mut levels = IndexSet::new(alloc);
     let mut work = Vec::new(alloc);
-    work.push(Place::Clauses(clauses, 0))?;
+    work.push(Place::Clauses(clauses, Some(0)))?;
     'places: while let Some(place) = work.pop() {
         take_up(bank, base, place, &mut levels, &mut work)?;
     }

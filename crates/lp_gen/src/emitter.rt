@@ -1,9 +1,10 @@
 // The code of a record in the making.
-ghost use Rattle.std.specs.Prelude.{◌≡◌, ℕ, ◌≤◌, ◌+◌, ◌-◌, List, [], ◌∷◌, ◌++◌, true, All, length as length_of_list, sum_by, OnOk, IfOk};
+ghost use Rattle.std.specs.Prelude.{◌≡◌, ◌⊎◌, ℕ, ◌<◌, ◌≤◌, ◌+◌, ◌-◌, List, [], ◌∷◌, ◌++◌, true, All, length as length_of_list, sum_by, OnOk, IfOk, IfErr};
 ghost use Rattle.lp_code.specs.declared.instruction.Instr.{Instr};
 ghost use Rattle.lp_code.specs.declared.instruction.Instr.TheVariants as on;
 ghost use Rattle.lp_code.specs.Length.{length_of};
-ghost use Rattle.lp_gen.specs.inner.Fitting.{is_fitting, is_short};
+ghost use Rattle.lp_gen.specs.Limits.{past};
+ghost use Rattle.lp_gen.specs.inner.Fitting.{is_fitting, is_short, misfits_of, IsRefused};
 
 use crate::fault::RecordRefusal;
 use lp_base::{MAX_ARGUMENTS, MAX_CODE_BYTES, MAX_REGISTERS};
@@ -24,7 +25,9 @@ pub(crate) struct Emitter {
 
 // Refuses what is more than is allowed.
 fn within(count: usize, most: usize) -> Result<(), RecordRefusal>
-    ensures { OnOk result (count ≤ most) }
+    ensures fit { OnOk result (count ≤ most) }
+    ensures room { OnOk result (past most count ≡ 0) }
+    ensures cause { IfErr result (IsRefused (0 < past most count)) }
 {
     if count > most {
         return Err(RecordRefusal::Registers);
@@ -35,7 +38,9 @@ fn within(count: usize, most: usize) -> Result<(), RecordRefusal>
 // Whether lists fit their counts.
 fn fits(instr: &Instr) -> Result<(), RecordRefusal>
     requires { is_short instr.now ≡ true }
-    ensures { OnOk result (is_fitting instr.now ≡ true) }
+    ensures fit { OnOk result (is_fitting instr.now ≡ true) }
+    ensures room { OnOk result (misfits_of instr.now ≡ 0) }
+    ensures cause { IfErr result (IsRefused (0 < misfits_of instr.now)) }
 {
     match instr {
         Instr::TyCon(_, _, types) => within(types.len(), MAX_ARGUMENTS),
@@ -58,7 +63,8 @@ fn fits(instr: &Instr) -> Result<(), RecordRefusal>
 
 // One register more of a kind.
 fn next(count: u16) -> Result<u16, RecordRefusal>
-    ensures { IfOk result (λ more. more ≡ count + 1) }
+    ensures more { IfOk result (λ more. more ≡ count + 1) }
+    ensures cause { IfErr result (IsRefused (65535 < count + 1)) }
 {
     match count.checked_add(1) {
         Some(more) => Ok(more),
@@ -72,6 +78,7 @@ impl Emitter {
         ensures code { result.code.items ≡ [] }
         ensures types { result.types ≡ types }
         ensures registers { result.registers ≡ registers }
+        ensures place { result.place ≡ 0 }
     {
         Emitter {
             code: Vec::new(alloc),
@@ -87,6 +94,8 @@ impl Emitter {
         ensures code { OnOk result (self.new.code.items ≡ self.old.code.items) }
         ensures types { OnOk result (self.new.types ≡ self.old.types + 1) }
         ensures registers { OnOk result (self.new.registers ≡ self.old.registers) }
+        ensures place { OnOk result (self.new.place ≡ self.old.place) }
+        ensures cause { IfErr result (IsRefused (65535 < self.old.types + 1)) }
     {
         let register = self.types;
         self.types = next(register)?;
@@ -99,6 +108,8 @@ impl Emitter {
         ensures code { OnOk result (self.new.code.items ≡ self.old.code.items) }
         ensures types { OnOk result (self.new.types ≡ self.old.types) }
         ensures registers { OnOk result (self.new.registers ≡ self.old.registers + 1) }
+        ensures place { OnOk result (self.new.place ≡ self.old.place) }
+        ensures cause { IfErr result (IsRefused (65535 < self.old.registers + 1)) }
     {
         let register = self.registers;
         self.registers = next(register)?;
@@ -111,6 +122,9 @@ impl Emitter {
         ensures code { OnOk result (self.new.code.items ≡ self.old.code.items ++ instr ∷ []) }
         ensures types { OnOk result (self.new.types ≡ self.old.types) }
         ensures registers { OnOk result (self.new.registers ≡ self.old.registers) }
+        ensures place { OnOk result (self.new.place ≡ self.old.place + length_of instr) }
+        ensures room { OnOk result (misfits_of instr ≡ 0) }
+        ensures cause { IfErr result (IsRefused ((4294967295 < self.old.place + length_of instr) ⊎ (0 < misfits_of instr))) }
     {
         fits(&instr)?;
         let place = self.place.saturating_add(length(&instr) as u64);
@@ -128,6 +142,7 @@ impl Emitter {
         ensures jump { (xs ys : List Instr) (n : ℕ) → self.old.code.items ≡ xs ++ on.Jump n ∷ ys → at ≡ length_of_list xs → self.new.code.items ≡ xs ++ on.Jump bytes ∷ ys }
         ensures types { self.new.types ≡ self.old.types }
         ensures registers { self.new.registers ≡ self.old.registers }
+        ensures place { self.new.place ≡ self.old.place }
     {
         if at < self.code.len() {
             let instr = match &self.code[at] {

@@ -1,5 +1,8 @@
 // The variables that a record begins with.
-ghost use Rattle.std.specs.Prelude.{◌≡◌, ◌+◌, OnOk, IfOk};
+ghost use Rattle.std.specs.Prelude.{◌≡◌, ◌+◌, ◌<◌, length, OnOk, IfOk, IfErr};
+ghost use Rattle.lp_gen.specs.Registers.{own_types_take, variables_take};
+ghost use Rattle.lp_gen.specs.inner.Fitting.{IsRefused};
+ghost use Rattle.lp_gen.specs.inner.Using.{Uses, Lacks};
 ghost use Rattle.lp_gen.specs.inner.Entering.{ClauseEntered, QueryEntered, TypesMade};
 
 use crate::emitter::Emitter;
@@ -10,7 +13,9 @@ use lp_term::TypeId;
 
 /// The type variables of the record itself.
 pub(crate) fn make_types(emitter: &mut Emitter, count: u16) -> Result<(), RecordRefusal>
-    ensures { OnOk result (TypesMade emitter.old emitter.new count) }
+    ensures code { OnOk result (TypesMade emitter.old emitter.new count) }
+    ensures uses { OnOk result (Uses emitter.old emitter.new (own_types_take count)) }
+    ensures lacks { IfErr result (Lacks emitter.old (own_types_take count)) }
 {
     for _ in 0..count {
         let register = emitter.new_type()?;
@@ -24,6 +29,8 @@ fn take_registers(emitter: &mut Emitter, count: usize) -> Result<(), RecordRefus
     ensures code { OnOk result (emitter.new.code.items ≡ emitter.old.code.items) }
     ensures types { OnOk result (emitter.new.types ≡ emitter.old.types) }
     ensures registers { OnOk result (emitter.new.registers ≡ emitter.old.registers + count) }
+    ensures place { OnOk result (emitter.new.place ≡ emitter.old.place) }
+    ensures lacks { IfErr result (Lacks emitter.old (variables_take count)) }
 {
     for _ in 0..count {
         let _register = emitter.new_register()?;
@@ -33,7 +40,8 @@ fn take_registers(emitter: &mut Emitter, count: usize) -> Result<(), RecordRefus
 
 // The register so many places behind one.
 fn register_behind(first: u16, place: usize) -> Result<u16, RecordRefusal>
-    ensures { IfOk result (λ register. register ≡ first + place) }
+    ensures register { IfOk result (λ register. register ≡ first + place) }
+    ensures cause { IfErr result (IsRefused (65535 < first + place)) }
 {
     let Ok(offset) = u16::try_from(place) else {
         return Err(RecordRefusal::Registers);
@@ -50,7 +58,9 @@ pub(crate) fn enter_clause(
     environment: &mut Environment<'_>,
     vars: &[TypeId],
 ) -> Result<(), RecordRefusal>
-    ensures { OnOk result (ClauseEntered emitter.old emitter.new environment.old environment.new vars.now) }
+    ensures code { OnOk result (ClauseEntered emitter.old emitter.new environment.old environment.new vars.now) }
+    ensures uses { OnOk result (Uses emitter.old emitter.new (variables_take (length vars.now))) }
+    ensures lacks { IfErr result (Lacks emitter.old (variables_take (length vars.now))) }
 {
     let first = emitter.registers;
     let count = vars.len();
@@ -74,7 +84,9 @@ pub(crate) fn enter_query(
     environment: &mut Environment<'_>,
     vars: &[TypeId],
 ) -> Result<(), RecordRefusal>
-    ensures { OnOk result (QueryEntered emitter.old emitter.new environment.old environment.new vars.now) }
+    ensures code { OnOk result (QueryEntered emitter.old emitter.new environment.old environment.new vars.now) }
+    ensures uses { OnOk result (Uses emitter.old emitter.new (variables_take (length vars.now))) }
+    ensures lacks { IfErr result (Lacks emitter.old (variables_take (length vars.now))) }
 {
     for of in vars.iter().copied() {
         let register = emitter.new_register()?;

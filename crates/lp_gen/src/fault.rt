@@ -19,9 +19,10 @@ pub(crate) enum RecordRefusal {
 }
 
 impl From<RecordRefusal> for GenRefusal {
-    ghost use Rattle.lp_gen.specs.inner.Limiting.{IsOfRecord};
+    ghost use Rattle.std.specs.Prelude.{◌≡◌};
+    ghost use Rattle.lp_gen.specs.inner.Variables.{of_record};
 
-    ghost from_gives = { λ _ e. IsOfRecord e };
+    ghost from_gives = { λ refusal e. e ≡ of_record refusal };
 
     fn from(refusal: RecordRefusal) -> GenRefusal {
         match refusal {

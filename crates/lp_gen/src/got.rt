@@ -1,5 +1,8 @@
 // The parts of a head as they are matched, where they stand in registers or have no parts.
-ghost use Rattle.std.specs.Prelude.{◌≡◌, true, length, nat_lt, OnOk};
+ghost use Rattle.std.specs.Prelude.{◌≡◌, ◌+◌, ◌*◌, true, length, nat_lt, OnOk, IfErr};
+ghost use Rattle.lp_gen.specs.Limits.{past};
+ghost use Rattle.lp_gen.specs.Registers.{plain_code};
+ghost use Rattle.lp_gen.specs.inner.Using.{Uses, Lacks};
 ghost use Rattle.lp_gen.specs.inner.Heading.{VariableGot};
 ghost use Rattle.lp_gen.specs.inner.Saying.{ConstantGot, IntegerGot, TextGot, TermGot, TypeGot};
 
@@ -9,7 +12,9 @@ use lp_code::Instr;
 
 /// A type argument.
 pub(crate) fn get_type(emitter: &mut Emitter, at: u8, register: u16) -> Result<(), RecordRefusal>
-    ensures { OnOk result (TypeGot emitter.old emitter.new at register) }
+    ensures code { OnOk result (TypeGot emitter.old emitter.new at register) }
+    ensures uses { OnOk result (Uses emitter.old emitter.new (plain_code 4 0)) }
+    ensures lacks { IfErr result (Lacks emitter.old (plain_code 4 0)) }
 {
     emitter.emit(Instr::GetType(at, register))?;
     Ok(())
@@ -21,7 +26,9 @@ pub(crate) fn get_variable(
     at: u8,
     register: u16,
 ) -> Result<(), RecordRefusal>
-    ensures { OnOk result (VariableGot emitter.old emitter.new at register) }
+    ensures code { OnOk result (VariableGot emitter.old emitter.new at register) }
+    ensures uses { OnOk result (Uses emitter.old emitter.new (plain_code 4 0)) }
+    ensures lacks { IfErr result (Lacks emitter.old (plain_code 4 0)) }
 {
     emitter.emit(Instr::GetVar(at, register))?;
     Ok(())
@@ -34,7 +41,9 @@ pub(crate) fn get_constant(
     number: u32,
     types: Vec<u16>,
 ) -> Result<(), RecordRefusal>
-    ensures { OnOk result (ConstantGot emitter.old emitter.new at number types.items) }
+    ensures code { OnOk result (ConstantGot emitter.old emitter.new at number types.items) }
+    ensures uses { OnOk result (Uses emitter.old emitter.new (plain_code (5 + 2 * length types.items) (past 255 (length types.items)))) }
+    ensures lacks { IfErr result (Lacks emitter.old (plain_code (5 + 2 * length types.items) (past 255 (length types.items)))) }
 {
     emitter.emit(Instr::GetConst(at, number, types))?;
     Ok(())
@@ -42,7 +51,9 @@ pub(crate) fn get_constant(
 
 /// An argument that is an integer.
 pub(crate) fn get_integer(emitter: &mut Emitter, at: u8, value: i64) -> Result<(), RecordRefusal>
-    ensures { OnOk result (IntegerGot emitter.old emitter.new at value) }
+    ensures code { OnOk result (IntegerGot emitter.old emitter.new at value) }
+    ensures uses { OnOk result (Uses emitter.old emitter.new (plain_code 10 0)) }
+    ensures lacks { IfErr result (Lacks emitter.old (plain_code 10 0)) }
 {
     emitter.emit(Instr::GetInt(at, value))?;
     Ok(())
@@ -51,7 +62,9 @@ pub(crate) fn get_integer(emitter: &mut Emitter, at: u8, value: i64) -> Result<(
 /// An argument that is a string.
 pub(crate) fn get_text(emitter: &mut Emitter, at: u8, text: Vec<u8>) -> Result<(), RecordRefusal>
     requires { nat_lt (length text.items) 65536 ≡ true }
-    ensures { OnOk result (TextGot emitter.old emitter.new at text.items) }
+    ensures code { OnOk result (TextGot emitter.old emitter.new at text.items) }
+    ensures uses { OnOk result (Uses emitter.old emitter.new (plain_code (4 + length text.items) (0))) }
+    ensures lacks { IfErr result (Lacks emitter.old (plain_code (4 + length text.items) (0))) }
 {
     emitter.emit(Instr::GetStr(at, text))?;
     Ok(())
@@ -59,7 +72,9 @@ pub(crate) fn get_text(emitter: &mut Emitter, at: u8, text: Vec<u8>) -> Result<(
 
 /// An argument as it stands in a register.
 pub(crate) fn get_term(emitter: &mut Emitter, at: u8, register: u16) -> Result<(), RecordRefusal>
-    ensures { OnOk result (TermGot emitter.old emitter.new at register) }
+    ensures code { OnOk result (TermGot emitter.old emitter.new at register) }
+    ensures uses { OnOk result (Uses emitter.old emitter.new (plain_code 4 0)) }
+    ensures lacks { IfErr result (Lacks emitter.old (plain_code 4 0)) }
 {
     emitter.emit(Instr::Get(at, register))?;
     Ok(())

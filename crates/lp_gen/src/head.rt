@@ -1,5 +1,8 @@
 // The head of a record.
-ghost use Rattle.std.specs.Prelude.{◌≡◌, [], map, true, IfOk, OnOk};
+ghost use Rattle.std.specs.Prelude.{◌≡◌, ◌<◌, ◌≤◌, [], map, true, IfOk, OnOk, IfErr};
+ghost use Rattle.lp_gen.specs.Registers.{argument_takes, behind_argument, head_arguments_take, behind_arguments, head_types_take, head_takes, behind_head};
+ghost use Rattle.lp_gen.specs.inner.Fitting.{IsRefused};
+ghost use Rattle.lp_gen.specs.inner.Using.{Uses, Lacks};
 ghost use Rattle.lp_calculus.specs.Spine.{arguments};
 ghost use Rattle.lp_code.specs.Denote.{key_is};
 ghost use Rattle.lp_gen.specs.inner.Recorded.{key_in, first_key_of};
@@ -18,13 +21,16 @@ use crate::tables::Tables;
 use crate::terms::put_term;
 use crate::types::TypeView;
 use crate::written_types::{put_type, put_types};
+use lp_base::Memory;
 use lp_code::{Key, RecordHead};
 use lp_term::{Bank, TermId, TermNode, TypeId, head_of, spine_of};
 use std::alloc::Global;
 
 // The number of an argument.
 fn number_of(place: usize) -> Result<u8, RecordRefusal>
-    ensures { IfOk result (λ number. number ≡ place) }
+    ensures number { IfOk result (λ number. number ≡ place) }
+    ensures low { OnOk result (place ≤ 255) }
+    ensures cause { IfErr result (IsRefused (255 < place)) }
 {
     match u8::try_from(place) {
         Ok(number) => Ok(number),
@@ -33,7 +39,7 @@ fn number_of(place: usize) -> Result<u8, RecordRefusal>
 }
 
 // The key of an argument.
-fn key_at(alloc: Global, bank: &Bank, argument: TermId) -> Result<Key, RecordRefusal>
+fn key_at(alloc: Global, bank: &Bank, argument: TermId) -> Result<Key, Memory>
     ensures { IfOk result (λ key. key_is key (key_in (tree bank.now argument.0)) ≡ true) }
 {
     match bank.term_node(head_of(bank, argument)) {
@@ -48,7 +54,7 @@ fn key_at(alloc: Global, bank: &Bank, argument: TermId) -> Result<Key, RecordRef
 }
 
 /// The key of a clause by its head.
-pub(crate) fn key_of(alloc: Global, bank: &Bank, head: TermId) -> Result<Key, RecordRefusal>
+pub(crate) fn key_of(alloc: Global, bank: &Bank, head: TermId) -> Result<Key, Memory>
     ensures { IfOk result (λ key. key_is key (first_key_of (arguments (tree bank.now head.0))) ≡ true) }
 {
     let spine = spine_of(alloc, bank, head)?;
@@ -88,7 +94,10 @@ fn get_argument(
     argument: TermId,
     of: TypeView,
 ) -> Result<(), RecordRefusal>
-    ensures { OnOk result (ArgumentGot (constant_function tables.entry.bank.now tables.entry.constants.now) emitter.old emitter.new (around_of tables.entry.bank.now environment.old) (around_of tables.entry.bank.now environment.new) at (read tables.entry.bank.now of) (tree tables.entry.bank.now argument.0)) }
+    ensures code { OnOk result (ArgumentGot (constant_function tables.entry.bank.now tables.entry.constants.now) emitter.old emitter.new (around_of tables.entry.bank.now environment.old) (around_of tables.entry.bank.now environment.new) at (read tables.entry.bank.now of) (tree tables.entry.bank.now argument.0)) }
+    ensures around { OnOk result (around_of tables.entry.bank.now environment.new ≡ behind_argument (constant_function tables.entry.bank.now tables.entry.constants.now) (around_of tables.entry.bank.now environment.old) (read tables.entry.bank.now of) (tree tables.entry.bank.now argument.0)) }
+    ensures uses { OnOk result (Uses emitter.old emitter.new (argument_takes (constant_function tables.entry.bank.now tables.entry.constants.now) (around_of tables.entry.bank.now environment.old) (read tables.entry.bank.now of) (tree tables.entry.bank.now argument.0))) }
+    ensures lacks { IfErr result (Lacks emitter.old (argument_takes (constant_function tables.entry.bank.now tables.entry.constants.now) (around_of tables.entry.bank.now environment.old) (read tables.entry.bank.now of) (tree tables.entry.bank.now argument.0))) }
 {
     if let Some((level, register)) = place_of(tables.bank, environment, argument) {
         get_variable(emitter, at, register)?;
@@ -127,7 +136,10 @@ fn get_arguments(
     head: TermId,
     args: &[TermId],
 ) -> Result<(), RecordRefusal>
-    ensures { OnOk result (ArgumentsGot (constant_function tables.entry.bank.now tables.entry.constants.now) emitter.old emitter.new (around_of tables.entry.bank.now environment.old) (around_of tables.entry.bank.now environment.new) (head_type (constant_function tables.entry.bank.now tables.entry.constants.now) [] (around_of tables.entry.bank.now environment.old) (tree tables.entry.bank.now head.0)) (map (λ t. tree tables.entry.bank.now t.0) args.now)) }
+    ensures code { OnOk result (ArgumentsGot (constant_function tables.entry.bank.now tables.entry.constants.now) emitter.old emitter.new (around_of tables.entry.bank.now environment.old) (around_of tables.entry.bank.now environment.new) (head_type (constant_function tables.entry.bank.now tables.entry.constants.now) [] (around_of tables.entry.bank.now environment.old) (tree tables.entry.bank.now head.0)) (map (λ t. tree tables.entry.bank.now t.0) args.now)) }
+    ensures around { OnOk result (around_of tables.entry.bank.now environment.new ≡ behind_arguments (constant_function tables.entry.bank.now tables.entry.constants.now) (around_of tables.entry.bank.now environment.old) (head_type (constant_function tables.entry.bank.now tables.entry.constants.now) [] (around_of tables.entry.bank.now environment.old) (tree tables.entry.bank.now head.0)) (map (λ t. tree tables.entry.bank.now t.0) args.now)) }
+    ensures uses { OnOk result (Uses emitter.old emitter.new (head_arguments_take (constant_function tables.entry.bank.now tables.entry.constants.now) (around_of tables.entry.bank.now environment.old) 0 (head_type (constant_function tables.entry.bank.now tables.entry.constants.now) [] (around_of tables.entry.bank.now environment.old) (tree tables.entry.bank.now head.0)) (map (λ t. tree tables.entry.bank.now t.0) args.now))) }
+    ensures lacks { IfErr result (Lacks emitter.old (head_arguments_take (constant_function tables.entry.bank.now tables.entry.constants.now) (around_of tables.entry.bank.now environment.old) 0 (head_type (constant_function tables.entry.bank.now tables.entry.constants.now) [] (around_of tables.entry.bank.now environment.old) (tree tables.entry.bank.now head.0)) (map (λ t. tree tables.entry.bank.now t.0) args.now))) }
 {
     let mut function = type_of_head(tables, environment, &[], head);
     for at in 0..args.len() {
@@ -147,7 +159,9 @@ fn get_types(
     emitter: &mut Emitter,
     types: &[TypeId],
 ) -> Result<(), RecordRefusal>
-    ensures { OnOk result (TypesGot emitter.old emitter.new (map (λ t. type_tree bank.now t.0) types.now)) }
+    ensures code { OnOk result (TypesGot emitter.old emitter.new (map (λ t. type_tree bank.now t.0) types.now)) }
+    ensures uses { OnOk result (Uses emitter.old emitter.new (head_types_take 0 (map (λ t. type_tree bank.now t.0) types.now))) }
+    ensures lacks { IfErr result (Lacks emitter.old (head_types_take 0 (map (λ t. type_tree bank.now t.0) types.now))) }
 {
     for at in 0..types.len() {
         let of = types[at];
@@ -183,7 +197,10 @@ pub(crate) fn get_head(
     environment: &mut Environment<'_>,
     head: TermId,
 ) -> Result<RecordHead, RecordRefusal>
-    ensures { IfOk result (λ predicate. HeadMatched (constant_function tables.entry.bank.now tables.entry.constants.now) emitter.old emitter.new (around_of tables.entry.bank.now environment.old) (around_of tables.entry.bank.now environment.new) predicate (tree tables.entry.bank.now head.0)) }
+    ensures code { IfOk result (λ predicate. HeadMatched (constant_function tables.entry.bank.now tables.entry.constants.now) emitter.old emitter.new (around_of tables.entry.bank.now environment.old) (around_of tables.entry.bank.now environment.new) predicate (tree tables.entry.bank.now head.0)) }
+    ensures around { OnOk result (around_of tables.entry.bank.now environment.new ≡ behind_head (constant_function tables.entry.bank.now tables.entry.constants.now) (around_of tables.entry.bank.now environment.old) (tree tables.entry.bank.now head.0)) }
+    ensures uses { OnOk result (Uses emitter.old emitter.new (head_takes (constant_function tables.entry.bank.now tables.entry.constants.now) (around_of tables.entry.bank.now environment.old) (tree tables.entry.bank.now head.0))) }
+    ensures lacks { IfErr result (Lacks emitter.old (head_takes (constant_function tables.entry.bank.now tables.entry.constants.now) (around_of tables.entry.bank.now environment.old) (tree tables.entry.bank.now head.0))) }
 {
     let spine = spine_of(alloc, tables.bank, head)?;
     let named = predicate(tables.bank, environment, spine.head);

@@ -25,6 +25,8 @@ mod forms;
 mod got;
 // The head of a record.
 mod head;
+// Laws of what code takes.
+mod laws;
 // Limits that are passed whatever the code is.
 mod limits;
 // The steps of a term.
@@ -52,3 +54,4 @@ mod written_types;
 
 pub use codes::{generate, generate_query};
 pub use fault::GenRefusal;
+pub use laws::{goals_take_alike, worked_records_take};

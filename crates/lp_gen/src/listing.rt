@@ -10,11 +10,11 @@ ghost use Rattle.lp_gen.specs.inner.Tasks.{Adds, Course, course, act, done};
 ghost use Rattle.lp_gen.specs.declared.listing.Task.TheVariants as on;
 
 use crate::environment::Environment;
-use crate::fault::RecordRefusal;
 use crate::standard::{Function, constant_type};
 use crate::tables::Tables;
 use crate::term_steps::TermStep;
 use crate::types::TypeView;
+use lp_base::Memory;
 use lp_term::{Bank, Spine, TermId, TermNode, spine_of};
 use std::alloc::Global;
 
@@ -50,7 +50,7 @@ fn variable<'a>(
     environment: &mut Environment<'_>,
     index: u64,
     steps: &mut Vec<TermStep<'a>>,
-) -> Result<(), RecordRefusal>
+) -> Result<(), Memory>
     ensures { OnOk result ((b : Nodes) → Adds b environment.old environment.new steps.old.items steps.new.items (level_listed (around_of b environment.old) (level_in (around_of b environment.old) index))) }
 {
     let Some(level) = environment.level(index) else {
@@ -76,7 +76,7 @@ fn list_index<'a>(
     bound: &[TypeView],
     index: u64,
     steps: &mut Vec<TermStep<'a>>,
-) -> Result<(), RecordRefusal>
+) -> Result<(), Memory>
     ensures { OnOk result ((b : Nodes) → Adds b environment.old environment.new steps.old.items steps.new.items (index_listed (map (read b) (reverse bound.now)) (around_of b environment.old) index)) }
 {
     match bound_type(bound, index) {
@@ -127,7 +127,7 @@ fn leaf<'a>(
     environment: &mut Environment<'_>,
     lists: &mut Lists<'a>,
     node: TermNode<'a>,
-) -> Result<(), RecordRefusal>
+) -> Result<(), Memory>
     ensures bound { OnOk result (lists.new.bound.items ≡ lists.old.bound.items) }
     ensures adds { OnOk result ((b : Nodes) → Adds b environment.old environment.new lists.old.steps.items lists.new.steps.items (node_listed b (map (read b) (reverse lists.old.bound.items)) (around_of b environment.old) node.entry)) }
 {
@@ -164,7 +164,7 @@ fn visit<'a>(
     term: TermId,
     of: TypeView,
     work: &mut Vec<Task>,
-) -> Result<(), RecordRefusal>
+) -> Result<(), Memory>
     ensures less { OnOk result (term_work tables.entry.bank.now work.new.items + 1 ≤ term_work tables.entry.bank.now work.old.items + 4 * size (tree tables.entry.bank.now term.0)) }
     ensures acts { OnOk result (done (constant_function tables.entry.bank.now tables.entry.constants.now) tables.entry.bank.now work.new.items (course tables.entry.bank.now environment.new lists.new) ≡ done (constant_function tables.entry.bank.now tables.entry.constants.now) tables.entry.bank.now work.old.items (act (constant_function tables.entry.bank.now tables.entry.constants.now) tables.entry.bank.now (on.Visit term of) (course tables.entry.bank.now environment.old lists.old))) }
 {
@@ -198,7 +198,7 @@ fn visit_args(
     mut args: Vec<TermId>,
     function: Function,
     work: &mut Vec<Task>,
-) -> Result<(), RecordRefusal>
+) -> Result<(), Memory>
     ensures less { OnOk result (term_work bank.now work.new.items ≤ term_work bank.now work.old.items + sum_by (λ t. 1 + 4 * size (tree bank.now t.0)) args.items) }
     ensures acts { OnOk result ((K : ℕ → List Ty → Ty) (w : Course) → done K bank.now work.new.items w ≡ done K bank.now work.old.items (act K bank.now (on.Args args function) w)) }
 {
@@ -226,7 +226,7 @@ fn take_up<'a>(
     lists: &mut Lists<'a>,
     task: Task,
     work: &mut Vec<Task>,
-) -> Result<(), RecordRefusal>
+) -> Result<(), Memory>
     ensures less { OnOk result (term_work tables.entry.bank.now work.new.items + 1 ≤ term_work tables.entry.bank.now work.old.items + term_task tables.entry.bank.now task) }
     ensures acts { OnOk result (done (constant_function tables.entry.bank.now tables.entry.constants.now) tables.entry.bank.now work.new.items (course tables.entry.bank.now environment.new lists.new) ≡ done (constant_function tables.entry.bank.now tables.entry.constants.now) tables.entry.bank.now work.old.items (act (constant_function tables.entry.bank.now tables.entry.constants.now) tables.entry.bank.now task (course tables.entry.bank.now environment.old lists.old))) }
 {
@@ -258,7 +258,7 @@ pub(crate) fn list_steps<'a>(
     environment: &mut Environment<'_>,
     term: TermId,
     of: TypeView,
-) -> Result<Vec<TermStep<'a>>, RecordRefusal>
+) -> Result<Vec<TermStep<'a>>, Memory>
     ensures { IfOk result (λ steps. Adds tables.entry.bank.now environment.old environment.new [] steps.items (listed (constant_function tables.entry.bank.now tables.entry.constants.now) [] (around_of tables.entry.bank.now environment.old) (read tables.entry.bank.now of) (tree tables.entry.bank.now term.0))) }
 {
     let mut lists = Lists {

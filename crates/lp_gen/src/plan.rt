@@ -1,8 +1,12 @@
 // A clause or query with the clauses that it assumes: each as a head and a list of steps.
-ghost use Rattle.std.specs.Prelude.{◌≡◌, List, ◌≤◌, ◌<◌, ◌+◌, ◌∷◌, ◌++◌, [], map, length, IfOk, IfErr, OnOk};
+ghost use Rattle.std.specs.Prelude.{◌≡◌, All, List, ◌≤◌, ◌<◌, ◌+◌, ◌∷◌, ◌++◌, [], map, length, IfOk, IfErr, OnOk};
 ghost use Rattle.lp_gen.specs.inner.Sizes.{goal_work, goal_task, goal_weighs, goals_weigh};
 ghost use Rattle.lp_gen.specs.inner.Limiting.{IsOfPlan};
 ghost use Rattle.lp_gen.specs.inner.Recorded.{own_count};
+ghost use Rattle.lp_gen.specs.inner.Variables.{OriginFits, DueFits, StaysLeveled, Spreads, IsFull};
+ghost use Rattle.lp_gen.specs.declared.fault.GenRefusal.TheVariants as told;
+ghost use Rattle.lp_gen.specs.declared.fault.RecordRefusal.TheVariants as refusal;
+ghost use Rattle.lp_base.specs.declared.limit.Limit.TheVariants as limit;
 ghost use Rattle.lp_gen.specs.inner.Planning.{AreDue, origin_records, most_of, body_of, todo_of, todos, due_goals, due_end, due_level, IsAssumed, WalkKept, PartWalked, ArePlanned, AllCaptured};
 ghost use Rattle.lp_gen.specs.declared.plan.Due.{Due};
 ghost use Rattle.lp_gen.specs.declared.plan.Step.TheVariants as on;
@@ -10,7 +14,7 @@ ghost use Rattle.lp_gen.specs.declared.plan.Step.TheVariants as on;
 use crate::captured::captured_of;
 use crate::fault::{GenRefusal, RecordRefusal};
 use indexmap::IndexSet;
-use lp_base::{Limit, MAX_CLAUSES, Memory};
+use lp_base::{Limit, MAX_CLAUSES, MAX_REGISTERS, Memory};
 use lp_model::{Clause, Goal, Typed};
 use lp_term::{Bank, TermId, TypeId};
 use std::alloc::Global;
@@ -88,6 +92,7 @@ enum Task<'a> {
 // The goals of a record in the making.
 #[derive(Drop)]
 struct Walk<'a> {
+    base: u64,
     level: u64,
     steps: Vec<Step>,
     tasks: Vec<Task<'a>>,
@@ -130,6 +135,7 @@ impl<'a> Walk<'a> {
         ensures steps { OnOk result (self.new.steps.items ≡ self.old.steps.items ++ step ∷ []) }
         ensures tasks { OnOk result (self.new.tasks ≡ self.old.tasks) }
         ensures level { OnOk result (self.new.level ≡ self.old.level) }
+        ensures base { OnOk result (self.new.base ≡ self.old.base) }
     {
         self.steps.push(step)?;
         Ok(())
@@ -141,6 +147,7 @@ impl<'a> Walk<'a> {
         ensures todo { OnOk result (todos self.new.tasks.items ≡ due_goals goals.now ∷ due_end end self.old.level ∷ todos self.old.tasks.items) }
         ensures steps { OnOk result (self.new.steps ≡ self.old.steps) }
         ensures level { OnOk result (self.new.level ≡ self.old.level) }
+        ensures base { OnOk result (self.new.base ≡ self.old.base) }
     {
         self.tasks.push(Task::End(end, self.level))?;
         self.tasks.push(Task::Goals(goals))?;
@@ -153,6 +160,7 @@ impl<'a> Walk<'a> {
         ensures todo { OnOk result (todos self.new.tasks.items ≡ due_goals goals.now ∷ due_end end self.old.level ∷ todos self.old.tasks.items) }
         ensures steps { OnOk result (self.new.steps.items ≡ self.old.steps.items ++ step ∷ []) }
         ensures level { OnOk result (self.new.level ≡ self.old.level) }
+        ensures base { OnOk result (self.new.base ≡ self.old.base) }
     {
         self.put(step)?;
         self.push_block(goals, end)?;
@@ -165,6 +173,7 @@ impl<'a> Walk<'a> {
         ensures todo { OnOk result (todos self.new.tasks.items ≡ due_goals left.now ∷ due_end on.Turn self.old.level ∷ due_goals right.now ∷ due_end on.EndEither self.old.level ∷ todos self.old.tasks.items) }
         ensures steps { OnOk result (self.new.steps.items ≡ self.old.steps.items ++ on.Either ∷ []) }
         ensures level { OnOk result (self.new.level ≡ self.old.level) }
+        ensures base { OnOk result (self.new.base ≡ self.old.base) }
     {
         self.put(Step::Either)?;
         self.push_block(right, Step::EndEither)?;
@@ -178,11 +187,14 @@ impl<'a> Walk<'a> {
         ensures todo { OnOk result (todos self.new.tasks.items ≡ due_goals goals.now ∷ due_level self.old.level ∷ todos self.old.tasks.items) }
         ensures steps { OnOk result (self.new.steps.items ≡ self.old.steps.items ++ on.Some of ∷ []) }
         ensures level { OnOk result (self.new.level ≡ self.old.level + 1) }
+        ensures base { OnOk result (self.new.base ≡ self.old.base) }
+        ensures near { OnOk result (self.new.level ≤ self.old.base + 65535) }
+        ensures full { IfErr result (λ e. self.old.base ≤ 4294836225 → self.old.level + 1 ≤ self.old.base + 65535 → e ≡ refusal.Memory) }
     {
         self.put(Step::Some(of))?;
         self.tasks.push(Task::Level(self.level))?;
         self.tasks.push(Task::Goals(goals))?;
-        let level = with_more(self.level, 1)?;
+        let level = with_more(self.base, self.level, 1)?;
         self.level = level;
         Ok(())
     }
@@ -193,22 +205,25 @@ impl<'a> Walk<'a> {
         ensures todo { OnOk result (todos self.new.tasks.items ≡ due_goals goals.now ∷ due_end on.EndAll self.old.level ∷ todos self.old.tasks.items) }
         ensures steps { OnOk result (self.new.steps.items ≡ self.old.steps.items ++ on.All of ∷ []) }
         ensures level { OnOk result (self.new.level ≡ self.old.level + 1) }
+        ensures base { OnOk result (self.new.base ≡ self.old.base) }
+        ensures near { OnOk result (self.new.level ≤ self.old.base + 65535) }
+        ensures full { IfErr result (λ e. self.old.base ≤ 4294836225 → self.old.level + 1 ≤ self.old.base + 65535 → e ≡ refusal.Memory) }
     {
         self.put_block(Step::All(of), goals, Step::EndAll)?;
-        let level = with_more(self.level, 1)?;
+        let level = with_more(self.base, self.level, 1)?;
         self.level = level;
         Ok(())
     }
 }
 
-/// The number of variables with more of them. No clause that is within the limits of nesting has 2^32 of them around a goal without more registers than a
-/// record may have.
-pub(crate) fn with_more(level: u64, more: u64) -> Result<u64, RecordRefusal>
+// The number of variables around with more of them. A record has at most 65,535 behind its base.
+fn with_more(base: u64, level: u64, more: u64) -> Result<u64, RecordRefusal>
     ensures sum { IfOk result (λ sum. sum ≡ level + more) }
-    ensures few { IfOk result (λ sum. sum ≤ 4294967295) }
+    ensures near { IfOk result (λ sum. sum ≤ base + 65535) }
+    ensures full { IfErr result (λ e. base ≤ 4294836225 → level + more ≤ base + 65535 → e ≡ refusal.Memory) }
 {
     match level.checked_add(more) {
-        Some(sum) if sum <= u32::MAX as u64 => Ok(sum),
+        Some(sum) if sum.saturating_sub(base) <= MAX_REGISTERS as u64 => Ok(sum),
         _ => Err(RecordRefusal::Registers),
     }
 }
@@ -222,6 +237,7 @@ impl<'a> Plan<'a> {
         ensures count { IfOk result (λ plan. length plan.parts.items ≡ origin_records bank.now origin.entry) }
         ensures within { IfOk result (λ plan. origin_records bank.now origin.entry ≤ most_of origin.entry) }
         ensures cause { IfErr result (IsOfPlan (origin_records bank.now origin.entry) (most_of origin.entry)) }
+        ensures fits { IfErr result (λ e. e ≡ told.Limit limit.Registers → OriginFits bank.now origin.entry → ⊥) }
     {
         let mut plan = Plan {
             alloc,
@@ -254,13 +270,17 @@ impl<'a> Plan<'a> {
 
     // The steps of a part; those that it assumes are due.
     fn walk(&mut self, bank: &Bank, due: Due<'a>) -> Result<Vec<Step>, RecordRefusal>
+        requires low { due.base ≤ 4294836225 }
         ensures walked { IfOk result (λ steps. PartWalked due.entry self.old.due.items self.new.due.items self.old.assumptions.items self.new.assumptions.items steps.items) }
         ensures captured { IfOk result (λ steps. AllCaptured bank.now self.old.assumptions.items → AllCaptured bank.now self.new.assumptions.items) }
         ensures parts { IfOk result (λ steps. self.new.parts ≡ self.old.parts) }
+        ensures full { IfErr result (λ e. DueFits bank.now due.entry → e ≡ refusal.Memory) }
+        ensures dues { IfOk result (λ steps. (more : List Due) × (self.new.due.items ≡ self.old.due.items ++ more) × All (λ u. u.base ≤ due.entry.base + 65535) more × (DueFits bank.now due.entry → All (DueFits bank.now) more)) }
     {
         let variables = due.origin.variables() as u64;
-        let level = with_more(due.base, variables)?;
+        let level = with_more(due.base, due.base, variables)?;
         let mut walk = Walk {
+            base: due.base,
             level,
             steps: Vec::new(self.alloc),
             tasks: Vec::new(self.alloc),
@@ -283,6 +303,10 @@ impl<'a> Plan<'a> {
         ensures kept { OnOk result (WalkKept self.old.due.items self.new.due.items self.old.assumptions.items self.new.assumptions.items walk.old.level walk.new.level walk.old.steps.items walk.new.steps.items (todo_of task.entry ∷ todos walk.old.tasks.items) (todos walk.new.tasks.items)) }
         ensures captured { OnOk result (AllCaptured bank.now self.old.assumptions.items → AllCaptured bank.now self.new.assumptions.items) }
         ensures parts { OnOk result (self.new.parts ≡ self.old.parts) }
+        ensures base { OnOk result (walk.new.base ≡ walk.old.base) }
+        ensures leveled { OnOk result (StaysLeveled bank.now walk.old.base walk.old.level walk.new.level (todo_of task.entry ∷ todos walk.old.tasks.items) (todos walk.new.tasks.items)) }
+        ensures dues { OnOk result (Spreads bank.now walk.old.level self.old.due.items self.new.due.items (todo_of task.entry ∷ todos walk.old.tasks.items) (todos walk.new.tasks.items)) }
+        ensures full { IfErr result (IsFull bank.now walk.old.base walk.old.level (todo_of task.entry ∷ todos walk.old.tasks.items)) }
     {
         match task {
             Task::Goals(goals) => {
@@ -315,6 +339,10 @@ impl<'a> Plan<'a> {
         ensures kept { OnOk result (WalkKept self.old.due.items self.new.due.items self.old.assumptions.items self.new.assumptions.items walk.old.level walk.new.level walk.old.steps.items walk.new.steps.items (due_goals (goal.now ∷ []) ∷ todos walk.old.tasks.items) (todos walk.new.tasks.items)) }
         ensures captured { OnOk result (AllCaptured bank.now self.old.assumptions.items → AllCaptured bank.now self.new.assumptions.items) }
         ensures parts { OnOk result (self.new.parts ≡ self.old.parts) }
+        ensures base { OnOk result (walk.new.base ≡ walk.old.base) }
+        ensures leveled { OnOk result (StaysLeveled bank.now walk.old.base walk.old.level walk.new.level (due_goals (goal.now ∷ []) ∷ todos walk.old.tasks.items) (todos walk.new.tasks.items)) }
+        ensures dues { OnOk result (Spreads bank.now walk.old.level self.old.due.items self.new.due.items (due_goals (goal.now ∷ []) ∷ todos walk.old.tasks.items) (todos walk.new.tasks.items)) }
+        ensures full { IfErr result (IsFull bank.now walk.old.base walk.old.level (due_goals (goal.now ∷ []) ∷ todos walk.old.tasks.items)) }
     {
         match goal {
             Goal::Atom(term) => {
@@ -350,12 +378,7 @@ impl<'a> Plan<'a> {
     }
 
     // An assumption of these clauses. Their records start with the variables around it that stand in them.
-    fn assume(
-        &mut self,
-        bank: &Bank,
-        clauses: &'a [Clause],
-        base: u64,
-    ) -> Result<usize, RecordRefusal>
+    fn assume(&mut self, bank: &Bank, clauses: &'a [Clause], base: u64) -> Result<usize, Memory>
         ensures assumed { IfOk result (λ number. IsAssumed self.old.due.items self.new.due.items self.old.assumptions.items self.new.assumptions.items clauses.now base number) }
         ensures captured { IfOk result (λ number. AllCaptured bank.now self.old.assumptions.items → AllCaptured bank.now self.new.assumptions.items) }
         ensures parts { IfOk result (λ number. self.new.parts ≡ self.old.parts) }

@@ -202,12 +202,7 @@ fn write_types(emitter: &mut Emitter, program: bool, count: u16) -> Result<(), R
 }
 
 // The key of a record.
-fn key_by(
-    alloc: Global,
-    bank: &Bank,
-    origin: Origin<'_>,
-    program: bool,
-) -> Result<Key, RecordRefusal>
+fn key_by(alloc: Global, bank: &Bank, origin: Origin<'_>, program: bool) -> Result<Key, Memory>
     ensures { IfOk result (HasKey bank.now origin.entry program) }
 {
     let Origin::Clause(clause) = origin else {

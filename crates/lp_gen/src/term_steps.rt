@@ -1,5 +1,11 @@
 // Terms in registers, by steps in the order of their code: those of a term's parts come before its own.
-ghost use Rattle.std.specs.Prelude.{ℕ, [], ◌∷◌, ◌++◌, List, OnOk, IfOk};
+ghost use Rattle.std.specs.Prelude.{◌≡◌, ℕ, suc, [], ◌∷◌, ◌++◌, ◌-◌, ◌≤◌, List, length, map, OnOk, IfOk, IfErr};
+ghost use Rattle.lp_term.specs.Nodes.{type_tree};
+ghost use Rattle.lp_gen.specs.Registers.{step_takes, steps_take};
+ghost use Rattle.lp_gen.specs.inner.Reading.{read};
+ghost use Rattle.lp_gen.specs.inner.Listing.{plain_step, make_variable, apply_last, abstract_last};
+ghost use Rattle.lp_gen.specs.inner.Stacked.{IsStacked, stack_behind, AreStacked};
+ghost use Rattle.lp_gen.specs.inner.Using.{Uses, Lacks};
 ghost use Rattle.lp_gen.specs.inner.TermSteps.{StepsPut, TermOfSteps};
 ghost use Rattle.lp_gen.specs.declared.emitter.Emitter as so_far;
 ghost use Rattle.lp_gen.specs.declared.term_steps.TermStep as any_step;
@@ -40,7 +46,11 @@ fn apply(
     count: usize,
     made: &mut Vec<u16>,
 ) -> Result<(), RecordRefusal>
-    ensures { OnOk result ((start : so_far.Emitter) (steps : List any_step.TermStep) → StepsPut bank.now start emitter.old steps made.old.items → StepsPut bank.now start emitter.new (steps ++ on.Apply count ∷ []) made.new.items) }
+    requires { suc count ≤ length made.old.items }
+    ensures code { OnOk result ((start : so_far.Emitter) (steps : List any_step.TermStep) → StepsPut bank.now start emitter.old steps made.old.items → StepsPut bank.now start emitter.new (steps ++ on.Apply count ∷ []) made.new.items) }
+    ensures count { OnOk result (length made.new.items ≡ length made.old.items - count) }
+    ensures uses { OnOk result (Uses emitter.old emitter.new (step_takes (apply_last count))) }
+    ensures lacks { IfErr result (Lacks emitter.old (step_takes (apply_last count))) }
 {
     let args = take(made, count)?;
     let heads = take(made, 1)?;
@@ -58,7 +68,11 @@ fn abstraction(
     of: TypeView,
     made: &mut Vec<u16>,
 ) -> Result<(), RecordRefusal>
-    ensures { OnOk result ((start : so_far.Emitter) (steps : List any_step.TermStep) → StepsPut bank.now start emitter.old steps made.old.items → StepsPut bank.now start emitter.new (steps ++ on.Abstract of ∷ []) made.new.items) }
+    requires { 1 ≤ length made.old.items }
+    ensures code { OnOk result ((start : so_far.Emitter) (steps : List any_step.TermStep) → StepsPut bank.now start emitter.old steps made.old.items → StepsPut bank.now start emitter.new (steps ++ on.Abstract of ∷ []) made.new.items) }
+    ensures count { OnOk result (length made.new.items ≡ length made.old.items) }
+    ensures uses { OnOk result (Uses emitter.old emitter.new (step_takes (abstract_last (read bank.now of)))) }
+    ensures lacks { IfErr result (Lacks emitter.old (step_takes (abstract_last (read bank.now of)))) }
 {
     let bodies = take(made, 1)?;
     let body = register_at(bodies.as_slice(), 0);
@@ -75,7 +89,9 @@ fn new_variable(
     register: u16,
     of: TypeId,
 ) -> Result<(), RecordRefusal>
-    ensures { OnOk result ((start : so_far.Emitter) (steps : List any_step.TermStep) (made : List ℕ) → StepsPut bank.now start emitter.old steps made → StepsPut bank.now start emitter.new (steps ++ on.New register of ∷ []) made) }
+    ensures code { OnOk result ((start : so_far.Emitter) (steps : List any_step.TermStep) (made : List ℕ) → StepsPut bank.now start emitter.old steps made → StepsPut bank.now start emitter.new (steps ++ on.New register of ∷ []) made) }
+    ensures uses { OnOk result (Uses emitter.old emitter.new (step_takes (make_variable register (type_tree bank.now of.0)))) }
+    ensures lacks { IfErr result (Lacks emitter.old (step_takes (make_variable register (type_tree bank.now of.0)))) }
 {
     let kind = put_type(alloc, bank, emitter, TypeView::Of(of, None))?;
     emitter.emit(Instr::New(register, kind))?;
@@ -90,7 +106,11 @@ fn put_step<'b>(
     step: TermStep<'b>,
     made: &mut Vec<u16>,
 ) -> Result<(), RecordRefusal>
-    ensures { OnOk result ((start : so_far.Emitter) (steps : List any_step.TermStep) → StepsPut bank.now start emitter.old steps made.old.items → StepsPut bank.now start emitter.new (steps ++ step.entry ∷ []) made.new.items) }
+    requires { IsStacked (length made.old.items) (plain_step bank.now step) }
+    ensures code { OnOk result ((start : so_far.Emitter) (steps : List any_step.TermStep) → StepsPut bank.now start emitter.old steps made.old.items → StepsPut bank.now start emitter.new (steps ++ step.entry ∷ []) made.new.items) }
+    ensures count { OnOk result (length made.new.items ≡ stack_behind (length made.old.items) (plain_step bank.now step.entry)) }
+    ensures uses { OnOk result (Uses emitter.old emitter.new (step_takes (plain_step bank.now step.entry))) }
+    ensures lacks { IfErr result (Lacks emitter.old (step_takes (plain_step bank.now step.entry))) }
 {
     match step {
         TermStep::Constant(number, types) => {
@@ -139,7 +159,10 @@ pub(crate) fn put_steps(
     emitter: &mut Emitter,
     steps: &[TermStep<'_>],
 ) -> Result<u16, RecordRefusal>
-    ensures { IfOk result (λ register. TermOfSteps bank.now emitter.old emitter.new register steps.now) }
+    requires { AreStacked 0 (map (plain_step bank.now) steps.now) }
+    ensures code { IfOk result (λ register. TermOfSteps bank.now emitter.old emitter.new register steps.now) }
+    ensures uses { OnOk result (Uses emitter.old emitter.new (steps_take (map (plain_step bank.now) steps.now))) }
+    ensures lacks { IfErr result (Lacks emitter.old (steps_take (map (plain_step bank.now) steps.now))) }
 {
     let mut made = Vec::new(alloc);
     for step in steps.iter().copied() {

@@ -1,6 +1,9 @@
 // Variables that do not stand in the head, and the end of the head.
-ghost use Rattle.std.specs.Prelude.{◌≡◌, OnOk};
+ghost use Rattle.std.specs.Prelude.{◌≡◌, OnOk, IfErr};
+ghost use Rattle.lp_gen.specs.Registers.{plain_code, made_takes, unset_take};
+ghost use Rattle.lp_gen.specs.inner.Using.{Uses, UsesUnset, Lacks};
 ghost use Rattle.lp_gen.specs.inner.Listing.{around_of, seen, set_level};
+ghost use Rattle.lp_gen.specs.inner.Bodies.{IsShort};
 ghost use Rattle.lp_gen.specs.inner.Beginning.{VariableMade, PlaceMade, OwnMade, NeckPut};
 
 use crate::emitter::Emitter;
@@ -23,6 +26,8 @@ fn put_variable(
 ) -> Result<(), RecordRefusal>
     ensures made { OnOk result (VariableMade emitter.old emitter.new (around_of bank.now environment.old) level (seen bank.now variable)) }
     ensures set { OnOk result (around_of bank.now environment.new ≡ set_level (around_of bank.now environment.old) level) }
+    ensures uses { OnOk result (Uses emitter.old emitter.new (made_takes (seen bank.now variable))) }
+    ensures lacks { IfErr result (Lacks emitter.old (made_takes (seen bank.now variable))) }
 {
     let of = TypeView::Of(variable.of, None);
     let register = put_type(alloc, bank, emitter, of)?;
@@ -39,7 +44,9 @@ fn make_place(
     environment: &mut Environment<'_>,
     place: usize,
 ) -> Result<(), RecordRefusal>
-    ensures { OnOk result (PlaceMade emitter.old emitter.new (around_of bank.now environment.old) (around_of bank.now environment.new) place) }
+    ensures code { OnOk result (PlaceMade emitter.old emitter.new (around_of bank.now environment.old) (around_of bank.now environment.new) place) }
+    ensures uses { OnOk result (UsesUnset emitter.old emitter.new (around_of bank.now environment.old) (around_of bank.now environment.new)) }
+    ensures lacks { IfErr result (Lacks emitter.old (unset_take (around_of bank.now environment.old).own)) }
 {
     let level = environment.base.saturating_add(place as u64);
     let Some(variable) = environment.at(level) else {
@@ -60,7 +67,9 @@ pub(crate) fn make_variables(
     environment: &mut Environment<'_>,
     is_clause: bool,
 ) -> Result<(), RecordRefusal>
-    ensures { OnOk result (OwnMade emitter.old emitter.new (around_of bank.now environment.old) (around_of bank.now environment.new)) }
+    ensures code { OnOk result (OwnMade emitter.old emitter.new (around_of bank.now environment.old) (around_of bank.now environment.new)) }
+    ensures uses { IsShort (around_of bank.now environment.old) → OnOk result (Uses emitter.old emitter.new (unset_take (around_of bank.now environment.old).own)) }
+    ensures lacks { IfErr result (Lacks emitter.old (unset_take (around_of bank.now environment.old).own)) }
 {
     let count = environment.own.len();
     for at in 0..count {
@@ -72,7 +81,9 @@ pub(crate) fn make_variables(
 
 /// The end of the head.
 pub(crate) fn put_neck(emitter: &mut Emitter) -> Result<(), RecordRefusal>
-    ensures { OnOk result (NeckPut emitter.old emitter.new) }
+    ensures code { OnOk result (NeckPut emitter.old emitter.new) }
+    ensures uses { OnOk result (Uses emitter.old emitter.new (plain_code 1 0)) }
+    ensures lacks { IfErr result (Lacks emitter.old (plain_code 1 0)) }
 {
     emitter.emit(Instr::Neck)?;
     Ok(())

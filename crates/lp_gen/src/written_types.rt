@@ -1,9 +1,12 @@
 // Types in registers: of each node the parts come first, and then the node in the next register.
-ghost use Rattle.std.specs.Prelude.{◌≡◌, ℕ, List, ◌≤◌, ◌+◌, ◌*◌, map, min, slice_index_or, OnOk, IfOk};
+ghost use Rattle.std.specs.Prelude.{◌≡◌, ℕ, List, ◌≤◌, ◌+◌, ◌*◌, length, map, min, slice_index_or, OnOk, IfOk, IfErr};
 ghost use Rattle.lp_calculus.specs.Types.{tys};
 ghost use Rattle.lp_term.specs.Nodes.{type_tree};
 ghost use Rattle.lp_gen.specs.inner.Reading.{read, read_at};
 ghost use Rattle.lp_gen.specs.inner.Running.{IsTypePut, AreTypesPut};
+ghost use Rattle.lp_gen.specs.Registers.{type_takes, all_take};
+ghost use Rattle.lp_gen.specs.inner.Spending.{Spent, Overflows};
+ghost use Rattle.lp_gen.specs.inner.Using.{Uses, Lacks};
 ghost use Rattle.lp_gen.specs.inner.Sizes.{type_size, types_size, type_task, type_work};
 ghost use Rattle.lp_gen.specs.inner.Works.{Comes, GivesWay, IsGrown, act, done, work_now, with_constructor, with_arrow, first_of, last_of};
 ghost use Rattle.lp_gen.specs.declared.written_types.TypeTask.TheVariants as on;
@@ -11,6 +14,7 @@ ghost use Rattle.lp_gen.specs.declared.written_types.TypeTask.TheVariants as on;
 use crate::emitter::Emitter;
 use crate::fault::RecordRefusal;
 use crate::types::{Top, TypeView};
+use lp_base::Memory;
 use lp_code::Instr;
 use lp_term::{Bank, TermId, TypeId};
 use std::alloc::Global;
@@ -33,7 +37,7 @@ pub(crate) fn register_of_type(number: u64) -> u16
 }
 
 /// The last registers of so many, taken off.
-pub(crate) fn take(registers: &mut Vec<u16>, count: usize) -> Result<Vec<u16>, RecordRefusal>
+pub(crate) fn take(registers: &mut Vec<u16>, count: usize) -> Result<Vec<u16>, Memory>
     ensures taken { IfOk result (λ taken. taken.items ≡ last_of count registers.old.items) }
     ensures left { OnOk result (registers.new.items ≡ first_of count registers.old.items) }
 {
@@ -57,7 +61,7 @@ fn visit_type<'b>(
     of: TypeView,
     work: &mut Vec<TypeTask<'b>>,
     made: &mut Vec<u16>,
-) -> Result<(), RecordRefusal>
+) -> Result<(), Memory>
     ensures less { OnOk result (type_work bank.now work.new.items + 1 ≤ type_work bank.now work.old.items + 3 * type_size (read bank.now of)) }
     ensures gives { OnOk result (GivesWay bank.now (on.Visit of) work.old.items work.new.items made.old.items made.new.items) }
 {
@@ -90,7 +94,7 @@ fn visit_parts<'b>(
     parts: &'b [TypeId],
     constant: Option<TermId>,
     work: &mut Vec<TypeTask<'b>>,
-) -> Result<(), RecordRefusal>
+) -> Result<(), Memory>
     ensures less { OnOk result (type_work bank.now work.new.items ≤ type_work bank.now work.old.items + 3 * types_size (tys (map (λ p. read_at bank.now constant (type_tree bank.now p.0)) parts.now))) }
     ensures gives { OnOk result ((made : List ℕ) → GivesWay bank.now (on.Parts parts.entry constant) work.old.items work.new.items made made) }
 {
@@ -109,7 +113,9 @@ fn put_constructor(
     parts: usize,
     made: &mut Vec<u16>,
 ) -> Result<(), RecordRefusal>
-    ensures { OnOk result (Comes emitter.old emitter.new (with_constructor kind parts) made.old.items made.new.items) }
+    ensures made { OnOk result (Comes emitter.old emitter.new (with_constructor kind parts) made.old.items made.new.items) }
+    ensures spent { OnOk result (Spent emitter.old emitter.new) }
+    ensures over { IfErr result (Overflows emitter.old (with_constructor kind parts (work_now emitter.old made.old.items))) }
 {
     let types = take(made, parts)?;
     let register = emitter.new_type()?;
@@ -120,7 +126,9 @@ fn put_constructor(
 
 // An arrow between the last two.
 fn put_arrow(emitter: &mut Emitter, made: &mut Vec<u16>) -> Result<(), RecordRefusal>
-    ensures { OnOk result (Comes emitter.old emitter.new with_arrow made.old.items made.new.items) }
+    ensures made { OnOk result (Comes emitter.old emitter.new with_arrow made.old.items made.new.items) }
+    ensures spent { OnOk result (Spent emitter.old emitter.new) }
+    ensures over { IfErr result (Overflows emitter.old (with_arrow (work_now emitter.old made.old.items))) }
 {
     let sides = take(made, 2)?;
     let from = register_at(sides.as_slice(), 0);
@@ -141,6 +149,8 @@ fn take_up<'b>(
 ) -> Result<(), RecordRefusal>
     ensures less { OnOk result (type_work bank.now work.new.items + 1 ≤ type_work bank.now work.old.items + type_task bank.now task.entry) }
     ensures grown { OnOk result (IsGrown emitter.old emitter.new) }
+    ensures spent { OnOk result (Spent emitter.old emitter.new) }
+    ensures over { IfErr result (Overflows emitter.old (act bank.now task.entry (work_now emitter.old made.old.items))) }
     ensures acts { OnOk result (done bank.now work.new.items (work_now emitter.new made.new.items) ≡ done bank.now work.old.items (act bank.now task.entry (work_now emitter.old made.old.items))) }
 {
     match task {
@@ -170,7 +180,9 @@ pub(crate) fn put_type(
     emitter: &mut Emitter,
     of: TypeView,
 ) -> Result<u16, RecordRefusal>
-    ensures { IfOk result (λ register. IsTypePut emitter.old emitter.new register (read bank.now of)) }
+    ensures code { IfOk result (λ register. IsTypePut emitter.old emitter.new register (read bank.now of)) }
+    ensures uses { OnOk result (Uses emitter.old emitter.new (type_takes (read bank.now of))) }
+    ensures lacks { IfErr result (Lacks emitter.old (type_takes (read bank.now of))) }
 {
     let mut work = Vec::new(alloc);
     let mut made = Vec::new(alloc);
@@ -188,7 +200,10 @@ pub(crate) fn put_types(
     emitter: &mut Emitter,
     types: &[TypeId],
 ) -> Result<Vec<u16>, RecordRefusal>
-    ensures { IfOk result (λ registers. AreTypesPut emitter.old emitter.new registers.items (map (λ t. type_tree bank.now t.0) types.now)) }
+    ensures code { IfOk result (λ registers. AreTypesPut emitter.old emitter.new registers.items (map (λ t. type_tree bank.now t.0) types.now)) }
+    ensures count { IfOk result (λ registers. length registers.items ≡ length types.now) }
+    ensures uses { OnOk result (Uses emitter.old emitter.new (all_take (map (λ t. type_tree bank.now t.0) types.now))) }
+    ensures lacks { IfErr result (Lacks emitter.old (all_take (map (λ t. type_tree bank.now t.0) types.now))) }
 {
     let mut registers = Vec::new(alloc);
     for of in types.iter().copied() {

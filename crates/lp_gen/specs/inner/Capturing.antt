@@ -1,5 +1,5 @@
 -- Which variables around clauses stand in them.
-use Rattle.std.specs.Prelude.{◌≡◌, ℕ, ◌+◌, ◌-◌, ◌*◌, ◌<◌, true, List, [], ◌∷◌, map, sum_by}
+use Rattle.std.specs.Prelude.{◌≡◌, ℕ, ◌+◌, ◌-◌, ◌*◌, ◌^◌, ◌<◌, ◌⊎◌, nat_lt, Bool, true, if◌then◌else◌, Option, Some, None, List, [], ◌∷◌, map, sum_by}
 use Rattle.lp_term.specs.Nodes.{Nodes, tree}
 use Rattle.lp_term.specs.Walk.{size}
 use Rattle.lp_term.specs.declared.node.TermId.{TermId}
@@ -18,6 +18,13 @@ use Rattle.lp_gen.specs.inner.Bodies.{AreThrough, AllThrough}
 abbrev pub IsAmong : (base : ℕ) → List ℕ → ℕ → Type 0
 IsAmong n ks i = i < n → member (n - i - 1) ks ≡ true
 
+-- so many variables that are bound, as a number below 2^64 or none
+abbrev pub depth_of : ℕ → Option ℕ
+depth_of d = if nat_lt d (2 ^ 64) then Some d else None
+
+abbrev pub IsDepth : ℕ → Option ℕ → Type 0
+IsDepth d o = depth_of d ≡ o
+
 -- what is still to be looked at has no others
 
 abbrev pub TermsHold : Nodes → (base : ℕ) → List ℕ → ℕ → List TermId → Type 0
@@ -25,10 +32,10 @@ TermsHold b n ks d [] = Unit {0}
 TermsHold b n ks d (t ∷ ts) = AllLoose (IsAmong n ks) d (tree b t.0) × TermsHold b n ks d ts
 
 abbrev pub PlaceHolds : Nodes → (base : ℕ) → List ℕ → Place → Type 0
-PlaceHolds b n ks (on.Clauses cs d) = AllThrough (AllLoose (IsAmong n ks)) d (clauses_of b cs.now)
-PlaceHolds b n ks (on.Goals gs d) = AreThrough (AllLoose (IsAmong n ks)) d (goals_of b gs.now)
-PlaceHolds b n ks (on.Terms ts d) = TermsHold b n ks d ts.now
-PlaceHolds b n ks (on.Term t d) = AllLoose (IsAmong n ks) d (tree b t.0)
+PlaceHolds b n ks (on.Clauses cs o) = (d : ℕ) → IsDepth d o → AllThrough (AllLoose (IsAmong n ks)) d (clauses_of b cs.now)
+PlaceHolds b n ks (on.Goals gs o) = (d : ℕ) → IsDepth d o → AreThrough (AllLoose (IsAmong n ks)) d (goals_of b gs.now)
+PlaceHolds b n ks (on.Terms ts o) = (d : ℕ) → IsDepth d o → TermsHold b n ks d ts.now
+PlaceHolds b n ks (on.Term t o) = (d : ℕ) → IsDepth d o → AllLoose (IsAmong n ks) d (tree b t.0)
 
 abbrev pub PlacesHold : Nodes → (base : ℕ) → List ℕ → List Place → Type 0
 PlacesHold b n ks [] = Unit {0}
@@ -40,6 +47,43 @@ Covers xs ks = (k : ℕ) → member k xs ≡ true → member k ks ≡ true
 -- a place that is looked at
 abbrev pub Marks : Nodes → (base : ℕ) → (xs xs' : List ℕ) → (ps ps' : List Place) → Place → Type 0
 Marks b n xs xs' ps ps' p = (ks : List ℕ) → Covers xs' ks → PlacesHold b n ks ps' → Covers xs ks × PlacesHold b n ks ps × PlaceHolds b n ks p
+
+-- and of each of its loose indices this is so
+
+abbrev pub IsSo : (ℕ → Bool) → ℕ → Type 0
+IsSo p i = p i ≡ true
+
+abbrev pub TermsHave : Nodes → (ℕ → Bool) → ℕ → List TermId → Type 0
+TermsHave b p d [] = Unit {0}
+TermsHave b p d (t ∷ ts) = AllLoose (IsSo p) d (tree b t.0) × TermsHave b p d ts
+
+abbrev pub PlaceHas : Nodes → (ℕ → Bool) → Place → Type 0
+PlaceHas b p (on.Clauses cs o) = (d : ℕ) × IsDepth d o × AllThrough (AllLoose (IsSo p)) d (clauses_of b cs.now)
+PlaceHas b p (on.Goals gs o) = (d : ℕ) × IsDepth d o × AreThrough (AllLoose (IsSo p)) d (goals_of b gs.now)
+PlaceHas b p (on.Terms ts o) = (d : ℕ) × IsDepth d o × TermsHave b p d ts.now
+PlaceHas b p (on.Term t o) = (d : ℕ) × IsDepth d o × AllLoose (IsSo p) d (tree b t.0)
+
+abbrev pub PlacesHave : Nodes → (ℕ → Bool) → List Place → Type 0
+PlacesHave b p [] = Unit {0}
+PlacesHave b p (q ∷ qs) = PlaceHas b p q × PlacesHave b p qs
+
+-- a level is that of an index of which this is so
+abbrev pub IsLevelOf : (base : ℕ) → (ℕ → Bool) → ℕ → Type 0
+IsLevelOf n p k = (i : ℕ) × (i < n) × (k ≡ n - i - 1) × (p i ≡ true)
+
+-- a level that is new is that of an index
+abbrev pub AreFound : (base : ℕ) → (ℕ → Bool) → (xs xs' : List ℕ) → Type 0
+AreFound n p xs xs' = (k : ℕ) → member k xs' ≡ true → (member k xs ≡ true) ⊎ IsLevelOf n p k
+
+-- a place that is looked at has no other indices than its parts, of which the levels are marked
+abbrev pub Finds : Nodes → (base : ℕ) → (xs xs' : List ℕ) → (ps ps' : List Place) → Place → Type 0
+Finds b n xs xs' ps ps' q = (p : ℕ → Bool) → PlacesHave b p ps → PlaceHas b p q → PlacesHave b p ps' × AreFound n p xs xs'
+
+-- the walk over clauses, with what is still to be looked at and the levels so far
+pub record IsLookedThrough (b : Nodes) (cs : List code_clause.Clause) (n : ℕ) (levels : List ℕ) (ps : List Place) : Type 0 where
+  pub marks : (ks : List ℕ) → Covers levels ks → PlacesHold b n ks ps → AllThrough (AllLoose (IsAmong n ks)) 0 (clauses_of b cs)
+  pub has : (p : ℕ → Bool) → AllThrough (AllLoose (IsSo p)) 0 (clauses_of b cs) → PlacesHave b p ps
+  pub found : (p : ℕ → Bool) → AllThrough (AllLoose (IsSo p)) 0 (clauses_of b cs) → (k : ℕ) → member k levels ≡ true → IsLevelOf n p k
 
 -- how much is left to look at
 

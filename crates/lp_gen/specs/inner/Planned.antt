@@ -1,5 +1,5 @@
 -- The records that goals assume, in the order in which they are met, and what is known of each assumption.
-use Rattle.std.specs.Prelude.{◌≡◌, ◌⊎◌, ℕ, suc, ◌+◌, ◌-◌, ◌<◌, ◌≤◌, true, List, [], Some, slice_get}
+use Rattle.std.specs.Prelude.{◌≡◌, ◌⊎◌, ℕ, suc, ◌+◌, ◌-◌, ◌<◌, ◌≤◌, Bool, true, List, [], Some, slice_get}
 use Rattle.lp_model.specs.Flat.{Goal, Goals, Clauses, Atomic, Cut, Either, Exists, Forall, Assume, Not, no_goals, goals, clause, no_clauses, clauses, assuming, denied}
 use Rattle.lp_code.specs.States.{member}
 use Rattle.lp_gen.specs.Sources.{ends_list}
@@ -7,6 +7,7 @@ use Rattle.lp_gen.specs.declared.plan.Assumption.{Assumption}
 use Rattle.lp_gen.specs.declared.tables.Tables.{Tables}
 use Rattle.lp_gen.specs.inner.Listing.{Around}
 use Rattle.lp_gen.specs.inner.TermLaw.{AllLoose}
+use Rattle.lp_gen.specs.inner.Capturing.{IsSo, IsLevelOf}
 use Rattle.lp_gen.specs.inner.Bodies.{new_level, AllThrough}
 use Rattle.lp_gen.specs.inner.BodyCode.{Suppositions, AreStarts, levels_found, records_named}
 
@@ -106,3 +107,7 @@ IsCaptured x i = i < x.base → member (x.base - i - 1) x.captured.keys ≡ true
 
 abbrev pub AreCaptured : Assumption → Clauses → Type 0
 AreCaptured x cs = AllThrough (AllLoose (IsCaptured x)) 0 cs
+
+-- and each of these variables stands in the clauses
+abbrev pub AreOnly : Assumption → Clauses → Type 0
+AreOnly x cs = (p : ℕ → Bool) → AllThrough (AllLoose (IsSo p)) 0 cs → (k : ℕ) → member k x.captured.keys ≡ true → IsLevelOf x.base p k

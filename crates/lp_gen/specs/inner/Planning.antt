@@ -19,7 +19,7 @@ use Rattle.lp_gen.specs.inner.OpenGoals.{BodyStep, goals_steps}
 use Rattle.lp_gen.specs.inner.BodyCode.{Suppositions, step_of, steps_of, next_of, next_all, IsNext, AreNext, count_starts, starts_all}
 use Rattle.lp_gen.specs.Limits.{goals_assume}
 use Rattle.lp_gen.specs.inner.Recorded.{own_count}
-use Rattle.lp_gen.specs.inner.Planned.{goals_records, GoalsHave, AreWritten, DeepGoals, DeepClauses, AreCaptured}
+use Rattle.lp_gen.specs.inner.Planned.{goals_records, GoalsHave, AreWritten, DeepGoals, DeepClauses, AreCaptured, AreOnly}
 
 abbrev pub body_of : Origin → List Goal
 body_of (origin.Clause c) = c.now.body.items
@@ -80,9 +80,9 @@ pub record AreAssumed (us : List Due) (xs : List Assumption) : Type 0 where
 abbrev pub Extends : {X : Type 0} → (xs ys : List X) → Type 0
 Extends {X} xs ys = (more : List X) × (ys ≡ xs ++ more)
 
--- the records of each start with the variables around it that stand in them
+-- the records of each start with just the variables around it that stand in them
 abbrev pub AllCaptured : Nodes → List Assumption → Type 0
-AllCaptured b xs = (n : ℕ) (x : Assumption) → slice_get xs n ≡ Some x → AreCaptured x (clauses_of b x.clauses.now)
+AllCaptured b xs = (n : ℕ) (x : Assumption) → slice_get xs n ≡ Some x → AreCaptured x (clauses_of b x.clauses.now) × AreOnly x (clauses_of b x.clauses.now)
 
 -- what is still to do for the goals of a part
 pub data Todo : Type 0 where

@@ -19,7 +19,7 @@ returns-in_ok-put_atom-in-Atom c =
     subst (λ s. IsDone t K e c.put_atom.new.emitter env c.put_atom.new.environment bs bs xs xs s) (sym c.in-Atom.is) (
       (λ cl. taken t cl K e c.put_atom.new.emitter env c.put_atom.new.environment bs bs xs (on.Atom c.in-Atom.term) (λ q. refl)
           (say_step (AssumedBy t cl) K e c.put_atom.new.emitter (around_of b env) (around_of b c.put_atom.new.environment) bs (tree b c.in-Atom.term.0)
-          c.in_ok-put_atom-in-Atom.ensures)),
+          c.in_ok-put_atom-in-Atom.ensures.code)),
       starts_stay t xs (on.Atom c.in-Atom.term) refl,
     )
 

@@ -5,4 +5,4 @@ pub returns-then-not-program : goal.returns-then-not-program
 returns-then-not-program c = no_types c.args.program c.args.emitter.now c.args.count c.if-not-program.true
 
 pub returns : goal.returns
-returns c = made_types c.args.program c.args.emitter.now c.make_types.new.emitter c.args.count c.if-not-program.false c.in_ok-make_types.ensures
+returns c = made_types c.args.program c.args.emitter.now c.make_types.new.emitter c.args.count c.if-not-program.false c.in_ok-make_types.ensures.code

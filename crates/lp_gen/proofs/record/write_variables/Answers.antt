@@ -7,7 +7,7 @@ pub returns : goal.returns
 returns c = λ goals.
     let vars = c.args.query.now.vars.items in
     let are = c.as_slice.ensures.value ∙ c.in_ok-vars.ensures in
-    let e = subst (QueryEntered c.args.emitter.now c.enter_query.new.emitter c.args.environment.now c.enter_query.new.environment) are c.in_ok-enter_query.ensures in
+    let e = subst (QueryEntered c.args.emitter.now c.enter_query.new.emitter c.args.environment.now c.enter_query.new.environment) are c.in_ok-enter_query.ensures.code in
     record {
       begun = c.enter_query.new.emitter;
       matched = c.enter_query.new.emitter;
@@ -20,5 +20,5 @@ returns c = λ goals.
         around = e.around;
       };
       head = (refl, refl, refl, refl);
-      made = c.in_ok-make_variables.ensures;
+      made = c.in_ok-make_variables.ensures.code;
     }

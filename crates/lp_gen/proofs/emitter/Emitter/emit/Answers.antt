@@ -10,7 +10,7 @@ pub invariant_of-self-2-clause-fit : goal.invariant_of-self-2-clause-fit
 invariant_of-self-2-clause-fit c =
     subst (All (λ i. is_fitting i ≡ true)) (sym c.in_ok-push.ensures.items)
     (All-append (λ i. is_fitting i ≡ true) c.args.self.now.code.items (c.args.instr ∷ []) c.args.self.now.fit
-    (All-cons (λ i. is_fitting i ≡ true) c.args.instr [] c.in_ok-fits.ensures (All-nil (λ i. is_fitting i ≡ true))))
+    (All-cons (λ i. is_fitting i ≡ true) c.args.instr [] c.in_ok-fits.ensures.fit (All-nil (λ i. is_fitting i ≡ true))))
 
 pub invariant_of-self-2-clause-bytes : goal.invariant_of-self-2-clause-bytes
 invariant_of-self-2-clause-bytes c =

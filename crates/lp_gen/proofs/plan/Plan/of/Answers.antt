@@ -7,6 +7,7 @@ use Rattle.lp_gen.specs.inner.Planning.{origin_records, most_of, PlanStands}
 use Rattle.lp_gen.proofs.AssumptionPut.{no_assumption}
 use Rattle.lp_gen.proofs.PlanParts.{plan_begins, plan_grows}
 use Rattle.lp_gen.proofs.RecordsCounted.{begins_counted, part_counted, all_counted, over_counted, most_few}
+use Rattle.lp_gen.proofs.Leveling.{first_low, low_behind, first_fits, more_fits, of_plan, memory_alone}
 use Rattle.lp_gen.proofs.plan.Plan.of.Goals as goal
 
 pub parts-init : goal.parts-init
@@ -18,6 +19,10 @@ parts-init c = (
   (let z = ap length c.new-2.ensures.items in omega (arith, z)),
   begins_counted c.args.bank.now c.args.origin c.push.new.self.items c.new-2.result.items (record { origin = c.args.origin; within = None; base = 0 })
       (c.in_ok-push.ensures.items ∙ ap (λ l. l ++ record { origin = c.args.origin; within = None; base = 0 } ∷ []) c.new.ensures.items) refl c.new-2.ensures.items,
+  first_low c.push.new.self.items (record { origin = c.args.origin; within = None; base = 0 })
+      (c.in_ok-push.ensures.items ∙ ap (λ l. l ++ record { origin = c.args.origin; within = None; base = 0 } ∷ []) c.new.ensures.items) refl,
+  first_fits c.args.bank.now c.push.new.self.items (record { origin = c.args.origin; within = None; base = 0 })
+      (c.in_ok-push.ensures.items ∙ ap (λ l. l ++ record { origin = c.args.origin; within = None; base = 0 } ∷ []) c.new.ensures.items),
 )
 
 pub parts-preserved : goal.parts-preserved
@@ -37,6 +42,10 @@ parts-preserved c =
       (let z = ap length all in let y = length-append ps (part ∷ []) in omega (arith, z, y, place, c.if-at-most.false, c.most_records-most.ensures.most)),
       part_counted c.args.bank.now c.args.origin us c.walk.new.self.due.items c.parts.plan.assumptions.items c.walk.new.self.assumptions.items ps c.push-in-parts.new.self.items u part
           c.in_ok-steps.steps.items c.in_ok-steps.ensures.walked all refl c.parts.invariant.3,
+      low_behind us c.walk.new.self.due.items c.in_ok-steps.ensures.dues.0 u (length ps) c.parts.invariant.4 (ap (slice_get us) (sym place) ∙ there) low c.in_ok-steps.ensures.dues.1
+          c.in_ok-steps.ensures.dues.2,
+      λ h. more_fits c.args.bank.now us c.walk.new.self.due.items c.in_ok-steps.ensures.dues.0 u (length ps) (ap (slice_get us) (sym place) ∙ there) c.in_ok-steps.ensures.dues.1
+          c.in_ok-steps.ensures.dues.3 (c.parts.invariant.5 h),
     )
 
 pub returns-clause-planned : goal.returns-clause-planned

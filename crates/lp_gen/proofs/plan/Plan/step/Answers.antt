@@ -1,6 +1,10 @@
 use Rattle.std.proofs.lemmas.List.{nil_from_length}
-use Rattle.lp_gen.specs.inner.Planning.{todos}
+use Rattle.std.proofs.Common.{◌∷◌}
+use Rattle.lp_lemmas.proofs.Results.{passed_up}
+use Rattle.lp_gen.specs.inner.Variables.{IsFull}
+use Rattle.lp_gen.specs.inner.Planning.{todos, todo_of}
 use Rattle.lp_gen.proofs.PlanDone.{task_none, task_first, task_end, task_level}
+use Rattle.lp_gen.proofs.Leveling.{no_goal_leveled, first_leveled, first_full, first_spreads, no_goal_spreads, end_leveled, level_leveled, end_spreads, level_spreads}
 use Rattle.lp_gen.proofs.plan.Plan.step.Goals as goal
 
 pub returns-in_default-clause-kept : goal.returns-in_default-clause-kept
@@ -25,3 +29,42 @@ pub returns-in-Level-clause-kept : goal.returns-in-Level-clause-kept
 returns-in-Level-clause-kept c =
     task_level c.args.self.now.due.items c.args.self.now.assumptions.items c.args.walk.now.level c.args.walk.now.steps.items
     (todos c.args.walk.now.tasks.items) c.args.task c.in-Level.level c.in-Level.is
+
+pub returns-in_default-clause-leveled : goal.returns-in_default-clause-leveled
+returns-in_default-clause-leveled c =
+    no_goal_leveled c.args.bank.now c.args.walk.now.base c.args.walk.now.level c.args.task c.in-Goals.goals (todos c.args.walk.now.tasks.items) c.in-Goals.is (nil_from_length c.in-Goals.goals.now c.in_default.ensures.cases)
+
+pub returns-in_default-clause-dues : goal.returns-in_default-clause-dues
+returns-in_default-clause-dues c =
+    no_goal_spreads c.args.bank.now c.args.walk.now.level c.args.self.now.due.items c.args.task c.in-Goals.goals (todos c.args.walk.now.tasks.items) c.in-Goals.is
+
+pub returns-in_ok-goal-in-Goals-clause-leveled : goal.returns-in_ok-goal-in-Goals-clause-leveled
+returns-in_ok-goal-in-Goals-clause-leveled c =
+    first_leveled c.args.bank.now c.args.walk.now.base c.args.walk.now.base c.args.walk.now.level c.goal.new.walk.level c.args.task c.in-Goals.goals c.in-Some.rest c.in-Some.first.now c.args.walk.now.tasks.items c.push.new.self.items (todos c.goal.new.walk.tasks.items) c.in-Goals.is c.in-Some.ensures.cases.0 c.in_ok-push-in-Goals.ensures.items c.in_ok-goal-in-Goals.ensures.leveled
+
+pub returns-in_ok-goal-in-Goals-clause-dues : goal.returns-in_ok-goal-in-Goals-clause-dues
+returns-in_ok-goal-in-Goals-clause-dues c =
+    first_spreads c.args.bank.now c.args.walk.now.level c.args.self.now.due.items c.goal.new.self.due.items c.args.task c.in-Goals.goals c.in-Some.rest c.in-Some.first.now c.args.walk.now.tasks.items c.push.new.self.items (todos c.goal.new.walk.tasks.items) c.in-Goals.is c.in-Some.ensures.cases.0 c.in_ok-push-in-Goals.ensures.items c.in_ok-goal-in-Goals.ensures.dues
+
+pub returns-in_err-goal-in-Goals-clause-full : goal.returns-in_err-goal-in-Goals-clause-full
+returns-in_err-goal-in-Goals-clause-full c =
+    passed_up c.from_residual-in_err-goal-in-Goals.result c.in_err-goal-in-Goals.field-0.0
+    (IsFull c.args.bank.now c.args.walk.now.base c.args.walk.now.level (todo_of c.args.task ∷ todos c.args.walk.now.tasks.items))
+    c.from_residual-in_err-goal-in-Goals.ensures.1
+    (first_full c.args.bank.now c.args.walk.now.base c.args.walk.now.level c.args.task c.in-Goals.goals c.in-Some.rest c.in-Some.first.now c.args.walk.now.tasks.items c.push.new.self.items c.in_err-goal-in-Goals.field-0.0 c.in-Goals.is c.in-Some.ensures.cases.0 c.in_ok-push-in-Goals.ensures.items c.in_err-goal-in-Goals.ensures.full)
+
+pub returns-in_ok-push-in-End-clause-leveled : goal.returns-in_ok-push-in-End-clause-leveled
+returns-in_ok-push-in-End-clause-leveled c =
+    end_leveled c.args.bank.now c.args.walk.now.base c.args.walk.now.level c.in-End.level c.args.task c.in-End.end (todos c.args.walk.now.tasks.items) c.in-End.is
+
+pub returns-in_ok-push-in-End-clause-dues : goal.returns-in_ok-push-in-End-clause-dues
+returns-in_ok-push-in-End-clause-dues c =
+    end_spreads c.args.bank.now c.args.walk.now.level c.in-End.level c.args.self.now.due.items c.args.task c.in-End.end (todos c.args.walk.now.tasks.items) c.in-End.is
+
+pub returns-in-Level-clause-leveled : goal.returns-in-Level-clause-leveled
+returns-in-Level-clause-leveled c =
+    level_leveled c.args.bank.now c.args.walk.now.base c.args.walk.now.level c.in-Level.level c.args.task (todos c.args.walk.now.tasks.items) c.in-Level.is
+
+pub returns-in-Level-clause-dues : goal.returns-in-Level-clause-dues
+returns-in-Level-clause-dues c =
+    level_spreads c.args.bank.now c.args.walk.now.level c.in-Level.level c.args.self.now.due.items c.args.task (todos c.args.walk.now.tasks.items) c.in-Level.is
