@@ -256,5 +256,5 @@ module _ (ms : List Module) (os : List Object) (paired : ArePaired IsShaped ms (
           All_back (AreSame os) d.before ((d.below, d.above) ∷ d.after) all 0 (d.below, d.above) (omega arith) d.one d.other d.one_there d.other_there
 
       by : (p : Part) → IsOtherPart d.one d.other p → ⊥
-      by (part.Kind n) (i, is, other, first) = same.kinds i other
-      by (part.Constant n) (i, is, kinds, other, first) = same.constants i other
+      by (part.Kind n) (i, (is, (other, first))) = same.kinds i other
+      by (part.Constant n) (i, (is, (kinds, (other, first)))) = same.constants i other

@@ -62,11 +62,11 @@ kind_found w ((n, a_kind c) ∷ rs) a e = by (bytes_eq w n) (kind_found w rs a) 
     by : (t : Bool) → (found w rs ≡ Some (a_kind a) → found w (kinds_among rs) ≡ Some a) → cond t (Some (a_kind c)) (found w rs) ≡ Some (a_kind a) → cond t (Some c) (found w (kinds_among rs)) ≡ Some a
     by true go h = ap (λ s. Some (arity s)) (same_Some (a_kind c) (a_kind a) h)
     by false go h = go h
-kind_found w ((n, an_abbreviation p) ∷ rs) a e = by (bytes_eq w n) e
+kind_found w ((n, an_abbreviation p) ∷ rs) a e = by (bytes_eq w n) (kind_found w rs a) e
   where
-    by : (t : Bool) → cond t (Some (an_abbreviation p)) (found w rs) ≡ Some (a_kind a) → found w (kinds_among rs) ≡ Some a
-    by true h = absurd (cc)
-    by false h = kind_found w rs a h
+    by : (t : Bool) → (found w rs ≡ Some (a_kind a) → found w (kinds_among rs) ≡ Some a) → cond t (Some (an_abbreviation p)) (found w rs) ≡ Some (a_kind a) → found w (kinds_among rs) ≡ Some a
+    by true go h = absurd (cc)
+    by false go h = go h
 
 row_found : (w : List ℕ) (rows : List (Row ℕ)) (a : ℕ) → found w rows ≡ Some a → (p : ℕ) × (slice_get rows p ≡ Some (w, a))
 row_found w [] a e = absurd (cc)
