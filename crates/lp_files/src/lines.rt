@@ -1,5 +1,5 @@
 // What is said of objects and images.
-ghost use Rattle.std.specs.Prelude.{◌≡◌, ◌⊎◌};
+ghost use Rattle.std.specs.Prelude.{◌≡◌, ◌⊎◌, ◌<◌, ℕ};
 ghost use Rattle.lp_base.specs.declared.limit.Limit.TheVariants as limit;
 ghost use Rattle.lp_lines.specs.Refusals.{IsJudged, TellsLimit};
 ghost use Rattle.lp_lines.specs.declared.refusal.Refusal.TheVariants as refused;
@@ -31,7 +31,7 @@ pub fn misread(alloc: Global, file: &[u8], fault: FormatFault) -> Refusal
 /// A value takes more bytes than a file may have.
 pub fn unwritten(alloc: Global, refusal: WriteRefusal) -> Refusal
     ensures judged { IsJudged result }
-    ensures says { (many : Type 0) → IsLimit refusal many → (result ≡ refused.Memory) ⊎ (many × TellsLimit limit.Image result) }
+    ensures says { (bytes : ℕ) → IsLimit refusal (16777216 < bytes) → (result ≡ refused.Memory) ⊎ ((16777216 < bytes) × TellsLimit limit.Image result) }
 {
     match refusal {
         WriteRefusal::Limit(limit) => limited(alloc, limit),

@@ -18,7 +18,7 @@ returns-in_err-text-clause-cause c = λ read. passed_up c.from_residual.result r
 pub returns-in_default-clause-cause : goal.returns-in_default-clause-cause
 returns-in_default-clause-cause c = λ read. no_memory refl
 
-pub returns-in-Err-clause-cause : goal.returns-in-Err-clause-cause
-returns-in-Err-clause-cause c = λ read. of_object c.in-Some.number c.in-Err.fault c.cause_of.result
+pub returns-clause-cause : goal.returns-clause-cause
+returns-clause-cause c = λ read. of_object c.in-Some.number c.in-Err.fault c.cause_of.result
     (subst (IsFileNamed c.args.sources.now.files.items c.in-Some.number) (c.as_str.ensures.value ∙ c.in_ok-text.ensures) (c.in-Some.ensures read.few))
     (c.in-Err.ensures.cause read) c.cause_of.ensures.tells c.text_refused.ensures.says
