@@ -1,0 +1,12 @@
+use Rattle.std.proofs.Common.{arith}
+use Rattle.std.proofs.lemmas.Option.{slice_get_within}
+use Rattle.lp_files.specs.Unlinked.{no_text}
+use Rattle.lp_files.proofs.Unreading.{used_unread}
+use Rattle.lp_files.proofs.link.Reading.open_used.Goals as goal
+
+pub returns-in-Ok-clause-cause : goal.returns-in-Ok-clause-cause
+returns-in-Ok-clause-cause g c =
+    used_unread (g.F.Folder.held c.args.folder.now) c.args.self.now.objects.items c.args.name.now c.in-Ok.name.now c.open_object.result c.in-Ok.ensures.cases.0 c.open_object.ensures.cause
+
+pub returns-in-Err-clause-cause : goal.returns-in-Err-clause-cause
+returns-in-Err-clause-cause g c = ?
