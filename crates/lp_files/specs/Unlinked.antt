@@ -1,6 +1,6 @@
 -- Why a module has no image file: an object is not opened, or the objects are not linked, or their image is too long.
 use Rattle.std.specs.Prelude.{◌≡◌, ◌++◌, ◌<◌, ◌≤◌, ℕ, List, Option, Some, Contains, codes, length, slice_get}
-use Rattle.core.specs.Str.{IsUtf8}
+use Rattle.std.specs.Str.{IsUtf8}
 use Rattle.lp_base.specs.Held.{Held}
 use Rattle.lp_base.specs.declared.limit.Limit.TheVariants as limit
 use Rattle.lp_base.specs.declared.limits.TheConstants.{MAX_IMAGE_BYTES, MAX_MODULES}

@@ -1,6 +1,6 @@
 // The image of a module.
 ghost use Rattle.std.specs.Prelude.{◌≡◌, ◌<◌, ◌++◌, [], ◌∷◌, ℕ, List, Some, All, Contains, length, slice_get, IfErr, IfOk, IfSome, OnOk};
-ghost use Rattle.core.specs.Str.{IsUtf8};
+ghost use Rattle.std.specs.Str.{IsUtf8};
 ghost use Rattle.lp_places.specs.Places.{HasPlaces};
 ghost use Rattle.lp_link.specs.Uses.{names_of};
 ghost use Rattle.lp_link.specs.Linked.{IsLinked};
