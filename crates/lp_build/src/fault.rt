@@ -89,18 +89,6 @@ pub(crate) fn of_generator(refusal: GenRefusal) -> BuildFault
     }
 }
 
-// What is told of a module's code where it is not made for its own sake: all but a limit on registers, which no definition counts yet.
-pub(crate) fn told(refused: BuildFault) -> Result<(), BuildFault>
-    ensures same { IfErr result (λ e. e ≡ refused) }
-    ensures other { IfErr result (λ e. e ≢ BuildFault.Limit Limit.Registers) }
-    ensures registers { OnOk result (refused ≡ BuildFault.Limit Limit.Registers) }
-{
-    match refused {
-        BuildFault::Limit(Limit::Registers) => Ok(()),
-        _ => Err(refused),
-    }
-}
-
 // The objects of one set of texts never differ in a name.
 impl From<LinkRefusal> for BuildFault {
     ghost use Rattle.std.specs.Prelude.{◌≡◌};

@@ -1,6 +1,6 @@
 -- Objects that are read in order: one step more at the end of an order, what is left of the uses of those that wait, and what all that were read have.
 use Rattle.std.specs.Global.{Global}
-use Rattle.std.proofs.Common.{◌≡◌, ◌∙◌, ◌++◌, ◌∷◌, [], ◌+◌, ◌<◌, ◌≤◌, ℕ, zero, suc, Bool, true, false, if◌then◌else◌, List, Option, None, Some, length, get_or, inl, inr, ap, refl, sym, subst, arith}
+use Rattle.std.proofs.Common.{◌≡◌, ◌∙◌, ◌++◌, ◌∷◌, [], ◌+◌, ◌<◌, ◌≤◌, ℕ, suc, Bool, true, false, if◌then◌else◌, List, Option, None, Some, length, get_or, inl, inr, ap, refl, sym, subst, arith}
 use Rattle.std.specs.Prelude.{All, Contains, Vec, drop, map, slice_get, option_map, is_some, nat_lt}
 use Rattle.std.proofs.lemmas.Bool.{ltb-false}
 use Rattle.std.proofs.lemmas.List.{append_assoc, drop-map, drop_all, get_or_append_left, length_push}
@@ -11,7 +11,7 @@ use Rattle.std.proofs.lemmas.Option.{get_or_from_slice_get, slice_get-get_or, sl
 use Rattle.lp_lemmas.proofs.Booleans.{bytes_eq_self, bytes_eq_true}
 use Rattle.lp_lemmas.proofs.Elements.{All_pushed}
 use Rattle.lp_lemmas.proofs.Lists.{map_pushed}
-use Rattle.lp_lemmas.proofs.Options.{one_value, option_map_none, some_from_is_some, none_from_is_some}
+use Rattle.lp_lemmas.proofs.Options.{option_map_none, some_from_is_some, none_from_is_some}
 use Rattle.lp_places.specs.Places.{first_place}
 use Rattle.lp_code.specs.declared.object.Object.{Object}
 use Rattle.lp_link.specs.Uses.{names_of}

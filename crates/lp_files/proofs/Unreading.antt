@@ -1,21 +1,28 @@
 -- Objects of a module and of what it uses, as long as each is read.
 use Rattle.std.specs.Global.{Global}
-use Rattle.std.proofs.Common.{◌≡◌, ◌++◌, ◌∷◌, [], ◌<◌, ℕ, List, Option, Some, length, sym, subst, arith}
-use Rattle.std.specs.Prelude.{Vec, Result, Ok, Err, IfErr}
+use Rattle.std.proofs.Common.{◌≡◌, ◌∙◌, ◌++◌, ◌∷◌, [], ◌<◌, ℕ, List, Option, Some, get_or, length, sym, subst, arith}
+use Rattle.std.specs.Prelude.{Contains, Vec, Result, Ok, Err, IfErr, slice_get}
 use Rattle.std.proofs.lemmas.List.Elements.{All-cons, All-nil}
+use Rattle.std.proofs.lemmas.Option.{get_or_from_slice_get}
 use Rattle.lp_base.specs.Held.{Held}
 use Rattle.lp_code.specs.declared.object.Object.{Object}
 use Rattle.lp_lines.specs.declared.refusal.Refusal.{Refusal}
 use Rattle.lp_files.specs.Ordered.{IsDue, Reads, reads_none, uses_of}
 use Rattle.lp_files.specs.Unlinked.{IsUnread, unopened}
 use Rattle.lp_files.specs.Unopened.{IsUnopenedObject}
-use Rattle.lp_files.specs.inner.Objects.{AreThere, IsNext, left_of}
+use Rattle.lp_files.specs.inner.Objects.{AreThere, IsNew, IsNext, left_of}
 use Rattle.lp_files.proofs.Ordering.{left_more, one_more, skipped}
 
 -- an object that another one uses
 pub used_unread : (told : Option Held) (os : List Object) (name other : List ℕ) (r : Result Object Refusal) → other ≡ name → IfErr r (IsUnopenedObject told other) → IfErr r (IsUnread told os name)
 used_unread told os name other (Ok o) same h = tt
 used_unread told os name other (Err e) same h = unopened (subst (λ n. IsUnopenedObject told n e) same h)
+
+-- the object that uses it
+pub user_is : (os : List Object) (user : ℕ) (name : List ℕ) (o : Object) → IsNew os user name → o ≡ get_or os user o → (slice_get os user ≡ Some o) × Contains (uses_of o) name
+user_is os user name o ((p, there, used), fresh) is =
+    let same : o ≡ p = is ∙ get_or_from_slice_get os user p o there in
+    (subst (λ x. slice_get os user ≡ Some x) (sym same) there, subst (λ x. Contains (uses_of x) name) (sym same) used)
 
 -- the next one that is needed
 pub due_next : (root : List ℕ) (os : List Object) (old new : List (ℕ × ℕ)) (user : ℕ) (name : Vec ℕ Global) → Reads [] (root ∷ []) os (left_of os old) → IsNext os old new (Some (user, name)) → IsDue root os name.items

@@ -1,5 +1,5 @@
 -- What is said of the bytes of an object or an image that is refused.
-use Rattle.std.specs.Prelude.{◌≡◌, ◌++◌, ◌∷◌, ℕ, List, Option, Some, codes, slice_get}
+use Rattle.std.specs.Prelude.{◌≡◌, ◌++◌, ℕ, List, Some, codes, slice_get}
 use Rattle.std.specs.Fmt.{decimal}
 use Rattle.lp_code.specs.declared.object.Object.{Object}
 use Rattle.lp_code.specs.declared.rule.Rule.{Rule}

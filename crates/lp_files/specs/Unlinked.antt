@@ -1,5 +1,5 @@
 -- Why a module has no image file: an object is not opened, or the objects are not linked, or their image is too long.
-use Rattle.std.specs.Prelude.{◌≡◌, ◌++◌, ◌<◌, ◌≤◌, ℕ, List, Option, Some, Contains, codes, length, slice_get}
+use Rattle.std.specs.Prelude.{◌≡◌, ◌<◌, ◌≤◌, ℕ, List, Option, Some, Contains, length, slice_get}
 use Rattle.std.specs.Str.{IsUtf8}
 use Rattle.lp_base.specs.Held.{Held}
 use Rattle.lp_base.specs.declared.limit.Limit.TheVariants as limit

@@ -1,4 +1,3 @@
-use Rattle.lp_files.proofs.Ordering.{left_more}
 use Rattle.lp_files.proofs.Used.{begins_named, have_used, used_once}
 use Rattle.lp_files.proofs.laws.objects_in_order_are_all_that_are_used.Goals as goal
 

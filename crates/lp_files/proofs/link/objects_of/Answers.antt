@@ -1,17 +1,11 @@
-use Rattle.std.proofs.Common.{Err, ◌∙◌, ◌++◌, ◌∷◌, [], ap, length, refl, subst, sym, arith}
+use Rattle.std.proofs.Common.{Err, ◌∙◌, ◌++◌, ◌∷◌, [], ap, length, subst, arith}
 use Rattle.std.proofs.lemmas.List.{length_push}
-use Rattle.lp_lemmas.proofs.Elements.{All_empty}
-use Rattle.lp_lemmas.proofs.Results.{passed_up}
 use Rattle.lp_lines.specs.declared.refusal.Refusal.{Refusal}
 use Rattle.lp_lines.specs.declared.refusal.Refusal.TheVariants as refusal
 use Rattle.lp_lines.proofs.Looking.{looked_then, looked_passed, looked_judged, text_is_judged}
-use Rattle.lp_files.specs.Made.{IsHeldObject}
-use Rattle.lp_files.specs.Ordered.{Reads, reads_none}
-use Rattle.lp_files.specs.Unlinked.{IsUnlinked, IsUnread, no_memory, of_number, of_object, unopened}
-use Rattle.lp_files.specs.inner.Objects.{IsNext, left_of}
+use Rattle.lp_files.specs.inner.Objects.{IsNext}
 use Rattle.lp_files.proofs.Linking.{first_held, more_held}
-use Rattle.lp_files.proofs.Ordering.{skipped}
-use Rattle.lp_files.proofs.Unreading.{due_next, order_first, order_more, there_first}
+use Rattle.lp_files.proofs.Unreading.{order_first, order_more, there_first}
 use Rattle.lp_files.proofs.Ordering.{there_more}
 use Rattle.lp_files.proofs.link.objects_of.Goals as goal
 

@@ -1,6 +1,3 @@
-use Rattle.std.proofs.Common.{◌∙◌, sym}
-use Rattle.lp_files.specs.Unopened.{broken_object, no_object, other_object}
-use Rattle.lp_files.proofs.Unopening.{broken_is}
 use Rattle.lp_files.proofs.open.judged_object.Goals as goal
 
 pub returns-in-Err-clause-cause : goal.returns-in-Err-clause-cause

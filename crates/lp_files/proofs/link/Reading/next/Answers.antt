@@ -1,6 +1,7 @@
 use Rattle.std.proofs.Common.{ℕ, ◌<◌, arith, length, subst}
+use Rattle.std.specs.Prelude.{All}
 use Rattle.std.proofs.lemmas.List.{nil_from_length}
-use Rattle.lp_lemmas.proofs.Elements.{All_popped, All_pushed}
+use Rattle.lp_lemmas.proofs.Elements.{All_front, All_popped, All_pushed}
 use Rattle.lp_files.specs.inner.Objects.{IsUnread}
 use Rattle.lp_files.proofs.Ordering.{wait_begins, wait_closed, wait_ends, wait_next}
 use Rattle.lp_files.proofs.link.Reading.next.Goals as goal
@@ -35,4 +36,6 @@ returns-clause-next c =
     (omega (arith, c.in_default.ensures.cases.0, c.loop-user.waiting.ok))) c.loop-user.invariant.skipped
 
 pub returns-clause-there : goal.returns-clause-there
-returns-clause-there c = ?
+returns-clause-there c =
+    let os = c.args.self.now.objects.items in
+    All_front (λ (w : ℕ × ℕ). w.0 < length os) c.pop.new.self.items _ (subst (All (λ (w : ℕ × ℕ). w.0 < length os)) c.in_default.ensures.items c.loop-user.invariant.there)
