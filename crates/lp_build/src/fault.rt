@@ -1,5 +1,5 @@
 // Why files have no program.
-ghost use Rattle.std.specs.Prelude.{◌≡◌, ◌≢◌, IfErr, OnOk};
+ghost use Rattle.std.specs.Prelude.{◌≡◌};
 ghost use Rattle.lp_normal.specs.Counted.{IsOver};
 ghost use Rattle.lp_module.specs.declared.module.Module.{Module};
 ghost use Rattle.lp_build.specs.Faults.{IsOfTexts};

@@ -1,5 +1,5 @@
 // The objects of modules.
-ghost use Rattle.std.specs.Prelude.{◌≡◌, ◌≢◌, All, length, map, IfErr, IfOk, OnOk, None, if◌then◌else◌};
+ghost use Rattle.std.specs.Prelude.{◌≡◌, All, length, map, IfErr, IfOk, OnOk, None, if◌then◌else◌};
 ghost use Rattle.lp_term.specs.Memo.{AreMade};
 ghost use Rattle.lp_term.specs.Nodes.{Extends, Nodes};
 ghost use Rattle.lp_term.specs.Same.{same_map};

@@ -1,5 +1,5 @@
 // A query, from its text to its typed formula.
-ghost use Rattle.std.specs.Prelude.{◌≡◌, ◌≢◌, ◌≤◌, ◌<◌, ◌⊎◌, ℕ, List, IfOk, IfErr, OnOk, codes, length, true};
+ghost use Rattle.std.specs.Prelude.{◌≡◌, ◌≤◌, ◌<◌, ◌⊎◌, ℕ, List, IfOk, IfErr, OnOk, codes, length, true};
 ghost use Rattle.lp_base.specs.declared.limits.TheConstants.{MAX_ARGUMENTS};
 ghost use Rattle.lp_calculus.specs.Term.{Term};
 ghost use Rattle.lp_term.specs.Nodes.{Extends, tree};
@@ -14,7 +14,7 @@ ghost use Rattle.lp_load.specs.Refused.{IsOverArguments, IsOverClauses, IsOverCo
 ghost use Rattle.lp_lines.specs.Placed.{IsCauseOf, IsOfText, IfSource};
 ghost use Rattle.lp_lines.specs.Refusals.{IsTextRefusal};
 
-use lp_base::{Limit, Memory, Spot};
+use lp_base::{Memory, Spot};
 use lp_build::Built;
 use lp_gen::{GenRefusal, generate_query};
 use lp_infer::type_query;
