@@ -7,8 +7,9 @@ use Rattle.std.proofs.lemmas.Option.{get_or_from_slice_get}
 use Rattle.lp_base.specs.Held.{Held}
 use Rattle.lp_code.specs.declared.object.Object.{Object}
 use Rattle.lp_lines.specs.declared.refusal.Refusal.{Refusal}
+use Rattle.lp_files.specs.Made.{IsHeldObject}
 use Rattle.lp_files.specs.Ordered.{IsDue, Reads, reads_none, uses_of}
-use Rattle.lp_files.specs.Unlinked.{IsUnread, unopened}
+use Rattle.lp_files.specs.Unlinked.{IsUnlinked, IsUnread, of_object, unopened}
 use Rattle.lp_files.specs.Unopened.{IsUnopenedObject}
 use Rattle.lp_files.specs.inner.Objects.{AreThere, IsNew, IsNext, left_of}
 use Rattle.lp_files.proofs.Ordering.{left_more, one_more, skipped}
@@ -23,6 +24,10 @@ pub user_is : (os : List Object) (user : ℕ) (name : List ℕ) (o : Object) →
 user_is os user name o ((p, there, used), fresh) is =
     let same : o ≡ p = is ∙ get_or_from_slice_get os user p o there in
     (subst (λ x. slice_get os user ≡ Some x) (sym same) there, subst (λ x. Contains (uses_of x) name) (sym same) used)
+
+-- the root's is not opened
+pub of_root : (told : Option Held) (root : List ℕ) (r : Refusal) → IsUnopenedObject told root r → IsUnlinked told root r
+of_root told root r h = of_object [] root (All-nil (IsHeldObject told)) ([], reads_none, λ has. has) (omega arith) (unopened h)
 
 -- the next one that is needed
 pub due_next : (root : List ℕ) (os : List Object) (old new : List (ℕ × ℕ)) (user : ℕ) (name : Vec ℕ Global) → Reads [] (root ∷ []) os (left_of os old) → IsNext os old new (Some (user, name)) → IsDue root os name.items

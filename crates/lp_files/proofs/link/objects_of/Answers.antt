@@ -1,12 +1,14 @@
-use Rattle.std.proofs.Common.{Err, ◌∙◌, ◌++◌, ◌∷◌, [], ap, length, subst, arith}
+use Rattle.std.proofs.Common.{Err, ◌∙◌, ◌++◌, ◌∷◌, [], ap, length, subst, sym, arith}
 use Rattle.std.proofs.lemmas.List.{length_push}
 use Rattle.lp_lines.specs.declared.refusal.Refusal.{Refusal}
 use Rattle.lp_lines.specs.declared.refusal.Refusal.TheVariants as refusal
 use Rattle.lp_lines.proofs.Looking.{looked_then, looked_passed, looked_judged, text_is_judged}
-use Rattle.lp_files.specs.inner.Objects.{IsNext}
+use Rattle.lp_lemmas.proofs.Results.{passed_up}
+use Rattle.lp_files.specs.Unlinked.{IsUnlinked, IsUnread, of_number, of_object}
+use Rattle.lp_files.specs.inner.Objects.{IsNew, IsNext}
 use Rattle.lp_files.proofs.Linking.{first_held, more_held}
-use Rattle.lp_files.proofs.Unreading.{order_first, order_more, there_first}
-use Rattle.lp_files.proofs.Ordering.{there_more}
+use Rattle.lp_files.proofs.Ordering.{skipped, there_more}
+use Rattle.lp_files.proofs.Unreading.{due_next, of_root, order_first, order_more, there_first}
 use Rattle.lp_files.proofs.link.objects_of.Goals as goal
 
 pub returns-in_err-read-clause-looked : goal.returns-in_err-read-clause-looked
@@ -52,3 +54,42 @@ loop-number-preserved g c =
           let n = c.loop-number.invariant.count in
           omega (arith, e, l, n);
     }
+
+pub returns-in_err-object-clause-cause : goal.returns-in_err-object-clause-cause
+returns-in_err-object-clause-cause g c =
+    let told = g.F.Folder.held c.args.folder.now in
+    passed_up c.from_residual.result c.in_err-object.field-0.0 (IsUnlinked told c.args.root.now) c.from_residual.ensures.1 (of_root told c.args.root.now c.in_err-object.field-0.0 c.in_err-object.ensures.cause)
+
+pub returns-in_default-clause-ordered : goal.returns-in_default-clause-ordered
+returns-in_default-clause-ordered g c =
+    skipped c.loop-number.invariant.ordered (subst (IsNext c.loop-number.reading.objects.items c.loop-number.waiting.items c.next.new.waiting.items) c.in_default.is c.in_ok-user.ensures.next)
+
+pub read-requires-clause-is_new : goal.read-requires-clause-is_new
+read-requires-clause-is_new g c =
+    let os = c.loop-number.reading.objects.items in
+    subst (IsNew os c.in-Some.user) (sym c.as_slice.ensures.value) (subst (IsNext os c.loop-number.waiting.items c.next.new.waiting.items) c.in-Some.is c.in_ok-user.ensures.next).1
+
+pub returns-in_err-read-clause-cause : goal.returns-in_err-read-clause-cause
+returns-in_err-read-clause-cause g c =
+    let os = c.loop-number.reading.objects.items in
+    let told = g.F.Folder.held c.args.folder.now in
+    let r = c.in_err-read.field-0.0 in
+    let next = subst (IsNext os c.loop-number.waiting.items c.next.new.waiting.items) c.in-Some.is c.in_ok-user.ensures.next in
+    passed_up c.from_residual-in_err-read.result r (IsUnlinked told c.args.root.now) c.from_residual-in_err-read.ensures.1
+    (of_object os c.in-Some.name.items c.loop-number.invariant.held (due_next c.args.root.now os c.loop-number.waiting.items c.next.new.waiting.items c.in-Some.user c.in-Some.name c.loop-number.invariant.ordered next)
+    (omega (arith, c.loop-number-test.true, c.loop-number.invariant.count))
+    (subst (λ t. IsUnread t os c.in-Some.name.items r) c.loop-number.invariant.looked.same
+    (subst (λ n. IsUnread (g.F.Folder.held c.loop-number.folder) os n r) c.as_slice.ensures.value c.in_err-read.ensures.cause)))
+
+pub returns-in-None-clause-ordered : goal.returns-in-None-clause-ordered
+returns-in-None-clause-ordered g c =
+    skipped c.loop-number.invariant.ordered (subst (IsNext c.loop-number.reading.objects.items c.loop-number.waiting.items c.next-2.new.waiting.items) c.in-None.is c.in_ok-next.ensures.next)
+
+pub returns-in-Some-2-clause-cause : goal.returns-in-Some-2-clause-cause
+returns-in-Some-2-clause-cause g c =
+    let os = c.loop-number.reading.objects.items in
+    let (user, name) = c.in-Some-2.field-0 in
+    of_number os name.items c.loop-number.invariant.held
+    (due_next c.args.root.now os c.loop-number.waiting.items c.next-2.new.waiting.items user name c.loop-number.invariant.ordered
+    (subst (IsNext os c.loop-number.waiting.items c.next-2.new.waiting.items) c.in-Some-2.is c.in_ok-next.ensures.next))
+    (omega (arith, c.loop-number-test.false, c.loop-number.invariant.count)) c.limited.ensures.says

@@ -14,4 +14,4 @@ returns-in_err-object-clause-cause g c =
 
 pub returns-in_err-take-clause-cause : goal.returns-in_err-take-clause-cause
 returns-in_err-take-clause-cause g c =
-    passed_up c.from_residual.result refusal.Memory (IsUnread (g.F.Folder.held c.args.folder.now) c.args.self.now.objects.items c.args.name.now) c.from_residual.ensures.1 (unopened (no_memory refl))
+    passed_up c.from_residual-in_err-take.result refusal.Memory (IsUnread (g.F.Folder.held c.args.folder.now) c.args.self.now.objects.items c.args.name.now) c.from_residual-in_err-take.ensures.1 (unopened (no_memory refl))
