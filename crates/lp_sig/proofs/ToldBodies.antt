@@ -159,6 +159,9 @@ no_abbreviation_said said name c p means other = let z : a_kind c ≡ an_abbrevi
 pub kind_told : (said : List (Row Said)) (rows : List (Row NamedTy)) (name : List ℕ) (c p : ℕ) (t : NamedTy) → Some (a_kind c) ≡ meaning_of name said → AbbreviationTells said rows name p t Otherwise
 kind_told said rows name c p t means = λ q. no_abbreviation_said said name c p means q.0
 
+pub nothing_told : (said : List (Row Said)) (rows : List (Row NamedTy)) (name : List ℕ) (p : ℕ) (t : NamedTy) → None ≡ meaning_of name said → AbbreviationTells said rows name p t Otherwise
+nothing_told said rows name p t means = λ q. let z : None ≡ Some (an_abbreviation p) = means ∙ q.0 in absurd (cc)
+
 parameters_apart : (p q : ℕ) → an_abbreviation p ≡ an_abbreviation q → p ≡ q
 parameters_apart p q e = cc
 
