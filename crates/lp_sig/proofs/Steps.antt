@@ -8,7 +8,7 @@ use Rattle.std.proofs.lemmas.List.Elements.{Contains-append_cases, Contains-get_
 use Rattle.lp_lemmas.proofs.Elements.{Contains_single}
 use Rattle.lp_syntax.specs.declared.text.SignatureText.{SignatureText}
 use Rattle.lp_sig.specs.Loading.{Way, ways_out, ways_between, Loads, again, first, LoadsAll, none, next, IsLoadOrder}
-use Rattle.lp_sig.specs.Walking.{entries, number_of_step, HasText}
+use Rattle.lp_sig.specs.Walking.{number_of_step, HasText}
 use Rattle.lp_sig.specs.declared.walk.Step.{Step}
 use Rattle.lp_sig.specs.declared.walk.Step.TheVariants.{Enter, Declare}
 

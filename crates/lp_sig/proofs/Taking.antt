@@ -21,7 +21,7 @@ use Rattle.lp_syntax.specs.declared.text.RawTypeNode.{RawTypeNode}
 use Rattle.lp_syntax.specs.declared.text.RawTypeNode.TheVariants as node
 use Rattle.lp_sig.specs.Constants.{Written, written_in, IsSchemeOf, IsTyped, IsWrittenFault, standard_tree}
 use Rattle.lp_sig.specs.Constants as constants
-use Rattle.lp_sig.specs.Differing.{IsKnownType, of_language, of_signatures, of_text, HasNewWithoutNumber, IsMetAt, DiffersFrom, HasManyVariables, HasNameCause, HasTypeCause, IsOtherBodyIf}
+use Rattle.lp_sig.specs.Differing.{IsKnownType, of_language, of_signatures, of_text, IsMetAt, DiffersFrom, HasManyVariables, HasNameCause, HasTypeCause, IsOtherBodyIf}
 use Rattle.lp_sig.specs.Holding.{IsTree, HoldsBodies}
 use Rattle.lp_sig.specs.Knowing.{Knows}
 use Rattle.lp_sig.specs.Abbreviations.{Seen}
@@ -36,7 +36,7 @@ use Rattle.lp_sig.specs.Said.{Said, each, names_in}
 use Rattle.lp_sig.specs.Standard.{standard_constants}
 use Rattle.lp_sig.specs.Types.{Definition}
 use Rattle.lp_sig.specs.Words.{IsLongType, IsFirstFault, counted, word_fault, fault_of_word, may_stand, by_meaning, meaning_of}
-use Rattle.lp_sig.specs.Worded.{HasWords, names_so_far, is_met_word, is_met}
+use Rattle.lp_sig.specs.Worded.{HasWords, is_met_word, is_met}
 use Rattle.lp_sig.specs.inner.Taking.{IsKnownId, standard_id, constant_id, IsOtherId, AreOtherIds, IsInside, AddsNames, AreKnownTypes, IsTaking, Takes, TakesOn}
 use Rattle.lp_sig.specs.declared.bodies.Bodies.{Bodies}
 use Rattle.lp_sig.specs.declared.constants.Constant.{Constant}

@@ -1,5 +1,5 @@
 -- Why a sentence of constants of a module's text is refused for its names and its type: which constants are known before it, with which types, when no number is left for a new one, and when a type has too many variables.
-use Rattle.std.specs.Prelude.{◌≡◌, ◌⊎◌, ◌+◌, ◌<◌, ◌≤◌, ℕ, List, [], ◌∷◌, ◌++◌, Option, Some, None, map, take, length, Contains, true, false, slice_index_or}
+use Rattle.std.specs.Prelude.{◌≡◌, ◌⊎◌, ◌+◌, ◌<◌, ◌≤◌, ℕ, List, ◌++◌, Option, Some, None, map, take, length, Contains, true, false, slice_index_or}
 use Rattle.lp_base.specs.declared.limits.TheConstants.{END_OF_NUMBERS, MAX_ARGUMENTS}
 use Rattle.lp_base.specs.declared.limit.Limit.TheVariants as limit
 use Rattle.lp_base.specs.declared.place.Spot.{Spot}

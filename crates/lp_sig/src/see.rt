@@ -286,12 +286,7 @@ impl Operators {
 
 impl Making {
     // How an abbreviation that is known goes with this one.
-    fn sight_of_abbreviation(
-        &self,
-        name: &[u8],
-        parameters: usize,
-        body: TypeId,
-    ) -> Sight
+    fn sight_of_abbreviation(&self, name: &[u8], parameters: usize, body: TypeId) -> Sight
         ensures told { (said : List (Row Said)) (rows : List (Row NamedTy)) (t : NamedTy) → Knows self.now.names said → AreBodiesHere self.now.bodies.types.bank self.now.bodies.bodies.items said rows →
             IsTree self.now.bodies.types.bank (λ T. IsTypeHere said T t) body → EachKind (FitsHere said) t → AbbreviationTells said rows name.now parameters t result }
     {

@@ -1,6 +1,6 @@
 use Rattle.std.specs.Prelude.{string_bytes}
 use Rattle.lp_sig.proofs.Steps.{step_within}
-use Rattle.std.proofs.Common.{map, subst, sym, arith, ap, ◌∙◌, []}
+use Rattle.std.proofs.Common.{map, subst, arith, ap, ◌∙◌, []}
 use Rattle.lp_lemmas.proofs.Results.{passed_up}
 use Rattle.lp_sig.specs.Loading.{IsLoadOrder}
 use Rattle.lp_sig.specs.Walking.{IsFirstCircleFault}

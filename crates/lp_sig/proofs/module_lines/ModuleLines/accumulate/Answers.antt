@@ -48,4 +48,4 @@ returns-in_err-check_word-clause-refused c = λ used ds given.
     (first_or (IsWordRefused c.args.self.now.own.now used text (length (first_names [] (signature_words text ds))) (module_words text ds)) (IsWordTaken c.args.self.now.own.now used text (length (first_names [] (signature_words text ds))) (module_words text ds)) c.args.words.now c.loop-word.word-index _ c.in_err-check_word.field-0.0 (wrong.Sig fault.Memory)
     c.loop-word-test.true (c.loop-word.invariant.taken used ds given)
     (told_refused c.args.self.now.own.now used text (length (first_names [] (signature_words text ds))) (module_words text ds) c.args.self.now.sights.now c.spelled_at.result.now _ c.sight_of_accumulate-sight.result given.told c.spelled_at.ensures
-      (c.sight_of_accumulate-sight.ensures.place (signature_words text ds) (module_words text ds) given.signatures given.modules) c.in_err-check_word.field-0.0 (wrong.Sig fault.Memory) c.in_err-check_word.ensures.refused))
+    (c.sight_of_accumulate-sight.ensures.place (signature_words text ds) (module_words text ds) given.signatures given.modules) c.in_err-check_word.field-0.0 (wrong.Sig fault.Memory) c.in_err-check_word.ensures.refused))
