@@ -107,3 +107,6 @@ mod NamedNumbers
 mod QueryDenotes
 mod PartsDone
 mod RecordCode
+mod StandsIn
+mod StartsAlike
+mod Regrouped
