@@ -9,7 +9,7 @@ use Rattle.lp_gen.specs.inner.Listing.{Around}
 use Rattle.lp_gen.specs.inner.Bodies.{pushed, new_level}
 use Rattle.lp_gen.specs.inner.GoalCode.{quantified, numbers, GoalCode, GoalsCode}
 use Rattle.lp_gen.specs.inner.OpenGoals.{plain_goal, plain_goals}
-use Rattle.lp_gen.specs.inner.Planned.{clauses_length, goal_records, goals_records, depth_after, depth_behind, GoalHas, GoalsHave}
+use Rattle.lp_gen.specs.inner.Planned.{clauses_length, goal_records, goals_records, level_behind, levels_behind, GoalHas, GoalsHave}
 use Rattle.lp_gen.proofs.BodySteps.{push_level}
 
 -- what is written in goals matters to none of this
@@ -29,7 +29,7 @@ mutual
   plain_records (goals g gs) = λ i. plain_goal_records g i + plain_records gs i
 
 mutual
-  plain_after : (d : ℕ) (g : Goal) → depth_after d (plain_goal g) ≡ depth_after d g
+  plain_after : (d : ℕ) (g : Goal) → level_behind d (plain_goal g) ≡ level_behind d g
   plain_after d (Atomic t) = refl
   plain_after d Cut = refl
   plain_after d (Either gs hs) = refl
@@ -38,9 +38,9 @@ mutual
   plain_after d (Assume w cs gs) = refl
   plain_after d (Not w gs) = refl
 
-  plain_behind : (d : ℕ) (gs : Goals) → depth_behind d (plain_goals gs) ≡ depth_behind d gs
+  plain_behind : (d : ℕ) (gs : Goals) → levels_behind d (plain_goals gs) ≡ levels_behind d gs
   plain_behind d no_goals = refl
-  plain_behind d (goals g gs) = plain_behind (depth_after d (plain_goal g)) gs ∙ ap (λ n. depth_behind n gs) (plain_after d g)
+  plain_behind d (goals g gs) = plain_behind (level_behind d (plain_goal g)) gs ∙ ap (λ n. levels_behind n gs) (plain_after d g)
 
 mutual
   plain_goal_has : (D : ℕ → ℕ → Clauses → Type 0) (q d : ℕ) (g : Goal) → GoalHas D q d g → GoalHas D q d (plain_goal g)
@@ -57,7 +57,7 @@ mutual
   plain_have D q d (goals g gs) x = (
     plain_goal_has D q d g x.0,
     subst (λ m. GoalsHave D (q + goal_records (plain_goal g)) m (plain_goals gs)) (sym (plain_after d g))
-        (subst (λ n. GoalsHave D (q + n) (depth_after d g) (plain_goals gs)) (sym (plain_goal_records g)) (plain_have D (q + goal_records g) (depth_after d g) gs x.1)),
+        (subst (λ n. GoalsHave D (q + n) (level_behind d g) (plain_goals gs)) (sym (plain_goal_records g)) (plain_have D (q + goal_records g) (level_behind d g) gs x.1)),
   )
 
 -- numbers one after the other
@@ -73,7 +73,7 @@ names_both [] ys = refl
 names_both (i ∷ is) ys = ap (λ l. names_of i ++ l) (names_both is ys) ∙ sym (Rattle.std.proofs.Common.append_assoc (names_of i) (names_in is) (names_in ys))
 
 -- where a `sigma` ends its list, as many variables are around what follows a goal
-same_depth : (D : ℕ → ℕ → Clauses → Type 0) (q d : ℕ) (g : Goal) (gs : Goals) → ends_list g gs → GoalsHave D q (depth_after d g) gs → GoalsHave D q d gs
+same_depth : (D : ℕ → ℕ → Clauses → Type 0) (q d : ℕ) (g : Goal) (gs : Goals) → ends_list g gs → GoalsHave D q (level_behind d g) gs → GoalsHave D q d gs
 same_depth D q d (Atomic t) gs last x = x
 same_depth D q d Cut gs last x = x
 same_depth D q d (Either hs ks) gs last x = x

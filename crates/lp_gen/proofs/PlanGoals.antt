@@ -17,7 +17,7 @@ use Rattle.lp_gen.specs.declared.plan.Step.{Step}
 use Rattle.lp_gen.specs.declared.plan.Step.TheVariants as on
 use Rattle.lp_gen.specs.inner.OpenGoals.{BodyStep, turn, end_either, end_all, end_assume, end_deny, goal_steps, goals_steps}
 use Rattle.lp_gen.specs.inner.BodyCode.{Suppositions, step_of}
-use Rattle.lp_gen.specs.inner.Planned.{clauses_length, goal_records, goals_records, depth_after, depth_behind, GoalHas, GoalsHave, IsWritten, DeepGoal}
+use Rattle.lp_gen.specs.inner.Planned.{clauses_length, goal_records, goals_records, level_behind, levels_behind, GoalHas, GoalsHave, IsWritten, DeepGoal}
 use Rattle.lp_gen.specs.inner.Planning.{IsAssumed, Todo, due_goals, due_end, todo_steps, todo_records, TodoHave, TodoWritten, TodoDeep, WalkKept}
 use Rattle.lp_gen.proofs.Tops.{atom_is, cut_is, either_is, some_is, all_is, assume_is, not_is, clauses_many}
 use Rattle.lp_gen.proofs.PlanWalked.{step_put, todo_same, assume_put}
@@ -28,10 +28,10 @@ one_steps : (b : Nodes) (cl : Suppositions) (g : Goal) (F : FlatGoal) (ts : List
 one_steps b cl g F ts ss is e = ap (λ l. l ++ todo_steps b cl ts) (append-nil (goal_steps (goal_of b g))) ∙ ap (λ u. goal_steps u ++ todo_steps b cl ts) is ∙ e
 
 one_has : (b : Nodes) (D : ℕ → ℕ → Clauses → Type 0) (q d : ℕ) (g : Goal) (F : FlatGoal) (ts : List Todo) → goal_of b g ≡ F → GoalHas D q d F →
-    TodoHave b D (q + goal_records F) (depth_after d F) ts → TodoHave b D q d (due_goals (g ∷ []) ∷ ts)
+    TodoHave b D (q + goal_records F) (level_behind d F) ts → TodoHave b D q d (due_goals (g ∷ []) ∷ ts)
 one_has b D q d g F ts is x y =
     let z : q + goal_records F ≡ q + (goal_records F + 0) = omega arith in
-    ((subst (GoalHas D q d) (sym is) x, tt), subst (λ u. TodoHave b D (q + (goal_records u + 0)) (depth_after d u) ts) (sym is) (subst (λ k. TodoHave b D k (depth_after d F) ts) z y))
+    ((subst (GoalHas D q d) (sym is) x, tt), subst (λ u. TodoHave b D (q + (goal_records u + 0)) (level_behind d u) ts) (sym is) (subst (λ k. TodoHave b D k (level_behind d F) ts) z y))
 
 one_records : (b : Nodes) (g : Goal) (F : FlatGoal) (ts : List Todo) → goal_of b g ≡ F → todo_records b (due_goals (g ∷ []) ∷ ts) ≡ goal_assumes F + todo_records b ts
 one_records b g F ts is = let n = ap goal_assumes is in omega (arith, n)
@@ -65,8 +65,8 @@ module _ (us : List Due) (xs : List Assumption) (d : ℕ) (ss : List Step) (ts :
       (λ b D q x.
       let z : q + (goal_records (goal_of b g) + 0) ≡ q + goal_records (goal_of b g) = omega arith in
       let y : q + (goal_records (goal_of b g) + 0) + goals_records (goals_of b gs) ≡ q + (goal_records (goal_of b g) + goals_records (goals_of b gs)) = omega arith in
-      ((x.0.0, subst (λ k. GoalsHave D k (depth_after d (goal_of b g)) (goals_of b gs)) z x.1.0),
-      subst (λ k. TodoHave b D k (depth_behind (depth_after d (goal_of b g)) (goals_of b gs)) ts) y x.1.1))
+      ((x.0.0, subst (λ k. GoalsHave D k (level_behind d (goal_of b g)) (goals_of b gs)) z x.1.0),
+      subst (λ k. TodoHave b D k (levels_behind (level_behind d (goal_of b g)) (goals_of b gs)) ts) y x.1.1))
       (λ b x. ((x.0.0, x.1.0), x.1.1)) (λ b x. ((x.0.0, last_goal (goal_of b g), tt), (x.0.2, x.1))) (λ e. e) (λ b. omega arith)
 
   pub no_more : WalkKept us us xs xs d d ss ss (due_goals [] ∷ ts) ts
@@ -115,7 +115,7 @@ module _ (us : List Due) (xs : List Assumption) (d : ℕ) (ss : List Step) (ts :
       (λ b cl. one_steps b cl (code.Some T l) (Exists (type_tree b T.0) (goals_of b l.items)) ts
       (step_of b cl (on.Some T) ∷ todo_steps b cl (due_goals l.items ∷ ts)) (some_is b T l) refl)
       (λ b D q x. one_has b D q d (code.Some T l) (Exists (type_tree b T.0) (goals_of b l.items)) ts (some_is b T l) (subst (λ k. GoalsHave D q k (goals_of b l.items)) more x.0)
-      (subst (λ k. TodoHave b D (q + goals_records (goals_of b l.items)) (depth_behind k (goals_of b l.items)) ts) more x.1))
+      (subst (λ k. TodoHave b D (q + goals_records (goals_of b l.items)) (levels_behind k (goals_of b l.items)) ts) more x.1))
       (λ b x. one_written b (code.Some T l) (Exists (type_tree b T.0) (goals_of b l.items)) ts (some_is b T l) x.0 x.1)
       (λ b x. one_deep b (code.Some T l) (Exists (type_tree b T.0) (goals_of b l.items)) ts (some_is b T l) x)
       (λ e. (e, (λ t q m. tt, λ t q. refl, λ t. refl))) (λ b. one_records b (code.Some T l) (Exists (type_tree b T.0) (goals_of b l.items)) ts (some_is b T l))

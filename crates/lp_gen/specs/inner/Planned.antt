@@ -32,18 +32,18 @@ abbrev mutual
 
 -- how many variables are around what follows goals: those of a `sigma` are there up to the end of the block around it
 abbrev mutual
-  pub depth_after : ℕ → Goal → ℕ
-  depth_after d (Atomic t) = d
-  depth_after d Cut = d
-  depth_after d (Either gs hs) = d
-  depth_after d (Exists T gs) = depth_behind (suc d) gs
-  depth_after d (Forall T gs) = d
-  depth_after d (Assume w cs gs) = d
-  depth_after d (Not w gs) = d
+  pub level_behind : ℕ → Goal → ℕ
+  level_behind d (Atomic t) = d
+  level_behind d Cut = d
+  level_behind d (Either gs hs) = d
+  level_behind d (Exists T gs) = levels_behind (suc d) gs
+  level_behind d (Forall T gs) = d
+  level_behind d (Assume w cs gs) = d
+  level_behind d (Not w gs) = d
 
-  pub depth_behind : ℕ → Goals → ℕ
-  depth_behind d no_goals = d
-  depth_behind d (goals g gs) = depth_behind (depth_after d g) gs
+  pub levels_behind : ℕ → Goals → ℕ
+  levels_behind d no_goals = d
+  levels_behind d (goals g gs) = levels_behind (level_behind d g) gs
 
 -- what holds of the clauses that goals assume, by the number of their first record and by how many variables are around them
 abbrev mutual
@@ -58,7 +58,7 @@ abbrev mutual
 
   pub GoalsHave : (ℕ → ℕ → Clauses → Type 0) → (q d : ℕ) → Goals → Type 0
   GoalsHave D q d no_goals = Unit {0}
-  GoalsHave D q d (goals g gs) = GoalHas D q d g × GoalsHave D (q + goal_records g) (depth_after d g) gs
+  GoalsHave D q d (goals g gs) = GoalHas D q d g × GoalsHave D (q + goal_records g) (level_behind d g) gs
 
 -- goals that are written as they stand, where the clauses that they assume are
 abbrev mutual

@@ -19,7 +19,7 @@ use Rattle.lp_gen.specs.inner.OpenGoals.{BodyStep, goals_steps}
 use Rattle.lp_gen.specs.inner.BodyCode.{Suppositions, step_of, steps_of, next_of, next_all, IsNext, AreNext, count_starts, starts_all}
 use Rattle.lp_gen.specs.Limits.{goals_assume}
 use Rattle.lp_gen.specs.inner.Recorded.{own_count}
-use Rattle.lp_gen.specs.inner.Planned.{goals_records, depth_behind, GoalsHave, AreWritten, DeepGoals, DeepClauses, AreCaptured, AreOnly}
+use Rattle.lp_gen.specs.inner.Planned.{goals_records, levels_behind, GoalsHave, AreWritten, DeepGoals, DeepClauses, AreCaptured, AreOnly}
 
 abbrev pub body_of : Origin → List Goal
 body_of (origin.Clause c) = c.now.body.items
@@ -110,7 +110,7 @@ todo_records b (due_end s l ∷ ts) = todo_records b ts
 
 abbrev pub TodoHave : Nodes → (ℕ → ℕ → Clauses → Type 0) → (q d : ℕ) → List Todo → Type 0
 TodoHave b D q d [] = Unit {0}
-TodoHave b D q d (due_goals gs ∷ ts) = GoalsHave D q d (goals_of b gs) × TodoHave b D (q + goals_records (goals_of b gs)) (depth_behind d (goals_of b gs)) ts
+TodoHave b D q d (due_goals gs ∷ ts) = GoalsHave D q d (goals_of b gs) × TodoHave b D (q + goals_records (goals_of b gs)) (levels_behind d (goals_of b gs)) ts
 TodoHave b D q d (due_end s l ∷ ts) = TodoHave b D q l ts
 
 abbrev pub TodoDeep : Nodes → List Todo → Type 0
