@@ -15,7 +15,7 @@ use Rattle.lp_code.specs.Denote.{from_zero}
 use Rattle.lp_gen.specs.declared.emitter.Emitter.{Emitter}
 use Rattle.lp_gen.specs.declared.body.Block.{Block}
 use Rattle.lp_gen.specs.inner.Running.{IsTypePut}
-use Rattle.lp_gen.specs.inner.Listing.{Seen, Around}
+use Rattle.lp_gen.specs.Steps.{Seen, Around}
 use Rattle.lp_gen.specs.inner.TermLaw.{AreSet}
 use Rattle.lp_gen.specs.inner.Doing.{AtomWritten}
 use Rattle.lp_gen.specs.inner.Bodies.{pushed, new_level, IsShort}

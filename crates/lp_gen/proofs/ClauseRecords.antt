@@ -24,7 +24,8 @@ use Rattle.lp_gen.specs.declared.plan.Part.{Part}
 use Rattle.lp_gen.specs.declared.plan.Origin.{Origin}
 use Rattle.lp_gen.specs.declared.plan.Origin.TheVariants as origin
 use Rattle.lp_gen.specs.declared.tables.Tables.{Tables}
-use Rattle.lp_gen.specs.inner.Listing.{Seen, Around, around_of, at_level, constant_function, level_in}
+use Rattle.lp_gen.specs.Steps.{Seen, Around, at_level, constant_function, level_in}
+use Rattle.lp_gen.specs.inner.Listing.{around_of}
 use Rattle.lp_gen.specs.inner.TermLaw.{with_variables, AllLoose}
 use Rattle.lp_gen.specs.inner.Written.{AreAsked}
 use Rattle.lp_gen.specs.inner.Bodies.{new_level, HasLevel, bare_goals, bare_clauses, said_goals, said_clauses, AreThrough}

@@ -5,7 +5,7 @@ use Rattle.lp_model.specs.Flat.{Goal, Goals, Clauses, Atomic, Cut, Either, Exist
 use Rattle.lp_code.specs.declared.instruction.Instr.{Instr}
 use Rattle.lp_code.specs.Rules.{names_of, names_in}
 use Rattle.lp_gen.specs.Sources.{ends_list}
-use Rattle.lp_gen.specs.inner.Listing.{Around}
+use Rattle.lp_gen.specs.Steps.{Around}
 use Rattle.lp_gen.specs.inner.Bodies.{pushed, new_level}
 use Rattle.lp_gen.specs.inner.GoalCode.{quantified, numbers, GoalCode, GoalsCode}
 use Rattle.lp_gen.specs.inner.OpenGoals.{plain_goal, plain_goals}

@@ -32,7 +32,8 @@ use Rattle.lp_gen.specs.declared.plan.Due.{Due}
 use Rattle.lp_gen.specs.declared.plan.Part.{Part}
 use Rattle.lp_gen.specs.declared.plan.Origin.TheVariants as origin
 use Rattle.lp_gen.specs.declared.tables.Tables.{Tables}
-use Rattle.lp_gen.specs.inner.Listing.{Seen, seen, around_of, constant_function}
+use Rattle.lp_gen.specs.Steps.{Seen, constant_function}
+use Rattle.lp_gen.specs.inner.Listing.{seen, around_of}
 use Rattle.lp_gen.specs.inner.Written.{AreAsked}
 use Rattle.lp_gen.specs.inner.GoalCode.{numbers}
 use Rattle.lp_gen.specs.inner.Entering.{types_at}

@@ -7,7 +7,7 @@ use Rattle.std.proofs.lemmas.Option.{slice_get_within, slice_get-get_or, get_or_
 use Rattle.lp_calculus.specs.Types.{Ty}
 use Rattle.lp_term.specs.Nodes.{Nodes, type_tree}
 use Rattle.lp_code.specs.States.{member, passing, placed}
-use Rattle.lp_gen.specs.inner.Listing.{Seen, Around, at_level}
+use Rattle.lp_gen.specs.Steps.{Seen, Around, at_level}
 use Rattle.lp_gen.specs.inner.TermLaw.{as_set, SameAround}
 use Rattle.lp_gen.specs.inner.Owned.{AreStarted, MakesOwn}
 use Rattle.lp_gen.specs.inner.GoalCode.{numbers}

@@ -27,7 +27,7 @@ use Rattle.lp_gen.specs.declared.plan.Assumption.{Assumption}
 use Rattle.lp_gen.specs.declared.plan.Part.{Part}
 use Rattle.lp_gen.specs.declared.plan.Origin.TheVariants as origin
 use Rattle.lp_gen.specs.declared.tables.Tables.{Tables}
-use Rattle.lp_gen.specs.inner.Listing.{Seen, Around, at_level, level_in, constant_function}
+use Rattle.lp_gen.specs.Steps.{Seen, Around, at_level, level_in, constant_function}
 use Rattle.lp_gen.specs.inner.TermLaw.{IsSeen, AllLoose}
 use Rattle.lp_gen.specs.inner.Written.{AreAsked}
 use Rattle.lp_gen.specs.inner.Bodies.{new_level, IsShort, bare_clauses, said_clauses, AreThrough}

@@ -10,7 +10,7 @@ use Rattle.lp_code.specs.Rules.{is_variable_of}
 use Rattle.lp_code.specs.Denote.{from_zero, started, is_all_variable}
 use Rattle.lp_gen.specs.Sources.{IsKnownType}
 use Rattle.lp_gen.specs.inner.Running.{HasRegisters}
-use Rattle.lp_gen.specs.inner.Listing.{Seen, Around, count_around, level_below, at_level, level_in}
+use Rattle.lp_gen.specs.Steps.{Seen, Around, count_around, level_below, at_level, level_in}
 use Rattle.lp_gen.specs.inner.TermLaw.{Standing, IsSeen}
 use Rattle.lp_gen.specs.inner.Bodies.{new_level, IsShort}
 use Rattle.lp_gen.specs.inner.Heading.{AreOwn}

@@ -19,7 +19,8 @@ use Rattle.lp_gen.specs.declared.environment.Variable.{Variable}
 use Rattle.lp_gen.specs.declared.plan.Part.{Part}
 use Rattle.lp_gen.specs.declared.plan.Origin.{Origin}
 use Rattle.lp_gen.specs.declared.tables.Tables.{Tables}
-use Rattle.lp_gen.specs.inner.Listing.{Seen, Around, around_of, at_level, constant_function, level_in}
+use Rattle.lp_gen.specs.Steps.{Seen, Around, at_level, constant_function, level_in}
+use Rattle.lp_gen.specs.inner.Listing.{around_of}
 use Rattle.lp_gen.specs.inner.TermLaw.{AreSet, Standing}
 use Rattle.lp_gen.specs.inner.Owned.{makes, AreStarted}
 use Rattle.lp_gen.specs.inner.Written.{CodeOwns, AreAsked}

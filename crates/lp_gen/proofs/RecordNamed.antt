@@ -14,7 +14,8 @@ use Rattle.lp_gen.specs.declared.environment.Variable.{Variable}
 use Rattle.lp_gen.specs.declared.plan.Part.{Part}
 use Rattle.lp_gen.specs.declared.plan.Origin.{Origin}
 use Rattle.lp_gen.specs.declared.tables.Tables.{Tables}
-use Rattle.lp_gen.specs.inner.Listing.{Around, around_of, constant_function}
+use Rattle.lp_gen.specs.Steps.{Around, constant_function}
+use Rattle.lp_gen.specs.inner.Listing.{around_of}
 use Rattle.lp_gen.specs.inner.TermLaw.{AreSet}
 use Rattle.lp_gen.specs.inner.Owned.{AreStarted}
 use Rattle.lp_gen.specs.inner.Written.{CodeOwns}

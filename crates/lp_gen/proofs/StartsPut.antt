@@ -8,7 +8,8 @@ use Rattle.indexmap.specs.IndexMap.{IndexMap, get, index_map_len, Updates}
 use Rattle.lp_term.specs.Nodes.{Nodes}
 use Rattle.lp_code.specs.States.{member}
 use Rattle.lp_gen.specs.declared.environment.Variable.{Variable}
-use Rattle.lp_gen.specs.inner.Listing.{Seen, Around, seen, at_level}
+use Rattle.lp_gen.specs.Steps.{Seen, Around, at_level}
+use Rattle.lp_gen.specs.inner.Listing.{seen}
 use Rattle.lp_gen.specs.inner.BodyCode.{levels_found, level_found, AreStarts, started_at, AreAllSet}
 use Rattle.lp_gen.proofs.AssumptionPut.{found_last}
 

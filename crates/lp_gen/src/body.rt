@@ -3,7 +3,8 @@ ghost use Rattle.std.specs.Prelude.{◌≡◌, [], ◌∷◌, ◌++◌, length, 
 ghost use Rattle.lp_term.specs.Nodes.{Nodes, type_tree};
 ghost use Rattle.lp_code.specs.Length.{length_of};
 ghost use Rattle.lp_gen.specs.inner.Fitting.{is_short};
-ghost use Rattle.lp_gen.specs.inner.Listing.{around_of, constant_function};
+ghost use Rattle.lp_gen.specs.Steps.{constant_function};
+ghost use Rattle.lp_gen.specs.inner.Listing.{around_of};
 ghost use Rattle.lp_gen.specs.inner.OpenGoals.{cut_to};
 ghost use Rattle.lp_gen.specs.inner.OpenGoals as plain;
 ghost use Rattle.lp_gen.specs.inner.BodyCode.{VariableOpened, SomeOpened, AllOpened, BlockOpened, BlockEnded, Takes, IsDone, AreDone, BodyWritten};

@@ -3,7 +3,7 @@ ghost use Rattle.std.specs.Prelude.{◌≡◌, ◌⊎◌, ℕ, ◌<◌, ◌≤�
 ghost use Rattle.lp_code.specs.declared.instruction.Instr.{Instr};
 ghost use Rattle.lp_code.specs.declared.instruction.Instr.TheVariants as on;
 ghost use Rattle.lp_code.specs.Length.{length_of};
-ghost use Rattle.lp_gen.specs.Limits.{past};
+ghost use Rattle.lp_gen.specs.Registers.{past};
 ghost use Rattle.lp_gen.specs.inner.Fitting.{is_fitting, is_short, misfits_of, IsRefused};
 
 use crate::fault::RecordRefusal;

@@ -14,7 +14,8 @@ use Rattle.lp_gen.specs.declared.plan.Step.TheVariants as on
 use Rattle.lp_gen.specs.Registers.{Amount, nothing, both, plain_code, atom_takes, variable_takes, assume_takes, with_variable}
 use Rattle.lp_gen.specs.inner.Alike.{IsAlike}
 use Rattle.lp_gen.specs.inner.Fitting.{misfits_of}
-use Rattle.lp_gen.specs.inner.Listing.{Around, around_of}
+use Rattle.lp_gen.specs.Steps.{Around}
+use Rattle.lp_gen.specs.inner.Listing.{around_of}
 use Rattle.lp_gen.specs.inner.TermLaw.{AreSet}
 use Rattle.lp_gen.specs.inner.OpenGoals.{cut_to}
 use Rattle.lp_gen.specs.inner.BodyCode.{levels_found}

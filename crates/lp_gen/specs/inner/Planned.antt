@@ -5,7 +5,7 @@ use Rattle.lp_code.specs.States.{member}
 use Rattle.lp_gen.specs.Sources.{ends_list}
 use Rattle.lp_gen.specs.declared.plan.Assumption.{Assumption}
 use Rattle.lp_gen.specs.declared.tables.Tables.{Tables}
-use Rattle.lp_gen.specs.inner.Listing.{Around}
+use Rattle.lp_gen.specs.Steps.{Around}
 use Rattle.lp_gen.specs.inner.TermLaw.{AllLoose}
 use Rattle.lp_gen.specs.inner.Capturing.{IsSo, IsLevelOf}
 use Rattle.lp_gen.specs.inner.Bodies.{new_level, AllThrough}

@@ -22,7 +22,8 @@ use Rattle.lp_gen.specs.declared.plan.Origin.{Origin}
 use Rattle.lp_gen.specs.declared.plan.Origin.TheVariants as origin
 use Rattle.lp_gen.specs.declared.tables.Tables.{Tables}
 use Rattle.lp_gen.specs.inner.Running.{TypesStand, TermsStand}
-use Rattle.lp_gen.specs.inner.Listing.{Seen, Around, around_of, at_level, level_in}
+use Rattle.lp_gen.specs.Steps.{Seen, Around, at_level, level_in}
+use Rattle.lp_gen.specs.inner.Listing.{around_of}
 use Rattle.lp_gen.specs.inner.TermLaw.{Standing, IsSeen}
 use Rattle.lp_gen.specs.inner.Owned.{AreStarted}
 use Rattle.lp_gen.specs.inner.Written.{AreAsked}

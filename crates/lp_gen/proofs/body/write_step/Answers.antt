@@ -1,7 +1,8 @@
 use Rattle.std.proofs.Common.{refl, sym, subst}
 use Rattle.lp_term.specs.Nodes.{tree, type_tree}
 use Rattle.lp_gen.specs.declared.plan.Step.TheVariants as on
-use Rattle.lp_gen.specs.inner.Listing.{around_of, constant_function}
+use Rattle.lp_gen.specs.Steps.{constant_function}
+use Rattle.lp_gen.specs.inner.Listing.{around_of}
 use Rattle.lp_gen.specs.inner.BodyCode.{AssumedBy, IsDone}
 use Rattle.lp_gen.proofs.BodySteps.{say_step, cut_step}
 use Rattle.lp_gen.proofs.BodyFacts.{all_ends, assumption_ends, denial_ends, either_opens, not_opens, some_opens, all_opens, taken, starts_stay, assumption_taken}

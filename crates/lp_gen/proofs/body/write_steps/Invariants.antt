@@ -1,4 +1,4 @@
-use Rattle.lp_gen.specs.inner.Listing.{constant_function}
+use Rattle.lp_gen.specs.Steps.{constant_function}
 use Rattle.lp_gen.specs.inner.BodyCode.{AllStartsGrow}
 use Rattle.lp_gen.proofs.BodyFacts.{SoFar}
 use Rattle.lp_gen.proofs.body.write_steps.Given as goal

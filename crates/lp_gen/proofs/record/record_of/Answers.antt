@@ -1,6 +1,6 @@
 use Rattle.std.proofs.Common.{◌≡◌, ◌∙◌, Bool, ap, refl, subst}
 use Rattle.std.specs.Prelude.{is_none, if◌then◌else◌}
-use Rattle.lp_gen.specs.inner.Listing.{constant_function}
+use Rattle.lp_gen.specs.Steps.{constant_function}
 use Rattle.lp_gen.specs.inner.BodyCode.{BodyWritten}
 use Rattle.lp_gen.specs.inner.Recorded.{TypesWritten, HasKey}
 use Rattle.lp_gen.proofs.WrittenTypes.{none_of}

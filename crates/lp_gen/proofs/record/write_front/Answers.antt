@@ -1,6 +1,6 @@
 use Rattle.std.proofs.Common.{Some, None, sym, subst}
 use Rattle.lp_gen.specs.declared.plan.Origin.{Origin}
-use Rattle.lp_gen.specs.inner.Listing.{constant_function}
+use Rattle.lp_gen.specs.Steps.{constant_function}
 use Rattle.lp_gen.specs.inner.Recorded.{FrontWritten}
 use Rattle.lp_gen.proofs.record.write_front.Goals as goal
 
