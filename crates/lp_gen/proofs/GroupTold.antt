@@ -40,7 +40,7 @@ use Rattle.lp_gen.specs.inner.Entering.{types_at}
 use Rattle.lp_gen.specs.inner.OpenGoals.{EndsGoal, EndsGoals}
 use Rattle.lp_gen.specs.inner.BodyCode.{Suppositions, started_at, AreAllSet, HoldStarts, starts_all}
 use Rattle.lp_gen.specs.inner.Recorded.{RecordWritten, own_count, FrontWritten, HeadWritten, head_in}
-use Rattle.lp_gen.specs.inner.Planned.{clauses_length, goal_records, goals_records, GoalHas, GoalsHave, DeepGoal, DeepGoals, DeepClauses, IsAssumption, IsAtLevel, AreCaptured}
+use Rattle.lp_gen.specs.inner.Planned.{clauses_length, goal_records, goals_records, level_behind, GoalHas, GoalsHave, DeepGoal, DeepGoals, DeepClauses, IsAssumption, IsAtLevel, AreCaptured}
 use Rattle.lp_gen.specs.inner.Planning.{AllCaptured, Extends, HoldClauses, AssumptionAt, PartPlanned, AllPlanned, ArePlanned, body_of}
 use Rattle.lp_gen.specs.inner.Groups.{IsStartOf, AllWritten}
 use Rattle.lp_gen.proofs.PlanWalked.{extends_same, extends_at, get_behind}
@@ -173,7 +173,7 @@ mutual
 
   have_map : (D E : ℕ → ℕ → Clauses → Type 0) → ((q d : ℕ) (cs : Clauses) → D q d cs → E q d cs) → (q d : ℕ) (gs : Goals) → GoalsHave D q d gs → GoalsHave E q d gs
   have_map D E f q d no_goals x = tt
-  have_map D E f q d (goals g gs) x = (goal_have_map D E f q d g x.0, have_map D E f (q + goal_records g) d gs x.1)
+  have_map D E f q d (goals g gs) x = (goal_have_map D E f q d g x.0, have_map D E f (q + goal_records g) (level_behind d g) gs x.1)
 
 -- clauses by their places
 clause_found : (b : Nodes) (cs : List code.Clause) (j : ℕ) (c : Clause) → clause_at (clauses_of b cs) j ≡ Some c → (d : code.Clause) × (slice_get cs j ≡ Some d) × (clause_of b d ≡ c)
