@@ -332,6 +332,27 @@ seen_itself (Some v) = (refl, refl)
 pub alike_itself : (a : Around) → IsAlike a a
 alike_itself a = record { base = refl; own = itself_same a.own; captured = λ l. seen_itself (a.captured l) }
 
+seen_then : (o p q : Option Seen) → SameSeen o p → SameSeen p q → SameSeen o q
+seen_then None None q s t = t
+seen_then None (Some w) q s t = absurd s
+seen_then (Some v) None q s t = absurd s
+seen_then (Some v) (Some w) None s t = absurd t
+seen_then (Some v) (Some w) (Some u) s t = (s.0 ∙ t.0, s.1 ∙ t.1)
+
+all_then : (us vs ws : List Seen) → AllSame us vs → AllSame vs ws → AllSame us ws
+all_then [] [] ws s t = t
+all_then [] (v ∷ vs) ws s t = absurd s
+all_then (u ∷ us) [] ws s t = absurd s
+all_then (u ∷ us) (v ∷ vs) [] s t = absurd t
+all_then (u ∷ us) (v ∷ vs) (w ∷ ws) s t = ((s.0.0 ∙ t.0.0, s.0.1 ∙ t.0.1), all_then us vs ws s.1 t.1)
+
+pub alike_then : {a b c : Around} → IsAlike a b → IsAlike b c → IsAlike a c
+alike_then {a} {b} {c} x y = record {
+  base = x.base ∙ y.base;
+  own = all_then a.own b.own c.own x.own y.own;
+  captured = λ l. seen_then (a.captured l) (b.captured l) (c.captured l) (x.captured l) (y.captured l);
+}
+
 mutual
   pub behind_goal_same : (a b : Around) (g : Goal) → IsAlike a b → IsAlike (behind_goal a g) (behind_goal b g)
   behind_goal_same a b (Atomic t) x = x

@@ -110,3 +110,4 @@ mod RecordCode
 mod StandsIn
 mod StartsAlike
 mod Regrouped
+mod Filling

@@ -9,7 +9,7 @@ use Rattle.lp_gen.specs.inner.OpenGoals.{BodyStep, either, turn, end_either, som
 use Rattle.lp_gen.specs.inner.Planned.{clauses_length, goal_records, goals_records, level_behind, levels_behind, GoalHas, GoalsHave}
 
 -- a goal, or goals, before others
-mutual
+abbrev mutual
   pub goal_before : Goal → Goals → Goals
   goal_before (Atomic t) hs = goals (Atomic t) hs
   goal_before Cut hs = goals Cut hs
@@ -32,14 +32,11 @@ mutual
   goal_steps_before : (g : Goal) (hs : Goals) → goals_steps (goal_before g hs) ≡ goal_steps g ++ goals_steps hs
   goal_steps_before (Atomic t) hs = refl
   goal_steps_before Cut hs = refl
-  goal_steps_before (Either ls rs) hs = λ i. (either ∷ (alone ls i ++ turn ∷ (alone rs i ++ end_either ∷ []))) ++ goals_steps hs
+  goal_steps_before (Either ls rs) hs = λ i. (either ∷ ((steps_before ls no_goals ∙ append-nil (goals_steps ls)) i ++ turn ∷ ((steps_before rs no_goals ∙ append-nil (goals_steps rs)) i ++ end_either ∷ []))) ++ goals_steps hs
   goal_steps_before (Exists T gs) hs = append-nil (some T ∷ goals_steps (goals_before gs hs)) ∙ ap (λ l. some T ∷ l) (steps_before gs hs)
-  goal_steps_before (Forall T gs) hs = λ i. (all T ∷ (alone gs i ++ end_all ∷ [])) ++ goals_steps hs
-  goal_steps_before (Assume w cs gs) hs = λ i. (assume cs ∷ (alone gs i ++ end_assume ∷ [])) ++ goals_steps hs
-  goal_steps_before (Not w gs) hs = λ i. (deny ∷ (alone gs i ++ end_deny ∷ [])) ++ goals_steps hs
-
-  alone : (gs : Goals) → goals_steps (goals_before gs no_goals) ≡ goals_steps gs
-  alone gs = steps_before gs no_goals ∙ append-nil (goals_steps gs)
+  goal_steps_before (Forall T gs) hs = λ i. (all T ∷ ((steps_before gs no_goals ∙ append-nil (goals_steps gs)) i ++ end_all ∷ [])) ++ goals_steps hs
+  goal_steps_before (Assume w cs gs) hs = λ i. (assume cs ∷ ((steps_before gs no_goals ∙ append-nil (goals_steps gs)) i ++ end_assume ∷ [])) ++ goals_steps hs
+  goal_steps_before (Not w gs) hs = λ i. (deny ∷ ((steps_before gs no_goals ∙ append-nil (goals_steps gs)) i ++ end_deny ∷ [])) ++ goals_steps hs
 
   steps_before : (gs hs : Goals) → goals_steps (goals_before gs hs) ≡ goals_steps gs ++ goals_steps hs
   steps_before no_goals hs = refl
@@ -47,7 +44,7 @@ mutual
       goal_steps_before g (goals_before gs hs) ∙ ap (λ l. goal_steps g ++ l) (steps_before gs hs) ∙ sym (append_assoc (goal_steps g) (goals_steps gs) (goals_steps hs))
 
 pub regrouped_steps : (gs : Goals) → goals_steps (regrouped gs) ≡ goals_steps gs
-regrouped_steps gs = alone gs
+regrouped_steps gs = steps_before gs no_goals ∙ append-nil (goals_steps gs)
 
 -- each `sigma` ends its list
 
@@ -72,8 +69,8 @@ regrouped_ends gs = ends_before gs no_goals tt
 
 mutual
   goal_records_before : (g : Goal) (hs : Goals) → goals_records (goal_before g hs) ≡ goal_records g + goals_records hs
-  goal_records_before (Atomic t) hs = refl
-  goal_records_before Cut hs = refl
+  goal_records_before (Atomic t) hs = omega arith
+  goal_records_before Cut hs = omega arith
   goal_records_before (Either ls rs) hs = let x = records_before ls no_goals in let y = records_before rs no_goals in omega (arith, x, y)
   goal_records_before (Exists T gs) hs = let x = records_before gs hs in omega (arith, x)
   goal_records_before (Forall T gs) hs = let x = records_before gs no_goals in omega (arith, x)
@@ -81,7 +78,7 @@ mutual
   goal_records_before (Not w gs) hs = let x = records_before gs no_goals in omega (arith, x)
 
   records_before : (gs hs : Goals) → goals_records (goals_before gs hs) ≡ goals_records gs + goals_records hs
-  records_before no_goals hs = refl
+  records_before no_goals hs = omega arith
   records_before (goals g gs) hs = let x = goal_records_before g (goals_before gs hs) in let y = records_before gs hs in omega (arith, x, y)
 
 -- what holds of the clauses that are assumed
@@ -122,41 +119,42 @@ module _ (D : ℕ → ℕ → Clauses → Type 0) where
 
 -- some record passes
 
+only_first : {X : Type 0} → X ⊎ ⊥ → X
+only_first (inl x) = x
+only_first (inr y) = absurd y
+
+one_or_rest : {X Y Z W : Type 0} → X ⊎ W → (W → Y ⊎ Z) → (X ⊎ Y) ⊎ Z
+one_or_rest (inl x) f = inl (inl x)
+one_or_rest {X} {Y} {Z} (inr w) f = go (f w)
+  where
+    go : Y ⊎ Z → (X ⊎ Y) ⊎ Z
+    go (inl y) = inl (inr y)
+    go (inr z) = inr z
+
 module _ (K : ℕ → List Ty → Ty) (v : ℕ) where
   mutual
     goal_passes_before : (a : Around) (g : Goal) (hs : Goals) → SomeOfGoals K v a (goal_before g hs) → SomeOfGoal K v a g ⊎ SomeOfGoals K v (behind_goal a g) hs
     goal_passes_before a (Atomic t) hs x = x
     goal_passes_before a Cut hs x = x
-    goal_passes_before a (Either ls rs) hs (inl (inl x)) = inl (inl (passes_alone a ls x))
-    goal_passes_before a (Either ls rs) hs (inl (inr x)) = inl (inr (passes_alone a rs x))
+    goal_passes_before a (Either ls rs) hs (inl (inl x)) = inl (inl (only_first (passes_before a ls no_goals x)))
+    goal_passes_before a (Either ls rs) hs (inl (inr x)) = inl (inr (only_first (passes_before a rs no_goals x)))
     goal_passes_before a (Either ls rs) hs (inr x) = inr x
     goal_passes_before a (Exists T gs) hs (inl x) = passes_before (with_variable a T) gs hs x
     goal_passes_before a (Exists T gs) hs (inr x) = absurd x
-    goal_passes_before a (Forall T gs) hs (inl x) = inl (passes_alone (with_variable a T) gs x)
+    goal_passes_before a (Forall T gs) hs (inl x) = inl (only_first (passes_before (with_variable a T) gs no_goals x))
     goal_passes_before a (Forall T gs) hs (inr x) = inr x
     goal_passes_before a (Assume w cs gs) hs (inl (inl x)) = inl (inl x)
-    goal_passes_before a (Assume w cs gs) hs (inl (inr x)) = inl (inr (passes_alone a gs x))
+    goal_passes_before a (Assume w cs gs) hs (inl (inr x)) = inl (inr (only_first (passes_before a gs no_goals x)))
     goal_passes_before a (Assume w cs gs) hs (inr x) = inr x
-    goal_passes_before a (Not w gs) hs (inl x) = inl (passes_alone a gs x)
+    goal_passes_before a (Not w gs) hs (inl x) = inl (only_first (passes_before a gs no_goals x))
     goal_passes_before a (Not w gs) hs (inr x) = inr x
-
-    passes_alone : (a : Around) (gs : Goals) → SomeOfGoals K v a (goals_before gs no_goals) → SomeOfGoals K v a gs
-    passes_alone a gs x = ⊎_elim (λ y. y) (λ y. absurd y) (passes_before a gs no_goals x)
 
     passes_before : (a : Around) (gs hs : Goals) → SomeOfGoals K v a (goals_before gs hs) → SomeOfGoals K v a gs ⊎ SomeOfGoals K v (behind_goals a gs) hs
     passes_before a no_goals hs x = inr x
-    passes_before a (goals g gs) hs x = go (goal_passes_before a g (goals_before gs hs) x)
-      where
-        later : SomeOfGoals K v (behind_goal a g) gs ⊎ SomeOfGoals K v (behind_goals (behind_goal a g) gs) hs → SomeOfGoals K v a (goals g gs) ⊎ SomeOfGoals K v (behind_goals a (goals g gs)) hs
-        later (inl y) = inl (inr y)
-        later (inr y) = inr y
-
-        go : SomeOfGoal K v a g ⊎ SomeOfGoals K v (behind_goal a g) (goals_before gs hs) → SomeOfGoals K v a (goals g gs) ⊎ SomeOfGoals K v (behind_goals a (goals g gs)) hs
-        go (inl y) = inl (inl y)
-        go (inr y) = later (passes_before (behind_goal a g) gs hs y)
+    passes_before a (goals g gs) hs x = one_or_rest (goal_passes_before a g (goals_before gs hs) x) (passes_before (behind_goal a g) gs hs)
 
   pub regrouped_pass : (a : Around) (gs : Goals) → SomeOfGoals K v a (regrouped gs) → SomeOfGoals K v a gs
-  regrouped_pass a gs x = passes_alone a gs x
+  regrouped_pass a gs x = only_first (passes_before a gs no_goals x)
 
   mutual
     goal_passes_there : (a : Around) (g : Goal) (hs : Goals) → SomeOfGoal K v a g → SomeOfGoals K v a (goal_before g hs)

@@ -1,5 +1,5 @@
 -- Assumed records start with what stands around and in their clauses.
-use Rattle.std.proofs.Common.{◌≡◌, ◌∙◌, ◌≤◌, ◌<◌, ℕ, ◌+◌, ◌-◌, List, length, Bool, true, false, true≢false, Option, Some, None, ap, refl, sym, subst, arith}
+use Rattle.std.proofs.Common.{◌≡◌, ◌∙◌, ◌≤◌, ◌<◌, ℕ, ◌+◌, ◌-◌, List, [], length, Bool, true, false, true≢false, Option, Some, None, ap, refl, sym, subst, arith}
 use Rattle.std.specs.Prelude.{nat_le, nat_lt, if◌then◌else◌, slice_get}
 use Rattle.std.proofs.lemmas.Bool.{le-leb, ltb-true, ltb-false}
 use Rattle.std.proofs.lemmas.Option.{slice_get_past}
@@ -30,11 +30,11 @@ past_none a l le =
 module _ (x : Assumption) (cs : Clauses) (a : Around) (f : ℕ → Option Seen) (k : ℕ) (all : AreCaptured x cs) (only : AreOnly x cs) (base : new_level a ≡ x.base) (set : AreSet a)
     (starts : AreStarts a (levels_found a x.captured.keys) f k) where
   none_at : (l : ℕ) → ((v : Seen) → f l ≡ Some v → ⊥) → (o : Option Seen) → SameSeen None o → SameSeen (f l) o
-  none_at l no o s = go (f l) refl
+  none_at l never o s = go (f l) refl
     where
       go : (p : Option Seen) → f l ≡ p → SameSeen p o
       go None e = s
-      go (Some v) e = absurd (no v e)
+      go (Some v) e = absurd (never v e)
 
   kept : (l : ℕ) (v : Seen) → f l ≡ Some v → member l x.captured.keys ≡ true
   kept l v e = let w = starts.only l v e in found_among a x.captured.keys w.0 l w.1
