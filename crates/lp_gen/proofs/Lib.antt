@@ -55,6 +55,7 @@ mod BlocksTaken
 mod StepsWalked
 mod BodySteps
 mod BodyFacts
+mod BodyUsed
 mod AssumptionPut
 mod BodyCoded
 mod Patched

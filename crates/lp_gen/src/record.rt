@@ -1,11 +1,12 @@
 // A record.
-ghost use Rattle.std.specs.Prelude.{◌≡◌, List, Some, None, true, length, map, [], ◌+◌, ◌<◌, ◌≤◌, ◌^◌, nat_eq, min, All, sum_by, if◌then◌else◌, IfOk, OnOk};
+ghost use Rattle.std.specs.Prelude.{◌≡◌, List, Some, None, true, length, map, [], ◌+◌, ◌<◌, ◌≤◌, ◌^◌, nat_eq, min, All, sum_by, slice_get, if◌then◌else◌, IfOk, IfErr, OnOk};
 ghost use Rattle.lp_term.specs.Nodes.{Nodes};
 ghost use Rattle.lp_code.specs.Length.{Fits, length_of};
 ghost use Rattle.lp_code.specs.Denote.{from_zero};
 ghost use Rattle.lp_model.specs.declared.clause.Goal.{Goal};
 ghost use Rattle.lp_gen.specs.declared.plan.Origin.TheVariants as origin;
-ghost use Rattle.lp_gen.specs.inner.Fitting.{is_short};
+ghost use Rattle.lp_gen.specs.inner.Fitting.{is_short, IsRefused};
+ghost use Rattle.lp_gen.specs.inner.BodyUsing.{instr_takes, assumption_takes};
 ghost use Rattle.lp_gen.specs.Steps.{constant_function};
 ghost use Rattle.lp_gen.specs.inner.Listing.{around_of};
 ghost use Rattle.lp_gen.specs.inner.Recorded.{FrontWritten, TypesWritten, HasKey, RecordWritten};
@@ -43,7 +44,8 @@ pub(crate) fn number_of(place: usize) -> u32
 }
 
 fn count_of_registers(count: u64) -> Result<u16, RecordRefusal>
-    ensures { IfOk result (λ registers. registers ≡ count) }
+    ensures count { IfOk result (λ registers. registers ≡ count) }
+    ensures cause { IfErr result (IsRefused (65535 < count)) }
 {
     match u16::try_from(count) {
         Ok(registers) => Ok(registers),
@@ -83,6 +85,7 @@ fn captured_by(
     starts: &mut Starts,
 ) -> Result<Vec<u16>, RecordRefusal>
     ensures registers { IfOk result (λ registers. (b : Nodes) → AreRegisters (around_of b environment.now) (levels_found (around_of b environment.now) levels.now) registers.items) }
+    ensures many { (b : Nodes) → IfErr result (IsRefused (65535 < length (levels_found (around_of b environment.now) levels.now))) }
     ensures starts { OnOk result ((b : Nodes) → starts.old.entries ≡ [] → IsDistinct nat_eq levels.now → AreStarts (around_of b environment.now) (levels_found (around_of b environment.now) levels.now) (started_at b starts.new) (index_map_len starts.new)) }
 {
     let mut registers = Vec::new(alloc);
@@ -110,6 +113,8 @@ pub(crate) fn assumption(
     number: usize,
 ) -> Result<Instr, RecordRefusal>
     ensures short { IfOk result (λ instr. is_short instr ≡ true) }
+    ensures takes { IfOk result (λ instr. instr_takes instr ≡ assumption_takes tables.entry.type_vars (around_of tables.entry.bank.now environment.now) (slice_get tables.entry.assumptions.now number)) }
+    ensures many { IfErr result (IsRefused (0 < (assumption_takes tables.entry.type_vars (around_of tables.entry.bank.now environment.now) (slice_get tables.entry.assumptions.now number)).misfits)) }
     ensures made { IfOk result (λ instr. AssumptionMade tables.entry environment.now number all_starts.old.items all_starts.new.items instr) }
     ensures grown { OnOk result (StartsGrow tables.entry all_starts.old.items all_starts.new.items (on.Assume number)) }
 {
