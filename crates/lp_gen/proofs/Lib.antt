@@ -112,3 +112,5 @@ mod StandsIn
 mod StartsAlike
 mod Regrouped
 mod Filling
+mod Keeping
+mod Reaching
