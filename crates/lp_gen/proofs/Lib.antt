@@ -109,3 +109,7 @@ mod NamedNumbers
 mod QueryDenotes
 mod PartsDone
 mod RecordCode
+mod StandsIn
+mod StartsAlike
+mod Regrouped
+mod Filling

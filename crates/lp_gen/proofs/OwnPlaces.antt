@@ -14,7 +14,7 @@ use Rattle.lp_gen.specs.inner.GoalCode.{numbers}
 use Rattle.lp_gen.specs.declared.plan.Origin.{Origin}
 use Rattle.lp_gen.specs.declared.plan.Origin.TheVariants as origin
 use Rattle.lp_gen.specs.inner.Entering.{unmade, clause_own, query_own, types_at}
-use Rattle.lp_gen.specs.inner.Recorded.{own_of, own_count}
+use Rattle.lp_gen.specs.inner.Recorded.{own_of, own_count, index_types}
 use Rattle.lp_gen.proofs.TypeWorks.{map_length}
 use Rattle.lp_gen.proofs.AssumptionPut.{numbers_last}
 use Rattle.lp_gen.proofs.AroundSet.{seen_of}
@@ -239,10 +239,6 @@ placed_back (suc n) k d (suc i) l =
     ∙ ap (placed (reverse (numbers k n)) (suc d)) z ∙ placed_back n k (suc d) i (omega (arith, l)) ∙ ap (λ j. Some j) y
 
 -- what a record is the code of: the types of its own variables by their indices, and the register of each
-
-abbrev pub index_types : Nodes → Origin → List Ty
-index_types b (origin.Clause c) = types_at b c.now.vars.items
-index_types b (origin.Query q gs) = reverse (types_at b (map (λ v. v.1) q.now.vars.items))
 
 abbrev pub own_register : Nodes → Origin → (first : ℕ) → ℕ → ℕ
 own_register b (origin.Clause c) k i = k + i

@@ -200,7 +200,7 @@ or_right true d e = refl
 or_right false d e = e
 
 -- a level that is looked for and found
-found_at : (A : Around) (ks : List ℕ) (l : ℕ) (v : Seen) → member l ks ≡ true → at_level A l ≡ Some v → (i : ℕ) × (slice_get (levels_found A ks) i ≡ Some l)
+pub found_at : (A : Around) (ks : List ℕ) (l : ℕ) (v : Seen) → member l ks ≡ true → at_level A l ≡ Some v → (i : ℕ) × (slice_get (levels_found A ks) i ≡ Some l)
 found_at A [] l v e f = absurd (true≢false (sym e))
 found_at A (k ∷ ks) l v e f = go (nat_eq l k) refl (λ q. found_at A ks l v q f)
   where

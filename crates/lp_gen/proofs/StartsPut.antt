@@ -64,7 +64,7 @@ member_first : (l k : ℕ) (ks : List ℕ) → l ≡ k → member l (k ∷ ks) �
 member_first l k ks e = ap (λ t. t || member l ks) (eq-eqb l k e)
 
 -- levels that are found are some of those that are looked for
-found_among : (a : Around) (ks : List ℕ) (i l : ℕ) → slice_get (levels_found a ks) i ≡ Some l → member l ks ≡ true
+pub found_among : (a : Around) (ks : List ℕ) (i l : ℕ) → slice_get (levels_found a ks) i ≡ Some l → member l ks ≡ true
 found_among a [] i l e = absurd (no_level l e)
 found_among a (k ∷ ks) i l e = go (at_level a k) i (λ j f. found_among a ks j l f) e
   where

@@ -20,6 +20,7 @@ pub mod Planned
 pub mod Planning
 pub mod Reading
 pub mod Recorded
+pub mod Filled
 pub mod Running
 pub mod Saying
 pub mod Sizes

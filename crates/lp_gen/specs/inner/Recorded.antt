@@ -1,5 +1,5 @@
 -- A record as it is written: what it starts with, its head, its body, and what is known before it is run.
-use Rattle.std.specs.Prelude.{◌≡◌, ℕ, ◌≤◌, Bool, true, false, if◌then◌else◌, is_none, List, [], ◌∷◌, map, length, Option, Some, None, slice_get}
+use Rattle.std.specs.Prelude.{◌≡◌, ℕ, ◌≤◌, Bool, true, false, if◌then◌else◌, is_none, List, [], ◌∷◌, map, reverse, length, Option, Some, None, slice_get}
 use Rattle.indexmap.specs.IndexMap.{IndexMap, index_map_len}
 use Rattle.lp_calculus.specs.Types.{Ty}
 use Rattle.lp_calculus.specs.Term.{Term, Atom, index, atom, abs, app, constant, integer, text, eigen, logic, param}
@@ -14,6 +14,7 @@ use Rattle.lp_code.specs.declared.record.Record.{Record}
 use Rattle.lp_code.specs.declared.record.RecordHead.{RecordHead}
 use Rattle.lp_code.specs.States.{State, Home, bind_term}
 use Rattle.lp_gen.specs.Sources.{IsKnownType}
+use Rattle.lp_gen.specs.Registers.{behind_head}
 use Rattle.lp_gen.specs.declared.emitter.Emitter.{Emitter}
 use Rattle.lp_gen.specs.declared.environment.Environment.{Environment}
 use Rattle.lp_gen.specs.declared.environment.Variable.{Variable}
@@ -69,6 +70,11 @@ abbrev pub own_of : Nodes → Origin → (first : ℕ) → List Seen
 own_of b (origin.Clause c) r = clause_own r (types_at b c.now.vars.items)
 own_of b (origin.Query q gs) r = query_own r (types_at b (map (λ v. v.1) q.now.vars.items))
 
+-- their types by index
+abbrev pub index_types : Nodes → Origin → List Ty
+index_types b (origin.Clause c) = types_at b c.now.vars.items
+index_types b (origin.Query q gs) = reverse (types_at b (map (λ v. v.1) q.now.vars.items))
+
 abbrev pub own_count : Origin → ℕ
 own_count (origin.Clause c) = length c.now.vars.items
 own_count (origin.Query q gs) = length q.now.vars.items
@@ -76,6 +82,11 @@ own_count (origin.Query q gs) = length q.now.vars.items
 abbrev pub head_in : Nodes → Origin → Option Term
 head_in b (origin.Clause c) = Some (tree b c.now.head.0)
 head_in b (origin.Query q gs) = None
+
+-- what stands around behind a head, if there is one
+abbrev pub front_behind : (K : ℕ → List Ty → Ty) → Around → Option Term → Around
+front_behind K a None = a
+front_behind K a (Some t) = behind_head K a t
 
 -- the code up to NECK
 pub record FrontWritten (b : Nodes) (K : ℕ → List Ty → Ty) (e e' : Emitter) (env env' : Environment) (o : Origin) (p : Option RecordHead) : Type 0 where
@@ -85,6 +96,7 @@ pub record FrontWritten (b : Nodes) (K : ℕ → List Ty → Ty) (e e' : Emitter
   pub matched_env : Environment
   pub entered : Entered e begun env begun_env (own_count o) (λ n. own_of n o e.registers)
   pub head : HeadWritten K begun matched (around_of b begun_env) (around_of b matched_env) p (head_in b o)
+  pub behind : around_of b matched_env ≡ front_behind K (around_of b begun_env) (head_in b o)
   pub made : OwnMade matched e' (around_of b matched_env) (around_of b env')
 
 -- the type variables that a clause of a program makes
