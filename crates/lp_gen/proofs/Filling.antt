@@ -1,6 +1,6 @@
 -- What a record takes up to its body, and as a whole.
 use Rattle.std.proofs.Common.{◌≡◌, ◌∙◌, ◌⊎◌, inl, inr, ◌≤◌, ◌<◌, ℕ, zero, suc, ◌+◌, ◌-◌, ◌^◌, List, [], ◌∷◌, ◌++◌, length, map, reverse, Bool, true, false, Option, Some, None, ap, refl, sym, subst, arith}
-use Rattle.std.specs.Prelude.{if◌then◌else◌, nat_le, slice_get, option_map}
+use Rattle.std.specs.Prelude.{if◌then◌else◌, nat_le, is_none, slice_get, option_map}
 use Rattle.std.proofs.lemmas.Bool.{leb-true, le-leb, lt-leb}
 use Rattle.std.proofs.lemmas.List.{length-append, reverse-append, reverse-reverse}
 use Rattle.indexmap.specs.IndexMap.{IndexMap}
@@ -9,7 +9,7 @@ use Rattle.lp_calculus.specs.Term.{Term}
 use Rattle.lp_term.specs.Nodes.{Nodes}
 use Rattle.lp_code.specs.declared.record.RecordHead.{RecordHead}
 use Rattle.lp_gen.specs.Steps.{Seen, Around, at_level}
-use Rattle.lp_gen.specs.Registers.{Amount, both, nothing, started, Passes, variables_take, head_takes, unset_take, unset, with_unset, in_body, all_set}
+use Rattle.lp_gen.specs.Registers.{Amount, both, started, Passes, own_types_take, variables_take, head_takes, unset_take, unset, with_unset, in_body, all_set}
 use Rattle.lp_gen.specs.declared.emitter.Emitter.{Emitter}
 use Rattle.lp_gen.specs.declared.environment.Environment.{Environment}
 use Rattle.lp_gen.specs.declared.environment.Variable.{Variable}
@@ -17,6 +17,8 @@ use Rattle.lp_gen.specs.declared.fault.RecordRefusal.{RecordRefusal}
 use Rattle.lp_gen.specs.declared.fault.RecordRefusal.TheVariants as refusal
 use Rattle.lp_gen.specs.declared.plan.Origin.{Origin}
 use Rattle.lp_gen.specs.declared.plan.Origin.TheVariants as origin
+use Rattle.lp_gen.specs.declared.plan.Part.{Part}
+use Rattle.lp_gen.specs.declared.tables.Tables.{Tables}
 use Rattle.lp_gen.specs.inner.Alike.{SameSeen, AllSame, IsAlike}
 use Rattle.lp_gen.specs.inner.Listing.{around_of, seen}
 use Rattle.lp_gen.specs.inner.TermLaw.{as_set, AreSet, SameAround}
@@ -28,13 +30,13 @@ use Rattle.lp_gen.specs.inner.Entering.{unmade, clause_own, query_own, types_at,
 use Rattle.lp_gen.specs.inner.BodyCode.{started_at, AreAllSet}
 use Rattle.lp_gen.specs.inner.Fitting.{IsRefused}
 use Rattle.lp_gen.specs.inner.Using.{Uses, HasNoRoom, for_types, for_terms, for_bytes, for_misfits, Lacks, room, memory}
-use Rattle.lp_gen.specs.inner.Recorded.{own_of, own_count, index_types, head_in, front_behind, HeadWritten, FrontWritten}
-use Rattle.lp_gen.specs.inner.Filled.{head_part, front_takes, front_around, StartsWell, start_around, own_around, body_around}
-use Rattle.lp_gen.proofs.Alike.{same_joined, alike_then, unset_same, in_body_same, head_same, seen_itself}
+use Rattle.lp_gen.specs.inner.Recorded.{own_of, own_count, index_types, head_in, front_behind, HeadWritten, FrontWritten, types_taken, head_part, front_takes, front_around, StartsWell, start_around, own_around, body_around, record_takes, RecordTakes}
+use Rattle.lp_gen.specs.inner.BodyUsing.{body_code_takes}
+use Rattle.lp_gen.proofs.Alike.{same_joined, alike_itself, alike_then, unset_same, in_body_same, head_same, seen_itself}
 use Rattle.lp_gen.proofs.OwnMadeBy.{started_on}
 use Rattle.lp_gen.proofs.OwnPlaces.{OwnAre, own_are, index_types_count}
 use Rattle.lp_gen.proofs.RecordRuns.{head_more, head_owns, own_all_set}
-use Rattle.lp_gen.proofs.Using.{uses_both}
+use Rattle.lp_gen.proofs.Using.{uses_nothing, uses_both, uses_same, lacks_first, lacks_then}
 
 -- the own variables of a record are those of its types, by index
 
@@ -211,6 +213,17 @@ module _ {S : Type 0} (b : Nodes) (K : ℕ → List Ty → Ty) (env : Environmen
         let z = ap length none_own in
         omega (arith, i, j, m, z)
 
+-- type variables
+
+pub types_none : (p : Bool) (e : Emitter) (n : ℕ) → p ≡ false → Uses e e (types_taken p n)
+types_none p e n q = subst (λ p. Uses e e (types_taken p n)) (sym q) (uses_nothing e)
+
+pub types_used : (p : Bool) (e e' : Emitter) (n : ℕ) → p ≡ true → Uses e e' (own_types_take n) → Uses e e' (types_taken p n)
+types_used p e e' n q u = subst (λ p. Uses e e' (types_taken p n)) (sym q) u
+
+pub types_lacked : (p : Bool) (e : Emitter) (n : ℕ) (r : RecordRefusal) → p ≡ true → Lacks e (own_types_take n) r → Lacks e (types_taken p n) r
+types_lacked p e n r q x = subst (λ p. Lacks e (types_taken p n) r) (sym q) x
+
 -- an emitter at its limits
 
 pub passes_of : (e : Emitter) (m : Amount) (t k : ℕ) (r : RecordRefusal) → e.types ≡ t → e.registers ≡ k → e.place ≡ 0 → Lacks e m r → IsRefused (Passes (both (started t k) m)) r
@@ -229,3 +242,83 @@ none_passed e e' m t k types terms bytes u few_types few_terms few_bytes (inl q)
 none_passed e e' m t k types terms bytes u few_types few_terms few_bytes (inr (inl q)) = let x = u.terms_are in absurd (omega (arith, q, x, terms, few_terms))
 none_passed e e' m t k types terms bytes u few_types few_terms few_bytes (inr (inr (inl q))) = let x = u.bytes_are in absurd (omega (arith, q, x, bytes, few_bytes))
 none_passed e e' m t k types terms bytes u few_types few_terms few_bytes (inr (inr (inr q))) = let x = u.fits in absurd (omega (arith, q, x))
+
+-- the record as a whole
+
+takes_refused : (t : Tables) (K : ℕ → List Ty → Ty) (p : Part) (s : Around) (k : ℕ) (a : Around) (e : Emitter) (r : RecordRefusal) → IsAlike a (body_around K t.bank.now s p.origin) →
+    e.types ≡ (if is_none p.within then 0 else t.type_vars) → e.registers ≡ k → e.place ≡ 0 → Lacks e (record_takes t K p s a) r → IsRefused (RecordTakes Passes t K p s k) r
+takes_refused t K p s k a e r alike types terms bytes x = go r (passes_of e (record_takes t K p s a) (if is_none p.within then 0 else t.type_vars) k r types terms bytes x)
+  where
+    go : (r : RecordRefusal) → IsRefused (Passes (both (started (if is_none p.within then 0 else t.type_vars) k) (record_takes t K p s a))) r → IsRefused (RecordTakes Passes t K p s k) r
+    go refusal.Registers y = (a, alike, y)
+    go refusal.Memory y = tt
+
+-- it starts with more than it may
+pub starts_refused : (t : Tables) (K : ℕ → List Ty → Ty) (p : Part) (s : Around) (k : ℕ) (r : RecordRefusal) → IsRefused (65535 < k) r → IsRefused (RecordTakes Passes t K p s k) r
+starts_refused t K p s k refusal.Registers x = (body_around K t.bank.now s p.origin, alike_itself (body_around K t.bank.now s p.origin), inr (inl (omega (arith, x))))
+starts_refused t K p s k refusal.Memory x = tt
+
+-- where it begins
+pub record RecordBegun {S : Type 0} (t : Tables) (p : Part) (captured : IndexMap ℕ Variable S) (k : ℕ) (e : Emitter) (env : Environment) : Type 0 where
+  pub none : env.own.items ≡ []
+  pub base : env.base ≡ p.base
+  pub starts : (l : ℕ) → (around_of t.bank.now env).captured l ≡ started_at t.bank.now captured l
+  pub types : e.types ≡ (if is_none p.within then 0 else t.type_vars)
+  pub terms : e.registers ≡ k
+  pub bytes : e.place ≡ 0
+  pub set : AreAllSet t.bank.now captured
+  pub few : p.base + own_count p.origin ≤ 4294967295
+
+module _ {S : Type 0} (t : Tables) (K : ℕ → List Ty → Ty) (p : Part) (captured : IndexMap ℕ Variable S) (k : ℕ) (e : Emitter) (env : Environment) (x : RecordBegun t p captured k e env) where
+  abbrev b : Nodes
+  b = t.bank.now
+
+  abbrev at : Around
+  at = start_around b captured p.base
+
+  pub begun_well : StartsWell b env p.origin
+  begun_well = starts_well b K env captured p.origin x.none x.starts x.set (let i = x.base in let j = x.few in omega (arith, i, j))
+
+  abbrev own : Around
+  own = own_around b at p.origin
+
+  abbrev front_part : Amount
+  front_part = front_takes K own (own_count p.origin) (head_in b p.origin)
+
+  front_is : (r : ℕ) → front_takes K (front_around b env r p.origin) (own_count p.origin) (head_in b p.origin) ≡ front_part
+  front_is r =
+      front_same b K env captured p.origin x.none x.starts r
+      ∙ ap (λ n. front_takes K (own_around b (start_around b captured n) p.origin) (own_count p.origin) (head_in b p.origin)) x.base
+
+  pub types_refused : (r : RecordRefusal) → Lacks e (types_taken (is_none p.within) t.type_vars) r → IsRefused (RecordTakes Passes t K p at k) r
+  types_refused r y =
+      let a = body_around K b at p.origin in
+      takes_refused t K p at k a e r (alike_itself a) x.types x.terms x.bytes (lacks_first (both front_part (body_code_takes b t.type_vars t.assumptions.now K a p.steps.items)) y)
+
+  module _ (e1 : Emitter) (used : Uses e e1 (types_taken (is_none p.within) t.type_vars)) where
+    pub front_refused : (r : RecordRefusal) → Lacks e1 (front_takes K (front_around b env e1.registers p.origin) (own_count p.origin) (head_in b p.origin)) r → IsRefused (RecordTakes Passes t K p at k) r
+    front_refused r y =
+        let a = body_around K b at p.origin in
+        takes_refused t K p at k a e r (alike_itself a) x.types x.terms x.bytes
+        (lacks_then used (lacks_first (body_code_takes b t.type_vars t.assumptions.now K a p.steps.items) (subst (λ m. Lacks e1 m r) (front_is e1.registers) y)))
+
+    module _ (e2 : Emitter) (env' : Environment) (h : Option RecordHead) (w : FrontWritten b K e1 e2 env env' p.origin h)
+        (more : StartsWell b env p.origin → Uses e1 e2 (front_takes K (front_around b env e1.registers p.origin) (own_count p.origin) (head_in b p.origin))) where
+      pub body_set : AreSet (around_of b env')
+      body_set = fronted_set b K env captured p.origin x.none x.starts e1 e2 env' h w begun_well
+
+      alike : IsAlike (around_of b env') (body_around K b at p.origin)
+      alike = subst (λ n. IsAlike (around_of b env') (body_around K b (start_around b captured n) p.origin)) x.base (fronted_alike b K env captured p.origin x.none x.starts e1 e2 env' h w begun_well)
+
+      front_there : Uses e1 e2 front_part
+      front_there = uses_same (front_is e1.registers) (more begun_well)
+
+      pub body_refused : (r : RecordRefusal) → (AreSet (around_of b env') → Lacks e2 (body_code_takes b t.type_vars t.assumptions.now K (around_of b env') p.steps.items) r) →
+          IsRefused (RecordTakes Passes t K p at k) r
+      body_refused r y = takes_refused t K p at k (around_of b env') e r alike x.types x.terms x.bytes (lacks_then used (lacks_then front_there (y body_set)))
+
+      pub record_fits : (e3 : Emitter) → (AreSet (around_of b env') → Uses e2 e3 (body_code_takes b t.type_vars t.assumptions.now K (around_of b env') p.steps.items)) → e3.types ≤ 65535 →
+          e3.registers ≤ 65535 → e3.place ≤ 4294967295 → RecordTakes (λ m. Passes m → ⊥) t K p at k
+      record_fits e3 last few_types few_terms few_bytes =
+          (around_of b env', alike, none_passed e e3 (record_takes t K p at (around_of b env')) (if is_none p.within then 0 else t.type_vars) k x.types x.terms x.bytes
+          (uses_both used (uses_both front_there (last body_set))) few_types few_terms few_bytes)

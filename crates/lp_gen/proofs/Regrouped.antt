@@ -1,11 +1,12 @@
--- Goals in which each `sigma` takes what is behind it in its list: they have the same steps, and some record of them passes its limits just where one of the goals as they were does.
+-- Goals without what is written in them, in which each `sigma` takes what is behind it in its list: they have the same steps, and some record of them passes its limits just where one of the goals as they were does.
 use Rattle.std.proofs.Common.{◌≡◌, ◌∙◌, ◌⊎◌, inl, inr, ⊎_elim, ℕ, suc, ◌+◌, List, [], ◌∷◌, ◌++◌, append_assoc, ap, refl, sym, subst, arith}
 use Rattle.std.proofs.lemmas.List.{append-nil}
 use Rattle.lp_calculus.specs.Types.{Ty}
 use Rattle.lp_model.specs.Flat.{Goal, Goals, Clauses, Atomic, Cut, Either, Exists, Forall, Assume, Not, no_goals, goals}
+use Rattle.lp_code.specs.Written.{nothing_written}
 use Rattle.lp_gen.specs.Steps.{Around}
 use Rattle.lp_gen.specs.Registers.{with_variable, behind_goal, behind_goals, start_of, SomeOfGoal, SomeOfGoals, SomeAssumed}
-use Rattle.lp_gen.specs.inner.OpenGoals.{BodyStep, either, turn, end_either, some, all, end_all, assume, end_assume, deny, end_deny, goal_steps, goals_steps, EndsGoal, EndsGoals}
+use Rattle.lp_gen.specs.inner.OpenGoals.{BodyStep, either, turn, end_either, some, all, end_all, assume, end_assume, deny, end_deny, goal_steps, goals_steps, plain_goal, plain_goals, EndsGoal, EndsGoals}
 use Rattle.lp_gen.specs.inner.Planned.{clauses_length, goal_records, goals_records, level_behind, levels_behind, GoalHas, GoalsHave}
 
 -- a goal, or goals, before others
@@ -16,8 +17,8 @@ abbrev mutual
   goal_before (Either ls rs) hs = goals (Either (goals_before ls no_goals) (goals_before rs no_goals)) hs
   goal_before (Exists T gs) hs = goals (Exists T (goals_before gs hs)) no_goals
   goal_before (Forall T gs) hs = goals (Forall T (goals_before gs no_goals)) hs
-  goal_before (Assume w cs gs) hs = goals (Assume w cs (goals_before gs no_goals)) hs
-  goal_before (Not w gs) hs = goals (Not w (goals_before gs no_goals)) hs
+  goal_before (Assume w cs gs) hs = goals (Assume nothing_written cs (goals_before gs no_goals)) hs
+  goal_before (Not w gs) hs = goals (Not nothing_written (goals_before gs no_goals)) hs
 
   pub goals_before : Goals → Goals → Goals
   goals_before no_goals hs = hs
@@ -45,6 +46,25 @@ mutual
 
 pub regrouped_steps : (gs : Goals) → goals_steps (regrouped gs) ≡ goals_steps gs
 regrouped_steps gs = steps_before gs no_goals ∙ append-nil (goals_steps gs)
+
+-- nothing is written in them
+
+mutual
+  goal_plain : (g : Goal) (hs : Goals) → plain_goals (goal_before g hs) ≡ goal_before g (plain_goals hs)
+  goal_plain (Atomic t) hs = refl
+  goal_plain Cut hs = refl
+  goal_plain (Either ls rs) hs = λ i. goals (Either (plain_before ls no_goals i) (plain_before rs no_goals i)) (plain_goals hs)
+  goal_plain (Exists T gs) hs = λ i. goals (Exists T (plain_before gs hs i)) no_goals
+  goal_plain (Forall T gs) hs = λ i. goals (Forall T (plain_before gs no_goals i)) (plain_goals hs)
+  goal_plain (Assume w cs gs) hs = λ i. goals (Assume nothing_written cs (plain_before gs no_goals i)) (plain_goals hs)
+  goal_plain (Not w gs) hs = λ i. goals (Not nothing_written (plain_before gs no_goals i)) (plain_goals hs)
+
+  plain_before : (gs hs : Goals) → plain_goals (goals_before gs hs) ≡ goals_before gs (plain_goals hs)
+  plain_before no_goals hs = refl
+  plain_before (goals g gs) hs = goal_plain g (goals_before gs hs) ∙ ap (goal_before g) (plain_before gs hs)
+
+pub regrouped_plain : (gs : Goals) → plain_goals (regrouped gs) ≡ regrouped gs
+regrouped_plain gs = plain_before gs no_goals
 
 -- each `sigma` ends its list
 

@@ -20,7 +20,6 @@ pub mod Planned
 pub mod Planning
 pub mod Reading
 pub mod Recorded
-pub mod Filled
 pub mod Running
 pub mod Saying
 pub mod Sizes
