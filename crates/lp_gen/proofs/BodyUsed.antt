@@ -127,11 +127,11 @@ pub assumption_size : (v k n p q r : ℕ) → p ≡ v → q ≡ k → r ≡ n �
     plain_code (7 + 2 * p + 2 * q + 4 * r) (past 65535 p + past 65535 q) ≡ plain_code (7 + 2 * v + 2 * k + 4 * n) (past 65535 v + past 65535 k)
 assumption_size v k n p q r e f g = λ i. plain_code (7 + 2 * e i + 2 * f i + 4 * g i) (past 65535 (e i) + past 65535 (f i))
 
+past_one : (k : ℕ) → 65535 < k → past 65535 k ≡ 1
+past_one k p = ap (λ t. if t then 1 else 0) (lt-ltb 65535 k p)
+
 pub many_misfit : (v k : ℕ) (e : RecordRefusal) → IsRefused (65535 < k) e → IsRefused (0 < past 65535 v + past 65535 k) e
-many_misfit v k refusal.Registers p = let z : past 65535 k ≡ 1 = over k p in omega (arith, z)
-  where
-    over : (k : ℕ) → 65535 < k → past 65535 k ≡ 1
-    over k p = ap (λ t. if t then 1 else 0) (lt-ltb 65535 k p)
+many_misfit v k refusal.Registers p = let z = past_one k p in omega (arith, z)
 many_misfit v k refusal.Memory p = tt
 
 pub no_assumption_code : (m : Emitter) (a : Amount) (e : RecordRefusal) → IsRefused (0 < a.misfits) e → Lacks m a e

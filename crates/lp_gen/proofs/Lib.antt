@@ -56,6 +56,7 @@ mod StepsWalked
 mod BodySteps
 mod BodyFacts
 mod BodyUsed
+mod GoalsUsed
 mod AssumptionPut
 mod BodyCoded
 mod Patched

@@ -1,5 +1,6 @@
 -- The plan of a clause or query while it is made: which parts are due, what assumptions are, and what is still to do for the goals of a part.
-use Rattle.std.specs.Prelude.{◌≡◌, ℕ, suc, ◌+◌, ◌<◌, ◌≤◌, ◌^◌, List, [], ◌∷◌, ◌++◌, map, reverse, length, sum_by, Some, None, slice_get}
+use Rattle.std.specs.Prelude.{◌≡◌, ℕ, suc, ◌+◌, ◌<◌, ◌≤◌, ◌^◌, List, [], ◌∷◌, ◌++◌, map, reverse, length, sum_by, Some, None, slice_get, nat_eq}
+use Rattle.std.specs.List.{IsDistinct}
 use Rattle.std.specs.Borrow.{Bor}
 use Rattle.lp_model.specs.declared.clause.Goal.{Goal}
 use Rattle.lp_model.specs.declared.clause.Clause.{Clause}
@@ -81,8 +82,11 @@ abbrev pub Extends : {X : Type 0} → (xs ys : List X) → Type 0
 Extends {X} xs ys = (more : List X) × (ys ≡ xs ++ more)
 
 -- the records of each start with just the variables around it that stand in them
+abbrev pub IsCapturing : Nodes → Assumption → Type 0
+IsCapturing b x = AreCaptured x (clauses_of b x.clauses.now) × AreOnly x (clauses_of b x.clauses.now) × IsDistinct nat_eq x.captured.keys
+
 abbrev pub AllCaptured : Nodes → List Assumption → Type 0
-AllCaptured b xs = (n : ℕ) (x : Assumption) → slice_get xs n ≡ Some x → AreCaptured x (clauses_of b x.clauses.now) × AreOnly x (clauses_of b x.clauses.now)
+AllCaptured b xs = (n : ℕ) (x : Assumption) → slice_get xs n ≡ Some x → IsCapturing b x
 
 -- what is still to do for the goals of a part
 pub data Todo : Type 0 where
