@@ -117,6 +117,18 @@ front_used b K e begun matched e' env begun_env matched_env o p entered head is 
     let rest = subst (λ a. Uses matched e' (unset_take a.own)) is (last (matched_short b K env e.registers o well begun matched begun_env matched_env p entered head)) in
     subst (λ a. Uses e e' (front_takes K a (own_count o) (head_in b o))) entered (uses_both used (uses_both more rest))
 
+-- it does not depend on the registers of variables
+
+part_same : (K : ℕ → List Ty → Ty) (a c : Around) (t : Option Term) → IsAlike a c → (head_part K a t ≡ head_part K c t) × IsAlike (front_behind K a t) (front_behind K c t)
+part_same K a c None x = (refl, x)
+part_same K a c (Some t) x = head_same K a c t x
+
+pub front_takes_same : (K : ℕ → List Ty → Ty) (a c : Around) (n : ℕ) (t : Option Term) → IsAlike a c → (front_takes K a n t ≡ front_takes K c n t) × IsAlike (front_behind K a t) (front_behind K c t)
+front_takes_same K a c n t x =
+    let y = part_same K a c t x in
+    let u = unset_same (front_behind K a t).own (front_behind K c t).own y.1.own in
+    ((λ i. both (variables_take n) (both (y.0 i) (u i))), y.1)
+
 -- by what a record starts with
 
 module _ {S : Type 0} (b : Nodes) (K : ℕ → List Ty → Ty) (env : Environment) (captured : IndexMap ℕ Variable S) (o : Origin) (none : env.own.items ≡ [])
@@ -140,15 +152,8 @@ module _ {S : Type 0} (b : Nodes) (K : ℕ → List Ty → Ty) (env : Environmen
     captured = λ l. subst (SameSeen ((around_of b env).captured l)) (starts l) (seen_itself ((around_of b env).captured l));
   }
 
-  part_same : (a c : Around) (t : Option Term) → IsAlike a c → (head_part K a t ≡ head_part K c t) × IsAlike (front_behind K a t) (front_behind K c t)
-  part_same a c None x = (refl, x)
-  part_same a c (Some t) x = head_same K a c t x
-
   pub front_same : (r : ℕ) → front_takes K (front_around b env r o) (own_count o) (head_in b o) ≡ front_takes K (own_around b start o) (own_count o) (head_in b o)
-  front_same r =
-      let x = part_same (front_around b env r o) (own_around b start o) (head_in b o) (front_alike r) in
-      let u = unset_same (front_behind K (front_around b env r o) (head_in b o)).own (front_behind K (own_around b start o) (head_in b o)).own x.1.own in
-      (λ i. both (variables_take (own_count o)) (both (x.0 i) (u i)))
+  front_same r = (front_takes_same K (front_around b env r o) (own_around b start o) (own_count o) (head_in b o) (front_alike r)).0
 
   -- and the body has just these variables around it
 
@@ -189,7 +194,7 @@ module _ {S : Type 0} (b : Nodes) (K : ℕ → List Ty → Ty) (env : Environmen
   module _ (e e' : Emitter) (env' : Environment) (p : Option RecordHead) (w : FrontWritten b K e e' env env' o p) (well : StartsWell b env o) where
     matched_alike : IsAlike (around_of b w.matched_env) (front_behind K (own_around b start o) (head_in b o))
     matched_alike =
-        let x = part_same (front_around b env e.registers o) (own_around b start o) (head_in b o) (front_alike e.registers) in
+        let x = part_same K (front_around b env e.registers o) (own_around b start o) (head_in b o) (front_alike e.registers) in
         subst (λ a. IsAlike a (front_behind K (own_around b start o) (head_in b o))) (sym (w.behind ∙ ap (λ a. front_behind K a (head_in b o)) (w.entered.around b))) x.1
 
     short : IsShort (around_of b w.matched_env)

@@ -115,3 +115,6 @@ mod Regrouped
 mod Filling
 mod Keeping
 mod Reaching
+mod GroupFits
+mod FitsOrPasses
+mod AddFits

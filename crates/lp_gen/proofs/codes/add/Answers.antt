@@ -1,6 +1,7 @@
 use Rattle.std.proofs.Common.{◌∙◌, [], length, ap, refl, sym, subst, arith}
 use Rattle.std.proofs.lemmas.List.{length-append}
-use Rattle.lp_gen.specs.inner.Planning.{ArePlanned}
+use Rattle.lp_gen.specs.inner.Planning.{ArePlanned, AllCaptured}
+use Rattle.lp_gen.proofs.AddFits.{all_fit, one_full, full_record, refused_map, full_plan, full_types}
 use Rattle.lp_gen.proofs.GroupPut.{group_made}
 use Rattle.lp_gen.proofs.GroupTold.{written_length}
 use Rattle.lp_gen.proofs.RecordsCounted.{few_assumed}
@@ -33,3 +34,22 @@ returns-clause-count c =
     let x = ap length c.as_slice-2.ensures.value in
     let k = c.in_ok-plan.ensures.count in
     omega (arith, z, y, x, k)
+
+pub returns-clause-fits : goal.returns-clause-fits
+returns-clause-fits c = λ few.
+    let w = c.in_ok-add_parts.ensures.written in
+    let p = c.in_ok-plan.plan in
+    let k = c.in_ok-plan.ensures.count in
+    all_fit c.args.bank.now c.args.constants.now c.args.type_vars c.args.origin p.due.items p.parts.items _ refl refl (grind (arith, c.in-Ok.ensures))
+    (subst (ArePlanned c.args.origin p.due.items p.parts.items) (sym c.as_slice.ensures.value) c.in_ok-plan.ensures.planned)
+    (subst (AllCaptured c.args.bank.now) (sym c.as_slice.ensures.value) c.in_ok-plan.ensures.captured)
+    (omega (arith, few, k, c.number_of.ensures, c.len.ensures, c.args.records.now.ok)) w.1 w.0 c.as_slice-2.result.now c.as_slice-2.ensures.value w.3
+
+pub returns-then-type_vars-clause-full : goal.returns-then-type_vars-clause-full
+returns-then-type_vars-clause-full c = ?
+
+pub returns-in_err-plan-clause-full : goal.returns-in_err-plan-clause-full
+returns-in_err-plan-clause-full c = ?
+
+pub returns-in_err-add_parts-clause-full : goal.returns-in_err-add_parts-clause-full
+returns-in_err-add_parts-clause-full c = ?
