@@ -289,8 +289,8 @@ module _ (S : Type 0) (t : Tables) (o1 : Origin) (us : List Due) (parts : List P
   long : (a : Around) (ns ls : List ℕ) (cs : Clauses) → AssumedBy t cl a ns ls cs → length ns ≡ clauses_length cs
   long a ns ls cs (n, x, found, is, names, levels, kept) = ap length names ∙ numbers_length (t.first + x.first) x.count ∙ sym (ap clauses_length is ∙ counts n x found)
 
-  unfolding Meets
   change : (first : ℕ) (a : Around) (q : ℕ) (ns ls : List ℕ) (cs : Clauses) → first ≤ q → ns ≡ numbers q (length ns) → IsAtLevel t q (new_level a) cs → AssumedBy t cl a ns ls cs → Meets first a ns ls cs
+  unfolding Meets
   change first a q ns ls cs le numbered at_level (n, x, found, is, names, levels, kept) = (n, x, found, is, names, more)
     where
       more : 0 < x.count → (first ≤ t.first + x.first) × (AreSet a → IsAlike (record { own = []; base = x.base; captured = cl.starts n }) (start_of a cs) × (cl.counts n ≡ count_standing a cs))
@@ -482,8 +482,8 @@ module _ (S : Type 0) (t : Tables) (o1 : Origin) (us : List Due) (parts : List P
       pub takes : Passes (part_takes p like) → Root
       pub holds : SomeInBody p like → Root
 
-    unfolding Meets
     reach_next : (i : ℕ) (p : Part) (r : Record) (z : At S t us xs starts i p r) → Reached p → (n : ℕ) → z.q ≤ n → n < z.s → (p2 : Part) → slice_get parts n ≡ Some p2 → Reached p2
+    unfolding Meets
     reach_next i p r z x n le lt p2 at = record {
       like = start_of f.like f.clauses_are;
       stands = subst (λ y. StandsFor y (start_of f.like f.clauses_are)) (sym same) (member_stands m.0 m.1 f.around f.like f.clauses_are p3.0 p3.2 p3.3 f.alike ((m.5 some).1 f.set));
@@ -606,8 +606,8 @@ module _ (S : Type 0) (t : Tables) (o1 : Origin) (us : List Due) (parts : List P
         (r.0, subst (λ j. At S t us xs starts j p r.0) zero_more (all_at S t us xs starts parts g (extends_same xs) few_due (λ j q. Unit {0}) (λ j y u z e f known. tt) [] 0 0 (length xs) 1 (length us) parts g
         plan.stands.planned ps_w refl (All-nil (AreAllSet b)) tt (from_none parts) (from_none g) i p r.0 at r.1).0)
 
-    unfolding Meets
     pub none_passes : (d i : ℕ) → length parts ≤ i + d → (p : Part) → slice_get parts i ≡ Some p → (s : Around) → StandsFor p s → (Passes (part_takes p s) → ⊥) × (SomeInBody p s → ⊥)
+    unfolding Meets
     none_passes zero i past p at s x = let z = slice_get_within parts i p at in absurd (omega (arith, z, past))
     none_passes (suc d) i past p at s x = (fits_at i p r z s x, λ y. goals_none K v (Meets (t.first + z.q)) ⊥ (each (λ j le p2 at2. none_passes d j (omega (arith, past, le)) p2 at2)) (around i p r z)
         (body_around K b s p.origin) (w1 i p r z).body.begun.types (w1 i p r z).body.said.types

@@ -14,10 +14,9 @@ ghost use Rattle.lp_base.specs.declared.limit.Limit.TheVariants as limit;
 use crate::fault::{GenRefusal, RecordRefusal};
 use crate::limits::{Source, check_limits};
 use crate::plan::{Origin, Part, Plan};
-use crate::record::{Starts, number_of, record_of};
+use crate::record::{Starts, count_of_registers, number_of, record_of};
 use crate::tables::Tables;
 use indexmap::IndexMap;
-use lp_base::Limit;
 use lp_code::{Code, Record};
 use lp_model::{Clause, Declared, Goal, Typed};
 use lp_term::Bank;
@@ -83,9 +82,7 @@ fn add(
     ensures fits { length records.old.items + origin_records bank.now origin.entry < 2 ^ 32 - 1 → OnOk result (OriginFull bank.now constants.now type_vars origin.entry → ⊥) }
     ensures full { length records.old.items + origin_records bank.now origin.entry < 2 ^ 32 - 1 → IfErr result (λ e. e ≡ told.Limit limit.Registers → OriginFull bank.now constants.now type_vars origin.entry) }
 {
-    let Ok(type_vars) = u16::try_from(type_vars) else {
-        return Err(GenRefusal::Limit(Limit::Registers));
-    };
+    let type_vars = count_of_registers(type_vars)?;
     let plan = Plan::of(alloc, bank, origin)?;
     let tables = Tables {
         bank,

@@ -88,6 +88,22 @@ impl Emitter {
         }
     }
 
+    /// How many type registers there are.
+    pub(crate) fn count_types(&self) -> u16
+        ensures count { result ≡ self.now.types }
+        ensures few { self.now.types ≤ 65535 }
+    {
+        self.types
+    }
+
+    /// How many registers there are.
+    pub(crate) fn count_terms(&self) -> u16
+        ensures count { result ≡ self.now.registers }
+        ensures few { self.now.registers ≤ 65535 }
+    {
+        self.registers
+    }
+
     /// The next type register.
     pub(crate) fn new_type(&mut self) -> Result<u16, RecordRefusal>
         ensures register { IfOk result (λ register. register ≡ self.old.types) }

@@ -45,7 +45,8 @@ pub(crate) fn number_of(place: usize) -> u32
     place.min(u32::MAX as usize) as u32
 }
 
-fn count_of_registers(count: u64) -> Result<u16, RecordRefusal>
+/// So many registers.
+pub(crate) fn count_of_registers(count: u64) -> Result<u16, RecordRefusal>
     ensures count { IfOk result (λ registers. registers ≡ count) }
     ensures cause { IfErr result (IsRefused (65535 < count)) }
 {
@@ -261,13 +262,15 @@ pub(crate) fn record_of<'x>(
     let steps = part.steps.as_slice();
     write_body(alloc, tables, &mut emitter, &mut environment, starts, steps)?;
     let key = key_by(alloc, tables.bank, part.origin, program)?;
+    let types = emitter.count_types();
+    let terms = emitter.count_terms();
     Ok(Record {
         program,
         head,
         captured_types,
         captured: registers,
-        types: emitter.types,
-        registers: emitter.registers,
+        types,
+        registers: terms,
         key,
         code: emitter.code,
     })

@@ -4,6 +4,7 @@ use Rattle.lp_gen.proofs.StartsAlike.{started_alike}
 use Rattle.lp_gen.proofs.Regrouped.{regrouped}
 use Rattle.lp_gen.proofs.Filling.{passes_of}
 use Rattle.lp_gen.proofs.GroupFits.{assumed_put}
+use Rattle.lp_gen.proofs.AddFits.{refused_part}
 use Rattle.lp_gen.proofs.laws.goals_take_alike.Goals as goal
 
 pub returns : goal.returns

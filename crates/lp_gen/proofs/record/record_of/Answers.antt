@@ -126,8 +126,8 @@ returns-clause-written c =
           c.as_slice-steps.ensures.value c.in_ok-write_body.ensures.code;
       key_is = subst (λ y. HasKey b c.args.part.now.origin y c.in_ok-key.key) p c.in_ok-key.ensures;
       code_is = refl;
-      types_are = refl;
-      registers_are = refl;
+      types_are = c.count_types-types.ensures.count;
+      registers_are = c.count_terms-terms.ensures.count;
       is_program = p;
       captured_types = first;
       captured_are = many;
@@ -152,5 +152,5 @@ returns-clause-written c =
           record_fits t K part c.args.captured.now k c.new-emitter.result c.new-environment.result begun c.write_types.new.emitter used c.write_front.new.emitter c.write_front.new.environment
           c.in_ok-head.head c.in_ok-head.ensures.written c.in_ok-head.ensures.uses c.write_body.new.emitter
           (λ is_set. subst (λ l. Uses c.write_front.new.emitter c.write_body.new.emitter (body_code_takes b t.type_vars t.assumptions.now K (around_of b c.write_front.new.environment) l))
-          c.as_slice-steps.ensures.value (c.in_ok-write_body.ensures.uses is_set)) (omega arith) (omega arith) (omega arith);
+          c.as_slice-steps.ensures.value (c.in_ok-write_body.ensures.uses is_set)) c.count_types-types.ensures.few c.count_terms-terms.ensures.few (omega arith);
     }
