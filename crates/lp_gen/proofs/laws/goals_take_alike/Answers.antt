@@ -1,8 +1,10 @@
 use Rattle.lp_gen.proofs.Alike.{goals_same}
-use Rattle.lp_gen.proofs.StandsIn.{key_stands}
-use Rattle.lp_gen.proofs.StartsAlike.{started_alike}
-use Rattle.lp_gen.proofs.Regrouped.{regrouped}
-use Rattle.lp_gen.proofs.Filling.{passes_of}
+use Rattle.lp_gen.proofs.BodyUsed.{uses_kept}
+use Rattle.lp_gen.proofs.GoalsUsed.{steps_take_goals}
+use Rattle.lp_gen.proofs.PlanDone.{todos_push}
+use Rattle.lp_gen.proofs.Leveling.{low_more}
+use Rattle.lp_gen.proofs.CodeMapped.{plain_have}
+use Rattle.lp_gen.proofs.GroupTold.{same_on}
 use Rattle.lp_gen.proofs.laws.goals_take_alike.Goals as goal
 
 pub returns : goal.returns
