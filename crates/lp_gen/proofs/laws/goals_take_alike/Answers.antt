@@ -4,7 +4,7 @@ use Rattle.lp_gen.proofs.GoalsUsed.{steps_take_goals}
 use Rattle.lp_gen.proofs.PlanDone.{todos_push}
 use Rattle.lp_gen.proofs.Leveling.{low_more}
 use Rattle.lp_gen.proofs.CodeMapped.{plain_have}
-use Rattle.lp_gen.proofs.GroupTold.{same_on}
+use Rattle.lp_gen.proofs.GroupTold.{written_length}
 use Rattle.lp_gen.proofs.laws.goals_take_alike.Goals as goal
 
 pub returns : goal.returns
