@@ -52,15 +52,15 @@ among_none l ks f e = ap (λ t. if t then f l else None) e
 -- one level more
 given_more : (k : ℕ) (ks : List ℕ) (f : ℕ → Option Seen) (n : ℕ) → k < n → member k ks ≡ false → count_given (among (k ∷ ks) f) n ≡ one_given (f k) + count_given (among ks f) n
 given_more k ks f zero lt new = absurd (omega (arith, lt))
-given_more k ks f (suc m) lt new = go (nat_lt k m) refl
+given_more k ks f (suc m) lt new = go (λ low. given_more k ks f m low new) (nat_lt k m) refl
   where
-    go : (t : Bool) → nat_lt k m ≡ t → count_given (among (k ∷ ks) f) (suc m) ≡ one_given (f k) + count_given (among ks f) (suc m)
-    go true e =
+    go : (k < m → count_given (among (k ∷ ks) f) m ≡ one_given (f k) + count_given (among ks f) m) → (t : Bool) → nat_lt k m ≡ t → count_given (among (k ∷ ks) f) (suc m) ≡ one_given (f k) + count_given (among ks f) (suc m)
+    go below true e =
         let low = ltb-true k m e in
         let here = ap one_given (among_others k m ks f (ne_eqb m k (λ q. omega (arith, q, low)))) in
-        let more = given_more k ks f m low new in
+        let more = below low in
         omega (arith, here, more)
-    go false e =
+    go below false e =
         let high = ltb-false k m e in
         let same : m ≡ k = omega (arith, high, lt) in
         let here = ap one_given (ap (among (k ∷ ks) f) same ∙ among_here k ks f) in
@@ -351,6 +351,11 @@ module _ (t : Tables) (K : ℕ → List Ty → Ty) (cl : Suppositions) (hold : H
       (λ vs i h w. goes_as (behind_goals b gs) (length a.own ∷ ms) vs (takes_of (behind_goals b gs) e) (plain_code 1 0) (around_by (length a.own ∷ ms) (behind_goals b gs) e) a
       (blocks_by (length a.own ∷ ms) (behind_goals b gs) e) ms (r + records_by e) r rest ee back out (omega (arith, none)) (one_step (behind_goals b gs) (length a.own ∷ ms) r i vs e rest h w there)))
 
+  under : (a : Around) (q : ℕ) (T : Ty) (gs : Goals) → GoalsHave (IsAtLevel t) q (suc (new_level a)) gs → GoalsHave (IsAtLevel t) (q + 0) (new_level (with_variable a T)) gs
+  under a q T gs has =
+      let z : q ≡ q + 0 = omega arith in
+      subst (λ d. GoalsHave (IsAtLevel t) (q + 0) d gs) (sym (variable_level a T)) (subst (λ i. GoalsHave (IsAtLevel t) i (suc (new_level a)) gs) z has)
+
   mutual
     goal_goes : (g : Goal) (a : Around) (ms : List ℕ) (q k : ℕ) (ss : List Step) (rest : List BodyStep) → steps_of t.bank.now cl ss ≡ goal_steps g ++ rest → AreNext t q k ss →
         GoalHas (IsAtLevel t) q (new_level a) g → Goes a ms ss (goal_takes K t.type_vars a g) (behind_goal a g) ms (q + goal_records g) rest
@@ -405,11 +410,6 @@ module _ (t : Tables) (K : ℕ → List Ty → Ty) (cl : Suppositions) (hold : H
         (block_goes a a ms q (q + 0 + goals_records gs) k ss deny end_deny gs (plain_code 1 0) (goals_take K t.type_vars a gs) rest e next tt refl refl refl
         (λ us j f n. goals_goes gs a (length a.own ∷ ms) (q + 0) j us (end_deny ∷ rest) f n (let z : q ≡ q + 0 = omega arith in subst (λ i. GoalsHave (IsAtLevel t) i (new_level a) gs) z has)) tt refl
         (cut_behind a gs) refl refl)
-
-    under : (a : Around) (q : ℕ) (T : Ty) (gs : Goals) → GoalsHave (IsAtLevel t) q (suc (new_level a)) gs → GoalsHave (IsAtLevel t) (q + 0) (new_level (with_variable a T)) gs
-    under a q T gs has =
-        let z : q ≡ q + 0 = omega arith in
-        subst (λ d. GoalsHave (IsAtLevel t) (q + 0) d gs) (sym (variable_level a T)) (subst (λ i. GoalsHave (IsAtLevel t) i (suc (new_level a)) gs) z has)
 
     goals_goes : (gs : Goals) (a : Around) (ms : List ℕ) (q k : ℕ) (ss : List Step) (rest : List BodyStep) → steps_of t.bank.now cl ss ≡ goals_steps gs ++ rest → AreNext t q k ss →
         GoalsHave (IsAtLevel t) q (new_level a) gs → Goes a ms ss (goals_take K t.type_vars a gs) (behind_goals a gs) ms (q + goals_records gs) rest

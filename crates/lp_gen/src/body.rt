@@ -161,7 +161,7 @@ fn open_all(
 
 // The instruction that opened a side gets the count of bytes behind it.
 fn close_side(emitter: &mut Emitter, side: Option<Block>)
-    ensures patched { IfSome side.entry (IsPatched emitter.old emitter.new) }
+    ensures patched { IfSome side (IsPatched emitter.old emitter.new) }
     ensures types { emitter.new.types ≡ emitter.old.types }
     ensures registers { emitter.new.registers ≡ emitter.old.registers }
     ensures place { emitter.new.place ≡ emitter.old.place }
