@@ -324,6 +324,9 @@ module _ {S : Type 0} (t : Tables) (K : ℕ → List Ty → Ty) (p : Part) (capt
 
       pub record_fits : (e3 : Emitter) → (AreSet (around_of b env') → Uses e2 e3 (body_code_takes b t.type_vars t.assumptions.now K (around_of b env') p.steps.items)) → e3.types ≤ 65535 →
           e3.registers ≤ 65535 → e3.place ≤ 4294967295 → RecordTakes (λ m. Passes m → ⊥) t K p at k
-      record_fits e3 last few_types few_terms few_bytes =
-          (around_of b env', alike, none_passed e e3 (record_takes t K p at (around_of b env')) (if is_none p.within then 0 else t.type_vars) k x.types x.terms x.bytes
-          (uses_both used (uses_both front_there (last body_set))) few_types few_terms few_bytes)
+      record_fits e3 last few_types few_terms few_bytes = (
+        around_of b env',
+        alike,
+        none_passed e e3 (record_takes t K p at (around_of b env')) (if is_none p.within then 0 else t.type_vars) k x.types x.terms x.bytes
+            (uses_both used (uses_both front_there (last body_set))) few_types few_terms few_bytes,
+      )

@@ -271,8 +271,8 @@ module _ (S : Type 0) (t : Tables) (o1 : Origin) (us : List Due) (parts : List P
           (both (plain_code 1 0) (both (goals_take K v (in_body (behind_head K a h)) gs) (plain_code 1 0))))) ≡ clause_amount K v s c) × (SomeOfGoals K v (in_body (behind_head K a h)) gs ≡ SomeInClause K v s c))
           (sym (same_clause d c e)) (
             (λ i. both (started (if within i then 0 else v) (count_given s.captured s.base)) (both (types_taken (within i) v) (both (front_takes K a (n i) (Some h)) (both (plain_code 1 0)
-            (both (goals_take K v (in_body (behind_head K a h)) gs) (plain_code 1 0)))))) ∙ grouped (started v (count_given s.captured s.base)) (variables_take (length (types_at b of.now.vars.items))) (head_takes K a h)
-            (unset_take (behind_head K a h).own) (both (plain_code 1 0) (both (goals_take K v (in_body (behind_head K a h)) gs) (plain_code 1 0))),
+                (both (goals_take K v (in_body (behind_head K a h)) gs) (plain_code 1 0)))))) ∙ grouped (started v (count_given s.captured s.base)) (variables_take (length (types_at b of.now.vars.items))) (head_takes K a h)
+                (unset_take (behind_head K a h).own) (both (plain_code 1 0) (both (goals_take K v (in_body (behind_head K a h)) gs) (plain_code 1 0))),
             ap (λ x. SomeOfGoals K v x gs) (front_in_body K a (Some h)),
           )
         where
@@ -362,7 +362,7 @@ module _ (S : Type 0) (t : Tables) (o1 : Origin) (us : List Due) (parts : List P
 
     coded : (last : List Instr)
         × GoalsCode (AssumedBy t cl) K v around w1.body.begun.types w1.body.said.types w1.body.begun.registers w1.body.said.registers (t.first + z.q) (next_all t (t.first + z.q) p.steps.items)
-          (plain_goals (regrouped (body p))) last
+        (plain_goals (regrouped (body p))) last
         × (w1.body.said.code.items ≡ w1.body.begun.code.items ++ last)
     coded =
         record_of.coded t p z.captured z.more p.origin (home_of tables [] i r) w1 refl set_at cl (t.first + z.q) (length z.before) (regrouped (body p)) kept_at says (regrouped_ends (body p)) next few_steps
@@ -376,7 +376,7 @@ module _ (S : Type 0) (t : Tables) (o1 : Origin) (us : List Due) (parts : List P
     body_alike : (s : Around) → StandsFor p s → IsAlike around (body_around K b s p.origin)
     body_alike s x =
         let first = fronted_alike b K w1.begun_env z.captured p.origin w1.no_own (w1.starts_are b) w1.typed w1.fronted w1.fronted_env r.head w1.front
-            (starts_well b K w1.begun_env z.captured p.origin w1.no_own (w1.starts_are b) set_at (let e = w1.base in let f = z.planned.few in omega (arith, e, f))) in
+        (starts_well b K w1.begun_env z.captured p.origin w1.no_own (w1.starts_are b) set_at (let e = w1.base in let f = z.planned.few in omega (arith, e, f))) in
         let is = map_at in
         let start_like : IsAlike (start_around b z.captured w1.begun_env.base) s =
         alike_then (record { base = w1.base; own = tt; captured = λ l. subst (SameSeen (started_at b z.captured l)) (is.0 l) (seen_itself (started_at b z.captured l)) }) x.alike in
@@ -439,7 +439,7 @@ module _ (S : Type 0) (t : Tables) (o1 : Origin) (us : List Due) (parts : List P
       let n = sym (map_length (λ T. type_tree b T.0) of.now.vars.items) in
       let r = both (plain_code 1 0) (both (goals_take K v (in_body (behind_head K a h)) gs) (plain_code 1 0)) in
       let e = (λ i. both (started 0 0) (both (own_types_take v) (both (front_takes K a (n i) (Some h)) r)))
-          ∙ root_grouped (own_types_take v) (variables_take (length (types_at b of.now.vars.items))) (head_takes K a h) (unset_take (behind_head K a h).own) r in
+      ∙ root_grouped (own_types_take v) (variables_take (length (types_at b of.now.vars.items))) (head_takes K a h) (unset_take (behind_head K a h).own) r in
       let f = front_in_body K a (Some h) in
       (λ i. Passes (e i) ⊎ SomeOfGoals K v (f i) gs)
   root_same (origin.Query q body) =
@@ -449,9 +449,9 @@ module _ (S : Type 0) (t : Tables) (o1 : Origin) (us : List Due) (parts : List P
       let n = sym (length-reverse us ∙ map_length (λ T. type_tree b T.0) (map (λ v. v.1) q.now.vars.items) ∙ map_length (λ v. v.1) q.now.vars.items) in
       let r = both (plain_code 1 0) (both (goals_take K v (in_body a) gs) (plain_code 1 0)) in
       let e = (λ i. both (started 0 0) (both (own_types_take v) (both (front_takes K a (n i) None) r)))
-          ∙ root_grouped (own_types_take v) (variables_take (length (reverse us))) nothing (unset_take a.own) r
-          ∙ same_amount (both (own_types_take v) (both (variables_take (length (reverse us))) (both nothing (both (unset_take a.own) r))))
-          (both (own_types_take v) (both (variables_take (length (reverse us))) (both (unset_take a.own) r))) (omega arith) (omega arith) (omega arith) (omega arith) in
+      ∙ root_grouped (own_types_take v) (variables_take (length (reverse us))) nothing (unset_take a.own) r
+      ∙ same_amount (both (own_types_take v) (both (variables_take (length (reverse us))) (both nothing (both (unset_take a.own) r))))
+      (both (own_types_take v) (both (variables_take (length (reverse us))) (both (unset_take a.own) r))) (omega arith) (omega arith) (omega arith) (omega arith) in
       (λ i. Passes (e i) ⊎ SomeOfGoals K v (in_body a) gs)
 
   root_part : (p : Part) → slice_get parts 0 ≡ Some p → (p.origin ≡ o1) × (p.within ≡ None) × (p.base ≡ 0)
@@ -602,17 +602,22 @@ module _ (S : Type 0) (t : Tables) (o1 : Origin) (us : List Due) (parts : List P
     at_part i p at =
         let ps_w = subst (λ l. AllWritten t [] starts l g) whole w in
         let r = there_is g i (let z = slice_get_within parts i p at in let y = written_length t [] starts parts g ps_w in omega (arith, z, y)) in
-        let zero_more : 0 + i ≡ i = omega arith in
-        (r.0, subst (λ j. At S t us xs starts j p r.0) zero_more (all_at S t us xs starts parts g (extends_same xs) few_due (λ j q. Unit {0}) (λ j y u z e f known. tt) [] 0 0 (length xs) 1 (length us) parts g
-        plan.stands.planned ps_w refl (All-nil (AreAllSet b)) tt (from_none parts) (from_none g) i p r.0 at r.1).0)
+        let zero_more : 0 + i ≡ i = omega arith in (
+          r.0,
+          subst (λ j. At S t us xs starts j p r.0) zero_more (all_at S t us xs starts parts g (extends_same xs) few_due (λ j q. Unit {0}) (λ j y u z e f known. tt) [] 0 0 (length xs) 1 (length us) parts g
+              plan.stands.planned ps_w refl (All-nil (AreAllSet b)) tt (from_none parts) (from_none g) i p r.0 at r.1).0,
+        )
 
     pub none_passes : (d i : ℕ) → length parts ≤ i + d → (p : Part) → slice_get parts i ≡ Some p → (s : Around) → StandsFor p s → (Passes (part_takes p s) → ⊥) × (SomeInBody p s → ⊥)
     unfolding Meets
     none_passes zero i past p at s x = let z = slice_get_within parts i p at in absurd (omega (arith, z, past))
-    none_passes (suc d) i past p at s x = (fits_at i p r z s x, λ y. goals_none K v (Meets (t.first + z.q)) ⊥ (each (λ j le p2 at2. none_passes d j (omega (arith, past, le)) p2 at2)) (around i p r z)
-        (body_around K b s p.origin) (w1 i p r z).body.begun.types (w1 i p r z).body.said.types
-        (w1 i p r z).body.begun.registers (w1 i p r z).body.said.registers (t.first + z.q) (t.first + z.s) (regrouped (body p)) (coded i p r z).0 (goals_met i p r z) (body_set i p r z) (body_alike i p r z s x)
-        (pass_regrouped K v (body_around K b s p.origin) (body p) y))
+    none_passes (suc d) i past p at s x = (
+      fits_at i p r z s x,
+      λ y. goals_none K v (Meets (t.first + z.q)) ⊥ (each (λ j le p2 at2. none_passes d j (omega (arith, past, le)) p2 at2)) (around i p r z)
+          (body_around K b s p.origin) (w1 i p r z).body.begun.types (w1 i p r z).body.said.types
+          (w1 i p r z).body.begun.registers (w1 i p r z).body.said.registers (t.first + z.q) (t.first + z.s) (regrouped (body p)) (coded i p r z).0 (goals_met i p r z) (body_set i p r z) (body_alike i p r z s x)
+          (pass_regrouped K v (body_around K b s p.origin) (body p) y),
+    )
       where
         r : Record
         r = (at_part i p at).0
