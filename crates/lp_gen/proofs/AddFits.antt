@@ -90,10 +90,11 @@ full_types b ds v (origin.Query q gs) lt = inl (inl (omega (arith, lt)))
 
 -- clauses one after the other
 
-clause_same : (b : Nodes) (ds : List Declared) (c : code.Clause) (of : Bor code.Clause) → of.now ≡ c → OriginFull b ds c.type_vars (origin.Clause of) ≡ SomeOfClause (constant_function b ds) (clause_of b c)
-clause_same b ds c of is =
-    (λ i. SomeOfClause (constant_function b ds) (clause c.type_vars (types_at b (is i).vars.items) (tree b (is i).head.0) (goals_of b (is i).body.items)))
-    ∙ ap (SomeOfClause (constant_function b ds)) (sym (clause_is b c))
+abbrev pub ClauseFull : Nodes → List Declared → code.Clause → Type 0
+ClauseFull b ds c = SomeOfClause (constant_function b ds) (clause c.type_vars (types_at b c.vars.items) (tree b c.head.0) (goals_of b c.body.items))
+
+clause_same : (b : Nodes) (ds : List Declared) (c : code.Clause) → ClauseFull b ds c ≡ SomeOfClause (constant_function b ds) (clause_of b c)
+clause_same b ds c = ap (SomeOfClause (constant_function b ds)) (sym (clause_is b c))
 
 module _ (b : Nodes) (ds : List Declared) where
   some_split : (cs : List Clause) (c : Clause) → SomeOfClauses (constant_function b ds) (cs ++ c ∷ []) → SomeOfClauses (constant_function b ds) cs ⊎ SomeOfClause (constant_function b ds) c
@@ -106,10 +107,10 @@ module _ (b : Nodes) (ds : List Declared) where
       go (inl y) = inl (inr y)
       go (inr y) = inr y
 
-  pub one_fits_more : (cs : List code.Clause) (i : ℕ) (c : code.Clause) (of : Bor code.Clause) → of.now ≡ c → take (i + 1) cs ≡ take i cs ++ c ∷ [] → (ClausesFull b ds (take i cs) → ⊥) →
-      (OriginFull b ds c.type_vars (origin.Clause of) → ⊥) → ClausesFull b ds (take (i + 1) cs) → ⊥
-  one_fits_more cs i c of is next before f x =
-      ⊎_elim before (λ y. f (subst (λ T. T) (sym (clause_same b ds c of is)) y))
+  pub one_fits_more : (cs : List code.Clause) (i : ℕ) (c : code.Clause) → take (i + 1) cs ≡ take i cs ++ c ∷ [] → (ClausesFull b ds (take i cs) → ⊥) →
+      (ClauseFull b ds c → ⊥) → ClausesFull b ds (take (i + 1) cs) → ⊥
+  one_fits_more cs i c next before f x =
+      ⊎_elim before (λ y. f (subst (λ T. T) (sym (clause_same b ds c)) y))
       (some_split (map (clause_of b) (take i cs)) (clause_of b c) (subst (SomeOfClauses (constant_function b ds)) (ap (map (clause_of b)) next ∙ map-append (clause_of b) (take i cs) (c ∷ [])) x))
 
   pub some_there : (cs : List code.Clause) (i : ℕ) (c : code.Clause) → slice_get cs i ≡ Some c → SomeOfClause (constant_function b ds) (clause_of b c) → ClausesFull b ds cs
@@ -123,8 +124,8 @@ module _ (b : Nodes) (ds : List Declared) where
       one d c e = cc
   some_there (d ∷ cs) (suc i) c at x = inr (some_there cs i c at x)
 
-  pub one_full_clause : (cs : List code.Clause) (i : ℕ) (c : code.Clause) (of : Bor code.Clause) → of.now ≡ c → slice_get cs i ≡ Some c → OriginFull b ds c.type_vars (origin.Clause of) → ClausesFull b ds cs
-  one_full_clause cs i c of is at x = some_there cs i c at (subst (λ T. T) (clause_same b ds c of is) x)
+  pub one_full_clause : (cs : List code.Clause) (i : ℕ) (c : code.Clause) → slice_get cs i ≡ Some c → ClauseFull b ds c → ClausesFull b ds cs
+  one_full_clause cs i c at x = some_there cs i c at (subst (λ T. T) (clause_same b ds c) x)
 
   pub query_same : (q : Bor program.Typed) (gs : Bor (List code_goal.Goal)) → OriginFull b ds q.now.type_vars (origin.Query q gs) ≡ QueryFull b ds q.now gs.now
   query_same q gs =

@@ -48,7 +48,7 @@ loop-at-preserved c =
           let n = clauses_before c.args.bank.now cs c.loop-at.at c.index-clauses-at.result at in
           let w = c.in_ok-check_limits.ensures.within in
           let few = w.3 in
-          one_fits_more c.args.bank.now c.args.constants.now cs c.loop-at.at c.index-clauses-at.result _ refl (take_next c.loop-at.at cs c.index-clauses-at.result at) c.loop-at.invariant.4
+          one_fits_more c.args.bank.now c.args.constants.now cs c.loop-at.at c.index-clauses-at.result (take_next c.loop-at.at cs c.index-clauses-at.result at) c.loop-at.invariant.4
           (c.in_ok-add.ensures.fits (omega (arith, i, n, few)))),
     )
 
@@ -106,7 +106,7 @@ returns-in_err-add-clause-cause c =
     let m = clauses_before b cs c.loop-at.at c.index-clauses-at.result at in
     passed_up c.from_residual-in_err-add.result c.in_err-add.field-0.0 (ClausesPass b c.args.constants.now cs) c.from_residual-in_err-add.ensures.1
     (told_by_plan (counts_of_clauses (clauses_of b cs)) (ClausesFull b c.args.constants.now cs) (suc (goals_assume (goals_of b c.index-clauses-at.result.body.items))) 65535 c.in_err-add.field-0.0 w (omega (arith, n, few)) c.in_err-add.ensures.cause
-    (λ is. one_full_clause b c.args.constants.now cs c.loop-at.at c.index-clauses-at.result _ refl at (c.in_err-add.ensures.full (omega (arith, i, m, few)) is)))
+    (λ is. one_full_clause b c.args.constants.now cs c.loop-at.at c.index-clauses-at.result at (c.in_err-add.ensures.full (omega (arith, i, m, few)) is)))
 
 pub returns-in_err-check_limits-clause-ready : goal.returns-in_err-check_limits-clause-ready
 returns-in_err-check_limits-clause-ready c =
@@ -130,4 +130,4 @@ returns-in_err-add-clause-ready c =
     (λ κ few all. ready_clauses_told κ b ds cs e few all
     (told_by_plan (counts_of_clauses (clauses_of b cs)) (ClausesFull b ds cs) (suc (goals_assume (goals_of b c.index-clauses-at.result.body.items))) 65535 e w (omega (arith, n, most)) c.in_err-add.ensures.cause
     (λ is. let i = c.loop-at.invariant.3 in let m = clauses_before b cs c.loop-at.at c.index-clauses-at.result at in
-    one_full_clause b ds cs c.loop-at.at c.index-clauses-at.result _ refl at (c.in_err-add.ensures.full (omega (arith, i, m, most)) is))))
+    one_full_clause b ds cs c.loop-at.at c.index-clauses-at.result at (c.in_err-add.ensures.full (omega (arith, i, m, most)) is))))
