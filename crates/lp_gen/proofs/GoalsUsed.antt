@@ -331,9 +331,13 @@ module _ (t : Tables) (K : ℕ → List Ty → Ty) (cl : Suppositions) (hold : H
           let x = n.0.0 in
           let found = n.0.1 in
           let w = one_assumed a q j x found n.0.2 l in
-          let named : count_named (slice_get t.assumptions.now j) ≡ clauses_length (cl.clauses j) = ap count_named found ∙ w.1 in
-          (us, k + count_starts t (on.Assume j), more, ap (λ m. both m (steps_take a (length a.own ∷ ms) us)) w.0,
-          subst (λ z. AreNext t z (k + count_starts t (on.Assume j)) us) (ap (λ z. q + z) named) n.1)
+          let named : count_named (slice_get t.assumptions.now j) ≡ clauses_length (cl.clauses j) = ap count_named found ∙ w.1 in (
+            us,
+            k + count_starts t (on.Assume j),
+            more,
+            ap (λ m. both m (steps_take a (length a.own ∷ ms) us)) w.0,
+            subst (λ z. AreNext t z (k + count_starts t (on.Assume j)) us) (ap (λ z. q + z) named) n.1,
+          )
       at on.EndAssume n l = (us, k + count_starts t on.EndAssume, more, refl, next_same q (k + count_starts t on.EndAssume) us n.1)
       at on.Not n l = (us, k + count_starts t on.Not, more, refl, next_same q (k + count_starts t on.Not) us n.1)
       at on.EndNot n l = (us, k + count_starts t on.EndNot, more, refl, next_same q (k + count_starts t on.EndNot) us n.1)

@@ -64,9 +64,10 @@ module _ (us : List Due) (xs : List Assumption) (d : ℕ) (ss : List Step) (ts :
       (λ l. l ++ (goals_steps (goals_of b gs) ++ todo_steps b cl ts)) (sym (append-nil (goal_steps (goal_of b g)))))
       (λ b D q x.
       let z : q + (goal_records (goal_of b g) + 0) ≡ q + goal_records (goal_of b g) = omega arith in
-      let y : q + (goal_records (goal_of b g) + 0) + goals_records (goals_of b gs) ≡ q + (goal_records (goal_of b g) + goals_records (goals_of b gs)) = omega arith in
-      ((x.0.0, subst (λ k. GoalsHave D k (level_behind d (goal_of b g)) (goals_of b gs)) z x.1.0),
-      subst (λ k. TodoHave b D k (levels_behind (level_behind d (goal_of b g)) (goals_of b gs)) ts) y x.1.1))
+      let y : q + (goal_records (goal_of b g) + 0) + goals_records (goals_of b gs) ≡ q + (goal_records (goal_of b g) + goals_records (goals_of b gs)) = omega arith in (
+        (x.0.0, subst (λ k. GoalsHave D k (level_behind d (goal_of b g)) (goals_of b gs)) z x.1.0),
+        subst (λ k. TodoHave b D k (levels_behind (level_behind d (goal_of b g)) (goals_of b gs)) ts) y x.1.1,
+      ))
       (λ b x. ((x.0.0, x.1.0), x.1.1)) (λ b x. ((x.0.0, last_goal (goal_of b g), tt), (x.0.2, x.1))) (λ e. e) (λ b. omega arith)
 
   pub no_more : WalkKept us us xs xs d d ss ss (due_goals [] ∷ ts) ts

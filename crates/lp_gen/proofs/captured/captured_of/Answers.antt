@@ -6,11 +6,14 @@ use Rattle.lp_gen.proofs.CapturedFrom.{walk_has, nothing_marked, place_looked_at
 use Rattle.lp_gen.proofs.captured.captured_of.Goals as goal
 
 pub places-init : goal.places-init
-places-init c = (record {
-  marks = λ ks cov h. walk_starts c.args.bank.now c.args.base ks c.new-work.result.items c.push.new.self.items c.args.clauses c.new-work.ensures.items c.in_ok-push.ensures.items h;
-  has = λ p x. walk_has c.args.bank.now p c.new-work.result.items c.push.new.self.items c.args.clauses c.new-work.ensures.items c.in_ok-push.ensures.items x;
-  found = λ p x. nothing_marked c.args.base p c.new-levels.result.keys c.new-levels.ensures.empty;
-}, c.new-levels.ensures.unique)
+places-init c = (
+  record {
+    marks = λ ks cov h. walk_starts c.args.bank.now c.args.base ks c.new-work.result.items c.push.new.self.items c.args.clauses c.new-work.ensures.items c.in_ok-push.ensures.items h;
+    has = λ p x. walk_has c.args.bank.now p c.new-work.result.items c.push.new.self.items c.args.clauses c.new-work.ensures.items c.in_ok-push.ensures.items x;
+    found = λ p x. nothing_marked c.args.base p c.new-levels.result.keys c.new-levels.ensures.empty;
+  },
+  c.new-levels.ensures.unique,
+)
 
 pub places-preserved : goal.places-preserved
 places-preserved c = (
