@@ -2,7 +2,7 @@ use Rattle.std.proofs.Common.{◌∙◌, refl}
 use Rattle.lp_lemmas.proofs.Results.{passed_up}
 use Rattle.lp_code.specs.declared.instruction.Instr.TheVariants as instr
 use Rattle.lp_gen.specs.Registers.{plain_code}
-use Rattle.lp_gen.specs.inner.Using.{Lacks}
+use Rattle.lp_gen.specs.inner.Using.{Uses, Lacks}
 use Rattle.lp_gen.proofs.Using.{plain_said, no_plain_code}
 use Rattle.lp_gen.proofs.BodyUsed.{uses_kept, turned_by, turned_counts}
 use Rattle.lp_gen.proofs.body.turn.Goals as goal
@@ -16,8 +16,9 @@ returns-clause-code c =
 
 pub returns-clause-uses : goal.returns-clause-uses
 returns-clause-uses c =
-    uses_kept (plain_said (instr.Jump 0) 5 0 c.in_ok-emit.ensures.types c.in_ok-emit.ensures.registers c.in_ok-emit.ensures.place c.in_ok-emit.ensures.room refl refl) c.close_side.ensures.types
-    c.close_side.ensures.registers c.close_side.ensures.place
+    let jump : Uses c.args.emitter.now c.emit.new.self (plain_code 5 0) =
+    plain_said (instr.Jump 0) 5 0 c.in_ok-emit.ensures.types c.in_ok-emit.ensures.registers c.in_ok-emit.ensures.place c.in_ok-emit.ensures.room refl refl in
+    uses_kept jump c.close_side.ensures.types c.close_side.ensures.registers c.close_side.ensures.place
 
 pub returns-clause-around : goal.returns-clause-around
 returns-clause-around c = c.leave-left.ensures.around

@@ -88,9 +88,11 @@ returns-clause-takes c =
     let found = slice_get_read xs (length xs) c.args.number x refl low c.index-tables-number.is in
     let ls = c.as_slice-levels.result.now in
     let many : length c.in_ok-registers.registers.items ≡ length (levels_found a x.captured.keys) =
-    registers_length a (levels_found a ls) c.in_ok-registers.registers.items (c.in_ok-registers.ensures.registers c.args.tables.bank.now) ∙ ap (λ l. length (levels_found a l)) c.as_slice-levels.ensures.keys in
+    registers_length a (levels_found a ls) c.in_ok-registers.registers.items (c.in_ok-registers.ensures.registers c.args.tables.bank.now)
+    ∙ ap (λ l. length (levels_found a l)) (c.as_slice-levels.ensures.keys ∙ ap (λ (y : Assumption). y.captured.keys) (sym c.index-tables-number.is)) in
+    let count : length c.in_ok-records.records.items ≡ x.count = c.in_ok-records.ensures.count ∙ ap (λ (y : Assumption). y.count) (sym c.index-tables-number.is) in
     assumption_size c.args.tables.type_vars (length (levels_found a x.captured.keys)) x.count (length c.in_ok-types.types.items) (length c.in_ok-registers.registers.items)
-    (length c.in_ok-records.records.items) (zero_is c.args.tables.type_vars c.in_ok-types.types.items c.in_ok-types.ensures) many c.in_ok-records.ensures.count
+    (length c.in_ok-records.records.items) (zero_is c.args.tables.type_vars c.in_ok-types.types.items c.in_ok-types.ensures) many count
     ∙ sym (ap (assumption_takes c.args.tables.type_vars a) found)
 
 pub returns-in_err-registers-clause-many : goal.returns-in_err-registers-clause-many
@@ -104,4 +106,4 @@ returns-in_err-registers-clause-many c =
     let e = c.in_err-registers.field-0.0 in
     passed_up c.from_residual.result e (IsRefused (0 < (assumption_takes v a (slice_get xs c.args.number)).misfits)) c.from_residual.ensures.1
     (subst (λ o. IsRefused (0 < (assumption_takes v a o).misfits) e) (sym found) (many_misfit v (length (levels_found a x.captured.keys)) e
-    (subst (λ l. IsRefused (65535 < length (levels_found a l)) e) c.as_slice-levels.ensures.keys (c.in_err-registers.ensures.many c.args.tables.bank.now))))
+    (subst (λ l. IsRefused (65535 < length (levels_found a l)) e) (c.as_slice-levels.ensures.keys ∙ ap (λ (y : Assumption). y.captured.keys) (sym c.index-tables-number.is)) (c.in_err-registers.ensures.many c.args.tables.bank.now))))
