@@ -6,7 +6,7 @@ use Rattle.lp_calculus.specs.Spine.{head_of, arguments}
 use Rattle.lp_term.specs.Nodes.{Nodes, type_tree}
 use Rattle.lp_term.specs.declared.node.TypeId.{TypeId}
 use Rattle.lp_gen.specs.Registers.{both, all_take, terms_take, call_takes, call_of, goal_of_head, goal_term_takes, atom_takes}
-use Rattle.lp_gen.specs.inner.Listing.{Around, head_type}
+use Rattle.lp_gen.specs.Steps.{Around, head_type}
 use Rattle.lp_gen.proofs.AtomWritten.{head_apply, arguments_is}
 use Rattle.lp_gen.proofs.Courses.{mapped_types}
 

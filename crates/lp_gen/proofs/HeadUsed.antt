@@ -15,12 +15,9 @@ use Rattle.lp_term.specs.declared.node.TermNode.TheVariants as node
 use Rattle.lp_gen.specs.declared.emitter.Emitter.{Emitter}
 use Rattle.lp_gen.specs.declared.fault.RecordRefusal.{RecordRefusal}
 use Rattle.lp_gen.specs.declared.fault.RecordRefusal.TheVariants as refusal
-use Rattle.lp_gen.specs.Limits.{past}
-use Rattle.lp_gen.specs.Registers.{Amount, nothing, both, plain_code, type_takes, all_take, text_length, term_takes, behind_term, built_takes, term_got, atom_got, term_left, atom_left, argument_by, argument_takes, left_by_first, behind_argument, head_arguments_take, behind_arguments, head_types_take, predicate_types_take, atom_types_take, head_takes, behind_head}
+use Rattle.lp_gen.specs.Steps.{first_place, Around, set_level, head_type, from_of, to_of}
+use Rattle.lp_gen.specs.Registers.{past, Amount, nothing, both, plain_code, type_takes, all_take, text_length, term_takes, behind_term, built_takes, term_got, atom_got, term_left, atom_left, argument_by, argument_takes, left_by_first, behind_argument, head_arguments_take, behind_arguments, head_types_take, predicate_types_take, atom_types_take, head_takes, behind_head}
 use Rattle.lp_gen.specs.inner.Fitting.{IsRefused}
-use Rattle.lp_gen.specs.inner.Heading.{first_place}
-use Rattle.lp_gen.specs.inner.Listing.{Around, set_level, head_type}
-use Rattle.lp_gen.specs.inner.Reading.{from_of, to_of}
 use Rattle.lp_gen.specs.inner.Using.{Uses, for_misfits, Lacks, room, memory, AtMost}
 use Rattle.lp_gen.specs.inner.Written.{left_by}
 use Rattle.lp_gen.proofs.AtomWritten.{no_constant_node, head_itself, head_apply, arguments_is}

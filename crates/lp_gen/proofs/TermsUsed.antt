@@ -6,8 +6,7 @@ use Rattle.lp_calculus.specs.Term.{Term}
 use Rattle.lp_gen.specs.declared.emitter.Emitter.{Emitter}
 use Rattle.lp_gen.specs.declared.fault.RecordRefusal.{RecordRefusal}
 use Rattle.lp_gen.specs.Registers.{Amount, nothing, both, term_takes, behind_term, terms_take, behind_terms}
-use Rattle.lp_gen.specs.inner.Reading.{from_of, to_of}
-use Rattle.lp_gen.specs.inner.Listing.{Around}
+use Rattle.lp_gen.specs.Steps.{from_of, to_of, Around}
 use Rattle.lp_gen.specs.inner.Using.{Uses, Lacks, AtMost}
 use Rattle.lp_gen.specs.inner.Written.{left_by}
 use Rattle.lp_gen.proofs.Using.{same_amount, uses_both, uses_same, lacks_behind}

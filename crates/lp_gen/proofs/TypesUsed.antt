@@ -14,9 +14,8 @@ use Rattle.lp_gen.specs.declared.fault.RecordRefusal.{RecordRefusal}
 use Rattle.lp_gen.specs.declared.fault.RecordRefusal.TheVariants as refusal
 use Rattle.lp_gen.specs.declared.written_types.TypeTask.{TypeTask}
 use Rattle.lp_gen.specs.declared.written_types.TypeTask.TheVariants as on
-use Rattle.lp_gen.specs.Registers.{Amount, both, type_code, count_types, kind_takes, type_takes, types_take}
+use Rattle.lp_gen.specs.Registers.{past, Amount, both, type_code, count_types, kind_takes, type_takes, types_take}
 use Rattle.lp_gen.specs.inner.Fitting.{misfits_of, IsRefused}
-use Rattle.lp_gen.specs.Limits.{past}
 use Rattle.lp_gen.specs.inner.Pieces.{Piece, type_con, type_arrow, piece, pieces, type_made, types_made}
 use Rattle.lp_gen.specs.inner.Reading.{read, read_at}
 use Rattle.lp_gen.specs.inner.Spending.{piece_bytes, piece_misfits, bytes_of, misfits_in, Spent, IsOver, Overflows}

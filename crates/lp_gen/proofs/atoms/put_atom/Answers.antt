@@ -8,7 +8,8 @@ use Rattle.std.proofs.Common.{[], map, length, subst, ◌≡◌, ◌∙◌, ap, 
 use Rattle.lp_calculus.specs.Term.{Term}
 use Rattle.lp_term.specs.Nodes.{tree, type_tree}
 use Rattle.lp_term.specs.declared.node.TermId.{TermId}
-use Rattle.lp_gen.specs.inner.Listing.{around_of, constant_function, head_type}
+use Rattle.lp_gen.specs.Steps.{constant_function, head_type}
+use Rattle.lp_gen.specs.inner.Listing.{around_of}
 use Rattle.lp_gen.specs.inner.Written.{ArgumentsWritten}
 use Rattle.lp_gen.proofs.AtomWritten.{constant_goal, term_call_written, other_goal}
 use Rattle.lp_gen.proofs.atoms.put_atom.Goals as goal

@@ -1,5 +1,5 @@
 use Rattle.lp_gen.proofs.StepsUsed.{last_length, first_length, push_length}
-use Rattle.lp_gen.specs.inner.Listing.{apply_last}
+use Rattle.lp_gen.specs.Steps.{apply_last}
 use Rattle.lp_gen.specs.Registers.{step_takes}
 use Rattle.lp_gen.specs.inner.Using.{Lacks, Uses}
 use Rattle.lp_lemmas.proofs.Results.{passed_up}
