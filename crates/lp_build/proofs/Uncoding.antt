@@ -1,6 +1,6 @@
 -- The limits of code: of formulas one after the other, of a module, and of modules.
-use Rattle.std.proofs.Common.{◌≡◌, ◌≢◌, ◌<◌, ◌+◌, ◌∙◌, ℕ, List, [], ◌∷◌, ◌++◌, map, length, take, get_or, refl, sym, subst, inl, inr, ap}
-use Rattle.std.specs.Prelude.{All, Contains, IfErr, OnOk, Result, Ok, Err}
+use Rattle.std.proofs.Common.{◌≡◌, ◌<◌, ◌+◌, ℕ, List, map, length, take, get_or, sym, subst, inl, inr, ap}
+use Rattle.std.specs.Prelude.{All}
 use Rattle.std.proofs.lemmas.List.{take_more}
 use Rattle.std.proofs.lemmas.List.Elements.{Contains-get_or}
 use Rattle.lp_lemmas.proofs.Elements.{All_empty, All_pushed}
@@ -17,11 +17,8 @@ use Rattle.lp_module.specs.declared.module.Module.{Module}
 use Rattle.lp_normal.specs.Counted.{HasFewClauses, HasManyClauses, IsOver}
 use Rattle.lp_normal.specs.declared.fault.NormalRefusal.{NormalRefusal}
 use Rattle.lp_normal.specs.declared.fault.NormalRefusal.TheVariants as normal
-use Rattle.lp_gen.specs.Limits.{ClausesPass, ClausesWithin}
-use Rattle.lp_gen.specs.declared.fault.GenRefusal.{GenRefusal}
-use Rattle.lp_gen.specs.declared.fault.GenRefusal.TheVariants as code
 use Rattle.lp_sig.specs.Refusals.{IsAt}
-use Rattle.lp_build.specs.Uncoded.{AreFlatIn, HasManyIn, HaveFewIn, IsFirstUncoded, IsUncoded, IsWithinCode, no_space, of_code, of_formula, of_limits, schemes_of}
+use Rattle.lp_build.specs.Uncoded.{AreFlatIn, HasManyIn, HaveFewIn, IsFirstUncoded, IsUncoded, IsWithinCode, of_formula, schemes_of}
 use Rattle.lp_build.specs.inner.Coded.{AreFlat}
 use Rattle.lp_build.specs.declared.fault.BuildFault.{BuildFault}
 use Rattle.lp_build.specs.declared.fault.BuildFault.TheVariants as fault
@@ -60,23 +57,5 @@ pub coded_more : (ms : List Module) (n k : ℕ) (m : Module) → k ≡ n + 1 →
 coded_more ms n k m e at is h =
     subst (λ j. All IsWithinCode (take j ms)) (sym e) (All_pushed IsWithinCode (take (n + 1) ms) (take n ms) (get_or ms n m) (take_more ms n m at.0) h (subst IsWithinCode (sym at.1) is))
 
-pub first_uncoded : (ms : List Module) (n : ℕ) (m : Module) (e : BuildFault) → IsAt ms n m → e ≢ fault.Limit limit.Registers → All IsWithinCode (take n ms) → IsUncoded m e → IsFirstUncoded ms e
-first_uncoded ms n m e at other before is = record { place = n; «module» = m; at = at; before = before; refused = is; other = other }
-
--- where a limit on registers is told of a module, no other limit is passed
-of_registers : (r : GenRefusal) (b : Nodes) (ds : List Declared) (cs : List code_clause.Clause) → fault.Limit limit.Registers ≡ of_code r → ClausesPass b ds cs r → ClausesWithin b ds cs
-of_registers (code.Limit l) b ds cs e passes = let is : limit.Registers ≡ l = cc in subst (λ x. ClausesPass b ds cs (code.Limit x)) (sym is) passes
-of_registers code.Memory b ds cs e passes = absurd (cc)
-
-registers_within : (m : Module) (e : BuildFault) → e ≡ fault.Limit limit.Registers → IsUncoded m e → IsWithinCode m
-registers_within m e is (of_formula many told) = absurd (let q : ◌≡◌ (fault.Limit limit.Registers) (fault.Limit limit.Clauses) = sym is ∙ told in cc)
-registers_within m e is (of_limits few b ds cs r are passes told) = record { few = few; bank = b; constants = ds; flat = cs; are = are; within = of_registers r b ds cs (sym is ∙ told) passes }
-registers_within m e is (no_space told) = absurd (let q : ◌≡◌ (fault.Limit limit.Registers) fault.Memory = sym is ∙ told in cc)
-
-pub not_told : (m : Module) (e : BuildFault) (r : Result (Unit {0}) BuildFault) → OnOk r (e ≡ fault.Limit limit.Registers) → IsUncoded m e → OnOk r (IsWithinCode m)
-not_told m e (Ok x) h is = registers_within m e h is
-not_told m e (Err f) h is = tt
-
-pub same_told : (P : BuildFault → Type 0) (e : BuildFault) (r : Result (Unit {0}) BuildFault) → IfErr r (λ f. f ≡ e) → P e → IfErr r P
-same_told P e (Ok x) h p = tt
-same_told P e (Err f) h p = subst P (sym h) p
+pub first_uncoded : (ms : List Module) (n : ℕ) (m : Module) (e : BuildFault) → IsAt ms n m → All IsWithinCode (take n ms) → IsUncoded m e → IsFirstUncoded ms e
+first_uncoded ms n m e at before is = record { place = n; «module» = m; at = at; before = before; refused = is }

@@ -1,5 +1,5 @@
 -- Why a module has no code: what one of its formulas is flattened to passes the limit on clauses, or the flattened clauses of all pass a limit of code.
-use Rattle.std.specs.Prelude.{◌≡◌, ◌≢◌, ℕ, List, map, take, All, Contains, Option}
+use Rattle.std.specs.Prelude.{◌≡◌, ℕ, List, map, take, All, Contains, Option}
 use Rattle.lp_base.specs.declared.limit.Limit.TheVariants as limit
 use Rattle.lp_calculus.specs.Typing.{Scheme}
 use Rattle.lp_term.specs.Nodes.{Nodes, Extends}
@@ -59,11 +59,10 @@ pub record IsWithinCode (m : Module) : Type 0 where
   pub are : AreFlatIn m bank constants flat
   pub within : ClausesWithin bank constants flat
 
--- the first of these modules that has none; of a limit on registers nothing is told here
+-- the first of these modules that has none
 pub record IsFirstUncoded (modules : List Module) (e : BuildFault) : Type 0 where
   pub place : ℕ
   pub «module» : Module
   pub at : IsAt modules place «module»
   pub before : All IsWithinCode (take place modules)
   pub refused : IsUncoded «module» e
-  pub other : e ≢ fault.Limit limit.Registers

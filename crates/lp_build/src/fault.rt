@@ -1,5 +1,5 @@
 // Why files have no program.
-ghost use Rattle.std.specs.Prelude.{◌≡◌, ◌≢◌, IfErr, OnOk};
+ghost use Rattle.std.specs.Prelude.{◌≡◌};
 ghost use Rattle.lp_normal.specs.Counted.{IsOver};
 ghost use Rattle.lp_module.specs.declared.module.Module.{Module};
 ghost use Rattle.lp_build.specs.Faults.{IsOfTexts};
@@ -86,18 +86,6 @@ pub(crate) fn of_generator(refusal: GenRefusal) -> BuildFault
     match refusal {
         GenRefusal::Limit(passed) => BuildFault::Limit(passed),
         GenRefusal::Memory => BuildFault::Memory,
-    }
-}
-
-// What is told of a module's code where it is not made for its own sake: all but a limit on registers, which no definition counts yet.
-pub(crate) fn told(refused: BuildFault) -> Result<(), BuildFault>
-    ensures same { IfErr result (λ e. e ≡ refused) }
-    ensures other { IfErr result (λ e. e ≢ BuildFault.Limit Limit.Registers) }
-    ensures registers { OnOk result (refused ≡ BuildFault.Limit Limit.Registers) }
-{
-    match refused {
-        BuildFault::Limit(Limit::Registers) => Ok(()),
-        _ => Err(refused),
     }
 }
 

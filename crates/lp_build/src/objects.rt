@@ -1,5 +1,5 @@
 // The objects of modules.
-ghost use Rattle.std.specs.Prelude.{◌≡◌, ◌≢◌, All, length, map, IfErr, IfOk, OnOk, None, if◌then◌else◌};
+ghost use Rattle.std.specs.Prelude.{◌≡◌, All, length, map, IfErr, IfOk, OnOk, None, if◌then◌else◌};
 ghost use Rattle.lp_term.specs.Memo.{AreMade};
 ghost use Rattle.lp_term.specs.Nodes.{Extends, Nodes};
 ghost use Rattle.lp_term.specs.Same.{same_map};
@@ -15,7 +15,7 @@ ghost use Rattle.lp_build.specs.Limits.{HasFewNames, HasManyNames};
 ghost use Rattle.lp_build.specs.Uncoded.{HasManyIn, HaveFewIn, IsFirstUncoded, IsUncoded, IsWithinCode, schemes_of};
 ghost use Rattle.lp_build.specs.inner.Coded.{AreFlat, signature_tables};
 
-use crate::fault::{BuildFault, of_flattening, of_generator, told};
+use crate::fault::{BuildFault, of_flattening, of_generator};
 use lp_base::{END_OF_NUMBERS, Limit, Memory};
 use lp_code::{Code, Object, ObjectConstant, ObjectKind};
 use lp_fixity::Fixity;
@@ -221,12 +221,11 @@ fn code_of(alloc: Global, module: &mut Module) -> Result<Code, BuildFault>
 fn check_code(alloc: Global, module: &mut Module) -> Result<(), BuildFault>
     ensures refused { IfErr result IsOfTexts }
     ensures cause { AreWithin «module».old.bank «module».old.clauses.items → IfErr result (IsUncoded «module».old) }
-    ensures other { IfErr result (λ e. e ≢ BuildFault.Limit Limit.Registers) }
     ensures within { AreWithin «module».old.bank «module».old.clauses.items → OnOk result (IsWithinCode «module».old) }
 {
     match code_of(alloc, module) {
         Ok(_) => Ok(()),
-        Err(refused) => told(refused),
+        Err(refused) => Err(refused),
     }
 }
 

@@ -6,7 +6,7 @@ use Rattle.lp_base.specs.declared.status.Status.{Status}
 use Rattle.lp_base.specs.declared.status.Status.TheVariants as variant
 use Rattle.lp_cli.specs.Does.{Does}
 use Rattle.lp_cli.specs.Fulfils.{Solves, answer_limit, step_limit}
-use Rattle.lp_files.specs.Made.{WritesMade}
+use Rattle.lp_files.specs.Refused.{Makes}
 use Rattle.lp_judge.specs.Checked.{Checks}
 use Rattle.lp_judge.specs.Judged.{Judges}
 use Rattle.lp_judge.specs.Proofs.{WritesProofs, has_file}
@@ -121,7 +121,7 @@ module _ {F K : Type 0} {rf ms ov wf : F → ℕ} {held : F → Option Held} {fa
 
   -- a file of a module
   pub does_files : (command : FileCommand) (name : List ℕ) (result : Status) → Ran rf ms ov written a b o p result
-      → Leaves wf held faults written a b o p (name ++ ending_of command) (done_line command (name ++ ending_of command)) result → (result ≡ variant.Done → WritesMade (held a) (held b) command name)
+      → Leaves wf held faults written a b o p (name ++ ending_of command) (done_line command (name ++ ending_of command)) result → Makes (held a) (held b) command name (written o) (written p) result
       → Does rf ms ov wf held faults written seen (files command name) a b o p result
   does_files command name result r l u = record {
     placed = λ e query is. absurd (cc);

@@ -4,7 +4,7 @@ use Rattle.lp_base.specs.Held.{Held}
 use Rattle.lp_base.specs.declared.limits.TheConstants.{DEFAULT_ANSWERS, DEFAULT_STEPS}
 use Rattle.lp_base.specs.declared.status.Status.{Status}
 use Rattle.lp_base.specs.declared.status.Status.TheVariants as variant
-use Rattle.lp_files.specs.Made.{WritesMade}
+use Rattle.lp_files.specs.Refused.{Makes}
 use Rattle.lp_judge.specs.Checked.{Checks}
 use Rattle.lp_judge.specs.Judged.{Judges}
 use Rattle.lp_judge.specs.Proofs.{WritesProofs, has_file}
@@ -28,12 +28,12 @@ pub record Solves (told : Option Held) (name query : List ℕ) (options : Option
   pub begins : result ≡ variant.WriteFault → BeginsSolved told name query (watching options.watch seen) (step_limit options) (answer_limit options) before after
 
 -- A verdict on the texts of a module and a query is right; so is one on certificates over the program of a module; where certificates are written, they are proofs from that program; and where a file
--- of a module is written, its bytes are of the kind that is asked for. The answers that are written of a query on texts are those of the definition's search, and right. Of a search on an image nothing is said here.
+-- of a module is asked for, it is written with bytes of its kind, or the line of a refusal with its cause. The answers that are written of a query on texts are those of the definition's search, and right. Of a search on an image nothing is said here.
 abbrev pub Fulfils : (told now : Option Held) → (seen : List Seen) → (before after : Option (List ℕ)) → Asked → Status → Type 0
 Fulfils told now seen before after (lambda name query) result = Judges told name query before after result
 Fulfils told now seen before after (check name query) result = Checks told name query before after result
 Fulfils told now seen before after (prove name query options) result = has_file result ≡ true → WritesProofs told now name query
-Fulfils told now seen before after (files command name) result = result ≡ variant.Done → WritesMade told now command name
+Fulfils told now seen before after (files command name) result = Makes told now command name before after result
 Fulfils told now seen before after (solve name query options) result = Solves told name query options seen before after result
 Fulfils told now seen before after (query_image name query options) result = Unit {0}
 Fulfils told now seen before after (trial size) result = Unit {0}

@@ -1,7 +1,7 @@
 -- Why a module has no object file.
 use Rattle.std.specs.Global.{Global}
-use Rattle.std.proofs.Common.{◌≡◌, ◌⊎◌, ◌++◌, ◌<◌, ℕ, false, List, Option, length, inl, inr, subst}
-use Rattle.std.specs.Prelude.{Vec, Result, Ok, Err, IfErr, codes}
+use Rattle.std.proofs.Common.{◌≡◌, ◌⊎◌, ◌<◌, ℕ, false, List, Option, length, inl, inr, subst}
+use Rattle.std.specs.Prelude.{Vec, Result, Ok, Err, IfErr}
 use Rattle.lp_base.specs.Held.{Held}
 use Rattle.lp_base.specs.declared.limit.Limit.{Limit}
 use Rattle.lp_base.specs.declared.limit.Limit.TheVariants as limit

@@ -1,4 +1,10 @@
 pub mod Target
+pub mod Ordered
+pub mod Used
 pub mod Made
+pub mod Said
+pub mod Unopened
 pub mod Uncompiled
+pub mod Unlinked
+pub mod Refused
 pub mod inner

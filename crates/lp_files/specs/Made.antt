@@ -1,7 +1,5 @@
 -- The bytes of the file that a command makes.
-use Rattle.std.specs.Prelude.{◌≡◌, ◌++◌, ◌∷◌, ℕ, true, false, List, Option, Some, Vec, IfSome, All, is_some, slice_get, take, codes, suc}
-use Rattle.std.specs.Global.{Global}
-use Rattle.lp_lemmas.specs.Each.{AnyOf}
+use Rattle.std.specs.Prelude.{◌≡◌, ◌++◌, ℕ, true, false, List, Option, IfSome, All, is_some, codes}
 use Rattle.lp_base.specs.Held.{Held, Puts}
 use Rattle.lp_code.specs.declared.object.Object.{Object}
 use Rattle.lp_code.specs.declared.image.Image.{Image}
@@ -20,6 +18,7 @@ use Rattle.lp_build.specs.Told.{AreLoaded, IsTold}
 use Rattle.lp_build.specs.declared.sources.Sources.{Sources}
 use Rattle.lp_words.specs.declared.asked.FileCommand.{FileCommand}
 use Rattle.lp_words.specs.declared.asked.FileCommand.TheVariants.{Compile, Link, Migrate}
+use Rattle.lp_files.specs.Ordered.{AreInOrder as AreObjectsInOrder}
 use Rattle.lp_files.specs.Target.{ending_of}
 
 -- the object of the module of a name, whose text is one of these files
@@ -58,37 +57,15 @@ pub record IsHeldObject (told : Option Held) (o : Object) : Type 0 where
 abbrev pub AreHeldObjects : (told : Option Held) → List Object → Type 0
 AreHeldObjects told os = All (IsHeldObject told) os
 
--- the first object has this name
-abbrev pub BeginsNamed : (name : List ℕ) → List Object → Type 0
-BeginsNamed name os = (o : Object) × (more : List Object) × (os ≡ o ∷ more) × (o.name.items ≡ name)
-
--- one of the objects has this name
-abbrev pub HasName : List Object → (name : List ℕ) → Type 0
-HasName os name = AnyOf (λ (o : Object). o.name.items ≡ name) os
-
--- all that they use is among them
-abbrev pub HaveUsed : List Object → Type 0
-HaveUsed os = (k i : ℕ) (o : Object) (u : Vec ℕ Global) → slice_get os k ≡ Some o → slice_get o.uses.items i ≡ Some u → HasName os u.items
-
--- one of the objects uses this name
-abbrev pub UsesName : List Object → (name : List ℕ) → Type 0
-UsesName os name = AnyOf (λ (o : Object). AnyOf (λ (u : Vec ℕ Global). u.items ≡ name) o.uses.items) os
-
--- each but the first is used by one before it, and has the name of none of these
-abbrev pub AreUsedOnce : List Object → Type 0
-AreUsedOnce os = (k : ℕ) (o : Object) → slice_get os (suc k) ≡ Some o → UsesName (take (suc k) os) o.name.items × (HasName (take (suc k) os) o.name.items → ⊥)
-
 -- bytes are the spelling of today of an image that denotes the clauses of the copies of these objects, of which the first is the root
 abbrev pub SpellsLinked : List Object → (bytes : List ℕ) → Type 0
 SpellsLinked os bytes = (image : Image) × IsLinked os 0 image × (bytes ≡ spelled_image (plain_image image))
 
--- so they are for objects that the folder holds, the first one of this name, with all that they use, each once, and no other ones
+-- so they are for objects that the folder holds, that of this name and all that they use, in order
 pub record IsImageLinked (told : Option Held) (name bytes : List ℕ) : Type 0 where
   pub objects : List Object
-  pub first : BeginsNamed name objects
+  pub ordered : AreObjectsInOrder name objects
   pub held : AreHeldObjects told objects
-  pub used : HaveUsed objects
-  pub once : AreUsedOnce objects
   pub spells : SpellsLinked objects bytes
 
 -- what a command makes

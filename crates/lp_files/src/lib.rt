@@ -3,6 +3,8 @@
 
 // The object of a module.
 mod compile;
+/// What objects in order have.
+pub mod laws;
 // What is said of objects and images.
 mod lines;
 // The image of a module.

@@ -1,19 +1,25 @@
 // The image of a module.
-ghost use Rattle.std.specs.Prelude.{◌≡◌, ◌<◌, ◌++◌, [], ◌∷◌, length, None, IfErr, IfOk, OnOk};
+ghost use Rattle.std.specs.Prelude.{◌≡◌, ◌<◌, ◌++◌, [], ◌∷◌, ℕ, List, Some, All, Contains, length, slice_get, IfErr, IfOk, IfSome, OnOk};
+ghost use Rattle.std.specs.Str.{IsUtf8};
 ghost use Rattle.lp_places.specs.Places.{HasPlaces};
 ghost use Rattle.lp_link.specs.Uses.{names_of};
 ghost use Rattle.lp_link.specs.Linked.{IsLinked};
-ghost use Rattle.lp_files.specs.Made.{IsHeldObject, AreHeldObjects, BeginsNamed, HaveUsed, AreUsedOnce, SpellsLinked, IsImageLinked};
-ghost use Rattle.lp_files.specs.inner.Objects.{AreMore, AreTaken, IsUnread, IsNext};
+ghost use Rattle.lp_link.specs.Refusals.{IsLinkRefusal};
+ghost use Rattle.lp_files.specs.Made.{IsHeldObject, AreHeldObjects, SpellsLinked, IsImageLinked};
+ghost use Rattle.lp_files.specs.Ordered.{AreInOrder, uses_of};
+ghost use Rattle.lp_files.specs.Said.{IsNameOf, TellsDiffering, TellsMisnamed, TellsUnlinked};
+ghost use Rattle.lp_files.specs.Unlinked.{IsUnjoined, IsUnlinked, IsUnread as IsUnreadObject};
+ghost use Rattle.lp_files.specs.Unopened.{object_file};
+ghost use Rattle.lp_files.specs.inner.Objects.{AreMore, AreThere, IsUnread, IsNew, IsNext};
 ghost use Rattle.lp_lines.specs.Looked.{Looked, refusal_of};
-ghost use Rattle.lp_lines.specs.Refusals.{IsJudged};
+ghost use Rattle.lp_lines.specs.Refusals.{IsJudged, TellsImage};
 
-use crate::lines::differ;
+use crate::lines::{differ, joined, misnamed};
 use crate::migrate::image_bytes;
 use crate::open::open_object;
 use lp_base::{Folder, Limit, MAX_MODULES, Memory};
 use lp_code::{Image, Object};
-use lp_lines::{Refusal, limited, said_of};
+use lp_lines::{Refusal, limited};
 use lp_link::{LinkRefusal, Part, link};
 use lp_places::Places;
 use lp_standard::{FIRST_CONSTANT, FIRST_KIND};
@@ -28,20 +34,10 @@ struct Reading {
 }
 
 // The name of the file of a module.
-fn file_of(alloc: Global, name: &[u8]) -> Result<Vec<u8>, Memory> {
-    let mut file = name.to_vec(alloc)?;
-    file.extend_from_slice(b".lpo")?;
-    Ok(file)
-}
-
-// An object uses a name that no file has.
-fn misnamed(alloc: Global, user: &[u8]) -> Refusal
-    ensures { IsJudged result }
+fn file_of(alloc: Global, name: &[u8]) -> Result<Vec<u8>, Memory>
+    ensures { IfOk result (λ file. file.items ≡ object_file name.now) }
 {
-    match file_of(alloc, user) {
-        Ok(file) => said_of(alloc, file.as_slice(), b"name differs"),
-        Err(Memory) => Refusal::Memory,
-    }
+    joined(alloc, name, b".lpo")
 }
 
 impl Reading {
@@ -89,8 +85,9 @@ impl Reading {
     // the newest last, each with the place of the next one.
     fn next(&self, waiting: &mut Vec<(usize, usize)>) -> Result<Option<(usize, Vec<u8>)>, Memory>
         requires found { HasPlaces self.now.names (names_of self.now.objects.items) }
-        requires taken { AreTaken self.now.objects.items waiting.old.items None }
-        ensures { IfOk result (IsNext self.now.objects.items waiting.new.items) }
+        requires there { AreThere self.now.objects.items waiting.old.items }
+        ensures next { IfOk result (IsNext self.now.objects.items waiting.old.items waiting.new.items) }
+        ensures there { OnOk result (AreThere self.now.objects.items waiting.new.items) }
     {
         while let Some((user, place)) = waiting.pop() {
             if let Some((next, name)) = self.unread(user, place)? {
@@ -101,15 +98,6 @@ impl Reading {
         Ok(None)
     }
 
-    fn misnamed_by(&self, user: usize) -> Refusal
-        ensures { IsJudged result }
-    {
-        match self.objects.get(user) {
-            Some(object) => misnamed(self.alloc, object.name.as_slice()),
-            None => Refusal::Memory,
-        }
-    }
-
     // The object of a module that another one uses. A name that is no text is that of no file.
     fn open_used<F: Folder>(
         &self,
@@ -117,23 +105,27 @@ impl Reading {
         user: usize,
         name: &[u8],
     ) -> Result<Object, Refusal>
+        requires { IsNew self.now.objects.items user name.now }
         ensures named { IfOk result (λ object. object.name.items ≡ name.now) }
         ensures held { IfOk result (IsHeldObject (F.held folder.old)) }
+        ensures cause { IfErr result (IsUnreadObject (F.held folder.old) self.now.objects.items name.now) }
         ensures looked { Looked F.read_faults F.misses F.overs F.write_faults F.held folder.old folder.new (refusal_of result) }
     {
         match str::from_utf8(name) {
             Ok(name) => open_object(self.alloc, folder, name),
-            Err(_) => Err(self.misnamed_by(user)),
+            Err(_) => Err(misnamed(self.alloc, &self.objects[user])),
         }
     }
 
     // Reads the object of this name, which another one uses.
     fn read<F: Folder>(&mut self, folder: &mut F, user: usize, name: &[u8]) -> Result<(), Refusal>
         requires found { HasPlaces self.old.names (names_of self.old.objects.items) }
+        requires is_new { IsNew self.old.objects.items user name.now }
         ensures looked { Looked F.read_faults F.misses F.overs F.write_faults F.held folder.old folder.new (refusal_of result) }
         ensures some { OnOk result (0 < length self.new.objects.items) }
         ensures found { OnOk result (HasPlaces self.new.names (names_of self.new.objects.items)) }
         ensures more { OnOk result (AreMore (F.held folder.old) name.now self.old.objects.items self.new.objects.items) }
+        ensures cause { IfErr result (IsUnreadObject (F.held folder.old) self.old.objects.items name.now) }
     {
         let object = self.open_used(folder, user, name)?;
         self.take(object)?;
@@ -153,10 +145,9 @@ fn wait(waiting: &mut Vec<(usize, usize)>, number: usize) -> Result<(), Memory>
 fn objects_of<F: Folder>(alloc: Global, folder: &mut F, root: &str) -> Result<Vec<Object>, Refusal>
     ensures looked { Looked F.read_faults F.misses F.overs F.write_faults F.held folder.old folder.new (refusal_of result) }
     ensures root { IfOk result (λ objects. 0 < length objects.items) }
-    ensures first { IfOk result (λ objects. BeginsNamed root.now objects.items) }
     ensures held { IfOk result (λ objects. AreHeldObjects (F.held folder.old) objects.items) }
-    ensures used { IfOk result (λ objects. HaveUsed objects.items) }
-    ensures once { IfOk result (λ objects. AreUsedOnce objects.items) }
+    ensures ordered { IfOk result (λ objects. AreInOrder root.now objects.items) }
+    ensures cause { IfErr result (IsUnlinked (F.held folder.old) root.now) }
 {
     let object = open_object(alloc, folder, root)?;
     let mut reading = Reading::new(alloc);
@@ -177,7 +168,9 @@ fn objects_of<F: Folder>(alloc: Global, folder: &mut F, root: &str) -> Result<Ve
 }
 
 // The name of a kind or constant of an object.
-fn name_of(object: &Object, part: Part) -> Option<&[u8]> {
+fn name_of(object: &Object, part: Part) -> Option<&[u8]>
+    ensures { IfSome result (λ name. IsNameOf object.now part name.now) }
+{
     match part {
         Part::Kind(number) => {
             let kind = object.kinds.get(number.checked_sub(FIRST_KIND)? as usize)?;
@@ -192,7 +185,8 @@ fn name_of(object: &Object, part: Part) -> Option<&[u8]> {
 
 // A name of an object that the one above it has otherwise.
 fn differing(alloc: Global, object: &Object, part: Part) -> Refusal
-    ensures { IsJudged result }
+    ensures judged { IsJudged result }
+    ensures says { (result ≡ Refusal.Memory) ⊎ TellsDiffering object.now part result }
 {
     let Some(name) = name_of(object, part) else {
         return Refusal::Memory;
@@ -204,7 +198,8 @@ fn differing(alloc: Global, object: &Object, part: Part) -> Refusal
 }
 
 fn unlinked(alloc: Global, objects: &[Object], refusal: LinkRefusal) -> Refusal
-    ensures { IsJudged result }
+    ensures judged { IsJudged result }
+    ensures says { (result ≡ Refusal.Memory) ⊎ TellsUnlinked objects.now refusal result }
 {
     match refusal {
         LinkRefusal::Differ(number, part) => match objects.get(number as usize) {
@@ -221,6 +216,7 @@ fn image_of(alloc: Global, objects: &[Object]) -> Result<Image, Refusal>
     requires { 0 < length objects.now }
     ensures judged { IfErr result IsJudged }
     ensures linked { IfOk result (IsLinked objects.now 0) }
+    ensures cause { IfErr result (IsUnjoined objects.now) }
 {
     match link(alloc, objects, 0) {
         Ok(image) => Ok(image),
@@ -232,6 +228,7 @@ fn linked_bytes(alloc: Global, objects: &[Object]) -> Result<Vec<u8>, Refusal>
     requires { 0 < length objects.now }
     ensures judged { IfErr result IsJudged }
     ensures image { IfOk result (λ bytes. SpellsLinked objects.now bytes.items) }
+    ensures cause { IfErr result (IsUnjoined objects.now) }
 {
     let image = image_of(alloc, objects)?;
     image_bytes(alloc, &image)
@@ -240,6 +237,7 @@ fn linked_bytes(alloc: Global, objects: &[Object]) -> Result<Vec<u8>, Refusal>
 /// The bytes of the image of a module, from its object and those that it uses.
 pub fn linked<F: Folder>(alloc: Global, name: &str, folder: &mut F) -> Result<Vec<u8>, Refusal>
     ensures image { IfOk result (λ bytes. IsImageLinked (F.held folder.old) name.now bytes.items) }
+    ensures cause { IfErr result (IsUnlinked (F.held folder.old) name.now) }
     ensures looked { Looked F.read_faults F.misses F.overs F.write_faults F.held folder.old folder.new (refusal_of result) }
 {
     let objects = objects_of(alloc, folder, name)?;

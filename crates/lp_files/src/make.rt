@@ -1,6 +1,7 @@
 // What a command makes.
-ghost use Rattle.std.specs.Prelude.{◌≡◌, ◌++◌, IfOk};
+ghost use Rattle.std.specs.Prelude.{◌≡◌, ◌++◌, IfErr, IfOk};
 ghost use Rattle.lp_files.specs.Made.{IsMade};
+ghost use Rattle.lp_files.specs.Refused.{IsRefused};
 ghost use Rattle.lp_files.specs.Target.{done_line, ending_of};
 ghost use Rattle.lp_lines.specs.Left.{IsTarget};
 ghost use Rattle.lp_lines.specs.Looked.{Looked, refusal_of};
@@ -55,6 +56,7 @@ pub fn made<F: Folder>(
     folder: &mut F,
 ) -> Result<Vec<u8>, Refusal>
     ensures made { IfOk result (λ bytes. IsMade (F.held folder.old) command name.now bytes.items) }
+    ensures cause { IfErr result (IsRefused (F.held folder.old) command name.now) }
     ensures looked { Looked F.read_faults F.misses F.overs F.write_faults F.held folder.old folder.new (refusal_of result) }
 {
     match command {

@@ -1,6 +1,7 @@
 // The writing of an object or image, and the line that tells of it.
-ghost use Rattle.std.specs.Prelude.{◌≡◌, ◌++◌, IfOk};
-ghost use Rattle.lp_files.specs.Made.{IsMade, WritesMade};
+ghost use Rattle.std.specs.Prelude.{◌≡◌, ◌++◌, IfErr, IfOk};
+ghost use Rattle.lp_files.specs.Made.{IsMade};
+ghost use Rattle.lp_files.specs.Refused.{IsRefused, Makes};
 ghost use Rattle.lp_files.specs.Target.{done_line, ending_of};
 ghost use Rattle.lp_lines.specs.Ends.{Ran};
 ghost use Rattle.lp_lines.specs.Left.{IsTarget, Leaves};
@@ -28,6 +29,7 @@ fn make_ready<F: Folder>(
 ) -> Result<Ready, Refusal>
     ensures looked { Looked F.read_faults F.misses F.overs F.write_faults F.held folder.old folder.new (refusal_of result) }
     ensures made { IfOk result (λ ready. IsMade (F.held folder.old) command name.now ready.bytes.items) }
+    ensures cause { IfErr result (IsRefused (F.held folder.old) command name.now) }
     ensures target { IfOk result (λ ready. IsTarget (name.now ++ ending_of command) (done_line command (name.now ++ ending_of command)) ready.target) }
 {
     let target = target_of(alloc, command, name)?;
@@ -46,7 +48,8 @@ pub fn write_file<F: Folder, K: Sink>(
     ensures ran { Ran F.read_faults F.misses F.overs K.written folder.old folder.new out.old out.new result }
     ensures leaves { Leaves F.write_faults F.held K.faults K.written folder.old folder.new out.old out.new
         (name.now ++ ending_of command) (done_line command (name.now ++ ending_of command)) result }
-    ensures made { result ≡ Status.Done → WritesMade (F.held folder.old) (F.held folder.new) command name.now }
+    // The file has bytes of its kind, or the line of a refusal with its cause is written.
+    ensures makes { Makes (F.held folder.old) (F.held folder.new) command name.now (K.written out.old) (K.written out.new) result }
 {
     match make_ready(alloc, command, name, folder) {
         Ok(ready) => put(

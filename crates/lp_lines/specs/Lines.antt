@@ -30,6 +30,10 @@ read_fault_line file = codes "read fault: " ++ file ++ codes "\n"
 unfoldable pub write_fault_line : (file : List ℕ) → List ℕ
 write_fault_line file = codes "write fault: " ++ file ++ codes "\n"
 
+-- what is said of an object, an image or certificates
+unfoldable pub image_line : (file said : List ℕ) → List ℕ
+image_line file said = codes "image: " ++ file ++ codes ": " ++ said ++ codes "\n"
+
 -- a file was written
 unfoldable pub wrote_line : (file : List ℕ) → List ℕ
 wrote_line file = codes "wrote " ++ file ++ codes "\n"

@@ -4,7 +4,7 @@ use Rattle.lp_base.specs.declared.limit.Limit.{Limit}
 use Rattle.lp_base.specs.declared.status.Status.{Status}
 use Rattle.lp_base.specs.declared.status.Status.TheVariants as variant
 use Rattle.lp_lines.specs.Ends.{IsFault, IsOtherLimit}
-use Rattle.lp_lines.specs.Lines.{limit_line, memory_line, missing_line, read_fault_line}
+use Rattle.lp_lines.specs.Lines.{image_line, limit_line, memory_line, missing_line, read_fault_line}
 use Rattle.lp_lines.specs.declared.refusal.Refusal.{Refusal}
 use Rattle.lp_lines.specs.declared.refusal.Refusal.TheVariants.{Line, Memory}
 
@@ -53,3 +53,8 @@ TellsMissing file Memory = Unit {0}
 abbrev pub TellsLimit : Limit → Refusal → Type 0
 TellsLimit l (Line said line) = (said ≡ variant.Limit) × (line.items ≡ limit_line l)
 TellsLimit l Memory = Unit {0}
+
+-- the line of what is said of the bytes of a file
+abbrev pub TellsImage : (file said : List ℕ) → Refusal → Type 0
+TellsImage file said (Line status line) = (status ≡ variant.Image) × (line.items ≡ image_line file said)
+TellsImage file said Memory = Unit {0}

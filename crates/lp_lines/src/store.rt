@@ -46,6 +46,7 @@ pub fn put<F: Folder, K: Sink>(
     requires { is_of_search status ≡ true }
     ensures grows { Grows (K.written out.old) (K.written out.new) }
     ensures of_search { result ≢ Status.WriteFault → is_of_search result ≡ true }
+    ensures ends { result ≢ Status.WriteFault → result ≢ Status.Memory → result ≡ status }
     ensures leaves { (file line : List ℕ) → IsTarget file line target.now
         → LeavesWith F.write_faults F.held K.faults K.written folder.old folder.new out.old out.new file line status result }
     ensures bytes { result ≢ Status.WriteFault → result ≢ Status.Memory → IfSome (F.held folder.old) (λ old. IfSome (F.held folder.new) (Puts (string_bytes target.now.file) bytes.now old)) }

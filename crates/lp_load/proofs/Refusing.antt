@@ -1,6 +1,5 @@
 -- Why a query is refused, by its stages.
-use Rattle.std.proofs.Common.{◌≡◌, ◌≢◌, ◌<◌, ◌∙◌, ℕ, List, Option, Some, length, ap, sym, subst, inl, inr}
-use Rattle.std.specs.Prelude.{IfErr, OnOk, Result, Ok, Err}
+use Rattle.std.proofs.Common.{◌≡◌, ◌<◌, ◌∙◌, ℕ, List, Option, Some, length, ap, sym, subst, inl, inr}
 use Rattle.lp_base.specs.declared.limit.Limit.{Limit}
 use Rattle.lp_base.specs.declared.limit.Limit.TheVariants as limit
 use Rattle.lp_calculus.specs.Term.{Term}
@@ -16,15 +15,13 @@ use Rattle.lp_model.specs.declared.program.Declared.{Declared}
 use Rattle.lp_model.specs.declared.program.Typed.{Typed}
 use Rattle.lp_normal.specs.Counted.{AssumesFewClauses, AssumesManyClauses, IsOver}
 use Rattle.lp_normal.specs.declared.fault.NormalRefusal.TheVariants as refusal
-use Rattle.lp_gen.specs.Limits.{QueryPasses, QueryWithin}
-use Rattle.lp_gen.specs.declared.fault.GenRefusal.{GenRefusal}
+use Rattle.lp_gen.specs.Limits.{QueryPasses}
 use Rattle.lp_gen.specs.declared.fault.GenRefusal.TheVariants as code
 use Rattle.lp_build.specs.declared.build.Built.{Built}
 use Rattle.lp_lines.specs.declared.cause.Cause.{Cause}
 use Rattle.lp_lines.specs.declared.cause.Cause.TheVariants as cause
-use Rattle.lp_lines.specs.Placed.{IsCauseOf}
 use Rattle.lp_load.specs.Asked.{AreGoalsOf, IsAsked, IsRead}
-use Rattle.lp_load.specs.Refused.{IsOverArguments, IsOverClauses, IsOverCode, IsRefusedFor, TellsCode, no_memory, of_arguments, of_clauses, of_code}
+use Rattle.lp_load.specs.Refused.{IsOverArguments, IsOverClauses, IsOverCode, IsRefusedFor, no_memory, of_arguments, of_clauses, of_code}
 
 module _ (built : Built) (text : List ℕ) where
   pub over_arguments : (raw : RawQuery) (c : Cause) → IsRead built.table text raw → IsOverArguments raw.term c → IsRefusedFor built text c
@@ -44,28 +41,6 @@ module _ (built : Built) (text : List ℕ) where
 pub goals_are : (old new : Nodes) (q : Typed) (goals : List Goal) → q.formula.0 < length old.terms → Extends old new →
     ((n : ℕ) (d : ℕ → Option Scheme) (flat : Goals) (later : Nodes) → flatten_query n d (tree old q.formula.0) ≡ Some flat → Extends new later → goals_of later goals ≡ flat) → AreGoalsOf new q goals
 goals_are old new q goals in_old grown flat n d gs is = flat n d gs new (ap (flatten_query n d) (sym (grown.same_terms q.formula.0 in_old)) ∙ is) (extends_same new)
-
--- a limit that is told
-pub limit_cause : (text : List ℕ) (l : Limit) (r : Result (Unit {0}) Cause) → IfErr r (λ c. c ≡ cause.Limit l) → IfErr r (IsCauseOf text)
-limit_cause text l (Ok x) h = tt
-limit_cause text l (Err c) h = subst (IsCauseOf text) (sym h) tt
-
-pub limit_tells : (l : Limit) (r : Result (Unit {0}) Cause) → IfErr r (λ c. c ≡ cause.Limit l) → IfErr r (λ c. l ≢ limit.Registers) → IfErr r (TellsCode (code.Limit l))
-limit_tells l (Ok x) h n = tt
-limit_tells l (Err c) h n = (n, h)
-
-pub registers_are : (e : GenRefusal) (l : Limit) (r : Result (Unit {0}) Cause) → e ≡ code.Limit l → OnOk r (l ≡ limit.Registers) → OnOk r (e ≡ code.Limit limit.Registers)
-registers_are e l (Ok x) is h = is ∙ ap code.Limit h
-registers_are e l (Err c) is h = tt
-
--- a refusal of code that is told, and one that is not
-pub code_told : (b : Nodes) (ds : List Declared) (q : Typed) (gs : List Goal) (e : GenRefusal) (r : Result (Unit {0}) Cause) → QueryPasses b ds q gs e → IfErr r (TellsCode e) → IfErr r (IsOverCode b ds q gs)
-code_told b ds q gs e (Ok x) passes h = tt
-code_told b ds q gs e (Err c) passes h = (e, passes, h)
-
-pub registers_within : (b : Nodes) (ds : List Declared) (q : Typed) (gs : List Goal) (e : GenRefusal) (r : Result (Unit {0}) Cause) → QueryPasses b ds q gs e → OnOk r (e ≡ code.Limit limit.Registers) → OnOk r (QueryWithin b ds q gs)
-registers_within b ds q gs e (Ok x) passes is = subst (QueryPasses b ds q gs) is passes
-registers_within b ds q gs e (Err c) passes is = tt
 
 -- a limit of flattening is that on clauses
 pub limit_told : (t : Term) (l : Limit) → IsOver (AssumesManyClauses t) (refusal.Limit l) → IsOverClauses t (cause.Limit l)

@@ -1,5 +1,5 @@
 -- Why the text of a query is refused: its first fault, in the order of tokens, tree, arguments, typing, form, clauses and code.
-use Rattle.std.specs.Prelude.{◌≡◌, ◌≢◌, ◌⊎◌, ℕ, List, codes, true}
+use Rattle.std.specs.Prelude.{◌≡◌, ◌⊎◌, ℕ, List, codes, true}
 use Rattle.lp_base.specs.declared.limit.Limit.TheVariants as limit
 use Rattle.lp_base.specs.declared.place.Spot.{Spot}
 use Rattle.lp_calculus.specs.Term.{Term}
@@ -54,9 +54,9 @@ IsUnformed names b q first c = (f : ModuleFault) × IsFormFault (declared_scheme
 abbrev pub IsOverClauses : Term → Cause → Type 0
 IsOverClauses t c = (c ≡ cause.Memory) ⊎ ((c ≡ cause.Limit limit.Clauses) × AssumesManyClauses t)
 
--- what is said of a limit of code; of that on registers nothing is said
+-- what is said of a limit of code
 abbrev pub TellsCode : GenRefusal → Cause → Type 0
-TellsCode (code.Limit l) c = (l ≢ limit.Registers) × (c ≡ cause.Limit l)
+TellsCode (code.Limit l) c = c ≡ cause.Limit l
 TellsCode code.Memory c = c ≡ cause.Memory
 
 -- their code passes a limit of code, or memory is wanting

@@ -1,5 +1,5 @@
 // A query, from its text to its typed formula.
-ghost use Rattle.std.specs.Prelude.{◌≡◌, ◌≢◌, ◌≤◌, ◌<◌, ◌⊎◌, ℕ, List, IfOk, IfErr, OnOk, codes, length, true};
+ghost use Rattle.std.specs.Prelude.{◌≡◌, ◌≤◌, ◌<◌, ◌⊎◌, ℕ, List, IfOk, IfErr, OnOk, codes, length, true};
 ghost use Rattle.lp_base.specs.declared.limits.TheConstants.{MAX_ARGUMENTS};
 ghost use Rattle.lp_calculus.specs.Term.{Term};
 ghost use Rattle.lp_term.specs.Nodes.{Extends, tree};
@@ -14,7 +14,7 @@ ghost use Rattle.lp_load.specs.Refused.{IsOverArguments, IsOverClauses, IsOverCo
 ghost use Rattle.lp_lines.specs.Placed.{IsCauseOf, IsOfText, IfSource};
 ghost use Rattle.lp_lines.specs.Refusals.{IsTextRefusal};
 
-use lp_base::{Limit, Memory, Spot};
+use lp_base::{Memory, Spot};
 use lp_build::Built;
 use lp_gen::{GenRefusal, generate_query};
 use lp_infer::type_query;
@@ -101,27 +101,14 @@ fn within_clauses(alloc: Global, bank: &mut Bank, typed: &Typed) -> Result<Vec<G
     }
 }
 
-// What is said of a limit of code: nothing of that on registers, which no definition counts yet.
-fn of_limit(limit: Limit) -> Result<(), Cause>
-    ensures same { IfErr result (λ c. c ≡ Cause.Limit limit) }
-    ensures other { IfErr result (λ _. limit ≢ Limit.Registers) }
-    ensures registers { OnOk result (limit ≡ Limit.Registers) }
-{
-    match limit {
-        Limit::Registers => Ok(()),
-        _ => Err(Cause::Limit(limit)),
-    }
-}
-
 // What is said where a query has no code.
-fn of_generator(refusal: GenRefusal) -> Result<(), Cause>
-    ensures refused { (text : List ℕ) → IfErr result (IsCauseOf text) }
-    ensures tells { IfErr result (TellsCode refusal) }
-    ensures registers { OnOk result (refusal ≡ GenRefusal.Limit Limit.Registers) }
+fn of_generator(refusal: GenRefusal) -> Cause
+    ensures refused { (text : List ℕ) → IsCauseOf text result }
+    ensures tells { TellsCode refusal result }
 {
     match refusal {
-        GenRefusal::Limit(limit) => of_limit(limit),
-        GenRefusal::Memory => Err(Cause::Memory),
+        GenRefusal::Limit(limit) => Cause::Limit(limit),
+        GenRefusal::Memory => Cause::Memory,
     }
 }
 
@@ -139,7 +126,7 @@ fn within_code(
 {
     match generate_query(alloc, bank, constants, typed, goals) {
         Ok(_) => Ok(()),
-        Err(refusal) => of_generator(refusal),
+        Err(refusal) => Err(of_generator(refusal)),
     }
 }
 

@@ -1,4 +1,4 @@
-use Rattle.std.proofs.Common.{◌≡◌, ◌+◌, ◌++◌, ◌∷◌, [], length, refl, sym, subst, arith}
+use Rattle.std.proofs.Common.{◌+◌, ◌++◌, ◌∷◌, [], length, refl, sym, subst, arith}
 use Rattle.std.specs.Prelude.{All}
 use Rattle.std.proofs.lemmas.List.{length_push, take_all}
 use Rattle.std.proofs.lemmas.Iterator.Adapters.{YieldsList-from_vec}
@@ -6,7 +6,6 @@ use Rattle.std.proofs.lemmas.Iterator.Consumers.{YieldsList-at, YieldsList-end, 
 use Rattle.lp_lemmas.proofs.Results.{passed_up}
 use Rattle.lp_sig.specs.Refusals.{IsAt}
 use Rattle.lp_module.specs.Sentences.{AreWithin}
-use Rattle.lp_module.specs.declared.module.Module.{Module}
 use Rattle.lp_build.specs.Faults.{IsOfTexts}
 use Rattle.lp_build.specs.Uncoded.{IsFirstUncoded, IsWithinCode}
 use Rattle.lp_build.proofs.Uncoding.{at_all, coded_more, coded_none, first_uncoded}
@@ -31,7 +30,7 @@ returns-in_err-check_code-clause-cause c = λ within.
     let turn = YieldsList-turn road done c.loop-module.module-iterator c.loop-module.yielded_by c.next.result c.next.new.self c.in-Some.module c.in-Some.is c.next.ensures.steps in
     let at : IsAt c.args.modules.items (length done) c.in-Some.module = (turn.0, sym turn.1) in
     passed_up c.from_residual.result c.in_err-check_code.field-0.0 (IsFirstUncoded c.args.modules.items) c.from_residual.ensures.1
-    (first_uncoded c.args.modules.items (length done) c.in-Some.module c.in_err-check_code.field-0.0 at c.in_err-check_code.ensures.other (c.loop-module.invariant within)
+    (first_uncoded c.args.modules.items (length done) c.in-Some.module c.in_err-check_code.field-0.0 at (c.loop-module.invariant within)
     (c.in_err-check_code.ensures.cause (at_all (λ m. AreWithin m.bank m.clauses.items) c.args.modules.items (length done) c.in-Some.module at within)))
 
 pub returns-in_err-check_code-clause-refused : goal.returns-in_err-check_code-clause-refused

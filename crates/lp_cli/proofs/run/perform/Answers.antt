@@ -44,7 +44,7 @@ pub returns-in-Files-clause-does : goal.returns-in-Files-clause-does
 returns-in-Files-clause-does g c =
     becomes _ (asked_of c.args.asked) c.write_file.result (ap asked_of c.in-Files.is)
     (does_files c.in-Files.command c.in-Files.name.now c.write_file.result c.write_file.ensures.ran c.write_file.ensures.leaves
-    c.write_file.ensures.made)
+    c.write_file.ensures.makes)
 
 pub returns-in-Solve-clause-does : goal.returns-in-Solve-clause-does
 returns-in-Solve-clause-does g c =

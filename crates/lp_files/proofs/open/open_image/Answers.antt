@@ -1,5 +1,12 @@
+use Rattle.std.proofs.Common.{◌∙◌, Err, refl, subst}
+use Rattle.lp_base.specs.declared.limit.Limit.TheVariants as limit
+use Rattle.lp_base.specs.declared.limits.TheConstants.{MAX_IMAGE_BYTES}
+use Rattle.lp_lemmas.proofs.Results.{passed_up}
+use Rattle.lp_lines.specs.Looked.{Found}
+use Rattle.lp_lines.specs.declared.refusal.Refusal.TheVariants as refusal
 use Rattle.lp_lines.proofs.Looking.{looked_judged}
-use Rattle.std.proofs.Common.{◌∙◌}
+use Rattle.lp_files.specs.Unopened.{IsUnopenedImage, want_of_memory, of_image_file}
+use Rattle.lp_files.proofs.Unopening.{image_misread}
 use Rattle.lp_files.proofs.Making.{image_held}
 use Rattle.lp_files.proofs.open.open_image.Goals as goal
 
@@ -11,3 +18,17 @@ returns-clause-held g c =
     let held = g.F.Folder.held c.args.folder.now in
     image_held held c.args.name.now c.as_str.result.now c.as_slice.result.now c.in_ok-bytes.bytes.items c.judged_image.result
     (c.as_str.ensures.value ∙ c.in_ok-file.ensures) c.as_slice.ensures.value c.in_ok-bytes.ensures.there c.judged_image.ensures.spelled
+
+pub returns-in_err-file-clause-cause : goal.returns-in_err-file-clause-cause
+returns-in_err-file-clause-cause g c = passed_up c.from_residual.result refusal.Memory (IsUnopenedImage (g.F.Folder.held c.args.folder.now) c.args.name.now) c.from_residual.ensures.1 (want_of_memory refl)
+
+pub returns-in_err-bytes-clause-cause : goal.returns-in_err-bytes-clause-cause
+returns-in_err-bytes-clause-cause g c =
+    let held = g.F.Folder.held c.args.folder.now in
+    passed_up c.from_residual.result c.in_err-bytes.field-0.0 (IsUnopenedImage held c.args.name.now) c.from_residual.ensures.1
+    (of_image_file (subst (λ f. Found f MAX_IMAGE_BYTES limit.Image held (Err c.in_err-bytes.field-0.0)) (c.as_str.ensures.value ∙ c.in_ok-file.ensures) c.in_err-bytes.ensures.unread))
+
+pub returns-clause-cause : goal.returns-clause-cause
+returns-clause-cause g c =
+    image_misread (g.F.Folder.held c.args.folder.now) c.args.name.now c.as_str.result.now c.as_slice.result.now c.in_ok-bytes.bytes.items c.judged_image.result
+    (c.as_str.ensures.value ∙ c.in_ok-file.ensures) c.as_slice.ensures.value c.in_ok-bytes.ensures.there c.judged_image.ensures.cause

@@ -28,12 +28,23 @@ returns-in-Err-clause-ran g c = ran_told c.in-Err.refusal c.tell.result c.in-Err
 pub returns-in-Err-clause-leaves : goal.returns-in-Err-clause-leaves
 returns-in-Err-clause-leaves g c = leaves_told c.in-Err.refusal c.tell.result c.in-Err.ensures.looked c.tell.ensures.said c.tell.ensures.faults
 
-pub returns-in-Ok-clause-made : goal.returns-in-Ok-clause-made
-returns-in-Ok-clause-made g c = λ e.
-    written_made _ _ c.args.command c.args.name.now _ c.as_slice.result.now c.in-Ok.ready.bytes.items c.in-Ok.ensures.made c.as_slice.ensures.value c.in-Ok.ensures.target.file_is
-    (subst (λ told. IfSome told (λ old. IfSome (g.F.Folder.held c.put.new.folder) (Puts (string_bytes c.in-Ok.ready.target.file) c.as_slice.result.now old))) c.in-Ok.ensures.looked.same
-    (c.put.ensures.bytes (λ f. cc) (λ f. cc)))
+pub returns-in-Ok-clause-makes : goal.returns-in-Ok-clause-makes
+returns-in-Ok-clause-makes g c = record {
+  made = λ e.
+      written_made _ _ c.args.command c.args.name.now _ c.as_slice.result.now c.in-Ok.ready.bytes.items c.in-Ok.ensures.made c.as_slice.ensures.value c.in-Ok.ensures.target.file_is
+      (subst (λ told. IfSome told (λ old. IfSome (g.F.Folder.held c.put.new.folder) (Puts (string_bytes c.in-Ok.ready.target.file) c.as_slice.result.now old))) c.in-Ok.ensures.looked.same
+      (c.put.ensures.bytes (λ f. cc) (λ f. cc)));
+  refused = λ d w m. absurd (d (c.put.ensures.ends w m));
+}
 
-pub returns-in-Err-clause-made : goal.returns-in-Err-clause-made
-returns-in-Err-clause-made g c = λ e. absurd (not_otherwise c.tell.result (status_of c.in-Err.refusal) variant.Done (λ f. (c.tell.ensures.said f).0) (λ f. cc)
-    (never_done c.in-Err.refusal c.in-Err.ensures.looked.kind) e)
+pub returns-in-Err-clause-makes : goal.returns-in-Err-clause-makes
+returns-in-Err-clause-makes g c = record {
+  made = λ e. absurd (not_otherwise c.tell.result (status_of c.in-Err.refusal) variant.Done (λ f. (c.tell.ensures.said f).0) (λ f. cc)
+      (never_done c.in-Err.refusal c.in-Err.ensures.looked.kind) e);
+  refused = λ d w m. record {
+    refusal = c.in-Err.refusal;
+    cause = c.in-Err.ensures.cause;
+    status_is = (c.tell.ensures.said w).0;
+    appended = (c.tell.ensures.said w).1;
+  };
+}

@@ -28,3 +28,12 @@ returns-in-Err-Failed-clause-bytes g c = λ n m. absurd (n c.tell_fault.ensures.
 
 pub returns-in-Err-Memory-clause-bytes : goal.returns-in-Err-Memory-clause-bytes
 returns-in-Err-Memory-clause-bytes g c = λ n m. absurd (m (c.say_memory.ensures.said n))
+
+pub returns-in-Ok-clause-ends : goal.returns-in-Ok-clause-ends
+returns-in-Ok-clause-ends g c = λ n m. (c.say.ensures.said n).0
+
+pub returns-in-Err-Failed-clause-ends : goal.returns-in-Err-Failed-clause-ends
+returns-in-Err-Failed-clause-ends g c = λ n m. absurd (n c.tell_fault.ensures.is_fault)
+
+pub returns-in-Err-Memory-clause-ends : goal.returns-in-Err-Memory-clause-ends
+returns-in-Err-Memory-clause-ends g c = λ n m. absurd (m (c.say_memory.ensures.said n))

@@ -3,7 +3,7 @@ use Rattle.std.proofs.lemmas.List.{length-map}
 use Rattle.lp_code.specs.declared.object.Object.{Object}
 use Rattle.lp_places.specs.Places.{HasPlaces}
 use Rattle.lp_link.specs.Uses.{names_of}
-use Rattle.lp_files.proofs.Gathering.{names_pushed}
+use Rattle.lp_files.proofs.Ordering.{names_pushed}
 use Rattle.lp_files.proofs.link.Reading.take.Goals as goal
 
 pub returns-clause-found : goal.returns-clause-found
