@@ -113,7 +113,7 @@ module _ (b : Nodes) (ds : List Declared) where
       ⊎_elim before (λ y. f (subst (λ T. T) (sym (clause_same b ds c)) y))
       (some_split (map (clause_of b) (take i cs)) (clause_of b c) (subst (SomeOfClauses (constant_function b ds)) (ap (map (clause_of b)) next ∙ map-append (clause_of b) (take i cs) (c ∷ [])) x))
 
-  pub some_there : (cs : List code.Clause) (i : ℕ) (c : code.Clause) → slice_get cs i ≡ Some c → SomeOfClause (constant_function b ds) (clause_of b c) → ClausesFull b ds cs
+  some_there : (cs : List code.Clause) (i : ℕ) (c : code.Clause) → slice_get cs i ≡ Some c → SomeOfClause (constant_function b ds) (clause_of b c) → ClausesFull b ds cs
   some_there [] i c at x = absurd (no_clause at)
     where
       no_clause : ◌≡◌ {A = Option code.Clause} None (Some c) → ⊥

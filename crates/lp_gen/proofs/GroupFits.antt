@@ -1,21 +1,21 @@
 -- A record of a group passes what it may have just where the clause or query says so.
-use Rattle.std.proofs.Common.{◌≡◌, ◌∙◌, ◌⊎◌, inl, inr, ⊎_elim, ◌≤◌, ◌<◌, ℕ, zero, suc, ◌+◌, ◌-◌, ◌^◌, List, [], ◌∷◌, ◌++◌, take, reverse, length, map, Bool, true, false, Option, Some, None, ap, refl, sym, subst, arith}
-use Rattle.std.specs.Prelude.{All, is_none, if◌then◌else◌, sum_by, slice_get, nat_eq, option_map}
-use Rattle.std.proofs.lemmas.List.{length-append, length-reverse, take_all}
-use Rattle.std.proofs.lemmas.List.Elements.{All-nil, All-append}
+use Rattle.std.proofs.Common.{◌≡◌, ◌∙◌, ◌⊎◌, inl, inr, ⊎_elim, ◌≤◌, ◌<◌, ℕ, zero, suc, ◌+◌, ◌-◌, ◌^◌, List, [], ◌++◌, take, reverse, length, map, false, Option, Some, None, ap, refl, sym, subst, arith}
+use Rattle.std.specs.Prelude.{All, is_none, if◌then◌else◌, slice_get, nat_eq, option_map}
+use Rattle.std.proofs.lemmas.List.{length-reverse, take_all}
+use Rattle.std.proofs.lemmas.List.Elements.{All-nil}
 use Rattle.std.proofs.lemmas.Option.{slice_get_within}
 use Rattle.lp_lemmas.proofs.Lists.{get_append}
 use Rattle.indexmap.specs.IndexMap.{IndexMap, index_map_len}
 use Rattle.lp_calculus.specs.Types.{Ty}
 use Rattle.lp_term.specs.Nodes.{Nodes, tree, type_tree}
-use Rattle.lp_model.specs.Flat.{Goals, Clause, Clauses, clause, no_clauses, clauses}
-use Rattle.lp_model.specs.Flattened.{goals_of, clause_of, clauses_of}
+use Rattle.lp_model.specs.Flat.{Goals, Clause, Clauses, clause, clauses}
+use Rattle.lp_model.specs.Flattened.{goals_of, clause_of}
 use Rattle.lp_code.specs.declared.record.Record.{Record}
 use Rattle.lp_code.specs.declared.instruction.Instr.{Instr}
 use Rattle.lp_code.specs.Symbolic.{Tables as CodeTables}
 use Rattle.lp_code.specs.Denote.{home_of}
 use Rattle.lp_gen.specs.Steps.{Seen, Around, constant_function}
-use Rattle.lp_gen.specs.Registers.{Amount, both, plain_code, nothing, started, Passes, own_types_take, variables_take, head_takes, behind_head, unset_take, with_unset, in_body, start_of, count_given, count_standing, count_variables, goals_take, clause_takes, nothing_around, SomeOfGoals, SomeAssumed}
+use Rattle.lp_gen.specs.Registers.{Amount, both, plain_code, nothing, started, Passes, own_types_take, variables_take, head_takes, behind_head, unset_take, with_unset, in_body, start_of, count_given, count_standing, count_variables, goals_take, nothing_around, SomeOfGoals, SomeAssumed}
 use Rattle.lp_gen.specs.declared.environment.Variable.{Variable}
 use Rattle.lp_gen.specs.declared.plan.Assumption.{Assumption}
 use Rattle.lp_gen.specs.declared.plan.Due.{Due}
@@ -30,17 +30,19 @@ use Rattle.lp_gen.specs.inner.Bodies.{new_level}
 use Rattle.lp_gen.specs.inner.GoalCode.{numbers, GoalsCode}
 use Rattle.lp_gen.specs.inner.Entering.{types_at}
 use Rattle.lp_gen.specs.inner.OpenGoals.{goals_steps, plain_goals}
-use Rattle.lp_gen.specs.inner.BodyCode.{Suppositions, AreStarts, started_at, AreAllSet, HoldStarts, AssumedBy, records_named, steps_of, next_all, AreNext, starts_all}
-use Rattle.lp_gen.specs.inner.BodyUsing.{block_steps_take, body_code_takes}
+use Rattle.lp_gen.specs.inner.BodyCode.{Suppositions, AreStarts, started_at, AreAllSet, HoldStarts, AssumedBy, records_named, steps_of, next_all, AreNext}
+use Rattle.lp_gen.specs.inner.BodyUsing.{block_steps_take}
 use Rattle.lp_gen.specs.inner.Recorded.{RecordWritten, own_count, index_types, head_in, front_behind, types_taken, front_takes, start_around, own_around, body_around, record_takes, RecordTakes}
 use Rattle.lp_gen.specs.inner.Planned.{clauses_length, GoalsHave, IsAtLevel, AreCaptured, AreOnly}
-use Rattle.lp_gen.specs.inner.Planning.{AllCaptured, Extends, HoldClauses, AssumptionAt, PartPlanned, AllPlanned, ArePlanned, body_of}
+use Rattle.lp_gen.specs.inner.Planning.{AllCaptured, HoldClauses, AssumptionAt, PartPlanned, AllPlanned, ArePlanned, body_of}
 use Rattle.lp_gen.specs.inner.Groups.{IsStartOf, AllWritten, OriginFull}
-use Rattle.lp_gen.proofs.Alike.{alike_itself, alike_then, seen_itself, same_length, count_same, in_body_same, start_same, standing_same, with_unset_same, unset_same, goals_same, some_goals_same, clause_same}
+use Rattle.lp_gen.proofs.Alike.{alike_then, seen_itself, count_same, in_body_same, start_same, standing_same, with_unset_same, goals_same}
 use Rattle.lp_gen.proofs.Using.{same_amount}
+use Rattle.lp_gen.proofs.BodySteps.{numbers_length}
 use Rattle.lp_gen.proofs.CodeMapped.{goals_mapped}
 use Rattle.lp_gen.proofs.Filling.{front_takes_same, starts_well, fronted_alike, fronted_level}
 use Rattle.lp_gen.proofs.GoalsUsed.{assumption_standing, steps_take_goals}
+use Rattle.lp_gen.proofs.GroupParts.{numbers_from, clause_low, written_ends, planned_at, take_at, take_low, clause_amount, SomeInClause, assumed_put, assumed_found}
 use Rattle.lp_gen.proofs.GroupTold.{At, written_length, all_at, all_end, supposed, start_at, count_at, clauses_in_place, three, one_only, have_map, there_is, clause_found, no_start, All-at, from_none}
 use Rattle.lp_gen.proofs.Keeping.{front_in_body, unset_count}
 use Rattle.lp_gen.proofs.OwnPlaces.{index_types_count}
@@ -52,95 +54,6 @@ use Rattle.lp_gen.proofs.Regrouped.{regrouped, regrouped_steps, regrouped_ends, 
 use Rattle.lp_gen.proofs.StartsAlike.{started_alike}
 use Rattle.lp_gen.proofs.Tops.{clause_is, clauses_many}
 use Rattle.lp_gen.proofs.TypeWorks.{map_length}
-use Rattle.lp_gen.proofs.WrittenTypes.{first_same}
-
--- numbers one after the other
-
-numbers_length : (q n : ℕ) → length (numbers q n) ≡ n
-numbers_length q zero = refl
-numbers_length q (suc n) = ap suc (numbers_length (suc q) n)
-
-numbers_from : (q m n k : ℕ) → numbers q n ≡ numbers m k → 0 < n → q ≡ m
-numbers_from q m zero k e lt = absurd (omega (arith, lt))
-numbers_from q m (suc n) zero e lt = let z = ap length e in let y = numbers_length (suc q) n in absurd (omega (arith, z, y))
-numbers_from q m (suc n) (suc k) e lt = first_same q m (numbers (suc q) n) (numbers (suc m) k) e
-
--- some of the clauses that are assumed
-
-module _ (K : ℕ → List Ty → Ty) (v : ℕ) where
-  abbrev pub clause_amount : Around → Clause → Amount
-  clause_amount s (clause n vs h gs) = both (started v (count_given s.captured s.base)) (clause_takes K v s vs h gs)
-
-  abbrev pub SomeInClause : Around → Clause → Type 0
-  SomeInClause s (clause n vs h gs) = SomeOfGoals K v (in_body (with_unset s vs)) gs
-
-  pub assumed_put : (s : Around) (cs : Clauses) (j : ℕ) (c : Clause) → clause_at cs j ≡ Some c → Passes (clause_amount s c) ⊎ SomeInClause s c → SomeAssumed K v s cs
-  assumed_put s no_clauses j c at x = absurd (no_start c at)
-  assumed_put s (clauses (clause n vs h gs) cs) zero c at x = go (subst (λ d. Passes (clause_amount s d) ⊎ SomeInClause s d) (same_clause (clause n vs h gs) c at) x)
-    where
-      go : Passes (clause_amount s (clause n vs h gs)) ⊎ SomeInClause s (clause n vs h gs) → SomeAssumed K v s (clauses (clause n vs h gs) cs)
-      go (inl p) = inl p
-      go (inr p) = inr (inl p)
-  assumed_put s (clauses (clause n vs h gs) cs) (suc j) c at x = inr (inr (assumed_put s cs j c at x))
-
-  pub assumed_found : (s : Around) (cs : Clauses) → SomeAssumed K v s cs → (j : ℕ) × (c : Clause) × (clause_at cs j ≡ Some c) × (Passes (clause_amount s c) ⊎ SomeInClause s c)
-  assumed_found s no_clauses x = absurd x
-  assumed_found s (clauses (clause n vs h gs) cs) (inl p) = (0, clause n vs h gs, refl, inl p)
-  assumed_found s (clauses (clause n vs h gs) cs) (inr (inl p)) = (0, clause n vs h gs, refl, inr p)
-  assumed_found s (clauses (clause n vs h gs) cs) (inr (inr p)) = let x = assumed_found s cs p in (suc x.0, x.1, x.2, x.3)
-
-clause_low : (cs : Clauses) (j : ℕ) (c : Clause) → clause_at cs j ≡ Some c → j < clauses_length cs
-clause_low no_clauses j c at = absurd (no_start c at)
-clause_low (clauses d cs) zero c at = omega arith
-clause_low (clauses d cs) (suc j) c at = let z = clause_low cs j c at in omega (arith, z)
-
--- parts and records up to a place
-
-written_ends : {S : Type 0} (t : Tables) (us : List Due) (xs : List Assumption) (e : Extends xs t.assumptions.now) (low : t.first + length us < 2 ^ 32) (before starts : List (IndexMap ℕ Variable S))
-    (i n m q s : ℕ) (ps : List Part) (rs : List Record) → AllPlanned us xs i n m q s ps → AllWritten t before starts ps rs → length before ≡ n → All (AreAllSet t.bank.now) before →
-    (length starts ≡ m) × All (AreAllSet t.bank.now) starts
-written_ends t us xs e low before starts i n m q s [] rs a w many set = (ap length w.1 ∙ many ∙ a.0, subst (All (AreAllSet t.bank.now)) (sym w.1) set)
-written_ends t us xs e low before starts i n m q s (p ∷ ps) [] a w many set = absurd w
-written_ends {S} t us xs e low before starts i n m q s (p ∷ ps) (r ∷ rs) (k, l, a, ahead) (c, more, w, b, ws) many set =
-    let size : (more2 : List (IndexMap ℕ Variable S)) × (more ≡ [] ++ more2) × (length more2 ≡ starts_all t p.steps.items) × All (AreAllSet t.bank.now) more2 = w.body.written.1 in
-    let count = size.2 in
-    let same_more = ap length size.1 in
-    let next = (a.are_next t e low).2 in
-    let sum = length-append before more in
-    written_ends t us xs e low (before ++ more) starts (suc i) k m l s ps rs ahead ws (omega (arith, many, count, same_more, next, sum))
-    (All-append (AreAllSet t.bank.now) before more set (subst (All (AreAllSet t.bank.now)) (sym size.1) size.3))
-
--- a plan up to a part, and from there
-planned_at : (us : List Due) (xs : List Assumption) (i n m q s : ℕ) (ps : List Part) (k : ℕ) → AllPlanned us xs i n m q s ps → (n1 : ℕ) × (q1 : ℕ) × AllPlanned us xs i n n1 q q1 (take k ps) ×
-    ((p : Part) → slice_get ps k ≡ Some p → (n2 : ℕ) × (q2 : ℕ) × PartPlanned us xs (i + k) n1 n2 q1 q2 p)
-planned_at us xs i n m q s ps zero a = (n, q, (refl, refl), first ps a)
-  where
-    first : (ps : List Part) → AllPlanned us xs i n m q s ps → (p : Part) → slice_get ps 0 ≡ Some p → (n2 : ℕ) × (q2 : ℕ) × PartPlanned us xs (i + 0) n n2 q q2 p
-    first [] a p at = absurd (no_start p at)
-    first (y ∷ ps) (n2, q2, a, ahead) p at =
-        let same : y ≡ p = cc in
-        let z : i ≡ i + 0 = omega arith in
-        (n2, q2, subst (λ j. PartPlanned us xs j n n2 q q2 p) z (subst (PartPlanned us xs i n n2 q q2) same a))
-planned_at us xs i n m q s [] (suc k) a = (n, q, (refl, refl), λ p at. absurd (no_start p at))
-planned_at us xs i n m q s (y ∷ ps) (suc k) (n1, q1, a, ahead) =
-    let x = planned_at us xs (suc i) n1 m q1 s ps k ahead in (
-      x.0,
-      x.1,
-      (n1, q1, a, x.2),
-      λ p at. let y = x.3 p at in let z : suc i + k ≡ i + suc k = omega arith in (y.0, y.1, subst (λ j. PartPlanned us xs j x.0 y.0 x.1 y.1 p) z y.2),
-    )
-
-take_at : {X : Type 0} (xs : List X) (k i : ℕ) → i < k → slice_get (take k xs) i ≡ slice_get xs i
-take_at xs zero i lt = absurd (omega (arith, lt))
-take_at [] (suc k) i lt = refl
-take_at (x ∷ xs) (suc k) zero lt = refl
-take_at (x ∷ xs) (suc k) (suc i) lt = take_at xs k i (omega (arith, lt))
-
-take_low : {X : Type 0} (xs : List X) (k i : ℕ) → i < length (take k xs) → i < k
-take_low xs zero i lt = absurd (omega (arith, lt))
-take_low [] (suc k) i lt = absurd (omega (arith, lt))
-take_low (x ∷ xs) (suc k) zero lt = omega arith
-take_low (x ∷ xs) (suc k) (suc i) lt = let z = take_low xs k i (omega (arith, lt)) in omega (arith, z)
 
 module _ (S : Type 0) (t : Tables) (o1 : Origin) (us : List Due) (parts : List Part) (k : ℕ) (g : List Record) (starts : List (IndexMap ℕ Variable S)) (plan : ArePlanned o1 us parts t.assumptions.now)
     (w : AllWritten t [] starts (take k parts) g) (low : t.first + length parts < 2 ^ 32) (standing : AllCaptured t.bank.now t.assumptions.now) where

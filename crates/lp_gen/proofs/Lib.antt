@@ -115,6 +115,7 @@ mod Regrouped
 mod Filling
 mod Keeping
 mod Reaching
+mod GroupParts
 mod GroupFits
 mod FitsOrPasses
 mod AddFits
