@@ -1,10 +1,9 @@
 -- Records of a clause or query, and of clauses one after the other: whether one passes what it may have.
-use Rattle.std.proofs.Common.{◌≡◌, ◌∙◌, ◌⊎◌, inl, inr, ⊎_elim, ◌≤◌, ◌<◌, ℕ, zero, suc, ◌+◌, ◌-◌, ◌^◌, List, [], ◌∷◌, ◌++◌, take, map, length, Bor, Option, Some, None, ap, refl, sym, subst, arith}
-use Rattle.std.specs.Prelude.{slice_get, min}
+use Rattle.std.proofs.Common.{◌≡◌, ◌∙◌, ◌⊎◌, inl, inr, ⊎_elim, ◌≤◌, ◌<◌, ℕ, zero, suc, ◌+◌, ◌^◌, List, [], ◌∷◌, ◌++◌, take, map, length, Bor, Option, Some, None, ap, refl, sym, subst, arith}
+use Rattle.std.specs.Prelude.{slice_get}
 use Rattle.std.proofs.lemmas.List.{map-append, take_all}
 use Rattle.indexmap.specs.IndexMap.{index_map_len}
 use Rattle.lp_base.specs.declared.limit.Limit.TheVariants as limit
-use Rattle.lp_calculus.specs.Types.{Ty}
 use Rattle.lp_term.specs.Nodes.{Nodes, tree, type_tree}
 use Rattle.lp_term.proofs.Walks.{map_map}
 use Rattle.lp_model.specs.Flat.{Clause, clause}
@@ -30,7 +29,7 @@ use Rattle.lp_gen.specs.inner.Entering.{types_at}
 use Rattle.lp_gen.specs.inner.BodyCode.{AreAllSet}
 use Rattle.lp_gen.specs.inner.Fitting.{IsRefused}
 use Rattle.lp_gen.specs.inner.Groups.{Hasher, Kept, IsStartOf, AllWritten, PartFull, OriginFull}
-use Rattle.lp_gen.specs.inner.Planning.{AllCaptured, ArePlanned, origin_records}
+use Rattle.lp_gen.specs.inner.Planning.{AllCaptured, ArePlanned}
 use Rattle.lp_gen.specs.inner.Recorded.{own_count, start_around, RecordTakes}
 use Rattle.lp_gen.specs.inner.Variables.{OriginFits, of_record}
 use Rattle.lp_gen.proofs.FitsOrPasses.{origin_fits}

@@ -1,5 +1,5 @@
 -- What is taken does not depend on the registers of the variables around.
-use Rattle.std.proofs.Common.{◌⊎◌, inl, inr, ◌≡◌, ◌∙◌, ℕ, zero, suc, ◌+◌, ◌-◌, ◌^◌, List, [], ◌∷◌, ◌++◌, length, Bool, true, false, Option, Some, None, if◌then◌else◌, ap, refl, sym, subst, arith}
+use Rattle.std.proofs.Common.{inl, inr, ◌≡◌, ◌∙◌, ℕ, zero, suc, ◌+◌, ◌-◌, ◌^◌, List, [], ◌∷◌, ◌++◌, length, Bool, true, false, Option, Some, None, if◌then◌else◌, ap, refl, sym, subst}
 use Rattle.std.specs.Prelude.{min, nat_le, reverse, slice_get, option_and_then}
 use Rattle.lp_calculus.specs.Types.{Ty}
 use Rattle.lp_calculus.specs.Term.{Term, Atom, index, atom, abs, app, constant, integer, text, eigen, logic, param}
@@ -7,10 +7,10 @@ use Rattle.lp_calculus.specs.Typing.{o_type}
 use Rattle.lp_calculus.specs.Spine.{head_of, arguments}
 use Rattle.lp_model.specs.Flat.{Goal, Goals, Clauses, Atomic, Cut, Either, Exists, Forall, Assume, Not, no_goals, goals, clause, no_clauses, clauses}
 use Rattle.lp_gen.specs.Steps.{first_place, level_first, if_unset, from_of, to_of, Step, apply_last, abstract_last, make_variable, from_register, Seen, Around, one_step, marked, set_level, at_level, level_in, level_below}
-use Rattle.lp_gen.specs.Steps.{count_around, seen_in, Listed, listed, Headed, headed, index_listed, bound_listed, level_listed, found_listed, seen_listed, atom_listed, abstracted, as_head, with_argument, applied, type_or}
+use Rattle.lp_gen.specs.Steps.{Listed, listed, Headed, headed, index_listed, bound_listed, level_listed, found_listed, seen_listed, atom_listed, abstracted, as_head, with_argument, applied, type_or}
 use Rattle.lp_gen.specs.Steps.{bound_or, index_type, head_type, atom_function}
 use Rattle.lp_gen.specs.Registers.{past, Amount, nothing, both, step_takes, steps_take, term_takes, behind_term, terms_take, behind_terms, all_take, call_takes, plain_code, type_takes, call_of, goal_of_head, atom_takes}
-use Rattle.lp_gen.specs.Registers.{built_takes, atom_got, term_got, argument_by, argument_takes, atom_left, term_left, left_by_first, behind_argument, head_arguments_take, behind_arguments, head_takes, behind_head}
+use Rattle.lp_gen.specs.Registers.{built_takes, term_got, argument_by, argument_takes, term_left, left_by_first, behind_argument, head_arguments_take, behind_arguments, head_takes, behind_head}
 use Rattle.lp_gen.specs.Registers.{predicate_types_take, unset_takes, unset_take, variable_takes, behind_goal, behind_goals, unset, with_unset, in_clauses, start_of, one_given, count_given, count_standing, count_clauses}
 use Rattle.lp_gen.specs.Registers.{count_variables, with_variable, all_set, in_body, assume_takes, goal_takes, goals_take, variables_take, body_takes, clause_takes, started, Passes, SomeOfGoal, SomeOfGoals, SomeAssumed}
 use Rattle.lp_gen.specs.inner.Alike.{SameSeen, AllSame, IsAlike}

@@ -1,5 +1,5 @@
 -- What the functions of a body's code use.
-use Rattle.std.proofs.Common.{◌≡◌, ◌∙◌, ◌⊎◌, inl, inr, ℕ, zero, suc, ◌+◌, ◌*◌, ◌-◌, ◌<◌, ◌≤◌, List, [], ◌∷◌, ◌++◌, append_assoc, map, take, reverse, length, Option, Some, None, true, if◌then◌else◌, ap, refl, sym, subst, arith}
+use Rattle.std.proofs.Common.{◌≡◌, ◌∙◌, ◌⊎◌, inl, inr, ℕ, zero, suc, ◌+◌, ◌*◌, ◌<◌, ◌≤◌, List, [], ◌∷◌, ◌++◌, append_assoc, map, take, length, Option, Some, None, true, if◌then◌else◌, ap, refl, sym, subst, arith}
 use Rattle.std.specs.Prelude.{sum_by, slice_get, MatchOption, IfSome}
 use Rattle.std.proofs.lemmas.Bool.{lt-ltb}
 use Rattle.std.proofs.lemmas.List.{append-nil, length-append, reverse-append}
@@ -28,8 +28,8 @@ use Rattle.lp_gen.specs.inner.Doing.{AtomWritten}
 use Rattle.lp_gen.specs.inner.Bodies.{pushed}
 use Rattle.lp_gen.specs.inner.GoalCode.{quantified}
 use Rattle.lp_gen.specs.inner.OpenGoals.{cut_to, turn, end_either}
-use Rattle.lp_gen.specs.inner.BodyCode.{level_found, levels_found, AssumedBy, SomeOpened, AllOpened, BlockOpened, BlockEnded, Takes, mark_of}
-use Rattle.lp_gen.specs.inner.Using.{Uses, Lacks, for_types, for_terms, for_bytes, for_misfits, room, memory, AtMost}
+use Rattle.lp_gen.specs.inner.BodyCode.{level_found, levels_found, AssumedBy, SomeOpened, AllOpened, BlockOpened, BlockEnded, Takes}
+use Rattle.lp_gen.specs.inner.Using.{Uses, Lacks, for_terms, for_misfits, room, memory, AtMost}
 use Rattle.lp_gen.specs.inner.BodyUsing.{instr_takes, assumption_takes, block_step_takes, around_left, blocks_left, around_behind, blocks_behind, block_steps_take, block_counts, IsStepped, HasUsed, IsPatched}
 use Rattle.lp_gen.proofs.Using.{uses_nothing, uses_both, uses_same, same_amount, lacks_behind, lacks_then, lacks_in, plain_said, no_plain_code}
 use Rattle.lp_gen.proofs.Alike.{alike_at, same_length, same_joined, atom_goal_same, with_variable_same, itself_same}

@@ -1,5 +1,5 @@
 -- What a goal takes whose parts stand in registers: equations and orders have instructions of their own.
-use Rattle.std.proofs.Common.{◌≡◌, ◌∙◌, ℕ, zero, suc, ◌+◌, ◌*◌, List, [], ◌∷◌, length, Option, Some, None, ap, refl, subst}
+use Rattle.std.proofs.Common.{◌≡◌, ℕ, ◌+◌, ◌*◌, List, [], ◌∷◌, length, Option, Some, None, ap, refl, subst}
 use Rattle.std.specs.Prelude.{option_and_then}
 use Rattle.lp_standard.specs.Constants.{numbered}
 use Rattle.lp_standard.specs.declared.constant.Constant.{Constant}

@@ -1,7 +1,7 @@
 -- What a record takes up to its body, and as a whole.
-use Rattle.std.proofs.Common.{◌≡◌, ◌∙◌, ◌⊎◌, inl, inr, ◌≤◌, ◌<◌, ℕ, zero, suc, ◌+◌, ◌-◌, ◌^◌, List, [], ◌∷◌, ◌++◌, length, map, reverse, Bool, true, false, Option, Some, None, ap, refl, sym, subst, arith}
-use Rattle.std.specs.Prelude.{if◌then◌else◌, nat_le, is_none, slice_get, option_map}
-use Rattle.std.proofs.lemmas.Bool.{leb-true, le-leb, lt-leb}
+use Rattle.std.proofs.Common.{◌≡◌, ◌∙◌, inl, inr, ◌≤◌, ◌<◌, ℕ, suc, ◌+◌, ◌-◌, List, [], ◌∷◌, ◌++◌, length, map, reverse, Bool, true, false, Option, Some, None, ap, refl, sym, subst, arith}
+use Rattle.std.specs.Prelude.{if◌then◌else◌, is_none, slice_get, option_map}
+use Rattle.std.proofs.lemmas.Bool.{le-leb, lt-leb}
 use Rattle.std.proofs.lemmas.List.{length-append, reverse-append, reverse-reverse}
 use Rattle.indexmap.specs.IndexMap.{IndexMap}
 use Rattle.lp_calculus.specs.Types.{Ty}
@@ -9,7 +9,7 @@ use Rattle.lp_calculus.specs.Term.{Term}
 use Rattle.lp_term.specs.Nodes.{Nodes}
 use Rattle.lp_code.specs.declared.record.RecordHead.{RecordHead}
 use Rattle.lp_gen.specs.Steps.{Seen, Around, at_level}
-use Rattle.lp_gen.specs.Registers.{Amount, both, started, Passes, own_types_take, variables_take, head_takes, unset_take, unset, with_unset, in_body, all_set}
+use Rattle.lp_gen.specs.Registers.{Amount, both, started, Passes, own_types_take, variables_take, unset_take, unset, in_body, all_set}
 use Rattle.lp_gen.specs.declared.emitter.Emitter.{Emitter}
 use Rattle.lp_gen.specs.declared.environment.Environment.{Environment}
 use Rattle.lp_gen.specs.declared.environment.Variable.{Variable}
@@ -21,7 +21,7 @@ use Rattle.lp_gen.specs.declared.plan.Part.{Part}
 use Rattle.lp_gen.specs.declared.tables.Tables.{Tables}
 use Rattle.lp_gen.specs.inner.Alike.{SameSeen, AllSame, IsAlike}
 use Rattle.lp_gen.specs.inner.Listing.{around_of, seen}
-use Rattle.lp_gen.specs.inner.TermLaw.{as_set, AreSet, SameAround}
+use Rattle.lp_gen.specs.inner.TermLaw.{as_set, AreSet}
 use Rattle.lp_gen.specs.inner.Owned.{AreStarted}
 use Rattle.lp_gen.specs.inner.Written.{CodeOwns}
 use Rattle.lp_gen.specs.inner.Bodies.{IsShort, new_level}
@@ -34,7 +34,7 @@ use Rattle.lp_gen.specs.inner.Recorded.{own_of, own_count, index_types, head_in,
 use Rattle.lp_gen.specs.inner.BodyUsing.{body_code_takes}
 use Rattle.lp_gen.proofs.Alike.{same_joined, alike_itself, alike_then, unset_same, in_body_same, head_same, seen_itself}
 use Rattle.lp_gen.proofs.OwnMadeBy.{started_on}
-use Rattle.lp_gen.proofs.OwnPlaces.{OwnAre, own_are, index_types_count}
+use Rattle.lp_gen.proofs.OwnPlaces.{own_are, index_types_count}
 use Rattle.lp_gen.proofs.RecordRuns.{head_more, head_owns, own_all_set}
 use Rattle.lp_gen.proofs.Using.{uses_nothing, uses_both, uses_same, lacks_first, lacks_then}
 

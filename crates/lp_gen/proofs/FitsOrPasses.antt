@@ -1,16 +1,15 @@
 -- Each record of a clause or query has at most 65,535 variables of its own and of quantifiers, or some record passes what it may have.
-use Rattle.std.proofs.Common.{◌≡◌, ◌⊎◌, inl, inr, ◌≤◌, ◌<◌, ℕ, suc, ◌+◌, List, [], ◌∷◌, length, map, reverse, Bool, true, false, ap, refl, sym, subst, arith}
+use Rattle.std.proofs.Common.{◌≡◌, ◌⊎◌, inl, inr, ◌≤◌, ◌<◌, ℕ, ◌+◌, List, length, map, reverse, Bool, true, false, refl, arith}
 use Rattle.std.specs.Prelude.{nat_le}
 use Rattle.std.proofs.lemmas.Bool.{leb-true, leb-false}
 use Rattle.std.proofs.lemmas.List.{length-reverse}
 use Rattle.lp_calculus.specs.Types.{Ty}
-use Rattle.lp_calculus.specs.Term.{Term}
 use Rattle.lp_term.specs.Nodes.{Nodes, tree, type_tree}
 use Rattle.lp_model.specs.Flat.{Goal, Goals, Clauses, Atomic, Cut, Either, Exists, Forall, Assume, Not, no_goals, goals, clause, no_clauses, clauses}
 use Rattle.lp_model.specs.Flattened.{goals_of}
 use Rattle.lp_model.specs.declared.program.Declared.{Declared}
 use Rattle.lp_gen.specs.Steps.{Around, constant_function}
-use Rattle.lp_gen.specs.Registers.{with_variable, behind_goal, behind_head, in_body, with_unset, start_of, nothing_around, goal_takes, goals_take, clause_takes, SomeOfGoal, SomeOfGoals, SomeAssumed}
+use Rattle.lp_gen.specs.Registers.{with_variable, behind_goal, behind_head, in_body, with_unset, start_of, nothing_around, goal_takes, goals_take, SomeOfGoal, SomeOfGoals, SomeAssumed}
 use Rattle.lp_gen.specs.declared.plan.Origin.{Origin}
 use Rattle.lp_gen.specs.declared.plan.Origin.TheVariants as origin
 use Rattle.lp_gen.specs.inner.Entering.{types_at}

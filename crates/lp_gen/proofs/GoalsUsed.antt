@@ -1,12 +1,11 @@
 -- What the code of a body takes, step by step, is what its goals take.
-use Rattle.std.proofs.Common.{◌≡◌, ◌∙◌, ℕ, zero, suc, ◌+◌, ◌-◌, ◌<◌, List, [], ◌∷◌, ◌++◌, append_assoc, map, take, length, Bool, true, false, true≢false, Option, Some, None, if◌then◌else◌, ap, refl, sym, subst, arith}
+use Rattle.std.proofs.Common.{◌≡◌, ◌∙◌, ℕ, zero, suc, ◌+◌, ◌-◌, ◌<◌, List, [], ◌∷◌, ◌++◌, append_assoc, take, length, Bool, true, false, true≢false, Option, Some, None, if◌then◌else◌, ap, refl, sym, subst, arith}
 use Rattle.std.specs.Prelude.{nat_eq, nat_lt, ◌||◌, slice_get}
 use Rattle.std.specs.List.{IsDistinct, AllByRecursion}
 use Rattle.std.proofs.lemmas.Bool.{eq-eqb, ne_eqb, ltb-true, ltb-false}
-use Rattle.std.proofs.lemmas.List.{append-nil, length-append}
+use Rattle.std.proofs.lemmas.List.{append-nil}
 use Rattle.lp_calculus.specs.Types.{Ty}
 use Rattle.lp_model.specs.Flat.{Goal, Goals, Clauses, Atomic, Cut, Either, Exists, Forall, Assume, Not, no_goals, goals, no_clauses, clauses}
-use Rattle.lp_model.specs.Flattened.{clauses_of}
 use Rattle.lp_code.specs.States.{member}
 use Rattle.lp_gen.specs.Steps.{Seen, Around, at_level}
 use Rattle.lp_gen.specs.Registers.{Amount, nothing, both, plain_code, atom_takes, variable_takes, assume_takes, with_variable, behind_goal, behind_goals, count_variables, in_clauses, start_of, one_given, count_given, count_standing, count_clauses, goal_takes, goals_take}

@@ -8,7 +8,7 @@ use Rattle.lp_lemmas.proofs.Lists.{get_append}
 use Rattle.indexmap.specs.IndexMap.{IndexMap, index_map_len}
 use Rattle.lp_calculus.specs.Types.{Ty}
 use Rattle.lp_term.specs.Nodes.{Nodes, tree, type_tree}
-use Rattle.lp_model.specs.Flat.{Goals, Clause, Clauses, clause, clauses}
+use Rattle.lp_model.specs.Flat.{Goals, Clause, Clauses, clause}
 use Rattle.lp_model.specs.Flattened.{goals_of, clause_of}
 use Rattle.lp_code.specs.declared.record.Record.{Record}
 use Rattle.lp_code.specs.declared.instruction.Instr.{Instr}

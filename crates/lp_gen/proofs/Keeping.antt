@@ -1,13 +1,13 @@
 -- Behind terms and heads the same variables stand around: only more of them are set.
-use Rattle.std.proofs.Common.{◌≡◌, ◌∙◌, ℕ, ◌+◌, ◌-◌, List, [], ◌∷◌, length, reverse, Bool, true, false, Option, Some, None, ap, refl, sym, subst}
+use Rattle.std.proofs.Common.{◌≡◌, ◌∙◌, ℕ, ◌-◌, List, [], ◌∷◌, length, reverse, Bool, true, false, Option, Some, None, ap, refl}
 use Rattle.std.specs.Prelude.{nat_le, if◌then◌else◌, slice_get}
 use Rattle.std.proofs.lemmas.List.{length-reverse}
 use Rattle.lp_calculus.specs.Types.{Ty}
 use Rattle.lp_calculus.specs.Term.{Term, Atom, index, atom, abs, app, constant, integer, text, eigen, logic, param}
 use Rattle.lp_calculus.specs.Typing.{o_type}
 use Rattle.lp_calculus.specs.Spine.{head_of, arguments}
-use Rattle.lp_gen.specs.Steps.{from_of, to_of, Seen, Around, at_level, level_in, set_level, marked, one_step, make_variable, from_register, seen_listed, found_listed, level_listed, bound_listed, index_listed, atom_listed, listed, headed, head_type, first_place}
-use Rattle.lp_gen.specs.Registers.{behind_term, atom_left, term_left, left_by_first, behind_argument, behind_arguments, behind_head, all_set, in_body, unset, with_unset}
+use Rattle.lp_gen.specs.Steps.{from_of, to_of, Seen, Around, at_level, level_in, set_level, marked, one_step, make_variable, from_register, found_listed, level_listed, bound_listed, atom_listed, listed, headed, head_type, first_place}
+use Rattle.lp_gen.specs.Registers.{term_left, left_by_first, behind_argument, behind_arguments, all_set, in_body, unset, with_unset}
 use Rattle.lp_gen.specs.inner.Recorded.{front_behind}
 use Rattle.lp_gen.proofs.AroundSet.{marked_length}
 

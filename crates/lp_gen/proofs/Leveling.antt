@@ -1,5 +1,5 @@
 -- How many variables are around the goals of a plan, and that a record that fits is not refused.
-use Rattle.std.proofs.Common.{◌≡◌, ◌∙◌, ◌≤◌, ◌<◌, ℕ, zero, suc, ◌+◌, ◌-◌, ◌*◌, List, [], ◌∷◌, ◌++◌, All, append_assoc, length, map, Bor, Vec, Global, Option, Some, None, ap, refl, sym, subst, arith, inl, inr, ◌⊎◌, ⊎_elim}
+use Rattle.std.proofs.Common.{◌≡◌, ◌∙◌, ◌≤◌, ◌<◌, ℕ, zero, suc, ◌+◌, ◌-◌, ◌*◌, List, [], ◌∷◌, ◌++◌, All, append_assoc, length, Bor, Vec, Global, Some, ap, refl, sym, subst, arith, ⊎_elim}
 use Rattle.std.specs.Prelude.{slice_get}
 use Rattle.std.proofs.lemmas.List.Elements.{All-nil, All-cons, All-append, All-head, All-tail}
 use Rattle.lp_term.specs.Nodes.{Nodes, tree, type_tree}
@@ -8,8 +8,8 @@ use Rattle.lp_term.specs.declared.node.TypeId.{TypeId}
 use Rattle.lp_model.specs.declared.clause.Goal as code
 use Rattle.lp_model.specs.declared.clause.Goal.{Goal}
 use Rattle.lp_model.specs.declared.clause.Clause.{Clause}
-use Rattle.lp_model.specs.Flat.{Goal as FlatGoal, Atomic, Cut, Either, Exists, Forall, Assume, Not, Clauses, clause, clauses, no_clauses}
-use Rattle.lp_model.specs.Flattened.{goal_of, goals_of, clause_of, clauses_of}
+use Rattle.lp_model.specs.Flat.{Goal as FlatGoal, Atomic, Cut, Either, Exists, Forall, clauses}
+use Rattle.lp_model.specs.Flattened.{goal_of, goals_of, clauses_of}
 use Rattle.lp_base.specs.declared.limit.Limit.TheVariants as limit
 use Rattle.lp_gen.specs.declared.fault.GenRefusal.TheVariants as told
 use Rattle.lp_gen.specs.inner.Limiting.{IsOfPlan}
@@ -22,7 +22,7 @@ use Rattle.lp_gen.specs.declared.plan.Task.{Task}
 use Rattle.lp_gen.specs.declared.plan.Task.TheVariants as task
 use Rattle.lp_gen.specs.declared.plan.Origin.{Origin}
 use Rattle.lp_gen.specs.declared.plan.Origin.TheVariants as origin
-use Rattle.lp_gen.specs.inner.Planning.{AreDue, IsDue, IsAssumed, Todo, due_goals, due_end, todo_of, todos, body_of}
+use Rattle.lp_gen.specs.inner.Planning.{AreDue, IsAssumed, Todo, due_goals, due_end, todo_of, todos, body_of}
 use Rattle.lp_gen.specs.inner.Recorded.{own_count}
 use Rattle.lp_gen.specs.inner.Variables.{goal_binds, goals_bind, GoalFits, GoalsFit, ClausesFit, OriginFits, DueFits, todo_binds, TodoFits, AllLow, IsLeveled, StaysLeveled, Spreads, HasSpread, AreLow, IsFull, of_record}
 use Rattle.lp_lemmas.proofs.Options.{one_value}

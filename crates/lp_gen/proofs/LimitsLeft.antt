@@ -4,7 +4,7 @@ use Rattle.std.specs.Prelude.{nat_lt, sum_by, if◌then◌else◌}
 use Rattle.std.proofs.lemmas.Bool.{ltb-true, ltb-false, lt-ltb}
 use Rattle.std.proofs.lemmas.List.Sums.{sum_by-cons}
 use Rattle.lp_base.specs.declared.limit.Limit.TheVariants as limit
-use Rattle.lp_calculus.specs.Term.{Term, Atom, index, atom, app, abs, apply, constant, integer, text, eigen, logic, param}
+use Rattle.lp_calculus.specs.Term.{Term, Atom, index, atom, app, abs, apply}
 use Rattle.lp_term.specs.Nodes.{Nodes, tree, type_tree, node_tree}
 use Rattle.lp_term.specs.Shapes.{term_shape}
 use Rattle.lp_term.specs.Walk.{size}

@@ -1,11 +1,11 @@
 -- Clauses of which there is code pass no limit but those of code: strings, records and registers.
-use Rattle.std.proofs.Common.{◌≡◌, ◌≤◌, ◌<◌, ℕ, zero, suc, ◌+◌, List, [], ◌∷◌, length, map, Bool, true, false, Option, Some, None, refl, arith}
-use Rattle.std.specs.Prelude.{All, max, nat_eq, if◌then◌else◌}
+use Rattle.std.proofs.Common.{◌≡◌, ◌≤◌, ℕ, zero, suc, ◌+◌, List, [], ◌∷◌, length, map, Bool, true, false, Option, Some, None, refl, arith}
+use Rattle.std.specs.Prelude.{All, nat_eq, if◌then◌else◌}
 use Rattle.std.proofs.lemmas.Bool.{eqb-true}
 use Rattle.std.proofs.lemmas.List.Elements.{All-head, All-tail}
 use Rattle.lp_base.specs.declared.limit.Limit.TheVariants as limit
 use Rattle.lp_calculus.specs.Types.{Ty, arrow}
-use Rattle.lp_calculus.specs.Term.{Term, Atom, index, atom, abs, app, constant, integer, text, eigen, logic, param}
+use Rattle.lp_calculus.specs.Term.{Term, index, atom, abs, app, constant, integer, text, eigen, logic, param}
 use Rattle.lp_calculus.specs.Typing.{Scheme, o_type, type_at, scheme_type, HasType}
 use Rattle.lp_calculus.specs.Types.{instance}
 use Rattle.lp_term.specs.Nodes.{Nodes}
@@ -21,7 +21,6 @@ use Rattle.lp_gen.specs.declared.fault.GenRefusal.TheVariants as refusal
 use Rattle.lp_gen.specs.declared.limits.Look.TheVariants as look
 use Rattle.lp_gen.specs.Contract.{tables_of}
 use Rattle.lp_gen.specs.Sources.{types_by, IsKnownTerm, Under, bound, all_bound, IsAtom, IsGoal, AreGoals, AreAssumed, goal_depth, goals_depth, clauses_depth, IsClause, IsQuery}
-use Rattle.lp_gen.specs.Registers.{past}
 use Rattle.lp_gen.specs.Limits.{term_counts, goal_counts, goals_counts, clauses_counts, in_arguments, in_nesting, of_arguments, of_nesting, Counts, counts_of_clauses, counts_of_goals}
 use Rattle.lp_gen.specs.Limits.{IsTold, ClausesFull, QueryFull, ClausesPass, QueryPasses, IsOfCode, HaveFewTypes}
 use Rattle.lp_gen.proofs.LimitsLeft.{past_within, clauses_split}

@@ -1,12 +1,12 @@
 -- Goals without what is written in them, in which each `sigma` takes what is behind it in its list: they have the same steps, and some record of them passes its limits just where one of the goals as they were does.
-use Rattle.std.proofs.Common.{◌≡◌, ◌∙◌, ◌⊎◌, inl, inr, ⊎_elim, ℕ, suc, ◌+◌, List, [], ◌∷◌, ◌++◌, append_assoc, ap, refl, sym, subst, arith}
+use Rattle.std.proofs.Common.{◌≡◌, ◌∙◌, ◌⊎◌, inl, inr, ℕ, suc, ◌+◌, List, [], ◌∷◌, ◌++◌, append_assoc, ap, refl, sym, subst, arith}
 use Rattle.std.proofs.lemmas.List.{append-nil}
 use Rattle.lp_calculus.specs.Types.{Ty}
 use Rattle.lp_model.specs.Flat.{Goal, Goals, Clauses, Atomic, Cut, Either, Exists, Forall, Assume, Not, no_goals, goals}
 use Rattle.lp_code.specs.Written.{nothing_written}
 use Rattle.lp_gen.specs.Steps.{Around}
-use Rattle.lp_gen.specs.Registers.{with_variable, behind_goal, behind_goals, start_of, SomeOfGoal, SomeOfGoals, SomeAssumed}
-use Rattle.lp_gen.specs.inner.OpenGoals.{BodyStep, either, turn, end_either, some, all, end_all, assume, end_assume, deny, end_deny, goal_steps, goals_steps, plain_goal, plain_goals, EndsGoal, EndsGoals}
+use Rattle.lp_gen.specs.Registers.{with_variable, behind_goal, behind_goals, SomeOfGoal, SomeOfGoals}
+use Rattle.lp_gen.specs.inner.OpenGoals.{either, turn, end_either, some, all, end_all, assume, end_assume, deny, end_deny, goal_steps, goals_steps, plain_goals, EndsGoals}
 use Rattle.lp_gen.specs.inner.Planned.{clauses_length, goal_records, goals_records, level_behind, levels_behind, GoalHas, GoalsHave}
 
 -- a goal, or goals, before others

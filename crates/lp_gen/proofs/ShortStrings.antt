@@ -1,5 +1,5 @@
 -- Strings that are short enough, and a string as it is cut.
-use Rattle.std.proofs.Common.{◌≡◌, ◌≤◌, ◌<◌, ℕ, List, true, length, arith}
+use Rattle.std.proofs.Common.{◌≡◌, ℕ, List, true, length, arith}
 use Rattle.std.specs.Prelude.{nat_lt, take}
 use Rattle.std.proofs.lemmas.Bool.{ltb-true, lt-ltb}
 use Rattle.std.proofs.lemmas.List.{length-take, take_all}

@@ -1,17 +1,16 @@
 -- The variables with which assumed records start are those around that stand in their clauses.
-use Rattle.std.proofs.Common.{◌≡◌, ◌∙◌, ◌≤◌, ◌<◌, ℕ, zero, suc, ◌+◌, ◌-◌, List, [], ◌∷◌, length, Bool, true, false, true≢false, Option, Some, None, ap, refl, sym, subst, arith}
-use Rattle.std.specs.Prelude.{nat_eq, nat_le, nat_lt, ◌||◌, if◌then◌else◌, slice_get}
-use Rattle.std.proofs.lemmas.Bool.{eqb-true, eq-eqb, leb-true, leb-false, ltb-true, ltb-false}
+use Rattle.std.proofs.Common.{◌≡◌, ◌∙◌, ◌<◌, ℕ, suc, ◌+◌, ◌-◌, List, [], ◌∷◌, length, Bool, true, false, true≢false, ap, refl, sym, subst, arith}
+use Rattle.std.specs.Prelude.{◌||◌}
+use Rattle.std.proofs.lemmas.Bool.{eqb-true, eq-eqb}
 use Rattle.lp_calculus.specs.Types.{Ty}
 use Rattle.lp_calculus.specs.Term.{Term, index, atom, abs, app}
 use Rattle.lp_model.specs.Flat.{Goal, Goals, Clauses, Atomic, Cut, Either, Exists, Forall, Assume, Not, no_goals, goals, clause, no_clauses, clauses, under_all}
 use Rattle.lp_code.specs.States.{member}
-use Rattle.lp_gen.specs.Steps.{Seen, Around, at_level}
-use Rattle.lp_gen.specs.Registers.{in_term, in_goal, in_goals, in_clauses, count_variables, start_of}
+use Rattle.lp_gen.specs.Registers.{in_term, in_goal, in_goals, in_clauses}
 use Rattle.lp_gen.specs.declared.plan.Assumption.{Assumption}
 use Rattle.lp_gen.specs.inner.TermLaw.{AllLoose}
 use Rattle.lp_gen.specs.inner.Bodies.{IsThrough, AreThrough, AllThrough}
-use Rattle.lp_gen.specs.inner.Capturing.{IsSo, IsLevelOf}
+use Rattle.lp_gen.specs.inner.Capturing.{IsSo}
 use Rattle.lp_gen.specs.inner.Planned.{IsCaptured, AreCaptured, AreOnly}
 
 or_split : (X : Type 0) (a b : Bool) → (a || b) ≡ true → (a ≡ true → X) → (b ≡ true → X) → X

@@ -1,6 +1,6 @@
 -- How much the code of a type takes, by its pieces.
 use Rattle.std.proofs.Common.{◌≡◌, ◌∙◌, ◌⊎◌, inl, inr, ℕ, suc, ◌+◌, ◌*◌, ◌<◌, ◌≤◌, List, [], ◌∷◌, ◌++◌, length, ap, refl, sym, subst, arith}
-use Rattle.std.specs.Prelude.{map, sum_by, slice_index_or, Vec}
+use Rattle.std.specs.Prelude.{map, slice_index_or, Vec}
 use Rattle.std.specs.Global.{Global}
 use Rattle.std.proofs.lemmas.List.{map-append}
 use Rattle.std.proofs.lemmas.List.Sums.{sum_by-append}

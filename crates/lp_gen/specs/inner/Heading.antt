@@ -1,5 +1,5 @@
 -- The code of an argument of the head.
-use Rattle.std.specs.Prelude.{◌≡◌, ℕ, ◌+◌, ◌≤◌, ◌<◌, true, false, if◌then◌else◌, is_some, All, List, [], ◌∷◌, ◌++◌, map, length, sum_by, Option, Some, None, slice_get, slice_set}
+use Rattle.std.specs.Prelude.{◌≡◌, ℕ, ◌+◌, ◌≤◌, ◌<◌, true, false, is_some, All, List, [], ◌∷◌, ◌++◌, map, length, sum_by, Option, Some, None, slice_get, slice_set}
 use Rattle.std.specs.List.{list_any}
 use Rattle.lp_calculus.specs.Types.{Ty}
 use Rattle.lp_calculus.specs.Term.{Term, Atom, index, atom, abs, app, constant, integer, text, eigen, logic, param}

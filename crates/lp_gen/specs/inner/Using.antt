@@ -1,5 +1,5 @@
 -- How much of what an emitter has left a function uses, and where it refuses, that so much is not left.
-use Rattle.std.specs.Prelude.{◌≡◌, ◌⊎◌, ℕ, ◌+◌, ◌<◌, ◌≤◌}
+use Rattle.std.specs.Prelude.{◌≡◌, ◌+◌, ◌<◌, ◌≤◌}
 use Rattle.lp_gen.specs.declared.emitter.Emitter.{Emitter}
 use Rattle.lp_gen.specs.declared.fault.RecordRefusal.{RecordRefusal}
 use Rattle.lp_gen.specs.declared.fault.RecordRefusal.TheVariants as refusal

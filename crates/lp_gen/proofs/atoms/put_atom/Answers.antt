@@ -1,7 +1,7 @@
 use Rattle.lp_gen.proofs.AtomsUsed.{constant_takes, other_atom_takes}
 use Rattle.lp_gen.proofs.Using.{uses_both, uses_same, lacks_first, lacks_then}
 use Rattle.lp_gen.proofs.TypeWorks.{map_length}
-use Rattle.lp_gen.specs.Registers.{atom_takes, all_take, terms_take, call_takes, both, plain_code}
+use Rattle.lp_gen.specs.Registers.{atom_takes, terms_take, call_takes, both, plain_code}
 use Rattle.lp_gen.specs.inner.Using.{Lacks, Uses}
 use Rattle.lp_lemmas.proofs.Results.{passed_up}
 use Rattle.std.proofs.Common.{[], map, length, subst, ◌≡◌, ◌∙◌, ap, sym}

@@ -1,8 +1,7 @@
-use Rattle.std.proofs.Common.{◌≡◌, ◌∙◌, map, ap}
+use Rattle.std.proofs.Common.{◌∙◌, map, ap}
 use Rattle.lp_gen.specs.inner.Listing.{seen, around_of}
 use Rattle.lp_gen.proofs.Patched.{map_take}
-use Rattle.lp_gen.specs.inner.OpenGoals.{cut_to}
-use Rattle.lp_gen.proofs.BodyUsed.{block_gone, counts_gone, none_gone, no_counts}
+use Rattle.lp_gen.proofs.BodyUsed.{block_gone, counts_gone}
 use Rattle.lp_gen.proofs.body.leave.Goals as goal
 
 pub returns-clause-last : goal.returns-clause-last

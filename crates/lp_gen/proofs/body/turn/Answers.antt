@@ -1,4 +1,4 @@
-use Rattle.std.proofs.Common.{◌∙◌, refl}
+use Rattle.std.proofs.Common.{refl}
 use Rattle.lp_lemmas.proofs.Results.{passed_up}
 use Rattle.lp_code.specs.declared.instruction.Instr.TheVariants as instr
 use Rattle.lp_gen.specs.Registers.{plain_code}

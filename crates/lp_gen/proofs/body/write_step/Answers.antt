@@ -7,7 +7,6 @@ use Rattle.lp_gen.specs.inner.BodyCode.{AssumedBy, IsDone}
 use Rattle.lp_gen.proofs.BodySteps.{say_step, cut_step}
 use Rattle.lp_gen.proofs.BodyFacts.{all_ends, assumption_ends, denial_ends, either_opens, not_opens, some_opens, all_opens, taken, starts_stay, assumption_taken}
 use Rattle.lp_lemmas.proofs.Results.{passed_up}
-use Rattle.lp_gen.specs.Registers.{plain_code}
 use Rattle.lp_code.specs.declared.instruction.Instr.TheVariants as instr
 use Rattle.lp_gen.specs.inner.Using.{Lacks}
 use Rattle.lp_gen.specs.inner.BodyUsing.{block_step_takes}

@@ -1,4 +1,3 @@
-use Rattle.std.proofs.Common.{arith}
 use Rattle.lp_gen.proofs.CapturedBy.{marks_application, bound_index, free_index, under_abs, of_application, other_form}
 use Rattle.lp_gen.specs.declared.captured.Place.TheVariants as on
 use Rattle.lp_gen.proofs.CapturedFrom.{nothing_left, free_found, body_found, application_found}

@@ -5,7 +5,7 @@ use Rattle.lp_gen.proofs.Using.{uses_both, lacks_first, lacks_then, term_made, n
 use Rattle.lp_gen.specs.Registers.{past, step_takes, term_code}
 use Rattle.lp_gen.specs.inner.Using.{Lacks}
 use Rattle.lp_lemmas.proofs.Results.{passed_up}
-use Rattle.std.proofs.Common.{map, refl, ◌≡◌, ◌∙◌, ◌+◌, ◌*◌, length, ap, sym}
+use Rattle.std.proofs.Common.{map, ◌≡◌, ◌∙◌, ◌+◌, ◌*◌, length, ap, sym}
 use Rattle.lp_term.specs.Nodes.{type_tree}
 use Rattle.lp_gen.proofs.TermPut.{constant_put}
 use Rattle.lp_gen.proofs.forms.put_constant.Goals as goal

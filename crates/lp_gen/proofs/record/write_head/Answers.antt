@@ -1,14 +1,13 @@
-use Rattle.std.proofs.Common.{◌≡◌, ◌∙◌, Some, ap, sym, subst, length}
+use Rattle.std.proofs.Common.{◌∙◌, Some, ap, subst, length}
 use Rattle.lp_term.specs.Nodes.{tree}
 use Rattle.lp_lemmas.proofs.Results.{passed_up}
 use Rattle.lp_gen.specs.declared.plan.Origin.{Origin}
 use Rattle.lp_gen.specs.declared.plan.Origin.TheVariants as origin
 use Rattle.lp_gen.specs.Steps.{Around, constant_function}
 use Rattle.lp_gen.specs.Registers.{both, variables_take, head_takes, behind_head, unset_take}
-use Rattle.lp_gen.specs.inner.Listing.{around_of}
 use Rattle.lp_gen.specs.inner.Entering.{ClauseEntered}
 use Rattle.lp_gen.specs.inner.Using.{Uses, Lacks}
-use Rattle.lp_gen.specs.inner.Recorded.{own_count, head_in, front_takes, front_around}
+use Rattle.lp_gen.specs.inner.Recorded.{own_count, front_takes, front_around}
 use Rattle.lp_gen.proofs.Using.{lacks_first, lacks_then}
 use Rattle.lp_gen.proofs.Filling.{front_used}
 use Rattle.lp_gen.proofs.record.write_head.Goals as goal

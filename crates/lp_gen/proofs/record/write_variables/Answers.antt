@@ -1,12 +1,11 @@
-use Rattle.std.proofs.Common.{◌≡◌, ◌∙◌, ◌+◌, None, map, length, refl, ap, sym, subst}
+use Rattle.std.proofs.Common.{◌∙◌, ◌+◌, None, length, refl, ap, subst}
 use Rattle.lp_lemmas.proofs.Results.{passed_up}
 use Rattle.lp_gen.specs.declared.plan.Origin.{Origin}
 use Rattle.lp_gen.specs.declared.plan.Origin.TheVariants as origin
 use Rattle.lp_gen.specs.Steps.{Around, constant_function}
 use Rattle.lp_gen.specs.Registers.{nothing, both, variables_take, unset_take}
-use Rattle.lp_gen.specs.inner.Listing.{around_of}
 use Rattle.lp_gen.specs.inner.Entering.{QueryEntered}
-use Rattle.lp_gen.specs.inner.Using.{Uses, Lacks, memory}
+use Rattle.lp_gen.specs.inner.Using.{Uses, Lacks}
 use Rattle.lp_gen.specs.inner.Recorded.{own_count, front_takes, front_around}
 use Rattle.lp_gen.proofs.TypeWorks.{map_length}
 use Rattle.lp_gen.proofs.Using.{uses_nothing, lacks_first, lacks_then}
