@@ -1,7 +1,7 @@
 #!/usr/bin/env python3
 """Processor seconds of the gate, by crate and by what they are for.
 
-    gate.py run [COMMAND ..]     runs a command (rt ci --anew, if none is given) and prints its table
+    gate.py run [COMMAND ..]     runs a command (rt ci from nothing, if none is given) and prints its table
     gate.py attach PID           the same of a command that runs already, from now on, until it ends
     gate.py functions CRATE [N]  the functions of a crate whose check from nothing takes over N seconds (30), dearest first; with --test
                                  behind it, of the crate with its tests
@@ -180,9 +180,15 @@ def functions(crate, least, more):
     return status
 
 
+def from_nothing():
+    """The gate's command; some kits keep what a run passed unless they are told otherwise."""
+    said = subprocess.run(["rt", "--help"], capture_output=True, text=True, errors="replace")
+    return ["rt", "ci", *(["--anew"] if "--anew" in said.stdout + said.stderr else [])]
+
+
 def main(words):
     if words[:1] == ["run"]:
-        return run(words[1:] or ["rt", "ci", "--anew"])
+        return run(words[1:] or from_nothing())
     if words[:1] == ["attach"] and len(words) == 2 and words[1].isdigit():
         return attach(int(words[1]))
     more = words[-1:] if words[-1:] == ["--test"] else []
