@@ -14,7 +14,7 @@ ghost use Rattle.lp_load.specs.Refused.{IsOverArguments, IsOverClauses, IsOverCo
 ghost use Rattle.lp_lines.specs.Placed.{IsCauseOf, IsOfText, IfSource};
 ghost use Rattle.lp_lines.specs.Refusals.{IsTextRefusal};
 
-use lp_base::{Memory, Spot};
+use lp_base::{Limit, Memory, Spot};
 use lp_build::Built;
 use lp_gen::{GenRefusal, generate_query};
 use lp_infer::type_query;
