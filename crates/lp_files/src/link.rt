@@ -1,18 +1,16 @@
 // The image of a module.
-ghost use Rattle.std.specs.Prelude.{◌≡◌, ◌<◌, ◌++◌, [], ◌∷◌, ℕ, List, Some, All, Contains, length, slice_get, IfErr, IfOk, IfSome, OnOk};
-ghost use Rattle.std.specs.Str.{IsUtf8};
+ghost use Rattle.std.specs.Prelude.{◌≡◌, ◌⊎◌, ◌<◌, ◌++◌, [], ◌∷◌, length, IfErr, IfOk, IfSome, OnOk};
 ghost use Rattle.lp_places.specs.Places.{HasPlaces};
 ghost use Rattle.lp_link.specs.Uses.{names_of};
 ghost use Rattle.lp_link.specs.Linked.{IsLinked};
-ghost use Rattle.lp_link.specs.Refusals.{IsLinkRefusal};
 ghost use Rattle.lp_files.specs.Made.{IsHeldObject, AreHeldObjects, SpellsLinked, IsImageLinked};
-ghost use Rattle.lp_files.specs.Ordered.{AreInOrder, uses_of};
-ghost use Rattle.lp_files.specs.Said.{IsNameOf, TellsDiffering, TellsMisnamed, TellsUnlinked};
+ghost use Rattle.lp_files.specs.Ordered.{AreInOrder};
+ghost use Rattle.lp_files.specs.Said.{IsNameOf, TellsDiffering, TellsUnlinked};
 ghost use Rattle.lp_files.specs.Unlinked.{IsUnjoined, IsUnlinked, IsUnread as IsUnreadObject};
 ghost use Rattle.lp_files.specs.Unopened.{object_file};
 ghost use Rattle.lp_files.specs.inner.Objects.{AreMore, AreThere, IsUnread, IsNew, IsNext};
 ghost use Rattle.lp_lines.specs.Looked.{Looked, refusal_of};
-ghost use Rattle.lp_lines.specs.Refusals.{IsJudged, TellsImage};
+ghost use Rattle.lp_lines.specs.Refusals.{IsJudged};
 
 use crate::lines::{differ, joined, misnamed};
 use crate::migrate::image_bytes;
