@@ -171,8 +171,8 @@ fn name_of(object: &Object, part: Part) -> Option<&[u8]>
 {
     match part {
         Part::Kind(number) => {
-            let kind = object.kinds.get(number.checked_sub(FIRST_KIND)? as usize)?;
-            Some(kind.name.as_slice())
+            let place = number.checked_sub(FIRST_KIND)? as usize;
+            Some(object.kinds.get(place)?.name.as_slice())
         }
         Part::Constant(number) => {
             let place = number.checked_sub(FIRST_CONSTANT)? as usize;
