@@ -1,5 +1,6 @@
 pub mod Leaving
 pub mod Making
+pub mod Differing
 pub mod Linking
 pub mod Unreading
 pub mod Unopening

@@ -1,6 +1,6 @@
 -- The bytes of the file that a command makes.
 use Rattle.std.specs.Global.{Global}
-use Rattle.std.proofs.Common.{◌≡◌, ◌++◌, ℕ, false, List, Option, subst}
+use Rattle.std.proofs.Common.{◌≡◌, ◌++◌, ℕ, false, List, Option, refl, subst}
 use Rattle.std.specs.Prelude.{Vec, Result, Ok, Err, IfOk, IfSome, codes}
 use Rattle.lp_base.specs.Held.{Held, Puts}
 use Rattle.lp_base.specs.declared.limit.Limit.{Limit}
@@ -14,9 +14,14 @@ use Rattle.lp_build.specs.Told.{AreLoaded, IsTold}
 use Rattle.lp_build.specs.declared.sources.Sources.{Sources}
 use Rattle.lp_lines.specs.Looked.{Found}
 use Rattle.lp_lines.specs.declared.refusal.Refusal.{Refusal}
+use Rattle.lp_lines.specs.declared.refusal.Refusal.TheVariants as refusal
 use Rattle.lp_words.specs.declared.asked.FileCommand.{FileCommand}
+use Rattle.lp_words.specs.declared.asked.FileCommand.TheVariants.{Compile, Link, Migrate}
 use Rattle.lp_files.specs.Made.{IsHeldImage, IsMade, IsMigrated, IsObjectMade, SpellsCompiled, WritesMade}
+use Rattle.lp_files.specs.Refused.{IsRefused}
 use Rattle.lp_files.specs.Target.{ending_of}
+use Rattle.lp_files.specs.Uncompiled.{no_space}
+use Rattle.lp_files.specs.Unlinked.{no_memory, no_memory_to_migrate}
 
 -- the bytes that stand under a name
 pub found_there : (file : List ℕ) (most : ℕ) (l : Limit) (told : Option Held) (r : Result (Vec ℕ Global) Refusal) → Found file most l told r → IfOk r (λ bytes. IsTold told file bytes.items)
@@ -49,3 +54,9 @@ image_held told name file slice bytes (Ok v) f s there h = record {
   spelled = subst (SpellsImage (plain_image v.image)) s h;
 }
 image_held told name file slice bytes (Err e) f s there h = tt
+
+-- want of memory refuses each command
+pub refused_for_memory : (told : Option Held) (command : FileCommand) (name : List ℕ) → IsRefused told command name refusal.Memory
+refused_for_memory told Compile name = no_space refl
+refused_for_memory told Link name = no_memory refl
+refused_for_memory told Migrate name = no_memory_to_migrate refl

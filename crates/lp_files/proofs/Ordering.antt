@@ -90,7 +90,7 @@ no_place_is p q r none e f = sym f ∙ sym e ∙ none_from_is_some p none
 
 -- the uses of one object
 
-pub member_there : (os slice : List Object) (user : ℕ) (o : Object) → slice ≡ os → user < length slice → o ≡ get_or slice user o → slice_get os user ≡ Some o
+pub member_there : {A : Type 0} (os slice : List A) (user : ℕ) (o : A) → slice ≡ os → user < length slice → o ≡ get_or slice user o → slice_get os user ≡ Some o
 member_there os slice user o same l is = ap (λ l. slice_get l user) (sym same) ∙ slice_get-get_or slice user o l ∙ ap Some (sym is)
 
 -- the next use

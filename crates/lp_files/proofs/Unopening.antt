@@ -22,9 +22,9 @@ found_unread file most l told (Ok bytes) h = tt
 found_unread file most l told (Err e) h = h
 
 -- a verdict that refuses is one whatever it would have given
-pub broken_is : {A : Type 0} (t : Tables) (rs : List Record) (e : VerifyRefusal) → IsVerdict {A = A} t rs (Err e) → IsBroken t rs e
-broken_is t rs (verify.Invalid c at r) h = h
-broken_is t rs verify.Memory h = tt
+pub broken_is : (A : Type 0) (t : Tables) (rs : List Record) (e : VerifyRefusal) → IsVerdict {A = A} t rs (Err e) → IsBroken t rs e
+broken_is A t rs (verify.Invalid c at r) h = h
+broken_is A t rs verify.Memory h = tt
 
 -- bytes that are none
 pub object_misread : (told : Option Held) (name file slice bytes : List ℕ) (r : Result Object Refusal) → file ≡ object_file name → slice ≡ bytes → IsTold told file bytes → IfErr r (IsMisread file name slice) → IfErr r (IsUnopenedObject told name)

@@ -30,3 +30,4 @@ pub data IsUnspelled (sources : Sources) (name : List ℕ) (r : Refusal) : Type 
 pub data IsUncompiled (told : Option Held) (name : List ℕ) (r : Refusal) : Type 0 where
   of_files : (sources : Sources) (e : BuildFault) → AreLoaded told sources → AreRead sources → AreInOrderSoFar false name sources e → IsFaultIn told sources e → TellsFile sources.refused e r → IsUncompiled told name r
   of_loaded : (sources : Sources) → AreLoaded told sources → AreRead sources → AreInOrder false name sources → IsUnspelled sources name r → IsUncompiled told name r
+  no_space : r ≡ refusal.Memory → IsUncompiled told name r

@@ -2,6 +2,7 @@
 ghost use Rattle.std.specs.Prelude.{◌≡◌, ◌⊎◌, ◌<◌, ◌++◌, [], ◌∷◌, length, IfErr, IfOk, IfSome, OnOk};
 ghost use Rattle.lp_places.specs.Places.{HasPlaces};
 ghost use Rattle.lp_link.specs.Uses.{names_of};
+ghost use Rattle.lp_link.specs.Differences.{number_at};
 ghost use Rattle.lp_link.specs.Linked.{IsLinked};
 ghost use Rattle.lp_files.specs.Made.{IsHeldObject, AreHeldObjects, SpellsLinked, IsImageLinked};
 ghost use Rattle.lp_files.specs.Ordered.{AreInOrder};
@@ -165,17 +166,27 @@ fn objects_of<F: Folder>(alloc: Global, folder: &mut F, root: &str) -> Result<Ve
     }
 }
 
+// The place in its table of what has this number, where those of the table begin with another one.
+fn place_in(number: u32, first: u32) -> Option<usize>
+    ensures { IfSome result (λ place. number ≡ number_at first place) }
+{
+    if number < first {
+        return None;
+    }
+    Some((number - first) as usize)
+}
+
 // The name of a kind or constant of an object.
 fn name_of(object: &Object, part: Part) -> Option<&[u8]>
     ensures { IfSome result (λ name. IsNameOf object.now part name.now) }
 {
     match part {
         Part::Kind(number) => {
-            let place = number.checked_sub(FIRST_KIND)? as usize;
+            let place = place_in(number, FIRST_KIND)?;
             Some(object.kinds.get(place)?.name.as_slice())
         }
         Part::Constant(number) => {
-            let place = number.checked_sub(FIRST_CONSTANT)? as usize;
+            let place = place_in(number, FIRST_CONSTANT)?;
             Some(object.constants.get(place)?.name.as_slice())
         }
     }
@@ -195,15 +206,23 @@ fn differing(alloc: Global, object: &Object, part: Part) -> Refusal
     }
 }
 
+// The same of the object of this number.
+fn differing_at(alloc: Global, objects: &[Object], number: u32, part: Part) -> Refusal
+    ensures judged { IsJudged result }
+    ensures says { (result ≡ Refusal.Memory) ⊎ TellsUnlinked objects.now (LinkRefusal.Differ number part) result }
+{
+    match objects.get(number as usize) {
+        Some(object) => differing(alloc, object, part),
+        None => Refusal::Memory,
+    }
+}
+
 fn unlinked(alloc: Global, objects: &[Object], refusal: LinkRefusal) -> Refusal
     ensures judged { IsJudged result }
     ensures says { (result ≡ Refusal.Memory) ⊎ TellsUnlinked objects.now refusal result }
 {
     match refusal {
-        LinkRefusal::Differ(number, part) => match objects.get(number as usize) {
-            Some(object) => differing(alloc, object, part),
-            None => Refusal::Memory,
-        },
+        LinkRefusal::Differ(number, part) => differing_at(alloc, objects, number, part),
         LinkRefusal::Limit(limit) => limited(alloc, limit),
         LinkRefusal::Memory => Refusal::Memory,
     }

@@ -1,7 +1,8 @@
-use Rattle.std.proofs.Common.{◌∙◌, Err, refl, subst}
+use Rattle.std.proofs.Common.{◌∙◌, Err, refl, subst, sym}
 use Rattle.lp_base.specs.declared.limit.Limit.TheVariants as limit
 use Rattle.lp_base.specs.declared.limits.TheConstants.{MAX_IMAGE_BYTES}
 use Rattle.lp_lemmas.proofs.Results.{passed_up}
+use Rattle.lp_build.specs.Told.{IsTold}
 use Rattle.lp_lines.specs.Looked.{Found}
 use Rattle.lp_lines.specs.declared.refusal.Refusal.TheVariants as refusal
 use Rattle.lp_lines.proofs.Looking.{looked_judged}
@@ -24,10 +25,12 @@ returns-in_err-file-clause-cause g c = passed_up c.from_residual.result refusal.
 pub returns-in_err-bytes-clause-cause : goal.returns-in_err-bytes-clause-cause
 returns-in_err-bytes-clause-cause g c =
     let held = g.F.Folder.held c.args.folder.now in
-    passed_up c.from_residual.result c.in_err-bytes.field-0.0 (IsUnopenedObject held c.args.name.now) c.from_residual.ensures.1
+    passed_up c.from_residual-in_err-bytes.result c.in_err-bytes.field-0.0 (IsUnopenedObject held c.args.name.now) c.from_residual-in_err-bytes.ensures.1
     (of_file (subst (λ f. Found f MAX_IMAGE_BYTES limit.Image held (Err c.in_err-bytes.field-0.0)) (c.as_str.ensures.value ∙ c.in_ok-file.ensures) c.in_err-bytes.ensures.unread))
 
 pub returns-clause-cause : goal.returns-clause-cause
 returns-clause-cause g c =
-    object_misread (g.F.Folder.held c.args.folder.now) c.args.name.now c.as_str.result.now c.as_slice.result.now c.in_ok-bytes.bytes.items c.judged_object.result
-    (c.as_str.ensures.value ∙ c.in_ok-file.ensures) c.as_slice.ensures.value c.in_ok-bytes.ensures.there c.judged_object.ensures.cause
+    let held = g.F.Folder.held c.args.folder.now in
+    object_misread held c.args.name.now c.as_str-2.result.now c.as_slice.result.now c.in_ok-bytes.bytes.items c.judged_object.result
+    (c.as_str-2.ensures.value ∙ c.in_ok-file.ensures) c.as_slice.ensures.value
+    (subst (λ f. IsTold held f c.in_ok-bytes.bytes.items) (c.as_str.ensures.value ∙ sym c.as_str-2.ensures.value) c.in_ok-bytes.ensures.there) c.judged_object.ensures.cause
