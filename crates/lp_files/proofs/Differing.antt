@@ -17,8 +17,11 @@ number_back first n l m =
     let b : first + (n - first) ≡ n = omega (arith, l) in
     sym (ap (λ k. min (first + k) 4294967295) a ∙ ap (λ k. min k 4294967295) b ∙ min-eq_left m)
 
+from_nought : (n : ℕ) → 0 + n ≡ n
+from_nought n = omega arith
+
 number_same : (n : ℕ) → n ≤ 4294967295 → n ≡ number_at 0 n
-number_same n m = sym (ap (λ k. min (0 + k) 4294967295) (min-eq_left m) ∙ min-eq_left m)
+number_same n m = sym (ap (λ k. min k 4294967295) (from_nought (min n 4294967295) ∙ min-eq_left m) ∙ min-eq_left m)
 
 -- what is said of the object of a number
 pub differing_is : (os : List Object) (n : ℕ) (p : Part) (o : Object) (r : Refusal) → n ≤ 4294967295 → slice_get os n ≡ Some o → (r ≡ refusal.Memory) ⊎ TellsDiffering o p r → (r ≡ refusal.Memory) ⊎ TellsUnlinked os (linked.Differ n p) r

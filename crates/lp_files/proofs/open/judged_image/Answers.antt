@@ -2,6 +2,7 @@ use Rattle.std.proofs.Common.{refl, subst, sym}
 use Rattle.lp_code.specs.Naming.{image_tables}
 use Rattle.lp_object.specs.Plain.{plain_image}
 use Rattle.lp_object.specs.Spellable.{SpellsImage}
+use Rattle.lp_verify.specs.declared.judging.Verified.{Verified}
 use Rattle.lp_files.specs.Said.{TellsMisnamed, TellsMisread, TellsRejected}
 use Rattle.lp_files.specs.Unopened.{broken_image, no_image, other_image}
 use Rattle.lp_files.proofs.Unopening.{broken_is}
@@ -24,5 +25,5 @@ returns-in-Err-verify-clause-cause c =
     let i = c.in-Ok.image in
     let e = c.in-Err-verify.refusal in
     broken_image i e c.in-Ok.ensures.found.1 (c.if-not-is_of.ensures.named refl)
-    (λ short. broken_is _ (image_tables i) i.code.records.items e (c.in-Err-verify.ensures.told short))
+    (λ short. broken_is Verified (image_tables i) i.code.records.items e (c.in-Err-verify.ensures.told short))
     (subst (λ f. TellsRejected f e c.rejected.result) c.as_bytes-in-Err-verify.ensures.value c.rejected.ensures.says)

@@ -19,5 +19,5 @@ returns-in-Err-verify_object-clause-cause c =
     let o = c.in-Ok.object in
     let e = c.in-Err-verify_object.refusal in
     broken_object o e c.in-Ok.ensures.found.2 (c.if-not-is_named.ensures.named refl)
-    (λ short. broken_is _ (object_tables o) o.code.records.items e (c.in-Err-verify_object.ensures.told short))
+    (λ short. broken_is (Unit {0}) (object_tables o) o.code.records.items e (c.in-Err-verify_object.ensures.told short))
     (subst (λ f. TellsRejected f e c.rejected.result) c.as_bytes-in-Err-verify_object.ensures.value c.rejected.ensures.says)
